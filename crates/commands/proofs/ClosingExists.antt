@@ -3,7 +3,7 @@ use Rattle.std.proofs.Common.{Bool, List, [], add-one, arith, false, inl, inr, l
 use Rattle.std.proofs.lemmas.Bool.{cases_Bool, true≢false}
 use Rattle.grid_core.specs.Candidates.{Candidates, IsWithin, any_below, is_dead, total}
 use Rattle.grid_core.proofs.CandidateLemmas.{any_below-none, any_below-some, within_inside}
-use Rattle.engine_core.specs.Puzzle.{IsLawful, Puzzle, after}
+use Rattle.engine_core.specs.RuleSystem.{IsLawful, RuleSystem, after}
 use Rattle.engine_core.specs.ClosingList.{IsAlive, IsClosingList, IsClosingSweeps}
 use Rattle.engine_core.specs.Queue.{IsRested, IsWoken, but, counts_of, woken}
 use Rattle.engine_core.proofs.ClosingLemmas.{after_inside}
@@ -12,27 +12,27 @@ use Rattle.engine_core.proofs.QueueLemmas.{visits_left-pos}
 use Rattle.engine_core.proofs.SweepLemmas.{IsSweeping, IsSwept, fewer, sweep-whole, sweeping-first, sweeping-turn, swept-dead, swept-first, swept-open, swept-turn}
 
 -- after a visit all wait that it wakes
-abbrev wakes : Puzzle → ℕ → Candidates → (ℕ → Bool) → ℕ → Bool
+abbrev wakes : RuleSystem → ℕ → Candidates → (ℕ → Bool) → ℕ → Bool
 wakes p h K waits = woken p h (counts_of p h K) (after p h K) (but waits h)
 
-woken_is : (p : Puzzle) (h : ℕ) (K : Candidates) (waits : ℕ → Bool) → IsWoken p h K (after p h K) waits (wakes p h K waits)
+woken_is : (p : RuleSystem) (h : ℕ) (K : Candidates) (waits : ℕ → Bool) → IsWoken p h K (after p h K) waits (wakes p h K waits)
 woken_is p h K waits = record { fewer = λ j lt on. on; idle = λ j lt off on. absurd (true≢false (sym on ∙ off)) }
 
-all_rested : (p : Puzzle) (K : Candidates) → IsRested p K (λ h. true)
+all_rested : (p : RuleSystem) (K : Candidates) → IsRested p K (λ h. true)
 all_rested p K = λ h c v lt off on. absurd (true≢false off)
 
-visited_within : (p : Puzzle) (h : ℕ) (K : Candidates) → IsWithin p.cells p.values K → IsWithin p.cells p.values (after p h K)
+visited_within : (p : RuleSystem) (h : ℕ) (K : Candidates) → IsWithin p.cells p.values K → IsWithin p.cells p.values (after p h K)
 visited_within p h K within = within_inside p.cells p.values (after p h K) K within (after_inside p h K)
 
 -- ---- sweeps
 -- the board before the house n of a sweep, and which houses wait
-record Sweeping (p : Puzzle) (K : Candidates) (n : ℕ) : Type 0 where
+record Sweeping (p : RuleSystem) (K : Candidates) (n : ℕ) : Type 0 where
   board : Candidates
   waits : ℕ → Bool
   sweeping : IsSweeping p K n board waits
   within : IsWithin p.cells p.values board
 
-module _ (p : Puzzle) (laws : IsLawful p) where
+module _ (p : RuleSystem) (laws : IsLawful p) where
   swept : (K : Candidates) → IsWithin p.cells p.values K → (n : ℕ) → n ≤ p.houses → Sweeping p K n
   swept K within zero le = record { board = K; waits = λ h. true; sweeping = sweeping-first p K (λ h. true) (all_rested p K); within = within }
   swept K within (suc n) le =

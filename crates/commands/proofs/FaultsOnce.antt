@@ -28,8 +28,8 @@ use Rattle.solo_core.specs.NoRepeat.{no_repeat}
 use Rattle.solo_core.specs.Solutions.{numbers_of as numbers_in}
 use Rattle.solo_core.specs.declared.fault.SoloFault.{SoloFault}
 use Rattle.solo_core.specs.declared.fault.SoloFault.TheVariants as solo
-use Rattle.solo_core.specs.declared.houses.house.SoloHouse.{SoloHouse}
-use Rattle.solo_core.specs.declared.houses.house.SoloHouse.TheVariants.{Row, Column, Block, Diagonal}
+use Rattle.solo_core.specs.declared.houses.house.NamedHouse.{NamedHouse}
+use Rattle.solo_core.specs.declared.houses.house.NamedHouse.TheVariants.{Row, Column, Block, Diagonal}
 use Rattle.solo_core.proofs.RepeatLemmas.{first_fault, first_house, no_test, solved}
 
 -- ---- the first number at which a test fails
@@ -183,13 +183,13 @@ module _ (p : Pattern) (g : List ℕ) where
 
 -- ---- Solo: by the first given that doesn't stand, and the first house that holds a number twice
 module _ (p : Solo) (ok : IsSolo p) (g : List ℕ) where
-  house_at : ℕ → SoloHouse
+  house_at : ℕ → NamedHouse
   house_at h = get_or (houses_of p) h (Row 0)
 
   fine : ℕ → Bool
   fine h = no_repeat (numbers_in p g (house_at h))
 
-  fine_at : (h : ℕ) (d : SoloHouse) → h < length (houses_of p) → fine h ≡ true → no_repeat (numbers_in p g (get_or (houses_of p) h d)) ≡ true
+  fine_at : (h : ℕ) (d : NamedHouse) → h < length (houses_of p) → fine h ≡ true → no_repeat (numbers_in p g (get_or (houses_of p) h d)) ≡ true
   unfolding fine house_at
   fine_at h d lt is = ap (λ house. no_repeat (numbers_in p g house)) (get_or_default (houses_of p) h d (Row 0) lt) ∙ is
 
@@ -225,10 +225,10 @@ module _ (p : Solo) (ok : IsSolo p) (g : List ℕ) where
   given_once x y a b = least_once (Stands p g) (λ q. Stands p g q → ⊥) (λ q stands never. never stands) x y a.1 b.1 a.2 b.2
 
   -- the first house that repeats a number is one alone
-  before_it : (house other : SoloHouse) (a : RepeatsFirst p g house) (b : RepeatsFirst p g other) → a.0 < b.0 → ⊥
+  before_it : (house other : NamedHouse) (a : RepeatsFirst p g house) (b : RepeatsFirst p g other) → a.0 < b.0 → ⊥
   before_it house other a b low = b.4 a.0 low (subst (Repeats p g) (a.2 ∙ get_or_default (houses_of p) a.0 house other a.1) a.3)
 
-  house_once : (house other : SoloHouse) → RepeatsFirst p g house → RepeatsFirst p g other → house ≡ other
+  house_once : (house other : NamedHouse) → RepeatsFirst p g house → RepeatsFirst p g other → house ≡ other
   house_once house other a b = elim (cases_lt a.0 b.0) [
     | inl low ↦ absurd (before_it house other a b low)
     | inr high ↦ elim (cases_lt b.0 a.0) [
@@ -242,7 +242,7 @@ module _ (p : Solo) (ok : IsSolo p) (g : List ℕ) where
   -- a fault is that of a given, or that of a house
   abbrev Split : SoloFault → Type 0
   Split f = ((x : ℕ) × (f ≡ solo.Given x) × FallsFirst p g x)
-      ⊎ ((house : SoloHouse) × (f ≡ fault_of house) × AllStand p g × RepeatsFirst p g house)
+      ⊎ ((house : NamedHouse) × (f ≡ fault_of house) × AllStand p g × RepeatsFirst p g house)
 
   split : (f : SoloFault) → IsFirstFault p g (Some f) → Split f
   split (solo.Given x) is = inl (x, refl, is)

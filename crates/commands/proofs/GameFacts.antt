@@ -15,12 +15,12 @@ use Rattle.gameid_core.proofs.SoloCanon.{solo_is_written}
 use Rattle.gameid_core.proofs.SoloTexts.{solo_reading}
 use Rattle.gameid_core.proofs.TentsTexts.{tents_reading}
 use Rattle.gameid_core.proofs.TentsWritten.{tents_is_written}
-use Rattle.engine_core.specs.Verdict.{Outcome.OneGrid, Outcome.NoGrid, Outcome.TwoGrids, Outcome.OutOfBudget, trials_in}
+use Rattle.engine_core.specs.Verdict.{Outcome.OneSolution, Outcome.NoSolution, Outcome.SeveralSolutions, Outcome.GaveUp, trials_in}
 use Rattle.maker_core.specs.Made.{IsOnlySolution}
 use Rattle.maker_core.specs.Thinning.{HasTwo}
 use Rattle.solo_core.proofs.SinglesLemmas.{singles_in_houses}
 use Rattle.commands.specs.Common.{IsRight, IsSolo, Solo, max_id, light_rules, tent_rules, line_rules, crossings_rules, houses_rules, singles_rules}
-use Rattle.commands.specs.Common.{IdFault, grid_text, SizeRead, IsPrinted, Game, HasOneReading, verdict_of, Solves, Outcome, Puzzle, is_settled, walk, Kept}
+use Rattle.commands.specs.Common.{IdFault, grid_text, SizeRead, IsPrinted, Game, HasOneReading, verdict_of, Solves, Outcome, RuleSystem, is_settled, walk, Kept}
 use Rattle.commands.specs.Answers.{Answer, Text}
 use Rattle.commands.specs.Each.{HasAnswers}
 use Rattle.commands.specs.Games.{played}
@@ -49,7 +49,7 @@ none_made answer wanted told fine = absurd (omega (arith, fine, ap (λ (a : Answ
 
 module _ {P : Type 0} (play : Playing P) (reading : HasOneReading play.game.spells play.game.reading) where
   -- the verdict is one, of that grid
-  pub found_alone : (id : Text) (p : P) (budget : ℕ) (g : List ℕ) (said : Answer) → play.game.spells id p → verdict_of (play.game.rules p) budget ≡ OneGrid g
+  pub found_alone : (id : Text) (p : P) (budget : ℕ) (g : List ℕ) (said : Answer) → play.game.spells id p → verdict_of (play.game.rules p) budget ≡ OneSolution g
       → IsOnlySolution (play.game.solves p) g
       → SolvesId play budget id said ↔ (said ≡ one_answer (grid_text (play.cell_text p g) (play.extent p)))
   found_alone id p budget g said s verdict only = (allowed, allows)
@@ -123,13 +123,13 @@ module _ {P : Type 0} (play : Playing P) (reading : HasOneReading play.game.spel
       }
 
       by : (o : Outcome) → IsRight (play.game.solves x.puzzle) o → solved ≡ verdict_answer (printed x.puzzle) o → ArePassed (ChecksId play id) solved
-      by NoGrid right told = other_status id solved _ told (omega arith) (omega arith) (omega arith)
-      by (OneGrid g) right told = record {
+      by NoSolution right told = other_status id solved _ told (omega arith) (omega arith) (omega arith)
+      by (OneSolution g) right told = record {
         one = λ e. (printed x.puzzle g, told, passes_as id x.puzzle x.spelled g right.0);
         several = λ e. absurd (let s = same_status _ _ told in omega (arith, e, s));
         gave_up = λ e. absurd (let s = same_status _ _ told in omega (arith, e, s));
       }
-      by (TwoGrids g h) right told = record {
+      by (SeveralSolutions g h) right told = record {
         one = λ e. absurd (let s = same_status _ _ told in omega (arith, e, s));
         several = λ e. (
           printed x.puzzle g,
@@ -141,8 +141,8 @@ module _ {P : Type 0} (play : Playing P) (reading : HasOneReading play.game.spel
         );
         gave_up = λ e. absurd (let s = same_status _ _ told in omega (arith, e, s));
       }
-      by (OutOfBudget None) right told = found_so_far told (inl told)
-      by (OutOfBudget (Some g)) right told = found_so_far told (inr (printed x.puzzle g, told, passes_as id x.puzzle x.spelled g right))
+      by (GaveUp None) right told = found_so_far told (inl told)
+      by (GaveUp (Some g)) right told = found_so_far told (inr (printed x.puzzle g, told, passes_as id x.puzzle x.spelled g right))
 
 -- what is said of an ID where an input is correct
 pub record GoesWithCorrect (input : Text) (solved : Answer) : Type 0 where
@@ -168,14 +168,14 @@ module _ (solves : List ℕ → Type 0) (printed : List ℕ → Text) (input : T
   }
 
   by_verdict : (o : Outcome) → IsRight solves o → solved ≡ verdict_answer printed o → GoesWithCorrect input solved
-  by_verdict NoGrid right told = absurd (right g solution)
-  by_verdict (OneGrid f) right told = record {
+  by_verdict NoSolution right told = absurd (right g solution)
+  by_verdict (OneSolution f) right told = record {
     some = λ e. let s = same_status _ _ told in absurd (omega (arith, e, s));
     that = λ grid is. subst (IsPrinted (without_returns input)) (ap printed (sym (right.1 g solution)) ∙ same_grid (printed f) grid (sym told ∙ is)) form;
   }
-  by_verdict (TwoGrids f h) right told = other_told _ told (omega arith) (omega arith)
-  by_verdict (OutOfBudget None) right told = other_told _ told (omega arith) (omega arith)
-  by_verdict (OutOfBudget (Some f)) right told = other_told _ told (omega arith) (omega arith)
+  by_verdict (SeveralSolutions f h) right told = other_told _ told (omega arith) (omega arith)
+  by_verdict (GaveUp None) right told = other_told _ told (omega arith) (omega arith)
+  by_verdict (GaveUp (Some f)) right told = other_told _ told (omega arith) (omega arith)
 
 -- the answers to a puzzle
 pub goes_with : {P : Type 0} (play : Playing P) (p : P) (budget : ℕ) (input : Text) (given solved : Answer) → CheckedPuzzle play p → ChecksGrid play p input given
@@ -186,12 +186,12 @@ goes_with play p budget input given solved checked (inl here) s fine =
     here.given.printed solved (verdict_of (play.game.rules p) budget) s.right s.told
 
 right_by_verdict : (solves : List ℕ → Type 0) (trials : ℕ) (o : Outcome) → IsRight solves o → IsRightGrade solves (grade_by trials o)
-right_by_verdict solves trials NoGrid right = right
-right_by_verdict solves trials (OneGrid g) right = (g, right.0, right.1)
-right_by_verdict solves trials (TwoGrids g h) right = (g, h, right.0, right.1, right.2)
-right_by_verdict solves trials (OutOfBudget found) right = tt
+right_by_verdict solves trials NoSolution right = right
+right_by_verdict solves trials (OneSolution g) right = (g, right.0, right.1)
+right_by_verdict solves trials (SeveralSolutions g h) right = (g, h, right.0, right.1, right.2)
+right_by_verdict solves trials (GaveUp found) right = tt
 
-pub settled_one : (rules : Puzzle) (solves : List ℕ → Type 0) → SearchedPuzzle rules solves → is_settled rules ≡ true → HasOneSolution solves
+pub settled_one : (rules : RuleSystem) (solves : List ℕ → Type 0) → SearchedPuzzle rules solves → is_settled rules ≡ true → HasOneSolution solves
 settled_one rules solves searched settled =
     let right = subst (IsRight solves) (settled_found rules searched.lawful settled 0) (verdict_right rules solves searched 0) in
     (_, right.0, right.1)
@@ -201,7 +201,7 @@ abbrev pub EachSearched : (List ℕ → Type 0) → List Settling → Type 0
 EachSearched solves [] = Unit {0}
 EachSearched solves (first ∷ rest) = SearchedPuzzle first.rules solves × EachSearched solves rest
 
-pub listed_right : (solves : List ℕ → Type 0) (sets : List Settling) (search : Puzzle) (budget : ℕ) → EachSearched solves sets → SearchedPuzzle search solves
+pub listed_right : (solves : List ℕ → Type 0) (sets : List Settling) (search : RuleSystem) (budget : ℕ) → EachSearched solves sets → SearchedPuzzle search solves
     → IsRightGrade solves (listed_grade sets search budget)
 unfolding searched_grade
 listed_right solves [] search budget each searched =
@@ -250,7 +250,7 @@ pub record GameFacts {P : Type 0} (play : Playing P) : Type 0 where
   pub checked : (text : Text) (p : P) → play.game.spells text p → CheckedPuzzle play p
   -- a puzzle is made with its only solution, which a search tells, or it is told that none was
   pub made : (size : SizeRead) (w : Wanted) (p : P) (g : List ℕ) (kept : List Kept) → play.game.makes size w p g kept
-      → (verdict_of (play.game.rules p) w.budget ≡ OneGrid g) × IsOnlySolution (play.game.solves p) g
+      → (verdict_of (play.game.rules p) w.budget ≡ OneSolution g) × IsOnlySolution (play.game.solves p) g
   pub unmade : (size : SizeRead) (w : Wanted) (answer : Answer) → play.game.gives_up size w answer → answer ≡ exhausted_answer
 
 pub facts : (g : Game) → GameFacts (played g)

@@ -7,15 +7,15 @@ use Rattle.std.proofs.lemmas.List.{length-map}
 use Rattle.grid_core.specs.Candidates.{all_below, any_below, is_dead, is_full}
 use Rattle.engine_core.specs.Closing.{closure}
 use Rattle.engine_core.specs.Filling.{strikes_by_fillings}
-use Rattle.engine_core.specs.House.{Decision}
+use Rattle.engine_core.specs.HouseSets.{Decision}
 use Rattle.engine_core.specs.Walk.{Mark.Trial, Mark.Found, walk_closed}
-use Rattle.engine_core.specs.Verdict.{Outcome.OneGrid, outcome, spent, trials_in}
+use Rattle.engine_core.specs.Verdict.{Outcome.OneSolution, outcome, spent, trials_in}
 use Rattle.solo_core.specs.Houses.{houses_of}
 use Rattle.solo_core.specs.NoRepeat.{no_repeat}
 use Rattle.solo_core.specs.RuleSets.{crossings_of, deciding, filled_houses, house_at, house_by}
 use Rattle.solo_core.specs.Singles.{strikes_by_singles}
-use Rattle.solo_core.specs.declared.houses.scope.SoloScope.TheVariants.{House}
-use Rattle.commands.specs.Common.{Candidates, count_below, grid_of, Solo, Puzzle, is_settled, Mark, IsFound, walk, Outcome, Solves, verdict_of}
+use Rattle.solo_core.specs.declared.houses.scope.VisitName.TheVariants.{House}
+use Rattle.commands.specs.Common.{Candidates, count_below, grid_of, Solo, RuleSystem, is_settled, Mark, IsFound, walk, Outcome, Solves, verdict_of}
 use Rattle.commands.specs.Common.{crossing_scopes, crossings_rules, houses_rules, scopes_of, singles_rules, solo_n}
 use Rattle.commands.specs.Grades.{HasOneSolution, IsGradeOf, IsRightGrade, TellsGrade, grade_by, searched_grade, Settling, last_tried, listed_grade, only_set, grade_status, grade_text}
 use Rattle.commands.specs.Answers.{Text, Answer, Delivers}
@@ -31,7 +31,7 @@ use Rattle.commands.specs.TracePieces.{BeginsTrace, PutsTrace}
 use Rattle.commands.proofs.RunLemmas.{tells_as}
 
 -- where one grid is found, all trials of the walk were made
-pub spent_whole : (budget : ℕ) (found : Option (List ℕ)) (marks : List Mark) (g : List ℕ) → outcome budget found marks ≡ OneGrid g
+pub spent_whole : (budget : ℕ) (found : Option (List ℕ)) (marks : List Mark) (g : List ℕ) → outcome budget found marks ≡ OneSolution g
     → spent budget found marks ≡ trials_in marks
 unfolding outcome spent trials_in
 spent_whole budget found [] g e = refl
@@ -40,7 +40,7 @@ spent_whole budget (Some first) (Found h ∷ marks) g e = absurd cc
 spent_whole zero found (Trial depth board ∷ marks) g e = absurd cc
 spent_whole (suc budget) found (Trial depth board ∷ marks) g e = ap suc (spent_whole budget found marks g e)
 
-pub grade_is : (rules : Puzzle) (budget : ℕ) (verdict : Outcome) → verdict_of rules budget ≡ verdict
+pub grade_is : (rules : RuleSystem) (budget : ℕ) (verdict : Outcome) → verdict_of rules budget ≡ verdict
     → grade_by (trials_in (walk rules 0 rules.start)) verdict ≡ searched_grade rules budget
 unfolding searched_grade
 grade_is rules budget verdict e = ap (grade_by (trials_in (walk rules 0 rules.start))) (sym e)
@@ -62,13 +62,13 @@ unfolding is_full is_dead
 full_alive cells values K e = none_zero (λ c. count_below (K c) values) cells e
 
 -- the walk from a full board whose grid is a solution finds that grid
-pub full_walk : (p : Puzzle) (walk_of : Candidates → List Mark) (E : Candidates) → is_full p.cells p.values E ≡ true
+pub full_walk : (p : RuleSystem) (walk_of : Candidates → List Mark) (E : Candidates) → is_full p.cells p.values E ≡ true
     → p.is_solution (grid_of p.cells p.values E) ≡ true → walk_closed p walk_of 0 E ≡ Found (grid_of p.cells p.values E) ∷ []
 unfolding walk_closed
 full_walk p walk_of E full good = rw (full_alive p.cells p.values E full) (rw full (rw good refl))
 
 -- a puzzle that is settled has the grid of its closure as its one solution
-pub settled_has_one : (p : Puzzle) → walk p 0 p.start ≡ walk_closed p (walk p 1) 0 (closure p p.start)
+pub settled_has_one : (p : RuleSystem) → walk p 0 p.start ≡ walk_closed p (walk p 1) 0 (closure p p.start)
     → ((g : List ℕ) → IsFound g (walk p 0 p.start) ↔ Solves p g) → is_settled p ≡ true → HasOneSolution (Solves p)
 settled_has_one p goes_on finds settled =
     let parts = and_parts (is_full p.cells p.values (closure p p.start)) (p.is_solution (grid_of p.cells p.values (closure p p.start))) settled in
@@ -99,15 +99,15 @@ rightly takes solves grade traced tells s t status right told =
     tells_as takes (TellsGrade grade traced tells) (IsGradeOf solves grade traced tells) s t status (λ a t. record { right = right; told = t }) told
 
 -- the grids that rules accept are the solutions, and a grade is right of both
-pub right_by : (p q : Puzzle) (solves : List ℕ → Type 0) (grade : Grade) → q ≡ p → ((g : List ℕ) → Solves p g ↔ solves g)
+pub right_by : (p q : RuleSystem) (solves : List ℕ → Type 0) (grade : Grade) → q ≡ p → ((g : List ℕ) → Solves p g ↔ solves g)
     → IsRightGrade (Solves q) grade → IsRightGrade solves grade
-right_by p q solves grade e same right = right_as (Solves p) solves grade same (subst (λ (r : Puzzle). IsRightGrade (Solves r) grade) e right)
+right_by p q solves grade e same right = right_as (Solves p) solves grade same (subst (λ (r : RuleSystem). IsRightGrade (Solves r) grade) e right)
 
-pub accepted_by : (p q : Puzzle) (solves : List ℕ → Type 0) → q ≡ p → ((g : List ℕ) → Solves p g ↔ solves g) → (g : List ℕ) → Solves q g ↔ solves g
-accepted_by p q solves e same = subst (λ (r : Puzzle). (g : List ℕ) → Solves r g ↔ solves g) (sym e) same
+pub accepted_by : (p q : RuleSystem) (solves : List ℕ → Type 0) → q ≡ p → ((g : List ℕ) → Solves p g ↔ solves g) → (g : List ℕ) → Solves q g ↔ solves g
+accepted_by p q solves e same = subst (λ (r : RuleSystem). (g : List ℕ) → Solves r g ↔ solves g) (sym e) same
 
 -- the last rules in the list were tried last, whether they settle the puzzle or not
-pub last_of_one : (before : Puzzle) (set : RuleSet) (rules : Puzzle) → rules ≡ last_tried before (only_set set rules)
+pub last_of_one : (before : RuleSystem) (set : RuleSet) (rules : RuleSystem) → rules ≡ last_tried before (only_set set rules)
 last_of_one before set rules = grind (arith, common_steps)
 
 -- lines that tell a closing in one way tell it in another
@@ -126,13 +126,13 @@ module _ {P : Type 0} (game : GameOf P) (p : P) (options : GradeOptions) {S : Ty
   TellsBy sets = TellsIfAny takes (IsGradeBy game p sets options) s t status
 
   -- the last in the list
-  pub told_last : (grade : Grade) (set : RuleSet) (rules : Puzzle) → grade ≡ listed_grade (only_set set rules) (game.rules p) options.budget
+  pub told_last : (grade : Grade) (set : RuleSet) (rules : RuleSystem) → grade ≡ listed_grade (only_set set rules) (game.rules p) options.budget
       → IsRightGrade (game.solves p) grade → TellsIfAny takes (TellsGrade grade options.traced (game.tells p rules)) s t status → TellsBy (only_set set rules)
   told_last grade set rules e right told = rw (← e, ← last_of_one (game.rules p) set rules)
       (rightly takes (game.solves p) grade options.traced (game.tells p rules) s t status right told)
 
   -- the first in the list settles the puzzle
-  pub told_first : (q : Puzzle) (set : RuleSet) (rules : Puzzle) (rest : List Settling) → q ≡ rules → is_settled q ≡ true
+  pub told_first : (q : RuleSystem) (set : RuleSet) (rules : RuleSystem) (rest : List Settling) → q ≡ rules → is_settled q ≡ true
       → ((g : List ℕ) → Solves rules g ↔ game.solves p g) → HasOneSolution (Solves q) → TellsIfAny takes (TellsGrade (ByRules set) options.traced (game.tells p q)) s t status
       → TellsBy (record { set = set; rules = rules } ∷ rest)
   told_first q set rules rest e settled same one told =
@@ -141,14 +141,14 @@ module _ {P : Type 0} (game : GameOf P) (p : P) (options : GradeOptions) {S : Ty
       (right_by rules q (game.solves p) (ByRules set) e same one) (rw e at told))
 
   -- the first of two or more in the list doesn't
-  pub told_later : (q : Puzzle) (set : RuleSet) (rules : Puzzle) (next : Settling) (rest : List Settling) → q ≡ rules → is_settled q ≡ false
+  pub told_later : (q : RuleSystem) (set : RuleSet) (rules : RuleSystem) (next : Settling) (rest : List Settling) → q ≡ rules → is_settled q ≡ false
       → TellsBy (next ∷ rest) → TellsBy (record { set = set; rules = rules } ∷ next ∷ rest)
   told_later q set rules next rest e unsettled told =
       let is : is_settled rules ≡ false = ap is_settled (sym e) ∙ unsettled in rw is told
 
   -- rules that were made for a puzzle are its own
-  pub told_by : (q r : Puzzle) (set : RuleSet) → q ≡ r → TellsBy (only_set set q) → TellsBy (only_set set r)
-  told_by q r set e told = subst (λ (x : Puzzle). TellsBy (only_set set x)) e told
+  pub told_by : (q r : RuleSystem) (set : RuleSet) → q ≡ r → TellsBy (only_set set q) → TellsBy (only_set set r)
+  told_by q r set e told = subst (λ (x : RuleSystem). TellsBy (only_set set x)) e told
 
 module _ {S : Type 0} (takes : S → Text → S → Type 0) (nothing : (s : S) → takes s [] s) (both : (s t u : S) (a b : Text) → takes s a t → takes t b u → takes s (a ++ b) u)
     (grade : Grade) (traced : Bool) (tells : Text → Type 0) where
@@ -228,5 +228,5 @@ crossings_named p =
       length-map (houses_of p) House,
     )
 
-pub named : (p : Solo) (q rules : Puzzle) → q ≡ rules → rules.houses ≤ length (scopes_of p) → q.houses ≤ length (scopes_of p)
-named p q rules e few = subst (λ (r : Puzzle). r.houses ≤ length (scopes_of p)) (sym e) few
+pub named : (p : Solo) (q rules : RuleSystem) → q ≡ rules → rules.houses ≤ length (scopes_of p) → q.houses ≤ length (scopes_of p)
+named p q rules e few = subst (λ (r : RuleSystem). r.houses ≤ length (scopes_of p)) (sym e) few

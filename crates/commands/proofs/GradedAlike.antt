@@ -8,14 +8,14 @@ use Rattle.grid_core.specs.Candidates.{is_full}
 use Rattle.grid_core.proofs.CandidateLemmas.{count_below-one, least_below-passes}
 use Rattle.grid_core.proofs.GridLemmas.{is_full-count, grid_of-at}
 use Rattle.engine_core.specs.Closing.{closure}
-use Rattle.engine_core.specs.Verdict.{Outcome.OneGrid, Outcome.NoGrid, outcome, Outcome.TwoGrids, Outcome.OutOfBudget, trials_in}
+use Rattle.engine_core.specs.Verdict.{Outcome.OneSolution, Outcome.NoSolution, outcome, Outcome.SeveralSolutions, Outcome.GaveUp, trials_in}
 use Rattle.engine_core.specs.Walk.{Mark.Trial, walk_closed, branches, branch_at, at_cell}
 use Rattle.engine_core.proofs.ClosingLemmas.{closure_inside, closure_closed, closure_largest}
 use Rattle.engine_core.proofs.JudgeLemmas.{grid-fits}
 use Rattle.engine_core.proofs.WalkLemmas.{walk-unfold, walk_closed-dead, walk_closed-wrong}
 use Rattle.maker_core.proofs.FoundAtOnce.{found_at_once, found_one}
 use Rattle.maker_core.proofs.FullStart.{known}
-use Rattle.commands.specs.Common.{IsRight, Candidates, IsInside, grid_of, only, HasOneReading, IdFault, Puzzle, IsLawful, IsClosed, is_settled, Solves}
+use Rattle.commands.specs.Common.{IsRight, Candidates, IsInside, grid_of, only, HasOneReading, IdFault, RuleSystem, IsLawful, IsClosed, is_settled, Solves}
 use Rattle.commands.specs.Common.{verdict_of, Outcome, Mark, walk}
 use Rattle.commands.specs.Answers.{Answer, Begins, Text}
 use Rattle.commands.specs.Grades.{HasOneSolution, IsRightGrade, Settling, TellsGrade, first_settled, grade_by, grade_status, grade_text, listed_grade, rule_set_text, searched_grade}
@@ -45,28 +45,28 @@ begins_with_trial walk_of d E cell (suc n) = elim (begins_with_trial walk_of d E
     by false off none = inl (ap (λ (m : List Mark). m ++ branch_at walk_of d E cell n) none ∙ rw off refl)
 
 -- without a trial nothing is found below an open board
-none_below : (p : Puzzle) (walk_of : Candidates → List Mark) (d : ℕ) (E : Candidates) (o : Option ℕ) (g : List ℕ)
-    → outcome 0 None (at_cell p walk_of d E o) ≡ OneGrid g → ⊥
+none_below : (p : RuleSystem) (walk_of : Candidates → List Mark) (d : ℕ) (E : Candidates) (o : Option ℕ) (g : List ℕ)
+    → outcome 0 None (at_cell p walk_of d E o) ≡ OneSolution g → ⊥
 unfolding at_cell outcome
 none_below p walk_of d E o g h1 = grind (arith, common_steps, begins_with_trial)
 
-module _ (p : Puzzle) (laws : IsLawful p) where
+module _ (p : RuleSystem) (laws : IsLawful p) where
   start_walk : walk p 0 p.start ≡ walk_closed p (walk p 1) 0 (closure p p.start)
   start_walk = walk-unfold p 0 p.start laws.start_within
 
-  pub settled_found : is_settled p ≡ true → (budget : ℕ) → verdict_of p budget ≡ OneGrid (grid_of p.cells p.values (closure p p.start))
+  pub settled_found : is_settled p ≡ true → (budget : ℕ) → verdict_of p budget ≡ OneSolution (grid_of p.cells p.values (closure p p.start))
   settled_found h1 budget = grind (arith, common_steps, and_parts, found_one, full_walk, start_walk)
 
-  nothing : (marks : List Mark) (g : List ℕ) → walk p 0 p.start ≡ marks → marks ≡ [] → verdict_of p 0 ≡ OneGrid g → ⊥
+  nothing : (marks : List Mark) (g : List ℕ) → walk p 0 p.start ≡ marks → marks ≡ [] → verdict_of p 0 ≡ OneSolution g → ⊥
   unfolding outcome
-  nothing marks g is none e = let empty : NoGrid ≡ OneGrid g = sym (ap (outcome 0 None) (is ∙ none)) ∙ e in cc
+  nothing marks g is none e = let empty : NoSolution ≡ OneSolution g = sym (ap (outcome 0 None) (is ∙ none)) ∙ e in cc
 
-  pub one_settled : (g : List ℕ) → verdict_of p 0 ≡ OneGrid g → is_settled p ≡ true
+  pub one_settled : (g : List ℕ) → verdict_of p 0 ≡ OneSolution g → is_settled p ≡ true
   unfolding walk_closed
   one_settled g h1 = grind (arith, common_steps, and_from, none_below, nothing, start_walk, walk_closed-dead, walk_closed-wrong)
 
 -- what the weaker rules settle, the stronger ones settle
-module _ (weak strong : Puzzle) (weak_laws : IsLawful weak) (strong_laws : IsLawful strong)
+module _ (weak strong : RuleSystem) (weak_laws : IsLawful weak) (strong_laws : IsLawful strong)
     (same_cells : strong.cells ≡ weak.cells) (same_values : strong.values ≡ weak.values) (same_start : strong.start ≡ weak.start)
     (solves_too : (g : List ℕ) → Solves weak g → Solves strong g)
     (closes_too : (K : Candidates) → IsClosed strong K → IsClosed weak K) where
@@ -111,29 +111,29 @@ module _ {P : Type 0} {of : Text → Result P IdFault} {spells : Text → P → 
 
 -- ---- statuses
 pub verdict_status : Outcome → ℕ
-verdict_status NoGrid = 1
-verdict_status (OneGrid g) = 0
-verdict_status (TwoGrids g h) = 3
-verdict_status (OutOfBudget found) = 4
+verdict_status NoSolution = 1
+verdict_status (OneSolution g) = 0
+verdict_status (SeveralSolutions g h) = 3
+verdict_status (GaveUp found) = 4
 
 pub told_status : (printed : List ℕ → Text) (o : Outcome) → (verdict_answer printed o).status ≡ verdict_status o
 unfolding verdict_status
-told_status printed (OutOfBudget None) = refl
+told_status printed (GaveUp None) = refl
 told_status printed o = refl
 
 -- a grade by a search has the verdict's status
 by_status : (trials : ℕ) (o : Outcome) → grade_status (grade_by trials o) ≡ verdict_status o
 unfolding verdict_status
-by_status trials (OutOfBudget found) = refl
+by_status trials (GaveUp found) = refl
 by_status trials o = refl
 
-one_status : (o : Outcome) (g : List ℕ) → o ≡ OneGrid g → 0 ≡ verdict_status o
+one_status : (o : Outcome) (g : List ℕ) → o ≡ OneSolution g → 0 ≡ verdict_status o
 unfolding verdict_status
 one_status o g e = sym (ap verdict_status e)
 
-pub status_one : (o : Outcome) → verdict_status o ≡ 0 → (g : List ℕ) × (o ≡ OneGrid g)
+pub status_one : (o : Outcome) → verdict_status o ≡ 0 → (g : List ℕ) × (o ≡ OneSolution g)
 unfolding verdict_status
-status_one (OneGrid g) e = (g, refl)
+status_one (OneSolution g) e = (g, refl)
 status_one o e = absurd (omega (arith, e))
 
 -- ---- what a grade means beside a verdict
@@ -159,7 +159,7 @@ named_or_searched (first ∷ rest) otherwise = by (is_settled first.rules) (name
     by true later = inl (first.set, refl)
     by false later = later
 
-pub goes_along : (sets : List Settling) (search : Puzzle) (solves : List ℕ → Type 0) (budget : ℕ)
+pub goes_along : (sets : List Settling) (search : RuleSystem) (solves : List ℕ → Type 0) (budget : ℕ)
     → IsRight solves (verdict_of search budget) → IsRightGrade solves (listed_grade sets search budget)
     → GoesAlong (grade_status (listed_grade sets search budget)) (verdict_status (verdict_of search budget))
 unfolding searched_grade
@@ -184,7 +184,7 @@ is_within grade = false
 
 searched_apart : (trials : ℕ) (o : Outcome) → is_within (grade_by trials o) ≡ false
 unfolding is_within
-searched_apart trials (OutOfBudget found) = refl
+searched_apart trials (GaveUp found) = refl
 searched_apart trials o = refl
 
 -- rule sets that may strike more than the search's rules
@@ -192,7 +192,7 @@ abbrev pub AreBeyond : List Settling → Type 0
 AreBeyond [] = Unit {0}
 AreBeyond (first ∷ rest) = (is_within_search first.set ≡ false) × AreBeyond rest
 
-module _ (search : Puzzle) (budget : ℕ) where
+module _ (search : RuleSystem) (budget : ℕ) where
   beyond : (sets : List Settling) → AreBeyond sets → is_within (listed_grade sets search budget) ≡ false
   unfolding searched_grade is_within
   beyond [] none = searched_apart (trials_in (walk search 0 search.start)) (verdict_of search budget)
@@ -209,7 +209,7 @@ module _ (search : Puzzle) (budget : ℕ) where
   own_named set rest h1 h2 = grind (arith, common_steps, beyond, is_within)
 
   -- one more rule set before the others, where what it settles the search's rules settle
-  pub weaker_named : (set : RuleSet) (weak : Puzzle) (rest : List Settling) → is_within_search set ≡ true → (is_settled weak ≡ true → is_settled search ≡ true)
+  pub weaker_named : (set : RuleSet) (weak : RuleSystem) (rest : List Settling) → is_within_search set ≡ true → (is_settled weak ≡ true → is_settled search ≡ true)
       → is_within (listed_grade rest search budget) ≡ is_settled search → is_within (listed_grade (record { set = set; rules = weak } ∷ rest) search budget) ≡ is_settled search
   unfolding is_within
   weaker_named set weak rest h1 h2 h3 = grind (arith, common_steps, is_within)
@@ -251,7 +251,7 @@ module _ (traced : Bool) (tells : Text → Type 0) (printed : List ℕ → Text)
       → solved ≡ verdict_answer printed o → GoesAlong graded.status solved.status
   status_alike grade o along told is = rw (told.status, is, told_status printed o) along
 
-  pub named_alike : (grade : Grade) (rules : Puzzle) → IsLawful rules → is_within grade ≡ is_settled rules → TellsGrade grade traced tells graded
+  pub named_alike : (grade : Grade) (rules : RuleSystem) → IsLawful rules → is_within grade ≡ is_settled rules → TellsGrade grade traced tells graded
       → solved ≡ verdict_answer printed (verdict_of rules 0) → NamesRules graded ↔ (solved.status ≡ 0)
   named_alike grade rules laws within told is = (
     λ named. let by : is_within grade ≡ true = named_is grade told.lines named.2.0 named.0 named.1 (sym told.text ∙ named.2.1) in

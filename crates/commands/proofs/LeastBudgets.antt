@@ -1,9 +1,9 @@
 -- A grade names a search by the trials of the whole walk, which are the least budget with which the verdict is one.
 use Rattle.std.proofs.Common.{◌≡◌, ◌∙◌, ◌⊎◌, ◌<◌, ◌≤◌, ◌≢◌, ℕ, zero, suc, Bool, List, [], ◌∷◌, ◌++◌, Option, Some, None, refl, sym, ap, subst, inl, inr, arith, codes, slice_index}
 use Rattle.std.proofs.Math.Nat.{eq-or-lt_of_le}
-use Rattle.engine_core.specs.Verdict.{Outcome.OneGrid, Outcome.NoGrid, outcome, Outcome.TwoGrids, Outcome.OutOfBudget, trials_in}
+use Rattle.engine_core.specs.Verdict.{Outcome.OneSolution, Outcome.NoSolution, outcome, Outcome.SeveralSolutions, Outcome.GaveUp, trials_in}
 use Rattle.engine_core.specs.Walk.{Mark.Found, Mark.Trial}
-use Rattle.commands.specs.Common.{IsRight, Game, Outcome, Mark, Puzzle, grid_text, verdict_of, walk}
+use Rattle.commands.specs.Common.{IsRight, Game, Outcome, Mark, RuleSystem, grid_text, verdict_of, walk}
 use Rattle.commands.specs.Answers.{Answer, Text}
 use Rattle.commands.specs.Allowed.{AllowsGrade, AllowsSolve, IsSolved}
 use Rattle.commands.specs.Games.{played, puzzle_of}
@@ -40,15 +40,15 @@ counted (BySearch trials) = trials
 counted grade = 0
 
 -- a grade by a verdict that names a search is by one grid
-by_one : (trials : ℕ) (o : Outcome) (n : ℕ) → grade_by trials o ≡ BySearch n → (g : List ℕ) × (o ≡ OneGrid g) × (trials ≡ n)
+by_one : (trials : ℕ) (o : Outcome) (n : ℕ) → grade_by trials o ≡ BySearch n → (g : List ℕ) × (o ≡ OneSolution g) × (trials ≡ n)
 unfolding counted
-by_one trials (OneGrid g) n e = (g, refl, ap counted e)
-by_one trials NoGrid n e = absurd cc
-by_one trials (TwoGrids g h) n e = absurd cc
-by_one trials (OutOfBudget found) n e = absurd cc
+by_one trials (OneSolution g) n e = (g, refl, ap counted e)
+by_one trials NoSolution n e = absurd cc
+by_one trials (SeveralSolutions g h) n e = absurd cc
+by_one trials (GaveUp found) n e = absurd cc
 
 -- one grid is told only where the budget is enough for all trials
-room_for : (marks : List Mark) (budget : ℕ) (found : Option (List ℕ)) (g : List ℕ) → outcome budget found marks ≡ OneGrid g → trials_in marks ≤ budget
+room_for : (marks : List Mark) (budget : ℕ) (found : Option (List ℕ)) (g : List ℕ) → outcome budget found marks ≡ OneSolution g → trials_in marks ≤ budget
 unfolding outcome trials_in
 room_for [] budget found g e = omega arith
 room_for (Found h ∷ marks) budget None g e = room_for marks budget (Some h) g e
@@ -56,25 +56,25 @@ room_for (Found h ∷ marks) budget (Some first) g e = absurd cc
 room_for (Trial depth board ∷ marks) zero found g e = absurd cc
 room_for (Trial depth board ∷ marks) (suc budget) found g e = let room = room_for marks budget found g e in omega (arith, room)
 
-trials_of : Puzzle → ℕ
+trials_of : RuleSystem → ℕ
 trials_of rules = trials_in (walk rules 0 rules.start)
 
 module _ (game : Game) (id : Text) (p : puzzle_of game) (s : (played game).game.spells id p) where
-  abbrev rules : Puzzle
+  abbrev rules : RuleSystem
   rules = (played game).game.rules p
 
   abbrev printed : List ℕ → Text
   printed g = grid_text ((played game).cell_text p g) ((played game).extent p)
 
   -- an answer of status 0 tells the verdict one
-  tells_one : (budget : ℕ) (said : Answer) → AllowsSolve game budget id said → said.status ≡ 0 → (g : List ℕ) × (verdict_of rules budget ≡ OneGrid g)
+  tells_one : (budget : ℕ) (said : Answer) → AllowsSolve game budget id said → said.status ≡ 0 → (g : List ℕ) × (verdict_of rules budget ≡ OneSolution g)
   tells_one budget said (inl x) fine = absurd ((facts game).reading.apart id p x.fault s x.first)
   tells_one budget said (inr x) fine =
       let mine = subst (λ q. IsSolved ((played game).game.solves q) ((played game).game.rules q) ((played game).cell_text q) ((played game).extent q) budget said)
       ((facts game).reading.one id x.puzzle p x.spelled s) x.allowed in
       status_one (verdict_of rules budget) (sym (told_status printed (verdict_of rules budget)) ∙ sym (ap (λ (a : Answer). a.status) mine.told) ∙ fine)
 
-  one_is : (budget : ℕ) (g : List ℕ) → verdict_of rules budget ≡ OneGrid g → HasOneSolution ((played game).game.solves p)
+  one_is : (budget : ℕ) (g : List ℕ) → verdict_of rules budget ≡ OneSolution g → HasOneSolution ((played game).game.solves p)
   one_is budget g e =
       let right = subst (IsRight ((played game).game.solves p)) e (verdict_right rules ((played game).game.solves p) ((facts game).searched id p s) budget) in
       (g, right.0, right.1)

@@ -6,7 +6,7 @@ use Rattle.maker_core.proofs.Common.{HasWords, IsFirstPassing, IsLit, IsThinnedF
 use Rattle.maker_core.proofs.Common.{light_is_game, light_passes, light_puzzle_of, light_rules, lights_of, numbered_cell, shuffled_list, stream_after, white, white_places, with_numbers}
 use Rattle.maker_core.proofs.Common.{IsLightSolution, bulbs_beside, cases_lt, get_or_past, inl, inr}
 use Rattle.std.proofs.lemmas.Option.{none-some}
-use Rattle.engine_core.specs.Verdict.{Outcome.OneGrid}
+use Rattle.engine_core.specs.Verdict.{Outcome.OneSolution}
 use Rattle.gameid_core.specs.Puzzles.{IsLight, IsLightCell, IsWide}
 use Rattle.fields_core.specs.Light.{is_white}
 use Rattle.maker_core.specs.Draws.{Making}
@@ -135,7 +135,7 @@ module _ (size : Extent) (wide : IsWide size) (black budget tries : ℕ) (s : St
       let p : Light = t.0 in
       let is : IsThinnedTo light_game budget all f.bulbs p t.1 = t.2 in
       let left : IsLight p = light_thinner all p ok (filled_small f) is.within in
-      let right = right_of (light_rules p) (IsLightSolution p) (OneGrid f.bulbs) (light_searched p left).accepted is.only in (
+      let right = right_of (light_rules p) (IsLightSolution p) (OneSolution f.bulbs) (light_searched p left).accepted is.only in (
         p,
         t.1,
         left,

@@ -19,7 +19,7 @@ use Rattle.gameid_core.proofs.PatternWritten.{pattern_is_written}
 use Rattle.gameid_core.proofs.Results.{bind_ok, chosen, ok_is, taken}
 use Rattle.gameid_core.proofs.RunsFit.{runs_lawful}
 use Rattle.gameid_core.proofs.TentsWritten.{tents_is_written}
-use Rattle.engine_core.specs.Verdict.{Outcome.OneGrid}
+use Rattle.engine_core.specs.Verdict.{Outcome.OneSolution}
 use Rattle.engine_core.proofs.VerdictLemmas.{outcome-true}
 use Rattle.fields_core.specs.FirstWrong.{IsFirstWrongOrNone}
 use Rattle.fields_core.proofs.TentRuleLemmas as tents
@@ -32,7 +32,7 @@ use Rattle.maker_core.proofs.BlackCells.{black_cells-grid}
 use Rattle.maker_core.proofs.PatternMakings.{pattern_only, pattern_solved}
 use Rattle.maker_core.proofs.TentMakings.{tents_only, tents_size}
 use Rattle.commands.specs.Common.{Stream, Extent, IsExtent, max_side, IsGrid, grid_text, SizeRead, extent_of}
-use Rattle.commands.specs.Common.{size_of, HasOneReading, IsTents, Tents, IdFault, IsLawful, Puzzle, Outcome, IsTrueOf, verdict_of}
+use Rattle.commands.specs.Common.{size_of, HasOneReading, IsTents, Tents, IdFault, IsLawful, RuleSystem, Outcome, IsTrueOf, verdict_of}
 use Rattle.commands.specs.Common.{is_solution-from, is_solution-is, line_rules-lawful, line_rules, IsPatternSolution, tent_rules, IsTentSolution}
 use Rattle.commands.specs.Seeds.{seed_key, seed_stream}
 use Rattle.commands.specs.Answers.{Answer, Text}
@@ -110,11 +110,11 @@ abbrev pub handed_answer : {P : Type 0} → Playing P → P → List ℕ → Ans
 handed_answer play p g = made_answer (play.game.written p) (grid_text (play.cell_text p g) (play.extent p))
 
 -- ---- what a search finds
-one_found : (o : Outcome) → is_one o ≡ true → (g : List ℕ) × (o ≡ OneGrid g)
-one_found (OneGrid g) e = (g, refl)
+one_found : (o : Outcome) → is_one o ≡ true → (g : List ℕ) × (o ≡ OneSolution g)
+one_found (OneSolution g) e = (g, refl)
 one_found o e = absurd (true≢false (sym e))
 
-pub has_one : (rules : Puzzle) → IsLawful rules → (budget : ℕ) → is_one (verdict_of rules budget) ≡ true → HasOne rules budget
+pub has_one : (rules : RuleSystem) → IsLawful rules → (budget : ℕ) → is_one (verdict_of rules budget) ≡ true → HasOne rules budget
 has_one rules laws budget one =
     let found = one_found (verdict_of rules budget) one in
     record { answer = found.0; found = found.1; only = subst (IsTrueOf rules) found.1 (outcome-true rules laws budget) }

@@ -12,7 +12,7 @@ use Rattle.gameid_core.proofs.SoloCanon.{solo_is_written}
 use Rattle.maker_core.specs.Draws.{IsFirstPassing, NonePasses, filling_at}
 use Rattle.maker_core.specs.LightFilling.{light_filling, light_passes}
 use Rattle.maker_core.specs.SoloMaking.{IsSoloSize, solo_filling, solo_passes}
-use Rattle.commands.specs.Common.{Extent, Game, IsLawful, Puzzle, SizeRead, Stream, extent_of, is_settled, max_side, size_of, line_rules, light_rules, tent_rules, houses_rules, singles_rules, crossings_rules}
+use Rattle.commands.specs.Common.{Extent, Game, IsLawful, RuleSystem, SizeRead, Stream, extent_of, is_settled, max_side, size_of, line_rules, light_rules, tent_rules, houses_rules, singles_rules, crossings_rules}
 use Rattle.commands.specs.Answers.{Answer, Text}
 use Rattle.commands.specs.Allowed.{Allows, AllowsCheck, AllowsGrade, AllowsMade, AllowsOfSize, AllowsSolve, wanted}
 use Rattle.commands.specs.Asked.{Asked, check, generate, grade, solve}
@@ -35,22 +35,22 @@ use Rattle.commands.proofs.Readings.{id_some}
 use Rattle.commands.proofs.SoloFillings.{solo_missing, solo_thinned}
 
 -- ---- traces
-visits_told : (name : ℕ → Text) (rules : Puzzle) → IsLawful rules → rules.by_queue ≡ true → (lines : Text) × TellsVisits name rules lines
+visits_told : (name : ℕ → Text) (rules : RuleSystem) → IsLawful rules → rules.by_queue ≡ true → (lines : Text) × TellsVisits name rules lines
 visits_told name rules laws queue =
     let closing = visits_close rules laws rules.start queue laws.start_within in
     (visits_text name closing.0, record { visits = closing.0; closing = closing.1; told = refl })
 
-sweeps_told : (rules : Puzzle) → IsLawful rules → rules.by_queue ≡ false → (lines : Text) × TellsSweeps rules lines
+sweeps_told : (rules : RuleSystem) → IsLawful rules → rules.by_queue ≡ false → (lines : Text) × TellsSweeps rules lines
 sweeps_told rules laws sweeps =
     let closing = sweeps_close rules laws rules.start sweeps laws.start_within in
     (sweeps_text closing.0, record { sweeps = closing.0; closing = closing.1; told = refl })
 
 -- the rules that were tried last are told, where each set's are
-abbrev EachTold : (Puzzle → Text → Type 0) → List Settling → Type 0
+abbrev EachTold : (RuleSystem → Text → Type 0) → List Settling → Type 0
 EachTold tells [] = Unit {0}
 EachTold tells (first ∷ rest) = ((lines : Text) × tells first.rules lines) × EachTold tells rest
 
-last_told : (tells : Puzzle → Text → Type 0) (before : Puzzle) (sets : List Settling) → (lines : Text) × tells before lines → EachTold tells sets
+last_told : (tells : RuleSystem → Text → Type 0) (before : RuleSystem) (sets : List Settling) → (lines : Text) × tells before lines → EachTold tells sets
     → (lines : Text) × tells (last_tried before sets) lines
 last_told tells before [] told each = told
 last_told tells before (first ∷ rest) told each = by (is_settled first.rules) (last_told tells first.rules rest each.0 each.1)
@@ -72,7 +72,7 @@ traced game.Pattern id p s =
     last_told (TellsVisits (pattern_name p)) (line_rules p) (only_set Lines (line_rules p)) told (told, tt)
 traced game.Solo id p s =
     let listed = (facts game.Solo).listed id p s in
-    let told = λ (rules : Puzzle) (laws : IsLawful rules) (queue : rules.by_queue ≡ true). visits_told (solo_name p) rules laws queue in
+    let told = λ (rules : RuleSystem) (laws : IsLawful rules) (queue : rules.by_queue ≡ true). visits_told (solo_name p) rules laws queue in
     let singles = told (singles_rules p) listed.0.lawful refl in
     let houses = told (houses_rules p) listed.1.0.lawful refl in
     let crossings = told (crossings_rules p) listed.1.1.0.lawful refl in

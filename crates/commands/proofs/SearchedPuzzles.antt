@@ -2,18 +2,18 @@
 use Rattle.std.proofs.Common.{◌≡◌, ℕ, Bool, List, Some, None, ◌≤◌, ◌∷◌, zero, suc, [], Option, refl, sym, arith}
 use Rattle.std.proofs.lemmas.Grind.{common_steps}
 use Rattle.std.specs.Prelude.{◌↔◌}
-use Rattle.engine_core.specs.Verdict.{Outcome.NoGrid, Outcome.OneGrid, Outcome.TwoGrids, Outcome.OutOfBudget, outcome, trials_in}
+use Rattle.engine_core.specs.Verdict.{Outcome.NoSolution, Outcome.OneSolution, Outcome.SeveralSolutions, Outcome.GaveUp, outcome, trials_in}
 use Rattle.engine_core.specs.Walk.{Mark.Found, Mark.Trial}
 use Rattle.engine_core.proofs.VerdictLemmas.{outcome-true}
 use Rattle.solo_core.specs.RuleLaws.{crossings_lawful, houses_lawful, singles_lawful}
-use Rattle.engine_core.specs.Houses.{House}
+use Rattle.engine_core.specs.HouseRules.{House}
 use Rattle.fields_core.specs.LightLaws.{light-lawful}
 use Rattle.fields_core.specs.TentLaws.{tent-lawful}
 use Rattle.fields_core.proofs.LightCounting.{light-counting}
 use Rattle.fields_core.proofs.LightRuleLemmas as light
 use Rattle.fields_core.proofs.TentCounting.{tent-counting}
 use Rattle.fields_core.proofs.TentRuleLemmas as tents
-use Rattle.commands.specs.Common.{IsRight, Extent, grid_text, IsLight, IsPattern, IsSolo, IsTents, Light, Pattern, Solo, Tents, Puzzle, IsLawful, Outcome}
+use Rattle.commands.specs.Common.{IsRight, Extent, grid_text, IsLight, IsPattern, IsSolo, IsTents, Light, Pattern, Solo, Tents, RuleSystem, IsLawful, Outcome}
 use Rattle.commands.specs.Common.{verdict_of, IsTrueOf, Solves, Mark, walk, is_solution-from, is_solution-is, line_rules-lawful, line_rules}
 use Rattle.commands.specs.Common.{IsPatternSolution, crossings_rules, houses_rules, rules_of, singles_rules, rule_from_test, test_from_rule}
 use Rattle.commands.specs.Common.{IsSoloSolution, light_rules, IsLightSolution, tent_rules, IsTentSolution}
@@ -24,16 +24,16 @@ use Rattle.commands.specs.Grades.{HasOneSolution}
 use Rattle.commands.specs.LawsOfCommands.{HasOneAnswer}
 
 -- what is true of the grids that the rules accept is right of the solutions, where these are the same
-pub right_of : (p : Puzzle) (solves : List ℕ → Type 0) (o : Outcome) → ((g : List ℕ) → Solves p g ↔ solves g) → IsTrueOf p o → IsRight solves o
-right_of p solves NoGrid same h = λ g s. h g ((same g).1 s)
-right_of p solves (OneGrid g) same h = ((same g).0 h.0, λ k s. h.1 k ((same k).1 s))
-right_of p solves (TwoGrids g k) same h = ((same g).0 h.0, (same k).0 h.1, h.2)
-right_of p solves (OutOfBudget None) same h = tt
-right_of p solves (OutOfBudget (Some g)) same h = (same g).0 h
+pub right_of : (p : RuleSystem) (solves : List ℕ → Type 0) (o : Outcome) → ((g : List ℕ) → Solves p g ↔ solves g) → IsTrueOf p o → IsRight solves o
+right_of p solves NoSolution same h = λ g s. h g ((same g).1 s)
+right_of p solves (OneSolution g) same h = ((same g).0 h.0, λ k s. h.1 k ((same k).1 s))
+right_of p solves (SeveralSolutions g k) same h = ((same g).0 h.0, (same k).0 h.1, h.2)
+right_of p solves (GaveUp None) same h = tt
+right_of p solves (GaveUp (Some g)) same h = (same g).0 h
 
-module _ {P : Type 0} (solves : P → List ℕ → Type 0) (rules : P → Puzzle) (cell : P → List ℕ → ℕ → Text) (size : P → Extent) (budget : ℕ) where
+module _ {P : Type 0} (solves : P → List ℕ → Type 0) (rules : P → RuleSystem) (cell : P → List ℕ → ℕ → Text) (size : P → Extent) (budget : ℕ) where
   -- a search by the rules of a puzzle tells what is allowed
-  pub solved_of : (p : P) (q : Puzzle) (a : Answer) → q ≡ rules p → ((g : List ℕ) → Solves (rules p) g ↔ solves p g)
+  pub solved_of : (p : P) (q : RuleSystem) (a : Answer) → q ≡ rules p → ((g : List ℕ) → Solves (rules p) g ↔ solves p g)
       → a ≡ verdict_answer (λ g. grid_text (cell p g) (size p)) (verdict_of q budget) → IsTrueOf q (verdict_of q budget)
       → IsSolved (solves p) (rules p) (cell p) (size p) budget a
   solved_of p q a same accepted told right = record {
@@ -42,7 +42,7 @@ module _ {P : Type 0} (solves : P → List ℕ → Type 0) (rules : P → Puzzle
   }
 
 -- the rules are lawful, and accept the solutions
-pub record SearchedPuzzle (rules : Puzzle) (solves : List ℕ → Type 0) : Type 0 where
+pub record SearchedPuzzle (rules : RuleSystem) (solves : List ℕ → Type 0) : Type 0 where
   pub lawful : IsLawful rules
   pub accepted : (g : List ℕ) → Solves rules g ↔ solves g
 
@@ -79,7 +79,7 @@ pub tents_searched : (p : Tents) → IsTents p → SearchedPuzzle (tent_rules p)
 tents_searched p ok = record { lawful = tent-lawful (record { tents = p; counting = tent-counting p ok }); accepted = tents_accepted p }
 
 -- a search with a trial for each of the walk doesn't give up
-never_out : (marks : List Mark) (budget : ℕ) (found sofar : Option (List ℕ)) → trials_in marks ≤ budget → outcome budget sofar marks ≡ OutOfBudget found → ⊥
+never_out : (marks : List Mark) (budget : ℕ) (found sofar : Option (List ℕ)) → trials_in marks ≤ budget → outcome budget sofar marks ≡ GaveUp found → ⊥
 unfolding outcome trials_in
 never_out [] budget found None room e = cc
 never_out [] budget found (Some g) room e = cc
@@ -88,12 +88,12 @@ never_out (Found h ∷ marks) budget found (Some first) room e = cc
 never_out (Trial depth board ∷ marks) zero found sofar room e = absurd (omega arith)
 never_out (Trial depth board ∷ marks) (suc budget) found sofar room e = never_out marks budget found sofar (omega arith) e
 
-module _ (rules : Puzzle) (solves : List ℕ → Type 0) (searched : SearchedPuzzle rules solves) where
+module _ (rules : RuleSystem) (solves : List ℕ → Type 0) (searched : SearchedPuzzle rules solves) where
   pub verdict_right : (budget : ℕ) → IsRight solves (verdict_of rules budget)
   verdict_right budget = right_of rules solves (verdict_of rules budget) searched.accepted (outcome-true rules searched.lawful budget)
 
   -- so where one grid is the solution, it is what a search with enough trials tells
-  pub found_with_enough : (one : HasOneSolution solves) (budget : ℕ) → trials_in (walk rules 0 rules.start) ≤ budget → verdict_of rules budget ≡ OneGrid one.0
+  pub found_with_enough : (one : HasOneSolution solves) (budget : ℕ) → trials_in (walk rules 0 rules.start) ≤ budget → verdict_of rules budget ≡ OneSolution one.0
   found_with_enough one budget h1 = grind (arith, common_steps, never_out, verdict_right)
 
   -- a search has one answer

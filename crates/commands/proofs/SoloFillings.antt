@@ -4,7 +4,7 @@ use Rattle.maker_core.proofs.Common.{mul-le, IfSome, IsTrueOf, Outcome, Solves, 
 use Rattle.maker_core.proofs.Common.{houses_lawful, houses_rules, HasWords, IsFirstPassing, IsLineOrder, IsSoloSize, AreReasons}
 use Rattle.maker_core.proofs.Common.{all_given, filling_at, first_grid, flipped_by_draw, lines_of_groups, shuffled_order, solo_filling, solo_game, solo_is_game, is_some}
 use Rattle.maker_core.proofs.Common.{stream_after, top_row_given, x_filling, true≢false}
-use Rattle.engine_core.specs.Verdict.{Outcome.NoGrid, Outcome.OneGrid, Outcome.TwoGrids, Outcome.OutOfBudget}
+use Rattle.engine_core.specs.Verdict.{Outcome.NoSolution, Outcome.OneSolution, Outcome.SeveralSolutions, Outcome.GaveUp}
 use Rattle.maker_core.specs.SoloFilling.{line_order, plain_filling}
 use Rattle.maker_core.specs.SoloMaking.{IsSoloMade, solo_passes}
 use Rattle.maker_core.specs.declared.made.Kept.{Kept}
@@ -80,11 +80,11 @@ module _ (c r : ℕ) (size : IsSoloSize c r) where
 
   -- ---- Solo X
   first_solves : (rules : _) (said : Outcome) → IsTrueOf rules said → IfSome (first_grid said) (Solves rules)
-  first_solves rules NoGrid is = tt
-  first_solves rules (OneGrid first) is = is.0
-  first_solves rules (TwoGrids first second) is = is.0
-  first_solves rules (OutOfBudget None) is = tt
-  first_solves rules (OutOfBudget (Some first)) is = is
+  first_solves rules NoSolution is = tt
+  first_solves rules (OneSolution first) is = is.0
+  first_solves rules (SeveralSolutions first second) is = is.0
+  first_solves rules (GaveUp None) is = tt
+  first_solves rules (GaveUp (Some first)) is = is
 
   flipped_words : (found : Option (List ℕ)) (t : Stream) → HasWords t → HasWords (flipped_by_draw (c * r) found t).1
   flipped_words None t words = words

@@ -4,7 +4,7 @@ use Rattle.maker_core.proofs.Common.{◌≡◌, ◌∙◌, ℕ, List, [], ◌∷
 use Rattle.maker_core.proofs.Common.{IsPermutation-refl, outcome-true, IsLawful, IsTrueOf, Outcome, Solves, verdict_of, CluedGame, IsGame, IsThinnedFrom}
 use Rattle.maker_core.proofs.Common.{clue_places, AreReasons, IsOnly, TellsOne, IsAsked, IsLeft, IsThinning, reasons_from}
 use Rattle.std.proofs.lemmas.Option.{none-some}
-use Rattle.engine_core.specs.Verdict.{Outcome.NoGrid, Outcome.OneGrid, Outcome.TwoGrids, Outcome.OutOfBudget}
+use Rattle.engine_core.specs.Verdict.{Outcome.NoSolution, Outcome.OneSolution, Outcome.SeveralSolutions, Outcome.GaveUp}
 use Rattle.maker_core.specs.declared.made.Kept.{Kept}
 use Rattle.maker_core.specs.declared.made.Why.{Why}
 use Rattle.maker_core.specs.declared.made.Why.TheVariants.{Budget, Needed}
@@ -30,16 +30,16 @@ module _ {A : Type 0} (game : CluedGame A) (laws : IsGame game) (budget : ℕ) (
 
   by_verdict : (place : ℕ) (p : A) → Solves (game.rules (game.without p place)) answer → (o : Outcome)
       → verdict_of (game.rules (game.without p place)) budget ≡ o → IsTrueOf (game.rules (game.without p place)) o → IsTried place p
-  by_verdict place p solves NoGrid is sound = absurd (sound answer solves)
-  by_verdict place p solves (OneGrid g) is sound =
+  by_verdict place p solves NoSolution is sound = absurd (sound answer solves)
+  by_verdict place p solves (OneSolution g) is sound =
       record { new = game.without p place; why = None; left = refl; asked = record { answer = g; found = is; only = sound } }
-  by_verdict place p solves (TwoGrids g h) is sound = record {
+  by_verdict place p solves (SeveralSolutions g h) is sound = record {
     new = p;
     why = Some Needed;
     left = refl;
     asked = record { first = g; second = h; first_solves = sound.0; second_solves = sound.1; differ = sound.2 };
   }
-  by_verdict place p solves (OutOfBudget found) is sound =
+  by_verdict place p solves (GaveUp found) is sound =
       record { new = p; why = Some Budget; left = refl; asked = record { found = found; verdict = is } }
 
   module _ (lawful : (p : A) → IsThinnedFrom game p all → IsLawful (game.rules p)) (only : IsOnly (game.rules all) answer) where

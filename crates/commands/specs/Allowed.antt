@@ -2,7 +2,7 @@
 use Rattle.std.specs.Prelude.{◌⊎◌, Result, Ok, ◌≡◌, List, ℕ, Bool, is_ok, true, false, Option, Some, None}
 use Rattle.std.specs.Str.Lines.{lines}
 use Rattle.gameid_core.specs.declared.id.game.Game.TheVariants as game
-use Rattle.commands.specs.Common.{IsRight, Extent, IdFault, grid_text, Game, Solo, SizeRead, Puzzle, verdict_of}
+use Rattle.commands.specs.Common.{IsRight, Extent, IdFault, grid_text, Game, Solo, SizeRead, RuleSystem, verdict_of}
 use Rattle.commands.specs.Answers.{Answer, Text}
 use Rattle.commands.specs.Games.{played}
 use Rattle.commands.specs.Playing.{GameOf, Playing}
@@ -37,7 +37,7 @@ AnswersId game id allows = AllowsId (game.reading id) (game.spells id) allows
 
 -- The verdict of the walk of the rules with the budget, which is right of the solutions, is told,
 -- with its grids printed.
-pub record IsSolved (solves : List ℕ → Type 0) (rules : Puzzle) (cell : List ℕ → ℕ → Text)
+pub record IsSolved (solves : List ℕ → Type 0) (rules : RuleSystem) (cell : List ℕ → ℕ → Text)
     (size : Extent) (budget : ℕ)
     (answer : Answer) : Type 0 where
   pub right : IsRight solves (verdict_of rules budget)
@@ -79,25 +79,25 @@ IsGradeBy game p sets options =
     (game.tells p (last_tried (game.rules p) sets))
 
 -- the same by one rule set
-abbrev pub IsGradeAfter : {P : Type 0} → GameOf P → P → Attempt → Puzzle → Answer → Type 0
+abbrev pub IsGradeAfter : {P : Type 0} → GameOf P → P → Attempt → RuleSystem → Answer → Type 0
 IsGradeAfter game p attempt rules = IsGradeBy game p (only_set attempt.set rules) attempt.options
 
-abbrev pub grade_after : {P : Type 0} → GameOf P → P → Attempt → Puzzle → Grade
+abbrev pub grade_after : {P : Type 0} → GameOf P → P → Attempt → RuleSystem → Grade
 grade_after game p attempt rules =
     listed_grade (only_set attempt.set rules) (game.rules p) attempt.options.budget
 
 -- a grade is told, and the closing by these rules
-abbrev pub GradeTold : {P : Type 0} → GameOf P → P → Attempt → Grade → Puzzle → Answer → Type 0
+abbrev pub GradeTold : {P : Type 0} → GameOf P → P → Attempt → Grade → RuleSystem → Answer → Type 0
 GradeTold game p attempt given rules =
     TellsGrade given attempt.options.traced (game.tells p rules)
 
-abbrev pub IsToldBySweeps : Attempt → Grade → Puzzle → Answer → Type 0
+abbrev pub IsToldBySweeps : Attempt → Grade → RuleSystem → Answer → Type 0
 IsToldBySweeps attempt given rules =
     TellsGrade given attempt.options.traced (TellsSweeps rules)
 
 -- what is told of closings by such lines is told of the puzzle
-abbrev pub AreTold : {P : Type 0} → GameOf P → P → (Puzzle → Text → Type 0) → Type 0
-AreTold game p tells = (rules : Puzzle) (lines : Text) → tells rules lines
+abbrev pub AreTold : {P : Type 0} → GameOf P → P → (RuleSystem → Text → Type 0) → Type 0
+AreTold game p tells = (rules : RuleSystem) (lines : Text) → tells rules lines
     → game.tells p rules lines
 
 -- the same by the rule sets of the game

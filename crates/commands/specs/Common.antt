@@ -1,5 +1,5 @@
 -- The words of the crates below that the definitions and proofs here use, from one place.
-pub use Rattle.engine_core.specs.Puzzle.{FitsIn, IsClosed, IsLawful, Puzzle, needs_of}
+pub use Rattle.engine_core.specs.RuleSystem.{FitsIn, IsClosed, IsLawful, RuleSystem, needs_of}
 pub use Rattle.engine_core.specs.Stored.{is_settled}
 pub use Rattle.engine_core.specs.Verdict.{IsRight, IsTrueOf, Outcome, Solves, verdict_of}
 pub use Rattle.engine_core.specs.Walk.{IsFound, Mark, walk}

@@ -1,8 +1,8 @@
 -- What `grade` says of a puzzle: the first rule set of a list that settles it, or else the verdict
 -- of a search.
 use Rattle.std.specs.Prelude.{◌≡◌, ◌≢◌, ◌++◌, ℕ, Bool, List, [], ◌∷◌, if◌then◌else◌, codes, decimal, ⊤}
-use Rattle.engine_core.specs.Verdict.{Outcome.NoGrid, Outcome.OneGrid, Outcome.TwoGrids, Outcome.OutOfBudget, trials_in}
-use Rattle.commands.specs.Common.{Puzzle, is_settled, Outcome, verdict_of, walk}
+use Rattle.engine_core.specs.Verdict.{Outcome.NoSolution, Outcome.OneSolution, Outcome.SeveralSolutions, Outcome.GaveUp, trials_in}
+use Rattle.commands.specs.Common.{RuleSystem, is_settled, Outcome, verdict_of, walk}
 use Rattle.commands.specs.Answers.{Answer, Text, code_of}
 use Rattle.commands.specs.Traces.{IsTrace}
 use Rattle.commands.specs.declared.answers.status.Status.TheVariants as status
@@ -13,23 +13,23 @@ use Rattle.commands.specs.declared.grade.RuleSet.TheVariants.{Singles, Houses, C
 
 -- by a verdict, where the whole walk has so many trials
 abbrev pub grade_by : ℕ → Outcome → Grade
-grade_by trials NoGrid = NoSolution
-grade_by trials (OneGrid g) = BySearch trials
-grade_by trials (TwoGrids g h) = SeveralSolutions
-grade_by trials (OutOfBudget found) = GaveUp
+grade_by trials NoSolution = NoSolution
+grade_by trials (OneSolution g) = BySearch trials
+grade_by trials (SeveralSolutions g h) = SeveralSolutions
+grade_by trials (GaveUp found) = GaveUp
 
 -- by the walk of the rules' start board, with that budget
-unfoldable pub searched_grade : Puzzle → ℕ → Grade
+unfoldable pub searched_grade : RuleSystem → ℕ → Grade
 searched_grade rules budget =
     grade_by (trials_in (walk rules 0 rules.start)) (verdict_of rules budget)
 
 -- a rule set that may settle a puzzle, by its name
 pub record Settling : Type 0 where
   pub set : RuleSet
-  pub rules : Puzzle
+  pub rules : RuleSystem
 
 -- by the rule set, where the closure of its start board is full and the grid a solution
-abbrev pub settled_or : RuleSet → Puzzle → Grade → Grade
+abbrev pub settled_or : RuleSet → RuleSystem → Grade → Grade
 settled_or set rules otherwise = if is_settled rules then ByRules set else otherwise
 
 -- by the first of the rule sets that settles the puzzle
@@ -40,17 +40,17 @@ first_settled (first ∷ rest) otherwise =
 
 -- the rules that were tried last: those of the first set that settles the puzzle, and else those of
 -- the last in the list
-abbrev pub last_tried : Puzzle → List Settling → Puzzle
+abbrev pub last_tried : RuleSystem → List Settling → RuleSystem
 last_tried before [] = before
 last_tried before (first ∷ rest) =
     if is_settled first.rules then first.rules else last_tried first.rules rest
 
 -- by the rule sets in turn, and else by a search with rules of its own
-abbrev pub listed_grade : List Settling → Puzzle → ℕ → Grade
+abbrev pub listed_grade : List Settling → RuleSystem → ℕ → Grade
 listed_grade sets search budget = first_settled sets (searched_grade search budget)
 
 -- a list of one
-abbrev pub only_set : RuleSet → Puzzle → List Settling
+abbrev pub only_set : RuleSet → RuleSystem → List Settling
 only_set set rules = record { set = set; rules = rules } ∷ []
 
 -- some grid is a solution, and no other is

@@ -1,6 +1,6 @@
 -- What the commands know of a game, and of its puzzles.
 use Rattle.std.specs.Prelude.{ℕ, List, Result}
-use Rattle.commands.specs.Common.{Extent, Puzzle, SizeRead, IdFault, Kept}
+use Rattle.commands.specs.Common.{Extent, RuleSystem, SizeRead, IdFault, Kept}
 use Rattle.commands.specs.Answers.{Answer, Text}
 use Rattle.commands.specs.Grades.{Settling}
 use Rattle.commands.specs.Makings.{Wanted}
@@ -14,11 +14,11 @@ pub record GameOf (P : Type 0) : Type 1 where
   pub written : P → Text
   -- the solutions, the rules that a search goes by, and what a check tells of a grid
   pub solves : P → List ℕ → Type 0
-  pub rules : P → Puzzle
+  pub rules : P → RuleSystem
   pub told : P → List ℕ → Answer → Type 0
   -- the rule sets that are tried in turn, and what the lines tell of a closing by such rules
   pub sets : P → List Settling
-  pub tells : P → Puzzle → Text → Type 0
+  pub tells : P → RuleSystem → Text → Type 0
   -- the size that a text is, within the limits of what is made, or its first fault
   pub sizes : Text → Result SizeRead IdFault
   -- a puzzle is made of the size with that solution and those clues left, or that none is made is

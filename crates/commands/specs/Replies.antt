@@ -2,8 +2,8 @@
 use Rattle.std.specs.Prelude.{ℕ, ◌≡◌, ◌++◌, [], Result, Err, codes, decimal, List, string_bytes, Some, None}
 use Rattle.gameid_core.specs.declared.id.fault.IdFault.TheVariants.{TooLong, SeedId, NoColon, BadSize, Variant, SizeRange, BadByte, NumberRange, LineTooFull, TooFew, TooMany, Memory}
 use Rattle.gameid_core.specs.declared.grids.printed.Printed as printed
-use Rattle.engine_core.specs.Verdict.{Outcome.NoGrid, Outcome.OneGrid, Outcome.TwoGrids, Outcome.OutOfBudget}
-use Rattle.commands.specs.Common.{IdFault, grid_text, Puzzle, Outcome, verdict_of}
+use Rattle.engine_core.specs.Verdict.{Outcome.NoSolution, Outcome.OneSolution, Outcome.SeveralSolutions, Outcome.GaveUp}
+use Rattle.commands.specs.Common.{IdFault, grid_text, RuleSystem, Outcome, verdict_of}
 use Rattle.commands.specs.declared.answers.status.Status.TheVariants.{Fine, Wrong, Refused, Several, GaveUp}
 use Rattle.commands.specs.Answers.{Answer, Text, answer_with, code_of}
 use Rattle.commands.specs.declared.answers.reply.Reply.{Reply}
@@ -61,13 +61,13 @@ two_grids printing p g h = several_answer (grid_of printing p g) (grid_of printi
 
 -- the verdict with its grids, printed so
 abbrev pub verdict_answer : (List ℕ → Text) → Outcome → Answer
-verdict_answer printed NoGrid = none_answer
-verdict_answer printed (OneGrid g) = one_answer (printed g)
-verdict_answer printed (TwoGrids g h) = several_answer (printed g) (printed h)
-verdict_answer printed (OutOfBudget None) = gave_up_answer []
-verdict_answer printed (OutOfBudget (Some g)) = gave_up_answer (printed g)
+verdict_answer printed NoSolution = none_answer
+verdict_answer printed (OneSolution g) = one_answer (printed g)
+verdict_answer printed (SeveralSolutions g h) = several_answer (printed g) (printed h)
+verdict_answer printed (GaveUp None) = gave_up_answer []
+verdict_answer printed (GaveUp (Some g)) = gave_up_answer (printed g)
 
 -- the same by the walk of the rules with the budget
-abbrev pub verdict_told : {P : Type 0} → printed.Ghosts P → P → Puzzle → ℕ → Answer
+abbrev pub verdict_told : {P : Type 0} → printed.Ghosts P → P → RuleSystem → ℕ → Answer
 verdict_told printing p rules budget =
     verdict_answer (grid_of printing p) (verdict_of rules budget)

@@ -4,10 +4,10 @@ use Rattle.gameid_core.specs.SoloText.{SpellsSolo, solo_of, solo_text}
 use Rattle.gameid_core.specs.declared.id.game.Game.TheVariants as game
 use Rattle.solo_core.specs.declared.fault.SoloFault.{SoloFault}
 use Rattle.solo_core.specs.declared.fault.SoloFault.TheVariants as solo
-use Rattle.solo_core.specs.declared.houses.house.SoloHouse.{SoloHouse}
-use Rattle.solo_core.specs.declared.houses.house.SoloHouse.TheVariants.{Row, Column, Block, Diagonal}
-use Rattle.solo_core.specs.declared.houses.scope.SoloScope.{SoloScope}
-use Rattle.solo_core.specs.declared.houses.scope.SoloScope.TheVariants.{House, Crossing}
+use Rattle.solo_core.specs.declared.houses.house.NamedHouse.{NamedHouse}
+use Rattle.solo_core.specs.declared.houses.house.NamedHouse.TheVariants.{Row, Column, Block, Diagonal}
+use Rattle.solo_core.specs.declared.houses.scope.VisitName.{VisitName}
+use Rattle.solo_core.specs.declared.houses.scope.VisitName.TheVariants.{House, Crossing}
 use Rattle.commands.specs.Common.{IsFirstFault, IsSoloMade, IsSoloSolution, Solo, crossings_rules, hides_nothing, houses_rules}
 use Rattle.commands.specs.Common.{scopes_of, singles_rules, size_of, solo_cell, solo_extent, solo_n}
 use Rattle.commands.specs.Answers.{Text}
@@ -26,13 +26,13 @@ solo_fault p (solo.Block b) = codes "block " ++ decimal b
 solo_fault p (solo.Diagonal d) = codes "diagonal " ++ decimal d
 
 -- what a closing visits, by name
-abbrev pub house_text : SoloHouse → Text
+abbrev pub house_text : NamedHouse → Text
 house_text (Row y) = codes "row " ++ decimal y
 house_text (Column x) = codes "column " ++ decimal x
 house_text (Block b) = codes "block " ++ decimal b
 house_text (Diagonal d) = codes "diagonal " ++ decimal d
 
-abbrev pub scope_text : SoloScope → Text
+abbrev pub scope_text : VisitName → Text
 scope_text (House house) = house_text house
 scope_text (Crossing block line) = house_text (Block block) ++ codes " " ++ house_text line
 

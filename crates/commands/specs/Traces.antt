@@ -1,7 +1,7 @@
 -- How a closing is told: a line for each visit in order, or one line for all sweeps.
 use Rattle.std.specs.Prelude.{◌≡◌, ◌++◌, ℕ, Bool, true, false, List, [], length, slice_index, codes, decimal}
 use Rattle.engine_core.specs.ClosingList.{IsClosingList, IsClosingSweeps}
-use Rattle.commands.specs.Common.{Puzzle}
+use Rattle.commands.specs.Common.{RuleSystem}
 use Rattle.commands.specs.Answers.{Text}
 use Rattle.gameid_core.specs.GridTexts.{each_below}
 
@@ -16,13 +16,13 @@ abbrev pub sweeps_text : ℕ → Text
 sweeps_text sweeps = codes "sweeps " ++ decimal sweeps ++ codes "\n"
 
 -- the lines tell visits that close the rules' start board
-pub record TellsVisits (name : ℕ → Text) (rules : Puzzle) (lines : Text) : Type 0 where
+pub record TellsVisits (name : ℕ → Text) (rules : RuleSystem) (lines : Text) : Type 0 where
   pub visits : List ℕ
   pub closing : IsClosingList rules rules.start visits
   pub told : lines ≡ visits_text name visits
 
 -- the line tells how many sweeps close the rules' start board
-pub record TellsSweeps (rules : Puzzle) (lines : Text) : Type 0 where
+pub record TellsSweeps (rules : RuleSystem) (lines : Text) : Type 0 where
   pub sweeps : ℕ
   pub closing : IsClosingSweeps rules rules.start sweeps
   pub told : lines ≡ sweeps_text sweeps

@@ -135,12 +135,12 @@ impl Attempt {
         store: &mut Store<R>,
         output: &mut O,
     ) -> Ended
-        requires fits { FitsIn (needs_of (R.puzzle rules.now)) store.old.made }
-        requires queue { (R.puzzle rules.now).by_queue ≡ true }
-        requires named { (R.puzzle rules.now).houses ≤ P.named puzzle.now }
+        requires fits { FitsIn (needs_of (R.system rules.now)) store.old.made }
+        requires queue { (R.system rules.now).by_queue ≡ true }
+        requires named { (R.system rules.now).houses ≤ P.named puzzle.now }
         requires not_failed { O.has_failed output.old ≡ false }
         ensures told { ToldIfAny O.takes
-            (GradeTold P.game puzzle.now self grade (R.puzzle rules.now))
+            (GradeTold P.game puzzle.now self grade (R.system rules.now))
             output.old output.new result }
         ensures left { LeavesSink O.Sink output.new result }
     {
@@ -161,10 +161,10 @@ impl Attempt {
         store: &mut Store<R>,
         output: &mut O,
     ) -> Ended
-        requires fits { FitsIn (needs_of (R.puzzle rules.now)) store.old.made }
-        requires sweeps { (R.puzzle rules.now).by_queue ≡ false }
+        requires fits { FitsIn (needs_of (R.system rules.now)) store.old.made }
+        requires sweeps { (R.system rules.now).by_queue ≡ false }
         requires not_failed { O.has_failed output.old ≡ false }
-        ensures told { ToldIfAny O.takes (IsToldBySweeps self grade (R.puzzle rules.now))
+        ensures told { ToldIfAny O.takes (IsToldBySweeps self grade (R.system rules.now))
             output.old output.new result }
         ensures left { LeavesSink O.Sink output.new result }
     {
@@ -192,13 +192,13 @@ impl Attempt {
     ) -> Ended
     where
         P::Search: Searchable,
-        requires means { (rules : P.Search) → P.Search.puzzle rules ≡ P.meaning rules }
-        requires queue { (R.puzzle rules.now).by_queue ≡ true }
-        requires named { (R.puzzle rules.now).houses ≤ P.named puzzle.now }
+        requires means { (rules : P.Search) → P.Search.system rules ≡ P.meaning rules }
+        requires queue { (R.system rules.now).by_queue ≡ true }
+        requires named { (R.system rules.now).houses ≤ P.named puzzle.now }
         requires accepted { (g : List ℕ)
-            → Solves (R.puzzle rules.now) g ↔ P.game.solves puzzle.now g }
+            → Solves (R.system rules.now) g ↔ P.game.solves puzzle.now g }
         requires not_failed { O.has_failed output.old ≡ false }
-        ensures told { ToldIfAny O.takes (IsGradeAfter P.game puzzle.now self (R.puzzle rules.now))
+        ensures told { ToldIfAny O.takes (IsGradeAfter P.game puzzle.now self (R.system rules.now))
             output.old output.new result }
         ensures left { LeavesSink O.Sink output.new result }
     {
@@ -216,13 +216,13 @@ impl Attempt {
     ) -> Ended
     where
         P::Search: Searchable,
-        requires means { (rules : P.Search) → P.Search.puzzle rules ≡ P.meaning rules }
-        requires sweeps { (R.puzzle rules.now).by_queue ≡ false }
+        requires means { (rules : P.Search) → P.Search.system rules ≡ P.meaning rules }
+        requires sweeps { (R.system rules.now).by_queue ≡ false }
         requires told { AreTold P.game puzzle.now TellsSweeps }
         requires accepted { (g : List ℕ)
-            → Solves (R.puzzle rules.now) g ↔ P.game.solves puzzle.now g }
+            → Solves (R.system rules.now) g ↔ P.game.solves puzzle.now g }
         requires not_failed { O.has_failed output.old ≡ false }
-        ensures told { ToldIfAny O.takes (IsGradeAfter P.game puzzle.now self (R.puzzle rules.now))
+        ensures told { ToldIfAny O.takes (IsGradeAfter P.game puzzle.now self (R.system rules.now))
             output.old output.new result }
         ensures left { LeavesSink O.Sink output.new result }
     {

@@ -20,7 +20,7 @@ fn store_for<'a, R: Searchable>(
     kept: &'a mut Option<Store<R>>,
     rules: &R,
 ) -> Result<&'a mut Store<R>, AllocError>
-    ensures { IfOk result (λ store. FitsIn (needs_of (R.puzzle rules.now)) store.now.made) }
+    ensures { IfOk result (λ store. FitsIn (needs_of (R.system rules.now)) store.now.made) }
 {
     let fits = match kept {
         Some(store) => store.fits(rules),
@@ -40,14 +40,14 @@ fn verdict_reply<P: Printed, R: Searchable>(
     budget: u64,
     text: String,
 ) -> Result<Reply, AllocError>
-    requires fits { FitsIn (needs_of (R.puzzle rules.now)) store.old.made }
-    requires cells { (R.puzzle rules.now).cells ≡ (P.extent puzzle.now).w
+    requires fits { FitsIn (needs_of (R.system rules.now)) store.old.made }
+    requires cells { (R.system rules.now).cells ≡ (P.extent puzzle.now).w
         * (P.extent puzzle.now).h }
-    requires values { (R.puzzle rules.now).values ≡ P.value_count puzzle.now }
+    requires values { (R.system rules.now).values ≡ P.value_count puzzle.now }
     ensures told { IfOk result
-        (λ r. answer_in r ≡ verdict_told P.Printed puzzle.now (R.puzzle rules.now) budget) }
+        (λ r. answer_in r ≡ verdict_told P.Printed puzzle.now (R.system rules.now) budget) }
     ensures right { IfOk result
-        (λ r. IsTrueOf (R.puzzle rules.now) (verdict_of (R.puzzle rules.now) budget)) }
+        (λ r. IsTrueOf (R.system rules.now) (verdict_of (R.system rules.now) budget)) }
 {
     match store.solve(rules, budget) {
         Verdict::None => words_reply(text, "none\n", Status::Wrong),
@@ -77,7 +77,7 @@ fn solve_puzzle<P: Solvable + Drop>(
 ) -> Result<Reply, AllocError>
 where
     P::Search: Searchable,
-    requires means { (rules : P.Search) → P.Search.puzzle rules ≡ P.meaning rules }
+    requires means { (rules : P.Search) → P.Search.system rules ≡ P.meaning rules }
     ensures { IfOk result (λ r. SolvesPuzzle P.Played budget puzzle.now (answer_in r)) }
 {
     let rules = puzzle.rules(alloc)?;
@@ -95,7 +95,7 @@ fn solve_one<P: Solvable + Drop>(
 ) -> Result<Reply, AllocError>
 where
     P::Search: Searchable,
-    requires means { (rules : P.Search) → P.Search.puzzle rules ≡ P.meaning rules }
+    requires means { (rules : P.Search) → P.Search.system rules ≡ P.meaning rules }
     ensures { IfOk result (λ r. SolvesId P.Played budget id.now (answer_in r)) }
 {
     match P::read_id(alloc, id) {

@@ -13,10 +13,10 @@ pub use Rattle.grid_core.specs.Candidates.{Candidates}
 unfoldable pub use Rattle.grid_core.specs.Candidates.{all_of, any_below, only}
 pub use Rattle.engine_core.specs.Filling.{Fills, Set, has_value, strikes_by_fillings}
 pub use Rattle.engine_core.specs.FillingLaws.{has_value_below, shown_from_test, test_from_shown}
-pub use Rattle.engine_core.specs.House.{IsDecided}
-pub use Rattle.engine_core.specs.HouseLaws.{bits-of_values, kept-decided, sets-of_values, visited-after}
-pub use Rattle.engine_core.specs.Puzzle.{IsBoardOf, Puzzle}
-unfoldable pub use Rattle.engine_core.specs.Puzzle.{after, has_place}
+pub use Rattle.engine_core.specs.HouseSets.{IsDecided}
+pub use Rattle.engine_core.specs.HouseSetsLaws.{bits-of_values, kept-decided, sets-of_values, visited-after}
+pub use Rattle.engine_core.specs.RuleSystem.{IsBoardOf, RuleSystem}
+unfoldable pub use Rattle.engine_core.specs.RuleSystem.{after, has_place}
 pub use Rattle.engine_core.specs.Sets.{IsBitsOf, has_bit}
 unfoldable pub use Rattle.engine_core.specs.Sets.{set_of_bits}
 pub use Rattle.engine_core.specs.Waiting.{AreCalled}

@@ -6,11 +6,11 @@ use Rattle.grid_core.specs.Candidates.{IsInside, all_of, only, single, sum_below
 use Rattle.grid_core.specs.Grids.{IsGrid}
 use Rattle.grid_core.proofs.CandidateLemmas.{all_below-at, count_below-few, count_below-or}
 use Rattle.grid_core.proofs.GridLemmas.{single-is, only-inside, only-has}
-use Rattle.engine_core.specs.Puzzle.{IsLawful, after, has_place, share}
+use Rattle.engine_core.specs.RuleSystem.{IsLawful, after, has_place, share}
 use Rattle.engine_core.specs.PlaceLaws.{has_place-here}
 use Rattle.engine_core.specs.Filling.{strikes_by_fillings}
-use Rattle.engine_core.specs.House.{strikes_at, AreDifferent}
-use Rattle.engine_core.specs.HouseLaws.{strikes_at-inside, strikes_at-in_scope, by_fillings-monotone, by_fillings-settled, by_fillings-closed}
+use Rattle.engine_core.specs.HouseSets.{strikes_at, AreDifferent}
+use Rattle.engine_core.specs.HouseSetsLaws.{strikes_at-inside, strikes_at-in_scope, by_fillings-monotone, by_fillings-settled, by_fillings-closed}
 use Rattle.core_tests.specs.Neighbours.{neighbours, differ, is_row}
 use Rattle.std.proofs.lemmas.Grind.{common_steps}
 

@@ -1,5 +1,5 @@
 -- Which houses wait after others were called for.
-use Rattle.engine_core.proofs.Common.{AreCalled, Bool, Candidates, IsIdle, IsWoken, Puzzle, and_from, and_left, and_right, any_below, arith, but}
+use Rattle.engine_core.proofs.Common.{AreCalled, Bool, Candidates, IsIdle, IsWoken, RuleSystem, and_from, and_left, and_right, any_below, arith, but}
 use Rattle.engine_core.proofs.Common.{called_for, calls, cases_eq, cases_lt, common_steps, count_below, counts_of, eq-eqb, eqb, eqb-true, false}
 use Rattle.engine_core.proofs.Common.{has_place, le-ltb, lt-ltb, ltb, ne_eqb, not, not_from_false, not_from_true, or_left, or_right, refl}
 use Rattle.engine_core.proofs.Common.{IsBitsOf, IsInside, IsNext, None, Some, any_below, empties, slice_index, true, woken, ℕ, ◌&&◌, ◌+◌, ◌<◌, ◌||◌, ◌≡◌, ◌≤◌}
@@ -8,14 +8,14 @@ use Rattle.engine_core.proofs.QueueLemmas.{any_below-more, empties_else, empties
 use Rattle.engine_core.proofs.SetLemmas.{bits-empty, counts-differ, counts-same}
 
 -- where no house is called for, nothing changes
-pub called-none : (p : Puzzle) (K : Candidates) (called waits : ℕ → Bool) → ((j : ℕ) → j < p.houses → called j ≡ false) → AreCalled p K called waits waits
+pub called-none : (p : RuleSystem) (K : Candidates) (called waits : ℕ → Bool) → ((j : ℕ) → j < p.houses → called j ≡ false) → AreCalled p K called waits waits
 called-none p K called waits none = grind (arith, common_steps)
 
-pub called-same : (p : Puzzle) (K : Candidates) (called called' before now : ℕ → Bool) → ((j : ℕ) → j < p.houses → called j ≡ called' j) → AreCalled p K called before now → AreCalled p K called' before now
+pub called-same : (p : RuleSystem) (K : Candidates) (called called' before now : ℕ → Bool) → ((j : ℕ) → j < p.houses → called j ≡ called' j) → AreCalled p K called before now → AreCalled p K called' before now
 called-same p K called called' before now same a = grind (arith, common_steps)
 
 -- first some are called for, and then others
-pub called-more : (p : Puzzle) (K : Candidates) (first more before now after : ℕ → Bool) → AreCalled p K first before now → AreCalled p K more now after
+pub called-more : (p : RuleSystem) (K : Candidates) (first more before now after : ℕ → Bool) → AreCalled p K first before now → AreCalled p K more now after
     → AreCalled p K (λ j. first j || more j) before after
 called-more p K first more before now after a b = grind (arith, common_steps)
 
@@ -24,46 +24,46 @@ called-more p K first more before now after a b = grind (arith, common_steps)
 abbrev pub asked_upto : (ℕ → Bool) → ℕ → ℕ → Bool
 asked_upto test k j = test j && ltb (count_below test j) k
 
-pub upto-first : (p : Puzzle) (K : Candidates) (test waits : ℕ → Bool) → AreCalled p K (asked_upto test 0) waits waits
+pub upto-first : (p : RuleSystem) (K : Candidates) (test waits : ℕ → Bool) → AreCalled p K (asked_upto test 0) waits waits
 upto-first p K test waits = called-none p K _ waits (λ j lt. and_right (test j) _ (le-ltb (count_below test j) 0 (omega arith)))
 
 upto-next : (test : ℕ → Bool) (n k j : ℕ) → test n ≡ true → count_below test n ≡ k → (asked_upto test k j || eqb j n) ≡ asked_upto test (k + 1) j
 upto-next test n k j on number = grind (arith, common_steps, and_from, and_left, cases_eq, cases_lt, counted, eq-eqb, le-ltb, lt-ltb, ne_eqb, or_right)
 
 -- the next one is marked
-pub upto-marked : (p : Puzzle) (K : Candidates) (test before now after : ℕ → Bool) (n k : ℕ) → test n ≡ true → count_below test n ≡ k → ((j : ℕ) → after j ≡ (now j || eqb j n))
+pub upto-marked : (p : RuleSystem) (K : Candidates) (test before now after : ℕ → Bool) (n k : ℕ) → test n ≡ true → count_below test n ≡ k → ((j : ℕ) → after j ≡ (now j || eqb j n))
     → AreCalled p K (asked_upto test k) before now → AreCalled p K (asked_upto test (k + 1)) before after
 upto-marked p K test before now after n k on number marks a = grind (arith, common_steps, called-more, called-same, or_left, or_right, upto-next)
 
 -- or it strikes nothing
-pub upto-idle : (p : Puzzle) (K : Candidates) (test before now : ℕ → Bool) (n k : ℕ) → test n ≡ true → count_below test n ≡ k → IsIdle p n K
+pub upto-idle : (p : RuleSystem) (K : Candidates) (test before now : ℕ → Bool) (n k : ℕ) → test n ≡ true → count_below test n ≡ k → IsIdle p n K
     → AreCalled p K (asked_upto test k) before now → AreCalled p K (asked_upto test (k + 1)) before now
 upto-idle p K test before now n k on number idle a =
     called-same p K _ _ before now (λ j lt. upto-next test n k j on number)
     (called-more p K (asked_upto test k) (λ j. eqb j n) before now now a (grind (arith, common_steps, eqb-true)))
 
 -- one or the other
-pub upto-asked : (p : Puzzle) (K : Candidates) (test before now after : ℕ → Bool) (n k : ℕ) (called : Bool) → test n ≡ true → count_below test n ≡ k → (called ≡ false → IsIdle p n K)
+pub upto-asked : (p : RuleSystem) (K : Candidates) (test before now after : ℕ → Bool) (n k : ℕ) (called : Bool) → test n ≡ true → count_below test n ≡ k → (called ≡ false → IsIdle p n K)
     → ((j : ℕ) → after j ≡ (now j || (called && eqb j n))) → AreCalled p K (asked_upto test k) before now → AreCalled p K (asked_upto test (k + 1)) before after
 upto-asked p K test before now after n k true on number idle marks a = upto-marked p K test before now after n k on number marks a
 upto-asked p K test before now after n k false on number idle marks a = upto-idle p K test before after n k on number (idle refl) (grind (arith, common_steps))
 
-pub upto-all : (p : Puzzle) (K : Candidates) (test before now : ℕ → Bool) (k : ℕ) → count_below test p.houses ≤ k → AreCalled p K (asked_upto test k) before now → AreCalled p K test before now
+pub upto-all : (p : RuleSystem) (K : Candidates) (test before now : ℕ → Bool) (k : ℕ) → count_below test p.houses ≤ k → AreCalled p K (asked_upto test k) before now → AreCalled p K test before now
 upto-all p K test before now k le a = grind (arith, common_steps, and_from, and_left, called-same, counted, lt-ltb)
 
 -- ---- the cells of a house one after another
-pub called-first : (p : Puzzle) (h : ℕ) (K K' : Candidates) (waits : ℕ → Bool) → AreCalled p K' (λ j. any_below (calls p h (counts_of p h K) K' j) 0) waits waits
+pub called-first : (p : RuleSystem) (h : ℕ) (K K' : Candidates) (waits : ℕ → Bool) → AreCalled p K' (λ j. any_below (calls p h (counts_of p h K) K' j) 0) waits waits
 unfolding any_below
 called-first p h K K' waits = called-none p K' _ waits (λ j lt. refl)
 
-pub called-then : (p : Puzzle) (h : ℕ) (K K' : Candidates) (k place : ℕ) (before now after : ℕ → Bool) → place ≡ slice_index (p.scope h) k
+pub called-then : (p : RuleSystem) (h : ℕ) (K K' : Candidates) (k place : ℕ) (before now after : ℕ → Bool) → place ≡ slice_index (p.scope h) k
     → (count_below (K (slice_index (p.scope h) k)) p.values ≡ count_below (K' (slice_index (p.scope h) k)) p.values → ⊥)
     → AreCalled p K' (λ j. any_below (calls p h (counts_of p h K) K' j) k) before now → AreCalled p K' (λ j. has_place (p.scope j) place) now after
     → AreCalled p K' (λ j. any_below (calls p h (counts_of p h K) K' j) (k + 1)) before after
 unfolding counts_of
 called-then p h K K' k place before now after at ne a b = grind (arith, common_steps, any_below-more, called-more, called-same, ne_eqb, not_from_false)
 
-pub called-else : (p : Puzzle) (h : ℕ) (K K' : Candidates) (k : ℕ) (before now : ℕ → Bool)
+pub called-else : (p : RuleSystem) (h : ℕ) (K K' : Candidates) (k : ℕ) (before now : ℕ → Bool)
     → count_below (K (slice_index (p.scope h) k)) p.values ≡ count_below (K' (slice_index (p.scope h) k)) p.values
     → AreCalled p K' (λ j. any_below (calls p h (counts_of p h K) K' j) k) before now
     → AreCalled p K' (λ j. any_below (calls p h (counts_of p h K) K' j) (k + 1)) before now
@@ -71,26 +71,26 @@ unfolding counts_of
 called-else p h K K' k before now same a = grind (arith, common_steps, and_left, any_below-more, called-same, eq-eqb, not_from_true)
 
 -- ---- the marks after a visit: of the house, then those of houses that were called for, then its own where it is settled
-pub woken-by : (p : Puzzle) (h : ℕ) (K K' : Candidates) (waits cleared now left : ℕ → Bool) → ((j : ℕ) → cleared j ≡ but waits h j)
+pub woken-by : (p : RuleSystem) (h : ℕ) (K K' : Candidates) (waits cleared now left : ℕ → Bool) → ((j : ℕ) → cleared j ≡ but waits h j)
     → AreCalled p K' (called_for p h K K') cleared now → ((j : ℕ) → left j ≡ (now j && not (p.settled && eqb j h))) → IsWoken p h K K' waits left
 unfolding woken but
 woken-by p h K K' waits cleared now left clears a settles = grind (arith, common_steps)
 
 -- where nothing was struck, only the house's own mark goes
-pub woken-unstruck : (p : Puzzle) (h : ℕ) (K K' : Candidates) (waits left : ℕ → Bool) → K' ≡ K → ((j : ℕ) → left j ≡ but waits h j) → IsWoken p h K K' waits left
+pub woken-unstruck : (p : RuleSystem) (h : ℕ) (K K' : Candidates) (waits left : ℕ → Bool) → K' ≡ K → ((j : ℕ) → left j ≡ but waits h j) → IsWoken p h K K' waits left
 woken-unstruck p h K K' waits left same clears = grind (arith, common_steps, woken-none)
 
 -- where no house waited before
-pub called-from : (p : Puzzle) (K : Candidates) (called called' before now : ℕ → Bool) → ((j : ℕ) → j < p.houses → before j ≡ false) → ((j : ℕ) → j < p.houses → called j ≡ called' j) → AreCalled p K called before now
+pub called-from : (p : RuleSystem) (K : Candidates) (called called' before now : ℕ → Bool) → ((j : ℕ) → j < p.houses → before j ≡ false) → ((j : ℕ) → j < p.houses → called j ≡ called' j) → AreCalled p K called before now
     → AreCalled p K called' (λ j. false) now
 called-from p K called called' before now none same a = grind (arith, common_steps)
 
 -- ---- the houses that pass a test, up to a number
-pub before-first : (p : Puzzle) (K : Candidates) (test waits : ℕ → Bool) → AreCalled p K (λ j. test j && ltb j 0) waits waits
+pub before-first : (p : RuleSystem) (K : Candidates) (test waits : ℕ → Bool) → AreCalled p K (λ j. test j && ltb j 0) waits waits
 before-first p K test waits = called-none p K _ waits (λ j lt. and_right (test j) _ (le-ltb j 0 (omega arith)))
 
 -- the next one is marked
-pub before-marked : (p : Puzzle) (K : Candidates) (test before now after : ℕ → Bool) (from n : ℕ) → IsNext test p.houses from (Some n) → ((j : ℕ) → after j ≡ (now j || eqb j n))
+pub before-marked : (p : RuleSystem) (K : Candidates) (test before now after : ℕ → Bool) (from n : ℕ) → IsNext test p.houses from (Some n) → ((j : ℕ) → after j ≡ (now j || eqb j n))
     → AreCalled p K (λ j. test j && ltb j from) before now → AreCalled p K (λ j. test j && ltb j (n + 1)) before after
 before-marked p K test before now after from n next marks a =
     called-same p K _ _ before after (λ j lt. one (test j) j lt) (called-more p K (λ j. test j && ltb j from) (λ j. eqb j n) before now after a (grind (arith, common_steps, or_left, or_right)))
@@ -99,19 +99,19 @@ before-marked p K test before now after from n next marks a =
     one on j lt = grind (arith, common_steps, and_from, and_left, and_right, cases_eq, cases_lt, eq-eqb, le-ltb, lt-ltb, ne_eqb, next.3 j)
 
 -- and none is left
-pub before-all : (p : Puzzle) (K : Candidates) (test before now : ℕ → Bool) (from : ℕ) → IsNext test p.houses from None → AreCalled p K (λ j. test j && ltb j from) before now → AreCalled p K test before now
+pub before-all : (p : RuleSystem) (K : Candidates) (test before now : ℕ → Bool) (from : ℕ) → IsNext test p.houses from None → AreCalled p K (λ j. test j && ltb j from) before now → AreCalled p K test before now
 before-all p K test before now from next a = called-same p K _ _ before now (λ j lt. grind (arith, common_steps, and_from, and_left, cases_lt, lt-ltb, next j)) a
 
 -- ---- the cells of a house one after another, by their sets before and now
-pub record IsMarking (p : Puzzle) (h : ℕ) (K K' : Candidates) (k : ℕ) (before now : ℕ → Bool) (dead : Bool) : Type 0 where
+pub record IsMarking (p : RuleSystem) (h : ℕ) (K K' : Candidates) (k : ℕ) (before now : ℕ → Bool) (dead : Bool) : Type 0 where
   pub called : AreCalled p K' (λ j. any_below (calls p h (counts_of p h K) K' j) k) before now
   pub dead_is : dead ≡ any_below (empties p h (counts_of p h K) K') k
 
-pub marking-first : (p : Puzzle) (h : ℕ) (K K' : Candidates) (waits : ℕ → Bool) → IsMarking p h K K' 0 waits waits false
+pub marking-first : (p : RuleSystem) (h : ℕ) (K K' : Candidates) (waits : ℕ → Bool) → IsMarking p h K K' 0 waits waits false
 unfolding any_below
 marking-first p h K K' waits = record { called = called-first p h K K' waits; dead_is = refl }
 
-module _ (p : Puzzle) (h : ℕ) (K K' : Candidates) (k place set bits : ℕ) (before now : ℕ → Bool) (dead : Bool) (at : place ≡ slice_index (p.scope h) k)
+module _ (p : RuleSystem) (h : ℕ) (K K' : Candidates) (k place set bits : ℕ) (before now : ℕ → Bool) (dead : Bool) (at : place ≡ slice_index (p.scope h) k)
     (was : IsBitsOf (K (slice_index (p.scope h) k)) p.values set) (is : IsBitsOf (K' place) p.values bits) (inside : IsInside K' K) (m : IsMarking p h K K' k before now dead) where
   here : IsBitsOf (K' (slice_index (p.scope h) k)) p.values bits
   here = rw (← at) is

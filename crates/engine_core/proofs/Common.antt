@@ -50,17 +50,17 @@ pub use Rattle.engine_core.specs.Frames.{AreGrids, AreReady, CountsClosing, IsFu
 pub use Rattle.engine_core.specs.Frames.{Says, found_marks, found_of, frame_at, level_at, marks_from, marks_of, pending_in, pending_of}
 pub use Rattle.engine_core.specs.Frames.{searched_at, walk_of}
 unfoldable pub use Rattle.engine_core.specs.Frames.{levels_of, singles}
-pub use Rattle.engine_core.specs.House.{AreDifferent}
-unfoldable pub use Rattle.engine_core.specs.House.{kept_in}
+pub use Rattle.engine_core.specs.HouseSets.{AreDifferent}
+unfoldable pub use Rattle.engine_core.specs.HouseSets.{kept_in}
 pub use Rattle.engine_core.specs.HouseIndex.{AreHousesAt, AreScopes, IsFirstFrom, IsIndex, IsPut, IsRoom, number_at, scope_of, start_at}
-pub use Rattle.engine_core.specs.HouseLaws.{sets-bits}
+pub use Rattle.engine_core.specs.HouseSetsLaws.{sets-bits}
 pub use Rattle.engine_core.specs.HouseList.{FitsLists, FitsPlaces, IsGrown, IsListed, listed}
-pub use Rattle.engine_core.specs.HousesLaws.{bound_enough, by_houses-lawful, counted_twice, from_first}
+pub use Rattle.engine_core.specs.HouseRulesLaws.{bound_enough, by_houses-lawful, counted_twice, from_first}
 pub use Rattle.engine_core.specs.Keeping.{AreSetsOf, IsKept}
 pub use Rattle.engine_core.specs.PlaceLaws.{has_place-at, has_place-here}
 pub use Rattle.engine_core.specs.Position.{IsMarked, IsOnward, IsReturned, IsTaken, Standing}
-pub use Rattle.engine_core.specs.Puzzle.{FitsIn, IsBoardOf, IsClosed, IsGridOf, IsIdle, IsInsideAt, IsLawful, IsNext, Needs, Puzzle, needs_of}
-unfoldable pub use Rattle.engine_core.specs.Puzzle.{after, has_place, longest, share}
+pub use Rattle.engine_core.specs.RuleSystem.{FitsIn, IsBoardOf, IsClosed, IsGridOf, IsIdle, IsInsideAt, IsLawful, IsNext, Needs, RuleSystem, needs_of}
+unfoldable pub use Rattle.engine_core.specs.RuleSystem.{after, has_place, longest, share}
 pub use Rattle.engine_core.specs.Queue.{IsClosedBut, IsRested, IsSweep, IsWoken, are_emptied, called_for, calls, empties}
 unfoldable pub use Rattle.engine_core.specs.Queue.{but, counts_of, visits_left, waits_from, woken}
 pub use Rattle.engine_core.specs.Search.{Level}
@@ -73,7 +73,7 @@ unfoldable pub use Rattle.engine_core.specs.Trail.{left_by, put_back}
 unfoldable pub use Rattle.engine_core.specs.Trials.{trials_of}
 pub use Rattle.engine_core.specs.TrailPosition.{AreMarks, AreRested, GoesOn, IsAlong, IsPlaced, IsStep, IsUnderWay, Placed, board_in, mark_at, standing_by, standing_of}
 pub use Rattle.engine_core.specs.Closer.{BoardAndMarks, IsCloserOf, IsVisited, IsWholeSweep, SameRoom}
-pub use Rattle.engine_core.specs.Verdict.{IsTrueOf, Outcome, Outcome.NoGrid, Outcome.OneGrid, Outcome.OutOfBudget, Outcome.TwoGrids, Solves}
+pub use Rattle.engine_core.specs.Verdict.{IsTrueOf, Outcome, Outcome.NoSolution, Outcome.OneSolution, Outcome.GaveUp, Outcome.SeveralSolutions, Solves}
 pub use Rattle.engine_core.specs.Verdict.{says_counts}
 unfoldable pub use Rattle.engine_core.specs.Verdict.{before_grid, before_second, grids_in, outcome, spent, trials_in, tried, within_budget}
 pub use Rattle.engine_core.specs.Waiting.{AreCalled}

@@ -15,7 +15,7 @@ use Rattle.engine_core.proofs.JudgeLemmas.{grid-fits, grid-long, pick-ends, pick
 use Rattle.engine_core.proofs.StoreLemmas.{settled-dead}
 use Rattle.engine_core.proofs.SweepLemmas.{total-bound}
 use Rattle.engine_core.proofs.TrailLemmas.{put_back-none, trail-none}
-use Rattle.engine_core.proofs.WaitLemmas.{lowest_left, none_left, waiting-mark, waiting-unmark}
+use Rattle.engine_core.proofs.WaitLemmas.{lowest_left, none_left, waiting-enqueue, waiting-dequeue}
 
 pub ruleset house_index_laws = (counted-few, counted-place, has_place-none, number_at-none, longest-none, longest-more, not_taken, summed-none, summed-sum, summed-more, sum_below-more, ascends, ends_in, houses-at, next-at, nth-at, scopes-wider, index-none, counts_same, houses_of_places, index-room, index-turn, put-none, put-room, put-more, number_at-more, few-listed, length-set)
 
@@ -25,7 +25,7 @@ pub ruleset laws_laws = (by_houses-lawful, bound_enough, closure_inside, closure
 
 pub ruleset trials_laws = (tried-first, trials-counted)
 
-pub ruleset wait_laws = (waiting-mark, waiting-unmark, none_left, lowest_left)
+pub ruleset wait_laws = (waiting-enqueue, waiting-dequeue, none_left, lowest_left)
 
 pub ruleset visit_laws = (kept-first, kept-inside, kept-more, striking-first, striking-more, sets-bits)
 

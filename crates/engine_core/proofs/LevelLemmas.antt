@@ -1,6 +1,6 @@
 -- The levels of a search: what its frames and its marks say of the boards that are open.
 use Rattle.engine_core.proofs.Common.{Candidates, IsFewest, IsLawful, IsMarked, IsNext, IsOnward, IsOpen, IsReady, IsReturned, IsTrial, Level}
-use Rattle.engine_core.proofs.Common.{List, Mark.Trial, None, Puzzle, Some, Standing, add-one, ap, arith, cases_eq, common_steps, frame_at}
+use Rattle.engine_core.proofs.Common.{List, Mark.Trial, None, RuleSystem, Some, Standing, add-one, ap, arith, cases_eq, common_steps, frame_at}
 use Rattle.engine_core.proofs.Common.{get_or-set_other, get_or-set_same, length, length-set, level_at, levels_of, only, only-inside, pending}
 use Rattle.engine_core.proofs.Common.{pending_in, refl, set, subst, suc, sym, walk, zero, ℕ, ◌++◌, ◌+◌, ◌-◌, ◌<◌, ◌∙◌, ◌∷◌, ◌≡◌, ◌≢◌}
 use Rattle.engine_core.specs.declared.search.levels.Frame.{Frame}
@@ -36,10 +36,10 @@ levels-back : (s s' : Standing) (frames : List Frame) (n : ℕ) → ((k : ℕ) �
 levels-back s s' frames n back = levels-same s' s frames frames n (λ k lt. level-with s' k (frame_at frames k) _ (back k lt))
 
 -- ---- values are struck
-pub levels-onward : (p : Puzzle) (s s' : Standing) (frames : List Frame) (n : ℕ) → IsReady p s frames n → IsOnward s s' → levels_of s' frames n ≡ levels_of s frames n
+pub levels-onward : (p : RuleSystem) (s s' : Standing) (frames : List Frame) (n : ℕ) → IsReady p s frames n → IsOnward s s' → levels_of s' frames n ≡ levels_of s frames n
 levels-onward p s s' frames n ready onward = levels-back s s' frames n (λ k lt. onward.back k (let m = ready.marked in omega arith))
 
-pub ready-onward : (p : Puzzle) (s s' : Standing) (frames : List Frame) (n : ℕ) → IsReady p s frames n → IsOnward s s' → IsReady p s' frames n
+pub ready-onward : (p : RuleSystem) (s s' : Standing) (frames : List Frame) (n : ℕ) → IsReady p s frames n → IsOnward s s' → IsReady p s' frames n
 ready-onward p s s' frames n ready onward = grind (arith, common_steps)
 
 -- ---- a frame is pushed, and its level marked: it is the innermost level, and the others stay
@@ -48,7 +48,7 @@ pub levels-push : (s s' : Standing) (frames : List Frame) (n cell : ℕ) → n <
 unfolding levels_of
 levels-push s s' frames n cell lt m = grind (arith, common_steps, add-one, frame_at-here, frame_at-other, level-with, levels-same)
 
-pub ready-push : (p : Puzzle) (s s' : Standing) (frames : List Frame) (n cell : ℕ) → IsReady p s frames n → n < length frames → IsMarked s s' n → IsOpen p (record { board = s.board; cell = cell; next = 0 }) n
+pub ready-push : (p : RuleSystem) (s s' : Standing) (frames : List Frame) (n cell : ℕ) → IsReady p s frames n → n < length frames → IsMarked s s' n → IsOpen p (record { board = s.board; cell = cell; next = 0 }) n
     → IsReady p s' (set frames n (record { cell = cell; next = 0 })) (n + 1)
 ready-push p s s' frames n cell ready lt m opened = grind (arith, common_steps, cases_eq, frame_at-here, frame_at-other, length-set, level-with)
 
@@ -63,11 +63,11 @@ levels-retried : (s : Standing) (frames : List Frame) (n next : ℕ) → 0 < n �
 levels-retried s frames n next pos lt e = grind (arith, common_steps, frame_at-here, frame_at-other, level-with, levels-same, levels-top)
 
 -- the innermost level is open
-pub top-open : {p : Puzzle} {s : Standing} {frames : List Frame} {n : ℕ} → IsReady p s frames n → 0 < n → ((frame_at frames (n - 1)).cell < p.cells) × (n - 1 < p.cells)
+pub top-open : {p : RuleSystem} {s : Standing} {frames : List Frame} {n : ℕ} → IsReady p s frames n → 0 < n → ((frame_at frames (n - 1)).cell < p.cells) × (n - 1 < p.cells)
 top-open {p = p} {n = n} ready pos = let o = ready.open_levels (n - 1) (omega arith) in ((open-cell p _ (n - 1) o).within, open-room p _ (n - 1) o)
 
 -- ---- one turn of the search: the position s was taken back to s1
-module _ {p : Puzzle} {s s1 : Standing} {frames : List Frame} {n : ℕ} (ready : IsReady p s frames n) (pos : 0 < n) (back : IsReturned s s1 (n - 1)) where
+module _ {p : RuleSystem} {s s1 : Standing} {frames : List Frame} {n : ℕ} (ready : IsReady p s frames n) (pos : 0 < n) (back : IsReturned s s1 (n - 1)) where
   -- the innermost frame, and the levels outside it
   abbrev top : Frame
   top = frame_at frames (n - 1)
@@ -136,6 +136,6 @@ module _ {p : Puzzle} {s s1 : Standing} {frames : List Frame} {n : ℕ} (ready :
         best = open-cell p _ (n - 1) open-back
 
 -- under no frame nothing else is pending
-pub walk-alone : (p : Puzzle) (K : Candidates) (s : Standing) (frames : List Frame) → walk p 0 K ++ pending_in p s frames 0 ≡ walk p 0 K
+pub walk-alone : (p : RuleSystem) (K : Candidates) (s : Standing) (frames : List Frame) → walk p 0 K ++ pending_in p s frames 0 ≡ walk p 0 K
 unfolding levels_of pending
 walk-alone p K s frames = grind (arith, common_steps)

@@ -1,5 +1,5 @@
 use Rattle.engine_core.proofs.Common.{AreCalled, Bool, Candidates, IsBoardOf, IsClosed, IsClosedBut, IsInsideAt, IsLawful, IsRested, IsWithin}
-use Rattle.engine_core.proofs.Common.{IsWoken, Layout, List, Option, Puzzle, SameShape, Some, [], add-one, after, and_from, and_left, and_parts}
+use Rattle.engine_core.proofs.Common.{IsWoken, Layout, List, Option, RuleSystem, SameShape, Some, [], add-one, after, and_from, and_left, and_parts}
 use Rattle.engine_core.proofs.Common.{any_below, any_below-here, any_below-none, any_below-some, ap, are_emptied, arith, but, called_for, cases_Bool}
 use Rattle.engine_core.proofs.Common.{cases_eq, cells_of, common_steps, count_below, count_below-any, count_below-bound, count_below-kept}
 use Rattle.engine_core.proofs.Common.{count_below-le, count_below-lt, count_below-none, count_below-pos, counts_of, empties, eq-eqb, eqb, eqb-true}
@@ -12,17 +12,17 @@ use Rattle.engine_core.proofs.ClosingLemmas.{after_inside}
 pub use Rattle.engine_core.specs.PositionLaws.{within_of}
 
 -- the cells of a house are cells of the board
-pub scope-in : (p : Puzzle) (laws : IsLawful p) (h k : ℕ) → h < p.houses → k < length (p.scope h) → slice_index (p.scope h) k < p.cells
+pub scope-in : (p : RuleSystem) (laws : IsLawful p) (h k : ℕ) → h < p.houses → k < length (p.scope h) → slice_index (p.scope h) k < p.cells
 scope-in p laws h k lt lk = laws.scope_within h _ lt (has_place-here (p.scope h) k lk)
 
 -- ---- what a visit leaves in the cells of other houses
 -- a cell outside the house is left alone
-pub after-outside : (p : Puzzle) (laws : IsLawful p) (h : ℕ) (K : Candidates) (c v : ℕ) → h < p.houses → has_place (p.scope h) c ≡ false → K c v ≡ true → after p h K c v ≡ true
+pub after-outside : (p : RuleSystem) (laws : IsLawful p) (h : ℕ) (K : Candidates) (c v : ℕ) → h < p.houses → has_place (p.scope h) c ≡ false → K c v ≡ true → after p h K c v ≡ true
 unfolding after
 after-outside p laws h K c v lt out on = grind (arith, common_steps, and_from, false_from_ne_true, not_from_false, true≢false)
 
 -- a house that has no cell with another number of values than before strikes what it struck before
-still_rested : (p : Puzzle) (laws : IsLawful p) (h j : ℕ) (K : Candidates) → h < p.houses → j < p.houses → IsWithin p.cells p.values K
+still_rested : (p : RuleSystem) (laws : IsLawful p) (h j : ℕ) (K : Candidates) → h < p.houses → j < p.houses → IsWithin p.cells p.values K
     → called_for p h K (after p h K) j ≡ false → IsInsideAt (p.scope j) K (after p h K)
 unfolding counts_of
 still_rested p laws h j K lth ltj within quiet = λ c v member on.
@@ -31,11 +31,11 @@ still_rested p laws h j K lth ltj within quiet = λ c v member on.
     grind (arith, common_steps, after-outside p laws h K c v lth, has_place-at (p.scope h) c, within c v on)
 
 -- the waiting houses after a visit
-not_struck : (p : Puzzle) (h : ℕ) (K : Candidates) (c v : ℕ) → after p h K c v ≡ true → p.strikes h K c v ≡ false
+not_struck : (p : RuleSystem) (h : ℕ) (K : Candidates) (c v : ℕ) → after p h K c v ≡ true → p.strikes h K c v ≡ false
 unfolding after
 not_struck p h K c v on = not-true (p.strikes h K c v) (and_parts (K c v) (not (p.strikes h K c v)) on).1
 
-pub rested_after : (p : Puzzle) (laws : IsLawful p) (h : ℕ) (K : Candidates) (waits : ℕ → Bool) → h < p.houses → IsWithin p.cells p.values K → IsRested p K waits
+pub rested_after : (p : RuleSystem) (laws : IsLawful p) (h : ℕ) (K : Candidates) (waits : ℕ → Bool) → h < p.houses → IsWithin p.cells p.values K → IsRested p K waits
     → IsRested p (after p h K) (woken p h (counts_of p h K) (after p h K) (but waits h))
 unfolding woken but
 rested_after p laws h K waits lth within rested = λ j c v ltj asleep on.
@@ -45,12 +45,12 @@ rested_after p laws h K waits lth within rested = λ j c v ltj asleep on.
     grind (arith, common_steps, eqb-true, not_struck p h K c v on, within c v, after_inside p h K c v on, rested j c v ltj, settles, still)
 
 -- where the houses that a closing begins with were called for, each other one strikes nothing
-pub rested_from : (p : Puzzle) (K : Candidates) (from : Option ℕ) (waits : ℕ → Bool) → IsClosedBut p K from → AreCalled p K (waits_from p from) (λ j. false) waits → IsRested p K waits
+pub rested_from : (p : RuleSystem) (K : Candidates) (from : Option ℕ) (waits : ℕ → Bool) → IsClosedBut p K from → AreCalled p K (waits_from p from) (λ j. false) waits → IsRested p K waits
 unfolding waits_from
 rested_from p K from waits e h = grind (arith, common_steps)
 
 -- a closed board whose cell lost all values but one is closed around it
-pub closed-but_only : (p : Puzzle) (laws : IsLawful p) (K : Candidates) (cell v : ℕ) → cell < p.cells → v < p.values → K cell v ≡ true → IsClosed p K → is_dead p.cells p.values K ≡ false → IsClosedBut p (only K cell v) (Some cell)
+pub closed-but_only : (p : RuleSystem) (laws : IsLawful p) (K : Candidates) (cell v : ℕ) → cell < p.cells → v < p.values → K cell v ≡ true → IsClosed p K → is_dead p.cells p.values K ≡ false → IsClosedBut p (only K cell v) (Some cell)
 closed-but_only p laws K cell v lt ltv on closed alive = record {
   place_in = lt;
   closed = λ h c w lth out still.
@@ -61,11 +61,11 @@ closed-but_only p laws K cell v lt ltv on closed alive = record {
       grind (arith, common_steps, cases_eq c cell, only-other K cell v c, is_dead-not p.cells p.values K c alive ltc));
 }
 
-pub dead_of : (p : Puzzle) (b : Layout) → IsBoardOf p b → is_dead (cells_of b) b.values (has b) ≡ is_dead p.cells p.values (has b)
+pub dead_of : (p : RuleSystem) (b : Layout) → IsBoardOf p b → is_dead (cells_of b) b.values (has b) ≡ is_dead p.cells p.values (has b)
 dead_of p b of = ap (λ (n : ℕ). is_dead n b.values (has b)) of.same_cells ∙ ap (λ (v : ℕ). is_dead p.cells v (has b)) of.same_values
 
 -- where no house waits, the board is closed
-pub closed_from_rested : (p : Puzzle) (K : Candidates) (waits : ℕ → Bool) → ((h : ℕ) → h < p.houses → waits h ≡ false) → IsRested p K waits → IsClosed p K
+pub closed_from_rested : (p : RuleSystem) (K : Candidates) (waits : ℕ → Bool) → ((h : ℕ) → h < p.houses → waits h ≡ false) → IsRested p K waits → IsClosed p K
 closed_from_rested p K waits none rested = λ h c v lt on. rested h c v lt (none h lt) on
 
 -- ---- a visit pays for the visits that it calls for
@@ -73,11 +73,11 @@ grow : (x y s : ℕ) → 1 ≤ y → y < x → (y - 1) * s + s ≤ (x - 1) * s
 grow x y s pos lt = let h : (y - 1 + 1) * s ≤ (x - 1) * s = mul-le-mul_right s (omega arith) in omega arith
 
 -- the cell fell, and the house has it and is sent for
-sent : Puzzle → ℕ → Candidates → ℕ → ℕ → Bool
+sent : RuleSystem → ℕ → Candidates → ℕ → ℕ → Bool
 sent p h K c j = (not (eqb (count_below (K c) p.values) (count_below (after p h K c) p.values)) && (has_place (p.scope h) c && has_place (p.scope j) c)) && not (p.settled && eqb j h)
 
 -- so many houses are sent for by a cell
-sent_few : (p : Puzzle) (h : ℕ) (K : Candidates) (c : ℕ) → h < p.houses → count_below (sent p h K c) p.houses ≤ share p c
+sent_few : (p : RuleSystem) (h : ℕ) (K : Candidates) (c : ℕ) → h < p.houses → count_below (sent p h K c) p.houses ≤ share p c
 unfolding sent share
 sent_few p h K c lth =
     let le = count_below-le (sent p h K c) (λ j. has_place (p.scope j) c) p.houses (λ j _ on. (sent_of j on).1) in
@@ -88,17 +88,17 @@ sent_few p h K c lth =
     sent_of : (j : ℕ) → sent p h K c j ≡ true → (has_place (p.scope h) c ≡ true) × (has_place (p.scope j) c ≡ true)
     sent_of j on = grind (arith, common_steps)
 
-unsent : (p : Puzzle) (h : ℕ) (K : Candidates) (c : ℕ) → count_below (K c) p.values ≡ count_below (after p h K c) p.values → count_below (sent p h K c) p.houses ≡ 0
+unsent : (p : RuleSystem) (h : ℕ) (K : Candidates) (c : ℕ) → count_below (K c) p.values ≡ count_below (after p h K c) p.values → count_below (sent p h K c) p.houses ≡ 0
 unfolding sent
 unsent p h K c same = count_below-none (sent p h K c) p.houses (λ j _. and_left _ (not (p.settled && eqb j h)) (and_left _ (has_place (p.scope h) c && has_place (p.scope j) c) (not_from_true _ (eq-eqb _ _ same))))
 
 -- what a cell's houses cost is paid by the values that it lost
-cell_pays : (p : Puzzle) (h : ℕ) (K : Candidates) (c : ℕ) → h < p.houses → 0 < count_below (after p h K c) p.values
+cell_pays : (p : RuleSystem) (h : ℕ) (K : Candidates) (c : ℕ) → h < p.houses → 0 < count_below (after p h K c) p.values
     → count_below (sent p h K c) p.houses + (count_below (after p h K c) p.values - 1) * share p c ≤ (count_below (K c) p.values - 1) * share p c
 cell_pays p h K c lth alive = grind (arith, common_steps, after_inside, cases_eq, count_below-le, grow, sent, sent_few, unsent)
 
 -- who waits after the visit, waited or was sent for by a cell
-woken_or_sent : (p : Puzzle) (laws : IsLawful p) (h : ℕ) (K : Candidates) (waits : ℕ → Bool) (j : ℕ) → h < p.houses
+woken_or_sent : (p : RuleSystem) (laws : IsLawful p) (h : ℕ) (K : Candidates) (waits : ℕ → Bool) (j : ℕ) → h < p.houses
     → woken p h (counts_of p h K) (after p h K) (but waits h) j ≡ true → (but waits h j || any_below (λ c. sent p h K c j) p.cells) ≡ true
 unfolding woken sent counts_of
 woken_or_sent p laws h K waits j lth on = elim (or_cases (but waits h j) _ on) [
@@ -115,7 +115,7 @@ unfolding but
 one_less waits n h lt waiting =
     count_below-lt (λ j. waits j && not (eqb j h)) waits n h (λ j _ on. (and_parts (waits j) _ on).0) lt (grind (arith, common_steps, eq-eqb h h refl)) waiting
 
-pub visit_pays : (p : Puzzle) (laws : IsLawful p) (h : ℕ) (K : Candidates) (waits : ℕ → Bool) → h < p.houses → waits h ≡ true → is_dead p.cells p.values (after p h K) ≡ false
+pub visit_pays : (p : RuleSystem) (laws : IsLawful p) (h : ℕ) (K : Candidates) (waits : ℕ → Bool) → h < p.houses → waits h ≡ true → is_dead p.cells p.values (after p h K) ≡ false
     → visits_left p (after p h K) (woken p h (counts_of p h K) (after p h K) (but waits h)) + 1 ≤ visits_left p K waits
 unfolding visits_left
 visit_pays p laws h K waits lth waiting alive =
@@ -129,7 +129,7 @@ visit_pays p laws h K waits lth waiting alive =
     omega (arith, some, paid, split, one_less waits p.houses h lth waiting, sum_below-add sending later p.cells)
 
 -- at the start the bound is enough
-pub visits_first : (p : Puzzle) (laws : IsLawful p) (K : Candidates) (waits : ℕ → Bool) → p.by_queue ≡ true → visits_left p K waits ≤ p.bound
+pub visits_first : (p : RuleSystem) (laws : IsLawful p) (K : Candidates) (waits : ℕ → Bool) → p.by_queue ≡ true → visits_left p K waits ≤ p.bound
 unfolding visits_left
 visits_first p laws K waits queue = grind (arith, common_steps, count_below-bound, mul-le-mul_right, sum_below-le)
 
@@ -145,45 +145,45 @@ pub unwoken : (x : Bool) → x ≡ (x || false)
 unwoken x = sym (or_false x)
 
 -- a cell that lost values is empty where it has none, and one that lost none counts for nothing
-pub empties_then : (p : Puzzle) (h : ℕ) (before : ℕ → ℕ) (K : Candidates) (k : ℕ) (d d' now : Bool) → d' ≡ (d || now) → d ≡ any_below (empties p h before K) k
+pub empties_then : (p : RuleSystem) (h : ℕ) (before : ℕ → ℕ) (K : Candidates) (k : ℕ) (d d' now : Bool) → d' ≡ (d || now) → d ≡ any_below (empties p h before K) k
     → (before k ≡ count_below (K (slice_index (p.scope h) k)) p.values → ⊥) → now ≡ eqb (count_below (K (slice_index (p.scope h) k)) p.values) 0
     → d' ≡ any_below (empties p h before K) (k + 1)
 unfolding counts_of
 empties_then p h before K k d d' now e f ne g = grind (arith, common_steps, any_below-more, ne_eqb, not_from_false)
 
-pub empties_else : (p : Puzzle) (h : ℕ) (before : ℕ → ℕ) (K : Candidates) (k : ℕ) (d d' : Bool) → d' ≡ d → d ≡ any_below (empties p h before K) k
+pub empties_else : (p : RuleSystem) (h : ℕ) (before : ℕ → ℕ) (K : Candidates) (k : ℕ) (d d' : Bool) → d' ≡ d → d ≡ any_below (empties p h before K) k
     → before k ≡ count_below (K (slice_index (p.scope h) k)) p.values → d' ≡ any_below (empties p h before K) (k + 1)
 unfolding counts_of
 empties_else p h before K k d d' e f same = grind (arith, common_steps, and_left, any_below-more, eq-eqb, not_from_true, unwoken)
 
 -- ---- one turn of the queue
-visits_left-fewer : (p : Puzzle) (K : Candidates) (waits waits' : ℕ → Bool) → ((j : ℕ) → j < p.houses → waits j ≡ true → waits' j ≡ true) → visits_left p K waits ≤ visits_left p K waits'
+visits_left-fewer : (p : RuleSystem) (K : Candidates) (waits waits' : ℕ → Bool) → ((j : ℕ) → j < p.houses → waits j ≡ true → waits' j ≡ true) → visits_left p K waits ≤ visits_left p K waits'
 unfolding visits_left
 visits_left-fewer p K waits waits' fewer = let le = count_below-le waits waits' p.houses fewer in omega arith
 
-pub visits_left-pos : (p : Puzzle) (K : Candidates) (waits : ℕ → Bool) (h : ℕ) → h < p.houses → waits h ≡ true → 0 < visits_left p K waits
+pub visits_left-pos : (p : RuleSystem) (K : Candidates) (waits : ℕ → Bool) (h : ℕ) → h < p.houses → waits h ≡ true → 0 < visits_left p K waits
 unfolding visits_left
 visits_left-pos p K waits h lt on = let some = count_below-pos waits p.houses h lt on in omega arith
 
-pub turn_enough : (p : Puzzle) (laws : IsLawful p) (h : ℕ) (K K' : Candidates) (waits waits' : ℕ → Bool) (visits : ℕ) → h < p.houses → waits h ≡ true → K' ≡ after p h K
+pub turn_enough : (p : RuleSystem) (laws : IsLawful p) (h : ℕ) (K K' : Candidates) (waits waits' : ℕ → Bool) (visits : ℕ) → h < p.houses → waits h ≡ true → K' ≡ after p h K
     → IsWoken p h K K' waits waits' → visits_left p K waits + visits ≤ p.bound
     → is_dead p.cells p.values K' ≡ false → visits_left p K' waits' + (visits + 1) ≤ p.bound
 turn_enough p laws h K K' waits waits' visits lth waiting e woke enough alive =
     let pays = visit_pays p laws h K waits lth waiting (rw e at alive) in
     let less = visits_left-fewer p K' waits' (woken p h (counts_of p h K) K' (but waits h)) woke.fewer in grind (arith, common_steps)
 
-pub turn_rested : (p : Puzzle) (laws : IsLawful p) (h : ℕ) (K K' : Candidates) (waits waits' : ℕ → Bool) → h < p.houses → IsWithin p.cells p.values K → K' ≡ after p h K
+pub turn_rested : (p : RuleSystem) (laws : IsLawful p) (h : ℕ) (K K' : Candidates) (waits waits' : ℕ → Bool) → h < p.houses → IsWithin p.cells p.values K → K' ≡ after p h K
     → IsWoken p h K K' waits waits' → IsRested p K waits → IsRested p K' waits'
 turn_rested p laws h K K' waits waits' lth within e woke rested = grind (arith, common_steps, cases_Bool, rested_after)
 
 pub pushed : (t : List ℕ) (n h : ℕ) → n < length t → take (n + 1) (set t n h) ≡ take n t ++ h ∷ []
 pushed t n h lt = rw add-one (take-suc-set t n h lt)
 
-pub IsBoardOf-same : (p : Puzzle) (b b' : Layout) → IsBoardOf p b → SameShape b b' → IsBoardOf p b'
+pub IsBoardOf-same : (p : RuleSystem) (b b' : Layout) → IsBoardOf p b → SameShape b b' → IsBoardOf p b'
 IsBoardOf-same p b b' of same = record { same_cells = same.same_cells ∙ of.same_cells; same_values = same.same_values ∙ of.same_values }
 
 -- ---- a visit that empties a cell empties one of its own house
-emptied-alive : (p : Puzzle) (laws : IsLawful p) (h : ℕ) (K K' : Candidates) → h < p.houses → is_dead p.cells p.values K ≡ false → K' ≡ after p h K
+emptied-alive : (p : RuleSystem) (laws : IsLawful p) (h : ℕ) (K K' : Candidates) → h < p.houses → is_dead p.cells p.values K ≡ false → K' ≡ after p h K
     → is_dead p.cells p.values K' ≡ any_below (empties p h (counts_of p h K) K') (length (p.scope h))
 unfolding counts_of
 emptied-alive p laws h K K' lt alive e = elim (cases_Bool (are_emptied p h K K')) [
@@ -197,7 +197,7 @@ emptied-alive p laws h K K' lt alive e = elim (cases_Bool (are_emptied p h K K')
 ]
 
 -- a board is dead after a visit where it was before, or where a cell of the house lost its last values
-pub emptied-dead : (p : Puzzle) (laws : IsLawful p) (h : ℕ) (K K' : Candidates) → h < p.houses → K' ≡ after p h K
+pub emptied-dead : (p : RuleSystem) (laws : IsLawful p) (h : ℕ) (K K' : Candidates) → h < p.houses → K' ≡ after p h K
     → is_dead p.cells p.values K' ≡ (is_dead p.cells p.values K || any_below (empties p h (counts_of p h K) K') (length (p.scope h)))
 emptied-dead p laws h K K' lt e = elim (cases_Bool (is_dead p.cells p.values K)) [
   | inl dead ↦ rw dead (is_dead-inside p.cells p.values K' K (rw e (after_inside p h K)) dead)
@@ -209,6 +209,6 @@ pub dead_by : (now was told : Bool) → now ≡ (was || told) → was ≡ false 
 dead_by now was told e alive = rw alive at e
 
 -- where nothing was struck, no house is called for
-pub woken-none : (p : Puzzle) (h : ℕ) (K K' : Candidates) (waits : ℕ → Bool) (j : ℕ) → K' ≡ K → waits j ≡ woken p h (counts_of p h K) K' waits j
+pub woken-none : (p : RuleSystem) (h : ℕ) (K K' : Candidates) (waits : ℕ → Bool) (j : ℕ) → K' ≡ K → waits j ≡ woken p h (counts_of p h K) K' waits j
 unfolding woken
 woken-none p h K K' waits j same = grind (arith, common_steps, and_parts, any_below-some, cases_Bool, eq-eqb, not-true)

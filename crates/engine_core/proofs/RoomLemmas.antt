@@ -1,12 +1,12 @@
 -- Room for the frames: each open level has one more cell with a single value.
-use Rattle.engine_core.proofs.Common.{Candidates, IsFewest, IsInside, IsOpen, IsWithin, Level, Puzzle, Some, arith, cases_eq, closure, common_steps}
+use Rattle.engine_core.proofs.Common.{Candidates, IsFewest, IsInside, IsOpen, IsWithin, Level, RuleSystem, Some, arith, cases_eq, closure, common_steps}
 use Rattle.engine_core.proofs.Common.{count_below, count_below-bound, count_below-few, count_below-le, count_below-lt, count_below-pos, eq-eqb, eqb}
 use Rattle.engine_core.proofs.Common.{eqb-true, false, is_dead, is_dead-not, ne_eqb, only, only-at, only-here, only-other, pick, refl, singles, sym}
 use Rattle.engine_core.proofs.Common.{true, ℕ, ◌<◌, ◌∙◌, ◌≡◌, ◌≤◌}
 use Rattle.engine_core.proofs.PickLemmas.{pick-fewest}
 use Rattle.engine_core.proofs.ClosingLemmas.{closure_closed}
 
-pub singles-only : (p : Puzzle) (K : Candidates) (cell v : ℕ) → cell < p.cells → v < p.values → K cell v ≡ true → 2 ≤ count_below (K cell) p.values → singles p K < singles p (only K cell v)
+pub singles-only : (p : RuleSystem) (K : Candidates) (cell v : ℕ) → cell < p.cells → v < p.values → K cell v ≡ true → 2 ≤ count_below (K cell) p.values → singles p K < singles p (only K cell v)
 unfolding singles
 singles-only p K cell v ltc ltv on two =
     let few = count_below-few (only K cell v cell) p.values (λ k j _ _ onk onj. only-at K cell v k onk ∙ sym (only-at K cell v j onj)) in
@@ -15,23 +15,23 @@ singles-only p K cell v ltc ltv on two =
     (λ c _ one. grind (arith, common_steps, cases_eq c cell, eqb-true, only-other K cell v c))
     ltc (ne_eqb _ 1 (λ one. omega arith)) (eq-eqb _ 1 (omega arith))
 
-pub singles-inside : (p : Puzzle) (J K : Candidates) → IsInside J K → is_dead p.cells p.values J ≡ false → singles p K ≤ singles p J
+pub singles-inside : (p : RuleSystem) (J K : Candidates) → IsInside J K → is_dead p.cells p.values J ≡ false → singles p K ≤ singles p J
 unfolding singles
 singles-inside p J K inside alive = grind (arith, common_steps, count_below-le, eq-eqb, eqb-true, is_dead-not)
 
-pub singles-room : (p : Puzzle) (K : Candidates) (cell : ℕ) → cell < p.cells → 2 ≤ count_below (K cell) p.values → singles p K < p.cells
+pub singles-room : (p : RuleSystem) (K : Candidates) (cell : ℕ) → cell < p.cells → 2 ≤ count_below (K cell) p.values → singles p K < p.cells
 unfolding singles
 singles-room p K cell lt two =
     let less = count_below-lt (λ c. eqb (count_below (K c) p.values) 1) (λ c. true) p.cells cell (λ c _ _. refl) lt (ne_eqb _ 1 (λ one. omega arith)) refl in
     omega (arith, count_below-bound (λ c. true) p.cells)
 
-pub split-room : (p : Puzzle) (K K' : Candidates) (n cell : ℕ) → IsInside K' K → n ≤ singles p K → is_dead p.cells p.values K' ≡ false → pick p.cells p.values K' ≡ Some cell
+pub split-room : (p : RuleSystem) (K K' : Candidates) (n cell : ℕ) → IsInside K' K → n ≤ singles p K → is_dead p.cells p.values K' ≡ false → pick p.cells p.values K' ≡ Some cell
     → IsWithin p.cells p.values K → K' ≡ closure p K → IsOpen p (record { board = K'; cell = cell; next = 0 }) n
 split-room p K K' n cell inside single alive picked within reached = grind (arith, common_steps, closure_closed, singles-inside)
 
 -- its cell is one with fewest values
-pub open-cell : (p : Puzzle) (level : Level) (n : ℕ) → IsOpen p level n → IsFewest p.cells p.values level.board level.cell
+pub open-cell : (p : RuleSystem) (level : Level) (n : ℕ) → IsOpen p level n → IsFewest p.cells p.values level.board level.cell
 open-cell p level n o = pick-fewest p.cells p.values level.board level.cell o.picked
 
-pub open-room : (p : Puzzle) (level : Level) (n : ℕ) → IsOpen p level n → n < p.cells
+pub open-room : (p : RuleSystem) (level : Level) (n : ℕ) → IsOpen p level n → n < p.cells
 open-room p level n o = let best = open-cell p level n o in let less = singles-room p level.board level.cell best.within best.two in let s = o.single in omega arith

@@ -1,6 +1,6 @@
 -- A search that is under way: which marks are left, and what was counted of those before.
 use Rattle.engine_core.proofs.Common.{Bool, Candidates, CountsClosing, IsSearched, IsTrial, IsTurns, IsWalked, List, Mark, Mark.Trial, None}
-use Rattle.engine_core.proofs.Common.{Outcome.OutOfBudget, Puzzle, Says, Standing, [], ap, append_assoc, arith, boards_of, common_steps, deepest_of}
+use Rattle.engine_core.proofs.Common.{Outcome.GaveUp, RuleSystem, Says, Standing, [], ap, append_assoc, arith, boards_of, common_steps, deepest_of}
 use Rattle.engine_core.proofs.Common.{false, found_marks, found_of, length, length_push, levels_of, marks_from, marks_of, max, outcome, pending}
 use Rattle.engine_core.proofs.Common.{pending_of, refl, searched_at, suc, sym, tried, true, true≢false, walk, walk_of, ℕ, ◌++◌, ◌+◌, ◌-◌, ◌<◌, ◌∙◌}
 use Rattle.engine_core.proofs.Common.{◌∷◌, ◌≡◌, ◌≤◌}
@@ -13,7 +13,7 @@ use Rattle.engine_core.specs.declared.search.walk.Verdict.TheVariants as verdict
 use Rattle.engine_core.proofs.CountLemmas.{turns-push, boards-push, deepest-push}
 
 -- the marks that came and those that are still to come, after so many trials from one progress to another
-pub record IsSearching (p : Puzzle) (from : Progress) (all : List Mark) (trials : ℕ) (rest : List Mark) (at : Progress) : Type 0 where
+pub record IsSearching (p : RuleSystem) (from : Progress) (all : List Mark) (trials : ℕ) (rest : List Mark) (at : Progress) : Type 0 where
   pub answer : outcome from.budget None all ≡ outcome (from.budget - trials) None rest
   pub sofar : List (ℕ × Candidates)
   pub split : tried from.budget None all ≡ sofar ++ tried (from.budget - trials) None rest
@@ -22,7 +22,7 @@ pub record IsSearching (p : Puzzle) (from : Progress) (all : List Mark) (trials 
   pub grows : from.turns ≤ at.turns
   pub deep : at.deepest ≡ max from.deepest (deepest_of sofar)
 
-pub searching-first : (p : Puzzle) (from : Progress) (all : List Mark) → IsSearching p from all 0 all from
+pub searching-first : (p : RuleSystem) (from : Progress) (all : List Mark) → IsSearching p from all 0 all from
 unfolding deepest_of
 searching-first p from all = grind (arith, common_steps)
 
@@ -30,12 +30,12 @@ searching-first p from all = grind (arith, common_steps)
 after_grids : (two one : Bool) (f g : List ℕ) (n : ℕ) (K : Candidates) (ms : List Mark) → two ≡ false
     → ((b : ℕ) → outcome (suc b) None (found_marks two one f g ++ Trial n K ∷ ms) ≡ outcome b None (found_marks two one f g ++ ms))
     × ((b : ℕ) → tried (suc b) None (found_marks two one f g ++ Trial n K ∷ ms) ≡ (n, K) ∷ tried b None (found_marks two one f g ++ ms))
-    × (outcome 0 None (found_marks two one f g ++ Trial n K ∷ ms) ≡ OutOfBudget (found_of one f))
+    × (outcome 0 None (found_marks two one f g ++ Trial n K ∷ ms) ≡ GaveUp (found_of one f))
     × (tried 0 None (found_marks two one f g ++ Trial n K ∷ ms) ≡ [])
 unfolding outcome tried
 after_grids x0 x1 f g n x5 ms going = grind (arith, common_steps, true≢false)
 
-module _ {p : Puzzle} {from at : Progress} {all : List Mark} {trials : ℕ} (st : Standing) (levels : Levels) (grids : Grids) (s : IsSearching p from all trials (marks_of p st levels at grids) at) where
+module _ {p : RuleSystem} {from at : Progress} {all : List Mark} {trials : ℕ} (st : Standing) (levels : Levels) (grids : Grids) (s : IsSearching p from all trials (marks_of p st levels at grids) at) where
   -- a trial is made
   pub searching-trial : {mid : Standing} {now : Levels} {cell : ℕ} {at' : Progress} (st' : Standing) (to : Levels) (grids' : Grids) → IsTrial p (pending_of p st levels) mid now cell → at.has_second ≡ false
       → trials < from.budget → CountsClosing p mid.board at.turns at'.turns → at'.deepest ≡ max at.deepest now.depth
@@ -88,7 +88,7 @@ module _ {p : Puzzle} {from at : Progress} {all : List Mark} {trials : ℕ} (st 
   ended-none none going new = ended verdict.None (rw (none, going, new) refl) (rw (none, going, new) refl)
 
 -- the search of a whole board, which was closed first
-pub walked : {p : Puzzle} {K : Candidates} {marks : List Mark} {result : Searched} {grids : Grids} (budget : ℕ) (from : Progress) → from.budget ≡ budget
+pub walked : {p : RuleSystem} {K : Candidates} {marks : List Mark} {result : Searched} {grids : Grids} (budget : ℕ) (from : Progress) → from.budget ≡ budget
     → walk p 0 K ≡ marks → CountsClosing p K 0 from.turns → from.deepest ≡ 0
     → IsSearched p from.budget marks from result grids.first grids.second → IsWalked p budget K result grids
 walked budget from is same turned none s = grind (arith, common_steps)

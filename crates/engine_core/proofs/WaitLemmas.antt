@@ -50,23 +50,23 @@ waiting-word f none waits h y j lt bits = elim (cases_eq (j / 64) (h / 64)) [
     same_bool : (x y : Bool) → (x ≡ true → y ≡ true) → (y ≡ true → x ≡ true) → x ≡ y
     same_bool x y p q = grind (arith, common_steps)
 
-pub waiting-mark : (waits : List ℕ) (h j : ℕ) → h / 64 < length waits
+pub waiting-enqueue : (waits : List ℕ) (h j : ℕ) → h / 64 < length waits
     → is_waiting (set waits (h / 64) (bit_or (get_or waits (h / 64) 0) (1 * 2 ^ (h % 64) % 18446744073709551616))) j ≡ (is_waiting waits j || eqb j h)
-waiting-mark waits h j lt = waiting-word ◌||◌ (λ x. grind (arith, common_steps)) waits h _ j lt (λ b small.
+waiting-enqueue waits h j lt = waiting-word ◌||◌ (λ x. grind (arith, common_steps)) waits h _ j lt (λ b small.
     let other = bit_at_set_other w64 (get_or waits (h / 64) 0) (h % 64) in
     grind (arith, common_steps, cases_eq b (h % 64), bit_at_set_same w64 (get_or waits (h / 64) 0) (h % 64), eq-eqb, ne_eqb))
 
 -- a house is marked where it is called for
-pub waiting-mark_if : (waits : List ℕ) (h j bit : ℕ) (called : Bool) → (called ≡ true → bit ≡ 1) → (called ≡ false → bit ≡ 0) → h / 64 < length waits
+pub waiting-enqueue_if : (waits : List ℕ) (h j bit : ℕ) (called : Bool) → (called ≡ true → bit ≡ 1) → (called ≡ false → bit ≡ 0) → h / 64 < length waits
     → is_waiting (set waits (h / 64) (bit_or (get_or waits (h / 64) 0) (bit * 2 ^ (h % 64) % 18446744073709551616))) j ≡ (is_waiting waits j || (called && eqb j h))
-waiting-mark_if waits h j bit true is off lt = rw (is refl) (waiting-mark waits h j lt)
-waiting-mark_if waits h j bit false on is lt =
+waiting-enqueue_if waits h j bit true is off lt = rw (is refl) (waiting-enqueue waits h j lt)
+waiting-enqueue_if waits h j bit false on is lt =
     rw (is refl) (waiting-word (λ x here. x || false) (λ x. sym (or_false x)) waits h _ j lt (λ b small. grind (arith, common_steps, bits-either, bits-of_zero)))
 
-pub waiting-unmark : (waits : List ℕ) (h j : ℕ) → h / 64 < length waits
+pub waiting-dequeue : (waits : List ℕ) (h j : ℕ) → h / 64 < length waits
     → is_waiting (set waits (h / 64) (bit_and (get_or waits (h / 64) 0) (18446744073709551615 - 1 * 2 ^ (h % 64) % 18446744073709551616))) j ≡ but (is_waiting waits) h j
 unfolding but
-waiting-unmark waits h j lt = waiting-word (λ x here. x && not here) (λ x. grind (arith, common_steps)) waits h _ j lt (λ b small.
+waiting-dequeue waits h j lt = waiting-word (λ x here. x && not here) (λ x. grind (arith, common_steps)) waits h _ j lt (λ b small.
     let other = bit_at_clear_other w64 (get_or waits (h / 64) 0) (h % 64) in
     grind (arith, common_steps, cases_eq b (h % 64), bit_at_clear_same w64 (get_or waits (h / 64) 0) (h % 64), eq-eqb, ne_eqb))
 

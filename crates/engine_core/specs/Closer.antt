@@ -3,7 +3,7 @@ use Rattle.std.specs.Prelude.{◌≡◌, ℕ, Bool, true, false, ◌||◌, List,
 use Rattle.std.specs.List.{range_with_len}
 use Rattle.grid_core.specs.Board.{Layout, has, cells_of, SameShape}
 use Rattle.grid_core.specs.Candidates.{Candidates, is_dead}
-use Rattle.engine_core.specs.Puzzle.{Puzzle, Needs, after, IsClosed}
+use Rattle.engine_core.specs.RuleSystem.{RuleSystem, Needs, after, IsClosed}
 use Rattle.engine_core.specs.Closing.{HasStruck, replay}
 use Rattle.engine_core.specs.Queue.{IsRested, IsWoken}
 use Rattle.engine_core.specs.Waiting.{words_of, is_waiting}
@@ -32,7 +32,7 @@ pub record SameRoom (from to : BoardAndMarks) : Type 0 where
   pub trace_long : length to.trace ≡ length from.trace
 
 -- a visit of h: what it left, whether it struck anything, whether the board is dead then, and which houses wait
-pub record IsVisited (p : Puzzle) (h : ℕ) (from to : BoardAndMarks) (effect : Effect)
+pub record IsVisited (p : RuleSystem) (h : ℕ) (from to : BoardAndMarks) (effect : Effect)
     : Type 0 where
   pub left : has to.board ≡ after p h (has from.board)
   pub idle : effect.struck ≡ false → has to.board ≡ has from.board
@@ -43,7 +43,7 @@ pub record IsVisited (p : Puzzle) (h : ℕ) (from to : BoardAndMarks) (effect : 
       (is_waiting to.waits)
 
 -- a sweep of the board K left the board E
-pub record IsWholeSweep (p : Puzzle) (K E : Candidates) (waits : ℕ → Bool) (effect : Effect)
+pub record IsWholeSweep (p : RuleSystem) (K E : Candidates) (waits : ℕ → Bool) (effect : Effect)
     : Type 0 where
   pub left : E ≡ replay p K (range_with_len 0 p.houses)
   pub idle : effect.struck ≡ false → (E ≡ K) × IsClosed p K

@@ -2,8 +2,8 @@
 use Rattle.std.specs.Prelude.{◌≡◌, ℕ, suc, ◌+◌, ◌<◌, ◌≤◌, true, false, Option, Some, None, List, [], length, slice_index, slice_index_or}
 use Rattle.std.specs.List.{between}
 use Rattle.grid_core.specs.Candidates.{count_below, sum_below}
-use Rattle.engine_core.specs.Puzzle.{has_place}
-use Rattle.engine_core.specs.House.{AreDifferent}
+use Rattle.engine_core.specs.RuleSystem.{has_place}
+use Rattle.engine_core.specs.HouseSets.{AreDifferent}
 
 -- what callers see of a table of houses: how many cells the board has, and each house's places
 pub record Table : Type 0 where

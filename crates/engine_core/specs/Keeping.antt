@@ -1,17 +1,17 @@
 -- What a visit keeps of the sets of a house's cells, as bits.
 use Rattle.std.specs.Prelude.{◌≡◌, ℕ, ◌<◌, ◌≤◌, Bool, true, false, not, List, length, slice_index, take}
 use Rattle.grid_core.specs.Candidates.{Candidates}
-use Rattle.engine_core.specs.Puzzle.{Puzzle}
+use Rattle.engine_core.specs.RuleSystem.{RuleSystem}
 use Rattle.engine_core.specs.Sets.{has_bit, IsBitsOf}
 
 -- the bits of each are those of the set of the house's cell at its number
-pub record AreSetsOf (p : Puzzle) (h : ℕ) (K : Candidates) (sets : List ℕ) : Type 0 where
+pub record AreSetsOf (p : RuleSystem) (h : ℕ) (K : Candidates) (sets : List ℕ) : Type 0 where
   pub as_many : length sets ≡ length (p.scope h)
   pub bits : (k : ℕ) → k < length (p.scope h)
       → IsBitsOf (K (slice_index (p.scope h) k)) p.values (slice_index sets k)
 
 -- nothing is struck from the house's cells, or else a value that one of them has stays exactly where its bit is kept
-pub record IsKept (p : Puzzle) (h : ℕ) (K : Candidates) (struck : Bool)
+pub record IsKept (p : RuleSystem) (h : ℕ) (K : Candidates) (struck : Bool)
     (kept : List ℕ) : Type 0 where
   pub none : struck ≡ false → (k v : ℕ) → k < length (p.scope h) → v < p.values
       → K (slice_index (p.scope h) k) v ≡ true
@@ -21,7 +21,7 @@ pub record IsKept (p : Puzzle) (h : ℕ) (K : Candidates) (struck : Bool)
       → has_bit (slice_index kept k) v ≡ not (p.strikes h K (slice_index (p.scope h) k) v)
 
 -- at the head of the lists: the sets of the house's cells, and what is kept of them
-pub record IsFiltered (p : Puzzle) (h : ℕ) (K : Candidates) (struck : Bool)
+pub record IsFiltered (p : RuleSystem) (h : ℕ) (K : Candidates) (struck : Bool)
     (sets kept : List ℕ) : Type 0 where
   pub sets_long : length (p.scope h) ≤ length sets
   pub kept_long : length (p.scope h) ≤ length kept

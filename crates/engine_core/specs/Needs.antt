@@ -1,5 +1,5 @@
 -- What memory was taken for, as the code has it.
-use Rattle.engine_core.specs.Puzzle.{Needs}
+use Rattle.engine_core.specs.RuleSystem.{Needs}
 use Rattle.engine_core.specs.declared.needs.Needed.{Needed}
 
 -- what the record says

@@ -1,7 +1,7 @@
 -- What a walk sees of a position: its board, and the boards that its marks give back.
 use Rattle.std.specs.Prelude.{◌≡◌, ℕ, ◌+◌, ◌<◌, ◌≤◌}
 use Rattle.grid_core.specs.Candidates.{Candidates, IsInside}
-use Rattle.engine_core.specs.Puzzle.{Puzzle}
+use Rattle.engine_core.specs.RuleSystem.{RuleSystem}
 use Rattle.engine_core.specs.Closing.{closure}
 use Rattle.engine_core.specs.ClosingList.{IsDead, IsAlive}
 use Rattle.engine_core.specs.declared.mode.Closing.{Closing}
@@ -33,7 +33,7 @@ pub record IsReturned (from to : Standing) (level : ℕ) : Type 0 where
   pub back : (outer : ℕ) → outer ≤ level → to.back outer ≡ from.back outer
 
 -- a closing of the board K left the board E: its closure, with a value in each cell, or else the closure is dead
-pub record IsTaken (p : Puzzle) (K E : Candidates) (answer : Closing) : Type 0 where
+pub record IsTaken (p : RuleSystem) (K E : Candidates) (answer : Closing) : Type 0 where
   pub dead : answer ≡ Dead → IsDead p (closure p K)
   pub left : answer ≡ Open → E ≡ closure p K
   pub alive : answer ≡ Open → IsAlive p E

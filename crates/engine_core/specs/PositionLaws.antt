@@ -3,7 +3,7 @@ use Rattle.std.proofs.Common.{arith}
 use Rattle.grid_core.specs.Board.{Layout, has}
 use Rattle.grid_core.specs.Candidates.{IsWithin}
 use Rattle.grid_core.proofs.BoardLemmas.{has-within}
-use Rattle.engine_core.specs.Puzzle.{Puzzle, IsBoardOf}
+use Rattle.engine_core.specs.RuleSystem.{RuleSystem, IsBoardOf}
 
-pub within_of : (p : Puzzle) (b : Layout) → IsBoardOf p b → IsWithin p.cells p.values (has b)
+pub within_of : (p : RuleSystem) (b : Layout) → IsBoardOf p b → IsWithin p.cells p.values (has b)
 within_of p b of = λ c v on. let w = has-within b c v on in (omega (arith, w.0, of.same_cells), omega (arith, w.1, of.same_values))

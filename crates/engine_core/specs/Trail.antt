@@ -2,7 +2,7 @@
 use Rattle.std.specs.Prelude.{◌≡◌, ◌≢◌, ℕ, Bool, zero, suc, ◌+◌, ◌*◌, ◌^◌, ◌<◌, ◌≤◌, ◌==◌, ◌&&◌, not, nat_le, List, slice_index, length, slice_index_or, if◌then◌else◌}
 use Rattle.grid_core.specs.Board.{Layout, has, SameShape}
 use Rattle.grid_core.specs.Candidates.{Candidates, IsInside, any_below, total, with_set}
-use Rattle.engine_core.specs.Puzzle.{Puzzle, Needs, after, has_place}
+use Rattle.engine_core.specs.RuleSystem.{RuleSystem, Needs, after, has_place}
 use Rattle.engine_core.specs.ClosingList.{IsAlive}
 use Rattle.engine_core.specs.Queue.{counts_of}
 use Rattle.engine_core.specs.Sets.{has_bit}
@@ -52,7 +52,7 @@ pub record IsFurther (from to : Trail) : Type 0 where
   pub back : (mark : ℕ) → mark ≤ from.len → back_at to mark ≡ back_at from mark
 
 -- the later board is the one after a visit of h
-abbrev pub Visits : Puzzle → ℕ → Trail → Trail → Type 0
+abbrev pub Visits : RuleSystem → ℕ → Trail → Trail → Type 0
 Visits p h from to = has to.board ≡ after p h (has from.board)
 
 -- the trail was taken back to the mark: each earlier mark gives back the same
@@ -63,7 +63,7 @@ pub record IsBack (from to : Trail) (mark : ℕ) : Type 0 where
   pub back : (earlier : ℕ) → earlier ≤ mark → back_at to earlier ≡ back_at from earlier
 
 -- the changes since the first trail are those of the first n cells of h that lost a value
-pub record AreLost (p : Puzzle) (h n : ℕ) (from to : Trail) : Type 0 where
+pub record AreLost (p : RuleSystem) (h n : ℕ) (from to : Trail) : Type 0 where
   pub only : (m : ℕ) → from.len ≤ m → m < to.len
       → (k : ℕ) × (k < n) × (slice_index (p.scope h) k ≡ (change_at to.changes m).0)
       × (counts_of p h (has from.board) k ≢ counts_of p h (has to.board) k)
@@ -72,12 +72,12 @@ pub record AreLost (p : Puzzle) (h n : ℕ) (from to : Trail) : Type 0 where
       × ((change_at to.changes m).0 ≡ slice_index (p.scope h) k)
 
 -- the house j has a cell with a change from the number `from` on and below n
-abbrev pub is_since : Puzzle → Trail → ℕ → ℕ → ℕ → Bool
+abbrev pub is_since : RuleSystem → Trail → ℕ → ℕ → ℕ → Bool
 is_since p t from n j =
     any_below (λ m. nat_le from m && has_place (p.scope j) (change_at t.changes m).0) n
 
 -- a visit of h struck values, noted them, and left each cell a value
-pub record IsStruck (p : Puzzle) (h : ℕ) (from to : Trail) : Type 0 where
+pub record IsStruck (p : RuleSystem) (h : ℕ) (from to : Trail) : Type 0 where
   pub left : Visits p h from to
   pub alive : IsAlive p (has to.board)
   pub lost : AreLost p h (length (p.scope h)) from to

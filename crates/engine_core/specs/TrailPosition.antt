@@ -2,7 +2,7 @@
 use Rattle.std.specs.Prelude.{◌≡◌, ℕ, ◌<◌, ◌≤◌, Bool, true, false, List, length, slice_index_or, Option}
 use Rattle.grid_core.specs.Board.{Layout, has, cells_of}
 use Rattle.grid_core.specs.Candidates.{Candidates}
-use Rattle.engine_core.specs.Puzzle.{Puzzle, Needs, needs_of, FitsIn, IsBoardOf, after}
+use Rattle.engine_core.specs.RuleSystem.{RuleSystem, Needs, needs_of, FitsIn, IsBoardOf, after}
 use Rattle.engine_core.specs.ClosingList.{IsDead, IsAlive}
 use Rattle.engine_core.specs.Position.{Standing}
 use Rattle.engine_core.specs.Queue.{IsRested, IsWoken, waits_from}
@@ -34,7 +34,7 @@ abbrev pub board_in : {C : Type 0} → Placed C → Candidates
 board_in s = has s.trail.board
 
 -- the memory is enough for the rules, the board is one of theirs, and what they count of it is so
-pub record IsAlong {C : Type 0} (p : Puzzle) (counted : C → Candidates → Type 0)
+pub record IsAlong {C : Type 0} (p : RuleSystem) (counted : C → Candidates → Type 0)
     (s : Placed C) : Type 0 where
   pub fits : FitsIn (needs_of p) s.made
   pub board_of : IsBoardOf p s.trail.board
@@ -42,21 +42,21 @@ pub record IsAlong {C : Type 0} (p : Puzzle) (counted : C → Candidates → Typ
 
 -- ---- which houses wait, by what is counted
 -- all houses were called for
-abbrev pub AllAreCalled : {C : Type 0} → Puzzle → (C → Candidates → Type 0) → C
+abbrev pub AllAreCalled : {C : Type 0} → RuleSystem → (C → Candidates → Type 0) → C
     → List ℕ → List ℕ → Type 0
 AllAreCalled p follows counts before now =
     (K : Candidates) → follows counts K
     → AreCalled p K (λ j. true) (is_waiting before) (is_waiting now)
 
 -- no house waited, and those that a closing begins with were called for
-abbrev pub WaitsFrom : {C : Type 0} → Puzzle → (C → Candidates → Type 0) → C
+abbrev pub WaitsFrom : {C : Type 0} → RuleSystem → (C → Candidates → Type 0) → C
     → Option ℕ → List ℕ → Type 0
 WaitsFrom p follows counts from now =
     (K : Candidates) → follows counts K
     → AreCalled p K (waits_from p from) (λ j. false) (is_waiting now)
 
 -- a house that does not wait strikes nothing
-abbrev pub AreRested : {C : Type 0} → Puzzle → Placed C → Type 0
+abbrev pub AreRested : {C : Type 0} → RuleSystem → Placed C → Type 0
 AreRested p s = IsRested p (board_in s) (is_waiting s.waits)
 
 -- ---- from one place to a later one
@@ -68,7 +68,7 @@ pub record GoesOn {C : Type 0} (from to : Placed C) : Type 0 where
   pub further : IsFurther from.trail to.trail
 
 -- a visit of h that leaves each cell a value was made, and its houses wait; or it would leave a cell without one
-abbrev pub IsStep : {C : Type 0} → Puzzle → ℕ → Placed C → Placed C → Bool → Type 0
+abbrev pub IsStep : {C : Type 0} → RuleSystem → ℕ → Placed C → Placed C → Bool → Type 0
 IsStep p h from to true = IsDead p (after p h (board_in from))
 IsStep p h from to false =
     (board_in to ≡ after p h (board_in from)) × IsAlive p (board_in to)
@@ -92,7 +92,7 @@ pub record AreMarks (marks : List ℕ) (live len : ℕ) : Type 0 where
   pub ascend : (j k : ℕ) → j ≤ k → k < live → mark_at marks j ≤ mark_at marks k
 
 -- a walk is under way
-pub record IsUnderWay {C : Type 0} (p : Puzzle) (counted : C → Candidates → Type 0)
+pub record IsUnderWay {C : Type 0} (p : RuleSystem) (counted : C → Candidates → Type 0)
     (s : Placed C) : Type 0 where
   pub along : IsAlong p counted s
   pub few : s.marked ≤ p.cells

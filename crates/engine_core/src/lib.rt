@@ -14,7 +14,7 @@ mod trail;
 mod waits;
 
 pub use houses::list::HouseList;
-pub use houses::table::Houses;
+pub use houses::table::HouseTable;
 pub use houses::visit::{apply, gather, has_bit};
 pub use laws::{
     closure_is_largest, picks_the_lowest_of_the_fewest, sound_houses_are_lawful,
@@ -30,4 +30,4 @@ pub use searchable::Searchable;
 pub use store::{Sizes, Store};
 pub use trail::position::TrailPosition;
 pub use trail::propagators::Propagators;
-pub use waits::{mark, mark_if};
+pub use waits::{enqueue, enqueue_if};

@@ -1,7 +1,7 @@
 //! What rules need memory for.
 
 ghost use Rattle.std.specs.Prelude.{◌≡◌};
-ghost use Rattle.engine_core.specs.Puzzle.{needs_of};
+ghost use Rattle.engine_core.specs.RuleSystem.{needs_of};
 ghost use Rattle.engine_core.specs.Needs.{needs_in};
 
 use crate::rules::Rules;
@@ -18,7 +18,7 @@ pub(crate) struct Needed {
 
 /// What the rules need memory for.
 pub(crate) fn needs<R: Rules>(rules: &R) -> Needed
-    ensures { needs_in result ≡ needs_of (R.puzzle rules.now) }
+    ensures { needs_in result ≡ needs_of (R.system rules.now) }
 {
     Needed {
         cells: rules.cells(),
@@ -31,7 +31,7 @@ pub(crate) fn needs<R: Rules>(rules: &R) -> Needed
 
 /// How many cells the longest scope has.
 fn longest_scope<R: Rules>(rules: &R) -> usize
-    ensures { result ≡ (needs_of (R.puzzle rules.now)).scope }
+    ensures { result ≡ (needs_of (R.system rules.now)).scope }
 {
     let mut most = 0;
     for house in 0..rules.houses() {

@@ -11,5 +11,5 @@ pub trait Searchable: Rules {
     type Position: Position<Game = Self>;
 
     /// The position means by the rules what they mean.
-    ghost position_of: { (rules : Self) → Self.Position.puzzle rules ≡ Self.puzzle rules };
+    ghost position_of: { (rules : Self) → Self.Position.system rules ≡ Self.system rules };
 }

@@ -2,7 +2,7 @@
 #![tactic(auto, using(crate::proofs::LawSets::wait_laws))]
 
 ghost use Rattle.std.specs.Prelude.{◌≡◌, ℕ, ◌/◌, ◌<◌, ◌≤◌, ◌&&◌, ◌||◌, ◌==◌, not, length};
-ghost use Rattle.engine_core.specs.Puzzle.{IsNext};
+ghost use Rattle.engine_core.specs.RuleSystem.{IsNext};
 ghost use Rattle.engine_core.specs.Queue.{but, IsAnyOf};
 ghost use Rattle.engine_core.specs.Waiting.{words_of, is_waiting};
 ghost use Rattle.engine_core.specs.Sets.{has_bit as is_set};
@@ -15,7 +15,7 @@ pub(crate) fn words_for(houses: usize) -> usize
 }
 
 /// Marks the house in the bits of those that wait.
-pub fn mark(waits: &mut [u64], house: usize)
+pub fn enqueue(waits: &mut [u64], house: usize)
     requires { house / 64 < length waits.old }
     ensures { (j : ℕ) → is_waiting waits.new j ≡ (is_waiting waits.old j || (j == house)) }
 {
@@ -24,7 +24,7 @@ pub fn mark(waits: &mut [u64], house: usize)
 }
 
 /// Marks the house if it is called for. There is no branch on that: it can't be foreseen.
-pub fn mark_if(waits: &mut [u64], house: usize, called: bool)
+pub fn enqueue_if(waits: &mut [u64], house: usize, called: bool)
     requires { house / 64 < length waits.old }
     ensures { (j : ℕ) → is_waiting waits.new j
         ≡ (is_waiting waits.old j || (called && (j == house))) }
@@ -34,7 +34,7 @@ pub fn mark_if(waits: &mut [u64], house: usize, called: bool)
 }
 
 /// Takes the house's mark away.
-pub(crate) fn unmark(waits: &mut [u64], house: usize)
+pub(crate) fn dequeue(waits: &mut [u64], house: usize)
     requires { house / 64 < length waits.old }
     ensures { (j : ℕ) → is_waiting waits.new j ≡ but (is_waiting waits.old) house j }
 {
@@ -43,13 +43,13 @@ pub(crate) fn unmark(waits: &mut [u64], house: usize)
 }
 
 /// Takes the house's mark away if it is settled.
-pub(crate) fn unmark_if(waits: &mut [u64], house: usize, settled: bool)
+pub(crate) fn dequeue_if(waits: &mut [u64], house: usize, settled: bool)
     requires { house / 64 < length waits.old }
     ensures { (j : ℕ) → is_waiting waits.new j
         ≡ (is_waiting waits.old j && not (settled && (j == house))) }
 {
     if settled {
-        unmark(waits, house);
+        dequeue(waits, house);
     }
 }
 

@@ -9,9 +9,9 @@ use Rattle.std.proofs.lemmas.List.FromFn.{get_or-range_with_len, length-range_wi
 use Rattle.grid_core.specs.Candidates.{any_below, least_below}
 use Rattle.grid_core.proofs.CandidateLemmas.{any_below-some, any_below-none, count_below-pos, least_below-passes}
 use Rattle.grid_core.proofs.DifferentNumbers.{apart-le}
-use Rattle.engine_core.specs.Puzzle.{has_place}
+use Rattle.engine_core.specs.RuleSystem.{has_place}
 use Rattle.engine_core.specs.PlaceLaws.{has_place-at, has_place-here, AreDistinct, distinct-from}
-use Rattle.engine_core.specs.House.{AreDifferent}
+use Rattle.engine_core.specs.HouseSets.{AreDifferent}
 use Rattle.fields_core.specs.Tents.{names_none_twice}
 use Rattle.std.proofs.lemmas.Grind.{common_steps}
 

@@ -7,8 +7,8 @@ use Rattle.grid_core.specs.Candidates.{Candidates}
 use Rattle.engine_core.specs.PlaceLaws.{has_place-here, distinct-from}
 use Rattle.engine_core.specs.Filling.{Fills, IsShown}
 use Rattle.engine_core.specs.FillingLaws.{Fills-cons, Fills-tail}
-use Rattle.engine_core.specs.House.{sets_at, AreDifferent}
-use Rattle.engine_core.specs.HouseLaws.{length-sets_at, sets_at-value, sets_at-small}
+use Rattle.engine_core.specs.HouseSets.{sets_at, AreDifferent}
+use Rattle.engine_core.specs.HouseSetsLaws.{length-sets_at, sets_at-value, sets_at-small}
 use Rattle.fields_core.specs.Count.{nonzeros, counts_between, is_open}
 use Rattle.fields_core.proofs.PlaceLists.{num, num-most, count-cons, count-at}
 use Rattle.std.proofs.lemmas.Grind.{common_steps}

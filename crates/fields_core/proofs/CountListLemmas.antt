@@ -5,7 +5,7 @@ use Rattle.std.specs.List.{filter}
 use Rattle.grid_core.specs.Extent.{Extent}
 use Rattle.grid_core.specs.Regions.{steps}
 use Rattle.std.proofs.Math.Path.{fun_ext}
-use Rattle.engine_core.specs.Puzzle.{has_place, IsNext}
+use Rattle.engine_core.specs.RuleSystem.{has_place, IsNext}
 use Rattle.engine_core.specs.HouseIndex.{scope_of, AreScopes}
 use Rattle.engine_core.specs.HouseList.{FitsLists, FitsPlaces}
 use Rattle.engine_core.specs.PlaceLaws.{has_place-here}

@@ -7,7 +7,7 @@ use Rattle.std.proofs.Math.Path.{fun_ext}
 use Rattle.std.proofs.lemmas.List.{length-set, take_all, get_or-set_same, get_or-set_other}
 use Rattle.std.proofs.lemmas.List.Sums.{sum_by_more, count_by-le-length}
 use Rattle.grid_core.specs.Candidates.{Candidates, count_below}
-use Rattle.engine_core.specs.Puzzle.{has_place}
+use Rattle.engine_core.specs.RuleSystem.{has_place}
 use Rattle.engine_core.specs.PlaceLaws.{AreDistinct, distinct-from}
 use Rattle.engine_core.specs.HouseIndex.{scope_of, number_at, AreHousesAt}
 use Rattle.engine_core.proofs.IndexLemmas.{counted, numbered}

@@ -8,7 +8,7 @@ use Rattle.std.proofs.Math.Nat.{mul-le-mul_right}
 use Rattle.grid_core.specs.Grids.{IsGrid}
 use Rattle.grid_core.specs.Regions.{row_places, column_places, steps}
 use Rattle.grid_core.proofs.CandidateLemmas.{all_below-at, any_below-here, any_below-some}
-use Rattle.engine_core.specs.Puzzle.{has_place}
+use Rattle.engine_core.specs.RuleSystem.{has_place}
 use Rattle.engine_core.specs.PlaceLaws.{has_place-here, AreDistinct, place-filter, place-kept, place-append, place-front, place-back, distinct-filter, distinct-append}
 use Rattle.gameid_core.specs.Puzzles.{Light, IsLight, IsLightCell}
 use Rattle.gameid_core.specs.declared.light_up.cell.LightCell.{LightCell}

@@ -10,7 +10,7 @@ use Rattle.grid_core.specs.Regions.{row_places, column_places}
 use Rattle.grid_core.proofs.RegionLemmas.{row-at, column-at}
 use Rattle.grid_core.proofs.CandidateLemmas.{all_below-at, all_below-from}
 use Rattle.gameid_core.specs.Puzzles.{Light}
-use Rattle.engine_core.specs.Puzzle.{has_place}
+use Rattle.engine_core.specs.RuleSystem.{has_place}
 use Rattle.engine_core.specs.PlaceLaws.{AreDistinct, distinct-from, different-from}
 use Rattle.grid_core.specs.Grids.{IsGrid}
 use Rattle.fields_core.specs.CountHouse.{CountHouse, count_house_of, houses_below, meets, IsHouse}

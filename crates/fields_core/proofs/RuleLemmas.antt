@@ -6,7 +6,7 @@ use Rattle.std.proofs.lemmas.Bool.{cases_eq, cases_lt, lt-ltb, le-ltb, ne_eqb, e
 use Rattle.grid_core.specs.Candidates.{Candidates, all_of, without}
 use Rattle.grid_core.specs.Board.{Layout, SameShape}
 use Rattle.std.proofs.lemmas.List.{append-nil, take_all, drop_all}
-use Rattle.engine_core.specs.Puzzle.{after}
+use Rattle.engine_core.specs.RuleSystem.{after}
 use Rattle.engine_core.specs.Sets.{IsChange}
 use Rattle.fields_core.specs.Tallies.{AreTallied}
 use Rattle.fields_core.specs.declared.count.tally.Tally.{Tally}

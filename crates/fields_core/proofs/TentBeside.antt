@@ -5,7 +5,7 @@ use Rattle.std.proofs.lemmas.Nat.{div-mul-add}
 use Rattle.std.proofs.Math.Nat.{mod-lt, div-lt_iff_lt-mul, mul-le-mul_right}
 use Rattle.grid_core.specs.Extent.{Extent}
 use Rattle.grid_core.specs.Regions.{steps, step, if_there}
-use Rattle.engine_core.specs.Puzzle.{has_place}
+use Rattle.engine_core.specs.RuleSystem.{has_place}
 use Rattle.engine_core.specs.PlaceLaws.{place-front, place-back}
 use Rattle.fields_core.proofs.StepLaws.{step-up, step-left, step-right, step-down, steps-some}
 use Rattle.std.proofs.lemmas.Grind.{common_steps}

@@ -12,7 +12,7 @@ use Rattle.grid_core.specs.Regions.{row_places, column_places, steps}
 use Rattle.grid_core.specs.Candidates.{all_below}
 use Rattle.grid_core.proofs.RegionLemmas.{row-at, column-at}
 use Rattle.grid_core.proofs.CandidateLemmas.{all_below-at, any_below-here}
-use Rattle.engine_core.specs.Puzzle.{has_place}
+use Rattle.engine_core.specs.RuleSystem.{has_place}
 use Rattle.engine_core.specs.PlaceLaws.{has_place-at, has_place-here, AreDistinct, place-filter, place-kept, distinct-filter}
 use Rattle.engine_core.specs.Filling.{Set, has_value}
 use Rattle.engine_core.specs.FillingLaws.{filling_from_test, has_value_below}

@@ -5,7 +5,7 @@ use Rattle.std.specs.List.{list_any}
 use Rattle.std.proofs.lemmas.Bool.{cases_eq, cases_lt, true≢false, false_from_ne_true}
 use Rattle.grid_core.specs.Candidates.{count_below}
 use Rattle.grid_core.specs.Regions.{steps, step}
-use Rattle.engine_core.specs.Puzzle.{IsNext}
+use Rattle.engine_core.specs.RuleSystem.{IsNext}
 use Rattle.engine_core.proofs.IndexLemmas.{counted}
 use Rattle.gameid_core.specs.Puzzles.{Tents}
 use Rattle.fields_core.specs.Tents.{tent_cells, tree}

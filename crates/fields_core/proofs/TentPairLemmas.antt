@@ -10,11 +10,11 @@ use Rattle.grid_core.specs.Candidates.{count_below}
 use Rattle.grid_core.specs.Pairings.{IsPairing, IsShortSet}
 use Rattle.grid_core.proofs.ShortSets.{no_choice}
 use Rattle.grid_core.proofs.CandidateLemmas.{all_below-from}
-use Rattle.engine_core.specs.Puzzle.{has_place}
+use Rattle.engine_core.specs.RuleSystem.{has_place}
 use Rattle.engine_core.specs.PlaceLaws.{has_place-here, AreDistinct, different-from, distinct-from, place-filter, place-kept, distinct-filter}
 use Rattle.engine_core.specs.Filling.{has_value, Fills}
 use Rattle.engine_core.specs.FillingLaws.{test_from_filling}
-use Rattle.engine_core.specs.House.{AreDifferent}
+use Rattle.engine_core.specs.HouseSets.{AreDifferent}
 use Rattle.engine_core.proofs.IndexLemmas.{counted}
 use Rattle.gameid_core.specs.Puzzles.{Tents}
 use Rattle.fields_core.specs.Tents.{tent_cells, tree, tent, names_none_twice, leaves_none_out, trees_beside, can_be_paired}

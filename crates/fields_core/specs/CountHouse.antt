@@ -2,9 +2,9 @@
 use Rattle.std.specs.Prelude.{◌≡◌, ℕ, zero, suc, ◌+◌, ◌<◌, ◌≤◌, ◌^◌, Bool, true, false, not, ◌&&◌, ◌==◌, List, [], ◌++◌, length, map, slice_index, slice_index_or}
 use Rattle.grid_core.specs.Candidates.{Candidates, all_of, max_cells}
 use Rattle.grid_core.specs.Grids.{IsGrid}
-use Rattle.engine_core.specs.Puzzle.{Puzzle, has_place}
+use Rattle.engine_core.specs.RuleSystem.{RuleSystem, has_place}
 use Rattle.engine_core.specs.Filling.{strikes_by_fillings}
-use Rattle.engine_core.specs.House.{strikes_at, AreDifferent}
+use Rattle.engine_core.specs.HouseSets.{strikes_at, AreDifferent}
 use Rattle.fields_core.specs.Count.{counts_between}
 
 -- cells, and the fewest and most ones that they may hold together
@@ -68,7 +68,7 @@ unfoldable pub start_of : ℕ → (ℕ → Bool) → Candidates
 start_of cells blocked c v = all_of cells 2 c v && not (blocked c && (v == 1))
 
 -- the rule set of count houses over such a start, closed by sweeps
-abbrev pub count_puzzle : ℕ → (ℕ → Bool) → List CountHouse → (List ℕ → Bool) → Puzzle
+abbrev pub count_puzzle : ℕ → (ℕ → Bool) → List CountHouse → (List ℕ → Bool) → RuleSystem
 count_puzzle cells blocked houses is_solution = record {
   cells = cells;
   values = 2;
@@ -83,7 +83,7 @@ count_puzzle cells blocked houses is_solution = record {
 }
 
 -- the rule set of a table's houses
-abbrev pub table_puzzle : (ℕ → Bool) → (List ℕ → Bool) → CountedHouses → Puzzle
+abbrev pub table_puzzle : (ℕ → Bool) → (List ℕ → Bool) → CountedHouses → RuleSystem
 table_puzzle blocked is_solution table = count_puzzle table.cells blocked table.houses is_solution
 
 -- the game's solutions leave blocked cells at 0 and meet each house

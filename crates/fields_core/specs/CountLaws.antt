@@ -4,11 +4,11 @@ use Rattle.std.proofs.lemmas.Bool.{cases_Bool, true≢false, and_parts, and_from
 use Rattle.grid_core.specs.Candidates.{Candidates, IsInside, IsWithin, all_of, single}
 use Rattle.grid_core.specs.Grids.{IsGrid}
 use Rattle.grid_core.proofs.GridLemmas.{single-is}
-use Rattle.engine_core.specs.Puzzle.{IsLawful, after}
+use Rattle.engine_core.specs.RuleSystem.{IsLawful, after}
 use Rattle.engine_core.specs.PlaceLaws.{has_place-here}
 use Rattle.engine_core.specs.Filling.{strikes_by_fillings}
-use Rattle.engine_core.specs.House.{strikes_at, Decision}
-use Rattle.engine_core.specs.HouseLaws.{strikes_at-inside, strikes_at-in_scope, by_fillings-monotone, by_fillings-settled, by_fillings-closed}
+use Rattle.engine_core.specs.HouseSets.{strikes_at, Decision}
+use Rattle.engine_core.specs.HouseSetsLaws.{strikes_at-inside, strikes_at-in_scope, by_fillings-monotone, by_fillings-settled, by_fillings-closed}
 use Rattle.fields_core.specs.Count.{counts_between}
 use Rattle.fields_core.specs.CountHouse.{CountHouse, count_house_of, meets, strikes_of, after_house, start_of, count_puzzle, IsCounting}
 

@@ -1,7 +1,7 @@
 -- The count houses of Light Up.
 use Rattle.std.specs.Prelude.{ℕ, ◌-◌, ◌/◌, ◌%◌, Bool, not, ◌&&◌, ◌||◌, ◌==◌, if◌then◌else◌, List, [], ◌∷◌, ◌++◌, filter, slice_index_or}
 use Rattle.grid_core.specs.Regions.{beside, row_places, column_places}
-use Rattle.engine_core.specs.Puzzle.{Puzzle}
+use Rattle.engine_core.specs.RuleSystem.{RuleSystem}
 use Rattle.gameid_core.specs.Puzzles.{Light}
 use Rattle.gameid_core.specs.declared.light_up.cell.LightCell.{LightCell}
 use Rattle.gameid_core.specs.declared.light_up.cell.LightCell.TheVariants.{White, Black, Numbered}
@@ -55,6 +55,6 @@ light_houses p =
     ++ houses_below (lit_house p) (light_cells p)))
 
 -- what the rules of Light Up mean to a search
-abbrev pub light_rules : Light → Puzzle
+abbrev pub light_rules : Light → RuleSystem
 light_rules p =
     count_puzzle (light_cells p) (λ c. not (white p c)) (light_houses p) (solves_lights p)

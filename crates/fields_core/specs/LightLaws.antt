@@ -1,6 +1,6 @@
 -- The rules of Light Up are lawful.
 use Rattle.std.specs.Prelude.{not}
-use Rattle.engine_core.specs.Puzzle.{IsLawful}
+use Rattle.engine_core.specs.RuleSystem.{IsLawful}
 use Rattle.fields_core.specs.CountLaws.{count-lawful}
 use Rattle.fields_core.specs.Light.{light_cells, white, solves_lights}
 use Rattle.fields_core.specs.LightHouses.{light_houses, light_rules}

@@ -2,7 +2,7 @@
 use Rattle.std.specs.Prelude.{ℕ, ◌+◌, ◌/◌, ◌%◌, Bool, not, ◌&&◌, ◌||◌, nat_lt, if◌then◌else◌, List, [], ◌∷◌, ◌++◌, filter, slice_index}
 use Rattle.std.specs.List.{list_any}
 use Rattle.grid_core.specs.Regions.{beside, row_places, column_places}
-use Rattle.engine_core.specs.Puzzle.{Puzzle}
+use Rattle.engine_core.specs.RuleSystem.{RuleSystem}
 use Rattle.gameid_core.specs.Puzzles.{Tents}
 use Rattle.fields_core.specs.CountHouse.{CountHouse, exactly, one_at_most, one_at_least, houses_below, count_puzzle}
 use Rattle.fields_core.specs.Tents.{tent_cells, tree, solves_tents}
@@ -42,5 +42,5 @@ unfoldable pub is_barred : Tents → ℕ → Bool
 is_barred p c = tree p c || not (list_any (tree p) (beside p.size c))
 
 -- what the rules of Tents mean to a search
-abbrev pub tent_rules : Tents → Puzzle
+abbrev pub tent_rules : Tents → RuleSystem
 tent_rules p = count_puzzle (tent_cells p) (is_barred p) (tent_houses p) (solves_tents p)

@@ -1,5 +1,5 @@
 -- The rules of Tents are lawful.
-use Rattle.engine_core.specs.Puzzle.{IsLawful}
+use Rattle.engine_core.specs.RuleSystem.{IsLawful}
 use Rattle.fields_core.specs.CountLaws.{count-lawful}
 use Rattle.fields_core.specs.Tents.{tent_cells, solves_tents}
 use Rattle.fields_core.specs.TentHouses.{tent_houses, is_barred, tent_rules}

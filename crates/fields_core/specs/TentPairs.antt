@@ -3,7 +3,7 @@ use Rattle.std.specs.Prelude.{◌≡◌, ℕ, ◌<◌, ◌≤◌, Bool, List, fi
 use Rattle.std.specs.List.{range_with_len}
 use Rattle.grid_core.specs.Candidates.{count_below}
 use Rattle.grid_core.specs.Regions.{beside}
-use Rattle.engine_core.specs.Puzzle.{has_place}
+use Rattle.engine_core.specs.RuleSystem.{has_place}
 use Rattle.gameid_core.specs.Puzzles.{Tents}
 use Rattle.fields_core.specs.Tents.{tent_cells, tree}
 

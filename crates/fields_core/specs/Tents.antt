@@ -5,7 +5,7 @@ use Rattle.std.specs.List.{range_with_len}
 use Rattle.grid_core.specs.Extent.{Extent}
 use Rattle.grid_core.specs.Regions.{beside, row_places, column_places}
 use Rattle.grid_core.specs.Candidates.{any_below, all_below}
-use Rattle.engine_core.specs.Puzzle.{has_place}
+use Rattle.engine_core.specs.RuleSystem.{has_place}
 use Rattle.engine_core.specs.Filling.{Set, some_filling}
 use Rattle.gameid_core.specs.Puzzles.{Tents}
 

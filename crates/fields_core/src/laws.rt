@@ -2,7 +2,7 @@
 #![tactic(auto, using(crate::proofs::LawSets::laws_laws))]
 
 ghost use Rattle.std.specs.Prelude.{◌↔◌, IsTrue, List, ℕ};
-ghost use Rattle.engine_core.specs.Puzzle.{IsGridOf, IsLawful};
+ghost use Rattle.engine_core.specs.RuleSystem.{IsGridOf, IsLawful};
 ghost use Rattle.fields_core.specs.LightHouses.{light_rules};
 ghost use Rattle.fields_core.specs.LightSolutions.{IsLightSolution};
 ghost use Rattle.fields_core.specs.TentHouses.{tent_rules};

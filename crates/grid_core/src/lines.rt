@@ -48,7 +48,7 @@ pub fn line_place(size: Size, line: usize, k: usize) -> usize
 }
 
 /// The number in the `k`-th cell of the line.
-pub fn line_number(size: Size, grid: &Grid, line: usize, k: usize) -> u8
+pub fn line_value(size: Size, grid: &Grid, line: usize, k: usize) -> u8
     requires cells { length grid.now ≡ size.w * size.h }
     requires line_in { line < lines_of size }
     requires k_in { k < line_cells size line }

@@ -33,10 +33,10 @@ pub use Rattle.engine_core.proofs.WalkLemmas.{walk-unfold, walk_closed-solved}
 pub use Rattle.engine_core.specs.Closing.{IsLargestClosed, closure}
 pub use Rattle.engine_core.specs.Filling.{strikes_by_fillings}
 pub use Rattle.engine_core.specs.FillingLaws.{shown_from_test}
-pub use Rattle.engine_core.specs.House.{sets_at, strikes_at}
-pub use Rattle.engine_core.specs.HouseLaws.{length-sets_at, strikes_at-place}
+pub use Rattle.engine_core.specs.HouseSets.{sets_at, strikes_at}
+pub use Rattle.engine_core.specs.HouseSetsLaws.{length-sets_at, strikes_at-place}
 pub use Rattle.engine_core.specs.PlaceLaws.{has_place-here, place-filter}
-pub use Rattle.engine_core.specs.Puzzle.{FitsIn, IsClosed, IsGridOf, IsLawful, Needs, Puzzle, has_place, needs_of}
+pub use Rattle.engine_core.specs.RuleSystem.{FitsIn, IsClosed, IsGridOf, IsLawful, Needs, RuleSystem, has_place, needs_of}
 pub use Rattle.engine_core.specs.Stored.{IsAnswer}
 pub use Rattle.engine_core.specs.Verdict.{IsTrueOf, Outcome, Solves, verdict_of}
 unfoldable pub use Rattle.engine_core.specs.Verdict.{outcome}
@@ -102,8 +102,8 @@ pub use Rattle.solo_core.specs.RuleSets.{houses_rules}
 unfoldable pub use Rattle.solo_core.specs.RuleSets.{start}
 pub use Rattle.solo_core.specs.SolutionLaws.{rule_from_test, test_from_rule}
 pub use Rattle.solo_core.specs.Solutions.{IsSoloSolution}
-pub use Rattle.solo_core.specs.declared.houses.house.SoloHouse.{SoloHouse}
-pub use Rattle.solo_core.specs.declared.houses.house.SoloHouse.TheVariants.{Block, Column, Diagonal, Row}
+pub use Rattle.solo_core.specs.declared.houses.house.NamedHouse.{NamedHouse}
+pub use Rattle.solo_core.specs.declared.houses.house.NamedHouse.TheVariants.{Block, Column, Diagonal, Row}
 pub use Rattle.maker_core.specs.Draws.{AllFail, AreAll, HasWords, IsFirst, IsFirstPassing, Tries, draw_below, filling_at, shuffled_list, shuffled_order}
 unfoldable pub use Rattle.maker_core.specs.Draws.{black_cells, stream_after}
 pub use Rattle.maker_core.specs.Flips.{flipped_from, line_from}

@@ -2,13 +2,13 @@
 -- comes from one row, column, block or diagonal.
 use Rattle.maker_core.proofs.Common.{◌≡◌, ℕ, ◌+◌, ◌-◌, ◌*◌, ◌/◌, ◌<◌, Bool, true, false, eqb, List, length, slice_index, if◌then◌else◌, refl, sym, ◌∙◌}
 use Rattle.maker_core.proofs.Common.{arith, mul-pos, eqb-true, eq-eqb, mul-add-lt, div_below, mod_below, same_from_place, get_or-map, Solo, solo_n}
-use Rattle.maker_core.proofs.Common.{solo_puzzle, SoloHouse, Row, Column, Block, Diagonal, solo_cells, row_of, column_of, block_of, IsHouseOf, lies_in}
+use Rattle.maker_core.proofs.Common.{solo_puzzle, NamedHouse, Row, Column, Block, Diagonal, solo_cells, row_of, column_of, block_of, IsHouseOf, lies_in}
 use Rattle.maker_core.proofs.Common.{IsSoloSolution, line_from, flipped_from, flipped, house_stays, lies_alike, all_given}
 use Rattle.maker_core.proofs.Flips.{line_from-below, line_from-together, from_row, from_column, from_below, from_apart, flipped-at, flipped-grid, length-flipped}
 
 -- two places lie in one house of the puzzle
 record AreTogether (p : Solo) (j k : ℕ) : Type 0 where
-  house : SoloHouse
+  house : NamedHouse
   house_of : IsHouseOf p house
   first : lies_in p house j ≡ true
   second : lies_in p house k ≡ true
@@ -81,7 +81,7 @@ module _ (p : Solo) (c_low : 0 < p.c) (r_low : 0 < p.r) (across down : Bool) whe
       let stack = line_from-together across (solo_n p) p.c p.r (column_of p j) (column_of p k) refl r_low (column_below j lj) (column_below k lk) parts.1 in
       rw (row j lj, row k lk, column j lj, column k lk, band, stack) refl
 
-  together : (house : SoloHouse) → IsHouseOf p house → (j k : ℕ) → j < solo_cells p → k < solo_cells p → lies_in p house j ≡ true → lies_in p house k ≡ true
+  together : (house : NamedHouse) → IsHouseOf p house → (j k : ℕ) → j < solo_cells p → k < solo_cells p → lies_in p house j ≡ true → lies_in p house k ≡ true
       → AreTogether p (from j) (from k)
   together (Row y) is j k lj lk a b = record {
     house = Row (line_from down (solo_n p) y);

@@ -1,11 +1,11 @@
 -- What a search says of the solutions of its rules it says of the solutions of the game, where the two agree.
-use Rattle.maker_core.proofs.Common.{ℕ, List, sym, subst, IsTrue, ◌↔◌, Puzzle, IsGridOf, Solves, HasOne, TellsOne, IsOnlySolution, IsOnly}
+use Rattle.maker_core.proofs.Common.{ℕ, List, sym, subst, IsTrue, ◌↔◌, RuleSystem, IsGridOf, Solves, HasOne, TellsOne, IsOnlySolution, IsOnly}
 
 -- a grid that solves is the one of the verdict
-pub one_grid : (rules : Puzzle) (g : List ℕ) (budget : ℕ) → HasOne rules budget → Solves rules g → IsOnly rules g × TellsOne rules budget g
+pub one_grid : (rules : RuleSystem) (g : List ℕ) (budget : ℕ) → HasOne rules budget → Solves rules g → IsOnly rules g × TellsOne rules budget g
 one_grid rules g budget one good = subst (λ h. IsOnly rules h × TellsOne rules budget h) (one.only.1 g good) (one.only, one.found)
 
-module _ (rules : Puzzle) (solves : List ℕ → Type 0) (fits : (h : List ℕ) → solves h → IsGridOf rules h)
+module _ (rules : RuleSystem) (solves : List ℕ → Type 0) (fits : (h : List ℕ) → solves h → IsGridOf rules h)
     (accepted : (h : List ℕ) → IsGridOf rules h → (IsTrue (rules.is_solution h)) ↔ solves h) where
   pub solution : (h : List ℕ) → solves h → Solves rules h
   solution h s = record { grid = fits h s; good = (accepted h (fits h s)).1 s }

@@ -5,7 +5,7 @@ use Rattle.maker_core.proofs.Common.{append-nil, take_all, All-map, All-get_or, 
 use Rattle.maker_core.proofs.Common.{slice_set, Solo, IsSolo, solo_puzzle, Solves, IsTrueOf, IsSoloSolution, test_from_rule, rule_from_test, start}
 use Rattle.maker_core.proofs.Common.{houses_rules, houses_lawful, TellsOne, is_one, IsOnlySolution, all_given, solo_game, clue_is, is_clue, IsSoloSize}
 use Rattle.maker_core.proofs.Common.{solo_passes, IsThinnedFrom, Option, None, IfSome, is_some}
-use Rattle.engine_core.specs.Verdict.{Outcome.OneGrid}
+use Rattle.engine_core.specs.Verdict.{Outcome.OneSolution}
 use Rattle.maker_core.proofs.FullStart.{start_found, start_only}
 
 pub given-at : (g : List ℕ) (place : ℕ) → place < length g → slice_index (map suc g) place ≡ slice_index g place + 1
@@ -57,7 +57,7 @@ module _ (c r : ℕ) (x : Bool) (g : List ℕ) (size : IsSoloSize c r) (solution
   inside = start_inside c r x g size solution.grid
 
   -- no other grid solves it, and its verdict with any budget says so
-  pub all_given-only : IsTrueOf (houses_rules (all_given c r x g)) (OneGrid g)
+  pub all_given-only : IsTrueOf (houses_rules (all_given c r x g)) (OneSolution g)
   all_given-only = start_only (houses_rules (all_given c r x g)) (houses_lawful (all_given c r x g) solo) g solves inside
 
   pub all_given-found : (budget : ℕ) → TellsOne (houses_rules (all_given c r x g)) budget g
@@ -99,7 +99,7 @@ pub found_passes : (c r : ℕ) (x : Bool) (budget : ℕ) (filling : Option (List
 found_passes c r x budget (Some g) size solution = sym (ap is_one (all_given-found c r x g size solution budget))
 found_passes c r x budget None size solution = refl
 
-pub only_by_rules : (p : Solo) (g : List ℕ) → IsSolo p → IsTrueOf (houses_rules p) (OneGrid g) → IsOnlySolution (IsSoloSolution p) g
+pub only_by_rules : (p : Solo) (g : List ℕ) → IsSolo p → IsTrueOf (houses_rules p) (OneSolution g) → IsOnlySolution (IsSoloSolution p) g
 only_by_rules p g ok w = (
   rule_from_test p ok g w.0.grid w.0.good,
   λ h other. sym (w.1 h (record { grid = other.grid; good = test_from_rule p ok h other })),

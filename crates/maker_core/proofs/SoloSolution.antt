@@ -2,7 +2,7 @@
 -- cells of one before the shuffles, and there the numbers differ.
 use Rattle.maker_core.proofs.Common.{same_number_lists, ◌≡◌, ℕ, ◌*◌, ◌/◌, ◌%◌, ◌<◌, true, false, List, length, slice_index, sym, ◌∙◌, arith, eqb-true}
 use Rattle.maker_core.proofs.Common.{true≢false, mul-pos, div_below, mod_below, same_from_place, get_or-map, All-from_get_or}
-use Rattle.maker_core.proofs.Common.{length-map-range_with_len, get_or-map-range_with_len, IsGrid, SoloHouse, Row, Column, Block, Diagonal, block_of}
+use Rattle.maker_core.proofs.Common.{length-map-range_with_len, get_or-map-range_with_len, IsGrid, NamedHouse, Row, Column, Block, Diagonal, block_of}
 use Rattle.maker_core.proofs.Common.{IsHouseOf, lies_in, IsSoloSolution, old_number, rearranged, all_given, AreOrders}
 use Rattle.maker_core.proofs.SoloNumbers.{begin_below, row_apart, column_apart, block_apart, same_line}
 
@@ -79,7 +79,7 @@ module _ (c r : ℕ) (numbers rows columns : List ℕ) (orders : AreOrders c r n
   same_block j k e =
       same_from_place (j / (c * r) / c) (j % (c * r) / r) (k / (c * r) / c) (k % (c * r) / r) c (div_below (j % (c * r)) r c orders.r_some (x_below j)) (div_below (k % (c * r)) r c orders.r_some (x_below k)) e
 
-  apart_in_house : (house : SoloHouse) → IsHouseOf (all_given c r false grid) house → (j k : ℕ) → j < (c * r) * (c * r) → k < (c * r) * (c * r)
+  apart_in_house : (house : NamedHouse) → IsHouseOf (all_given c r false grid) house → (j k : ℕ) → j < (c * r) * (c * r) → k < (c * r) * (c * r)
       → lies_in (all_given c r false grid) house j ≡ true → lies_in (all_given c r false grid) house k ≡ true → slice_index grid j ≡ slice_index grid k → j ≡ k
   apart_in_house (Row y) is j k lj lk a b e = apart_in_row j k lj lk e (eqb-true _ _ a ∙ sym (eqb-true _ _ b))
   apart_in_house (Column x) is j k lj lk a b e = apart_in_column j k lj lk e (eqb-true _ _ a ∙ sym (eqb-true _ _ b))

@@ -1,10 +1,10 @@
 -- What the search of a top row gives: the first grid of the verdict, which keeps to the rules of Solo X.
 use Rattle.maker_core.proofs.Common.{◌≡◌, ℕ, suc, ◌-◌, ◌*◌, ◌≤◌, true, Option, Some, None, List, map, ◌++◌, length, replicate, sym, ap, subst}
 use Rattle.maker_core.proofs.Common.{◌∙◌, arith, IfSome, common_steps, length-map, take_all, All-map, All-append, All-replicate, All-from_get_or}
-use Rattle.maker_core.proofs.Common.{recursion_from_All, mul-le, Stream, Solo, IsSolo, solo_puzzle, Puzzle, Outcome, verdict_of, Solves, IsTrueOf}
+use Rattle.maker_core.proofs.Common.{recursion_from_All, mul-le, Stream, Solo, IsSolo, solo_puzzle, RuleSystem, Outcome, verdict_of, Solves, IsTrueOf}
 use Rattle.maker_core.proofs.Common.{IsAnswer, Verdict, houses_rules, IsSoloSolution, rule_from_test, shuffled_order, all_given, IsSoloSize, IsOrder}
 use Rattle.maker_core.proofs.Common.{top_row_given, first_grid, flipped_by_draw, x_filling}
-use Rattle.engine_core.specs.Verdict.{Outcome.NoGrid, Outcome.OneGrid, Outcome.TwoGrids, Outcome.OutOfBudget}
+use Rattle.engine_core.specs.Verdict.{Outcome.NoSolution, Outcome.OneSolution, Outcome.SeveralSolutions, Outcome.GaveUp}
 use Rattle.maker_core.proofs.FlippedHouses.{flipped-solution}
 use Rattle.maker_core.proofs.SoloFull.{given_first, written}
 
@@ -13,14 +13,14 @@ pub first_is : (answer : Verdict) (first second : Option (List ℕ)) (said : Out
 first_is answer first second said is = grind arith
 
 -- and that grid is a solution
-first_solves : (p : Puzzle) (said : Outcome) → IsTrueOf p said → IfSome (first_grid said) (Solves p)
-first_solves p NoGrid is = tt
-first_solves p (OneGrid first) is = is.0
-first_solves p (TwoGrids first second) is = is.0
-first_solves p (OutOfBudget None) is = tt
-first_solves p (OutOfBudget (Some first)) is = is
+first_solves : (p : RuleSystem) (said : Outcome) → IsTrueOf p said → IfSome (first_grid said) (Solves p)
+first_solves p NoSolution is = tt
+first_solves p (OneSolution first) is = is.0
+first_solves p (SeveralSolutions first second) is = is.0
+first_solves p (GaveUp None) is = tt
+first_solves p (GaveUp (Some first)) is = is
 
-pub found_solves : (p : Puzzle) (found first second : Option (List ℕ)) (answer : Verdict) (said : Outcome) → found ≡ first → IsAnswer answer first second said → IsTrueOf p said
+pub found_solves : (p : RuleSystem) (found first second : Option (List ℕ)) (answer : Verdict) (said : Outcome) → found ≡ first → IsAnswer answer first second said → IsTrueOf p said
     → IfSome found (Solves p)
 found_solves p found first second answer said lent is true_of =
     subst (λ (f : Option (List ℕ)). IfSome f (Solves p)) (sym (lent ∙ first_is answer first second said is)) (first_solves p said true_of)
@@ -68,16 +68,16 @@ module _ (c r : ℕ) (numbers : List ℕ) (size : IsSoloSize c r) (order : IsOrd
       flipped-solution c r true _ g (omega arith) (omega arith) _ _ (found-solution g s)
 
 -- ---- the filling
-pub x-filling-is : (c r budget n : ℕ) (s t u : Stream) (numbers : List ℕ) (p : Solo) (q : Puzzle) (found filling : Option (List ℕ)) → n ≡ c * r
+pub x-filling-is : (c r budget n : ℕ) (s t u : Stream) (numbers : List ℕ) (p : Solo) (q : RuleSystem) (found filling : Option (List ℕ)) → n ≡ c * r
     → ◌≡◌ {A = List ℕ × Stream} (numbers, t) (shuffled_order n s) → p ≡ top_row_given c r numbers → q ≡ houses_rules p → found ≡ first_grid (verdict_of q budget)
     → ◌≡◌ {A = Option (List ℕ) × Stream} (filling, u) (flipped_by_draw n found t) → ◌≡◌ {A = Option (List ℕ) × Stream} (filling, u) (x_filling c r budget s)
 x-filling-is c r budget n s t u numbers p q found filling is drawn top rules first flipped =
-    flipped ∙ ap (λ (f : Option (List ℕ)). flipped_by_draw n f t) (first ∙ ap (λ (z : Puzzle). first_grid (verdict_of z budget)) (rules ∙ ap houses_rules top))
+    flipped ∙ ap (λ (f : Option (List ℕ)). flipped_by_draw n f t) (first ∙ ap (λ (z : RuleSystem). first_grid (verdict_of z budget)) (rules ∙ ap houses_rules top))
     ∙ ap (λ (d : List ℕ × Stream). flipped_by_draw n (first_grid (verdict_of (houses_rules (top_row_given c r d.0)) budget)) d.1) drawn
     ∙ ap (λ m. let d = shuffled_order m s in flipped_by_draw m (first_grid (verdict_of (houses_rules (top_row_given c r d.0)) budget)) d.1) is
 
 -- what is there of the filling keeps to the rules
-pub x-filling-solves : (c r n : ℕ) (t u : Stream) (numbers : List ℕ) (p : Solo) (q : Puzzle) (found filling : Option (List ℕ)) → IsSoloSize c r → IsOrder (c * r) numbers → n ≡ c * r
+pub x-filling-solves : (c r n : ℕ) (t u : Stream) (numbers : List ℕ) (p : Solo) (q : RuleSystem) (found filling : Option (List ℕ)) → IsSoloSize c r → IsOrder (c * r) numbers → n ≡ c * r
     → p ≡ top_row_given c r numbers → q ≡ houses_rules p → IfSome found (Solves q)
     → ◌≡◌ {A = Option (List ℕ) × Stream} (filling, u) (flipped_by_draw n found t) → IfSome filling (λ g. IsSoloSolution (all_given c r true g) g)
 x-filling-solves c r n t u numbers p q found filling size order is top rules solves flipped =

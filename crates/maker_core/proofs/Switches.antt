@@ -1,6 +1,6 @@
 -- Cells turned and turned back leave a grid as it was, and a puzzle with two solutions has no verdict of one.
 use Rattle.maker_core.proofs.Common.{◌≡◌, ◌≢◌, ℕ, ◌<◌, Bool, true, false, List, length, refl, sym, ap, ◌∙◌, arith, not, Option, Some, None}
-use Rattle.maker_core.proofs.Common.{slice_index, slice_set, is_some, true≢false, get_or-set_same, IsExtent, Pattern, Puzzle, outcome-true, Outcome}
+use Rattle.maker_core.proofs.Common.{slice_index, slice_set, is_some, true≢false, get_or-set_same, IsExtent, Pattern, RuleSystem, outcome-true, Outcome}
 use Rattle.maker_core.proofs.Common.{verdict_of, Solves, IsTrueOf, IsCheck, PatternFault, is_solution-from, line_rules-lawful, line_rules}
 use Rattle.maker_core.proofs.Common.{IsPatternSolution, IsRunEnd, is_one, has_one, HasOther, RunHasSwitch, run_begins, cases_lt, common_steps, div-mul-add, mod-mul-add, inl, inr, ◌+◌, ◌*◌, ◌/◌, ◌%◌}
 use Rattle.std.specs.Prelude.{◌↔◌}
@@ -8,7 +8,7 @@ use Rattle.std.proofs.lemmas.Bool.{cases_Bool}
 use Rattle.grid_core.specs.Extent.{Extent}
 use Rattle.pattern_core.specs.LineLaws.{line_of_solution}
 use Rattle.pattern_core.specs.declared.fault.PatternFault.TheVariants.{Column, Row}
-use Rattle.engine_core.specs.Verdict.{Outcome.NoGrid, Outcome.OneGrid, Outcome.TwoGrids, Outcome.OutOfBudget}
+use Rattle.engine_core.specs.Verdict.{Outcome.NoSolution, Outcome.OneSolution, Outcome.SeveralSolutions, Outcome.GaveUp}
 use Rattle.maker_core.proofs.WrittenGrids.{grid_with, set_back}
 
 -- one number put back, after those that were written later
@@ -55,11 +55,11 @@ turned_other g before h i lt black e same =
     absurd (omega (arith, white, here))
 
 -- two solutions refute a verdict of one
-two_fail : (rules : Puzzle) (g h : List ℕ) (o : Outcome) → IsTrueOf rules o → Solves rules g → Solves rules h → h ≢ g → is_one o ≡ false
-two_fail rules g h NoGrid true_of sg sh ne = refl
-two_fail rules g h (OneGrid first) true_of sg sh ne = absurd (ne (sym (true_of.1 h sh) ∙ true_of.1 g sg))
-two_fail rules g h (TwoGrids first second) true_of sg sh ne = refl
-two_fail rules g h (OutOfBudget first) true_of sg sh ne = refl
+two_fail : (rules : RuleSystem) (g h : List ℕ) (o : Outcome) → IsTrueOf rules o → Solves rules g → Solves rules h → h ≢ g → is_one o ≡ false
+two_fail rules g h NoSolution true_of sg sh ne = refl
+two_fail rules g h (OneSolution first) true_of sg sh ne = absurd (ne (sym (true_of.1 h sh) ∙ true_of.1 g sg))
+two_fail rules g h (SeveralSolutions first second) true_of sg sh ne = refl
+two_fail rules g h (GaveUp first) true_of sg sh ne = refl
 
 pub other_fails : (p : Pattern) (g : List ℕ) (budget : ℕ) → IsExtent p.size → IsPatternSolution p g → HasOther p g → has_one (line_rules p) budget ≡ false
 other_fails p g budget extent good other =

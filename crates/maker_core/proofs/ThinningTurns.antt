@@ -2,19 +2,19 @@
 -- too, since fewer clues lose no solution.
 use Rattle.engine_core.specs.declared.search.walk.Verdict.TheVariants as verdict
 use Rattle.maker_core.proofs.Common.{◌≡◌, ℕ, List, Option, None, Bool, sym, ◌≢◌, zero, suc, ◌<◌, true, false, true≢false, [], ◌∷◌, Some, length}
-use Rattle.maker_core.proofs.Common.{get_or, set, drop, ◌+◌, refl, ◌∙◌, ap, arith, ◌⊎◌, inl, inr, add-one, Puzzle, Needs, FitsIn, needs_of, Outcome}
+use Rattle.maker_core.proofs.Common.{get_or, set, drop, ◌+◌, refl, ◌∙◌, ap, arith, ◌⊎◌, inl, inr, add-one, RuleSystem, Needs, FitsIn, needs_of, Outcome}
 use Rattle.maker_core.proofs.Common.{outcome, IsTrueOf, walk, IsAnswer, IsVerdict, IsAsked, IsLeft, IsTold, IsThinning, Why, Needed, Budget, is_some}
 use Rattle.maker_core.proofs.Common.{Contains, IsDistinct, cases_eq, get_or-set_other, length-set, Contains-append_right, get_or-set_at, drop-cons}
 use Rattle.maker_core.proofs.Common.{HasOne, CluedGame, IsGame, IsThinnedFrom, HasTwo, IsReason}
 use Rattle.maker_core.proofs.FilteredRanges.{head_apart}
 
-pub needed : (p : Puzzle) (budget : ℕ) (first second : Option (List ℕ)) (o : Outcome) (why : Why) → why ≡ Needed
+pub needed : (p : RuleSystem) (budget : ℕ) (first second : Option (List ℕ)) (o : Outcome) (why : Why) → why ≡ Needed
     → IsAnswer verdict.Several first second o → IsTrueOf p o → IsVerdict p budget why
 needed p budget first second o why is answer sound =
     let two = rw answer.2 at sound in
     rw is (record { first = answer.0; second = answer.1; first_solves = two.0; second_solves = two.1; differ = two.2 })
 
-pub gave_up : (p : Puzzle) (budget : ℕ) (first second : Option (List ℕ)) (found : Bool) (why : Why) → why ≡ Budget
+pub gave_up : (p : RuleSystem) (budget : ℕ) (first second : Option (List ℕ)) (found : Bool) (why : Why) → why ≡ Budget
     → IsAnswer (verdict.GaveUp found) first second (outcome budget None (walk p 0 p.start)) → IsVerdict p budget why
 gave_up p budget first second found why is answer = rw is (record { found = first; verdict = answer.0 })
 

@@ -10,7 +10,7 @@ use Rattle.grid_core.proofs.CandidateLemmas.{all_below-at, all_below-from}
 use Rattle.gameid_core.specs.Puzzles.{Solo, solo_puzzle}
 use Rattle.engine_core.specs.Verdict.{Solves}
 use Rattle.solo_core.specs.RuleSets.{houses_rules}
-use Rattle.solo_core.specs.declared.houses.house.SoloHouse.{SoloHouse}
+use Rattle.solo_core.specs.declared.houses.house.NamedHouse.{NamedHouse}
 use Rattle.solo_core.specs.Cells.{solo_cells}
 use Rattle.solo_core.specs.Houses.{IsHouseOf, lies_in}
 use Rattle.solo_core.specs.Solutions.{IsSoloSolution, given_stands, is_solo_solution}
@@ -38,10 +38,10 @@ given_in givens place n e = grind (arith, get_or_past givens place 0)
 
 -- ---- solutions
 -- puzzles of one size have the same houses
-pub house_stays : (p : Solo) (givens : List ℕ) (house : SoloHouse) → IsHouseOf p house → IsHouseOf (solo_puzzle p.c p.r p.x givens) house
+pub house_stays : (p : Solo) (givens : List ℕ) (house : NamedHouse) → IsHouseOf p house → IsHouseOf (solo_puzzle p.c p.r p.x givens) house
 house_stays p givens house is = grind arith
 
-pub lies_alike : (p : Solo) (givens : List ℕ) (house : SoloHouse) (place : ℕ) → lies_in p house place ≡ lies_in (solo_puzzle p.c p.r p.x givens) house place
+pub lies_alike : (p : Solo) (givens : List ℕ) (house : NamedHouse) (place : ℕ) → lies_in p house place ≡ lies_in (solo_puzzle p.c p.r p.x givens) house place
 lies_alike p givens house place = grind arith
 
 -- the clues of p are clues of the puzzle with these givens

@@ -3,7 +3,7 @@ use Rattle.std.specs.Prelude.{◌≡◌, ℕ, suc, ◌-◌, ◌*◌, true, Optio
 use Rattle.std.specs.Borrow.{Bor}
 use Rattle.rand_core.specs.Stream.{Stream}
 use Rattle.gameid_core.specs.Puzzles.{Solo, solo_puzzle}
-use Rattle.engine_core.specs.Verdict.{Outcome, Outcome.NoGrid, Outcome.OneGrid, Outcome.TwoGrids, Outcome.OutOfBudget, verdict_of}
+use Rattle.engine_core.specs.Verdict.{Outcome, Outcome.NoSolution, Outcome.OneSolution, Outcome.SeveralSolutions, Outcome.GaveUp, verdict_of}
 use Rattle.solo_core.specs.RuleSets.{houses_rules}
 use Rattle.maker_core.specs.Draws.{IsDrawnBy, Making, draw_below, shuffled_order}
 use Rattle.maker_core.specs.SoloOrders.{IsOrder}
@@ -24,10 +24,10 @@ pub record IsShuffledPuzzle {G : Type 0} (c r : ℕ) (stream : G → Stream) (ol
 
 -- the first grid that a search found, if it found one
 abbrev pub first_grid : Outcome → Option (List ℕ)
-first_grid NoGrid = None
-first_grid (OneGrid first) = Some first
-first_grid (TwoGrids first second) = Some first
-first_grid (OutOfBudget first) = first
+first_grid NoSolution = None
+first_grid (OneSolution first) = Some first
+first_grid (SeveralSolutions first second) = Some first
+first_grid (GaveUp first) = first
 
 -- a grid that was found is flipped by a draw below 4; where none was found, nothing is drawn
 abbrev pub flipped_by_draw : ℕ → Option (List ℕ) → Making (Option (List ℕ))

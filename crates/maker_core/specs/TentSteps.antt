@@ -1,7 +1,7 @@
 -- What taking a cell leaves of a filling of Tents.
 use Rattle.std.specs.Prelude.{◌≡◌, ℕ, true, slice_set, ◌⊎◌}
 use Rattle.grid_core.specs.Extent.{Extent}
-use Rattle.engine_core.specs.Puzzle.{has_place}
+use Rattle.engine_core.specs.RuleSystem.{has_place}
 use Rattle.maker_core.specs.declared.tents.filling.TentFilling.{TentFilling}
 use Rattle.maker_core.specs.TentFilling.{may_have_tent, free_cells_beside}
 

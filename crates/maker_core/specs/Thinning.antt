@@ -1,8 +1,8 @@
 -- Puzzles with fewer clues, and why the clues that are left were left.
 use Rattle.std.specs.Prelude.{◌≡◌, ◌≢◌, ℕ, Bool, true, false, is_some, Option, Some, None, List, ◌<◌, map, filter, All}
 use Rattle.std.specs.List.{range_with_len}
-use Rattle.engine_core.specs.Puzzle.{Puzzle, FitsIn, needs_of}
-use Rattle.engine_core.specs.Verdict.{Outcome.OneGrid, Outcome.OutOfBudget, verdict_of, Solves, IsTrueOf}
+use Rattle.engine_core.specs.RuleSystem.{RuleSystem, FitsIn, needs_of}
+use Rattle.engine_core.specs.Verdict.{Outcome.OneSolution, Outcome.GaveUp, verdict_of, Solves, IsTrueOf}
 use Rattle.rand_core.specs.Stream.{Stream}
 use Rattle.maker_core.specs.Draws.{Making, shuffled_list}
 use Rattle.maker_core.specs.declared.made.Why.{Why}
@@ -23,7 +23,7 @@ pub record CluedGame (A : Type 0) : Type 1 where
   -- the puzzle with each clue that a grid tells
   pub all_clues : A → List ℕ → A
   -- what the puzzle means to a search
-  pub rules : A → Puzzle
+  pub rules : A → RuleSystem
 
 -- whether the cell has a clue, and the cells that have one, by place
 abbrev pub has_clue : {A : Type 0} → CluedGame A → A → ℕ → Bool
@@ -50,11 +50,11 @@ KeepsSolutions {A} game solves = (p q : A) (g : List ℕ)
     → IsThinnedFrom game p q → solves q g → solves p g
 
 -- the grid is a solution, and no other grid is
-abbrev pub IsOnly : Puzzle → List ℕ → Type 0
-IsOnly rules answer = IsTrueOf rules (OneGrid answer)
+abbrev pub IsOnly : RuleSystem → List ℕ → Type 0
+IsOnly rules answer = IsTrueOf rules (OneSolution answer)
 
 -- two different grids are solutions
-pub record HasTwo (rules : Puzzle) : Type 0 where
+pub record HasTwo (rules : RuleSystem) : Type 0 where
   pub first : List ℕ
   pub second : List ℕ
   pub first_solves : Solves rules first
@@ -62,9 +62,9 @@ pub record HasTwo (rules : Puzzle) : Type 0 where
   pub differ : first ≢ second
 
 -- the verdict with the budget is that the search gives up
-pub record GivesUp (rules : Puzzle) (budget : ℕ) : Type 0 where
+pub record GivesUp (rules : RuleSystem) (budget : ℕ) : Type 0 where
   pub found : Option (List ℕ)
-  pub verdict : verdict_of rules budget ≡ OutOfBudget found
+  pub verdict : verdict_of rules budget ≡ GaveUp found
 
 -- the search gives up on some puzzle that hasn't the clue of the cell: one with each other clue of p and no clue but
 -- those of `all`

@@ -1,7 +1,7 @@
 -- What the steps of thinning leave.
 use Rattle.std.specs.Prelude.{◌≡◌, ℕ, suc, true, Option, Some, None, List, [], ◌∷◌, length, get_or, eqb, Contains, ◌⊎◌}
 use Rattle.std.specs.List.{IsDistinct}
-use Rattle.engine_core.specs.Puzzle.{Puzzle}
+use Rattle.engine_core.specs.RuleSystem.{RuleSystem}
 use Rattle.maker_core.specs.Made.{HasOne}
 use Rattle.maker_core.specs.Thinning.{CluedGame, has_clue, IsThinnedFrom, HasTwo, GivesUp, IsReason}
 use Rattle.maker_core.specs.declared.made.Why.{Why}
@@ -9,7 +9,7 @@ use Rattle.maker_core.specs.declared.made.Why.TheVariants.{Needed, Budget}
 use Rattle.maker_core.specs.declared.made.Kept.{Kept}
 
 -- what the verdict of a puzzle without a clue says for this reason
-abbrev pub IsVerdict : Puzzle → ℕ → Why → Type 0
+abbrev pub IsVerdict : RuleSystem → ℕ → Why → Type 0
 IsVerdict rules budget Needed = HasTwo rules
 IsVerdict rules budget Budget = GivesUp rules budget
 

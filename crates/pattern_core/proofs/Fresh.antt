@@ -9,10 +9,10 @@ use Rattle.grid_core.specs.Candidates.{Candidates}
 use Rattle.grid_core.specs.Lines.{lines_of, line_cells, line_places}
 use Rattle.gameid_core.specs.Puzzles.{Pattern, used}
 use Rattle.engine_core.specs.Filling.{has_value, strikes_by_fillings}
-use Rattle.engine_core.specs.House.{sets_at, strikes_at}
-use Rattle.engine_core.specs.HouseLaws.{length-sets_at, sets_at-value, strikes_at-some}
+use Rattle.engine_core.specs.HouseSets.{sets_at, strikes_at}
+use Rattle.engine_core.specs.HouseSetsLaws.{length-sets_at, sets_at-value, strikes_at-some}
 use Rattle.engine_core.specs.PlaceLaws.{has_place-here}
-use Rattle.engine_core.specs.Puzzle.{IsIdle}
+use Rattle.engine_core.specs.RuleSystem.{IsIdle}
 use Rattle.pattern_core.specs.Lines.{clue_of, has_runs, IsRoomy, IsFresh}
 use Rattle.grid_core.proofs.LineLemmas.{length-line_places}
 use Rattle.pattern_core.specs.LineLaws.{in_grid}

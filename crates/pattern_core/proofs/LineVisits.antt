@@ -7,10 +7,10 @@ use Rattle.grid_core.specs.Candidates.{Candidates}
 use Rattle.grid_core.specs.Lines.{line_cells, lines_of, line_places}
 use Rattle.gameid_core.specs.Puzzles.{Pattern, IsPattern, IsClue, AreClues, used}
 use Rattle.engine_core.specs.Filling.{strikes_by_fillings}
-use Rattle.engine_core.specs.House.{sets_at, kept_in}
-use Rattle.engine_core.specs.HouseLaws.{visited-after, kept-decided, bits-of_values, sets-of_values}
+use Rattle.engine_core.specs.HouseSets.{sets_at, kept_in}
+use Rattle.engine_core.specs.HouseSetsLaws.{visited-after, kept-decided, bits-of_values, sets-of_values}
 use Rattle.engine_core.specs.Keeping.{AreSetsOf, IsKept}
-use Rattle.engine_core.specs.Puzzle.{IsBoardOf, after}
+use Rattle.engine_core.specs.RuleSystem.{IsBoardOf, after}
 use Rattle.engine_core.specs.Sets.{set_of_bits, IsBitsOf}
 use Rattle.engine_core.specs.PositionLaws.{within_of}
 use Rattle.pattern_core.specs.Lines.{has_runs, clue_of, IsDecidedBy}

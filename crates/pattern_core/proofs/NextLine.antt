@@ -6,7 +6,7 @@ use Rattle.std.proofs.lemmas.Nat.{div-add-mod'}
 use Rattle.std.proofs.Math.Nat.{mul-le-mul_right, mod-lt}
 use Rattle.grid_core.specs.Extent.{Extent}
 use Rattle.grid_core.specs.Lines.{lines_of, line_places}
-use Rattle.engine_core.specs.Puzzle.{has_place, IsNext}
+use Rattle.engine_core.specs.RuleSystem.{has_place, IsNext}
 use Rattle.pattern_core.specs.LineLaws.{column_has, row_has, lines_with}
 
 module _ (size : Extent) (w place from : ℕ) (same : w ≡ size.w) (within : place < size.w * size.h) where

@@ -12,7 +12,7 @@ use Rattle.grid_core.proofs.BoardLemmas.{bits_both}
 use Rattle.grid_core.proofs.CandidateLemmas.{any_below-some, any_below-here, any_below-same}
 use Rattle.engine_core.specs.Filling.{Set, some_filling, strikes_by_fillings}
 use Rattle.engine_core.specs.Sets.{has_bit, set_of_bits}
-use Rattle.engine_core.specs.House.{IsDecided}
+use Rattle.engine_core.specs.HouseSets.{IsDecided}
 use Rattle.pattern_core.specs.Lines.{has_runs}
 use Rattle.pattern_core.specs.Track.{spelled, Track, IsBelow, track_of, leads, some_leads, set_for, ahead, led, any_cells, cell_is, sets_of, AreRows, AreKept}
 use Rattle.pattern_core.proofs.Leads.{same_tests, leads_next, leads_here, ways_on}

@@ -16,11 +16,11 @@ use Rattle.grid_core.proofs.LineLemmas.{column-places, row-places, length-line_p
 use Rattle.grid_core.specs.Lines.{lines_of, line_places, line_numbers}
 use Rattle.gameid_core.specs.Puzzles.{Pattern}
 use Rattle.gameid_core.specs.BlackRuns.{runs}
-use Rattle.engine_core.specs.Puzzle.{IsLawful, after, has_place, share}
+use Rattle.engine_core.specs.RuleSystem.{IsLawful, after, has_place, share}
 use Rattle.engine_core.specs.PlaceLaws.{has_place-at, has_place-here}
 use Rattle.engine_core.specs.Filling.{strikes_by_fillings}
-use Rattle.engine_core.specs.House.{strikes_at, AreDifferent}
-use Rattle.engine_core.specs.HouseLaws.{strikes_at-inside, strikes_at-in_scope, by_fillings-monotone, by_fillings-settled, by_fillings-closed}
+use Rattle.engine_core.specs.HouseSets.{strikes_at, AreDifferent}
+use Rattle.engine_core.specs.HouseSetsLaws.{strikes_at-inside, strikes_at-in_scope, by_fillings-monotone, by_fillings-settled, by_fillings-closed}
 use Rattle.pattern_core.specs.Lines.{clue_of, HasClue, has_runs}
 use Rattle.pattern_core.specs.LineRules.{is_pattern_solution, line_rules}
 use Rattle.pattern_core.specs.Solutions.{IsPatternSolution}

@@ -4,9 +4,9 @@ use Rattle.grid_core.specs.Extent.{IsExtent}
 use Rattle.grid_core.specs.Candidates.{Candidates, all_below, all_of}
 use Rattle.grid_core.specs.Lines.{lines_of, line_places, line_numbers}
 use Rattle.gameid_core.specs.Puzzles.{Pattern}
-use Rattle.engine_core.specs.Puzzle.{Puzzle}
+use Rattle.engine_core.specs.RuleSystem.{RuleSystem}
 use Rattle.engine_core.specs.Filling.{strikes_by_fillings}
-use Rattle.engine_core.specs.House.{strikes_at}
+use Rattle.engine_core.specs.HouseSets.{strikes_at}
 use Rattle.engine_core.specs.Waiting.{is_waiting, AreCalled}
 use Rattle.pattern_core.specs.Lines.{clue_of, has_runs, IsFresh}
 
@@ -17,7 +17,7 @@ is_pattern_solution p g =
 
 -- the cells' values are 0 for white and 1 for black; a search starts from full sets; a line strikes what no filling
 -- with its clue's runs has
-abbrev pub line_rules : Pattern → Puzzle
+abbrev pub line_rules : Pattern → RuleSystem
 line_rules p = record {
   cells = p.size.w * p.size.h;
   values = 2;

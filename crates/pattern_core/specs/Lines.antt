@@ -7,7 +7,7 @@ use Rattle.grid_core.specs.Lines.{line_numbers}
 use Rattle.gameid_core.specs.Puzzles.{Pattern, used}
 use Rattle.gameid_core.specs.BlackRuns.{runs}
 use Rattle.engine_core.specs.Filling.{strikes_by_fillings}
-use Rattle.engine_core.specs.House.{IsDecided}
+use Rattle.engine_core.specs.HouseSets.{IsDecided}
 
 -- the clue of a line
 abbrev pub clue_of : Pattern → ℕ → List ℕ

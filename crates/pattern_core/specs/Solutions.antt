@@ -2,7 +2,7 @@
 use Rattle.std.specs.Prelude.{◌≡◌, ℕ, ◌+◌, ◌*◌, ◌<◌, ◌↔◌, IsTrue, List, [], slice_index_or}
 use Rattle.grid_core.specs.Grids.{IsGrid, row_cells, column_cells}
 use Rattle.gameid_core.specs.Puzzles.{Pattern}
-use Rattle.engine_core.specs.Puzzle.{Puzzle}
+use Rattle.engine_core.specs.RuleSystem.{RuleSystem}
 use Rattle.gameid_core.specs.BlackRuns.{runs}
 
 -- the lengths of the maximal black runs of each column, downwards, and of each row, rightwards, are its clue
@@ -14,6 +14,6 @@ pub record IsPatternSolution (p : Pattern) (g : List ℕ) : Type 0 where
       → runs (row_cells p.size g y) ≡ slice_index_or p.clues (p.size.w + y) []
 
 -- the grids that the rules accept are the solutions of the puzzle
-abbrev pub AcceptsSolutions : Pattern → Puzzle → Type 0
+abbrev pub AcceptsSolutions : Pattern → RuleSystem → Type 0
 AcceptsSolutions p rules = (g : List ℕ) → IsGrid (p.size.w * p.size.h) 2 g
     → (IsTrue (rules.is_solution g)) ↔ IsPatternSolution p g

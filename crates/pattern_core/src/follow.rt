@@ -9,7 +9,7 @@ ghost use Rattle.pattern_core.specs.Track.{AreLed, set_for};
 use crate::places::Places;
 use crate::table::ways_of;
 use crate::track::{SpelledClue, Steps};
-use grid_core::{Grid, Size, line_len, line_number};
+use grid_core::{Grid, Size, line_len, line_value};
 
 /// Which places are reached by a cell with this number, by those that are reached before it.
 fn led_on<P: Places>(steps: Steps<P>, number: u8, reached: P) -> P
@@ -33,7 +33,7 @@ pub(crate) fn follows<P: Places>(
     let steps = clue.steps();
     let mut reached = P::first();
     for k in 0..line_len(size, line) {
-        reached = led_on(steps, line_number(size, grid, line, k), reached);
+        reached = led_on(steps, line_value(size, grid, line, k), reached);
     }
     reached.both(steps.ends).is_some()
 }

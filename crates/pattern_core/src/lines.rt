@@ -6,7 +6,7 @@ ghost use Rattle.grid_core.specs.Board.{has, cells_of, SameShape};
 ghost use Rattle.grid_core.specs.Lines.{lines_of};
 ghost use Rattle.grid_core.specs.Candidates.{Candidates};
 ghost use Rattle.engine_core.specs.Closing.{HasStruck};
-ghost use Rattle.engine_core.specs.Puzzle.{IsBoardOf, after};
+ghost use Rattle.engine_core.specs.RuleSystem.{IsBoardOf, after};
 ghost use Rattle.engine_core.specs.Waiting.{words_of};
 ghost use Rattle.engine_core.specs.declared.mode.Mode.TheVariants.{Queue};
 ghost use Rattle.pattern_core.specs.Lines.{clue_of, IsFresh};
@@ -16,7 +16,7 @@ ghost use Rattle.pattern_core.specs.LineRules.{line_rules, GoesAlong, CallsLine}
 use crate::line_cells::write_places;
 use crate::line_clue::{LONGEST, LineClue, Rows};
 use crate::table::BOTH;
-use engine_core::{Mode, Propagators, Rules, Searchable, TrailPosition, apply, gather, mark};
+use engine_core::{Mode, Propagators, Rules, Searchable, TrailPosition, apply, gather, enqueue};
 use gameid_core::PatternPuzzle;
 use grid_core::{Board, Grid, Size, line_count, line_len, line_place};
 use std::alloc::{AllocError, Global};
@@ -121,7 +121,7 @@ impl PatternLines {
         ensures { CallsLine self.now.pattern counts.now.fresh line waits.old waits.new }
     {
         if self.may_strike(line, counts) {
-            mark(waits, line);
+            enqueue(waits, line);
         }
     }
 }
@@ -135,7 +135,7 @@ impl Rules for PatternLines {
 
     const MODE: Mode = Mode::Queue;
 
-    ghost puzzle = { λ r. line_rules r.pattern };
+    ghost system = { λ r. line_rules r.pattern };
 
     ghost SETTLED = { true };
 

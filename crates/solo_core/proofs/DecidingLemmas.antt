@@ -6,7 +6,7 @@ use Rattle.solo_core.specs.Common.{count_below, no_repeat, strikes_by_fillings}
 use Rattle.std.proofs.lemmas.List.Sums.{sum_by-cons}
 use Rattle.grid_core.specs.Board.{Layout, has}
 use Rattle.grid_core.proofs.BoardLemmas.{has-within}
-use Rattle.engine_core.specs.HouseLaws.{visited-after}
+use Rattle.engine_core.specs.HouseSetsLaws.{visited-after}
 use Rattle.std.proofs.lemmas.Simd.{map-map}
 use Rattle.engine_core.specs.HouseIndex.{Table, scope_of, AreScopes, AreHousesAt}
 use Rattle.engine_core.proofs.IndexLemmas.{nth-at}

@@ -1,17 +1,17 @@
 -- Houses and crossings by their numbers, and lists of their places.
 use Rattle.std.proofs.Common.{◌≡◌, ℕ, zero, suc, ◌+◌, ◌-◌, ◌<◌, ◌≤◌, Bool, true, false, List, [], ◌∷◌, ◌++◌, map, length, get_or, slice_index, take, if◌then◌else◌, refl, sym, ap, ◌∙◌, arith, append-nil, append_assoc, ◌*◌, length-append}
 use Rattle.solo_core.specs.Common.{range_with_len, get_or_append_left, get_or-append_right, get_or-map, length-map, take_more, map-append}
-use Rattle.solo_core.specs.Common.{get_or-map-range_with_len, length-map-range_with_len, Solo, solo_n, SoloHouse, Diagonal, houses_of, house_places, places_of}
+use Rattle.solo_core.specs.Common.{get_or-map-range_with_len, length-map-range_with_len, Solo, solo_n, NamedHouse, Diagonal, houses_of, house_places, places_of}
 use Rattle.solo_core.specs.Common.{mul-le, House, house_of, no_house, strikes_by_fillings, no_repeat}
 use Rattle.std.proofs.Math.Seq.{take-length}
 use Rattle.engine_core.specs.HouseList.{Listed}
 use Rattle.solo_core.specs.BoundLaws.{house_count, count_x, count_plain}
 use Rattle.std.proofs.lemmas.Simd.{map-map}
-use Rattle.solo_core.specs.declared.houses.scope.SoloScope.{SoloScope}
+use Rattle.solo_core.specs.declared.houses.scope.VisitName.{VisitName}
 use Rattle.solo_core.specs.RuleSets.{filled_houses, crossings_of, house_at}
 use Rattle.solo_core.specs.Scopes.{row_scope, column_scope, crossing_scopes, scopes_of}
 use Rattle.solo_core.proofs.DecidingLemmas.{length-deciding}
-use Rattle.solo_core.specs.declared.houses.scope.SoloScope.TheVariants as scope
+use Rattle.solo_core.specs.declared.houses.scope.VisitName.TheVariants as scope
 
 -- ---- a list that begins with the values of a function
 module _ {X : Type 0} (f : ℕ → X) (n : ℕ) (rest : List X) (h : ℕ) (d : X) where
@@ -21,7 +21,7 @@ module _ {X : Type 0} (f : ℕ → X) (n : ℕ) (rest : List X) (h : ℕ) (d : X
   pub part_later : n ≤ h → get_or (map f (range_with_len 0 n) ++ rest) h d ≡ get_or rest (h - n) d
   part_later le = get_or-append_right (map f (range_with_len 0 n)) rest n h d (length-map-range_with_len f 0 n) le
 
-pub diagonal_at : (x : Bool) (k : ℕ) (d : SoloHouse) → k < (if x then 2 else 0) → get_or (if x then Diagonal 0 ∷ Diagonal 1 ∷ [] else []) k d ≡ Diagonal k
+pub diagonal_at : (x : Bool) (k : ℕ) (d : NamedHouse) → k < (if x then 2 else 0) → get_or (if x then Diagonal 0 ∷ Diagonal 1 ∷ [] else []) k d ≡ Diagonal k
 diagonal_at true zero d lt = refl
 diagonal_at true (suc zero) d lt = refl
 diagonal_at true (suc (suc k)) d lt = absurd (omega arith)
@@ -53,7 +53,7 @@ listed-all list closed all k long was = was ∙ rw (← long, take-length all) r
 pub places-length : (p : Solo) → length (house_places p) ≡ length (houses_of p)
 places-length p = length-map (houses_of p) (places_of p)
 
-pub places-at : (p : Solo) (k : ℕ) (house : SoloHouse) → k < length (houses_of p) → house ≡ get_or (houses_of p) k house → places_of p house ≡ get_or (house_places p) k []
+pub places-at : (p : Solo) (k : ℕ) (house : NamedHouse) → k < length (houses_of p) → house ≡ get_or (houses_of p) k house → places_of p house ≡ get_or (house_places p) k []
 places-at p k house lt is = ap (places_of p) is ∙ sym (get_or-map (places_of p) (houses_of p) k house [] lt)
 
 -- the houses by their numbers, and what the list gets of them
@@ -89,7 +89,7 @@ module _ (p : Solo) where
   pub filled-length : length (filled_houses p) ≡ length (houses_of p)
   filled-length = length-deciding (strikes_by_fillings no_repeat) p
 
-  abbrev names : List SoloScope
+  abbrev names : List VisitName
   names = map scope.House (houses_of p)
 
   names-length : length names ≡ length (houses_of p)
@@ -98,10 +98,10 @@ module _ (p : Solo) where
   pub all-length : length (scopes_of p) ≡ length (houses_of p) + length (crossing_scopes p)
   all-length = omega (arith, length-append names (crossing_scopes p), names-length)
 
-  pub house-named : (h : ℕ) (d : SoloScope) (house : SoloHouse) → h < length (houses_of p) → get_or (scopes_of p) h d ≡ scope.House (get_or (houses_of p) h house)
+  pub house-named : (h : ℕ) (d : VisitName) (house : NamedHouse) → h < length (houses_of p) → get_or (scopes_of p) h d ≡ scope.House (get_or (houses_of p) h house)
   house-named h d house lt = get_or_append_left names (crossing_scopes p) d h (omega (arith, names-length)) ∙ get_or-map scope.House (houses_of p) h house d lt
 
-  pub crossing-after : (h : ℕ) (d : SoloScope) → length (houses_of p) ≤ h → get_or (scopes_of p) h d ≡ get_or (crossing_scopes p) (h - length (houses_of p)) d
+  pub crossing-after : (h : ℕ) (d : VisitName) → length (houses_of p) ≤ h → get_or (scopes_of p) h d ≡ get_or (crossing_scopes p) (h - length (houses_of p)) d
   crossing-after h d le = get_or-append_right names (crossing_scopes p) (length (houses_of p)) h d names-length le
 
   all-named : map (house_at p) (scopes_of p) ≡ filled_houses p ++ crossings_of p
@@ -110,7 +110,7 @@ module _ (p : Solo) where
   pub crossings-counted : length (filled_houses p ++ crossings_of p) ≡ length (scopes_of p)
   crossings-counted = ap length (sym all-named) ∙ length-map (scopes_of p) (house_at p)
 
-  pub scope-named : (h : ℕ) (d : SoloScope) → h < length (scopes_of p) → house_of (filled_houses p ++ crossings_of p) h ≡ house_at p (get_or (scopes_of p) h d)
+  pub scope-named : (h : ℕ) (d : VisitName) → h < length (scopes_of p) → house_of (filled_houses p ++ crossings_of p) h ≡ house_at p (get_or (scopes_of p) h d)
   scope-named h d lt = ap (λ xs. house_of xs h) (sym all-named) ∙ get_or-map (house_at p) (scopes_of p) h d no_house lt
 
 -- ---- room for all of them

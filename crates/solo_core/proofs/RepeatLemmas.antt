@@ -1,7 +1,7 @@
 -- What a house that holds a number twice says of the grid, and what a house that does not rules out.
 use Rattle.std.proofs.Common.{◌≡◌, ℕ, suc, ◌+◌, ◌<◌, ◌≤◌, true, false, not, ◌||◌, eqb, List, [], ◌∷◌, length, get_or, slice_index, Some, sym, ap, ◌∙◌, inl, inr, arith}
 use Rattle.solo_core.specs.Common.{list_any, cases_eq, and_cases, or_cases, eqb-true, true≢false, not-false, false_from_ne_true, nat_tests, get_or-map}
-use Rattle.solo_core.specs.Common.{length-map, get_or_default, has_bit, bits-of_zero, IsGrid, Solo, IsSolo, solo_n, SoloHouse, Row, Column, Block, Diagonal}
+use Rattle.solo_core.specs.Common.{length-map, get_or_default, has_bit, bits-of_zero, IsGrid, Solo, IsSolo, solo_n, NamedHouse, Row, Column, Block, Diagonal}
 use Rattle.solo_core.specs.Common.{solo_cells, houses_of, IsHouseOf, lies_in, places_of, numbers_of, IsSoloSolution, is_solo_solution, no_repeat}
 use Rattle.grid_core.proofs.ShortSets.{contains_from_member}
 use Rattle.solo_core.specs.declared.fault.SoloFault.{SoloFault}
@@ -26,10 +26,10 @@ pub repeat_shown : (xs : List ℕ) (i j : ℕ) → i < j → j < length xs → s
 repeat_shown xs i j low within same = sym (false_from_ne_true (no_repeat xs) (λ on. different_from_no_repeat xs on i j low within same))
 
 -- the numbers of a house, one by one
-pub len_of : (p : Solo) (g : List ℕ) (house : SoloHouse) → IsSolo p → IsHouseOf p house → length (numbers_of p g house) ≡ solo_n p
+pub len_of : (p : Solo) (g : List ℕ) (house : NamedHouse) → IsSolo p → IsHouseOf p house → length (numbers_of p g house) ≡ solo_n p
 len_of p g house ok is = length-map (places_of p house) (slice_index g) ∙ (lists_house p ok house is).len
 
-pub number_at : (p : Solo) (g : List ℕ) (house : SoloHouse) (k place number : ℕ) → IsSolo p → IsHouseOf p house → k < solo_n p
+pub number_at : (p : Solo) (g : List ℕ) (house : NamedHouse) (k place number : ℕ) → IsSolo p → IsHouseOf p house → k < solo_n p
     → place ≡ slice_index (places_of p house) k → number ≡ slice_index g place → number ≡ get_or (numbers_of p g house) k 0
 number_at p g house k place number ok is lt at read =
     let len = (lists_house p ok house is).len in
@@ -67,7 +67,7 @@ seen_all xs k seen h all = sym (no_repeat_from_different xs (λ i j low within s
 
 module _ (p : Solo) (ok : IsSolo p) (g : List ℕ) where
   -- a house that holds a number twice
-  repeats_in : (house : SoloHouse) → IsHouseOf p house → no_repeat (numbers_of p g house) ≡ false → Repeats p g house
+  repeats_in : (house : NamedHouse) → IsHouseOf p house → no_repeat (numbers_of p g house) ≡ false → Repeats p g house
   repeats_in house is e =
       let w = repeat_found (numbers_of p g house) e in
       let l = lists_house p ok house is in
@@ -88,11 +88,11 @@ module _ (p : Solo) (ok : IsSolo p) (g : List ℕ) where
       )
 
   -- and one that does not
-  none_repeats : (house : SoloHouse) → IsHouseOf p house → no_repeat (numbers_of p g house) ≡ true → Repeats p g house → ⊥
+  none_repeats : (house : NamedHouse) → IsHouseOf p house → no_repeat (numbers_of p g house) ≡ true → Repeats p g house → ⊥
   none_repeats house is holds (j, k, lj, lk, ne, a, b, same) = differ_in (places_of p house) (solo_n p) (solo_cells p) (lies_in p house) (lists_house p ok house is) g holds j k lj lk ne a b same
 
-  pub first_house : (h : ℕ) (house : SoloHouse) → h < length (houses_of p) → house ≡ get_or (houses_of p) h house → no_repeat (numbers_of p g house) ≡ false
-      → ((i : ℕ) (d : SoloHouse) → i < h → no_repeat (numbers_of p g (get_or (houses_of p) i d)) ≡ true) → RepeatsFirst p g house
+  pub first_house : (h : ℕ) (house : NamedHouse) → h < length (houses_of p) → house ≡ get_or (houses_of p) h house → no_repeat (numbers_of p g house) ≡ false
+      → ((i : ℕ) (d : NamedHouse) → i < h → no_repeat (numbers_of p g (get_or (houses_of p) i d)) ≡ true) → RepeatsFirst p g house
   first_house h house lt is broken before = (
     h,
     lt,
@@ -101,13 +101,13 @@ module _ (p : Solo) (ok : IsSolo p) (g : List ℕ) where
     λ i below. none_repeats (get_or (houses_of p) i house) (all_houses p i house (omega arith)) (before i house below),
   )
 
-  pub first_fault : AllStand p g → (house : SoloHouse) → RepeatsFirst p g house → IsFirstFault p g (Some (fault_of house))
+  pub first_fault : AllStand p g → (house : NamedHouse) → RepeatsFirst p g house → IsFirstFault p g (Some (fault_of house))
   first_fault stand (Row y) first = (stand, first)
   first_fault stand (Column i) first = (stand, first)
   first_fault stand (Block b) first = (stand, first)
   first_fault stand (Diagonal d) first = (stand, first)
 
-  pub solved : IsGrid (solo_cells p) (solo_n p) g → AllStand p g → ((h : ℕ) (d : SoloHouse) → h < length (houses_of p) → no_repeat (numbers_of p g (get_or (houses_of p) h d)) ≡ true) → IsSoloSolution p g
+  pub solved : IsGrid (solo_cells p) (solo_n p) g → AllStand p g → ((h : ℕ) (d : NamedHouse) → h < length (houses_of p) → no_repeat (numbers_of p g (get_or (houses_of p) h d)) ≡ true) → IsSoloSolution p g
   solved grid stand fine = record {
     grid = grid;
     givens = stand;
@@ -115,7 +115,7 @@ module _ (p : Solo) (ok : IsSolo p) (g : List ℕ) where
   }
 
   -- a grid with a fault is no solution
-  repeats_no_solution : (house : SoloHouse) → RepeatsFirst p g house → IsSoloSolution p g → ⊥
+  repeats_no_solution : (house : NamedHouse) → RepeatsFirst p g house → IsSoloSolution p g → ⊥
   repeats_no_solution house (h, lt, is, (j, k, lj, lk, ne, a, b, same), before) s = s.different house (rw (sym is) at (all_houses p h house lt)) j k lj lk ne a b same
 
   no_solution : (fault : SoloFault) → IsFirstFault p g (Some fault) → IsSoloSolution p g → ⊥
@@ -129,9 +129,9 @@ module _ (p : Solo) (ok : IsSolo p) (g : List ℕ) where
   no_test fault grid w = sym (false_from_ne_true (is_solo_solution p g) (λ on. no_solution fault w (rule_from_test p ok g grid on)))
 
 -- one house more that repeats nothing
-pub fine_more : (p : Solo) (g : List ℕ) (k : ℕ) (house : SoloHouse) → k < length (houses_of p) → house ≡ get_or (houses_of p) k house → no_repeat (numbers_of p g house) ≡ true
-    → ((h : ℕ) (d : SoloHouse) → h < k → no_repeat (numbers_of p g (get_or (houses_of p) h d)) ≡ true)
-    → (h : ℕ) (d : SoloHouse) → h < k + 1 → no_repeat (numbers_of p g (get_or (houses_of p) h d)) ≡ true
+pub fine_more : (p : Solo) (g : List ℕ) (k : ℕ) (house : NamedHouse) → k < length (houses_of p) → house ≡ get_or (houses_of p) k house → no_repeat (numbers_of p g house) ≡ true
+    → ((h : ℕ) (d : NamedHouse) → h < k → no_repeat (numbers_of p g (get_or (houses_of p) h d)) ≡ true)
+    → (h : ℕ) (d : NamedHouse) → h < k + 1 → no_repeat (numbers_of p g (get_or (houses_of p) h d)) ≡ true
 fine_more p g k house lt is holds below h d lh = elim (cases_eq h k) [
   | inl e ↦ rw (e, get_or_default (houses_of p) k d house lt, ← is) holds
   | inr ne ↦ below h d (omega arith)

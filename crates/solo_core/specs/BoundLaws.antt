@@ -8,7 +8,7 @@ use Rattle.std.proofs.lemmas.List.Sums.{sum_by-cons, sum_by-append}
 use Rattle.solo_core.specs.Crossing.{crossing_places}
 use Rattle.solo_core.specs.HouseLaws.{lists_house, listed-same, all_houses, each_value, row_in, column_in}
 use Rattle.solo_core.specs.RuleSets.{deciding, house_by, house_at, crossings_rules, crossings_of}
-use Rattle.solo_core.specs.declared.houses.scope.SoloScope.{SoloScope}
+use Rattle.solo_core.specs.declared.houses.scope.VisitName.{VisitName}
 use Rattle.solo_core.specs.Scopes.{row_scope, column_scope}
 
 -- how many houses the puzzle has
@@ -120,7 +120,7 @@ module _ (p : Solo) (ok : IsSolo p) (b : ℕ) (b_in : b < solo_n p) where
       (same_test (y / p.c * p.c + b % p.c) b (y / p.c) (b / p.c) (λ z. sym (div-mul-add (y / p.c) p.c (b % p.c) low) ∙ ap (λ k. k / p.c) z) (λ z. ap (λ k. k * p.c + b % p.c) z ∙ whole)))
 
 -- ---- the bound with crossings
-sum_alike : (p : Solo) (f : ℕ → SoloScope) (k len : ℕ) → ((m : ℕ) → m < k → length (house_at p (f m)).places ≡ len)
+sum_alike : (p : Solo) (f : ℕ → VisitName) (k len : ℕ) → ((m : ℕ) → m < k → length (house_at p (f m)).places ≡ len)
     → sum_by (visits_of (solo_n p)) (map (house_at p) (map f (range_with_len 0 k))) ≡ k * (1 + len * solo_n p)
 sum_alike p f k len each = sum_same (visits_of (solo_n p)) (1 + len * solo_n p) (map (house_at p) (map f (range_with_len 0 k)))
     (All-map (λ house. visits_of (solo_n p) house ≡ 1 + len * solo_n p) (house_at p) (map f (range_with_len 0 k))

@@ -21,15 +21,15 @@ pub use Rattle.grid_core.proofs.CandidateLemmas.{count_below-same}
 pub use Rattle.gameid_core.specs.Puzzles.{IsSolo, Solo, solo_n}
 pub use Rattle.engine_core.specs.Sets.{IsBitsOf, has_bit}
 unfoldable pub use Rattle.engine_core.specs.Sets.{set_of_bits}
-pub use Rattle.engine_core.specs.House.{AreDifferent, Decision, IsDecided, IsMonotone, kept_in, sets_at, strikes_at}
-pub use Rattle.engine_core.specs.Houses.{House, IsSetting, IsSettled, IsSound, Keeps, Setting, by_houses, house_of, no_house, visits_of}
+pub use Rattle.engine_core.specs.HouseSets.{AreDifferent, Decision, IsDecided, IsMonotone, kept_in, sets_at, strikes_at}
+pub use Rattle.engine_core.specs.HouseRules.{House, IsSetting, IsSettled, IsSound, Keeps, Setting, by_houses, house_of, no_house, visits_of}
 pub use Rattle.engine_core.specs.Filling.{IsShownBy, Set, has_value, strikes_by_fillings}
-pub use Rattle.engine_core.specs.Puzzle.{IsBoardOf, IsLawful, IsNext, Needs, Puzzle, after, has_place}
+pub use Rattle.engine_core.specs.RuleSystem.{IsBoardOf, IsLawful, IsNext, Needs, RuleSystem, after, has_place}
 pub use Rattle.engine_core.specs.PlaceLaws.{different-filter, different-from, distinct-append, distinct-from, has_place-at, has_place-here, place-filter}
 pub use Rattle.engine_core.specs.PlaceLaws.{place-kept}
 pub use Rattle.engine_core.proofs.BitLemmas.{bits-both, bits-either, bits-of_power, bits-of_zero}
-pub use Rattle.solo_core.specs.declared.houses.house.SoloHouse.{SoloHouse}
-pub use Rattle.solo_core.specs.declared.houses.house.SoloHouse.TheVariants.{Block, Column, Diagonal, Row}
+pub use Rattle.solo_core.specs.declared.houses.house.NamedHouse.{NamedHouse}
+pub use Rattle.solo_core.specs.declared.houses.house.NamedHouse.TheVariants.{Block, Column, Diagonal, Row}
 pub use Rattle.solo_core.specs.Cells.{block_of, solo_cells}
 pub use Rattle.solo_core.specs.Houses.{IsHouseOf, house_places, houses_of, lies_in, places_of}
 unfoldable pub use Rattle.solo_core.specs.NoRepeat.{no_repeat}

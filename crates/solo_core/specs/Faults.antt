@@ -1,6 +1,6 @@
 -- The first rule of Solo that a grid breaks.
 use Rattle.std.specs.Prelude.{◌≡◌, ℕ, ◌+◌, ◌<◌, ◌≤◌, true, List, length, slice_index, slice_index_or, Option, Some, None, MatchOption}
-use Rattle.solo_core.specs.Common.{Solo, solo_cells, houses_of, lies_in, no_repeat, IsSoloSolution, numbers_of, SoloHouse, Row, Column, Block, Diagonal}
+use Rattle.solo_core.specs.Common.{Solo, solo_cells, houses_of, lies_in, no_repeat, IsSoloSolution, numbers_of, NamedHouse, Row, Column, Block, Diagonal}
 use Rattle.solo_core.specs.declared.fault.SoloFault.{SoloFault}
 use Rattle.solo_core.specs.declared.fault.SoloFault.TheVariants.{Given, Row as BadRow, Column as BadColumn, Block as BadBlock, Diagonal as BadDiagonal}
 
@@ -19,17 +19,17 @@ FallsFirst p g place =
 
 -- no house holds a number twice
 abbrev pub NoneRepeats : Solo → List ℕ → Type 0
-NoneRepeats p g = (h : ℕ) (d : SoloHouse) → h < length (houses_of p)
+NoneRepeats p g = (h : ℕ) (d : NamedHouse) → h < length (houses_of p)
     → no_repeat (numbers_of p g (slice_index_or (houses_of p) h d)) ≡ true
 
 -- two different places of the house hold the same
-abbrev pub Repeats : Solo → List ℕ → SoloHouse → Type 0
+abbrev pub Repeats : Solo → List ℕ → NamedHouse → Type 0
 Repeats p g house =
     (j : ℕ) × (k : ℕ) × (j < solo_cells p) × (k < solo_cells p) × (j ≡ k → ⊥)
     × (lies_in p house j ≡ true) × (lies_in p house k ≡ true) × (slice_index g j ≡ slice_index g k)
 
 -- it is the first house that holds a number twice
-abbrev pub RepeatsFirst : Solo → List ℕ → SoloHouse → Type 0
+abbrev pub RepeatsFirst : Solo → List ℕ → NamedHouse → Type 0
 RepeatsFirst p g house =
     (h : ℕ) × (h < length (houses_of p)) × (house ≡ slice_index_or (houses_of p) h house)
     × Repeats p g house × ((i : ℕ) → i < h → Repeats p g (slice_index_or (houses_of p) i house) → ⊥)
@@ -44,7 +44,7 @@ IsFirstFault p g (Some (BadBlock b)) = AllStand p g × RepeatsFirst p g (Block b
 IsFirstFault p g (Some (BadDiagonal d)) = AllStand p g × RepeatsFirst p g (Diagonal d)
 
 -- the fault of a house
-abbrev pub fault_of : SoloHouse → SoloFault
+abbrev pub fault_of : NamedHouse → SoloFault
 fault_of (Row y) = BadRow y
 fault_of (Column i) = BadColumn i
 fault_of (Block b) = BadBlock b
@@ -54,5 +54,5 @@ fault_of (Diagonal d) = BadDiagonal d
 abbrev pub IsFirstFallen : Solo → List ℕ → Option ℕ → Type 0
 IsFirstFallen p g place = MatchOption place (AllStand p g) (FallsFirst p g)
 
-abbrev pub IsFirstRepeating : Solo → List ℕ → Option SoloHouse → Type 0
+abbrev pub IsFirstRepeating : Solo → List ℕ → Option NamedHouse → Type 0
 IsFirstRepeating p g house = MatchOption house (NoneRepeats p g) (RepeatsFirst p g)

@@ -2,7 +2,7 @@
 use Rattle.std.proofs.Common.{◌≡◌, ℕ, ◌+◌, ◌-◌, ◌*◌, ◌/◌, ◌%◌, ◌<◌, Bool, true, false, eqb, List, [], ◌∷◌, map, length, slice_index, if◌then◌else◌, refl, sym, ap, ◌∙◌, inl, inr, arith, All, ◌↔◌, IsTrue}
 use Rattle.solo_core.specs.Common.{has_place, has_place-at, has_place-here, range_with_len, cases_lt, cases_Bool, eq-eqb, eqb-true, true≢false}
 use Rattle.solo_core.specs.Common.{false_from_ne_true, mul-add-lt, mul-le, div-mul-add, mod-mul-add, div_below, mod_below, div-add-mod', All-append, All-nil}
-use Rattle.solo_core.specs.Common.{All-cons, get_or-map-range_with_len, length-map-range_with_len, Solo, IsSolo, solo_n, AreDifferent, SoloHouse, Row, Column}
+use Rattle.solo_core.specs.Common.{All-cons, get_or-map-range_with_len, length-map-range_with_len, Solo, IsSolo, solo_n, AreDifferent, NamedHouse, Row, Column}
 use Rattle.solo_core.specs.Common.{Block, Diagonal, solo_cells, houses_of, IsHouseOf, lies_in, places_of}
 use Rattle.grid_core.specs.Regions.{block_places}
 use Rattle.grid_core.proofs.RegionLemmas.{block-within}
@@ -127,7 +127,7 @@ module _ (c r b : ℕ) (c_pos : 0 < c) (r_pos : 0 < r) (b_in : b < c * r) where
 pub some_numbers : (p : Solo) → IsSolo p → 0 < solo_n p
 some_numbers p ok = let c_low = ok.c_low in let r_low = ok.r_low in omega (arith, mul-le 1 1 p.c p.r (omega arith) (omega arith))
 
-pub lists_house : (p : Solo) → IsSolo p → (house : SoloHouse) → IsHouseOf p house → Lists (places_of p house) (solo_n p) (solo_cells p) (lies_in p house)
+pub lists_house : (p : Solo) → IsSolo p → (house : NamedHouse) → IsHouseOf p house → Lists (places_of p house) (solo_n p) (solo_cells p) (lies_in p house)
 unfolding block_at
 lists_house p ok (Row y) lt = row_lists (solo_n p) y lt
 lists_house p ok (Column i) lt = falling_lists (solo_n p) (λ y. i) (some_numbers p ok) (λ y l. lt)
@@ -148,7 +148,7 @@ all_houses p =
     (All-append (IsHouseOf p) (map Column (range_with_len 0 (solo_n p))) _ (each_value (IsHouseOf p) Column (solo_n p) (λ k lt. lt))
     (All-append (IsHouseOf p) (map Block (range_with_len 0 (solo_n p))) (diagonals p.x) (each_value (IsHouseOf p) Block (solo_n p) (λ k lt. lt)) (all_diagonals p.x refl)))
   where
-    diagonals : Bool → List SoloHouse
+    diagonals : Bool → List NamedHouse
     diagonals x = if x then Diagonal 0 ∷ Diagonal 1 ∷ [] else []
 
     all_diagonals : (x : Bool) → p.x ≡ x → All (IsHouseOf p) (diagonals x)
@@ -156,7 +156,7 @@ all_houses p =
     all_diagonals false e = All-nil (IsHouseOf p)
 
 -- what holds of each house of the list holds of each house of the puzzle
-pub each_house : (p : Solo) (P : SoloHouse → Type 0) → All P (houses_of p) → (house : SoloHouse) → IsHouseOf p house → P house
+pub each_house : (p : Solo) (P : NamedHouse → Type 0) → All P (houses_of p) → (house : NamedHouse) → IsHouseOf p house → P house
 each_house p P all (Row y) lt = of_value P Row (solo_n p) (of_first P (map Row (range_with_len 0 (solo_n p))) _ all) y lt
 each_house p P all (Column i) lt = of_value P Column (solo_n p)
     (of_first P (map Column (range_with_len 0 (solo_n p))) _ (of_rest P (map Row (range_with_len 0 (solo_n p))) _ all)) i lt

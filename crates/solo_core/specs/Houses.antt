@@ -4,26 +4,26 @@ use Rattle.std.specs.Prelude.{◌≡◌, ℕ, ◌-◌, ◌<◌, Bool, true, ◌=
 use Rattle.std.specs.List.{range_with_len}
 use Rattle.grid_core.specs.Regions.{row_places, column_places, block_places, diagonal_places}
 use Rattle.gameid_core.specs.Puzzles.{Solo, solo_n}
-use Rattle.solo_core.specs.declared.houses.house.SoloHouse.{SoloHouse}
-use Rattle.solo_core.specs.declared.houses.house.SoloHouse.TheVariants.{Row, Column, Block, Diagonal}
+use Rattle.solo_core.specs.declared.houses.house.NamedHouse.{NamedHouse}
+use Rattle.solo_core.specs.declared.houses.house.NamedHouse.TheVariants.{Row, Column, Block, Diagonal}
 use Rattle.solo_core.specs.Cells.{square, row_of, column_of, block_of}
 
 -- in the order of their numbers
-abbrev pub houses_of : Solo → List SoloHouse
+abbrev pub houses_of : Solo → List NamedHouse
 houses_of p =
     map Row (range_with_len 0 (solo_n p)) ++ (map Column (range_with_len 0 (solo_n p))
     ++ (map Block (range_with_len 0 (solo_n p))
     ++ (if p.x then Diagonal 0 ∷ Diagonal 1 ∷ [] else [])))
 
 -- the puzzle has the house
-abbrev pub IsHouseOf : Solo → SoloHouse → Type 0
+abbrev pub IsHouseOf : Solo → NamedHouse → Type 0
 IsHouseOf p (Row y) = y < solo_n p
 IsHouseOf p (Column i) = i < solo_n p
 IsHouseOf p (Block b) = b < solo_n p
 IsHouseOf p (Diagonal d) = (d < 2) × (p.x ≡ true)
 
 -- whether the place lies in the house
-abbrev pub lies_in : Solo → SoloHouse → ℕ → Bool
+abbrev pub lies_in : Solo → NamedHouse → ℕ → Bool
 lies_in p (Row y) place = row_of p place == y
 lies_in p (Column i) place = column_of p place == i
 lies_in p (Block b) place = block_of p place == b
@@ -31,7 +31,7 @@ lies_in p (Diagonal d) place =
     column_of p place == (if d == 0 then row_of p place else solo_n p - 1 - row_of p place)
 
 -- its places: of a row from the left, of a column or a diagonal from the top, of a block row by row
-abbrev pub places_of : Solo → SoloHouse → List ℕ
+abbrev pub places_of : Solo → NamedHouse → List ℕ
 places_of p (Row y) = row_places (square p) y
 places_of p (Column i) = column_places (square p) i
 places_of p (Block b) = block_places p.c p.r b

@@ -1,35 +1,35 @@
 -- What the laws say of the rules of a puzzle of Solo.
 use Rattle.std.specs.Prelude.{◌≡◌, ℕ, ◌+◌, ◌-◌, ◌*◌, ◌<◌, ◌↔◌, IsTrue, true, List, ◌++◌, length, slice_index_or}
-use Rattle.solo_core.specs.Common.{Candidates, IsGrid, Solo, solo_n, Puzzle, has_place, house_of, SoloHouse, solo_cells, houses_of, lies_in, places_of}
+use Rattle.solo_core.specs.Common.{Candidates, IsGrid, Solo, solo_n, RuleSystem, has_place, house_of, NamedHouse, solo_cells, houses_of, lies_in, places_of}
 use Rattle.solo_core.specs.Common.{IsSoloSolution}
-use Rattle.solo_core.specs.declared.houses.scope.SoloScope.{SoloScope}
-use Rattle.solo_core.specs.declared.houses.scope.SoloScope.TheVariants.{House}
+use Rattle.solo_core.specs.declared.houses.scope.VisitName.{VisitName}
+use Rattle.solo_core.specs.declared.houses.scope.VisitName.TheVariants.{House}
 use Rattle.solo_core.specs.RuleSets.{filled_houses, crossings_of, house_at}
 use Rattle.solo_core.specs.Scopes.{scopes_of}
 
 -- the grids that the rules accept are the solutions of the puzzle
-abbrev pub AcceptsSolutions : Solo → Puzzle → Type 0
+abbrev pub AcceptsSolutions : Solo → RuleSystem → Type 0
 AcceptsSolutions p rules = (g : List ℕ) → IsGrid (solo_cells p) (solo_n p) g
     → (IsTrue (rules.is_solution g)) ↔ IsSoloSolution p g
 
 -- what a house of the first rules strikes, the house of the second with its number strikes too
-abbrev pub StrikesAsMuch : Puzzle → Puzzle → Type 0
+abbrev pub StrikesAsMuch : RuleSystem → RuleSystem → Type 0
 StrikesAsMuch less more = (h : ℕ) (board : Candidates) (place value : ℕ) → h < less.houses
     → less.strikes h board place value ≡ true
     → (h < more.houses) × (more.strikes h board place value ≡ true)
 
 -- the house's list has exactly the places that lie in the house
-abbrev pub ListsItsPlaces : Solo → SoloHouse → Type 0
+abbrev pub ListsItsPlaces : Solo → NamedHouse → Type 0
 ListsItsPlaces p house = (place : ℕ) → place < solo_cells p
     → (IsTrue (has_place (places_of p house) place)) ↔ (IsTrue (lies_in p house place))
 
 -- the first scopes are the houses, and each scope is visited as its number says
 abbrev pub HousesComeFirst : Solo → Type 0
-HousesComeFirst p = (h : ℕ) (scope : SoloScope) (house : SoloHouse) → h < length (houses_of p)
+HousesComeFirst p = (h : ℕ) (scope : VisitName) (house : NamedHouse) → h < length (houses_of p)
     → slice_index_or (scopes_of p) h scope ≡ House (slice_index_or (houses_of p) h house)
 
 abbrev pub AreNamedByScopes : Solo → Type 0
-AreNamedByScopes p = (h : ℕ) (scope : SoloScope) → h < length (scopes_of p)
+AreNamedByScopes p = (h : ℕ) (scope : VisitName) → h < length (scopes_of p)
     → house_of (filled_houses p ++ crossings_of p) h
     ≡ house_at p (slice_index_or (scopes_of p) h scope)
 

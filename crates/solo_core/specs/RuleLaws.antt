@@ -2,13 +2,13 @@
 use Rattle.std.proofs.Common.{◌≡◌, ℕ, ◌+◌, ◌*◌, ◌/◌, ◌%◌, ◌<◌, Bool, true, false, ltb, List, ◌++◌, map, length, get_or, slice_index, sym, ◌∙◌, arith, All}
 use Rattle.solo_core.specs.Common.{range_with_len, and_parts, ltb-true, true≢false, nat_tests, mul-le, get_or-map, length-map, All-append, All-map, IsInside}
 use Rattle.solo_core.specs.Common.{IsWithin, single, IsGrid, Solo, IsSolo, solo_n, IsLawful, strikes_by_fillings, Decision, IsMonotone, House, IsSettled, Keeps}
-use Rattle.solo_core.specs.Common.{IsSound, IsSetting, SoloHouse, Row, Column, Block, solo_cells, houses_of, IsHouseOf, lies_in, places_of, numbers_of}
+use Rattle.solo_core.specs.Common.{IsSound, IsSetting, NamedHouse, Row, Column, Block, solo_cells, houses_of, IsHouseOf, lies_in, places_of, numbers_of}
 use Rattle.solo_core.specs.Common.{is_solo_solution, no_repeat}
 use Rattle.grid_core.proofs.GridLemmas.{single-is}
-use Rattle.engine_core.specs.HouseLaws.{by_fillings-monotone}
-use Rattle.engine_core.specs.HousesLaws.{by_houses-lawful, bound_enough, by_fillings-settles, by_fillings-keeps}
+use Rattle.engine_core.specs.HouseSetsLaws.{by_fillings-monotone}
+use Rattle.engine_core.specs.HouseRulesLaws.{by_houses-lawful, bound_enough, by_fillings-settles, by_fillings-keeps}
 use Rattle.solo_core.specs.RuleSets.{start, house_by, house_at, deciding, crossings_of, setting_of, rules_of, singles_rules, houses_rules, crossings_rules}
-use Rattle.solo_core.specs.declared.houses.scope.SoloScope.{SoloScope}
+use Rattle.solo_core.specs.declared.houses.scope.VisitName.{VisitName}
 use Rattle.solo_core.specs.Scopes.{row_scope, column_scope, crossing_scopes}
 use Rattle.solo_core.specs.HouseLaws.{Lists, lists_house, listed-within, listed-different, some_numbers, each_value, all_houses, row_in, column_in}
 use Rattle.solo_core.specs.SolutionLaws.{rule_from_test, house_of_solution}
@@ -50,23 +50,23 @@ module _ (p : Solo) (ok : IsSolo p) where
       (λ _. bound_enough (setting_of settled p houses) houses (omega arith)) (λ e. absurd (true≢false e))
 
   -- ---- houses that decide alike
-  listed : (house : SoloHouse) → IsHouseOf p house → Lists (places_of p house) (solo_n p) (solo_cells p) (lies_in p house)
+  listed : (house : NamedHouse) → IsHouseOf p house → Lists (places_of p house) (solo_n p) (solo_cells p) (lies_in p house)
   listed house is = lists_house p ok house is
 
-  inside : (house : SoloHouse) → IsHouseOf p house → (k : ℕ) → k < length (places_of p house) → slice_index (places_of p house) k < solo_cells p
+  inside : (house : NamedHouse) → IsHouseOf p house → (k : ℕ) → k < length (places_of p house) → slice_index (places_of p house) k < solo_cells p
   inside house is = listed-within (places_of p house) (solo_n p) (solo_cells p) (lies_in p house) (listed house is)
 
-  different : (house : SoloHouse) → IsHouseOf p house → (j k : ℕ) → j < length (places_of p house) → k < length (places_of p house) → slice_index (places_of p house) j ≡ slice_index (places_of p house) k → j ≡ k
+  different : (house : NamedHouse) → IsHouseOf p house → (j k : ℕ) → j < length (places_of p house) → k < length (places_of p house) → slice_index (places_of p house) j ≡ slice_index (places_of p house) k → j ≡ k
   different house is = listed-different (places_of p house) (solo_n p) (solo_cells p) (lies_in p house) (listed house is)
 
   -- the numbers of a house of a grid: n of them, below n
   numbers_small : (g : List ℕ) → IsGrid (solo_cells p) (solo_n p) g → (c : ℕ) → c < length g → slice_index g c < solo_n p
   numbers_small g grid c lt = grid.each_value c 0 lt
 
-  inside_grid : (g : List ℕ) → IsGrid (solo_cells p) (solo_n p) g → (house : SoloHouse) → IsHouseOf p house → (k : ℕ) → k < length (places_of p house) → slice_index (places_of p house) k < length g
+  inside_grid : (g : List ℕ) → IsGrid (solo_cells p) (solo_n p) g → (house : NamedHouse) → IsHouseOf p house → (k : ℕ) → k < length (places_of p house) → slice_index (places_of p house) k < length g
   inside_grid g grid house is k lt = let e = grid.each_cell in let w = inside house is k lt in omega arith
 
-  holds_each : (g : List ℕ) → IsGrid (solo_cells p) (solo_n p) g → is_solo_solution p g ≡ true → (house : SoloHouse) → IsHouseOf p house
+  holds_each : (g : List ℕ) → IsGrid (solo_cells p) (solo_n p) g → is_solo_solution p g ≡ true → (house : NamedHouse) → IsHouseOf p house
       → HoldsEach (solo_n p) g (places_of p house)
   holds_each g grid on house is = record {
     long =
@@ -82,7 +82,7 @@ module _ (p : Solo) (ok : IsSolo p) where
   alike_sound settled all decides monotone keeps settles = All-map (IsSound (setting_of settled p all)) (house_by decides p) (houses_of p) (λ k d lt.
       each (get_or (houses_of p) k d) (all_houses p k d lt))
     where
-      each : (house : SoloHouse) → IsHouseOf p house → IsSound (setting_of settled p all) (house_by decides p house)
+      each : (house : NamedHouse) → IsHouseOf p house → IsSound (setting_of settled p all) (house_by decides p house)
       each house is = record {
         within = inside house is;
         different = different house is;
@@ -96,7 +96,7 @@ module _ (p : Solo) (ok : IsSolo p) where
       }
 
   -- ---- crossings of a block and a line
-  crossing_is_sound : (all : List House) (b : ℕ) (line : SoloHouse) → b < solo_n p → IsHouseOf p line → IsSound (setting_of true p all) (crossing (places_of p (Block b)) (places_of p line))
+  crossing_is_sound : (all : List House) (b : ℕ) (line : NamedHouse) → b < solo_n p → IsHouseOf p line → IsSound (setting_of true p all) (crossing (places_of p (Block b)) (places_of p line))
   crossing_is_sound all b line b_in is = record {
     within = crossing-within (places_of p (Block b)) (places_of p line) (solo_cells p) (inside (Block b) b_in) (inside line is);
     different = crossing-different (places_of p (Block b)) (places_of p line) (different (Block b) b_in) (different line is);
@@ -108,7 +108,7 @@ module _ (p : Solo) (ok : IsSolo p) where
         (in_line_alone (length (places_of p (Block b))));
   }
 
-  abbrev scope_is_sound : List House → SoloScope → Type 0
+  abbrev scope_is_sound : List House → VisitName → Type 0
   scope_is_sound all scope = IsSound (setting_of true p all) (house_at p scope)
 
   each_crossing : (all : List House) → All (IsSound (setting_of true p all)) (crossings_of p)

@@ -1,10 +1,10 @@
 -- The rule sets of Solo. They have the same start and the same solutions; singles and houses strike differently in the
 -- same houses, and crossings have further ones.
 use Rattle.std.specs.Prelude.{◌≡◌, ℕ, ◌<◌, ◌+◌, Bool, true, false, ◌&&◌, ◌||◌, ◌==◌, nat_lt, List, ◌++◌, map, slice_index, sum_by}
-use Rattle.solo_core.specs.Common.{Candidates, Solo, solo_n, Puzzle, strikes_by_fillings, Decision, has_bit, House, Setting, by_houses, visits_of, SoloHouse}
+use Rattle.solo_core.specs.Common.{Candidates, Solo, solo_n, RuleSystem, strikes_by_fillings, Decision, has_bit, House, Setting, by_houses, visits_of, NamedHouse}
 use Rattle.solo_core.specs.Common.{Block, solo_cells, houses_of, places_of, no_repeat, is_solo_solution}
-use Rattle.solo_core.specs.declared.houses.scope.SoloScope.{SoloScope}
-use Rattle.solo_core.specs.declared.houses.scope.SoloScope.TheVariants as scope
+use Rattle.solo_core.specs.declared.houses.scope.VisitName.{VisitName}
+use Rattle.solo_core.specs.declared.houses.scope.VisitName.TheVariants as scope
 use Rattle.solo_core.specs.Crossing.{crossing, outside, is_shared}
 use Rattle.solo_core.specs.Scopes.{crossing_scopes}
 use Rattle.solo_core.specs.Singles.{strikes_by_singles}
@@ -27,11 +27,11 @@ setting_of settled p houses = record {
   is_solution = is_solo_solution p;
 }
 
-abbrev pub rules_of : Bool → Solo → List House → Puzzle
+abbrev pub rules_of : Bool → Solo → List House → RuleSystem
 rules_of settled p houses = by_houses (setting_of settled p houses) houses
 
 -- a house of the puzzle with this decision, and all of them
-abbrev pub house_by : Decision → Solo → SoloHouse → House
+abbrev pub house_by : Decision → Solo → NamedHouse → House
 house_by decides p house = record { places = places_of p house; decides = decides }
 
 abbrev pub deciding : Decision → Solo → List House
@@ -41,25 +41,25 @@ deciding decides p = map (house_by decides p) (houses_of p)
 abbrev pub single_houses : Solo → List House
 single_houses p = deciding (strikes_by_singles (solo_n p)) p
 
-abbrev pub singles_rules : Solo → Puzzle
+abbrev pub singles_rules : Solo → RuleSystem
 singles_rules p = rules_of false p (single_houses p)
 
 -- a house strikes what no filling of it without repeat allows
 abbrev pub filled_houses : Solo → List House
 filled_houses p = deciding (strikes_by_fillings no_repeat) p
 
-abbrev pub houses_rules : Solo → Puzzle
+abbrev pub houses_rules : Solo → RuleSystem
 houses_rules p = rules_of true p (filled_houses p)
 
 -- a block and a line that it meets: what they strike, and the line's places outside the block
-abbrev pub crossing_of : Solo → ℕ → SoloHouse → House
+abbrev pub crossing_of : Solo → ℕ → NamedHouse → House
 crossing_of p block line = crossing (places_of p (Block block)) (places_of p line)
 
-abbrev pub rest_of_line : Solo → ℕ → SoloHouse → List ℕ
+abbrev pub rest_of_line : Solo → ℕ → NamedHouse → List ℕ
 rest_of_line p block line = outside (places_of p (Block block)) (places_of p line)
 
 -- what is visited as a house, and by which decision
-abbrev pub house_at : Solo → SoloScope → House
+abbrev pub house_at : Solo → VisitName → House
 house_at p (scope.House house) = house_by (strikes_by_fillings no_repeat) p house
 house_at p (scope.Crossing block line) = crossing_of p block line
 
@@ -67,14 +67,14 @@ house_at p (scope.Crossing block line) = crossing_of p block line
 abbrev pub crossings_of : Solo → List House
 crossings_of p = map (house_at p) (crossing_scopes p)
 
-abbrev pub crossings_rules : Solo → Puzzle
+abbrev pub crossings_rules : Solo → RuleSystem
 crossings_rules p = rules_of true p (filled_houses p ++ crossings_of p)
 
 -- the rules by what the houses of a puzzle are
-abbrev pub rules_by : Bool → (Solo → List House) → Solo → Puzzle
+abbrev pub rules_by : Bool → (Solo → List House) → Solo → RuleSystem
 rules_by settled houses p = rules_of settled p (houses p)
 
 -- the bits are those of the block's cells that are the line's too
-abbrev pub AreShared : Solo → ℕ → SoloHouse → ℕ → Type 0
+abbrev pub AreShared : Solo → ℕ → NamedHouse → ℕ → Type 0
 AreShared p block line bits = (k : ℕ) → k < solo_n p → has_bit bits k
     ≡ is_shared (places_of p (Block block)) (places_of p line) k

@@ -5,7 +5,7 @@ use Rattle.std.specs.List.{list_all}
 use Rattle.grid_core.specs.Candidates.{all_below}
 use Rattle.grid_core.specs.Grids.{IsGrid}
 use Rattle.gameid_core.specs.Puzzles.{Solo, solo_n}
-use Rattle.solo_core.specs.declared.houses.house.SoloHouse.{SoloHouse}
+use Rattle.solo_core.specs.declared.houses.house.NamedHouse.{NamedHouse}
 use Rattle.solo_core.specs.Cells.{solo_cells}
 use Rattle.solo_core.specs.Houses.{houses_of, IsHouseOf, lies_in, places_of}
 use Rattle.solo_core.specs.NoRepeat.{no_repeat}
@@ -16,7 +16,7 @@ pub record IsSoloSolution (p : Solo) (g : List ℕ) : Type 0 where
   pub givens : (place : ℕ) → place < solo_cells p → 1 ≤ slice_index p.givens place
       → slice_index g place + 1 ≡ slice_index p.givens place
   -- different places of one house hold different numbers
-  pub different : (house : SoloHouse) → IsHouseOf p house
+  pub different : (house : NamedHouse) → IsHouseOf p house
       → (j k : ℕ) → j < solo_cells p → k < solo_cells p → (j ≡ k → ⊥)
       → lies_in p house j ≡ true → lies_in p house k ≡ true → slice_index g j ≡ slice_index g k → ⊥
 
@@ -25,7 +25,7 @@ abbrev pub given_stands : Solo → List ℕ → ℕ → Bool
 given_stands p g place =
     (slice_index p.givens place == 0) || (slice_index g place + 1 == slice_index p.givens place)
 
-abbrev pub numbers_of : Solo → List ℕ → SoloHouse → List ℕ
+abbrev pub numbers_of : Solo → List ℕ → NamedHouse → List ℕ
 numbers_of p g house = map (slice_index g) (places_of p house)
 
 unfoldable pub is_solo_solution : Solo → List ℕ → Bool

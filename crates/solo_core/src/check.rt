@@ -7,7 +7,7 @@ ghost use Rattle.solo_core.specs.Common.{is_solo_solution, no_repeat};
 ghost use Rattle.solo_core.specs.Faults.{IsFirstFallen, IsFirstRepeating, IsFirstFault, fault_of as fault_of_house};
 
 use crate::fault::SoloFault;
-use crate::houses::house::SoloHouse;
+use crate::houses::house::NamedHouse;
 use crate::houses::places::{cells, house, houses, place};
 use crate::visits::bits::with_bit;
 use engine_core::has_bit;
@@ -63,7 +63,7 @@ fn broken_given(puzzle: &SoloPuzzle, grid: &Grid) -> Option<usize>
 }
 
 /// The first house that holds a number twice.
-fn repeating_house(puzzle: &SoloPuzzle, grid: &Grid) -> Option<SoloHouse>
+fn repeating_house(puzzle: &SoloPuzzle, grid: &Grid) -> Option<NamedHouse>
     requires fits { IsGrid (solo_cells puzzle.now) (solo_n puzzle.now) grid.now }
     ensures lawful { IsSolo puzzle.now }
     ensures first { IsFirstRepeating puzzle.now grid.now result }
@@ -78,7 +78,7 @@ fn repeating_house(puzzle: &SoloPuzzle, grid: &Grid) -> Option<SoloHouse>
 }
 
 /// Whether the house holds no number twice.
-fn holds_each_once(puzzle: &SoloPuzzle, grid: &Grid, house: SoloHouse) -> bool
+fn holds_each_once(puzzle: &SoloPuzzle, grid: &Grid, house: NamedHouse) -> bool
     requires fits { IsGrid (solo_cells puzzle.now) (solo_n puzzle.now) grid.now }
     requires house_of { IsHouseOf puzzle.now house }
     ensures { result ≡ no_repeat (numbers_of puzzle.now grid.now house) }
@@ -95,13 +95,13 @@ fn holds_each_once(puzzle: &SoloPuzzle, grid: &Grid, house: SoloHouse) -> bool
 }
 
 /// The fault of a house.
-fn fault_of(house: SoloHouse) -> SoloFault
+fn fault_of(house: NamedHouse) -> SoloFault
     ensures { result ≡ fault_of_house house }
 {
     match house {
-        SoloHouse::Row(y) => SoloFault::Row(y),
-        SoloHouse::Column(i) => SoloFault::Column(i),
-        SoloHouse::Block(b) => SoloFault::Block(b),
-        SoloHouse::Diagonal(d) => SoloFault::Diagonal(d),
+        NamedHouse::Row(y) => SoloFault::Row(y),
+        NamedHouse::Column(i) => SoloFault::Column(i),
+        NamedHouse::Block(b) => SoloFault::Block(b),
+        NamedHouse::Diagonal(d) => SoloFault::Diagonal(d),
     }
 }

@@ -2,7 +2,7 @@
 #![tactic(auto, using(crate::proofs::LawSets::laws_laws))]
 
 ghost use Rattle.std.specs.Prelude.{◌≡◌, ◌+◌, ◌*◌, length, if◌then◌else◌};
-ghost use Rattle.solo_core.specs.Common.{Solo, IsSolo, solo_n, IsLawful, SoloHouse, houses_of};
+ghost use Rattle.solo_core.specs.Common.{Solo, IsSolo, solo_n, IsLawful, NamedHouse, houses_of};
 ghost use Rattle.solo_core.specs.Common.{IsHouseOf};
 ghost use Rattle.solo_core.specs.Meanings.{AcceptsSolutions, StrikesAsMuch, ListsItsPlaces, HousesComeFirst, AreNamedByScopes, house_visits, all_visits};
 ghost use Rattle.solo_core.specs.RuleSets.{houses_rules, singles_rules, crossings_rules};
@@ -14,17 +14,17 @@ use engine_core::Rules;
 
 /// What the rules by singles mean: those of the puzzle that they keep.
 pub fn rules_of_singles(rules: &SoloSingles)
-    ensures { ⟦<SoloRules<Singles> as Rules>⟧.puzzle rules.now ≡ singles_rules rules.now.puzzle }
+    ensures { ⟦<SoloRules<Singles> as Rules>⟧.system rules.now ≡ singles_rules rules.now.puzzle }
 {}
 
 /// What the rules by fillings of houses mean.
 pub fn rules_of_houses(rules: &SoloHouses)
-    ensures { ⟦<SoloRules<Fillings> as Rules>⟧.puzzle rules.now ≡ houses_rules rules.now.puzzle }
+    ensures { ⟦<SoloRules<Fillings> as Rules>⟧.system rules.now ≡ houses_rules rules.now.puzzle }
 {}
 
 /// What the rules by houses and crossings mean.
 pub fn rules_of_crossings(rules: &SoloCrossings)
-    ensures { ⟦<SoloRules<Crossings> as Rules>⟧.puzzle rules.now
+    ensures { ⟦<SoloRules<Crossings> as Rules>⟧.system rules.now
         ≡ crossings_rules rules.now.puzzle }
 {}
 
@@ -55,7 +55,7 @@ pub fn bounds_are()
 /// the rules speak.
 pub fn houses_are_lines_and_blocks()
     ensures { (p : Solo) → IsSolo p
-        → (h : SoloHouse) → IsHouseOf p h → ListsItsPlaces p h }
+        → (h : NamedHouse) → IsHouseOf p h → ListsItsPlaces p h }
 {}
 
 /// What each number names: the rule sets of singles and of houses visit the puzzle's houses, and that of crossings all

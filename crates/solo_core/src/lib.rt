@@ -12,9 +12,9 @@ mod visits;
 
 pub use check::check_solo;
 pub use fault::SoloFault;
-pub use houses::house::SoloHouse;
-pub use houses::scope::SoloScope;
-pub use houses::scopes::scope_of;
+pub use houses::house::NamedHouse;
+pub use houses::scope::VisitName;
+pub use houses::scopes::visit_name;
 pub use laws::{
     accepted_are_solutions, bounds_are, crossings_strike_what_houses_strike,
     houses_are_lines_and_blocks, houses_strike_what_singles_strike, rules_are_lawful,

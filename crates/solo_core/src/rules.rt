@@ -14,7 +14,7 @@ use crate::houses::places::cells;
 use crate::start::write_start;
 use crate::strikes::{Crossings, Fillings, Singles, Strikes};
 use engine_core::{
-    Houses, Mode, Propagators, Rules, Searchable, TrailPosition, apply, gather, mark,
+    HouseTable, Mode, Propagators, Rules, Searchable, TrailPosition, apply, gather, enqueue,
 };
 use gameid_core::SoloPuzzle;
 use grid_core::{Board, Grid};
@@ -25,7 +25,7 @@ use std::marker::PhantomData;
 #[derive(Drop)]
 pub struct SoloRules<S: Strikes> {
     puzzle: SoloPuzzle,
-    table: Houses,
+    table: HouseTable,
     by: PhantomData<S>,
     ghost is_solo: { IsSolo puzzle } by { Prim.hlevel props },
     ghost listed: { table ≡ table_of puzzle (S.houses puzzle) },
@@ -57,12 +57,12 @@ impl<S: Strikes> SoloRules<S> {
     pub fn new(alloc: Global, puzzle: &SoloPuzzle) -> Result<SoloRules<S>, AllocError>
         ensures copied { IfOk result (λ rules. rules.puzzle ≡ puzzle.now) }
         ensures lawful { IsSolo puzzle.now }
-        ensures rules { IfOk result (λ r. ⟦<SoloRules<S> as Rules>⟧.puzzle r
+        ensures rules { IfOk result (λ r. ⟦<SoloRules<S> as Rules>⟧.system r
             ≡ rules_by S.SETTLED S.houses puzzle.now) }
     {
         let puzzle = puzzle.copy(alloc)?;
         let list = S::list(alloc, &puzzle)?;
-        let table = Houses::of(alloc, cells(&puzzle), list)?;
+        let table = HouseTable::of(alloc, cells(&puzzle), list)?;
         Ok(SoloRules {
             puzzle,
             table,
@@ -111,7 +111,7 @@ impl<S: Strikes> Rules for SoloRules<S> {
 
     const MODE: Mode = Mode::Queue;
 
-    ghost puzzle = { λ r. rules_of S.SETTLED r.puzzle (S.houses r.puzzle) };
+    ghost system = { λ r. rules_of S.SETTLED r.puzzle (S.houses r.puzzle) };
 
     ghost SETTLED = { S.SETTLED };
 
@@ -223,7 +223,7 @@ impl<S: Strikes> Propagators for SoloRules<S> {
     fn wake(&self, place: usize, _counts: &(), waits: &mut [u64]) {
         let houses = self.table.houses_at(place);
         for k in 0..houses.len() {
-            mark(waits, houses[k] as usize);
+            enqueue(waits, houses[k] as usize);
         }
     }
 }

@@ -24,7 +24,7 @@ use gameid_core::{Game, IdFault, Printed, SoloPuzzle, read_size, read_solo, writ
 use grid_core::Grid;
 use maker_core::{Made, make_solo};
 use solo_core::{
-    SoloCrossings, SoloFault, SoloHouse, SoloHouses, SoloScope, SoloSingles, check_solo, scope_of,
+    SoloCrossings, SoloFault, NamedHouse, SoloHouses, VisitName, SoloSingles, check_solo, visit_name,
 };
 use std::alloc::{AllocError, Global};
 
@@ -134,27 +134,27 @@ fn tell_by_crossings<O: Sink>(
 const HOUSE: usize = 29;
 
 /// Adds the name of a house: its kind, and its number among those.
-fn push_house(text: &mut String, house: SoloHouse) -> Result<(), AllocError>
+fn push_house(text: &mut String, house: NamedHouse) -> Result<(), AllocError>
     ensures name { OnOk result (string_bytes text.new ≡ string_bytes text.old ++ house_text house) }
     ensures short { OnOk result (string_len text.new ≤ string_len text.old + HOUSE) }
 {
     match house {
-        SoloHouse::Row(y) => push_numbered(text, "row ", y),
-        SoloHouse::Column(x) => push_numbered(text, "column ", x),
-        SoloHouse::Block(b) => push_numbered(text, "block ", b),
-        SoloHouse::Diagonal(d) => push_numbered(text, "diagonal ", d),
+        NamedHouse::Row(y) => push_numbered(text, "row ", y),
+        NamedHouse::Column(x) => push_numbered(text, "column ", x),
+        NamedHouse::Block(b) => push_numbered(text, "block ", b),
+        NamedHouse::Diagonal(d) => push_numbered(text, "diagonal ", d),
     }
 }
 
 /// Adds the name of a house, or those of a block and of a line that it meets.
-fn push_scope(text: &mut String, scope: SoloScope) -> Result<(), AllocError>
+fn push_scope(text: &mut String, scope: VisitName) -> Result<(), AllocError>
     ensures name { OnOk result (string_bytes text.new ≡ string_bytes text.old ++ scope_text scope) }
     ensures short { OnOk result (string_len text.new ≤ string_len text.old + NAME) }
 {
     match scope {
-        SoloScope::House(house) => push_house(text, house),
-        SoloScope::Crossing { block, line } => {
-            push_house(text, SoloHouse::Block(block))?;
+        VisitName::House(house) => push_house(text, house),
+        VisitName::Crossing { block, line } => {
+            push_house(text, NamedHouse::Block(block))?;
             text.push_str(" ")?;
             push_house(text, line)
         }
@@ -167,7 +167,7 @@ impl Named for SoloPuzzle {
     ghost name_of = { solo_name };
 
     fn push_name(&self, number: usize, text: &mut String) -> Result<(), AllocError> {
-        push_scope(text, scope_of(self, number))
+        push_scope(text, visit_name(self, number))
     }
 
     ghost by_visits = { λ p rules lines told. told };

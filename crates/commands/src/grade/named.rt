@@ -1,6 +1,6 @@
 //! The names of what a closing visits.
 ghost use Rattle.std.specs.Prelude.{◌≡◌, ◌++◌, ◌+◌, ◌<◌, ◌≤◌, ℕ, OnOk, string_bytes, string_len};
-ghost use Rattle.commands.specs.Common.{Puzzle};
+ghost use Rattle.commands.specs.Common.{RuleSystem};
 ghost use Rattle.commands.specs.Answers.{Text};
 ghost use Rattle.commands.specs.Traces.{TellsVisits};
 
@@ -30,6 +30,6 @@ pub trait Named: Played {
         ensures short { OnOk result (string_len text.new ≤ string_len text.old + NAME) };
 
     // The names of what a closing visits are what the game tells of it.
-    ghost by_visits: { (p : Self) (rules : Puzzle) (lines : Text)
+    ghost by_visits: { (p : Self) (rules : RuleSystem) (lines : Text)
         → TellsVisits (name_of p) rules lines → Self.game.tells p rules lines };
 }

@@ -11,9 +11,9 @@ use std::alloc::{AllocError, Global};
 
 /// Whether the rules alone settle their puzzle: it has exactly one solution then.
 pub fn settles<R: Searchable>(store: &mut Store<R>, rules: &R) -> bool
-    requires { FitsIn (needs_of (R.puzzle rules.now)) store.old.made }
-    ensures settled { result ≡ is_settled (R.puzzle rules.now) }
-    ensures one { result ≡ true → HasOneSolution (Solves (R.puzzle rules.now)) }
+    requires { FitsIn (needs_of (R.system rules.now)) store.old.made }
+    ensures settled { result ≡ is_settled (R.system rules.now) }
+    ensures one { result ≡ true → HasOneSolution (Solves (R.system rules.now)) }
     ensures made { store.new.made ≡ store.old.made }
 {
     store.settles(rules)
@@ -21,9 +21,9 @@ pub fn settles<R: Searchable>(store: &mut Store<R>, rules: &R) -> bool
 
 /// The grade of a puzzle by a search.
 fn searched<R: Searchable>(store: &mut Store<R>, rules: &R, budget: u64) -> Grade
-    requires { FitsIn (needs_of (R.puzzle rules.now)) store.old.made }
-    ensures grade { result ≡ searched_grade (R.puzzle rules.now) budget }
-    ensures right { IsRightGrade (Solves (R.puzzle rules.now)) result }
+    requires { FitsIn (needs_of (R.system rules.now)) store.old.made }
+    ensures grade { result ≡ searched_grade (R.system rules.now) budget }
+    ensures right { IsRightGrade (Solves (R.system rules.now)) result }
     ensures made { store.new.made ≡ store.old.made }
 {
     match store.solve(rules, budget) {
@@ -38,7 +38,7 @@ fn searched<R: Searchable>(store: &mut Store<R>, rules: &R, budget: u64) -> Grad
 fn search_grade<P: Solvable>(alloc: Global, puzzle: &P, budget: u64) -> Result<Grade, AllocError>
 where
     P::Search: Searchable,
-    requires means { (rules : P.Search) → P.Search.puzzle rules ≡ P.meaning rules }
+    requires means { (rules : P.Search) → P.Search.system rules ≡ P.meaning rules }
     ensures grade { IfOk result (λ grade. grade ≡ searched_grade (P.game.rules puzzle.now) budget) }
     ensures right { IfOk result (λ grade. IsRightGrade (P.game.solves puzzle.now) grade) }
 {
@@ -57,12 +57,12 @@ impl Attempt {
     ) -> Result<Grade, AllocError>
     where
         P::Search: Searchable,
-        requires means { (rules : P.Search) → P.Search.puzzle rules ≡ P.meaning rules }
-        requires fits { FitsIn (needs_of (R.puzzle rules.now)) store.old.made }
+        requires means { (rules : P.Search) → P.Search.system rules ≡ P.meaning rules }
+        requires fits { FitsIn (needs_of (R.system rules.now)) store.old.made }
         requires accepted { (g : List ℕ)
-            → Solves (R.puzzle rules.now) g ↔ P.game.solves puzzle.now g }
+            → Solves (R.system rules.now) g ↔ P.game.solves puzzle.now g }
         ensures grade { IfOk result
-            (λ grade. grade ≡ grade_after P.game puzzle.now self (R.puzzle rules.now)) }
+            (λ grade. grade ≡ grade_after P.game puzzle.now self (R.system rules.now)) }
         ensures right { IfOk result (λ grade. IsRightGrade (P.game.solves puzzle.now) grade) }
         ensures made { store.new.made ≡ store.old.made }
     {

@@ -1,6 +1,6 @@
 //! Puzzles that can be searched: the rules that a search goes by, and the solutions by the game.
 ghost use Rattle.std.specs.Prelude.{◌≡◌, ◌*◌, ◌↔◌, List, ℕ, IfOk};
-ghost use Rattle.commands.specs.Common.{Puzzle, Solves};
+ghost use Rattle.commands.specs.Common.{RuleSystem, Solves};
 
 use crate::played::Played;
 use std::alloc::{AllocError, Global};
@@ -11,7 +11,7 @@ pub trait Solvable: Played {
     type Search: Drop;
 
     // What those rules mean.
-    ghost meaning: { Self.Search → Puzzle };
+    ghost meaning: { Self.Search → RuleSystem };
 
     /// The rules of a search. The grids that they accept are the solutions by the game.
     ///

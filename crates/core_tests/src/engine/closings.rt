@@ -2,7 +2,7 @@
 
 ghost use Rattle.std.specs.Prelude.{◌≡◌, ◌<◌, ◌≤◌};
 ghost use Rattle.grid_core.specs.Board.{cells_of};
-ghost use Rattle.engine_core.specs.Puzzle.{FitsIn, needs_of};
+ghost use Rattle.engine_core.specs.RuleSystem.{FitsIn, needs_of};
 
 use super::neighbours::Neighbours;
 use super::swept::Swept;
@@ -92,9 +92,9 @@ fn closes_as<R: Searchable>(
     values: u8,
     queue: bool,
 ) -> bool
-    requires fits { FitsIn (needs_of (R.puzzle rules.now)) store.old.made }
-    requires cells { (R.puzzle rules.now).cells ≡ 5 }
-    requires values { (R.puzzle rules.now).values ≡ values }
+    requires fits { FitsIn (needs_of (R.system rules.now)) store.old.made }
+    requires cells { (R.system rules.now).cells ≡ 5 }
+    requires values { (R.system rules.now).values ≡ values }
     requires few { values ≤ 3 }
     ensures { store.new.made ≡ store.old.made }
 {
@@ -117,8 +117,8 @@ fn closes_anew<R: Searchable>(
     values: u8,
     queue: bool,
 ) -> Result<(bool, bool), AllocError>
-    requires cells { (R.puzzle rules.now).cells ≡ 5 }
-    requires values { (R.puzzle rules.now).values ≡ values }
+    requires cells { (R.system rules.now).cells ≡ 5 }
+    requires values { (R.system rules.now).values ≡ values }
     requires few { values ≤ 3 }
 {
     let mut store = Store::new(alloc, rules)?;

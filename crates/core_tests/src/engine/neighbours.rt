@@ -4,7 +4,7 @@ ghost use Rattle.std.specs.Prelude.{◌≡◌, ◌+◌, ◌<◌, ◌≤◌, ◌&
 ghost use Rattle.grid_core.specs.Candidates.{any_below};
 ghost use Rattle.engine_core.specs.Filling.{strikes_by_fillings};
 ghost use Rattle.engine_core.specs.Sets.{has_bit as is_set, IsBitsOf};
-ghost use Rattle.engine_core.specs.House.{IsDecided};
+ghost use Rattle.engine_core.specs.HouseSets.{IsDecided};
 ghost use Rattle.core_tests.specs.Neighbours.{neighbours, differ};
 ghost use Rattle.engine_core.specs.declared.mode.Mode.TheVariants.{Queue};
 
@@ -77,7 +77,7 @@ impl Rules for Neighbours {
 
     const MODE: Mode = Mode::Queue;
 
-    ghost puzzle = { λ r. neighbours true r.cells r.values r.first r.last };
+    ghost system = { λ r. neighbours true r.cells r.values r.first r.last };
 
     ghost SETTLED = { true };
 

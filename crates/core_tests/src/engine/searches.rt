@@ -1,7 +1,7 @@
 //! Searches of the tests' rules, in both modes, with several budgets.
 
 ghost use Rattle.std.specs.Prelude.{◌≡◌};
-ghost use Rattle.engine_core.specs.Puzzle.{FitsIn, needs_of};
+ghost use Rattle.engine_core.specs.RuleSystem.{FitsIn, needs_of};
 
 use super::neighbours::Neighbours;
 use super::swept::Swept;
@@ -51,7 +51,7 @@ fn gives<R: Searchable>(
     budget: u64,
     wanted: (Verdict, u64, usize),
 ) -> bool
-    requires { FitsIn (needs_of (R.puzzle rules.now)) store.old.made }
+    requires { FitsIn (needs_of (R.system rules.now)) store.old.made }
     ensures { store.new.made ≡ store.old.made }
 {
     let (verdict, trials, deepest) = wanted;

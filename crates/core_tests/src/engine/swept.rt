@@ -24,7 +24,7 @@ impl Rules for Swept {
 
     const MODE: Mode = Mode::Sweep;
 
-    ghost puzzle = { λ r. neighbours false r.row.cells r.row.values r.row.first r.row.last };
+    ghost system = { λ r. neighbours false r.row.cells r.row.values r.row.first r.row.last };
 
     ghost SETTLED = { true };
 

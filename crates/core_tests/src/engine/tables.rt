@@ -2,7 +2,7 @@
 
 ghost use Rattle.std.specs.Prelude.{◌≡◌, ◌∷◌, [], IfOk};
 
-use engine_core::{HouseList, Houses};
+use engine_core::{HouseList, HouseTable};
 use std::alloc::{AllocError, Global};
 use std::test::Fail;
 
@@ -14,11 +14,11 @@ fn three_houses(alloc: Global) -> Result<HouseList, AllocError>
     let mut list = HouseList::new(alloc, 3, 4)?;
     list.push(0)?;
     list.push(2)?;
-    list.close()?;
+    list.end()?;
     list.push(2)?;
     list.push(1)?;
-    list.close()?;
-    list.close()?;
+    list.end()?;
+    list.end()?;
     Ok(list)
 }
 
@@ -30,14 +30,14 @@ fn list_numbers(alloc: Global) -> Result<(usize, usize), AllocError> {
 
 /// How many cells and houses a table of the list has, their cells in all, and those of the longest.
 fn table_numbers(alloc: Global) -> Result<[usize; 4], AllocError> {
-    let table = Houses::of(alloc, 3, three_houses(alloc)?)?;
+    let table = HouseTable::of(alloc, 3, three_houses(alloc)?)?;
     Ok([table.cells(), table.len(), table.total(), table.longest()])
 }
 
 /// How many cells its houses 1 and 2 have and how many houses cell 2; and the first houses of cell 2 from 0, from 1 and from
 /// 2 on, and that of cell 0 from 1 on.
 fn table_lists(alloc: Global) -> Result<([usize; 3], [Option<usize>; 4]), AllocError> {
-    let table = Houses::of(alloc, 3, three_houses(alloc)?)?;
+    let table = HouseTable::of(alloc, 3, three_houses(alloc)?)?;
     let lens = [
         table.places(1).len(),
         table.places(2).len(),
@@ -68,7 +68,7 @@ fn fourth_house(alloc: Global) -> Result<Option<([usize; 2], [u32; 3])>, AllocEr
     list.push_list(0)?;
     list.push_others(1, 2)?;
     let begun = list.begun();
-    list.close()?;
+    list.end()?;
     let places = list.places(3);
     if places.len() != 3 {
         return Ok(None);

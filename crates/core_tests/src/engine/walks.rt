@@ -1,6 +1,6 @@
 //! Searches of the tests' rules beside the walk as it is defined: a recursion over boards, each a copy of its own.
 
-ghost use Rattle.engine_core.specs.Puzzle.{FitsIn, needs_of};
+ghost use Rattle.engine_core.specs.RuleSystem.{FitsIn, needs_of};
 
 use super::neighbours::Neighbours;
 use super::swept::Swept;
@@ -213,7 +213,7 @@ fn goes_as_the_walk<R: Searchable>(
     numbers: [usize; 4],
     budget: u64,
 ) -> bool
-    requires { FitsIn (needs_of (R.puzzle rules.now)) store.old.made }
+    requires { FitsIn (needs_of (R.system rules.now)) store.old.made }
 {
     let [cells, values, first, last] = numbers;
     let verdict = store.solve(rules, budget);

@@ -2,7 +2,7 @@
 
 ghost use Rattle.std.specs.Prelude.{◌≡◌, ◌<◌};
 ghost use Rattle.grid_core.specs.Board.{SameShape, cells_of};
-ghost use Rattle.engine_core.specs.Puzzle.{IsBoardOf};
+ghost use Rattle.engine_core.specs.RuleSystem.{IsBoardOf};
 ghost use Rattle.pattern_core.specs.LineRules.{line_rules};
 
 use super::one_row;

@@ -7,7 +7,7 @@ ghost use Rattle.grid_core.specs.Candidates.{is_full, grid_of};
 ghost use Rattle.engine_core.specs.ClosingList.{IsClosing};
 ghost use Rattle.engine_core.specs.Mode.{is_queue};
 ghost use Rattle.engine_core.specs.Needs.{needs_in};
-ghost use Rattle.engine_core.specs.Puzzle.{needs_of, FitsIn, IsBoardOf};
+ghost use Rattle.engine_core.specs.RuleSystem.{needs_of, FitsIn, IsBoardOf};
 ghost use Rattle.engine_core.specs.Closer.{IsVisited, SameRoom};
 
 use crate::closing::marking::mark_changed;
@@ -16,7 +16,7 @@ use crate::mode::Closing;
 use crate::needs::{Needed, needs};
 use crate::rules::{Rules, by_queue};
 use crate::trail::cells::write_grid;
-use crate::waits::{unmark, unmark_if, words_for};
+use crate::waits::{dequeue, dequeue_if, words_for};
 use grid_core::{Board, Grid};
 use std::alloc::{AllocError, Global};
 use std::marker::Model;
@@ -85,7 +85,7 @@ impl<R: Rules> Closer<R> {
     ///
     /// When memory was refused.
     pub(crate) fn new(alloc: Global, rules: &R) -> Result<Closer<R>, AllocError>
-        ensures { IfOk result (λ closer. closer.made ≡ needs_of (R.puzzle rules.now)) }
+        ensures { IfOk result (λ closer. closer.made ≡ needs_of (R.system rules.now)) }
     {
         let made = needs(rules);
         let trace = if by_queue::<R>() { made.bound } else { 0 };
@@ -125,8 +125,8 @@ impl<R: Rules> Closer<R> {
 
     /// Begins with the board that a search starts from.
     pub(crate) fn start(&mut self, rules: &R)
-        requires fits { FitsIn (needs_of (R.puzzle rules.now)) self.old.made }
-        ensures start { has self.new.board ≡ (R.puzzle rules.now).start }
+        requires fits { FitsIn (needs_of (R.system rules.now)) self.old.made }
+        ensures start { has self.new.board ≡ (R.system rules.now).start }
         ensures room { SameRoom self.old self.new }
     {
         rules.start(&mut self.board); // whatever it held
@@ -134,8 +134,8 @@ impl<R: Rules> Closer<R> {
 
     /// Begins with this board.
     pub(crate) fn copy(&mut self, rules: &R, board: &Board)
-        requires fits { FitsIn (needs_of (R.puzzle rules.now)) self.old.made }
-        requires board_of { IsBoardOf (R.puzzle rules.now) board.now }
+        requires fits { FitsIn (needs_of (R.system rules.now)) self.old.made }
+        requires board_of { IsBoardOf (R.system rules.now) board.now }
         ensures board { self.new.board ≡ board.now }
         ensures room { SameRoom self.old self.new }
     {
@@ -144,13 +144,13 @@ impl<R: Rules> Closer<R> {
 
     /// Visits the house, and marks the houses of each cell that lost a value in place of the house.
     pub(crate) fn step(&mut self, rules: &R, house: usize) -> Effect
-        requires fits { FitsIn (needs_of (R.puzzle rules.now)) self.old.made }
-        requires house_in { house < (R.puzzle rules.now).houses }
-        ensures visited { IsVisited (R.puzzle rules.now) house self.old self.new result }
+        requires fits { FitsIn (needs_of (R.system rules.now)) self.old.made }
+        requires house_in { house < (R.system rules.now).houses }
+        ensures visited { IsVisited (R.system rules.now) house self.old self.new result }
         ensures room { SameRoom self.old self.new }
         ensures trace { self.new.trace ≡ self.old.trace }
     {
-        unmark(&mut self.waits, house);
+        dequeue(&mut self.waits, house);
         read_head(rules, house, &self.board, &mut self.sets);
         if !rules.visit(house, &mut self.board, &mut self.scratch) {
             return Effect {
@@ -161,14 +161,14 @@ impl<R: Rules> Closer<R> {
         let sets = &self.sets[..rules.scope_len(house)];
         let waits: &mut [u64] = &mut self.waits;
         let dead = mark_changed(rules, house, sets, &self.board, waits);
-        unmark_if(waits, house, R::SETTLED);
+        dequeue_if(waits, house, R::SETTLED);
         Effect { struck: true, dead }
     }
 
     /// Closes the board: at first each house waits.
     pub(crate) fn close(&mut self, rules: &R) -> Closed
-        requires fits { FitsIn (needs_of (R.puzzle rules.now)) self.old.made }
-        ensures closing { IsClosing (R.puzzle rules.now) (has self.old.board) (has self.new.board)
+        requires fits { FitsIn (needs_of (R.system rules.now)) self.old.made }
+        ensures closing { IsClosing (R.system rules.now) (has self.old.board) (has self.new.board)
             result.closing (take result.visits self.new.trace) result.sweeps }
         ensures visits { result.visits ≤ length self.new.trace }
         ensures room { SameRoom self.old self.new }
@@ -190,13 +190,13 @@ impl<R: Rules> Closer<R> {
 
     /// Whether the grid of the full board is a solution. It is written to `grid`.
     pub(crate) fn accept(&mut self, rules: &R, grid: &mut Grid) -> bool
-        requires fits { FitsIn (needs_of (R.puzzle rules.now)) self.old.made }
-        requires full { is_full (R.puzzle rules.now).cells (R.puzzle rules.now).values
+        requires fits { FitsIn (needs_of (R.system rules.now)) self.old.made }
+        requires full { is_full (R.system rules.now).cells (R.system rules.now).values
             (has self.old.board) ≡ true }
-        requires long { length grid.old ≡ (R.puzzle rules.now).cells }
-        ensures solution { result ≡ (R.puzzle rules.now).is_solution
-            (grid_of (R.puzzle rules.now).cells (R.puzzle rules.now).values (has self.old.board)) }
-        ensures long { length grid.new ≡ (R.puzzle rules.now).cells }
+        requires long { length grid.old ≡ (R.system rules.now).cells }
+        ensures solution { result ≡ (R.system rules.now).is_solution
+            (grid_of (R.system rules.now).cells (R.system rules.now).values (has self.old.board)) }
+        ensures long { length grid.new ≡ (R.system rules.now).cells }
         ensures same { self.new ≡ self.old }
     {
         write_grid(&self.board, rules.cells(), grid);

@@ -4,21 +4,21 @@ ghost use Rattle.std.specs.Prelude.{◌≡◌, ◌<◌, ◌≤◌, length};
 ghost use Rattle.grid_core.specs.Board.{has};
 ghost use Rattle.grid_core.specs.Candidates.{Candidates, IsInside};
 ghost use Rattle.engine_core.specs.Keeping.{AreSetsOf};
-ghost use Rattle.engine_core.specs.Puzzle.{has_place, IsBoardOf};
+ghost use Rattle.engine_core.specs.RuleSystem.{has_place, IsBoardOf};
 ghost use Rattle.engine_core.specs.Queue.{called_for, are_emptied};
 ghost use Rattle.engine_core.specs.Waiting.{words_of, is_waiting, AreCalled};
 
 use crate::houses::sets::cell_bits;
 use crate::rules::Rules;
-use crate::waits::mark;
+use crate::waits::enqueue;
 use grid_core::Board;
 
 /// Marks the houses that have the place.
 pub(crate) fn mark_at<R: Rules>(rules: &R, place: usize, waits: &mut [u64])
-    requires place_in { place < (R.puzzle rules.now).cells }
-    requires room { words_of (R.puzzle rules.now).houses ≤ length waits.old }
-    ensures { (K : Candidates) → AreCalled (R.puzzle rules.now) K
-        (λ j. has_place ((R.puzzle rules.now).scope j) place)
+    requires place_in { place < (R.system rules.now).cells }
+    requires room { words_of (R.system rules.now).houses ≤ length waits.old }
+    ensures { (K : Candidates) → AreCalled (R.system rules.now) K
+        (λ j. has_place ((R.system rules.now).scope j) place)
         (is_waiting waits.old) (is_waiting waits.new) }
 {
     let mut from = 0;
@@ -26,7 +26,7 @@ pub(crate) fn mark_at<R: Rules>(rules: &R, place: usize, waits: &mut [u64])
         let Some(house) = rules.house_at(place, from) else {
             return;
         };
-        mark(waits, house);
+        enqueue(waits, house);
         from = house + 1;
     }
 }
@@ -40,18 +40,18 @@ pub(crate) fn mark_changed<R: Rules>(
     board: &Board,
     waits: &mut [u64],
 ) -> bool
-    requires house_in { house < (R.puzzle rules.now).houses }
-    requires board_of { IsBoardOf (R.puzzle rules.now) board.now }
-    requires long { length sets.now ≡ length ((R.puzzle rules.now).scope house) }
-    requires room { words_of (R.puzzle rules.now).houses ≤ length waits.old }
-    ensures called { (K : Candidates) → AreSetsOf (R.puzzle rules.now) house K sets.now
+    requires house_in { house < (R.system rules.now).houses }
+    requires board_of { IsBoardOf (R.system rules.now) board.now }
+    requires long { length sets.now ≡ length ((R.system rules.now).scope house) }
+    requires room { words_of (R.system rules.now).houses ≤ length waits.old }
+    ensures called { (K : Candidates) → AreSetsOf (R.system rules.now) house K sets.now
         → IsInside (has board.now) K
-        → AreCalled (R.puzzle rules.now) (has board.now)
-        (called_for (R.puzzle rules.now) house K (has board.now))
+        → AreCalled (R.system rules.now) (has board.now)
+        (called_for (R.system rules.now) house K (has board.now))
         (is_waiting waits.old) (is_waiting waits.new) }
-    ensures dead { (K : Candidates) → AreSetsOf (R.puzzle rules.now) house K sets.now
+    ensures dead { (K : Candidates) → AreSetsOf (R.system rules.now) house K sets.now
         → IsInside (has board.now) K
-        → result ≡ are_emptied (R.puzzle rules.now) house K (has board.now) }
+        → result ≡ are_emptied (R.system rules.now) house K (has board.now) }
 {
     let mut dead = false;
     for k in 0..sets.len() {

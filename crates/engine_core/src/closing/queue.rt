@@ -3,7 +3,7 @@
 ghost use Rattle.std.specs.Prelude.{◌≡◌, ◌≤◌, length, take, true};
 ghost use Rattle.grid_core.specs.Board.{has};
 ghost use Rattle.engine_core.specs.ClosingList.{IsAlive, IsClosing};
-ghost use Rattle.engine_core.specs.Puzzle.{needs_of, FitsIn, IsBoardOf};
+ghost use Rattle.engine_core.specs.RuleSystem.{needs_of, FitsIn, IsBoardOf};
 ghost use Rattle.engine_core.specs.Queue.{IsRested};
 ghost use Rattle.engine_core.specs.Waiting.{is_waiting};
 ghost use Rattle.engine_core.specs.Closer.{SameRoom};
@@ -17,13 +17,13 @@ impl<R: Rules> Closer<R> {
     /// Closes the board: visits the houses that wait until none waits or a cell has no value. After each it goes on with
     /// the next one, and after the last begins again. It writes down each house that it visits.
     pub(crate) fn run_queue(&mut self, rules: &R) -> Closed
-        requires fits { FitsIn (needs_of (R.puzzle rules.now)) self.old.made }
-        requires queue { (R.puzzle rules.now).by_queue ≡ true }
-        requires board_of { IsBoardOf (R.puzzle rules.now) self.old.board }
-        requires alive { IsAlive (R.puzzle rules.now) (has self.old.board) }
-        requires rested { IsRested (R.puzzle rules.now) (has self.old.board)
+        requires fits { FitsIn (needs_of (R.system rules.now)) self.old.made }
+        requires queue { (R.system rules.now).by_queue ≡ true }
+        requires board_of { IsBoardOf (R.system rules.now) self.old.board }
+        requires alive { IsAlive (R.system rules.now) (has self.old.board) }
+        requires rested { IsRested (R.system rules.now) (has self.old.board)
             (is_waiting self.old.waits) }
-        ensures closing { IsClosing (R.puzzle rules.now) (has self.old.board) (has self.new.board)
+        ensures closing { IsClosing (R.system rules.now) (has self.old.board) (has self.new.board)
             result.closing (take result.visits self.new.trace) result.sweeps }
         ensures visits { result.visits ≤ length self.new.trace }
         ensures room { SameRoom self.old self.new }

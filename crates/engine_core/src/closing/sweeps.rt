@@ -4,7 +4,7 @@
 ghost use Rattle.std.specs.Prelude.{◌≡◌, false, []};
 ghost use Rattle.grid_core.specs.Board.{has};
 ghost use Rattle.engine_core.specs.ClosingList.{IsAlive, IsClosing};
-ghost use Rattle.engine_core.specs.Puzzle.{needs_of, FitsIn, IsBoardOf};
+ghost use Rattle.engine_core.specs.RuleSystem.{needs_of, FitsIn, IsBoardOf};
 ghost use Rattle.engine_core.specs.Queue.{IsRested};
 ghost use Rattle.engine_core.specs.Waiting.{is_waiting};
 ghost use Rattle.engine_core.specs.Closer.{IsWholeSweep, SameRoom};
@@ -17,12 +17,12 @@ use crate::waits::next_waiting;
 impl<R: Rules> Closer<R> {
     /// Sweeps over the houses once.
     fn sweep(&mut self, rules: &R) -> Effect
-        requires fits { FitsIn (needs_of (R.puzzle rules.now)) self.old.made }
-        requires board_of { IsBoardOf (R.puzzle rules.now) self.old.board }
-        requires alive { IsAlive (R.puzzle rules.now) (has self.old.board) }
-        requires rested { IsRested (R.puzzle rules.now) (has self.old.board)
+        requires fits { FitsIn (needs_of (R.system rules.now)) self.old.made }
+        requires board_of { IsBoardOf (R.system rules.now) self.old.board }
+        requires alive { IsAlive (R.system rules.now) (has self.old.board) }
+        requires rested { IsRested (R.system rules.now) (has self.old.board)
             (is_waiting self.old.waits) }
-        ensures swept { IsWholeSweep (R.puzzle rules.now) (has self.old.board) (has self.new.board)
+        ensures swept { IsWholeSweep (R.system rules.now) (has self.old.board) (has self.new.board)
             (is_waiting self.new.waits) result }
         ensures room { SameRoom self.old self.new }
         ensures trace { self.new.trace ≡ self.old.trace }
@@ -42,13 +42,13 @@ impl<R: Rules> Closer<R> {
     /// Closes the board: sweeps until nothing is struck or a cell has no value. The sweeps that strike something count, and
     /// one if there is none.
     pub(crate) fn run_sweeps(&mut self, rules: &R) -> Closed
-        requires fits { FitsIn (needs_of (R.puzzle rules.now)) self.old.made }
-        requires sweeps { (R.puzzle rules.now).by_queue ≡ false }
-        requires board_of { IsBoardOf (R.puzzle rules.now) self.old.board }
-        requires alive { IsAlive (R.puzzle rules.now) (has self.old.board) }
-        requires rested { IsRested (R.puzzle rules.now) (has self.old.board)
+        requires fits { FitsIn (needs_of (R.system rules.now)) self.old.made }
+        requires sweeps { (R.system rules.now).by_queue ≡ false }
+        requires board_of { IsBoardOf (R.system rules.now) self.old.board }
+        requires alive { IsAlive (R.system rules.now) (has self.old.board) }
+        requires rested { IsRested (R.system rules.now) (has self.old.board)
             (is_waiting self.old.waits) }
-        ensures closing { IsClosing (R.puzzle rules.now) (has self.old.board) (has self.new.board)
+        ensures closing { IsClosing (R.system rules.now) (has self.old.board) (has self.new.board)
             result.closing [] result.sweeps }
         ensures visits { result.visits ≡ 0 }
         ensures room { SameRoom self.old self.new }

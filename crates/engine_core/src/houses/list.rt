@@ -99,7 +99,7 @@ impl HouseList {
     /// # Errors
     ///
     /// When memory was refused.
-    pub fn close(&mut self) -> Result<(), AllocError>
+    pub fn end(&mut self) -> Result<(), AllocError>
         requires { FitsLists self.old 1 }
         ensures { OnOk result (self.new
             ≡ record { closed = self.old.closed ++ self.old.begun ∷ []; begun = [] }) }

@@ -3,8 +3,8 @@
 
 ghost use Rattle.std.specs.Prelude.{◌≡◌, ℕ, suc, ◌+◌, ◌<◌, ◌≤◌, ◌^◌, ◌==◌, IfOk, count_by, length, sum_by, slice_index};
 ghost use Rattle.grid_core.specs.Candidates.{sum_below};
-ghost use Rattle.engine_core.specs.Puzzle.{has_place, IsNext, longest};
-ghost use Rattle.engine_core.specs.House.{AreDifferent};
+ghost use Rattle.engine_core.specs.RuleSystem.{has_place, IsNext, longest};
+ghost use Rattle.engine_core.specs.HouseSets.{AreDifferent};
 ghost use Rattle.engine_core.specs.HouseIndex.{AreScopes, scope_of, start_at, AreHousesAt, IsIndex, IsRoom, IsPut, IsFirstFrom, AreAt, number_in, IsUnfilled, houses_from, sum_to};
 
 use crate::houses::list::{HouseList, part};
@@ -121,14 +121,14 @@ fn first_from(houses: &[u32], from: usize) -> Option<usize>
 /// The houses of a board of `cells` cells, and for each place those that have it: these stand in one list, place by
 /// place, in four bytes each. `starts` says for each place where its houses start.
 #[derive(Drop)]
-pub struct Houses {
+pub struct HouseTable {
     cells: usize,
     list: HouseList,
     starts: Vec<u32>,
     houses: Vec<u32>,
 }
 
-impl Model for Houses {
+impl Model for HouseTable {
     ghost use Rattle.std.specs.Prelude.{◌+◌};
     ghost use Rattle.engine_core.specs.HouseIndex.{Table, IsIndex};
 
@@ -139,13 +139,13 @@ impl Model for Houses {
     ghost invariant = { λ t. IsIndex (t.cells + 1) t.list.closed 0 t.starts.items t.houses.items };
 }
 
-impl Houses {
+impl HouseTable {
     /// The table of the lists that are closed.
     ///
     /// # Errors
     ///
     /// When memory was refused.
-    pub fn of(alloc: Global, cells: usize, list: HouseList) -> Result<Houses, AllocError>
+    pub fn of(alloc: Global, cells: usize, list: HouseList) -> Result<HouseTable, AllocError>
         requires cells { cells < 2 ^ 32 }
         requires scopes { AreScopes cells list.closed }
         ensures { IfOk result (λ table. table ≡ record { cells = cells; scopes = list.closed }) }
@@ -154,7 +154,7 @@ impl Houses {
         let all = write_ends(&mut starts, &list);
         let mut houses = vec![in alloc; 0u32; all as usize]?;
         put_houses(&mut starts, &mut houses, &list);
-        Ok(Houses {
+        Ok(HouseTable {
             cells,
             list,
             starts,

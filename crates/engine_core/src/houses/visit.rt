@@ -6,9 +6,9 @@ ghost use Rattle.std.specs.Prelude.{◌≡◌, ℕ, ◌<◌, ◌≤◌, ◌==◌
 ghost use Rattle.grid_core.specs.Board.{has, cells_of, SameShape};
 ghost use Rattle.engine_core.specs.Closing.{HasStruck};
 ghost use Rattle.engine_core.specs.Keeping.{AreSetsOf};
-ghost use Rattle.engine_core.specs.Puzzle.{IsBoardOf};
+ghost use Rattle.engine_core.specs.RuleSystem.{IsBoardOf};
 ghost use Rattle.engine_core.specs.Sets.{has_bit as is_set, set_of_bits, IsBitsOf};
-ghost use Rattle.engine_core.specs.House.{sets_at, kept_in};
+ghost use Rattle.engine_core.specs.HouseSets.{sets_at, kept_in};
 
 use crate::houses::sets::cell_bits;
 use crate::rules::Rules;
@@ -16,10 +16,10 @@ use grid_core::Board;
 
 /// Writes down the sets of the house's cells as bits, in the order of its scope.
 pub(crate) fn read_sets<R: Rules>(rules: &R, house: usize, board: &Board, sets: &mut [u32])
-    requires house_in { house < (R.puzzle rules.now).houses }
-    requires board_of { IsBoardOf (R.puzzle rules.now) board.now }
-    requires room { length sets.old ≡ length ((R.puzzle rules.now).scope house) }
-    ensures { AreSetsOf (R.puzzle rules.now) house (has board.now) sets.new }
+    requires house_in { house < (R.system rules.now).houses }
+    requires board_of { IsBoardOf (R.system rules.now) board.now }
+    requires room { length sets.old ≡ length ((R.system rules.now).scope house) }
+    ensures { AreSetsOf (R.system rules.now) house (has board.now) sets.new }
 {
     for k in 0..sets.len() {
         sets[k] = cell_bits(board, rules.scope(house, k));
@@ -28,11 +28,11 @@ pub(crate) fn read_sets<R: Rules>(rules: &R, house: usize, board: &Board, sets: 
 
 /// The same at the head of a longer list.
 pub(crate) fn read_head<R: Rules>(rules: &R, house: usize, board: &Board, sets: &mut [u32])
-    requires house_in { house < (R.puzzle rules.now).houses }
-    requires board_of { IsBoardOf (R.puzzle rules.now) board.now }
-    requires room { length ((R.puzzle rules.now).scope house) ≤ length sets.old }
-    ensures { AreSetsOf (R.puzzle rules.now) house (has board.now)
-        (take (length ((R.puzzle rules.now).scope house)) sets.new) }
+    requires house_in { house < (R.system rules.now).houses }
+    requires board_of { IsBoardOf (R.system rules.now) board.now }
+    requires room { length ((R.system rules.now).scope house) ≤ length sets.old }
+    ensures { AreSetsOf (R.system rules.now) house (has board.now)
+        (take (length ((R.system rules.now).scope house)) sets.new) }
 {
     read_sets(rules, house, board, &mut sets[..rules.scope_len(house)]);
 }

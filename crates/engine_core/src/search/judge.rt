@@ -35,14 +35,14 @@ pub(crate) fn judge<P: Position>(
     grids: &mut Grids,
 ) -> Judged
     requires walks { P.walks rules.now position.old }
-    requires alive { IsAlive (P.puzzle rules.now) (P.stands position.old).board }
-    requires from_in { at.from ≤ (P.puzzle rules.now).cells }
-    requires none { pick at.from (P.puzzle rules.now).values (P.stands position.old).board
+    requires alive { IsAlive (P.system rules.now) (P.stands position.old).board }
+    requires from_in { at.from ≤ (P.system rules.now).cells }
+    requires none { pick at.from (P.system rules.now).values (P.stands position.old).board
         ≡ None }
-    requires long { AreGrids (P.puzzle rules.now).cells grids.old }
-    ensures judged { Judges (P.puzzle rules.now) (P.stands position.old).board
+    requires long { AreGrids (P.system rules.now).cells grids.old }
+    ensures judged { Judges (P.system rules.now) (P.stands position.old).board
         (written at.found grids.new) result }
-    ensures long { AreGrids (P.puzzle rules.now).cells grids.new }
+    ensures long { AreGrids (P.system rules.now).cells grids.new }
     ensures kept { at.found ≡ true → grids.new.first ≡ grids.old.first }
     ensures same { P.stands position.new ≡ P.stands position.old }
     ensures walks { P.walks rules.now position.new }

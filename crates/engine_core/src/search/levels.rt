@@ -54,11 +54,11 @@ impl Levels {
         position: &mut P,
     ) -> Option<usize>
         requires walks { P.walks rules.now position.old }
-        requires ready { AreReady (P.puzzle rules.now) (P.stands position.old) self.old }
+        requires ready { AreReady (P.system rules.now) (P.stands position.old) self.old }
         requires deep { 0 < self.old.depth }
-        ensures turn { IsTurn (P.puzzle rules.now) (P.stands position.old) self.old
+        ensures turn { IsTurn (P.system rules.now) (P.stands position.old) self.old
             (P.stands position.new) self.new result }
-        ensures ready { AreReady (P.puzzle rules.now) (P.stands position.new) self.new }
+        ensures ready { AreReady (P.system rules.now) (P.stands position.new) self.new }
         ensures depth { self.new.depth ≡ self.old.depth }
         ensures frames { length self.new.frames.items ≡ length self.old.frames.items }
         ensures walks { P.walks rules.now position.new }

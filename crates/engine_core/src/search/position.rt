@@ -2,7 +2,7 @@
 
 ghost use Rattle.std.specs.Prelude.{◌≡◌, ℕ, ◌*◌, ◌<◌, ◌≤◌, IfOk, true, None, length};
 ghost use Rattle.grid_core.specs.Candidates.{IsWithin, count_below, grid_of, is_full, only, pick};
-ghost use Rattle.engine_core.specs.Puzzle.{Puzzle, IsLawful, IsNext, Needs, needs_of, FitsIn};
+ghost use Rattle.engine_core.specs.RuleSystem.{RuleSystem, IsLawful, IsNext, Needs, needs_of, FitsIn};
 ghost use Rattle.engine_core.specs.Queue.{IsClosedBut};
 ghost use Rattle.engine_core.specs.Counts.{IsClosedIn};
 ghost use Rattle.engine_core.specs.Position.{Standing, IsOnward, IsMarked, IsReturned, IsTaken};
@@ -25,7 +25,7 @@ pub trait Position: Drop + Sized {
     type Game;
 
     /// What the game means.
-    ghost puzzle: { Self.Game → Puzzle };
+    ghost system: { Self.Game → RuleSystem };
 
     /// The board, and the boards that the marks give back.
     ghost stands: { Self → Standing };
@@ -42,7 +42,7 @@ pub trait Position: Drop + Sized {
     ///
     /// When memory was refused.
     fn new(alloc: Global, rules: &Self::Game) -> Result<Self, AllocError>
-        ensures { IfOk result (λ position. room position ≡ needs_of (puzzle rules.now)) };
+        ensures { IfOk result (λ position. room position ≡ needs_of (system rules.now)) };
 
     /// How many changes of cells can be taken back.
     fn changes(&self) -> usize
@@ -50,12 +50,12 @@ pub trait Position: Drop + Sized {
 
     /// How many values a full set has.
     fn values(&self, rules: &Self::Game) -> u8
-        ensures { result ≡ (puzzle rules.now).values };
+        ensures { result ≡ (system rules.now).values };
 
     /// Begins with the board that a search starts from. No level has a mark.
     fn begin(&mut self, rules: &Self::Game)
-        requires { FitsIn (needs_of (puzzle rules.now)) (room self.old) }
-        ensures start { (stands self.new).board ≡ (puzzle rules.now).start }
+        requires { FitsIn (needs_of (system rules.now)) (room self.old) }
+        ensures start { (stands self.new).board ≡ (system rules.now).start }
         ensures walks { walks rules.now self.new }
         ensures room { room self.new ≡ room self.old };
 
@@ -63,10 +63,10 @@ pub trait Position: Drop + Sized {
     /// board was closed before that place's cell lost all values but one.
     fn close(&mut self, rules: &Self::Game, from: Option<usize>) -> Taken
         requires walks { walks rules.now self.old }
-        requires closed_but { IsClosedBut (puzzle rules.now) (stands self.old).board from }
-        ensures taken { IsTaken (puzzle rules.now) (stands self.old).board
+        requires closed_but { IsClosedBut (system rules.now) (stands self.old).board from }
+        ensures taken { IsTaken (system rules.now) (stands self.old).board
             (stands self.new).board result.closing }
-        ensures turns { IsClosedIn (puzzle rules.now) (stands self.old).board result.turns }
+        ensures turns { IsClosedIn (system rules.now) (stands self.old).board result.turns }
         ensures onward { IsOnward (stands self.old) (stands self.new) }
         ensures walks { walks rules.now self.new }
         ensures room { room self.new ≡ room self.old };
@@ -74,25 +74,25 @@ pub trait Position: Drop + Sized {
     /// The cell to branch on, where none before `from` is one.
     fn pick(&self, rules: &Self::Game, from: usize) -> Option<usize>
         requires walks { walks rules.now self.now }
-        requires from_in { from ≤ (puzzle rules.now).cells }
-        requires none { pick from (puzzle rules.now).values (stands self.now).board ≡ None }
+        requires from_in { from ≤ (system rules.now).cells }
+        requires none { pick from (system rules.now).values (stands self.now).board ≡ None }
         ensures { result
-            ≡ pick (puzzle rules.now).cells (puzzle rules.now).values (stands self.now).board };
+            ≡ pick (system rules.now).cells (system rules.now).values (stands self.now).board };
 
     /// The least value at or after `from` that the cell has.
     fn next_value(&self, rules: &Self::Game, cell: usize, from: u8) -> Option<u8>
         requires walks { walks rules.now self.now }
-        requires cell_in { cell < (puzzle rules.now).cells }
-        ensures { IsNext ((stands self.now).board cell) (puzzle rules.now).values from result };
+        requires cell_in { cell < (system rules.now).cells }
+        ensures { IsNext ((stands self.now).board cell) (system rules.now).values from result };
 
     /// Leaves that value alone in the cell, which has several.
     fn leave(&mut self, rules: &Self::Game, cell: usize, value: u8)
         requires walks { walks rules.now self.old }
-        requires cell_in { cell < (puzzle rules.now).cells }
-        requires value_in { value < (puzzle rules.now).values }
+        requires cell_in { cell < (system rules.now).cells }
+        requires value_in { value < (system rules.now).values }
         requires there { (stands self.old).board cell value ≡ true }
         requires several { 2
-            ≤ count_below ((stands self.old).board cell) (puzzle rules.now).values }
+            ≤ count_below ((stands self.old).board cell) (system rules.now).values }
         ensures left { (stands self.new).board ≡ only (stands self.old).board cell value }
         ensures onward { IsOnward (stands self.old) (stands self.new) }
         ensures walks { walks rules.now self.new }
@@ -101,7 +101,7 @@ pub trait Position: Drop + Sized {
     /// Marks the board for this level. The levels outside it have marks; those inside lose theirs.
     fn mark(&mut self, rules: &Self::Game, level: usize)
         requires walks { walks rules.now self.old }
-        requires level_in { level < (puzzle rules.now).cells }
+        requires level_in { level < (system rules.now).cells }
         requires outer { level ≤ (stands self.old).marks }
         ensures marked { IsMarked (stands self.old) (stands self.new) level }
         ensures walks { walks rules.now self.new }
@@ -118,22 +118,22 @@ pub trait Position: Drop + Sized {
     /// Writes down the grid of the full board, and says whether it is a solution.
     fn accept(&mut self, rules: &Self::Game, grid: &mut Grid) -> bool
         requires walks { walks rules.now self.old }
-        requires full { is_full (puzzle rules.now).cells (puzzle rules.now).values
+        requires full { is_full (system rules.now).cells (system rules.now).values
             (stands self.old).board ≡ true }
-        requires long { length grid.old ≡ (puzzle rules.now).cells }
+        requires long { length grid.old ≡ (system rules.now).cells }
         ensures grid { grid.new
-            ≡ grid_of (puzzle rules.now).cells (puzzle rules.now).values
+            ≡ grid_of (system rules.now).cells (system rules.now).values
             (stands self.old).board }
-        ensures long { length grid.new ≡ (puzzle rules.now).cells }
-        ensures solution { result ≡ (puzzle rules.now).is_solution grid.new }
+        ensures long { length grid.new ≡ (system rules.now).cells }
+        ensures solution { result ≡ (system rules.now).is_solution grid.new }
         ensures same { stands self.new ≡ stands self.old }
         ensures walks { walks rules.now self.new }
         ensures room { room self.new ≡ room self.old };
 
     /// The game keeps to what every search relies on.
-    ghost lawful: { (rules : Self.Game) → IsLawful (puzzle rules) };
+    ghost lawful: { (rules : Self.Game) → IsLawful (system rules) };
 
     /// The board has no more cells and values than the game.
     ghost within: { (rules : Self.Game) (position : Self) → walks rules position
-        → IsWithin (puzzle rules).cells (puzzle rules).values (stands position).board };
+        → IsWithin (system rules).cells (system rules).values (stands position).board };
 }

@@ -3,7 +3,7 @@
 
 ghost use Rattle.std.specs.Prelude.{max, ◌≡◌, ◌+◌, ◌<◌, ◌≤◌, ◌^◌, length, false, [], None};
 ghost use Rattle.grid_core.specs.Candidates.{pick};
-ghost use Rattle.engine_core.specs.Puzzle.{needs_of, FitsIn};
+ghost use Rattle.engine_core.specs.RuleSystem.{needs_of, FitsIn};
 ghost use Rattle.engine_core.specs.Queue.{IsClosedBut};
 ghost use Rattle.engine_core.specs.Frames.{AreReady, singles, AreGrids, CountsClosing, SameMarks, searched_at, Searches, IsWalked};
 
@@ -56,22 +56,22 @@ fn descend<P: Position>(
     at: Progress,
 ) -> Progress
     requires walks { P.walks rules.now position.old }
-    requires closed_but { IsClosedBut (P.puzzle rules.now) (P.stands position.old).board at.changed }
-    requires from_in { at.from ≤ (P.puzzle rules.now).cells }
-    requires none { pick at.from (P.puzzle rules.now).values (P.stands position.old).board ≡ None }
-    requires ready { AreReady (P.puzzle rules.now) (P.stands position.old) levels.old }
-    requires single { levels.old.depth ≤ singles (P.puzzle rules.now) (P.stands position.old).board }
-    requires long { AreGrids (P.puzzle rules.now).cells grids.old }
+    requires closed_but { IsClosedBut (P.system rules.now) (P.stands position.old).board at.changed }
+    requires from_in { at.from ≤ (P.system rules.now).cells }
+    requires none { pick at.from (P.system rules.now).values (P.stands position.old).board ≡ None }
+    requires ready { AreReady (P.system rules.now) (P.stands position.old) levels.old }
+    requires single { levels.old.depth ≤ singles (P.system rules.now) (P.stands position.old).board }
+    requires long { AreGrids (P.system rules.now).cells grids.old }
     requires going { at.has_second ≡ false }
     requires turns_room { at.turns + 2 ^ 64 ≤ 2 ^ 128 }
-    ensures turned { CountsClosing (P.puzzle rules.now) (P.stands position.old).board at.turns
+    ensures turned { CountsClosing (P.system rules.now) (P.stands position.old).board at.turns
         result.turns }
     ensures budget { result.budget ≡ at.budget }
     ensures deepest { result.deepest ≡ at.deepest }
-    ensures marks { SameMarks (P.puzzle rules.now) (P.stands position.old) levels.old at grids.old
+    ensures marks { SameMarks (P.system rules.now) (P.stands position.old) levels.old at grids.old
         (P.stands position.new) levels.new result grids.new }
-    ensures ready { AreReady (P.puzzle rules.now) (P.stands position.new) levels.new }
-    ensures long { AreGrids (P.puzzle rules.now).cells grids.new }
+    ensures ready { AreReady (P.system rules.now) (P.stands position.new) levels.new }
+    ensures long { AreGrids (P.system rules.now).cells grids.new }
     ensures deeper { levels.new.depth ≤ levels.old.depth + 1 }
     ensures frames { length levels.new.frames.items ≡ length levels.old.frames.items }
     ensures walks { P.walks rules.now position.new }
@@ -129,15 +129,15 @@ fn search<P: Position>(
     from: Progress,
 ) -> Searched
     requires walks { P.walks rules.now position.old }
-    requires ready { AreReady (P.puzzle rules.now) (P.stands position.old) levels.old }
-    requires long { AreGrids (P.puzzle rules.now).cells grids.old }
+    requires ready { AreReady (P.system rules.now) (P.stands position.old) levels.old }
+    requires long { AreGrids (P.system rules.now).cells grids.old }
     requires going { from.has_second ≡ false }
     requires turns_room { from.turns < 2 ^ 64 }
-    ensures searched { Searches (P.puzzle rules.now) (P.stands position.old) levels.old grids.old from
+    ensures searched { Searches (P.system rules.now) (P.stands position.old) levels.old grids.old from
         result grids.new }
     ensures trials { result.trials ≤ from.budget }
-    ensures few { result.deepest ≤ max from.deepest (P.puzzle rules.now).cells }
-    ensures long { AreGrids (P.puzzle rules.now).cells grids.new }
+    ensures few { result.deepest ≤ max from.deepest (P.system rules.now).cells }
+    ensures long { AreGrids (P.system rules.now).cells grids.new }
     ensures frames { length levels.new.frames.items ≡ length levels.old.frames.items }
     ensures room { P.room position.new ≡ P.room position.old }
 {
@@ -176,13 +176,13 @@ pub(crate) fn walk_board<P: Position>(
     grids: &mut Grids,
     budget: u64,
 ) -> Searched
-    requires fits { FitsIn (needs_of (P.puzzle rules.now)) (P.room position.old) }
-    requires frames_room { (P.puzzle rules.now).cells ≤ length levels.old.frames.items }
-    requires long { AreGrids (P.puzzle rules.now).cells grids.old }
-    ensures walked { IsWalked (P.puzzle rules.now) budget (P.puzzle rules.now).start result
+    requires fits { FitsIn (needs_of (P.system rules.now)) (P.room position.old) }
+    requires frames_room { (P.system rules.now).cells ≤ length levels.old.frames.items }
+    requires long { AreGrids (P.system rules.now).cells grids.old }
+    ensures walked { IsWalked (P.system rules.now) budget (P.system rules.now).start result
         grids.new }
-    ensures few { result.deepest ≤ (P.puzzle rules.now).cells }
-    ensures long { AreGrids (P.puzzle rules.now).cells grids.new }
+    ensures few { result.deepest ≤ (P.system rules.now).cells }
+    ensures long { AreGrids (P.system rules.now).cells grids.new }
     ensures frames { length levels.new.frames.items ≡ length levels.old.frames.items }
     ensures room { P.room position.new ≡ P.room position.old }
 {

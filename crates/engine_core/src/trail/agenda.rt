@@ -3,25 +3,25 @@
 ghost use Rattle.std.specs.Prelude.{◌≡◌, ◌<◌, ◌≤◌, length, IfSome};
 ghost use Rattle.grid_core.specs.Board.{has};
 ghost use Rattle.grid_core.specs.Candidates.{Candidates};
-ghost use Rattle.engine_core.specs.Puzzle.{IsBoardOf};
+ghost use Rattle.engine_core.specs.RuleSystem.{IsBoardOf};
 ghost use Rattle.engine_core.specs.Trail.{is_since};
 ghost use Rattle.engine_core.specs.Waiting.{words_of, is_waiting, AreCalled};
 ghost use Rattle.engine_core.specs.TrailPosition.{AllAreCalled, WaitsFrom};
 
 use crate::trail::propagators::Propagators;
 use crate::trail::trailed::Trailed;
-use crate::waits::mark;
+use crate::waits::enqueue;
 
 /// Marks all houses, but for those that strike nothing.
 fn mark_all<R: Propagators>(rules: &R, counts: &R::Counts, waits: &mut [u64])
-    requires waits_room { words_of (R.puzzle rules.now).houses ≤ length waits.old }
+    requires waits_room { words_of (R.system rules.now).houses ≤ length waits.old }
     requires follows { (K : Candidates) × R.follows rules.now counts.now K }
-    ensures { AllAreCalled (R.puzzle rules.now) (R.follows rules.now) counts.now
+    ensures { AllAreCalled (R.system rules.now) (R.follows rules.now) counts.now
         waits.old waits.new }
 {
     for house in 0..rules.houses() {
         if rules.may_strike(house, counts) {
-            mark(waits, house);
+            enqueue(waits, house);
         }
     }
 }
@@ -34,10 +34,10 @@ pub(crate) fn wait_from<R: Propagators>(
     counts: &R::Counts,
     waits: &mut [u64],
 )
-    requires place_in { IfSome from (λ place. place < (R.puzzle rules.now).cells) }
-    requires waits_room { words_of (R.puzzle rules.now).houses ≤ length waits.old }
+    requires place_in { IfSome from (λ place. place < (R.system rules.now).cells) }
+    requires waits_room { words_of (R.system rules.now).houses ≤ length waits.old }
     requires follows { (K : Candidates) × R.follows rules.now counts.now K }
-    ensures called { WaitsFrom (R.puzzle rules.now) (R.follows rules.now) counts.now
+    ensures called { WaitsFrom (R.system rules.now) (R.follows rules.now) counts.now
         from waits.new }
 {
     waits.fill(0);
@@ -55,12 +55,12 @@ pub(crate) fn wake_since<R: Propagators>(
     counts: &R::Counts,
     waits: &mut [u64],
 )
-    requires board_of { IsBoardOf (R.puzzle rules.now) trailed.now.board }
+    requires board_of { IsBoardOf (R.system rules.now) trailed.now.board }
     requires follows { R.follows rules.now counts.now (has trailed.now.board) }
     requires from_in { from ≤ trailed.now.len }
-    requires room { words_of (R.puzzle rules.now).houses ≤ length waits.old }
-    ensures called { AreCalled (R.puzzle rules.now) (has trailed.now.board)
-        (is_since (R.puzzle rules.now) trailed.now from trailed.now.len)
+    requires room { words_of (R.system rules.now).houses ≤ length waits.old }
+    ensures called { AreCalled (R.system rules.now) (has trailed.now.board)
+        (is_since (R.system rules.now) trailed.now from trailed.now.len)
         (is_waiting waits.old) (is_waiting waits.new) }
 {
     for number in from..trailed.mark() {

@@ -4,7 +4,7 @@
 ghost use Rattle.std.specs.Prelude.{◌≡◌, ◌<◌, ◌≤◌, length, true, false, None, IfSome};
 ghost use Rattle.grid_core.specs.Board.{has, cells_of};
 ghost use Rattle.grid_core.specs.Candidates.{count_below, is_full, grid_of, pick, better};
-ghost use Rattle.engine_core.specs.Puzzle.{IsNext};
+ghost use Rattle.engine_core.specs.RuleSystem.{IsNext};
 ghost use Rattle.engine_core.specs.Queue.{is_board_dead};
 
 use crate::houses::sets::cell_bits;

@@ -112,13 +112,13 @@ impl<R: Propagators> Model for TrailPosition<R> {
 impl<R: Propagators> Position for TrailPosition<R> {
     type Game = R;
 
-    ghost puzzle = { R.puzzle };
+    ghost system = { R.system };
 
     ghost stands = { λ s. standing_of s };
 
     ghost room = { λ s. s.made };
 
-    ghost walks = { λ rules s. IsUnderWay (R.puzzle rules) (R.follows rules) s };
+    ghost walks = { λ rules s. IsUnderWay (R.system rules) (R.follows rules) s };
 
     fn new(alloc: Global, rules: &R) -> Result<TrailPosition<R>, AllocError> {
         let made = needs(rules);
@@ -197,6 +197,6 @@ impl<R: Propagators> Position for TrailPosition<R> {
 
     ghost lawful = { R.lawful };
 
-    ghost within = { λ rules s walks. within_of (R.puzzle rules) s.trail.board
+    ghost within = { λ rules s walks. within_of (R.system rules) s.trail.board
         walks.along.board_of };
 }

@@ -4,7 +4,7 @@
 ghost use Rattle.std.specs.Prelude.{◌≡◌, ◌<◌, ◌≤◌, IfOk, length, false};
 ghost use Rattle.grid_core.specs.Board.{has};
 ghost use Rattle.grid_core.specs.Candidates.{Candidates};
-ghost use Rattle.engine_core.specs.Puzzle.{Needs, needs_of, FitsIn, has_place, IsBoardOf, IsIdle};
+ghost use Rattle.engine_core.specs.RuleSystem.{Needs, needs_of, FitsIn, has_place, IsBoardOf, IsIdle};
 ghost use Rattle.engine_core.specs.Sets.{IsChange};
 ghost use Rattle.engine_core.specs.Keeping.{AreSetsOf, IsKept};
 ghost use Rattle.engine_core.specs.Waiting.{words_of, is_waiting, AreCalled};
@@ -31,15 +31,15 @@ pub trait Propagators: Rules {
     ///
     /// When memory was refused.
     fn counts(&self, alloc: Global) -> Result<Self::Counts, AllocError>
-        ensures { IfOk result (λ counts. counts_serve counts (needs_of (Self.puzzle self.now))) };
+        ensures { IfOk result (λ counts. counts_serve counts (needs_of (Self.system self.now))) };
 
     /// Writes down the sets of the house's cells as bits, in the order of its scope. Rules with lists of their own may read
     /// along them.
     fn read(&self, house: usize, board: &Board, sets: &mut [u32])
-        requires house_in { house < (Self.puzzle self.now).houses }
-        requires board_of { IsBoardOf (Self.puzzle self.now) board.now }
-        requires room { length sets.old ≡ length ((Self.puzzle self.now).scope house) }
-        ensures { AreSetsOf (Self.puzzle self.now) house (has board.now) sets.new }
+        requires house_in { house < (Self.system self.now).houses }
+        requires board_of { IsBoardOf (Self.system self.now) board.now }
+        requires room { length sets.old ≡ length ((Self.system self.now).scope house) }
+        ensures { AreSetsOf (Self.system self.now) house (has board.now) sets.new }
     {
         read_sets(self, house, board, sets);
     }
@@ -53,19 +53,19 @@ pub trait Propagators: Rules {
         kept: &mut [u32],
         scratch: &mut Self::Scratch,
     ) -> bool
-        requires house_in { house < (Self.puzzle self.now).houses }
+        requires house_in { house < (Self.system self.now).houses }
         requires as_many { length kept.old ≡ length sets.now }
-        requires served { Self.serves scratch.old (needs_of (Self.puzzle self.now)) }
-        requires sets { (K : Candidates) × AreSetsOf (Self.puzzle self.now) house K sets.now }
-        ensures kept { (K : Candidates) → AreSetsOf (Self.puzzle self.now) house K sets.now
-            → IsKept (Self.puzzle self.now) house K result kept.new }
+        requires served { Self.serves scratch.old (needs_of (Self.system self.now)) }
+        requires sets { (K : Candidates) × AreSetsOf (Self.system self.now) house K sets.now }
+        ensures kept { (K : Candidates) → AreSetsOf (Self.system self.now) house K sets.now
+            → IsKept (Self.system self.now) house K result kept.new }
         ensures keeps { (needs : Needs) → Self.serves scratch.old needs
             → Self.serves scratch.new needs };
 
     /// Begins to count: what is counted of a board is then so of this one.
     fn watch(&self, board: &Board, counts: &mut Self::Counts)
-        requires board_of { IsBoardOf (Self.puzzle self.now) board.now }
-        requires served { counts_serve counts.old (needs_of (Self.puzzle self.now)) }
+        requires board_of { IsBoardOf (Self.system self.now) board.now }
+        requires served { counts_serve counts.old (needs_of (Self.system self.now)) }
         ensures follows { follows self.now counts.new (has board.now) }
         ensures keeps { (needs : Needs) → counts_serve counts.old needs
             → counts_serve counts.new needs };
@@ -73,10 +73,10 @@ pub trait Propagators: Rules {
     /// Goes along with the change of a cell, whose sets are given as bits.
     fn change(&self, place: usize, before: u32, after: u32, counts: &mut Self::Counts)
         requires { (K : Candidates) × (L : Candidates) × follows self.now counts.old K
-            × IsChange (Self.puzzle self.now).cells (Self.puzzle self.now).values K L
+            × IsChange (Self.system self.now).cells (Self.system self.now).values K L
             place before after }
         ensures follows { (K L : Candidates) → follows self.now counts.old K
-            → IsChange (Self.puzzle self.now).cells (Self.puzzle self.now).values K L
+            → IsChange (Self.system self.now).cells (Self.system self.now).values K L
             place before after
             → follows self.now counts.new L }
         ensures keeps { (needs : Needs) → counts_serve counts.old needs
@@ -84,19 +84,19 @@ pub trait Propagators: Rules {
 
     /// Whether the house may strike anything from the board that was counted.
     fn may_strike(&self, house: usize, counts: &Self::Counts) -> bool
-        requires house_in { house < (Self.puzzle self.now).houses }
+        requires house_in { house < (Self.system self.now).houses }
         requires follows { (K : Candidates) × follows self.now counts.now K }
         ensures { result ≡ false → (K : Candidates) → follows self.now counts.now K
-            → IsIdle (Self.puzzle self.now) house K };
+            → IsIdle (Self.system self.now) house K };
 
     /// Marks the houses that have the place. It may leave out those that strike nothing of the board that was counted.
     fn wake(&self, place: usize, counts: &Self::Counts, waits: &mut [u64])
-        requires place_in { place < (Self.puzzle self.now).cells }
-        requires room { words_of (Self.puzzle self.now).houses ≤ length waits.old }
+        requires place_in { place < (Self.system self.now).cells }
+        requires room { words_of (Self.system self.now).houses ≤ length waits.old }
         requires follows { (K : Candidates) × follows self.now counts.now K }
         ensures called { (K : Candidates) → follows self.now counts.now K
-            → AreCalled (Self.puzzle self.now) K
-            (λ j. has_place ((Self.puzzle self.now).scope j) place)
+            → AreCalled (Self.system self.now) K
+            (λ j. has_place ((Self.system self.now).scope j) place)
             (is_waiting waits.old) (is_waiting waits.new) };
 
     /// Counts that have room for rules have it for smaller ones.

@@ -6,7 +6,7 @@ ghost use Rattle.grid_core.specs.Board.{has, cells_of, SameShape};
 ghost use Rattle.grid_core.specs.Candidates.{count_below, only, max_cells, max_values};
 ghost use Rattle.engine_core.specs.ClosingList.{IsAlive, IsDead};
 ghost use Rattle.engine_core.specs.Keeping.{AreSetsOf, IsKept};
-ghost use Rattle.engine_core.specs.Puzzle.{IsBoardOf, after};
+ghost use Rattle.engine_core.specs.RuleSystem.{IsBoardOf, after};
 ghost use Rattle.engine_core.specs.Sets.{IsBitsOf};
 ghost use Rattle.engine_core.specs.Trail.{back_at, change_at, left_by, IsFurther, IsBack, IsStruck, StillServes};
 
@@ -89,8 +89,8 @@ impl Trailed {
 
     /// Begins with the board that a search starts from.
     pub(crate) fn start<R: Propagators>(&mut self, rules: &R)
-        requires board_of { IsBoardOf (R.puzzle rules.now) self.old.board }
-        ensures start { has self.new.board ≡ (R.puzzle rules.now).start }
+        requires board_of { IsBoardOf (R.system rules.now) self.old.board }
+        ensures start { has self.new.board ≡ (R.system rules.now).start }
         ensures shape { SameShape self.old.board self.new.board }
     {
         rules.start(&mut self.board); // whatever it held
@@ -107,16 +107,16 @@ impl Trailed {
         kept: &[u32],
         counts: &mut R::Counts,
     ) -> bool
-        requires house_in { house < (R.puzzle rules.now).houses }
-        requires board_of { IsBoardOf (R.puzzle rules.now) self.old.board }
-        requires alive { IsAlive (R.puzzle rules.now) (has self.old.board) }
+        requires house_in { house < (R.system rules.now).houses }
+        requires board_of { IsBoardOf (R.system rules.now) self.old.board }
+        requires alive { IsAlive (R.system rules.now) (has self.old.board) }
         requires follows { R.follows rules.now counts.old (has self.old.board) }
-        requires sets { AreSetsOf (R.puzzle rules.now) house (has self.old.board) sets.now }
-        requires kept { IsKept (R.puzzle rules.now) house (has self.old.board) true kept.now }
+        requires sets { AreSetsOf (R.system rules.now) house (has self.old.board) sets.now }
+        requires kept { IsKept (R.system rules.now) house (has self.old.board) true kept.now }
         requires as_many { length kept.now ≡ length sets.now }
         ensures dead { result ≡ true
-            → IsDead (R.puzzle rules.now) (after (R.puzzle rules.now) house (has self.old.board)) }
-        ensures struck { result ≡ false → IsStruck (R.puzzle rules.now) house self.old self.new }
+            → IsDead (R.system rules.now) (after (R.system rules.now) house (has self.old.board)) }
+        ensures struck { result ≡ false → IsStruck (R.system rules.now) house self.old self.new }
         ensures further { IsFurther self.old self.new }
         ensures follows { R.follows rules.now counts.new (has self.new.board) }
         ensures keeps { StillServes R.counts_serve counts.old counts.new }
@@ -142,12 +142,12 @@ impl Trailed {
         left: u32,
         counts: &mut R::Counts,
     )
-        requires board_of { IsBoardOf (R.puzzle rules.now) self.old.board }
+        requires board_of { IsBoardOf (R.system rules.now) self.old.board }
         requires follows { R.follows rules.now counts.old (has self.old.board) }
-        requires place_in { place < (R.puzzle rules.now).cells }
-        requires before { IsBitsOf (has self.old.board place) (R.puzzle rules.now).values before }
+        requires place_in { place < (R.system rules.now).cells }
+        requires before { IsBitsOf (has self.old.board place) (R.system rules.now).values before }
         requires left { IsBitsOf (left_by (has self.old.board) place left place)
-            (R.puzzle rules.now).values left }
+            (R.system rules.now).values left }
         requires other { left ≢ before }
         ensures left { has self.new.board ≡ left_by (has self.old.board) place left }
         ensures further { IsFurther self.old self.new }
@@ -172,13 +172,13 @@ impl Trailed {
         value: u8,
         counts: &mut R::Counts,
     )
-        requires board_of { IsBoardOf (R.puzzle rules.now) self.old.board }
+        requires board_of { IsBoardOf (R.system rules.now) self.old.board }
         requires follows { R.follows rules.now counts.old (has self.old.board) }
-        requires place_in { place < (R.puzzle rules.now).cells }
-        requires value_in { value < (R.puzzle rules.now).values }
+        requires place_in { place < (R.system rules.now).cells }
+        requires value_in { value < (R.system rules.now).values }
         requires there { has self.old.board place value ≡ true }
         requires several { 2
-            ≤ count_below (has self.old.board place) (R.puzzle rules.now).values }
+            ≤ count_below (has self.old.board place) (R.system rules.now).values }
         ensures left { has self.new.board ≡ only (has self.old.board) place value }
         ensures further { IsFurther self.old self.new }
         ensures follows { R.follows rules.now counts.new (has self.new.board) }
@@ -190,7 +190,7 @@ impl Trailed {
 
     /// Takes the board back to the mark: each cell changed since gets its values back.
     pub(crate) fn undo<R: Propagators>(&mut self, rules: &R, mark: usize, counts: &mut R::Counts)
-        requires board_of { IsBoardOf (R.puzzle rules.now) self.old.board }
+        requires board_of { IsBoardOf (R.system rules.now) self.old.board }
         requires follows { R.follows rules.now counts.old (has self.old.board) }
         requires marked { mark ≤ self.old.len }
         ensures back { IsBack self.old self.new mark }

@@ -88,11 +88,11 @@ impl CountList {
     }
 
     /// Ends the house that is begun: it holds at least `least` and at most `most` ones.
-    pub(crate) fn close(&mut self, least: u32, most: u32) -> Result<(), AllocError>
+    pub(crate) fn end(&mut self, least: u32, most: u32) -> Result<(), AllocError>
         requires { FitsLists self.old.list 1 }
         ensures { OnOk result (IsHouseClosed self.old self.new least most) }
     {
-        self.list.close()?;
+        self.list.end()?;
         self.bounds.push(Bounds { least, most })?;
         Ok(())
     }
@@ -103,6 +103,6 @@ impl CountList {
         ensures { OnOk result (IsHouseClosed self.old self.new 1 (length self.old.list.begun)) }
     {
         let most = self.list.begun() as u32;
-        self.close(1, most)
+        self.end(1, most)
     }
 }

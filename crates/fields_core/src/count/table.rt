@@ -4,7 +4,7 @@
 ghost use Rattle.std.specs.Prelude.{◌≡◌, ℕ, Bool, List, ◌<◌, ◌≤◌, ◌^◌, IfOk, length, slice_index, true, false};
 ghost use Rattle.grid_core.specs.Board.{has, cells_of, SameShape};
 ghost use Rattle.grid_core.specs.Candidates.{Candidates};
-ghost use Rattle.engine_core.specs.Puzzle.{IsNext, has_place};
+ghost use Rattle.engine_core.specs.RuleSystem.{IsNext, has_place};
 ghost use Rattle.engine_core.specs.Closing.{HasStruck};
 ghost use Rattle.engine_core.specs.Sets.{IsChange};
 ghost use Rattle.engine_core.specs.Keeping.{AreSetsOf, IsKept};
@@ -15,7 +15,7 @@ ghost use Rattle.fields_core.specs.CountLists.{bounded, bounds_of};
 
 use crate::count::list::{Bounds, CountList};
 use crate::count::tally::{BOTH, Tally};
-use engine_core::{Houses, apply, gather, mark_if};
+use engine_core::{HouseTable, apply, gather, enqueue_if};
 use grid_core::Board;
 use std::alloc::{AllocError, Global};
 use std::marker::Model;
@@ -26,7 +26,7 @@ const MOST_CELLS: usize = 512;
 /// The count houses of a board, and for each place those that have it.
 #[derive(Drop)]
 pub struct CountTable {
-    houses: Houses,
+    houses: HouseTable,
     bounds: Vec<Bounds>,
 }
 
@@ -56,7 +56,7 @@ impl CountTable {
             record { cells = cells; houses = bounded list.list.closed list.bounds.items }) }
     {
         Ok(CountTable {
-            houses: Houses::of(alloc, cells, list.list)?,
+            houses: HouseTable::of(alloc, cells, list.list)?,
             bounds: list.bounds,
         })
     }
@@ -246,7 +246,7 @@ impl CountTable {
         let houses = self.houses.houses_at(place);
         for k in 0..houses.len() {
             let house = houses[k] as usize;
-            mark_if(waits, house, self.may_strike(house, tallies));
+            enqueue_if(waits, house, self.may_strike(house, tallies));
         }
     }
 }

@@ -52,7 +52,7 @@ fn push_number(houses: &mut CountList, puzzle: &LightPuzzle, place: usize) -> Re
         LightCell::Black => Ok(()),
         LightCell::Numbered(n) => {
             push_beside(houses, puzzle, place)?;
-            houses.close(u32::from(n), u32::from(n))?;
+            houses.end(u32::from(n), u32::from(n))?;
             Ok(())
         }
     }
@@ -90,7 +90,7 @@ fn push_row(
         return Ok(());
     }
     houses.push_run(&run_in_row(puzzle, x, place))?;
-    houses.close(0, 1)?;
+    houses.end(0, 1)?;
     Ok(())
 }
 
@@ -122,7 +122,7 @@ fn push_column(houses: &mut CountList, puzzle: &LightPuzzle, place: usize) -> Re
         return Ok(());
     }
     houses.push_run(&run_in_column(puzzle, place))?;
-    houses.close(0, 1)?;
+    houses.end(0, 1)?;
     Ok(())
 }
 

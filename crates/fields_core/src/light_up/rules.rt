@@ -82,7 +82,7 @@ impl Rules for LightRules {
 
     const MODE: Mode = Mode::Sweep;
 
-    ghost puzzle = { λ r. light_rules r.light };
+    ghost system = { λ r. light_rules r.light };
 
     ghost SETTLED = { true };
 

@@ -65,7 +65,7 @@ fn push_column(houses: &mut CountList, puzzle: &TentsPuzzle, x: usize) -> Result
 {
     houses.push_run(&Run::column(puzzle.size(), x))?;
     let tents = u32::from(column_number(puzzle, x));
-    houses.close(tents, tents)?;
+    houses.end(tents, tents)?;
     Ok(())
 }
 
@@ -78,7 +78,7 @@ fn push_row(houses: &mut CountList, puzzle: &TentsPuzzle, y: usize) -> Result<()
 {
     houses.push_run(&Run::row(puzzle.size(), y))?;
     let tents = u32::from(row_number(puzzle, y));
-    houses.close(tents, tents)?;
+    houses.end(tents, tents)?;
     Ok(())
 }
 
@@ -111,7 +111,7 @@ fn push_square(houses: &mut CountList, puzzle: &TentsPuzzle, place: usize) -> Re
         return Ok(());
     }
     push_square_cells(houses, puzzle, place)?;
-    houses.close(0, 1)?;
+    houses.end(0, 1)?;
     Ok(())
 }
 

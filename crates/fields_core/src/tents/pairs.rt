@@ -4,7 +4,7 @@
 ghost use Rattle.std.specs.Prelude.{◌≡◌, ℕ, ◌<◌, ◌≤◌, IfOk, take, filter, length};
 ghost use Rattle.std.specs.List.{range_with_len};
 ghost use Rattle.grid_core.specs.Grids.{IsGrid};
-ghost use Rattle.engine_core.specs.Puzzle.{IsNext};
+ghost use Rattle.engine_core.specs.RuleSystem.{IsNext};
 ghost use Rattle.fields_core.specs.Tents.{tent_cells, tent, can_be_paired};
 ghost use Rattle.fields_core.specs.TentPairs.{tree_beside, tree_count, may_pair, AreNumbered, AreIn};
 ghost use Rattle.fields_core.specs.PairingScratches.{HasRoom};

@@ -112,7 +112,7 @@ impl Rules for TentRules {
 
     const MODE: Mode = Mode::Sweep;
 
-    ghost puzzle = { λ r. tent_rules r.tents };
+    ghost system = { λ r. tent_rules r.tents };
 
     ghost SETTLED = { true };
 

@@ -3,7 +3,7 @@
 ghost use Rattle.std.specs.Prelude.{◌≡◌, ◌<◌, ◌*◌, length, IfOk};
 ghost use Rattle.gameid_core.specs.Common.{IsExtent, line_numbers, lines_of, lines_ones, ones};
 
-use grid_core::{Grid, Size, line_count, line_len, line_number};
+use grid_core::{Grid, Size, line_count, line_len, line_value};
 use std::alloc::{AllocError, Global};
 
 /// How many cells of a line are 1.
@@ -15,7 +15,7 @@ fn ones_of(size: Size, grid: &Grid, line: usize) -> u8
 {
     let mut count = 0;
     for k in 0..line_len(size, line) {
-        if line_number(size, grid, line, k) == 1 {
+        if line_value(size, grid, line, k) == 1 {
             count += 1;
         }
     }

@@ -4,7 +4,7 @@ ghost use Rattle.std.specs.Prelude.{◌≡◌, ◌<◌, ◌*◌, ◌++◌, lengt
 ghost use Rattle.gameid_core.specs.Common.{IsExtent, line_numbers, lines_of, lines_runs, run_of, runs};
 
 use crate::pattern::clues::Clues;
-use grid_core::{Grid, Size, line_count, line_len, line_number};
+use grid_core::{Grid, Size, line_count, line_len, line_value};
 use std::alloc::{AllocError, Global};
 
 /// Adds a run of so many cells, unless there are none.
@@ -29,7 +29,7 @@ fn push_runs(clues: &mut Clues, size: Size, grid: &Grid, line: usize) -> Result<
 {
     let mut count = 0;
     for k in 0..line_len(size, line) {
-        if line_number(size, grid, line, k) == 0 {
+        if line_value(size, grid, line, k) == 0 {
             push_run_of(clues, count)?;
             count = 0;
             continue;
@@ -50,7 +50,7 @@ pub(crate) fn runs_of_lines(alloc: Global, size: Size, grid: &Grid) -> Result<Cl
     let mut clues = Clues::new(alloc, lines, size.cells() + lines / 2)?;
     for line in 0..lines {
         push_runs(&mut clues, size, grid, line)?;
-        clues.close()?;
+        clues.end()?;
     }
     Ok(clues)
 }

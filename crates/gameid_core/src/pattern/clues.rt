@@ -55,7 +55,7 @@ impl Clues {
     }
 
     /// Ends the next clue.
-    pub(crate) fn close(&mut self) -> Result<(), AllocError>
+    pub(crate) fn end(&mut self) -> Result<(), AllocError>
         ensures { OnOk result (self.new
             ≡ record { clues = self.old.clues ++ self.old.clue ∷ []; clue = [] }) }
     {

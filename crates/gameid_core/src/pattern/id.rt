@@ -94,7 +94,7 @@ fn clues(alloc: Global, size: Size, base: usize, description: &[u8]) -> Result<C
             if clues.len() + 1 == lines {
                 return Err(IdFault::TooMany);
             }
-            clues.close()?;
+            clues.end()?;
             before = 0;
             rest = after;
         } else {
@@ -113,7 +113,7 @@ fn clues(alloc: Global, size: Size, base: usize, description: &[u8]) -> Result<C
     if clues.len() + 1 != lines {
         return Err(IdFault::TooFew);
     }
-    clues.close()?;
+    clues.end()?;
     Ok(clues)
 }
 

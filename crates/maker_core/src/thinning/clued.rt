@@ -1,7 +1,7 @@
 //! Puzzles whose clues can be taken away.
 
 ghost use Rattle.std.specs.Prelude.{◌≡◌, ◌<◌, Some, IfOk, IsTrue, ℕ};
-ghost use Rattle.engine_core.specs.Puzzle.{Puzzle};
+ghost use Rattle.engine_core.specs.RuleSystem.{RuleSystem};
 ghost use Rattle.maker_core.specs.Thinning.{CluedGame, IsGame, has_clue};
 
 use std::alloc::{AllocError, Global};
@@ -15,7 +15,7 @@ pub trait Clued: Drop {
     ghost game: { CluedGame Self };
 
     // What those rules mean.
-    ghost meaning: { Self.Search → Puzzle };
+    ghost meaning: { Self.Search → RuleSystem };
 
     // The number can be a clue.
     ghost can_be_clue: { Self → ℕ → Type 0 };

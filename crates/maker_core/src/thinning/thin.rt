@@ -1,7 +1,7 @@
 //! Taking clues away while the puzzle keeps its one solution.
 
 ghost use Rattle.std.specs.Prelude.{◌≡◌, [], IfOk, OnOk, IsTrue, IsPermutation};
-ghost use Rattle.engine_core.specs.Puzzle.{FitsIn, needs_of};
+ghost use Rattle.engine_core.specs.RuleSystem.{FitsIn, needs_of};
 ghost use Rattle.maker_core.specs.Thinning.{has_clue, clue_places, shuffled_clues, stream_after_clues, IsThinnedFrom, IsOnly, HasReasons};
 ghost use Rattle.maker_core.specs.Draws.{AreDrawnBy};
 ghost use Rattle.maker_core.specs.Made.{HasOne, TellsOne};
@@ -30,7 +30,7 @@ pub(crate) fn thin<P: Clued, G: Rng>(
 ) -> Result<Made<P>, AllocError>
 where
     P::Search: Searchable,
-    requires means { (rules : P.Search) → P.Search.puzzle rules ≡ P.meaning rules }
+    requires means { (rules : P.Search) → P.Search.system rules ≡ P.meaning rules }
     requires all { puzzle ≡ P.game.all_clues puzzle answer }
     requires only { IsOnly (P.game.rules puzzle) answer }
     requires found { TellsOne (P.game.rules puzzle) budget answer }
@@ -87,7 +87,7 @@ fn shuffled_clues<P: Clued, G: Rng>(
 fn store_for<P: Clued>(alloc: Global, puzzle: &P) -> Result<Store<P::Search>, AllocError>
 where
     P::Search: Searchable,
-    requires { (rules : P.Search) → P.Search.puzzle rules ≡ P.meaning rules }
+    requires { (rules : P.Search) → P.Search.system rules ≡ P.meaning rules }
     ensures { IfOk result
         (λ store. FitsIn (needs_of (P.game.rules puzzle.now)) store.made) }
 {
@@ -104,7 +104,7 @@ fn try_clues<P: Clued>(
 ) -> Result<Vec<Option<Why>>, AllocError>
 where
     P::Search: Searchable,
-    requires means { (rules : P.Search) → P.Search.puzzle rules ≡ P.meaning rules }
+    requires means { (rules : P.Search) → P.Search.system rules ≡ P.meaning rules }
     requires one { HasOne (P.game.rules puzzle.old) budget }
     requires order { IsPermutation (clue_places P.game puzzle.old) order.now }
     ensures { IfOk result
@@ -128,7 +128,7 @@ fn try_clue<P: Clued>(
 ) -> Result<Option<Why>, AllocError>
 where
     P::Search: Searchable,
-    requires means { (rules : P.Search) → P.Search.puzzle rules ≡ P.meaning rules }
+    requires means { (rules : P.Search) → P.Search.system rules ≡ P.meaning rules }
     requires clue { IsTrue (has_clue P.game puzzle.old place) }
     requires one { HasOne (P.game.rules puzzle.old) budget }
     requires fits { FitsIn (needs_of (P.game.rules puzzle.old)) store.old.made }

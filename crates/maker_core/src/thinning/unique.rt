@@ -16,8 +16,8 @@ pub(crate) fn is_unique<R: Searchable>(
     rules: &R,
     budget: u64,
 ) -> Result<bool, AllocError>
-    ensures verdict { IfOk result (λ unique. unique ≡ has_one (R.puzzle rules.now) budget) }
-    ensures only { IfOk result (λ yes. yes ≡ true → HasOne (R.puzzle rules.now) budget) }
+    ensures verdict { IfOk result (λ unique. unique ≡ has_one (R.system rules.now) budget) }
+    ensures only { IfOk result (λ yes. yes ≡ true → HasOne (R.system rules.now) budget) }
 {
     let mut store = Store::new(alloc, rules)?;
     match store.solve(rules, budget) {

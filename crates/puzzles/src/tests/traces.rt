@@ -1,6 +1,6 @@
 //! Traces of grades, whose visits and sweeps are made again.
 ghost use Rattle.std.specs.Prelude.{IfOk};
-ghost use Rattle.engine_core.specs.Puzzle.{IsBoardOf};
+ghost use Rattle.engine_core.specs.RuleSystem.{IsBoardOf};
 
 use crate::tests::seen::outcome;
 use engine_core::{Rules, Searchable, Store};
@@ -44,7 +44,7 @@ fn number_in(line: &str, kinds: &[&str], per_kind: usize, houses: usize) -> Opti
 
 /// The start board after visits of these houses.
 fn replayed<R: Rules>(alloc: Global, rules: &R, visits: &[usize]) -> Result<Board, AllocError>
-    ensures { IfOk result (λ board. IsBoardOf (R.puzzle rules.now) board) }
+    ensures { IfOk result (λ board. IsBoardOf (R.system rules.now) board) }
 {
     let mut board = Board::new(alloc, rules.cells(), rules.values())?;
     let mut scratch = rules.scratch(alloc)?;
@@ -59,8 +59,8 @@ fn replayed<R: Rules>(alloc: Global, rules: &R, visits: &[usize]) -> Result<Boar
 
 /// Whether both boards of a puzzle have the same values in the same cells.
 fn are_same<R: Rules>(rules: &R, one: &Board, other: &Board) -> bool
-    requires one { IsBoardOf (R.puzzle rules.now) one.now }
-    requires other { IsBoardOf (R.puzzle rules.now) other.now }
+    requires one { IsBoardOf (R.system rules.now) one.now }
+    requires other { IsBoardOf (R.system rules.now) other.now }
 {
     for place in 0..rules.cells() {
         for value in 0..rules.values() {
@@ -74,7 +74,7 @@ fn are_same<R: Rules>(rules: &R, one: &Board, other: &Board) -> bool
 
 /// Whether a closing by the rules leaves this board.
 fn closes_to<R: Searchable>(alloc: Global, rules: &R, board: &Board) -> Result<bool, AllocError>
-    requires { IsBoardOf (R.puzzle rules.now) board.now }
+    requires { IsBoardOf (R.system rules.now) board.now }
 {
     let mut store = Store::new(alloc, rules)?;
     store.close(rules);

@@ -7,7 +7,7 @@ ghost use Rattle.solo_core.specs.Common.{solo_n, IsHouseOf};
 ghost use Rattle.solo_core.specs.RuleSets.{crossing_of, crossings_of, rest_of_line};
 ghost use Rattle.solo_core.specs.Work.{all_places, HasAdded, HasBegun, HasClosed};
 
-use crate::houses::house::SoloHouse;
+use crate::houses::house::NamedHouse;
 use crate::houses::places::{lies, place, push_places};
 use crate::houses::rooms::crossings;
 use crate::houses::scopes::crossing_at;
@@ -20,7 +20,7 @@ fn push_rest(
     list: &mut HouseList,
     puzzle: &SoloPuzzle,
     block: usize,
-    line: SoloHouse,
+    line: NamedHouse,
 ) -> Result<(), AllocError>
     requires block_in { block < solo_n puzzle.now }
     requires line_of { IsHouseOf puzzle.now line }
@@ -29,7 +29,7 @@ fn push_rest(
 {
     for k in 0..usize::from(puzzle.n()) {
         let other = place(puzzle, line, k);
-        if lies(puzzle, SoloHouse::Block(block), other) {
+        if lies(puzzle, NamedHouse::Block(block), other) {
             continue;
         }
         list.push(other)?;
@@ -42,7 +42,7 @@ fn push_crossing(
     list: &mut HouseList,
     puzzle: &SoloPuzzle,
     block: usize,
-    line: SoloHouse,
+    line: NamedHouse,
 ) -> Result<(), AllocError>
     requires block_in { block < solo_n puzzle.now }
     requires line_of { IsHouseOf puzzle.now line }
@@ -51,9 +51,9 @@ fn push_crossing(
     ensures { OnOk result (HasClosed (crossing_of puzzle.now block line).places list.old list.new) }
 {
     let _n = puzzle.n();
-    push_places(list, puzzle, SoloHouse::Block(block))?;
+    push_places(list, puzzle, NamedHouse::Block(block))?;
     push_rest(list, puzzle, block, line)?;
-    list.close()?;
+    list.end()?;
     Ok(())
 }
 

@@ -3,11 +3,11 @@
 
 ghost use Rattle.std.specs.Prelude.{◌≡◌, ◌<◌, ◌≤◌, [], OnOk, length, slice_index, slice_index_or};
 ghost use Rattle.engine_core.specs.HouseList.{FitsLists};
-ghost use Rattle.solo_core.specs.Common.{IsSolo, solo_n, SoloHouse, solo_cells, houses_of};
+ghost use Rattle.solo_core.specs.Common.{IsSolo, solo_n, NamedHouse, solo_cells, houses_of};
 ghost use Rattle.solo_core.specs.Common.{house_places, IsHouseOf, lies_in, places_of};
 ghost use Rattle.solo_core.specs.Work.{HasAdded, Begins};
 
-use crate::houses::house::SoloHouse;
+use crate::houses::house::NamedHouse;
 use engine_core::HouseList;
 use gameid_core::SoloPuzzle;
 use grid_core::{Size, block_place, column_place, diagonal_place, row_place};
@@ -33,26 +33,26 @@ pub(crate) fn houses(puzzle: &SoloPuzzle) -> usize
 }
 
 /// The house with the number.
-pub(crate) fn house(puzzle: &SoloPuzzle, number: usize) -> SoloHouse
+pub(crate) fn house(puzzle: &SoloPuzzle, number: usize) -> NamedHouse
     requires { number < length (houses_of puzzle.now) }
     ensures house_of { IsHouseOf puzzle.now result }
-    ensures at { (other : SoloHouse) → result ≡ slice_index_or (houses_of puzzle.now) number other }
+    ensures at { (other : NamedHouse) → result ≡ slice_index_or (houses_of puzzle.now) number other }
 {
     let n = usize::from(puzzle.n());
     if number < n {
-        return SoloHouse::Row(number);
+        return NamedHouse::Row(number);
     }
     if number < 2 * n {
-        return SoloHouse::Column(number - n);
+        return NamedHouse::Column(number - n);
     }
     if number < 3 * n {
-        return SoloHouse::Block(number - 2 * n);
+        return NamedHouse::Block(number - 2 * n);
     }
-    SoloHouse::Diagonal(number - 3 * n)
+    NamedHouse::Diagonal(number - 3 * n)
 }
 
 /// The place of the house's `k`-th cell.
-pub(crate) fn place(puzzle: &SoloPuzzle, house: SoloHouse, k: usize) -> usize
+pub(crate) fn place(puzzle: &SoloPuzzle, house: NamedHouse, k: usize) -> usize
     requires house_of { IsHouseOf puzzle.now house }
     requires k_in { k < solo_n puzzle.now }
     ensures place { result ≡ slice_index (places_of puzzle.now house) k }
@@ -61,15 +61,15 @@ pub(crate) fn place(puzzle: &SoloPuzzle, house: SoloHouse, k: usize) -> usize
     let n = puzzle.n();
     let size = Size::new(n, n).unwrap();
     match house {
-        SoloHouse::Row(y) => row_place(size, y, k),
-        SoloHouse::Column(i) => column_place(size, i, k),
-        SoloHouse::Block(b) => block_place(puzzle.c(), puzzle.r(), b, k),
-        SoloHouse::Diagonal(d) => diagonal_place(n, d, k),
+        NamedHouse::Row(y) => row_place(size, y, k),
+        NamedHouse::Column(i) => column_place(size, i, k),
+        NamedHouse::Block(b) => block_place(puzzle.c(), puzzle.r(), b, k),
+        NamedHouse::Diagonal(d) => diagonal_place(n, d, k),
     }
 }
 
 /// Whether the place lies in the house.
-pub(crate) fn lies(puzzle: &SoloPuzzle, house: SoloHouse, place: usize) -> bool
+pub(crate) fn lies(puzzle: &SoloPuzzle, house: NamedHouse, place: usize) -> bool
     requires { place < solo_cells puzzle.now }
     ensures { result ≡ lies_in puzzle.now house place }
 {
@@ -77,11 +77,11 @@ pub(crate) fn lies(puzzle: &SoloPuzzle, house: SoloHouse, place: usize) -> bool
     let c = usize::from(puzzle.c());
     let r = usize::from(puzzle.r());
     match house {
-        SoloHouse::Row(y) => place / n == y,
-        SoloHouse::Column(i) => place % n == i,
-        SoloHouse::Block(b) => place / n / c * c + place % n / r == b,
-        SoloHouse::Diagonal(0) => place % n == place / n,
-        SoloHouse::Diagonal(_) => place % n == n - 1 - place / n,
+        NamedHouse::Row(y) => place / n == y,
+        NamedHouse::Column(i) => place % n == i,
+        NamedHouse::Block(b) => place / n / c * c + place % n / r == b,
+        NamedHouse::Diagonal(0) => place % n == place / n,
+        NamedHouse::Diagonal(_) => place % n == n - 1 - place / n,
     }
 }
 
@@ -89,7 +89,7 @@ pub(crate) fn lies(puzzle: &SoloPuzzle, house: SoloHouse, place: usize) -> bool
 pub(crate) fn push_places(
     list: &mut HouseList,
     puzzle: &SoloPuzzle,
-    house: SoloHouse,
+    house: NamedHouse,
 ) -> Result<(), AllocError>
     requires house_of { IsHouseOf puzzle.now house }
     requires closed { list.old.begun ≡ [] }
@@ -110,7 +110,7 @@ pub(crate) fn push_houses(list: &mut HouseList, puzzle: &SoloPuzzle) -> Result<(
 {
     for number in 0..houses(puzzle) {
         push_places(list, puzzle, house(puzzle, number))?;
-        list.close()?;
+        list.end()?;
     }
     Ok(())
 }

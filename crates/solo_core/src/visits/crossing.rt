@@ -8,7 +8,7 @@ ghost use Rattle.solo_core.specs.Crossing.{part_has, in_block_alone, in_line_alo
 ghost use Rattle.solo_core.specs.RuleSets.{crossings_of, AreShared};
 ghost use Rattle.solo_core.specs.Work.{IsKeptBy};
 
-use crate::houses::house::SoloHouse;
+use crate::houses::house::NamedHouse;
 use crate::houses::places::{lies, place};
 use crate::houses::scopes::crossing_at;
 use crate::visits::bits::with_bit_if;
@@ -31,14 +31,14 @@ pub(crate) fn keep_crossed(puzzle: &SoloPuzzle, number: usize, sets: &[u32], kep
 }
 
 /// Which of the block's cells are the line's too: bit `k` says it of the `k`-th.
-fn shared(puzzle: &SoloPuzzle, block: usize, line: SoloHouse) -> u32
+fn shared(puzzle: &SoloPuzzle, block: usize, line: NamedHouse) -> u32
     requires block_in { block < solo_n puzzle.now }
     requires line_of { IsHouseOf puzzle.now line }
     ensures { AreShared puzzle.now block line result }
 {
     let mut bits = 0;
     for k in 0..usize::from(puzzle.n()) {
-        let there = lies(puzzle, line, place(puzzle, SoloHouse::Block(block), k));
+        let there = lies(puzzle, line, place(puzzle, NamedHouse::Block(block), k));
         bits = with_bit_if(bits, k, there);
     }
     bits

@@ -5,7 +5,7 @@ use Rattle.commands.proofs.grade.Attempt.tell_by_sweeps.Goals as goal
 
 pub returns-clause-told : goal.returns-clause-told
 returns-clause-told g c =
-    let r = g.R.Rules.puzzle c.args.rules.now in
+    let r = g.R.Rules.system c.args.rules.now in
     told_last g.P.Played.game c.args.puzzle.now c.args.self.options g.O.Sink.takes _ _ _ _ c.args.self.set r c.in_ok-grade.ensures.grade c.in_ok-grade.ensures.right
     (told_as g.O.Sink.takes _ c.args.self.options.traced _ _ _ _ _ (c.requires.told r) c.tell_with_sweeps.ensures.told)
 

@@ -7,7 +7,7 @@ use Rattle.commands.proofs.grade.Attempt.tell_with_sweeps.Goals.{then-self+in_ok
 
 pub returns-clause-told : goal.returns-clause-told
 returns-clause-told g c =
-    let tells = TellsSweeps (g.R.Rules.puzzle c.args.rules.now) in
+    let tells = TellsSweeps (g.R.Rules.system c.args.rules.now) in
     let puts : PutsTrace g.O.Sink.takes c.args.self.options.traced tells c.args.output.now (string_bytes c.in_ok-text.text) (string_bytes c.if-self.text) c.args.output.now =
     elim c.if-self.branch [
       | then-self+in_ok-push_sweeps w ↦ rw w.text-is (nothing_put g.O.Sink.takes g.met.O.Sink.takes_nothing g.met.O.Sink.takes_both c.args.grade _ tells _ _ _ _

@@ -8,7 +8,7 @@ use Rattle.commands.proofs.grade.Attempt.tell_with_visits.Goals.{then-self+in_ok
 
 pub returns-in_err-put_visits-clause-told : goal.returns-in_err-put_visits-clause-told
 returns-in_err-put_visits-clause-told g c =
-    let r = g.R.Rules.puzzle c.args.rules.now in
+    let r = g.R.Rules.system c.args.rules.now in
     let name = g.P.Named.name_of c.args.puzzle.now in
     let visits = c.trace.result.now in
     told_as g.O.Sink.takes _ _ (TellsVisits name r) _ _ _ _ (g.met.P.Named.by_visits c.args.puzzle.now r)
@@ -22,7 +22,7 @@ returns-in_err-put_visits-clause-told g c =
 
 pub returns-clause-told : goal.returns-clause-told
 returns-clause-told g c =
-    let r = g.R.Rules.puzzle c.args.rules.now in
+    let r = g.R.Rules.system c.args.rules.now in
     let tells = TellsVisits (g.P.Named.name_of c.args.puzzle.now) r in
     let puts : PutsTrace g.O.Sink.takes c.args.self.options.traced tells c.args.output.now (string_bytes c.in_ok-text.text) (string_bytes c.if-self.text) c.if-self.output =
     elim c.if-self.branch [

@@ -10,7 +10,7 @@ returns-in-None-clause-grade g c = grade_is _ _ _ c.in-None.ensures.verdict.0
 
 pub returns-in-One-clause-grade : goal.returns-in-One-clause-grade
 returns-in-One-clause-grade g c =
-    let rules = g.R.Rules.puzzle c.args.rules.now in
+    let rules = g.R.Rules.system c.args.rules.now in
     let spent = spent_whole c.args.budget _ (walk rules 0 rules.start) _ c.in-One.ensures.verdict.1 in
     let all : c.trials.result ≡ trials_in (walk rules 0 rules.start) = cc (c.trials.ensures, c.in-One.ensures.trials, spent) in
     ap (λ n. BySearch n) all ∙ grade_is rules c.args.budget _ c.in-One.ensures.verdict.1

@@ -6,7 +6,7 @@ use Rattle.commands.proofs.grade.settling.settles.Goals as goal
 
 pub returns-clause-one : goal.returns-clause-one
 returns-clause-one g c = λ settled.
-    let rules = g.R.Rules.puzzle c.args.rules.now in
+    let rules = g.R.Rules.system c.args.rules.now in
     let lawful = g.met.R.Rules.lawful c.args.rules.now in
     settled_has_one rules (walk-unfold rules 0 rules.start lawful.start_within) (found_iff rules lawful)
     (sym c.settles.ensures.settled ∙ settled)

@@ -8,7 +8,7 @@ loop-other-init g c = record { past = omega arith; called = λ K. before-first _
 pub loop-other-preserved : goal.loop-other-preserved
 loop-other-preserved g c = record {
   past = let i = c.loop-other.invariant in let next = c.in-Some.ensures in omega (arith, i.past, next.0);
-  called = λ K. before-marked _ K _ _ _ _ c.loop-other.from c.in-Some.house c.in-Some.ensures c.mark.ensures (c.loop-other.invariant.called K);
+  called = λ K. before-marked _ K _ _ _ _ c.loop-other.from c.in-Some.house c.in-Some.ensures c.enqueue.ensures (c.loop-other.invariant.called K);
 }
 
 pub returns : goal.returns

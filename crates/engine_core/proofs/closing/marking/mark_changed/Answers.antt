@@ -18,7 +18,7 @@ mark_at-requires-clause-place_in g c =
 
 pub loop-k-preserved : goal.loop-k-preserved
 loop-k-preserved g c = λ K are inside.
-    let p = g.R.Rules.puzzle c.args.rules.now in
+    let p = g.R.Rules.system c.args.rules.now in
     let i = c.loop-k.invariant K are inside in
     let was = are.bits c.loop-k.k (omega (arith, c.requires.long)) in
     let is : IsBitsOf (has c.args.board.now c.scope-place.result) p.values c.cell_bits-now.result = rw (← c.requires.board_of.same_values) c.cell_bits-now.ensures in
@@ -29,7 +29,7 @@ loop-k-preserved g c = λ K are inside.
 
 pub returns : goal.returns
 returns g c =
-    let all : c.loop-k.k ≡ length ((g.R.Rules.puzzle c.args.rules.now).scope c.args.house) = omega (arith, c.requires.long) in
+    let all : c.loop-k.k ≡ length ((g.R.Rules.system c.args.rules.now).scope c.args.house) = omega (arith, c.requires.long) in
     record {
       called = λ K are inside. (rw all at (c.loop-k.invariant K are inside)).called;
       dead = λ K are inside. (rw all at (c.loop-k.invariant K are inside)).dead_is;

@@ -4,11 +4,11 @@ use Rattle.engine_core.proofs.search.judge.judge.Goals as goal
 use Rattle.engine_core.proofs.search.judge.judge.Goals.{In_default, then-at, else-at}
 
 -- no cell was picked, so the board is full
-full : (g : _) (c : In_default g) → IsFull (g.P.Position.puzzle c.args.rules.now) (g.P.Position.stands c.args.position.now).board
-full g c = full_unpicked (g.P.Position.puzzle c.args.rules.now) _ c.requires.alive (sym c.in_default.is ∙ c.pick.ensures)
+full : (g : _) (c : In_default g) → IsFull (g.P.Position.system c.args.rules.now) (g.P.Position.stands c.args.position.now).board
+full g c = full_unpicked (g.P.Position.system c.args.rules.now) _ c.requires.alive (sym c.in_default.is ∙ c.pick.ensures)
 
 pub returns-in-Some-clause-judged : goal.returns-in-Some-clause-judged
-returns-in-Some-clause-judged g c = split_picked (g.P.Position.puzzle c.args.rules.now) _ _ c.requires.alive (sym c.pick.ensures ∙ c.in-Some.is)
+returns-in-Some-clause-judged g c = split_picked (g.P.Position.system c.args.rules.now) _ _ c.requires.alive (sym c.pick.ensures ∙ c.in-Some.is)
 
 pub accept-solved-requires-clause-full : goal.accept-solved-requires-clause-full
 accept-solved-requires-clause-full g c = full g (goal.at.accept-solved-requires-clause-full g c).In_default
@@ -18,7 +18,7 @@ accept-solved-requires-else-at-clause-full g c = full g (goal.at.accept-solved-r
 
 pub returns-then-solved-clause-judged : goal.returns-then-solved-clause-judged
 returns-then-solved-clause-judged g c =
-    let p = g.P.Position.puzzle c.args.rules.now in
+    let p = g.P.Position.system c.args.rules.now in
     let full = full g (goal.at.returns-then-solved-clause-judged g c).In_default in
     elim c.if-at.branch [
       | then-at w ↦
@@ -31,7 +31,7 @@ returns-then-solved-clause-judged g c =
 
 pub returns-clause-judged : goal.returns-clause-judged
 returns-clause-judged g c =
-    let p = g.P.Position.puzzle c.args.rules.now in
+    let p = g.P.Position.system c.args.rules.now in
     let full = full g (goal.at.returns-clause-judged g c).In_default in
     elim c.if-at.branch [
       | then-at w ↦ let e = w.accept-solved.ensures in (c.requires.alive, full, judged_as p _ _ _ _ e.grid e.solution (sym w.solved-is ∙ c.if-solved.false))

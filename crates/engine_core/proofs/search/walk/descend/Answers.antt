@@ -8,7 +8,7 @@ use Rattle.engine_core.proofs.search.walk.descend.Goals.{After-close-taken, In-O
 
 -- what the closing left
 descent : (g : _) (c : After-close-taken g)
-    → IsDescent (g.P.Position.puzzle c.args.rules.now) (g.P.Position.stands c.args.position.now) (g.P.Position.stands c.close-taken.new.self) c.args.levels.now.frames.items c.args.levels.now.depth
+    → IsDescent (g.P.Position.system c.args.rules.now) (g.P.Position.stands c.args.position.now) (g.P.Position.stands c.close-taken.new.self) c.args.levels.now.frames.items c.args.levels.now.depth
 descent g c = record {
   ready = c.requires.ready;
   onward = c.close-taken.ensures.onward;
@@ -16,7 +16,7 @@ descent g c = record {
 }
 
 -- the level that is opened
-opened : (g : _) (c : In-Split g) → IsOpen (g.P.Position.puzzle c.args.rules.now) (record { board = (g.P.Position.stands c.close-taken.new.self).board; cell = c.in-Split.cell; next = 0 }) c.args.levels.now.depth
+opened : (g : _) (c : In-Split g) → IsOpen (g.P.Position.system c.args.rules.now) (record { board = (g.P.Position.stands c.close-taken.new.self).board; cell = c.in-Split.cell; next = 0 }) c.args.levels.now.depth
 opened g c =
     let j = c.in-Split.ensures.judged in
     split-room _ _ _ _ _ c.close-taken.ensures.onward.inside c.requires.single j.0 j.2 (g.met.P.Position.within c.args.rules.now c.args.position.now c.requires.walks) (c.close-taken.ensures.taken.left c.in-Open.is)

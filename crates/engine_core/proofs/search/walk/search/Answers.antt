@@ -5,8 +5,8 @@ use Rattle.engine_core.proofs.search.walk.search.Goals.{After-descend-at, then-v
 
 -- the trial that was made
 made : (g : _) (c : After-descend-at g)
-    → IsSearching (g.P.Position.puzzle c.args.rules.now) c.args.from (marks_of (g.P.Position.puzzle c.args.rules.now) (g.P.Position.stands c.args.position.now) c.args.levels.now c.args.from c.args.grids.now)
-    (c.loop-levels.trials + 1) (marks_of (g.P.Position.puzzle c.args.rules.now) (g.P.Position.stands c.descend-at.new.position) c.descend-at.new.levels c.descend-at.result c.descend-at.new.grids) c.descend-at.result
+    → IsSearching (g.P.Position.system c.args.rules.now) c.args.from (marks_of (g.P.Position.system c.args.rules.now) (g.P.Position.stands c.args.position.now) c.args.levels.now c.args.from c.args.grids.now)
+    (c.loop-levels.trials + 1) (marks_of (g.P.Position.system c.args.rules.now) (g.P.Position.stands c.descend-at.new.position) c.descend-at.new.levels c.descend-at.result c.descend-at.new.grids) c.descend-at.result
 made g c =
     let l = c.loop-levels in
     let d = c.descend-at.ensures in
@@ -14,7 +14,7 @@ made g c =
     (let few = l.invariant.trials in omega (arith, c.if-trials-from.false)) d.turned (d.deepest ∙ c.max.ensures) d.marks
 
 pub loop-levels-init : goal.loop-levels-init
-loop-levels-init g c = let first = searching-first (g.P.Position.puzzle c.args.rules.now) c.args.from (marks_of (g.P.Position.puzzle c.args.rules.now) (g.P.Position.stands c.args.position.now) c.args.levels.now c.args.from c.args.grids.now) in grind (arith, common_steps, first)
+loop-levels-init g c = let first = searching-first (g.P.Position.system c.args.rules.now) c.args.from (marks_of (g.P.Position.system c.args.rules.now) (g.P.Position.stands c.args.position.now) c.args.levels.now c.args.from c.args.grids.now) in grind (arith, common_steps, first)
 
 pub loop-levels-preserved : goal.loop-levels-preserved
 loop-levels-preserved g c =

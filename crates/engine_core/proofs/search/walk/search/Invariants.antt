@@ -4,7 +4,7 @@ use Rattle.engine_core.proofs.search.walk.search.Given as goal
 
 abbrev pub invariant-loop-levels : goal.invariant-loop-levels
 invariant-loop-levels g l =
-    let p = g.P.Position.puzzle l.rules in
+    let p = g.P.Position.system l.rules in
     let stands = g.P.Position.stands in
     record {
       searching : IsSearching p l.from (marks_of p (stands l.fn.position) l.fn.levels l.from l.fn.grids) l.trials (marks_of p (stands l.position) l.levels l.at l.grids) l.at;

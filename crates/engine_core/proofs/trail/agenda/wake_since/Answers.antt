@@ -5,13 +5,13 @@ use Rattle.engine_core.proofs.trail.agenda.wake_since.Goals as goal
 
 pub loop-number-init : goal.loop-number-init
 loop-number-init g c =
-    let p = g.R.Rules.puzzle c.args.rules.now in
+    let p = g.R.Rules.system c.args.rules.now in
     let t = c.args.trailed.now in
     called-none p _ _ _ (λ j lt. since-first (λ m. has_place (p.scope j) (change_at t.changes m).0) c.args.from)
 
 pub loop-number-preserved : goal.loop-number-preserved
 loop-number-preserved g c =
-    let p = g.R.Rules.puzzle c.args.rules.now in
+    let p = g.R.Rules.system c.args.rules.now in
     let t = c.args.trailed.now in
     let le : c.args.from ≤ c.loop-number.number = omega arith in
     since-called p t (has t.board) c.args.from c.loop-number.number (is_waiting c.args.waits.now) (is_waiting c.loop-number.waits) (is_waiting c.wake.new.waits) le c.loop-number.invariant

@@ -1,6 +1,6 @@
 use Rattle.std.proofs.Common.{◌≡◌, ℕ, ◌∙◌, ap, length, arith, length-take}
 use Rattle.solo_core.specs.Common.{house_of}
-use Rattle.engine_core.specs.HouseLaws.{bits-of_values, sets-of_values}
+use Rattle.engine_core.specs.HouseSetsLaws.{bits-of_values, sets-of_values}
 use Rattle.solo_core.proofs.DecidingLemmas.{listed-in, left_by_visit, table-places}
 use Rattle.solo_core.proofs.rules.SoloRules.strike.Goals as goal
 

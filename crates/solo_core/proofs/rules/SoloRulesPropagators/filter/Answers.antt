@@ -1,6 +1,6 @@
 use Rattle.std.proofs.Common.{true, refl}
 use Rattle.solo_core.specs.Common.{true≢false, house_of, no_house}
-use Rattle.engine_core.specs.HouseLaws.{kept-decided}
+use Rattle.engine_core.specs.HouseSetsLaws.{kept-decided}
 use Rattle.solo_core.specs.RuleSets.{rules_of}
 use Rattle.solo_core.proofs.rules.SoloRulesPropagators.filter.Goals as goal
 

@@ -1,5 +1,5 @@
 use Rattle.std.proofs.Common.{◌∙◌}
-use Rattle.engine_core.specs.HouseLaws.{bits-of_values}
+use Rattle.engine_core.specs.HouseSetsLaws.{bits-of_values}
 use Rattle.solo_core.proofs.DecidingLemmas.{listed-in, table-places}
 use Rattle.solo_core.proofs.rules.SoloRulesPropagators.read.Goals as goal
 

@@ -6,8 +6,8 @@ use Rattle.solo_core.specs.RuleSets.{rules_by}
 use Rattle.solo_core.proofs.DecidingLemmas.{housed-at, housed-all}
 use Rattle.solo_core.proofs.rules.SoloRulesPropagators.wake.Goals as goal
 
-pub mark-requires : goal.mark-requires
-mark-requires g c =
+pub enqueue-requires : goal.enqueue-requires
+enqueue-requires g c =
     let p = c.args.self.now.puzzle in
     let at = housed-at p (g.S.Strikes.houses p) c.args.self.now.table c.args.self.now.listed c.args.place c.loop-k.k _ c.houses_at-houses.ensures c.loop-k-test.true in
     omega (arith, at.0, c.requires.room, c.loop-k.auto.waits)
@@ -21,7 +21,7 @@ loop-k-preserved g c = λ K.
     let houses = g.S.Strikes.houses p in
     let at = housed-at p houses c.args.self.now.table c.args.self.now.listed c.args.place c.loop-k.k _ c.houses_at-houses.ensures c.loop-k-test.true in
     upto-marked (rules_by g.S.Strikes.SETTLED g.S.Strikes.houses p) K (λ j. has_place (house_of houses j).places c.args.place)
-    (is_waiting c.args.waits.now) (is_waiting c.loop-k.waits) (is_waiting c.mark.new.waits) _ c.loop-k.k at.1 at.2 c.mark.ensures (c.loop-k.invariant K)
+    (is_waiting c.args.waits.now) (is_waiting c.loop-k.waits) (is_waiting c.enqueue.new.waits) _ c.loop-k.k at.1 at.2 c.enqueue.ensures (c.loop-k.invariant K)
 
 pub returns : goal.returns
 returns g c =

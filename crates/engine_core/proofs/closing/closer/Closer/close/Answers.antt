@@ -6,7 +6,7 @@ use Rattle.engine_core.proofs.closing.closer.Closer.close.Goals as goal
 use Rattle.engine_core.proofs.closing.closer.Closer.close.Goals.{After-fill}
 
 -- each house waits at first
-rested : (g : _) (c : After-fill g) → IsRested (g.R.Rules.puzzle c.args.rules.now) (has c.self.inside.board) (is_waiting c.fill.new.self.items)
+rested : (g : _) (c : After-fill g) → IsRested (g.R.Rules.system c.args.rules.now) (has c.self.inside.board) (is_waiting c.fill.new.self.items)
 rested g c = λ h d v lt asleep on.
     let fits = rw (← c.self.view_is) at c.requires.fits in
     let made : c.fill.new.self.items ≡ replicate (length c.self.inside.waits.items) 18446744073709551615 = search rules in
@@ -14,7 +14,7 @@ rested g c = λ h d v lt asleep on.
 
 pub returns-then-has_empty_cell-clause-closing : goal.returns-then-has_empty_cell-clause-closing
 returns-then-has_empty_cell-clause-closing g c =
-    let p = g.R.Rules.puzzle c.args.rules.now in
+    let p = g.R.Rules.system c.args.rules.now in
     let fits = rw (← c.self.view_is) at c.requires.fits in
     let of : IsBoardOf p c.self.inside.board = record { same_cells = c.self.invariant.0.board_cells ∙ sym fits.same_cells; same_values = c.self.invariant.0.board_values ∙ sym fits.same_values } in
     rw (← c.self.view_is) (closing-none p (g.met.R.Rules.lawful c.args.rules.now) (has c.self.inside.board) (within_of p _ of) (sym (dead_of p _ of) ∙ (sym c.has_empty_cell.ensures ∙ c.if-has_empty_cell.true)))

@@ -6,18 +6,18 @@ use Rattle.engine_core.proofs.closing.closer.Closer.run_queue.Goals as goal
 use Rattle.engine_core.proofs.closing.closer.Closer.run_queue.Goals.{After-step, In-Some}
 
 -- the house that is visited waits
-picked : (g : _) (c : In-Some g) → (c.in-Some.house < (g.R.Rules.puzzle c.args.rules.now).houses) × (is_waiting c.loop-house.self.waits c.in-Some.house ≡ true)
+picked : (g : _) (c : In-Some g) → (c.in-Some.house < (g.R.Rules.system c.args.rules.now).houses) × (is_waiting c.loop-house.self.waits c.in-Some.house ≡ true)
 picked g c = rw (← c.self.view_is, ← c.houses.ensures, ← c.deref.ensures.value) c.in-Some.ensures
 
 -- the trace is long enough
-long : (g : _) (c : In-Some g) → (g.R.Rules.puzzle c.args.rules.now).bound ≤ length c.self.inside.trace.items
+long : (g : _) (c : In-Some g) → (g.R.Rules.system c.args.rules.now).bound ≤ length c.self.inside.trace.items
 long g c =
     let queue : is_queue g.R.Rules.MODE ≡ true = sym (g.met.R.Rules.mode_is c.args.rules.now) ∙ c.requires.queue in
     let same = ap (λ m. m.bound) (rw (← c.self.view_is) at c.loop-house.invariant.room.made) in
     omega (arith, rw queue at c.self.invariant.0.trace_long, c.requires.fits.bound_in, same)
 
 -- there is room for one more visit
-more : (g : _) (c : In-Some g) → c.loop-house.visits < (g.R.Rules.puzzle c.args.rules.now).bound
+more : (g : _) (c : In-Some g) → c.loop-house.visits < (g.R.Rules.system c.args.rules.now).bound
 more g c =
     let i = c.loop-house.invariant in
     let w = picked g c in
@@ -42,8 +42,8 @@ loop-house-smaller g c = omega (arith, more g (goal.at.loop-house-smaller g c).I
 
 -- what the visit did
 done : (g : _) (c : After-step g) → c.loop-house.visits < length c.loop-house.self.trace
-    → (has c.step.new.self.board ≡ after (g.R.Rules.puzzle c.args.rules.now) c.in-Some.house (has c.loop-house.self.board))
-    × (is_dead (g.R.Rules.puzzle c.args.rules.now).cells (g.R.Rules.puzzle c.args.rules.now).values (has c.step.new.self.board) ≡ c.step.result.dead)
+    → (has c.step.new.self.board ≡ after (g.R.Rules.system c.args.rules.now) c.in-Some.house (has c.loop-house.self.board))
+    × (is_dead (g.R.Rules.system c.args.rules.now).cells (g.R.Rules.system c.args.rules.now).values (has c.step.new.self.board) ≡ c.step.result.dead)
     × (take (c.loop-house.visits + 1) c.step.new.self.trace ≡ take c.loop-house.visits c.loop-house.self.trace ++ c.in-Some.house ∷ [])
     × SameRoom c.loop-house.self c.step.new.self
 done g c lt =

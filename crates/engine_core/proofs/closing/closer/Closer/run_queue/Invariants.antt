@@ -4,7 +4,7 @@ use Rattle.engine_core.proofs.closing.closer.Closer.run_queue.Given as goal
 
 abbrev pub invariant-loop-house : goal.invariant-loop-house
 invariant-loop-house g l =
-    let p = g.R.Rules.puzzle l.rules in
+    let p = g.R.Rules.system l.rules in
     record {
       running : IsRunning p (has l.fn.self.board) (take l.visits l.self.trace) (has l.self.board) (is_waiting l.self.waits);
       visits : l.visits ≤ p.bound;
@@ -12,4 +12,4 @@ invariant-loop-house g l =
     }
 
 abbrev pub decreases-loop-house : goal.decreases-loop-house
-decreases-loop-house g l = (g.R.Rules.puzzle l.rules).bound - l.visits
+decreases-loop-house g l = (g.R.Rules.system l.rules).bound - l.visits

@@ -4,7 +4,7 @@ use Rattle.engine_core.proofs.closing.closer.Closer.run_sweeps.Given as goal
 
 abbrev pub invariant-closing : goal.invariant-closing
 invariant-closing g l =
-    let p = g.R.Rules.puzzle l.rules in
+    let p = g.R.Rules.system l.rules in
     record {
       alive : IsAlive p (has l.self.board);
       rested : IsRested p (has l.self.board) (is_waiting l.self.waits);
@@ -13,4 +13,4 @@ invariant-closing g l =
     }
 
 abbrev pub decreases-closing : goal.decreases-closing
-decreases-closing g l = let p = g.R.Rules.puzzle l.rules in total p.cells p.values (has l.self.board)
+decreases-closing g l = let p = g.R.Rules.system l.rules in total p.cells p.values (has l.self.board)

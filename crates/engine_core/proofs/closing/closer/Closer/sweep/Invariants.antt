@@ -4,7 +4,7 @@ use Rattle.engine_core.proofs.closing.closer.Closer.sweep.Given as goal
 
 abbrev pub invariant-loop-house : goal.invariant-loop-house
 invariant-loop-house g l =
-    let p = g.R.Rules.puzzle l.rules in
+    let p = g.R.Rules.system l.rules in
     let K = has l.fn.self.board in
     let K' = has l.self.board in
     record {
@@ -18,4 +18,4 @@ invariant-loop-house g l =
     }
 
 abbrev pub decreases-loop-house : goal.decreases-loop-house
-decreases-loop-house g l = (g.R.Rules.puzzle l.rules).houses - l.from
+decreases-loop-house g l = (g.R.Rules.system l.rules).houses - l.from

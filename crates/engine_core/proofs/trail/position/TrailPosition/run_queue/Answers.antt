@@ -8,26 +8,26 @@ use Rattle.engine_core.proofs.trail.position.TrailPosition.run_queue.Goals as go
 use Rattle.engine_core.proofs.trail.position.TrailPosition.run_queue.Goals.{In-Some, In_default, Then-step}
 
 -- the house that is visited waits
-picked : (g : _) (c : In-Some g) → (c.in-Some.house < (g.R.Rules.puzzle c.args.rules.now).houses) × (is_waiting c.loop-house.self.waits c.in-Some.house ≡ true)
+picked : (g : _) (c : In-Some g) → (c.in-Some.house < (g.R.Rules.system c.args.rules.now).houses) × (is_waiting c.loop-house.self.waits c.in-Some.house ≡ true)
 picked g c = rw (← c.self.view_is, ← c.houses.ensures, ← c.deref.ensures.value) c.in-Some.ensures
 
 -- there is room for one more visit
-more : (g : _) (c : In-Some g) → c.loop-house.turns < (g.R.Rules.puzzle c.args.rules.now).bound
+more : (g : _) (c : In-Some g) → c.loop-house.turns < (g.R.Rules.system c.args.rules.now).bound
 more g c =
     let r = c.loop-house.invariant.running in
     let w = picked g c in
     omega (arith, room _ _ r.0 _ _ _ r.2 w.0 w.1, r.1)
 
 -- a visit that would leave a cell without a value ends the closing
-dead : (g : _) (c : Then-step g) → (c.in-Some.house < (g.R.Rules.puzzle c.args.rules.now).houses) × (is_waiting c.loop-house.self.waits c.in-Some.house ≡ true)
-    → IsClosing (g.R.Rules.puzzle c.args.rules.now) (board_in c.args.self.now) (after (g.R.Rules.puzzle c.args.rules.now) c.in-Some.house (board_in c.loop-house.self)) Dead
+dead : (g : _) (c : Then-step g) → (c.in-Some.house < (g.R.Rules.system c.args.rules.now).houses) × (is_waiting c.loop-house.self.waits c.in-Some.house ≡ true)
+    → IsClosing (g.R.Rules.system c.args.rules.now) (board_in c.args.self.now) (after (g.R.Rules.system c.args.rules.now) c.in-Some.house (board_in c.loop-house.self)) Dead
     (c.loop-house.invariant.running.0 ++ c.in-Some.house ∷ []) 0
 dead g c w =
     let r = c.loop-house.invariant.running in
     closing-dead _ (g.met.R.Rules.lawful c.args.rules.now) _ r.0 _ _ _ _ c.requires.queue (within_of _ _ c.requires.along.board_of) r.2 w.0 w.1 refl c.if-step.ensures.step
 
 -- and so it ends where no house waits
-shut : (g : _) (c : In_default g) → IsClosing (g.R.Rules.puzzle c.args.rules.now) (board_in c.args.self.now) (board_in c.loop-house.self) Open c.loop-house.invariant.running.0 0
+shut : (g : _) (c : In_default g) → IsClosing (g.R.Rules.system c.args.rules.now) (board_in c.args.self.now) (board_in c.loop-house.self) Open c.loop-house.invariant.running.0 0
 shut g c =
     let r = c.loop-house.invariant.running in
     closing-open _ (g.met.R.Rules.lawful c.args.rules.now) _ r.0 _ _ c.requires.queue (within_of _ _ c.requires.along.board_of) r.2

@@ -4,7 +4,7 @@ use Rattle.engine_core.proofs.trail.position.TrailPosition.run_queue.Given as go
 
 abbrev pub invariant-loop-house : goal.invariant-loop-house
 invariant-loop-house g l =
-    let p = g.R.Rules.puzzle l.rules in
+    let p = g.R.Rules.system l.rules in
     record {
       running : (t : List ℕ) × (length t ≡ l.turns) × IsRunning p (board_in l.fn.self) t (board_in l.self) (is_waiting l.self.waits);
       turns : l.turns ≤ p.bound;
@@ -13,4 +13,4 @@ invariant-loop-house g l =
     }
 
 abbrev pub decreases-loop-house : goal.decreases-loop-house
-decreases-loop-house g l = (g.R.Rules.puzzle l.rules).bound - l.turns
+decreases-loop-house g l = (g.R.Rules.system l.rules).bound - l.turns

@@ -16,13 +16,13 @@ struck g c =
 
 -- a sweep that leaves a cell without a value ends the closing
 dead : (g : _) (c : Then-dead g)
-    → IsClosing (g.R.Rules.puzzle c.args.rules.now) (board_in c.args.self.now) (replay (g.R.Rules.puzzle c.args.rules.now) (board_in c.closing.self) (range_with_len 0 (g.R.Rules.puzzle c.args.rules.now).houses)) Dead [] (c.closing.turns + 1)
+    → IsClosing (g.R.Rules.system c.args.rules.now) (board_in c.args.self.now) (replay (g.R.Rules.system c.args.rules.now) (board_in c.closing.self) (range_with_len 0 (g.R.Rules.system c.args.rules.now).houses)) Dead [] (c.closing.turns + 1)
 dead g c =
     let i = c.closing.invariant in
     swept-dead _ (g.met.R.Rules.lawful c.args.rules.now) _ c.closing.turns _ c.requires.sweeps (within_of _ _ c.requires.along.board_of) i.alive i.swept (c.sweep-dead.ensures.swept.dies c.if-dead.true)
 
 -- and so does one after which no house waits
-shut : (g : _) (c : Then-is_none g) → IsClosing (g.R.Rules.puzzle c.args.rules.now) (board_in c.args.self.now) (board_in c.sweep-dead.new.self) Open [] (c.closing.turns + 1)
+shut : (g : _) (c : Then-is_none g) → IsClosing (g.R.Rules.system c.args.rules.now) (board_in c.args.self.now) (board_in c.sweep-dead.new.self) Open [] (c.closing.turns + 1)
 shut g c =
     let i = c.closing.invariant in
     let next = rw (c.houses.ensures, c.deref.ensures.value) at c.next_waiting.ensures in

@@ -4,7 +4,7 @@ use Rattle.engine_core.proofs.trail.position.TrailPosition.run_sweeps.Given as g
 
 abbrev pub invariant-closing : goal.invariant-closing
 invariant-closing g l =
-    let p = g.R.Rules.puzzle l.rules in
+    let p = g.R.Rules.system l.rules in
     record {
       alive : IsAlive p (board_in l.self);
       rested : IsRested p (board_in l.self) (is_waiting l.self.waits);
@@ -14,4 +14,4 @@ invariant-closing g l =
     }
 
 abbrev pub decreases-closing : goal.decreases-closing
-decreases-closing g l = let p = g.R.Rules.puzzle l.rules in total p.cells p.values (board_in l.self)
+decreases-closing g l = let p = g.R.Rules.system l.rules in total p.cells p.values (board_in l.self)

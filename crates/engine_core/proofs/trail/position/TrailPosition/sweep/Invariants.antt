@@ -4,7 +4,7 @@ use Rattle.engine_core.proofs.trail.position.TrailPosition.sweep.Given as goal
 
 abbrev pub invariant-loop-house : goal.invariant-loop-house
 invariant-loop-house g l =
-    let p = g.R.Rules.puzzle l.rules in
+    let p = g.R.Rules.system l.rules in
     record {
       past : l.from ≤ p.houses;
       sweeping : IsSweeping p (board_in l.fn.self) l.from (board_in l.self) (is_waiting l.self.waits);
@@ -14,4 +14,4 @@ invariant-loop-house g l =
     }
 
 abbrev pub decreases-loop-house : goal.decreases-loop-house
-decreases-loop-house g l = (g.R.Rules.puzzle l.rules).houses - l.from
+decreases-loop-house g l = (g.R.Rules.system l.rules).houses - l.from

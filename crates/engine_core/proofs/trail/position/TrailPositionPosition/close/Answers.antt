@@ -8,9 +8,9 @@ use Rattle.engine_core.proofs.trail.position.TrailPositionPosition.close.Goals a
 use Rattle.engine_core.proofs.trail.position.TrailPositionPosition.close.Goals.{After-wait_from, Then-has_empty_cell}
 
 -- a board that is dead already
-dead : (g : _) (c : Then-has_empty_cell g) → IsClosing (g.R.Rules.puzzle c.args.rules.now) (board_in c.args.self.now) (board_in c.args.self.now) Dead [] 0
+dead : (g : _) (c : Then-has_empty_cell g) → IsClosing (g.R.Rules.system c.args.rules.now) (board_in c.args.self.now) (board_in c.args.self.now) Dead [] 0
 dead g c =
-    let p = g.R.Rules.puzzle c.args.rules.now in
+    let p = g.R.Rules.system c.args.rules.now in
     let of = (rw (← c.self.view_is) at c.requires.walks).along.board_of in
     rw (← c.self.view_is) (closing-none p (g.met.R.Rules.lawful c.args.rules.now) (has c.self.inside.trailed.board) (within_of p _ of)
     (sym (dead_of p _ of) ∙ (sym (rw c.board.ensures at c.has_empty_cell.ensures) ∙ c.if-has_empty_cell.true)))
@@ -23,7 +23,7 @@ returns-then-has_empty_cell-clause-turns g c = closed-in _ _ _ _ _ _ _ (dead g (
 
 -- the houses that wait at first
 rested : (g : _) (c : After-wait_from g)
-    → IsRested (g.R.Rules.puzzle c.args.rules.now) (has c.self.inside.trailed.board) (is_waiting (take c.self.inside.waits.len (c.wait_from.new.waits ++ drop (length c.wait_from.new.waits) c.self.inside.waits.items)))
+    → IsRested (g.R.Rules.system c.args.rules.now) (has c.self.inside.trailed.board) (is_waiting (take c.self.inside.waits.len (c.wait_from.new.waits ++ drop (length c.wait_from.new.waits) c.self.inside.waits.items)))
 rested g c =
     let r = rw (← c.self.view_is) at c.requires in
     rw (written-back c.self.inside.waits.len c.wait_from.new.waits (drop (length c.wait_from.new.waits) c.self.inside.waits.items) (omega (arith, c.self.inside.waits.ok.0, c.deref_mut.ensures.len, c.wait_from.auto.waits)))

@@ -13,7 +13,7 @@ leave-requires-clause-left g c =
 
 pub leave-requires-clause-other : goal.leave-requires-clause-other
 leave-requires-clause-other g c = λ e.
-    let bits : IsBitsOf (has c.args.self.now.board c.args.place) (g.R.Rules.puzzle c.args.rules.now).values c.cell_bits-before.result =
+    let bits : IsBitsOf (has c.args.self.now.board c.args.place) (g.R.Rules.system c.args.rules.now).values c.cell_bits-before.result =
     rw (← c.self.view_is, ← (rw (← c.self.view_is) at c.requires.board_of.same_values)) c.cell_bits-before.ensures in
     only-other _ c.args.value _ _ bits c.requires.several (sym (bit g (goal.at.leave-requires-clause-other g c).After-cell_bits-before) ∙ e)
 

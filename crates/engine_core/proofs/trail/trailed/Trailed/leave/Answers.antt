@@ -5,7 +5,7 @@ use Rattle.engine_core.proofs.trail.trailed.Trailed.leave.Goals as goal
 use Rattle.engine_core.proofs.trail.trailed.Trailed.leave.Goals.{After-retain}
 
 -- what the change leaves
-noted : (g : _) (c : After-retain g) → IsLeft (g.R.Rules.puzzle c.args.rules.now) c.self.inside.board c.retain.new.self c.self.inside.changes.items c.self.inside.len c.args.place c.args.before c.args.left
+noted : (g : _) (c : After-retain g) → IsLeft (g.R.Rules.system c.args.rules.now) c.self.inside.board c.retain.new.self c.self.inside.changes.items c.self.inside.len c.args.place c.args.before c.args.left
 noted g c =
     let r = rw (← c.self.view_is) at c.requires in
     left-noted _ _ _ _ _ _ _ _ r.board_of c.retain.ensures.shape r.place_in r.before r.left (left-is _ _ _ _ c.retain.ensures.left) r.other c.self.invariant

@@ -8,13 +8,13 @@ use Rattle.engine_core.proofs.trail.trailed.Trailed.strike.Goals as goal
 use Rattle.engine_core.proofs.trail.trailed.Trailed.strike.Goals.{After-left_of-left, then-left-sets+else-left-eq0, else-left-sets}
 
 -- the cell of this turn is one of the house
-in_scope : (g : _) (c : After-left_of-left g) → c.loop-k.k < length ((g.R.Rules.puzzle c.args.rules.now).scope c.args.house)
+in_scope : (g : _) (c : After-left_of-left g) → c.loop-k.k < length ((g.R.Rules.system c.args.rules.now).scope c.args.house)
 in_scope g c = omega (arith, c.requires.sets.as_many)
 
 -- what it is to have left
 left : (g : _) (c : After-left_of-left g)
-    → IsBitsOf (after (g.R.Rules.puzzle c.args.rules.now) c.args.house (has c.args.self.now.board) (slice_index ((g.R.Rules.puzzle c.args.rules.now).scope c.args.house) c.loop-k.k))
-    (g.R.Rules.puzzle c.args.rules.now).values c.left_of-left.result
+    → IsBitsOf (after (g.R.Rules.system c.args.rules.now) c.args.house (has c.args.self.now.board) (slice_index ((g.R.Rules.system c.args.rules.now).scope c.args.house) c.loop-k.k))
+    (g.R.Rules.system c.args.rules.now).values c.left_of-left.result
 left g c = rw c.left_of-left.ensures (kept-left _ _ _ _ _ c.requires.sets c.requires.kept c.loop-k.k (in_scope g c))
 
 pub leave-requires-clause-place_in : goal.leave-requires-clause-place_in
@@ -54,7 +54,7 @@ loop-k-preserved g c =
     elim c.if-left-sets.branch [
       | then-left-sets+else-left-eq0 w ↦
           let e = w.leave.ensures in
-          let upto : IsUpto (g.R.Rules.puzzle c.args.rules.now) c.args.house (c.loop-k.k + 1) (has c.args.self.now.board) (has w.leave.new.self.board) = rw (e.left, w.scope.ensures) (upto-left _ laws _ _ _ _ _ c.requires.house_in lt within i.upto left) in
+          let upto : IsUpto (g.R.Rules.system c.args.rules.now) c.args.house (c.loop-k.k + 1) (has c.args.self.now.board) (has w.leave.new.self.board) = rw (e.left, w.scope.ensures) (upto-left _ laws _ _ _ _ _ c.requires.house_in lt within i.upto left) in
           rw (w.self-is, w.counts-is) (record {
             upto = upto;
             some = λ j less. elim (cases_eq j c.loop-k.k) [
@@ -84,7 +84,7 @@ pub returns-clause-struck : goal.returns-clause-struck
 returns-clause-struck g c = λ _.
     let i = c.loop-k.invariant in
     let laws = g.met.R.Rules.lawful c.args.rules.now in
-    let all : c.loop-k.k ≡ length ((g.R.Rules.puzzle c.args.rules.now).scope c.args.house) = omega (arith, c.requires.sets.as_many) in
+    let all : c.loop-k.k ≡ length ((g.R.Rules.system c.args.rules.now).scope c.args.house) = omega (arith, c.requires.sets.as_many) in
     let left = upto-all _ laws c.args.house _ _ c.requires.house_in (rw all at i.upto) in
     record {
       left = left;

@@ -5,7 +5,7 @@ use Rattle.engine_core.proofs.trail.trailed.Trailed.undo.Goals.{After-cell_bits}
 
 -- what taking the last change back leaves
 last_undone : (g : _) (c : After-cell_bits g)
-    → IsUndone (g.R.Rules.puzzle c.args.rules.now) c.args.self.now.board c.loop-self.self-inside.board c.restore_set.new.self c.loop-self.self-inside.changes.items c.loop-self.self-inside.len
+    → IsUndone (g.R.Rules.system c.args.rules.now) c.args.self.now.board c.loop-self.self-inside.board c.restore_set.new.self c.loop-self.self-inside.changes.items c.loop-self.self-inside.len
     c.index.result.now.0 c.cell_bits-before.result c.cell_bits.result
 last_undone g c =
     let i = c.loop-self.invariant in

@@ -1,5 +1,5 @@
 use Rattle.std.proofs.Common.{ℕ, Bool, slice_index, arith}
-use Rattle.engine_core.specs.Puzzle.{has_place}
+use Rattle.engine_core.specs.RuleSystem.{has_place}
 use Rattle.engine_core.specs.Waiting.{is_waiting}
 use Rattle.engine_core.proofs.CallLemmas.{upto-asked, upto-all}
 use Rattle.fields_core.specs.CountHouse.{count_house_of, table_puzzle}
@@ -11,8 +11,8 @@ pub may_strike-requires-clause-house_in : goal.may_strike-requires-clause-house_
 may_strike-requires-clause-house_in c =
     (listed-house _ _ _ (counted-table _ _ _ c.args.self.now c.self.invariant.0 c.self.invariant.1 c.self.view_is) c.args.place _ c.houses_at-houses.ensures c.loop-k.k c.loop-k-test.true).0
 
-pub mark_if-requires : goal.mark_if-requires
-mark_if-requires c = omega (arith, (listed-house _ _ _ (counted-table _ _ _ c.args.self.now c.self.invariant.0 c.self.invariant.1 c.self.view_is) c.args.place _ c.houses_at-houses.ensures c.loop-k.k c.loop-k-test.true).0, c.requires.room, c.loop-k.auto.waits)
+pub enqueue_if-requires : goal.enqueue_if-requires
+enqueue_if-requires c = omega (arith, (listed-house _ _ _ (counted-table _ _ _ c.args.self.now c.self.invariant.0 c.self.invariant.1 c.self.view_is) c.args.place _ c.houses_at-houses.ensures c.loop-k.k c.loop-k-test.true).0, c.requires.room, c.loop-k.auto.waits)
 
 pub loop-k-preserved : goal.loop-k-preserved
 loop-k-preserved c = λ blocked is_solution K tallied.
@@ -22,7 +22,7 @@ loop-k-preserved c = λ blocked is_solution K tallied.
     let house = slice_index c.houses_at-houses.result.now k in
     let at = listed-house _ _ _ (counted-table _ _ _ c.args.self.now c.self.invariant.0 c.self.invariant.1 c.self.view_is) c.args.place _ c.houses_at-houses.ensures k c.loop-k-test.true in
     let upto = c.loop-k.invariant blocked is_solution K tallied in
-    upto-asked p K test (is_waiting c.args.waits.now) (is_waiting c.loop-k.waits) (is_waiting c.mark_if.new.waits) house k c.may_strike.result at.1 at.2 (λ off. c.may_strike.ensures off K tallied) c.mark_if.ensures upto
+    upto-asked p K test (is_waiting c.args.waits.now) (is_waiting c.loop-k.waits) (is_waiting c.enqueue_if.new.waits) house k c.may_strike.result at.1 at.2 (λ off. c.may_strike.ensures off K tallied) c.enqueue_if.ensures upto
 
 pub returns : goal.returns
 returns c = λ blocked is_solution K tallied.

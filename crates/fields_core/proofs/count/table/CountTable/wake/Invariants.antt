@@ -1,6 +1,6 @@
 use Rattle.std.proofs.Common.{ℕ, Bool, List}
 use Rattle.grid_core.specs.Candidates.{Candidates}
-use Rattle.engine_core.specs.Puzzle.{has_place}
+use Rattle.engine_core.specs.RuleSystem.{has_place}
 use Rattle.engine_core.specs.Waiting.{is_waiting, AreCalled}
 use Rattle.engine_core.proofs.CallLemmas.{asked_upto}
 use Rattle.fields_core.specs.CountHouse.{count_house_of, table_puzzle}

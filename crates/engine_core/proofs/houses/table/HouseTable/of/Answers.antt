@@ -1,6 +1,6 @@
 use Rattle.engine_core.proofs.Common.{ap, arith, drop, length, refl, slice_index, start_at, sym, take_at, ◌∙◌, ◌≡◌}
 use Rattle.engine_core.proofs.IndexLemmas.{scopes-wider, index-none}
-use Rattle.engine_core.proofs.houses.table.Houses.of.Goals as goal
+use Rattle.engine_core.proofs.houses.table.HouseTable.of.Goals as goal
 
 pub write_ends-all-requires-clause-scopes : goal.write_ends-all-requires-clause-scopes
 write_ends-all-requires-clause-scopes c =

@@ -6,12 +6,12 @@ use Rattle.std.proofs.lemmas.Nat.{mul-le}
 use Rattle.std.proofs.lemmas.List.Sums.{sum_by-cons}
 use Rattle.grid_core.specs.Candidates.{count_below, sum_below}
 use Rattle.grid_core.proofs.CandidateLemmas.{sum_below-le, sum_below-add, count_below-or, count_below-few, count_below-none}
-use Rattle.engine_core.specs.Puzzle.{IsLawful, after, has_place, share}
+use Rattle.engine_core.specs.RuleSystem.{IsLawful, after, has_place, share}
 use Rattle.engine_core.specs.PlaceLaws.{has_place-at}
-use Rattle.engine_core.specs.House.{Decision, strikes_at}
-use Rattle.engine_core.specs.HouseLaws.{strikes_at-in_scope, strikes_at-inside, settled_at, closed_at}
-pub use Rattle.engine_core.specs.HouseLaws.{by_fillings-settles, by_fillings-keeps}
-use Rattle.engine_core.specs.Houses.{House, house_of, no_house, Setting, by_houses, IsSound, IsSetting, visits_of}
+use Rattle.engine_core.specs.HouseSets.{Decision, strikes_at}
+use Rattle.engine_core.specs.HouseSetsLaws.{strikes_at-in_scope, strikes_at-inside, settled_at, closed_at}
+pub use Rattle.engine_core.specs.HouseSetsLaws.{by_fillings-settles, by_fillings-keeps}
+use Rattle.engine_core.specs.HouseRules.{House, house_of, no_house, Setting, by_houses, IsSound, IsSetting, visits_of}
 
 -- ---- a puzzle of sound houses
 pub by_houses-lawful : (s : Setting) (houses : List House) → IsSetting s → All (IsSound s) houses

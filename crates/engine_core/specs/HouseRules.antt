@@ -2,9 +2,9 @@
 use Rattle.std.specs.Prelude.{◌≡◌, ℕ, ◌+◌, ◌*◌, ◌<◌, ◌≤◌, Bool, true, false, not, ◌&&◌, ◌==◌, List, [], map, length, get_or, slice_index, slice_index_or}
 use Rattle.grid_core.specs.Candidates.{Candidates, IsInside, IsWithin, single, max_cells, max_values}
 use Rattle.grid_core.specs.Grids.{IsGrid}
-use Rattle.engine_core.specs.Puzzle.{Puzzle}
+use Rattle.engine_core.specs.RuleSystem.{RuleSystem}
 use Rattle.engine_core.specs.Filling.{Set, has_value}
-use Rattle.engine_core.specs.House.{Decision, strikes_at, IsMonotone, AreDifferent}
+use Rattle.engine_core.specs.HouseSets.{Decision, strikes_at, IsMonotone, AreDifferent}
 
 -- the places of its cells, and which values are struck from which of them, by their sets
 pub record House : Type 0 where
@@ -32,7 +32,7 @@ pub record Setting : Type 0 where
   pub is_solution : List ℕ → Bool
 
 -- the puzzle of these houses
-abbrev pub by_houses : Setting → List House → Puzzle
+abbrev pub by_houses : Setting → List House → RuleSystem
 by_houses s houses = record {
   cells = s.cells;
   values = s.values;

@@ -7,7 +7,7 @@ use Rattle.grid_core.specs.Grids.{IsGrid}
 
 -- what a rule set means: its cells, values and houses, the most visits or sweeps of one closing, where a search
 -- starts, what a visit of a house strikes (house, board, cell, value), and which grids are solutions
-pub record Puzzle : Type 0 where
+pub record RuleSystem : Type 0 where
   pub cells : ℕ
   pub values : ℕ
   pub houses : ℕ
@@ -24,19 +24,19 @@ unfoldable pub has_place : List ℕ → ℕ → Bool
 has_place xs place = list_any (λ x. x == place) xs
 
 -- a list of one value for each cell
-abbrev pub IsGridOf : Puzzle → List ℕ → Type 0
+abbrev pub IsGridOf : RuleSystem → List ℕ → Type 0
 IsGridOf p g = IsGrid p.cells p.values g
 
 -- the board without all that a visit of the house strikes, taken together
-unfoldable pub after : Puzzle → ℕ → Candidates → Candidates
+unfoldable pub after : RuleSystem → ℕ → Candidates → Candidates
 after p h K c v = K c v && not (p.strikes h K c v)
 
 -- no house strikes a value that its cell still has
-abbrev pub IsClosed : Puzzle → Candidates → Type 0
+abbrev pub IsClosed : RuleSystem → Candidates → Type 0
 IsClosed p K = (h c v : ℕ) → h < p.houses → K c v ≡ true → p.strikes h K c v ≡ false
 
 -- the house strikes no value that its cells still have
-abbrev pub IsIdle : Puzzle → ℕ → Candidates → Type 0
+abbrev pub IsIdle : RuleSystem → ℕ → Candidates → Type 0
 IsIdle p h K = (c v : ℕ) → K c v ≡ true → p.strikes h K c v ≡ false
 
 -- at the cells of the list, each value that the first board has, the second has
@@ -46,11 +46,11 @@ IsInsideAt scope K L =
 
 -- how many visits a value lost by the cell can call for: one of each house that has the cell, but for the house
 -- just visited where it is settled
-unfoldable pub share : Puzzle → ℕ → ℕ
+unfoldable pub share : RuleSystem → ℕ → ℕ
 share p c = count_below (λ h. has_place (p.scope h) c) p.houses - cond p.settled 1 0
 
 -- what every rule set keeps to
-pub record IsLawful (p : Puzzle) : Type 0 where
+pub record IsLawful (p : RuleSystem) : Type 0 where
   -- what is struck in a board is struck in every board that has no more in the house's cells
   pub strikes_inside : (h : ℕ) (K L : Candidates) → h < p.houses → IsInsideAt (p.scope h) K L
       → (c v : ℕ) → p.strikes h L c v ≡ true → p.strikes h K c v ≡ true
@@ -95,7 +95,7 @@ longest scope zero = 0
 longest scope (suc n) = max (longest scope n) (length (scope n))
 
 -- what a rule set needs memory for
-abbrev pub needs_of : Puzzle → Needs
+abbrev pub needs_of : RuleSystem → Needs
 needs_of p = record {
   cells = p.cells;
   values = p.values;
@@ -113,7 +113,7 @@ pub record FitsIn (need had : Needs) : Type 0 where
   pub scope_in : need.scope ≤ had.scope
 
 -- the board has the rules' cells and values
-pub record IsBoardOf (p : Puzzle) (b : Layout) : Type 0 where
+pub record IsBoardOf (p : RuleSystem) (b : Layout) : Type 0 where
   pub same_cells : cells_of b ≡ p.cells
   pub same_values : b.values ≡ p.values
 
