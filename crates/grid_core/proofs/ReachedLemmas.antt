@@ -16,18 +16,18 @@ use Rattle.grid_core.specs.Augmenting.{ReachedView, AreReached, with_left}
 use Rattle.grid_core.proofs.DifferentNumbers.{apart-le}
 
 -- what is marked is one of the entries
-marked_in : (seen : List Bool) (l : ℕ) → get_or seen l false ≡ true → l < length seen
-marked_in seen l h = grind (arith, common_steps, get_or_past)
+marked_in : (seen : List Bool) {l : ℕ} → get_or seen l false ≡ true → l < length seen
+marked_in seen h = grind (arith, common_steps, get_or_past)
 
 -- no more lefts are reached than there is room for
 pub reached-le : (seen : List Bool) (lefts : List ℕ) → AreReached seen lefts → length lefts ≤ length seen
 reached-le seen lefts r =
-    apart-le lefts (length lefts) (length seen) (omega arith) r.apart (λ j h. marked_in seen (get_or lefts j 0) (r.seen_each j h))
+    apart-le lefts (length lefts) (length seen) (omega arith) r.apart (λ j h. marked_in seen (r.seen_each j h))
 
 -- a left that wasn't reached is
-pub AreReached-push : (seen : List Bool) (lefts : List ℕ) (left : ℕ) → AreReached seen lefts
+pub AreReached-push : {seen : List Bool} {lefts : List ℕ} (left : ℕ) → AreReached seen lefts
     → left < length seen → (Contains lefts left → ⊥) → AreReached (set seen left true) (lefts ++ left ∷ [])
-AreReached-push seen lefts left r inside new = record {
+AreReached-push {lefts} left r inside new = record {
   apart = record { differ = λ i j a b e. let c = r.apart.differ i j a in let d = is_new i in grind (arith, common_steps) };
   seen_each = λ j h. let c = r.seen_each j in grind (arith, common_steps);
   seen_only = λ l h. elim (cases_eq l left) [
@@ -40,12 +40,12 @@ AreReached-push seen lefts left r inside new = record {
     is_new j h e = new (j, h, get_or_default lefts j left 0 h ∙ e)
 
 -- there is room for it behind those in the queue
-module _ (seen : List Bool) (queue parents : List ℕ) (room count left : ℕ) (v : ReachedView)
+module _ {seen : List Bool} (queue parents : List ℕ) {room count left : ℕ} {v : ReachedView}
     (is : ◌≡◌ {A = ReachedView} (record { room = room; lefts = take count queue; parents = take count parents }) v)
     (r : AreReached seen (take count queue)) (marks : length seen ≡ room) (fits : count ≤ length queue)
     (left_in : left < v.room) (new : Contains v.lefts left → ⊥) where
   pushed : AreReached (set seen left true) (take count queue ++ left ∷ [])
-  pushed = AreReached-push seen (take count queue) left r
+  pushed = AreReached-push left r
       (let e = ap (λ (w : ReachedView). w.room) is in omega arith) (rw (ap (λ (w : ReachedView). w.lefts) is) new)
 
   pub room_for_left : count < length seen
@@ -55,22 +55,22 @@ module _ (seen : List Bool) (queue parents : List ℕ) (room count left : ℕ) (
   AreReached-write within = rw (take_more_set queue count left within) pushed
 
 -- and what is seen of it then
-pub view-write : (queue parents : List ℕ) (room count left parent : ℕ) (v : ReachedView)
+pub view-write : (queue parents : List ℕ) (room count left parent : ℕ) {v : ReachedView}
     → ◌≡◌ {A = ReachedView} (record { room = room; lefts = take count queue; parents = take count parents }) v
     → count < length queue → count < length parents
     → ◌≡◌ {A = ReachedView}
     (record { room = room; lefts = take (count + 1) (set queue count left); parents = take (count + 1) (set parents count parent) })
     (with_left v left parent)
-view-write queue parents room count left parent v is queue_room parents_room = grind (arith, common_steps, take_more_set)
+view-write queue parents room count left parent is queue_room parents_room = grind (arith, common_steps, take_more_set)
 
 -- the last left is forgotten
-module _ (seen : List Bool) (queue : List ℕ) (count last left : ℕ) (left_is : left ≡ get_or queue last left)
+module _ {seen : List Bool} (queue : List ℕ) (count last left : ℕ) (left_is : left ≡ get_or queue last left)
     (r : AreReached seen (take count queue)) (next : last + 1 ≡ count) (fits : count ≤ length queue) where
   last_is : get_or (take count queue) last 0 ≡ left
   last_is = get_or-take count queue last 0 (omega arith) ∙ sym (left_is ∙ get_or_default queue last left 0 (omega arith))
 
   pub last_in : left < length seen
-  last_in = rw (sym last_is) (marked_in seen (get_or (take count queue) last 0) (r.seen_each last (omega (arith, length-take count queue))))
+  last_in = rw (sym last_is) (marked_in seen (r.seen_each last (omega (arith, length-take count queue))))
 
   pub AreReached-pop : AreReached (set seen left false) (take last queue)
   AreReached-pop = record {
@@ -88,7 +88,7 @@ module _ (seen : List Bool) (queue : List ℕ) (count last left : ℕ) (left_is 
   }
 
 -- lefts that were put in order ascend, stay different, and stay those that are seen
-module _ (seen : List Bool) (lefts sorted : List ℕ) (r : AreReached seen lefts)
+module _ {seen : List Bool} {lefts : List ℕ} (sorted : List ℕ) (r : AreReached seen lefts)
     (same : IsPermutation lefts sorted) (up : IsSorted nat_cmp sorted) where
   distinct : IsDistinct eqb sorted
   distinct = IsDistinct-IsPermutation eqb nat_eq_equiv.symm lefts sorted same (IsDistinct-from_AllPairs unsigned_Decides lefts

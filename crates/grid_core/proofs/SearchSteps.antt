@@ -22,11 +22,11 @@ pub record IsScan (joins : ℕ → ℕ → Bool) (mates : List ℕ) (old reached
   pub owners : ReachesOwners joins mates reached.lefts left from
 
 -- the owner of a right is reached from the left at `head`, which the right is joined to
-IsReach-push : (joins : ℕ → ℕ → Bool) (mates : List ℕ) (reached : ReachedView) → IsReach joins mates reached
-    → (head right owner : ℕ) → head < length reached.lefts → IsTrue (joins (get_or reached.lefts head 0) right)
+IsReach-push : {joins : ℕ → ℕ → Bool} {mates : List ℕ} {reached : ReachedView} → IsReach joins mates reached
+    → {head right owner : ℕ} → head < length reached.lefts → IsTrue (joins (get_or reached.lefts head 0) right)
     → owner < length mates → get_or mates owner 0 ≡ right
     → IsReach joins mates (record reached { lefts = reached.lefts ++ owner ∷ []; parents = reached.parents ++ head ∷ [] })
-IsReach-push joins mates reached reach head right owner head_in joined owner_in owns =
+IsReach-push {reached} reach head_in joined owner_in owns =
     let some = reach.some in
     let root = reach.root in
     let as_many = reach.as_many in
@@ -43,67 +43,67 @@ IsReach-push joins mates reached reach head right owner head_in joined owner_in 
     }
 
 -- a list begins with itself, also after one more
-Extends-push : (xs : List ℕ) (y : ℕ) → Extends xs (xs ++ y ∷ [])
-Extends-push xs y = record { grown = grind (arith, common_steps); kept = λ j h. grind (arith, common_steps) }
+Extends-push : {xs : List ℕ} (y : ℕ) → Extends xs (xs ++ y ∷ [])
+Extends-push y = record { grown = grind (arith, common_steps); kept = λ j h. grind (arith, common_steps) }
 
-Extends-chain : (xs ys zs : List ℕ) → Extends xs ys → Extends ys zs → Extends xs zs
-Extends-chain xs ys zs e f = grind (arith, common_steps)
+Extends-chain : {xs ys zs : List ℕ} → Extends xs ys → Extends ys zs → Extends xs zs
+Extends-chain e f = grind (arith, common_steps)
 
-mate_kept : (mates xs ys : List ℕ) (r : ℕ) → Extends xs ys → IsMateOfLater mates xs r → IsMateOfLater mates ys r
-mate_kept mates xs ys r e w = let a = e.grown in (w.0, w.1, omega arith, ap (λ l. get_or mates l 0) (e.kept w.0 w.2) ∙ w.3)
+mate_kept : (mates : List ℕ) {xs ys : List ℕ} {r : ℕ} → Extends xs ys → IsMateOfLater mates xs r → IsMateOfLater mates ys r
+mate_kept mates e w = let a = e.grown in (w.0, w.1, omega arith, ap (λ l. get_or mates l 0) (e.kept w.0 w.2) ∙ w.3)
 
 -- an owner that was reached isn't the root, which has no mate
-mate_of_reached : (joins : ℕ → ℕ → Bool) (mates : List ℕ) (reached : ReachedView) (owner r : ℕ) → IsReach joins mates reached
+mate_of_reached : {joins : ℕ → ℕ → Bool} {mates : List ℕ} {reached : ReachedView} {owner r : ℕ} → IsReach joins mates reached
     → Contains reached.lefts owner → owner < length mates → get_or mates owner 0 ≡ r → IsMateOfLater mates reached.lefts r
-mate_of_reached joins mates reached owner r reach w owner_in owns = grind (arith, common_steps, get_or_default)
+mate_of_reached reach w owner_in owns = grind (arith, common_steps, get_or_default)
 
 -- a joined right is passed: it is free, its owner was reached before, or its owner is reached now
-module _ (joins : ℕ → ℕ → Bool) (mates : List ℕ) (old reached : ReachedView) (left from right : ℕ)
+module _ {joins : ℕ → ℕ → Bool} {mates : List ℕ} {old reached : ReachedView} {left from right : ℕ}
     (s : IsScan joins mates old reached left from)
     (between : (q : ℕ) → from ≤ q → q < right → IsTrue (joins left q) → ⊥) where
-  IsScan-step : (more : ReachedView) → more.room ≡ reached.room → IsReach joins mates more → Extends reached.lefts more.lefts
+  IsScan-step : {more : ReachedView} → more.room ≡ reached.room → IsReach joins mates more → Extends reached.lefts more.lefts
       → ((IsFree mates right → ⊥) → IsMateOfLater mates more.lefts right)
       → IsScan joins mates old more left (right + 1)
-  IsScan-step more room reach grown here = record {
+  IsScan-step room reach grown here = record {
     room = room ∙ s.room;
     reach = reach;
-    grown = Extends-chain old.lefts reached.lefts more.lefts s.grown grown;
+    grown = Extends-chain s.grown grown;
     owners = λ r h j n. elim (cases_eq r right) [
       | inl e ↦ rw e (here (rw (sym e) n))
       | inr ne ↦ elim (cases_lt r from) [
-        | inl low ↦ mate_kept mates reached.lefts more.lefts r grown (s.owners r low j n)
+        | inl low ↦ mate_kept mates grown (s.owners r low j n)
         | inr high ↦ absurd (between r (omega arith) (omega arith) j)
       ]
     ];
   }
 
   pub IsScan-free : IsFree mates right → IsScan joins mates old reached left (right + 1)
-  IsScan-free free = IsScan-step reached refl s.reach (record { grown = omega arith; kept = λ j h. refl }) (λ n. absurd (n free))
+  IsScan-free free = IsScan-step refl s.reach (record { grown = omega arith; kept = λ j h. refl }) (λ n. absurd (n free))
 
-  module _ (owner : ℕ) (owns : (owner < length mates) × (get_or mates owner 0 ≡ right)) where
+  module _ {owner : ℕ} (owns : (owner < length mates) × (get_or mates owner 0 ≡ right)) where
     pub IsScan-known : Contains reached.lefts owner → IsScan joins mates old reached left (right + 1)
-    IsScan-known w = IsScan-step reached refl s.reach (record { grown = omega arith; kept = λ j h. refl })
-        (λ n. mate_of_reached joins mates reached owner right s.reach w owns.0 owns.1)
+    IsScan-known w = IsScan-step refl s.reach (record { grown = omega arith; kept = λ j h. refl })
+        (λ n. mate_of_reached s.reach w owns.0 owns.1)
 
-    pub IsScan-push : (head : ℕ) → head < length old.lefts → left ≡ get_or old.lefts head 0 → IsTrue (joins left right)
+    pub IsScan-push : {head : ℕ} → head < length old.lefts → left ≡ get_or old.lefts head 0 → IsTrue (joins left right)
         → IsScan joins mates old (record reached { lefts = reached.lefts ++ owner ∷ []; parents = reached.parents ++ head ∷ [] }) left (right + 1)
-    IsScan-push head head_in left_is joined =
+    IsScan-push {head} head_in left_is joined =
         let within : head < length reached.lefts = let a = s.grown.grown in omega arith in
-        let reach = IsReach-push joins mates reached s.reach head right owner within (rw (s.grown.kept head head_in, sym left_is) joined) owns.0 owns.1 in
-        IsScan-step (record reached { lefts = reached.lefts ++ owner ∷ []; parents = reached.parents ++ head ∷ [] }) refl reach (Extends-push reached.lefts owner)
-        (λ n. mate_of_reached joins mates _ owner right reach
+        let reach = IsReach-push s.reach within (rw (s.grown.kept head head_in, sym left_is) joined) owns.0 owns.1 in
+        IsScan-step refl reach (Extends-push owner)
+        (λ n. mate_of_reached reach
         (length reached.lefts, omega (arith, length-append reached.lefts (owner ∷ [])), get_or-append_seam reached.lefts owner [] owner) owns.0 owns.1)
 
 -- the rights of one more left are the mates of lefts that were reached
-pub IsClosed-step : (joins : ℕ → ℕ → Bool) (rights : ℕ) (mates lefts more : List ℕ) (head : ℕ) → head < length lefts
+pub IsClosed-step : (joins : ℕ → ℕ → Bool) {rights : ℕ} (mates : List ℕ) {lefts more : List ℕ} {head : ℕ} → head < length lefts
     → IsClosed joins rights mates lefts head → Extends lefts more
     → IsBlocked joins rights mates (get_or lefts head 0) → ReachesOwners joins mates more (get_or more head 0) rights
     → IsClosed joins rights mates more (head + 1)
-IsClosed-step joins rights mates lefts more head head_in closed grown blocked owners j r a b h = elim (cases_eq j head) [
+IsClosed-step joins mates {more} {head} head_in closed grown blocked owners j r a b h = elim (cases_eq j head) [
   | inl e ↦
       let here : IsTrue (joins (get_or more head 0) r) = subst (λ k. IsTrue (joins (get_or more k 0) r)) e h in
       owners r b here (λ free. blocked r (record { right_in = b; joined = subst (λ l. IsTrue (joins l r)) (grown.kept head head_in) here; free = free }))
-  | inr ne ↦ mate_kept mates lefts more r grown (closed j r (omega arith) b (subst (λ l. IsTrue (joins l r)) (grown.kept j (omega arith)) h))
+  | inr ne ↦ mate_kept mates grown (closed j r (omega arith) b (subst (λ l. IsTrue (joins l r)) (grown.kept j (omega arith)) h))
 ]
 
 -- what stands while a right is free for the left at `place`
@@ -144,5 +144,10 @@ module _ (joins : ℕ → ℕ → Bool) (lefts rights : ℕ) (mates : List ℕ) 
         let few = count_by-le (λ r. list_any (λ l. joins l r) sorted) rights later_mates
         (λ r h e. joined_held r h (Any-from_list_any (λ l. joins l r) reached.lefts (list_any-IsPermutation (λ l. joins l r) reached.lefts sorted same ∙ e))) in
         let some = reach.some in
-        omega (arith, length-drop 1 (map (λ l. get_or mates l 0) reached.lefts), length-map reached.lefts (λ l. get_or mates l 0), length_permutation reached.lefts sorted same);
+        omega (
+          arith,
+          length-drop 1 (map (λ l. get_or mates l 0) reached.lefts),
+          length-map reached.lefts (λ l. get_or mates l 0),
+          length_permutation reached.lefts sorted same,
+        );
   }

@@ -13,7 +13,7 @@ mod size;
 
 pub use board::Board;
 pub use grid::Grid;
-pub use lines::{line_count, line_len, line_value, line_place};
+pub use lines::{line_count, line_len, line_place, line_value};
 pub use pairing::{Edges, Paired, Pairing};
 pub use regions::{beside, block_place, column_place, diagonal_place, row_place, step};
 pub use size::{MAX_SIDE, Size};

@@ -19,7 +19,7 @@ invariant_of-self c =
       old.1,
       old.2,
       rw (written (vec_len i.queue) c.sort_first.new.entries i.queue.items c.deref_mut.result.now s.as_long (omega arith) value)
-          (AreReached-sort i.seen.items (take i.count i.queue.items) (take i.count c.sort_first.new.entries) old.3
+          (AreReached-sort (take i.count c.sort_first.new.entries) old.3
           (rw (sym value) s.same) s.sorted),
     )
 
@@ -37,5 +37,5 @@ returns-clause-ascending c =
     let s = c.sort_first.ensures in
     let value = c.deref_mut.ensures.value in
     rw (written (vec_len i.queue) c.sort_first.new.entries i.queue.items c.deref_mut.result.now s.as_long (omega arith) value)
-    (ascending i.seen.items (take i.count i.queue.items) (take i.count c.sort_first.new.entries) c.self.invariant.3
+    (ascending (take i.count c.sort_first.new.entries) c.self.invariant.3
     (rw (sym value) s.same) s.sorted)
