@@ -3,11 +3,11 @@
 
 mod augmenting;
 mod board;
+mod frontier;
 mod grid;
 mod lines;
 mod mates;
 mod pairing;
-mod reached;
 mod regions;
 mod size;
 

@@ -10,18 +10,18 @@ use std::marker::Model;
 
 /// The lefts that a search has reached, in this order, and for each the place of its parent.
 #[derive(Drop)]
-pub(crate) struct Reached {
+pub(crate) struct Frontier {
     seen: Vec<bool>,
     queue: Vec<usize>,
     parents: Vec<usize>,
     count: usize,
 }
 
-impl Model for Reached {
+impl Model for Frontier {
     ghost use Rattle.std.specs.Prelude.{◌≡◌, ◌≤◌, vec_len, take};
-    ghost use Rattle.grid_core.specs.Augmenting.{ReachedView, AreReached};
+    ghost use Rattle.grid_core.specs.Augmenting.{FrontierView, AreReached};
 
-    ghost Value = { ReachedView };
+    ghost Value = { FrontierView };
 
     ghost view = { λ r. record {
       room = vec_len r.seen;
@@ -34,12 +34,12 @@ impl Model for Reached {
         × AreReached r.seen.items (take r.count r.queue.items) };
 }
 
-impl Reached {
+impl Frontier {
     /// Room for n lefts.
-    pub(crate) fn new(alloc: Global, n: usize) -> Result<Reached, AllocError>
+    pub(crate) fn new(alloc: Global, n: usize) -> Result<Frontier, AllocError>
         ensures { IfOk result (λ r. (r.room ≡ n) × (r.lefts ≡ [])) }
     {
-        Ok(Reached {
+        Ok(Frontier {
             seen: vec![in alloc; false; n]?,
             queue: vec![in alloc; 0; n]?,
             parents: vec![in alloc; 0; n]?,

@@ -1,6 +1,6 @@
 use Rattle.std.proofs.Common.{arith}
-use Rattle.grid_core.proofs.ReachedLemmas.{room_for_left, AreReached-write, view-write}
-use Rattle.grid_core.proofs.reached.Reached.push.Goals as goal
+use Rattle.grid_core.proofs.FrontierLemmas.{room_for_left, AreReached-write, view-write}
+use Rattle.grid_core.proofs.frontier.Frontier.push.Goals as goal
 
 pub index_mut-requires-2 : goal.index_mut-requires-2
 index_mut-requires-2 c =

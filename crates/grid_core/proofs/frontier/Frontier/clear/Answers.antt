@@ -1,6 +1,6 @@
 use Rattle.std.proofs.Common.{arith}
-use Rattle.grid_core.proofs.ReachedLemmas.{AreReached-pop, last_in}
-use Rattle.grid_core.proofs.reached.Reached.clear.Goals as goal
+use Rattle.grid_core.proofs.FrontierLemmas.{AreReached-pop, last_in}
+use Rattle.grid_core.proofs.frontier.Frontier.clear.Goals as goal
 
 pub index_mut-requires : goal.index_mut-requires
 index_mut-requires c =

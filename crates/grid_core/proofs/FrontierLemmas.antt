@@ -12,7 +12,7 @@ use Rattle.std.proofs.lemmas.Grind.{common_steps, get_or-set_at}
 use Rattle.std.proofs.lemmas.List.{get_or-take, get_or_past, get_or_default, take_more_set, length-append, length-set, length-take}
 use Rattle.std.proofs.lemmas.List.Elements.{All-get_or, All-from_get_or}
 use Rattle.std.proofs.lemmas.List.Sorted.{All-permutation, Contains-permutation, IsNonDecreasingBy-from_sort}
-use Rattle.grid_core.specs.Augmenting.{ReachedView, AreReached, with_left}
+use Rattle.grid_core.specs.Augmenting.{FrontierView, AreReached, with_left}
 use Rattle.grid_core.proofs.DifferentNumbers.{apart-le}
 
 -- what is marked is one of the entries
@@ -40,13 +40,13 @@ AreReached-push {lefts} left r inside new = record {
     is_new j h e = new (j, h, get_or_default lefts j left 0 h ∙ e)
 
 -- there is room for it behind those in the queue
-module _ {seen : List Bool} (queue parents : List ℕ) {room count left : ℕ} {v : ReachedView}
-    (is : ◌≡◌ {A = ReachedView} (record { room = room; lefts = take count queue; parents = take count parents }) v)
+module _ {seen : List Bool} (queue parents : List ℕ) {room count left : ℕ} {v : FrontierView}
+    (is : ◌≡◌ {A = FrontierView} (record { room = room; lefts = take count queue; parents = take count parents }) v)
     (r : AreReached seen (take count queue)) (marks : length seen ≡ room) (fits : count ≤ length queue)
     (left_in : left < v.room) (new : Contains v.lefts left → ⊥) where
   pushed : AreReached (set seen left true) (take count queue ++ left ∷ [])
   pushed = AreReached-push left r
-      (let e = ap (λ (w : ReachedView). w.room) is in omega arith) (rw (ap (λ (w : ReachedView). w.lefts) is) new)
+      (let e = ap (λ (w : FrontierView). w.room) is in omega arith) (rw (ap (λ (w : FrontierView). w.lefts) is) new)
 
   pub room_for_left : count < length seen
   room_for_left = grind (arith, common_steps, length-append, length-set, length-take, pushed, reached-le)
@@ -55,10 +55,10 @@ module _ {seen : List Bool} (queue parents : List ℕ) {room count left : ℕ} {
   AreReached-write within = rw (take_more_set queue count left within) pushed
 
 -- and what is seen of it then
-pub view-write : (queue parents : List ℕ) (room count left parent : ℕ) {v : ReachedView}
-    → ◌≡◌ {A = ReachedView} (record { room = room; lefts = take count queue; parents = take count parents }) v
+pub view-write : (queue parents : List ℕ) (room count left parent : ℕ) {v : FrontierView}
+    → ◌≡◌ {A = FrontierView} (record { room = room; lefts = take count queue; parents = take count parents }) v
     → count < length queue → count < length parents
-    → ◌≡◌ {A = ReachedView}
+    → ◌≡◌ {A = FrontierView}
     (record { room = room; lefts = take (count + 1) (set queue count left); parents = take (count + 1) (set parents count parent) })
     (with_left v left parent)
 view-write queue parents room count left parent is queue_room parents_room = grind (arith, common_steps, take_more_set)

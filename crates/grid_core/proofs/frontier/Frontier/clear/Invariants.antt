@@ -1,7 +1,7 @@
 use Rattle.std.proofs.Common.{◌≡◌, ◌≤◌, take}
 use Rattle.std.specs.Prelude.{vec_len}
 use Rattle.grid_core.specs.Augmenting.{AreReached}
-use Rattle.grid_core.proofs.reached.Reached.clear.Given as goal
+use Rattle.grid_core.proofs.frontier.Frontier.clear.Given as goal
 
 abbrev pub invariant-loop-self : goal.invariant-loop-self
 invariant-loop-self l =

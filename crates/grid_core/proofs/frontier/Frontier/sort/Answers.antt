@@ -1,9 +1,9 @@
 use Rattle.std.proofs.Common.{◌≡◌, ℕ, List, ◌++◌, length, take, drop, arith, sym, ap}
 use Rattle.std.specs.Prelude.{vec_len}
 use Rattle.std.proofs.lemmas.Grind.{common_steps}
-use Rattle.grid_core.specs.Augmenting.{ReachedView}
-use Rattle.grid_core.proofs.ReachedLemmas.{AreReached-sort, ascending}
-use Rattle.grid_core.proofs.reached.Reached.sort.Goals as goal
+use Rattle.grid_core.specs.Augmenting.{FrontierView}
+use Rattle.grid_core.proofs.FrontierLemmas.{AreReached-sort, ascending}
+use Rattle.grid_core.proofs.frontier.Frontier.sort.Goals as goal
 
 -- a list that is written over another as long
 written : (n : ℕ) (xs ys given : List ℕ) → length xs ≡ length given → length ys ≡ n → given ≡ ys → take n (xs ++ drop (length xs) ys) ≡ xs
@@ -28,7 +28,7 @@ returns-clause-same c =
     let i = c.self.inside in
     let s = c.sort_first.ensures in
     let value = c.deref_mut.ensures.value in
-    let lefts = ap (λ (v : ReachedView). v.lefts) c.self.view_is in
+    let lefts = ap (λ (v : FrontierView). v.lefts) c.self.view_is in
     rw (sym lefts, written (vec_len i.queue) c.sort_first.new.entries i.queue.items c.deref_mut.result.now s.as_long (omega arith) value, sym value) s.same
 
 pub returns-clause-ascending : goal.returns-clause-ascending
