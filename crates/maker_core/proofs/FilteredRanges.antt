@@ -26,8 +26,8 @@ passes_kept p (suc n) q lt on =
     ])
 
 -- no number after the head is the head
-pub head_apart : (xs : List ℕ) (x q : ℕ) → AllByRecursion (λ y. eqb x y ≡ false) xs → Contains xs q → q ≢ x
-head_apart xs x q apart held = λ e.
+pub head_apart : (xs : List ℕ) {x q : ℕ} → AllByRecursion (λ y. eqb x y ≡ false) xs → Contains xs q → q ≢ x
+head_apart xs {x} {q} apart held = λ e.
     grind (arith, All-contains (λ y. eqb x y ≡ false) xs q (All-from_recursion (λ y. eqb x y ≡ false) xs apart) held)
 
 -- what the listing of cells that pass cites

@@ -9,7 +9,7 @@ module _ {A : Type 0} (t : Tries A) (known : A → Bool → Type 0) (s : Stream)
     pub failing : (j : ℕ) → j < done → (t.passes (filling_at t.make j s) ≡ false) × known (filling_at t.make j s) false
 
   -- one more filling is made
-  module _ (done : ℕ) (now u : Stream) (x : A) (p : IsTrying done now) (made : ◌≡◌ {A = A × Stream} (x, u) (t.make now)) where
+  module _ {done : ℕ} {now u : Stream} {x : A} (p : IsTrying done now) (made : ◌≡◌ {A = A × Stream} (x, u) (t.make now)) where
     filling_is : x ≡ filling_at t.make done s
     filling_is = ap (λ q. q.0) made ∙ ap (λ w. (t.make w).0) p.stands
 
@@ -35,8 +35,8 @@ module _ {A : Type 0} (t : Tries A) (known : A → Bool → Type 0) (s : Stream)
     }
 
 -- the stream that is left where the first that passes was made to a puzzle
-pub draws_first : {A : Type 0} (t : Tries A) (s u left : Stream) (x : A) → IsFirst t s x u → left ≡ t.ends x u
+pub draws_first : {A : Type 0} {t : Tries A} {s u left : Stream} {x : A} → IsFirst t s x u → left ≡ t.ends x u
     → (k : ℕ) → IsFirstPassing t.make t.passes s t.count k → left ≡ t.ends (filling_at t.make k s) (stream_after t.make (suc k) s)
-draws_first t s u left x w is k first =
+draws_first w is k first =
     let same : w.k ≡ k = let a = w.first in grind arith in
     rw (← same, ← w.filled, ← w.drawn) is

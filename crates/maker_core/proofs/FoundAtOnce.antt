@@ -40,8 +40,8 @@ pub record IsKnown (p : RuleSystem) : Type 0 where
   pub on : (depth : ℕ) (K : Candidates) → IsWithin p.cells p.values K → walk p depth K ≡ walk_closed p (walk p (suc depth)) depth (closure p K)
 
 -- the closure of the start is closed, a solution lies inside it, and where it has no value more the verdict is one
-pub closed_start : (p : RuleSystem) → IsKnown p → IsClosed p (closure p p.start)
-closed_start p known = (known.largest p.start known.laws.start_within).closed
+pub closed_start : {p : RuleSystem} → IsKnown p → IsClosed p (closure p p.start)
+closed_start {p} known = (known.largest p.start known.laws.start_within).closed
 
 pub found_at_once : (p : RuleSystem) (budget : ℕ) (g : List ℕ) → IsKnown p → Solves p g
     → ((c v : ℕ) → c < p.cells → v < p.values → closure p p.start c v ≡ true → v ≡ slice_index g c) → TellsOne p budget g

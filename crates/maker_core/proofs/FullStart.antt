@@ -11,7 +11,7 @@ known p laws = record {
   on = λ depth K within. walk-unfold p depth K within;
 }
 
-module _ (p : RuleSystem) (laws : IsLawful p) (g : List ℕ) (solves : Solves p g) (inside : IsInside p.start (single g)) where
+module _ {p : RuleSystem} (laws : IsLawful p) {g : List ℕ} (solves : Solves p g) (inside : IsInside p.start (single g)) where
   pub start_found : (budget : ℕ) → TellsOne p budget g
   start_found budget =
       found_at_once p budget g (known p laws) solves (λ c v lc lv on. sym (single-is g c v (inside c v (closure_inside p p.start c v on))).1)

@@ -15,8 +15,8 @@ pub record AreGrouped (size : ℕ) (groups : List ℕ) (k : ℕ) (lines : List �
   pub apart : (y z : ℕ) → y < k * size → z < k * size → y / size ≡ z / size → slice_index lines y ≡ slice_index lines z → y ≡ z
 
 -- ---- a shuffled list of the numbers below n
-pub order_from_permutation : (n : ℕ) (xs : List ℕ) → IsPermutation (range_with_len 0 n) xs → IsOrder n xs
-order_from_permutation n xs p =
+pub order_from_permutation : {n : ℕ} (xs : List ℕ) → IsPermutation (range_with_len 0 n) xs → IsOrder n xs
+order_from_permutation {n} xs p =
     let long : length xs ≡ n = length_permutation (range_with_len 0 n) xs p ∙ length-range_with_len 0 n in
     let all = All-permutation (λ v. v < n) (range_with_len 0 n) xs p
     (All-from_get_or (λ v. v < n) (range_with_len 0 n) 0 (λ i lt. grind (arith, length-range_with_len, get_or-range_with_len))) in
@@ -93,13 +93,13 @@ pub line-more : (f : ℕ → ℕ) (old lines new inside : List ℕ) (k x : ℕ) 
 line-more f old lines new inside k x lt before pushed is = grind (arith, common_steps, map_more f inside k 0, append_assoc)
 
 -- all lines of a group
-pub lines-all : (size group k : ℕ) (old lines inside : List ℕ) (t : Stream) (drawn : List ℕ × Stream)
+pub lines-all : (size group k : ℕ) (old lines inside : List ℕ) (t : Stream) {drawn : List ℕ × Stream}
     → lines ≡ old ++ map (λ line. group * size + line) (take k inside) → length inside ≤ k → ◌≡◌ {A = List ℕ × Stream} (inside, t) drawn
     → ◌≡◌ {A = List ℕ × Stream} (lines, t) (group_added size group old drawn)
-lines-all size group k old lines inside t drawn done all e = rw (done, take_all k inside all, sym e) refl
+lines-all size group k old lines inside t done all e = rw (done, take_all k inside all, sym e) refl
 
-pub order_drawn : (n : ℕ) (xs : List ℕ) (t : Stream) (drawn : List ℕ × Stream) → ◌≡◌ {A = List ℕ × Stream} (xs, t) drawn → IsOrder n xs → IsOrder n drawn.0
-order_drawn n xs t drawn e is = rw (sym e) is
+pub order_drawn : (n : ℕ) (xs : List ℕ) (t : Stream) {drawn : List ℕ × Stream} → ◌≡◌ {A = List ℕ × Stream} (xs, t) drawn → IsOrder n xs → IsOrder n drawn.0
+order_drawn n xs t e is = rw (sym e) is
 
 -- no group yet
 pub groups-none : (size : ℕ) (groups lines : List ℕ) (s t : Stream) → lines ≡ [] → s ≡ t → ◌≡◌ {A = List ℕ × Stream} (lines, s) (lines_of_groups size groups 0 t)
@@ -117,10 +117,10 @@ pub groups-more : (size k group : ℕ) (groups lines new : List ℕ) (s t u : St
 unfolding lines_of_groups
 groups-more size k group groups lines new s t u before is added = rw (add-one, sym before, sym is) added
 
-pub grouped-more : (size k group : ℕ) (groups lines new : List ℕ) (t u : Stream) → 0 < size → AreGrouped size groups k lines → group ≡ slice_index groups k
+pub grouped-more : {size k group : ℕ} (groups lines new : List ℕ) (t u : Stream) → 0 < size → AreGrouped size groups k lines → group ≡ slice_index groups k
     → IsOrder size (shuffled_order size t).0 → ◌≡◌ {A = List ℕ × Stream} (new, u) (group_added size group lines (shuffled_order size t))
     → AreGrouped size groups (k + 1) new
-grouped-more size k group groups lines new t u some before is inner added =
+grouped-more {size} {k} groups lines new t u some before is inner added =
     rw (ap (λ (q : List ℕ × Stream). q.0) added, is) (AreGrouped-more size groups k lines (shuffled_order size t).0 some before inner)
 
 -- what the drawing of lines cites

@@ -26,4 +26,4 @@ pub tents_only : (size : Extent) (filling : TentFilling) (p : Tents) → p ≡ t
     → ((q : Tents) (h : List ℕ) → IsGridOf (tent_rules q) h → (IsTrue ((tent_rules q).is_solution h)) ↔ IsTentSolution q h)
     → (budget : ℕ) → HasOne (tent_rules p) budget → IsOnlySolution (IsTentSolution p) filling.tents × TellsOne (tent_rules p) budget filling.tents
 tents_only size filling p is solution accepted budget one =
-    one_is (tent_rules p) (IsTentSolution p) (λ h s. s.grid) (accepted p) filling.tents budget one (subst (λ (q : Tents). IsTentSolution q filling.tents) (sym is) solution)
+    one_is (tent_rules p) (IsTentSolution p) (λ h s. s.grid) (accepted p) one (subst (λ (q : Tents). IsTentSolution q filling.tents) (sym is) solution)

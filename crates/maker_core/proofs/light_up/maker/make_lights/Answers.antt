@@ -26,5 +26,5 @@ returns-clause-made g c =
 
 pub returns-clause-drawn : goal.returns-clause-drawn
 returns-clause-drawn g c =
-    draws_first _ _ _ _ _ c.in_ok-filling.ensures.first
+    draws_first c.in_ok-filling.ensures.first
     (c.in_ok-thin.ensures.drawn ∙ ap (λ p. stream_after_clues light_game p (g.G.Rng.stream c.first_passing.new.rng)) c.in_ok-puzzle.ensures)

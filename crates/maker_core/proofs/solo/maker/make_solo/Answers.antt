@@ -42,5 +42,5 @@ returns-clause-made g c =
 
 pub returns-clause-drawn : goal.returns-clause-drawn
 returns-clause-drawn g c =
-    draws_first _ _ _ _ _ (rw c.in-Some.is at c.in_ok-answer.ensures.first)
+    draws_first (rw c.in-Some.is at c.in_ok-answer.ensures.first)
     (c.in_ok-thin.ensures.drawn ∙ ap (λ q. stream_after_clues solo_game q (g.G.Rng.stream c.first_passing.new.rng)) c.in_ok-puzzle.ensures)

@@ -23,4 +23,4 @@ returns-clause-made g c =
     }
 
 pub returns-clause-drawn : goal.returns-clause-drawn
-returns-clause-drawn g c = draws_first _ _ _ _ _ c.in_ok-filling.ensures.first refl
+returns-clause-drawn g c = draws_first c.in_ok-filling.ensures.first refl
