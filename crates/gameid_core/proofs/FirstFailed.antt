@@ -1,6 +1,6 @@
 -- Of tests in their order one is the first that fails, or none fails; and it is one alone.
-use Rattle.gameid_core.specs.Common.{AllByRecursion, Bool, IsAnswerOfCheck, IsFirstFailed, List, None, NoneFails, Option, Some, [], ap, arith, cases_eq, each_test, false, inl, inr, map, range_with_len, refl, subst, suc, sym, true, zero, ℕ, ◌++◌, ◌+◌, ◌<◌, ◌↔◌, ◌∙◌, ◌∷◌, ◌≡◌, ◌≤◌, ◌⊎◌}
-use Rattle.std.proofs.lemmas.Bool.{true_from_ne_false}
+use Rattle.gameid_core.specs.Common.{AllByRecursion, Bool, IsAnswerOfCheck, IsFirstFailed, List, None, NoneFails, Option, Some, [], ap, arith, cases_eq, each_test, false, false≢true, inl, inr, is_some, not, map, range_with_len, refl, subst, suc, sym, true, zero, ℕ, ◌++◌, ◌+◌, ◌<◌, ◌↔◌, ◌∙◌, ◌∷◌, ◌≡◌, ◌≤◌, ◌⊎◌}
+use Rattle.std.proofs.lemmas.Bool.{not-false, not-true, true_from_ne_false}
 
 -- ---- what is so of each test of a kind
 all_from : {F : Type 0} (P : F → Type 0) (kind : ℕ → F) (a n : ℕ) → ((k : ℕ) → a ≤ k → k < a + n → P (kind k))
@@ -112,3 +112,11 @@ module _ {F : Type 0} (fails : F → Type 0) where
 
     pub none_exactly : (fault : Option F) → IsAnswerOfCheck solution fails tests fault → (fault ≡ None) ↔ solution
     none_exactly fault is = (λ e. subst (IsAnswerOfCheck solution fails tests) e is, λ s. answer_once fault None is s)
+
+    -- whether nothing is wrong, where a Boolean test tells solutions
+    pub none_tells : (told right : Bool) → (right ≡ true → solution) → (solution → right ≡ true) → (fault : Option F) → IsAnswerOfCheck solution fails tests fault
+        → is_some fault ≡ not told → told ≡ right
+    none_tells told true from to None is e = not-false told (sym e)
+    none_tells told false from to None is e = absurd (false≢true (to is))
+    none_tells told true from to (Some f) is e = absurd (let same = answer_once (Some f) None is (from refl) in cc)
+    none_tells told false from to (Some f) is e = not-true told (sym e)
