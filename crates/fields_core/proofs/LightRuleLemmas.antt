@@ -1,7 +1,7 @@
 -- In Light Up the test of a solution is the rule.
-use Rattle.std.proofs.Common.{◌≡◌, ℕ, ◌+◌, ◌*◌, ◌/◌, ◌%◌, ◌<◌, ◌≤◌, min, max, Bool, true, false, not, ◌&&◌, ◌||◌, eqb, List, get_or, slice_index, Option, Some, None, refl, sym, ◌∙◌, inl, inr, arith}
-use Rattle.std.specs.Prelude.{◌↔◌}
-use Rattle.std.proofs.lemmas.Bool.{cases_lt, cases_Bool, or_left, or_right, or_cases, and_from, and_parts, true≢false, ne_eqb, eqb-true, eq-eqb, not-true, cases_eq}
+use Rattle.std.proofs.Common.{◌≡◌, ℕ, ◌+◌, ◌*◌, ◌/◌, ◌%◌, ◌<◌, ◌≤◌, min, max, Bool, true, false, not, ◌&&◌, ◌||◌, eqb, List, get_or, slice_index, Option, Some, None, is_some, refl, sym, ◌∙◌, inl, inr, arith}
+use Rattle.std.specs.List.{AllByRecursion}
+use Rattle.std.proofs.lemmas.Bool.{cases_lt, cases_Bool, or_left, or_right, or_cases, or_parts, and_from, and_parts, true≢false, false_from_ne_true, not-false, ne_eqb, eqb-true, eq-eqb, not-true, cases_eq}
 use Rattle.std.proofs.lemmas.Nat.{div-mul-add, mod-mul-add, le-div}
 use Rattle.std.proofs.Math.Nat.{mul-le-mul_right, mod-lt, div-mul-le_self}
 use Rattle.grid_core.specs.Grids.{IsGrid}
@@ -11,9 +11,13 @@ use Rattle.gameid_core.specs.declared.light_up.cell.LightCell.{LightCell}
 use Rattle.gameid_core.specs.declared.light_up.cell.LightCell.TheVariants.{White, Black, Numbered}
 use Rattle.fields_core.specs.Light.{light_cells, white, bulb, bulbs_beside, number_is, joined_in_row, joined_in_column, sees, sees_bulb, black_right, number_right, bulb_right, lit_right, solves_lights}
 use Rattle.fields_core.specs.LightSolutions.{light_row, light_column, IsFromTo, AreJoined, Sees, SeesBulb, IsLightSolution}
-use Rattle.fields_core.specs.LightFaults.{IsLightFault}
+use Rattle.gameid_core.specs.FirstFailed.{NoneFails, each_test}
+use Rattle.gameid_core.proofs.FirstFailed.{IsCheckOf, IsKnown, IsTestedBy, all_each, all_split, first_by, first_front, first_rest, known_by, none_by, none_tells, right_by}
+use Rattle.gameid_core.proofs.Lists.{AllByRecursion-append}
+use Rattle.fields_core.specs.LightFaults.{FailsLight, IsLightFault, light_tests}
 use Rattle.fields_core.specs.declared.light_up.fault.LightFault.{LightFault}
-use Rattle.fields_core.proofs.LightFaultLemmas.{lit-from, lit-parts, fault-not}
+use Rattle.fields_core.specs.declared.light_up.fault.LightFault.TheVariants as fault
+use Rattle.fields_core.proofs.LightFaultLemmas.{lit-from, lit-parts}
 use Rattle.fields_core.proofs.LightHouseLaws.{clear-at, clear-from, row-parts, column-parts}
 use Rattle.fields_core.proofs.LightSight.{some-column}
 use Rattle.std.proofs.lemmas.Grind.{common_steps}
@@ -124,25 +128,96 @@ rule-from-test p g grid on =
       ];
     }
 
-pub test-from-rule : (p : Light) (g : List ℕ) → IsGrid (light_cells p) 2 g → IsLightSolution p g → solves_lights p g ≡ true
-unfolding black_right number_right bulb_right lit_right
-test-from-rule p g grid s = lit-from p g
-    (all_below-from (black_right p g) (light_cells p) black)
-    (all_below-from (number_right p g) (light_cells p) (λ c lt. rule-number (get_or p.cells c Black) (bulbs_beside p g c) (λ n e. s.numbers c n lt e)))
-    (all_below-from (bulb_right p g) (light_cells p) (λ c lt. alone (bulb g c) (sees_bulb p g c) (λ on seen.
-    let is = bulb-rule p g c (some-column p c lt) seen in s.none_seen c is.other lt is.within on is.has_bulb is.seen)))
-    (all_below-from (lit_right p g) (light_cells p) lit)
-  where
-    none-at : (v : ℕ) → v < 2 → eqb v 1 ≡ false → eqb v 0 ≡ true
-    none-at v lt off = grind (arith, common_steps, cases_eq v 0, cases_eq v 1, eq-eqb)
+-- ---- each test, as it is computed
+module _ (p : Light) (g : List ℕ) (grid : IsGrid (light_cells p) 2 g) where
+  black-test : IsTestedBy (FailsLight p g) fault.Black (light_cells p) (black_right p g)
+  unfolding black_right
+  black-test = record {
+    failed = λ c lt off. grind (arith, common_steps, or_parts, slice_index, cases_eq (slice_index g c) 1, eq-eqb);
+    held = λ c lt on (bulb_on, off). grind (arith, common_steps, or_cases);
+  }
 
-    black : (c : ℕ) → c < light_cells p → (white p c || eqb (slice_index g c) 0) ≡ true
-    black c lt = grind (arith, common_steps, cases_Bool, or_left, slice_index, or_right, none-at)
+  number-test : IsTestedBy (FailsLight p g) fault.Number (light_cells p) (number_right p g)
+  unfolding number_right
+  number-test = record {
+    failed = λ c lt off. by c (get_or p.cells c Black) off refl;
+    held = λ c lt on (n, e, other). other (number-rule (get_or p.cells c Black) (bulbs_beside p g c) n on e);
+  }
+    where
+      by : (c : ℕ) (cell : LightCell) → number_is cell (bulbs_beside p g c) ≡ false → get_or p.cells c Black ≡ cell → FailsLight p g (fault.Number c)
+      by c White off e = absurd (true≢false off)
+      by c Black off e = absurd (true≢false off)
+      by c (Numbered n) off e = (n, e, λ same. true≢false (sym (eq-eqb _ n same) ∙ off))
 
-    lit : (c : ℕ) → c < light_cells p → (not (white p c) || (bulb g c || sees_bulb p g c)) ≡ true
-    lit c lt = grind (arith, common_steps, cases_Bool, or_right, or_left, rule-bulb, some-column)
+  seen-test : IsTestedBy (FailsLight p g) fault.Seen (light_cells p) (bulb_right p g)
+  unfolding bulb_right
+  seen-test = record {
+    failed = λ c lt off. let parts = and_parts (bulb g c) (sees_bulb p g c) (not-false _ off) in (parts.0, bulb-rule p g c (some-column p c lt) parts.1);
+    held = λ c lt on (bulb_on, sees_one). not-alone (bulb g c) (sees_bulb p g c) on bulb_on (rule-bulb p g c (some-column p c lt) sees_one);
+  }
 
--- ---- nothing is wrong exactly with solutions
-pub none-exactly : (p : Light) (g : List ℕ) (fault : Option LightFault) → IsGrid (light_cells p) 2 g → IsLightFault p g fault → (fault ≡ None) ↔ IsLightSolution p g
-none-exactly p g None grid is = (λ _. rule-from-test p g grid is, λ _. refl)
-none-exactly p g (Some f) grid is = (λ e. cc, λ s. absurd (true≢false (sym (test-from-rule p g grid s) ∙ sym (fault-not p g f is))))
+  dark-test : IsTestedBy (FailsLight p g) fault.Dark (light_cells p) (lit_right p g)
+  unfolding lit_right
+  dark-test = record {
+    failed = λ c lt off. grind (arith, common_steps, or_parts, not-false, rule-bulb, some-column p c lt);
+    held = λ c lt on (is_white, dark, unseen). grind (arith, common_steps, or_cases, not-true, bulb-rule, some-column p c lt);
+  }
+
+  abbrev Holds : LightFault → Type 0
+  Holds test = FailsLight p g test → ⊥
+
+  -- what no test fails passes the test of the whole, and no test fails a solution
+  none-right : NoneFails (FailsLight p g) (light_tests p) → solves_lights p g ≡ true
+  none-right none =
+      let a = all_split Holds (each_test fault.Black (light_cells p)) _ none in
+      let b = all_split Holds (each_test fault.Number (light_cells p)) _ a.1 in
+      let c = all_split Holds (each_test fault.Seen (light_cells p)) _ b.1 in
+      lit-from p g (all_below-from _ _ (right_by _ black-test a.0)) (all_below-from _ _ (right_by _ number-test b.0))
+      (all_below-from _ _ (right_by _ seen-test c.0)) (all_below-from _ _ (right_by _ dark-test c.1))
+
+  light-none : IsLightSolution p g → NoneFails (FailsLight p g) (light_tests p)
+  light-none s = AllByRecursion-append Holds _ _
+      (all_each Holds fault.Black (light_cells p) (λ c lt (on, off). true≢false (sym (s.none_on_black c lt on) ∙ off)))
+      (AllByRecursion-append Holds _ _ (all_each Holds fault.Number (light_cells p) (λ c lt (k, e, other). other (s.numbers c k lt e)))
+      (AllByRecursion-append Holds _ _ (all_each Holds fault.Seen (light_cells p) (λ c lt (on, one). s.none_seen c one.other lt one.within on one.has_bulb one.seen))
+      (all_each Holds fault.Dark (light_cells p) dark)))
+    where
+      dark : (c : ℕ) → c < light_cells p → Holds (fault.Dark c)
+      dark c lt (is_white, off, unseen) = elim (s.all_lit c lt is_white) [ inl here ↦ true≢false (sym here ∙ off) | inr there ↦ unseen there ]
+
+  pub test-from-rule : IsLightSolution p g → solves_lights p g ≡ true
+  test-from-rule s = none-right (light-none s)
+
+  pub light-check : IsCheckOf (FailsLight p g) (IsLightSolution p g) (light_tests p)
+  light-check = record { sound = λ none. rule-from-test p g grid (none-right none); complete = light-none }
+
+  pub light-known : AllByRecursion (IsKnown (FailsLight p g)) (light_tests p)
+  light-known = AllByRecursion-append _ _ _ (known_by _ black-test) (AllByRecursion-append _ _ _ (known_by _ number-test)
+      (AllByRecursion-append _ _ _ (known_by _ seen-test) (known_by _ dark-test)))
+
+  -- ---- what is found
+  abbrev AllRight : (ℕ → Bool) → ℕ → Type 0
+  AllRight right n = (c : ℕ) → c < n → right c ≡ true
+
+  pub first-black : (c : ℕ) → c < light_cells p → black_right p g c ≡ false → AllRight (black_right p g) c → IsLightFault p g (Some (fault.Black c))
+  first-black c lt off before = first_front (FailsLight p g) (each_test fault.Black (light_cells p)) _ _ (first_by _ black-test c lt off before)
+
+  pub first-number : (c : ℕ) → AllRight (black_right p g) (light_cells p) → c < light_cells p → number_right p g c ≡ false → AllRight (number_right p g) c → IsLightFault p g (Some (fault.Number c))
+  first-number c black lt off before = first_rest (FailsLight p g) (each_test fault.Black (light_cells p)) _ _ (none_by _ black-test black)
+      (first_front _ (each_test fault.Number (light_cells p)) _ _ (first_by _ number-test c lt off before))
+
+  pub first-seen : (c : ℕ) → AllRight (black_right p g) (light_cells p) → AllRight (number_right p g) (light_cells p) → c < light_cells p → bulb_right p g c ≡ false → AllRight (bulb_right p g) c → IsLightFault p g (Some (fault.Seen c))
+  first-seen c black number lt off before = first_rest (FailsLight p g) (each_test fault.Black (light_cells p)) _ _ (none_by _ black-test black)
+      (first_rest _ (each_test fault.Number (light_cells p)) _ _ (none_by _ number-test number)
+      (first_front _ (each_test fault.Seen (light_cells p)) _ _ (first_by _ seen-test c lt off before)))
+
+  pub first-dark : (c : ℕ) → AllRight (black_right p g) (light_cells p) → AllRight (number_right p g) (light_cells p) → AllRight (bulb_right p g) (light_cells p) → c < light_cells p → lit_right p g c ≡ false → AllRight (lit_right p g) c → IsLightFault p g (Some (fault.Dark c))
+  first-dark c black number seen lt off before = first_rest (FailsLight p g) (each_test fault.Black (light_cells p)) _ _ (none_by _ black-test black)
+      (first_rest _ (each_test fault.Number (light_cells p)) _ _ (none_by _ number-test number)
+      (first_rest _ (each_test fault.Seen (light_cells p)) _ _ (none_by _ seen-test seen) (first_by _ dark-test c lt off before)))
+
+  pub none-found : AllRight (black_right p g) (light_cells p) → AllRight (number_right p g) (light_cells p) → AllRight (bulb_right p g) (light_cells p) → AllRight (lit_right p g) (light_cells p) → IsLightFault p g None
+  none-found black number seen lit = rule-from-test p g grid (lit-from p g (all_below-from _ _ black) (all_below-from _ _ number) (all_below-from _ _ seen) (all_below-from _ _ lit))
+
+  pub light-tells : (fault : Option LightFault) (told : Bool) → IsLightFault p g fault → is_some fault ≡ not told → told ≡ solves_lights p g
+  light-tells fault told is e = none_tells _ light-check told (solves_lights p g) (rule-from-test p g grid) test-from-rule fault is e

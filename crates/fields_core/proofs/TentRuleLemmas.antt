@@ -1,20 +1,23 @@
 -- A grid of Tents without a fault is a solution, and one with a fault is not; and the rules' own table.
-use Rattle.std.proofs.Common.{◌≡◌, ℕ, ◌+◌, ◌<◌, Bool, true, false, not, ◌&&◌, eqb, List, length, slice_index, Option, Some, None, ◌↔◌, refl, sym, ap, ◌∙◌, inl, inr, arith}
-use Rattle.std.proofs.lemmas.Bool.{cases_Bool, or_left, or_right, or_cases, and_from, and_parts, true≢false, false_from_ne_true, eqb-true, eq-eqb, not-true}
+use Rattle.std.proofs.Common.{◌≡◌, ℕ, ◌+◌, ◌<◌, Bool, true, false, not, ◌&&◌, eqb, List, [], ◌∷◌, ◌++◌, length, slice_index, Option, Some, None, is_some, refl, sym, ap, ◌∙◌, inl, inr, arith}
+use Rattle.std.proofs.lemmas.Bool.{cases_eq, or_cases, or_parts, not-false, true_from_ne_false, and_from, and_parts, true≢false, false_from_ne_true, eqb-true, eq-eqb, not-true}
+use Rattle.std.specs.List.{AllByRecursion}
 use Rattle.grid_core.specs.Grids.{IsGrid}
 use Rattle.grid_core.specs.Candidates.{all_below}
-use Rattle.grid_core.proofs.CandidateLemmas.{all_below-at, all_below-from, any_below-some, any_below-none}
+use Rattle.grid_core.proofs.CandidateLemmas.{all_below-at, all_below-from, any_below-here, any_below-some, any_below-none}
 use Rattle.engine_core.specs.PlaceLaws.{has_place-here, different-from}
 use Rattle.gameid_core.specs.Puzzles.{Tents}
 use Rattle.fields_core.specs.CountHouse.{CountedHouses}
 use Rattle.fields_core.specs.Tents.{tent_cells, tree, tent, touches, tents_in_column, tents_in_row, tree_right, touch_right, column_right, row_right, can_be_paired, solves_tents}
 use Rattle.fields_core.specs.TentHouses.{tent_houses}
 use Rattle.fields_core.specs.TentSolutions.{IsPairedBy, IsTentSolution}
-use Rattle.fields_core.specs.TentFaults.{IsTentFault}
+use Rattle.gameid_core.specs.FirstFailed.{IsFirstFailed, NoneFails, each_test}
+use Rattle.gameid_core.proofs.FirstFailed.{IsCheckOf, IsKnown, IsTestedBy, all_each, all_split, first_by, first_front, first_rest, known_by, none_by, none_tells, right_by}
+use Rattle.gameid_core.proofs.Lists.{AllByRecursion-append}
+use Rattle.fields_core.specs.TentFaults.{FailsTents, IsTentFault, tent_tests}
 use Rattle.fields_core.specs.Lawful.{tent_table}
 use Rattle.fields_core.specs.declared.tents.fault.TentFault.{TentFault}
 use Rattle.fields_core.specs.declared.tents.fault.TentFault.TheVariants.{Tree, Touch, Column, Row, Match}
-use Rattle.fields_core.proofs.LightFaultLemmas.{first-breaks}
 use Rattle.fields_core.proofs.BelowLemmas.{index_of, index-is, distinct-none-twice}
 use Rattle.fields_core.proofs.TentCounting.{TentParts, tents-parts, tents_of, IsGiven, given, tent-in}
 use Rattle.fields_core.proofs.TentPairLemmas.{tents-distinct, tent-listed, listed-tent, pairs-from}
@@ -24,16 +27,6 @@ pub tents-from : (p : Tents) (g : List ℕ) → all_below (tree_right p g) (tent
     → all_below (column_right p g) p.size.w ≡ true → all_below (row_right p g) p.size.h ≡ true → true ≡ can_be_paired p g → solves_tents p g ≡ true
 unfolding solves_tents
 tents-from p g a b c d e = and_from _ _ a (and_from _ _ b (and_from _ _ c (and_from _ _ d (sym e))))
-
-pub tents-not : (p : Tents) (g : List ℕ) (fault : TentFault) → IsTentFault p g (Some fault) → false ≡ solves_tents p g
-tents-not p g fault is = sym (false_from_ne_true (solves_tents p g) (λ on. broken fault is (tents-parts p g on)))
-  where
-    broken : (f : TentFault) → IsTentFault p g (Some f) → TentParts p g → ⊥
-    broken (Tree c) is parts = first-breaks _ _ c is parts.trees
-    broken (Touch c) is parts = first-breaks _ _ c is.1 parts.touch
-    broken (Column x) is parts = first-breaks _ _ x is.2 parts.columns
-    broken (Row y) is parts = first-breaks _ _ y is.3 parts.rows
-    broken Match is parts = true≢false (sym parts.paired ∙ is.4)
 
 pub tent-table : (t : CountedHouses) (p q : Tents) → t ≡ tent_table p → p ≡ q → t.houses ≡ tent_houses q
 tent-table t p q e f = ap (λ (u : CountedHouses). u.houses) e ∙ ap tent_houses f
@@ -70,9 +63,6 @@ gives-tree p g chosen long is = record {
 no-two : (touch : Bool) (tent_on : Bool) → (touch && tent_on) ≡ false → tent_on ≡ true → touch ≡ false
 no-two touch tent_on off on = grind (arith, common_steps)
 
-alone : (tent_on touched : Bool) → (tent_on ≡ true → touched ≡ false) → not (tent_on && touched) ≡ true
-alone tent_on touched none = grind (arith, common_steps, cases_Bool tent_on)
-
 pub solution-from-tents : (p : Tents) (g : List ℕ) → IsGrid (tent_cells p) 2 g → solves_tents p g ≡ true → IsTentSolution p g
 unfolding tree_right touch_right column_right row_right
 solution-from-tents p g grid on =
@@ -94,11 +84,117 @@ solution-from-tents p g grid on =
       paired = gives-tree p g w.0 grid.each_cell w.1;
     }
 
-pub tents-from-solution : (p : Tents) (g : List ℕ) → IsGrid (tent_cells p) 2 g → IsTentSolution p g → solves_tents p g ≡ true
-unfolding tree_right touch_right column_right row_right
-tents-from-solution p g grid s = grind (arith, common_steps, tents-from, all_below-from, eq-eqb, pairs-from, slice_index, cases_Bool, or_left, or_right, false_from_ne_true, any_below-some, and_parts)
+-- ---- each test, as it is computed
+module _ (p : Tents) (g : List ℕ) (grid : IsGrid (tent_cells p) 2 g) where
+  tree-test : IsTestedBy (FailsTents p g) Tree (tent_cells p) (tree_right p g)
+  unfolding tree_right
+  tree-test = record {
+    failed = λ c lt off. grind (arith, common_steps, or_parts, not-false, slice_index, cases_eq (slice_index g c) 1, eq-eqb);
+    held = λ c lt on (tent_on, tree_on). grind (arith, common_steps, or_cases, not-true, eqb-true);
+  }
 
--- ---- nothing is wrong exactly with solutions
-pub none-exactly : (p : Tents) (g : List ℕ) (fault : Option TentFault) → IsGrid (tent_cells p) 2 g → IsTentFault p g fault → (fault ≡ None) ↔ IsTentSolution p g
-none-exactly p g None grid is = (λ _. solution-from-tents p g grid is, λ _. refl)
-none-exactly p g (Some f) grid is = (λ e. cc, λ s. absurd (true≢false (sym (tents-from-solution p g grid s) ∙ sym (tents-not p g f is))))
+  touch-test : IsTestedBy (FailsTents p g) Touch (tent_cells p) (touch_right p g)
+  unfolding touch_right
+  touch-test = record {
+    failed = λ c lt off.
+        let parts = and_parts _ _ (not-false _ off) in
+        let w = any_below-some (λ d. touches p.size c d && tent g d) (tent_cells p) parts.1 in
+        let both = and_parts (touches p.size c w.0) (tent g w.0) w.2 in
+        (parts.0, (w.0, w.1, both.1, both.0));
+    held = λ c lt on (tent_on, (d, below, on_d, touched)).
+        let none = not-true _ (rw tent_on at (on)) in
+        true≢false (sym (any_below-here (λ e. touches p.size c e && tent g e) (tent_cells p) d below (and_from _ _ touched on_d)) ∙ none);
+  }
+
+  column-test : IsTestedBy (FailsTents p g) Column p.size.w (column_right p g)
+  unfolding column_right
+  column-test = record {
+    failed = λ x lt off same. true≢false (sym (eq-eqb _ _ same) ∙ off);
+    held = λ x lt on other. other (eqb-true _ _ on);
+  }
+
+  row-test : IsTestedBy (FailsTents p g) Row p.size.h (row_right p g)
+  unfolding row_right
+  row-test = record {
+    failed = λ y lt off same. true≢false (sym (eq-eqb _ _ same) ∙ off);
+    held = λ y lt on other. other (eqb-true _ _ on);
+  }
+
+  match-failed : can_be_paired p g ≡ false → FailsTents p g Match
+  match-failed off tree_of is = true≢false (sym (pairs-from p g tree_of grid.each_cell is) ∙ off)
+
+  match-held : can_be_paired p g ≡ true → FailsTents p g Match → ⊥
+  match-held on none = let w = given p g on in none _ (gives-tree p g w.0 grid.each_cell w.1)
+
+  abbrev Holds : TentFault → Type 0
+  Holds test = FailsTents p g test → ⊥
+
+  -- what no test fails passes the test of the whole, and no test fails a solution
+  none-right : NoneFails (FailsTents p g) (tent_tests p) → solves_tents p g ≡ true
+  none-right none =
+      let a = all_split Holds (each_test Tree (tent_cells p)) _ none in
+      let b = all_split Holds (each_test Touch (tent_cells p)) _ a.1 in
+      let c = all_split Holds (each_test Column p.size.w) _ b.1 in
+      let d = all_split Holds (each_test Row p.size.h) _ c.1 in
+      let paired = true_from_ne_false (can_be_paired p g) (λ off. d.1.0 (match-failed off)) in
+      tents-from p g (all_below-from _ _ (right_by _ tree-test a.0)) (all_below-from _ _ (right_by _ touch-test b.0))
+      (all_below-from _ _ (right_by _ column-test c.0)) (all_below-from _ _ (right_by _ row-test d.0)) (sym paired)
+
+  tents-none : IsTentSolution p g → NoneFails (FailsTents p g) (tent_tests p)
+  tents-none s = AllByRecursion-append Holds _ _
+      (all_each Holds Tree (tent_cells p) (λ c lt (on, tree_on). true≢false (sym tree_on ∙ s.none_on_trees c lt on)))
+      (AllByRecursion-append Holds _ _
+      (all_each Holds Touch (tent_cells p) (λ c lt (on, (d, below, on_d, touched)). true≢false (sym touched ∙ s.none_touch c d lt below on on_d)))
+      (AllByRecursion-append Holds _ _ (all_each Holds Column p.size.w (λ x lt other. other (s.columns x lt)))
+      (AllByRecursion-append Holds _ _ (all_each Holds Row p.size.h (λ y lt other. other (s.rows y lt))) ((λ none. none s.tree_of s.paired), tt))))
+
+  pub tents-from-solution : IsTentSolution p g → solves_tents p g ≡ true
+  tents-from-solution s = none-right (tents-none s)
+
+  pub tents-check : IsCheckOf (FailsTents p g) (IsTentSolution p g) (tent_tests p)
+  tents-check = record { sound = λ none. solution-from-tents p g grid (none-right none); complete = tents-none }
+
+  pub tents-known : AllByRecursion (IsKnown (FailsTents p g)) (tent_tests p)
+  tents-known = AllByRecursion-append _ _ _ (known_by _ tree-test) (AllByRecursion-append _ _ _ (known_by _ touch-test)
+      (AllByRecursion-append _ _ _ (known_by _ column-test) (AllByRecursion-append _ _ _ (known_by _ row-test) (match (can_be_paired p g) refl, tt))))
+    where
+      match : (b : Bool) → can_be_paired p g ≡ b → IsKnown (FailsTents p g) Match
+      match true on = inr (match-held on)
+      match false off = inl (match-failed off)
+
+  -- ---- what is found
+  abbrev AllRight : (ℕ → Bool) → ℕ → Type 0
+  AllRight right n = (c : ℕ) → c < n → right c ≡ true
+
+  abbrev IsFound : List TentFault → TentFault → Type 0
+  IsFound tests f = IsFirstFailed (FailsTents p g) tests f
+
+  after-trees : (rest : List TentFault) (f : TentFault) → AllRight (tree_right p g) (tent_cells p) → IsFound rest f → IsFound (each_test Tree (tent_cells p) ++ rest) f
+  after-trees rest f on = first_rest _ (each_test Tree (tent_cells p)) rest f (none_by _ tree-test on)
+
+  after-touch : (rest : List TentFault) (f : TentFault) → AllRight (touch_right p g) (tent_cells p) → IsFound rest f → IsFound (each_test Touch (tent_cells p) ++ rest) f
+  after-touch rest f on = first_rest _ (each_test Touch (tent_cells p)) rest f (none_by _ touch-test on)
+
+  after-columns : (rest : List TentFault) (f : TentFault) → AllRight (column_right p g) p.size.w → IsFound rest f → IsFound (each_test Column p.size.w ++ rest) f
+  after-columns rest f on = first_rest _ (each_test Column p.size.w) rest f (none_by _ column-test on)
+
+  pub first-tree : (c : ℕ) → c < tent_cells p → tree_right p g c ≡ false → AllRight (tree_right p g) c → IsTentFault p g (Some (Tree c))
+  first-tree c lt off before = first_front _ (each_test Tree (tent_cells p)) _ _ (first_by _ tree-test c lt off before)
+
+  pub first-touch : (c : ℕ) → AllRight (tree_right p g) (tent_cells p) → c < tent_cells p → touch_right p g c ≡ false → AllRight (touch_right p g) c → IsTentFault p g (Some (Touch c))
+  first-touch c trees lt off before = after-trees _ _ trees (first_front _ (each_test Touch (tent_cells p)) _ _ (first_by _ touch-test c lt off before))
+
+  pub first-column : (x : ℕ) → AllRight (tree_right p g) (tent_cells p) → AllRight (touch_right p g) (tent_cells p) → x < p.size.w → column_right p g x ≡ false → AllRight (column_right p g) x → IsTentFault p g (Some (Column x))
+  first-column x trees touch lt off before = after-trees _ _ trees (after-touch _ _ touch (first_front _ (each_test Column p.size.w) _ _ (first_by _ column-test x lt off before)))
+
+  pub first-row : (y : ℕ) → AllRight (tree_right p g) (tent_cells p) → AllRight (touch_right p g) (tent_cells p) → AllRight (column_right p g) p.size.w → y < p.size.h → row_right p g y ≡ false → AllRight (row_right p g) y → IsTentFault p g (Some (Row y))
+  first-row y trees touch columns lt off before = after-trees _ _ trees (after-touch _ _ touch (after-columns _ _ columns (first_front _ (each_test Row p.size.h) _ _ (first_by _ row-test y lt off before))))
+
+  pub first-match : AllRight (tree_right p g) (tent_cells p) → AllRight (touch_right p g) (tent_cells p) → AllRight (column_right p g) p.size.w → AllRight (row_right p g) p.size.h → can_be_paired p g ≡ false → IsTentFault p g (Some Match)
+  first-match trees touch columns rows off = after-trees _ _ trees (after-touch _ _ touch (after-columns _ _ columns (first_rest _ (each_test Row p.size.h) (Match ∷ []) _ (none_by _ row-test rows) (inl (refl, match-failed off)))))
+
+  pub none-found : AllRight (tree_right p g) (tent_cells p) → AllRight (touch_right p g) (tent_cells p) → AllRight (column_right p g) p.size.w → AllRight (row_right p g) p.size.h → true ≡ can_be_paired p g → IsTentFault p g None
+  none-found trees touch columns rows on = solution-from-tents p g grid (tents-from p g (all_below-from _ _ trees) (all_below-from _ _ touch) (all_below-from _ _ columns) (all_below-from _ _ rows) on)
+
+  pub tents-tell : (fault : Option TentFault) (told : Bool) → IsTentFault p g fault → is_some fault ≡ not told → told ≡ solves_tents p g
+  tents-tell fault told is e = none_tells _ tents-check told (solves_tents p g) (solution-from-tents p g grid) tents-from-solution fault is e

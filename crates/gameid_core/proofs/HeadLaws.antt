@@ -1,8 +1,8 @@
 -- The part of an ID before its colon: what is read is spelled, and what is spelled is read.
-use Rattle.gameid_core.specs.Common.{Bool, Err, Game, GoesOn, HasNumber, HasSize, HeadRead, IdFault, IsSizeText, IsSoloSizeText, List, None, Ok, Option, Result, Sides, SizeRange, SizeRead, Some, TooLong, Variant, [], after_digits, all_ascii_digits, and_parts, append_assoc, arith, begins, common_steps, cond, decimal, decimal-digits_value, digits_decimal, digits_front, digits_value-decimal, drop, drop_at, eqb, false, false≢true, has_hash, has_x, head_at, head_of, in_range, inl, inr, is_ascii_digit, leb, leb-true, length, length-append, list_any, list_any-append, lt-ltb, ltb, ltb-false, max_id, max_side, nat_tests, position, position-Some, position_or_len, puzzle_of, refl, side_at, sides_at, size_of, size_read, solo_size_text, subst, take, take-append-drop, true, two_sides, value, ℕ, ◌++◌, ◌+◌, ◌<◌, ◌>>=◌, ◌^◌, ◌∷◌, ◌≡◌, ◌≤◌}
+use Rattle.gameid_core.specs.Common.{Bool, Err, Game, GoesOn, HasNumber, HasSize, HeadRead, IdFault, IsSizeText, IsSoloSizeText, List, None, Ok, Option, Result, Sides, SizeRange, SizeRead, Some, TooLong, Variant, [], after_digits, all_ascii_digits, and_parts, append_assoc, arith, begins, common_steps, cond, decimal, decimal-digits_value, digits_decimal, digits_front, digits_value-decimal, drop, drop_at, eqb, false, false≢true, has_hash, has_x, head_at, head_of, in_range, inl, inr, is_ascii_digit, is_lead, leb, leb-true, length, length-append, list_any, list_any-append, lt-ltb, ltb, ltb-false, max_id, max_side, nat_tests, position, position-Some, position_or_len, puzzle_of, refl, side_at, sides_at, size_of, size_read, solo_size_text, subst, take, take-append-drop, true, two_sides, value, ℕ, ◌++◌, ◌+◌, ◌<◌, ◌>>=◌, ◌^◌, ◌∷◌, ◌≡◌, ◌≤◌}
 use Rattle.gameid_core.specs.declared.id.game.Game.TheVariants.{Solo}
 use Rattle.gameid_core.proofs.Results.{bind_ok, not_refused, only_taken, taken, ok_is}
-use Rattle.gameid_core.proofs.Numerals.{front_numeral, own, is_lead, begins_front, decimal_leads}
+use Rattle.gameid_core.proofs.Numerals.{front_numeral, own, begins_front, decimal_leads}
 use Rattle.gameid_core.proofs.Reading.{place}
 
 -- ---- numbers
@@ -104,7 +104,7 @@ module _ (game : Game) where
   two_found text x y e two f =
       let l = side_found text x e in
       let r = side_found (drop 1 x.1) y f in
-      inr (record { left = l.0; right = r.0; behind = drop 1 x.1; after = y.1; first = subst (λ t. HasNumber text l.0 t) (x_first x.1 two) l.1; second = r.1; goes_on = goes_on y.1; both = (l.2, r.2) })
+      inr (record { w_digits = l.0; h_digits = r.0; behind = drop 1 x.1; after = y.1; first = subst (λ t. HasNumber text l.0 t) (x_first x.1 two) l.1; second = r.1; goes_on = goes_on y.1; both = (l.2, r.2) })
 
   -- and what is read is such a size
   pub sides_found : (text : List ℕ) (size : Sides) → sides_at game text ≡ taken size → HasSize game text size
@@ -121,7 +121,7 @@ module _ (game : Game) where
 
   game_size : (text : List ℕ) (s : Sides) → s.w < 2 ^ 64 → s.h < 2 ^ 64 → length s.rest ≤ 0 → HasSize game text s → IsGameSize text s.w s.h s.x
   game_size text s small_w small_h none (inl one) = grind (arith, common_steps, number_decimal text one.side s.rest one.number)
-  game_size text s small_w small_h none (inr two) = grind (arith, common_steps, number_decimal text two.left (120 ∷ two.behind) two.first, number_decimal two.behind two.right two.after two.second)
+  game_size text s small_w small_h none (inr two) = grind (arith, common_steps, number_decimal text two.w_digits (120 ∷ two.behind) two.first, number_decimal two.behind two.h_digits two.after two.second)
 
   pub sides_again : (front : List ℕ) (a b : ℕ) (x : Bool) → a < 2 ^ 64 → b < 2 ^ 64 → 0 < a → 0 < b → IsGameSize front a b x → sides_at game front ≡ Ok (record { w = a; h = b; x = x; rest = [] })
   unfolding sides_at

@@ -1,0 +1,22 @@
+-- Tests in their order, and the first of them that fails. A test is named by the fault that it finds.
+use Rattle.std.specs.Prelude.{◌≡◌, ◌⊎◌, ℕ, List, [], ◌∷◌, map, Option, Some, None}
+use Rattle.std.specs.List.{AllByRecursion, range_with_len}
+
+-- of these tests the first that fails
+abbrev pub IsFirstFailed : {F : Type 0} → (F → Type 0) → List F → F → Type 0
+IsFirstFailed fails [] fault = ⊥
+IsFirstFailed fails (test ∷ tests) fault =
+    ((test ≡ fault) × fails test) ⊎ ((fails test → ⊥) × IsFirstFailed fails tests fault)
+
+-- none of these tests fails
+abbrev pub NoneFails : {F : Type 0} → (F → Type 0) → List F → Type 0
+NoneFails fails tests = AllByRecursion (λ test. fails test → ⊥) tests
+
+-- the tests of one kind, by number
+abbrev pub each_test : {F : Type 0} → (ℕ → F) → ℕ → List F
+each_test kind n = map kind (range_with_len 0 n)
+
+-- what a check answers: nothing of a solution, and else the first test that fails
+abbrev pub IsAnswerOfCheck : {F : Type 0} → Type 0 → (F → Type 0) → List F → Option F → Type 0
+IsAnswerOfCheck solution fails tests None = solution
+IsAnswerOfCheck solution fails tests (Some fault) = IsFirstFailed fails tests fault
