@@ -21,8 +21,8 @@ pub record IsPartDrawn (black cells place : ℕ) (s now : Stream) (grid : List �
   pub white : black ≡ 0 → (k : ℕ) → k < place → slice_index grid k ≡ 0
   pub full : black ≡ 100 → (k : ℕ) → k < place → slice_index grid k ≡ 1
 
-pub IsPartDrawn-none : (black cells : ℕ) (s : Stream) {grid : List ℕ} → length grid ≡ cells → IsPartDrawn black cells 0 s s grid
-IsPartDrawn-none black cells s long = record {
+pub IsPartDrawn-none : (black : ℕ) {cells : ℕ} {s : Stream} {grid : List ℕ} → length grid ≡ cells → IsPartDrawn black cells 0 s s grid
+IsPartDrawn-none black long = record {
   long = long;
   drawn = black_cells-none black;
   white = λ e k lt. absurd (omega arith);

@@ -63,8 +63,8 @@ module _ (p : Solo) (c_low : 0 < p.c) (r_low : 0 < p.r) (across down : Bool) whe
     in_column : (x : ℕ) → lies_in p (Column x) place ≡ true → lies_in p (Column (line_from across (solo_n p) x)) (from place) ≡ true
     in_column x on = grind (arith, column)
 
-    in_diagonal : (d : ℕ) → d < 2 → lies_in p (Diagonal d) place ≡ true → lies_in p (Diagonal (diagonal_from across down d)) (from place) ≡ true
-    in_diagonal d few on = eq-eqb _ _
+    in_diagonal : {d : ℕ} → d < 2 → lies_in p (Diagonal d) place ≡ true → lies_in p (Diagonal (diagonal_from across down d)) (from place) ≡ true
+    in_diagonal few on = eq-eqb _ _
         (rw (row, column) (diagonal_is across down few column_below row_below (eqb-true _ _ on)))
 
   block_in : {place : ℕ} → place < solo_cells p → block_of p place < solo_n p
@@ -81,31 +81,31 @@ module _ (p : Solo) (c_low : 0 < p.c) (r_low : 0 < p.r) (across down : Bool) whe
       let stack = line_from-together across p.c refl r_low (column_below lj) (column_below lk) parts.1 in
       rw (row lj, row lk, column lj, column lk, band, stack) refl
 
-  together : (house : NamedHouse) → IsHouseOf p house → (j k : ℕ) → j < solo_cells p → k < solo_cells p → lies_in p house j ≡ true → lies_in p house k ≡ true
+  together : (house : NamedHouse) → IsHouseOf p house → {j k : ℕ} → j < solo_cells p → k < solo_cells p → lies_in p house j ≡ true → lies_in p house k ≡ true
       → AreTogether p (from j) (from k)
-  together (Row y) is j k lj lk a b = record {
+  together (Row y) is lj lk a b = record {
     house = Row (line_from down (solo_n p) y);
     house_of = line_from-below down is;
     first = in_row lj y a;
     second = in_row lk y b;
   }
-  together (Column x) is j k lj lk a b = record {
+  together (Column x) is lj lk a b = record {
     house = Column (line_from across (solo_n p) x);
     house_of = line_from-below across is;
     first = in_column lj x a;
     second = in_column lk x b;
   }
-  together (Block n) is j k lj lk a b = record {
+  together (Block n) is {j} {k} lj lk a b = record {
     house = Block (block_of p (from j));
     house_of = block_in (from_below (solo_n p) across down j lj);
     first = eq-eqb _ _ refl;
     second = eq-eqb _ _ (sym (same_block j k lj lk (eqb-true _ _ a ∙ sym (eqb-true _ _ b))));
   }
-  together (Diagonal d) is j k lj lk a b = record {
+  together (Diagonal d) is lj lk a b = record {
     house = Diagonal (diagonal_from across down d);
     house_of = (diagonal_from-few across down is.0, is.1);
-    first = in_diagonal lj d is.0 a;
-    second = in_diagonal lk d is.0 b;
+    first = in_diagonal lj is.0 a;
+    second = in_diagonal lk is.0 b;
   }
 
 -- ---- grids
@@ -121,7 +121,7 @@ flipped-solution c r x givens g c_low r_low across down s = record {
   different = λ house is j k lj lk ne a b e.
       let n = c * r in
       let all = all_given c r x (flipped n across down g) in
-      let same = together (solo_puzzle c r x givens) c_low r_low across down house (house_stays all givens house is) j k lj lk
+      let same = together (solo_puzzle c r x givens) c_low r_low across down house (house_stays all givens house is) lj lk
       (sym (lies_alike all givens house j) ∙ a) (sym (lies_alike all givens house k) ∙ b) in
       s.different same.house same.house_of (flipped_from n across down j) (flipped_from n across down k)
       (from_below n across down j lj) (from_below n across down k lk) (λ f. ne (from_apart n across down j k lj lk f))

@@ -23,7 +23,8 @@ planted_none p = record {
   lit = λ j lt. absurd (omega arith);
 }
 
-planted_held : {p : Light} {order g : List ℕ} {k : ℕ} → IsPlanted p order g k → (bulb g (slice_index order k) || sees_bulb p g (slice_index order k)) ≡ true → IsPlanted p order g (suc k)
+planted_held : {p : Light} {order g : List ℕ} {k : ℕ} → IsPlanted p order g k
+    → (bulb g (slice_index order k) || sees_bulb p g (slice_index order k)) ≡ true → IsPlanted p order g (suc k)
 planted_held w held = record {
   on_white = w.on_white;
   apart = w.apart;
@@ -31,7 +32,8 @@ planted_held w held = record {
 }
 
 -- ---- a new bulb
-lit_stays : (p : Light) (g : List ℕ) (c d : ℕ) → c < length g → (bulb g d || sees_bulb p g d) ≡ true → (bulb (slice_set g c 1) d || sees_bulb p (slice_set g c 1) d) ≡ true
+lit_stays : (p : Light) (g : List ℕ) (c d : ℕ) → c < length g → (bulb g d || sees_bulb p g d) ≡ true
+    → (bulb (slice_set g c 1) d || sees_bulb p (slice_set g c 1) d) ≡ true
 lit_stays p g c d lt on = elim (or_cases (bulb g d) (sees_bulb p g d) on) [
   | inl own ↦ or_left _ _ (old_stays g c d lt own)
   | inr seen ↦
@@ -39,7 +41,8 @@ lit_stays p g c d lt on = elim (or_cases (bulb g d) (sees_bulb p g d) on) [
       or_right _ _ (bulb_seen p (slice_set g c 1) d w.0 w.1 w.2 (old_stays g c w.0 lt w.3))
 ]
 
-planted_new : (p : Light) (order g : List ℕ) (k c : ℕ) → length g ≡ light_cells p → IsPlanted p order g k → c ≡ slice_index order k → white p c ≡ true → c < light_cells p
+planted_new : (p : Light) (order g : List ℕ) (k c : ℕ) → length g ≡ light_cells p → IsPlanted p order g k
+    → c ≡ slice_index order k → white p c ≡ true → c < light_cells p
     → (bulb g c || sees_bulb p g c) ≡ false → IsPlanted p order (slice_set g c 1) (suc k)
 planted_new p order g k c long w at on within none = record {
   on_white = λ d here. grind (arith, elements, w.on_white d);
@@ -51,7 +54,9 @@ planted_new p order g k c long w at on within none = record {
 }
   where
     unseen : (d : ℕ) → bulb g d ≡ true → sees p c d ≡ false
-    unseen d old = false_from_ne_true _ (λ seen. true≢false (sym (or_right (bulb g c) _ (bulb_seen p g c d (bulb-in g (light_cells p) d long old) seen old)) ∙ none))
+    unseen d old =
+        false_from_ne_true _ (λ seen. true≢false
+        (sym (or_right (bulb g c) _ (bulb_seen p g c d (bulb-in g (light_cells p) d long old) seen old)) ∙ none))
 
 pub planted : (p : Light) (order : List ℕ) → ((j : ℕ) → j < length order → white p (slice_index order j) ≡ true) → length p.cells ≡ light_cells p
     → (k : ℕ) → k ≤ length order → IsPlanted p order (bulbs_after p order k) k

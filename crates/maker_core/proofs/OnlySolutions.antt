@@ -10,8 +10,8 @@ module _ (rules : RuleSystem) (solves : List ℕ → Type 0) (fits : (h : List �
   pub solution : (h : List ℕ) → solves h → Solves rules h
   solution h s = record { grid = fits h s; good = (accepted h (fits h s)).1 s }
 
-  pub only_is : (g : List ℕ) → IsOnly rules g → IsOnlySolution solves g
-  only_is g only = ((accepted g only.0.grid).0 only.0.good, λ h s. sym (only.1 h (solution h s)))
+  pub only_is : {g : List ℕ} → IsOnly rules g → IsOnlySolution solves g
+  only_is {g} only = ((accepted g only.0.grid).0 only.0.good, λ h s. sym (only.1 h (solution h s)))
 
   pub one_is : {g : List ℕ} {budget : ℕ} → HasOne rules budget → solves g → IsOnlySolution solves g × TellsOne rules budget g
-  one_is {g} one good = let w = one_grid g one (solution g good) in (only_is g w.0, w.1)
+  one_is {g} one good = let w = one_grid g one (solution g good) in (only_is w.0, w.1)

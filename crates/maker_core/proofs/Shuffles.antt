@@ -71,7 +71,8 @@ refill_is c s is words within =
     let m : ℕ = c.n + 1 in
     let chunk : IsChunk m (chunk_of m) = chunk_is m within in
     let positive : 0 < (chunk_of m).0 = rw chunk.product (rising_positive m (chunk_of m).1 (omega arith)) in
-    let drawn : IsDrawnBelow (chunk_of m).0 (canon (2 ^ 32) next_u32 (chunk_of m).0 s) = draw_is (chunk_of m).0 s positive (let w = chunk.within in omega arith) words in
+    let drawn : IsDrawnBelow (chunk_of m).0 (canon (2 ^ 32) next_u32 (chunk_of m).0 s) =
+    draw_is (chunk_of m).0 s positive (let w = chunk.within in omega arith) words in
     cond_both (c.left == 0) _ _ (IsRefilled c.n)
     (λ none. record { some = chunk.some; room = rw (← chunk.product) drawn.below; words = drawn.words })
     (λ left. let low : 0 < c.left = grind arith in record { some = low; room = is.room low; words = words })
@@ -144,5 +145,5 @@ order_is n s few words =
     let len : length items ≡ n = length-range_with_len 0 n in
     let swapped = swaps_are items s words (omega arith) (length items - 0) (omega arith) in
     cond_both (nat_lt (length items) (2 ^ 32 - 1)) _ _ (IsShuffledOrder n)
-    (λ narrow. record { order = order_from_permutation _ swapped.permutation; words = swapped.words })
+    (λ narrow. record { order = order_from_permutation swapped.permutation; words = swapped.words })
     (λ wide. absurd (true≢false (sym (lt-ltb (length items) (2 ^ 32 - 1) (omega arith)) ∙ wide)))

@@ -75,9 +75,11 @@ module _ (c r : ℕ) (numbers rows columns : List ℕ) (orders : AreOrders c r n
       let w = block_apart orders.c_some orders.r_some (old_x j) (old_x k) (old_y j) (old_y k) stacks bands old in
       same_line (c * r) j k (same_y j k lj lk w.1) (same_x j k w.0)
 
-  same_block : (j k : ℕ) → block_of (all_given c r false grid) j ≡ block_of (all_given c r false grid) k → (j / (c * r) / c ≡ k / (c * r) / c) × (j % (c * r) / r ≡ k % (c * r) / r)
+  same_block : (j k : ℕ) → block_of (all_given c r false grid) j ≡ block_of (all_given c r false grid) k
+      → (j / (c * r) / c ≡ k / (c * r) / c) × (j % (c * r) / r ≡ k % (c * r) / r)
   same_block j k e =
-      same_from_place (j / (c * r) / c) (j % (c * r) / r) (k / (c * r) / c) (k % (c * r) / r) c (div_below (j % (c * r)) r c orders.r_some (x_below j)) (div_below (k % (c * r)) r c orders.r_some (x_below k)) e
+      same_from_place (j / (c * r) / c) (j % (c * r) / r) (k / (c * r) / c) (k % (c * r) / r) c
+      (div_below (j % (c * r)) r c orders.r_some (x_below j)) (div_below (k % (c * r)) r c orders.r_some (x_below k)) e
 
   apart_in_house : (house : NamedHouse) → IsHouseOf (all_given c r false grid) house → (j k : ℕ) → j < (c * r) * (c * r) → k < (c * r) * (c * r)
       → lies_in (all_given c r false grid) house j ≡ true → lies_in (all_given c r false grid) house k ≡ true → slice_index grid j ≡ slice_index grid k → j ≡ k

@@ -16,18 +16,21 @@ pub undone : (g : List ℕ) {h back k : List ℕ} (i u : ℕ) {was : ℕ} → h 
 undone g i u {was} e is same f = f ∙ (ap (λ xs. slice_set xs i was) (same ∙ e) ∙ set_back g i u was 0 (sym is))
 
 -- no fault was told
-pub solved_by : {p : Pattern} {g : List ℕ} (fault : Option PatternFault) {told : Bool} → IsCheck p g fault → is_some fault ≡ not told → told ≡ true → IsPatternSolution p g
+pub solved_by : {p : Pattern} {g : List ℕ} (fault : Option PatternFault) {told : Bool} → IsCheck p g fault
+    → is_some fault ≡ not told → told ≡ true → IsPatternSolution p g
 solved_by None good e on = good
 solved_by (Some fault) wrong e on = absurd (true≢false (e ∙ ap not on))
 
 -- and none is told of a solution
-pub told_of : (p : Pattern) (g : List ℕ) (fault : Option PatternFault) {told : Bool} → IsCheck p g fault → is_some fault ≡ not told → IsPatternSolution p g → told ≡ true
+pub told_of : (p : Pattern) (g : List ℕ) (fault : Option PatternFault) {told : Bool} → IsCheck p g fault
+    → is_some fault ≡ not told → IsPatternSolution p g → told ≡ true
 told_of p g None {told} good e solved = grind (arith, common_steps, cases_Bool told)
 told_of p g (Some (Column x)) wrong e solved = absurd (wrong.1.wrong (line_of_solution p g x (omega (arith, wrong.0)) solved))
 told_of p g (Some (Row y)) wrong e solved = absurd (wrong.1.wrong (line_of_solution p g (p.size.w + y) (omega (arith, wrong.0)) solved))
 
-pub told_by : {p : Pattern} (g h : List ℕ) (fault : Option PatternFault) (told : Bool) → IsCheck p g fault → is_some fault ≡ not told → g ≡ h → told ≡ true ↔ IsPatternSolution p h
-told_by {p} g h fault told check e same = (λ on. rw same at (solved_by fault check e on), λ solved. told_of p g fault check e (rw (sym same) at solved))
+pub told_by : {p : Pattern} (g h : List ℕ) (fault : Option PatternFault) {told : Bool} → IsCheck p g fault
+    → is_some fault ≡ not told → g ≡ h → told ≡ true ↔ IsPatternSolution p h
+told_by {p} g h fault check e same = (λ on. rw same at (solved_by fault check e on), λ solved. told_of p g fault check e (rw (sym same) at solved))
 
 -- a run has one end
 pub one_end : {size : Extent} (g : List ℕ) (x y end other : ℕ) → IsRunEnd size g x y end → IsRunEnd size g x y other → end ≡ other

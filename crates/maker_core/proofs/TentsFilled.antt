@@ -15,7 +15,8 @@ record IsTakenBy (size : Extent) (old : TentFilling) (c : ℕ) (q : TentFilling 
 some_free : (size : Extent) (filling : TentFilling) (c : ℕ) → may_have_tent size filling c ≡ true → 0 < length (free_cells_beside size filling c)
 some_free size filling c may = grind arith
 
-place_takes : (size : Extent) {filling : TentFilling} (c : ℕ) (s : Stream) → may_have_tent size filling c ≡ true → HasWords s → IsTakenBy size filling c (place_tent size filling c s)
+place_takes : (size : Extent) {filling : TentFilling} (c : ℕ) (s : Stream) → may_have_tent size filling c ≡ true → HasWords s
+    → IsTakenBy size filling c (place_tent size filling c s)
 place_takes size {filling} c s may words =
     let free : List ℕ = free_cells_beside size filling c in
     let few = free_few size filling c in
@@ -73,6 +74,6 @@ filled_words extent words (suc k) =
     (filling_solves extent (filled_words extent words k)).words
 
 -- the k-th filling
-pub filling_at_solves : {size : Extent} (s : Stream) → IsExtent size → HasWords s → (k : ℕ)
+pub filling_at_solves : {size : Extent} {s : Stream} → IsExtent size → HasWords s → (k : ℕ)
     → IsSolved size (tent_filling size (stream_after (tent_filling size) k s))
-filling_at_solves s extent words k = filling_solves extent (filled_words extent words k)
+filling_at_solves extent words k = filling_solves extent (filled_words extent words k)

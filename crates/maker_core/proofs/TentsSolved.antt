@@ -81,7 +81,8 @@ record IsNew (size : Extent) (old : TentFilling) (c t : ℕ) : Type 0 where
   beside : has_place (steps size c 4) t ≡ true
   alone : (d : ℕ) → tent old.tents d ≡ true → touches size c d ≡ false
 
-new_from : (size : Extent) {order : List ℕ} (k c : ℕ) (old new : TentFilling) → 1 ≤ size.w → IsOrder (size.w * size.h) order → k < size.w * size.h → c ≡ slice_index order k
+new_from : (size : Extent) {order : List ℕ} (k c : ℕ) (old new : TentFilling) → 1 ≤ size.w → IsOrder (size.w * size.h) order
+    → k < size.w * size.h → c ≡ slice_index order k
     → IsFillingAfter size order k old → (p : IsPlaced size old c new) → IsNew size old c p.tree
 new_from size k c old new w ordered lt at before p =
     let free = free_place size old c p.tree p.free in
@@ -101,7 +102,8 @@ new_from size k c old new w ordered lt at before p =
           grind (arith, any_below-none (λ d. touches size c d && tent old.tents d) (size.w * size.h));
     }
 
-filling_more : (size : Extent) {order : List ℕ} (k c : ℕ) (old new : TentFilling) → IsFillingAfter size order k old → (p : IsPlaced size old c new) → IsNew size old c p.tree
+filling_more : (size : Extent) {order : List ℕ} (k c : ℕ) (old new : TentFilling) → IsFillingAfter size order k old
+    → (p : IsPlaced size old c new) → IsNew size old c p.tree
     → c ≡ slice_index order k → IsFillingAfter size order (k + 1) new
 unfolding tents_puzzle_of
 filling_more size k c old new w p n at =
@@ -139,7 +141,8 @@ filling_more size k c old new w p n at =
       };
     }
 
-pub filling_step : {size : Extent} {order : List ℕ} {k c : ℕ} {old new : TentFilling} → 1 ≤ size.w → IsOrder (size.w * size.h) order → k < size.w * size.h → c ≡ slice_index order k
+pub filling_step : {size : Extent} {order : List ℕ} {k c : ℕ} {old new : TentFilling} → 1 ≤ size.w
+    → IsOrder (size.w * size.h) order → k < size.w * size.h → c ≡ slice_index order k
     → IsFillingAfter size order k old → IsTaken size old c new → IsFillingAfter size order (k + 1) new
 filling_step w ordered lt at before (inl same) = rw same (record {
   trees_grid = before.trees_grid;

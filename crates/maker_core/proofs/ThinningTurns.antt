@@ -51,14 +51,17 @@ module _ {A : Type 0} (game : CluedGame A) (laws : IsGame game) where
   thinner : (p : A) (place n : ℕ) → game.clue p place ≡ Some n → IsThinnedFrom game (game.without p place) p
   thinner p place n e = record { frame = laws.without_frame p place n e; clues = λ other m had. (other_clue p place other m had).1 }
 
-  without_within : (p q : A) (place n : ℕ) → IsThinnedFrom game p q → game.clue p place ≡ Some n → IsThinnedFrom game (game.without p place) (game.without q place)
+  without_within : (p q : A) (place n : ℕ) → IsThinnedFrom game p q → game.clue p place ≡ Some n
+      → IsThinnedFrom game (game.without p place) (game.without q place)
   without_within p q place n w e = record {
-    frame = laws.same_through _ _ _ (laws.same_through _ _ _ (laws.without_frame p place n e) w.frame) (laws.same_back _ _ (laws.without_frame q place n (w.clues place n e)));
+    frame =
+        laws.same_through _ _ _ (laws.same_through _ _ _ (laws.without_frame p place n e) w.frame)
+        (laws.same_back _ _ (laws.without_frame q place n (w.clues place n e)));
     clues = λ other m had. let o = other_clue p place other m had in laws.others_stay q place other o.0 ∙ w.clues other m o.1;
   }
 
-  pub two_in : (p q : A) → IsThinnedFrom game p q → HasTwo (game.rules q) → HasTwo (game.rules p)
-  two_in p q w two = record {
+  pub two_in : {p q : A} → IsThinnedFrom game p q → HasTwo (game.rules q) → HasTwo (game.rules p)
+  two_in {p} {q} w two = record {
     first = two.first;
     second = two.second;
     differ = two.differ;
@@ -69,7 +72,7 @@ module _ {A : Type 0} (game : CluedGame A) (laws : IsGame game) where
   module _ (budget : ℕ) (all : A) where
     reason_in : (p q : A) (place : ℕ) (why : Why) → IsThinnedFrom game (game.without p place) (game.without q place)
         → IsReason game budget all q place why → IsReason game budget all p place why
-    reason_in p q place Needed w two = two_in _ _ w two
+    reason_in p q place Needed w two = two_in w two
     reason_in p q place Budget w hard = record {
       thicker = hard.thicker;
       lacks = hard.lacks;
@@ -145,7 +148,8 @@ module _ {A : Type 0} (game : CluedGame A) (laws : IsGame game) where
         thinning_turn = record {
           within = within_through turn.within now.within;
           one = turn.one;
-          waiting = λ other held. ap is_some (turn.others other (head_apart rest now.different.0 held)) ∙ now.waiting other (Contains-append_right (place ∷ []) rest other held);
+          waiting = λ other held. ap is_some (turn.others other (head_apart rest now.different.0 held))
+              ∙ now.waiting other (Contains-append_right (place ∷ []) rest other held);
           different = now.different.1;
           told = λ other. at other (cases_eq other place) (now.told other);
           room = length-set whys place why ∙ now.room;
@@ -155,4 +159,6 @@ module _ {A : Type 0} (game : CluedGame A) (laws : IsGame game) where
                 → Contains rest other ⊎ IsTold game budget all new other (get_or (set whys place why) other None)
             at other (inl same) before = inr (rw (get_or-set_at whys place other why None same turn_in_room, same) turn.told)
             at other (inr apart) (inl held) = inl (contains_rest rest apart held)
-            at other (inr apart) (inr told) = inr (rw (get_or-set_other whys place other why None apart) (told_in new p other _ turn.within (turn.others other apart) told))
+            at other (inr apart) (inr told) =
+                inr (rw (get_or-set_other whys place other why None apart)
+                (told_in new p other _ turn.within (turn.others other apart) told))

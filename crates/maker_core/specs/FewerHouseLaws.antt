@@ -48,6 +48,8 @@ unfolding longest
 longest_at_most scope zero m each = omega arith
 longest_at_most scope (suc n) m each = max-le (longest_at_most scope n m (λ h lt. each h (omega arith))) (each n (omega arith))
 
-pub longest_of_fewer : (xs ys : List CountHouse) → IsFewer xs ys → longest (λ h. (count_house_of xs h).places) (length xs) ≤ longest (λ h. (count_house_of ys h).places) (length ys)
+pub longest_of_fewer : (xs ys : List CountHouse) → IsFewer xs ys
+    → longest (λ h. (count_house_of xs h).places) (length xs) ≤ longest (λ h. (count_house_of ys h).places) (length ys)
 longest_of_fewer xs ys less =
-    longest_at_most (λ h. (count_house_of xs h).places) (length xs) _ (less.short _ (λ h lt. scope_le-longest (λ k. (count_house_of ys k).places) (length ys) h lt))
+    longest_at_most (λ h. (count_house_of xs h).places) (length xs) _
+    (less.short _ (λ h lt. scope_le-longest (λ k. (count_house_of ys k).places) (length ys) h lt))

@@ -55,9 +55,11 @@ unfolding with_cells number_right black_right bulb_right lit_right sees_bulb see
 lit_stays p cells g same clues lit =
     let parts = lit-parts (with_cells p.size cells) g lit in
     let q = with_cells p.size cells in
-    lit-from p g (all_below-from (black_right p g) (light_cells p) (λ c below. simp whites (all_below-at (black_right q g) (light_cells p) c parts.black below)))
+    lit-from p g (all_below-from (black_right p g) (light_cells p)
+    (λ c below. simp whites (all_below-at (black_right q g) (light_cells p) c parts.black below)))
     (all_below-from (number_right p g) (light_cells p) (λ c below.
-    number_stays (slice_index_or p.cells c Black) (slice_index_or cells c Black) _ (clues c) (all_below-at (number_right q g) (light_cells p) c parts.number below)))
+    number_stays (slice_index_or p.cells c Black) (slice_index_or cells c Black) _ (clues c)
+    (all_below-at (number_right q g) (light_cells p) c parts.number below)))
     (all_below-from (bulb_right p g) (light_cells p) (λ c below. simp whites (all_below-at (bulb_right q g) (light_cells p) c parts.seen below)))
     (all_below-from (lit_right p g) (light_cells p) (λ c below. simp whites (all_below-at (lit_right q g) (light_cells p) c parts.lit below)))
   where
@@ -83,14 +85,15 @@ cleared : (cells : List LightCell) (place : ℕ) → slice_index_or (slice_set c
 cleared cells place =
     grind (arith, cases_lt place (length cells), get_or-set_same cells place Black Black, get_or_past (set cells place Black) place Black, length-set cells place Black)
 
-not_white : (cell : LightCell) (n : ℕ) → number_clue cell ≡ Some n → is_white cell ≡ false
-not_white cell n e = ap is_white (numbered_is e)
+not_white : (cell : LightCell) {n : ℕ} → number_clue cell ≡ Some n → is_white cell ≡ false
+not_white cell e = ap is_white (numbered_is e)
 
 same_without : (p : Light) (place n : ℕ) → number_clue (slice_index_or p.cells place Black) ≡ Some n → SameLight (without_number p place) p
 unfolding without_number
-same_without p place n e = record { size = refl; black = map-set_same is_white p.cells place Black Black (sym (not_white _ n e)) }
+same_without p place n e = record { size = refl; black = map-set_same is_white p.cells place Black Black (sym (not_white _ e)) }
 
-fewer_houses : (p : Light) (place n : ℕ) → number_clue (slice_index_or p.cells place Black) ≡ Some n → IsFewer (light_houses (without_number p place)) (light_houses p)
+fewer_houses : (p : Light) (place n : ℕ) → number_clue (slice_index_or p.cells place Black) ≡ Some n
+    → IsFewer (light_houses (without_number p place)) (light_houses p)
 unfolding without_number light_houses row_run column_run seen_from begins_row_run begins_column_run joined_in_row joined_in_column
 fewer_houses p place n e =
     fewer_append (fewer_below (number_house (without_number p place)) (number_house p) (light_cells p) (λ c. by c (cases_eq c place)))
@@ -111,8 +114,13 @@ fewer_houses p place n e =
     joined_column a = fun_ext λ b. simp white_at
 
     by : (c : ℕ) → (c ≡ place) ⊎ (c ≢ place) → (number_house (without_number p place) c ≡ number_house p c) ⊎ (number_house (without_number p place) c ≡ [])
-    by c (inl same) = inr (ap (λ cell. numbered cell (filter (white (without_number p place)) (beside p.size c))) (ap (λ k. slice_index_or (set p.cells place Black) k Black) same ∙ cleared p.cells place))
-    by c (inr apart) = inl (ap (λ cell. numbered cell (filter (white (without_number p place)) (beside p.size c))) (get_or-set_other p.cells place c Black Black apart) ∙ ap (λ wh. numbered (slice_index_or p.cells c Black) (filter wh (beside p.size c))) whites)
+    by c (inl same) =
+        inr (ap (λ cell. numbered cell (filter (white (without_number p place)) (beside p.size c)))
+        (ap (λ k. slice_index_or (set p.cells place Black) k Black) same ∙ cleared p.cells place))
+    by c (inr apart) =
+        inl (ap (λ cell. numbered cell (filter (white (without_number p place)) (beside p.size c)))
+        (get_or-set_other p.cells place c Black Black apart)
+        ∙ ap (λ wh. numbered (slice_index_or p.cells c Black) (filter wh (beside p.size c))) whites)
 
 clue_in : (cells : List LightCell) {place n : ℕ} → number_clue (slice_index_or cells place Black) ≡ Some n → place < length cells
 clue_in cells {place} e = grind (arith, get_or_past cells place Black)
@@ -120,9 +128,13 @@ clue_in cells {place} e = grind (arith, get_or_past cells place Black)
 same_length : (p q : Light) → map is_white p.cells ≡ map is_white q.cells → length p.cells ≡ length q.cells
 same_length p q same = sym (length-map p.cells is_white) ∙ ap length same ∙ length-map q.cells is_white
 
-told_same : (p : Light) (cells : List LightCell) (g : List ℕ) → map is_white p.cells ≡ map is_white cells → light_game.all_clues p g ≡ light_game.all_clues (with_cells p.size cells) g
+told_same : (p : Light) (cells : List LightCell) (g : List ℕ) → map is_white p.cells ≡ map is_white cells
+    → light_game.all_clues p g ≡ light_game.all_clues (with_cells p.size cells) g
 unfolding with_cells with_numbers
-told_same p cells g same = ap (λ wh. with_cells p.size (map (λ place. cond (wh place) White (Numbered (bulbs_beside p g place))) (range_with_len 0 (light_cells p)))) (same_white p (with_cells p.size cells) same)
+told_same p cells g same =
+    ap (λ wh. with_cells p.size
+    (map (λ place. cond (wh place) White (Numbered (bulbs_beside p g place))) (range_with_len 0 (light_cells p))))
+    (same_white p (with_cells p.size cells) same)
 
 pub light_is_game : IsGame light_game
 unfolding without_number
@@ -137,5 +149,12 @@ light_is_game = record {
   without_frame = same_without;
   without_it = λ p place. ap number_clue (cleared p.cells place);
   others_stay = λ p place other apart. ap number_clue (get_or-set_other p.cells place other Black Black apart);
-  needs_less = λ p place n e. let less = fewer_houses p place n e in record { same_cells = refl; same_values = refl; houses_in = less.fewer; bound_in = le_refl _; scope_in = longest_of_fewer _ _ less };
+  needs_less = λ p place n e. let less = fewer_houses p place n e in
+      record {
+        same_cells = refl;
+        same_values = refl;
+        houses_in = less.fewer;
+        bound_in = le_refl _;
+        scope_in = longest_of_fewer _ _ less;
+      };
 }

@@ -48,7 +48,8 @@ lies_alike p givens house place = grind arith
 abbrev pub HasClues : Solo → List ℕ → Type 0
 HasClues p givens = (place n : ℕ) → given_clue (slice_index p.givens place) ≡ Some n → given_clue (slice_index givens place) ≡ Some n
 
-given_stays : (p : Solo) (givens g : List ℕ) (place : ℕ) → HasClues p givens → (1 ≤ slice_index givens place → slice_index g place + 1 ≡ slice_index givens place)
+given_stays : (p : Solo) (givens g : List ℕ) (place : ℕ) → HasClues p givens
+    → (1 ≤ slice_index givens place → slice_index g place + 1 ≡ slice_index givens place)
     → 1 ≤ slice_index p.givens place → slice_index g place + 1 ≡ slice_index p.givens place
 given_stays p givens g place clues stands low =
     let same = clue_is (slice_index givens place) (slice_index p.givens place) (clues place (slice_index p.givens place) (is_clue _ low)) in
@@ -74,7 +75,9 @@ test_stays p givens g clues on =
     let parts = and_parts (all_below (given_stands q g) (solo_cells q)) _ on in
     and_from _ _
     (all_below-from (given_stands p g) (solo_cells p) (λ place below.
-    test_from_given p g place (given_stays p givens g place clues (given_from_test q g place (all_below-at (given_stands q g) (solo_cells q) place parts.0 below)))))
+    test_from_given p g place
+    (given_stays p givens g place clues
+    (given_from_test q g place (all_below-at (given_stands q g) (solo_cells q) place parts.0 below)))))
     parts.1
 
 solutions_stay : (p q : Solo) (g : List ℕ) → IsThinnedFrom solo_game p q → Solves (houses_rules q) g → Solves (houses_rules p) g

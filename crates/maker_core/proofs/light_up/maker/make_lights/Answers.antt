@@ -19,7 +19,7 @@ returns-clause-made g c =
       filled = given ∙ ap (λ (f : LightFilling). f.bulbs) first.filled;
       size_asked = thinned.within.frame.size ∙ size_is a.size c.in_ok-filling.filling c.in_ok-puzzle.puzzle c.in_ok-puzzle.ensures;
       only = rw given (only_is (light_rules p) (IsLightSolution p) (λ h s. s.grid)
-          (λ h grid. (rule-from-test p h grid, test-from-rule p h grid)) _ thinned.only);
+          (λ h grid. (rule-from-test p h grid, test-from-rule p h grid)) thinned.only);
       verdict = rw given thinned.found;
       reasons = rw given thinned.reasons;
     }
