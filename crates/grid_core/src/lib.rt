@@ -1,4 +1,4 @@
-//! Sizes, grids, boards, the regions and lines of a grid, and pairings.
+//! Sizes, grids, boards, planes of two values, the regions and lines of a grid, and pairings.
 #![tactic(auto)]
 
 mod augmenting;
@@ -14,7 +14,7 @@ mod size;
 
 pub use board::Board;
 pub use grid::Grid;
-pub use lines::{line_count, line_len, line_value, line_place};
+pub use lines::{line_count, line_len, line_place, line_value};
 pub use pairing::{Edges, Paired, Pairing};
 pub use planes::Planes;
 pub use planes::line::Line;
