@@ -1,17 +1,17 @@
 -- Planes: their words and the board that they are.
-use Rattle.std.proofs.Common.{◌≡◌, ◌∙◌, ℕ, ◌+◌, ◌-◌, ◌*◌, ◌/◌, ◌%◌, ◌<◌, ◌≤◌, true, false, not, ◌&&◌, eqb, List, length, set, refl, sym, ap, inl, inr, arith}
+use Rattle.std.proofs.Common.{◌≡◌, ◌∙◌, ℕ, ◌+◌, ◌-◌, ◌*◌, ◌/◌, ◌%◌, ◌<◌, ◌≤◌, true, false, not, ◌&&◌, eqb, ltb, List, length, set, refl, sym, ap, inl, inr, arith}
 use Rattle.std.proofs.Math.Path.{fun_ext}
 use Rattle.std.proofs.Math.Nat.{mul-le-mul_right}
-use Rattle.std.proofs.lemmas.Bool.{cases_Bool, cases_eq, cases_lt, eq-eqb, ne_eqb, eqb-true, lt-ltb, le-ltb, and_parts, and_from, true≢false}
+use Rattle.std.proofs.lemmas.Bool.{cases_Bool, cases_eq, cases_lt, eq-eqb, ne_eqb, eqb-true, lt-ltb, le-ltb, ltb-true, and_parts, and_from, true≢false, false_from_ne_true}
 use Rattle.std.proofs.lemmas.Grind.{common_steps}
 use Rattle.std.proofs.lemmas.List.{get_or_past}
 use Rattle.std.proofs.lemmas.Nat.{div-mul-add, div-add-mod'}
-use Rattle.grid_core.specs.Candidates.{Candidates, IsInside, total}
+use Rattle.grid_core.specs.Candidates.{Candidates, IsInside, IsWithin, any_below, total}
 use Rattle.grid_core.specs.Extent.{Extent}
-use Rattle.grid_core.proofs.CandidateLemmas.{total-lt}
+use Rattle.grid_core.proofs.CandidateLemmas.{any_below-none, any_below-some, total-lt}
 use Rattle.grid_core.proofs.WordLemmas.{zero-bits}
-use Rattle.grid_core.specs.Words.{differ}
-use Rattle.grid_core.specs.Planes.{Taking, Layers, bit_of, crosses, covers, without_taking, turned_by, has, taking_at, back_at, IsLineIn, IsTakingIn, AreWords, ArePlanes, IsFurther, AreTurned, HasLine, HasRoomFor, IsThere}
+use Rattle.grid_core.specs.Words.{has_bit, differ}
+use Rattle.grid_core.specs.Planes.{Taking, Layers, bit_of, crosses, covers, without_taking, turned_by, has, cells_of, taking_at, back_at, at_line, line_len, HasLost, IsLineIn, IsTakingIn, AreWords, ArePlanes, IsFurther, AreTurned, HasLine, HasRoomFor, IsThere}
 use Rattle.grid_core.specs.declared.planes.line.Line.{Line}
 use Rattle.grid_core.specs.declared.planes.line.Line.TheVariants.{Row, Column}
 use Rattle.grid_core.proofs.TakingLemmas.{put_back-noted, put_back-undone, takings-noted, takings-room, takings-undone}
@@ -89,9 +89,14 @@ place-in w h y x ly lx = let e : (y + 1) * w ≤ h * w = mul-le-mul_right w (ome
 pub place-column : (w y x : ℕ) → x < w → (y * w + x) % w ≡ x
 place-column w y x lt = let e = div-mul-add y w x lt in let d = div-add-mod' (y * w + x) w in let r : (y * w + x) / w * w ≡ y * w = ap (λ n. n * w) e in omega arith
 
-taken-fewer : (room : ℕ) (p : Layers) (t : Taking) (L : Candidates) → ArePlanes room p → IsThere p t → L ≡ without_taking p.size.w (has p) t → total (p.size.w * p.size.h) 2 L < total (p.size.w * p.size.h) 2 (has p)
+without-inside : (w : ℕ) (K : Candidates) (t : Taking) → IsInside (without_taking w K t) K
+unfolding without_taking
+without-inside w K t = λ c v on. (and_parts (K c v) (not (covers w t c v)) on).0
+
+-- the cell that some taking is from loses it
+taken-lost : (room : ℕ) (p : Layers) (t : Taking) → ArePlanes room p → IsThere p t → HasLost (has p) (without_taking p.size.w (has p) t)
 unfolding without_taking covers has
-taken-fewer room p t L are there e =
+taken-lost room p t are there =
     let y = there.some.0 in
     let x = there.some.1 in
     let on = there.there y x there.some.2 in
@@ -99,12 +104,24 @@ taken-fewer room p t L are there e =
     let row = div-mul-add y p.size.w x within.1 in
     let column = place-column p.size.w y x within.1 in
     let low = lt-ltb t.value 2 there.value_in in
-    rw e (total-lt (p.size.w * p.size.h) 2 (without_taking p.size.w (has p) t) (has p) (λ c v h. (and_parts _ _ h).0) (y * p.size.w + x) t.value (place-in p.size.w p.size.h y x within.0 within.1) there.value_in
-    (rw (row, column, there.some.2, eq-eqb t.value t.value refl, low, on) refl) (rw (row, column, low, on) refl))
+    (y * p.size.w + x, t.value, rw (row, column, low, on) refl, rw (row, column, there.some.2, eq-eqb t.value t.value refl, low, on) refl)
 
-without-inside : (w : ℕ) (K : Candidates) (t : Taking) → IsInside (without_taking w K t) K
-unfolding without_taking
-without-inside w K t = λ c v on. (and_parts (K c v) (not (covers w t c v)) on).0
+-- the board has no other cells and values than the grid's
+has-within : (p : Layers) (room : ℕ) → ArePlanes room p → IsWithin (cells_of p) 2 (has p)
+unfolding has
+has-within p room are = λ c v on.
+    let w = and_parts (ltb v 2) _ on in
+    let within = bit-in p.size p.rows p.columns (c / p.size.w) (c % p.size.w) v are.words (ltb-true v 2 w.0) w.1 in
+    (rw (div-add-mod' c p.size.w) at (place-in p.size.w p.size.h (c / p.size.w) (c % p.size.w) within.0 within.1), ltb-true v 2 w.0)
+
+taken-fewer : (room : ℕ) (p : Layers) (t : Taking) → ArePlanes room p → IsThere p t → total (p.size.w * p.size.h) 2 (without_taking p.size.w (has p) t) < total (p.size.w * p.size.h) 2 (has p)
+taken-fewer room p t are there =
+    let w = taken-lost room p t are there in
+    let within = has-within p room are w.0 w.1 w.2 in
+    total-lt (p.size.w * p.size.h) 2 (without_taking p.size.w (has p) t) (has p) (without-inside p.size.w (has p) t) w.0 w.1 within.0 within.1 w.3 w.2
+
+none_of : (bits room n : ℕ) → n ≤ room → any_below (has_bit bits) room ≡ false → ((k : ℕ) → has_bit bits k ≡ true → k < n) → (k : ℕ) → has_bit bits k ≡ false
+none_of bits room n fits none within k = false_from_ne_true _ (λ on. true≢false (sym on ∙ any_below-none (has_bit bits) room none k (let lt = within k on in omega arith)))
 
 -- planes from which something was taken
 pub record IsTaken (room : ℕ) (p p' : Layers) (t : Taking) : Type 0 where
@@ -113,7 +130,7 @@ pub record IsTaken (room : ℕ) (p p' : Layers) (t : Taking) : Type 0 where
   pub further : IsFurther p p'
 
 pub room_to_note : (room : ℕ) (p : Layers) (t : Taking) → ArePlanes room p → IsThere p t → p.len < length p.takings
-room_to_note room p t are there = takings-room p.size (has p) (without_taking p.size.w (has p) t) p.takings p.len are.takings (taken-fewer room p t _ are there refl)
+room_to_note room p t are there = takings-room p.size (has p) (without_taking p.size.w (has p) t) p.takings p.len are.takings (taken-fewer room p t are there)
 
 pub taken : (room : ℕ) (p : Layers) (t : Taking) (rows columns : List ℕ) → ArePlanes room p → IsThere p t → AreTurned p.rows p.columns rows columns t → length rows ≡ length p.rows → length columns ≡ length p.columns
     → IsTaken room p (record { size = p.size; rows = rows; columns = columns; takings = set p.takings p.len t; len = p.len + 1 }) t
@@ -122,7 +139,7 @@ taken room p t rows columns are there turned tall wide =
     let within = taking_in room p t are there in
     let turn = has-turned p p' t refl there.value_in turned in
     let left : has p' ≡ without_taking p.size.w (has p) t = turn ∙ taken_is p t there in
-    let fewer = taken-fewer room p t (has p') are there left in
+    let fewer = rw (← left) at (taken-fewer room p t are there) in
     let back : turned_by p.size.w (has p') t ≡ has p = ap (λ (K : Candidates). turned_by p.size.w K t) turn ∙ turned_twice p.size.w (has p) t in
     let lt = takings-room p.size (has p) (has p') p.takings p.len are.takings fewer in
     record {
@@ -138,8 +155,69 @@ taken room p t rows columns are there turned tall wide =
         same_size = refl;
         inside = rw left (without-inside p.size.w (has p) t);
         grows = omega arith;
+        same = λ e. absurd (omega arith);
+        lost = λ _. rw left (taken-lost room p t are there);
         back = λ m le. put_back-noted p.size.w (has p) (has p') p.takings m p.len t le lt back;
       };
+    }
+
+-- where nothing was taken, and taken in two steps
+pub further-none : (p : Layers) → IsFurther p p
+further-none p = record {
+  same_size = refl;
+  inside = λ c v on. on;
+  grows = omega arith;
+  same = λ _. refl;
+  lost = λ lt. absurd (omega arith);
+  back = λ m le. refl;
+}
+
+pub further-more : (p q r : Layers) → IsFurther p q → IsFurther q r → IsFurther p r
+further-more p q r first next = record {
+  same_size = next.same_size ∙ first.same_size;
+  inside = λ c v on. first.inside c v (next.inside c v on);
+  grows = omega (arith, first.grows, next.grows);
+  same = λ e. next.same (omega (arith, first.grows, next.grows)) ∙ first.same (omega (arith, first.grows, next.grows));
+  lost = λ lt. elim (cases_lt p.len q.len) [
+    | inl more ↦ let w = first.lost more in (w.0, w.1, w.2, false_from_ne_true _ (λ on. true≢false (sym (next.inside w.0 w.1 on) ∙ w.3)))
+    | inr le ↦
+        let same = first.same (omega (arith, first.grows)) in
+        let w = next.lost (omega (arith, lt)) in (w.0, w.1, rw same at w.2, w.3)
+  ];
+  back = λ m le. next.back m (omega (arith, first.grows)) ∙ first.back m le;
+}
+
+-- what is taken of the cells that have it is what is taken of all
+pub without-there : (p : Layers) (line : Line) (v bits there : ℕ) → ((k : ℕ) → has_bit there k ≡ (at_line p line v k && has_bit bits k))
+    → without_taking p.size.w (has p) (record { line = line; value = v; bits = there }) ≡ without_taking p.size.w (has p) (record { line = line; value = v; bits = bits })
+unfolding without_taking covers crosses has
+without-there p (Row n) v bits there is = fun_ext λ c. fun_ext λ u. grind (arith, common_steps, cases_Bool, cases_eq u v, cases_eq (c / p.size.w) n, eq-eqb, ne_eqb, is (c % p.size.w))
+without-there p (Column n) v bits there is = fun_ext λ c. fun_ext λ u. grind (arith, common_steps, cases_Bool, cases_eq u v, cases_eq (c % p.size.w) n, eq-eqb, ne_eqb, is (c / p.size.w))
+
+pub without-none : (p : Layers) (line : Line) (v bits room : ℕ) → line_len p.size line ≤ room → any_below (has_bit bits) room ≡ false → ((k : ℕ) → has_bit bits k ≡ true → k < line_len p.size line)
+    → has p ≡ without_taking p.size.w (has p) (record { line = line; value = v; bits = bits })
+unfolding without_taking covers crosses
+without-none p (Row n) v bits room fits none within = fun_ext λ c. fun_ext λ u. rw (none_of bits room p.size.w fits none within (c % p.size.w)) (grind (arith, common_steps, cases_Bool))
+without-none p (Column n) v bits room fits none within = fun_ext λ c. fun_ext λ u. rw (none_of bits room p.size.h fits none within (c / p.size.w)) (grind (arith, common_steps, cases_Bool))
+
+there-by : (p : Layers) (line : Line) (v bits : ℕ) → ((k : ℕ) → has_bit bits k ≡ true → at_line p line v k ≡ true) → (y x : ℕ) → crosses line bits y x ≡ true → bit_of p.rows y v x ≡ true
+unfolding crosses
+there-by p (Row n) v bits there y x on = let w = and_parts _ _ on in rw (eqb-true y n w.0) (there x w.1)
+there-by p (Column n) v bits there y x on = let w = and_parts _ _ on in rw (eqb-true x n w.0) (there y w.1)
+
+some-by : (line : Line) (bits k : ℕ) → has_bit bits k ≡ true → (y : ℕ) × (x : ℕ) × (crosses line bits y x ≡ true)
+unfolding crosses
+some-by (Row n) bits k on = (n, k, and_from _ _ (eq-eqb n n refl) on)
+some-by (Column n) bits k on = (k, n, and_from _ _ (eq-eqb n n refl) on)
+
+pub is-there : (p : Layers) (line : Line) (v bits there room : ℕ) → v < 2 → ((k : ℕ) → has_bit there k ≡ (at_line p line v k && has_bit bits k))
+    → any_below (has_bit there) room ≡ true → IsThere p (record { line = line; value = v; bits = there })
+is-there p line v bits there room lt is some =
+    let w = any_below-some (has_bit there) room some in
+    record {
+      value_in = lt;
+      there = there-by p line v there (λ k on. (and_parts _ _ (sym (is k) ∙ on)).0);
+      some = some-by line there w.0 w.2;
     }
 
 -- planes with the last thing taken put back

@@ -1,13 +1,13 @@
 -- Rows of planes as cells by place: which can have both values, and which have just one.
 use Rattle.std.proofs.Common.{◌≡◌, ◌∙◌, ℕ, zero, suc, ◌+◌, ◌-◌, ◌*◌, ◌/◌, ◌%◌, ◌||◌, eqb, ◌<◌, ◌≤◌, Bool, true, false, cond, not, ◌&&◌, ltb, List, length, set, slice_index, Option, Some, None, refl, sym, ap, inl, inr, arith}
 use mir.Val.{bool_byte}
-use Rattle.std.proofs.lemmas.Bool.{cases_Bool, cases_eq, eq-eqb, ne_eqb, eqb-true, and_from, cases_lt, and_parts, false_from_ne_true, lt-ltb, ltb-true}
+use Rattle.std.proofs.lemmas.Bool.{cases_Bool, cases_eq, eq-eqb, ne_eqb, eqb-true, cases_lt, and_parts, false_from_ne_true, lt-ltb, ltb-true}
 use Rattle.std.proofs.lemmas.Grind.{common_steps}
 use Rattle.std.proofs.lemmas.List.{get_or-set_same, get_or-set_other, length-set}
 use Rattle.std.proofs.lemmas.Nat.{div-mul-add, div-add-mod'}
 use Rattle.std.proofs.Math.Path.{fun_ext}
 use Rattle.grid_core.specs.Candidates.{Candidates, any_below, better, count_below, grid_of, is_full, only, pick}
-use Rattle.grid_core.specs.Planes.{Layers, bit_of, has, cells_of, crosses, covers, without_taking, IsThere}
+use Rattle.grid_core.specs.Planes.{Layers, bit_of, has, cells_of, crosses, covers, without_taking}
 use Rattle.grid_core.specs.Words.{has_bit, differ, IsLeast}
 use Rattle.grid_core.specs.declared.planes.line.Line.TheVariants.{Row}
 use Rattle.grid_core.proofs.CandidateLemmas.{any_below-none, any_below-some}
@@ -154,11 +154,6 @@ value-in : (p : Layers) (c v : ℕ) → has p c v ≡ true → v < 2
 unfolding has
 value-in p c v on = ltb-true v 2 (and_parts _ _ on).0
 
-both-at : (p : Layers) (c v : ℕ) → v < 2 → 2 ≤ count_below (has p c) 2 → has p c v ≡ true
-both-at p c zero lt two = grind (arith, common_steps, cases_Bool, two-counted (has p c))
-both-at p c (suc zero) lt two = grind (arith, common_steps, cases_Bool, two-counted (has p c))
-both-at p c (suc (suc v)) lt two = absurd (omega arith)
-
 other-value : (u v : ℕ) → u < 2 → v < 2 → eqb u (1 - v) ≡ not (eqb u v)
 other-value u v lu lv = grind (arith, common_steps, cases_eq u v, cases_eq u (1 - v), eq-eqb, ne_eqb)
 
@@ -169,18 +164,6 @@ same-cell w c d = elim (cases_eq d c) [
       let parts = and_parts _ _ on in
       ne (sym (div-add-mod' d w) ∙ rw (eqb-true (d / w) (c / w) parts.0, eqb-true (d % w) (c % w) parts.1) (div-add-mod' c w))))
 ]
-
-pub kept-there : (p : Layers) (c v bits : ℕ) → v < 2 → 2 ≤ count_below (has p c) 2 → ((x : ℕ) → has_bit bits x ≡ eqb x (c % p.size.w)) → IsThere p (record { line = Row (c / p.size.w); value = 1 - v; bits = bits })
-unfolding crosses has
-kept-there p c v bits lt two is = record {
-  value_in = omega arith;
-  there = λ y x on.
-      let parts = and_parts _ _ on in
-      let at_row = eqb-true y (c / p.size.w) parts.0 in
-      let at_column = eqb-true x (c % p.size.w) (sym (is x) ∙ parts.1) in
-      rw (at_row, at_column) (and_parts _ _ (both-at p c (1 - v) (omega arith) two)).1;
-  some = (c / p.size.w, c % p.size.w, and_from _ _ (eq-eqb (c / p.size.w) (c / p.size.w) refl) (is (c % p.size.w) ∙ eq-eqb (c % p.size.w) (c % p.size.w) refl));
-}
 
 pub kept-only : (p : Layers) (c v bits : ℕ) → v < 2 → ((x : ℕ) → has_bit bits x ≡ eqb x (c % p.size.w))
     → without_taking p.size.w (has p) (record { line = Row (c / p.size.w); value = 1 - v; bits = bits }) ≡ only (has p) c v

@@ -1,6 +1,6 @@
 -- Boards of two values as planes of bits: for each value the cells that can have it, as a word for each row and one for each
 -- column. The words of line k for the values 0 and 1 are those with the numbers 2 * k and 2 * k + 1.
-use Rattle.std.specs.Prelude.{◌≡◌, ℕ, zero, suc, ◌+◌, ◌*◌, ◌/◌, ◌%◌, ◌<◌, ◌≤◌, Bool, true, not, ◌&&◌, ◌==◌, nat_lt, nat_le, List, length, map, slice_index, slice_index_or, if◌then◌else◌}
+use Rattle.std.specs.Prelude.{◌≡◌, ℕ, zero, suc, ◌+◌, ◌*◌, ◌/◌, ◌%◌, ◌<◌, ◌≤◌, Bool, true, false, not, ◌&&◌, ◌==◌, nat_lt, nat_le, List, length, map, slice_index, slice_index_or, if◌then◌else◌}
 use Rattle.grid_core.specs.Candidates.{Candidates, IsInside, total}
 use Rattle.grid_core.specs.Extent.{Extent, IsExtent}
 use Rattle.grid_core.specs.Words.{has_bit, differ}
@@ -105,11 +105,17 @@ pub record IsFresh (size : Extent) (K : Candidates) (p : Layers) : Type 0 where
   pub holds : has p ≡ K
   pub none : p.len ≡ 0
 
--- values were taken, and are noted: each shorter trail gives back the same
+-- the second board lacks a value of the first
+abbrev pub HasLost : Candidates → Candidates → Type 0
+HasLost K L = (c : ℕ) × (v : ℕ) × (K c v ≡ true) × (L c v ≡ false)
+
+-- values were taken, and are noted: the trail is longer where some were, and each shorter trail gives back the same
 pub record IsFurther (from to : Layers) : Type 0 where
   pub same_size : to.size ≡ from.size
   pub inside : IsInside (has to) (has from)
   pub grows : from.len ≤ to.len
+  pub same : to.len ≡ from.len → has to ≡ has from
+  pub lost : from.len < to.len → HasLost (has from) (has to)
   pub back : (n : ℕ) → n ≤ from.len → back_at to n ≡ back_at from n
 
 -- the board was taken back to when the trail had length n: each shorter one gives back the same

@@ -1,4 +1,4 @@
-//! Sizes, grids, boards, the regions and lines of a grid, and pairings.
+//! Sizes, grids, boards, planes of two values, the regions and lines of a grid, and pairings.
 #![tactic(auto)]
 
 mod augmenting;

@@ -4,21 +4,21 @@
 ghost use Rattle.std.specs.Prelude.{◌≡◌, ℕ, ◌+◌, ◌*◌, ◌<◌, ◌≤◌, true, IfOk};
 ghost use Rattle.grid_core.specs.Candidates.{all_of};
 ghost use Rattle.grid_core.specs.Words.{has_bit};
-ghost use Rattle.grid_core.specs.Planes.{bit_of, has, cells_of, back_at, without_taking, IsThere, IsFresh, IsFurther, IsBack, at_line, lines_beside, line_len, number_of};
+ghost use Rattle.grid_core.specs.Planes.{bit_of, has, cells_of, back_at, without_taking, ArePlanes, IsThere, IsFresh, IsFurther, IsBack, at_line, lines_beside, line_len, number_of};
 
+pub(crate) mod copies;
 pub(crate) mod judge;
 pub(crate) mod line;
-pub(crate) mod copies;
 pub(crate) mod turn;
 pub(crate) mod word;
 
 use crate::size::Size;
-use line::{Change, Line};
 use copies::{copies, write_all};
-use turn::turn_line;
-use word::Word;
+use line::{Change, Line};
 use std::alloc::{AllocError, Global};
 use std::marker::Model;
+use turn::turn_line;
+use word::Word;
 
 /// A board of two values. For each value the cells that can have it stand as a word of bits for each row, and again as one
 /// for each column: those of line `k` for the values 0 and 1 are the words `2 * k` and `2 * k + 1`.
@@ -81,8 +81,7 @@ impl<W: Word> Planes<W> {
     /// The size of the grid.
     pub fn size(&self) -> Size
         ensures value { result ≡ self.now.size }
-        ensures narrow { result.w ≤ W.room }
-        ensures low { result.h ≤ W.room }
+        ensures lawful { ArePlanes W.room self.now }
     {
         self.size
     }
@@ -93,7 +92,7 @@ impl<W: Word> Planes<W> {
         requires value_in { value < 2 }
         ensures cells { (x : ℕ) → has_bit (W.bits result) x ≡ bit_of self.now.rows y value x }
         ensures within { (x : ℕ) → has_bit (W.bits result) x ≡ true → x < self.now.size.w }
-        ensures fits { self.now.size.w ≤ W.room }
+        ensures lawful { ArePlanes W.room self.now }
     {
         self.rows[2 * usize::from(y) + usize::from(value)]
     }
@@ -104,7 +103,7 @@ impl<W: Word> Planes<W> {
         requires value_in { value < 2 }
         ensures cells { (y : ℕ) → has_bit (W.bits result) y ≡ bit_of self.now.rows y value x }
         ensures within { (y : ℕ) → has_bit (W.bits result) y ≡ true → y < self.now.size.h }
-        ensures fits { self.now.size.h ≤ W.room }
+        ensures lawful { ArePlanes W.room self.now }
     {
         self.columns[2 * usize::from(x) + usize::from(value)]
     }
@@ -116,6 +115,7 @@ impl<W: Word> Planes<W> {
         ensures cells { (k : ℕ) → has_bit (W.bits result) k ≡ at_line self.now line value k }
         ensures within { (k : ℕ) → has_bit (W.bits result) k ≡ true → k < line_len self.now.size line }
         ensures fits { line_len self.now.size line ≤ W.room }
+        ensures lawful { ArePlanes W.room self.now }
     {
         match line {
             Line::Row(y) => self.row(y, value),
@@ -142,12 +142,25 @@ impl<W: Word> Planes<W> {
         self.len
     }
 
-    /// Takes the value from cells of a line, each of which can have it, and notes them.
+    /// Takes the value from those of the cells of a line that can have it. It notes them where there are any.
     pub fn take(&mut self, line: Line, value: u8, bits: W)
+        requires line_in { number_of line < lines_beside self.old.size line }
+        requires value_in { value < 2 }
+        ensures left { has self.new ≡ without_taking self.old.size.w (has self.old)
+            (record { line = line; value = value; bits = W.bits bits }) }
+        ensures further { IsFurther self.old self.new }
+    {
+        let there = self.line(line, value).both(bits);
+        if there.is_some() {
+            self.take_all(line, value, there);
+        }
+    }
+
+    /// Takes the value from cells of a line, each of which can have it, and notes them.
+    fn take_all(&mut self, line: Line, value: u8, bits: W)
         requires { IsThere self.old (record { line = line; value = value; bits = W.bits bits }) }
         ensures left { has self.new ≡ without_taking self.old.size.w (has self.old)
             (record { line = line; value = value; bits = W.bits bits }) }
-        ensures longer { self.new.len ≡ self.old.len + 1 }
         ensures further { IsFurther self.old self.new }
     {
         self.changes[self.len] = Change { line, value, bits };

@@ -10,13 +10,7 @@ use crate::planes::word::Word;
 
 /// Turns over the bits in the line's word of the value. In the words of the lines that cross it there it turns over the
 /// bit of the line.
-fn turn<W: Word>(
-    along: &mut Vec<W>,
-    across: &mut Vec<W>,
-    line: usize,
-    value: usize,
-    bits: W,
-)
+fn turn<W: Word>(along: &mut Vec<W>, across: &mut Vec<W>, line: usize, value: usize, bits: W)
     requires value_in { value < 2 }
     requires line_in { 2 * line + value < length along.old.items }
     requires line_room { line < W.room }

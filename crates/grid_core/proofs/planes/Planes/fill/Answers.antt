@@ -1,4 +1,4 @@
-use Rattle.std.proofs.Common.{sym, ◌≡◌, ◌∙◌, ◌*◌, length, replicate}
+use Rattle.std.proofs.Common.{sym, ◌≡◌, ◌∙◌, ◌*◌, length}
 use Rattle.std.proofs.lemmas.List.{length-map}
 use Rattle.grid_core.specs.Candidates.{all_of}
 use Rattle.grid_core.specs.Planes.{layers_of, taking_of}

@@ -1,5 +1,5 @@
 use Rattle.std.proofs.Common.{arith, ◌≡◌, ◌∙◌, ◌*◌, ◌/◌, ◌%◌, ◌<◌}
-use Rattle.std.proofs.Math.Nat.{mod-lt, div-lt_iff_lt-mul}
+use Rattle.std.proofs.Math.Nat.{div-lt_iff_lt-mul}
 use Rattle.std.proofs.lemmas.List.{length-map}
 use Rattle.grid_core.specs.Planes.{layers_of}
 use Rattle.grid_core.proofs.PlaneSteps.{word_read, has_read}

@@ -13,7 +13,7 @@ unfilled g c = record {
 
 pub loop-y-preserved : goal.loop-y-preserved
 loop-y-preserved g c =
-    full-row c.args.self.now g.W.Word.room c.loop-y.y (g.W.Word.bits c.but.result) (rw (c.size-size.ensures.value) at c.size-size.ensures.narrow) c.loop-y.invariant
+    full-row c.args.self.now g.W.Word.room c.loop-y.y (g.W.Word.bits c.but.result) c.size-size.ensures.lawful.narrow c.loop-y.invariant
     (unfilled g (goal.at.loop-y-preserved g c).After-is_some) (sym c.is_some.ensures ∙ c.if-is_some.false)
 
 pub returns-then-is_some : goal.returns-then-is_some

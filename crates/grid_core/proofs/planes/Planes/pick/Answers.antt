@@ -1,4 +1,4 @@
-use Rattle.std.proofs.Common.{arith, refl, sym, ap, ◌≡◌, ◌∙◌, ◌*◌, ◌<◌, ◌&&◌, ℕ}
+use Rattle.std.proofs.Common.{arith, refl, sym, ap, ◌≡◌, ◌∙◌, ◌*◌, ◌<◌, ℕ}
 use Rattle.std.proofs.lemmas.Bool.{and_parts}
 use Rattle.grid_core.specs.Candidates.{pick}
 use Rattle.grid_core.specs.Planes.{has, cells_of}
@@ -31,7 +31,7 @@ overflow_add-result g c =
 
 pub loop-y-preserved : goal.loop-y-preserved
 loop-y-preserved g c =
-    pick-row_none c.args.self.now g.W.Word.room c.loop-y.y (g.W.Word.bits c.both-open.result) (rw (c.size-size.ensures.value) at c.size-size.ensures.narrow) c.loop-y.invariant
+    pick-row_none c.args.self.now g.W.Word.room c.loop-y.y (g.W.Word.bits c.both-open.result) c.size-size.ensures.lawful.narrow c.loop-y.invariant
     (open_row g (goal.at.loop-y-preserved g c).After-is_some) (sym c.is_some.ensures ∙ c.if-is_some.false)
 
 pub returns-then-is_some : goal.returns-then-is_some

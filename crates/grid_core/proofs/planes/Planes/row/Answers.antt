@@ -16,8 +16,8 @@ read g c =
 pub returns-clause-cells : goal.returns-clause-cells
 returns-clause-cells g c = rw (← c.self.view_is) (read g (goal.at.returns-clause-cells g c).After-index)
 
-pub returns-clause-fits : goal.returns-clause-fits
-returns-clause-fits g c = rw (← c.self.view_is) c.self.invariant.narrow
+pub returns-clause-lawful : goal.returns-clause-lawful
+returns-clause-lawful g c = rw (← c.self.view_is) c.self.invariant
 
 pub returns-clause-within : goal.returns-clause-within
 returns-clause-within g c =

@@ -1,4 +1,4 @@
-use Rattle.std.proofs.Common.{arith, ap, subst, ◌≡◌, ◌∙◌, ◌*◌, ◌<◌, ℕ}
+use Rattle.std.proofs.Common.{arith, ap, subst, ◌≡◌, ◌∙◌, ◌*◌, ◌<◌}
 use Rattle.grid_core.specs.Planes.{cells_of}
 use Rattle.grid_core.proofs.RowLemmas.{IsWritten, written-more, written-all}
 use Rattle.grid_core.proofs.planes.Planes.write_grid.Goals as goal
