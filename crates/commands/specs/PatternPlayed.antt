@@ -5,7 +5,7 @@ use Rattle.gameid_core.specs.declared.id.game.Game.TheVariants as game
 use Rattle.maker_core.specs.PatternMaking.{IsPatternMade, pattern_filling, pattern_passes}
 use Rattle.pattern_core.specs.declared.fault.PatternFault.{PatternFault}
 use Rattle.pattern_core.specs.declared.fault.PatternFault.TheVariants as pattern
-use Rattle.commands.specs.Common.{IsCheck, IsPatternSolution, Pattern, extent_of, hides_nothing, line_rules, pattern_cell, size_of}
+use Rattle.commands.specs.Common.{IsPatternFault, IsPatternSolution, Pattern, extent_of, hides_nothing, line_rules, pattern_cell, size_of}
 use Rattle.commands.specs.Answers.{Text}
 use Rattle.commands.specs.CheckAnswers.{IsFaultTold}
 use Rattle.commands.specs.Grades.{only_set}
@@ -35,7 +35,7 @@ pattern_played = record {
     written = pattern_text;
     solves = IsPatternSolution;
     rules = line_rules;
-    told = λ p g. IsFaultTold (IsCheck p g) pattern_fault;
+    told = λ p g. IsFaultTold (IsPatternFault p g) pattern_fault;
     sets = λ p. only_set Lines (line_rules p);
     tells = λ p. TellsVisits (pattern_name p);
     sizes = size_of game.Pattern;

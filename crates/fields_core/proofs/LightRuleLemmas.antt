@@ -12,7 +12,7 @@ use Rattle.gameid_core.specs.declared.light_up.cell.LightCell.TheVariants.{White
 use Rattle.fields_core.specs.Light.{light_cells, white, bulb, bulbs_beside, number_is, joined_in_row, joined_in_column, sees, sees_bulb, black_right, number_right, bulb_right, lit_right, solves_lights}
 use Rattle.fields_core.specs.LightSolutions.{light_row, light_column, IsFromTo, AreJoined, Sees, SeesBulb, IsLightSolution}
 use Rattle.gameid_core.specs.FirstFailed.{NoneFails, each_test}
-use Rattle.gameid_core.proofs.FirstFailed.{IsCheckOf, IsKnown, IsTestedBy, all_each, all_split, first_by, first_front, first_rest, known_by, none_by, none_tells, right_by}
+use Rattle.gameid_core.proofs.FirstFailed.{IsKnown, IsTestedBy, all_each, all_split, first_by, first_front, first_rest, known_by, none_by, none_tells, right_by}
 use Rattle.gameid_core.proofs.Lists.{AllByRecursion-append}
 use Rattle.fields_core.specs.LightFaults.{FailsLight, IsLightFault, light_tests}
 use Rattle.fields_core.specs.declared.light_up.fault.LightFault.{LightFault}
@@ -175,7 +175,7 @@ module _ (p : Light) (g : List ℕ) (grid : IsGrid (light_cells p) 2 g) where
       lit-from p g (all_below-from _ _ (right_by _ black-test a.0)) (all_below-from _ _ (right_by _ number-test b.0))
       (all_below-from _ _ (right_by _ seen-test c.0)) (all_below-from _ _ (right_by _ dark-test c.1))
 
-  light-none : IsLightSolution p g → NoneFails (FailsLight p g) (light_tests p)
+  pub light-none : IsLightSolution p g → NoneFails (FailsLight p g) (light_tests p)
   light-none s = AllByRecursion-append Holds _ _
       (all_each Holds fault.Black (light_cells p) (λ c lt (on, off). true≢false (sym (s.none_on_black c lt on) ∙ off)))
       (AllByRecursion-append Holds _ _ (all_each Holds fault.Number (light_cells p) (λ c lt (k, e, other). other (s.numbers c k lt e)))
@@ -188,8 +188,8 @@ module _ (p : Light) (g : List ℕ) (grid : IsGrid (light_cells p) 2 g) where
   pub test-from-rule : IsLightSolution p g → solves_lights p g ≡ true
   test-from-rule s = none-right (light-none s)
 
-  pub light-check : IsCheckOf (FailsLight p g) (IsLightSolution p g) (light_tests p)
-  light-check = record { sound = λ none. rule-from-test p g grid (none-right none); complete = light-none }
+  pub light-sound : NoneFails (FailsLight p g) (light_tests p) → IsLightSolution p g
+  light-sound none = rule-from-test p g grid (none-right none)
 
   pub light-known : AllByRecursion (IsKnown (FailsLight p g)) (light_tests p)
   light-known = AllByRecursion-append _ _ _ (known_by _ black-test) (AllByRecursion-append _ _ _ (known_by _ number-test)
@@ -220,4 +220,4 @@ module _ (p : Light) (g : List ℕ) (grid : IsGrid (light_cells p) 2 g) where
   none-found black number seen lit = rule-from-test p g grid (lit-from p g (all_below-from _ _ black) (all_below-from _ _ number) (all_below-from _ _ seen) (all_below-from _ _ lit))
 
   pub light-tells : (fault : Option LightFault) (told : Bool) → IsLightFault p g fault → is_some fault ≡ not told → told ≡ solves_lights p g
-  light-tells fault told is e = none_tells _ light-check told (solves_lights p g) (rule-from-test p g grid) test-from-rule fault is e
+  light-tells fault told is e = none_tells (FailsLight p g) (light_tests p) light-none told (solves_lights p g) (rule-from-test p g grid) test-from-rule fault is e

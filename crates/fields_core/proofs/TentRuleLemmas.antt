@@ -12,7 +12,7 @@ use Rattle.fields_core.specs.Tents.{tent_cells, tree, tent, touches, tents_in_co
 use Rattle.fields_core.specs.TentHouses.{tent_houses}
 use Rattle.fields_core.specs.TentSolutions.{IsPairedBy, IsTentSolution}
 use Rattle.gameid_core.specs.FirstFailed.{IsFirstFailed, NoneFails, each_test}
-use Rattle.gameid_core.proofs.FirstFailed.{IsCheckOf, IsKnown, IsTestedBy, all_each, all_split, first_by, first_front, first_rest, known_by, none_by, none_tells, right_by}
+use Rattle.gameid_core.proofs.FirstFailed.{IsKnown, IsTestedBy, all_each, all_split, first_by, first_front, first_rest, known_by, none_by, none_tells, right_by}
 use Rattle.gameid_core.proofs.Lists.{AllByRecursion-append}
 use Rattle.fields_core.specs.TentFaults.{FailsTents, IsTentFault, tent_tests}
 use Rattle.fields_core.specs.Lawful.{tent_table}
@@ -140,7 +140,7 @@ module _ (p : Tents) (g : List ℕ) (grid : IsGrid (tent_cells p) 2 g) where
       tents-from p g (all_below-from _ _ (right_by _ tree-test a.0)) (all_below-from _ _ (right_by _ touch-test b.0))
       (all_below-from _ _ (right_by _ column-test c.0)) (all_below-from _ _ (right_by _ row-test d.0)) (sym paired)
 
-  tents-none : IsTentSolution p g → NoneFails (FailsTents p g) (tent_tests p)
+  pub tents-none : IsTentSolution p g → NoneFails (FailsTents p g) (tent_tests p)
   tents-none s = AllByRecursion-append Holds _ _
       (all_each Holds Tree (tent_cells p) (λ c lt (on, tree_on). true≢false (sym tree_on ∙ s.none_on_trees c lt on)))
       (AllByRecursion-append Holds _ _
@@ -151,8 +151,8 @@ module _ (p : Tents) (g : List ℕ) (grid : IsGrid (tent_cells p) 2 g) where
   pub tents-from-solution : IsTentSolution p g → solves_tents p g ≡ true
   tents-from-solution s = none-right (tents-none s)
 
-  pub tents-check : IsCheckOf (FailsTents p g) (IsTentSolution p g) (tent_tests p)
-  tents-check = record { sound = λ none. solution-from-tents p g grid (none-right none); complete = tents-none }
+  pub tents-sound : NoneFails (FailsTents p g) (tent_tests p) → IsTentSolution p g
+  tents-sound none = solution-from-tents p g grid (none-right none)
 
   pub tents-known : AllByRecursion (IsKnown (FailsTents p g)) (tent_tests p)
   tents-known = AllByRecursion-append _ _ _ (known_by _ tree-test) (AllByRecursion-append _ _ _ (known_by _ touch-test)
@@ -197,4 +197,4 @@ module _ (p : Tents) (g : List ℕ) (grid : IsGrid (tent_cells p) 2 g) where
   none-found trees touch columns rows on = solution-from-tents p g grid (tents-from p g (all_below-from _ _ trees) (all_below-from _ _ touch) (all_below-from _ _ columns) (all_below-from _ _ rows) on)
 
   pub tents-tell : (fault : Option TentFault) (told : Bool) → IsTentFault p g fault → is_some fault ≡ not told → told ≡ solves_tents p g
-  tents-tell fault told is e = none_tells _ tents-check told (solves_tents p g) (solution-from-tents p g grid) tents-from-solution fault is e
+  tents-tell fault told is e = none_tells (FailsTents p g) (tent_tests p) tents-none told (solves_tents p g) (solution-from-tents p g grid) tents-from-solution fault is e

@@ -1,6 +1,11 @@
 -- Of tests in their order one is the first that fails, or none fails; and it is one alone.
-use Rattle.gameid_core.specs.Common.{AllByRecursion, Bool, IsAnswerOfCheck, IsFirstFailed, List, None, NoneFails, Option, Some, [], ap, arith, cases_eq, each_test, false, false≢true, inl, inr, is_some, not, map, range_with_len, refl, subst, suc, sym, true, zero, ℕ, ◌++◌, ◌+◌, ◌<◌, ◌↔◌, ◌∙◌, ◌∷◌, ◌≡◌, ◌≤◌, ◌⊎◌}
+use Rattle.gameid_core.specs.Common.{AllByRecursion, Bool, IsAnswerOfCheck, IsFirstFailed, List, None, NoneFails, Option, Some, [], ap, arith, cases_eq, each_test, false, false≢true, get_or, get_or-map-range_with_len, inl, inr, is_some, length, length-map-range_with_len, map, not, range_with_len, refl, subst, suc, sym, true, zero, ℕ, ◌++◌, ◌+◌, ◌<◌, ◌↔◌, ◌∙◌, ◌∷◌, ◌≡◌, ◌≤◌, ◌⊎◌}
 use Rattle.std.proofs.lemmas.Bool.{not-false, not-true, true_from_ne_false}
+
+bool_is : (a b : Bool) → (a ≡ true → b ≡ true) → (b ≡ true → a ≡ true) → a ≡ b
+bool_is true b to from = sym (to refl)
+bool_is false true to from = absurd (false≢true (from refl))
+bool_is false false to from = refl
 
 -- ---- what is so of each test of a kind
 all_from : {F : Type 0} (P : F → Type 0) (kind : ℕ → F) (a n : ℕ) → ((k : ℕ) → a ≤ k → k < a + n → P (kind k))
@@ -36,16 +41,17 @@ module _ {F : Type 0} (fails : F → Type 0) where
   first_rest [] rest f none first = first
   first_rest (t ∷ front) rest f none first = inr (none.0, first_rest front rest f none.1 first)
 
-  first_from : (kind : ℕ → F) (a n k : ℕ) → a ≤ k → k < a + n → fails (kind k) → ((j : ℕ) → a ≤ j → j < k → fails (kind j) → ⊥)
-      → IsFirstFailed fails (map kind (range_with_len a n)) (kind k)
-  first_from kind a zero k low high failed before = absurd (omega arith)
-  first_from kind a (suc n) k low high failed before = elim (cases_eq a k) [
-    | inl e ↦ inl (ap kind e, subst (λ i. fails (kind i)) (sym e) failed)
-    | inr ne ↦ inr (before a (omega arith) (omega arith), first_from kind (a + 1) n k (omega arith) (omega arith) failed (λ j up. before j (omega arith)))
-  ]
+  pub first_at : (tests : List F) (k : ℕ) (d : F) → k < length tests → fails (get_or tests k d) → ((j : ℕ) → j < k → fails (get_or tests j d) → ⊥)
+      → IsFirstFailed fails tests (get_or tests k d)
+  first_at [] k d lt failed before = absurd (omega arith)
+  first_at (t ∷ tests) zero d lt failed before = inl (refl, failed)
+  first_at (t ∷ tests) (suc k) d lt failed before = inr (before 0 (omega arith), first_at tests k d (omega arith) failed (λ j low. before (suc j) (omega arith)))
 
   pub first_each : (kind : ℕ → F) (n k : ℕ) → k < n → fails (kind k) → ((j : ℕ) → j < k → fails (kind j) → ⊥) → IsFirstFailed fails (each_test kind n) (kind k)
-  first_each kind n k lt failed before = first_from kind 0 n k (omega arith) (omega arith) failed (λ j up. before j)
+  first_each kind n k lt failed before =
+      let at : (i : ℕ) → i < n → get_or (each_test kind n) i (kind k) ≡ kind i = λ i below. get_or-map-range_with_len kind 0 n i i (kind k) below (omega arith) in
+      subst (IsFirstFailed fails (each_test kind n)) (at k lt) (first_at (each_test kind n) k (kind k) (rw length-map-range_with_len lt) (subst fails (sym (at k lt)) failed)
+          (λ j low wrong. before j low (subst fails (at j (omega arith)) wrong)))
 
   none_first : (tests : List F) (f : F) → NoneFails fails tests → IsFirstFailed fails tests f → ⊥
   none_first [] f none h = elim h [ ]
@@ -94,29 +100,25 @@ module _ {F : Type 0} (fails : F → Type 0) where
         by k lt true on = inr (test.held k lt on)
         by k lt false off = inl (test.failed k lt off)
 
-  -- ---- a check
-  -- the grids that no test fails are the solutions
-  pub record IsCheckOf (solution : Type 0) (tests : List F) : Type 0 where
-    pub sound : NoneFails fails tests → solution
-    pub complete : solution → NoneFails fails tests
+  -- ---- the answer of a check, where a grid that no test fails is a solution, and no test fails a solution
+  pub one_answer : {solution : Type 0} (tests : List F) → (NoneFails fails tests → solution) → AllByRecursion IsKnown tests → (fault : Option F) × IsAnswerOfCheck solution fails tests fault
+  one_answer tests sound known = elim (judged tests known) [ inl none ↦ (None, sound none) | inr first ↦ (Some first.0, first.1) ]
 
-  module _ {solution : Type 0} {tests : List F} (c : IsCheckOf solution tests) where
-    pub one_answer : AllByRecursion IsKnown tests → (fault : Option F) × IsAnswerOfCheck solution fails tests fault
-    one_answer known = elim (judged tests known) [ inl none ↦ (None, c.sound none) | inr first ↦ (Some first.0, first.1) ]
-
+  module _ {solution : Type 0} (tests : List F) (complete : solution → NoneFails fails tests) where
     pub answer_once : (a b : Option F) → IsAnswerOfCheck solution fails tests a → IsAnswerOfCheck solution fails tests b → a ≡ b
     answer_once None None x y = refl
-    answer_once None (Some f) x y = absurd (none_first tests f (c.complete x) y)
-    answer_once (Some f) None x y = absurd (none_first tests f (c.complete y) x)
+    answer_once None (Some f) x y = absurd (none_first tests f (complete x) y)
+    answer_once (Some f) None x y = absurd (none_first tests f (complete y) x)
     answer_once (Some f) (Some g) x y = ap Some (first_once tests f g x y)
 
     pub none_exactly : (fault : Option F) → IsAnswerOfCheck solution fails tests fault → (fault ≡ None) ↔ solution
     none_exactly fault is = (λ e. subst (IsAnswerOfCheck solution fails tests) e is, λ s. answer_once fault None is s)
 
-    -- whether nothing is wrong, where a Boolean test tells solutions
+    -- whether nothing is wrong, as a Bool
+    pub tells : (told : Bool) (fault : Option F) → IsAnswerOfCheck solution fails tests fault → is_some fault ≡ not told → (told ≡ true) ↔ solution
+    tells told None is e = ((λ on. is), (λ s. not-false told (sym e)))
+    tells told (Some f) is e = ((λ on. absurd (false≢true (sym (not-true told (sym e)) ∙ on))), (λ s. absurd (none_first tests f (complete s) is)))
+
     pub none_tells : (told right : Bool) → (right ≡ true → solution) → (solution → right ≡ true) → (fault : Option F) → IsAnswerOfCheck solution fails tests fault
         → is_some fault ≡ not told → told ≡ right
-    none_tells told true from to None is e = not-false told (sym e)
-    none_tells told false from to None is e = absurd (false≢true (to is))
-    none_tells told true from to (Some f) is e = absurd (let same = answer_once (Some f) None is (from refl) in cc)
-    none_tells told false from to (Some f) is e = not-true told (sym e)
+    none_tells told right from to fault is e = let both = tells told fault is e in bool_is told right (λ on. to (both.0 on)) (λ on. both.1 (from on))

@@ -20,3 +20,7 @@ each_test kind n = map kind (range_with_len 0 n)
 abbrev pub IsAnswerOfCheck : {F : Type 0} → Type 0 → (F → Type 0) → List F → Option F → Type 0
 IsAnswerOfCheck solution fails tests None = solution
 IsAnswerOfCheck solution fails tests (Some fault) = IsFirstFailed fails tests fault
+
+-- the first of these tests that fails, or none
+abbrev pub IsFirstOf : {F : Type 0} → (F → Type 0) → List F → Option F → Type 0
+IsFirstOf fails tests fault = IsAnswerOfCheck (NoneFails fails tests) fails tests fault

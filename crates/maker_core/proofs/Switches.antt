@@ -1,7 +1,7 @@
 -- Cells turned and turned back leave a grid as it was, and a puzzle with two solutions has no verdict of one.
 use Rattle.maker_core.proofs.Common.{◌≡◌, ◌≢◌, ℕ, ◌<◌, Bool, true, false, List, length, refl, sym, ap, ◌∙◌, arith, not, Option, Some, None}
 use Rattle.maker_core.proofs.Common.{slice_index, slice_set, is_some, true≢false, get_or-set_same, IsExtent, Pattern, RuleSystem, outcome-true, Outcome}
-use Rattle.maker_core.proofs.Common.{verdict_of, Solves, IsTrueOf, IsCheck, PatternFault, is_solution-from, line_rules-lawful, line_rules}
+use Rattle.maker_core.proofs.Common.{verdict_of, Solves, IsTrueOf, FailsPattern, IsPatternFault, PatternFault, pattern_none, pattern_tests, tells, is_solution-from, line_rules-lawful, line_rules}
 use Rattle.maker_core.proofs.Common.{IsPatternSolution, IsRunEnd, is_one, has_one, HasOther, RunHasSwitch, run_begins, cases_lt, common_steps, div-mul-add, mod-mul-add, inl, inr, ◌+◌, ◌*◌, ◌/◌, ◌%◌}
 use Rattle.std.specs.Prelude.{◌↔◌}
 use Rattle.std.proofs.lemmas.Bool.{cases_Bool}
@@ -15,22 +15,11 @@ use Rattle.maker_core.proofs.WrittenGrids.{grid_with, set_back}
 pub undone : (g : List ℕ) {h back k : List ℕ} (i u : ℕ) {was : ℕ} → h ≡ slice_set g i u → was ≡ slice_index g i → back ≡ h → k ≡ slice_set back i was → k ≡ g
 undone g i u {was} e is same f = f ∙ (ap (λ xs. slice_set xs i was) (same ∙ e) ∙ set_back g i u was 0 (sym is))
 
--- no fault was told
-pub solved_by : {p : Pattern} {g : List ℕ} (fault : Option PatternFault) {told : Bool} → IsCheck p g fault
-    → is_some fault ≡ not told → told ≡ true → IsPatternSolution p g
-solved_by None good e on = good
-solved_by (Some fault) wrong e on = absurd (true≢false (e ∙ ap not on))
-
--- and none is told of a solution
-pub told_of : (p : Pattern) (g : List ℕ) (fault : Option PatternFault) {told : Bool} → IsCheck p g fault
-    → is_some fault ≡ not told → IsPatternSolution p g → told ≡ true
-told_of p g None {told} good e solved = grind (arith, common_steps, cases_Bool told)
-told_of p g (Some (Column x)) wrong e solved = absurd (wrong.1.wrong (line_of_solution p g x (omega (arith, wrong.0)) solved))
-told_of p g (Some (Row y)) wrong e solved = absurd (wrong.1.wrong (line_of_solution p g (p.size.w + y) (omega (arith, wrong.0)) solved))
-
-pub told_by : {p : Pattern} (g h : List ℕ) (fault : Option PatternFault) {told : Bool} → IsCheck p g fault
+-- whether no fault was told
+pub told_by : {p : Pattern} (g h : List ℕ) (fault : Option PatternFault) {told : Bool} → IsPatternFault p g fault
     → is_some fault ≡ not told → g ≡ h → told ≡ true ↔ IsPatternSolution p h
-told_by {p} g h fault check e same = (λ on. rw same at (solved_by fault check e on), λ solved. told_of p g fault check e (rw (sym same) at solved))
+told_by {p} g h fault {told} check e same =
+    rw same at (tells (FailsPattern p g) (pattern_tests p) (pattern_none p g) told fault check e)
 
 -- a run has one end
 pub one_end : {size : Extent} (g : List ℕ) (x y end other : ℕ) → IsRunEnd size g x y end → IsRunEnd size g x y other → end ≡ other
@@ -70,4 +59,4 @@ other_fails {p} {g} budget extent good other =
     (record { grid = good.grid; good = is_solution-from p g good }) (record { grid = other.1.grid; good = is_solution-from p other.0 other.1 }) other.2
 
 -- what the turning of four cells cites
-pub ruleset switch_laws = (grid_with, solved_by, told_by, turned_other)
+pub ruleset switch_laws = (grid_with, told_by, turned_other)

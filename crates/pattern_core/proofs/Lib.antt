@@ -1,3 +1,4 @@
+pub mod FaultLemmas
 pub mod LineSteps
 pub mod NextLine
 pub mod LineVisits

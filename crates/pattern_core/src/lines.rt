@@ -16,7 +16,7 @@ ghost use Rattle.pattern_core.specs.LineRules.{line_rules, GoesAlong, CallsLine}
 use crate::line_cells::write_places;
 use crate::line_clue::{LONGEST, LineClue, Rows};
 use crate::table::BOTH;
-use engine_core::{Mode, Propagators, Rules, Searchable, TrailPosition, apply, gather, enqueue};
+use engine_core::{Mode, Propagators, Rules, Searchable, TrailPosition, apply, enqueue, gather};
 use gameid_core::PatternPuzzle;
 use grid_core::{Board, Grid, Size, line_count, line_len, line_place};
 use std::alloc::{AllocError, Global};

@@ -1,7 +1,7 @@
 -- The lemmas by which the functions of a file are proved.
 use Rattle.solo_core.specs.Common.{bits-both, bits-either, bits-of_zero}
 use Rattle.solo_core.specs.SolutionLaws.{test_from_rule, rule_from_test}
-use Rattle.solo_core.proofs.RepeatLemmas.{no_test, first_fault, solved, len_of, number_at, seen_none, seen_more, seen_again, seen_all, first_house, fine_more}
+use Rattle.solo_core.proofs.RepeatLemmas.{given_first, len_of, number_at, seen_none, seen_more, seen_again, seen_all, fine_more}
 use Rattle.solo_core.proofs.HouseLemmas.{listed-none, listed-all, crossings-length, scopes-length, first_at, crossings-counted, house-named, scope-named, first-at, second-at, crossing-after, all-length, filled-length}
 use Rattle.solo_core.specs.HouseLaws.{lists_house, listed-has, listed-same, row_in, column_in}
 use Rattle.solo_core.proofs.CrossingLemmas.{any-more, any-none, cut_by, crossing-is, crossings-listed, rest-out, rest-in, rest-all, shared-below, shared-above}
@@ -17,7 +17,7 @@ use Rattle.solo_core.proofs.Marks.{bits_joined, over_alone}
 use Rattle.solo_core.proofs.StartLemmas.{started, started-none, started-all, started-blank, started-given, started-there}
 use Rattle.solo_core.proofs.Turned.{after-root, before-root, in_ends, after-step, before-step}
 
-pub ruleset check_laws = (test_from_rule, no_test, first_fault, solved, len_of, number_at, seen_none, seen_more, seen_again, seen_all, first_house, fine_more)
+pub ruleset check_laws = (given_first, len_of, number_at, seen_none, seen_more, seen_again, seen_all, fine_more)
 
 pub ruleset crossing_laws = (bits_joined, bits-both, bits-of_zero, any-none, any-more, cut_by, crossings-length, listed-same, lists_house, scopes-length, shared-below, shared-above)
 

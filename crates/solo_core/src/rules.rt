@@ -14,7 +14,7 @@ use crate::houses::places::cells;
 use crate::start::write_start;
 use crate::strikes::{Crossings, Fillings, Singles, Strikes};
 use engine_core::{
-    HouseTable, Mode, Propagators, Rules, Searchable, TrailPosition, apply, gather, enqueue,
+    HouseTable, Mode, Propagators, Rules, Searchable, TrailPosition, apply, enqueue, gather,
 };
 use gameid_core::SoloPuzzle;
 use grid_core::{Board, Grid};
