@@ -15,6 +15,7 @@ pub mod HouseRulesLaws
 pub mod HouseList
 pub mod HouseIndex
 pub mod ListedHouses
+pub mod ListedLaws
 pub mod Counting
 pub mod Waiting
 pub mod Queue

@@ -1,7 +1,8 @@
 -- Rules whose houses are listed.
-use Rattle.std.specs.Prelude.{◌≡◌, ℕ, ◌+◌, ◌-◌, ◌*◌, List, length, sum_by, if◌then◌else◌}
+use Rattle.std.specs.Prelude.{◌≡◌, ℕ, ◌+◌, ◌-◌, ◌*◌, List, length, map, sum_by, if◌then◌else◌}
 use Rattle.engine_core.specs.RuleSystem.{RuleSystem}
 use Rattle.engine_core.specs.HouseIndex.{Table, scope_of}
+use Rattle.engine_core.specs.HouseRules.{House}
 
 -- each house has the list's places
 pub record AreScopesOf (p : RuleSystem) (scopes : List (List ℕ)) : Type 0 where
@@ -18,3 +19,7 @@ abbrev pub most_turns : RuleSystem → List (List ℕ) → ℕ
 most_turns p scopes =
     if p.by_queue then sum_by length scopes * p.values + length scopes
     else p.cells * (p.values - 1) + 1
+
+-- the places of each of the houses
+abbrev pub all_places : List House → List (List ℕ)
+all_places houses = map (λ (house : House). house.places) houses

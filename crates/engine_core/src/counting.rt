@@ -23,33 +23,36 @@ pub trait Counting<S: RuleSet>: Drop + Sized {
 
     /// Takes the memory that is counted in.
     fn new(alloc: Global, set: &S, table: &HouseTable) -> Result<Self, AllocError>
-        requires { table.now ≡ table_of (S.system set.now) (S.scopes set.now) }
-        ensures { IfOk result (λ counts. serves counts (needs_of (S.system set.now))) };
+        requires { table.now ≡ table_of (S.system (S.puzzle_of set.now))
+            (S.scopes (S.puzzle_of set.now)) }
+        ensures { IfOk result (λ counts. serves counts (needs_of (S.system (S.puzzle_of set.now)))) };
 
     /// Begins to count: what is counted of a board is then so of this one.
     fn watch(&mut self, set: &S, table: &HouseTable, board: &Board)
-        requires table { table.now ≡ table_of (S.system set.now) (S.scopes set.now) }
-        requires board_of { IsBoardOf (S.system set.now) board.now }
-        requires served { serves self.old (needs_of (S.system set.now)) }
+        requires table { table.now ≡ table_of (S.system (S.puzzle_of set.now))
+            (S.scopes (S.puzzle_of set.now)) }
+        requires board_of { IsBoardOf (S.system (S.puzzle_of set.now)) board.now }
+        requires served { serves self.old (needs_of (S.system (S.puzzle_of set.now))) }
         ensures follows { follows set.now self.new (has board.now) }
         ensures keeps { (needs : Needs) → serves self.old needs → serves self.new needs };
 
     /// Goes along with the change of a cell, whose sets are given as bits.
     fn change(&mut self, set: &S, table: &HouseTable, place: usize, before: u32, after: u32)
-        requires table { table.now ≡ table_of (S.system set.now) (S.scopes set.now) }
-        requires recounted { IsRecounted (S.system set.now) (follows set.now) self.old
+        requires table { table.now ≡ table_of (S.system (S.puzzle_of set.now))
+            (S.scopes (S.puzzle_of set.now)) }
+        requires recounted { IsRecounted (S.system (S.puzzle_of set.now)) (follows set.now) self.old
             place before after }
         ensures follows { (K L : Candidates) → follows set.now self.old K
-            → IsChange (S.system set.now).cells (S.system set.now).values K L place before after
+            → IsChange (S.system (S.puzzle_of set.now)).cells (S.system (S.puzzle_of set.now)).values K L place before after
             → follows set.now self.new L }
         ensures keeps { (needs : Needs) → serves self.old needs → serves self.new needs };
 
     /// Whether the house may strike anything from the board that was counted.
     fn may_strike(&self, set: &S, house: usize) -> bool
-        requires house_in { house < (S.system set.now).houses }
+        requires house_in { house < (S.system (S.puzzle_of set.now)).houses }
         requires counted { IsCounted (follows set.now) self.now }
         ensures { result ≡ false → (K : Candidates) → follows set.now self.now K
-            → IsIdle (S.system set.now) house K };
+            → IsIdle (S.system (S.puzzle_of set.now)) house K };
 
     /// Counts that have room for rules have it for smaller ones.
     ghost serves_smaller: { (counts : Self) (need had : Needs) → FitsIn need had

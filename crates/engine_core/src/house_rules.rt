@@ -28,7 +28,7 @@ pub struct HouseRules<S: RuleSet, C: Counting<S> = Uncounted> {
     set: S,
     table: HouseTable,
     counted: PhantomData<C>,
-    ghost listed: { table ≡ table_of (S.system set) (S.scopes set) },
+    ghost listed: { table ≡ table_of (S.system (S.puzzle_of set)) (S.scopes (S.puzzle_of set)) },
 }
 
 /// What a visit works in: the sets of a house's cells, what is kept of them, and what decides it.
@@ -42,7 +42,10 @@ pub struct HouseScratch<W: Drop> {
 impl<S: RuleSet, C: Counting<S>> HouseRules<S, C> {
     /// The rules of the puzzle. They keep a copy of it.
     pub fn new(alloc: Global, puzzle: &S::Puzzle) -> Result<HouseRules<S, C>, AllocError>
-        ensures { IfOk result (λ rules. S.puzzle_of rules.set ≡ puzzle.now) }
+        ensures known { S.known puzzle.now }
+        ensures copied { IfOk result (λ rules. S.puzzle_of rules.set ≡ puzzle.now) }
+        ensures rules { IfOk result (λ rules. ⟦<HouseRules<S, C> as Rules>⟧.system rules
+            ≡ S.system puzzle.now) }
     {
         let (set, list) = S::list(alloc, puzzle)?;
         let table = HouseTable::of(alloc, set.cells(), list)?;
@@ -62,12 +65,12 @@ impl<S: RuleSet, C: Counting<S>> HouseRules<S, C> {
         kept: &mut [u32],
         work: &mut S::Scratch,
     ) -> bool
-        requires house_in { house < (S.system self.now.set).houses }
-        requires board_of { IsBoardOf (S.system self.now.set) board.old }
-        requires sets_room { length ((S.system self.now.set).scope house) ≤ length sets.old }
-        requires kept_room { length ((S.system self.now.set).scope house) ≤ length kept.old }
-        requires served { S.serves work.old (needs_of (S.system self.now.set)) }
-        ensures left { has board.new ≡ after (S.system self.now.set) house (has board.old) }
+        requires house_in { house < (S.system (S.puzzle_of self.now.set)).houses }
+        requires board_of { IsBoardOf (S.system (S.puzzle_of self.now.set)) board.old }
+        requires sets_room { length ((S.system (S.puzzle_of self.now.set)).scope house) ≤ length sets.old }
+        requires kept_room { length ((S.system (S.puzzle_of self.now.set)).scope house) ≤ length kept.old }
+        requires served { S.serves work.old (needs_of (S.system (S.puzzle_of self.now.set))) }
+        ensures left { has board.new ≡ after (S.system (S.puzzle_of self.now.set)) house (has board.old) }
         ensures shape { SameShape board.old board.new }
         ensures unchanged { result ≡ false → has board.new ≡ has board.old }
         ensures changed { result ≡ true → HasStruck (has board.old) (has board.new) }
@@ -90,7 +93,7 @@ impl<S: RuleSet, C: Counting<S>> Rules for HouseRules<S, C> {
 
     const MODE: Mode = S::MODE;
 
-    ghost system = { λ r. S.system r.set };
+    ghost system = { λ r. S.system (S.puzzle_of r.set) };
 
     ghost SETTLED = { S.SETTLED };
 
@@ -99,11 +102,11 @@ impl<S: RuleSet, C: Counting<S>> Rules for HouseRules<S, C> {
     ghost serves = { λ w needs. (needs.scope ≤ vec_len w.sets) × (needs.scope ≤ vec_len w.kept)
         × S.serves w.work needs };
 
-    ghost lawful = { λ r. S.lawful r.set };
+    ghost lawful = { λ r. S.lawful (S.puzzle_of r.set) (S.knows r.set) };
 
-    ghost settled_is = { λ r. S.settled_is r.set };
+    ghost settled_is = { λ r. S.settled_is (S.puzzle_of r.set) };
 
-    ghost mode_is = { λ r. S.mode_is r.set };
+    ghost mode_is = { λ r. S.mode_is (S.puzzle_of r.set) };
 
     ghost serves_smaller = { λ w need had f s. (
       le_trans f.scope_in s.0,

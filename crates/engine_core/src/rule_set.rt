@@ -31,11 +31,14 @@ pub trait RuleSet: Drop + Sized {
     /// The puzzle whose rules these are.
     ghost puzzle_of: { Self → Self.Puzzle };
 
-    /// What the rules mean.
-    ghost system: { Self → RuleSystem };
+    /// What is known of each puzzle.
+    ghost known: { Self.Puzzle → Type 0 };
+
+    /// What the rules of a puzzle mean.
+    ghost system: { Self.Puzzle → RuleSystem };
 
     /// The places of each house.
-    ghost scopes: { Self → List (List ℕ) };
+    ghost scopes: { Self.Puzzle → List (List ℕ) };
 
     ghost SETTLED: { Bool };
 
@@ -46,26 +49,27 @@ pub trait RuleSet: Drop + Sized {
 
     /// The rules of the puzzle, of which they keep a copy, and the places of its houses.
     fn list(alloc: Global, puzzle: &Self::Puzzle) -> Result<(Self, HouseList), AllocError>
-        ensures puzzle { IfOk result (λ listed. puzzle_of listed.0 ≡ puzzle.now) }
-        ensures scopes { IfOk result (λ listed. listed.1.closed ≡ scopes listed.0) };
+        ensures known { known puzzle.now }
+        ensures copied { IfOk result (λ listed. puzzle_of listed.0 ≡ puzzle.now) }
+        ensures scopes { IfOk result (λ listed. listed.1.closed ≡ scopes puzzle.now) };
 
     /// How many cells a board has.
     fn cells(&self) -> usize
-        ensures { result ≡ (system self.now).cells };
+        ensures { result ≡ (system (puzzle_of self.now)).cells };
 
     /// How many values a full set has.
     fn values(&self) -> u8
-        ensures { result ≡ (system self.now).values };
+        ensures { result ≡ (system (puzzle_of self.now)).values };
 
     /// Writes the board that a search starts from, whatever it held.
     fn start(&self, board: &mut Board)
-        requires { IsBoardOf (system self.now) board.old }
-        ensures start { has board.new ≡ (system self.now).start }
+        requires { IsBoardOf (system (puzzle_of self.now)) board.old }
+        ensures start { has board.new ≡ (system (puzzle_of self.now)).start }
         ensures shape { SameShape board.old board.new };
 
     /// Takes the memory that the rules work in.
     fn scratch(&self, alloc: Global) -> Result<Self::Scratch, AllocError>
-        ensures { IfOk result (λ scratch. serves scratch (needs_of (system self.now))) };
+        ensures { IfOk result (λ scratch. serves scratch (needs_of (system (puzzle_of self.now)))) };
 
     /// Decides what a visit of the house keeps of the sets of its cells, which are given as bits in the order of its scope.
     /// Says whether anything may be struck; else nothing is, whatever is in `kept`.
@@ -76,33 +80,36 @@ pub trait RuleSet: Drop + Sized {
         kept: &mut [u32],
         scratch: &mut Self::Scratch,
     ) -> bool
-        requires house_in { house < (system self.now).houses }
+        requires house_in { house < (system (puzzle_of self.now)).houses }
         requires as_many { length kept.old ≡ length sets.now }
-        requires served { serves scratch.old (needs_of (system self.now)) }
-        requires sets { AreSets (system self.now) house sets.now }
-        ensures kept { (K : Candidates) → AreSetsOf (system self.now) house K sets.now
-            → IsKept (system self.now) house K result kept.new }
+        requires served { serves scratch.old (needs_of (system (puzzle_of self.now))) }
+        requires sets { AreSets (system (puzzle_of self.now)) house sets.now }
+        ensures kept { (K : Candidates) → AreSetsOf (system (puzzle_of self.now)) house K sets.now
+            → IsKept (system (puzzle_of self.now)) house K result kept.new }
         ensures keeps { (needs : Needs) → serves scratch.old needs → serves scratch.new needs };
 
     /// Whether the grid is a solution. It has a number below `values` for each cell, by place.
     fn accept(&self, scratch: &mut Self::Scratch, grid: &Grid) -> bool
-        requires fits { IsGridOf (system self.now) grid.now }
-        requires served { serves scratch.old (needs_of (system self.now)) }
-        ensures solution { result ≡ (system self.now).is_solution grid.now }
+        requires fits { IsGridOf (system (puzzle_of self.now)) grid.now }
+        requires served { serves scratch.old (needs_of (system (puzzle_of self.now))) }
+        ensures solution { result ≡ (system (puzzle_of self.now)).is_solution grid.now }
         ensures keeps { (needs : Needs) → serves scratch.old needs → serves scratch.new needs };
 
+    ghost knows: { (set : Self) → known (puzzle_of set) };
+
     /// The rules keep to what every search relies on.
-    ghost lawful: { (set : Self) → IsLawful (system set) };
+    ghost lawful: { (puzzle : Self.Puzzle) → known puzzle → IsLawful (system puzzle) };
 
-    ghost settled_is: { (set : Self) → (system set).settled ≡ SETTLED };
+    ghost settled_is: { (puzzle : Self.Puzzle) → (system puzzle).settled ≡ SETTLED };
 
-    ghost mode_is: { (set : Self) → (system set).by_queue ≡ is_queue MODE };
+    ghost mode_is: { (puzzle : Self.Puzzle) → (system puzzle).by_queue ≡ is_queue MODE };
 
     /// The houses have these places.
-    ghost scopes_are: { (set : Self) → AreScopesOf (system set) (scopes set) };
+    ghost scopes_are: { (puzzle : Self.Puzzle) → AreScopesOf (system puzzle) (scopes puzzle) };
 
     /// The bound goes by the mode.
-    ghost bound_is: { (set : Self) → (system set).bound ≡ most_turns (system set) (scopes set) };
+    ghost bound_is: { (puzzle : Self.Puzzle)
+        → (system puzzle).bound ≡ most_turns (system puzzle) (scopes puzzle) };
 
     /// A scratch serves smaller rules too.
     ghost serves_smaller: { (scratch : Self.Scratch) (need had : Needs) → FitsIn need had
