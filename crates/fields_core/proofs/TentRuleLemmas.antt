@@ -6,12 +6,10 @@ use Rattle.grid_core.specs.Candidates.{all_below}
 use Rattle.grid_core.proofs.CandidateLemmas.{all_below-at, all_below-from, any_below-some, any_below-none}
 use Rattle.engine_core.specs.PlaceLaws.{has_place-here, different-from}
 use Rattle.gameid_core.specs.Puzzles.{Tents}
-use Rattle.fields_core.specs.CountHouse.{CountedHouses}
 use Rattle.fields_core.specs.Tents.{tent_cells, tree, tent, touches, tents_in_column, tents_in_row, tree_right, touch_right, column_right, row_right, can_be_paired, solves_tents}
 use Rattle.fields_core.specs.TentHouses.{tent_houses}
 use Rattle.fields_core.specs.TentSolutions.{IsPairedBy, IsTentSolution}
 use Rattle.fields_core.specs.TentFaults.{IsTentFault}
-use Rattle.fields_core.specs.Lawful.{tent_table}
 use Rattle.fields_core.specs.declared.tents.fault.TentFault.{TentFault}
 use Rattle.fields_core.specs.declared.tents.fault.TentFault.TheVariants.{Tree, Touch, Column, Row, Match}
 use Rattle.fields_core.proofs.LightFaultLemmas.{first-breaks}
@@ -34,9 +32,6 @@ tents-not p g fault is = sym (false_from_ne_true (solves_tents p g) (λ on. brok
     broken (Column x) is parts = first-breaks _ _ x is.2 parts.columns
     broken (Row y) is parts = first-breaks _ _ y is.3 parts.rows
     broken Match is parts = true≢false (sym parts.paired ∙ is.4)
-
-pub tent-table : (t : CountedHouses) (p q : Tents) → t ≡ tent_table p → p ≡ q → t.houses ≡ tent_houses q
-tent-table t p q e f = ap (λ (u : CountedHouses). u.houses) e ∙ ap tent_houses f
 
 -- ---- the test of a solution is the rule
 gives-tree : (p : Tents) (g chosen : List ℕ) → length g ≡ tent_cells p → IsGiven p g chosen → IsPairedBy p g (λ c. slice_index chosen (index_of (tents_of p g) c))
