@@ -7,7 +7,6 @@ use Rattle.grid_core.specs.Candidates.{all_below}
 use Rattle.grid_core.proofs.CandidateLemmas.{all_below-at, all_below-from, any_below-here, any_below-some, any_below-none}
 use Rattle.engine_core.specs.PlaceLaws.{has_place-here, different-from}
 use Rattle.gameid_core.specs.Puzzles.{Tents}
-use Rattle.fields_core.specs.CountHouse.{CountedHouses}
 use Rattle.fields_core.specs.Tents.{tent_cells, tree, tent, touches, tents_in_column, tents_in_row, tree_right, touch_right, column_right, row_right, can_be_paired, solves_tents}
 use Rattle.fields_core.specs.TentHouses.{tent_houses}
 use Rattle.fields_core.specs.TentSolutions.{IsPairedBy, IsTentSolution}
@@ -15,7 +14,6 @@ use Rattle.gameid_core.specs.FirstFailed.{IsFirstFailed, NoneFails, each_test}
 use Rattle.gameid_core.proofs.FirstFailed.{IsKnown, IsTestedBy, all_each, all_split, first_by, first_front, first_rest, known_by, none_by, none_tells, right_by}
 use Rattle.gameid_core.proofs.Lists.{AllByRecursion-append}
 use Rattle.fields_core.specs.TentFaults.{FailsTents, IsTentFault, tent_tests}
-use Rattle.fields_core.specs.Lawful.{tent_table}
 use Rattle.fields_core.specs.declared.tents.fault.TentFault.{TentFault}
 use Rattle.fields_core.specs.declared.tents.fault.TentFault.TheVariants.{Tree, Touch, Column, Row, Match}
 use Rattle.fields_core.proofs.BelowLemmas.{index_of, index-is, distinct-none-twice}
@@ -27,9 +25,6 @@ pub tents-from : (p : Tents) (g : List ℕ) → all_below (tree_right p g) (tent
     → all_below (column_right p g) p.size.w ≡ true → all_below (row_right p g) p.size.h ≡ true → true ≡ can_be_paired p g → solves_tents p g ≡ true
 unfolding solves_tents
 tents-from p g a b c d e = and_from _ _ a (and_from _ _ b (and_from _ _ c (and_from _ _ d (sym e))))
-
-pub tent-table : (t : CountedHouses) (p q : Tents) → t ≡ tent_table p → p ≡ q → t.houses ≡ tent_houses q
-tent-table t p q e f = ap (λ (u : CountedHouses). u.houses) e ∙ ap tent_houses f
 
 -- ---- the test of a solution is the rule
 gives-tree : (p : Tents) (g chosen : List ℕ) → length g ≡ tent_cells p → IsGiven p g chosen → IsPairedBy p g (λ c. slice_index chosen (index_of (tents_of p g) c))

@@ -8,7 +8,7 @@ use Rattle.solo_core.proofs.CrossingLemmas.{any-more, any-none, cut_by, crossing
 use Rattle.solo_core.specs.BoundLaws.{house_count, bound_is}
 use Rattle.solo_core.proofs.SinglesLemmas.{singles_in_houses}
 use Rattle.solo_core.specs.RuleLaws.{houses_lawful, singles_lawful, crossings_lawful}
-use Rattle.solo_core.proofs.DecidingLemmas.{length-deciding, decides-at, long-at, listed-crossings, listed-deciding}
+use Rattle.solo_core.proofs.DecidingLemmas.{length-deciding, decides-at, kept-houses, long-at, listed-crossings, listed-deciding}
 use Rattle.solo_core.proofs.MateLemmas.{rest-more, rest-same, rest-apart}
 use Rattle.solo_core.proofs.PeelLemmas.{alone-none, alone-lone, alone-more, counts-none, counts-more, peeled-step, counts-same, peeled-none, peeled-more}
 use Rattle.solo_core.proofs.QuickLemmas.{goes_on_free, begun-none, goes_on_swapped}
@@ -37,6 +37,6 @@ pub ruleset scopes_laws = (column_in, first-at, second-at, scopes-length, row_in
 
 pub ruleset start_laws = (started, started-none, started-all, started-blank, started-given, started-there)
 
-pub ruleset strikes_laws = (decides-at, long-at, first_at, filled-length, listed-crossings, listed-deciding)
+pub ruleset rule_sets_laws = (decides-at, long-at, first_at, filled-length, listed-crossings, listed-deciding, kept-houses)
 
 pub ruleset turning_laws = (after-root, before-root, in_ends, after-step, before-step, bits-either, bits-both)

@@ -22,7 +22,7 @@ overflow_add-self g c =
     omega (arith, trail-len _ _ _ _ _ c.self.invariant, v.ok, v.small)
 
 pub change-requires : goal.change-requires
-change-requires g c = (_, _, rw (← c.self.view_is) at c.requires.follows, (noted g (goal.at.change-requires g c).After-retain).change)
+change-requires g c = record { board = _; changed = _; is_so = rw (← c.self.view_is) at c.requires.follows; change = (noted g (goal.at.change-requires g c).After-retain).change }
 
 pub invariant_of-self : goal.invariant_of-self
 invariant_of-self g c = (noted g (goal.at.invariant_of-self g c).After-retain).trail

@@ -15,7 +15,7 @@ last_undone g c =
     undone _ _ _ _ _ _ _ _ _ c.requires.board_of i.shape c.restore_set.ensures.shape i.trail (omega arith) last c.restore_set.ensures.left c.cell_bits-before.ensures c.cell_bits.ensures
 
 pub change-requires : goal.change-requires
-change-requires g c = (_, _, c.loop-self.invariant.follows, (last_undone g (goal.at.change-requires g c).After-cell_bits).change)
+change-requires g c = record { board = _; changed = _; is_so = c.loop-self.invariant.follows; change = (last_undone g (goal.at.change-requires g c).After-cell_bits).change }
 
 pub loop-self-preserved : goal.loop-self-preserved
 loop-self-preserved g c =
