@@ -16,7 +16,7 @@ pub enum Tail {
 
 /// A line that is being read: its first bytes, and what came after them.
 #[derive(Drop)]
-pub struct Line {
+pub struct InputLine {
     kept: Vec<u8>,
     tail: Tail,
 }
@@ -42,12 +42,12 @@ fn after(tail: Tail, byte: u8) -> Tail
     }
 }
 
-impl Line {
+impl InputLine {
     /// A line of which no byte came yet.
-    pub fn new(alloc: Global) -> Line
+    pub fn new(alloc: Global) -> InputLine
         ensures { Holds result [] }
     {
-        Line {
+        InputLine {
             kept: Vec::new(alloc),
             tail: Tail::Nothing,
         }
@@ -86,7 +86,7 @@ impl Line {
     }
 
     /// The line where a newline ends it, or nothing where it is over-long.
-    pub fn ended(&self) -> Option<&[u8]>
+    pub fn before_newline(&self) -> Option<&[u8]>
         ensures { (piece : List ℕ) → Holds self.now piece
             → IsLine result (strip_carriage_return piece) }
     {
@@ -98,7 +98,7 @@ impl Line {
     }
 
     /// The line where the end of the input ends it, or nothing where it is over-long.
-    pub fn last(&self) -> Option<&[u8]>
+    pub fn before_end(&self) -> Option<&[u8]>
         ensures { (piece : List ℕ) → Holds self.now piece → IsLine result piece }
     {
         match self.tail {

@@ -19,5 +19,5 @@ pub trait Checked: Played {
     /// When memory was refused.
     fn check_reply(&self, alloc: Global, grid: &Grid) -> Result<Reply, AllocError>
         requires { IsGridFor (Self.extent self.now) (Self.value_count self.now) grid.now }
-        ensures { IfOk result (λ r. Self.game.told self.now grid.now (answer_in r)) };
+        ensures { IfOk result (λ r. Self.game.checks self.now grid.now (answer_in r)) };
 }
