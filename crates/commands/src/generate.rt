@@ -70,10 +70,6 @@ fn generate_one<P: Makable + Drop>(
 }
 
 /// The answer to a size of the game of which a puzzle is to be made.
-///
-/// # Errors
-///
-/// When memory was refused.
 pub fn generated(
     alloc: Global,
     game: Game,

@@ -24,10 +24,6 @@ pub trait Played: Readable + Sized {
             → game.spells id.now p → game.reading id.now ≡ Err f → ⊥ };
 
     /// The ID that is written for the puzzle.
-    ///
-    /// # Errors
-    ///
-    /// When memory was refused.
     fn write_id(&self, alloc: Global) -> Result<String, AllocError>
         ensures text { IfOk result (λ text. string_bytes text ≡ game.written self.now) }
         ensures again { IfOk result (λ text. game.spells (string_bytes text) self.now) };

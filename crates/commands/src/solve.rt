@@ -117,10 +117,6 @@ impl Stores {
     /// The answer to an ID that is to be solved: its first fault, or the verdict with its grids, in
     /// the memory of `text`, of which nothing else stays. The search works in the memory of the
     /// stores where that is enough, and in new memory where not, which is left there for the next.
-    ///
-    /// # Errors
-    ///
-    /// When memory was refused.
     pub fn solve_id(
         &mut self,
         alloc: Global,

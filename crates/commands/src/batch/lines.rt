@@ -54,10 +54,6 @@ impl InputLine {
     }
 
     /// Takes one more byte of the line, which is kept where fewer than `MAX_ID` are.
-    ///
-    /// # Errors
-    ///
-    /// When memory was refused.
     pub fn push(&mut self, byte: u8) -> Result<(), AllocError>
         ensures { OnOk result ((piece : List ℕ) → Holds self.old piece
             → Holds self.new (piece ++ byte ∷ [])) }

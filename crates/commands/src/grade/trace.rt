@@ -30,10 +30,6 @@ fn push_visit<P: Named>(puzzle: &P, number: usize, text: &mut String) -> Result<
 }
 
 /// Adds the line of a closing by sweeps to a text.
-///
-/// # Errors
-///
-/// When memory was refused.
 pub fn push_sweeps(text: &mut String, sweeps: usize) -> Result<(), AllocError>
     ensures { OnOk result (string_bytes text.new ≡ string_bytes text.old ++ sweeps_text sweeps) }
 {
