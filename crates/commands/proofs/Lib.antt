@@ -8,7 +8,7 @@ pub mod Readings
 pub mod CheckedPuzzles
 pub mod SearchedPuzzles
 pub mod GradeLemmas
-pub mod GameFacts
+pub mod GameLaws
 pub mod MadeOnce
 pub mod LeastBudgets
 pub mod MadeAlike
