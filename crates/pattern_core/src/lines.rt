@@ -75,10 +75,6 @@ fn is_fresh(board: &Board, cells: usize) -> bool
 
 impl PatternLines {
     /// The rules of the puzzle.
-    ///
-    /// # Errors
-    ///
-    /// When memory was refused.
     pub fn new(alloc: Global, puzzle: &PatternPuzzle) -> Result<PatternLines, AllocError>
         ensures { IfOk result (λ rules. rules.pattern ≡ puzzle.now) }
     {
