@@ -66,20 +66,20 @@ module _ {F : Type 0} (fails : F → Type 0) where
   none_first (t ∷ tests) f none (inl here) = none.0 here.1
   none_first (t ∷ tests) f none (inr later) = none_first tests f none.1 later.1
 
-  first_once : (tests : List F) (f g : F) → IsFirstFailed fails tests f → IsFirstFailed fails tests g → f ≡ g
-  first_once [] f g h k = elim h [ ]
-  first_once (t ∷ tests) f g (inl here) (inl there) = sym here.0 ∙ there.0
-  first_once (t ∷ tests) f g (inl here) (inr later) = absurd (later.0 here.1)
-  first_once (t ∷ tests) f g (inr later) (inl there) = absurd (later.0 there.1)
-  first_once (t ∷ tests) f g (inr later) (inr after) = first_once tests f g later.1 after.1
+  first_once : (tests : List F) {f g : F} → IsFirstFailed fails tests f → IsFirstFailed fails tests g → f ≡ g
+  first_once [] h k = elim h [ ]
+  first_once (t ∷ tests) (inl here) (inl there) = sym here.0 ∙ there.0
+  first_once (t ∷ tests) (inl here) (inr later) = absurd (later.0 here.1)
+  first_once (t ∷ tests) (inr later) (inl there) = absurd (later.0 there.1)
+  first_once (t ∷ tests) (inr later) (inr after) = first_once tests later.1 after.1
 
   -- ---- one first that fails, or none
   abbrev pub IsKnown : F → Type 0
   IsKnown test = fails test ⊎ Holds test
 
-  pub known_by : (test : F) (right : Bool) → (right ≡ false → fails test) → (right ≡ true → Holds test) → IsKnown test
-  known_by test true failed held = inr (held refl)
-  known_by test false failed held = inl (failed refl)
+  pub known_by : {test : F} (right : Bool) → (right ≡ false → fails test) → (right ≡ true → Holds test) → IsKnown test
+  known_by true failed held = inr (held refl)
+  known_by false failed held = inl (failed refl)
 
   judged : (tests : List F) → AllByRecursion IsKnown tests → NoneFails fails tests ⊎ ((f : F) × IsFirstFailed fails tests f)
   judged [] known = inl tt
@@ -119,7 +119,7 @@ module _ {F : Type 0} (fails : F → Type 0) where
   pub known_tests : (ks : List (Kind F)) → AllByRecursion IsMade ks → AllByRecursion IsKnown (tests ks)
   known_tests [] made = tt
   known_tests (k ∷ ks) made = AllByRecursion-append IsKnown (each k) (tests ks)
-      (all_each IsKnown k (λ c lt. known_by (k.test c) (k.right c) (made.0.failed c lt) (made.0.held c lt))) (known_tests ks made.1)
+      (all_each IsKnown k (λ c lt. known_by (k.right c) (made.0.failed c lt) (made.0.held c lt))) (known_tests ks made.1)
 
   -- the first that fails of one kind, where those of the kinds before it hold
   pub first_in : (front : List (Kind F)) (k : Kind F) (rest : List (Kind F)) → AllByRecursion IsMade (front ++ k ∷ rest) → AllByRecursion AreRight front
@@ -141,7 +141,7 @@ module _ {F : Type 0} (fails : F → Type 0) where
     answer_once None None x y = refl
     answer_once None (Some f) x y = absurd (none_first tests f (complete x) y)
     answer_once (Some f) None x y = absurd (none_first tests f (complete y) x)
-    answer_once (Some f) (Some g) x y = ap Some (first_once tests f g x y)
+    answer_once (Some f) (Some g) x y = ap Some (first_once tests x y)
 
     pub none_exactly : (fault : Option F) → Answers fault → (fault ≡ None) ↔ solution
     none_exactly fault is = (λ e. subst Answers e is, λ s. answer_once fault None is s)

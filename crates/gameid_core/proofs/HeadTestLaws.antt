@@ -19,13 +19,13 @@ module _ (game : Game) (text : List ℕ) where
   abbrev Judged : Result SizeRead IdFault → Type 0
   Judged r = IsJudged (FailsSize game text) size_tests r
 
-  sides_fault : (f : IdFault) → sides_at game text ≡ Err f → f ≡ BadSize
+  sides_fault : {f : IdFault} → sides_at game text ≡ Err f → f ≡ BadSize
   unfolding sides_at side_at
-  sides_fault f e = grind arith
+  sides_fault e = grind arith
 
   -- a text begins with one size at most
   size_is : (s other : Sides) → HasSize game text s → HasSize game text other → s ≡ other
-  size_is s other p q = ok_is s other (sym (has_size_read game text s p) ∙ has_size_read game text other q)
+  size_is s other p q = ok_is s other (sym (has_size_read game p) ∙ has_size_read game q)
 
   no_variant : (s : Sides) → HasSize game text s → length s.rest ≤ 0 → FailsSize game text Variant → ⊥
   no_variant s h none v = grind (arith, size_is v.0 s v.1 h)
@@ -42,8 +42,8 @@ module _ (game : Game) (text : List ℕ) where
   of_rest s false h e = of_range s _ h (ltb-false _ _ e) refl
 
   of_sides : (r : Result Sides IdFault) → sides_at game text ≡ r → Judged (r >>= (λ s. cond (ltb 0 (length s.rest)) (Err Variant) (cond (in_range game s.w s.h) (Ok (size_read s.w s.h s.x)) (Err SizeRange))))
-  of_sides (Err f) e = inl (sym (sides_fault f e), λ size has. (let bad : taken size ≡ Err f = sym (has_size_read game text size has) ∙ e in absurd cc))
-  of_sides (Ok s) e = of_rest s _ (sides_found game text s e) refl
+  of_sides (Err f) e = inl (sym (sides_fault e), λ size has. (let bad : taken size ≡ Err f = sym (has_size_read game has) ∙ e in absurd cc))
+  of_sides (Ok s) e = of_rest s _ (sides_found game e) refl
 
   pub size_judged : IsJudged {A = SizeRead} (FailsSize game text) size_tests (size_of game text)
   unfolding size_of
@@ -87,21 +87,21 @@ none_at byte (b ∷ text) h = rw (ne_eqb b byte h.0) (omega (arith, none_at byte
 position_none : (byte : ℕ) (text : List ℕ) → Lacks byte text → position (λ b. eqb b byte) text ≡ None
 position_none byte text h = grind (arith, none_at byte text h)
 
-head_byte : (b c : ℕ) (xs ys : List ℕ) → b ∷ xs ≡ c ∷ ys → b ≡ c
-head_byte b c xs ys e = ap (λ t. get_or t 0 0) e
+head_byte : {b c : ℕ} {xs ys : List ℕ} → b ∷ xs ≡ c ∷ ys → b ≡ c
+head_byte e = ap (λ t. get_or t 0 0) e
 
 -- one byte with no other before it, and the other with none of the one before it, can't both stand in a text
 crossed : (byte other : ℕ) → (byte ≡ other → ⊥) → (f g r s : List ℕ) → f ++ byte ∷ r ≡ g ++ other ∷ s → Lacks other f → Lacks byte g → ⊥
-crossed byte other apart [] [] r s e lf lg = apart (head_byte byte other r s e)
-crossed byte other apart [] (c ∷ g) r s e lf lg = lg.0 (sym (head_byte byte c r (g ++ other ∷ s) e))
-crossed byte other apart (b ∷ f) [] r s e lf lg = lf.0 (head_byte b other (f ++ byte ∷ r) s e)
+crossed byte other apart [] [] r s e lf lg = apart (head_byte e)
+crossed byte other apart [] (c ∷ g) r s e lf lg = lg.0 (sym (head_byte e))
+crossed byte other apart (b ∷ f) [] r s e lf lg = lf.0 (head_byte e)
 crossed byte other apart (b ∷ f) (c ∷ g) r s e lf lg = crossed byte other apart f g r s (ap (drop 1) e) lf.1 lg.1
 
 -- what stands before the first of a byte is one text
 front_is : (byte : ℕ) (f g r s : List ℕ) → f ++ byte ∷ r ≡ g ++ byte ∷ s → Lacks byte f → Lacks byte g → f ≡ g
 front_is byte [] [] r s e lf lg = refl
-front_is byte [] (c ∷ g) r s e lf lg = absurd (lg.0 (sym (head_byte byte c r (g ++ byte ∷ s) e)))
-front_is byte (b ∷ f) [] r s e lf lg = absurd (lf.0 (head_byte b byte (f ++ byte ∷ r) s e))
+front_is byte [] (c ∷ g) r s e lf lg = absurd (lg.0 (sym (head_byte e)))
+front_is byte (b ∷ f) [] r s e lf lg = absurd (lf.0 (head_byte e))
 front_is byte (b ∷ f) (c ∷ g) r s e lf lg = grind (arith, front_is byte f g r s (ap (drop 1) e) lf.1 lg.1)
 
 -- ---- the part before the colon

@@ -14,8 +14,8 @@ lights all at cells text = reading (fill_step light_token all) (fill_end all) at
 pub wide_of : (w h : ℕ) → in_range game.LightUp w h ≡ true → IsWide (record { w = w; h = h })
 wide_of w h e = grind arith
 
-pub cells_few : (size : Extent) → IsExtent size → size.w * size.h ≤ max_side * max_side
-cells_few size h = grind arith
+pub cells_few : {size : Extent} → IsExtent size → size.w * size.h ≤ max_side * max_side
+cells_few h = grind arith
 
 abbrev pub sized : ℕ → ℕ → Extent
 sized w h = record { w = w; h = h }
@@ -75,8 +75,8 @@ token_fits (numbered n) h = (h, tt)
 light_lawful : {w h : ℕ} {cells : List LightCell} (at : ℕ) (description : List ℕ) → in_range game.LightUp w h ≡ true → light_cells_at (w * h) at description ≡ Ok cells → IsLight (record { size = record { w = w; h = h }; cells = cells })
 light_lawful {w = w} {h = h} {cells = cells} at description range e = grind (arith, light_take (w * h) at description cells e, AllByRecursion-flat_map IsLightToken IsLightCell light_token_cells token_fits)
 
-pub light_fits : (size : Extent) (w h all at : ℕ) (description : List ℕ) (cells : List LightCell) → size ≡ sized w h → all ≡ size.w * size.h → in_range game.LightUp w h ≡ true → light_cells_at all at description ≡ Ok cells → IsLight (record { size = size; cells = cells })
-light_fits size w h all at description cells is count range e = grind (arith, light_lawful {w = w} {h = h} {cells = cells} at description range)
+pub light_fits : {size : Extent} (w h all at : ℕ) (description : List ℕ) (cells : List LightCell) → size ≡ sized w h → all ≡ size.w * size.h → in_range game.LightUp w h ≡ true → light_cells_at all at description ≡ Ok cells → IsLight (record { size = size; cells = cells })
+light_fits w h all at description cells is count range e = grind (arith, light_lawful {w = w} {h = h} {cells = cells} at description range)
 
 -- ---- what is spelled is read
 
@@ -91,7 +91,7 @@ light_again all at tokens each full =
 
 pub light_takes : (text : List ℕ) (p : Light) → light_of text ≡ Ok p → SpellsLight text p
 light_takes text p e =
-    let r = parts_of game.LightUp text (λ head description. light_cells_at (head.size.w * head.size.h) head.description description) (λ head cells. record { size = extent_of head.size; cells = cells }) p e in
+    let r = parts_of game.LightUp text (λ head description. light_cells_at (head.size.w * head.size.h) head.description description) (λ head cells. record { size = extent_of head.size; cells = cells }) e in
     grind (arith, light_take _ _ _ _ r.read, light_lawful _ _ r.is_head.range r.read, plain_size)
 
 -- a wide size is in the limits of Light Up, which are those of Tents

@@ -8,12 +8,12 @@ own = numerals_by_fold _ (search rules) value_after (search rules)
 pub begins_front : (kind : ℕ → Bool) (xs ys : List ℕ) → begins kind xs ≡ true → begins kind (xs ++ ys) ≡ true
 begins_front kind xs ys e = grind arith
 
-pub lead_digit : (n : ℕ) → 0 < n → n < 10 → is_lead (48 + n) ≡ true
-lead_digit n some small = grind arith
+pub lead_digit : {n : ℕ} → 0 < n → n < 10 → is_lead (48 + n) ≡ true
+lead_digit some small = grind arith
 
 pub decimal_leads : (n : ℕ) → n < 2 ^ 64 → 0 < n → begins is_lead (decimal n) ≡ true
 decimal_leads n small =
-    decimal_by_steps (λ n ds. 0 < n → begins is_lead ds ≡ true) (λ n lt some. lead_digit n some lt) (λ n ds ge h some. begins_front is_lead ds _ (h (omega arith))) n small
+    decimal_by_steps (λ n ds. 0 < n → begins is_lead ds ≡ true) (λ n lt some. lead_digit some lt) (λ n ds ge h some. begins_front is_lead ds _ (h (omega arith))) n small
 
 pub lead_is_digit : (b : ℕ) → is_lead b ≡ true → is_ascii_digit b ≡ true
 lead_is_digit b e = grind arith
@@ -23,8 +23,8 @@ value_positive b ds low = omega (arith, value_after_ge (10 * 0 + (b - 48)) ds)
 
 -- the digits in front of a numeral and a text that begins with none
 pub front_numeral : (digits rest : List ℕ) → all_ascii_digits digits ≡ true → begins is_ascii_digit rest ≡ false → (digits_front (digits ++ rest) ≡ digits) × (after_digits (digits ++ rest) ≡ rest)
-front_numeral [] [] d other = front_end [] refl
-front_numeral [] (b ∷ rest) d other = front_stop (b ∷ rest) b rest refl other
+front_numeral [] [] d other = front_end refl
+front_numeral [] (b ∷ rest) d other = front_stop b rest refl other
 front_numeral (c ∷ digits) rest d other = grind (arith, nat_tests, common_steps, front_turn (c ∷ (digits ++ rest)) c (digits ++ rest) refl, front_numeral digits rest)
 
 pub digit_front : (num rest : List ℕ) → IsNumeral num → begins is_ascii_digit (num ++ rest) ≡ true

@@ -57,11 +57,11 @@ token_small cells line at n (m ∷ clue) word e = let f = further_cases cells li
 
 -- ---- clues that are read fit
 
-IsClue-push : (cells n : ℕ) (clue : List ℕ) → IsClue cells clue → (0 < n) × (used clue + n ≤ cells) → IsClue cells (clue ++ n ∷ [])
-IsClue-push cells n clue h p = grind (arith, common_steps, used_push)
+IsClue-push : {cells n : ℕ} {clue : List ℕ} → IsClue cells clue → (0 < n) × (used clue + n ≤ cells) → IsClue cells (clue ++ n ∷ [])
+IsClue-push h p = grind (arith, common_steps, used_push)
 
-IsClue-none : (cells : ℕ) → IsClue cells []
-IsClue-none cells = record { positive = tt; fits = omega arith }
+IsClue-none : {cells : ℕ} → IsClue cells []
+IsClue-none = record { positive = tt; fits = omega arith }
 
 -- ---- texts of numerals
 
@@ -97,12 +97,12 @@ record Spelled (clues : List (List ℕ)) (clue text : List ℕ) (all : List (Lis
 dotted_word : (word : List ℕ) → IsWord word → begins (λ b. eqb b 46) word ≡ true → begins is_ascii_digit (drop 1 word) ≡ true → (word ≡ 46 ∷ drop 1 word) × IsNumeral (drop 1 word)
 dotted_word word w dot d = grind arith
 
-slash_word : (word : List ℕ) → IsWord word → begins (λ b. eqb b 47) word ≡ true → word ≡ 47 ∷ []
-slash_word word w s = grind arith
+slash_word : {word : List ℕ} → IsWord word → begins (λ b. eqb b 47) word ≡ true → word ≡ 47 ∷ []
+slash_word w s = grind arith
 
-slash_spelled : (clues : List (List ℕ)) (clue word rest : List ℕ) (all : List (List ℕ)) → word ≡ 47 ∷ [] → Spelled (clues ++ clue ∷ []) [] rest all
+slash_spelled : {clues : List (List ℕ)} (clue : List ℕ) {word rest : List ℕ} {all : List (List ℕ)} → word ≡ 47 ∷ [] → Spelled (clues ++ clue ∷ []) [] rest all
     → Spelled clues clue (word ++ rest) all
-slash_spelled clues clue word rest all slash r = record { ns = []; later = r.ns ∷ r.later; is = grind (arith, common_steps, tail_none clue) }
+slash_spelled clue slash r = record { ns = []; later = r.ns ∷ r.later; is = grind (arith, common_steps, tail_none clue) }
 
 number_spelled : (cells line at : ℕ) (clues : List (List ℕ)) (clue word rest : List ℕ) (all : List (List ℕ)) (n : ℕ) → IsWord word
     → clue_token cells line clue at word ≡ Ok n → Spelled clues (clue ++ n ∷ []) rest all → Spelled clues clue (word ++ rest) all
@@ -131,19 +131,19 @@ positive_at : (n : ℕ) (clue rest : List ℕ) → AllByRecursion (λ k. 0 < k) 
 positive_at n [] rest h = h.0
 positive_at n (m ∷ clue) rest h = positive_at n clue rest h.1
 
-used_fits : (cells n : ℕ) (clue rest : List ℕ) → IsClue cells (clue ++ n ∷ rest) → (0 < n) × (used clue + n ≤ cells)
-used_fits cells n clue rest h = grind (arith, used_more n clue rest, positive_at n clue rest h.positive)
+used_fits : {cells : ℕ} (n : ℕ) (clue rest : List ℕ) → IsClue cells (clue ++ n ∷ rest) → (0 < n) × (used clue + n ≤ cells)
+used_fits n clue rest h = grind (arith, used_more n clue rest, positive_at n clue rest h.positive)
 
-first_read : (cells line at : ℕ) (num : List ℕ) → IsNumeral num → 0 < value num → value num ≤ cells → clue_token cells line [] at num ≡ Ok (value num)
+first_read : (cells line at : ℕ) {num : List ℕ} → IsNumeral num → 0 < value num → value num ≤ cells → clue_token cells line [] at num ≡ Ok (value num)
 unfolding clue_token clue_number
-first_read cells line at num h some room = grind (arith, common_steps)
+first_read cells line at h some room = grind (arith, common_steps)
 
-further_read : (cells line at m : ℕ) (clue num : List ℕ) → IsNumeral num → 0 < value num → used (m ∷ clue) + value num ≤ cells → clue_token cells line (m ∷ clue) at (46 ∷ num) ≡ Ok (value num)
+further_read : {cells : ℕ} (line at m : ℕ) (clue num : List ℕ) → IsNumeral num → 0 < value num → used (m ∷ clue) + value num ≤ cells → clue_token cells line (m ∷ clue) at (46 ∷ num) ≡ Ok (value num)
 unfolding clue_token clue_number
-further_read cells line at m clue num h some room = grind (arith, common_steps)
+further_read line at m clue num h some room = grind (arith, common_steps)
 
-numeral_other : (num : List ℕ) → IsNumeral num → begins (λ b. eqb b 47) num ≡ false
-numeral_other num h = grind arith
+numeral_other : {num : List ℕ} → IsNumeral num → begins (λ b. eqb b 47) num ≡ false
+numeral_other h = grind arith
 
 -- no clue's rest and no later clue begins with a digit
 rest_begins : (m : ℕ) (clue : List ℕ) (ns : List (List ℕ)) (later : List (List (List ℕ))) → begins is_ascii_digit (tail_text (m ∷ clue) ns ++ later_text later) ≡ false
@@ -222,8 +222,8 @@ module _ (size : Extent) where
   lawful at clues clue (word ∷ ws) all h p e =
       let b = bind_ok (pattern_step size at (so_far clues clue) word) (λ t. read_words (at + length word) t ws) all e in
       elim (step_cases at clues clue word b.0 b.1) [
-        | inl s ↦ lawful (at + length word) (clues ++ clue ∷ []) [] ws all (AreClues-push 0 clues clue h (grind arith)) (IsClue-none _) (grind arith)
-        | inr n ↦ lawful (at + length word) clues (clue ++ n.number ∷ []) ws all h (IsClue-push _ _ clue p (grind (arith, token_small, n.token))) (grind arith)
+        | inl s ↦ lawful (at + length word) (clues ++ clue ∷ []) [] ws all (AreClues-push 0 clues clue h (grind arith)) IsClue-none (grind arith)
+        | inr n ↦ lawful (at + length word) clues (clue ++ n.number ∷ []) ws all h (IsClue-push p (grind (arith, token_small, n.token))) (grind arith)
       ]
 
   pub clues_lawful : (at : ℕ) (description : List ℕ) (all : List (List ℕ)) → IsExtent size → clues_at size at description ≡ Ok all → IsPattern (record { size = size; clues = all })
@@ -236,7 +236,7 @@ module _ (size : Extent) where
   read_spelled at clues clue (word ∷ ws) all w e =
       let b = bind_ok (pattern_step size at (so_far clues clue) word) (λ t. read_words (at + length word) t ws) all e in
       elim (step_cases at clues clue word b.0 b.1) [
-        | inl s ↦ slash_spelled clues clue word (concat ws) all (slash_word word w.0 s.slash) (read_spelled (at + length word) (clues ++ clue ∷ []) [] ws all w.1 (grind arith))
+        | inl s ↦ slash_spelled clue (slash_word w.0 s.slash) (read_spelled (at + length word) (clues ++ clue ∷ []) [] ws all w.1 (grind arith))
         | inr n ↦ number_spelled _ _ at clues clue word (concat ws) all n.number w.0 n.token (read_spelled (at + length word) clues (clue ++ n.number ∷ []) ws all w.1 (grind arith))
       ]
 
@@ -246,12 +246,12 @@ module _ (size : Extent) where
   -- the rest of a clue is read, and then what follows it
   clue_again : (all clues : List (List ℕ)) (clue : List ℕ) (ns : List (List ℕ)) (later : List (List (List ℕ))) → AllByRecursion IsNumeral ns → IsClue (line_cells size (length clues)) (clue ++ map value ns) → Reads all clues (clue ++ map value ns) (later_text later) → Reads all clues clue (tail_text clue ns ++ later_text later)
   clue_again all clues clue [] later d fits next at = grind (arith, common_steps)
-  clue_again all clues [] (num ∷ ns) later d fits next at = grind (arith, common_steps, join_cons 46 num ns, numeral_cuts num (tail_text (value num ∷ []) ns ++ later_text later) d.0 (rest_begins (value num) [] ns later), step_number at clues [] num (Ok (value num)) (numeral_other num d.0), first_read, reading_turn (pattern_step size) (pattern_end size) at (so_far clues []) (so_far clues (value num ∷ [])), clue_again all clues (value num ∷ []) ns later d.1 fits next (at + length num))
+  clue_again all clues [] (num ∷ ns) later d fits next at = grind (arith, common_steps, join_cons 46 num ns, numeral_cuts num (tail_text (value num ∷ []) ns ++ later_text later) d.0 (rest_begins (value num) [] ns later), step_number at clues [] num (Ok (value num)) (numeral_other d.0), first_read, reading_turn (pattern_step size) (pattern_end size) at (so_far clues []) (so_far clues (value num ∷ [])), clue_again all clues (value num ∷ []) ns later d.1 fits next (at + length num))
   clue_again all clues (m ∷ clue) (num ∷ ns) later d fits next at =
-      let room = used_fits (line_cells size (length clues)) (value num) (m ∷ clue) (map value ns) fits in
+      let room = used_fits (value num) (m ∷ clue) (map value ns) fits in
       let text : tail_text (m ∷ clue) (num ∷ ns) ++ later_text later ≡ 46 ∷ (num ++ (tail_text (m ∷ clue) ns ++ later_text later)) = append_assoc (46 ∷ num) (tail_text (m ∷ clue) ns) (later_text later) in
       let cuts = joined_cuts 46 refl num (tail_text (m ∷ clue) ns ++ later_text later) d.0 (rest_begins m clue ns later) in
-      let step = step_number at clues (m ∷ clue) (46 ∷ num) (Ok (value num)) refl (further_read _ _ at m clue num d.0 room.0 room.1) in
+      let step = step_number at clues (m ∷ clue) (46 ∷ num) (Ok (value num)) refl (further_read _ at m clue num d.0 room.0 room.1) in
       let moved : (m ∷ clue) ++ value num ∷ map value ns ≡ ((m ∷ clue) ++ value num ∷ []) ++ map value ns = sym (append_assoc (m ∷ clue) (value num ∷ []) (map value ns)) in
       rw text (reading_turn (pattern_step size) (pattern_end size) at (so_far clues (m ∷ clue)) (so_far clues ((m ∷ clue) ++ value num ∷ [])) _ (46 ∷ num) _ cuts step ∙ clue_again all clues ((m ∷ clue) ++ value num ∷ []) ns later d.1 (subst (λ (c : List ℕ). IsClue (line_cells size (length clues)) c) moved fits) (subst (λ (c : List ℕ). Reads all clues c (later_text later)) moved next) (at + length (46 ∷ num)))
 
@@ -289,7 +289,7 @@ pub ruleset turns = (common_steps, words_nil, slash_full, slash_turn, used_push,
 
 pub pattern_takes : (text : List ℕ) (p : Pattern) → pattern_of text ≡ Ok p → SpellsPattern text p
 pattern_takes text p e =
-    let r = parts_of game.Pattern text (λ head description. clues_at (extent_of head.size) head.description description) (λ head clues. record { size = extent_of head.size; clues = clues }) p e in
+    let r = parts_of game.Pattern text (λ head description. clues_at (extent_of head.size) head.description description) (λ head clues. record { size = extent_of head.size; clues = clues }) e in
     grind (arith, clues_take _ _ _ _ r.read, is_extent r.head.size.w r.head.size.h r.is_head.range, clues_lawful (extent_of r.head.size) r.head.description (drop r.head.description text) r.given, plain_size)
 
 pub pattern_again : (text : List ℕ) (p : Pattern) → SpellsPattern text p → pattern_of text ≡ Ok p

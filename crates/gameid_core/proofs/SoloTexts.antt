@@ -155,7 +155,7 @@ solo_lawful {c = c} {r = r} {cells = cells} at description range e =
 
 pub solo_takes : (text : List ℕ) (p : Solo) → solo_of text ≡ Ok p → SpellsSolo text p
 solo_takes text p e =
-    let r = parts_of game.Solo text (λ head description. solo_cells_at (head.size.w * head.size.h) head.description description) (λ head givens. solo_puzzle head.size.w head.size.h head.size.x givens) p e in
+    let r = parts_of game.Solo text (λ head description. solo_cells_at (head.size.w * head.size.h) head.description description) (λ head givens. solo_puzzle head.size.w head.size.h head.size.x givens) e in
     let small = n_few r.head.size.w r.head.size.h r.is_head.range in
     let d = solo_take (r.head.size.w * r.head.size.h) (omega arith) _ _ _ r.read in
     subst (SpellsSolo text) r.made (record {

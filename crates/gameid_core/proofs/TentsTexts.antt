@@ -70,11 +70,11 @@ record Spelled (places counts text : List ℕ) (all : TentsSoFar) : Type 0 where
   numerals : List (List ℕ)
   is : IsSpelled places counts text all tokens numerals
 
-comma_word : (word : List ℕ) → IsWord word → begins (λ b. eqb b 44) word ≡ true → (length word ≡ 1 → ⊥) → (word ≡ 44 ∷ drop 1 word) × IsNumeral (drop 1 word)
-comma_word word w c some = grind arith
+comma_word : {word : List ℕ} → IsWord word → begins (λ b. eqb b 44) word ≡ true → (length word ≡ 1 → ⊥) → (word ≡ 44 ∷ drop 1 word) × IsNumeral (drop 1 word)
+comma_word w c some = grind arith
 
-spelled_counted : (places counts word rest : List ℕ) (all : TentsSoFar) → (word ≡ 44 ∷ drop 1 word) × IsNumeral (drop 1 word) → Spelled places (counts ++ value (drop 1 word) ∷ []) rest all → Spelled places counts (word ++ rest) all
-spelled_counted places counts word rest all w r = record { tokens = []; numerals = drop 1 word ∷ r.numerals; is = grind (arith, common_steps) }
+spelled_counted : {places counts : List ℕ} (word : List ℕ) {rest : List ℕ} {all : TentsSoFar} → (word ≡ 44 ∷ drop 1 word) × IsNumeral (drop 1 word) → Spelled places (counts ++ value (drop 1 word) ∷ []) rest all → Spelled places counts (word ++ rest) all
+spelled_counted word w r = record { tokens = []; numerals = drop 1 word ∷ r.numerals; is = grind (arith, common_steps) }
 
 spelled_planted : (at : ℕ) (places counts word rest : List ℕ) (run : ℕ × Bool) (all : TentsSoFar) → IsWord word → length counts ≤ 0 → tents_run at (get_or word 0 0) ≡ Ok run → Spelled (places ++ run_cells run.0 run.1) counts rest all → Spelled places counts (word ++ rest) all
 spelled_planted at places counts [] rest run all w early e r = absurd w
@@ -179,12 +179,12 @@ module _ (size : Extent) where
     tree : length places ≡ cells_in size + 1 → (front : List ℕ) × (places ≡ front ++ 1 ∷ [])
     fit : AreCounts size 0 counts
 
-  sound_counted : (places counts : List ℕ) (n : ℕ) → Sound places counts → cells_in size + 1 ≤ length places → n ≤ line_cells size (length counts) → Sound places (counts ++ n ∷ [])
-  sound_counted places counts n s full fits = grind (arith, AreCounts-push 0 counts n s.fit)
+  sound_counted : {places counts : List ℕ} (n : ℕ) → Sound places counts → cells_in size + 1 ≤ length places → n ≤ line_cells size (length counts) → Sound places (counts ++ n ∷ [])
+  sound_counted {counts} n s full fits = grind (arith, AreCounts-push 0 counts n s.fit)
 
-  sound_planted : (places counts : List ℕ) (blanks : ℕ) (tree : Bool) → Sound places counts → length counts ≤ 0 → length places + length (run_cells blanks tree) ≤ cells_in size + cond tree 1 0 → Sound (places ++ run_cells blanks tree) counts
-  sound_planted places counts blanks true s early room = grind (arith, common_steps, run_bits blanks true, append_assoc places (replicate blanks 0) (1 ∷ []))
-  sound_planted places counts blanks false s early room = grind (arith, common_steps, run_bits blanks false)
+  sound_planted : {places counts : List ℕ} (blanks : ℕ) (tree : Bool) → Sound places counts → length counts ≤ 0 → length places + length (run_cells blanks tree) ≤ cells_in size + cond tree 1 0 → Sound (places ++ run_cells blanks tree) counts
+  sound_planted {places} blanks true s early room = grind (arith, common_steps, run_bits blanks true, append_assoc places (replicate blanks 0) (1 ∷ []))
+  sound_planted blanks false s early room = grind (arith, common_steps, run_bits blanks false)
 
   sound_read : (at : ℕ) (places counts : List ℕ) (ws : List (List ℕ)) (all : TentsSoFar) → Sound places counts → read_words at (at_tents places counts) ws ≡ Ok all → Sound all.places all.counts × (length all.counts ≡ lines_of size)
   unfolding reading
@@ -192,8 +192,8 @@ module _ (size : Extent) where
   sound_read at places counts (word ∷ ws) all s e =
       let b = bind_ok (tents_step size at (at_tents places counts) word) (λ t. read_words (at + length word) t ws) all e in
       elim (step_cases at places counts word b.0 b.1) [
-        | inl c ↦ sound_read (at + length word) places (counts ++ value (drop 1 word) ∷ []) ws all (sound_counted places counts _ s c.full c.fits) (ap (λ t. read_words (at + length word) t ws) c.leads ∙ b.2)
-        | inr p ↦ sound_read (at + length word) (places ++ run_cells p.run.0 p.run.1) counts ws all (sound_planted places counts p.run.0 p.run.1 s p.early p.room) (ap (λ t. read_words (at + length word) t ws) p.leads ∙ b.2)
+        | inl c ↦ sound_read (at + length word) places (counts ++ value (drop 1 word) ∷ []) ws all (sound_counted _ s c.full c.fits) (ap (λ t. read_words (at + length word) t ws) c.leads ∙ b.2)
+        | inr p ↦ sound_read (at + length word) (places ++ run_cells p.run.0 p.run.1) counts ws all (sound_planted p.run.0 p.run.1 s p.early p.room) (ap (λ t. read_words (at + length word) t ws) p.leads ∙ b.2)
       ]
 
   -- the cells without the tree after them
@@ -224,14 +224,14 @@ module _ (size : Extent) where
   unfolding reading tents_tree
   tree_refused at b places after f other e = grind (arith, common_steps, nat_tests, cuts_some b after)
 
-  read_spelled : (at : ℕ) (places counts : List ℕ) (ws : List (List ℕ)) (all : TentsSoFar) → AllByRecursion IsWord ws → read_words at (at_tents places counts) ws ≡ Ok all → Spelled places counts (concat ws) all
+  read_spelled : (at : ℕ) {places counts : List ℕ} (ws : List (List ℕ)) {all : TentsSoFar} → AllByRecursion IsWord ws → read_words at (at_tents places counts) ws ≡ Ok all → Spelled places counts (concat ws) all
   unfolding reading
-  read_spelled at places counts [] all w e = record { tokens = []; numerals = []; is = grind (arith, append-nil places, append-nil counts) }
-  read_spelled at places counts (word ∷ ws) all w e =
+  read_spelled at {places} {counts} [] w e = record { tokens = []; numerals = []; is = grind (arith, append-nil places, append-nil counts) }
+  read_spelled at {places} {counts} (word ∷ ws) {all} w e =
       let b = bind_ok (tents_step size at (at_tents places counts) word) (λ t. read_words (at + length word) t ws) all e in
       elim (step_cases at places counts word b.0 b.1) [
-        | inl c ↦ spelled_counted places counts word (concat ws) all (comma_word word w.0 c.comma c.some) (read_spelled (at + length word) places (counts ++ value (drop 1 word) ∷ []) ws all w.1 (ap (λ t. read_words (at + length word) t ws) c.leads ∙ b.2))
-        | inr p ↦ spelled_planted at places counts word (concat ws) p.run all w.0 p.early p.read (read_spelled (at + length word) (places ++ run_cells p.run.0 p.run.1) counts ws all w.1 (ap (λ t. read_words (at + length word) t ws) p.leads ∙ b.2))
+        | inl c ↦ spelled_counted word (comma_word w.0 c.comma c.some) (read_spelled (at + length word) ws w.1 (ap (λ t. read_words (at + length word) t ws) c.leads ∙ b.2))
+        | inr p ↦ spelled_planted at places counts word (concat ws) p.run all w.0 p.early p.read (read_spelled (at + length word) ws w.1 (ap (λ t. read_words (at + length word) t ws) p.leads ∙ b.2))
       ]
 
   -- ---- what is spelled is read
@@ -289,11 +289,11 @@ pub ruleset turns = (common_steps, words_nil, words_first, tree_refused)
 
 pub tents_takes : (text : List ℕ) (p : Tents) → tents_of text ≡ Ok p → SpellsTents text p
 tents_takes text p e =
-    let r = parts_of game.Tents text (λ head description. tents_at (extent_of head.size) head.description description) (λ head s. record { size = extent_of head.size; trees = take (head.size.w * head.size.h) s.places; counts = s.counts }) p e in
+    let r = parts_of game.Tents text (λ head description. tents_at (extent_of head.size) head.description description) (λ head s. record { size = extent_of head.size; trees = take (head.size.w * head.size.h) s.places; counts = s.counts }) e in
     let wide = wide_of r.head.size.w r.head.size.h r.is_head.range in
     grind (
       arith,
-      read_spelled _ _ [] [] _ _ (words_are (drop r.head.description text)) r.read,
+      read_spelled _ _ {places = []} {counts = []} _ (words_are (drop r.head.description text)) r.read,
       concat_words (drop r.head.description text),
       tents_read _ _ _ _ wide r.read,
       tents_lawful _ _ _ _ wide r.read,

@@ -50,7 +50,7 @@ numerals : (size : Extent) (line : ℕ) (counts : List ℕ) → IsExtent size �
     → AllByRecursion IsNumeral (map decimal counts) × AllByRecursion IsPlain (map decimal counts) × (map value (map decimal counts) ≡ counts)
 numerals size line [] e h = (tt, tt, refl)
 numerals size line (n ∷ counts) e h =
-    grind (arith, line_small size line e, numerals size (line + 1) counts e h.1, digits_value-decimal own n, numeral n, decimal_plain n)
+    grind (arith, line_small line e, numerals size (line + 1) counts e h.1, digits_value-decimal own n, numeral n, decimal_plain n)
 
 -- the written text has the form of a written text, and so it spells the puzzle
 pub tents_is_written : (p : Tents) → IsTents p → IsWrittenTents (tents_text p) p
