@@ -4,7 +4,7 @@ use Rattle.fields_core.proofs.CountTallies.{sets-first, sets-next, sets-all}
 use Rattle.fields_core.proofs.HouseLists.{column-after, column-black, column-edge, row-after, row-black, row-edge, step-keep, step-none, step-skip}
 use Rattle.fields_core.proofs.LightCounting.{light-counting}
 use Rattle.fields_core.proofs.LightLines.{cell-at, white-at}
-use Rattle.fields_core.proofs.LightRuleLemmas.{first-black, first-dark, first-number, first-seen, light-tells, none-found as none-dark, rule-from-test, test-from-rule}
+use Rattle.fields_core.proofs.LightRuleLemmas.{light-tells, rule-from-test, test-from-rule}
 use Rattle.fields_core.proofs.LightSeen.{black-unseen, seen-in-column, seen-in-row}
 use Rattle.fields_core.proofs.LightSight.{count-bulb, count-dark, count-edge, count-start, some-column}
 use Rattle.fields_core.proofs.RuleLemmas.{same-shape, start-all, start-blocked}
@@ -14,7 +14,7 @@ use Rattle.fields_core.proofs.TentLines.{line-all, line-more, line-skip, line-st
 use Rattle.fields_core.proofs.TentNext.{barred-alone, barred-tree, next-joined, next-none, passed-bare, passed-early, passed-edge, passed-start, tree-found, treeless-all}
 use Rattle.fields_core.proofs.TentNumbers.{count-none, listed-all, listed-skip}
 use Rattle.fields_core.proofs.TentPairLemmas.{count-is, listed-tents, others-unpaired, short-unpaired, whole-pairs}
-use Rattle.fields_core.proofs.TentRuleLemmas.{first-column, first-match, first-row, first-touch, first-tree, none-found, tents-from-solution, tents-tell, solution-from-tents}
+use Rattle.fields_core.proofs.TentRuleLemmas.{tents-from-solution, tents-tell, solution-from-tents}
 use Rattle.std.proofs.lemmas.Bool.{eq-eqb, ne_eqb}
 use Rattle.std.proofs.Math.Nat.{mul-le-mul_right}
 use Rattle.std.proofs.lemmas.List.{append-nil, append_assoc, map-append, take_all}
@@ -27,7 +27,7 @@ pub ruleset laws_laws = (rule-from-test, test-from-rule, solution-from-tents, te
 
 pub ruleset light_cells_laws = (white-at)
 
-pub ruleset light_check_laws = (first-black, first-number, first-seen, first-dark, none-dark, ne_eqb, eq-eqb, cell-at)
+pub ruleset light_check_laws = (ne_eqb, eq-eqb, cell-at)
 
 pub ruleset light_houses_laws = (beside-fits, begun-none, begun-same, step-none, step-skip, begun-more, step-keep, take_all)
 
@@ -43,7 +43,7 @@ pub ruleset run_laws = (run-long, row-made, column-made, mul-le-mul_right)
 
 pub ruleset tally_laws = (sets-first, sets-next, sets-all)
 
-pub ruleset tent_check_laws = (line-start, line-skip, line-more, line-all, first-tree, first-touch, first-column, first-row, first-match, none-found, ne_eqb, eq-eqb)
+pub ruleset tent_check_laws = (line-start, line-skip, line-more, line-all, ne_eqb, eq-eqb)
 
 pub ruleset tent_houses_laws = (beside-fits, begun-none, begun-same, step-none, step-skip, begun-more, step-keep)
 

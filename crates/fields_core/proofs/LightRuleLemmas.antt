@@ -1,7 +1,7 @@
 -- In Light Up the test of a solution is the rule.
-use Rattle.std.proofs.Common.{◌≡◌, ℕ, ◌+◌, ◌*◌, ◌/◌, ◌%◌, ◌<◌, ◌≤◌, min, max, Bool, true, false, not, ◌&&◌, ◌||◌, eqb, List, get_or, slice_index, Option, Some, None, is_some, refl, sym, ◌∙◌, inl, inr, arith}
+use Rattle.std.proofs.Common.{◌≡◌, ℕ, ◌+◌, ◌*◌, ◌/◌, ◌%◌, ◌<◌, ◌≤◌, min, max, Bool, true, false, not, ◌&&◌, ◌||◌, eqb, List, [], ◌∷◌, get_or, slice_index, Option, is_some, refl, sym, ◌∙◌, inl, inr, arith}
 use Rattle.std.specs.List.{AllByRecursion}
-use Rattle.std.proofs.lemmas.Bool.{cases_lt, cases_Bool, or_left, or_right, or_cases, or_parts, and_from, and_parts, true≢false, false_from_ne_true, not-false, ne_eqb, eqb-true, eq-eqb, not-true, cases_eq}
+use Rattle.std.proofs.lemmas.Bool.{cases_lt, cases_Bool, or_left, or_right, or_cases, or_parts, and_from, and_parts, true≢false, not-false, ne_eqb, eqb-true, eq-eqb, not-true, cases_eq}
 use Rattle.std.proofs.lemmas.Nat.{div-mul-add, mod-mul-add, le-div}
 use Rattle.std.proofs.Math.Nat.{mul-le-mul_right, mod-lt, div-mul-le_self}
 use Rattle.grid_core.specs.Grids.{IsGrid}
@@ -11,9 +11,8 @@ use Rattle.gameid_core.specs.declared.light_up.cell.LightCell.{LightCell}
 use Rattle.gameid_core.specs.declared.light_up.cell.LightCell.TheVariants.{White, Black, Numbered}
 use Rattle.fields_core.specs.Light.{light_cells, white, bulb, bulbs_beside, number_is, joined_in_row, joined_in_column, sees, sees_bulb, black_right, number_right, bulb_right, lit_right, solves_lights}
 use Rattle.fields_core.specs.LightSolutions.{light_row, light_column, IsFromTo, AreJoined, Sees, SeesBulb, IsLightSolution}
-use Rattle.gameid_core.specs.FirstFailed.{NoneFails, each_test}
-use Rattle.gameid_core.proofs.FirstFailed.{IsKnown, IsTestedBy, all_each, all_split, first_by, first_front, first_rest, known_by, none_by, none_tells, right_by}
-use Rattle.gameid_core.proofs.Lists.{AllByRecursion-append}
+use Rattle.gameid_core.specs.FirstFailed.{NoneFails}
+use Rattle.gameid_core.proofs.FirstFailed.{AreRight, IsKnown, IsMade, Kind, known_tests, none_held, none_tells, right_none}
 use Rattle.fields_core.specs.LightFaults.{FailsLight, IsLightFault, light_tests}
 use Rattle.fields_core.specs.declared.light_up.fault.LightFault.{LightFault}
 use Rattle.fields_core.specs.declared.light_up.fault.LightFault.TheVariants as fault
@@ -129,95 +128,83 @@ rule-from-test p g grid on =
     }
 
 -- ---- each test, as it is computed
-module _ (p : Light) (g : List ℕ) (grid : IsGrid (light_cells p) 2 g) where
-  black-test : IsTestedBy (FailsLight p g) fault.Black (light_cells p) (black_right p g)
-  unfolding black_right
-  black-test = record {
-    failed = λ c lt off. grind (arith, common_steps, or_parts, slice_index, cases_eq (slice_index g c) 1, eq-eqb);
-    held = λ c lt on (bulb_on, off). grind (arith, common_steps, or_cases);
-  }
+module _ (p : Light) (g : List ℕ) where
+  abbrev pub black : Kind LightFault
+  black = record { test = fault.Black; count = light_cells p; right = black_right p g }
 
-  number-test : IsTestedBy (FailsLight p g) fault.Number (light_cells p) (number_right p g)
-  unfolding number_right
-  number-test = record {
-    failed = λ c lt off. by c (get_or p.cells c Black) off refl;
-    held = λ c lt on (n, e, other). other (number-rule (get_or p.cells c Black) (bulbs_beside p g c) n on e);
-  }
-    where
-      by : (c : ℕ) (cell : LightCell) → number_is cell (bulbs_beside p g c) ≡ false → get_or p.cells c Black ≡ cell → FailsLight p g (fault.Number c)
-      by c White off e = absurd (true≢false off)
-      by c Black off e = absurd (true≢false off)
-      by c (Numbered n) off e = (n, e, λ same. true≢false (sym (eq-eqb _ n same) ∙ off))
+  abbrev pub number : Kind LightFault
+  number = record { test = fault.Number; count = light_cells p; right = number_right p g }
 
-  seen-test : IsTestedBy (FailsLight p g) fault.Seen (light_cells p) (bulb_right p g)
-  unfolding bulb_right
-  seen-test = record {
-    failed = λ c lt off. let parts = and_parts (bulb g c) (sees_bulb p g c) (not-false _ off) in (parts.0, bulb-rule p g c (some-column p c lt) parts.1);
-    held = λ c lt on (bulb_on, sees_one). not-alone (bulb g c) (sees_bulb p g c) on bulb_on (rule-bulb p g c (some-column p c lt) sees_one);
-  }
+  abbrev pub seen : Kind LightFault
+  seen = record { test = fault.Seen; count = light_cells p; right = bulb_right p g }
 
-  dark-test : IsTestedBy (FailsLight p g) fault.Dark (light_cells p) (lit_right p g)
-  unfolding lit_right
-  dark-test = record {
-    failed = λ c lt off. grind (arith, common_steps, or_parts, not-false, rule-bulb, some-column p c lt);
-    held = λ c lt on (is_white, dark, unseen). grind (arith, common_steps, or_cases, not-true, bulb-rule, some-column p c lt);
-  }
+  abbrev pub dark : Kind LightFault
+  dark = record { test = fault.Dark; count = light_cells p; right = lit_right p g }
 
-  abbrev Holds : LightFault → Type 0
-  Holds test = FailsLight p g test → ⊥
+  abbrev pub kinds : List (Kind LightFault)
+  kinds = black ∷ number ∷ seen ∷ dark ∷ []
 
-  -- what no test fails passes the test of the whole, and no test fails a solution
-  none-right : NoneFails (FailsLight p g) (light_tests p) → solves_lights p g ≡ true
-  none-right none =
-      let a = all_split Holds (each_test fault.Black (light_cells p)) _ none in
-      let b = all_split Holds (each_test fault.Number (light_cells p)) _ a.1 in
-      let c = all_split Holds (each_test fault.Seen (light_cells p)) _ b.1 in
-      lit-from p g (all_below-from _ _ (right_by _ black-test a.0)) (all_below-from _ _ (right_by _ number-test b.0))
-      (all_below-from _ _ (right_by _ seen-test c.0)) (all_below-from _ _ (right_by _ dark-test c.1))
+  module _ (grid : IsGrid (light_cells p) 2 g) where
+    black-made : IsMade (FailsLight p g) black
+    unfolding black_right
+    black-made = record {
+      failed = λ c lt off. grind (arith, common_steps, or_parts, slice_index, cases_eq (slice_index g c) 1, eq-eqb);
+      held = λ c lt on (bulb_on, off). grind (arith, common_steps, or_cases);
+    }
 
-  pub light-none : IsLightSolution p g → NoneFails (FailsLight p g) (light_tests p)
-  light-none s = AllByRecursion-append Holds _ _
-      (all_each Holds fault.Black (light_cells p) (λ c lt (on, off). true≢false (sym (s.none_on_black c lt on) ∙ off)))
-      (AllByRecursion-append Holds _ _ (all_each Holds fault.Number (light_cells p) (λ c lt (k, e, other). other (s.numbers c k lt e)))
-      (AllByRecursion-append Holds _ _ (all_each Holds fault.Seen (light_cells p) (λ c lt (on, one). s.none_seen c one.other lt one.within on one.has_bulb one.seen))
-      (all_each Holds fault.Dark (light_cells p) dark)))
-    where
-      dark : (c : ℕ) → c < light_cells p → Holds (fault.Dark c)
-      dark c lt (is_white, off, unseen) = elim (s.all_lit c lt is_white) [ inl here ↦ true≢false (sym here ∙ off) | inr there ↦ unseen there ]
+    number-made : IsMade (FailsLight p g) number
+    unfolding number_right
+    number-made = record {
+      failed = λ c lt off. by c (get_or p.cells c Black) off refl;
+      held = λ c lt on (n, e, other). other (number-rule (get_or p.cells c Black) (bulbs_beside p g c) n on e);
+    }
+      where
+        by : (c : ℕ) (cell : LightCell) → number_is cell (bulbs_beside p g c) ≡ false → get_or p.cells c Black ≡ cell → FailsLight p g (fault.Number c)
+        by c White off e = absurd (true≢false off)
+        by c Black off e = absurd (true≢false off)
+        by c (Numbered n) off e = (n, e, λ same. true≢false (sym (eq-eqb _ n same) ∙ off))
 
-  pub test-from-rule : IsLightSolution p g → solves_lights p g ≡ true
-  test-from-rule s = none-right (light-none s)
+    seen-made : IsMade (FailsLight p g) seen
+    unfolding bulb_right
+    seen-made = record {
+      failed = λ c lt off. let parts = and_parts (bulb g c) (sees_bulb p g c) (not-false _ off) in (parts.0, bulb-rule p g c (some-column p c lt) parts.1);
+      held = λ c lt on (bulb_on, one). not-alone (bulb g c) (sees_bulb p g c) on bulb_on (rule-bulb p g c (some-column p c lt) one);
+    }
 
-  pub light-sound : NoneFails (FailsLight p g) (light_tests p) → IsLightSolution p g
-  light-sound none = rule-from-test p g grid (none-right none)
+    dark-made : IsMade (FailsLight p g) dark
+    unfolding lit_right
+    dark-made = record {
+      failed = λ c lt off. grind (arith, common_steps, or_parts, not-false, rule-bulb, some-column p c lt);
+      held = λ c lt on (is_white, dark, unseen). grind (arith, common_steps, or_cases, not-true, bulb-rule, some-column p c lt);
+    }
 
-  pub light-known : AllByRecursion (IsKnown (FailsLight p g)) (light_tests p)
-  light-known = AllByRecursion-append _ _ _ (known_by _ black-test) (AllByRecursion-append _ _ _ (known_by _ number-test)
-      (AllByRecursion-append _ _ _ (known_by _ seen-test) (known_by _ dark-test)))
+    pub light-made : AllByRecursion (IsMade (FailsLight p g)) kinds
+    light-made = (black-made, (number-made, (seen-made, (dark-made, tt))))
 
-  -- ---- what is found
-  abbrev AllRight : (ℕ → Bool) → ℕ → Type 0
-  AllRight right n = (c : ℕ) → c < n → right c ≡ true
+    none-right : AllByRecursion (AreRight (FailsLight p g)) kinds → solves_lights p g ≡ true
+    none-right (a, (b, (c, (d, _)))) = lit-from p g (all_below-from _ _ a) (all_below-from _ _ b) (all_below-from _ _ c) (all_below-from _ _ d)
 
-  pub first-black : (c : ℕ) → c < light_cells p → black_right p g c ≡ false → AllRight (black_right p g) c → IsLightFault p g (Some (fault.Black c))
-  first-black c lt off before = first_front (FailsLight p g) (each_test fault.Black (light_cells p)) _ _ (first_by _ black-test c lt off before)
+    -- no test fails a solution, and no other grid passes all
+    pub light-none : IsLightSolution p g → NoneFails (FailsLight p g) (light_tests p)
+    light-none s = none_held (FailsLight p g) kinds (
+      (λ c lt (on, off). true≢false (sym (s.none_on_black c lt on) ∙ off)),
+      (
+        (λ c lt (k, e, other). other (s.numbers c k lt e)),
+        ((λ c lt (on, one). s.none_seen c one.other lt one.within on one.has_bulb one.seen), (lit, tt)),
+      ),
+    )
+      where
+        lit : (c : ℕ) → c < light_cells p → FailsLight p g (fault.Dark c) → ⊥
+        lit c lt (is_white, off, unseen) = elim (s.all_lit c lt is_white) [ inl here ↦ true≢false (sym here ∙ off) | inr there ↦ unseen there ]
 
-  pub first-number : (c : ℕ) → AllRight (black_right p g) (light_cells p) → c < light_cells p → number_right p g c ≡ false → AllRight (number_right p g) c → IsLightFault p g (Some (fault.Number c))
-  first-number c black lt off before = first_rest (FailsLight p g) (each_test fault.Black (light_cells p)) _ _ (none_by _ black-test black)
-      (first_front _ (each_test fault.Number (light_cells p)) _ _ (first_by _ number-test c lt off before))
+    pub test-from-rule : IsLightSolution p g → solves_lights p g ≡ true
+    test-from-rule s = none-right (right_none (FailsLight p g) kinds light-made (light-none s))
 
-  pub first-seen : (c : ℕ) → AllRight (black_right p g) (light_cells p) → AllRight (number_right p g) (light_cells p) → c < light_cells p → bulb_right p g c ≡ false → AllRight (bulb_right p g) c → IsLightFault p g (Some (fault.Seen c))
-  first-seen c black number lt off before = first_rest (FailsLight p g) (each_test fault.Black (light_cells p)) _ _ (none_by _ black-test black)
-      (first_rest _ (each_test fault.Number (light_cells p)) _ _ (none_by _ number-test number)
-      (first_front _ (each_test fault.Seen (light_cells p)) _ _ (first_by _ seen-test c lt off before)))
+    pub light-sound : NoneFails (FailsLight p g) (light_tests p) → IsLightSolution p g
+    light-sound none = rule-from-test p g grid (none-right (right_none (FailsLight p g) kinds light-made none))
 
-  pub first-dark : (c : ℕ) → AllRight (black_right p g) (light_cells p) → AllRight (number_right p g) (light_cells p) → AllRight (bulb_right p g) (light_cells p) → c < light_cells p → lit_right p g c ≡ false → AllRight (lit_right p g) c → IsLightFault p g (Some (fault.Dark c))
-  first-dark c black number seen lt off before = first_rest (FailsLight p g) (each_test fault.Black (light_cells p)) _ _ (none_by _ black-test black)
-      (first_rest _ (each_test fault.Number (light_cells p)) _ _ (none_by _ number-test number)
-      (first_rest _ (each_test fault.Seen (light_cells p)) _ _ (none_by _ seen-test seen) (first_by _ dark-test c lt off before)))
+    pub light-known : AllByRecursion (IsKnown (FailsLight p g)) (light_tests p)
+    light-known = known_tests (FailsLight p g) kinds light-made
 
-  pub none-found : AllRight (black_right p g) (light_cells p) → AllRight (number_right p g) (light_cells p) → AllRight (bulb_right p g) (light_cells p) → AllRight (lit_right p g) (light_cells p) → IsLightFault p g None
-  none-found black number seen lit = rule-from-test p g grid (lit-from p g (all_below-from _ _ black) (all_below-from _ _ number) (all_below-from _ _ seen) (all_below-from _ _ lit))
-
-  pub light-tells : (fault : Option LightFault) (told : Bool) → IsLightFault p g fault → is_some fault ≡ not told → told ≡ solves_lights p g
-  light-tells fault told is e = none_tells (FailsLight p g) (light_tests p) light-none told (solves_lights p g) (rule-from-test p g grid) test-from-rule fault is e
+    pub light-tells : (fault : Option LightFault) (told : Bool) → IsLightFault p g fault → is_some fault ≡ not told → told ≡ solves_lights p g
+    light-tells fault told is e = none_tells (FailsLight p g) (light_tests p) light-none told (solves_lights p g) (rule-from-test p g grid) test-from-rule fault is e

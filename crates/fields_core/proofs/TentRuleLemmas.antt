@@ -1,6 +1,6 @@
 -- A grid of Tents without a fault is a solution, and one with a fault is not; and the rules' own table.
-use Rattle.std.proofs.Common.{◌≡◌, ℕ, ◌+◌, ◌<◌, Bool, true, false, not, ◌&&◌, eqb, List, [], ◌∷◌, ◌++◌, length, slice_index, Option, Some, None, is_some, refl, sym, ap, ◌∙◌, inl, inr, arith}
-use Rattle.std.proofs.lemmas.Bool.{cases_eq, or_cases, or_parts, not-false, true_from_ne_false, and_from, and_parts, true≢false, false_from_ne_true, eqb-true, eq-eqb, not-true}
+use Rattle.std.proofs.Common.{◌≡◌, ℕ, ◌+◌, ◌<◌, Bool, true, false, not, ◌&&◌, eqb, List, [], ◌∷◌, length, slice_index, Option, is_some, sym, ap, ◌∙◌, inl, inr, arith}
+use Rattle.std.proofs.lemmas.Bool.{cases_eq, or_cases, or_parts, not-false, and_from, and_parts, true≢false, eqb-true, eq-eqb, not-true}
 use Rattle.std.specs.List.{AllByRecursion}
 use Rattle.grid_core.specs.Grids.{IsGrid}
 use Rattle.grid_core.specs.Candidates.{all_below}
@@ -10,14 +10,13 @@ use Rattle.gameid_core.specs.Puzzles.{Tents}
 use Rattle.fields_core.specs.Tents.{tent_cells, tree, tent, touches, tents_in_column, tents_in_row, tree_right, touch_right, column_right, row_right, can_be_paired, solves_tents}
 use Rattle.fields_core.specs.TentHouses.{tent_houses}
 use Rattle.fields_core.specs.TentSolutions.{IsPairedBy, IsTentSolution}
-use Rattle.gameid_core.specs.FirstFailed.{IsFirstFailed, NoneFails, each_test}
-use Rattle.gameid_core.proofs.FirstFailed.{IsKnown, IsTestedBy, all_each, all_split, first_by, first_front, first_rest, known_by, none_by, none_tells, right_by}
-use Rattle.gameid_core.proofs.Lists.{AllByRecursion-append}
+use Rattle.gameid_core.specs.FirstFailed.{NoneFails}
+use Rattle.gameid_core.proofs.FirstFailed.{AreRight, IsKnown, IsMade, Kind, known_tests, none_held, none_tells, right_none}
 use Rattle.fields_core.specs.TentFaults.{FailsTents, IsTentFault, tent_tests}
 use Rattle.fields_core.specs.declared.tents.fault.TentFault.{TentFault}
 use Rattle.fields_core.specs.declared.tents.fault.TentFault.TheVariants.{Tree, Touch, Column, Row, Match}
 use Rattle.fields_core.proofs.BelowLemmas.{index_of, index-is, distinct-none-twice}
-use Rattle.fields_core.proofs.TentCounting.{TentParts, tents-parts, tents_of, IsGiven, given, tent-in}
+use Rattle.fields_core.proofs.TentCounting.{tents-parts, tents_of, IsGiven, given, tent-in}
 use Rattle.fields_core.proofs.TentPairLemmas.{tents-distinct, tent-listed, listed-tent, pairs-from}
 use Rattle.std.proofs.lemmas.Grind.{common_steps}
 
@@ -80,116 +79,85 @@ solution-from-tents p g grid on =
     }
 
 -- ---- each test, as it is computed
-module _ (p : Tents) (g : List ℕ) (grid : IsGrid (tent_cells p) 2 g) where
-  tree-test : IsTestedBy (FailsTents p g) Tree (tent_cells p) (tree_right p g)
-  unfolding tree_right
-  tree-test = record {
-    failed = λ c lt off. grind (arith, common_steps, or_parts, not-false, slice_index, cases_eq (slice_index g c) 1, eq-eqb);
-    held = λ c lt on (tent_on, tree_on). grind (arith, common_steps, or_cases, not-true, eqb-true);
-  }
+module _ (p : Tents) (g : List ℕ) where
+  abbrev pub trees : Kind TentFault
+  trees = record { test = Tree; count = tent_cells p; right = tree_right p g }
 
-  touch-test : IsTestedBy (FailsTents p g) Touch (tent_cells p) (touch_right p g)
-  unfolding touch_right
-  touch-test = record {
-    failed = λ c lt off.
-        let parts = and_parts _ _ (not-false _ off) in
-        let w = any_below-some (λ d. touches p.size c d && tent g d) (tent_cells p) parts.1 in
-        let both = and_parts (touches p.size c w.0) (tent g w.0) w.2 in
-        (parts.0, (w.0, w.1, both.1, both.0));
-    held = λ c lt on (tent_on, (d, below, on_d, touched)).
-        let none = not-true _ (rw tent_on at (on)) in
-        true≢false (sym (any_below-here (λ e. touches p.size c e && tent g e) (tent_cells p) d below (and_from _ _ touched on_d)) ∙ none);
-  }
+  abbrev pub touch : Kind TentFault
+  touch = record { test = Touch; count = tent_cells p; right = touch_right p g }
 
-  column-test : IsTestedBy (FailsTents p g) Column p.size.w (column_right p g)
-  unfolding column_right
-  column-test = record {
-    failed = λ x lt off same. true≢false (sym (eq-eqb _ _ same) ∙ off);
-    held = λ x lt on other. other (eqb-true _ _ on);
-  }
+  abbrev pub columns : Kind TentFault
+  columns = record { test = Column; count = p.size.w; right = column_right p g }
 
-  row-test : IsTestedBy (FailsTents p g) Row p.size.h (row_right p g)
-  unfolding row_right
-  row-test = record {
-    failed = λ y lt off same. true≢false (sym (eq-eqb _ _ same) ∙ off);
-    held = λ y lt on other. other (eqb-true _ _ on);
-  }
+  abbrev pub rows : Kind TentFault
+  rows = record { test = Row; count = p.size.h; right = row_right p g }
 
-  match-failed : can_be_paired p g ≡ false → FailsTents p g Match
-  match-failed off tree_of is = true≢false (sym (pairs-from p g tree_of grid.each_cell is) ∙ off)
+  abbrev pub match : Kind TentFault
+  match = record { test = λ _. Match; count = 1; right = λ _. can_be_paired p g }
 
-  match-held : can_be_paired p g ≡ true → FailsTents p g Match → ⊥
-  match-held on none = let w = given p g on in none _ (gives-tree p g w.0 grid.each_cell w.1)
+  abbrev pub kinds : List (Kind TentFault)
+  kinds = trees ∷ touch ∷ columns ∷ rows ∷ match ∷ []
 
-  abbrev Holds : TentFault → Type 0
-  Holds test = FailsTents p g test → ⊥
+  module _ (grid : IsGrid (tent_cells p) 2 g) where
+    tree-made : IsMade (FailsTents p g) trees
+    unfolding tree_right
+    tree-made = record {
+      failed = λ c lt off. grind (arith, common_steps, or_parts, not-false, slice_index, cases_eq (slice_index g c) 1, eq-eqb);
+      held = λ c lt on (tent_on, tree_on). grind (arith, common_steps, or_cases, not-true, eqb-true);
+    }
 
-  -- what no test fails passes the test of the whole, and no test fails a solution
-  none-right : NoneFails (FailsTents p g) (tent_tests p) → solves_tents p g ≡ true
-  none-right none =
-      let a = all_split Holds (each_test Tree (tent_cells p)) _ none in
-      let b = all_split Holds (each_test Touch (tent_cells p)) _ a.1 in
-      let c = all_split Holds (each_test Column p.size.w) _ b.1 in
-      let d = all_split Holds (each_test Row p.size.h) _ c.1 in
-      let paired = true_from_ne_false (can_be_paired p g) (λ off. d.1.0 (match-failed off)) in
-      tents-from p g (all_below-from _ _ (right_by _ tree-test a.0)) (all_below-from _ _ (right_by _ touch-test b.0))
-      (all_below-from _ _ (right_by _ column-test c.0)) (all_below-from _ _ (right_by _ row-test d.0)) (sym paired)
+    touch-made : IsMade (FailsTents p g) touch
+    unfolding touch_right
+    touch-made = record {
+      failed = λ c lt off.
+          let parts = and_parts _ _ (not-false _ off) in
+          let w = any_below-some (λ d. touches p.size c d && tent g d) (tent_cells p) parts.1 in
+          let both = and_parts (touches p.size c w.0) (tent g w.0) w.2 in
+          (parts.0, (w.0, w.1, both.1, both.0));
+      held = λ c lt on (tent_on, (d, below, on_d, touched)).
+          let none = not-true _ (rw tent_on at on) in
+          true≢false (sym (any_below-here (λ e. touches p.size c e && tent g e) (tent_cells p) d below (and_from _ _ touched on_d)) ∙ none);
+    }
 
-  pub tents-none : IsTentSolution p g → NoneFails (FailsTents p g) (tent_tests p)
-  tents-none s = AllByRecursion-append Holds _ _
-      (all_each Holds Tree (tent_cells p) (λ c lt (on, tree_on). true≢false (sym tree_on ∙ s.none_on_trees c lt on)))
-      (AllByRecursion-append Holds _ _
-      (all_each Holds Touch (tent_cells p) (λ c lt (on, (d, below, on_d, touched)). true≢false (sym touched ∙ s.none_touch c d lt below on on_d)))
-      (AllByRecursion-append Holds _ _ (all_each Holds Column p.size.w (λ x lt other. other (s.columns x lt)))
-      (AllByRecursion-append Holds _ _ (all_each Holds Row p.size.h (λ y lt other. other (s.rows y lt))) ((λ none. none s.tree_of s.paired), tt))))
+    column-made : IsMade (FailsTents p g) columns
+    unfolding column_right
+    column-made = record { failed = λ x lt off same. true≢false (sym (eq-eqb _ _ same) ∙ off); held = λ x lt on other. other (eqb-true _ _ on) }
 
-  pub tents-from-solution : IsTentSolution p g → solves_tents p g ≡ true
-  tents-from-solution s = none-right (tents-none s)
+    row-made : IsMade (FailsTents p g) rows
+    unfolding row_right
+    row-made = record { failed = λ y lt off same. true≢false (sym (eq-eqb _ _ same) ∙ off); held = λ y lt on other. other (eqb-true _ _ on) }
 
-  pub tents-sound : NoneFails (FailsTents p g) (tent_tests p) → IsTentSolution p g
-  tents-sound none = solution-from-tents p g grid (none-right none)
+    match-made : IsMade (FailsTents p g) match
+    match-made = record {
+      failed = λ k lt off tree_of is. true≢false (sym (pairs-from p g tree_of grid.each_cell is) ∙ off);
+      held = λ k lt on none. let w = given p g on in none _ (gives-tree p g w.0 grid.each_cell w.1);
+    }
 
-  pub tents-known : AllByRecursion (IsKnown (FailsTents p g)) (tent_tests p)
-  tents-known = AllByRecursion-append _ _ _ (known_by _ tree-test) (AllByRecursion-append _ _ _ (known_by _ touch-test)
-      (AllByRecursion-append _ _ _ (known_by _ column-test) (AllByRecursion-append _ _ _ (known_by _ row-test) (match (can_be_paired p g) refl, tt))))
-    where
-      match : (b : Bool) → can_be_paired p g ≡ b → IsKnown (FailsTents p g) Match
-      match true on = inr (match-held on)
-      match false off = inl (match-failed off)
+    pub tents-made : AllByRecursion (IsMade (FailsTents p g)) kinds
+    tents-made = (tree-made, (touch-made, (column-made, (row-made, (match-made, tt)))))
 
-  -- ---- what is found
-  abbrev AllRight : (ℕ → Bool) → ℕ → Type 0
-  AllRight right n = (c : ℕ) → c < n → right c ≡ true
+    none-right : AllByRecursion (AreRight (FailsTents p g)) kinds → solves_tents p g ≡ true
+    none-right (a, (b, (c, (d, (e, _))))) =
+        tents-from p g (all_below-from _ _ a) (all_below-from _ _ b) (all_below-from _ _ c) (all_below-from _ _ d) (sym (e 0 (omega arith)))
 
-  abbrev IsFound : List TentFault → TentFault → Type 0
-  IsFound tests f = IsFirstFailed (FailsTents p g) tests f
+    -- no test fails a solution, and no other grid passes all
+    pub tents-none : IsTentSolution p g → NoneFails (FailsTents p g) (tent_tests p)
+    tents-none s = none_held (FailsTents p g) kinds (
+      (λ c lt (on, tree_on). true≢false (sym tree_on ∙ s.none_on_trees c lt on)),
+      (
+        (λ c lt (on, (d, below, on_d, touched)). true≢false (sym touched ∙ s.none_touch c d lt below on on_d)),
+        ((λ x lt other. other (s.columns x lt)), ((λ y lt other. other (s.rows y lt)), ((λ k lt none. none s.tree_of s.paired), tt))),
+      ),
+    )
 
-  after-trees : (rest : List TentFault) (f : TentFault) → AllRight (tree_right p g) (tent_cells p) → IsFound rest f → IsFound (each_test Tree (tent_cells p) ++ rest) f
-  after-trees rest f on = first_rest _ (each_test Tree (tent_cells p)) rest f (none_by _ tree-test on)
+    pub tents-from-solution : IsTentSolution p g → solves_tents p g ≡ true
+    tents-from-solution s = none-right (right_none (FailsTents p g) kinds tents-made (tents-none s))
 
-  after-touch : (rest : List TentFault) (f : TentFault) → AllRight (touch_right p g) (tent_cells p) → IsFound rest f → IsFound (each_test Touch (tent_cells p) ++ rest) f
-  after-touch rest f on = first_rest _ (each_test Touch (tent_cells p)) rest f (none_by _ touch-test on)
+    pub tents-sound : NoneFails (FailsTents p g) (tent_tests p) → IsTentSolution p g
+    tents-sound none = solution-from-tents p g grid (none-right (right_none (FailsTents p g) kinds tents-made none))
 
-  after-columns : (rest : List TentFault) (f : TentFault) → AllRight (column_right p g) p.size.w → IsFound rest f → IsFound (each_test Column p.size.w ++ rest) f
-  after-columns rest f on = first_rest _ (each_test Column p.size.w) rest f (none_by _ column-test on)
+    pub tents-known : AllByRecursion (IsKnown (FailsTents p g)) (tent_tests p)
+    tents-known = known_tests (FailsTents p g) kinds tents-made
 
-  pub first-tree : (c : ℕ) → c < tent_cells p → tree_right p g c ≡ false → AllRight (tree_right p g) c → IsTentFault p g (Some (Tree c))
-  first-tree c lt off before = first_front _ (each_test Tree (tent_cells p)) _ _ (first_by _ tree-test c lt off before)
-
-  pub first-touch : (c : ℕ) → AllRight (tree_right p g) (tent_cells p) → c < tent_cells p → touch_right p g c ≡ false → AllRight (touch_right p g) c → IsTentFault p g (Some (Touch c))
-  first-touch c trees lt off before = after-trees _ _ trees (first_front _ (each_test Touch (tent_cells p)) _ _ (first_by _ touch-test c lt off before))
-
-  pub first-column : (x : ℕ) → AllRight (tree_right p g) (tent_cells p) → AllRight (touch_right p g) (tent_cells p) → x < p.size.w → column_right p g x ≡ false → AllRight (column_right p g) x → IsTentFault p g (Some (Column x))
-  first-column x trees touch lt off before = after-trees _ _ trees (after-touch _ _ touch (first_front _ (each_test Column p.size.w) _ _ (first_by _ column-test x lt off before)))
-
-  pub first-row : (y : ℕ) → AllRight (tree_right p g) (tent_cells p) → AllRight (touch_right p g) (tent_cells p) → AllRight (column_right p g) p.size.w → y < p.size.h → row_right p g y ≡ false → AllRight (row_right p g) y → IsTentFault p g (Some (Row y))
-  first-row y trees touch columns lt off before = after-trees _ _ trees (after-touch _ _ touch (after-columns _ _ columns (first_front _ (each_test Row p.size.h) _ _ (first_by _ row-test y lt off before))))
-
-  pub first-match : AllRight (tree_right p g) (tent_cells p) → AllRight (touch_right p g) (tent_cells p) → AllRight (column_right p g) p.size.w → AllRight (row_right p g) p.size.h → can_be_paired p g ≡ false → IsTentFault p g (Some Match)
-  first-match trees touch columns rows off = after-trees _ _ trees (after-touch _ _ touch (after-columns _ _ columns (first_rest _ (each_test Row p.size.h) (Match ∷ []) _ (none_by _ row-test rows) (inl (refl, match-failed off)))))
-
-  pub none-found : AllRight (tree_right p g) (tent_cells p) → AllRight (touch_right p g) (tent_cells p) → AllRight (column_right p g) p.size.w → AllRight (row_right p g) p.size.h → true ≡ can_be_paired p g → IsTentFault p g None
-  none-found trees touch columns rows on = solution-from-tents p g grid (tents-from p g (all_below-from _ _ trees) (all_below-from _ _ touch) (all_below-from _ _ columns) (all_below-from _ _ rows) on)
-
-  pub tents-tell : (fault : Option TentFault) (told : Bool) → IsTentFault p g fault → is_some fault ≡ not told → told ≡ solves_tents p g
-  tents-tell fault told is e = none_tells (FailsTents p g) (tent_tests p) tents-none told (solves_tents p g) (solution-from-tents p g grid) tents-from-solution fault is e
+    pub tents-tell : (fault : Option TentFault) (told : Bool) → IsTentFault p g fault → is_some fault ≡ not told → told ≡ solves_tents p g
+    tents-tell fault told is e = none_tells (FailsTents p g) (tent_tests p) tents-none told (solves_tents p g) (solution-from-tents p g grid) tents-from-solution fault is e

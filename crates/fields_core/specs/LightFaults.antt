@@ -1,6 +1,6 @@
 -- What is wrong with a grid of Light Up: the first of these tests that fails, the lowest place of each kind first.
-use Rattle.std.specs.Prelude.{◌≡◌, ◌≢◌, ℕ, true, false, List, ◌++◌, Option, slice_index_or}
-use Rattle.gameid_core.specs.FirstFailed.{IsAnswerOfCheck, each_test}
+use Rattle.std.specs.Prelude.{◌≡◌, ◌≢◌, ℕ, true, false, List, [], ◌∷◌, Option, slice_index_or}
+use Rattle.gameid_core.specs.FirstFailed.{IsAnswerOfCheck, tests_of}
 use Rattle.gameid_core.specs.Puzzles.{Light}
 use Rattle.gameid_core.specs.declared.light_up.cell.LightCell.TheVariants.{Black as black, Numbered}
 use Rattle.fields_core.specs.Light.{light_cells, white, bulb, bulbs_beside}
@@ -19,8 +19,8 @@ FailsLight p g (Dark c) = (white p c ≡ true) × (bulb g c ≡ false) × (SeesB
 
 abbrev pub light_tests : Light → List LightFault
 light_tests p =
-    each_test Black (light_cells p) ++ (each_test Number (light_cells p)
-    ++ (each_test Seen (light_cells p) ++ each_test Dark (light_cells p)))
+    tests_of ((Black, light_cells p) ∷ (Number, light_cells p) ∷ (Seen, light_cells p)
+    ∷ (Dark, light_cells p) ∷ [])
 
 abbrev pub IsLightFault : Light → List ℕ → Option LightFault → Type 0
 IsLightFault p g fault =

@@ -1,6 +1,6 @@
 -- What is wrong with a grid of Tents: the first of these tests that fails, the lowest place, column or row of each kind first.
-use Rattle.std.specs.Prelude.{◌≡◌, ◌≢◌, ℕ, ◌+◌, ◌<◌, true, List, [], ◌∷◌, ◌++◌, Option, slice_index}
-use Rattle.gameid_core.specs.FirstFailed.{IsAnswerOfCheck, each_test}
+use Rattle.std.specs.Prelude.{◌≡◌, ◌≢◌, ℕ, ◌+◌, ◌<◌, true, List, [], ◌∷◌, Option, slice_index}
+use Rattle.gameid_core.specs.FirstFailed.{IsAnswerOfCheck, tests_of}
 use Rattle.gameid_core.specs.Puzzles.{Tents}
 use Rattle.fields_core.specs.Tents.{tent_cells, tree, tent, touches, tents_in_column, tents_in_row}
 use Rattle.fields_core.specs.TentSolutions.{IsPairedBy, IsTentSolution}
@@ -20,8 +20,8 @@ FailsTents p g Match = (tree_of : ℕ → ℕ) → IsPairedBy p g tree_of → �
 
 abbrev pub tent_tests : Tents → List TentFault
 tent_tests p =
-    each_test Tree (tent_cells p) ++ (each_test Touch (tent_cells p)
-    ++ (each_test Column p.size.w ++ (each_test Row p.size.h ++ Match ∷ [])))
+    tests_of ((Tree, tent_cells p) ∷ (Touch, tent_cells p) ∷ (Column, p.size.w) ∷ (Row, p.size.h)
+    ∷ ((λ _. Match), 1) ∷ [])
 
 abbrev pub IsTentFault : Tents → List ℕ → Option TentFault → Type 0
 IsTentFault p g fault =

@@ -32,7 +32,7 @@ pub use Rattle.gameid_core.specs.BlackRuns.{run_of, runs}
 unfoldable pub use Rattle.gameid_core.specs.BlackRuns.{runs_after}
 pub use Rattle.gameid_core.specs.Cells.{fill_end, fill_step, is_letter}
 unfoldable pub use Rattle.gameid_core.specs.Cells.{letters}
-pub use Rattle.gameid_core.specs.FirstFailed.{IsAnswerOfCheck, IsFirstFailed, NoneFails, each_test}
+pub use Rattle.gameid_core.specs.FirstFailed.{IsAnswerOfCheck, IsFirstFailed, NoneFails}
 pub use Rattle.gameid_core.specs.FirstFault.{FirstFault, stop}
 pub use Rattle.gameid_core.specs.FirstTokens.{GivesRun, TakesNumber, TakesRun}
 pub use Rattle.gameid_core.specs.GridReading.{AgreeUpTo, FitUpTo, Follows, IsAsShown, IsPrinted, IsReadOf, digit_of, first_digit, hides_nothing}

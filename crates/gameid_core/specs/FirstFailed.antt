@@ -1,5 +1,5 @@
 -- Tests in their order, and the first of them that fails. A test is named by the fault that it finds.
-use Rattle.std.specs.Prelude.{◌≡◌, ◌⊎◌, ℕ, List, [], ◌∷◌, map, Option, Some, None}
+use Rattle.std.specs.Prelude.{◌≡◌, ◌⊎◌, ℕ, List, [], ◌∷◌, ◌++◌, map, Option, Some, None}
 use Rattle.std.specs.List.{AllByRecursion, range_with_len}
 
 -- of these tests the first that fails
@@ -12,9 +12,10 @@ IsFirstFailed fails (test ∷ tests) fault =
 abbrev pub NoneFails : {F : Type 0} → (F → Type 0) → List F → Type 0
 NoneFails fails tests = AllByRecursion (λ test. fails test → ⊥) tests
 
--- the tests of one kind, by number
-abbrev pub each_test : {F : Type 0} → (ℕ → F) → ℕ → List F
-each_test kind n = map kind (range_with_len 0 n)
+-- the tests of these kinds, so many of each: kind by kind, and of one kind from 0 on
+abbrev pub tests_of : {F : Type 0} → List ((ℕ → F) × ℕ) → List F
+tests_of [] = []
+tests_of (kind ∷ kinds) = map kind.0 (range_with_len 0 kind.1) ++ tests_of kinds
 
 -- what a check answers: nothing of a solution, and else the first test that fails
 abbrev pub IsAnswerOfCheck : {F : Type 0} → Type 0 → (F → Type 0) → List F → Option F → Type 0

@@ -1,6 +1,6 @@
 -- Solo: what the text of a game ID spells, its first fault, the one written text, and printed grids.
 use Rattle.grid_core.specs.Extent.{Extent}
-use Rattle.std.specs.Prelude.{◌≡◌, ℕ, zero, suc, ◌+◌, ◌-◌, ◌*◌, ◌≤◌, Bool, true, false, ◌&&◌, List, [], ◌∷◌, ◌++◌, length, replicate, slice_index, Result, Ok, Err, nat_lt, nat_le, ◌==◌, if◌then◌else◌, decimal, ◌%◌, codes}
+use Rattle.std.specs.Prelude.{◌≡◌, ℕ, zero, suc, ◌+◌, ◌-◌, ◌*◌, ◌≤◌, Bool, true, false, ◌&&◌, List, [], ◌∷◌, ◌++◌, length, replicate, slice_index, Result, Ok, Err, nat_lt, ◌==◌, if◌then◌else◌, decimal, ◌%◌, codes}
 use Rattle.std.specs.List.{AllByRecursion, flat_map}
 use Rattle.gameid_core.specs.declared.id.fault.IdFault.{IdFault}
 use Rattle.gameid_core.specs.declared.id.fault.IdFault.TheVariants.{BadByte, NumberRange}

@@ -13,7 +13,7 @@ use Rattle.solo_core.specs.Faults.{FailsSolo, IsSoloFault, Repeats, fault_of, gi
 use Rattle.std.specs.List.{AllByRecursion}
 use Rattle.std.proofs.lemmas.List.Elements.{All-map, recursion_from_All}
 use Rattle.gameid_core.specs.FirstFailed.{IsFirstFailed, IsFirstOf, NoneFails}
-use Rattle.gameid_core.proofs.FirstFailed.{IsKnown, IsTestedBy, all_each, all_split, first_at, first_each, first_front, first_rest, known_by, none_tells, right_by}
+use Rattle.gameid_core.proofs.FirstFailed.{Holds, IsKnown, IsMade, Kind, all_split, each, first_at, first_each, first_front, first_rest, known_tests, none_held, none_tells, right_none}
 use Rattle.gameid_core.proofs.Lists.{AllByRecursion-append, all_at}
 
 -- where the numbers repeat, two entries are equal
@@ -108,28 +108,31 @@ module _ (p : Solo) (ok : IsSolo p) (g : List ℕ) where
   fault_holds (Block b) none fails = none fails
   fault_holds (Diagonal d) none fails = none fails
 
-  abbrev Holds : SoloFault → Type 0
-  Holds test = FailsSolo p g test → ⊥
+  abbrev Holding : SoloFault → Type 0
+  Holding test = Holds (FailsSolo p g) test
 
   -- what is so of each house is so of its test
   house_by : (P : SoloFault → Type 0) → ((h : ℕ) (d : NamedHouse) → h < length (houses_of p) → P (fault_of (get_or (houses_of p) h d))) → AllByRecursion P (house_tests p)
   house_by P each = recursion_from_All P (house_tests p) (All-map P fault_of (houses_of p) each)
 
-  test_of_house : AllByRecursion Holds (house_tests p) → (h : ℕ) (d : NamedHouse) → h < length (houses_of p) → Holds (fault_of (get_or (houses_of p) h d))
-  test_of_house none h d lt = subst Holds (get_or-map fault_of (houses_of p) h d (fault_of d) lt) (all_at Holds (fault_of d) (house_tests p) h none (rw length-map lt))
+  test_of_house : AllByRecursion Holding (house_tests p) → (h : ℕ) (d : NamedHouse) → h < length (houses_of p) → Holding (fault_of (get_or (houses_of p) h d))
+  test_of_house none h d lt = subst Holding (get_or-map fault_of (houses_of p) h d (fault_of d) lt) (all_at Holding (fault_of d) (house_tests p) h none (rw length-map lt))
 
-  given_test : IsTestedBy (FailsSolo p g) Given (solo_cells p) (given_stands p g)
-  given_test = record { failed = λ c lt off. grind (arith, nat_tests); held = λ c lt on (some, other). other (given_from_test p g c on some) }
+  abbrev givens : Kind SoloFault
+  givens = record { test = Given; count = solo_cells p; right = given_stands p g }
+
+  made : AllByRecursion (IsMade (FailsSolo p g)) (givens ∷ [])
+  made = (record { failed = λ c lt off. grind (arith, nat_tests); held = λ c lt on (some, other). other (given_from_test p g c on some) }, tt)
 
   abbrev no_repeat_in : NamedHouse → Bool
   no_repeat_in house = no_repeat (numbers_of p g house)
 
   -- ---- what is found
-  pub given_first : (place : ℕ) → place < solo_cells p → FailsSolo p g (Given place) → ((q : ℕ) → q < place → Holds (Given q)) → IsFirstOf (FailsSolo p g) (given_tests p) (Some (Given place))
-  given_first place lt failed before = first_each (FailsSolo p g) Given (solo_cells p) place lt failed before
+  pub given_first : (place : ℕ) → place < solo_cells p → FailsSolo p g (Given place) → ((q : ℕ) → q < place → Holding (Given q)) → IsFirstOf (FailsSolo p g) (given_tests p) (Some (Given place))
+  given_first place lt failed before = first_front (FailsSolo p g) (each givens) [] (Given place) (first_each (FailsSolo p g) givens place lt failed before)
 
-  pub givens_stand : ((q : ℕ) → q < solo_cells p → Holds (Given q)) → IsFirstOf (FailsSolo p g) (given_tests p) None
-  givens_stand each = all_each Holds Given (solo_cells p) each
+  pub givens_stand : ((q : ℕ) → q < solo_cells p → Holding (Given q)) → IsFirstOf (FailsSolo p g) (given_tests p) None
+  givens_stand held = none_held (FailsSolo p g) (givens ∷ []) (held, tt)
 
   pub house_first : (h : ℕ) (house : NamedHouse) → h < length (houses_of p) → house ≡ get_or (houses_of p) h house → no_repeat_in house ≡ false
       → ((i : ℕ) (d : NamedHouse) → i < h → no_repeat_in (get_or (houses_of p) i d) ≡ true) → IsFirstOf (FailsSolo p g) (house_tests p) (Some (fault_of house))
@@ -143,24 +146,24 @@ module _ (p : Solo) (ok : IsSolo p) (g : List ℕ) where
       (subst (FailsSolo p g) (at i (omega arith)) fails)))
 
   pub houses_differ : ((h : ℕ) (d : NamedHouse) → h < length (houses_of p) → no_repeat_in (get_or (houses_of p) h d) ≡ true) → IsFirstOf (FailsSolo p g) (house_tests p) None
-  houses_differ fine = house_by Holds (λ h d lt. fault_holds (get_or (houses_of p) h d) (none_repeats (get_or (houses_of p) h d) (all_houses p h d lt) (fine h d lt)))
+  houses_differ fine = house_by Holding (λ h d lt. fault_holds (get_or (houses_of p) h d) (none_repeats (get_or (houses_of p) h d) (all_houses p h d lt) (fine h d lt)))
 
   -- ---- the grids that no test fails are the solutions
   pub solo_sound : IsGrid (solo_cells p) (solo_n p) g → NoneFails (FailsSolo p g) (given_tests p ++ house_tests p) → IsSoloSolution p g
   solo_sound grid none =
-      let both = all_split Holds (given_tests p) (house_tests p) none in
+      let both = all_split Holding (given_tests p) (house_tests p) none in
       record {
         grid = grid;
-        givens = λ place lt. given_from_test p g place (right_by _ given_test both.0 place lt);
-        different = λ house is j k lj lk ne a b same. each_house p (λ h. Holds (fault_of h)) (test_of_house both.1) house is (fault_fails house (j, k, lj, lk, ne, a, b, same));
+        givens = λ place lt. given_from_test p g place ((right_none (FailsSolo p g) (givens ∷ []) made both.0).0 place lt);
+        different = λ house is j k lj lk ne a b same. each_house p (λ h. Holding (fault_of h)) (test_of_house both.1) house is (fault_fails house (j, k, lj, lk, ne, a, b, same));
       }
 
   pub solo_none : IsSoloSolution p g → NoneFails (FailsSolo p g) (given_tests p ++ house_tests p)
-  solo_none s = AllByRecursion-append Holds (given_tests p) (house_tests p) (all_each Holds Given (solo_cells p) (λ place lt (some, other). other (s.givens place lt some)))
-      (house_by Holds (λ h d lt. fault_holds (get_or (houses_of p) h d) (λ (j, k, lj, lk, ne, a, b, same). s.different (get_or (houses_of p) h d) (all_houses p h d lt) j k lj lk ne a b same)))
+  solo_none s = AllByRecursion-append Holding (given_tests p) (house_tests p) (givens_stand (λ place lt (some, other). other (s.givens place lt some)))
+      (house_by Holding (λ h d lt. fault_holds (get_or (houses_of p) h d) (λ (j, k, lj, lk, ne, a, b, same). s.different (get_or (houses_of p) h d) (all_houses p h d lt) j k lj lk ne a b same)))
 
   pub solo_known : AllByRecursion (IsKnown (FailsSolo p g)) (given_tests p ++ house_tests p)
-  solo_known = AllByRecursion-append _ (given_tests p) (house_tests p) (known_by _ given_test)
+  solo_known = AllByRecursion-append _ (given_tests p) (house_tests p) (known_tests (FailsSolo p g) (givens ∷ []) made)
       (house_by (IsKnown (FailsSolo p g)) (λ h d lt. by (get_or (houses_of p) h d) (all_houses p h d lt) (no_repeat_in (get_or (houses_of p) h d)) refl))
     where
       by : (house : NamedHouse) → IsHouseOf p house → (b : Bool) → no_repeat_in house ≡ b → IsKnown (FailsSolo p g) (fault_of house)
@@ -173,7 +176,7 @@ module _ (p : Solo) (ok : IsSolo p) (g : List ℕ) where
 
   pub house_after : IsGrid (solo_cells p) (solo_n p) g → IsFirstOf (FailsSolo p g) (given_tests p) None → (fault : Option SoloFault) → IsFirstOf (FailsSolo p g) (house_tests p) fault
       → IsSoloFault p g fault
-  house_after grid stand None none = solo_sound grid (AllByRecursion-append Holds (given_tests p) (house_tests p) stand none)
+  house_after grid stand None none = solo_sound grid (AllByRecursion-append Holding (given_tests p) (house_tests p) stand none)
   house_after grid stand (Some fault) first = first_rest (FailsSolo p g) (given_tests p) (house_tests p) fault stand first
 
   pub solo_tells : IsGrid (solo_cells p) (solo_n p) g → (fault : Option SoloFault) (told : Bool) → IsSoloFault p g fault → is_some fault ≡ not told → told ≡ is_solo_solution p g

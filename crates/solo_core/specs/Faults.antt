@@ -1,7 +1,7 @@
 -- What is wrong with a grid of Solo: the first of these tests that fails, the givens by place before the houses in their
 -- order.
-use Rattle.std.specs.Prelude.{◌≡◌, ◌≢◌, ℕ, ◌+◌, ◌<◌, ◌≤◌, true, List, ◌++◌, map, slice_index, Option}
-use Rattle.gameid_core.specs.FirstFailed.{IsAnswerOfCheck, each_test}
+use Rattle.std.specs.Prelude.{◌≡◌, ◌≢◌, ℕ, ◌+◌, ◌<◌, ◌≤◌, true, List, [], ◌∷◌, ◌++◌, map, slice_index, Option}
+use Rattle.gameid_core.specs.FirstFailed.{IsAnswerOfCheck, tests_of}
 use Rattle.solo_core.specs.Common.{Solo, solo_cells, houses_of, lies_in, IsSoloSolution, NamedHouse, Row, Column, Block, Diagonal}
 use Rattle.solo_core.specs.declared.fault.SoloFault.{SoloFault}
 use Rattle.solo_core.specs.declared.fault.SoloFault.TheVariants.{Given, Row as BadRow, Column as BadColumn, Block as BadBlock, Diagonal as BadDiagonal}
@@ -29,7 +29,7 @@ fault_of (Block b) = BadBlock b
 fault_of (Diagonal d) = BadDiagonal d
 
 abbrev pub given_tests : Solo → List SoloFault
-given_tests p = each_test Given (solo_cells p)
+given_tests p = tests_of ((Given, solo_cells p) ∷ [])
 
 abbrev pub house_tests : Solo → List SoloFault
 house_tests p = map fault_of (houses_of p)

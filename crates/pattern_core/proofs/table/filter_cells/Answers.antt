@@ -4,20 +4,20 @@ use Rattle.std.proofs.lemmas.List.{get_or-set_other, set-get_or}
 use Rattle.grid_core.proofs.CandidateLemmas.{any_below-same}
 use Rattle.pattern_core.specs.Track.{along, led}
 use Rattle.pattern_core.proofs.TableSteps.{kept_cell, kept_none, reached_first, reached_next, row_next}
-use Rattle.pattern_core.proofs.table.keep_cells.Goals as goal
+use Rattle.pattern_core.proofs.table.filter_cells.Goals as goal
 
 pub loop-at-init : goal.loop-at-init
 loop-at-init g c = (
   kept_none _ c.args.sets.now,
-  reached_first g.P.Places.room _ c.args.sets.now (g.P.Places.has c.first-reached.result) c.requires.below.first c.first-reached.ensures,
+  reached_first g.P.Slots.room _ c.args.sets.now (g.P.Slots.has c.first-reached.result) c.requires.below.first c.first-reached.ensures,
   λ k le. refl,
   λ e. refl,
 )
 
 pub loop-at-preserved : goal.loop-at-preserved
 loop-at-preserved g c =
-    let has = g.P.Places.has in
-    let room = g.P.Places.room in
+    let has = g.P.Slots.has in
+    let room = g.P.Slots.room in
     let t = along has c.args.moves.now.steps in
     let sets = c.args.sets.now in
     let at = c.loop-at.at in

@@ -1,64 +1,64 @@
-//! Sets of places along a clue, one bit of a word for each.
-#![tactic(auto, using(crate::proofs::Words::place_laws))]
+//! Sets of slots, the places along a spelled clue, one bit of a word for each.
+#![tactic(auto, using(crate::proofs::Words::slot_laws))]
 
 ghost use Rattle.std.specs.Prelude.{◌≡◌, ℕ, suc, ◌%◌, ◌<◌, ◌≤◌, Bool, false, ◌&&◌, ◌||◌, ◌==◌, slice_index};
 ghost use Rattle.grid_core.specs.Candidates.{any_below};
 ghost use Rattle.engine_core.specs.Sets.{has_bit};
 ghost use Rattle.pattern_core.specs.Track.{by_set, one_on};
 
-/// A set of places.
-pub(crate) trait Places: Copy + Drop {
-    /// How many places there are.
+/// A set of slots.
+pub(crate) trait Slots: Copy + Drop {
+    /// How many slots there are.
     ghost room: { ℕ };
 
-    /// Whether a set has a place.
+    /// Whether a set has a slot.
     ghost has: { Self → ℕ → Bool };
 
-    /// Sets of places by what a cell may be.
+    /// Sets of slots by what a cell may be.
     type Masks: Copy;
 
-    /// Whether the set for a cell with these values has a place.
+    /// Whether the set for a cell with these values has a slot.
     ghost has_by: { Self.Masks → ℕ → ℕ → Bool };
 
-    /// No place.
+    /// No slot.
     fn none() -> Self
         ensures { (p : ℕ) → has result p ≡ false };
 
-    /// The first place alone.
+    /// The first slot alone.
     fn first() -> Self
         ensures { (p : ℕ) → has result p ≡ (p == 0) };
 
-    /// The places that both have.
+    /// The slots that both have.
     fn both(self, other: Self) -> Self
         ensures { (p : ℕ) → has result p ≡ (has self p && has other p) };
 
-    /// The places that one of the two has.
+    /// The slots that one of the two has.
     fn either(self, other: Self) -> Self
         ensures { (p : ℕ) → has result p ≡ (has self p || has other p) };
 
-    /// Each place one further on, where there is one.
+    /// Each slot one further on, where there is one.
     fn on(self) -> Self
         ensures within { (p : ℕ) → p < room → has result p ≡ one_on (has self) p }
         ensures past { (p : ℕ) → room ≤ p → has result p ≡ false };
 
-    /// Each place but the first, one back.
+    /// Each slot but the first, one back.
     fn back(self) -> Self
         ensures { (p : ℕ) → has result p ≡ has self (suc p) };
 
-    /// Whether there is a place.
+    /// Whether there is a slot.
     fn is_some(self) -> bool
         ensures { result ≡ any_below (has self) room };
 
-    /// The places for a cell that may be white, those for one that may be black, and all of them for one that may be both.
+    /// The slots for a cell that may be white, those for one that may be black, and all of them for one that may be both.
     fn masks(white: Self, black: Self) -> Self::Masks
         ensures { (set p : ℕ) → has_by result set p ≡ by_set (has white) (has black) set p };
 
-    /// The places for a cell with this set.
+    /// The slots for a cell with this set.
     fn mask(masks: &Self::Masks, set: u32) -> Self
         ensures { (p : ℕ) → has result p ≡ has_by masks.now set p };
 }
 
-impl Places for u64 {
+impl Slots for u64 {
     ghost room = { 64 };
 
     ghost has = { has_bit };
@@ -104,7 +104,7 @@ impl Places for u64 {
     }
 }
 
-impl Places for u128 {
+impl Slots for u128 {
     ghost room = { 128 };
 
     ghost has = { has_bit };

@@ -1,6 +1,6 @@
 use Rattle.std.proofs.Common.{◌*◌, arith}
 use Rattle.pattern_core.proofs.Words.{bits_on, no_high}
-use Rattle.pattern_core.proofs.places.U64Places.on.Goals as goal
+use Rattle.pattern_core.proofs.slots.U64Slots.on.Goals as goal
 
 pub returns-clause-within : goal.returns-clause-within
 returns-clause-within c = bits_on 64 c.args.self

@@ -6,13 +6,13 @@ ghost use Rattle.grid_core.specs.Lines.{lines_of, line_numbers};
 ghost use Rattle.pattern_core.specs.Lines.{has_runs};
 ghost use Rattle.pattern_core.specs.Track.{AreLed, set_for};
 
-use crate::places::Places;
+use crate::slots::Slots;
 use crate::table::ways_of;
-use crate::track::{SpelledClue, Steps};
+use crate::track::{SpelledClue, TrackSlots};
 use grid_core::{Grid, Size, line_len, line_value};
 
-/// Which places are reached by a cell with this number, by those that are reached before it.
-fn led_on<P: Places>(steps: Steps<P>, number: u8, reached: P) -> P
+/// Which slots are reached by a cell with this number, by those that are reached before it.
+fn led_on<P: Slots>(steps: TrackSlots<P>, number: u8, reached: P) -> P
     ensures { AreLed P.room P.has steps (set_for number) reached result }
 {
     let ways = ways_of(steps, reached);
@@ -20,12 +20,7 @@ fn led_on<P: Places>(steps: Steps<P>, number: u8, reached: P) -> P
 }
 
 /// Whether the line's runs are the clue: whether its cells reach an end of the clue.
-pub(crate) fn follows<P: Places>(
-    size: Size,
-    grid: &Grid,
-    line: usize,
-    clue: &SpelledClue<P>,
-) -> bool
+pub(crate) fn meets<P: Slots>(size: Size, grid: &Grid, line: usize, clue: &SpelledClue<P>) -> bool
     requires grid { IsGrid (size.w * size.h) 2 grid.now }
     requires line { line < lines_of size }
     ensures { result ≡ has_runs clue.now (line_numbers size grid.now line) }

@@ -1,6 +1,6 @@
 use Rattle.std.proofs.Common.{◌*◌, arith}
 use Rattle.pattern_core.proofs.Words.{bits_on, no_high}
-use Rattle.pattern_core.proofs.places.U128Places.on.Goals as goal
+use Rattle.pattern_core.proofs.slots.U128Slots.on.Goals as goal
 
 pub returns-clause-within : goal.returns-clause-within
 returns-clause-within c = bits_on 128 c.args.self
