@@ -12,7 +12,7 @@ tell_by_visits-requires-clause-named g c = named c.args.puzzle.now _ _ c.in_ok-c
 
 pub tell_by_visits-requires-clause-accepted : goal.tell_by_visits-requires-clause-accepted
 tell_by_visits-requires-clause-accepted g c =
-    let ok = subst IsSolo c.in_ok-crossings.ensures.copied c.in_ok-crossings.crossings.is_solo in
+    let ok = c.in_ok-crossings.ensures.known in
     accepted_by (crossings_rules c.args.puzzle.now) _ (IsSoloSolution c.args.puzzle.now) c.in_ok-crossings.ensures.rules (solo_accepted c.args.puzzle.now ok _ _)
 
 pub returns-clause-told : goal.returns-clause-told

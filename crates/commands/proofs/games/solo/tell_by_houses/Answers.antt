@@ -18,7 +18,7 @@ tell_with_visits-requires-clause-named g c = named c.args.puzzle.now _ _ c.in_ok
 pub returns-then-settles-clause-told : goal.returns-then-settles-clause-told
 returns-then-settles-clause-told g c =
     let p = c.args.puzzle.now in
-    let ok = subst IsSolo c.in_ok-houses.ensures.copied c.in_ok-houses.houses.is_solo in
+    let ok = c.in_ok-houses.ensures.known in
     told_first (played Solo).game p c.args.options g.O.Sink.takes _ _ _ _ Houses (houses_rules p) (after_houses p) c.in_ok-houses.ensures.rules
     (sym c.if-settles.ensures.settled) (solo_accepted p ok _ _) (c.if-settles.ensures.one refl) c.tell_with_visits.ensures.told
 

@@ -19,7 +19,7 @@ tell_with_visits-requires-clause-named g c = named c.args.self.now _ _ c.in_ok-s
 pub returns-then-settles-clause-told : goal.returns-then-settles-clause-told
 returns-then-settles-clause-told g c =
     let p = c.args.self.now in
-    let ok = subst IsSolo c.in_ok-singles.ensures.copied c.in_ok-singles.singles.is_solo in
+    let ok = c.in_ok-singles.ensures.known in
     told_first (played Solo).game p c.args.options g.O.Sink.takes _ _ _ _ Singles (singles_rules p) (after_singles p) c.in_ok-singles.ensures.rules
     (sym c.if-settles.ensures.settled) (solo_accepted p ok _ _) (c.if-settles.ensures.one refl) c.tell_with_visits.ensures.told
 
