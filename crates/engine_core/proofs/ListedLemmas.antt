@@ -23,7 +23,7 @@ scopes-fit p laws are h lt =
     } in
     rw (are.each h) at is
 
-module _ (p : RuleSystem) {scopes : List (List ℕ)} {table : Table} (listed : table ≡ table_of p scopes) (are : AreScopesOf p scopes) where
+module _ {p : RuleSystem} {scopes : List (List ℕ)} {table : Table} (listed : table ≡ table_of p scopes) (are : AreScopesOf p scopes) where
   pub table-scope : (h : ℕ) → scope_of table.scopes h ≡ p.scope h
   table-scope h = rw listed (sym (are.each h))
 
@@ -38,38 +38,38 @@ module _ (p : RuleSystem) {scopes : List (List ℕ)} {table : Table} (listed : t
   table-longest = rw (fun_ext table-scope, table-houses) refl
 
   -- what it lists as the houses of a place are those that have it, ascending
-  pub housed-at : (place k : ℕ) (at : List ℕ) → AreHousesAt table.scopes place at → k < length at
+  pub housed-at : (place : ℕ) {k : ℕ} (at : List ℕ) → AreHousesAt table.scopes place at → k < length at
       → (slice_index at k < p.houses) × (has_place (p.scope (slice_index at k)) place ≡ true) × (count_below (λ h. has_place (p.scope h) place) (slice_index at k) ≡ k)
-  housed-at place k at houses lt = table-says place
+  housed-at place {k} at houses lt = table-says place
       (λ test n. (slice_index at k < n) × (test (slice_index at k) ≡ true) × (count_below test (slice_index at k) ≡ k)) (nth-at table.scopes place k at houses lt)
 
   pub housed-all : (place : ℕ) (at : List ℕ) → AreHousesAt table.scopes place at → count_below (λ h. has_place (p.scope h) place) p.houses ≡ length at
   housed-all place at houses = table-says place (λ test n. count_below test n ≡ length at) (sym houses.as_many)
 
   -- ---- the places of a house
-  module _ (h : ℕ) (lt : h < p.houses) (places : List ℕ) (is : places ≡ scope_of table.scopes h) where
+  module _ {h : ℕ} (lt : h < p.houses) {places : List ℕ} (is : places ≡ scope_of table.scopes h) where
     pub places-are : places ≡ p.scope h
     places-are = is ∙ table-scope h
 
-    pub places-in : IsLawful p → (b : Layout) → IsBoardOf p b → (k : ℕ) → k < length places → slice_index places k < cells_of b
-    places-in laws b board k lk = rw (places-are, board.same_cells) (scope-in p laws h k lt (rw places-are at lk))
+    pub places-in : IsLawful p → {b : Layout} → IsBoardOf p b → (k : ℕ) → k < length places → slice_index places k < cells_of b
+    places-in laws board k lk = rw (places-are, board.same_cells) (scope-in laws k lt (rw places-are at lk))
 
-    pub places-fit : (room : ℕ) → longest p.scope p.houses ≤ room → length places ≤ room
-    places-fit room most = rw places-are (let le = scope_le-longest p.scope p.houses h lt in omega arith)
+    pub places-fit : {room : ℕ} → longest p.scope p.houses ≤ room → length places ≤ room
+    places-fit most = rw places-are (let le = scope_le-longest p.scope p.houses h lt in omega arith)
 
     -- what was read of a board, at the head of a longer list
-    pub places-read : (b : Layout) (all sets : List ℕ) → IsBoardOf p b → length (p.scope h) ≤ length all → length sets ≡ length (take (length places) all)
+    pub places-read : {b : Layout} (all sets : List ℕ) → IsBoardOf p b → length (p.scope h) ≤ length all → length sets ≡ length (take (length places) all)
         → ((k : ℕ) → k < length places → IsBitsOf (has b (slice_index places k)) b.values (slice_index sets k)) → AreSetsOf p h (has b) sets
-    places-read b all sets board room long bits = record {
+    places-read {b} all sets board room long bits = record {
       as_many = let same = ap length places-are in omega (arith, length-take {A = ℕ});
       bits = λ k lk. rw places-are at (bits-of_values b p.values places sets board.same_values bits k (rw places-are lk));
     }
 
 -- the board that is left where the cells of a house keep what is kept of their sets
-pub kept-after : (p : RuleSystem) (laws : IsLawful p) (h : ℕ) (K : Candidates) (kept : List ℕ) → h < p.houses → IsWithin p.cells p.values K → IsKept p h K true kept
+pub kept-after : (p : RuleSystem) (laws : IsLawful p) {h : ℕ} {K : Candidates} {kept : List ℕ} → h < p.houses → IsWithin p.cells p.values K → IsKept p h K true kept
     → kept_in (p.scope h) kept (length (p.scope h)) K ≡ after p h K
 unfolding kept_in strikes_at after
-kept-after p laws h K kept lth within is = fun_ext λ c. fun_ext λ v. elim (cases_Bool (K c v)) [
+kept-after p laws {h} {K} {kept = kept} lth within is = fun_ext λ c. fun_ext λ v. elim (cases_Bool (K c v)) [
   | inr off ↦ rw off refl
   | inl on ↦ ap (λ b. K c v && not b) (elim (cases_Bool (has_place (p.scope h) c)) [
     | inr out ↦ false_from_ne_true _ (λ struck. true≢false (sym (strikes_at-in_scope p.values (p.scope h) drops K c v struck) ∙ out))

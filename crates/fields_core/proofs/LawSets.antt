@@ -2,14 +2,14 @@
 use Rattle.fields_core.proofs.CountListLemmas.{begun-more, beside-fits, begun-none, begun-same, below-more, below-none}
 use Rattle.fields_core.proofs.CountTallies.{sets-first, sets-next, sets-all}
 use Rattle.fields_core.proofs.HouseLists.{column-after, column-black, column-edge, row-after, row-black, row-edge, step-keep, step-none, step-skip}
-use Rattle.fields_core.proofs.LightCounting.{light-counting}
+use Rattle.fields_core.proofs.LightCounting.{light-counting, light-lawful}
 use Rattle.fields_core.proofs.LightLines.{cell-at, white-at}
 use Rattle.fields_core.proofs.LightRuleLemmas.{light-tells, rule-from-test, test-from-rule}
 use Rattle.fields_core.proofs.LightSeen.{black-unseen, seen-in-column, seen-in-row}
 use Rattle.fields_core.proofs.LightSight.{count-bulb, count-dark, count-edge, count-start, some-column}
 use Rattle.fields_core.proofs.RuleLemmas.{same-shape, start-all, start-blocked}
 use Rattle.fields_core.proofs.RunLemmas.{column-made, few-cells, row-made, run-long, run-white}
-use Rattle.fields_core.proofs.TentCounting.{tent-counting}
+use Rattle.fields_core.proofs.TentCounting.{tent-counting, tent-lawful}
 use Rattle.fields_core.proofs.TentLines.{line-all, line-more, line-skip, line-start}
 use Rattle.fields_core.proofs.TentNext.{barred-alone, barred-tree, next-joined, next-none, passed-bare, passed-early, passed-edge, passed-start, tree-found, treeless-all}
 use Rattle.fields_core.proofs.TentNumbers.{count-none, listed-all, listed-skip}
@@ -23,7 +23,7 @@ pub ruleset count_rules_laws = (start-blocked, same-shape, start-all)
 
 pub ruleset house_list_laws = (below-none, below-more, append_assoc, append-nil, map-append)
 
-pub ruleset laws_laws = (rule-from-test, test-from-rule, solution-from-tents, tents-from-solution)
+pub ruleset laws_laws = (light-lawful, tent-lawful, rule-from-test, test-from-rule, solution-from-tents, tents-from-solution)
 
 pub ruleset light_cells_laws = (white-at)
 

@@ -57,7 +57,7 @@ pub use Rattle.fields_core.specs.Light.{bulb, bulbs_beside, solves_lights, light
 unfoldable pub use Rattle.fields_core.specs.Light.{black_right, bulb_right, joined_in_column, joined_in_row, lit_right, number_right, sees, sees_bulb}
 unfoldable pub use Rattle.fields_core.specs.Light.{white}
 pub use Rattle.fields_core.specs.LightHouses.{light_rules}
-pub use Rattle.fields_core.specs.LightLaws.{light-lawful}
+pub use Rattle.fields_core.proofs.LightCounting.{light-lawful}
 pub use Rattle.fields_core.specs.LightSolutions.{IsLightSolution}
 pub use Rattle.fields_core.specs.TentHouses.{tent_rules}
 pub use Rattle.fields_core.specs.TentSolutions.{IsTentSolution}

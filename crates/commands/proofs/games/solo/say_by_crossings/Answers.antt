@@ -11,7 +11,7 @@ say_by-requires-clause-named g c = λ queue. named c.args.puzzle.now _ _ c.in_ok
 
 pub say_by-requires-clause-accepted : goal.say_by-requires-clause-accepted
 say_by-requires-clause-accepted g c =
-    let ok = subst IsSolo c.in_ok-crossings.ensures.copied c.in_ok-crossings.crossings.is_solo in
+    let ok = c.in_ok-crossings.ensures.known in
     accepted_by (crossings_rules c.args.puzzle.now) _ (IsSoloSolution c.args.puzzle.now) c.in_ok-crossings.ensures.rules (solo_accepted c.args.puzzle.now ok _ _)
 
 pub returns-clause-answer : goal.returns-clause-answer

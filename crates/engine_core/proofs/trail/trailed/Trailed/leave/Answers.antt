@@ -19,7 +19,7 @@ index_mut-requires g c =
 pub overflow_add-self : goal.overflow_add-self
 overflow_add-self g c =
     let v = c.self.inside.changes in
-    omega (arith, trail-len _ _ _ _ _ c.self.invariant, v.ok, v.small)
+    omega (arith, trail-len c.self.invariant, v.ok, v.small)
 
 pub change-requires : goal.change-requires
 change-requires g c = record { board = _; changed = _; is_so = rw (← c.self.view_is) at c.requires.follows; change = (noted g (goal.at.change-requires g c).After-retain).change }

@@ -1,6 +1,0 @@
-use Rattle.fields_core.specs.CountLaws.{count-lawful}
-use Rattle.fields_core.proofs.TentCounting.{tent-counting}
-use Rattle.fields_core.proofs.laws.rules_of_tents_are_lawful.Goals as goal
-
-pub returns : goal.returns
-returns c = λ p is. count-lawful _ _ _ _ (tent-counting p is)
