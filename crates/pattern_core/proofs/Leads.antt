@@ -78,7 +78,7 @@ module _ (t : Track) (set : ℕ) (sets : List Set) where
 
 -- ---- all places that were reached
 -- a way on from a reached place is a way on from a place that the cell reaches
-module _ (t : Track) (set n : ℕ) (below : IsBelow n t) (reached new way after : ℕ → Bool) (leads_to : (p : ℕ) → p < n → new p ≡ led t set reached p)
+module _ {t : Track} (set n : ℕ) (below : IsBelow n t) (reached new way after : ℕ → Bool) (leads_to : (p : ℕ) → p < n → new p ≡ led t set reached p)
     (is : (p : ℕ) → way p ≡ ahead t set after p) where
   low : (p : ℕ) → goes_on t set p ≡ true → suc p < n
   unfolding goes_on
