@@ -44,7 +44,9 @@ module _ (p : Pattern) (g : List ℕ) where
           let both = right_none (FailsPattern p g) (columns ∷ rows ∷ []) made none in
           elim (cases_lt line p.size.w) [
             | inl column ↦ right line (both.0 line column)
-            | inr row ↦ let back : p.size.w + (line - p.size.w) ≡ line = omega arith in rw back at (right (p.size.w + (line - p.size.w)) (both.1.0 (line - p.size.w) (omega arith)))
+            | inr row ↦ let back : p.size.w + (line - p.size.w) ≡ line = omega arith in
+                rw back at (right (p.size.w + (line - p.size.w))
+                (both.1.0 (line - p.size.w) (omega arith)))
           ]
 
   pub pattern_none : IsPatternSolution p g → NoneFails (FailsPattern p g) (pattern_tests p)
@@ -59,9 +61,12 @@ module _ (p : Pattern) (g : List ℕ) where
   first_column x lt wrong before = first_front (FailsPattern p g) (each columns) (each rows ++ []) (Column x)
       (first_each (FailsPattern p g) columns x lt wrong (λ k low fails. fails (before k low)))
 
-  pub first_row : {line : ℕ} (y : ℕ) → line ≡ p.size.w + y → y < p.size.h → (HasClue p g line → ⊥) → ((k : ℕ) → k < line → HasClue p g k) → IsPatternFault p g (Some (Row y))
+  pub first_row : {line : ℕ} (y : ℕ) → line ≡ p.size.w + y → y < p.size.h → (HasClue p g line → ⊥)
+      → ((k : ℕ) → k < line → HasClue p g k) → IsPatternFault p g (Some (Row y))
   first_row y is lt wrong before = first_rest (FailsPattern p g) (each columns) (each rows ++ []) (Row y)
       (all_each (Holds (FailsPattern p g)) columns (λ x low fails. fails (before x (omega arith))))
-      (first_front (FailsPattern p g) (each rows) [] (Row y) (first_each (FailsPattern p g) rows y lt (rw is at wrong) (λ k low fails. fails (before (p.size.w + k) (omega arith)))))
+      (first_front (FailsPattern p g) (each rows) [] (Row y)
+      (first_each (FailsPattern p g) rows y lt (rw is at wrong)
+      (λ k low fails. fails (before (p.size.w + k) (omega arith)))))
 
 pub ruleset fault_laws = (first_column, first_row, has_runs-is, has_runs-from, solution_from_lines)

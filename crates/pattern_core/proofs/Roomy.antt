@@ -53,7 +53,9 @@ module _ (d a : ℕ) (cells : List ℕ) where
   before k lt = get_or_append_left (replicate d a) cells 0 k (omega (arith, length-replicate {A = ℕ} d a)) ∙ get_or-replicate d k a 0 lt
 
   behind : (k : ℕ) → get_or (replicate d a ++ cells) (d + k) 0 ≡ get_or cells k 0
-  behind k = get_or-append_right (replicate d a) cells d (d + k) 0 (length-replicate d a) (omega arith) ∙ ap (λ j. get_or cells j 0) (let z : d + k - d ≡ k = omega arith in z)
+  behind k =
+      get_or-append_right (replicate d a) cells d (d + k) 0 (length-replicate d a) (omega arith)
+      ∙ ap (λ j. get_or cells j 0) (let z : d + k - d ≡ k = omega arith in z)
 
   stays_small : a < 2 → ((j : ℕ) → get_or cells j 0 < 2) → (j : ℕ) → get_or (replicate d a ++ cells) j 0 < 2
   stays_small low small j = grind (arith, common_steps, cases_Bool, before, behind, cases_lt)
@@ -187,7 +189,9 @@ nothing_struck clue sets k v s p some most one room both lt low = by clue v p so
         either (suc zero) small set both = both.1
         either (suc (suc u)) small set both = absurd (omega arith)
 
-    by : (clue : List ℕ) (v : ℕ) → Positive clue → 0 < length clue → AtMost s clue → used clue + s ≤ length sets + 1 → v < 2 → strikes_by_fillings (has_runs clue) sets k v ≡ false
+    by : (clue : List ℕ) (v : ℕ) → Positive clue → 0 < length clue → AtMost s clue
+        → used clue + s ≤ length sets + 1 → v < 2
+        → strikes_by_fillings (has_runs clue) sets k v ≡ false
     by clue zero p some most room low = by_filling clue 0 (white clue (length sets) k s p most room lt)
     by [] (suc zero) p some most room low = absurd (omega arith)
     by (m ∷ clue) (suc zero) p some most room low = by_filling (m ∷ clue) 1 (black clue m (length sets) k p (omega arith) lt)

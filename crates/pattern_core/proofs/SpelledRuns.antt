@@ -118,13 +118,17 @@ leads_left : (spell cells : List ℕ) {p : ℕ} → p ≤ length spell → leads
 unfolding leads track_of may_stay matches
 leads_left spell [] le = grind (arith, common_steps, cases_Bool, cases_eq, eq-eqb, ne_eqb, le-leb, lt-leb, length-drop)
 leads_left spell (zero ∷ cells) {p} le = ap₂ (λ a b. a || b)
-    (and_same (may_stay spell p) (leads (track_of spell) p cells) (matches true (drop p spell) cells) (λ on. leads_left spell cells le ∙ ap (λ b. matches b (drop p spell) cells) on))
+    (and_same (may_stay spell p) (leads (track_of spell) p cells)
+    (matches true (drop p spell) cells)
+    (λ on. leads_left spell cells le ∙ ap (λ b. matches b (drop p spell) cells) on))
     (and_same (eqb (get_or spell p 2) 0) (leads (track_of spell) (suc p) cells) (matches true (drop 1 (drop p spell)) cells) (λ on.
     leads_left spell cells (place_low spell p 0 (omega arith) on) ∙ ap₂ (λ b l. matches b l cells) on (sym (next_left spell p)))
     ∙ ap (λ v. eqb v 0 && matches true (drop 1 (drop p spell)) cells) (sym (left_first spell p)))
 leads_left spell (suc x ∷ cells) {p} le =
     and_same (eqb (get_or spell p 2) 1) (leads (track_of spell) (suc p) cells) (matches false (drop 1 (drop p spell)) cells) (λ on.
-    leads_left spell cells (place_low spell p 1 (omega arith) on) ∙ ap₂ (λ b l. matches b l cells) (black_not_white (get_or spell p 2) on) (sym (next_left spell p)))
+    leads_left spell cells (place_low spell p 1 (omega arith) on)
+    ∙ ap₂ (λ b l. matches b l cells) (black_not_white (get_or spell p 2) on)
+    (sym (next_left spell p)))
     ∙ ap (λ v. eqb v 1 && matches false (drop 1 (drop p spell)) cells) (sym (left_first spell p))
 
 pub leads_runs : (clue cells : List ℕ) → AllByRecursion (λ n. 0 < n) clue → leads (track_of (spelled clue)) 0 cells ≡ has_runs clue cells

@@ -22,13 +22,17 @@ last_cell [] x = refl
 last_cell (y ∷ cells) x = last_cell cells x
 
 -- a word with the place of the new cell
-new_place : (cells : List ℕ) (v : ℕ) (old next new : ℕ → Bool) → ((p : ℕ) → old p ≡ eqb (get_or cells p 2) v) → ((p : ℕ) → next p ≡ eqb p (length cells)) → v < 2
+new_place : (cells : List ℕ) (v : ℕ) (old next new : ℕ → Bool)
+    → ((p : ℕ) → old p ≡ eqb (get_or cells p 2) v) → ((p : ℕ) → next p ≡ eqb p (length cells))
+    → v < 2
     → ((p : ℕ) → new p ≡ (old p || next p)) → (p : ℕ) → new p ≡ eqb (get_or (cells ++ v ∷ []) p 2) v
 new_place cells v old next new is after small each p =
     grind (arith, common_steps, cases_Bool, cases_eq, eq-eqb, last_cell, more_cells, ne_eqb, or-false, or-true)
 
 -- the other word stays
-old_place : (cells : List ℕ) (x v : ℕ) (old : ℕ → Bool) → x < 2 → v < 2 → (x ≡ v → ⊥) → ((p : ℕ) → old p ≡ eqb (get_or cells p 2) v) → (p : ℕ) → old p ≡ eqb (get_or (cells ++ x ∷ []) p 2) v
+old_place : (cells : List ℕ) (x v : ℕ) (old : ℕ → Bool) → x < 2 → v < 2 → (x ≡ v → ⊥)
+    → ((p : ℕ) → old p ≡ eqb (get_or cells p 2) v) → (p : ℕ)
+    → old p ≡ eqb (get_or (cells ++ x ∷ []) p 2) v
 old_place cells x v old few small other is p = grind (arith, common_steps, cases_Bool, cases_eq, get_or_past, last_cell, more_cells, ne_eqb)
 
 -- the place after it
@@ -37,7 +41,8 @@ next_place : (cells : List ℕ) (x n : ℕ) (next new : ℕ → Bool) → suc (l
 unfolding one_on
 next_place cells x n next new fits after within past p = grind (arith, common_steps, cases_Bool, cases_eq, cases_lt, eq-eqb, length-append, ne_eqb)
 
-module _ (A : Type 0) {has : A → ℕ → Bool} {n : ℕ} {cells : List ℕ} {white black next new on : A} (s : IsSpelling has cells white black next) (fits : suc (length cells) < n)
+module _ (A : Type 0) {has : A → ℕ → Bool} {n : ℕ} {cells : List ℕ} {white black next new on : A}
+    (s : IsSpelling has cells white black next) (fits : suc (length cells) < n)
     (within : (p : ℕ) → p < n → has on p ≡ one_on (has next) p) (past : (p : ℕ) → n ≤ p → has on p ≡ false) where
   pub spelling_black : ((p : ℕ) → has new p ≡ (has black p || has next p)) → IsSpelling has (cells ++ 1 ∷ []) white new on
   spelling_black each = record {
@@ -53,7 +58,9 @@ module _ (A : Type 0) {has : A → ℕ → Bool} {n : ℕ} {cells : List ℕ} {w
     nexts = next_place cells 0 n (has next) (has on) fits s.nexts within past;
   }
 
-pub spelling_none : (A : Type 0) {has : A → ℕ → Bool} {white black next : A} → ((p : ℕ) → has white p ≡ false) → ((p : ℕ) → has black p ≡ false) → ((p : ℕ) → has next p ≡ eqb p 0)
+pub spelling_none : (A : Type 0) {has : A → ℕ → Bool} {white black next : A}
+    → ((p : ℕ) → has white p ≡ false) → ((p : ℕ) → has black p ≡ false)
+    → ((p : ℕ) → has next p ≡ eqb p 0)
     → IsSpelling has (spelled []) white black next
 unfolding spelled
 spelling_none A w b f = record { whites = w; blacks = b; nexts = f }
@@ -82,8 +89,11 @@ module _ (front clue : List ℕ) (k : ℕ) (lt : k < length clue) (so_far : fron
       omega (arith, long, parts, black, length-append (front ++ run) (spelled (drop (k + 1) clue)), length-replicate {A = ℕ} (get_or clue k 0) 1, length-spelled clue)
 
 -- ---- the track
-pub track_spelled : {A : Type 0} {has : A → ℕ → Bool} {n : ℕ} {cells : List ℕ} {white black next : A} (stay on ends first back : A) → length cells < n → IsSpelling has cells white black next
-    → ((p : ℕ) → p < n → has on p ≡ one_on (has white) p) → ((p : ℕ) → n ≤ p → has on p ≡ false) → ((p : ℕ) → has first p ≡ eqb p 0) → ((p : ℕ) → has stay p ≡ (has on p || has first p))
+pub track_spelled : {A : Type 0} {has : A → ℕ → Bool} {n : ℕ} {cells : List ℕ}
+    {white black next : A} (stay on ends first back : A) → length cells < n
+    → IsSpelling has cells white black next
+    → ((p : ℕ) → p < n → has on p ≡ one_on (has white) p) → ((p : ℕ) → n ≤ p → has on p ≡ false)
+    → ((p : ℕ) → has first p ≡ eqb p 0) → ((p : ℕ) → has stay p ≡ (has on p || has first p))
     → ((p : ℕ) → has back p ≡ has next (suc p)) → ((p : ℕ) → has ends p ≡ (has next p || has back p))
     → ◌≡◌ {A = Track} (record { stay = has stay; white = has white; black = has black; ends = has ends }) (track_of cells)
 unfolding track_of may_stay one_on

@@ -141,7 +141,9 @@ module _ (n : ℕ) (t : Track) (sets : List ℕ) (reached : ℕ → Bool) (at : 
       twice false y = refl
 
   -- the cell keeps those of its values by which a way leads from what it reaches
-  pub kept_cell : (white black : ℕ → Bool) (kept : List ℕ) (shown : ℕ) → IsBelow n t → ((p : ℕ) → p < n → white p ≡ led t 1 reached p) → ((p : ℕ) → p < n → black p ≡ led t 2 reached p)
+  pub kept_cell : (white black : ℕ → Bool) (kept : List ℕ) (shown : ℕ) → IsBelow n t
+      → ((p : ℕ) → p < n → white p ≡ led t 1 reached p)
+      → ((p : ℕ) → p < n → black p ≡ led t 2 reached p)
       → has_bit shown 0 ≡ any_below (λ p. white p && next p) n → has_bit shown 1 ≡ any_below (λ p. black p && next p) n
       → get_or kept at 0 ≡ get_or sets at 0 → AreKept t sets kept at → AreKept t sets (set kept at (bit_and (get_or kept at 0) shown)) (at + 1)
   kept_cell white black kept shown below is_white is_black shows_white shows_black same k =
@@ -155,6 +157,8 @@ module _ (n : ℕ) (t : Track) (sets : List ℕ) (reached : ℕ → Bool) (at : 
       by (suc (suc v)) small = absurd (omega arith)
 
 -- ---- all cells
-pub decided_by_track : (clue : List ℕ) {sets kept : List ℕ} {t : Track} → t ≡ track_of (spelled clue) → AllByRecursion (λ n. 0 < n) clue → AreKept t sets kept (length sets)
+pub decided_by_track : (clue : List ℕ) {sets kept : List ℕ} {t : Track}
+    → t ≡ track_of (spelled clue) → AllByRecursion (λ n. 0 < n) clue
+    → AreKept t sets kept (length sets)
     → IsDecided 2 (strikes_by_fillings (has_runs clue)) sets kept
 decided_by_track clue is positive k = grind (arith, common_steps, cases_Bool, strikes_by_track)

@@ -36,7 +36,10 @@ bits_on w a (suc p) lt =
 
 -- a word with no bit set is 0
 no_bits : (w a : ℕ) → a < 2 ^ w → 0 < 2 ^ w → any_below (has_bit a) w ≡ false → a ≡ 0
-no_bits w a fits some none = same_from_bits_below w a 0 fits some (λ p lt. off (bit_at a p) (bit_at-lt a p) (any_below-none (has_bit a) w none p lt) ∙ sym (bit_at-zero p))
+no_bits w a fits some none =
+    same_from_bits_below w a 0 fits some
+    (λ p lt. off (bit_at a p) (bit_at-lt a p) (any_below-none (has_bit a) w none p lt)
+    ∙ sym (bit_at-zero p))
   where
     off : (x : ℕ) → x < 2 → eqb x 1 ≡ false → x ≡ 0
     off x lt e = let ne = eqb-false x 1 e in omega arith
@@ -53,7 +56,9 @@ pub low_two : (set v : ℕ) → v < 2 → has_bit (set % 4) v ≡ has_bit set v
 low_two set v small = low_bits 2 set small
 
 -- what masks say by a set
-pub masks_are : (white black set p : ℕ) → has_bit (get_or (0 ∷ white ∷ black ∷ bit_or white black ∷ []) (set % 4) 0) p ≡ ((has_bit set 0 && has_bit white p) || (has_bit set 1 && has_bit black p))
+pub masks_are : (white black set p : ℕ)
+    → has_bit (get_or (0 ∷ white ∷ black ∷ bit_or white black ∷ []) (set % 4) 0)
+    p ≡ ((has_bit set 0 && has_bit white p) || (has_bit set 1 && has_bit black p))
 masks_are white black set p = grind (arith, common_steps, cases_Bool, bits-either, bits-of_zero, low_two, mod-lt, or-false)
 
 -- what the operations of words say of their bits

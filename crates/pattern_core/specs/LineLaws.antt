@@ -53,7 +53,9 @@ different_places size line j k lj lk e = elim (cases_lt line size.w) [
 
 -- the place is in its column and in its row, and in no other line
 pub column_has : (size : Extent) {x y : ℕ} → x < size.w → y < size.h → has_place (line_places size x) (y * size.w + x) ≡ true
-column_has size {x} {y} ltx lty = rw (← place_in_column size x y ltx lty) (has_place-here (line_places size x) y (grind (arith, common_steps, length-line_places)))
+column_has size {x} {y} ltx lty =
+    rw (← place_in_column size x y ltx lty)
+    (has_place-here (line_places size x) y (grind (arith, common_steps, length-line_places)))
 
 pub row_has : (size : Extent) {x y : ℕ} → x < size.w → y < size.h → has_place (line_places size (size.w + y)) (y * size.w + x) ≡ true
 row_has size {x} {y} ltx lty =
@@ -87,7 +89,8 @@ pub has_runs-from : {clue : List ℕ} (cells : List ℕ) → runs cells ≡ clue
 unfolding has_runs
 has_runs-from {clue} cells is = true_from_ne_false (has_runs clue cells) (λ off. other_text (runs cells) clue (sym off) is)
 
-pub solution_from_lines : {p : Pattern} {g : List ℕ} → IsGrid (p.size.w * p.size.h) 2 g → ((line : ℕ) → line < lines_of p.size → HasClue p g line) → IsPatternSolution p g
+pub solution_from_lines : {p : Pattern} {g : List ℕ} → IsGrid (p.size.w * p.size.h) 2 g
+    → ((line : ℕ) → line < lines_of p.size → HasClue p g line) → IsPatternSolution p g
 solution_from_lines grid each = grind (arith, common_steps, cases_Bool, line_numbers-column, line_numbers-row)
 
 pub line_of_solution : {p : Pattern} {g : List ℕ} (line : ℕ) → line < lines_of p.size → IsPatternSolution p g → HasClue p g line
@@ -122,16 +125,24 @@ all-within {cells} values c v on = let w = and_parts _ _ on in (ltb-true c cells
 pub line_rules-lawful : (p : Pattern) → IsExtent p.size → IsLawful (line_rules p)
 unfolding after
 line_rules-lawful p extent = record {
-  strikes_inside = λ h K L lt inside c v struck. strikes_at-inside 2 (line_places p.size h) (strikes_by_fillings (has_runs (clue_of p h))) (by_fillings-monotone (has_runs (clue_of p h))) K L inside c v struck;
+  strikes_inside =
+      λ h K L lt inside c v struck. strikes_at-inside 2 (line_places p.size h)
+      (strikes_by_fillings (has_runs (clue_of p h))) (by_fillings-monotone (has_runs (clue_of p h)))
+      K L inside c v struck;
   strikes_in_scope = λ h K c v lt struck. strikes_at-in_scope 2 (line_places p.size h) (strikes_by_fillings (has_runs (clue_of p h))) K c v struck;
   solutions_start = λ g grid good. single-all grid;
   solutions_closed = λ g grid good h c v lt on.
       by_fillings-closed 2 (line_places p.size h) (has_runs (clue_of p h)) g
-      (λ k less. let e = grid.each_cell in let z = in_grid p.size {c = slice_index (line_places p.size h) k} lt (has_place-here (line_places p.size h) k less) in omega arith)
+      (λ k less. let e = grid.each_cell in let z =
+      in_grid p.size {c = slice_index (line_places p.size h) k} lt
+      (has_place-here (line_places p.size h) k less) in omega arith)
       (λ d less. grid.each_value d 0 less)
       (ap (has_runs (clue_of p h)) (line_numbers-places p.size g h) ∙ is_solution-line p g good lt) c v on;
   settles = λ settled h K c v lt _ on.
-      by_fillings-settled 2 (line_places p.size h) (has_runs (clue_of p h)) K (λ d u. K d u && not (strikes_at 2 (line_places p.size h) (strikes_by_fillings (has_runs (clue_of p h))) K d u)) (different_places p.size h) (λ d u. refl) c v on;
+      by_fillings-settled 2 (line_places p.size h) (has_runs (clue_of p h)) K
+      (λ d u. K d u && not (strikes_at 2 (line_places p.size h)
+      (strikes_by_fillings (has_runs (clue_of p h))) K d u)) (different_places p.size h)
+      (λ d u. refl) c v on;
   bound_of_queue = λ e. let z = few_shares p (p.size.w * p.size.h) in omega arith;
   bound_of_sweeps = λ e. absurd (true≢false e);
   some_values = omega arith;
