@@ -93,14 +93,6 @@ rule-bulb p g c pos is = any_below-here (λ d. sees p c d && bulb g d) (light_ce
 number-rule : (cell : LightCell) (bulbs n : ℕ) → number_is cell bulbs ≡ true → cell ≡ Numbered n → bulbs ≡ n
 number-rule cell bulbs n on e = eqb-true bulbs n (rw e at on)
 
-rule-number : (cell : LightCell) (bulbs : ℕ) → ((n : ℕ) → cell ≡ Numbered n → bulbs ≡ n) → number_is cell bulbs ≡ true
-rule-number White bulbs is = refl
-rule-number Black bulbs is = refl
-rule-number (Numbered n) bulbs is = eq-eqb bulbs n (is n refl)
-
-alone : (on seen : Bool) → (on ≡ true → seen ≡ true → ⊥) → not (on && seen) ≡ true
-alone on seen none = grind (arith, common_steps, cases_Bool on, cases_Bool seen)
-
 not-alone : (on seen : Bool) → not (on && seen) ≡ true → on ≡ true → seen ≡ true → ⊥
 not-alone on seen right a b = grind (arith, common_steps)
 

@@ -32,8 +32,8 @@ each_at k c d lt = get_or-map-range_with_len k.test 0 k.count c c d lt (omega ar
 
 pub all_each : {F : Type 0} (P : F → Type 0) (k : Kind F) → ((c : ℕ) → c < k.count → P (k.test c)) → AllByRecursion P (each k)
 all_each P k all =
-    recursion_from_All P (each k) (λ c d lt. let low : c < k.count = rw length-map-range_with_len at lt in
-    subst P (sym (each_at k c d low)) (all c low))
+    recursion_from_All P (each k) (λ c d lt. let low : c < k.count =
+    rw length-map-range_with_len at lt in subst P (sym (each_at k c d low)) (all c low))
 
 each_all : {F : Type 0} (P : F → Type 0) (k : Kind F) → AllByRecursion P (each k) → (c : ℕ) → c < k.count → P (k.test c)
 each_all P k all c lt = subst P (each_at k c (k.test c) lt) (all_at P (k.test c) (each k) c all (rw length-map-range_with_len lt))
@@ -57,7 +57,8 @@ module _ {F : Type 0} (fails : F → Type 0) where
   first_at [] k d lt failed before = absurd (omega arith)
   first_at (t ∷ tests) zero d lt failed before = inl (refl, failed)
   first_at (t ∷ tests) (suc k) d lt failed before =
-      inr (before 0 (omega arith), first_at tests k d (omega arith) failed (λ j low. before (suc j) (omega arith)))
+      inr
+      (before 0 (omega arith), first_at tests k d (omega arith) failed (λ j low. before (suc j) (omega arith)))
 
   pub first_each : (k : Kind F) (c : ℕ) → c < k.count → fails (k.test c) → ((d : ℕ) → d < c → Holds (k.test d)) → IsFirstFailed fails (each k) (k.test c)
   first_each k c lt failed before =
@@ -132,12 +133,14 @@ module _ {F : Type 0} (fails : F → Type 0) where
   first_in [] k rest made right c lt off before =
       first_front (each k) (tests rest) (k.test c) (first_each k c lt (made.0.failed c lt off) (λ d low. made.0.held d (omega arith) (before d low)))
   first_in (j ∷ front) k rest made right c lt off before =
-      first_rest (each j) (tests (front ++ k ∷ rest)) (k.test c) (all_each Holds j (λ d low. made.0.held d low (right.0 d low)))
+      first_rest (each j) (tests (front ++ k ∷ rest)) (k.test c)
+      (all_each Holds j (λ d low. made.0.held d low (right.0 d low)))
       (first_in front k rest made.1 right.1 c lt off before)
 
   -- ---- the answer of a check, where a grid that no test fails is a solution, and no test fails a solution
-  pub one_answer : {solution : Type 0} (tests : List F) → (NoneFails fails tests → solution) → AllByRecursion IsKnown tests
-      → (fault : Option F) × IsAnswerOfCheck solution fails tests fault
+  pub one_answer : {solution : Type 0} (tests : List F) → (NoneFails fails tests → solution)
+      → AllByRecursion IsKnown tests → (fault : Option F)
+      × IsAnswerOfCheck solution fails tests fault
   one_answer tests sound known = elim (judged tests known) [ inl none ↦ (None, sound none) | inr first ↦ (Some first.0, first.1) ]
 
   module _ {solution : Type 0} (tests : List F) (complete : solution → NoneFails fails tests) where
@@ -158,6 +161,6 @@ module _ {F : Type 0} (fails : F → Type 0) where
     tells told None is e = ((λ on. is), (λ s. not-false told (sym e)))
     tells told (Some f) is e = ((λ on. absurd (false≢true (sym (not-true told (sym e)) ∙ on))), (λ s. absurd (none_first tests f (complete s) is)))
 
-    pub none_tells : (told right : Bool) → (right ≡ true → solution) → (solution → right ≡ true) → (fault : Option F)
-        → Answers fault → is_some fault ≡ not told → told ≡ right
+    pub none_tells : (told right : Bool) → (right ≡ true → solution) → (solution → right ≡ true)
+        → (fault : Option F) → Answers fault → is_some fault ≡ not told → told ≡ right
     none_tells told right from to fault is e = let both = tells told fault is e in bool_is told right (λ on. to (both.0 on)) (λ on. both.1 (from on))

@@ -67,17 +67,17 @@ digits_lack : (k : ℕ) (ds : List ℕ) → is_ascii_digit k ≡ false → all_a
 digits_lack k [] other d = refl
 digits_lack k (c ∷ ds) other d = grind (arith, nat_tests, digits_lack k ds other)
 
-size_lacks : (k : ℕ) {front : List ℕ} (a b : ℕ) → is_ascii_digit k ≡ false → eqb 120 k ≡ false → a < 2 ^ 64 → b < 2 ^ 64
-    → IsSizeText front a b → list_any (λ c. eqb c k) front ≡ false
+size_lacks : (k : ℕ) {front : List ℕ} (a b : ℕ) → is_ascii_digit k ≡ false → eqb 120 k ≡ false
+    → a < 2 ^ 64 → b < 2 ^ 64 → IsSizeText front a b → list_any (λ c. eqb c k) front ≡ false
 size_lacks k a b other x small_a small_b size_text = grind (arith, common_steps, list_any-append, digits_lack, digits_decimal, own)
 
-pub place_of : (p : ℕ → Bool) (front : List ℕ) (c : ℕ) (rest : List ℕ) → list_any p front ≡ false → p c ≡ true
-    → position_or_len p (front ++ c ∷ rest) ≡ length front
+pub place_of : (p : ℕ → Bool) (front : List ℕ) (c : ℕ) (rest : List ℕ) → list_any p front ≡ false
+    → p c ≡ true → position_or_len p (front ++ c ∷ rest) ≡ length front
 place_of p [] c rest none here = rw here refl
 place_of p (b ∷ front) c rest none here = grind (arith, nat_tests, place_of p front c rest)
 
-pub position_at : (p : ℕ → Bool) (front : List ℕ) (c : ℕ) (rest : List ℕ) → list_any p front ≡ false → p c ≡ true
-    → position p (front ++ c ∷ rest) ≡ Some (length front)
+pub position_at : (p : ℕ → Bool) (front : List ℕ) (c : ℕ) (rest : List ℕ) → list_any p front ≡ false
+    → p c ≡ true → position p (front ++ c ∷ rest) ≡ Some (length front)
 position_at p front c rest none here = grind (arith, common_steps, place_of p front c rest none here)
 
 colon_splits : (text : List ℕ) (k : ℕ) → position (λ c. eqb c 58) text ≡ Some k → text ≡ take k text ++ 58 ∷ drop (k + 1) text
@@ -103,8 +103,9 @@ module _ (game : Game) where
       let l = side_found text e in
       inl (record { side = l.0; number = l.1; alone = alone; both = (l.2, l.2); plain = refl })
 
-  two_found : (text : List ℕ) (x y : ℕ × List ℕ) → side_at text ≡ Ok x → begins (λ c. eqb c 120) x.1 ≡ true
-      → side_at (drop 1 x.1) ≡ Ok y → HasSize game text (two_sides game x.0 y.0 y.1)
+  two_found : (text : List ℕ) (x y : ℕ × List ℕ) → side_at text ≡ Ok x
+      → begins (λ c. eqb c 120) x.1 ≡ true → side_at (drop 1 x.1) ≡ Ok y
+      → HasSize game text (two_sides game x.0 y.0 y.1)
   two_found text x y e two f =
       let l = side_found text e in
       let r = side_found (drop 1 x.1) f in
@@ -136,8 +137,9 @@ module _ (game : Game) where
   game_size text small_w small_h none (inl one) = grind (arith, common_steps, number_decimal one.side one.number)
   game_size text small_w small_h none (inr two) = grind (arith, common_steps, number_decimal two.w_digits two.first, number_decimal two.h_digits two.second)
 
-  pub sides_again : (front : List ℕ) (a b : ℕ) (x : Bool) → a < 2 ^ 64 → b < 2 ^ 64 → 0 < a → 0 < b → IsGameSize front a b x
-      → sides_at game front ≡ Ok (record { w = a; h = b; x = x; rest = [] })
+  pub sides_again : (front : List ℕ) (a b : ℕ) (x : Bool) → a < 2 ^ 64 → b < 2 ^ 64 → 0 < a → 0 < b
+      → IsGameSize front a b x → sides_at game front ≡ Ok
+      (record { w = a; h = b; x = x; rest = [] })
   unfolding sides_at
   sides_again front a b false small_a small_b some_a some_b (inl e) =
       grind (arith, common_steps, side_again (120 ∷ decimal b) small_a some_a refl, side_again [] small_b some_b refl)
@@ -165,8 +167,9 @@ module _ (game : Game) where
   unfolding size_of
   size_again front a b x text range = grind (arith, range_small a b range, sides_again front a b x)
 
-  game_size_lacks : (k : ℕ) (front : List ℕ) (a b : ℕ) (x : Bool) → is_ascii_digit k ≡ false → eqb 120 k ≡ false → a < 2 ^ 64
-      → b < 2 ^ 64 → IsGameSize front a b x → list_any (λ c. eqb c k) front ≡ false
+  game_size_lacks : (k : ℕ) (front : List ℕ) (a b : ℕ) (x : Bool) → is_ascii_digit k ≡ false
+      → eqb 120 k ≡ false → a < 2 ^ 64 → b < 2 ^ 64 → IsGameSize front a b x
+      → list_any (λ c. eqb c k) front ≡ false
   game_size_lacks k front a b x other x' small_a small_b s = grind (arith, common_steps, size_lacks)
 
   pub record IsHead (text : List ℕ) (head : HeadRead) : Type 0 where
@@ -176,8 +179,8 @@ module _ (game : Game) where
     pub range : in_range game head.size.w head.size.h ≡ true
     pub short : length text ≤ max_id
 
-  colon_take : (text : List ℕ) (head : HeadRead) (o : Option ℕ) → length text ≤ max_id → position (λ c. eqb c 58) text ≡ o
-      → head_at game text o ≡ Ok head → IsHead text head
+  colon_take : (text : List ℕ) (head : HeadRead) (o : Option ℕ) → length text ≤ max_id
+      → position (λ c. eqb c 58) text ≡ o → head_at game text o ≡ Ok head → IsHead text head
   unfolding head_at
   colon_take text head None short o e = grind arith
   colon_take text head (Some k) short o e =
@@ -185,15 +188,22 @@ module _ (game : Game) where
       let s = bind_ok (size_of game (take k text)) (λ size. taken (described size (k + 1))) head c.1 in
       let t = size_take (take k text) s.0 s.1 in
       subst (λ (h : HeadRead). IsHead text h) (ok_is (described s.0 (k + 1)) head s.2)
-      (record { front = take k text; parts = colon_splits text k o; size = t.0; range = t.1; short = short })
+      (record {
+        front = take k text;
+        parts = colon_splits text k o;
+        size = t.0;
+        range = t.1;
+        short = short;
+      })
 
   pub head_take : {text : List ℕ} {head : HeadRead} → head_of game text ≡ Ok head → IsHead text head
   unfolding head_of
   head_take e = grind (arith, colon_take)
 
-  head_again : (front rest : List ℕ) (a b : ℕ) (x : Bool) → IsGameSize front a b x → in_range game a b ≡ true
-      → length (front ++ 58 ∷ rest) ≤ max_id
-      → head_of game (front ++ 58 ∷ rest) ≡ Ok (record { size = size_read a b x; description = length front + 1 })
+  head_again : (front rest : List ℕ) (a b : ℕ) (x : Bool) → IsGameSize front a b x
+      → in_range game a b ≡ true → length (front ++ 58 ∷ rest) ≤ max_id
+      → head_of game (front ++ 58 ∷ rest) ≡ Ok
+      (record { size = size_read a b x; description = length front + 1 })
   unfolding head_of head_at
   head_again front rest a b x text range short =
       grind (arith, common_steps, range_small a b range, position_at, game_size_lacks 58 front a b x refl refl, game_size_lacks 35 front a b x refl refl, size_again front a b x text range)
@@ -216,20 +226,23 @@ pub record Parts {B P : Type 0} (game : Game) (text : List ℕ) (body : HeadRead
   pub read : body head (drop head.description text) ≡ Ok given
   pub made : make head given ≡ p
 
-pub parts_of : {B P : Type 0} (game : Game) (text : List ℕ) (body : HeadRead → List ℕ → Result B IdFault)
-    (make : HeadRead → B → P) {p : P} → puzzle_of game (λ head description. body head description >>= (λ b. taken (make head b)))
+pub parts_of : {B P : Type 0} (game : Game) (text : List ℕ)
+    (body : HeadRead → List ℕ → Result B IdFault) (make : HeadRead → B → P) {p : P}
+    → puzzle_of game (λ head description. body head description >>= (λ b. taken (make head b)))
     text ≡ Ok p → Parts game text body make p
 unfolding puzzle_of
 parts_of game text body make e = grind (arith, head_take)
 
 -- a size, ':' and a description are read as the description is behind that size
-pub puzzle_again : {P : Type 0} (game : Game) (behind : HeadRead → List ℕ → Result P IdFault) (front rest : List ℕ) (a b : ℕ)
-    (x : Bool) → IsGameSize game front a b x → in_range game a b ≡ true → length (front ++ 58 ∷ rest) ≤ max_id
-    → puzzle_of game behind (front ++ 58 ∷ rest) ≡ behind (record { size = size_read a b x; description = length front + 1 }) rest
+pub puzzle_again : {P : Type 0} (game : Game) (behind : HeadRead → List ℕ → Result P IdFault)
+    (front rest : List ℕ) (a b : ℕ) (x : Bool) → IsGameSize game front a b x
+    → in_range game a b ≡ true → length (front ++ 58 ∷ rest) ≤ max_id
+    → puzzle_of game behind (front ++ 58 ∷ rest) ≡ behind
+    (record { size = size_read a b x; description = length front + 1 }) rest
 unfolding puzzle_of
 puzzle_again game behind front rest a b x size range short = rw (head_again game front rest a b x size range short, after_front front rest) refl
 
-pub puzzle_too_long : {P : Type 0} (game : Game) (behind : HeadRead → List ℕ → Result P IdFault) (text : List ℕ)
-    → max_id < length text → puzzle_of game behind text ≡ Err TooLong
+pub puzzle_too_long : {P : Type 0} (game : Game) (behind : HeadRead → List ℕ → Result P IdFault)
+    (text : List ℕ) → max_id < length text → puzzle_of game behind text ≡ Err TooLong
 unfolding puzzle_of
 puzzle_too_long game behind text over = rw (head_too_long game text over) refl

@@ -61,8 +61,8 @@ record LightDescribed (all : ℕ) (description : List ℕ) (cells : List LightCe
 light_take : (all at : ℕ) (description : List ℕ) (cells : List LightCell) → light_cells_at all at description ≡ Ok cells → LightDescribed all description cells
 light_take all at description cells e =
     let s =
-    cells_spelled light_token_text light_token_cells IsLightToken light_token IsByte token_byte all at []
-    (map (λ b. b ∷ []) description) cells (are_bytes description) e in
+    cells_spelled light_token_text light_token_cells IsLightToken light_token IsByte token_byte
+    all at [] (map (λ b. b ∷ []) description) cells (are_bytes description) e in
     let r = s.0 in
     let parts : description ≡ map light_token_byte r.tokens =
     sym (concat_bytes description) ∙ ap concat (sym r.texts ∙ sym (texts_are r.tokens))
@@ -76,14 +76,15 @@ token_fits (whites k) h = AllByRecursion-replicate IsLightCell White k tt
 token_fits black h = (tt, tt)
 token_fits (numbered n) h = (h, tt)
 
-light_lawful : {w h : ℕ} {cells : List LightCell} (at : ℕ) (description : List ℕ) → in_range game.LightUp w h ≡ true
-    → light_cells_at (w * h) at description ≡ Ok cells → IsLight (record { size = record { w = w; h = h }; cells = cells })
+light_lawful : {w h : ℕ} {cells : List LightCell} (at : ℕ) (description : List ℕ)
+    → in_range game.LightUp w h ≡ true → light_cells_at (w * h) at description ≡ Ok cells
+    → IsLight (record { size = record { w = w; h = h }; cells = cells })
 light_lawful {w = w} {h = h} {cells = cells} at description range e =
     grind (arith, light_take (w * h) at description cells e, AllByRecursion-flat_map IsLightToken IsLightCell light_token_cells token_fits)
 
-pub light_fits : {size : Extent} (w h all at : ℕ) (description : List ℕ) (cells : List LightCell) → size ≡ sized w h
-    → all ≡ size.w * size.h → in_range game.LightUp w h ≡ true → light_cells_at all at description ≡ Ok cells
-    → IsLight (record { size = size; cells = cells })
+pub light_fits : {size : Extent} (w h all at : ℕ) (description : List ℕ) (cells : List LightCell)
+    → size ≡ sized w h → all ≡ size.w * size.h → in_range game.LightUp w h ≡ true
+    → light_cells_at all at description ≡ Ok cells → IsLight (record { size = size; cells = cells })
 light_fits w h all at description cells is count range e = grind (arith, light_lawful {w = w} {h = h} {cells = cells} at description range)
 
 -- ---- what is spelled is read
@@ -98,13 +99,15 @@ light_again : (all at : ℕ) (tokens : List LightToken) → AllByRecursion IsLig
     → light_cells_at all at (map light_token_byte tokens) ≡ Ok (flat_map light_token_cells tokens)
 light_again all at tokens each full =
     ap (reading (fill_step light_token all) (fill_end all) at []) (texts_are tokens)
-    ∙ cells_again light_token_text light_token_cells IsLightToken light_token token_read all at [] tokens each (omega arith)
+    ∙ cells_again light_token_text light_token_cells IsLightToken light_token token_read
+    all at [] tokens each (omega arith)
 
 pub light_takes : (text : List ℕ) (p : Light) → light_of text ≡ Ok p → SpellsLight text p
 light_takes text p e =
     let r =
-    parts_of game.LightUp text (λ head description. light_cells_at (head.size.w * head.size.h) head.description description)
-    (λ head cells. record { size = extent_of head.size; cells = cells }) e in
+    parts_of game.LightUp text
+    (λ head description. light_cells_at (head.size.w * head.size.h) head.description
+    description) (λ head cells. record { size = extent_of head.size; cells = cells }) e in
     grind (arith, light_take _ _ _ _ r.read, light_lawful _ _ r.is_head.range r.read, plain_size)
 
 -- a wide size is in the limits of Light Up, which are those of Tents

@@ -10,7 +10,8 @@ AllByRecursion-replicate P x zero h = tt
 AllByRecursion-replicate P x (suc k) h = (h, AllByRecursion-replicate P x k h)
 
 pub AllByRecursion-flat_map : {T A : Type 0} (Fits : T → Type 0) (P : A → Type 0) (f : T → List A)
-    → ((t : T) → Fits t → AllByRecursion P (f t)) → (ts : List T) → AllByRecursion Fits ts → AllByRecursion P (flat_map f ts)
+    → ((t : T) → Fits t → AllByRecursion P (f t)) → (ts : List T) → AllByRecursion Fits ts
+    → AllByRecursion P (flat_map f ts)
 AllByRecursion-flat_map Fits P f h [] all = tt
 AllByRecursion-flat_map Fits P f h (t ∷ ts) all = AllByRecursion-append P (f t) (flat_map f ts) (h t all.0) (AllByRecursion-flat_map Fits P f h ts all.1)
 

@@ -23,8 +23,9 @@ pub value_positive : (b : ℕ) (ds : List ℕ) → 49 ≤ b → 0 < value (b ∷
 value_positive b ds low = omega (arith, value_after_ge (10 * 0 + (b - 48)) ds)
 
 -- the digits in front of a numeral and a text that begins with none
-pub front_numeral : (digits rest : List ℕ) → all_ascii_digits digits ≡ true → begins is_ascii_digit rest ≡ false
-    → (digits_front (digits ++ rest) ≡ digits) × (after_digits (digits ++ rest) ≡ rest)
+pub front_numeral : (digits rest : List ℕ) → all_ascii_digits digits ≡ true
+    → begins is_ascii_digit rest ≡ false → (digits_front (digits ++ rest) ≡ digits)
+    × (after_digits (digits ++ rest) ≡ rest)
 front_numeral [] [] d other = front_end refl
 front_numeral [] (b ∷ rest) d other = front_stop b rest refl other
 front_numeral (c ∷ digits) rest d other =
@@ -45,7 +46,8 @@ joined_cuts b j num rest h other = grind (arith, front_numeral num rest h.digits
 pub length_decimal : (n : ℕ) → n < 2 ^ 64 → 0 < n → length (decimal n) ≤ n
 length_decimal n small =
     decimal_by_steps (λ n ds. 0 < n → length ds ≤ n) (λ n lt some. omega arith)
-    (λ n ds ge h some. let less = h (omega arith) in omega (arith, length-append ds ((48 + n % 10) ∷ []))) n small
+    (λ n ds ge h some. let less = h (omega arith) in
+    omega (arith, length-append ds ((48 + n % 10) ∷ []))) n small
 
 pub numeral : (n : ℕ) → n < 2 ^ 64 → IsNumeral (decimal n)
 numeral n small = record {

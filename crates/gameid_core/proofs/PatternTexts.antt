@@ -48,9 +48,10 @@ pub first_cases : (cells line at n : ℕ) (word : List ℕ) → clue_token cells
 unfolding clue_token clue_number
 first_cases cells line at n word e = grind arith
 
-pub further_cases : (cells line at n m : ℕ) (clue word : List ℕ) → clue_token cells line (m ∷ clue) at word ≡ Ok n
-    → (begins (λ b. eqb b 46) word ≡ true) × (begins is_ascii_digit (drop 1 word) ≡ true) × (value (drop 1 word) ≡ n) × (0 < n)
-    × (used (m ∷ clue) + n ≤ cells)
+pub further_cases : (cells line at n m : ℕ) (clue word : List ℕ)
+    → clue_token cells line (m ∷ clue) at word ≡ Ok n
+    → (begins (λ b. eqb b 46) word ≡ true) × (begins is_ascii_digit (drop 1 word) ≡ true)
+    × (value (drop 1 word) ≡ n) × (0 < n) × (used (m ∷ clue) + n ≤ cells)
 unfolding clue_token clue_number
 further_cases cells line at n m clue word e = grind arith
 
@@ -97,7 +98,8 @@ record Spelled (clues : List (List ℕ)) (clue text : List ℕ) (all : List (Lis
   is : IsSpelled clues clue text all ns later
 
 -- a '.' and a numeral
-dotted_word : (word : List ℕ) → IsWord word → begins (λ b. eqb b 46) word ≡ true → begins is_ascii_digit (drop 1 word) ≡ true
+dotted_word : (word : List ℕ) → IsWord word → begins (λ b. eqb b 46) word ≡ true
+    → begins is_ascii_digit (drop 1 word) ≡ true
     → (word ≡ 46 ∷ drop 1 word) × IsNumeral (drop 1 word)
 dotted_word word w dot d = grind arith
 
@@ -143,7 +145,8 @@ unfolding clue_token clue_number
 first_read cells line at h some room = grind (arith, common_steps)
 
 further_read : {cells : ℕ} (line at m : ℕ) (clue num : List ℕ) → IsNumeral num → 0 < value num
-    → used (m ∷ clue) + value num ≤ cells → clue_token cells line (m ∷ clue) at (46 ∷ num) ≡ Ok (value num)
+    → used (m ∷ clue) + value num ≤ cells
+    → clue_token cells line (m ∷ clue) at (46 ∷ num) ≡ Ok (value num)
 unfolding clue_token clue_number
 further_read line at m clue num h some room = grind (arith, common_steps)
 
@@ -181,8 +184,10 @@ module _ (size : Extent) where
   reads at s rest = read_words at s (words rest)
 
   pub step_number : (at : ℕ) (clues : List (List ℕ)) (clue word : List ℕ) (r : Result ℕ IdFault)
-      → begins (λ b. eqb b 47) word ≡ false → clue_token (line_cells size (length clues)) (length clues) clue at word ≡ r
-      → pattern_step size at (so_far clues clue) word ≡ (r >>= (λ n. Ok (so_far clues (clue ++ n ∷ []))))
+      → begins (λ b. eqb b 47) word ≡ false
+      → clue_token (line_cells size (length clues)) (length clues) clue at word ≡ r
+      → pattern_step size at (so_far clues clue)
+      word ≡ (r >>= (λ n. Ok (so_far clues (clue ++ n ∷ []))))
   step_number at clues clue word r other e = rw (other, e) refl
 
   -- '/' ends a clue that is not the last, and is refused after that
@@ -202,7 +207,8 @@ module _ (size : Extent) where
   number_turn at n s text word after cuts other token =
       reading_turn (pattern_step size) (pattern_end size) at s _ text word after cuts (step_number at s.clues s.clue word (Ok n) (cuts.first _ ∙ other) token)
 
-  pub end_is : (clues : List (List ℕ)) (clue : List ℕ) (full : Bool) → eqb (length clues + 1) (lines_of size) ≡ full
+  pub end_is : (clues : List (List ℕ)) (clue : List ℕ) (full : Bool)
+      → eqb (length clues + 1) (lines_of size) ≡ full
       → pattern_end size (so_far clues clue) ≡ cond full (Ok (clues ++ clue ∷ [])) (Err TooFew)
   end_is clues clue full e = rw e refl
 
@@ -219,16 +225,19 @@ module _ (size : Extent) where
     pub leads : so_far clues (clue ++ number ∷ []) ≡ t
 
   pub step_cases : (at : ℕ) (clues : List (List ℕ)) (clue word : List ℕ) (t : SoFar)
-      → pattern_step size at (so_far clues clue) word ≡ Ok t → Slash clues clue word t ⊎ Number at clues clue word t
+      → pattern_step size at (so_far clues clue) word ≡ Ok t
+      → Slash clues clue word t ⊎ Number at clues clue word t
   step_cases at clues clue word t e = grind arith
 
   AreClues-push : (line : ℕ) (clues : List (List ℕ)) (clue : List ℕ) → AreClues size line clues
-      → IsClue (line_cells size (line + length clues)) clue → AreClues size line (clues ++ clue ∷ [])
+      → IsClue (line_cells size (line + length clues)) clue
+      → AreClues size line (clues ++ clue ∷ [])
   AreClues-push line [] clue h p = grind arith
   AreClues-push line (c ∷ clues) clue h p = grind (arith, nat_tests, AreClues-push (line + 1) clues clue h.1)
 
-  lawful : (at : ℕ) (clues : List (List ℕ)) (clue : List ℕ) (ws : List (List ℕ)) (all : List (List ℕ)) → AreClues size 0 clues
-      → IsClue (line_cells size (length clues)) clue → read_words at (so_far clues clue) ws ≡ Ok all
+  lawful : (at : ℕ) (clues : List (List ℕ)) (clue : List ℕ) (ws : List (List ℕ))
+      (all : List (List ℕ)) → AreClues size 0 clues → IsClue (line_cells size (length clues)) clue
+      → read_words at (so_far clues clue) ws ≡ Ok all
       → AreClues size 0 all × (length all ≡ lines_of size)
   unfolding reading
   lawful at clues clue [] all h p e = grind (arith, common_steps, AreClues-push 0 clues clue h)
@@ -239,8 +248,8 @@ module _ (size : Extent) where
         | inr n ↦ lawful (at + length word) clues (clue ++ n.number ∷ []) ws all h (IsClue-push p (grind (arith, token_small, n.token))) (grind arith)
       ]
 
-  pub clues_lawful : (at : ℕ) (description : List ℕ) (all : List (List ℕ)) → IsExtent size → clues_at size at description ≡ Ok all
-      → IsPattern (record { size = size; clues = all })
+  pub clues_lawful : (at : ℕ) (description : List ℕ) (all : List (List ℕ)) → IsExtent size
+      → clues_at size at description ≡ Ok all → IsPattern (record { size = size; clues = all })
   clues_lawful at description all h e = grind (arith, lawful at [] [] (words description) all tt)
 
   read_spelled : (at : ℕ) (clues : List (List ℕ)) (clue : List ℕ) (ws : List (List ℕ)) (all : List (List ℕ)) → AllByRecursion IsWord ws
@@ -259,16 +268,19 @@ module _ (size : Extent) where
   Reads all clues clue text = (at : ℕ) → read_words at (so_far clues clue) (words text) ≡ Ok all
 
   -- the rest of a clue is read, and then what follows it
-  clue_again : (all clues : List (List ℕ)) (clue : List ℕ) (ns : List (List ℕ)) (later : List (List (List ℕ)))
-      → AllByRecursion IsNumeral ns → IsClue (line_cells size (length clues)) (clue ++ map value ns)
-      → Reads all clues (clue ++ map value ns) (later_text later) → Reads all clues clue (tail_text clue ns ++ later_text later)
+  clue_again : (all clues : List (List ℕ)) (clue : List ℕ) (ns : List (List ℕ))
+      (later : List (List (List ℕ))) → AllByRecursion IsNumeral ns
+      → IsClue (line_cells size (length clues)) (clue ++ map value ns)
+      → Reads all clues (clue ++ map value ns) (later_text later)
+      → Reads all clues clue (tail_text clue ns ++ later_text later)
   clue_again all clues clue [] later d fits next at = grind (arith, common_steps)
   clue_again all clues [] (num ∷ ns) later d fits next at =
       grind (
         arith,
         common_steps,
         join_cons 46 num ns,
-        numeral_cuts num (tail_text (value num ∷ []) ns ++ later_text later) d.0 (rest_begins (value num) [] ns later),
+        numeral_cuts num (tail_text (value num ∷ []) ns ++ later_text later) d.0
+            (rest_begins (value num) [] ns later),
         step_number at clues [] num (Ok (value num)) (numeral_other d.0),
         first_read,
         reading_turn (pattern_step size) (pattern_end size) at (so_far clues []) (so_far clues (value num ∷ [])),
@@ -281,13 +293,14 @@ module _ (size : Extent) where
       append_assoc (46 ∷ num) (tail_text (m ∷ clue) ns) (later_text later) in
       let cuts = joined_cuts 46 refl num (tail_text (m ∷ clue) ns ++ later_text later) d.0 (rest_begins m clue ns later) in
       let step = step_number at clues (m ∷ clue) (46 ∷ num) (Ok (value num)) refl (further_read _ at m clue num d.0 room.0 room.1) in
-      let moved : (m ∷ clue) ++ value num ∷ map value ns ≡ ((m ∷ clue) ++ value num ∷ []) ++ map value ns =
-      sym (append_assoc (m ∷ clue) (value num ∷ []) (map value ns)) in
+      let moved : (m ∷ clue) ++ value num ∷ map value ns ≡ ((m ∷ clue) ++ value num ∷ []) ++ map
+      value ns = sym (append_assoc (m ∷ clue) (value num ∷ []) (map value ns)) in
       rw text (reading_turn (pattern_step size) (pattern_end size) at (so_far clues (m ∷ clue))
       (so_far clues ((m ∷ clue) ++ value num ∷ [])) _ (46 ∷ num) _ cuts step
       ∙ clue_again all clues ((m ∷ clue) ++ value num ∷ []) ns later d.1
       (subst (λ (c : List ℕ). IsClue (line_cells size (length clues)) c) moved fits)
-      (subst (λ (c : List ℕ). Reads all clues c (later_text later)) moved next) (at + length (46 ∷ num)))
+      (subst (λ (c : List ℕ). Reads all clues c (later_text later)) moved next)
+      (at + length (46 ∷ num)))
 
   -- ---- the clues after a clue
 
@@ -296,7 +309,8 @@ module _ (size : Extent) where
   are_at line (x ∷ xs) c ys h = grind (arith, are_at (line + 1) xs c ys h.1)
 
   later_again : (all clues : List (List ℕ)) (clue : List ℕ) (later : List (List (List ℕ)))
-      → AllByRecursion (AllByRecursion IsNumeral) later → clues ++ clue ∷ map (map value) later ≡ all → length all ≡ lines_of size
+      → AllByRecursion (AllByRecursion IsNumeral) later
+      → clues ++ clue ∷ map (map value) later ≡ all → length all ≡ lines_of size
       → AreClues size 0 all → Reads all clues clue (later_text later)
   later_again all clues clue [] d is len are at =
       grind (arith, common_steps, reading_end (pattern_step size) (pattern_end size) at (so_far clues clue) [] refl, end_is clues clue true)
@@ -308,12 +322,14 @@ module _ (size : Extent) where
         are_at 0 (clues ++ clue ∷ []) (map value l) (map (map value) later),
         clue_again all (clues ++ clue ∷ []) [] l later d.0,
         later_again all (clues ++ clue ∷ []) (map value l) later d.1,
-        reading_turn (pattern_step size) (pattern_end size) at (so_far clues clue) (so_far (clues ++ clue ∷ []) [])
-            (47 ∷ (join_with_byte 46 l ++ later_text later)) (47 ∷ []) (join_with_byte 46 l ++ later_text later) (cuts_single 47 (join_with_byte 46 l ++ later_text later) refl),
+        reading_turn (pattern_step size) (pattern_end size) at (so_far clues clue)
+            (so_far (clues ++ clue ∷ []) []) (47 ∷ (join_with_byte 46 l ++ later_text later)) (47 ∷ [])
+            (join_with_byte 46 l ++ later_text later) (cuts_single 47 (join_with_byte 46 l ++ later_text later) refl),
       )
 
   -- what clues that fit spell is read
-  pub clues_again : (at : ℕ) (numerals : List (List (List ℕ))) → AllByRecursion (AllByRecursion IsNumeral) numerals
+  pub clues_again : (at : ℕ) (numerals : List (List (List ℕ)))
+      → AllByRecursion (AllByRecursion IsNumeral) numerals
       → IsPattern (record { size = size; clues = map (map value) numerals })
       → clues_at size at (clues_text numerals) ≡ Ok (map (map value) numerals)
   clues_again at [] d h = grind arith
@@ -339,7 +355,8 @@ pub ruleset turns = (common_steps, words_nil, slash_full, slash_turn, used_push,
 pub pattern_takes : (text : List ℕ) (p : Pattern) → pattern_of text ≡ Ok p → SpellsPattern text p
 pattern_takes text p e =
     let r =
-    parts_of game.Pattern text (λ head description. clues_at (extent_of head.size) head.description description)
+    parts_of game.Pattern text
+    (λ head description. clues_at (extent_of head.size) head.description description)
     (λ head clues. record { size = extent_of head.size; clues = clues }) e in
     grind (
       arith,
@@ -353,16 +370,16 @@ pub pattern_again : (text : List ℕ) (p : Pattern) → SpellsPattern text p →
 pattern_again text p s =
     grind (
       arith,
-      puzzle_again game.Pattern pattern_behind s.front (clues_text s.numerals) p.size.w p.size.h false s.size
-          (range_of p.size s.puzzle.size),
+      puzzle_again game.Pattern pattern_behind s.front (clues_text s.numerals) p.size.w
+          p.size.h false s.size (range_of p.size s.puzzle.size),
       clues_again p.size (length s.front + 1) s.numerals s.digits,
     )
 
 pub pattern_reading : HasOneReading SpellsPattern pattern_of
 pattern_reading = reading_of _ _ pattern_again pattern_takes
 
-pub pattern_only : (text : List ℕ) (r : Result Pattern IdFault) (p : Pattern) → Gives (λ q. q) r (pattern_of text)
-    → SpellsPattern text p → Gives (λ q. q) r (Ok p)
+pub pattern_only : (text : List ℕ) (r : Result Pattern IdFault) (p : Pattern)
+    → Gives (λ q. q) r (pattern_of text) → SpellsPattern text p → Gives (λ q. q) r (Ok p)
 pattern_only text r p gives s = only_of _ _ pattern_again text r gives p s
 
 pub ruleset reads_exactly = (pattern_takes, pattern_only)

@@ -17,7 +17,8 @@ length_clue (x ∷ xs) h small some = grind (arith, common_steps, length_clue xs
 pub clue_short : {cells : ℕ} {clue : List ℕ} → IsClue cells clue → cells ≤ max_side → length (clue_text clue) ≤ cells
 clue_short h small = grind (arith, common_steps, length_clue)
 
-clues_short : (size : Extent) (line : ℕ) (clues : List (List ℕ)) → IsExtent size → AreClues size line clues
+clues_short : (size : Extent) (line : ℕ) (clues : List (List ℕ)) → IsExtent size
+    → AreClues size line clues
     → length (join_with_byte 47 (map clue_text clues)) ≤ (max_side + 1) * length clues
 clues_short size line [] e h = omega arith
 clues_short size line (c ∷ []) e h = grind (arith, common_steps, clue_short)
@@ -62,14 +63,15 @@ pattern_is_written p h =
       plain = n.1;
     }
 
-clue_plain : (clue : List (List ℕ)) → AllByRecursion IsNumeral clue → AllByRecursion IsPlain clue → used (map value clue) < 2 ^ 64
-    → map decimal (map value clue) ≡ clue
+clue_plain : (clue : List (List ℕ)) → AllByRecursion IsNumeral clue → AllByRecursion IsPlain clue
+    → used (map value clue) < 2 ^ 64 → map decimal (map value clue) ≡ clue
 clue_plain [] d h small = refl
 clue_plain (num ∷ clue) d h small = rw (plain_decimal num d.0 h.0 (omega (arith, small)), clue_plain clue d.1 h.1 (omega (arith, small))) refl
 
 clues_plain : {size : Extent} (line : ℕ) (clues : List (List (List ℕ))) → IsExtent size
     → AreClues size line (map (map value) clues) → AllByRecursion (AllByRecursion IsNumeral) clues
-    → AllByRecursion (AllByRecursion IsPlain) clues → map (map decimal) (map (map value) clues) ≡ clues
+    → AllByRecursion (AllByRecursion IsPlain) clues
+    → map (map decimal) (map (map value) clues) ≡ clues
 clues_plain line [] e h d plain = refl
 clues_plain line (clue ∷ clues) e h d plain = grind (arith, clue_plain clue d.0 plain.0, clues_plain (line + 1) clues e h.1 d.1 plain.1)
 
@@ -79,8 +81,10 @@ pattern_form text p w =
     let are : AreClues p.size 0 (map (map value) s.numerals) = subst (λ (cs : List (List ℕ)). AreClues p.size 0 cs) (sym s.clues) s.puzzle.clues in
     let same : map (map decimal) p.clues ≡ s.numerals = ap (map (map decimal)) (sym s.clues) ∙ clues_plain 0 s.numerals s.puzzle.size are s.digits w.plain in
     s.parts ∙ ap (λ (f : List ℕ). f ++ 58 ∷ clues_text s.numerals) w.both
-    ∙ ap (λ (ns : List (List (List ℕ))). size_text p.size.w p.size.h ++ 58 ∷ clues_text ns) (sym same)
-    ∙ ap (λ (ts : List (List ℕ)). size_text p.size.w p.size.h ++ 58 ∷ join_with_byte 47 ts) (texts_same p.clues)
+    ∙ ap (λ (ns : List (List (List ℕ))). size_text p.size.w p.size.h ++ 58 ∷ clues_text ns)
+    (sym same)
+    ∙ ap (λ (ts : List (List ℕ)). size_text p.size.w p.size.h ++ 58 ∷ join_with_byte 47 ts)
+    (texts_same p.clues)
 
 pub pattern_one_text : HasOneText IsPattern IsWrittenPattern pattern_text
 pattern_one_text = record { some = pattern_is_written; one = one_text _ _ pattern_form }

@@ -9,8 +9,8 @@ pub number_fits : (hides : ℕ → Type 0) (values : ℕ) (size : Extent) (g : L
 number_fits hides values size g place s lt = s.grid.each_value place 0 (omega (arith, s.grid.each_cell))
 
 -- a cell that is one of two symbols
-pub symbol_read : (symbol other v : ℕ) {text : List ℕ} (after : List ℕ) {result : Option (ℕ × ℕ)} → v < 2
-    → (symbol == symbol) ≡ true → (other == symbol) ≡ false
+pub symbol_read : (symbol other v : ℕ) {text : List ℕ} (after : List ℕ) {result : Option (ℕ × ℕ)}
+    → v < 2 → (symbol == symbol) ≡ true → (other == symbol) ≡ false
     → ((byte : ℕ) (rest : List ℕ) → text ≡ byte ∷ rest → result ≡ Some ((if byte == symbol then 1 else 0), 1))
     → text ≡ (if v == 1 then symbol ∷ [] else (other ∷ [])) ++ after
     → result ≡ Some (v, length (if v == 1 then symbol ∷ [] else (other ∷ [])))
@@ -19,8 +19,8 @@ symbol_read symbol other (suc zero) after small same different read is = read sy
 symbol_read symbol other (suc (suc v)) after small same different read is = absurd (omega arith)
 
 -- a black cell is one byte
-pub black_read : {cell : LightCell} {o : Option LightCell} {v : ℕ} (text after : List ℕ) {result : Option (ℕ × ℕ)} → o ≡ Some cell
-    → cell ≢ White → IsLightCell cell → v ≡ 0
+pub black_read : {cell : LightCell} {o : Option LightCell} {v : ℕ} (text after : List ℕ)
+    {result : Option (ℕ × ℕ)} → o ≡ Some cell → cell ≢ White → IsLightCell cell → v ≡ 0
     → (1 ≤ length text → result ≡ Some (0, 1)) → text ≡ light_symbol o v ++ after → result ≡ Some (v, length (light_symbol o v))
 black_read text after at black small none read is = grind (arith, common_steps, decimal_digit)
 

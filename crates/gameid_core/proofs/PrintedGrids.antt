@@ -16,13 +16,13 @@ same_grid hides values size g h y over under cells shown agree = grind (arith, e
 pub begins_with_form : (text ended printed : List ℕ) → ended ≡ text ++ codes "\n" → IsPrinted text printed → (more : List ℕ) × (ended ≡ printed ++ more)
 begins_with_form text ended printed is form = grind (arith, common_steps)
 
-pub either_form : {front ended bytes printed text : List ℕ} (n : ℕ) → front ≡ text ++ codes "\n" → ended ≡ text ++ codes "\n"
-    → n ≡ length text → bytes ≡ printed
+pub either_form : {front ended bytes printed text : List ℕ} (n : ℕ) → front ≡ text ++ codes "\n"
+    → ended ≡ text ++ codes "\n" → n ≡ length text → bytes ≡ printed
     → (take n front ≡ bytes) ⊎ (ended ≡ bytes) → IsPrinted text printed
 either_form n is same all form one = grind (arith, common_steps)
 
-pub form_either : {front ended bytes printed text : List ℕ} (n : ℕ) → front ≡ text ++ codes "\n" → ended ≡ text ++ codes "\n"
-    → n ≡ length text → bytes ≡ printed
+pub form_either : {front ended bytes printed text : List ℕ} (n : ℕ) → front ≡ text ++ codes "\n"
+    → ended ≡ text ++ codes "\n" → n ≡ length text → bytes ≡ printed
     → IsPrinted text printed → (take n front ≡ bytes) ⊎ (ended ≡ bytes)
 form_either n is same all form one = grind (arith, common_steps)
 

@@ -75,8 +75,8 @@ pub cell_follows : (cell : ℕ → List ℕ) (size : Extent) (y w x : ℕ) (more
     → (a : AfterCell (λ k. cell (y * w + k)) w more x rest) → Follows cell size (y * w + x) a.after
 cell_follows cell size y w x more rest wide a = grind (arith, mod-mul-add y w (x + 1))
 
-pub fit_more : (hides : ℕ → Type 0) {values : ℕ} (g new : List ℕ) {n k v : ℕ} → n < length g → new ≡ set g n v → k ≡ n + 1
-    → FitUpTo hides values g n → v < values
+pub fit_more : (hides : ℕ → Type 0) {values : ℕ} (g new : List ℕ) {n k v : ℕ} → n < length g
+    → new ≡ set g n v → k ≡ n + 1 → FitUpTo hides values g n → v < values
     → (hides n → v ≡ 0) → FitUpTo hides values new k
 fit_more hides g new within written next fit small zero_there place lt = grind (arith, common_steps)
 

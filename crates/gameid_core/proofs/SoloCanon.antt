@@ -12,7 +12,8 @@ before_short : (k : ℕ) (touches : Bool) → length (before_given k touches) �
 before_short k touches = grind (arith, common_steps, letters_short)
 
 -- a cell takes at most three bytes: '_' and two digits
-cells_short : (k : ℕ) (touches : Bool) (cells : List ℕ) → AllByRecursion (λ v. v ≤ max_numbers) cells
+cells_short : (k : ℕ) (touches : Bool) (cells : List ℕ)
+    → AllByRecursion (λ v. v ≤ max_numbers) cells
     → length (cells_text k touches cells) ≤ k + 3 * length cells
 unfolding cells_text
 cells_short k touches [] h = omega (arith, letters_short k)
@@ -94,7 +95,8 @@ full_z tokens h = grind arith
 given_apart : (v : ℕ) (tokens : List SoloToken) → IsClear tokens → AreApart tokens → AreApart (given v ∷ tokens)
 given_apart v tokens c h = grind arith
 
-tokens_form : (n k : ℕ) (touches : Bool) (cells : List ℕ) → k ≤ 26 → AllByRecursion (λ v. v ≤ n) cells
+tokens_form : (n k : ℕ) (touches : Bool) (cells : List ℕ) → k ≤ 26
+    → AllByRecursion (λ v. v ≤ n) cells
     → Form n touches (replicate k 0 ++ cells) (tokens_of k touches cells)
 unfolding tokens_of
 tokens_form n k touches [] few h = grind (arith, common_steps)
@@ -132,7 +134,8 @@ of_run k zero touches cells le = grind arith
 of_run k (suc j) touches cells le = grind (arith, nat_tests, common_steps, of_run (k + 1) j touches cells)
 
 -- tokens of the form are those of their cells
-form_tokens : (n : ℕ) (touches : Bool) (tokens : List SoloToken) → Form n touches (flat_map solo_token_cells tokens) tokens
+form_tokens : (n : ℕ) (touches : Bool) (tokens : List SoloToken)
+    → Form n touches (flat_map solo_token_cells tokens) tokens
     → tokens_of 0 touches (flat_map solo_token_cells tokens) ≡ tokens
 unfolding tokens_of
 form_tokens n touches [] f = refl

@@ -11,7 +11,8 @@ use Rattle.gameid_core.proofs.HeadLaws.{parts_of, solo_size, size_of_solo, puzzl
 
 module _ (n at : ℕ) where
   pub solo_letter : (first : ℕ) (after : List ℕ) → 97 ≤ first → first ≤ 122
-      → Cuts (first ∷ after) (first ∷ []) after × (solo_token n at (first ∷ []) ≡ Ok (replicate (first - 96) 0))
+      → Cuts (first ∷ after) (first ∷ []) after
+      × (solo_token n at (first ∷ []) ≡ Ok (replicate (first - 96) 0))
   unfolding solo_token
   solo_letter first after low high = grind (arith, cuts_single first after)
 
@@ -19,8 +20,9 @@ module _ (n at : ℕ) where
   unfolding solo_token
   solo_gap after = (cuts_single 95 after refl, refl)
 
-  pub bad_byte : (first : ℕ) (rest after : List ℕ) → rest ≡ first ∷ after → (97 ≤ first → first ≤ 122 → ⊥) → (first ≡ 95 → ⊥)
-      → (49 ≤ first → first ≤ 57 → ⊥) → (word tail : List ℕ) × Cuts rest word tail × (solo_token n at word ≡ Err (BadByte at))
+  pub bad_byte : (first : ℕ) (rest after : List ℕ) → rest ≡ first ∷ after
+      → (97 ≤ first → first ≤ 122 → ⊥) → (first ≡ 95 → ⊥) → (49 ≤ first → first ≤ 57 → ⊥)
+      → (word tail : List ℕ) × Cuts rest word tail × (solo_token n at word ≡ Err (BadByte at))
   unfolding solo_token
   bad_byte first rest after e letter no_gap lead = grind (arith, cuts_some first after)
 
@@ -33,7 +35,8 @@ module _ (n at : ℕ) where
   solo_given (b ∷ after) lead le = grind (arith, cuts_number (b ∷ after) (lead_is_digit b lead))
 
   pub solo_over : (rest : List ℕ) → begins is_lead rest ≡ true → n < value (digits_front rest)
-      → Cuts rest (digits_front rest) (after_digits rest) × (solo_token n at (digits_front rest) ≡ Err (NumberRange at))
+      → Cuts rest (digits_front rest) (after_digits rest)
+      × (solo_token n at (digits_front rest) ≡ Err (NumberRange at))
   unfolding solo_token
   solo_over [] lead over = absurd (false≢true lead)
   solo_over (b ∷ after) lead over = grind (arith, cuts_number (b ∷ after) (lead_is_digit b lead))
@@ -130,8 +133,8 @@ module _ (n : ℕ) where
     solo_take at description cells e =
         grind (
           arith,
-          cells_spelled solo_token_text solo_token_cells (IsSoloToken n) (solo_token n) IsWord token_word
-              (n * n) at [] (words description) cells (words_are description) e,
+          cells_spelled solo_token_text solo_token_cells (IsSoloToken n) (solo_token n)
+              IsWord token_word (n * n) at [] (words description) cells (words_are description) e,
           concat_words description,
           concat_texts,
           apart_tokens,
@@ -139,7 +142,8 @@ module _ (n : ℕ) where
         )
 
     -- and what is spelled is read: the texts of tokens are the tokens of their text
-    token_cuts : (token : SoloToken) (tokens : List SoloToken) → Each (token ∷ tokens) → AreApart (token ∷ tokens)
+    token_cuts : (token : SoloToken) (tokens : List SoloToken) → Each (token ∷ tokens)
+        → AreApart (token ∷ tokens)
         → Cuts (solo_token_text token ++ flat_map solo_token_text tokens) (solo_token_text token)
         (flat_map solo_token_text tokens)
     token_cuts (blanks k) tokens each h = (solo_letter n 0 (96 + k) _ (omega (arith, each.0.0)) (omega (arith, each.0.1))).0
@@ -157,7 +161,8 @@ module _ (n : ℕ) where
 
     solo_again : (at : ℕ) (tokens : List SoloToken) → Each tokens → AreApart tokens
         → length (flat_map solo_token_cells tokens) ≡ n * n
-        → solo_cells_at n at (flat_map solo_token_text tokens) ≡ Ok (flat_map solo_token_cells tokens)
+        → solo_cells_at n at (flat_map solo_token_text tokens) ≡ Ok
+        (flat_map solo_token_cells tokens)
     solo_again at tokens each h full =
         grind (arith, words_again tokens each h, cells_again solo_token_text solo_token_cells (IsSoloToken n) (solo_token n) token_again (n * n) at [] tokens each)
 
@@ -166,8 +171,9 @@ module _ (n : ℕ) where
 pub n_few : (c r : ℕ) → in_range game.Solo c r ≡ true → c * r ≤ max_numbers
 n_few c r range = grind arith
 
-pub solo_lawful : {c r : ℕ} {x : Bool} {cells : List ℕ} (at : ℕ) (description : List ℕ) → in_range game.Solo c r ≡ true
-    → solo_cells_at (c * r) at description ≡ Ok cells → IsSolo (solo_puzzle c r x cells)
+pub solo_lawful : {c r : ℕ} {x : Bool} {cells : List ℕ} (at : ℕ) (description : List ℕ)
+    → in_range game.Solo c r ≡ true → solo_cells_at (c * r) at description ≡ Ok cells
+    → IsSolo (solo_puzzle c r x cells)
 solo_lawful {c = c} {r = r} {cells = cells} at description range e =
     let small = n_few c r range in
     let d = solo_take (c * r) (omega arith) at description cells e in
@@ -179,7 +185,8 @@ solo_lawful {c = c} {r = r} {cells = cells} at description range e =
 pub solo_takes : (text : List ℕ) (p : Solo) → solo_of text ≡ Ok p → SpellsSolo text p
 solo_takes text p e =
     let r =
-    parts_of game.Solo text (λ head description. solo_cells_at (head.size.w * head.size.h) head.description description)
+    parts_of game.Solo text (λ head description. solo_cells_at (head.size.w * head.size.h)
+    head.description description)
     (λ head givens. solo_puzzle head.size.w head.size.h head.size.x givens) e in
     let small = n_few r.head.size.w r.head.size.h r.is_head.range in
     let d = solo_take (r.head.size.w * r.head.size.h) (omega arith) _ _ _ r.read in

@@ -22,8 +22,8 @@ tokens_short k (suc b ∷ cells) = omega (arith, tokens_short 0 cells)
 count_short : (n : ℕ) → n ≤ max_side → length (decimal n) ≤ max_side
 count_short n small = grind (arith, common_steps, length-decimal-le, length_decimal)
 
-counts_short : (size : Extent) (line : ℕ) (counts : List ℕ) → IsExtent size → AreCounts size line counts
-    → length (counts_text counts) ≤ (max_side + 1) * length counts
+counts_short : (size : Extent) (line : ℕ) (counts : List ℕ) → IsExtent size
+    → AreCounts size line counts → length (counts_text counts) ≤ (max_side + 1) * length counts
 counts_short size line [] e h = omega arith
 counts_short size line (n ∷ counts) e h = grind (arith, common_steps, count_short n, counts_short size (line + 1) counts e h.1)
 
@@ -108,8 +108,9 @@ form_tokens (only_blanks ∷ blanks_and_tree (suc k) ∷ tokens) each tight =
 form_tokens (only_blanks ∷ only_blanks ∷ tokens) each tight =
     grind (arith, of_run 0 25 (flat_map tents_token_cells (only_blanks ∷ tokens)), form_tokens (only_blanks ∷ tokens) each.1 tight)
 
-numbers_plain : (size : Extent) (line : ℕ) (numerals : List (List ℕ)) → IsExtent size → AreCounts size line (map value numerals)
-    → AllByRecursion IsNumeral numerals → AllByRecursion IsPlain numerals → map decimal (map value numerals) ≡ numerals
+numbers_plain : (size : Extent) (line : ℕ) (numerals : List (List ℕ)) → IsExtent size
+    → AreCounts size line (map value numerals) → AllByRecursion IsNumeral numerals
+    → AllByRecursion IsPlain numerals → map decimal (map value numerals) ≡ numerals
 numbers_plain size line [] e h d plain = refl
 numbers_plain size line (num ∷ numerals) e h d plain = grind (arith, numbers_plain size (line + 1) numerals e h.1 d.1 plain.1, plain_decimal)
 
