@@ -23,8 +23,8 @@ use Rattle.fields_core.proofs.CountBounds.{IsFull, filled-at, shown-bounds, boun
 use Rattle.std.proofs.lemmas.Grind.{common_steps}
 
 -- ---- a cell that is empty
-not-empty : (K : Candidates) (c v : ℕ) → v < 2 → K c v ≡ true → is_empty K c ≡ true → ⊥
-not-empty K c v low on none = grind (arith, common_steps, cases_eq v 0, and_parts)
+not-empty : (K : Candidates) (c : ℕ) {v : ℕ} → v < 2 → K c v ≡ true → is_empty K c ≡ true → ⊥
+not-empty K c {v} low on none = grind (arith, common_steps, cases_eq v 0, and_parts)
 
 by-value : (K : Candidates) (c v : ℕ) → v < 2 → K c v ≡ true → cond (eqb v 0) (K c 0) (K c 1) ≡ true
 by-value K c v low on = grind (arith, common_steps, cases_eq v 0, ne_eqb)
@@ -33,13 +33,13 @@ within-values : (v : ℕ) (zero_on one_on : Bool) → v < 2 → cond (eqb v 0) z
 within-values v zero_on one_on low on = grind (arith, common_steps, cases_eq v 0, ne_eqb, cases_Bool zero_on, cases_Bool one_on)
 
 -- there is room for a value that a cell has, unless it has both and the value's bound is reached
-room : (least most must may v : ℕ) (zero_on one_on : Bool) → v < 2 → cond (eqb v 0) zero_on one_on ≡ true → least ≤ may → must ≤ most
+room : {least most must may : ℕ} (v : ℕ) (zero_on one_on : Bool) → v < 2 → cond (eqb v 0) zero_on one_on ≡ true → least ≤ may → must ≤ most
     → ((zero_on && one_on) && (((eqb v 1) && (eqb must most)) || ((eqb v 0) && (eqb may least)))) ≡ false
     → (least + num one_on ≤ may + v) × (must + v ≤ most + num (not zero_on))
-room least most must may v zero_on one_on low on few many off = grind (arith, common_steps, cases_Bool zero_on, cases_Bool one_on, cases_eq v 0, eq-eqb, ne_eqb)
+room v zero_on one_on low on few many off = grind (arith, common_steps, cases_Bool zero_on, cases_Bool one_on, cases_eq v 0, eq-eqb, ne_eqb)
 
-neither : (k a b : Bool) → (k && not ((a && false) || (b && false))) ≡ k
-neither k a b = grind (arith, common_steps)
+neither : {k : Bool} (a b : Bool) → (k && not ((a && false) || (b && false))) ≡ k
+neither a b = grind (arith, common_steps)
 
 -- nothing is struck outside a house
 off-scope : (house : CountHouse) (K : Candidates) (c v : ℕ) → has_place house.places c ≡ false → strikes_of house K c v ≡ false
@@ -68,8 +68,8 @@ module _ (cells : ℕ) (house : CountHouse) (K : Candidates) (t : Tally) (is : I
         | inl some ↦
             let d = any-some (is_empty K) house.places (sym (some-counted (is_empty K) house.places) ∙ ap (ltb 0) (sym tally.empty_is) ∙ some) in
             let j = has_place-at house.places d.0 d.1 in
-            let w = filled-at K house.places f s.fills j.0 j.1 in
-            not-empty K (at j.0) (get_or f j.0 0) w.0 w.1 (rw j.2 d.2)
+            let w = filled-at K house.places s.fills j.1 in
+            not-empty K (at j.0) w.0 w.1 (rw j.2 d.2)
         | inr rest ↦ elim (or_cases (ltb house.most house.least) _ rest) [
           | inl none ↦ let e = ltb-true house.most house.least none in absurd (omega arith)
           | inr more ↦ elim (or_cases (ltb t.may house.least) (ltb house.most t.must) more) [
@@ -115,8 +115,8 @@ module _ (cells : ℕ) (house : CountHouse) (K : Candidates) (t : Tally) (is : I
           let order = or_parts (ltb house.most house.least) _ a.1 in
           let ends = or_parts (ltb t.may house.least) _ order.1 in
           let none : t.empty ≡ 0 = let e = ltb-false 0 t.empty a.0 in omega arith in
-          let w = room house.least house.most t.must t.may v (K (at k) 0) (K (at k) 1) low (by-value K (at k) v low on) (ltb-false t.may house.least ends.0) (ltb-false house.most t.must ends.1) free in
-          ap not (test_from_shown _ _ k v (bounds-shown K house.places k v is.different lt low on house.least house.most (full none) (ltb-false house.most house.least order.0)
+          let w = room v (K (at k) 0) (K (at k) 1) low (by-value K (at k) v low on) (ltb-false t.may house.least ends.0) (ltb-false house.most t.must ends.1) free in
+          ap not (test_from_shown _ _ k v (bounds-shown K house.places k v is.different lt low on (full none) (ltb-false house.most house.least order.0)
           (let n = tally.may_is in omega (arith, w.0)) (let m = tally.must_is in omega (arith, w.1))) ∙ sym free)
 
   -- ---- the board after a visit
@@ -152,7 +152,7 @@ module _ (cells : ℕ) (house : CountHouse) (K : Candidates) (t : Tally) (is : I
                 let n = tally.may_is in
                 let apart : t.must < t.may = let r = open-room K house.places k 0 is.different lt (omega arith) w.0 (full (let e = ltb-false 0 t.empty full_parts.0 in omega arith)) both in omega arith in
                 let one : num (not (eqb t.must t.may)) ≡ 1 = rw (ne_eqb t.must t.may (λ e. absurd (omega arith))) refl in
-                rw (both, ne_eqb t.must house.most (λ e. absurd (omega arith)), ne_eqb t.may house.least (λ e. absurd (omega arith))) (neither (K (at k) v) (eqb v 1) (eqb v 0))
+                rw (both, ne_eqb t.must house.most (λ e. absurd (omega arith)), ne_eqb t.may house.least (λ e. absurd (omega arith))) (neither (eqb v 1) (eqb v 0))
           ])
 
 -- ---- the bits of a cell

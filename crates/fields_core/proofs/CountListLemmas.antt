@@ -26,8 +26,8 @@ pub begun-same : (a b : CountList) (xs ys : List ℕ) → IsBegun a b xs → xs 
 begun-same a b xs ys p e = rw e at p
 
 -- ---- more houses
-pub added-none : (list : CountList) (houses : List CountHouse) → list.list.begun ≡ [] → houses ≡ [] → IsAdded list list houses
-added-none list houses none e = grind (arith, common_steps, append-nil)
+pub added-none : {list : CountList} {houses : List CountHouse} → list.list.begun ≡ [] → houses ≡ [] → IsAdded list list houses
+added-none none e = grind (arith, common_steps, append-nil)
 
 pub below-none : (f : ℕ → List CountHouse) → houses_below f 0 ≡ []
 unfolding houses_below
@@ -54,14 +54,14 @@ beside-fits a b test size place n begun lt fits =
     let long = ap length begun.begun in
     omega (arith, fits, length-append a.list.begun some, filter-few test (steps size place n), steps-few size place n)
 
-pub added-few : (a b : CountList) (f : ℕ → List CountHouse) (n : ℕ) → IsAdded a b (houses_below f n) → ((c : ℕ) → length (f c) ≤ 1) → length b.list.closed ≤ length a.list.closed + n
-added-few a b f n added each =
+pub added-few : {a b : CountList} (f : ℕ → List CountHouse) (n : ℕ) → IsAdded a b (houses_below f n) → ((c : ℕ) → length (f c) ≤ 1) → length b.list.closed ≤ length a.list.closed + n
+added-few {a} f n added each =
     let long = ap length added.closed in
     omega (arith, length-append a.list.closed (map house_places (houses_below f n)), length-map (houses_below f n) house_places, below-few f n each)
 
 -- and so there is room for the next
-pub added-fits : (a b : CountList) (f : ℕ → List CountHouse) (n cells : ℕ) → IsAdded a b (houses_below f n) → ((c : ℕ) → length (f c) ≤ 1) → n < cells → FitsLists a.list cells → FitsLists b.list 1
-added-fits a b f n cells added each lt fits = omega (arith, added-few a b f n added each, fits)
+pub added-fits : {a b : CountList} (f : ℕ → List CountHouse) {n cells : ℕ} → IsAdded a b (houses_below f n) → ((c : ℕ) → length (f c) ≤ 1) → n < cells → FitsLists a.list cells → FitsLists b.list 1
+added-fits f {n} added each lt fits = omega (arith, added-few f n added each, fits)
 
 -- houses of four kinds, each of the numbers below some number
 pub four-added : {a b c d e : CountList} (f g h k : ℕ → List CountHouse) {i j l m i' j' l' m' : ℕ}
@@ -72,8 +72,8 @@ pub four-added : {a b c d e : CountList} (f g h k : ℕ → List CountHouse) {i 
 four-added {a} {b} {c} {d} {e} f g h k {i} {j} {l} {m} {i'} {j'} {l'} {m'} none no_bounds p q r s same_i same_j same_l same_m = grind (arith, common_steps, append_assoc, map-append)
 
 -- ---- a table of their cells, and their bounds
-pub counted-table : {cells : ℕ} (houses : List CountHouse) → AreHouses cells houses → AreCounted cells (map house_places houses) houses
-counted-table houses are = record { as_many = length-map houses house_places; places = places-at houses; each = are }
+pub counted-table : {cells : ℕ} {houses : List CountHouse} → AreHouses cells houses → AreCounted cells (map house_places houses) houses
+counted-table {houses} are = record { as_many = length-map houses house_places; places = places-at houses; each = are }
 
-pub bounds-at : (houses : List CountHouse) (bounds : List Bounds) (h : ℕ) (d : Bounds) → bounds ≡ map bounds_of houses → h < length houses → get_or bounds h d ≡ bounds_of (count_house_of houses h)
-bounds-at houses bounds h d e lt = rw e (get_or-map bounds_of houses h no_count_house d lt)
+pub bounds-at : (houses : List CountHouse) {bounds : List Bounds} {h : ℕ} (d : Bounds) → bounds ≡ map bounds_of houses → h < length houses → get_or bounds h d ≡ bounds_of (count_house_of houses h)
+bounds-at houses {h} d e lt = rw e (get_or-map bounds_of houses h no_count_house d lt)

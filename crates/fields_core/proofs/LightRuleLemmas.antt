@@ -22,8 +22,8 @@ use Rattle.fields_core.proofs.LightSight.{some-column}
 use Rattle.std.proofs.lemmas.Grind.{common_steps}
 
 -- ---- who sees whom
-div-under : (a b w : ℕ) → 0 < w → a ≤ b → a / w ≤ b / w
-div-under a b w pos le = le-div (a / w) b w pos (let d = div-mul-le_self a w in omega arith)
+div-under : {a b w : ℕ} → 0 < w → a ≤ b → a / w ≤ b / w
+div-under {a} {b} {w} pos le = le-div (a / w) b w pos (let d = div-mul-le_self a w in omega arith)
 
 row-joined : (p : Light) (a b : ℕ) → joined_in_row p a b ≡ true → AreJoined p (light_row p) a b
 row-joined p a b on =
@@ -58,8 +58,8 @@ column-joined p a b pos on =
     }
   where
     rows-between : (a b c w : ℕ) → 0 < w → IsFromTo a b c → (min (a / w) (b / w) ≤ c / w) × (c / w ≤ max (a / w) (b / w))
-    rows-between a b c w pos (inl up) = let l = div-under a c w pos up.0 in let h = div-under c b w pos up.1 in (omega arith, omega arith)
-    rows-between a b c w pos (inr down) = let l = div-under b c w pos down.0 in let h = div-under c a w pos down.1 in (omega arith, omega arith)
+    rows-between a b c w pos (inl up) = let l = div-under pos up.0 in let h = div-under pos up.1 in (omega arith, omega arith)
+    rows-between a b c w pos (inr down) = let l = div-under pos down.0 in let h = div-under pos down.1 in (omega arith, omega arith)
 
 joined-column : (p : Light) (a b : ℕ) → 0 < p.size.w → AreJoined p (light_column p) a b → joined_in_column p a b ≡ true
 unfolding joined_in_column
@@ -77,9 +77,9 @@ sees-rule : (p : Light) (a b : ℕ) → 0 < p.size.w → sees p a b ≡ true →
 unfolding sees
 sees-rule p a b pos on = grind (arith, common_steps, and_parts, eq-eqb, not-true, or_cases, row-joined, column-joined)
 
-rule-sees : (p : Light) (a b : ℕ) → 0 < p.size.w → Sees p a b → sees p a b ≡ true
+rule-sees : {p : Light} {a b : ℕ} → 0 < p.size.w → Sees p a b → sees p a b ≡ true
 unfolding sees
-rule-sees p a b pos is = grind (arith, common_steps, and_from, ne_eqb, or_left, joined-row, or_right, joined-column)
+rule-sees pos is = grind (arith, common_steps, and_from, ne_eqb, or_left, joined-row, or_right, joined-column)
 
 bulb-rule : (p : Light) (g : List ℕ) (c : ℕ) → 0 < p.size.w → sees_bulb p g c ≡ true → SeesBulb p g c
 unfolding sees_bulb
@@ -87,14 +87,14 @@ bulb-rule p g c pos on = grind (arith, common_steps, any_below-some, and_parts, 
 
 rule-bulb : (p : Light) (g : List ℕ) (c : ℕ) → 0 < p.size.w → SeesBulb p g c → sees_bulb p g c ≡ true
 unfolding sees_bulb
-rule-bulb p g c pos is = any_below-here (λ d. sees p c d && bulb g d) (light_cells p) is.other is.within (and_from _ _ (rule-sees p c is.other pos is.seen) is.has_bulb)
+rule-bulb p g c pos is = any_below-here (λ d. sees p c d && bulb g d) (light_cells p) is.other is.within (and_from _ _ (rule-sees pos is.seen) is.has_bulb)
 
 -- ---- the four rules
-number-rule : (cell : LightCell) (bulbs n : ℕ) → number_is cell bulbs ≡ true → cell ≡ Numbered n → bulbs ≡ n
-number-rule cell bulbs n on e = eqb-true bulbs n (rw e at on)
+number-rule : {cell : LightCell} {bulbs : ℕ} (n : ℕ) → number_is cell bulbs ≡ true → cell ≡ Numbered n → bulbs ≡ n
+number-rule {bulbs} n on e = eqb-true bulbs n (rw e at on)
 
-not-alone : (on seen : Bool) → not (on && seen) ≡ true → on ≡ true → seen ≡ true → ⊥
-not-alone on seen right a b = grind (arith, common_steps)
+not-alone : {on seen : Bool} → not (on && seen) ≡ true → on ≡ true → seen ≡ true → ⊥
+not-alone right a b = grind (arith, common_steps)
 
 pub rule-from-test : (p : Light) (g : List ℕ) → IsGrid (light_cells p) 2 g → solves_lights p g ≡ true → IsLightSolution p g
 unfolding black_right number_right bulb_right lit_right
@@ -106,15 +106,15 @@ rule-from-test p g grid on =
         | inl is ↦ is
         | inr zero_at ↦ let a = eqb-true (slice_index g c) 0 zero_at in let b = eqb-true (slice_index g c) 1 bulb_on in absurd (omega arith)
       ];
-      numbers = λ c n lt e. number-rule (get_or p.cells c Black) (bulbs_beside p g c) n (all_below-at (number_right p g) (light_cells p) c parts.number lt) e;
+      numbers = λ c n lt e. number-rule n (all_below-at (number_right p g) (light_cells p) c parts.number lt) e;
       none_seen = λ c d lc ld on_c on_d is.
-          not-alone (bulb g c) (sees_bulb p g c) (all_below-at (bulb_right p g) (light_cells p) c parts.seen lc) on_c
-          (rule-bulb p g c (some-column p c lc) (record { other = d; within = ld; has_bulb = on_d; seen = is }));
+          not-alone (all_below-at (bulb_right p g) (light_cells p) c parts.seen lc) on_c
+          (rule-bulb p g c (some-column p lc) (record { other = d; within = ld; has_bulb = on_d; seen = is }));
       all_lit = λ c lt is_white. elim (or_cases (not (white p c)) (bulb g c || sees_bulb p g c) (all_below-at (lit_right p g) (light_cells p) c parts.lit lt)) [
         | inl black ↦ absurd (true≢false (sym is_white ∙ not-true (white p c) black))
         | inr lit ↦ elim (or_cases (bulb g c) (sees_bulb p g c) lit) [
           | inl here ↦ inl here
-          | inr seen ↦ inr (bulb-rule p g c (some-column p c lt) seen)
+          | inr seen ↦ inr (bulb-rule p g c (some-column p lt) seen)
         ]
       ];
     }
@@ -148,7 +148,7 @@ module _ (p : Light) (g : List ℕ) where
     unfolding number_right
     number-made = record {
       failed = λ c lt off. by c (get_or p.cells c Black) off refl;
-      held = λ c lt on (n, e, other). other (number-rule (get_or p.cells c Black) (bulbs_beside p g c) n on e);
+      held = λ c lt on (n, e, other). other (number-rule n on e);
     }
       where
         by : (c : ℕ) (cell : LightCell) → number_is cell (bulbs_beside p g c) ≡ false → get_or p.cells c Black ≡ cell → FailsLight p g (fault.Number c)
@@ -159,15 +159,15 @@ module _ (p : Light) (g : List ℕ) where
     seen-made : IsMade (FailsLight p g) seen
     unfolding bulb_right
     seen-made = record {
-      failed = λ c lt off. let parts = and_parts (bulb g c) (sees_bulb p g c) (not-false _ off) in (parts.0, bulb-rule p g c (some-column p c lt) parts.1);
-      held = λ c lt on (bulb_on, one). not-alone (bulb g c) (sees_bulb p g c) on bulb_on (rule-bulb p g c (some-column p c lt) one);
+      failed = λ c lt off. let parts = and_parts (bulb g c) (sees_bulb p g c) (not-false _ off) in (parts.0, bulb-rule p g c (some-column p lt) parts.1);
+      held = λ c lt on (bulb_on, one). not-alone on bulb_on (rule-bulb p g c (some-column p lt) one);
     }
 
     dark-made : IsMade (FailsLight p g) dark
     unfolding lit_right
     dark-made = record {
-      failed = λ c lt off. grind (arith, common_steps, or_parts, not-false, rule-bulb, some-column p c lt);
-      held = λ c lt on (is_white, dark, unseen). grind (arith, common_steps, or_cases, not-true, bulb-rule, some-column p c lt);
+      failed = λ c lt off. grind (arith, common_steps, or_parts, not-false, rule-bulb, some-column p lt);
+      held = λ c lt on (is_white, dark, unseen). grind (arith, common_steps, or_cases, not-true, bulb-rule, some-column p lt);
     }
 
     pub light-made : AllByRecursion (IsMade (FailsLight p g)) kinds

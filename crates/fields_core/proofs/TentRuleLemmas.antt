@@ -54,8 +54,8 @@ gives-tree p g chosen long is = record {
     stands : (c : ℕ) → tent g c ≡ true → (index_of (tents_of p g) c < length (tents_of p g)) × (slice_index (tents_of p g) (index_of (tents_of p g) c) ≡ c)
     stands c on = index-is (tents_of p g) c (tent-listed p g c long on)
 
-no-two : (touch : Bool) (tent_on : Bool) → (touch && tent_on) ≡ false → tent_on ≡ true → touch ≡ false
-no-two touch tent_on off on = grind (arith, common_steps)
+no-two : {touch tent_on : Bool} → (touch && tent_on) ≡ false → tent_on ≡ true → touch ≡ false
+no-two off on = grind (arith, common_steps)
 
 pub solution-from-tents : (p : Tents) (g : List ℕ) → IsGrid (tent_cells p) 2 g → solves_tents p g ≡ true → IsTentSolution p g
 unfolding tree_right touch_right column_right row_right
@@ -71,7 +71,7 @@ solution-from-tents p g grid on =
       none_touch = λ c d lc ld on_c on_d.
           let alone = not-true _ (all_below-at (touch_right p g) (tent_cells p) c parts.touch lc) in
           let none = any_below-none (λ d. touches p.size c d && tent g d) (tent_cells p) (rw on_c at alone) d ld in
-          no-two (touches p.size c d) (tent g d) none on_d;
+          no-two none on_d;
       columns = λ x lt. eqb-true (tents_in_column p.size g x) (slice_index p.counts x) (all_below-at (column_right p g) p.size.w x parts.columns lt);
       rows = λ y lt. eqb-true (tents_in_row p.size g y) (slice_index p.counts (p.size.w + y)) (all_below-at (row_right p g) p.size.h y parts.rows lt);
       tree_of = λ c. slice_index w.0 (index_of (tents_of p g) c);

@@ -21,19 +21,19 @@ places-at [] h = refl
 places-at (house ∷ houses) zero = refl
 places-at (house ∷ houses) (suc h) = places-at houses h
 
-start-within : (cells : ℕ) (blocked : ℕ → Bool) → IsWithin cells 2 (start_of cells blocked)
+start-within : {cells : ℕ} (blocked : ℕ → Bool) → IsWithin cells 2 (start_of cells blocked)
 unfolding start_of all_of
-start-within cells blocked c v on =
+start-within {cells} blocked c v on =
     let w = and_parts _ _ on in
     let u = and_parts _ _ w.0 in
     (ltb-true c cells u.0, ltb-true v 2 u.1)
 
 -- a grid that leaves blocked cells at 0 lies inside the start
-start-single : (cells : ℕ) (blocked : ℕ → Bool) (g : List ℕ) → IsGrid cells 2 g
+start-single : {cells : ℕ} (blocked : ℕ → Bool) (g : List ℕ) → IsGrid cells 2 g
     → ((c : ℕ) → c < cells → blocked c ≡ true → slice_index g c ≡ 0)
     → IsInside (single g) (start_of cells blocked)
 unfolding start_of all_of
-start-single cells blocked g grid zero_at c v on =
+start-single {cells} blocked g grid zero_at c v on =
     let w = single-is g c v on in
     let small = grid.each_value c 0 w.0 in
     let lt : c < cells = omega (arith, w.0, grid.each_cell) in
@@ -61,7 +61,7 @@ count-lawful cells blocked houses is_solution counting = record {
       strikes_at-inside 2 (places h) (decides h) (by_fillings-monotone (holds h)) K L inside c v struck;
   strikes_in_scope = λ h K c v lt struck. strikes_at-in_scope 2 (places h) (decides h) K c v struck;
   solutions_start = λ g grid good.
-      start-single cells blocked g grid (counting.blocked_zero g grid good);
+      start-single blocked g grid (counting.blocked_zero g grid good);
   solutions_closed = λ g grid good h c v lt on. by_fillings-closed 2 (places h) (holds h) g
       (λ k less. omega (arith, grid.each_cell, (counting.are_houses h lt).within (slice_index (places h) k) (has_place-here (places h) k less)))
       (λ d less. grid.each_value d 0 less) (counting.meets_each g grid good h lt) c v on;
@@ -73,7 +73,7 @@ count-lawful cells blocked houses is_solution counting = record {
   some_values = omega arith;
   few_values = omega arith;
   few_cells = counting.few_cells;
-  start_within = start-within cells blocked;
+  start_within = start-within blocked;
   scope_within = λ h c lt member. (counting.are_houses h lt).within c member;
   scope_distinct = λ h j k lt lj lk e. (counting.are_houses h lt).different j k lj lk e;
 }

@@ -14,7 +14,7 @@ use Rattle.solo_core.specs.RuleSets.{deciding, house_by, filled_houses, setting_
 pub length-deciding : (decides : Decision) (p : Solo) → length (deciding decides p) ≡ length (houses_of p)
 length-deciding decides p = length-map (houses_of p) (house_by decides p)
 
-module _ (decides : Decision) (p : Solo) (h : ℕ) (lt : h < length (deciding decides p)) where
+module _ (decides : Decision) (p : Solo) {h : ℕ} (lt : h < length (deciding decides p)) where
   inside : h < length (houses_of p)
   inside = omega (arith, lt, length-deciding decides p)
 
@@ -25,23 +25,23 @@ module _ (decides : Decision) (p : Solo) (h : ℕ) (lt : h < length (deciding de
   decides-at = sym (ap (λ (house : House). house.decides) deciding-at)
 
   pub long-at : IsSolo p → length (house_of (deciding decides p) h).places ≡ solo_n p
-  long-at ok = ap (λ (house : House). length house.places) deciding-at ∙ (lists_house p ok (get_or (houses_of p) h (Row 0)) (all_houses p h (Row 0) inside)).len
+  long-at ok = ap (λ (house : House). length house.places) deciding-at ∙ (lists_house ok (get_or (houses_of p) h (Row 0)) (all_houses p h (Row 0) inside)).len
 
 -- what is kept of the sets of a house, where it is decided
-pub kept-houses : (settled : Bool) (p : Solo) (houses : List House) → All (IsSound (setting_of settled p houses)) houses → (h : ℕ) → h < length houses → (K : Candidates) (sets kept : List ℕ)
+pub kept-houses : (settled : Bool) (p : Solo) (houses : List House) → All (IsSound (setting_of settled p houses)) houses → {h : ℕ} → h < length houses → {K : Candidates} {sets kept : List ℕ}
     → AreSetsOf (rules_of settled p houses) h K sets → IsDecided (solo_n p) (house_of houses h).decides sets kept → IsKept (rules_of settled p houses) h K true kept
-kept-houses settled p houses sound h lt K sets kept are decided = kept-decided (rules_of settled p houses) h (house_of houses h).decides K true sets kept (λ L d v. refl)
+kept-houses settled p houses sound {h} lt {K} {sets} {kept} are decided = kept-decided (rules_of settled p houses) h (house_of houses h).decides K true sets kept (λ L d v. refl)
     (sound h no_house lt).different are decided (λ e. absurd (true≢false e))
 
-pub kept-deciding : (settled : Bool) (p : Solo) (decides : Decision) → All (IsSound (setting_of settled p (deciding decides p))) (deciding decides p)
-    → (h : ℕ) → h < length (deciding decides p) → (K : Candidates) (sets kept : List ℕ)
+pub kept-deciding : (settled : Bool) (p : Solo) {decides : Decision} → All (IsSound (setting_of settled p (deciding decides p))) (deciding decides p)
+    → {h : ℕ} → h < length (deciding decides p) → (K : Candidates) {sets kept : List ℕ}
     → AreSetsOf (rules_of settled p (deciding decides p)) h K sets → IsDecided (solo_n p) decides sets kept → IsKept (rules_of settled p (deciding decides p)) h K true kept
-kept-deciding settled p decides sound h lt K sets kept are decided = kept-houses settled p (deciding decides p) sound h lt K sets kept are (rw (decides-at decides p h lt) at decided)
+kept-deciding settled p {decides} sound lt K are decided = kept-houses settled p (deciding decides p) sound lt are (rw (decides-at decides p lt) at decided)
 
 -- ---- crossings after the houses
-pub listed-deciding : (decides : Decision) (p : Solo) (first second : Listed) → first ≡ record { closed = []; begun = [] }
+pub listed-deciding : (decides : Decision) (p : Solo) {first second : Listed} → first ≡ record { closed = []; begun = [] }
     → second ≡ record { closed = first.closed ++ map (places_of p) (houses_of p); begun = [] } → second.closed ≡ all_places (deciding decides p)
-listed-deciding decides p first second none e =
+listed-deciding decides p none e =
     ap (λ (list : Listed). list.closed) e ∙ ap (λ (list : Listed). list.closed ++ map (places_of p) (houses_of p)) none
     ∙ sym (map-map (λ (house : House). house.places) (house_by decides p) (houses_of p))
 
@@ -49,5 +49,5 @@ pub listed-crossings : (p : Solo) (none first second : Listed) → none ≡ reco
     → first ≡ record { closed = none.closed ++ map (places_of p) (houses_of p); begun = [] } → second ≡ record { closed = first.closed ++ all_places (crossings_of p); begun = [] }
     → second.closed ≡ all_places (filled_houses p ++ crossings_of p)
 listed-crossings p none first second z a b =
-    ap (λ (list : Listed). list.closed) b ∙ ap (λ xs. xs ++ all_places (crossings_of p)) (listed-deciding (strikes_by_fillings no_repeat) p none first z a)
+    ap (λ (list : Listed). list.closed) b ∙ ap (λ xs. xs ++ all_places (crossings_of p)) (listed-deciding (strikes_by_fillings no_repeat) p z a)
     ∙ sym (map-append (λ (house : House). house.places) (filled_houses p) (crossings_of p))

@@ -32,12 +32,12 @@ repeat_shown xs i j low within same = sym (false_from_ne_true (no_repeat xs) (λ
 
 -- the numbers of a house, one by one
 pub len_of : (p : Solo) (g : List ℕ) (house : NamedHouse) → IsSolo p → IsHouseOf p house → length (numbers_of p g house) ≡ solo_n p
-len_of p g house ok is = length-map (places_of p house) (slice_index g) ∙ (lists_house p ok house is).len
+len_of p g house ok is = length-map (places_of p house) (slice_index g) ∙ (lists_house ok house is).len
 
 pub number_at : (p : Solo) (g : List ℕ) (house : NamedHouse) (k place number : ℕ) → IsSolo p → IsHouseOf p house → k < solo_n p
     → place ≡ slice_index (places_of p house) k → number ≡ slice_index g place → number ≡ get_or (numbers_of p g house) k 0
 number_at p g house k place number ok is lt at read =
-    let len = (lists_house p ok house is).len in
+    let len = (lists_house ok house is).len in
     read ∙ ap (slice_index g) at ∙ sym (get_or-map (slice_index g) (places_of p house) k 0 0 (omega arith))
 
 -- the bits are the first k numbers, which differ
@@ -54,8 +54,8 @@ seen_none xs = record {
 }
 
 module _ (xs : List ℕ) (k seen number : ℕ) (h : HasSeen xs k seen) (is : number ≡ get_or xs k 0) where
-  pub seen_more : (new : ℕ) → has_bit seen number ≡ false → ((v : ℕ) → has_bit new v ≡ (has_bit seen v || eqb v number)) → HasSeen xs (k + 1) new
-  seen_more new off each = record {
+  pub seen_more : {new : ℕ} → has_bit seen number ≡ false → ((v : ℕ) → has_bit new v ≡ (has_bit seen v || eqb v number)) → HasSeen xs (k + 1) new
+  seen_more off each = record {
     shown = λ v on. elim (or_cases (has_bit seen v) (eqb v number) (sym (each v) ∙ on)) [
       | inl before ↦ let w = h.shown v before in (w.0, omega (arith, w.1), w.2)
       | inr here ↦ (k, omega arith, sym (eqb-true v number here ∙ is))
@@ -75,7 +75,7 @@ module _ (p : Solo) (ok : IsSolo p) (g : List ℕ) where
   repeats_in : (house : NamedHouse) → IsHouseOf p house → no_repeat (numbers_of p g house) ≡ false → Repeats p g house
   repeats_in house is e =
       let w = repeat_found (numbers_of p g house) e in
-      let l = lists_house p ok house is in
+      let l = lists_house ok house is in
       let long = length-map (places_of p house) (slice_index g) in
       let len = l.len in
       let a = w.2 in
@@ -94,7 +94,7 @@ module _ (p : Solo) (ok : IsSolo p) (g : List ℕ) where
 
   -- and one that does not
   none_repeats : (house : NamedHouse) → IsHouseOf p house → no_repeat (numbers_of p g house) ≡ true → Repeats p g house → ⊥
-  none_repeats house is holds (j, k, lj, lk, ne, a, b, same) = differ_in (places_of p house) (solo_n p) (solo_cells p) (lies_in p house) (lists_house p ok house is) g holds j k lj lk ne a b same
+  none_repeats house is holds (j, k, lj, lk, ne, a, b, same) = differ_in (lists_house ok house is) g holds j k lj lk ne a b same
 
   fault_fails : (house : NamedHouse) → Repeats p g house → FailsSolo p g (fault_of house)
   fault_fails (Row y) again = again

@@ -10,13 +10,13 @@ pub returns-then-house-count-clause-kept : goal.returns-then-house-count-clause-
 returns-then-house-count-clause-kept c = λ K are.
     let p = c.args.self.now.puzzle in
     let lt : c.args.house < length (filled_houses p) = omega (arith, filled-length p, c.houses-count.ensures.value) in
-    let decides = decides-at (strikes_by_fillings no_repeat) p c.args.house lt ∙ ap (λ (house : House). house.decides) (first_at (filled_houses p) (crossings_of p) c.args.house lt) in
-    kept-houses true p (filled_houses p ++ crossings_of p) (crossings_sound p c.args.self.now.is_solo) c.args.house c.requires.house_in K _ _ are (rw (c.n.ensures.value, decides) at c.keep_houses.ensures.decided)
+    let decides = decides-at (strikes_by_fillings no_repeat) p lt ∙ ap (λ (house : House). house.decides) (first_at (filled_houses p) (crossings_of p) lt) in
+    kept-houses true p (filled_houses p ++ crossings_of p) (crossings_sound p c.args.self.now.is_solo) c.requires.house_in are (rw (c.n.ensures.value, decides) at c.keep_houses.ensures.decided)
 
 pub returns-else-house-count-clause-kept : goal.returns-else-house-count-clause-kept
 returns-else-house-count-clause-kept c = λ K are.
     let p = c.args.self.now.puzzle in
     let le : length (filled_houses p) ≤ c.args.house = omega (arith, filled-length p, c.houses-count.ensures.value) in
-    let decides = ap (λ (house : House). house.decides) (later_at (filled_houses p) (crossings_of p) c.args.house le) in
-    kept-houses true p (filled_houses p ++ crossings_of p) (crossings_sound p c.args.self.now.is_solo) c.args.house c.requires.house_in K _ _ are
+    let decides = ap (λ (house : House). house.decides) (later_at (filled_houses p) (crossings_of p) le) in
+    kept-houses true p (filled_houses p ++ crossings_of p) (crossings_sound p c.args.self.now.is_solo) c.requires.house_in are
     (rw (c.houses-count.ensures.value ∙ sym (filled-length p), decides) at c.keep_crossed.ensures)

@@ -7,4 +7,4 @@ use Rattle.solo_core.proofs.rule_sets.FillingsRuleSet.filter.Goals as goal
 pub returns-clause-kept : goal.returns-clause-kept
 returns-clause-kept c = λ K are.
     let p = c.args.self.now.puzzle in
-    kept-deciding true p (strikes_by_fillings no_repeat) (fillings_sound p c.args.self.now.is_solo) _ c.requires.house_in K _ _ are (rw c.n.ensures.value at c.keep_houses.ensures.decided)
+    kept-deciding true p (fillings_sound p c.args.self.now.is_solo) c.requires.house_in K are (rw c.n.ensures.value at c.keep_houses.ensures.decided)

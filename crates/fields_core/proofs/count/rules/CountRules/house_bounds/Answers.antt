@@ -11,7 +11,7 @@ index-requires g c =
     omega arith
 
 pub returns-clause-bounds : goal.returns-clause-bounds
-returns-clause-bounds g c = c.index.ensures ∙ bounds-at _ _ c.args.house _ c.args.self.now.bounded c.requires
+returns-clause-bounds g c = c.index.ensures ∙ bounds-at _ _ c.args.self.now.bounded c.requires
 
 pub returns-clause-lawful : goal.returns-clause-lawful
 returns-clause-lawful g c = c.args.self.now.counting.are_houses c.args.house c.requires

@@ -5,7 +5,7 @@ use Rattle.fields_core.proofs.count.rules.CountRulesRuleSet.filter.Goals as goal
 
 pub returns-then-not-calls-clause-kept : goal.returns-then-not-calls-clause-kept
 returns-then-not-calls-clause-kept g c = λ K sets. record {
-  none = λ off k v lt low on. idle-by _ _ _ _ _ c.house_bounds-bounds.ensures.lawful c.house_bounds-bounds.ensures.bounds c.calls.ensures c.if-not-calls.true K
+  none = λ off k v lt low on. idle-by c.house_bounds-bounds.ensures.lawful c.house_bounds-bounds.ensures.bounds c.calls.ensures c.if-not-calls.true K
       (rw c.of_sets-tally.ensures (sets-tally K _ _ sets.as_many sets.bits)) _ v low on;
   bits = λ e. absurd (true≢false (sym e));
 }

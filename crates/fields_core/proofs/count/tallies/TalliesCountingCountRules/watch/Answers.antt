@@ -31,7 +31,7 @@ loop-place-init g c =
     let ok = c.args.self.now.tallies.ok.0 in
     (
       rw (written c.args.self.now.tallies.len c.count_open.new.tallies _ (omega (arith, ok, c.deref_mut.ensures.len, c.count_open.ensures.as_many)))
-      (unread-tallied (g.P.CountGame.board c.args.set.now.puzzle) (has c.args.board.now) _ houses c.count_open.new.tallies (counted-table houses c.args.set.now.counting.are_houses)
+      (unread-tallied (has c.args.board.now) (counted-table c.args.set.now.counting.are_houses)
       (omega (arith, c.count_open.ensures.as_many, c.deref_mut.ensures.len, c.requires.served)) (λ h lt. rw (c.requires.table, places-at houses h) at (c.count_open.ensures.counted h (omega arith)))),
       λ needs served. served,
     )
@@ -43,10 +43,10 @@ change-requires-clause-recounted g c =
       board = _;
       changed = _;
       is_so = c.loop-place.invariant.0;
-      change = read-change cells (has c.args.board.now) c.loop-place.place c.bits-bits.result
+      change = read-change (has c.args.board.now)
           (omega (arith, c.loop-place-test.true, c.cells-place-end.ensures, ap (λ (t : Table). t.cells) c.requires.table))
-          (board-within c.args.board.now cells c.requires.board_of.same_cells c.requires.board_of.same_values)
-          (bits-are c.args.board.now c.loop-place.place c.bits-bits.result c.requires.board_of.same_values c.bits-bits.ensures.small c.bits-bits.ensures.same);
+          (board-within c.args.board.now c.requires.board_of.same_cells c.requires.board_of.same_values)
+          (bits-are c.args.board.now c.loop-place.place c.requires.board_of.same_values c.bits-bits.ensures.small c.bits-bits.ensures.same);
     }
 
 pub loop-place-preserved : goal.loop-place-preserved
@@ -55,15 +55,15 @@ loop-place-preserved g c =
     let houses = g.P.CountGame.counted c.args.set.now.puzzle in
     let i = c.loop-place.invariant in
     let lt : c.loop-place.place < cells = omega (arith, c.loop-place-test.true, c.cells-place-end.ensures, ap (λ (t : Table). t.cells) c.requires.table) in
-    let within = board-within c.args.board.now cells c.requires.board_of.same_cells c.requires.board_of.same_values in
-    let bits = bits-are c.args.board.now c.loop-place.place c.bits-bits.result c.requires.board_of.same_values c.bits-bits.ensures.small c.bits-bits.ensures.same in
+    let within = board-within c.args.board.now c.requires.board_of.same_cells c.requires.board_of.same_values in
+    let bits = bits-are c.args.board.now c.loop-place.place c.requires.board_of.same_values c.bits-bits.ensures.small c.bits-bits.ensures.same in
     elim c.if-bits-ne-BOTH.branch [
       | then-bits-ne-BOTH w ↦ rw w.self-is (
-        w.change.ensures.follows _ _ i.0 (read-change cells (has c.args.board.now) c.loop-place.place c.bits-bits.result lt within bits),
+        w.change.ensures.follows _ _ i.0 (read-change (has c.args.board.now) lt within bits),
         λ needs served. w.change.ensures.keeps needs (i.1 needs served),
       )
       | else-bits-ne-BOTH w ↦ rw w.self-is (
-        subst (AreTallied cells houses c.loop-place.self.tallies.items) (read-both cells (has c.args.board.now) c.loop-place.place lt within (rw w.if-bits-ne-BOTH.false at bits)) i.0,
+        subst (AreTallied cells houses c.loop-place.self.tallies.items) (read-both (has c.args.board.now) lt within (rw w.if-bits-ne-BOTH.false at bits)) i.0,
         i.1,
       )
     ]
@@ -72,5 +72,5 @@ pub returns-clause-follows : goal.returns-clause-follows
 returns-clause-follows g c =
     let cells = g.P.CountGame.board c.args.set.now.puzzle in
     subst (AreTallied cells (g.P.CountGame.counted c.args.set.now.puzzle) c.loop-place.self.tallies.items)
-    (read-whole cells (has c.args.board.now) c.loop-place.place (omega (arith, c.loop-place-test.false, c.cells-place-end.ensures, ap (λ (t : Table). t.cells) c.requires.table))
-    (board-within c.args.board.now cells c.requires.board_of.same_cells c.requires.board_of.same_values)) c.loop-place.invariant.0
+    (read-whole (has c.args.board.now) c.loop-place.place (omega (arith, c.loop-place-test.false, c.cells-place-end.ensures, ap (λ (t : Table). t.cells) c.requires.table))
+    (board-within c.args.board.now c.requires.board_of.same_cells c.requires.board_of.same_values)) c.loop-place.invariant.0
