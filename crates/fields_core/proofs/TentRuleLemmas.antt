@@ -129,7 +129,7 @@ module _ (p : Tents) (g : List ℕ) where
 
     match-made : IsMade (FailsTents p g) match
     match-made = record {
-      failed = λ k lt off tree_of is. true≢false (sym (pairs-from p g tree_of grid.each_cell is) ∙ off);
+      failed = λ k lt off tree_of is. true≢false (sym (pairs-from p g grid.each_cell is) ∙ off);
       held = λ k lt on none. let w = given p g on in none _ (gives-tree p g w.0 grid.each_cell w.1);
     }
 
