@@ -28,9 +28,9 @@ told_of p g None {told} good e solved = grind (arith, common_steps, cases_Bool t
 told_of p g (Some (Column x)) wrong e solved = absurd (wrong.1.wrong (line_of_solution p g x (omega (arith, wrong.0)) solved))
 told_of p g (Some (Row y)) wrong e solved = absurd (wrong.1.wrong (line_of_solution p g (p.size.w + y) (omega (arith, wrong.0)) solved))
 
-pub told_by : {p : Pattern} (g h : List ℕ) (fault : Option PatternFault) {told : Bool} → IsCheck p g fault
+pub told_by : {p : Pattern} (g : List ℕ) {h : List ℕ} (fault : Option PatternFault) {told : Bool} → IsCheck p g fault
     → is_some fault ≡ not told → g ≡ h → told ≡ true ↔ IsPatternSolution p h
-told_by {p} g h fault check e same = (λ on. rw same at (solved_by fault check e on), λ solved. told_of p g fault check e (rw (sym same) at solved))
+told_by {p} g fault check e same = (λ on. rw same at (solved_by fault check e on), λ solved. told_of p g fault check e (rw (sym same) at solved))
 
 -- a run has one end
 pub one_end : {size : Extent} (g : List ℕ) (x y end other : ℕ) → IsRunEnd size g x y end → IsRunEnd size g x y other → end ≡ other

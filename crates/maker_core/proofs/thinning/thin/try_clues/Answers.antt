@@ -32,4 +32,4 @@ index_mut-requires g c =
     search rules
 
 pub returns : goal.returns
-returns g c = all_tried _ _ _ _ _ _ c.loop-place-test.false c.loop-place.invariant.thinning
+returns g c = all_tried _ c.loop-place-test.false c.loop-place.invariant.thinning
