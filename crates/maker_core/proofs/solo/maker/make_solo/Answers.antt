@@ -24,8 +24,7 @@ returns-clause-made g c =
     let p = c.in_ok-thin.field-0.puzzle in
     let given = thinned.answer in
     let within : IsThinnedFrom solo_game p (all_given a.c a.r a.x c.in-Some.answer) = rw c.in_ok-puzzle.ensures at thinned.within in
-    let frame = within.frame in
-    (
+    let frame = within.frame in (
       c.if-not-is_size.ensures.0 refl,
       record {
         k = first.k;
