@@ -64,10 +64,10 @@ two_fail rules {g} {h} (OneSolution first) true_of sg sh ne = absurd (ne (sym (t
 two_fail rules (SeveralSolutions first second) true_of sg sh ne = refl
 two_fail rules (GaveUp first) true_of sg sh ne = refl
 
-pub other_fails : {p : Pattern} {g : List ℕ} (budget : ℕ) → IsExtent p.size → IsPatternSolution p g → HasOther p g → has_one (line_rules p) budget ≡ false
+pub other_fails : {p : Pattern} {g : List ℕ} (budget : ℕ) → IsExtent p.size → IsPatternSolution p g → HasOther p g → false ≡ has_one (line_rules p) budget
 other_fails {p} {g} budget extent good other =
-    two_fail (line_rules p) (verdict_of (line_rules p) budget) (outcome-true (line_rules p) (line_rules-lawful p extent) budget)
-    (record { grid = good.grid; good = is_solution-from p g good }) (record { grid = other.1.grid; good = is_solution-from p other.0 other.1 }) other.2
+    sym (two_fail (line_rules p) (verdict_of (line_rules p) budget) (outcome-true (line_rules p) (line_rules-lawful p extent) budget)
+    (record { grid = good.grid; good = is_solution-from p g good }) (record { grid = other.1.grid; good = is_solution-from p other.0 other.1 }) other.2)
 
 -- what the turning of four cells cites
 pub ruleset switch_laws = (grid_with, solved_by, told_by, turned_other)

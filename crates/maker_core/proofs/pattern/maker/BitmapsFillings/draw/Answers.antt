@@ -21,8 +21,8 @@ returns-then-has_switch-clause-verdict g c =
     let t = c.args.self.now in
     let puzzle = c.in_ok-puzzle.ensures in
     let other = c.has_switch.ensures.other c.if-has_switch.true in
-    rw c.has_switch.ensures.same (sym (other_fails t.limits.budget c.cells.ensures.lawful
-    (rw puzzle.puzzle at puzzle.solved) (rw puzzle.puzzle at other)))
+    rw c.has_switch.ensures.same (other_fails t.limits.budget c.cells.ensures.lawful
+    (rw puzzle.puzzle at puzzle.solved) (rw puzzle.puzzle at other))
 
 pub returns-then-has_switch-clause-known : goal.returns-then-has_switch-clause-known
 returns-then-has_switch-clause-known g c =
