@@ -120,7 +120,8 @@ pub groups-more : (size k : ℕ) {group : ℕ} (groups : List ℕ) {lines new : 
 unfolding lines_of_groups
 groups-more size k groups s before is added = rw (add-one, sym before, sym is) added
 
-pub grouped-more : {size k group : ℕ} {groups lines new : List ℕ} (t : Stream) {u : Stream} → 0 < size → AreGrouped size groups k lines → group ≡ slice_index groups k
+pub grouped-more : {size k group : ℕ} {groups lines new : List ℕ} (t : Stream) {u : Stream} → 0 < size
+    → AreGrouped size groups k lines → group ≡ slice_index groups k
     → IsOrder size (shuffled_order size t).0 → ◌≡◌ {A = List ℕ × Stream} (new, u) (group_added size group lines (shuffled_order size t))
     → AreGrouped size groups (k + 1) new
 grouped-more {size} {k} {groups} {lines} t some before is inner added =

@@ -9,7 +9,8 @@ use Rattle.maker_core.proofs.FlippedHouses.{flipped-solution}
 use Rattle.maker_core.proofs.SoloFull.{given_first, written}
 
 -- the store lends the first grid of what the search says
-pub first_is : (answer : Verdict) {first : Option (List ℕ)} (second : Option (List ℕ)) (said : Outcome) → IsAnswer answer first second said → first ≡ first_grid said
+pub first_is : (answer : Verdict) {first : Option (List ℕ)} (second : Option (List ℕ)) (said : Outcome)
+    → IsAnswer answer first second said → first ≡ first_grid said
 first_is answer second said is = grind arith
 
 -- and that grid is a solution
@@ -20,10 +21,10 @@ first_solves p (SeveralSolutions first second) is = is.0
 first_solves p (GaveUp None) is = tt
 first_solves p (GaveUp (Some first)) is = is
 
-pub found_solves : (p : RuleSystem) (found first second : Option (List ℕ)) (answer : Verdict) (said : Outcome) → found ≡ first
+pub found_solves : (p : RuleSystem) {found first : Option (List ℕ)} (second : Option (List ℕ)) (answer : Verdict) (said : Outcome) → found ≡ first
     → IsAnswer answer first second said → IsTrueOf p said
     → IfSome found (Solves p)
-found_solves p found first second answer said lent is true_of =
+found_solves p second answer said lent is true_of =
     subst (λ (f : Option (List ℕ)). IfSome f (Solves p)) (sym (lent ∙ first_is answer second said is)) (first_solves p said true_of)
 
 -- ---- the top row
@@ -69,7 +70,8 @@ module _ (c r : ℕ) (numbers : List ℕ) (size : IsSoloSize c r) (order : IsOrd
       flipped-solution c r true _ g (omega arith) (omega arith) _ _ (found-solution g s)
 
 -- ---- the filling
-pub x-filling-is : {c r : ℕ} (budget : ℕ) {n : ℕ} (s : Stream) {t u : Stream} {numbers : List ℕ} {p : Solo} {q : RuleSystem} {found filling : Option (List ℕ)} → n ≡ c * r
+pub x-filling-is : {c r : ℕ} (budget : ℕ) {n : ℕ} (s : Stream) {t u : Stream} {numbers : List ℕ} {p : Solo} {q : RuleSystem}
+    {found filling : Option (List ℕ)} → n ≡ c * r
     → ◌≡◌ {A = List ℕ × Stream} (numbers, t) (shuffled_order n s) → p ≡ top_row_given c r numbers → q ≡ houses_rules p
     → found ≡ first_grid (verdict_of q budget)
     → ◌≡◌ {A = Option (List ℕ) × Stream} (filling, u) (flipped_by_draw n found t) → ◌≡◌ {A = Option (List ℕ) × Stream} (filling, u) (x_filling c r budget s)

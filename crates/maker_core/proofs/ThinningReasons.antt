@@ -70,7 +70,7 @@ pub all_tried : {A : Type 0} {game : CluedGame A} {budget : ℕ} {all p : A} {wh
     → IsThinning game budget all p whys (drop k order) → IsThinning game budget all p whys []
 all_tried {game} {budget} {all} {p} {whys} order {k} over left = subst (IsThinning game budget all p whys) (drop_all k order over) left
 
-module _ {A : Type 0} (game : CluedGame A) (laws : IsGame game) (budget : ℕ) (all p : A) (answer : List ℕ) (whys : List (Option Why))
+module _ {A : Type 0} {game : CluedGame A} (laws : IsGame game) {budget : ℕ} {all p : A} (answer : List ℕ) {whys : List (Option Why)}
     (now : IsThinning game budget all p whys []) where
   all_told : AreTold game budget all p whys 0
   all_told k i e = let same : k ≡ i = omega arith in rw same (by (now.told i))
@@ -79,8 +79,8 @@ module _ {A : Type 0} (game : CluedGame A) (laws : IsGame game) (budget : ℕ) (
       by (inl held) = absurd (omega (arith, held.1))
       by (inr told) = told
 
-  pub reasons_left : (kept : List Kept) → all ≡ game.all_clues all answer → kept ≡ reasons_from 0 whys → AreReasons game budget (game.all_clues p answer) p kept
-  reasons_left kept whole is = rw (laws.same_all p all answer now.within.frame, ← whole, is) (record {
+  pub reasons_left : {kept : List Kept} → all ≡ game.all_clues all answer → kept ≡ reasons_from 0 whys → AreReasons game budget (game.all_clues p answer) p kept
+  reasons_left whole is = rw (laws.same_all p all answer now.within.frame, ← whole, is) (record {
     places = told_places game budget all p whys 0 all_told
         ∙ ap (λ n. filter (has_clue game p) (range_with_len 0 n)) (now.room ∙ sym (laws.same_cells p all now.within.frame));
     reasons = told_reasons game budget all p whys 0 all_told;
@@ -93,10 +93,10 @@ module _ {A : Type 0} (game : CluedGame A) (laws : IsGame game) (budget : ℕ) (
       subst (λ g. IsOnly (game.rules p) g × TellsOne (game.rules p) budget g) same (now.one.only, now.one.found)
 
 -- before any clue is tried
-pub thinning_start : {A : Type 0} (game : CluedGame A) → IsGame game → (budget : ℕ) (p : A) (answer order : List ℕ) (whys : List (Option Why))
+pub thinning_start : {A : Type 0} {game : CluedGame A} → IsGame game → (budget : ℕ) (p : A) (answer : List ℕ) {order : List ℕ} (whys : List (Option Why))
     → IsOnly (game.rules p) answer → TellsOne (game.rules p) budget answer → IsPermutation (clue_places game p) order
     → whys ≡ replicate (game.cells p) None → IsThinning game budget p p whys order
-thinning_start game laws budget p answer order whys only found mixed blank = record {
+thinning_start {game} laws budget p answer whys only found mixed blank = record {
   within = within_itself game laws;
   one = record { answer = answer; found = found; only = only };
   waiting =

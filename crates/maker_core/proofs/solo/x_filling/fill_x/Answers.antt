@@ -22,5 +22,5 @@ returns-clause-solution g c =
     let top = c.in_ok-puzzle.ensures in
     IfOk-weaker c.flip_by_draw.result _ _ (λ filling flipped.
     x-filling-solves _ _ filling c.requires top.ordered n top.given c.in_ok-rules.ensures.rules
-    (found_solves _ _ _ _ _ _ c.first.ensures c.solve.ensures.verdict c.solve.ensures.sound) flipped)
+    (found_solves _ _ _ _ c.first.ensures c.solve.ensures.verdict c.solve.ensures.sound) flipped)
     c.flip_by_draw.ensures
