@@ -96,7 +96,7 @@ module _ {A : Type 0} {game : CluedGame A} (laws : IsGame game) {budget : ℕ} {
 pub thinning_start : {A : Type 0} {game : CluedGame A} → IsGame game → (budget : ℕ) (p : A) (answer : List ℕ) {order : List ℕ} (whys : List (Option Why))
     → IsOnly (game.rules p) answer → TellsOne (game.rules p) budget answer → IsPermutation (clue_places game p) order
     → whys ≡ replicate (game.cells p) None → IsThinning game budget p p whys order
-thinning_start {game} laws budget p answer whys only found mixed blank = record {
+thinning_start {game} laws budget p answer {order} whys only found mixed blank = record {
   within = within_itself game laws;
   one = record { answer = answer; found = found; only = only };
   waiting =
