@@ -28,9 +28,9 @@ told_of p g None {told} good e solved = grind (arith, common_steps, cases_Bool t
 told_of p g (Some (Column x)) wrong e solved = absurd (wrong.1.wrong (line_of_solution p g x (omega (arith, wrong.0)) solved))
 told_of p g (Some (Row y)) wrong e solved = absurd (wrong.1.wrong (line_of_solution p g (p.size.w + y) (omega (arith, wrong.0)) solved))
 
-pub told_by : {p : Pattern} (g h : List ℕ) (fault : Option PatternFault) {told : Bool} → IsCheck p g fault
+pub told_by : {p : Pattern} (g : List ℕ) {h : List ℕ} (fault : Option PatternFault) {told : Bool} → IsCheck p g fault
     → is_some fault ≡ not told → g ≡ h → told ≡ true ↔ IsPatternSolution p h
-told_by {p} g h fault check e same = (λ on. rw same at (solved_by fault check e on), λ solved. told_of p g fault check e (rw (sym same) at solved))
+told_by {p} g fault check e same = (λ on. rw same at (solved_by fault check e on), λ solved. told_of p g fault check e (rw (sym same) at solved))
 
 -- a run has one end
 pub one_end : {size : Extent} (g : List ℕ) (x y end other : ℕ) → IsRunEnd size g x y end → IsRunEnd size g x y other → end ≡ other
@@ -64,10 +64,10 @@ two_fail rules {g} {h} (OneSolution first) true_of sg sh ne = absurd (ne (sym (t
 two_fail rules (SeveralSolutions first second) true_of sg sh ne = refl
 two_fail rules (GaveUp first) true_of sg sh ne = refl
 
-pub other_fails : {p : Pattern} {g : List ℕ} (budget : ℕ) → IsExtent p.size → IsPatternSolution p g → HasOther p g → has_one (line_rules p) budget ≡ false
+pub other_fails : {p : Pattern} {g : List ℕ} (budget : ℕ) → IsExtent p.size → IsPatternSolution p g → HasOther p g → false ≡ has_one (line_rules p) budget
 other_fails {p} {g} budget extent good other =
-    two_fail (line_rules p) (verdict_of (line_rules p) budget) (outcome-true (line_rules p) (line_rules-lawful p extent) budget)
-    (record { grid = good.grid; good = is_solution-from p g good }) (record { grid = other.1.grid; good = is_solution-from p other.0 other.1 }) other.2
+    sym (two_fail (line_rules p) (verdict_of (line_rules p) budget) (outcome-true (line_rules p) (line_rules-lawful p extent) budget)
+    (record { grid = good.grid; good = is_solution-from p g good }) (record { grid = other.1.grid; good = is_solution-from p other.0 other.1 }) other.2)
 
 -- what the turning of four cells cites
 pub ruleset switch_laws = (grid_with, solved_by, told_by, turned_other)
