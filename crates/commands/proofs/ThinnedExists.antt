@@ -55,7 +55,7 @@ module _ {A : Type 0} (game : CluedGame A) (laws : IsGame game) (budget : ℕ) (
     thin [] p whys now = (p, whys, now)
     thin (place ∷ rest) p whys now =
         let t : IsTried place p = tried place rest p whys now in
-        thin rest t.new (set whys place t.why) (thinning_turn game laws budget all p whys place rest now t.new t.why t.left t.asked)
+        thin rest t.new (set whys place t.why) (thinning_turn game laws now t.new t.why t.left t.asked)
 
 -- some of the clues are left, each for a reason, and the answer is still the one solution
 pub record IsThinnedTo {A : Type 0} (game : CluedGame A) (budget : ℕ) (all : A) (answer : List ℕ) (p : A) (kept : List Kept) : Type 0 where
@@ -69,15 +69,15 @@ pub thinned : {A : Type 0} (game : CluedGame A) → IsGame game → (budget : �
     → IsOnly (game.rules all) answer → TellsOne (game.rules all) budget answer
     → (p : A) × (kept : List Kept) × IsThinnedTo game budget all answer p kept
 thinned game laws budget all answer lawful whole only found =
-    let start = thinning_start game laws budget all answer (clue_places game all) (replicate (game.cells all) None) only found (IsPermutation-refl (clue_places game all)) refl in
+    let start = thinning_start laws budget all answer (replicate (game.cells all) None) only found (IsPermutation-refl (clue_places game all)) refl in
     let t = thin game laws budget all answer lawful only (clue_places game all) all (replicate (game.cells all) None) start in
-    let left = answer_left game laws budget all t.0 answer t.1 t.2 only in (
+    let left = answer_left laws answer t.2 only in (
       t.0,
       reasons_from 0 t.1,
       record {
         within = t.2.within;
         only = left.0;
         found = left.1;
-        reasons = reasons_left game laws budget all t.0 answer t.1 t.2 (reasons_from 0 t.1) whole refl;
+        reasons = reasons_left laws answer t.2 whole refl;
       },
     )

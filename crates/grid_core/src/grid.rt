@@ -22,10 +22,6 @@ impl Model for Grid {
 
 impl Grid {
     /// A grid of that many cells, all zero.
-    ///
-    /// # Errors
-    ///
-    /// When memory was refused.
     pub fn new(alloc: Global, cells: usize) -> Result<Grid, AllocError>
         ensures { IfOk result (λ g. g ≡ replicate cells 0) }
     {

@@ -39,7 +39,6 @@ pub fn line_place(size: Size, line: usize, k: usize) -> usize
     ensures small { result < max_cells }
 {
     let w = usize::from(size.w());
-    let _h = size.h();
     if line < w {
         column_place(size, line, k)
     } else {

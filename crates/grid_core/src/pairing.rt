@@ -68,10 +68,6 @@ impl Model for Pairing {
 
 impl Pairing {
     /// Room for n lefts and n rights.
-    ///
-    /// # Errors
-    ///
-    /// When memory was refused.
     pub fn new(alloc: Global, n: usize) -> Result<Pairing, AllocError>
         ensures { IfOk result (λ p. (p.room ≡ n) × (p.mates ≡ []) × (p.short ≡ [])) }
     {

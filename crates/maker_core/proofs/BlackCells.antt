@@ -21,18 +21,18 @@ pub record IsPartDrawn (black cells place : ℕ) (s now : Stream) (grid : List �
   pub white : black ≡ 0 → (k : ℕ) → k < place → slice_index grid k ≡ 0
   pub full : black ≡ 100 → (k : ℕ) → k < place → slice_index grid k ≡ 1
 
-pub IsPartDrawn-none : (black : ℕ) {cells : ℕ} {s : Stream} {grid : List ℕ} → length grid ≡ cells → IsPartDrawn black cells 0 s s grid
-IsPartDrawn-none black long = record {
+pub IsPartDrawn-none : {black cells : ℕ} {s : Stream} {grid : List ℕ} → length grid ≡ cells → IsPartDrawn black cells 0 s s grid
+IsPartDrawn-none {black} long = record {
   long = long;
   drawn = black_cells-none black;
   white = λ e k lt. absurd (omega arith);
   full = λ e k lt. absurd (omega arith);
 }
 
-pub IsPartDrawn-more : {black cells place : ℕ} (d v : ℕ) (s now u : Stream) (grid : List ℕ)
+pub IsPartDrawn-more : {black cells place d v : ℕ} {s now u : Stream} {grid : List ℕ}
     → IsPartDrawn black cells place s now grid → ◌≡◌ {A = ℕ × Stream} (d, u) (draw_below 100 now) → d < 100 → v ≡ cond (nat_lt d black) 1 0 → place < cells
     → IsPartDrawn black cells (place + 1) s u (slice_set grid place v)
-IsPartDrawn-more {black} {place} d v s now u grid before draw below value within =
+IsPartDrawn-more {black} {place} {d} {v} {s} {now} {u} {grid} before draw below value within =
     let inside : place < length grid = omega (arith, before.long) in
     record {
       long = grind (arith, common_steps, before.long);
@@ -43,9 +43,9 @@ IsPartDrawn-more {black} {place} d v s now u grid before draw below value within
       full = λ e k lt. grind (arith, elements, before.full e k);
     }
 
-pub IsPartDrawn-all : {black cells : ℕ} {s now : Stream} (grid : List ℕ) → IsPartDrawn black cells cells s now grid
+pub IsPartDrawn-all : {black cells : ℕ} {s now : Stream} {grid : List ℕ} → IsPartDrawn black cells cells s now grid
     → ◌≡◌ {A = List ℕ × Stream} (grid, now) (black_cells black cells s)
-IsPartDrawn-all {cells} grid all =
+IsPartDrawn-all {cells} {grid} all =
     rw (take_all cells grid (omega (arith, all.long))) at all.drawn
 
 -- one more cell, of 0 or 1

@@ -45,7 +45,7 @@ pub use Rattle.engine_core.specs.declared.search.walk.Verdict.{Verdict}
 pub use Rattle.fields_core.proofs.HouseLists.{step-keep, step-none, step-skip}
 pub use Rattle.fields_core.proofs.PlaceLists.{filter-few}
 pub use Rattle.fields_core.proofs.LightFaultLemmas.{lit-from, lit-parts}
-pub use Rattle.fields_core.proofs.LightHouseLaws.{clear-from, column-both, row-both, row-self, white-in}
+pub use Rattle.fields_core.proofs.LightHouseLaws.{clear-from, column-both, column-self, row-both, row-self, white-in}
 pub use Rattle.fields_core.proofs.LightRuleLemmas.{rule-from-test, test-from-rule}
 pub use Rattle.fields_core.proofs.LightSight.{bulb-in}
 pub use Rattle.fields_core.proofs.StepLaws.{step-down, step-left, step-right, step-up, steps-few, steps-some}

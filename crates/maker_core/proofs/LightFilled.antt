@@ -16,15 +16,15 @@ pub record AreWhitesShuffled (p : Light) (items new order : List ℕ) (s t : Str
 mixed_order : {p : Light} {items new order : List ℕ} {s t : Stream} → AreWhitesShuffled p items new order s t → IsPermutation (white_places p) order
 mixed_order w = rw (w.lent, sym w.listed) w.mixed
 
-pub order_within : (p : Light) (items new order : List ℕ) {s t : Stream} → AreWhitesShuffled p items new order s t → length p.cells ≡ light_cells p
+pub order_within : (p : Light) {items new order : List ℕ} {s t : Stream} → AreWhitesShuffled p items new order s t → length p.cells ≡ light_cells p
     → All (λ c. c < light_cells p) order
-order_within p items new order w long k d lt =
+order_within p {order} w long k d lt =
     let on = order_white p (mixed_order w) k lt in
     rw (get_or_default order k d 0 lt) (white-in p (slice_index order k) long on)
 
-pub lit_up_solved : (p : Light) (items new order g : List ℕ) {s t : Stream} → AreWhitesShuffled p items new order s t → length p.cells ≡ light_cells p
+pub lit_up_solved : (p : Light) {items new order g : List ℕ} {s t : Stream} → AreWhitesShuffled p items new order s t → length p.cells ≡ light_cells p
     → g ≡ bulbs_after p order (length order) → solves_lights (with_numbers p g) g ≡ true
-lit_up_solved p items new order g w long is = lit_solved p order g long (mixed_order w) is
+lit_up_solved p {order} {g} w long is = lit_solved p order g long (mixed_order w) is
 
 -- black cells alone
 black_at : (size : Extent) (cells : List ℕ) → AreAll 1 cells → (c : ℕ) → white (lights_of size cells) c ≡ false

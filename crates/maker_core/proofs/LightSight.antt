@@ -1,9 +1,9 @@
 -- Who sees whom, whatever the numbers, and both ways; and bulbs that are placed in turn.
 use Rattle.maker_core.proofs.FilteredRanges.{filter_laws}
-use Rattle.maker_core.proofs.Common.{◌≡◌, ℕ, ◌+◌, ◌*◌, ◌/◌, ◌%◌, ◌<◌, true, false, ◌&&◌, List, length, get_or, refl, ap, ◌∙◌, arith, zero, suc}
-use Rattle.maker_core.proofs.Common.{replicate, add-one, ◌||◌, slice_index, filter, range_with_len, cond_both, and_from, eq-eqb, get_or_past}
+use Rattle.maker_core.proofs.Common.{◌≡◌, ℕ, ◌+◌, ◌<◌, true, false, ◌&&◌, List, length, get_or, refl, ap, ◌∙◌, arith, zero, suc}
+use Rattle.maker_core.proofs.Common.{replicate, add-one, ◌||◌, slice_index, filter, range_with_len, cond_both, and_from, get_or_past}
 use Rattle.maker_core.proofs.Common.{get_or-map-range_with_len, length-map-range_with_len, any_below-here, any_below-some, Light, Black, light_cells}
-use Rattle.maker_core.proofs.Common.{white, bulb, joined_in_row, joined_in_column, sees, sees_bulb, clear-from, row-both, row-self, column-both}
+use Rattle.maker_core.proofs.Common.{white, bulb, joined_in_row, joined_in_column, sees, sees_bulb, row-both, row-self, column-both, column-self}
 use Rattle.maker_core.proofs.Common.{numbered_cell, with_numbers, with_bulb, bulbs_after, white_places, IsGrid}
 use Rattle.maker_core.proofs.WrittenGrids.{grid_with, zeros-grid}
 
@@ -26,12 +26,6 @@ unfolding sees_bulb with_numbers
 same_seen p g long c = simp (same_sees p g long)
 
 -- ---- both ways
-column-self : (p : Light) (c : ℕ) → white p c ≡ true → joined_in_column p c c ≡ true
-unfolding joined_in_column
-column-self p c on = and_from _ _ (eq-eqb (c % p.size.w) (c % p.size.w) refl) (clear-from _ (c / p.size.w) (c / p.size.w) (λ i low high.
-    let same : i ≡ c / p.size.w = omega arith in
-    let e : i * p.size.w + c % p.size.w ≡ c = rw same (omega arith) in rw e on))
-
 pub sees_back : (p : Light) (a b : ℕ) → white p a ≡ true → sees p a b ≡ true → sees p b a ≡ true
 unfolding sees
 sees_back p a b on seen = grind (arith, row-both p a b a, row-self p a, column-both p a b a, column-self p a)

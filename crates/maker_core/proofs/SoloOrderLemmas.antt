@@ -113,17 +113,18 @@ pub grouped-none : (size : ℕ) (groups lines : List ℕ) → lines ≡ [] → A
 grouped-none size groups lines none = grind arith
 
 -- one more group
-pub groups-more : (size k : ℕ) {group : ℕ} (groups lines new : List ℕ) (s t u : Stream)
+pub groups-more : (size k : ℕ) {group : ℕ} (groups : List ℕ) {lines new : List ℕ} (s : Stream) {t u : Stream}
     → ◌≡◌ {A = List ℕ × Stream} (lines, t) (lines_of_groups size groups k s) → group ≡ slice_index groups k
     → ◌≡◌ {A = List ℕ × Stream} (new, u) (group_added size group lines (shuffled_order size t))
     → ◌≡◌ {A = List ℕ × Stream} (new, u) (lines_of_groups size groups (k + 1) s)
 unfolding lines_of_groups
-groups-more size k groups lines new s t u before is added = rw (add-one, sym before, sym is) added
+groups-more size k groups s before is added = rw (add-one, sym before, sym is) added
 
-pub grouped-more : {size k group : ℕ} (groups lines new : List ℕ) (t u : Stream) → 0 < size → AreGrouped size groups k lines → group ≡ slice_index groups k
+pub grouped-more : {size k group : ℕ} {groups lines new : List ℕ} (t : Stream) {u : Stream} → 0 < size
+    → AreGrouped size groups k lines → group ≡ slice_index groups k
     → IsOrder size (shuffled_order size t).0 → ◌≡◌ {A = List ℕ × Stream} (new, u) (group_added size group lines (shuffled_order size t))
     → AreGrouped size groups (k + 1) new
-grouped-more {size} {k} groups lines new t u some before is inner added =
+grouped-more {size} {k} {groups} {lines} t some before is inner added =
     rw (ap (λ (q : List ℕ × Stream). q.0) added, is) (AreGrouped-more size groups k lines (shuffled_order size t).0 some before inner)
 
 -- what the drawing of lines cites

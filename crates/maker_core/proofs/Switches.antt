@@ -16,9 +16,9 @@ pub undone : (g : List ℕ) {h back k : List ℕ} (i u : ℕ) {was : ℕ} → h 
 undone g i u {was} e is same f = f ∙ (ap (λ xs. slice_set xs i was) (same ∙ e) ∙ set_back g i u was 0 (sym is))
 
 -- whether no fault was told
-pub told_by : {p : Pattern} (g h : List ℕ) (fault : Option PatternFault) {told : Bool} → IsPatternFault p g fault
+pub told_by : {p : Pattern} (g : List ℕ) {h : List ℕ} (fault : Option PatternFault) {told : Bool} → IsPatternFault p g fault
     → is_some fault ≡ not told → g ≡ h → told ≡ true ↔ IsPatternSolution p h
-told_by {p} g h fault {told} check e same =
+told_by {p} g fault {told} check e same =
     rw same at (tells (FailsPattern p g) (pattern_tests p) (pattern_none p g) told fault check e)
 
 -- a run has one end
@@ -53,10 +53,10 @@ two_fail rules {g} {h} (OneSolution first) true_of sg sh ne = absurd (ne (sym (t
 two_fail rules (SeveralSolutions first second) true_of sg sh ne = refl
 two_fail rules (GaveUp first) true_of sg sh ne = refl
 
-pub other_fails : {p : Pattern} {g : List ℕ} (budget : ℕ) → IsExtent p.size → IsPatternSolution p g → HasOther p g → has_one (line_rules p) budget ≡ false
+pub other_fails : {p : Pattern} {g : List ℕ} (budget : ℕ) → IsExtent p.size → IsPatternSolution p g → HasOther p g → false ≡ has_one (line_rules p) budget
 other_fails {p} {g} budget extent good other =
-    two_fail (line_rules p) (verdict_of (line_rules p) budget) (outcome-true (line_rules p) (line_rules-lawful p extent) budget)
-    (record { grid = good.grid; good = is_solution-from p g good }) (record { grid = other.1.grid; good = is_solution-from p other.0 other.1 }) other.2
+    sym (two_fail (line_rules p) (verdict_of (line_rules p) budget) (outcome-true (line_rules p) (line_rules-lawful p extent) budget)
+    (record { grid = good.grid; good = is_solution-from p g good }) (record { grid = other.1.grid; good = is_solution-from p other.0 other.1 }) other.2)
 
 -- what the turning of four cells cites
 pub ruleset switch_laws = (grid_with, told_by, turned_other)

@@ -7,10 +7,10 @@ use Rattle.maker_core.proofs.Common.{may_have_tent, take_cell, tents_after, tent
 pub wide : (size : Extent) {c : ℕ} → c < size.w * size.h → 1 ≤ size.w
 wide size lt = grind (arith, cases_eq size.w 0)
 
-pub free_all : (size : Extent) (filling : TentFilling) (c n : ℕ) {places : List ℕ}
+pub free_all : (size : Extent) (filling : TentFilling) (c : ℕ) {n : ℕ} {places : List ℕ}
     → places ≡ filter (is_free filling) (steps size c n) → n ≡ 4 → places ≡ free_cells_beside size filling c
 unfolding free_cells_beside
-free_all size filling c n is all = is ∙ ap (λ k. filter (is_free filling) (steps size c k)) all
+free_all size filling c is all = is ∙ ap (λ k. filter (is_free filling) (steps size c k)) all
 
 pub free_few : (size : Extent) (filling : TentFilling) (c : ℕ) → length (free_cells_beside size filling c) ≤ 4
 unfolding free_cells_beside
@@ -41,23 +41,23 @@ free_in size filling c k free lt is below =
     (free_place size filling c (slice_index free k) (subst (λ (xs : List ℕ). has_place xs (slice_index free k) ≡ true) is (has_place-here free k below))).0
 
 -- ---- the cells in turn
-pub none_after : (size : Extent) (order : List ℕ) {filling : TentFilling} (s : Stream) → filling ≡ no_tents size
+pub none_after : (size : Extent) (order : List ℕ) {filling : TentFilling} {s : Stream} → filling ≡ no_tents size
     → ◌≡◌ {A = TentFilling × Stream} (filling, s) (tents_after size order 0 s)
 unfolding tents_after
-none_after size order s is = ap (λ c. (c, s)) is
+none_after size order {s} is = ap (λ c. (c, s)) is
 
-pub more_after : (size : Extent) (order : List ℕ) (k c : ℕ) {old new : TentFilling} (s t u : Stream)
+pub more_after : (size : Extent) (order : List ℕ) (k : ℕ) {c : ℕ} {old new : TentFilling} (s : Stream) {t u : Stream}
     → ◌≡◌ {A = TentFilling × Stream} (old, t) (tents_after size order k s)
     → ◌≡◌ {A = TentFilling × Stream} (new, u) (take_cell size old c t) → c ≡ slice_index order k
     → ◌≡◌ {A = TentFilling × Stream} (new, u) (tents_after size order (k + 1) s)
 unfolding tents_after
-more_after size order k c s t u before drawn at = rw (add-one, sym before, sym at) drawn
+more_after size order k s before drawn at = rw (add-one, sym before, sym at) drawn
 
-pub filled : (size : Extent) {places order : List ℕ} {filling : TentFilling} {n : ℕ} (s t u : Stream) → n ≡ size.w * size.h
+pub filled : (size : Extent) {places order : List ℕ} {filling : TentFilling} {n : ℕ} (s : Stream) {t u : Stream} → n ≡ size.w * size.h
     → ◌≡◌ {A = List ℕ × Stream} (places, t) (shuffled_order n s) → order ≡ places
     → ◌≡◌ {A = TentFilling × Stream} (filling, u) (tents_after size order (length order) t) → ◌≡◌ {A = TentFilling × Stream} (filling, u) (tent_filling size s)
 unfolding tent_filling
-filled size s t u cells drawn lent after = rw (sym cells, sym drawn, sym lent) after
+filled size s cells drawn lent after = rw (sym cells, sym drawn, sym lent) after
 
 pub no_tents_is : (size : Extent) {trees tents : List ℕ} (n : ℕ) → n ≡ size.w * size.h → trees ≡ replicate n 0 → tents ≡ replicate n 0
     → ◌≡◌ {A = TentFilling} (record { trees = trees; tents = tents; placed = 0 }) (no_tents size)

@@ -29,15 +29,15 @@ taken_more whys k o below is =
     ap (reasons_from 0) (take_more whys k None below ∙ ap (λ x. take k whys ++ x ∷ []) is)
     ∙ reasons_more (take k whys) o 0 k (omega (arith, length-take k whys))
 
-pub reason_kept : (whys : List (Option Why)) (k : ℕ) (why : Why) {before after : List Kept} → k < length whys → get_or whys k None ≡ Some why
+pub reason_kept : (whys : List (Option Why)) {k : ℕ} {why : Why} {before after : List Kept} → k < length whys → get_or whys k None ≡ Some why
     → before ≡ reasons_from 0 (take k whys) → after ≡ before ++ record { place = k; why = why } ∷ [] → after ≡ reasons_from 0 (take (k + 1) whys)
 unfolding one_reason
-reason_kept whys k why below is kept more = grind (arith, taken_more whys k (Some why))
+reason_kept whys {k} {why} below is kept more = grind (arith, taken_more whys k (Some why))
 
-pub reason_skipped : (whys : List (Option Why)) (k : ℕ) {before after : List Kept} → k < length whys → get_or whys k None ≡ None
+pub reason_skipped : (whys : List (Option Why)) {k : ℕ} {before after : List Kept} → k < length whys → get_or whys k None ≡ None
     → before ≡ reasons_from 0 (take k whys) → after ≡ before → after ≡ reasons_from 0 (take (k + 1) whys)
 unfolding one_reason
-reason_skipped whys k below is kept same = grind (arith, taken_more whys k None, append-nil (reasons_from 0 (take k whys)))
+reason_skipped whys {k} below is kept same = grind (arith, taken_more whys k None, append-nil (reasons_from 0 (take k whys)))
 
 pub no_reason : (o : Option Why) → ((why : Why) → o ≡ Some why → ⊥) → o ≡ None
 no_reason None never = refl
@@ -66,11 +66,11 @@ module _ {A : Type 0} (game : CluedGame A) (budget : ℕ) (all p : A) where
       (told_reasons whys (suc a) (λ k i e. told k (suc i) (omega arith)))
 
 -- all clues were tried
-pub all_tried : {A : Type 0} {game : CluedGame A} (budget : ℕ) (all p : A) (whys : List (Option Why)) (order : List ℕ) (k : ℕ) → length order ≤ k
+pub all_tried : {A : Type 0} {game : CluedGame A} {budget : ℕ} {all p : A} {whys : List (Option Why)} (order : List ℕ) {k : ℕ} → length order ≤ k
     → IsThinning game budget all p whys (drop k order) → IsThinning game budget all p whys []
-all_tried {game} budget all p whys order k over left = subst (IsThinning game budget all p whys) (drop_all k order over) left
+all_tried {game} {budget} {all} {p} {whys} order {k} over left = subst (IsThinning game budget all p whys) (drop_all k order over) left
 
-module _ {A : Type 0} (game : CluedGame A) (laws : IsGame game) (budget : ℕ) (all p : A) (answer : List ℕ) (whys : List (Option Why))
+module _ {A : Type 0} {game : CluedGame A} (laws : IsGame game) {budget : ℕ} {all p : A} (answer : List ℕ) {whys : List (Option Why)}
     (now : IsThinning game budget all p whys []) where
   all_told : AreTold game budget all p whys 0
   all_told k i e = let same : k ≡ i = omega arith in rw same (by (now.told i))
@@ -79,8 +79,8 @@ module _ {A : Type 0} (game : CluedGame A) (laws : IsGame game) (budget : ℕ) (
       by (inl held) = absurd (omega (arith, held.1))
       by (inr told) = told
 
-  pub reasons_left : (kept : List Kept) → all ≡ game.all_clues all answer → kept ≡ reasons_from 0 whys → AreReasons game budget (game.all_clues p answer) p kept
-  reasons_left kept whole is = rw (laws.same_all p all answer now.within.frame, ← whole, is) (record {
+  pub reasons_left : {kept : List Kept} → all ≡ game.all_clues all answer → kept ≡ reasons_from 0 whys → AreReasons game budget (game.all_clues p answer) p kept
+  reasons_left whole is = rw (laws.same_all p all answer now.within.frame, ← whole, is) (record {
     places = told_places game budget all p whys 0 all_told
         ∙ ap (λ n. filter (has_clue game p) (range_with_len 0 n)) (now.room ∙ sym (laws.same_cells p all now.within.frame));
     reasons = told_reasons game budget all p whys 0 all_told;
@@ -93,10 +93,10 @@ module _ {A : Type 0} (game : CluedGame A) (laws : IsGame game) (budget : ℕ) (
       subst (λ g. IsOnly (game.rules p) g × TellsOne (game.rules p) budget g) same (now.one.only, now.one.found)
 
 -- before any clue is tried
-pub thinning_start : {A : Type 0} (game : CluedGame A) → IsGame game → (budget : ℕ) (p : A) (answer order : List ℕ) (whys : List (Option Why))
+pub thinning_start : {A : Type 0} {game : CluedGame A} → IsGame game → (budget : ℕ) (p : A) (answer : List ℕ) {order : List ℕ} (whys : List (Option Why))
     → IsOnly (game.rules p) answer → TellsOne (game.rules p) budget answer → IsPermutation (clue_places game p) order
     → whys ≡ replicate (game.cells p) None → IsThinning game budget p p whys order
-thinning_start game laws budget p answer order whys only found mixed blank = record {
+thinning_start {game} laws budget p answer {order} whys only found mixed blank = record {
   within = within_itself game laws;
   one = record { answer = answer; found = found; only = only };
   waiting =

@@ -8,15 +8,15 @@ use Rattle.maker_core.proofs.Common.{Contains, IsDistinct, cases_eq, get_or-set_
 use Rattle.maker_core.proofs.Common.{HasOne, CluedGame, IsGame, IsThinnedFrom, HasTwo, IsReason}
 use Rattle.maker_core.proofs.FilteredRanges.{head_apart}
 
-pub needed : (p : RuleSystem) (budget : ℕ) (first second : Option (List ℕ)) (o : Outcome) {why : Why} → why ≡ Needed
+pub needed : (p : RuleSystem) (budget : ℕ) {first second : Option (List ℕ)} {o : Outcome} {why : Why} → why ≡ Needed
     → IsAnswer verdict.Several first second o → IsTrueOf p o → IsVerdict p budget why
-needed p budget first second o is answer sound =
+needed p budget is answer sound =
     let two = rw answer.2 at sound in
     rw is (record { first = answer.0; second = answer.1; first_solves = two.0; second_solves = two.1; differ = two.2 })
 
-pub gave_up : (p : RuleSystem) (budget : ℕ) (first second : Option (List ℕ)) (found : Bool) (why : Why) → why ≡ Budget
+pub gave_up : (p : RuleSystem) (budget : ℕ) {first second : Option (List ℕ)} {found : Bool} {why : Why} → why ≡ Budget
     → IsAnswer (verdict.GaveUp found) first second (outcome budget None (walk p 0 p.start)) → IsVerdict p budget why
-gave_up p budget first second found why is answer = rw is (record { found = first; verdict = answer.0 })
+gave_up p budget {first} is answer = rw is (record { found = first; verdict = answer.0 })
 
 pub some_of : (o : Option ℕ) → is_some o ≡ true → (n : ℕ) × (o ≡ Some n)
 some_of None e = absurd (true≢false (sym e))
@@ -131,34 +131,34 @@ module _ {A : Type 0} (game : CluedGame A) (laws : IsGame game) where
         → IsThinning game budget all p whys (drop k order) → IsThinning game budget all p whys (get_or order k 0 ∷ drop (k + 1) order)
     next_turn order {k} below now = rw (add-one, sym (drop-cons order k 0 below)) now
 
-    module _ (p : A) (whys : List (Option Why)) (place : ℕ) (rest : List ℕ) (now : IsThinning game budget all p whys (place ∷ rest)) where
-      clue_of : (n : ℕ) × (game.clue p place ≡ Some n)
-      clue_of = some_of (game.clue p place) (now.waiting place (contains_head rest place))
+  module _ {budget : ℕ} {all p : A} {whys : List (Option Why)} {place : ℕ} {rest : List ℕ} (now : IsThinning game budget all p whys (place ∷ rest)) where
+    clue_of : (n : ℕ) × (game.clue p place ≡ Some n)
+    clue_of = some_of (game.clue p place) (now.waiting place (contains_head rest place))
 
-      pub turn_in_room : place < length whys
-      turn_in_room = omega (arith, laws.clue_in p place clue_of.0 clue_of.1, laws.same_cells p all now.within.frame, now.room)
+    pub turn_in_room : place < length whys
+    turn_in_room = omega (arith, laws.clue_in p place clue_of.0 clue_of.1, laws.same_cells p all now.within.frame, now.room)
 
-      module _ (new : A) (why : Option Why) (left : IsLeft game place p new why) (asked : IsAsked game budget place p why) where
-        pub turn : IsTurn place p new why
-        turn = turn_is place clue_of.0 p why now.within now.one clue_of.1 left asked
+    module _ (new : A) (why : Option Why) (left : IsLeft game place p new why) (asked : IsAsked game budget place p why) where
+      pub turn : IsTurn budget all place p new why
+      turn = turn_is budget all place clue_of.0 p why now.within now.one clue_of.1 left asked
 
-        -- a clue was tried, and the reason written
-        pub thinning_turn : IsThinning game budget all new (set whys place why) rest
-        unfolding IsDistinct
-        thinning_turn = record {
-          within = within_through turn.within now.within;
-          one = turn.one;
-          waiting = λ other held. ap is_some (turn.others other (head_apart rest now.different.0 held))
-              ∙ now.waiting other (Contains-append_right (place ∷ []) rest other held);
-          different = now.different.1;
-          told = λ other. at other (cases_eq other place) (now.told other);
-          room = length-set whys place why ∙ now.room;
-        }
-          where
-            at : (other : ℕ) → (other ≡ place) ⊎ (other ≢ place) → Contains (place ∷ rest) other ⊎ IsTold game budget all p other (get_or whys other None)
-                → Contains rest other ⊎ IsTold game budget all new other (get_or (set whys place why) other None)
-            at other (inl same) before = inr (rw (get_or-set_at whys place other why None same turn_in_room, same) turn.told)
-            at other (inr apart) (inl held) = inl (contains_rest rest apart held)
-            at other (inr apart) (inr told) =
-                inr (rw (get_or-set_other whys place other why None apart)
-                (told_in new p other _ turn.within (turn.others other apart) told))
+      -- a clue was tried, and the reason written
+      pub thinning_turn : IsThinning game budget all new (set whys place why) rest
+      unfolding IsDistinct
+      thinning_turn = record {
+        within = within_through turn.within now.within;
+        one = turn.one;
+        waiting = λ other held. ap is_some (turn.others other (head_apart rest now.different.0 held))
+            ∙ now.waiting other (Contains-append_right (place ∷ []) rest other held);
+        different = now.different.1;
+        told = λ other. at other (cases_eq other place) (now.told other);
+        room = length-set whys place why ∙ now.room;
+      }
+        where
+          at : (other : ℕ) → (other ≡ place) ⊎ (other ≢ place) → Contains (place ∷ rest) other ⊎ IsTold game budget all p other (get_or whys other None)
+              → Contains rest other ⊎ IsTold game budget all new other (get_or (set whys place why) other None)
+          at other (inl same) before = inr (rw (get_or-set_at whys place other why None same turn_in_room, same) turn.told)
+          at other (inr apart) (inl held) = inl (contains_rest rest apart held)
+          at other (inr apart) (inr told) =
+              inr (rw (get_or-set_other whys place other why None apart)
+              (told_in budget all new p other _ turn.within (turn.others other apart) told))

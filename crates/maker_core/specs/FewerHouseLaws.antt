@@ -43,13 +43,13 @@ unfolding houses_below
 fewer_below f f' zero each = fewer_itself
 fewer_below f f' (suc n) each = fewer_append (fewer_below f f' n each) (fewer_at (each n))
 
-longest_at_most : (scope : ℕ → List ℕ) (n m : ℕ) → ((h : ℕ) → h < n → length (scope h) ≤ m) → longest scope n ≤ m
+longest_at_most : (scope : ℕ → List ℕ) (n : ℕ) {m : ℕ} → ((h : ℕ) → h < n → length (scope h) ≤ m) → longest scope n ≤ m
 unfolding longest
-longest_at_most scope zero m each = omega arith
-longest_at_most scope (suc n) m each = max-le (longest_at_most scope n m (λ h lt. each h (omega arith))) (each n (omega arith))
+longest_at_most scope zero each = omega arith
+longest_at_most scope (suc n) each = max-le (longest_at_most scope n (λ h lt. each h (omega arith))) (each n (omega arith))
 
-pub longest_of_fewer : (xs ys : List CountHouse) → IsFewer xs ys
+pub longest_of_fewer : {xs ys : List CountHouse} → IsFewer xs ys
     → longest (λ h. (count_house_of xs h).places) (length xs) ≤ longest (λ h. (count_house_of ys h).places) (length ys)
-longest_of_fewer xs ys less =
-    longest_at_most (λ h. (count_house_of xs h).places) (length xs) _
+longest_of_fewer {xs} {ys} less =
+    longest_at_most (λ h. (count_house_of xs h).places) (length xs)
     (less.short _ (λ h lt. scope_le-longest (λ k. (count_house_of ys k).places) (length ys) h lt))

@@ -155,6 +155,6 @@ light_is_game = record {
         same_values = refl;
         houses_in = less.fewer;
         bound_in = le_refl _;
-        scope_in = longest_of_fewer _ _ less;
+        scope_in = longest_of_fewer less;
       };
 }

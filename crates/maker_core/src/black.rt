@@ -10,10 +10,6 @@ use rand_core::Rng;
 use std::alloc::{AllocError, Global};
 
 /// A grid of so many cells, by place: 1 for a black cell, if a draw below 100 is less than `black`, and else 0.
-///
-/// # Errors
-///
-/// When memory was refused.
 pub(crate) fn draw_black<G: Rng>(
     alloc: Global,
     rng: &mut G,

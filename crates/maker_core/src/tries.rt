@@ -9,7 +9,7 @@ use rand_core::Rng;
 use std::alloc::{AllocError, Global};
 
 /// What a maker tries: fillings that it draws, of which some pass.
-pub(crate) trait Attempts {
+pub(crate) trait Fillings {
     type Filling: Drop;
 
     // How they are drawn, which pass, and how many are tried.
@@ -28,7 +28,7 @@ pub(crate) trait Attempts {
 
 /// The first of so many fillings that passes, or `Exhausted`. The generator is left where the last filling left it.
 #[tactic(auto, unfolding(crate::specs::Draws::stream_after))]
-pub(crate) fn first_passing<F: Attempts, G: Rng>(
+pub(crate) fn first_passing<F: Fillings, G: Rng>(
     alloc: Global,
     fillings: &F,
     rng: &mut G,

@@ -107,10 +107,6 @@ fn light_up<G: Rng>(alloc: Global, rng: &mut G, puzzle: &LightPuzzle) -> Result<
 
 /// A filling of Light Up. Black cells are drawn one by one; then the white cells, listed by place and shuffled, are taken
 /// in turn. Each that neither holds nor sees a bulb gets one.
-///
-/// # Errors
-///
-/// When memory was refused.
 pub(crate) fn fill_lights<G: Rng>(
     alloc: Global,
     rng: &mut G,

@@ -12,7 +12,7 @@ use crate::light_up::filling::{LightFilling, fill_lights, puzzle_of};
 use crate::made::{Limits, Made, MakeFault};
 use crate::thinning::thin::thin;
 use crate::thinning::unique::is_unique;
-use crate::tries::{Attempts, first_passing};
+use crate::tries::{Fillings, first_passing};
 use fields_core::LightRules;
 use gameid_core::LightPuzzle;
 use grid_core::Size;
@@ -35,7 +35,7 @@ struct LitGrids {
     ghost wide: { IsWide size },
 }
 
-impl Attempts for LitGrids {
+impl Fillings for LitGrids {
     type Filling = LightFilling;
 
     ghost tries = { λ t. light_tries t.size t.black t.limits };

@@ -12,7 +12,7 @@ use crate::black::draw_black;
 use crate::made::{Limits, Made, MakeFault};
 use crate::pattern::switch::has_switch;
 use crate::thinning::unique::is_unique;
-use crate::tries::{Attempts, first_passing};
+use crate::tries::{Fillings, first_passing};
 use gameid_core::PatternPuzzle;
 use grid_core::{Grid, Size};
 use pattern_core::PatternLines;
@@ -37,7 +37,7 @@ struct Bitmaps {
     limits: Limits,
 }
 
-impl Attempts for Bitmaps {
+impl Fillings for Bitmaps {
     type Filling = Grid;
 
     ghost tries = { λ t. pattern_tries t.size t.black t.limits };

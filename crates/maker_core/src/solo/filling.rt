@@ -50,10 +50,6 @@ pub(crate) fn fill_plain<G: Rng>(
 }
 
 /// The puzzle that gives all cells of the grid.
-///
-/// # Errors
-///
-/// When memory was refused.
 #[tactic(auto, using(crate::proofs::SoloFull::full_laws))]
 pub(crate) fn full_puzzle(
     alloc: Global,

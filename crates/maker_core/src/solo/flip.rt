@@ -8,10 +8,6 @@ use grid_core::Grid;
 use std::alloc::{AllocError, Global};
 
 /// A grid of `n` columns and `n` rows, flipped left to right if `across`, and top to bottom if `down`.
-///
-/// # Errors
-///
-/// When memory was refused.
 #[tactic(auto, using(crate::proofs::Flips::flip_laws))]
 pub(crate) fn flip(
     alloc: Global,

@@ -10,7 +10,7 @@ use crate::made::{Limits, Made, MakeFault};
 use crate::solo::filling::{fill_plain, full_puzzle};
 use crate::solo::x_filling::fill_x;
 use crate::thinning::thin::thin;
-use crate::tries::{Attempts, first_passing};
+use crate::tries::{Fillings, first_passing};
 use gameid_core::{MAX_NUMBERS, SoloPuzzle};
 use grid_core::Grid;
 use rand_core::Rng;
@@ -70,7 +70,7 @@ struct SoloGrids {
     ghost fits: { IsSoloSize c r },
 }
 
-impl Attempts for SoloGrids {
+impl Fillings for SoloGrids {
     type Filling = Option<Grid>;
 
     ghost tries = { λ t. solo_tries t.c t.r t.x t.limits };

@@ -138,10 +138,6 @@ fn take_cells<G: Rng>(
 }
 
 /// A filling of Tents: the cells, listed by place and shuffled, are taken in turn.
-///
-/// # Errors
-///
-/// When memory was refused.
 #[tactic(auto, using(crate::proofs::TentFillings::no_tents_is))]
 pub(crate) fn fill_tents<G: Rng>(
     alloc: Global,

@@ -11,7 +11,7 @@ ghost use Rattle.maker_core.specs.TentMaking.{IsTentSize, IsTentsUnmade, MakesTe
 use crate::made::{Limits, Made, MakeFault};
 use crate::tents::filling::{TentFilling, fill_tents};
 use crate::thinning::unique::is_unique;
-use crate::tries::{Attempts, first_passing};
+use crate::tries::{Fillings, first_passing};
 use fields_core::TentRules;
 use gameid_core::TentsPuzzle;
 use grid_core::Size;
@@ -44,7 +44,7 @@ struct TentFillings {
     ghost fits: { IsTentSize size },
 }
 
-impl Attempts for TentFillings {
+impl Fillings for TentFillings {
     type Filling = TentFilling;
 
     ghost tries = { λ t. tents_tries t.size t.limits };

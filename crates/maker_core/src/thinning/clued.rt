@@ -45,10 +45,6 @@ pub trait Clued: Drop {
             → self.old ≡ game.without p place → self.new ≡ p };
 
     /// What a search of the puzzle goes by.
-    ///
-    /// # Errors
-    ///
-    /// When memory was refused.
     fn search(&self, alloc: Global) -> Result<Self::Search, AllocError>
         ensures { IfOk result (λ rules. meaning rules ≡ game.rules self.now) };
 

@@ -17,10 +17,6 @@ use std::alloc::{AllocError, Global};
 
 /// Tries the clues of a puzzle with all clues once each, in an order that is drawn, and takes away those that it can do
 /// without. A clue is left if without it the search finds more solutions than the answer or gives up.
-///
-/// # Errors
-///
-/// When memory was refused.
 pub(crate) fn thin<P: Clued, G: Rng>(
     alloc: Global,
     puzzle: P,

@@ -7,10 +7,6 @@ use engine_core::{Searchable, Store, Verdict};
 use std::alloc::{AllocError, Global};
 
 /// Whether the verdict of the rules with that budget is one.
-///
-/// # Errors
-///
-/// When memory was refused.
 pub(crate) fn is_unique<R: Searchable>(
     alloc: Global,
     rules: &R,

@@ -5,7 +5,7 @@ use Rattle.maker_core.proofs.light_up.filling.light_up.Goals as goal
 
 pub place_bulbs-requires-clause-within : goal.place_bulbs-requires-clause-within
 place_bulbs-requires-clause-within g c =
-    order_within c.args.puzzle.now _ _ _
+    order_within c.args.puzzle.now
     (record {
       listed = c.in_ok-order.ensures;
       drawn = c.shuffle.ensures.drawn;
@@ -21,7 +21,7 @@ returns-clause-grid g c =
 
 pub returns-clause-solved : goal.returns-clause-solved
 returns-clause-solved g c =
-    lit_up_solved c.args.puzzle.now _ _ _ _
+    lit_up_solved c.args.puzzle.now
     (record {
       listed = c.in_ok-order.ensures;
       drawn = c.shuffle.ensures.drawn;

@@ -11,8 +11,7 @@ returns-clause-made g c =
     let first = c.in_ok-filling.ensures.first in
     let thinned = c.in_ok-thin.ensures in
     let p = c.in_ok-thin.field-0.puzzle in
-    let given = thinned.answer in
-    (
+    let given = thinned.answer in (
       c.if-not-is_wide.ensures.0 refl,
       record {
         k = first.k;

@@ -4,7 +4,7 @@ use Rattle.maker_core.proofs.pattern.switch.is_solved_turned.Goals as goal
 
 pub returns-clause-solved : goal.returns-clause-solved
 returns-clause-solved c =
-    told_by c.replace-fourth.new.grid _ _ c.check_pattern-fault.ensures c.is_none.ensures
+    told_by c.replace-fourth.new.grid _ c.check_pattern-fault.ensures c.is_none.ensures
     (rw (c.replace-fourth.ensures.left, c.replace-third.ensures.left, c.replace-second.ensures.left, c.replace-first.ensures.left) refl)
 
 pub returns-clause-same : goal.returns-clause-same

@@ -24,8 +24,7 @@ returns-clause-made g c =
     let p = c.in_ok-thin.field-0.puzzle in
     let given = thinned.answer in
     let within : IsThinnedFrom solo_game p (all_given a.c a.r a.x c.in-Some.answer) = rw c.in_ok-puzzle.ensures at thinned.within in
-    let frame = within.frame in
-    (
+    let frame = within.frame in (
       c.if-not-is_size.ensures.0 refl,
       record {
         k = first.k;
@@ -50,4 +49,5 @@ returns-clause-leaves g c =
 pub returns-in_err-answer-clause-leaves : goal.returns-in_err-answer-clause-leaves
 returns-in_err-answer-clause-leaves g c =
     let a = c.in_err-answer.ensures in
-    leaves_failed (solo_tries c.args.c c.args.r c.args.x c.args.limits) _ c.in_err-answer.field-0.0 (search rules) (λ e. a.in_range (ap Err e)) (λ e. a.all_drawn (ap Err e))
+    leaves_failed (solo_tries c.args.c c.args.r c.args.x c.args.limits) _ c.in_err-answer.field-0.0 (search rules)
+    (λ e. a.in_range (ap Err e)) (λ e. a.all_drawn (ap Err e))

@@ -10,8 +10,7 @@ returns-clause-made g c =
     let puzzle = c.in_ok-puzzle.ensures in
     let only = tents_only a.size c.in_ok-filling.filling c.in_ok-puzzle.puzzle puzzle made.known.2
     (λ q h grid. (solution-from-tents q h grid, tents-from-solution q h grid)) a.limits.budget
-    (subst (λ (p : Tents). HasOne (tent_rules p) a.limits.budget) (sym puzzle) (made.known.3 refl)) in
-    (
+    (subst (λ (p : Tents). HasOne (tent_rules p) a.limits.budget) (sym puzzle) (made.known.3 refl)) in (
       c.if-not-is_tent_size.ensures.0 refl,
       record {
         k = made.first.k;

@@ -7,7 +7,7 @@ pub loop-place-init : goal.loop-place-init
 loop-place-init g c =
     let blank : c.in_ok-whys.whys.items ≡ replicate {A = Option Why} c.cells.result None = search rules in
     record {
-      thinning = thinning_start g.P.Clued.game g.met.P.Clued.lawful _ _ _ _ _ c.requires.one.only c.requires.one.found c.requires.order
+      thinning = thinning_start g.met.P.Clued.lawful _ _ _ _ c.requires.one.only c.requires.one.found c.requires.order
           (blank ∙ ap (λ n. replicate {A = Option Why} n None) c.cells.ensures);
       fits = search rules;
     }
@@ -17,8 +17,8 @@ loop-place-preserved g c =
     let now = next_turn g.P.Clued.game g.met.P.Clued.lawful _ _ _ c.loop-place-test.true c.loop-place.invariant.thinning in
     let made = c.in_ok-whys-2.ensures in
     record {
-      thinning = thinning_turn g.P.Clued.game g.met.P.Clued.lawful _ _ _ _ _ _ now _ _ made.left made.asked;
-      fits = rw made.made ((turn g.P.Clued.game g.met.P.Clued.lawful _ _ _ _ _ _ now _ _ made.left made.asked).fits _ c.loop-place.invariant.fits);
+      thinning = thinning_turn g.P.Clued.game g.met.P.Clued.lawful now _ _ made.left made.asked;
+      fits = rw made.made ((turn g.P.Clued.game g.met.P.Clued.lawful now _ _ made.left made.asked).fits _ c.loop-place.invariant.fits);
     }
 
 pub try_clue-requires-clause-clue : goal.try_clue-requires-clause-clue
@@ -28,8 +28,8 @@ try_clue-requires-clause-clue g c =
 pub index_mut-requires : goal.index_mut-requires
 index_mut-requires g c =
     let now = next_turn g.P.Clued.game g.met.P.Clued.lawful _ _ _ c.loop-place-test.true c.loop-place.invariant.thinning in
-    let below = turn_in_room g.P.Clued.game g.met.P.Clued.lawful _ _ _ _ _ _ now in
+    let below = turn_in_room g.P.Clued.game g.met.P.Clued.lawful now in
     search rules
 
 pub returns : goal.returns
-returns g c = all_tried _ _ _ _ _ _ c.loop-place-test.false c.loop-place.invariant.thinning
+returns g c = all_tried _ c.loop-place-test.false c.loop-place.invariant.thinning

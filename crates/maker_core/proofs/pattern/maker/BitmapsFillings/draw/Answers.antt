@@ -1,9 +1,9 @@
-use Rattle.maker_core.proofs.Common.{◌≡◌, ◌∙◌, ◌⊎◌, inl, inr, true, sym, line_rules, has_one, clued_by}
+use Rattle.maker_core.proofs.Common.{◌≡◌, ◌∙◌, ◌⊎◌, inl, inr, true, line_rules, has_one, clued_by}
 use Rattle.maker_core.proofs.PlainPattern.{plain_passes}
 use Rattle.maker_core.proofs.Switches.{other_fails}
-use Rattle.maker_core.proofs.pattern.maker.BitmapsAttempts.draw.Given as given
-use Rattle.maker_core.proofs.pattern.maker.BitmapsAttempts.draw.Goals as goal
-use Rattle.maker_core.proofs.pattern.maker.BitmapsAttempts.draw.Goals.{After-has_switch}
+use Rattle.maker_core.proofs.pattern.maker.BitmapsFillings.draw.Given as given
+use Rattle.maker_core.proofs.pattern.maker.BitmapsFillings.draw.Goals as goal
+use Rattle.maker_core.proofs.pattern.maker.BitmapsFillings.draw.Goals.{After-has_switch}
 
 -- the verdict on a grid of one colour is one
 plain : (g : given.Over) (c : After-has_switch g) → (c.args.self.now.black ≡ 0) ⊎ (c.args.self.now.black ≡ 100)
@@ -21,8 +21,8 @@ returns-then-has_switch-clause-verdict g c =
     let t = c.args.self.now in
     let puzzle = c.in_ok-puzzle.ensures in
     let other = c.has_switch.ensures.other c.if-has_switch.true in
-    rw c.has_switch.ensures.same (sym (other_fails t.limits.budget c.cells.ensures.lawful
-    (rw puzzle.puzzle at puzzle.solved) (rw puzzle.puzzle at other)))
+    rw c.has_switch.ensures.same (other_fails t.limits.budget c.cells.ensures.lawful
+    (rw puzzle.puzzle at puzzle.solved) (rw puzzle.puzzle at other))
 
 pub returns-then-has_switch-clause-known : goal.returns-then-has_switch-clause-known
 returns-then-has_switch-clause-known g c =
