@@ -9,7 +9,7 @@ returns-in-Solo g c =
     let a = c.args in
     let e = c.in-Solo.is in
     record {
-      ran = ran_some g.I.Source g.O.Sink (AllowsCheck (game_of a.game) a.id.now) (checked a.game a.id.now) _ _ _ _ _ (rw e c.check_one.ensures.ran);
+      ran = ran_some (checked a.game a.id.now) (rw e c.check_one.ensures.ran);
       left = rw e c.check_one.ensures.left;
     }
 
@@ -18,7 +18,7 @@ returns-in-Pattern g c =
     let a = c.args in
     let e = c.in-Pattern.is in
     record {
-      ran = ran_some g.I.Source g.O.Sink (AllowsCheck (game_of a.game) a.id.now) (checked a.game a.id.now) _ _ _ _ _ (rw e c.check_one-in-Pattern.ensures.ran);
+      ran = ran_some (checked a.game a.id.now) (rw e c.check_one-in-Pattern.ensures.ran);
       left = rw e c.check_one-in-Pattern.ensures.left;
     }
 
@@ -27,7 +27,7 @@ returns-in-LightUp g c =
     let a = c.args in
     let e = c.in-LightUp.is in
     record {
-      ran = ran_some g.I.Source g.O.Sink (AllowsCheck (game_of a.game) a.id.now) (checked a.game a.id.now) _ _ _ _ _ (rw e c.check_one-in-LightUp.ensures.ran);
+      ran = ran_some (checked a.game a.id.now) (rw e c.check_one-in-LightUp.ensures.ran);
       left = rw e c.check_one-in-LightUp.ensures.left;
     }
 
@@ -36,6 +36,6 @@ returns-in-Tents g c =
     let a = c.args in
     let e = c.in-Tents.is in
     record {
-      ran = ran_some g.I.Source g.O.Sink (AllowsCheck (game_of a.game) a.id.now) (checked a.game a.id.now) _ _ _ _ _ (rw e c.check_one-in-Tents.ensures.ran);
+      ran = ran_some (checked a.game a.id.now) (rw e c.check_one-in-Tents.ensures.ran);
       left = rw e c.check_one-in-Tents.ensures.left;
     }

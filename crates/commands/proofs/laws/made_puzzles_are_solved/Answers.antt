@@ -30,7 +30,7 @@ by game size seed budget tries black answer (inr sized) fine = elim sized.allowe
         grid = printed_by play p handed.made.solution;
         said = handed.said;
         solved = λ said. found_alone play known.reading (play.game.written p) p budget handed.made.solution said handed.spelled alone.0 alone.1;
-        read = spelled_read play.game.reading play.game.spells known.reading (play.game.written p) p handed.spelled;
+        read = spelled_read known.reading (play.game.written p) p handed.spelled;
         passes = λ said. passes_as play known.reading known.checked (play.game.written p) p handed.spelled handed.made.solution alone.1.0 said;
       }
   | inr none ↦ absurd (omega (arith, fine, ap (λ (a : Answer). a.status) none.said))
