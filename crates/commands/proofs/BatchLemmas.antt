@@ -21,7 +21,7 @@ parts_at p (q ∷ parts) h = refl
 
 -- a line, its end, and what follows
 lines_at : (p rest : Text) → All (λ b. (b == 10) ≡ false) p → lines (p ++ 10 ∷ rest) ≡ strip_carriage_return p ∷ lines rest
-lines_at p rest h1 = grind (arith, common_steps, length-slice_split, parts_at, slice_split, slice_split_at)
+lines_at p rest all = grind (arith, common_steps, length-slice_split, parts_at, slice_split, slice_split_at)
 
 lines_last : (p : Text) → All (λ b. (b == 10) ≡ false) p → lines p ≡ (if length p == 0 then [] else p ∷ [])
 lines_last p h = ap lines_of_parts (slice_split_none (λ b. b == 10) p h)
@@ -35,7 +35,8 @@ module _ (allows : Text → Answer → Type 0) where
       let others = each_has answers ls in
       (both first.0 others.0, (first.0, others.0, first.1, others.1, refl))
 
-  module _ {S : Type 0} {takes : S → Text → S → Type 0} (nothing : (s : S) → takes s [] s) (both_times : (s t u : S) (a b : Text) → takes s a t → takes t b u → takes s (a ++ b) u) where
+  module _ {S : Type 0} {takes : S → Text → S → Type 0} (nothing : (s : S) → takes s [] s)
+      (both_times : (s t u : S) (a b : Text) → takes s a t → takes t b u → takes s (a ++ b) u) where
     -- with the answer to a line that ends here, which the lines after it follow
     after_line : {start now : S} {batch : Batch} {seen : Text} (x : Answer) (b : Batched takes allows start batch seen now)
         → allows (strip_carriage_return b.piece) x → (rest : Text) (z : Answer) → AllowsEach allows (lines rest) z
@@ -159,7 +160,8 @@ to_the_end seen chunk i h = ap (λ t. t ++ drop (i + 1) chunk) (one_further seen
     ∙ ap (λ t. seen ++ t) (take-append-drop (i + 1) chunk)
 
 module _ {I : Type 0} {gives : I → Text → I → Type 0} (gives_both : (s t u : I) (a b : Text) → gives s a t → gives t b u → gives s (a ++ b) u) where
-  pub given_more : {from i j : I} {given chunk : Text} {P Q : Text → Type 0} → given ≡ chunk → Given gives from i P → gives i given j → ((seen : Text) → P seen → Q (seen ++ chunk))
+  pub given_more : {from i j : I} {given chunk : Text} {P Q : Text → Type 0} → given ≡ chunk → Given gives from i P
+      → gives i given j → ((seen : Text) → P seen → Q (seen ++ chunk))
       → Given gives from j Q
   given_more {from} {i} {j} {chunk} same t more step = record {
     seen = t.seen ++ chunk;
@@ -172,7 +174,8 @@ module _ {I : Type 0} {gives : I → Text → I → Type 0} (gives_both : (s t u
       record { seen = t.seen; gave = subst (λ (c : Text). gives from c j) (append-nil t.seen) (gives_both from i j t.seen [] t.gave more); is = t.is }
 
   -- no more was written
-  pub stopped_here : {S : Type 0} (takes : S → Text → S → Type 0) (nothing : (s : S) → takes s [] s) (both : (s t u : S) (a b : Text) → takes s a t → takes t b u → takes s (a ++ b) u)
+  pub stopped_here : {S : Type 0} (takes : S → Text → S → Type 0) (nothing : (s : S) → takes s [] s)
+      (both : (s t u : S) (a b : Text) → takes s a t → takes t b u → takes s (a ++ b) u)
       (allows : Text → Answer → Type 0) → HasAnswers allows → {from i : I} (start o : S) (batch : Batch)
       → Given gives from i (λ seen. Batched takes allows start batch seen o) → Given gives from i (λ seen. Stopped takes allows start seen o)
   stopped_here takes nothing both allows answers start o batch t =
@@ -187,9 +190,12 @@ same_input : (ended : Bool) (read input : Text) → ended ≡ true → IsInput e
 same_input true read input end is = sym is
 same_input false read input end is = absurd (true≢false (sym end))
 
-module _ {I S : Type 0} {source : sources.Ghosts I} {sink : sinks.Ghosts S} (takes_both : (s t u : S) (a b : Text) → sink.takes s a t → sink.takes t b u → sink.takes s (a ++ b) u)
+module _ {I S : Type 0} {source : sources.Ghosts I} {sink : sinks.Ghosts S}
+    (takes_both : (s t u : S) (a b : Text) → sink.takes s a t → sink.takes t b u → sink.takes s (a ++ b) u)
     (allows : Text → Answer → Type 0) where
-  pub ran_stopped : (i j : I) {o p : S} {status : ℕ} → 5 ≤ status → Given source.gives i j (λ seen. Stopped sink.takes allows o seen p) → Ran source sink (λ input. AllowsEach allows (lines input)) i j o p status
+  pub ran_stopped : (i j : I) {o p : S} {status : ℕ} → 5 ≤ status
+      → Given source.gives i j (λ seen. Stopped sink.takes allows o seen p)
+      → Ran source sink (λ input. AllowsEach allows (lines input)) i j o p status
   ran_stopped i j high s = record {
     read = s.seen;
     written = s.is.written;
@@ -203,7 +209,8 @@ module _ {I S : Type 0} {source : sources.Ghosts I} {sink : sinks.Ghosts S} (tak
     };
   }
 
-  pub ran_begun : (i j : I) {o p : S} {seen : Text} {status : ℕ} → 5 ≤ status → source.has_ended j ≡ true → source.gives i seen j → Begun sink.takes allows o seen p → Ran source sink (λ input. AllowsEach allows (lines input)) i j o p status
+  pub ran_begun : (i j : I) {o p : S} {seen : Text} {status : ℕ} → 5 ≤ status → source.has_ended j ≡ true → source.gives i seen j
+      → Begun sink.takes allows o seen p → Ran source sink (λ input. AllowsEach allows (lines input)) i j o p status
   ran_begun i j {seen} high ended gave s = record {
     read = seen;
     written = s.written;
@@ -216,7 +223,8 @@ module _ {I S : Type 0} {source : sources.Ghosts I} {sink : sinks.Ghosts S} (tak
   }
 
   -- all was answered, and the finishing took nothing more
-  pub ran_answered : {i j : I} {o p q : S} {seen : Text} {told status : ℕ} → (status ≡ told) ⊎ (status ≡ 6) → source.has_ended j ≡ true → source.gives i seen j → Answered sink.takes allows o told seen p → sink.takes p [] q
+  pub ran_answered : {i j : I} {o p q : S} {seen : Text} {told status : ℕ} → (status ≡ told) ⊎ (status ≡ 6)
+      → source.has_ended j ≡ true → source.gives i seen j → Answered sink.takes allows o told seen p → sink.takes p [] q
       → Ran source sink (λ input. AllowsEach allows (lines input)) i j o q status
   ran_answered {j} {o} {p} {q} {seen} {told} is_told ended gave s more = record {
     read = seen;

@@ -2,7 +2,7 @@
 -- a solution is told to be correct.
 use Rattle.std.proofs.Common.{◌≡◌, ◌<◌, ◌≤◌, ◌∷◌, ◌⊎◌, ℕ, List, zero, suc, [], length, refl, sym, ap, subst, arith, inl, inr, ◌≢◌, ◌∙◌, ◌*◌, Bool, true, false, Option, Some, None, get_or, slice_index, true≢false, codes}
 use Rattle.std.proofs.lemmas.Grind.{common_steps}
-use Rattle.std.specs.Prelude.{All, option_map, ◌↔◌, ◌++◌}
+use Rattle.std.specs.Prelude.{All, option_map, ◌↔◌}
 use Rattle.std.proofs.lemmas.Bool.{cases_eq, cases_lt, eq-eqb}
 use Rattle.std.specs.Bool.{Decides}
 use Rattle.std.specs.Cmp.Lexicographic.{bytes_decides}
@@ -12,12 +12,12 @@ use Rattle.std.proofs.lemmas.List.{get_or_past}
 use Rattle.gameid_core.specs.declared.light_up.cell.LightCell.{LightCell}
 use Rattle.gameid_core.specs.declared.light_up.cell.LightCell.TheVariants.{White, Black, Numbered}
 use Rattle.gameid_core.specs.declared.id.game.Game.TheVariants as game
-use Rattle.fields_core.specs.Light.{is_white, light_cells, white}
+use Rattle.fields_core.specs.Light.{is_white, white}
 use Rattle.fields_core.proofs.LightRuleLemmas as light
 use Rattle.fields_core.proofs.TentRuleLemmas as tents
-use Rattle.commands.specs.Common.{IsGrid, Extent, max_side, IsAsShown, hides_nothing, light_hides, tent_hides, IsPrinted, grid_text, pattern_cell}
-use Rattle.commands.specs.Common.{solo_cell, solo_extent, light_cell, tents_cell, max_numbers, IsLight, IsPattern, IsSolo, IsTents, Light, Pattern, Solo}
-use Rattle.commands.specs.Common.{Tents, solo_n, IsCheck, IsFirstFault, IsLightFault, IsLightSolution, IsTentFault, IsTentSolution}
+use Rattle.commands.specs.Common.{IsGrid, Extent, IsAsShown, hides_nothing, light_hides, tent_hides, IsPrinted, pattern_cell}
+use Rattle.commands.specs.Common.{solo_cell, solo_extent, light_cell, tents_cell, IsLight, IsPattern, IsSolo, IsTents, Light, Pattern, Solo}
+use Rattle.commands.specs.Common.{Tents, IsCheck, IsFirstFault, IsLightFault, IsLightSolution, IsTentFault, IsTentSolution}
 use Rattle.commands.specs.Answers.{Answer, Text}
 use Rattle.commands.specs.CheckAnswers.{AllowsGrid, SaysFault, checked, IsInputOf, without_returns}
 use Rattle.commands.specs.Games.{game_of}
@@ -102,7 +102,8 @@ grid_found (suc cells) {values} P decide = elim (under (λ Q decided. grid_found
     }
 
     -- of those whose first number is below m
-    under : ((Q : List ℕ → Type 0) → ((g : List ℕ) → IsGrid cells values g → Decided (Q g)) → Search cells values Q) → (m : ℕ) → m ≤ values → ((g : List ℕ) × IsGrid (suc cells) values g × P g) ⊎ NoneUnder (suc cells) values P m
+    under : ((Q : List ℕ → Type 0) → ((g : List ℕ) → IsGrid cells values g → Decided (Q g)) → Search cells values Q) → (m : ℕ)
+        → m ≤ values → ((g : List ℕ) × IsGrid (suc cells) values g × P g) ⊎ NoneUnder (suc cells) values P m
     under find zero low = inr (λ v tail lt. absurd (omega arith))
     under find (suc m) low = elim (find (λ tail. P (m ∷ tail)) (λ tail grid. decide (m ∷ tail) (cons_grid m (omega arith) grid))) [
       | inl found ↦ inl (m ∷ found.0, cons_grid m (omega arith) found.1, found.2)
@@ -127,7 +128,8 @@ pub record CheckedPuzzle {P : Type 0} (play : PuzzleFacts P) (p : P) : Type 0 wh
   -- there is one answer, and it is that nothing is wrong for solutions alone
   pub some : (g : List ℕ) → IsGrid ((play.extent p).w * (play.extent p).h) (play.value_count p) g → (a : Answer) × play.game.checks p g a
   pub alone : (g : List ℕ) (a b : Answer) → play.game.checks p g a → play.game.checks p g b → a ≡ b
-  pub sound : (g : List ℕ) (a : Answer) → IsGrid ((play.extent p).w * (play.extent p).h) (play.value_count p) g → play.game.checks p g a → a.status ≡ 0 → play.game.solves p g
+  pub sound : (g : List ℕ) (a : Answer) → IsGrid ((play.extent p).w * (play.extent p).h) (play.value_count p) g
+      → play.game.checks p g a → a.status ≡ 0 → play.game.solves p g
   pub right : (g : List ℕ) → play.game.solves p g → play.game.checks p g (checked None)
   -- a solution is shown by its printed form
   pub shown : (g : List ℕ) → play.game.solves p g → IsAsShown (play.hides p) (play.value_count p) (play.extent p) g
@@ -159,7 +161,7 @@ none_at v small never = let other : v ≢ 1 = never in omega arith
 
 -- in a grid of 0 and 1 a cell holds 0 where it can't hold 1
 hidden_zero : {cells : ℕ} {g : List ℕ} (place : ℕ) → IsGrid cells 2 g → (place < cells → slice_index g place ≡ 1 → ⊥) → slice_index g place ≡ 0
-hidden_zero place h1 h2 = grind (arith, common_steps, cases_lt, get_or_past, none_at)
+hidden_zero place grid not_so = grind (arith, common_steps, cases_lt, get_or_past, none_at)
 
 pub pattern_checked : (p : Pattern) → IsPattern p → CheckedPuzzle (game_of game.Pattern) p
 pattern_checked p ok = record {

@@ -59,7 +59,8 @@ module _ {p : RuleSystem} (laws : IsLawful p) where
                     again s.board (fewer p K s.board within w.left lost) lives s.within (swept-turn p K0 n K s.board done within w.left lost lives)
                 | inr none ↦ (
                   n + 1,
-                  ((swept-open p laws K0 n K s.board s.waits by_sweeps start alive done (sweep-whole p K s.board s.waits w lives) (any_below-none s.waits p.houses none)).by_sweeps by_sweeps).1,
+                  ((swept-open p laws K0 n K s.board s.waits by_sweeps start alive done (sweep-whole p K s.board s.waits w lives)
+                      (any_below-none s.waits p.houses none)).by_sweeps by_sweeps).1,
                 )
               ]
         ]

@@ -46,7 +46,7 @@ first_of right (suc n) = by (first_of right n).0 (first_of right n).1 (right n) 
 -- the least number of a kind is one alone
 pub least_once : (right wrong : ℕ → Type 0) → ((n : ℕ) → right n → wrong n → ⊥) → {j k : ℕ} → wrong j → wrong k → ((i : ℕ) → i < j → right i)
     → ((i : ℕ) → i < k → right i) → j ≡ k
-least_once right wrong h1 h2 h3 h4 h5 = grind (arith, common_steps, cases_lt)
+least_once right wrong not_so h2 h3 each every = grind (arith, common_steps, cases_lt)
 
 first_once : {right : ℕ → Bool} (n c d : ℕ) → IsFirstWrong right n c → IsFirstWrong right n d → c ≡ d
 first_once {right} n c d x y =
@@ -179,7 +179,7 @@ module _ (p : Pattern) (g : List ℕ) where
   wrong_once k l a b = least_once (HasClue p g) (λ n. HasClue p g n → ⊥) (λ n has never. never has) a.wrong b.wrong a.before b.before
 
   pub pattern_alone : (a b : Option PatternFault) → IsCheck p g a → IsCheck p g b → a ≡ b
-  pattern_alone a b h1 h2 = grind (arith, common_steps, line_of_solution, wrong_once)
+  pattern_alone a b check h2 = grind (arith, common_steps, line_of_solution, wrong_once)
 
 -- ---- Solo: by the first given that doesn't stand, and the first house that holds a number twice
 module _ (p : Solo) (ok : IsSolo p) (g : List ℕ) where

@@ -70,11 +70,12 @@ module _ {P : Type 0} (play : PuzzleFacts P) (reading : HasOneReading play.game.
   pub never_one : (id : Text) (p : P) (any : ℕ) (said : Answer) → play.game.spells id p → HasTwo (play.game.rules p)
       → ((g : List ℕ) → Solves (play.game.rules p) g → play.game.solves p g)
       → AllowsSolve play any id said → said.status ≢ 0
-  never_one id p any said h1 h2 h3 h4 = grind (arith, common_steps, status_one, told_status)
+  never_one id p any said spells two each allows_solve = grind (arith, common_steps, status_one, told_status)
 
 -- what is spelled is read
-pub spelled_read : {P : Type 0} {of : Text → Result P IdFault} {spells : Text → P → Type 0} → HasOneReading spells of → (id : Text) (p : P) → spells id p → is_ok (of id) ≡ true
-spelled_read h1 id p h2 = grind (arith, common_steps)
+pub spelled_read : {P : Type 0} {of : Text → Result P IdFault} {spells : Text → P → Type 0} → HasOneReading spells of
+    → (id : Text) (p : P) → spells id p → is_ok (of id) ≡ true
+spelled_read one_reading id p spells = grind (arith, common_steps)
 
 module _ {P : Type 0} (play : PuzzleFacts P) (reading : HasOneReading play.game.spells play.game.reading)
     (game : (id : Text) (p : P) → play.game.spells id p → CheckedPuzzle play p) where
@@ -204,7 +205,8 @@ listed_right {solves} [] {search} budget each searched =
     right_by_verdict solves (trials_in (walk search 0 search.start)) (verdict_of search budget) (verdict_right searched budget)
 listed_right {solves} (first ∷ rest) {search} budget each searched = by (is_settled first.rules) refl (listed_right rest budget each.1 searched)
   where
-    by : (b : Bool) → is_settled first.rules ≡ b → IsRightGrade solves (listed_grade rest search budget) → IsRightGrade solves (if b then ByRules first.set else listed_grade rest search budget)
+    by : (b : Bool) → is_settled first.rules ≡ b → IsRightGrade solves (listed_grade rest search budget)
+        → IsRightGrade solves (if b then ByRules first.set else listed_grade rest search budget)
     by true settled later = settled_one each.0 settled
     by false unsettled later = later
 

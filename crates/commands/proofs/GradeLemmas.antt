@@ -142,9 +142,9 @@ module _ {P : Type 0} (play : PuzzleFacts P) (p : P) (budget : ℕ) (traced : Bo
 module _ {S : Type 0} {takes : S → Text → S → Type 0} (nothing : (s : S) → takes s [] s) (both : (s t u : S) (a b : Text) → takes s a t → takes t b u → takes s (a ++ b) u)
     {grade : Grade} {traced : Bool} {name : ℕ → Text} {rules : RuleSystem} where
   -- the rest was delivered
-  pub said_whole : (s t u : S) (line rest : Text) {a : Answer} (status : ℕ) → line ≡ grade_text grade ++ codes "\n" → PutsTrace takes traced name rules s line rest t
+  pub said_whole : {s t u : S} {line rest : Text} {a : Answer} {status : ℕ} → line ≡ grade_text grade ++ codes "\n" → PutsTrace takes traced name rules s line rest t
       → Delivers takes t a u status → a.text ≡ rest → a.status ≡ grade_status grade → SaysIfAny takes (SaysGrade grade traced name rules) s u status
-  said_whole s t u line rest status is p d same ends = record {
+  said_whole {s} {t} {u} {line} is p d same ends = record {
     written = p.put.done ++ d.written;
     took = both s t u p.put.done d.written p.put.took d.took;
     begun = inr (

@@ -48,14 +48,14 @@ begins_with_trial walk_of d E cell (suc n) = elim (begins_with_trial walk_of d E
 none_below : (p : RuleSystem) (walk_of : Candidates → List Mark) (d : ℕ) (E : Candidates) (o : Option ℕ) (g : List ℕ)
     → outcome 0 None (at_cell p walk_of d E o) ≡ OneSolution g → ⊥
 unfolding at_cell outcome
-none_below p walk_of d E o g h1 = grind (arith, common_steps, begins_with_trial)
+none_below p walk_of d E o g same = grind (arith, common_steps, begins_with_trial)
 
 module _ {p : RuleSystem} (laws : IsLawful p) where
   start_walk : walk p 0 p.start ≡ walk_closed p (walk p 1) 0 (closure p p.start)
   start_walk = walk-unfold p 0 p.start laws.start_within
 
   pub settled_found : is_settled p ≡ true → (budget : ℕ) → verdict_of p budget ≡ OneSolution (grid_of p.cells p.values (closure p p.start))
-  settled_found h1 budget = grind (arith, common_steps, and_parts, found_one, full_walk, start_walk)
+  settled_found same budget = grind (arith, common_steps, and_parts, found_one, full_walk, start_walk)
 
   nothing : {marks : List Mark} (g : List ℕ) → walk p 0 p.start ≡ marks → marks ≡ [] → verdict_of p 0 ≡ OneSolution g → ⊥
   unfolding outcome
@@ -63,7 +63,7 @@ module _ {p : RuleSystem} (laws : IsLawful p) where
 
   pub one_settled : (g : List ℕ) → verdict_of p 0 ≡ OneSolution g → is_settled p ≡ true
   unfolding walk_closed
-  one_settled g h1 = grind (arith, common_steps, and_from, none_below, nothing, start_walk, walk_closed-dead, walk_closed-wrong)
+  one_settled g same = grind (arith, common_steps, and_from, none_below, nothing, start_walk, walk_closed-dead, walk_closed-wrong)
 
 -- what the weaker rules settle, the stronger ones settle
 module _ {weak strong : RuleSystem} (weak_laws : IsLawful weak) (strong_laws : IsLawful strong)
@@ -77,7 +77,9 @@ module _ {weak strong : RuleSystem} (weak_laws : IsLawful weak) (strong_laws : I
 
   pub settled_by_stronger : is_settled weak ≡ true → is_settled strong ≡ true
   settled_by_stronger settled =
-      let parts = and_parts (is_full weak.cells weak.values (closure weak weak.start)) (weak.is_solution (grid_of weak.cells weak.values (closure weak weak.start))) settled in
+      let parts =
+      and_parts (is_full weak.cells weak.values (closure weak weak.start))
+      (weak.is_solution (grid_of weak.cells weak.values (closure weak weak.start))) settled in
       one_settled strong_laws (grid_of weak.cells weak.values (closure weak weak.start))
       (found_at_once strong 0 (grid_of weak.cells weak.values (closure weak weak.start)) (known strong strong_laws) (solved parts.0 parts.1)
       (λ c v lc lv on.
@@ -146,10 +148,11 @@ graded_one solves grade right e = absurd (omega (arith, e))
 -- a verdict that is right of a puzzle with one solution is that one, or that the search gave up
 one_or_out : (solves : List ℕ → Type 0) (o : Outcome) → IsRight solves o → HasOneSolution solves → verdict_status o ≢ 4 → 0 ≡ verdict_status o
 unfolding verdict_status
-one_or_out solves o h1 h2 h3 = grind (arith, common_steps)
+one_or_out solves o right one_solution differ = grind (arith, common_steps)
 
 -- a list of rule sets gives the name of one, or the grade by the search
-pub named_or_searched : (sets : List NamedRules) (otherwise : Grade) → ((set : RuleSet) × (first_settled sets otherwise ≡ ByRules set)) ⊎ (first_settled sets otherwise ≡ otherwise)
+pub named_or_searched : (sets : List NamedRules) (otherwise : Grade)
+    → ((set : RuleSet) × (first_settled sets otherwise ≡ ByRules set)) ⊎ (first_settled sets otherwise ≡ otherwise)
 named_or_searched [] otherwise = inr refl
 named_or_searched (first ∷ rest) otherwise = by (is_settled first.rules) (named_or_searched rest otherwise)
   where
@@ -205,13 +208,14 @@ module _ (search : RuleSystem) (budget : ℕ) where
   pub own_named : (set : RuleSet) (rest : List NamedRules) → is_within_search set ≡ true → AreBeyond rest
       → is_within (listed_grade (record { set = set; rules = search } ∷ rest) search budget) ≡ is_settled search
   unfolding is_within
-  own_named set rest h1 h2 = grind (arith, common_steps, beyond, is_within)
+  own_named set rest same h2 = grind (arith, common_steps, beyond, is_within)
 
   -- one more rule set before the others, where what it settles the search's rules settle
   pub weaker_named : (set : RuleSet) (weak : RuleSystem) (rest : List NamedRules) → is_within_search set ≡ true → (is_settled weak ≡ true → is_settled search ≡ true)
-      → is_within (listed_grade rest search budget) ≡ is_settled search → is_within (listed_grade (record { set = set; rules = weak } ∷ rest) search budget) ≡ is_settled search
+      → is_within (listed_grade rest search budget) ≡ is_settled search
+      → is_within (listed_grade (record { set = set; rules = weak } ∷ rest) search budget) ≡ is_settled search
   unfolding is_within
-  weaker_named set weak rest h1 h2 h3 = grind (arith, common_steps, is_within)
+  weaker_named set weak rest same each is = grind (arith, common_steps, is_within)
 
 -- ---- what is told
 -- the first two bytes of a text
@@ -221,7 +225,7 @@ marks text = slice_index text 0 + 1000 * slice_index text 1
 named_is : (grade : Grade) (lines rest : Text) (set : RuleSet) → is_within_search set ≡ true
     → grade_text grade ++ codes "\n" ++ lines ≡ (rule_set_text set ++ codes "\n") ++ rest → is_within grade ≡ true
 unfolding is_within marks
-named_is grade lines rest set h1 h2 = grind (arith, common_steps, marks, true≢false)
+named_is grade lines rest set same is = grind (arith, common_steps, marks, true≢false)
 
 names_it : (grade : Grade) (lines : Text) → is_within grade ≡ true
     → (set : RuleSet) × (is_within_search set ≡ true) × Begins (rule_set_text set ++ codes "\n") (grade_text grade ++ codes "\n" ++ lines)

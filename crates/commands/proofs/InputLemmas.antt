@@ -35,7 +35,7 @@ module _ (n : ℕ) where
 module _ {most : ℕ} where
   -- it is empty where nothing of it is kept
   pub line_empty : 0 < most → {line : InputLine} {piece : List ℕ} → HoldsUpTo most line piece → (length line.kept.items == 0) ≡ (length piece == 0)
-  line_empty h1 h2 = grind (arith, common_steps, cases_lt, full, ne_eqb, whole)
+  line_empty below holds_up_to = grind (arith, common_steps, cases_lt, full, ne_eqb, whole)
 
   -- a byte that is kept
   pub holds_kept : {old new : InputLine} (b : ℕ) {piece : List ℕ} → HoldsUpTo most old piece → length old.kept.items < most
@@ -63,10 +63,10 @@ module _ {most : ℕ} where
 
 -- what each tail says of the bytes
 no_tail : {d : List ℕ} → tail_of d ≡ Nothing → d ≡ []
-no_tail h1 = grind (arith, common_steps)
+no_tail same = grind (arith, common_steps)
 
 return_tail : {d : List ℕ} → tail_of d ≡ Return → d ≡ 13 ∷ []
-return_tail h1 = grind (arith, common_steps, eqb-true)
+return_tail same = grind (arith, common_steps, eqb-true)
 
 last_is : (l : List ℕ) {x : ℕ} → slice_index (l ++ x ∷ []) (length (l ++ x ∷ []) - 1) ≡ x
 last_is l = grind (arith, common_steps)
@@ -121,14 +121,14 @@ module _ (most : ℕ) where
   some_left (x ∷ d) e = omega arith
 
   pub line_over : {line : InputLine} {piece : List ℕ} → HoldsUpTo most line piece → line.tail ≡ More → most < length (strip_carriage_return piece)
-  line_over h1 h2 = grind (arith, common_steps, full, more_by, some_left, take-append-drop, take_full)
+  line_over holds_up_to same = grind (arith, common_steps, full, more_by, some_left, take-append-drop, take_full)
 
   left_over : (d : List ℕ) → (tail_of d ≡ Nothing → ⊥) → 0 < length d
   left_over [] h = absurd (h refl)
   left_over (x ∷ d) h = omega arith
 
   pub last_over : {line : InputLine} {piece : List ℕ} → HoldsUpTo most line piece → (line.tail ≡ Nothing → ⊥) → most < length piece
-  last_over h1 h2 = grind (arith, common_steps, left_over, length-drop)
+  last_over holds_up_to not_so = grind (arith, common_steps, left_over, length-drop)
 
 choice : {b : Bool} (byte : ℕ) (more : Text) → (byte == 13) && begins_with_line_end more ≡ b
     → without_returns (byte ∷ more) ≡ (if b then without_returns more else byte ∷ without_returns more)
@@ -143,11 +143,11 @@ byte_kept kept more whole byte so_far is means no_drop copied =
     ap (λ (t : Text). t ++ without_returns more) copied ∙ append_assoc kept (byte ∷ []) (without_returns more)
     ∙ ap (λ (t : Text). kept ++ t) (sym (choice byte more (sym means ∙ no_drop))) ∙ ap (λ (t : Text). kept ++ without_returns t) (sym is) ∙ so_far
 
-pub byte_dropped : (kept rest more whole : Text) (byte : ℕ) {drops : Bool}
+pub byte_dropped : (kept : Text) {rest more : Text} (whole : Text) {byte : ℕ} {drops : Bool}
     → kept ++ without_returns rest ≡ without_returns whole → rest ≡ byte ∷ more
     → drops ≡ ((byte == 13) && begins_with_line_end more) → drops ≡ true
     → kept ++ without_returns more ≡ without_returns whole
-byte_dropped kept rest more whole byte so_far is means drop =
+byte_dropped kept {rest} {more} whole {byte} so_far is means drop =
     ap (λ (t : Text). kept ++ t) (sym (choice byte more (sym means ∙ drop))) ∙ ap (λ (t : Text). kept ++ without_returns t) (sym is) ∙ so_far
 
 pub all_copied : (kept rest whole : Text) → kept ++ without_returns rest ≡ without_returns whole → length rest ≡ 0 → kept ≡ without_returns whole

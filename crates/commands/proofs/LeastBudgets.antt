@@ -81,7 +81,8 @@ module _ (game : Game) (id : Text) (p : puzzle_of game) (s : (game_of game).game
       (g, right.0, right.1)
 
   -- with a budget for all trials each answer tells the one solution
-  tells_fine : HasOneSolution ((game_of game).game.solves p) → (budget : ℕ) → trials_of rules ≤ budget → (said : Answer) → AllowsSolve (game_of game) budget id said → said.status ≡ 0
+  tells_fine : HasOneSolution ((game_of game).game.solves p) → (budget : ℕ) → trials_of rules ≤ budget → (said : Answer)
+      → AllowsSolve (game_of game) budget id said → said.status ≡ 0
   unfolding trials_of
   tells_fine one budget room said allowed = ap (λ (a : Answer). a.status)
       ((found_alone (game_of game) (laws_of game).reading id p budget one.0 said s
@@ -153,7 +154,8 @@ module _ (game : Game) (id : Text) (p : puzzle_of game) (s : (game_of game).game
           inr (names n (same ∙ ap (grade_by (trials_of rules)) found ∙ ap BySearch one.1))
     ]
 
-pub least_budgets : (game : Game) (id : Text) (budget : ℕ) (traced : Bool) (graded : Answer) → AllowsGrade (game_of game) id budget traced graded → NamesLeastBudget game id budget graded
+pub least_budgets : (game : Game) (id : Text) (budget : ℕ) (traced : Bool) (graded : Answer)
+    → AllowsGrade (game_of game) id budget traced graded → NamesLeastBudget game id budget graded
 least_budgets game id budget traced graded (inl x) = record {
   said = λ b. absurd (no_refusal _ b.0 (sym (ap (λ (a : Answer). a.text) x.said) ∙ b.1));
   only = λ n least room. absurd (omega (arith, least.enough graded (inl x), ap (λ (a : Answer). a.status) x.said));

@@ -10,7 +10,7 @@ use Rattle.commands.specs.Answers.{Answer, Text}
 use Rattle.commands.specs.Allowed.{AllowsMade, AllowsOfSize, handed_out, wanted}
 use Rattle.commands.specs.LawsOfCommands.{DifferInClues, HandOutAlike, LightsDifferInNumbers, PrintAlike, SoloDiffersInGivens}
 use Rattle.commands.specs.LightFacts.{light_facts}
-use Rattle.commands.specs.Makings.{Wanted, exhausted_answer}
+use Rattle.commands.specs.Makings.{Wanted}
 use Rattle.commands.specs.PuzzleFacts.{PuzzleFacts}
 use Rattle.commands.specs.Replies.{fault_text, refused}
 use Rattle.commands.specs.SoloFacts.{solo_facts}
@@ -36,10 +36,14 @@ module _ {P : Type 0} {play : PuzzleFacts P} {alike : P → P → Type 0} where
   pub sizes_differ : (w : Wanted) (text : Text) {one other : Answer}
       → ((size : SizeRead) → AllowsOfSize play w size one → AllowsOfSize play w size other → DifferInClues play alike one other)
       → AllowsMade play w text one → AllowsMade play w text other → DifferInClues play alike one other
-  sizes_differ w text each (inl x) (inl y) = same_differ x.said (y.said ∙ ap (λ (f : IdFault). refused (fault_text f)) (let is : Err y.fault ≡ Err x.fault = sym y.first ∙ x.first in cc)) (omega arith)
+  sizes_differ w text each (inl x) (inl y) =
+      same_differ x.said (y.said ∙ ap (λ (f : IdFault). refused (fault_text f))
+      (let is : Err y.fault ≡ Err x.fault = sym y.first ∙ x.first in cc)) (omega arith)
   sizes_differ w text each (inl x) (inr y) = absurd (let bad : Err x.fault ≡ Ok y.puzzle = sym x.first ∙ y.spelled in cc)
   sizes_differ w text each (inr x) (inl y) = absurd (let bad : Err y.fault ≡ Ok x.puzzle = sym y.first ∙ x.spelled in cc)
-  sizes_differ w text {other} each (inr x) (inr y) = each x.puzzle x.allowed (subst (λ size. AllowsOfSize play w size other) (let is : Ok y.puzzle ≡ Ok x.puzzle = sym y.spelled ∙ x.spelled in cc) y.allowed)
+  sizes_differ w text {other} each (inr x) (inr y) =
+      each x.puzzle x.allowed (subst (λ size. AllowsOfSize play w size other)
+      (let is : Ok y.puzzle ≡ Ok x.puzzle = sym y.spelled ∙ x.spelled in cc) y.allowed)
 
 -- a filling that passes was found
 unfilled : (c r : ℕ) (x : Bool) (budget : ℕ) {filling : Option (List ℕ)} → solo_passes c r x budget filling ≡ true → filling ≡ None → ⊥
@@ -61,7 +65,11 @@ solo_differs text seed budget tries black one other = sizes_differ (wanted seed 
       solution = x.made.solution;
       same = print_alike x.made.puzzle y.made.puzzle (x.is_made.columns ∙ sym y.is_made.columns) (x.is_made.rows ∙ sym y.is_made.rows);
       first_said = x.said;
-      second_said = y.said ∙ ap (handed_out solo_facts y.made.puzzle) (let is : Some y.made.solution ≡ Some x.made.solution = sym y.is_made.filled ∙ ap (λ (k : ℕ). filling_at (solo_filling size.w size.h size.x budget) k w.stream) alone ∙ x.is_made.filled in cc);
+      second_said =
+          y.said ∙ ap (handed_out solo_facts y.made.puzzle)
+          (let is : Some y.made.solution ≡ Some x.made.solution =
+          sym y.is_made.filled ∙ ap (λ (k : ℕ). filling_at (solo_filling size.w size.h size.x budget) k w.stream) alone
+          ∙ x.is_made.filled in cc);
     })
       where
         alone : y.is_made.k ≡ x.is_made.k

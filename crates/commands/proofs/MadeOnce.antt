@@ -63,7 +63,8 @@ module _ {A : Type 0} (make : Making A) (passes : A → Bool) (s : Stream) (trie
   pub first_or_none : ((k : ℕ) × IsFirstPassing make passes s tries k) ⊎ NonePasses make passes s tries
   first_or_none = by (first_of (λ j. not (passes (filling_at make j s))) tries)
     where
-      by : (o : Option ℕ) × IsFirstWrongOrNone (λ j. not (passes (filling_at make j s))) tries o → ((k : ℕ) × IsFirstPassing make passes s tries k) ⊎ NonePasses make passes s tries
+      by : (o : Option ℕ) × IsFirstWrongOrNone (λ j. not (passes (filling_at make j s))) tries o
+          → ((k : ℕ) × IsFirstPassing make passes s tries k) ⊎ NonePasses make passes s tries
       by (Some k, first) = inl (
         k,
         record {

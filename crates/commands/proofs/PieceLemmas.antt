@@ -23,9 +23,10 @@ each_begins f i (suc n) le = elim (cases_lt i (suc n)) [
 line_split : (text done held : Text) {longer line : Text} (f : ℕ → Text) (i : ℕ) → text ++ each_below f i ≡ done ++ held → longer ≡ held ++ line → line ≡ f i
     → text ++ each_below f (i + 1) ≡ done ++ longer
 unfolding each_below
-line_split text done held f i h1 h2 h3 = grind (arith, common_steps, add-one, append_assoc)
+line_split text done held f i same is equal = grind (arith, common_steps, add-one, append_assoc)
 
-module _ {S : Type 0} {takes : S → Text → S → Type 0} (nothing : (s : S) → takes s [] s) (both : (s t u : S) (a b : Text) → takes s a t → takes t b u → takes s (a ++ b) u) where
+module _ {S : Type 0} {takes : S → Text → S → Type 0} (nothing : (s : S) → takes s [] s)
+    (both : (s t u : S) (a b : Text) → takes s a t → takes t b u → takes s (a ++ b) u) where
   -- before the first line
   pub no_line : (s : S) (text : Text) (f : ℕ → Text) → PutUpTo takes s (text ++ each_below f 0) text s
   unfolding each_below
@@ -82,9 +83,9 @@ module _ {S : Type 0} {takes : S → Text → S → Type 0} {most : ℕ} where
   no_pieces text f = record { pieces = []; took = refl; split = append-nil text }
 
   -- one more line is in the text, and no piece more was put
-  pub line_held : {s t : S} (text held longer line : Text) (f : ℕ → Text) (i : ℕ) → PutInPieces takes most s (text ++ each_below f i) held t
+  pub line_held : {s t : S} (text : Text) {held longer line : Text} (f : ℕ → Text) (i : ℕ) → PutInPieces takes most s (text ++ each_below f i) held t
       → longer ≡ held ++ line → line ≡ f i → PutInPieces takes most s (text ++ each_below f (i + 1)) longer t
-  line_held text held longer line f i put more is = record {
+  line_held text {held} {longer} {line} f i put more is = record {
     pieces = put.pieces;
     took = put.took;
     split = line_split text (joined put.pieces) held f i put.split more is;

@@ -136,7 +136,9 @@ number_once v w after rest low small none also e = by (decimal v ++ after) refl
     by : (text : Text) → decimal v ++ after ≡ text → (v ≡ w) × (after ≡ rest)
     by [] is = absurd (not_empty v [] after low (sym is) (omega arith))
     by (byte ∷ more) is =
-        let same = numbers byte more (number_of v (byte ∷ more) after more byte low none (sym is) refl) (number_of w (byte ∷ more) rest more byte small also (sym is ∙ e) refl) in
+        let same =
+        numbers byte more (number_of v (byte ∷ more) after more byte low none (sym is) refl)
+        (number_of w (byte ∷ more) rest more byte small also (sym is ∙ e) refl) in
         (same, same_rest (decimal w) (ap (λ (n : ℕ). decimal n ++ after) (sym same) ∙ e))
 
 pub pattern_once : (p : Pattern) → CellOnce hides_nothing 2 p.size (pattern_cell p)
@@ -176,7 +178,7 @@ tents_once p g h place after other shown also lt follows more e = by (slice_inde
 
 -- what follows a number of Solo begins with no digit
 no_digit_follows : (p : Solo) (g : List ℕ) (place : ℕ) {after : Text} → Follows (solo_cell p g) (solo_extent p) place after → first_digit after ≡ None
-no_digit_follows p g place h1 = grind (arith, common_steps, ne_eqb)
+no_digit_follows p g place follows = grind (arith, common_steps, ne_eqb)
 
 pub solo_once : (p : Solo) → IsSolo p → CellOnce hides_nothing (solo_n p) (solo_extent p) (solo_cell p)
 solo_once p ok g h place after other shown also lt follows more e =
@@ -187,7 +189,8 @@ solo_once p ok g h place after other shown also lt follows more e =
     (no_digit_follows p g place follows) (no_digit_follows p h place more) (by (place % solo_n p == 0) e) in
     (let one = both.0 in omega arith, both.1)
   where
-    by : (b : Bool) → ((if b then [] else codes " ") ++ decimal (slice_index g place + 1)) ++ after ≡ ((if b then [] else codes " ") ++ decimal (slice_index h place + 1)) ++ other
+    by : (b : Bool) → ((if b then [] else codes " ") ++ decimal
+        (slice_index g place + 1)) ++ after ≡ ((if b then [] else codes " ") ++ decimal (slice_index h place + 1)) ++ other
         → decimal (slice_index g place + 1) ++ after ≡ decimal (slice_index h place + 1) ++ other
     by true both = both
     by false both = ap (drop 1) both

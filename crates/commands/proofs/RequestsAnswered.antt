@@ -12,18 +12,15 @@ use Rattle.gameid_core.proofs.SoloCanon.{solo_is_written}
 use Rattle.maker_core.specs.Draws.{IsFirstPassing, NonePasses, filling_at}
 use Rattle.maker_core.specs.LightFilling.{light_filling, light_passes}
 use Rattle.maker_core.specs.SoloMaking.{IsSoloSize, solo_filling, solo_passes}
-use Rattle.commands.specs.Common.{Extent, Game, IsLawful, RuleSystem, SizeRead, Stream, extent_of, is_settled, max_side, size_of, line_rules, light_rules, tent_rules, houses_rules, singles_rules, crossings_rules}
+use Rattle.commands.specs.Common.{Extent, Game, IsLawful, RuleSystem, SizeRead, Stream, extent_of, is_settled, max_side, size_of}
 use Rattle.commands.specs.Answers.{Answer, Text}
 use Rattle.commands.specs.Allowed.{Allows, AllowsCheck, AllowsGrade, AllowsMade, AllowsOfSize, AllowsSolve, handed_out, wanted}
 use Rattle.commands.specs.Asked.{Asked, check, generate, grade, solve}
-use Rattle.commands.specs.Games.{game_of, puzzle_of}
-use Rattle.commands.specs.Grades.{NamedRules, grade_status, grade_text, last_tried, listed_grade, only_set}
+use Rattle.commands.specs.Games.{game_of}
+use Rattle.commands.specs.Grades.{NamedRules, grade_status, grade_text, last_tried, listed_grade}
 use Rattle.commands.specs.Makings.{exhausted_answer}
-use Rattle.commands.specs.PatternFacts.{pattern_name}
 use Rattle.commands.specs.Replies.{refused_words}
 use Rattle.commands.specs.Seeds.{seed_stream}
-use Rattle.commands.specs.SoloFacts.{solo_name, solo_sets}
-use Rattle.commands.specs.declared.grade.RuleSet.TheVariants.{Lines, Local}
 use Rattle.commands.specs.Traces.{IsTrace, SaysClosing, sweeps_text, visits_text}
 use Rattle.commands.proofs.BatchLemmas.{each_has}
 use Rattle.commands.proofs.CheckedPuzzles.{check_some}

@@ -7,7 +7,7 @@ use Rattle.commands.specs.Answers.{Answer, BeginsAnswer, Text, Delivers, PutBegu
 use Rattle.commands.specs.Each.{HasAnswers}
 use Rattle.commands.specs.Replies.{answer_in}
 use Rattle.commands.specs.declared.answers.reply.Reply.{Reply}
-use Rattle.commands.specs.Stops.{BeginsIfAny, IsSinkAfter, RanIfAny, Says, SaysIfAny, status_in}
+use Rattle.commands.specs.Stops.{BeginsIfAny, RanIfAny, Says, SaysIfAny, status_in}
 use Rattle.commands.specs.declared.answers.status.Status.{Status}
 use Rattle.commands.specs.declared.answers.status.Stop.{Stop}
 use Rattle.commands.specs.declared.answers.status.Stop.TheVariants.{Memory, Broken}
@@ -15,23 +15,15 @@ use Rattle.commands.specs.Runs.{Ran}
 use Rattle.commands.specs.declared.ends.Sink as sinks
 use Rattle.commands.specs.declared.ends.Source as sources
 
--- an exit with that stop
-pub status_is : (r : Result Status Stop) (Q : ℕ → Type 0) (stop : Stop) → Q (status_of stop) → IsErr r × IsErrAnd r (λ e. e ≡ stop) → Q (status_in r)
-status_is (Ok u) Q stop q h = absurd (true≢false (sym h.0))
-status_is (Err e) Q stop q h = subst (λ (x : Stop). Q (status_of x)) (sym h.1) q
-
--- how the sink stands where memory was wanted and nothing was put
-pub left_alone : (r : Result Status Stop) (failed flushed : Bool) → failed ≡ false → IsErr r × IsErrAnd r (λ e. e ≡ Memory) → IsSinkAfter (status_in r) failed flushed
-left_alone r failed flushed fine h = status_is r (λ n. IsSinkAfter n failed flushed) Memory
-    (record { within = omega arith; sound = λ _. fine; sent = λ low. absurd (omega arith); broken = λ six. absurd (omega arith) }) h
-
 -- a stop is no whole answer
-pub late : (stop : Stop) → 5 ≤ status_of stop
+late : (stop : Stop) → 5 ≤ status_of stop
 late Memory = omega arith
 late Broken = omega arith
 
+-- so is no exit with one
 pub is_late : (r : Result Status Stop) (stop : Stop) → IsErr r × IsErrAnd r (λ e. e ≡ stop) → 5 ≤ status_in r
-is_late r stop h = status_is r (λ n. 5 ≤ n) stop (late stop) h
+is_late (Ok status) stop h = absurd (true≢false (sym h.0))
+is_late (Err met) stop h = late met
 
 -- what begins an answer of one kind begins one of another that follows from it
 begins_as : (A B : Answer → Type 0) (w : Text) → ((a : Answer) → A a → B a) → BeginsAnswer A w → BeginsAnswer B w
@@ -70,25 +62,29 @@ says_some {A} some told = record {
 }
 
 -- nothing was written
-pub says_nothing : {S : Type 0} {takes : S → Text → S → Type 0} {allows : Answer → Type 0} {s : S} {status : ℕ} → takes s [] s → 5 ≤ status → SaysIfAny takes allows s s status
+pub says_nothing : {S : Type 0} {takes : S → Text → S → Type 0} {allows : Answer → Type 0} {s : S} {status : ℕ} → takes s [] s
+    → 5 ≤ status → SaysIfAny takes allows s s status
 says_nothing nothing high = record { written = []; took = nothing; begun = inl refl; whole = λ small. absurd (omega arith) }
 
 rest_is : (rest : List ℕ) (n m : ℕ) → m ≡ length rest → take (m - n) (drop n rest) ≡ drop n rest
 rest_is rest n m e = grind (arith, common_steps)
 
-module _ {S : Type 0} {takes : S → List ℕ → S → Type 0} (nothing : (s : S) → takes s [] s) (both : (s t u : S) (a b : List ℕ) → takes s a t → takes t b u → takes s (a ++ b) u) where
+module _ {S : Type 0} {takes : S → List ℕ → S → Type 0} (nothing : (s : S) → takes s [] s)
+    (both : (s t u : S) (a b : List ℕ) → takes s a t → takes t b u → takes s (a ++ b) u) where
   -- after one more put, which took n bytes
-  pub put_more : (s t u : S) (bytes rest : List ℕ) (n m : ℕ) → m ≡ length rest → PutUpTo takes s bytes rest t
+  pub put_more : {s t u : S} {bytes rest : List ℕ} (n m : ℕ) → m ≡ length rest → PutUpTo takes s bytes rest t
       → takes t (take n rest) u → PutUpTo takes s bytes (take (m - n) (drop n rest)) u
-  put_more s t u bytes rest n m e so_far took = record {
+  put_more {s} {t} {u} {bytes} {rest} n m e so_far took = record {
     done = so_far.done ++ take n rest;
     took = both s t u so_far.done (take n rest) so_far.took took;
-    split = so_far.split ∙ ap (λ l. so_far.done ++ l) (sym (take-append-drop n rest)) ∙ sym (append_assoc so_far.done (take n rest) (drop n rest)) ∙ ap (λ l. (so_far.done ++ take n rest) ++ l) (sym (rest_is rest n m e));
+    split = so_far.split ∙ ap (λ l. so_far.done ++ l) (sym (take-append-drop n rest))
+        ∙ sym (append_assoc so_far.done (take n rest) (drop n rest))
+        ∙ ap (λ l. (so_far.done ++ take n rest) ++ l) (sym (rest_is rest n m e));
   }
 
   -- after a put that failed
-  pub put_failed : (s t u : S) (bytes rest : List ℕ) → PutUpTo takes s bytes rest t → takes t [] u → PutBegun takes s bytes u
-  put_failed s t u bytes rest so_far took = record {
+  pub put_failed : {s t u : S} {bytes rest : List ℕ} → PutUpTo takes s bytes rest t → takes t [] u → PutBegun takes s bytes u
+  put_failed {s} {t} {u} {bytes} {rest} so_far took = record {
     done = so_far.done ++ [];
     took = both s t u so_far.done [] so_far.took took;
     begun = (rest, so_far.split ∙ ap (λ l. l ++ rest) (sym (append-nil so_far.done)));
@@ -127,9 +123,9 @@ module _ {I O : Type 0} {source : sources.Ghosts I} {sink : sinks.Ghosts O}
   }
 
   -- the same of an answer that is allowed on every input
-  pub ran_by_reply : (i : I) (o p : O) {a : Answer} {status : ℕ} → source.gives i [] i → ((input : Text) → allows input a)
+  ran_by_reply : {i : I} {o p : O} {a : Answer} {status : ℕ} → source.gives i [] i → ((input : Text) → allows input a)
       → Delivers sink.takes o a p status → Ran source sink allows i i o p status
-  ran_by_reply i o p {a} nothing allowed d = ran_by_telling (λ b. (input : Text) → allows input b) nothing (λ input b told. told input) (record {
+  ran_by_reply {a} nothing allowed d = ran_by_telling (λ b. (input : Text) → allows input b) nothing (λ input b told. told input) (record {
     written = d.written;
     took = d.took;
     begun = (a, allowed, d.begun);
@@ -148,15 +144,16 @@ module _ {I O : Type 0} {source : sources.Ghosts I} {sink : sinks.Ghosts O}
   }
 
   -- an answer that is allowed on every input was put, if there was memory for it
-  pub ran_by_put : {E : Type 0} (made : Result Reply E) (i : I) (o p : O) (status : ℕ) → HasAnswers allows → source.gives i [] i → sink.takes o [] o
+  pub ran_by_put : {E : Type 0} (made : Result Reply E) {i : I} {o p : O} {status : ℕ} → HasAnswers allows → source.gives i [] i → sink.takes o [] o
       → IfOk made (λ r. (input : Text) → allows input (answer_in r)) → IfOk made (λ r. Delivers sink.takes o (answer_in r) p status)
       → IfErr made (λ _. (p ≡ o) × (status ≡ 5)) → Ran source sink allows i i o p status
-  ran_by_put (Ok r) i o p status answers nothing none allowed put unmade = ran_by_reply i o p nothing allowed put
-  ran_by_put (Err e) i o p status answers nothing none allowed put unmade =
+  ran_by_put (Ok r) answers nothing none allowed put unmade = ran_by_reply nothing allowed put
+  ran_by_put (Err e) answers nothing none allowed put unmade =
       rw unmade.0 (ran_unwritten answers [] (omega arith) nothing none)
 
   -- the same of steps that know of no answer before
-  pub ran_if_any_unwritten : {i j : I} {o : O} (seen : Text) {status : ℕ} → 5 ≤ status → source.gives i seen j → sink.takes o [] o → RanIfAny source sink allows i j o o status
+  pub ran_if_any_unwritten : {i j : I} {o : O} (seen : Text) {status : ℕ} → 5 ≤ status → source.gives i seen j → sink.takes o [] o
+      → RanIfAny source sink allows i j o o status
   ran_if_any_unwritten seen high gave took =
       record { read = seen; written = []; gave = gave; took = took; begun = λ input _. inl refl; whole = λ low. absurd (omega arith) }
 
@@ -186,19 +183,3 @@ pub input_known : (ended was : Bool) (bytes start read left : Text) → start �
     → (start ≡ read ++ left) × (was ≡ false → ended ≡ true → left ≡ []) → IsInput ended read bytes
 input_known true was bytes start read left same fresh g = sym same ∙ g.0 ∙ ap (λ l. read ++ l) (g.1 fresh refl) ∙ append-nil read
 input_known false was bytes start read left same fresh g = (left, sym same ∙ g.0)
-
-module _ {I O : Type 0} (source : sources.Ghosts I) (sink : sinks.Ghosts O)
-    (some all : Text → Answer → Type 0) where
-  -- a run that leaves what some allow leaves what all allow
-  pub ran_more : (i j : I) (o p : O) {status : ℕ} → ((input : Text) (a : Answer) → some input a → all input a)
-      → Ran source sink some i j o p status → Ran source sink all i j o p status
-  ran_more i j o p more r = record {
-    read = r.read;
-    written = r.written;
-    gave = r.gave;
-    took = r.took;
-    leaves = record {
-      begun = λ input is. begins_as (some input) (all input) _ (more input) (r.leaves.begun input is);
-      whole = λ low input is. more input _ (r.leaves.whole low input is);
-    };
-  }

@@ -119,7 +119,9 @@ module _ (c r : ℕ) (size : IsSoloSize c r) where
 
     -- one that doesn't pass isn't there
     pub solo_missing : (k : ℕ) → solo_passes c r x budget (filling_at (solo_filling c r x budget) k s) ≡ false → filling_at (solo_filling c r x budget) k s ≡ None
-    solo_missing k fails = by (filling_at (solo_filling c r x budget) k s) (found_passes c r x budget (filling_at (solo_filling c r x budget) k s) size (solo_filled k) ∙ fails)
+    solo_missing k fails =
+        by (filling_at (solo_filling c r x budget) k s)
+        (found_passes c r x budget (filling_at (solo_filling c r x budget) k s) size (solo_filled k) ∙ fails)
       where
         by : (o : Option (List ℕ)) → is_some o ≡ false → o ≡ None
         by None e = refl

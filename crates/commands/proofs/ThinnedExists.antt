@@ -1,6 +1,6 @@
 -- A puzzle with all its clues can be thinned: a clue is taken away where the verdict without it is one, and else left for the reason
 -- that the verdict tells.
-use Rattle.maker_core.proofs.Common.{◌≡◌, ◌∙◌, ℕ, List, [], ◌∷◌, Option, Some, None, replicate, set, refl, sym, inl, inr, cases_eq}
+use Rattle.maker_core.proofs.Common.{◌≡◌, ◌∙◌, ℕ, List, [], ◌∷◌, Option, Some, None, replicate, refl, sym, inl, inr, cases_eq}
 use Rattle.maker_core.proofs.Common.{IsPermutation-refl, outcome-true, IsLawful, IsTrueOf, Outcome, Solves, verdict_of, CluedGame, IsGame, IsThinnedFrom}
 use Rattle.maker_core.proofs.Common.{clue_places, AreReasons, IsOnly, TellsOne, IsAsked, IsLeft, IsThinning, reasons_from}
 use Rattle.std.proofs.lemmas.Option.{none-some}
@@ -69,7 +69,9 @@ pub thinned : {A : Type 0} {game : CluedGame A} → IsGame game → (budget : �
     → IsOnly (game.rules all) answer → TellsOne (game.rules all) budget answer
     → (p : A) × (kept : List Kept) × IsThinnedTo game budget all answer p kept
 thinned {game} laws budget all answer lawful whole only found =
-    let start = thinning_start game laws budget all answer (clue_places game all) (replicate (game.cells all) None) only found (IsPermutation-refl (clue_places game all)) refl in
+    let start =
+    thinning_start game laws budget all answer (clue_places game all) (replicate (game.cells all) None) only found
+    (IsPermutation-refl (clue_places game all)) refl in
     let t = thin game laws budget all answer lawful only (clue_places game all) start in
     let left = answer_left game laws budget all t.0 answer t.1 t.2 only in (
       t.0,

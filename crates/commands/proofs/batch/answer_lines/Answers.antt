@@ -3,7 +3,6 @@ use Rattle.commands.specs.Batches.{AllowsTask}
 use Rattle.commands.proofs.BatchLemmas.{ran_answered, ran_begun, ran_stopped}
 use Rattle.commands.proofs.GameLaws.{answers}
 use Rattle.commands.proofs.RunLemmas.{is_late}
-use Rattle.commands.specs.Answers.{code_of}
 use Rattle.commands.proofs.batch.answer_lines.Goals as goal
 
 pub returns-in_err-take_input-clause-ran : goal.returns-in_err-take_input-clause-ran
@@ -20,9 +19,11 @@ returns-in_err-answer_last-clause-ran g c =
 pub returns-then-finish-clause-ran : goal.returns-then-finish-clause-ran
 returns-then-finish-clause-ran g c =
     let t = c.in_ok-take_input.ensures.taken in
-    ran_answered g.met.O.Sink.takes_both (AllowsTask c.args.task) (inl refl) c.in_ok-take_input.ensures.ended t.gave (c.in_ok-answer_last.ensures.whole c.args.output.now t.seen t.is) c.if-finish.ensures.bytes
+    ran_answered g.met.O.Sink.takes_both (AllowsTask c.args.task) (inl refl) c.in_ok-take_input.ensures.ended t.gave
+    (c.in_ok-answer_last.ensures.whole c.args.output.now t.seen t.is) c.if-finish.ensures.bytes
 
 pub returns-else-finish-clause-ran : goal.returns-else-finish-clause-ran
 returns-else-finish-clause-ran g c =
     let t = c.in_ok-take_input.ensures.taken in
-    ran_answered g.met.O.Sink.takes_both (AllowsTask c.args.task) (inr refl) c.in_ok-take_input.ensures.ended t.gave (c.in_ok-answer_last.ensures.whole c.args.output.now t.seen t.is) c.if-finish.ensures.bytes
+    ran_answered g.met.O.Sink.takes_both (AllowsTask c.args.task) (inr refl) c.in_ok-take_input.ensures.ended t.gave
+    (c.in_ok-answer_last.ensures.whole c.args.output.now t.seen t.is) c.if-finish.ensures.bytes

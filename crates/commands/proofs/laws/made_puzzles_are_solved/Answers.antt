@@ -41,10 +41,13 @@ returns-clause-solved c = by
 
 pub returns-clause-solo : goal.returns-clause-solo
 returns-clause-solo c = λ first second x budget tries s p g kept place made needed id any said spelled.
-    never_one (game_of Solo) (laws_of Solo).reading id (solo_game.without p place) any said spelled (All-contains (λ k. IsReason solo_game budget (all_given first second x g) p k.place k.why) kept _ made.reasons.reasons needed)
+    never_one (game_of Solo) (laws_of Solo).reading id (solo_game.without p place) any said spelled
+    (All-contains (λ k. IsReason solo_game budget (all_given first second x g) p k.place k.why) kept _ made.reasons.reasons
+    needed)
     (λ h t. rule_from_test (solo_game.without p place) spelled.puzzle h t.grid t.good)
 
 pub returns-clause-lights : goal.returns-clause-lights
 returns-clause-lights c = λ size black budget tries s p g kept place made needed id any said spelled.
-    never_one (game_of LightUp) (laws_of LightUp).reading id (light_game.without p place) any said spelled (All-contains (λ k. IsReason light_game budget (with_numbers p g) p k.place k.why) kept _ made.reasons.reasons needed)
+    never_one (game_of LightUp) (laws_of LightUp).reading id (light_game.without p place) any said spelled
+    (All-contains (λ k. IsReason light_game budget (with_numbers p g) p k.place k.why) kept _ made.reasons.reasons needed)
     (λ h t. rule-from-test (light_game.without p place) h t.grid t.good)

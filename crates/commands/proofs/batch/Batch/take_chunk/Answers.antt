@@ -1,4 +1,4 @@
-use Rattle.std.proofs.Common.{◌++◌, ◌∷◌, [], List, ℕ, drop, get_or, subst, take, ◌+◌}
+use Rattle.std.proofs.Common.{◌++◌, List, ℕ, drop, subst, take, ◌+◌}
 use Rattle.commands.specs.Batches.{Batched, AllowsTask}
 use Rattle.commands.specs.Each.{Stopped}
 use Rattle.commands.proofs.BatchLemmas.{on_any_err, one_further, stopped_further, to_the_end}
@@ -17,7 +17,8 @@ loop-byte-preserved g c = record {
   goes_on = λ start seen b.
       let i = c.loop-byte.byte-index in
       let chunk = c.args.chunk.now in
-      subst (λ (t : List ℕ). Batched g.O.Sink.takes (AllowsTask c.args.task) start c.take_byte.new.self t c.take_byte.new.output) (one_further seen chunk i c.loop-byte-test.true)
+      subst (λ (t : List ℕ). Batched g.O.Sink.takes (AllowsTask c.args.task) start c.take_byte.new.self t c.take_byte.new.output)
+      (one_further seen chunk i c.loop-byte-test.true)
       (c.in_ok-take_byte.ensures.goes_on start (seen ++ take i chunk) (c.loop-byte.invariant.goes_on start seen b));
   fine = c.in_ok-take_byte.ensures.fine;
 }

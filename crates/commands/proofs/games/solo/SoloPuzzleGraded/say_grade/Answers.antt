@@ -1,5 +1,5 @@
 use Rattle.std.proofs.Common.{refl, rules, subst, sym}
-use Rattle.commands.specs.Common.{IsSolo, crossings_rules, singles_rules}
+use Rattle.commands.specs.Common.{IsSolo, crossings_rules}
 use Rattle.commands.specs.Grades.{only_set}
 use Rattle.commands.specs.SoloFacts.{after_singles, solo_facts}
 use Rattle.commands.specs.declared.grade.RuleSet.TheVariants.{Crossings, Singles}
@@ -24,5 +24,6 @@ returns-then-settles-clause-answer g c =
 pub returns-clause-answer : goal.returns-clause-answer
 returns-clause-answer g c =
     let p = c.args.self.now in
-    said_later solo_facts p c.args.options.budget c.args.options.traced g.O.Sink.takes _ _ _ Singles _ (only_set Crossings (crossings_rules p)) c.in_ok-singles.ensures.rules
+    said_later solo_facts p c.args.options.budget c.args.options.traced g.O.Sink.takes _ _ _ Singles _
+    (only_set Crossings (crossings_rules p)) c.in_ok-singles.ensures.rules
     (sym c.if-settles.ensures.settled) c.say_by_houses.ensures.answer

@@ -1,5 +1,4 @@
 use Rattle.fields_core.specs.TentSolutions.{IsTentSolution}
-use Rattle.fields_core.specs.TentHouses.{tent_rules}
 use Rattle.commands.proofs.GradeLemmas.{accepted_by}
 use Rattle.commands.proofs.games.tents.TentsPuzzleGraded.say_grade.Goals as goal
 
