@@ -44,13 +44,13 @@ first_of right (suc n) = by (first_of right n).0 (first_of right n).1 (right n) 
     by None all false is = (Some n, record { below = omega arith; wrong = is; before = λ d lt. all_below-at right n d all lt })
 
 -- the least number of a kind is one alone
-pub least_once : (right wrong : ℕ → Type 0) → ((n : ℕ) → right n → wrong n → ⊥) → {j k : ℕ} → wrong j → wrong k → ((i : ℕ) → i < j → right i)
+pub least_once : (right wrong : ℕ → Type 0) → ((n : ℕ) → right n → wrong n → ⊥) → (j k : ℕ) → wrong j → wrong k → ((i : ℕ) → i < j → right i)
     → ((i : ℕ) → i < k → right i) → j ≡ k
-least_once right wrong not_so h2 h3 each every = grind (arith, common_steps, cases_lt)
+least_once right wrong h1 j k h2 h3 h4 h5 = grind (arith, common_steps, cases_lt)
 
-first_once : {right : ℕ → Bool} (n c d : ℕ) → IsFirstWrong right n c → IsFirstWrong right n d → c ≡ d
-first_once {right} n c d x y =
-    least_once (λ k. right k ≡ true) (λ k. right k ≡ false) (λ k on off. true≢false (sym on ∙ off)) x.wrong y.wrong x.before y.before
+first_once : (right : ℕ → Bool) (n c d : ℕ) → IsFirstWrong right n c → IsFirstWrong right n d → c ≡ d
+first_once right n c d x y =
+    least_once (λ k. right k ≡ true) (λ k. right k ≡ false) (λ k on off. true≢false (sym on ∙ off)) c d x.wrong y.wrong x.before y.before
 
 -- ---- tests that are made in turn: the first failure of the first one that fails is told, and else the end
 record Test (F : Type 0) : Type 0 where
@@ -70,12 +70,12 @@ some_of {F = F} (t ∷ rest) end = by (first_of t.right t.count) (some_of rest e
     by (Some c, first) later = (Some (t.fault c), inl (c, refl, first))
     by (None, all) later = (later.0, inr (all, later.1))
 
-once_of : {F : Type 0} (tests : List (Test F)) (end : Option F) {a b : Option F} → IsFirstOf tests end a → IsFirstOf tests end b → a ≡ b
-once_of [] end x y = x ∙ sym y
-once_of (t ∷ rest) end (inl x) (inl y) = x.1 ∙ ap (λ (c : ℕ). Some (t.fault c)) (first_once t.count x.0 y.0 x.2 y.2) ∙ sym y.1
-once_of (t ∷ rest) end (inl x) (inr y) = absurd (first-breaks t.right t.count x.0 x.2 y.0)
-once_of (t ∷ rest) end (inr x) (inl y) = absurd (first-breaks t.right t.count y.0 y.2 x.0)
-once_of (t ∷ rest) end (inr x) (inr y) = once_of rest end x.1 y.1
+once_of : {F : Type 0} (tests : List (Test F)) (end a b : Option F) → IsFirstOf tests end a → IsFirstOf tests end b → a ≡ b
+once_of [] end a b x y = x ∙ sym y
+once_of (t ∷ rest) end a b (inl x) (inl y) = x.1 ∙ ap (λ (c : ℕ). Some (t.fault c)) (first_once t.right t.count x.0 y.0 x.2 y.2) ∙ sym y.1
+once_of (t ∷ rest) end a b (inl x) (inr y) = absurd (first-breaks t.right t.count x.0 x.2 y.0)
+once_of (t ∷ rest) end a b (inr x) (inl y) = absurd (first-breaks t.right t.count y.0 y.2 x.0)
+once_of (t ∷ rest) end a b (inr x) (inr y) = once_of rest end a b x.1 y.1
 
 module _ (p : Light) (g : List ℕ) where
   abbrev light_tests : List (Test LightFault)
@@ -102,7 +102,7 @@ module _ (p : Light) (g : List ℕ) where
   light_some = let one = some_of light_tests None in (one.0, light_from one.0 one.1)
 
   pub light_alone : (a b : Option LightFault) → IsLightFault p g a → IsLightFault p g b → a ≡ b
-  light_alone a b x y = once_of light_tests None (light_to a x) (light_to b y)
+  light_alone a b x y = once_of light_tests None a b (light_to a x) (light_to b y)
 
 -- in Tents the end is whether tents and trees can be paired
 tent_end : Bool → Option TentFault
@@ -143,7 +143,7 @@ module _ (p : Tents) (g : List ℕ) where
   tent_some = let one = some_of tent_tests (tent_end (can_be_paired p g)) in (one.0, tent_from one.0 one.1)
 
   pub tent_alone : (a b : Option TentFault) → IsTentFault p g a → IsTentFault p g b → a ≡ b
-  tent_alone a b x y = once_of tent_tests (tent_end (can_be_paired p g)) (tent_to a x) (tent_to b y)
+  tent_alone a b x y = once_of tent_tests (tent_end (can_be_paired p g)) a b (tent_to a x) (tent_to b y)
 
 -- ---- Pattern: by the first line whose runs are not its clue
 module _ (p : Pattern) (g : List ℕ) where
@@ -176,10 +176,10 @@ module _ (p : Pattern) (g : List ℕ) where
       ]
 
   wrong_once : (k l : ℕ) → IsFirstWrongLine p g k → IsFirstWrongLine p g l → k ≡ l
-  wrong_once k l a b = least_once (HasClue p g) (λ n. HasClue p g n → ⊥) (λ n has never. never has) a.wrong b.wrong a.before b.before
+  wrong_once k l a b = least_once (HasClue p g) (λ n. HasClue p g n → ⊥) (λ n has never. never has) k l a.wrong b.wrong a.before b.before
 
   pub pattern_alone : (a b : Option PatternFault) → IsCheck p g a → IsCheck p g b → a ≡ b
-  pattern_alone a b check h2 = grind (arith, common_steps, line_of_solution, wrong_once)
+  pattern_alone a b h1 h2 = grind (arith, common_steps, line_of_solution, wrong_once)
 
 -- ---- Solo: by the first given that doesn't stand, and the first house that holds a number twice
 module _ (p : Solo) (ok : IsSolo p) (g : List ℕ) where
@@ -222,17 +222,17 @@ module _ (p : Solo) (ok : IsSolo p) (g : List ℕ) where
       )
 
   given_once : (x y : ℕ) → FallsFirst p g x → FallsFirst p g y → x ≡ y
-  given_once x y a b = least_once (Stands p g) (λ q. Stands p g q → ⊥) (λ q stands never. never stands) a.1 b.1 a.2 b.2
+  given_once x y a b = least_once (Stands p g) (λ q. Stands p g q → ⊥) (λ q stands never. never stands) x y a.1 b.1 a.2 b.2
 
   -- the first house that repeats a number is one alone
-  before_it : {house other : NamedHouse} (a : RepeatsFirst p g house) (b : RepeatsFirst p g other) → a.0 < b.0 → ⊥
-  before_it {house} {other} a b low = b.4 a.0 low (subst (Repeats p g) (a.2 ∙ get_or_default (houses_of p) a.0 house other a.1) a.3)
+  before_it : (house other : NamedHouse) (a : RepeatsFirst p g house) (b : RepeatsFirst p g other) → a.0 < b.0 → ⊥
+  before_it house other a b low = b.4 a.0 low (subst (Repeats p g) (a.2 ∙ get_or_default (houses_of p) a.0 house other a.1) a.3)
 
-  house_once : {house other : NamedHouse} → RepeatsFirst p g house → RepeatsFirst p g other → house ≡ other
-  house_once {house} {other} a b = elim (cases_lt a.0 b.0) [
-    | inl low ↦ absurd (before_it a b low)
+  house_once : (house other : NamedHouse) → RepeatsFirst p g house → RepeatsFirst p g other → house ≡ other
+  house_once house other a b = elim (cases_lt a.0 b.0) [
+    | inl low ↦ absurd (before_it house other a b low)
     | inr high ↦ elim (cases_lt b.0 a.0) [
-      | inl low ↦ absurd (before_it b a low)
+      | inl low ↦ absurd (before_it other house b a low)
       | inr also ↦
           let same : a.0 ≡ b.0 = omega arith in
           a.2 ∙ get_or_default (houses_of p) a.0 house other a.1 ∙ ap (λ h. get_or (houses_of p) h other) same ∙ sym b.2
@@ -251,11 +251,11 @@ module _ (p : Solo) (ok : IsSolo p) (g : List ℕ) where
   split (solo.Block b) is = inr (Block b, refl, is.0, is.1)
   split (solo.Diagonal d) is = inr (Diagonal d, refl, is.0, is.1)
 
-  both : {e f : SoloFault} → Split e → Split f → e ≡ f
-  both (inl (x, is, x_first)) (inl (y, are, y_first)) = is ∙ ap (λ (n : ℕ). solo.Given n) (given_once x y x_first y_first) ∙ sym are
-  both (inl (x, is, x_first)) (inr (house, are, stand, first)) = absurd (x_first.1 (stand x x_first.0))
-  both (inr (house, is, stand, first)) (inl (y, are, y_first)) = absurd (y_first.1 (stand y y_first.0))
-  both (inr (house, is, stand, first)) (inr (other, are, stood, second)) = is ∙ ap fault_of (house_once first second) ∙ sym are
+  both : (e f : SoloFault) → Split e → Split f → e ≡ f
+  both e f (inl (x, is, x_first)) (inl (y, are, y_first)) = is ∙ ap (λ (n : ℕ). solo.Given n) (given_once x y x_first y_first) ∙ sym are
+  both e f (inl (x, is, x_first)) (inr (house, are, stand, first)) = absurd (x_first.1 (stand x x_first.0))
+  both e f (inr (house, is, stand, first)) (inl (y, are, y_first)) = absurd (y_first.1 (stand y y_first.0))
+  both e f (inr (house, is, stand, first)) (inr (other, are, stood, second)) = is ∙ ap fault_of (house_once house other first second) ∙ sym are
 
   no_solution : (f : SoloFault) → IsFirstFault p g (Some f) → IsFirstFault p g None → ⊥
   no_solution f is s = true≢false (sym (test_from_rule p ok g s) ∙ sym (no_test p ok g f s.grid is))
@@ -264,4 +264,4 @@ module _ (p : Solo) (ok : IsSolo p) (g : List ℕ) where
   solo_alone None None a b = refl
   solo_alone None (Some f) a b = absurd (no_solution f b a)
   solo_alone (Some e) None a b = absurd (no_solution e a b)
-  solo_alone (Some e) (Some f) a b = ap Some (both (split e a) (split f b))
+  solo_alone (Some e) (Some f) a b = ap Some (both e f (split e a) (split f b))

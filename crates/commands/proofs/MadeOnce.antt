@@ -76,8 +76,8 @@ module _ {A : Type 0} (make : Making A) (passes : A → Bool) (s : Stream) (trie
       by (None, all) = inr (record { failing = λ j lt. not-true (passes (filling_at make j s)) (all_below-at (λ j. not (passes (filling_at make j s))) tries j all lt) })
 
   pub first_once : {j k : ℕ} → IsFirstPassing make passes s tries j → IsFirstPassing make passes s tries k → j ≡ k
-  first_once a b = least_once (λ n. passes (filling_at make n s) ≡ false) (λ n. passes (filling_at make n s) ≡ true) (λ n off on. true≢false (sym on ∙ off))
-      a.passing b.passing a.failing b.failing
+  first_once {j} {k} a b = least_once (λ n. passes (filling_at make n s) ≡ false) (λ n. passes (filling_at make n s) ≡ true) (λ n off on. true≢false (sym on ∙ off))
+      j k a.passing b.passing a.failing b.failing
 
   pub first_not_none : {k : ℕ} → IsFirstPassing make passes s tries k → NonePasses make passes s tries → ⊥
   first_not_none {k} a none = true≢false (sym a.passing ∙ none.failing k a.within)
