@@ -12,12 +12,19 @@ use Rattle.std.proofs.lemmas.List.{get_or_past}
 use Rattle.gameid_core.specs.declared.light_up.cell.LightCell.{LightCell}
 use Rattle.gameid_core.specs.declared.light_up.cell.LightCell.TheVariants.{White, Black, Numbered}
 use Rattle.gameid_core.specs.declared.id.game.Game.TheVariants as game
-use Rattle.fields_core.specs.Light.{is_white, white}
+use Rattle.fields_core.specs.Light.{is_white, light_cells, white}
+use Rattle.gameid_core.proofs.FirstFailed.{answer_once, one_answer}
 use Rattle.fields_core.proofs.LightRuleLemmas as light
 use Rattle.fields_core.proofs.TentRuleLemmas as tents
-use Rattle.commands.specs.Common.{IsGrid, Extent, IsAsShown, hides_nothing, light_hides, tent_hides, IsPrinted, pattern_cell}
-use Rattle.commands.specs.Common.{solo_cell, solo_extent, light_cell, tents_cell, IsLight, IsPattern, IsSolo, IsTents, Light, Pattern, Solo}
-use Rattle.commands.specs.Common.{Tents, IsCheck, IsFirstFault, IsLightFault, IsLightSolution, IsTentFault, IsTentSolution}
+use Rattle.fields_core.specs.LightFaults.{FailsLight, light_tests}
+use Rattle.fields_core.specs.TentFaults.{FailsTents, tent_tests}
+use Rattle.pattern_core.specs.Faults.{FailsPattern, pattern_tests}
+use Rattle.solo_core.specs.Faults.{FailsSolo, given_tests, house_tests}
+use Rattle.pattern_core.proofs.FaultLemmas.{pattern_known, pattern_none, pattern_sound}
+use Rattle.solo_core.proofs.RepeatLemmas.{solo_known, solo_none, solo_sound}
+use Rattle.commands.specs.Common.{IsGrid, Extent, max_side, IsAsShown, hides_nothing, light_hides, tent_hides, IsPrinted, grid_text, pattern_cell}
+use Rattle.commands.specs.Common.{solo_cell, solo_extent, light_cell, tents_cell, max_numbers, IsLight, IsPattern, IsSolo, IsTents, Light, Pattern, Solo}
+use Rattle.commands.specs.Common.{Tents, solo_n, IsPatternFault, IsSoloFault, IsLightFault, IsLightSolution, IsTentFault, IsTentSolution}
 use Rattle.commands.specs.Answers.{Answer, Text}
 use Rattle.commands.specs.CheckAnswers.{AllowsGrid, SaysFault, checked, IsInputOf, without_returns}
 use Rattle.commands.specs.Games.{game_of}
@@ -29,7 +36,6 @@ use Rattle.commands.specs.TentsFacts.{tent_fault}
 use Rattle.commands.specs.Replies.{refused}
 use Rattle.commands.specs.Texts.{text_limit}
 use Rattle.commands.proofs.PrintedGrids.{light_once, pattern_once, solo_once, tents_once, CellOnce, IsGridText, grid_is_text, light_cell_text, pattern_cell_text, solo_cell_text, tents_cell_text, printed_once, plain_kept}
-use Rattle.commands.proofs.FaultsOnce.{light_alone, light_some, pattern_alone, pattern_some, solo_alone, solo_some, tent_alone, tent_some}
 use Rattle.commands.proofs.Readings.{AreSame}
 
 -- so it is, or not
@@ -168,10 +174,10 @@ pattern_checked p ok = record {
   once = pattern_once p;
   text = λ g shown. grid_is_text (pattern_cell p g) p.size 1 (λ place lt. pattern_cell_text p g place) ok.size.w_high ok.size.h_high (omega arith);
   decides = λ place. inr (λ none. none);
-  some = λ g grid. told_some (IsCheck p g) pattern_fault (pattern_some p g grid);
-  alone = λ g. told_alone (IsCheck p g) pattern_fault (pattern_alone p g);
-  sound = λ g a grid told fine. told_sound (IsCheck p g) pattern_fault told fine;
-  right = λ g s. told_right (IsCheck p g) pattern_fault (s);
+  some = λ g grid. told_some (IsPatternFault p g) pattern_fault (one_answer (FailsPattern p g) (pattern_tests p) (pattern_sound p g grid) (pattern_known p g));
+  alone = λ g. told_alone (IsPatternFault p g) pattern_fault (answer_once (FailsPattern p g) (pattern_tests p) (pattern_none p g));
+  sound = λ g a grid told fine. told_sound (IsPatternFault p g) pattern_fault told fine;
+  right = λ g s. told_right (IsPatternFault p g) pattern_fault s;
   shown = λ g s. shows_all s.grid;
 }
 
@@ -180,10 +186,10 @@ solo_checked p ok = record {
   once = solo_once p ok;
   text = λ g shown. grid_is_text (solo_cell p g) (solo_extent p) 3 (λ place lt. solo_cell_text p ok g shown lt) ok.n_high ok.n_high (omega arith);
   decides = λ place. inr (λ none. none);
-  some = λ g grid. told_some (IsFirstFault p g) (solo_fault p) (solo_some p ok g grid);
-  alone = λ g. told_alone (IsFirstFault p g) (solo_fault p) (solo_alone p ok g);
-  sound = λ g a grid told fine. told_sound (IsFirstFault p g) (solo_fault p) told fine;
-  right = λ g s. told_right (IsFirstFault p g) (solo_fault p) (s);
+  some = λ g grid. told_some (IsSoloFault p g) (solo_fault p) (one_answer (FailsSolo p g) (given_tests p ++ house_tests p) (solo_sound p ok g grid) (solo_known p ok g));
+  alone = λ g. told_alone (IsSoloFault p g) (solo_fault p) (answer_once (FailsSolo p g) (given_tests p ++ house_tests p) (solo_none p ok g));
+  sound = λ g a grid told fine. told_sound (IsSoloFault p g) (solo_fault p) told fine;
+  right = λ g s. told_right (IsSoloFault p g) (solo_fault p) s;
   shown = λ g s. shows_all s.grid;
 }
 
@@ -209,10 +215,10 @@ light_checked p ok = record {
   once = light_once p;
   text = λ g shown. grid_is_text (light_cell p g) p.size 1 (λ place lt. light_cell_text p ok g place) ok.size.extent.w_high ok.size.extent.h_high (omega arith);
   decides = λ place. light_decides (slice_get p.cells place);
-  some = λ g grid. told_some (IsLightFault p g) (light_fault p) (light_some p g);
-  alone = λ g. told_alone (IsLightFault p g) (light_fault p) (light_alone p g);
-  sound = λ g a grid told fine. (light.none-exactly p g None grid (told_sound (IsLightFault p g) (light_fault p) told fine)).0 refl;
-  right = λ g s. told_right (IsLightFault p g) (light_fault p) (light.test-from-rule p g s.grid s);
+  some = λ g grid. told_some (IsLightFault p g) (light_fault p) (one_answer (FailsLight p g) (light_tests p) (light.light-sound p g grid) (light.light-known p g grid));
+  alone = λ g. told_alone (IsLightFault p g) (light_fault p) (answer_once (FailsLight p g) (light_tests p) (λ s. light.light-none p g s.grid s));
+  sound = λ g a grid told fine. told_sound (IsLightFault p g) (light_fault p) told fine;
+  right = λ g s. told_right (IsLightFault p g) (light_fault p) s;
   shown = λ g s. record { grid = s.grid; hidden = light_hidden p g s };
 }
 
@@ -225,10 +231,10 @@ tents_checked p ok = record {
   once = tents_once p;
   text = λ g shown. grid_is_text (tents_cell p g) p.size 1 (λ place lt. tents_cell_text p g place) ok.size.extent.w_high ok.size.extent.h_high (omega arith);
   decides = λ place. cases_eq (slice_index p.trees place) 1;
-  some = λ g grid. told_some (IsTentFault p g) (tent_fault p) (tent_some p g);
-  alone = λ g. told_alone (IsTentFault p g) (tent_fault p) (tent_alone p g);
-  sound = λ g a grid told fine. (tents.none-exactly p g None grid (told_sound (IsTentFault p g) (tent_fault p) told fine)).0 refl;
-  right = λ g s. told_right (IsTentFault p g) (tent_fault p) (tents.tents-from-solution p g s.grid s);
+  some = λ g grid. told_some (IsTentFault p g) (tent_fault p) (one_answer (FailsTents p g) (tent_tests p) (tents.tents-sound p g grid) (tents.tents-known p g grid));
+  alone = λ g. told_alone (IsTentFault p g) (tent_fault p) (answer_once (FailsTents p g) (tent_tests p) (λ s. tents.tents-none p g s.grid s));
+  sound = λ g a grid told fine. told_sound (IsTentFault p g) (tent_fault p) told fine;
+  right = λ g s. told_right (IsTentFault p g) (tent_fault p) s;
   shown = λ g s. record { grid = s.grid; hidden = tent_hidden p g s };
 }
 

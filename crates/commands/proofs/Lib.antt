@@ -4,7 +4,6 @@ pub mod PieceLemmas
 pub mod RunLemmas
 pub mod GradedAlike
 pub mod PrintedGrids
-mod FaultsOnce
 pub mod Readings
 pub mod CheckedPuzzles
 pub mod SearchedPuzzles

@@ -1,12 +1,11 @@
 -- How many answers a making without thinning allows: one, since the first filling that passes is one alone.
-use Rattle.std.proofs.Common.{ℕ, ◌/◌, ◌%◌, ◌^◌, ◌<◌, List, arith, ◌≡◌, ◌∙◌, ◌*◌, ◌≤◌, ◌⊎◌, ◌&&◌, Bool, true, false, not, [], Option, Some, None, Result, Ok, Err, refl, sym, ap, ap₂, subst, inl, inr, true≢false}
+use Rattle.std.proofs.Common.{ℕ, ◌/◌, ◌%◌, ◌^◌, ◌<◌, List, arith, ◌≡◌, ◌∙◌, ◌*◌, ◌≤◌, ◌⊎◌, ◌&&◌, Bool, true, false, not, [], Option, Some, None, Result, Ok, Err, refl, sym, ap, ap₂, subst, inl, inr, true≢false, suc, zero, ◌+◌}
 use Rattle.std.proofs.lemmas.Nat.{mod_below}
 use Rattle.std.specs.Prelude.{nat_le, if◌then◌else◌}
-use Rattle.std.proofs.lemmas.Bool.{and_parts, leb-true, not-false, not-true}
+use Rattle.std.proofs.lemmas.Bool.{and_parts, cases_eq, cases_lt, leb-true}
 use Rattle.rand_core.specs.Steps.{state_after, steps_u32, stream_of}
 use Rattle.rand_chacha.specs.Block.{block_word}
 use Rattle.rand_chacha.specs.ChaCha.{ChaCha, next_word, of_seed}
-use Rattle.grid_core.proofs.CandidateLemmas.{all_below-at}
 use Rattle.gameid_core.specs.BlackRuns.{runs}
 use Rattle.gameid_core.specs.Lines.{lines_ones, lines_runs}
 use Rattle.gameid_core.specs.declared.id.fault.IdFault.TheVariants.{SizeRange}
@@ -21,7 +20,6 @@ use Rattle.gameid_core.proofs.RunsFit.{runs_lawful}
 use Rattle.gameid_core.proofs.TentsWritten.{tents_is_written}
 use Rattle.engine_core.specs.Verdict.{Outcome.OneSolution}
 use Rattle.engine_core.proofs.VerdictLemmas.{outcome-true}
-use Rattle.fields_core.specs.FirstWrong.{IsFirstWrongOrNone}
 use Rattle.fields_core.proofs.TentRuleLemmas as tents
 use Rattle.maker_core.specs.Draws.{HasWords, IsFirstPassing, Making, NonePasses, filling_at, stream_after}
 use Rattle.maker_core.specs.Made.{HasOne, IsOnlySolution, TellsOne, is_one}
@@ -43,7 +41,6 @@ use Rattle.commands.specs.Allowed.{AllowsMade, AllowsOfSize, IsHandedOut, handed
 use Rattle.commands.specs.PatternFacts.{pattern_facts}
 use Rattle.commands.specs.Makings.{Wanted, exhausted_answer}
 use Rattle.commands.specs.LawsOfCommands.{HasOneAnswer}
-use Rattle.commands.proofs.FaultsOnce.{first_of, least_once}
 use Rattle.commands.proofs.Readings.{id_once}
 use Rattle.commands.proofs.SearchedPuzzles.{tents_searched}
 
@@ -60,24 +57,31 @@ seed_words seed = record { below = λ calls. step_below 4 (state_after (steps_u3
 
 -- ---- the first filling that passes
 module _ {A : Type 0} (make : Making A) (passes : A → Bool) (s : Stream) (tries : ℕ) where
-  pub first_or_none : ((k : ℕ) × IsFirstPassing make passes s tries k) ⊎ NonePasses make passes s tries
-  first_or_none = by (first_of (λ j. not (passes (filling_at make j s))) tries)
+  -- among the fillings below one
+  first_below : (n : ℕ) → ((k : ℕ) × IsFirstPassing make passes s n k) ⊎ NonePasses make passes s n
+  first_below zero = inr (record { failing = λ j lt. absurd (omega arith) })
+  first_below (suc n) = by (first_below n) (passes (filling_at make n s)) refl
     where
-      by : (o : Option ℕ) × IsFirstWrongOrNone (λ j. not (passes (filling_at make j s))) tries o
-          → ((k : ℕ) × IsFirstPassing make passes s tries k) ⊎ NonePasses make passes s tries
-      by (Some k, first) = inl (
-        k,
-        record {
-          within = first.below;
-          passing = not-false (passes (filling_at make k s)) first.wrong;
-          failing = λ j lt. not-true (passes (filling_at make j s)) (first.before j lt);
-        },
-      )
-      by (None, all) = inr (record { failing = λ j lt. not-true (passes (filling_at make j s)) (all_below-at (λ j. not (passes (filling_at make j s))) tries j all lt) })
+      by : ((k : ℕ) × IsFirstPassing make passes s n k) ⊎ NonePasses make passes s n → (b : Bool) → passes (filling_at make n s) ≡ b
+          → ((k : ℕ) × IsFirstPassing make passes s (suc n) k) ⊎ NonePasses make passes s (suc n)
+      by (inl (k, first)) b is = inl (k, record { within = let low = first.within in omega arith; passing = first.passing; failing = first.failing })
+      by (inr none) true is = inl (n, record { within = omega arith; passing = is; failing = none.failing })
+      by (inr none) false is = inr (record { failing = λ j lt. elim (cases_eq j n) [
+        | inl e ↦ subst (λ i. passes (filling_at make i s) ≡ false) (sym e) is
+        | inr ne ↦ none.failing j (omega arith)
+      ] })
+
+  pub first_or_none : ((k : ℕ) × IsFirstPassing make passes s tries k) ⊎ NonePasses make passes s tries
+  first_or_none = first_below tries
 
   pub first_once : {j k : ℕ} → IsFirstPassing make passes s tries j → IsFirstPassing make passes s tries k → j ≡ k
-  first_once {j} {k} a b = least_once (λ n. passes (filling_at make n s) ≡ false) (λ n. passes (filling_at make n s) ≡ true) (λ n off on. true≢false (sym on ∙ off))
-      j k a.passing b.passing a.failing b.failing
+  first_once {j} {k} a b = elim (cases_lt j k) [
+    | inl low ↦ absurd (true≢false (sym a.passing ∙ b.failing j low))
+    | inr high ↦ elim (cases_lt k j) [
+      | inl low ↦ absurd (true≢false (sym b.passing ∙ a.failing k low))
+      | inr other ↦ omega arith
+    ]
+  ]
 
   pub first_not_none : {k : ℕ} → IsFirstPassing make passes s tries k → NonePasses make passes s tries → ⊥
   first_not_none {k} a none = true≢false (sym a.passing ∙ none.failing k a.within)

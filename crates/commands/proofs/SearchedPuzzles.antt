@@ -7,11 +7,9 @@ use Rattle.engine_core.specs.Walk.{Mark.Found, Mark.Trial}
 use Rattle.engine_core.proofs.VerdictLemmas.{outcome-true}
 use Rattle.solo_core.specs.RuleLaws.{crossings_lawful, houses_lawful, singles_lawful}
 use Rattle.engine_core.specs.HouseRules.{House}
-use Rattle.fields_core.specs.LightLaws.{light-lawful}
-use Rattle.fields_core.specs.TentLaws.{tent-lawful}
-use Rattle.fields_core.proofs.LightCounting.{light-counting}
+use Rattle.fields_core.proofs.LightCounting.{light-lawful}
 use Rattle.fields_core.proofs.LightRuleLemmas as light
-use Rattle.fields_core.proofs.TentCounting.{tent-counting}
+use Rattle.fields_core.proofs.TentCounting.{tent-lawful}
 use Rattle.fields_core.proofs.TentRuleLemmas as tents
 use Rattle.commands.specs.Common.{IsRight, IsLight, IsPattern, IsSolo, IsTents, Light, Pattern, Solo, Tents, RuleSystem, IsLawful, Outcome}
 use Rattle.commands.specs.Common.{verdict_of, IsTrueOf, Solves, Mark, walk, is_solution-from, is_solution-is, line_rules-lawful, line_rules}
@@ -73,10 +71,10 @@ pub crossings_searched : (p : Solo) → IsSolo p → SearchedPuzzle (crossings_r
 crossings_searched p ok = record { lawful = crossings_lawful p ok; accepted = solo_accepted ok _ _ }
 
 pub light_searched : {p : Light} → IsLight p → SearchedPuzzle (light_rules p) (IsLightSolution p)
-light_searched {p} ok = record { lawful = light-lawful (record { light = p; counting = light-counting p ok }); accepted = light_accepted p }
+light_searched {p} ok = record { lawful = light-lawful p ok; accepted = light_accepted p }
 
 pub tents_searched : {p : Tents} → IsTents p → SearchedPuzzle (tent_rules p) (IsTentSolution p)
-tents_searched {p} ok = record { lawful = tent-lawful (record { tents = p; counting = tent-counting p ok }); accepted = tents_accepted p }
+tents_searched {p} ok = record { lawful = tent-lawful p ok; accepted = tents_accepted p }
 
 -- a search with a trial for each of the walk doesn't give up
 never_out : (marks : List Mark) (budget : ℕ) (found sofar : Option (List ℕ)) → trials_in marks ≤ budget → outcome budget sofar marks ≡ GaveUp found → ⊥

@@ -6,7 +6,7 @@ use Rattle.maker_core.specs.PatternMaking.{IsPatternMade, pattern_filling, patte
 use Rattle.pattern_core.specs.declared.fault.PatternFault.{PatternFault}
 use Rattle.pattern_core.specs.declared.fault.PatternFault.TheVariants as pattern
 use Rattle.maker_core.specs.Draws.{NonePasses}
-use Rattle.commands.specs.Common.{IsCheck, IsPatternSolution, Pattern, extent_of, hides_nothing, line_rules, pattern_cell, size_of}
+use Rattle.commands.specs.Common.{IsPatternFault, IsPatternSolution, Pattern, extent_of, hides_nothing, line_rules, pattern_cell, size_of}
 use Rattle.commands.specs.Answers.{Text}
 use Rattle.commands.specs.CheckAnswers.{SaysFault}
 use Rattle.commands.specs.Grades.{only_set}
@@ -34,7 +34,7 @@ pattern_facts = record {
     written = pattern_text;
     solves = IsPatternSolution;
     rules = line_rules;
-    checks = λ p g. SaysFault (IsCheck p g) pattern_fault;
+    checks = λ p g. SaysFault (IsPatternFault p g) pattern_fault;
     sets = λ p. only_set Lines (line_rules p);
     visit_name = pattern_name;
     sizes = size_of game.Pattern;

@@ -8,7 +8,7 @@ use Rattle.solo_core.specs.declared.houses.house.NamedHouse.{NamedHouse}
 use Rattle.solo_core.specs.declared.houses.house.NamedHouse.TheVariants.{Row, Column, Block, Diagonal}
 use Rattle.solo_core.specs.declared.houses.scope.VisitName.{VisitName}
 use Rattle.solo_core.specs.declared.houses.scope.VisitName.TheVariants.{House, Crossing}
-use Rattle.commands.specs.Common.{IsFirstFault, IsSoloMade, IsSoloSolution, Solo, crossings_rules, hides_nothing, houses_rules}
+use Rattle.commands.specs.Common.{IsSoloFault, IsSoloMade, IsSoloSolution, Solo, crossings_rules, hides_nothing, houses_rules}
 use Rattle.commands.specs.Common.{scopes_of, singles_rules, size_of, solo_cell, solo_extent, solo_n}
 use Rattle.commands.specs.Answers.{Text}
 use Rattle.commands.specs.CheckAnswers.{SaysFault, place_text}
@@ -61,7 +61,7 @@ solo_facts = record {
     written = solo_text;
     solves = IsSoloSolution;
     rules = houses_rules;
-    checks = λ p g. SaysFault (IsFirstFault p g) (solo_fault p);
+    checks = λ p g. SaysFault (IsSoloFault p g) (solo_fault p);
     sets = solo_sets;
     visit_name = solo_name;
     sizes = size_of game.Solo;

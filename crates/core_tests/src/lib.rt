@@ -16,4 +16,6 @@ mod makers;
 #[cfg(test)]
 mod pattern;
 #[cfg(test)]
+mod planes;
+#[cfg(test)]
 mod solo;

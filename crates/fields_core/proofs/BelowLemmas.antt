@@ -68,8 +68,8 @@ pub range-distinct : (n : ℕ) → AreDistinct (range_with_len 0 n)
 range-distinct n = grind (arith, common_steps, distinct-from, length-range_with_len, get_or-range_with_len)
 
 -- ---- different numbers below m are m at most
-pub few-below : (f : ℕ → ℕ) (n m : ℕ) → ((l : ℕ) → l < n → f l < m) → ((l k : ℕ) → l < n → k < n → f l ≡ f k → l ≡ k) → n ≤ m
-few-below f n m below own = apart-le (map f (range_with_len 0 n)) n m (omega (arith, length-map-range_with_len f 0 n))
+pub few-below : (f : ℕ → ℕ) {n m : ℕ} → ((l : ℕ) → l < n → f l < m) → ((l k : ℕ) → l < n → k < n → f l ≡ f k → l ≡ k) → n ≤ m
+few-below f {n} {m} below own = apart-le (map f (range_with_len 0 n)) n m (omega (arith, length-map-range_with_len f 0 n))
     (record { differ = λ i j less lt e. let same = own i j (omega arith) lt (sym (at i (omega arith)) ∙ e ∙ at j lt) in omega arith })
     (λ l lt. rw (at l lt) (below l lt))
   where
@@ -81,10 +81,10 @@ abbrev with_next : (ℕ → ℕ) → ℕ → ℕ → ℕ → ℕ
 with_next f n c l = cond (ltb l n) (f l) c
 
 -- n different numbers below n are all of them: another would be one more
-pub each-named : (f : ℕ → ℕ) (n c : ℕ) → ((l : ℕ) → l < n → f l < n) → ((l m : ℕ) → l < n → m < n → f l ≡ f m → l ≡ m) → c < n → (l : ℕ) × (l < n) × (f l ≡ c)
-each-named f n c below own lt = elim (cases_Bool (any_below (λ l. eqb (f l) c) n)) [
+pub each-named : (f : ℕ → ℕ) {n : ℕ} (c : ℕ) → ((l : ℕ) → l < n → f l < n) → ((l m : ℕ) → l < n → m < n → f l ≡ f m → l ≡ m) → c < n → (l : ℕ) × (l < n) × (f l ≡ c)
+each-named f {n} c below own lt = elim (cases_Bool (any_below (λ l. eqb (f l) c) n)) [
   | inl on ↦ let w = any_below-some (λ l. eqb (f l) c) n on in (w.0, w.1, eqb-true (f w.0) c w.2)
-  | inr off ↦ absurd (let few = few-below (with_next f n c) (n + 1) n inside
+  | inr off ↦ absurd (let few = few-below (with_next f n c) inside
       (apart (λ l low e. true≢false (sym (eq-eqb (f l) c e) ∙ any_below-none (λ l. eqb (f l) c) n off l low))) in omega arith)
 ]
   where

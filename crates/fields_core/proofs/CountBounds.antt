@@ -24,15 +24,15 @@ may_of K places = count_by (λ c. K c 1) places
 abbrev pub IsFull : Candidates → List ℕ → Type 0
 IsFull K places = (k : ℕ) → k < length places → (K (slice_index places k) 0 ≡ true) ⊎ (K (slice_index places k) 1 ≡ true)
 
-yes : (b : Bool) → b ≡ true → num b ≡ 1
-yes b e = rw e refl
+yes : {b : Bool} → b ≡ true → num b ≡ 1
+yes e = rw e refl
 
-no : (b : Bool) → b ≡ true → num (not b) ≡ 0
-no b e = rw e refl
+no : {b : Bool} → b ≡ true → num (not b) ≡ 0
+no e = rw e refl
 
 -- a filling has one of the values of each cell
-pub filled-at : (K : Candidates) (places f : List ℕ) → Fills (sets_at 2 places K) f → (k : ℕ) → k < length places → (get_or f k 0 < 2) × (K (slice_index places k) (get_or f k 0) ≡ true)
-filled-at K places f p k lt = grind (arith, common_steps, length-sets_at, sets_at-small, get_or, sets_at-value)
+pub filled-at : (K : Candidates) (places : List ℕ) {f : List ℕ} → Fills (sets_at 2 places K) f → {k : ℕ} → k < length places → (get_or f k 0 < 2) × (K (slice_index places k) (get_or f k 0) ≡ true)
+filled-at K places p lt = grind (arith, common_steps, length-sets_at, sets_at-small, get_or, sets_at-value)
 
 filled-from : (K : Candidates) (places f : List ℕ) → length f ≡ length places → ((k : ℕ) → k < length places → (get_or f k 0 < 2) × (K (slice_index places k) (get_or f k 0) ≡ true)) → Fills (sets_at 2 places K) f
 filled-from K places f long each = grind (arith, common_steps, length-sets_at, sets_at-value, get_or)
@@ -44,13 +44,13 @@ ones-bounds K [] [] p = (omega arith, omega arith)
 ones-bounds K [] (v ∷ f) p = absurd (omega (arith, p.len))
 ones-bounds K (x ∷ xs) [] p = absurd (omega (arith, p.len))
 ones-bounds K (x ∷ xs) (v ∷ f) p =
-    by v (filled-at K (x ∷ xs) (v ∷ f) p 0 (omega arith)) (ones-bounds K xs f (Fills-tail _ (sets_at 2 xs K) v f p)) (count-cons (λ c. not (K c 0)) x xs) (count-cons (λ c. K c 1) x xs)
+    by v (filled-at K (x ∷ xs) p {k = 0} (omega arith)) (ones-bounds K xs f (Fills-tail _ (sets_at 2 xs K) v f p)) (count-cons (λ c. not (K c 0)) x xs) (count-cons (λ c. K c 1) x xs)
   where
     by : (u : ℕ) → (u < 2) × (K x u ≡ true) → (must_of K xs ≤ nonzeros f) × (nonzeros f ≤ may_of K xs)
         → must_of K (x ∷ xs) ≡ num (not (K x 0)) + must_of K xs → may_of K (x ∷ xs) ≡ num (K x 1) + may_of K xs
         → (must_of K (x ∷ xs) ≤ nonzeros (u ∷ f)) × (nonzeros (u ∷ f) ≤ may_of K (x ∷ xs))
-    by zero on r a b = let z = no (K x 0) on.1 in (omega (arith, r.0), omega (arith, r.1))
-    by (suc zero) on r a b = let o = yes (K x 1) on.1 in let m = num-most (not (K x 0)) in (omega (arith, r.0), omega (arith, r.1))
+    by zero on r a b = let z = no on.1 in (omega (arith, r.0), omega (arith, r.1))
+    by (suc zero) on r a b = let o = yes on.1 in let m = num-most (not (K x 0)) in (omega (arith, r.0), omega (arith, r.1))
     by (suc (suc u)) on r a b = absurd (omega (arith, on.0))
 
 must-under : (K : Candidates) (places : List ℕ) → IsFull K places → must_of K places ≤ may_of K places
@@ -60,8 +60,8 @@ must-under K (x ∷ xs) full =
   where
     by : (K x 0 ≡ true) ⊎ (K x 1 ≡ true) → must_of K xs ≤ may_of K xs → must_of K (x ∷ xs) ≡ num (not (K x 0)) + must_of K xs → may_of K (x ∷ xs) ≡ num (K x 1) + may_of K xs
         → must_of K (x ∷ xs) ≤ may_of K (x ∷ xs)
-    by (inl z) r a b = let e = no (K x 0) z in omega arith
-    by (inr o) r a b = let e = yes (K x 1) o in let m = num-most (not (K x 0)) in omega arith
+    by (inl z) r a b = let e = no z in omega arith
+    by (inr o) r a b = let e = yes o in let m = num-most (not (K x 0)) in omega arith
 
 -- each number between the bounds is that of a filling
 abbrev Reached : Candidates → List ℕ → ℕ → Type 0
@@ -72,7 +72,7 @@ unfolding sets_at
 reached-more K x xs n full low high rest = elim (cases_Bool (K x 0)) [
   | inl z ↦ elim (cases_lt (may_of K xs) n) [
     | inr within ↦
-        let w = rest n (let a = must_cons in let e = no (K x 0) z in omega arith) within in
+        let w = rest n (let a = must_cons in let e = no z in omega arith) within in
         (0 ∷ w.0, Fills-cons _ (sets_at 2 xs K) 0 w.0 (sets_at-value 2 (x ∷ xs) K 0 0 (omega arith) (omega arith) ∙ z) w.1, w.2)
     | inl over ↦ elim (cases_Bool (K x 1)) [
       | inl o ↦ one o (let u = must-under K xs (λ k lt. full (suc k) (omega arith)) in omega arith)
@@ -93,7 +93,7 @@ reached-more K x xs n full low high rest = elim (cases_Bool (K x 0)) [
 
     one : K x 1 ≡ true → must_of K xs + 1 ≤ n → Reached K (x ∷ xs) n
     one o some =
-        let w = rest (n - 1) (omega arith) (let b = may_cons in let e = yes (K x 1) o in omega arith) in
+        let w = rest (n - 1) (omega arith) (let b = may_cons in let e = yes o in omega arith) in
         (1 ∷ w.0, Fills-cons _ (sets_at 2 xs K) 1 w.0 (sets_at-value 2 (x ∷ xs) K 0 1 (omega arith) (omega arith) ∙ o) w.1, omega (arith, w.2))
 
 ones-reached : (K : Candidates) (places : List ℕ) (n : ℕ) → IsFull K places → must_of K places ≤ n → n ≤ may_of K places → Reached K places n
@@ -109,8 +109,8 @@ module _ (K : Candidates) (places : List ℕ) (k v : ℕ) (different : AreDiffer
   abbrev fixed : Candidates
   fixed c u = K c u && (not (eqb c cell) || eqb u v)
 
-  others : (c u : ℕ) → (c ≡ cell → ⊥) → fixed c u ≡ K c u
-  others c u ne = rw (ne_eqb c cell ne) (and-true (K c u))
+  others : {c : ℕ} (u : ℕ) → (c ≡ cell → ⊥) → fixed c u ≡ K c u
+  others {c} u ne = rw (ne_eqb c cell ne) (and-true (K c u))
 
   own : fixed cell v ≡ true
   own = rw (on, eq-eqb cell cell refl, eq-eqb v v refl) refl
@@ -118,12 +118,12 @@ module _ (K : Candidates) (places : List ℕ) (k v : ℕ) (different : AreDiffer
   own-is : (u : ℕ) → u ≡ v → fixed cell u ≡ true
   own-is u e = ap (fixed cell) e ∙ own
 
-  own-alone : (u : ℕ) → (u ≡ v → ⊥) → fixed cell u ≡ false
-  own-alone u ne = grind (arith, common_steps, eq-eqb, ne_eqb)
+  own-alone : {u : ℕ} → (u ≡ v → ⊥) → fixed cell u ≡ false
+  own-alone ne = grind (arith, common_steps, eq-eqb, ne_eqb)
 
   must-fixed : must_of fixed places + num (not (K cell 0)) ≡ must_of K places + v
   must-fixed =
-      count-at (λ c. not (K c 0)) (λ c. not (fixed c 0)) cell (λ c ne. ap not (others c 0 ne)) places (distinct-from places different) (has_place-here places k lt)
+      count-at (λ c. not (K c 0)) (λ c. not (fixed c 0)) cell (λ c ne. ap not (others 0 ne)) places (distinct-from places different) (has_place-here places k lt)
       ∙ ap (λ n. must_of K places + n) (by v low refl)
     where
       by : (u : ℕ) → u < 2 → u ≡ v → num (not (fixed cell 0)) ≡ u
@@ -131,7 +131,7 @@ module _ (K : Candidates) (places : List ℕ) (k v : ℕ) (different : AreDiffer
 
   may-fixed : may_of fixed places + num (K cell 1) ≡ may_of K places + v
   may-fixed =
-      count-at (λ c. K c 1) (λ c. fixed c 1) cell (λ c ne. others c 1 ne) places (distinct-from places different) (has_place-here places k lt)
+      count-at (λ c. K c 1) (λ c. fixed c 1) cell (λ c ne. others 1 ne) places (distinct-from places different) (has_place-here places k lt)
       ∙ ap (λ n. may_of K places + n) (by v low refl)
     where
       by : (u : ℕ) → u < 2 → u ≡ v → num (fixed cell 1) ≡ u
@@ -143,19 +143,19 @@ module _ (K : Candidates) (places : List ℕ) (k v : ℕ) (different : AreDiffer
   -- a filling with the value at the cell fills the fixed board, and the other way round
   fixed-filled : (f : List ℕ) → Fills (sets_at 2 places K) f → get_or f k 0 ≡ v → Fills (sets_at 2 places fixed) f
   fixed-filled f p at = filled-from fixed places f (p.len ∙ length-sets_at 2 places K) (λ j lj. (
-    (filled-at K places f p j lj).0,
+    (filled-at K places p lj).0,
     elim (cases_eq (slice_index places j) cell) [
       | inl here ↦ rw (different j k lj lt here, at) own
-      | inr there ↦ others (slice_index places j) (get_or f j 0) there ∙ (filled-at K places f p j lj).1
+      | inr there ↦ others (get_or f j 0) there ∙ (filled-at K places p lj).1
     ],
   ))
 
   filled-fixed : (f : List ℕ) → Fills (sets_at 2 places fixed) f → Fills (sets_at 2 places K) f × (get_or f k 0 ≡ v)
   filled-fixed f p = (
-    filled-from K places f (p.len ∙ length-sets_at 2 places fixed) (λ j lj. let w = filled-at fixed places f p j lj in (w.0, (and_parts (K (slice_index places j) (get_or f j 0)) _ w.1).0)),
+    filled-from K places f (p.len ∙ length-sets_at 2 places fixed) (λ j lj. let w = filled-at fixed places p lj in (w.0, (and_parts (K (slice_index places j) (get_or f j 0)) _ w.1).0)),
     elim (cases_eq (get_or f k 0) v) [
       | inl is ↦ is
-      | inr ne ↦ absurd (true≢false (sym (filled-at fixed places f p k lt).1 ∙ own-alone (get_or f k 0) ne))
+      | inr ne ↦ absurd (true≢false (sym (filled-at fixed places p lt).1 ∙ own-alone ne))
     ],
   )
 
@@ -163,9 +163,9 @@ module _ (K : Candidates) (places : List ℕ) (k v : ℕ) (different : AreDiffer
       → (least ≤ most) × (least + num (K cell 1) ≤ may_of K places + v) × (must_of K places + v ≤ most + num (not (K cell 0)))
   shown-bounds least most (f, s) = grind (arith, common_steps, ones-bounds, fixed-filled, and_parts, leb-true, must-fixed, may-fixed)
 
-  pub bounds-shown : (least most : ℕ) → IsFull K places → least ≤ most → least + num (K cell 1) ≤ may_of K places + v → must_of K places + v ≤ most + num (not (K cell 0))
+  pub bounds-shown : {least most : ℕ} → IsFull K places → least ≤ most → least + num (K cell 1) ≤ may_of K places + v → must_of K places + v ≤ most + num (not (K cell 0))
       → IsShown (counts_between least most) (sets_at 2 places K) k v
-  bounds-shown least most full order few many =
+  bounds-shown {least} {most} full order few many =
       let m = must-fixed in
       let n = may-fixed in
       let w = ones-reached fixed places (max least (must_of fixed places)) (full-fixed full) (omega arith) (let u = must-under fixed places (full-fixed full) in omega arith) in
@@ -178,7 +178,7 @@ module _ (K : Candidates) (places : List ℕ) (k v : ℕ) (different : AreDiffer
       let w = and_parts (K cell 0) (K cell 1) both in
       let m = must-fixed in
       let n = may-fixed in
-      let z = no (K cell 0) w.0 in
-      let o = yes (K cell 1) w.1 in
+      let z = no w.0 in
+      let o = yes w.1 in
       let u = must-under fixed places (full-fixed full) in
       omega arith

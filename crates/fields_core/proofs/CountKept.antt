@@ -23,8 +23,8 @@ use Rattle.fields_core.proofs.CountBounds.{IsFull, filled-at, shown-bounds, boun
 use Rattle.std.proofs.lemmas.Grind.{common_steps}
 
 -- ---- a cell that is empty
-not-empty : (K : Candidates) (c v : ℕ) → v < 2 → K c v ≡ true → is_empty K c ≡ true → ⊥
-not-empty K c v low on none = grind (arith, common_steps, cases_eq v 0, and_parts)
+not-empty : (K : Candidates) (c : ℕ) {v : ℕ} → v < 2 → K c v ≡ true → is_empty K c ≡ true → ⊥
+not-empty K c {v} low on none = grind (arith, common_steps, cases_eq v 0, and_parts)
 
 by-value : (K : Candidates) (c v : ℕ) → v < 2 → K c v ≡ true → cond (eqb v 0) (K c 0) (K c 1) ≡ true
 by-value K c v low on = grind (arith, common_steps, cases_eq v 0, ne_eqb)
@@ -33,13 +33,13 @@ within-values : (v : ℕ) (zero_on one_on : Bool) → v < 2 → cond (eqb v 0) z
 within-values v zero_on one_on low on = grind (arith, common_steps, cases_eq v 0, ne_eqb, cases_Bool zero_on, cases_Bool one_on)
 
 -- there is room for a value that a cell has, unless it has both and the value's bound is reached
-room : (least most must may v : ℕ) (zero_on one_on : Bool) → v < 2 → cond (eqb v 0) zero_on one_on ≡ true → least ≤ may → must ≤ most
+room : {least most must may : ℕ} (v : ℕ) (zero_on one_on : Bool) → v < 2 → cond (eqb v 0) zero_on one_on ≡ true → least ≤ may → must ≤ most
     → ((zero_on && one_on) && (((eqb v 1) && (eqb must most)) || ((eqb v 0) && (eqb may least)))) ≡ false
     → (least + num one_on ≤ may + v) × (must + v ≤ most + num (not zero_on))
-room least most must may v zero_on one_on low on few many off = grind (arith, common_steps, cases_Bool zero_on, cases_Bool one_on, cases_eq v 0, eq-eqb, ne_eqb)
+room v zero_on one_on low on few many off = grind (arith, common_steps, cases_Bool zero_on, cases_Bool one_on, cases_eq v 0, eq-eqb, ne_eqb)
 
-neither : (k a b : Bool) → (k && not ((a && false) || (b && false))) ≡ k
-neither k a b = grind (arith, common_steps)
+neither : {k : Bool} (a b : Bool) → (k && not ((a && false) || (b && false))) ≡ k
+neither a b = grind (arith, common_steps)
 
 -- nothing is struck outside a house
 off-scope : (house : CountHouse) (K : Candidates) (c v : ℕ) → has_place house.places c ≡ false → strikes_of house K c v ≡ false
@@ -68,8 +68,8 @@ module _ (cells : ℕ) (house : CountHouse) (K : Candidates) (t : Tally) (is : I
         | inl some ↦
             let d = any-some (is_empty K) house.places (sym (some-counted (is_empty K) house.places) ∙ ap (ltb 0) (sym tally.empty_is) ∙ some) in
             let j = has_place-at house.places d.0 d.1 in
-            let w = filled-at K house.places f s.fills j.0 j.1 in
-            not-empty K (at j.0) (get_or f j.0 0) w.0 w.1 (rw j.2 d.2)
+            let w = filled-at K house.places s.fills j.1 in
+            not-empty K (at j.0) w.0 w.1 (rw j.2 d.2)
         | inr rest ↦ elim (or_cases (ltb house.most house.least) _ rest) [
           | inl none ↦ let e = ltb-true house.most house.least none in absurd (omega arith)
           | inr more ↦ elim (or_cases (ltb t.may house.least) (ltb house.most t.must) more) [
@@ -115,8 +115,8 @@ module _ (cells : ℕ) (house : CountHouse) (K : Candidates) (t : Tally) (is : I
           let order = or_parts (ltb house.most house.least) _ a.1 in
           let ends = or_parts (ltb t.may house.least) _ order.1 in
           let none : t.empty ≡ 0 = let e = ltb-false 0 t.empty a.0 in omega arith in
-          let w = room house.least house.most t.must t.may v (K (at k) 0) (K (at k) 1) low (by-value K (at k) v low on) (ltb-false t.may house.least ends.0) (ltb-false house.most t.must ends.1) free in
-          ap not (test_from_shown _ _ k v (bounds-shown K house.places k v is.different lt low on house.least house.most (full none) (ltb-false house.most house.least order.0)
+          let w = room v (K (at k) 0) (K (at k) 1) low (by-value K (at k) v low on) (ltb-false t.may house.least ends.0) (ltb-false house.most t.must ends.1) free in
+          ap not (test_from_shown _ _ k v (bounds-shown K house.places k v is.different lt low on (full none) (ltb-false house.most house.least order.0)
           (let n = tally.may_is in omega (arith, w.0)) (let m = tally.must_is in omega (arith, w.1))) ∙ sym free)
 
   -- ---- the board after a visit
@@ -152,7 +152,7 @@ module _ (cells : ℕ) (house : CountHouse) (K : Candidates) (t : Tally) (is : I
                 let n = tally.may_is in
                 let apart : t.must < t.may = let r = open-room K house.places k 0 is.different lt (omega arith) w.0 (full (let e = ltb-false 0 t.empty full_parts.0 in omega arith)) both in omega arith in
                 let one : num (not (eqb t.must t.may)) ≡ 1 = rw (ne_eqb t.must t.may (λ e. absurd (omega arith))) refl in
-                rw (both, ne_eqb t.must house.most (λ e. absurd (omega arith)), ne_eqb t.may house.least (λ e. absurd (omega arith))) (neither (K (at k) v) (eqb v 1) (eqb v 0))
+                rw (both, ne_eqb t.must house.most (λ e. absurd (omega arith)), ne_eqb t.may house.least (λ e. absurd (omega arith))) (neither (eqb v 1) (eqb v 0))
           ])
 
 -- ---- the bits of a cell
@@ -180,35 +180,3 @@ pub kept-strikes : (cells : ℕ) (house : CountHouse) (K : Candidates) (t : Tall
 unfolding after_house
 kept-strikes cells house K t is tally k v bits lt low of on =
     kept-bits t (bounds_of house) K (slice_index house.places k) bits v of low ∙ sym (after-at cells house K t is tally k v lt low) ∙ rw on refl
-
--- ---- the board after a visit
-module _ (cells : ℕ) (house : CountHouse) (K : Candidates) (is : IsHouse cells house) (within : IsWithin cells 2 K) where
-  -- it suffices to look at the values that the house's cells have
-  after-by : (D : ℕ → ℕ → Bool) → ((c v : ℕ) → has_place house.places c ≡ false → D c v ≡ false)
-      → ((k v : ℕ) → k < length house.places → v < 2 → K (slice_index house.places k) v ≡ true → D (slice_index house.places k) v ≡ strikes_of house K (slice_index house.places k) v)
-      → (λ c v. K c v && not (D c v)) ≡ after_house house K
-  unfolding after_house
-  after-by D out here = fun_ext λ c. fun_ext λ v. elim (cases_Bool (K c v)) [
-    | inr off ↦ rw off refl
-    | inl on ↦ ap (λ b. K c v && not b) (elim (cases_Bool (has_place house.places c)) [
-      | inr off ↦ out c v off ∙ sym (off-scope house K c v off)
-      | inl there ↦ let w = has_place-at house.places c there in rw (sym w.2) (here w.0 v w.1 (within c v on).1 (rw (sym w.2) at on))
-    ])
-  ]
-
-  -- nothing is struck
-  pub after-none : ((k v : ℕ) → k < length house.places → v < 2 → K (slice_index house.places k) v ≡ true → strikes_of house K (slice_index house.places k) v ≡ false) → K ≡ after_house house K
-  after-none none = fun_ext (λ c. fun_ext λ v. sym (and-true (K c v))) ∙ after-by (λ c v. false) (λ c v off. refl) (λ k v lt low on. sym (none k v lt low on))
-
-  -- what is kept stays
-  pub after-kept : (kept : List ℕ) → ((k v : ℕ) → k < length house.places → v < 2 → K (slice_index house.places k) v ≡ true → has_bit (slice_index kept k) v ≡ not (strikes_of house K (slice_index house.places k) v))
-      → kept_in house.places kept (length house.places) K ≡ after_house house K
-  unfolding kept_in strikes_at
-  after-kept kept bits = after-by (strikes_at 2 house.places drops K) (λ c v off. false_from_ne_true _ (λ on. true≢false (sym (strikes_at-in_scope 2 house.places drops K c v on) ∙ off)))
-      (λ k v lt low on. strikes_at-place 2 house.places drops K k v is.different lt ∙ rw (bits k v lt low on) (not-not _))
-    where
-      drops : Decision
-      drops sets k v = not (has_bit (slice_index kept k) v)
-
-      not-not : (b : Bool) → not (not b) ≡ b
-      not-not b = grind (arith, common_steps, cases_Bool b)

@@ -41,13 +41,13 @@ none-set bits lt = grind (arith, common_steps, cases_eq bits 0, cases_eq bits 1,
 
 -- one count after a cell changed
 one-moved : (p q : ℕ → Bool) (place : ℕ) → ((c : ℕ) → (c ≡ place → ⊥) → q c ≡ p c) → (places : List ℕ) → has_place places place ≡ true → AreDistinct places
-    → (n a b : ℕ) → n ≡ count_by p places → a ≡ num (p place) → b ≡ num (q place) → (a ≤ n) × (n - a + b ≡ count_by q places)
-one-moved p q place others places on different n a b is before after = grind (arith, common_steps, count-there, count-at)
+    → {n a b : ℕ} → n ≡ count_by p places → a ≡ num (p place) → b ≡ num (q place) → (a ≤ n) × (n - a + b ≡ count_by q places)
+one-moved p q place others places on different is before after = grind (arith, common_steps, count-there, count-at)
 
 -- what the bits of a cell count for
-bits-counted : (K : Candidates) (c bits : ℕ) → IsBitsOf (K c) 2 bits
+bits-counted : (K : Candidates) (c : ℕ) {bits : ℕ} → IsBitsOf (K c) 2 bits
     → (num (not (has_bit bits 0)) ≡ num (not (K c 0))) × (num (has_bit bits 1) ≡ num (K c 1)) × (num (eqb bits 0) ≡ num (is_empty K c))
-bits-counted K c bits is = grind (arith, common_steps, none-set)
+bits-counted K c is = grind (arith, common_steps, none-set)
 
 counts-as : (f g : ℕ → Bool) (xs ys : List ℕ) → length xs ≡ length ys → ((k : ℕ) → k < length xs → num (f (slice_index xs k)) ≡ num (g (slice_index ys k))) → count_by f xs ≡ count_by g ys
 counts-as f g [] [] e same = refl
@@ -61,30 +61,30 @@ counts-as f g (x ∷ xs) (y ∷ ys) e same =
 -- the sets of a house's cells have the house's tally
 pub sets-tally : (K : Candidates) (places sets : List ℕ) → length sets ≡ length places → ((k : ℕ) → k < length places → IsBitsOf (K (slice_index places k)) 2 (slice_index sets k)) → IsTally K places (tally_of sets)
 sets-tally K places sets long bits = record {
-  must_is = counts-as (λ b. not (has_bit b 0)) (λ c. not (K c 0)) sets places long (λ k lt. (bits-counted K _ _ (bits k (omega arith))).0);
-  may_is = counts-as (λ b. has_bit b 1) (λ c. K c 1) sets places long (λ k lt. (bits-counted K _ _ (bits k (omega arith))).1);
-  empty_is = counts-as (λ b. eqb b 0) (is_empty K) sets places long (λ k lt. (bits-counted K _ _ (bits k (omega arith))).2);
+  must_is = counts-as (λ b. not (has_bit b 0)) (λ c. not (K c 0)) sets places long (λ k lt. (bits-counted K _ (bits k (omega arith))).0);
+  may_is = counts-as (λ b. has_bit b 1) (λ c. K c 1) sets places long (λ k lt. (bits-counted K _ (bits k (omega arith))).1);
+  empty_is = counts-as (λ b. eqb b 0) (is_empty K) sets places long (λ k lt. (bits-counted K _ (bits k (omega arith))).2);
 }
 
 module _ (cells : ℕ) (K L : Candidates) (place before after : ℕ) (change : IsChange cells 2 K L place before after) (places : List ℕ) (t : Tally) (is : IsTally K places t) where
-  other : (c : ℕ) → (c ≡ place → ⊥) → (v : ℕ) → L c v ≡ K c v
-  other c ne v = change.others c v ne
+  other : {c : ℕ} → (c ≡ place → ⊥) → (v : ℕ) → L c v ≡ K c v
+  other {c} ne v = change.others c v ne
 
   pub tally-kept : has_place places place ≡ false → IsTally L places t
   tally-kept off = grind (arith, common_steps, count-off)
 
   module _ (on : has_place places place ≡ true) (different : AreDistinct places) where
     must_moved : (num (not (has_bit before 0)) ≤ t.must) × ((moved_tally t before after).must ≡ count_by (λ c. not (L c 0)) places)
-    must_moved = one-moved (λ c. not (K c 0)) (λ c. not (L c 0)) place (λ c ne. ap not (other c ne 0))
-        places on different t.must _ _ is.must_is (bits-counted K place before change.before_is).0 (bits-counted L place after change.after_is).0
+    must_moved = one-moved (λ c. not (K c 0)) (λ c. not (L c 0)) place (λ c ne. ap not (other ne 0))
+        places on different is.must_is (bits-counted K place change.before_is).0 (bits-counted L place change.after_is).0
 
     may_moved : (num (has_bit before 1) ≤ t.may) × ((moved_tally t before after).may ≡ count_by (λ c. L c 1) places)
-    may_moved = one-moved (λ c. K c 1) (λ c. L c 1) place (λ c ne. other c ne 1)
-        places on different t.may _ _ is.may_is (bits-counted K place before change.before_is).1 (bits-counted L place after change.after_is).1
+    may_moved = one-moved (λ c. K c 1) (λ c. L c 1) place (λ c ne. other ne 1)
+        places on different is.may_is (bits-counted K place change.before_is).1 (bits-counted L place change.after_is).1
 
     empty_moved : (num (eqb before 0) ≤ t.empty) × ((moved_tally t before after).empty ≡ count_by (is_empty L) places)
-    empty_moved = one-moved (is_empty K) (is_empty L) place (λ c ne. ap₂ (λ a b. not a && not b) (other c ne 0) (other c ne 1))
-        places on different t.empty _ _ is.empty_is (bits-counted K place before change.before_is).2 (bits-counted L place after change.after_is).2
+    empty_moved = one-moved (is_empty K) (is_empty L) place (λ c ne. ap₂ (λ a b. not a && not b) (other ne 0) (other ne 1))
+        places on different is.empty_is (bits-counted K place change.before_is).2 (bits-counted L place change.after_is).2
 
     pub tally-moved : IsTally L places (moved_tally t before after)
     tally-moved = record { must_is = must_moved.1; may_is = may_moved.1; empty_is = empty_moved.1 }
@@ -143,10 +143,10 @@ pub record AreMovedBelow (old new : List Tally) (listed : List ℕ) (before afte
   pub moved : (k : ℕ) → k < n → tally_at new (slice_index listed k) ≡ moved_tally (tally_at old (slice_index listed k)) before after
   pub kept : (h : ℕ) → ((k : ℕ) → k < n → slice_index listed k ≡ h → ⊥) → tally_at new h ≡ tally_at old h
 
-pub moved-next : (old new : List Tally) (listed : List ℕ) (before after n : ℕ) (t : Tally) → AreMovedBelow old new listed before after n → n < length listed
+pub moved-next : {old new : List Tally} {listed : List ℕ} {before after n : ℕ} {t : Tally} → AreMovedBelow old new listed before after n → n < length listed
     → ((j k : ℕ) → j < length listed → k < length listed → slice_index listed j ≡ slice_index listed k → j ≡ k)
     → slice_index listed n < length old → t ≡ moved_tally (tally_at old (slice_index listed n)) before after → AreMovedBelow old (set new (slice_index listed n) t) listed before after (n + 1)
-moved-next old new listed before after n t m lt twice within is = record {
+moved-next {new} {listed} {n} {t} m lt twice within is = record {
   as_many = length-set new (slice_index listed n) t ∙ m.as_many;
   moved = λ k low. elim (cases_eq k n) [
     | inl e ↦ rw e (get_or-set_same new (slice_index listed n) t none (let s = m.as_many in omega arith) ∙ is)
@@ -172,8 +172,8 @@ module _ (cells : ℕ) (scopes : List (List ℕ)) (houses : List CountHouse) (ta
     pub same : tally_at tallies (slice_index listed k) ≡ tally_at old (slice_index listed k)
     pub can : CanMove (tally_at tallies (slice_index listed k)) before after
 
-  pub movable : (new : List Tally) (k : ℕ) → AreMovedBelow old new listed before after k → k < length listed → IsMovable new k
-  movable new k m lt =
+  pub movable : {new : List Tally} {k : ℕ} → AreMovedBelow old new listed before after k → k < length listed → IsMovable new k
+  movable {k} m lt =
       let h = slice_index listed k in
       let w = in-list scopes place listed at k lt in
       let low : h < length houses = let e = table.as_many in omega (arith, w.0) in
@@ -186,8 +186,8 @@ module _ (cells : ℕ) (scopes : List (List ℕ)) (houses : List CountHouse) (ta
         can = rw same (can-move cells K L place before after change (count_house_of houses h).places (tally_at old h) is on (distinct h low) (table.each h low).few_places);
       }
 
-  pub tallied-moved : (new : List Tally) → AreMovedBelow old new listed before after (length listed) → AreTallied cells houses new L
-  tallied-moved new m = record {
+  pub tallied-moved : {new : List Tally} → AreMovedBelow old new listed before after (length listed) → AreTallied cells houses new L
+  tallied-moved {new} m = record {
     long = let a = m.as_many in let b = tallied.long in omega arith;
     within = λ c v on. elim (cases_eq c place) [
       | inl e ↦ (rw e change.place_in, change.within v (rw e at on))
@@ -209,6 +209,6 @@ pub moved-end : (old new : List Tally) (listed : List ℕ) (before after n : ℕ
 moved-end old new listed before after n m le ge = let e : n ≡ length listed = omega arith in subst (AreMovedBelow old new listed before after) e m
 
 -- ---- a house that does not call strikes nothing, by the bounds that a table has for it
-pub idle-by : (cells : ℕ) (house : CountHouse) (t : Tally) (b : Bounds) (calls : Bool) → IsHouse cells house → b ≡ bounds_of house → calls ≡ has_strikes t b → calls ≡ false
+pub idle-by : {cells : ℕ} {house : CountHouse} {t : Tally} {b : Bounds} {calls : Bool} → IsHouse cells house → b ≡ bounds_of house → calls ≡ has_strikes t b → calls ≡ false
     → (K : Candidates) → IsTally K house.places t → (c v : ℕ) → v < 2 → K c v ≡ true → strikes_of house K c v ≡ false
-idle-by cells house t b calls is e told off K tally = idle-at cells house K t is tally (rw e at (sym told ∙ off))
+idle-by {cells} {house} {t} is e told off K tally = idle-at cells house K t is tally (rw e at (sym told ∙ off))

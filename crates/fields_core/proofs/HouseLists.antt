@@ -61,7 +61,7 @@ column-after p c w b some e on inner is = grind (arith, common_steps, ne_eqb, lt
 
 -- ---- the house of a cell's number
 pub number-white : (p : Light) (c : ℕ) → slice_get p.cells c ≡ Some White → number_house p c ≡ []
-number-white p c e = rw (cell-at p c White e) refl
+number-white p c e = rw (cell-at p c e) refl
 
 pub number-black : (p : Light) (c : ℕ) → slice_get p.cells c ≡ Some Black → number_house p c ≡ []
-number-black p c e = rw (cell-at p c Black e) refl
+number-black p c e = rw (cell-at p c e) refl

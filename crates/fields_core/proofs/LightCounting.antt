@@ -1,4 +1,6 @@
 -- The count houses of Light Up keep to what every rule set of count houses keeps to.
+use Rattle.engine_core.specs.RuleSystem.{IsLawful}
+use Rattle.fields_core.specs.CountLaws.{count-lawful}
 use Rattle.std.proofs.Common.{◌≡◌, ℕ, zero, suc, ◌+◌, ◌*◌, ◌/◌, ◌%◌, ◌<◌, ◌≤◌, true, not, ◌&&◌, ◌||◌, eqb, List, [], ◌∷◌, ◌++◌, length, get_or, slice_index, refl, sym, ap, ◌∙◌, inl, inr, arith}
 use Rattle.std.specs.List.{filter, AllByRecursion}
 use Rattle.std.proofs.lemmas.Bool.{cases_eq, or_left, or_right, or_cases, and_from, and_parts, true≢false, eqb-true, eq-eqb, ne_eqb, not-true}
@@ -15,7 +17,7 @@ use Rattle.gameid_core.specs.declared.light_up.cell.LightCell.{LightCell}
 use Rattle.gameid_core.specs.declared.light_up.cell.LightCell.TheVariants.{White, Black, Numbered}
 use Rattle.fields_core.specs.CountHouse.{exactly, one_at_most, one_at_least, IsCounting}
 use Rattle.fields_core.specs.Light.{light_cells, white, bulb, joined_in_row, joined_in_column, sees, sees_bulb, bulbs_beside, black_right, number_right, bulb_right, lit_right, solves_lights}
-use Rattle.fields_core.specs.LightHouses.{row_run, column_run, seen_from, begins_row_run, begins_column_run, numbered, number_house, row_house, column_house, lit_house, light_houses}
+use Rattle.fields_core.specs.LightHouses.{light_rules, row_run, column_run, seen_from, begins_row_run, begins_column_run, numbered, number_house, row_house, column_house, lit_house, light_houses}
 use Rattle.fields_core.proofs.LightFaultLemmas.{lit-parts}
 use Rattle.fields_core.proofs.LightSight.{bulb-in, row-of, column-of}
 use Rattle.fields_core.proofs.HouseLists.{row-long, column-long}
@@ -65,7 +67,7 @@ number-kind p c board lt = by (get_or p.cells c Black) refl
     by : (cell : LightCell) → get_or p.cells c Black ≡ cell → EachOf (IsMet (light_cells p) (solves_lights p)) (numbered cell (filter (white p) (steps p.size c 4)))
     by White e = each-none (IsMet (light_cells p) (solves_lights p))
     by Black e = each-none (IsMet (light_cells p) (solves_lights p))
-    by (Numbered n) e = each-one (IsMet (light_cells p) (solves_lights p)) (exactly n (filter (white p) (steps p.size c 4))) (met-from (light_cells p) (solves_lights p) (exactly n (filter (white p) (steps p.size c 4)))
+    by (Numbered n) e = each-one (IsMet (light_cells p) (solves_lights p)) (exactly n (filter (white p) (steps p.size c 4))) (met-from
         (λ d on. white-in p d board.long (place-filter (white p) (steps p.size c 4) d on).1)
         (distinct-filter (white p) (steps p.size c 4) (steps-distinct p.size c 4 board.some (omega arith)))
         (let a = filter-few (white p) (steps p.size c 4) in let b = steps-few p.size c 4 in omega arith)
@@ -83,13 +85,13 @@ pub column-run-joined : (p : Light) (c d : ℕ) → has_place (column_run p c) d
 unfolding column_run
 column-run-joined p c d on = (place-filter (joined_in_column p c) (column_places p.size (c % p.size.w)) d on).1
 
-pub row-run-few : (p : Light) (c : ℕ) → IsBoard p → length (row_run p c) ≤ 256
+pub row-run-few : {p : Light} (c : ℕ) → IsBoard p → length (row_run p c) ≤ 256
 unfolding row_run
-row-run-few p c board = let a = filter-few (joined_in_row p c) (row_places p.size (c / p.size.w)) in let b = row-long p.size (c / p.size.w) in let w = board.w_few in omega arith
+row-run-few {p} c board = let a = filter-few (joined_in_row p c) (row_places p.size (c / p.size.w)) in let b = row-long p.size (c / p.size.w) in let w = board.w_few in omega arith
 
-pub column-run-few : (p : Light) (c : ℕ) → IsBoard p → length (column_run p c) ≤ 256
+pub column-run-few : {p : Light} (c : ℕ) → IsBoard p → length (column_run p c) ≤ 256
 unfolding column_run
-column-run-few p c board = let a = filter-few (joined_in_column p c) (column_places p.size (c % p.size.w)) in let b = column-long p.size (c % p.size.w) in let w = board.h_few in omega arith
+column-run-few {p} c board = let a = filter-few (joined_in_column p c) (column_places p.size (c % p.size.w)) in let b = column-long p.size (c % p.size.w) in let w = board.h_few in omega arith
 
 row-run-distinct : (p : Light) (c : ℕ) → AreDistinct (row_run p c)
 unfolding row_run
@@ -100,19 +102,19 @@ unfolding column_run
 column-run-distinct p c board = distinct-filter (joined_in_column p c) (column_places p.size (c % p.size.w)) (column-distinct p.size (c % p.size.w) board.some)
 
 -- cells of which each sees each hold one bulb at most
-run-kind : (p : Light) (run : List ℕ) → AreDistinct run → length run ≤ 256 → ((d : ℕ) → has_place run d ≡ true → d < light_cells p)
+run-kind : (p : Light) {run : List ℕ} → AreDistinct run → length run ≤ 256 → ((d : ℕ) → has_place run d ≡ true → d < light_cells p)
     → ((d e : ℕ) → has_place run d ≡ true → has_place run e ≡ true → (joined_in_row p d e || joined_in_column p d e) ≡ true)
     → IsMet (light_cells p) (solves_lights p) (one_at_most run)
-run-kind p run distinct few within joined = met-from (light_cells p) (solves_lights p) (one_at_most run) within distinct (omega arith) (omega arith) (omega arith)
+run-kind p {run} distinct few within joined = met-from within distinct (omega arith) (omega arith) (omega arith)
     (λ g grid good. (omega arith, count-one (bulb g) run distinct (λ d e md me bd be. no-sight p g grid good d e bd be (joined d e md me))))
 
 pub row-kind : (p : Light) (c : ℕ) → IsBoard p → IsMet (light_cells p) (solves_lights p) (one_at_most (row_run p c))
-row-kind p c board = run-kind p (row_run p c) (row-run-distinct p c) (row-run-few p c board)
+row-kind p c board = run-kind p (row-run-distinct p c) (row-run-few c board)
     (λ d on. white-in p d board.long (row-white-end p c d board.some (row-run-joined p c d on)))
     (λ d e md me. or_left _ _ (row-both p c d e (row-run-joined p c d md) (row-run-joined p c e me)))
 
 pub column-kind : (p : Light) (c : ℕ) → IsBoard p → IsMet (light_cells p) (solves_lights p) (one_at_most (column_run p c))
-column-kind p c board = run-kind p (column_run p c) (column-run-distinct p c board) (column-run-few p c board)
+column-kind p c board = run-kind p (column-run-distinct p c board) (column-run-few c board)
     (λ d on. white-in p d board.long (column-white-end p c d board.some (column-run-joined p c d on)))
     (λ d e md me. or_right _ _ (column-both p c d e (column-run-joined p c d md) (column-run-joined p c e me)))
 
@@ -127,7 +129,7 @@ in-column-run p c d pos lt on = grind (arith, common_steps, column-of, place-kep
 
 lit-kind : (p : Light) (c : ℕ) → IsBoard p → c < light_cells p → white p c ≡ true → IsMet (light_cells p) (solves_lights p) (one_at_least (seen_from p c))
 unfolding seen_from lit_right sees_bulb sees
-lit-kind p c board lt on = met-from (light_cells p) (solves_lights p) (one_at_least (row_run p c ++ filter (λ d. not (eqb d c)) (column_run p c)))
+lit-kind p c board lt on = met-from
     (λ d m. elim (place-append (row_run p c) others d m) [
       | inl a ↦ (row-kind p c board).is_house.within d a
       | inr b ↦ (column-kind p c board).is_house.within d (place-filter (λ d. not (eqb d c)) (column_run p c) d b).0
@@ -190,19 +192,19 @@ number-few [] c n all e = cc
 number-few (cell ∷ cells) zero n all e = rw e at all.0
 number-few (cell ∷ cells) (suc c) n all e = number-few cells c n all.1 e
 
-pub light-board : (p : Light) → IsLight p → IsBoard p
-light-board p is = grind (arith, common_steps, number-few)
+pub light-board : {p : Light} → IsLight p → IsBoard p
+light-board is = grind (arith, common_steps, number-few)
 
-pub light-counting : (p : Light) → IsLight p → IsCounting (light_cells p) (λ c. not (white p c)) (light_houses p) (solves_lights p)
+pub light-counting : {p : Light} → IsLight p → IsCounting (light_cells p) (λ c. not (white p c)) (light_houses p) (solves_lights p)
 unfolding black_right
-light-counting p is = record {
-  few_cells = let b = light-board p is in let a : p.size.w * p.size.h ≤ 256 * p.size.h = mul-le-mul_right p.size.h b.w_few in let h = b.h_few in omega arith;
-  are_houses = λ h lt. (each-met p (light-board p is) h lt).is_house;
+light-counting {p} is = record {
+  few_cells = let b = light-board is in let a : p.size.w * p.size.h ≤ 256 * p.size.h = mul-le-mul_right p.size.h b.w_few in let h = b.h_few in omega arith;
+  are_houses = λ h lt. (each-met p (light-board is) h lt).is_house;
   blocked_zero = λ g grid good c lt blocked. elim (or_cases (white p c) (eqb (slice_index g c) 0) (all_below-at (black_right p g) (light_cells p) c (lit-parts p g good).black lt)) [
     | inl on ↦ absurd (true≢false (sym on ∙ not-true (white p c) blocked))
     | inr none ↦ eqb-true (slice_index g c) 0 none
   ];
-  meets_each = λ g grid good h lt. (each-met p (light-board p is) h lt).met g grid good;
+  meets_each = λ g grid good h lt. (each-met p (light-board is) h lt).met g grid good;
 }
 
 -- ---- few houses
@@ -213,3 +215,6 @@ number-one p c = by (get_or p.cells c Black) (filter (white p) (steps p.size c 4
     by White places = omega arith
     by Black places = omega arith
     by (Numbered n) places = omega arith
+
+pub light-lawful : (p : Light) → IsLight p → IsLawful (light_rules p)
+light-lawful p is = count-lawful _ _ _ _ (light-counting is)

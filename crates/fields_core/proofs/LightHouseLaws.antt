@@ -51,16 +51,16 @@ pub record IsMet (cells : ℕ) (good : List ℕ → Bool) (house : CountHouse) :
   pub is_house : IsHouse cells house
   pub met : (g : List ℕ) → IsGrid cells 2 g → good g ≡ true → meets house g ≡ true
 
-pub small-at : (cells : ℕ) (g : List ℕ) → IsGrid cells 2 g → (c : ℕ) → slice_index g c < 2
-small-at cells g grid c = grind (arith, common_steps, cases_lt, get_or_past)
+pub small-at : {cells : ℕ} {g : List ℕ} → IsGrid cells 2 g → (c : ℕ) → slice_index g c < 2
+small-at grid c = grind (arith, common_steps, cases_lt, get_or_past)
 
 -- the ones of its cells are to be counted
-pub met-from : (cells : ℕ) (good : List ℕ → Bool) (house : CountHouse) → ((c : ℕ) → has_place house.places c ≡ true → c < cells) → AreDistinct house.places
+pub met-from : {cells : ℕ} {good : List ℕ → Bool} {house : CountHouse} → ((c : ℕ) → has_place house.places c ≡ true → c < cells) → AreDistinct house.places
     → length house.places ≤ 512 → house.least ≤ 512 → house.most ≤ 512
     → ((g : List ℕ) → IsGrid cells 2 g → good g ≡ true → (house.least ≤ count_by (bulb g) house.places) × (count_by (bulb g) house.places ≤ house.most))
     → IsMet cells good house
 unfolding meets
-met-from cells good house within distinct few least most counted = grind (arith, common_steps, different-from, ones-bulbs, small-at, and_from, le-leb)
+met-from within distinct few least most counted = grind (arith, common_steps, different-from, ones-bulbs, small-at, and_from, le-leb)
 
 -- ---- white cells and lines
 pub clear-at : (test : ℕ → Bool) (j k i : ℕ) → clear test j k ≡ true → min j k ≤ i → i ≤ max j k → test i ≡ true
@@ -177,7 +177,7 @@ row-run-on p d some off on =
 -- and the run of a column
 module _ (p : Light) (c d : ℕ) (some : 0 < p.size.w) (next : c + p.size.w ≡ d) (before : white p c ≡ true) (on : white p d ≡ true) where
   below : (d / p.size.w ≡ c / p.size.w + 1) × (d % p.size.w ≡ c % p.size.w)
-  below = rw (sym next) (cell-below p.size.w c some)
+  below = rw (sym next) (cell-below c some)
 
   column-next : joined_in_column p c d ≡ true
   unfolding joined_in_column
@@ -216,8 +216,8 @@ white-in p c long on = grind (arith, common_steps, cases_lt, get_or_past)
 pub row-distinct : (size : Extent) (y : ℕ) → AreDistinct (row_places size y)
 row-distinct size y = grind (arith, common_steps, distinct-from, row-long, row-at)
 
-pub mul-inj : (j k w : ℕ) → 0 < w → j * w ≡ k * w → j ≡ k
-mul-inj j k w pos e = grind (arith, common_steps, cases_lt, mul-le-mul_right)
+pub mul-inj : {j k w : ℕ} → 0 < w → j * w ≡ k * w → j ≡ k
+mul-inj pos e = grind (arith, common_steps, cases_lt, mul-le-mul_right)
 
 pub column-distinct : (size : Extent) (x : ℕ) → 0 < size.w → AreDistinct (column_places size x)
 column-distinct size x pos = grind (arith, common_steps, distinct-from, column-long, column-at, mul-inj)

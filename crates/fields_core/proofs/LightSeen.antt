@@ -13,7 +13,7 @@ use Rattle.fields_core.proofs.RunLemmas.{clear-same, row-cell-joined, column-cel
 use Rattle.fields_core.proofs.TentBeside.{row-in}
 
 -- ---- a walk from the number `at`, down or up, that has passed as many numbers as from low to next, and is at k
-module _ (white bulb : ℕ → Bool) (at low high next k : ℕ) (from : low ≤ next) (to : next < high) (side : ((high ≡ at) × (k + next + 1 ≡ low + at)) ⊎ ((low ≡ at + 1) × (k ≡ next))) where
+module _ (white bulb : ℕ → Bool) (at : ℕ) {low high next : ℕ} (k : ℕ) (from : low ≤ next) (to : next < high) (side : ((high ≡ at) × (k + next + 1 ≡ low + at)) ⊎ ((low ≡ at + 1) × (k ≡ next))) where
   pub walk-black : ((i : ℕ) → low ≤ i → i < high → at + low ≤ i + next → i + low ≤ at + next → bulb i ≡ false) → white k ≡ false → Shines white bulb at low high false
   walk-black dark off = λ i low_in lt joined. grind (arith, common_steps, clear-at white at i k joined, dark i, cases_lt)
 
@@ -24,9 +24,9 @@ module _ (white bulb : ℕ → Bool) (at low high next k : ℕ) (from : low ≤ 
 whole : (c w : ℕ) → c ≡ c / w * w + c % w
 whole c w = omega arith
 
-pub row-sees : (p : Light) (g : List ℕ) (c w : ℕ) (b : Bool) → 0 < w → w ≡ p.size.w → c < light_cells p
+pub row-sees : (p : Light) (g : List ℕ) {c : ℕ} (w : ℕ) (b : Bool) → 0 < w → w ≡ p.size.w → c < light_cells p
     → ShinesAlong (λ i. white p (c - c % w + i * 1)) (λ i. bulb g (c - c % w + i * 1)) (c % w) w b → SeesAlong (joined_in_row p) (light_cells p) g c b
-row-sees p g c w b some e in_grid s = by b s
+row-sees p g {c} w b some e in_grid s = by b s
   where
     same : (i : ℕ) → c - c % w + i * 1 ≡ c / p.size.w * p.size.w + i
     same i = rw (sym e) (let f = whole c w in omega arith)
@@ -37,7 +37,7 @@ row-sees p g c w b some e in_grid s = by b s
     by : (b : Bool) → ShinesAlong (λ i. white p (c - c % w + i * 1)) (λ i. bulb g (c - c % w + i * 1)) (c % w) w b → SeesAlong (joined_in_row p) (light_cells p) g c b
     by true s = (
       c - c % w + s.0 * 1,
-      rw (same s.0) (let lt : s.0 < p.size.w = rw (sym e) s.1 in omega (arith, mul-add-lt (c / p.size.w) p.size.w s.0 p.size.h (row-in p.size.w p.size.h c (rw (sym e) some) in_grid) lt)),
+      rw (same s.0) (let lt : s.0 < p.size.w = rw (sym e) s.1 in omega (arith, mul-add-lt (c / p.size.w) p.size.w s.0 p.size.h (row-in {w = p.size.w} p.size.h c (rw (sym e) some) in_grid) lt)),
       (λ f. s.2 (let v = whole c w in omega arith)),
       ap (joined_in_row p c) (same s.0) ∙ row-cell-joined p c s.0 (rw (sym e) s.1) ∙ sym (test s.0) ∙ s.3,
       s.4,
@@ -61,14 +61,14 @@ column-sees p g c w h b some e f s = by b s
     by true s = (
       c % w + s.0 * w,
       rw (same s.0) (let lt : s.0 < p.size.h = rw (sym f) s.1 in omega (arith, mul-add-lt s.0 p.size.w (c % p.size.w) p.size.h lt (mod-lt c (rw (sym e) some)))),
-      (λ t. s.2 (mul-inj s.0 (c / w) w some (let v = whole c w in omega arith))),
+      (λ t. s.2 (mul-inj some (let v = whole c w in omega arith))),
       ap (joined_in_column p c) (same s.0) ∙ column-cell-joined p c s.0 (rw (sym e) some) ∙ sym (test s.0) ∙ s.3,
       s.4,
     )
     by false s = λ d lt ne on.
         let v = column-parts p c d on in
         let here : c % w + d / w * w ≡ d = same (d / w) ∙ rw (v.0, e) (sym (whole d p.size.w)) in
-        ap (bulb g) (sym here) ∙ s (d / w) (rw f (row-in w p.size.h d some (rw e lt))) (λ t. ne (sym here ∙ ap (λ y. c % w + y * w) t ∙ (let u = whole c w in omega arith))) (test (d / w) ∙ rw e v.1)
+        ap (bulb g) (sym here) ∙ s (d / w) (rw f (row-in p.size.h d some (rw e lt))) (λ t. ne (sym here ∙ ap (λ y. c % w + y * w) t ∙ (let u = whole c w in omega arith))) (test (d / w) ∙ rw e v.1)
 
 -- ---- both lines
 swapped : (c d : ℕ) → d ≢ c → not (eqb c d) ≡ true

@@ -56,5 +56,5 @@ pub count-bulb : (g : List ℕ) (size : Extent) (place n d : ℕ) → Some d ≡
 unfolding steps
 count-bulb g size place n d e on = grind (arith, common_steps, eq-eqb, count-append)
 
-pub some-column : (p : Light) (c : ℕ) → c < light_cells p → 0 < p.size.w
-some-column p c lt = grind (arith, common_steps)
+pub some-column : (p : Light) {c : ℕ} → c < light_cells p → 0 < p.size.w
+some-column p lt = grind (arith, common_steps)

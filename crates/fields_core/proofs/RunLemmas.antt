@@ -130,9 +130,9 @@ column-run-is p c w h pos e f = rw (e, f)
     same i = omega arith
 
 -- the cell before the first of a run is black
-pub row-begun : (p : Light) (c x i : ℕ) → begins_row_run p c ≡ true → c % p.size.w ≡ x → suc i ≡ x → white p (c - x + i * 1) ≡ false
+pub row-begun : (p : Light) (c : ℕ) {x : ℕ} (i : ℕ) → begins_row_run p c ≡ true → c % p.size.w ≡ x → suc i ≡ x → white p (c - x + i * 1) ≡ false
 unfolding begins_row_run
-row-begun p c x i on e f = grind (arith, common_steps, and_parts, or_cases, eqb-true, not-true)
+row-begun p c i on e f = grind (arith, common_steps, and_parts, or_cases, eqb-true, not-true)
 
 pub column-begun : (p : Light) (c w i : ℕ) → w ≡ p.size.w → begins_column_run p c ≡ true → suc i ≡ c / w → white p (c % w + i * w) ≡ false
 unfolding begins_column_run
@@ -142,8 +142,8 @@ column-begun p c w i e on f = grind (arith, common_steps, and_parts, or_cases, e
 pub run-long : (f : ℕ → ℕ) (start n : ℕ) (xs : List ℕ) → map f (range_with_len start n) ≡ xs → n ≡ length xs
 run-long f start n xs e = sym (length-map-range_with_len f start n) ∙ ap length e
 
-pub run-at : (first stride start n k : ℕ) (xs : List ℕ) → map (λ i. first + i * stride) (range_with_len start n) ≡ xs → k < length xs → first + (start + k) * stride ≡ slice_index xs k
-run-at first stride start n k xs e lt = grind (arith, common_steps, run-long, get_or-map-range_with_len, slice_index)
+pub run-at : (first stride start n k : ℕ) {xs : List ℕ} → map (λ i. first + i * stride) (range_with_len start n) ≡ xs → k < length xs → first + (start + k) * stride ≡ slice_index xs k
+run-at first stride start n k e lt = grind (arith, common_steps, run-long, get_or-map-range_with_len, slice_index)
 
 -- the cells of a row and of a column
 pub row-made : (size : Extent) (y w : ℕ) → w ≡ size.w → map (λ i. y * w + i * 1) (range_with_len 0 (w - 0)) ≡ row_places size y
@@ -152,11 +152,11 @@ row-made size y w e = grind (arith, common_steps, map-same)
 pub column-made : (size : Extent) (x w h : ℕ) → w ≡ size.w → h ≡ size.h → map (λ i. x + i * w) (range_with_len 0 (h - 0)) ≡ column_places size x
 column-made size x w h e f = grind (arith, common_steps, map-same)
 
-pub row-cell : (size : Extent) (y k : ℕ) → y < size.h → k < length (row_places size y) → slice_index (row_places size y) k < size.w * size.h
-row-cell size y k lt low = grind (arith, common_steps, row-long, row-at, mul-le-mul_right)
+pub row-cell : (size : Extent) {y k : ℕ} → y < size.h → k < length (row_places size y) → slice_index (row_places size y) k < size.w * size.h
+row-cell size lt low = grind (arith, common_steps, row-long, row-at, mul-le-mul_right)
 
-pub column-cell : (size : Extent) (x k : ℕ) → x < size.w → k < length (column_places size x) → slice_index (column_places size x) k < size.w * size.h
-column-cell size x k lt low = grind (arith, common_steps, column-long, column-at, mul-le-mul_right)
+pub column-cell : (size : Extent) {x k : ℕ} → x < size.w → k < length (column_places size x) → slice_index (column_places size x) k < size.w * size.h
+column-cell size lt low = grind (arith, common_steps, column-long, column-at, mul-le-mul_right)
 
-pub few-cells : (p : Light) → IsLight p → light_cells p < 2 ^ 32
-few-cells p is = grind (arith, common_steps, mul-le-mul_right)
+pub few-cells : {p : Light} → IsLight p → light_cells p < 2 ^ 32
+few-cells is = grind (arith, common_steps, mul-le-mul_right)

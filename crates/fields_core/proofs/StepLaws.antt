@@ -37,26 +37,26 @@ unfolding step
 step-down size c d e = grind (arith, common_steps, step-when, ltb-true)
 
 -- a later direction leads to a later cell
-pub ascends : (size : Extent) (c d e k m : ℕ) → 0 < size.w → k < m → m < 4 → step size c k ≡ Some d → step size c m ≡ Some e → d < e
-ascends size c d e zero (suc zero) pos lt less a b = let u = step-up size c d a in let v = step-left size c e b in let r = mod-lt c pos in omega (arith, v.0, v.1)
-ascends size c d e zero (suc (suc zero)) pos lt less a b = let u = step-up size c d a in let v = step-right size c e b in omega (arith, v.0)
-ascends size c d e zero (suc (suc (suc zero))) pos lt less a b = let u = step-up size c d a in let v = step-down size c e b in omega (arith, v.0)
-ascends size c d e (suc zero) (suc (suc zero)) pos lt less a b = let u = step-left size c d a in let v = step-right size c e b in omega (arith, u.0, v.0)
-ascends size c d e (suc zero) (suc (suc (suc zero))) pos lt less a b = let u = step-left size c d a in let v = step-down size c e b in omega (arith, u.0, v.0)
-ascends size c d e (suc (suc zero)) (suc (suc (suc zero))) pos lt less a b = let u = step-right size c d a in let v = step-down size c e b in omega (arith, u.0, u.1, v.0)
-ascends size c d e k m pos lt less a b = absurd (omega arith)
+pub ascends : (size : Extent) (c d : ℕ) {e : ℕ} (k m : ℕ) → 0 < size.w → k < m → m < 4 → step size c k ≡ Some d → step size c m ≡ Some e → d < e
+ascends size c d {e} zero (suc zero) pos lt less a b = let u = step-up size c d a in let v = step-left size c e b in let r = mod-lt c pos in omega (arith, v.0, v.1)
+ascends size c d {e} zero (suc (suc zero)) pos lt less a b = let u = step-up size c d a in let v = step-right size c e b in omega (arith, v.0)
+ascends size c d {e} zero (suc (suc (suc zero))) pos lt less a b = let u = step-up size c d a in let v = step-down size c e b in omega (arith, v.0)
+ascends size c d {e} (suc zero) (suc (suc zero)) pos lt less a b = let u = step-left size c d a in let v = step-right size c e b in omega (arith, u.0, v.0)
+ascends size c d {e} (suc zero) (suc (suc (suc zero))) pos lt less a b = let u = step-left size c d a in let v = step-down size c e b in omega (arith, u.0, v.0)
+ascends size c d {e} (suc (suc zero)) (suc (suc (suc zero))) pos lt less a b = let u = step-right size c d a in let v = step-down size c e b in omega (arith, u.0, u.1, v.0)
+ascends size c d k m pos lt less a b = absurd (omega arith)
 
-there-is : (o : Option ℕ) (d : ℕ) → has_place (if_there o) d ≡ true → o ≡ Some d
+there-is : (o : Option ℕ) {d : ℕ} → has_place (if_there o) d ≡ true → o ≡ Some d
 unfolding has_place
-there-is None d on = grind (arith, common_steps, true≢false)
-there-is (Some x) d on = grind (arith, common_steps, or_cases, eqb-true, true≢false)
+there-is None on = grind (arith, common_steps, true≢false)
+there-is (Some x) on = grind (arith, common_steps, or_cases, eqb-true, true≢false)
 
 pub steps-some : (size : Extent) (c n d : ℕ) → has_place (steps size c n) d ≡ true → (k : ℕ) × (k < n) × (step size c k ≡ Some d)
 unfolding steps has_place
 steps-some size c zero d on = absurd (true≢false (sym on))
 steps-some size c (suc n) d on = elim (place-append (steps size c n) (if_there (step size c n)) d on) [
   | inl before ↦ let w : (k : ℕ) × (k < n) × (step size c k ≡ Some d) = steps-some size c n d before in (w.0, omega (arith, w.1), w.2)
-  | inr here ↦ (n, omega arith, there-is (step size c n) d here)
+  | inr here ↦ (n, omega arith, there-is (step size c n) here)
 ]
 
 there-distinct : (o : Option ℕ) → AreDistinct (if_there o)
@@ -68,7 +68,7 @@ pub steps-distinct : (size : Extent) (c n : ℕ) → 0 < size.w → n ≤ 4 → 
 unfolding steps
 steps-distinct size c zero pos few = tt
 steps-distinct size c (suc n) pos few = distinct-append (steps size c n) (if_there (step size c n)) (steps-distinct size c n pos (omega arith)) (there-distinct (step size c n))
-    (λ d a b. let w = steps-some size c n d a in let up = ascends size c d d w.0 n pos w.1 (omega arith) w.2 (there-is (step size c n) d b) in absurd (omega arith))
+    (λ d a b. let w = steps-some size c n d a in let up = ascends size c d w.0 n pos w.1 (omega arith) w.2 (there-is (step size c n) b) in absurd (omega arith))
 
 there-few : (o : Option ℕ) → length (if_there o) ≤ 1
 there-few None = omega arith

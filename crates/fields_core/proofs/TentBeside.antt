@@ -18,8 +18,8 @@ pub whole-cell : (w c : ℕ) → c ≡ c / w * w + c % w
 whole-cell w c = omega arith
 
 -- a cell one row further down, and one column further right
-pub cell-below : (w c : ℕ) → 0 < w → ((c + w) / w ≡ c / w + 1) × ((c + w) % w ≡ c % w)
-cell-below w c pos = cell-parts w (c / w + 1) (c % w) (c + w) (mod-lt c pos) (let e = whole-cell w c in omega arith)
+pub cell-below : {w : ℕ} (c : ℕ) → 0 < w → ((c + w) / w ≡ c / w + 1) × ((c + w) % w ≡ c % w)
+cell-below {w} c pos = cell-parts w (c / w + 1) (c % w) (c + w) (mod-lt c pos) (let e = whole-cell w c in omega arith)
 
 pub cell-after : (w c : ℕ) → c % w + 1 < w → ((c + 1) / w ≡ c / w) × ((c + 1) % w ≡ c % w + 1)
 cell-after w c lt = cell-parts w (c / w) (c % w + 1) (c + 1) lt (let e = whole-cell w c in omega arith)
@@ -28,19 +28,19 @@ cell-after w c lt = cell-parts w (c / w) (c % w + 1) (c + 1) lt (let e = whole-c
 pub cell-turn : (w c : ℕ) → c % w + 1 ≡ w → (c + 1) % w ≡ 0
 cell-turn w c e = (cell-parts w (c / w + 1) 0 (c + 1) (omega arith) (let f = whole-cell w c in let g : (c / w + 1) * w ≡ c / w * w + w = omega arith in omega arith)).1
 
-pub row-in : (w h c : ℕ) → 0 < w → c < w * h → c / w < h
-row-in w h c pos lt = (div-lt_iff_lt-mul pos).1 (omega arith)
+pub row-in : {w : ℕ} (h c : ℕ) → 0 < w → c < w * h → c / w < h
+row-in h c pos lt = (div-lt_iff_lt-mul pos).1 (omega arith)
 
-pub cell-in : (w h c : ℕ) → 0 < w → c / w < h → c < w * h
-cell-in w h c pos lt = grind (arith, common_steps, mul-le-mul_right, mod-lt, whole-cell)
+pub cell-in : {w : ℕ} (h : ℕ) {c : ℕ} → 0 < w → c / w < h → c < w * h
+cell-in h pos lt = grind (arith, common_steps, mul-le-mul_right, mod-lt, whole-cell)
 
 -- a step leads back by the other direction
 back : (size : Extent) (t c k : ℕ) → 0 < size.w → t < size.w * size.h → c < size.w * size.h → k < 4 → step size t k ≡ Some c → (m : ℕ) × (m < 4) × (step size c m ≡ Some t)
 unfolding step
 back size t c zero pos lt lc less e =
     let u = step-up size t c e in
-    let v = cell-below size.w c pos in
-    let r : c / size.w + 1 < size.h = let s = row-in size.w size.h t pos lt in let q : t / size.w ≡ c / size.w + 1 = ap (λ n. n / size.w) (sym u) ∙ v.0 in omega arith in
+    let v = cell-below c pos in
+    let r : c / size.w + 1 < size.h = let s = row-in size.h t pos lt in let q : t / size.w ≡ c / size.w + 1 = ap (λ n. n / size.w) (sym u) ∙ v.0 in omega arith in
     (3, omega arith, cond-true (ltb (c / size.w + 1) size.h) _ _ (lt-ltb (c / size.w + 1) size.h r) ∙ ap Some u)
 back size t c (suc zero) pos lt lc less e =
     let u = step-left size t c e in
@@ -57,21 +57,21 @@ back size t c (suc (suc zero)) pos lt lc less e =
     (1, omega arith, cond-true (leb 1 (c % size.w)) _ _ (le-leb 1 (c % size.w) q) ∙ ap Some (let a = u.0 in omega arith))
 back size t c (suc (suc (suc zero))) pos lt lc less e =
     let u = step-down size t c e in
-    let v = cell-below size.w t pos in
+    let v = cell-below t pos in
     let q : 1 ≤ c / size.w = let a : c / size.w ≡ t / size.w + 1 = ap (λ n. n / size.w) u.0 ∙ v.0 in omega arith in
     (0, omega arith, cond-true (leb 1 (c / size.w)) _ _ (le-leb 1 (c / size.w) q) ∙ ap Some (let a = u.0 in omega arith))
 back size t c (suc (suc (suc (suc k)))) pos lt lc less e = absurd (omega arith)
 
-pub steps-has : (size : Extent) (c n k d : ℕ) → k < n → step size c k ≡ Some d → has_place (steps size c n) d ≡ true
+pub steps-has : (size : Extent) (c n k : ℕ) {d : ℕ} → k < n → step size c k ≡ Some d → has_place (steps size c n) d ≡ true
 unfolding steps has_place
-steps-has size c zero k d lt e = absurd (omega arith)
-steps-has size c (suc n) k d lt e = elim (cases_eq k n) [
+steps-has size c zero k lt e = absurd (omega arith)
+steps-has size c (suc n) k {d} lt e = elim (cases_eq k n) [
   | inl same ↦ place-back (steps size c n) (if_there (step size c n)) d (rw (rw same at e) (or_left (eqb d d) false (eq-eqb d d refl)))
-  | inr other ↦ place-front (steps size c n) (if_there (step size c n)) d (steps-has size c n k d (omega arith) e)
+  | inr other ↦ place-front (steps size c n) (if_there (step size c n)) d (steps-has size c n k (omega arith) e)
 ]
 
-pub beside-both : (size : Extent) (t c : ℕ) → 0 < size.w → t < size.w * size.h → c < size.w * size.h → has_place (steps size t 4) c ≡ true → has_place (steps size c 4) t ≡ true
-beside-both size t c pos lt lc on = grind (arith, common_steps, steps-some, back, steps-has)
+pub beside-both : (size : Extent) {t c : ℕ} → 0 < size.w → t < size.w * size.h → c < size.w * size.h → has_place (steps size t 4) c ≡ true → has_place (steps size c 4) t ≡ true
+beside-both size pos lt lc on = grind (arith, common_steps, steps-some, back, steps-has)
 
 -- a step stays in the grid
 step-in : (size : Extent) (c d k : ℕ) → 0 < size.w → c < size.w * size.h → k < 4 → step size c k ≡ Some d → d < size.w * size.h
@@ -80,15 +80,15 @@ step-in size c d (suc zero) pos lt less e = let u = step-left size c d e in omeg
 step-in size c d (suc (suc zero)) pos lt less e =
     let u = step-right size c d e in
     let v = cell-after size.w c u.1 in
-    let a = row-in size.w size.h c pos lt in
+    let a = row-in size.h c pos lt in
     let b : d / size.w ≡ c / size.w = ap (λ n. n / size.w) u.0 ∙ v.0 in
-    cell-in size.w size.h d pos (omega arith)
+    cell-in size.h pos (omega arith)
 step-in size c d (suc (suc (suc zero))) pos lt less e =
     let u = step-down size c d e in
-    let v = cell-below size.w c pos in
+    let v = cell-below c pos in
     let b : d / size.w ≡ c / size.w + 1 = ap (λ n. n / size.w) u.0 ∙ v.0 in
     let s = u.1 in
-    cell-in size.w size.h d pos (omega arith)
+    cell-in size.h pos (omega arith)
 step-in size c d (suc (suc (suc (suc k)))) pos lt less e = absurd (omega arith)
 
 pub beside-in : (size : Extent) (c d : ℕ) → 0 < size.w → c < size.w * size.h → has_place (steps size c 4) d ≡ true → d < size.w * size.h

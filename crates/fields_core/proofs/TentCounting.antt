@@ -1,4 +1,6 @@
 -- The count houses of Tents keep to what every rule set of count houses keeps to.
+use Rattle.engine_core.specs.RuleSystem.{IsLawful}
+use Rattle.fields_core.specs.CountLaws.{count-lawful}
 use Rattle.std.proofs.Common.{◌≡◌, ℕ, zero, suc, ◌+◌, ◌*◌, ◌/◌, ◌%◌, ◌<◌, ◌≤◌, true, not, ◌&&◌, ◌||◌, eqb, ltb, List, [], ◌∷◌, length, get_or, slice_index, map, sym, ap, ◌∙◌, inl, inr, arith, le-leb}
 use Rattle.std.specs.List.{filter, range_with_len, list_any}
 use Rattle.std.proofs.lemmas.Bool.{cases_eq, cases_lt, or_cases, and_from, and_parts, true≢false, false_from_ne_true, eqb-true, eq-eqb, ne_eqb, not-true, ltb-true}
@@ -20,7 +22,7 @@ use Rattle.grid_core.specs.Lines.{line_cells}
 use Rattle.gameid_core.specs.Puzzles.{Tents, IsTents, AreCounts}
 use Rattle.fields_core.specs.CountHouse.{exactly, one_at_most, one_at_least, IsCounting}
 use Rattle.fields_core.specs.Tents.{tent_cells, tree, tent, are_near, touches, tents_in_column, tents_in_row, tree_right, touch_right, column_right, row_right, names_none_twice, leaves_none_out, trees_beside, can_be_paired, solves_tents}
-use Rattle.fields_core.specs.TentHouses.{column_of_tents, row_of_tents, free_beside, tree_house, square_house, tent_houses, is_barred}
+use Rattle.fields_core.specs.TentHouses.{tent_rules, column_of_tents, row_of_tents, free_beside, tree_house, square_house, tent_houses, is_barred}
 use Rattle.fields_core.proofs.HouseLists.{row-long, column-long}
 use Rattle.fields_core.proofs.PlaceLists.{count-some, count-one, filter-few}
 use Rattle.fields_core.proofs.StepLaws.{steps-distinct, steps-few}
@@ -50,22 +52,22 @@ pub record IsField (p : Tents) : Type 0 where
   pub number : (k : ℕ) → slice_index p.counts k ≤ 256
 
 -- ---- columns and rows
-column-within : (p : Tents) (x d : ℕ) → x < p.size.w → has_place (column_places p.size x) d ≡ true → d < tent_cells p
-column-within p x d lt on = grind (arith, common_steps, has_place-at, column-long, column-at, mul-le-mul_right)
+column-within : (p : Tents) {x d : ℕ} → x < p.size.w → has_place (column_places p.size x) d ≡ true → d < tent_cells p
+column-within p lt on = grind (arith, common_steps, has_place-at, column-long, column-at, mul-le-mul_right)
 
-row-within : (p : Tents) (y d : ℕ) → y < p.size.h → has_place (row_places p.size y) d ≡ true → d < tent_cells p
-row-within p y d lt on = grind (arith, common_steps, has_place-at, row-long, row-at, mul-le-mul_right)
+row-within : (p : Tents) {y d : ℕ} → y < p.size.h → has_place (row_places p.size y) d ≡ true → d < tent_cells p
+row-within p lt on = grind (arith, common_steps, has_place-at, row-long, row-at, mul-le-mul_right)
 
 column-kind : (p : Tents) (x : ℕ) → IsField p → x < p.size.w → IsMet (tent_cells p) (solves_tents p) (exactly (slice_index p.counts x) (column_places p.size x))
 unfolding column_right
-column-kind p x field lt = met-from (tent_cells p) (solves_tents p) _ (λ d on. column-within p x d lt on) (column-distinct p.size x field.some)
+column-kind p x field lt = met-from (λ d on. column-within p lt on) (column-distinct p.size x field.some)
     (omega (arith, column-long p.size x, field.h_few)) (omega (arith, field.number x)) (omega (arith, field.number x)) (λ g grid good.
     let e = eqb-true (tents_in_column p.size g x) (slice_index p.counts x) (all_below-at (column_right p g) p.size.w x (tents-parts p g good).columns lt) in
     (omega arith, omega arith))
 
 row-kind : (p : Tents) (y : ℕ) → IsField p → y < p.size.h → IsMet (tent_cells p) (solves_tents p) (exactly (slice_index p.counts (p.size.w + y)) (row_places p.size y))
 unfolding row_right
-row-kind p y field lt = met-from (tent_cells p) (solves_tents p) _ (λ d on. row-within p y d lt on) (row-distinct p.size y)
+row-kind p y field lt = met-from (λ d on. row-within p lt on) (row-distinct p.size y)
     (omega (arith, row-long p.size y, field.w_few)) (omega (arith, field.number (p.size.w + y))) (omega (arith, field.number (p.size.w + y))) (λ g grid good.
     let e = eqb-true (tents_in_row p.size g y) (slice_index p.counts (p.size.w + y)) (all_below-at (row_right p g) p.size.h y (tents-parts p g good).rows lt) in
     (omega arith, omega arith))
@@ -74,8 +76,8 @@ row-kind p y field lt = met-from (tent_cells p) (solves_tents p) _ (λ d on. row
 pub tent-in : (g : List ℕ) (cells d : ℕ) → length g ≡ cells → tent g d ≡ true → d < cells
 tent-in g cells d long on = grind (arith, common_steps, cases_lt, eqb-true, slice_index, get_or_past)
 
-set-has : (p : Tents) (t c : ℕ) → has_value (trees_beside p t) c ≡ true → (c < tent_cells p) × (tree p c ≡ true) × (has_place (steps p.size t 4) c ≡ true)
-set-has p t c on = grind (arith, common_steps, has_value_below, length-map-range_with_len, get_or-map-range_with_len, and_parts)
+set-has : (p : Tents) (t : ℕ) {c : ℕ} → has_value (trees_beside p t) c ≡ true → (c < tent_cells p) × (tree p c ≡ true) × (has_place (steps p.size t 4) c ≡ true)
+set-has p t on = grind (arith, common_steps, has_value_below, length-map-range_with_len, get_or-map-range_with_len, and_parts)
 
 -- the tents of a grid by place, and the sets of trees beside them
 unfoldable pub tents_of : Tents → List ℕ → List ℕ
@@ -97,7 +99,7 @@ given p g paired =
       w.0,
       record {
         long = fills.len ∙ length-map (filter (tent g) (range_with_len 0 (tent_cells p))) (trees_beside p);
-        each = λ k lt. set-has p (slice_index (filter (tent g) (range_with_len 0 (tent_cells p))) k) (slice_index w.0 k)
+        each = λ k lt. set-has p (slice_index (filter (tent g) (range_with_len 0 (tent_cells p))) k)
             (sym (ap (λ (s : Set). has_value s (get_or w.0 k 0)) (get_or-map (trees_beside p) (filter (tent g) (range_with_len 0 (tent_cells p))) k 0 [] lt))
             ∙ fills.each k (omega (arith, length-map (filter (tent g) (range_with_len 0 (tent_cells p))) (trees_beside p))));
         none_twice = tests.0;
@@ -108,8 +110,8 @@ given p g paired =
       },
     )
 
-pub in-range : (n c : ℕ) → c < n → has_place (range_with_len 0 n) c ≡ true
-in-range n c lt = rw (let z : 0 + c ≡ c = omega arith in get_or-range_with_len 0 n c 0 lt ∙ z) at (has_place-here (range_with_len 0 n) c (omega (arith, length-range_with_len 0 n)))
+pub in-range : {n : ℕ} (c : ℕ) → c < n → has_place (range_with_len 0 n) c ≡ true
+in-range {n} c lt = rw (let z : 0 + c ≡ c = omega arith in get_or-range_with_len 0 n c 0 lt ∙ z) at (has_place-here (range_with_len 0 n) c (omega (arith, length-range_with_len 0 n)))
 
 -- a tree has a tent beside it
 tree-tent : (p : Tents) (g : List ℕ) → IsGrid (tent_cells p) 2 g → solves_tents p g ≡ true → (c : ℕ) → c < tent_cells p → tree p c ≡ true → (t : ℕ) × (t < tent_cells p) × (tent g t ≡ true) × (has_place (steps p.size t 4) c ≡ true)
@@ -131,14 +133,14 @@ tent-tree p g grid good t on =
     let v = given p g (tents-parts p g good).paired in
     let is = v.1 in
     let tents = filter (tent g) (range_with_len 0 (tent_cells p)) in
-    let w = has_place-at tents t (place-kept (tent g) (range_with_len 0 (tent_cells p)) t (in-range (tent_cells p) t (tent-in g (tent_cells p) t grid.each_cell on)) on) in
+    let w = has_place-at tents t (place-kept (tent g) (range_with_len 0 (tent_cells p)) t (in-range t (tent-in g (tent_cells p) t grid.each_cell on)) on) in
     let e = is.each w.0 w.1 in
     (slice_index v.0 w.0, e.1, rw w.2 at e.2)
 
 -- no tent stands on a tree
-tree-bare : (p : Tents) (g : List ℕ) → solves_tents p g ≡ true → (c : ℕ) → c < tent_cells p → tree p c ≡ true → slice_index g c ≡ 0
+tree-bare : (p : Tents) (g : List ℕ) → solves_tents p g ≡ true → {c : ℕ} → c < tent_cells p → tree p c ≡ true → slice_index g c ≡ 0
 unfolding tree_right
-tree-bare p g good c lt on = elim (or_cases (not (tree p c)) (eqb (slice_index g c) 0) (all_below-at (tree_right p g) (tent_cells p) c (tents-parts p g good).trees lt)) [
+tree-bare p g good {c} lt on = elim (or_cases (not (tree p c)) (eqb (slice_index g c) 0) (all_below-at (tree_right p g) (tent_cells p) c (tents-parts p g good).trees lt)) [
   | inl bare ↦ absurd (true≢false (sym on ∙ not-true (tree p c) bare))
   | inr none ↦ eqb-true (slice_index g c) 0 none
 ]
@@ -147,12 +149,12 @@ pub free-few : (p : Tents) (c : ℕ) → length (free_beside p c) ≤ 4
 free-few p c = omega (arith, filter-few (λ d. not (tree p d)) (steps p.size c 4), steps-few p.size c 4)
 
 tree-kind : (p : Tents) (c : ℕ) → IsField p → c < tent_cells p → tree p c ≡ true → IsMet (tent_cells p) (solves_tents p) (one_at_least (free_beside p c))
-tree-kind p c field lt on = met-from (tent_cells p) (solves_tents p) _
+tree-kind p c field lt on = met-from
     (λ d m. beside-in p.size c d field.some lt (place-filter (λ d. not (tree p d)) (steps p.size c 4) d m).0)
     (distinct-filter (λ d. not (tree p d)) (steps p.size c 4) (steps-distinct p.size c 4 field.some (omega arith))) few (omega arith) few (λ g grid good.
     let w = tree-tent p g grid good c lt on in
-    let free : not (tree p w.0) ≡ true = ap not (false_from_ne_true (tree p w.0) (λ is. let z = tree-bare p g good w.0 w.1 is in let o = eqb-true (slice_index g w.0) 1 w.2 in absurd (omega arith))) in
-    let m = place-kept (λ d. not (tree p d)) (steps p.size c 4) w.0 (beside-both p.size w.0 c field.some w.1 lt w.3) free in
+    let free : not (tree p w.0) ≡ true = ap not (false_from_ne_true (tree p w.0) (λ is. let z = tree-bare p g good w.1 is in let o = eqb-true (slice_index g w.0) 1 w.2 in absurd (omega arith))) in
+    let m = place-kept (λ d. not (tree p d)) (steps p.size c 4) w.0 (beside-both p.size field.some w.1 lt w.3) free in
     (count-some (tent g) (free_beside p c) w.0 m w.2, count_by-le-length (tent g) (free_beside p c)))
   where
     few : length (free_beside p c) ≤ 512
@@ -169,9 +171,9 @@ record IsInSquare (w c d : ℕ) : Type 0 where
   pub column_low : c % w ≤ d % w
   pub column_high : d % w ≤ c % w + 1
 
-in-square : (w c d : ℕ) → c % w + 1 < w → has_place (square_at w c) d ≡ true → IsInSquare w c d
+in-square : {w : ℕ} (c d : ℕ) → c % w + 1 < w → has_place (square_at w c) d ≡ true → IsInSquare w c d
 unfolding has_place
-in-square w c d lt on = grind (arith, common_steps, or_cases, eqb-true, cell-after, cell-below)
+in-square c d lt on = grind (arith, common_steps, or_cases, eqb-true, cell-after, cell-below)
 
 square-apart : (p : Tents) (g : List ℕ) → IsGrid (tent_cells p) 2 g → solves_tents p g ≡ true → (c d e : ℕ) → IsInSquare p.size.w c d → IsInSquare p.size.w c e → tent g d ≡ true → tent g e ≡ true → d ≡ e
 unfolding touch_right touches
@@ -192,12 +194,12 @@ unfolding has_place
 square-distinct w c two = grind (arith, common_steps, ne_eqb)
 
 square-kind : (p : Tents) (c : ℕ) → IsField p → c % p.size.w + 1 < p.size.w → c / p.size.w + 1 < p.size.h → IsMet (tent_cells p) (solves_tents p) (one_at_most (square_at p.size.w c))
-square-kind p c field right bottom = met-from (tent_cells p) (solves_tents p) _
-    (λ d on. let s = in-square p.size.w c d right on in let a = s.row_high in cell-in p.size.w p.size.h d field.some (omega arith))
+square-kind p c field right bottom = met-from
+    (λ d on. let s = in-square c d right on in let a = s.row_high in cell-in p.size.h field.some (omega arith))
     distinct (omega arith) (omega arith) (omega arith) (λ g grid good. (
       omega arith,
       count-one (tent g) (square_at p.size.w c) distinct (λ d e md me td te.
-          square-apart p g grid good c d e (in-square p.size.w c d right md) (in-square p.size.w c e right me) td te),
+          square-apart p g grid good c d e (in-square c d right md) (in-square c e right me) td te),
     ))
   where
     distinct : AreDistinct (square_at p.size.w c)
@@ -222,22 +224,25 @@ counts-few size line [] k w h all = omega arith
 counts-few size line (n ∷ counts) zero w h all = let f = line-few size line w h in let g = all.0 in omega arith
 counts-few size line (n ∷ counts) (suc k) w h all = counts-few size (line + 1) counts k w h all.1
 
-pub tent-field : (p : Tents) → IsTents p → IsField p
-tent-field p is = grind (arith, common_steps, counts-few)
+pub tent-field : {p : Tents} → IsTents p → IsField p
+tent-field is = grind (arith, common_steps, counts-few)
 
-pub tent-counting : (p : Tents) → IsTents p → IsCounting (tent_cells p) (is_barred p) (tent_houses p) (solves_tents p)
+pub tent-counting : {p : Tents} → IsTents p → IsCounting (tent_cells p) (is_barred p) (tent_houses p) (solves_tents p)
 unfolding is_barred
-tent-counting p is = record {
-  few_cells = let b = tent-field p is in let a : p.size.w * p.size.h ≤ 256 * p.size.h = mul-le-mul_right p.size.h b.w_few in let h = b.h_few in omega arith;
-  are_houses = λ h lt. (each-met p (tent-field p is) h lt).is_house;
+tent-counting {p} is = record {
+  few_cells = let b = tent-field is in let a : p.size.w * p.size.h ≤ 256 * p.size.h = mul-le-mul_right p.size.h b.w_few in let h = b.h_few in omega arith;
+  are_houses = λ h lt. (each-met p (tent-field is) h lt).is_house;
   blocked_zero = λ g grid good c lt bare. elim (or_cases (tree p c) _ bare) [
-    | inl on ↦ tree-bare p g good c lt on
-    | inr alone ↦ zero-from (slice_index g c) (small-at (tent_cells p) g grid c) (λ one.
+    | inl on ↦ tree-bare p g good lt on
+    | inr alone ↦ zero-from (slice_index g c) (small-at grid c) (λ one.
         let w = tent-tree p g grid good c (eq-eqb (slice_index g c) 1 one) in
         true≢false (sym (any-here (tree p) (steps p.size c 4) w.0 w.2 w.1) ∙ not-true (list_any (tree p) (steps p.size c 4)) alone))
   ];
-  meets_each = λ g grid good h lt. (each-met p (tent-field p is) h lt).met g grid good;
+  meets_each = λ g grid good h lt. (each-met p (tent-field is) h lt).met g grid good;
 }
   where
     zero-from : (v : ℕ) → v < 2 → (v ≡ 1 → ⊥) → v ≡ 0
     zero-from v lt none = grind (arith, common_steps, cases_eq v 0)
+
+pub tent-lawful : (p : Tents) → IsTents p → IsLawful (tent_rules p)
+tent-lawful p is = count-lawful _ _ _ _ (tent-counting is)

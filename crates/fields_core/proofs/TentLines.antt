@@ -47,8 +47,8 @@ record HasEnds (w a first end : ℕ) : Type 0 where
 pub record IsNearWindow (w first end d : ℕ) : Type 0 where
   pub side : ((first ≤ d) × (d < end)) ⊎ (((first - w ≤ d) × (d < end - w)) ⊎ ((first + w ≤ d) × (d < end + w)))
 
-not-same : (a b : ℕ) → not (eqb a b) ≡ true → a ≡ b → ⊥
-not-same a b off e = grind (arith, common_steps)
+not-same : {a b : ℕ} → not (eqb a b) ≡ true → a ≡ b → ⊥
+not-same off e = grind (arith, common_steps)
 
 near-from : (a b : ℕ) → a ≤ b + 1 → b ≤ a + 1 → are_near a b ≡ true
 near-from a b p q = and_from (leb a (b + 1)) (leb b (a + 1)) (le-leb a (b + 1) p) (le-leb b (a + 1) q)
@@ -74,7 +74,7 @@ one-row : (y w : ℕ) → 1 ≤ y → w ≤ y * w
 one-row zero w p = absurd (omega arith)
 one-row (suc y) w p = omega arith
 
-module _ (size : Extent) (a first end : ℕ) (pos : 0 < size.w) (window : IsWindow size.w a first end) where
+module _ (size : Extent) {a first end : ℕ} (pos : 0 < size.w) (window : IsWindow size.w a first end) where
   here : a ≡ a / size.w * size.w + a % size.w
   here = sym (div-add-mod' a size.w)
 
@@ -104,8 +104,8 @@ module _ (size : Extent) (a first end : ℕ) (pos : 0 < size.w) (window : IsWind
       touch-from size a d (a / size.w + 1) (d - (a / size.w + 1) * size.w) (omega arith) (omega arith) (omega arith) (omega arith) (omega arith) (omega (arith, here)) (omega (arith, here))
 
   -- the cells of another row at the same columns
-  inside : (u : ℕ) → u < size.w → a % size.w ≤ u + 1 → u ≤ a % size.w + 1 → (first ≤ a / size.w * size.w + u) × (a / size.w * size.w + u < end)
-  inside u lt p q = (elim window.left [ inl l ↦ omega (arith, here) | inr l ↦ omega (arith, here) ], elim window.right [ inl r ↦ omega (arith, here) | inr r ↦ omega (arith, here) ])
+  inside : {u : ℕ} → u < size.w → a % size.w ≤ u + 1 → u ≤ a % size.w + 1 → (first ≤ a / size.w * size.w + u) × (a / size.w * size.w + u < end)
+  inside lt p q = (elim window.left [ inl l ↦ omega (arith, here) | inr l ↦ omega (arith, here) ], elim window.right [ inl r ↦ omega (arith, here) | inr r ↦ omega (arith, here) ])
 
   -- a cell that is touched is another one of the three windows
   pub is-touched : (d : ℕ) → touches size a d ≡ true → (d ≡ a → ⊥) × IsNearWindow size.w first end d
@@ -116,8 +116,8 @@ module _ (size : Extent) (a first end : ℕ) (pos : 0 < size.w) (window : IsWind
       let rows = near-parts (a / size.w) (d / size.w) v.0 in
       let columns = near-parts (a % size.w) (d % size.w) v.1 in
       let there : d ≡ d / size.w * size.w + d % size.w = sym (div-add-mod' d size.w) in
-      let at = inside (d % size.w) (mod-lt d pos) (omega arith) (omega arith) in (
-        (λ e. not-same a d w.0 (sym e)),
+      let at = inside (mod-lt d pos) (omega arith) (omega arith) in (
+        (λ e. not-same w.0 (sym e)),
         elim (cases_lt (d / size.w) (a / size.w)) [
           | inl less ↦ let up = row-before (a / size.w) size.w (omega arith) in
               let same : d / size.w ≡ a / size.w - 1 = omega arith in
@@ -132,16 +132,16 @@ module _ (size : Extent) (a first end : ℕ) (pos : 0 < size.w) (window : IsWind
         ],
       )
 
-  module _ (g : List ℕ) (n : ℕ) where
-    pub touched : (from to : ℕ) (found : Bool) → IsTentAmong g a from to found → found ≡ true → to ≤ n → ((d : ℕ) → from ≤ d → d < to → (d ≡ a → ⊥) → touches size a d ≡ true)
+  module _ {g : List ℕ} (n : ℕ) where
+    pub touched : {from to : ℕ} {found : Bool} → IsTentAmong g a from to found → found ≡ true → to ≤ n → ((d : ℕ) → from ≤ d → d < to → (d ≡ a → ⊥) → touches size a d ≡ true)
         → found ≡ any_below (λ d. touches size a d && tent g d) n
-    touched from to found among is within near =
+    touched among is within near =
         let w = among.some is in
         is ∙ sym (any_below-here (λ d. touches size a d && tent g d) n w.0 (omega (arith, w.2)) (and_from _ _ (near w.0 w.1 w.2 w.3) w.4))
 
-    pub untouched : (from to last : ℕ) (found : Bool) → IsTentAmong g a first end false → IsTentAmong g a from to false → IsTentAmong g a (first + size.w) last found
+    pub untouched : {from to last : ℕ} {found : Bool} → IsTentAmong g a first end false → IsTentAmong g a from to false → IsTentAmong g a (first + size.w) last found
         → from ≡ first - size.w → to ≡ end - size.w → last ≡ min n (end + size.w) → found ≡ false → found ≡ any_below (λ d. touches size a d && tent g d) n
-    untouched from to last found beside above below ef et el off = off ∙ none-below _ n (λ d lt. and_left-or d lt)
+    untouched beside above below ef et el off = off ∙ none-below _ n (λ d lt. and_left-or d lt)
       where
         and_left-or : (d : ℕ) → d < n → (touches size a d && tent g d) ≡ false
         and_left-or d lt = elim (cases_Bool (touches size a d)) [
@@ -157,5 +157,5 @@ module _ (size : Extent) (a first end : ℕ) (pos : 0 < size.w) (window : IsWind
               ])
         ]
 
-pub some-wide : (size : Extent) (a : ℕ) → a < size.w * size.h → 0 < size.w
-some-wide size a lt = grind (arith, common_steps)
+pub some-wide : (size : Extent) {a : ℕ} → a < size.w * size.h → 0 < size.w
+some-wide size lt = grind (arith, common_steps)

@@ -39,12 +39,12 @@ passed-early p c from n other number before at is early = grind (arith, common_s
 pub next-none : (p : Tents) (c from n : ℕ) → IsPassed p c from n → 4 ≤ n → IsNext (tree_beside p c) (tree_count p) from None
 next-none p c from n passed all = grind (arith, common_steps, false_from_ne_true, passing-at, passing-long, steps-some, slice_index)
 
-pub next-found : (p : Tents) (c from n other number : ℕ) → 2 ≤ p.size.w → IsPassed p c from n → n < 4 → Some other ≡ step p.size c n → other < tent_cells p → tree p other ≡ true → number ≡ count_below (tree p) other → from ≤ number
+pub next-found : {p : Tents} {c from n other number : ℕ} → 2 ≤ p.size.w → IsPassed p c from n → n < 4 → Some other ≡ step p.size c n → other < tent_cells p → tree p other ≡ true → number ≡ count_below (tree p) other → from ≤ number
     → IsNext (tree_beside p c) (tree_count p) from (Some number)
-next-found p c from n other number wide passed lt at inside on is ge = (
+next-found {p} {c} {n} {other} wide passed lt at inside on is ge = (
   ge,
   let u = counted (tree p) other (tent_cells p) inside on in omega arith,
-  rw (is, at-passing (tree p) (tent_cells p) other inside on) (steps-has p.size c 4 n other lt (sym at)),
+  rw (is, at-passing (tree p) (tent_cells p) inside on) (steps-has p.size c 4 n lt (sym at)),
   λ j from_j less. false_from_ne_true (tree_beside p c j) (λ near.
       let u = counted (tree p) other (tent_cells p) inside on in
       let w = passing-at (tree p) (tent_cells p) j (omega (arith, passing-long (tree p) (tent_cells p))) in
@@ -55,7 +55,7 @@ next-found p c from n other number wide passed lt at inside on is ge = (
         | inr late ↦ elim (cases_eq s.0 n) [
           | inl same ↦ let e : other ≡ slice_index (trees_of p) j = some-inj (at ∙ rw same at s.2) in let f = ap (count_below (tree p)) e in omega arith
           | inr after ↦
-              let up : other < slice_index (trees_of p) j = ascends p.size c other (slice_index (trees_of p) j) n s.0 (omega arith) (omega arith) s.1 (sym at) s.2 in
+              let up : other < slice_index (trees_of p) j = ascends p.size c other n s.0 (omega arith) (omega arith) s.1 (sym at) s.2 in
               let f = counted (tree p) other (slice_index (trees_of p) j) up on in
               omega arith
         ]
@@ -80,12 +80,12 @@ pub treeless-all : (p : Tents) (c n : ℕ) → IsTreeless p c n → 4 ≤ n → 
 treeless-all p c n passed ge = sym (any-none (tree p) (steps p.size c 4) (λ d on. let s = steps-some p.size c 4 d on in let lt = s.1 in passed.none s.0 d (omega arith) s.2))
 
 pub tree-found : (p : Tents) (c n other : ℕ) → n < 4 → Some other ≡ step p.size c n → tree p other ≡ true → true ≡ list_any (tree p) (steps p.size c 4)
-tree-found p c n other lt at on = sym (any-here (tree p) (steps p.size c 4) other (steps-has p.size c 4 n other lt (sym at)) on)
+tree-found p c n other lt at on = sym (any-here (tree p) (steps p.size c 4) other (steps-has p.size c 4 n lt (sym at)) on)
 
 pub barred-tree : (p : Tents) (c : ℕ) → tree p c ≡ true → true ≡ is_barred p c
 unfolding is_barred
 barred-tree p c on = rw on refl
 
-pub barred-alone : (p : Tents) (c : ℕ) (beside : Bool) → tree p c ≡ false → beside ≡ list_any (tree p) (steps p.size c 4) → not beside ≡ is_barred p c
+pub barred-alone : (p : Tents) (c : ℕ) {beside : Bool} → tree p c ≡ false → beside ≡ list_any (tree p) (steps p.size c 4) → not beside ≡ is_barred p c
 unfolding is_barred
-barred-alone p c beside off is = rw (off, is) refl
+barred-alone p c off is = rw (off, is) refl

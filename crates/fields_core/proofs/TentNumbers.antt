@@ -14,11 +14,11 @@ passing-long test zero = refl
 passing-long test (suc n) = grind (arith, common_steps, passing-suc, length-append, cases_Bool, passing-long test n)
 
 -- the number of a place of the list
-pub at-passing : (test : ℕ → Bool) (n c : ℕ) → c < n → test c ≡ true → slice_index (passing test n) (count_below test c) ≡ c
-at-passing test zero c lt on = absurd (omega arith)
-at-passing test (suc n) c lt on = ap (λ l. slice_index l (count_below test c)) (passing-suc test n) ∙ elim (cases_lt c n) [
+pub at-passing : (test : ℕ → Bool) (n : ℕ) {c : ℕ} → c < n → test c ≡ true → slice_index (passing test n) (count_below test c) ≡ c
+at-passing test zero lt on = absurd (omega arith)
+at-passing test (suc n) {c} lt on = ap (λ l. slice_index l (count_below test c)) (passing-suc test n) ∙ elim (cases_lt c n) [
   | inl low ↦ get_or_append_left (passing test n) (cond (test n) (n ∷ []) []) 0 (count_below test c)
-      (omega (arith, counted test c n low on, passing-long test n)) ∙ at-passing test n c low on
+      (omega (arith, counted test c n low on, passing-long test n)) ∙ at-passing test n low on
   | inr high ↦
       let same : c ≡ n = omega arith in
       rw (same, rw same at on) (get_or-append_right (passing test n) (n ∷ []) (count_below test n) (count_below test n) 0 (passing-long test n) (omega arith)
@@ -33,7 +33,7 @@ pub record IsPassing (test : ℕ → Bool) (n r : ℕ) : Type 0 where
 pub passing-at : (test : ℕ → Bool) (n r : ℕ) → r < length (passing test n) → IsPassing test n r
 passing-at test n r lt =
     let w = numbered test n r (omega (arith, passing-long test n)) in
-    let at : slice_index (passing test n) r ≡ w.0 = rw w.3 at (at-passing test n w.0 w.1 w.2) in
+    let at : slice_index (passing test n) r ≡ w.0 = rw w.3 at (at-passing test n w.1 w.2) in
     record { below = rw at w.1; passes = rw at w.2; before = rw at w.3 }
 
 -- ---- the tents of a grid, one after another

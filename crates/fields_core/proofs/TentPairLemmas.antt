@@ -34,7 +34,7 @@ tents-distinct p g = distinct-filter (tent g) (range_with_len 0 (tent_cells p)) 
 
 pub tent-listed : (p : Tents) (g : List ℕ) (c : ℕ) → length g ≡ tent_cells p → tent g c ≡ true → has_place (tents_of p g) c ≡ true
 unfolding tents_of
-tent-listed p g c long on = place-kept (tent g) (range_with_len 0 (tent_cells p)) c (in-range (tent_cells p) c (tent-in g (tent_cells p) c long on)) on
+tent-listed p g c long on = place-kept (tent g) (range_with_len 0 (tent_cells p)) c (in-range c (tent-in g (tent_cells p) c long on)) on
 
 pub listed-tent : (p : Tents) (g : List ℕ) (c : ℕ) → has_place (tents_of p g) c ≡ true → tent g c ≡ true
 unfolding tents_of
@@ -44,9 +44,9 @@ listed-tent p g c on = (place-filter (tent g) (range_with_len 0 (tent_cells p)) 
 set-of : (p : Tents) (t c : ℕ) → t < tent_cells p → tree p c ≡ true → has_place (steps p.size t 4) c ≡ true → has_value (trees_beside p t) c ≡ true
 set-of p t c inside on beside = grind (arith, common_steps, beside-in, some-wide, get_or-map-range_with_len, and_from)
 
-pub pairs-from : (p : Tents) (g : List ℕ) (tree_of : ℕ → ℕ) → length g ≡ tent_cells p → IsPairedBy p g tree_of → can_be_paired p g ≡ true
+pub pairs-from : (p : Tents) (g : List ℕ) {tree_of : ℕ → ℕ} → length g ≡ tent_cells p → IsPairedBy p g tree_of → can_be_paired p g ≡ true
 unfolding can_be_paired tents_of
-pairs-from p g tree_of long is =
+pairs-from p g {tree_of} long is =
     test_from_filling (map (trees_beside p) (tents_of p g)) (λ chosen. names_none_twice chosen && leaves_none_out p chosen) chosen fills (and_from _ _ twice none_out)
   where
     chosen : List ℕ
@@ -74,11 +74,11 @@ pairs-from p g tree_of long is =
     none_out = grind (arith, common_steps, all_below-from, cases_Bool, or_right, place-map, tree_of, tents_of, tent-listed, or_left)
 
 -- the number of a tree, and the tree of a number
-tree-number : (p : Tents) (c : ℕ) → c < tent_cells p → tree p c ≡ true → (count_below (tree p) c < tree_count p) × (slice_index (trees_of p) (count_below (tree p) c) ≡ c)
-tree-number p c lt on = (counted (tree p) c (tent_cells p) lt on, at-passing (tree p) (tent_cells p) c lt on)
+tree-number : (p : Tents) {c : ℕ} → c < tent_cells p → tree p c ≡ true → (count_below (tree p) c < tree_count p) × (slice_index (trees_of p) (count_below (tree p) c) ≡ c)
+tree-number p {c} lt on = (counted (tree p) c (tent_cells p) lt on, at-passing (tree p) (tent_cells p) lt on)
 
-number-tree : (p : Tents) (r : ℕ) → r < tree_count p → IsPassing (tree p) (tent_cells p) r
-number-tree p r lt = passing-at (tree p) (tent_cells p) r (omega (arith, passing-long (tree p) (tent_cells p)))
+number-tree : (p : Tents) {r : ℕ} → r < tree_count p → IsPassing (tree p) (tent_cells p) r
+number-tree p {r} lt = passing-at (tree p) (tent_cells p) r (omega (arith, passing-long (tree p) (tent_cells p)))
 
 -- ---- each tent has a tree of its own, and there are as many trees
 module _ (p : Tents) (g mates : List ℕ) (long : length g ≡ tent_cells p) (whole : IsPairing (may_pair p (tents_of p g)) (length (tents_of p g)) (tree_count p) mates) (as_many : length (tents_of p g) ≡ tree_count p) where
@@ -89,23 +89,23 @@ module _ (p : Tents) (g mates : List ℕ) (long : length g ≡ tent_cells p) (wh
   listed : (c : ℕ) → tent g c ≡ true → (index_of (tents_of p g) c < length (tents_of p g)) × (slice_index (tents_of p g) (index_of (tents_of p g) c) ≡ c)
   listed c on = index-is (tents_of p g) c (tent-listed p g c long on)
 
-  number-of : (l : ℕ) → l < length (tents_of p g) → IsPassing (tree p) (tent_cells p) (slice_index mates l)
-  number-of l lt = number-tree p (slice_index mates l) (whole.in_range l lt)
+  number-of : {l : ℕ} → l < length (tents_of p g) → IsPassing (tree p) (tent_cells p) (slice_index mates l)
+  number-of {l} lt = number-tree p (whole.in_range l lt)
 
-  near : (l : ℕ) → l < length (tents_of p g) → has_place (steps p.size (slice_index (tents_of p g) l) 4) (slice_index (trees_of p) (slice_index mates l)) ≡ true
+  near : {l : ℕ} → l < length (tents_of p g) → has_place (steps p.size (slice_index (tents_of p g) l) 4) (slice_index (trees_of p) (slice_index mates l)) ≡ true
   unfolding may_pair
-  near l lt = whole.joined l lt
+  near {l} lt = whole.joined l lt
 
   each-paired : IsPairedBy p g tree_of
   unfolding tree_of
   each-paired = record {
-    is_tree = λ c lt on. (number-of (index_of (tents_of p g) c) (listed c on).0).passes;
-    is_beside = λ c lt on. let w = listed c on in subst (λ d. has_place (steps p.size d 4) (tree_of c) ≡ true) w.1 (near (index_of (tents_of p g) c) w.0);
+    is_tree = λ c lt on. (number-of (listed c on).0).passes;
+    is_beside = λ c lt on. let w = listed c on in subst (λ d. has_place (steps p.size d 4) (tree_of c) ≡ true) w.1 (near w.0);
     own = λ c d lc ld on_c on_d e.
         let v = listed c on_c in
         let w = listed d on_d in
-        let a = (number-of (index_of (tents_of p g) c) v.0).before in
-        let b = (number-of (index_of (tents_of p g) d) w.0).before in
+        let a = (number-of v.0).before in
+        let b = (number-of w.0).before in
         let same : slice_index mates (index_of (tents_of p g) c) ≡ slice_index mates (index_of (tents_of p g) d) = sym a ∙ ap (count_below (tree p)) e ∙ b in
         sym v.1 ∙ ap (slice_index (tents_of p g)) (whole.own (index_of (tents_of p g) c) (index_of (tents_of p g) d) v.0 w.0 same) ∙ w.1;
     none_out = λ d lt on. by d lt on;
@@ -113,8 +113,8 @@ module _ (p : Tents) (g mates : List ℕ) (long : length g ≡ tent_cells p) (wh
     where
       by : (d : ℕ) → d < tent_cells p → tree p d ≡ true → (c : ℕ) × (c < tent_cells p) × (tent g c ≡ true) × (tree_of c ≡ d)
       by d lt on =
-          let n = tree-number p d lt on in
-          let w = each-named (slice_index mates) (length (tents_of p g)) (count_below (tree p) d) (λ l low. let r = whole.in_range l low in omega arith) whole.own (omega (arith, n.0)) in
+          let n = tree-number p lt on in
+          let w = each-named (slice_index mates) (count_below (tree p) d) (λ l low. let r = whole.in_range l low in omega arith) whole.own (omega (arith, n.0)) in
           let is_tent = listed-tent p g (slice_index (tents_of p g) w.0) (has_place-here (tents_of p g) w.0 w.1) in
           let v = listed (slice_index (tents_of p g) w.0) is_tent in
           let same : index_of (tents_of p g) (slice_index (tents_of p g) w.0) ≡ w.0 = different-from (tents_of p g) (tents-distinct p g) (index_of (tents_of p g) (slice_index (tents_of p g) w.0)) w.0 v.0 w.1 v.1 in (
@@ -125,7 +125,7 @@ module _ (p : Tents) (g mates : List ℕ) (long : length g ≡ tent_cells p) (wh
           )
 
   pub whole-pairs : can_be_paired p g ≡ true
-  whole-pairs = pairs-from p g tree_of long each-paired
+  whole-pairs = pairs-from p g long each-paired
 
 -- ---- a pairing is a choice of a tree for each tent
 module _ (p : Tents) (g chosen : List ℕ) (is : IsGiven p g chosen) where
@@ -136,40 +136,40 @@ module _ (p : Tents) (g chosen : List ℕ) (is : IsGiven p g chosen) where
   right_of l = count_below (tree p) (slice_index chosen l)
 
   right-in : (l : ℕ) → l < length (tents_of p g) → right_of l < tree_count p
-  right-in l lt = let e = is.each l lt in (tree-number p (slice_index chosen l) e.0 e.1).0
+  right-in l lt = let e = is.each l lt in (tree-number p e.0 e.1).0
 
-  right-at : (l : ℕ) → l < length (tents_of p g) → slice_index (trees_of p) (right_of l) ≡ slice_index chosen l
-  right-at l lt = let e = is.each l lt in (tree-number p (slice_index chosen l) e.0 e.1).1
+  right-at : {l : ℕ} → l < length (tents_of p g) → slice_index (trees_of p) (right_of l) ≡ slice_index chosen l
+  right-at {l} lt = let e = is.each l lt in (tree-number p e.0 e.1).1
 
   right-own : (l m : ℕ) → l < length (tents_of p g) → m < length (tents_of p g) → right_of l ≡ right_of m → l ≡ m
   right-own l m ll lm e =
       let long = is.long in
-      chosen-different l m (omega arith) (omega arith) (sym (right-at l ll) ∙ ap (slice_index (trees_of p)) e ∙ right-at m lm)
+      chosen-different l m (omega arith) (omega arith) (sym (right-at ll) ∙ ap (slice_index (trees_of p)) e ∙ right-at lm)
 
   right-joined : (l : ℕ) → l < length (tents_of p g) → may_pair p (tents_of p g) l (right_of l) ≡ true
   unfolding may_pair
-  right-joined l lt = let e = is.each l lt in subst (λ d. has_place (steps p.size (slice_index (tents_of p g) l) 4) d ≡ true) (sym (right-at l lt)) e.2
+  right-joined l lt = let e = is.each l lt in subst (λ d. has_place (steps p.size (slice_index (tents_of p g) l) 4) d ≡ true) (sym (right-at lt)) e.2
 
-  chosen-whole : (short : List ℕ) → IsShortSet (may_pair p (tents_of p g)) (length (tents_of p g)) (tree_count p) short → ⊥
-  chosen-whole short few = no_choice (may_pair p (tents_of p g)) (length (tents_of p g)) (tree_count p) short few right_of right-in right-joined right-own
+  chosen-whole : {short : List ℕ} → IsShortSet (may_pair p (tents_of p g)) (length (tents_of p g)) (tree_count p) short → ⊥
+  chosen-whole {short} few = no_choice (may_pair p (tents_of p g)) (length (tents_of p g)) (tree_count p) short few right_of right-in right-joined right-own
 
   chosen-many : length (tents_of p g) ≡ tree_count p
   chosen-many =
       let long = is.long in
-      let a = few-below right_of (length (tents_of p g)) (tree_count p) right-in right-own in
-      let b = few-below (λ r. index_of chosen (slice_index (trees_of p) r)) (tree_count p) (length (tents_of p g)) (λ r lt. let w = at r lt in omega (arith, w.0)) own in
+      let a = few-below right_of right-in right-own in
+      let b = few-below (λ r. index_of chosen (slice_index (trees_of p) r)) {m = length (tents_of p g)} (λ r lt. let w = at r lt in omega (arith, w.0)) own in
       omega arith
     where
       at : (r : ℕ) → r < tree_count p → (index_of chosen (slice_index (trees_of p) r) < length chosen) × (slice_index chosen (index_of chosen (slice_index (trees_of p) r)) ≡ slice_index (trees_of p) r)
-      at r lt = let n = number-tree p r lt in index-is chosen (slice_index (trees_of p) r) (is.none_out (slice_index (trees_of p) r) n.below n.passes)
+      at r lt = let n = number-tree p lt in index-is chosen (slice_index (trees_of p) r) (is.none_out (slice_index (trees_of p) r) n.below n.passes)
 
       own : (r q : ℕ) → r < tree_count p → q < tree_count p → index_of chosen (slice_index (trees_of p) r) ≡ index_of chosen (slice_index (trees_of p) q) → r ≡ q
       own r q lr lq e =
           let same : slice_index (trees_of p) r ≡ slice_index (trees_of p) q = sym (at r lr).1 ∙ ap (slice_index chosen) e ∙ (at q lq).1 in
-          sym (number-tree p r lr).before ∙ ap (count_below (tree p)) same ∙ (number-tree p q lq).before
+          sym (number-tree p lr).before ∙ ap (count_below (tree p)) same ∙ (number-tree p lq).before
 
 pub short-unpaired : (p : Tents) (g short : List ℕ) → IsShortSet (may_pair p (tents_of p g)) (length (tents_of p g)) (tree_count p) short → can_be_paired p g ≡ false
-short-unpaired p g short few = false_from_ne_true (can_be_paired p g) (λ on. let w = given p g on in chosen-whole p g w.0 w.1 short few)
+short-unpaired p g short few = false_from_ne_true (can_be_paired p g) (λ on. let w = given p g on in chosen-whole p g w.0 w.1 few)
 
 pub others-unpaired : (p : Tents) (g : List ℕ) → (length (tents_of p g) ≡ tree_count p → ⊥) → can_be_paired p g ≡ false
 others-unpaired p g differ = false_from_ne_true (can_be_paired p g) (λ on. let w = given p g on in differ (chosen-many p g w.0 w.1))

@@ -1,36 +1,39 @@
 -- A rule set of count houses is lawful, by the laws of fillings.
-use Rattle.std.proofs.Common.{◌≡◌, ℕ, ◌<◌, Bool, true, not, ◌&&◌, List, slice_index, refl, sym, ◌∙◌, arith, inl, inr}
+use Rattle.std.proofs.Common.{◌≡◌, ℕ, zero, suc, ◌+◌, ◌<◌, Bool, true, not, ◌&&◌, List, [], ◌∷◌, map, slice_index, refl, sym, ◌∙◌, arith, inl, inr}
 use Rattle.std.proofs.lemmas.Bool.{cases_Bool, true≢false, and_parts, and_from, lt-ltb, ltb-true}
 use Rattle.grid_core.specs.Candidates.{Candidates, IsInside, IsWithin, all_of, single}
 use Rattle.grid_core.specs.Grids.{IsGrid}
 use Rattle.grid_core.proofs.GridLemmas.{single-is}
 use Rattle.engine_core.specs.RuleSystem.{IsLawful, after}
+use Rattle.std.proofs.lemmas.List.{length-map}
+use Rattle.engine_core.specs.HouseIndex.{scope_of}
+use Rattle.engine_core.specs.ListedHouses.{AreScopesOf, most_turns}
 use Rattle.engine_core.specs.PlaceLaws.{has_place-here}
 use Rattle.engine_core.specs.Filling.{strikes_by_fillings}
 use Rattle.engine_core.specs.HouseSets.{strikes_at, Decision}
 use Rattle.engine_core.specs.HouseSetsLaws.{strikes_at-inside, strikes_at-in_scope, by_fillings-monotone, by_fillings-settled, by_fillings-closed}
 use Rattle.fields_core.specs.Count.{counts_between}
-use Rattle.fields_core.specs.CountHouse.{CountHouse, count_house_of, meets, strikes_of, after_house, start_of, count_puzzle, IsCounting}
+use Rattle.fields_core.specs.CountLists.{house_places}
+use Rattle.fields_core.specs.CountHouse.{CountHouse, count_house_of, meets, strikes_of, start_of, count_puzzle, IsCounting}
 
-pub after-house : (cells : ℕ) (blocked : ℕ → Bool) (houses : List CountHouse)
-    (is_solution : List ℕ → Bool) (h : ℕ) (K : Candidates)
-    → after (count_puzzle cells blocked houses is_solution) h K ≡ after_house (count_house_of houses h) K
-unfolding after after_house
-after-house cells blocked houses is_solution h K = refl
+pub places-at : (houses : List CountHouse) (h : ℕ) → scope_of (map house_places houses) h ≡ (count_house_of houses h).places
+places-at [] h = refl
+places-at (house ∷ houses) zero = refl
+places-at (house ∷ houses) (suc h) = places-at houses h
 
-start-within : (cells : ℕ) (blocked : ℕ → Bool) → IsWithin cells 2 (start_of cells blocked)
+start-within : {cells : ℕ} (blocked : ℕ → Bool) → IsWithin cells 2 (start_of cells blocked)
 unfolding start_of all_of
-start-within cells blocked c v on =
+start-within {cells} blocked c v on =
     let w = and_parts _ _ on in
     let u = and_parts _ _ w.0 in
     (ltb-true c cells u.0, ltb-true v 2 u.1)
 
 -- a grid that leaves blocked cells at 0 lies inside the start
-start-single : (cells : ℕ) (blocked : ℕ → Bool) (g : List ℕ) → IsGrid cells 2 g
+start-single : {cells : ℕ} (blocked : ℕ → Bool) (g : List ℕ) → IsGrid cells 2 g
     → ((c : ℕ) → c < cells → blocked c ≡ true → slice_index g c ≡ 0)
     → IsInside (single g) (start_of cells blocked)
 unfolding start_of all_of
-start-single cells blocked g grid zero_at c v on =
+start-single {cells} blocked g grid zero_at c v on =
     let w = single-is g c v on in
     let small = grid.each_value c 0 w.0 in
     let lt : c < cells = omega (arith, w.0, grid.each_cell) in
@@ -39,6 +42,15 @@ start-single cells blocked g grid zero_at c v on =
       | inl is ↦ let z : v ≡ 0 = sym w.1 ∙ zero_at c lt is in rw (is, z) refl
       | inr free ↦ rw free refl
     ])
+
+-- the lists of the houses' cells
+pub count-scopes : (cells : ℕ) (blocked : ℕ → Bool) (houses : List CountHouse)
+    (is_solution : List ℕ → Bool) → AreScopesOf (count_puzzle cells blocked houses is_solution) (map house_places houses)
+count-scopes cells blocked houses is_solution = record { as_many = sym (length-map houses house_places); each = λ h. sym (places-at houses h) }
+
+pub count-bound : (cells : ℕ) (blocked : ℕ → Bool) (houses : List CountHouse)
+    (is_solution : List ℕ → Bool) → cells + 1 ≡ most_turns (count_puzzle cells blocked houses is_solution) (map house_places houses)
+count-bound cells blocked houses is_solution = omega arith
 
 pub count-lawful : (cells : ℕ) (blocked : ℕ → Bool) (houses : List CountHouse)
     (is_solution : List ℕ → Bool) → IsCounting cells blocked houses is_solution
@@ -49,7 +61,7 @@ count-lawful cells blocked houses is_solution counting = record {
       strikes_at-inside 2 (places h) (decides h) (by_fillings-monotone (holds h)) K L inside c v struck;
   strikes_in_scope = λ h K c v lt struck. strikes_at-in_scope 2 (places h) (decides h) K c v struck;
   solutions_start = λ g grid good.
-      start-single cells blocked g grid (counting.blocked_zero g grid good);
+      start-single blocked g grid (counting.blocked_zero g grid good);
   solutions_closed = λ g grid good h c v lt on. by_fillings-closed 2 (places h) (holds h) g
       (λ k less. omega (arith, grid.each_cell, (counting.are_houses h lt).within (slice_index (places h) k) (has_place-here (places h) k less)))
       (λ d less. grid.each_value d 0 less) (counting.meets_each g grid good h lt) c v on;
@@ -61,7 +73,7 @@ count-lawful cells blocked houses is_solution counting = record {
   some_values = omega arith;
   few_values = omega arith;
   few_cells = counting.few_cells;
-  start_within = start-within cells blocked;
+  start_within = start-within blocked;
   scope_within = λ h c lt member. (counting.are_houses h lt).within c member;
   scope_distinct = λ h j k lt lj lk e. (counting.are_houses h lt).different j k lj lk e;
 }

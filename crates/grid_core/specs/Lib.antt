@@ -7,3 +7,5 @@ pub mod Regions
 pub mod Lines
 pub mod Pairings
 pub mod Augmenting
+pub mod Words
+pub mod Planes

@@ -47,11 +47,15 @@ module _ (t : Track) (set : ℕ) (sets : List Set) where
   unfolding some_leads leads
   leads_on test p =
       some_split (has_bit set 0) (has_bit set 1) sets (λ f. leads t p f && test f) ∙ ap₂ (λ x y. (has_bit set 0 && x) || (has_bit set 1 && y))
-      (some_same sets (λ f. leads t p (0 ∷ f) && test (0 ∷ f)) (λ f. (t.stay p && (leads t p f && test (0 ∷ f))) || (t.white p && (leads t (suc p) f && test (0 ∷ f))))
+      (some_same sets (λ f. leads t p (0 ∷ f) && test (0 ∷ f))
+      (λ f. (t.stay p && (leads t p f && test (0 ∷ f)))
+      || (t.white p && (leads t (suc p) f && test (0 ∷ f))))
       (λ f. spread (t.stay p) (leads t p f) (t.white p) (leads t (suc p) f) (test (0 ∷ f)))
       ∙ some_or sets (λ f. t.stay p && (leads t p f && test (0 ∷ f))) (λ f. t.white p && (leads t (suc p) f && test (0 ∷ f)))
       ∙ ap₂ (λ x y. x || y) (some_and sets (t.stay p) (λ f. leads t p f && test (0 ∷ f))) (some_and sets (t.white p) (λ f. leads t (suc p) f && test (0 ∷ f))))
-      (some_same sets (λ f. leads t p (1 ∷ f) && test (1 ∷ f)) (λ f. t.black p && (leads t (suc p) f && test (1 ∷ f))) (λ f. and_assoc (t.black p) (leads t (suc p) f) (test (1 ∷ f)))
+      (some_same sets (λ f. leads t p (1 ∷ f) && test (1 ∷ f))
+      (λ f. t.black p && (leads t (suc p) f && test (1 ∷ f)))
+      (λ f. and_assoc (t.black p) (leads t (suc p) f) (test (1 ∷ f)))
       ∙ some_and sets (t.black p) (λ f. leads t (suc p) f && test (1 ∷ f)))
 
   -- by a test of the cells after it
@@ -78,7 +82,7 @@ module _ (t : Track) (set : ℕ) (sets : List Set) where
 
 -- ---- all places that were reached
 -- a way on from a reached place is a way on from a place that the cell reaches
-module _ (t : Track) (set n : ℕ) (below : IsBelow n t) (reached new way after : ℕ → Bool) (leads_to : (p : ℕ) → p < n → new p ≡ led t set reached p)
+module _ {t : Track} (set n : ℕ) (below : IsBelow n t) (reached new way after : ℕ → Bool) (leads_to : (p : ℕ) → p < n → new p ≡ led t set reached p)
     (is : (p : ℕ) → way p ≡ ahead t set after p) where
   low : (p : ℕ) → goes_on t set p ≡ true → suc p < n
   unfolding goes_on

@@ -9,7 +9,7 @@ use Rattle.grid_core.specs.Lines.{lines_of, line_places}
 use Rattle.engine_core.specs.RuleSystem.{has_place, IsNext}
 use Rattle.pattern_core.specs.LineLaws.{column_has, row_has, lines_with}
 
-module _ (size : Extent) (w place from : ℕ) (same : w ≡ size.w) (within : place < size.w * size.h) where
+module _ (size : Extent) {w place : ℕ} (from : ℕ) (same : w ≡ size.w) (within : place < size.w * size.h) where
   x_low : place % w < size.w
   x_low = grind (arith, common_steps, cases_Bool, mod-lt)
 
@@ -20,10 +20,10 @@ module _ (size : Extent) (w place from : ℕ) (same : w ≡ size.w) (within : pl
   y_low = grind (arith, common_steps, cases_Bool, cases_lt, cell, mul-le-mul_right)
 
   in_column : has_place (line_places size (place % w)) place ≡ true
-  in_column = ap (has_place (line_places size (place % w))) (sym cell) ∙ column_has size (place % w) (place / w) x_low y_low
+  in_column = ap (has_place (line_places size (place % w))) (sym cell) ∙ column_has size x_low y_low
 
   in_row : has_place (line_places size (size.w + place / w)) place ≡ true
-  in_row = ap (has_place (line_places size (size.w + place / w))) (sym cell) ∙ row_has size (place % w) (place / w) x_low y_low
+  in_row = ap (has_place (line_places size (size.w + place / w))) (sym cell) ∙ row_has size x_low y_low
 
   no_other : (line : ℕ) → has_place (line_places size line) place ≡ true → (line ≡ place % w) ⊎ (line ≡ size.w + place / w)
   no_other line on = rw same (lines_with size place line on)

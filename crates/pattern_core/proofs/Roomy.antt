@@ -53,7 +53,9 @@ module _ (d a : ℕ) (cells : List ℕ) where
   before k lt = get_or_append_left (replicate d a) cells 0 k (omega (arith, length-replicate {A = ℕ} d a)) ∙ get_or-replicate d k a 0 lt
 
   behind : (k : ℕ) → get_or (replicate d a ++ cells) (d + k) 0 ≡ get_or cells k 0
-  behind k = get_or-append_right (replicate d a) cells d (d + k) 0 (length-replicate d a) (omega arith) ∙ ap (λ j. get_or cells j 0) (let z : d + k - d ≡ k = omega arith in z)
+  behind k =
+      get_or-append_right (replicate d a) cells d (d + k) 0 (length-replicate d a) (omega arith)
+      ∙ ap (λ j. get_or cells j 0) (let z : d + k - d ≡ k = omega arith in z)
 
   stays_small : a < 2 → ((j : ℕ) → get_or cells j 0 < 2) → (j : ℕ) → get_or (replicate d a ++ cells) j 0 < 2
   stays_small low small j = grind (arith, common_steps, cases_Bool, before, behind, cases_lt)
@@ -112,24 +114,24 @@ alone m some = record {
 abbrev Begins : List ℕ → ℕ → ℕ → Type 0
 Begins clue m n = (f : Fitting (m ∷ clue) n) × ((k : ℕ) → k < m → get_or f.cells k 0 ≡ 1)
 
-run_and : (clue : List ℕ) (m n : ℕ) → Positive (m ∷ clue) → m < n → Fitting clue (n - m - 1) → Begins clue m n
-run_and clue m n p lt f = subst (Begins clue m) (let z : m + suc (n - m - 1) ≡ n = omega arith in z)
+run_and : {clue : List ℕ} (m n : ℕ) → Positive (m ∷ clue) → m < n → Fitting clue (n - m - 1) → Begins clue m n
+run_and {clue} m n p lt f = subst (Begins clue m) (let z : m + suc (n - m - 1) ≡ n = omega arith in z)
     (longer_by m p.0 f, λ k low. before m 1 (0 ∷ f.cells) k low)
 
-blank : (n : ℕ) → Fitting [] n
-blank n = subst (Fitting []) (let z : n + 0 ≡ n = omega arith in z) (whiter n empty)
+blank : {n : ℕ} → Fitting [] n
+blank {n} = subst (Fitting []) (let z : n + 0 ≡ n = omega arith in z) (whiter n empty)
 
 begins : (clue : List ℕ) (m n : ℕ) → Positive (m ∷ clue) → used (m ∷ clue) ≤ n + 1 → Begins clue m n
 begins [] m n p fits = elim (cases_lt m n) [
-  | inl lt ↦ run_and [] m n p lt (blank (n - m - 1))
+  | inl lt ↦ run_and m n p lt blank
   | inr ge ↦ subst (Begins [] m) (let z : m + 0 ≡ n = omega arith in z) (alone m p.0, λ k lt. before m 1 [] k lt)
 ]
-begins (x ∷ clue) m n p fits = run_and (x ∷ clue) m n p (omega arith) (begins clue x (n - m - 1) p.1 (omega arith)).0
+begins (x ∷ clue) m n p fits = run_and m n p (omega arith) (begins clue x (n - m - 1) p.1 (omega arith)).0
 
 -- a clue that fits has a filling
-fill : (clue : List ℕ) (n : ℕ) → Positive clue → used clue ≤ n + 1 → Fitting clue n
-fill [] n p fits = blank n
-fill (m ∷ clue) n p fits = (begins clue m n p fits).0
+fill : (clue : List ℕ) {n : ℕ} → Positive clue → used clue ≤ n + 1 → Fitting clue n
+fill [] p fits = blank
+fill (m ∷ clue) {n} p fits = (begins clue m n p fits).0
 
 placed : {clue : List ℕ} {n k v : ℕ} (m j : ℕ) → Shows clue n k v → n ≡ m → k ≡ j → Shows clue m j v
 placed {clue} {n} {k} {v} m j s n_is k_is = subst (λ i. Shows clue i j v) n_is (subst (λ i. Shows clue n i v) k_is s)
@@ -139,11 +141,11 @@ pub white : (clue : List ℕ) (n k s : ℕ) → Positive clue → AtMost s clue 
 white [] n k s p most room lt = placed n k (whiter n empty, before n 0 [] k lt) (omega arith) refl
 white (m ∷ clue) n k s p most room lt = elim (cases_lt k m) [
   | inl low ↦
-      let f : Fitting (m ∷ clue) (n - k - 1) = fill (m ∷ clue) (n - k - 1) p (let z = most.0 in omega arith) in
+      let f : Fitting (m ∷ clue) (n - k - 1) = fill (m ∷ clue) p (let z = most.0 in omega arith) in
       placed n k (whiter (k + 1) f, before (k + 1) 0 f.cells k (omega arith)) (omega arith) refl
   | inr high ↦ elim (cases_eq k m) [
     | inl e ↦
-        let f : Fitting clue (n - m - 1) = fill clue (n - m - 1) p.1 (omega arith) in
+        let f : Fitting clue (n - m - 1) = fill clue p.1 (omega arith) in
         placed n k (longer_by m p.0 f, behind m 1 (0 ∷ f.cells) 0) (omega arith) (omega arith)
     | inr ne ↦
         let w = white clue (n - m - 1) (k - m - 1) s p.1 most.1 (omega arith) (omega arith) in
@@ -177,7 +179,7 @@ nothing_struck clue sets k v s p some most one room both lt low = by clue v p so
       f.cells,
       record {
         fills = record { len = f.long; each = λ j inside. either (get_or f.cells j 0) (f.small j) (get_or sets j []) (both j inside) };
-        holds_true = has_runs-from clue f.cells f.are;
+        holds_true = has_runs-from f.cells f.are;
         has_it = shown;
       },
     )
@@ -187,7 +189,9 @@ nothing_struck clue sets k v s p some most one room both lt low = by clue v p so
         either (suc zero) small set both = both.1
         either (suc (suc u)) small set both = absurd (omega arith)
 
-    by : (clue : List ℕ) (v : ℕ) → Positive clue → 0 < length clue → AtMost s clue → used clue + s ≤ length sets + 1 → v < 2 → strikes_by_fillings (has_runs clue) sets k v ≡ false
+    by : (clue : List ℕ) (v : ℕ) → Positive clue → 0 < length clue → AtMost s clue
+        → used clue + s ≤ length sets + 1 → v < 2
+        → strikes_by_fillings (has_runs clue) sets k v ≡ false
     by clue zero p some most room low = by_filling clue 0 (white clue (length sets) k s p most room lt)
     by [] (suc zero) p some most room low = absurd (omega arith)
     by (m ∷ clue) (suc zero) p some most room low = by_filling (m ∷ clue) 1 (black clue m (length sets) k p (omega arith) lt)

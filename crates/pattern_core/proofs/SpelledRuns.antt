@@ -114,22 +114,26 @@ next_left spell p = drop-drop 1 p spell ∙ ap (λ n. drop n spell) (let z : p +
 black_not_white : (v : ℕ) → eqb v 1 ≡ true → eqb v 0 ≡ false
 black_not_white v on = ne_eqb v 0 (λ e. let one = eqb-true v 1 on in absurd (omega arith))
 
-leads_left : (spell cells : List ℕ) (p : ℕ) → p ≤ length spell → leads (track_of spell) p cells ≡ matches (may_stay spell p) (drop p spell) cells
+leads_left : (spell cells : List ℕ) {p : ℕ} → p ≤ length spell → leads (track_of spell) p cells ≡ matches (may_stay spell p) (drop p spell) cells
 unfolding leads track_of may_stay matches
-leads_left spell [] p le = grind (arith, common_steps, cases_Bool, cases_eq, eq-eqb, ne_eqb, le-leb, lt-leb, length-drop)
-leads_left spell (zero ∷ cells) p le = ap₂ (λ a b. a || b)
-    (and_same (may_stay spell p) (leads (track_of spell) p cells) (matches true (drop p spell) cells) (λ on. leads_left spell cells p le ∙ ap (λ b. matches b (drop p spell) cells) on))
+leads_left spell [] le = grind (arith, common_steps, cases_Bool, cases_eq, eq-eqb, ne_eqb, le-leb, lt-leb, length-drop)
+leads_left spell (zero ∷ cells) {p} le = ap₂ (λ a b. a || b)
+    (and_same (may_stay spell p) (leads (track_of spell) p cells)
+    (matches true (drop p spell) cells)
+    (λ on. leads_left spell cells le ∙ ap (λ b. matches b (drop p spell) cells) on))
     (and_same (eqb (get_or spell p 2) 0) (leads (track_of spell) (suc p) cells) (matches true (drop 1 (drop p spell)) cells) (λ on.
-    leads_left spell cells (suc p) (place_low spell p 0 (omega arith) on) ∙ ap₂ (λ b l. matches b l cells) on (sym (next_left spell p)))
+    leads_left spell cells (place_low spell p 0 (omega arith) on) ∙ ap₂ (λ b l. matches b l cells) on (sym (next_left spell p)))
     ∙ ap (λ v. eqb v 0 && matches true (drop 1 (drop p spell)) cells) (sym (left_first spell p)))
-leads_left spell (suc x ∷ cells) p le =
+leads_left spell (suc x ∷ cells) {p} le =
     and_same (eqb (get_or spell p 2) 1) (leads (track_of spell) (suc p) cells) (matches false (drop 1 (drop p spell)) cells) (λ on.
-    leads_left spell cells (suc p) (place_low spell p 1 (omega arith) on) ∙ ap₂ (λ b l. matches b l cells) (black_not_white (get_or spell p 2) on) (sym (next_left spell p)))
+    leads_left spell cells (place_low spell p 1 (omega arith) on)
+    ∙ ap₂ (λ b l. matches b l cells) (black_not_white (get_or spell p 2) on)
+    (sym (next_left spell p)))
     ∙ ap (λ v. eqb v 1 && matches false (drop 1 (drop p spell)) cells) (sym (left_first spell p))
 
 pub leads_runs : (clue cells : List ℕ) → AllByRecursion (λ n. 0 < n) clue → leads (track_of (spelled clue)) 0 cells ≡ has_runs clue cells
 unfolding has_runs may_stay
-leads_runs clue cells positive = leads_left (spelled clue) cells 0 (omega arith) ∙ (both cells).0 clue positive
+leads_runs clue cells positive = leads_left (spelled clue) cells {p = 0} (omega arith) ∙ (both cells).0 clue positive
 
 -- what a visit strikes, by the track
 pub strikes_by_track : (clue : List ℕ) (sets : List Set) (k v : ℕ) → AllByRecursion (λ n. 0 < n) clue
@@ -143,6 +147,6 @@ unfolding spelled
 length-spelled [] = refl
 length-spelled (n ∷ clue) = omega (arith, length-append (replicate n 1) (0 ∷ spelled clue), length-replicate {A = ℕ} n 1, length-spelled clue)
 
-pub track_below : (spell : List ℕ) (n : ℕ) → length spell < n → IsBelow n (track_of spell)
+pub track_below : (spell : List ℕ) {n : ℕ} → length spell < n → IsBelow n (track_of spell)
 unfolding track_of
-track_below spell n fits = grind (arith, common_steps, cases_Bool, place_low)
+track_below spell fits = grind (arith, common_steps, cases_Bool, place_low)

@@ -22,13 +22,17 @@ last_cell [] x = refl
 last_cell (y ∷ cells) x = last_cell cells x
 
 -- a word with the place of the new cell
-new_place : (cells : List ℕ) (v : ℕ) (old next new : ℕ → Bool) → ((p : ℕ) → old p ≡ eqb (get_or cells p 2) v) → ((p : ℕ) → next p ≡ eqb p (length cells)) → v < 2
+new_place : (cells : List ℕ) (v : ℕ) (old next new : ℕ → Bool)
+    → ((p : ℕ) → old p ≡ eqb (get_or cells p 2) v) → ((p : ℕ) → next p ≡ eqb p (length cells))
+    → v < 2
     → ((p : ℕ) → new p ≡ (old p || next p)) → (p : ℕ) → new p ≡ eqb (get_or (cells ++ v ∷ []) p 2) v
 new_place cells v old next new is after small each p =
     grind (arith, common_steps, cases_Bool, cases_eq, eq-eqb, last_cell, more_cells, ne_eqb, or-false, or-true)
 
 -- the other word stays
-old_place : (cells : List ℕ) (x v : ℕ) (old : ℕ → Bool) → x < 2 → v < 2 → (x ≡ v → ⊥) → ((p : ℕ) → old p ≡ eqb (get_or cells p 2) v) → (p : ℕ) → old p ≡ eqb (get_or (cells ++ x ∷ []) p 2) v
+old_place : (cells : List ℕ) (x v : ℕ) (old : ℕ → Bool) → x < 2 → v < 2 → (x ≡ v → ⊥)
+    → ((p : ℕ) → old p ≡ eqb (get_or cells p 2) v) → (p : ℕ)
+    → old p ≡ eqb (get_or (cells ++ x ∷ []) p 2) v
 old_place cells x v old few small other is p = grind (arith, common_steps, cases_Bool, cases_eq, get_or_past, last_cell, more_cells, ne_eqb)
 
 -- the place after it
@@ -37,7 +41,8 @@ next_place : (cells : List ℕ) (x n : ℕ) (next new : ℕ → Bool) → suc (l
 unfolding one_on
 next_place cells x n next new fits after within past p = grind (arith, common_steps, cases_Bool, cases_eq, cases_lt, eq-eqb, length-append, ne_eqb)
 
-module _ (A : Type 0) (has : A → ℕ → Bool) (n : ℕ) (cells : List ℕ) (white black next new on : A) (s : IsSpelling has cells white black next) (fits : suc (length cells) < n)
+module _ (A : Type 0) {has : A → ℕ → Bool} {n : ℕ} {cells : List ℕ} {white black next new on : A}
+    (s : IsSpelling has cells white black next) (fits : suc (length cells) < n)
     (within : (p : ℕ) → p < n → has on p ≡ one_on (has next) p) (past : (p : ℕ) → n ≤ p → has on p ≡ false) where
   pub spelling_black : ((p : ℕ) → has new p ≡ (has black p || has next p)) → IsSpelling has (cells ++ 1 ∷ []) white new on
   spelling_black each = record {
@@ -53,10 +58,12 @@ module _ (A : Type 0) (has : A → ℕ → Bool) (n : ℕ) (cells : List ℕ) (w
     nexts = next_place cells 0 n (has next) (has on) fits s.nexts within past;
   }
 
-pub spelling_none : (A : Type 0) (has : A → ℕ → Bool) (white black next : A) → ((p : ℕ) → has white p ≡ false) → ((p : ℕ) → has black p ≡ false) → ((p : ℕ) → has next p ≡ eqb p 0)
+pub spelling_none : (A : Type 0) {has : A → ℕ → Bool} {white black next : A}
+    → ((p : ℕ) → has white p ≡ false) → ((p : ℕ) → has black p ≡ false)
+    → ((p : ℕ) → has next p ≡ eqb p 0)
     → IsSpelling has (spelled []) white black next
 unfolding spelled
-spelling_none A has white black next w b f = record { whites = w; blacks = b; nexts = f }
+spelling_none A w b f = record { whites = w; blacks = b; nexts = f }
 
 -- one more black cell of a run, and its white cell
 pub one_more : (cells : List ℕ) (k : ℕ) → (cells ++ replicate k 1) ++ 1 ∷ [] ≡ cells ++ replicate (k + 1) 1
@@ -82,12 +89,15 @@ module _ (front clue : List ℕ) (k : ℕ) (lt : k < length clue) (so_far : fron
       omega (arith, long, parts, black, length-append (front ++ run) (spelled (drop (k + 1) clue)), length-replicate {A = ℕ} (get_or clue k 0) 1, length-spelled clue)
 
 -- ---- the track
-pub track_spelled : (A : Type 0) (has : A → ℕ → Bool) (n : ℕ) (cells : List ℕ) (white black next stay on ends first back : A) → length cells < n → IsSpelling has cells white black next
-    → ((p : ℕ) → p < n → has on p ≡ one_on (has white) p) → ((p : ℕ) → n ≤ p → has on p ≡ false) → ((p : ℕ) → has first p ≡ eqb p 0) → ((p : ℕ) → has stay p ≡ (has on p || has first p))
+pub track_spelled : {A : Type 0} {has : A → ℕ → Bool} {n : ℕ} {cells : List ℕ}
+    {white black next : A} (stay on ends first back : A) → length cells < n
+    → IsSpelling has cells white black next
+    → ((p : ℕ) → p < n → has on p ≡ one_on (has white) p) → ((p : ℕ) → n ≤ p → has on p ≡ false)
+    → ((p : ℕ) → has first p ≡ eqb p 0) → ((p : ℕ) → has stay p ≡ (has on p || has first p))
     → ((p : ℕ) → has back p ≡ has next (suc p)) → ((p : ℕ) → has ends p ≡ (has next p || has back p))
     → ◌≡◌ {A = Track} (record { stay = has stay; white = has white; black = has black; ends = has ends }) (track_of cells)
 unfolding track_of may_stay one_on
-track_spelled A has n cells white black next stay on ends first back fits s within past one stay_is back_is ends_is =
+track_spelled stay on ends first back fits s within past one stay_is back_is ends_is =
     grind (arith, common_steps, cases_Bool, cases_lt, fun_ext, get_or_past, ne_eqb, or-false, or-true)
 
 -- ---- the clue of a track
@@ -119,12 +129,12 @@ spelled_runs (m ∷ clue) n positive fits =
     ∙ ap (λ (l : List ℕ). m ∷ l) (spelled_runs clue (n - m - 1) positive.1 (omega arith))
 
 -- a clue is that of its track
-pub clue_back : (clue : List ℕ) (n : ℕ) (t : Track) → AllByRecursion (λ k. 0 < k) clue → used clue < n → t ≡ track_of (spelled clue) → clue_along n t ≡ clue
+pub clue_back : {clue : List ℕ} {n : ℕ} {t : Track} → AllByRecursion (λ k. 0 < k) clue → used clue < n → t ≡ track_of (spelled clue) → clue_along n t ≡ clue
 unfolding clue_along track_of
-clue_back clue n t positive fits is = ap (λ (u : Track). runs (cells_from u.black n 0)) is ∙ spelled_runs clue n positive (omega arith)
+clue_back {clue} {n} positive fits is = ap (λ (u : Track). runs (cells_from u.black n 0)) is ∙ spelled_runs clue n positive (omega arith)
 
 pub track_under : (n : ℕ) (t : Track) → IsTrack n t → IsBelow n t
-track_under n t is = subst (IsBelow n) (sym is.spells) (track_below (spelled (clue_along n t)) n (omega (arith, is.fits, length-spelled (clue_along n t))))
+track_under n t is = subst (IsBelow n) (sym is.spells) (track_below (spelled (clue_along n t)) (omega (arith, is.fits, length-spelled (clue_along n t))))
 
-pub track_of_clue : (clue : List ℕ) (n : ℕ) (t : Track) → AllByRecursion (λ k. 0 < k) clue → used clue < n → t ≡ track_of (spelled clue) → IsTrack n t
-track_of_clue clue n t positive fits is = grind (arith, common_steps, cases_Bool, clue_back)
+pub track_of_clue : (clue : List ℕ) {n : ℕ} {t : Track} → AllByRecursion (λ k. 0 < k) clue → used clue < n → t ≡ track_of (spelled clue) → IsTrack n t
+track_of_clue clue positive fits is = grind (arith, common_steps, cases_Bool, clue_back)

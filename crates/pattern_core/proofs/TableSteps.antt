@@ -47,7 +47,7 @@ leads_end : (t : Track) (p : ℕ) → some_leads t [] any_cells p ≡ t.ends p
 unfolding some_leads some_filling leads any_cells
 leads_end t p = and-true (t.ends p)
 
-module _ (A : Type 0) (has : A → ℕ → Bool) (t : Track) (sets : List ℕ) (rows : List A) where
+module _ {A : Type 0} (has : A → ℕ → Bool) (t : Track) (sets : List ℕ) (rows : List A) where
   pub last_row : (ends : A) → ((p : ℕ) → has ends p ≡ t.ends p) → length sets < length rows → AreRows has t sets (set rows (length sets) ends) (length sets)
   last_row ends same room = record {
     room = omega (arith, length-set rows (length sets) ends);
@@ -62,9 +62,9 @@ module _ (A : Type 0) (has : A → ℕ → Bool) (t : Track) (sets : List ℕ) (
       → some_leads t (drop (at + 1) (sets_of sets)) any_cells ≡ has next
   row_next from at next all low lt read = fun_ext λ p. sym (ap (λ x. has x p) read ∙ all.row (at + 1) p next low (omega arith))
 
-  pub one_row : (at : ℕ) (row next : A) → AreRows has t sets rows (at + 1) → at < length sets → next ≡ get_or rows (at + 1) next
+  pub one_row : (at : ℕ) (row : A) {next : A} → AreRows has t sets rows (at + 1) → at < length sets → next ≡ get_or rows (at + 1) next
       → ((p : ℕ) → has row p ≡ ahead t (get_or sets at 0) (has next) p) → AreRows has t sets (set rows at row) at
-  one_row at row next rest lt read is = record {
+  one_row at row {next} rest lt read is = record {
     room = let r = rest.room in omega (arith, length-set rows at row);
     row = λ i p w from upto. elim (cases_eq i at) [
       | inl e ↦ ap (λ j. has (get_or (set rows at row) j w) p) e ∙ ap (λ x. has x p) (get_or-set_same rows at row w (let r = rest.room in omega arith)) ∙ is p
@@ -75,30 +75,30 @@ module _ (A : Type 0) (has : A → ℕ → Bool) (t : Track) (sets : List ℕ) (
   }
 
 -- ---- the places reached
-pub at_first : (n : ℕ) (first way : ℕ → Bool) → 0 < n → ((p : ℕ) → first p ≡ eqb p 0) → any_below (λ p. first p && way p) n ≡ way 0
-at_first n first way some is = same_tests (any_below (λ p. first p && way p) n) (way 0)
+pub at_first : {n : ℕ} (first way : ℕ → Bool) → 0 < n → ((p : ℕ) → first p ≡ eqb p 0) → any_below (λ p. first p && way p) n ≡ way 0
+at_first {n} first way some is = same_tests (any_below (λ p. first p && way p) n) (way 0)
     (λ on.
     let w = any_below-some (λ p. first p && way p) n on in
     let u = and_parts (first w.0) (way w.0) w.2 in
     ap way (sym (eqb-true w.0 0 (sym (is w.0) ∙ u.0))) ∙ u.1)
     (λ on. any_below-here (λ p. first p && way p) n 0 some (and_from (first 0) (way 0) (is 0) on))
 
-pub reached_first : (n : ℕ) (t : Track) (sets : List ℕ) (first : ℕ → Bool) → 0 < n → ((p : ℕ) → first p ≡ eqb p 0) → AreReached n t sets first 0
-reached_first n t sets first some is = record { shown = λ test. at_first n first (some_leads t (sets_of sets) test) some is }
+pub reached_first : {n : ℕ} (t : Track) {sets : List ℕ} {first : ℕ → Bool} → 0 < n → ((p : ℕ) → first p ≡ eqb p 0) → AreReached n t sets first 0
+reached_first t {sets} {first} some is = record { shown = λ test. at_first first (some_leads t (sets_of sets) test) some is }
 
 pub reached_next : (n : ℕ) (t : Track) (sets : List ℕ) (reached new : ℕ → Bool) (at : ℕ) → IsBelow n t → at < length sets
     → ((p : ℕ) → p < n → new p ≡ led t (get_or sets at 0) reached p) → AreReached n t sets reached at → AreReached n t sets new (at + 1)
 reached_next n t sets reached new at below lt is r = record {
   shown = λ test.
-      ways_on t (get_or sets at 0) n below reached new (some_leads t (drop at (sets_of sets)) (λ cells. test (drop 1 cells)))
+      ways_on (get_or sets at 0) n below reached new (some_leads t (drop at (sets_of sets)) (λ cells. test (drop 1 cells)))
       (some_leads t (drop (at + 1) (sets_of sets)) test) is (way_next t sets at lt test)
       ∙ r.shown (λ cells. test (drop 1 cells)) ∙ ap (λ (h : List ℕ → Bool). some_leads t (sets_of sets) h 0) (fun_ext λ cells. ap test (drop-drop 1 at cells));
 }
 
 -- ---- what is kept of a cell
 -- nothing is kept yet
-pub kept_none : (t : Track) (sets : List ℕ) → AreKept t sets sets 0
-kept_none t sets = record { as_many = refl; bits = λ k v lt small. absurd (omega arith) }
+pub kept_none : {t : Track} {sets : List ℕ} → AreKept t sets sets 0
+kept_none = record { as_many = refl; bits = λ k v lt small. absurd (omega arith) }
 
 module _ (n : ℕ) (t : Track) (sets : List ℕ) (reached : ℕ → Bool) (at : ℕ) (r : AreReached n t sets reached at) (lt : at < length sets)
     (next : ℕ → Bool) (after : some_leads t (drop (at + 1) (sets_of sets)) any_cells ≡ next) where
@@ -141,7 +141,9 @@ module _ (n : ℕ) (t : Track) (sets : List ℕ) (reached : ℕ → Bool) (at : 
       twice false y = refl
 
   -- the cell keeps those of its values by which a way leads from what it reaches
-  pub kept_cell : (white black : ℕ → Bool) (kept : List ℕ) (shown : ℕ) → IsBelow n t → ((p : ℕ) → p < n → white p ≡ led t 1 reached p) → ((p : ℕ) → p < n → black p ≡ led t 2 reached p)
+  pub kept_cell : (white black : ℕ → Bool) (kept : List ℕ) (shown : ℕ) → IsBelow n t
+      → ((p : ℕ) → p < n → white p ≡ led t 1 reached p)
+      → ((p : ℕ) → p < n → black p ≡ led t 2 reached p)
       → has_bit shown 0 ≡ any_below (λ p. white p && next p) n → has_bit shown 1 ≡ any_below (λ p. black p && next p) n
       → get_or kept at 0 ≡ get_or sets at 0 → AreKept t sets kept at → AreKept t sets (set kept at (bit_and (get_or kept at 0) shown)) (at + 1)
   kept_cell white black kept shown below is_white is_black shows_white shows_black same k =
@@ -150,11 +152,13 @@ module _ (n : ℕ) (t : Track) (sets : List ℕ) (reached : ℕ → Bool) (at : 
       ∙ ap₂ (λ x y. has_bit x v && y) same (by v small))
     where
       by : (v : ℕ) → v < 2 → has_bit shown v ≡ leads_by (set_for v)
-      by zero small = shows_white ∙ ways_on t 1 n below reached white (ahead t 1 next) next is_white (λ p. refl)
-      by (suc zero) small = shows_black ∙ ways_on t 2 n below reached black (ahead t 2 next) next is_black (λ p. refl)
+      by zero small = shows_white ∙ ways_on 1 n below reached white (ahead t 1 next) next is_white (λ p. refl)
+      by (suc zero) small = shows_black ∙ ways_on 2 n below reached black (ahead t 2 next) next is_black (λ p. refl)
       by (suc (suc v)) small = absurd (omega arith)
 
 -- ---- all cells
-pub decided_by_track : (clue sets kept : List ℕ) (t : Track) → t ≡ track_of (spelled clue) → AllByRecursion (λ n. 0 < n) clue → AreKept t sets kept (length sets)
+pub decided_by_track : (clue : List ℕ) {sets kept : List ℕ} {t : Track}
+    → t ≡ track_of (spelled clue) → AllByRecursion (λ n. 0 < n) clue
+    → AreKept t sets kept (length sets)
     → IsDecided 2 (strikes_by_fillings (has_runs clue)) sets kept
-decided_by_track clue sets kept t is positive k = grind (arith, common_steps, cases_Bool, strikes_by_track)
+decided_by_track clue is positive k = grind (arith, common_steps, cases_Bool, strikes_by_track)

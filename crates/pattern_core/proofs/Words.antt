@@ -21,8 +21,8 @@ pub bits_next : (a p : ℕ) → has_bit (a / 2) p ≡ has_bit a (suc p)
 bits_next a p = ap (λ n. eqb n 1) (sym (bit_at-suc a p))
 
 -- a word without what does not fit
-pub low_bits : (w a p : ℕ) → p < w → has_bit (a % 2 ^ w) p ≡ has_bit a p
-low_bits w a p lt = sym (ap (λ n. has_bit n p) (sym (div-add-mod' a (2 ^ w))) ∙ ap (λ n. eqb n 1) (bit_at_cat_low (a / 2 ^ w) w (a % 2 ^ w) p lt))
+pub low_bits : (w a : ℕ) {p : ℕ} → p < w → has_bit (a % 2 ^ w) p ≡ has_bit a p
+low_bits w a {p} lt = sym (ap (λ n. has_bit n p) (sym (div-add-mod' a (2 ^ w))) ∙ ap (λ n. eqb n 1) (bit_at_cat_low (a / 2 ^ w) w (a % 2 ^ w) p lt))
 
 pub no_high : (w a p : ℕ) → 0 < 2 ^ w → w ≤ p → has_bit (a % 2 ^ w) p ≡ false
 no_high w a p some high = ap (λ n. eqb n 1) (bit_at_above (a % 2 ^ w) w p (mod-lt a some) high)
@@ -30,13 +30,16 @@ no_high w a p some high = ap (λ n. eqb n 1) (bit_at_above (a % 2 ^ w) w p (mod-
 -- one place on
 pub bits_on : (w a p : ℕ) → p < w → has_bit (a * 2 % 2 ^ w) p ≡ one_on (has_bit a) p
 unfolding one_on
-bits_on w a zero lt = low_bits w (a * 2) zero lt ∙ ap (λ n. eqb n 1) (bit_at_lowest (a * 2) ∙ (let z : a * 2 % 2 ≡ 0 = omega arith in z))
+bits_on w a zero lt = low_bits w (a * 2) lt ∙ ap (λ n. eqb n 1) (bit_at_lowest (a * 2) ∙ (let z : a * 2 % 2 ≡ 0 = omega arith in z))
 bits_on w a (suc p) lt =
-    low_bits w (a * 2) (suc p) lt ∙ sym (bits_next (a * 2) p) ∙ ap (λ n. has_bit n p) (let z : a * 2 / 2 ≡ a = omega arith in z)
+    low_bits w (a * 2) lt ∙ sym (bits_next (a * 2) p) ∙ ap (λ n. has_bit n p) (let z : a * 2 / 2 ≡ a = omega arith in z)
 
 -- a word with no bit set is 0
 no_bits : (w a : ℕ) → a < 2 ^ w → 0 < 2 ^ w → any_below (has_bit a) w ≡ false → a ≡ 0
-no_bits w a fits some none = same_from_bits_below w a 0 fits some (λ p lt. off (bit_at a p) (bit_at-lt a p) (any_below-none (has_bit a) w none p lt) ∙ sym (bit_at-zero p))
+no_bits w a fits some none =
+    same_from_bits_below w a 0 fits some
+    (λ p lt. off (bit_at a p) (bit_at-lt a p) (any_below-none (has_bit a) w none p lt)
+    ∙ sym (bit_at-zero p))
   where
     off : (x : ℕ) → x < 2 → eqb x 1 ≡ false → x ≡ 0
     off x lt e = let ne = eqb-false x 1 e in omega arith
@@ -50,14 +53,16 @@ some_bit_is w bits fits some = grind (arith, common_steps, cases_Bool, bits_of_n
 
 -- ---- the lowest two bits, by which masks are looked up
 pub low_two : (set v : ℕ) → v < 2 → has_bit (set % 4) v ≡ has_bit set v
-low_two set v small = low_bits 2 set v small
+low_two set v small = low_bits 2 set small
 
 -- what masks say by a set
-pub masks_are : (white black set p : ℕ) → has_bit (get_or (0 ∷ white ∷ black ∷ bit_or white black ∷ []) (set % 4) 0) p ≡ ((has_bit set 0 && has_bit white p) || (has_bit set 1 && has_bit black p))
+pub masks_are : (white black set p : ℕ)
+    → has_bit (get_or (0 ∷ white ∷ black ∷ bit_or white black ∷ []) (set % 4) 0)
+    p ≡ ((has_bit set 0 && has_bit white p) || (has_bit set 1 && has_bit black p))
 masks_are white black set p = grind (arith, common_steps, cases_Bool, bits-either, bits-of_zero, low_two, mod-lt, or-false)
 
 -- what the operations of words say of their bits
-pub ruleset place_laws = (bits-of_zero, bits-of_power, bits-both, bits-either, bits_next, bits_on, no_high, masks_are, some_bit_is)
+pub ruleset slot_laws = (bits-of_zero, bits-of_power, bits-both, bits-either, bits_next, bits_on, no_high, masks_are, some_bit_is)
 
 -- the places reached, by the words of a step
 pub led_words : (t : Track) (set : ℕ) (reached next : ℕ → Bool) (p : ℕ) → ((q : ℕ) → next q ≡ (goes_on t set q && reached q))

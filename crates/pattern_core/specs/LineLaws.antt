@@ -39,8 +39,8 @@ on_column size line c lt on = grind (arith, common_steps, cases_Bool, column-pla
 on_row : (size : Extent) (line c : ℕ) → size.w ≤ line → has_place (line_places size line) c ≡ true → (x : ℕ) × (x < size.w) × ((line - size.w) * size.w + x ≡ c)
 on_row size line c le on = grind (arith, common_steps, cases_Bool, has_place-at, length-map-range_with_len, place_in_row, row-places)
 
-pub in_grid : (size : Extent) (line c : ℕ) → line < lines_of size → has_place (line_places size line) c ≡ true → c < size.w * size.h
-in_grid size line c lt on = elim (cases_lt line size.w) [
+pub in_grid : (size : Extent) {line c : ℕ} → line < lines_of size → has_place (line_places size line) c ≡ true → c < size.w * size.h
+in_grid size {line} {c} lt on = elim (cases_lt line size.w) [
   | inl column ↦ let w = on_column size line c column on in let z = cell_in_grid size line w.0 column w.1 in omega (arith, w.2)
   | inr row ↦ let w = on_row size line c row on in let z = cell_in_grid size w.0 (line - size.w) w.1 (omega arith) in omega (arith, w.2)
 ]
@@ -52,11 +52,13 @@ different_places size line j k lj lk e = elim (cases_lt line size.w) [
 ]
 
 -- the place is in its column and in its row, and in no other line
-pub column_has : (size : Extent) (x y : ℕ) → x < size.w → y < size.h → has_place (line_places size x) (y * size.w + x) ≡ true
-column_has size x y ltx lty = rw (← place_in_column size x y ltx lty) (has_place-here (line_places size x) y (grind (arith, common_steps, length-line_places)))
+pub column_has : (size : Extent) {x y : ℕ} → x < size.w → y < size.h → has_place (line_places size x) (y * size.w + x) ≡ true
+column_has size {x} {y} ltx lty =
+    rw (← place_in_column size x y ltx lty)
+    (has_place-here (line_places size x) y (grind (arith, common_steps, length-line_places)))
 
-pub row_has : (size : Extent) (x y : ℕ) → x < size.w → y < size.h → has_place (line_places size (size.w + y)) (y * size.w + x) ≡ true
-row_has size x y ltx lty =
+pub row_has : (size : Extent) {x y : ℕ} → x < size.w → y < size.h → has_place (line_places size (size.w + y)) (y * size.w + x) ≡ true
+row_has size {x} {y} ltx lty =
     let at = place_in_row size (size.w + y) x (omega arith) ltx ∙ ap (λ r. r * size.w + x) (let z : (size.w + y) - size.w ≡ y = omega arith in z) in
     rw (← at) (has_place-here (line_places size (size.w + y)) x (grind (arith, common_steps, length-line_places)))
 
@@ -83,61 +85,70 @@ pub has_runs-is : (clue cells : List ℕ) → has_runs clue cells ≡ true → r
 unfolding has_runs
 has_runs-is clue cells on = same_text (runs cells) clue (sym on)
 
-pub has_runs-from : (clue cells : List ℕ) → runs cells ≡ clue → has_runs clue cells ≡ true
+pub has_runs-from : {clue : List ℕ} (cells : List ℕ) → runs cells ≡ clue → has_runs clue cells ≡ true
 unfolding has_runs
-has_runs-from clue cells is = true_from_ne_false (has_runs clue cells) (λ off. other_text (runs cells) clue (sym off) is)
+has_runs-from {clue} cells is = true_from_ne_false (has_runs clue cells) (λ off. other_text (runs cells) clue (sym off) is)
 
-pub solution_from_lines : (p : Pattern) (g : List ℕ) → IsGrid (p.size.w * p.size.h) 2 g → ((line : ℕ) → line < lines_of p.size → HasClue p g line) → IsPatternSolution p g
-solution_from_lines p g grid each = grind (arith, common_steps, cases_Bool, line_numbers-column, line_numbers-row)
+pub solution_from_lines : {p : Pattern} {g : List ℕ} → IsGrid (p.size.w * p.size.h) 2 g
+    → ((line : ℕ) → line < lines_of p.size → HasClue p g line) → IsPatternSolution p g
+solution_from_lines grid each = grind (arith, common_steps, cases_Bool, line_numbers-column, line_numbers-row)
 
-pub line_of_solution : (p : Pattern) (g : List ℕ) (line : ℕ) → line < lines_of p.size → IsPatternSolution p g → HasClue p g line
-line_of_solution p g line lt s = grind (arith, common_steps, cases_Bool, cases_lt, line_numbers-column, line_numbers-row)
+pub line_of_solution : {p : Pattern} {g : List ℕ} (line : ℕ) → line < lines_of p.size → IsPatternSolution p g → HasClue p g line
+line_of_solution line lt s = grind (arith, common_steps, cases_Bool, cases_lt, line_numbers-column, line_numbers-row)
 
 -- the test of a grid is met by the solutions alone
-pub is_solution-line : (p : Pattern) (g : List ℕ) (line : ℕ) → is_pattern_solution p g ≡ true → line < lines_of p.size
+pub is_solution-line : (p : Pattern) (g : List ℕ) {line : ℕ} → is_pattern_solution p g ≡ true → line < lines_of p.size
     → has_runs (clue_of p line) (line_numbers p.size g line) ≡ true
 unfolding is_pattern_solution
-is_solution-line p g line on lt = all_below-at (λ h. has_runs (clue_of p h) (line_numbers p.size g h)) (lines_of p.size) line on lt
+is_solution-line p g {line} on lt = all_below-at (λ h. has_runs (clue_of p h) (line_numbers p.size g h)) (lines_of p.size) line on lt
 
 pub is_solution-each : (p : Pattern) (g : List ℕ) → ((line : ℕ) → line < lines_of p.size → HasClue p g line) → is_pattern_solution p g ≡ true
 unfolding is_pattern_solution
 is_solution-each p g each = grind (arith, common_steps, cases_Bool, all_below-from, has_runs-from)
 
 pub is_solution-is : (p : Pattern) (g : List ℕ) → IsGrid (p.size.w * p.size.h) 2 g → is_pattern_solution p g ≡ true → IsPatternSolution p g
-is_solution-is p g grid on = solution_from_lines p g grid
-    (λ line lt. has_runs-is (clue_of p line) (line_numbers p.size g line) (is_solution-line p g line on lt))
+is_solution-is p g grid on = solution_from_lines grid
+    (λ line lt. has_runs-is (clue_of p line) (line_numbers p.size g line) (is_solution-line p g on lt))
 
 pub is_solution-from : (p : Pattern) (g : List ℕ) → IsPatternSolution p g → is_pattern_solution p g ≡ true
-is_solution-from p g s = is_solution-each p g (λ line lt. line_of_solution p g line lt s)
+is_solution-from p g s = is_solution-each p g (λ line lt. line_of_solution line lt s)
 
 -- ---- the laws
-single-all : (cells values : ℕ) (g : List ℕ) → IsGrid cells values g → IsInside (single g) (all_of cells values)
+single-all : {cells values : ℕ} {g : List ℕ} → IsGrid cells values g → IsInside (single g) (all_of cells values)
 unfolding all_of
-single-all cells values g grid = grind (arith, common_steps, cases_Bool, single-is, lt-ltb, and_from)
+single-all grid = grind (arith, common_steps, cases_Bool, single-is, lt-ltb, and_from)
 
-all-within : (cells values c v : ℕ) → all_of cells values c v ≡ true → (c < cells) × (v < values)
+all-within : {cells : ℕ} (values c v : ℕ) → all_of cells values c v ≡ true → (c < cells) × (v < values)
 unfolding all_of
-all-within cells values c v on = let w = and_parts _ _ on in (ltb-true c cells w.0, ltb-true v values w.1)
+all-within {cells} values c v on = let w = and_parts _ _ on in (ltb-true c cells w.0, ltb-true v values w.1)
 
 pub line_rules-lawful : (p : Pattern) → IsExtent p.size → IsLawful (line_rules p)
 unfolding after
 line_rules-lawful p extent = record {
-  strikes_inside = λ h K L lt inside c v struck. strikes_at-inside 2 (line_places p.size h) (strikes_by_fillings (has_runs (clue_of p h))) (by_fillings-monotone (has_runs (clue_of p h))) K L inside c v struck;
+  strikes_inside =
+      λ h K L lt inside c v struck. strikes_at-inside 2 (line_places p.size h)
+      (strikes_by_fillings (has_runs (clue_of p h))) (by_fillings-monotone (has_runs (clue_of p h)))
+      K L inside c v struck;
   strikes_in_scope = λ h K c v lt struck. strikes_at-in_scope 2 (line_places p.size h) (strikes_by_fillings (has_runs (clue_of p h))) K c v struck;
-  solutions_start = λ g grid good. single-all (p.size.w * p.size.h) 2 g grid;
+  solutions_start = λ g grid good. single-all grid;
   solutions_closed = λ g grid good h c v lt on.
       by_fillings-closed 2 (line_places p.size h) (has_runs (clue_of p h)) g
-      (λ k less. let e = grid.each_cell in let z = in_grid p.size h (slice_index (line_places p.size h) k) lt (has_place-here (line_places p.size h) k less) in omega arith)
+      (λ k less. let e = grid.each_cell in let z =
+      in_grid p.size {c = slice_index (line_places p.size h) k} lt
+      (has_place-here (line_places p.size h) k less) in omega arith)
       (λ d less. grid.each_value d 0 less)
-      (ap (has_runs (clue_of p h)) (line_numbers-places p.size g h) ∙ is_solution-line p g h good lt) c v on;
+      (ap (has_runs (clue_of p h)) (line_numbers-places p.size g h) ∙ is_solution-line p g good lt) c v on;
   settles = λ settled h K c v lt _ on.
-      by_fillings-settled 2 (line_places p.size h) (has_runs (clue_of p h)) K (λ d u. K d u && not (strikes_at 2 (line_places p.size h) (strikes_by_fillings (has_runs (clue_of p h))) K d u)) (different_places p.size h) (λ d u. refl) c v on;
+      by_fillings-settled 2 (line_places p.size h) (has_runs (clue_of p h)) K
+      (λ d u. K d u && not (strikes_at 2 (line_places p.size h)
+      (strikes_by_fillings (has_runs (clue_of p h))) K d u)) (different_places p.size h)
+      (λ d u. refl) c v on;
   bound_of_queue = λ e. let z = few_shares p (p.size.w * p.size.h) in omega arith;
   bound_of_sweeps = λ e. absurd (true≢false e);
   some_values = omega arith;
   few_values = omega arith;
   few_cells = few_cells p.size extent;
-  start_within = λ c v on. all-within (p.size.w * p.size.h) 2 c v on;
-  scope_within = λ h c lt member. in_grid p.size h c lt member;
+  start_within = λ c v on. all-within 2 c v on;
+  scope_within = λ h c lt member. in_grid p.size lt member;
   scope_distinct = λ h j k lt lj lk e. different_places p.size h j k lj lk e;
 }

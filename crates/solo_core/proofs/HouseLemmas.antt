@@ -14,7 +14,7 @@ use Rattle.solo_core.proofs.DecidingLemmas.{length-deciding}
 use Rattle.solo_core.specs.declared.houses.scope.VisitName.TheVariants as scope
 
 -- ---- a list that begins with the values of a function
-module _ {X : Type 0} (f : ℕ → X) (n : ℕ) (rest : List X) (h : ℕ) (d : X) where
+module _ {X : Type 0} (f : ℕ → X) {n : ℕ} (rest : List X) {h : ℕ} (d : X) where
   pub part_first : h < n → get_or (map f (range_with_len 0 n) ++ rest) h d ≡ f h
   part_first lt = get_or_append_left (map f (range_with_len 0 n)) rest d h (omega (arith, length-map-range_with_len f 0 n)) ∙ get_or-map-range_with_len f 0 n h h d lt (omega arith)
 
@@ -28,33 +28,33 @@ diagonal_at true (suc (suc k)) d lt = absurd (omega arith)
 diagonal_at false k d lt = absurd (omega arith)
 
 -- ---- lists of places
-pub begun-none : (old : Listed) (places : List ℕ) → old.begun ≡ [] → old ≡ record { closed = old.closed; begun = take 0 places }
-begun-none old places e = rw (← e) refl
+pub begun-none : {old : Listed} (places : List ℕ) → old.begun ≡ [] → old ≡ record { closed = old.closed; begun = take 0 places }
+begun-none places e = rw (← e) refl
 
-pub begun-more : (old new : Listed) (closed : List (List ℕ)) (places : List ℕ) (k place : ℕ) → k < length places → place ≡ slice_index places k
+pub begun-more : {old new : Listed} {closed : List (List ℕ)} (places : List ℕ) (k : ℕ) {place : ℕ} → k < length places → place ≡ slice_index places k
     → old ≡ record { closed = closed; begun = take k places } → new ≡ record { closed = old.closed; begun = old.begun ++ place ∷ [] }
     → new ≡ record { closed = closed; begun = take (k + 1) places }
-begun-more old new closed places k place lt is was e = e ∙ rw (was, is, take_more places k 0 lt) refl
+begun-more places k lt is was e = e ∙ rw (was, is, take_more places k 0 lt) refl
 
-pub begun-done : (new : Listed) (closed : List (List ℕ)) (places : List ℕ) (k : ℕ) → length places ≡ k → new ≡ record { closed = closed; begun = take k places } → new ≡ record { closed = closed; begun = places }
-begun-done new closed places k long was = was ∙ rw (← long, take-length places) refl
+pub begun-done : {new : Listed} {closed : List (List ℕ)} {places : List ℕ} (k : ℕ) → length places ≡ k → new ≡ record { closed = closed; begun = take k places } → new ≡ record { closed = closed; begun = places }
+begun-done {places} k long was = was ∙ rw (← long, take-length places) refl
 
-pub listed-none : (old : Listed) (all : List (List ℕ)) → old.begun ≡ [] → old ≡ record { closed = old.closed ++ take 0 all; begun = [] }
-listed-none old all e = rw (append-nil, ← e) refl
+pub listed-none : {old : Listed} (all : List (List ℕ)) → old.begun ≡ [] → old ≡ record { closed = old.closed ++ take 0 all; begun = [] }
+listed-none all e = rw (append-nil, ← e) refl
 
-pub listed-more : (old new : Listed) (closed all : List (List ℕ)) (k : ℕ) (places : List ℕ) → k < length all → places ≡ get_or all k []
+pub listed-more : {old new : Listed} (closed all : List (List ℕ)) (k : ℕ) {places : List ℕ} → k < length all → places ≡ get_or all k []
     → old ≡ record { closed = closed ++ take k all; begun = [] } → new ≡ record { closed = old.closed ++ places ∷ []; begun = [] }
     → new ≡ record { closed = closed ++ take (k + 1) all; begun = [] }
-listed-more old new closed all k places lt is was e = e ∙ rw (was, is, take_more all k [] lt, append_assoc) refl
+listed-more closed all k lt is was e = e ∙ rw (was, is, take_more all k [] lt, append_assoc) refl
 
-pub listed-all : (list : Listed) (closed all : List (List ℕ)) (k : ℕ) → length all ≡ k → list ≡ record { closed = closed ++ take k all; begun = [] } → list ≡ record { closed = closed ++ all; begun = [] }
-listed-all list closed all k long was = was ∙ rw (← long, take-length all) refl
+pub listed-all : {list : Listed} (closed all : List (List ℕ)) (k : ℕ) → length all ≡ k → list ≡ record { closed = closed ++ take k all; begun = [] } → list ≡ record { closed = closed ++ all; begun = [] }
+listed-all closed all k long was = was ∙ rw (← long, take-length all) refl
 
 pub places-length : (p : Solo) → length (house_places p) ≡ length (houses_of p)
 places-length p = length-map (houses_of p) (places_of p)
 
-pub places-at : (p : Solo) (k : ℕ) (house : NamedHouse) → k < length (houses_of p) → house ≡ get_or (houses_of p) k house → places_of p house ≡ get_or (house_places p) k []
-places-at p k house lt is = ap (places_of p) is ∙ sym (get_or-map (places_of p) (houses_of p) k house [] lt)
+pub places-at : (p : Solo) (k : ℕ) {house : NamedHouse} → k < length (houses_of p) → house ≡ get_or (houses_of p) k house → places_of p house ≡ get_or (house_places p) k []
+places-at p k {house} lt is = ap (places_of p) is ∙ sym (get_or-map (places_of p) (houses_of p) k house [] lt)
 
 -- the houses by their numbers, and what the list gets of them
 pub ruleset house_laws = (part_first, part_later, diagonal_at, house_count, count_x, count_plain, begun-none, begun-more, begun-done, listed-none, listed-more, listed-all, places-length, places-at)
@@ -68,10 +68,10 @@ module _ {X : Type 0} (first second : ℕ → X) (n m : ℕ) where
   both-length = simp (length-append, length-map-range_with_len)
 
   pub first-at : (k : ℕ) (d : X) → k < n → first k ≡ get_or both k d
-  first-at k d lt = sym (part_first first n (map second (range_with_len 0 m)) k d lt)
+  first-at k d lt = sym (part_first first (map second (range_with_len 0 m)) d lt)
 
   pub second-at : (k : ℕ) (d : X) → n ≤ k → k - n < m → second (k - n) ≡ get_or both k d
-  second-at k d le lt = sym (part_later first n (map second (range_with_len 0 m)) k d le ∙ get_or-map-range_with_len second 0 m (k - n) (k - n) d lt (omega arith))
+  second-at k d le lt = sym (part_later first (map second (range_with_len 0 m)) d le ∙ get_or-map-range_with_len second 0 m (k - n) (k - n) d lt (omega arith))
 
 module _ (p : Solo) where
   pub scopes-length : length (crossing_scopes p) ≡ solo_n p * p.c + solo_n p * p.r
@@ -81,8 +81,11 @@ module _ (p : Solo) where
   crossings-length = length-map (crossing_scopes p) (house_at p) ∙ scopes-length
 
 -- ---- houses and then others
-pub first_at : (some more : List House) (h : ℕ) → h < length some → house_of some h ≡ house_of (some ++ more) h
-first_at some more h lt = sym (get_or_append_left some more no_house h lt)
+pub first_at : (some more : List House) {h : ℕ} → h < length some → house_of some h ≡ house_of (some ++ more) h
+first_at some more {h} lt = sym (get_or_append_left some more no_house h lt)
+
+pub later_at : (some more : List House) {h : ℕ} → length some ≤ h → house_of more (h - length some) ≡ house_of (some ++ more) h
+later_at some more {h} le = sym (get_or-append_right some more (length some) h no_house refl le)
 
 -- ---- all scopes by their numbers
 module _ (p : Solo) where

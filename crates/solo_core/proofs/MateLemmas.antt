@@ -12,25 +12,25 @@ use Rattle.grid_core.proofs.ShortSets.{no_choice}
 use Rattle.solo_core.specs.Peeled.{AreAlone, IsPaired, IsShort, rest_of}
 
 -- a set of bits has the values below n whose bit is set
-pub has_set_of_bits : (n bits v : ℕ) → v < n → has_value (set_of_bits n bits) v ≡ has_bit bits v
+pub has_set_of_bits : {n : ℕ} (bits : ℕ) {v : ℕ} → v < n → has_value (set_of_bits n bits) v ≡ has_bit bits v
 unfolding set_of_bits
-has_set_of_bits n bits v h = get_or-map-range_with_len (has_bit bits) 0 n v v false h (omega arith)
+has_set_of_bits {n} bits {v} h = get_or-map-range_with_len (has_bit bits) 0 n v v false h (omega arith)
 
-pub set_of_bits_below : (n bits v : ℕ) → has_value (set_of_bits n bits) v ≡ true → v < n
+pub set_of_bits_below : (n bits : ℕ) {v : ℕ} → has_value (set_of_bits n bits) v ≡ true → v < n
 unfolding set_of_bits
-set_of_bits_below n bits v h = elim (cases_lt v n) [
+set_of_bits_below n bits {v} h = elim (cases_lt v n) [
   | inl low ↦ low
   | inr high ↦ absurd (true≢false (sym h ∙ get_or_past (map (has_bit bits) (range_with_len 0 n)) v false (omega (arith, length-map-range_with_len (has_bit bits) 0 n))))
 ]
 
 -- the sets of a house as bits, each within the values
-pub at_sets : (n : ℕ) (sets : List ℕ) (k : ℕ) → k < length sets → get_or (map (set_of_bits n) sets) k [] ≡ set_of_bits n (get_or sets k 0)
-at_sets n sets k h = get_or-map (set_of_bits n) sets k 0 [] h
+pub at_sets : (n : ℕ) (sets : List ℕ) {k : ℕ} → k < length sets → get_or (map (set_of_bits n) sets) k [] ≡ set_of_bits n (get_or sets k 0)
+at_sets n sets {k} h = get_or-map (set_of_bits n) sets k 0 [] h
 
 -- a pairing of the cells with values is a filling without repeat, which shows its values
-pub shown_by_pairing : (sets : List ℕ) (n : ℕ) (mates : List ℕ) → IsPairing (has_in sets) (length sets) n mates
+pub shown_by_pairing : (sets : List ℕ) {n : ℕ} {mates : List ℕ} → IsPairing (has_in sets) (length sets) n mates
     → (k : ℕ) → is_struck n sets k (slice_index mates k) ≡ false
-shown_by_pairing sets n mates p k = test_from_shown no_repeat (map (set_of_bits n) sets) k (slice_index mates k) (
+shown_by_pairing sets {n} {mates} p k = test_from_shown no_repeat (map (set_of_bits n) sets) k (slice_index mates k) (
   mates,
   record {
     fills = record { len = p.len ∙ sym (length-map sets (set_of_bits n)); each = each };
@@ -42,16 +42,16 @@ shown_by_pairing sets n mates p k = test_from_shown no_repeat (map (set_of_bits 
     each : (k : ℕ) → k < length (map (set_of_bits n) sets) → has_value (get_or (map (set_of_bits n) sets) k []) (get_or mates k 0) ≡ true
     each k h =
         let inside : k < length sets = omega (arith, length-map sets (set_of_bits n)) in
-        ap (λ s. has_value s (get_or mates k 0)) (at_sets n sets k inside)
-        ∙ has_set_of_bits n (get_or sets k 0) (get_or mates k 0) (p.in_range k inside) ∙ p.joined k inside
+        ap (λ s. has_value s (get_or mates k 0)) (at_sets n sets inside)
+        ∙ has_set_of_bits (get_or sets k 0) (p.in_range k inside) ∙ p.joined k inside
 
 -- a filling without repeat as a pairing of the cells with values
-pub pairing_of_filling : (sets : List ℕ) (n place value : ℕ) (filling : List ℕ) → IsShownBy no_repeat (map (set_of_bits n) sets) place value filling
+pub pairing_of_filling : (sets : List ℕ) (n : ℕ) {place value : ℕ} {filling : List ℕ} → IsShownBy no_repeat (map (set_of_bits n) sets) place value filling
     → IsPairing (has_in sets) (length sets) n filling
-pairing_of_filling sets n place value filling s = record {
+pairing_of_filling sets n {filling} s = record {
   len = long;
-  in_range = λ l h. set_of_bits_below n (get_or sets l 0) (get_or filling l 0) (has l h);
-  joined = λ l h. sym (has_set_of_bits n (get_or sets l 0) (get_or filling l 0) (set_of_bits_below n (get_or sets l 0) (get_or filling l 0) (has l h))) ∙ has l h;
+  in_range = λ l h. set_of_bits_below n (get_or sets l 0) (has l h);
+  joined = λ l h. sym (has_set_of_bits (get_or sets l 0) (set_of_bits_below n (get_or sets l 0) (has l h))) ∙ has l h;
   own = λ l m h k same. let z = long in own_from_no_repeat filling s.holds_true l m (omega arith) (omega arith) same;
 }
   where
@@ -60,7 +60,7 @@ pairing_of_filling sets n place value filling s = record {
 
     has : (l : ℕ) → l < length sets → has_value (set_of_bits n (get_or sets l 0)) (get_or filling l 0) ≡ true
     has l h =
-        ap (λ t. has_value t (get_or filling l 0)) (sym (at_sets n sets l h))
+        ap (λ t. has_value t (get_or filling l 0)) (sym (at_sets n sets h))
         ∙ s.fills.each l (omega (arith, length-map sets (set_of_bits n)))
 
 -- what no pairing of the cells can have is struck
@@ -69,7 +69,7 @@ pub struck_from_none : (sets : List ℕ) (n place value : ℕ)
     → is_struck n sets place value ≡ true
 struck_from_none sets n place value none = true_from_ne_false (is_struck n sets place value) (λ e.
     let w = shown_from_test no_repeat (map (set_of_bits n) sets) place value e in
-    none w.0 (pairing_of_filling sets n place value w.0 w.1) w.1.has_it)
+    none w.0 (pairing_of_filling sets n w.1) w.1.has_it)
 
 -- ---- the rest, cell by cell
 range_more : (k : ℕ) → range_with_len 0 (k + 1) ≡ range_with_len 0 k ++ k ∷ []
@@ -78,27 +78,27 @@ range_more k = sym (map-id (range_with_len 0 (k + 1))) ∙ map-range_with_len_mo
 rest-next : (k cells : ℕ) → rest_of (k + 1) cells ≡ rest_of k cells ++ cond (not (has_bit cells k)) (k ∷ []) []
 rest-next k cells = ap (filter (λ j. not (has_bit cells j))) (range_more k) ∙ filter-append (λ j. not (has_bit cells j)) (range_with_len 0 k) (k ∷ [])
 
-pub rest-more : (k cells : ℕ) (rest : List ℕ) → rest ≡ rest_of k cells → has_bit cells k ≡ false → rest ++ k ∷ [] ≡ rest_of (k + 1) cells
-rest-more k cells rest e off = rw e (sym (rest-next k cells ∙ ap (λ b. rest_of k cells ++ cond (not b) (k ∷ []) []) off))
+pub rest-more : (k cells : ℕ) {rest : List ℕ} → rest ≡ rest_of k cells → has_bit cells k ≡ false → rest ++ k ∷ [] ≡ rest_of (k + 1) cells
+rest-more k cells e off = rw e (sym (rest-next k cells ∙ ap (λ b. rest_of k cells ++ cond (not b) (k ∷ []) []) off))
 
-pub rest-same : (k cells : ℕ) (rest : List ℕ) → rest ≡ rest_of k cells → has_bit cells k ≡ true → rest ≡ rest_of (k + 1) cells
-rest-same k cells rest e on = e ∙ sym (rest-next k cells ∙ ap (λ b. rest_of k cells ++ cond (not b) (k ∷ []) []) on ∙ append-nil (rest_of k cells))
+pub rest-same : (k cells : ℕ) {rest : List ℕ} → rest ≡ rest_of k cells → has_bit cells k ≡ true → rest ≡ rest_of (k + 1) cells
+rest-same k cells e on = e ∙ sym (rest-next k cells ∙ ap (λ b. rest_of k cells ++ cond (not b) (k ∷ []) []) on ∙ append-nil (rest_of k cells))
 
 -- ---- which cells are in the rest
 module _ (n cells : ℕ) where
   abbrev rest : List ℕ
   rest = rest_of n cells
 
-  pub rest-in : (i : ℕ) → i < length rest → (slice_index rest i < n) × (has_bit cells (slice_index rest i) ≡ false)
-  rest-in i lt =
+  pub rest-in : {i : ℕ} → i < length rest → (slice_index rest i < n) × (has_bit cells (slice_index rest i) ≡ false)
+  rest-in {i} lt =
       let w = place-filter (λ k. not (has_bit cells k)) (range_with_len 0 n) (slice_index rest i) (has_place-here rest i lt) in
       let at = has_place-at (range_with_len 0 n) (slice_index rest i) w.0 in
       let low : at.0 < n = omega (arith, at.1, length-range_with_len 0 n) in
       let is = get_or-range_with_len 0 n at.0 0 low in
       (omega (arith, at.2, is), not-true (has_bit cells (slice_index rest i)) w.1)
 
-  pub rest-has : (k : ℕ) → k < n → has_bit cells k ≡ false → (i : ℕ) × (i < length rest) × (slice_index rest i ≡ k)
-  rest-has k lt off = has_place-at rest k (place-kept (λ j. not (has_bit cells j)) (range_with_len 0 n) k in_range (not_from_false (has_bit cells k) off))
+  pub rest-has : {k : ℕ} → k < n → has_bit cells k ≡ false → (i : ℕ) × (i < length rest) × (slice_index rest i ≡ k)
+  rest-has {k} lt off = has_place-at rest k (place-kept (λ j. not (has_bit cells j)) (range_with_len 0 n) k in_range (not_from_false (has_bit cells k) off))
     where
       in_range : has_place (range_with_len 0 n) k ≡ true
       in_range =
@@ -109,11 +109,11 @@ module _ (n cells : ℕ) where
   rest-different = different-filter (λ k. not (has_bit cells k)) (range_with_len 0 n) (λ j k lj lk same.
       omega (arith, length-range_with_len 0 n, get_or-range_with_len 0 n j 0 (omega (arith, length-range_with_len 0 n)), get_or-range_with_len 0 n k 0 (omega (arith, length-range_with_len 0 n)), same))
 
-pub rest-within : (n cells : ℕ) (rest : List ℕ) → rest ≡ rest_of n cells → (i : ℕ) → i < length rest → slice_index rest i < n
-rest-within n cells rest e i lt = rw e ((rest-in n cells i (rw e at lt)).0)
+pub rest-within : (n cells : ℕ) {rest : List ℕ} → rest ≡ rest_of n cells → (i : ℕ) → i < length rest → slice_index rest i < n
+rest-within n cells e i lt = rw e ((rest-in n cells (rw e at lt)).0)
 
-pub rest-apart : (n cells : ℕ) (rest : List ℕ) → rest ≡ rest_of n cells → AreDifferent rest
-rest-apart n cells rest e = rw e (rest-different n cells)
+pub rest-apart : (n cells : ℕ) {rest : List ℕ} → rest ≡ rest_of n cells → AreDifferent rest
+rest-apart n cells e = rw e (rest-different n cells)
 
 -- ---- the pairing of the house
 module _ (n : ℕ) (sets : List ℕ) (cells : ℕ) (alone : AreAlone n sets cells) where
@@ -131,9 +131,9 @@ module _ (n : ℕ) (sets : List ℕ) (cells : ℕ) (alone : AreAlone n sets cell
       (λ l m ll lm same. rest-different (length sets) cells l m ll lm (p.own (slice_index others l) (slice_index others m) (inside l ll) (inside m lm) same))
     where
       inside : (l : ℕ) → l < length others → slice_index others l < length sets
-      inside l lt = (rest-in (length sets) cells l lt).0
+      inside l lt = (rest-in (length sets) cells lt).0
 
-  module _ (paired first mates : List ℕ) (p : IsPairing joins (length others) n paired)
+  module _ {paired : List ℕ} (first mates : List ℕ) (p : IsPairing joins (length others) n paired)
       (own : (k v : ℕ) → k < length sets → v < n → has_in sets k v ≡ true → has_in sets k (slice_index first k) ≡ true)
       (as_many : length mates ≡ length sets)
       (at_rest : (i : ℕ) → i < length others → slice_index mates (slice_index others i) ≡ slice_index paired i)
@@ -141,14 +141,14 @@ module _ (n : ℕ) (sets : List ℕ) (cells : ℕ) (alone : AreAlone n sets cell
     alone-mate : (k : ℕ) (lk : k < length sets) (on : has_bit cells k ≡ true) → slice_index mates k ≡ (alone k lk on).value
     alone-mate k lk on =
         let a = alone k lk on in
-        at_other k (λ i li e. true≢false (sym on ∙ (rw e at (rest-in (length sets) cells i li).1)))
+        at_other k (λ i li e. true≢false (sym on ∙ (rw e at (rest-in (length sets) cells li).1)))
         ∙ a.only (slice_index first k) (own k a.value lk a.value_in a.has)
 
     -- in range and joined
-    fits : (k : ℕ) → k < length sets → (slice_index mates k < n) × (has_in sets k (slice_index mates k) ≡ true)
-    fits k lk = elim (cases_Bool (has_bit cells k)) [
+    fits : {k : ℕ} → k < length sets → (slice_index mates k < n) × (has_in sets k (slice_index mates k) ≡ true)
+    fits {k} lk = elim (cases_Bool (has_bit cells k)) [
       | inl on ↦ let a = alone k lk on in rw (alone-mate k lk on) (a.value_in, a.has)
-      | inr off ↦ by (rest-has (length sets) cells k lk off)
+      | inr off ↦ by (rest-has (length sets) cells lk off)
     ]
       where
         by : (i : ℕ) × (i < length others) × (slice_index others i ≡ k) → (slice_index mates k < n) × (has_in sets k (slice_index mates k) ≡ true)
@@ -156,7 +156,7 @@ module _ (n : ℕ) (sets : List ℕ) (cells : ℕ) (alone : AreAlone n sets cell
 
     -- a cell that is alone has no value of another
     apart : (k m : ℕ) → k < length sets → m < length sets → has_bit cells k ≡ true → (m ≡ k → ⊥) → slice_index mates k ≡ slice_index mates m → ⊥
-    apart k m lk lm on ne same = true≢false (sym (fits m lm).1 ∙ ap (has_in sets m) (sym same ∙ alone-mate k lk on) ∙ (alone k lk on).apart m lm ne)
+    apart k m lk lm on ne same = true≢false (sym (fits lm).1 ∙ ap (has_in sets m) (sym same ∙ alone-mate k lk on) ∙ (alone k lk on).apart m lm ne)
 
     different : {k m : ℕ} → (i : ℕ) × (i < length others) × (slice_index others i ≡ k) → (j : ℕ) × (j < length others) × (slice_index others j ≡ m)
         → slice_index mates k ≡ slice_index mates m → k ≡ m
@@ -165,14 +165,14 @@ module _ (n : ℕ) (sets : List ℕ) (cells : ℕ) (alone : AreAlone n sets cell
         sym is ∙ ap (slice_index others) e ∙ is_m
 
     pub whole_pairing : IsPairing (has_in sets) (length sets) n mates
-    whole_pairing = record { len = as_many; in_range = λ k lk. (fits k lk).0; joined = λ k lk. (fits k lk).1; own = own_mate }
+    whole_pairing = record { len = as_many; in_range = λ k lk. (fits lk).0; joined = λ k lk. (fits lk).1; own = own_mate }
       where
         own_mate : (k m : ℕ) → k < length sets → m < length sets → slice_index mates k ≡ slice_index mates m → k ≡ m
         own_mate k m lk lm same =
             let a = apart k m lk lm in
             let b = apart m k lm lk in
             let d : has_bit cells k ≡ false → has_bit cells m ≡ false → k ≡ m =
-            λ off off_m. different (rest-has (length sets) cells k lk off) (rest-has (length sets) cells m lm off_m) same in
+            λ off off_m. different (rest-has (length sets) cells lk off) (rest-has (length sets) cells lm off_m) same in
             grind arith
 
 -- the last number below n that passes
@@ -212,7 +212,7 @@ module _ (n : ℕ) (sets : List ℕ) (cells : ℕ) (alone : AreAlone n sets cell
   unfolding mate at
   mates-rest i li =
       let k = slice_index (rest_of (length sets) cells) i in
-      let r = rest-in (length sets) cells i li in
+      let r = rest-in (length sets) cells li in
       let passes : ℕ → Bool = λ j. eqb (slice_index (rest_of (length sets) cells) j) k in
       let low = last-below (length (rest_of (length sets) cells)) passes (omega arith) in
       let same = eqb-true _ k (last-passes (length (rest_of (length sets) cells)) passes i li (eq-eqb k k refl)) in
@@ -220,13 +220,13 @@ module _ (n : ℕ) (sets : List ℕ) (cells : ℕ) (alone : AreAlone n sets cell
 
   pub house_pairing : IsPairing (has_in sets) (length sets) n house_mates
   unfolding house_mates mate
-  house_pairing = whole_pairing n sets cells alone paired house_mates house_mates p own (length-map-range_with_len mate 0 (length sets)) mates-rest
+  house_pairing = whole_pairing n sets cells alone house_mates house_mates p own (length-map-range_with_len mate 0 (length sets)) mates-rest
       (λ k out. refl)
     where
       own : (k v : ℕ) → k < length sets → v < n → has_in sets k v ≡ true → has_in sets k (slice_index house_mates k) ≡ true
       own k v lk lv has = elim (cases_Bool (has_bit cells k)) [
         | inl on ↦ rw (mates-at k lk, on) (last-passes n (has_in sets k) v lv has)
-        | inr off ↦ let w = rest-has (length sets) cells k lk off in
+        | inr off ↦ let w = rest-has (length sets) cells lk off in
             rw (sym (ap (slice_index house_mates) w.2) ∙ mates-rest w.0 w.1) (rw w.2 at (p.joined w.0 w.1))
       ]
 
@@ -234,21 +234,21 @@ module _ (n : ℕ) (sets : List ℕ) (cells : ℕ) (alone : AreAlone n sets cell
   pub shown_alone : (k v : ℕ) → k < length sets → has_bit cells k ≡ true → has_in sets k v ≡ true → is_struck n sets k v ≡ false
   shown_alone k v lk on has =
       let a = alone k lk on in
-      rw (a.only (slice_index house_mates k) (house_pairing.joined k lk) ∙ sym (a.only v has)) at (shown_by_pairing sets n house_mates house_pairing k)
+      rw (a.only (slice_index house_mates k) (house_pairing.joined k lk) ∙ sym (a.only v has)) at (shown_by_pairing sets house_pairing k)
 
 -- where no value is struck, the sets are kept
-pub decided_by_all : (n : ℕ) (sets : List ℕ) → ((k v : ℕ) → k < length sets → v < n → has_in sets k v ≡ true → is_struck n sets k v ≡ false)
+pub decided_by_all : {n : ℕ} {sets : List ℕ} → ((k v : ℕ) → k < length sets → v < n → has_in sets k v ≡ true → is_struck n sets k v ≡ false)
     → IsDecided n (strikes_by_fillings no_repeat) sets sets
-decided_by_all n sets all = record { as_many = refl; bits = λ k v lk lv. let shown = all k v lk lv in grind arith }
+decided_by_all all = record { as_many = refl; bits = λ k v lk lv. let shown = all k v lk lv in grind arith }
 
 -- where all are alone, nothing more is struck
-pub decided_alone : (n : ℕ) (sets : List ℕ) (cells : ℕ) → AreAlone n sets cells → ((k : ℕ) → k < length sets → has_bit cells k ≡ true)
+pub decided_alone : {n : ℕ} {sets : List ℕ} (cells : ℕ) → AreAlone n sets cells → ((k : ℕ) → k < length sets → has_bit cells k ≡ true)
     → IsDecided n (strikes_by_fillings no_repeat) sets sets
-decided_alone n sets cells alone all = decided_by_all n sets
+decided_alone {n} {sets} cells alone all = decided_by_all
     (λ k v lk lv has. shown_alone n sets cells alone (rest_of (length sets) cells) paired k v lk (all k lk) has)
   where
     none : (i : ℕ) → i < length (rest_of (length sets) cells) → ⊥
-    none i li = let r = rest-in (length sets) cells i li in true≢false (sym (all (slice_index (rest_of (length sets) cells) i) r.0) ∙ r.1)
+    none i li = let r = rest-in (length sets) cells li in true≢false (sym (all (slice_index (rest_of (length sets) cells) i) r.0) ∙ r.1)
 
     paired : IsPaired n sets (rest_of (length sets) cells) (rest_of (length sets) cells)
     paired = record { len = refl; in_range = λ i li. absurd (none i li); joined = λ i li. absurd (none i li); own = λ i j li lj same. absurd (none i li) }

@@ -10,52 +10,52 @@ use Rattle.solo_core.proofs.Marks.{none_in_zero}
 
 -- ---- what is peeled
 -- a pairing is one of other sets where they have its values too
-pairing_over : (n : ℕ) (old new mates : List ℕ) → length new ≡ length old
+pairing_over : {n : ℕ} (old new : List ℕ) {mates : List ℕ} → length new ≡ length old
     → ((k : ℕ) → k < length old → has_in old k (slice_index mates k) ≡ true → has_in new k (slice_index mates k) ≡ true)
     → IsPairing (has_in old) (length old) n mates → IsPairing (has_in new) (length new) n mates
-pairing_over n old new mates same joined p = rw same (record { len = p.len; in_range = p.in_range; joined = λ k lk. joined k lk (p.joined k lk); own = p.own })
+pairing_over old new same joined p = rw same (record { len = p.len; in_range = p.in_range; joined = λ k lk. joined k lk (p.joined k lk); own = p.own })
 
-pairing_peeled : (n : ℕ) (old new mates : List ℕ) → IsPeeled n old new → IsPairing (has_in old) (length old) n mates
+pairing_peeled : (n : ℕ) {old new mates : List ℕ} → IsPeeled n old new → IsPairing (has_in old) (length old) n mates
     → IsPairing (has_in new) (length new) n mates
-pairing_peeled n old new mates e p = pairing_over n old new mates e.as_many (λ k lk on. e.keeps mates p k lk) p
+pairing_peeled n {old} {new} {mates} e p = pairing_over old new e.as_many (λ k lk on. e.keeps mates p k lk) p
 
-pub peeled-none : (n : ℕ) (sets : List ℕ) → IsPeeled n sets sets
-peeled-none n sets = record { as_many = refl; inside = λ k v lk on. on; keeps = λ mates p k lk. p.joined k lk }
+pub peeled-none : (n : ℕ) {sets : List ℕ} → IsPeeled n sets sets
+peeled-none n = record { as_many = refl; inside = λ k v lk on. on; keeps = λ mates p k lk. p.joined k lk }
 
-pub peeled-more : (n : ℕ) (first second third : List ℕ) → IsPeeled n first second → IsPeeled n second third → IsPeeled n first third
-peeled-more n first second third a b = record {
+pub peeled-more : {n : ℕ} {first second third : List ℕ} → IsPeeled n first second → IsPeeled n second third → IsPeeled n first third
+peeled-more {n} a b = record {
   as_many = b.as_many ∙ a.as_many;
   inside = λ k v lk on. a.inside k v lk (b.inside k v (let e = a.as_many in omega arith) on);
-  keeps = λ mates p k lk. b.keeps mates (pairing_peeled n first second mates a p) k (let e = a.as_many in omega arith);
+  keeps = λ mates p k lk. b.keeps mates (pairing_peeled n a p) k (let e = a.as_many in omega arith);
 }
 
-pub alone-none : (n : ℕ) (sets : List ℕ) → AreAlone n sets 0
-alone-none n sets k lk on = absurd (true≢false (sym on ∙ bits-of_zero k))
+pub alone-none : (n : ℕ) {sets : List ℕ} → AreAlone n sets 0
+alone-none n k lk on = absurd (true≢false (sym on ∙ bits-of_zero k))
 
 -- ---- counts
-pub counts-none : (sets : List ℕ) (some single shared : ℕ) → (some ≡ 0) × (single ≡ 0) × (shared ≡ 0) → AreCounts sets 0 some single shared
-counts-none sets some single shared (a, b, c) = record {
+pub counts-none : {sets : List ℕ} {some single shared : ℕ} → (some ≡ 0) × (single ≡ 0) × (shared ≡ 0) → AreCounts sets 0 some single shared
+counts-none (a, b, c) = record {
   has = λ j v lj on. absurd (omega arith);
   singles = λ v on. absurd (none_in_zero v (rw b at on));
   shares = λ j k v lt lk on_j on_k. absurd (omega arith);
 }
 
 -- the counts of the first cells are the same in a list with the same first cells
-pub counts-same : (sets new : List ℕ) (first some single shared : ℕ) → AreCounts sets first some single shared → ((j : ℕ) → j < first → slice_index new j ≡ slice_index sets j)
+pub counts-same : {sets new : List ℕ} {first some single shared : ℕ} → AreCounts sets first some single shared → ((j : ℕ) → j < first → slice_index new j ≡ slice_index sets j)
     → AreCounts new first some single shared
-counts-same sets new first some single shared c same = record {
+counts-same c same = record {
   has = λ j v lj on. c.has j v lj (ap (λ (b : ℕ). has_bit b v) (sym (same j lj)) ∙ on);
   singles = λ v on. let w = c.singles v on in (w.0, w.1, λ u. ap (λ (b : ℕ). has_bit b u) (same w.0 w.1) ∙ w.2 u);
   shares = λ j k v lt lk on_j on_k. c.shares j k v lt lk
       (ap (λ (b : ℕ). has_bit b v) (sym (same j (omega arith))) ∙ on_j) (ap (λ (b : ℕ). has_bit b v) (sym (same k lk)) ∙ on_k);
 }
 
-pub counts-more : (sets : List ℕ) (first some single shared some' single' shared' : ℕ) → AreCounts sets first some single shared
+pub counts-more : {sets : List ℕ} (first : ℕ) {some single shared some' single' shared' : ℕ} → AreCounts sets first some single shared
     → ((v : ℕ) → has_bit some' v ≡ (has_bit some v || has_in sets first v))
     → ((v : ℕ) → has_bit single' v ≡ true → (has_bit single v ≡ true) ⊎ IsSingleSet (slice_index sets first) v)
     → ((v : ℕ) → has_bit shared' v ≡ (has_bit shared v || (has_bit some v && has_in sets first v)))
     → AreCounts sets (first + 1) some' single' shared'
-counts-more sets first some single shared some' single' shared' c a b d = record {
+counts-more first c a b d = record {
   has = λ j v lj on. let e = a v in let h = c.has j v in grind (arith, nat_tests);
   singles = λ v on. elim (b v on) [
     | inl was ↦ let w = c.singles v was in (w.0, omega (arith, w.1), w.2)
@@ -65,14 +65,14 @@ counts-more sets first some single shared some' single' shared' c a b d = record
 }
 
 -- what is dropped, no pairing has: each value has a cell, and a cell with one value alone has it
-module _ (n : ℕ) (old : List ℕ) (square : length old ≡ n) (some single shared : ℕ) (c : AreCounts old (length old) some single shared) where
+module _ {n : ℕ} {old : List ℕ} (square : length old ≡ n) {some single shared : ℕ} (c : AreCounts old (length old) some single shared) where
   shares : (j k v : ℕ) → j < length old → k < length old → (j ≡ k → ⊥) → has_in old j v ≡ true → has_in old k v ≡ true → has_bit shared v ≡ true
   shares j k v lj lk ne on_j on_k = let a = c.shares j k v in let b = c.shares k j v in grind arith
 
   not_dropped : (mates : List ℕ) → IsPairing (has_in old) (length old) n mates → (k : ℕ) → k < length old
       → IsDropped n single shared (slice_index old k) (slice_index mates k) → ⊥
   not_dropped mates p k lk (w, lw, has, ne, inl lone) =
-      none_missed n (slice_index mates) (λ x lx. p.in_range x (omega arith)) (λ x y lx ly same. p.own x y (omega arith) (omega arith) same) w lw
+      none_missed (slice_index mates) (λ x lx. p.in_range x (omega arith)) (λ x y lx ly same. p.own x y (omega arith) (omega arith) same) lw
       (λ x lx is. let s = shares x k w (omega arith) lk in let j = p.joined x (omega arith) in grind arith)
   not_dropped mates p k lk (w, lw, has, ne, inr on) =
       let j = c.singles (slice_index mates k) on in
@@ -82,11 +82,11 @@ module _ (n : ℕ) (old : List ℕ) (square : length old ≡ n) (some single sha
       let has_mate = p.joined j.0 j.1 in
       grind (arith, nat_tests)
 
-  pub peeled-step : (new : List ℕ) → length new ≡ length old
+  pub peeled-step : {new : List ℕ} → length new ≡ length old
       → ((k v : ℕ) → k < length old → has_in new k v ≡ true → has_in old k v ≡ true)
       → ((k v : ℕ) → k < length old → v < n → has_in old k v ≡ true → has_in new k v ≡ false → IsDropped n single shared (slice_index old k) v)
       → IsPeeled n old new
-  peeled-step new as_many inside dropped = record {
+  peeled-step {new} as_many inside dropped = record {
     as_many = as_many;
     inside = inside;
     keeps = λ mates p k lk. true_from_ne_false (has_in new k (slice_index mates k)) (λ off. not_dropped mates p k lk (dropped k (slice_index mates k) lk (p.in_range k lk) (p.joined k lk) off));
@@ -107,9 +107,9 @@ module _ (n : ℕ) (old : List ℕ) (square : length old ≡ n) (some single sha
         apart = λ m lm ne. false_from_ne_true (has_in old m v) (λ there. true≢false (sym (shares m k v lm lk ne there has) ∙ off));
       }
 
-pub alone-more : (n : ℕ) (sets : List ℕ) (cells more cell : ℕ) (on : Bool) → AreAlone n sets cells → (on ≡ true → IsAlone n sets cell)
+pub alone-more : {n : ℕ} {sets : List ℕ} (cells more cell : ℕ) (on : Bool) → AreAlone n sets cells → (on ≡ true → IsAlone n sets cell)
     → ((k : ℕ) → has_bit more k ≡ (has_bit cells k || (on && eqb k cell))) → AreAlone n sets more
-alone-more n sets cells more cell on alone a bit k lk set = elim (cases_Bool (has_bit cells k)) [
+alone-more cells more cell on alone a bit k lk set = elim (cases_Bool (has_bit cells k)) [
   | inl was ↦ alone k lk was
   | inr off ↦ let b = bit k in let both : (k ≡ cell) × (on ≡ true) = (grind (arith, nat_tests), grind (arith, nat_tests)) in rw both.0 (a both.1)
 ]
@@ -120,17 +120,17 @@ shown_over : (n : ℕ) (old new : List ℕ) → ((mates : List ℕ) → IsPairin
     → (k v : ℕ) → k < length new → is_struck n old k v ≡ false → (has_in new k v ≡ true) × (is_struck n new k v ≡ false)
 shown_over n old new over k v lk off =
     let w = shown_from_test no_repeat (map (set_of_bits n) old) k v off in
-    let p = over w.0 (pairing_of_filling old n k v w.0 w.1) in
-    (rw w.1.has_it at (p.joined k lk), rw w.1.has_it at (shown_by_pairing new n w.0 p k))
+    let p = over w.0 (pairing_of_filling old n w.1) in
+    (rw w.1.has_it at (p.joined k lk), rw w.1.has_it at (shown_by_pairing new p k))
 
-pub decided_by_peeled : (n : ℕ) (sets peeled kept : List ℕ) → IsPeeled n sets peeled → IsDecided n (strikes_by_fillings no_repeat) peeled kept
+pub decided_by_peeled : {n : ℕ} {sets peeled kept : List ℕ} → IsPeeled n sets peeled → IsDecided n (strikes_by_fillings no_repeat) peeled kept
     → IsDecided n (strikes_by_fillings no_repeat) sets kept
-decided_by_peeled n sets peeled kept e d = record {
+decided_by_peeled {n} {sets} {peeled} e d = record {
   as_many = d.as_many ∙ e.as_many;
   bits = λ k v lk lv.
       let low : k < length peeled = omega (arith, e.as_many) in
-      let there = shown_over n sets peeled (λ mates p. pairing_peeled n sets peeled mates e p) k v low in
-      let back = shown_over n peeled sets (λ mates p. pairing_over n peeled sets mates (sym e.as_many)
+      let there = shown_over n sets peeled (λ mates p. pairing_peeled n e p) k v low in
+      let back = shown_over n peeled sets (λ mates p. pairing_over peeled sets (sym e.as_many)
       (λ j lj on. e.inside j (slice_index mates j) (omega (arith, e.as_many)) on) p) k v lk in
       let bits = d.bits k v low lv in
       let inside = e.inside k v lk in

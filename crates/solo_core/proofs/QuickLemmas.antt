@@ -4,8 +4,8 @@ use Rattle.solo_core.specs.Common.{false_from_ne_true, nat_tests, has_bit, has_i
 use Rattle.solo_core.specs.Quick.{IsBegun, GoesOn}
 
 module _ (n : ℕ) (sets rest : List ℕ) where
-  pub begun-none : (mate : ℕ → ℕ) (free : ℕ) → IsBegun n sets rest 0 mate free
-  begun-none mate free = record {
+  pub begun-none : {mate : ℕ → ℕ} {free : ℕ} → IsBegun n sets rest 0 mate free
+  begun-none = record {
     in_range = λ l lt. absurd (omega arith);
     joined = λ l lt. absurd (omega arith);
     own = λ l m lt lm same. absurd (omega arith);
@@ -13,22 +13,22 @@ module _ (n : ℕ) (sets rest : List ℕ) where
   }
 
   -- one more cell with a value that no other has
-  given : (k : ℕ) (mate new : ℕ → ℕ) (free left : ℕ) → IsBegun n sets rest k mate free → ((l : ℕ) → l < k → new l ≡ mate l)
+  given : {k : ℕ} {mate new : ℕ → ℕ} {free left : ℕ} → IsBegun n sets rest k mate free → ((l : ℕ) → l < k → new l ≡ mate l)
       → new k < n → has_in sets (slice_index rest k) (new k) ≡ true → ((l : ℕ) → l < k → mate l ≡ new k → ⊥)
       → ((v : ℕ) → has_bit left v ≡ true → has_bit free v ≡ true) → has_bit left (new k) ≡ false → IsBegun n sets rest (k + 1) new left
-  given k mate new free left b same low has apart inside off = record {
+  given {new} b same low has apart inside off = record {
     in_range = λ l lt. let s = same l in let r = b.in_range l in grind arith;
     joined = λ l lt. let s = same l in let r = b.joined l in grind arith;
     own = λ l m lt lm is. let s = same l in let t = same m in let x = apart l in let y = apart m in let o = b.own l m in grind arith;
     taken = λ l lt. let s = same l in let t = b.taken l in let i = inside (new l) in grind (arith, nat_tests);
   }
 
-  pub goes_on_free : (k : ℕ) (mate new : ℕ → ℕ) (free value : ℕ) → IsBegun n sets rest k mate free → ((l : ℕ) → l < k → new l ≡ mate l) → new k ≡ value
+  pub goes_on_free : (k : ℕ) {mate new : ℕ → ℕ} {free value : ℕ} → IsBegun n sets rest k mate free → ((l : ℕ) → l < k → new l ≡ mate l) → new k ≡ value
       → value < n → has_in sets (slice_index rest k) value ≡ true → has_bit free value ≡ true → GoesOn n sets rest k new free value
-  goes_on_free k mate new free value b same is low has unused = (
+  goes_on_free k {free} b same is low has unused = (
     low,
     λ left inside off.
-        given k mate new free left b same (rw is low) (rw is has)
+        given b same (rw is low) (rw is has)
         (λ l lt e. true≢false (sym unused ∙ ap (has_bit free) (sym (e ∙ is)) ∙ b.taken l lt)) inside (rw is off),
   )
 
@@ -41,9 +41,9 @@ module _ (n : ℕ) (sets rest : List ℕ) where
     no_free : (l : ℕ) → l < k → mate l ≡ value → ⊥
     no_free l lt e = true≢false (sym unused ∙ ap (has_bit free) (sym e) ∙ b.taken l lt)
 
-    begun : (left : ℕ) → ((v : ℕ) → has_bit left v ≡ true → has_bit free v ≡ true) → has_bit left value ≡ false → IsBegun n sets rest k changed left
+    begun : {left : ℕ} → ((v : ℕ) → has_bit left v ≡ true → has_bit free v ≡ true) → has_bit left value ≡ false → IsBegun n sets rest k changed left
     unfolding changed
-    begun left inside off = record {
+    begun inside off = record {
       in_range = λ l lt. let r = b.in_range l in grind (arith, nat_tests);
       joined = λ l lt. let r = b.joined l in grind (arith, nat_tests);
       own = λ l m lt lm is. let x = no_free l in let y = no_free m in let o = b.own l m in grind (arith, nat_tests);
@@ -54,13 +54,13 @@ module _ (n : ℕ) (sets rest : List ℕ) where
     unfolding changed
     apart l lt e = let x = no_free j lj in let o = b.own l j lt lj in grind (arith, nat_tests)
 
-    pub goes_on_swapped : (new : ℕ → ℕ) → new k ≡ mate j → new j ≡ value → ((l : ℕ) → l < k → (l ≡ j → ⊥) → new l ≡ mate l)
+    pub goes_on_swapped : {new : ℕ → ℕ} → new k ≡ mate j → new j ≡ value → ((l : ℕ) → l < k → (l ≡ j → ⊥) → new l ≡ mate l)
         → has_in sets (slice_index rest k) (mate j) ≡ true → GoesOn n sets rest k new free value
     unfolding changed
-    goes_on_swapped new last here other there = (
+    goes_on_swapped last here other there = (
       low,
       λ left inside off.
-          given k changed new left left (begun left inside off) (λ l lt. let o = other l lt in grind (arith, nat_tests))
+          given (begun inside off) (λ l lt. let o = other l lt in grind (arith, nat_tests))
           (rw last (b.in_range j lj)) (rw last there) (λ l lt e. apart l lt (e ∙ last)) (λ v on. on)
           (rw last (false_from_ne_true (has_bit left (mate j)) (λ on. true≢false (sym (inside (mate j) on) ∙ b.taken j lj)))),
     )

@@ -29,7 +29,7 @@ pub bound_is : (decides : Decision) (p : Solo) → IsSolo p
 bound_is decides p ok =
     let same = sum_same (visits_of (solo_n p)) (1 + solo_n p * solo_n p) (deciding decides p)
     (All-map (λ house. visits_of (solo_n p) house ≡ 1 + solo_n p * solo_n p) (house_by decides p) (houses_of p)
-    (λ k d lt. ap (λ n. 1 + n * solo_n p) ((lists_house p ok (get_or (houses_of p) k d) (all_houses p k d lt)).len))) in
+    (λ k d lt. ap (λ n. 1 + n * solo_n p) ((lists_house ok (get_or (houses_of p) k d) (all_houses p k d lt)).len))) in
     let long = length-map (houses_of p) (house_by decides p) in
     same ∙ rw long (omega arith)
 
@@ -91,10 +91,10 @@ module _ (p : Solo) (ok : IsSolo p) (b : ℕ) (b_in : b < solo_n p) where
       → length (crossing_places block (map f (range_with_len 0 (solo_n p)))) ≡ solo_n p + (solo_n p - r)
   crossed f r q pos fits inside cut =
       let split = length-append block (filter (λ place. not (has_place block place)) (map f (range_with_len 0 (solo_n p)))) in
-      let long = (lists_house p ok (Block b) b_in).len in
+      let long = (lists_house ok (Block b) b_in).len in
       let count = filter_count (λ place. not (has_place block place)) f (solo_n p) in
       let tests = count_below-same (λ k. not (has_place block (f k))) (λ k. not (eqb (k / r) q)) (solo_n p)
-      (λ k lt. ap not (sym (listed-same block (solo_n p) (solo_cells p) (lies_in p (Block b)) (lists_house p ok (Block b) b_in) (f k) (inside k lt)) ∙ cut k lt)) in
+      (λ k lt. ap not (sym (listed-same (lists_house ok (Block b) b_in) (inside k lt)) ∙ cut k lt)) in
       let few = count_other r q (solo_n p) pos in
       omega arith
 
@@ -132,9 +132,9 @@ pub crossings_bound : (p : Solo) → IsSolo p
 crossings_bound p ok =
     let c_low = ok.c_low in
     let r_low = ok.r_low in
-    let rows = sum_alike p (row_scope p) (solo_n p * p.c) (solo_n p + (solo_n p - p.r)) (λ m lt. let w = row_in p ok m lt in
+    let rows = sum_alike p (row_scope p) (solo_n p * p.c) (solo_n p + (solo_n p - p.r)) (λ m lt. let w = row_in ok m lt in
     row_cells p ok (m / p.c) w.0 (m / p.c / p.c * p.c + m % p.c) w.1 (div-mul-add (m / p.c / p.c) p.c (m % p.c) (mod_below m p.c (omega arith)))) in
-    let columns = sum_alike p (column_scope p) (solo_n p * p.r) (solo_n p + (solo_n p - p.c)) (λ m lt. let w = column_in p ok m lt in
+    let columns = sum_alike p (column_scope p) (solo_n p * p.r) (solo_n p + (solo_n p - p.c)) (λ m lt. let w = column_in ok m lt in
     column_cells p ok (m / p.r) w.0 (m / p.r % p.c * p.r + m % p.r) w.1 (div-mul-add (m / p.r % p.c) p.r (m % p.r) (mod_below m p.r (omega arith)))) in
     ap (sum_by (visits_of (solo_n p))) (map-append (house_at p) (map (row_scope p) (range_with_len 0 (solo_n p * p.c)))
     (map (column_scope p) (range_with_len 0 (solo_n p * p.r))))

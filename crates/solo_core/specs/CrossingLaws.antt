@@ -39,11 +39,11 @@ module _ (block line : ℕ → Bool) where
           true≢false (sym (part-here part larger v w.0 (let e = inside.as_many in let lt = w.1 in omega arith) w.2 (inside.inside w.0 v w.1 w.3)) ∙ none)))
 
   -- where the values of each part are those of the other, none is struck
-  pub crossing-keeps : (filling : List ℕ)
+  pub crossing-keeps : {filling : List ℕ}
       → ((k : ℕ) → k < length filling → line k ≡ true → (j : ℕ) × (j < length filling) × (block j ≡ true) × (get_or filling j 0 ≡ get_or filling k 0))
       → ((k : ℕ) → k < length filling → block k ≡ true → (j : ℕ) × (j < length filling) × (line j ≡ true) × (get_or filling j 0 ≡ get_or filling k 0))
       → Keeps (strikes_by_crossing block line) filling
-  crossing-keeps filling in_block in_line sets k own lt = false_from_ne_true (strikes_by_crossing block line sets k (get_or filling k 0))
+  crossing-keeps {filling} in_block in_line sets k own lt = false_from_ne_true (strikes_by_crossing block line sets k (get_or filling k 0))
       (two_cases ⊥ sets k (get_or filling k 0) (λ here. there block (in_block k lt here)) (λ here. there line (in_line k lt here)))
     where
       there : (part : ℕ → Bool) → (j : ℕ) × (j < length filling) × (part j ≡ true) × (get_or filling j 0 ≡ get_or filling k 0) → has_in_part part sets (get_or filling k 0) ≡ false → ⊥
@@ -78,11 +78,11 @@ pub record HoldsEach (n : ℕ) (g places : List ℕ) : Type 0 where
   pub inside : (k : ℕ) → k < length places → slice_index places k < length g
   pub holds : no_repeat (map (slice_index g) places) ≡ true
 
-module _ (n : ℕ) (g : List ℕ) (small : (c : ℕ) → c < length g → slice_index g c < n) where
+module _ {n : ℕ} {g : List ℕ} (small : (c : ℕ) → c < length g → slice_index g c < n) where
   -- a house has each number at one place alone
-  one_place : (places : List ℕ) → HoldsEach n g places → (c d : ℕ) → has_place places c ≡ true → has_place places d ≡ true → slice_index g c ≡ slice_index g d
+  one_place : {places : List ℕ} → HoldsEach n g places → {c : ℕ} (d : ℕ) → has_place places c ≡ true → has_place places d ≡ true → slice_index g c ≡ slice_index g d
       → c ≡ d
-  one_place places h c d on_c on_d same =
+  one_place {places} h {c} d on_c on_d same =
       let j = has_place-at places c on_c in
       let k = has_place-at places d on_d in
       let long = length-map places (slice_index g) in
@@ -92,20 +92,20 @@ module _ (n : ℕ) (g : List ℕ) (small : (c : ℕ) → c < length g → slice_
       sym j.2 ∙ ap (slice_index places) e ∙ k.2
 
   -- the number of a cell that the first house has alone stands in a cell that the second has alone
-  other_cell : (first second : List ℕ) → HoldsEach n g first → HoldsEach n g second → (c : ℕ) → has_place first c ≡ true → has_place second c ≡ false
+  other_cell : {first second : List ℕ} → HoldsEach n g first → HoldsEach n g second → (c : ℕ) → has_place first c ≡ true → has_place second c ≡ false
       → (d : ℕ) × (has_place second d ≡ true) × (has_place first d ≡ false) × (slice_index g d ≡ slice_index g c)
-  other_cell first second h other c on off =
+  other_cell {first} {second} h other c on off =
       let at = has_place-at first c on in
       let low = rw at.2 at (small (slice_index first at.0) (h.inside at.0 at.1)) in
       let w = none_missing n (map (slice_index g) second) (length-map second (slice_index g) ∙ other.long) other.holds
-      (λ k lk. numbers k (omega (arith, other.long))) (slice_index g c) low in
+      (λ k lk. numbers k (omega (arith, other.long))) low in
       let lw : w.0 < length second = omega (arith, w.1, other.long) in
       let there = has_place-here second w.0 lw in
       let same = sym (get_or-map (slice_index g) second w.0 0 0 lw) ∙ w.2 in (
         slice_index second w.0,
         there,
         false_from_ne_true (has_place first (slice_index second w.0)) (λ here.
-            true≢false (sym there ∙ ap (has_place second) (one_place first h (slice_index second w.0) c here on same) ∙ off)),
+            true≢false (sym there ∙ ap (has_place second) (one_place h c here on same) ∙ off)),
         same,
       )
     where
@@ -117,8 +117,8 @@ module _ (block line : List ℕ) where
   abbrev rest : List ℕ
   rest = filter (λ c. not (has_place block c)) line
 
-  at_block : (k : ℕ) → k < length block → slice_index (crossing_places block line) k ≡ slice_index block k
-  at_block k lt = get_or_append_left block rest 0 k lt
+  at_block : {k : ℕ} → k < length block → slice_index (crossing_places block line) k ≡ slice_index block k
+  at_block {k} lt = get_or_append_left block rest 0 k lt
 
   at_rest : (k : ℕ) → length block ≤ k → slice_index (crossing_places block line) k ≡ slice_index rest (k - length block)
   at_rest k le = get_or-append_right block rest (length block) k 0 refl le
@@ -134,10 +134,10 @@ module _ (block line : List ℕ) where
       let w = place-filter (λ c. not (has_place block c)) line (slice_index rest (k - length block)) (has_place-here rest (k - length block) (omega arith)) in
       rw (at_rest k le) (w.0, not-true (has_place block (slice_index rest (k - length block))) w.1)
 
-  pub crossing-within : (cells : ℕ) → ((k : ℕ) → k < length block → slice_index block k < cells) → ((k : ℕ) → k < length line → slice_index line k < cells)
+  pub crossing-within : {cells : ℕ} → ((k : ℕ) → k < length block → slice_index block k < cells) → ((k : ℕ) → k < length line → slice_index line k < cells)
       → (k : ℕ) → k < length (crossing_places block line) → slice_index (crossing_places block line) k < cells
-  crossing-within cells in_block in_line k lt = elim (cases_lt k (length block)) [
-    | inl low ↦ rw (at_block k low) (in_block k low)
+  crossing-within in_block in_line k lt = elim (cases_lt k (length block)) [
+    | inl low ↦ rw (at_block low) (in_block k low)
     | inr high ↦ let w = has_place-at line (slice_index (crossing_places block line) k) (rest_is k high lt).0 in rw w.2 at (in_line w.0 w.1)
   ]
 
@@ -154,7 +154,7 @@ module _ (block line : List ℕ) where
     value_at k lt = get_or-map (slice_index g) (crossing_places block line) k 0 0 lt
 
     pub crossing-sound : Keeps (strikes_by_crossing (in_block_alone (length block) (is_shared block line)) (in_line_alone (length block))) values
-    crossing-sound = crossing-keeps (in_block_alone (length block) (is_shared block line)) (in_line_alone (length block)) values from_line from_block
+    crossing-sound = crossing-keeps (in_block_alone (length block) (is_shared block line)) (in_line_alone (length block)) from_line from_block
       where
         size : length values ≡ length block + length rest
         size = length-map (crossing_places block line) (slice_index g) ∙ long
@@ -166,13 +166,13 @@ module _ (block line : List ℕ) where
             let s = size in
             let lk : k < length (crossing_places block line) = omega arith in
             let w = rest_is k (leb-true (length block) k here) lk in
-            let d = other_cell n g small line block in_line in_block (slice_index (crossing_places block line) k) w.0 w.1 in
+            let d = other_cell small in_line in_block (slice_index (crossing_places block line) k) w.0 w.1 in
             let j = has_place-at block d.0 d.1 in
             let lj = j.1 in (
               j.0,
               omega arith,
               and_from _ _ (lt-ltb j.0 (length block) lj) (not_from_false (has_place line (slice_index block j.0)) (ap (has_place line) j.2 ∙ d.2)),
-              value_at j.0 (omega arith) ∙ ap (slice_index g) (at_block j.0 lj ∙ j.2) ∙ d.3 ∙ sym (value_at k lk),
+              value_at j.0 (omega arith) ∙ ap (slice_index g) (at_block lj ∙ j.2) ∙ d.3 ∙ sym (value_at k lk),
             )
 
         from_block : (k : ℕ) → k < length values → in_block_alone (length block) (is_shared block line) k ≡ true
@@ -182,7 +182,7 @@ module _ (block line : List ℕ) where
             let s = size in
             let parts = and_parts _ _ here in
             let low = ltb-true k (length block) parts.0 in
-            let d = other_cell n g small block line in_block in_line (slice_index block k) (has_place-here block k low)
+            let d = other_cell small in_block in_line (slice_index block k) (has_place-here block k low)
             (not-true (has_place line (slice_index block k)) parts.1) in
             let j = has_place-at rest d.0 (place-kept (λ c. not (has_place block c)) line d.0 d.1 (not_from_false (has_place block d.0) d.2)) in
             let lj = j.1 in
@@ -192,5 +192,5 @@ module _ (block line : List ℕ) where
               le-leb (length block) (length block + j.0) (omega arith),
               value_at (length block + j.0) (omega arith) ∙ ap (slice_index g) (at_rest (length block + j.0) (omega arith) ∙ ap (slice_index rest) e ∙ j.2)
                   ∙ d.3
-                  ∙ sym (value_at k (omega arith) ∙ ap (slice_index g) (at_block k low)),
+                  ∙ sym (value_at k (omega arith) ∙ ap (slice_index g) (at_block low)),
             )

@@ -18,14 +18,14 @@ pub record Lists (places : List ℕ) (n cells : ℕ) (lies : ℕ → Bool) : Typ
   pub index_in : (place : ℕ) → place < cells → index place < n
   pub covers : (place : ℕ) → place < cells → lies place ≡ true → slice_index places (index place) ≡ place
 
-by_function : (f index : ℕ → ℕ) (n cells : ℕ) (lies : ℕ → Bool)
+by_function : (f index : ℕ → ℕ) {n cells : ℕ} {lies : ℕ → Bool}
     → ((k : ℕ) → k < n → f k < cells)
     → ((k : ℕ) → k < n → lies (f k) ≡ true)
     → ((k : ℕ) → k < n → index (f k) ≡ k)
     → ((place : ℕ) → place < cells → index place < n)
     → ((place : ℕ) → place < cells → lies place ≡ true → f (index place) ≡ place)
     → Lists (map f (range_with_len 0 n)) n cells lies
-by_function f index n cells lies within lies_at back index_in covers = record {
+by_function f index {n} {lies} within lies_at back index_in covers = record {
   len = length-map-range_with_len f 0 n;
   within = λ k lt. rw (at k lt) (within k lt);
   lies_at = λ k lt. ap lies (at k lt) ∙ lies_at k lt;
@@ -40,7 +40,7 @@ by_function f index n cells lies within lies_at back index_in covers = record {
 
 -- ---- lines of a square grid
 row_lists : (n y : ℕ) → y < n → Lists (map (λ x. y * n + x) (range_with_len 0 n)) n (n * n) (λ place. eqb (place / n) y)
-row_lists n y lt = by_function (λ x. y * n + x) (λ place. place % n) n (n * n) (λ place. eqb (place / n) y)
+row_lists n y lt = by_function (λ x. y * n + x) (λ place. place % n)
     (λ k l. mul-add-lt y n k n lt l)
     (λ k l. eq-eqb ((y * n + k) / n) y (div-mul-add y n k l))
     (λ k l. mod-mul-add y n k l)
@@ -48,8 +48,8 @@ row_lists n y lt = by_function (λ x. y * n + x) (λ place. place % n) n (n * n)
     (λ place l on. ap (λ u. u * n + place % n) (sym (eqb-true (place / n) y on)) ∙ div-add-mod' place n)
 
 -- a line that has one cell in each row: in row y that in column f y
-falling_lists : (n : ℕ) (f : ℕ → ℕ) → 0 < n → ((y : ℕ) → y < n → f y < n) → Lists (map (λ y. y * n + f y) (range_with_len 0 n)) n (n * n) (λ place. eqb (place % n) (f (place / n)))
-falling_lists n f pos f_in = by_function (λ y. y * n + f y) (λ place. place / n) n (n * n) (λ place. eqb (place % n) (f (place / n)))
+falling_lists : {n : ℕ} (f : ℕ → ℕ) → 0 < n → ((y : ℕ) → y < n → f y < n) → Lists (map (λ y. y * n + f y) (range_with_len 0 n)) n (n * n) (λ place. eqb (place % n) (f (place / n)))
+falling_lists {n} f pos f_in = by_function (λ y. y * n + f y) (λ place. place / n)
     (λ k l. mul-add-lt k n (f k) n l (f_in k l))
     (λ k l. eq-eqb _ _ (mod-mul-add k n (f k) (f_in k l) ∙ ap f (sym (div-mul-add k n (f k) (f_in k l)))))
     (λ k l. div-mul-add k n (f k) (f_in k l))
@@ -70,14 +70,14 @@ module _ (c r b : ℕ) (c_pos : 0 < c) (r_pos : 0 < r) (b_in : b < c * r) where
   turned : c * r ≡ r * c
   turned = omega arith
 
-  fits : (a z : ℕ) → a < c → z < r → a * r + z < c * r
-  fits a z p q = rw turned (mul-add-lt a r z c p q)
+  fits : {a z : ℕ} → a < c → z < r → a * r + z < c * r
+  fits {a} {z} p q = rw turned (mul-add-lt a r z c p q)
 
   x_in : (k : ℕ) → x_of k < c * r
-  x_in k = fits (b % c) (k % r) (mod_below b c c_pos) (mod_below k r r_pos)
+  x_in k = fits (mod_below b c c_pos) (mod_below k r r_pos)
 
-  here : (k : ℕ) → k < c * r → ((y_of k * (c * r) + x_of k) / (c * r) ≡ y_of k) × ((y_of k * (c * r) + x_of k) % (c * r) ≡ x_of k)
-  here k l = (div-mul-add (y_of k) (c * r) (x_of k) (x_in k), mod-mul-add (y_of k) (c * r) (x_of k) (x_in k))
+  here : {k : ℕ} → k < c * r → ((y_of k * (c * r) + x_of k) / (c * r) ≡ y_of k) × ((y_of k * (c * r) + x_of k) % (c * r) ≡ x_of k)
+  here {k} l = (div-mul-add (y_of k) (c * r) (x_of k) (x_in k), mod-mul-add (y_of k) (c * r) (x_of k) (x_in k))
 
   block_at : ℕ → ℕ
   block_at place = ((place / (c * r)) / c) * c + (place % (c * r)) / r
@@ -88,23 +88,23 @@ module _ (c r b : ℕ) (c_pos : 0 < c) (r_pos : 0 < r) (b_in : b < c * r) where
   in_block : (k : ℕ) → k < c * r → block_at (y_of k * (c * r) + x_of k) ≡ b
   unfolding block_at
   in_block k l =
-      rw ((here k l).0, (here k l).1, div-mul-add (b / c) c (k / r) (tall k l), div-mul-add (b % c) r (k % r) (mod_below k r r_pos)) (div-add-mod' b c)
+      rw ((here l).0, (here l).1, div-mul-add (b / c) c (k / r) (tall k l), div-mul-add (b % c) r (k % r) (mod_below k r r_pos)) (div-add-mod' b c)
 
   at_index : (k : ℕ) → k < c * r → index_at (y_of k * (c * r) + x_of k) ≡ k
   unfolding index_at
   at_index k l =
-      rw ((here k l).0, (here k l).1, mod-mul-add (b / c) c (k / r) (tall k l), mod-mul-add (b % c) r (k % r) (mod_below k r r_pos)) (div-add-mod' k r)
+      rw ((here l).0, (here l).1, mod-mul-add (b / c) c (k / r) (tall k l), mod-mul-add (b % c) r (k % r) (mod_below k r r_pos)) (div-add-mod' k r)
 
   index_below : (place : ℕ) → index_at place < c * r
   unfolding index_at
-  index_below place = fits ((place / (c * r)) % c) ((place % (c * r)) % r) (mod_below (place / (c * r)) c c_pos) (mod_below (place % (c * r)) r r_pos)
+  index_below place = fits (mod_below (place / (c * r)) c c_pos) (mod_below (place % (c * r)) r r_pos)
 
   pos : 0 < c * r
   pos = omega arith
 
-  covered : (place : ℕ) → block_at place ≡ b → y_of (index_at place) * (c * r) + x_of (index_at place) ≡ place
+  covered : {place : ℕ} → block_at place ≡ b → y_of (index_at place) * (c * r) + x_of (index_at place) ≡ place
   unfolding block_at index_at
-  covered place e =
+  covered {place} e =
       let y = place / (c * r) in
       let x = place % (c * r) in
       let x_low : x / r < c = div_below x r c r_pos (mod_below place (c * r) pos) in
@@ -116,23 +116,23 @@ module _ (c r b : ℕ) (c_pos : 0 < c) (r_pos : 0 < r) (b_in : b < c * r) where
       rw (band_is, stack_is, tall_is, wide_is, div-add-mod' y c, div-add-mod' x r) (div-add-mod' place (c * r))
 
   block_lists : Lists (block_places c r b) (c * r) ((c * r) * (c * r)) (λ place. eqb (block_at place) b)
-  block_lists = by_function (λ k. ((b / c) * c + k / r) * (c * r) + ((b % c) * r + k % r)) index_at (c * r) ((c * r) * (c * r)) (λ place. eqb (block_at place) b)
+  block_lists = by_function (λ k. ((b / c) * c + k / r) * (c * r) + ((b % c) * r + k % r)) index_at
       (λ k l. block-within c r b k b_in l)
       (λ k l. eq-eqb (block_at (y_of k * (c * r) + x_of k)) b (in_block k l))
       (λ k l. at_index k l)
       (λ place l. index_below place)
-      (λ place l on. covered place (eqb-true (block_at place) b on))
+      (λ place l on. covered (eqb-true (block_at place) b on))
 
 -- ---- the houses of a puzzle
-pub some_numbers : (p : Solo) → IsSolo p → 0 < solo_n p
-some_numbers p ok = let c_low = ok.c_low in let r_low = ok.r_low in omega (arith, mul-le 1 1 p.c p.r (omega arith) (omega arith))
+pub some_numbers : {p : Solo} → IsSolo p → 0 < solo_n p
+some_numbers {p} ok = let c_low = ok.c_low in let r_low = ok.r_low in omega (arith, mul-le 1 1 p.c p.r (omega arith) (omega arith))
 
-pub lists_house : (p : Solo) → IsSolo p → (house : NamedHouse) → IsHouseOf p house → Lists (places_of p house) (solo_n p) (solo_cells p) (lies_in p house)
+pub lists_house : {p : Solo} → IsSolo p → (house : NamedHouse) → IsHouseOf p house → Lists (places_of p house) (solo_n p) (solo_cells p) (lies_in p house)
 unfolding block_at
-lists_house p ok (Row y) lt = row_lists (solo_n p) y lt
-lists_house p ok (Column i) lt = falling_lists (solo_n p) (λ y. i) (some_numbers p ok) (λ y l. lt)
-lists_house p ok (Block b) lt = let c_low = ok.c_low in let r_low = ok.r_low in block_lists p.c p.r b (omega arith) (omega arith) lt
-lists_house p ok (Diagonal d) lt = falling_lists (solo_n p) (λ y. if eqb d 0 then y else solo_n p - 1 - y) (some_numbers p ok) (λ y l. elim (cases_Bool (eqb d 0)) [
+lists_house {p} ok (Row y) lt = row_lists (solo_n p) y lt
+lists_house ok (Column i) lt = falling_lists (λ y. i) (some_numbers ok) (λ y l. lt)
+lists_house {p} ok (Block b) lt = let c_low = ok.c_low in let r_low = ok.r_low in block_lists p.c p.r b (omega arith) (omega arith) lt
+lists_house {p} ok (Diagonal d) lt = falling_lists (λ y. if eqb d 0 then y else solo_n p - 1 - y) (some_numbers ok) (λ y l. elim (cases_Bool (eqb d 0)) [
   | inl first ↦ rw first l
   | inr second ↦ rw second (omega arith)
 ])
@@ -170,7 +170,7 @@ each_house p P all (Diagonal d) (lt, is) =
     ]
 
 -- ---- places of a list
-module _ (places : List ℕ) (n cells : ℕ) (lies : ℕ → Bool) (l : Lists places n cells lies) where
+module _ {places : List ℕ} {n cells : ℕ} {lies : ℕ → Bool} (l : Lists places n cells lies) where
   pub listed-within : (k : ℕ) → k < length places → slice_index places k < cells
   listed-within k lt = let e = l.len in l.within k (omega arith)
 
@@ -180,21 +180,21 @@ module _ (places : List ℕ) (n cells : ℕ) (lies : ℕ → Bool) (l : Lists pl
       sym (l.index_of j (omega arith)) ∙ ap l.index e ∙ l.index_of k (omega arith)
 
   -- a place is in the list where it passes the test
-  pub listed-has : (place : ℕ) → place < cells → (IsTrue (has_place places place)) ↔ (IsTrue (lies place))
-  listed-has place lt = (
+  pub listed-has : {place : ℕ} → place < cells → (IsTrue (has_place places place)) ↔ (IsTrue (lies place))
+  listed-has {place} lt = (
     λ has. let w = has_place-at places place has in let l_in : w.0 < n = let a = w.1 in let e = l.len in omega arith in rw w.2 at (l.lies_at w.0 l_in),
     λ on. rw (l.covers place lt on) at (has_place-here places (l.index place) (let e = l.len in let i = l.index_in place lt in omega arith)),
   )
 
 -- a test of places is that of their list
-pub listed-same : (places : List ℕ) (n cells : ℕ) (lies : ℕ → Bool) → Lists places n cells lies → (place : ℕ) → place < cells → lies place ≡ has_place places place
-listed-same places n cells lies l place lt = elim (cases_Bool (lies place)) [
-  | inl on ↦ on ∙ sym ((listed-has places n cells lies l place lt).1 on)
-  | inr off ↦ off ∙ sym (false_from_ne_true (has_place places place) (λ has. true≢false (sym ((listed-has places n cells lies l place lt).0 has) ∙ off)))
+pub listed-same : {places : List ℕ} {n cells : ℕ} {lies : ℕ → Bool} → Lists places n cells lies → {place : ℕ} → place < cells → lies place ≡ has_place places place
+listed-same {places} {lies} l {place} lt = elim (cases_Bool (lies place)) [
+  | inl on ↦ on ∙ sym ((listed-has l lt).1 on)
+  | inr off ↦ off ∙ sym (false_from_ne_true (has_place places place) (λ has. true≢false (sym ((listed-has l lt).0 has) ∙ off)))
 ]
 
 -- ---- a block and a line of the puzzle
-module _ (p : Solo) (ok : IsSolo p) where
+module _ {p : Solo} (ok : IsSolo p) where
   pub row_in : (m : ℕ) → m < solo_n p * p.c → (m / p.c < solo_n p) × (m / p.c / p.c * p.c + m % p.c < solo_n p)
   row_in m lt =
       let low = ok.c_low in

@@ -1,11 +1,13 @@
 -- The laws that every rule set keeps to, for the rule sets of Solo.
-use Rattle.std.proofs.Common.{◌≡◌, ℕ, ◌+◌, ◌*◌, ◌/◌, ◌%◌, ◌<◌, Bool, true, false, ltb, List, ◌++◌, map, length, get_or, slice_index, sym, ◌∙◌, arith, All}
+use Rattle.std.proofs.Common.{◌≡◌, ℕ, ◌+◌, ◌*◌, ◌/◌, ◌%◌, ◌<◌, Bool, true, false, ltb, List, ◌++◌, map, length, get_or, slice_index, refl, sym, ◌∙◌, arith, All}
 use Rattle.solo_core.specs.Common.{range_with_len, and_parts, ltb-true, true≢false, nat_tests, mul-le, get_or-map, length-map, All-append, All-map, IsInside}
 use Rattle.solo_core.specs.Common.{IsWithin, single, IsGrid, Solo, IsSolo, solo_n, IsLawful, strikes_by_fillings, Decision, IsMonotone, House, IsSettled, Keeps}
 use Rattle.solo_core.specs.Common.{IsSound, IsSetting, NamedHouse, Row, Column, Block, solo_cells, houses_of, IsHouseOf, lies_in, places_of, numbers_of}
 use Rattle.solo_core.specs.Common.{is_solo_solution, no_repeat}
 use Rattle.grid_core.proofs.GridLemmas.{single-is}
 use Rattle.engine_core.specs.HouseSetsLaws.{by_fillings-monotone}
+use Rattle.engine_core.specs.ListedHouses.{AreScopesOf, all_places, most_turns}
+use Rattle.engine_core.specs.ListedLaws.{listed-bound, listed-scopes}
 use Rattle.engine_core.specs.HouseRulesLaws.{by_houses-lawful, bound_enough, by_fillings-settles, by_fillings-keeps}
 use Rattle.solo_core.specs.RuleSets.{start, house_by, house_at, deciding, crossings_of, setting_of, rules_of, singles_rules, houses_rules, crossings_rules}
 use Rattle.solo_core.specs.declared.houses.scope.VisitName.{VisitName}
@@ -16,6 +18,13 @@ use Rattle.solo_core.specs.Singles.{strikes_by_singles}
 use Rattle.solo_core.specs.SinglesLaws.{singles-monotone, singles-keeps}
 use Rattle.solo_core.specs.Crossing.{crossing, is_shared, in_block_alone, in_line_alone}
 use Rattle.solo_core.specs.CrossingLaws.{crossing-monotone, crossing-settles, crossing-within, crossing-different, crossing-sound, HoldsEach}
+
+-- ---- the lists of the houses' places
+pub listed_in_rules : (settled : Bool) (p : Solo) (houses : List House) → AreScopesOf (rules_of settled p houses) (all_places houses)
+listed_in_rules settled p houses = listed-scopes (setting_of settled p houses) houses
+
+pub bound_of_rules : (settled : Bool) (p : Solo) (houses : List House) → (rules_of settled p houses).bound ≡ most_turns (rules_of settled p houses) (all_places houses)
+bound_of_rules settled p houses = listed-bound (setting_of settled p houses) houses refl refl
 
 module _ (p : Solo) (ok : IsSolo p) where
   -- ---- the start
@@ -36,9 +45,9 @@ module _ (p : Solo) (ok : IsSolo p) where
       let u = and_parts (ltb v (solo_n p)) _ w.1 in
       (ltb-true c (solo_cells p) w.0, ltb-true v (solo_n p) u.0)
 
-  fine : (settled : Bool) (houses : List House) → IsSetting (setting_of settled p houses)
-  fine settled houses = record {
-    some_values = some_numbers p ok;
+  fine : {settled : Bool} (houses : List House) → IsSetting (setting_of settled p houses)
+  fine houses = record {
+    some_values = some_numbers ok;
     few_values = ok.n_high;
     few_cells = let high = ok.n_high in omega (arith, mul-le (solo_n p) (solo_n p) 31 31 high high);
     start_within = within_start;
@@ -46,32 +55,32 @@ module _ (p : Solo) (ok : IsSolo p) where
   }
 
   pub rules_lawful : (settled : Bool) (houses : List House) → All (IsSound (setting_of settled p houses)) houses → IsLawful (rules_of settled p houses)
-  rules_lawful settled houses sound = by_houses-lawful (setting_of settled p houses) houses (fine settled houses) sound
+  rules_lawful settled houses sound = by_houses-lawful (setting_of settled p houses) houses (fine houses) sound
       (λ _. bound_enough (setting_of settled p houses) houses (omega arith)) (λ e. absurd (true≢false e))
 
   -- ---- houses that decide alike
   listed : (house : NamedHouse) → IsHouseOf p house → Lists (places_of p house) (solo_n p) (solo_cells p) (lies_in p house)
-  listed house is = lists_house p ok house is
+  listed house is = lists_house ok house is
 
   inside : (house : NamedHouse) → IsHouseOf p house → (k : ℕ) → k < length (places_of p house) → slice_index (places_of p house) k < solo_cells p
-  inside house is = listed-within (places_of p house) (solo_n p) (solo_cells p) (lies_in p house) (listed house is)
+  inside house is = listed-within (listed house is)
 
   different : (house : NamedHouse) → IsHouseOf p house → (j k : ℕ) → j < length (places_of p house) → k < length (places_of p house) → slice_index (places_of p house) j ≡ slice_index (places_of p house) k → j ≡ k
-  different house is = listed-different (places_of p house) (solo_n p) (solo_cells p) (lies_in p house) (listed house is)
+  different house is = listed-different (listed house is)
 
   -- the numbers of a house of a grid: n of them, below n
-  numbers_small : (g : List ℕ) → IsGrid (solo_cells p) (solo_n p) g → (c : ℕ) → c < length g → slice_index g c < solo_n p
-  numbers_small g grid c lt = grid.each_value c 0 lt
+  numbers_small : {g : List ℕ} → IsGrid (solo_cells p) (solo_n p) g → (c : ℕ) → c < length g → slice_index g c < solo_n p
+  numbers_small grid c lt = grid.each_value c 0 lt
 
-  inside_grid : (g : List ℕ) → IsGrid (solo_cells p) (solo_n p) g → (house : NamedHouse) → IsHouseOf p house → (k : ℕ) → k < length (places_of p house) → slice_index (places_of p house) k < length g
-  inside_grid g grid house is k lt = let e = grid.each_cell in let w = inside house is k lt in omega arith
+  inside_grid : {g : List ℕ} → IsGrid (solo_cells p) (solo_n p) g → (house : NamedHouse) → IsHouseOf p house → (k : ℕ) → k < length (places_of p house) → slice_index (places_of p house) k < length g
+  inside_grid grid house is k lt = let e = grid.each_cell in let w = inside house is k lt in omega arith
 
-  holds_each : (g : List ℕ) → IsGrid (solo_cells p) (solo_n p) g → is_solo_solution p g ≡ true → (house : NamedHouse) → IsHouseOf p house
+  holds_each : {g : List ℕ} → IsGrid (solo_cells p) (solo_n p) g → is_solo_solution p g ≡ true → (house : NamedHouse) → IsHouseOf p house
       → HoldsEach (solo_n p) g (places_of p house)
-  holds_each g grid on house is = record {
+  holds_each {g} grid on house is = record {
     long =
         (listed house is).len;
-    inside = inside_grid g grid house is;
+    inside = inside_grid grid house is;
     holds = house_of_solution p ok g (rule_from_test p ok g grid on) house is;
   }
 
@@ -88,22 +97,22 @@ module _ (p : Solo) (ok : IsSolo p) where
         different = different house is;
         monotone = monotone;
         keeps = λ g grid on.
-            let h = holds_each g grid on house is in
+            let h = holds_each grid on house is in
             keeps (numbers_of p g house) (length-map (places_of p house) (slice_index g) ∙ h.long) h.holds (λ k lt.
             let lk : k < length (places_of p house) = omega (arith, h.long) in
-            rw (get_or-map (slice_index g) (places_of p house) k 0 0 lk) (numbers_small g grid (slice_index (places_of p house) k) (h.inside k lk)));
+            rw (get_or-map (slice_index g) (places_of p house) k 0 0 lk) (numbers_small grid (slice_index (places_of p house) k) (h.inside k lk)));
         settles = settles;
       }
 
   -- ---- crossings of a block and a line
-  crossing_is_sound : (all : List House) (b : ℕ) (line : NamedHouse) → b < solo_n p → IsHouseOf p line → IsSound (setting_of true p all) (crossing (places_of p (Block b)) (places_of p line))
-  crossing_is_sound all b line b_in is = record {
-    within = crossing-within (places_of p (Block b)) (places_of p line) (solo_cells p) (inside (Block b) b_in) (inside line is);
+  crossing_is_sound : (all : List House) {b : ℕ} (line : NamedHouse) → b < solo_n p → IsHouseOf p line → IsSound (setting_of true p all) (crossing (places_of p (Block b)) (places_of p line))
+  crossing_is_sound all {b} line b_in is = record {
+    within = crossing-within (places_of p (Block b)) (places_of p line) (inside (Block b) b_in) (inside line is);
     different = crossing-different (places_of p (Block b)) (places_of p line) (different (Block b) b_in) (different line is);
     monotone = crossing-monotone (in_block_alone (length (places_of p (Block b))) (is_shared (places_of p (Block b)) (places_of p line)))
         (in_line_alone (length (places_of p (Block b))));
-    keeps = λ g grid on. crossing-sound (places_of p (Block b)) (places_of p line) (solo_n p) g (numbers_small g grid) (holds_each g grid on (Block b) b_in)
-        (holds_each g grid on line is);
+    keeps = λ g grid on. crossing-sound (places_of p (Block b)) (places_of p line) (solo_n p) g (numbers_small grid) (holds_each grid on (Block b) b_in)
+        (holds_each grid on line is);
     settles = λ _. crossing-settles (in_block_alone (length (places_of p (Block b))) (is_shared (places_of p (Block b)) (places_of p line)))
         (in_line_alone (length (places_of p (Block b))));
   }
@@ -115,9 +124,9 @@ module _ (p : Solo) (ok : IsSolo p) where
   each_crossing all = All-map (IsSound (setting_of true p all)) (house_at p) (crossing_scopes p)
       (All-append (scope_is_sound all) (map (row_scope p) (range_with_len 0 (solo_n p * p.c))) (map (column_scope p) (range_with_len 0 (solo_n p * p.r)))
       (each_value (scope_is_sound all) (row_scope p) (solo_n p * p.c)
-      (λ m lt. let w = row_in p ok m lt in crossing_is_sound all (m / p.c) (Row (m / p.c / p.c * p.c + m % p.c)) w.0 w.1))
+      (λ m lt. let w = row_in ok m lt in crossing_is_sound all (Row (m / p.c / p.c * p.c + m % p.c)) w.0 w.1))
       (each_value (scope_is_sound all) (column_scope p) (solo_n p * p.r)
-      (λ m lt. let w = column_in p ok m lt in crossing_is_sound all (m / p.r) (Column (m / p.r % p.c * p.r + m % p.r)) w.0 w.1)))
+      (λ m lt. let w = column_in ok m lt in crossing_is_sound all (Column (m / p.r % p.c * p.r + m % p.r)) w.0 w.1)))
 
   -- ---- the three rule sets
   by_fillings : (all : List House) → All (IsSound (setting_of true p all)) (deciding (strikes_by_fillings no_repeat) p)

@@ -9,13 +9,13 @@ use Rattle.solo_core.specs.Singles.{Has, has_other, is_elsewhere, taken_elsewher
 none_below : (test : ℕ → Bool) (n : ℕ) → ((k : ℕ) → k < n → test k ≡ true → ⊥) → any_below test n ≡ false
 none_below test n none = false_from_ne_true (any_below test n) (λ on. let w = any_below-some test n on in none w.0 w.1 w.2)
 
-fails_below : (test : ℕ → Bool) (n : ℕ) → any_below test n ≡ false → (k : ℕ) → k < n → test k ≡ true → ⊥
-fails_below test n off k lt on = true≢false (sym on ∙ any_below-none test n off k lt)
+fails_below : (test : ℕ → Bool) {n : ℕ} → any_below test n ≡ false → {k : ℕ} → k < n → test k ≡ true → ⊥
+fails_below test {n} off {k} lt on = true≢false (sym on ∙ any_below-none test n off k lt)
 
 -- ---- a strike has one of four causes
-or_stays : (a b c d a' b' c' d' : Bool) → (a ≡ true → (a' || c') ≡ true) → (b ≡ true → (b' || d') ≡ true) → (c ≡ true → c' ≡ true) → (d ≡ true → d' ≡ true)
+or_stays : {a b c d : Bool} (a' b' : Bool) {c' d' : Bool} → (a ≡ true → (a' || c') ≡ true) → (b ≡ true → (b' || d') ≡ true) → (c ≡ true → c' ≡ true) → (d ≡ true → d' ≡ true)
     → (a || (b || (c || d))) ≡ true → (a' || (b' || (c' || d'))) ≡ true
-or_stays a b c d a' b' c' d' f g h i on = grind arith
+or_stays a' b' f g h i on = grind arith
 
 -- ---- smaller sets
 module _ (cells values : ℕ) (at at' : Has) (down : (k v : ℕ) → k < cells → v < values → at' k v ≡ true → at k v ≡ true) where
@@ -23,7 +23,7 @@ module _ (cells values : ℕ) (at at' : Has) (down : (k v : ℕ) → k < cells �
   empty_stays h =
       let w = any_below-some (λ j. not (any_below (at j) values)) cells h in
       any_below-here (λ j. not (any_below (at' j) values)) cells w.0 w.1
-      (ap not (none_below (at' w.0) values (λ v b e. fails_below (at w.0) values (not-true (any_below (at w.0) values) w.2) v b (down w.0 v w.1 b e))))
+      (ap not (none_below (at' w.0) values (λ v b e. fails_below (at w.0) (not-true (any_below (at w.0) values) w.2) b (down w.0 v w.1 b e))))
 
   -- a cell that has only the value has at most the value in smaller sets: it has it, or is empty
   taken_stays : (place value : ℕ) → taken_elsewhere cells values at place value ≡ true
@@ -32,7 +32,7 @@ module _ (cells values : ℕ) (at at' : Has) (down : (k v : ℕ) → k < cells �
       let w = any_below-some (λ j. not (eqb j place) && (at j value && not (has_other values at j value))) cells h in
       let alone : has_other values at w.0 value ≡ false = grind (arith, w.2) in
       let no_other : (u : ℕ) → u < values → not (eqb u value) ≡ true → at' w.0 u ≡ true → ⊥ = λ u b ne e.
-      fails_below (λ u. not (eqb u value) && at w.0 u) values alone u b (and_from (not (eqb u value)) (at w.0 u) ne (down w.0 u w.1 b e)) in
+      fails_below (λ u. not (eqb u value) && at w.0 u) alone b (and_from (not (eqb u value)) (at w.0 u) ne (down w.0 u w.1 b e)) in
       elim (cases_Bool (at' w.0 value)) [
         | inl has ↦
             let none : has_other values at' w.0 value ≡ false = none_below (λ u. not (eqb u value) && at' w.0 u) values (λ u b e. no_other u b (grind arith) (grind arith)) in
@@ -47,8 +47,7 @@ pub strikes_stay : (cells values : ℕ) (at at' : Has) → ((k v : ℕ) → k < 
     → strikes_where cells values at place value ≡ true → strikes_where cells values at' place value ≡ true
 unfolding strikes_where
 strikes_stay cells values at at' down place value = or_stays
-    (taken_elsewhere cells values at place value) (needed_for_other cells values at place value) (has_empty_cell cells values at) (has_lost_value cells values at)
-    (taken_elsewhere cells values at' place value) (needed_for_other cells values at' place value) (has_empty_cell cells values at') (has_lost_value cells values at')
+    (taken_elsewhere cells values at' place value) (needed_for_other cells values at' place value)
     (taken_stays cells values at at' down place value) (taken_stays values cells (λ w j. at j w) (λ w j. at' j w) (λ w j lw lj. down j w lj lw) value place)
     (empty_stays cells values at at' down) (empty_stays values cells (λ w j. at j w) (λ w j. at' j w) (λ w j lw lj. down j w lj lw))
 
@@ -67,9 +66,9 @@ module _ (n : ℕ) (f : List ℕ) (long : length f ≡ n) (holds : no_repeat f �
     none_below (λ u. not (eqb u (get_or f k 0)) && (eqb (get_or f k 0) u && not (is_elsewhere n (λ j u. eqb (get_or f j 0) u) k u))) n
         (λ u lu on. grind (arith, nat_tests)),
     none_below (λ j. not (any_below (λ u. eqb (get_or f j 0) u) n)) n
-        (λ j lj on. fails_below (λ u. eqb (get_or f j 0) u) n (not-true _ on) (get_or f j 0) (small j lj) (eq-eqb _ _ refl)),
+        (λ j lj on. fails_below (λ u. eqb (get_or f j 0) u) (not-true _ on) (small j lj) (eq-eqb _ _ refl)),
     none_below (λ u. not (any_below (λ j. eqb (get_or f j 0) u) n)) n
-        (λ u lu on. let w = none_missing n f long holds small u lu in fails_below (λ j. eqb (get_or f j 0) u) n (not-true _ on) w.0 w.1 (eq-eqb _ _ w.2)),
+        (λ u lu on. let w = none_missing n f long holds small lu in fails_below (λ j. eqb (get_or f j 0) u) (not-true _ on) w.1 (eq-eqb _ _ w.2)),
   ) refl
 
   -- nor is it from cells that have more values

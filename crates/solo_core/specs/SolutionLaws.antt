@@ -15,7 +15,7 @@ pub test_from_given : (p : Solo) (g : List ℕ) (place : ℕ) → (1 ≤ slice_i
 test_from_given p g place stands = grind (arith, nat_tests)
 
 -- ---- the numbers of a list of places
-module _ (places : List ℕ) (n cells : ℕ) (lies : ℕ → Bool) (l : Lists places n cells lies) where
+module _ {places : List ℕ} {n cells : ℕ} {lies : ℕ → Bool} (l : Lists places n cells lies) where
   -- the numbers at different places differ where the list of them has no repeat
   pub differ_in : (g : List ℕ) → no_repeat (map (slice_index g) places) ≡ true → (j k : ℕ) → j < cells → k < cells → (j ≡ k → ⊥)
       → lies j ≡ true → lies k ≡ true → slice_index g j ≡ slice_index g k → ⊥
@@ -52,13 +52,13 @@ rule_from_test p ok g grid on =
     record {
       grid = grid;
       givens = λ place lt. given_from_test p g place (all_below-at (given_stands p g) (solo_cells p) place parts.0 lt);
-      different = λ house is. differ_in (places_of p house) (solo_n p) (solo_cells p) (lies_in p house) (lists_house p ok house is) g
+      different = λ house is. differ_in (lists_house ok house is) g
           (each_house p (λ h. no_repeat (numbers_of p g h) ≡ true) (test_each (λ h. no_repeat (numbers_of p g h)) (houses_of p) parts.1) house is);
     }
 
 -- no house of a solution repeats a number
 pub house_of_solution : (p : Solo) → IsSolo p → (g : List ℕ) → IsSoloSolution p g → (house : NamedHouse) → IsHouseOf p house → no_repeat (numbers_of p g house) ≡ true
-house_of_solution p ok g s house is = no_repeat_in (places_of p house) (solo_n p) (solo_cells p) (lies_in p house) (lists_house p ok house is) g (s.different house is)
+house_of_solution p ok g s house is = no_repeat_in (lists_house ok house is) g (s.different house is)
 
 pub test_from_rule : (p : Solo) → IsSolo p → (g : List ℕ) → IsSoloSolution p g → is_solo_solution p g ≡ true
 unfolding is_solo_solution

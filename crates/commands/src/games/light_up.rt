@@ -35,7 +35,7 @@ impl Played for LightPuzzle {
 impl Solvable for LightPuzzle {
     type Search = LightRules;
 
-    ghost meaning = { λ search. light_rules search.light };
+    ghost meaning = { λ search. light_rules search.set.puzzle };
 
     fn rules(&self, alloc: Global) -> Result<LightRules, AllocError> {
         LightRules::new(alloc, self)

@@ -44,7 +44,7 @@ impl Played for SoloPuzzle {
 impl Solvable for SoloPuzzle {
     type Search = SoloHouses;
 
-    ghost meaning = { λ search. houses_rules search.puzzle };
+    ghost meaning = { λ search. houses_rules search.set.puzzle };
 
     fn rules(&self, alloc: Global) -> Result<SoloHouses, AllocError> {
         SoloHouses::new(alloc, self)

@@ -37,7 +37,7 @@ impl Played for TentsPuzzle {
 impl Solvable for TentsPuzzle {
     type Search = TentRules;
 
-    ghost meaning = { λ search. tent_rules search.tents };
+    ghost meaning = { λ search. tent_rules search.set.puzzle };
 
     fn rules(&self, alloc: Global) -> Result<TentRules, AllocError> {
         TentRules::new(alloc, self)

@@ -8,7 +8,7 @@ use Rattle.pattern_core.proofs.track.measured.Goals as goal
 
 pub returns-clause-roomy : goal.returns-clause-roomy
 returns-clause-roomy c = λ n small from.
-    roomy c.args.numbers.now c.loop-k.cells c.loop-k.longest n c.requires.positive (grind (arith, common_steps))
+    roomy c.loop-k.cells c.loop-k.longest n c.requires.positive (grind (arith, common_steps))
     (λ k lt. c.loop-k.invariant.1 k (omega arith)) (grind (arith, common_steps)) (omega arith)
 
 pub loop-k-preserved : goal.loop-k-preserved

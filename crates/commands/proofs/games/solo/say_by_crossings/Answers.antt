@@ -11,7 +11,7 @@ say_by-requires-clause-named g c = λ queue. named c.args.puzzle.now c.in_ok-cro
 
 pub say_by-requires-clause-accepted : goal.say_by-requires-clause-accepted
 say_by-requires-clause-accepted g c =
-    let ok = subst IsSolo c.in_ok-crossings.ensures.copied c.in_ok-crossings.crossings.is_solo in
+    let ok = c.in_ok-crossings.ensures.known in
     accepted_by (IsSoloSolution c.args.puzzle.now) c.in_ok-crossings.ensures.rules (solo_accepted ok _ _)
 
 pub returns-clause-answer : goal.returns-clause-answer

@@ -16,7 +16,7 @@ say-requires-clause-named g c = λ queue. named c.args.puzzle.now c.in_ok-houses
 pub returns-then-settles-clause-answer : goal.returns-then-settles-clause-answer
 returns-then-settles-clause-answer g c =
     let p = c.args.puzzle.now in
-    let ok = subst IsSolo c.in_ok-houses.ensures.copied c.in_ok-houses.houses.is_solo in
+    let ok = c.in_ok-houses.ensures.known in
     said_first solo_facts p c.args.options.budget c.args.options.traced g.O.Sink.takes _ _ _ Houses (after_houses p) c.in_ok-houses.ensures.rules
     (sym c.if-settles.ensures.settled) (solo_accepted ok _ _) (c.if-settles.ensures.one refl) c.say.ensures.answer
 

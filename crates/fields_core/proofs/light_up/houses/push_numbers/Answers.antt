@@ -7,4 +7,4 @@ use Rattle.fields_core.proofs.light_up.houses.push_numbers.Goals as goal
 pub push_number-requires-clause-fits : goal.push_number-requires-clause-fits
 push_number-requires-clause-fits c =
     let p = c.args.puzzle.now in
-    added-fits _ _ (number_house p) _ _ c.loop-place.invariant (number-one p) (omega arith) c.requires.fits
+    added-fits (number_house p) c.loop-place.invariant (number-one p) (omega arith) c.requires.fits

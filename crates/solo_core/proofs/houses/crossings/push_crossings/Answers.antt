@@ -1,6 +1,6 @@
 use Rattle.std.proofs.Common.{arith}
 use Rattle.solo_core.specs.RuleSets.{crossings_of}
-use Rattle.solo_core.specs.Work.{all_places}
+use Rattle.engine_core.specs.ListedHouses.{all_places}
 use Rattle.solo_core.proofs.HouseLemmas.{listed-more}
 use Rattle.solo_core.proofs.CrossingLemmas.{crossing-listed, crossings-listed}
 use Rattle.solo_core.proofs.houses.crossings.push_crossings.Goals as goal
@@ -9,5 +9,5 @@ pub loop-number-preserved : goal.loop-number-preserved
 loop-number-preserved c =
     let p = c.args.puzzle.now in
     let e = c.crossings-number-end.ensures.count in
-    listed-more c.loop-number.list c.push_crossing.new.list _ (all_places (crossings_of p)) c.loop-number.number _ (omega (arith, crossings-listed p))
+    listed-more _ (all_places (crossings_of p)) c.loop-number.number (omega (arith, crossings-listed p))
     (crossing-listed p c.loop-number.number _ _ (omega arith) c.crossing_at-block.ensures.scope) c.loop-number.invariant c.in_ok-push_crossing.ensures

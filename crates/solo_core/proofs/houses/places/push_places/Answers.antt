@@ -9,10 +9,10 @@ push-requires-clause-fits c = rw c.loop-k.invariant (omega (arith, length-take c
 
 pub loop-k-preserved : goal.loop-k-preserved
 loop-k-preserved c =
-    let long = (lists_house c.args.puzzle.now c.n.ensures.lawful c.args.house c.requires.house_of).len in
-    begun-more c.loop-k.list c.push.new.self _ (places_of c.args.puzzle.now c.args.house) c.loop-k.k c.place.result (omega arith) c.place.ensures.place c.loop-k.invariant c.in_ok-push.ensures
+    let long = (lists_house c.n.ensures.lawful c.args.house c.requires.house_of).len in
+    begun-more (places_of c.args.puzzle.now c.args.house) c.loop-k.k (omega arith) c.place.ensures.place c.loop-k.invariant c.in_ok-push.ensures
 
 pub returns : goal.returns
 returns c =
-    let long = (lists_house c.args.puzzle.now c.n.ensures.lawful c.args.house c.requires.house_of).len in
-    begun-done c.loop-k.list _ (places_of c.args.puzzle.now c.args.house) c.loop-k.k (omega arith) c.loop-k.invariant
+    let long = (lists_house c.n.ensures.lawful c.args.house c.requires.house_of).len in
+    begun-done c.loop-k.k (omega arith) c.loop-k.invariant

@@ -4,7 +4,7 @@ use Rattle.solo_core.proofs.CrossingLemmas.{crossing-decided, bits-more}
 use Rattle.solo_core.proofs.visits.crossing.keep_crossing.Goals as goal
 
 pub returns : goal.returns
-returns c = λ values. crossing-decided values (λ k. ltb k c.args.block && not (has_bit c.args.shared k)) (λ k. leb c.args.block k) c.args.sets.now c.loop-k.kept _ _
+returns c = λ values. crossing-decided (λ k. ltb k c.args.block && not (has_bit c.args.shared k)) (λ k. leb c.args.block k) _ _
     c.values_in_block-in_block.ensures c.values_in_line-in_line.ensures c.loop-k.invariant.as_many (λ k v lk. c.loop-k.invariant.bits k v (omega arith))
 
 pub loop-k-preserved : goal.loop-k-preserved

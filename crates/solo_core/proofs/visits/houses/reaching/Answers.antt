@@ -11,12 +11,10 @@ loop-value-preserved c =
     let at = c.in-Some.ensures in
     record {
       within = omega (arith, at.1);
-      kept = next_kept (has_bit c.loop-value.kept) (has_bit c.with_bit_if-kept.result) (has_bit c.args.set)
-          (λ v. has_in c.args.reach.now v c.args.own) c.loop-value.from c.in-Some.value
-          c.has_bit.result c.loop-value.invariant.kept at.0 at.2 at.3 (sym c.has_bit.ensures) c.with_bit_if-kept.ensures;
+      kept = next_kept c.loop-value.invariant.kept at.0 at.2 at.3 (sym c.has_bit.ensures) c.with_bit_if-kept.ensures;
     }
 
 pub returns : goal.returns
 returns c = λ v lt.
-    all_kept (has_bit c.loop-value.kept) (has_bit c.args.set) (λ v. has_in c.args.reach.now v c.args.own) c.loop-value.from c.args.values c.loop-value.invariant.kept
+    all_kept c.loop-value.invariant.kept
     (λ u low high. c.in_default.ensures u low (omega arith)) v lt

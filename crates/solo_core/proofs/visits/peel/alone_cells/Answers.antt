@@ -4,11 +4,11 @@ use Rattle.solo_core.proofs.PeelLemmas.{alone-lone, alone-more}
 use Rattle.solo_core.proofs.visits.peel.alone_cells.Goals as goal
 
 pub loop-k-preserved : goal.loop-k-preserved
-loop-k-preserved c = alone-more c.args.values c.args.sets.now c.loop-k.alone c.with_bit_if-alone.result c.loop-k.k c.has_any.result c.loop-k.invariant (λ on.
+loop-k-preserved c = alone-more c.loop-k.alone c.with_bit_if-alone.result c.loop-k.k c.has_any.result c.loop-k.invariant (λ on.
     let at = c.has_any.ensures.some on in
     let kept = c.without.ensures at.0 in
     let below = c.all_below.ensures.below at.0 in
-    alone-lone c.args.values c.args.sets.now c.requires.square c.args.counts.some c.args.counts.single c.args.counts.shared c.requires.counts c.loop-k.k at.0
+    alone-lone c.requires.square c.requires.counts c.loop-k.k at.0
     (omega arith)
     (grind (arith, bits-both, at.1)) (grind (arith, bits-both, at.1)) (grind (arith, bits-both, at.1)) (grind (arith, bits-both, at.1)))
     c.with_bit_if-alone.ensures

@@ -15,7 +15,7 @@ loop-k-preserved c =
     let was : slice_index c.loop-k.sets k ≡ old k = i.rest k (omega arith) in
     record {
       as_many = length-set c.loop-k.sets k set ∙ i.as_many;
-      counts = counts-more new k _ _ _ _ _ _ (counts-same c.loop-k.sets new k _ _ _ i.counts (λ j lj. there j (λ e. absurd (omega arith))))
+      counts = counts-more k (counts-same i.counts (λ j lj. there j (λ e. absurd (omega arith))))
           (λ v. c.with-narrowed.ensures.some v ∙ ap (λ (b : ℕ). has_bit c.loop-k.narrowed.some v || has_bit b v) (sym here))
           (λ v on. rw here (c.with-narrowed.ensures.single v on))
           (λ v. c.with-narrowed.ensures.shared v ∙ ap (λ (b : ℕ). has_bit c.loop-k.narrowed.shared v || (has_bit c.loop-k.narrowed.some v && has_bit b v)) (sym here));
@@ -30,5 +30,5 @@ loop-k-preserved c =
 pub returns-clause-peeled : goal.returns-clause-peeled
 returns-clause-peeled c =
     let i = c.loop-k.invariant in
-    peeled-step c.args.values c.args.sets.now c.requires.square c.args.counts.some c.args.counts.single c.args.counts.shared c.requires.counts c.loop-k.sets i.as_many
+    peeled-step c.requires.square c.requires.counts i.as_many
     (λ k v lk on. i.inside k v (omega arith) on) (λ k v lk lv on off. i.dropped k v (omega arith) lv on off)

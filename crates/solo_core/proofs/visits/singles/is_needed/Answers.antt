@@ -3,4 +3,4 @@ use Rattle.solo_core.proofs.AnyLemmas.{any_in_range}
 use Rattle.solo_core.proofs.visits.singles.is_needed.Goals as goal
 
 pub returns : goal.returns
-returns c = any_in_range _ _ _ _ _ _ refl c.any.ensures.ran (λ x q k. search (rules, tests)) (λ x q k. search (rules, tests))
+returns c = any_in_range _ _ refl c.any.ensures.ran (λ x q k. search (rules, tests)) (λ x q k. search (rules, tests))

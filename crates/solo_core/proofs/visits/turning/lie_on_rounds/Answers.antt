@@ -3,15 +3,15 @@ use Rattle.solo_core.specs.Common.{nat_tests}
 use Rattle.solo_core.proofs.Turned.{after-root, before-root, in_ends}
 use Rattle.solo_core.proofs.visits.turning.lie_on_rounds.Goals as goal
 
-some_of : (n : ℕ) → eqb n 0 ≡ false → 0 < n
-some_of n off = grind (arith, nat_tests)
+some_of : {n : ℕ} → eqb n 0 ≡ false → 0 < n
+some_of off = grind (arith, nat_tests)
 
 pub loop-turn-init : goal.loop-turn-init
 loop-turn-init c =
-    let some = some_of _ (sym c.is_empty.ensures ∙ c.if-is_empty.false) in
+    let some = some_of (sym c.is_empty.ensures ∙ c.if-is_empty.false) in
     record {
-      after = after-root c.args.values c.args.sets.now c.args.rest.now c.args.mates.now _ _ (rw c.from.ensures at c.with_bit-root.ensures);
-      before = before-root c.args.values c.args.sets.now c.args.rest.now c.args.mates.now _ _ (c.requires.small 0 some) (rw c.from.ensures at c.with_bit-root.ensures);
+      after = after-root c.args.sets.now c.args.rest.now c.args.mates.now _ _ (rw c.from.ensures at c.with_bit-root.ensures);
+      before = before-root c.args.sets.now c.args.rest.now c.args.mates.now _ _ (c.requires.small 0 some) (rw c.from.ensures at c.with_bit-root.ensures);
     }
 
 pub loop-turn-preserved : goal.loop-turn-preserved

@@ -1,0 +1,138 @@
+-- One step of planes, by the words that the program keeps.
+use Rattle.std.proofs.Common.{◌≡◌, ◌∙◌, ℕ, zero, suc, ◌∷◌, ◌+◌, ◌-◌, ◌*◌, ◌/◌, ◌%◌, ◌<◌, ◌≤◌, ◌↔◌, true, false, ◌&&◌, ltb, List, length, map, set, get_or, replicate, refl, sym, ap, inl, inr, arith}
+use Rattle.std.proofs.Math.Path.{fun_ext}
+use Rattle.std.proofs.Math.Bool.{and_comm}
+use Rattle.grid_core.proofs.WordLemmas.{zero-bits}
+use Rattle.std.proofs.Math.Nat.{mod-lt, div-lt_iff_lt-mul}
+use Rattle.std.proofs.lemmas.Bool.{cases_Bool, cases_lt, lt-ltb, le-ltb}
+use Rattle.std.proofs.lemmas.Grind.{common_steps}
+use Rattle.std.proofs.lemmas.List.{get_or-map, get_or_past, get_or-replicate, length-map, length-replicate, map-set}
+use Rattle.grid_core.specs.Candidates.{Candidates, all_of, total}
+use Rattle.grid_core.specs.Extent.{Extent, IsExtent}
+use Rattle.grid_core.proofs.CandidateLemmas.{count_below-bound}
+use Rattle.grid_core.specs.Words.{has_bit}
+use Rattle.grid_core.specs.Planes.{Taking, Layers, bit_of, has, taking_of, no_taking, taking_at, layers_of, ArePlanes, IsFresh, AreTurned, HasRoomFor, IsThere, IsTakingIn}
+use Rattle.grid_core.specs.declared.planes.line.Change.{Change}
+use Rattle.grid_core.proofs.TakingLemmas.{takings-none, takings-len}
+use Rattle.grid_core.proofs.PlaneLemmas.{IsTaken, IsPutBack, taken, given_back, room_for}
+
+-- ---- reading
+pub word_read : {W : Type 0} (bits : W → ℕ) (words : List W) (line v : ℕ) (word : W) → 2 * line + v < length words → word ≡ get_or words (2 * line + v) word
+    → (p : ℕ) → has_bit (bits word) p ≡ bit_of (map bits words) line v p
+unfolding bit_of
+word_read bits words line v word lt read p = ap (λ (n : ℕ). has_bit n p) (sym (get_or-map bits words (2 * line + v) word 0 lt ∙ ap bits (sym read)))
+
+pub taking_read : {W : Type 0} (bits : W → ℕ) (changes : List (Change W)) (k : ℕ) (change : Change W) → k < length changes → change ≡ get_or changes k change
+    → taking_at (map (taking_of bits) changes) k ≡ taking_of bits change
+taking_read bits changes k change lt read = get_or-map (taking_of bits) changes k change no_taking lt ∙ ap (taking_of bits) (sym read)
+
+full-has : (p : Layers) (size : Extent) → p.size ≡ size → 0 < size.w → ((y v x : ℕ) → v < 2 → bit_of p.rows y v x ≡ (ltb y size.h && ltb x size.w)) → has p ≡ all_of (size.w * size.h) 2
+unfolding has all_of
+full-has p size e pos is = fun_ext λ c. fun_ext λ v. elim (cases_lt v 2) [
+  | inl low ↦ rw (e, lt-ltb v 2 low, is (c / size.w) v (c % size.w) low, lt-ltb (c % size.w) size.w (mod-lt c pos)) (row-in c)
+  | inr high ↦ rw (le-ltb v 2 high) (and-off c v)
+]
+  where
+    and-off : (c v : ℕ) → false ≡ (ltb c (size.w * size.h) && false)
+    and-off c v = grind (arith, common_steps, cases_Bool)
+
+    below : (c : ℕ) → (c < size.h * size.w → c / size.w < size.h) → size.h ≤ c / size.w → size.w * size.h ≤ c
+    below c from high = elim (cases_lt c (size.h * size.w)) [
+      | inl lt ↦ absurd (let h = from lt in omega arith)
+      | inr le ↦ omega arith
+    ]
+
+    row-in : (c : ℕ) → (true && (ltb (c / size.w) size.h && true)) ≡ (ltb c (size.w * size.h) && true)
+    row-in c =
+        let d : (c / size.w < size.h) ↔ (c < size.h * size.w) = div-lt_iff_lt-mul pos in
+        let to = d.0 in
+        let from = d.1 in
+        elim (cases_lt (c / size.w) size.h) [
+          | inl low ↦ rw (lt-ltb (c / size.w) size.h low, lt-ltb c (size.w * size.h) (omega (arith, to low))) refl
+          | inr high ↦ rw (le-ltb (c / size.w) size.h high, le-ltb c (size.w * size.h) (below c from high)) refl
+        ]
+
+-- ---- a board to begin with
+total-bound : (cells values : ℕ) (K : Candidates) → total cells values K ≤ cells * values
+unfolding total
+total-bound zero values K = omega arith
+total-bound (suc cells) values K =
+    let e : suc cells * values ≡ cells * values + values = omega arith in omega (arith, total-bound cells values K, count_below-bound (K cells) values)
+
+pub record IsBegun (room : ℕ) (size : Extent) (K : Candidates) (p : Layers) : Type 0 where
+  pub are : ArePlanes room p
+  pub fresh : IsFresh size K p
+
+bit_repeated : (n word line v place : ℕ) → v < 2 → bit_of (replicate (2 * n) word) line v place ≡ (ltb line n && has_bit word place)
+unfolding bit_of
+bit_repeated n word line v place lt = elim (cases_lt line n) [
+  | inl low ↦ rw (lt-ltb line n low, get_or-replicate (2 * n) (2 * line + v) word 0 (omega arith)) refl
+  | inr high ↦ rw (le-ltb line n high, get_or_past (replicate (2 * n) word) (2 * line + v) 0 (omega (arith, length-replicate (2 * n) word))) (zero-bits place)
+]
+
+map-replicate : {W : Type 0} (bits : W → ℕ) (n : ℕ) (word : W) → map bits (replicate n word) ≡ replicate n (bits word)
+map-replicate bits zero word = refl
+map-replicate bits (suc n) word = ap (λ xs. bits word ∷ xs) (map-replicate bits n word)
+
+-- full planes: each row has the places below the width, and each column those below the height
+pub begun : {W : Type 0} (bits : W → ℕ) (room : ℕ) (size : Extent) (row column : W) (changes : List (Change W)) → IsExtent size → size.w ≤ room → size.h ≤ room
+    → ((p : ℕ) → has_bit (bits row) p ≡ ltb p size.w) → ((p : ℕ) → has_bit (bits column) p ≡ ltb p size.h) → length changes ≡ size.w * size.h * 2
+    → (rows columns : List W) → rows ≡ replicate (2 * size.h) row → columns ≡ replicate (2 * size.w) column
+    → IsBegun room size (all_of (size.w * size.h) 2) (layers_of bits size rows columns changes 0)
+begun bits room size row column changes lawful narrow low row_is column_is long rows columns er ec =
+    let p : Layers = layers_of bits size rows columns changes 0 in
+    let rs : p.rows ≡ replicate (2 * size.h) (bits row) = ap (map bits) er ∙ map-replicate bits (2 * size.h) row in
+    let cs : p.columns ≡ replicate (2 * size.w) (bits column) = ap (map bits) ec ∙ map-replicate bits (2 * size.w) column in
+    let by_row : (y v x : ℕ) → v < 2 → bit_of p.rows y v x ≡ (ltb y size.h && ltb x size.w) = λ y v x lt.
+    ap (λ (l : List ℕ). bit_of l y v x) rs ∙ bit_repeated size.h (bits row) y v x lt ∙ ap (λ b. ltb y size.h && b) (row_is x) in
+    let by_column : (x v y : ℕ) → v < 2 → bit_of p.columns x v y ≡ (ltb x size.w && ltb y size.h) = λ x v y lt.
+    ap (λ (l : List ℕ). bit_of l x v y) cs ∙ bit_repeated size.w (bits column) x v y lt ∙ ap (λ b. ltb x size.w && b) (column_is y) in
+    record {
+      are = record {
+        lawful = lawful;
+        narrow = narrow;
+        low = low;
+        words = record {
+          rows_long = ap length rs ∙ length-replicate (2 * size.h) (bits row);
+          columns_long = ap length cs ∙ length-replicate (2 * size.w) (bits column);
+          agree = λ y x v lt. by_row y v x lt ∙ and_comm (ltb y size.h) (ltb x size.w) ∙ sym (by_column x v y lt);
+        };
+        takings = takings-none size (has p) p.takings (length-map changes (taking_of bits) ∙ long) (total-bound (size.w * size.h) 2 (has p));
+      };
+      fresh = record { same_size = refl; holds = full-has p size refl lawful.w_low by_row; none = refl };
+    }
+
+-- ---- a cell
+pub has_read : (p : Layers) (c v : ℕ) → v < 2 → bit_of p.rows (c / p.size.w) v (c % p.size.w) ≡ has p c v
+unfolding has
+has_read p c v lt = rw (lt-ltb v 2 lt) refl
+
+-- ---- a step taken, and put back
+pub take_step : {W : Type 0} (bits : W → ℕ) (room : ℕ) (size : Extent) (rows columns rows' columns' : List W) (changes : List (Change W)) (len : ℕ) (change : Change W)
+    → ArePlanes room (layers_of bits size rows columns changes len) → IsThere (layers_of bits size rows columns changes len) (taking_of bits change)
+    → AreTurned (map bits rows) (map bits columns) (map bits rows') (map bits columns') (taking_of bits change) → length rows' ≡ length rows → length columns' ≡ length columns
+    → IsTaken room (layers_of bits size rows columns changes len) (layers_of bits size rows' columns' (set changes len change) (len + 1)) (taking_of bits change)
+take_step bits room size rows columns rows' columns' changes len change are there turned tall wide =
+    rw (map-set (taking_of bits) changes len change)
+    (taken room (layers_of bits size rows columns changes len) (taking_of bits change) (map bits rows') (map bits columns') are there turned
+    (length-map rows' bits ∙ tall ∙ sym (length-map rows bits)) (length-map columns' bits ∙ wide ∙ sym (length-map columns bits)))
+
+pub undo_step : {W : Type 0} (bits : W → ℕ) (room : ℕ) (size : Extent) (rows columns rows' columns' : List W) (changes : List (Change W)) (n len : ℕ) (t : Taking)
+    → ArePlanes room (layers_of bits size rows columns changes len) → n + 1 ≡ len → taking_at (map (taking_of bits) changes) n ≡ t
+    → AreTurned (map bits rows) (map bits columns) (map bits rows') (map bits columns') t → length rows' ≡ length rows → length columns' ≡ length columns
+    → IsPutBack room (layers_of bits size rows columns changes len) (layers_of bits size rows' columns' changes n)
+undo_step bits room size rows columns rows' columns' changes n len t are e last turned tall wide =
+    given_back room (layers_of bits size rows columns changes len) (map bits rows') (map bits columns') n are e (rw last turned)
+    (length-map rows' bits ∙ tall ∙ sym (length-map rows bits)) (length-map columns' bits ∙ wide ∙ sym (length-map columns bits))
+
+pub room_at : {W : Type 0} (bits : W → ℕ) (room : ℕ) (size : Extent) (rows columns : List W) (changes : List (Change W)) (len : ℕ) (t : Taking) → ArePlanes room (layers_of bits size rows columns changes len)
+    → IsTakingIn size t → HasRoomFor room (length rows) (length columns) t
+room_at bits room size rows columns changes len t are within =
+    rw (length-map rows bits, length-map columns bits) at (room_for room (layers_of bits size rows columns changes len) t are within)
+
+-- what was taken last
+pub last_read : {W : Type 0} (bits : W → ℕ) (room : ℕ) (size : Extent) (rows columns : List W) (changes : List (Change W)) (len : ℕ) (change : Change W) → ArePlanes room (layers_of bits size rows columns changes len)
+    → 0 < len → change ≡ get_or changes (len - 1) change → taking_at (map (taking_of bits) changes) (len - 1) ≡ taking_of bits change
+last_read bits room size rows columns changes len change are pos read =
+    let long = takings-len _ _ _ _ are.takings in
+    taking_read bits changes (len - 1) change (omega (arith, long, length-map changes (taking_of bits))) read

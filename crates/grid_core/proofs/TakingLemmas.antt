@@ -1,0 +1,76 @@
+-- What a m gives back, and what was taken, noted at the end of a trail and put back from its end.
+use Rattle.std.proofs.Common.{◌≡◌, ◌∙◌, ℕ, zero, suc, ◌+◌, ◌-◌, ◌*◌, ◌<◌, ◌≤◌, List, length, set, refl, sym, ap, inl, inr, add-one, arith}
+use Rattle.std.proofs.lemmas.Bool.{cases_eq, le-leb, lt-leb}
+use Rattle.std.proofs.lemmas.Grind.{common_steps}
+use Rattle.std.proofs.lemmas.List.{get_or-set_same, get_or-set_other, length-set}
+use Rattle.grid_core.specs.Candidates.{Candidates, total}
+use Rattle.grid_core.specs.Extent.{Extent}
+use Rattle.grid_core.specs.Planes.{Taking, IsTakingIn, AreTakings, put_back, taking_at, turned_by}
+
+pub put_back-none : (w : ℕ) (K : Candidates) (takings : List Taking) (m n : ℕ) → n ≤ m → put_back w K takings m n ≡ K
+unfolding put_back
+put_back-none w K takings m zero le = refl
+put_back-none w K takings m (suc n) le = rw (lt-leb m n (omega arith)) refl
+
+pub put_back-last : (w : ℕ) (K : Candidates) (takings : List Taking) (m n : ℕ) → m ≤ n
+    → put_back w K takings m (n + 1) ≡ put_back w (turned_by w K (taking_at takings n)) takings m n
+unfolding put_back
+put_back-last w K takings m n le = rw (add-one, le-leb m n le) refl
+
+-- what is written past the trail's end does not count
+put_back-past : (w : ℕ) (K : Candidates) (takings : List Taking) (l m n : ℕ) (t : Taking) → m ≤ n → put_back w K (set takings n t) l m ≡ put_back w K takings l m
+unfolding put_back
+put_back-past w K takings l zero n t le = refl
+put_back-past w K takings l (suc m) n t le =
+    grind (arith, common_steps, get_or-set_other, put_back-past w (turned_by w K (taking_at takings m)) takings l m n t)
+
+-- what is noted gives back what was before it
+pub put_back-noted : (w : ℕ) (K L : Candidates) (takings : List Taking) (m n : ℕ) (t : Taking) → m ≤ n → n < length takings → turned_by w L t ≡ K
+    → put_back w L (set takings n t) m (n + 1) ≡ put_back w K takings m n
+put_back-noted w K L takings m n t le lt back =
+    put_back-last w L (set takings n t) m n le
+    ∙ ap (λ (u : Taking). put_back w (turned_by w L u) (set takings n t) m n) (get_or-set_same takings n t _ lt)
+    ∙ ap (λ (M : Candidates). put_back w M (set takings n t) m n) back
+    ∙ put_back-past w K takings m n n t (omega arith)
+
+pub put_back-undone : (w : ℕ) (K : Candidates) (takings : List Taking) (m n : ℕ) → m < n
+    → put_back w (turned_by w K (taking_at takings (n - 1))) takings m (n - 1) ≡ put_back w K takings m n
+put_back-undone w K takings m n lt = let e : n - 1 + 1 ≡ n = omega arith in sym (put_back-last w K takings m (n - 1) (omega arith)) ∙ ap (put_back w K takings m) e
+
+-- ---- the trail stays in order
+pub takings-none : (size : Extent) (K : Candidates) (takings : List Taking) → length takings ≡ size.w * size.h * 2 → total (size.w * size.h) 2 K ≤ size.w * size.h * 2 → AreTakings size K takings 0
+takings-none size K takings long few = record {
+  long = long;
+  takings_in = λ k lt. absurd (omega arith);
+  room = λ m le. rw (put_back-none size.w K takings m 0 (omega arith)) (omega arith);
+}
+
+pub takings-len : (size : Extent) (K : Candidates) (takings : List Taking) (n : ℕ) → AreTakings size K takings n → n ≤ length takings
+takings-len size K takings n t = let room = t.room n (omega arith) in omega arith
+
+pub takings-room : (size : Extent) (K L : Candidates) (takings : List Taking) (n : ℕ) → AreTakings size K takings n → total (size.w * size.h) 2 L < total (size.w * size.h) 2 K → n < length takings
+takings-room size K L takings n t fewer = let room = rw (put_back-none size.w K takings n n (omega arith)) at (t.room n (omega arith)) in omega arith
+
+pub takings-noted : (size : Extent) (K L : Candidates) (takings : List Taking) (n : ℕ) (t : Taking) → AreTakings size K takings n → total (size.w * size.h) 2 L < total (size.w * size.h) 2 K
+    → IsTakingIn size t → turned_by size.w L t ≡ K → AreTakings size L (set takings n t) (n + 1)
+takings-noted size K L takings n t are fewer within back =
+    let lt = takings-room size K L takings n are fewer in
+    record {
+      long = length-set takings n t ∙ are.long;
+      takings_in = λ k less. grind (arith, common_steps, cases_eq k n, get_or-set_same, get_or-set_other, are.takings_in k);
+      room = λ m le. elim (cases_eq m (n + 1)) [
+        | inl e ↦ rw (put_back-none size.w L (set takings n t) m (n + 1) (omega arith), length-set takings n t)
+            (let room = rw (put_back-none size.w K takings n n (omega arith)) at (are.room n (omega arith)) in omega arith)
+        | inr ne ↦ rw (put_back-noted size.w K L takings m n t (omega arith) lt back, length-set takings n t) (are.room m (omega arith))
+      ];
+    }
+
+pub takings-undone : (size : Extent) (K : Candidates) (takings : List Taking) (n : ℕ) → 0 < n → AreTakings size K takings n
+    → AreTakings size (turned_by size.w K (taking_at takings (n - 1))) takings (n - 1)
+takings-undone size K takings n pos are = record {
+  long = are.long;
+  takings_in = λ k lt. are.takings_in k (omega arith);
+  room = λ m le. rw (put_back-undone size.w K takings m n (omega arith)) (are.room m (omega arith));
+}
+
+pub ruleset taking_laws = (put_back-none)

@@ -1,0 +1,82 @@
+-- What the operations of words say of their bits.
+use Rattle.std.proofs.Common.{◌≡◌, ◌∙◌, ℕ, zero, suc, ◌-◌, ◌*◌, ◌/◌, ◌%◌, ◌^◌, ◌<◌, true, false, not, ◌&&◌, ◌||◌, eqb, ltb, sym, ap, arith, bit_and, bit_or, refl}
+use Rattle.std.proofs.lemmas.Bool.{cases_Bool, cases_eq, cases_lt, eq-eqb, ne_eqb, eqb-false, false_from_ne_true, true≢false, lt-ltb, le-ltb}
+use Rattle.std.proofs.lemmas.Grind.{common_steps}
+use Rattle.std.proofs.lemmas.Nat.{one_shl, pow_pos}
+use Rattle.std.proofs.lemmas.Nat.Bits.{bit_at-suc, bit_at-zero, bit_at-lt, bit_at_xor, bit_at_lowest, bit_at_ones, bit_at_ones_above, bit_at-pow_other, bit_at-pow_same, same_from_bits_below, shr_and_one}
+use Rattle.std.specs.Prelude.{bit_xor}
+use Rattle.std.specs.Int.{bit_at}
+use Rattle.grid_core.specs.Candidates.{any_below}
+use Rattle.grid_core.proofs.BoardLemmas.{bits_both, bits_either, count_ones-bits}
+use Rattle.grid_core.proofs.CandidateLemmas.{any_below-none, any_below-some}
+use Rattle.grid_core.specs.Words.{has_bit, differ, IsLeast}
+
+pub both-bits : (a b p : ℕ) → has_bit (bit_and a b) p ≡ (has_bit a p && has_bit b p)
+both-bits a b p = bits_both a b p
+
+pub either-bits : (a b p : ℕ) → has_bit (bit_or a b) p ≡ (has_bit a p || has_bit b p)
+either-bits a b p = bits_either a b p
+
+pub differ-bits : (a b p : ℕ) → has_bit (bit_xor a b) p ≡ differ (has_bit a p) (has_bit b p)
+unfolding differ
+differ-bits a b p = let x = bit_at-lt a p in let y = bit_at-lt b p in let e = bit_at_xor a b p in grind (arith, common_steps)
+
+pub but-bits : (a b p : ℕ) → has_bit (bit_and a (bit_xor a b)) p ≡ (has_bit a p && not (has_bit b p))
+unfolding differ
+but-bits a b p = grind (arith, common_steps, cases_Bool, both-bits, differ-bits)
+
+pub zero-bits : (p : ℕ) → has_bit 0 p ≡ false
+zero-bits p = ap (λ n. eqb n 1) (bit_at-zero p)
+
+pub one-bits : (w place p : ℕ) → place < w → has_bit (1 * 2 ^ place % 2 ^ w) p ≡ eqb p place
+one-bits w place p lt = rw (one_shl place w lt) (grind (arith, common_steps, bit_at-pow_other, bit_at-pow_same, cases_eq, eq-eqb, ne_eqb))
+
+pub all-bits : (w count p : ℕ) → count < w → has_bit (1 * 2 ^ count % 2 ^ w - 1) p ≡ ltb p count
+all-bits w count p lt = rw (one_shl count w lt) (grind (arith, common_steps, cases_lt p count, bit_at_ones, bit_at_ones_above, lt-ltb, le-ltb))
+
+pub full-bits : (w p : ℕ) → has_bit (2 ^ w - 1) p ≡ ltb p w
+full-bits w p = grind (arith, common_steps, cases_lt p w, bit_at_ones, bit_at_ones_above, lt-ltb, le-ltb)
+
+pub shifted-bit : (a p : ℕ) → eqb (bit_and (a / 2 ^ p) 1) 1 ≡ has_bit a p
+shifted-bit a p = ap (λ n. eqb n 1) (shr_and_one a p)
+
+next-bit : (a p : ℕ) → has_bit a (suc p) ≡ has_bit (a / 2) p
+next-bit a p = ap (λ n. eqb n 1) (bit_at-suc a p)
+
+-- of a number and the one before it the bits below the lowest differ, and that bit
+dropped-bits : (least a p : ℕ) → has_bit a least ≡ true → ((q : ℕ) → q < least → has_bit a q ≡ false) → (has_bit a p && has_bit (a - 1) p) ≡ (has_bit a p && not (eqb p least))
+dropped-bits zero a zero on before = grind (arith, common_steps, bit_at_lowest a, bit_at_lowest (a - 1))
+dropped-bits zero a (suc p) on before =
+    let odd : a % 2 ≡ 1 = grind (arith, common_steps, bit_at_lowest a) in
+    let half : (a - 1) / 2 ≡ a / 2 = omega arith in
+    rw (next-bit (a - 1) p, next-bit a p, half) (grind (arith, common_steps, cases_Bool))
+dropped-bits (suc least) a zero on before = rw (before 0 (omega arith)) refl
+dropped-bits (suc least) a (suc p) on before =
+    let even : a % 2 ≡ 0 = grind (arith, common_steps, bit_at_lowest a, before 0) in
+    let half : (a - 1) / 2 ≡ a / 2 - 1 = omega arith in
+    let e : eqb (suc p) (suc least) ≡ eqb p least = grind (arith, common_steps, cases_eq p least, eq-eqb, ne_eqb) in
+    rw (next-bit (a - 1) p, next-bit a p, half, e)
+    (dropped-bits least (a / 2) p (sym (next-bit a least) ∙ on) (λ q lt. sym (next-bit a q) ∙ before (suc q) (omega arith)))
+
+pub lowest-dropped : (w a least p : ℕ) → IsLeast (has_bit a) w least → has_bit (bit_and a (a - 1)) p ≡ (has_bit a p && not (eqb p least))
+lowest-dropped w a least p is = both-bits a (a - 1) p ∙ dropped-bits least a p is.has is.before
+
+-- a word with no bit set is 0
+no-bits : (w a : ℕ) → a < 2 ^ w → any_below (has_bit a) w ≡ false → a ≡ 0
+no-bits w a fits none = same_from_bits_below w a 0 fits (pow_pos w) (λ p lt. off (bit_at a p) (bit_at-lt a p) (any_below-none (has_bit a) w none p lt) ∙ sym (bit_at-zero p))
+  where
+    off : (x : ℕ) → x < 2 → eqb x 1 ≡ false → x ≡ 0
+    off x lt e = let ne = eqb-false x 1 e in omega arith
+
+none-below : (w : ℕ) → any_below (has_bit 0) w ≡ false
+none-below w = false_from_ne_true (any_below (has_bit 0) w) (λ on. let z = any_below-some (has_bit 0) w on in true≢false (sym z.2 ∙ zero-bits z.0))
+
+-- the test of a word for a bit
+pub some-bit_is : (w bits : ℕ) → bits < 2 ^ w → not (eqb bits 0) ≡ any_below (has_bit bits) w
+some-bit_is w bits fits = grind (arith, common_steps, cases_Bool, none-below, cases_eq, eq-eqb, ne_eqb, no-bits)
+
+-- a word with a bit is not 0
+pub some-bit : (w bits : ℕ) → any_below (has_bit bits) w ≡ true → 0 < bits
+some-bit w bits some = grind (arith, common_steps, cases_eq bits 0, none-below)
+
+pub ruleset word_laws = (zero-bits, both-bits, either-bits, differ-bits, but-bits, one-bits, all-bits, full-bits, shifted-bit, some-bit_is, some-bit, count_ones-bits)

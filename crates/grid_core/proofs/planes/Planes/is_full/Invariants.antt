@@ -1,0 +1,7 @@
+use Rattle.std.proofs.Common.{◌≡◌, ℕ, ◌*◌, ◌<◌}
+use Rattle.grid_core.specs.Candidates.{count_below}
+use Rattle.grid_core.specs.Planes.{has}
+use Rattle.grid_core.proofs.planes.Planes.is_full.Given as goal
+
+abbrev pub invariant-loop-y : goal.invariant-loop-y
+invariant-loop-y g l = (c : ℕ) → c < l.y * l.self.size.w → count_below (has l.self c) 2 ≡ 1

@@ -1,0 +1,21 @@
+use Rattle.std.proofs.Common.{arith, ap, subst, ◌≡◌, ◌∙◌, ◌*◌, ◌<◌}
+use Rattle.grid_core.specs.Planes.{cells_of}
+use Rattle.grid_core.proofs.RowLemmas.{IsWritten, written-more, written-all}
+use Rattle.grid_core.proofs.planes.Planes.write_grid.Goals as goal
+use mir.Val.{bool_byte}
+
+pub loop-x-preserved : goal.loop-x-preserved
+loop-x-preserved g c =
+    let p = c.args.self.now in
+    let w_is : c.from-w.result ≡ p.size.w = rw (c.w.ensures.value, c.size-size.ensures.value) at c.from-w.ensures in
+    let ly : c.loop-y.y < p.size.h = rw (c.size-size.ensures.value) at (rw (c.h-y-end.ensures.value) at c.loop-y-test.true) in
+    let value = c.from-in-loop-x.ensures ∙ ap bool_byte (c.has.ensures ∙ c.row-ones.ensures.cells c.loop-x.x) in
+    rw (c.set.ensures, c.from.ensures, w_is)
+    (written-more p c.loop-x.grid c.loop-y.y c.loop-x.x c.from-in-loop-x.result c.requires.full ly (rw w_is at c.loop-x-test.true) c.loop-x.invariant value)
+
+pub returns : goal.returns
+returns g c =
+    let p = c.args.self.now in
+    let end : c.h-y-end.result ≡ p.size.h = rw (c.size-size.ensures.value) at c.h-y-end.ensures.value in
+    let last : c.loop-y.y * p.size.w ≡ cells_of p = (let b = c.loop-y.auto.y-end in let e = c.loop-y-test.false in let y_is : c.loop-y.y ≡ p.size.h = omega arith in rw y_is (omega arith)) in
+    written-all p c.loop-y.grid c.requires.full (subst (IsWritten p c.loop-y.grid) last c.loop-y.invariant)

@@ -1,0 +1,11 @@
+use Rattle.std.proofs.Common.{ap, eqb}
+use Rattle.std.proofs.Common.{w64}
+use Rattle.std.proofs.lemmas.Bool.{eq-eqb}
+use Rattle.std.proofs.lemmas.Nat.Bits.{bit_at-trailing_zeros}
+use Rattle.grid_core.proofs.WordLemmas.{some-bit}
+use Rattle.grid_core.proofs.planes.word.U64Word.lowest.Goals as goal
+
+pub returns : goal.returns
+returns c =
+    let is = bit_at-trailing_zeros w64 c.args.self (some-bit 64 c.args.self c.requires) c.ranges.self.fits in
+    record { within = is.0; has = eq-eqb _ _ is.1; before = λ p lt. ap (λ n. eqb n 1) (is.2 p lt) }

@@ -1,0 +1,5 @@
+use Rattle.grid_core.proofs.WordLemmas.{lowest-dropped}
+use Rattle.grid_core.proofs.planes.word.U64Word.without_lowest.Goals as goal
+
+pub returns : goal.returns
+returns c = lowest-dropped 64 c.args.self

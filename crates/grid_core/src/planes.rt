@@ -1,0 +1,188 @@
+//! A board of two values as planes of bits, with the trail of what was taken from it.
+#![tactic(auto, using(crate::proofs::TakingLemmas::taking_laws))]
+
+ghost use Rattle.std.specs.Prelude.{◌≡◌, ℕ, ◌+◌, ◌*◌, ◌<◌, ◌≤◌, true, IfOk};
+ghost use Rattle.grid_core.specs.Candidates.{all_of};
+ghost use Rattle.grid_core.specs.Words.{has_bit};
+ghost use Rattle.grid_core.specs.Planes.{bit_of, has, cells_of, back_at, without_taking, ArePlanes, IsThere, IsFresh, IsFurther, IsBack, at_line, lines_beside, line_len, number_of};
+
+pub(crate) mod copies;
+pub(crate) mod judge;
+pub(crate) mod line;
+pub(crate) mod turn;
+pub(crate) mod word;
+
+use crate::size::Size;
+use copies::{copies, write_all};
+use line::{Change, Line};
+use std::alloc::{AllocError, Global};
+use std::marker::Model;
+use turn::turn_line;
+use word::Word;
+
+/// A board of two values. For each value the cells that can have it stand as a word of bits for each row, and again as one
+/// for each column: those of line `k` for the values 0 and 1 are the words `2 * k` and `2 * k + 1`.
+#[derive(Drop)]
+pub struct Planes<W: Word> {
+    size: Size,
+    rows: Vec<W>,
+    columns: Vec<W>,
+    changes: Vec<Change<W>>,
+    len: usize,
+}
+
+impl<W: Word> Model for Planes<W> {
+    ghost use Rattle.grid_core.specs.Planes.{Layers, layers_of, ArePlanes};
+
+    ghost Value = { Layers };
+
+    ghost view = { λ p. layers_of W.bits p.size p.rows.items p.columns.items p.changes.items p.len };
+
+    ghost invariant = { λ p. ArePlanes W.room
+        (layers_of W.bits p.size p.rows.items p.columns.items p.changes.items p.len) };
+}
+
+impl<W: Word> Planes<W> {
+    /// Planes of a grid in which each cell can have both values, with room for each step that can come.
+    ///
+    /// # Errors
+    ///
+    /// When memory was refused.
+    pub fn new(alloc: Global, size: Size) -> Result<Planes<W>, AllocError>
+        requires narrow { size.w ≤ W.room }
+        requires low { size.h ≤ W.room }
+        ensures { IfOk result (λ p. IsFresh size (all_of (size.w * size.h) 2) p) }
+    {
+        let w = usize::from(size.w());
+        let h = usize::from(size.h());
+        let nothing = Change {
+            line: Line::Row(0),
+            value: 0,
+            bits: W::none(),
+        };
+        Ok(Planes {
+            size,
+            rows: copies(alloc, W::all(w), 2 * h)?,
+            columns: copies(alloc, W::all(h), 2 * w)?,
+            changes: copies(alloc, nothing, size.cells() * 2)?,
+            len: 0,
+        })
+    }
+
+    /// Begins with a board in which each cell can have both values.
+    pub fn fill(&mut self)
+        ensures { IsFresh self.old.size (all_of (cells_of self.old) 2) self.new }
+    {
+        write_all(&mut self.rows, W::all(usize::from(self.size.w())));
+        write_all(&mut self.columns, W::all(usize::from(self.size.h())));
+        self.len = 0;
+    }
+
+    /// The size of the grid.
+    pub fn size(&self) -> Size
+        ensures value { result ≡ self.now.size }
+        ensures lawful { ArePlanes W.room self.now }
+    {
+        self.size
+    }
+
+    /// The cells of a row that can have the value.
+    pub fn row(&self, y: u8, value: u8) -> W
+        requires row_in { y < self.now.size.h }
+        requires value_in { value < 2 }
+        ensures cells { (x : ℕ) → has_bit (W.bits result) x ≡ bit_of self.now.rows y value x }
+        ensures within { (x : ℕ) → has_bit (W.bits result) x ≡ true → x < self.now.size.w }
+        ensures lawful { ArePlanes W.room self.now }
+    {
+        self.rows[2 * usize::from(y) + usize::from(value)]
+    }
+
+    /// The cells of a column that can have the value.
+    pub fn column(&self, x: u8, value: u8) -> W
+        requires column_in { x < self.now.size.w }
+        requires value_in { value < 2 }
+        ensures cells { (y : ℕ) → has_bit (W.bits result) y ≡ bit_of self.now.rows y value x }
+        ensures within { (y : ℕ) → has_bit (W.bits result) y ≡ true → y < self.now.size.h }
+        ensures lawful { ArePlanes W.room self.now }
+    {
+        self.columns[2 * usize::from(x) + usize::from(value)]
+    }
+
+    /// The cells of a line that can have the value.
+    pub fn line(&self, line: Line, value: u8) -> W
+        requires line_in { number_of line < lines_beside self.now.size line }
+        requires value_in { value < 2 }
+        ensures cells { (k : ℕ) → has_bit (W.bits result) k ≡ at_line self.now line value k }
+        ensures within { (k : ℕ) → has_bit (W.bits result) k ≡ true → k < line_len self.now.size line }
+        ensures fits { line_len self.now.size line ≤ W.room }
+        ensures lawful { ArePlanes W.room self.now }
+    {
+        match line {
+            Line::Row(y) => self.row(y, value),
+            Line::Column(x) => self.column(x, value),
+        }
+    }
+
+    /// Whether the cell can have the value.
+    pub fn has(&self, place: usize, value: u8) -> bool
+        requires place_in { place < cells_of self.now }
+        requires value_in { value < 2 }
+        ensures { result ≡ has self.now place value }
+    {
+        let w = usize::from(self.size.w());
+        let word = self.rows[2 * (place / w) + usize::from(value)];
+        word.has(place % w)
+    }
+
+    /// How long the trail is: what `undo` takes to come back to the board as it is now.
+    pub fn len(&self) -> usize
+        ensures len { result ≡ self.now.len }
+        ensures here { back_at self.now result ≡ has self.now }
+    {
+        self.len
+    }
+
+    /// Takes the value from those of the cells of a line that can have it. It notes them where there are any.
+    pub fn take(&mut self, line: Line, value: u8, bits: W)
+        requires line_in { number_of line < lines_beside self.old.size line }
+        requires value_in { value < 2 }
+        ensures left { has self.new ≡ without_taking self.old.size.w (has self.old)
+            (record { line = line; value = value; bits = W.bits bits }) }
+        ensures further { IsFurther self.old self.new }
+    {
+        let there = self.line(line, value).both(bits);
+        if there.is_some() {
+            self.take_all(line, value, there);
+        }
+    }
+
+    /// Takes the value from cells of a line, each of which can have it, and notes them.
+    fn take_all(&mut self, line: Line, value: u8, bits: W)
+        requires { IsThere self.old (record { line = line; value = value; bits = W.bits bits }) }
+        ensures left { has self.new ≡ without_taking self.old.size.w (has self.old)
+            (record { line = line; value = value; bits = W.bits bits }) }
+        ensures further { IsFurther self.old self.new }
+    {
+        self.changes[self.len] = Change { line, value, bits };
+        self.len += 1;
+        turn_line(&mut self.rows, &mut self.columns, line, value, bits);
+    }
+
+    /// Takes the board back to when the trail had that length: each cell that lost a value since gets it back.
+    pub fn undo(&mut self, len: usize)
+        requires { len ≤ self.old.len }
+        ensures { IsBack self.old self.new len }
+    {
+        while self.len > len {
+            self.len -= 1;
+            let change = self.changes[self.len];
+            turn_line(
+                &mut self.rows,
+                &mut self.columns,
+                change.line,
+                change.value,
+                change.bits,
+            );
+        }
+    }
+}

@@ -1,0 +1,34 @@
+//! Lists of one item many times.
+#![tactic(auto, using(std::proofs::lemmas::List::replicate_more))]
+
+ghost use Rattle.std.specs.Prelude.{◌≡◌, length, replicate, IfOk};
+
+use std::alloc::{AllocError, Global};
+
+/// A list of so many copies of the item.
+///
+/// # Errors
+///
+/// When memory was refused.
+pub(crate) fn copies<T: Copy + Drop>(
+    alloc: Global,
+    item: T,
+    count: usize,
+) -> Result<Vec<T>, AllocError>
+    ensures { IfOk result (λ v. v.items ≡ replicate count item) }
+{
+    let mut items = Vec::with_capacity(alloc, count)?;
+    for _k in 0..count {
+        items.push(item)?;
+    }
+    Ok(items)
+}
+
+/// Writes the item everywhere.
+pub(crate) fn write_all<T: Copy + Drop>(items: &mut Vec<T>, item: T)
+    ensures { items.new.items ≡ replicate (length items.old.items) item }
+{
+    for k in 0..items.len() {
+        items[k] = item;
+    }
+}

@@ -1,0 +1,61 @@
+//! One step of planes: bits of a line turned over, in its word and in the words of its crossing lines.
+#![tactic(auto)]
+
+ghost use Rattle.std.specs.Prelude.{◌≡◌, ℕ, ◌+◌, ◌*◌, ◌<◌, ◌&&◌, ◌==◌, true, map, length};
+ghost use Rattle.grid_core.specs.Words.{has_bit, differ};
+ghost use Rattle.grid_core.specs.Planes.{bit_of, AreTurned, HasRoomFor};
+
+use crate::planes::line::Line;
+use crate::planes::word::Word;
+
+/// Turns over the bits in the line's word of the value. In the words of the lines that cross it there it turns over the
+/// bit of the line.
+fn turn<W: Word>(along: &mut Vec<W>, across: &mut Vec<W>, line: usize, value: usize, bits: W)
+    requires value_in { value < 2 }
+    requires line_in { 2 * line + value < length along.old.items }
+    requires line_room { line < W.room }
+    requires bits_in { (k : ℕ) → has_bit (W.bits bits) k ≡ true
+        → (k < W.room) × (2 * k + value < length across.old.items) }
+    ensures along { (j u k : ℕ) → u < 2 → bit_of (map W.bits along.new.items) j u k
+        ≡ differ (bit_of (map W.bits along.old.items) j u k)
+        ((u == value) && ((j == line) && has_bit (W.bits bits) k)) }
+    ensures across { (k u j : ℕ) → u < 2 → bit_of (map W.bits across.new.items) k u j
+        ≡ differ (bit_of (map W.bits across.old.items) k u j)
+        ((u == value) && ((j == line) && has_bit (W.bits bits) k)) }
+    ensures long { length along.new.items ≡ length along.old.items }
+    ensures wide { length across.new.items ≡ length across.old.items }
+{
+    let word = along[2 * line + value];
+    along[2 * line + value] = word.differ(bits);
+    let own = W::one(line);
+    let mut rest = bits;
+    while rest.is_some() {
+        let crossing = rest.lowest();
+        let crossed = across[2 * crossing + value];
+        across[2 * crossing + value] = crossed.differ(own);
+        rest = rest.without_lowest();
+    }
+}
+
+/// Turns over the bits of a line, in the words of the rows and of the columns.
+#[tactic(auto, unfolding(crate::specs::Planes::crosses))]
+pub(crate) fn turn_line<W: Word>(
+    rows: &mut Vec<W>,
+    columns: &mut Vec<W>,
+    line: Line,
+    value: u8,
+    bits: W,
+)
+    requires { HasRoomFor W.room (length rows.old.items) (length columns.old.items)
+        (record { line = line; value = value; bits = W.bits bits }) }
+    ensures turned { AreTurned (map W.bits rows.old.items) (map W.bits columns.old.items)
+        (map W.bits rows.new.items) (map W.bits columns.new.items)
+        (record { line = line; value = value; bits = W.bits bits }) }
+    ensures tall { length rows.new.items ≡ length rows.old.items }
+    ensures wide { length columns.new.items ≡ length columns.old.items }
+{
+    match line {
+        Line::Row(y) => turn(rows, columns, usize::from(y), usize::from(value), bits),
+        Line::Column(x) => turn(columns, rows, usize::from(x), usize::from(value), bits),
+    }
+}
