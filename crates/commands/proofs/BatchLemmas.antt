@@ -21,7 +21,7 @@ parts_at p (q ∷ parts) h = refl
 
 -- a line, its end, and what follows
 lines_at : (p rest : Text) → All (λ b. (b == 10) ≡ false) p → lines (p ++ 10 ∷ rest) ≡ strip_carriage_return p ∷ lines rest
-lines_at p rest h1 = grind (arith, common_steps, length-slice_split, parts_at, slice_split, slice_split_at)
+lines_at p rest all = grind (arith, common_steps, length-slice_split, parts_at, slice_split, slice_split_at)
 
 lines_last : (p : Text) → All (λ b. (b == 10) ≡ false) p → lines p ≡ (if length p == 0 then [] else p ∷ [])
 lines_last p h = ap lines_of_parts (slice_split_none (λ b. b == 10) p h)
@@ -35,12 +35,13 @@ module _ (allows : Text → Answer → Type 0) where
       let others = each_has answers ls in
       (both first.0 others.0, (first.0, others.0, first.1, others.1, refl))
 
-  module _ {S : Type 0} (takes : S → Text → S → Type 0) (nothing : (s : S) → takes s [] s) (both_times : (s t u : S) (a b : Text) → takes s a t → takes t b u → takes s (a ++ b) u) where
+  module _ {S : Type 0} {takes : S → Text → S → Type 0} (nothing : (s : S) → takes s [] s)
+      (both_times : (s t u : S) (a b : Text) → takes s a t → takes t b u → takes s (a ++ b) u) where
     -- with the answer to a line that ends here, which the lines after it follow
-    after_line : (start now : S) (batch : Batch) (seen : Text) (x : Answer) (b : Batched takes allows start batch seen now)
+    after_line : {start now : S} {batch : Batch} {seen : Text} (x : Answer) (b : Batched takes allows start batch seen now)
         → allows (strip_carriage_return b.piece) x → (rest : Text) (z : Answer) → AllowsEach allows (lines rest) z
         → AllowsEach allows (lines ((seen ++ 10 ∷ []) ++ rest)) (both (record { text = b.written; status = code_of batch.status }) (both x z))
-    after_line start now batch seen x b allowed rest z h =
+    after_line {seen} x b allowed rest z h =
         let whole : AllowsEach allows (lines (b.piece ++ 10 ∷ rest)) (both x z) = rw (lines_at b.piece rest b.in_line) (x, z, allowed, h, refl) in
         rw (append_assoc seen (10 ∷ []) rest) (b.goes_on (10 ∷ rest) (both x z) whole)
 
@@ -55,7 +56,7 @@ module _ (allows : Text → Answer → Type 0) where
       took = both_times start now new b.written x.text b.took took;
       goes_on = λ rest z h.
           let same : max (code_of next.status) z.status ≡ max (code_of batch.status) (max x.status z.status) = omega arith in
-          rw (append_assoc b.written x.text z.text, same) (after_line start now batch seen x b (allowed b.piece b.holds) rest z h);
+          rw (append_assoc b.written x.text z.text, same) (after_line x b (allowed b.piece b.holds) rest z h);
     }
 
     pub step_broken : HasAnswers allows → (start now new : S) (batch : Batch) (seen : Text) (x : Answer) → Batched takes allows start batch seen now
@@ -67,13 +68,13 @@ module _ (allows : Text → Answer → Type 0) where
       begun = λ rest.
           let z = each_has answers (lines rest) in
           let text_is : b.written ++ (x.text ++ z.0.text) ≡ (b.written ++ w.done) ++ (w.begun.0 ++ z.0.text) = rw w.begun.1 (simp append_assoc) in
-          (_, after_line start now batch seen x b (allowed b.piece b.holds) rest z.0 z.1, (w.begun.0 ++ z.0.text, text_is));
+          (_, after_line x b (allowed b.piece b.holds) rest z.0 z.1, (w.begun.0 ++ z.0.text, text_is));
     }
 
     -- no more was written
-    pub step_stopped : HasAnswers allows → (start now : S) (batch : Batch) (seen more : Text) → Batched takes allows start batch seen now
+    pub step_stopped : HasAnswers allows → {start now : S} {batch : Batch} {seen : Text} (more : Text) → Batched takes allows start batch seen now
         → Stopped takes allows start (seen ++ more) now
-    step_stopped answers start now batch seen more b = record {
+    step_stopped answers {batch} {seen} more b = record {
       written = b.written;
       took = b.took;
       begun = λ rest.
@@ -81,10 +82,10 @@ module _ (allows : Text → Answer → Type 0) where
           (both (answer_with b.written (code_of batch.status)) z.0, rw (append_assoc seen more rest) (b.goes_on (more ++ rest) z.0 z.1), (z.0.text, refl));
     }
 
-    pub step_in_line : (start now : S) (batch next : Batch) (seen : Text) (byte : ℕ) → (byte == 10) ≡ false → Batched takes allows start batch seen now
+    pub step_in_line : {start now : S} {batch next : Batch} (seen : Text) (byte : ℕ) → (byte == 10) ≡ false → Batched takes allows start batch seen now
         → ((piece : Text) → Holds batch.line piece → Holds next.line (piece ++ byte ∷ [])) → code_of next.status ≡ code_of batch.status
         → Batched takes allows start next (seen ++ byte ∷ []) now
-    step_in_line start now batch next seen byte other b holds status = record {
+    step_in_line seen byte other b holds status = record {
       piece = b.piece ++ byte ∷ [];
       written = b.written;
       holds = holds b.piece b.holds;
@@ -95,9 +96,9 @@ module _ (allows : Text → Answer → Type 0) where
     }
 
     -- the end of the input, after a newline
-    pub last_none : (start now : S) (batch : Batch) (seen : Text) → Batched takes allows start batch seen now
+    pub last_none : {start now : S} {batch : Batch} {seen : Text} → Batched takes allows start batch seen now
         → ((piece : Text) → Holds batch.line piece → true ≡ (length piece == 0)) → Answered takes allows start (code_of batch.status) seen now
-    last_none start now batch seen b empty = record {
+    last_none {batch} b empty = record {
       written = b.written;
       took = b.took;
       whole =
@@ -107,47 +108,47 @@ module _ (allows : Text → Answer → Type 0) where
     }
 
     -- with the answer to a last line that the end of the input ends
-    after_last : (start now : S) (batch : Batch) (seen : Text) (x : Answer) (b : Batched takes allows start batch seen now)
+    after_last : {start now : S} {batch : Batch} {seen : Text} (x : Answer) (b : Batched takes allows start batch seen now)
         → false ≡ (length b.piece == 0) → allows b.piece x
         → AllowsEach allows (lines seen) (record { text = b.written ++ x.text; status = max (code_of batch.status) x.status })
-    after_last start now batch seen x b some allowed =
+    after_last {batch} x b some allowed =
         let same : max (code_of batch.status) (max x.status 0) ≡ max (code_of batch.status) x.status = omega arith in
         let all = b.goes_on [] (both x silence) (rw (append-nil b.piece, lines_last b.piece b.in_line, ← some) (x, silence, allowed, refl, refl)) in
         simp (append-nil, same) at all
 
-    pub last_answered : (start now new : S) (batch : Batch) (seen : Text) (x : Answer) (status : ℕ) → Batched takes allows start batch seen now
+    pub last_answered : (start now new : S) {batch : Batch} (seen : Text) (x : Answer) {status : ℕ} → Batched takes allows start batch seen now
         → ((piece : Text) → Holds batch.line piece → false ≡ (length piece == 0)) → ((piece : Text) → Holds batch.line piece → allows piece x)
         → takes now x.text new → status ≡ max (code_of batch.status) x.status → Answered takes allows start status seen new
-    last_answered start now new batch seen x status b some allowed took is = record {
+    last_answered start now new seen x b some allowed took is = record {
       written = b.written ++ x.text;
       took = both_times start now new b.written x.text b.took took;
-      whole = rw is (after_last start now batch seen x b (some b.piece b.holds) (allowed b.piece b.holds));
+      whole = rw is (after_last x b (some b.piece b.holds) (allowed b.piece b.holds));
     }
 
-    pub last_broken : (start now new : S) (batch : Batch) (seen : Text) (x : Answer) → Batched takes allows start batch seen now
+    pub last_broken : (start now new : S) {batch : Batch} (seen : Text) (x : Answer) → Batched takes allows start batch seen now
         → ((piece : Text) → Holds batch.line piece → false ≡ (length piece == 0)) → ((piece : Text) → Holds batch.line piece → allows piece x)
         → PutBegun takes now x.text new → Begun takes allows start seen new
-    last_broken start now new batch seen x b some allowed w = record {
+    last_broken start now new seen x b some allowed w = record {
       written = b.written ++ w.done;
       took = both_times start now new b.written w.done b.took w.took;
-      begun = (_, after_last start now batch seen x b (some b.piece b.holds) (allowed b.piece b.holds), (w.begun.0, rw w.begun.1 (simp append_assoc)));
+      begun = (_, after_last x b (some b.piece b.holds) (allowed b.piece b.holds), (w.begun.0, rw w.begun.1 (simp append_assoc)));
     }
 
     -- no more was written
-    pub last_stopped : HasAnswers allows → (start now : S) (batch : Batch) (seen : Text) → Batched takes allows start batch seen now → Begun takes allows start seen now
-    last_stopped answers start now batch seen b =
-        let s = step_stopped answers start now batch seen [] b in
+    pub last_stopped : HasAnswers allows → (start now : S) {batch : Batch} (seen : Text) → Batched takes allows start batch seen now → Begun takes allows start seen now
+    last_stopped answers start now seen b =
+        let s = step_stopped answers [] b in
         record { written = s.written; took = s.took; begun = simp append-nil at (s.begun []) }
 
 -- a fact that holds whatever the error
-pub on_any_err : {T E : Type 0} (r : Result T E) (P : Type 0) → P → IfErr r (λ _. P)
-on_any_err (Ok x) P p = tt
-on_any_err (Err e) P p = p
+pub on_any_err : {T E : Type 0} (r : Result T E) {P : Type 0} → P → IfErr r (λ _. P)
+on_any_err (Ok x) p = tt
+on_any_err (Err e) p = p
 
 -- what was written still begins an answer, when more of the input is known
-pub stopped_further : {S : Type 0} (takes : S → Text → S → Type 0) (allows : Text → Answer → Type 0) (start now : S) (seen more : Text)
+pub stopped_further : {S : Type 0} {takes : S → Text → S → Type 0} {allows : Text → Answer → Type 0} {start now : S} {seen : Text} (more : Text)
     → Stopped takes allows start seen now → Stopped takes allows start (seen ++ more) now
-stopped_further takes allows start now seen more s =
+stopped_further {seen} more s =
     record { written = s.written; took = s.took; begun = λ rest. rw (append_assoc seen more rest) (s.begun (more ++ rest)) }
 
 -- the bytes up to one more
@@ -158,25 +159,27 @@ pub to_the_end : (seen chunk : Text) (i : ℕ) → i < length chunk → ((seen +
 to_the_end seen chunk i h = ap (λ t. t ++ drop (i + 1) chunk) (one_further seen chunk i h) ∙ append_assoc seen (take (i + 1) chunk) (drop (i + 1) chunk)
     ∙ ap (λ t. seen ++ t) (take-append-drop (i + 1) chunk)
 
-module _ {I : Type 0} (gives : I → Text → I → Type 0) (gives_both : (s t u : I) (a b : Text) → gives s a t → gives t b u → gives s (a ++ b) u) where
-  pub given_more : (from i j : I) (given chunk : Text) (P Q : Text → Type 0) → given ≡ chunk → Given gives from i P → gives i given j → ((seen : Text) → P seen → Q (seen ++ chunk))
+module _ {I : Type 0} {gives : I → Text → I → Type 0} (gives_both : (s t u : I) (a b : Text) → gives s a t → gives t b u → gives s (a ++ b) u) where
+  pub given_more : {from i j : I} {given chunk : Text} {P Q : Text → Type 0} → given ≡ chunk → Given gives from i P
+      → gives i given j → ((seen : Text) → P seen → Q (seen ++ chunk))
       → Given gives from j Q
-  given_more from i j given chunk P Q same t more step = record {
+  given_more {from} {i} {j} {chunk} same t more step = record {
     seen = t.seen ++ chunk;
     gave = gives_both from i j t.seen chunk t.gave (subst (λ (c : Text). gives i c j) same more);
     is = step t.seen t.is;
   }
 
-  pub given_no_more : (from i j : I) (P : Text → Type 0) → Given gives from i P → gives i [] j → Given gives from j P
-  given_no_more from i j P t more =
+  pub given_no_more : {from i j : I} {P : Text → Type 0} → Given gives from i P → gives i [] j → Given gives from j P
+  given_no_more {from} {i} {j} t more =
       record { seen = t.seen; gave = subst (λ (c : Text). gives from c j) (append-nil t.seen) (gives_both from i j t.seen [] t.gave more); is = t.is }
 
   -- no more was written
-  pub stopped_here : {S : Type 0} (takes : S → Text → S → Type 0) (nothing : (s : S) → takes s [] s) (both : (s t u : S) (a b : Text) → takes s a t → takes t b u → takes s (a ++ b) u)
-      (allows : Text → Answer → Type 0) → HasAnswers allows → (from i : I) (start o : S) (batch : Batch)
+  pub stopped_here : {S : Type 0} (takes : S → Text → S → Type 0) (nothing : (s : S) → takes s [] s)
+      (both : (s t u : S) (a b : Text) → takes s a t → takes t b u → takes s (a ++ b) u)
+      (allows : Text → Answer → Type 0) → HasAnswers allows → {from i : I} (start o : S) (batch : Batch)
       → Given gives from i (λ seen. Batched takes allows start batch seen o) → Given gives from i (λ seen. Stopped takes allows start seen o)
-  stopped_here takes nothing both allows answers from i start o batch t =
-      record { seen = t.seen; gave = t.gave; is = simp append-nil at (step_stopped allows takes nothing both answers start o batch t.seen [] t.is) }
+  stopped_here takes nothing both allows answers start o batch t =
+      record { seen = t.seen; gave = t.gave; is = simp append-nil at (step_stopped allows nothing both answers [] t.is) }
 
 -- what was read begins the input
 begins_input : (ended : Bool) (read input : Text) → IsInput ended read input → Begins read input
@@ -187,10 +190,13 @@ same_input : (ended : Bool) (read input : Text) → ended ≡ true → IsInput e
 same_input true read input end is = sym is
 same_input false read input end is = absurd (true≢false (sym end))
 
-module _ {I S : Type 0} (source : sources.Ghosts I) (sink : sinks.Ghosts S) (takes_both : (s t u : S) (a b : Text) → sink.takes s a t → sink.takes t b u → sink.takes s (a ++ b) u)
+module _ {I S : Type 0} {source : sources.Ghosts I} {sink : sinks.Ghosts S}
+    (takes_both : (s t u : S) (a b : Text) → sink.takes s a t → sink.takes t b u → sink.takes s (a ++ b) u)
     (allows : Text → Answer → Type 0) where
-  pub ran_stopped : (i j : I) (o p : S) (status : ℕ) → 5 ≤ status → Given source.gives i j (λ seen. Stopped sink.takes allows o seen p) → Ran source sink (λ input. AllowsEach allows (lines input)) i j o p status
-  ran_stopped i j o p status high s = record {
+  pub ran_stopped : (i j : I) {o p : S} {status : ℕ} → 5 ≤ status
+      → Given source.gives i j (λ seen. Stopped sink.takes allows o seen p)
+      → Ran source sink (λ input. AllowsEach allows (lines input)) i j o p status
+  ran_stopped i j high s = record {
     read = s.seen;
     written = s.is.written;
     gave = s.gave;
@@ -203,8 +209,9 @@ module _ {I S : Type 0} (source : sources.Ghosts I) (sink : sinks.Ghosts S) (tak
     };
   }
 
-  pub ran_begun : (i j : I) (o p : S) (seen : Text) (status : ℕ) → 5 ≤ status → source.has_ended j ≡ true → source.gives i seen j → Begun sink.takes allows o seen p → Ran source sink (λ input. AllowsEach allows (lines input)) i j o p status
-  ran_begun i j o p seen status high ended gave s = record {
+  pub ran_begun : (i j : I) {o p : S} {seen : Text} {status : ℕ} → 5 ≤ status → source.has_ended j ≡ true → source.gives i seen j
+      → Begun sink.takes allows o seen p → Ran source sink (λ input. AllowsEach allows (lines input)) i j o p status
+  ran_begun i j {seen} high ended gave s = record {
     read = seen;
     written = s.written;
     gave = gave;
@@ -216,9 +223,10 @@ module _ {I S : Type 0} (source : sources.Ghosts I) (sink : sinks.Ghosts S) (tak
   }
 
   -- all was answered, and the finishing took nothing more
-  pub ran_answered : (i j : I) (o p q : S) (seen : Text) (told status : ℕ) → (status ≡ told) ⊎ (status ≡ 6) → source.has_ended j ≡ true → source.gives i seen j → Answered sink.takes allows o told seen p → sink.takes p [] q
+  pub ran_answered : {i j : I} {o p q : S} {seen : Text} {told status : ℕ} → (status ≡ told) ⊎ (status ≡ 6)
+      → source.has_ended j ≡ true → source.gives i seen j → Answered sink.takes allows o told seen p → sink.takes p [] q
       → Ran source sink (λ input. AllowsEach allows (lines input)) i j o q status
-  ran_answered i j o p q seen told status is_told ended gave s more = record {
+  ran_answered {j} {o} {p} {q} {seen} {told} is_told ended gave s more = record {
     read = seen;
     written = s.written;
     gave = gave;

@@ -15,14 +15,14 @@ use Rattle.engine_core.proofs.SweepLemmas.{IsSweeping, IsSwept, fewer, sweep-who
 abbrev wakes : RuleSystem → ℕ → Candidates → (ℕ → Bool) → ℕ → Bool
 wakes p h K waits = woken p h (counts_of p h K) (after p h K) (but waits h)
 
-woken_is : (p : RuleSystem) (h : ℕ) (K : Candidates) (waits : ℕ → Bool) → IsWoken p h K (after p h K) waits (wakes p h K waits)
-woken_is p h K waits = record { fewer = λ j lt on. on; idle = λ j lt off on. absurd (true≢false (sym on ∙ off)) }
+woken_is : {p : RuleSystem} {h : ℕ} {K : Candidates} {waits : ℕ → Bool} → IsWoken p h K (after p h K) waits (wakes p h K waits)
+woken_is = record { fewer = λ j lt on. on; idle = λ j lt off on. absurd (true≢false (sym on ∙ off)) }
 
 all_rested : (p : RuleSystem) (K : Candidates) → IsRested p K (λ h. true)
 all_rested p K = λ h c v lt off on. absurd (true≢false off)
 
-visited_within : (p : RuleSystem) (h : ℕ) (K : Candidates) → IsWithin p.cells p.values K → IsWithin p.cells p.values (after p h K)
-visited_within p h K within = within_inside p.cells p.values (after p h K) K within (after_inside p h K)
+visited_within : (p : RuleSystem) (h : ℕ) {K : Candidates} → IsWithin p.cells p.values K → IsWithin p.cells p.values (after p h K)
+visited_within p h {K} within = within_inside p.cells p.values (after p h K) K within (after_inside p h K)
 
 -- ---- sweeps
 -- the board before the house n of a sweep, and which houses wait
@@ -32,15 +32,15 @@ record Sweeping (p : RuleSystem) (K : Candidates) (n : ℕ) : Type 0 where
   sweeping : IsSweeping p K n board waits
   within : IsWithin p.cells p.values board
 
-module _ (p : RuleSystem) (laws : IsLawful p) where
+module _ {p : RuleSystem} (laws : IsLawful p) where
   swept : (K : Candidates) → IsWithin p.cells p.values K → (n : ℕ) → n ≤ p.houses → Sweeping p K n
   swept K within zero le = record { board = K; waits = λ h. true; sweeping = sweeping-first p K (λ h. true) (all_rested p K); within = within }
   swept K within (suc n) le =
       let s : Sweeping p K n = swept K within n (omega arith) in
-      let turn = sweeping-turn p laws K n s.board (after p n s.board) s.waits (wakes p n s.board s.waits) s.sweeping (omega arith) s.within refl (woken_is p n s.board s.waits) in
-      record { board = _; waits = _; sweeping = rw add-one at turn; within = visited_within p n s.board s.within }
+      let turn = sweeping-turn p laws K n s.board (after p n s.board) s.waits (wakes p n s.board s.waits) s.sweeping (omega arith) s.within refl woken_is in
+      record { board = _; waits = _; sweeping = rw add-one at turn; within = visited_within p n s.within }
 
-  module _ (K0 : Candidates) (by_sweeps : p.by_queue ≡ false) (start : IsWithin p.cells p.values K0) where
+  module _ {K0 : Candidates} (by_sweeps : p.by_queue ≡ false) (start : IsWithin p.cells p.values K0) where
     -- one sweep more closes the board, or leaves fewer values
     one_sweep : (n : ℕ) (K : Candidates) → IsAlive p K → IsWithin p.cells p.values K → IsSwept p K0 n K
         → ((L : Candidates) → total p.cells p.values L < total p.cells p.values K → IsAlive p L → IsWithin p.cells p.values L → IsSwept p K0 (n + 1) L
@@ -59,7 +59,8 @@ module _ (p : RuleSystem) (laws : IsLawful p) where
                     again s.board (fewer p K s.board within w.left lost) lives s.within (swept-turn p K0 n K s.board done within w.left lost lives)
                 | inr none ↦ (
                   n + 1,
-                  ((swept-open p laws K0 n K s.board s.waits by_sweeps start alive done (sweep-whole p K s.board s.waits w lives) (any_below-none s.waits p.houses none)).by_sweeps by_sweeps).1,
+                  ((swept-open p laws K0 n K s.board s.waits by_sweeps start alive done (sweep-whole p K s.board s.waits w lives)
+                      (any_below-none s.waits p.houses none)).by_sweeps by_sweeps).1,
                 )
               ]
         ]
@@ -76,31 +77,31 @@ module _ (p : RuleSystem) (laws : IsLawful p) where
     ]
 
   -- ---- a queue
-  module _ (K0 : Candidates) (by_queue : p.by_queue ≡ true) (start : IsWithin p.cells p.values K0) where
+  module _ {K0 : Candidates} (by_queue : p.by_queue ≡ true) (start : IsWithin p.cells p.values K0) where
     -- no house waits, or one visit more leaves a dead board, or there is room for more
-    one_visit : (t : List ℕ) (K : Candidates) (waits : ℕ → Bool) → IsWithin p.cells p.values K → IsRunning p K0 t K waits
+    one_visit : (t : List ℕ) (K : Candidates) {waits : ℕ → Bool} → IsWithin p.cells p.values K → IsRunning p K0 t K waits
         → ((h : ℕ) (L : Candidates) (left : ℕ → Bool) → length t < p.bound → IsWithin p.cells p.values L → IsRunning p K0 (t ++ h ∷ []) L left
         → (visits : List ℕ) × IsClosingList p K0 visits)
         → (visits : List ℕ) × IsClosingList p K0 visits
-    one_visit t K waits within r again = elim (cases_Bool (any_below waits p.houses)) [
+    one_visit t K {waits} within r again = elim (cases_Bool (any_below waits p.houses)) [
       | inr none ↦ (t, ((closing-open p laws K0 t K waits by_queue start r (any_below-none waits p.houses none)).by_visits by_queue).1)
       | inl some ↦
           let w = any_below-some waits p.houses some in
           elim (cases_Bool (is_dead p.cells p.values (after p w.0 K))) [
             | inl dead ↦ (t ++ w.0 ∷ [], ((closing-dead p laws K0 t K (after p w.0 K) waits w.0 by_queue start r w.1 w.2 refl dead).by_visits by_queue).1)
-            | inr alive ↦ again w.0 (after p w.0 K) (wakes p w.0 K waits) (omega (arith, visits_left-pos p K waits w.0 w.1 w.2, r.enough)) (visited_within p w.0 K within)
-                (running-turn p laws K0 t K (after p w.0 K) waits (wakes p w.0 K waits) w.0 r w.1 w.2 within refl (woken_is p w.0 K waits) alive)
+            | inr alive ↦ again w.0 (after p w.0 K) (wakes p w.0 K waits) (omega (arith, visits_left-pos p K waits w.0 w.1 w.2, r.enough)) (visited_within p w.0 within)
+                (running-turn p laws K0 t K (after p w.0 K) waits (wakes p w.0 K waits) w.0 r w.1 w.2 within refl woken_is alive)
           ]
     ]
 
-    visits_from : (fuel : ℕ) (t : List ℕ) (K : Candidates) (waits : ℕ → Bool) → p.bound ≤ length t + fuel → IsWithin p.cells p.values K → IsRunning p K0 t K waits
+    visits_from : (fuel : ℕ) {t : List ℕ} (K : Candidates) {waits : ℕ → Bool} → p.bound ≤ length t + fuel → IsWithin p.cells p.values K → IsRunning p K0 t K waits
         → (visits : List ℕ) × IsClosingList p K0 visits
-    visits_from zero t K waits room within r = one_visit t K waits within r (λ h L left less a b. absurd (omega arith))
-    visits_from (suc fuel) t K waits room within r = one_visit t K waits within r
-        (λ h L left less a b. visits_from fuel (t ++ h ∷ []) L left (omega (arith, length-append t (h ∷ []))) a b)
+    visits_from zero {t} K room within r = one_visit t K within r (λ h L left less a b. absurd (omega arith))
+    visits_from (suc fuel) {t} K room within r = one_visit t K within r
+        (λ h L left less a b. visits_from fuel L (omega (arith, length-append t (h ∷ []))) a b)
 
     pub visits_close : (visits : List ℕ) × IsClosingList p K0 visits
     visits_close = elim (cases_Bool (is_dead p.cells p.values K0)) [
       | inl dead ↦ ([], ((closing-none p laws K0 start dead).by_visits by_queue).1)
-      | inr alive ↦ visits_from p.bound [] K0 (λ h. true) (omega arith) start (running-first p laws K0 (λ h. true) by_queue alive (all_rested p K0))
+      | inr alive ↦ visits_from p.bound K0 (omega arith) start (running-first p laws K0 (λ h. true) by_queue alive (all_rested p K0))
     ]

@@ -39,10 +39,10 @@ spent_whole budget (Some first) (Found h ∷ marks) g e = absurd cc
 spent_whole zero found (Trial depth board ∷ marks) g e = absurd cc
 spent_whole (suc budget) found (Trial depth board ∷ marks) g e = ap suc (spent_whole budget found marks g e)
 
-pub grade_is : (rules : RuleSystem) (budget : ℕ) (verdict : Outcome) → verdict_of rules budget ≡ verdict
+pub grade_is : (rules : RuleSystem) (budget : ℕ) {verdict : Outcome} → verdict_of rules budget ≡ verdict
     → grade_by (trials_in (walk rules 0 rules.start)) verdict ≡ searched_grade rules budget
 unfolding searched_grade
-grade_is rules budget verdict e = ap (grade_by (trials_in (walk rules 0 rules.start))) (sym e)
+grade_is rules budget e = ap (grade_by (trials_in (walk rules 0 rules.start))) (sym e)
 
 -- numbers that are 1 are not 0
 none_zero : (f : ℕ → ℕ) (n : ℕ) → all_below (λ c. f c == 1) n ≡ true → any_below (λ c. f c == 0) n ≡ false
@@ -67,9 +67,9 @@ unfolding walk_closed
 full_walk p walk_of E full good = rw (full_alive p.cells p.values E full) (rw full (rw good refl))
 
 -- a puzzle that is settled has the grid of its closure as its one solution
-pub settled_has_one : (p : RuleSystem) → walk p 0 p.start ≡ walk_closed p (walk p 1) 0 (closure p p.start)
+pub settled_has_one : {p : RuleSystem} → walk p 0 p.start ≡ walk_closed p (walk p 1) 0 (closure p p.start)
     → ((g : List ℕ) → IsFound g (walk p 0 p.start) ↔ Solves p g) → is_settled p ≡ true → HasOneSolution (Solves p)
-settled_has_one p goes_on finds settled =
+settled_has_one {p} goes_on finds settled =
     let parts = and_parts (is_full p.cells p.values (closure p p.start)) (p.is_solution (grid_of p.cells p.values (closure p p.start))) settled in
     let g : List ℕ = grid_of p.cells p.values (closure p p.start) in
     let whole : walk p 0 p.start ≡ Found g ∷ [] = goes_on ∙ full_walk p (walk p 1) (closure p p.start) parts.0 parts.1 in (
@@ -91,16 +91,16 @@ right_as A B SeveralSolutions same right = (right.0, right.1, (same right.0).0 r
 right_as A B GaveUp same right = tt
 
 -- the grids that rules accept are the solutions, and a grade is right of both
-pub right_by : (p q : RuleSystem) (solves : List ℕ → Type 0) (grade : Grade) → q ≡ p → ((g : List ℕ) → Solves p g ↔ solves g)
+pub right_by : {p q : RuleSystem} (solves : List ℕ → Type 0) (grade : Grade) → q ≡ p → ((g : List ℕ) → Solves p g ↔ solves g)
     → IsRightGrade (Solves q) grade → IsRightGrade solves grade
-right_by p q solves grade e same right = right_as (Solves p) solves grade same (subst (λ (r : RuleSystem). IsRightGrade (Solves r) grade) e right)
+right_by {p} solves grade e same right = right_as (Solves p) solves grade same (subst (λ (r : RuleSystem). IsRightGrade (Solves r) grade) e right)
 
-pub accepted_by : (p q : RuleSystem) (solves : List ℕ → Type 0) → q ≡ p → ((g : List ℕ) → Solves p g ↔ solves g) → (g : List ℕ) → Solves q g ↔ solves g
-accepted_by p q solves e same = subst (λ (r : RuleSystem). (g : List ℕ) → Solves r g ↔ solves g) (sym e) same
+pub accepted_by : {p q : RuleSystem} (solves : List ℕ → Type 0) → q ≡ p → ((g : List ℕ) → Solves p g ↔ solves g) → (g : List ℕ) → Solves q g ↔ solves g
+accepted_by solves e same = subst (λ (r : RuleSystem). (g : List ℕ) → Solves r g ↔ solves g) (sym e) same
 
 -- the last rules in the list were tried last, whether they settle the puzzle or not
-pub last_of_one : (before : RuleSystem) (set : RuleSet) (rules : RuleSystem) → rules ≡ last_tried before (only_set set rules)
-last_of_one before set rules = grind (arith, common_steps)
+pub last_of_one : (before : RuleSystem) (set : RuleSet) {rules : RuleSystem} → rules ≡ last_tried before (only_set set rules)
+last_of_one before set = grind (arith, common_steps)
 
 module _ {P : Type 0} (play : PuzzleFacts P) (p : P) (budget : ℕ) (traced : Bool) {S : Type 0} (takes : S → Text → S → Type 0) (s t : S) (status : ℕ) where
   -- what is said of a list of rule sets, and of the last of them that was tried
@@ -112,39 +112,39 @@ module _ {P : Type 0} (play : PuzzleFacts P) (p : P) (budget : ℕ) (traced : Bo
 
   rightly : (sets : List NamedRules) → IsRightGrade (play.game.solves p) (listed_grade sets (play.game.rules p) budget)
       → SaysLast (listed_grade sets (play.game.rules p) budget) (last_tried (play.game.rules p) sets) → SaysBy sets
-  rightly sets right told = says_as takes _ _ s t status (λ a said. record { right = right; said = said }) told
+  rightly sets right told = says_as (λ a said. record { right = right; said = said }) told
 
   -- the last in the list
   pub said_last : (grade : Grade) (set : RuleSet) (rules : RuleSystem) → grade ≡ listed_grade (only_set set rules) (play.game.rules p) budget
       → IsRightGrade (play.game.solves p) grade → SaysLast grade rules → SaysBy (only_set set rules)
   said_last grade set rules e right told = rightly (only_set set rules) (rw e at right)
-      (subst (λ (g : Grade). SaysLast g (last_tried (play.game.rules p) (only_set set rules))) e (subst (SaysLast grade) (last_of_one (play.game.rules p) set rules) told))
+      (subst (λ (g : Grade). SaysLast g (last_tried (play.game.rules p) (only_set set rules))) e (subst (SaysLast grade) (last_of_one (play.game.rules p) set) told))
 
   -- the first in the list settles the puzzle
-  pub said_first : (q : RuleSystem) (set : RuleSet) (rules : RuleSystem) (rest : List NamedRules) → q ≡ rules → is_settled q ≡ true
+  pub said_first : {q : RuleSystem} (set : RuleSet) {rules : RuleSystem} (rest : List NamedRules) → q ≡ rules → is_settled q ≡ true
       → ((g : List ℕ) → Solves rules g ↔ play.game.solves p g) → HasOneSolution (Solves q) → SaysLast (ByRules set) q
       → SaysBy (record { set = set; rules = rules } ∷ rest)
-  said_first q set rules rest e settled same one told =
+  said_first set {rules} rest e settled same one told =
       let is : is_settled rules ≡ true = ap is_settled (sym e) ∙ settled in
-      rightly (record { set = set; rules = rules } ∷ rest) (rw is (right_by rules q (play.game.solves p) (ByRules set) e same one)) (rw is (rw e at told))
+      rightly (record { set = set; rules = rules } ∷ rest) (rw is (right_by (play.game.solves p) (ByRules set) e same one)) (rw is (rw e at told))
 
   -- the first of two or more in the list doesn't
-  pub said_later : (q : RuleSystem) (set : RuleSet) (rules : RuleSystem) (next : NamedRules) (rest : List NamedRules) → q ≡ rules → is_settled q ≡ false
+  pub said_later : {q : RuleSystem} (set : RuleSet) {rules : RuleSystem} (next : NamedRules) (rest : List NamedRules) → q ≡ rules → is_settled q ≡ false
       → SaysBy (next ∷ rest) → SaysBy (record { set = set; rules = rules } ∷ next ∷ rest)
-  said_later q set rules next rest e unsettled told =
+  said_later set {rules} next rest e unsettled told =
       let is : is_settled rules ≡ false = ap is_settled (sym e) ∙ unsettled in
-      says_as takes _ _ s t status (λ a graded. record { right = rw is graded.right; said = rw is graded.said }) told
+      says_as (λ a graded. record { right = rw is graded.right; said = rw is graded.said }) told
 
   -- rules that were made for a puzzle are its own
-  pub said_by : (q r : RuleSystem) (set : RuleSet) → q ≡ r → SaysBy (only_set set q) → SaysBy (only_set set r)
-  said_by q r set e told = subst (λ (x : RuleSystem). SaysBy (only_set set x)) e told
+  pub said_by : {q r : RuleSystem} (set : RuleSet) → q ≡ r → SaysBy (only_set set q) → SaysBy (only_set set r)
+  said_by set e told = subst (λ (x : RuleSystem). SaysBy (only_set set x)) e told
 
-module _ {S : Type 0} (takes : S → Text → S → Type 0) (nothing : (s : S) → takes s [] s) (both : (s t u : S) (a b : Text) → takes s a t → takes t b u → takes s (a ++ b) u)
-    (grade : Grade) (traced : Bool) (name : ℕ → Text) (rules : RuleSystem) where
+module _ {S : Type 0} {takes : S → Text → S → Type 0} (nothing : (s : S) → takes s [] s) (both : (s t u : S) (a b : Text) → takes s a t → takes t b u → takes s (a ++ b) u)
+    {grade : Grade} {traced : Bool} {name : ℕ → Text} {rules : RuleSystem} where
   -- the rest was delivered
-  pub said_whole : (s t u : S) (line rest : Text) (a : Answer) (status : ℕ) → line ≡ grade_text grade ++ codes "\n" → PutsTrace takes traced name rules s line rest t
+  pub said_whole : {s t u : S} {line rest : Text} {a : Answer} {status : ℕ} → line ≡ grade_text grade ++ codes "\n" → PutsTrace takes traced name rules s line rest t
       → Delivers takes t a u status → a.text ≡ rest → a.status ≡ grade_status grade → SaysIfAny takes (SaysGrade grade traced name rules) s u status
-  said_whole s t u line rest a status is p d same ends = record {
+  said_whole {s} {t} {u} {line} is p d same ends = record {
     written = p.put.done ++ d.written;
     took = both s t u p.put.done d.written p.put.took d.took;
     begun = inr (
@@ -164,9 +164,9 @@ module _ {S : Type 0} (takes : S → Text → S → Type 0) (nothing : (s : S) �
   }
 
   -- a beginning was put
-  pub said_begun : (s u : S) (line : Text) (status : ℕ) → line ≡ grade_text grade ++ codes "\n" → BeginsTrace takes traced name rules s line u → 5 ≤ status
+  pub said_begun : {s u : S} (line : Text) (status : ℕ) → line ≡ grade_text grade ++ codes "\n" → BeginsTrace takes traced name rules s line u → 5 ≤ status
       → SaysIfAny takes (SaysGrade grade traced name rules) s u status
-  said_begun s u line status is p high = record {
+  said_begun line status is p high = record {
     written = p.begun.done;
     took = p.begun.took;
     begun = inr (
@@ -178,16 +178,16 @@ module _ {S : Type 0} (takes : S → Text → S → Type 0) (nothing : (s : S) �
   }
 
 -- the lines of a closing are those of a trace that is asked for
-pub is_traced : (traced queue : Bool) (name : ℕ → Text) (rules : RuleSystem) (lines : Text) → traced ≡ true → rules.by_queue ≡ queue
+pub is_traced : (traced : Bool) {queue : Bool} (name : ℕ → Text) (rules : RuleSystem) (lines : Text) → traced ≡ true → rules.by_queue ≡ queue
     → SaysClosing queue name rules lines → IsTrace traced name rules lines
-is_traced true queue name rules lines e mode said = subst (λ (b : Bool). SaysClosing b name rules lines) (sym mode) said
-is_traced false queue name rules lines e mode said = absurd (true≢false (sym e))
+is_traced true name rules lines e mode said = subst (λ (b : Bool). SaysClosing b name rules lines) (sym mode) said
+is_traced false name rules lines e mode said = absurd (true≢false (sym e))
 
 -- no trace was asked for
-pub untraced : {S : Type 0} (takes : S → Text → S → Type 0) (traced : Bool) (name : ℕ → Text) (rules : RuleSystem) (s : S) (text : Text) → takes s [] s → traced ≡ false
+pub untraced : {S : Type 0} {takes : S → Text → S → Type 0} (traced : Bool) {name : ℕ → Text} {rules : RuleSystem} {s : S} {text : Text} → takes s [] s → traced ≡ false
     → PutsTrace takes traced name rules s text text s
-untraced takes true name rules s text nothing is = absurd (true≢false is)
-untraced takes false name rules s text nothing is = record { lines = []; trace = refl; put = record { done = []; took = nothing; split = append-nil text } }
+untraced true nothing is = absurd (true≢false is)
+untraced false {text} nothing is = record { lines = []; trace = refl; put = record { done = []; took = nothing; split = append-nil text } }
 
 -- what the rule sets of Solo visit has a name: houses first, and then crossings
 over_houses : (decides : Decision) (p : Solo) → length (deciding decides p) ≤ length (scopes_of p)
@@ -211,5 +211,5 @@ crossings_named p =
       length-map (houses_of p) House,
     )
 
-pub named : (p : Solo) (q rules : RuleSystem) → q ≡ rules → rules.houses ≤ length (scopes_of p) → q.houses ≤ length (scopes_of p)
-named p q rules e few = subst (λ (r : RuleSystem). r.houses ≤ length (scopes_of p)) (sym e) few
+pub named : (p : Solo) {q rules : RuleSystem} → q ≡ rules → rules.houses ≤ length (scopes_of p) → q.houses ≤ length (scopes_of p)
+named p e few = subst (λ (r : RuleSystem). r.houses ≤ length (scopes_of p)) (sym e) few

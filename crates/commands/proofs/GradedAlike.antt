@@ -48,25 +48,25 @@ begins_with_trial walk_of d E cell (suc n) = elim (begins_with_trial walk_of d E
 none_below : (p : RuleSystem) (walk_of : Candidates → List Mark) (d : ℕ) (E : Candidates) (o : Option ℕ) (g : List ℕ)
     → outcome 0 None (at_cell p walk_of d E o) ≡ OneSolution g → ⊥
 unfolding at_cell outcome
-none_below p walk_of d E o g h1 = grind (arith, common_steps, begins_with_trial)
+none_below p walk_of d E o g same = grind (arith, common_steps, begins_with_trial)
 
-module _ (p : RuleSystem) (laws : IsLawful p) where
+module _ {p : RuleSystem} (laws : IsLawful p) where
   start_walk : walk p 0 p.start ≡ walk_closed p (walk p 1) 0 (closure p p.start)
   start_walk = walk-unfold p 0 p.start laws.start_within
 
   pub settled_found : is_settled p ≡ true → (budget : ℕ) → verdict_of p budget ≡ OneSolution (grid_of p.cells p.values (closure p p.start))
-  settled_found h1 budget = grind (arith, common_steps, and_parts, found_one, full_walk, start_walk)
+  settled_found same budget = grind (arith, common_steps, and_parts, found_one, full_walk, start_walk)
 
-  nothing : (marks : List Mark) (g : List ℕ) → walk p 0 p.start ≡ marks → marks ≡ [] → verdict_of p 0 ≡ OneSolution g → ⊥
+  nothing : {marks : List Mark} (g : List ℕ) → walk p 0 p.start ≡ marks → marks ≡ [] → verdict_of p 0 ≡ OneSolution g → ⊥
   unfolding outcome
-  nothing marks g is none e = let empty : NoSolution ≡ OneSolution g = sym (ap (outcome 0 None) (is ∙ none)) ∙ e in cc
+  nothing g is none e = let empty : NoSolution ≡ OneSolution g = sym (ap (outcome 0 None) (is ∙ none)) ∙ e in cc
 
   pub one_settled : (g : List ℕ) → verdict_of p 0 ≡ OneSolution g → is_settled p ≡ true
   unfolding walk_closed
-  one_settled g h1 = grind (arith, common_steps, and_from, none_below, nothing, start_walk, walk_closed-dead, walk_closed-wrong)
+  one_settled g same = grind (arith, common_steps, and_from, none_below, nothing, start_walk, walk_closed-dead, walk_closed-wrong)
 
 -- what the weaker rules settle, the stronger ones settle
-module _ (weak strong : RuleSystem) (weak_laws : IsLawful weak) (strong_laws : IsLawful strong)
+module _ {weak strong : RuleSystem} (weak_laws : IsLawful weak) (strong_laws : IsLawful strong)
     (same_cells : strong.cells ≡ weak.cells) (same_values : strong.values ≡ weak.values) (same_start : strong.start ≡ weak.start)
     (solves_too : (g : List ℕ) → Solves weak g → Solves strong g)
     (closes_too : (K : Candidates) → IsClosed strong K → IsClosed weak K) where
@@ -77,8 +77,10 @@ module _ (weak strong : RuleSystem) (weak_laws : IsLawful weak) (strong_laws : I
 
   pub settled_by_stronger : is_settled weak ≡ true → is_settled strong ≡ true
   settled_by_stronger settled =
-      let parts = and_parts (is_full weak.cells weak.values (closure weak weak.start)) (weak.is_solution (grid_of weak.cells weak.values (closure weak weak.start))) settled in
-      one_settled strong strong_laws (grid_of weak.cells weak.values (closure weak weak.start))
+      let parts =
+      and_parts (is_full weak.cells weak.values (closure weak weak.start))
+      (weak.is_solution (grid_of weak.cells weak.values (closure weak weak.start))) settled in
+      one_settled strong_laws (grid_of weak.cells weak.values (closure weak weak.start))
       (found_at_once strong 0 (grid_of weak.cells weak.values (closure weak weak.start)) (known strong strong_laws) (solved parts.0 parts.1)
       (λ c v lc lv on.
       let here = inside_weak c v on in
@@ -98,15 +100,15 @@ module _ (weak strong : RuleSystem) (weak_laws : IsLawful weak) (strong_laws : I
 -- ---- two commands that answer to one ID
 module _ {P : Type 0} {of : Text → Result P IdFault} {spells : Text → P → Type 0} (reading : HasOneReading spells of) where
   -- what holds of refusals, and of the answers to each puzzle, holds of the answers to an ID
-  pub both_answers : (first second : P → Answer → Type 0) (holds : Answer → Answer → Type 0) (id : Text) (a b : Answer)
+  pub both_answers : {first second : P → Answer → Type 0} (holds : Answer → Answer → Type 0) (id : Text) (a b : Answer)
       → ((causes others : Text) → holds (refused causes) (refused others))
       → ((p : P) → spells id p → first p a → second p b → holds a b)
       → AllowsId (of id) (spells id) first a → AllowsId (of id) (spells id) second b → holds a b
-  both_answers first second holds id a b refusals answers (inl x) (inl y) =
+  both_answers holds id a b refusals answers (inl x) (inl y) =
       subst (λ c. holds c b) (sym x.said) (subst (holds (refused (fault_text x.fault))) (sym y.said) (refusals (fault_text x.fault) (fault_text y.fault)))
-  both_answers first second holds id a b refusals answers (inl x) (inr y) = absurd (reading.apart id y.puzzle x.fault y.spelled x.first)
-  both_answers first second holds id a b refusals answers (inr x) (inl y) = absurd (reading.apart id x.puzzle y.fault x.spelled y.first)
-  both_answers first second holds id a b refusals answers (inr x) (inr y) =
+  both_answers holds id a b refusals answers (inl x) (inr y) = absurd (reading.apart id y.puzzle x.fault y.spelled x.first)
+  both_answers holds id a b refusals answers (inr x) (inl y) = absurd (reading.apart id x.puzzle y.fault x.spelled y.first)
+  both_answers {second} holds id a b refusals answers (inr x) (inr y) =
       answers x.puzzle x.spelled x.allowed (subst (λ p. second p b) (reading.one id y.puzzle x.puzzle y.spelled x.spelled) y.allowed)
 
 -- ---- statuses
@@ -127,9 +129,9 @@ unfolding verdict_status
 by_status trials (GaveUp found) = refl
 by_status trials o = refl
 
-one_status : (o : Outcome) (g : List ℕ) → o ≡ OneSolution g → 0 ≡ verdict_status o
+one_status : {o : Outcome} (g : List ℕ) → o ≡ OneSolution g → 0 ≡ verdict_status o
 unfolding verdict_status
-one_status o g e = sym (ap verdict_status e)
+one_status g e = sym (ap verdict_status e)
 
 pub status_one : (o : Outcome) → verdict_status o ≡ 0 → (g : List ℕ) × (o ≡ OneSolution g)
 unfolding verdict_status
@@ -146,10 +148,11 @@ graded_one solves grade right e = absurd (omega (arith, e))
 -- a verdict that is right of a puzzle with one solution is that one, or that the search gave up
 one_or_out : (solves : List ℕ → Type 0) (o : Outcome) → IsRight solves o → HasOneSolution solves → verdict_status o ≢ 4 → 0 ≡ verdict_status o
 unfolding verdict_status
-one_or_out solves o h1 h2 h3 = grind (arith, common_steps)
+one_or_out solves o right one_solution differ = grind (arith, common_steps)
 
 -- a list of rule sets gives the name of one, or the grade by the search
-pub named_or_searched : (sets : List NamedRules) (otherwise : Grade) → ((set : RuleSet) × (first_settled sets otherwise ≡ ByRules set)) ⊎ (first_settled sets otherwise ≡ otherwise)
+pub named_or_searched : (sets : List NamedRules) (otherwise : Grade)
+    → ((set : RuleSet) × (first_settled sets otherwise ≡ ByRules set)) ⊎ (first_settled sets otherwise ≡ otherwise)
 named_or_searched [] otherwise = inr refl
 named_or_searched (first ∷ rest) otherwise = by (is_settled first.rules) (named_or_searched rest otherwise)
   where
@@ -205,13 +208,14 @@ module _ (search : RuleSystem) (budget : ℕ) where
   pub own_named : (set : RuleSet) (rest : List NamedRules) → is_within_search set ≡ true → AreBeyond rest
       → is_within (listed_grade (record { set = set; rules = search } ∷ rest) search budget) ≡ is_settled search
   unfolding is_within
-  own_named set rest h1 h2 = grind (arith, common_steps, beyond, is_within)
+  own_named set rest same h2 = grind (arith, common_steps, beyond, is_within)
 
   -- one more rule set before the others, where what it settles the search's rules settle
   pub weaker_named : (set : RuleSet) (weak : RuleSystem) (rest : List NamedRules) → is_within_search set ≡ true → (is_settled weak ≡ true → is_settled search ≡ true)
-      → is_within (listed_grade rest search budget) ≡ is_settled search → is_within (listed_grade (record { set = set; rules = weak } ∷ rest) search budget) ≡ is_settled search
+      → is_within (listed_grade rest search budget) ≡ is_settled search
+      → is_within (listed_grade (record { set = set; rules = weak } ∷ rest) search budget) ≡ is_settled search
   unfolding is_within
-  weaker_named set weak rest h1 h2 h3 = grind (arith, common_steps, is_within)
+  weaker_named set weak rest same each is = grind (arith, common_steps, is_within)
 
 -- ---- what is told
 -- the first two bytes of a text
@@ -221,7 +225,7 @@ marks text = slice_index text 0 + 1000 * slice_index text 1
 named_is : (grade : Grade) (lines rest : Text) (set : RuleSet) → is_within_search set ≡ true
     → grade_text grade ++ codes "\n" ++ lines ≡ (rule_set_text set ++ codes "\n") ++ rest → is_within grade ≡ true
 unfolding is_within marks
-named_is grade lines rest set h1 h2 = grind (arith, common_steps, marks, true≢false)
+named_is grade lines rest set same is = grind (arith, common_steps, marks, true≢false)
 
 names_it : (grade : Grade) (lines : Text) → is_within grade ≡ true
     → (set : RuleSet) × (is_within_search set ≡ true) × Begins (rule_set_text set ++ codes "\n") (grade_text grade ++ codes "\n" ++ lines)
@@ -245,18 +249,18 @@ refusals_apart first second = (λ named. absurd (none_named second named), λ e.
 pub refusals_along : (first second : Text) → GoesAlong (refused second).status (refused first).status
 refusals_along first second = inl refl
 
-module _ (traced : Bool) (name : ℕ → Text) (tried : RuleSystem) (printed : List ℕ → Text) (solved graded : Answer) where
-  pub status_alike : (grade : Grade) (o : Outcome) → GoesAlong (grade_status grade) (verdict_status o) → SaysGrade grade traced name tried graded
+module _ {traced : Bool} {name : ℕ → Text} {tried : RuleSystem} (printed : List ℕ → Text) {solved graded : Answer} where
+  pub status_alike : {grade : Grade} (o : Outcome) → GoesAlong (grade_status grade) (verdict_status o) → SaysGrade grade traced name tried graded
       → solved ≡ verdict_answer printed o → GoesAlong graded.status solved.status
-  status_alike grade o along told is = rw (told.status, is, told_status printed o) along
+  status_alike o along told is = rw (told.status, is, told_status printed o) along
 
-  pub named_alike : (grade : Grade) (rules : RuleSystem) → IsLawful rules → is_within grade ≡ is_settled rules → SaysGrade grade traced name tried graded
+  pub named_alike : (grade : Grade) {rules : RuleSystem} → IsLawful rules → is_within grade ≡ is_settled rules → SaysGrade grade traced name tried graded
       → solved ≡ verdict_answer printed (verdict_of rules 0) → NamesRules graded ↔ (solved.status ≡ 0)
-  named_alike grade rules laws within told is = (
+  named_alike grade {rules} laws within told is = (
     λ named. let by : is_within grade ≡ true = named_is grade told.lines named.2.0 named.0 named.1 (sym told.text ∙ named.2.1) in
-        is_status ∙ sym (one_status (verdict_of rules 0) _ (settled_found rules laws (sym within ∙ by) 0)),
+        is_status ∙ sym (one_status _ (settled_found laws (sym within ∙ by) 0)),
     λ zero_status. let one = status_one (verdict_of rules 0) (sym is_status ∙ zero_status) in
-        let w = names_it grade told.lines (within ∙ one_settled rules laws one.0 one.1) in
+        let w = names_it grade told.lines (within ∙ one_settled laws one.0 one.1) in
         (w.0, w.1, subst (Begins (rule_set_text w.0 ++ codes "\n")) (sym told.text) w.2),
   )
     where

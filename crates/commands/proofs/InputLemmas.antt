@@ -32,15 +32,15 @@ module _ (n : ℕ) where
   full piece h = grind (arith, common_steps)
 
 -- a line of which so many bytes at most are kept
-module _ (most : ℕ) where
+module _ {most : ℕ} where
   -- it is empty where nothing of it is kept
-  pub line_empty : 0 < most → (line : InputLine) (piece : List ℕ) → HoldsUpTo most line piece → (length line.kept.items == 0) ≡ (length piece == 0)
-  line_empty h1 line piece h2 = grind (arith, common_steps, cases_lt, full, ne_eqb, whole)
+  pub line_empty : 0 < most → {line : InputLine} {piece : List ℕ} → HoldsUpTo most line piece → (length line.kept.items == 0) ≡ (length piece == 0)
+  line_empty below holds_up_to = grind (arith, common_steps, cases_lt, full, ne_eqb, whole)
 
   -- a byte that is kept
-  pub holds_kept : (old new : InputLine) (b : ℕ) (piece : List ℕ) → HoldsUpTo most old piece → length old.kept.items < most
+  pub holds_kept : {old new : InputLine} (b : ℕ) {piece : List ℕ} → HoldsUpTo most old piece → length old.kept.items < most
       → new.kept.items ≡ old.kept.items ++ b ∷ [] → new.tail ≡ old.tail → HoldsUpTo most new (piece ++ b ∷ [])
-  holds_kept old new b piece h room kept tail =
+  holds_kept b {piece} h room kept tail =
       let low : length (take most piece) < most = subst (λ l. length l < most) h.kept room in
       let few : length piece < most = short most piece low in
       let few_more : length (piece ++ b ∷ []) ≤ most = rw length-append (omega arith) in
@@ -51,9 +51,9 @@ module _ (most : ℕ) where
       }
 
   -- a byte after those that are kept
-  pub holds_more : (old new : InputLine) (b : ℕ) (piece : List ℕ) → HoldsUpTo most old piece → most ≤ length old.kept.items
+  pub holds_more : {old new : InputLine} (b : ℕ) {piece : List ℕ} → HoldsUpTo most old piece → most ≤ length old.kept.items
       → new.kept.items ≡ old.kept.items → new.tail ≡ next_tail old.tail b → HoldsUpTo most new (piece ++ b ∷ [])
-  holds_more old new b piece h full kept tail =
+  holds_more b {piece} h full kept tail =
       let high : most ≤ length (take most piece) = subst (λ l. most ≤ length l) h.kept full in
       let many : most ≤ length piece = long most piece high in
       record {
@@ -62,26 +62,26 @@ module _ (most : ℕ) where
       }
 
 -- what each tail says of the bytes
-no_tail : (d : List ℕ) → tail_of d ≡ Nothing → d ≡ []
-no_tail d h1 = grind (arith, common_steps)
+no_tail : {d : List ℕ} → tail_of d ≡ Nothing → d ≡ []
+no_tail same = grind (arith, common_steps)
 
-return_tail : (d : List ℕ) → tail_of d ≡ Return → d ≡ 13 ∷ []
-return_tail d h1 = grind (arith, common_steps, eqb-true)
+return_tail : {d : List ℕ} → tail_of d ≡ Return → d ≡ 13 ∷ []
+return_tail same = grind (arith, common_steps, eqb-true)
 
-last_is : (l : List ℕ) (x : ℕ) → slice_index (l ++ x ∷ []) (length (l ++ x ∷ []) - 1) ≡ x
-last_is l x = grind (arith, common_steps)
+last_is : (l : List ℕ) {x : ℕ} → slice_index (l ++ x ∷ []) (length (l ++ x ∷ []) - 1) ≡ x
+last_is l = grind (arith, common_steps)
 
-front_is : (l : List ℕ) (x : ℕ) → take (length (l ++ x ∷ []) - 1) (l ++ x ∷ []) ≡ l
-front_is l x = grind (arith, common_steps)
+front_is : {l : List ℕ} (x : ℕ) → take (length (l ++ x ∷ []) - 1) (l ++ x ∷ []) ≡ l
+front_is x = grind (arith, common_steps)
 
 abbrev stripped_by : Bool → List ℕ → List ℕ
 stripped_by t l = if t then take (length l - 1) l else l
 
-strip_returned : (l : List ℕ) → strip_carriage_return (l ++ 13 ∷ []) ≡ l
-strip_returned l = ap (λ y. stripped_by (y == 13) (l ++ 13 ∷ [])) (last_is l 13) ∙ front_is l 13
+strip_returned : {l : List ℕ} → strip_carriage_return (l ++ 13 ∷ []) ≡ l
+strip_returned {l} = ap (λ y. stripped_by (y == 13) (l ++ 13 ∷ [])) (last_is l) ∙ front_is 13
 
 strip_other : (l : List ℕ) (x : ℕ) → (x ≡ 13 → ⊥) → strip_carriage_return (l ++ x ∷ []) ≡ l ++ x ∷ []
-strip_other l x h = ap (λ y. stripped_by (y == 13) (l ++ x ∷ [])) (last_is l x) ∙ ap (λ t. stripped_by t (l ++ x ∷ [])) (ne_eqb x 13 h)
+strip_other l x h = ap (λ y. stripped_by (y == 13) (l ++ x ∷ [])) (last_is l) ∙ ap (λ t. stripped_by t (l ++ x ∷ [])) (ne_eqb x 13 h)
 
 strip_length : (l : List ℕ) → length l ≤ length (strip_carriage_return l) + 1
 strip_length l = grind (arith, common_steps, common_steps)
@@ -92,14 +92,14 @@ take_full n piece h = grind (arith, common_steps)
 -- what is known of such a line at its end
 module _ (most : ℕ) where
   -- a line that a newline ends, by what its state says
-  pub line_whole : (line : InputLine) (piece : List ℕ) → HoldsUpTo most line piece → line.tail ≡ Nothing → line.kept.items ≡ piece
-  line_whole line piece h e = h.kept ∙ sym (append-nil (take most piece)) ∙ ap (λ d. take most piece ++ d) (sym (no_tail (drop most piece) (sym h.tail ∙ e)))
+  pub line_whole : {line : InputLine} {piece : List ℕ} → HoldsUpTo most line piece → line.tail ≡ Nothing → line.kept.items ≡ piece
+  line_whole {piece} h e = h.kept ∙ sym (append-nil (take most piece)) ∙ ap (λ d. take most piece ++ d) (sym (no_tail (sym h.tail ∙ e)))
       ∙ take-append-drop most piece
 
-  pub line_returned : (line : InputLine) (piece : List ℕ) → HoldsUpTo most line piece → line.tail ≡ Return → line.kept.items ≡ strip_carriage_return piece
-  line_returned line piece h e =
-      let split : piece ≡ take most piece ++ 13 ∷ [] = sym (take-append-drop most piece) ∙ ap (λ d. take most piece ++ d) (return_tail (drop most piece) (sym h.tail ∙ e)) in
-      h.kept ∙ sym (strip_returned (take most piece)) ∙ ap strip_carriage_return (sym split)
+  pub line_returned : {line : InputLine} {piece : List ℕ} → HoldsUpTo most line piece → line.tail ≡ Return → line.kept.items ≡ strip_carriage_return piece
+  line_returned {piece} h e =
+      let split : piece ≡ take most piece ++ 13 ∷ [] = sym (take-append-drop most piece) ∙ ap (λ d. take most piece ++ d) (return_tail (sym h.tail ∙ e)) in
+      h.kept ∙ sym strip_returned ∙ ap strip_carriage_return (sym split)
 
   more_by : (a d : List ℕ) → tail_of d ≡ More → length a ≡ most → most < length (strip_carriage_return (a ++ d))
   more_by a [] e full = cc
@@ -120,35 +120,35 @@ module _ (most : ℕ) where
   some_left [] e = cc
   some_left (x ∷ d) e = omega arith
 
-  pub line_over : (line : InputLine) (piece : List ℕ) → HoldsUpTo most line piece → line.tail ≡ More → most < length (strip_carriage_return piece)
-  line_over line piece h1 h2 = grind (arith, common_steps, full, more_by, some_left, take-append-drop, take_full)
+  pub line_over : {line : InputLine} {piece : List ℕ} → HoldsUpTo most line piece → line.tail ≡ More → most < length (strip_carriage_return piece)
+  line_over holds_up_to same = grind (arith, common_steps, full, more_by, some_left, take-append-drop, take_full)
 
   left_over : (d : List ℕ) → (tail_of d ≡ Nothing → ⊥) → 0 < length d
   left_over [] h = absurd (h refl)
   left_over (x ∷ d) h = omega arith
 
-  pub last_over : (line : InputLine) (piece : List ℕ) → HoldsUpTo most line piece → (line.tail ≡ Nothing → ⊥) → most < length piece
-  last_over line piece h1 h2 = grind (arith, common_steps, left_over, length-drop)
+  pub last_over : {line : InputLine} {piece : List ℕ} → HoldsUpTo most line piece → (line.tail ≡ Nothing → ⊥) → most < length piece
+  last_over holds_up_to not_so = grind (arith, common_steps, left_over, length-drop)
 
-choice : (b : Bool) (byte : ℕ) (more : Text) → (byte == 13) && begins_with_line_end more ≡ b
+choice : {b : Bool} (byte : ℕ) (more : Text) → (byte == 13) && begins_with_line_end more ≡ b
     → without_returns (byte ∷ more) ≡ (if b then without_returns more else byte ∷ without_returns more)
 unfolding without_returns
-choice b byte more e = ap (λ (t : Bool). if t then without_returns more else byte ∷ without_returns more) e
+choice byte more e = ap (λ (t : Bool). if t then without_returns more else byte ∷ without_returns more) e
 
-pub byte_kept : (kept new rest more whole : Text) (byte : ℕ) (drops : Bool)
+pub byte_kept : (kept : Text) {new rest : Text} (more whole : Text) (byte : ℕ) {drops : Bool}
     → kept ++ without_returns rest ≡ without_returns whole → rest ≡ byte ∷ more
     → drops ≡ ((byte == 13) && begins_with_line_end more) → drops ≡ false → new ≡ kept ++ (byte ∷ [])
     → new ++ without_returns more ≡ without_returns whole
-byte_kept kept new rest more whole byte drops so_far is means no_drop copied =
+byte_kept kept more whole byte so_far is means no_drop copied =
     ap (λ (t : Text). t ++ without_returns more) copied ∙ append_assoc kept (byte ∷ []) (without_returns more)
-    ∙ ap (λ (t : Text). kept ++ t) (sym (choice false byte more (sym means ∙ no_drop))) ∙ ap (λ (t : Text). kept ++ without_returns t) (sym is) ∙ so_far
+    ∙ ap (λ (t : Text). kept ++ t) (sym (choice byte more (sym means ∙ no_drop))) ∙ ap (λ (t : Text). kept ++ without_returns t) (sym is) ∙ so_far
 
-pub byte_dropped : (kept rest more whole : Text) (byte : ℕ) (drops : Bool)
+pub byte_dropped : (kept : Text) {rest more : Text} (whole : Text) {byte : ℕ} {drops : Bool}
     → kept ++ without_returns rest ≡ without_returns whole → rest ≡ byte ∷ more
     → drops ≡ ((byte == 13) && begins_with_line_end more) → drops ≡ true
     → kept ++ without_returns more ≡ without_returns whole
-byte_dropped kept rest more whole byte drops so_far is means drop =
-    ap (λ (t : Text). kept ++ t) (sym (choice true byte more (sym means ∙ drop))) ∙ ap (λ (t : Text). kept ++ without_returns t) (sym is) ∙ so_far
+byte_dropped kept {rest} {more} whole {byte} so_far is means drop =
+    ap (λ (t : Text). kept ++ t) (sym (choice byte more (sym means ∙ drop))) ∙ ap (λ (t : Text). kept ++ without_returns t) (sym is) ∙ so_far
 
 pub all_copied : (kept rest whole : Text) → kept ++ without_returns rest ≡ without_returns whole → length rest ≡ 0 → kept ≡ without_returns whole
 unfolding without_returns

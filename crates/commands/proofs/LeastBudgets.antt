@@ -77,15 +77,16 @@ module _ (game : Game) (id : Text) (p : puzzle_of game) (s : (game_of game).game
 
   one_is : (budget : ℕ) (g : List ℕ) → verdict_of rules budget ≡ OneSolution g → HasOneSolution ((game_of game).game.solves p)
   one_is budget g e =
-      let right = subst (IsRight ((game_of game).game.solves p)) e (verdict_right rules ((game_of game).game.solves p) ((laws_of game).searched id p s) budget) in
+      let right = subst (IsRight ((game_of game).game.solves p)) e (verdict_right ((laws_of game).searched id p s) budget) in
       (g, right.0, right.1)
 
   -- with a budget for all trials each answer tells the one solution
-  tells_fine : HasOneSolution ((game_of game).game.solves p) → (budget : ℕ) → trials_of rules ≤ budget → (said : Answer) → AllowsSolve (game_of game) budget id said → said.status ≡ 0
+  tells_fine : HasOneSolution ((game_of game).game.solves p) → (budget : ℕ) → trials_of rules ≤ budget → (said : Answer)
+      → AllowsSolve (game_of game) budget id said → said.status ≡ 0
   unfolding trials_of
   tells_fine one budget room said allowed = ap (λ (a : Answer). a.status)
       ((found_alone (game_of game) (laws_of game).reading id p budget one.0 said s
-      (found_with_enough rules ((game_of game).game.solves p) ((laws_of game).searched id p s) one budget room) (one.1, λ h other. sym (one.2 h other))).0 allowed)
+      (found_with_enough ((laws_of game).searched id p s) one room) (one.1, λ h other. sym (one.2 h other))).0 allowed)
 
   -- and with a smaller one none does
   tells_less : (budget : ℕ) → budget < trials_of rules → (said : Answer) → AllowsSolve (game_of game) budget id said → said.status ≢ 0
@@ -119,11 +120,11 @@ module _ (game : Game) (id : Text) (p : puzzle_of game) (s : (game_of game).game
     abbrev grade : Grade
     grade = listed_grade ((game_of game).game.sets p) rules budget
 
-    text_of : (given : Grade) → grade ≡ given → graded.text ≡ grade_text given ++ codes "\n" ++ told.lines
-    text_of given is = told.text ∙ ap (λ (g : Grade). grade_text g ++ codes "\n" ++ told.lines) is
+    text_of : {given : Grade} → grade ≡ given → graded.text ≡ grade_text given ++ codes "\n" ++ told.lines
+    text_of is = told.text ∙ ap (λ (g : Grade). grade_text g ++ codes "\n" ++ told.lines) is
 
     names : (trials : ℕ) → grade ≡ BySearch trials → NamesSearch trials graded
-    names trials is = (told.lines, text_of (BySearch trials) is)
+    names trials is = (told.lines, text_of is)
 
     pub searched_told : (rest : Text) → graded.text ≡ codes "search " ++ rest
         → (trials : ℕ) × NamesSearch trials graded × IsLeastBudget game id trials × (trials ≤ budget)
@@ -146,14 +147,15 @@ module _ (game : Game) (id : Text) (p : puzzle_of game) (s : (game_of game).game
     pub least_told : (n : ℕ) → IsLeastBudget game id n → n ≤ budget → NamesSet graded ⊎ NamesSearch n graded
     unfolding searched_grade trials_of
     least_told n least room = elim (named_or_searched ((game_of game).game.sets p) (searched_grade rules budget)) [
-      | inl named ↦ inl (named.0, (told.lines, text_of (ByRules named.0) named.1))
+      | inl named ↦ inl (named.0, (told.lines, text_of named.1))
       | inr same ↦
           let one = only_least n least in
-          let found = found_with_enough rules ((game_of game).game.solves p) ((laws_of game).searched id p s) one.0 budget (subst (λ k. k ≤ budget) (sym one.1) room) in
+          let found = found_with_enough ((laws_of game).searched id p s) one.0 (subst (λ k. k ≤ budget) (sym one.1) room) in
           inr (names n (same ∙ ap (grade_by (trials_of rules)) found ∙ ap BySearch one.1))
     ]
 
-pub least_budgets : (game : Game) (id : Text) (budget : ℕ) (traced : Bool) (graded : Answer) → AllowsGrade (game_of game) id budget traced graded → NamesLeastBudget game id budget graded
+pub least_budgets : (game : Game) (id : Text) (budget : ℕ) (traced : Bool) (graded : Answer)
+    → AllowsGrade (game_of game) id budget traced graded → NamesLeastBudget game id budget graded
 least_budgets game id budget traced graded (inl x) = record {
   said = λ b. absurd (no_refusal _ b.0 (sym (ap (λ (a : Answer). a.text) x.said) ∙ b.1));
   only = λ n least room. absurd (omega (arith, least.enough graded (inl x), ap (λ (a : Answer). a.status) x.said));

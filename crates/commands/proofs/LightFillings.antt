@@ -39,25 +39,25 @@ whites_few p =
     omega (arith, length-filter (white p) (range_with_len 0 (light_cells p)), length-range_with_len 0 (light_cells p), all)
 
 module _ (size : Extent) (wide : IsWide size) (black : ℕ) where
-  lit_words : (p : Light) (s : Stream) → light_cells p < 2 ^ 32 - 1 → HasWords s → IsShuffled (white_places p) (shuffled_list (white_places p) s)
-  lit_words p s few words = shuffled_is (white_places p) s (let w = whites_few p in omega arith) words
+  lit_words : (p : Light) {s : Stream} → light_cells p < 2 ^ 32 - 1 → HasWords s → IsShuffled (white_places p) (shuffled_list (white_places p) s)
+  lit_words p {s} few words = shuffled_is s (let w = whites_few p in omega arith) words
 
   few : size.w * size.h < 2 ^ 32 - 1
   few = let cells = mul-le size.w size.h 120 120 wide.extent.w_high wide.extent.h_high in omega arith
 
-  filling_words : (s : Stream) → HasWords s → HasWords (light_filling size black s).1
+  filling_words : {s : Stream} → HasWords s → HasWords (light_filling size black s).1
   unfolding light_filling lit_up lights_of
-  filling_words s words =
+  filling_words {s} words =
       let drawn : List ℕ × Stream = black_cells black (size.w * size.h) s in
-      (lit_words (lights_of size drawn.0) drawn.1 few (black_words black (size.w * size.h) s words)).words
+      (lit_words (lights_of size drawn.0) few (black_words black (size.w * size.h) words)).words
 
-  filling_lit : (s : Stream) → HasWords s → IsLit size (light_filling size black s).0
+  filling_lit : {s : Stream} → HasWords s → IsLit size (light_filling size black s).0
   unfolding light_filling lit_up lights_of light_puzzle_of
-  filling_lit s words =
+  filling_lit {s} words =
       let drawn : List ℕ × Stream = black_cells black (size.w * size.h) s in
       let grid = black_cells-grid black (size.w * size.h) s in
       let p : Light = lights_of size drawn.0 in
-      let mixed : IsShuffled (white_places p) (shuffled_list (white_places p) drawn.1) = lit_words p drawn.1 few (black_words black (size.w * size.h) s words) in
+      let mixed : IsShuffled (white_places p) (shuffled_list (white_places p) drawn.1) = lit_words p few (black_words black (size.w * size.h) words) in
       let order : List ℕ = (shuffled_list (white_places p) drawn.1).0 in
       let long : length p.cells ≡ light_cells p = length-map drawn.0 (λ v. if v == 1 then Black else White) ∙ grid.each_cell in
       record {
@@ -70,10 +70,10 @@ module _ (size : Extent) (wide : IsWide size) (black : ℕ) where
     words_after : (k : ℕ) → HasWords (stream_after (light_filling size black) k s)
     unfolding stream_after
     words_after zero = words
-    words_after (suc k) = filling_words (stream_after (light_filling size black) k s) (words_after k)
+    words_after (suc k) = filling_words (words_after k)
 
     pub light_lit : (k : ℕ) → IsLit size (filling_at (light_filling size black) k s)
-    light_lit k = filling_lit (stream_after (light_filling size black) k s) (words_after k)
+    light_lit k = filling_lit (words_after k)
 
 -- ---- the puzzle of a filling, and what is left of it
 numbers_small : (cells : List LightCell) → ((place n : ℕ) → number_clue (get_or cells place Black) ≡ Some n → n ≤ 4) → AllByRecursion IsLightCell cells
@@ -128,14 +128,14 @@ module _ (size : Extent) (wide : IsWide size) (black budget tries : ℕ) (s : St
       let all : Light = light_puzzle_of size f in
       let lit : IsLit size f = light_lit size wide black s words k in
       let ok : IsLight all = filled_light f in
-      let one = has_one (light_rules all) (light_searched all ok).lawful budget first.passing in
+      let one = has_one (light_rules all) (light_searched ok).lawful budget first.passing in
       let found = lit_one size f budget all refl lit one in
-      let t = thinned light_game light_is_game budget all f.bulbs
-      (λ q w. (light_searched q (light_thinner all q ok (filled_small f) w)).lawful) (all_numbers size f all refl lit) found.0 found.1 in
+      let t = thinned light_is_game budget all f.bulbs
+      (λ q w. (light_searched (light_thinner all q ok (filled_small f) w)).lawful) (all_numbers size f all refl lit) found.0 found.1 in
       let p : Light = t.0 in
       let is : IsThinnedTo light_game budget all f.bulbs p t.1 = t.2 in
       let left : IsLight p = light_thinner all p ok (filled_small f) is.within in
-      let right = right_of (light_rules p) (IsLightSolution p) (OneSolution f.bulbs) (light_searched p left).accepted is.only in (
+      let right = right_of (IsLightSolution p) (OneSolution f.bulbs) (light_searched left).accepted is.only in (
         p,
         t.1,
         left,

@@ -74,8 +74,8 @@ module _ {A : Type 0} (make : Making A) (passes : A → Bool) (s : Stream) (trie
   pub first_or_none : ((k : ℕ) × IsFirstPassing make passes s tries k) ⊎ NonePasses make passes s tries
   first_or_none = first_below tries
 
-  pub first_once : (j k : ℕ) → IsFirstPassing make passes s tries j → IsFirstPassing make passes s tries k → j ≡ k
-  first_once j k a b = elim (cases_lt j k) [
+  pub first_once : {j k : ℕ} → IsFirstPassing make passes s tries j → IsFirstPassing make passes s tries k → j ≡ k
+  first_once {j} {k} a b = elim (cases_lt j k) [
     | inl low ↦ absurd (true≢false (sym a.passing ∙ b.failing j low))
     | inr high ↦ elim (cases_lt k j) [
       | inl low ↦ absurd (true≢false (sym b.passing ∙ a.failing k low))
@@ -83,8 +83,8 @@ module _ {A : Type 0} (make : Making A) (passes : A → Bool) (s : Stream) (trie
     ]
   ]
 
-  pub first_not_none : (k : ℕ) → IsFirstPassing make passes s tries k → NonePasses make passes s tries → ⊥
-  first_not_none k a none = true≢false (sym a.passing ∙ none.failing k a.within)
+  pub first_not_none : {k : ℕ} → IsFirstPassing make passes s tries k → NonePasses make passes s tries → ⊥
+  first_not_none {k} a none = true≢false (sym a.passing ∙ none.failing k a.within)
 
   -- so one answer is allowed of a size, where what is handed out is of the first filling that passes
   pub making_once : {P : Type 0} (play : PuzzleFacts P) (w : Wanted) (size : SizeRead) (said : A → Answer)
@@ -98,11 +98,11 @@ module _ {A : Type 0} (make : Making A) (passes : A → Bool) (s : Stream) (trie
   ]
     where
       some : (k : ℕ) → IsFirstPassing make passes s tries k → (other : Answer) → AllowsOfSize play w size other → said (filling_at make k s) ≡ other
-      some k first other (inl h) = let x = of other h in ap (λ (n : ℕ). said (filling_at make n s)) (first_once k x.0 first x.1) ∙ sym x.2
-      some k first other (inr none) = absurd (first_not_none k first (back none.none))
+      some k first other (inl h) = let x = of other h in ap (λ (n : ℕ). said (filling_at make n s)) (first_once first x.1) ∙ sym x.2
+      some k first other (inr none) = absurd (first_not_none first (back none.none))
 
       exhausted : NonePasses make passes s tries → (other : Answer) → AllowsOfSize play w size other → exhausted_answer ≡ other
-      exhausted none other (inl h) = let x = of other h in absurd (first_not_none x.0 x.1 none)
+      exhausted none other (inl h) = let x = of other h in absurd (first_not_none x.1 none)
       exhausted none other (inr also) = sym also.said
 
 -- a text is one size, or has one fault
@@ -111,7 +111,7 @@ size_reading sizes = reading_of (λ text size. sizes text ≡ Ok size) sizes (λ
 
 made_once : {P : Type 0} (play : PuzzleFacts P) (w : Wanted) (text : Text) → ((read : SizeRead) → play.game.sizes text ≡ Ok read → HasOneAnswer (AllowsOfSize play w read))
     → HasOneAnswer (AllowsMade play w text)
-made_once play w text each = id_once (size_reading play.game.sizes) text (AllowsOfSize play w) each
+made_once play w text each = id_once (size_reading play.game.sizes) text {allows = AllowsOfSize play w} each
 
 -- ---- what a search finds
 one_found : (o : Outcome) → is_one o ≡ true → (g : List ℕ) × (o ≡ OneSolution g)
@@ -123,8 +123,8 @@ has_one rules laws budget one =
     let found = one_found (verdict_of rules budget) one in
     record { answer = found.0; found = found.1; only = subst (IsTrueOf rules) found.1 (outcome-true rules laws budget) }
 
-pub is_extent : (least w h : ℕ) → 1 ≤ least → (nat_le least w && nat_le least h && nat_le w max_side && nat_le h max_side) ≡ true → IsExtent (record { w = w; h = h })
-is_extent least w h low e =
+pub is_extent : (least : ℕ) {w h : ℕ} → 1 ≤ least → (nat_le least w && nat_le least h && nat_le w max_side && nat_le h max_side) ≡ true → IsExtent (record { w = w; h = h })
+is_extent least {w} {h} low e =
     let a = and_parts (nat_le least w && nat_le least h && nat_le w max_side) (nat_le h max_side) e in
     let b = and_parts (nat_le least w && nat_le least h) (nat_le w max_side) a.0 in
     let c = and_parts (nat_le least w) (nat_le least h) b.0 in
@@ -162,7 +162,7 @@ pub made_pattern : (text : Text) (seed budget tries black : ℕ) → HasOneAnswe
 made_pattern text seed budget tries black = made_once pattern_facts (wanted seed budget tries black) text (λ read is.
     let size : Extent = extent_of read in
     let s = seed_stream seed in
-    let extent = is_extent 1 read.w read.h (omega arith) (size_take game.Pattern text read is).1 in
+    let extent = is_extent 1 {w = read.w} {h = read.h} (omega arith) (size_take game.Pattern text read is).1 in
     making_once (pattern_filling size black) (pattern_passes size budget) s tries pattern_facts (wanted seed budget tries black) read
     (λ g. handed_out pattern_facts (clued_by size g) g) (λ none. none) (λ none. none)
     (λ a h. (h.is_made.k, h.is_made.first, h.said ∙ ap₂ (handed_out pattern_facts) (h.is_made.clues ∙ ap (clued_by size) h.is_made.filled) h.is_made.filled))
@@ -187,7 +187,7 @@ tents_extent text read e =
     let large = chosen (nat_le 4 sized.0.w && nat_le 4 sized.0.h) (taken sized.0) (Err SizeRange) (taken read) sized.2 in
     elim large [
       | inl four ↦ subst (λ (s : SizeRead). IsTentsExtent (extent_of s)) (ok_is sized.0 read four.1) (record {
-        extent = is_extent 2 sized.0.w sized.0.h (omega arith) (size_take game.Tents text sized.0 sized.1).1;
+        extent = is_extent 2 (omega arith) (size_take game.Tents text sized.0 sized.1).1;
         w_four = leb-true _ _ (and_parts (nat_le 4 sized.0.w) (nat_le 4 sized.0.h) four.0).0;
         h_four = leb-true _ _ (and_parts (nat_le 4 sized.0.w) (nat_le 4 sized.0.h) four.0).1;
       })
@@ -240,7 +240,7 @@ module _ (filled : AreFilled) (size : Extent) (large : IsTentsExtent size) (budg
       only : IsOnlySolution (IsTentSolution (puzzle_at k)) (filling_of k).tents × TellsOne (tent_rules (puzzle_at k)) budget (filling_of k).tents
       only = tents_only size (filling_of k) (puzzle_at k) refl (filled.solved size s k large.extent words)
           (λ q h grid. (tents.solution-from-tents q h grid, tents.tents-from-solution q h grid)) budget
-          (has_one (tent_rules (puzzle_at k)) (tents_searched (puzzle_at k) (puzzle_lawful k)).lawful budget first.passing)
+          (has_one (tent_rules (puzzle_at k)) (tents_searched (puzzle_lawful k)).lawful budget first.passing)
 
 pub made_tents : AreFilled → (text : Text) (seed budget tries black : ℕ) → HasOneAnswer (AllowsMade (game_of game.Tents) (wanted seed budget tries black) text)
 made_tents filled text seed budget tries black = made_once tents_facts (wanted seed budget tries black) text (λ read is.

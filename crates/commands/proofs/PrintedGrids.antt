@@ -31,8 +31,8 @@ CellOnce hides values size cell = (g h : List ℕ) (place : ℕ) (after other : 
     → place < size.w * size.h → Follows (cell g) size place after → Follows (cell h) size place other
     → cell g place ++ after ≡ cell h place ++ other → (slice_index g place ≡ slice_index h place) × (after ≡ other)
 
-module _ (hides : ℕ → Type 0) (values : ℕ) (size : Extent) (cell : List ℕ → ℕ → Text) (once : CellOnce hides values size cell)
-    (g h : List ℕ) (shown : IsAsShown hides values size g) (also : IsAsShown hides values size h) where
+module _ {hides : ℕ → Type 0} {values : ℕ} {size : Extent} (cell : List ℕ → ℕ → Text) (once : CellOnce hides values size cell)
+    {g h : List ℕ} (shown : IsAsShown hides values size g) (also : IsAsShown hides values size h) where
   -- so they agree from there to the end of the row
   row_once : (y m x : ℕ) (more less rest : Text) → y < size.h → x + m ≡ size.w
       → Left (λ k. cell g (y * size.w + k)) size.w more x rest → Left (λ k. cell h (y * size.w + k)) size.w less x rest
@@ -59,14 +59,14 @@ module _ (hides : ℕ → Type 0) (values : ℕ) (size : Extent) (cell : List �
       )
 
   -- and to the end of the grid
-  rows_once : (m y : ℕ) (more less rest : Text) → y + m ≡ size.h
+  rows_once : (m y : ℕ) (more less : Text) {rest : Text} → y + m ≡ size.h
       → LeftOf (row_text (cell g) size) size.h more y rest → LeftOf (row_text (cell h) size) size.h less y rest
-      → (place : ℕ) → y * size.w ≤ place → place < size.h * size.w → slice_index g place ≡ slice_index h place
-  rows_once zero y more less rest e a b place low high =
+      → {place : ℕ} → y * size.w ≤ place → place < size.h * size.w → slice_index g place ≡ slice_index h place
+  rows_once zero y more less e a b {place} low high =
       let at_end : y ≡ size.h = omega arith in
       let none : size.h * size.w ≤ place = subst (λ (n : ℕ). n * size.w ≤ place) at_end low in
       absurd (omega arith)
-  rows_once (suc m) y more less rest e a b place low high =
+  rows_once (suc m) y more less {rest} e a b {place} low high =
       let below : y < size.h = omega arith in
       let first = row_first (row_text (cell g) size) size.h more rest y below a in
       let second = row_first (row_text (cell h) size) size.h less rest y below b in
@@ -77,41 +77,41 @@ module _ (hides : ℕ → Type 0) (values : ℕ) (size : Extent) (cell : List �
         | inl inside ↦
             let back : y * size.w + (place - y * size.w) ≡ place = omega arith in
             subst (λ (n : ℕ). slice_index g n ≡ slice_index h n) back (here.0 (place - y * size.w) (omega arith) (omega arith))
-        | inr past ↦ rows_once m (y + 1) more less first.after (let n : y + 1 + m ≡ size.h = omega arith in n) first.left
-            (subst (LeftOf (row_text (cell h) size) size.h less (y + 1)) (sym here.1) second.left) place (omega arith) high
+        | inr past ↦ rows_once m (y + 1) more less (let n : y + 1 + m ≡ size.h = omega arith in n) first.left
+            (subst (LeftOf (row_text (cell h) size) size.h less (y + 1)) (sym here.1) second.left) (omega arith) high
       ]
 
   -- a text that begins with the printed forms of both
-  pub grid_once : (text more less : Text) → text ≡ grid_text (cell g) size ++ more → text ≡ grid_text (cell h) size ++ less → g ≡ h
-  grid_once text more less a b = same_grid hides values size g h size.h (omega arith) (omega arith) shown.grid.each_cell also
-      (λ place lt. rows_once size.h 0 more less text (omega arith) (all_rows_left (row_text (cell g) size) size.h more text a)
-      (all_rows_left (row_text (cell h) size) size.h less text b) place (omega arith) lt)
+  pub grid_once : {text : Text} (more less : Text) → text ≡ grid_text (cell g) size ++ more → text ≡ grid_text (cell h) size ++ less → g ≡ h
+  grid_once {text} more less a b = same_grid hides values size g h size.h (omega arith) (omega arith) shown.grid.each_cell also
+      (λ place lt. rows_once size.h 0 more less (omega arith) (all_rows_left (row_text (cell g) size) size.h more text a)
+      (all_rows_left (row_text (cell h) size) size.h less text b) (omega arith) lt)
 
   -- a text that is the printed form of both
   pub printed_once : (text : Text) → IsPrinted text (grid_text (cell g) size) → IsPrinted text (grid_text (cell h) size) → g ≡ h
   printed_once text a b =
       let first = begins_with_form text (text ++ codes "\n") (grid_text (cell g) size) refl a in
       let second = begins_with_form text (text ++ codes "\n") (grid_text (cell h) size) refl b in
-      grid_once (text ++ codes "\n") first.0 second.0 first.1 second.1
+      grid_once first.0 second.0 first.1 second.1
 
-same_rest : (front after other : Text) → front ++ after ≡ front ++ other → after ≡ other
-same_rest front after other e = sym (drop-append_seam front after) ∙ ap (drop (length front)) e ∙ drop-append_seam front other
+same_rest : (front : Text) {after other : Text} → front ++ after ≡ front ++ other → after ≡ other
+same_rest front {after} {other} e = sym (drop-append_seam front after) ∙ ap (drop (length front)) e ∙ drop-append_seam front other
 
 -- one of two marks
-mark_once : (mark other v w : ℕ) (after rest : Text) → v < 2 → w < 2 → mark ≢ other
+mark_once : (mark other v w : ℕ) {after rest : Text} → v < 2 → w < 2 → mark ≢ other
     → (if v == 1 then mark ∷ [] else (other ∷ [])) ++ after ≡ (if w == 1 then mark ∷ [] else (other ∷ [])) ++ rest → (v ≡ w) × (after ≡ rest)
-mark_once mark other zero zero after rest low small differ e = (refl, same_rest (other ∷ []) after rest e)
-mark_once mark other (suc zero) (suc zero) after rest low small differ e = (refl, same_rest (mark ∷ []) after rest e)
-mark_once mark other zero (suc zero) after rest low small differ e = let same : mark ≡ other = cc in absurd (differ same)
-mark_once mark other (suc zero) zero after rest low small differ e = let same : mark ≡ other = cc in absurd (differ same)
-mark_once mark other (suc (suc v)) w after rest low small differ e = absurd (omega arith)
-mark_once mark other v (suc (suc w)) after rest low small differ e = absurd (omega arith)
+mark_once mark other zero zero low small differ e = (refl, same_rest (other ∷ []) e)
+mark_once mark other (suc zero) (suc zero) low small differ e = (refl, same_rest (mark ∷ []) e)
+mark_once mark other zero (suc zero) low small differ e = let same : mark ≡ other = cc in absurd (differ same)
+mark_once mark other (suc zero) zero low small differ e = let same : mark ≡ other = cc in absurd (differ same)
+mark_once mark other (suc (suc v)) w low small differ e = absurd (omega arith)
+mark_once mark other v (suc (suc w)) low small differ e = absurd (omega arith)
 
 -- where both numbers are 0, the same is printed
-hidden_once : (text : ℕ → Text) (v w : ℕ) (after rest : Text) → v ≡ 0 → w ≡ 0 → text v ++ after ≡ text w ++ rest → (v ≡ w) × (after ≡ rest)
-hidden_once text v w after rest none also e =
+hidden_once : (text : ℕ → Text) {v w : ℕ} {after rest : Text} → v ≡ 0 → w ≡ 0 → text v ++ after ≡ text w ++ rest → (v ≡ w) × (after ≡ rest)
+hidden_once text {v} {w} {after} none also e =
     let same : v ≡ w = none ∙ sym also in
-    (same, same_rest (text w) after rest (ap (λ (n : ℕ). text n ++ after) (sym same) ∙ e))
+    (same, same_rest (text w) (ap (λ (n : ℕ). text n ++ after) (sym same) ∙ e))
 
 -- numbers below 100, where no digit follows
 number_once : (v w : ℕ) (after rest : Text) → v < 100 → w < 100 → first_digit after ≡ None → first_digit rest ≡ None
@@ -136,19 +136,21 @@ number_once v w after rest low small none also e = by (decimal v ++ after) refl
     by : (text : Text) → decimal v ++ after ≡ text → (v ≡ w) × (after ≡ rest)
     by [] is = absurd (not_empty v [] after low (sym is) (omega arith))
     by (byte ∷ more) is =
-        let same = numbers byte more (number_of v (byte ∷ more) after more byte low none (sym is) refl) (number_of w (byte ∷ more) rest more byte small also (sym is ∙ e) refl) in
-        (same, same_rest (decimal w) after rest (ap (λ (n : ℕ). decimal n ++ after) (sym same) ∙ e))
+        let same =
+        numbers byte more (number_of v (byte ∷ more) after more byte low none (sym is) refl)
+        (number_of w (byte ∷ more) rest more byte small also (sym is ∙ e) refl) in
+        (same, same_rest (decimal w) (ap (λ (n : ℕ). decimal n ++ after) (sym same) ∙ e))
 
 pub pattern_once : (p : Pattern) → CellOnce hides_nothing 2 p.size (pattern_cell p)
 pattern_once p g h place after other shown also lt follows more e =
-    mark_once 35 46 (slice_index g place) (slice_index h place) after other (number_fits hides_nothing 2 p.size g place shown lt) (number_fits hides_nothing 2 p.size h place also lt)
+    mark_once 35 46 (slice_index g place) (slice_index h place) (number_fits hides_nothing 2 p.size g place shown lt) (number_fits hides_nothing 2 p.size h place also lt)
     (λ same. absurd (omega arith)) e
 
 pub light_once : (p : Light) → CellOnce (light_hides p) 2 p.size (light_cell p)
 light_once p g h place after other shown also lt follows more e = by (slice_get p.cells place) refl
   where
     hidden : (o : Option LightCell) → slice_get p.cells place ≡ o → (o ≡ Some White → ⊥) → (slice_index g place ≡ slice_index h place) × (after ≡ other)
-    hidden o is black = hidden_once (light_symbol (slice_get p.cells place)) (slice_index g place) (slice_index h place) after other
+    hidden o is black = hidden_once (light_symbol (slice_get p.cells place))
         (shown.hidden place (λ white. black (sym is ∙ white))) (also.hidden place (λ white. black (sym is ∙ white))) e
 
     by : (o : Option LightCell) → slice_get p.cells place ≡ o → (slice_index g place ≡ slice_index h place) × (after ≡ other)
@@ -157,7 +159,7 @@ light_once p g h place after other shown also lt follows more e = by (slice_get 
     by (Some (Numbered n)) is = hidden (Some (Numbered n)) is (λ white. cc)
     by (Some White) is =
         let marks = subst (λ (o : Option LightCell). light_symbol o (slice_index g place) ++ after ≡ light_symbol o (slice_index h place) ++ other) is e in
-        mark_once 79 46 (slice_index g place) (slice_index h place) after other (number_fits (light_hides p) 2 p.size g place shown lt)
+        mark_once 79 46 (slice_index g place) (slice_index h place) (number_fits (light_hides p) 2 p.size g place shown lt)
         (number_fits (light_hides p) 2 p.size h place also lt) (λ same. absurd (omega arith)) marks
 
 pub tents_once : (p : Tents) → CellOnce (tent_hides p) 2 p.size (tents_cell p)
@@ -166,17 +168,17 @@ tents_once p g h place after other shown also lt follows more e = by (slice_inde
     by : (b : Bool) → (slice_index p.trees place == 1) ≡ b → (slice_index g place ≡ slice_index h place) × (after ≡ other)
     by true is =
         let tree = eqb-true (slice_index p.trees place) 1 is in
-        hidden_once (λ v. if slice_index p.trees place == 1 then codes "T" else (if v == 1 then codes "^" else codes ".")) (slice_index g place) (slice_index h place) after other
+        hidden_once (λ v. if slice_index p.trees place == 1 then codes "T" else (if v == 1 then codes "^" else codes "."))
         (shown.hidden place tree) (also.hidden place tree) e
     by false is =
         let marks = subst (λ (b : Bool). (if b then codes "T" else (if slice_index g place == 1 then codes "^" else codes ".")) ++ after
         ≡ (if b then codes "T" else (if slice_index h place == 1 then codes "^" else codes ".")) ++ other) is e in
-        mark_once 94 46 (slice_index g place) (slice_index h place) after other (number_fits (tent_hides p) 2 p.size g place shown lt)
+        mark_once 94 46 (slice_index g place) (slice_index h place) (number_fits (tent_hides p) 2 p.size g place shown lt)
         (number_fits (tent_hides p) 2 p.size h place also lt) (λ same. absurd (omega arith)) marks
 
 -- what follows a number of Solo begins with no digit
-no_digit_follows : (p : Solo) (g : List ℕ) (place : ℕ) (after : Text) → Follows (solo_cell p g) (solo_extent p) place after → first_digit after ≡ None
-no_digit_follows p g place after h1 = grind (arith, common_steps, ne_eqb)
+no_digit_follows : (p : Solo) (g : List ℕ) (place : ℕ) {after : Text} → Follows (solo_cell p g) (solo_extent p) place after → first_digit after ≡ None
+no_digit_follows p g place follows = grind (arith, common_steps, ne_eqb)
 
 pub solo_once : (p : Solo) → IsSolo p → CellOnce hides_nothing (solo_n p) (solo_extent p) (solo_cell p)
 solo_once p ok g h place after other shown also lt follows more e =
@@ -184,10 +186,11 @@ solo_once p ok g h place after other shown also lt follows more e =
     let small = number_fits hides_nothing (solo_n p) (solo_extent p) h place also lt in
     let few = ok.n_high in
     let both = number_once (slice_index g place + 1) (slice_index h place + 1) after other (omega arith) (omega arith)
-    (no_digit_follows p g place after follows) (no_digit_follows p h place other more) (by (place % solo_n p == 0) e) in
+    (no_digit_follows p g place follows) (no_digit_follows p h place more) (by (place % solo_n p == 0) e) in
     (let one = both.0 in omega arith, both.1)
   where
-    by : (b : Bool) → ((if b then [] else codes " ") ++ decimal (slice_index g place + 1)) ++ after ≡ ((if b then [] else codes " ") ++ decimal (slice_index h place + 1)) ++ other
+    by : (b : Bool) → ((if b then [] else codes " ") ++ decimal
+        (slice_index g place + 1)) ++ after ≡ ((if b then [] else codes " ") ++ decimal (slice_index h place + 1)) ++ other
         → decimal (slice_index g place + 1) ++ after ≡ decimal (slice_index h place + 1) ++ other
     by true both = both
     by false both = ap (drop 1) both
@@ -247,8 +250,8 @@ module _ (cell : ℕ → Text) (size : Extent) (m : ℕ) (each : (place : ℕ) �
       omega arith
 
   -- where both sides have so many cells at most
-  pub grid_is_text : (most : ℕ) → size.w ≤ most → size.h ≤ most → most * (most * m + 1) ≤ text_limit → IsGridText (grid_text cell size)
-  grid_is_text most wide high room = record {
+  pub grid_is_text : {most : ℕ} → size.w ≤ most → size.h ≤ most → most * (most * m + 1) ≤ text_limit → IsGridText (grid_text cell size)
+  grid_is_text {most} wide high room = record {
     plain = plain-each (row_text cell size) size.h row_plain;
     small =
         let all = each-length (row_text cell size) size.h (size.w * m + 1) row_few in
@@ -273,12 +276,12 @@ number_text n small = elim (cases_lt n 10) [
     two n low high = decimal_step n low (omega arith) ∙ ap (λ (t : Text). t ++ ((48 + n % 10) ∷ [])) (decimal_digit (n / 10) (omega arith))
 
 -- one byte, which is no carriage return
-one_byte : (byte : ℕ) → byte ≢ 13 → IsCellText 1 (byte ∷ [])
-one_byte byte other = record { plain = (other, tt); few = omega arith }
+one_byte : {byte : ℕ} → byte ≢ 13 → IsCellText 1 (byte ∷ [])
+one_byte other = record { plain = (other, tt); few = omega arith }
 
 one_of : (b : Bool) (x y : ℕ) → x ≢ 13 → y ≢ 13 → IsCellText 1 (if b then x ∷ [] else (y ∷ []))
-one_of true x y first second = one_byte x first
-one_of false x y first second = one_byte y second
+one_of true x y first second = one_byte first
+one_of false x y first second = one_byte second
 
 -- ---- the cells of each game
 pub pattern_cell_text : (p : Pattern) (g : List ℕ) (place : ℕ) → IsCellText 1 (pattern_cell p g place)
@@ -288,13 +291,13 @@ pub tents_cell_text : (p : Tents) (g : List ℕ) (place : ℕ) → IsCellText 1 
 tents_cell_text p g place = by (slice_index p.trees place == 1)
   where
     by : (b : Bool) → IsCellText 1 (if b then codes "T" else (if slice_index g place == 1 then codes "^" else codes "."))
-    by true = one_byte 84 (λ e. absurd (omega arith))
+    by true = one_byte (λ e. absurd (omega arith))
     by false = one_of (slice_index g place == 1) 94 46 (λ e. absurd (omega arith)) (λ e. absurd (omega arith))
 
-cell_at : (cells : List LightCell) (place : ℕ) (cell : LightCell) → AllByRecursion IsLightCell cells → slice_get cells place ≡ Some cell → IsLightCell cell
-cell_at [] place cell all e = absurd cc
-cell_at (x ∷ cells) zero cell all e = let is : x ≡ cell = cc in subst IsLightCell is all.0
-cell_at (x ∷ cells) (suc place) cell all e = cell_at cells place cell all.1 e
+cell_at : (cells : List LightCell) (place : ℕ) {cell : LightCell} → AllByRecursion IsLightCell cells → slice_get cells place ≡ Some cell → IsLightCell cell
+cell_at [] place all e = absurd cc
+cell_at (x ∷ cells) zero {cell} all e = let is : x ≡ cell = cc in subst IsLightCell is all.0
+cell_at (x ∷ cells) (suc place) all e = cell_at cells place all.1 e
 
 pub light_cell_text : (p : Light) → IsLight p → (g : List ℕ) (place : ℕ) → IsCellText 1 (light_cell p g place)
 light_cell_text p ok g place = by (slice_get p.cells place) refl
@@ -302,14 +305,14 @@ light_cell_text p ok g place = by (slice_get p.cells place) refl
     by : (o : Option LightCell) → slice_get p.cells place ≡ o → IsCellText 1 (light_symbol o (slice_index g place))
     by None e = record { plain = tt; few = omega arith }
     by (Some White) e = one_of (slice_index g place == 1) 79 46 (λ e. absurd (omega arith)) (λ e. absurd (omega arith))
-    by (Some Black) e = one_byte 35 (λ e. absurd (omega arith))
+    by (Some Black) e = one_byte (λ e. absurd (omega arith))
     by (Some (Numbered n)) e =
-        let low : n ≤ 4 = cell_at p.cells place (Numbered n) ok.each e in
-        subst (IsCellText 1) (sym (decimal_digit n (omega arith))) (one_byte (48 + n) (digit n (omega arith)))
+        let low : n ≤ 4 = cell_at p.cells place ok.each e in
+        subst (IsCellText 1) (sym (decimal_digit n (omega arith))) (one_byte (digit n (omega arith)))
 
-pub solo_cell_text : (p : Solo) → IsSolo p → (hides : ℕ → Type 0) (g : List ℕ) → IsAsShown hides (solo_n p) (solo_extent p) g
-    → (place : ℕ) → place < solo_n p * solo_n p → IsCellText 3 (solo_cell p g place)
-solo_cell_text p ok hides g shown place lt = by (place % solo_n p == 0)
+pub solo_cell_text : (p : Solo) → IsSolo p → {hides : ℕ → Type 0} (g : List ℕ) → IsAsShown hides (solo_n p) (solo_extent p) g
+    → {place : ℕ} → place < solo_n p * solo_n p → IsCellText 3 (solo_cell p g place)
+solo_cell_text p ok {hides} g shown {place} lt = by (place % solo_n p == 0)
   where
     number : IsCellText 2 (decimal (slice_index g place + 1))
     number =

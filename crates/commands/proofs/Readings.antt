@@ -14,14 +14,14 @@ use Rattle.commands.specs.Each.{AllowsEach, both, silence}
 use Rattle.commands.specs.Grades.{IsRightGrade, NamedRules, grade_status, grade_text, listed_grade}
 use Rattle.commands.specs.LawsOfCommands.{HasOneAnswer, IsRewritten}
 
-first_fault : {P : Type 0} (fault : IdFault) (reading : Result P IdFault) → fault ≢ Memory → Fails fault reading → reading ≡ Err fault
-first_fault Memory reading other fails = absurd (other refl)
-first_fault fault reading other fails = fails
+first_fault : {P : Type 0} {fault : IdFault} {reading : Result P IdFault} → fault ≢ Memory → Fails fault reading → reading ≡ Err fault
+first_fault {fault = Memory} {reading} other fails = absurd (other refl)
+first_fault {fault} {reading} other fails = fails
 
 -- by what the reader ensures
-pub refused_id : {P : Type 0} (spells : P → Type 0) (allows : P → Answer → Type 0) (reading : Result P IdFault) (fault : IdFault) (answer : Answer)
+pub refused_id : {P : Type 0} {spells : P → Type 0} {allows : P → Answer → Type 0} (reading : Result P IdFault) {fault : IdFault} {answer : Answer}
     → fault ≢ Memory → Fails fault reading → answer ≡ refused (fault_text fault) → AllowsId reading spells allows answer
-refused_id spells allows reading fault answer other fails told = inl (record { fault = fault; first = first_fault fault reading other fails; said = told })
+refused_id reading {fault} other fails told = inl (record { fault = fault; first = first_fault other fails; said = told })
 
 -- an over-long text is refused as too long
 pub too_long_id : {E : Type 0} (game : Game) (budget : ℕ) (result : Result Reply E)
@@ -34,8 +34,8 @@ too_long_id game budget (Err e) long told = tt
 abbrev pub AreSame : (Answer → Type 0) → Type 0
 AreSame allows = (a b : Answer) → allows a → allows b → a ≡ b
 
-pub one_of_same : (allows : Answer → Type 0) → (a : Answer) × allows a → AreSame allows → HasOneAnswer allows
-one_of_same allows some same = record { answer = some.0; allowed = some.1; only = λ other is. same some.0 other some.1 is }
+pub one_of_same : {allows : Answer → Type 0} → (a : Answer) × allows a → AreSame allows → HasOneAnswer allows
+one_of_same some same = record { answer = some.0; allowed = some.1; only = λ other is. same some.0 other some.1 is }
 
 pub told_once : (answer : Answer) → HasOneAnswer (λ a. a ≡ answer)
 told_once answer = record { answer = answer; allowed = refl; only = λ other is. sym is }
@@ -48,8 +48,8 @@ module _ {P : Type 0} {of : Text → Result P IdFault} {spells : Text → P → 
     | inr f ↦ (refused (fault_text f.0), inl (record { fault = f.0; first = f.1; said = refl }))
   ]
 
-  pub id_once : (id : Text) (allows : P → Answer → Type 0) → ((p : P) → spells id p → HasOneAnswer (allows p)) → HasOneAnswer (AllowsId (of id) (spells id) allows)
-  id_once id allows each = elim (reading.either id) [
+  pub id_once : (id : Text) {allows : P → Answer → Type 0} → ((p : P) → spells id p → HasOneAnswer (allows p)) → HasOneAnswer (AllowsId (of id) (spells id) allows)
+  id_once id {allows} each = elim (reading.either id) [
     | inl s ↦ record {
       answer = (each s.0 s.1).answer;
       allowed = inr (record { puzzle = s.0; spelled = s.1; allowed = (each s.0 s.1).allowed });
@@ -74,9 +74,9 @@ module _ {P : Type 0} {of : Text → Result P IdFault} {spells : Text → P → 
       faulty f first other (inr x) = absurd (reading.apart id x.puzzle f x.spelled first)
 
 -- a grade without a trace
-pub grade_once : {P : Type 0} (play : PuzzleFacts P) (sets : List NamedRules) (budget : ℕ) (p : P)
+pub grade_once : {P : Type 0} {play : PuzzleFacts P} {sets : List NamedRules} {budget : ℕ} (p : P)
     → IsRightGrade (play.game.solves p) (listed_grade sets (play.game.rules p) budget) → HasOneAnswer (IsGraded play sets budget false p)
-grade_once play sets budget p right =
+grade_once {play} {sets} {budget} p right =
     let given = listed_grade sets (play.game.rules p) budget in
     record {
       answer = record { text = grade_text given ++ codes "\n" ++ []; status = grade_status given };
@@ -109,16 +109,16 @@ module _ {P : Type 0} (game : GameFacts P) (reading : HasOneReading game.spells 
     allowed = subst (λ q. allows q a) (reading.one id answered.puzzle p answered.spelled s) answered.allowed;
   })
 
-  spells_written : (id other : Text) (r : IsRewritten game id other) → game.spells other r.puzzle
-  spells_written id other r = subst (λ t. game.spells t r.puzzle) (sym r.is_written) (again id r.puzzle r.spelled)
+  spells_written : {id other : Text} (r : IsRewritten game id other) → game.spells other r.puzzle
+  spells_written {id} r = subst (λ t. game.spells t r.puzzle) (sym r.is_written) (again id r.puzzle r.spelled)
 
   pub answered_alike : (id other : Text) → IsRewritten game id other → (allows : P → Answer → Type 0) (a : Answer)
       → AllowsId (game.reading id) (game.spells id) allows a ↔ AllowsId (game.reading other) (game.spells other) allows a
   answered_alike id other r allows a =
-      let t = spells_written id other r in
+      let t = spells_written r in
       (carried id other r.puzzle r.spelled t allows a, carried other id r.puzzle t r.spelled allows a)
 
   pub spelled_alike : (id other : Text) → IsRewritten game id other → (q : P) → game.spells id q ↔ game.spells other q
   spelled_alike id other r q =
-      let t = spells_written id other r in
+      let t = spells_written r in
       (λ s. subst (game.spells other) (reading.one id r.puzzle q r.spelled s) t, λ s. subst (game.spells id) (reading.one other r.puzzle q t s) r.spelled)

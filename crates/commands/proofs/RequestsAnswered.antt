@@ -12,18 +12,15 @@ use Rattle.gameid_core.proofs.SoloCanon.{solo_is_written}
 use Rattle.maker_core.specs.Draws.{IsFirstPassing, NonePasses, filling_at}
 use Rattle.maker_core.specs.LightFilling.{light_filling, light_passes}
 use Rattle.maker_core.specs.SoloMaking.{IsSoloSize, solo_filling, solo_passes}
-use Rattle.commands.specs.Common.{Extent, Game, IsLawful, RuleSystem, SizeRead, Stream, extent_of, is_settled, max_side, size_of, line_rules, light_rules, tent_rules, houses_rules, singles_rules, crossings_rules}
+use Rattle.commands.specs.Common.{Extent, Game, IsLawful, RuleSystem, SizeRead, Stream, extent_of, is_settled, max_side, size_of}
 use Rattle.commands.specs.Answers.{Answer, Text}
 use Rattle.commands.specs.Allowed.{Allows, AllowsCheck, AllowsGrade, AllowsMade, AllowsOfSize, AllowsSolve, handed_out, wanted}
 use Rattle.commands.specs.Asked.{Asked, check, generate, grade, solve}
-use Rattle.commands.specs.Games.{game_of, puzzle_of}
-use Rattle.commands.specs.Grades.{NamedRules, grade_status, grade_text, last_tried, listed_grade, only_set}
+use Rattle.commands.specs.Games.{game_of}
+use Rattle.commands.specs.Grades.{NamedRules, grade_status, grade_text, last_tried, listed_grade}
 use Rattle.commands.specs.Makings.{exhausted_answer}
-use Rattle.commands.specs.PatternFacts.{pattern_name}
 use Rattle.commands.specs.Replies.{refused_words}
 use Rattle.commands.specs.Seeds.{seed_stream}
-use Rattle.commands.specs.SoloFacts.{solo_name, solo_sets}
-use Rattle.commands.specs.declared.grade.RuleSet.TheVariants.{Lines, Local}
 use Rattle.commands.specs.Traces.{IsTrace, SaysClosing, sweeps_text, visits_text}
 use Rattle.commands.proofs.BatchLemmas.{each_has}
 use Rattle.commands.proofs.CheckedPuzzles.{check_some}
@@ -35,21 +32,21 @@ use Rattle.commands.proofs.Readings.{id_some}
 use Rattle.commands.proofs.SoloFillings.{solo_missing, solo_thinned}
 
 -- ---- traces
-closing_said : (name : ℕ → Text) (rules : RuleSystem) → IsLawful rules → (lines : Text) × SaysClosing rules.by_queue name rules lines
-closing_said name rules laws = by rules.by_queue refl
+closing_said : (name : ℕ → Text) {rules : RuleSystem} → IsLawful rules → (lines : Text) × SaysClosing rules.by_queue name rules lines
+closing_said name {rules} laws = by rules.by_queue refl
   where
     by : (queue : Bool) → rules.by_queue ≡ queue → (lines : Text) × SaysClosing queue name rules lines
     by true is =
-        let closing = visits_close rules laws rules.start is laws.start_within in
+        let closing = visits_close laws is laws.start_within in
         (visits_text name closing.0, record { visits = closing.0; closing = closing.1; said = refl })
     by false is =
-        let closing = sweeps_close rules laws rules.start is laws.start_within in
+        let closing = sweeps_close laws is laws.start_within in
         (sweeps_text closing.0, record { sweeps = closing.0; closing = closing.1; said = refl })
 
 -- the rules that were tried last are lawful
-last_lawful : (solves : List ℕ → Type 0) (before : RuleSystem) (sets : List NamedRules) → IsLawful before → EachSearched solves sets → IsLawful (last_tried before sets)
-last_lawful solves before [] laws each = laws
-last_lawful solves before (first ∷ rest) laws each = by (is_settled first.rules) (last_lawful solves first.rules rest each.0.lawful each.1)
+last_lawful : (solves : List ℕ → Type 0) {before : RuleSystem} (sets : List NamedRules) → IsLawful before → EachSearched solves sets → IsLawful (last_tried before sets)
+last_lawful solves [] laws each = laws
+last_lawful solves (first ∷ rest) laws each = by (is_settled first.rules) (last_lawful solves rest each.0.lawful each.1)
   where
     by : (b : Bool) → IsLawful (last_tried first.rules rest) → IsLawful (if b then first.rules else last_tried first.rules rest)
     by true later = each.0.lawful
@@ -69,10 +66,10 @@ graded g id budget trace =
     let tried = last_tried (of.rules p) (of.sets p) in
     let searched = (laws_of g).searched id p s in
     let listed = (laws_of g).listed id p s in
-    let lines = trace_some trace (of.visit_name p) tried (closing_said (of.visit_name p) tried (last_lawful (of.solves p) (of.rules p) (of.sets p) searched.lawful listed)) in (
+    let lines = trace_some trace (of.visit_name p) tried (closing_said (of.visit_name p) (last_lawful (of.solves p) (of.sets p) searched.lawful listed)) in (
       record { text = grade_text given ++ codes "\n" ++ lines.0; status = grade_status given },
       record {
-        right = listed_right (of.solves p) (of.sets p) (of.rules p) budget listed searched;
+        right = listed_right (of.sets p) budget listed searched;
         said = record { lines = lines.0; trace = lines.1; text = refl; status = refl };
       },
     ))
@@ -94,7 +91,7 @@ light_wide text read is =
     let a = and_parts (nat_le 2 read.w && nat_le 2 read.h && nat_le read.w max_side) (nat_le read.h max_side) e in
     let b = and_parts (nat_le 2 read.w && nat_le 2 read.h) (nat_le read.w max_side) a.0 in
     let c = and_parts (nat_le 2 read.w) (nat_le 2 read.h) b.0 in
-    record { extent = is_extent 2 read.w read.h (omega arith) e; w_two = leb-true _ _ c.0; h_two = leb-true _ _ c.1 }
+    record { extent = is_extent 2 (omega arith) e; w_two = leb-true _ _ c.0; h_two = leb-true _ _ c.1 }
 
 module _ (read : SizeRead) (size : IsSoloSize read.w read.h) (seed budget tries black : ℕ) where
   abbrev stream : Stream
@@ -109,7 +106,7 @@ module _ (read : SizeRead) (size : IsSoloSize read.w read.h) (seed budget tries 
   handed : (k : ℕ) → IsFirst k → (o : Option (List ℕ)) → filling_at (solo_filling read.w read.h read.x budget) k stream ≡ o → (a : Answer) × Allowed a
   handed k first None e = absurd (true≢false (sym (rw e at first.passing)))
   handed k first (Some g) e =
-      let t = solo_thinned read.w read.h size read.x budget stream (seed_words seed) tries k g first e in (
+      let t = solo_thinned read.w read.h size read.x budget (seed_words seed) k g first e in (
         handed_out (game_of game.Solo) t.0 g,
         inl (record {
           made = record { puzzle = t.0; solution = g; kept = t.1 };
@@ -122,7 +119,7 @@ module _ (read : SizeRead) (size : IsSoloSize read.w read.h) (seed budget tries 
   -- without diagonals each filling is there
   untried : (n : ℕ) → NonePasses (solo_filling read.w read.h read.x budget) (solo_passes read.w read.h read.x budget) stream n → read.x ≡ false → n ≡ 0
   untried zero none plain = refl
-  untried (suc n) none plain = absurd (there (rw plain at (solo_missing read.w read.h size read.x budget stream (seed_words seed) 0 (none.failing 0 (omega arith)))))
+  untried (suc n) none plain = absurd (there (rw plain at (solo_missing read.w read.h size read.x budget (seed_words seed) 0 (none.failing 0 (omega arith)))))
     where
       there : filling_at (solo_filling read.w read.h false budget) 0 stream ≡ None → ⊥
       there e = cc
@@ -134,7 +131,7 @@ module _ (read : SizeRead) (size : IsSoloSize read.w read.h) (seed budget tries 
       exhausted_answer,
       inr (record {
         none = record {
-          none = λ k lt. solo_missing read.w read.h size read.x budget stream (seed_words seed) k (none.failing k lt);
+          none = λ k lt. solo_missing read.w read.h size read.x budget (seed_words seed) k (none.failing k lt);
           plain = untried tries none;
         };
         said = refl;

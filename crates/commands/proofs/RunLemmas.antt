@@ -7,7 +7,7 @@ use Rattle.commands.specs.Answers.{Answer, BeginsAnswer, Text, Delivers, PutBegu
 use Rattle.commands.specs.Each.{HasAnswers}
 use Rattle.commands.specs.Replies.{answer_in}
 use Rattle.commands.specs.declared.answers.reply.Reply.{Reply}
-use Rattle.commands.specs.Stops.{BeginsIfAny, IsSinkAfter, RanIfAny, Says, SaysIfAny, status_in}
+use Rattle.commands.specs.Stops.{BeginsIfAny, RanIfAny, Says, SaysIfAny, status_in}
 use Rattle.commands.specs.declared.answers.status.Status.{Status}
 use Rattle.commands.specs.declared.answers.status.Stop.{Stop}
 use Rattle.commands.specs.declared.answers.status.Stop.TheVariants.{Memory, Broken}
@@ -15,89 +15,85 @@ use Rattle.commands.specs.Runs.{Ran}
 use Rattle.commands.specs.declared.ends.Sink as sinks
 use Rattle.commands.specs.declared.ends.Source as sources
 
--- an exit with that stop
-pub status_is : (r : Result Status Stop) (Q : ℕ → Type 0) (stop : Stop) → Q (status_of stop) → IsErr r × IsErrAnd r (λ e. e ≡ stop) → Q (status_in r)
-status_is (Ok u) Q stop q h = absurd (true≢false (sym h.0))
-status_is (Err e) Q stop q h = subst (λ (x : Stop). Q (status_of x)) (sym h.1) q
-
--- how the sink stands where memory was wanted and nothing was put
-pub left_alone : (r : Result Status Stop) (failed flushed : Bool) → failed ≡ false → IsErr r × IsErrAnd r (λ e. e ≡ Memory) → IsSinkAfter (status_in r) failed flushed
-left_alone r failed flushed fine h = status_is r (λ n. IsSinkAfter n failed flushed) Memory
-    (record { within = omega arith; sound = λ _. fine; sent = λ low. absurd (omega arith); broken = λ six. absurd (omega arith) }) h
-
 -- a stop is no whole answer
-pub late : (stop : Stop) → 5 ≤ status_of stop
+late : (stop : Stop) → 5 ≤ status_of stop
 late Memory = omega arith
 late Broken = omega arith
 
+-- so is no exit with one
 pub is_late : (r : Result Status Stop) (stop : Stop) → IsErr r × IsErrAnd r (λ e. e ≡ stop) → 5 ≤ status_in r
-is_late r stop h = status_is r (λ n. 5 ≤ n) stop (late stop) h
+is_late (Ok status) stop h = absurd (true≢false (sym h.0))
+is_late (Err met) stop h = late met
 
 -- what begins an answer of one kind begins one of another that follows from it
 begins_as : (A B : Answer → Type 0) (w : Text) → ((a : Answer) → A a → B a) → BeginsAnswer A w → BeginsAnswer B w
 begins_as A B w follows some = (some.0, follows some.0 some.1, some.2)
 
-begins_if_any_as : (A B : Answer → Type 0) (w : Text) → ((a : Answer) → A a → B a) → BeginsIfAny A w → BeginsIfAny B w
-begins_if_any_as A B w follows (inl none) = inl none
-begins_if_any_as A B w follows (inr some) = inr (begins_as A B w follows some)
+begins_if_any_as : (A B : Answer → Type 0) {w : Text} → ((a : Answer) → A a → B a) → BeginsIfAny A w → BeginsIfAny B w
+begins_if_any_as A B follows (inl none) = inl none
+begins_if_any_as A B {w} follows (inr some) = inr (begins_as A B w follows some)
 
 -- nothing begins each answer
 nothing_begins : (A : Answer → Type 0) → (a : Answer) × A a → BeginsAnswer A []
 nothing_begins A some = (some.0, some.1, (some.0.text, refl))
 
-begins_some : (A : Answer → Type 0) (w : Text) → (a : Answer) × A a → BeginsIfAny A w → BeginsAnswer A w
-begins_some A w some (inl none) = subst (BeginsAnswer A) (sym none) (nothing_begins A some)
-begins_some A w some (inr begun) = begun
+begins_some : (A : Answer → Type 0) {w : Text} → (a : Answer) × A a → BeginsIfAny A w → BeginsAnswer A w
+begins_some A some (inl none) = subst (BeginsAnswer A) (sym none) (nothing_begins A some)
+begins_some A some (inr begun) = begun
 
 -- what is told as one thing is told as another that follows from it
-pub says_as : {S : Type 0} (takes : S → Text → S → Type 0) (A B : Answer → Type 0) (s t : S) (status : ℕ) → ((a : Answer) → A a → B a)
+pub says_as : {S : Type 0} {takes : S → Text → S → Type 0} {A B : Answer → Type 0} {s t : S} {status : ℕ} → ((a : Answer) → A a → B a)
     → SaysIfAny takes A s t status → SaysIfAny takes B s t status
-says_as takes A B s t status follows told = record {
+says_as {A} {B} follows told = record {
   written = told.written;
   took = told.took;
-  begun = begins_if_any_as A B _ follows told.begun;
+  begun = begins_if_any_as A B follows told.begun;
   whole = λ small. follows _ (told.whole small);
 }
 
 -- some answer is allowed
-pub says_some : {S : Type 0} (takes : S → Text → S → Type 0) (A : Answer → Type 0) (s t : S) (status : ℕ) → (a : Answer) × A a
+pub says_some : {S : Type 0} {takes : S → Text → S → Type 0} {A : Answer → Type 0} {s t : S} {status : ℕ} → (a : Answer) × A a
     → SaysIfAny takes A s t status → Says takes A s t status
-says_some takes A s t status some told = record {
+says_some {A} some told = record {
   written = told.written;
   took = told.took;
-  begun = begins_some A told.written some told.begun;
+  begun = begins_some A some told.begun;
   whole = told.whole;
 }
 
 -- nothing was written
-pub says_nothing : {S : Type 0} (takes : S → Text → S → Type 0) (allows : Answer → Type 0) (s : S) (status : ℕ) → takes s [] s → 5 ≤ status → SaysIfAny takes allows s s status
-says_nothing takes allows s status nothing high = record { written = []; took = nothing; begun = inl refl; whole = λ small. absurd (omega arith) }
+pub says_nothing : {S : Type 0} {takes : S → Text → S → Type 0} {allows : Answer → Type 0} {s : S} {status : ℕ} → takes s [] s
+    → 5 ≤ status → SaysIfAny takes allows s s status
+says_nothing nothing high = record { written = []; took = nothing; begun = inl refl; whole = λ small. absurd (omega arith) }
 
 rest_is : (rest : List ℕ) (n m : ℕ) → m ≡ length rest → take (m - n) (drop n rest) ≡ drop n rest
 rest_is rest n m e = grind (arith, common_steps)
 
-module _ {S : Type 0} (takes : S → List ℕ → S → Type 0) (nothing : (s : S) → takes s [] s) (both : (s t u : S) (a b : List ℕ) → takes s a t → takes t b u → takes s (a ++ b) u) where
+module _ {S : Type 0} {takes : S → List ℕ → S → Type 0} (nothing : (s : S) → takes s [] s)
+    (both : (s t u : S) (a b : List ℕ) → takes s a t → takes t b u → takes s (a ++ b) u) where
   -- after one more put, which took n bytes
-  pub put_more : (s t u : S) (bytes rest : List ℕ) (n m : ℕ) → m ≡ length rest → PutUpTo takes s bytes rest t
+  pub put_more : {s t u : S} {bytes rest : List ℕ} (n m : ℕ) → m ≡ length rest → PutUpTo takes s bytes rest t
       → takes t (take n rest) u → PutUpTo takes s bytes (take (m - n) (drop n rest)) u
-  put_more s t u bytes rest n m e so_far took = record {
+  put_more {s} {t} {u} {bytes} {rest} n m e so_far took = record {
     done = so_far.done ++ take n rest;
     took = both s t u so_far.done (take n rest) so_far.took took;
-    split = so_far.split ∙ ap (λ l. so_far.done ++ l) (sym (take-append-drop n rest)) ∙ sym (append_assoc so_far.done (take n rest) (drop n rest)) ∙ ap (λ l. (so_far.done ++ take n rest) ++ l) (sym (rest_is rest n m e));
+    split = so_far.split ∙ ap (λ l. so_far.done ++ l) (sym (take-append-drop n rest))
+        ∙ sym (append_assoc so_far.done (take n rest) (drop n rest))
+        ∙ ap (λ l. (so_far.done ++ take n rest) ++ l) (sym (rest_is rest n m e));
   }
 
   -- after a put that failed
-  pub put_failed : (s t u : S) (bytes rest : List ℕ) → PutUpTo takes s bytes rest t → takes t [] u → PutBegun takes s bytes u
-  put_failed s t u bytes rest so_far took = record {
+  pub put_failed : {s t u : S} {bytes rest : List ℕ} → PutUpTo takes s bytes rest t → takes t [] u → PutBegun takes s bytes u
+  put_failed {s} {t} {u} {bytes} {rest} so_far took = record {
     done = so_far.done ++ [];
     took = both s t u so_far.done [] so_far.took took;
     begun = (rest, so_far.split ∙ ap (λ l. l ++ rest) (sym (append-nil so_far.done)));
   }
 
   -- all was put, and then the finishing took nothing more
-  pub delivers_all : (s t u : S) (a : Answer) (bytes : List ℕ) (status : ℕ) → bytes ≡ a.text → (status ≡ a.status) ⊎ (status ≡ 6)
+  pub delivers_all : {s : S} (t : S) {u : S} {a : Answer} {bytes : List ℕ} {status : ℕ} → bytes ≡ a.text → (status ≡ a.status) ⊎ (status ≡ 6)
       → takes s bytes t → takes t [] u → Delivers takes s a u status
-  delivers_all s t u a bytes status e is took more = record {
+  delivers_all {s} t {u} {bytes} e is took more = record {
     written = bytes ++ [];
     took = both s t u bytes [] took more;
     begun = ([], sym (append-nil (bytes ++ []) ∙ append-nil bytes ∙ e));
@@ -110,12 +106,12 @@ module _ {S : Type 0} (takes : S → List ℕ → S → Type 0) (nothing : (s : 
     );
   }
 
-module _ {I O : Type 0} (source : sources.Ghosts I) (sink : sinks.Ghosts O)
-    (allows : Text → Answer → Type 0) where
+module _ {I O : Type 0} {source : sources.Ghosts I} {sink : sinks.Ghosts O}
+    {allows : Text → Answer → Type 0} where
   -- nothing was read, and what was written may be left on every input
-  pub ran_by_telling : (i : I) (o p : O) (tells : Answer → Type 0) (status : ℕ) → source.gives i [] i → ((input : Text) (a : Answer) → tells a → allows input a)
+  pub ran_by_telling : {i : I} {o p : O} (tells : Answer → Type 0) {status : ℕ} → source.gives i [] i → ((input : Text) (a : Answer) → tells a → allows input a)
       → Says sink.takes tells o p status → Ran source sink allows i i o p status
-  ran_by_telling i o p tells status nothing allowed t = record {
+  ran_by_telling tells nothing allowed t = record {
     read = [];
     written = t.written;
     gave = nothing;
@@ -127,9 +123,9 @@ module _ {I O : Type 0} (source : sources.Ghosts I) (sink : sinks.Ghosts O)
   }
 
   -- the same of an answer that is allowed on every input
-  pub ran_by_reply : (i : I) (o p : O) (a : Answer) (status : ℕ) → source.gives i [] i → ((input : Text) → allows input a)
+  ran_by_reply : {i : I} {o p : O} {a : Answer} {status : ℕ} → source.gives i [] i → ((input : Text) → allows input a)
       → Delivers sink.takes o a p status → Ran source sink allows i i o p status
-  ran_by_reply i o p a status nothing allowed d = ran_by_telling i o p (λ b. (input : Text) → allows input b) status nothing (λ input b told. told input) (record {
+  ran_by_reply {a} nothing allowed d = ran_by_telling (λ b. (input : Text) → allows input b) nothing (λ input b told. told input) (record {
     written = d.written;
     took = d.took;
     begun = (a, allowed, d.begun);
@@ -137,9 +133,9 @@ module _ {I O : Type 0} (source : sources.Ghosts I) (sink : sinks.Ghosts O)
   })
 
   -- bytes were read, and nothing was written
-  pub ran_unwritten : HasAnswers allows → (i j : I) (o : O) (seen : Text) (status : ℕ) → 5 ≤ status → source.gives i seen j → sink.takes o [] o
+  pub ran_unwritten : HasAnswers allows → {i j : I} {o : O} (seen : Text) {status : ℕ} → 5 ≤ status → source.gives i seen j → sink.takes o [] o
       → Ran source sink allows i j o o status
-  ran_unwritten answers i j o seen status high gave took = record {
+  ran_unwritten answers seen high gave took = record {
     read = seen;
     written = [];
     gave = gave;
@@ -148,37 +144,38 @@ module _ {I O : Type 0} (source : sources.Ghosts I) (sink : sinks.Ghosts O)
   }
 
   -- an answer that is allowed on every input was put, if there was memory for it
-  pub ran_by_put : {E : Type 0} (made : Result Reply E) (i : I) (o p : O) (status : ℕ) → HasAnswers allows → source.gives i [] i → sink.takes o [] o
+  pub ran_by_put : {E : Type 0} (made : Result Reply E) {i : I} {o p : O} {status : ℕ} → HasAnswers allows → source.gives i [] i → sink.takes o [] o
       → IfOk made (λ r. (input : Text) → allows input (answer_in r)) → IfOk made (λ r. Delivers sink.takes o (answer_in r) p status)
       → IfErr made (λ _. (p ≡ o) × (status ≡ 5)) → Ran source sink allows i i o p status
-  ran_by_put (Ok r) i o p status answers nothing none allowed put unmade = ran_by_reply i o p (answer_in r) status nothing allowed put
-  ran_by_put (Err e) i o p status answers nothing none allowed put unmade =
-      rw unmade.0 (ran_unwritten answers i i o [] status (omega arith) nothing none)
+  ran_by_put (Ok r) answers nothing none allowed put unmade = ran_by_reply nothing allowed put
+  ran_by_put (Err e) answers nothing none allowed put unmade =
+      rw unmade.0 (ran_unwritten answers [] (omega arith) nothing none)
 
   -- the same of steps that know of no answer before
-  pub ran_if_any_unwritten : (i j : I) (o : O) (seen : Text) (status : ℕ) → 5 ≤ status → source.gives i seen j → sink.takes o [] o → RanIfAny source sink allows i j o o status
-  ran_if_any_unwritten i j o seen status high gave took =
+  pub ran_if_any_unwritten : {i j : I} {o : O} (seen : Text) {status : ℕ} → 5 ≤ status → source.gives i seen j → sink.takes o [] o
+      → RanIfAny source sink allows i j o o status
+  ran_if_any_unwritten seen high gave took =
       record { read = seen; written = []; gave = gave; took = took; begun = λ input _. inl refl; whole = λ low. absurd (omega arith) }
 
-  pub ran_if_any_by_telling : (i : I) (o p : O) (tells : Answer → Type 0) (status : ℕ) → source.gives i [] i → ((input : Text) (a : Answer) → tells a → allows input a)
+  pub ran_if_any_by_telling : {i : I} {o p : O} (tells : Answer → Type 0) {status : ℕ} → source.gives i [] i → ((input : Text) (a : Answer) → tells a → allows input a)
       → SaysIfAny sink.takes tells o p status → RanIfAny source sink allows i i o p status
-  ran_if_any_by_telling i o p tells status nothing allowed t = record {
+  ran_if_any_by_telling tells nothing allowed t = record {
     read = [];
     written = t.written;
     gave = nothing;
     took = t.took;
-    begun = λ input _. begins_if_any_as tells (allows input) _ (allowed input) t.begun;
+    begun = λ input _. begins_if_any_as tells (allows input) (allowed input) t.begun;
     whole = λ small input _. allowed input _ (t.whole small);
   }
 
   -- where each input has an answer, a beginning of one was written
-  pub ran_some : HasAnswers allows → (i j : I) (o p : O) (status : ℕ) → RanIfAny source sink allows i j o p status → Ran source sink allows i j o p status
-  ran_some answers i j o p status r = record {
+  pub ran_some : HasAnswers allows → {i j : I} {o p : O} {status : ℕ} → RanIfAny source sink allows i j o p status → Ran source sink allows i j o p status
+  ran_some answers r = record {
     read = r.read;
     written = r.written;
     gave = r.gave;
     took = r.took;
-    leaves = record { begun = λ input is. begins_some (allows input) r.written (answers input) (r.begun input is); whole = r.whole };
+    leaves = record { begun = λ input is. begins_some (allows input) (answers input) (r.begun input is); whole = r.whole };
   }
 
 -- what a reader over memory gave is the beginning of its bytes, and all of them where its end was met
@@ -186,19 +183,3 @@ pub input_known : (ended was : Bool) (bytes start read left : Text) → start �
     → (start ≡ read ++ left) × (was ≡ false → ended ≡ true → left ≡ []) → IsInput ended read bytes
 input_known true was bytes start read left same fresh g = sym same ∙ g.0 ∙ ap (λ l. read ++ l) (g.1 fresh refl) ∙ append-nil read
 input_known false was bytes start read left same fresh g = (left, sym same ∙ g.0)
-
-module _ {I O : Type 0} (source : sources.Ghosts I) (sink : sinks.Ghosts O)
-    (some all : Text → Answer → Type 0) where
-  -- a run that leaves what some allow leaves what all allow
-  pub ran_more : (i j : I) (o p : O) (status : ℕ) → ((input : Text) (a : Answer) → some input a → all input a)
-      → Ran source sink some i j o p status → Ran source sink all i j o p status
-  ran_more i j o p status more r = record {
-    read = r.read;
-    written = r.written;
-    gave = r.gave;
-    took = r.took;
-    leaves = record {
-      begun = λ input is. begins_as (some input) (all input) _ (more input) (r.leaves.begun input is);
-      whole = λ low input is. more input _ (r.leaves.whole low input is);
-    };
-  }

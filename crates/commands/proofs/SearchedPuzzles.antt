@@ -23,19 +23,19 @@ use Rattle.commands.specs.Grades.{HasOneSolution}
 use Rattle.commands.specs.LawsOfCommands.{HasOneAnswer}
 
 -- what is true of the grids that the rules accept is right of the solutions, where these are the same
-pub right_of : (p : RuleSystem) (solves : List ℕ → Type 0) (o : Outcome) → ((g : List ℕ) → Solves p g ↔ solves g) → IsTrueOf p o → IsRight solves o
-right_of p solves NoSolution same h = λ g s. h g ((same g).1 s)
-right_of p solves (OneSolution g) same h = ((same g).0 h.0, λ k s. h.1 k ((same k).1 s))
-right_of p solves (SeveralSolutions g k) same h = ((same g).0 h.0, (same k).0 h.1, h.2)
-right_of p solves (GaveUp None) same h = tt
-right_of p solves (GaveUp (Some g)) same h = (same g).0 h
+pub right_of : {p : RuleSystem} (solves : List ℕ → Type 0) (o : Outcome) → ((g : List ℕ) → Solves p g ↔ solves g) → IsTrueOf p o → IsRight solves o
+right_of solves NoSolution same h = λ g s. h g ((same g).1 s)
+right_of solves (OneSolution g) same h = ((same g).0 h.0, λ k s. h.1 k ((same k).1 s))
+right_of solves (SeveralSolutions g k) same h = ((same g).0 h.0, (same k).0 h.1, h.2)
+right_of solves (GaveUp None) same h = tt
+right_of solves (GaveUp (Some g)) same h = (same g).0 h
 
 -- a search by the rules of a puzzle says what is allowed
-pub solved_of : {P : Type 0} (play : PuzzleFacts P) (budget : ℕ) (p : P) (q : RuleSystem) (a : Answer) → q ≡ play.game.rules p
+pub solved_of : {P : Type 0} (play : PuzzleFacts P) {budget : ℕ} {p : P} {q : RuleSystem} {a : Answer} → q ≡ play.game.rules p
     → ((g : List ℕ) → Solves (play.game.rules p) g ↔ play.game.solves p g)
     → a ≡ verdict_answer (printed_by play p) (verdict_of q budget) → IsTrueOf q (verdict_of q budget) → IsSolved play budget p a
-solved_of play budget p q a same accepted told right = record {
-  right = right_of (play.game.rules p) (play.game.solves p) _ accepted (rw same at right);
+solved_of play {p} same accepted told right = record {
+  right = right_of (play.game.solves p) _ accepted (rw same at right);
   said = rw same at told;
 }
 
@@ -49,8 +49,8 @@ pub pattern_accepted : (p : Pattern) (g : List ℕ) → Solves (line_rules p) g 
 pattern_accepted p g = (λ s. is_solution-is p g s.grid s.good, λ s. record { grid = s.grid; good = is_solution-from p g s })
 
 -- by each rule set
-pub solo_accepted : (p : Solo) → IsSolo p → (settled : Bool) (houses : List House) (g : List ℕ) → Solves (rules_of settled p houses) g ↔ IsSoloSolution p g
-solo_accepted p ok settled houses g = (λ s. rule_from_test p ok g s.grid s.good, λ s. record { grid = s.grid; good = test_from_rule p ok g s })
+pub solo_accepted : {p : Solo} → IsSolo p → (settled : Bool) (houses : List House) (g : List ℕ) → Solves (rules_of settled p houses) g ↔ IsSoloSolution p g
+solo_accepted {p} ok settled houses g = (λ s. rule_from_test p ok g s.grid s.good, λ s. record { grid = s.grid; good = test_from_rule p ok g s })
 
 pub light_accepted : (p : Light) (g : List ℕ) → Solves (light_rules p) g ↔ IsLightSolution p g
 light_accepted p g = (λ s. light.rule-from-test p g s.grid s.good, λ s. record { grid = s.grid; good = light.test-from-rule p g s.grid s })
@@ -61,20 +61,20 @@ tents_accepted p g = (λ s. tents.solution-from-tents p g s.grid s.good, λ s. r
 pub pattern_searched : (p : Pattern) → IsPattern p → SearchedPuzzle (line_rules p) (IsPatternSolution p)
 pattern_searched p ok = record { lawful = line_rules-lawful p ok.size; accepted = pattern_accepted p }
 
-pub solo_searched : (p : Solo) → IsSolo p → SearchedPuzzle (houses_rules p) (IsSoloSolution p)
-solo_searched p ok = record { lawful = houses_lawful p ok; accepted = solo_accepted p ok _ _ }
+pub solo_searched : {p : Solo} → IsSolo p → SearchedPuzzle (houses_rules p) (IsSoloSolution p)
+solo_searched {p} ok = record { lawful = houses_lawful p ok; accepted = solo_accepted ok _ _ }
 
 pub singles_searched : (p : Solo) → IsSolo p → SearchedPuzzle (singles_rules p) (IsSoloSolution p)
-singles_searched p ok = record { lawful = singles_lawful p ok; accepted = solo_accepted p ok _ _ }
+singles_searched p ok = record { lawful = singles_lawful p ok; accepted = solo_accepted ok _ _ }
 
 pub crossings_searched : (p : Solo) → IsSolo p → SearchedPuzzle (crossings_rules p) (IsSoloSolution p)
-crossings_searched p ok = record { lawful = crossings_lawful p ok; accepted = solo_accepted p ok _ _ }
+crossings_searched p ok = record { lawful = crossings_lawful p ok; accepted = solo_accepted ok _ _ }
 
-pub light_searched : (p : Light) → IsLight p → SearchedPuzzle (light_rules p) (IsLightSolution p)
-light_searched p ok = record { lawful = light-lawful p ok; accepted = light_accepted p }
+pub light_searched : {p : Light} → IsLight p → SearchedPuzzle (light_rules p) (IsLightSolution p)
+light_searched {p} ok = record { lawful = light-lawful p ok; accepted = light_accepted p }
 
-pub tents_searched : (p : Tents) → IsTents p → SearchedPuzzle (tent_rules p) (IsTentSolution p)
-tents_searched p ok = record { lawful = tent-lawful p ok; accepted = tents_accepted p }
+pub tents_searched : {p : Tents} → IsTents p → SearchedPuzzle (tent_rules p) (IsTentSolution p)
+tents_searched {p} ok = record { lawful = tent-lawful p ok; accepted = tents_accepted p }
 
 -- a search with a trial for each of the walk doesn't give up
 never_out : (marks : List Mark) (budget : ℕ) (found sofar : Option (List ℕ)) → trials_in marks ≤ budget → outcome budget sofar marks ≡ GaveUp found → ⊥
@@ -86,18 +86,18 @@ never_out (Found h ∷ marks) budget found (Some first) room e = cc
 never_out (Trial depth board ∷ marks) zero found sofar room e = absurd (omega arith)
 never_out (Trial depth board ∷ marks) (suc budget) found sofar room e = never_out marks budget found sofar (omega arith) e
 
-module _ (rules : RuleSystem) (solves : List ℕ → Type 0) (searched : SearchedPuzzle rules solves) where
+module _ {rules : RuleSystem} {solves : List ℕ → Type 0} (searched : SearchedPuzzle rules solves) where
   pub verdict_right : (budget : ℕ) → IsRight solves (verdict_of rules budget)
-  verdict_right budget = right_of rules solves (verdict_of rules budget) searched.accepted (outcome-true rules searched.lawful budget)
+  verdict_right budget = right_of solves (verdict_of rules budget) searched.accepted (outcome-true rules searched.lawful budget)
 
   -- so where one grid is the solution, it is what a search with enough trials tells
-  pub found_with_enough : (one : HasOneSolution solves) (budget : ℕ) → trials_in (walk rules 0 rules.start) ≤ budget → verdict_of rules budget ≡ OneSolution one.0
-  found_with_enough one budget h1 = grind (arith, common_steps, never_out, verdict_right)
+  pub found_with_enough : (one : HasOneSolution solves) {budget : ℕ} → trials_in (walk rules 0 rules.start) ≤ budget → verdict_of rules budget ≡ OneSolution one.0
+  found_with_enough one at_most = grind (arith, common_steps, never_out, verdict_right)
 
 -- a search has one answer
-pub solved_once : {P : Type 0} (play : PuzzleFacts P) (p : P) (budget : ℕ) → SearchedPuzzle (play.game.rules p) (play.game.solves p) → HasOneAnswer (IsSolved play budget p)
-solved_once play p budget searched = record {
+pub solved_once : {P : Type 0} (play : PuzzleFacts P) (p : P) {budget : ℕ} → SearchedPuzzle (play.game.rules p) (play.game.solves p) → HasOneAnswer (IsSolved play budget p)
+solved_once play p {budget} searched = record {
   answer = verdict_answer (printed_by play p) (verdict_of (play.game.rules p) budget);
-  allowed = record { right = verdict_right (play.game.rules p) (play.game.solves p) searched budget; said = refl };
+  allowed = record { right = verdict_right searched budget; said = refl };
   only = λ other is. sym is.said;
 }

@@ -20,13 +20,13 @@ record AreGroupsDrawn (size : ℕ) (groups : List ℕ) (k : ℕ) (q : List ℕ �
   grouped : AreGrouped size groups k q.0
   words : HasWords q.1
 
-groups_are : (size : ℕ) (groups : List ℕ) (s : Stream) → 0 < size → size < 2 ^ 32 - 1 → HasWords s → (k : ℕ)
+groups_are : {size : ℕ} {groups : List ℕ} {s : Stream} → 0 < size → size < 2 ^ 32 - 1 → HasWords s → (k : ℕ)
     → AreGroupsDrawn size groups k (lines_of_groups size groups k s)
 unfolding lines_of_groups
-groups_are size groups s some few words zero = record { grouped = grouped-none size groups [] refl; words = words }
-groups_are size groups s some few words (suc k) =
+groups_are {size} {groups} some few words zero = record { grouped = grouped-none size groups [] refl; words = words }
+groups_are {size} {groups} {s} some few words (suc k) =
     let q : List ℕ × Stream = lines_of_groups size groups k s in
-    let before : AreGroupsDrawn size groups k q = groups_are size groups s some few words k in
+    let before : AreGroupsDrawn size groups k q = groups_are some few words k in
     let inner : IsShuffledOrder size (shuffled_order size q.1) = order_is size q.1 few before.words in
     record {
       grouped = rw add-one at (AreGrouped-more size groups k q.0 (shuffled_order size q.1).0 some before.grouped inner.order);
@@ -42,7 +42,7 @@ lines_are count size s some few few_groups words =
     let outer : IsShuffledOrder count (shuffled_order count s) = order_is count s few_groups words in
     let groups : List ℕ = (shuffled_order count s).0 in
     let all : AreGroupsDrawn size groups count (lines_of_groups size groups count (shuffled_order count s).1) =
-    groups_are size groups (shuffled_order count s).1 some few outer.words count in
+    groups_are some few outer.words count in
     record { order = line_order_from_groups count size groups _ some outer.order all.grouped; words = all.words }
 
 -- a filling that keeps to the rules where it is there, and words after it
@@ -103,35 +103,37 @@ module _ (c r : ℕ) (size : IsSoloSize c r) where
         words = flipped_words (first_grid said) t numbers.words;
       }
 
-  filling_is : (x : Bool) (budget : ℕ) (s : Stream) → HasWords s → IsFilled c r x (solo_filling c r x budget s)
-  filling_is false budget s words = plain_is s words
-  filling_is true budget s words = x_is budget s words
+  filling_is : (x : Bool) (budget : ℕ) {s : Stream} → HasWords s → IsFilled c r x (solo_filling c r x budget s)
+  filling_is false budget {s} words = plain_is s words
+  filling_is true budget {s} words = x_is budget s words
 
-  module _ (x : Bool) (budget : ℕ) (s : Stream) (words : HasWords s) where
+  module _ (x : Bool) (budget : ℕ) {s : Stream} (words : HasWords s) where
     words_after : (k : ℕ) → HasWords (stream_after (solo_filling c r x budget) k s)
     unfolding stream_after
     words_after zero = words
-    words_after (suc k) = (filling_is x budget (stream_after (solo_filling c r x budget) k s) (words_after k)).words
+    words_after (suc k) = (filling_is x budget (words_after k)).words
 
     -- the k-th filling
     pub solo_filled : (k : ℕ) → IfSome (filling_at (solo_filling c r x budget) k s) (λ g. IsSoloSolution (all_given c r x g) g)
-    solo_filled k = (filling_is x budget (stream_after (solo_filling c r x budget) k s) (words_after k)).solution
+    solo_filled k = (filling_is x budget (words_after k)).solution
 
     -- one that doesn't pass isn't there
     pub solo_missing : (k : ℕ) → solo_passes c r x budget (filling_at (solo_filling c r x budget) k s) ≡ false → filling_at (solo_filling c r x budget) k s ≡ None
-    solo_missing k fails = by (filling_at (solo_filling c r x budget) k s) (found_passes c r x budget (filling_at (solo_filling c r x budget) k s) size (solo_filled k) ∙ fails)
+    solo_missing k fails =
+        by (filling_at (solo_filling c r x budget) k s)
+        (found_passes c r x budget (filling_at (solo_filling c r x budget) k s) size (solo_filled k) ∙ fails)
       where
         by : (o : Option (List ℕ)) → is_some o ≡ false → o ≡ None
         by None e = refl
         by (Some g) e = absurd (true≢false e)
 
     -- what the first that passes is thinned to
-    pub solo_thinned : (tries k : ℕ) (g : List ℕ) → IsFirstPassing (solo_filling c r x budget) (solo_passes c r x budget) s tries k
+    pub solo_thinned : {tries : ℕ} (k : ℕ) (g : List ℕ) → IsFirstPassing (solo_filling c r x budget) (solo_passes c r x budget) s tries k
         → filling_at (solo_filling c r x budget) k s ≡ Some g
         → (p : Solo) × (kept : List Kept) × IsSolo p × IsSoloMade c r x budget tries s p g kept
-    solo_thinned tries k g first filled =
+    solo_thinned k g first filled =
         let solution : IsSoloSolution (all_given c r x g) g = rw filled at (solo_filled k) in
-        let t = thinned solo_game solo_is_game budget (all_given c r x g) g
+        let t = thinned solo_is_game budget (all_given c r x g) g
         (λ q w. houses_lawful q (thinned-solo c r x q g size solution w)) refl
         (all_given-only c r x g size solution) (all_given-found c r x g size solution budget) in
         let p : Solo = t.0 in

@@ -1,6 +1,6 @@
 -- A puzzle with all its clues can be thinned: a clue is taken away where the verdict without it is one, and else left for the reason
 -- that the verdict tells.
-use Rattle.maker_core.proofs.Common.{◌≡◌, ◌∙◌, ℕ, List, [], ◌∷◌, Option, Some, None, replicate, set, refl, sym, inl, inr, cases_eq}
+use Rattle.maker_core.proofs.Common.{◌≡◌, ◌∙◌, ℕ, List, [], ◌∷◌, Option, Some, None, replicate, refl, sym, inl, inr, cases_eq}
 use Rattle.maker_core.proofs.Common.{IsPermutation-refl, outcome-true, IsLawful, IsTrueOf, Outcome, Solves, verdict_of, CluedGame, IsGame, IsThinnedFrom}
 use Rattle.maker_core.proofs.Common.{clue_places, AreReasons, IsOnly, TellsOne, IsAsked, IsLeft, IsThinning, reasons_from}
 use Rattle.std.proofs.lemmas.Option.{none-some}
@@ -28,18 +28,18 @@ module _ {A : Type 0} (game : CluedGame A) (laws : IsGame game) (budget : ℕ) (
     left : IsLeft game place p new why
     asked : IsAsked game budget place p why
 
-  by_verdict : (place : ℕ) (p : A) → Solves (game.rules (game.without p place)) answer → (o : Outcome)
+  by_verdict : {place : ℕ} (p : A) → Solves (game.rules (game.without p place)) answer → (o : Outcome)
       → verdict_of (game.rules (game.without p place)) budget ≡ o → IsTrueOf (game.rules (game.without p place)) o → IsTried place p
-  by_verdict place p solves NoSolution is sound = absurd (sound answer solves)
-  by_verdict place p solves (OneSolution g) is sound =
+  by_verdict p solves NoSolution is sound = absurd (sound answer solves)
+  by_verdict {place} p solves (OneSolution g) is sound =
       record { new = game.without p place; why = None; left = refl; asked = record { answer = g; found = is; only = sound } }
-  by_verdict place p solves (SeveralSolutions g h) is sound = record {
+  by_verdict p solves (SeveralSolutions g h) is sound = record {
     new = p;
     why = Some Needed;
     left = refl;
     asked = record { first = g; second = h; first_solves = sound.0; second_solves = sound.1; differ = sound.2 };
   }
-  by_verdict place p solves (GaveUp found) is sound =
+  by_verdict p solves (GaveUp found) is sound =
       record { new = p; why = Some Budget; left = refl; asked = record { found = found; verdict = is } }
 
   module _ (lawful : (p : A) → IsThinnedFrom game p all → IsLawful (game.rules p)) (only : IsOnly (game.rules all) answer) where
@@ -47,15 +47,15 @@ module _ {A : Type 0} (game : CluedGame A) (laws : IsGame game) (budget : ℕ) (
     tried place rest p whys now =
         let n = some_of (game.clue p place) (now.waiting place (contains_head rest place)) in
         let thinner = without_in p place n.0 now.within n.1 in
-        by_verdict place p (laws.solutions_stay (game.without p place) all answer thinner only.0) (verdict_of (game.rules (game.without p place)) budget) refl
+        by_verdict p (laws.solutions_stay (game.without p place) all answer thinner only.0) (verdict_of (game.rules (game.without p place)) budget) refl
         (outcome-true (game.rules (game.without p place)) (lawful (game.without p place) thinner) budget)
 
-    thin : (rest : List ℕ) (p : A) (whys : List (Option Why)) → IsThinning game budget all p whys rest
+    thin : (rest : List ℕ) {p : A} {whys : List (Option Why)} → IsThinning game budget all p whys rest
         → (q : A) × (ends : List (Option Why)) × IsThinning game budget all q ends []
-    thin [] p whys now = (p, whys, now)
-    thin (place ∷ rest) p whys now =
+    thin [] {p} {whys} now = (p, whys, now)
+    thin (place ∷ rest) {p} {whys} now =
         let t : IsTried place p = tried place rest p whys now in
-        thin rest t.new (set whys place t.why) (thinning_turn game laws now t.new t.why t.left t.asked)
+        thin rest (thinning_turn game laws now t.new t.why t.left t.asked)
 
 -- some of the clues are left, each for a reason, and the answer is still the one solution
 pub record IsThinnedTo {A : Type 0} (game : CluedGame A) (budget : ℕ) (all : A) (answer : List ℕ) (p : A) (kept : List Kept) : Type 0 where
@@ -64,13 +64,13 @@ pub record IsThinnedTo {A : Type 0} (game : CluedGame A) (budget : ℕ) (all : A
   pub found : TellsOne (game.rules p) budget answer
   pub reasons : AreReasons game budget (game.all_clues p answer) p kept
 
-pub thinned : {A : Type 0} (game : CluedGame A) → IsGame game → (budget : ℕ) (all : A) (answer : List ℕ)
+pub thinned : {A : Type 0} {game : CluedGame A} → IsGame game → (budget : ℕ) (all : A) (answer : List ℕ)
     → ((p : A) → IsThinnedFrom game p all → IsLawful (game.rules p)) → all ≡ game.all_clues all answer
     → IsOnly (game.rules all) answer → TellsOne (game.rules all) budget answer
     → (p : A) × (kept : List Kept) × IsThinnedTo game budget all answer p kept
-thinned game laws budget all answer lawful whole only found =
+thinned {game} laws budget all answer lawful whole only found =
     let start = thinning_start laws budget all answer (replicate (game.cells all) None) only found (IsPermutation-refl (clue_places game all)) refl in
-    let t = thin game laws budget all answer lawful only (clue_places game all) all (replicate (game.cells all) None) start in
+    let t = thin game laws budget all answer lawful only (clue_places game all) start in
     let left = answer_left laws answer t.2 only in (
       t.0,
       reasons_from 0 t.1,

@@ -28,15 +28,11 @@ pub record NamedRules : Type 0 where
   pub set : RuleSet
   pub rules : RuleSystem
 
--- by the rule set, where the closure of its start board is full and the grid a solution
-abbrev pub settled_or : RuleSet → RuleSystem → Grade → Grade
-settled_or set rules otherwise = if is_settled rules then grade.ByRules set else otherwise
-
--- by the first of the rule sets that settles the puzzle
+-- by the first of the rule sets whose closure of the start board is full, and its grid a solution
 abbrev pub first_settled : List NamedRules → Grade → Grade
 first_settled [] otherwise = otherwise
 first_settled (first ∷ rest) otherwise =
-    settled_or first.set first.rules (first_settled rest otherwise)
+    if is_settled first.rules then grade.ByRules first.set else first_settled rest otherwise
 
 -- the rules that were tried last: those of the first set that settles the puzzle, and else those of
 -- the last in the list

@@ -8,8 +8,8 @@ ghost use Rattle.commands.specs.Answers.{code_of};
 ghost use Rattle.commands.specs.Stops.{LeavesSink, Says, SaysIfAny, is_broken, status_in};
 ghost use Rattle.commands.specs.TracePieces.{BeginsTrace, PutsTrace};
 
-pub mod named;
 pub mod grading;
+pub mod named;
 pub mod trace;
 
 use crate::answers::reply::Reply;
@@ -206,7 +206,7 @@ impl Attempt {
         requires not_failed { O.has_failed output.old ≡ false }
         ensures answer { SaysIfAny O.takes
             (IsGraded P.Played (only_set self.set (R.system rules.now))
-                self.options.budget self.options.traced puzzle.now)
+            self.options.budget self.options.traced puzzle.now)
             output.old output.new (status_in result) }
         ensures left { LeavesSink O.Sink output.new result }
     {

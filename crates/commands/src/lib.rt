@@ -14,7 +14,7 @@ mod solve;
 
 pub use answers::decimal::push_number;
 pub use answers::reply::{Reply, words_reply};
-pub use answers::status::{BROKEN, RunResult, NO_MEMORY, Status, Stop};
+pub use answers::status::{BROKEN, NO_MEMORY, RunResult, Status, Stop};
 pub use batch::solve_lines;
 pub use check::check_id;
 pub use ends::output::deliver;

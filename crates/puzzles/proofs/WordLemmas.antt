@@ -62,7 +62,7 @@ and_false false = refl
 
 above : (most : ℕ) (bs : List ℕ) → most < digits_value 10 bs → number_of most bs ≡ None
 unfolding number_of
-above most bs h1 = grind (arith, common_steps, and_false, leb-true, nat_le)
+above most bs below = grind (arith, common_steps, and_false, leb-true, nat_le)
 
 within : (most : ℕ) (bs : List ℕ) → is_number bs ≡ true → digits_value 10 bs ≤ most → number_of most bs ≡ Some (digits_value 10 bs)
 unfolding number_of
@@ -92,15 +92,15 @@ no_plus (b ∷ bs) h = rw (ne_eqb b 43 h) refl
 
 -- an empty text and a plus are no number
 pub number-none : (most : ℕ) (bs : List ℕ) → (length bs ≡ 0) ⊎ (slice_index bs 0 ≡ 43) → number_of most bs ≡ None
-number-none most bs h1 = grind (arith, common_steps, and_false, fails, nat_lt)
+number-none most bs either = grind (arith, common_steps, and_false, fails, nat_lt)
 
 pub number-read : (most v : ℕ) (bs : List ℕ) → (slice_index bs 0 ≡ 43 → ⊥) → IsNumeral 10 (without_leading_plus bs)
     → v ≡ digits_value 10 (without_leading_plus bs) → v ≤ most → Some v ≡ number_of most bs
-number-read most v bs h1 h2 h3 h4 = grind (arith, common_steps, no_plus, numeral_passes, within)
+number-read most v bs not_so numeral same at_most = grind (arith, common_steps, no_plus, numeral_passes, within)
 
 pub number-high : (most v : ℕ) (bs : List ℕ) → (slice_index bs 0 ≡ 43 → ⊥)
     → v ≡ digits_value 10 (without_leading_plus bs) → most < v → None ≡ number_of most bs
-number-high most v bs h1 h2 h3 = grind (arith, common_steps, above, no_plus)
+number-high most v bs not_so same below = grind (arith, common_steps, above, no_plus)
 
 pub number-failed : (most : ℕ) (bs : List ℕ) → (slice_index bs 0 ≡ 43 → ⊥)
     → (IsNumeral 10 (without_leading_plus bs) × (digits_value 10 (without_leading_plus bs) < 2 ^ 64) → ⊥) → most < 2 ^ 64 → None ≡ number_of most bs

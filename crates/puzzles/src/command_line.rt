@@ -146,10 +146,6 @@ fn solving_command<'a>(alloc: Global) -> Result<Command<'a>, AllocError>
 }
 
 /// The program with its four commands.
-///
-/// # Errors
-///
-/// When memory was refused.
 pub fn puzzles_command<'a>(alloc: Global) -> Result<Command<'a>, AllocError>
     ensures { IfOk result (λ c. app_of c ≡ puzzles_app) }
 {

@@ -20,9 +20,9 @@ use std::alloc::{AllocError, Global};
 /// Puts an answer that was made whole, if there was memory for it.
 fn put_reply<O: Sink>(reply: Result<Reply, AllocError>, output: &mut O) -> RunResult
     requires { O.has_failed output.old ≡ false }
-    ensures put { IfOk reply.entry (λ r. Delivers O.takes output.old (answer_in r) output.new
+    ensures put { IfOk reply (λ r. Delivers O.takes output.old (answer_in r) output.new
         (status_in result)) }
-    ensures unmade { IfErr reply.entry (λ _. (output.new ≡ output.old)
+    ensures unmade { IfErr reply (λ _. (output.new ≡ output.old)
         × (status_in result ≡ NO_MEMORY)) }
     ensures left { LeavesSink O.Sink output.new result }
 {
@@ -46,7 +46,10 @@ fn answer<I: Source, O: Sink>(
     let text = String::new(alloc);
     match read_words(alloc, words)? {
         Some(Request::Solve { task, id: Some(id) }) => {
-            put_reply(Stores::default().solve_id(alloc, task, id.as_bytes(), text), output)
+            put_reply(
+                Stores::default().solve_id(alloc, task, id.as_bytes(), text),
+                output,
+            )
         }
         Some(Request::Solve { task, id: None }) => solve_lines(alloc, task, input, output),
         Some(Request::Check { game, id }) => check_id(alloc, game, id.as_bytes(), input, output),
@@ -56,7 +59,10 @@ fn answer<I: Source, O: Sink>(
         Some(Request::Generate { game, size, recipe }) => {
             put_reply(generated(alloc, game, size.as_bytes(), recipe), output)
         }
-        None => put_reply(words_reply(text, "refused: words\n", Status::Refused), output),
+        None => put_reply(
+            words_reply(text, "refused: words\n", Status::Refused),
+            output,
+        ),
     }
 }
 

@@ -232,10 +232,6 @@ fn request_in<'a>(matches: &ArgMatches<'a>) -> Option<Request<'a>>
 
 /// What the words ask for, or nothing where they are refused. The words are those after the
 /// program's name.
-///
-/// # Errors
-///
-/// When memory was refused.
 pub fn read_words<'a>(alloc: Global, words: &'a [String]) -> Result<Option<Request<'a>>, AllocError>
     ensures { IfOk result
         (λ r. option_map asked_in r ≡ asked_of (map string_bytes words.entry.now)) }

@@ -56,10 +56,19 @@ impl Checked for LightPuzzle {
 }
 
 impl Graded for LightPuzzle {
-    fn say_grade<O: Sink>(&self, alloc: Global, options: GradeOptions, output: &mut O) -> RunResult {
+    fn say_grade<O: Sink>(
+        &self,
+        alloc: Global,
+        options: GradeOptions,
+        output: &mut O,
+    ) -> RunResult {
         let local = self.rules(alloc)?;
         let set = RuleSet::Local;
-        let attempt = Attempt { alloc, set, options };
+        let attempt = Attempt {
+            alloc,
+            set,
+            options,
+        };
         attempt.say_by(self, &local, output)
     }
 }

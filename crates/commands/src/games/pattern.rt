@@ -55,10 +55,19 @@ impl Checked for PatternPuzzle {
 }
 
 impl Graded for PatternPuzzle {
-    fn say_grade<O: Sink>(&self, alloc: Global, options: GradeOptions, output: &mut O) -> RunResult {
+    fn say_grade<O: Sink>(
+        &self,
+        alloc: Global,
+        options: GradeOptions,
+        output: &mut O,
+    ) -> RunResult {
         let lines = self.rules(alloc)?;
         let set = RuleSet::Lines;
-        let attempt = Attempt { alloc, set, options };
+        let attempt = Attempt {
+            alloc,
+            set,
+            options,
+        };
         attempt.say_by(self, &lines, output)
     }
 }

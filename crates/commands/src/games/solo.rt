@@ -14,8 +14,8 @@ use crate::ends::Sink;
 use crate::generate::Recipe;
 use crate::generate::makable::{Makable, Unmade};
 use crate::generate::seed::generator;
-use crate::grade::named::{NAME, Named};
 use crate::grade::grading::settles;
+use crate::grade::named::{NAME, Named};
 use crate::grade::{Attempt, Grade, GradeOptions, Graded, RuleSet};
 use crate::played::Played;
 use crate::solve::solvable::Solvable;
@@ -24,7 +24,8 @@ use gameid_core::{Game, IdFault, Printed, SoloPuzzle, read_size, read_solo, writ
 use grid_core::Grid;
 use maker_core::{Made, make_solo};
 use solo_core::{
-    SoloCrossings, SoloFault, NamedHouse, SoloHouses, VisitName, SoloSingles, check_solo, visit_name,
+    NamedHouse, SoloCrossings, SoloFault, SoloHouses, SoloSingles, VisitName, check_solo,
+    visit_name,
 };
 use std::alloc::{AllocError, Global};
 
@@ -65,12 +66,21 @@ impl Checked for SoloPuzzle {
 }
 
 impl Graded for SoloPuzzle {
-    fn say_grade<O: Sink>(&self, alloc: Global, options: GradeOptions, output: &mut O) -> RunResult {
+    fn say_grade<O: Sink>(
+        &self,
+        alloc: Global,
+        options: GradeOptions,
+        output: &mut O,
+    ) -> RunResult {
         let singles = SoloSingles::new(alloc, self)?;
         let mut store = Store::new(alloc, &singles)?;
         if settles(&mut store, &singles) {
             let set = RuleSet::Singles;
-            let attempt = Attempt { alloc, set, options };
+            let attempt = Attempt {
+                alloc,
+                set,
+                options,
+            };
             return attempt.say(Grade::ByRules(set), self, &singles, &mut store, output);
         }
         say_by_houses(alloc, self, options, output)
@@ -94,7 +104,11 @@ fn say_by_houses<O: Sink>(
     let mut store = Store::new(alloc, &houses)?;
     if settles(&mut store, &houses) {
         let set = RuleSet::Houses;
-        let attempt = Attempt { alloc, set, options };
+        let attempt = Attempt {
+            alloc,
+            set,
+            options,
+        };
         return attempt.say(Grade::ByRules(set), puzzle, &houses, &mut store, output);
     }
     say_by_crossings(alloc, puzzle, options, output)
@@ -115,7 +129,11 @@ fn say_by_crossings<O: Sink>(
 {
     let crossings = SoloCrossings::new(alloc, puzzle)?;
     let set = RuleSet::Crossings;
-    let attempt = Attempt { alloc, set, options };
+    let attempt = Attempt {
+        alloc,
+        set,
+        options,
+    };
     attempt.say_by(puzzle, &crossings, output)
 }
 

@@ -4,20 +4,22 @@ use Rattle.commands.proofs.BatchLemmas.{given_more, given_no_more, on_any_err, s
 use Rattle.commands.proofs.batch.take_input.Goals as goal
 
 pub returns-in-Some-eq0-clause-taken : goal.returns-in-Some-eq0-clause-taken
-returns-in-Some-eq0-clause-taken g c = given_no_more g.I.Source.gives g.met.I.Source.gives_both _ _ _ _ c.loop-turn.invariant.taken
+returns-in-Some-eq0-clause-taken g c = given_no_more g.met.I.Source.gives_both c.loop-turn.invariant.taken
     (subst (λ (n : ℕ). g.I.Source.gives c.loop-turn.input (take n c.fetch.new.buffer) c.fetch.new.self) c.in-Some-eq0.field-0-test c.in-Some-eq0.ensures.bytes)
 
 pub returns-in_err-take_chunk-in-Some-clause-stopped : goal.returns-in_err-take_chunk-in-Some-clause-stopped
-returns-in_err-take_chunk-in-Some-clause-stopped g c = on_any_err c.from_residual.result _ (λ answers.
-    given_more g.I.Source.gives g.met.I.Source.gives_both _ _ _ _ _ _ _ refl c.loop-turn.invariant.taken c.in-Some.ensures.bytes (c.in_err-take_chunk-in-Some.ensures.stopped answers c.args.output.now))
+returns-in_err-take_chunk-in-Some-clause-stopped g c = on_any_err c.from_residual.result (λ answers.
+    given_more g.met.I.Source.gives_both refl c.loop-turn.invariant.taken c.in-Some.ensures.bytes (c.in_err-take_chunk-in-Some.ensures.stopped answers c.args.output.now))
 
 pub returns-in-None-clause-stopped : goal.returns-in-None-clause-stopped
-returns-in-None-clause-stopped g c = λ answers. stopped_here g.I.Source.gives g.met.I.Source.gives_both g.O.Sink.takes g.met.O.Sink.takes_nothing g.met.O.Sink.takes_both (AllowsTask c.args.task) answers
-    _ _ _ _ _ (given_no_more g.I.Source.gives g.met.I.Source.gives_both _ _ _ _ c.loop-turn.invariant.taken c.in-None.ensures.bytes)
+returns-in-None-clause-stopped g c =
+    λ answers. stopped_here g.met.I.Source.gives_both g.O.Sink.takes g.met.O.Sink.takes_nothing g.met.O.Sink.takes_both
+    (AllowsTask c.args.task) answers _ _ _
+    (given_no_more g.met.I.Source.gives_both c.loop-turn.invariant.taken c.in-None.ensures.bytes)
 
 pub loop-turn-preserved : goal.loop-turn-preserved
 loop-turn-preserved g c = record {
-  taken = given_more g.I.Source.gives g.met.I.Source.gives_both _ _ _ _ _ _ _ refl c.loop-turn.invariant.taken c.in-Some.ensures.bytes (c.in_ok-take_chunk-in-Some.ensures.goes_on c.args.output.now);
+  taken = given_more g.met.I.Source.gives_both refl c.loop-turn.invariant.taken c.in-Some.ensures.bytes (c.in_ok-take_chunk-in-Some.ensures.goes_on c.args.output.now);
   calls = c.in-Some.ensures.counted ∙ ap (λ n. n + 1) c.loop-turn.invariant.calls;
   input_fine = c.in-Some.ensures.failed;
   input_open = search rules;
@@ -26,5 +28,6 @@ loop-turn-preserved g c = record {
 }
 
 pub returns-clause-stopped : goal.returns-clause-stopped
-returns-clause-stopped g c = λ answers. stopped_here g.I.Source.gives g.met.I.Source.gives_both g.O.Sink.takes g.met.O.Sink.takes_nothing g.met.O.Sink.takes_both (AllowsTask c.args.task) answers
-    _ c.loop-turn.input _ _ c.loop-turn.batch c.loop-turn.invariant.taken
+returns-clause-stopped g c =
+    λ answers. stopped_here g.met.I.Source.gives_both g.O.Sink.takes g.met.O.Sink.takes_nothing g.met.O.Sink.takes_both
+    (AllowsTask c.args.task) answers _ _ c.loop-turn.batch c.loop-turn.invariant.taken

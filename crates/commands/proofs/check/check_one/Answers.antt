@@ -5,10 +5,10 @@ use Rattle.commands.proofs.RunLemmas.{ran_if_any_by_telling, ran_if_any_unwritte
 use Rattle.commands.proofs.check.check_one.Goals as goal
 
 pub returns-in-Err-Memory-clause-ran : goal.returns-in-Err-Memory-clause-ran
-returns-in-Err-Memory-clause-ran g c = ran_if_any_unwritten g.I.Source g.O.Sink _ _ _ _ _ _ (omega arith) (g.met.I.Source.gives_nothing c.args.input.now) (g.met.O.Sink.takes_nothing c.args.output.now)
+returns-in-Err-Memory-clause-ran g c = ran_if_any_unwritten _ (omega arith) (g.met.I.Source.gives_nothing c.args.input.now) (g.met.O.Sink.takes_nothing c.args.output.now)
 
 pub returns-in-Err-clause-ran : goal.returns-in-Err-clause-ran
 returns-in-Err-clause-ran g c =
     let other : c.in-Err.fault ≢ Memory = search rules in
-    ran_if_any_by_telling g.I.Source g.O.Sink _ _ _ _ _ _ (g.met.I.Source.gives_nothing c.args.input.now)
-    (λ input answer told. refused_id _ _ _ c.in-Err.fault _ other c.in-Err.ensures.fault told) c.refuse.ensures.answer
+    ran_if_any_by_telling _ (g.met.I.Source.gives_nothing c.args.input.now)
+    (λ input answer told. refused_id _ other c.in-Err.ensures.fault told) c.refuse.ensures.answer

@@ -14,8 +14,8 @@ statuses : (g : Game) (id : Text) (budget : ℕ) (traced : Bool) (solved graded 
     → AllowsSolve (game_of g) budget id solved → AllowsGrade (game_of g) id budget traced graded → GoesAlong graded.status solved.status
 statuses g id budget traced solved graded =
     let of = (game_of g).game in
-    both_answers (laws_of g).reading _ _ (λ x y. GoesAlong y.status x.status) id solved graded refusals_along
-    (λ p s a b. status_alike traced _ _ _ solved graded _ _ (goes_along (of.sets p) (of.rules p) (of.solves p) budget a.right b.right) b.said a.said)
+    both_answers (laws_of g).reading (λ x y. GoesAlong y.status x.status) id solved graded refusals_along
+    (λ p s a b. status_alike _ _ (goes_along (of.sets p) (of.rules p) (of.solves p) budget a.right b.right) b.said a.said)
 
 enough : (g : Game) (id : Text) (budget : ℕ) (traced : Bool) (graded : Answer) → AllowsGrade (game_of g) id budget traced graded → graded.status ≡ 0 → IsOneWithEnough g id
 enough g id budget traced graded allowed fine =
@@ -26,8 +26,8 @@ rule_sets : (g : Game) (id : Text) (budget : ℕ) (traced : Bool) (solved graded
     → AllowsSolve (game_of g) 0 id solved → AllowsGrade (game_of g) id budget traced graded → NamesRules graded ↔ (solved.status ≡ 0)
 rule_sets g id budget traced solved graded =
     let of = (game_of g).game in
-    both_answers (laws_of g).reading _ _ (λ x y. NamesRules y ↔ (x.status ≡ 0)) id solved graded refusals_apart
-    (λ p s a b. named_alike traced _ _ _ solved graded _ (of.rules p) ((laws_of g).searched id p s).lawful ((laws_of g).named id p s budget) b.said a.said)
+    both_answers (laws_of g).reading (λ x y. NamesRules y ↔ (x.status ≡ 0)) id solved graded refusals_apart
+    (λ p s a b. named_alike _ _ ((laws_of g).searched id p s).lawful ((laws_of g).named id p s budget) b.said a.said)
 
 pub returns-clause-statuses : goal.returns-clause-statuses
 returns-clause-statuses c = statuses

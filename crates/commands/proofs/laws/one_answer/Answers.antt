@@ -17,15 +17,15 @@ use Rattle.commands.proofs.laws.one_answer.Goals as goal
 
 checking : (game : Game) (id input : Text) → HasOneAnswer (AllowsCheck (game_of game) id input)
 checking game id input =
-    id_once (laws_of game).reading id _ (λ p s.
+    id_once (laws_of game).reading id (λ p s.
     let checked = (laws_of game).checked id p s in
-    one_of_same _ (check_some (game_of game) p checked input) (check_same (game_of game) p checked input))
+    one_of_same (check_some (game_of game) p checked input) (check_same (game_of game) p checked input))
 
 grading : (game : Game) (id : Text) (budget : ℕ) → HasOneAnswer (AllowsGrade (game_of game) id budget false)
 grading game id budget =
     let of = (game_of game).game in
-    id_once (laws_of game).reading id _ (λ p s. grade_once (game_of game) (of.sets p) budget p
-    (listed_right (of.solves p) (of.sets p) (of.rules p) budget ((laws_of game).listed id p s) ((laws_of game).searched id p s)))
+    id_once (laws_of game).reading id (λ p s. grade_once p
+    (listed_right (of.sets p) budget ((laws_of game).listed id p s) ((laws_of game).searched id p s)))
 
 pub returns : goal.returns
 returns c = record { fixed = by; solo = solo_differs; lights = lights_differ }

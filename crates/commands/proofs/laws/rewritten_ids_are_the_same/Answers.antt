@@ -17,5 +17,6 @@ returns c = λ g id other r. record {
 }
   where
     alike : (g : Game) (id other : Text) → IsRewritten (game_of g).game id other → (allows : puzzle_of g → Answer → Type 0) (answer : Answer)
-        → AllowsId ((game_of g).game.reading id) ((game_of g).game.spells id) allows answer ↔ AllowsId ((game_of g).game.reading other) ((game_of g).game.spells other) allows answer
+        → AllowsId ((game_of g).game.reading id) ((game_of g).game.spells id) allows answer
+        ↔ AllowsId ((game_of g).game.reading other) ((game_of g).game.spells other) allows answer
     alike g id other r = answered_alike (game_of g).game (laws_of g).reading (laws_of g).again id other r

@@ -10,8 +10,8 @@ use Rattle.commands.proofs.laws.solved_grids_pass.Goals as goal
 goes : (game : Game) (id input : Text) (budget : ℕ) (given solved : Answer)
     → AllowsCheck (game_of game) id input given → AllowsSolve (game_of game) budget id solved → GoesWith input given solved
 goes game id input budget given solved =
-    both_answers (laws_of game).reading _ _ (GoesWith input) id given solved (refusals_go input)
-    (λ p s a b. goes_with (game_of game) p budget input given solved ((laws_of game).checked id p s) a b)
+    both_answers (laws_of game).reading (GoesWith input) id given solved (refusals_go input)
+    (λ p s a b. goes_with p given solved ((laws_of game).checked id p s) a b)
 
 pub returns-clause-pass : goal.returns-clause-pass
 returns-clause-pass c = λ game id budget solved. passed (game_of game) (laws_of game).reading (laws_of game).checked id budget solved

@@ -9,5 +9,5 @@ both (Err e) p q f = tt
 
 pub returns : goal.returns
 returns g c = both c.verdict_reply.result c.verdict_reply.ensures.answer c.verdict_reply.ensures.right (λ r told right.
-    solved_of _ c.args.budget c.args.puzzle.now _ _
+    solved_of _
     (c.requires.means _ ∙ c.in_ok-rules.ensures.made) c.in_ok-rules.ensures.solutions told right)

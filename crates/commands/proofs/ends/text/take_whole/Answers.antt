@@ -3,7 +3,7 @@ use Rattle.commands.proofs.BatchLemmas.{given_no_more}
 use Rattle.commands.proofs.ends.text.take_whole.Goals as goal
 
 pub returns-in-Some-eq0-clause-taken : goal.returns-in-Some-eq0-clause-taken
-returns-in-Some-eq0-clause-taken g c = given_no_more g.I.Source.gives g.met.I.Source.gives_both _ _ _ _ c.loop-turn.invariant.kept
+returns-in-Some-eq0-clause-taken g c = given_no_more g.met.I.Source.gives_both c.loop-turn.invariant.kept
     (subst (λ (n : ℕ). g.I.Source.gives c.loop-turn.input (take n c.fetch.new.buffer) c.fetch.new.self) c.in-Some-eq0.field-0-test c.in-Some-eq0.ensures.bytes)
 
 pub returns-in-Some-eq0-clause-read : goal.returns-in-Some-eq0-clause-read

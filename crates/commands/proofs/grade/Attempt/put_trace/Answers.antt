@@ -8,14 +8,14 @@ use Rattle.commands.proofs.GradeLemmas.{is_traced, untraced}
 use Rattle.commands.proofs.grade.Attempt.put_trace.Goals as goal
 
 pub returns-then-not-self-clause-put : goal.returns-then-not-self-clause-put
-returns-then-not-self-clause-put g c = untraced g.O.Sink.takes _ _ _ _ _ (g.met.O.Sink.takes_nothing _) (not-true _ c.if-not-self.true)
+returns-then-not-self-clause-put g c = untraced _ (g.met.O.Sink.takes_nothing _) (not-true _ c.if-not-self.true)
 
 pub returns-in_err-push_sweeps-in-Sweep-clause-begun : goal.returns-in_err-push_sweeps-in-Sweep-clause-begun
 returns-in_err-push_sweeps-in-Sweep-clause-begun g c =
     let mode : (g.R.Rules.system c.args.rules.now).by_queue ≡ false = g.met.R.Rules.mode_is _ ∙ ap is_queue (sym c.MODE.ensures ∙ c.in-Sweep.is) in
-    on_any_err c.from_residual.result _ (record {
+    on_any_err c.from_residual.result (record {
       lines = sweeps_text c.sweeps.result;
-      trace = is_traced _ false _ _ _ (not-false _ c.if-not-self.false) mode (record { sweeps = c.sweeps.result; closing = search (rules, mode); said = refl });
+      trace = is_traced _ _ _ _ (not-false _ c.if-not-self.false) mode (record { sweeps = c.sweeps.result; closing = search (rules, mode); said = refl });
       begun = record { done = []; took = g.met.O.Sink.takes_nothing _; begun = (_, refl) };
     })
 
@@ -24,7 +24,7 @@ returns-in_ok-push_sweeps-in-Sweep-clause-put g c =
     let mode : (g.R.Rules.system c.args.rules.now).by_queue ≡ false = g.met.R.Rules.mode_is _ ∙ ap is_queue (sym c.MODE.ensures ∙ c.in-Sweep.is) in
     record {
       lines = sweeps_text c.sweeps.result;
-      trace = is_traced _ false _ _ _ (not-false _ c.if-not-self.false) mode (record { sweeps = c.sweeps.result; closing = search (rules, mode); said = refl });
+      trace = is_traced _ _ _ _ (not-false _ c.if-not-self.false) mode (record { sweeps = c.sweeps.result; closing = search (rules, mode); said = refl });
       put = record { done = []; took = g.met.O.Sink.takes_nothing _; split = sym c.in_ok-push_sweeps-in-Sweep.ensures };
     }
 
@@ -33,7 +33,7 @@ returns-in-Queue-clause-put g c =
     let mode : (g.R.Rules.system c.args.rules.now).by_queue ≡ true = g.met.R.Rules.mode_is _ ∙ ap is_queue (sym c.MODE.ensures ∙ c.in-Queue.is) in
     on_ok_weaker c.put_visits.result (λ put. record {
       lines = visits_text (g.P.Played.game.visit_name c.args.puzzle.now) c.trace.result.now;
-      trace = is_traced _ true _ _ _ (not-false _ c.if-not-self.false) mode (record { visits = c.trace.result.now; closing = search (rules, mode); said = refl });
+      trace = is_traced _ _ _ _ (not-false _ c.if-not-self.false) mode (record { visits = c.trace.result.now; closing = search (rules, mode); said = refl });
       put = put;
     }) c.put_visits.ensures.ok
 
@@ -42,6 +42,6 @@ returns-in-Queue-clause-begun g c =
     let mode : (g.R.Rules.system c.args.rules.now).by_queue ≡ true = g.met.R.Rules.mode_is _ ∙ ap is_queue (sym c.MODE.ensures ∙ c.in-Queue.is) in
     on_err_weaker c.put_visits.result (λ begun. record {
       lines = visits_text (g.P.Played.game.visit_name c.args.puzzle.now) c.trace.result.now;
-      trace = is_traced _ true _ _ _ (not-false _ c.if-not-self.false) mode (record { visits = c.trace.result.now; closing = search (rules, mode); said = refl });
+      trace = is_traced _ _ _ _ (not-false _ c.if-not-self.false) mode (record { visits = c.trace.result.now; closing = search (rules, mode); said = refl });
       begun = begun;
     }) c.put_visits.ensures.err

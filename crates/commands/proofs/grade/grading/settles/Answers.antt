@@ -8,5 +8,5 @@ pub returns-clause-one : goal.returns-clause-one
 returns-clause-one g c = λ settled.
     let rules = g.R.Rules.system c.args.rules.now in
     let lawful = g.met.R.Rules.lawful c.args.rules.now in
-    settled_has_one rules (walk-unfold rules 0 rules.start lawful.start_within) (found_iff rules lawful)
+    settled_has_one (walk-unfold rules 0 rules.start lawful.start_within) (found_iff rules lawful)
     (sym c.settles.ensures.settled ∙ settled)

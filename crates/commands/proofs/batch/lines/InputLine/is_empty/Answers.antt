@@ -6,4 +6,4 @@ pub returns : goal.returns
 returns c = λ piece h.
     let kept = c.args.self.now.kept in
     let same : vec_len kept ≡ length kept.items = omega (arith, kept.ok.0) in
-    c.is_empty.ensures ∙ ap (λ n. n == 0) same ∙ line_empty _ (omega arith) _ piece h
+    c.is_empty.ensures ∙ ap (λ n. n == 0) same ∙ line_empty (omega arith) h
