@@ -24,7 +24,8 @@ use gameid_core::{Game, IdFault, Printed, SoloPuzzle, read_size, read_solo, writ
 use grid_core::Grid;
 use maker_core::{Made, make_solo};
 use solo_core::{
-    SoloCrossings, SoloFault, NamedHouse, SoloHouses, VisitName, SoloSingles, check_solo, visit_name,
+    NamedHouse, SoloCrossings, SoloFault, SoloHouses, SoloSingles, VisitName, check_solo,
+    visit_name,
 };
 use std::alloc::{AllocError, Global};
 
