@@ -66,10 +66,12 @@ module _ {A : Type 0} (make : Making A) (passes : A → Bool) (s : Stream) (trie
           → ((k : ℕ) × IsFirstPassing make passes s (suc n) k) ⊎ NonePasses make passes s (suc n)
       by (inl (k, first)) b is = inl (k, record { within = let low = first.within in omega arith; passing = first.passing; failing = first.failing })
       by (inr none) true is = inl (n, record { within = omega arith; passing = is; failing = none.failing })
-      by (inr none) false is = inr (record { failing = λ j lt. elim (cases_eq j n) [
-        | inl e ↦ subst (λ i. passes (filling_at make i s) ≡ false) (sym e) is
-        | inr ne ↦ none.failing j (omega arith)
-      ] })
+      by (inr none) false is = inr (record {
+        failing = λ j lt. elim (cases_eq j n) [
+          | inl e ↦ subst (λ i. passes (filling_at make i s) ≡ false) (sym e) is
+          | inr ne ↦ none.failing j (omega arith)
+        ];
+      })
 
   pub first_or_none : ((k : ℕ) × IsFirstPassing make passes s tries k) ⊎ NonePasses make passes s tries
   first_or_none = first_below tries
