@@ -9,7 +9,7 @@ ghost use Rattle.core_tests.specs.Neighbours.{neighbours, differ};
 ghost use Rattle.engine_core.specs.declared.mode.Mode.TheVariants.{Queue};
 
 use engine_core::{
-    Mode, Propagators, Rules, Searchable, TrailPosition, apply, gather, has_bit, mark_if,
+    Mode, Propagators, Rules, Searchable, TrailPosition, apply, gather, has_bit, enqueue_if,
 };
 use grid_core::{Board, Grid};
 use std::alloc::{AllocError, Global};
@@ -190,8 +190,8 @@ impl Propagators for Neighbours {
     }
 
     fn wake(&self, place: usize, _counts: &(), waits: &mut [u64]) {
-        mark_if(waits, place.saturating_sub(1), place > 0);
-        mark_if(waits, place, place + 1 < self.cells);
+        enqueue_if(waits, place.saturating_sub(1), place > 0);
+        enqueue_if(waits, place, place + 1 < self.cells);
     }
 }
 
