@@ -58,7 +58,7 @@ pub use Rattle.engine_core.specs.HouseList.{FitsLists, FitsPlaces, IsGrown, IsLi
 pub use Rattle.engine_core.specs.HouseRulesLaws.{bound_enough, by_houses-lawful, counted_twice, from_first}
 pub use Rattle.engine_core.specs.Keeping.{AreSetsOf, IsKept}
 pub use Rattle.engine_core.specs.PlaceLaws.{has_place-at, has_place-here}
-pub use Rattle.engine_core.specs.Position.{IsMarked, IsOnward, IsReturned, IsTaken, Standing}
+pub use Rattle.engine_core.specs.Position.{IsCheckpoint, IsOnward, IsReturned, IsTaken, Standing}
 pub use Rattle.engine_core.specs.RuleSystem.{FitsIn, IsBoardOf, IsClosed, IsGridOf, IsIdle, IsInsideAt, IsLawful, IsNext, Needs, RuleSystem, needs_of}
 unfoldable pub use Rattle.engine_core.specs.RuleSystem.{after, has_place, longest, share}
 pub use Rattle.engine_core.specs.Queue.{IsClosedBut, IsRested, IsSweep, IsWoken, are_emptied, called_for, calls, empties}

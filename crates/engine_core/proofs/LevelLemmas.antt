@@ -1,5 +1,5 @@
 -- The levels of a search: what its frames and its marks say of the boards that are open.
-use Rattle.engine_core.proofs.Common.{Candidates, IsFewest, IsLawful, IsMarked, IsNext, IsOnward, IsOpen, IsReady, IsReturned, IsTrial, Level}
+use Rattle.engine_core.proofs.Common.{Candidates, IsFewest, IsLawful, IsCheckpoint, IsNext, IsOnward, IsOpen, IsReady, IsReturned, IsTrial, Level}
 use Rattle.engine_core.proofs.Common.{List, Mark.Trial, None, RuleSystem, Some, Standing, add-one, ap, arith, cases_eq, common_steps, frame_at}
 use Rattle.engine_core.proofs.Common.{get_or-set_other, get_or-set_same, length, length-set, level_at, levels_of, only, only-inside, pending}
 use Rattle.engine_core.proofs.Common.{pending_in, refl, set, subst, suc, sym, walk, zero, ℕ, ◌++◌, ◌+◌, ◌-◌, ◌<◌, ◌∙◌, ◌∷◌, ◌≡◌, ◌≢◌}
@@ -43,12 +43,12 @@ pub ready-onward : {p : RuleSystem} {s s' : Standing} {frames : List Frame} {n :
 ready-onward ready onward = grind (arith, common_steps)
 
 -- ---- a frame is pushed, and its level marked: it is the innermost level, and the others stay
-pub levels-push : {s s' : Standing} (frames : List Frame) {n cell : ℕ} → n < length frames → IsMarked s s' n
+pub levels-push : {s s' : Standing} (frames : List Frame) {n cell : ℕ} → n < length frames → IsCheckpoint s s' n
     → levels_of s' (set frames n (record { cell = cell; next = 0 })) (n + 1) ≡ record { board = s.board; cell = cell; next = 0 } ∷ levels_of s frames n
 unfolding levels_of
 levels-push frames lt m = grind (arith, common_steps, add-one, frame_at-here, frame_at-other, level-with, levels-same)
 
-pub ready-push : {p : RuleSystem} {s s' : Standing} {frames : List Frame} {n cell : ℕ} → IsReady p s frames n → n < length frames → IsMarked s s' n → IsOpen p (record { board = s.board; cell = cell; next = 0 }) n
+pub ready-push : {p : RuleSystem} {s s' : Standing} {frames : List Frame} {n cell : ℕ} → IsReady p s frames n → n < length frames → IsCheckpoint s s' n → IsOpen p (record { board = s.board; cell = cell; next = 0 }) n
     → IsReady p s' (set frames n (record { cell = cell; next = 0 })) (n + 1)
 ready-push ready lt m opened = grind (arith, common_steps, cases_eq, frame_at-here, frame_at-other, length-set, level-with)
 

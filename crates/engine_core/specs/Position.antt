@@ -20,7 +20,7 @@ pub record IsOnward (from to : Standing) : Type 0 where
   pub back : (level : ℕ) → level < from.marks → to.back level ≡ from.back level
 
 -- this level has the last mark, which gives back the board, and each before gives back the same
-pub record IsMarked (from to : Standing) (level : ℕ) : Type 0 where
+pub record IsCheckpoint (from to : Standing) (level : ℕ) : Type 0 where
   pub same : to.board ≡ from.board
   pub marks : to.marks ≡ level + 1
   pub here : to.back level ≡ from.board

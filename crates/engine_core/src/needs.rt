@@ -8,7 +8,7 @@ use crate::rules::Rules;
 
 /// What memory is taken for.
 #[derive(Clone, Copy)]
-pub(crate) struct Needed {
+pub(crate) struct Needs {
     pub cells: usize,
     pub values: u8,
     pub houses: usize,
@@ -17,10 +17,10 @@ pub(crate) struct Needed {
 }
 
 /// What the rules need memory for.
-pub(crate) fn needs<R: Rules>(rules: &R) -> Needed
+pub(crate) fn needs_for<R: Rules>(rules: &R) -> Needs
     ensures { needs_in result ≡ needs_of (R.system rules.now) }
 {
-    Needed {
+    Needs {
         cells: rules.cells(),
         values: rules.values(),
         houses: rules.houses(),

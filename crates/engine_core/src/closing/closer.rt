@@ -13,7 +13,7 @@ ghost use Rattle.engine_core.specs.Closer.{IsVisited, SameRoom};
 use crate::closing::marking::mark_changed;
 use crate::houses::visit::read_head;
 use crate::mode::Closing;
-use crate::needs::{Needed, needs};
+use crate::needs::{Needs, needs_for};
 use crate::rules::{Rules, by_queue};
 use crate::trail::cells::write_grid;
 use crate::waits::{dequeue, dequeue_if, words_for};
@@ -39,7 +39,7 @@ pub(crate) struct Closed {
 /// A board, and what it takes to close it: what the rules work in, room for the sets that a house's cells had before its
 /// visit, a mark for each house that waits, and in a queue room for the houses visited.
 pub(crate) struct Closer<R: Rules> {
-    made: Needed,
+    made: Needs,
     scratch: R::Scratch,
     sets: Vec<u32>,
     pub(crate) waits: Vec<u64>,
@@ -87,7 +87,7 @@ impl<R: Rules> Closer<R> {
     pub(crate) fn new(alloc: Global, rules: &R) -> Result<Closer<R>, AllocError>
         ensures { IfOk result (λ closer. closer.made ≡ needs_of (R.system rules.now)) }
     {
-        let made = needs(rules);
+        let made = needs_for(rules);
         let trace = if by_queue::<R>() { made.bound } else { 0 };
         Ok(Closer {
             made,
@@ -100,7 +100,7 @@ impl<R: Rules> Closer<R> {
     }
 
     /// What the memory was taken for.
-    pub(crate) fn made(&self) -> Needed
+    pub(crate) fn made(&self) -> Needs
         ensures { needs_in result ≡ self.now.made }
     {
         self.made

@@ -18,7 +18,7 @@ pub(crate) struct Grids {
 
 /// What a closed board is.
 #[derive(Clone, Copy)]
-pub(crate) enum Judged {
+pub(crate) enum Judgement {
     /// It has no solution.
     Nothing,
     /// Its grid is a solution.
@@ -33,7 +33,7 @@ pub(crate) fn judge<P: Position>(
     position: &mut P,
     at: Progress,
     grids: &mut Grids,
-) -> Judged
+) -> Judgement
     requires walks { P.walks rules.now position.old }
     requires alive { IsAlive (P.system rules.now) (P.stands position.old).board }
     requires from_in { at.from ≤ (P.system rules.now).cells }
@@ -49,7 +49,7 @@ pub(crate) fn judge<P: Position>(
     ensures room { P.room position.new ≡ P.room position.old }
 {
     if let Some(cell) = position.pick(rules, at.from) {
-        return Judged::Split(cell);
+        return Judgement::Split(cell);
     }
     let solved = if at.found {
         position.accept(rules, &mut grids.second)
@@ -57,7 +57,7 @@ pub(crate) fn judge<P: Position>(
         position.accept(rules, &mut grids.first)
     };
     if solved {
-        return Judged::Solved;
+        return Judgement::Solved;
     }
-    Judged::Nothing
+    Judgement::Nothing
 }

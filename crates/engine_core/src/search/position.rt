@@ -5,7 +5,7 @@ ghost use Rattle.grid_core.specs.Candidates.{IsWithin, count_below, grid_of, is_
 ghost use Rattle.engine_core.specs.RuleSystem.{RuleSystem, IsLawful, IsNext, Needs, needs_of, FitsIn};
 ghost use Rattle.engine_core.specs.Queue.{IsClosedBut};
 ghost use Rattle.engine_core.specs.Counts.{IsClosedIn};
-ghost use Rattle.engine_core.specs.Position.{Standing, IsOnward, IsMarked, IsReturned, IsTaken};
+ghost use Rattle.engine_core.specs.Position.{Standing, IsOnward, IsCheckpoint, IsReturned, IsTaken};
 
 use crate::mode::Closing;
 use grid_core::Grid;
@@ -99,11 +99,11 @@ pub trait Position: Drop + Sized {
         ensures room { room self.new ≡ room self.old };
 
     /// Marks the board for this level. The levels outside it have marks; those inside lose theirs.
-    fn mark(&mut self, rules: &Self::Game, level: usize)
+    fn checkpoint(&mut self, rules: &Self::Game, level: usize)
         requires walks { walks rules.now self.old }
         requires level_in { level < (system rules.now).cells }
         requires outer { level ≤ (stands self.old).marks }
-        ensures marked { IsMarked (stands self.old) (stands self.new) level }
+        ensures marked { IsCheckpoint (stands self.old) (stands self.new) level }
         ensures walks { walks rules.now self.new }
         ensures room { room self.new ≡ room self.old };
 

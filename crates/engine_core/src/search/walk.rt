@@ -8,7 +8,7 @@ ghost use Rattle.engine_core.specs.Queue.{IsClosedBut};
 ghost use Rattle.engine_core.specs.Frames.{AreReady, singles, AreGrids, CountsClosing, SameMarks, searched_at, Searches, IsWalked};
 
 use crate::mode::Closing;
-use crate::search::judge::{Grids, Judged, judge};
+use crate::search::judge::{Grids, Judgement, judge};
 use crate::search::levels::{Frame, Levels};
 use crate::search::position::Position;
 
@@ -82,15 +82,15 @@ fn descend<P: Position>(
     match taken.closing {
         Closing::Dead => Progress { turns, ..at },
         Closing::Open => match judge(rules, position, at, grids) {
-            Judged::Nothing => Progress { turns, ..at },
-            Judged::Solved => Progress {
+            Judgement::Nothing => Progress { turns, ..at },
+            Judgement::Solved => Progress {
                 turns,
                 found: true,
                 has_second: at.found,
                 ..at
             },
-            Judged::Split(cell) => {
-                position.mark(rules, levels.depth);
+            Judgement::Split(cell) => {
+                position.checkpoint(rules, levels.depth);
                 levels.frames[levels.depth] = Frame { cell, next: 0 };
                 levels.depth += 1;
                 Progress { turns, ..at }

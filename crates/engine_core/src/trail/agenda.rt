@@ -9,7 +9,7 @@ ghost use Rattle.engine_core.specs.Waiting.{words_of, is_waiting, AreCalled};
 ghost use Rattle.engine_core.specs.TrailPosition.{AllAreCalled, WaitsFrom};
 
 use crate::trail::propagators::Propagators;
-use crate::trail::trailed::Trailed;
+use crate::trail::trailed::TrailedBoard;
 use crate::waits::enqueue;
 
 /// Marks all houses, but for those that strike nothing.
@@ -50,7 +50,7 @@ pub(crate) fn wait_from<R: Propagators>(
 /// Marks the houses of each cell that the trail names from the number `from` on, but for those that strike nothing.
 pub(crate) fn wake_since<R: Propagators>(
     rules: &R,
-    trailed: &Trailed,
+    trailed: &TrailedBoard,
     from: usize,
     counts: &R::Counts,
     waits: &mut [u64],
@@ -63,7 +63,7 @@ pub(crate) fn wake_since<R: Propagators>(
         (is_since (R.system rules.now) trailed.now from trailed.now.len)
         (is_waiting waits.old) (is_waiting waits.new) }
 {
-    for number in from..trailed.mark() {
+    for number in from..trailed.len() {
         rules.wake(trailed.changed(number), counts, waits);
     }
 }

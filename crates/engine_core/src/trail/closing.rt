@@ -63,7 +63,7 @@ impl<R: Propagators> TrailPosition<R> {
         if !filter_house(rules, house, board, &mut self.scratch, sets, kept) {
             return false;
         }
-        let before = self.trailed.mark();
+        let before = self.trailed.len();
         let cells = rules.scope_len(house);
         let (sets, kept) = (&self.sets[..cells], &self.kept[..cells]);
         if self

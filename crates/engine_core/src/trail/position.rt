@@ -9,13 +9,13 @@ ghost use Rattle.engine_core.specs.TrailPosition.{IsUnderWay, standing_of};
 ghost use Rattle.engine_core.specs.Waiting.{words_of};
 
 use crate::mode::Closing;
-use crate::needs::{Needed, needs};
+use crate::needs::{Needs, needs_for};
 use crate::rules::by_queue;
 use crate::search::position::{Position, Taken};
 use crate::trail::agenda::wait_from;
 use crate::trail::cells::{has_empty_cell, next_value, pick_cell, write_grid};
 use crate::trail::propagators::Propagators;
-use crate::trail::trailed::Trailed;
+use crate::trail::trailed::TrailedBoard;
 use crate::waits::words_for;
 use grid_core::Grid;
 use std::alloc::{AllocError, Global};
@@ -25,13 +25,13 @@ use std::marker::Model;
 /// the rules work in and what they count, room for the sets of a house's cells and for what is kept of them, and a mark for
 /// each house that waits.
 pub struct TrailPosition<R: Propagators> {
-    pub(crate) made: Needed,
+    pub(crate) made: Needs,
     pub(crate) scratch: R::Scratch,
     pub(crate) counts: R::Counts,
     pub(crate) sets: Vec<u32>,
     pub(crate) kept: Vec<u32>,
     pub(crate) waits: Vec<u64>,
-    pub(crate) trailed: Trailed,
+    pub(crate) trailed: TrailedBoard,
     marks: Vec<usize>,
     marked: usize,
 }
@@ -39,7 +39,7 @@ pub struct TrailPosition<R: Propagators> {
 /// The board and the lists of a position.
 #[derive(Drop)]
 struct Room {
-    trailed: Trailed,
+    trailed: TrailedBoard,
     sets: Vec<u32>,
     kept: Vec<u32>,
     waits: Vec<u64>,
@@ -52,7 +52,7 @@ impl Room {
     /// # Errors
     ///
     /// When memory was refused.
-    fn new(alloc: Global, made: Needed) -> Result<Room, AllocError>
+    fn new(alloc: Global, made: Needs) -> Result<Room, AllocError>
         requires few_cells { made.cells ≤ max_cells }
         requires some { 1 ≤ made.values }
         requires few { made.values ≤ max_values }
@@ -64,7 +64,7 @@ impl Room {
         ensures marks { IfOk result (λ room. length room.marks.items ≡ made.cells) }
     {
         Ok(Room {
-            trailed: Trailed::new(alloc, made.cells, made.values)?,
+            trailed: TrailedBoard::new(alloc, made.cells, made.values)?,
             sets: vec![in alloc; 0u32; made.scope]?,
             kept: vec![in alloc; 0u32; made.scope]?,
             waits: vec![in alloc; 0u64; words_for(made.houses)]?,
@@ -121,7 +121,7 @@ impl<R: Propagators> Position for TrailPosition<R> {
     ghost walks = { λ rules s. IsUnderWay (R.system rules) (R.follows rules) s };
 
     fn new(alloc: Global, rules: &R) -> Result<TrailPosition<R>, AllocError> {
-        let made = needs(rules);
+        let made = needs_for(rules);
         let scratch = rules.scratch(alloc)?;
         let counts = rules.counts(alloc)?;
         let room = Room::new(alloc, made)?;
@@ -179,8 +179,8 @@ impl<R: Propagators> Position for TrailPosition<R> {
         self.trailed.assign(rules, cell, value, &mut self.counts);
     }
 
-    fn mark(&mut self, _rules: &R, level: usize) {
-        self.marks[level] = self.trailed.mark();
+    fn checkpoint(&mut self, _rules: &R, level: usize) {
+        self.marks[level] = self.trailed.len();
         self.marked = level + 1;
     }
 

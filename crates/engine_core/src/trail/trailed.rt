@@ -18,13 +18,13 @@ use std::marker::Model;
 
 /// A board and its trail: the cells that changed, in four bytes each, and their sets.
 #[derive(Drop)]
-pub(crate) struct Trailed {
+pub(crate) struct TrailedBoard {
     board: Board,
     changes: Vec<(u32, u32)>,
     len: usize,
 }
 
-impl Model for Trailed {
+impl Model for TrailedBoard {
     ghost use Rattle.grid_core.specs.Board.{has, cells_of};
     ghost use Rattle.engine_core.specs.Trail.{Trail, IsTrail};
 
@@ -36,20 +36,20 @@ impl Model for Trailed {
         t.changes.items t.len };
 }
 
-impl Trailed {
+impl TrailedBoard {
     /// A full board of so many cells and values, with room for each change that can come.
     ///
     /// # Errors
     ///
     /// When memory was refused.
-    pub(crate) fn new(alloc: Global, cells: usize, values: u8) -> Result<Trailed, AllocError>
+    pub(crate) fn new(alloc: Global, cells: usize, values: u8) -> Result<TrailedBoard, AllocError>
         requires few_cells { cells ≤ max_cells }
         requires some { 1 ≤ values }
         requires few { values ≤ max_values }
         ensures cells { IfOk result (λ trailed. cells_of trailed.board ≡ cells) }
         ensures values { IfOk result (λ trailed. trailed.board.values ≡ values) }
     {
-        Ok(Trailed {
+        Ok(TrailedBoard {
             board: Board::new(alloc, cells, values)?,
             changes: vec![in alloc; (0u32, 0u32); cells * usize::from(values)]?,
             len: 0,
@@ -70,8 +70,8 @@ impl Trailed {
         self.changes.len()
     }
 
-    /// A mark to go back to: the board as it is now.
-    pub(crate) fn mark(&self) -> usize
+    /// How many changes were noted: to go back to this many is to go back to the board as it is now.
+    pub(crate) fn len(&self) -> usize
         ensures len { result ≡ self.now.len }
         ensures here { back_at self.now result ≡ has self.now.board }
     {

@@ -21,8 +21,8 @@ opened g c =
     let j = c.in-Split.ensures.judged in
     split-room c.close-taken.ensures.onward.inside c.requires.single j.0 j.2 (g.met.P.Position.within c.args.rules.now c.args.position.now c.requires.walks) (c.close-taken.ensures.taken.left c.in-Open.is)
 
-pub mark-requires-clause-level_in : goal.mark-requires-clause-level_in
-mark-requires-clause-level_in g c = open-room (opened g (goal.at.mark-requires-clause-level_in g c).In-Split)
+pub checkpoint-requires-clause-level_in : goal.checkpoint-requires-clause-level_in
+checkpoint-requires-clause-level_in g c = open-room (opened g (goal.at.checkpoint-requires-clause-level_in g c).In-Split)
 
 pub index_mut-requires : goal.index_mut-requires
 index_mut-requires g c =
@@ -52,14 +52,14 @@ pub returns-in-Split-clause-marks : goal.returns-in-Split-clause-marks
 returns-in-Split-clause-marks g c =
     let d = descent g (goal.at.returns-in-Split-clause-marks g c).After-close-taken in
     let room = open-room (opened g (goal.at.returns-in-Split-clause-marks g c).In-Split) in
-    let next = descend-split c.args.grids.now.first d (c.close-taken.ensures.taken.left c.in-Open.is) _ _ c.in-Split.ensures.judged (omega (arith, c.requires.ready.room)) (rw c.in-Split.ensures.same at c.mark.ensures.marked) in
+    let next = descend-split c.args.grids.now.first d (c.close-taken.ensures.taken.left c.in-Open.is) _ _ c.in-Split.ensures.judged (omega (arith, c.requires.ready.room)) (rw c.in-Split.ensures.same at c.checkpoint.ensures.marked) in
     found-none _ _ c.requires.going c.in-Split.ensures.kept next
 
 pub returns-in-Split-clause-ready : goal.returns-in-Split-clause-ready
 returns-in-Split-clause-ready g c =
     let o = opened g (goal.at.returns-in-Split-clause-ready g c).In-Split in
     let room = open-room o in
-    ready-push (ready-onward c.requires.ready c.close-taken.ensures.onward) (omega (arith, c.requires.ready.room)) (rw c.in-Split.ensures.same at c.mark.ensures.marked) o
+    ready-push (ready-onward c.requires.ready c.close-taken.ensures.onward) (omega (arith, c.requires.ready.room)) (rw c.in-Split.ensures.same at c.checkpoint.ensures.marked) o
 
 pub judge-requires-clause-none : goal.judge-requires-clause-none
 judge-requires-clause-none g c = pick-inside _ _ _ _ c.close-taken.ensures.onward.inside c.requires.none

@@ -40,7 +40,7 @@ returns-clause-step g c =
     let s = c.strike.ensures.struck c.if-strike.false in
     let v = c.self.inside.waits in
     let cleared = written-back v.len c.dequeue.new.waits (drop (length c.dequeue.new.waits) v.items) (omega (arith, v.ok.0, c.deref_mut.ensures.len, c.dequeue.auto.waits)) in
-    let called = called-same p K' _ _ _ _ (λ j lt. lost-any p _ _ _ (has_place (p.scope j)) s.lost) (rw (c.mark-before.ensures.len, c.deref_mut-waits.ensures.value, cleared) at c.wake_since.ensures.called) in
+    let called = called-same p K' _ _ _ _ (λ j lt. lost-any p _ _ _ (has_place (p.scope j)) s.lost) (rw (c.len-before.ensures.len, c.deref_mut-waits.ensures.value, cleared) at c.wake_since.ensures.called) in
     rw (← c.self.view_is) (
       s.left,
       s.alive,

@@ -1,8 +1,8 @@
 use Rattle.engine_core.proofs.Common.{arith, get_or-set_other, get_or-set_same, ◌<◌}
 use Rattle.engine_core.proofs.ChangeLemmas.{left-is}
 use Rattle.engine_core.proofs.TrailLemmas.{IsLeft, left-noted, trail-len}
-use Rattle.engine_core.proofs.trail.trailed.Trailed.leave.Goals as goal
-use Rattle.engine_core.proofs.trail.trailed.Trailed.leave.Goals.{After-retain}
+use Rattle.engine_core.proofs.trail.trailed.TrailedBoard.leave.Goals as goal
+use Rattle.engine_core.proofs.trail.trailed.TrailedBoard.leave.Goals.{After-retain}
 
 -- what the change leaves
 noted : (g : _) (c : After-retain g) → IsLeft (g.R.Rules.system c.args.rules.now) c.self.inside.board c.retain.new.self c.self.inside.changes.items c.self.inside.len c.args.place c.args.before c.args.left

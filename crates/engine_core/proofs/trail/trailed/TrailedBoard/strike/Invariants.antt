@@ -1,6 +1,6 @@
 use Rattle.engine_core.proofs.Common.{AreLost, IsFurther, StillServes, after, counts_of, has, ℕ, ◌<◌}
 use Rattle.engine_core.proofs.ScopeLemmas.{IsUpto}
-use Rattle.engine_core.proofs.trail.trailed.Trailed.strike.Given as goal
+use Rattle.engine_core.proofs.trail.trailed.TrailedBoard.strike.Given as goal
 
 abbrev pub invariant-loop-k : goal.invariant-loop-k
 invariant-loop-k g l =

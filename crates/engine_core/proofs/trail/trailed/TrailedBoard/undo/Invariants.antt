@@ -1,5 +1,5 @@
 use Rattle.engine_core.proofs.Common.{IsTrail, Needs, SameShape, back_at, cells_of, has, put_back, ℕ, ◌≡◌, ◌≤◌}
-use Rattle.engine_core.proofs.trail.trailed.Trailed.undo.Given as goal
+use Rattle.engine_core.proofs.trail.trailed.TrailedBoard.undo.Given as goal
 
 abbrev pub invariant-loop-self : goal.invariant-loop-self
 invariant-loop-self g l =

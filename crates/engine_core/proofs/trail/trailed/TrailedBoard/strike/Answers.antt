@@ -4,8 +4,8 @@ use Rattle.engine_core.proofs.LostLemmas.{lost-differ, lost-more, lost-same}
 use Rattle.engine_core.proofs.QueueLemmas.{scope-in, within_of}
 use Rattle.engine_core.proofs.ScopeLemmas.{IsUpto, upto-next, upto-cell, upto-left, upto-same, upto-all}
 use Rattle.engine_core.proofs.TrailLemmas.{further-more}
-use Rattle.engine_core.proofs.trail.trailed.Trailed.strike.Goals as goal
-use Rattle.engine_core.proofs.trail.trailed.Trailed.strike.Goals.{After-left_of-left, then-left-sets+else-left-eq0, else-left-sets}
+use Rattle.engine_core.proofs.trail.trailed.TrailedBoard.strike.Goals as goal
+use Rattle.engine_core.proofs.trail.trailed.TrailedBoard.strike.Goals.{After-left_of-left, then-left-sets+else-left-eq0, else-left-sets}
 
 -- the cell of this turn is one of the house
 in_scope : (g : _) (c : After-left_of-left g) → c.loop-k.k < length ((g.R.Rules.system c.args.rules.now).scope c.args.house)

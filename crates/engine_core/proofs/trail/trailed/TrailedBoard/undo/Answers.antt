@@ -1,7 +1,7 @@
 use Rattle.engine_core.proofs.Common.{arith, get_or_read_under, has, sym, ◌-◌, ◌∙◌}
 use Rattle.engine_core.proofs.TrailLemmas.{IsUndone, put_back-none, undone, trail-len}
-use Rattle.engine_core.proofs.trail.trailed.Trailed.undo.Goals as goal
-use Rattle.engine_core.proofs.trail.trailed.Trailed.undo.Goals.{After-cell_bits}
+use Rattle.engine_core.proofs.trail.trailed.TrailedBoard.undo.Goals as goal
+use Rattle.engine_core.proofs.trail.trailed.TrailedBoard.undo.Goals.{After-cell_bits}
 
 -- what taking the last change back leaves
 last_undone : (g : _) (c : After-cell_bits g)

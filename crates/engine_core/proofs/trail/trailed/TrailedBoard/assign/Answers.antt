@@ -1,7 +1,7 @@
 use Rattle.engine_core.proofs.Common.{IsBitsOf, arith, has, one_shl, sym, ◌%◌, ◌*◌, ◌^◌, ◌∙◌, ◌≡◌}
 use Rattle.engine_core.proofs.ChangeLemmas.{left-only, only-bits, only-other}
-use Rattle.engine_core.proofs.trail.trailed.Trailed.assign.Goals as goal
-use Rattle.engine_core.proofs.trail.trailed.Trailed.assign.Goals.{After-cell_bits-before}
+use Rattle.engine_core.proofs.trail.trailed.TrailedBoard.assign.Goals as goal
+use Rattle.engine_core.proofs.trail.trailed.TrailedBoard.assign.Goals.{After-cell_bits-before}
 
 -- the bit of the value alone
 bit : (g : _) (c : After-cell_bits-before g) → 1 * 2 ^ c.args.value % 4294967296 ≡ 2 ^ c.args.value

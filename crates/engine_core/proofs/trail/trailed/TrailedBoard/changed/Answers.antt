@@ -1,6 +1,6 @@
 use Rattle.engine_core.proofs.Common.{arith, get_or_read_under, ◌<◌}
 use Rattle.engine_core.proofs.TrailLemmas.{trail-len}
-use Rattle.engine_core.proofs.trail.trailed.Trailed.changed.Goals as goal
+use Rattle.engine_core.proofs.trail.trailed.TrailedBoard.changed.Goals as goal
 
 pub returns-clause-within : goal.returns-clause-within
 returns-clause-within c =
