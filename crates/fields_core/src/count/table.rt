@@ -15,7 +15,7 @@ ghost use Rattle.fields_core.specs.CountLists.{bounded, bounds_of};
 
 use crate::count::list::{Bounds, CountList};
 use crate::count::tally::{BOTH, Tally};
-use engine_core::{HouseTable, apply, gather, enqueue_if};
+use engine_core::{HouseTable, apply, enqueue_if, gather};
 use grid_core::Board;
 use std::alloc::{AllocError, Global};
 use std::marker::Model;
