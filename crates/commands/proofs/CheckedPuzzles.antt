@@ -13,24 +13,29 @@ use Rattle.gameid_core.specs.declared.light_up.cell.LightCell.{LightCell}
 use Rattle.gameid_core.specs.declared.light_up.cell.LightCell.TheVariants.{White, Black, Numbered}
 use Rattle.gameid_core.specs.declared.id.game.Game.TheVariants as game
 use Rattle.fields_core.specs.Light.{is_white, light_cells, white}
+use Rattle.gameid_core.proofs.FirstFailed.{answer_once, one_answer}
 use Rattle.fields_core.proofs.LightRuleLemmas as light
 use Rattle.fields_core.proofs.TentRuleLemmas as tents
+use Rattle.fields_core.specs.LightFaults.{FailsLight, light_tests}
+use Rattle.fields_core.specs.TentFaults.{FailsTents, tent_tests}
+use Rattle.pattern_core.specs.Faults.{FailsPattern, pattern_tests}
+use Rattle.solo_core.specs.Faults.{FailsSolo, given_tests, house_tests}
+use Rattle.pattern_core.proofs.FaultLemmas.{pattern_known, pattern_none, pattern_sound}
+use Rattle.solo_core.proofs.RepeatLemmas.{solo_known, solo_none, solo_sound}
 use Rattle.commands.specs.Common.{IsGrid, Extent, max_side, IsAsShown, hides_nothing, light_hides, tent_hides, IsPrinted, grid_text, pattern_cell}
 use Rattle.commands.specs.Common.{solo_cell, solo_extent, light_cell, tents_cell, max_numbers, IsLight, IsPattern, IsSolo, IsTents, Light, Pattern, Solo}
-use Rattle.commands.specs.Common.{Tents, solo_n, IsCheck, IsFirstFault, IsLightFault, IsLightSolution, IsTentFault, IsTentSolution}
+use Rattle.commands.specs.Common.{Tents, solo_n, IsPatternFault, IsSoloFault, IsLightFault, IsLightSolution, IsTentFault, IsTentSolution}
 use Rattle.commands.specs.Answers.{Answer, Text}
-use Rattle.commands.specs.CheckAnswers.{IsFaultTold, checked, IsInputOf, without_returns}
-use Rattle.commands.specs.Games.{played}
-use Rattle.commands.specs.LightPlayed.{light_fault}
-use Rattle.commands.specs.PatternPlayed.{pattern_fault}
-use Rattle.commands.specs.Playing.{Playing}
-use Rattle.commands.specs.SoloPlayed.{solo_fault}
-use Rattle.commands.specs.TentsPlayed.{tent_fault}
-use Rattle.commands.specs.Allowed.{ChecksGrid}
+use Rattle.commands.specs.CheckAnswers.{AllowsGrid, SaysFault, checked, IsInputOf, without_returns}
+use Rattle.commands.specs.Games.{game_of}
+use Rattle.commands.specs.LightFacts.{light_fault}
+use Rattle.commands.specs.PatternFacts.{pattern_fault}
+use Rattle.commands.specs.PuzzleFacts.{PuzzleFacts, printed_by}
+use Rattle.commands.specs.SoloFacts.{solo_fault}
+use Rattle.commands.specs.TentsFacts.{tent_fault}
 use Rattle.commands.specs.Replies.{refused}
 use Rattle.commands.specs.Texts.{text_limit}
 use Rattle.commands.proofs.PrintedGrids.{light_once, pattern_once, solo_once, tents_once, CellOnce, IsGridText, grid_is_text, light_cell_text, pattern_cell_text, solo_cell_text, tents_cell_text, printed_once, plain_kept}
-use Rattle.commands.proofs.FaultsOnce.{light_alone, light_some, pattern_alone, pattern_some, solo_alone, solo_some, tent_alone, tent_some}
 use Rattle.commands.proofs.Readings.{AreSame}
 
 -- so it is, or not
@@ -120,36 +125,36 @@ grid_found (suc cells) values P decide = elim (under (λ Q decided. grid_found c
     first none [] grid p = absurd (let l = grid.each_cell in omega arith)
     first none (v ∷ tail) grid p = none v tail (grid.each_value 0 0 (omega arith)) grid p
 
-pub record CheckedPuzzle {P : Type 0} (play : Playing P) (p : P) : Type 0 where
+pub record CheckedPuzzle {P : Type 0} (play : PuzzleFacts P) (p : P) : Type 0 where
   -- a printed grid tells its numbers, and may be read
   pub once : CellOnce (play.hides p) (play.value_count p) (play.extent p) (play.cell_text p)
-  pub text : (g : List ℕ) → IsAsShown (play.hides p) (play.value_count p) (play.extent p) g → IsGridText (grid_text (play.cell_text p g) (play.extent p))
+  pub text : (g : List ℕ) → IsAsShown (play.hides p) (play.value_count p) (play.extent p) g → IsGridText (printed_by play p g)
   pub decides : (place : ℕ) → Decided (play.hides p place)
   -- there is one answer, and it is that nothing is wrong for solutions alone
-  pub some : (g : List ℕ) → IsGrid ((play.extent p).w * (play.extent p).h) (play.value_count p) g → (a : Answer) × play.game.told p g a
-  pub alone : (g : List ℕ) (a b : Answer) → play.game.told p g a → play.game.told p g b → a ≡ b
-  pub sound : (g : List ℕ) (a : Answer) → IsGrid ((play.extent p).w * (play.extent p).h) (play.value_count p) g → play.game.told p g a → a.status ≡ 0 → play.game.solves p g
-  pub right : (g : List ℕ) → play.game.solves p g → play.game.told p g (checked None)
+  pub some : (g : List ℕ) → IsGrid ((play.extent p).w * (play.extent p).h) (play.value_count p) g → (a : Answer) × play.game.checks p g a
+  pub alone : (g : List ℕ) (a b : Answer) → play.game.checks p g a → play.game.checks p g b → a ≡ b
+  pub sound : (g : List ℕ) (a : Answer) → IsGrid ((play.extent p).w * (play.extent p).h) (play.value_count p) g → play.game.checks p g a → a.status ≡ 0 → play.game.solves p g
+  pub right : (g : List ℕ) → play.game.solves p g → play.game.checks p g (checked None)
   -- a solution is shown by its printed form
   pub shown : (g : List ℕ) → play.game.solves p g → IsAsShown (play.hides p) (play.value_count p) (play.extent p) g
 
 -- the answers that tell a fault
 module _ {F : Type 0} (is : Option F → Type 0) (rule_text : F → Text) where
-  told_some : (fault : Option F) × is fault → (a : Answer) × IsFaultTold is rule_text a
-  told_some fault = (checked (option_map rule_text fault.0), record { fault = fault.0; first = fault.1; told = refl })
+  told_some : (fault : Option F) × is fault → (a : Answer) × SaysFault is rule_text a
+  told_some fault = (checked (option_map rule_text fault.0), record { fault = fault.0; first = fault.1; said = refl })
 
-  told_alone : ((a b : Option F) → is a → is b → a ≡ b) → (a b : Answer) → IsFaultTold is rule_text a → IsFaultTold is rule_text b → a ≡ b
-  told_alone alone a b x y = x.told ∙ ap (λ (f : Option F). checked (option_map rule_text f)) (alone x.fault y.fault x.first y.first) ∙ sym y.told
+  told_alone : ((a b : Option F) → is a → is b → a ≡ b) → (a b : Answer) → SaysFault is rule_text a → SaysFault is rule_text b → a ≡ b
+  told_alone alone a b x y = x.said ∙ ap (λ (f : Option F). checked (option_map rule_text f)) (alone x.fault y.fault x.first y.first) ∙ sym y.said
 
-  told_sound : (a : Answer) → IsFaultTold is rule_text a → a.status ≡ 0 → is None
-  told_sound a x fine = subst is (no_fault x.fault (sym (ap (λ (c : Answer). c.status) x.told) ∙ fine)) x.first
+  told_sound : (a : Answer) → SaysFault is rule_text a → a.status ≡ 0 → is None
+  told_sound a x fine = subst is (no_fault x.fault (sym (ap (λ (c : Answer). c.status) x.said) ∙ fine)) x.first
     where
       no_fault : (fault : Option F) → (checked (option_map rule_text fault)).status ≡ 0 → fault ≡ None
       no_fault None e = refl
       no_fault (Some f) e = absurd (omega (arith, e))
 
-  told_right : is None → IsFaultTold is rule_text (checked None)
-  told_right first = record { fault = None; first = first; told = refl }
+  told_right : is None → SaysFault is rule_text (checked None)
+  told_right first = record { fault = None; first = first; said = refl }
 
 shows_all : (values : ℕ) (size : Extent) (g : List ℕ) → IsGrid (size.w * size.h) values g → IsAsShown hides_nothing values size g
 shows_all values size g grid = record { grid = grid; hidden = λ place none. absurd none }
@@ -162,27 +167,27 @@ none_at v small never = let other : v ≢ 1 = never in omega arith
 hidden_zero : (cells : ℕ) (g : List ℕ) (place : ℕ) → IsGrid cells 2 g → (place < cells → slice_index g place ≡ 1 → ⊥) → slice_index g place ≡ 0
 hidden_zero cells g place h1 h2 = grind (arith, common_steps, cases_lt, get_or_past, none_at)
 
-pub pattern_checked : (p : Pattern) → IsPattern p → CheckedPuzzle (played game.Pattern) p
+pub pattern_checked : (p : Pattern) → IsPattern p → CheckedPuzzle (game_of game.Pattern) p
 pattern_checked p ok = record {
   once = pattern_once p;
   text = λ g shown. grid_is_text (pattern_cell p g) p.size 1 (λ place lt. pattern_cell_text p g place) max_side ok.size.w_high ok.size.h_high (omega arith);
   decides = λ place. inr (λ none. none);
-  some = λ g grid. told_some (IsCheck p g) pattern_fault (pattern_some p g grid);
-  alone = λ g. told_alone (IsCheck p g) pattern_fault (pattern_alone p g);
-  sound = λ g a grid told fine. told_sound (IsCheck p g) pattern_fault a told fine;
-  right = λ g s. told_right (IsCheck p g) pattern_fault (s);
+  some = λ g grid. told_some (IsPatternFault p g) pattern_fault (one_answer (FailsPattern p g) (pattern_tests p) (pattern_sound p g grid) (pattern_known p g));
+  alone = λ g. told_alone (IsPatternFault p g) pattern_fault (answer_once (FailsPattern p g) (pattern_tests p) (pattern_none p g));
+  sound = λ g a grid told fine. told_sound (IsPatternFault p g) pattern_fault a told fine;
+  right = λ g s. told_right (IsPatternFault p g) pattern_fault s;
   shown = λ g s. shows_all 2 p.size g s.grid;
 }
 
-pub solo_checked : (p : Solo) → IsSolo p → CheckedPuzzle (played game.Solo) p
+pub solo_checked : (p : Solo) → IsSolo p → CheckedPuzzle (game_of game.Solo) p
 solo_checked p ok = record {
   once = solo_once p ok;
   text = λ g shown. grid_is_text (solo_cell p g) (solo_extent p) 3 (λ place lt. solo_cell_text p ok hides_nothing g shown place lt) max_numbers ok.n_high ok.n_high (omega arith);
   decides = λ place. inr (λ none. none);
-  some = λ g grid. told_some (IsFirstFault p g) (solo_fault p) (solo_some p ok g grid);
-  alone = λ g. told_alone (IsFirstFault p g) (solo_fault p) (solo_alone p ok g);
-  sound = λ g a grid told fine. told_sound (IsFirstFault p g) (solo_fault p) a told fine;
-  right = λ g s. told_right (IsFirstFault p g) (solo_fault p) (s);
+  some = λ g grid. told_some (IsSoloFault p g) (solo_fault p) (one_answer (FailsSolo p g) (given_tests p ++ house_tests p) (solo_sound p ok g grid) (solo_known p ok g));
+  alone = λ g. told_alone (IsSoloFault p g) (solo_fault p) (answer_once (FailsSolo p g) (given_tests p ++ house_tests p) (solo_none p ok g));
+  sound = λ g a grid told fine. told_sound (IsSoloFault p g) (solo_fault p) a told fine;
+  right = λ g s. told_right (IsSoloFault p g) (solo_fault p) s;
   shown = λ g s. shows_all (solo_n p) (solo_extent p) g s.grid;
 }
 
@@ -203,15 +208,15 @@ light_decides : (o : Option LightCell) → Decided (o ≢ Some White)
 light_decides (Some White) = inr (λ never. never refl)
 light_decides o = inl (λ e. cc)
 
-pub light_checked : (p : Light) → IsLight p → CheckedPuzzle (played game.LightUp) p
+pub light_checked : (p : Light) → IsLight p → CheckedPuzzle (game_of game.LightUp) p
 light_checked p ok = record {
   once = light_once p;
   text = λ g shown. grid_is_text (light_cell p g) p.size 1 (λ place lt. light_cell_text p ok g place) max_side ok.size.extent.w_high ok.size.extent.h_high (omega arith);
   decides = λ place. light_decides (slice_get p.cells place);
-  some = λ g grid. told_some (IsLightFault p g) (light_fault p) (light_some p g);
-  alone = λ g. told_alone (IsLightFault p g) (light_fault p) (light_alone p g);
-  sound = λ g a grid told fine. (light.none-exactly p g None grid (told_sound (IsLightFault p g) (light_fault p) a told fine)).0 refl;
-  right = λ g s. told_right (IsLightFault p g) (light_fault p) (light.test-from-rule p g s.grid s);
+  some = λ g grid. told_some (IsLightFault p g) (light_fault p) (one_answer (FailsLight p g) (light_tests p) (light.light-sound p g grid) (light.light-known p g grid));
+  alone = λ g. told_alone (IsLightFault p g) (light_fault p) (answer_once (FailsLight p g) (light_tests p) (λ s. light.light-none p g s.grid s));
+  sound = λ g a grid told fine. told_sound (IsLightFault p g) (light_fault p) a told fine;
+  right = λ g s. told_right (IsLightFault p g) (light_fault p) s;
   shown = λ g s. record { grid = s.grid; hidden = light_hidden p g s };
 }
 
@@ -219,24 +224,24 @@ tent_hidden : (p : Tents) (g : List ℕ) → IsTentSolution p g → (place : ℕ
 tent_hidden p g s place hides = hidden_zero (p.size.w * p.size.h) g place s.grid
     (λ lt one. true≢false (sym (eq-eqb (slice_index p.trees place) 1 hides) ∙ s.none_on_trees place lt (eq-eqb (slice_index g place) 1 one)))
 
-pub tents_checked : (p : Tents) → IsTents p → CheckedPuzzle (played game.Tents) p
+pub tents_checked : (p : Tents) → IsTents p → CheckedPuzzle (game_of game.Tents) p
 tents_checked p ok = record {
   once = tents_once p;
   text = λ g shown. grid_is_text (tents_cell p g) p.size 1 (λ place lt. tents_cell_text p g place) max_side ok.size.extent.w_high ok.size.extent.h_high (omega arith);
   decides = λ place. cases_eq (slice_index p.trees place) 1;
-  some = λ g grid. told_some (IsTentFault p g) (tent_fault p) (tent_some p g);
-  alone = λ g. told_alone (IsTentFault p g) (tent_fault p) (tent_alone p g);
-  sound = λ g a grid told fine. (tents.none-exactly p g None grid (told_sound (IsTentFault p g) (tent_fault p) a told fine)).0 refl;
-  right = λ g s. told_right (IsTentFault p g) (tent_fault p) (tents.tents-from-solution p g s.grid s);
+  some = λ g grid. told_some (IsTentFault p g) (tent_fault p) (one_answer (FailsTents p g) (tent_tests p) (tents.tents-sound p g grid) (tents.tents-known p g grid));
+  alone = λ g. told_alone (IsTentFault p g) (tent_fault p) (answer_once (FailsTents p g) (tent_tests p) (λ s. tents.tents-none p g s.grid s));
+  sound = λ g a grid told fine. told_sound (IsTentFault p g) (tent_fault p) a told fine;
+  right = λ g s. told_right (IsTentFault p g) (tent_fault p) s;
   shown = λ g s. record { grid = s.grid; hidden = tent_hidden p g s };
 }
 
-module _ {P : Type 0} (play : Playing P) (p : P) (game : CheckedPuzzle play p) where
+module _ {P : Type 0} (play : PuzzleFacts P) (p : P) (game : CheckedPuzzle play p) where
   abbrev printed : List ℕ → Text
-  printed g = grid_text (play.cell_text p g) (play.extent p)
+  printed g = printed_by play p g
 
   abbrev Given : Text → List ℕ → Type 0
-  Given = IsInputOf (play.hides p) (play.value_count p) (play.extent p) (play.cell_text p)
+  Given = IsInputOf play p
 
   -- ---- there is an answer
   hidden_decided : (g : List ℕ) → Decided ((place : ℕ) → play.hides p place → slice_index g place ≡ 0)
@@ -275,7 +280,7 @@ module _ {P : Type 0} (play : Playing P) (p : P) (game : CheckedPuzzle play p) w
   input_once : (input : Text) (g h : List ℕ) → Given input g → Given input h → g ≡ h
   input_once input g h a b = printed_once (play.hides p) (play.value_count p) (play.extent p) (play.cell_text p) game.once g h a.shown b.shown (without_returns input) a.printed b.printed
 
-  pub check_some : (input : Text) → (a : Answer) × ChecksGrid play p input a
+  pub check_some : (input : Text) → (a : Answer) × AllowsGrid play p input a
   check_some input = elim (grid_found ((play.extent p).w * (play.extent p).h) (play.value_count p) (Given input) (input_decided input)) [
     | inl found ↦
         let said = game.some found.0 found.1 in (
@@ -284,24 +289,24 @@ module _ {P : Type 0} (play : Playing P) (p : P) (game : CheckedPuzzle play p) w
             grid = found.0;
             given = found.2;
             only = λ other given. input_once input found.0 other found.2 given;
-            told = said.1;
+            said = said.1;
           }),
         )
-    | inr none ↦ (refused (codes "grid"), inr (record { none = λ g given. none g given.shown.grid given; told = refl }))
+    | inr none ↦ (refused (codes "grid"), inr (record { none = λ g given. none g given.shown.grid given; said = refl }))
   ]
 
   -- ---- and no other
-  pub check_same : (input : Text) → AreSame (ChecksGrid play p input)
-  check_same input a b (inl x) (inl y) = game.alone y.grid a b (subst (λ g. play.game.told p g a) (x.only y.grid y.given) x.told) y.told
+  pub check_same : (input : Text) → AreSame (AllowsGrid play p input)
+  check_same input a b (inl x) (inl y) = game.alone y.grid a b (subst (λ g. play.game.checks p g a) (x.only y.grid y.given) x.said) y.said
   check_same input a b (inl x) (inr y) = absurd (y.none x.grid x.given)
   check_same input a b (inr x) (inl y) = absurd (x.none y.grid y.given)
-  check_same input a b (inr x) (inr y) = x.told ∙ sym y.told
+  check_same input a b (inr x) (inr y) = x.said ∙ sym y.said
 
   -- ---- a solution's printed form is correct, and nothing else is said of it
-  pub correct_grid : (g : List ℕ) → play.game.solves p g → (said : Answer) → ChecksGrid play p (printed g) said ↔ (said ≡ checked None)
+  pub correct_grid : (g : List ℕ) → play.game.solves p g → (said : Answer) → AllowsGrid play p (printed g) said ↔ (said ≡ checked None)
   correct_grid g solution said = (
     λ allowed. check_same (printed g) said (checked None) allowed correct,
-    λ same. subst (ChecksGrid play p (printed g)) (sym same) correct,
+    λ same. subst (AllowsGrid play p (printed g)) (sym same) correct,
   )
     where
       given : Given (printed g) g
@@ -309,5 +314,5 @@ module _ {P : Type 0} (play : Playing P) (p : P) (game : CheckedPuzzle play p) w
           let shown = game.shown g solution in
           record { small = (game.text g shown).small; shown = shown; printed = inl (plain_kept (printed g) (game.text g shown).plain) }
 
-      correct : ChecksGrid play p (printed g) (checked None)
-      correct = inl (record { grid = g; given = given; only = λ other also. input_once (printed g) g other given also; told = game.right g solution })
+      correct : AllowsGrid play p (printed g) (checked None)
+      correct = inl (record { grid = g; given = given; only = λ other also. input_once (printed g) g other given also; said = game.right g solution })

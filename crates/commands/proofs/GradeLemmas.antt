@@ -17,18 +17,17 @@ use Rattle.solo_core.specs.Singles.{strikes_by_singles}
 use Rattle.solo_core.specs.declared.houses.scope.VisitName.TheVariants.{House}
 use Rattle.commands.specs.Common.{Candidates, count_below, grid_of, Solo, RuleSystem, is_settled, Mark, IsFound, walk, Outcome, Solves, verdict_of}
 use Rattle.commands.specs.Common.{crossing_scopes, crossings_rules, houses_rules, scopes_of, singles_rules, solo_n}
-use Rattle.commands.specs.Grades.{HasOneSolution, IsGradeOf, IsRightGrade, TellsGrade, grade_by, searched_grade, Settling, last_tried, listed_grade, only_set, grade_status, grade_text}
+use Rattle.commands.specs.Grades.{HasOneSolution, IsRightGrade, SaysGrade, grade_by, searched_grade, NamedRules, last_tried, listed_grade, only_set, grade_status, grade_text}
 use Rattle.commands.specs.Answers.{Text, Answer, Delivers}
-use Rattle.commands.specs.Stops.{TellsIfAny}
+use Rattle.commands.specs.Stops.{SaysIfAny}
 use Rattle.commands.specs.declared.grade.Grade.{Grade}
 use Rattle.commands.specs.declared.grade.Grade.TheVariants.{ByRules, BySearch, NoSolution, SeveralSolutions, GaveUp}
-use Rattle.commands.specs.Playing.{GameOf}
-use Rattle.commands.specs.Allowed.{IsGradeBy}
-use Rattle.commands.specs.Traces.{IsTrace}
+use Rattle.commands.specs.PuzzleFacts.{PuzzleFacts}
+use Rattle.commands.specs.Allowed.{IsGraded}
+use Rattle.commands.specs.Traces.{IsTrace, SaysClosing}
 use Rattle.commands.specs.declared.grade.RuleSet.{RuleSet}
-use Rattle.commands.specs.declared.grade.GradeOptions.{GradeOptions}
 use Rattle.commands.specs.TracePieces.{BeginsTrace, PutsTrace}
-use Rattle.commands.proofs.RunLemmas.{tells_as}
+use Rattle.commands.proofs.RunLemmas.{says_as}
 
 -- where one grid is found, all trials of the walk were made
 pub spent_whole : (budget : ℕ) (found : Option (List ℕ)) (marks : List Mark) (g : List ℕ) → outcome budget found marks ≡ OneSolution g
@@ -91,13 +90,6 @@ right_as A B NoSolution same right = λ g solves. right g ((same g).1 solves)
 right_as A B SeveralSolutions same right = (right.0, right.1, (same right.0).0 right.2, (same right.1).0 right.3, right.4)
 right_as A B GaveUp same right = tt
 
--- a grade that is told of a puzzle, and is right, is told rightly
-rightly : {S : Type 0} (takes : S → Text → S → Type 0) (solves : List ℕ → Type 0) (grade : Grade) (traced : Bool) (tells : Text → Type 0)
-    (s t : S) (status : ℕ) → IsRightGrade solves grade → TellsIfAny takes (TellsGrade grade traced tells) s t status
-    → TellsIfAny takes (IsGradeOf solves grade traced tells) s t status
-rightly takes solves grade traced tells s t status right told =
-    tells_as takes (TellsGrade grade traced tells) (IsGradeOf solves grade traced tells) s t status (λ a t. record { right = right; told = t }) told
-
 -- the grids that rules accept are the solutions, and a grade is right of both
 pub right_by : (p q : RuleSystem) (solves : List ℕ → Type 0) (grade : Grade) → q ≡ p → ((g : List ℕ) → Solves p g ↔ solves g)
     → IsRightGrade (Solves q) grade → IsRightGrade solves grade
@@ -110,52 +102,49 @@ accepted_by p q solves e same = subst (λ (r : RuleSystem). (g : List ℕ) → S
 pub last_of_one : (before : RuleSystem) (set : RuleSet) (rules : RuleSystem) → rules ≡ last_tried before (only_set set rules)
 last_of_one before set rules = grind (arith, common_steps)
 
--- lines that tell a closing in one way tell it in another
-trace_as : (traced : Bool) (some all : Text → Type 0) (lines : Text) → (some lines → all lines) → IsTrace traced some lines → IsTrace traced all lines
-trace_as true some all lines more h = more h
-trace_as false some all lines more h = h
+module _ {P : Type 0} (play : PuzzleFacts P) (p : P) (budget : ℕ) (traced : Bool) {S : Type 0} (takes : S → Text → S → Type 0) (s t : S) (status : ℕ) where
+  -- what is said of a list of rule sets, and of the last of them that was tried
+  abbrev pub SaysBy : List NamedRules → Type 0
+  SaysBy sets = SaysIfAny takes (IsGraded play sets budget traced p) s t status
 
-pub told_as : {S : Type 0} (takes : S → Text → S → Type 0) (grade : Grade) (traced : Bool) (some all : Text → Type 0) (s t : S) (status : ℕ) → ((lines : Text) → some lines → all lines)
-    → TellsIfAny takes (TellsGrade grade traced some) s t status → TellsIfAny takes (TellsGrade grade traced all) s t status
-told_as takes grade traced some all s t status more told = tells_as takes (TellsGrade grade traced some) (TellsGrade grade traced all) s t status
-    (λ a h. record { lines = h.lines; trace = trace_as traced some all h.lines (more h.lines) h.trace; text = h.text; status = h.status }) told
+  abbrev pub SaysLast : Grade → RuleSystem → Type 0
+  SaysLast grade rules = SaysIfAny takes (SaysGrade grade traced (play.game.visit_name p) rules) s t status
 
-module _ {P : Type 0} (game : GameOf P) (p : P) (options : GradeOptions) {S : Type 0} (takes : S → Text → S → Type 0) (s t : S) (status : ℕ) where
-  -- what is told of a list of rule sets
-  abbrev pub TellsBy : List Settling → Type 0
-  TellsBy sets = TellsIfAny takes (IsGradeBy game p sets options) s t status
+  rightly : (sets : List NamedRules) → IsRightGrade (play.game.solves p) (listed_grade sets (play.game.rules p) budget)
+      → SaysLast (listed_grade sets (play.game.rules p) budget) (last_tried (play.game.rules p) sets) → SaysBy sets
+  rightly sets right told = says_as takes _ _ s t status (λ a said. record { right = right; said = said }) told
 
   -- the last in the list
-  pub told_last : (grade : Grade) (set : RuleSet) (rules : RuleSystem) → grade ≡ listed_grade (only_set set rules) (game.rules p) options.budget
-      → IsRightGrade (game.solves p) grade → TellsIfAny takes (TellsGrade grade options.traced (game.tells p rules)) s t status → TellsBy (only_set set rules)
-  told_last grade set rules e right told = rw (← e, ← last_of_one (game.rules p) set rules)
-      (rightly takes (game.solves p) grade options.traced (game.tells p rules) s t status right told)
+  pub said_last : (grade : Grade) (set : RuleSet) (rules : RuleSystem) → grade ≡ listed_grade (only_set set rules) (play.game.rules p) budget
+      → IsRightGrade (play.game.solves p) grade → SaysLast grade rules → SaysBy (only_set set rules)
+  said_last grade set rules e right told = rightly (only_set set rules) (rw e at right)
+      (subst (λ (g : Grade). SaysLast g (last_tried (play.game.rules p) (only_set set rules))) e (subst (SaysLast grade) (last_of_one (play.game.rules p) set rules) told))
 
   -- the first in the list settles the puzzle
-  pub told_first : (q : RuleSystem) (set : RuleSet) (rules : RuleSystem) (rest : List Settling) → q ≡ rules → is_settled q ≡ true
-      → ((g : List ℕ) → Solves rules g ↔ game.solves p g) → HasOneSolution (Solves q) → TellsIfAny takes (TellsGrade (ByRules set) options.traced (game.tells p q)) s t status
-      → TellsBy (record { set = set; rules = rules } ∷ rest)
-  told_first q set rules rest e settled same one told =
+  pub said_first : (q : RuleSystem) (set : RuleSet) (rules : RuleSystem) (rest : List NamedRules) → q ≡ rules → is_settled q ≡ true
+      → ((g : List ℕ) → Solves rules g ↔ play.game.solves p g) → HasOneSolution (Solves q) → SaysLast (ByRules set) q
+      → SaysBy (record { set = set; rules = rules } ∷ rest)
+  said_first q set rules rest e settled same one told =
       let is : is_settled rules ≡ true = ap is_settled (sym e) ∙ settled in
-      rw is (rightly takes (game.solves p) (ByRules set) options.traced (game.tells p rules) s t status
-      (right_by rules q (game.solves p) (ByRules set) e same one) (rw e at told))
+      rightly (record { set = set; rules = rules } ∷ rest) (rw is (right_by rules q (play.game.solves p) (ByRules set) e same one)) (rw is (rw e at told))
 
   -- the first of two or more in the list doesn't
-  pub told_later : (q : RuleSystem) (set : RuleSet) (rules : RuleSystem) (next : Settling) (rest : List Settling) → q ≡ rules → is_settled q ≡ false
-      → TellsBy (next ∷ rest) → TellsBy (record { set = set; rules = rules } ∷ next ∷ rest)
-  told_later q set rules next rest e unsettled told =
-      let is : is_settled rules ≡ false = ap is_settled (sym e) ∙ unsettled in rw is told
+  pub said_later : (q : RuleSystem) (set : RuleSet) (rules : RuleSystem) (next : NamedRules) (rest : List NamedRules) → q ≡ rules → is_settled q ≡ false
+      → SaysBy (next ∷ rest) → SaysBy (record { set = set; rules = rules } ∷ next ∷ rest)
+  said_later q set rules next rest e unsettled told =
+      let is : is_settled rules ≡ false = ap is_settled (sym e) ∙ unsettled in
+      says_as takes _ _ s t status (λ a graded. record { right = rw is graded.right; said = rw is graded.said }) told
 
   -- rules that were made for a puzzle are its own
-  pub told_by : (q r : RuleSystem) (set : RuleSet) → q ≡ r → TellsBy (only_set set q) → TellsBy (only_set set r)
-  told_by q r set e told = subst (λ (x : RuleSystem). TellsBy (only_set set x)) e told
+  pub said_by : (q r : RuleSystem) (set : RuleSet) → q ≡ r → SaysBy (only_set set q) → SaysBy (only_set set r)
+  said_by q r set e told = subst (λ (x : RuleSystem). SaysBy (only_set set x)) e told
 
 module _ {S : Type 0} (takes : S → Text → S → Type 0) (nothing : (s : S) → takes s [] s) (both : (s t u : S) (a b : Text) → takes s a t → takes t b u → takes s (a ++ b) u)
-    (grade : Grade) (traced : Bool) (tells : Text → Type 0) where
+    (grade : Grade) (traced : Bool) (name : ℕ → Text) (rules : RuleSystem) where
   -- the rest was delivered
-  pub told_whole : (s t u : S) (line rest : Text) (a : Answer) (status : ℕ) → line ≡ grade_text grade ++ codes "\n" → PutsTrace takes traced tells s line rest t
-      → Delivers takes t a u status → a.text ≡ rest → a.status ≡ grade_status grade → TellsIfAny takes (TellsGrade grade traced tells) s u status
-  told_whole s t u line rest a status is p d same ends = record {
+  pub said_whole : (s t u : S) (line rest : Text) (a : Answer) (status : ℕ) → line ≡ grade_text grade ++ codes "\n" → PutsTrace takes traced name rules s line rest t
+      → Delivers takes t a u status → a.text ≡ rest → a.status ≡ grade_status grade → SaysIfAny takes (SaysGrade grade traced name rules) s u status
+  said_whole s t u line rest a status is p d same ends = record {
     written = p.put.done ++ d.written;
     took = both s t u p.put.done d.written p.put.took d.took;
     begun = inr (
@@ -175,9 +164,9 @@ module _ {S : Type 0} (takes : S → Text → S → Type 0) (nothing : (s : S) �
   }
 
   -- a beginning was put
-  pub told_begun : (s u : S) (line : Text) (status : ℕ) → line ≡ grade_text grade ++ codes "\n" → BeginsTrace takes traced tells s line u → 5 ≤ status
-      → TellsIfAny takes (TellsGrade grade traced tells) s u status
-  told_begun s u line status is p high = record {
+  pub said_begun : (s u : S) (line : Text) (status : ℕ) → line ≡ grade_text grade ++ codes "\n" → BeginsTrace takes traced name rules s line u → 5 ≤ status
+      → SaysIfAny takes (SaysGrade grade traced name rules) s u status
+  said_begun s u line status is p high = record {
     written = p.begun.done;
     took = p.begun.took;
     begun = inr (
@@ -188,23 +177,17 @@ module _ {S : Type 0} (takes : S → Text → S → Type 0) (nothing : (s : S) �
     whole = λ small. absurd (omega arith);
   }
 
-  -- nothing was put before
-  pub nothing_put : (s : S) (line text lines : Text) → IsTrace traced tells lines → text ≡ line ++ lines → PutsTrace takes traced tells s line text s
-  nothing_put s line text lines trace added = record { lines = lines; trace = trace; put = record { done = []; took = nothing s; split = sym added } }
-
--- a trace was asked for
-pub is_traced : (traced : Bool) (tells : Text → Type 0) (lines : Text) → traced ≡ true → tells lines → IsTrace traced tells lines
-is_traced true tells lines e told = told
-is_traced false tells lines e told = absurd (true≢false (sym e))
+-- the lines of a closing are those of a trace that is asked for
+pub is_traced : (traced queue : Bool) (name : ℕ → Text) (rules : RuleSystem) (lines : Text) → traced ≡ true → rules.by_queue ≡ queue
+    → SaysClosing queue name rules lines → IsTrace traced name rules lines
+is_traced true queue name rules lines e mode said = subst (λ (b : Bool). SaysClosing b name rules lines) (sym mode) said
+is_traced false queue name rules lines e mode said = absurd (true≢false (sym e))
 
 -- no trace was asked for
-pub untraced : {S : Type 0} (takes : S → Text → S → Type 0) (traced : Bool) (tells : Text → Type 0) (s : S) (text : Text) → takes s [] s → traced ≡ false
-    → PutsTrace takes traced tells s text text s
-untraced takes traced tells s text nothing is = record { lines = []; trace = none traced is; put = record { done = []; took = nothing; split = append-nil text } }
-  where
-    none : (b : Bool) → b ≡ false → IsTrace b tells []
-    none true e = absurd (true≢false e)
-    none false e = refl
+pub untraced : {S : Type 0} (takes : S → Text → S → Type 0) (traced : Bool) (name : ℕ → Text) (rules : RuleSystem) (s : S) (text : Text) → takes s [] s → traced ≡ false
+    → PutsTrace takes traced name rules s text text s
+untraced takes true name rules s text nothing is = absurd (true≢false is)
+untraced takes false name rules s text nothing is = record { lines = []; trace = refl; put = record { done = []; took = nothing; split = append-nil text } }
 
 -- what the rule sets of Solo visit has a name: houses first, and then crossings
 over_houses : (decides : Decision) (p : Solo) → length (deciding decides p) ≤ length (scopes_of p)

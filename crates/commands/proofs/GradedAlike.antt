@@ -2,7 +2,7 @@
 -- told of the two.
 use Rattle.std.proofs.Common.{◌≡◌, ◌∙◌, ◌⊎◌, ◌<◌, ℕ, zero, suc, Bool, true, false, List, [], ◌∷◌, ◌++◌, Option, None, refl, sym, ap, subst, inl, inr, arith, ◌≢◌, Result, if◌then◌else◌, codes, slice_index, true≢false}
 use Rattle.std.proofs.lemmas.Grind.{common_steps}
-use Rattle.std.proofs.lemmas.Bool.{and_parts, and_from}
+use Rattle.std.proofs.lemmas.Bool.{and_parts, and_from, cases_eq}
 use Rattle.std.specs.Prelude.{◌↔◌, ◌+◌, ◌*◌}
 use Rattle.grid_core.specs.Candidates.{is_full}
 use Rattle.grid_core.proofs.CandidateLemmas.{count_below-one, least_below-passes}
@@ -18,7 +18,7 @@ use Rattle.maker_core.proofs.FullStart.{known}
 use Rattle.commands.specs.Common.{IsRight, Candidates, IsInside, grid_of, only, HasOneReading, IdFault, RuleSystem, IsLawful, IsClosed, is_settled, Solves}
 use Rattle.commands.specs.Common.{verdict_of, Outcome, Mark, walk}
 use Rattle.commands.specs.Answers.{Answer, Begins, Text}
-use Rattle.commands.specs.Grades.{HasOneSolution, IsRightGrade, Settling, TellsGrade, first_settled, grade_by, grade_status, grade_text, listed_grade, rule_set_text, searched_grade}
+use Rattle.commands.specs.Grades.{HasOneSolution, IsRightGrade, NamedRules, SaysGrade, first_settled, grade_by, grade_status, grade_text, listed_grade, rule_set_text, searched_grade}
 use Rattle.commands.specs.Allowed.{AllowsId}
 use Rattle.commands.specs.LawsOfCommands.{GoesAlong, NamesRules, is_within_search}
 use Rattle.commands.specs.Replies.{refused, fault_text, verdict_answer}
@@ -103,7 +103,7 @@ module _ {P : Type 0} {of : Text → Result P IdFault} {spells : Text → P → 
       → ((p : P) → spells id p → first p a → second p b → holds a b)
       → AllowsId (of id) (spells id) first a → AllowsId (of id) (spells id) second b → holds a b
   both_answers first second holds id a b refusals answers (inl x) (inl y) =
-      subst (λ c. holds c b) (sym x.told) (subst (holds (refused (fault_text x.fault))) (sym y.told) (refusals (fault_text x.fault) (fault_text y.fault)))
+      subst (λ c. holds c b) (sym x.said) (subst (holds (refused (fault_text x.fault))) (sym y.said) (refusals (fault_text x.fault) (fault_text y.fault)))
   both_answers first second holds id a b refusals answers (inl x) (inr y) = absurd (reading.apart id y.puzzle x.fault y.spelled x.first)
   both_answers first second holds id a b refusals answers (inr x) (inl y) = absurd (reading.apart id x.puzzle y.fault x.spelled y.first)
   both_answers first second holds id a b refusals answers (inr x) (inr y) =
@@ -149,7 +149,7 @@ unfolding verdict_status
 one_or_out solves o h1 h2 h3 = grind (arith, common_steps)
 
 -- a list of rule sets gives the name of one, or the grade by the search
-pub named_or_searched : (sets : List Settling) (otherwise : Grade) → ((set : RuleSet) × (first_settled sets otherwise ≡ ByRules set)) ⊎ (first_settled sets otherwise ≡ otherwise)
+pub named_or_searched : (sets : List NamedRules) (otherwise : Grade) → ((set : RuleSet) × (first_settled sets otherwise ≡ ByRules set)) ⊎ (first_settled sets otherwise ≡ otherwise)
 named_or_searched [] otherwise = inr refl
 named_or_searched (first ∷ rest) otherwise = by (is_settled first.rules) (named_or_searched rest otherwise)
   where
@@ -159,22 +159,21 @@ named_or_searched (first ∷ rest) otherwise = by (is_settled first.rules) (name
     by true later = inl (first.set, refl)
     by false later = later
 
-pub goes_along : (sets : List Settling) (search : RuleSystem) (solves : List ℕ → Type 0) (budget : ℕ)
+pub goes_along : (sets : List NamedRules) (search : RuleSystem) (solves : List ℕ → Type 0) (budget : ℕ)
     → IsRight solves (verdict_of search budget) → IsRightGrade solves (listed_grade sets search budget)
     → GoesAlong (grade_status (listed_grade sets search budget)) (verdict_status (verdict_of search budget))
 unfolding searched_grade
 goes_along sets search solves budget verdict grade = by (named_or_searched sets (searched_grade search budget))
   where
-    by_search : grade_status (searched_grade search budget) ≡ verdict_status (verdict_of search budget)
-    by_search = by_status (trials_in (walk search 0 search.start)) (verdict_of search budget)
-
     by : ((set : RuleSet) × (listed_grade sets search budget ≡ ByRules set)) ⊎ (listed_grade sets search budget ≡ searched_grade search budget)
         → GoesAlong (grade_status (listed_grade sets search budget)) (verdict_status (verdict_of search budget))
-    by (inr is) = let same = ap grade_status is ∙ by_search in record { by_grade = λ _. same; by_verdict = λ _. same }
+    by (inr is) = inl (ap grade_status is ∙ by_status (trials_in (walk search 0 search.start)) (verdict_of search budget))
     by (inl named) =
-        let zero_status = ap grade_status named.1 in
-        let one = graded_one solves (listed_grade sets search budget) grade zero_status in
-        record { by_grade = λ other. absurd (other zero_status); by_verdict = λ left. zero_status ∙ one_or_out solves (verdict_of search budget) verdict one left }
+        let fine = ap grade_status named.1 in
+        elim (cases_eq (verdict_status (verdict_of search budget)) 4) [
+          | inl out ↦ inr (fine, out)
+          | inr told ↦ inl (fine ∙ one_or_out solves (verdict_of search budget) verdict (graded_one solves (listed_grade sets search budget) grade fine) told)
+        ]
 
 -- ---- which rule sets need no trial
 -- whether a grade is by a rule set that strikes no more than the search's rules
@@ -188,12 +187,12 @@ searched_apart trials (GaveUp found) = refl
 searched_apart trials o = refl
 
 -- rule sets that may strike more than the search's rules
-abbrev pub AreBeyond : List Settling → Type 0
+abbrev pub AreBeyond : List NamedRules → Type 0
 AreBeyond [] = Unit {0}
 AreBeyond (first ∷ rest) = (is_within_search first.set ≡ false) × AreBeyond rest
 
 module _ (search : RuleSystem) (budget : ℕ) where
-  beyond : (sets : List Settling) → AreBeyond sets → is_within (listed_grade sets search budget) ≡ false
+  beyond : (sets : List NamedRules) → AreBeyond sets → is_within (listed_grade sets search budget) ≡ false
   unfolding searched_grade is_within
   beyond [] none = searched_apart (trials_in (walk search 0 search.start)) (verdict_of search budget)
   beyond (first ∷ rest) none = by (is_settled first.rules) (beyond rest none.1)
@@ -203,13 +202,13 @@ module _ (search : RuleSystem) (budget : ℕ) where
       by false later = later
 
   -- the search's own rules, and after them others that may strike more
-  pub own_named : (set : RuleSet) (rest : List Settling) → is_within_search set ≡ true → AreBeyond rest
+  pub own_named : (set : RuleSet) (rest : List NamedRules) → is_within_search set ≡ true → AreBeyond rest
       → is_within (listed_grade (record { set = set; rules = search } ∷ rest) search budget) ≡ is_settled search
   unfolding is_within
   own_named set rest h1 h2 = grind (arith, common_steps, beyond, is_within)
 
   -- one more rule set before the others, where what it settles the search's rules settle
-  pub weaker_named : (set : RuleSet) (weak : RuleSystem) (rest : List Settling) → is_within_search set ≡ true → (is_settled weak ≡ true → is_settled search ≡ true)
+  pub weaker_named : (set : RuleSet) (weak : RuleSystem) (rest : List NamedRules) → is_within_search set ≡ true → (is_settled weak ≡ true → is_settled search ≡ true)
       → is_within (listed_grade rest search budget) ≡ is_settled search → is_within (listed_grade (record { set = set; rules = weak } ∷ rest) search budget) ≡ is_settled search
   unfolding is_within
   weaker_named set weak rest h1 h2 h3 = grind (arith, common_steps, is_within)
@@ -244,14 +243,14 @@ pub refusals_apart : (first second : Text) → NamesRules (refused second) ↔ (
 refusals_apart first second = (λ named. absurd (none_named second named), λ e. absurd (omega (arith, e)))
 
 pub refusals_along : (first second : Text) → GoesAlong (refused second).status (refused first).status
-refusals_along first second = record { by_grade = λ _. refl; by_verdict = λ _. refl }
+refusals_along first second = inl refl
 
-module _ (traced : Bool) (tells : Text → Type 0) (printed : List ℕ → Text) (solved graded : Answer) where
-  pub status_alike : (grade : Grade) (o : Outcome) → GoesAlong (grade_status grade) (verdict_status o) → TellsGrade grade traced tells graded
+module _ (traced : Bool) (name : ℕ → Text) (tried : RuleSystem) (printed : List ℕ → Text) (solved graded : Answer) where
+  pub status_alike : (grade : Grade) (o : Outcome) → GoesAlong (grade_status grade) (verdict_status o) → SaysGrade grade traced name tried graded
       → solved ≡ verdict_answer printed o → GoesAlong graded.status solved.status
   status_alike grade o along told is = rw (told.status, is, told_status printed o) along
 
-  pub named_alike : (grade : Grade) (rules : RuleSystem) → IsLawful rules → is_within grade ≡ is_settled rules → TellsGrade grade traced tells graded
+  pub named_alike : (grade : Grade) (rules : RuleSystem) → IsLawful rules → is_within grade ≡ is_settled rules → SaysGrade grade traced name tried graded
       → solved ≡ verdict_answer printed (verdict_of rules 0) → NamesRules graded ↔ (solved.status ≡ 0)
   named_alike grade rules laws within told is = (
     λ named. let by : is_within grade ≡ true = named_is grade told.lines named.2.0 named.0 named.1 (sym told.text ∙ named.2.1) in

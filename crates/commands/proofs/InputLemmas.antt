@@ -6,7 +6,7 @@ use Rattle.std.proofs.lemmas.Bool.{cases_lt, ne_eqb, eqb-true}
 use Rattle.std.proofs.lemmas.Grind.{common_steps}
 use Rattle.std.specs.Str.Lines.{strip_carriage_return}
 use Rattle.commands.specs.declared.batch.lines.Tail.TheVariants.{Nothing, Return, More}
-use Rattle.commands.specs.declared.batch.lines.Line.{Line}
+use Rattle.commands.specs.declared.batch.lines.InputLine.{InputLine}
 use Rattle.commands.specs.Batches.{HoldsUpTo, next_tail, tail_of}
 use Rattle.commands.specs.Answers.{Text}
 use Rattle.commands.specs.CheckAnswers.{begins_with_line_end, without_returns}
@@ -34,11 +34,11 @@ module _ (n : ℕ) where
 -- a line of which so many bytes at most are kept
 module _ (most : ℕ) where
   -- it is empty where nothing of it is kept
-  pub line_empty : 0 < most → (line : Line) (piece : List ℕ) → HoldsUpTo most line piece → (length line.kept.items == 0) ≡ (length piece == 0)
+  pub line_empty : 0 < most → (line : InputLine) (piece : List ℕ) → HoldsUpTo most line piece → (length line.kept.items == 0) ≡ (length piece == 0)
   line_empty h1 line piece h2 = grind (arith, common_steps, cases_lt, full, ne_eqb, whole)
 
   -- a byte that is kept
-  pub holds_kept : (old new : Line) (b : ℕ) (piece : List ℕ) → HoldsUpTo most old piece → length old.kept.items < most
+  pub holds_kept : (old new : InputLine) (b : ℕ) (piece : List ℕ) → HoldsUpTo most old piece → length old.kept.items < most
       → new.kept.items ≡ old.kept.items ++ b ∷ [] → new.tail ≡ old.tail → HoldsUpTo most new (piece ++ b ∷ [])
   holds_kept old new b piece h room kept tail =
       let low : length (take most piece) < most = subst (λ l. length l < most) h.kept room in
@@ -51,7 +51,7 @@ module _ (most : ℕ) where
       }
 
   -- a byte after those that are kept
-  pub holds_more : (old new : Line) (b : ℕ) (piece : List ℕ) → HoldsUpTo most old piece → most ≤ length old.kept.items
+  pub holds_more : (old new : InputLine) (b : ℕ) (piece : List ℕ) → HoldsUpTo most old piece → most ≤ length old.kept.items
       → new.kept.items ≡ old.kept.items → new.tail ≡ next_tail old.tail b → HoldsUpTo most new (piece ++ b ∷ [])
   holds_more old new b piece h full kept tail =
       let high : most ≤ length (take most piece) = subst (λ l. most ≤ length l) h.kept full in
@@ -92,11 +92,11 @@ take_full n piece h = grind (arith, common_steps)
 -- what is known of such a line at its end
 module _ (most : ℕ) where
   -- a line that a newline ends, by what its state says
-  pub line_whole : (line : Line) (piece : List ℕ) → HoldsUpTo most line piece → line.tail ≡ Nothing → line.kept.items ≡ piece
+  pub line_whole : (line : InputLine) (piece : List ℕ) → HoldsUpTo most line piece → line.tail ≡ Nothing → line.kept.items ≡ piece
   line_whole line piece h e = h.kept ∙ sym (append-nil (take most piece)) ∙ ap (λ d. take most piece ++ d) (sym (no_tail (drop most piece) (sym h.tail ∙ e)))
       ∙ take-append-drop most piece
 
-  pub line_returned : (line : Line) (piece : List ℕ) → HoldsUpTo most line piece → line.tail ≡ Return → line.kept.items ≡ strip_carriage_return piece
+  pub line_returned : (line : InputLine) (piece : List ℕ) → HoldsUpTo most line piece → line.tail ≡ Return → line.kept.items ≡ strip_carriage_return piece
   line_returned line piece h e =
       let split : piece ≡ take most piece ++ 13 ∷ [] = sym (take-append-drop most piece) ∙ ap (λ d. take most piece ++ d) (return_tail (drop most piece) (sym h.tail ∙ e)) in
       h.kept ∙ sym (strip_returned (take most piece)) ∙ ap strip_carriage_return (sym split)
@@ -120,14 +120,14 @@ module _ (most : ℕ) where
   some_left [] e = cc
   some_left (x ∷ d) e = omega arith
 
-  pub line_over : (line : Line) (piece : List ℕ) → HoldsUpTo most line piece → line.tail ≡ More → most < length (strip_carriage_return piece)
+  pub line_over : (line : InputLine) (piece : List ℕ) → HoldsUpTo most line piece → line.tail ≡ More → most < length (strip_carriage_return piece)
   line_over line piece h1 h2 = grind (arith, common_steps, full, more_by, some_left, take-append-drop, take_full)
 
   left_over : (d : List ℕ) → (tail_of d ≡ Nothing → ⊥) → 0 < length d
   left_over [] h = absurd (h refl)
   left_over (x ∷ d) h = omega arith
 
-  pub last_over : (line : Line) (piece : List ℕ) → HoldsUpTo most line piece → (line.tail ≡ Nothing → ⊥) → most < length piece
+  pub last_over : (line : InputLine) (piece : List ℕ) → HoldsUpTo most line piece → (line.tail ≡ Nothing → ⊥) → most < length piece
   last_over line piece h1 h2 = grind (arith, common_steps, left_over, length-drop)
 
 choice : (b : Bool) (byte : ℕ) (more : Text) → (byte == 13) && begins_with_line_end more ≡ b

@@ -3,17 +3,18 @@ use Rattle.std.proofs.Common.{◌≡◌, ◌∙◌, ◌⊎◌, ◌<◌, ◌≤�
 use Rattle.std.proofs.Math.Nat.{eq-or-lt_of_le}
 use Rattle.engine_core.specs.Verdict.{Outcome.OneSolution, Outcome.NoSolution, outcome, Outcome.SeveralSolutions, Outcome.GaveUp, trials_in}
 use Rattle.engine_core.specs.Walk.{Mark.Found, Mark.Trial}
-use Rattle.commands.specs.Common.{IsRight, Game, Outcome, Mark, RuleSystem, grid_text, verdict_of, walk}
+use Rattle.commands.specs.Common.{IsRight, Game, Outcome, Mark, RuleSystem, verdict_of, walk}
 use Rattle.commands.specs.Answers.{Answer, Text}
 use Rattle.commands.specs.Allowed.{AllowsGrade, AllowsSolve, IsSolved}
-use Rattle.commands.specs.Games.{played, puzzle_of}
-use Rattle.commands.specs.Grades.{HasOneSolution, TellsGrade, grade_by, grade_text, listed_grade, searched_grade}
+use Rattle.commands.specs.Games.{game_of, puzzle_of}
+use Rattle.commands.specs.Grades.{HasOneSolution, SaysGrade, grade_by, grade_text, listed_grade, searched_grade}
 use Rattle.commands.specs.LawsOfCommands.{IsLeastBudget, NamesLeastBudget, NamesSearch, NamesSet}
+use Rattle.commands.specs.PuzzleFacts.{printed_by}
 use Rattle.commands.specs.Replies.{refused}
 use Rattle.commands.specs.declared.grade.Grade.{Grade}
 use Rattle.commands.specs.declared.grade.Grade.TheVariants.{ByRules, BySearch}
 use Rattle.commands.specs.declared.grade.RuleSet.TheVariants.{Singles, Houses, Crossings, Lines, Local}
-use Rattle.commands.proofs.GameFacts.{facts, found_alone, solving}
+use Rattle.commands.proofs.GameLaws.{laws_of, found_alone, solving}
 use Rattle.commands.proofs.GradedAlike.{named_or_searched, status_one, told_status}
 use Rattle.commands.proofs.SearchedPuzzles.{found_with_enough, verdict_right}
 
@@ -59,46 +60,46 @@ room_for (Trial depth board ∷ marks) (suc budget) found g e = let room = room_
 trials_of : RuleSystem → ℕ
 trials_of rules = trials_in (walk rules 0 rules.start)
 
-module _ (game : Game) (id : Text) (p : puzzle_of game) (s : (played game).game.spells id p) where
+module _ (game : Game) (id : Text) (p : puzzle_of game) (s : (game_of game).game.spells id p) where
   abbrev rules : RuleSystem
-  rules = (played game).game.rules p
+  rules = (game_of game).game.rules p
 
   abbrev printed : List ℕ → Text
-  printed g = grid_text ((played game).cell_text p g) ((played game).extent p)
+  printed g = printed_by (game_of game) p g
 
   -- an answer of status 0 tells the verdict one
-  tells_one : (budget : ℕ) (said : Answer) → AllowsSolve game budget id said → said.status ≡ 0 → (g : List ℕ) × (verdict_of rules budget ≡ OneSolution g)
-  tells_one budget said (inl x) fine = absurd ((facts game).reading.apart id p x.fault s x.first)
+  tells_one : (budget : ℕ) (said : Answer) → AllowsSolve (game_of game) budget id said → said.status ≡ 0 → (g : List ℕ) × (verdict_of rules budget ≡ OneSolution g)
+  tells_one budget said (inl x) fine = absurd ((laws_of game).reading.apart id p x.fault s x.first)
   tells_one budget said (inr x) fine =
-      let mine = subst (λ q. IsSolved ((played game).game.solves q) ((played game).game.rules q) ((played game).cell_text q) ((played game).extent q) budget said)
-      ((facts game).reading.one id x.puzzle p x.spelled s) x.allowed in
-      status_one (verdict_of rules budget) (sym (told_status printed (verdict_of rules budget)) ∙ sym (ap (λ (a : Answer). a.status) mine.told) ∙ fine)
+      let mine = subst (λ q. IsSolved (game_of game) budget q said)
+      ((laws_of game).reading.one id x.puzzle p x.spelled s) x.allowed in
+      status_one (verdict_of rules budget) (sym (told_status printed (verdict_of rules budget)) ∙ sym (ap (λ (a : Answer). a.status) mine.said) ∙ fine)
 
-  one_is : (budget : ℕ) (g : List ℕ) → verdict_of rules budget ≡ OneSolution g → HasOneSolution ((played game).game.solves p)
+  one_is : (budget : ℕ) (g : List ℕ) → verdict_of rules budget ≡ OneSolution g → HasOneSolution ((game_of game).game.solves p)
   one_is budget g e =
-      let right = subst (IsRight ((played game).game.solves p)) e (verdict_right rules ((played game).game.solves p) ((facts game).searched id p s) budget) in
+      let right = subst (IsRight ((game_of game).game.solves p)) e (verdict_right rules ((game_of game).game.solves p) ((laws_of game).searched id p s) budget) in
       (g, right.0, right.1)
 
   -- with a budget for all trials each answer tells the one solution
-  tells_fine : HasOneSolution ((played game).game.solves p) → (budget : ℕ) → trials_of rules ≤ budget → (said : Answer) → AllowsSolve game budget id said → said.status ≡ 0
+  tells_fine : HasOneSolution ((game_of game).game.solves p) → (budget : ℕ) → trials_of rules ≤ budget → (said : Answer) → AllowsSolve (game_of game) budget id said → said.status ≡ 0
   unfolding trials_of
   tells_fine one budget room said allowed = ap (λ (a : Answer). a.status)
-      ((found_alone (played game) (facts game).reading id p budget one.0 said s
-      (found_with_enough rules ((played game).game.solves p) ((facts game).searched id p s) one budget room) (one.1, λ h other. sym (one.2 h other))).0 allowed)
+      ((found_alone (game_of game) (laws_of game).reading id p budget one.0 said s
+      (found_with_enough rules ((game_of game).game.solves p) ((laws_of game).searched id p s) one budget room) (one.1, λ h other. sym (one.2 h other))).0 allowed)
 
   -- and with a smaller one none does
-  tells_less : (budget : ℕ) → budget < trials_of rules → (said : Answer) → AllowsSolve game budget id said → said.status ≢ 0
+  tells_less : (budget : ℕ) → budget < trials_of rules → (said : Answer) → AllowsSolve (game_of game) budget id said → said.status ≢ 0
   unfolding trials_of
   tells_less budget less said allowed fine =
       let one = tells_one budget said allowed fine in
       let room = room_for (walk rules 0 rules.start) budget None one.0 one.1 in
       absurd (omega (arith, less, room))
 
-  least_is : HasOneSolution ((played game).game.solves p) → IsLeastBudget game id (trials_of rules)
+  least_is : HasOneSolution ((game_of game).game.solves p) → IsLeastBudget game id (trials_of rules)
   least_is one = record { enough = tells_fine one (trials_of rules) (omega arith); least = tells_less }
 
   -- where there is a least budget, it is that of all trials
-  only_least : (n : ℕ) → IsLeastBudget game id n → HasOneSolution ((played game).game.solves p) × (trials_of rules ≡ n)
+  only_least : (n : ℕ) → IsLeastBudget game id n → HasOneSolution ((game_of game).game.solves p) × (trials_of rules ≡ n)
   unfolding trials_of
   only_least n least =
       let has = solving game n id in
@@ -113,10 +114,10 @@ module _ (game : Game) (id : Text) (p : puzzle_of game) (s : (played game).game.
         ],
       )
 
-  module _ (budget : ℕ) (traced : Bool) (tells : Text → Type 0) (graded : Answer)
-      (told : TellsGrade (listed_grade ((played game).game.sets p) rules budget) traced tells graded) where
+  module _ (budget : ℕ) (traced : Bool) (name : ℕ → Text) (tried : RuleSystem) (graded : Answer)
+      (told : SaysGrade (listed_grade ((game_of game).game.sets p) rules budget) traced name tried graded) where
     abbrev grade : Grade
-    grade = listed_grade ((played game).game.sets p) rules budget
+    grade = listed_grade ((game_of game).game.sets p) rules budget
 
     text_of : (given : Grade) → grade ≡ given → graded.text ≡ grade_text given ++ codes "\n" ++ told.lines
     text_of given is = told.text ∙ ap (λ (g : Grade). grade_text g ++ codes "\n" ++ told.lines) is
@@ -130,7 +131,7 @@ module _ (game : Game) (id : Text) (p : puzzle_of game) (s : (played game).game.
     searched_told rest e = by (searching grade told.lines rest (sym told.text ∙ e))
       where
         by : (trials : ℕ) × (grade ≡ BySearch trials) → (trials : ℕ) × NamesSearch trials graded × IsLeastBudget game id trials × (trials ≤ budget)
-        by (trials, is) = elim (named_or_searched ((played game).game.sets p) (searched_grade rules budget)) [
+        by (trials, is) = elim (named_or_searched ((game_of game).game.sets p) (searched_grade rules budget)) [
           | inl named ↦ absurd (let bad : ByRules named.0 ≡ BySearch trials = sym named.1 ∙ is in cc)
           | inr same ↦
               let one = by_one (trials_of rules) (verdict_of rules budget) trials (sym same ∙ is) in
@@ -144,20 +145,20 @@ module _ (game : Game) (id : Text) (p : puzzle_of game) (s : (played game).game.
 
     pub least_told : (n : ℕ) → IsLeastBudget game id n → n ≤ budget → NamesSet graded ⊎ NamesSearch n graded
     unfolding searched_grade trials_of
-    least_told n least room = elim (named_or_searched ((played game).game.sets p) (searched_grade rules budget)) [
+    least_told n least room = elim (named_or_searched ((game_of game).game.sets p) (searched_grade rules budget)) [
       | inl named ↦ inl (named.0, (told.lines, text_of (ByRules named.0) named.1))
       | inr same ↦
           let one = only_least n least in
-          let found = found_with_enough rules ((played game).game.solves p) ((facts game).searched id p s) one.0 budget (subst (λ k. k ≤ budget) (sym one.1) room) in
+          let found = found_with_enough rules ((game_of game).game.solves p) ((laws_of game).searched id p s) one.0 budget (subst (λ k. k ≤ budget) (sym one.1) room) in
           inr (names n (same ∙ ap (grade_by (trials_of rules)) found ∙ ap BySearch one.1))
     ]
 
-pub least_budgets : (game : Game) (id : Text) (budget : ℕ) (traced : Bool) (graded : Answer) → AllowsGrade game id budget traced graded → NamesLeastBudget game id budget graded
+pub least_budgets : (game : Game) (id : Text) (budget : ℕ) (traced : Bool) (graded : Answer) → AllowsGrade (game_of game) id budget traced graded → NamesLeastBudget game id budget graded
 least_budgets game id budget traced graded (inl x) = record {
-  told = λ b. absurd (no_refusal _ b.0 (sym (ap (λ (a : Answer). a.text) x.told) ∙ b.1));
-  only = λ n least room. absurd (omega (arith, least.enough graded (inl x), ap (λ (a : Answer). a.status) x.told));
+  said = λ b. absurd (no_refusal _ b.0 (sym (ap (λ (a : Answer). a.text) x.said) ∙ b.1));
+  only = λ n least room. absurd (omega (arith, least.enough graded (inl x), ap (λ (a : Answer). a.status) x.said));
 }
 least_budgets game id budget traced graded (inr x) = record {
-  told = λ b. searched_told game id x.puzzle x.spelled budget traced _ graded x.allowed.told b.0 b.1;
-  only = least_told game id x.puzzle x.spelled budget traced _ graded x.allowed.told;
+  said = λ b. searched_told game id x.puzzle x.spelled budget traced _ _ graded x.allowed.said b.0 b.1;
+  only = least_told game id x.puzzle x.spelled budget traced _ _ graded x.allowed.said;
 }

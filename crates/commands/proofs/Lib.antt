@@ -4,12 +4,11 @@ pub mod PieceLemmas
 pub mod RunLemmas
 pub mod GradedAlike
 pub mod PrintedGrids
-mod FaultsOnce
 pub mod Readings
 pub mod CheckedPuzzles
 pub mod SearchedPuzzles
 pub mod GradeLemmas
-pub mod GameFacts
+pub mod GameLaws
 pub mod MadeOnce
 pub mod LeastBudgets
 pub mod MadeAlike

@@ -2,11 +2,10 @@
 use Rattle.std.proofs.Common.{ℕ, ◌/◌, ◌%◌, ◌^◌, ◌<◌, List, arith, ◌≡◌, ◌∙◌, ◌*◌, ◌≤◌, ◌⊎◌, ◌&&◌, Bool, true, false, not, [], Option, Some, None, Result, Ok, Err, refl, sym, ap, ap₂, subst, inl, inr, true≢false}
 use Rattle.std.proofs.lemmas.Nat.{mod_below}
 use Rattle.std.specs.Prelude.{nat_le, if◌then◌else◌}
-use Rattle.std.proofs.lemmas.Bool.{and_parts, leb-true, not-false, not-true}
+use Rattle.std.proofs.lemmas.Bool.{and_parts, cases_eq, cases_lt, leb-true}
 use Rattle.rand_core.specs.Steps.{state_after, steps_u32, stream_of}
 use Rattle.rand_chacha.specs.Block.{block_word}
 use Rattle.rand_chacha.specs.ChaCha.{ChaCha, next_word, of_seed}
-use Rattle.grid_core.proofs.CandidateLemmas.{all_below-at}
 use Rattle.gameid_core.specs.BlackRuns.{runs}
 use Rattle.gameid_core.specs.Lines.{lines_ones, lines_runs}
 use Rattle.gameid_core.specs.declared.id.fault.IdFault.TheVariants.{SizeRange}
@@ -21,7 +20,6 @@ use Rattle.gameid_core.proofs.RunsFit.{runs_lawful}
 use Rattle.gameid_core.proofs.TentsWritten.{tents_is_written}
 use Rattle.engine_core.specs.Verdict.{Outcome.OneSolution}
 use Rattle.engine_core.proofs.VerdictLemmas.{outcome-true}
-use Rattle.fields_core.specs.FirstWrong.{IsFirstWrongOrNone}
 use Rattle.fields_core.proofs.TentRuleLemmas as tents
 use Rattle.maker_core.specs.Draws.{HasWords, IsFirstPassing, Making, NonePasses, filling_at, stream_after}
 use Rattle.maker_core.specs.Made.{HasOne, IsOnlySolution, TellsOne, is_one}
@@ -31,18 +29,18 @@ use Rattle.maker_core.specs.TentFilling.{tent_filling, tents_pass, tents_puzzle_
 use Rattle.maker_core.proofs.BlackCells.{black_cells-grid}
 use Rattle.maker_core.proofs.PatternMakings.{pattern_only, pattern_solved}
 use Rattle.maker_core.proofs.TentMakings.{tents_only, tents_size}
-use Rattle.commands.specs.Common.{Stream, Extent, IsExtent, max_side, IsGrid, grid_text, SizeRead, extent_of}
+use Rattle.commands.specs.Common.{Stream, Extent, IsExtent, max_side, IsGrid, SizeRead, extent_of}
 use Rattle.commands.specs.Common.{size_of, HasOneReading, IsTents, Tents, IdFault, IsLawful, RuleSystem, Outcome, IsTrueOf, verdict_of}
 use Rattle.commands.specs.Common.{is_solution-from, is_solution-is, line_rules-lawful, line_rules, IsPatternSolution, tent_rules, IsTentSolution}
 use Rattle.commands.specs.Seeds.{seed_key, seed_stream}
 use Rattle.commands.specs.Answers.{Answer, Text}
-use Rattle.commands.specs.Games.{played}
-use Rattle.commands.specs.Playing.{Playing}
-use Rattle.commands.specs.TentsPlayed.{tents_sizes}
-use Rattle.commands.specs.Allowed.{AllowsMade, AllowsOfSize, MakesOf, wanted}
-use Rattle.commands.specs.Makings.{IsExhausted, Wanted, exhausted_answer, made_answer}
+use Rattle.commands.specs.Games.{game_of}
+use Rattle.commands.specs.PuzzleFacts.{PuzzleFacts}
+use Rattle.commands.specs.TentsFacts.{tents_facts, tents_sizes}
+use Rattle.commands.specs.Allowed.{AllowsMade, AllowsOfSize, IsHandedOut, handed_out, wanted}
+use Rattle.commands.specs.PatternFacts.{pattern_facts}
+use Rattle.commands.specs.Makings.{Wanted, exhausted_answer}
 use Rattle.commands.specs.LawsOfCommands.{HasOneAnswer}
-use Rattle.commands.proofs.FaultsOnce.{first_of, least_once}
 use Rattle.commands.proofs.Readings.{id_once}
 use Rattle.commands.proofs.SearchedPuzzles.{tents_searched}
 
@@ -59,55 +57,61 @@ seed_words seed = record { below = λ calls. step_below 4 (state_after (steps_u3
 
 -- ---- the first filling that passes
 module _ {A : Type 0} (make : Making A) (passes : A → Bool) (s : Stream) (tries : ℕ) where
-  pub first_or_none : ((k : ℕ) × IsFirstPassing make passes s tries k) ⊎ NonePasses make passes s tries
-  first_or_none = by (first_of (λ j. not (passes (filling_at make j s))) tries)
+  -- among the fillings below one
+  first_below : (n : ℕ) → ((k : ℕ) × IsFirstPassing make passes s n k) ⊎ NonePasses make passes s n
+  first_below zero = inr (record { failing = λ j lt. absurd (omega arith) })
+  first_below (suc n) = by (first_below n) (passes (filling_at make n s)) refl
     where
-      by : (o : Option ℕ) × IsFirstWrongOrNone (λ j. not (passes (filling_at make j s))) tries o → ((k : ℕ) × IsFirstPassing make passes s tries k) ⊎ NonePasses make passes s tries
-      by (Some k, first) = inl (
-        k,
-        record {
-          within = first.below;
-          passing = not-false (passes (filling_at make k s)) first.wrong;
-          failing = λ j lt. not-true (passes (filling_at make j s)) (first.before j lt);
-        },
-      )
-      by (None, all) = inr (record { failing = λ j lt. not-true (passes (filling_at make j s)) (all_below-at (λ j. not (passes (filling_at make j s))) tries j all lt) })
+      by : ((k : ℕ) × IsFirstPassing make passes s n k) ⊎ NonePasses make passes s n → (b : Bool) → passes (filling_at make n s) ≡ b
+          → ((k : ℕ) × IsFirstPassing make passes s (suc n) k) ⊎ NonePasses make passes s (suc n)
+      by (inl (k, first)) b is = inl (k, record { within = let low = first.within in omega arith; passing = first.passing; failing = first.failing })
+      by (inr none) true is = inl (n, record { within = omega arith; passing = is; failing = none.failing })
+      by (inr none) false is = inr (record { failing = λ j lt. elim (cases_eq j n) [
+        | inl e ↦ subst (λ i. passes (filling_at make i s) ≡ false) (sym e) is
+        | inr ne ↦ none.failing j (omega arith)
+      ] })
+
+  pub first_or_none : ((k : ℕ) × IsFirstPassing make passes s tries k) ⊎ NonePasses make passes s tries
+  first_or_none = first_below tries
 
   pub first_once : (j k : ℕ) → IsFirstPassing make passes s tries j → IsFirstPassing make passes s tries k → j ≡ k
-  first_once j k a b = least_once (λ n. passes (filling_at make n s) ≡ false) (λ n. passes (filling_at make n s) ≡ true) (λ n off on. true≢false (sym on ∙ off)) j k
-      a.passing b.passing a.failing b.failing
+  first_once j k a b = elim (cases_lt j k) [
+    | inl low ↦ absurd (true≢false (sym a.passing ∙ b.failing j low))
+    | inr high ↦ elim (cases_lt k j) [
+      | inl low ↦ absurd (true≢false (sym b.passing ∙ a.failing k low))
+      | inr other ↦ omega arith
+    ]
+  ]
 
   pub first_not_none : (k : ℕ) → IsFirstPassing make passes s tries k → NonePasses make passes s tries → ⊥
   first_not_none k a none = true≢false (sym a.passing ∙ none.failing k a.within)
 
-  -- so one answer is allowed, where what is handed out is of the first filling that passes
-  pub making_once : (handed : Answer → Type 0) (told : A → Answer)
-      → ((a : Answer) → handed a → (k : ℕ) × IsFirstPassing make passes s tries k × (a ≡ told (filling_at make k s)))
-      → ((k : ℕ) → IsFirstPassing make passes s tries k → handed (told (filling_at make k s)))
-      → HasOneAnswer (λ a. handed a ⊎ IsExhausted make passes s tries a)
-  making_once handed told of by = elim first_or_none [
-    | inl first ↦ record { answer = told (filling_at make first.0 s); allowed = inl (by first.0 first.1); only = some first.0 first.1 }
-    | inr none ↦ record { answer = exhausted_answer; allowed = inr (record { none = none; told = refl }); only = exhausted none }
+  -- so one answer is allowed of a size, where what is handed out is of the first filling that passes
+  pub making_once : {P : Type 0} (play : PuzzleFacts P) (w : Wanted) (size : SizeRead) (said : A → Answer)
+      → (NonePasses make passes s tries → play.game.makes_none size w) → (play.game.makes_none size w → NonePasses make passes s tries)
+      → ((a : Answer) → IsHandedOut play w size a → (k : ℕ) × IsFirstPassing make passes s tries k × (a ≡ said (filling_at make k s)))
+      → ((k : ℕ) → IsFirstPassing make passes s tries k → IsHandedOut play w size (said (filling_at make k s)))
+      → HasOneAnswer (AllowsOfSize play w size)
+  making_once play w size said to back of by = elim first_or_none [
+    | inl first ↦ record { answer = said (filling_at make first.0 s); allowed = inl (by first.0 first.1); only = some first.0 first.1 }
+    | inr none ↦ record { answer = exhausted_answer; allowed = inr (record { none = to none; said = refl }); only = exhausted none }
   ]
     where
-      some : (k : ℕ) → IsFirstPassing make passes s tries k → (other : Answer) → handed other ⊎ IsExhausted make passes s tries other → told (filling_at make k s) ≡ other
-      some k first other (inl h) = let x = of other h in ap (λ (n : ℕ). told (filling_at make n s)) (first_once k x.0 first x.1) ∙ sym x.2
-      some k first other (inr none) = absurd (first_not_none k first none.none)
+      some : (k : ℕ) → IsFirstPassing make passes s tries k → (other : Answer) → AllowsOfSize play w size other → said (filling_at make k s) ≡ other
+      some k first other (inl h) = let x = of other h in ap (λ (n : ℕ). said (filling_at make n s)) (first_once k x.0 first x.1) ∙ sym x.2
+      some k first other (inr none) = absurd (first_not_none k first (back none.none))
 
-      exhausted : NonePasses make passes s tries → (other : Answer) → handed other ⊎ IsExhausted make passes s tries other → exhausted_answer ≡ other
+      exhausted : NonePasses make passes s tries → (other : Answer) → AllowsOfSize play w size other → exhausted_answer ≡ other
       exhausted none other (inl h) = let x = of other h in absurd (first_not_none x.0 x.1 none)
-      exhausted none other (inr also) = sym also.told
+      exhausted none other (inr also) = sym also.said
 
 -- a text is one size, or has one fault
 pub size_reading : (sizes : Text → Result SizeRead IdFault) → HasOneReading (λ text size. sizes text ≡ Ok size) sizes
 size_reading sizes = reading_of (λ text size. sizes text ≡ Ok size) sizes (λ text size is. is) (λ text size is. is)
 
-made_once : {P : Type 0} (play : Playing P) (w : Wanted) (text : Text) → ((read : SizeRead) → play.game.sizes text ≡ Ok read → HasOneAnswer (AllowsOfSize play w read))
-    → HasOneAnswer (MakesOf play w text)
+made_once : {P : Type 0} (play : PuzzleFacts P) (w : Wanted) (text : Text) → ((read : SizeRead) → play.game.sizes text ≡ Ok read → HasOneAnswer (AllowsOfSize play w read))
+    → HasOneAnswer (AllowsMade play w text)
 made_once play w text each = id_once (size_reading play.game.sizes) text (AllowsOfSize play w) each
-
-abbrev pub handed_answer : {P : Type 0} → Playing P → P → List ℕ → Answer
-handed_answer play p g = made_answer (play.game.written p) (grid_text (play.cell_text p g) (play.extent p))
 
 -- ---- what a search finds
 one_found : (o : Outcome) → is_one o ≡ true → (g : List ℕ) × (o ≡ OneSolution g)
@@ -154,22 +158,21 @@ module _ (size : Extent) (extent : IsExtent size) (black budget tries : ℕ) (s 
       only = pattern_only (clued_by size (grid_of k)) (grid_of k) (λ q h grid. (is_solution-is q h grid, is_solution-from q h)) budget
           (has_one (line_rules (clued_by size (grid_of k))) (line_rules-lawful (clued_by size (grid_of k)) extent) budget first.passing) solved
 
-pub made_pattern : (text : Text) (seed budget tries black : ℕ) → HasOneAnswer (AllowsMade game.Pattern text seed budget tries black)
-made_pattern text seed budget tries black = made_once (played game.Pattern) (wanted seed budget tries black) text (λ read is.
+pub made_pattern : (text : Text) (seed budget tries black : ℕ) → HasOneAnswer (AllowsMade (game_of game.Pattern) (wanted seed budget tries black) text)
+made_pattern text seed budget tries black = made_once pattern_facts (wanted seed budget tries black) text (λ read is.
     let size : Extent = extent_of read in
     let s = seed_stream seed in
     let extent = is_extent 1 read.w read.h (omega arith) (size_take game.Pattern text read is).1 in
-    making_once (pattern_filling size black) (pattern_passes size budget) s tries _ (λ g. handed_answer (played game.Pattern) (clued_by size g) g)
-    (λ a h. (h.made.k, h.made.first, h.told ∙ ap₂ (handed_answer (played game.Pattern)) (h.made.clues ∙ ap (clued_by size) h.made.filled) h.made.filled))
+    making_once (pattern_filling size black) (pattern_passes size budget) s tries pattern_facts (wanted seed budget tries black) read
+    (λ g. handed_out pattern_facts (clued_by size g) g) (λ none. none) (λ none. none)
+    (λ a h. (h.is_made.k, h.is_made.first, h.said ∙ ap₂ (handed_out pattern_facts) (h.is_made.clues ∙ ap (clued_by size) h.is_made.filled) h.is_made.filled))
     (λ k first.
     let g : List ℕ = filling_at (pattern_filling size black) k s in
     record {
-      puzzle = clued_by size g;
-      solution = g;
-      kept = [];
-      made = pattern_made size extent black budget tries s k first;
+      made = record { puzzle = clued_by size g; solution = g; kept = [] };
+      is_made = pattern_made size extent black budget tries s k first;
       spelled = (pattern_is_written (clued_by size g) (runs_lawful size g (lines_runs size g) extent refl)).spells;
-      told = refl;
+      said = refl;
     }))
 
 -- ---- a filling of Tents that passes is the one solution of its puzzle
@@ -239,20 +242,19 @@ module _ (filled : AreFilled) (size : Extent) (large : IsTentsExtent size) (budg
           (λ q h grid. (tents.solution-from-tents q h grid, tents.tents-from-solution q h grid)) budget
           (has_one (tent_rules (puzzle_at k)) (tents_searched (puzzle_at k) (puzzle_lawful k)).lawful budget first.passing)
 
-pub made_tents : AreFilled → (text : Text) (seed budget tries black : ℕ) → HasOneAnswer (AllowsMade game.Tents text seed budget tries black)
-made_tents filled text seed budget tries black = made_once (played game.Tents) (wanted seed budget tries black) text (λ read is.
+pub made_tents : AreFilled → (text : Text) (seed budget tries black : ℕ) → HasOneAnswer (AllowsMade (game_of game.Tents) (wanted seed budget tries black) text)
+made_tents filled text seed budget tries black = made_once tents_facts (wanted seed budget tries black) text (λ read is.
     let size : Extent = extent_of read in
     let s = seed_stream seed in
     let large = tents_extent text read is in
-    making_once (tent_filling size) (tents_pass size budget) s tries _ (λ filling. handed_answer (played game.Tents) (tents_puzzle_of size filling) filling.tents)
-    (λ a h. (h.made.k, h.made.first, h.told ∙ ap₂ (handed_answer (played game.Tents)) h.made.clues h.made.filled))
+    making_once (tent_filling size) (tents_pass size budget) s tries tents_facts (wanted seed budget tries black) read
+    (λ filling. handed_out tents_facts (tents_puzzle_of size filling) filling.tents) (λ none. none) (λ none. none)
+    (λ a h. (h.is_made.k, h.is_made.first, h.said ∙ ap₂ (handed_out tents_facts) h.is_made.clues h.is_made.filled))
     (λ k first.
     let filling : TentFilling = filling_at (tent_filling size) k s in
     record {
-      puzzle = tents_puzzle_of size filling;
-      solution = filling.tents;
-      kept = [];
-      made = tents_made filled size large budget tries s (seed_words seed) k first;
+      made = record { puzzle = tents_puzzle_of size filling; solution = filling.tents; kept = [] };
+      is_made = tents_made filled size large budget tries s (seed_words seed) k first;
       spelled = (tents_is_written (tents_puzzle_of size filling) (puzzle_lawful filled size large budget tries s (seed_words seed) k)).spells;
-      told = refl;
+      said = refl;
     }))

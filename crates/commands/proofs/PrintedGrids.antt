@@ -13,7 +13,7 @@ use Rattle.gameid_core.specs.GridTexts.{grid_text, row_text, each_below}
 use Rattle.gameid_core.specs.TentsText.{tent_hides, tents_cell}
 use Rattle.gameid_core.specs.SoloText.{solo_cell, solo_extent}
 use Rattle.gameid_core.specs.PatternText.{pattern_cell}
-use Rattle.gameid_core.specs.LightText.{light_hides, light_cell, light_mark}
+use Rattle.gameid_core.specs.LightText.{light_hides, light_cell, light_symbol}
 use Rattle.gameid_core.proofs.PrintedGrids.{begins_with_form, same_grid}
 use Rattle.gameid_core.proofs.PrintedRows.{Left, LeftOf, after_cell, all_left, all_rows_left, cell_follows, in_grid, next_row, none_left, row_first}
 use Rattle.gameid_core.specs.Puzzles.{IsSolo, Light, Pattern, Solo, Tents, solo_n, IsLight, IsLightCell}
@@ -148,7 +148,7 @@ pub light_once : (p : Light) → CellOnce (light_hides p) 2 p.size (light_cell p
 light_once p g h place after other shown also lt follows more e = by (slice_get p.cells place) refl
   where
     hidden : (o : Option LightCell) → slice_get p.cells place ≡ o → (o ≡ Some White → ⊥) → (slice_index g place ≡ slice_index h place) × (after ≡ other)
-    hidden o is black = hidden_once (light_mark (slice_get p.cells place)) (slice_index g place) (slice_index h place) after other
+    hidden o is black = hidden_once (light_symbol (slice_get p.cells place)) (slice_index g place) (slice_index h place) after other
         (shown.hidden place (λ white. black (sym is ∙ white))) (also.hidden place (λ white. black (sym is ∙ white))) e
 
     by : (o : Option LightCell) → slice_get p.cells place ≡ o → (slice_index g place ≡ slice_index h place) × (after ≡ other)
@@ -156,7 +156,7 @@ light_once p g h place after other shown also lt follows more e = by (slice_get 
     by (Some Black) is = hidden (Some Black) is (λ white. cc)
     by (Some (Numbered n)) is = hidden (Some (Numbered n)) is (λ white. cc)
     by (Some White) is =
-        let marks = subst (λ (o : Option LightCell). light_mark o (slice_index g place) ++ after ≡ light_mark o (slice_index h place) ++ other) is e in
+        let marks = subst (λ (o : Option LightCell). light_symbol o (slice_index g place) ++ after ≡ light_symbol o (slice_index h place) ++ other) is e in
         mark_once 79 46 (slice_index g place) (slice_index h place) after other (number_fits (light_hides p) 2 p.size g place shown lt)
         (number_fits (light_hides p) 2 p.size h place also lt) (λ same. absurd (omega arith)) marks
 
@@ -299,7 +299,7 @@ cell_at (x ∷ cells) (suc place) cell all e = cell_at cells place cell all.1 e
 pub light_cell_text : (p : Light) → IsLight p → (g : List ℕ) (place : ℕ) → IsCellText 1 (light_cell p g place)
 light_cell_text p ok g place = by (slice_get p.cells place) refl
   where
-    by : (o : Option LightCell) → slice_get p.cells place ≡ o → IsCellText 1 (light_mark o (slice_index g place))
+    by : (o : Option LightCell) → slice_get p.cells place ≡ o → IsCellText 1 (light_symbol o (slice_index g place))
     by None e = record { plain = tt; few = omega arith }
     by (Some White) e = one_of (slice_index g place == 1) 79 46 (λ e. absurd (omega arith)) (λ e. absurd (omega arith))
     by (Some Black) e = one_byte 35 (λ e. absurd (omega arith))

@@ -5,14 +5,14 @@ use Rattle.gameid_core.specs.Steps.{Fails}
 use Rattle.gameid_core.specs.declared.id.fault.IdFault.TheVariants.{Memory, TooLong}
 use Rattle.commands.specs.Common.{HasOneReading, IdFault, max_id, Game}
 use Rattle.commands.specs.Answers.{Text, Answer}
-use Rattle.commands.specs.Games.{played}
-use Rattle.commands.specs.Allowed.{AllowsId, AllowsSolve}
+use Rattle.commands.specs.Games.{game_of}
+use Rattle.commands.specs.Allowed.{AllowsId, AllowsSolve, IsGraded}
+use Rattle.commands.specs.PuzzleFacts.{GameFacts, PuzzleFacts}
 use Rattle.commands.specs.Replies.{refused, fault_text, answer_in}
 use Rattle.commands.specs.declared.answers.reply.Reply.{Reply}
 use Rattle.commands.specs.Each.{AllowsEach, both, silence}
-use Rattle.commands.specs.Grades.{IsGradeOf, IsRightGrade, grade_status, grade_text}
+use Rattle.commands.specs.Grades.{IsRightGrade, NamedRules, grade_status, grade_text, listed_grade}
 use Rattle.commands.specs.LawsOfCommands.{HasOneAnswer, IsRewritten}
-use Rattle.commands.specs.declared.grade.Grade.{Grade}
 
 first_fault : {P : Type 0} (fault : IdFault) (reading : Result P IdFault) → fault ≢ Memory → Fails fault reading → reading ≡ Err fault
 first_fault Memory reading other fails = absurd (other refl)
@@ -21,14 +21,14 @@ first_fault fault reading other fails = fails
 -- by what the reader ensures
 pub refused_id : {P : Type 0} (spells : P → Type 0) (allows : P → Answer → Type 0) (reading : Result P IdFault) (fault : IdFault) (answer : Answer)
     → fault ≢ Memory → Fails fault reading → answer ≡ refused (fault_text fault) → AllowsId reading spells allows answer
-refused_id spells allows reading fault answer other fails told = inl (record { fault = fault; first = first_fault fault reading other fails; told = told })
+refused_id spells allows reading fault answer other fails told = inl (record { fault = fault; first = first_fault fault reading other fails; said = told })
 
 -- an over-long text is refused as too long
 pub too_long_id : {E : Type 0} (game : Game) (budget : ℕ) (result : Result Reply E)
-    → ((text : Text) → max_id < length text → (played game).game.reading text ≡ Err TooLong)
+    → ((text : Text) → max_id < length text → (game_of game).game.reading text ≡ Err TooLong)
     → IfOk result (λ r. answer_in r ≡ refused (fault_text TooLong))
-    → IfOk result (λ r. (id : Text) → max_id < length id → AllowsSolve game budget id (answer_in r))
-too_long_id game budget (Ok r) long told = λ id more. inl (record { fault = TooLong; first = long id more; told = told })
+    → IfOk result (λ r. (id : Text) → max_id < length id → AllowsSolve (game_of game) budget id (answer_in r))
+too_long_id game budget (Ok r) long told = λ id more. inl (record { fault = TooLong; first = long id more; said = told })
 too_long_id game budget (Err e) long told = tt
 
 abbrev pub AreSame : (Answer → Type 0) → Type 0
@@ -45,7 +45,7 @@ module _ {P : Type 0} {of : Text → Result P IdFault} {spells : Text → P → 
   pub id_some : (id : Text) (allows : P → Answer → Type 0) → ((p : P) → spells id p → (a : Answer) × allows p a) → (a : Answer) × AllowsId (of id) (spells id) allows a
   id_some id allows each = elim (reading.either id) [
     | inl s ↦ let some = each s.0 s.1 in (some.0, inr (record { puzzle = s.0; spelled = s.1; allowed = some.1 }))
-    | inr f ↦ (refused (fault_text f.0), inl (record { fault = f.0; first = f.1; told = refl }))
+    | inr f ↦ (refused (fault_text f.0), inl (record { fault = f.0; first = f.1; said = refl }))
   ]
 
   pub id_once : (id : Text) (allows : P → Answer → Type 0) → ((p : P) → spells id p → HasOneAnswer (allows p)) → HasOneAnswer (AllowsId (of id) (spells id) allows)
@@ -57,7 +57,7 @@ module _ {P : Type 0} {of : Text → Result P IdFault} {spells : Text → P → 
     }
     | inr f ↦ record {
       answer = refused (fault_text f.0);
-      allowed = inl (record { fault = f.0; first = f.1; told = refl });
+      allowed = inl (record { fault = f.0; first = f.1; said = refl });
       only = faulty f.0 f.1;
     }
   ]
@@ -70,17 +70,20 @@ module _ {P : Type 0} {of : Text → Result P IdFault} {spells : Text → P → 
       faults f h e = cc
 
       faulty : (f : IdFault) → of id ≡ Err f → (other : Answer) → AllowsId (of id) (spells id) allows other → refused (fault_text f) ≡ other
-      faulty f first other (inl x) = ap (λ (h : IdFault). refused (fault_text h)) (faults f x.fault (sym first ∙ x.first)) ∙ sym x.told
+      faulty f first other (inl x) = ap (λ (h : IdFault). refused (fault_text h)) (faults f x.fault (sym first ∙ x.first)) ∙ sym x.said
       faulty f first other (inr x) = absurd (reading.apart id x.puzzle f x.spelled first)
 
 -- a grade without a trace
-pub grade_once : (solves : List ℕ → Type 0) (grade : Grade) (tells : Text → Type 0) → IsRightGrade solves grade → HasOneAnswer (IsGradeOf solves grade false tells)
-grade_once solves grade tells right = record {
-  answer = record { text = grade_text grade ++ codes "\n" ++ []; status = grade_status grade };
-  allowed = record { right = right; told = record { lines = []; trace = refl; text = refl; status = refl } };
-  only = λ other is. ap₂ (λ (t : Text) (s : ℕ). record { text = t; status = s })
-      (ap (λ (lines : Text). grade_text grade ++ codes "\n" ++ lines) (sym is.told.trace) ∙ sym is.told.text) (sym is.told.status);
-}
+pub grade_once : {P : Type 0} (play : PuzzleFacts P) (sets : List NamedRules) (budget : ℕ) (p : P)
+    → IsRightGrade (play.game.solves p) (listed_grade sets (play.game.rules p) budget) → HasOneAnswer (IsGraded play sets budget false p)
+grade_once play sets budget p right =
+    let given = listed_grade sets (play.game.rules p) budget in
+    record {
+      answer = record { text = grade_text given ++ codes "\n" ++ []; status = grade_status given };
+      allowed = record { right = right; said = record { lines = []; trace = refl; text = refl; status = refl } };
+      only = λ other is. ap₂ (λ (t : Text) (s : ℕ). record { text = t; status = s })
+          (ap (λ (lines : Text). grade_text given ++ codes "\n" ++ lines) (sym is.said.trace) ∙ sym is.said.text) (sym is.said.status);
+    }
 
 -- the answers to lines, in turn
 pub each_once : (allows : Text → Answer → Type 0) → ((text : Text) → HasOneAnswer (allows text)) → (texts : List Text) → HasOneAnswer (AllowsEach allows texts)
@@ -94,11 +97,11 @@ each_once allows one (text ∷ texts) =
       only = λ other is. ap₂ both (here.only is.0 is.2) (rest.only is.1 is.3) ∙ sym is.4;
     }
 
--- a reading, what it spells and what is written
-module _ {P : Type 0} {of : Text → Result P IdFault} {spells : Text → P → Type 0} (written : P → Text) (reading : HasOneReading spells of)
-    (again : (text : Text) (p : P) → spells text p → spells (written p) p) where
-  carried : (id other : Text) (p : P) → spells id p → spells other p → (allows : P → Answer → Type 0) (a : Answer)
-      → AllowsId (of id) (spells id) allows a → AllowsId (of other) (spells other) allows a
+-- a game whose texts spell one puzzle or have one fault, and where what is written for a puzzle spells it
+module _ {P : Type 0} (game : GameFacts P) (reading : HasOneReading game.spells game.reading)
+    (again : (text : Text) (p : P) → game.spells text p → game.spells (game.written p) p) where
+  carried : (id other : Text) (p : P) → game.spells id p → game.spells other p → (allows : P → Answer → Type 0) (a : Answer)
+      → AllowsId (game.reading id) (game.spells id) allows a → AllowsId (game.reading other) (game.spells other) allows a
   carried id other p s t allows a (inl refused) = absurd (reading.apart id p refused.fault s refused.first)
   carried id other p s t allows a (inr answered) = inr (record {
     puzzle = p;
@@ -106,16 +109,16 @@ module _ {P : Type 0} {of : Text → Result P IdFault} {spells : Text → P → 
     allowed = subst (λ q. allows q a) (reading.one id answered.puzzle p answered.spelled s) answered.allowed;
   })
 
-  spells_written : (id other : Text) (r : IsRewritten spells written id other) → spells other r.puzzle
-  spells_written id other r = subst (λ t. spells t r.puzzle) (sym r.is_written) (again id r.puzzle r.spelled)
+  spells_written : (id other : Text) (r : IsRewritten game id other) → game.spells other r.puzzle
+  spells_written id other r = subst (λ t. game.spells t r.puzzle) (sym r.is_written) (again id r.puzzle r.spelled)
 
-  pub answered_alike : (id other : Text) → IsRewritten spells written id other → (allows : P → Answer → Type 0) (a : Answer)
-      → AllowsId (of id) (spells id) allows a ↔ AllowsId (of other) (spells other) allows a
+  pub answered_alike : (id other : Text) → IsRewritten game id other → (allows : P → Answer → Type 0) (a : Answer)
+      → AllowsId (game.reading id) (game.spells id) allows a ↔ AllowsId (game.reading other) (game.spells other) allows a
   answered_alike id other r allows a =
       let t = spells_written id other r in
       (carried id other r.puzzle r.spelled t allows a, carried other id r.puzzle t r.spelled allows a)
 
-  pub spelled_alike : (id other : Text) → IsRewritten spells written id other → (q : P) → spells id q ↔ spells other q
+  pub spelled_alike : (id other : Text) → IsRewritten game id other → (q : P) → game.spells id q ↔ game.spells other q
   spelled_alike id other r q =
       let t = spells_written id other r in
-      (λ s. subst (spells other) (reading.one id r.puzzle q r.spelled s) t, λ s. subst (spells id) (reading.one other r.puzzle q t s) r.spelled)
+      (λ s. subst (game.spells other) (reading.one id r.puzzle q r.spelled s) t, λ s. subst (game.spells id) (reading.one other r.puzzle q t s) r.spelled)

@@ -1,11 +1,13 @@
 -- Runs that deliver one answer, and those that end before their answers are whole.
-use Rattle.std.proofs.Common.{[], refl, ◌≡◌, ◌≤◌, ℕ, Bool, Result, Ok, Err, sym, subst, inl, inr, arith, false, true≢false, ◌++◌, ◌-◌, List, take, drop, length, ap, ◌∙◌, append_assoc, append-nil, ◌⊎◌, true}
+use Rattle.std.proofs.Common.{[], refl, ◌≡◌, ◌≤◌, ℕ, Bool, Result, Ok, Err, IfErr, IfOk, sym, subst, inl, inr, arith, false, true≢false, ◌++◌, ◌-◌, List, take, drop, length, ap, ◌∙◌, append_assoc, append-nil, ◌⊎◌, true}
 use Rattle.std.specs.Result.{IsErr, IsErrAnd}
 use Rattle.std.proofs.lemmas.List.{take-append-drop}
 use Rattle.std.proofs.lemmas.Grind.{common_steps}
 use Rattle.commands.specs.Answers.{Answer, BeginsAnswer, Text, Delivers, PutBegun, PutUpTo, IsInput, status_of}
 use Rattle.commands.specs.Each.{HasAnswers}
-use Rattle.commands.specs.Stops.{BeginsIfAny, IsSinkAfter, RanIfAny, Tells, TellsIfAny, status_in}
+use Rattle.commands.specs.Replies.{answer_in}
+use Rattle.commands.specs.declared.answers.reply.Reply.{Reply}
+use Rattle.commands.specs.Stops.{BeginsIfAny, IsSinkAfter, RanIfAny, Says, SaysIfAny, status_in}
 use Rattle.commands.specs.declared.answers.status.Status.{Status}
 use Rattle.commands.specs.declared.answers.status.Stop.{Stop}
 use Rattle.commands.specs.declared.answers.status.Stop.TheVariants.{Memory, Broken}
@@ -48,9 +50,9 @@ begins_some A w some (inl none) = subst (BeginsAnswer A) (sym none) (nothing_beg
 begins_some A w some (inr begun) = begun
 
 -- what is told as one thing is told as another that follows from it
-pub tells_as : {S : Type 0} (takes : S → Text → S → Type 0) (A B : Answer → Type 0) (s t : S) (status : ℕ) → ((a : Answer) → A a → B a)
-    → TellsIfAny takes A s t status → TellsIfAny takes B s t status
-tells_as takes A B s t status follows told = record {
+pub says_as : {S : Type 0} (takes : S → Text → S → Type 0) (A B : Answer → Type 0) (s t : S) (status : ℕ) → ((a : Answer) → A a → B a)
+    → SaysIfAny takes A s t status → SaysIfAny takes B s t status
+says_as takes A B s t status follows told = record {
   written = told.written;
   took = told.took;
   begun = begins_if_any_as A B _ follows told.begun;
@@ -58,9 +60,9 @@ tells_as takes A B s t status follows told = record {
 }
 
 -- some answer is allowed
-pub tells_some : {S : Type 0} (takes : S → Text → S → Type 0) (A : Answer → Type 0) (s t : S) (status : ℕ) → (a : Answer) × A a
-    → TellsIfAny takes A s t status → Tells takes A s t status
-tells_some takes A s t status some told = record {
+pub says_some : {S : Type 0} (takes : S → Text → S → Type 0) (A : Answer → Type 0) (s t : S) (status : ℕ) → (a : Answer) × A a
+    → SaysIfAny takes A s t status → Says takes A s t status
+says_some takes A s t status some told = record {
   written = told.written;
   took = told.took;
   begun = begins_some A told.written some told.begun;
@@ -68,8 +70,8 @@ tells_some takes A s t status some told = record {
 }
 
 -- nothing was written
-pub tells_nothing : {S : Type 0} (takes : S → Text → S → Type 0) (allows : Answer → Type 0) (s : S) (status : ℕ) → takes s [] s → 5 ≤ status → TellsIfAny takes allows s s status
-tells_nothing takes allows s status nothing high = record { written = []; took = nothing; begun = inl refl; whole = λ small. absurd (omega arith) }
+pub says_nothing : {S : Type 0} (takes : S → Text → S → Type 0) (allows : Answer → Type 0) (s : S) (status : ℕ) → takes s [] s → 5 ≤ status → SaysIfAny takes allows s s status
+says_nothing takes allows s status nothing high = record { written = []; took = nothing; begun = inl refl; whole = λ small. absurd (omega arith) }
 
 rest_is : (rest : List ℕ) (n m : ℕ) → m ≡ length rest → take (m - n) (drop n rest) ≡ drop n rest
 rest_is rest n m e = grind (arith, common_steps)
@@ -112,7 +114,7 @@ module _ {I O : Type 0} (source : sources.Ghosts I) (sink : sinks.Ghosts O)
     (allows : Text → Answer → Type 0) where
   -- nothing was read, and what was written may be left on every input
   pub ran_by_telling : (i : I) (o p : O) (tells : Answer → Type 0) (status : ℕ) → source.gives i [] i → ((input : Text) (a : Answer) → tells a → allows input a)
-      → Tells sink.takes tells o p status → Ran source sink allows i i o p status
+      → Says sink.takes tells o p status → Ran source sink allows i i o p status
   ran_by_telling i o p tells status nothing allowed t = record {
     read = [];
     written = t.written;
@@ -145,13 +147,21 @@ module _ {I O : Type 0} (source : sources.Ghosts I) (sink : sinks.Ghosts O)
     leaves = record { begun = λ input _. nothing_begins (allows input) (answers input); whole = λ low. absurd (omega arith) };
   }
 
+  -- an answer that is allowed on every input was put, if there was memory for it
+  pub ran_by_put : {E : Type 0} (made : Result Reply E) (i : I) (o p : O) (status : ℕ) → HasAnswers allows → source.gives i [] i → sink.takes o [] o
+      → IfOk made (λ r. (input : Text) → allows input (answer_in r)) → IfOk made (λ r. Delivers sink.takes o (answer_in r) p status)
+      → IfErr made (λ _. (p ≡ o) × (status ≡ 5)) → Ran source sink allows i i o p status
+  ran_by_put (Ok r) i o p status answers nothing none allowed put unmade = ran_by_reply i o p (answer_in r) status nothing allowed put
+  ran_by_put (Err e) i o p status answers nothing none allowed put unmade =
+      rw unmade.0 (ran_unwritten answers i i o [] status (omega arith) nothing none)
+
   -- the same of steps that know of no answer before
   pub ran_if_any_unwritten : (i j : I) (o : O) (seen : Text) (status : ℕ) → 5 ≤ status → source.gives i seen j → sink.takes o [] o → RanIfAny source sink allows i j o o status
   ran_if_any_unwritten i j o seen status high gave took =
       record { read = seen; written = []; gave = gave; took = took; begun = λ input _. inl refl; whole = λ low. absurd (omega arith) }
 
   pub ran_if_any_by_telling : (i : I) (o p : O) (tells : Answer → Type 0) (status : ℕ) → source.gives i [] i → ((input : Text) (a : Answer) → tells a → allows input a)
-      → TellsIfAny sink.takes tells o p status → RanIfAny source sink allows i i o p status
+      → SaysIfAny sink.takes tells o p status → RanIfAny source sink allows i i o p status
   ran_if_any_by_telling i o p tells status nothing allowed t = record {
     read = [];
     written = t.written;

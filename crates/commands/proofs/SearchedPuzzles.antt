@@ -7,18 +7,17 @@ use Rattle.engine_core.specs.Walk.{Mark.Found, Mark.Trial}
 use Rattle.engine_core.proofs.VerdictLemmas.{outcome-true}
 use Rattle.solo_core.specs.RuleLaws.{crossings_lawful, houses_lawful, singles_lawful}
 use Rattle.engine_core.specs.HouseRules.{House}
-use Rattle.fields_core.specs.LightLaws.{light-lawful}
-use Rattle.fields_core.specs.TentLaws.{tent-lawful}
-use Rattle.fields_core.proofs.LightCounting.{light-counting}
+use Rattle.fields_core.proofs.LightCounting.{light-lawful}
 use Rattle.fields_core.proofs.LightRuleLemmas as light
-use Rattle.fields_core.proofs.TentCounting.{tent-counting}
+use Rattle.fields_core.proofs.TentCounting.{tent-lawful}
 use Rattle.fields_core.proofs.TentRuleLemmas as tents
-use Rattle.commands.specs.Common.{IsRight, Extent, grid_text, IsLight, IsPattern, IsSolo, IsTents, Light, Pattern, Solo, Tents, RuleSystem, IsLawful, Outcome}
+use Rattle.commands.specs.Common.{IsRight, IsLight, IsPattern, IsSolo, IsTents, Light, Pattern, Solo, Tents, RuleSystem, IsLawful, Outcome}
 use Rattle.commands.specs.Common.{verdict_of, IsTrueOf, Solves, Mark, walk, is_solution-from, is_solution-is, line_rules-lawful, line_rules}
 use Rattle.commands.specs.Common.{IsPatternSolution, crossings_rules, houses_rules, rules_of, singles_rules, rule_from_test, test_from_rule}
 use Rattle.commands.specs.Common.{IsSoloSolution, light_rules, IsLightSolution, tent_rules, IsTentSolution}
-use Rattle.commands.specs.Answers.{Answer, Text}
+use Rattle.commands.specs.Answers.{Answer}
 use Rattle.commands.specs.Allowed.{IsSolved}
+use Rattle.commands.specs.PuzzleFacts.{PuzzleFacts, printed_by}
 use Rattle.commands.specs.Replies.{verdict_answer}
 use Rattle.commands.specs.Grades.{HasOneSolution}
 use Rattle.commands.specs.LawsOfCommands.{HasOneAnswer}
@@ -31,15 +30,14 @@ right_of p solves (SeveralSolutions g k) same h = ((same g).0 h.0, (same k).0 h.
 right_of p solves (GaveUp None) same h = tt
 right_of p solves (GaveUp (Some g)) same h = (same g).0 h
 
-module _ {P : Type 0} (solves : P → List ℕ → Type 0) (rules : P → RuleSystem) (cell : P → List ℕ → ℕ → Text) (size : P → Extent) (budget : ℕ) where
-  -- a search by the rules of a puzzle tells what is allowed
-  pub solved_of : (p : P) (q : RuleSystem) (a : Answer) → q ≡ rules p → ((g : List ℕ) → Solves (rules p) g ↔ solves p g)
-      → a ≡ verdict_answer (λ g. grid_text (cell p g) (size p)) (verdict_of q budget) → IsTrueOf q (verdict_of q budget)
-      → IsSolved (solves p) (rules p) (cell p) (size p) budget a
-  solved_of p q a same accepted told right = record {
-    right = right_of (rules p) (solves p) _ accepted (rw same at right);
-    told = rw same at told;
-  }
+-- a search by the rules of a puzzle says what is allowed
+pub solved_of : {P : Type 0} (play : PuzzleFacts P) (budget : ℕ) (p : P) (q : RuleSystem) (a : Answer) → q ≡ play.game.rules p
+    → ((g : List ℕ) → Solves (play.game.rules p) g ↔ play.game.solves p g)
+    → a ≡ verdict_answer (printed_by play p) (verdict_of q budget) → IsTrueOf q (verdict_of q budget) → IsSolved play budget p a
+solved_of play budget p q a same accepted told right = record {
+  right = right_of (play.game.rules p) (play.game.solves p) _ accepted (rw same at right);
+  said = rw same at told;
+}
 
 -- the rules are lawful, and accept the solutions
 pub record SearchedPuzzle (rules : RuleSystem) (solves : List ℕ → Type 0) : Type 0 where
@@ -73,10 +71,10 @@ pub crossings_searched : (p : Solo) → IsSolo p → SearchedPuzzle (crossings_r
 crossings_searched p ok = record { lawful = crossings_lawful p ok; accepted = solo_accepted p ok _ _ }
 
 pub light_searched : (p : Light) → IsLight p → SearchedPuzzle (light_rules p) (IsLightSolution p)
-light_searched p ok = record { lawful = light-lawful (record { light = p; counting = light-counting p ok }); accepted = light_accepted p }
+light_searched p ok = record { lawful = light-lawful p ok; accepted = light_accepted p }
 
 pub tents_searched : (p : Tents) → IsTents p → SearchedPuzzle (tent_rules p) (IsTentSolution p)
-tents_searched p ok = record { lawful = tent-lawful (record { tents = p; counting = tent-counting p ok }); accepted = tents_accepted p }
+tents_searched p ok = record { lawful = tent-lawful p ok; accepted = tents_accepted p }
 
 -- a search with a trial for each of the walk doesn't give up
 never_out : (marks : List Mark) (budget : ℕ) (found sofar : Option (List ℕ)) → trials_in marks ≤ budget → outcome budget sofar marks ≡ GaveUp found → ⊥
@@ -96,10 +94,10 @@ module _ (rules : RuleSystem) (solves : List ℕ → Type 0) (searched : Searche
   pub found_with_enough : (one : HasOneSolution solves) (budget : ℕ) → trials_in (walk rules 0 rules.start) ≤ budget → verdict_of rules budget ≡ OneSolution one.0
   found_with_enough one budget h1 = grind (arith, common_steps, never_out, verdict_right)
 
-  -- a search has one answer
-  pub solved_once : (cell : List ℕ → ℕ → Text) (size : Extent) (budget : ℕ) → HasOneAnswer (IsSolved solves rules cell size budget)
-  solved_once cell size budget = record {
-    answer = verdict_answer (λ g. grid_text (cell g) size) (verdict_of rules budget);
-    allowed = record { right = verdict_right budget; told = refl };
-    only = λ other is. sym is.told;
-  }
+-- a search has one answer
+pub solved_once : {P : Type 0} (play : PuzzleFacts P) (p : P) (budget : ℕ) → SearchedPuzzle (play.game.rules p) (play.game.solves p) → HasOneAnswer (IsSolved play budget p)
+solved_once play p budget searched = record {
+  answer = verdict_answer (printed_by play p) (verdict_of (play.game.rules p) budget);
+  allowed = record { right = verdict_right (play.game.rules p) (play.game.solves p) searched budget; said = refl };
+  only = λ other is. sym is.said;
+}

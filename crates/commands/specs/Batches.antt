@@ -7,9 +7,10 @@ use Rattle.std.specs.Str.Lines.{lines}
 use Rattle.gameid_core.specs.Head.{max_id}
 use Rattle.commands.specs.declared.batch.lines.Tail.{Tail}
 use Rattle.commands.specs.declared.batch.lines.Tail.TheVariants.{Nothing, Return, More}
-use Rattle.commands.specs.declared.batch.lines.Line.{Line}
+use Rattle.commands.specs.declared.batch.lines.InputLine.{InputLine}
 use Rattle.commands.specs.Answers.{Answer, Text, code_of}
 use Rattle.commands.specs.Each.{AllowsEach, Answered, Begun, HasAnswers, Stopped, both}
+use Rattle.commands.specs.Games.{game_of}
 use Rattle.commands.specs.Texts.{Given}
 use Rattle.commands.specs.Allowed.{AllowsSolve}
 use Rattle.commands.specs.declared.answers.status.Status.{Status}
@@ -29,12 +30,12 @@ next_tail _ byte = More
 
 -- the state stands for these bytes, all that came since the last line, of which no more than so
 -- many are kept
-pub record HoldsUpTo (most : ℕ) (line : Line) (piece : List ℕ) : Type 0 where
+pub record HoldsUpTo (most : ℕ) (line : InputLine) (piece : List ℕ) : Type 0 where
   pub kept : line.kept.items ≡ take most piece
   pub tail : line.tail ≡ tail_of (drop most piece)
 
 -- no more than the bytes of an ID are kept
-abbrev pub Holds : Line → List ℕ → Type 0
+abbrev pub Holds : InputLine → List ℕ → Type 0
 Holds line piece = HoldsUpTo max_id line piece
 
 -- the line is there with these bytes, or they are too many for an ID
@@ -43,7 +44,7 @@ IsLine line bytes = MatchOption line (max_id < length bytes) (λ l. l.now ≡ by
 
 -- what is allowed to a line of the task
 abbrev pub AllowsTask : Task → Text → Answer → Type 0
-AllowsTask task = AllowsSolve task.game task.budget
+AllowsTask task = AllowsSolve (game_of task.game) task.budget
 
 -- what is allowed to all lines of an input
 abbrev pub AllowsLines : Task → Text → Answer → Type 0

@@ -1,7 +1,8 @@
 -- What `check` takes for a grid, and what it answers to an input, given a puzzle.
 use Rattle.std.specs.Prelude.{◌∷◌, ◌==◌, ◌&&◌, [], Bool, false, if◌then◌else◌, ◌≡◌, ◌≤◌, ◌⊎◌, ◌++◌, ◌/◌, ◌%◌, ℕ, List, Option, Some, None, length, codes, decimal, option_map}
-use Rattle.commands.specs.Common.{Extent, IsPrinted, IsAsShown, grid_text}
+use Rattle.commands.specs.Common.{IsPrinted, IsAsShown}
 use Rattle.commands.specs.Answers.{Text, Answer, answer_with, code_of}
+use Rattle.commands.specs.PuzzleFacts.{PuzzleFacts, printed_by}
 use Rattle.commands.specs.Replies.{refused}
 use Rattle.commands.specs.Texts.{text_limit}
 use Rattle.commands.specs.declared.answers.status.Status.TheVariants.{Fine, Wrong}
@@ -27,36 +28,32 @@ checked (Some fault) = answer_with (codes "wrong: " ++ fault ++ codes "\n") (cod
 abbrev pub place_text : ℕ → ℕ → Text
 place_text columns place = decimal (place % columns) ++ codes "," ++ decimal (place / columns)
 
--- the first broken rule of the grid is told, or that there is none
-pub record IsFaultTold {F : Type 0} (is : Option F → Type 0) (rule_text : F → Text)
+-- the first broken rule of the grid is said, or that there is none
+pub record SaysFault {F : Type 0} (is : Option F → Type 0) (rule_text : F → Text)
     (answer : Answer) : Type 0 where
   pub fault : Option F
   pub first : is fault
-  pub told : answer ≡ checked (option_map rule_text fault)
+  pub said : answer ≡ checked (option_map rule_text fault)
 
--- The input isn't too long, and without its returns it is the printed form of that grid, with or
--- without the last line end. The grid is 0 wherever what is printed shows nothing of the number.
-pub record IsInputOf (hides : ℕ → Type 0) (values : ℕ) (size : Extent) (cell : List ℕ → ℕ → Text)
-    (input : Text) (g : List ℕ) : Type 0 where
-  pub small : length input ≤ text_limit
-  pub shown : IsAsShown hides values size g
-  pub printed : IsPrinted (without_returns input) (grid_text (cell g) size)
+module _ {P : Type 0} (play : PuzzleFacts P) (p : P) (input : Text) where
+  -- The input isn't too long, and without its returns it is the printed form of that grid, with or
+  -- without the last line end. The grid is 0 wherever what is printed shows nothing of the number.
+  pub record IsInputOf (g : List ℕ) : Type 0 where
+    pub small : length input ≤ text_limit
+    pub shown : IsAsShown (play.hides p) (play.value_count p) (play.extent p) g
+    pub printed : IsPrinted (without_returns input) (printed_by play p g)
 
--- The one grid of the input is checked.
-pub record IsChecked (is_of : List ℕ → Type 0) (tells : List ℕ → Answer → Type 0)
-    (answer : Answer) : Type 0 where
-  pub grid : List ℕ
-  pub given : is_of grid
-  pub only : (other : List ℕ) → is_of other → grid ≡ other
-  pub told : tells grid answer
+  -- the one grid of the input is checked
+  pub record IsChecked (answer : Answer) : Type 0 where
+    pub grid : List ℕ
+    pub given : IsInputOf grid
+    pub only : (other : List ℕ) → IsInputOf other → grid ≡ other
+    pub said : play.game.checks p grid answer
 
--- The input is no grid of the puzzle, and is refused.
-pub record IsNoGrid (is_of : List ℕ → Type 0) (answer : Answer) : Type 0 where
-  pub none : (g : List ℕ) → is_of g → ⊥
-  pub told : answer ≡ refused (codes "grid")
+  -- the input is no grid of the puzzle, and is refused
+  pub record IsNoGrid (answer : Answer) : Type 0 where
+    pub none : (g : List ℕ) → IsInputOf g → ⊥
+    pub said : answer ≡ refused (codes "grid")
 
-abbrev pub AllowsGrid : (ℕ → Type 0) → ℕ → Extent → (List ℕ → ℕ → Text) → (List ℕ → Answer → Type 0)
-    → Text → Answer → Type 0
-AllowsGrid hides values size cell tells input answer =
-    IsChecked (IsInputOf hides values size cell input) tells answer
-    ⊎ IsNoGrid (IsInputOf hides values size cell input) answer
+  abbrev pub AllowsGrid : Answer → Type 0
+  AllowsGrid answer = IsChecked answer ⊎ IsNoGrid answer

@@ -26,12 +26,12 @@ pub use Rattle.grid_core.specs.Extent.{Extent, IsExtent, max_side}
 pub use Rattle.grid_core.specs.Grids.{IsGrid}
 pub use Rattle.maker_core.specs.SoloMaking.{IsSoloMade, NoneFound}
 pub use Rattle.maker_core.specs.declared.made.Kept.{Kept}
-pub use Rattle.pattern_core.specs.Faults.{IsCheck, IsFirstWrongLine}
+pub use Rattle.pattern_core.specs.Faults.{IsPatternFault}
 pub use Rattle.pattern_core.specs.LineLaws.{has_runs-from, has_runs-is, is_solution-from, is_solution-is, line_of_solution, line_rules-lawful, solution_from_lines}
 pub use Rattle.pattern_core.specs.LineRules.{line_rules}
 pub use Rattle.pattern_core.specs.Solutions.{IsPatternSolution}
 pub use Rattle.rand_core.specs.Stream.{Stream}
-pub use Rattle.solo_core.specs.Faults.{AllStand, FallsFirst, IsFirstFault, Repeats, RepeatsFirst, Stands, fault_of}
+pub use Rattle.solo_core.specs.Faults.{IsSoloFault}
 pub use Rattle.solo_core.specs.RuleSets.{crossings_rules, houses_rules, rules_of, singles_rules}
 pub use Rattle.solo_core.specs.Scopes.{crossing_scopes, scopes_of}
 pub use Rattle.solo_core.specs.SolutionLaws.{given_from_test, rule_from_test, test_from_given, test_from_rule}

@@ -4,11 +4,11 @@ use Rattle.std.specs.Str.{bytes_eq}
 use Rattle.gameid_core.specs.declared.id.game.Game.TheVariants as game
 use Rattle.commands.specs.Common.{Game, Light, Pattern, Solo, Tents}
 use Rattle.commands.specs.Answers.{Text}
-use Rattle.commands.specs.LightPlayed.{light_played}
-use Rattle.commands.specs.PatternPlayed.{pattern_played}
-use Rattle.commands.specs.Playing.{Playing}
-use Rattle.commands.specs.SoloPlayed.{solo_played}
-use Rattle.commands.specs.TentsPlayed.{tents_played}
+use Rattle.commands.specs.LightFacts.{light_facts}
+use Rattle.commands.specs.PatternFacts.{pattern_facts}
+use Rattle.commands.specs.PuzzleFacts.{PuzzleFacts}
+use Rattle.commands.specs.SoloFacts.{solo_facts}
+use Rattle.commands.specs.TentsFacts.{tents_facts}
 
 abbrev pub puzzle_of : Game → Type 0
 puzzle_of game.Pattern = Pattern
@@ -16,15 +16,15 @@ puzzle_of game.Solo = Solo
 puzzle_of game.LightUp = Light
 puzzle_of game.Tents = Tents
 
-abbrev pub played : (g : Game) → Playing (puzzle_of g)
-played game.Pattern = pattern_played
-played game.Solo = solo_played
-played game.LightUp = light_played
-played game.Tents = tents_played
+abbrev pub game_of : (g : Game) → PuzzleFacts (puzzle_of g)
+game_of game.Pattern = pattern_facts
+game_of game.Solo = solo_facts
+game_of game.LightUp = light_facts
+game_of game.Tents = tents_facts
 
 -- the game of that name
-abbrev pub game_of : Text → Option Game
-game_of text = if bytes_eq text (codes "solo") then Some game.Solo
+abbrev pub game_named : Text → Option Game
+game_named text = if bytes_eq text (codes "solo") then Some game.Solo
     else (if bytes_eq text (codes "pattern") then Some game.Pattern
     else (if bytes_eq text (codes "lightup") then Some game.LightUp
     else (if bytes_eq text (codes "tents") then Some game.Tents else None)))

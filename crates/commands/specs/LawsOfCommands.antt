@@ -8,13 +8,13 @@ use Rattle.maker_core.specs.LightClues.{SameLight, light_game}
 use Rattle.maker_core.specs.LightMaking.{IsLightMade}
 use Rattle.maker_core.specs.SoloClues.{solo_game}
 use Rattle.maker_core.specs.declared.made.Why.TheVariants.{Needed}
-use Rattle.commands.specs.Common.{Stream, Extent, Game, IsPrinted, Light, Solo, IsSoloMade, Kept, grid_text, solo_cell, solo_extent}
+use Rattle.commands.specs.Common.{Stream, Extent, Game, IsPrinted, Light, Solo, IsSoloMade, Kept}
 use Rattle.commands.specs.Answers.{Answer, Text, Begins, code_of}
-use Rattle.commands.specs.Games.{played, puzzle_of}
-use Rattle.commands.specs.LightPlayed.{light_played}
-use Rattle.commands.specs.Playing.{Playing}
-use Rattle.commands.specs.SoloPlayed.{solo_played}
-use Rattle.commands.specs.Allowed.{Allows, AllowsCheck, AllowsSolve, AllowsGrade, is_read, AllowsMade}
+use Rattle.commands.specs.Games.{game_of, puzzle_of}
+use Rattle.commands.specs.LightFacts.{light_facts}
+use Rattle.commands.specs.PuzzleFacts.{GameFacts, PuzzleFacts, printed_by}
+use Rattle.commands.specs.SoloFacts.{solo_facts}
+use Rattle.commands.specs.Allowed.{Allows, AllowsCheck, AllowsSolve, AllowsGrade, is_read, AllowsMade, handed_out, wanted}
 use Rattle.commands.specs.Asked.{Asked, solve, check, grade, generate}
 use Rattle.commands.specs.Each.{HasAnswers}
 use Rattle.commands.specs.CheckAnswers.{checked, without_returns}
@@ -26,46 +26,33 @@ use Rattle.commands.specs.declared.grade.RuleSet.TheVariants.{Singles, Houses, C
 use Rattle.commands.specs.Makings.{made_answer}
 
 -- the first text spells a puzzle, and the second is the ID that is written for it
-pub record IsRewritten {P : Type 0} (spells : Text → P → Type 0) (written : P → Text)
-    (id other : Text) : Type 0 where
+pub record IsRewritten {P : Type 0} (game : GameFacts P) (id other : Text) : Type 0 where
   pub puzzle : P
-  pub spelled : spells id puzzle
-  pub is_written : other ≡ written puzzle
-
-abbrev pub Rewrites : Game → Text → Text → Type 0
-Rewrites game = IsRewritten (played game).game.spells (played game).game.written
-
--- the two texts spell the same puzzles of the game
-abbrev pub SpellTheSame : Game → Text → Text → Type 0
-SpellTheSame game id other = (p : puzzle_of game)
-    → (played game).game.spells id p ↔ (played game).game.spells other p
+  pub spelled : game.spells id puzzle
+  pub is_written : other ≡ game.written puzzle
 
 -- the two requests allow the same answers, whatever the input
 abbrev pub AllowTheSame : Asked → Asked → Type 0
-AllowTheSame first second = (input : Text) (answer : Answer) → Allows (Some first) input answer
-    ↔ Allows (Some second) input answer
+AllowTheSame first second = (input : Text) (answer : Answer)
+    → (Allows (Some first) input answer ↔ Allows (Some second) input answer)
 
--- an ID that is rewritten spells what it did, and each command that names it answers as before
-abbrev pub RewritingKeepsPuzzles : Type 0
-RewritingKeepsPuzzles = (game : Game) (id other : Text) → Rewrites game id other
-    → SpellTheSame game id other
+-- the two texts spell the same puzzles, and each command that names an ID answers the same to both
+pub record AreAlike (game : Game) (id other : Text) : Type 0 where
+  pub puzzles : (p : puzzle_of game)
+      → ((game_of game).game.spells id p ↔ (game_of game).game.spells other p)
+  pub solved : (budget : ℕ)
+      → AllowTheSame (solve game (Some id) budget) (solve game (Some other) budget)
+  pub checked : AllowTheSame (check game id) (check game other)
+  pub graded : (budget : ℕ) (traced : Bool)
+      → AllowTheSame (grade game id budget traced) (grade game other budget traced)
 
-abbrev pub RewritingKeepsSolving : Type 0
-RewritingKeepsSolving = (game : Game) (id other : Text) → Rewrites game id other
-    → (budget : ℕ) → AllowTheSame (solve game (Some id) budget) (solve game (Some other) budget)
-
-abbrev pub RewritingKeepsChecking : Type 0
-RewritingKeepsChecking = (game : Game) (id other : Text) → Rewrites game id other
-    → AllowTheSame (check game id) (check game other)
-
-abbrev pub RewritingKeepsGrading : Type 0
-RewritingKeepsGrading = (game : Game) (id other : Text) → Rewrites game id other
-    → (budget : ℕ) (traced : Bool) → AllowTheSame (grade game id budget traced)
-    (grade game other budget traced)
+abbrev pub RewritingKeepsAnswers : Type 0
+RewritingKeepsAnswers = (game : Game) (id other : Text)
+    → IsRewritten (game_of game).game id other → AreAlike game id other
 
 -- of this input `correct` is allowed, and nothing else
 abbrev pub Passes : (Text → Answer → Type 0) → Text → Type 0
-Passes checks input = (said : Answer) → checks input said ↔ (said ≡ checked None)
+Passes checks input = (said : Answer) → (checks input said ↔ (said ≡ checked None))
 
 -- The one grid that is told passes. So do both of two, which are printed differently, and so does a
 -- grid that was found before the search gave up.
@@ -80,47 +67,47 @@ pub record ArePassed (checks : Text → Answer → Type 0) (solved : Answer) : T
 
 abbrev pub SolvedGridsPass : Type 0
 SolvedGridsPass = (game : Game) (id : Text) (budget : ℕ) (solved : Answer)
-    → AllowsSolve game budget id solved
-    → ArePassed (AllowsCheck game id) solved
+    → AllowsSolve (game_of game) budget id solved
+    → ArePassed (AllowsCheck (game_of game) id) solved
 
 -- where an input is correct, the ID is never told to have no solution, whatever the budget
 abbrev pub CorrectGridsAreSolutions : Type 0
 CorrectGridsAreSolutions = (game : Game) (id input : Text) (budget : ℕ) (given solved : Answer)
-    → AllowsCheck game id input given → given.status ≡ code_of Fine
-    → AllowsSolve game budget id solved → solved.status ≢ code_of Wrong
+    → AllowsCheck (game_of game) id input given → given.status ≡ code_of Fine
+    → AllowsSolve (game_of game) budget id solved → solved.status ≢ code_of Wrong
 
 -- where the ID is told to have one, the input is that grid's printed form, but for its line ends
 abbrev pub CorrectGridsAreTheOneTold : Type 0
 CorrectGridsAreTheOneTold = (game : Game) (id input grid : Text) (budget : ℕ)
     (given solved : Answer)
-    → AllowsCheck game id input given → given.status ≡ code_of Fine
-    → AllowsSolve game budget id solved → solved ≡ one_answer grid
+    → AllowsCheck (game_of game) id input given → given.status ≡ code_of Fine
+    → AllowsSolve (game_of game) budget id solved → solved ≡ one_answer grid
     → IsPrinted (without_returns input) grid
 
--- Statuses with the same budget: each of a grade but `Fine` is that of the verdict, and each of a
--- verdict but `GaveUp` is the grade's. So `none` and `several` of the one exclude every other
--- verdict of the other.
-pub record GoesAlong (graded solved : ℕ) : Type 0 where
-  pub by_grade : graded ≢ code_of Fine → graded ≡ solved
-  pub by_verdict : solved ≢ code_of GaveUp → graded ≡ solved
+-- Statuses with the same budget: they are the same, or the grade names what settled the puzzle
+-- while the search gave up. So `none` and `several` of the one exclude all else of the other.
+abbrev pub GoesAlong : ℕ → ℕ → Type 0
+GoesAlong graded solved =
+    (graded ≡ solved) ⊎ ((graded ≡ code_of Fine) × (solved ≡ code_of GaveUp))
 
 abbrev pub GradesGoWithVerdicts : Type 0
 GradesGoWithVerdicts = (game : Game) (id : Text) (budget : ℕ) (traced : Bool)
     (solved graded : Answer)
-    → AllowsSolve game budget id solved → AllowsGrade game id budget traced graded
+    → AllowsSolve (game_of game) budget id solved
+    → AllowsGrade (game_of game) id budget traced graded
     → GoesAlong graded.status solved.status
 
 -- with enough budget the one answer to the ID is that this grid is the solution
 pub record IsOneWithEnough (game : Game) (id : Text) : Type 0 where
   pub enough : ℕ
   pub grid : Text
-  pub told : (budget : ℕ) → enough ≤ budget → (said : Answer) → AllowsSolve game budget id said
-      ↔ (said ≡ one_answer grid)
+  pub said : (budget : ℕ) → enough ≤ budget → (said : Answer)
+      → (AllowsSolve (game_of game) budget id said ↔ (said ≡ one_answer grid))
 
 -- a grade that names a rule set or a search is that of such an ID
 abbrev pub GradedPuzzlesHaveOne : Type 0
 GradedPuzzlesHaveOne = (game : Game) (id : Text) (budget : ℕ) (traced : Bool) (graded : Answer)
-    → AllowsGrade game id budget traced graded → graded.status ≡ code_of Fine
+    → AllowsGrade (game_of game) id budget traced graded → graded.status ≡ code_of Fine
     → IsOneWithEnough game id
 
 -- what the rule set strikes, the rules of its game's search strike too
@@ -140,14 +127,16 @@ NamesRules answer = (set : RuleSet) × (is_within_search set ≡ true)
 abbrev pub RuleSetsNeedNoTrial : Type 0
 RuleSetsNeedNoTrial = (game : Game) (id : Text) (budget : ℕ) (traced : Bool)
     (solved graded : Answer)
-    → AllowsSolve game 0 id solved → AllowsGrade game id budget traced graded → NamesRules graded
-    ↔ (solved.status ≡ code_of Fine)
+    → AllowsSolve (game_of game) 0 id solved
+    → AllowsGrade (game_of game) id budget traced graded
+    → (NamesRules graded ↔ (solved.status ≡ code_of Fine))
 
 -- so many trials are the least budget with which the one answer to the ID tells one solution
 pub record IsLeastBudget (game : Game) (id : Text) (trials : ℕ) : Type 0 where
-  pub enough : (said : Answer) → AllowsSolve game trials id said → said.status ≡ code_of Fine
-  pub least : (budget : ℕ) → budget < trials → (said : Answer) → AllowsSolve game budget id said
-      → said.status ≢ code_of Fine
+  pub enough : (said : Answer) → AllowsSolve (game_of game) trials id said
+      → said.status ≡ code_of Fine
+  pub least : (budget : ℕ) → budget < trials → (said : Answer)
+      → AllowsSolve (game_of game) budget id said → said.status ≢ code_of Fine
 
 -- the first line of the answer names a search of so many trials, or any rule set
 abbrev pub NamesSearch : ℕ → Answer → Type 0
@@ -160,28 +149,30 @@ NamesSet answer = (set : RuleSet) × Begins (rule_set_text set ++ codes "\n") an
 -- Where there is such a least budget, the answer names it, or a rule set.
 pub record NamesLeastBudget (game : Game) (id : Text) (budget : ℕ) (graded : Answer)
     : Type 0 where
-  pub told : Begins (codes "search ") graded.text
+  pub said : Begins (codes "search ") graded.text
       → (trials : ℕ) × NamesSearch trials graded × IsLeastBudget game id trials × (trials ≤ budget)
   pub only : (trials : ℕ) → IsLeastBudget game id trials → trials ≤ budget
       → NamesSet graded ⊎ NamesSearch trials graded
 
 abbrev pub SearchesNameLeastBudgets : Type 0
 SearchesNameLeastBudgets = (game : Game) (id : Text) (budget : ℕ) (traced : Bool) (graded : Answer)
-    → AllowsGrade game id budget traced graded → NamesLeastBudget game id budget graded
+    → AllowsGrade (game_of game) id budget traced graded → NamesLeastBudget game id budget graded
 
 -- An ID is handed out with a grid. The ID is read, with that budget the one answer to it is that
 -- this grid is the solution, and the grid passes.
 pub record IsSolvedAsMade (game : Game) (budget : ℕ) (answer : Answer) : Type 0 where
   pub id : Text
   pub grid : Text
-  pub told : answer ≡ made_answer id grid
+  pub said : answer ≡ made_answer id grid
   pub read : is_read game id ≡ true
-  pub solved : (said : Answer) → AllowsSolve game budget id said ↔ (said ≡ one_answer grid)
-  pub passes : Passes (AllowsCheck game id) grid
+  pub solved : (said : Answer)
+      → (AllowsSolve (game_of game) budget id said ↔ (said ≡ one_answer grid))
+  pub passes : Passes (AllowsCheck (game_of game) id) grid
 
 abbrev pub MadePuzzlesAreSolved : Type 0
 MadePuzzlesAreSolved = (game : Game) (size : Text) (seed budget tries black : ℕ) (answer : Answer)
-    → AllowsMade game size seed budget tries black answer → answer.status ≡ code_of Fine
+    → AllowsMade (game_of game) (wanted seed budget tries black) size answer
+    → answer.status ≡ code_of Fine
     → IsSolvedAsMade game budget answer
 
 -- the clue of that cell was left since it is needed
@@ -194,14 +185,14 @@ SoloNeedsItsClues = (c r : ℕ) (x : Bool) (budget tries : ℕ) (s : Stream) (p 
     (kept : List Kept) (place : ℕ)
     → IsSoloMade c r x budget tries s p g kept → IsNeeded kept place
     → (id : Text) (any : ℕ) (said : Answer) → SpellsSolo id (solo_game.without p place)
-    → AllowsSolve game.Solo any id said → said.status ≢ code_of Fine
+    → AllowsSolve (game_of game.Solo) any id said → said.status ≢ code_of Fine
 
 abbrev pub LightsNeedTheirClues : Type 0
 LightsNeedTheirClues = (size : Extent) (black budget tries : ℕ) (s : Stream) (p : Light)
     (g : List ℕ) (kept : List Kept) (place : ℕ)
     → IsLightMade size black budget tries s p g kept → IsNeeded kept place
     → (id : Text) (any : ℕ) (said : Answer) → SpellsLight id (light_game.without p place)
-    → AllowsSolve game.LightUp any id said → said.status ≢ code_of Fine
+    → AllowsSolve (game_of game.LightUp) any id said → said.status ≢ code_of Fine
 
 -- one answer is allowed, and no other
 pub record HasOneAnswer (allows : Answer → Type 0) : Type 0 where
@@ -227,24 +218,19 @@ FixedRequestsHaveOneAnswer = (asked : Option Asked) (input : Text) → is_fixed 
 abbrev pub EachRequestHasAnAnswer : Type 0
 EachRequestHasAnAnswer = (asked : Option Asked) → HasAnswers (Allows asked)
 
--- what a puzzle is told as that is handed out with a solution
-abbrev pub handed_out : {P : Type 0} → Playing P → P → List ℕ → Answer
-handed_out play p g =
-    made_answer (play.game.written p) (grid_text (play.cell_text p g) (play.extent p))
-
 -- two answers hand out puzzles that are alike, with one solution
-pub record HandOutAlike {P : Type 0} (play : Playing P) (alike : P → P → Type 0)
+pub record HandOutAlike {P : Type 0} (play : PuzzleFacts P) (alike : P → P → Type 0)
     (one other : Answer) : Type 0 where
   pub first : P
   pub second : P
   pub solution : List ℕ
   pub same : alike first second
-  pub first_told : one ≡ handed_out play first solution
-  pub second_told : other ≡ handed_out play second solution
+  pub first_said : one ≡ handed_out play first solution
+  pub second_said : other ≡ handed_out play second solution
 
 -- The two answers have the same status. Where they hand out puzzles, these are alike, with one
 -- solution; where not, the answers are the same.
-pub record DifferInClues {P : Type 0} (play : Playing P) (alike : P → P → Type 0)
+pub record DifferInClues {P : Type 0} (play : PuzzleFacts P) (alike : P → P → Type 0)
     (one other : Answer) : Type 0 where
   pub status : one.status ≡ other.status
   pub others : one.status ≢ code_of Fine → one ≡ other
@@ -253,18 +239,18 @@ pub record DifferInClues {P : Type 0} (play : Playing P) (alike : P → P → Ty
 -- each grid is printed the same for both
 abbrev pub PrintAlike : Solo → Solo → Type 0
 PrintAlike p q = (g : List ℕ)
-    → grid_text (solo_cell p g) (solo_extent p) ≡ grid_text (solo_cell q g) (solo_extent q)
+    → printed_by solo_facts p g ≡ printed_by solo_facts q g
 
 -- two answers to one making of Solo have the same printed grid
 abbrev pub SoloDiffersInGivens : Type 0
 SoloDiffersInGivens = (size : Text) (seed budget tries black : ℕ) (one other : Answer)
-    → AllowsMade game.Solo size seed budget tries black one
-    → AllowsMade game.Solo size seed budget tries black other
-    → DifferInClues solo_played PrintAlike one other
+    → AllowsMade (game_of game.Solo) (wanted seed budget tries black) size one
+    → AllowsMade (game_of game.Solo) (wanted seed budget tries black) size other
+    → DifferInClues solo_facts PrintAlike one other
 
 -- two answers to one making of Light Up have the same size, black cells and bulbs
 abbrev pub LightsDifferInNumbers : Type 0
 LightsDifferInNumbers = (size : Text) (seed budget tries black : ℕ) (one other : Answer)
-    → AllowsMade game.LightUp size seed budget tries black one
-    → AllowsMade game.LightUp size seed budget tries black other
-    → DifferInClues light_played SameLight one other
+    → AllowsMade (game_of game.LightUp) (wanted seed budget tries black) size one
+    → AllowsMade (game_of game.LightUp) (wanted seed budget tries black) size other
+    → DifferInClues light_facts SameLight one other

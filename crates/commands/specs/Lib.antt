@@ -12,11 +12,11 @@ pub mod Each
 pub mod CheckAnswers
 pub mod Seeds
 pub mod Makings
-pub mod Playing
-pub mod LightPlayed
-pub mod PatternPlayed
-pub mod SoloPlayed
-pub mod TentsPlayed
+pub mod PuzzleFacts
+pub mod LightFacts
+pub mod PatternFacts
+pub mod SoloFacts
+pub mod TentsFacts
 pub mod Games
 pub mod Unmade
 pub mod Asked

@@ -4,12 +4,12 @@ use Rattle.gameid_core.specs.declared.id.fault.IdFault.TheVariants.{TooLong, See
 use Rattle.gameid_core.specs.declared.grids.printed.Printed as printed
 use Rattle.engine_core.specs.Verdict.{Outcome.NoSolution, Outcome.OneSolution, Outcome.SeveralSolutions, Outcome.GaveUp}
 use Rattle.commands.specs.Common.{IdFault, grid_text, RuleSystem, Outcome, verdict_of}
-use Rattle.commands.specs.declared.answers.status.Status.TheVariants.{Fine, Wrong, Refused, Several, GaveUp}
+use Rattle.commands.specs.declared.answers.status.Status.TheVariants as status
 use Rattle.commands.specs.Answers.{Answer, Text, answer_with, code_of}
 use Rattle.commands.specs.declared.answers.reply.Reply.{Reply}
 
 abbrev pub refused : Text → Answer
-refused cause = answer_with (codes "refused: " ++ cause ++ codes "\n") (code_of Refused)
+refused cause = answer_with (codes "refused: " ++ cause ++ codes "\n") (code_of status.Refused)
 
 abbrev pub refused_words : Answer
 refused_words = refused (codes "words")
@@ -33,24 +33,24 @@ fault_text Memory = []
 pub record IsRefused {P : Type 0} (reading : Result P IdFault) (answer : Answer) : Type 0 where
   pub fault : IdFault
   pub first : reading ≡ Err fault
-  pub told : answer ≡ refused (fault_text fault)
+  pub said : answer ≡ refused (fault_text fault)
 
 abbrev pub answer_in : Reply → Answer
 answer_in r = answer_with (string_bytes r.text) (code_of r.status)
 
 abbrev pub none_answer : Answer
-none_answer = answer_with (codes "none\n") (code_of Wrong)
+none_answer = answer_with (codes "none\n") (code_of status.Wrong)
 
 abbrev pub one_answer : Text → Answer
-one_answer grid = answer_with (codes "one\n" ++ grid) (code_of Fine)
+one_answer grid = answer_with (codes "one\n" ++ grid) (code_of status.Fine)
 
 abbrev pub several_answer : Text → Text → Answer
 several_answer first second =
-    answer_with (codes "several\n" ++ first ++ codes "\n" ++ second) (code_of Several)
+    answer_with (codes "several\n" ++ first ++ codes "\n" ++ second) (code_of status.Several)
 
 -- with nothing where no grid was found
 abbrev pub gave_up_answer : Text → Answer
-gave_up_answer grid = answer_with (codes "gave up\n" ++ grid) (code_of GaveUp)
+gave_up_answer grid = answer_with (codes "gave up\n" ++ grid) (code_of status.GaveUp)
 
 -- how a grid of a puzzle is printed, and the answer with two of them
 abbrev pub grid_of : {P : Type 0} → printed.Ghosts P → P → List ℕ → Text
@@ -68,6 +68,6 @@ verdict_answer printed (GaveUp None) = gave_up_answer []
 verdict_answer printed (GaveUp (Some g)) = gave_up_answer (printed g)
 
 -- the same by the walk of the rules with the budget
-abbrev pub verdict_told : {P : Type 0} → printed.Ghosts P → P → RuleSystem → ℕ → Answer
-verdict_told printing p rules budget =
+abbrev pub verdict_said : {P : Type 0} → printed.Ghosts P → P → RuleSystem → ℕ → Answer
+verdict_said printing p rules budget =
     verdict_answer (grid_of printing p) (verdict_of rules budget)

@@ -2,7 +2,7 @@
 -- words.
 use Rattle.std.specs.Prelude.{◌≡◌, ◌<◌, ◌≤◌, ◌⊎◌, ℕ, Bool, true, false, [], Result, Ok, Err}
 use Rattle.commands.specs.Answers.{Answer, BeginsAnswer, IsInput, Text, code_of, status_of}
-use Rattle.commands.specs.Runs.{IsBroken, Ran}
+use Rattle.commands.specs.Runs.{IsBroken}
 use Rattle.commands.specs.declared.answers.status.Status.{Status}
 use Rattle.commands.specs.declared.answers.status.Stop.{Stop}
 use Rattle.commands.specs.declared.answers.status.Stop.TheVariants.{Memory, Broken}
@@ -29,7 +29,7 @@ status_in (Err stop) = status_of stop
 
 -- What was written, and the status: the beginning of an allowed answer, and with the status of an
 -- answer an allowed answer whole.
-pub record Tells {S : Type 0} (takes : S → Text → S → Type 0) (allows : Answer → Type 0)
+pub record Says {S : Type 0} (takes : S → Text → S → Type 0) (allows : Answer → Type 0)
     (old new : S) (status : ℕ) : Type 0 where
   pub written : Text
   pub took : takes old written new
@@ -40,7 +40,7 @@ pub record Tells {S : Type 0} (takes : S → Text → S → Type 0) (allows : An
 abbrev pub BeginsIfAny : (Answer → Type 0) → Text → Type 0
 BeginsIfAny allows written = (written ≡ []) ⊎ BeginsAnswer allows written
 
-pub record TellsIfAny {S : Type 0} (takes : S → Text → S → Type 0) (allows : Answer → Type 0)
+pub record SaysIfAny {S : Type 0} (takes : S → Text → S → Type 0) (allows : Answer → Type 0)
     (old new : S) (status : ℕ) : Type 0 where
   pub written : Text
   pub took : takes old written new
@@ -69,27 +69,9 @@ pub record IsSinkAfter (status : ℕ) (failed flushed : Bool) : Type 0 where
   pub broken : status ≡ status_of Broken → failed ≡ true
 
 -- the same of a step with that result
-abbrev pub Told : {S : Type 0} → (S → Text → S → Type 0) → (Answer → Type 0) → S → S
-    → Result Status Stop → Type 0
-Told takes allows old new result = Tells takes allows old new (status_in result)
-
-abbrev pub ToldIfAny : {S : Type 0} → (S → Text → S → Type 0) → (Answer → Type 0) → S → S
-    → Result Status Stop → Type 0
-ToldIfAny takes allows old new result = TellsIfAny takes allows old new (status_in result)
-
 abbrev pub LeavesSink : {S : Type 0} → sinks.Ghosts S → S → Result Status Stop → Type 0
 LeavesSink sink new result =
     IsSinkAfter (status_in result) (sink.has_failed new) (sink.is_flushed new)
-
--- what a step with that result did to the ends of a run
-abbrev pub Runs : {I O : Type 0} → sources.Ghosts I → sinks.Ghosts O → (Text → Answer → Type 0)
-    → I → I → O → O → Result Status Stop → Type 0
-Runs source sink allows i j o p result = Ran source sink allows i j o p (status_in result)
-
-abbrev pub RunsIfAny : {I O : Type 0} → sources.Ghosts I → sinks.Ghosts O
-    → (Text → Answer → Type 0) → I → I → O → O → Result Status Stop → Type 0
-RunsIfAny source sink allows i j o p result =
-    RanIfAny source sink allows i j o p (status_in result)
 
 -- How a step that reads its input, or not, leaves the ends with a result. With the status of a
 -- failing end one is broken, and else neither failed. With that of an answer the output was sent on

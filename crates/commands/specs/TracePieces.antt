@@ -1,22 +1,23 @@
 -- How a trace is put in pieces. No contract of a run uses these words: they serve the steps that
 -- put it.
 use Rattle.std.specs.Prelude.{◌≡◌, ◌<◌, ◌+◌, ◌⊎◌, ◌++◌, ◌∷◌, ℕ, Bool, List, String, [], length, string_bytes, string_len}
+use Rattle.commands.specs.Common.{RuleSystem}
 use Rattle.commands.specs.Answers.{Text, PutUpTo, PutBegun}
 use Rattle.commands.specs.Traces.{IsTrace, visits_text}
 use Rattle.commands.specs.declared.grade.trace.TheConstants.{LINE, PIECE}
 
 -- the sink took a text and the lines of its trace, up to a rest
 pub record PutsTrace {S : Type 0} (takes : S → Text → S → Type 0) (traced : Bool)
-    (tells : Text → Type 0) (old : S) (text rest : Text) (new : S) : Type 0 where
+    (name : ℕ → Text) (rules : RuleSystem) (old : S) (text rest : Text) (new : S) : Type 0 where
   pub lines : Text
-  pub trace : IsTrace traced tells lines
+  pub trace : IsTrace traced name rules lines
   pub put : PutUpTo takes old (text ++ lines) rest new
 
 -- the sink took a beginning of a text and the lines of its trace
 pub record BeginsTrace {S : Type 0} (takes : S → Text → S → Type 0) (traced : Bool)
-    (tells : Text → Type 0) (old : S) (text : Text) (new : S) : Type 0 where
+    (name : ℕ → Text) (rules : RuleSystem) (old : S) (text : Text) (new : S) : Type 0 where
   pub lines : Text
-  pub trace : IsTrace traced tells lines
+  pub trace : IsTrace traced name rules lines
   pub begun : PutBegun takes old (text ++ lines) new
 
 -- The sink took nothing and the text is kept, or the sink took all of it.

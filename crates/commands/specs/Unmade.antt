@@ -1,13 +1,13 @@
 -- What a maker made, or why it made no puzzle. No contract of a run uses these words.
-use Rattle.std.specs.Prelude.{◌≡◌, ⊤, ℕ, List, Result, Ok, Err}
+use Rattle.std.specs.Prelude.{◌≡◌, ⊤, Result, Ok, Err}
 use Rattle.gameid_core.specs.declared.id.fault.IdFault.TheVariants.{SizeRange}
 use Rattle.maker_core.specs.declared.made.MakeFault.{MakeFault}
 use Rattle.maker_core.specs.declared.made.MakeFault.TheVariants as fault
-use Rattle.commands.specs.Common.{SizeRead, IdFault, Kept}
+use Rattle.commands.specs.Common.{SizeRead, IdFault}
 use Rattle.commands.specs.Answers.{Text}
-use Rattle.commands.specs.Playing.{GameOf}
+use Rattle.commands.specs.PuzzleFacts.{GameFacts}
 use Rattle.commands.specs.Allowed.{wanted}
-use Rattle.commands.specs.Makings.{Wanted, exhausted_answer}
+use Rattle.commands.specs.Makings.{MadePuzzle, Wanted}
 use Rattle.commands.specs.declared.generate.Recipe.{Recipe}
 use Rattle.commands.specs.declared.generate.makable.Unmade.{Unmade}
 use Rattle.commands.specs.declared.generate.makable.Unmade.TheVariants.{Size, Exhausted, Memory}
@@ -26,14 +26,14 @@ pub record IsOfSize (reading : Result SizeRead IdFault) (allows : SizeRead → T
   pub read : reading ≡ Ok size
   pub allowed : allows size
 
--- of the size that the text is that puzzle is made, with that solution and those clues left
-abbrev pub IsMade : {P : Type 0} → GameOf P → Recipe → Text → P → List ℕ → List Kept → Type 0
-IsMade game recipe text p g kept =
-    IsOfSize (game.sizes text) (λ size. game.makes size (wanted_in recipe) p g kept)
-
 -- the first fault of the size is given, or none is made of the size that was read
-abbrev pub IsUnmade : {P : Type 0} → GameOf P → Recipe → Text → Unmade → Type 0
+abbrev pub IsUnmade : {P : Type 0} → GameFacts P → Recipe → Text → Unmade → Type 0
 IsUnmade game recipe text (Size fault) = game.sizes text ≡ Err fault
 IsUnmade game recipe text Exhausted =
-    IsOfSize (game.sizes text) (λ size. game.gives_up size (wanted_in recipe) exhausted_answer)
+    IsOfSize (game.sizes text) (λ size. game.makes_none size (wanted_in recipe))
 IsUnmade game recipe text Memory = ⊤
+
+-- this is made of the size that the text is
+abbrev pub IsMade : {P : Type 0} → GameFacts P → Recipe → Text → MadePuzzle P → Type 0
+IsMade game recipe text made =
+    IsOfSize (game.sizes text) (λ size. game.makes size (wanted_in recipe) made)

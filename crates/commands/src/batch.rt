@@ -3,15 +3,15 @@ ghost use Rattle.std.specs.Prelude.{◌≡◌, ◌∷◌, [], max, true, false, 
 ghost use Rattle.commands.specs.Answers.{PutBegun, Text, code_of};
 ghost use Rattle.commands.specs.Batches.{AllowsLines, EndsIn, EndsWith, GoesOn, StopsIn, StopsReading, TakesTask, AllowsTask, Holds, IsLine};
 ghost use Rattle.commands.specs.Replies.{answer_in};
-ghost use Rattle.commands.specs.Runs.{AreNew};
-ghost use Rattle.commands.specs.Stops.{LeavesEnds, Runs, StopsWith, is_broken};
+ghost use Rattle.commands.specs.Runs.{AreNew, Ran};
+ghost use Rattle.commands.specs.Stops.{LeavesEnds, StopsWith, is_broken, status_in};
 ghost use Rattle.commands.specs.declared.answers.status.Status.TheVariants.{Fine};
 
 pub mod lines;
 
 use crate::answers::reply::{Reply, id_refused};
-use crate::answers::status::{Ended, Status, Stop};
-use crate::batch::lines::Line;
+use crate::answers::status::{RunResult, Status, Stop};
+use crate::batch::lines::InputLine;
 use crate::ends::output::put_all;
 use crate::ends::{CALL_LIMIT, CHUNK, Sink, Source};
 use crate::games::Stores;
@@ -24,7 +24,7 @@ use std::mem::replace;
 /// greatest status so far.
 #[derive(Drop)]
 pub struct Batch {
-    line: Line,
+    line: InputLine,
     stores: Stores,
     text: String,
     status: Status,
@@ -54,7 +54,7 @@ impl Batch {
         ensures status { result.status ≡ Fine }
     {
         Batch {
-            line: Line::new(alloc),
+            line: InputLine::new(alloc),
             stores: Stores::default(),
             text: String::new(alloc),
             status: Status::Fine,
@@ -73,13 +73,9 @@ impl Batch {
         ensures cause { IfErr result (λ e. (O.has_failed output.new ≡ true)
             × (is_broken e ≡ true)) }
     {
-        match put_all(output, reply.text.as_bytes()) {
-            Ok(()) => {
-                self.status = self.status.greater(reply.status);
-                Ok(())
-            }
-            Err(_) => Err(Stop::Broken),
-        }
+        put_all(output, reply.text.as_bytes())?;
+        self.status = self.status.greater(reply.status);
+        Ok(())
     }
 
     /// Puts the answer to a line that ended, and keeps the memory of its text for the next one.
@@ -98,7 +94,7 @@ impl Batch {
         ensures cause { IfErr result (λ e. O.has_failed output.new ≡ is_broken e) }
     {
         let text = replace(&mut self.text, String::new(alloc));
-        let line = self.line.ended();
+        let line = self.line.before_newline();
         let reply = line_reply(alloc, &mut self.stores, task, line, text)?;
         self.put_reply(&reply, output)?;
         self.text = reply.text;
@@ -169,7 +165,7 @@ impl Batch {
             return Ok(());
         }
         let text = replace(&mut self.text, String::new(alloc));
-        let line = self.line.last();
+        let line = self.line.before_end();
         let reply = line_reply(alloc, &mut self.stores, task, line, text)?;
         self.put_reply(&reply, output)?;
         Ok(())
@@ -216,12 +212,12 @@ fn answer_lines<I: Source, O: Sink>(
     batch: &mut Batch,
     input: &mut I,
     output: &mut O,
-) -> Ended
+) -> RunResult
     requires new { AreNew I.Source O.Sink input.old output.old }
     requires no_line { Holds batch.old.line [] }
     requires no_status { batch.old.status ≡ Fine }
-    ensures ran { Runs I.Source O.Sink (AllowsLines task)
-        input.old input.new output.old output.new result }
+    ensures ran { Ran I.Source O.Sink (AllowsLines task)
+        input.old input.new output.old output.new (status_in result) }
     ensures left { LeavesEnds I.Source O.Sink true input.new output.new result }
 {
     take_input(alloc, task, batch, input, output)?;
@@ -243,10 +239,10 @@ pub fn solve_lines<I: Source, O: Sink>(
     task: Task,
     input: &mut I,
     output: &mut O,
-) -> Ended
+) -> RunResult
     requires { AreNew I.Source O.Sink input.old output.old }
-    ensures ran { Runs I.Source O.Sink (AllowsLines task)
-        input.old input.new output.old output.new result }
+    ensures ran { Ran I.Source O.Sink (AllowsLines task)
+        input.old input.new output.old output.new (status_in result) }
     ensures left { LeavesEnds I.Source O.Sink true input.new output.new result }
 {
     let mut batch = Batch::new(alloc);

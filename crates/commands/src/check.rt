@@ -1,17 +1,19 @@
 //! `check`: the grid that the input gives, against a puzzle.
 ghost use Rattle.std.specs.Prelude.{true, is_ok, IfOk};
 ghost use Rattle.commands.specs.Answers.{Text};
-ghost use Rattle.commands.specs.Allowed.{AllowsCheck, ChecksGrid, ChecksId, is_read};
+ghost use Rattle.commands.specs.Allowed.{AllowsCheck, is_read};
+ghost use Rattle.commands.specs.CheckAnswers.{AllowsGrid};
+ghost use Rattle.commands.specs.Games.{game_of};
 ghost use Rattle.commands.specs.Replies.{answer_in};
 ghost use Rattle.commands.specs.Texts.{IsText};
-ghost use Rattle.commands.specs.Runs.{AreNew};
-ghost use Rattle.commands.specs.Stops.{LeavesEnds, Runs, RunsIfAny};
+ghost use Rattle.commands.specs.Runs.{AreNew, Ran};
+ghost use Rattle.commands.specs.Stops.{LeavesEnds, RanIfAny, status_in};
 
 pub mod checked;
 
 use crate::answers::check_reply::grid_refused;
 use crate::answers::reply::Reply;
-use crate::answers::status::{Ended, Stop};
+use crate::answers::status::{RunResult, Stop};
 use crate::check::checked::Checked;
 use crate::ends::output::{deliver, refuse};
 use crate::ends::text::{read_whole, without_returns};
@@ -27,7 +29,7 @@ fn input_reply<P: Checked>(
     input: Option<Vec<u8>>,
 ) -> Result<Reply, AllocError>
     ensures { IfOk result (λ r. (text : Text) → IsText input text
-        → ChecksGrid P.Played puzzle.now text (answer_in r)) }
+        → AllowsGrid P.Played puzzle.now text (answer_in r)) }
 {
     let Some(bytes) = input else {
         return grid_refused(alloc);
@@ -45,10 +47,10 @@ fn check_input<P: Checked, I: Source, O: Sink>(
     puzzle: &P,
     input: &mut I,
     output: &mut O,
-) -> Ended
+) -> RunResult
     requires { AreNew I.Source O.Sink input.old output.old }
-    ensures ran { RunsIfAny I.Source O.Sink (ChecksGrid P.Played puzzle.now)
-        input.old input.new output.old output.new result }
+    ensures ran { RanIfAny I.Source O.Sink (AllowsGrid P.Played puzzle.now)
+        input.old input.new output.old output.new (status_in result) }
     ensures left { LeavesEnds I.Source O.Sink true input.new output.new result }
 {
     let text = read_whole(alloc, input)?;
@@ -62,10 +64,10 @@ fn check_one<P: Checked + Drop, I: Source, O: Sink>(
     id: &[u8],
     input: &mut I,
     output: &mut O,
-) -> Ended
+) -> RunResult
     requires { AreNew I.Source O.Sink input.old output.old }
-    ensures ran { RunsIfAny I.Source O.Sink (ChecksId P.Played id.now)
-        input.old input.new output.old output.new result }
+    ensures ran { RanIfAny I.Source O.Sink (AllowsCheck P.Played id.now)
+        input.old input.new output.old output.new (status_in result) }
     ensures left { LeavesEnds I.Source O.Sink (is_ok (P.game.reading id.now))
         input.new output.new result }
 {
@@ -84,10 +86,10 @@ pub fn check_id<I: Source, O: Sink>(
     id: &[u8],
     input: &mut I,
     output: &mut O,
-) -> Ended
+) -> RunResult
     requires { AreNew I.Source O.Sink input.old output.old }
-    ensures ran { Runs I.Source O.Sink (AllowsCheck game id.now)
-        input.old input.new output.old output.new result }
+    ensures ran { Ran I.Source O.Sink (AllowsCheck (game_of game) id.now)
+        input.old input.new output.old output.new (status_in result) }
     ensures left { LeavesEnds I.Source O.Sink (is_read game id.now) input.new output.new result }
 {
     by_game!(game, check_one::<_, I, O>(alloc, id, input, output))

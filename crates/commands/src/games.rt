@@ -1,7 +1,7 @@
 //! The games: for each the type of its puzzles, the memory of their searches, its name, and a file
 //! of what the commands ask of its puzzles.
 ghost use Rattle.std.specs.Prelude.{◌≡◌, option_map};
-ghost use Rattle.commands.specs.Games.{game_of, usual_black};
+ghost use Rattle.commands.specs.Games.{game_named, usual_black};
 
 pub(crate) mod light_up;
 pub(crate) mod pattern;
@@ -57,7 +57,7 @@ pub(crate) use by_game;
 
 /// The game of that name.
 pub fn game_named(text: &str) -> Option<Game>
-    ensures { result ≡ game_of text.now }
+    ensures { result ≡ game_named text.now }
 {
     match text {
         "solo" => Some(Game::Solo),

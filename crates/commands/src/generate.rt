@@ -1,8 +1,8 @@
 //! The answers of `generate`.
 ghost use Rattle.std.specs.Prelude.{◌≡◌, IfOk, string_bytes};
 ghost use Rattle.commands.specs.Answers.{IsGridFor};
-ghost use Rattle.commands.specs.Games.{played};
-ghost use Rattle.commands.specs.Allowed.{MakesOf};
+ghost use Rattle.commands.specs.Games.{game_of};
+ghost use Rattle.commands.specs.Allowed.{AllowsMade};
 ghost use Rattle.commands.specs.Makings.{made_answer, exhausted_answer};
 ghost use Rattle.commands.specs.Unmade.{wanted_in};
 ghost use Rattle.commands.specs.Replies.{answer_in, grid_of};
@@ -56,7 +56,7 @@ fn generate_one<P: Makable + Drop>(
     size: &[u8],
     recipe: Recipe,
 ) -> Result<Reply, AllocError>
-    ensures { IfOk result (λ r. MakesOf P.Played (wanted_in recipe) size.now (answer_in r)) }
+    ensures { IfOk result (λ r. AllowsMade P.Played (wanted_in recipe) size.now (answer_in r)) }
 {
     match P::make(alloc, size, recipe) {
         Ok(made) => {
@@ -70,10 +70,6 @@ fn generate_one<P: Makable + Drop>(
 }
 
 /// The answer to a size of the game of which a puzzle is to be made.
-///
-/// # Errors
-///
-/// When memory was refused.
 pub fn generated(
     alloc: Global,
     game: Game,
@@ -81,7 +77,7 @@ pub fn generated(
     recipe: Recipe,
 ) -> Result<Reply, AllocError>
     ensures { IfOk result
-        (λ r. MakesOf (played game) (wanted_in recipe) size.now (answer_in r)) }
+        (λ r. AllowsMade (game_of game) (wanted_in recipe) size.now (answer_in r)) }
 {
     by_game!(game, generate_one::<_>(alloc, size, recipe))
 }

@@ -1,26 +1,26 @@
 //! The answers of `grade`.
-ghost use Rattle.std.specs.Prelude.{◌≡◌, ◌++◌, ◌≤◌, ◌↔◌, List, ℕ, true, false, IfOk, codes, string_bytes};
+ghost use Rattle.std.specs.Prelude.{◌≡◌, ◌++◌, ◌≤◌, ◌↔◌, List, ℕ, true, false, IfErr, IfOk, OnErr, OnOk, codes, string_bytes};
 ghost use Rattle.commands.specs.Common.{Solves, needs_of, FitsIn};
-ghost use Rattle.commands.specs.Games.{played};
-ghost use Rattle.commands.specs.Grades.{grade_status, grade_text, rule_set_text};
-ghost use Rattle.commands.specs.Allowed.{AreTold, GradeTold, GradesId, IsGradeAfter, IsGraded, IsToldBySweeps};
+ghost use Rattle.commands.specs.Games.{game_of};
+ghost use Rattle.commands.specs.Grades.{SaysGrade, grade_status, grade_text, only_set, rule_set_text};
+ghost use Rattle.commands.specs.Allowed.{AllowsGrade, IsGraded};
 ghost use Rattle.commands.specs.Answers.{code_of};
-ghost use Rattle.commands.specs.Stops.{LeavesSink, Told, ToldIfAny};
-ghost use Rattle.commands.specs.Traces.{TellsSweeps};
+ghost use Rattle.commands.specs.Stops.{LeavesSink, Says, SaysIfAny, is_broken, status_in};
+ghost use Rattle.commands.specs.TracePieces.{BeginsTrace, PutsTrace};
 
 pub mod named;
-pub mod settling;
+pub mod grading;
 pub mod trace;
 
 use crate::answers::reply::Reply;
-use crate::answers::status::{Ended, Status, Stop};
+use crate::answers::status::{RunResult, Status, Stop};
 use crate::ends::Sink;
 use crate::ends::output::{deliver, refuse};
 use crate::games::by_game;
 use crate::grade::named::Named;
 use crate::grade::trace::{push_sweeps, put_visits};
 use crate::solve::solvable::Solvable;
-use engine_core::{Searchable, Store};
+use engine_core::{Mode, Searchable, Store};
 use gameid_core::{Game, IdFault};
 use itoa::Buffer;
 use std::alloc::{AllocError, Global};
@@ -121,151 +121,136 @@ fn grade_line(alloc: Global, grade: Grade) -> Result<String, AllocError>
 }
 
 impl Attempt {
-    /// Tells a grade and, if a trace is asked for, the visits of a closing by these rules.
+    /// Adds the lines of a trace to a text if one is asked for: how these rules close their start
+    /// board. What has grown to a piece is put.
+    fn put_trace<R: Searchable, P: Named, O: Sink>(
+        self,
+        puzzle: &P,
+        rules: &R,
+        store: &mut Store<R>,
+        text: &mut String,
+        output: &mut O,
+    ) -> Result<(), Stop>
+        requires fits { FitsIn (needs_of (R.system rules.now)) store.old.made }
+        requires named { (R.system rules.now).by_queue ≡ true
+            → (R.system rules.now).houses ≤ P.named puzzle.now }
+        requires not_failed { O.has_failed output.old ≡ false }
+        ensures put { OnOk result (PutsTrace O.takes self.options.traced
+            (P.game.visit_name puzzle.now) (R.system rules.now)
+            output.old (string_bytes text.old) (string_bytes text.new) output.new) }
+        ensures fine { OnOk result (O.has_failed output.new ≡ false) }
+        ensures begun { OnErr result (BeginsTrace O.takes self.options.traced
+            (P.game.visit_name puzzle.now) (R.system rules.now)
+            output.old (string_bytes text.old) output.new) }
+        ensures failed { IfErr result (λ stop. O.has_failed output.new ≡ is_broken stop) }
+    {
+        if !self.options.traced {
+            return Ok(());
+        }
+        store.close(rules);
+        match R::MODE {
+            Mode::Queue => put_visits(puzzle, store.trace(), text, output),
+            Mode::Sweep => {
+                push_sweeps(text, store.sweeps())?;
+                Ok(())
+            }
+        }
+    }
+
+    /// Says a grade and, if a trace is asked for, how these rules close their start board.
     ///
     /// # Errors
     ///
-    /// When memory was refused, or the sink failed. A beginning of the text was put then, or
-    /// nothing.
-    pub fn tell_with_visits<R: Searchable, P: Named, O: Sink>(
+    /// A beginning of the text was put then, or nothing.
+    pub fn say<R: Searchable, P: Named, O: Sink>(
         self,
         grade: Grade,
         puzzle: &P,
         rules: &R,
         store: &mut Store<R>,
         output: &mut O,
-    ) -> Ended
+    ) -> RunResult
         requires fits { FitsIn (needs_of (R.system rules.now)) store.old.made }
-        requires queue { (R.system rules.now).by_queue ≡ true }
-        requires named { (R.system rules.now).houses ≤ P.named puzzle.now }
+        requires named { (R.system rules.now).by_queue ≡ true
+            → (R.system rules.now).houses ≤ P.named puzzle.now }
         requires not_failed { O.has_failed output.old ≡ false }
-        ensures told { ToldIfAny O.takes
-            (GradeTold P.game puzzle.now self grade (R.system rules.now))
-            output.old output.new result }
+        ensures answer { SaysIfAny O.takes (SaysGrade grade self.options.traced
+            (P.game.visit_name puzzle.now) (R.system rules.now))
+            output.old output.new (status_in result) }
         ensures left { LeavesSink O.Sink output.new result }
     {
         let mut text = grade_line(self.alloc, grade)?;
-        if self.options.traced {
-            store.close(rules);
-            put_visits(puzzle, store.trace(), &mut text, output)?;
-        }
+        self.put_trace(puzzle, rules, store, &mut text, output)?;
         let status = grade.status();
         deliver(output, &Reply { text, status })
     }
 
-    /// Tells a grade and, if a trace is asked for, the sweeps of a closing by these rules.
-    fn tell_with_sweeps<R: Searchable, O: Sink>(
-        self,
-        grade: Grade,
-        rules: &R,
-        store: &mut Store<R>,
-        output: &mut O,
-    ) -> Ended
-        requires fits { FitsIn (needs_of (R.system rules.now)) store.old.made }
-        requires sweeps { (R.system rules.now).by_queue ≡ false }
-        requires not_failed { O.has_failed output.old ≡ false }
-        ensures told { ToldIfAny O.takes (IsToldBySweeps self grade (R.system rules.now))
-            output.old output.new result }
-        ensures left { LeavesSink O.Sink output.new result }
-    {
-        let mut text = grade_line(self.alloc, grade)?;
-        if self.options.traced {
-            store.close(rules);
-            push_sweeps(&mut text, store.sweeps())?;
-        }
-        let status = grade.status();
-        deliver(output, &Reply { text, status })
-    }
-
-    /// Tells the grade of a puzzle by these rules, the last in the list, and else by a search. They
-    /// are closed by visits.
+    /// Says the grade of a puzzle by these rules, the last in the list, and else by a search.
     ///
     /// # Errors
     ///
-    /// When memory was refused, or the sink failed. A beginning of the text was put then, or
-    /// nothing.
-    pub fn tell_by_visits<P: Solvable + Named, R: Searchable, O: Sink>(
+    /// A beginning of the text was put then, or nothing.
+    pub fn say_by<P: Solvable + Named, R: Searchable, O: Sink>(
         self,
         puzzle: &P,
         rules: &R,
         output: &mut O,
-    ) -> Ended
+    ) -> RunResult
     where
         P::Search: Searchable,
         requires means { (rules : P.Search) → P.Search.system rules ≡ P.meaning rules }
-        requires queue { (R.system rules.now).by_queue ≡ true }
-        requires named { (R.system rules.now).houses ≤ P.named puzzle.now }
+        requires named { (R.system rules.now).by_queue ≡ true
+            → (R.system rules.now).houses ≤ P.named puzzle.now }
         requires accepted { (g : List ℕ)
             → Solves (R.system rules.now) g ↔ P.game.solves puzzle.now g }
         requires not_failed { O.has_failed output.old ≡ false }
-        ensures told { ToldIfAny O.takes (IsGradeAfter P.game puzzle.now self (R.system rules.now))
-            output.old output.new result }
+        ensures answer { SaysIfAny O.takes
+            (IsGraded P.Played (only_set self.set (R.system rules.now))
+                self.options.budget self.options.traced puzzle.now)
+            output.old output.new (status_in result) }
         ensures left { LeavesSink O.Sink output.new result }
     {
         let mut store = Store::new(self.alloc, rules)?;
         let grade = self.grade(puzzle, rules, &mut store)?;
-        self.tell_with_visits(grade, puzzle, rules, &mut store, output)
-    }
-
-    /// Tells the grade as `tell_by_visits` does, by rules that are closed by sweeps.
-    pub(crate) fn tell_by_sweeps<P: Solvable, R: Searchable, O: Sink>(
-        self,
-        puzzle: &P,
-        rules: &R,
-        output: &mut O,
-    ) -> Ended
-    where
-        P::Search: Searchable,
-        requires means { (rules : P.Search) → P.Search.system rules ≡ P.meaning rules }
-        requires sweeps { (R.system rules.now).by_queue ≡ false }
-        requires told { AreTold P.game puzzle.now TellsSweeps }
-        requires accepted { (g : List ℕ)
-            → Solves (R.system rules.now) g ↔ P.game.solves puzzle.now g }
-        requires not_failed { O.has_failed output.old ≡ false }
-        ensures told { ToldIfAny O.takes (IsGradeAfter P.game puzzle.now self (R.system rules.now))
-            output.old output.new result }
-        ensures left { LeavesSink O.Sink output.new result }
-    {
-        let mut store = Store::new(self.alloc, rules)?;
-        let grade = self.grade(puzzle, rules, &mut store)?;
-        self.tell_with_sweeps(grade, rules, &mut store, output)
+        self.say(grade, puzzle, rules, &mut store, output)
     }
 }
 
 /// A puzzle that can be graded.
 pub trait Graded: Solvable {
-    /// Tells the grade, and then a trace if one is asked for. Gives the status of the run.
+    /// Says the grade, and then a trace if one is asked for. Gives the status of the run.
     ///
     /// # Errors
     ///
-    /// When memory was refused, or the sink failed. A beginning of the text was put then, or
-    /// nothing.
-    fn tell<O: Sink>(&self, alloc: Global, options: GradeOptions, output: &mut O) -> Ended
+    /// A beginning of the text was put then, or nothing.
+    fn say_grade<O: Sink>(&self, alloc: Global, options: GradeOptions, output: &mut O) -> RunResult
         requires { O.has_failed output.old ≡ false }
-        ensures told { ToldIfAny O.takes (IsGraded Self.game options self.now)
-            output.old output.new result }
+        ensures answer { SaysIfAny O.takes (IsGraded Self.Played (Self.game.sets self.now)
+            options.budget options.traced self.now) output.old output.new (status_in result) }
         ensures left { LeavesSink O.Sink output.new result };
 }
 
-/// Tells the grade of an ID, or its fault.
+/// Says the grade of an ID, or its fault.
 fn grade_one<P: Graded + Drop, O: Sink>(
     alloc: Global,
     id: &[u8],
     options: GradeOptions,
     output: &mut O,
-) -> Ended
+) -> RunResult
     requires { O.has_failed output.old ≡ false }
-    ensures told { ToldIfAny O.takes (GradesId P.game options id.now) output.old output.new result }
+    ensures answer { SaysIfAny O.takes
+        (AllowsGrade P.Played id.now options.budget options.traced)
+        output.old output.new (status_in result) }
     ensures left { LeavesSink O.Sink output.new result }
 {
     match P::read_id(alloc, id) {
-        Ok(puzzle) => puzzle.tell(alloc, options, output),
+        Ok(puzzle) => puzzle.say_grade(alloc, options, output),
         Err(IdFault::Memory) => Err(Stop::Memory),
         Err(fault) => refuse(alloc, fault, output),
     }
 }
 
-/// Tells the grade of an ID of the game: the name of the first rule set whose closing of the start
+/// Says the grade of an ID of the game: the name of the first rule set whose closing of the start
 /// board gives the solution, and else what a search with the budget says. Where a trace is asked
 /// for, the closing by the last rule set that was tried follows, in pieces, so that it is never
 /// held whole. It gives the status.
@@ -279,10 +264,11 @@ pub fn grade_id<O: Sink>(
     id: &[u8],
     options: GradeOptions,
     output: &mut O,
-) -> Ended
+) -> RunResult
     requires { O.has_failed output.old ≡ false }
-    ensures told { Told O.takes (GradesId (played game).game options id.now)
-        output.old output.new result }
+    ensures answer { Says O.takes
+        (AllowsGrade (game_of game) id.now options.budget options.traced)
+        output.old output.new (status_in result) }
     ensures left { LeavesSink O.Sink output.new result }
 {
     by_game!(game, grade_one::<_, O>(alloc, id, options, output))

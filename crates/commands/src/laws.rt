@@ -2,17 +2,18 @@
 ghost use Rattle.std.specs.Prelude.{ℕ};
 ghost use Rattle.commands.specs.Common.{Game};
 ghost use Rattle.commands.specs.Allowed.{AllowsSolve};
+ghost use Rattle.commands.specs.Games.{game_of};
 ghost use Rattle.commands.specs.Each.{HasAnswers};
 ghost use Rattle.commands.specs.LawsOfCommands.{EachRequestHasAnAnswer, FixedRequestsHaveOneAnswer, SoloDiffersInGivens, LightsDifferInNumbers};
 ghost use Rattle.commands.specs.LawsOfCommands.{CorrectGridsAreSolutions, CorrectGridsAreTheOneTold, SolvedGridsPass};
 ghost use Rattle.commands.specs.LawsOfCommands.{GradedPuzzlesHaveOne, GradesGoWithVerdicts, RuleSetsNeedNoTrial, SearchesNameLeastBudgets};
 ghost use Rattle.commands.specs.LawsOfCommands.{LightsNeedTheirClues, MadePuzzlesAreSolved, SoloNeedsItsClues};
-ghost use Rattle.commands.specs.LawsOfCommands.{RewritingKeepsChecking, RewritingKeepsGrading, RewritingKeepsPuzzles, RewritingKeepsSolving};
+ghost use Rattle.commands.specs.LawsOfCommands.{RewritingKeepsAnswers};
 
 /// Each text has an answer of `solve`, for each game and budget: it spells a puzzle or has a fault,
 /// and the verdict of a puzzle's walk is right of its solutions.
 pub fn each_text_has_an_answer()
-    ensures { (game : Game) (budget : ℕ) → HasAnswers (AllowsSolve game budget) }
+    ensures { (game : Game) (budget : ℕ) → HasAnswers (AllowsSolve (game_of game) budget) }
 {}
 
 /// Each request has an answer that is allowed, on each input. So a trace that is asked for can be
@@ -70,8 +71,5 @@ pub fn made_puzzles_are_solved()
 /// The ID that is written for what an ID spells is read as the same puzzle, and each command that
 /// names an ID answers the same to the two.
 pub fn rewritten_ids_are_the_same()
-    ensures puzzles { RewritingKeepsPuzzles }
-    ensures solved { RewritingKeepsSolving }
-    ensures checked { RewritingKeepsChecking }
-    ensures graded { RewritingKeepsGrading }
+    ensures { RewritingKeepsAnswers }
 {}

@@ -2,7 +2,7 @@
 ghost use Rattle.std.specs.Prelude.{◌≡◌, Err, IfOk, IfErr, string_bytes};
 ghost use Rattle.gameid_core.specs.Steps.{Fails};
 ghost use Rattle.gameid_core.specs.declared.id.fault.IdFault.{IdFault};
-ghost use Rattle.commands.specs.Playing.{GameOf};
+ghost use Rattle.commands.specs.PuzzleFacts.{GameFacts};
 
 use gameid_core::{IdFault, Readable};
 use std::alloc::{AllocError, Global};
@@ -10,7 +10,7 @@ use std::alloc::{AllocError, Global};
 /// A puzzle of a game that is played.
 pub trait Played: Readable + Sized {
     // What the commands know of its game.
-    ghost game: { GameOf Self };
+    ghost game: { GameFacts Self };
 
     /// The puzzle that an ID spells.
     ///
@@ -24,10 +24,6 @@ pub trait Played: Readable + Sized {
             → game.spells id.now p → game.reading id.now ≡ Err f → ⊥ };
 
     /// The ID that is written for the puzzle.
-    ///
-    /// # Errors
-    ///
-    /// When memory was refused.
     fn write_id(&self, alloc: Global) -> Result<String, AllocError>
         ensures text { IfOk result (λ text. string_bytes text ≡ game.written self.now) }
         ensures again { IfOk result (λ text. game.spells (string_bytes text) self.now) };

@@ -1,8 +1,9 @@
 //! The answers of `solve`.
 ghost use Rattle.std.specs.Prelude.{◌≡◌, ◌*◌, IfOk};
 ghost use Rattle.commands.specs.Common.{FitsIn, needs_of, IsTrueOf, verdict_of};
-ghost use Rattle.commands.specs.Allowed.{AllowsSolve, SolvesId, SolvesPuzzle};
-ghost use Rattle.commands.specs.Replies.{answer_in, verdict_told};
+ghost use Rattle.commands.specs.Allowed.{AllowsSolve, IsSolved};
+ghost use Rattle.commands.specs.Games.{game_of};
+ghost use Rattle.commands.specs.Replies.{answer_in, verdict_said};
 
 pub mod solvable;
 
@@ -44,8 +45,8 @@ fn verdict_reply<P: Printed, R: Searchable>(
     requires cells { (R.system rules.now).cells ≡ (P.extent puzzle.now).w
         * (P.extent puzzle.now).h }
     requires values { (R.system rules.now).values ≡ P.value_count puzzle.now }
-    ensures told { IfOk result
-        (λ r. answer_in r ≡ verdict_told P.Printed puzzle.now (R.system rules.now) budget) }
+    ensures answer { IfOk result
+        (λ r. answer_in r ≡ verdict_said P.Printed puzzle.now (R.system rules.now) budget) }
     ensures right { IfOk result
         (λ r. IsTrueOf (R.system rules.now) (verdict_of (R.system rules.now) budget)) }
 {
@@ -78,7 +79,7 @@ fn solve_puzzle<P: Solvable + Drop>(
 where
     P::Search: Searchable,
     requires means { (rules : P.Search) → P.Search.system rules ≡ P.meaning rules }
-    ensures { IfOk result (λ r. SolvesPuzzle P.Played budget puzzle.now (answer_in r)) }
+    ensures { IfOk result (λ r. IsSolved P.Played budget puzzle.now (answer_in r)) }
 {
     let rules = puzzle.rules(alloc)?;
     let store = store_for(alloc, kept, &rules)?;
@@ -96,7 +97,7 @@ fn solve_one<P: Solvable + Drop>(
 where
     P::Search: Searchable,
     requires means { (rules : P.Search) → P.Search.system rules ≡ P.meaning rules }
-    ensures { IfOk result (λ r. SolvesId P.Played budget id.now (answer_in r)) }
+    ensures { IfOk result (λ r. AllowsSolve P.Played budget id.now (answer_in r)) }
 {
     match P::read_id(alloc, id) {
         Ok(puzzle) => solve_puzzle(alloc, kept, &puzzle, budget, text),
@@ -116,10 +117,6 @@ impl Stores {
     /// The answer to an ID that is to be solved: its first fault, or the verdict with its grids, in
     /// the memory of `text`, of which nothing else stays. The search works in the memory of the
     /// stores where that is enough, and in new memory where not, which is left there for the next.
-    ///
-    /// # Errors
-    ///
-    /// When memory was refused.
     pub fn solve_id(
         &mut self,
         alloc: Global,
@@ -127,7 +124,8 @@ impl Stores {
         id: &[u8],
         text: String,
     ) -> Result<Reply, AllocError>
-        ensures { IfOk result (λ r. AllowsSolve task.game task.budget id.now (answer_in r)) }
+        ensures { IfOk result
+            (λ r. AllowsSolve (game_of task.game) task.budget id.now (answer_in r)) }
     {
         let budget = task.budget;
         by_game!(task.game, solve_one::<_>(alloc, &mut self._, id, budget, text))

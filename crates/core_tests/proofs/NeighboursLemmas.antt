@@ -14,18 +14,22 @@ pair-out h c a b = false_from_ne_true (has_place (h ∷ (h + 1) ∷ []) c) (λ o
 pub row-not : (cells first last : ℕ) (g : List ℕ) → (is_row cells first last g ≡ true → ⊥) → false ≡ is_row cells first last g
 row-not cells first last g no' = sym (false_from_ne_true (is_row cells first last g) no')
 
-pub row-from : (cells first last : ℕ) (g : List ℕ) → slice_index g 0 ≡ first → slice_index g (cells - 1) ≡ last → ((h : ℕ) → h < cells - 1 → not (eqb (slice_index g h) (slice_index g (h + 1))) ≡ true) → true ≡ is_row cells first last g
+pub row-from : (cells : ℕ) {first last : ℕ} (g : List ℕ) → slice_index g 0 ≡ first → slice_index g (cells - 1) ≡ last
+    → ((h : ℕ) → h < cells - 1 → not (eqb (slice_index g h) (slice_index g (h + 1))) ≡ true) → true ≡ is_row cells first last g
 unfolding is_row
-row-from cells first last g a b all = sym (and_from _ _ (eq-eqb _ _ a) (and_from _ _ (eq-eqb _ _ b) (all_below-from (λ h. not (eqb (slice_index g h) (slice_index g (h + 1)))) (cells - 1) all)))
+row-from cells g a b all =
+    sym (and_from _ _ (eq-eqb _ _ a)
+    (and_from _ _ (eq-eqb _ _ b) (all_below-from (λ h. not (eqb (slice_index g h) (slice_index g (h + 1)))) (cells - 1) all)))
 
 -- ---- the decision
-set-has : (values bits v : ℕ) → v < values → has_value (set_of_bits values bits) v ≡ has_bit bits v
+set-has : {values : ℕ} (bits : ℕ) {v : ℕ} → v < values → has_value (set_of_bits values bits) v ≡ has_bit bits v
 unfolding set_of_bits
-set-has values bits v lt = get_or-map-range_with_len (has_bit bits) 0 values v v false lt (omega arith)
+set-has {values} bits {v} lt = get_or-map-range_with_len (has_bit bits) 0 values v v false lt (omega arith)
 
 set-small : (values bits v : ℕ) → has_value (set_of_bits values bits) v ≡ true → v < values
 unfolding set_of_bits
-set-small values bits v on = let below = has_value_below (map (has_bit bits) (range_with_len 0 values)) v on in omega (arith, length-map-range_with_len (has_bit bits) 0 values)
+set-small values bits v on = let below = has_value_below (map (has_bit bits) (range_with_len 0 values)) v on in
+    omega (arith, length-map-range_with_len (has_bit bits) 0 values)
 
 -- a filling of two sets
 two-fills : (a b : Set) (x y : ℕ) → has_value a x ≡ true → has_value b y ≡ true → Fills (a ∷ b ∷ []) (x ∷ y ∷ [])
@@ -36,9 +40,11 @@ pair-left : (values a b x y : ℕ) → x < values → y < values → has_bit a x
     → (strikes_by_fillings differ (set_of_bits values a ∷ set_of_bits values b ∷ []) 0 x ≡ false)
     × (strikes_by_fillings differ (set_of_bits values a ∷ set_of_bits values b ∷ []) 1 y ≡ false)
 pair-left values a b x y ltx lty onx ony ne =
-    let fills = two-fills (set_of_bits values a) (set_of_bits values b) x y (set-has values a x ltx ∙ onx) (set-has values b y lty ∙ ony) in
+    let fills = two-fills (set_of_bits values a) (set_of_bits values b) x y (set-has a ltx ∙ onx) (set-has b lty ∙ ony) in
     let holds : differ (x ∷ y ∷ []) ≡ true = not_from_false _ (false_from_ne_true _ ne) in
-    let shown = λ (k v : ℕ) (e : slice_index (x ∷ y ∷ []) k ≡ v). test_from_shown differ _ k v (x ∷ y ∷ [], record { fills = fills; holds_true = holds; has_it = e }) in
+    let shown =
+    λ (k v : ℕ) (e : slice_index (x ∷ y ∷ []) k ≡ v). test_from_shown differ _ k v
+    (x ∷ y ∷ [], record { fills = fills; holds_true = holds; has_it = e }) in
     (shown 0 x refl, shown 1 y refl)
 
 left-pair : (values a b k v : ℕ) → k < 2 → strikes_by_fillings differ (set_of_bits values a ∷ set_of_bits values b ∷ []) k v ≡ false
@@ -50,7 +56,7 @@ left-pair values a b k v lt stays =
     let ltx = set-small values a _ x in
     let lty = set-small values b _ y in
     let ne = eqb-false _ _ (not-true _ s.1.holds_true) in
-    (slice_index s.0 0, slice_index s.0 1, ltx, lty, sym (set-has values a _ ltx) ∙ x, sym (set-has values b _ lty) ∙ y, ne, grind (arith, common_steps, s.1.has_it))
+    (slice_index s.0 0, slice_index s.0 1, ltx, lty, sym (set-has a ltx) ∙ x, sym (set-has b lty) ∙ y, ne, grind (arith, common_steps, s.1.has_it))
 
 -- the first of two cells keeps a value exactly where the second has another
 first_kept : (values a b v : ℕ) → v < values → has_bit a v ≡ true
@@ -66,13 +72,13 @@ second_kept values a b v lt on =
     grind (arith, common_steps, any_below-some other values, any_below-none other values, λ (u : ℕ). pair-left values a b u v, left-pair values a b 1 v, eqb-true, eq-eqb, ne_eqb)
 
 kept_bit : (x y z : Bool) → (x ≡ true → y ≡ z) → (x && y) ≡ (x && z)
-kept_bit x0 y z e = grind (arith, common_steps)
+kept_bit x y z e = grind (arith, common_steps)
 
-pub decided : (values a b k0 k1 : ℕ)
+pub decided : {values a b k0 k1 : ℕ}
     → IsBitsOf (λ v. has_bit a v && any_below (λ u. not (eqb u v) && has_bit b u) values) values k0
     → IsBitsOf (λ v. has_bit b v && any_below (λ u. not (eqb u v) && has_bit a u) values) values k1
     → IsDecided values (strikes_by_fillings differ) (a ∷ b ∷ []) (k0 ∷ k1 ∷ [])
-decided values a b k0 k1 p q = grind (arith, common_steps, first_kept, kept_bit, second_kept)
+decided p q = grind (arith, common_steps, first_kept, kept_bit, second_kept)
 
 -- a list of two
 pub two-of : (xs : List ℕ) → length xs ≡ 2 → xs ≡ slice_index xs 0 ∷ slice_index xs 1 ∷ []
@@ -81,9 +87,10 @@ two-of xs e = grind (arith, common_steps)
 -- ---- the houses that have a place: the one before it, and its own
 its_houses : (cells place j : ℕ) → j < cells - 1
     → ((ltb 0 place && eqb j (place - 1)) || (ltb (place + 1) cells && eqb j place)) ≡ has_place (j ∷ (j + 1) ∷ []) place
-its_houses cells place j lt = grind (arith, common_steps, cases_Bool, cases_lt, eq-eqb, eqb-true, ltb-true, lt-ltb, ne_eqb, pair-cases, pair-first, pair-second, pair-out)
+its_houses cells place j lt =
+    grind (arith, common_steps, cases_Bool, cases_lt, eq-eqb, eqb-true, ltb-true, lt-ltb, ne_eqb, pair-cases, pair-first, pair-second, pair-out)
 
-pub called-beside : (p : RuleSystem) (K : Candidates) (cells place : ℕ) (before now after : ℕ → Bool) → p.houses ≡ cells - 1
+pub called-beside : {p : RuleSystem} {K : Candidates} (cells place : ℕ) {before : ℕ → Bool} (now : ℕ → Bool) {after : ℕ → Bool} → p.houses ≡ cells - 1
     → ((j : ℕ) → now j ≡ (before j || (ltb 0 place && eqb j (place - 1)))) → ((j : ℕ) → after j ≡ (now j || (ltb (place + 1) cells && eqb j place)))
     → AreCalled p K (λ j. has_place (j ∷ (j + 1) ∷ []) place) before after
-called-beside p K cells place before now after few one two = grind (arith, common_steps, its_houses cells place)
+called-beside cells place now few one two = grind (arith, common_steps, its_houses cells place)

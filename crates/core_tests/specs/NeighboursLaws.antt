@@ -61,21 +61,23 @@ queue_bound queue cells values first last two some =
     less_one c zero le = absurd (omega arith)
     less_one c (suc v) le = let e : suc v - 1 ≡ v = omega arith in rw e (omega arith)
 
-sweep_bound : (cells values : ℕ) → 2 ≤ cells → 1 ≤ values → cells * (values - 1) + 1 ≤ cells * values
-sweep_bound cells zero two some = absurd (omega arith)
-sweep_bound cells (suc v) two some = let e : suc v - 1 ≡ v = omega arith in rw e (omega arith)
+sweep_bound : {cells : ℕ} (values : ℕ) → 2 ≤ cells → 1 ≤ values → cells * (values - 1) + 1 ≤ cells * values
+sweep_bound zero two some = absurd (omega arith)
+sweep_bound (suc v) two some = let e : suc v - 1 ≡ v = omega arith in rw e (omega arith)
 
 -- ---- solutions
-pub row-parts : (cells first last : ℕ) (g : List ℕ) → is_row cells first last g ≡ true → (slice_index g 0 ≡ first) × (slice_index g (cells - 1) ≡ last) × ((h : ℕ) → h < cells - 1 → differ (map (slice_index g) (h ∷ (h + 1) ∷ [])) ≡ true)
+pub row-parts : (cells first last : ℕ) (g : List ℕ) → is_row cells first last g ≡ true
+    → (slice_index g 0 ≡ first) × (slice_index g (cells - 1) ≡ last)
+    × ((h : ℕ) → h < cells - 1 → differ (map (slice_index g) (h ∷ (h + 1) ∷ [])) ≡ true)
 unfolding is_row
 row-parts cells first last g e =
     let w = and_parts (eqb (slice_index g 0) first) _ e in
     let u = and_parts (eqb (slice_index g (cells - 1)) last) _ w.1 in
     (eqb-true _ _ w.0, eqb-true _ _ u.0, λ h lt. all_below-at (λ h. not (eqb (slice_index g h) (slice_index g (h + 1)))) (cells - 1) h u.1 lt)
 
-single-all : (cells values : ℕ) (g : List ℕ) → IsGrid cells values g → IsInside (single g) (all_of cells values)
+single-all : {cells values : ℕ} (g : List ℕ) → IsGrid cells values g → IsInside (single g) (all_of cells values)
 unfolding all_of
-single-all cells values g grid = λ c v on.
+single-all {cells} {values} g grid = λ c v on.
     let w = single-is g c v on in
     let lt = grid.each_value c 0 w.0 in
     and_from _ _ (lt-ltb c cells (omega (arith, w.0, grid.each_cell))) (lt-ltb v values (omega (arith, lt, w.1)))
@@ -84,26 +86,34 @@ all-within : (cells values c v : ℕ) → all_of cells values c v ≡ true → (
 unfolding all_of
 all-within cells values c v on = let w = and_parts _ _ on in (ltb-true c cells w.0, ltb-true v values w.1)
 
-pub neighbours-lawful : (queue : Bool) (cells values first last : ℕ) → 2 ≤ cells → cells ≤ 65536 → 1 ≤ values → values ≤ 31 → IsLawful (neighbours queue cells values first last)
+pub neighbours-lawful : (queue : Bool) (cells values first last : ℕ) → 2 ≤ cells → cells ≤ 65536 → 1 ≤ values → values ≤ 31
+    → IsLawful (neighbours queue cells values first last)
 unfolding after
 neighbours-lawful queue cells values first last two few_cells some few_values = record {
-  strikes_inside = λ h K L lt inside c v struck. strikes_at-inside values (h ∷ (h + 1) ∷ []) (strikes_by_fillings differ) (by_fillings-monotone differ) K L inside c v struck;
+  strikes_inside =
+      λ h K L lt inside c v struck. strikes_at-inside values (h ∷ (h + 1) ∷ []) (strikes_by_fillings differ)
+      (by_fillings-monotone differ) K L inside c v struck;
   strikes_in_scope = λ h K c v lt struck. strikes_at-in_scope values (h ∷ (h + 1) ∷ []) (strikes_by_fillings differ) K c v struck;
   solutions_start = λ g grid good.
       let w = row-parts cells first last g good in
-      only-has (only (all_of cells values) 0 first) (cells - 1) last g (only-has (all_of cells values) 0 first g (single-all cells values g grid) w.0) w.1;
+      only-has (only (all_of cells values) 0 first) (cells - 1) last g (only-has (all_of cells values) 0 first g (single-all g grid) w.0) w.1;
   solutions_closed = λ g grid good h c v lt on.
       let w = row-parts cells first last g good in
       by_fillings-closed values (h ∷ (h + 1) ∷ []) differ g
       (λ k less. let e = grid.each_cell in elim (pair-cases h _ (has_place-here (h ∷ (h + 1) ∷ []) k less)) [ inl a ↦ omega arith | inr b ↦ omega arith ])
       (λ d less. grid.each_value d 0 less) (w.2 h lt) c v on;
-  settles = λ settled h K c v lt _ on. by_fillings-settled values (h ∷ (h + 1) ∷ []) differ K (λ d u. K d u && not (strikes_at values (h ∷ (h + 1) ∷ []) (strikes_by_fillings differ) K d u)) (pair-different h) (λ d u. refl) c v on;
+  settles =
+      λ settled h K c v lt _ on. by_fillings-settled values (h ∷ (h + 1) ∷ []) differ K
+      (λ d u. K d u && not (strikes_at values (h ∷ (h + 1) ∷ []) (strikes_by_fillings differ) K d u)) (pair-different h)
+      (λ d u. refl) c v on;
   bound_of_queue = λ e. queue_bound queue cells values first last two some;
-  bound_of_sweeps = λ e. sweep_bound cells values two some;
+  bound_of_sweeps = λ e. sweep_bound values two some;
   some_values = some;
   few_values = few_values;
   few_cells = few_cells;
-  start_within = λ c v on. all-within cells values c v (only-inside (all_of cells values) 0 first c v (only-inside (only (all_of cells values) 0 first) (cells - 1) last c v on));
+  start_within =
+      λ c v on. all-within cells values c v
+      (only-inside (all_of cells values) 0 first c v (only-inside (only (all_of cells values) 0 first) (cells - 1) last c v on));
   scope_within = λ h c lt member. elim (pair-cases h c member) [ inl e ↦ omega arith | inr e ↦ omega arith ];
   scope_distinct = λ h j k lt lj lk e. pair-different h j k lj lk e;
 }

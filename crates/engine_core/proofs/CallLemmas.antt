@@ -8,8 +8,8 @@ use Rattle.engine_core.proofs.QueueLemmas.{any_below-more, empties_else, empties
 use Rattle.engine_core.proofs.SetLemmas.{bits-empty, counts-differ, counts-same}
 
 -- where no house is called for, nothing changes
-pub called-none : (p : RuleSystem) (K : Candidates) (called waits : ℕ → Bool) → ((j : ℕ) → j < p.houses → called j ≡ false) → AreCalled p K called waits waits
-called-none p K called waits none = grind (arith, common_steps)
+pub called-none : {p : RuleSystem} {K : Candidates} {called waits : ℕ → Bool} → ((j : ℕ) → j < p.houses → called j ≡ false) → AreCalled p K called waits waits
+called-none none = grind (arith, common_steps)
 
 pub called-same : (p : RuleSystem) (K : Candidates) (called called' before now : ℕ → Bool) → ((j : ℕ) → j < p.houses → called j ≡ called' j) → AreCalled p K called before now → AreCalled p K called' before now
 called-same p K called called' before now same a = grind (arith, common_steps)
@@ -25,15 +25,15 @@ abbrev pub asked_upto : (ℕ → Bool) → ℕ → ℕ → Bool
 asked_upto test k j = test j && ltb (count_below test j) k
 
 pub upto-first : (p : RuleSystem) (K : Candidates) (test waits : ℕ → Bool) → AreCalled p K (asked_upto test 0) waits waits
-upto-first p K test waits = called-none p K _ waits (λ j lt. and_right (test j) _ (le-ltb (count_below test j) 0 (omega arith)))
+upto-first p K test waits = called-none (λ j lt. and_right (test j) _ (le-ltb (count_below test j) 0 (omega arith)))
 
 upto-next : (test : ℕ → Bool) (n k j : ℕ) → test n ≡ true → count_below test n ≡ k → (asked_upto test k j || eqb j n) ≡ asked_upto test (k + 1) j
 upto-next test n k j on number = grind (arith, common_steps, and_from, and_left, cases_eq, cases_lt, counted, eq-eqb, le-ltb, lt-ltb, ne_eqb, or_right)
 
 -- the next one is marked
-pub upto-marked : (p : RuleSystem) (K : Candidates) (test before now after : ℕ → Bool) (n k : ℕ) → test n ≡ true → count_below test n ≡ k → ((j : ℕ) → after j ≡ (now j || eqb j n))
+pub upto-marked : {p : RuleSystem} {K : Candidates} (test : ℕ → Bool) {before : ℕ → Bool} (now : ℕ → Bool) {after : ℕ → Bool} (n k : ℕ) → test n ≡ true → count_below test n ≡ k → ((j : ℕ) → after j ≡ (now j || eqb j n))
     → AreCalled p K (asked_upto test k) before now → AreCalled p K (asked_upto test (k + 1)) before after
-upto-marked p K test before now after n k on number marks a = grind (arith, common_steps, called-more, called-same, or_left, or_right, upto-next)
+upto-marked test now n k on number marks a = grind (arith, common_steps, called-more, called-same, or_left, or_right, upto-next)
 
 -- or it strikes nothing
 pub upto-idle : (p : RuleSystem) (K : Candidates) (test before now : ℕ → Bool) (n k : ℕ) → test n ≡ true → count_below test n ≡ k → IsIdle p n K
@@ -43,18 +43,18 @@ upto-idle p K test before now n k on number idle a =
     (called-more p K (asked_upto test k) (λ j. eqb j n) before now now a (grind (arith, common_steps, eqb-true)))
 
 -- one or the other
-pub upto-asked : (p : RuleSystem) (K : Candidates) (test before now after : ℕ → Bool) (n k : ℕ) (called : Bool) → test n ≡ true → count_below test n ≡ k → (called ≡ false → IsIdle p n K)
+pub upto-asked : (p : RuleSystem) (K : Candidates) (test : ℕ → Bool) {before now after : ℕ → Bool} (n k : ℕ) (called : Bool) → test n ≡ true → count_below test n ≡ k → (called ≡ false → IsIdle p n K)
     → ((j : ℕ) → after j ≡ (now j || (called && eqb j n))) → AreCalled p K (asked_upto test k) before now → AreCalled p K (asked_upto test (k + 1)) before after
-upto-asked p K test before now after n k true on number idle marks a = upto-marked p K test before now after n k on number marks a
-upto-asked p K test before now after n k false on number idle marks a = upto-idle p K test before after n k on number (idle refl) (grind (arith, common_steps))
+upto-asked p K test {now} n k true on number idle marks a = upto-marked test now n k on number marks a
+upto-asked p K test {before} {after} n k false on number idle marks a = upto-idle p K test before after n k on number (idle refl) (grind (arith, common_steps))
 
-pub upto-all : (p : RuleSystem) (K : Candidates) (test before now : ℕ → Bool) (k : ℕ) → count_below test p.houses ≤ k → AreCalled p K (asked_upto test k) before now → AreCalled p K test before now
-upto-all p K test before now k le a = grind (arith, common_steps, and_from, and_left, called-same, counted, lt-ltb)
+pub upto-all : {p : RuleSystem} {K : Candidates} {test before now : ℕ → Bool} (k : ℕ) → count_below test p.houses ≤ k → AreCalled p K (asked_upto test k) before now → AreCalled p K test before now
+upto-all k le a = grind (arith, common_steps, and_from, and_left, called-same, counted, lt-ltb)
 
 -- ---- the cells of a house one after another
-pub called-first : (p : RuleSystem) (h : ℕ) (K K' : Candidates) (waits : ℕ → Bool) → AreCalled p K' (λ j. any_below (calls p h (counts_of p h K) K' j) 0) waits waits
+pub called-first : (p : RuleSystem) (h : ℕ) (K K' : Candidates) {waits : ℕ → Bool} → AreCalled p K' (λ j. any_below (calls p h (counts_of p h K) K' j) 0) waits waits
 unfolding any_below
-called-first p h K K' waits = called-none p K' _ waits (λ j lt. refl)
+called-first p h K K' = called-none (λ j lt. refl)
 
 pub called-then : (p : RuleSystem) (h : ℕ) (K K' : Candidates) (k place : ℕ) (before now after : ℕ → Bool) → place ≡ slice_index (p.scope h) k
     → (count_below (K (slice_index (p.scope h) k)) p.values ≡ count_below (K' (slice_index (p.scope h) k)) p.values → ⊥)
@@ -63,31 +63,31 @@ pub called-then : (p : RuleSystem) (h : ℕ) (K K' : Candidates) (k place : ℕ)
 unfolding counts_of
 called-then p h K K' k place before now after at ne a b = grind (arith, common_steps, any_below-more, called-more, called-same, ne_eqb, not_from_false)
 
-pub called-else : (p : RuleSystem) (h : ℕ) (K K' : Candidates) (k : ℕ) (before now : ℕ → Bool)
+pub called-else : {p : RuleSystem} (h : ℕ) (K K' : Candidates) (k : ℕ) {before now : ℕ → Bool}
     → count_below (K (slice_index (p.scope h) k)) p.values ≡ count_below (K' (slice_index (p.scope h) k)) p.values
     → AreCalled p K' (λ j. any_below (calls p h (counts_of p h K) K' j) k) before now
     → AreCalled p K' (λ j. any_below (calls p h (counts_of p h K) K' j) (k + 1)) before now
 unfolding counts_of
-called-else p h K K' k before now same a = grind (arith, common_steps, and_left, any_below-more, called-same, eq-eqb, not_from_true)
+called-else h K K' k same a = grind (arith, common_steps, and_left, any_below-more, called-same, eq-eqb, not_from_true)
 
 -- ---- the marks after a visit: of the house, then those of houses that were called for, then its own where it is settled
-pub woken-by : (p : RuleSystem) (h : ℕ) (K K' : Candidates) (waits cleared now left : ℕ → Bool) → ((j : ℕ) → cleared j ≡ but waits h j)
+pub woken-by : {p : RuleSystem} {h : ℕ} {K K' : Candidates} {waits cleared now left : ℕ → Bool} → ((j : ℕ) → cleared j ≡ but waits h j)
     → AreCalled p K' (called_for p h K K') cleared now → ((j : ℕ) → left j ≡ (now j && not (p.settled && eqb j h))) → IsWoken p h K K' waits left
 unfolding woken but
-woken-by p h K K' waits cleared now left clears a settles = grind (arith, common_steps)
+woken-by clears a settles = grind (arith, common_steps)
 
 -- where nothing was struck, only the house's own mark goes
-pub woken-unstruck : (p : RuleSystem) (h : ℕ) (K K' : Candidates) (waits left : ℕ → Bool) → K' ≡ K → ((j : ℕ) → left j ≡ but waits h j) → IsWoken p h K K' waits left
-woken-unstruck p h K K' waits left same clears = grind (arith, common_steps, woken-none)
+pub woken-unstruck : {p : RuleSystem} {h : ℕ} {K K' : Candidates} {waits left : ℕ → Bool} → K' ≡ K → ((j : ℕ) → left j ≡ but waits h j) → IsWoken p h K K' waits left
+woken-unstruck same clears = grind (arith, common_steps, woken-none)
 
 -- where no house waited before
-pub called-from : (p : RuleSystem) (K : Candidates) (called called' before now : ℕ → Bool) → ((j : ℕ) → j < p.houses → before j ≡ false) → ((j : ℕ) → j < p.houses → called j ≡ called' j) → AreCalled p K called before now
+pub called-from : {p : RuleSystem} {K : Candidates} {called called' before now : ℕ → Bool} → ((j : ℕ) → j < p.houses → before j ≡ false) → ((j : ℕ) → j < p.houses → called j ≡ called' j) → AreCalled p K called before now
     → AreCalled p K called' (λ j. false) now
-called-from p K called called' before now none same a = grind (arith, common_steps)
+called-from none same a = grind (arith, common_steps)
 
 -- ---- the houses that pass a test, up to a number
 pub before-first : (p : RuleSystem) (K : Candidates) (test waits : ℕ → Bool) → AreCalled p K (λ j. test j && ltb j 0) waits waits
-before-first p K test waits = called-none p K _ waits (λ j lt. and_right (test j) _ (le-ltb j 0 (omega arith)))
+before-first p K test waits = called-none (λ j lt. and_right (test j) _ (le-ltb j 0 (omega arith)))
 
 -- the next one is marked
 pub before-marked : (p : RuleSystem) (K : Candidates) (test before now after : ℕ → Bool) (from n : ℕ) → IsNext test p.houses from (Some n) → ((j : ℕ) → after j ≡ (now j || eqb j n))
@@ -99,8 +99,8 @@ before-marked p K test before now after from n next marks a =
     one on j lt = grind (arith, common_steps, and_from, and_left, and_right, cases_eq, cases_lt, eq-eqb, le-ltb, lt-ltb, ne_eqb, next.3 j)
 
 -- and none is left
-pub before-all : (p : RuleSystem) (K : Candidates) (test before now : ℕ → Bool) (from : ℕ) → IsNext test p.houses from None → AreCalled p K (λ j. test j && ltb j from) before now → AreCalled p K test before now
-before-all p K test before now from next a = called-same p K _ _ before now (λ j lt. grind (arith, common_steps, and_from, and_left, cases_lt, lt-ltb, next j)) a
+pub before-all : {p : RuleSystem} (K : Candidates) {test before now : ℕ → Bool} (from : ℕ) → IsNext test p.houses from None → AreCalled p K (λ j. test j && ltb j from) before now → AreCalled p K test before now
+before-all {p} K {before} {now} from next a = called-same p K _ _ before now (λ j lt. grind (arith, common_steps, and_from, and_left, cases_lt, lt-ltb, next j)) a
 
 -- ---- the cells of a house one after another, by their sets before and now
 pub record IsMarking (p : RuleSystem) (h : ℕ) (K K' : Candidates) (k : ℕ) (before now : ℕ → Bool) (dead : Bool) : Type 0 where
@@ -109,9 +109,9 @@ pub record IsMarking (p : RuleSystem) (h : ℕ) (K K' : Candidates) (k : ℕ) (b
 
 pub marking-first : (p : RuleSystem) (h : ℕ) (K K' : Candidates) (waits : ℕ → Bool) → IsMarking p h K K' 0 waits waits false
 unfolding any_below
-marking-first p h K K' waits = record { called = called-first p h K K' waits; dead_is = refl }
+marking-first p h K K' waits = record { called = called-first p h K K'; dead_is = refl }
 
-module _ (p : RuleSystem) (h : ℕ) (K K' : Candidates) (k place set bits : ℕ) (before now : ℕ → Bool) (dead : Bool) (at : place ≡ slice_index (p.scope h) k)
+module _ {p : RuleSystem} {h : ℕ} {K K' : Candidates} {k place set bits : ℕ} {before now : ℕ → Bool} {dead : Bool} (at : place ≡ slice_index (p.scope h) k)
     (was : IsBitsOf (K (slice_index (p.scope h) k)) p.values set) (is : IsBitsOf (K' place) p.values bits) (inside : IsInside K' K) (m : IsMarking p h K K' k before now dead) where
   here : IsBitsOf (K' (slice_index (p.scope h) k)) p.values bits
   here = rw (← at) is
@@ -121,10 +121,10 @@ module _ (p : RuleSystem) (h : ℕ) (K K' : Candidates) (k place set bits : ℕ)
       → IsMarking p h K K' (k + 1) before after dead'
   unfolding counts_of
   marking-then after dead' ne a e =
-      let differ = counts-differ _ _ p.values set bits was here (λ v. inside _ v) ne in
+      let differ = counts-differ was here (λ v. inside _ v) ne in
       record {
         called = called-then p h K K' k place before now after at differ m.called a;
-        dead_is = empties_then p h (counts_of p h K) K' k dead dead' _ e m.dead_is differ (bits-empty _ p.values bits here);
+        dead_is = empties_then p h (counts_of p h K) K' k e m.dead_is differ (bits-empty here);
       }
 
   -- one with the same set doesn't
@@ -132,4 +132,4 @@ module _ (p : RuleSystem) (h : ℕ) (K K' : Candidates) (k place set bits : ℕ)
   unfolding counts_of
   marking-else e =
       let same = counts-same _ _ p.values set bits was here e in
-      record { called = called-else p h K K' k before now same m.called; dead_is = empties_else p h (counts_of p h K) K' k dead dead refl m.dead_is same }
+      record { called = called-else h K K' k same m.called; dead_is = empties_else p h (counts_of p h K) K' k refl m.dead_is same }

@@ -6,9 +6,9 @@ use Rattle.engine_core.proofs.BitLemmas.{bits-of_power}
 use Rattle.engine_core.proofs.QueueLemmas.{within_of}
 
 -- by the bits that boards give for a cell
-pub change-of : (p : RuleSystem) (b b' : Layout) (place before after : ℕ) → IsBoardOf p b → SameShape b b' → place < p.cells → IsBitsOf (has b place) b.values before → IsBitsOf (has b' place) b'.values after
+pub change-of : {p : RuleSystem} {b b' : Layout} (place before after : ℕ) → IsBoardOf p b → SameShape b b' → place < p.cells → IsBitsOf (has b place) b.values before → IsBitsOf (has b' place) b'.values after
     → ((c v : ℕ) → (c ≡ place → ⊥) → has b' c v ≡ has b c v) → IsChange p.cells p.values (has b) (has b') place before after
-change-of p b b' place before after of shape lt was is others = grind (arith, common_steps, has-within)
+change-of place before after of shape lt was is others = grind (arith, common_steps, has-within)
 
 -- ---- a cell of which less is left
 pub left-inside : (K : Candidates) (place bits : ℕ) → IsInside (left_by K place bits) K
@@ -24,9 +24,9 @@ pub left-others : (K : Candidates) (place bits c v : ℕ) → (c ≡ place → �
 unfolding left_by
 left-others K place bits c v ne = grind (arith, common_steps)
 
-pub left-change : (p : RuleSystem) (b b' : Layout) (place before left : ℕ) → IsBoardOf p b → place < p.cells → IsBitsOf (has b place) p.values before
+pub left-change : (p : RuleSystem) (b b' : Layout) (place : ℕ) {before : ℕ} (left : ℕ) → IsBoardOf p b → place < p.cells → IsBitsOf (has b place) p.values before
     → IsBitsOf (left_by (has b) place left place) p.values left → has b' ≡ left_by (has b) place left → IsChange p.cells p.values (has b) (has b') place before left
-left-change p b b' place before left of lt was is e = rw e (record {
+left-change p b b' place left of lt was is e = rw e (record {
   place_in = lt;
   before_is = was;
   after_is = is;
@@ -39,9 +39,9 @@ pub left-only : (K : Candidates) (place value : ℕ) → left_by K place (2 ^ va
 unfolding left_by only
 left-only K place value = grind (arith, common_steps, bits-of_power, cases_eq, eq-eqb, ne_eqb)
 
-pub only-bits : (K : Candidates) (place value n : ℕ) → K place value ≡ true → value < n → IsBitsOf (left_by K place (2 ^ value) place) n (2 ^ value)
+pub only-bits : (K : Candidates) (place : ℕ) {value : ℕ} (n : ℕ) → K place value ≡ true → value < n → IsBitsOf (left_by K place (2 ^ value) place) n (2 ^ value)
 unfolding left_by
-only-bits K place value n on lt = grind (arith, common_steps, bits-of_power, cases_eq, eq-eqb, ne_eqb, pow_below)
+only-bits K place n on lt = grind (arith, common_steps, bits-of_power, cases_eq, eq-eqb, ne_eqb, pow_below)
 
-pub only-other : (set : ℕ → Bool) (value n before : ℕ) → IsBitsOf set n before → 2 ≤ count_below set n → 2 ^ value ≡ before → ⊥
-only-other set value n before was several e = grind (arith, common_steps, bits-of_power, count_below-few, eqb-true)
+pub only-other : {set : ℕ → Bool} (value n : ℕ) {before : ℕ} → IsBitsOf set n before → 2 ≤ count_below set n → 2 ^ value ≡ before → ⊥
+only-other value n was several e = grind (arith, common_steps, bits-of_power, count_below-few, eqb-true)

@@ -4,16 +4,16 @@ use Rattle.engine_core.specs.declared.mode.Closing.{Closing}
 use Rattle.engine_core.specs.declared.mode.Closing.TheVariants.{Dead, Open}
 
 -- where the closure is dead, any board may be left
-pub taken-dead : (p : RuleSystem) (K own E : Candidates) (trace : List ℕ) (sweeps : ℕ) → IsClosing p K own Dead trace sweeps → IsTaken p K E Dead
-taken-dead p K own E trace sweeps c = grind (arith, common_steps)
+pub taken-dead : {p : RuleSystem} {K own E : Candidates} {trace : List ℕ} {sweeps : ℕ} → IsClosing p K own Dead trace sweeps → IsTaken p K E Dead
+taken-dead c = grind (arith, common_steps)
 
-pub taken-open : (p : RuleSystem) (K E : Candidates) (trace : List ℕ) (sweeps : ℕ) → IsClosing p K E Open trace sweeps → IsTaken p K E Open
-taken-open p K E trace sweeps c = grind (arith, common_steps)
+pub taken-open : {p : RuleSystem} {K E : Candidates} {trace : List ℕ} {sweeps : ℕ} → IsClosing p K E Open trace sweeps → IsTaken p K E Open
+taken-open c = grind (arith, common_steps)
 
 -- its turns are counted
-pub closed-in : (p : RuleSystem) (K E : Candidates) (answer : Closing) (trace : List ℕ) (sweeps m : ℕ) → IsClosing p K E answer trace sweeps
+pub closed-in : {p : RuleSystem} {K E : Candidates} {answer : Closing} {trace : List ℕ} {sweeps m : ℕ} → IsClosing p K E answer trace sweeps
     → (p.by_queue ≡ true → length trace ≡ m) → (p.by_queue ≡ false → sweeps ≡ m) → IsClosedIn p K m
-closed-in p K E answer trace sweeps m c visits turns = grind (arith, common_steps)
+closed-in c visits turns = grind (arith, common_steps)
 
 pub turns-counted : (p : RuleSystem) (K : Candidates) (m before : ℕ) → IsClosedIn p K m → m ≤ 18446744073709551615 → CountsClosing p K before (before + m)
 turns-counted p K m before c few = grind (arith, common_steps)

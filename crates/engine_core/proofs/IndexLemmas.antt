@@ -42,15 +42,15 @@ unfolding has_place
 has_place-last [] y c = grind (arith, common_steps)
 has_place-last (x ∷ xs) y c = grind (arith, common_steps, has_place-last xs y c)
 
-module _ (places : List ℕ) (k : ℕ) (lt : k < length places) where
+module _ (places : List ℕ) {k : ℕ} (lt : k < length places) where
   taken-last : (c : ℕ) → has_place (take (k + 1) places) c ≡ (has_place (take k places) c || eqb (slice_index places k) c)
   taken-last c = ap (λ xs. has_place xs c) (take_more places k 0 lt) ∙ has_place-last (take k places) (slice_index places k) c
 
   pub taken-here : (c : ℕ) → c ≡ slice_index places k → has_place (take (k + 1) places) c ≡ true
   taken-here c is = grind (arith, common_steps, taken-last c, eq-eqb)
 
-  pub taken-other : (c : ℕ) → (c ≡ slice_index places k → ⊥) → has_place (take (k + 1) places) c ≡ has_place (take k places) c
-  taken-other c other = grind (arith, common_steps, taken-last c, ne_eqb)
+  pub taken-other : {c : ℕ} → (c ≡ slice_index places k → ⊥) → has_place (take (k + 1) places) c ≡ has_place (take k places) c
+  taken-other {c} other = grind (arith, common_steps, taken-last c, ne_eqb)
 
   -- one of the first k places is one of the places, and not the next
   taken-at : (c : ℕ) → has_place (take k places) c ≡ true → (j : ℕ) × (j < k) × (slice_index places j ≡ c)
@@ -72,18 +72,18 @@ pub houses_of_places : (scopes : List (List ℕ)) (slots : ℕ) → start_at sco
 houses_of_places scopes slots = omega (arith, counted_twice (scope_of scopes) (length scopes) slots, lengths_sum scopes)
 
 -- ---- the ends, before a house is put
-pub scopes-wider : (cells slots : ℕ) (scopes : List (List ℕ)) → cells ≤ slots → AreScopes cells scopes → AreScopes slots scopes
-scopes-wider cells slots scopes le are h lt = record { within = λ k lk. omega (arith, (are h lt).within k lk); different = (are h lt).different }
+pub scopes-wider : {cells slots : ℕ} (scopes : List (List ℕ)) → cells ≤ slots → AreScopes cells scopes → AreScopes slots scopes
+scopes-wider scopes le are h lt = record { within = λ k lk. omega (arith, (are h lt).within k lk); different = (are h lt).different }
 
 pub counts_same : (scopes : List (List ℕ)) (counts : List ℕ) → ((c : ℕ) → c < length counts → slice_index counts c ≡ number_at scopes (length scopes) c)
     → (n : ℕ) → n ≤ length counts → sum_below (slice_index counts) n ≡ start_at scopes n
 counts_same scopes counts each n le = sum_below-same (slice_index counts) (number_at scopes (length scopes)) n (λ k lt. each k (omega arith))
 
-pub index-none : (scopes : List (List ℕ)) (slots : ℕ) (ends houses : List ℕ) → length ends ≡ slots
+pub index-none : {scopes : List (List ℕ)} {slots : ℕ} {ends houses : List ℕ} → length ends ≡ slots
     → ((c : ℕ) → c < slots → slice_index ends c ≡ start_at scopes (suc c)) → length houses ≡ start_at scopes slots
     → IsIndex slots scopes (length scopes) ends houses
 unfolding sum_below
-index-none scopes slots ends houses as_many each long = record { as_many = as_many; begins = each; long = long; there = λ place h lp from lh on. absurd (omega arith) }
+index-none as_many each long = record { as_many = as_many; begins = each; long = long; there = λ place h lp from lh on. absurd (omega arith) }
 
 -- the numbers before `place` are summed up
 pub record IsSummed (old : List ℕ) (place : ℕ) (counts : List ℕ) (sum : ℕ) : Type 0 where
@@ -92,11 +92,11 @@ pub record IsSummed (old : List ℕ) (place : ℕ) (counts : List ℕ) (sum : �
   pub done : (c : ℕ) → c < place → slice_index counts c ≡ sum_below (slice_index old) (suc c)
   pub left : (c : ℕ) → place ≤ c → slice_index counts c ≡ slice_index old c
 
-pub summed-none : (old : List ℕ) → IsSummed old 0 old 0
+pub summed-none : {old : List ℕ} → IsSummed old 0 old 0
 unfolding sum_below
-summed-none old = grind (arith, common_steps)
+summed-none = grind (arith, common_steps)
 
-module _ (old : List ℕ) (place : ℕ) (counts : List ℕ) (sum : ℕ) (lt : place < length old) (was : IsSummed old place counts sum) where
+module _ {old : List ℕ} {place : ℕ} {counts : List ℕ} {sum : ℕ} (lt : place < length old) (was : IsSummed old place counts sum) where
   pub summed-sum : sum + slice_index counts place ≡ sum_below (slice_index old) (suc place)
   unfolding sum_below
   summed-sum = omega (arith, was.sum_is, was.left place (omega arith))
@@ -110,16 +110,16 @@ unfolding count_below
 number_at-more scopes h c = rw add-one refl
 
 -- ---- the rooms of different places are different
-slot-apart : (f : ℕ → ℕ) (c d r s : ℕ) → r < f c → s < f d → sum_below f c + r ≡ sum_below f d + s → c ≡ d
+slot-apart : (f : ℕ → ℕ) (c d : ℕ) {r s : ℕ} → r < f c → s < f d → sum_below f c + r ≡ sum_below f d + s → c ≡ d
 unfolding sum_below
-slot-apart f c d r s lr ls e = grind (arith, sum_below-more f (suc c) d, sum_below-more f (suc d) c)
+slot-apart f c d lr ls e = grind (arith, sum_below-more f (suc c) d, sum_below-more f (suc d) c)
 
 module _ (slots : ℕ) (scopes : List (List ℕ)) (are : AreScopes slots scopes) (house : ℕ) (lt : house < length scopes) where
   abbrev holds : ℕ → ℕ → Bool
   holds c h = has_place (scope_of scopes h) c
 
-  within : (c : ℕ) → has_place (scope_of scopes house) c ≡ true → c < slots
-  within c on = let w = has_place-at (scope_of scopes house) c on in rw w.2 at ((are house lt).within w.0 w.1)
+  within : {c : ℕ} → has_place (scope_of scopes house) c ≡ true → c < slots
+  within {c} on = let w = has_place-at (scope_of scopes house) c on in rw w.2 at ((are house lt).within w.0 w.1)
 
   -- a house more at a place that it has
   one_more : (c : ℕ) → has_place (scope_of scopes house) c ≡ true → number_at scopes (suc house) c ≡ suc (number_at scopes house c)
@@ -130,29 +130,29 @@ module _ (slots : ℕ) (scopes : List (List ℕ)) (are : AreScopes slots scopes)
   unfolding count_below
   none_more c off = grind (arith, common_steps)
 
-  module _ (starts houses : List ℕ) (index : IsIndex slots scopes (suc house) starts houses) where
+  module _ {starts houses : List ℕ} (index : IsIndex slots scopes (suc house) starts houses) where
     pub index-room : IsRoom starts (length houses) (scope_of scopes house)
     unfolding sum_below
     index-room = record {
-      some = λ c on. omega (arith, index.begins c (within c on), one_more c on);
-      within = λ c on. omega (arith, index.begins c (within c on), index.long, count_below-more (holds c) (suc house) (length scopes) lt, sum_below-more (number_at scopes (length scopes)) (suc c) slots (within c on));
-      apart = λ c d on_c on_d e. slot-apart (number_at scopes (length scopes)) c d (number_at scopes house c) (number_at scopes house d)
+      some = λ c on. omega (arith, index.begins c (within on), one_more c on);
+      within = λ c on. omega (arith, index.begins c (within on), index.long, count_below-more (holds c) (suc house) (length scopes) lt, sum_below-more (number_at scopes (length scopes)) (suc c) slots (within on));
+      apart = λ c d on_c on_d e. slot-apart (number_at scopes (length scopes)) c d
           (counted (holds c) house (length scopes) lt on_c) (counted (holds d) house (length scopes) lt on_d)
-          (omega (arith, index.begins c (within c on_c), one_more c on_c, index.begins d (within d on_d), one_more d on_d));
+          (omega (arith, index.begins c (within on_c), one_more c on_c, index.begins d (within on_d), one_more d on_d));
     }
 
-    pub index-turn : (starts' houses' : List ℕ) → IsPut house (scope_of scopes house) starts houses starts' houses' → IsIndex slots scopes house starts' houses'
-    index-turn starts' houses' put = record {
+    pub index-turn : {starts' houses' : List ℕ} → IsPut house (scope_of scopes house) starts houses starts' houses' → IsIndex slots scopes house starts' houses'
+    index-turn {starts'} put = record {
       as_many = put.as_many ∙ index.as_many;
       begins = λ c lc. grind (arith, common_steps, cases_Bool, none_more, one_more);
       long = put.long ∙ index.long;
       there = λ c h lc le lh on. elim (cases_lt house h) [
         | inl later ↦ put.kept (start_at scopes c + number_at scopes h c) (λ d on_d e.
-            let same = slot-apart (number_at scopes (length scopes)) c d (number_at scopes h c) (number_at scopes house d)
+            let same = slot-apart (number_at scopes (length scopes)) c d
             (counted (holds c) h (length scopes) lh on) (counted (holds d) house (length scopes) lt on_d)
-            (omega (arith, index.begins d (within d on_d), one_more d on_d)) in
+            (omega (arith, index.begins d (within on_d), one_more d on_d)) in
             let at = ap (λ x. start_at scopes x + number_at scopes house x) same in
-            absurd (omega (arith, count_below-more (holds c) (suc house) h later, one_more c (rw same on_d), one_more d on_d, index.begins d (within d on_d))))
+            absurd (omega (arith, count_below-more (holds c) (suc house) h later, one_more c (rw same on_d), one_more d on_d, index.begins d (within on_d))))
             ∙ index.there c h lc later lh on
         | inr here ↦
             let is : h ≡ house = omega arith in
@@ -163,9 +163,9 @@ module _ (slots : ℕ) (scopes : List (List ℕ)) (are : AreScopes slots scopes)
     }
 
 -- ---- a house is put before those of one place more
-pub put-none : (house : ℕ) (starts houses : List ℕ) → IsPut house [] starts houses starts houses
+pub put-none : {house : ℕ} {starts houses : List ℕ} → IsPut house [] starts houses starts houses
 unfolding has_place
-put-none house starts houses = grind (arith, common_steps)
+put-none = grind (arith, common_steps)
 
 module _ (house : ℕ) (places : List ℕ) (k : ℕ) (lt : k < length places) (different : AreDifferent places) (starts houses starts' houses' : List ℕ)
     (place_in : slice_index places k < length starts) (room : IsRoom starts (length houses) places) (was : IsPut house (take k places) starts houses starts' houses') where
@@ -176,7 +176,7 @@ module _ (house : ℕ) (places : List ℕ) (k : ℕ) (lt : k < length places) (d
   here = has_place-here places k lt
 
   pub put-start : slice_index starts' place ≡ slice_index starts place
-  put-start = was.off place (not_taken places k lt different place refl)
+  put-start = was.off place (not_taken places lt different place refl)
 
   pub put-room : (0 < slice_index starts' place) × (slice_index starts' place - 1 < length houses')
   put-room = (omega (arith, put-start, room.some place here), omega (arith, put-start, room.some place here, room.within place here, was.long))
@@ -186,19 +186,19 @@ module _ (house : ℕ) (places : List ℕ) (k : ℕ) (lt : k < length places) (d
     as_many = length-set starts' place _ ∙ was.as_many;
     long = length-set houses' _ house ∙ was.long;
     off = λ c off. elim (cases_eq c place) [
-      | inl is ↦ absurd (true≢false (sym (taken-here places k lt c is) ∙ off))
-      | inr other ↦ get_or-set_other starts' place c _ 0 other ∙ was.off c (sym (taken-other places k lt c other) ∙ off)
+      | inl is ↦ absurd (true≢false (sym (taken-here places lt c is) ∙ off))
+      | inr other ↦ get_or-set_other starts' place c _ 0 other ∙ was.off c (sym (taken-other places lt other) ∙ off)
     ];
     on = λ c on. elim (cases_eq c place) [
       | inl is ↦ grind (arith, common_steps, get_or-set_at starts' place c, put-room, put-start, in_starts)
-      | inr other ↦ ap suc (get_or-set_other starts' place c _ 0 other) ∙ was.on c (sym (taken-other places k lt c other) ∙ on)
+      | inr other ↦ ap suc (get_or-set_other starts' place c _ 0 other) ∙ was.on c (sym (taken-other places lt other) ∙ on)
     ];
     put = λ c on. grind (arith, common_steps, cases_eq, get_or-set_at, get_or-set_other, here, in_starts, place, put-room, put-start, taken-in, taken-other);
     kept = λ i free. get_or-set_other houses' (slice_index starts' place - 1) i house 0
-        (λ e. free place (taken-here places k lt place refl) (omega (arith, put-room, put-start)))
+        (λ e. free place (taken-here places lt place refl) (omega (arith, put-room, put-start)))
         ∙ was.kept i (λ c on e. elim (cases_eq c place) [
-          | inl is ↦ free c (taken-here places k lt c is) e
-          | inr other ↦ free c (taken-other places k lt c other ∙ on) e
+          | inl is ↦ free c (taken-here places lt c is) e
+          | inr other ↦ free c (taken-other places lt other ∙ on) e
         ]);
   }
     where
@@ -239,10 +239,10 @@ nth-at scopes c k houses at lt =
     let same : slice_index houses k ≡ w.0 = ap (slice_index houses) (sym w.3) ∙ at.each w.0 w.1 w.2 in
     rw same (w.1, w.2, w.3)
 
-pub next-at : (scopes : List (List ℕ)) (c from : ℕ) (houses : List ℕ) (answer : Option ℕ) → AreHousesAt scopes c houses → IsFirstFrom houses from answer
+pub next-at : {scopes : List (List ℕ)} (c from : ℕ) {houses : List ℕ} (answer : Option ℕ) → AreHousesAt scopes c houses → IsFirstFrom houses from answer
     → IsNext (λ h. has_place (scope_of scopes h) c) (length scopes) from answer
-next-at scopes c from houses None at none = λ h late lt. grind (arith, common_steps, counted (λ j. has_place (scope_of scopes j) c) h (length scopes) lt, none (number_at scopes h c), at.each h lt, at.as_many)
-next-at scopes c from houses (Some h) at (k, lt, is, late, before) =
+next-at {scopes} c from None at none = λ h late lt. grind (arith, common_steps, counted (λ j. has_place (scope_of scopes j) c) h (length scopes) lt, none (number_at scopes h c), at.each h lt, at.as_many)
+next-at {scopes} c from {houses} (Some h) at (k, lt, is, late, before) =
     let w = rw is at (nth-at scopes c k houses at lt) in
     (late, w.0, w.1, λ j m lj. grind (arith, common_steps, counted (λ i. has_place (scope_of scopes i) c) j h lj, before (number_at scopes j c), at.each j))
 

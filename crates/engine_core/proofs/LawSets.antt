@@ -2,6 +2,8 @@
 use Rattle.engine_core.proofs.Common.{bound_enough, by_houses-lawful, ends-close, ends-more, last-le, length-pieces, length-set, piece-at, piece-ends, sets-bits, shown_from_test, test_from_shown}
 use Rattle.engine_core.proofs.ClosingLemmas.{closure_inside, closure_closed, closure_largest}
 use Rattle.engine_core.proofs.IndexLemmas.{has_place-none, number_at-none, longest-none, longest-more, not_taken, summed-none, summed-sum, summed-more, sum_below-more, ascends, ends_in, houses-at, next-at, nth-at, scopes-wider, index-none, counts_same, houses_of_places, index-room, index-turn, put-none, put-room, put-more, number_at-more}
+use Rattle.engine_core.proofs.CallLemmas.{upto-first}
+use Rattle.engine_core.proofs.ListedLemmas.{scopes-fit, table-houses, table-longest}
 use Rattle.engine_core.proofs.PickLemmas.{pick-is}
 use Rattle.engine_core.proofs.PieceLemmas.{pieces-joined, closed-in, listed-close, total-closed, listed-more, last-at, few-listed, others-skip, others-push}
 use Rattle.engine_core.proofs.PlaceCounts.{counted-few, counted-place}
@@ -18,6 +20,8 @@ use Rattle.engine_core.proofs.TrailLemmas.{put_back-none, trail-none}
 use Rattle.engine_core.proofs.WaitLemmas.{lowest_left, none_left, waiting-enqueue, waiting-dequeue}
 
 pub ruleset house_index_laws = (counted-few, counted-place, has_place-none, number_at-none, longest-none, longest-more, not_taken, summed-none, summed-sum, summed-more, sum_below-more, ascends, ends_in, houses-at, next-at, nth-at, scopes-wider, index-none, counts_same, houses_of_places, index-room, index-turn, put-none, put-room, put-more, number_at-more, few-listed, length-set)
+
+pub ruleset house_rules_laws = (scopes-fit, table-houses, table-longest, upto-first)
 
 pub ruleset house_list_laws = (last-le, pieces-joined, closed-in, ends-close, listed-close, length-pieces, total-closed, ends-more, listed-more, piece-at, piece-ends, last-at, others-skip, others-push)
 

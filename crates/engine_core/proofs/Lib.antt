@@ -29,5 +29,6 @@ pub mod SearchingLemmas
 pub mod PieceLemmas
 pub mod PlaceCounts
 pub mod IndexLemmas
+pub mod ListedLemmas
 pub mod PositionLemmas
 pub mod LawSets

@@ -16,11 +16,11 @@ unfolding counts_of
 counts-left p h j place left L ne = count_below-same _ _ p.values (λ v lt. left-others L place left _ v ne)
 
 -- the next cell loses a value, which is noted
-pub lost-more : (p : RuleSystem) (laws : IsLawful p) (h k : ℕ) (A B C : Trail) (before left : ℕ) → h < p.houses → k < length (p.scope h) → A.len ≤ B.len → C.len ≡ B.len + 1
+pub lost-more : (p : RuleSystem) (laws : IsLawful p) (h k : ℕ) (A B C : Trail) {before : ℕ} (left : ℕ) → h < p.houses → k < length (p.scope h) → A.len ≤ B.len → C.len ≡ B.len + 1
     → change_at C.changes B.len ≡ (slice_index (p.scope h) k, before) → ((m : ℕ) → m < B.len → change_at C.changes m ≡ change_at B.changes m)
     → has C.board ≡ left_by (has B.board) (slice_index (p.scope h) k) left → counts_of p h (has A.board) k ≢ counts_of p h (has C.board) k
     → AreLost p h k A B → AreLost p h (k + 1) A C
-lost-more p laws h k A B C before left lth lt grows longer noted earlier board ne i = record { only = only; all = all }
+lost-more p laws h k A B C left lth lt grows longer noted earlier board ne i = record { only = only; all = all }
   where
     same : (j : ℕ) → j < k → counts_of p h (has C.board) j ≡ counts_of p h (has B.board) j
     same j less = ap (λ L. counts_of p h L j) board ∙ counts-left p h j _ left (has B.board) (λ e. let is = laws.scope_distinct h j k lth (omega arith) lt e in omega arith)
@@ -45,14 +45,14 @@ pub lost-differ : (p : RuleSystem) (h k : ℕ) (K L : Candidates) (set left : �
 unfolding counts_of
 lost-differ p h k K L set left upto was is ne =
     let same = fun_ext (λ v. upto.done k v (omega arith)) in
-    counts-differ _ _ p.values set left was (rw same is) (λ v on. after_inside p h K _ v (rw same at on)) ne
+    counts-differ was (rw same is) (λ v on. after_inside p h K _ v (rw same at on)) ne
 
 -- or it loses none
 pub lost-same : (p : RuleSystem) (laws : IsLawful p) (h k : ℕ) (A B : Trail) → h < p.houses → k < length (p.scope h) → IsUpto p h k (has A.board) (has B.board) → AreLost p h k A B
     → AreLost p h (k + 1) A B
 unfolding counts_of
 lost-same p laws h k A B lth lt upto i =
-    let same : counts_of p h (has B.board) k ≡ counts_of p h (has A.board) k = ap (λ f. count_below f p.values) (upto-next p laws h k _ _ lth lt upto) in
+    let same : counts_of p h (has B.board) k ≡ counts_of p h (has A.board) k = ap (λ f. count_below f p.values) (upto-next laws lth lt upto) in
     record {
       only = λ m a b. let w = i.only m a b in (w.0, omega (arith, w.1), w.2, w.3);
       all = λ j less differ. elim (cases_lt j k) [
@@ -65,10 +65,10 @@ lost-same p laws h k A B lth lt upto i =
 any-same : (p q : ℕ → Bool) (m n : ℕ) → ((k : ℕ) → k < m → p k ≡ true → any_below q n ≡ true) → ((k : ℕ) → k < n → q k ≡ true → any_below p m ≡ true) → any_below p m ≡ any_below q n
 any-same p q m n there back = grind (arith, common_steps, any_below-some p m, any_below-some q n, cases_Bool (any_below p m), cases_Bool (any_below q n))
 
-pub lost-any : (p : RuleSystem) (h n : ℕ) (A B : Trail) (asks : ℕ → Bool) → AreLost p h n A B
+pub lost-any : (p : RuleSystem) {h : ℕ} (n : ℕ) (A B : Trail) (asks : ℕ → Bool) → AreLost p h n A B
     → any_below (λ m. nat_le A.len m && asks (change_at B.changes m).0) B.len
     ≡ any_below (λ k. not (counts_of p h (has A.board) k == counts_of p h (has B.board) k) && asks (slice_index (p.scope h) k)) n
-lost-any p h n A B asks lost = any-same _ _ B.len n
+lost-any p {h} n A B asks lost = any-same _ _ B.len n
     (λ m lt on.
     let both = and_parts (nat_le A.len m) (asks (change_at B.changes m).0) on in
     let w = lost.only m (leb-true A.len m both.0) lt in
@@ -88,8 +88,8 @@ since-first asks from = elim (cases_Bool (any_below (λ m. nat_le from m && asks
 pub since-more : (asks : ℕ → Bool) (from n : ℕ) → from ≤ n → any_below (λ m. nat_le from m && asks m) (n + 1) ≡ (any_below (λ m. nat_le from m && asks m) n || asks n)
 since-more asks from n le = any_below-more (λ m. nat_le from m && asks m) n ∙ ap (λ b. any_below (λ m. nat_le from m && asks m) n || (b && asks n)) (le-leb from n le)
 
-pub since-called : (p : RuleSystem) (t : Trail) (K : Candidates) (from n : ℕ) (before now after : ℕ → Bool) → from ≤ n → AreCalled p K (is_since p t from n) before now
+pub since-called : (p : RuleSystem) (t : Trail) {K : Candidates} {from n : ℕ} {before now after : ℕ → Bool} → from ≤ n → AreCalled p K (is_since p t from n) before now
     → AreCalled p K (λ j. has_place (p.scope j) (change_at t.changes n).0) now after → AreCalled p K (is_since p t from (n + 1)) before after
-since-called p t K from n before now after le first next =
+since-called p t {K} {from} {n} {before} {now} {after} le first next =
     called-same p K _ _ before after (λ j lt. sym (since-more (λ m. has_place (p.scope j) (change_at t.changes m).0) from n le))
     (called-more p K (is_since p t from n) (λ j. has_place (p.scope j) (change_at t.changes n).0) before now after first next)

@@ -17,8 +17,8 @@ listed-more xs ends ys e = rw (pieces-more xs ys 0 ends e, drop-append-le (last_
 pub listed-close : (xs ends : List ℕ) → listed xs (ends ++ length xs ∷ []) ≡ record { closed = (listed xs ends).closed ++ (listed xs ends).begun ∷ []; begun = [] }
 listed-close xs ends = grind (arith, common_steps, between_to_end, last-close, pieces-close)
 
-pub closed-in : (xs ends : List ℕ) (h : ℕ) → h < length (listed xs ends).closed → h < length ends
-closed-in xs ends h lt = let e = length-pieces xs 0 ends in omega arith
+pub closed-in : (xs ends : List ℕ) {h : ℕ} → h < length (listed xs ends).closed → h < length ends
+closed-in xs ends lt = let e = length-pieces xs 0 ends in omega arith
 
 pub last-at : (from : ℕ) (ends : List ℕ) → (length ends ≡ 0 → ⊥) → get_or ends (length ends - 1) 0 ≡ last_end from ends
 last-at from [] some = absurd (some refl)
@@ -58,8 +58,8 @@ take-split zero m xs = let z : 0 + m ≡ m = omega arith in rw z refl
 take-split (suc n) m [] = take-none (suc n + m) ∙ sym (take-none m)
 take-split (suc n) m (x ∷ xs) = let z : suc n + m ≡ suc (n + m) = omega arith in rw z (ap (λ l. x ∷ l) (take-split n m xs))
 
-between-split : (xs : List ℕ) (a b c : ℕ) → a ≤ b → b ≤ c → between a c xs ≡ between a b xs ++ between b c xs
-between-split xs a b c low high =
+between-split : (xs : List ℕ) (a b : ℕ) {c : ℕ} → a ≤ b → b ≤ c → between a c xs ≡ between a b xs ++ between b c xs
+between-split xs a b {c} low high =
     let whole : b - a + (c - b) ≡ c - a = omega arith in
     let past : a + (b - a) ≡ b = omega arith in
     rw (sym whole) (take-split (b - a) (c - b) (drop a xs)) ∙ ap (λ l. take (b - a) (drop a xs) ++ take (c - b) l) (drop-past xs a (b - a) ∙ ap (λ n. drop n xs) past)
@@ -69,7 +69,7 @@ pub pieces-joined : (xs : List ℕ) (from : ℕ) (ends : List ℕ) → AreEnds (
 pieces-joined xs from [] e = between_none xs from
 pieces-joined xs from (end ∷ ends) (low, e) =
     let w = last-le (length xs) end ends e in
-    between-split xs from end (last_end end ends) low w.0 ∙ ap (λ l. between from end xs ++ l) (pieces-joined xs end ends e)
+    between-split xs from end low w.0 ∙ ap (λ l. between from end xs ++ l) (pieces-joined xs end ends e)
 
 -- ---- a part of a list once more at its end, without a place
 abbrev others : ℕ → List ℕ → List ℕ
@@ -78,32 +78,32 @@ others but xs = filter (λ d. not (eqb d but)) xs
 others-next : (but from k x : ℕ) (xs : List ℕ) → from ≤ k → k < length xs → x ≡ get_or xs k x → others but (between from (k + 1) xs) ≡ others but (between from k xs) ++ others but (x ∷ [])
 others-next but from k x xs low lt is = rw (between_more xs from k x low lt, ← is) (filter-append (λ d. not (eqb d but)) (between from k xs) (x ∷ []))
 
-pub others-skip : (xs ys : List ℕ) (but from k x : ℕ) → from ≤ k → k < length xs → ys ≡ xs ++ filter (λ d. not (eqb d but)) (between from k xs) → x ≡ get_or ys k x → x ≡ but
+pub others-skip : (xs : List ℕ) {ys : List ℕ} {but from k x : ℕ} → from ≤ k → k < length xs → ys ≡ xs ++ filter (λ d. not (eqb d but)) (between from k xs) → x ≡ get_or ys k x → x ≡ but
     → ys ≡ xs ++ filter (λ d. not (eqb d but)) (between from (k + 1) xs)
-others-skip xs ys but from k x low lt e is same =
+others-skip xs {but} {from} {k} {x} low lt e is same =
     let at = is ∙ ap (λ l. get_or l k x) e ∙ get_or_append_left xs (others but (between from k xs)) x k lt in
     rw (others-next but from k x xs low lt at, eq-eqb x but same, append-nil) e
 
-pub others-push : (xs ys : List ℕ) (but from k x : ℕ) → from ≤ k → k < length xs → ys ≡ xs ++ filter (λ d. not (eqb d but)) (between from k xs) → x ≡ get_or ys k x → (x ≡ but → ⊥)
+pub others-push : (xs : List ℕ) {ys : List ℕ} {but from k x : ℕ} → from ≤ k → k < length xs → ys ≡ xs ++ filter (λ d. not (eqb d but)) (between from k xs) → x ≡ get_or ys k x → (x ≡ but → ⊥)
     → ys ++ x ∷ [] ≡ xs ++ filter (λ d. not (eqb d but)) (between from (k + 1) xs)
-others-push xs ys but from k x low lt e is other =
+others-push xs {but} {from} {k} {x} low lt e is other =
     let at = is ∙ ap (λ l. get_or l k x) e ∙ get_or_append_left xs (others but (between from k xs)) x k lt in
     rw (others-next but from k x xs low lt at, ne_eqb x but other) (ap (λ l. l ++ x ∷ []) e ∙ append_assoc xs (others but (between from k xs)) (x ∷ []))
 
 -- ---- lists that are few and short
-pub added-grown : (xs ys more : List ℕ) (n : ℕ) → ys ≡ xs ++ more → length more ≤ n → IsGrown xs n ys
-added-grown xs ys more n e few =
+pub added-grown : {xs ys : List ℕ} (more : List ℕ) {n : ℕ} → ys ≡ xs ++ more → length more ≤ n → IsGrown xs n ys
+added-grown {xs} {ys} more e few =
     let long : length ys ≡ length xs + length more = ap length e ∙ length-append xs more in
     record { kept = omega arith; few = omega arith }
 
-pub others-grown : (xs ys : List ℕ) (but from k end : ℕ) → k ≤ end → end ≤ length xs → ys ≡ xs ++ filter (λ d. not (eqb d but)) (between from k xs) → IsGrown xs (end - from) ys
-others-grown xs ys but from k end le within e =
+pub others-grown : {xs ys : List ℕ} (but from k : ℕ) {end : ℕ} → k ≤ end → end ≤ length xs → ys ≡ xs ++ filter (λ d. not (eqb d but)) (between from k xs) → IsGrown xs (end - from) ys
+others-grown {xs} but from k le within e =
     let all = between from k xs in
-    added-grown xs ys (filter (λ d. not (eqb d but)) all) (end - from) e
+    added-grown (filter (λ d. not (eqb d but)) all) e
     (omega (arith, length-filter (λ d. not (eqb d but)) all, count_by-le-length (λ d. not (eqb d but)) all, length-between xs from k (omega arith)))
 
-pub grown-listed : (xs ys ends : List ℕ) (list : Listed) (n : ℕ) → IsListed xs ends → listed xs ends ≡ list → FitsPlaces list n → IsGrown xs n ys → IsListed ys ends
-grown-listed xs ys ends list n l is fits g = record {
+pub grown-listed : {xs ys ends : List ℕ} {list : Listed} {n : ℕ} → IsListed xs ends → listed xs ends ≡ list → FitsPlaces list n → IsGrown xs n ys → IsListed ys ends
+grown-listed {xs} {ys} {ends} l is fits g = record {
   are_ends = ends-more (length xs) (length ys) 0 ends g.kept l.are_ends;
   few_lists = l.few_lists;
   few_closed = l.few_closed;
@@ -114,11 +114,11 @@ grown-listed xs ys ends list n l is fits g = record {
 }
 
 -- the part of the places that a closed list is
-pub closed-is : (xs ends : List ℕ) (list : Listed) (h from end : ℕ) → AreEnds (length xs) 0 ends → listed xs ends ≡ list → h < length list.closed → from ≡ get_or (0 ∷ ends) h 0 → end ≡ get_or ends h end
+pub closed-is : (xs ends : List ℕ) {list : Listed} {h from end : ℕ} → AreEnds (length xs) 0 ends → listed xs ends ≡ list → h < length list.closed → from ≡ get_or (0 ∷ ends) h 0 → end ≡ get_or ends h end
     → (between from end xs ≡ get_or list.closed h []) × (end ≤ length xs)
-closed-is xs ends list h from end e is lt low high =
+closed-is xs ends {h} {end} e is lt low high =
     let lists = ap (λ (v : Listed). length v.closed) is in
-    let there : h < length ends = closed-in xs ends h (omega arith) in
+    let there : h < length ends = closed-in xs ends (omega arith) in
     let to = get_or_read ends h end there high 0 in (
       rw (low, to) (sym (piece-at xs 0 ends h there) ∙ ap (λ (v : Listed). get_or v.closed h []) is),
       omega (arith, to, (piece-ends (length xs) 0 ends h e there).1),

@@ -25,15 +25,15 @@ pub all-long : (scopes : List (List ℕ)) → length (concat scopes) ≡ sum_by 
 all-long [] = refl
 all-long (s ∷ scopes) = omega (arith, length-append s (concat scopes), all-long scopes, sum_by-cons (length {A = ℕ}) s scopes)
 
-rest-scopes : (cells : ℕ) (s : List ℕ) (scopes : List (List ℕ)) → AreScopes cells (s ∷ scopes) → AreScopes cells scopes
-rest-scopes cells s scopes are = λ h lt. are (suc h) (omega arith)
+rest-scopes : {cells : ℕ} (s : List ℕ) (scopes : List (List ℕ)) → AreScopes cells (s ∷ scopes) → AreScopes cells scopes
+rest-scopes s scopes are = λ h lt. are (suc h) (omega arith)
 
-pub all-within : (cells : ℕ) (scopes : List (List ℕ)) → AreScopes cells scopes → (k : ℕ) → k < length (concat scopes) → slice_index (concat scopes) k < cells
-all-within cells [] are k lt = absurd (omega arith)
-all-within cells (s ∷ scopes) are k lt = elim (cases_lt k (length s)) [
+pub all-within : {cells : ℕ} (scopes : List (List ℕ)) → AreScopes cells scopes → (k : ℕ) → k < length (concat scopes) → slice_index (concat scopes) k < cells
+all-within [] are k lt = absurd (omega arith)
+all-within (s ∷ scopes) are k lt = elim (cases_lt k (length s)) [
   | inl low ↦ rw (get_or_append_left s (concat scopes) 0 k low) ((are 0 (omega arith)).within k low)
   | inr high ↦ rw (get_or-append_right s (concat scopes) (length s) k 0 refl high)
-      (all-within cells scopes (rest-scopes cells s scopes are) (k - length s) (omega (arith, length-append s (concat scopes))))
+      (all-within scopes (rest-scopes s scopes are) (k - length s) (omega (arith, length-append s (concat scopes))))
 ]
 
 -- a place stands in a list once, if at all
@@ -57,8 +57,8 @@ none-in : (c : ℕ) → 0 ≡ number_at [] 0 c
 unfolding count_below
 none-in c = refl
 
-pub counted-in : (cells : ℕ) (scopes : List (List ℕ)) (c : ℕ) → AreScopes cells scopes → count_by (λ d. eqb d c) (concat scopes) ≡ number_at scopes (length scopes) c
-counted-in cells [] c are = none-in c
-counted-in cells (s ∷ scopes) c are =
+pub counted-in : {cells : ℕ} (scopes : List (List ℕ)) (c : ℕ) → AreScopes cells scopes → count_by (λ d. eqb d c) (concat scopes) ≡ number_at scopes (length scopes) c
+counted-in [] c are = none-in c
+counted-in (s ∷ scopes) c are =
     sum_by-append (λ d. cond (eqb d c) 1 0) s (concat scopes)
-    ∙ rw (counted-once s c (distinct-from s (are 0 (omega arith)).different), counted-in cells scopes c (rest-scopes cells s scopes are)) (sym (number-first s scopes (length scopes) c))
+    ∙ rw (counted-once s c (distinct-from s (are 0 (omega arith)).different), counted-in scopes c (rest-scopes s scopes are)) (sym (number-first s scopes (length scopes) c))

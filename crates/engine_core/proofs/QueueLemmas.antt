@@ -12,14 +12,14 @@ use Rattle.engine_core.proofs.ClosingLemmas.{after_inside}
 pub use Rattle.engine_core.specs.PositionLaws.{within_of}
 
 -- the cells of a house are cells of the board
-pub scope-in : (p : RuleSystem) (laws : IsLawful p) (h k : ℕ) → h < p.houses → k < length (p.scope h) → slice_index (p.scope h) k < p.cells
-scope-in p laws h k lt lk = laws.scope_within h _ lt (has_place-here (p.scope h) k lk)
+pub scope-in : {p : RuleSystem} (laws : IsLawful p) {h : ℕ} (k : ℕ) → h < p.houses → k < length (p.scope h) → slice_index (p.scope h) k < p.cells
+scope-in {p} laws {h} k lt lk = laws.scope_within h _ lt (has_place-here (p.scope h) k lk)
 
 -- ---- what a visit leaves in the cells of other houses
 -- a cell outside the house is left alone
-pub after-outside : (p : RuleSystem) (laws : IsLawful p) (h : ℕ) (K : Candidates) (c v : ℕ) → h < p.houses → has_place (p.scope h) c ≡ false → K c v ≡ true → after p h K c v ≡ true
+pub after-outside : {p : RuleSystem} (laws : IsLawful p) {h : ℕ} (K : Candidates) (c v : ℕ) → h < p.houses → has_place (p.scope h) c ≡ false → K c v ≡ true → after p h K c v ≡ true
 unfolding after
-after-outside p laws h K c v lt out on = grind (arith, common_steps, and_from, false_from_ne_true, not_from_false, true≢false)
+after-outside laws K c v lt out on = grind (arith, common_steps, and_from, false_from_ne_true, not_from_false, true≢false)
 
 -- a house that has no cell with another number of values than before strikes what it struck before
 still_rested : (p : RuleSystem) (laws : IsLawful p) (h j : ℕ) (K : Candidates) → h < p.houses → j < p.houses → IsWithin p.cells p.values K
@@ -28,7 +28,7 @@ unfolding counts_of
 still_rested p laws h j K lth ltj within quiet = λ c v member on.
     let unchanged = any_below-none _ (length (p.scope h)) quiet in
     let kept = count_below-kept (after p h K c) (K c) p.values v (λ u _. after_inside p h K c u) in
-    grind (arith, common_steps, after-outside p laws h K c v lth, has_place-at (p.scope h) c, within c v on)
+    grind (arith, common_steps, after-outside laws K c v lth, has_place-at (p.scope h) c, within c v on)
 
 -- the waiting houses after a visit
 not_struck : (p : RuleSystem) (h : ℕ) (K : Candidates) (c v : ℕ) → after p h K c v ≡ true → p.strikes h K c v ≡ false
@@ -45,9 +45,9 @@ rested_after p laws h K waits lth within rested = λ j c v ltj asleep on.
     grind (arith, common_steps, eqb-true, not_struck p h K c v on, within c v, after_inside p h K c v on, rested j c v ltj, settles, still)
 
 -- where the houses that a closing begins with were called for, each other one strikes nothing
-pub rested_from : (p : RuleSystem) (K : Candidates) (from : Option ℕ) (waits : ℕ → Bool) → IsClosedBut p K from → AreCalled p K (waits_from p from) (λ j. false) waits → IsRested p K waits
+pub rested_from : {p : RuleSystem} {K : Candidates} (from : Option ℕ) {waits : ℕ → Bool} → IsClosedBut p K from → AreCalled p K (waits_from p from) (λ j. false) waits → IsRested p K waits
 unfolding waits_from
-rested_from p K from waits e h = grind (arith, common_steps)
+rested_from from e h = grind (arith, common_steps)
 
 -- a closed board whose cell lost all values but one is closed around it
 pub closed-but_only : (p : RuleSystem) (laws : IsLawful p) (K : Candidates) (cell v : ℕ) → cell < p.cells → v < p.values → K cell v ≡ true → IsClosed p K → is_dead p.cells p.values K ≡ false → IsClosedBut p (only K cell v) (Some cell)
@@ -61,8 +61,8 @@ closed-but_only p laws K cell v lt ltv on closed alive = record {
       grind (arith, common_steps, cases_eq c cell, only-other K cell v c, is_dead-not p.cells p.values K c alive ltc));
 }
 
-pub dead_of : (p : RuleSystem) (b : Layout) → IsBoardOf p b → is_dead (cells_of b) b.values (has b) ≡ is_dead p.cells p.values (has b)
-dead_of p b of = ap (λ (n : ℕ). is_dead n b.values (has b)) of.same_cells ∙ ap (λ (v : ℕ). is_dead p.cells v (has b)) of.same_values
+pub dead_of : (p : RuleSystem) {b : Layout} → IsBoardOf p b → is_dead (cells_of b) b.values (has b) ≡ is_dead p.cells p.values (has b)
+dead_of p {b} of = ap (λ (n : ℕ). is_dead n b.values (has b)) of.same_cells ∙ ap (λ (v : ℕ). is_dead p.cells v (has b)) of.same_values
 
 -- where no house waits, the board is closed
 pub closed_from_rested : (p : RuleSystem) (K : Candidates) (waits : ℕ → Bool) → ((h : ℕ) → h < p.houses → waits h ≡ false) → IsRested p K waits → IsClosed p K
@@ -93,9 +93,9 @@ unfolding sent
 unsent p h K c same = count_below-none (sent p h K c) p.houses (λ j _. and_left _ (not (p.settled && eqb j h)) (and_left _ (has_place (p.scope h) c && has_place (p.scope j) c) (not_from_true _ (eq-eqb _ _ same))))
 
 -- what a cell's houses cost is paid by the values that it lost
-cell_pays : (p : RuleSystem) (h : ℕ) (K : Candidates) (c : ℕ) → h < p.houses → 0 < count_below (after p h K c) p.values
+cell_pays : (p : RuleSystem) {h : ℕ} (K : Candidates) (c : ℕ) → h < p.houses → 0 < count_below (after p h K c) p.values
     → count_below (sent p h K c) p.houses + (count_below (after p h K c) p.values - 1) * share p c ≤ (count_below (K c) p.values - 1) * share p c
-cell_pays p h K c lth alive = grind (arith, common_steps, after_inside, cases_eq, count_below-le, grow, sent, sent_few, unsent)
+cell_pays p K c lth alive = grind (arith, common_steps, after_inside, cases_eq, count_below-le, grow, sent, sent_few, unsent)
 
 -- who waits after the visit, waited or was sent for by a cell
 woken_or_sent : (p : RuleSystem) (laws : IsLawful p) (h : ℕ) (K : Candidates) (waits : ℕ → Bool) (j : ℕ) → h < p.houses
@@ -107,7 +107,7 @@ woken_or_sent p laws h K waits j lth on = elim (or_cases (but waits h j) _ on) [
       let w = any_below-some _ (length (p.scope h)) (and_parts _ (not (p.settled && eqb j h)) called).0 in
       let member = has_place-here (p.scope h) w.0 w.1 in
       or_right (but waits h j) _ (any_below-here (λ c. sent p h K c j) p.cells (slice_index (p.scope h) w.0)
-      (scope-in p laws h w.0 lth w.1) (grind (arith, common_steps)))
+      (scope-in laws w.0 lth w.1) (grind (arith, common_steps)))
 ]
 
 one_less : (waits : ℕ → Bool) (n h : ℕ) → h < n → waits h ≡ true → count_below (but waits h) n < count_below waits n
@@ -124,7 +124,7 @@ visit_pays p laws h K waits lth waiting alive =
     let later = λ (c : ℕ). (count_below (after p h K c) p.values - 1) * share p c in
     let some = count_below-le (woken p h (counts_of p h K) (after p h K) (but waits h)) (λ j. but waits h j || any_below (λ c. sent p h K c j) p.cells) p.houses
     (λ j _ on. woken_or_sent p laws h K waits j lth on) in
-    let paid = sum_below-le (λ c. sending c + later c) before p.cells (λ c lt. cell_pays p h K c lth (is_dead-not p.cells p.values (after p h K) c alive lt)) in
+    let paid = sum_below-le (λ c. sending c + later c) before p.cells (λ c lt. cell_pays p K c lth (is_dead-not p.cells p.values (after p h K) c alive lt)) in
     let split = count_below-any (but waits h) (sent p h K) p.cells p.houses in
     omega (arith, some, paid, split, one_less waits p.houses h lth waiting, sum_below-add sending later p.cells)
 
@@ -138,23 +138,23 @@ pub any_below-more : (p : ℕ → Bool) (n : ℕ) → any_below p (n + 1) ≡ (a
 unfolding any_below
 any_below-more p n = rw add-one refl
 
-or_false : (x : Bool) → (x || false) ≡ x
-or_false x0 = grind (arith, common_steps)
+or_false : {x : Bool} → (x || false) ≡ x
+or_false = grind (arith, common_steps)
 
 pub unwoken : (x : Bool) → x ≡ (x || false)
-unwoken x = sym (or_false x)
+unwoken x = sym or_false
 
 -- a cell that lost values is empty where it has none, and one that lost none counts for nothing
-pub empties_then : (p : RuleSystem) (h : ℕ) (before : ℕ → ℕ) (K : Candidates) (k : ℕ) (d d' now : Bool) → d' ≡ (d || now) → d ≡ any_below (empties p h before K) k
+pub empties_then : (p : RuleSystem) (h : ℕ) (before : ℕ → ℕ) (K : Candidates) (k : ℕ) {d d' now : Bool} → d' ≡ (d || now) → d ≡ any_below (empties p h before K) k
     → (before k ≡ count_below (K (slice_index (p.scope h) k)) p.values → ⊥) → now ≡ eqb (count_below (K (slice_index (p.scope h) k)) p.values) 0
     → d' ≡ any_below (empties p h before K) (k + 1)
 unfolding counts_of
-empties_then p h before K k d d' now e f ne g = grind (arith, common_steps, any_below-more, ne_eqb, not_from_false)
+empties_then p h before K k e f ne g = grind (arith, common_steps, any_below-more, ne_eqb, not_from_false)
 
-pub empties_else : (p : RuleSystem) (h : ℕ) (before : ℕ → ℕ) (K : Candidates) (k : ℕ) (d d' : Bool) → d' ≡ d → d ≡ any_below (empties p h before K) k
+pub empties_else : (p : RuleSystem) (h : ℕ) (before : ℕ → ℕ) (K : Candidates) (k : ℕ) {d d' : Bool} → d' ≡ d → d ≡ any_below (empties p h before K) k
     → before k ≡ count_below (K (slice_index (p.scope h) k)) p.values → d' ≡ any_below (empties p h before K) (k + 1)
 unfolding counts_of
-empties_else p h before K k d d' e f same = grind (arith, common_steps, and_left, any_below-more, eq-eqb, not_from_true, unwoken)
+empties_else p h before K k e f same = grind (arith, common_steps, and_left, any_below-more, eq-eqb, not_from_true, unwoken)
 
 -- ---- one turn of the queue
 visits_left-fewer : (p : RuleSystem) (K : Candidates) (waits waits' : ℕ → Bool) → ((j : ℕ) → j < p.houses → waits j ≡ true → waits' j ≡ true) → visits_left p K waits ≤ visits_left p K waits'
@@ -165,22 +165,22 @@ pub visits_left-pos : (p : RuleSystem) (K : Candidates) (waits : ℕ → Bool) (
 unfolding visits_left
 visits_left-pos p K waits h lt on = let some = count_below-pos waits p.houses h lt on in omega arith
 
-pub turn_enough : (p : RuleSystem) (laws : IsLawful p) (h : ℕ) (K K' : Candidates) (waits waits' : ℕ → Bool) (visits : ℕ) → h < p.houses → waits h ≡ true → K' ≡ after p h K
+pub turn_enough : (p : RuleSystem) (laws : IsLawful p) (h : ℕ) (K K' : Candidates) {waits waits' : ℕ → Bool} (visits : ℕ) → h < p.houses → waits h ≡ true → K' ≡ after p h K
     → IsWoken p h K K' waits waits' → visits_left p K waits + visits ≤ p.bound
     → is_dead p.cells p.values K' ≡ false → visits_left p K' waits' + (visits + 1) ≤ p.bound
-turn_enough p laws h K K' waits waits' visits lth waiting e woke enough alive =
+turn_enough p laws h K K' {waits} {waits'} visits lth waiting e woke enough alive =
     let pays = visit_pays p laws h K waits lth waiting (rw e at alive) in
     let less = visits_left-fewer p K' waits' (woken p h (counts_of p h K) K' (but waits h)) woke.fewer in grind (arith, common_steps)
 
-pub turn_rested : (p : RuleSystem) (laws : IsLawful p) (h : ℕ) (K K' : Candidates) (waits waits' : ℕ → Bool) → h < p.houses → IsWithin p.cells p.values K → K' ≡ after p h K
+pub turn_rested : {p : RuleSystem} (laws : IsLawful p) {h : ℕ} {K K' : Candidates} {waits waits' : ℕ → Bool} → h < p.houses → IsWithin p.cells p.values K → K' ≡ after p h K
     → IsWoken p h K K' waits waits' → IsRested p K waits → IsRested p K' waits'
-turn_rested p laws h K K' waits waits' lth within e woke rested = grind (arith, common_steps, cases_Bool, rested_after)
+turn_rested laws lth within e woke rested = grind (arith, common_steps, cases_Bool, rested_after)
 
 pub pushed : (t : List ℕ) (n h : ℕ) → n < length t → take (n + 1) (set t n h) ≡ take n t ++ h ∷ []
 pushed t n h lt = rw add-one (take-suc-set t n h lt)
 
-pub IsBoardOf-same : (p : RuleSystem) (b b' : Layout) → IsBoardOf p b → SameShape b b' → IsBoardOf p b'
-IsBoardOf-same p b b' of same = record { same_cells = same.same_cells ∙ of.same_cells; same_values = same.same_values ∙ of.same_values }
+pub IsBoardOf-same : {p : RuleSystem} {b b' : Layout} → IsBoardOf p b → SameShape b b' → IsBoardOf p b'
+IsBoardOf-same of same = record { same_cells = same.same_cells ∙ of.same_cells; same_values = same.same_values ∙ of.same_values }
 
 -- ---- a visit that empties a cell empties one of its own house
 emptied-alive : (p : RuleSystem) (laws : IsLawful p) (h : ℕ) (K K' : Candidates) → h < p.houses → is_dead p.cells p.values K ≡ false → K' ≡ after p h K
@@ -191,22 +191,22 @@ emptied-alive p laws h K K' lt alive e = elim (cases_Bool (are_emptied p h K K')
       let w = any_below-some (empties p h (counts_of p h K) K') (length (p.scope h)) some in
       is_dead-here p.cells p.values K' _ (laws.scope_within h _ lt (has_place-here (p.scope h) w.0 w.1)) (eqb-true _ _ (and_parts _ _ w.2).1) ∙ sym some
   | inr none ↦ is_dead-each p.cells p.values K' (λ c less.
-      let same = λ (out : has_place (p.scope h) c ≡ false). count_below-le (K c) (K' c) p.values (λ v _ on. rw e (after-outside p laws h K c v lt out on)) in
+      let same = λ (out : has_place (p.scope h) c ≡ false). count_below-le (K c) (K' c) p.values (λ v _ on. rw e (after-outside laws K c v lt out on)) in
       let still = any_below-none (empties p h (counts_of p h K) K') (length (p.scope h)) none in
       grind (arith, common_steps, cases_Bool (has_place (p.scope h) c), has_place-at (p.scope h) c, is_dead-not p.cells p.values K c alive less)) ∙ sym none
 ]
 
 -- a board is dead after a visit where it was before, or where a cell of the house lost its last values
-pub emptied-dead : (p : RuleSystem) (laws : IsLawful p) (h : ℕ) (K K' : Candidates) → h < p.houses → K' ≡ after p h K
+pub emptied-dead : (p : RuleSystem) (laws : IsLawful p) {h : ℕ} (K K' : Candidates) → h < p.houses → K' ≡ after p h K
     → is_dead p.cells p.values K' ≡ (is_dead p.cells p.values K || any_below (empties p h (counts_of p h K) K') (length (p.scope h)))
-emptied-dead p laws h K K' lt e = elim (cases_Bool (is_dead p.cells p.values K)) [
+emptied-dead p laws {h} K K' lt e = elim (cases_Bool (is_dead p.cells p.values K)) [
   | inl dead ↦ rw dead (is_dead-inside p.cells p.values K' K (rw e (after_inside p h K)) dead)
   | inr alive ↦ rw alive (emptied-alive p laws h K K' lt alive e)
 ]
 
 -- where the board was alive before a visit, the visit tells whether it is dead
-pub dead_by : (now was told : Bool) → now ≡ (was || told) → was ≡ false → now ≡ told
-dead_by now was told e alive = rw alive at e
+pub dead_by : {now was told : Bool} → now ≡ (was || told) → was ≡ false → now ≡ told
+dead_by e alive = rw alive at e
 
 -- where nothing was struck, no house is called for
 pub woken-none : (p : RuleSystem) (h : ℕ) (K K' : Candidates) (waits : ℕ → Bool) (j : ℕ) → K' ≡ K → waits j ≡ woken p h (counts_of p h K) K' waits j

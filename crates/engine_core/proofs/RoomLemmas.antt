@@ -19,19 +19,19 @@ pub singles-inside : (p : RuleSystem) (J K : Candidates) → IsInside J K → is
 unfolding singles
 singles-inside p J K inside alive = grind (arith, common_steps, count_below-le, eq-eqb, eqb-true, is_dead-not)
 
-pub singles-room : (p : RuleSystem) (K : Candidates) (cell : ℕ) → cell < p.cells → 2 ≤ count_below (K cell) p.values → singles p K < p.cells
+pub singles-room : (p : RuleSystem) (K : Candidates) {cell : ℕ} → cell < p.cells → 2 ≤ count_below (K cell) p.values → singles p K < p.cells
 unfolding singles
-singles-room p K cell lt two =
+singles-room p K {cell} lt two =
     let less = count_below-lt (λ c. eqb (count_below (K c) p.values) 1) (λ c. true) p.cells cell (λ c _ _. refl) lt (ne_eqb _ 1 (λ one. omega arith)) refl in
     omega (arith, count_below-bound (λ c. true) p.cells)
 
-pub split-room : (p : RuleSystem) (K K' : Candidates) (n cell : ℕ) → IsInside K' K → n ≤ singles p K → is_dead p.cells p.values K' ≡ false → pick p.cells p.values K' ≡ Some cell
+pub split-room : {p : RuleSystem} {K K' : Candidates} {n cell : ℕ} → IsInside K' K → n ≤ singles p K → is_dead p.cells p.values K' ≡ false → pick p.cells p.values K' ≡ Some cell
     → IsWithin p.cells p.values K → K' ≡ closure p K → IsOpen p (record { board = K'; cell = cell; next = 0 }) n
-split-room p K K' n cell inside single alive picked within reached = grind (arith, common_steps, closure_closed, singles-inside)
+split-room inside single alive picked within reached = grind (arith, common_steps, closure_closed, singles-inside)
 
 -- its cell is one with fewest values
-pub open-cell : (p : RuleSystem) (level : Level) (n : ℕ) → IsOpen p level n → IsFewest p.cells p.values level.board level.cell
-open-cell p level n o = pick-fewest p.cells p.values level.board level.cell o.picked
+pub open-cell : {p : RuleSystem} {level : Level} {n : ℕ} → IsOpen p level n → IsFewest p.cells p.values level.board level.cell
+open-cell {p} {level} o = pick-fewest p.cells p.values level.board o.picked
 
-pub open-room : (p : RuleSystem) (level : Level) (n : ℕ) → IsOpen p level n → n < p.cells
-open-room p level n o = let best = open-cell p level n o in let less = singles-room p level.board level.cell best.within best.two in let s = o.single in omega arith
+pub open-room : {p : RuleSystem} {level : Level} {n : ℕ} → IsOpen p level n → n < p.cells
+open-room {p} {level} o = let best = open-cell o in let less = singles-room p level.board best.within best.two in let s = o.single in omega arith

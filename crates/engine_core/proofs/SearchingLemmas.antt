@@ -27,13 +27,13 @@ unfolding deepest_of
 searching-first p from all = grind (arith, common_steps)
 
 -- a trial after the grids found, with budget left and with none
-after_grids : (two one : Bool) (f g : List ℕ) (n : ℕ) (K : Candidates) (ms : List Mark) → two ≡ false
+after_grids : {two : Bool} (one : Bool) (f g : List ℕ) (n : ℕ) (K : Candidates) (ms : List Mark) → two ≡ false
     → ((b : ℕ) → outcome (suc b) None (found_marks two one f g ++ Trial n K ∷ ms) ≡ outcome b None (found_marks two one f g ++ ms))
     × ((b : ℕ) → tried (suc b) None (found_marks two one f g ++ Trial n K ∷ ms) ≡ (n, K) ∷ tried b None (found_marks two one f g ++ ms))
     × (outcome 0 None (found_marks two one f g ++ Trial n K ∷ ms) ≡ GaveUp (found_of one f))
     × (tried 0 None (found_marks two one f g ++ Trial n K ∷ ms) ≡ [])
 unfolding outcome tried
-after_grids x0 x1 f g n x5 ms going = grind (arith, common_steps, true≢false)
+after_grids x1 f g n x5 ms going = grind (arith, common_steps, true≢false)
 
 module _ {p : RuleSystem} {from at : Progress} {all : List Mark} {trials : ℕ} (st : Standing) (levels : Levels) (grids : Grids) (s : IsSearching p from all trials (marks_of p st levels at grids) at) where
   -- a trial is made
@@ -44,7 +44,7 @@ module _ {p : RuleSystem} {from at : Progress} {all : List Mark} {trials : ℕ} 
       let b = from.budget - (trials + 1) in
       let left : from.budget - trials ≡ suc b = omega arith in
       let here = ap (λ ms. found_marks at.has_second at.found grids.first grids.second ++ ms) t.marks_are in
-      let next = after_grids at.has_second at.found grids.first grids.second now.depth mid.board (walk_of p mid now) going in
+      let next = after_grids at.found grids.first grids.second now.depth mid.board (walk_of p mid now) going in
       let answer = next.0 b in
       let trial = next.1 b in
       let rest : tried (from.budget - trials) None (marks_of p st levels at grids) ≡ (now.depth, mid.board) ∷ tried b None (marks_of p st' to at' grids') = cc in
@@ -54,7 +54,7 @@ module _ {p : RuleSystem} {from at : Progress} {all : List Mark} {trials : ℕ} 
         sofar = s.sofar ++ (now.depth, mid.board) ∷ [];
         split = s.split ∙ ap (λ ts. s.sofar ++ ts) rest ∙ sym (append_assoc s.sofar ((now.depth, mid.board) ∷ []) _);
         count = length_push s.sofar (now.depth, mid.board) ∙ ap (λ n. n + 1) s.count;
-        closed = rw (boards-push s.sofar now.depth mid.board, sum) (turns-push p (boards_of s.sofar) mid.board _ _ s.closed turned.closed);
+        closed = rw (boards-push s.sofar now.depth mid.board, sum) (turns-push (boards_of s.sofar) _ _ s.closed turned.closed);
         grows = let a = s.grows in let c = turned.grows in omega arith;
         deep = let push = deepest-push s.sofar now.depth mid.board in let deep = s.deep in omega arith;
       }
@@ -70,7 +70,7 @@ module _ {p : RuleSystem} {from at : Progress} {all : List Mark} {trials : ℕ} 
   ended-out {mid = mid} {now = now} t going spent =
       let left : from.budget - trials ≡ 0 = omega arith in
       let here = ap (λ ms. found_marks at.has_second at.found grids.first grids.second ++ ms) t.marks_are in
-      let next = after_grids at.has_second at.found grids.first grids.second now.depth mid.board (walk_of p mid now) going in
+      let next = after_grids at.found grids.first grids.second now.depth mid.board (walk_of p mid now) going in
       ended (verdict.GaveUp at.found) (let e = next.2 in cc) (let e = next.3 in cc)
 
   -- a second grid was found
@@ -88,7 +88,7 @@ module _ {p : RuleSystem} {from at : Progress} {all : List Mark} {trials : ℕ} 
   ended-none none going new = ended verdict.None (rw (none, going, new) refl) (rw (none, going, new) refl)
 
 -- the search of a whole board, which was closed first
-pub walked : {p : RuleSystem} {K : Candidates} {marks : List Mark} {result : Searched} {grids : Grids} (budget : ℕ) (from : Progress) → from.budget ≡ budget
+pub walked : {p : RuleSystem} {K : Candidates} {marks : List Mark} {result : Searched} {grids : Grids} {budget : ℕ} {from : Progress} → from.budget ≡ budget
     → walk p 0 K ≡ marks → CountsClosing p K 0 from.turns → from.deepest ≡ 0
     → IsSearched p from.budget marks from result grids.first grids.second → IsWalked p budget K result grids
-walked budget from is same turned none s = grind (arith, common_steps)
+walked is same turned none s = grind (arith, common_steps)

@@ -28,8 +28,8 @@ word-is : (waits : List ℕ) (w j : ℕ) → j / 64 ≡ w → is_waiting waits j
 unfolding is_waiting
 word-is waits w j e = ap (λ (k : ℕ). has_bit (get_or waits k 0) (j % 64)) e
 
-or_false : (x : Bool) → x ≡ (x || false)
-or_false x0 = grind (arith, common_steps)
+or_false : {x : Bool} → x ≡ (x || false)
+or_false = grind (arith, common_steps)
 
 and_true : (x : Bool) → x ≡ (x && true)
 and_true x0 = grind (arith, common_steps)
@@ -61,7 +61,7 @@ pub waiting-enqueue_if : (waits : List ℕ) (h j bit : ℕ) (called : Bool) → 
     → is_waiting (set waits (h / 64) (bit_or (get_or waits (h / 64) 0) (bit * 2 ^ (h % 64) % 18446744073709551616))) j ≡ (is_waiting waits j || (called && eqb j h))
 waiting-enqueue_if waits h j bit true is off lt = rw (is refl) (waiting-enqueue waits h j lt)
 waiting-enqueue_if waits h j bit false on is lt =
-    rw (is refl) (waiting-word (λ x here. x || false) (λ x. sym (or_false x)) waits h _ j lt (λ b small. grind (arith, common_steps, bits-either, bits-of_zero)))
+    rw (is refl) (waiting-word (λ x here. x || false) (λ x. sym or_false) waits h _ j lt (λ b small. grind (arith, common_steps, bits-either, bits-of_zero)))
 
 pub waiting-dequeue : (waits : List ℕ) (h j : ℕ) → h / 64 < length waits
     → is_waiting (set waits (h / 64) (bit_and (get_or waits (h / 64) 0) (18446744073709551615 - 1 * 2 ^ (h % 64) % 18446744073709551616))) j ≡ but (is_waiting waits) h j
@@ -102,17 +102,17 @@ lowest_left word from small some =
 
 -- ---- one word after another
 -- where no bit of a word is set from one to another, no house there waits
-pub none_in_word : (waits : List ℕ) (w low high : ℕ) → high ≤ 64 → ((b : ℕ) → low ≤ b → b < high → has_bit (get_or waits w 0) b ≡ false)
+pub none_in_word : (waits : List ℕ) (w : ℕ) {low high : ℕ} → high ≤ 64 → ((b : ℕ) → low ≤ b → b < high → has_bit (get_or waits w 0) b ≡ false)
     → (j : ℕ) → w * 64 + low ≤ j → j < w * 64 + high → is_waiting waits j ≡ false
-none_in_word waits w low high small none j le lt =
+none_in_word waits w small none j le lt =
     let word : j / 64 ≡ w = omega arith in word-is waits w j word ∙ none (j % 64) (omega arith) (omega arith)
 
-pub none_so_far : (waits : List ℕ) (from w low high : ℕ) → high ≤ 64 → ((j : ℕ) → from ≤ j → j < w * 64 + low → is_waiting waits j ≡ false)
+pub none_so_far : (waits : List ℕ) {from : ℕ} (w : ℕ) {low high : ℕ} → high ≤ 64 → ((j : ℕ) → from ≤ j → j < w * 64 + low → is_waiting waits j ≡ false)
     → ((b : ℕ) → low ≤ b → b < high → has_bit (get_or waits w 0) b ≡ false)
     → (j : ℕ) → from ≤ j → j < w * 64 + high → is_waiting waits j ≡ false
-none_so_far waits from w low high small before none j le lt =
-    grind (arith, common_steps, cases_lt j (w * 64 + low), before j le, none_in_word waits w low high small none j)
+none_so_far waits w {low} small before none j le lt =
+    grind (arith, common_steps, cases_lt j (w * 64 + low), before j le, none_in_word waits w small none j)
 
-pub waits_in_word : (waits : List ℕ) (w b : ℕ) → b < 64 → has_bit (get_or waits w 0) b ≡ true → is_waiting waits (w * 64 + b) ≡ true
-waits_in_word waits w b lt on =
+pub waits_in_word : (waits : List ℕ) (w : ℕ) {b : ℕ} → b < 64 → has_bit (get_or waits w 0) b ≡ true → is_waiting waits (w * 64 + b) ≡ true
+waits_in_word waits w {b} lt on =
     let bit : (w * 64 + b) % 64 ≡ b = omega arith in word-is waits w (w * 64 + b) (omega arith) ∙ ap (has_bit (get_or waits w 0)) bit ∙ on

@@ -10,6 +10,11 @@ pub record AreSetsOf (p : RuleSystem) (h : ℕ) (K : Candidates) (sets : List �
   pub bits : (k : ℕ) → k < length (p.scope h)
       → IsBitsOf (K (slice_index (p.scope h) k)) p.values (slice_index sets k)
 
+-- those of some board
+pub record AreSets (p : RuleSystem) (h : ℕ) (sets : List ℕ) : Type 0 where
+  pub board : Candidates
+  pub are : AreSetsOf p h board sets
+
 -- nothing is struck from the house's cells, or else a value that one of them has stays exactly where its bit is kept
 pub record IsKept (p : RuleSystem) (h : ℕ) (K : Candidates) (struck : Bool)
     (kept : List ℕ) : Type 0 where

@@ -14,6 +14,9 @@ pub mod HouseRules
 pub mod HouseRulesLaws
 pub mod HouseList
 pub mod HouseIndex
+pub mod ListedHouses
+pub mod ListedLaws
+pub mod Counting
 pub mod Waiting
 pub mod Queue
 pub mod Walk

@@ -2,10 +2,13 @@
 #![tactic(auto)]
 
 mod closing;
+mod counting;
+mod house_rules;
 mod houses;
 mod laws;
 mod mode;
 mod needs;
+mod rule_set;
 mod rules;
 mod search;
 mod searchable;
@@ -13,6 +16,8 @@ mod store;
 mod trail;
 mod waits;
 
+pub use counting::{Counting, Uncounted};
+pub use house_rules::{HouseRules, HouseScratch};
 pub use houses::list::HouseList;
 pub use houses::table::HouseTable;
 pub use houses::visit::{apply, gather, has_bit};
@@ -22,6 +27,7 @@ pub use laws::{
     visits_of_houses_are_enough, walk_finds_each_solution_once, walk_goes_on_from_the_closure,
 };
 pub use mode::{Closing, Mode};
+pub use rule_set::RuleSet;
 pub use rules::Rules;
 pub use search::position::{Position, Taken};
 pub use search::trials::trials_made_are_the_first;

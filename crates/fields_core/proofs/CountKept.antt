@@ -180,35 +180,3 @@ pub kept-strikes : (cells : ℕ) (house : CountHouse) (K : Candidates) (t : Tall
 unfolding after_house
 kept-strikes cells house K t is tally k v bits lt low of on =
     kept-bits t (bounds_of house) K (slice_index house.places k) bits v of low ∙ sym (after-at cells house K t is tally k v lt low) ∙ rw on refl
-
--- ---- the board after a visit
-module _ (cells : ℕ) (house : CountHouse) (K : Candidates) (is : IsHouse cells house) (within : IsWithin cells 2 K) where
-  -- it suffices to look at the values that the house's cells have
-  after-by : (D : ℕ → ℕ → Bool) → ((c v : ℕ) → has_place house.places c ≡ false → D c v ≡ false)
-      → ((k v : ℕ) → k < length house.places → v < 2 → K (slice_index house.places k) v ≡ true → D (slice_index house.places k) v ≡ strikes_of house K (slice_index house.places k) v)
-      → (λ c v. K c v && not (D c v)) ≡ after_house house K
-  unfolding after_house
-  after-by D out here = fun_ext λ c. fun_ext λ v. elim (cases_Bool (K c v)) [
-    | inr off ↦ rw off refl
-    | inl on ↦ ap (λ b. K c v && not b) (elim (cases_Bool (has_place house.places c)) [
-      | inr off ↦ out c v off ∙ sym (off-scope house K c v off)
-      | inl there ↦ let w = has_place-at house.places c there in rw (sym w.2) (here w.0 v w.1 (within c v on).1 (rw (sym w.2) at on))
-    ])
-  ]
-
-  -- nothing is struck
-  pub after-none : ((k v : ℕ) → k < length house.places → v < 2 → K (slice_index house.places k) v ≡ true → strikes_of house K (slice_index house.places k) v ≡ false) → K ≡ after_house house K
-  after-none none = fun_ext (λ c. fun_ext λ v. sym (and-true (K c v))) ∙ after-by (λ c v. false) (λ c v off. refl) (λ k v lt low on. sym (none k v lt low on))
-
-  -- what is kept stays
-  pub after-kept : (kept : List ℕ) → ((k v : ℕ) → k < length house.places → v < 2 → K (slice_index house.places k) v ≡ true → has_bit (slice_index kept k) v ≡ not (strikes_of house K (slice_index house.places k) v))
-      → kept_in house.places kept (length house.places) K ≡ after_house house K
-  unfolding kept_in strikes_at
-  after-kept kept bits = after-by (strikes_at 2 house.places drops K) (λ c v off. false_from_ne_true _ (λ on. true≢false (sym (strikes_at-in_scope 2 house.places drops K c v on) ∙ off)))
-      (λ k v lt low on. strikes_at-place 2 house.places drops K k v is.different lt ∙ rw (bits k v lt low on) (not-not _))
-    where
-      drops : Decision
-      drops sets k v = not (has_bit (slice_index kept k) v)
-
-      not-not : (b : Bool) → not (not b) ≡ b
-      not-not b = grind (arith, common_steps, cases_Bool b)

@@ -1,42 +1,39 @@
 -- The lemmas that the proofs of each source file go by.
-use Rattle.engine_core.proofs.CallLemmas.{upto-first}
-use Rattle.fields_core.proofs.CountListLemmas.{as-many, begun-more, beside-fits, begun-none, begun-same, below-more, below-none, bounded-listed}
+use Rattle.fields_core.proofs.CountListLemmas.{begun-more, beside-fits, begun-none, begun-same, below-more, below-none}
 use Rattle.fields_core.proofs.CountTallies.{sets-first, sets-next, sets-all}
 use Rattle.fields_core.proofs.HouseLists.{column-after, column-black, column-edge, row-after, row-black, row-edge, step-keep, step-none, step-skip}
-use Rattle.fields_core.proofs.LightCounting.{light-counting}
-use Rattle.fields_core.proofs.LightFaultLemmas.{fault-not, lit-from}
+use Rattle.fields_core.proofs.LightCounting.{light-counting, light-lawful}
 use Rattle.fields_core.proofs.LightLines.{cell-at, white-at}
-use Rattle.fields_core.proofs.LightRuleLemmas.{rule-from-test, test-from-rule}
+use Rattle.fields_core.proofs.LightRuleLemmas.{light-tells, rule-from-test, test-from-rule}
 use Rattle.fields_core.proofs.LightSeen.{black-unseen, seen-in-column, seen-in-row}
 use Rattle.fields_core.proofs.LightSight.{count-bulb, count-dark, count-edge, count-start, some-column}
-use Rattle.fields_core.proofs.RuleLemmas.{after-is, light-houses, same-shape, start-all, start-blocked}
+use Rattle.fields_core.proofs.RuleLemmas.{same-shape, start-all, start-blocked}
 use Rattle.fields_core.proofs.RunLemmas.{column-made, few-cells, row-made, run-long, run-white}
-use Rattle.fields_core.proofs.TentCounting.{tent-counting}
+use Rattle.fields_core.proofs.TentCounting.{tent-counting, tent-lawful}
 use Rattle.fields_core.proofs.TentLines.{line-all, line-more, line-skip, line-start}
 use Rattle.fields_core.proofs.TentNext.{barred-alone, barred-tree, next-joined, next-none, passed-bare, passed-early, passed-edge, passed-start, tree-found, treeless-all}
 use Rattle.fields_core.proofs.TentNumbers.{count-none, listed-all, listed-skip}
 use Rattle.fields_core.proofs.TentPairLemmas.{count-is, listed-tents, others-unpaired, short-unpaired, whole-pairs}
-use Rattle.fields_core.proofs.TentRuleLemmas.{tents-from, tents-from-solution, tents-not, solution-from-tents, tent-table}
-use Rattle.grid_core.proofs.CandidateLemmas.{all_below-from}
+use Rattle.fields_core.proofs.TentRuleLemmas.{tents-from-solution, tents-tell, solution-from-tents}
 use Rattle.std.proofs.lemmas.Bool.{eq-eqb, ne_eqb}
 use Rattle.std.proofs.Math.Nat.{mul-le-mul_right}
 use Rattle.std.proofs.lemmas.List.{append-nil, append_assoc, map-append, take_all}
 
-pub ruleset count_table_laws = (upto-first)
+pub ruleset count_rules_laws = (start-blocked, same-shape, start-all)
 
 pub ruleset house_list_laws = (below-none, below-more, append_assoc, append-nil, map-append)
 
-pub ruleset laws_laws = (rule-from-test, test-from-rule, solution-from-tents, tents-from-solution)
+pub ruleset laws_laws = (light-lawful, tent-lawful, rule-from-test, test-from-rule, solution-from-tents, tents-from-solution)
 
 pub ruleset light_cells_laws = (white-at)
 
-pub ruleset light_check_laws = (lit-from, all_below-from, ne_eqb, eq-eqb, cell-at)
+pub ruleset light_check_laws = (ne_eqb, eq-eqb, cell-at)
 
 pub ruleset light_houses_laws = (beside-fits, begun-none, begun-same, step-none, step-skip, begun-more, step-keep, take_all)
 
 pub ruleset light_lit_laws = (below-none, below-more, append_assoc, append-nil, map-append)
 
-pub ruleset light_rules_laws = (light-counting, as-many, bounded-listed, fault-not, light-houses, after-is, start-all)
+pub ruleset light_rules_laws = (light-counting, light-tells)
 
 pub ruleset light_run_laws = (column-black, column-edge, column-after, some-column, row-black, row-edge, row-after, run-long, few-cells, run-white)
 
@@ -46,12 +43,12 @@ pub ruleset run_laws = (run-long, row-made, column-made, mul-le-mul_right)
 
 pub ruleset tally_laws = (sets-first, sets-next, sets-all)
 
-pub ruleset tent_check_laws = (line-start, line-skip, line-more, line-all, tents-from, all_below-from, ne_eqb, eq-eqb)
+pub ruleset tent_check_laws = (line-start, line-skip, line-more, line-all, ne_eqb, eq-eqb)
 
 pub ruleset tent_houses_laws = (beside-fits, begun-none, begun-same, step-none, step-skip, begun-more, step-keep)
 
 pub ruleset tent_pairs_laws = (next-joined, listed-skip, listed-all, passed-start, passed-edge, passed-bare, passed-early, next-none, count-none, others-unpaired, listed-tents, count-is, whole-pairs, short-unpaired)
 
-pub ruleset tent_rules_laws = (tent-counting, as-many, bounded-listed, tents-not, after-is, tent-table, barred-tree, barred-alone, tree-found, treeless-all, start-blocked, same-shape, start-all)
+pub ruleset tent_rules_laws = (tent-counting, tents-tell, barred-tree, barred-alone, tree-found, treeless-all)
 
 pub ruleset tent_touch_laws = (eq-eqb, ne_eqb)

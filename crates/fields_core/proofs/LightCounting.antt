@@ -1,4 +1,6 @@
 -- The count houses of Light Up keep to what every rule set of count houses keeps to.
+use Rattle.engine_core.specs.RuleSystem.{IsLawful}
+use Rattle.fields_core.specs.CountLaws.{count-lawful}
 use Rattle.std.proofs.Common.{◌≡◌, ℕ, zero, suc, ◌+◌, ◌*◌, ◌/◌, ◌%◌, ◌<◌, ◌≤◌, true, not, ◌&&◌, ◌||◌, eqb, List, [], ◌∷◌, ◌++◌, length, get_or, slice_index, refl, sym, ap, ◌∙◌, inl, inr, arith}
 use Rattle.std.specs.List.{filter, AllByRecursion}
 use Rattle.std.proofs.lemmas.Bool.{cases_eq, or_left, or_right, or_cases, and_from, and_parts, true≢false, eqb-true, eq-eqb, ne_eqb, not-true}
@@ -15,7 +17,7 @@ use Rattle.gameid_core.specs.declared.light_up.cell.LightCell.{LightCell}
 use Rattle.gameid_core.specs.declared.light_up.cell.LightCell.TheVariants.{White, Black, Numbered}
 use Rattle.fields_core.specs.CountHouse.{exactly, one_at_most, one_at_least, IsCounting}
 use Rattle.fields_core.specs.Light.{light_cells, white, bulb, joined_in_row, joined_in_column, sees, sees_bulb, bulbs_beside, black_right, number_right, bulb_right, lit_right, solves_lights}
-use Rattle.fields_core.specs.LightHouses.{row_run, column_run, seen_from, begins_row_run, begins_column_run, numbered, number_house, row_house, column_house, lit_house, light_houses}
+use Rattle.fields_core.specs.LightHouses.{light_rules, row_run, column_run, seen_from, begins_row_run, begins_column_run, numbered, number_house, row_house, column_house, lit_house, light_houses}
 use Rattle.fields_core.proofs.LightFaultLemmas.{lit-parts}
 use Rattle.fields_core.proofs.LightSight.{bulb-in, row-of, column-of}
 use Rattle.fields_core.proofs.HouseLists.{row-long, column-long}
@@ -213,3 +215,6 @@ number-one p c = by (get_or p.cells c Black) (filter (white p) (steps p.size c 4
     by White places = omega arith
     by Black places = omega arith
     by (Numbered n) places = omega arith
+
+pub light-lawful : (p : Light) → IsLight p → IsLawful (light_rules p)
+light-lawful p is = count-lawful _ _ _ _ (light-counting p is)

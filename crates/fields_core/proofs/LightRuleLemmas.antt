@@ -1,7 +1,7 @@
 -- In Light Up the test of a solution is the rule.
-use Rattle.std.proofs.Common.{◌≡◌, ℕ, ◌+◌, ◌*◌, ◌/◌, ◌%◌, ◌<◌, ◌≤◌, min, max, Bool, true, false, not, ◌&&◌, ◌||◌, eqb, List, get_or, slice_index, Option, Some, None, refl, sym, ◌∙◌, inl, inr, arith}
-use Rattle.std.specs.Prelude.{◌↔◌}
-use Rattle.std.proofs.lemmas.Bool.{cases_lt, cases_Bool, or_left, or_right, or_cases, and_from, and_parts, true≢false, ne_eqb, eqb-true, eq-eqb, not-true, cases_eq}
+use Rattle.std.proofs.Common.{◌≡◌, ℕ, ◌+◌, ◌*◌, ◌/◌, ◌%◌, ◌<◌, ◌≤◌, min, max, Bool, true, false, not, ◌&&◌, ◌||◌, eqb, List, [], ◌∷◌, get_or, slice_index, Option, is_some, refl, sym, ◌∙◌, inl, inr, arith}
+use Rattle.std.specs.List.{AllByRecursion}
+use Rattle.std.proofs.lemmas.Bool.{cases_lt, cases_Bool, or_left, or_right, or_cases, or_parts, and_from, and_parts, true≢false, not-false, ne_eqb, eqb-true, eq-eqb, not-true, cases_eq}
 use Rattle.std.proofs.lemmas.Nat.{div-mul-add, mod-mul-add, le-div}
 use Rattle.std.proofs.Math.Nat.{mul-le-mul_right, mod-lt, div-mul-le_self}
 use Rattle.grid_core.specs.Grids.{IsGrid}
@@ -11,9 +11,12 @@ use Rattle.gameid_core.specs.declared.light_up.cell.LightCell.{LightCell}
 use Rattle.gameid_core.specs.declared.light_up.cell.LightCell.TheVariants.{White, Black, Numbered}
 use Rattle.fields_core.specs.Light.{light_cells, white, bulb, bulbs_beside, number_is, joined_in_row, joined_in_column, sees, sees_bulb, black_right, number_right, bulb_right, lit_right, solves_lights}
 use Rattle.fields_core.specs.LightSolutions.{light_row, light_column, IsFromTo, AreJoined, Sees, SeesBulb, IsLightSolution}
-use Rattle.fields_core.specs.LightFaults.{IsLightFault}
+use Rattle.gameid_core.specs.FirstFailed.{NoneFails}
+use Rattle.gameid_core.proofs.FirstFailed.{AreRight, IsKnown, IsMade, Kind, known_tests, none_held, none_tells, right_none}
+use Rattle.fields_core.specs.LightFaults.{FailsLight, IsLightFault, light_tests}
 use Rattle.fields_core.specs.declared.light_up.fault.LightFault.{LightFault}
-use Rattle.fields_core.proofs.LightFaultLemmas.{lit-from, lit-parts, fault-not}
+use Rattle.fields_core.specs.declared.light_up.fault.LightFault.TheVariants as fault
+use Rattle.fields_core.proofs.LightFaultLemmas.{lit-from, lit-parts}
 use Rattle.fields_core.proofs.LightHouseLaws.{clear-at, clear-from, row-parts, column-parts}
 use Rattle.fields_core.proofs.LightSight.{some-column}
 use Rattle.std.proofs.lemmas.Grind.{common_steps}
@@ -124,25 +127,84 @@ rule-from-test p g grid on =
       ];
     }
 
-pub test-from-rule : (p : Light) (g : List ℕ) → IsGrid (light_cells p) 2 g → IsLightSolution p g → solves_lights p g ≡ true
-unfolding black_right number_right bulb_right lit_right
-test-from-rule p g grid s = lit-from p g
-    (all_below-from (black_right p g) (light_cells p) black)
-    (all_below-from (number_right p g) (light_cells p) (λ c lt. rule-number (get_or p.cells c Black) (bulbs_beside p g c) (λ n e. s.numbers c n lt e)))
-    (all_below-from (bulb_right p g) (light_cells p) (λ c lt. alone (bulb g c) (sees_bulb p g c) (λ on seen.
-    let is = bulb-rule p g c (some-column p c lt) seen in s.none_seen c is.other lt is.within on is.has_bulb is.seen)))
-    (all_below-from (lit_right p g) (light_cells p) lit)
-  where
-    none-at : (v : ℕ) → v < 2 → eqb v 1 ≡ false → eqb v 0 ≡ true
-    none-at v lt off = grind (arith, common_steps, cases_eq v 0, cases_eq v 1, eq-eqb)
+-- ---- each test, as it is computed
+module _ (p : Light) (g : List ℕ) where
+  abbrev pub black : Kind LightFault
+  black = record { test = fault.Black; count = light_cells p; right = black_right p g }
 
-    black : (c : ℕ) → c < light_cells p → (white p c || eqb (slice_index g c) 0) ≡ true
-    black c lt = grind (arith, common_steps, cases_Bool, or_left, slice_index, or_right, none-at)
+  abbrev pub number : Kind LightFault
+  number = record { test = fault.Number; count = light_cells p; right = number_right p g }
 
-    lit : (c : ℕ) → c < light_cells p → (not (white p c) || (bulb g c || sees_bulb p g c)) ≡ true
-    lit c lt = grind (arith, common_steps, cases_Bool, or_right, or_left, rule-bulb, some-column)
+  abbrev pub seen : Kind LightFault
+  seen = record { test = fault.Seen; count = light_cells p; right = bulb_right p g }
 
--- ---- nothing is wrong exactly with solutions
-pub none-exactly : (p : Light) (g : List ℕ) (fault : Option LightFault) → IsGrid (light_cells p) 2 g → IsLightFault p g fault → (fault ≡ None) ↔ IsLightSolution p g
-none-exactly p g None grid is = (λ _. rule-from-test p g grid is, λ _. refl)
-none-exactly p g (Some f) grid is = (λ e. cc, λ s. absurd (true≢false (sym (test-from-rule p g grid s) ∙ sym (fault-not p g f is))))
+  abbrev pub dark : Kind LightFault
+  dark = record { test = fault.Dark; count = light_cells p; right = lit_right p g }
+
+  abbrev pub kinds : List (Kind LightFault)
+  kinds = black ∷ number ∷ seen ∷ dark ∷ []
+
+  module _ (grid : IsGrid (light_cells p) 2 g) where
+    black-made : IsMade (FailsLight p g) black
+    unfolding black_right
+    black-made = record {
+      failed = λ c lt off. grind (arith, common_steps, or_parts, slice_index, cases_eq (slice_index g c) 1, eq-eqb);
+      held = λ c lt on (bulb_on, off). grind (arith, common_steps, or_cases);
+    }
+
+    number-made : IsMade (FailsLight p g) number
+    unfolding number_right
+    number-made = record {
+      failed = λ c lt off. by c (get_or p.cells c Black) off refl;
+      held = λ c lt on (n, e, other). other (number-rule (get_or p.cells c Black) (bulbs_beside p g c) n on e);
+    }
+      where
+        by : (c : ℕ) (cell : LightCell) → number_is cell (bulbs_beside p g c) ≡ false → get_or p.cells c Black ≡ cell → FailsLight p g (fault.Number c)
+        by c White off e = absurd (true≢false off)
+        by c Black off e = absurd (true≢false off)
+        by c (Numbered n) off e = (n, e, λ same. true≢false (sym (eq-eqb _ n same) ∙ off))
+
+    seen-made : IsMade (FailsLight p g) seen
+    unfolding bulb_right
+    seen-made = record {
+      failed = λ c lt off. let parts = and_parts (bulb g c) (sees_bulb p g c) (not-false _ off) in (parts.0, bulb-rule p g c (some-column p c lt) parts.1);
+      held = λ c lt on (bulb_on, one). not-alone (bulb g c) (sees_bulb p g c) on bulb_on (rule-bulb p g c (some-column p c lt) one);
+    }
+
+    dark-made : IsMade (FailsLight p g) dark
+    unfolding lit_right
+    dark-made = record {
+      failed = λ c lt off. grind (arith, common_steps, or_parts, not-false, rule-bulb, some-column p c lt);
+      held = λ c lt on (is_white, dark, unseen). grind (arith, common_steps, or_cases, not-true, bulb-rule, some-column p c lt);
+    }
+
+    pub light-made : AllByRecursion (IsMade (FailsLight p g)) kinds
+    light-made = (black-made, (number-made, (seen-made, (dark-made, tt))))
+
+    none-right : AllByRecursion (AreRight (FailsLight p g)) kinds → solves_lights p g ≡ true
+    none-right (a, (b, (c, (d, _)))) = lit-from p g (all_below-from _ _ a) (all_below-from _ _ b) (all_below-from _ _ c) (all_below-from _ _ d)
+
+    -- no test fails a solution, and no other grid passes all
+    pub light-none : IsLightSolution p g → NoneFails (FailsLight p g) (light_tests p)
+    light-none s = none_held (FailsLight p g) kinds (
+      (λ c lt (on, off). true≢false (sym (s.none_on_black c lt on) ∙ off)),
+      (
+        (λ c lt (k, e, other). other (s.numbers c k lt e)),
+        ((λ c lt (on, one). s.none_seen c one.other lt one.within on one.has_bulb one.seen), (lit, tt)),
+      ),
+    )
+      where
+        lit : (c : ℕ) → c < light_cells p → FailsLight p g (fault.Dark c) → ⊥
+        lit c lt (is_white, off, unseen) = elim (s.all_lit c lt is_white) [ inl here ↦ true≢false (sym here ∙ off) | inr there ↦ unseen there ]
+
+    pub test-from-rule : IsLightSolution p g → solves_lights p g ≡ true
+    test-from-rule s = none-right (right_none (FailsLight p g) kinds light-made (light-none s))
+
+    pub light-sound : NoneFails (FailsLight p g) (light_tests p) → IsLightSolution p g
+    light-sound none = rule-from-test p g grid (none-right (right_none (FailsLight p g) kinds light-made none))
+
+    pub light-known : AllByRecursion (IsKnown (FailsLight p g)) (light_tests p)
+    light-known = known_tests (FailsLight p g) kinds light-made
+
+    pub light-tells : (fault : Option LightFault) (told : Bool) → IsLightFault p g fault → is_some fault ≡ not told → told ≡ solves_lights p g
+    light-tells fault told is e = none_tells (FailsLight p g) (light_tests p) light-none told (solves_lights p g) (rule-from-test p g grid) test-from-rule fault is e

@@ -1,4 +1,6 @@
 -- The count houses of Tents keep to what every rule set of count houses keeps to.
+use Rattle.engine_core.specs.RuleSystem.{IsLawful}
+use Rattle.fields_core.specs.CountLaws.{count-lawful}
 use Rattle.std.proofs.Common.{◌≡◌, ℕ, zero, suc, ◌+◌, ◌*◌, ◌/◌, ◌%◌, ◌<◌, ◌≤◌, true, not, ◌&&◌, ◌||◌, eqb, ltb, List, [], ◌∷◌, length, get_or, slice_index, map, sym, ap, ◌∙◌, inl, inr, arith, le-leb}
 use Rattle.std.specs.List.{filter, range_with_len, list_any}
 use Rattle.std.proofs.lemmas.Bool.{cases_eq, cases_lt, or_cases, and_from, and_parts, true≢false, false_from_ne_true, eqb-true, eq-eqb, ne_eqb, not-true, ltb-true}
@@ -20,7 +22,7 @@ use Rattle.grid_core.specs.Lines.{line_cells}
 use Rattle.gameid_core.specs.Puzzles.{Tents, IsTents, AreCounts}
 use Rattle.fields_core.specs.CountHouse.{exactly, one_at_most, one_at_least, IsCounting}
 use Rattle.fields_core.specs.Tents.{tent_cells, tree, tent, are_near, touches, tents_in_column, tents_in_row, tree_right, touch_right, column_right, row_right, names_none_twice, leaves_none_out, trees_beside, can_be_paired, solves_tents}
-use Rattle.fields_core.specs.TentHouses.{column_of_tents, row_of_tents, free_beside, tree_house, square_house, tent_houses, is_barred}
+use Rattle.fields_core.specs.TentHouses.{tent_rules, column_of_tents, row_of_tents, free_beside, tree_house, square_house, tent_houses, is_barred}
 use Rattle.fields_core.proofs.HouseLists.{row-long, column-long}
 use Rattle.fields_core.proofs.PlaceLists.{count-some, count-one, filter-few}
 use Rattle.fields_core.proofs.StepLaws.{steps-distinct, steps-few}
@@ -241,3 +243,6 @@ tent-counting p is = record {
   where
     zero-from : (v : ℕ) → v < 2 → (v ≡ 1 → ⊥) → v ≡ 0
     zero-from v lt none = grind (arith, common_steps, cases_eq v 0)
+
+pub tent-lawful : (p : Tents) → IsTents p → IsLawful (tent_rules p)
+tent-lawful p is = count-lawful _ _ _ _ (tent-counting p is)

@@ -1,22 +1,22 @@
 -- A grid of Tents without a fault is a solution, and one with a fault is not; and the rules' own table.
-use Rattle.std.proofs.Common.{◌≡◌, ℕ, ◌+◌, ◌<◌, Bool, true, false, not, ◌&&◌, eqb, List, length, slice_index, Option, Some, None, ◌↔◌, refl, sym, ap, ◌∙◌, inl, inr, arith}
-use Rattle.std.proofs.lemmas.Bool.{cases_Bool, or_left, or_right, or_cases, and_from, and_parts, true≢false, false_from_ne_true, eqb-true, eq-eqb, not-true}
+use Rattle.std.proofs.Common.{◌≡◌, ℕ, ◌+◌, ◌<◌, Bool, true, false, not, ◌&&◌, eqb, List, [], ◌∷◌, length, slice_index, Option, is_some, sym, ap, ◌∙◌, inl, inr, arith}
+use Rattle.std.proofs.lemmas.Bool.{cases_eq, or_cases, or_parts, not-false, and_from, and_parts, true≢false, eqb-true, eq-eqb, not-true}
+use Rattle.std.specs.List.{AllByRecursion}
 use Rattle.grid_core.specs.Grids.{IsGrid}
 use Rattle.grid_core.specs.Candidates.{all_below}
-use Rattle.grid_core.proofs.CandidateLemmas.{all_below-at, all_below-from, any_below-some, any_below-none}
+use Rattle.grid_core.proofs.CandidateLemmas.{all_below-at, all_below-from, any_below-here, any_below-some, any_below-none}
 use Rattle.engine_core.specs.PlaceLaws.{has_place-here, different-from}
 use Rattle.gameid_core.specs.Puzzles.{Tents}
-use Rattle.fields_core.specs.CountHouse.{CountedHouses}
 use Rattle.fields_core.specs.Tents.{tent_cells, tree, tent, touches, tents_in_column, tents_in_row, tree_right, touch_right, column_right, row_right, can_be_paired, solves_tents}
 use Rattle.fields_core.specs.TentHouses.{tent_houses}
 use Rattle.fields_core.specs.TentSolutions.{IsPairedBy, IsTentSolution}
-use Rattle.fields_core.specs.TentFaults.{IsTentFault}
-use Rattle.fields_core.specs.Lawful.{tent_table}
+use Rattle.gameid_core.specs.FirstFailed.{NoneFails}
+use Rattle.gameid_core.proofs.FirstFailed.{AreRight, IsKnown, IsMade, Kind, known_tests, none_held, none_tells, right_none}
+use Rattle.fields_core.specs.TentFaults.{FailsTents, IsTentFault, tent_tests}
 use Rattle.fields_core.specs.declared.tents.fault.TentFault.{TentFault}
 use Rattle.fields_core.specs.declared.tents.fault.TentFault.TheVariants.{Tree, Touch, Column, Row, Match}
-use Rattle.fields_core.proofs.LightFaultLemmas.{first-breaks}
 use Rattle.fields_core.proofs.BelowLemmas.{index_of, index-is, distinct-none-twice}
-use Rattle.fields_core.proofs.TentCounting.{TentParts, tents-parts, tents_of, IsGiven, given, tent-in}
+use Rattle.fields_core.proofs.TentCounting.{tents-parts, tents_of, IsGiven, given, tent-in}
 use Rattle.fields_core.proofs.TentPairLemmas.{tents-distinct, tent-listed, listed-tent, pairs-from}
 use Rattle.std.proofs.lemmas.Grind.{common_steps}
 
@@ -24,19 +24,6 @@ pub tents-from : (p : Tents) (g : List ℕ) → all_below (tree_right p g) (tent
     → all_below (column_right p g) p.size.w ≡ true → all_below (row_right p g) p.size.h ≡ true → true ≡ can_be_paired p g → solves_tents p g ≡ true
 unfolding solves_tents
 tents-from p g a b c d e = and_from _ _ a (and_from _ _ b (and_from _ _ c (and_from _ _ d (sym e))))
-
-pub tents-not : (p : Tents) (g : List ℕ) (fault : TentFault) → IsTentFault p g (Some fault) → false ≡ solves_tents p g
-tents-not p g fault is = sym (false_from_ne_true (solves_tents p g) (λ on. broken fault is (tents-parts p g on)))
-  where
-    broken : (f : TentFault) → IsTentFault p g (Some f) → TentParts p g → ⊥
-    broken (Tree c) is parts = first-breaks _ _ c is parts.trees
-    broken (Touch c) is parts = first-breaks _ _ c is.1 parts.touch
-    broken (Column x) is parts = first-breaks _ _ x is.2 parts.columns
-    broken (Row y) is parts = first-breaks _ _ y is.3 parts.rows
-    broken Match is parts = true≢false (sym parts.paired ∙ is.4)
-
-pub tent-table : (t : CountedHouses) (p q : Tents) → t ≡ tent_table p → p ≡ q → t.houses ≡ tent_houses q
-tent-table t p q e f = ap (λ (u : CountedHouses). u.houses) e ∙ ap tent_houses f
 
 -- ---- the test of a solution is the rule
 gives-tree : (p : Tents) (g chosen : List ℕ) → length g ≡ tent_cells p → IsGiven p g chosen → IsPairedBy p g (λ c. slice_index chosen (index_of (tents_of p g) c))
@@ -70,9 +57,6 @@ gives-tree p g chosen long is = record {
 no-two : (touch : Bool) (tent_on : Bool) → (touch && tent_on) ≡ false → tent_on ≡ true → touch ≡ false
 no-two touch tent_on off on = grind (arith, common_steps)
 
-alone : (tent_on touched : Bool) → (tent_on ≡ true → touched ≡ false) → not (tent_on && touched) ≡ true
-alone tent_on touched none = grind (arith, common_steps, cases_Bool tent_on)
-
 pub solution-from-tents : (p : Tents) (g : List ℕ) → IsGrid (tent_cells p) 2 g → solves_tents p g ≡ true → IsTentSolution p g
 unfolding tree_right touch_right column_right row_right
 solution-from-tents p g grid on =
@@ -94,11 +78,86 @@ solution-from-tents p g grid on =
       paired = gives-tree p g w.0 grid.each_cell w.1;
     }
 
-pub tents-from-solution : (p : Tents) (g : List ℕ) → IsGrid (tent_cells p) 2 g → IsTentSolution p g → solves_tents p g ≡ true
-unfolding tree_right touch_right column_right row_right
-tents-from-solution p g grid s = grind (arith, common_steps, tents-from, all_below-from, eq-eqb, pairs-from, slice_index, cases_Bool, or_left, or_right, false_from_ne_true, any_below-some, and_parts)
+-- ---- each test, as it is computed
+module _ (p : Tents) (g : List ℕ) where
+  abbrev pub trees : Kind TentFault
+  trees = record { test = Tree; count = tent_cells p; right = tree_right p g }
 
--- ---- nothing is wrong exactly with solutions
-pub none-exactly : (p : Tents) (g : List ℕ) (fault : Option TentFault) → IsGrid (tent_cells p) 2 g → IsTentFault p g fault → (fault ≡ None) ↔ IsTentSolution p g
-none-exactly p g None grid is = (λ _. solution-from-tents p g grid is, λ _. refl)
-none-exactly p g (Some f) grid is = (λ e. cc, λ s. absurd (true≢false (sym (tents-from-solution p g grid s) ∙ sym (tents-not p g f is))))
+  abbrev pub touch : Kind TentFault
+  touch = record { test = Touch; count = tent_cells p; right = touch_right p g }
+
+  abbrev pub columns : Kind TentFault
+  columns = record { test = Column; count = p.size.w; right = column_right p g }
+
+  abbrev pub rows : Kind TentFault
+  rows = record { test = Row; count = p.size.h; right = row_right p g }
+
+  abbrev pub match : Kind TentFault
+  match = record { test = λ _. Match; count = 1; right = λ _. can_be_paired p g }
+
+  abbrev pub kinds : List (Kind TentFault)
+  kinds = trees ∷ touch ∷ columns ∷ rows ∷ match ∷ []
+
+  module _ (grid : IsGrid (tent_cells p) 2 g) where
+    tree-made : IsMade (FailsTents p g) trees
+    unfolding tree_right
+    tree-made = record {
+      failed = λ c lt off. grind (arith, common_steps, or_parts, not-false, slice_index, cases_eq (slice_index g c) 1, eq-eqb);
+      held = λ c lt on (tent_on, tree_on). grind (arith, common_steps, or_cases, not-true, eqb-true);
+    }
+
+    touch-made : IsMade (FailsTents p g) touch
+    unfolding touch_right
+    touch-made = record {
+      failed = λ c lt off.
+          let parts = and_parts _ _ (not-false _ off) in
+          let w = any_below-some (λ d. touches p.size c d && tent g d) (tent_cells p) parts.1 in
+          let both = and_parts (touches p.size c w.0) (tent g w.0) w.2 in
+          (parts.0, (w.0, w.1, both.1, both.0));
+      held = λ c lt on (tent_on, (d, below, on_d, touched)).
+          let none = not-true _ (rw tent_on at on) in
+          true≢false (sym (any_below-here (λ e. touches p.size c e && tent g e) (tent_cells p) d below (and_from _ _ touched on_d)) ∙ none);
+    }
+
+    column-made : IsMade (FailsTents p g) columns
+    unfolding column_right
+    column-made = record { failed = λ x lt off same. true≢false (sym (eq-eqb _ _ same) ∙ off); held = λ x lt on other. other (eqb-true _ _ on) }
+
+    row-made : IsMade (FailsTents p g) rows
+    unfolding row_right
+    row-made = record { failed = λ y lt off same. true≢false (sym (eq-eqb _ _ same) ∙ off); held = λ y lt on other. other (eqb-true _ _ on) }
+
+    match-made : IsMade (FailsTents p g) match
+    match-made = record {
+      failed = λ k lt off tree_of is. true≢false (sym (pairs-from p g tree_of grid.each_cell is) ∙ off);
+      held = λ k lt on none. let w = given p g on in none _ (gives-tree p g w.0 grid.each_cell w.1);
+    }
+
+    pub tents-made : AllByRecursion (IsMade (FailsTents p g)) kinds
+    tents-made = (tree-made, (touch-made, (column-made, (row-made, (match-made, tt)))))
+
+    none-right : AllByRecursion (AreRight (FailsTents p g)) kinds → solves_tents p g ≡ true
+    none-right (a, (b, (c, (d, (e, _))))) =
+        tents-from p g (all_below-from _ _ a) (all_below-from _ _ b) (all_below-from _ _ c) (all_below-from _ _ d) (sym (e 0 (omega arith)))
+
+    -- no test fails a solution, and no other grid passes all
+    pub tents-none : IsTentSolution p g → NoneFails (FailsTents p g) (tent_tests p)
+    tents-none s = none_held (FailsTents p g) kinds (
+      (λ c lt (on, tree_on). true≢false (sym tree_on ∙ s.none_on_trees c lt on)),
+      (
+        (λ c lt (on, (d, below, on_d, touched)). true≢false (sym touched ∙ s.none_touch c d lt below on on_d)),
+        ((λ x lt other. other (s.columns x lt)), ((λ y lt other. other (s.rows y lt)), ((λ k lt none. none s.tree_of s.paired), tt))),
+      ),
+    )
+
+    pub tents-from-solution : IsTentSolution p g → solves_tents p g ≡ true
+    tents-from-solution s = none-right (right_none (FailsTents p g) kinds tents-made (tents-none s))
+
+    pub tents-sound : NoneFails (FailsTents p g) (tent_tests p) → IsTentSolution p g
+    tents-sound none = solution-from-tents p g grid (none-right (right_none (FailsTents p g) kinds tents-made none))
+
+    pub tents-known : AllByRecursion (IsKnown (FailsTents p g)) (tent_tests p)
+    tents-known = known_tests (FailsTents p g) kinds tents-made
+
+    pub tents-tell : (fault : Option TentFault) (told : Bool) → IsTentFault p g fault → is_some fault ≡ not told → told ≡ solves_tents p g
+    tents-tell fault told is e = none_tells (FailsTents p g) (tent_tests p) tents-none told (solves_tents p g) (solution-from-tents p g grid) tents-from-solution fault is e

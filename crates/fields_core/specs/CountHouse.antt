@@ -58,11 +58,6 @@ pub record IsHouse (cells : ℕ) (house : CountHouse) : Type 0 where
 abbrev pub AreHouses : ℕ → List CountHouse → Type 0
 AreHouses cells houses = (h : ℕ) → h < length houses → IsHouse cells (count_house_of houses h)
 
--- what callers see of a table of houses
-pub record CountedHouses : Type 0 where
-  pub cells : ℕ
-  pub houses : List CountHouse
-
 -- a blocked cell has only 0; all other sets are full
 unfoldable pub start_of : ℕ → (ℕ → Bool) → Candidates
 start_of cells blocked c v = all_of cells 2 c v && not (blocked c && (v == 1))
@@ -81,10 +76,6 @@ count_puzzle cells blocked houses is_solution = record {
   strikes = λ h. strikes_of (count_house_of houses h);
   is_solution = is_solution;
 }
-
--- the rule set of a table's houses
-abbrev pub table_puzzle : (ℕ → Bool) → (List ℕ → Bool) → CountedHouses → RuleSystem
-table_puzzle blocked is_solution table = count_puzzle table.cells blocked table.houses is_solution
 
 -- the game's solutions leave blocked cells at 0 and meet each house
 pub record IsCounting (cells : ℕ) (blocked : ℕ → Bool) (houses : List CountHouse)

@@ -1,22 +1,25 @@
 -- A rule set of count houses is lawful, by the laws of fillings.
-use Rattle.std.proofs.Common.{◌≡◌, ℕ, ◌<◌, Bool, true, not, ◌&&◌, List, slice_index, refl, sym, ◌∙◌, arith, inl, inr}
+use Rattle.std.proofs.Common.{◌≡◌, ℕ, zero, suc, ◌+◌, ◌<◌, Bool, true, not, ◌&&◌, List, [], ◌∷◌, map, slice_index, refl, sym, ◌∙◌, arith, inl, inr}
 use Rattle.std.proofs.lemmas.Bool.{cases_Bool, true≢false, and_parts, and_from, lt-ltb, ltb-true}
 use Rattle.grid_core.specs.Candidates.{Candidates, IsInside, IsWithin, all_of, single}
 use Rattle.grid_core.specs.Grids.{IsGrid}
 use Rattle.grid_core.proofs.GridLemmas.{single-is}
 use Rattle.engine_core.specs.RuleSystem.{IsLawful, after}
+use Rattle.std.proofs.lemmas.List.{length-map}
+use Rattle.engine_core.specs.HouseIndex.{scope_of}
+use Rattle.engine_core.specs.ListedHouses.{AreScopesOf, most_turns}
 use Rattle.engine_core.specs.PlaceLaws.{has_place-here}
 use Rattle.engine_core.specs.Filling.{strikes_by_fillings}
 use Rattle.engine_core.specs.HouseSets.{strikes_at, Decision}
 use Rattle.engine_core.specs.HouseSetsLaws.{strikes_at-inside, strikes_at-in_scope, by_fillings-monotone, by_fillings-settled, by_fillings-closed}
 use Rattle.fields_core.specs.Count.{counts_between}
-use Rattle.fields_core.specs.CountHouse.{CountHouse, count_house_of, meets, strikes_of, after_house, start_of, count_puzzle, IsCounting}
+use Rattle.fields_core.specs.CountLists.{house_places}
+use Rattle.fields_core.specs.CountHouse.{CountHouse, count_house_of, meets, strikes_of, start_of, count_puzzle, IsCounting}
 
-pub after-house : (cells : ℕ) (blocked : ℕ → Bool) (houses : List CountHouse)
-    (is_solution : List ℕ → Bool) (h : ℕ) (K : Candidates)
-    → after (count_puzzle cells blocked houses is_solution) h K ≡ after_house (count_house_of houses h) K
-unfolding after after_house
-after-house cells blocked houses is_solution h K = refl
+pub places-at : (houses : List CountHouse) (h : ℕ) → scope_of (map house_places houses) h ≡ (count_house_of houses h).places
+places-at [] h = refl
+places-at (house ∷ houses) zero = refl
+places-at (house ∷ houses) (suc h) = places-at houses h
 
 start-within : (cells : ℕ) (blocked : ℕ → Bool) → IsWithin cells 2 (start_of cells blocked)
 unfolding start_of all_of
@@ -39,6 +42,15 @@ start-single cells blocked g grid zero_at c v on =
       | inl is ↦ let z : v ≡ 0 = sym w.1 ∙ zero_at c lt is in rw (is, z) refl
       | inr free ↦ rw free refl
     ])
+
+-- the lists of the houses' cells
+pub count-scopes : (cells : ℕ) (blocked : ℕ → Bool) (houses : List CountHouse)
+    (is_solution : List ℕ → Bool) → AreScopesOf (count_puzzle cells blocked houses is_solution) (map house_places houses)
+count-scopes cells blocked houses is_solution = record { as_many = sym (length-map houses house_places); each = λ h. sym (places-at houses h) }
+
+pub count-bound : (cells : ℕ) (blocked : ℕ → Bool) (houses : List CountHouse)
+    (is_solution : List ℕ → Bool) → cells + 1 ≡ most_turns (count_puzzle cells blocked houses is_solution) (map house_places houses)
+count-bound cells blocked houses is_solution = omega arith
 
 pub count-lawful : (cells : ℕ) (blocked : ℕ → Bool) (houses : List CountHouse)
     (is_solution : List ℕ → Bool) → IsCounting cells blocked houses is_solution

@@ -11,20 +11,6 @@ house_places house = house.places
 abbrev pub bounds_of : CountHouse → Bounds
 bounds_of house = record { least = house.least; most = house.most }
 
--- the bounds of a house by its number
-abbrev pub bound_of : List Bounds → ℕ → Bounds
-bound_of bounds h = slice_index_or bounds h (record { least = 0; most = 0 })
-
--- the house with these cells and bounds
-abbrev pub house_with : List ℕ → Bounds → CountHouse
-house_with places b = record { places = places; least = b.least; most = b.most }
-
--- the houses with these cells and bounds
-abbrev pub bounded : List (List ℕ) → List Bounds → List CountHouse
-bounded [] bounds = []
-bounded (places ∷ scopes) [] = []
-bounded (places ∷ scopes) (b ∷ bounds) = house_with places b ∷ bounded scopes bounds
-
 -- the list has these houses
 pub record AreListed (list : CountList) (houses : List CountHouse) : Type 0 where
   pub cells : list.list.closed ≡ map house_places houses

@@ -4,7 +4,7 @@ use Rattle.std.specs.List.{count_by}
 use Rattle.grid_core.specs.Candidates.{Candidates, IsWithin}
 use Rattle.engine_core.specs.Sets.{has_bit}
 use Rattle.fields_core.specs.Count.{is_empty}
-use Rattle.fields_core.specs.CountHouse.{CountHouse, CountedHouses, count_house_of}
+use Rattle.fields_core.specs.CountHouse.{CountHouse, count_house_of}
 use Rattle.fields_core.specs.declared.count.list.Bounds.{Bounds}
 use Rattle.fields_core.specs.declared.count.tally.Tally.{Tally}
 
@@ -60,10 +60,6 @@ pub record AreTallied (cells : ℕ) (houses : List CountHouse) (tallies : List T
   pub within : IsWithin cells 2 K
   pub each : (h : ℕ) → h < length houses
       → IsTally K (count_house_of houses h).places (tally_at tallies h)
-
--- each house of the table is counted
-abbrev pub AreTalliesOf : CountedHouses → List Tally → Candidates → Type 0
-AreTalliesOf table tallies K = AreTallied table.cells table.houses tallies K
 
 -- the tally of cells with these sets, as bits
 abbrev pub tally_of : List ℕ → Tally

@@ -1,6 +1,8 @@
 //! Houses that count the ones of their cells.
 
+pub(crate) mod game;
 pub(crate) mod list;
+pub(crate) mod rules;
 pub(crate) mod run;
-pub(crate) mod table;
+pub(crate) mod tallies;
 pub(crate) mod tally;

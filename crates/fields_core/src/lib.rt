@@ -7,7 +7,10 @@ mod light_up;
 mod planes;
 mod tents;
 
-pub use count::tally::Tally;
+pub use count::game::CountGame;
+pub use count::list::{Bounds, CountList};
+pub use count::rules::CountRules;
+pub use count::tallies::Tallies;
 pub use laws::{
     accepted_lights_are_solutions, accepted_tents_are_solutions, rules_of_lights_are_lawful,
     rules_of_tents_are_lawful,

@@ -8,7 +8,8 @@ use Rattle.gameid_core.proofs.Results.{bind_ok, taken}
 abbrev pub filled : {A : Type 0} → ℕ → List A → List A → Result (List A) IdFault
 filled all cells more = cond (ltb all (length cells + length more)) (Err TooMany) (Ok (cells ++ more))
 
-pub fill_is : {A : Type 0} (token : ℕ → List ℕ → Result (List A) IdFault) (all at : ℕ) (cells : List A) (word : List ℕ) (r : Result (List A) IdFault) → token at word ≡ r → fill_step token all at cells word ≡ (r >>= filled all cells)
+pub fill_is : {A : Type 0} (token : ℕ → List ℕ → Result (List A) IdFault) (all at : ℕ) (cells : List A) (word : List ℕ)
+    (r : Result (List A) IdFault) → token at word ≡ r → fill_step token all at cells word ≡ (r >>= filled all cells)
 fill_is token all at cells word r e = rw e refl
 
 pub fill_end_is : {A : Type 0} (all : ℕ) (cells : List A) (full : Bool) → eqb (length cells) all ≡ full → fill_end all cells ≡ cond full (Ok cells) (Err TooFew)
@@ -18,7 +19,8 @@ abbrev pub fills : {A : Type 0} → (ℕ → List ℕ → Result (List A) IdFaul
 fills token all at cells text = reading (fill_step token all) (fill_end all) at cells (words text)
 
 -- a token of a filling that was taken
-fill_cases : {A : Type 0} (token : ℕ → List ℕ → Result (List A) IdFault) (all at : ℕ) (cells : List A) (word : List ℕ) (t : List A) → fill_step token all at cells word ≡ Ok t → (more : List A) × (token at word ≡ Ok more) × (cells ++ more ≡ t)
+fill_cases : {A : Type 0} (token : ℕ → List ℕ → Result (List A) IdFault) (all at : ℕ) (cells : List A) (word : List ℕ)
+    (t : List A) → fill_step token all at cells word ≡ Ok t → (more : List A) × (token at word ≡ Ok more) × (cells ++ more ≡ t)
 fill_cases token all at cells word t e = grind arith
 
 -- ---- what is read is spelled, and what is spelled is read
@@ -39,7 +41,10 @@ module _ {T A : Type 0} (text : T → List ℕ) (cells : T → List A) (Fits : T
     pub filled : before ++ flat_map cells tokens ≡ all
 
   module _ (token : ℕ → List ℕ → Result (List A) IdFault) where
-    pub cells_spelled : (Is : List ℕ → Type 0) → ((at : ℕ) (word : List ℕ) (more : List A) → Is word → token at word ≡ Ok more → Token word more) → (most at : ℕ) (before : List A) (ws : List (List ℕ)) (all : List A) → AllByRecursion Is ws → reading (fill_step token most) (fill_end most) at before ws ≡ Ok all → Spelled ws before all × (length all ≡ most)
+    pub cells_spelled : (Is : List ℕ → Type 0)
+        → ((at : ℕ) (word : List ℕ) (more : List A) → Is word → token at word ≡ Ok more → Token word more)
+        → (most at : ℕ) (before : List A) (ws : List (List ℕ)) (all : List A) → AllByRecursion Is ws
+        → reading (fill_step token most) (fill_end most) at before ws ≡ Ok all → Spelled ws before all × (length all ≡ most)
     unfolding reading
     cells_spelled Is take most at before [] all w e = grind (arith, common_steps)
     cells_spelled Is take most at before (word ∷ ws) all w e =
@@ -57,11 +62,16 @@ module _ {T A : Type 0} (text : T → List ℕ) (cells : T → List A) (Fits : T
         )
 
     -- tokens that fill the grid are read
-    pub cells_again : ((at : ℕ) (t : T) → Fits t → token at (text t) ≡ Ok (cells t)) → (most at : ℕ) (before : List A) (tokens : List T) → AllByRecursion Fits tokens → length before + length (flat_map cells tokens) ≡ most → reading (fill_step token most) (fill_end most) at before (map text tokens) ≡ Ok (before ++ flat_map cells tokens)
+    pub cells_again : ((at : ℕ) (t : T) → Fits t → token at (text t) ≡ Ok (cells t))
+        → (most at : ℕ) (before : List A) (tokens : List T) → AllByRecursion Fits tokens
+        → length before + length (flat_map cells tokens) ≡ most
+        → reading (fill_step token most) (fill_end most) at before (map text tokens) ≡ Ok (before ++ flat_map cells tokens)
     unfolding reading
     cells_again again most at before [] each full = grind (arith, common_steps, fill_end_is most before true)
     cells_again again most at before (t ∷ tokens) each full =
         let both = length-append (cells t) (flat_map cells tokens) in
         let so_far = length-append before (cells t) in
         let room : length before + length (cells t) ≤ most = omega arith in
-        rw (fill_is token most at before (text t) (Ok (cells t)) (again at t each.0), le-ltb _ _ room) (cells_again again most (at + length (text t)) (before ++ cells t) tokens each.1 (omega arith) ∙ ap (λ (cs : List A). taken cs) (append_assoc before (cells t) (flat_map cells tokens)))
+        rw (fill_is token most at before (text t) (Ok (cells t)) (again at t each.0), le-ltb _ _ room)
+        (cells_again again most (at + length (text t)) (before ++ cells t) tokens each.1 (omega arith)
+        ∙ ap (λ (cs : List A). taken cs) (append_assoc before (cells t) (flat_map cells tokens)))

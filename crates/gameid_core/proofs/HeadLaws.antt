@@ -1,8 +1,8 @@
 -- The part of an ID before its colon: what is read is spelled, and what is spelled is read.
-use Rattle.gameid_core.specs.Common.{Bool, Err, Game, GoesOn, HasNumber, HasSize, HeadRead, IdFault, IsSizeText, IsSoloSizeText, List, None, Ok, Option, Result, Sides, SizeRange, SizeRead, Some, TooLong, Variant, [], after_digits, all_ascii_digits, and_parts, append_assoc, arith, begins, common_steps, cond, decimal, decimal-digits_value, digits_decimal, digits_front, digits_value-decimal, drop, drop_at, eqb, false, false≢true, has_hash, has_x, head_at, head_of, in_range, inl, inr, is_ascii_digit, leb, leb-true, length, length-append, list_any, list_any-append, lt-ltb, ltb, ltb-false, max_id, max_side, nat_tests, position, position-Some, position_or_len, puzzle_of, refl, side_at, sides_at, size_of, size_read, solo_size_text, subst, take, take-append-drop, true, two_sides, value, ℕ, ◌++◌, ◌+◌, ◌<◌, ◌>>=◌, ◌^◌, ◌∷◌, ◌≡◌, ◌≤◌}
+use Rattle.gameid_core.specs.Common.{Bool, Err, Game, GoesOn, HasNumber, HasSize, HeadRead, IdFault, IsSizeText, IsSoloSizeText, List, None, Ok, Option, Result, Sides, SizeRange, SizeRead, Some, TooLong, Variant, [], after_digits, all_ascii_digits, and_parts, append_assoc, arith, begins, common_steps, cond, decimal, decimal-digits_value, digits_decimal, digits_front, digits_value-decimal, drop, drop_at, eqb, false, false≢true, has_hash, has_x, head_at, head_of, in_range, inl, inr, is_ascii_digit, is_lead, leb, leb-true, length, length-append, list_any, list_any-append, lt-ltb, ltb, ltb-false, max_id, max_side, nat_tests, position, position-Some, position_or_len, puzzle_of, refl, side_at, sides_at, size_of, size_read, solo_size_text, subst, take, take-append-drop, true, two_sides, value, ℕ, ◌++◌, ◌+◌, ◌<◌, ◌>>=◌, ◌^◌, ◌∷◌, ◌≡◌, ◌≤◌}
 use Rattle.gameid_core.specs.declared.id.game.Game.TheVariants.{Solo}
 use Rattle.gameid_core.proofs.Results.{bind_ok, not_refused, only_taken, taken, ok_is}
-use Rattle.gameid_core.proofs.Numerals.{front_numeral, own, is_lead, begins_front, decimal_leads}
+use Rattle.gameid_core.proofs.Numerals.{front_numeral, own, begins_front, decimal_leads}
 use Rattle.gameid_core.proofs.Reading.{place}
 
 -- ---- numbers
@@ -27,9 +27,9 @@ pub number_is : (text number rest : List ℕ) → HasNumber text number rest →
 number_is text number rest h = grind (arith, front_numeral number rest h.digits h.all)
 
 -- a number is what is written of its value
-number_decimal : (text number rest : List ℕ) → HasNumber text number rest → value number < 2 ^ 64 → decimal (value number) ≡ number
-number_decimal text [] rest h small = absurd (false≢true h.lead)
-number_decimal text (b ∷ ds) rest h small =
+number_decimal : {text : List ℕ} (number : List ℕ) {rest : List ℕ} → HasNumber text number rest → value number < 2 ^ 64 → decimal (value number) ≡ number
+number_decimal [] h small = absurd (false≢true h.lead)
+number_decimal (b ∷ ds) h small =
     let low : 49 ≤ b = leb-true _ _ (and_parts (leb 49 b) (leb b 57) h.lead).0 in
     decimal-digits_value own (b ∷ ds) h.digits (omega arith) (λ zero. absurd (omega arith)) small
 
@@ -37,21 +37,21 @@ side_read : (text number rest : List ℕ) → HasNumber text number rest → sid
 unfolding side_at
 side_read text number rest h = grind (arith, number_is text number rest h)
 
-pub side_again : (n : ℕ) (rest : List ℕ) → n < 2 ^ 64 → 0 < n → begins is_ascii_digit rest ≡ false → side_at (decimal n ++ rest) ≡ Ok (n, rest)
+pub side_again : {n : ℕ} (rest : List ℕ) → n < 2 ^ 64 → 0 < n → begins is_ascii_digit rest ≡ false → side_at (decimal n ++ rest) ≡ Ok (n, rest)
 unfolding side_at
-side_again n rest small some other = grind (arith, begins_front, decimal_leads, front_numeral, digits_decimal, own, digits_value-decimal)
+side_again rest small some other = grind (arith, begins_front, decimal_leads, front_numeral, digits_decimal, own, digits_value-decimal)
 
 -- ---- both sides
 
 abbrev one_side : ℕ → List ℕ → Sides
 one_side a rest = record { w = a; h = a; x = false; rest = rest }
 
-x_first : (text : List ℕ) → begins (λ c. eqb c 120) text ≡ true → text ≡ 120 ∷ drop 1 text
-x_first text e = grind arith
+x_first : {text : List ℕ} → begins (λ c. eqb c 120) text ≡ true → text ≡ 120 ∷ drop 1 text
+x_first e = grind arith
 
-side_found : (text : List ℕ) (x : ℕ × List ℕ) → side_at text ≡ Ok x → (number : List ℕ) × HasNumber text number x.1 × (value number ≡ x.0)
+side_found : (text : List ℕ) {x : ℕ × List ℕ} → side_at text ≡ Ok x → (number : List ℕ) × HasNumber text number x.1 × (value number ≡ x.0)
 unfolding side_at
-side_found text x e = grind (arith, number_in text)
+side_found text e = grind (arith, number_in text)
 
 -- ---- the size
 
@@ -67,14 +67,17 @@ digits_lack : (k : ℕ) (ds : List ℕ) → is_ascii_digit k ≡ false → all_a
 digits_lack k [] other d = refl
 digits_lack k (c ∷ ds) other d = grind (arith, nat_tests, digits_lack k ds other)
 
-size_lacks : (k : ℕ) (front : List ℕ) (a b : ℕ) → is_ascii_digit k ≡ false → eqb 120 k ≡ false → a < 2 ^ 64 → b < 2 ^ 64 → IsSizeText front a b → list_any (λ c. eqb c k) front ≡ false
-size_lacks k front a b other x small_a small_b h8 = grind (arith, common_steps, list_any-append, digits_lack, digits_decimal, own)
+size_lacks : (k : ℕ) {front : List ℕ} (a b : ℕ) → is_ascii_digit k ≡ false → eqb 120 k ≡ false → a < 2 ^ 64 → b < 2 ^ 64
+    → IsSizeText front a b → list_any (λ c. eqb c k) front ≡ false
+size_lacks k a b other x small_a small_b size_text = grind (arith, common_steps, list_any-append, digits_lack, digits_decimal, own)
 
-pub place_of : (p : ℕ → Bool) (front : List ℕ) (c : ℕ) (rest : List ℕ) → list_any p front ≡ false → p c ≡ true → position_or_len p (front ++ c ∷ rest) ≡ length front
+pub place_of : (p : ℕ → Bool) (front : List ℕ) (c : ℕ) (rest : List ℕ) → list_any p front ≡ false → p c ≡ true
+    → position_or_len p (front ++ c ∷ rest) ≡ length front
 place_of p [] c rest none here = rw here refl
 place_of p (b ∷ front) c rest none here = grind (arith, nat_tests, place_of p front c rest)
 
-pub position_at : (p : ℕ → Bool) (front : List ℕ) (c : ℕ) (rest : List ℕ) → list_any p front ≡ false → p c ≡ true → position p (front ++ c ∷ rest) ≡ Some (length front)
+pub position_at : (p : ℕ → Bool) (front : List ℕ) (c : ℕ) (rest : List ℕ) → list_any p front ≡ false → p c ≡ true
+    → position p (front ++ c ∷ rest) ≡ Some (length front)
 position_at p front c rest none here = grind (arith, common_steps, place_of p front c rest none here)
 
 colon_splits : (text : List ℕ) (k : ℕ) → position (λ c. eqb c 58) text ≡ Some k → text ≡ take k text ++ 58 ∷ drop (k + 1) text
@@ -88,46 +91,59 @@ after_front front rest = grind (arith, append_assoc front (58 ∷ []) rest, drop
 
 module _ (game : Game) where
   -- a size that the text begins with is read
-  pub has_size_read : (text : List ℕ) (size : Sides) → HasSize game text size → sides_at game text ≡ taken size
+  pub has_size_read : {text : List ℕ} {size : Sides} → HasSize game text size → sides_at game text ≡ taken size
   unfolding sides_at
-  has_size_read text size h3 = grind (arith, common_steps, side_read)
+  has_size_read size = grind (arith, common_steps, side_read)
 
   goes_on : (after : List ℕ) → GoesOn game after (has_x game after) (cond (has_x game after) (drop 1 after) after)
   goes_on after = grind arith
 
   one_found : (text : List ℕ) (x : ℕ × List ℕ) → side_at text ≡ Ok x → begins (λ c. eqb c 120) x.1 ≡ false → HasSize game text (one_side x.0 x.1)
   one_found text x e alone =
-      let l = side_found text x e in
+      let l = side_found text e in
       inl (record { side = l.0; number = l.1; alone = alone; both = (l.2, l.2); plain = refl })
 
-  two_found : (text : List ℕ) (x y : ℕ × List ℕ) → side_at text ≡ Ok x → begins (λ c. eqb c 120) x.1 ≡ true → side_at (drop 1 x.1) ≡ Ok y → HasSize game text (two_sides game x.0 y.0 y.1)
+  two_found : (text : List ℕ) (x y : ℕ × List ℕ) → side_at text ≡ Ok x → begins (λ c. eqb c 120) x.1 ≡ true
+      → side_at (drop 1 x.1) ≡ Ok y → HasSize game text (two_sides game x.0 y.0 y.1)
   two_found text x y e two f =
-      let l = side_found text x e in
-      let r = side_found (drop 1 x.1) y f in
-      inr (record { left = l.0; right = r.0; behind = drop 1 x.1; after = y.1; first = subst (λ t. HasNumber text l.0 t) (x_first x.1 two) l.1; second = r.1; goes_on = goes_on y.1; both = (l.2, r.2) })
+      let l = side_found text e in
+      let r = side_found (drop 1 x.1) f in
+      inr (record {
+        w_digits = l.0;
+        h_digits = r.0;
+        behind = drop 1 x.1;
+        after = y.1;
+        first = subst (λ t. HasNumber text l.0 t) (x_first two) l.1;
+        second = r.1;
+        goes_on = goes_on y.1;
+        both = (l.2, r.2);
+      })
 
   -- and what is read is such a size
-  pub sides_found : (text : List ℕ) (size : Sides) → sides_at game text ≡ taken size → HasSize game text size
+  pub sides_found : {text : List ℕ} {size : Sides} → sides_at game text ≡ taken size → HasSize game text size
   unfolding sides_at
-  sides_found text size e = grind (arith, common_steps, one_found text, two_found text)
+  sides_found {text} e = grind (arith, common_steps, one_found text, two_found text)
 
   -- a size of the game, with the 'x' of Solo X or without
   abbrev pub IsGameSize : List ℕ → ℕ → ℕ → Bool → Type 0
   IsGameSize front a b false = IsSizeText front a b
   IsGameSize front a b true = (game ≡ Solo) × (front ≡ solo_size_text a b true)
 
-  pub plain_size : (front : List ℕ) (a b : ℕ) (x : Bool) → (game ≡ Solo → ⊥) → IsGameSize front a b x → IsSizeText front a b
-  plain_size front a b x other s = grind arith
+  pub plain_size : {front : List ℕ} (a b : ℕ) (x : Bool) → (game ≡ Solo → ⊥) → IsGameSize front a b x → IsSizeText front a b
+  plain_size a b x other s = grind arith
 
-  game_size : (text : List ℕ) (s : Sides) → s.w < 2 ^ 64 → s.h < 2 ^ 64 → length s.rest ≤ 0 → HasSize game text s → IsGameSize text s.w s.h s.x
-  game_size text s small_w small_h none (inl one) = grind (arith, common_steps, number_decimal text one.side s.rest one.number)
-  game_size text s small_w small_h none (inr two) = grind (arith, common_steps, number_decimal text two.left (120 ∷ two.behind) two.first, number_decimal two.behind two.right two.after two.second)
+  game_size : (text : List ℕ) {s : Sides} → s.w < 2 ^ 64 → s.h < 2 ^ 64 → length s.rest ≤ 0 → HasSize game text s → IsGameSize text s.w s.h s.x
+  game_size text small_w small_h none (inl one) = grind (arith, common_steps, number_decimal one.side one.number)
+  game_size text small_w small_h none (inr two) = grind (arith, common_steps, number_decimal two.w_digits two.first, number_decimal two.h_digits two.second)
 
-  pub sides_again : (front : List ℕ) (a b : ℕ) (x : Bool) → a < 2 ^ 64 → b < 2 ^ 64 → 0 < a → 0 < b → IsGameSize front a b x → sides_at game front ≡ Ok (record { w = a; h = b; x = x; rest = [] })
+  pub sides_again : (front : List ℕ) (a b : ℕ) (x : Bool) → a < 2 ^ 64 → b < 2 ^ 64 → 0 < a → 0 < b → IsGameSize front a b x
+      → sides_at game front ≡ Ok (record { w = a; h = b; x = x; rest = [] })
   unfolding sides_at
-  sides_again front a b false small_a small_b some_a some_b (inl e) = grind (arith, common_steps, side_again a (120 ∷ decimal b) small_a some_a refl, side_again b [] small_b some_b refl)
-  sides_again front a b false small_a small_b some_a some_b (inr e) = grind (arith, common_steps, side_again a [] small_a some_a refl)
-  sides_again front a b true small_a small_b some_a some_b e = grind (arith, common_steps, side_again a (120 ∷ (decimal b ++ 120 ∷ [])) small_a some_a refl, side_again b (120 ∷ []) small_b some_b refl)
+  sides_again front a b false small_a small_b some_a some_b (inl e) =
+      grind (arith, common_steps, side_again (120 ∷ decimal b) small_a some_a refl, side_again [] small_b some_b refl)
+  sides_again front a b false small_a small_b some_a some_b (inr e) = grind (arith, common_steps, side_again [] small_a some_a refl)
+  sides_again front a b true small_a small_b some_a some_b e =
+      grind (arith, common_steps, side_again (120 ∷ (decimal b ++ 120 ∷ [])) small_a some_a refl, side_again (120 ∷ []) small_b some_b refl)
 
   pub range_small : (a b : ℕ) → in_range game a b ≡ true → Small a b
   range_small a b e = grind arith
@@ -135,18 +151,22 @@ module _ (game : Game) where
   pub size_take : (text : List ℕ) (size : SizeRead) → size_of game text ≡ Ok size → IsGameSize text size.w size.h size.x × (in_range game size.w size.h ≡ true)
   unfolding size_of
   size_take text size e =
-      let s = bind_ok (sides_at game text) (λ s. cond (ltb 0 (length s.rest)) (Err Variant) (cond (in_range game s.w s.h) (taken (size_read s.w s.h s.x)) (Err SizeRange))) size e in
-      let c = not_refused (ltb 0 (length s.0.rest)) _ _ _ s.2 in
-      let d = only_taken (in_range game s.0.w s.0.h) _ _ _ c.1 in
+      let s =
+      bind_ok (sides_at game text)
+      (λ s. cond (ltb 0 (length s.rest)) (Err Variant)
+      (cond (in_range game s.w s.h) (taken (size_read s.w s.h s.x)) (Err SizeRange))) size e in
+      let c = not_refused (ltb 0 (length s.0.rest)) _ s.2 in
+      let d = only_taken (in_range game s.0.w s.0.h) _ c.1 in
       let small = range_small s.0.w s.0.h d.0 in
-      let here = game_size text s.0 (omega (arith, small.a_small)) (omega (arith, small.b_small)) (ltb-false _ _ c.0) (sides_found text s.0 s.1) in
+      let here = game_size text (omega (arith, small.a_small)) (omega (arith, small.b_small)) (ltb-false _ _ c.0) (sides_found s.1) in
       subst (λ (z : SizeRead). IsGameSize text z.w z.h z.x × (in_range game z.w z.h ≡ true)) (ok_is (size_read s.0.w s.0.h s.0.x) size d.1) (here, d.0)
 
   pub size_again : (front : List ℕ) (a b : ℕ) (x : Bool) → IsGameSize front a b x → in_range game a b ≡ true → size_of game front ≡ Ok (size_read a b x)
   unfolding size_of
   size_again front a b x text range = grind (arith, range_small a b range, sides_again front a b x)
 
-  game_size_lacks : (k : ℕ) (front : List ℕ) (a b : ℕ) (x : Bool) → is_ascii_digit k ≡ false → eqb 120 k ≡ false → a < 2 ^ 64 → b < 2 ^ 64 → IsGameSize front a b x → list_any (λ c. eqb c k) front ≡ false
+  game_size_lacks : (k : ℕ) (front : List ℕ) (a b : ℕ) (x : Bool) → is_ascii_digit k ≡ false → eqb 120 k ≡ false → a < 2 ^ 64
+      → b < 2 ^ 64 → IsGameSize front a b x → list_any (λ c. eqb c k) front ≡ false
   game_size_lacks k front a b x other x' small_a small_b s = grind (arith, common_steps, size_lacks)
 
   pub record IsHead (text : List ℕ) (head : HeadRead) : Type 0 where
@@ -156,22 +176,27 @@ module _ (game : Game) where
     pub range : in_range game head.size.w head.size.h ≡ true
     pub short : length text ≤ max_id
 
-  colon_take : (text : List ℕ) (head : HeadRead) (o : Option ℕ) → length text ≤ max_id → position (λ c. eqb c 58) text ≡ o → head_at game text o ≡ Ok head → IsHead text head
+  colon_take : (text : List ℕ) (head : HeadRead) (o : Option ℕ) → length text ≤ max_id → position (λ c. eqb c 58) text ≡ o
+      → head_at game text o ≡ Ok head → IsHead text head
   unfolding head_at
   colon_take text head None short o e = grind arith
   colon_take text head (Some k) short o e =
-      let c = not_refused (has_hash (take k text)) _ _ _ e in
+      let c = not_refused (has_hash (take k text)) _ e in
       let s = bind_ok (size_of game (take k text)) (λ size. taken (described size (k + 1))) head c.1 in
       let t = size_take (take k text) s.0 s.1 in
-      subst (λ (h : HeadRead). IsHead text h) (ok_is (described s.0 (k + 1)) head s.2) (record { front = take k text; parts = colon_splits text k o; size = t.0; range = t.1; short = short })
+      subst (λ (h : HeadRead). IsHead text h) (ok_is (described s.0 (k + 1)) head s.2)
+      (record { front = take k text; parts = colon_splits text k o; size = t.0; range = t.1; short = short })
 
-  pub head_take : (text : List ℕ) (head : HeadRead) → head_of game text ≡ Ok head → IsHead text head
+  pub head_take : {text : List ℕ} {head : HeadRead} → head_of game text ≡ Ok head → IsHead text head
   unfolding head_of
-  head_take text head e = grind (arith, colon_take)
+  head_take e = grind (arith, colon_take)
 
-  head_again : (front rest : List ℕ) (a b : ℕ) (x : Bool) → IsGameSize front a b x → in_range game a b ≡ true → length (front ++ 58 ∷ rest) ≤ max_id → head_of game (front ++ 58 ∷ rest) ≡ Ok (record { size = size_read a b x; description = length front + 1 })
+  head_again : (front rest : List ℕ) (a b : ℕ) (x : Bool) → IsGameSize front a b x → in_range game a b ≡ true
+      → length (front ++ 58 ∷ rest) ≤ max_id
+      → head_of game (front ++ 58 ∷ rest) ≡ Ok (record { size = size_read a b x; description = length front + 1 })
   unfolding head_of head_at
-  head_again front rest a b x text range short = grind (arith, common_steps, range_small a b range, position_at, game_size_lacks 58 front a b x refl refl, game_size_lacks 35 front a b x refl refl, size_again front a b x text range)
+  head_again front rest a b x text range short =
+      grind (arith, common_steps, range_small a b range, position_at, game_size_lacks 58 front a b x refl refl, game_size_lacks 35 front a b x refl refl, size_again front a b x text range)
 
   head_too_long : (text : List ℕ) → max_id < length text → head_of game text ≡ Err TooLong
   unfolding head_of
@@ -191,15 +216,20 @@ pub record Parts {B P : Type 0} (game : Game) (text : List ℕ) (body : HeadRead
   pub read : body head (drop head.description text) ≡ Ok given
   pub made : make head given ≡ p
 
-pub parts_of : {B P : Type 0} (game : Game) (text : List ℕ) (body : HeadRead → List ℕ → Result B IdFault) (make : HeadRead → B → P) (p : P) → puzzle_of game (λ head description. body head description >>= (λ b. taken (make head b))) text ≡ Ok p → Parts game text body make p
+pub parts_of : {B P : Type 0} (game : Game) (text : List ℕ) (body : HeadRead → List ℕ → Result B IdFault)
+    (make : HeadRead → B → P) {p : P} → puzzle_of game (λ head description. body head description >>= (λ b. taken (make head b)))
+    text ≡ Ok p → Parts game text body make p
 unfolding puzzle_of
-parts_of game text body make p e = grind (arith, head_take)
+parts_of game text body make e = grind (arith, head_take)
 
 -- a size, ':' and a description are read as the description is behind that size
-pub puzzle_again : {P : Type 0} (game : Game) (behind : HeadRead → List ℕ → Result P IdFault) (front rest : List ℕ) (a b : ℕ) (x : Bool) → IsGameSize game front a b x → in_range game a b ≡ true → length (front ++ 58 ∷ rest) ≤ max_id → puzzle_of game behind (front ++ 58 ∷ rest) ≡ behind (record { size = size_read a b x; description = length front + 1 }) rest
+pub puzzle_again : {P : Type 0} (game : Game) (behind : HeadRead → List ℕ → Result P IdFault) (front rest : List ℕ) (a b : ℕ)
+    (x : Bool) → IsGameSize game front a b x → in_range game a b ≡ true → length (front ++ 58 ∷ rest) ≤ max_id
+    → puzzle_of game behind (front ++ 58 ∷ rest) ≡ behind (record { size = size_read a b x; description = length front + 1 }) rest
 unfolding puzzle_of
 puzzle_again game behind front rest a b x size range short = rw (head_again game front rest a b x size range short, after_front front rest) refl
 
-pub puzzle_too_long : {P : Type 0} (game : Game) (behind : HeadRead → List ℕ → Result P IdFault) (text : List ℕ) → max_id < length text → puzzle_of game behind text ≡ Err TooLong
+pub puzzle_too_long : {P : Type 0} (game : Game) (behind : HeadRead → List ℕ → Result P IdFault) (text : List ℕ)
+    → max_id < length text → puzzle_of game behind text ≡ Err TooLong
 unfolding puzzle_of
 puzzle_too_long game behind text over = rw (head_too_long game text over) refl

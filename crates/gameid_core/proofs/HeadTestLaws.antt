@@ -12,20 +12,21 @@ IsJudged fails tests (Err f) = IsFirstFailed fails tests f
 
 -- ---- a size
 
-passed : {A : Type 0} (fails : IdFault → Type 0) (t : IdFault) (tests : List IdFault) (r : Result A IdFault) → (fails t → ⊥) → IsJudged fails tests r → IsJudged fails (t ∷ tests) r
+passed : {A : Type 0} (fails : IdFault → Type 0) (t : IdFault) (tests : List IdFault) (r : Result A IdFault) → (fails t → ⊥)
+    → IsJudged fails tests r → IsJudged fails (t ∷ tests) r
 passed fails t tests r passes h = grind arith
 
 module _ (game : Game) (text : List ℕ) where
   abbrev Judged : Result SizeRead IdFault → Type 0
   Judged r = IsJudged (FailsSize game text) size_tests r
 
-  sides_fault : (f : IdFault) → sides_at game text ≡ Err f → f ≡ BadSize
+  sides_fault : {f : IdFault} → sides_at game text ≡ Err f → f ≡ BadSize
   unfolding sides_at side_at
-  sides_fault f e = grind arith
+  sides_fault e = grind arith
 
   -- a text begins with one size at most
   size_is : (s other : Sides) → HasSize game text s → HasSize game text other → s ≡ other
-  size_is s other p q = ok_is s other (sym (has_size_read game text s p) ∙ has_size_read game text other q)
+  size_is s other p q = ok_is s other (sym (has_size_read game p) ∙ has_size_read game q)
 
   no_variant : (s : Sides) → HasSize game text s → length s.rest ≤ 0 → FailsSize game text Variant → ⊥
   no_variant s h none v = grind (arith, size_is v.0 s v.1 h)
@@ -33,17 +34,21 @@ module _ (game : Game) (text : List ℕ) where
   no_range : (s : Sides) → HasSize game text s → in_range game s.w s.h ≡ true → FailsSize game text SizeRange → ⊥
   no_range s h range v = false≢true (sym v.2 ∙ ap (λ (z : Sides). in_range game z.w z.h) (size_is v.0 s v.1 h) ∙ range)
 
-  of_range : (s : Sides) (fits : Bool) → HasSize game text s → length s.rest ≤ 0 → in_range game s.w s.h ≡ fits → Judged (cond fits (Ok (size_read s.w s.h s.x)) (Err SizeRange))
+  of_range : (s : Sides) (fits : Bool) → HasSize game text s → length s.rest ≤ 0 → in_range game s.w s.h ≡ fits
+      → Judged (cond fits (Ok (size_read s.w s.h s.x)) (Err SizeRange))
   of_range s true h none e = ((λ no. no s h), (no_variant s h none, (no_range s h e, tt)))
   of_range s false h none e = inr ((λ no. no s h), inr (no_variant s h none, inl (refl, (s, h, e))))
 
-  of_rest : (s : Sides) (more : Bool) → HasSize game text s → ltb 0 (length s.rest) ≡ more → Judged (cond more (Err Variant) (cond (in_range game s.w s.h) (Ok (size_read s.w s.h s.x)) (Err SizeRange)))
+  of_rest : (s : Sides) (more : Bool) → HasSize game text s → ltb 0 (length s.rest) ≡ more
+      → Judged (cond more (Err Variant) (cond (in_range game s.w s.h) (Ok (size_read s.w s.h s.x)) (Err SizeRange)))
   of_rest s true h e = inr ((λ no. no s h), inl (refl, (s, h, ltb-true _ _ e)))
   of_rest s false h e = of_range s _ h (ltb-false _ _ e) refl
 
-  of_sides : (r : Result Sides IdFault) → sides_at game text ≡ r → Judged (r >>= (λ s. cond (ltb 0 (length s.rest)) (Err Variant) (cond (in_range game s.w s.h) (Ok (size_read s.w s.h s.x)) (Err SizeRange))))
-  of_sides (Err f) e = inl (sym (sides_fault f e), λ size has. (let bad : taken size ≡ Err f = sym (has_size_read game text size has) ∙ e in absurd cc))
-  of_sides (Ok s) e = of_rest s _ (sides_found game text s e) refl
+  of_sides : (r : Result Sides IdFault) → sides_at game text ≡ r
+      → Judged (r >>= (λ s. cond (ltb 0 (length s.rest)) (Err Variant)
+      (cond (in_range game s.w s.h) (Ok (size_read s.w s.h s.x)) (Err SizeRange))))
+  of_sides (Err f) e = inl (sym (sides_fault e), λ size has. (let bad : taken size ≡ Err f = sym (has_size_read game has) ∙ e in absurd cc))
+  of_sides (Ok s) e = of_rest s _ (sides_found game e) refl
 
   pub size_judged : IsJudged {A = SizeRead} (FailsSize game text) size_tests (size_of game text)
   unfolding size_of
@@ -87,21 +92,21 @@ none_at byte (b ∷ text) h = rw (ne_eqb b byte h.0) (omega (arith, none_at byte
 position_none : (byte : ℕ) (text : List ℕ) → Lacks byte text → position (λ b. eqb b byte) text ≡ None
 position_none byte text h = grind (arith, none_at byte text h)
 
-head_byte : (b c : ℕ) (xs ys : List ℕ) → b ∷ xs ≡ c ∷ ys → b ≡ c
-head_byte b c xs ys e = ap (λ t. get_or t 0 0) e
+head_byte : {b c : ℕ} {xs ys : List ℕ} → b ∷ xs ≡ c ∷ ys → b ≡ c
+head_byte e = ap (λ t. get_or t 0 0) e
 
 -- one byte with no other before it, and the other with none of the one before it, can't both stand in a text
 crossed : (byte other : ℕ) → (byte ≡ other → ⊥) → (f g r s : List ℕ) → f ++ byte ∷ r ≡ g ++ other ∷ s → Lacks other f → Lacks byte g → ⊥
-crossed byte other apart [] [] r s e lf lg = apart (head_byte byte other r s e)
-crossed byte other apart [] (c ∷ g) r s e lf lg = lg.0 (sym (head_byte byte c r (g ++ other ∷ s) e))
-crossed byte other apart (b ∷ f) [] r s e lf lg = lf.0 (head_byte b other (f ++ byte ∷ r) s e)
+crossed byte other apart [] [] r s e lf lg = apart (head_byte e)
+crossed byte other apart [] (c ∷ g) r s e lf lg = lg.0 (sym (head_byte e))
+crossed byte other apart (b ∷ f) [] r s e lf lg = lf.0 (head_byte e)
 crossed byte other apart (b ∷ f) (c ∷ g) r s e lf lg = crossed byte other apart f g r s (ap (drop 1) e) lf.1 lg.1
 
 -- what stands before the first of a byte is one text
 front_is : (byte : ℕ) (f g r s : List ℕ) → f ++ byte ∷ r ≡ g ++ byte ∷ s → Lacks byte f → Lacks byte g → f ≡ g
 front_is byte [] [] r s e lf lg = refl
-front_is byte [] (c ∷ g) r s e lf lg = absurd (lg.0 (sym (head_byte byte c r (g ++ byte ∷ s) e)))
-front_is byte (b ∷ f) [] r s e lf lg = absurd (lf.0 (head_byte b byte (f ++ byte ∷ r) s e))
+front_is byte [] (c ∷ g) r s e lf lg = absurd (lg.0 (sym (head_byte e)))
+front_is byte (b ∷ f) [] r s e lf lg = absurd (lf.0 (head_byte e))
 front_is byte (b ∷ f) (c ∷ g) r s e lf lg = grind (arith, front_is byte f g r s (ap (drop 1) e) lf.1 lg.1)
 
 -- ---- the part before the colon
@@ -116,9 +121,10 @@ module _ (fails other : IdFault → Type 0) where
 
   first_moved : (tests : List IdFault) (f : IdFault) → Same tests → IsFirstFailed fails tests f → IsFirstFailed other tests f
   first_moved [] f same h = grind arith
-  first_moved (x1 ∷ xs1) f same h = grind (arith, first_moved xs1)
+  first_moved (x ∷ xs) f same h = grind (arith, first_moved xs)
 
-  judged_moved : {A B : Type 0} (tests : List IdFault) (g : A → B) (r : Result A IdFault) → Same tests → IsJudged fails tests r → IsJudged other tests (r >>= (λ x. Ok (g x)))
+  judged_moved : {A B : Type 0} (tests : List IdFault) (g : A → B) (r : Result A IdFault) → Same tests → IsJudged fails tests r
+      → IsJudged other tests (r >>= (λ x. Ok (g x)))
   judged_moved tests g r same h = grind (arith, common_steps, all_moved, first_moved)
 
 module _ (game : Game) (text : List ℕ) where
@@ -137,12 +143,20 @@ module _ (game : Game) (text : List ℕ) where
       let hash : has_hash text ≡ true = ap (list_any (λ b. eqb b 35)) s.2 ∙ any_has 35 s.0 s.1 in
       rw hash (inl (refl, hash_first s (lacks_front 58 s.0 (35 ∷ s.1) (subst (Lacks 58) s.2 none))))
 
-  behind : (front rest : List ℕ) → Comes 58 text front rest → Lacks 35 front ⊎ Split 35 front → Behind (cond (has_hash front) (Err SeedId) (size_of game front >>= (λ size. Ok (record { size = size; description = length front + 1 }))))
+  behind : (front rest : List ℕ) → Comes 58 text front rest → Lacks 35 front ⊎ Split 35 front
+      → Behind (cond (has_hash front) (Err SeedId)
+      (size_of game front >>= (λ size. Ok (record { size = size; description = length front + 1 }))))
   behind front rest colon (inl h) =
       let seed : fails SeedId → ⊥ = λ c. crossed 58 35 (λ e. absurd (omega (arith, e))) front c.0 rest c.1 (sym colon.parts ∙ c.2.parts) h c.2.first in
-      let same : (t : IdFault) → (FailsSize game front t ↔ ((f r : List ℕ) × Comes 58 text f r × FailsSize game f t)) = λ t. ((λ x. (front, rest, colon, x)), λ c. subst (λ f. FailsSize game f t) (front_is 58 c.0 front c.1 rest (sym c.2.parts ∙ colon.parts) c.2.first colon.first) c.3) in
-      let moved = judged_moved (FailsSize game front) fails size_tests (λ (size : SizeRead). record { size = size; description = length front + 1 }) (size_of game front) (same BadSize, (same Variant, (same SizeRange, tt))) (size_judged game front) in
-      rw (any_lacks 35 front h) (passed fails SeedId (NoColon ∷ size_tests) _ seed (passed fails NoColon size_tests _ (λ none. no_byte 58 front rest (subst (Lacks 58) colon.parts none)) moved))
+      let same : (t : IdFault) → (FailsSize game front t ↔ ((f r : List ℕ) × Comes 58 text f r × FailsSize game f t)) =
+      λ t. ((λ x. (front, rest, colon, x)), λ c. subst (λ f. FailsSize game f t) (front_is 58 c.0 front c.1 rest (sym c.2.parts ∙ colon.parts) c.2.first colon.first) c.3) in
+      let moved =
+      judged_moved (FailsSize game front) fails size_tests
+      (λ (size : SizeRead). record { size = size; description = length front + 1 }) (size_of game front)
+      (same BadSize, (same Variant, (same SizeRange, tt))) (size_judged game front) in
+      rw (any_lacks 35 front h)
+      (passed fails SeedId (NoColon ∷ size_tests) _ seed
+      (passed fails NoColon size_tests _ (λ none. no_byte 58 front rest (subst (Lacks 58) colon.parts none)) moved))
   behind front rest colon (inr s) =
       let hash : has_hash front ≡ true = ap (list_any (λ b. eqb b 35)) s.2 ∙ any_has 35 s.0 s.1 in
       let whole : text ≡ s.0 ++ 35 ∷ (s.1 ++ 58 ∷ rest) = colon.parts ∙ ap (λ t. t ++ 58 ∷ rest) s.2 ∙ append_assoc s.0 (35 ∷ s.1) (58 ∷ rest) in
@@ -152,11 +166,13 @@ module _ (game : Game) (text : List ℕ) where
   unfolding head_at
   head_at_judged (inl none) = rw (position_none 58 text none) (without none (split 35 text))
   head_at_judged (inr s) =
-      let at : position (λ b. eqb b 58) text ≡ Some (length s.0) = ap (position (λ b. eqb b 58)) s.2 ∙ position_at (λ b. eqb b 58) s.0 58 s.1 (any_lacks 58 s.0 s.3) refl in
+      let at : position (λ b. eqb b 58) text ≡ Some (length s.0) =
+      ap (position (λ b. eqb b 58)) s.2 ∙ position_at (λ b. eqb b 58) s.0 58 s.1 (any_lacks 58 s.0 s.3) refl in
       let before : take (length s.0) text ≡ s.0 = ap (take (length s.0)) s.2 ∙ take_at s.0 (58 ∷ s.1) (length s.0) refl in
       rw (at, before) (behind s.0 s.1 (record { parts = s.2; first = s.3 }) (split 35 s.0))
 
-  judged : (over : Bool) → ltb max_id (length text) ≡ over → IsJudged fails head_tests (cond over (Err TooLong) (head_at game text (position (λ b. eqb b 58) text)))
+  judged : (over : Bool) → ltb max_id (length text) ≡ over
+      → IsJudged fails head_tests (cond over (Err TooLong) (head_at game text (position (λ b. eqb b 58) text)))
   judged true e = inl (refl, ltb-true _ _ e)
   judged false e = passed fails TooLong (SeedId ∷ NoColon ∷ size_tests) _ (λ over. absurd (omega (arith, ltb-false _ _ e))) (head_at_judged (split 58 text))
 

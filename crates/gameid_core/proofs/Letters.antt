@@ -37,7 +37,7 @@ pub letters_short : (k : ℕ) → length (letters k) ≤ k
 letters_short k = grind (arith, common_steps, letters_none, letters_are, letters_of_length)
 
 -- one byte more is written, and one byte less is left
-pub push_step : (out : List ℕ) (b : ℕ) (new rest all old : List ℕ) → new ≡ out ++ b ∷ [] → all ≡ b ∷ rest → out ++ all ≡ old → new ++ rest ≡ old
-push_step out b new rest all old e f so = grind (arith, common_steps)
+pub push_step : (out : List ℕ) (b : ℕ) {new rest all old : List ℕ} → new ≡ out ++ b ∷ [] → all ≡ b ∷ rest → out ++ all ≡ old → new ++ rest ≡ old
+push_step out b e f so = grind (arith, common_steps)
 
 pub ruleset turns = (common_steps, push_step, letters_none, letters_more, letters_last)

@@ -1,5 +1,6 @@
 pub mod CellsReading
 pub mod CluesLaws
+pub mod FirstFailed
 pub mod GameLaws
 pub mod HeadLaws
 pub mod HeadTestLaws

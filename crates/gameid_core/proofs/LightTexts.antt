@@ -14,8 +14,8 @@ lights all at cells text = reading (fill_step light_token all) (fill_end all) at
 pub wide_of : (w h : ℕ) → in_range game.LightUp w h ≡ true → IsWide (record { w = w; h = h })
 wide_of w h e = grind arith
 
-pub cells_few : (size : Extent) → IsExtent size → size.w * size.h ≤ max_side * max_side
-cells_few size h = grind arith
+pub cells_few : {size : Extent} → IsExtent size → size.w * size.h ≤ max_side * max_side
+cells_few h = grind arith
 
 abbrev pub sized : ℕ → ℕ → Extent
 sized w h = record { w = w; h = h }
@@ -60,9 +60,13 @@ record LightDescribed (all : ℕ) (description : List ℕ) (cells : List LightCe
 
 light_take : (all at : ℕ) (description : List ℕ) (cells : List LightCell) → light_cells_at all at description ≡ Ok cells → LightDescribed all description cells
 light_take all at description cells e =
-    let s = cells_spelled light_token_text light_token_cells IsLightToken light_token IsByte token_byte all at [] (map (λ b. b ∷ []) description) cells (are_bytes description) e in
+    let s =
+    cells_spelled light_token_text light_token_cells IsLightToken light_token IsByte token_byte all at []
+    (map (λ b. b ∷ []) description) cells (are_bytes description) e in
     let r = s.0 in
-    let parts : description ≡ map light_token_byte r.tokens = sym (concat_bytes description) ∙ ap concat (sym r.texts ∙ sym (texts_are r.tokens)) ∙ concat_bytes (map light_token_byte r.tokens) in
+    let parts : description ≡ map light_token_byte r.tokens =
+    sym (concat_bytes description) ∙ ap concat (sym r.texts ∙ sym (texts_are r.tokens))
+    ∙ concat_bytes (map light_token_byte r.tokens) in
     record { tokens = r.tokens; parts = parts; each = r.each; filled = r.filled; count = s.1 }
 
 -- ---- what is read fits
@@ -72,11 +76,15 @@ token_fits (whites k) h = AllByRecursion-replicate IsLightCell White k tt
 token_fits black h = (tt, tt)
 token_fits (numbered n) h = (h, tt)
 
-light_lawful : {w h : ℕ} {cells : List LightCell} (at : ℕ) (description : List ℕ) → in_range game.LightUp w h ≡ true → light_cells_at (w * h) at description ≡ Ok cells → IsLight (record { size = record { w = w; h = h }; cells = cells })
-light_lawful {w = w} {h = h} {cells = cells} at description range e = grind (arith, light_take (w * h) at description cells e, AllByRecursion-flat_map IsLightToken IsLightCell light_token_cells token_fits)
+light_lawful : {w h : ℕ} {cells : List LightCell} (at : ℕ) (description : List ℕ) → in_range game.LightUp w h ≡ true
+    → light_cells_at (w * h) at description ≡ Ok cells → IsLight (record { size = record { w = w; h = h }; cells = cells })
+light_lawful {w = w} {h = h} {cells = cells} at description range e =
+    grind (arith, light_take (w * h) at description cells e, AllByRecursion-flat_map IsLightToken IsLightCell light_token_cells token_fits)
 
-pub light_fits : (size : Extent) (w h all at : ℕ) (description : List ℕ) (cells : List LightCell) → size ≡ sized w h → all ≡ size.w * size.h → in_range game.LightUp w h ≡ true → light_cells_at all at description ≡ Ok cells → IsLight (record { size = size; cells = cells })
-light_fits size w h all at description cells is count range e = grind (arith, light_lawful {w = w} {h = h} {cells = cells} at description range)
+pub light_fits : {size : Extent} (w h all at : ℕ) (description : List ℕ) (cells : List LightCell) → size ≡ sized w h
+    → all ≡ size.w * size.h → in_range game.LightUp w h ≡ true → light_cells_at all at description ≡ Ok cells
+    → IsLight (record { size = size; cells = cells })
+light_fits w h all at description cells is count range e = grind (arith, light_lawful {w = w} {h = h} {cells = cells} at description range)
 
 -- ---- what is spelled is read
 
@@ -85,13 +93,18 @@ unfolding light_token
 token_read at token h = grind arith
 
 -- what tokens that fill the grid spell is read
-light_again : (all at : ℕ) (tokens : List LightToken) → AllByRecursion IsLightToken tokens → length (flat_map light_token_cells tokens) ≡ all → light_cells_at all at (map light_token_byte tokens) ≡ Ok (flat_map light_token_cells tokens)
+light_again : (all at : ℕ) (tokens : List LightToken) → AllByRecursion IsLightToken tokens
+    → length (flat_map light_token_cells tokens) ≡ all
+    → light_cells_at all at (map light_token_byte tokens) ≡ Ok (flat_map light_token_cells tokens)
 light_again all at tokens each full =
-    ap (reading (fill_step light_token all) (fill_end all) at []) (texts_are tokens) ∙ cells_again light_token_text light_token_cells IsLightToken light_token token_read all at [] tokens each (omega arith)
+    ap (reading (fill_step light_token all) (fill_end all) at []) (texts_are tokens)
+    ∙ cells_again light_token_text light_token_cells IsLightToken light_token token_read all at [] tokens each (omega arith)
 
 pub light_takes : (text : List ℕ) (p : Light) → light_of text ≡ Ok p → SpellsLight text p
 light_takes text p e =
-    let r = parts_of game.LightUp text (λ head description. light_cells_at (head.size.w * head.size.h) head.description description) (λ head cells. record { size = extent_of head.size; cells = cells }) p e in
+    let r =
+    parts_of game.LightUp text (λ head description. light_cells_at (head.size.w * head.size.h) head.description description)
+    (λ head cells. record { size = extent_of head.size; cells = cells }) e in
     grind (arith, light_take _ _ _ _ r.read, light_lawful _ _ r.is_head.range r.read, plain_size)
 
 -- a wide size is in the limits of Light Up, which are those of Tents
@@ -99,7 +112,8 @@ pub wide_range : (size : Extent) → IsWide size → in_range game.LightUp size.
 wide_range size h = grind arith
 
 pub light_text_again : (text : List ℕ) (p : Light) → SpellsLight text p → light_of text ≡ Ok p
-light_text_again text p s = grind (arith, puzzle_again game.LightUp light_behind s.front (map light_token_byte s.tokens) p.size.w p.size.h false s.size, light_again (p.size.w * p.size.h) (length s.front + 1) s.tokens s.each)
+light_text_again text p s =
+    grind (arith, puzzle_again game.LightUp light_behind s.front (map light_token_byte s.tokens) p.size.w p.size.h false s.size, light_again (p.size.w * p.size.h) (length s.front + 1) s.tokens s.each)
 
 pub light_reading : HasOneReading SpellsLight light_of
 light_reading = reading_of _ _ light_text_again light_takes

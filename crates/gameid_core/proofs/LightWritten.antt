@@ -100,9 +100,11 @@ unfolding tokens_of
 form_tokens [] each full = refl
 form_tokens (whites k ∷ []) each full = grind (arith, common_steps, of_run 0 k [])
 form_tokens (whites k ∷ whites zero ∷ tokens) each full = absurd (omega arith)
-form_tokens (whites k ∷ whites (suc j) ∷ tokens) each full = grind (arith, common_steps, of_run 0 k (flat_map light_token_cells (whites (suc j) ∷ tokens)), form_tokens (whites (suc j) ∷ tokens))
+form_tokens (whites k ∷ whites (suc j) ∷ tokens) each full =
+    grind (arith, common_steps, of_run 0 k (flat_map light_token_cells (whites (suc j) ∷ tokens)), form_tokens (whites (suc j) ∷ tokens))
 form_tokens (whites k ∷ black ∷ tokens) each full = grind (arith, common_steps, of_run 0 k (Black ∷ flat_map light_token_cells tokens), form_tokens tokens)
-form_tokens (whites k ∷ numbered n ∷ tokens) each full = grind (arith, common_steps, of_run 0 k (Numbered n ∷ flat_map light_token_cells tokens), form_tokens tokens)
+form_tokens (whites k ∷ numbered n ∷ tokens) each full =
+    grind (arith, common_steps, of_run 0 k (Numbered n ∷ flat_map light_token_cells tokens), form_tokens tokens)
 form_tokens (black ∷ tokens) each full = grind (arith, form_tokens tokens)
 form_tokens (numbered n ∷ tokens) each full = grind (arith, form_tokens tokens)
 

@@ -5,10 +5,13 @@ pub map_more : {A : Type 0} (f : ℕ → A) (k : ℕ) → map f (range_with_len 
 map_more f k = map-range_with_len_more f 0 k k (let z : 0 + k ≡ k = omega arith in z)
 
 -- a function of each line's list, for the columns and for the rows
-pub at_column : {A : Type 0} (f : List ℕ → A) (d : A) (size : Extent) (g : List ℕ) (x : ℕ) → x < size.w → get_or (map (λ line. f (line_numbers size g line)) (range_with_len 0 (lines_of size))) x d ≡ f (column_cells size g x)
+pub at_column : {A : Type 0} (f : List ℕ → A) (d : A) (size : Extent) (g : List ℕ) (x : ℕ) → x < size.w
+    → get_or (map (λ line. f (line_numbers size g line)) (range_with_len 0 (lines_of size))) x d ≡ f (column_cells size g x)
 at_column f d size g x lt = grind (arith, get_or-map-range_with_len, line_numbers-column)
 
-pub at_row : {A : Type 0} (f : List ℕ → A) (d : A) (size : Extent) (g : List ℕ) (y : ℕ) → y < size.h → get_or (map (λ line. f (line_numbers size g line)) (range_with_len 0 (lines_of size))) (size.w + y) d ≡ f (row_cells size g y)
+pub at_row : {A : Type 0} (f : List ℕ → A) (d : A) (size : Extent) (g : List ℕ) (y : ℕ) → y < size.h
+    → get_or (map (λ line. f (line_numbers size g line)) (range_with_len 0 (lines_of size))) (size.w + y) d ≡ f
+    (row_cells size g y)
 at_row f d size g y lt = grind (arith, get_or-map-range_with_len, line_numbers-row)
 
 -- a function of the lists of the first lines

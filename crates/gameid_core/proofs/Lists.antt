@@ -9,13 +9,14 @@ pub AllByRecursion-replicate : {A : Type 0} (P : A → Type 0) (x : A) (k : ℕ)
 AllByRecursion-replicate P x zero h = tt
 AllByRecursion-replicate P x (suc k) h = (h, AllByRecursion-replicate P x k h)
 
-pub AllByRecursion-flat_map : {T A : Type 0} (Fits : T → Type 0) (P : A → Type 0) (f : T → List A) → ((t : T) → Fits t → AllByRecursion P (f t)) → (ts : List T) → AllByRecursion Fits ts → AllByRecursion P (flat_map f ts)
+pub AllByRecursion-flat_map : {T A : Type 0} (Fits : T → Type 0) (P : A → Type 0) (f : T → List A)
+    → ((t : T) → Fits t → AllByRecursion P (f t)) → (ts : List T) → AllByRecursion Fits ts → AllByRecursion P (flat_map f ts)
 AllByRecursion-flat_map Fits P f h [] all = tt
 AllByRecursion-flat_map Fits P f h (t ∷ ts) all = AllByRecursion-append P (f t) (flat_map f ts) (h t all.0) (AllByRecursion-flat_map Fits P f h ts all.1)
 
 pub all_at : {A : Type 0} (P : A → Type 0) (d : A) (xs : List A) (i : ℕ) → AllByRecursion P xs → i < length xs → P (get_or xs i d)
 all_at P d [] i h lt = grind arith
-all_at P d (x1 ∷ xs1) i h lt = grind (arith, all_at P d xs1)
+all_at P d (x ∷ xs) i h lt = grind (arith, all_at P d xs)
 
 pub below_none : (f : ℕ → List ℕ) → each_below f 0 ≡ []
 unfolding each_below
@@ -31,7 +32,8 @@ join_push : (c : ℕ) (y : List ℕ) (xs : List (List ℕ)) (x : List ℕ) → j
 join_push c y [] x = refl
 join_push c y (z ∷ xs) x = grind (arith, common_steps, join_push c z xs x)
 
-join_some : {A : Type 0} (c : ℕ) (f : A → List ℕ) (ys : List A) (x : List ℕ) → 0 < length ys → join_with_byte c (map f ys ++ x ∷ []) ≡ join_with_byte c (map f ys) ++ c ∷ x
+join_some : {A : Type 0} (c : ℕ) (f : A → List ℕ) (ys : List A) (x : List ℕ) → 0 < length ys
+    → join_with_byte c (map f ys ++ x ∷ []) ≡ join_with_byte c (map f ys) ++ c ∷ x
 join_some c f [] x some = absurd (omega arith)
 join_some c f (y ∷ ys) x some = join_push c (f y) (map f ys) x
 

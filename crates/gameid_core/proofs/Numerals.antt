@@ -1,22 +1,20 @@
 -- Numbers as texts: the digits in front, and the written digits of a number.
-use Rattle.gameid_core.specs.Common.{Bool, Cuts, IsNumeral, IsNumeralModel, IsPlain, List, [], after_digits, all_ascii_digits, and_parts, arith, begins, common_steps, decimal, decimal-digits_value, decimal_by_steps, digits_decimal, digits_front, false, is_ascii_digit, joins, leb, length, length-append, length-decimal-le, nat_tests, numerals_by_fold, refl, rules, suc, true, value, value_after, zero, ℕ, ◌%◌, ◌&&◌, ◌*◌, ◌++◌, ◌+◌, ◌-◌, ◌<◌, ◌^◌, ◌∷◌, ◌≡◌, ◌≤◌}
+use Rattle.gameid_core.specs.Common.{Bool, Cuts, IsNumeral, IsNumeralModel, IsPlain, List, [], after_digits, all_ascii_digits, and_parts, arith, begins, common_steps, decimal, decimal-digits_value, decimal_by_steps, digits_decimal, digits_front, false, is_ascii_digit, is_lead, joins, length, length-append, length-decimal-le, nat_tests, numerals_by_fold, refl, rules, suc, true, value, value_after, zero, ℕ, ◌%◌, ◌*◌, ◌++◌, ◌+◌, ◌-◌, ◌<◌, ◌^◌, ◌∷◌, ◌≡◌, ◌≤◌}
 use Rattle.gameid_core.proofs.Tokens.{value_after_ge, front_turn, front_stop, front_end, cuts_joined, cuts_number}
 
 pub own : IsNumeralModel (λ ds. all_ascii_digits ds ≡ true) value
 own = numerals_by_fold _ (search rules) value_after (search rules)
 
-abbrev pub is_lead : ℕ → Bool
-is_lead b = leb 49 b && leb b 57
-
 pub begins_front : (kind : ℕ → Bool) (xs ys : List ℕ) → begins kind xs ≡ true → begins kind (xs ++ ys) ≡ true
 begins_front kind xs ys e = grind arith
 
-pub lead_digit : (n : ℕ) → 0 < n → n < 10 → is_lead (48 + n) ≡ true
-lead_digit n some small = grind arith
+pub lead_digit : {n : ℕ} → 0 < n → n < 10 → is_lead (48 + n) ≡ true
+lead_digit some small = grind arith
 
 pub decimal_leads : (n : ℕ) → n < 2 ^ 64 → 0 < n → begins is_lead (decimal n) ≡ true
 decimal_leads n small =
-    decimal_by_steps (λ n ds. 0 < n → begins is_lead ds ≡ true) (λ n lt some. lead_digit n some lt) (λ n ds ge h some. begins_front is_lead ds _ (h (omega arith))) n small
+    decimal_by_steps (λ n ds. 0 < n → begins is_lead ds ≡ true) (λ n lt some. lead_digit some lt)
+    (λ n ds ge h some. begins_front is_lead ds _ (h (omega arith))) n small
 
 pub lead_is_digit : (b : ℕ) → is_lead b ≡ true → is_ascii_digit b ≡ true
 lead_is_digit b e = grind arith
@@ -25,10 +23,12 @@ pub value_positive : (b : ℕ) (ds : List ℕ) → 49 ≤ b → 0 < value (b ∷
 value_positive b ds low = omega (arith, value_after_ge (10 * 0 + (b - 48)) ds)
 
 -- the digits in front of a numeral and a text that begins with none
-pub front_numeral : (digits rest : List ℕ) → all_ascii_digits digits ≡ true → begins is_ascii_digit rest ≡ false → (digits_front (digits ++ rest) ≡ digits) × (after_digits (digits ++ rest) ≡ rest)
-front_numeral [] [] d other = front_end [] refl
-front_numeral [] (b ∷ rest) d other = front_stop (b ∷ rest) b rest refl other
-front_numeral (c ∷ digits) rest d other = grind (arith, nat_tests, common_steps, front_turn (c ∷ (digits ++ rest)) c (digits ++ rest) refl, front_numeral digits rest)
+pub front_numeral : (digits rest : List ℕ) → all_ascii_digits digits ≡ true → begins is_ascii_digit rest ≡ false
+    → (digits_front (digits ++ rest) ≡ digits) × (after_digits (digits ++ rest) ≡ rest)
+front_numeral [] [] d other = front_end refl
+front_numeral [] (b ∷ rest) d other = front_stop b rest refl other
+front_numeral (c ∷ digits) rest d other =
+    grind (arith, nat_tests, common_steps, front_turn (c ∷ (digits ++ rest)) c (digits ++ rest) refl, front_numeral digits rest)
 
 pub digit_front : (num rest : List ℕ) → IsNumeral num → begins is_ascii_digit (num ++ rest) ≡ true
 digit_front [] rest h = absurd (let some : 0 < 0 = h.some in omega arith)
@@ -44,7 +44,8 @@ joined_cuts b j num rest h other = grind (arith, front_numeral num rest h.digits
 -- a number takes no more digits than it counts
 pub length_decimal : (n : ℕ) → n < 2 ^ 64 → 0 < n → length (decimal n) ≤ n
 length_decimal n small =
-    decimal_by_steps (λ n ds. 0 < n → length ds ≤ n) (λ n lt some. omega arith) (λ n ds ge h some. let less = h (omega arith) in omega (arith, length-append ds ((48 + n % 10) ∷ []))) n small
+    decimal_by_steps (λ n ds. 0 < n → length ds ≤ n) (λ n lt some. omega arith)
+    (λ n ds ge h some. let less = h (omega arith) in omega (arith, length-append ds ((48 + n % 10) ∷ []))) n small
 
 pub numeral : (n : ℕ) → n < 2 ^ 64 → IsNumeral (decimal n)
 numeral n small = record {

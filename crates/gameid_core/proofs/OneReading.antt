@@ -20,9 +20,12 @@ reading_of {P} spells of again takes = record {
     cases text (Ok p) e = inl (p, takes text p e)
     cases text (Err f) e = inr (f, e)
 
-pub only_of : {P : Type 0} (spells : List ℕ → P → Type 0) (of : List ℕ → Result P IdFault) → Again spells of → (text : List ℕ) (r : Result P IdFault) → Gives (λ p. p) r (of text) → (p : P) → spells text p → Gives (λ q. q) r (Ok p)
+pub only_of : {P : Type 0} (spells : List ℕ → P → Type 0) (of : List ℕ → Result P IdFault) → Again spells of
+    → (text : List ℕ) (r : Result P IdFault) → Gives (λ p. p) r (of text) → (p : P) → spells text p → Gives (λ q. q) r (Ok p)
 only_of {P} spells of again text r gives p s = grind arith
 
 -- a form that only one text has
-pub one_text : {P : Type 0} (written : List ℕ → P → Type 0) (write : P → List ℕ) → ((text : List ℕ) (p : P) → written text p → text ≡ write p) → (text other : List ℕ) (p : P) → written text p → written other p → text ≡ other
+pub one_text : {P : Type 0} (written : List ℕ → P → Type 0) (write : P → List ℕ)
+    → ((text : List ℕ) (p : P) → written text p → text ≡ write p) → (text other : List ℕ) (p : P) → written text p
+    → written other p → text ≡ other
 one_text written write form text other p v w = form text p v ∙ sym (form other p w)

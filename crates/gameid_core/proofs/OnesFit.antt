@@ -10,5 +10,8 @@ are_ones size g line zero = tt
 are_ones size g line (suc n) = grind (arith, common_steps, are_ones size g (line + 1) n, ones_few, length-line_numbers)
 
 -- trees, and the ones of the lines, are a puzzle
-pub ones_lawful : (size : Extent) (trees tents counts kept : List ℕ) → IsExtent size → 2 ≤ size.w → 2 ≤ size.h → IsGrid (size.w * size.h) 2 trees → kept ≡ trees → counts ≡ lines_ones size tents → IsTents (record { size = size; trees = kept; counts = counts })
-ones_lawful size trees tents counts kept e w h grid same is = grind (arith, recursion_from_All, length-map-range_with_len, are_ones size tents 0 (lines_of size))
+pub ones_lawful : (size : Extent) (trees tents counts kept : List ℕ) → IsExtent size → 2 ≤ size.w → 2 ≤ size.h
+    → IsGrid (size.w * size.h) 2 trees → kept ≡ trees → counts ≡ lines_ones size tents
+    → IsTents (record { size = size; trees = kept; counts = counts })
+ones_lawful size trees tents counts kept e w h grid same is =
+    grind (arith, recursion_from_All, length-map-range_with_len, are_ones size tents 0 (lines_of size))

@@ -43,11 +43,14 @@ used_push [] n = omega arith
 used_push (m ∷ clue) n = omega (arith, used_push clue n)
 
 -- a number that was taken
-pub first_cases : (cells line at n : ℕ) (word : List ℕ) → clue_token cells line [] at word ≡ Ok n → (begins is_ascii_digit word ≡ true) × (value word ≡ n) × (0 < n) × (n ≤ cells)
+pub first_cases : (cells line at n : ℕ) (word : List ℕ) → clue_token cells line [] at word ≡ Ok n
+    → (begins is_ascii_digit word ≡ true) × (value word ≡ n) × (0 < n) × (n ≤ cells)
 unfolding clue_token clue_number
 first_cases cells line at n word e = grind arith
 
-pub further_cases : (cells line at n m : ℕ) (clue word : List ℕ) → clue_token cells line (m ∷ clue) at word ≡ Ok n → (begins (λ b. eqb b 46) word ≡ true) × (begins is_ascii_digit (drop 1 word) ≡ true) × (value (drop 1 word) ≡ n) × (0 < n) × (used (m ∷ clue) + n ≤ cells)
+pub further_cases : (cells line at n m : ℕ) (clue word : List ℕ) → clue_token cells line (m ∷ clue) at word ≡ Ok n
+    → (begins (λ b. eqb b 46) word ≡ true) × (begins is_ascii_digit (drop 1 word) ≡ true) × (value (drop 1 word) ≡ n) × (0 < n)
+    × (used (m ∷ clue) + n ≤ cells)
 unfolding clue_token clue_number
 further_cases cells line at n m clue word e = grind arith
 
@@ -57,11 +60,11 @@ token_small cells line at n (m ∷ clue) word e = let f = further_cases cells li
 
 -- ---- clues that are read fit
 
-IsClue-push : (cells n : ℕ) (clue : List ℕ) → IsClue cells clue → (0 < n) × (used clue + n ≤ cells) → IsClue cells (clue ++ n ∷ [])
-IsClue-push cells n clue h p = grind (arith, common_steps, used_push)
+IsClue-push : {cells n : ℕ} {clue : List ℕ} → IsClue cells clue → (0 < n) × (used clue + n ≤ cells) → IsClue cells (clue ++ n ∷ [])
+IsClue-push h p = grind (arith, common_steps, used_push)
 
-IsClue-none : (cells : ℕ) → IsClue cells []
-IsClue-none cells = record { positive = tt; fits = omega arith }
+IsClue-none : {cells : ℕ} → IsClue cells []
+IsClue-none = record { positive = tt; fits = omega arith }
 
 -- ---- texts of numerals
 
@@ -94,15 +97,16 @@ record Spelled (clues : List (List ℕ)) (clue text : List ℕ) (all : List (Lis
   is : IsSpelled clues clue text all ns later
 
 -- a '.' and a numeral
-dotted_word : (word : List ℕ) → IsWord word → begins (λ b. eqb b 46) word ≡ true → begins is_ascii_digit (drop 1 word) ≡ true → (word ≡ 46 ∷ drop 1 word) × IsNumeral (drop 1 word)
+dotted_word : (word : List ℕ) → IsWord word → begins (λ b. eqb b 46) word ≡ true → begins is_ascii_digit (drop 1 word) ≡ true
+    → (word ≡ 46 ∷ drop 1 word) × IsNumeral (drop 1 word)
 dotted_word word w dot d = grind arith
 
-slash_word : (word : List ℕ) → IsWord word → begins (λ b. eqb b 47) word ≡ true → word ≡ 47 ∷ []
-slash_word word w s = grind arith
+slash_word : {word : List ℕ} → IsWord word → begins (λ b. eqb b 47) word ≡ true → word ≡ 47 ∷ []
+slash_word w s = grind arith
 
-slash_spelled : (clues : List (List ℕ)) (clue word rest : List ℕ) (all : List (List ℕ)) → word ≡ 47 ∷ [] → Spelled (clues ++ clue ∷ []) [] rest all
+slash_spelled : {clues : List (List ℕ)} (clue : List ℕ) {word rest : List ℕ} {all : List (List ℕ)} → word ≡ 47 ∷ [] → Spelled (clues ++ clue ∷ []) [] rest all
     → Spelled clues clue (word ++ rest) all
-slash_spelled clues clue word rest all slash r = record { ns = []; later = r.ns ∷ r.later; is = grind (arith, common_steps, tail_none clue) }
+slash_spelled clue slash r = record { ns = []; later = r.ns ∷ r.later; is = grind (arith, common_steps, tail_none clue) }
 
 number_spelled : (cells line at : ℕ) (clues : List (List ℕ)) (clue word rest : List ℕ) (all : List (List ℕ)) (n : ℕ) → IsWord word
     → clue_token cells line clue at word ≡ Ok n → Spelled clues (clue ++ n ∷ []) rest all → Spelled clues clue (word ++ rest) all
@@ -131,22 +135,24 @@ positive_at : (n : ℕ) (clue rest : List ℕ) → AllByRecursion (λ k. 0 < k) 
 positive_at n [] rest h = h.0
 positive_at n (m ∷ clue) rest h = positive_at n clue rest h.1
 
-used_fits : (cells n : ℕ) (clue rest : List ℕ) → IsClue cells (clue ++ n ∷ rest) → (0 < n) × (used clue + n ≤ cells)
-used_fits cells n clue rest h = grind (arith, used_more n clue rest, positive_at n clue rest h.positive)
+used_fits : {cells : ℕ} (n : ℕ) (clue rest : List ℕ) → IsClue cells (clue ++ n ∷ rest) → (0 < n) × (used clue + n ≤ cells)
+used_fits n clue rest h = grind (arith, used_more n clue rest, positive_at n clue rest h.positive)
 
-first_read : (cells line at : ℕ) (num : List ℕ) → IsNumeral num → 0 < value num → value num ≤ cells → clue_token cells line [] at num ≡ Ok (value num)
+first_read : (cells line at : ℕ) {num : List ℕ} → IsNumeral num → 0 < value num → value num ≤ cells → clue_token cells line [] at num ≡ Ok (value num)
 unfolding clue_token clue_number
-first_read cells line at num h some room = grind (arith, common_steps)
+first_read cells line at h some room = grind (arith, common_steps)
 
-further_read : (cells line at m : ℕ) (clue num : List ℕ) → IsNumeral num → 0 < value num → used (m ∷ clue) + value num ≤ cells → clue_token cells line (m ∷ clue) at (46 ∷ num) ≡ Ok (value num)
+further_read : {cells : ℕ} (line at m : ℕ) (clue num : List ℕ) → IsNumeral num → 0 < value num
+    → used (m ∷ clue) + value num ≤ cells → clue_token cells line (m ∷ clue) at (46 ∷ num) ≡ Ok (value num)
 unfolding clue_token clue_number
-further_read cells line at m clue num h some room = grind (arith, common_steps)
+further_read line at m clue num h some room = grind (arith, common_steps)
 
-numeral_other : (num : List ℕ) → IsNumeral num → begins (λ b. eqb b 47) num ≡ false
-numeral_other num h = grind arith
+numeral_other : {num : List ℕ} → IsNumeral num → begins (λ b. eqb b 47) num ≡ false
+numeral_other h = grind arith
 
 -- no clue's rest and no later clue begins with a digit
-rest_begins : (m : ℕ) (clue : List ℕ) (ns : List (List ℕ)) (later : List (List (List ℕ))) → begins is_ascii_digit (tail_text (m ∷ clue) ns ++ later_text later) ≡ false
+rest_begins : (m : ℕ) (clue : List ℕ) (ns : List (List ℕ)) (later : List (List (List ℕ)))
+    → begins is_ascii_digit (tail_text (m ∷ clue) ns ++ later_text later) ≡ false
 rest_begins m clue [] [] = refl
 rest_begins m clue [] (l ∷ later) = refl
 rest_begins m clue (n ∷ ns) later = refl
@@ -174,7 +180,9 @@ module _ (size : Extent) where
   abbrev pub reads : ℕ → SoFar → List ℕ → Result (List (List ℕ)) IdFault
   reads at s rest = read_words at s (words rest)
 
-  pub step_number : (at : ℕ) (clues : List (List ℕ)) (clue word : List ℕ) (r : Result ℕ IdFault) → begins (λ b. eqb b 47) word ≡ false → clue_token (line_cells size (length clues)) (length clues) clue at word ≡ r → pattern_step size at (so_far clues clue) word ≡ (r >>= (λ n. Ok (so_far clues (clue ++ n ∷ []))))
+  pub step_number : (at : ℕ) (clues : List (List ℕ)) (clue word : List ℕ) (r : Result ℕ IdFault)
+      → begins (λ b. eqb b 47) word ≡ false → clue_token (line_cells size (length clues)) (length clues) clue at word ≡ r
+      → pattern_step size at (so_far clues clue) word ≡ (r >>= (λ n. Ok (so_far clues (clue ++ n ∷ []))))
   step_number at clues clue word r other e = rw (other, e) refl
 
   -- '/' ends a clue that is not the last, and is refused after that
@@ -194,7 +202,8 @@ module _ (size : Extent) where
   number_turn at n s text word after cuts other token =
       reading_turn (pattern_step size) (pattern_end size) at s _ text word after cuts (step_number at s.clues s.clue word (Ok n) (cuts.first _ ∙ other) token)
 
-  pub end_is : (clues : List (List ℕ)) (clue : List ℕ) (full : Bool) → eqb (length clues + 1) (lines_of size) ≡ full → pattern_end size (so_far clues clue) ≡ cond full (Ok (clues ++ clue ∷ [])) (Err TooFew)
+  pub end_is : (clues : List (List ℕ)) (clue : List ℕ) (full : Bool) → eqb (length clues + 1) (lines_of size) ≡ full
+      → pattern_end size (so_far clues clue) ≡ cond full (Ok (clues ++ clue ∷ [])) (Err TooFew)
   end_is clues clue full e = rw e refl
 
   -- a step that was taken: '/', or a number
@@ -209,24 +218,29 @@ module _ (size : Extent) where
     pub token : clue_token (line_cells size (length clues)) (length clues) clue at word ≡ Ok number
     pub leads : so_far clues (clue ++ number ∷ []) ≡ t
 
-  pub step_cases : (at : ℕ) (clues : List (List ℕ)) (clue word : List ℕ) (t : SoFar) → pattern_step size at (so_far clues clue) word ≡ Ok t → Slash clues clue word t ⊎ Number at clues clue word t
+  pub step_cases : (at : ℕ) (clues : List (List ℕ)) (clue word : List ℕ) (t : SoFar)
+      → pattern_step size at (so_far clues clue) word ≡ Ok t → Slash clues clue word t ⊎ Number at clues clue word t
   step_cases at clues clue word t e = grind arith
 
-  AreClues-push : (line : ℕ) (clues : List (List ℕ)) (clue : List ℕ) → AreClues size line clues → IsClue (line_cells size (line + length clues)) clue → AreClues size line (clues ++ clue ∷ [])
+  AreClues-push : (line : ℕ) (clues : List (List ℕ)) (clue : List ℕ) → AreClues size line clues
+      → IsClue (line_cells size (line + length clues)) clue → AreClues size line (clues ++ clue ∷ [])
   AreClues-push line [] clue h p = grind arith
   AreClues-push line (c ∷ clues) clue h p = grind (arith, nat_tests, AreClues-push (line + 1) clues clue h.1)
 
-  lawful : (at : ℕ) (clues : List (List ℕ)) (clue : List ℕ) (ws : List (List ℕ)) (all : List (List ℕ)) → AreClues size 0 clues → IsClue (line_cells size (length clues)) clue → read_words at (so_far clues clue) ws ≡ Ok all → AreClues size 0 all × (length all ≡ lines_of size)
+  lawful : (at : ℕ) (clues : List (List ℕ)) (clue : List ℕ) (ws : List (List ℕ)) (all : List (List ℕ)) → AreClues size 0 clues
+      → IsClue (line_cells size (length clues)) clue → read_words at (so_far clues clue) ws ≡ Ok all
+      → AreClues size 0 all × (length all ≡ lines_of size)
   unfolding reading
   lawful at clues clue [] all h p e = grind (arith, common_steps, AreClues-push 0 clues clue h)
   lawful at clues clue (word ∷ ws) all h p e =
       let b = bind_ok (pattern_step size at (so_far clues clue) word) (λ t. read_words (at + length word) t ws) all e in
       elim (step_cases at clues clue word b.0 b.1) [
-        | inl s ↦ lawful (at + length word) (clues ++ clue ∷ []) [] ws all (AreClues-push 0 clues clue h (grind arith)) (IsClue-none _) (grind arith)
-        | inr n ↦ lawful (at + length word) clues (clue ++ n.number ∷ []) ws all h (IsClue-push _ _ clue p (grind (arith, token_small, n.token))) (grind arith)
+        | inl s ↦ lawful (at + length word) (clues ++ clue ∷ []) [] ws all (AreClues-push 0 clues clue h (grind arith)) IsClue-none (grind arith)
+        | inr n ↦ lawful (at + length word) clues (clue ++ n.number ∷ []) ws all h (IsClue-push p (grind (arith, token_small, n.token))) (grind arith)
       ]
 
-  pub clues_lawful : (at : ℕ) (description : List ℕ) (all : List (List ℕ)) → IsExtent size → clues_at size at description ≡ Ok all → IsPattern (record { size = size; clues = all })
+  pub clues_lawful : (at : ℕ) (description : List ℕ) (all : List (List ℕ)) → IsExtent size → clues_at size at description ≡ Ok all
+      → IsPattern (record { size = size; clues = all })
   clues_lawful at description all h e = grind (arith, lawful at [] [] (words description) all tt)
 
   read_spelled : (at : ℕ) (clues : List (List ℕ)) (clue : List ℕ) (ws : List (List ℕ)) (all : List (List ℕ)) → AllByRecursion IsWord ws
@@ -236,24 +250,44 @@ module _ (size : Extent) where
   read_spelled at clues clue (word ∷ ws) all w e =
       let b = bind_ok (pattern_step size at (so_far clues clue) word) (λ t. read_words (at + length word) t ws) all e in
       elim (step_cases at clues clue word b.0 b.1) [
-        | inl s ↦ slash_spelled clues clue word (concat ws) all (slash_word word w.0 s.slash) (read_spelled (at + length word) (clues ++ clue ∷ []) [] ws all w.1 (grind arith))
-        | inr n ↦ number_spelled _ _ at clues clue word (concat ws) all n.number w.0 n.token (read_spelled (at + length word) clues (clue ++ n.number ∷ []) ws all w.1 (grind arith))
+        | inl s ↦ slash_spelled clue (slash_word w.0 s.slash) (read_spelled (at + length word) (clues ++ clue ∷ []) [] ws all w.1 (grind arith))
+        | inr n ↦ number_spelled _ _ at clues clue word (concat ws) all n.number w.0 n.token
+            (read_spelled (at + length word) clues (clue ++ n.number ∷ []) ws all w.1 (grind arith))
       ]
 
   abbrev Reads : List (List ℕ) → List (List ℕ) → List ℕ → List ℕ → Type 0
   Reads all clues clue text = (at : ℕ) → read_words at (so_far clues clue) (words text) ≡ Ok all
 
   -- the rest of a clue is read, and then what follows it
-  clue_again : (all clues : List (List ℕ)) (clue : List ℕ) (ns : List (List ℕ)) (later : List (List (List ℕ))) → AllByRecursion IsNumeral ns → IsClue (line_cells size (length clues)) (clue ++ map value ns) → Reads all clues (clue ++ map value ns) (later_text later) → Reads all clues clue (tail_text clue ns ++ later_text later)
+  clue_again : (all clues : List (List ℕ)) (clue : List ℕ) (ns : List (List ℕ)) (later : List (List (List ℕ)))
+      → AllByRecursion IsNumeral ns → IsClue (line_cells size (length clues)) (clue ++ map value ns)
+      → Reads all clues (clue ++ map value ns) (later_text later) → Reads all clues clue (tail_text clue ns ++ later_text later)
   clue_again all clues clue [] later d fits next at = grind (arith, common_steps)
-  clue_again all clues [] (num ∷ ns) later d fits next at = grind (arith, common_steps, join_cons 46 num ns, numeral_cuts num (tail_text (value num ∷ []) ns ++ later_text later) d.0 (rest_begins (value num) [] ns later), step_number at clues [] num (Ok (value num)) (numeral_other num d.0), first_read, reading_turn (pattern_step size) (pattern_end size) at (so_far clues []) (so_far clues (value num ∷ [])), clue_again all clues (value num ∷ []) ns later d.1 fits next (at + length num))
+  clue_again all clues [] (num ∷ ns) later d fits next at =
+      grind (
+        arith,
+        common_steps,
+        join_cons 46 num ns,
+        numeral_cuts num (tail_text (value num ∷ []) ns ++ later_text later) d.0 (rest_begins (value num) [] ns later),
+        step_number at clues [] num (Ok (value num)) (numeral_other d.0),
+        first_read,
+        reading_turn (pattern_step size) (pattern_end size) at (so_far clues []) (so_far clues (value num ∷ [])),
+        clue_again all clues (value num ∷ []) ns later d.1 fits next (at + length num),
+      )
   clue_again all clues (m ∷ clue) (num ∷ ns) later d fits next at =
-      let room = used_fits (line_cells size (length clues)) (value num) (m ∷ clue) (map value ns) fits in
-      let text : tail_text (m ∷ clue) (num ∷ ns) ++ later_text later ≡ 46 ∷ (num ++ (tail_text (m ∷ clue) ns ++ later_text later)) = append_assoc (46 ∷ num) (tail_text (m ∷ clue) ns) (later_text later) in
+      let room = used_fits (value num) (m ∷ clue) (map value ns) fits in
+      let text : tail_text (m ∷ clue) (num ∷ ns) ++ later_text
+      later ≡ 46 ∷ (num ++ (tail_text (m ∷ clue) ns ++ later_text later)) =
+      append_assoc (46 ∷ num) (tail_text (m ∷ clue) ns) (later_text later) in
       let cuts = joined_cuts 46 refl num (tail_text (m ∷ clue) ns ++ later_text later) d.0 (rest_begins m clue ns later) in
-      let step = step_number at clues (m ∷ clue) (46 ∷ num) (Ok (value num)) refl (further_read _ _ at m clue num d.0 room.0 room.1) in
-      let moved : (m ∷ clue) ++ value num ∷ map value ns ≡ ((m ∷ clue) ++ value num ∷ []) ++ map value ns = sym (append_assoc (m ∷ clue) (value num ∷ []) (map value ns)) in
-      rw text (reading_turn (pattern_step size) (pattern_end size) at (so_far clues (m ∷ clue)) (so_far clues ((m ∷ clue) ++ value num ∷ [])) _ (46 ∷ num) _ cuts step ∙ clue_again all clues ((m ∷ clue) ++ value num ∷ []) ns later d.1 (subst (λ (c : List ℕ). IsClue (line_cells size (length clues)) c) moved fits) (subst (λ (c : List ℕ). Reads all clues c (later_text later)) moved next) (at + length (46 ∷ num)))
+      let step = step_number at clues (m ∷ clue) (46 ∷ num) (Ok (value num)) refl (further_read _ at m clue num d.0 room.0 room.1) in
+      let moved : (m ∷ clue) ++ value num ∷ map value ns ≡ ((m ∷ clue) ++ value num ∷ []) ++ map value ns =
+      sym (append_assoc (m ∷ clue) (value num ∷ []) (map value ns)) in
+      rw text (reading_turn (pattern_step size) (pattern_end size) at (so_far clues (m ∷ clue))
+      (so_far clues ((m ∷ clue) ++ value num ∷ [])) _ (46 ∷ num) _ cuts step
+      ∙ clue_again all clues ((m ∷ clue) ++ value num ∷ []) ns later d.1
+      (subst (λ (c : List ℕ). IsClue (line_cells size (length clues)) c) moved fits)
+      (subst (λ (c : List ℕ). Reads all clues c (later_text later)) moved next) (at + length (46 ∷ num)))
 
   -- ---- the clues after a clue
 
@@ -261,12 +295,27 @@ module _ (size : Extent) where
   are_at line [] c ys h = grind arith
   are_at line (x ∷ xs) c ys h = grind (arith, are_at (line + 1) xs c ys h.1)
 
-  later_again : (all clues : List (List ℕ)) (clue : List ℕ) (later : List (List (List ℕ))) → AllByRecursion (AllByRecursion IsNumeral) later → clues ++ clue ∷ map (map value) later ≡ all → length all ≡ lines_of size → AreClues size 0 all → Reads all clues clue (later_text later)
-  later_again all clues clue [] d is len are at = grind (arith, common_steps, reading_end (pattern_step size) (pattern_end size) at (so_far clues clue) [] refl, end_is clues clue true)
-  later_again all clues clue (l ∷ later) d is len are at = grind (arith, nat_tests, common_steps, are_at 0 (clues ++ clue ∷ []) (map value l) (map (map value) later), clue_again all (clues ++ clue ∷ []) [] l later d.0, later_again all (clues ++ clue ∷ []) (map value l) later d.1, reading_turn (pattern_step size) (pattern_end size) at (so_far clues clue) (so_far (clues ++ clue ∷ []) []) (47 ∷ (join_with_byte 46 l ++ later_text later)) (47 ∷ []) (join_with_byte 46 l ++ later_text later) (cuts_single 47 (join_with_byte 46 l ++ later_text later) refl))
+  later_again : (all clues : List (List ℕ)) (clue : List ℕ) (later : List (List (List ℕ)))
+      → AllByRecursion (AllByRecursion IsNumeral) later → clues ++ clue ∷ map (map value) later ≡ all → length all ≡ lines_of size
+      → AreClues size 0 all → Reads all clues clue (later_text later)
+  later_again all clues clue [] d is len are at =
+      grind (arith, common_steps, reading_end (pattern_step size) (pattern_end size) at (so_far clues clue) [] refl, end_is clues clue true)
+  later_again all clues clue (l ∷ later) d is len are at =
+      grind (
+        arith,
+        nat_tests,
+        common_steps,
+        are_at 0 (clues ++ clue ∷ []) (map value l) (map (map value) later),
+        clue_again all (clues ++ clue ∷ []) [] l later d.0,
+        later_again all (clues ++ clue ∷ []) (map value l) later d.1,
+        reading_turn (pattern_step size) (pattern_end size) at (so_far clues clue) (so_far (clues ++ clue ∷ []) [])
+            (47 ∷ (join_with_byte 46 l ++ later_text later)) (47 ∷ []) (join_with_byte 46 l ++ later_text later) (cuts_single 47 (join_with_byte 46 l ++ later_text later) refl),
+      )
 
   -- what clues that fit spell is read
-  pub clues_again : (at : ℕ) (numerals : List (List (List ℕ))) → AllByRecursion (AllByRecursion IsNumeral) numerals → IsPattern (record { size = size; clues = map (map value) numerals }) → clues_at size at (clues_text numerals) ≡ Ok (map (map value) numerals)
+  pub clues_again : (at : ℕ) (numerals : List (List (List ℕ))) → AllByRecursion (AllByRecursion IsNumeral) numerals
+      → IsPattern (record { size = size; clues = map (map value) numerals })
+      → clues_at size at (clues_text numerals) ≡ Ok (map (map value) numerals)
   clues_again at [] d h = grind arith
   clues_again at (ns ∷ later) d h =
       let all : List (List ℕ) = map (map value) (ns ∷ later) in
@@ -289,16 +338,31 @@ pub ruleset turns = (common_steps, words_nil, slash_full, slash_turn, used_push,
 
 pub pattern_takes : (text : List ℕ) (p : Pattern) → pattern_of text ≡ Ok p → SpellsPattern text p
 pattern_takes text p e =
-    let r = parts_of game.Pattern text (λ head description. clues_at (extent_of head.size) head.description description) (λ head clues. record { size = extent_of head.size; clues = clues }) p e in
-    grind (arith, clues_take _ _ _ _ r.read, is_extent r.head.size.w r.head.size.h r.is_head.range, clues_lawful (extent_of r.head.size) r.head.description (drop r.head.description text) r.given, plain_size)
+    let r =
+    parts_of game.Pattern text (λ head description. clues_at (extent_of head.size) head.description description)
+    (λ head clues. record { size = extent_of head.size; clues = clues }) e in
+    grind (
+      arith,
+      clues_take _ _ _ _ r.read,
+      is_extent r.head.size.w r.head.size.h r.is_head.range,
+      clues_lawful (extent_of r.head.size) r.head.description (drop r.head.description text) r.given,
+      plain_size,
+    )
 
 pub pattern_again : (text : List ℕ) (p : Pattern) → SpellsPattern text p → pattern_of text ≡ Ok p
-pattern_again text p s = grind (arith, puzzle_again game.Pattern pattern_behind s.front (clues_text s.numerals) p.size.w p.size.h false s.size (range_of p.size s.puzzle.size), clues_again p.size (length s.front + 1) s.numerals s.digits)
+pattern_again text p s =
+    grind (
+      arith,
+      puzzle_again game.Pattern pattern_behind s.front (clues_text s.numerals) p.size.w p.size.h false s.size
+          (range_of p.size s.puzzle.size),
+      clues_again p.size (length s.front + 1) s.numerals s.digits,
+    )
 
 pub pattern_reading : HasOneReading SpellsPattern pattern_of
 pattern_reading = reading_of _ _ pattern_again pattern_takes
 
-pub pattern_only : (text : List ℕ) (r : Result Pattern IdFault) (p : Pattern) → Gives (λ q. q) r (pattern_of text) → SpellsPattern text p → Gives (λ q. q) r (Ok p)
+pub pattern_only : (text : List ℕ) (r : Result Pattern IdFault) (p : Pattern) → Gives (λ q. q) r (pattern_of text)
+    → SpellsPattern text p → Gives (λ q. q) r (Ok p)
 pattern_only text r p gives s = only_of _ _ pattern_again text r gives p s
 
 pub ruleset reads_exactly = (pattern_takes, pattern_only)

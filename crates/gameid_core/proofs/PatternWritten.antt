@@ -6,21 +6,22 @@ use Rattle.gameid_core.proofs.Numerals.{decimal_plain, own, length_decimal, nume
 
 -- ---- how long
 
-pub line_small : (size : Extent) (line : ℕ) → IsExtent size → line_cells size line ≤ max_side
-line_small size line h = grind arith
+pub line_small : {size : Extent} (line : ℕ) → IsExtent size → line_cells size line ≤ max_side
+line_small line h = grind arith
 
 length_clue : (clue : List ℕ) → AllByRecursion (λ n. 0 < n) clue → used clue < 2 ^ 64 → 0 < length clue → length (clue_text clue) + 1 ≤ used clue
 length_clue [] h small some = grind (arith, common_steps, length_decimal, length-append)
-length_clue (x1 ∷ xs1) h small some = grind (arith, common_steps, length_clue xs1, length_decimal, length-append)
+length_clue (x ∷ xs) h small some = grind (arith, common_steps, length_clue xs, length_decimal, length-append)
 
 -- a clue's text is no longer than its line
-pub clue_short : (cells : ℕ) (clue : List ℕ) → IsClue cells clue → cells ≤ max_side → length (clue_text clue) ≤ cells
-clue_short cells clue h small = grind (arith, common_steps, length_clue)
+pub clue_short : {cells : ℕ} {clue : List ℕ} → IsClue cells clue → cells ≤ max_side → length (clue_text clue) ≤ cells
+clue_short h small = grind (arith, common_steps, length_clue)
 
-clues_short : (size : Extent) (line : ℕ) (clues : List (List ℕ)) → IsExtent size → AreClues size line clues → length (join_with_byte 47 (map clue_text clues)) ≤ (max_side + 1) * length clues
+clues_short : (size : Extent) (line : ℕ) (clues : List (List ℕ)) → IsExtent size → AreClues size line clues
+    → length (join_with_byte 47 (map clue_text clues)) ≤ (max_side + 1) * length clues
 clues_short size line [] e h = omega arith
 clues_short size line (c ∷ []) e h = grind (arith, common_steps, clue_short)
-clues_short size line (c ∷ d ∷ clues) e h = grind (arith, common_steps, clue_short (line_cells size line) c h.0, clues_short size (line + 1) (d ∷ clues) e h.1)
+clues_short size line (c ∷ d ∷ clues) e h = grind (arith, common_steps, clue_short h.0, clues_short size (line + 1) (d ∷ clues) e h.1)
 
 pub pattern_short : (p : Pattern) → IsPattern p → length (pattern_text p) ≤ max_id
 pattern_short p h = grind (arith, common_steps, length_decimal p.size.w, length_decimal p.size.h, clues_short p.size 0 p.clues)
@@ -36,16 +37,16 @@ numerals : (clue : List ℕ) → used clue < 2 ^ 64
 numerals [] small = (tt, tt, refl)
 numerals (n ∷ clue) small = grind (arith, numerals clue, digits_value-decimal own n, numeral n, decimal_plain n)
 
-all_numerals : (size : Extent) (line : ℕ) (clues : List (List ℕ)) → IsExtent size → AreClues size line clues
+all_numerals : {size : Extent} (line : ℕ) (clues : List (List ℕ)) → IsExtent size → AreClues size line clues
     → AllByRecursion (AllByRecursion IsNumeral) (map (map decimal) clues) × AllByRecursion (AllByRecursion IsPlain) (map (map decimal) clues)
     × (map (map value) (map (map decimal) clues) ≡ clues)
-all_numerals size line [] e h = (tt, tt, refl)
-all_numerals size line (c ∷ clues) e h = grind (arith, numerals c, all_numerals size (line + 1) clues e h.1)
+all_numerals line [] e h = (tt, tt, refl)
+all_numerals line (c ∷ clues) e h = grind (arith, numerals c, all_numerals (line + 1) clues e h.1)
 
 -- the written text has the form of a written text, and so it spells the puzzle
 pub pattern_is_written : (p : Pattern) → IsPattern p → IsWrittenPattern (pattern_text p) p
 pattern_is_written p h =
-    let n = all_numerals p.size 0 p.clues h.size h.clues in
+    let n = all_numerals 0 p.clues h.size h.clues in
     record {
       spells = record {
         short = pattern_short p h;
@@ -61,20 +62,25 @@ pattern_is_written p h =
       plain = n.1;
     }
 
-clue_plain : (clue : List (List ℕ)) → AllByRecursion IsNumeral clue → AllByRecursion IsPlain clue → used (map value clue) < 2 ^ 64 → map decimal (map value clue) ≡ clue
+clue_plain : (clue : List (List ℕ)) → AllByRecursion IsNumeral clue → AllByRecursion IsPlain clue → used (map value clue) < 2 ^ 64
+    → map decimal (map value clue) ≡ clue
 clue_plain [] d h small = refl
 clue_plain (num ∷ clue) d h small = rw (plain_decimal num d.0 h.0 (omega (arith, small)), clue_plain clue d.1 h.1 (omega (arith, small))) refl
 
-clues_plain : (size : Extent) (line : ℕ) (clues : List (List (List ℕ))) → IsExtent size → AreClues size line (map (map value) clues) → AllByRecursion (AllByRecursion IsNumeral) clues → AllByRecursion (AllByRecursion IsPlain) clues → map (map decimal) (map (map value) clues) ≡ clues
-clues_plain size line [] e h d plain = refl
-clues_plain size line (clue ∷ clues) e h d plain = grind (arith, clue_plain clue d.0 plain.0, clues_plain size (line + 1) clues e h.1 d.1 plain.1)
+clues_plain : {size : Extent} (line : ℕ) (clues : List (List (List ℕ))) → IsExtent size
+    → AreClues size line (map (map value) clues) → AllByRecursion (AllByRecursion IsNumeral) clues
+    → AllByRecursion (AllByRecursion IsPlain) clues → map (map decimal) (map (map value) clues) ≡ clues
+clues_plain line [] e h d plain = refl
+clues_plain line (clue ∷ clues) e h d plain = grind (arith, clue_plain clue d.0 plain.0, clues_plain (line + 1) clues e h.1 d.1 plain.1)
 
 pub pattern_form : (text : List ℕ) (p : Pattern) → IsWrittenPattern text p → text ≡ pattern_text p
 pattern_form text p w =
     let s = w.spells in
     let are : AreClues p.size 0 (map (map value) s.numerals) = subst (λ (cs : List (List ℕ)). AreClues p.size 0 cs) (sym s.clues) s.puzzle.clues in
-    let same : map (map decimal) p.clues ≡ s.numerals = ap (map (map decimal)) (sym s.clues) ∙ clues_plain p.size 0 s.numerals s.puzzle.size are s.digits w.plain in
-    s.parts ∙ ap (λ (f : List ℕ). f ++ 58 ∷ clues_text s.numerals) w.both ∙ ap (λ (ns : List (List (List ℕ))). size_text p.size.w p.size.h ++ 58 ∷ clues_text ns) (sym same) ∙ ap (λ (ts : List (List ℕ)). size_text p.size.w p.size.h ++ 58 ∷ join_with_byte 47 ts) (texts_same p.clues)
+    let same : map (map decimal) p.clues ≡ s.numerals = ap (map (map decimal)) (sym s.clues) ∙ clues_plain 0 s.numerals s.puzzle.size are s.digits w.plain in
+    s.parts ∙ ap (λ (f : List ℕ). f ++ 58 ∷ clues_text s.numerals) w.both
+    ∙ ap (λ (ns : List (List (List ℕ))). size_text p.size.w p.size.h ++ 58 ∷ clues_text ns) (sym same)
+    ∙ ap (λ (ts : List (List ℕ)). size_text p.size.w p.size.h ++ 58 ∷ join_with_byte 47 ts) (texts_same p.clues)
 
 pub pattern_one_text : HasOneText IsPattern IsWrittenPattern pattern_text
 pattern_one_text = record { some = pattern_is_written; one = one_text _ _ pattern_form }

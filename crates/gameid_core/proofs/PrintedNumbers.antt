@@ -17,13 +17,13 @@ pub not_empty : (n : ℕ) (text after : List ℕ) → n < 100 → text ≡ decim
 not_empty n text after small is empty = grind (arith, decimal_digit n, two_digits n)
 
 -- the first byte is a digit
-pub no_digit : (n : ℕ) (byte : ℕ) (rest : List ℕ) → Number n byte rest → digit_of byte ≡ None → ⊥
-no_digit n byte rest number none = grind arith
+pub no_digit : {n byte : ℕ} {rest : List ℕ} → Number n byte rest → digit_of byte ≡ None → ⊥
+no_digit number none = grind arith
 
-pub one_read : (n byte first : ℕ) (rest : List ℕ) → Number n byte rest → digit_of byte ≡ Some first → first_digit rest ≡ None
+pub one_read : {n byte first : ℕ} {rest : List ℕ} → Number n byte rest → digit_of byte ≡ Some first → first_digit rest ≡ None
     → ◌≡◌ {A = Option (ℕ × ℕ)} (Some (first, 1)) (Some (n, length (decimal n)))
-one_read n byte first rest number is none = grind arith
+one_read number is none = grind arith
 
-pub two_read : (n byte first second : ℕ) (rest : List ℕ) → Number n byte rest → digit_of byte ≡ Some first → first_digit rest ≡ Some second
+pub two_read : {n byte first second : ℕ} {rest : List ℕ} → Number n byte rest → digit_of byte ≡ Some first → first_digit rest ≡ Some second
     → ◌≡◌ {A = Option (ℕ × ℕ)} (Some (10 * first + second, 2)) (Some (n, length (decimal n)))
-two_read n byte first second rest number is also = grind arith
+two_read number is also = grind arith

@@ -54,17 +54,17 @@ pub record AfterCell (f : ℕ → List ℕ) (w : ℕ) (more : List ℕ) (x : ℕ
   pub left : Left f w more (x + 1) after
   pub follows : ((x + 1 ≡ w) × (after ≡ codes "\n" ++ more)) ⊎ ((x + 1 < w) × ((t : List ℕ) × (after ≡ f (x + 1) ++ t)))
 
-end_or_cell : (f : ℕ → List ℕ) (w : ℕ) (more : List ℕ) (x m : ℕ) (after : List ℕ) → x + 1 + m ≡ w → after ≡ each_from f (x + 1) m ++ (codes "\n" ++ more)
+end_or_cell : (f : ℕ → List ℕ) {w : ℕ} (more : List ℕ) (x m : ℕ) {after : List ℕ} → x + 1 + m ≡ w → after ≡ each_from f (x + 1) m ++ (codes "\n" ++ more)
     → ((x + 1 ≡ w) × (after ≡ codes "\n" ++ more)) ⊎ ((x + 1 < w) × ((t : List ℕ) × (after ≡ f (x + 1) ++ t)))
 unfolding each_from
-end_or_cell f w more x zero after e is = inl (omega arith, is)
-end_or_cell f w more x (suc m) after e is = grind (arith, append_assoc (f (x + 1)) (each_from f (suc (x + 1)) m) (codes "\n" ++ more))
+end_or_cell f more x zero e is = inl (omega arith, is)
+end_or_cell f more x (suc m) e is = grind (arith, append_assoc (f (x + 1)) (each_from f (suc (x + 1)) m) (codes "\n" ++ more))
 
 pub after_cell : (f : ℕ → List ℕ) (w : ℕ) (more rest : List ℕ) (x : ℕ) → x < w → Left f w more x rest → AfterCell f w more x rest
 after_cell f w more rest x lt left =
     let r = row_first f w (codes "\n" ++ more) rest x lt left in
     let m = w - x - 1 in
-    record { after = r.after; split = r.split; left = r.left; follows = end_or_cell f w more x m r.after (omega arith) (r.left m (omega arith)) }
+    record { after = r.after; split = r.split; left = r.left; follows = end_or_cell f more x m (omega arith) (r.left m (omega arith)) }
 
 pub none_left : (f : ℕ → List ℕ) (w : ℕ) (more rest : List ℕ) (x : ℕ) → x ≡ w → Left f w more x rest → rest ≡ 10 ∷ more
 unfolding each_from
@@ -75,34 +75,35 @@ pub cell_follows : (cell : ℕ → List ℕ) (size : Extent) (y w x : ℕ) (more
     → (a : AfterCell (λ k. cell (y * w + k)) w more x rest) → Follows cell size (y * w + x) a.after
 cell_follows cell size y w x more rest wide a = grind (arith, mod-mul-add y w (x + 1))
 
-pub fit_more : (hides : ℕ → Type 0) (values : ℕ) (g new : List ℕ) (n k v : ℕ) → n < length g → new ≡ set g n v → k ≡ n + 1 → FitUpTo hides values g n → v < values
+pub fit_more : (hides : ℕ → Type 0) {values : ℕ} (g new : List ℕ) {n k v : ℕ} → n < length g → new ≡ set g n v → k ≡ n + 1
+    → FitUpTo hides values g n → v < values
     → (hides n → v ≡ 0) → FitUpTo hides values new k
-fit_more hides values g new n k v within written next fit small zero_there place lt = grind (arith, common_steps)
+fit_more hides g new within written next fit small zero_there place lt = grind (arith, common_steps)
 
-pub agree_more : (g new h : List ℕ) (n k v : ℕ) → n < length g → new ≡ set g n v → k ≡ n + 1 → AgreeUpTo g h n → v ≡ slice_index h n → AgreeUpTo new h k
-agree_more g new h n k v within written next agree is place lt = grind (arith, common_steps)
+pub agree_more : (g new h : List ℕ) {n k v : ℕ} → n < length g → new ≡ set g n v → k ≡ n + 1 → AgreeUpTo g h n → v ≡ slice_index h n → AgreeUpTo new h k
+agree_more g new h within written next agree is place lt = grind (arith, common_steps)
 
 -- what the reader of cells gives for the next cell
 pub record KnownCell (f : ℕ → List ℕ) (w : ℕ) (more rest : List ℕ) (x v : ℕ) (result : Option (ℕ × ℕ)) : Type 0 where
   pub cell : AfterCell f w more x rest
   pub read : result ≡ Some (v, length (f x))
 
-pub known_cell : (cell : ℕ → List ℕ) (size : Extent) (y w x v : ℕ) (more rest : List ℕ) (result : Option (ℕ × ℕ)) → w ≡ size.w → x < w
+pub known_cell : (cell : ℕ → List ℕ) (size : Extent) (y : ℕ) {w x v : ℕ} (more : List ℕ) {rest : List ℕ} {result : Option (ℕ × ℕ)} → w ≡ size.w → x < w
     → Left (λ k. cell (y * w + k)) w more x rest
     → ((after : List ℕ) → Follows cell size (y * w + x) after → rest ≡ cell (y * w + x) ++ after → result ≡ Some (v, length (cell (y * w + x))))
     → KnownCell (λ k. cell (y * w + k)) w more rest x v result
-known_cell cell size y w x v more rest result wide lt left reads =
+known_cell cell size y {w} {x} more {rest} wide lt left reads =
     let a = after_cell (λ k. cell (y * w + k)) w more rest x lt left in
     record { cell = a; read = reads a.after (cell_follows cell size y w x more rest wide a) a.split }
 
 -- the cell was read: what is left after it, and the number
-pub cell_read : (f : ℕ → List ℕ) (w x v value count m : ℕ) (more rest : List ℕ) (result : Option (ℕ × ℕ)) → KnownCell f w more rest x v result
+pub cell_read : {f : ℕ → List ℕ} {w x v : ℕ} (value count : ℕ) {m : ℕ} {more rest : List ℕ} {result : Option (ℕ × ℕ)} → KnownCell f w more rest x v result
     → result ≡ Some (value, count) → m ≡ length rest → Left f w more (x + 1) (take (m - count) (drop count rest)) × (value ≡ v)
-cell_read f w x v value count m more rest result known is all = grind (arith, common_steps)
+cell_read value count known is all = grind (arith, common_steps)
 
 -- the cell is always read
-pub cell_not_missed : (f : ℕ → List ℕ) (w x v : ℕ) (more rest : List ℕ) (result : Option (ℕ × ℕ)) → KnownCell f w more rest x v result → result ≡ None → ⊥
-cell_not_missed f w x v more rest result known none = absurd (cc (known.read, none))
+pub cell_not_missed : {f : ℕ → List ℕ} {w x v : ℕ} {more rest : List ℕ} {result : Option (ℕ × ℕ)} → KnownCell f w more rest x v result → result ≡ None → ⊥
+cell_not_missed known none = absurd (cc (known.read, none))
 
 pub next_row : (y w : ℕ) → (y + 1) * w ≡ y * w + w
 next_row y w = ap (λ (n : ℕ). n * w) (add-one y) ∙ suc-mul y w
@@ -110,8 +111,8 @@ next_row y w = ap (λ (n : ℕ). n * w) (add-one y) ∙ suc-mul y w
 pub in_grid : (size : Extent) (y w x cells : ℕ) → w ≡ size.w → x < w → y < size.h → cells ≡ size.w * size.h → y * w + x < cells
 in_grid size y w x cells wide lt below all = grind arith
 
-pub line_end : (rest more left : List ℕ) (byte : ℕ) → rest ≡ byte ∷ more → rest ≡ 10 ∷ left → (byte ≡ 10) × (more ≡ left)
-line_end rest more left byte split is = (cc, cc)
+pub line_end : {rest more left : List ℕ} {byte : ℕ} → rest ≡ byte ∷ more → rest ≡ 10 ∷ left → (byte ≡ 10) × (more ≡ left)
+line_end split is = (cc, cc)
 
 pub row_end : (y w x width : ℕ) → w ≤ x → x ≤ w → w ≡ width → (y + 1) * width ≡ y * w + x
 row_end y w x width over under wide = grind arith

@@ -7,7 +7,8 @@ abbrev pub place : ℕ → ℕ → List ℕ → ℕ
 place base d rest = base + (d - length rest)
 
 module _ {S P : Type 0} (step : ℕ → S → List ℕ → Result S IdFault) (end : S → Result P IdFault) (at : ℕ) (s : S) where
-  pub reading_turn : (t : S) (text word after : List ℕ) → Cuts text word after → step at s word ≡ Ok t → reading step end at s (words text) ≡ reading step end (at + length word) t (words after)
+  pub reading_turn : (t : S) (text word after : List ℕ) → Cuts text word after → step at s word ≡ Ok t
+      → reading step end at s (words text) ≡ reading step end (at + length word) t (words after)
   unfolding reading
   reading_turn t text word after cuts e = ap (reading step end at s) cuts.tokens ∙ rw e refl
 
@@ -15,7 +16,8 @@ module _ {S P : Type 0} (step : ℕ → S → List ℕ → Result S IdFault) (en
   unfolding reading words
   reading_end text e = rw e refl
 
-  reading_cons : (word : List ℕ) (words : List (List ℕ)) → reading step end at s (word ∷ words) ≡ (step at s word >>= (λ t. reading step end (at + length word) t words))
+  reading_cons : (word : List ℕ) (words : List (List ℕ))
+      → reading step end at s (word ∷ words) ≡ (step at s word >>= (λ t. reading step end (at + length word) t words))
   unfolding reading
   reading_cons word words = refl
 
@@ -35,8 +37,18 @@ module _ {S P : Type 0} (step : ℕ → S → List ℕ → Result S IdFault) (en
   first_fault at s [] e = grind (arith, reading_nil step stop at s, reading_nil step end at s)
   first_fault at s (word ∷ words) e = cases (step at s word) refl (λ t. first_fault (at + length word) t words)
     where
-      cases : (r : Result S IdFault) → step at s word ≡ r → ((t : S) → reading step end (at + length word) t words ≡ Err f → FirstFault step end (at + length word) t words f) → FirstFault step end at s (word ∷ words) f
-      cases (Err g) q next = record { front = []; rest = word ∷ words; parts = refl; state = s; leads = reading_nil step stop at s; fault = inr (word, words, refl, grind (arith, reading_cons step end at s word words)) }
+      cases : (r : Result S IdFault) → step at s word ≡ r
+          → ((t : S) → reading step end (at + length word) t words ≡ Err f → FirstFault step end (at + length word) t words f)
+          → FirstFault step end at s (word ∷ words) f
+      cases (Err g) q next =
+          record {
+            front = [];
+            rest = word ∷ words;
+            parts = refl;
+            state = s;
+            leads = reading_nil step stop at s;
+            fault = inr (word, words, refl, grind (arith, reading_cons step end at s word words));
+          }
       cases (Ok t) q next =
           let r = next t (grind (arith, reading_cons step end at s word words)) in
           record {
@@ -48,7 +60,8 @@ module _ {S P : Type 0} (step : ℕ → S → List ℕ → Result S IdFault) (en
             fault = subst (λ k. FailsAt k r.state r.rest) (later at word r.front) r.fault;
           }
 
-  fails_after : (at : ℕ) (s : S) (front rest : List (List ℕ)) (state : S) → reading step stop at s front ≡ Ok state → FailsAt (at + length (concat front)) state rest → reading step end at s (front ++ rest) ≡ Err f
+  fails_after : (at : ℕ) (s : S) (front rest : List (List ℕ)) (state : S) → reading step stop at s front ≡ Ok state
+      → FailsAt (at + length (concat front)) state rest → reading step end at s (front ++ rest) ≡ Err f
   unfolding reading
   fails_after at s [] rest state leads fault = grind (arith, reading_nil step stop at s, reading_nil step end at s, reading_cons step end at s)
   fails_after at s (word ∷ front) rest state leads fault =

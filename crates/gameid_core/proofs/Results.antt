@@ -16,8 +16,8 @@ pub ok_is : {A : Type 0} (x y : A) → taken x ≡ taken y → x ≡ y
 ok_is x y e = cc
 
 -- a test that refuses let through what was taken, and one that takes took it
-pub not_refused : {A : Type 0} (b : Bool) (f : IdFault) (r : Result A IdFault) (x : A) → cond b (Err f) r ≡ Ok x → (b ≡ false) × (r ≡ Ok x)
-not_refused b f r x e = grind arith
+pub not_refused : {A : Type 0} (b : Bool) (f : IdFault) {r : Result A IdFault} {x : A} → cond b (Err f) r ≡ Ok x → (b ≡ false) × (r ≡ Ok x)
+not_refused b f e = grind arith
 
-pub only_taken : {A : Type 0} (b : Bool) (f : IdFault) (r : Result A IdFault) (x : A) → cond b r (Err f) ≡ Ok x → (b ≡ true) × (r ≡ Ok x)
-only_taken b f r x e = grind arith
+pub only_taken : {A : Type 0} (b : Bool) (f : IdFault) {r : Result A IdFault} {x : A} → cond b r (Err f) ≡ Ok x → (b ≡ true) × (r ≡ Ok x)
+only_taken b f e = grind arith

@@ -49,7 +49,8 @@ are_runs size g line zero = tt
 are_runs size g line (suc n) = (runs_line_fits size g line, are_runs size g (line + 1) n)
 
 -- the runs of the lines are clues that fit
-pub runs_lawful : (size : Extent) (g : List ℕ) (clues : List (List ℕ)) → IsExtent size → clues ≡ lines_runs size g → IsPattern (record { size = size; clues = clues })
+pub runs_lawful : (size : Extent) (g : List ℕ) (clues : List (List ℕ)) → IsExtent size → clues ≡ lines_runs size g
+    → IsPattern (record { size = size; clues = clues })
 runs_lawful size g clues e is = grind (arith, length-map-range_with_len, are_runs size g 0 (lines_of size))
 
 pub ruleset laws = (runs_run, runs_run_and_white)

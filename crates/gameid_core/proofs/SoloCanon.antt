@@ -12,7 +12,8 @@ before_short : (k : ℕ) (touches : Bool) → length (before_given k touches) �
 before_short k touches = grind (arith, common_steps, letters_short)
 
 -- a cell takes at most three bytes: '_' and two digits
-cells_short : (k : ℕ) (touches : Bool) (cells : List ℕ) → AllByRecursion (λ v. v ≤ max_numbers) cells → length (cells_text k touches cells) ≤ k + 3 * length cells
+cells_short : (k : ℕ) (touches : Bool) (cells : List ℕ) → AllByRecursion (λ v. v ≤ max_numbers) cells
+    → length (cells_text k touches cells) ≤ k + 3 * length cells
 unfolding cells_text
 cells_short k touches [] h = omega (arith, letters_short k)
 cells_short k touches (zero ∷ cells) h = omega (arith, cells_short (k + 1) touches cells h.1)
@@ -26,7 +27,18 @@ size_short : (c r : ℕ) (x : Bool) → length (solo_size_text c r x) ≤ length
 size_short c r x = grind (arith, common_steps, length-append)
 
 pub solo_short : (p : Solo) → IsSolo p → length (solo_text p) ≤ max_id
-solo_short p h = grind (arith, length-decimal-le 2 p.c, length-decimal-le 2 p.r, cells_short 0 false p.givens, range_more (solo_n p) p.givens, solo_few (solo_n p), size_short p.c p.r p.x, length-append (decimal p.c) (120 ∷ decimal p.r), length-append (solo_size_text p.c p.r p.x) (58 ∷ cells_text 0 false p.givens))
+solo_short p h =
+    grind (
+      arith,
+      length-decimal-le 2 p.c,
+      length-decimal-le 2 p.r,
+      cells_short 0 false p.givens,
+      range_more (solo_n p) p.givens,
+      solo_few (solo_n p),
+      size_short p.c p.r p.x,
+      length-append (decimal p.c) (120 ∷ decimal p.r),
+      length-append (solo_size_text p.c p.r p.x) (58 ∷ cells_text 0 false p.givens),
+    )
 
 -- ---- what it spells
 
@@ -58,7 +70,8 @@ z_first k touches (suc v ∷ cells) some = grind (arith, before_some (k + 26) to
 tokens_spell : (k : ℕ) (touches : Bool) (cells : List ℕ) → k ≤ 26 → cells_text k touches cells ≡ flat_map solo_token_text (tokens_of k touches cells)
 unfolding cells_text tokens_of
 tokens_spell k touches [] few = grind (arith, common_steps, letters_none, letters_last)
-tokens_spell k touches (zero ∷ cells) few = grind (arith, nat_tests, common_steps, z_first 1 touches cells, tokens_spell 1 false cells, tokens_spell (k + 1) touches cells)
+tokens_spell k touches (zero ∷ cells) few =
+    grind (arith, nat_tests, common_steps, z_first 1 touches cells, tokens_spell 1 false cells, tokens_spell (k + 1) touches cells)
 tokens_spell k touches (suc v ∷ cells) few = grind (arith, common_steps, letters_none, letters_last, tokens_spell 0 true cells)
 
 -- no number comes first
@@ -81,10 +94,12 @@ full_z tokens h = grind arith
 given_apart : (v : ℕ) (tokens : List SoloToken) → IsClear tokens → AreApart tokens → AreApart (given v ∷ tokens)
 given_apart v tokens c h = grind arith
 
-tokens_form : (n k : ℕ) (touches : Bool) (cells : List ℕ) → k ≤ 26 → AllByRecursion (λ v. v ≤ n) cells → Form n touches (replicate k 0 ++ cells) (tokens_of k touches cells)
+tokens_form : (n k : ℕ) (touches : Bool) (cells : List ℕ) → k ≤ 26 → AllByRecursion (λ v. v ≤ n) cells
+    → Form n touches (replicate k 0 ++ cells) (tokens_of k touches cells)
 unfolding tokens_of
 tokens_form n k touches [] few h = grind (arith, common_steps)
-tokens_form n k touches (zero ∷ cells) few h = grind (arith, nat_tests, common_steps, full_z (tokens_of 1 false cells), tokens_form n 1 false cells, tokens_form n (k + 1) touches cells)
+tokens_form n k touches (zero ∷ cells) few h =
+    grind (arith, nat_tests, common_steps, full_z (tokens_of 1 false cells), tokens_form n 1 false cells, tokens_form n (k + 1) touches cells)
 tokens_form n k touches (suc v ∷ cells) few h = grind (arith, common_steps, given_apart (suc v) (tokens_of 0 true cells), tokens_form n 0 true cells)
 
 written_size : (c r : ℕ) (x : Bool) → IsSoloSizeText (solo_size_text c r x) c r x
@@ -117,14 +132,17 @@ of_run k zero touches cells le = grind arith
 of_run k (suc j) touches cells le = grind (arith, nat_tests, common_steps, of_run (k + 1) j touches cells)
 
 -- tokens of the form are those of their cells
-form_tokens : (n : ℕ) (touches : Bool) (tokens : List SoloToken) → Form n touches (flat_map solo_token_cells tokens) tokens → tokens_of 0 touches (flat_map solo_token_cells tokens) ≡ tokens
+form_tokens : (n : ℕ) (touches : Bool) (tokens : List SoloToken) → Form n touches (flat_map solo_token_cells tokens) tokens
+    → tokens_of 0 touches (flat_map solo_token_cells tokens) ≡ tokens
 unfolding tokens_of
 form_tokens n touches [] f = refl
 form_tokens n touches (blanks k ∷ []) f = grind (arith, common_steps, of_run 0 k touches [])
 form_tokens n touches (blanks k ∷ blanks zero ∷ tokens) f = absurd (let each = f.each in omega arith)
-form_tokens n touches (blanks k ∷ blanks (suc j) ∷ tokens) f = grind (arith, common_steps, of_run 0 k touches (flat_map solo_token_cells (blanks (suc j) ∷ tokens)), form_tokens n false (blanks (suc j) ∷ tokens))
+form_tokens n touches (blanks k ∷ blanks (suc j) ∷ tokens) f =
+    grind (arith, common_steps, of_run 0 k touches (flat_map solo_token_cells (blanks (suc j) ∷ tokens)), form_tokens n false (blanks (suc j) ∷ tokens))
 form_tokens n touches (blanks k ∷ gap ∷ tokens) f = absurd (let needed = f.needed in false≢true needed.0)
-form_tokens n touches (blanks k ∷ given v ∷ tokens) f = grind (arith, common_steps, of_run 0 k touches (flat_map solo_token_cells (given v ∷ tokens)), form_tokens n true tokens)
+form_tokens n touches (blanks k ∷ given v ∷ tokens) f =
+    grind (arith, common_steps, of_run 0 k touches (flat_map solo_token_cells (given v ∷ tokens)), form_tokens n true tokens)
 form_tokens n touches (gap ∷ []) f = absurd (let needed = f.needed in needed.1)
 form_tokens n touches (gap ∷ blanks k ∷ tokens) f = absurd (let needed = f.needed in needed.1)
 form_tokens n touches (gap ∷ gap ∷ tokens) f = absurd (let needed = f.needed in needed.1)

@@ -1,16 +1,17 @@
 -- Solo: the tokens of a text, and that a text is read exactly where it spells a puzzle.
-use Rattle.gameid_core.specs.Common.{AllByRecursion, BadByte, Bool, Cuts, Err, Gives, HasOneReading, IdFault, IsSolo, List, NumberRange, Ok, Result, Solo, [], after_digits, ap, arith, begins, common_steps, concat, decimal, decimal-digits_value, digits_front, digits_value-decimal, eqb, false, false≢true, flat_map, get_or, in_range, is_ascii_digit, is_letter, length, map, max_numbers, refl, replicate, solo_puzzle, subst, true, value, words, ℕ, ◌*◌, ◌++◌, ◌+◌, ◌-◌, ◌<◌, ◌^◌, ◌∷◌, ◌≡◌, ◌≤◌}
+use Rattle.gameid_core.specs.Common.{AllByRecursion, BadByte, Bool, Cuts, Err, Gives, HasOneReading, IdFault, IsSolo, List, NumberRange, Ok, Result, Solo, [], after_digits, ap, arith, begins, common_steps, concat, decimal, decimal-digits_value, digits_front, digits_value-decimal, eqb, false, false≢true, flat_map, get_or, in_range, is_ascii_digit, is_lead, is_letter, length, map, max_numbers, refl, replicate, solo_puzzle, subst, true, value, words, ℕ, ◌*◌, ◌++◌, ◌+◌, ◌-◌, ◌<◌, ◌^◌, ◌∷◌, ◌≡◌, ◌≤◌}
 use Rattle.gameid_core.specs.SoloText.{AreApart, IsSoloToken, SoloToken, SpellsSolo, blanks, gap, given, solo_behind, solo_cells_at, solo_of, solo_token, solo_token_cells, solo_token_text}
 use Rattle.gameid_core.proofs.OneReading.{only_of, reading_of}
 use Rattle.gameid_core.proofs.Tokens.{cuts_some, cuts_single, cuts_number, words_nil, IsWord, words_are, concat_words, alone}
-use Rattle.gameid_core.proofs.Numerals.{is_lead, lead_is_digit, numeral_cuts, numeral, own, decimal_leads, value_positive}
+use Rattle.gameid_core.proofs.Numerals.{lead_is_digit, numeral_cuts, numeral, own, decimal_leads, value_positive}
 use Rattle.gameid_core.proofs.CellsReading.{Token, cells_spelled, cells_again}
 use Rattle.gameid_core.proofs.Lists.{AllByRecursion-replicate, AllByRecursion-flat_map}
 use Rattle.gameid_core.specs.declared.id.game.Game.TheVariants as game
 use Rattle.gameid_core.proofs.HeadLaws.{parts_of, solo_size, size_of_solo, puzzle_again}
 
 module _ (n at : ℕ) where
-  pub solo_letter : (first : ℕ) (after : List ℕ) → 97 ≤ first → first ≤ 122 → Cuts (first ∷ after) (first ∷ []) after × (solo_token n at (first ∷ []) ≡ Ok (replicate (first - 96) 0))
+  pub solo_letter : (first : ℕ) (after : List ℕ) → 97 ≤ first → first ≤ 122
+      → Cuts (first ∷ after) (first ∷ []) after × (solo_token n at (first ∷ []) ≡ Ok (replicate (first - 96) 0))
   unfolding solo_token
   solo_letter first after low high = grind (arith, cuts_single first after)
 
@@ -18,17 +19,21 @@ module _ (n at : ℕ) where
   unfolding solo_token
   solo_gap after = (cuts_single 95 after refl, refl)
 
-  pub bad_byte : (first : ℕ) (rest after : List ℕ) → rest ≡ first ∷ after → (97 ≤ first → first ≤ 122 → ⊥) → (first ≡ 95 → ⊥) → (49 ≤ first → first ≤ 57 → ⊥) → (word tail : List ℕ) × Cuts rest word tail × (solo_token n at word ≡ Err (BadByte at))
+  pub bad_byte : (first : ℕ) (rest after : List ℕ) → rest ≡ first ∷ after → (97 ≤ first → first ≤ 122 → ⊥) → (first ≡ 95 → ⊥)
+      → (49 ≤ first → first ≤ 57 → ⊥) → (word tail : List ℕ) × Cuts rest word tail × (solo_token n at word ≡ Err (BadByte at))
   unfolding solo_token
   bad_byte first rest after e letter no_gap lead = grind (arith, cuts_some first after)
 
   -- a number in front is a token, which is taken if it is in range
-  pub solo_given : (rest : List ℕ) → begins is_lead rest ≡ true → value (digits_front rest) ≤ n → Cuts rest (digits_front rest) (after_digits rest) × (solo_token n at (digits_front rest) ≡ Ok (value (digits_front rest) ∷ []))
+  pub solo_given : (rest : List ℕ) → begins is_lead rest ≡ true → value (digits_front rest) ≤ n
+      → Cuts rest (digits_front rest) (after_digits rest)
+      × (solo_token n at (digits_front rest) ≡ Ok (value (digits_front rest) ∷ []))
   unfolding solo_token
   solo_given [] lead le = absurd (false≢true lead)
   solo_given (b ∷ after) lead le = grind (arith, cuts_number (b ∷ after) (lead_is_digit b lead))
 
-  pub solo_over : (rest : List ℕ) → begins is_lead rest ≡ true → n < value (digits_front rest) → Cuts rest (digits_front rest) (after_digits rest) × (solo_token n at (digits_front rest) ≡ Err (NumberRange at))
+  pub solo_over : (rest : List ℕ) → begins is_lead rest ≡ true → n < value (digits_front rest)
+      → Cuts rest (digits_front rest) (after_digits rest) × (solo_token n at (digits_front rest) ≡ Err (NumberRange at))
   unfolding solo_token
   solo_over [] lead over = absurd (false≢true lead)
   solo_over (b ∷ after) lead over = grind (arith, cuts_number (b ∷ after) (lead_is_digit b lead))
@@ -94,7 +99,8 @@ module _ (n : ℕ) where
   token_range gap h = tt
   token_range (given v) h = (h.1, tt)
 
-  no_digit_first : (v : ℕ) (tokens : List SoloToken) → Each tokens → AreApart (given v ∷ tokens) → begins is_ascii_digit (flat_map solo_token_text tokens) ≡ false
+  no_digit_first : (v : ℕ) (tokens : List SoloToken) → Each tokens → AreApart (given v ∷ tokens)
+      → begins is_ascii_digit (flat_map solo_token_text tokens) ≡ false
   no_digit_first v tokens each h = grind arith
 
   given_read : (at v : ℕ) → v < 2 ^ 64 → 0 < v → v ≤ n → solo_token n at (decimal v) ≡ Ok (v ∷ [])
@@ -117,14 +123,25 @@ module _ (n : ℕ) where
 
     apart_tokens : (tokens : List SoloToken) → Each tokens → Apart (map solo_token_text tokens) → AreApart tokens
     apart_tokens [] each h = grind (arith, common_steps, decimal_digit_first)
-    apart_tokens (x1 ∷ xs1) each h = grind (arith, common_steps, apart_tokens xs1, decimal_digit_first)
+    apart_tokens (x ∷ xs) each h = grind (arith, common_steps, apart_tokens xs, decimal_digit_first)
 
     -- what is read is spelled
     solo_take : (at : ℕ) (description cells : List ℕ) → solo_cells_at n at description ≡ Ok cells → SoloDescribed n description cells
-    solo_take at description cells e = grind (arith, cells_spelled solo_token_text solo_token_cells (IsSoloToken n) (solo_token n) IsWord token_word (n * n) at [] (words description) cells (words_are description) e, concat_words description, concat_texts, apart_tokens, words_apart description)
+    solo_take at description cells e =
+        grind (
+          arith,
+          cells_spelled solo_token_text solo_token_cells (IsSoloToken n) (solo_token n) IsWord token_word
+              (n * n) at [] (words description) cells (words_are description) e,
+          concat_words description,
+          concat_texts,
+          apart_tokens,
+          words_apart description,
+        )
 
     -- and what is spelled is read: the texts of tokens are the tokens of their text
-    token_cuts : (token : SoloToken) (tokens : List SoloToken) → Each (token ∷ tokens) → AreApart (token ∷ tokens) → Cuts (solo_token_text token ++ flat_map solo_token_text tokens) (solo_token_text token) (flat_map solo_token_text tokens)
+    token_cuts : (token : SoloToken) (tokens : List SoloToken) → Each (token ∷ tokens) → AreApart (token ∷ tokens)
+        → Cuts (solo_token_text token ++ flat_map solo_token_text tokens) (solo_token_text token)
+        (flat_map solo_token_text tokens)
     token_cuts (blanks k) tokens each h = (solo_letter n 0 (96 + k) _ (omega (arith, each.0.0)) (omega (arith, each.0.1))).0
     token_cuts gap tokens each h = (solo_gap n 0 _).0
     token_cuts (given v) tokens each h = numeral_cuts (decimal v) _ (numeral v (omega (arith, each.0.1))) (no_digit_first v tokens each.1 h)
@@ -138,24 +155,32 @@ module _ (n : ℕ) where
     token_again at gap h = (solo_gap n at []).1
     token_again at (given v) h = given_read at v (omega (arith, h.1)) h.0 h.1
 
-    solo_again : (at : ℕ) (tokens : List SoloToken) → Each tokens → AreApart tokens → length (flat_map solo_token_cells tokens) ≡ n * n → solo_cells_at n at (flat_map solo_token_text tokens) ≡ Ok (flat_map solo_token_cells tokens)
-    solo_again at tokens each h full = grind (arith, words_again tokens each h, cells_again solo_token_text solo_token_cells (IsSoloToken n) (solo_token n) token_again (n * n) at [] tokens each)
+    solo_again : (at : ℕ) (tokens : List SoloToken) → Each tokens → AreApart tokens
+        → length (flat_map solo_token_cells tokens) ≡ n * n
+        → solo_cells_at n at (flat_map solo_token_text tokens) ≡ Ok (flat_map solo_token_cells tokens)
+    solo_again at tokens each h full =
+        grind (arith, words_again tokens each h, cells_again solo_token_text solo_token_cells (IsSoloToken n) (solo_token n) token_again (n * n) at [] tokens each)
 
 -- ---- IDs
 
 pub n_few : (c r : ℕ) → in_range game.Solo c r ≡ true → c * r ≤ max_numbers
 n_few c r range = grind arith
 
-pub solo_lawful : {c r : ℕ} {x : Bool} {cells : List ℕ} (at : ℕ) (description : List ℕ) → in_range game.Solo c r ≡ true → solo_cells_at (c * r) at description ≡ Ok cells → IsSolo (solo_puzzle c r x cells)
+pub solo_lawful : {c r : ℕ} {x : Bool} {cells : List ℕ} (at : ℕ) (description : List ℕ) → in_range game.Solo c r ≡ true
+    → solo_cells_at (c * r) at description ≡ Ok cells → IsSolo (solo_puzzle c r x cells)
 solo_lawful {c = c} {r = r} {cells = cells} at description range e =
     let small = n_few c r range in
     let d = solo_take (c * r) (omega arith) at description cells e in
-    let fits : AllByRecursion (λ v. v ≤ c * r) cells = subst (AllByRecursion (λ v. v ≤ c * r)) d.filled (AllByRecursion-flat_map _ _ solo_token_cells (token_range (c * r)) d.tokens d.each) in
+    let fits : AllByRecursion (λ v. v ≤ c * r) cells =
+    subst (AllByRecursion (λ v. v ≤ c * r)) d.filled
+    (AllByRecursion-flat_map _ _ solo_token_cells (token_range (c * r)) d.tokens d.each) in
     grind (arith, d.count)
 
 pub solo_takes : (text : List ℕ) (p : Solo) → solo_of text ≡ Ok p → SpellsSolo text p
 solo_takes text p e =
-    let r = parts_of game.Solo text (λ head description. solo_cells_at (head.size.w * head.size.h) head.description description) (λ head givens. solo_puzzle head.size.w head.size.h head.size.x givens) p e in
+    let r =
+    parts_of game.Solo text (λ head description. solo_cells_at (head.size.w * head.size.h) head.description description)
+    (λ head givens. solo_puzzle head.size.w head.size.h head.size.x givens) e in
     let small = n_few r.head.size.w r.head.size.h r.is_head.range in
     let d = solo_take (r.head.size.w * r.head.size.h) (omega arith) _ _ _ r.read in
     subst (SpellsSolo text) r.made (record {
@@ -171,7 +196,8 @@ solo_takes text p e =
     })
 
 pub solo_text_again : (text : List ℕ) (p : Solo) → SpellsSolo text p → solo_of text ≡ Ok p
-solo_text_again text p s = grind (arith, puzzle_again game.Solo solo_behind s.front (flat_map solo_token_text s.tokens) p.c p.r p.x (size_of_solo s.front p.c p.r p.x s.size), solo_again (p.c * p.r))
+solo_text_again text p s =
+    grind (arith, puzzle_again game.Solo solo_behind s.front (flat_map solo_token_text s.tokens) p.c p.r p.x (size_of_solo s.front p.c p.r p.x s.size), solo_again (p.c * p.r))
 
 pub solo_reading : HasOneReading SpellsSolo solo_of
 solo_reading = reading_of _ _ solo_text_again solo_takes

@@ -48,7 +48,9 @@ pub run_length : (blanks : ℕ) (tree : Bool) → length (run_cells blanks tree)
 run_length blanks tree = grind (arith, common_steps, length-append, length-replicate)
 
 run_bits : (blanks : ℕ) (tree : Bool) → AllByRecursion (λ b. b < 2) (run_cells blanks tree)
-run_bits blanks true = AllByRecursion-append (λ b. b < 2) (replicate blanks 0) (1 ∷ []) (AllByRecursion-replicate (λ b. b < 2) 0 blanks (omega arith)) (omega arith, tt)
+run_bits blanks true =
+    AllByRecursion-append (λ b. b < 2) (replicate blanks 0) (1 ∷ [])
+    (AllByRecursion-replicate (λ b. b < 2) 0 blanks (omega arith)) (omega arith, tt)
 run_bits blanks false = AllByRecursion-append (λ b. b < 2) (replicate blanks 0) [] (AllByRecursion-replicate (λ b. b < 2) 0 blanks (omega arith)) tt
 
 -- ---- what is read is spelled
@@ -70,13 +72,17 @@ record Spelled (places counts text : List ℕ) (all : TentsSoFar) : Type 0 where
   numerals : List (List ℕ)
   is : IsSpelled places counts text all tokens numerals
 
-comma_word : (word : List ℕ) → IsWord word → begins (λ b. eqb b 44) word ≡ true → (length word ≡ 1 → ⊥) → (word ≡ 44 ∷ drop 1 word) × IsNumeral (drop 1 word)
-comma_word word w c some = grind arith
+comma_word : {word : List ℕ} → IsWord word → begins (λ b. eqb b 44) word ≡ true → (length word ≡ 1 → ⊥) → (word ≡ 44 ∷ drop 1 word) × IsNumeral (drop 1 word)
+comma_word w c some = grind arith
 
-spelled_counted : (places counts word rest : List ℕ) (all : TentsSoFar) → (word ≡ 44 ∷ drop 1 word) × IsNumeral (drop 1 word) → Spelled places (counts ++ value (drop 1 word) ∷ []) rest all → Spelled places counts (word ++ rest) all
-spelled_counted places counts word rest all w r = record { tokens = []; numerals = drop 1 word ∷ r.numerals; is = grind (arith, common_steps) }
+spelled_counted : {places counts : List ℕ} (word : List ℕ) {rest : List ℕ} {all : TentsSoFar}
+    → (word ≡ 44 ∷ drop 1 word) × IsNumeral (drop 1 word) → Spelled places (counts ++ value (drop 1 word) ∷ []) rest all
+    → Spelled places counts (word ++ rest) all
+spelled_counted word w r = record { tokens = []; numerals = drop 1 word ∷ r.numerals; is = grind (arith, common_steps) }
 
-spelled_planted : (at : ℕ) (places counts word rest : List ℕ) (run : ℕ × Bool) (all : TentsSoFar) → IsWord word → length counts ≤ 0 → tents_run at (get_or word 0 0) ≡ Ok run → Spelled (places ++ run_cells run.0 run.1) counts rest all → Spelled places counts (word ++ rest) all
+spelled_planted : (at : ℕ) (places counts word rest : List ℕ) (run : ℕ × Bool) (all : TentsSoFar) → IsWord word
+    → length counts ≤ 0 → tents_run at (get_or word 0 0) ≡ Ok run → Spelled (places ++ run_cells run.0 run.1) counts rest all
+    → Spelled places counts (word ++ rest) all
 spelled_planted at places counts [] rest run all w early e r = absurd w
 spelled_planted at places counts (b ∷ more) rest run all w early e r =
     let t = run_token at b run e in
@@ -121,7 +127,7 @@ last_of (x ∷ y ∷ ys) = last_of (y ∷ ys)
 pub last_push : (xs : List ℕ) (x : ℕ) → last_of (xs ++ x ∷ []) ≡ x
 unfolding last_of
 last_push [] x = grind arith
-last_push (x1 ∷ xs1) x = grind (arith, common_steps, last_push xs1)
+last_push (x1 ∷ xs) x = grind (arith, common_steps, last_push xs)
 
 blank_last : (places trees : List ℕ) → places ++ replicate 25 0 ≡ trees ++ 1 ∷ [] → ⊥
 blank_last places trees e = grind (arith, append_assoc places (replicate 24 0) (0 ∷ []), last_push (places ++ replicate 24 0) 0, last_push trees 1)
@@ -132,7 +138,9 @@ module _ (size : Extent) where
 
   -- ---- a number behind ','
 
-  pub count_read : (at : ℕ) (places counts word : List ℕ) → cells_in size + 1 ≤ length places → (length counts ≡ lines_of size → ⊥) → (length word ≡ 1 → ⊥) → value (drop 1 word) ≤ line_cells size (length counts) → tents_count size at (at_tents places counts) word ≡ Ok (value (drop 1 word))
+  pub count_read : (at : ℕ) (places counts word : List ℕ) → cells_in size + 1 ≤ length places
+      → (length counts ≡ lines_of size → ⊥) → (length word ≡ 1 → ⊥) → value (drop 1 word) ≤ line_cells size (length counts)
+      → tents_count size at (at_tents places counts) word ≡ Ok (value (drop 1 word))
   unfolding tents_count
   count_read at places counts word full lines one fits = grind arith
 
@@ -141,7 +149,8 @@ module _ (size : Extent) where
   abbrev pub reads : ℕ → List ℕ → List ℕ → List ℕ → Result TentsSoFar IdFault
   reads at places counts rest = read_words at (at_tents places counts) (words rest)
 
-  pub end_is : (places counts : List ℕ) (full : Bool) → eqb (length counts) (lines_of size) ≡ full → tents_end size (at_tents places counts) ≡ cond full (Ok (at_tents places counts)) (Err TooFew)
+  pub end_is : (places counts : List ℕ) (full : Bool) → eqb (length counts) (lines_of size) ≡ full
+      → tents_end size (at_tents places counts) ≡ cond full (Ok (at_tents places counts)) (Err TooFew)
   end_is places counts full e = rw e refl
 
   -- ---- a step that was taken: a number behind ',', or cells of the trees
@@ -161,13 +170,15 @@ module _ (size : Extent) where
     pub room : length places + length (run_cells run.0 run.1) ≤ cells_in size + cond run.1 1 0
     pub leads : at_tents (places ++ run_cells run.0 run.1) counts ≡ t
 
-  pub step_cases : (at : ℕ) (places counts word : List ℕ) (t : TentsSoFar) → tents_step size at (at_tents places counts) word ≡ Ok t → Counted places counts word t ⊎ Planted at places counts word t
+  pub step_cases : (at : ℕ) (places counts word : List ℕ) (t : TentsSoFar)
+      → tents_step size at (at_tents places counts) word ≡ Ok t → Counted places counts word t ⊎ Planted at places counts word t
   unfolding tents_count tents_tree
   step_cases at places counts word t e = grind arith
 
   -- ---- what is read fits
 
-  AreCounts-push : (line : ℕ) (counts : List ℕ) (n : ℕ) → AreCounts size line counts → n ≤ line_cells size (line + length counts) → AreCounts size line (counts ++ n ∷ [])
+  AreCounts-push : (line : ℕ) (counts : List ℕ) (n : ℕ) → AreCounts size line counts → n ≤ line_cells size (line + length counts)
+      → AreCounts size line (counts ++ n ∷ [])
   AreCounts-push line [] n h p = grind arith
   AreCounts-push line (m ∷ counts) n h p = grind (arith, nat_tests, AreCounts-push (line + 1) counts n h.1)
 
@@ -179,21 +190,27 @@ module _ (size : Extent) where
     tree : length places ≡ cells_in size + 1 → (front : List ℕ) × (places ≡ front ++ 1 ∷ [])
     fit : AreCounts size 0 counts
 
-  sound_counted : (places counts : List ℕ) (n : ℕ) → Sound places counts → cells_in size + 1 ≤ length places → n ≤ line_cells size (length counts) → Sound places (counts ++ n ∷ [])
-  sound_counted places counts n s full fits = grind (arith, AreCounts-push 0 counts n s.fit)
+  sound_counted : {places counts : List ℕ} (n : ℕ) → Sound places counts → cells_in size + 1 ≤ length places
+      → n ≤ line_cells size (length counts) → Sound places (counts ++ n ∷ [])
+  sound_counted {counts} n s full fits = grind (arith, AreCounts-push 0 counts n s.fit)
 
-  sound_planted : (places counts : List ℕ) (blanks : ℕ) (tree : Bool) → Sound places counts → length counts ≤ 0 → length places + length (run_cells blanks tree) ≤ cells_in size + cond tree 1 0 → Sound (places ++ run_cells blanks tree) counts
-  sound_planted places counts blanks true s early room = grind (arith, common_steps, run_bits blanks true, append_assoc places (replicate blanks 0) (1 ∷ []))
-  sound_planted places counts blanks false s early room = grind (arith, common_steps, run_bits blanks false)
+  sound_planted : {places counts : List ℕ} (blanks : ℕ) (tree : Bool) → Sound places counts → length counts ≤ 0
+      → length places + length (run_cells blanks tree) ≤ cells_in size + cond tree 1 0
+      → Sound (places ++ run_cells blanks tree) counts
+  sound_planted {places} blanks true s early room = grind (arith, common_steps, run_bits blanks true, append_assoc places (replicate blanks 0) (1 ∷ []))
+  sound_planted blanks false s early room = grind (arith, common_steps, run_bits blanks false)
 
-  sound_read : (at : ℕ) (places counts : List ℕ) (ws : List (List ℕ)) (all : TentsSoFar) → Sound places counts → read_words at (at_tents places counts) ws ≡ Ok all → Sound all.places all.counts × (length all.counts ≡ lines_of size)
+  sound_read : (at : ℕ) (places counts : List ℕ) (ws : List (List ℕ)) (all : TentsSoFar) → Sound places counts
+      → read_words at (at_tents places counts) ws ≡ Ok all → Sound all.places all.counts × (length all.counts ≡ lines_of size)
   unfolding reading
   sound_read at places counts [] all s e = grind arith
   sound_read at places counts (word ∷ ws) all s e =
       let b = bind_ok (tents_step size at (at_tents places counts) word) (λ t. read_words (at + length word) t ws) all e in
       elim (step_cases at places counts word b.0 b.1) [
-        | inl c ↦ sound_read (at + length word) places (counts ++ value (drop 1 word) ∷ []) ws all (sound_counted places counts _ s c.full c.fits) (ap (λ t. read_words (at + length word) t ws) c.leads ∙ b.2)
-        | inr p ↦ sound_read (at + length word) (places ++ run_cells p.run.0 p.run.1) counts ws all (sound_planted places counts p.run.0 p.run.1 s p.early p.room) (ap (λ t. read_words (at + length word) t ws) p.leads ∙ b.2)
+        | inl c ↦ sound_read (at + length word) places (counts ++ value (drop 1 word) ∷ []) ws all
+            (sound_counted _ s c.full c.fits) (ap (λ t. read_words (at + length word) t ws) c.leads ∙ b.2)
+        | inr p ↦ sound_read (at + length word) (places ++ run_cells p.run.0 p.run.1) counts ws all
+            (sound_planted p.run.0 p.run.1 s p.early p.room) (ap (λ t. read_words (at + length word) t ws) p.leads ∙ b.2)
       ]
 
   -- the cells without the tree after them
@@ -210,28 +227,34 @@ module _ (size : Extent) where
   pub tents_read : (at : ℕ) (description : List ℕ) (s : TentsSoFar) → IsWide size → tents_at size at description ≡ Ok s → TentsRead s
   tents_read at description s wide e = grind (arith, common_steps, sound_read at [] [] (words description) s)
 
-  pub tents_lawful : (at : ℕ) (description : List ℕ) (s : TentsSoFar) → IsWide size → tents_at size at description ≡ Ok s → IsTents (record { size = size; trees = take (cells_in size) s.places; counts = s.counts })
+  pub tents_lawful : (at : ℕ) (description : List ℕ) (s : TentsSoFar) → IsWide size → tents_at size at description ≡ Ok s
+      → IsTents (record { size = size; trees = take (cells_in size) s.places; counts = s.counts })
   tents_lawful at description s wide e = grind (arith, tents_read at description s wide e)
 
   -- a byte of the trees is a token, and its places are taken or refused
-  pub tree_taken : (at b : ℕ) (places after : List ℕ) (t : TentsSoFar) → (b ≡ 44 → ⊥) → tents_tree size at (at_tents places []) b ≡ Ok t → reads at places [] (b ∷ after) ≡ read_words (at + 1) t (words after)
+  pub tree_taken : (at b : ℕ) (places after : List ℕ) (t : TentsSoFar) → (b ≡ 44 → ⊥)
+      → tents_tree size at (at_tents places []) b ≡ Ok t → reads at places [] (b ∷ after) ≡ read_words (at + 1) t (words after)
   unfolding reading tents_tree
   tree_taken at b places after t other e =
       let r = bind_ok (tents_run at b) _ t e in
       grind (arith, common_steps, nat_tests, words_single b after, run_single at b r.0 r.1)
 
-  pub tree_refused : (at b : ℕ) (places after : List ℕ) (f : IdFault) → (b ≡ 44 → ⊥) → tents_tree size at (at_tents places []) b ≡ Err f → reads at places [] (b ∷ after) ≡ Err f
+  pub tree_refused : (at b : ℕ) (places after : List ℕ) (f : IdFault) → (b ≡ 44 → ⊥)
+      → tents_tree size at (at_tents places []) b ≡ Err f → reads at places [] (b ∷ after) ≡ Err f
   unfolding reading tents_tree
   tree_refused at b places after f other e = grind (arith, common_steps, nat_tests, cuts_some b after)
 
-  read_spelled : (at : ℕ) (places counts : List ℕ) (ws : List (List ℕ)) (all : TentsSoFar) → AllByRecursion IsWord ws → read_words at (at_tents places counts) ws ≡ Ok all → Spelled places counts (concat ws) all
+  read_spelled : (at : ℕ) {places counts : List ℕ} (ws : List (List ℕ)) {all : TentsSoFar} → AllByRecursion IsWord ws
+      → read_words at (at_tents places counts) ws ≡ Ok all → Spelled places counts (concat ws) all
   unfolding reading
-  read_spelled at places counts [] all w e = record { tokens = []; numerals = []; is = grind (arith, append-nil places, append-nil counts) }
-  read_spelled at places counts (word ∷ ws) all w e =
+  read_spelled at {places} {counts} [] w e = record { tokens = []; numerals = []; is = grind (arith, append-nil places, append-nil counts) }
+  read_spelled at {places} {counts} (word ∷ ws) {all} w e =
       let b = bind_ok (tents_step size at (at_tents places counts) word) (λ t. read_words (at + length word) t ws) all e in
       elim (step_cases at places counts word b.0 b.1) [
-        | inl c ↦ spelled_counted places counts word (concat ws) all (comma_word word w.0 c.comma c.some) (read_spelled (at + length word) places (counts ++ value (drop 1 word) ∷ []) ws all w.1 (ap (λ t. read_words (at + length word) t ws) c.leads ∙ b.2))
-        | inr p ↦ spelled_planted at places counts word (concat ws) p.run all w.0 p.early p.read (read_spelled (at + length word) (places ++ run_cells p.run.0 p.run.1) counts ws all w.1 (ap (λ t. read_words (at + length word) t ws) p.leads ∙ b.2))
+        | inl c ↦ spelled_counted word (comma_word w.0 c.comma c.some)
+            (read_spelled (at + length word) ws w.1 (ap (λ t. read_words (at + length word) t ws) c.leads ∙ b.2))
+        | inr p ↦ spelled_planted at places counts word (concat ws) p.run all w.0 p.early p.read
+            (read_spelled (at + length word) ws w.1 (ap (λ t. read_words (at + length word) t ws) p.leads ∙ b.2))
       ]
 
   -- ---- what is spelled is read
@@ -243,8 +266,11 @@ module _ (size : Extent) where
   counts_at line [] n ys h = grind arith
   counts_at line (x ∷ xs) n ys h = grind (arith, counts_at (line + 1) xs n ys h.1)
 
-  numbers_again : (places counts total : List ℕ) (numerals : List (List ℕ)) → AllByRecursion IsNumeral numerals → cells_in size + 1 ≤ length places → counts ++ map value numerals ≡ total → length total ≡ lines_of size → AreCounts size 0 total → Reads (at_tents places total) places counts (numbers_text numerals)
-  numbers_again places counts total [] d full is len are at = grind (arith, common_steps, reading_end (tents_step size) (tents_end size) at (at_tents places counts) [] refl, end_is places counts true)
+  numbers_again : (places counts total : List ℕ) (numerals : List (List ℕ)) → AllByRecursion IsNumeral numerals
+      → cells_in size + 1 ≤ length places → counts ++ map value numerals ≡ total → length total ≡ lines_of size
+      → AreCounts size 0 total → Reads (at_tents places total) places counts (numbers_text numerals)
+  numbers_again places counts total [] d full is len are at =
+      grind (arith, common_steps, reading_end (tents_step size) (tents_end size) at (at_tents places counts) [] refl, end_is places counts true)
   numbers_again places counts total (num ∷ numerals) d full is len are at =
       grind (
         arith,
@@ -258,10 +284,15 @@ module _ (size : Extent) where
         numbers_again places (counts ++ value num ∷ []) total numerals d.1 full,
       )
 
-  tree_room : (places trees : List ℕ) (token : TentsToken) (rest : List ℕ) → length trees ≡ cells_in size → places ++ (tents_token_cells token ++ rest) ≡ trees ++ 1 ∷ [] → length places + (token_blanks token + cond (token_tree token) 1 0) ≤ cells_in size + cond (token_tree token) 1 0
+  tree_room : (places trees : List ℕ) (token : TentsToken) (rest : List ℕ) → length trees ≡ cells_in size
+      → places ++ (tents_token_cells token ++ rest) ≡ trees ++ 1 ∷ []
+      → length places + (token_blanks token + cond (token_tree token) 1 0) ≤ cells_in size + cond (token_tree token) 1 0
   tree_room places trees token rest count is = grind (arith, common_steps, blank_last)
 
-  trees_again : (all : TentsSoFar) (places trees : List ℕ) (tokens : List TentsToken) (rest : List ℕ) → AllByRecursion IsTentsToken tokens → length trees ≡ cells_in size → places ++ flat_map tents_token_cells tokens ≡ trees ++ 1 ∷ [] → Reads all (trees ++ 1 ∷ []) [] rest → Reads all places [] (map tents_token_byte tokens ++ rest)
+  trees_again : (all : TentsSoFar) (places trees : List ℕ) (tokens : List TentsToken) (rest : List ℕ)
+      → AllByRecursion IsTentsToken tokens → length trees ≡ cells_in size
+      → places ++ flat_map tents_token_cells tokens ≡ trees ++ 1 ∷ [] → Reads all (trees ++ 1 ∷ []) [] rest
+      → Reads all places [] (map tents_token_byte tokens ++ rest)
   unfolding reading tents_tree
   trees_again all places trees [] rest each count is next at = grind (arith, common_steps)
   trees_again all places trees (token ∷ tokens) rest each count is next at =
@@ -279,21 +310,31 @@ module _ (size : Extent) where
       )
 
   -- what tokens and numerals that fit spell is read
-  pub tents_again : (at : ℕ) (trees counts : List ℕ) (tokens : List TentsToken) (numerals : List (List ℕ)) → AllByRecursion IsTentsToken tokens → AllByRecursion IsNumeral numerals → length trees ≡ cells_in size → flat_map tents_token_cells tokens ≡ trees ++ 1 ∷ [] → map value numerals ≡ counts → length counts ≡ lines_of size → AreCounts size 0 counts → tents_at size at (map tents_token_byte tokens ++ numbers_text numerals) ≡ Ok (at_tents (trees ++ 1 ∷ []) counts)
-  tents_again at trees counts tokens numerals each digits count cells is len are = grind (arith, common_steps, trees_again (at_tents (trees ++ 1 ∷ []) counts) [] trees tokens (numbers_text numerals) each count cells, numbers_again (trees ++ 1 ∷ []) [] counts numerals digits)
+  pub tents_again : (at : ℕ) (trees counts : List ℕ) (tokens : List TentsToken) (numerals : List (List ℕ))
+      → AllByRecursion IsTentsToken tokens → AllByRecursion IsNumeral numerals → length trees ≡ cells_in size
+      → flat_map tents_token_cells tokens ≡ trees ++ 1 ∷ [] → map value numerals ≡ counts → length counts ≡ lines_of size
+      → AreCounts size 0 counts → tents_at size at (map tents_token_byte tokens ++ numbers_text numerals) ≡ Ok
+      (at_tents (trees ++ 1 ∷ []) counts)
+  tents_again at trees counts tokens numerals each digits count cells is len are =
+      grind (arith, common_steps, trees_again (at_tents (trees ++ 1 ∷ []) counts) [] trees tokens (numbers_text numerals) each count cells, numbers_again (trees ++ 1 ∷ []) [] counts numerals digits)
 
-  pub fit : (w h n at : ℕ) (description places counts trees : List ℕ) → size ≡ sized w h → n ≡ size.w * size.h → trees ≡ take n places → in_range game.Tents w h ≡ true → tents_at size at description ≡ Ok (at_tents places counts) → IsTents (record { size = size; trees = trees; counts = counts })
+  pub fit : (w h n at : ℕ) (description places counts trees : List ℕ) → size ≡ sized w h → n ≡ size.w * size.h
+      → trees ≡ take n places → in_range game.Tents w h ≡ true → tents_at size at description ≡ Ok (at_tents places counts)
+      → IsTents (record { size = size; trees = trees; counts = counts })
   fit w h n at description places counts trees is count kept range e = grind (arith, tents_lawful at description (at_tents places counts))
 
 pub ruleset turns = (common_steps, words_nil, words_first, tree_refused)
 
 pub tents_takes : (text : List ℕ) (p : Tents) → tents_of text ≡ Ok p → SpellsTents text p
 tents_takes text p e =
-    let r = parts_of game.Tents text (λ head description. tents_at (extent_of head.size) head.description description) (λ head s. record { size = extent_of head.size; trees = take (head.size.w * head.size.h) s.places; counts = s.counts }) p e in
+    let r =
+    parts_of game.Tents text (λ head description. tents_at (extent_of head.size) head.description description)
+    (λ head s. record { size = extent_of head.size; trees = take (head.size.w * head.size.h) s.places; counts = s.counts })
+    e in
     let wide = wide_of r.head.size.w r.head.size.h r.is_head.range in
     grind (
       arith,
-      read_spelled _ _ [] [] _ _ (words_are (drop r.head.description text)) r.read,
+      read_spelled _ _ {places = []} {counts = []} _ (words_are (drop r.head.description text)) r.read,
       concat_words (drop r.head.description text),
       tents_read _ _ _ _ wide r.read,
       tents_lawful _ _ _ _ wide r.read,
@@ -301,7 +342,15 @@ tents_takes text p e =
     )
 
 pub tents_text_again : (text : List ℕ) (p : Tents) → SpellsTents text p → tents_of text ≡ Ok p
-tents_text_again text p s = grind (arith, puzzle_again game.Tents tents_behind s.front (map tents_token_byte s.tokens ++ numbers_text s.numerals) p.size.w p.size.h false s.size, wide_range p.size, tents_again p.size (length s.front + 1) p.trees p.counts s.tokens s.numerals s.each s.digits, take_at p.trees (1 ∷ []) (p.size.w * p.size.h))
+tents_text_again text p s =
+    grind (
+      arith,
+      puzzle_again game.Tents tents_behind s.front (map tents_token_byte s.tokens ++ numbers_text s.numerals) p.size.w
+          p.size.h false s.size,
+      wide_range p.size,
+      tents_again p.size (length s.front + 1) p.trees p.counts s.tokens s.numerals s.each s.digits,
+      take_at p.trees (1 ∷ []) (p.size.w * p.size.h),
+    )
 
 pub tents_reading : HasOneReading SpellsTents tents_of
 tents_reading = reading_of _ _ tents_text_again tents_takes

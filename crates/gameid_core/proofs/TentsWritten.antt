@@ -22,7 +22,8 @@ tokens_short k (suc b ∷ cells) = omega (arith, tokens_short 0 cells)
 count_short : (n : ℕ) → n ≤ max_side → length (decimal n) ≤ max_side
 count_short n small = grind (arith, common_steps, length-decimal-le, length_decimal)
 
-counts_short : (size : Extent) (line : ℕ) (counts : List ℕ) → IsExtent size → AreCounts size line counts → length (counts_text counts) ≤ (max_side + 1) * length counts
+counts_short : (size : Extent) (line : ℕ) (counts : List ℕ) → IsExtent size → AreCounts size line counts
+    → length (counts_text counts) ≤ (max_side + 1) * length counts
 counts_short size line [] e h = omega arith
 counts_short size line (n ∷ counts) e h = grind (arith, common_steps, count_short n, counts_short size (line + 1) counts e h.1)
 
@@ -50,7 +51,7 @@ numerals : (size : Extent) (line : ℕ) (counts : List ℕ) → IsExtent size �
     → AllByRecursion IsNumeral (map decimal counts) × AllByRecursion IsPlain (map decimal counts) × (map value (map decimal counts) ≡ counts)
 numerals size line [] e h = (tt, tt, refl)
 numerals size line (n ∷ counts) e h =
-    grind (arith, line_small size line e, numerals size (line + 1) counts e h.1, digits_value-decimal own n, numeral n, decimal_plain n)
+    grind (arith, line_small line e, numerals size (line + 1) counts e h.1, digits_value-decimal own n, numeral n, decimal_plain n)
 
 -- the written text has the form of a written text, and so it spells the puzzle
 pub tents_is_written : (p : Tents) → IsTents p → IsWrittenTents (tents_text p) p
@@ -98,13 +99,17 @@ of_run k (suc j) places le = grind (arith, nat_tests, common_steps, of_run (k + 
 form_tokens : (tokens : List TentsToken) → AllByRecursion IsTentsToken tokens → AreTight tokens → tokens_of 0 (flat_map tents_token_cells tokens) ≡ tokens
 unfolding tokens_of
 form_tokens [] each tight = refl
-form_tokens (blanks_and_tree k ∷ tokens) each tight = grind (arith, common_steps, append_assoc (replicate k 0) (1 ∷ []) (flat_map tents_token_cells tokens), of_run 0 k (1 ∷ flat_map tents_token_cells tokens), form_tokens tokens)
+form_tokens (blanks_and_tree k ∷ tokens) each tight =
+    grind (arith, common_steps, append_assoc (replicate k 0) (1 ∷ []) (flat_map tents_token_cells tokens), of_run 0 k (1 ∷ flat_map tents_token_cells tokens), form_tokens tokens)
 form_tokens (only_blanks ∷ []) each tight = grind (arith, of_run 0 25 [])
 form_tokens (only_blanks ∷ blanks_and_tree zero ∷ tokens) each tight = absurd tight
-form_tokens (only_blanks ∷ blanks_and_tree (suc k) ∷ tokens) each tight = grind (arith, of_run 0 25 (flat_map tents_token_cells (blanks_and_tree (suc k) ∷ tokens)), form_tokens (blanks_and_tree (suc k) ∷ tokens) each.1 tight)
-form_tokens (only_blanks ∷ only_blanks ∷ tokens) each tight = grind (arith, of_run 0 25 (flat_map tents_token_cells (only_blanks ∷ tokens)), form_tokens (only_blanks ∷ tokens) each.1 tight)
+form_tokens (only_blanks ∷ blanks_and_tree (suc k) ∷ tokens) each tight =
+    grind (arith, of_run 0 25 (flat_map tents_token_cells (blanks_and_tree (suc k) ∷ tokens)), form_tokens (blanks_and_tree (suc k) ∷ tokens) each.1 tight)
+form_tokens (only_blanks ∷ only_blanks ∷ tokens) each tight =
+    grind (arith, of_run 0 25 (flat_map tents_token_cells (only_blanks ∷ tokens)), form_tokens (only_blanks ∷ tokens) each.1 tight)
 
-numbers_plain : (size : Extent) (line : ℕ) (numerals : List (List ℕ)) → IsExtent size → AreCounts size line (map value numerals) → AllByRecursion IsNumeral numerals → AllByRecursion IsPlain numerals → map decimal (map value numerals) ≡ numerals
+numbers_plain : (size : Extent) (line : ℕ) (numerals : List (List ℕ)) → IsExtent size → AreCounts size line (map value numerals)
+    → AllByRecursion IsNumeral numerals → AllByRecursion IsPlain numerals → map decimal (map value numerals) ≡ numerals
 numbers_plain size line [] e h d plain = refl
 numbers_plain size line (num ∷ numerals) e h d plain = grind (arith, numbers_plain size (line + 1) numerals e h.1 d.1 plain.1, plain_decimal)
 

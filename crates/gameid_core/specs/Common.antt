@@ -19,7 +19,7 @@ pub use Rattle.std.proofs.lemmas.Str.Parse.{IsNumeralModel, numerals_by_fold}
 pub use Rattle.std.specs.Borrow.{Bor}
 pub use Rattle.std.specs.Char.{is_ascii_digit}
 pub use Rattle.std.specs.List.{AllByRecursion, concat, flat_map, join_with_byte, list_any, position_or_len, range_with_len}
-pub use Rattle.std.specs.Prelude.{decimal, position, replicate, slice_get, string_bytes}
+pub use Rattle.std.specs.Prelude.{decimal, is_some, not, position, replicate, slice_get, string_bytes}
 pub use Rattle.std.specs.Str.{all_ascii_digits}
 pub use Rattle.grid_core.proofs.LineLemmas.{length-line_numbers, line_numbers-column, line_numbers-row}
 pub use Rattle.grid_core.proofs.PieceLemmas.{ends-close, ends-more, last-close, last-le, length-pieces, piece-at, piece-ends, pieces-close, pieces-more}
@@ -32,6 +32,7 @@ pub use Rattle.gameid_core.specs.BlackRuns.{run_of, runs}
 unfoldable pub use Rattle.gameid_core.specs.BlackRuns.{runs_after}
 pub use Rattle.gameid_core.specs.Cells.{fill_end, fill_step, is_letter}
 unfoldable pub use Rattle.gameid_core.specs.Cells.{letters}
+pub use Rattle.gameid_core.specs.FirstFailed.{IsAnswerOfCheck, IsFirstFailed, NoneFails}
 pub use Rattle.gameid_core.specs.FirstFault.{FirstFault, stop}
 pub use Rattle.gameid_core.specs.FirstTokens.{GivesRun, TakesNumber, TakesRun}
 pub use Rattle.gameid_core.specs.GridReading.{AgreeUpTo, FitUpTo, Follows, IsAsShown, IsPrinted, IsReadOf, digit_of, first_digit, hides_nothing}
@@ -39,16 +40,16 @@ unfoldable pub use Rattle.gameid_core.specs.GridTexts.{each_below}
 pub use Rattle.gameid_core.specs.GridTexts.{grid_text, row_text}
 pub use Rattle.gameid_core.specs.Head.{HeadRead, Sides, SizeRead, extent_of, has_hash, has_x, head_read, in_range, max_id, max_numbers, size_read, two_sides}
 unfoldable pub use Rattle.gameid_core.specs.Head.{head_at, head_of, side_at, sides_at, size_of}
-pub use Rattle.gameid_core.specs.HeadTests.{Comes, FailsHead, FailsSize, GoesOn, HasNumber, HasSize, IsFirstFailed, Lacks, head_tests, size_tests}
+pub use Rattle.gameid_core.specs.HeadTests.{Comes, FailsHead, FailsSize, GoesOn, HasNumber, HasSize, Lacks, head_tests, size_tests}
 pub use Rattle.gameid_core.specs.IdTexts.{id_text}
 unfoldable pub use Rattle.gameid_core.specs.IdTexts.{puzzle_of}
 pub use Rattle.gameid_core.specs.Lines.{lines_ones, lines_runs, ones}
 pub use Rattle.gameid_core.specs.OneText.{HasOneReading, HasOneText}
 pub use Rattle.gameid_core.specs.Puzzles.{AreClues, AreCounts, IsClue, IsLight, IsLightCell, IsPattern, IsSolo, IsTents, IsWide, Light, Pattern, Solo, Tents, pattern_puzzle, solo_n, solo_puzzle, tents_puzzle, used}
 pub use Rattle.gameid_core.specs.SizeText.{IsSizeText, IsSoloSizeText, size_text, solo_size_text}
-pub use Rattle.gameid_core.specs.Steps.{Fails, Gives, ◌>>=◌}
+pub use Rattle.gameid_core.specs.Steps.{Fails, Gives, first_row, ◌>>=◌}
 unfoldable pub use Rattle.gameid_core.specs.Steps.{reading}
-pub use Rattle.gameid_core.specs.Words.{Cuts, IsNumeral, IsPlain, after_digits, begins, digits_front, joins, value, value_after}
+pub use Rattle.gameid_core.specs.Words.{Cuts, IsNumeral, IsPlain, after_digits, begins, digits_front, is_byte, is_lead, joins, value, value_after}
 unfoldable pub use Rattle.gameid_core.specs.Words.{words}
 pub use Rattle.gameid_core.specs.declared.id.fault.IdFault.TheVariants.{BadByte, BadSize, NoColon, NumberRange, SeedId, SizeRange, TooFew, TooLong, TooMany, Variant}
 pub use Rattle.gameid_core.specs.declared.id.fault.IdFault.{IdFault}

@@ -10,12 +10,12 @@ use Rattle.gameid_core.specs.declared.id.game.Game.TheVariants.{Solo, Pattern, L
 use Rattle.gameid_core.specs.declared.id.head.Head.{Head}
 use Rattle.gameid_core.specs.declared.id.head.SidesRead.{SidesRead}
 use Rattle.gameid_core.specs.Steps.{◌>>=◌}
-use Rattle.gameid_core.specs.Words.{begins, digits_front, after_digits, value}
+use Rattle.gameid_core.specs.Words.{begins, is_lead, digits_front, after_digits, value}
 
 -- a number without a leading zero, and the text after it
 unfoldable pub side_at : List ℕ → Result (ℕ × List ℕ) IdFault
 side_at text =
-    if begins (λ b. nat_le 49 b && nat_le b 57) text
+    if begins is_lead text
     then Ok (value (digits_front text), after_digits text)
     else Err BadSize
 

@@ -1,6 +1,5 @@
--- The tests of the part before the colon, each in its own words, and which of them is the first
--- that fails.
-use Rattle.std.specs.Prelude.{◌≡◌, ◌≢◌, ◌⊎◌, ℕ, ◌<◌, Bool, true, false, ◌&&◌, List, [], ◌∷◌, ◌++◌, length, nat_le, ◌==◌}
+-- The tests of the part before the colon, each in its own words, and their order.
+use Rattle.std.specs.Prelude.{◌≡◌, ◌≢◌, ◌⊎◌, ℕ, ◌<◌, Bool, true, false, List, [], ◌∷◌, ◌++◌, length, ◌==◌}
 use Rattle.std.specs.List.{AllByRecursion}
 use Rattle.std.specs.Char.{is_ascii_digit}
 use Rattle.std.specs.Str.{all_ascii_digits}
@@ -8,7 +7,7 @@ use Rattle.gameid_core.specs.declared.id.fault.IdFault.{IdFault}
 use Rattle.gameid_core.specs.declared.id.fault.IdFault.TheVariants.{TooLong, SeedId, NoColon, BadSize, Variant, SizeRange}
 use Rattle.gameid_core.specs.declared.id.game.Game.{Game}
 use Rattle.gameid_core.specs.declared.id.game.Game.TheVariants.{Solo}
-use Rattle.gameid_core.specs.Words.{begins, value}
+use Rattle.gameid_core.specs.Words.{begins, is_lead, value}
 use Rattle.gameid_core.specs.Head.{Sides, in_range, max_id}
 
 -- Of a text ---------------------------------------------------------------------------------------
@@ -26,7 +25,7 @@ pub record Comes (byte : ℕ) (text front rest : List ℕ) : Type 0 where
 pub record HasNumber (text number rest : List ℕ) : Type 0 where
   pub parts : text ≡ number ++ rest
   pub digits : all_ascii_digits number ≡ true
-  pub lead : begins (λ b. nat_le 49 b && nat_le b 57) number ≡ true
+  pub lead : begins is_lead number ≡ true
   pub all : begins is_ascii_digit rest ≡ false
 
 -- the text begins with a number and no 'x' after it: both sides are that number
@@ -44,14 +43,14 @@ GoesOn game after false rest = (game ≡ Solo → begins (λ c. c == 120) after 
 
 -- the text begins with a number, 'x' and a number
 pub record HasTwoSides (game : Game) (text : List ℕ) (size : Sides) : Type 0 where
-  pub left : List ℕ
-  pub right : List ℕ
+  pub w_digits : List ℕ
+  pub h_digits : List ℕ
   pub behind : List ℕ
   pub after : List ℕ
-  pub first : HasNumber text left (120 ∷ behind)
-  pub second : HasNumber behind right after
+  pub first : HasNumber text w_digits (120 ∷ behind)
+  pub second : HasNumber behind h_digits after
   pub goes_on : GoesOn game after size.x size.rest
-  pub both : (value left ≡ size.w) × (value right ≡ size.h)
+  pub both : (value w_digits ≡ size.w) × (value h_digits ≡ size.h)
 
 -- the text begins with that size
 abbrev pub HasSize : Game → List ℕ → Sides → Type 0
@@ -84,9 +83,3 @@ size_tests = BadSize ∷ Variant ∷ SizeRange ∷ []
 
 abbrev pub head_tests : List IdFault
 head_tests = TooLong ∷ SeedId ∷ NoColon ∷ size_tests
-
--- of these tests the first that fails
-abbrev pub IsFirstFailed : (IdFault → Type 0) → List IdFault → IdFault → Type 0
-IsFirstFailed fails [] fault = ⊥
-IsFirstFailed fails (test ∷ tests) fault =
-    ((test ≡ fault) × fails test) ⊎ ((fails test → ⊥) × IsFirstFailed fails tests fault)

@@ -1,5 +1,6 @@
 pub mod Words
 pub mod Steps
+pub mod FirstFailed
 pub mod FirstFault
 pub mod Head
 pub mod HeadTests

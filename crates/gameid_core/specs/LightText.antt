@@ -6,8 +6,8 @@ use Rattle.gameid_core.specs.declared.id.fault.IdFault.TheVariants.{BadByte}
 use Rattle.gameid_core.specs.declared.id.game.Game.TheVariants as game
 use Rattle.gameid_core.specs.declared.light_up.cell.LightCell.{LightCell}
 use Rattle.gameid_core.specs.declared.light_up.cell.LightCell.TheVariants.{White, Black, Numbered}
-use Rattle.gameid_core.specs.Words.{begins}
-use Rattle.gameid_core.specs.Steps.{◌>>=◌, reading}
+use Rattle.gameid_core.specs.Words.{begins, is_byte}
+use Rattle.gameid_core.specs.Steps.{◌>>=◌, first_row, reading}
 use Rattle.gameid_core.specs.Head.{HeadRead, extent_of, max_id}
 use Rattle.gameid_core.specs.IdTexts.{puzzle_of}
 use Rattle.gameid_core.specs.SizeText.{size_text, IsSizeText}
@@ -66,11 +66,11 @@ pub record IsWrittenLight (text : List ℕ) (p : Light) : Type 0 where
 -- the cells of a token, which is one byte, or its fault
 unfoldable pub light_token : ℕ → List ℕ → Result (List LightCell) IdFault
 light_token at word =
-    if begins is_letter word then Ok (replicate (slice_index word 0 - 96) White)
-    else (if begins (λ b. b == 66) word then Ok (Black ∷ [])
-    else (if begins (λ b. nat_le 48 b && nat_le b 52) word
-    then Ok (Numbered (slice_index word 0 - 48) ∷ [])
-    else Err (BadByte at)))
+    first_row (
+    (begins is_letter word, Ok (replicate (slice_index word 0 - 96) White))
+    ∷ (begins (is_byte 66) word, Ok (Black ∷ []))
+    ∷ (begins (λ b. nat_le 48 b && nat_le b 52) word, Ok (Numbered (slice_index word 0 - 48) ∷ []))
+    ∷ []) (Err (BadByte at))
 
 abbrev pub light_cells_at : ℕ → ℕ → List ℕ → Result (List LightCell) IdFault
 light_cells_at all at description =
@@ -102,14 +102,14 @@ light_text p = size_text p.size.w p.size.h ++ 58 ∷ light_cells_text 0 p.cells
 
 -- Light Up: 'O' a bulb, '.' a white cell without one, '#' a black cell without a number, its number
 -- else
-abbrev pub light_mark : Option LightCell → ℕ → List ℕ
-light_mark None value = []
-light_mark (Some White) value = if value == 1 then codes "O" else codes "."
-light_mark (Some Black) value = codes "#"
-light_mark (Some (Numbered n)) value = decimal n
+abbrev pub light_symbol : Option LightCell → ℕ → List ℕ
+light_symbol None value = []
+light_symbol (Some White) value = if value == 1 then codes "O" else codes "."
+light_symbol (Some Black) value = codes "#"
+light_symbol (Some (Numbered n)) value = decimal n
 
 abbrev pub light_cell : Light → List ℕ → ℕ → List ℕ
-light_cell p g place = light_mark (slice_get p.cells place) (slice_index g place)
+light_cell p g place = light_symbol (slice_get p.cells place) (slice_index g place)
 
 -- what is printed of a black cell shows nothing of the number
 abbrev pub light_hides : Light → ℕ → Type 0

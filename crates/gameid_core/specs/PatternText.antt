@@ -7,8 +7,8 @@ use Rattle.grid_core.specs.Extent.{Extent}
 use Rattle.gameid_core.specs.declared.id.fault.IdFault.{IdFault}
 use Rattle.gameid_core.specs.declared.id.fault.IdFault.TheVariants.{BadByte, NumberRange, LineTooFull, TooFew, TooMany}
 use Rattle.gameid_core.specs.declared.id.game.Game.TheVariants as game
-use Rattle.gameid_core.specs.Words.{IsNumeral, IsPlain, begins, words, value}
-use Rattle.gameid_core.specs.Steps.{◌>>=◌, reading}
+use Rattle.gameid_core.specs.Words.{IsNumeral, IsPlain, begins, is_byte, words, value}
+use Rattle.gameid_core.specs.Steps.{◌>>=◌, first_row, reading}
 use Rattle.gameid_core.specs.Head.{HeadRead, extent_of, max_id}
 use Rattle.gameid_core.specs.IdTexts.{puzzle_of}
 use Rattle.gameid_core.specs.SizeText.{size_text, IsSizeText}
@@ -49,26 +49,27 @@ pub record SoFar : Type 0 where
 -- a number is read, in a line of so many cells, of which the clue's numbers before it use some
 unfoldable pub clue_number : ℕ → ℕ → ℕ → ℕ → List ℕ → Result ℕ IdFault
 clue_number cells line before at digits =
-    if value digits == 0 then Err (NumberRange at)
-    else (if nat_lt cells (before + value digits) then Err (LineTooFull line)
-    else Ok (value digits))
+    first_row (
+    (value digits == 0, Err (NumberRange at))
+    ∷ (nat_lt cells (before + value digits), Err (LineTooFull line))
+    ∷ []) (Ok (value digits))
 
 -- a token other than '/': at a clue's beginning a number, and after a number '.' and a number
 unfoldable pub clue_token : ℕ → ℕ → List ℕ → ℕ → List ℕ → Result ℕ IdFault
 clue_token cells line [] at word =
     if begins is_ascii_digit word then clue_number cells line 0 at word else Err (BadByte at)
 clue_token cells line (n ∷ clue) at word =
-    if begins (λ b. b == 46) word && begins is_ascii_digit (drop 1 word)
+    if begins (is_byte 46) word && begins is_ascii_digit (drop 1 word)
     then clue_number cells line (used (n ∷ clue)) (at + 1) (drop 1 word)
     else Err (BadByte at)
 
 -- '/' ends a clue, and is refused after the last one
 abbrev pub pattern_step : Extent → ℕ → SoFar → List ℕ → Result SoFar IdFault
 pattern_step size at s word =
-    if begins (λ b. b == 47) word
-    then (if length s.clues + 1 == lines_of size then Err TooMany
-    else Ok (record { clues = s.clues ++ s.clue ∷ []; clue = [] }))
-    else (clue_token (line_cells size (length s.clues)) (length s.clues) s.clue at word
+    first_row (
+    (begins (is_byte 47) word && (length s.clues + 1 == lines_of size), Err TooMany)
+    ∷ (begins (is_byte 47) word, Ok (record { clues = s.clues ++ s.clue ∷ []; clue = [] }))
+    ∷ []) (clue_token (line_cells size (length s.clues)) (length s.clues) s.clue at word
     >>= (λ n. Ok (record { clues = s.clues; clue = s.clue ++ n ∷ [] })))
 
 -- the end ends the last clue

@@ -1,12 +1,12 @@
 -- Solo: what the text of a game ID spells, its first fault, the one written text, and printed grids.
 use Rattle.grid_core.specs.Extent.{Extent}
-use Rattle.std.specs.Prelude.{◌≡◌, ℕ, zero, suc, ◌+◌, ◌-◌, ◌*◌, ◌≤◌, Bool, true, false, ◌&&◌, List, [], ◌∷◌, ◌++◌, length, replicate, slice_index, Result, Ok, Err, nat_lt, nat_le, ◌==◌, if◌then◌else◌, decimal, ◌%◌, codes}
+use Rattle.std.specs.Prelude.{◌≡◌, ℕ, zero, suc, ◌+◌, ◌-◌, ◌*◌, ◌≤◌, Bool, true, false, ◌&&◌, List, [], ◌∷◌, ◌++◌, length, replicate, slice_index, Result, Ok, Err, nat_lt, ◌==◌, if◌then◌else◌, decimal, ◌%◌, codes}
 use Rattle.std.specs.List.{AllByRecursion, flat_map}
 use Rattle.gameid_core.specs.declared.id.fault.IdFault.{IdFault}
 use Rattle.gameid_core.specs.declared.id.fault.IdFault.TheVariants.{BadByte, NumberRange}
 use Rattle.gameid_core.specs.declared.id.game.Game.TheVariants as game
-use Rattle.gameid_core.specs.Words.{begins, words, value}
-use Rattle.gameid_core.specs.Steps.{◌>>=◌, reading}
+use Rattle.gameid_core.specs.Words.{begins, is_byte, is_lead, words, value}
+use Rattle.gameid_core.specs.Steps.{◌>>=◌, first_row, reading}
 use Rattle.gameid_core.specs.Head.{HeadRead, max_id}
 use Rattle.gameid_core.specs.IdTexts.{puzzle_of}
 use Rattle.gameid_core.specs.SizeText.{solo_size_text, IsSoloSizeText}
@@ -83,14 +83,15 @@ pub record IsWrittenSolo (text : List ℕ) (p : Solo) : Type 0 where
 
 -- The first fault ---------------------------------------------------------------------------------
 
--- the cells of a token, or its fault
+-- the cells of a token, or its fault, by its first byte
 unfoldable pub solo_token : ℕ → ℕ → List ℕ → Result (List ℕ) IdFault
 solo_token n at word =
-    if begins is_letter word then Ok (replicate (slice_index word 0 - 96) 0)
-    else (if begins (λ b. b == 95) word then Ok []
-    else (if begins (λ b. nat_le 49 b && nat_le b 57) word
-    then (if nat_lt n (value word) then Err (NumberRange at) else Ok (value word ∷ []))
-    else Err (BadByte at)))
+    first_row (
+    (begins is_letter word, Ok (replicate (slice_index word 0 - 96) 0))
+    ∷ (begins (is_byte 95) word, Ok [])
+    ∷ (begins is_lead word && nat_lt n (value word), Err (NumberRange at))
+    ∷ (begins is_lead word, Ok (value word ∷ []))
+    ∷ []) (Err (BadByte at))
 
 abbrev pub solo_cells_at : ℕ → ℕ → List ℕ → Result (List ℕ) IdFault
 solo_cells_at n at description =

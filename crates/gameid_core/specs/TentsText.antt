@@ -5,8 +5,8 @@ use Rattle.grid_core.specs.Extent.{Extent}
 use Rattle.gameid_core.specs.declared.id.fault.IdFault.{IdFault}
 use Rattle.gameid_core.specs.declared.id.fault.IdFault.TheVariants.{BadByte, NumberRange, TooFew, TooMany}
 use Rattle.gameid_core.specs.declared.id.game.Game.TheVariants as game
-use Rattle.gameid_core.specs.Words.{IsNumeral, IsPlain, begins, words, value}
-use Rattle.gameid_core.specs.Steps.{◌>>=◌, reading}
+use Rattle.gameid_core.specs.Words.{IsNumeral, IsPlain, begins, is_byte, words, value}
+use Rattle.gameid_core.specs.Steps.{◌>>=◌, first_row, reading}
 use Rattle.gameid_core.specs.Head.{HeadRead, extent_of, max_id}
 use Rattle.gameid_core.specs.IdTexts.{puzzle_of}
 use Rattle.gameid_core.specs.SizeText.{size_text, IsSizeText}
@@ -76,10 +76,11 @@ cells_in size = size.w * size.h
 -- the blanks that a byte of the trees stands for, and whether a tree follows them
 unfoldable pub tents_run : ℕ → ℕ → Result (ℕ × Bool) IdFault
 tents_run at b =
-    if b == 95 then Ok (0, true)
-    else (if nat_le 97 b && nat_le b 121 then Ok (b - 96, true)
-    else (if b == 122 then Ok (25, false)
-    else Err (BadByte at)))
+    first_row (
+    (b == 95, Ok (0, true))
+    ∷ (nat_le 97 b && nat_le b 121, Ok (b - 96, true))
+    ∷ (b == 122, Ok (25, false))
+    ∷ []) (Err (BadByte at))
 
 abbrev pub run_cells : ℕ → Bool → List ℕ
 run_cells blanks tree = replicate blanks 0 ++ (if tree then 1 ∷ [] else [])
@@ -94,21 +95,23 @@ tents_tree size at s b = tents_run at b >>= (λ run.
 -- a ',' and a line's number
 unfoldable pub tents_count : Extent → ℕ → TentsSoFar → List ℕ → Result ℕ IdFault
 tents_count size at s word =
-    if nat_lt (length s.places) (cells_in size + 1) then Err TooFew
-    else (if length s.counts == lines_of size then Err TooMany
-    else (if length word == 1 then Err (BadByte at)
-    else (if nat_lt (line_cells size (length s.counts)) (value (drop 1 word))
-    then Err (NumberRange (at + 1))
-    else Ok (value (drop 1 word)))))
+    first_row (
+    (nat_lt (length s.places) (cells_in size + 1), Err TooFew)
+    ∷ (length s.counts == lines_of size, Err TooMany)
+    ∷ (length word == 1, Err (BadByte at))
+    ∷ (nat_lt (line_cells size (length s.counts)) (value (drop 1 word)), Err (NumberRange (at + 1)))
+    ∷ []) (Ok (value (drop 1 word)))
 
 -- ',' begins a number; any other token belongs to the trees, and is refused once a number stands
 abbrev pub tents_step : Extent → ℕ → TentsSoFar → List ℕ → Result TentsSoFar IdFault
 tents_step size at s word =
-    if begins (λ b. b == 44) word
-    then (tents_count size at s word
-    >>= (λ n. Ok (record { places = s.places; counts = s.counts ++ n ∷ [] })))
-    else (if nat_lt 0 (length s.counts) then Err (BadByte at)
-    else tents_tree size at s (slice_index word 0))
+    first_row ((
+      begins (is_byte 44) word,
+      tents_count size at s word
+          >>= (λ n. Ok (record { places = s.places; counts = s.counts ++ n ∷ [] })),
+    )
+    ∷ (nat_lt 0 (length s.counts), Err (BadByte at))
+    ∷ []) (tents_tree size at s (slice_index word 0))
 
 abbrev pub tents_end : Extent → TentsSoFar → Result TentsSoFar IdFault
 tents_end size s = if length s.counts == lines_of size then Ok s else Err TooFew

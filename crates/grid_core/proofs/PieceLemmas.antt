@@ -22,7 +22,8 @@ pub last-close : (from end : ℕ) (ends : List ℕ) → last_end from (ends ++ e
 last-close from end [] = refl
 last-close from end (e ∷ ends) = last-close e end ends
 
-pub pieces-close : (xs : List ℕ) (from end : ℕ) (ends : List ℕ) → pieces xs from (ends ++ end ∷ []) ≡ pieces xs from ends ++ between (last_end from ends) end xs ∷ []
+pub pieces-close : (xs : List ℕ) (from end : ℕ) (ends : List ℕ)
+    → pieces xs from (ends ++ end ∷ []) ≡ pieces xs from ends ++ between (last_end from ends) end xs ∷ []
 pieces-close xs from end [] = refl
 pieces-close xs from end (e ∷ ends) = ap (λ ps. between from e xs ∷ ps) (pieces-close xs e end ends)
 
@@ -40,7 +41,8 @@ piece-at xs from [] k lt = absurd (omega arith)
 piece-at xs from (end ∷ ends) zero lt = refl
 piece-at xs from (end ∷ ends) (suc k) lt = piece-at xs end ends k (omega arith)
 
-pub piece-ends : (n from : ℕ) (ends : List ℕ) (k : ℕ) → AreEnds n from ends → k < length ends → (get_or (from ∷ ends) k 0 ≤ get_or ends k 0) × (get_or ends k 0 ≤ n)
+pub piece-ends : (n from : ℕ) (ends : List ℕ) (k : ℕ) → AreEnds n from ends → k < length ends
+    → (get_or (from ∷ ends) k 0 ≤ get_or ends k 0) × (get_or ends k 0 ≤ n)
 piece-ends n from [] k e lt = absurd (omega arith)
 piece-ends n from (end ∷ ends) zero (low, e) lt = let w = last-le n end ends e in let a = w.0 in let b = w.1 in (low, omega arith)
 piece-ends n from (end ∷ ends) (suc k) (low, e) lt = piece-ends n end ends k e (omega arith)

@@ -11,14 +11,14 @@ use Rattle.grid_core.specs.Regions.{row_places, column_places, up, left, right, 
 use Rattle.std.proofs.lemmas.Grind.{common_steps}
 
 -- ---- lines and blocks
-pub line_at : (place : ℕ → ℕ) (n k : ℕ) → k < n → slice_index (map place (range_with_len 0 n)) k ≡ place k
-line_at place n k lt = get_or-map-range_with_len place 0 n k k 0 lt (omega arith)
+pub line_at : (place : ℕ → ℕ) {n : ℕ} (k : ℕ) → k < n → slice_index (map place (range_with_len 0 n)) k ≡ place k
+line_at place {n} k lt = get_or-map-range_with_len place 0 n k k 0 lt (omega arith)
 
 pub row-at : (size : Extent) (y k : ℕ) → k < size.w → y * size.w + k ≡ slice_index (row_places size y) k
-row-at size y k lt = sym (line_at (λ x. y * size.w + x) size.w k lt)
+row-at size y k lt = sym (line_at (λ x. y * size.w + x) k lt)
 
 pub column-at : (size : Extent) (x k : ℕ) → k < size.h → k * size.w + x ≡ slice_index (column_places size x) k
-column-at size x k lt = sym (line_at (λ y. y * size.w + x) size.h k lt)
+column-at size x k lt = sym (line_at (λ y. y * size.w + x) k lt)
 
 -- ---- one step
 pub step_cases : (size : Extent) (place d : ℕ) → (step size place d ≡ step size place d)
@@ -35,9 +35,9 @@ pub steps-none : (size : Extent) (place n : ℕ) → None ≡ step size place n 
 unfolding steps
 steps-none size place n e = rw (add-one, ← e) (omega (arith, length-append (steps size place n) []))
 
-pub steps-some : (size : Extent) (place n cell : ℕ) → Some cell ≡ step size place n → length (steps size place (n + 1)) ≡ length (steps size place n) + 1
+pub steps-some : (size : Extent) (place n : ℕ) {cell : ℕ} → Some cell ≡ step size place n → length (steps size place (n + 1)) ≡ length (steps size place n) + 1
 unfolding steps
-steps-some size place n cell e = rw (add-one, ← e) (omega (arith, length-append (steps size place n) (cell ∷ [])))
+steps-some size place n {cell} e = rw (add-one, ← e) (omega (arith, length-append (steps size place n) (cell ∷ [])))
 
 get-append : (xs ys : List ℕ) (k x : ℕ) → slice_get xs k ≡ Some x → slice_get (xs ++ ys) k ≡ Some x
 get-append xs ys k x e =
@@ -48,23 +48,24 @@ get-seam : (xs : List ℕ) (x : ℕ) → slice_get (xs ++ x ∷ []) (length xs) 
 get-seam xs x = slice_get-get_or (xs ++ x ∷ []) (length xs) 0 (omega (arith, length-append xs (x ∷ []))) ∙ ap Some (get_or-append_seam xs x [] 0)
 
 -- a cell that is one step away stands after those of the directions before
-pub steps-at : (size : Extent) (place m n cell : ℕ) → n < m → Some cell ≡ step size place n → slice_get (steps size place m) (length (steps size place n)) ≡ Some cell
+pub steps-at : (size : Extent) (place m n cell : ℕ) → n < m → Some cell ≡ step size place n
+    → slice_get (steps size place m) (length (steps size place n)) ≡ Some cell
 unfolding steps
 steps-at size place zero n cell lt e = absurd (omega arith)
 steps-at size place (suc m) n cell lt e = grind (arith, common_steps, cases_eq, get-append, get-seam, steps-at size place m n cell)
 
 -- ---- a block lies in the grid
 -- the a-th of m parts of s each, and a place in it
-part-within : (m s a i : ℕ) → a < m → i < s → a * s + i < m * s
-part-within m s a i la li = let h : (a + 1) * s ≤ m * s = mul-le-mul_right s (omega arith) in omega arith
+part-within : (m : ℕ) {s a i : ℕ} → a < m → i < s → a * s + i < m * s
+part-within m {s} {a} la li = let h : (a + 1) * s ≤ m * s = mul-le-mul_right s (omega arith) in omega arith
 
 pub block-within : (c r b k : ℕ) → b < c * r → k < c * r → ((b / c) * c + k / r) * (c * r) + ((b % c) * r + k % r) < (c * r) * (c * r)
 block-within c r b k lb lk =
     let some = both_pos c r (omega arith) in
     let band : b / c < r = (div-lt_iff_lt-mul some.0).1 (omega arith) in
     let down : k / r < c = (div-lt_iff_lt-mul some.1).1 lk in
-    let y = part-within r c (b / c) (k / r) band down in
-    part-within (c * r) (c * r) ((b / c) * c + k / r) ((b % c) * r + k % r) (omega arith) (part-within c r (b % c) (k % r) (mod-lt b some.0) (mod-lt k some.1))
+    let y = part-within r band down in
+    part-within (c * r) {a = (b / c) * c + k / r} (omega arith) (part-within c (mod-lt b some.0) (mod-lt k some.1))
   where
     both_pos : (a b : ℕ) → 0 < a * b → (0 < a) × (0 < b)
     both_pos zero b lt = absurd (omega arith)

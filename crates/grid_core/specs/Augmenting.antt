@@ -34,7 +34,7 @@ pub record AreJoined (joins : Joins) (rights : ℕ) (mates : List ℕ) : Type 0 
 
 -- what contracts see of `Reached`: how many lefts it has room for, the lefts in the order in which
 -- they were reached, and for each the place of its parent
-pub record ReachedView : Type 0 where
+pub record FrontierView : Type 0 where
   pub room : ℕ
   pub lefts : List ℕ
   pub parents : List ℕ
@@ -47,17 +47,17 @@ pub record AreReached (seen : List Bool) (lefts : List ℕ) : Type 0 where
   pub seen_only : (l : ℕ) → get_or seen l false ≡ true → Contains lefts l
 
 -- the root, the first left without a mate, and lefts whose mates are joined to their parents
-pub record IsReach (joins : Joins) (mates : List ℕ) (reached : ReachedView) : Type 0 where
-  pub some : 0 < length reached.lefts
-  pub root : slice_index reached.lefts 0 ≡ length mates
-  pub paired : (j : ℕ) → 0 < j → j < length reached.lefts
-      → slice_index reached.lefts j < length mates
-  pub as_many : length reached.parents ≡ length reached.lefts
-  pub before : (j : ℕ) → 0 < j → j < length reached.lefts
-      → slice_index reached.parents j < j
-  pub joined : (j : ℕ) → 0 < j → j < length reached.lefts
-      → IsTrue (joins (slice_index reached.lefts (slice_index reached.parents j))
-      (slice_index mates (slice_index reached.lefts j)))
+pub record IsReach (joins : Joins) (mates : List ℕ) (frontier : FrontierView) : Type 0 where
+  pub some : 0 < length frontier.lefts
+  pub root : slice_index frontier.lefts 0 ≡ length mates
+  pub paired : (j : ℕ) → 0 < j → j < length frontier.lefts
+      → slice_index frontier.lefts j < length mates
+  pub as_many : length frontier.parents ≡ length frontier.lefts
+  pub before : (j : ℕ) → 0 < j → j < length frontier.lefts
+      → slice_index frontier.parents j < j
+  pub joined : (j : ℕ) → 0 < j → j < length frontier.lefts
+      → IsTrue (joins (slice_index frontier.lefts (slice_index frontier.parents j))
+      (slice_index mates (slice_index frontier.lefts j)))
 
 -- the left is joined to the right, which is free
 pub record IsFreeFor (joins : Joins) (rights : ℕ) (mates : List ℕ)
@@ -107,25 +107,25 @@ IsFreeRight joins rights mates left right =
     MatchOption right (IsBlocked joins rights mates left) (IsFreeFor joins rights mates left)
 
 -- one more left was reached
-abbrev pub with_left : ReachedView → ℕ → ℕ → ReachedView
-with_left reached left parent = record {
-  room = reached.room;
-  lefts = reached.lefts ++ left ∷ [];
-  parents = reached.parents ++ parent ∷ [];
+abbrev pub with_left : FrontierView → ℕ → ℕ → FrontierView
+with_left frontier left parent = record {
+  room = frontier.room;
+  lefts = frontier.lefts ++ left ∷ [];
+  parents = frontier.parents ++ parent ∷ [];
 }
 
 -- each right that is joined to the left at `head` is free, or the mate of a left that was reached
-abbrev pub Reaches : Joins → ℕ → MatesView → ReachedView → ℕ → Type 0
-Reaches joins rights mates reached head =
-    ReachesOwners joins mates.mates reached.lefts (slice_index reached.lefts head) rights
+abbrev pub Reaches : Joins → ℕ → MatesView → FrontierView → ℕ → Type 0
+Reaches joins rights mates frontier head =
+    ReachesOwners joins mates.mates frontier.lefts (slice_index frontier.lefts head) rights
 
 -- the right is free for the left at the place
-abbrev pub IsFreeAt : Joins → ℕ → MatesView → ReachedView → Way → Type 0
-IsFreeAt joins rights mates reached way =
-    IsFreeFor joins rights mates.mates (slice_index reached.lefts way.place) way.right
+abbrev pub IsFreeAt : Joins → ℕ → MatesView → FrontierView → Way → Type 0
+IsFreeAt joins rights mates frontier way =
+    IsFreeFor joins rights mates.mates (slice_index frontier.lefts way.place) way.right
 
 -- such a way, or none: then each right that is joined to a left reached is the mate of another
-abbrev pub IsWay : Joins → ℕ → MatesView → ReachedView → Option Way → Type 0
-IsWay joins rights mates reached answer = MatchOption answer
-    (IsClosed joins rights mates.mates reached.lefts (length reached.lefts))
-    (λ way. (way.place < length reached.lefts) × IsFreeAt joins rights mates reached way)
+abbrev pub IsWay : Joins → ℕ → MatesView → FrontierView → Option Way → Type 0
+IsWay joins rights mates frontier answer = MatchOption answer
+    (IsClosed joins rights mates.mates frontier.lefts (length frontier.lefts))
+    (λ way. (way.place < length frontier.lefts) × IsFreeAt joins rights mates frontier way)

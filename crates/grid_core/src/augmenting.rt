@@ -4,9 +4,9 @@ ghost use Rattle.std.specs.Prelude.{◌≡◌, ◌+◌, ◌<◌, ◌≤◌, leng
 ghost use Rattle.grid_core.specs.Augmenting.{AreJoined, IsReach, IsFreeRight, Reaches, IsWay, IsFreeAt};
 ghost use Rattle.grid_core.specs.Augmenting.{Extends};
 
+use crate::frontier::Frontier;
 use crate::mates::Mates;
 use crate::pairing::Edges;
-use crate::reached::Reached;
 
 /// The least right that is free for the left.
 fn free_right<E: Edges>(edges: &E, mates: &Mates, left: usize) -> Option<usize>
@@ -26,24 +26,24 @@ fn free_right<E: Edges>(edges: &E, mates: &Mates, left: usize) -> Option<usize>
 }
 
 /// Reaches the owners of the rights that are joined to the left at `head`.
-fn reach_owners<E: Edges>(edges: &E, mates: &Mates, head: usize, reached: &mut Reached)
+fn reach_owners<E: Edges>(edges: &E, mates: &Mates, head: usize, frontier: &mut Frontier)
     requires rights_fit { E.right_count edges.now ≤ mates.now.room }
     requires root_in { length mates.now.mates < E.left_count edges.now }
-    requires lefts_fit { E.left_count edges.now ≤ reached.old.room }
-    requires head_in { head < length reached.old.lefts }
-    requires reach { IsReach (E.joins edges.now) mates.now.mates reached.old }
-    ensures room { reached.new.room ≡ reached.old.room }
-    ensures reach { IsReach (E.joins edges.now) mates.now.mates reached.new }
-    ensures grown { Extends reached.old.lefts reached.new.lefts }
+    requires lefts_fit { E.left_count edges.now ≤ frontier.old.room }
+    requires head_in { head < length frontier.old.lefts }
+    requires reach { IsReach (E.joins edges.now) mates.now.mates frontier.old }
+    ensures room { frontier.new.room ≡ frontier.old.room }
+    ensures reach { IsReach (E.joins edges.now) mates.now.mates frontier.new }
+    ensures grown { Extends frontier.old.lefts frontier.new.lefts }
     ensures owners { Reaches (E.joins edges.now) (E.right_count edges.now)
-        mates.now reached.new head }
+        mates.now frontier.new head }
 {
-    let left = reached.left(head);
+    let left = frontier.left(head);
     let mut from = 0;
     while let Some(right) = edges.next(left, from) {
         if let Some(owner) = mates.owner(right) {
-            if !reached.has(owner) {
-                reached.push(owner, head);
+            if !frontier.has(owner) {
+                frontier.push(owner, head);
             }
         }
         from = right + 1;
@@ -58,37 +58,37 @@ pub(crate) struct Way {
 }
 
 /// Searches for a free right, breadth first from the first left that has no mate.
-pub(crate) fn explore<E: Edges>(edges: &E, mates: &Mates, reached: &mut Reached) -> Option<Way>
+pub(crate) fn explore<E: Edges>(edges: &E, mates: &Mates, frontier: &mut Frontier) -> Option<Way>
     requires root_in { length mates.now.mates < E.left_count edges.now }
-    requires lefts_fit { E.left_count edges.now ≤ reached.old.room }
+    requires lefts_fit { E.left_count edges.now ≤ frontier.old.room }
     requires rights_fit { E.right_count edges.now ≤ mates.now.room }
-    ensures room { reached.new.room ≡ reached.old.room }
-    ensures reach { IsReach (E.joins edges.now) mates.now.mates reached.new }
+    ensures room { frontier.new.room ≡ frontier.old.room }
+    ensures reach { IsReach (E.joins edges.now) mates.now.mates frontier.new }
     ensures found { IsWay (E.joins edges.now) (E.right_count edges.now)
-        mates.now reached.new result }
+        mates.now frontier.new result }
 {
-    reached.clear();
-    reached.push(mates.count(), 0);
+    frontier.clear();
+    frontier.push(mates.count(), 0);
     let mut head = 0;
-    while head < reached.count() {
-        if let Some(right) = free_right(edges, mates, reached.left(head)) {
+    while head < frontier.count() {
+        if let Some(right) = free_right(edges, mates, frontier.left(head)) {
             return Some(Way { place: head, right });
         }
-        reach_owners(edges, mates, head, reached);
+        reach_owners(edges, mates, head, frontier);
         head += 1;
     }
     None
 }
 
 /// Gives the free right to the left at its place, that left's mate to its parent, on to the root.
-pub(crate) fn shift<E: Edges>(edges: &E, reached: &Reached, way: Way, mates: &mut Mates)
+pub(crate) fn shift<E: Edges>(edges: &E, frontier: &Frontier, way: Way, mates: &mut Mates)
     requires joined { AreJoined (E.joins edges.now) (E.right_count edges.now) mates.old.mates }
     requires rights_fit { E.right_count edges.now ≤ mates.old.room }
     requires root_fits { length mates.old.mates < mates.old.room }
-    requires reach { IsReach (E.joins edges.now) mates.old.mates reached.now }
-    requires place_in { way.place < length reached.now.lefts }
+    requires reach { IsReach (E.joins edges.now) mates.old.mates frontier.now }
+    requires place_in { way.place < length frontier.now.lefts }
     requires free { IsFreeAt (E.joins edges.now) (E.right_count edges.now)
-        mates.old reached.now way }
+        mates.old frontier.now way }
     ensures room { mates.new.room ≡ mates.old.room }
     ensures more { length mates.new.mates ≡ length mates.old.mates + 1 }
     ensures joined { AreJoined (E.joins edges.now) (E.right_count edges.now) mates.new.mates }
@@ -98,8 +98,8 @@ pub(crate) fn shift<E: Edges>(edges: &E, reached: &Reached, way: Way, mates: &mu
         mut right,
     } = way;
     while place > 0 {
-        right = mates.replace(reached.left(place), right);
-        place = reached.parent(place);
+        right = mates.replace(frontier.left(place), right);
+        place = frontier.parent(place);
     }
     mates.push(right);
 }

@@ -3,12 +3,12 @@
 
 mod augmenting;
 mod board;
+mod frontier;
 mod grid;
 mod lines;
 mod mates;
 mod pairing;
 mod planes;
-mod reached;
 mod regions;
 mod size;
 

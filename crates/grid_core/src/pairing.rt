@@ -4,8 +4,8 @@ ghost use Rattle.std.specs.Prelude.{◌≡◌, ℕ, ◌<◌, ◌≤◌, Bool, Is
 ghost use Rattle.grid_core.specs.Pairings.{IsPairing, IsShortSet};
 
 use crate::augmenting::{explore, shift};
+use crate::frontier::Frontier;
 use crate::mates::Mates;
-use crate::reached::Reached;
 use std::alloc::{AllocError, Global};
 use std::marker::Model;
 
@@ -48,7 +48,7 @@ pub enum Paired {
 #[derive(Drop)]
 pub struct Pairing {
     mates: Mates,
-    reached: Reached,
+    frontier: Frontier,
 }
 
 impl Model for Pairing {
@@ -60,10 +60,10 @@ impl Model for Pairing {
     ghost view = { λ p. record {
       room = p.mates.room;
       mates = p.mates.mates;
-      short = p.reached.lefts;
+      short = p.frontier.lefts;
     } };
 
-    ghost invariant = { λ p. p.reached.room ≡ p.mates.room };
+    ghost invariant = { λ p. p.frontier.room ≡ p.mates.room };
 }
 
 impl Pairing {
@@ -77,7 +77,7 @@ impl Pairing {
     {
         Ok(Pairing {
             mates: Mates::new(alloc, n)?,
-            reached: Reached::new(alloc, n)?,
+            frontier: Frontier::new(alloc, n)?,
         })
     }
 
@@ -95,16 +95,16 @@ impl Pairing {
     {
         self.mates.clear();
         while self.mates.count() < edges.lefts() {
-            match explore(edges, &self.mates, &mut self.reached) {
-                Some(way) => shift(edges, &self.reached, way, &mut self.mates),
+            match explore(edges, &self.mates, &mut self.frontier) {
+                Some(way) => shift(edges, &self.frontier, way, &mut self.mates),
                 None => {
                     self.mates.clear();
-                    self.reached.sort();
+                    self.frontier.sort();
                     return Paired::Short;
                 }
             }
         }
-        self.reached.clear();
+        self.frontier.clear();
         Paired::All
     }
 
@@ -120,6 +120,6 @@ impl Pairing {
     pub fn short(&self) -> &[usize]
         ensures { result.now ≡ self.now.short }
     {
-        self.reached.lefts()
+        self.frontier.lefts()
     }
 }

@@ -4,15 +4,15 @@ use Rattle.maker_core.proofs.Common.{take, length, length-append, cond, nat_lt, 
 use Rattle.maker_core.proofs.Common.{All-cons, All-nil, Stream, IsGrid, draw_below, black_cells}
 
 -- the steps of the drawing
-black_cells-none : (black : ℕ) (s : Stream) → ◌≡◌ {A = List ℕ × Stream} ([], s) (black_cells black 0 s)
+black_cells-none : (black : ℕ) {s : Stream} → ◌≡◌ {A = List ℕ × Stream} ([], s) (black_cells black 0 s)
 unfolding black_cells
-black_cells-none black s = refl
+black_cells-none black = refl
 
-black_cells-more : (black k d : ℕ) (s t u : Stream) (xs : List ℕ)
+black_cells-more : (black k d : ℕ) (s t u : Stream) {xs : List ℕ}
     → ◌≡◌ {A = List ℕ × Stream} (xs, t) (black_cells black k s) → ◌≡◌ {A = ℕ × Stream} (d, u) (draw_below 100 t)
     → ◌≡◌ {A = List ℕ × Stream} (xs ++ cond (nat_lt d black) 1 0 ∷ [], u) (black_cells black (k + 1) s)
 unfolding black_cells
-black_cells-more black k d s t u xs before drawn = rw (add-one, sym before, sym drawn) refl
+black_cells-more black k d s t u before drawn = rw (add-one, sym before, sym drawn) refl
 
 -- the cells below `place` hold what was drawn, and the generator stands after those draws
 pub record IsPartDrawn (black cells place : ℕ) (s now : Stream) (grid : List ℕ) : Type 0 where
@@ -21,31 +21,31 @@ pub record IsPartDrawn (black cells place : ℕ) (s now : Stream) (grid : List �
   pub white : black ≡ 0 → (k : ℕ) → k < place → slice_index grid k ≡ 0
   pub full : black ≡ 100 → (k : ℕ) → k < place → slice_index grid k ≡ 1
 
-pub IsPartDrawn-none : (black cells : ℕ) (s : Stream) (grid : List ℕ) → length grid ≡ cells → IsPartDrawn black cells 0 s s grid
-IsPartDrawn-none black cells s grid long = record {
+pub IsPartDrawn-none : (black : ℕ) {cells : ℕ} {s : Stream} {grid : List ℕ} → length grid ≡ cells → IsPartDrawn black cells 0 s s grid
+IsPartDrawn-none black long = record {
   long = long;
-  drawn = black_cells-none black s;
+  drawn = black_cells-none black;
   white = λ e k lt. absurd (omega arith);
   full = λ e k lt. absurd (omega arith);
 }
 
-pub IsPartDrawn-more : (black cells place d v : ℕ) (s now u : Stream) (grid : List ℕ)
+pub IsPartDrawn-more : {black cells place : ℕ} (d v : ℕ) (s now u : Stream) (grid : List ℕ)
     → IsPartDrawn black cells place s now grid → ◌≡◌ {A = ℕ × Stream} (d, u) (draw_below 100 now) → d < 100 → v ≡ cond (nat_lt d black) 1 0 → place < cells
     → IsPartDrawn black cells (place + 1) s u (slice_set grid place v)
-IsPartDrawn-more black cells place d v s now u grid before draw below value within =
+IsPartDrawn-more {black} {place} d v s now u grid before draw below value within =
     let inside : place < length grid = omega (arith, before.long) in
     record {
       long = grind (arith, common_steps, before.long);
       drawn =
           ap (λ xs. (xs, u)) (take_more_set grid place v inside ∙ ap (λ w. take place grid ++ w ∷ []) value)
-          ∙ black_cells-more black place d s now u (take place grid) before.drawn draw;
+          ∙ black_cells-more black place d s now u before.drawn draw;
       white = λ e k lt. grind (arith, elements, before.white e k);
       full = λ e k lt. grind (arith, elements, before.full e k);
     }
 
-pub IsPartDrawn-all : (black cells : ℕ) (s now : Stream) (grid : List ℕ) → IsPartDrawn black cells cells s now grid
+pub IsPartDrawn-all : {black cells : ℕ} {s now : Stream} (grid : List ℕ) → IsPartDrawn black cells cells s now grid
     → ◌≡◌ {A = List ℕ × Stream} (grid, now) (black_cells black cells s)
-IsPartDrawn-all black cells s now grid all =
+IsPartDrawn-all {cells} grid all =
     rw (take_all cells grid (omega (arith, all.long))) at all.drawn
 
 -- one more cell, of 0 or 1

@@ -57,7 +57,7 @@ pub use Rattle.fields_core.specs.Light.{bulb, bulbs_beside, solves_lights, light
 unfoldable pub use Rattle.fields_core.specs.Light.{black_right, bulb_right, joined_in_column, joined_in_row, lit_right, number_right, sees, sees_bulb}
 unfoldable pub use Rattle.fields_core.specs.Light.{white}
 pub use Rattle.fields_core.specs.LightHouses.{light_rules}
-pub use Rattle.fields_core.specs.LightLaws.{light-lawful}
+pub use Rattle.fields_core.proofs.LightCounting.{light-lawful}
 pub use Rattle.fields_core.specs.LightSolutions.{IsLightSolution}
 pub use Rattle.fields_core.specs.TentHouses.{tent_rules}
 pub use Rattle.fields_core.specs.TentSolutions.{IsTentSolution}
@@ -80,7 +80,9 @@ unfoldable pub use Rattle.grid_core.specs.Candidates.{single}
 pub use Rattle.grid_core.specs.Extent.{Extent, IsExtent}
 pub use Rattle.grid_core.specs.Grids.{IsGrid, column_cells, row_cells}
 pub use Rattle.grid_core.specs.Regions.{beside, column_places, row_places, steps}
-pub use Rattle.pattern_core.specs.Faults.{IsCheck}
+pub use Rattle.pattern_core.specs.Faults.{FailsPattern, IsPatternFault, pattern_tests}
+pub use Rattle.pattern_core.proofs.FaultLemmas.{pattern_none}
+pub use Rattle.gameid_core.proofs.FirstFailed.{tells}
 pub use Rattle.grid_core.proofs.LineLemmas.{length-line_places, line_numbers-column, line_numbers-row, place_in_row}
 pub use Rattle.pattern_core.specs.LineLaws.{cell_in_grid, different_places, has_runs-is, is_solution-from, is_solution-is}
 pub use Rattle.pattern_core.specs.LineLaws.{line_rules-lawful}

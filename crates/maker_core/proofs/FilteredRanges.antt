@@ -10,7 +10,8 @@ range_more k = simp map-id at (map-range_with_len_more (λ x. x) 0 k k (omega ar
 filter_more : (p : ℕ → Bool) (k : ℕ) → filter p (range_with_len 0 (k + 1)) ≡ filter p (range_with_len 0 k) ++ cond (p k) (k ∷ []) []
 filter_more p k = rw range_more (filter-append p (range_with_len 0 k) (k ∷ []))
 
-pub filter_kept : (p : ℕ → Bool) (k : ℕ) (xs ys : List ℕ) → p k ≡ true → xs ≡ filter p (range_with_len 0 k) → ys ≡ xs ++ k ∷ [] → ys ≡ filter p (range_with_len 0 (k + 1))
+pub filter_kept : (p : ℕ → Bool) (k : ℕ) (xs ys : List ℕ) → p k ≡ true → xs ≡ filter p (range_with_len 0 k) → ys ≡ xs ++ k ∷ []
+    → ys ≡ filter p (range_with_len 0 (k + 1))
 filter_kept p k xs ys passes before more = grind (arith, filter_more p k)
 
 pub filter_skipped : (p : ℕ → Bool) (k : ℕ) (xs : List ℕ) → p k ≡ false → xs ≡ filter p (range_with_len 0 k) → xs ≡ filter p (range_with_len 0 (k + 1))
@@ -26,8 +27,8 @@ passes_kept p (suc n) q lt on =
     ])
 
 -- no number after the head is the head
-pub head_apart : (xs : List ℕ) (x q : ℕ) → AllByRecursion (λ y. eqb x y ≡ false) xs → Contains xs q → q ≢ x
-head_apart xs x q apart held = λ e.
+pub head_apart : (xs : List ℕ) {x q : ℕ} → AllByRecursion (λ y. eqb x y ≡ false) xs → Contains xs q → q ≢ x
+head_apart xs {x} {q} apart held = λ e.
     grind (arith, All-contains (λ y. eqb x y ≡ false) xs q (All-from_recursion (λ y. eqb x y ≡ false) xs apart) held)
 
 -- what the listing of cells that pass cites

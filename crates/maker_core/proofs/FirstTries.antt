@@ -1,5 +1,9 @@
 -- The loop over tries: so many fillings were made, and each failed.
-use Rattle.maker_core.proofs.Common.{◌≡◌, ℕ, suc, ◌+◌, ◌<◌, Bool, true, false, sym, ◌∙◌, ap, arith, add-one, inl, inr, cases_eq, Stream}
+use Rattle.maker_core.proofs.Common.{◌≡◌, ℕ, suc, ◌+◌, ◌<◌, Bool, true, false, sym, ◌∙◌, ap, arith, add-one, inl, inr, cases_eq, Stream, refl, ◌≢◌}
+use Rattle.std.specs.Prelude.{Result, Err}
+use Rattle.maker_core.specs.declared.made.MakeFault.{MakeFault}
+use Rattle.maker_core.specs.declared.made.MakeFault.TheVariants.{Exhausted, Memory, SizeRange}
+use Rattle.maker_core.specs.Draws.{LeavesStream}
 use Rattle.maker_core.proofs.Common.{Tries, stream_after, filling_at, IsFirst, IsFirstPassing}
 
 module _ {A : Type 0} (t : Tries A) (known : A → Bool → Type 0) (s : Stream) where
@@ -9,7 +13,7 @@ module _ {A : Type 0} (t : Tries A) (known : A → Bool → Type 0) (s : Stream)
     pub failing : (j : ℕ) → j < done → (t.passes (filling_at t.make j s) ≡ false) × known (filling_at t.make j s) false
 
   -- one more filling is made
-  module _ (done : ℕ) (now u : Stream) (x : A) (p : IsTrying done now) (made : ◌≡◌ {A = A × Stream} (x, u) (t.make now)) where
+  module _ {done : ℕ} {now u : Stream} {x : A} (p : IsTrying done now) (made : ◌≡◌ {A = A × Stream} (x, u) (t.make now)) where
     filling_is : x ≡ filling_at t.make done s
     filling_is = ap (λ q. q.0) made ∙ ap (λ w. (t.make w).0) p.stands
 
@@ -35,8 +39,15 @@ module _ {A : Type 0} (t : Tries A) (known : A → Bool → Type 0) (s : Stream)
     }
 
 -- the stream that is left where the first that passes was made to a puzzle
-pub draws_first : {A : Type 0} (t : Tries A) (s u left : Stream) (x : A) → IsFirst t s x u → left ≡ t.ends x u
+pub draws_first : {A : Type 0} {t : Tries A} {s u left : Stream} {x : A} → IsFirst t s x u → left ≡ t.ends x u
     → (k : ℕ) → IsFirstPassing t.make t.passes s t.count k → left ≡ t.ends (filling_at t.make k s) (stream_after t.make (suc k) s)
-draws_first t s u left x w is k first =
+draws_first w is k first =
     let same : w.k ≡ k = let a = w.first in grind arith in
     rw (← same, ← w.filled, ← w.drawn) is
+
+-- the stream that is left where none was found
+pub leaves_failed : {A X : Type 0} (t : Tries A) (old : Stream) {new : Stream} {result : Result X MakeFault} (e : MakeFault)
+    → result ≡ Err e → e ≢ SizeRange → (e ≡ Exhausted → new ≡ stream_after t.make t.count old) → LeavesStream t old new result
+leaves_failed t old SizeRange is sized all = absurd (sized refl)
+leaves_failed t old Exhausted is sized all = rw is (all refl)
+leaves_failed t old Memory is sized all = rw is tt

@@ -4,8 +4,8 @@ use Rattle.maker_core.proofs.Common.{mul-add-lt, div-mul-add, mod-mul-add, div_b
 use Rattle.maker_core.proofs.Common.{length-map-range_with_len, get_or-map-range_with_len, IsGrid, line_from, flipped_from, flipped}
 
 -- ---- lines
-pub line_from-below : (flips : Bool) (n k : ℕ) → k < n → line_from flips n k < n
-line_from-below flips n k lt = grind arith
+pub line_from-below : (flips : Bool) {n k : ℕ} → k < n → line_from flips n k < n
+line_from-below flips lt = grind arith
 
 pub line_from-apart : (flips : Bool) (n j k : ℕ) → j < n → k < n → line_from flips n j ≡ line_from flips n k → j ≡ k
 line_from-apart flips n j k lj lk e = grind arith
@@ -19,9 +19,9 @@ other_group count size k pos lt =
     grind (arith, ap (λ z. z * size) all, div-mul-add more size (size - 1 - k % size), mod_below k size pos, div-add-mod' k size)
 
 -- lines of one group come from lines of one group
-pub line_from-together : (flips : Bool) (n count size j k : ℕ) → n ≡ count * size → 0 < size → j < n → k < n → j / size ≡ k / size
+pub line_from-together : (flips : Bool) {n : ℕ} (count : ℕ) {size j k : ℕ} → n ≡ count * size → 0 < size → j < n → k < n → j / size ≡ k / size
     → line_from flips n j / size ≡ line_from flips n k / size
-line_from-together flips n count size j k is pos lj lk e = grind (arith, other_group count size j, other_group count size k)
+line_from-together flips count {size} {j} {k} is pos lj lk e = grind (arith, other_group count size j, other_group count size k)
 
 -- ---- places
 module _ (n : ℕ) (across down : Bool) where
@@ -63,8 +63,8 @@ module _ (n : ℕ) (across down : Bool) where
   unfolding flipped
   length-flipped g = grind (arith, length-map-range_with_len)
 
-  pub flipped-grid : (g : List ℕ) (values : ℕ) → IsGrid (n * n) values g → IsGrid (n * n) values (flipped n across down g)
-  flipped-grid g values grid = record {
+  pub flipped-grid : (g : List ℕ) {values : ℕ} → IsGrid (n * n) values g → IsGrid (n * n) values (flipped n across down g)
+  flipped-grid g {values} grid = record {
     each_cell = length-flipped g;
     each_value = All-from_get_or (λ v. v < values) (flipped n across down g) 0 (λ place lt.
         grind (arith, length-flipped g, from_below place, flipped-at place, All-get_or (λ v. v < values) g (flipped_from n across down place) 0));

@@ -16,7 +16,9 @@ one_value : (p : RuleSystem) (g : List ℕ) (E : Candidates) → IsGridAlone p g
 one_value p g E s c lt =
     let long = s.solves.grid.each_cell in
     let inside : c < length g = omega arith in
-    let low : 0 < count_below (E c) p.values = count_below-pos (E c) p.values (slice_index g c) (s.solves.grid.each_value c 0 inside) (s.has c (slice_index g c) (single-at g c inside)) in
+    let low : 0 < count_below (E c) p.values =
+    count_below-pos (E c) p.values (slice_index g c) (s.solves.grid.each_value c 0 inside)
+    (s.has c (slice_index g c) (single-at g c inside)) in
     let high : count_below (E c) p.values ≤ 1 = count_below-few (E c) p.values (λ k j ltk ltj onk onj. s.alone c k lt ltk onk ∙ sym (s.alone c j lt ltj onj)) in
     omega arith
 
@@ -40,14 +42,15 @@ pub record IsKnown (p : RuleSystem) : Type 0 where
   pub on : (depth : ℕ) (K : Candidates) → IsWithin p.cells p.values K → walk p depth K ≡ walk_closed p (walk p (suc depth)) depth (closure p K)
 
 -- the closure of the start is closed, a solution lies inside it, and where it has no value more the verdict is one
-pub closed_start : (p : RuleSystem) → IsKnown p → IsClosed p (closure p p.start)
-closed_start p known = (known.largest p.start known.laws.start_within).closed
+pub closed_start : {p : RuleSystem} → IsKnown p → IsClosed p (closure p p.start)
+closed_start {p} known = (known.largest p.start known.laws.start_within).closed
 
 pub found_at_once : (p : RuleSystem) (budget : ℕ) (g : List ℕ) → IsKnown p → Solves p g
     → ((c v : ℕ) → c < p.cells → v < p.values → closure p p.start c v ≡ true → v ≡ slice_index g c) → TellsOne p budget g
 found_at_once p budget g known s alone =
     let largest = known.largest p.start known.laws.start_within in
-    let stays : IsInside (single g) (closure p p.start) = largest.largest (single g) (known.laws.solutions_closed g s.grid s.good) (known.laws.solutions_start g s.grid s.good) in
+    let stays : IsInside (single g) (closure p p.start) =
+    largest.largest (single g) (known.laws.solutions_closed g s.grid s.good) (known.laws.solutions_start g s.grid s.good) in
     let marks : walk p 0 p.start ≡ Found g ∷ [] =
     known.on 0 p.start known.laws.start_within ∙ closed_walk p g (walk p 1) (closure p p.start) (record { solves = s; has = stays; alone = alone }) in
     ap (outcome budget None) marks ∙ found_one budget g

@@ -6,28 +6,32 @@ use Rattle.maker_core.proofs.WrittenGrids.{set_back}
 use Rattle.maker_core.proofs.FilteredRanges.{passes_kept}
 use Rattle.maker_core.proofs.ThinningTurns.{some_of, two_in}
 
-lacking_within : {A : Type 0} (game : CluedGame A) → IsGame game → (p q : A) (place n : ℕ) → IsThinnedFrom game q p → game.clue p place ≡ Some n → has_clue game q place ≡ false
+lacking_within : {A : Type 0} {game : CluedGame A} → IsGame game → (p q : A) (place n : ℕ) → IsThinnedFrom game q p
+    → game.clue p place ≡ Some n → has_clue game q place ≡ false
     → IsThinnedFrom game q (game.without p place)
-lacking_within game laws p q place n w e lacks = record {
+lacking_within laws p q place n w e lacks = record {
   frame = laws.same_through _ _ _ w.frame (laws.same_back _ _ (laws.without_frame p place n e));
   clues = λ other m had. grind (arith, cases_eq other place, laws.others_stay p place other, w.clues other m);
 }
 
 -- the reason of a clue that is left
-needed_at : {A : Type 0} (game : CluedGame A) (budget : ℕ) (all p : A) (kept : List Kept) (place : ℕ) → AreReasons game budget all p kept → All (λ k. k.why ≡ Needed) kept
+needed_at : {A : Type 0} (game : CluedGame A) {budget : ℕ} (all p : A) (kept : List Kept) (place : ℕ)
+    → AreReasons game budget all p kept → All (λ k. k.why ≡ Needed) kept
     → Contains (map (λ k. k.place) kept) place → HasTwo (game.rules (game.without p place))
-needed_at game budget all p kept place reasons needed listed =
+needed_at game {budget} all p kept place reasons needed listed =
     let entry : Kept = record { place = place; why = Needed } in
     let below : listed.0 < length kept = omega (arith, listed.1, length-map kept (λ k. k.place)) in
     let here : (get_or kept listed.0 entry).place ≡ place = sym (get_or-map (λ k. k.place) kept listed.0 entry place below) ∙ listed.2 in
-    subst (λ x. IsReason game budget all p x Needed) here (subst (λ w. IsReason game budget all p (get_or kept listed.0 entry).place w) (needed listed.0 entry below) (reasons.reasons listed.0 entry below))
+    subst (λ x. IsReason game budget all p x Needed) here
+    (subst (λ w. IsReason game budget all p (get_or kept listed.0 entry).place w) (needed listed.0 entry below)
+    (reasons.reasons listed.0 entry below))
 
-pub none_is_idle : {A : Type 0} (game : CluedGame A) → IsGame game → LeavesNoIdleClue game
-none_is_idle game laws budget all p q kept place reasons needed w has lacks =
+pub none_is_idle : {A : Type 0} {game : CluedGame A} → IsGame game → LeavesNoIdleClue game
+none_is_idle {game} laws budget all p q kept place reasons needed w has lacks =
     let n = some_of (game.clue p place) has in
     let listed = passes_kept (has_clue game p) (game.cells p) place (laws.clue_in p place n.0 n.1) has in
-    two_in game laws _ _ (lacking_within game laws p q place n.0 w n.1 lacks)
-    (needed_at game budget all p kept place reasons needed (subst (λ xs. Contains xs place) (sym reasons.places) listed))
+    two_in game laws (lacking_within laws p q place n.0 w n.1 lacks)
+    (needed_at game all p kept place reasons needed (subst (λ xs. Contains xs place) (sym reasons.places) listed))
 
 -- what the taking away of clues cites, and that fewer clues lose no solution
 pub ruleset clue_laws = (set_back, clue_is, numbered_is)

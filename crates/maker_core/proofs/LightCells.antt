@@ -20,25 +20,27 @@ abbrev pub old_cell : Light → ℕ → LightCell
 old_cell p k = get_or p.cells k Black
 
 -- all cells are rewritten
-pub IsRewritten-all : (size : Extent) (new old : ℕ → LightCell) (place : ℕ) (p : Light) → IsRewritten size new old place p → size.w * size.h ≤ place
+pub IsRewritten-all : {size : Extent} {new old : ℕ → LightCell} {place : ℕ} (p : Light) → IsRewritten size new old place p → size.w * size.h ≤ place
     → p ≡ record { size = size; cells = map new (range_with_len 0 (size.w * size.h)) }
-IsRewritten-all size new old place p w all =
+IsRewritten-all {size} {new} p w all =
     let cells = fill_by_all new p.cells (size.w * size.h) Black w.long (λ k lt. w.now k (omega arith) lt) in
     rw (← cells, ← w.sized) refl
 
 -- ---- black cells
-pub blackened : (size : Extent) (black : List ℕ) (place : ℕ) (p : Light) → IsRewritten size (black_cell black) white_cell place p
+pub blackened : (size : Extent) (black : List ℕ) {place : ℕ} (p : Light) → IsRewritten size (black_cell black) white_cell place p
     → size.w * size.h ≤ place → length black ≡ size.w * size.h → p ≡ lights_of size black
 unfolding lights_of
-blackened size black place p w all long =
+blackened size black p w all long =
     let colour : ℕ → LightCell = λ v. if v == 1 then Black else White in
-    rw (fill_by_all (black_cell black) (map colour black) (size.w * size.h) Black (length-map black colour ∙ long) (λ k lt. get_or-map colour black k 0 Black (omega arith)))
-    (IsRewritten-all size (black_cell black) white_cell place p w all)
+    rw (fill_by_all (black_cell black) (map colour black) (size.w * size.h) Black (length-map black colour ∙ long)
+    (λ k lt. get_or-map colour black k 0 Black (omega arith)))
+    (IsRewritten-all p w all)
 
 -- ---- numbers
-pub numbered_all : (p q : Light) (g : List ℕ) (place : ℕ) → IsRewritten p.size (numbered_cell p g) (old_cell p) place q → light_cells p ≤ place → q ≡ with_numbers p g
+pub numbered_all : (p q : Light) (g : List ℕ) {place : ℕ} → IsRewritten p.size (numbered_cell p g) (old_cell p) place q
+    → light_cells p ≤ place → q ≡ with_numbers p g
 unfolding with_numbers
-numbered_all p q g place w all = IsRewritten-all p.size (numbered_cell p g) (old_cell p) place q w all
+numbered_all p q g w all = IsRewritten-all q w all
 
 -- a cell has at most four beside it
 pub bulbs_few : (p : Light) (g : List ℕ) (c : ℕ) → bulbs_beside p g c ≤ 4

@@ -13,18 +13,18 @@ pub record AreWhitesShuffled (p : Light) (items new order : List ℕ) (s t : Str
   pub mixed : IsPermutation items new
   pub lent : order ≡ new
 
-mixed_order : (p : Light) (items new order : List ℕ) (s t : Stream) → AreWhitesShuffled p items new order s t → IsPermutation (white_places p) order
-mixed_order p items new order s t w = rw (w.lent, sym w.listed) w.mixed
+mixed_order : {p : Light} {items new order : List ℕ} {s t : Stream} → AreWhitesShuffled p items new order s t → IsPermutation (white_places p) order
+mixed_order w = rw (w.lent, sym w.listed) w.mixed
 
-pub order_within : (p : Light) (items new order : List ℕ) (s t : Stream) → AreWhitesShuffled p items new order s t → length p.cells ≡ light_cells p
+pub order_within : (p : Light) (items new order : List ℕ) {s t : Stream} → AreWhitesShuffled p items new order s t → length p.cells ≡ light_cells p
     → All (λ c. c < light_cells p) order
-order_within p items new order s t w long k d lt =
-    let on = order_white p order (mixed_order p items new order s t w) k lt in
+order_within p items new order w long k d lt =
+    let on = order_white p (mixed_order w) k lt in
     rw (get_or_default order k d 0 lt) (white-in p (slice_index order k) long on)
 
-pub lit_up_solved : (p : Light) (items new order g : List ℕ) (s t : Stream) → AreWhitesShuffled p items new order s t → length p.cells ≡ light_cells p
+pub lit_up_solved : (p : Light) (items new order g : List ℕ) {s t : Stream} → AreWhitesShuffled p items new order s t → length p.cells ≡ light_cells p
     → g ≡ bulbs_after p order (length order) → solves_lights (with_numbers p g) g ≡ true
-lit_up_solved p items new order g s t w long is = lit_solved p order g long (mixed_order p items new order s t w) is
+lit_up_solved p items new order g w long is = lit_solved p order g long (mixed_order w) is
 
 -- black cells alone
 black_at : (size : Extent) (cells : List ℕ) → AreAll 1 cells → (c : ℕ) → white (lights_of size cells) c ≡ false
@@ -48,6 +48,7 @@ again : (p : Light) (g : List ℕ) → length p.cells ≡ light_cells p → with
 unfolding with_numbers
 again p g long = ap (λ (f : ℕ → LightCell). record { size = p.size; cells = map f (range_with_len 0 (light_cells p)) }) (λ i c. again_at p g long c i)
 
-pub numbers_again : (size : Extent) (f : LightFilling) → length f.black ≡ size.w * size.h → light_puzzle_of size f ≡ with_numbers (light_puzzle_of size f) f.bulbs
+pub numbers_again : (size : Extent) (f : LightFilling) → length f.black ≡ size.w * size.h
+    → light_puzzle_of size f ≡ with_numbers (light_puzzle_of size f) f.bulbs
 unfolding light_puzzle_of
 numbers_again size f long = again (lights_of size f.black) f.bulbs (black_long size f.black long)

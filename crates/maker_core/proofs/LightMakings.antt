@@ -27,7 +27,7 @@ all_numbers size f p is lit = rw is (numbers_again size f lit.black.each_cell)
 pub lit_one : (size : Extent) (f : LightFilling) (budget : ℕ) (p : Light) → p ≡ light_puzzle_of size f → IsLit size f
     → HasOne (light_rules (light_puzzle_of size f)) budget → IsOnly (light_rules p) f.bulbs × TellsOne (light_rules p) budget f.bulbs
 unfolding light_puzzle_of with_numbers lights_of
-lit_one size f budget p is lit one = rw is (one_grid (light_rules (light_puzzle_of size f)) f.bulbs budget one (record { grid = lit.bulbs; good = lit.solved }))
+lit_one size f budget p is lit one = rw is (one_grid f.bulbs one (record { grid = lit.bulbs; good = lit.solved }))
 
 -- what the thinning of a filling's puzzle cites
 pub ruleset lit_laws = (all_numbers, lit_one)
@@ -40,6 +40,7 @@ all_black size f budget p is laws lit black =
     let none : (c : ℕ) → white p c ≡ false = λ c. rw is (none_white size f lit.black.each_cell black c) in
     let good : solves_lights p f.bulbs ≡ true = rw is lit.solved in
     ap is_one (found_at_once (light_rules p) budget f.bulbs (known (light_rules p) laws) (record { grid = rw is lit.bulbs; good = good })
-    (λ c v lt few here. start_black p c v (none c) few (closure_inside (light_rules p) (light_rules p).start c v here) ∙ sym (no_bulb_on p f.bulbs c good lt (none c))))
+    (λ c v lt few here. start_black p c v (none c) few (closure_inside (light_rules p) (light_rules p).start c v here)
+    ∙ sym (no_bulb_on p f.bulbs c good lt (none c))))
 
 pub ruleset black_laws = (all_black, light-lawful)

@@ -59,11 +59,11 @@ white_all p k xs is all = is ∙ ap (λ n. filter (white p) (range_with_len 0 n)
 -- ---- the bulbs
 pub bulbs_after-grid : (p : Light) (order : List ℕ) (k : ℕ) → IsGrid (light_cells p) 2 (bulbs_after p order k)
 unfolding bulbs_after
-bulbs_after-grid p order zero = zeros-grid (light_cells p)
+bulbs_after-grid p order zero = zeros-grid
 bulbs_after-grid p order (suc k) =
     let before = bulbs_after-grid p order k in
     cond_both (bulb (bulbs_after p order k) (slice_index order k) || sees_bulb p (bulbs_after p order k) (slice_index order k)) _ _ (IsGrid (light_cells p) 2)
-    (λ held. before) (λ none. grid_with (light_cells p) (slice_index order k) 1 _ _ (omega arith) refl before)
+    (λ held. before) (λ none. grid_with (slice_index order k) 1 (omega arith) refl before)
 
 pub bulbs_none : (p : Light) (order : List ℕ) → replicate (light_cells p) 0 ≡ bulbs_after p order 0
 unfolding bulbs_after

@@ -16,22 +16,24 @@ pub record IsPlanted (p : Light) (order g : List ℕ) (k : ℕ) : Type 0 where
   pub apart : (c d : ℕ) → bulb g c ≡ true → bulb g d ≡ true → sees p c d ≡ false
   pub lit : (j : ℕ) → j < k → (bulb g (slice_index order j) || sees_bulb p g (slice_index order j)) ≡ true
 
-planted_none : (p : Light) (order : List ℕ) → IsPlanted p order (replicate (light_cells p) 0) 0
-planted_none p order = record {
+planted_none : (p : Light) {order : List ℕ} → IsPlanted p order (replicate (light_cells p) 0) 0
+planted_none p = record {
   on_white = λ c on. absurd (no_one (light_cells p) c on);
   apart = λ c d on _. absurd (no_one (light_cells p) c on);
   lit = λ j lt. absurd (omega arith);
 }
 
-planted_held : (p : Light) (order g : List ℕ) (k : ℕ) → IsPlanted p order g k → (bulb g (slice_index order k) || sees_bulb p g (slice_index order k)) ≡ true → IsPlanted p order g (suc k)
-planted_held p order g k w held = record {
+planted_held : {p : Light} {order g : List ℕ} {k : ℕ} → IsPlanted p order g k
+    → (bulb g (slice_index order k) || sees_bulb p g (slice_index order k)) ≡ true → IsPlanted p order g (suc k)
+planted_held w held = record {
   on_white = w.on_white;
   apart = w.apart;
   lit = λ j lt. grind (arith, w.lit j);
 }
 
 -- ---- a new bulb
-lit_stays : (p : Light) (g : List ℕ) (c d : ℕ) → c < length g → (bulb g d || sees_bulb p g d) ≡ true → (bulb (slice_set g c 1) d || sees_bulb p (slice_set g c 1) d) ≡ true
+lit_stays : (p : Light) (g : List ℕ) (c d : ℕ) → c < length g → (bulb g d || sees_bulb p g d) ≡ true
+    → (bulb (slice_set g c 1) d || sees_bulb p (slice_set g c 1) d) ≡ true
 lit_stays p g c d lt on = elim (or_cases (bulb g d) (sees_bulb p g d) on) [
   | inl own ↦ or_left _ _ (old_stays g c d lt own)
   | inr seen ↦
@@ -39,7 +41,8 @@ lit_stays p g c d lt on = elim (or_cases (bulb g d) (sees_bulb p g d) on) [
       or_right _ _ (bulb_seen p (slice_set g c 1) d w.0 w.1 w.2 (old_stays g c w.0 lt w.3))
 ]
 
-planted_new : (p : Light) (order g : List ℕ) (k c : ℕ) → length g ≡ light_cells p → IsPlanted p order g k → c ≡ slice_index order k → white p c ≡ true → c < light_cells p
+planted_new : (p : Light) (order g : List ℕ) (k c : ℕ) → length g ≡ light_cells p → IsPlanted p order g k
+    → c ≡ slice_index order k → white p c ≡ true → c < light_cells p
     → (bulb g c || sees_bulb p g c) ≡ false → IsPlanted p order (slice_set g c 1) (suc k)
 planted_new p order g k c long w at on within none = record {
   on_white = λ d here. grind (arith, elements, w.on_white d);
@@ -51,28 +54,30 @@ planted_new p order g k c long w at on within none = record {
 }
   where
     unseen : (d : ℕ) → bulb g d ≡ true → sees p c d ≡ false
-    unseen d old = false_from_ne_true _ (λ seen. true≢false (sym (or_right (bulb g c) _ (bulb_seen p g c d (bulb-in g (light_cells p) d long old) seen old)) ∙ none))
+    unseen d old =
+        false_from_ne_true _ (λ seen. true≢false
+        (sym (or_right (bulb g c) _ (bulb_seen p g c d (bulb-in g (light_cells p) d long old) seen old)) ∙ none))
 
 pub planted : (p : Light) (order : List ℕ) → ((j : ℕ) → j < length order → white p (slice_index order j) ≡ true) → length p.cells ≡ light_cells p
     → (k : ℕ) → k ≤ length order → IsPlanted p order (bulbs_after p order k) k
 unfolding bulbs_after
-planted p order whites long zero le = planted_none p order
+planted p order whites long zero le = planted_none p
 planted p order whites long (suc k) le =
     let g = bulbs_after p order k in
     let c = slice_index order k in
     let before = planted p order whites long k (omega arith) in
     let on = whites k (omega arith) in
-    cond_both (bulb g c || sees_bulb p g c) _ _ (λ h. IsPlanted p order h (suc k)) (planted_held p order g k before)
+    cond_both (bulb g c || sees_bulb p g c) _ _ (λ h. IsPlanted p order h (suc k)) (planted_held before)
     (planted_new p order g k c (bulbs_after-grid p order k).each_cell before refl on (white-in p c long on))
 
 -- ---- the rules
-number_met : (cell : LightCell) (white_cell : Bool) (n : ℕ) → cell ≡ (if white_cell then White else Numbered n) → number_is cell n ≡ true
-number_met cell b n e = grind arith
+number_met : {cell : LightCell} (white_cell : Bool) (n : ℕ) → cell ≡ (if white_cell then White else Numbered n) → number_is cell n ≡ true
+number_met b n e = grind arith
 
-pub lights_solved : (p : Light) (order g : List ℕ) (k : ℕ) → length p.cells ≡ light_cells p → IsGrid (light_cells p) 2 g → IsPlanted p order g k
+pub lights_solved : (p : Light) {order g : List ℕ} {k : ℕ} → length p.cells ≡ light_cells p → IsGrid (light_cells p) 2 g → IsPlanted p order g k
     → ((c : ℕ) → white p c ≡ true → (j : ℕ) × (j < k) × (slice_index order j ≡ c)) → solves_lights (with_numbers p g) g ≡ true
 unfolding with_numbers black_right number_right bulb_right lit_right
-lights_solved p order g k long grid w each =
+lights_solved p {g} long grid w each =
     lit-from (with_numbers p g) g
     (all_below-from (black_right (with_numbers p g) g) (light_cells p) black)
     (all_below-from (number_right (with_numbers p g) g) (light_cells p) number)
@@ -83,7 +88,7 @@ lights_solved p order g k long grid w each =
     black c lt = grind (arith, same_white p g long c, w.on_white c, grid.each_value c 0, grid.each_cell)
 
     number : (c : ℕ) → c < light_cells p → number_right (with_numbers p g) g c ≡ true
-    number c lt = number_met (get_or (with_numbers p g).cells c Black) (white p c) (bulbs_beside p g c) (number_at p g c lt)
+    number c lt = number_met (white p c) (bulbs_beside p g c) (number_at p g c lt)
 
     alone : (c : ℕ) → c < light_cells p → bulb_right (with_numbers p g) g c ≡ true
     alone c lt = rw (same_seen p g long c) (grind (arith, seen_bulb p g c, w.apart c))
@@ -92,22 +97,22 @@ lights_solved p order g k long grid w each =
     lit c lt = grind (arith, same_white p g long c, same_seen p g long c, each c, w.lit)
 
 -- ---- in any order of the white cells
-pub order_white : (p : Light) (order : List ℕ) → IsPermutation (white_places p) order → (j : ℕ) → j < length order → white p (slice_index order j) ≡ true
+pub order_white : (p : Light) {order : List ℕ} → IsPermutation (white_places p) order → (j : ℕ) → j < length order → white p (slice_index order j) ≡ true
 unfolding white_places
-order_white p order mixed j lt =
+order_white p {order} mixed j lt =
     All-contains (λ c. white p c ≡ true) (white_places p) (slice_index order j) (filter_passes (white p) (range_with_len 0 (light_cells p)))
     (Contains-permutation order (white_places p) (slice_index order j) (IsPermutation-sym (white_places p) order mixed) (Contains-get_or order j 0 lt))
 
-order_each : (p : Light) (order : List ℕ) → length p.cells ≡ light_cells p → IsPermutation (white_places p) order → (c : ℕ) → white p c ≡ true
+order_each : (p : Light) {order : List ℕ} → length p.cells ≡ light_cells p → IsPermutation (white_places p) order → (c : ℕ) → white p c ≡ true
     → (j : ℕ) × (j < length order) × (slice_index order j ≡ c)
 unfolding white_places
-order_each p order long mixed c on =
+order_each p {order} long mixed c on =
     let w = Contains-permutation (white_places p) order c mixed (passes_kept (white p) (light_cells p) c (white-in p c long on) on) in
     (w.0, w.1, get_or_default order w.0 0 c w.1 ∙ w.2)
 
 pub lit_solved : (p : Light) (order g : List ℕ) → length p.cells ≡ light_cells p → IsPermutation (white_places p) order → g ≡ bulbs_after p order (length order)
     → solves_lights (with_numbers p g) g ≡ true
 lit_solved p order g long mixed is =
-    rw is (lights_solved p order (bulbs_after p order (length order)) (length order) long (bulbs_after-grid p order (length order))
-    (planted p order (order_white p order mixed) long (length order) (let z : length order ≤ length order = omega arith in z))
-    (order_each p order long mixed))
+    rw is (lights_solved p long (bulbs_after-grid p order (length order))
+    (planted p order (order_white p mixed) long (length order) (let z : length order ≤ length order = omega arith in z))
+    (order_each p long mixed))

@@ -2,16 +2,16 @@
 use Rattle.maker_core.proofs.Common.{ℕ, List, sym, subst, IsTrue, ◌↔◌, RuleSystem, IsGridOf, Solves, HasOne, TellsOne, IsOnlySolution, IsOnly}
 
 -- a grid that solves is the one of the verdict
-pub one_grid : (rules : RuleSystem) (g : List ℕ) (budget : ℕ) → HasOne rules budget → Solves rules g → IsOnly rules g × TellsOne rules budget g
-one_grid rules g budget one good = subst (λ h. IsOnly rules h × TellsOne rules budget h) (one.only.1 g good) (one.only, one.found)
+pub one_grid : {rules : RuleSystem} (g : List ℕ) {budget : ℕ} → HasOne rules budget → Solves rules g → IsOnly rules g × TellsOne rules budget g
+one_grid {rules} g {budget} one good = subst (λ h. IsOnly rules h × TellsOne rules budget h) (one.only.1 g good) (one.only, one.found)
 
 module _ (rules : RuleSystem) (solves : List ℕ → Type 0) (fits : (h : List ℕ) → solves h → IsGridOf rules h)
     (accepted : (h : List ℕ) → IsGridOf rules h → (IsTrue (rules.is_solution h)) ↔ solves h) where
   pub solution : (h : List ℕ) → solves h → Solves rules h
   solution h s = record { grid = fits h s; good = (accepted h (fits h s)).1 s }
 
-  pub only_is : (g : List ℕ) → IsOnly rules g → IsOnlySolution solves g
-  only_is g only = ((accepted g only.0.grid).0 only.0.good, λ h s. sym (only.1 h (solution h s)))
+  pub only_is : {g : List ℕ} → IsOnly rules g → IsOnlySolution solves g
+  only_is {g} only = ((accepted g only.0.grid).0 only.0.good, λ h s. sym (only.1 h (solution h s)))
 
-  pub one_is : (g : List ℕ) (budget : ℕ) → HasOne rules budget → solves g → IsOnlySolution solves g × TellsOne rules budget g
-  one_is g budget one good = let w = one_grid rules g budget one (solution g good) in (only_is g w.0, w.1)
+  pub one_is : {g : List ℕ} {budget : ℕ} → HasOne rules budget → solves g → IsOnlySolution solves g × TellsOne rules budget g
+  one_is {g} one good = let w = one_grid g one (solution g good) in (only_is w.0, w.1)

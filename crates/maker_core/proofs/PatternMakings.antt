@@ -40,7 +40,7 @@ pub pattern_only : (p : Pattern) (g : List ℕ)
     → ((q : Pattern) (h : List ℕ) → IsGrid (q.size.w * q.size.h) 2 h → (IsTrue ((line_rules q).is_solution h)) ↔ IsPatternSolution q h)
     → (budget : ℕ) → HasOne (line_rules p) budget
     → IsPatternSolution p g → IsOnlySolution (IsPatternSolution p) g × TellsOne (line_rules p) budget g
-pattern_only p g accepted budget one good = one_is (line_rules p) (IsPatternSolution p) (λ h s. s.grid) (accepted p) g budget one good
+pattern_only p g accepted budget one good = one_is (line_rules p) (IsPatternSolution p) (λ h s. s.grid) (accepted p) one good
 
 -- what the making of a puzzle of a grid cites
 pub ruleset pattern_laws = (pattern_is, pattern_solved)

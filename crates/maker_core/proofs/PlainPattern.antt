@@ -63,8 +63,8 @@ pub black_line : (line cells : List ℕ) → AreAll 1 line
 black_line line cells all long e = each_black cells (same_blacks cells line e ∙ blacks-all line all ∙ sym long)
 
 -- ---- the row of a cell
-row_all : (size : Extent) (g : List ℕ) (y b : ℕ) → length g ≡ size.w * size.h → y < size.h → AreAll b g → AreAll b (row_cells size g y)
-row_all size g y b long lty all k lt =
+row_all : (size : Extent) (g : List ℕ) {y b : ℕ} → length g ≡ size.w * size.h → y < size.h → AreAll b g → AreAll b (row_cells size g y)
+row_all size g {y} long lty all k lt =
     let few : k < size.w = omega (arith, lt, length-map-range_with_len (λ x. slice_index g (y * size.w + x)) 0 size.w) in
     let cell : y * size.w + k < size.w * size.h = cell_in_grid size k y few lty in
     get_or-map-range_with_len (λ x. slice_index g (y * size.w + x)) 0 size.w k k 0 few (omega arith) ∙ all (y * size.w + k) (omega arith)
@@ -107,20 +107,20 @@ plain_alone size g E c v extent long plain closed lt few on =
     let row_long : length row ≡ size.w = length-map-range_with_len (λ x. slice_index g (c / size.w * size.w + x)) 0 size.w in
     let k : c % size.w < length w.0 = let l = w.2 in omega arith in
     elim plain [
-      | inl white ↦ sym w.3 ∙ white_line row w.0 (row_all size g (c / size.w) 0 long low white) w.1 (c % size.w) k ∙ sym (white c inside)
+      | inl white ↦ sym w.3 ∙ white_line row w.0 (row_all size g long low white) w.1 (c % size.w) k ∙ sym (white c inside)
       | inr black ↦
           let high : 1 ≤ slice_index w.0 (c % size.w) =
-          black_line row w.0 (row_all size g (c / size.w) 1 long low black) (w.2 ∙ sym row_long) w.1 (c % size.w) k in
+          black_line row w.0 (row_all size g long low black) (w.2 ∙ sym row_long) w.1 (c % size.w) k in
           let is = w.3 in
           let one : v ≡ 1 = omega arith in
           one ∙ sym (black c inside)
     ]
 
 -- the verdict of such a grid's puzzle is one
-pub plain_passes : (size : Extent) (g : List ℕ) (budget : ℕ) → IsExtent size → IsPatternSolution (clued_by size g) g → AreAll 0 g ⊎ AreAll 1 g
+pub plain_passes : {size : Extent} {g : List ℕ} (budget : ℕ) → IsExtent size → IsPatternSolution (clued_by size g) g → AreAll 0 g ⊎ AreAll 1 g
     → has_one (line_rules (clued_by size g)) budget ≡ true
-plain_passes size g budget extent good plain =
+plain_passes {size} {g} budget extent good plain =
     let p : Pattern = clued_by size g in
     let rules = known (line_rules p) (line_rules-lawful p extent) in
     ap is_one (found_at_once (line_rules p) budget g rules (record { grid = good.grid; good = is_solution-from p g good })
-    (λ c v. plain_alone size g (closure (line_rules p) (line_rules p).start) c v extent good.grid.each_cell plain (closed_start (line_rules p) rules)))
+    (λ c v. plain_alone size g (closure (line_rules p) (line_rules p).start) c v extent good.grid.each_cell plain (closed_start rules)))

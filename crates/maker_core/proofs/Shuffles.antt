@@ -7,13 +7,13 @@ use Rattle.maker_core.proofs.Common.{length_permutation, Chooser, chooser_at, ch
 use Rattle.maker_core.proofs.Common.{last_below, rest_below, rising_more, rising_one, rising_positive, IsOrder}
 use Rattle.maker_core.proofs.SoloOrderLemmas.{order_from_permutation}
 
-word_below : (s : Stream) → HasWords s → (next_u32 s).0 < 2 ^ 32
+word_below : {s : Stream} → HasWords s → (next_u32 s).0 < 2 ^ 32
 unfolding next_u32
-word_below s words = words.below []
+word_below words = words.below []
 
-words_left : (s : Stream) → HasWords s → HasWords (next_u32 s).1
+words_left : {s : Stream} → HasWords s → HasWords (next_u32 s).1
 unfolding next_u32
-words_left s words = record { below = λ calls. words.below (u32_call ∷ calls) }
+words_left words = record { below = λ calls. words.below (u32_call ∷ calls) }
 
 -- a number below a range, and words after it
 pub record IsDrawnBelow (range : ℕ) (draw : ℕ × Stream) : Type 0 where
@@ -26,15 +26,15 @@ draw_is range s some within words =
     let w = (next_u32 s).0 in
     let high = w * range / 2 ^ 32 in
     let low = w * range % 2 ^ 32 in
-    let fits : w < 2 ^ 32 = word_below s words in
+    let fits : w < 2 ^ 32 = word_below words in
     let room : (w + 1) * range ≤ 2 ^ 32 * range = mul-le (w + 1) range (2 ^ 32) range (omega arith) (omega arith) in
     let under : high < range = div_below (w * range) (2 ^ 32) range (omega arith) (omega arith) in
-    let left = words_left s words in
+    let left = words_left words in
     cond_both (nat_lt (2 ^ 32 - range) low) _ _ (IsDrawnBelow range)
     (λ carried. record {
       below = if_below (nat_le (2 ^ 32) (low + (next_u32 (next_u32 s).1).0 * range / 2 ^ 32)) _ (high + 1) high range refl
           (carry_room (2 ^ 32) range w high low fits (div-add-mod' (w * range) (2 ^ 32)) (ltb-true (2 ^ 32 - range) low carried) within) under;
-      words = words_left (next_u32 s).1 left;
+      words = words_left left;
     })
     (λ plain. record { below = under; words = left })
 
@@ -71,7 +71,8 @@ refill_is c s is words within =
     let m : ℕ = c.n + 1 in
     let chunk : IsChunk m (chunk_of m) = chunk_is m within in
     let positive : 0 < (chunk_of m).0 = rw chunk.product (rising_positive m (chunk_of m).1 (omega arith)) in
-    let drawn : IsDrawnBelow (chunk_of m).0 (canon (2 ^ 32) next_u32 (chunk_of m).0 s) = draw_is (chunk_of m).0 s positive (let w = chunk.within in omega arith) words in
+    let drawn : IsDrawnBelow (chunk_of m).0 (canon (2 ^ 32) next_u32 (chunk_of m).0 s) =
+    draw_is (chunk_of m).0 s positive (let w = chunk.within in omega arith) words in
     cond_both (c.left == 0) _ _ (IsRefilled c.n)
     (λ none. record { some = chunk.some; room = rw (← chunk.product) drawn.below; words = drawn.words })
     (λ left. let low : 0 < c.left = grind arith in record { some = low; room = is.room low; words = words })
@@ -144,5 +145,5 @@ order_is n s few words =
     let len : length items ≡ n = length-range_with_len 0 n in
     let swapped = swaps_are items s words (omega arith) (length items - 0) (omega arith) in
     cond_both (nat_lt (length items) (2 ^ 32 - 1)) _ _ (IsShuffledOrder n)
-    (λ narrow. record { order = order_from_permutation n _ swapped.permutation; words = swapped.words })
+    (λ narrow. record { order = order_from_permutation swapped.permutation; words = swapped.words })
     (λ wide. absurd (true≢false (sym (lt-ltb (length items) (2 ^ 32 - 1) (omega arith)) ∙ wide)))

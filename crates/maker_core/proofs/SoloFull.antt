@@ -32,7 +32,7 @@ given-all p c r x g k is all long =
     let none : (c * r) * (c * r) - k ≡ 0 = omega arith in
     is ∙ ap (solo_puzzle c r x) (rw (none, take_all k g (omega arith)) (append-nil (map suc g)))
 
-module _ (c r : ℕ) (x : Bool) (g : List ℕ) (size : IsSoloSize c r) (fits : IsGrid ((c * r) * (c * r)) (c * r) g) where
+module _ {c r : ℕ} (x : Bool) {g : List ℕ} (size : IsSoloSize c r) (fits : IsGrid ((c * r) * (c * r)) (c * r) g) where
   all_given-solo : IsSolo (all_given c r x g)
   all_given-solo = record {
     c_low = size.c_low;
@@ -48,20 +48,20 @@ module _ (c r : ℕ) (x : Bool) (g : List ℕ) (size : IsSoloSize c r) (fits : I
 
 module _ (c r : ℕ) (x : Bool) (g : List ℕ) (size : IsSoloSize c r) (solution : IsSoloSolution (all_given c r x g) g) where
   solo : IsSolo (all_given c r x g)
-  solo = all_given-solo c r x g size solution.grid
+  solo = all_given-solo x size solution.grid
 
   solves : Solves (houses_rules (all_given c r x g)) g
   solves = record { grid = solution.grid; good = test_from_rule (all_given c r x g) solo g solution }
 
   inside : IsInside (start (all_given c r x g)) (single g)
-  inside = start_inside c r x g size solution.grid
+  inside = start_inside x size solution.grid
 
   -- no other grid solves it, and its verdict with any budget says so
   pub all_given-only : IsTrueOf (houses_rules (all_given c r x g)) (OneSolution g)
-  all_given-only = start_only (houses_rules (all_given c r x g)) (houses_lawful (all_given c r x g) solo) g solves inside
+  all_given-only = start_only (houses_lawful (all_given c r x g) solo) solves inside
 
   pub all_given-found : (budget : ℕ) → TellsOne (houses_rules (all_given c r x g)) budget g
-  all_given-found budget = start_found (houses_rules (all_given c r x g)) (houses_lawful (all_given c r x g) solo) g solves inside budget
+  all_given-found budget = start_found (houses_lawful (all_given c r x g) solo) solves inside budget
 
 -- what is left of the puzzle when givens were taken away is a puzzle
 pub thinned-solo : (c r : ℕ) (x : Bool) (p : Solo) (g : List ℕ) → IsSoloSize c r → IsSoloSolution (all_given c r x g) g

@@ -16,12 +16,12 @@ same_line size y z e f = grind (arith, div-add-mod' y size, div-add-mod' z size)
 pub begin_below : (c r y : ℕ) → 0 < c → y < c * r → (y % c) * r + y / c < c * r
 begin_below c r y c_low lt = grind (arith, rows)
 
-module _ (c r : ℕ) (c_low : 0 < c) (r_low : 0 < r) where
-  pub row_apart : (x u y : ℕ) → x < c * r → u < c * r → first_number c r x y ≡ first_number c r u y → x ≡ u
-  row_apart x u y lx lu e = grind (arith, moved_apart (c * r) ((y % c) * r + y / c) x u)
+module _ {c r : ℕ} (c_low : 0 < c) (r_low : 0 < r) where
+  pub row_apart : {x u : ℕ} (y : ℕ) → x < c * r → u < c * r → first_number c r x y ≡ first_number c r u y → x ≡ u
+  row_apart {x} {u} y lx lu e = grind (arith, moved_apart (c * r) ((y % c) * r + y / c) x u)
 
-  pub column_apart : (x y z : ℕ) → y < c * r → z < c * r → first_number c r x y ≡ first_number c r x z → y ≡ z
-  column_apart x y z ly lz e =
+  pub column_apart : (x : ℕ) {y z : ℕ} → y < c * r → z < c * r → first_number c r x y ≡ first_number c r x z → y ≡ z
+  column_apart x {y} {z} ly lz e =
       let far : y / c < r = div_below y c r c_low (omega arith) in
       let far' : z / c < r = div_below z c r c_low (omega arith) in
       grind (

@@ -15,8 +15,8 @@ pub record AreGrouped (size : ℕ) (groups : List ℕ) (k : ℕ) (lines : List �
   pub apart : (y z : ℕ) → y < k * size → z < k * size → y / size ≡ z / size → slice_index lines y ≡ slice_index lines z → y ≡ z
 
 -- ---- a shuffled list of the numbers below n
-pub order_from_permutation : (n : ℕ) (xs : List ℕ) → IsPermutation (range_with_len 0 n) xs → IsOrder n xs
-order_from_permutation n xs p =
+pub order_from_permutation : {n : ℕ} {xs : List ℕ} → IsPermutation (range_with_len 0 n) xs → IsOrder n xs
+order_from_permutation {n} {xs} p =
     let long : length xs ≡ n = length_permutation (range_with_len 0 n) xs p ∙ length-range_with_len 0 n in
     let all = All-permutation (λ v. v < n) (range_with_len 0 n) xs p
     (All-from_get_or (λ v. v < n) (range_with_len 0 n) 0 (λ i lt. grind (arith, length-range_with_len, get_or-range_with_len))) in
@@ -29,7 +29,8 @@ order_from_permutation n xs p =
     }
 
 -- ---- groups of lines
-module _ (size : ℕ) (groups : List ℕ) (k : ℕ) (lines inside : List ℕ) (size_low : 0 < size) (before : AreGrouped size groups k lines) (inner : IsOrder size inside) where
+module _ (size : ℕ) (groups : List ℕ) (k : ℕ) (lines inside : List ℕ) (size_low : 0 < size)
+    (before : AreGrouped size groups k lines) (inner : IsOrder size inside) where
   abbrev pub more : List ℕ
   more = lines ++ map (λ line. slice_index groups k * size + line) inside
 
@@ -66,7 +67,8 @@ module _ (size : ℕ) (groups : List ℕ) (k : ℕ) (lines inside : List ℕ) (s
   }
 
 -- all groups together
-pub line_order_from_groups : (count size : ℕ) (groups lines : List ℕ) → 0 < size → IsOrder count groups → AreGrouped size groups count lines → IsLineOrder count size lines
+pub line_order_from_groups : (count size : ℕ) (groups lines : List ℕ) → 0 < size → IsOrder count groups
+    → AreGrouped size groups count lines → IsLineOrder count size lines
 line_order_from_groups count size groups lines size_low outer all = record {
   order = record {
     len = all.len;
@@ -93,16 +95,17 @@ pub line-more : (f : ℕ → ℕ) (old lines new inside : List ℕ) (k x : ℕ) 
 line-more f old lines new inside k x lt before pushed is = grind (arith, common_steps, map_more f inside k 0, append_assoc)
 
 -- all lines of a group
-pub lines-all : (size group k : ℕ) (old lines inside : List ℕ) (t : Stream) (drawn : List ℕ × Stream)
+pub lines-all : (size group k : ℕ) (old lines inside : List ℕ) (t : Stream) {drawn : List ℕ × Stream}
     → lines ≡ old ++ map (λ line. group * size + line) (take k inside) → length inside ≤ k → ◌≡◌ {A = List ℕ × Stream} (inside, t) drawn
     → ◌≡◌ {A = List ℕ × Stream} (lines, t) (group_added size group old drawn)
-lines-all size group k old lines inside t drawn done all e = rw (done, take_all k inside all, sym e) refl
+lines-all size group k old lines inside t done all e = rw (done, take_all k inside all, sym e) refl
 
-pub order_drawn : (n : ℕ) (xs : List ℕ) (t : Stream) (drawn : List ℕ × Stream) → ◌≡◌ {A = List ℕ × Stream} (xs, t) drawn → IsOrder n xs → IsOrder n drawn.0
-order_drawn n xs t drawn e is = rw (sym e) is
+pub order_drawn : (n : ℕ) (xs : List ℕ) (t : Stream) {drawn : List ℕ × Stream} → ◌≡◌ {A = List ℕ × Stream} (xs, t) drawn → IsOrder n xs → IsOrder n drawn.0
+order_drawn n xs t e is = rw (sym e) is
 
 -- no group yet
-pub groups-none : (size : ℕ) (groups lines : List ℕ) (s t : Stream) → lines ≡ [] → s ≡ t → ◌≡◌ {A = List ℕ × Stream} (lines, s) (lines_of_groups size groups 0 t)
+pub groups-none : (size : ℕ) (groups lines : List ℕ) (s t : Stream) → lines ≡ [] → s ≡ t
+    → ◌≡◌ {A = List ℕ × Stream} (lines, s) (lines_of_groups size groups 0 t)
 unfolding lines_of_groups
 groups-none size groups lines s t none same = rw (none, same) refl
 
@@ -110,17 +113,17 @@ pub grouped-none : (size : ℕ) (groups lines : List ℕ) → lines ≡ [] → A
 grouped-none size groups lines none = grind arith
 
 -- one more group
-pub groups-more : (size k group : ℕ) (groups lines new : List ℕ) (s t u : Stream)
+pub groups-more : (size k : ℕ) {group : ℕ} (groups lines new : List ℕ) (s t u : Stream)
     → ◌≡◌ {A = List ℕ × Stream} (lines, t) (lines_of_groups size groups k s) → group ≡ slice_index groups k
     → ◌≡◌ {A = List ℕ × Stream} (new, u) (group_added size group lines (shuffled_order size t))
     → ◌≡◌ {A = List ℕ × Stream} (new, u) (lines_of_groups size groups (k + 1) s)
 unfolding lines_of_groups
-groups-more size k group groups lines new s t u before is added = rw (add-one, sym before, sym is) added
+groups-more size k groups lines new s t u before is added = rw (add-one, sym before, sym is) added
 
-pub grouped-more : (size k group : ℕ) (groups lines new : List ℕ) (t u : Stream) → 0 < size → AreGrouped size groups k lines → group ≡ slice_index groups k
+pub grouped-more : {size k group : ℕ} (groups lines new : List ℕ) (t u : Stream) → 0 < size → AreGrouped size groups k lines → group ≡ slice_index groups k
     → IsOrder size (shuffled_order size t).0 → ◌≡◌ {A = List ℕ × Stream} (new, u) (group_added size group lines (shuffled_order size t))
     → AreGrouped size groups (k + 1) new
-grouped-more size k group groups lines new t u some before is inner added =
+grouped-more {size} {k} groups lines new t u some before is inner added =
     rw (ap (λ (q : List ℕ × Stream). q.0) added, is) (AreGrouped-more size groups k lines (shuffled_order size t).0 some before inner)
 
 -- what the drawing of lines cites

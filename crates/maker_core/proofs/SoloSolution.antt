@@ -35,49 +35,51 @@ module _ (c r : ℕ) (numbers rows columns : List ℕ) (orders : AreOrders c r n
   x_below : (place : ℕ) → place % (c * r) < c * r
   x_below place = mod_below place (c * r) side_some
 
-  y_below : (place : ℕ) → place < (c * r) * (c * r) → place / (c * r) < r * c
-  y_below place lt = let far = div_below place (c * r) (c * r) side_some lt in omega arith
+  y_below : {place : ℕ} → place < (c * r) * (c * r) → place / (c * r) < r * c
+  y_below {place} lt = let far = div_below place (c * r) (c * r) side_some lt in omega arith
 
   pub old_x_below : (place : ℕ) → old_x place < c * r
   old_x_below place = orders.column_order.order.within (place % (c * r)) (x_below place)
 
   pub old_y_below : (place : ℕ) → place < (c * r) * (c * r) → old_y place < c * r
-  old_y_below place lt = let w = orders.row_order.order.within (place / (c * r)) (y_below place lt) in omega arith
+  old_y_below place lt = let w = orders.row_order.order.within (place / (c * r)) (y_below lt) in omega arith
 
   same_x : (j k : ℕ) → old_x j ≡ old_x k → j % (c * r) ≡ k % (c * r)
   same_x j k e = orders.column_order.order.apart (j % (c * r)) (k % (c * r)) (x_below j) (x_below k) e
 
   same_y : (j k : ℕ) → j < (c * r) * (c * r) → k < (c * r) * (c * r) → old_y j ≡ old_y k → j / (c * r) ≡ k / (c * r)
-  same_y j k lj lk e = orders.row_order.order.apart (j / (c * r)) (k / (c * r)) (y_below j lj) (y_below k lk) e
+  same_y j k lj lk e = orders.row_order.order.apart (j / (c * r)) (k / (c * r)) (y_below lj) (y_below lk) e
 
-  same_first : (j k : ℕ) → j < (c * r) * (c * r) → k < (c * r) * (c * r) → slice_index grid j ≡ slice_index grid k
+  same_first : {j k : ℕ} → j < (c * r) * (c * r) → k < (c * r) * (c * r) → slice_index grid j ≡ slice_index grid k
       → old_number c r rows columns j ≡ old_number c r rows columns k
-  same_first j k lj lk e =
+  same_first {j} {k} lj lk e =
       orders.number_order.apart _ _ (mod_below _ (c * r) side_some) (mod_below _ (c * r) side_some)
       (sym (rearranged-at c r numbers rows columns j lj) ∙ e ∙ rearranged-at c r numbers rows columns k lk)
 
   apart_in_row : (j k : ℕ) → j < (c * r) * (c * r) → k < (c * r) * (c * r) → slice_index grid j ≡ slice_index grid k → j / (c * r) ≡ k / (c * r) → j ≡ k
   apart_in_row j k lj lk e row =
-      let apart = row_apart c r orders.c_some orders.r_some (old_x j) (old_x k) (old_y j) (old_x_below j) (old_x_below k) in
-      grind (arith, same_first j k lj lk e, apart, same_x j k, same_line (c * r) j k)
+      let apart = row_apart orders.c_some orders.r_some (old_y j) (old_x_below j) (old_x_below k) in
+      grind (arith, same_first lj lk e, apart, same_x j k, same_line (c * r) j k)
 
   apart_in_column : (j k : ℕ) → j < (c * r) * (c * r) → k < (c * r) * (c * r) → slice_index grid j ≡ slice_index grid k → j % (c * r) ≡ k % (c * r) → j ≡ k
   apart_in_column j k lj lk e column =
-      let apart = column_apart c r orders.c_some orders.r_some (old_x j) (old_y j) (old_y k) (old_y_below j lj) (old_y_below k lk) in
-      grind (arith, same_first j k lj lk e, apart, same_y j k lj lk, same_line (c * r) j k)
+      let apart = column_apart orders.c_some orders.r_some (old_x j) (old_y_below j lj) (old_y_below k lk) in
+      grind (arith, same_first lj lk e, apart, same_y j k lj lk, same_line (c * r) j k)
 
   apart_in_block : (j k : ℕ) → j < (c * r) * (c * r) → k < (c * r) * (c * r) → slice_index grid j ≡ slice_index grid k
       → j / (c * r) / c ≡ k / (c * r) / c → j % (c * r) / r ≡ k % (c * r) / r → j ≡ k
   apart_in_block j k lj lk e band stack =
-      let old = same_first j k lj lk e in
-      let bands = orders.row_order.together (j / (c * r)) (k / (c * r)) (y_below j lj) (y_below k lk) band in
+      let old = same_first lj lk e in
+      let bands = orders.row_order.together (j / (c * r)) (k / (c * r)) (y_below lj) (y_below lk) band in
       let stacks = orders.column_order.together (j % (c * r)) (k % (c * r)) (x_below j) (x_below k) stack in
-      let w = block_apart c r orders.c_some orders.r_some (old_x j) (old_x k) (old_y j) (old_y k) stacks bands old in
+      let w = block_apart orders.c_some orders.r_some (old_x j) (old_x k) (old_y j) (old_y k) stacks bands old in
       same_line (c * r) j k (same_y j k lj lk w.1) (same_x j k w.0)
 
-  same_block : (j k : ℕ) → block_of (all_given c r false grid) j ≡ block_of (all_given c r false grid) k → (j / (c * r) / c ≡ k / (c * r) / c) × (j % (c * r) / r ≡ k % (c * r) / r)
+  same_block : (j k : ℕ) → block_of (all_given c r false grid) j ≡ block_of (all_given c r false grid) k
+      → (j / (c * r) / c ≡ k / (c * r) / c) × (j % (c * r) / r ≡ k % (c * r) / r)
   same_block j k e =
-      same_from_place (j / (c * r) / c) (j % (c * r) / r) (k / (c * r) / c) (k % (c * r) / r) c (div_below (j % (c * r)) r c orders.r_some (x_below j)) (div_below (k % (c * r)) r c orders.r_some (x_below k)) e
+      same_from_place (j / (c * r) / c) (j % (c * r) / r) (k / (c * r) / c) (k % (c * r) / r) c
+      (div_below (j % (c * r)) r c orders.r_some (x_below j)) (div_below (k % (c * r)) r c orders.r_some (x_below k)) e
 
   apart_in_house : (house : NamedHouse) → IsHouseOf (all_given c r false grid) house → (j k : ℕ) → j < (c * r) * (c * r) → k < (c * r) * (c * r)
       → lies_in (all_given c r false grid) house j ≡ true → lies_in (all_given c r false grid) house k ≡ true → slice_index grid j ≡ slice_index grid k → j ≡ k

@@ -1,7 +1,7 @@
 -- Cells turned and turned back leave a grid as it was, and a puzzle with two solutions has no verdict of one.
 use Rattle.maker_core.proofs.Common.{◌≡◌, ◌≢◌, ℕ, ◌<◌, Bool, true, false, List, length, refl, sym, ap, ◌∙◌, arith, not, Option, Some, None}
 use Rattle.maker_core.proofs.Common.{slice_index, slice_set, is_some, true≢false, get_or-set_same, IsExtent, Pattern, RuleSystem, outcome-true, Outcome}
-use Rattle.maker_core.proofs.Common.{verdict_of, Solves, IsTrueOf, IsCheck, PatternFault, is_solution-from, line_rules-lawful, line_rules}
+use Rattle.maker_core.proofs.Common.{verdict_of, Solves, IsTrueOf, FailsPattern, IsPatternFault, PatternFault, pattern_none, pattern_tests, tells, is_solution-from, line_rules-lawful, line_rules}
 use Rattle.maker_core.proofs.Common.{IsPatternSolution, IsRunEnd, is_one, has_one, HasOther, RunHasSwitch, run_begins, cases_lt, common_steps, div-mul-add, mod-mul-add, inl, inr, ◌+◌, ◌*◌, ◌/◌, ◌%◌}
 use Rattle.std.specs.Prelude.{◌↔◌}
 use Rattle.std.proofs.lemmas.Bool.{cases_Bool}
@@ -12,33 +12,25 @@ use Rattle.engine_core.specs.Verdict.{Outcome.NoSolution, Outcome.OneSolution, O
 use Rattle.maker_core.proofs.WrittenGrids.{grid_with, set_back}
 
 -- one number put back, after those that were written later
-pub undone : (g h back k : List ℕ) (i u was : ℕ) → h ≡ slice_set g i u → was ≡ slice_index g i → back ≡ h → k ≡ slice_set back i was → k ≡ g
-undone g h back k i u was e is same f = f ∙ (ap (λ xs. slice_set xs i was) (same ∙ e) ∙ set_back g i u was 0 (sym is))
+pub undone : (g : List ℕ) {h back k : List ℕ} (i u : ℕ) {was : ℕ} → h ≡ slice_set g i u → was ≡ slice_index g i → back ≡ h → k ≡ slice_set back i was → k ≡ g
+undone g i u {was} e is same f = f ∙ (ap (λ xs. slice_set xs i was) (same ∙ e) ∙ set_back g i u was 0 (sym is))
 
--- no fault was told
-pub solved_by : (p : Pattern) (g : List ℕ) (fault : Option PatternFault) (told : Bool) → IsCheck p g fault → is_some fault ≡ not told → told ≡ true → IsPatternSolution p g
-solved_by p g None told good e on = good
-solved_by p g (Some fault) told wrong e on = absurd (true≢false (e ∙ ap not on))
-
--- and none is told of a solution
-pub told_of : (p : Pattern) (g : List ℕ) (fault : Option PatternFault) (told : Bool) → IsCheck p g fault → is_some fault ≡ not told → IsPatternSolution p g → told ≡ true
-told_of p g None told good e solved = grind (arith, common_steps, cases_Bool told)
-told_of p g (Some (Column x)) told wrong e solved = absurd (wrong.1.wrong (line_of_solution p g x (omega (arith, wrong.0)) solved))
-told_of p g (Some (Row y)) told wrong e solved = absurd (wrong.1.wrong (line_of_solution p g (p.size.w + y) (omega (arith, wrong.0)) solved))
-
-pub told_by : (p : Pattern) (g h : List ℕ) (fault : Option PatternFault) (told : Bool) → IsCheck p g fault → is_some fault ≡ not told → g ≡ h → told ≡ true ↔ IsPatternSolution p h
-told_by p g h fault told check e same = (λ on. rw same at (solved_by p g fault told check e on), λ solved. told_of p g fault told check e (rw (sym same) at solved))
+-- whether no fault was told
+pub told_by : {p : Pattern} (g h : List ℕ) (fault : Option PatternFault) {told : Bool} → IsPatternFault p g fault
+    → is_some fault ≡ not told → g ≡ h → told ≡ true ↔ IsPatternSolution p h
+told_by {p} g h fault {told} check e same =
+    rw same at (tells (FailsPattern p g) (pattern_tests p) (pattern_none p g) told fault check e)
 
 -- a run has one end
-pub one_end : (size : Extent) (g : List ℕ) (x y end other : ℕ) → IsRunEnd size g x y end → IsRunEnd size g x y other → end ≡ other
-one_end size g x y end other a b = grind (arith, common_steps, cases_lt end other, cases_lt other end)
+pub one_end : {size : Extent} (g : List ℕ) (x y end other : ℕ) → IsRunEnd size g x y end → IsRunEnd size g x y other → end ≡ other
+one_end g x y end other a b = grind (arith, common_steps, cases_lt end other, cases_lt other end)
 
 -- no run that begins at one place more may be turned
-pub none_more : (p : Pattern) (g : List ℕ) (place : ℕ)
+pub none_more : {p : Pattern} {g : List ℕ} {place : ℕ}
     → ((x y : ℕ) → x < p.size.w → y * p.size.w + x < place → run_begins p.size g x y ≡ true → RunHasSwitch p g x y → ⊥)
     → (run_begins p.size g (place % p.size.w) (place / p.size.w) ≡ true → RunHasSwitch p g (place % p.size.w) (place / p.size.w) → ⊥)
     → (x y : ℕ) → x < p.size.w → y * p.size.w + x < place + 1 → run_begins p.size g x y ≡ true → RunHasSwitch p g x y → ⊥
-none_more p g place none here x y lt below begins has = elim (cases_lt (y * p.size.w + x) place) [
+none_more {p} {place} none here x y lt below begins has = elim (cases_lt (y * p.size.w + x) place) [
   | inl earlier ↦ none x y lt earlier begins has
   | inr last ↦
       let e : y * p.size.w + x ≡ place = omega arith in
@@ -55,16 +47,16 @@ turned_other g before h i lt black e same =
     absurd (omega (arith, white, here))
 
 -- two solutions refute a verdict of one
-two_fail : (rules : RuleSystem) (g h : List ℕ) (o : Outcome) → IsTrueOf rules o → Solves rules g → Solves rules h → h ≢ g → is_one o ≡ false
-two_fail rules g h NoSolution true_of sg sh ne = refl
-two_fail rules g h (OneSolution first) true_of sg sh ne = absurd (ne (sym (true_of.1 h sh) ∙ true_of.1 g sg))
-two_fail rules g h (SeveralSolutions first second) true_of sg sh ne = refl
-two_fail rules g h (GaveUp first) true_of sg sh ne = refl
+two_fail : (rules : RuleSystem) {g h : List ℕ} (o : Outcome) → IsTrueOf rules o → Solves rules g → Solves rules h → h ≢ g → is_one o ≡ false
+two_fail rules NoSolution true_of sg sh ne = refl
+two_fail rules {g} {h} (OneSolution first) true_of sg sh ne = absurd (ne (sym (true_of.1 h sh) ∙ true_of.1 g sg))
+two_fail rules (SeveralSolutions first second) true_of sg sh ne = refl
+two_fail rules (GaveUp first) true_of sg sh ne = refl
 
-pub other_fails : (p : Pattern) (g : List ℕ) (budget : ℕ) → IsExtent p.size → IsPatternSolution p g → HasOther p g → has_one (line_rules p) budget ≡ false
-other_fails p g budget extent good other =
-    two_fail (line_rules p) g other.0 (verdict_of (line_rules p) budget) (outcome-true (line_rules p) (line_rules-lawful p extent) budget)
+pub other_fails : {p : Pattern} {g : List ℕ} (budget : ℕ) → IsExtent p.size → IsPatternSolution p g → HasOther p g → has_one (line_rules p) budget ≡ false
+other_fails {p} {g} budget extent good other =
+    two_fail (line_rules p) (verdict_of (line_rules p) budget) (outcome-true (line_rules p) (line_rules-lawful p extent) budget)
     (record { grid = good.grid; good = is_solution-from p g good }) (record { grid = other.1.grid; good = is_solution-from p other.0 other.1 }) other.2
 
 -- what the turning of four cells cites
-pub ruleset switch_laws = (grid_with, solved_by, told_by, turned_other)
+pub ruleset switch_laws = (grid_with, told_by, turned_other)

@@ -4,25 +4,28 @@ use Rattle.maker_core.proofs.Common.{ap, subst, ◌∙◌, arith, slice_index, s
 use Rattle.maker_core.proofs.Common.{place-filter, beside-in, filter-few, steps-few, TentFilling, shuffled_order, no_tents, is_free, free_cells_beside}
 use Rattle.maker_core.proofs.Common.{may_have_tent, take_cell, tents_after, tent_filling, IsPlaced}
 
-pub wide : (size : Extent) (c : ℕ) → c < size.w * size.h → 1 ≤ size.w
-wide size c lt = grind (arith, cases_eq size.w 0)
+pub wide : (size : Extent) {c : ℕ} → c < size.w * size.h → 1 ≤ size.w
+wide size lt = grind (arith, cases_eq size.w 0)
 
-pub free_all : (size : Extent) (filling : TentFilling) (c n : ℕ) (places : List ℕ) → places ≡ filter (is_free filling) (steps size c n) → n ≡ 4 → places ≡ free_cells_beside size filling c
+pub free_all : (size : Extent) (filling : TentFilling) (c n : ℕ) {places : List ℕ}
+    → places ≡ filter (is_free filling) (steps size c n) → n ≡ 4 → places ≡ free_cells_beside size filling c
 unfolding free_cells_beside
-free_all size filling c n places is all = is ∙ ap (λ k. filter (is_free filling) (steps size c k)) all
+free_all size filling c n is all = is ∙ ap (λ k. filter (is_free filling) (steps size c k)) all
 
 pub free_few : (size : Extent) (filling : TentFilling) (c : ℕ) → length (free_cells_beside size filling c) ≤ 4
 unfolding free_cells_beside
 free_few size filling c = let a = filter-few (is_free filling) (steps size c 4) in let b = steps-few size c 4 in omega arith
 
-pub free_place : (size : Extent) (filling : TentFilling) (c t : ℕ) → has_place (free_cells_beside size filling c) t ≡ true → (has_place (steps size c 4) t ≡ true) × (is_free filling t ≡ true)
+pub free_place : (size : Extent) (filling : TentFilling) (c t : ℕ) → has_place (free_cells_beside size filling c) t ≡ true
+    → (has_place (steps size c 4) t ≡ true) × (is_free filling t ≡ true)
 unfolding free_cells_beside
 free_place size filling c t on = place-filter (is_free filling) (steps size c 4) t on
 
 -- ---- a tent more
-pub placed_is : (size : Extent) (filling new : TentFilling) (c k : ℕ) (free : List ℕ) → free ≡ free_cells_beside size filling c → k < length free → may_have_tent size filling c ≡ true
+pub placed_is : {size : Extent} {filling new : TentFilling} {c k : ℕ} (free : List ℕ) → free ≡ free_cells_beside size filling c
+    → k < length free → may_have_tent size filling c ≡ true
     → new.trees ≡ slice_set filling.trees (slice_index free k) 1 → new.tents ≡ slice_set filling.tents c 1 → IsPlaced size filling c new
-placed_is size filling new c k free is below may trees tents = record {
+placed_is {k} free is below may trees tents = record {
   may = may;
   tree = slice_index free k;
   free = subst (λ (xs : List ℕ). has_place xs (slice_index free k) ≡ true) is (has_place-here free k below);
@@ -31,30 +34,35 @@ placed_is size filling new c k free is below may trees tents = record {
 }
 
 -- a free cell beside a cell lies in the grid
-pub free_in : (size : Extent) (filling : TentFilling) (c k : ℕ) (free : List ℕ) → c < size.w * size.h → free ≡ free_cells_beside size filling c → k < length free → slice_index free k < size.w * size.h
+pub free_in : (size : Extent) (filling : TentFilling) (c k : ℕ) (free : List ℕ) → c < size.w * size.h
+    → free ≡ free_cells_beside size filling c → k < length free → slice_index free k < size.w * size.h
 free_in size filling c k free lt is below =
-    beside-in size c (slice_index free k) (wide size c lt) lt
+    beside-in size c (slice_index free k) (wide size lt) lt
     (free_place size filling c (slice_index free k) (subst (λ (xs : List ℕ). has_place xs (slice_index free k) ≡ true) is (has_place-here free k below))).0
 
 -- ---- the cells in turn
-pub none_after : (size : Extent) (order : List ℕ) (filling : TentFilling) (s : Stream) → filling ≡ no_tents size → ◌≡◌ {A = TentFilling × Stream} (filling, s) (tents_after size order 0 s)
+pub none_after : (size : Extent) (order : List ℕ) {filling : TentFilling} (s : Stream) → filling ≡ no_tents size
+    → ◌≡◌ {A = TentFilling × Stream} (filling, s) (tents_after size order 0 s)
 unfolding tents_after
-none_after size order filling s is = ap (λ c. (c, s)) is
+none_after size order s is = ap (λ c. (c, s)) is
 
-pub more_after : (size : Extent) (order : List ℕ) (k c : ℕ) (old new : TentFilling) (s t u : Stream) → ◌≡◌ {A = TentFilling × Stream} (old, t) (tents_after size order k s)
-    → ◌≡◌ {A = TentFilling × Stream} (new, u) (take_cell size old c t) → c ≡ slice_index order k → ◌≡◌ {A = TentFilling × Stream} (new, u) (tents_after size order (k + 1) s)
+pub more_after : (size : Extent) (order : List ℕ) (k c : ℕ) {old new : TentFilling} (s t u : Stream)
+    → ◌≡◌ {A = TentFilling × Stream} (old, t) (tents_after size order k s)
+    → ◌≡◌ {A = TentFilling × Stream} (new, u) (take_cell size old c t) → c ≡ slice_index order k
+    → ◌≡◌ {A = TentFilling × Stream} (new, u) (tents_after size order (k + 1) s)
 unfolding tents_after
-more_after size order k c old new s t u before drawn at = rw (add-one, sym before, sym at) drawn
+more_after size order k c s t u before drawn at = rw (add-one, sym before, sym at) drawn
 
-pub filled : (size : Extent) (places order : List ℕ) (filling : TentFilling) (n : ℕ) (s t u : Stream) → n ≡ size.w * size.h → ◌≡◌ {A = List ℕ × Stream} (places, t) (shuffled_order n s) → order ≡ places
+pub filled : (size : Extent) {places order : List ℕ} {filling : TentFilling} {n : ℕ} (s t u : Stream) → n ≡ size.w * size.h
+    → ◌≡◌ {A = List ℕ × Stream} (places, t) (shuffled_order n s) → order ≡ places
     → ◌≡◌ {A = TentFilling × Stream} (filling, u) (tents_after size order (length order) t) → ◌≡◌ {A = TentFilling × Stream} (filling, u) (tent_filling size s)
 unfolding tent_filling
-filled size places order filling n s t u cells drawn lent after = rw (sym cells, sym drawn, sym lent) after
+filled size s t u cells drawn lent after = rw (sym cells, sym drawn, sym lent) after
 
-pub no_tents_is : (size : Extent) (trees tents : List ℕ) (n : ℕ) → n ≡ size.w * size.h → trees ≡ replicate n 0 → tents ≡ replicate n 0
+pub no_tents_is : (size : Extent) {trees tents : List ℕ} (n : ℕ) → n ≡ size.w * size.h → trees ≡ replicate n 0 → tents ≡ replicate n 0
     → ◌≡◌ {A = TentFilling} (record { trees = trees; tents = tents; placed = 0 }) (no_tents size)
 unfolding no_tents
-no_tents_is size trees tents n cells is_trees is_tents = rw (is_trees, is_tents, cells) refl
+no_tents_is size n cells is_trees is_tents = rw (is_trees, is_tents, cells) refl
 
 -- the four sides of a cell, as the listing of free cells cites them
 pub ruleset sides = (step-none, step-skip, step-keep)

@@ -12,7 +12,8 @@ pub record HasParts (size : Extent) (filling : TentFilling) (p : Tents) : Type 0
   pub columns : (x : ℕ) → x < size.w → slice_index p.counts x ≡ ones (column_cells size filling.tents x)
   pub rows : (y : ℕ) → y < size.h → slice_index p.counts (size.w + y) ≡ ones (row_cells size filling.tents y)
 
-pub tents_is : (size : Extent) (filling : TentFilling) (p : Tents) → length p.counts ≡ lines_of p.size → HasParts size filling p → p ≡ tents_puzzle_of size filling
+pub tents_is : (size : Extent) (filling : TentFilling) (p : Tents) → length p.counts ≡ lines_of p.size → HasParts size filling p
+    → p ≡ tents_puzzle_of size filling
 unfolding tents_puzzle_of
 tents_is size filling p lines has =
     let counts = each_line ones 0 size filling.tents p.counts (lines ∙ ap lines_of has.sized) has.columns has.rows in
@@ -22,8 +23,9 @@ pub tents_size : (size : Extent) (filling : TentFilling) (p : Tents) → p ≡ t
 unfolding tents_puzzle_of
 tents_size size filling p is = ap (λ (q : Tents). q.size) is
 
-pub tents_only : (size : Extent) (filling : TentFilling) (p : Tents) → p ≡ tents_puzzle_of size filling → IsTentSolution (tents_puzzle_of size filling) filling.tents
+pub tents_only : (size : Extent) (filling : TentFilling) (p : Tents) → p ≡ tents_puzzle_of size filling
+    → IsTentSolution (tents_puzzle_of size filling) filling.tents
     → ((q : Tents) (h : List ℕ) → IsGridOf (tent_rules q) h → (IsTrue ((tent_rules q).is_solution h)) ↔ IsTentSolution q h)
     → (budget : ℕ) → HasOne (tent_rules p) budget → IsOnlySolution (IsTentSolution p) filling.tents × TellsOne (tent_rules p) budget filling.tents
 tents_only size filling p is solution accepted budget one =
-    one_is (tent_rules p) (IsTentSolution p) (λ h s. s.grid) (accepted p) filling.tents budget one (subst (λ (q : Tents). IsTentSolution q filling.tents) (sym is) solution)
+    one_is (tent_rules p) (IsTentSolution p) (λ h s. s.grid) (accepted p) one (subst (λ (q : Tents). IsTentSolution q filling.tents) (sym is) solution)

@@ -44,16 +44,16 @@ row_count size g y lt =
     ∙ ap ones (map-map (slice_index g) (λ x. y * size.w + x) (range_with_len 0 size.w)) ∙ sym (at_row ones 0 size g y lt)
 
 -- ---- no cell, and a cell that is left
-pub filling_none : (size : Extent) (order : List ℕ) (filling : TentFilling) → filling ≡ no_tents size → IsFillingAfter size order 0 filling
+pub filling_none : {size : Extent} {order : List ℕ} {filling : TentFilling} → filling ≡ no_tents size → IsFillingAfter size order 0 filling
 unfolding no_tents tents_puzzle_of
-filling_none size order filling is =
+filling_none {size} is =
     let n : ℕ = size.w * size.h in
     rw is (record {
-      trees_grid = zeros-grid n;
-      tents_grid = zeros-grid n;
+      trees_grid = zeros-grid;
+      tents_grid = zeros-grid;
       taken = λ d on. absurd (no_one n d on);
       solved = record {
-        grid = zeros-grid n;
+        grid = zeros-grid;
         none_on_trees = λ c _ on. absurd (no_one n c on);
         none_touch = λ c d _ _ on _. absurd (no_one n c on);
         columns = column_count size (replicate n 0);
@@ -81,9 +81,10 @@ record IsNew (size : Extent) (old : TentFilling) (c t : ℕ) : Type 0 where
   beside : has_place (steps size c 4) t ≡ true
   alone : (d : ℕ) → tent old.tents d ≡ true → touches size c d ≡ false
 
-new_from : (size : Extent) (order : List ℕ) (k c : ℕ) (old new : TentFilling) → 1 ≤ size.w → IsOrder (size.w * size.h) order → k < size.w * size.h → c ≡ slice_index order k
+new_from : (size : Extent) {order : List ℕ} (k c : ℕ) (old new : TentFilling) → 1 ≤ size.w → IsOrder (size.w * size.h) order
+    → k < size.w * size.h → c ≡ slice_index order k
     → IsFillingAfter size order k old → (p : IsPlaced size old c new) → IsNew size old c p.tree
-new_from size order k c old new w ordered lt at before p =
+new_from size k c old new w ordered lt at before p =
     let free = free_place size old c p.tree p.free in
     let may = p.may in
     let c_in : c < size.w * size.h = rw at (ordered.within k lt) in
@@ -101,10 +102,11 @@ new_from size order k c old new w ordered lt at before p =
           grind (arith, any_below-none (λ d. touches size c d && tent old.tents d) (size.w * size.h));
     }
 
-filling_more : (size : Extent) (order : List ℕ) (k c : ℕ) (old new : TentFilling) → IsFillingAfter size order k old → (p : IsPlaced size old c new) → IsNew size old c p.tree
+filling_more : (size : Extent) {order : List ℕ} (k c : ℕ) (old new : TentFilling) → IsFillingAfter size order k old
+    → (p : IsPlaced size old c new) → IsNew size old c p.tree
     → c ≡ slice_index order k → IsFillingAfter size order (k + 1) new
 unfolding tents_puzzle_of
-filling_more size order k c old new w p n at =
+filling_more size k c old new w p n at =
     let cells : ℕ = size.w * size.h in
     let s = w.solved in
     let t : ℕ = p.tree in
@@ -112,9 +114,9 @@ filling_more size order k c old new w p n at =
     let tents = p.tents in
     let tents_in : length old.tents ≡ cells = w.tents_grid.each_cell in
     let trees_in : length old.trees ≡ cells = w.trees_grid.each_cell in
-    let tents_grid = grid_with cells c 1 old.tents new.tents (omega arith) tents w.tents_grid in
+    let tents_grid = grid_with c 1 (omega arith) tents w.tents_grid in
     record {
-      trees_grid = grid_with cells t 1 old.trees new.trees (omega arith) trees w.trees_grid;
+      trees_grid = grid_with t 1 (omega arith) trees w.trees_grid;
       tents_grid = tents_grid;
       taken = λ d on. elim (new_or_old old.tents c d (rw tents at on)) [
         | inl e ↦ (k, omega arith, sym at ∙ sym e)
@@ -139,13 +141,14 @@ filling_more size order k c old new w p n at =
       };
     }
 
-pub filling_step : (size : Extent) (order : List ℕ) (k c : ℕ) (old new : TentFilling) → 1 ≤ size.w → IsOrder (size.w * size.h) order → k < size.w * size.h → c ≡ slice_index order k
+pub filling_step : {size : Extent} {order : List ℕ} {k c : ℕ} {old new : TentFilling} → 1 ≤ size.w
+    → IsOrder (size.w * size.h) order → k < size.w * size.h → c ≡ slice_index order k
     → IsFillingAfter size order k old → IsTaken size old c new → IsFillingAfter size order (k + 1) new
-filling_step size order k c old new w ordered lt at before (inl same) = rw same (record {
+filling_step w ordered lt at before (inl same) = rw same (record {
   trees_grid = before.trees_grid;
   tents_grid = before.tents_grid;
   taken = λ d on. let t = before.taken d on in (t.0, omega (arith, t.1), t.2);
   solved = before.solved;
 })
-filling_step size order k c old new w ordered lt at before (inr p) =
-    filling_more size order k c old new before p (new_from size order k c old new w ordered lt at before p) at
+filling_step {size} {k} {c} {old} {new} w ordered lt at before (inr p) =
+    filling_more size k c old new before p (new_from size k c old new w ordered lt at before p) at

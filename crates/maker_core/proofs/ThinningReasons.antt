@@ -26,17 +26,18 @@ reasons_more (Some why ∷ xs) o a b e = ap (λ ks. record { place = a; why = wh
 taken_more : (whys : List (Option Why)) (k : ℕ) (o : Option Why) → k < length whys → get_or whys k None ≡ o
     → reasons_from 0 (take (k + 1) whys) ≡ reasons_from 0 (take k whys) ++ one_reason k o
 taken_more whys k o below is =
-    ap (reasons_from 0) (take_more whys k None below ∙ ap (λ x. take k whys ++ x ∷ []) is) ∙ reasons_more (take k whys) o 0 k (omega (arith, length-take k whys))
+    ap (reasons_from 0) (take_more whys k None below ∙ ap (λ x. take k whys ++ x ∷ []) is)
+    ∙ reasons_more (take k whys) o 0 k (omega (arith, length-take k whys))
 
-pub reason_kept : (whys : List (Option Why)) (k : ℕ) (why : Why) (before after : List Kept) → k < length whys → get_or whys k None ≡ Some why
+pub reason_kept : (whys : List (Option Why)) (k : ℕ) (why : Why) {before after : List Kept} → k < length whys → get_or whys k None ≡ Some why
     → before ≡ reasons_from 0 (take k whys) → after ≡ before ++ record { place = k; why = why } ∷ [] → after ≡ reasons_from 0 (take (k + 1) whys)
 unfolding one_reason
-reason_kept whys k why before after below is kept more = grind (arith, taken_more whys k (Some why))
+reason_kept whys k why below is kept more = grind (arith, taken_more whys k (Some why))
 
-pub reason_skipped : (whys : List (Option Why)) (k : ℕ) (before after : List Kept) → k < length whys → get_or whys k None ≡ None
+pub reason_skipped : (whys : List (Option Why)) (k : ℕ) {before after : List Kept} → k < length whys → get_or whys k None ≡ None
     → before ≡ reasons_from 0 (take k whys) → after ≡ before → after ≡ reasons_from 0 (take (k + 1) whys)
 unfolding one_reason
-reason_skipped whys k before after below is kept same = grind (arith, taken_more whys k None, append-nil (reasons_from 0 (take k whys)))
+reason_skipped whys k below is kept same = grind (arith, taken_more whys k None, append-nil (reasons_from 0 (take k whys)))
 
 pub no_reason : (o : Option Why) → ((why : Why) → o ≡ Some why → ⊥) → o ≡ None
 no_reason None never = refl
@@ -48,7 +49,8 @@ module _ {A : Type 0} (game : CluedGame A) (budget : ℕ) (all p : A) where
   AreTold whys a = (k i : ℕ) → k ≡ a + i → IsTold game budget all p k (get_or whys i None)
 
   -- gives the reasons by place
-  told_places : (whys : List (Option Why)) (a : ℕ) → AreTold whys a → map (λ k. k.place) (reasons_from a whys) ≡ filter (has_clue game p) (range_with_len a (length whys))
+  told_places : (whys : List (Option Why)) (a : ℕ) → AreTold whys a
+      → map (λ k. k.place) (reasons_from a whys) ≡ filter (has_clue game p) (range_with_len a (length whys))
   unfolding reasons_from
   told_places [] a told = refl
   told_places (None ∷ whys) a told = rw (add-one, told a 0 (omega arith)) (told_places whys (suc a) (λ k i e. told k (suc i) (omega arith)))
@@ -60,12 +62,13 @@ module _ {A : Type 0} (game : CluedGame A) (budget : ℕ) (all p : A) where
   told_reasons [] a told = All-nil (λ k. IsReason game budget all p k.place k.why)
   told_reasons (None ∷ whys) a told = told_reasons whys (suc a) (λ k i e. told k (suc i) (omega arith))
   told_reasons (Some why ∷ whys) a told =
-      All-cons (λ k. IsReason game budget all p k.place k.why) _ _ (told a 0 (omega arith)).1 (told_reasons whys (suc a) (λ k i e. told k (suc i) (omega arith)))
+      All-cons (λ k. IsReason game budget all p k.place k.why) _ _ (told a 0 (omega arith)).1
+      (told_reasons whys (suc a) (λ k i e. told k (suc i) (omega arith)))
 
 -- all clues were tried
-pub all_tried : {A : Type 0} (game : CluedGame A) (budget : ℕ) (all p : A) (whys : List (Option Why)) (order : List ℕ) (k : ℕ) → length order ≤ k
+pub all_tried : {A : Type 0} {game : CluedGame A} (budget : ℕ) (all p : A) (whys : List (Option Why)) (order : List ℕ) (k : ℕ) → length order ≤ k
     → IsThinning game budget all p whys (drop k order) → IsThinning game budget all p whys []
-all_tried game budget all p whys order k over left = subst (IsThinning game budget all p whys) (drop_all k order over) left
+all_tried {game} budget all p whys order k over left = subst (IsThinning game budget all p whys) (drop_all k order over) left
 
 module _ {A : Type 0} (game : CluedGame A) (laws : IsGame game) (budget : ℕ) (all p : A) (answer : List ℕ) (whys : List (Option Why))
     (now : IsThinning game budget all p whys []) where
@@ -78,7 +81,8 @@ module _ {A : Type 0} (game : CluedGame A) (laws : IsGame game) (budget : ℕ) (
 
   pub reasons_left : (kept : List Kept) → all ≡ game.all_clues all answer → kept ≡ reasons_from 0 whys → AreReasons game budget (game.all_clues p answer) p kept
   reasons_left kept whole is = rw (laws.same_all p all answer now.within.frame, ← whole, is) (record {
-    places = told_places game budget all p whys 0 all_told ∙ ap (λ n. filter (has_clue game p) (range_with_len 0 n)) (now.room ∙ sym (laws.same_cells p all now.within.frame));
+    places = told_places game budget all p whys 0 all_told
+        ∙ ap (λ n. filter (has_clue game p) (range_with_len 0 n)) (now.room ∙ sym (laws.same_cells p all now.within.frame));
     reasons = told_reasons game budget all p whys 0 all_told;
   })
 
@@ -90,11 +94,15 @@ module _ {A : Type 0} (game : CluedGame A) (laws : IsGame game) (budget : ℕ) (
 
 -- before any clue is tried
 pub thinning_start : {A : Type 0} (game : CluedGame A) → IsGame game → (budget : ℕ) (p : A) (answer order : List ℕ) (whys : List (Option Why))
-    → IsOnly (game.rules p) answer → TellsOne (game.rules p) budget answer → IsPermutation (clue_places game p) order → whys ≡ replicate (game.cells p) None → IsThinning game budget p p whys order
+    → IsOnly (game.rules p) answer → TellsOne (game.rules p) budget answer → IsPermutation (clue_places game p) order
+    → whys ≡ replicate (game.cells p) None → IsThinning game budget p p whys order
 thinning_start game laws budget p answer order whys only found mixed blank = record {
-  within = within_itself game laws p;
+  within = within_itself game laws;
   one = record { answer = answer; found = found; only = only };
-  waiting = λ place held. All-contains (λ c. has_clue game p c ≡ true) (clue_places game p) place (filter_passes (has_clue game p) (range_with_len 0 (game.cells p))) (Contains-permutation _ _ place (IsPermutation-sym _ _ mixed) held);
+  waiting =
+      λ place held. All-contains (λ c. has_clue game p c ≡ true) (clue_places game p) place
+      (filter_passes (has_clue game p) (range_with_len 0 (game.cells p)))
+      (Contains-permutation _ _ place (IsPermutation-sym _ _ mixed) held);
   different = IsDistinct-IsPermutation eqb nat_eq_equiv.symm _ _ mixed (distinct_filtered_range (has_clue game p) 0 (game.cells p));
   told = λ place. by place (has_clue game p place) refl;
   room = ap length blank ∙ length-replicate (game.cells p) None;
@@ -105,4 +113,6 @@ thinning_start game laws budget p answer order whys only found mixed blank = rec
 
     by : (place : ℕ) → (b : Bool) → has_clue game p place ≡ b → Contains order place ⊎ IsTold game budget p p place (get_or whys place None)
     by place true held = let n = some_of (game.clue p place) held in inl (held_in place n.0 held n.1)
-    by place false lacks = inr (subst (λ o. IsTold game budget p p place o) (sym (ap (λ xs. get_or xs place None) blank ∙ blank_at (game.cells p) place)) (none_of (game.clue p place) lacks))
+    by place false lacks =
+        inr (subst (λ o. IsTold game budget p p place o)
+        (sym (ap (λ xs. get_or xs place None) blank ∙ blank_at (game.cells p) place)) (none_of lacks))

@@ -8,9 +8,9 @@ use Rattle.maker_core.proofs.Common.{Contains, IsDistinct, cases_eq, get_or-set_
 use Rattle.maker_core.proofs.Common.{HasOne, CluedGame, IsGame, IsThinnedFrom, HasTwo, IsReason}
 use Rattle.maker_core.proofs.FilteredRanges.{head_apart}
 
-pub needed : (p : RuleSystem) (budget : ℕ) (first second : Option (List ℕ)) (o : Outcome) (why : Why) → why ≡ Needed
+pub needed : (p : RuleSystem) (budget : ℕ) (first second : Option (List ℕ)) (o : Outcome) {why : Why} → why ≡ Needed
     → IsAnswer verdict.Several first second o → IsTrueOf p o → IsVerdict p budget why
-needed p budget first second o why is answer sound =
+needed p budget first second o is answer sound =
     let two = rw answer.2 at sound in
     rw is (record { first = answer.0; second = answer.1; first_solves = two.0; second_solves = two.1; differ = two.2 })
 
@@ -22,26 +22,26 @@ pub some_of : (o : Option ℕ) → is_some o ≡ true → (n : ℕ) × (o ≡ So
 some_of None e = absurd (true≢false (sym e))
 some_of (Some n) e = (n, refl)
 
-pub none_of : (o : Option ℕ) → is_some o ≡ false → o ≡ None
-none_of o e = grind arith
+pub none_of : {o : Option ℕ} → is_some o ≡ false → o ≡ None
+none_of e = grind arith
 
 pub contains_head : (xs : List ℕ) (x : ℕ) → Contains (x ∷ xs) x
 contains_head xs x = (0, omega arith, refl)
 
 -- an element that is not the head is in the rest
-contains_rest : (xs : List ℕ) (x q : ℕ) → q ≢ x → Contains (x ∷ xs) q → Contains xs q
-contains_rest xs x q apart (zero, below, is) = absurd (apart (sym is))
-contains_rest xs x q apart (suc k, below, is) = (k, omega arith, is)
+contains_rest : (xs : List ℕ) {x q : ℕ} → q ≢ x → Contains (x ∷ xs) q → Contains xs q
+contains_rest xs apart (zero, below, is) = absurd (apart (sym is))
+contains_rest xs apart (suc k, below, is) = (k, omega arith, is)
 
-fits_through : (a b c : Needs) → FitsIn a b → FitsIn b c → FitsIn a c
-fits_through a b c first second = grind arith
+fits_through : {a b c : Needs} → FitsIn a b → FitsIn b c → FitsIn a c
+fits_through first second = grind arith
 
 module _ {A : Type 0} (game : CluedGame A) (laws : IsGame game) where
-  pub within_itself : (p : A) → IsThinnedFrom game p p
-  within_itself p = record { frame = laws.same_itself p; clues = λ place n e. e }
+  pub within_itself : {p : A} → IsThinnedFrom game p p
+  within_itself {p} = record { frame = laws.same_itself p; clues = λ place n e. e }
 
-  within_through : (p q r : A) → IsThinnedFrom game p q → IsThinnedFrom game q r → IsThinnedFrom game p r
-  within_through p q r first second =
+  within_through : {p q r : A} → IsThinnedFrom game p q → IsThinnedFrom game q r → IsThinnedFrom game p r
+  within_through {p} {q} {r} first second =
       record { frame = laws.same_through p q r first.frame second.frame; clues = λ place n e. second.clues place n (first.clues place n e) }
 
   -- a clue of the puzzle without the clue of a cell is a clue of another cell
@@ -51,14 +51,17 @@ module _ {A : Type 0} (game : CluedGame A) (laws : IsGame game) where
   thinner : (p : A) (place n : ℕ) → game.clue p place ≡ Some n → IsThinnedFrom game (game.without p place) p
   thinner p place n e = record { frame = laws.without_frame p place n e; clues = λ other m had. (other_clue p place other m had).1 }
 
-  without_within : (p q : A) (place n : ℕ) → IsThinnedFrom game p q → game.clue p place ≡ Some n → IsThinnedFrom game (game.without p place) (game.without q place)
+  without_within : (p q : A) (place n : ℕ) → IsThinnedFrom game p q → game.clue p place ≡ Some n
+      → IsThinnedFrom game (game.without p place) (game.without q place)
   without_within p q place n w e = record {
-    frame = laws.same_through _ _ _ (laws.same_through _ _ _ (laws.without_frame p place n e) w.frame) (laws.same_back _ _ (laws.without_frame q place n (w.clues place n e)));
+    frame =
+        laws.same_through _ _ _ (laws.same_through _ _ _ (laws.without_frame p place n e) w.frame)
+        (laws.same_back _ _ (laws.without_frame q place n (w.clues place n e)));
     clues = λ other m had. let o = other_clue p place other m had in laws.others_stay q place other o.0 ∙ w.clues other m o.1;
   }
 
-  pub two_in : (p q : A) → IsThinnedFrom game p q → HasTwo (game.rules q) → HasTwo (game.rules p)
-  two_in p q w two = record {
+  pub two_in : {p q : A} → IsThinnedFrom game p q → HasTwo (game.rules q) → HasTwo (game.rules p)
+  two_in {p} {q} w two = record {
     first = two.first;
     second = two.second;
     differ = two.differ;
@@ -69,11 +72,11 @@ module _ {A : Type 0} (game : CluedGame A) (laws : IsGame game) where
   module _ (budget : ℕ) (all : A) where
     reason_in : (p q : A) (place : ℕ) (why : Why) → IsThinnedFrom game (game.without p place) (game.without q place)
         → IsReason game budget all q place why → IsReason game budget all p place why
-    reason_in p q place Needed w two = two_in _ _ w two
+    reason_in p q place Needed w two = two_in w two
     reason_in p q place Budget w hard = record {
       thicker = hard.thicker;
       lacks = hard.lacks;
-      over = within_through _ _ _ w hard.over;
+      over = within_through w hard.over;
       under = hard.under;
       gave_up = hard.gave_up;
     }
@@ -93,8 +96,8 @@ module _ {A : Type 0} (game : CluedGame A) (laws : IsGame game) where
     verdict_reason p place n Budget w e gave_up = record {
       thicker = game.without p place;
       lacks = laws.without_it p place;
-      over = within_itself _;
-      under = within_through _ _ _ (thinner p place n e) w;
+      over = within_itself;
+      under = within_through (thinner p place n e) w;
       gave_up = gave_up;
     }
 
@@ -106,17 +109,17 @@ module _ {A : Type 0} (game : CluedGame A) (laws : IsGame game) where
       pub told : IsTold game budget all new place why
       pub fits : (made : Needs) → FitsIn (needs_of (game.rules old)) made → FitsIn (needs_of (game.rules new)) made
 
-    turn_is : (place n : ℕ) (p new : A) (why : Option Why) → IsThinnedFrom game p all → HasOne (game.rules p) budget → game.clue p place ≡ Some n
+    turn_is : (place n : ℕ) (p : A) {new : A} (why : Option Why) → IsThinnedFrom game p all → HasOne (game.rules p) budget → game.clue p place ≡ Some n
         → IsLeft game place p new why → IsAsked game budget place p why → IsTurn place p new why
-    turn_is place n p new None w one e left asked = rw left (record {
+    turn_is place n p None w one e left asked = rw left (record {
       within = thinner p place n e;
       one = asked;
       others = laws.others_stay p place;
       told = laws.without_it p place;
-      fits = λ made had. fits_through _ _ _ (laws.needs_less p place n e) had;
+      fits = λ made had. fits_through (laws.needs_less p place n e) had;
     })
-    turn_is place n p new (Some why) w one e left asked = rw left (record {
-      within = within_itself p;
+    turn_is place n p (Some why) w one e left asked = rw left (record {
+      within = within_itself;
       one = one;
       others = λ other apart. refl;
       told = (ap is_some e, verdict_reason p place n why w e asked);
@@ -124,9 +127,9 @@ module _ {A : Type 0} (game : CluedGame A) (laws : IsGame game) where
     })
 
     -- the next clue of the list has its turn
-    pub next_turn : (p : A) (whys : List (Option Why)) (order : List ℕ) (k : ℕ) → k < length order
+    pub next_turn : {p : A} {whys : List (Option Why)} (order : List ℕ) {k : ℕ} → k < length order
         → IsThinning game budget all p whys (drop k order) → IsThinning game budget all p whys (get_or order k 0 ∷ drop (k + 1) order)
-    next_turn p whys order k below now = rw (add-one, sym (drop-cons order k 0 below)) now
+    next_turn order {k} below now = rw (add-one, sym (drop-cons order k 0 below)) now
 
     module _ (p : A) (whys : List (Option Why)) (place : ℕ) (rest : List ℕ) (now : IsThinning game budget all p whys (place ∷ rest)) where
       clue_of : (n : ℕ) × (game.clue p place ≡ Some n)
@@ -137,15 +140,16 @@ module _ {A : Type 0} (game : CluedGame A) (laws : IsGame game) where
 
       module _ (new : A) (why : Option Why) (left : IsLeft game place p new why) (asked : IsAsked game budget place p why) where
         pub turn : IsTurn place p new why
-        turn = turn_is place clue_of.0 p new why now.within now.one clue_of.1 left asked
+        turn = turn_is place clue_of.0 p why now.within now.one clue_of.1 left asked
 
         -- a clue was tried, and the reason written
         pub thinning_turn : IsThinning game budget all new (set whys place why) rest
         unfolding IsDistinct
         thinning_turn = record {
-          within = within_through _ _ _ turn.within now.within;
+          within = within_through turn.within now.within;
           one = turn.one;
-          waiting = λ other held. ap is_some (turn.others other (head_apart rest place other now.different.0 held)) ∙ now.waiting other (Contains-append_right (place ∷ []) rest other held);
+          waiting = λ other held. ap is_some (turn.others other (head_apart rest now.different.0 held))
+              ∙ now.waiting other (Contains-append_right (place ∷ []) rest other held);
           different = now.different.1;
           told = λ other. at other (cases_eq other place) (now.told other);
           room = length-set whys place why ∙ now.room;
@@ -154,5 +158,7 @@ module _ {A : Type 0} (game : CluedGame A) (laws : IsGame game) where
             at : (other : ℕ) → (other ≡ place) ⊎ (other ≢ place) → Contains (place ∷ rest) other ⊎ IsTold game budget all p other (get_or whys other None)
                 → Contains rest other ⊎ IsTold game budget all new other (get_or (set whys place why) other None)
             at other (inl same) before = inr (rw (get_or-set_at whys place other why None same turn_in_room, same) turn.told)
-            at other (inr apart) (inl held) = inl (contains_rest rest place other apart held)
-            at other (inr apart) (inr told) = inr (rw (get_or-set_other whys place other why None apart) (told_in new p other _ turn.within (turn.others other apart) told))
+            at other (inr apart) (inl held) = inl (contains_rest rest apart held)
+            at other (inr apart) (inr told) =
+                inr (rw (get_or-set_other whys place other why None apart)
+                (told_in new p other _ turn.within (turn.others other apart) told))

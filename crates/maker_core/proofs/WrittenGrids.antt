@@ -3,11 +3,11 @@ use Rattle.maker_core.proofs.Common.{◌≡◌, ℕ, ◌<◌, true, List, length
 use Rattle.maker_core.proofs.Common.{elements, get_or-replicate, get_or_past, length-replicate, length-set, set-set, set-get_or, All-replicate}
 use Rattle.maker_core.proofs.Common.{All-set, IsGrid}
 
-pub zeros-grid : (n : ℕ) → IsGrid n 2 (replicate n 0)
-zeros-grid n = record { each_cell = length-replicate n 0; each_value = All-replicate (λ v. v < 2) n 0 (omega arith) }
+pub zeros-grid : {n : ℕ} → IsGrid n 2 (replicate n 0)
+zeros-grid {n} = record { each_cell = length-replicate n 0; each_value = All-replicate (λ v. v < 2) n 0 (omega arith) }
 
-pub grid_with : (n c v : ℕ) (g h : List ℕ) → v < 2 → h ≡ slice_set g c v → IsGrid n 2 g → IsGrid n 2 h
-grid_with n c v g h few e grid =
+pub grid_with : {n : ℕ} (c v : ℕ) {g h : List ℕ} → v < 2 → h ≡ slice_set g c v → IsGrid n 2 g → IsGrid n 2 h
+grid_with c v {g} few e grid =
     rw e (record { each_cell = length-set g c v ∙ grid.each_cell; each_value = All-set (λ x. x < 2) g c v few grid.each_value })
 
 pub no_one : (n c : ℕ) → (slice_index (replicate n 0) c == 1) ≡ true → ⊥

@@ -1,11 +1,11 @@
 -- What is drawn from a stream of random words, and the stream that is left; and the fillings that a maker tries.
-use Rattle.std.specs.Prelude.{◌≡◌, ℕ, zero, suc, ◌^◌, ◌<◌, Bool, true, false, cond, List, [], ◌∷◌, ◌++◌, nat_lt, length, slice_index, Vec, Result, Err}
+use Rattle.std.specs.Prelude.{◌≡◌, ℕ, zero, suc, ◌^◌, ◌<◌, Bool, true, false, cond, List, [], ◌∷◌, ◌++◌, nat_lt, length, slice_index, ⊤, Vec, Result, Ok, Err}
 use Rattle.std.specs.List.{range_with_len}
 use Rattle.rand_core.specs.Stream.{Call, Stream, next_u32}
 use Rattle.rand.specs.Uniform.{canon}
 use Rattle.rand.specs.Shuffle.{shuffled}
 use Rattle.maker_core.specs.declared.made.MakeFault.{MakeFault}
-use Rattle.maker_core.specs.declared.made.MakeFault.TheVariants.{Exhausted}
+use Rattle.maker_core.specs.declared.made.MakeFault.TheVariants.{Exhausted, Memory, SizeRange}
 
 -- each word that is asked for is below 2 ^ 32, as every generator's is
 pub record HasWords (s : Stream) : Type 0 where
@@ -88,14 +88,11 @@ pub record IsFirst {A : Type 0} (t : Tries A) (s : Stream) (filling : A) (left :
 abbrev pub AllFail : {A : Type 0} → Tries A → Stream → Type 0
 AllFail t s = NonePasses t.make t.passes s t.count
 
--- the new generator's stream is that after all of them where they are exhausted, or that after the first that passes
-abbrev pub DrawsAll : {A G X : Type 0}
-    → Tries A → (G → Stream) → G → G → Result X MakeFault → Type 0
-DrawsAll t stream old new result =
-    result ≡ Err Exhausted → stream new ≡ stream_after t.make t.count (stream old)
-
-abbrev pub DrawsFirst : {A G : Type 0} → Tries A → (G → Stream) → G → G → Type 0
-DrawsFirst t stream old new =
-    let s = stream old in
-    (k : ℕ) → IsFirstPassing t.make t.passes s t.count k
-    → stream new ≡ t.ends (filling_at t.make k s) (stream_after t.make (suc k) s)
+-- What is left of a stream: where a puzzle is made, that after the first filling that passes and what is drawn for its
+-- puzzle; where the tries are used up, that after all of them. A size that is refused draws nothing.
+abbrev pub LeavesStream : {A X : Type 0} → Tries A → Stream → Stream → Result X MakeFault → Type 0
+LeavesStream t old new (Ok made) = (k : ℕ) → IsFirstPassing t.make t.passes old t.count k
+    → new ≡ t.ends (filling_at t.make k old) (stream_after t.make (suc k) old)
+LeavesStream t old new (Err SizeRange) = new ≡ old
+LeavesStream t old new (Err Exhausted) = new ≡ stream_after t.make t.count old
+LeavesStream t old new (Err Memory) = ⊤

@@ -15,11 +15,11 @@ pub record IsFewer (xs ys : List CountHouse) : Type 0 where
   pub fewer : length xs ≤ length ys
   pub short : (m : ℕ) → EachOf (IsShort m) ys → EachOf (IsShort m) xs
 
-pub fewer_itself : (xs : List CountHouse) → IsFewer xs xs
-fewer_itself xs = record { fewer = le_refl _; short = λ m each. each }
+pub fewer_itself : {xs : List CountHouse} → IsFewer xs xs
+fewer_itself = record { fewer = le_refl _; short = λ m each. each }
 
-fewer_none : (xs : List CountHouse) → IsFewer [] xs
-fewer_none xs = record { fewer = omega arith; short = λ m each h lt. absurd (omega arith) }
+fewer_none : {xs : List CountHouse} → IsFewer [] xs
+fewer_none = record { fewer = omega arith; short = λ m each h lt. absurd (omega arith) }
 
 front : (P : CountHouse → Type 0) (xs ys : List CountHouse) → EachOf P (xs ++ ys) → EachOf P xs
 front P xs ys each h lt = subst P (get_or_append_left xs ys no_count_house h lt) (each h (omega (arith, lt, length-append xs ys)))
@@ -27,27 +27,29 @@ front P xs ys each h lt = subst P (get_or_append_left xs ys no_count_house h lt)
 back : (P : CountHouse → Type 0) (xs ys : List CountHouse) → EachOf P (xs ++ ys) → EachOf P ys
 back P xs ys each h lt = subst P (get_or-append-add xs ys h no_count_house) (each (length xs + h) (omega (arith, lt, length-append xs ys)))
 
-pub fewer_append : (xs ys us vs : List CountHouse) → IsFewer xs ys → IsFewer us vs → IsFewer (xs ++ us) (ys ++ vs)
-fewer_append xs ys us vs first second = record {
+pub fewer_append : {xs ys us vs : List CountHouse} → IsFewer xs ys → IsFewer us vs → IsFewer (xs ++ us) (ys ++ vs)
+fewer_append {xs} {ys} {us} {vs} first second = record {
   fewer = omega (arith, first.fewer, second.fewer, length-append xs us, length-append ys vs);
   short = λ m each. each-append (IsShort m) xs us (first.short m (front (IsShort m) ys vs each)) (second.short m (back (IsShort m) ys vs each));
 }
 
-fewer_at : (xs ys : List CountHouse) → (xs ≡ ys) ⊎ (xs ≡ []) → IsFewer xs ys
-fewer_at xs ys (inl same) = subst (λ zs. IsFewer xs zs) same (fewer_itself xs)
-fewer_at xs ys (inr none) = subst (λ zs. IsFewer zs ys) (sym none) (fewer_none ys)
+fewer_at : {xs ys : List CountHouse} → (xs ≡ ys) ⊎ (xs ≡ []) → IsFewer xs ys
+fewer_at {xs} (inl same) = subst (λ zs. IsFewer xs zs) same fewer_itself
+fewer_at {ys} (inr none) = subst (λ zs. IsFewer zs ys) (sym none) fewer_none
 
 -- at each number the same houses or none
 pub fewer_below : (f f' : ℕ → List CountHouse) (n : ℕ) → ((c : ℕ) → (f c ≡ f' c) ⊎ (f c ≡ [])) → IsFewer (houses_below f n) (houses_below f' n)
 unfolding houses_below
-fewer_below f f' zero each = fewer_itself []
-fewer_below f f' (suc n) each = fewer_append (houses_below f n) (houses_below f' n) (f n) (f' n) (fewer_below f f' n each) (fewer_at (f n) (f' n) (each n))
+fewer_below f f' zero each = fewer_itself
+fewer_below f f' (suc n) each = fewer_append (fewer_below f f' n each) (fewer_at (each n))
 
 longest_at_most : (scope : ℕ → List ℕ) (n m : ℕ) → ((h : ℕ) → h < n → length (scope h) ≤ m) → longest scope n ≤ m
 unfolding longest
 longest_at_most scope zero m each = omega arith
 longest_at_most scope (suc n) m each = max-le (longest_at_most scope n m (λ h lt. each h (omega arith))) (each n (omega arith))
 
-pub longest_of_fewer : (xs ys : List CountHouse) → IsFewer xs ys → longest (λ h. (count_house_of xs h).places) (length xs) ≤ longest (λ h. (count_house_of ys h).places) (length ys)
+pub longest_of_fewer : (xs ys : List CountHouse) → IsFewer xs ys
+    → longest (λ h. (count_house_of xs h).places) (length xs) ≤ longest (λ h. (count_house_of ys h).places) (length ys)
 longest_of_fewer xs ys less =
-    longest_at_most (λ h. (count_house_of xs h).places) (length xs) _ (less.short _ (λ h lt. scope_le-longest (λ k. (count_house_of ys k).places) (length ys) h lt))
+    longest_at_most (λ h. (count_house_of xs h).places) (length xs) _
+    (less.short _ (λ h lt. scope_le-longest (λ k. (count_house_of ys k).places) (length ys) h lt))

@@ -27,9 +27,9 @@ with_cells : Extent → List LightCell → Light
 with_cells size cells = record { size = size; cells = cells }
 
 -- the second puzzle, of the first one's size
-resized : (p q : Light) → SameLight p q → q ≡ with_cells p.size q.cells
+resized : {p q : Light} → SameLight p q → q ≡ with_cells p.size q.cells
 unfolding with_cells
-resized p q same = ap (λ size. with_cells size q.cells) (sym same.size)
+resized {q} same = ap (λ size. with_cells size q.cells) (sym same.size)
 
 -- ---- which cells are white decides all but the numbers
 white_map : (p : Light) (c : ℕ) → white p c ≡ get_or (map is_white p.cells) c false
@@ -40,13 +40,13 @@ same_white : (p q : Light) → map is_white p.cells ≡ map is_white q.cells →
 same_white p q same = fun_ext λ c. white_map p c ∙ ap (λ whites. get_or whites c false) same ∙ sym (white_map q c)
 
 -- ---- fewer numbers
-pub numbered_is : (cell : LightCell) (n : ℕ) → number_clue cell ≡ Some n → cell ≡ Numbered n
-numbered_is cell n e = grind arith
+pub numbered_is : {cell : LightCell} {n : ℕ} → number_clue cell ≡ Some n → cell ≡ Numbered n
+numbered_is e = grind arith
 
 number_stays : (a b : LightCell) (bulbs : ℕ) → ((n : ℕ) → number_clue a ≡ Some n → number_clue b ≡ Some n) → number_is b bulbs ≡ true → number_is a bulbs ≡ true
 number_stays White b bulbs clues right = refl
 number_stays Black b bulbs clues right = refl
-number_stays (Numbered n) b bulbs clues right = ap (λ cell. number_is cell bulbs) (sym (numbered_is b n (clues n refl))) ∙ right
+number_stays (Numbered n) b bulbs clues right = ap (λ cell. number_is cell bulbs) (sym (numbered_is (clues n refl))) ∙ right
 
 lit_stays : (p : Light) (cells : List LightCell) (g : List ℕ) → map is_white p.cells ≡ map is_white cells
     → ((place n : ℕ) → number_clue (slice_index_or p.cells place Black) ≡ Some n → number_clue (slice_index_or cells place Black) ≡ Some n)
@@ -55,9 +55,11 @@ unfolding with_cells number_right black_right bulb_right lit_right sees_bulb see
 lit_stays p cells g same clues lit =
     let parts = lit-parts (with_cells p.size cells) g lit in
     let q = with_cells p.size cells in
-    lit-from p g (all_below-from (black_right p g) (light_cells p) (λ c below. simp whites (all_below-at (black_right q g) (light_cells p) c parts.black below)))
+    lit-from p g (all_below-from (black_right p g) (light_cells p)
+    (λ c below. simp whites (all_below-at (black_right q g) (light_cells p) c parts.black below)))
     (all_below-from (number_right p g) (light_cells p) (λ c below.
-    number_stays (slice_index_or p.cells c Black) (slice_index_or cells c Black) _ (clues c) (all_below-at (number_right q g) (light_cells p) c parts.number below)))
+    number_stays (slice_index_or p.cells c Black) (slice_index_or cells c Black) _ (clues c)
+    (all_below-at (number_right q g) (light_cells p) c parts.number below)))
     (all_below-from (bulb_right p g) (light_cells p) (λ c below. simp whites (all_below-at (bulb_right q g) (light_cells p) c parts.seen below)))
     (all_below-from (lit_right p g) (light_cells p) (λ c below. simp whites (all_below-at (lit_right q g) (light_cells p) c parts.lit below)))
   where
@@ -66,12 +68,12 @@ lit_stays p cells g same clues lit =
 
 -- each solution of a puzzle with more numbers is one of the puzzle
 pub lit_by_fewer : (p q : Light) (g : List ℕ) → IsThinnedFrom light_game p q → solves_lights q g ≡ true → solves_lights p g ≡ true
-lit_by_fewer p q g w lit = lit_stays p q.cells g w.frame.black w.clues (subst (λ x. solves_lights x g ≡ true) (resized p q w.frame) lit)
+lit_by_fewer p q g w lit = lit_stays p q.cells g w.frame.black w.clues (subst (λ x. solves_lights x g ≡ true) (resized w.frame) lit)
 
 solutions_stay : (p q : Light) (g : List ℕ) → IsThinnedFrom light_game p q → Solves (light_rules q) g → Solves (light_rules p) g
 unfolding with_cells
 solutions_stay p q g w s = record {
-  grid = (subst (λ x. Solves (light_rules x) g) (resized p q w.frame) s).grid;
+  grid = (subst (λ x. Solves (light_rules x) g) (resized w.frame) s).grid;
   good = lit_by_fewer p q g w s.good;
 }
 
@@ -83,19 +85,20 @@ cleared : (cells : List LightCell) (place : ℕ) → slice_index_or (slice_set c
 cleared cells place =
     grind (arith, cases_lt place (length cells), get_or-set_same cells place Black Black, get_or_past (set cells place Black) place Black, length-set cells place Black)
 
-not_white : (cell : LightCell) (n : ℕ) → number_clue cell ≡ Some n → is_white cell ≡ false
-not_white cell n e = ap is_white (numbered_is cell n e)
+not_white : (cell : LightCell) {n : ℕ} → number_clue cell ≡ Some n → is_white cell ≡ false
+not_white cell e = ap is_white (numbered_is e)
 
 same_without : (p : Light) (place n : ℕ) → number_clue (slice_index_or p.cells place Black) ≡ Some n → SameLight (without_number p place) p
 unfolding without_number
-same_without p place n e = record { size = refl; black = map-set_same is_white p.cells place Black Black (sym (not_white _ n e)) }
+same_without p place n e = record { size = refl; black = map-set_same is_white p.cells place Black Black (sym (not_white _ e)) }
 
-fewer_houses : (p : Light) (place n : ℕ) → number_clue (slice_index_or p.cells place Black) ≡ Some n → IsFewer (light_houses (without_number p place)) (light_houses p)
+fewer_houses : (p : Light) (place n : ℕ) → number_clue (slice_index_or p.cells place Black) ≡ Some n
+    → IsFewer (light_houses (without_number p place)) (light_houses p)
 unfolding without_number light_houses row_run column_run seen_from begins_row_run begins_column_run joined_in_row joined_in_column
 fewer_houses p place n e =
-    fewer_append _ _ _ _ (fewer_below (number_house (without_number p place)) (number_house p) (light_cells p) (λ c. by c (cases_eq c place)))
-    (fewer_append _ _ _ _ (fewer_below (row_house (without_number p place)) (row_house p) (light_cells p) (λ c. inl (simp (joined_row, white_at))))
-    (fewer_append _ _ _ _ (fewer_below (column_house (without_number p place)) (column_house p) (light_cells p) (λ c. inl (simp (joined_column, white_at))))
+    fewer_append (fewer_below (number_house (without_number p place)) (number_house p) (light_cells p) (λ c. by c (cases_eq c place)))
+    (fewer_append (fewer_below (row_house (without_number p place)) (row_house p) (light_cells p) (λ c. inl (simp (joined_row, white_at))))
+    (fewer_append (fewer_below (column_house (without_number p place)) (column_house p) (light_cells p) (λ c. inl (simp (joined_column, white_at))))
     (fewer_below (lit_house (without_number p place)) (lit_house p) (light_cells p) (λ c. inl (simp (joined_row, joined_column, white_at))))))
   where
     whites : white (without_number p place) ≡ white p
@@ -111,18 +114,27 @@ fewer_houses p place n e =
     joined_column a = fun_ext λ b. simp white_at
 
     by : (c : ℕ) → (c ≡ place) ⊎ (c ≢ place) → (number_house (without_number p place) c ≡ number_house p c) ⊎ (number_house (without_number p place) c ≡ [])
-    by c (inl same) = inr (ap (λ cell. numbered cell (filter (white (without_number p place)) (beside p.size c))) (ap (λ k. slice_index_or (set p.cells place Black) k Black) same ∙ cleared p.cells place))
-    by c (inr apart) = inl (ap (λ cell. numbered cell (filter (white (without_number p place)) (beside p.size c))) (get_or-set_other p.cells place c Black Black apart) ∙ ap (λ wh. numbered (slice_index_or p.cells c Black) (filter wh (beside p.size c))) whites)
+    by c (inl same) =
+        inr (ap (λ cell. numbered cell (filter (white (without_number p place)) (beside p.size c)))
+        (ap (λ k. slice_index_or (set p.cells place Black) k Black) same ∙ cleared p.cells place))
+    by c (inr apart) =
+        inl (ap (λ cell. numbered cell (filter (white (without_number p place)) (beside p.size c)))
+        (get_or-set_other p.cells place c Black Black apart)
+        ∙ ap (λ wh. numbered (slice_index_or p.cells c Black) (filter wh (beside p.size c))) whites)
 
-clue_in : (cells : List LightCell) (place n : ℕ) → number_clue (slice_index_or cells place Black) ≡ Some n → place < length cells
-clue_in cells place n e = grind (arith, get_or_past cells place Black)
+clue_in : (cells : List LightCell) {place n : ℕ} → number_clue (slice_index_or cells place Black) ≡ Some n → place < length cells
+clue_in cells {place} e = grind (arith, get_or_past cells place Black)
 
 same_length : (p q : Light) → map is_white p.cells ≡ map is_white q.cells → length p.cells ≡ length q.cells
 same_length p q same = sym (length-map p.cells is_white) ∙ ap length same ∙ length-map q.cells is_white
 
-told_same : (p : Light) (cells : List LightCell) (g : List ℕ) → map is_white p.cells ≡ map is_white cells → light_game.all_clues p g ≡ light_game.all_clues (with_cells p.size cells) g
+told_same : (p : Light) (cells : List LightCell) (g : List ℕ) → map is_white p.cells ≡ map is_white cells
+    → light_game.all_clues p g ≡ light_game.all_clues (with_cells p.size cells) g
 unfolding with_cells with_numbers
-told_same p cells g same = ap (λ wh. with_cells p.size (map (λ place. cond (wh place) White (Numbered (bulbs_beside p g place))) (range_with_len 0 (light_cells p)))) (same_white p (with_cells p.size cells) same)
+told_same p cells g same =
+    ap (λ wh. with_cells p.size
+    (map (λ place. cond (wh place) White (Numbered (bulbs_beside p g place))) (range_with_len 0 (light_cells p))))
+    (same_white p (with_cells p.size cells) same)
 
 pub light_is_game : IsGame light_game
 unfolding without_number
@@ -130,12 +142,19 @@ light_is_game = record {
   same_itself = λ p. record { size = refl; black = refl };
   same_back = λ p q same. record { size = sym same.size; black = sym same.black };
   same_through = λ p q r a b. record { size = a.size ∙ b.size; black = a.black ∙ b.black };
-  clue_in = λ p place n e. clue_in p.cells place n e;
+  clue_in = λ p place n e. clue_in p.cells e;
   same_cells = λ p q same. same_length p q same.black;
-  same_all = λ p q g same. told_same p q.cells g same.black ∙ ap (λ x. light_game.all_clues x g) (sym (resized p q same));
+  same_all = λ p q g same. told_same p q.cells g same.black ∙ ap (λ x. light_game.all_clues x g) (sym (resized same));
   solutions_stay = solutions_stay;
   without_frame = same_without;
   without_it = λ p place. ap number_clue (cleared p.cells place);
   others_stay = λ p place other apart. ap number_clue (get_or-set_other p.cells place other Black Black apart);
-  needs_less = λ p place n e. let less = fewer_houses p place n e in record { same_cells = refl; same_values = refl; houses_in = less.fewer; bound_in = le_refl _; scope_in = longest_of_fewer _ _ less };
+  needs_less = λ p place n e. let less = fewer_houses p place n e in
+      record {
+        same_cells = refl;
+        same_values = refl;
+        houses_in = less.fewer;
+        bound_in = le_refl _;
+        scope_in = longest_of_fewer _ _ less;
+      };
 }

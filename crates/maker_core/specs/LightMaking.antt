@@ -1,11 +1,11 @@
 -- What a maker of Light Up gives.
-use Rattle.std.specs.Prelude.{◌≡◌, ℕ, List}
+use Rattle.std.specs.Prelude.{◌≡◌, ◌≢◌, ◌≤◌, ℕ, List}
 use Rattle.rand_core.specs.Stream.{Stream}
 use Rattle.grid_core.specs.Extent.{Extent}
-use Rattle.gameid_core.specs.Puzzles.{Light}
+use Rattle.gameid_core.specs.Puzzles.{IsWide, Light}
 use Rattle.fields_core.specs.LightHouses.{light_rules}
 use Rattle.fields_core.specs.LightSolutions.{IsLightSolution}
-use Rattle.maker_core.specs.Draws.{Tries, IsFirstPassing, filling_at}
+use Rattle.maker_core.specs.Draws.{AllFail, Tries, IsFirstPassing, filling_at}
 use Rattle.maker_core.specs.LightClues.{light_game}
 use Rattle.maker_core.specs.LightFilling.{light_filling, light_passes, light_puzzle_of, with_numbers}
 use Rattle.maker_core.specs.Made.{TellsOne, IsOnlySolution}
@@ -14,6 +14,8 @@ use Rattle.maker_core.specs.declared.light_up.filling.LightFilling.{LightFilling
 use Rattle.maker_core.specs.declared.made.Kept.{Kept}
 use Rattle.maker_core.specs.declared.made.Limits.{Limits}
 use Rattle.maker_core.specs.declared.made.Made.{Made}
+use Rattle.maker_core.specs.declared.made.MakeFault.{MakeFault}
+use Rattle.maker_core.specs.declared.made.MakeFault.TheVariants.{Exhausted, Memory, SizeRange}
 
 -- The first of the fillings that passes gives the solution and the black cells; the puzzle has some of its numbers and no
 -- other solution, and its own verdict says so. Each number that is left was kept for a reason.
@@ -39,5 +41,12 @@ light_tries size black limits = record {
 }
 
 abbrev pub MakesLights : Extent → ℕ → Limits → Stream → Made Light → Type 0
-MakesLights size black limits s made =
-    IsLightMade size black limits.budget limits.tries s made.puzzle made.answer made.kept.items
+MakesLights size black limits s made = IsWide size
+    × IsLightMade size black limits.budget limits.tries s made.puzzle made.answer made.kept.items
+
+-- Why it gives nothing: no puzzle has the size; no try passes, and one has a white cell; or a try had no memory.
+abbrev pub IsLightUnmade : Extent → ℕ → Limits → Stream → MakeFault → Type 0
+IsLightUnmade size black limits s SizeRange = IsWide size → ⊥
+IsLightUnmade size black limits s Exhausted = IsWide size × AllFail (light_tries size black limits) s
+    × (1 ≤ limits.tries → black ≢ 100)
+IsLightUnmade size black limits s Memory = IsWide size × (1 ≤ limits.tries)

@@ -1,16 +1,18 @@
 -- What a maker of Pattern tries, and what it gives.
-use Rattle.std.specs.Prelude.{◌≡◌, ℕ, ◌*◌, Bool, List, []}
+use Rattle.std.specs.Prelude.{◌≡◌, ◌≤◌, ◌*◌, ◌⊎◌, ℕ, Bool, List, []}
 use Rattle.rand_core.specs.Stream.{Stream}
 use Rattle.grid_core.specs.Extent.{Extent}
 use Rattle.gameid_core.specs.Lines.{lines_runs}
 use Rattle.gameid_core.specs.Puzzles.{Pattern}
 use Rattle.pattern_core.specs.LineRules.{line_rules}
 use Rattle.pattern_core.specs.Solutions.{IsPatternSolution}
-use Rattle.maker_core.specs.Draws.{Making, Tries, black_cells, IsFirstPassing, filling_at}
+use Rattle.maker_core.specs.Draws.{AllFail, Making, Tries, black_cells, IsFirstPassing, filling_at}
 use Rattle.maker_core.specs.Made.{has_one, TellsOne, IsOnlySolution}
 use Rattle.maker_core.specs.declared.made.Kept.{Kept}
 use Rattle.maker_core.specs.declared.made.Limits.{Limits}
 use Rattle.maker_core.specs.declared.made.Made.{Made}
+use Rattle.maker_core.specs.declared.made.MakeFault.{MakeFault}
+use Rattle.maker_core.specs.declared.made.MakeFault.TheVariants.{Exhausted, Memory, SizeRange}
 
 -- a filling is a grid whose cells are drawn one by one
 abbrev pub pattern_filling : Extent → ℕ → Making (List ℕ)
@@ -48,3 +50,10 @@ pattern_tries size black limits = record {
 abbrev pub MakesPattern : Extent → ℕ → Limits → Stream → Made Pattern → Type 0
 MakesPattern size black limits s made =
     IsPatternMade size black limits.budget limits.tries s made.puzzle made.answer made.kept.items
+
+-- Why it gives nothing: no try passes, and one is made of more than one colour; or a try had no memory.
+abbrev pub IsPatternUnmade : Extent → ℕ → Limits → Stream → MakeFault → Type 0
+IsPatternUnmade size black limits s SizeRange = ⊥
+IsPatternUnmade size black limits s Exhausted = AllFail (pattern_tries size black limits) s
+    × (1 ≤ limits.tries → (black ≡ 0) ⊎ (black ≡ 100) → ⊥)
+IsPatternUnmade size black limits s Memory = 1 ≤ limits.tries

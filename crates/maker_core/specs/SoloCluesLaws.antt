@@ -33,8 +33,8 @@ pub is_clue : (v : ℕ) → 1 ≤ v → given_clue v ≡ Some v
 is_clue zero low = absurd (omega arith)
 is_clue (suc v) low = refl
 
-pub given_in : (givens : List ℕ) (place n : ℕ) → given_clue (slice_index givens place) ≡ Some n → place < length givens
-given_in givens place n e = grind (arith, get_or_past givens place 0)
+pub given_in : (givens : List ℕ) {place n : ℕ} → given_clue (slice_index givens place) ≡ Some n → place < length givens
+given_in givens {place} e = grind (arith, get_or_past givens place 0)
 
 -- ---- solutions
 -- puzzles of one size have the same houses
@@ -48,7 +48,8 @@ lies_alike p givens house place = grind arith
 abbrev pub HasClues : Solo → List ℕ → Type 0
 HasClues p givens = (place n : ℕ) → given_clue (slice_index p.givens place) ≡ Some n → given_clue (slice_index givens place) ≡ Some n
 
-given_stays : (p : Solo) (givens g : List ℕ) (place : ℕ) → HasClues p givens → (1 ≤ slice_index givens place → slice_index g place + 1 ≡ slice_index givens place)
+given_stays : (p : Solo) (givens g : List ℕ) (place : ℕ) → HasClues p givens
+    → (1 ≤ slice_index givens place → slice_index g place + 1 ≡ slice_index givens place)
     → 1 ≤ slice_index p.givens place → slice_index g place + 1 ≡ slice_index p.givens place
 given_stays p givens g place clues stands low =
     let same = clue_is (slice_index givens place) (slice_index p.givens place) (clues place (slice_index p.givens place) (is_clue _ low)) in
@@ -74,7 +75,9 @@ test_stays p givens g clues on =
     let parts = and_parts (all_below (given_stands q g) (solo_cells q)) _ on in
     and_from _ _
     (all_below-from (given_stands p g) (solo_cells p) (λ place below.
-    test_from_given p g place (given_stays p givens g place clues (given_from_test q g place (all_below-at (given_stands q g) (solo_cells q) place parts.0 below)))))
+    test_from_given p g place
+    (given_stays p givens g place clues
+    (given_from_test q g place (all_below-at (given_stands q g) (solo_cells q) place parts.0 below)))))
     parts.1
 
 solutions_stay : (p q : Solo) (g : List ℕ) → IsThinnedFrom solo_game p q → Solves (houses_rules q) g → Solves (houses_rules p) g
@@ -91,7 +94,7 @@ solo_is_game = record {
   same_itself = λ p. record { c = refl; r = refl; x = refl; cells = refl };
   same_back = λ p q same. record { c = sym same.c; r = sym same.r; x = sym same.x; cells = sym same.cells };
   same_through = λ p q r a b. record { c = a.c ∙ b.c; r = a.r ∙ b.r; x = a.x ∙ b.x; cells = a.cells ∙ b.cells };
-  clue_in = λ p place n e. given_in p.givens place n e;
+  clue_in = λ p place n e. given_in p.givens e;
   same_cells = λ p q same. same.cells;
   same_all = λ p q g same. ap (λ c. all_given c p.r p.x g) same.c ∙ ap (λ r. all_given q.c r p.x g) same.r ∙ ap (λ x. all_given q.c q.r x g) same.x;
   solutions_stay = solutions_stay;

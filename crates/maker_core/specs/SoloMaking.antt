@@ -12,6 +12,8 @@ use Rattle.maker_core.specs.SoloFilling.{plain_filling, all_given}
 use Rattle.maker_core.specs.SoloXFilling.{x_filling}
 use Rattle.maker_core.specs.Thinning.{AreReasons, IsThinnedFrom, stream_after_clues}
 use Rattle.maker_core.specs.declared.made.Kept.{Kept}
+use Rattle.maker_core.specs.declared.made.MakeFault.{MakeFault}
+use Rattle.maker_core.specs.declared.made.MakeFault.TheVariants.{Exhausted, Memory, SizeRange}
 use Rattle.maker_core.specs.declared.made.Limits.{Limits}
 use Rattle.maker_core.specs.declared.made.Made.{Made}
 
@@ -62,5 +64,12 @@ solo_tries c r x limits = record {
 }
 
 abbrev pub MakesSolo : ℕ → ℕ → Bool → Limits → Stream → Made Solo → Type 0
-MakesSolo c r x limits s made =
-    IsSoloMade c r x limits.budget limits.tries s made.puzzle made.answer made.kept.items
+MakesSolo c r x limits s made = IsSoloSize c r
+    × IsSoloMade c r x limits.budget limits.tries s made.puzzle made.answer made.kept.items
+
+-- Why it gives nothing: no puzzle has the size; no try found a grid, and plain Solo had no try; or a try had no memory.
+abbrev pub IsSoloUnmade : ℕ → ℕ → Bool → Limits → Stream → MakeFault → Type 0
+IsSoloUnmade c r x limits s SizeRange = IsSoloSize c r → ⊥
+IsSoloUnmade c r x limits s Exhausted = IsSoloSize c r × NoneFound c r x limits.budget s limits.tries
+    × (x ≡ false → limits.tries ≡ 0)
+IsSoloUnmade c r x limits s Memory = IsSoloSize c r × (1 ≤ limits.tries)

@@ -5,13 +5,15 @@ use Rattle.grid_core.specs.Extent.{Extent}
 use Rattle.gameid_core.specs.Puzzles.{Tents}
 use Rattle.fields_core.specs.TentHouses.{tent_rules}
 use Rattle.fields_core.specs.TentSolutions.{IsTentSolution}
-use Rattle.maker_core.specs.Draws.{Tries, IsFirstPassing, filling_at}
+use Rattle.maker_core.specs.Draws.{AllFail, Tries, IsFirstPassing, filling_at}
 use Rattle.maker_core.specs.Made.{TellsOne, IsOnlySolution}
 use Rattle.maker_core.specs.TentFilling.{tent_filling, tents_puzzle_of, tents_pass}
 use Rattle.maker_core.specs.declared.tents.filling.TentFilling.{TentFilling}
 use Rattle.maker_core.specs.declared.made.Kept.{Kept}
 use Rattle.maker_core.specs.declared.made.Limits.{Limits}
 use Rattle.maker_core.specs.declared.made.Made.{Made}
+use Rattle.maker_core.specs.declared.made.MakeFault.{MakeFault}
+use Rattle.maker_core.specs.declared.made.MakeFault.TheVariants.{Exhausted, Memory, SizeRange}
 
 -- both sides are at least 4
 pub record IsTentSize (size : Extent) : Type 0 where
@@ -41,5 +43,11 @@ tents_tries size limits = record {
 }
 
 abbrev pub MakesTents : Extent → Limits → Stream → Made Tents → Type 0
-MakesTents size limits s made =
-    IsTentsMade size limits.budget limits.tries s made.puzzle made.answer made.kept.items
+MakesTents size limits s made = IsTentSize size
+    × IsTentsMade size limits.budget limits.tries s made.puzzle made.answer made.kept.items
+
+-- Why it gives nothing: no puzzle of the size is made; no try passes; or a try had no memory.
+abbrev pub IsTentsUnmade : Extent → Limits → Stream → MakeFault → Type 0
+IsTentsUnmade size limits s SizeRange = IsTentSize size → ⊥
+IsTentsUnmade size limits s Exhausted = IsTentSize size × AllFail (tents_tries size limits) s
+IsTentsUnmade size limits s Memory = IsTentSize size × (1 ≤ limits.tries)

@@ -2,7 +2,7 @@
 
 ghost use Rattle.std.specs.Prelude.{◌≡◌, ◌≢◌, ◌<◌, ℕ, Bool, false, true, Err, IfOk};
 ghost use Rattle.maker_core.specs.declared.made.MakeFault.TheVariants.{Exhausted, SizeRange};
-ghost use Rattle.maker_core.specs.Draws.{AllFail, DrawsAll, IsDrawnBy, IsFirst, Tries, filling_at};
+ghost use Rattle.maker_core.specs.Draws.{AllFail, IsDrawnBy, IsFirst, Tries, filling_at, stream_after};
 
 use crate::made::MakeFault;
 use rand_core::Rng;
@@ -44,7 +44,8 @@ pub(crate) fn first_passing<F: Attempts, G: Rng>(
         → AllFail (F.tries fillings.now) (G.stream rng.old) }
     ensures failed { result ≡ Err Exhausted → (k : ℕ) → k < tries
         → F.known fillings.now (filling_at (F.tries fillings.now).make k (G.stream rng.old)) false }
-    ensures all_drawn { DrawsAll (F.tries fillings.now) G.stream rng.old rng.new result }
+    ensures all_drawn { result ≡ Err Exhausted
+        → G.stream rng.new ≡ stream_after (F.tries fillings.now).make tries (G.stream rng.old) }
 {
     for _attempt in 0..tries {
         let (filling, passes) = fillings.draw(alloc, rng)?;

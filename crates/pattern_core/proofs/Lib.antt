@@ -1,3 +1,4 @@
+pub mod FaultLemmas
 pub mod LineSteps
 pub mod NextLine
 pub mod LineVisits
@@ -6,6 +7,6 @@ pub mod SpelledRuns
 pub mod Words
 pub mod Spellings
 pub mod TableSteps
-pub mod Follows
+pub mod MeetLemmas
 pub mod Roomy
 pub mod Fresh

@@ -7,7 +7,7 @@ use Rattle.gameid_core.specs.Puzzles.{used}
 use Rattle.engine_core.specs.Filling.{Set, some_filling}
 use Rattle.engine_core.specs.Sets.{has_bit, set_of_bits}
 use Rattle.pattern_core.specs.declared.track.Spelling.{Spelling}
-use Rattle.pattern_core.specs.declared.track.Steps.{Steps}
+use Rattle.pattern_core.specs.declared.track.TrackSlots.{TrackSlots}
 
 -- 1 for each black cell of a run, and 0 for a white cell after it
 unfoldable pub spelled : List ℕ → List ℕ
@@ -36,7 +36,7 @@ track_of cells = record {
 }
 
 -- the steps along a clue, as sets of places, of which `has` tells what they have
-abbrev pub along : {A : Type 0} → (A → ℕ → Bool) → Steps A → Track
+abbrev pub along : {A : Type 0} → (A → ℕ → Bool) → TrackSlots A → Track
 along has steps =
     record {
       stay = has steps.stay;
@@ -86,7 +86,7 @@ pub record AreMoves (t : Track) (on stay : ℕ → ℕ → Bool) : Type 0 where
 unfoldable pub ahead : Track → ℕ → (ℕ → Bool) → ℕ → Bool
 ahead t set after p = (stays t set p && after p) || (goes_on t set p && after (suc p))
 
-abbrev pub AreAhead : {A : Type 0} → (A → ℕ → Bool) → Steps A → ℕ → A → A → Type 0
+abbrev pub AreAhead : {A : Type 0} → (A → ℕ → Bool) → TrackSlots A → ℕ → A → A → Type 0
 AreAhead has steps set after result =
     (p : ℕ) → has result p ≡ ahead (along has steps) set (has after) p
 
@@ -100,7 +100,7 @@ unfoldable pub led : Track → ℕ → (ℕ → Bool) → ℕ → Bool
 led t set reached p = (stays t set p && reached p) || one_on (λ q. goes_on t set q && reached q) p
 
 -- the places are those reached, of n
-abbrev pub AreLed : {A : Type 0} → ℕ → (A → ℕ → Bool) → Steps A → ℕ → A → A → Type 0
+abbrev pub AreLed : {A : Type 0} → ℕ → (A → ℕ → Bool) → TrackSlots A → ℕ → A → A → Type 0
 AreLed n has steps set reached result =
     (p : ℕ) → p < n → has result p ≡ led (along has steps) set (has reached) p
 

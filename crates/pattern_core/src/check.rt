@@ -2,7 +2,7 @@
 
 ghost use Rattle.std.specs.Prelude.{◌*◌};
 ghost use Rattle.grid_core.specs.Grids.{IsGrid};
-ghost use Rattle.pattern_core.specs.Faults.{IsCheck};
+ghost use Rattle.pattern_core.specs.Faults.{IsPatternFault};
 
 use crate::fault::PatternFault;
 use crate::line_clue::LineClue;
@@ -14,10 +14,10 @@ use grid_core::{Grid, line_count};
 ///
 /// The rule is that of the manual of Simon Tatham's Portable Puzzle Collection, "Pattern": the numbers beside a line
 /// are the lengths of its runs of consecutive black squares, in order.
-#[tactic(auto, using(crate::proofs::LineSteps::line_tests))]
+#[tactic(auto, using(crate::proofs::FaultLemmas::fault_laws))]
 pub fn check_pattern(puzzle: &PatternPuzzle, grid: &Grid) -> Option<PatternFault>
     requires { IsGrid (puzzle.now.size.w * puzzle.now.size.h) 2 grid.now }
-    ensures { IsCheck puzzle.now grid.now result }
+    ensures { IsPatternFault puzzle.now grid.now result }
 {
     let size = puzzle.size();
     let w = usize::from(size.w());

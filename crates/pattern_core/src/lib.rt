@@ -3,12 +3,12 @@
 
 mod check;
 mod fault;
-mod follow;
 mod laws;
 mod line_cells;
 mod line_clue;
 mod lines;
-mod places;
+mod meets;
+mod slots;
 mod table;
 mod track;
 

@@ -8,8 +8,8 @@ ghost use Rattle.gameid_core.specs.Puzzles.{IsPattern};
 ghost use Rattle.pattern_core.specs.Lines.{clue_of, has_runs, IsDecidedBy, IsRoomy};
 ghost use Rattle.pattern_core.specs.LineClues.{numbers_in};
 
-use crate::follow::follows;
-use crate::table::keep;
+use crate::meets::meets;
+use crate::table::filter;
 use crate::track::{SpelledClue, measured};
 use gameid_core::PatternPuzzle;
 use grid_core::{Grid, Size};
@@ -70,15 +70,15 @@ impl LineClue {
         }
     }
 
-    /// Keeps of each cell of a line the values that some filling with the clue's runs has there, as `table::keep` says.
-    pub(crate) fn keep(&self, sets: &mut [u32], rows: &mut Rows) -> bool
+    /// Keeps of each cell of a line the values that some filling with the clue's runs has there, as `table::filter` says.
+    pub(crate) fn filter(&self, sets: &mut [u32], rows: &mut Rows) -> bool
         requires { length sets.old ≤ max_side }
         ensures decided { IsDecidedBy (numbers_in self.now) sets.old sets.new }
         ensures unchanged { result ≡ false → sets.new ≡ sets.old }
     {
         match self {
-            LineClue::Short(clue) => keep(sets, clue, &mut rows.short),
-            LineClue::Long(clue) => keep(sets, clue, &mut rows.long),
+            LineClue::Short(clue) => filter(sets, clue, &mut rows.short),
+            LineClue::Long(clue) => filter(sets, clue, &mut rows.long),
         }
     }
 
@@ -89,8 +89,8 @@ impl LineClue {
         ensures { result ≡ has_runs (numbers_in self.now) (line_numbers size grid.now line) }
     {
         match self {
-            LineClue::Short(clue) => follows(size, grid, line, clue),
-            LineClue::Long(clue) => follows(size, grid, line, clue),
+            LineClue::Short(clue) => meets(size, grid, line, clue),
+            LineClue::Long(clue) => meets(size, grid, line, clue),
         }
     }
 }

@@ -16,7 +16,7 @@ ghost use Rattle.pattern_core.specs.LineRules.{line_rules, GoesAlong, CallsLine}
 use crate::line_cells::write_places;
 use crate::line_clue::{LONGEST, LineClue, Rows};
 use crate::table::BOTH;
-use engine_core::{Mode, Propagators, Rules, Searchable, TrailPosition, apply, gather, enqueue};
+use engine_core::{Mode, Propagators, Rules, Searchable, TrailPosition, apply, enqueue, gather};
 use gameid_core::PatternPuzzle;
 use grid_core::{Board, Grid, Size, line_count, line_len, line_place};
 use std::alloc::{AllocError, Global};
@@ -75,10 +75,6 @@ fn is_fresh(board: &Board, cells: usize) -> bool
 
 impl PatternLines {
     /// The rules of the puzzle.
-    ///
-    /// # Errors
-    ///
-    /// When memory was refused.
     pub fn new(alloc: Global, puzzle: &PatternPuzzle) -> Result<PatternLines, AllocError>
         ensures { IfOk result (λ rules. rules.pattern ≡ puzzle.now) }
     {
@@ -207,7 +203,7 @@ impl Rules for PatternLines {
         let (places, sets) = (&mut places[..cells], &mut sets[..cells]);
         write_places(size, house, places);
         gather(board, places, sets);
-        self.clue(house).keep(sets, &mut scratch.rows);
+        self.clue(house).filter(sets, &mut scratch.rows);
         apply(board, places, sets)
     }
 
@@ -252,7 +248,7 @@ impl Propagators for PatternLines {
         scratch: &mut LineScratch,
     ) -> bool {
         kept.copy_from_slice(sets);
-        self.clue(house).keep(kept, &mut scratch.rows)
+        self.clue(house).filter(kept, &mut scratch.rows)
     }
 
     fn watch(&self, board: &Board, counts: &mut LineCounts) {

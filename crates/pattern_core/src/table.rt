@@ -1,9 +1,9 @@
-//! The values that some filling of a line with its clue's runs shows, by a table over the line's places and the places
+//! The values that some filling of a line with its clue's runs shows, by a table over the line's cells and the slots
 //! along its clue.
 //!
-//! A line goes along the cells of its spelled clue (see `track`). A row of the table has one bit for each place along the
+//! A line goes along the cells of its spelled clue (see `track`). A row of the table has one bit for each slot along the
 //! clue, and is read and written as one word: it says from which of them the line can still come to the end of the clue.
-//! The rows are filled from the last cell backwards; then one word, the places that can be reached, goes forwards, and a
+//! The rows are filled from the last cell backwards; then one word, the slots that can be reached, goes forwards, and a
 //! value of a cell stays where the two meet. What a cell's set lets a line do is looked up by the set.
 
 ghost use Rattle.std.specs.Prelude.{◌≡◌, ◌<◌, false, length};
@@ -12,24 +12,24 @@ ghost use Rattle.engine_core.specs.Sets.{has_bit};
 ghost use Rattle.pattern_core.specs.Lines.{IsDecidedBy};
 ghost use Rattle.pattern_core.specs.Track.{along, spelled, track_of, AreMoves, AreAhead, AreLed, IsBelow, AreRows, AreKept};
 
-use crate::places::Places;
-use crate::track::{SpelledClue, Steps};
+use crate::slots::Slots;
+use crate::track::{SpelledClue, TrackSlots};
 
 /// The set of both values.
 pub(crate) const BOTH: u32 = 3;
 
-/// The steps of a line along a clue, and what a cell lets it do, looked up by the cell's set: from which places the line
+/// The steps of a line along a clue, and what a cell lets it do, looked up by the cell's set: from which slots the line
 /// goes on, and at which it may stay.
 #[derive(Drop)]
-struct Moves<P: Places> {
-    steps: Steps<P>,
+struct Moves<P: Slots> {
+    steps: TrackSlots<P>,
     on: P::Masks,
     stays: P::Masks,
     ghost are: { AreMoves (along P.has steps) (P.has_by on) (P.has_by stays) },
 }
 
 /// What a cell lets a line do along a clue.
-fn moves_of<P: Places>(clue: &SpelledClue<P>) -> Moves<P>
+fn moves_of<P: Slots>(clue: &SpelledClue<P>) -> Moves<P>
     ensures track { along P.has result.steps ≡ track_of (spelled clue.now) }
     ensures positive { AllByRecursion (λ n. 0 < n) clue.now }
     ensures below { IsBelow P.room (along P.has result.steps) }
@@ -42,32 +42,32 @@ fn moves_of<P: Places>(clue: &SpelledClue<P>) -> Moves<P>
     }
 }
 
-/// From which places there is a way to the end by a cell of this set, by those from which there is one after it.
+/// From which slots there is a way to the end by a cell of this set, by those from which there is one after it.
 #[tactic(auto, unfolding(crate::specs::Track::ahead))]
-fn ahead_of<P: Places>(moves: &Moves<P>, set: u32, after: P) -> P
+fn ahead_of<P: Slots>(moves: &Moves<P>, set: u32, after: P) -> P
     ensures { AreAhead P.has moves.now.steps set after result }
 {
     let next = P::mask(&moves.on, set).both(after.back());
     P::mask(&moves.stays, set).both(after).either(next)
 }
 
-/// Which places are reached by a cell of this set, by those that are reached before it.
-fn led_by<P: Places>(moves: &Moves<P>, set: u32, reached: P) -> P
+/// Which slots are reached by a cell of this set, by those that are reached before it.
+fn led_by<P: Slots>(moves: &Moves<P>, set: u32, reached: P) -> P
     ensures { AreLed P.room P.has moves.now.steps set reached result }
 {
     let next = P::mask(&moves.on, set).both(reached).on();
     P::mask(&moves.stays, set).both(reached).either(next)
 }
 
-/// The places to which a cell with both values leads: by white, and by black.
+/// The slots to which a cell with both values leads: by white, and by black.
 #[derive(Clone, Copy)]
 pub(crate) struct Ways<P> {
     pub(crate) white: P,
     pub(crate) black: P,
 }
 
-/// Where a cell with both values leads from the places that are reached before it.
-pub(crate) fn ways_of<P: Places>(steps: Steps<P>, reached: P) -> Ways<P>
+/// Where a cell with both values leads from the slots that are reached before it.
+pub(crate) fn ways_of<P: Slots>(steps: TrackSlots<P>, reached: P) -> Ways<P>
     ensures white { AreLed P.room P.has steps 1 reached result.white }
     ensures black { AreLed P.room P.has steps 2 reached result.black }
 {
@@ -87,7 +87,7 @@ fn set_of(white: bool, black: bool) -> u32
 }
 
 /// Fills the table, from the last cell backwards.
-fn fill_rows<P: Places>(moves: &Moves<P>, sets: &[u32], rows: &mut [P])
+fn fill_rows<P: Slots>(moves: &Moves<P>, sets: &[u32], rows: &mut [P])
     requires { length sets.now < length rows.old }
     ensures { AreRows P.has (along P.has moves.now.steps) sets.now rows.new 0 }
 {
@@ -99,9 +99,9 @@ fn fill_rows<P: Places>(moves: &Moves<P>, sets: &[u32], rows: &mut [P])
     }
 }
 
-/// Keeps of each cell what a way from the first place to the end shows there, and says whether one of them lost any. It asks
+/// Keeps of each cell what a way from the first slot to the end shows there, and says whether one of them lost any. It asks
 /// of no cell what it has, since that can't be foreseen.
-fn keep_cells<P: Places>(moves: &Moves<P>, sets: &mut [u32], rows: &[P]) -> bool
+fn filter_cells<P: Slots>(moves: &Moves<P>, sets: &mut [u32], rows: &[P]) -> bool
     requires rows { AreRows P.has (along P.has moves.now.steps) sets.old rows.now 0 }
     requires below { IsBelow P.room (along P.has moves.now.steps) }
     ensures kept { AreKept (along P.has moves.now.steps) sets.old sets.new (length sets.old) }
@@ -126,12 +126,12 @@ fn keep_cells<P: Places>(moves: &Moves<P>, sets: &mut [u32], rows: &[P]) -> bool
 /// Keeps of each cell of a line the values that some filling of the line with the clue's runs has there, and says whether
 /// there may be a cell that lost any. It takes no memory: the table is written into `rows`, one for each cell and one more. Its
 /// steps are two for each cell of the line, of a few word operations each.
-pub(crate) fn keep<P: Places>(sets: &mut [u32], clue: &SpelledClue<P>, rows: &mut [P]) -> bool
+pub(crate) fn filter<P: Slots>(sets: &mut [u32], clue: &SpelledClue<P>, rows: &mut [P]) -> bool
     requires room { length sets.old < length rows.old }
     ensures decided { IsDecidedBy clue.now sets.old sets.new }
     ensures unchanged { result ≡ false → sets.new ≡ sets.old }
 {
     let moves = moves_of(clue);
     fill_rows(&moves, sets, rows);
-    keep_cells(&moves, sets, rows)
+    filter_cells(&moves, sets, rows)
 }

@@ -8,20 +8,20 @@ ghost use Rattle.gameid_core.specs.Puzzles.{used};
 ghost use Rattle.pattern_core.specs.Lines.{IsRoomy, IsRoomyFrom};
 ghost use Rattle.pattern_core.specs.Track.{spelled, track_of, along, AddsCells, IsBelow};
 
-use crate::places::Places;
+use crate::slots::Slots;
 use std::marker::Model;
 
-/// How a line goes along a spelled clue: the places at which it may have one more white cell and stay, go on by a white
+/// How a line goes along a spelled clue: the slots at which it may have one more white cell and stay, go on by a white
 /// cell, go on by a black one, and end.
 #[derive(Clone, Copy)]
-pub(crate) struct Steps<P> {
+pub(crate) struct TrackSlots<P> {
     pub(crate) stay: P,
     pub(crate) white: P,
     pub(crate) black: P,
     pub(crate) ends: P,
 }
 
-/// What is spelled so far: its white places, its black ones, and the place after it.
+/// What is spelled so far: its white slots, its black ones, and the slot after it.
 #[derive(Clone, Copy)]
 struct Spelling<P> {
     white: P,
@@ -30,7 +30,7 @@ struct Spelling<P> {
 }
 
 /// Adds a black cell.
-fn push_black<P: Places>(spelling: Spelling<P>) -> Spelling<P>
+fn push_black<P: Slots>(spelling: Spelling<P>) -> Spelling<P>
     ensures { AddsCells P.has P.room 0 (1 ∷ []) spelling result }
 {
     Spelling {
@@ -41,7 +41,7 @@ fn push_black<P: Places>(spelling: Spelling<P>) -> Spelling<P>
 }
 
 /// Adds a white cell.
-fn push_white<P: Places>(spelling: Spelling<P>) -> Spelling<P>
+fn push_white<P: Slots>(spelling: Spelling<P>) -> Spelling<P>
     ensures { AddsCells P.has P.room 0 (0 ∷ []) spelling result }
 {
     Spelling {
@@ -52,7 +52,7 @@ fn push_white<P: Places>(spelling: Spelling<P>) -> Spelling<P>
 }
 
 /// Adds the black cells of a run and the white cell after it.
-fn push_run<P: Places>(spelling: Spelling<P>, number: u8) -> Spelling<P>
+fn push_run<P: Slots>(spelling: Spelling<P>, number: u8) -> Spelling<P>
     ensures { AddsCells P.has P.room number (replicate number 1 ++ 0 ∷ []) spelling result }
 {
     let mut longer = spelling;
@@ -63,7 +63,7 @@ fn push_run<P: Places>(spelling: Spelling<P>, number: u8) -> Spelling<P>
 }
 
 /// Spells a clue.
-fn spell<P: Places>(clue: &[u8]) -> Steps<P>
+fn spell<P: Slots>(clue: &[u8]) -> TrackSlots<P>
     requires { used clue.now < P.room }
     ensures { along P.has result ≡ track_of (spelled clue.now) }
 {
@@ -75,7 +75,7 @@ fn spell<P: Places>(clue: &[u8]) -> Steps<P>
     for k in 0..clue.len() {
         cells = push_run(cells, clue[k]);
     }
-    Steps {
+    TrackSlots {
         stay: cells.white.on().either(P::first()),
         white: cells.white,
         black: cells.black,
@@ -111,12 +111,12 @@ pub(crate) fn measured(numbers: &[u8]) -> (usize, usize)
 /// A line's clue, spelled once for all visits, and from how many cells on a line is roomy for it. Its numbers are the runs
 /// of the black cells that are spelled.
 #[derive(Drop)]
-pub(crate) struct SpelledClue<P: Places> {
-    steps: Steps<P>,
+pub(crate) struct SpelledClue<P: Slots> {
+    steps: TrackSlots<P>,
     roomy_from: usize,
 }
 
-impl<P: Places> Model for SpelledClue<P> {
+impl<P: Slots> Model for SpelledClue<P> {
     ghost use Rattle.std.specs.Prelude.{◌≡◌, ℕ, List};
     ghost use Rattle.pattern_core.specs.Lines.{IsRoomyFrom};
     ghost use Rattle.pattern_core.specs.Track.{along, clue_along, IsTrack};
@@ -129,7 +129,7 @@ impl<P: Places> Model for SpelledClue<P> {
         × IsRoomyFrom (clue_along P.room (along P.has c.steps)) c.roomy_from };
 }
 
-impl<P: Places> SpelledClue<P> {
+impl<P: Slots> SpelledClue<P> {
     /// The clue with these numbers, for which a line of so many cells is roomy, and each longer one.
     pub(crate) fn new(numbers: &[u8], roomy_from: usize) -> SpelledClue<P>
         requires positive { AllByRecursion (λ n. 0 < n) numbers.now }
@@ -153,7 +153,7 @@ impl<P: Places> SpelledClue<P> {
 
     /// How a line goes along the clue.
     #[tactic(auto, using(crate::proofs::Spellings::track_under))]
-    pub(crate) fn steps(&self) -> Steps<P>
+    pub(crate) fn steps(&self) -> TrackSlots<P>
         ensures track { along P.has result ≡ track_of (spelled self.now) }
         ensures positive { AllByRecursion (λ n. 0 < n) self.now }
         ensures below { IsBelow P.room (along P.has result) }

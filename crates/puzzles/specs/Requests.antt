@@ -9,7 +9,7 @@ use Rattle.clap.specs.Walk.{Row, Text, first_of}
 use Rattle.gameid_core.specs.declared.id.game.Game.{Game}
 use Rattle.puzzles.specs.CommandLine.{parsed}
 use Rattle.commands.specs.Asked.{Asked, solve, check, grade, generate}
-use Rattle.commands.specs.Games.{game_of, usual_black}
+use Rattle.commands.specs.Games.{game_named, usual_black}
 use Rattle.puzzles.specs.declared.words.Request.{Request}
 use Rattle.puzzles.specs.declared.words.Request.TheVariants as request
 
@@ -35,7 +35,7 @@ asked_in (request.Generate game size recipe) =
     generate game size.now recipe.seed recipe.limits.budget recipe.limits.tries recipe.black.value
 
 abbrev pub game_in : List Row → Option Game
-game_in rows = option_and_then game_of (first_of (codes "game") rows)
+game_in rows = option_and_then game_named (first_of (codes "game") rows)
 
 -- 0 to 18,446,744,073,709,551,615, and 100,000 where nothing is said
 abbrev pub budget_in : List Row → Option ℕ

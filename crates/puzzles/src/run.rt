@@ -1,36 +1,32 @@
 //! One run of the program.
-ghost use Rattle.std.specs.Prelude.{◌≡◌, ◌<◌, ◌≤◌, true, false, option_map, IfOk};
-ghost use Rattle.commands.specs.Answers.{BeginsAnswer, Text, answer_with};
-ghost use Rattle.commands.specs.Allowed.{Allows, is_put_whole, reads_input};
+ghost use Rattle.std.specs.Prelude.{◌≡◌, ◌<◌, ◌≤◌, true, false, IfErr, IfOk};
+ghost use Rattle.commands.specs.Answers.{BeginsAnswer, Delivers, answer_with};
+ghost use Rattle.commands.specs.Allowed.{Allows, reads_input};
 ghost use Rattle.commands.specs.Replies.{answer_in};
-ghost use Rattle.puzzles.specs.Requests.{asked_in, request_of};
+ghost use Rattle.puzzles.specs.Requests.{request_of};
 ghost use Rattle.commands.specs.Runs.{AreNew, IsBroken, Ran};
-ghost use Rattle.commands.specs.Stops.{LeavesEnds, Runs};
+ghost use Rattle.commands.specs.Stops.{LeavesEnds, LeavesSink, status_in};
 
 use crate::ends::read_end::ReadEnd;
 use crate::ends::write_end::WriteEnd;
 use crate::words::{Request, read_words};
+use commands::laws::each_request_has_an_answer;
 use commands::{
-    BROKEN, Ended, NO_MEMORY, Reply, Sink, Source, Status, Stores, check_id, deliver,
-    each_request_has_an_answer, generated, grade_id, solve_lines, words_reply,
+    BROKEN, NO_MEMORY, Reply, RunResult, Sink, Source, Status, Stores, check_id, deliver,
+    generated, grade_id, solve_lines, words_reply,
 };
 use std::alloc::{AllocError, Global};
 
-/// The answer to a request that is made whole before it is put, and leaves the input unread.
-fn reply_to(alloc: Global, request: Option<Request<'_>>) -> Result<Reply, AllocError>
-    requires { is_put_whole (option_map asked_in request) ≡ true }
-    ensures { IfOk result (λ r. (input : Text)
-        → Allows (option_map asked_in request.entry) input (answer_in r)) }
+/// Puts an answer that was made whole, if there was memory for it.
+fn put_reply<O: Sink>(reply: Result<Reply, AllocError>, output: &mut O) -> RunResult
+    requires { O.has_failed output.old ≡ false }
+    ensures put { IfOk reply.entry (λ r. Delivers O.takes output.old (answer_in r) output.new
+        (status_in result)) }
+    ensures unmade { IfErr reply.entry (λ _. (output.new ≡ output.old)
+        × (status_in result ≡ NO_MEMORY)) }
+    ensures left { LeavesSink O.Sink output.new result }
 {
-    match request {
-        Some(Request::Solve { task, id: Some(id) }) => {
-            Stores::default().solve_id(alloc, task, id.as_bytes(), String::new(alloc))
-        }
-        Some(Request::Generate { game, size, recipe }) => {
-            generated(alloc, game, size.as_bytes(), recipe)
-        }
-        _ => words_reply(String::new(alloc), "refused: words\n", Status::Refused),
-    }
+    deliver(output, &reply?)
 }
 
 /// Does what the words after the program's name ask for, as `run` says.
@@ -39,26 +35,29 @@ fn answer<I: Source, O: Sink>(
     words: &[String],
     input: &mut I,
     output: &mut O,
-) -> Ended
+) -> RunResult
     requires { AreNew I.Source O.Sink input.old output.old }
-    ensures ran { Runs I.Source O.Sink (Allows (request_of words.now))
-        input.old input.new output.old output.new result }
+    ensures ran { Ran I.Source O.Sink (Allows (request_of words.now))
+        input.old input.new output.old output.new (status_in result) }
     ensures left { LeavesEnds I.Source O.Sink (reads_input (request_of words.now))
         input.new output.new result }
 {
     each_request_has_an_answer();
-    let request = read_words(alloc, words)?;
-    if let Some(Request::Solve { task, id: None }) = request {
-        return solve_lines(alloc, task, input, output);
+    let text = String::new(alloc);
+    match read_words(alloc, words)? {
+        Some(Request::Solve { task, id: Some(id) }) => {
+            put_reply(Stores::default().solve_id(alloc, task, id.as_bytes(), text), output)
+        }
+        Some(Request::Solve { task, id: None }) => solve_lines(alloc, task, input, output),
+        Some(Request::Check { game, id }) => check_id(alloc, game, id.as_bytes(), input, output),
+        Some(Request::Grade { game, id, options }) => {
+            grade_id(alloc, game, id.as_bytes(), options, output)
+        }
+        Some(Request::Generate { game, size, recipe }) => {
+            put_reply(generated(alloc, game, size.as_bytes(), recipe), output)
+        }
+        None => put_reply(words_reply(text, "refused: words\n", Status::Refused), output),
     }
-    if let Some(Request::Grade { game, id, options }) = request {
-        return grade_id(alloc, game, id.as_bytes(), options, output);
-    }
-    if let Some(Request::Check { game, id }) = request {
-        return check_id(alloc, game, id.as_bytes(), input, output);
-    }
-    let reply = reply_to(alloc, request)?;
-    deliver(output, &reply)
 }
 
 /// Does what the words after the program's name ask for, and gives the status: 0 to 4 where the

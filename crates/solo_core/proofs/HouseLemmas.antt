@@ -84,6 +84,9 @@ module _ (p : Solo) where
 pub first_at : (some more : List House) (h : ℕ) → h < length some → house_of some h ≡ house_of (some ++ more) h
 first_at some more h lt = sym (get_or_append_left some more no_house h lt)
 
+pub later_at : (some more : List House) (h : ℕ) → length some ≤ h → house_of more (h - length some) ≡ house_of (some ++ more) h
+later_at some more h le = sym (get_or-append_right some more (length some) h no_house refl le)
+
 -- ---- all scopes by their numbers
 module _ (p : Solo) where
   pub filled-length : length (filled_houses p) ≡ length (houses_of p)

@@ -1,14 +1,14 @@
 -- The lemmas by which the functions of a file are proved.
 use Rattle.solo_core.specs.Common.{bits-both, bits-either, bits-of_zero}
 use Rattle.solo_core.specs.SolutionLaws.{test_from_rule, rule_from_test}
-use Rattle.solo_core.proofs.RepeatLemmas.{no_test, first_fault, solved, len_of, number_at, seen_none, seen_more, seen_again, seen_all, first_house, fine_more}
+use Rattle.solo_core.proofs.RepeatLemmas.{given_first, len_of, number_at, seen_none, seen_more, seen_again, seen_all, fine_more}
 use Rattle.solo_core.proofs.HouseLemmas.{listed-none, listed-all, crossings-length, scopes-length, first_at, crossings-counted, house-named, scope-named, first-at, second-at, crossing-after, all-length, filled-length}
 use Rattle.solo_core.specs.HouseLaws.{lists_house, listed-has, listed-same, row_in, column_in}
 use Rattle.solo_core.proofs.CrossingLemmas.{any-more, any-none, cut_by, crossing-is, crossings-listed, rest-out, rest-in, rest-all, shared-below, shared-above}
 use Rattle.solo_core.specs.BoundLaws.{house_count, bound_is}
 use Rattle.solo_core.proofs.SinglesLemmas.{singles_in_houses}
 use Rattle.solo_core.specs.RuleLaws.{houses_lawful, singles_lawful, crossings_lawful}
-use Rattle.solo_core.proofs.DecidingLemmas.{length-deciding, decides-at, long-at, listed-crossings, listed-deciding}
+use Rattle.solo_core.proofs.DecidingLemmas.{length-deciding, decides-at, kept-houses, long-at, listed-crossings, listed-deciding}
 use Rattle.solo_core.proofs.MateLemmas.{rest-more, rest-same, rest-apart}
 use Rattle.solo_core.proofs.PeelLemmas.{alone-none, alone-lone, alone-more, counts-none, counts-more, peeled-step, counts-same, peeled-none, peeled-more}
 use Rattle.solo_core.proofs.QuickLemmas.{goes_on_free, begun-none, goes_on_swapped}
@@ -17,7 +17,7 @@ use Rattle.solo_core.proofs.Marks.{bits_joined, over_alone}
 use Rattle.solo_core.proofs.StartLemmas.{started, started-none, started-all, started-blank, started-given, started-there}
 use Rattle.solo_core.proofs.Turned.{after-root, before-root, in_ends, after-step, before-step}
 
-pub ruleset check_laws = (test_from_rule, no_test, first_fault, solved, len_of, number_at, seen_none, seen_more, seen_again, seen_all, first_house, fine_more)
+pub ruleset check_laws = (given_first, len_of, number_at, seen_none, seen_more, seen_again, seen_all, fine_more)
 
 pub ruleset crossing_laws = (bits_joined, bits-both, bits-of_zero, any-none, any-more, cut_by, crossings-length, listed-same, lists_house, scopes-length, shared-below, shared-above)
 
@@ -37,6 +37,6 @@ pub ruleset scopes_laws = (column_in, first-at, second-at, scopes-length, row_in
 
 pub ruleset start_laws = (started, started-none, started-all, started-blank, started-given, started-there)
 
-pub ruleset strikes_laws = (decides-at, long-at, first_at, filled-length, listed-crossings, listed-deciding)
+pub ruleset rule_sets_laws = (decides-at, long-at, first_at, filled-length, listed-crossings, listed-deciding, kept-houses)
 
 pub ruleset turning_laws = (after-root, before-root, in_ends, after-step, before-step, bits-either, bits-both)

@@ -1,15 +1,20 @@
 -- What a house that holds a number twice says of the grid, and what a house that does not rules out.
-use Rattle.std.proofs.Common.{◌≡◌, ℕ, suc, ◌+◌, ◌<◌, ◌≤◌, true, false, not, ◌||◌, eqb, List, [], ◌∷◌, length, get_or, slice_index, Some, sym, ap, ◌∙◌, inl, inr, arith}
+use Rattle.std.proofs.Common.{◌≡◌, ℕ, suc, ◌+◌, ◌<◌, ◌≤◌, true, false, not, ◌||◌, eqb, List, [], ◌∷◌, length, get_or, slice_index, Bool, Option, None, Some, is_some, refl, subst, ◌++◌, sym, ap, ◌∙◌, inl, inr, arith}
 use Rattle.solo_core.specs.Common.{list_any, cases_eq, and_cases, or_cases, eqb-true, true≢false, not-false, false_from_ne_true, nat_tests, get_or-map}
 use Rattle.solo_core.specs.Common.{length-map, get_or_default, has_bit, bits-of_zero, IsGrid, Solo, IsSolo, solo_n, NamedHouse, Row, Column, Block, Diagonal}
-use Rattle.solo_core.specs.Common.{solo_cells, houses_of, IsHouseOf, lies_in, places_of, numbers_of, IsSoloSolution, is_solo_solution, no_repeat}
+use Rattle.solo_core.specs.Common.{solo_cells, houses_of, IsHouseOf, lies_in, places_of, numbers_of, IsSoloSolution, given_stands, is_solo_solution, no_repeat}
 use Rattle.grid_core.proofs.ShortSets.{contains_from_member}
 use Rattle.solo_core.specs.declared.fault.SoloFault.{SoloFault}
-use Rattle.solo_core.specs.declared.fault.SoloFault.TheVariants.{Given, Row as BadRow, Column as BadColumn, Block as BadBlock, Diagonal as BadDiagonal}
-use Rattle.solo_core.specs.SolutionLaws.{differ_in, rule_from_test}
+use Rattle.solo_core.specs.declared.fault.SoloFault.TheVariants.{Given}
+use Rattle.solo_core.specs.SolutionLaws.{differ_in, given_from_test, rule_from_test, test_from_rule}
 use Rattle.solo_core.specs.HouseLaws.{lists_house, all_houses, each_house}
 use Rattle.solo_core.specs.NoRepeatLaws.{different_from_no_repeat, no_repeat_from_different}
-use Rattle.solo_core.specs.Faults.{AllStand, Repeats, RepeatsFirst, IsFirstFault, fault_of}
+use Rattle.solo_core.specs.Faults.{FailsSolo, IsSoloFault, Repeats, fault_of, given_tests, house_tests}
+use Rattle.std.specs.List.{AllByRecursion}
+use Rattle.std.proofs.lemmas.List.Elements.{All-map, recursion_from_All}
+use Rattle.gameid_core.specs.FirstFailed.{IsFirstFailed, IsFirstOf, NoneFails}
+use Rattle.gameid_core.proofs.FirstFailed.{Holds, IsKnown, IsMade, Kind, all_split, each, first_at, first_each, first_front, first_rest, known_tests, none_held, none_tells, right_none}
+use Rattle.gameid_core.proofs.Lists.{AllByRecursion-append, all_at}
 
 -- where the numbers repeat, two entries are equal
 pub repeat_found : (xs : List ℕ) → no_repeat xs ≡ false → (i : ℕ) × (j : ℕ) × (i < j) × (j < length xs) × (get_or xs i 0 ≡ get_or xs j 0)
@@ -91,42 +96,91 @@ module _ (p : Solo) (ok : IsSolo p) (g : List ℕ) where
   none_repeats : (house : NamedHouse) → IsHouseOf p house → no_repeat (numbers_of p g house) ≡ true → Repeats p g house → ⊥
   none_repeats house is holds (j, k, lj, lk, ne, a, b, same) = differ_in (places_of p house) (solo_n p) (solo_cells p) (lies_in p house) (lists_house p ok house is) g holds j k lj lk ne a b same
 
-  pub first_house : (h : ℕ) (house : NamedHouse) → h < length (houses_of p) → house ≡ get_or (houses_of p) h house → no_repeat (numbers_of p g house) ≡ false
-      → ((i : ℕ) (d : NamedHouse) → i < h → no_repeat (numbers_of p g (get_or (houses_of p) i d)) ≡ true) → RepeatsFirst p g house
-  first_house h house lt is broken before = (
-    h,
-    lt,
-    is,
-    repeats_in house (rw (sym is) at (all_houses p h house lt)) broken,
-    λ i below. none_repeats (get_or (houses_of p) i house) (all_houses p i house (omega arith)) (before i house below),
-  )
+  fault_fails : (house : NamedHouse) → Repeats p g house → FailsSolo p g (fault_of house)
+  fault_fails (Row y) again = again
+  fault_fails (Column i) again = again
+  fault_fails (Block b) again = again
+  fault_fails (Diagonal d) again = again
 
-  pub first_fault : AllStand p g → (house : NamedHouse) → RepeatsFirst p g house → IsFirstFault p g (Some (fault_of house))
-  first_fault stand (Row y) first = (stand, first)
-  first_fault stand (Column i) first = (stand, first)
-  first_fault stand (Block b) first = (stand, first)
-  first_fault stand (Diagonal d) first = (stand, first)
+  fault_holds : (house : NamedHouse) → (Repeats p g house → ⊥) → FailsSolo p g (fault_of house) → ⊥
+  fault_holds (Row y) none fails = none fails
+  fault_holds (Column i) none fails = none fails
+  fault_holds (Block b) none fails = none fails
+  fault_holds (Diagonal d) none fails = none fails
 
-  pub solved : IsGrid (solo_cells p) (solo_n p) g → AllStand p g → ((h : ℕ) (d : NamedHouse) → h < length (houses_of p) → no_repeat (numbers_of p g (get_or (houses_of p) h d)) ≡ true) → IsSoloSolution p g
-  solved grid stand fine = record {
-    grid = grid;
-    givens = stand;
-    different = λ house is j k lj lk ne a b same. none_repeats house is (each_house p (λ h. no_repeat (numbers_of p g h) ≡ true) fine house is) (j, k, lj, lk, ne, a, b, same);
-  }
+  abbrev Holding : SoloFault → Type 0
+  Holding test = Holds (FailsSolo p g) test
 
-  -- a grid with a fault is no solution
-  repeats_no_solution : (house : NamedHouse) → RepeatsFirst p g house → IsSoloSolution p g → ⊥
-  repeats_no_solution house (h, lt, is, (j, k, lj, lk, ne, a, b, same), before) s = s.different house (rw (sym is) at (all_houses p h house lt)) j k lj lk ne a b same
+  -- what is so of each house is so of its test
+  house_by : (P : SoloFault → Type 0) → ((h : ℕ) (d : NamedHouse) → h < length (houses_of p) → P (fault_of (get_or (houses_of p) h d))) → AllByRecursion P (house_tests p)
+  house_by P each = recursion_from_All P (house_tests p) (All-map P fault_of (houses_of p) each)
 
-  no_solution : (fault : SoloFault) → IsFirstFault p g (Some fault) → IsSoloSolution p g → ⊥
-  no_solution (Given place) w s = w.1 (s.givens place w.0)
-  no_solution (BadRow y) w s = repeats_no_solution (Row y) w.1 s
-  no_solution (BadColumn i) w s = repeats_no_solution (Column i) w.1 s
-  no_solution (BadBlock b) w s = repeats_no_solution (Block b) w.1 s
-  no_solution (BadDiagonal d) w s = repeats_no_solution (Diagonal d) w.1 s
+  test_of_house : AllByRecursion Holding (house_tests p) → (h : ℕ) (d : NamedHouse) → h < length (houses_of p) → Holding (fault_of (get_or (houses_of p) h d))
+  test_of_house none h d lt = subst Holding (get_or-map fault_of (houses_of p) h d (fault_of d) lt) (all_at Holding (fault_of d) (house_tests p) h none (rw length-map lt))
 
-  pub no_test : (fault : SoloFault) → IsGrid (solo_cells p) (solo_n p) g → IsFirstFault p g (Some fault) → false ≡ is_solo_solution p g
-  no_test fault grid w = sym (false_from_ne_true (is_solo_solution p g) (λ on. no_solution fault w (rule_from_test p ok g grid on)))
+  abbrev givens : Kind SoloFault
+  givens = record { test = Given; count = solo_cells p; right = given_stands p g }
+
+  made : AllByRecursion (IsMade (FailsSolo p g)) (givens ∷ [])
+  made = (record { failed = λ c lt off. grind (arith, nat_tests); held = λ c lt on (some, other). other (given_from_test p g c on some) }, tt)
+
+  abbrev no_repeat_in : NamedHouse → Bool
+  no_repeat_in house = no_repeat (numbers_of p g house)
+
+  -- ---- what is found
+  pub given_first : (place : ℕ) → place < solo_cells p → FailsSolo p g (Given place) → ((q : ℕ) → q < place → Holding (Given q)) → IsFirstOf (FailsSolo p g) (given_tests p) (Some (Given place))
+  given_first place lt failed before = first_front (FailsSolo p g) (each givens) [] (Given place) (first_each (FailsSolo p g) givens place lt failed before)
+
+  pub givens_stand : ((q : ℕ) → q < solo_cells p → Holding (Given q)) → IsFirstOf (FailsSolo p g) (given_tests p) None
+  givens_stand held = none_held (FailsSolo p g) (givens ∷ []) (held, tt)
+
+  pub house_first : (h : ℕ) (house : NamedHouse) → h < length (houses_of p) → house ≡ get_or (houses_of p) h house → no_repeat_in house ≡ false
+      → ((i : ℕ) (d : NamedHouse) → i < h → no_repeat_in (get_or (houses_of p) i d) ≡ true) → IsFirstOf (FailsSolo p g) (house_tests p) (Some (fault_of house))
+  house_first h house lt is broken before =
+      let at : (i : ℕ) → i < length (houses_of p) → get_or (house_tests p) i (fault_of house) ≡ fault_of (get_or (houses_of p) i house) = λ i below. get_or-map fault_of (houses_of p) i house (fault_of house) below in
+      let here : get_or (house_tests p) h (fault_of house) ≡ fault_of house = at h lt ∙ ap fault_of (sym is) in
+      let failed = fault_fails house (repeats_in house (rw (sym is) at (all_houses p h house lt)) broken) in
+      subst (IsFirstFailed (FailsSolo p g) (house_tests p)) here
+      (first_at (FailsSolo p g) (house_tests p) h (fault_of house) (rw length-map lt) (subst (FailsSolo p g) (sym here) failed)
+      (λ i low fails. fault_holds (get_or (houses_of p) i house) (none_repeats (get_or (houses_of p) i house) (all_houses p i house (omega arith)) (before i house low))
+      (subst (FailsSolo p g) (at i (omega arith)) fails)))
+
+  pub houses_differ : ((h : ℕ) (d : NamedHouse) → h < length (houses_of p) → no_repeat_in (get_or (houses_of p) h d) ≡ true) → IsFirstOf (FailsSolo p g) (house_tests p) None
+  houses_differ fine = house_by Holding (λ h d lt. fault_holds (get_or (houses_of p) h d) (none_repeats (get_or (houses_of p) h d) (all_houses p h d lt) (fine h d lt)))
+
+  -- ---- the grids that no test fails are the solutions
+  pub solo_sound : IsGrid (solo_cells p) (solo_n p) g → NoneFails (FailsSolo p g) (given_tests p ++ house_tests p) → IsSoloSolution p g
+  solo_sound grid none =
+      let both = all_split Holding (given_tests p) (house_tests p) none in
+      record {
+        grid = grid;
+        givens = λ place lt. given_from_test p g place ((right_none (FailsSolo p g) (givens ∷ []) made both.0).0 place lt);
+        different = λ house is j k lj lk ne a b same. each_house p (λ h. Holding (fault_of h)) (test_of_house both.1) house is (fault_fails house (j, k, lj, lk, ne, a, b, same));
+      }
+
+  pub solo_none : IsSoloSolution p g → NoneFails (FailsSolo p g) (given_tests p ++ house_tests p)
+  solo_none s = AllByRecursion-append Holding (given_tests p) (house_tests p) (givens_stand (λ place lt (some, other). other (s.givens place lt some)))
+      (house_by Holding (λ h d lt. fault_holds (get_or (houses_of p) h d) (λ (j, k, lj, lk, ne, a, b, same). s.different (get_or (houses_of p) h d) (all_houses p h d lt) j k lj lk ne a b same)))
+
+  pub solo_known : AllByRecursion (IsKnown (FailsSolo p g)) (given_tests p ++ house_tests p)
+  solo_known = AllByRecursion-append _ (given_tests p) (house_tests p) (known_tests (FailsSolo p g) (givens ∷ []) made)
+      (house_by (IsKnown (FailsSolo p g)) (λ h d lt. by (get_or (houses_of p) h d) (all_houses p h d lt) (no_repeat_in (get_or (houses_of p) h d)) refl))
+    where
+      by : (house : NamedHouse) → IsHouseOf p house → (b : Bool) → no_repeat_in house ≡ b → IsKnown (FailsSolo p g) (fault_of house)
+      by house is true on = inr (fault_holds house (none_repeats house is on))
+      by house is false off = inl (fault_fails house (repeats_in house is off))
+
+  -- the first given that fails, or else the first house
+  pub broken_first : (fault : SoloFault) → IsFirstOf (FailsSolo p g) (given_tests p) (Some fault) → IsSoloFault p g (Some fault)
+  broken_first fault first = first_front (FailsSolo p g) (given_tests p) (house_tests p) fault first
+
+  pub house_after : IsGrid (solo_cells p) (solo_n p) g → IsFirstOf (FailsSolo p g) (given_tests p) None → (fault : Option SoloFault) → IsFirstOf (FailsSolo p g) (house_tests p) fault
+      → IsSoloFault p g fault
+  house_after grid stand None none = solo_sound grid (AllByRecursion-append Holding (given_tests p) (house_tests p) stand none)
+  house_after grid stand (Some fault) first = first_rest (FailsSolo p g) (given_tests p) (house_tests p) fault stand first
+
+  pub solo_tells : IsGrid (solo_cells p) (solo_n p) g → (fault : Option SoloFault) (told : Bool) → IsSoloFault p g fault → is_some fault ≡ not told → told ≡ is_solo_solution p g
+  solo_tells grid fault told is e = none_tells (FailsSolo p g) (given_tests p ++ house_tests p) solo_none told (is_solo_solution p g) (rule_from_test p ok g grid) (test_from_rule p ok g) fault is e
 
 -- one house more that repeats nothing
 pub fine_more : (p : Solo) (g : List ℕ) (k : ℕ) (house : NamedHouse) → k < length (houses_of p) → house ≡ get_or (houses_of p) k house → no_repeat (numbers_of p g house) ≡ true

@@ -1,11 +1,13 @@
 -- The laws that every rule set keeps to, for the rule sets of Solo.
-use Rattle.std.proofs.Common.{◌≡◌, ℕ, ◌+◌, ◌*◌, ◌/◌, ◌%◌, ◌<◌, Bool, true, false, ltb, List, ◌++◌, map, length, get_or, slice_index, sym, ◌∙◌, arith, All}
+use Rattle.std.proofs.Common.{◌≡◌, ℕ, ◌+◌, ◌*◌, ◌/◌, ◌%◌, ◌<◌, Bool, true, false, ltb, List, ◌++◌, map, length, get_or, slice_index, refl, sym, ◌∙◌, arith, All}
 use Rattle.solo_core.specs.Common.{range_with_len, and_parts, ltb-true, true≢false, nat_tests, mul-le, get_or-map, length-map, All-append, All-map, IsInside}
 use Rattle.solo_core.specs.Common.{IsWithin, single, IsGrid, Solo, IsSolo, solo_n, IsLawful, strikes_by_fillings, Decision, IsMonotone, House, IsSettled, Keeps}
 use Rattle.solo_core.specs.Common.{IsSound, IsSetting, NamedHouse, Row, Column, Block, solo_cells, houses_of, IsHouseOf, lies_in, places_of, numbers_of}
 use Rattle.solo_core.specs.Common.{is_solo_solution, no_repeat}
 use Rattle.grid_core.proofs.GridLemmas.{single-is}
 use Rattle.engine_core.specs.HouseSetsLaws.{by_fillings-monotone}
+use Rattle.engine_core.specs.ListedHouses.{AreScopesOf, all_places, most_turns}
+use Rattle.engine_core.specs.ListedLaws.{listed-bound, listed-scopes}
 use Rattle.engine_core.specs.HouseRulesLaws.{by_houses-lawful, bound_enough, by_fillings-settles, by_fillings-keeps}
 use Rattle.solo_core.specs.RuleSets.{start, house_by, house_at, deciding, crossings_of, setting_of, rules_of, singles_rules, houses_rules, crossings_rules}
 use Rattle.solo_core.specs.declared.houses.scope.VisitName.{VisitName}
@@ -16,6 +18,13 @@ use Rattle.solo_core.specs.Singles.{strikes_by_singles}
 use Rattle.solo_core.specs.SinglesLaws.{singles-monotone, singles-keeps}
 use Rattle.solo_core.specs.Crossing.{crossing, is_shared, in_block_alone, in_line_alone}
 use Rattle.solo_core.specs.CrossingLaws.{crossing-monotone, crossing-settles, crossing-within, crossing-different, crossing-sound, HoldsEach}
+
+-- ---- the lists of the houses' places
+pub listed_in_rules : (settled : Bool) (p : Solo) (houses : List House) → AreScopesOf (rules_of settled p houses) (all_places houses)
+listed_in_rules settled p houses = listed-scopes (setting_of settled p houses) houses
+
+pub bound_of_rules : (settled : Bool) (p : Solo) (houses : List House) → (rules_of settled p houses).bound ≡ most_turns (rules_of settled p houses) (all_places houses)
+bound_of_rules settled p houses = listed-bound (setting_of settled p houses) houses refl refl
 
 module _ (p : Solo) (ok : IsSolo p) where
   -- ---- the start

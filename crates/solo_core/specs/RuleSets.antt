@@ -70,10 +70,6 @@ crossings_of p = map (house_at p) (crossing_scopes p)
 abbrev pub crossings_rules : Solo → RuleSystem
 crossings_rules p = rules_of true p (filled_houses p ++ crossings_of p)
 
--- the rules by what the houses of a puzzle are
-abbrev pub rules_by : Bool → (Solo → List House) → Solo → RuleSystem
-rules_by settled houses p = rules_of settled p (houses p)
-
 -- the bits are those of the block's cells that are the line's too
 abbrev pub AreShared : Solo → ℕ → NamedHouse → ℕ → Type 0
 AreShared p block line bits = (k : ℕ) → k < solo_n p → has_bit bits k

@@ -4,7 +4,8 @@
 ghost use Rattle.std.specs.Prelude.{◌≡◌};
 ghost use Rattle.solo_core.specs.Common.{IsGrid, IsSolo, solo_n, solo_cells, IsHouseOf, numbers_of};
 ghost use Rattle.solo_core.specs.Common.{is_solo_solution, no_repeat};
-ghost use Rattle.solo_core.specs.Faults.{IsFirstFallen, IsFirstRepeating, IsFirstFault, fault_of as fault_of_house};
+ghost use Rattle.gameid_core.specs.FirstFailed.{IsFirstOf};
+ghost use Rattle.solo_core.specs.Faults.{FailsSolo, IsSoloFault, fault_of as fault_of_house, given_tests, house_tests};
 
 use crate::fault::SoloFault;
 use crate::houses::house::NamedHouse;
@@ -21,22 +22,13 @@ use grid_core::Grid;
 /// every number once, and in Solo X each of both main diagonals too.
 pub fn check_solo(puzzle: &SoloPuzzle, grid: &Grid) -> Option<SoloFault>
     requires fits { IsGrid (solo_cells puzzle.now) (solo_n puzzle.now) grid.now }
-    ensures { IsFirstFault puzzle.now grid.now result }
-{
-    first_fault(puzzle, grid)
-}
-
-/// The same answer, and that the puzzle is lawful, on which `accepts` relies.
-fn first_fault(puzzle: &SoloPuzzle, grid: &Grid) -> Option<SoloFault>
-    requires fits { IsGrid (solo_cells puzzle.now) (solo_n puzzle.now) grid.now }
     ensures lawful { IsSolo puzzle.now }
-    ensures first { IsFirstFault puzzle.now grid.now result }
+    ensures fault { IsSoloFault puzzle.now grid.now result }
 {
-    if let Some(place) = broken_given(puzzle, grid) {
-        return Some(SoloFault::Given(place));
+    if let Some(fault) = broken_given(puzzle, grid) {
+        return Some(fault);
     }
-    let house = repeating_house(puzzle, grid)?;
-    Some(fault_of(house))
+    repeating_house(puzzle, grid)
 }
 
 /// Whether the grid solves the puzzle.
@@ -44,34 +36,34 @@ pub(crate) fn accepts(puzzle: &SoloPuzzle, grid: &Grid) -> bool
     requires fits { IsGrid (solo_cells puzzle.now) (solo_n puzzle.now) grid.now }
     ensures { result ≡ is_solo_solution puzzle.now grid.now }
 {
-    first_fault(puzzle, grid).is_none()
+    check_solo(puzzle, grid).is_none()
 }
 
 /// The lowest place whose given doesn't stand.
-fn broken_given(puzzle: &SoloPuzzle, grid: &Grid) -> Option<usize>
+fn broken_given(puzzle: &SoloPuzzle, grid: &Grid) -> Option<SoloFault>
     requires fits { IsGrid (solo_cells puzzle.now) (solo_n puzzle.now) grid.now }
     ensures lawful { IsSolo puzzle.now }
-    ensures first { IsFirstFallen puzzle.now grid.now result }
+    ensures first { IsFirstOf (FailsSolo puzzle.now grid.now) (given_tests puzzle.now) result }
 {
     for place in 0..cells(puzzle) {
         let given = puzzle.given(place);
         if given != 0 && grid.get(place) + 1 != given {
-            return Some(place);
+            return Some(SoloFault::Given(place));
         }
     }
     None
 }
 
 /// The first house that holds a number twice.
-fn repeating_house(puzzle: &SoloPuzzle, grid: &Grid) -> Option<NamedHouse>
+fn repeating_house(puzzle: &SoloPuzzle, grid: &Grid) -> Option<SoloFault>
     requires fits { IsGrid (solo_cells puzzle.now) (solo_n puzzle.now) grid.now }
     ensures lawful { IsSolo puzzle.now }
-    ensures first { IsFirstRepeating puzzle.now grid.now result }
+    ensures first { IsFirstOf (FailsSolo puzzle.now grid.now) (house_tests puzzle.now) result }
 {
     for number in 0..houses(puzzle) {
         let house = house(puzzle, number);
         if !holds_each_once(puzzle, grid, house) {
-            return Some(house);
+            return Some(fault_of(house));
         }
     }
     None

@@ -8,24 +8,23 @@ ghost use Rattle.solo_core.specs.Meanings.{AcceptsSolutions, StrikesAsMuch, List
 ghost use Rattle.solo_core.specs.RuleSets.{houses_rules, singles_rules, crossings_rules};
 ghost use Rattle.solo_core.specs.Scopes.{scopes_of};
 
-use crate::rules::{SoloCrossings, SoloHouses, SoloRules, SoloSingles};
-use crate::strikes::{Crossings, Fillings, Singles};
-use engine_core::Rules;
+use crate::rule_sets::{Crossings, Fillings, Singles, SoloCrossings, SoloHouses, SoloSingles};
+use engine_core::{HouseRules, Rules, Uncounted};
 
 /// What the rules by singles mean: those of the puzzle that they keep.
 pub fn rules_of_singles(rules: &SoloSingles)
-    ensures { ⟦<SoloRules<Singles> as Rules>⟧.system rules.now ≡ singles_rules rules.now.puzzle }
+    ensures { ⟦<HouseRules<Singles, Uncounted> as Rules>⟧.system rules.now ≡ singles_rules rules.now.set.puzzle }
 {}
 
 /// What the rules by fillings of houses mean.
 pub fn rules_of_houses(rules: &SoloHouses)
-    ensures { ⟦<SoloRules<Fillings> as Rules>⟧.system rules.now ≡ houses_rules rules.now.puzzle }
+    ensures { ⟦<HouseRules<Fillings, Uncounted> as Rules>⟧.system rules.now ≡ houses_rules rules.now.set.puzzle }
 {}
 
 /// What the rules by houses and crossings mean.
 pub fn rules_of_crossings(rules: &SoloCrossings)
-    ensures { ⟦<SoloRules<Crossings> as Rules>⟧.system rules.now
-        ≡ crossings_rules rules.now.puzzle }
+    ensures { ⟦<HouseRules<Crossings, Uncounted> as Rules>⟧.system rules.now
+        ≡ crossings_rules rules.now.set.puzzle }
 {}
 
 /// The grids that the rules of each rule set accept are the solutions of the puzzle.

@@ -5,9 +5,8 @@ mod check;
 mod fault;
 mod houses;
 mod laws;
-mod rules;
+mod rule_sets;
 mod start;
-mod strikes;
 mod visits;
 
 pub use check::check_solo;
@@ -20,5 +19,4 @@ pub use laws::{
     houses_are_lines_and_blocks, houses_strike_what_singles_strike, rules_are_lawful,
     rules_of_crossings, rules_of_houses, rules_of_singles, scopes_are_houses_and_crossings,
 };
-pub use rules::{SoloCrossings, SoloHouses, SoloRules, SoloSingles, SoloWork};
-pub use strikes::{Crossings, Fillings, Singles, Strikes};
+pub use rule_sets::{Crossings, Fillings, Singles, SoloCrossings, SoloHouses, SoloSingles};

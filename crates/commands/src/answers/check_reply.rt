@@ -9,10 +9,6 @@ use crate::answers::status::Status;
 use std::alloc::{AllocError, Global};
 
 /// The answer to an input that is no grid of the puzzle.
-///
-/// # Errors
-///
-/// When memory was refused.
 pub fn grid_refused(alloc: Global) -> Result<Reply, AllocError>
     ensures { IfOk result (λ r. answer_in r ≡ refused (codes "grid")) }
 {
@@ -20,10 +16,6 @@ pub fn grid_refused(alloc: Global) -> Result<Reply, AllocError>
 }
 
 /// The answer to a solution.
-///
-/// # Errors
-///
-/// When memory was refused.
 pub fn correct_reply(alloc: Global) -> Result<Reply, AllocError>
     ensures { IfOk result (λ r. answer_in r ≡ checked None) }
 {
@@ -31,10 +23,6 @@ pub fn correct_reply(alloc: Global) -> Result<Reply, AllocError>
 }
 
 /// The answer to a grid that breaks a rule of the whole.
-///
-/// # Errors
-///
-/// When memory was refused.
 pub fn wrong_reply(alloc: Global, rule: &str) -> Result<Reply, AllocError>
     ensures { IfOk result (λ r. answer_in r ≡ checked (Some rule.now)) }
 {
@@ -47,10 +35,6 @@ pub fn wrong_reply(alloc: Global, rule: &str) -> Result<Reply, AllocError>
 
 /// The answer to a grid that breaks a rule in a row, column, block or diagonal. The kind has a
 /// space at its end.
-///
-/// # Errors
-///
-/// When memory was refused.
 pub fn wrong_line_reply(alloc: Global, kind: &str, line: usize) -> Result<Reply, AllocError>
     ensures { IfOk result (λ r. answer_in r ≡ checked (Some (kind.now ++ decimal line))) }
 {
@@ -61,10 +45,6 @@ pub fn wrong_line_reply(alloc: Global, kind: &str, line: usize) -> Result<Reply,
 
 /// The answer to a grid that breaks a rule at a place of so many columns: the place's column, a
 /// comma and its row. The kind has a space at its end.
-///
-/// # Errors
-///
-/// When memory was refused.
 pub fn wrong_place_reply(
     alloc: Global,
     kind: &str,

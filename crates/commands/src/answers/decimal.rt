@@ -5,10 +5,6 @@ use itoa::Buffer;
 use std::alloc::AllocError;
 
 /// Adds a number to a text, in decimal, which is at most 20 digits.
-///
-/// # Errors
-///
-/// When memory was refused.
 pub fn push_number(text: &mut String, number: usize) -> Result<(), AllocError>
     ensures number { OnOk result (string_bytes text.new ≡ string_bytes text.old ++ decimal number) }
     ensures short { OnOk result (string_len text.new ≤ string_len text.old + 20) }
@@ -18,10 +14,6 @@ pub fn push_number(text: &mut String, number: usize) -> Result<(), AllocError>
 }
 
 /// Adds words to a text, and then a number as `push_number` does.
-///
-/// # Errors
-///
-/// When memory was refused.
 pub fn push_numbered(text: &mut String, words: &str, number: usize) -> Result<(), AllocError>
     ensures words { OnOk result (string_bytes text.new
         ≡ string_bytes text.old ++ (words.now ++ decimal number)) }

@@ -17,10 +17,6 @@ pub struct Reply {
 }
 
 /// The answer of these words alone, in the memory of a text, of which nothing stays.
-///
-/// # Errors
-///
-/// When memory was refused.
 pub fn words_reply(mut text: String, words: &str, status: Status) -> Result<Reply, AllocError>
     ensures { IfOk result (λ r. answer_in r ≡ answer_with words.now (code_of status)) }
 {
@@ -30,10 +26,6 @@ pub fn words_reply(mut text: String, words: &str, status: Status) -> Result<Repl
 }
 
 /// The answer of these words and a grid, in the memory of a text.
-///
-/// # Errors
-///
-/// When memory was refused.
 pub fn grid_reply<P: Printed>(
     text: String,
     words: &str,
@@ -76,10 +68,6 @@ fn push_fault(text: &mut String, fault: IdFault) -> Result<(), AllocError>
 
 /// The answer to an ID with that first fault, or to a size that `generate` refuses: `refused: `,
 /// what is said of the fault, and a line end. It is made in the memory of a text.
-///
-/// # Errors
-///
-/// When memory was refused.
 pub fn id_refused(text: String, fault: IdFault) -> Result<Reply, AllocError>
     ensures { IfOk result (λ r. answer_in r ≡ refused (fault_text fault)) }
 {
@@ -90,10 +78,6 @@ pub fn id_refused(text: String, fault: IdFault) -> Result<Reply, AllocError>
 }
 
 /// The answer where these two grids are solutions, in the memory of a text.
-///
-/// # Errors
-///
-/// When memory was refused.
 pub fn several_reply<P: Printed>(
     text: String,
     puzzle: &P,

@@ -62,7 +62,7 @@ pub enum Stop {
 }
 
 /// How a step of a run ends: with the status of its answer, or before that was whole.
-pub type Ended = Result<Status, Stop>;
+pub type RunResult = Result<Status, Stop>;
 
 impl Stop {
     /// The status of a run that ended so.

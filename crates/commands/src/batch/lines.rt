@@ -16,7 +16,7 @@ pub enum Tail {
 
 /// A line that is being read: its first bytes, and what came after them.
 #[derive(Drop)]
-pub struct Line {
+pub struct InputLine {
     kept: Vec<u8>,
     tail: Tail,
 }
@@ -42,22 +42,18 @@ fn after(tail: Tail, byte: u8) -> Tail
     }
 }
 
-impl Line {
+impl InputLine {
     /// A line of which no byte came yet.
-    pub fn new(alloc: Global) -> Line
+    pub fn new(alloc: Global) -> InputLine
         ensures { Holds result [] }
     {
-        Line {
+        InputLine {
             kept: Vec::new(alloc),
             tail: Tail::Nothing,
         }
     }
 
     /// Takes one more byte of the line, which is kept where fewer than `MAX_ID` are.
-    ///
-    /// # Errors
-    ///
-    /// When memory was refused.
     pub fn push(&mut self, byte: u8) -> Result<(), AllocError>
         ensures { OnOk result ((piece : List ℕ) → Holds self.old piece
             → Holds self.new (piece ++ byte ∷ [])) }
@@ -86,7 +82,7 @@ impl Line {
     }
 
     /// The line where a newline ends it, or nothing where it is over-long.
-    pub fn ended(&self) -> Option<&[u8]>
+    pub fn before_newline(&self) -> Option<&[u8]>
         ensures { (piece : List ℕ) → Holds self.now piece
             → IsLine result (strip_carriage_return piece) }
     {
@@ -98,7 +94,7 @@ impl Line {
     }
 
     /// The line where the end of the input ends it, or nothing where it is over-long.
-    pub fn last(&self) -> Option<&[u8]>
+    pub fn before_end(&self) -> Option<&[u8]>
         ensures { (piece : List ℕ) → Holds self.now piece → IsLine result piece }
     {
         match self.tail {

@@ -13,11 +13,7 @@ use std::alloc::{AllocError, Global};
 pub trait Checked: Played {
     /// The answer to a grid: that it is a solution, or the first rule that it breaks. The grid has
     /// a number for each cell, by place.
-    ///
-    /// # Errors
-    ///
-    /// When memory was refused.
     fn check_reply(&self, alloc: Global, grid: &Grid) -> Result<Reply, AllocError>
         requires { IsGridFor (Self.extent self.now) (Self.value_count self.now) grid.now }
-        ensures { IfOk result (λ r. Self.game.told self.now grid.now (answer_in r)) };
+        ensures { IfOk result (λ r. Self.game.checks self.now grid.now (answer_in r)) };
 }

@@ -2,10 +2,11 @@
 ghost use Rattle.std.specs.Prelude.{◌≡◌, true, false, OnOk, OnErr};
 ghost use Rattle.commands.specs.Answers.{Delivers, PutBegun};
 ghost use Rattle.commands.specs.Replies.{answer_in, fault_text, refused};
-ghost use Rattle.commands.specs.Stops.{LeavesSink, ToldIfAny, status_in};
+ghost use Rattle.commands.specs.Stops.{LeavesSink, SaysIfAny, status_in};
+ghost use Rattle.commands.specs.declared.answers.status.Stop.TheVariants as stops;
 
 use crate::answers::reply::{Reply, id_refused};
-use crate::answers::status::{Ended, Stop};
+use crate::answers::status::{RunResult, Stop};
 use crate::ends::Sink;
 use gameid_core::IdFault;
 use std::alloc::Global;
@@ -13,6 +14,14 @@ use std::alloc::Global;
 /// An end failed.
 #[derive(Drop)]
 pub struct Broken;
+
+impl From<Broken> for Stop {
+    ghost from_gives = { λ _ stop. stop ≡ stops.Broken };
+
+    fn from(_broken: Broken) -> Stop {
+        Stop::Broken
+    }
+}
 
 /// Puts all of the bytes, in as many calls as the sink needs.
 ///
@@ -41,29 +50,25 @@ pub fn put_all<O: Sink>(output: &mut O, bytes: &[u8]) -> Result<(), Broken>
 /// # Errors
 ///
 /// Where the sink failed. It took a beginning of the text then.
-pub fn deliver<O: Sink>(output: &mut O, reply: &Reply) -> Ended
+pub fn deliver<O: Sink>(output: &mut O, reply: &Reply) -> RunResult
     requires { O.has_failed output.old ≡ false }
     ensures delivers { Delivers O.takes output.old (answer_in reply.now) output.new
         (status_in result) }
     ensures left { LeavesSink O.Sink output.new result }
 {
-    match put_all(output, reply.text.as_bytes()) {
-        Ok(()) => {
-            if output.finish() {
-                Ok(reply.status)
-            } else {
-                Err(Stop::Broken)
-            }
-        }
-        Err(_) => Err(Stop::Broken),
+    put_all(output, reply.text.as_bytes())?;
+    if output.finish() {
+        Ok(reply.status)
+    } else {
+        Err(Stop::Broken)
     }
 }
 
 /// Refuses an ID with that first fault.
-pub(crate) fn refuse<O: Sink>(alloc: Global, fault: IdFault, output: &mut O) -> Ended
+pub(crate) fn refuse<O: Sink>(alloc: Global, fault: IdFault, output: &mut O) -> RunResult
     requires { O.has_failed output.old ≡ false }
-    ensures told { ToldIfAny O.takes (λ a. a ≡ refused (fault_text fault)) output.old output.new
-        result }
+    ensures answer { SaysIfAny O.takes (λ a. a ≡ refused (fault_text fault))
+        output.old output.new (status_in result) }
     ensures left { LeavesSink O.Sink output.new result }
 {
     let reply = id_refused(String::new(alloc), fault)?;

@@ -89,10 +89,6 @@ fn is_dropped(byte: u8, rest: &[u8]) -> bool
 }
 
 /// The text without each carriage return that stands directly before a line end.
-///
-/// # Errors
-///
-/// When memory was refused.
 pub fn without_returns(alloc: Global, text: &[u8]) -> Result<Vec<u8>, AllocError>
     ensures { IfOk result (λ v. v.items ≡ without_returns text.now) }
 {

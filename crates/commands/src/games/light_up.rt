@@ -1,15 +1,16 @@
 //! Light Up, as the commands play it.
 ghost use Rattle.commands.specs.Common.{light_rules};
-ghost use Rattle.commands.specs.LightPlayed.{light_played};
+ghost use Rattle.commands.specs.LightFacts.{light_facts};
 
 use crate::answers::check_reply::{correct_reply, wrong_place_reply};
 use crate::answers::reply::Reply;
-use crate::answers::status::Ended;
+use crate::answers::status::RunResult;
 use crate::check::checked::Checked;
 use crate::ends::Sink;
 use crate::generate::Recipe;
 use crate::generate::makable::{Makable, Unmade};
 use crate::generate::seed::generator;
+use crate::grade::named::Named;
 use crate::grade::{Attempt, GradeOptions, Graded, RuleSet};
 use crate::played::Played;
 use crate::solve::solvable::Solvable;
@@ -20,7 +21,7 @@ use maker_core::{Made, make_lights};
 use std::alloc::{AllocError, Global};
 
 impl Played for LightPuzzle {
-    ghost game = { light_played.game };
+    ghost game = { light_facts.game };
 
     fn read_id(alloc: Global, id: &[u8]) -> Result<LightPuzzle, IdFault> {
         read_lights(alloc, id)
@@ -34,7 +35,7 @@ impl Played for LightPuzzle {
 impl Solvable for LightPuzzle {
     type Search = LightRules;
 
-    ghost meaning = { λ search. light_rules search.light };
+    ghost meaning = { λ search. light_rules search.set.puzzle };
 
     fn rules(&self, alloc: Global) -> Result<LightRules, AllocError> {
         LightRules::new(alloc, self)
@@ -55,14 +56,19 @@ impl Checked for LightPuzzle {
 }
 
 impl Graded for LightPuzzle {
-    fn tell<O: Sink>(&self, alloc: Global, options: GradeOptions, output: &mut O) -> Ended {
+    fn say_grade<O: Sink>(&self, alloc: Global, options: GradeOptions, output: &mut O) -> RunResult {
         let local = self.rules(alloc)?;
-        let attempt = Attempt {
-            alloc,
-            set: RuleSet::Local,
-            options,
-        };
-        attempt.tell_by_sweeps(self, &local, output)
+        let set = RuleSet::Local;
+        let attempt = Attempt { alloc, set, options };
+        attempt.say_by(self, &local, output)
+    }
+}
+
+impl Named for LightPuzzle {
+    ghost named = { λ p. 0 };
+
+    fn push_name(&self, _number: usize, _text: &mut String) -> Result<(), AllocError> {
+        Ok(())
     }
 }
 

@@ -1,12 +1,12 @@
 //! Pattern, as the commands play it.
 ghost use Rattle.std.specs.Prelude.{◌+◌};
 ghost use Rattle.commands.specs.Common.{line_rules};
-ghost use Rattle.commands.specs.PatternPlayed.{pattern_name, pattern_played};
+ghost use Rattle.commands.specs.PatternFacts.{pattern_facts};
 
 use crate::answers::check_reply::{correct_reply, wrong_line_reply};
 use crate::answers::decimal::push_numbered;
 use crate::answers::reply::Reply;
-use crate::answers::status::Ended;
+use crate::answers::status::RunResult;
 use crate::check::checked::Checked;
 use crate::ends::Sink;
 use crate::generate::Recipe;
@@ -23,7 +23,7 @@ use pattern_core::{PatternFault, PatternLines, check_pattern};
 use std::alloc::{AllocError, Global};
 
 impl Played for PatternPuzzle {
-    ghost game = { pattern_played.game };
+    ghost game = { pattern_facts.game };
 
     fn read_id(alloc: Global, id: &[u8]) -> Result<PatternPuzzle, IdFault> {
         read_pattern(alloc, id)
@@ -55,21 +55,16 @@ impl Checked for PatternPuzzle {
 }
 
 impl Graded for PatternPuzzle {
-    fn tell<O: Sink>(&self, alloc: Global, options: GradeOptions, output: &mut O) -> Ended {
+    fn say_grade<O: Sink>(&self, alloc: Global, options: GradeOptions, output: &mut O) -> RunResult {
         let lines = self.rules(alloc)?;
-        let attempt = Attempt {
-            alloc,
-            set: RuleSet::Lines,
-            options,
-        };
-        attempt.tell_by_visits(self, &lines, output)
+        let set = RuleSet::Lines;
+        let attempt = Attempt { alloc, set, options };
+        attempt.say_by(self, &lines, output)
     }
 }
 
 impl Named for PatternPuzzle {
     ghost named = { λ p. p.size.w + p.size.h };
-
-    ghost name_of = { pattern_name };
 
     fn push_name(&self, number: usize, text: &mut String) -> Result<(), AllocError> {
         let w = usize::from(self.size().w());
@@ -79,8 +74,6 @@ impl Named for PatternPuzzle {
             push_numbered(text, "row ", number - w)
         }
     }
-
-    ghost by_visits = { λ p rules lines told. told };
 }
 
 impl Makable for PatternPuzzle {

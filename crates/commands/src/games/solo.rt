@@ -1,21 +1,21 @@
 //! Solo, as the commands play it. It is graded by three rule sets in turn, and else by a search.
 ghost use Rattle.std.specs.Prelude.{◌≡◌, ◌++◌, ◌+◌, ◌≤◌, OnOk, false, length, string_bytes, string_len};
-ghost use Rattle.commands.specs.Allowed.{IsGradedAfterHouses, IsGradedAfterSingles};
+ghost use Rattle.commands.specs.Allowed.{IsGraded};
 ghost use Rattle.commands.specs.Common.{houses_rules, scopes_of};
-ghost use Rattle.commands.specs.SoloPlayed.{house_text, scope_text, solo_name, solo_played};
-ghost use Rattle.commands.specs.Stops.{LeavesSink, ToldIfAny};
+ghost use Rattle.commands.specs.SoloFacts.{after_houses, after_singles, house_text, scope_text, solo_facts};
+ghost use Rattle.commands.specs.Stops.{LeavesSink, SaysIfAny, status_in};
 
 use crate::answers::check_reply::{correct_reply, wrong_line_reply, wrong_place_reply};
 use crate::answers::decimal::push_numbered;
 use crate::answers::reply::Reply;
-use crate::answers::status::Ended;
+use crate::answers::status::RunResult;
 use crate::check::checked::Checked;
 use crate::ends::Sink;
 use crate::generate::Recipe;
 use crate::generate::makable::{Makable, Unmade};
 use crate::generate::seed::generator;
 use crate::grade::named::{NAME, Named};
-use crate::grade::settling::settles;
+use crate::grade::grading::settles;
 use crate::grade::{Attempt, Grade, GradeOptions, Graded, RuleSet};
 use crate::played::Played;
 use crate::solve::solvable::Solvable;
@@ -29,7 +29,7 @@ use solo_core::{
 use std::alloc::{AllocError, Global};
 
 impl Played for SoloPuzzle {
-    ghost game = { solo_played.game };
+    ghost game = { solo_facts.game };
 
     fn read_id(alloc: Global, id: &[u8]) -> Result<SoloPuzzle, IdFault> {
         read_solo(alloc, id)
@@ -43,7 +43,7 @@ impl Played for SoloPuzzle {
 impl Solvable for SoloPuzzle {
     type Search = SoloHouses;
 
-    ghost meaning = { λ search. houses_rules search.puzzle };
+    ghost meaning = { λ search. houses_rules search.set.puzzle };
 
     fn rules(&self, alloc: Global) -> Result<SoloHouses, AllocError> {
         SoloHouses::new(alloc, self)
@@ -65,69 +65,58 @@ impl Checked for SoloPuzzle {
 }
 
 impl Graded for SoloPuzzle {
-    fn tell<O: Sink>(&self, alloc: Global, options: GradeOptions, output: &mut O) -> Ended {
+    fn say_grade<O: Sink>(&self, alloc: Global, options: GradeOptions, output: &mut O) -> RunResult {
         let singles = SoloSingles::new(alloc, self)?;
         let mut store = Store::new(alloc, &singles)?;
         if settles(&mut store, &singles) {
             let set = RuleSet::Singles;
-            let grade = Grade::ByRules(set);
-            let attempt = Attempt {
-                alloc,
-                set,
-                options,
-            };
-            return attempt.tell_with_visits(grade, self, &singles, &mut store, output);
+            let attempt = Attempt { alloc, set, options };
+            return attempt.say(Grade::ByRules(set), self, &singles, &mut store, output);
         }
-        tell_by_houses(alloc, self, options, output)
+        say_by_houses(alloc, self, options, output)
     }
 }
 
 /// Tells the grade of a puzzle that single values and places do not settle.
-fn tell_by_houses<O: Sink>(
+fn say_by_houses<O: Sink>(
     alloc: Global,
     puzzle: &SoloPuzzle,
     options: GradeOptions,
     output: &mut O,
-) -> Ended
+) -> RunResult
     requires { O.has_failed output.old ≡ false }
-    ensures told { ToldIfAny O.takes (IsGradedAfterSingles puzzle.now options)
-        output.old output.new result }
+    ensures answer { SaysIfAny O.takes
+        (IsGraded solo_facts (after_singles puzzle.now) options.budget options.traced puzzle.now)
+        output.old output.new (status_in result) }
     ensures left { LeavesSink O.Sink output.new result }
 {
     let houses = SoloHouses::new(alloc, puzzle)?;
     let mut store = Store::new(alloc, &houses)?;
     if settles(&mut store, &houses) {
         let set = RuleSet::Houses;
-        let grade = Grade::ByRules(set);
-        let attempt = Attempt {
-            alloc,
-            set,
-            options,
-        };
-        return attempt.tell_with_visits(grade, puzzle, &houses, &mut store, output);
+        let attempt = Attempt { alloc, set, options };
+        return attempt.say(Grade::ByRules(set), puzzle, &houses, &mut store, output);
     }
-    tell_by_crossings(alloc, puzzle, options, output)
+    say_by_crossings(alloc, puzzle, options, output)
 }
 
 /// Tells the grade of a puzzle that whole houses do not settle.
-fn tell_by_crossings<O: Sink>(
+fn say_by_crossings<O: Sink>(
     alloc: Global,
     puzzle: &SoloPuzzle,
     options: GradeOptions,
     output: &mut O,
-) -> Ended
+) -> RunResult
     requires { O.has_failed output.old ≡ false }
-    ensures told { ToldIfAny O.takes (IsGradedAfterHouses puzzle.now options)
-        output.old output.new result }
+    ensures answer { SaysIfAny O.takes
+        (IsGraded solo_facts (after_houses puzzle.now) options.budget options.traced puzzle.now)
+        output.old output.new (status_in result) }
     ensures left { LeavesSink O.Sink output.new result }
 {
     let crossings = SoloCrossings::new(alloc, puzzle)?;
-    let attempt = Attempt {
-        alloc,
-        set: RuleSet::Crossings,
-        options,
-    };
-    attempt.tell_by_visits(puzzle, &crossings, output)
+    let set = RuleSet::Crossings;
+    let attempt = Attempt { alloc, set, options };
+    attempt.say_by(puzzle, &crossings, output)
 }
 
 /// Most bytes of the name of a house: the longest kind, a space and a number.
@@ -164,13 +153,9 @@ fn push_scope(text: &mut String, scope: VisitName) -> Result<(), AllocError>
 impl Named for SoloPuzzle {
     ghost named = { λ p. length (scopes_of p) };
 
-    ghost name_of = { solo_name };
-
     fn push_name(&self, number: usize, text: &mut String) -> Result<(), AllocError> {
         push_scope(text, visit_name(self, number))
     }
-
-    ghost by_visits = { λ p rules lines told. told };
 }
 
 impl Makable for SoloPuzzle {

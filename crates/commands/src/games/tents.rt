@@ -1,17 +1,18 @@
 //! Tents, as the commands play it.
 ghost use Rattle.commands.specs.Common.{tent_rules};
-ghost use Rattle.commands.specs.TentsPlayed.{tents_played};
+ghost use Rattle.commands.specs.TentsFacts.{tents_facts};
 
 use crate::answers::check_reply::{
     correct_reply, wrong_line_reply, wrong_place_reply, wrong_reply,
 };
 use crate::answers::reply::Reply;
-use crate::answers::status::Ended;
+use crate::answers::status::RunResult;
 use crate::check::checked::Checked;
 use crate::ends::Sink;
 use crate::generate::Recipe;
 use crate::generate::makable::{Makable, Unmade};
 use crate::generate::seed::generator;
+use crate::grade::named::Named;
 use crate::grade::{Attempt, GradeOptions, Graded, RuleSet};
 use crate::played::Played;
 use crate::solve::solvable::Solvable;
@@ -22,7 +23,7 @@ use maker_core::{Made, make_tents};
 use std::alloc::{AllocError, Global};
 
 impl Played for TentsPuzzle {
-    ghost game = { tents_played.game };
+    ghost game = { tents_facts.game };
 
     fn read_id(alloc: Global, id: &[u8]) -> Result<TentsPuzzle, IdFault> {
         read_tents(alloc, id)
@@ -36,7 +37,7 @@ impl Played for TentsPuzzle {
 impl Solvable for TentsPuzzle {
     type Search = TentRules;
 
-    ghost meaning = { λ search. tent_rules search.tents };
+    ghost meaning = { λ search. tent_rules search.set.puzzle };
 
     fn rules(&self, alloc: Global) -> Result<TentRules, AllocError> {
         TentRules::new(alloc, self)
@@ -58,14 +59,19 @@ impl Checked for TentsPuzzle {
 }
 
 impl Graded for TentsPuzzle {
-    fn tell<O: Sink>(&self, alloc: Global, options: GradeOptions, output: &mut O) -> Ended {
+    fn say_grade<O: Sink>(&self, alloc: Global, options: GradeOptions, output: &mut O) -> RunResult {
         let local = self.rules(alloc)?;
-        let attempt = Attempt {
-            alloc,
-            set: RuleSet::Local,
-            options,
-        };
-        attempt.tell_by_sweeps(self, &local, output)
+        let set = RuleSet::Local;
+        let attempt = Attempt { alloc, set, options };
+        attempt.say_by(self, &local, output)
+    }
+}
+
+impl Named for TentsPuzzle {
+    ghost named = { λ p. 0 };
+
+    fn push_name(&self, _number: usize, _text: &mut String) -> Result<(), AllocError> {
+        Ok(())
     }
 }
 

@@ -52,7 +52,7 @@ pub trait Makable: Played {
     /// refused.
     fn make(alloc: Global, size: &[u8], recipe: Recipe) -> Result<Made<Self>, Unmade>
         ensures made { IfOk result (λ made. IsMade Self.game recipe size.now
-            made.puzzle made.answer made.kept.items) }
+            (record { puzzle = made.puzzle; solution = made.answer; kept = made.kept.items })) }
         ensures grid { IfOk result (λ made.
             IsGridFor (Self.extent made.puzzle) (Self.value_count made.puzzle) made.answer) }
         ensures unmade { IfErr result (IsUnmade Self.game recipe size.now) };

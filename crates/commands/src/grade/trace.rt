@@ -22,7 +22,7 @@ const LINE: usize = 60;
 fn push_visit<P: Named>(puzzle: &P, number: usize, text: &mut String) -> Result<(), AllocError>
     requires { number < P.named puzzle.now }
     ensures line { OnOk result
-        (string_bytes text.new ≡ string_bytes text.old ++ line_of (P.name_of puzzle.now number)) }
+        (string_bytes text.new ≡ string_bytes text.old ++ line_of (P.game.visit_name puzzle.now number)) }
     ensures short { OnOk result (string_len text.new ≤ string_len text.old + LINE) }
 {
     puzzle.push_name(number, text)?;
@@ -30,10 +30,6 @@ fn push_visit<P: Named>(puzzle: &P, number: usize, text: &mut String) -> Result<
 }
 
 /// Adds the line of a closing by sweeps to a text.
-///
-/// # Errors
-///
-/// When memory was refused.
 pub fn push_sweeps(text: &mut String, sweeps: usize) -> Result<(), AllocError>
     ensures { OnOk result (string_bytes text.new ≡ string_bytes text.old ++ sweeps_text sweeps) }
 {
@@ -56,13 +52,9 @@ fn put_piece<O: Sink>(text: &mut String, output: &mut O) -> Result<(), Stop>
     if text.len() < PIECE {
         return Ok(());
     }
-    match put_all(output, text.as_bytes()) {
-        Ok(()) => {
-            text.clear();
-            Ok(())
-        }
-        Err(_) => Err(Stop::Broken),
-    }
+    put_all(output, text.as_bytes())?;
+    text.clear();
+    Ok(())
 }
 
 /// Puts a text and then a line for each visit, but for the end of these, which is left in the text.
@@ -79,13 +71,13 @@ pub fn put_visits<P: Named, O: Sink>(
     requires named { (k : ℕ) → k < length visits.now
         → slice_index visits.now k < P.named puzzle.now }
     requires not_failed { O.has_failed output.old ≡ false }
-    ensures ok { OnOk result (VisitsPut O.takes (P.name_of puzzle.now) visits.now
+    ensures ok { OnOk result (VisitsPut O.takes (P.game.visit_name puzzle.now) visits.now
         output.old text.old text.new output.new) }
     ensures fine { OnOk result (O.has_failed output.new ≡ false) }
     ensures err { OnErr result
-        (VisitsBegun O.takes (P.name_of puzzle.now) visits.now output.old text.old output.new) }
+        (VisitsBegun O.takes (P.game.visit_name puzzle.now) visits.now output.old text.old output.new) }
     ensures failed { IfErr result (λ stop. O.has_failed output.new ≡ is_broken stop) }
-    ensures pieces { OnOk result (VisitsInPieces O.takes (P.name_of puzzle.now) visits.now
+    ensures pieces { OnOk result (VisitsInPieces O.takes (P.game.visit_name puzzle.now) visits.now
         output.old text.old text.new output.new) }
     ensures small { string_len text.old < PIECE → OnOk result (string_len text.new < PIECE) }
 {

@@ -14,10 +14,6 @@ pub trait Solvable: Played {
     ghost meaning: { Self.Search → RuleSystem };
 
     /// The rules of a search. The grids that they accept are the solutions by the game.
-    ///
-    /// # Errors
-    ///
-    /// When memory was refused.
     fn rules(&self, alloc: Global) -> Result<Self::Search, AllocError>
         ensures made { IfOk result (λ rules. meaning rules ≡ Self.game.rules self.now) }
         ensures cells { (Self.game.rules self.now).cells

@@ -1,8 +1,8 @@
 //! Worked examples of closings, and the room of a store.
 
-use engine_core::{Closing, Searchable, Sizes, Store};
-use gameid_core::read_solo;
-use solo_core::{Crossings, Fillings, Singles, SoloRules, Strikes};
+use engine_core::{Closing, HouseRules, RuleSet, Searchable, Sizes, Store};
+use gameid_core::{SoloPuzzle, read_solo};
+use solo_core::{Crossings, Fillings, Singles};
 use std::alloc::{AllocError, Global};
 use std::test::Fail;
 
@@ -13,9 +13,12 @@ const PAIR: &[u8] = b"2x2:d3_4j";
 const CLAIMED: &[u8] = b"3x3:q1_2_3_4zzh";
 
 /// The rules of the puzzle with the ID.
-fn rules_of<S: Strikes>(alloc: Global, id: &[u8]) -> Result<SoloRules<S>, Fail> {
+fn rules_of<S: RuleSet<Puzzle = SoloPuzzle>>(
+    alloc: Global,
+    id: &[u8],
+) -> Result<HouseRules<S>, Fail> {
     let puzzle = read_solo(alloc, id)?;
-    Ok(SoloRules::<S>::new(alloc, &puzzle)?)
+    Ok(HouseRules::<S>::new(alloc, &puzzle)?)
 }
 
 /// Which values a closing leaves the cell, as bits: none where it shows a contradiction.
@@ -28,7 +31,11 @@ fn left_by<R: Searchable>(alloc: Global, rules: &R, place: usize) -> Result<u32,
 }
 
 /// The same of the puzzle with the ID.
-fn left<S: Strikes>(alloc: Global, id: &[u8], place: usize) -> Result<u32, Fail> {
+fn left<S: RuleSet<Puzzle = SoloPuzzle>>(
+    alloc: Global,
+    id: &[u8],
+    place: usize,
+) -> Result<u32, Fail> {
     let rules = rules_of::<S>(alloc, id)?;
     Ok(left_by(alloc, &rules, place)?)
 }
@@ -53,7 +60,7 @@ fn what_a_block_claims_is_struck_by_crossings_alone(rt: HostRuntime) -> Result<(
 }
 
 /// The lengths of the lists of a store.
-fn room<S: Strikes>(alloc: Global, id: &[u8]) -> Result<Sizes, Fail> {
+fn room<S: RuleSet<Puzzle = SoloPuzzle>>(alloc: Global, id: &[u8]) -> Result<Sizes, Fail> {
     let rules = rules_of::<S>(alloc, id)?;
     Ok(Store::new(alloc, &rules)?.sizes())
 }

@@ -2,7 +2,7 @@
 
 ghost use Rattle.std.specs.Prelude.{◌≡◌, ◌<◌, ◌≤◌, length, IfSome};
 ghost use Rattle.grid_core.specs.Board.{has};
-ghost use Rattle.grid_core.specs.Candidates.{Candidates};
+ghost use Rattle.engine_core.specs.Counting.{IsCounted};
 ghost use Rattle.engine_core.specs.RuleSystem.{IsBoardOf};
 ghost use Rattle.engine_core.specs.Trail.{is_since};
 ghost use Rattle.engine_core.specs.Waiting.{words_of, is_waiting, AreCalled};
@@ -15,7 +15,7 @@ use crate::waits::enqueue;
 /// Marks all houses, but for those that strike nothing.
 fn mark_all<R: Propagators>(rules: &R, counts: &R::Counts, waits: &mut [u64])
     requires waits_room { words_of (R.system rules.now).houses ≤ length waits.old }
-    requires follows { (K : Candidates) × R.follows rules.now counts.now K }
+    requires counted { IsCounted (R.follows rules.now) counts.now }
     ensures { AllAreCalled (R.system rules.now) (R.follows rules.now) counts.now
         waits.old waits.new }
 {
@@ -36,7 +36,7 @@ pub(crate) fn wait_from<R: Propagators>(
 )
     requires place_in { IfSome from (λ place. place < (R.system rules.now).cells) }
     requires waits_room { words_of (R.system rules.now).houses ≤ length waits.old }
-    requires follows { (K : Candidates) × R.follows rules.now counts.now K }
+    requires counted { IsCounted (R.follows rules.now) counts.now }
     ensures called { WaitsFrom (R.system rules.now) (R.follows rules.now) counts.now
         from waits.new }
 {

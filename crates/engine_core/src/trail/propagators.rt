@@ -6,7 +6,8 @@ ghost use Rattle.grid_core.specs.Board.{has};
 ghost use Rattle.grid_core.specs.Candidates.{Candidates};
 ghost use Rattle.engine_core.specs.RuleSystem.{Needs, needs_of, FitsIn, has_place, IsBoardOf, IsIdle};
 ghost use Rattle.engine_core.specs.Sets.{IsChange};
-ghost use Rattle.engine_core.specs.Keeping.{AreSetsOf, IsKept};
+ghost use Rattle.engine_core.specs.Counting.{IsCounted, IsRecounted};
+ghost use Rattle.engine_core.specs.Keeping.{AreSetsOf, AreSets, IsKept};
 ghost use Rattle.engine_core.specs.Waiting.{words_of, is_waiting, AreCalled};
 
 use crate::houses::visit::read_sets;
@@ -56,7 +57,7 @@ pub trait Propagators: Rules {
         requires house_in { house < (Self.system self.now).houses }
         requires as_many { length kept.old ≡ length sets.now }
         requires served { Self.serves scratch.old (needs_of (Self.system self.now)) }
-        requires sets { (K : Candidates) × AreSetsOf (Self.system self.now) house K sets.now }
+        requires sets { AreSets (Self.system self.now) house sets.now }
         ensures kept { (K : Candidates) → AreSetsOf (Self.system self.now) house K sets.now
             → IsKept (Self.system self.now) house K result kept.new }
         ensures keeps { (needs : Needs) → Self.serves scratch.old needs
@@ -72,8 +73,7 @@ pub trait Propagators: Rules {
 
     /// Goes along with the change of a cell, whose sets are given as bits.
     fn change(&self, place: usize, before: u32, after: u32, counts: &mut Self::Counts)
-        requires { (K : Candidates) × (L : Candidates) × follows self.now counts.old K
-            × IsChange (Self.system self.now).cells (Self.system self.now).values K L
+        requires { IsRecounted (Self.system self.now) (follows self.now) counts.old
             place before after }
         ensures follows { (K L : Candidates) → follows self.now counts.old K
             → IsChange (Self.system self.now).cells (Self.system self.now).values K L
@@ -85,7 +85,7 @@ pub trait Propagators: Rules {
     /// Whether the house may strike anything from the board that was counted.
     fn may_strike(&self, house: usize, counts: &Self::Counts) -> bool
         requires house_in { house < (Self.system self.now).houses }
-        requires follows { (K : Candidates) × follows self.now counts.now K }
+        requires counted { IsCounted (follows self.now) counts.now }
         ensures { result ≡ false → (K : Candidates) → follows self.now counts.now K
             → IsIdle (Self.system self.now) house K };
 
@@ -93,7 +93,7 @@ pub trait Propagators: Rules {
     fn wake(&self, place: usize, counts: &Self::Counts, waits: &mut [u64])
         requires place_in { place < (Self.system self.now).cells }
         requires room { words_of (Self.system self.now).houses ≤ length waits.old }
-        requires follows { (K : Candidates) × follows self.now counts.now K }
+        requires counted { IsCounted (follows self.now) counts.now }
         ensures called { (K : Candidates) → follows self.now counts.now K
             → AreCalled (Self.system self.now) K
             (λ j. has_place ((Self.system self.now).scope j) place)

@@ -10,16 +10,16 @@ use std::alloc::{AllocError, Global};
 
 /// The fewest and the most ones that the cells of a house may hold together.
 #[derive(Clone, Copy)]
-pub(crate) struct Bounds {
-    pub least: u32,
-    pub most: u32,
+pub struct Bounds {
+    pub(crate) least: u32,
+    pub(crate) most: u32,
 }
 
 /// The cells of count houses and their bounds, and the cells of a house that is begun.
 #[derive(Drop)]
-pub(crate) struct CountList {
-    pub list: HouseList,
-    pub bounds: Vec<Bounds>,
+pub struct CountList {
+    pub(crate) list: HouseList,
+    pub(crate) bounds: Vec<Bounds>,
 }
 
 impl CountList {

@@ -3,6 +3,7 @@
 
 ghost use Rattle.std.specs.Prelude.{◌≡◌, ◌<◌, ◌↔◌, None};
 ghost use Rattle.grid_core.specs.Grids.{IsGrid};
+ghost use Rattle.gameid_core.specs.Puzzles.{IsLight};
 ghost use Rattle.fields_core.specs.Light.{light_cells, black_right, number_right, bulb_right, lit_right};
 ghost use Rattle.fields_core.specs.LightFaults.{IsLightFault};
 ghost use Rattle.fields_core.specs.LightSolutions.{IsLightSolution};
@@ -26,11 +27,11 @@ fn is_black_right(puzzle: &LightPuzzle, grid: &Grid, place: usize) -> bool
 /// Whether the cell's number, if it has one, is that of the bulbs beside it.
 #[tactic(auto, using(crate::proofs::LawSets::light_check_laws), unfolding(crate::specs::Light::number_right))]
 fn is_number_right(puzzle: &LightPuzzle, grid: &Grid, place: usize) -> bool
+    requires lawful { IsLight puzzle.now }
     requires fits { IsGrid (light_cells puzzle.now) 2 grid.now }
     requires place_in { place < light_cells puzzle.now }
     ensures { result ≡ number_right puzzle.now grid.now place }
 {
-    let _size = puzzle.size();
     match puzzle.cell(place) {
         LightCell::White => true,
         LightCell::Black => true,

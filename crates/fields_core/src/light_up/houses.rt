@@ -8,6 +8,7 @@ ghost use Rattle.fields_core.specs.CountHouse.{houses_below};
 ghost use Rattle.fields_core.specs.CountLists.{IsBegun, IsAdded, AreListed};
 ghost use Rattle.fields_core.specs.Light.{light_cells, white};
 ghost use Rattle.fields_core.specs.LightHouses.{number_house, row_house, column_house, light_houses};
+ghost use Rattle.gameid_core.specs.Puzzles.{IsLight};
 
 use crate::count::list::CountList;
 use crate::light_up::cells::{cells, is_white, next_column};
@@ -143,7 +144,8 @@ fn push_columns(houses: &mut CountList, puzzle: &LightPuzzle) -> Result<(), Allo
 /// The houses of numbers, of runs in rows, of runs in columns and of white cells, each by place.
 #[tactic(auto, using(crate::proofs::LawSets::house_list_laws))]
 pub(crate) fn houses_of_lights(alloc: Global, puzzle: &LightPuzzle) -> Result<CountList, AllocError>
-    ensures { IfOk result (λ list. AreListed list (light_houses puzzle.now)) }
+    ensures lawful { IsLight puzzle.now }
+    ensures listed { IfOk result (λ list. AreListed list (light_houses puzzle.now)) }
 {
     let _cells = cells(puzzle);
     let sizes = Sizes::of(puzzle);

@@ -104,10 +104,6 @@ pub(crate) fn find_fault(
 /// tree, no two tents touch at a side or a corner, each column and row has its number of tents, and the tents can be
 /// paired one to one with the trees so that each tent is beside its own tree (the rules of Tents in the manual of
 /// Simon Tatham's Portable Puzzle Collection).
-///
-/// # Errors
-///
-/// When memory was refused.
 pub fn check_tents(
     alloc: Global,
     puzzle: &TentsPuzzle,

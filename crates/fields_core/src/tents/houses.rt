@@ -6,6 +6,7 @@ ghost use Rattle.engine_core.specs.HouseList.{FitsPlaces, FitsLists};
 ghost use Rattle.fields_core.specs.CountLists.{IsBegun, IsAdded, AreListed};
 ghost use Rattle.fields_core.specs.Tents.{tent_cells};
 ghost use Rattle.fields_core.specs.TentHouses.{column_of_tents, row_of_tents, free_beside, tree_house, square_house, tent_houses};
+ghost use Rattle.gameid_core.specs.Puzzles.{IsTents};
 
 use crate::count::list::CountList;
 use crate::count::run::Run;
@@ -133,7 +134,8 @@ fn sizes(puzzle: &TentsPuzzle) -> (usize, usize) {
 /// The houses of the columns, of the rows, of the trees and of the squares.
 #[tactic(auto, using(crate::proofs::LawSets::house_list_laws))]
 pub(crate) fn houses_of_tents(alloc: Global, puzzle: &TentsPuzzle) -> Result<CountList, AllocError>
-    ensures { IfOk result (λ list. AreListed list (tent_houses puzzle.now)) }
+    ensures lawful { IsTents puzzle.now }
+    ensures listed { IfOk result (λ list. AreListed list (tent_houses puzzle.now)) }
 {
     let _cells = cells(puzzle);
     let (count, room) = sizes(puzzle);

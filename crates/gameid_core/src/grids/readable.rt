@@ -24,16 +24,16 @@ pub trait Readable: Printed {
             → result ≡ Some (slice_index g place, length (Self.cell_text self.now g place)) };
 }
 
-/// Whether the text begins with the mark, as 1 or 0, and the one byte that says so.
-pub(crate) fn read_mark(text: &[u8], mark: u8) -> Option<(u8, usize)>
+/// Whether the text begins with the symbol, as 1 or 0, and the one byte that says so.
+pub(crate) fn read_symbol(text: &[u8], symbol: u8) -> Option<(u8, usize)>
     ensures range { IfSome result (λ r. r.0 < 2) }
     ensures within { IfSome result (λ r. r.1 ≤ length text.now) }
     ensures none { text.now ≡ [] → result ≡ None }
     ensures read { (byte : ℕ) (after : List ℕ) → text.now ≡ byte ∷ after
-        → result ≡ Some ((if byte == mark then 1 else 0), 1) }
+        → result ≡ Some ((if byte == symbol then 1 else 0), 1) }
 {
     let first = *text.first()?;
-    Some((u8::from(first == mark), 1))
+    Some((u8::from(first == symbol), 1))
 }
 
 /// A byte that shows nothing of the number at its place, which is 0.

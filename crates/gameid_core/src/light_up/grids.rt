@@ -4,7 +4,7 @@
 ghost use Rattle.gameid_core.specs.LightText.{light_hides, light_cell};
 
 use crate::grids::printed::Printed;
-use crate::grids::readable::{Readable, read_hidden, read_mark};
+use crate::grids::readable::{Readable, read_hidden, read_symbol};
 use crate::light_up::cell::LightCell;
 use crate::light_up::puzzle::LightPuzzle;
 use crate::text::writing::push_number;
@@ -36,7 +36,7 @@ impl Readable for LightPuzzle {
 
     fn read_cell(&self, text: &[u8], place: usize) -> Option<(u8, usize)> {
         match self.cells()[place] {
-            LightCell::White => read_mark(text, b'O'),
+            LightCell::White => read_symbol(text, b'O'),
             _ => read_hidden(text),
         }
     }

@@ -5,7 +5,7 @@ ghost use Rattle.gameid_core.specs.Common.{hides_nothing};
 ghost use Rattle.gameid_core.specs.PatternText.{pattern_cell};
 
 use crate::grids::printed::Printed;
-use crate::grids::readable::{Readable, read_mark};
+use crate::grids::readable::{Readable, read_symbol};
 use crate::pattern::puzzle::PatternPuzzle;
 use grid_core::{Grid, Size};
 use std::alloc::AllocError;
@@ -30,6 +30,6 @@ impl Readable for PatternPuzzle {
     ghost hides = { λ p. hides_nothing };
 
     fn read_cell(&self, text: &[u8], _place: usize) -> Option<(u8, usize)> {
-        read_mark(text, b'#')
+        read_symbol(text, b'#')
     }
 }

@@ -1,7 +1,7 @@
 //! Game IDs of Solo.
 
-ghost use Rattle.std.specs.Prelude.{◌≡◌, ◌<◌, ◌≤◌, ◌+◌, ◌*◌, ◌^◌, ◌∷◌, ◌&&◌, true, nat_le, length, IfOk, IfErr, Ok, Err, ◌++◌, false, string_bytes, OnOk};
-ghost use Rattle.gameid_core.specs.Common.{Fails, Gives, IdFault, IsSolo, Solo, TakesRun, begins, head_of, max_id, max_numbers, size_read, words};
+ghost use Rattle.std.specs.Prelude.{◌≡◌, ◌<◌, ◌≤◌, ◌+◌, ◌*◌, ◌^◌, ◌∷◌, true, length, IfOk, IfErr, Ok, Err, ◌++◌, false, string_bytes, OnOk};
+ghost use Rattle.gameid_core.specs.Common.{Fails, Gives, IdFault, IsSolo, Solo, TakesRun, begins, head_of, is_lead, max_id, max_numbers, size_read, words};
 ghost use Rattle.gameid_core.specs.SoloText.{IsWrittenSolo, SpellsSolo, before_given, cells_text, solo_behind, solo_cells_at, solo_of, solo_text, solo_token};
 ghost use Rattle.gameid_core.specs.declared.id.game.Game.TheVariants as game;
 
@@ -17,7 +17,7 @@ use std::alloc::{AllocError, Global};
 
 /// The number of one given cell, and the text after it.
 fn given(n: u8, at: usize, rest: &[u8]) -> Result<(usize, u8, &[u8]), IdFault>
-    requires begins { begins (λ b. nat_le 49 b && nat_le b 57) rest.now ≡ true }
+    requires begins { begins is_lead rest.now ≡ true }
     ensures { TakesRun (solo_token n at) rest.now result }
 {
     let (number, after) = leading_number(rest);

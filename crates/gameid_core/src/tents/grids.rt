@@ -4,7 +4,7 @@
 ghost use Rattle.gameid_core.specs.TentsText.{tent_hides, tents_cell};
 
 use crate::grids::printed::Printed;
-use crate::grids::readable::{Readable, read_hidden, read_mark};
+use crate::grids::readable::{Readable, read_hidden, read_symbol};
 use crate::tents::puzzle::TentsPuzzle;
 use grid_core::{Grid, Size};
 use std::alloc::AllocError;
@@ -35,7 +35,7 @@ impl Readable for TentsPuzzle {
         if self.trees()[place] == 1 {
             read_hidden(text)
         } else {
-            read_mark(text, b'^')
+            read_symbol(text, b'^')
         }
     }
 }

@@ -1,12 +1,11 @@
 //! The maker of Light Up.
 
-ghost use Rattle.std.specs.Prelude.{◌≡◌, ◌≢◌, ◌≤◌, ◌↔◌, true, IsTrue, Err, IfOk, OnOk};
+ghost use Rattle.std.specs.Prelude.{◌≡◌, ◌≤◌, ◌↔◌, true, IsTrue, IfErr, IfOk};
 ghost use Rattle.gameid_core.specs.Puzzles.{IsWide};
 ghost use Rattle.fields_core.specs.LightHouses.{light_rules};
-ghost use Rattle.maker_core.specs.declared.made.MakeFault.TheVariants.{Exhausted, SizeRange};
-ghost use Rattle.maker_core.specs.Draws.{AllFail, AreAll, DrawsAll, DrawsFirst};
+ghost use Rattle.maker_core.specs.Draws.{AreAll, LeavesStream};
 ghost use Rattle.maker_core.specs.LightFilling.{IsLit, light_puzzle_of};
-ghost use Rattle.maker_core.specs.LightMaking.{MakesLights, light_tries};
+ghost use Rattle.maker_core.specs.LightMaking.{IsLightUnmade, MakesLights, light_tries};
 ghost use Rattle.maker_core.specs.Made.{HasOne, has_one};
 
 use crate::light_up::filling::{LightFilling, fill_lights, puzzle_of};
@@ -100,15 +99,9 @@ pub fn make_lights<G: Rng>(
 ) -> Result<Made<LightPuzzle>, MakeFault>
     requires { black ≤ 100 }
     ensures made { IfOk result (MakesLights size black limits (G.stream rng.old)) }
-    ensures drawn { OnOk result
-        (DrawsFirst (light_tries size black limits) G.stream rng.old rng.new) }
-    ensures size_range { (result ≡ Err SizeRange) ↔ (IsWide size → ⊥) }
-    ensures no_tries { IsWide size → limits.tries ≡ 0 → result ≡ Err Exhausted }
-    ensures exhausted { result ≡ Err Exhausted
-        → AllFail (light_tries size black limits) (G.stream rng.old) }
-    ensures all_drawn { DrawsAll (light_tries size black limits) G.stream rng.old rng.new result }
-    ensures undrawn { result ≡ Err SizeRange → G.stream rng.new ≡ G.stream rng.old }
-    ensures full { 1 ≤ limits.tries → black ≡ 100 → result ≢ Err Exhausted }
+    ensures unmade { IfErr result (IsLightUnmade size black limits (G.stream rng.old)) }
+    ensures leaves { LeavesStream (light_tries size black limits)
+        (G.stream rng.old) (G.stream rng.new) result }
 {
     if !is_wide(size) {
         return Err(MakeFault::SizeRange);

@@ -1,13 +1,12 @@
 //! The maker of Pattern.
 
-ghost use Rattle.std.specs.Prelude.{◌≡◌, ◌≢◌, ◌≤◌, ◌*◌, ◌⊎◌, true, Err, IfOk, OnOk};
+ghost use Rattle.std.specs.Prelude.{◌≡◌, ◌≤◌, ◌*◌, ◌⊎◌, true, IfErr, IfOk};
 ghost use Rattle.grid_core.specs.Grids.{IsGrid};
 ghost use Rattle.pattern_core.specs.LineRules.{line_rules};
 ghost use Rattle.pattern_core.specs.Solutions.{IsPatternSolution};
-ghost use Rattle.maker_core.specs.declared.made.MakeFault.TheVariants.{Exhausted, SizeRange};
-ghost use Rattle.maker_core.specs.Draws.{AllFail, DrawsAll, DrawsFirst};
+ghost use Rattle.maker_core.specs.Draws.{LeavesStream};
 ghost use Rattle.maker_core.specs.Made.{HasOne};
-ghost use Rattle.maker_core.specs.PatternMaking.{MakesPattern, clued_by, pattern_tries};
+ghost use Rattle.maker_core.specs.PatternMaking.{IsPatternUnmade, MakesPattern, clued_by, pattern_tries};
 
 use crate::black::draw_black;
 use crate::made::{Limits, Made, MakeFault};
@@ -81,15 +80,9 @@ pub fn make_pattern<G: Rng>(
 ) -> Result<Made<PatternPuzzle>, MakeFault>
     requires { black ≤ 100 }
     ensures made { IfOk result (MakesPattern size black limits (G.stream rng.old)) }
-    ensures drawn { OnOk result
-        (DrawsFirst (pattern_tries size black limits) G.stream rng.old rng.new) }
-    ensures in_range { result ≢ Err SizeRange }
-    ensures no_tries { limits.tries ≡ 0 → result ≡ Err Exhausted }
-    ensures exhausted { result ≡ Err Exhausted
-        → AllFail (pattern_tries size black limits) (G.stream rng.old) }
-    ensures all_drawn { DrawsAll (pattern_tries size black limits) G.stream rng.old rng.new result }
-    ensures plain { 1 ≤ limits.tries → (black ≡ 0) ⊎ (black ≡ 100)
-        → result ≢ Err Exhausted }
+    ensures unmade { IfErr result (IsPatternUnmade size black limits (G.stream rng.old)) }
+    ensures leaves { LeavesStream (pattern_tries size black limits)
+        (G.stream rng.old) (G.stream rng.new) result }
 {
     let bitmaps = Bitmaps {
         size,

@@ -1,11 +1,10 @@
 //! The maker of Solo.
 
-ghost use Rattle.std.specs.Prelude.{◌≡◌, ◌↔◌, false, is_some, IsTrue, Err, IfOk, IfSome, OnOk};
+ghost use Rattle.std.specs.Prelude.{◌≡◌, ◌↔◌, false, is_some, IsTrue, IfErr, IfOk, IfSome};
 ghost use Rattle.solo_core.specs.Solutions.{IsSoloSolution};
-ghost use Rattle.maker_core.specs.declared.made.MakeFault.TheVariants.{Exhausted, SizeRange};
-ghost use Rattle.maker_core.specs.Draws.{AllFail, DrawsAll, DrawsFirst};
+ghost use Rattle.maker_core.specs.Draws.{LeavesStream};
 ghost use Rattle.maker_core.specs.SoloFilling.{all_given};
-ghost use Rattle.maker_core.specs.SoloMaking.{IsSoloSize, MakesSolo, NoneFound, solo_tries};
+ghost use Rattle.maker_core.specs.SoloMaking.{IsSoloSize, IsSoloUnmade, MakesSolo, solo_tries};
 
 use crate::made::{Limits, Made, MakeFault};
 use crate::solo::filling::{fill_plain, full_puzzle};
@@ -46,16 +45,9 @@ pub fn make_solo<G: Rng>(
     limits: Limits,
 ) -> Result<Made<SoloPuzzle>, MakeFault>
     ensures made { IfOk result (MakesSolo c r x limits (G.stream rng.old)) }
-    ensures drawn { OnOk result (DrawsFirst (solo_tries c r x limits) G.stream rng.old rng.new) }
-    ensures size_range { (result ≡ Err SizeRange) ↔ (IsSoloSize c r → ⊥) }
-    ensures no_tries { IsSoloSize c r → limits.tries ≡ 0 → result ≡ Err Exhausted }
-    ensures exhausted { result ≡ Err Exhausted
-        → AllFail (solo_tries c r x limits) (G.stream rng.old) }
-    ensures none_found { result ≡ Err Exhausted
-        → NoneFound c r x limits.budget (G.stream rng.old) limits.tries }
-    ensures plain { x ≡ false → result ≡ Err Exhausted → limits.tries ≡ 0 }
-    ensures all_drawn { DrawsAll (solo_tries c r x limits) G.stream rng.old rng.new result }
-    ensures undrawn { result ≡ Err SizeRange → G.stream rng.new ≡ G.stream rng.old }
+    ensures unmade { IfErr result (IsSoloUnmade c r x limits (G.stream rng.old)) }
+    ensures leaves { LeavesStream (solo_tries c r x limits)
+        (G.stream rng.old) (G.stream rng.new) result }
 {
     if !is_size(c, r) {
         return Err(MakeFault::SizeRange);

@@ -1,13 +1,12 @@
 //! The maker of Tents.
 
-ghost use Rattle.std.specs.Prelude.{◌≡◌, ◌↔◌, ◌*◌, true, IsTrue, Err, IfOk, OnOk};
+ghost use Rattle.std.specs.Prelude.{◌≡◌, ◌↔◌, ◌*◌, true, IsTrue, IfErr, IfOk};
 ghost use Rattle.grid_core.specs.Grids.{IsGrid};
 ghost use Rattle.fields_core.specs.TentHouses.{tent_rules};
-ghost use Rattle.maker_core.specs.declared.made.MakeFault.TheVariants.{Exhausted, SizeRange};
-ghost use Rattle.maker_core.specs.Draws.{AllFail, DrawsAll, DrawsFirst};
+ghost use Rattle.maker_core.specs.Draws.{LeavesStream};
 ghost use Rattle.maker_core.specs.Made.{HasOne, has_one};
 ghost use Rattle.maker_core.specs.TentFilling.{IsSolvedFilling, tents_puzzle_of};
-ghost use Rattle.maker_core.specs.TentMaking.{IsTentSize, MakesTents, tents_tries};
+ghost use Rattle.maker_core.specs.TentMaking.{IsTentSize, IsTentsUnmade, MakesTents, tents_tries};
 
 use crate::made::{Limits, Made, MakeFault};
 use crate::tents::filling::{TentFilling, fill_tents};
@@ -102,13 +101,9 @@ pub fn make_tents<G: Rng>(
     limits: Limits,
 ) -> Result<Made<TentsPuzzle>, MakeFault>
     ensures made { IfOk result (MakesTents size limits (G.stream rng.old)) }
-    ensures drawn { OnOk result (DrawsFirst (tents_tries size limits) G.stream rng.old rng.new) }
-    ensures size_range { (result ≡ Err SizeRange) ↔ (IsTentSize size → ⊥) }
-    ensures no_tries { IsTentSize size → limits.tries ≡ 0 → result ≡ Err Exhausted }
-    ensures exhausted { result ≡ Err Exhausted
-        → AllFail (tents_tries size limits) (G.stream rng.old) }
-    ensures all_drawn { DrawsAll (tents_tries size limits) G.stream rng.old rng.new result }
-    ensures undrawn { result ≡ Err SizeRange → G.stream rng.new ≡ G.stream rng.old }
+    ensures unmade { IfErr result (IsTentsUnmade size limits (G.stream rng.old)) }
+    ensures leaves { LeavesStream (tents_tries size limits)
+        (G.stream rng.old) (G.stream rng.new) result }
 {
     if !is_tent_size(size) {
         return Err(MakeFault::SizeRange);

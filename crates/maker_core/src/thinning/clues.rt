@@ -19,7 +19,7 @@ impl Clued for SoloPuzzle {
 
     ghost game = { solo_game };
 
-    ghost meaning = { λ search. houses_rules search.puzzle };
+    ghost meaning = { λ search. houses_rules search.set.puzzle };
 
     ghost can_be_clue = { λ p n. n ≤ solo_n p };
 
@@ -60,7 +60,7 @@ impl Clued for LightPuzzle {
 
     ghost game = { light_game };
 
-    ghost meaning = { λ search. light_rules search.light };
+    ghost meaning = { λ search. light_rules search.set.puzzle };
 
     ghost can_be_clue = { λ p n. n ≤ 4 };
 

@@ -3,9 +3,10 @@
 
 ghost use Rattle.std.specs.Prelude.{◌≡◌, ◌<◌, [], OnOk, length};
 ghost use Rattle.engine_core.specs.HouseList.{FitsLists, FitsPlaces};
+ghost use Rattle.engine_core.specs.ListedHouses.{all_places};
 ghost use Rattle.solo_core.specs.Common.{solo_n, IsHouseOf};
 ghost use Rattle.solo_core.specs.RuleSets.{crossing_of, crossings_of, rest_of_line};
-ghost use Rattle.solo_core.specs.Work.{all_places, HasAdded, HasBegun, HasClosed};
+ghost use Rattle.solo_core.specs.Work.{HasAdded, HasBegun, HasClosed};
 
 use crate::houses::house::NamedHouse;
 use crate::houses::places::{lies, place, push_places};

@@ -3,10 +3,9 @@
 
 ghost use Rattle.std.specs.Prelude.{◌≡◌, ℕ, ◌<◌, ◌≤◌, ◌&&◌, ◌||◌, not, length};
 ghost use Rattle.grid_core.specs.Candidates.{max_values};
-ghost use Rattle.solo_core.specs.Common.{has_bit as is_set, solo_n, IsDecided, IsHouseOf};
+ghost use Rattle.solo_core.specs.Common.{has_bit as is_set, house_of, solo_n, IsDecided, IsHouseOf};
 ghost use Rattle.solo_core.specs.Crossing.{part_has, in_block_alone, in_line_alone, strikes_by_parts};
 ghost use Rattle.solo_core.specs.RuleSets.{crossings_of, AreShared};
-ghost use Rattle.solo_core.specs.Work.{IsKeptBy};
 
 use crate::houses::house::NamedHouse;
 use crate::houses::places::{lies, place};
@@ -19,7 +18,8 @@ use gameid_core::SoloPuzzle;
 pub(crate) fn keep_crossed(puzzle: &SoloPuzzle, number: usize, sets: &[u32], kept: &mut [u32])
     requires number_in { number < length (crossings_of puzzle.now) }
     requires as_many { length kept.old ≡ length sets.now }
-    ensures { IsKeptBy puzzle.now (crossings_of puzzle.now) number sets.now kept.new }
+    ensures { IsDecided (solo_n puzzle.now) (house_of (crossings_of puzzle.now) number).decides
+        sets.now kept.new }
 {
     let (block, line) = crossing_at(puzzle, number);
     keep_crossing(

@@ -1,7 +1,7 @@
 use Rattle.std.proofs.Common.{inl, inr, refl}
 use Rattle.commands.specs.Batches.{AllowsTask}
 use Rattle.commands.proofs.BatchLemmas.{ran_answered, ran_begun, ran_stopped}
-use Rattle.commands.proofs.GameFacts.{answers}
+use Rattle.commands.proofs.GameLaws.{answers}
 use Rattle.commands.proofs.RunLemmas.{is_late}
 use Rattle.commands.specs.Answers.{code_of}
 use Rattle.commands.proofs.batch.answer_lines.Goals as goal

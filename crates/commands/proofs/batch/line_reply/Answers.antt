@@ -1,4 +1,4 @@
-use Rattle.commands.proofs.GameFacts.{too_long}
+use Rattle.commands.proofs.GameLaws.{too_long}
 use Rattle.commands.proofs.Readings.{too_long_id}
 use Rattle.commands.proofs.batch.line_reply.Goals as goal
 

@@ -1,4 +1,5 @@
 use Rattle.commands.specs.Allowed.{AllowsCheck}
+use Rattle.commands.specs.Games.{game_of}
 use Rattle.commands.proofs.RequestsAnswered.{checked}
 use Rattle.commands.proofs.RunLemmas.{ran_some}
 use Rattle.commands.proofs.check.check_id.Goals as goal
@@ -8,7 +9,7 @@ returns-in-Solo g c =
     let a = c.args in
     let e = c.in-Solo.is in
     record {
-      ran = ran_some g.I.Source g.O.Sink (AllowsCheck a.game a.id.now) (checked a.game a.id.now) _ _ _ _ _ (rw e c.check_one.ensures.ran);
+      ran = ran_some g.I.Source g.O.Sink (AllowsCheck (game_of a.game) a.id.now) (checked a.game a.id.now) _ _ _ _ _ (rw e c.check_one.ensures.ran);
       left = rw e c.check_one.ensures.left;
     }
 
@@ -17,7 +18,7 @@ returns-in-Pattern g c =
     let a = c.args in
     let e = c.in-Pattern.is in
     record {
-      ran = ran_some g.I.Source g.O.Sink (AllowsCheck a.game a.id.now) (checked a.game a.id.now) _ _ _ _ _ (rw e c.check_one-in-Pattern.ensures.ran);
+      ran = ran_some g.I.Source g.O.Sink (AllowsCheck (game_of a.game) a.id.now) (checked a.game a.id.now) _ _ _ _ _ (rw e c.check_one-in-Pattern.ensures.ran);
       left = rw e c.check_one-in-Pattern.ensures.left;
     }
 
@@ -26,7 +27,7 @@ returns-in-LightUp g c =
     let a = c.args in
     let e = c.in-LightUp.is in
     record {
-      ran = ran_some g.I.Source g.O.Sink (AllowsCheck a.game a.id.now) (checked a.game a.id.now) _ _ _ _ _ (rw e c.check_one-in-LightUp.ensures.ran);
+      ran = ran_some g.I.Source g.O.Sink (AllowsCheck (game_of a.game) a.id.now) (checked a.game a.id.now) _ _ _ _ _ (rw e c.check_one-in-LightUp.ensures.ran);
       left = rw e c.check_one-in-LightUp.ensures.left;
     }
 
@@ -35,6 +36,6 @@ returns-in-Tents g c =
     let a = c.args in
     let e = c.in-Tents.is in
     record {
-      ran = ran_some g.I.Source g.O.Sink (AllowsCheck a.game a.id.now) (checked a.game a.id.now) _ _ _ _ _ (rw e c.check_one-in-Tents.ensures.ran);
+      ran = ran_some g.I.Source g.O.Sink (AllowsCheck (game_of a.game) a.id.now) (checked a.game a.id.now) _ _ _ _ _ (rw e c.check_one-in-Tents.ensures.ran);
       left = rw e c.check_one-in-Tents.ensures.left;
     }

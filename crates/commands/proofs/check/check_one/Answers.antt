@@ -11,4 +11,4 @@ pub returns-in-Err-clause-ran : goal.returns-in-Err-clause-ran
 returns-in-Err-clause-ran g c =
     let other : c.in-Err.fault ≢ Memory = search rules in
     ran_if_any_by_telling g.I.Source g.O.Sink _ _ _ _ _ _ (g.met.I.Source.gives_nothing c.args.input.now)
-    (λ input answer told. refused_id _ _ _ c.in-Err.fault _ other c.in-Err.ensures.fault told) c.refuse.ensures.told
+    (λ input answer told. refused_id _ _ _ c.in-Err.fault _ other c.in-Err.ensures.fault told) c.refuse.ensures.answer

@@ -7,32 +7,33 @@ use Rattle.maker_core.specs.LightFilling.{with_numbers}
 use Rattle.maker_core.specs.SoloClues.{solo_game}
 use Rattle.maker_core.specs.SoloFilling.{all_given}
 use Rattle.maker_core.specs.Thinning.{IsReason}
-use Rattle.commands.specs.Common.{Game, grid_text, rule_from_test}
+use Rattle.commands.specs.Common.{Game, rule_from_test}
 use Rattle.commands.specs.Answers.{Answer, Text}
-use Rattle.commands.specs.Games.{played}
+use Rattle.commands.specs.Games.{game_of}
+use Rattle.commands.specs.PuzzleFacts.{printed_by}
 use Rattle.commands.specs.LawsOfCommands.{IsSolvedAsMade}
 use Rattle.commands.specs.Allowed.{AllowsMade, wanted}
-use Rattle.commands.proofs.GameFacts.{facts, passes_as, spelled_read, none_made, found_alone, never_one}
+use Rattle.commands.proofs.GameLaws.{laws_of, passes_as, spelled_read, found_alone, never_one}
 use Rattle.commands.proofs.laws.made_puzzles_are_solved.Goals as goal
 
 by : (game : Game) (size : Text) (seed budget tries black : ℕ) (answer : Answer)
-    → AllowsMade game size seed budget tries black answer → answer.status ≡ 0 → IsSolvedAsMade game budget answer
-by game size seed budget tries black answer (inl refusal) fine = absurd (omega (arith, fine, ap (λ (a : Answer). a.status) refusal.told))
+    → AllowsMade (game_of game) (wanted seed budget tries black) size answer → answer.status ≡ 0 → IsSolvedAsMade game budget answer
+by game size seed budget tries black answer (inl refusal) fine = absurd (omega (arith, fine, ap (λ (a : Answer). a.status) refusal.said))
 by game size seed budget tries black answer (inr sized) fine = elim sized.allowed [
   | inl handed ↦
-      let play = played game in
-      let known = facts game in
-      let p = handed.puzzle in
-      let alone = known.made sized.puzzle (wanted seed budget tries black) p handed.solution handed.kept handed.made in
+      let play = game_of game in
+      let known = laws_of game in
+      let p = handed.made.puzzle in
+      let alone = known.made sized.puzzle (wanted seed budget tries black) handed.made handed.is_made in
       record {
         id = play.game.written p;
-        grid = grid_text (play.cell_text p handed.solution) (play.extent p);
-        told = handed.told;
-        solved = λ said. found_alone play known.reading (play.game.written p) p budget handed.solution said handed.spelled alone.0 alone.1;
+        grid = printed_by play p handed.made.solution;
+        said = handed.said;
+        solved = λ said. found_alone play known.reading (play.game.written p) p budget handed.made.solution said handed.spelled alone.0 alone.1;
         read = spelled_read play.game.reading play.game.spells known.reading (play.game.written p) p handed.spelled;
-        passes = λ said. passes_as play known.reading known.checked (play.game.written p) p handed.spelled handed.solution alone.1.0 said;
+        passes = λ said. passes_as play known.reading known.checked (play.game.written p) p handed.spelled handed.made.solution alone.1.0 said;
       }
-  | inr none ↦ none_made answer (IsSolvedAsMade game budget answer) ((facts game).unmade sized.puzzle (wanted seed budget tries black) answer none) fine
+  | inr none ↦ absurd (omega (arith, fine, ap (λ (a : Answer). a.status) none.said))
 ]
 
 pub returns-clause-solved : goal.returns-clause-solved
@@ -40,10 +41,10 @@ returns-clause-solved c = by
 
 pub returns-clause-solo : goal.returns-clause-solo
 returns-clause-solo c = λ first second x budget tries s p g kept place made needed id any said spelled.
-    never_one (played Solo) (facts Solo).reading id (solo_game.without p place) any said spelled (All-contains (λ k. IsReason solo_game budget (all_given first second x g) p k.place k.why) kept _ made.reasons.reasons needed)
+    never_one (game_of Solo) (laws_of Solo).reading id (solo_game.without p place) any said spelled (All-contains (λ k. IsReason solo_game budget (all_given first second x g) p k.place k.why) kept _ made.reasons.reasons needed)
     (λ h t. rule_from_test (solo_game.without p place) spelled.puzzle h t.grid t.good)
 
 pub returns-clause-lights : goal.returns-clause-lights
 returns-clause-lights c = λ size black budget tries s p g kept place made needed id any said spelled.
-    never_one (played LightUp) (facts LightUp).reading id (light_game.without p place) any said spelled (All-contains (λ k. IsReason light_game budget (with_numbers p g) p k.place k.why) kept _ made.reasons.reasons needed)
+    never_one (game_of LightUp) (laws_of LightUp).reading id (light_game.without p place) any said spelled (All-contains (λ k. IsReason light_game budget (with_numbers p g) p k.place k.why) kept _ made.reasons.reasons needed)
     (λ h t. rule-from-test (light_game.without p place) h t.grid t.good)

@@ -4,28 +4,28 @@ use Rattle.gameid_core.specs.declared.id.game.Game.{Game}
 use Rattle.gameid_core.specs.declared.id.game.Game.TheVariants.{Solo, Pattern, LightUp, Tents}
 use Rattle.commands.specs.Answers.{Text}
 use Rattle.commands.specs.Allowed.{AllowsCheck, AllowsGrade, Allows, AllowsSolve}
-use Rattle.commands.specs.Games.{played}
+use Rattle.commands.specs.Games.{game_of}
 use Rattle.commands.specs.LawsOfCommands.{HasOneAnswer, is_fixed}
 use Rattle.commands.specs.Replies.{refused_words}
 use Rattle.commands.specs.Asked.{Asked, solve, check, grade, generate}
 use Rattle.commands.proofs.CheckedPuzzles.{check_same, check_some}
-use Rattle.commands.proofs.GameFacts.{facts, solving, listed_right}
+use Rattle.commands.proofs.GameLaws.{laws_of, solving, listed_right}
 use Rattle.commands.proofs.MadeAlike.{lights_differ, solo_differs}
 use Rattle.commands.proofs.MadeOnce.{AreFilled, made_pattern, made_tents}
 use Rattle.commands.proofs.Readings.{each_once, grade_once, id_once, one_of_same, told_once}
 use Rattle.commands.proofs.laws.one_answer.Goals as goal
 
-checking : (game : Game) (id input : Text) → HasOneAnswer (AllowsCheck game id input)
+checking : (game : Game) (id input : Text) → HasOneAnswer (AllowsCheck (game_of game) id input)
 checking game id input =
-    id_once (facts game).reading id _ (λ p s.
-    let checked = (facts game).checked id p s in
-    one_of_same _ (check_some (played game) p checked input) (check_same (played game) p checked input))
+    id_once (laws_of game).reading id _ (λ p s.
+    let checked = (laws_of game).checked id p s in
+    one_of_same _ (check_some (game_of game) p checked input) (check_same (game_of game) p checked input))
 
-grading : (game : Game) (id : Text) (budget : ℕ) → HasOneAnswer (AllowsGrade game id budget false)
+grading : (game : Game) (id : Text) (budget : ℕ) → HasOneAnswer (AllowsGrade (game_of game) id budget false)
 grading game id budget =
-    let of = (played game).game in
-    id_once (facts game).reading id _ (λ p s. grade_once (of.solves p) _ _
-    (listed_right (of.solves p) (of.sets p) (of.rules p) budget ((facts game).listed id p s) ((facts game).searched id p s)))
+    let of = (game_of game).game in
+    id_once (laws_of game).reading id _ (λ p s. grade_once (game_of game) (of.sets p) budget p
+    (listed_right (of.solves p) (of.sets p) (of.rules p) budget ((laws_of game).listed id p s) ((laws_of game).searched id p s)))
 
 pub returns : goal.returns
 returns c = record { fixed = by; solo = solo_differs; lights = lights_differ }
@@ -36,7 +36,7 @@ returns c = record { fixed = by; solo = solo_differs; lights = lights_differ }
     by : (asked : Option Asked) (input : Text) → is_fixed asked ≡ true → HasOneAnswer (Allows asked input)
     by None input fixed = told_once refused_words
     by (Some (solve game (Some id) budget)) input fixed = solving game budget id
-    by (Some (solve game None budget)) input fixed = each_once (AllowsSolve game budget) (solving game budget) (lines input)
+    by (Some (solve game None budget)) input fixed = each_once (AllowsSolve (game_of game) budget) (solving game budget) (lines input)
     by (Some (check game id)) input fixed = checking game id input
     by (Some (grade game id budget false)) input fixed = grading game id budget
     by (Some (grade game id budget true)) input fixed = absurd (true≢false (sym fixed))

@@ -1,25 +1,21 @@
 use Rattle.std.specs.Prelude.{◌↔◌}
 use Rattle.gameid_core.specs.declared.id.game.Game.{Game}
 use Rattle.commands.specs.Answers.{Answer, Text}
-use Rattle.commands.specs.Games.{played, puzzle_of}
-use Rattle.commands.specs.Allowed.{AnswersId}
-use Rattle.commands.specs.LawsOfCommands.{Rewrites}
-use Rattle.commands.proofs.GameFacts.{facts}
+use Rattle.commands.specs.Games.{game_of, puzzle_of}
+use Rattle.commands.specs.Allowed.{AllowsId}
+use Rattle.commands.specs.LawsOfCommands.{IsRewritten}
+use Rattle.commands.proofs.GameLaws.{laws_of}
 use Rattle.commands.proofs.Readings.{answered_alike, spelled_alike}
 use Rattle.commands.proofs.laws.rewritten_ids_are_the_same.Goals as goal
 
-alike : (game : Game) (id other : Text) → Rewrites game id other → (allows : puzzle_of game → Answer → Type 0) (answer : Answer)
-    → AnswersId (played game).game id allows answer ↔ AnswersId (played game).game other allows answer
-alike game id other r allows answer = answered_alike (played game).game.written (facts game).reading (facts game).again id other r allows answer
-
-pub returns-clause-puzzles : goal.returns-clause-puzzles
-returns-clause-puzzles c = λ game id other r. spelled_alike (played game).game.written (facts game).reading (facts game).again id other r
-
-pub returns-clause-solved : goal.returns-clause-solved
-returns-clause-solved c = λ game id other r budget input answer. alike game id other r _ answer
-
-pub returns-clause-checked : goal.returns-clause-checked
-returns-clause-checked c = λ game id other r input answer. alike game id other r _ answer
-
-pub returns-clause-graded : goal.returns-clause-graded
-returns-clause-graded c = λ game id other r budget traced input answer. alike game id other r _ answer
+pub returns : goal.returns
+returns c = λ g id other r. record {
+  puzzles = spelled_alike (game_of g).game (laws_of g).reading (laws_of g).again id other r;
+  solved = λ budget input. alike g id other r _;
+  checked = λ input. alike g id other r _;
+  graded = λ budget traced input. alike g id other r _;
+}
+  where
+    alike : (g : Game) (id other : Text) → IsRewritten (game_of g).game id other → (allows : puzzle_of g → Answer → Type 0) (answer : Answer)
+        → AllowsId ((game_of g).game.reading id) ((game_of g).game.spells id) allows answer ↔ AllowsId ((game_of g).game.reading other) ((game_of g).game.spells other) allows answer
+    alike g id other r = answered_alike (game_of g).game (laws_of g).reading (laws_of g).again id other r

@@ -2,19 +2,19 @@ use Rattle.std.proofs.Common.{ℕ}
 use Rattle.gameid_core.specs.declared.id.game.Game.{Game}
 use Rattle.commands.specs.Answers.{Answer, Text}
 use Rattle.commands.specs.Allowed.{AllowsCheck, AllowsSolve}
-use Rattle.commands.specs.Games.{played}
-use Rattle.commands.proofs.GameFacts.{GoesWith, goes_with, refusals_go, passed, facts}
+use Rattle.commands.specs.Games.{game_of}
+use Rattle.commands.proofs.GameLaws.{GoesWith, goes_with, refusals_go, passed, laws_of}
 use Rattle.commands.proofs.GradedAlike.{both_answers}
 use Rattle.commands.proofs.laws.solved_grids_pass.Goals as goal
 
 goes : (game : Game) (id input : Text) (budget : ℕ) (given solved : Answer)
-    → AllowsCheck game id input given → AllowsSolve game budget id solved → GoesWith input given solved
+    → AllowsCheck (game_of game) id input given → AllowsSolve (game_of game) budget id solved → GoesWith input given solved
 goes game id input budget given solved =
-    both_answers (facts game).reading _ _ (GoesWith input) id given solved (refusals_go input)
-    (λ p s a b. goes_with (played game) p budget input given solved ((facts game).checked id p s) a b)
+    both_answers (laws_of game).reading _ _ (GoesWith input) id given solved (refusals_go input)
+    (λ p s a b. goes_with (game_of game) p budget input given solved ((laws_of game).checked id p s) a b)
 
 pub returns-clause-pass : goal.returns-clause-pass
-returns-clause-pass c = λ game id budget solved. passed (played game) (facts game).reading (facts game).checked id budget solved
+returns-clause-pass c = λ game id budget solved. passed (game_of game) (laws_of game).reading (laws_of game).checked id budget solved
 
 pub returns-clause-some : goal.returns-clause-some
 returns-clause-some c = λ game id input budget given solved checks fine tells. (goes game id input budget given solved checks tells fine).some

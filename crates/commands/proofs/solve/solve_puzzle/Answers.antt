@@ -8,6 +8,6 @@ both (Ok x) p q f = f x p q
 both (Err e) p q f = tt
 
 pub returns : goal.returns
-returns g c = both c.verdict_reply.result c.verdict_reply.ensures.told c.verdict_reply.ensures.right (λ r told right.
-    solved_of g.P.Played.game.solves g.P.Played.game.rules g.P.Printed.cell_text g.P.Printed.extent c.args.budget c.args.puzzle.now _ _
+returns g c = both c.verdict_reply.result c.verdict_reply.ensures.answer c.verdict_reply.ensures.right (λ r told right.
+    solved_of _ c.args.budget c.args.puzzle.now _ _
     (c.requires.means _ ∙ c.in_ok-rules.ensures.made) c.in_ok-rules.ensures.solutions told right)

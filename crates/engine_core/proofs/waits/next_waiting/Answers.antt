@@ -9,15 +9,15 @@ returns-then-house-houses c =
     let w = c.loop-word.word in (
       (let le = next.0 in let past = i.past in omega arith),
       c.if-house-houses.true,
-      waits_in_word c.args.waits.now w c.in-Some.next next.1 next.2,
-      none_so_far c.args.waits.now c.args.from w c.loop-word.bit c.in-Some.next (let lt = next.1 in omega arith) i.none next.3,
+      waits_in_word c.args.waits.now w next.1 next.2,
+      none_so_far c.args.waits.now w (let lt = next.1 in omega arith) i.none next.3,
     )
 
 pub returns-in-Some : goal.returns-in-Some
 returns-in-Some c = λ j le lt.
     let i = c.loop-word.invariant in
     let next = c.in-Some.ensures in
-    none_so_far c.args.waits.now c.args.from c.loop-word.word c.loop-word.bit c.in-Some.next (let lt = next.1 in omega arith) i.none next.3 j le (omega arith)
+    none_so_far c.args.waits.now c.loop-word.word (let lt = next.1 in omega arith) i.none next.3 j le (omega arith)
 
 pub loop-word-preserved : goal.loop-word-preserved
 loop-word-preserved c =
@@ -25,5 +25,5 @@ loop-word-preserved c =
     record {
       bit_in = omega arith;
       past = (let past = i.past in let low = i.bit_in in omega arith);
-      none = λ j le lt. none_so_far c.args.waits.now c.args.from c.loop-word.word c.loop-word.bit 64 (omega arith) i.none c.in_default.ensures j le (omega arith);
+      none = λ j le lt. none_so_far c.args.waits.now c.loop-word.word (omega arith) i.none c.in_default.ensures j le (omega arith);
     }

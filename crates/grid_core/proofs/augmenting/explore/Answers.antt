@@ -11,6 +11,6 @@ loop-head-preserved g c =
       e.room ∙ i.0,
       omega arith,
       e.reach,
-      IsClosed-step _ _ _ c.loop-head.reached.lefts c.reach_owners.new.reached.lefts c.loop-head.head (omega arith) i.3 e.grown
+      IsClosed-step _ _ (omega arith) i.3 e.grown
           (rw c.left.ensures.left at c.in_default.ensures) e.owners,
     )

@@ -9,10 +9,10 @@ loop-right-preserved g c =
     let s = c.loop-right.invariant in
     elim c.match-owner.branch [
       | in-Some-owner+then-not-has w ↦
-          rw (w.reached-is ∙ w.push.ensures)
-          (IsScan-push _ _ _ _ _ _ _ s f.3 w.in-Some-owner.owner w.in-Some-owner.ensures.owner c.args.head c.requires.head_in c.left-left.ensures.left f.2)
+          rw (w.frontier-is ∙ w.push.ensures)
+          (IsScan-push s f.3 w.in-Some-owner.ensures.owner c.requires.head_in c.left-left.ensures.left f.2)
       | in-Some-owner+else-not-has w ↦
-          rw w.reached-is
-          (IsScan-known _ _ _ _ _ _ _ s f.3 w.in-Some-owner.owner w.in-Some-owner.ensures.owner (w.has.ensures.0 w.if-not-has.false))
-      | in_default-owner w ↦ rw w.reached-is (IsScan-free _ _ _ _ _ _ _ s f.3 w.in_default-owner.ensures.owner)
+          rw w.frontier-is
+          (IsScan-known s f.3 w.in-Some-owner.ensures.owner (w.has.ensures.0 w.if-not-has.false))
+      | in_default-owner w ↦ rw w.frontier-is (IsScan-free s f.3 w.in_default-owner.ensures.owner)
     ]

@@ -17,7 +17,7 @@ returns-then-left-eq0-clause-cell c =
 pub loop-direction-preserved : goal.loop-direction-preserved
 loop-direction-preserved c = elim c.match-step.branch [
   | in-Some+else-left-eq0 w ↦
-      let more = steps-some c.args.size c.args.place c.loop-direction.direction w.in-Some.cell w.in-Some.ensures.cell in
+      let more = steps-some c.args.size c.args.place c.loop-direction.direction w.in-Some.ensures.cell in
       let i = c.loop-direction.invariant in
       omega (arith, w.left-is)
   | in_default w ↦

@@ -5,4 +5,4 @@ use Rattle.maker_core.proofs.draws.order.Goals as goal
 pub returns-clause-ordered : goal.returns-clause-ordered
 returns-clause-ordered g c =
     let all : c.loop-number.number ≡ c.args.n = omega arith in
-    order_from_permutation c.args.n _ (rw (c.loop-number.invariant, all) at c.shuffle.ensures.permutation)
+    order_from_permutation (rw (c.loop-number.invariant, all) at c.shuffle.ensures.permutation)

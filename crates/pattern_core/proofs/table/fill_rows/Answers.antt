@@ -6,7 +6,7 @@ use Rattle.pattern_core.proofs.table.fill_rows.Goals as goal
 pub loop-at-init : goal.loop-at-init
 loop-at-init g c = (
   omega arith,
-  last_row _ g.P.Places.has (along g.P.Places.has c.args.moves.now.steps) c.args.sets.now c.args.rows.now c.args.moves.now.steps.ends (λ p. refl) c.requires,
+  last_row _ g.P.Slots.has (along g.P.Slots.has c.args.moves.now.steps) c.args.sets.now c.args.rows.now c.args.moves.now.steps.ends (λ p. refl) c.requires,
 )
 
 pub loop-at-preserved : goal.loop-at-preserved
@@ -14,8 +14,8 @@ loop-at-preserved g c =
     let pos : 0 < c.loop-at.at = c.loop-at-test.true in
     let low : c.loop-at.at ≤ length c.args.sets.now = c.loop-at.invariant.0 in
     let next : c.loop-at.at ≡ c.loop-at.at - 1 + 1 = omega arith in
-    let t = along g.P.Places.has c.args.moves.now.steps in (
+    let t = along g.P.Slots.has c.args.moves.now.steps in (
       omega arith,
-      one_row _ g.P.Places.has t c.args.sets.now c.loop-at.rows (c.loop-at.at - 1) c.ahead_of.result c.index-rows-at.result
-          (subst (AreRows g.P.Places.has t c.args.sets.now c.loop-at.rows) next c.loop-at.invariant.1) (omega arith) c.index-rows-at.is c.ahead_of.ensures,
+      one_row _ g.P.Slots.has t c.args.sets.now c.loop-at.rows (c.loop-at.at - 1) c.ahead_of.result c.index-rows-at.result
+          (subst (AreRows g.P.Slots.has t c.args.sets.now c.loop-at.rows) next c.loop-at.invariant.1) (omega arith) c.index-rows-at.is c.ahead_of.ensures,
     )

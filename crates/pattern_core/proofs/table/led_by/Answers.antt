@@ -5,7 +5,7 @@ use Rattle.pattern_core.proofs.table.led_by.Goals as goal
 
 pub returns : goal.returns
 returns g c = λ p lt.
-    let has = g.P.Places.has in
+    let has = g.P.Slots.has in
     c.either.ensures p ∙ ap₂ (λ m n. m || n)
     (c.both-2.ensures p ∙ ap (λ m. m && has c.args.reached p) (c.mask-2.ensures p ∙ c.args.moves.now.are.rests c.args.set p))
     (c.on-next.ensures.within p lt)

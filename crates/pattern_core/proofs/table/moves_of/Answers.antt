@@ -10,6 +10,6 @@ invariant_of-result g c = record {
   are = record {
     goes = c.masks.ensures;
     rests = λ set p. c.masks-2.ensures set p
-        ∙ ap (λ x. (has_bit set 0 && g.P.Places.has c.steps-steps.result.stay p) || (has_bit set 1 && x)) (c.none.ensures p) ∙ simp (and-false, or-false);
+        ∙ ap (λ x. (has_bit set 0 && g.P.Slots.has c.steps-steps.result.stay p) || (has_bit set 1 && x)) (c.none.ensures p) ∙ simp (and-false, or-false);
   };
 }

@@ -3,5 +3,5 @@ use Rattle.pattern_core.specs.Track.{Spells}
 use Rattle.pattern_core.proofs.track.push_run.Given as goal
 
 abbrev pub invariant-loop-k : goal.invariant-loop-k
-invariant-loop-k g l = (cells : List ℕ) → suc (length cells + l._k) < g.P.Places.room
-    → Spells g.P.Places.has cells l.fn.spelling → Spells g.P.Places.has (cells ++ replicate l._k 1) l.longer
+invariant-loop-k g l = (cells : List ℕ) → suc (length cells + l._k) < g.P.Slots.room
+    → Spells g.P.Slots.has cells l.fn.spelling → Spells g.P.Slots.has (cells ++ replicate l._k 1) l.longer

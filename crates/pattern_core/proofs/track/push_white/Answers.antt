@@ -3,4 +3,4 @@ use Rattle.pattern_core.proofs.Spellings.{spelling_white}
 use Rattle.pattern_core.proofs.track.push_white.Goals as goal
 
 pub returns : goal.returns
-returns g c = λ cells fits s. spelling_white _ g.P.Places.has g.P.Places.room cells _ _ _ _ _ s (omega (arith, fits)) c.on.ensures.within c.on.ensures.past c.either.ensures
+returns g c = λ cells fits s. spelling_white _ g.P.Slots.has g.P.Slots.room cells _ _ _ _ _ s (omega (arith, fits)) c.on.ensures.within c.on.ensures.past c.either.ensures

@@ -7,7 +7,7 @@ use Rattle.pattern_core.proofs.track.spell.Goals as goal
 
 pub loop-k-init : goal.loop-k-init
 unfolding spelled
-loop-k-init g c = ([], refl, spelling_none _ g.P.Places.has _ _ _ c.none.ensures c.none-2.ensures c.first.ensures)
+loop-k-init g c = ([], refl, spelling_none _ g.P.Slots.has _ _ _ c.none.ensures c.none-2.ensures c.first.ensures)
 
 pub loop-k-preserved : goal.loop-k-preserved
 loop-k-preserved g c =
@@ -20,6 +20,6 @@ unfolding spelled
 returns g c =
     let (front, so_far, spells) = c.loop-k.invariant in
     let all = sym (append-nil front) ∙ ap (λ l. front ++ spelled l) (sym (drop_all c.loop-k.k c.args.clue.now c.loop-k-test.false)) ∙ so_far in
-    track_spelled _ g.P.Places.has g.P.Places.room (spelled c.args.clue.now) _ _ _ _ _ _ _ _ (omega (arith, c.requires, length-spelled c.args.clue.now))
-    (subst (λ l. Spells g.P.Places.has l c.loop-k.cells) all spells) c.on.ensures.within c.on.ensures.past c.first-2.ensures c.either.ensures c.back.ensures
+    track_spelled _ g.P.Slots.has g.P.Slots.room (spelled c.args.clue.now) _ _ _ _ _ _ _ _ (omega (arith, c.requires, length-spelled c.args.clue.now))
+    (subst (λ l. Spells g.P.Slots.has l c.loop-k.cells) all spells) c.on.ensures.within c.on.ensures.past c.first-2.ensures c.either.ensures c.back.ensures
     c.either-2.ensures

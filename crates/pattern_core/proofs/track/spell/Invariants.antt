@@ -3,4 +3,4 @@ use Rattle.pattern_core.specs.Track.{spelled, Spells}
 use Rattle.pattern_core.proofs.track.spell.Given as goal
 
 abbrev pub invariant-loop-k : goal.invariant-loop-k
-invariant-loop-k g l = (front : List ℕ) × (front ++ spelled (drop l.k l.clue) ≡ spelled l.clue) × Spells g.P.Places.has front l.cells
+invariant-loop-k g l = (front : List ℕ) × (front ++ spelled (drop l.k l.clue) ≡ spelled l.clue) × Spells g.P.Slots.has front l.cells

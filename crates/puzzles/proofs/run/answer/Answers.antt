@@ -27,7 +27,7 @@ returns-in-Some-Grade-clause-ran g c =
     let asked : Some (grade a.game c.as_bytes.result.now a.options.budget a.options.traced) ≡ asked_of (map string_bytes c.args.words.now) =
     ap (λ t. Some (grade a.game t a.options.budget a.options.traced)) c.as_bytes.ensures.value ∙ sym (ap (λ r. Some (asked_in r)) f) ∙ sym (ap (option_map asked_in) a.is) ∙ c.in_ok-request.ensures in
     ran_by_telling g.I.Source g.O.Sink _ c.args.input.now c.args.output.now c.grade_id.new.output _ _
-    (g.met.I.Source.gives_nothing c.args.input.now) (λ input b told. subst (λ (q : Option Asked). Allows q input b) asked told) c.grade_id.ensures.told
+    (g.met.I.Source.gives_nothing c.args.input.now) (λ input b told. subst (λ (q : Option Asked). Allows q input b) asked told) c.grade_id.ensures.answer
 
 pub returns-in-Some-Check-clause-ran : goal.returns-in-Some-Check-clause-ran
 returns-in-Some-Check-clause-ran g c =

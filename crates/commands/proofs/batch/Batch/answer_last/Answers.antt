@@ -13,9 +13,9 @@ returns-in_err-reply-clause-begun g c = on_any_err c.from_residual.result _ (λ 
 pub returns-in_err-put_reply-clause-begun : goal.returns-in_err-put_reply-clause-begun
 returns-in_err-put_reply-clause-begun g c = on_any_err c.from_residual-in_err-put_reply.result _ (λ answers start seen b.
     last_broken (AllowsTask c.args.task) g.O.Sink.takes g.met.O.Sink.takes_nothing g.met.O.Sink.takes_both start _ _ c.args.self.now seen _ b c.if-is_empty.ensures
-    (λ piece h. c.in_ok-reply.ensures piece (c.last-line.ensures piece h)) c.in_err-put_reply.ensures.begun)
+    (λ piece h. c.in_ok-reply.ensures piece (c.before_end-line.ensures piece h)) c.in_err-put_reply.ensures.begun)
 
 pub returns-clause-whole : goal.returns-clause-whole
 returns-clause-whole g c = λ start seen b.
     last_answered (AllowsTask c.args.task) g.O.Sink.takes g.met.O.Sink.takes_nothing g.met.O.Sink.takes_both start _ _ c.args.self.now seen _ _ b c.if-is_empty.ensures
-    (λ piece h. c.in_ok-reply.ensures piece (c.last-line.ensures piece h)) c.in_ok-put_reply.ensures.put c.in_ok-put_reply.ensures.status
+    (λ piece h. c.in_ok-reply.ensures piece (c.before_end-line.ensures piece h)) c.in_ok-put_reply.ensures.put c.in_ok-put_reply.ensures.status

@@ -3,7 +3,7 @@ use Rattle.commands.proofs.RunLemmas.{delivers_all}
 use Rattle.commands.proofs.ends.output.deliver.Goals as goal
 
 pub returns-then-finish-clause-delivers : goal.returns-then-finish-clause-delivers
-returns-then-finish-clause-delivers g c = delivers_all g.O.Sink.takes g.met.O.Sink.takes_nothing g.met.O.Sink.takes_both _ _ _ _ _ _ c.as_bytes.ensures.value (inl refl) c.in-Ok.ensures.ok c.if-finish.ensures.bytes
+returns-then-finish-clause-delivers g c = delivers_all g.O.Sink.takes g.met.O.Sink.takes_nothing g.met.O.Sink.takes_both _ _ _ _ _ _ c.as_bytes.ensures.value (inl refl) c.in_ok-put_all.ensures.ok c.if-finish.ensures.bytes
 
 pub returns-else-finish-clause-delivers : goal.returns-else-finish-clause-delivers
-returns-else-finish-clause-delivers g c = delivers_all g.O.Sink.takes g.met.O.Sink.takes_nothing g.met.O.Sink.takes_both _ _ _ _ _ _ c.as_bytes.ensures.value (inr refl) c.in-Ok.ensures.ok c.if-finish.ensures.bytes
+returns-else-finish-clause-delivers g c = delivers_all g.O.Sink.takes g.met.O.Sink.takes_nothing g.met.O.Sink.takes_both _ _ _ _ _ _ c.as_bytes.ensures.value (inr refl) c.in_ok-put_all.ensures.ok c.if-finish.ensures.bytes

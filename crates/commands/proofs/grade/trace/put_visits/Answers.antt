@@ -11,15 +11,15 @@ loop-number-init g c = (no_line g.O.Sink.takes g.met.O.Sink.takes_nothing g.met.
 
 pub returns-in_err-push_visit-clause-err : goal.returns-in_err-push_visit-clause-err
 returns-in_err-push_visit-clause-err g c =
-    let begun : PutBegun g.O.Sink.takes c.args.output.now (string_bytes c.args.text.now ++ visits_text (g.P.Named.name_of c.args.puzzle.now) c.args.visits.now) c.loop-number.output =
-    lines_begun g.O.Sink.takes _ _ _ (λ k. line_of (g.P.Named.name_of c.args.puzzle.now (slice_index c.args.visits.now k))) c.loop-number.number-index (length c.args.visits.now) (omega arith)
+    let begun : PutBegun g.O.Sink.takes c.args.output.now (string_bytes c.args.text.now ++ visits_text (g.P.Played.game.visit_name c.args.puzzle.now) c.args.visits.now) c.loop-number.output =
+    lines_begun g.O.Sink.takes _ _ _ (λ k. line_of (g.P.Played.game.visit_name c.args.puzzle.now (slice_index c.args.visits.now k))) c.loop-number.number-index (length c.args.visits.now) (omega arith)
     (put_begins g.O.Sink.takes _ _ _ _ c.loop-number.invariant.0) in
     on_any_err c.from_residual.result _ begun
 
 pub returns-in_err-put_piece-clause-err : goal.returns-in_err-put_piece-clause-err
 returns-in_err-put_piece-clause-err g c =
-    let begun : PutBegun g.O.Sink.takes c.args.output.now (string_bytes c.args.text.now ++ visits_text (g.P.Named.name_of c.args.puzzle.now) c.args.visits.now) c.put_piece.new.output =
-    lines_begun g.O.Sink.takes _ _ _ (λ k. line_of (g.P.Named.name_of c.args.puzzle.now (slice_index c.args.visits.now k))) (c.loop-number.number-index + 1) (length c.args.visits.now) (omega arith)
+    let begun : PutBegun g.O.Sink.takes c.args.output.now (string_bytes c.args.text.now ++ visits_text (g.P.Played.game.visit_name c.args.puzzle.now) c.args.visits.now) c.put_piece.new.output =
+    lines_begun g.O.Sink.takes _ _ _ (λ k. line_of (g.P.Played.game.visit_name c.args.puzzle.now (slice_index c.args.visits.now k))) (c.loop-number.number-index + 1) (length c.args.visits.now) (omega arith)
     (piece_begun g.O.Sink.takes g.met.O.Sink.takes_nothing g.met.O.Sink.takes_both _ _ _ _ _
     (line_added g.O.Sink.takes g.met.O.Sink.takes_nothing g.met.O.Sink.takes_both _ _ _ _ _ _ _ _ c.loop-number.invariant.0 c.in_ok-push_visit.ensures.line refl)
     c.in_err-put_piece.ensures.err) in

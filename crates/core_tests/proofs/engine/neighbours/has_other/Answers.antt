@@ -6,7 +6,9 @@ pub returns-then-has_bit : goal.returns-then-has_bit
 returns-then-has_bit c =
     let o = c.loop-other.other in
     sym (any_below-here (λ u. not (eqb u c.args.value) && has_bit c.args.set u) c.args.values o (omega arith)
-    (and_from (not (eqb o c.args.value)) (has_bit c.args.set o) (not_from_false (eqb o c.args.value) (ne_eqb o c.args.value c.if-other-value.true)) (sym c.has_bit.ensures ∙ c.if-has_bit.true)))
+    (and_from (not (eqb o c.args.value)) (has_bit c.args.set o)
+    (not_from_false (eqb o c.args.value) (ne_eqb o c.args.value c.if-other-value.true))
+    (sym c.has_bit.ensures ∙ c.if-has_bit.true)))
 
 pub returns : goal.returns
 returns c = sym (false_from_ne_true (any_below (λ u. not (eqb u c.args.value) && has_bit c.args.set u) c.args.values) (λ on.

@@ -11,4 +11,4 @@ both_set (x ∷ y ∷ z ∷ xs) a b e = absurd (omega arith)
 pub returns : goal.returns
 returns c =
     rw (both_set c.args.kept.now c.keep_one.result c.keep_one-2.result c.requires.room, two-of c.args.sets.now c.requires.two)
-    (decided c.args.values (slice_index c.args.sets.now 0) (slice_index c.args.sets.now 1) c.keep_one.result c.keep_one-2.result c.keep_one.ensures c.keep_one-2.ensures)
+    (decided c.keep_one.ensures c.keep_one-2.ensures)

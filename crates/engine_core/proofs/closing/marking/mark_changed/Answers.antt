@@ -10,11 +10,11 @@ loop-k-init g c = λ K are inside. marking-first _ _ K _ _
 pub cell_bits-now-requires : goal.cell_bits-now-requires
 cell_bits-now-requires g c =
     rw (c.requires.board_of.same_cells, c.scope-place.ensures)
-    (scope-in _ (g.met.R.Rules.lawful c.args.rules.now) c.args.house c.loop-k.k c.requires.house_in (omega (arith, c.requires.long)))
+    (scope-in (g.met.R.Rules.lawful c.args.rules.now) c.loop-k.k c.requires.house_in (omega (arith, c.requires.long)))
 
 pub mark_at-requires-clause-place_in : goal.mark_at-requires-clause-place_in
 mark_at-requires-clause-place_in g c =
-    rw c.scope-place.ensures (scope-in _ (g.met.R.Rules.lawful c.args.rules.now) c.args.house c.loop-k.k c.requires.house_in (omega (arith, c.requires.long)))
+    rw c.scope-place.ensures (scope-in (g.met.R.Rules.lawful c.args.rules.now) c.loop-k.k c.requires.house_in (omega (arith, c.requires.long)))
 
 pub loop-k-preserved : goal.loop-k-preserved
 loop-k-preserved g c = λ K are inside.
@@ -23,8 +23,8 @@ loop-k-preserved g c = λ K are inside.
     let was = are.bits c.loop-k.k (omega (arith, c.requires.long)) in
     let is : IsBitsOf (has c.args.board.now c.scope-place.result) p.values c.cell_bits-now.result = rw (← c.requires.board_of.same_values) c.cell_bits-now.ensures in
     elim c.if-now-sets.branch [
-      | then-now-sets w ↦ rw (w.waits-is, w.dead-is) (marking-then p c.args.house K _ c.loop-k.k _ _ _ _ _ _ c.scope-place.ensures was is inside i _ _ w.if-now-sets.true (w.mark_at.ensures _) refl)
-      | else-now-sets w ↦ rw (w.waits-is, w.dead-is) (marking-else p c.args.house K _ c.loop-k.k _ _ _ _ _ _ c.scope-place.ensures was is inside i w.if-now-sets.false)
+      | then-now-sets w ↦ rw (w.waits-is, w.dead-is) (marking-then c.scope-place.ensures was is inside i _ _ w.if-now-sets.true (w.mark_at.ensures _) refl)
+      | else-now-sets w ↦ rw (w.waits-is, w.dead-is) (marking-else c.scope-place.ensures was is inside i w.if-now-sets.false)
     ]
 
 pub returns : goal.returns

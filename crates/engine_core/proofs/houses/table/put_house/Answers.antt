@@ -2,7 +2,7 @@ use Rattle.engine_core.proofs.IndexLemmas.{put-none, put-room, put-more}
 use Rattle.engine_core.proofs.houses.table.put_house.Goals as goal
 
 pub loop-k-init : goal.loop-k-init
-loop-k-init c = put-none c.args.house c.args.starts.now c.args.houses.now
+loop-k-init c = put-none
 
 pub overflow_sub-start : goal.overflow_sub-start
 overflow_sub-start c =

@@ -11,6 +11,6 @@ loop-k-preserved c =
     let K'' = has c.retain-struck.new.self in
     record {
       left = kept-more c.args.places.now c.args.kept.now c.loop-k.k K K' K'' i.left e.left;
-      striking = striking-more K K' K'' c.loop-k.struck c.retain-struck.result i.striking (kept-inside K' K'' _ _ e.left) e.same (λ on. let w = e.lost on in (_, w.0, w.1, w.2));
+      striking = striking-more i.striking (kept-inside K' K'' _ _ e.left) e.same (λ on. let w = e.lost on in (_, w.0, w.1, w.2));
       shape = record { same_values = e.shape.same_values ∙ i.shape.same_values; same_cells = e.shape.same_cells ∙ i.shape.same_cells };
     }

@@ -5,4 +5,4 @@ use Rattle.engine_core.proofs.houses.visit.read_sets.Goals as goal
 pub cell_bits-requires : goal.cell_bits-requires
 cell_bits-requires g c =
     rw (c.requires.board_of.same_cells, c.scope.ensures)
-    (scope-in _ (g.met.R.Rules.lawful c.args.rules.now) c.args.house c.loop-k.k c.requires.house_in (omega arith))
+    (scope-in (g.met.R.Rules.lawful c.args.rules.now) c.loop-k.k c.requires.house_in (omega arith))

@@ -8,7 +8,7 @@ full : (g : _) (c : In_default g) → IsFull (g.P.Position.system c.args.rules.n
 full g c = full_unpicked (g.P.Position.system c.args.rules.now) _ c.requires.alive (sym c.in_default.is ∙ c.pick.ensures)
 
 pub returns-in-Some-clause-judged : goal.returns-in-Some-clause-judged
-returns-in-Some-clause-judged g c = split_picked (g.P.Position.system c.args.rules.now) _ _ c.requires.alive (sym c.pick.ensures ∙ c.in-Some.is)
+returns-in-Some-clause-judged g c = split_picked (g.P.Position.system c.args.rules.now) _ c.requires.alive (sym c.pick.ensures ∙ c.in-Some.is)
 
 pub accept-solved-requires-clause-full : goal.accept-solved-requires-clause-full
 accept-solved-requires-clause-full g c = full g (goal.at.accept-solved-requires-clause-full g c).In_default
@@ -23,10 +23,10 @@ returns-then-solved-clause-judged g c =
     elim c.if-at.branch [
       | then-at w ↦
           let e = w.accept-solved.ensures in
-          rw w.grids-is (c.requires.alive, full, judged_as p _ _ _ _ e.grid e.solution (sym w.solved-is ∙ c.if-solved.true), cond-true _ _ _ w.if-at.true ∙ e.grid)
+          rw w.grids-is (c.requires.alive, full, judged_as p _ e.grid e.solution (sym w.solved-is ∙ c.if-solved.true), cond-true _ _ _ w.if-at.true ∙ e.grid)
       | else-at w ↦
           let e = w.accept-solved-else-at.ensures in
-          rw w.grids-is (c.requires.alive, full, judged_as p _ _ _ _ e.grid e.solution (sym w.solved-is ∙ c.if-solved.true), cond-false _ _ _ w.if-at.false ∙ e.grid)
+          rw w.grids-is (c.requires.alive, full, judged_as p _ e.grid e.solution (sym w.solved-is ∙ c.if-solved.true), cond-false _ _ _ w.if-at.false ∙ e.grid)
     ]
 
 pub returns-clause-judged : goal.returns-clause-judged
@@ -34,6 +34,6 @@ returns-clause-judged g c =
     let p = g.P.Position.system c.args.rules.now in
     let full = full g (goal.at.returns-clause-judged g c).In_default in
     elim c.if-at.branch [
-      | then-at w ↦ let e = w.accept-solved.ensures in (c.requires.alive, full, judged_as p _ _ _ _ e.grid e.solution (sym w.solved-is ∙ c.if-solved.false))
-      | else-at w ↦ let e = w.accept-solved-else-at.ensures in (c.requires.alive, full, judged_as p _ _ _ _ e.grid e.solution (sym w.solved-is ∙ c.if-solved.false))
+      | then-at w ↦ let e = w.accept-solved.ensures in (c.requires.alive, full, judged_as p _ e.grid e.solution (sym w.solved-is ∙ c.if-solved.false))
+      | else-at w ↦ let e = w.accept-solved-else-at.ensures in (c.requires.alive, full, judged_as p _ e.grid e.solution (sym w.solved-is ∙ c.if-solved.false))
     ]

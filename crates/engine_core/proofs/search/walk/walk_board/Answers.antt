@@ -15,13 +15,13 @@ returns-then-at-clause-walked g c =
     let d = c.descend-at in
     let p = g.P.Position.system c.args.rules.now in
     let st = g.P.Position.stands d.new.position in
-    rw (c.ended.ensures, ← c.begin.ensures.start) (walked c.args.budget d.result d.ensures.budget (marks g (goal.at.returns-then-at-clause-walked g c).After-descend-at) d.ensures.turned d.ensures.deepest
+    rw (c.ended.ensures, ← c.begin.ensures.start) (walked d.ensures.budget (marks g (goal.at.returns-then-at-clause-walked g c).After-descend-at) d.ensures.turned d.ensures.deepest
     (ended-two st d.new.levels d.new.grids (searching-first p d.result (marks_of p st d.new.levels d.result d.new.grids)) c.if-at.true))
 
 pub returns-clause-walked : goal.returns-clause-walked
 returns-clause-walked g c =
     let d = c.descend-at.ensures in
-    rw (← c.begin.ensures.start) (walked c.args.budget c.descend-at.result d.budget (marks g (goal.at.returns-clause-walked g c).After-descend-at) d.turned d.deepest c.search.ensures.searched)
+    rw (← c.begin.ensures.start) (walked d.budget (marks g (goal.at.returns-clause-walked g c).After-descend-at) d.turned d.deepest c.search.ensures.searched)
 
 pub descend-at-requires-clause-none : goal.descend-at-requires-clause-none
 unfolding pick

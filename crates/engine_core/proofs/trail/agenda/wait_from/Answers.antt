@@ -9,7 +9,7 @@ returns-in-None g c = record {
   called = λ K follows.
       let p = g.R.Rules.system c.args.rules.now in
       let made : c.fill.new.self ≡ replicate (length c.args.waits.now) 0 = search rules in
-      rw c.in-None.is (called-from p K (λ j. true) (λ j. true) (is_waiting c.fill.new.self) (is_waiting c.mark_all.new.waits)
+      rw c.in-None.is (called-from
       (λ j lt. rw made (waiting-none (length c.args.waits.now) j (let long = c.requires.waits_room in omega arith))) (λ j lt. refl) (c.mark_all.ensures K follows));
 }
 
@@ -19,6 +19,6 @@ returns-in-Some g c = record {
   called = λ K follows.
       let p = g.R.Rules.system c.args.rules.now in
       let made : c.fill.new.self ≡ replicate (length c.args.waits.now) 0 = search rules in
-      rw c.in-Some.is (called-from p K (λ j. has_place (p.scope j) c.in-Some.place) (λ j. has_place (p.scope j) c.in-Some.place) (is_waiting c.fill.new.self) (is_waiting c.wake.new.waits)
+      rw c.in-Some.is (called-from
       (λ j lt. rw made (waiting-none (length c.args.waits.now) j (let long = c.requires.waits_room in omega arith))) (λ j lt. refl) (c.wake.ensures.called K follows));
 }

@@ -7,14 +7,14 @@ pub loop-number-init : goal.loop-number-init
 loop-number-init g c =
     let p = g.R.Rules.system c.args.rules.now in
     let t = c.args.trailed.now in
-    called-none p _ _ _ (λ j lt. since-first (λ m. has_place (p.scope j) (change_at t.changes m).0) c.args.from)
+    called-none (λ j lt. since-first (λ m. has_place (p.scope j) (change_at t.changes m).0) c.args.from)
 
 pub loop-number-preserved : goal.loop-number-preserved
 loop-number-preserved g c =
     let p = g.R.Rules.system c.args.rules.now in
     let t = c.args.trailed.now in
     let le : c.args.from ≤ c.loop-number.number = omega arith in
-    since-called p t (has t.board) c.args.from c.loop-number.number (is_waiting c.args.waits.now) (is_waiting c.loop-number.waits) (is_waiting c.wake.new.waits) le c.loop-number.invariant
+    since-called p t le c.loop-number.invariant
     (rw c.changed.ensures.place at (c.wake.ensures.called (has t.board) c.requires.follows))
 
 pub returns : goal.returns

@@ -7,5 +7,5 @@ better_cell-best-requires-clause-best_in c = pick-in c.loop-cell.best c.loop-cel
 
 pub returns-then-count-eq2 : goal.returns-then-count-eq2
 returns-then-count-eq2 c =
-    pick-ends c.loop-cell.best c.better_cell-best.result c.loop-cell.cell c.args.cells c.args.board.now.values (has c.args.board.now)
+    pick-ends c.args.board.now.values (has c.args.board.now)
     c.loop-cell.invariant c.better_cell-best.ensures (sym c.count.ensures ∙ c.if-count-eq2.true) c.loop-cell-test.true

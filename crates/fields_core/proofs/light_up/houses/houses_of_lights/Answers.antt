@@ -56,8 +56,8 @@ push_lits-requires-clause-fits c =
     let columns = added-few _ _ (column_house p) _ c.in_ok-push_columns.ensures (λ d. if-few (begins_column_run p d) _) in
     omega arith
 
-pub returns : goal.returns
+pub returns-clause-listed : goal.returns-clause-listed
 unfolding light_houses
-returns c = four-added _ _ _ _ c.in_ok-houses.ensures.none c.in_ok-houses.ensures.no_bounds
+returns-clause-listed c = four-added _ _ _ _ c.in_ok-houses.ensures.none c.in_ok-houses.ensures.no_bounds
     c.in_ok-push_numbers.ensures c.in_ok-push_rows.ensures c.in_ok-push_columns.ensures c.in_ok-push_lits.ensures
     (omega arith) (omega arith) (omega arith) (omega arith)

@@ -44,8 +44,8 @@ push_square-requires-clause-fits c =
     let squares = added-few _ _ (square_house p) _ c.loop-place-2.invariant (λ d. if-few (ltb (d % p.size.w + 1) p.size.w && ltb (d / p.size.w + 1) p.size.h) _) in
     omega (arith, field.w_few, field.h_few, (tent-counting p c.cells-cells.ensures.lawful).few_cells)
 
-pub returns : goal.returns
+pub returns-clause-listed : goal.returns-clause-listed
 unfolding tent_houses
-returns c = four-added _ _ _ _ c.in_ok-houses.ensures.none c.in_ok-houses.ensures.no_bounds
+returns-clause-listed c = four-added _ _ _ _ c.in_ok-houses.ensures.none c.in_ok-houses.ensures.no_bounds
     c.loop-x.invariant c.loop-y.invariant c.loop-place.invariant c.loop-place-2.invariant
     (omega arith) (omega arith) (omega arith) (omega arith)

@@ -28,7 +28,7 @@ loop-y-preserved g c = record {
 }
 
 pub returns-clause-shown : goal.returns-clause-shown
-returns-clause-shown g c = is_shown _ _ _ _ c.loop-y.y (omega arith) (omega arith) c.loop-y.invariant.cells c.loop-y.invariant.fit
+returns-clause-shown g c = is_shown c.loop-y.y (omega arith) (omega arith) c.loop-y.invariant.cells c.loop-y.invariant.fit
 
 pub returns-clause-read : goal.returns-clause-read
 returns-clause-read g c grid more shown is =

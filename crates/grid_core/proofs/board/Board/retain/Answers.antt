@@ -6,5 +6,5 @@ use Rattle.grid_core.proofs.board.Board.retain.Goals as goal
 pub returns-clause-lost : goal.returns-clause-lost
 returns-clause-lost c = λ on.
     let within = rw (← c.self.view_is) at c.requires in
-    rw (← c.self.view_is) (retained_lost _ _ _ within _ (get_or_read c.self.inside.sets.items _ _ within c.index-set.ensures 0)
+    rw (← c.self.view_is) (retained_lost _ _ _ within (get_or_read c.self.inside.sets.items _ _ within c.index-set.ensures 0)
     c.self.invariant c.args.kept (eqb-false _ _ (not-true _ on)))

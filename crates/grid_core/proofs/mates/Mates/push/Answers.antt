@@ -17,5 +17,5 @@ invariant_of-self c =
       omega arith,
       old.1,
       rw (take_more_set i.mates.items i.count c.args.right inside)
-          (AreOwners-push (take i.count i.mates.items) i.count c.args.right len i.owners.items old.2 (omega arith) (rw mates c.requires.free)),
+          (AreOwners-push c.args.right len old.2 (omega arith) (rw mates c.requires.free)),
     )

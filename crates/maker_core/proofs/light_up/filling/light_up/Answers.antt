@@ -5,13 +5,27 @@ use Rattle.maker_core.proofs.light_up.filling.light_up.Goals as goal
 
 pub place_bulbs-requires-clause-within : goal.place_bulbs-requires-clause-within
 place_bulbs-requires-clause-within g c =
-    order_within c.args.puzzle.now _ _ _ _ _ (record { listed = c.in_ok-order.ensures; drawn = c.shuffle.ensures.drawn; mixed = c.shuffle.ensures.permutation; lent = c.deref.ensures.value })
+    order_within c.args.puzzle.now _ _ _
+    (record {
+      listed = c.in_ok-order.ensures;
+      drawn = c.shuffle.ensures.drawn;
+      mixed = c.shuffle.ensures.permutation;
+      lent = c.deref.ensures.value;
+    })
     c.size.ensures.lawful.count
 
 pub returns-clause-grid : goal.returns-clause-grid
-returns-clause-grid g c = subst (IsGrid (light_cells c.args.puzzle.now) 2) (sym c.place_bulbs.ensures) (bulbs_after-grid c.args.puzzle.now c.deref.result.now (length c.deref.result.now))
+returns-clause-grid g c =
+    subst (IsGrid (light_cells c.args.puzzle.now) 2) (sym c.place_bulbs.ensures)
+    (bulbs_after-grid c.args.puzzle.now c.deref.result.now (length c.deref.result.now))
 
 pub returns-clause-solved : goal.returns-clause-solved
 returns-clause-solved g c =
-    lit_up_solved c.args.puzzle.now _ _ _ _ _ _ (record { listed = c.in_ok-order.ensures; drawn = c.shuffle.ensures.drawn; mixed = c.shuffle.ensures.permutation; lent = c.deref.ensures.value })
+    lit_up_solved c.args.puzzle.now _ _ _ _
+    (record {
+      listed = c.in_ok-order.ensures;
+      drawn = c.shuffle.ensures.drawn;
+      mixed = c.shuffle.ensures.permutation;
+      lent = c.deref.ensures.value;
+    })
     c.size.ensures.lawful.count c.place_bulbs.ensures

@@ -20,5 +20,5 @@ returns-clause-made g c =
       unthinned = c.new.ensures.items;
     }
 
-pub returns-clause-drawn : goal.returns-clause-drawn
-returns-clause-drawn g c = draws_first _ _ _ _ _ c.in_ok-answer.ensures.first refl
+pub returns-clause-leaves : goal.returns-clause-leaves
+returns-clause-leaves g c = draws_first c.in_ok-answer.ensures.first refl

@@ -6,7 +6,7 @@ use Rattle.maker_core.proofs.pattern.switch.has_switch.Goals.{else-begins_run-vi
 pub loop-place-preserved : goal.loop-place-preserved
 loop-place-preserved c =
     let i = c.loop-place.invariant in
-    let more = none_more c.args.puzzle.now c.args.grid.now c.loop-place.place i.none in
+    let more = none_more i.none in
     elim c.else-begins_run.branch [
       | else-begins_run-via-then-begins_run+else-run_has_switch w ↦ record {
         same = w.grid-is ∙ w.run_has_switch.ensures.same ∙ i.same;

@@ -17,6 +17,6 @@ loop-k-preserved g c =
     let len = c.in_ok-groups.ensures.ordered.len in
     let is = get_or_read c.in_ok-groups.groups.items c.loop-k.k c.index.result.now (omega arith) c.index.ensures 0 in
     record {
-      drawn = groups-more c.args.size c.loop-k.k _ _ _ _ _ _ _ c.loop-k.invariant.drawn is c.in_ok-push_group.ensures.drawn;
-      grouped = grouped-more c.args.size c.loop-k.k _ _ _ _ _ _ c.requires.some c.loop-k.invariant.grouped is c.in_ok-push_group.ensures.ordered c.in_ok-push_group.ensures.drawn;
+      drawn = groups-more c.args.size c.loop-k.k _ _ _ _ _ _ c.loop-k.invariant.drawn is c.in_ok-push_group.ensures.drawn;
+      grouped = grouped-more _ _ _ _ _ c.requires.some c.loop-k.invariant.grouped is c.in_ok-push_group.ensures.ordered c.in_ok-push_group.ensures.drawn;
     }

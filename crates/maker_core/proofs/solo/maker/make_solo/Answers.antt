@@ -1,10 +1,9 @@
+use Rattle.std.specs.Prelude.{Err}
 use Rattle.maker_core.proofs.Common.{rules, Some, refl, sym, ◌∙◌, ap, solo_game, all_given, IsThinnedFrom, stream_after_clues}
-use Rattle.maker_core.proofs.FirstTries.{draws_first}
+use Rattle.maker_core.proofs.FirstTries.{draws_first, leaves_failed}
+use Rattle.maker_core.specs.SoloMaking.{solo_tries}
 use Rattle.maker_core.proofs.SoloFull.{all_given-only, all_given-found, thinned-solo, only_by_rules, same_given}
 use Rattle.maker_core.proofs.solo.maker.make_solo.Goals as goal
-
-pub returns-in_err-answer-clause-exhausted : goal.returns-in_err-answer-clause-exhausted
-returns-in_err-answer-clause-exhausted g c e = c.in_err-answer.ensures.exhausted (search rules)
 
 pub thin-requires-clause-only : goal.thin-requires-clause-only
 thin-requires-clause-only g c =
@@ -26,21 +25,29 @@ returns-clause-made g c =
     let given = thinned.answer in
     let within : IsThinnedFrom solo_game p (all_given a.c a.r a.x c.in-Some.answer) = rw c.in_ok-puzzle.ensures at thinned.within in
     let frame = within.frame in
-    record {
-      k = first.k;
-      first = first.first;
-      filled = sym first.filled ∙ ap Some (sym given);
-      columns = frame.c;
-      rows = frame.r;
-      diagonals = frame.x;
-      givens = rw given within;
-      only = rw given (only_by_rules p c.in-Some.answer
-          (thinned-solo a.c a.r a.x p c.in-Some.answer (c.if-not-is_size.ensures.0 refl) solution within) thinned.only);
-      verdict = rw given thinned.found;
-      reasons = rw (given, sym (same_given p a.c a.r a.x c.in-Some.answer frame.c frame.r frame.x)) thinned.reasons;
-    }
+    (
+      c.if-not-is_size.ensures.0 refl,
+      record {
+        k = first.k;
+        first = first.first;
+        filled = sym first.filled ∙ ap Some (sym given);
+        columns = frame.c;
+        rows = frame.r;
+        diagonals = frame.x;
+        givens = rw given within;
+        only = rw given (only_by_rules p c.in-Some.answer
+            (thinned-solo a.c a.r a.x p c.in-Some.answer (c.if-not-is_size.ensures.0 refl) solution within) thinned.only);
+        verdict = rw given thinned.found;
+        reasons = rw (given, sym (same_given p a.c a.r a.x c.in-Some.answer frame.c frame.r frame.x)) thinned.reasons;
+      },
+    )
 
-pub returns-clause-drawn : goal.returns-clause-drawn
-returns-clause-drawn g c =
-    draws_first _ _ _ _ _ (rw c.in-Some.is at c.in_ok-answer.ensures.first)
+pub returns-clause-leaves : goal.returns-clause-leaves
+returns-clause-leaves g c =
+    draws_first (rw c.in-Some.is at c.in_ok-answer.ensures.first)
     (c.in_ok-thin.ensures.drawn ∙ ap (λ q. stream_after_clues solo_game q (g.G.Rng.stream c.first_passing.new.rng)) c.in_ok-puzzle.ensures)
+
+pub returns-in_err-answer-clause-leaves : goal.returns-in_err-answer-clause-leaves
+returns-in_err-answer-clause-leaves g c =
+    let a = c.in_err-answer.ensures in
+    leaves_failed (solo_tries c.args.c c.args.r c.args.x c.args.limits) _ c.in_err-answer.field-0.0 (search rules) (λ e. a.in_range (ap Err e)) (λ e. a.all_drawn (ap Err e))

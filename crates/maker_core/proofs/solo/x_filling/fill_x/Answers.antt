@@ -12,7 +12,7 @@ returns-clause-filling g c =
     let n = side g (goal.at.returns-clause-filling g c).After-from-2 in
     let top = c.in_ok-puzzle.ensures in
     IfOk-weaker c.flip_by_draw.result _ _ (λ filling flipped.
-    x-filling-is c.args.c c.args.r c.args.budget _ _ _ _ _ _ _ _ filling n (rw n top.drawn) top.given c.in_ok-rules.ensures.rules
+    x-filling-is c.args.c c.args.r c.args.budget _ _ _ _ n (rw n top.drawn) top.given c.in_ok-rules.ensures.rules
     (c.first.ensures ∙ first_is _ _ _ _ c.solve.ensures.verdict) flipped)
     c.flip_by_draw.ensures
 
@@ -21,6 +21,6 @@ returns-clause-solution g c =
     let n = side g (goal.at.returns-clause-solution g c).After-from-2 in
     let top = c.in_ok-puzzle.ensures in
     IfOk-weaker c.flip_by_draw.result _ _ (λ filling flipped.
-    x-filling-solves c.args.c c.args.r _ _ _ _ _ _ _ filling c.requires top.ordered n top.given c.in_ok-rules.ensures.rules
+    x-filling-solves _ _ _ _ filling c.requires top.ordered n top.given c.in_ok-rules.ensures.rules
     (found_solves _ _ _ _ _ _ c.first.ensures c.solve.ensures.verdict c.solve.ensures.sound) flipped)
     c.flip_by_draw.ensures

@@ -3,4 +3,4 @@ use Rattle.maker_core.proofs.TentFillings.{free_all}
 use Rattle.maker_core.proofs.tents.filling.free_cells.Goals as goal
 
 pub returns : goal.returns
-returns c = free_all _ _ _ _ _ c.loop-direction.invariant (omega arith)
+returns c = free_all _ _ _ _ c.loop-direction.invariant (omega arith)

@@ -4,12 +4,12 @@ use Rattle.maker_core.proofs.TentsSolved.{filling_none, filling_step}
 use Rattle.maker_core.proofs.tents.filling.take_cells.Goals as goal
 
 pub loop-k-init : goal.loop-k-init
-loop-k-init g c = record { drawn = none_after _ _ _ _ c.requires.none; filling = filling_none _ _ _ c.requires.none }
+loop-k-init g c = record { drawn = none_after _ _ _ c.requires.none; filling = filling_none c.requires.none }
 
 pub loop-k-preserved : goal.loop-k-preserved
 loop-k-preserved g c =
     let within : c.loop-k.k < c.args.size.w * c.args.size.h = let l = c.requires.order.len in let t = c.loop-k-test.true in omega arith in
     record {
-      drawn = more_after _ _ _ _ _ _ _ _ _ c.loop-k.invariant.drawn c.in_ok-take_cell.ensures.drawn refl;
-      filling = filling_step c.args.size c.args.order.now c.loop-k.k _ _ _ (wide c.args.size c.loop-k.k within) c.requires.order within refl c.loop-k.invariant.filling c.in_ok-take_cell.ensures.taken;
+      drawn = more_after _ _ _ _ _ _ _ c.loop-k.invariant.drawn c.in_ok-take_cell.ensures.drawn refl;
+      filling = filling_step (wide c.args.size within) c.requires.order within refl c.loop-k.invariant.filling c.in_ok-take_cell.ensures.taken;
     }

@@ -11,16 +11,19 @@ returns-clause-made g c =
     let only = tents_only a.size c.in_ok-filling.filling c.in_ok-puzzle.puzzle puzzle made.known.2
     (λ q h grid. (solution-from-tents q h grid, tents-from-solution q h grid)) a.limits.budget
     (subst (λ (p : Tents). HasOne (tent_rules p) a.limits.budget) (sym puzzle) (made.known.3 refl)) in
-    record {
-      k = made.first.k;
-      first = made.first.first;
-      clues = puzzle ∙ ap (tents_puzzle_of a.size) made.first.filled;
-      filled = ap (λ (filling : TentFilling). filling.tents) made.first.filled;
-      size_asked = tents_size a.size c.in_ok-filling.filling c.in_ok-puzzle.puzzle puzzle;
-      only = only.0;
-      verdict = only.1;
-      unthinned = c.new.ensures.items;
-    }
+    (
+      c.if-not-is_tent_size.ensures.0 refl,
+      record {
+        k = made.first.k;
+        first = made.first.first;
+        clues = puzzle ∙ ap (tents_puzzle_of a.size) made.first.filled;
+        filled = ap (λ (filling : TentFilling). filling.tents) made.first.filled;
+        size_asked = tents_size a.size c.in_ok-filling.filling c.in_ok-puzzle.puzzle puzzle;
+        only = only.0;
+        verdict = only.1;
+        unthinned = c.new.ensures.items;
+      },
+    )
 
-pub returns-clause-drawn : goal.returns-clause-drawn
-returns-clause-drawn g c = draws_first _ _ _ _ _ c.in_ok-filling.ensures.first refl
+pub returns-clause-leaves : goal.returns-clause-leaves
+returns-clause-leaves g c = draws_first c.in_ok-filling.ensures.first refl

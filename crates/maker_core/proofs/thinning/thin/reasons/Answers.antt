@@ -5,6 +5,8 @@ use Rattle.maker_core.proofs.thinning.thin.reasons.Goals.{in-Some+in_ok-push, in
 
 pub loop-place-preserved : goal.loop-place-preserved
 loop-place-preserved c = elim c.match-whys-place.branch [
-  | in-Some+in_ok-push w ↦ reason_kept c.args.whys.now _ _ _ _ c.loop-place-test.true w.in-Some.is c.loop-place.invariant (ap (λ v. v.items) w.kept-is ∙ w.in_ok-push.ensures.items)
-  | in_default w ↦ reason_skipped c.args.whys.now _ _ _ c.loop-place-test.true (no_reason _ w.in_default.not-Some) c.loop-place.invariant (ap (λ v. v.items) w.kept-is)
+  | in-Some+in_ok-push w ↦ reason_kept c.args.whys.now _ _ c.loop-place-test.true w.in-Some.is c.loop-place.invariant
+      (ap (λ v. v.items) w.kept-is ∙ w.in_ok-push.ensures.items)
+  | in_default w ↦ reason_skipped c.args.whys.now _ c.loop-place-test.true (no_reason _ w.in_default.not-Some)
+      c.loop-place.invariant (ap (λ v. v.items) w.kept-is)
 ]

@@ -14,7 +14,7 @@ loop-place-init g c =
 
 pub loop-place-preserved : goal.loop-place-preserved
 loop-place-preserved g c =
-    let now = next_turn g.P.Clued.game g.met.P.Clued.lawful _ _ _ _ _ _ c.loop-place-test.true c.loop-place.invariant.thinning in
+    let now = next_turn g.P.Clued.game g.met.P.Clued.lawful _ _ _ c.loop-place-test.true c.loop-place.invariant.thinning in
     let made = c.in_ok-whys-2.ensures in
     record {
       thinning = thinning_turn g.P.Clued.game g.met.P.Clued.lawful _ _ _ _ _ _ now _ _ made.left made.asked;
@@ -23,13 +23,13 @@ loop-place-preserved g c =
 
 pub try_clue-requires-clause-clue : goal.try_clue-requires-clause-clue
 try_clue-requires-clause-clue g c =
-    (next_turn g.P.Clued.game g.met.P.Clued.lawful _ _ _ _ _ _ c.loop-place-test.true c.loop-place.invariant.thinning).waiting _ (contains_head _ _)
+    (next_turn g.P.Clued.game g.met.P.Clued.lawful _ _ _ c.loop-place-test.true c.loop-place.invariant.thinning).waiting _ (contains_head _ _)
 
 pub index_mut-requires : goal.index_mut-requires
 index_mut-requires g c =
-    let now = next_turn g.P.Clued.game g.met.P.Clued.lawful _ _ _ _ _ _ c.loop-place-test.true c.loop-place.invariant.thinning in
+    let now = next_turn g.P.Clued.game g.met.P.Clued.lawful _ _ _ c.loop-place-test.true c.loop-place.invariant.thinning in
     let below = turn_in_room g.P.Clued.game g.met.P.Clued.lawful _ _ _ _ _ _ now in
     search rules
 
 pub returns : goal.returns
-returns g c = all_tried g.P.Clued.game _ _ _ _ _ _ c.loop-place-test.false c.loop-place.invariant.thinning
+returns g c = all_tried _ _ _ _ _ _ c.loop-place-test.false c.loop-place.invariant.thinning

@@ -5,9 +5,9 @@ use Rattle.pattern_core.proofs.track.SpelledClue.new.Goals as goal
 
 pub invariant_of-result : goal.invariant_of-result
 invariant_of-result g c = (
-  track_of_clue c.args.numbers.now g.P.Places.room _ c.requires.positive c.requires.fits c.spell.ensures,
-  λ n small from. subst (λ l. IsRoomy l n) (sym (clue_back c.args.numbers.now g.P.Places.room _ c.requires.positive c.requires.fits c.spell.ensures)) (c.requires.roomy n small from),
+  track_of_clue c.args.numbers.now g.P.Slots.room _ c.requires.positive c.requires.fits c.spell.ensures,
+  λ n small from. subst (λ l. IsRoomy l n) (sym (clue_back c.args.numbers.now g.P.Slots.room _ c.requires.positive c.requires.fits c.spell.ensures)) (c.requires.roomy n small from),
 )
 
 pub returns : goal.returns
-returns g c = clue_back c.args.numbers.now g.P.Places.room _ c.requires.positive c.requires.fits c.spell.ensures
+returns g c = clue_back c.args.numbers.now g.P.Slots.room _ c.requires.positive c.requires.fits c.spell.ensures

@@ -1,6 +1,6 @@
 use Rattle.std.proofs.Common.{◌≡◌, ◌++◌, [], take}
 use Rattle.solo_core.specs.RuleSets.{crossings_of}
-use Rattle.solo_core.specs.Work.{all_places}
+use Rattle.engine_core.specs.ListedHouses.{all_places}
 use Rattle.solo_core.proofs.houses.crossings.push_crossings.Given as goal
 
 abbrev pub invariant-loop-number : goal.invariant-loop-number

@@ -4,4 +4,5 @@ use Rattle.core_tests.proofs.engine.neighbours.NeighboursPropagators.filter.Goal
 pub returns-clause-kept : goal.returns-clause-kept
 returns-clause-kept c = λ K are.
     let r = c.args.self.now in
-    kept-decided (neighbours true r.cells r.values r.first r.last) c.args._house (strikes_by_fillings differ) K true _ _ (λ L d v. refl) (pair-different c.args._house) are c.keep.ensures (λ e. absurd (true≢false e))
+    kept-decided (neighbours true r.cells r.values r.first r.last) c.args._house (strikes_by_fillings differ) K true _ _
+    (λ L d v. refl) (pair-different c.args._house) are c.keep.ensures (λ e. absurd (true≢false e))

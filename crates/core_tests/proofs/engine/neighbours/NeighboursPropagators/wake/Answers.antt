@@ -6,5 +6,5 @@ pub returns : goal.returns
 returns c = record {
   called = λ K f.
       let r = c.args.self.now in
-      called-beside (neighbours true r.cells r.values r.first r.last) K r.cells c.args.place _ _ _ refl (rw c.saturating_sub.ensures at c.mark_if.ensures) c.mark_if-2.ensures;
+      called-beside r.cells c.args.place _ refl (rw c.saturating_sub.ensures at c.mark_if.ensures) c.mark_if-2.ensures;
 }

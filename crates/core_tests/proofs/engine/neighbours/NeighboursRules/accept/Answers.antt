@@ -17,10 +17,12 @@ returns-then-get-clause-solution c =
     let r = c.args.self.now in
     let h = c.loop-house.house in
     row-not r.cells r.first r.last c.args.grid.now (λ on.
-    true≢false (sym (eq-eqb (slice_index c.args.grid.now h) (slice_index c.args.grid.now (h + 1)) (sym c.get-in-loop-house.ensures ∙ c.if-get.true ∙ c.get-in-loop-house-2.ensures))
+    true≢false (sym (eq-eqb (slice_index c.args.grid.now h) (slice_index c.args.grid.now (h + 1))
+    (sym c.get-in-loop-house.ensures ∙ c.if-get.true ∙ c.get-in-loop-house-2.ensures))
     ∙ not-true _ ((row-parts r.cells r.first r.last c.args.grid.now on).2 h (omega arith))))
 
 pub returns-clause-solution : goal.returns-clause-solution
 returns-clause-solution c =
     let r = c.args.self.now in
-    row-from r.cells r.first r.last c.args.grid.now (sym c.get.ensures ∙ c.if-get-self.false) (sym c.get-2.ensures ∙ c.if-get-self-2.false) (λ h lt. c.loop-house.invariant h (omega arith))
+    row-from r.cells c.args.grid.now (sym c.get.ensures ∙ c.if-get-self.false) (sym c.get-2.ensures ∙ c.if-get-self-2.false)
+    (λ h lt. c.loop-house.invariant h (omega arith))

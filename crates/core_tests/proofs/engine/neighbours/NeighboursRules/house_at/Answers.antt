@@ -5,8 +5,13 @@ use Rattle.core_tests.proofs.engine.neighbours.NeighboursRules.house_at.Goals.{t
 
 pub returns-then-from-place : goal.returns-then-from-place
 returns-then-from-place c =
-    let e : c.args.place - 1 + 1 ≡ c.args.place = omega arith in
-    (omega arith, omega arith, subst (λ (m : ℕ). has_place ((c.args.place - 1) ∷ (c.args.place - 1 + 1) ∷ []) m ≡ true) e (pair-second (c.args.place - 1)), λ j le lt. pair-out j c.args.place (omega arith) (omega arith))
+    let e : c.args.place - 1 + 1 ≡ c.args.place = omega arith in (
+      omega arith,
+      omega arith,
+      subst (λ (m : ℕ). has_place ((c.args.place - 1) ∷ (c.args.place - 1 + 1) ∷ []) m ≡ true) e
+          (pair-second (c.args.place - 1)),
+      λ j le lt. pair-out j c.args.place (omega arith) (omega arith),
+    )
 
 pub returns-then-from-place-2 : goal.returns-then-from-place-2
 returns-then-from-place-2 c = λ j le lt. elim c.then-from-place-2.branch [

@@ -17,7 +17,7 @@ returns-then-has_empty_cell-clause-closing g c =
     let p = g.R.Rules.system c.args.rules.now in
     let fits = rw (← c.self.view_is) at c.requires.fits in
     let of : IsBoardOf p c.self.inside.board = record { same_cells = c.self.invariant.0.board_cells ∙ sym fits.same_cells; same_values = c.self.invariant.0.board_values ∙ sym fits.same_values } in
-    rw (← c.self.view_is) (closing-none p (g.met.R.Rules.lawful c.args.rules.now) (has c.self.inside.board) (within_of p _ of) (sym (dead_of p _ of) ∙ (sym c.has_empty_cell.ensures ∙ c.if-has_empty_cell.true)))
+    rw (← c.self.view_is) (closing-none p (g.met.R.Rules.lawful c.args.rules.now) (has c.self.inside.board) (within_of p _ of) (sym (dead_of p of) ∙ (sym c.has_empty_cell.ensures ∙ c.if-has_empty_cell.true)))
 
 pub run_queue-requires-clause-rested : goal.run_queue-requires-clause-rested
 run_queue-requires-clause-rested g c = rested g (goal.at.run_queue-requires-clause-rested g c).After-fill

@@ -22,7 +22,7 @@ more g c =
     let i = c.loop-house.invariant in
     let w = picked g c in
     let le : c.loop-house.visits ≤ length c.loop-house.self.trace = rw (← c.self.view_is) (omega (arith, long g c, i.visits)) in
-    omega (arith, room _ _ (take c.loop-house.visits c.loop-house.self.trace) _ _ _ i.running w.0 w.1, length-take-le c.loop-house.visits c.loop-house.self.trace le)
+    omega (arith, room i.running w.0 w.1, length-take-le c.loop-house.visits c.loop-house.self.trace le)
 
 in_trace : (g : _) (c : In-Some g) → c.loop-house.visits < length c.loop-house.self.trace
 in_trace g c = rw (← c.self.view_is) (omega (arith, more g c, long g c))
@@ -31,7 +31,7 @@ pub loop-house-init : goal.loop-house-init
 loop-house-init g c = record {
   running = running-first _ (g.met.R.Rules.lawful c.args.rules.now) _ _ c.requires.queue c.requires.alive c.requires.rested;
   visits = omega arith;
-  room = room-same c.args.self.now;
+  room = room-same;
 }
 
 pub index_mut-requires : goal.index_mut-requires
@@ -49,9 +49,9 @@ done : (g : _) (c : After-step g) → c.loop-house.visits < length c.loop-house.
 done g c lt =
     let e = c.step.ensures in
     let wrote : c.step.new.self.trace ≡ set c.loop-house.self.trace c.loop-house.visits c.in-Some.house = rw (← c.self.view_is) e.trace in
-    let alive = running-alive _ _ _ _ _ c.loop-house.invariant.running in (
+    let alive = running-alive c.loop-house.invariant.running in (
       rw (← c.self.view_is) e.visited.left,
-      dead_by _ _ _ (rw (← c.self.view_is) e.visited.dead) alive,
+      dead_by (rw (← c.self.view_is) e.visited.dead) alive,
       rw wrote (pushed _ _ _ lt),
       record { made = rw (← c.self.view_is) e.room.made; shape = rw (← c.self.view_is) e.room.shape; trace_long = rw wrote (length-set _ c.loop-house.visits _) },
     )
@@ -64,7 +64,7 @@ loop-house-preserved g c =
     let d = done g at.After-step (in_trace g at.In-Some) in
     record {
       running = rw d.2 (running-turn _ (g.met.R.Rules.lawful c.args.rules.now) _ (take c.loop-house.visits c.loop-house.self.trace) _ _ _ _ _ i.running w.0 w.1
-          (within_of _ _ (IsBoardOf-same _ _ _ c.requires.board_of i.room.shape)) d.0 (rw (← c.self.view_is) c.step.ensures.visited.woken) (d.1 ∙ c.if-step.false));
+          (within_of _ _ (IsBoardOf-same c.requires.board_of i.room.shape)) d.0 (rw (← c.self.view_is) c.step.ensures.visited.woken) (d.1 ∙ c.if-step.false));
       visits = omega (arith, more g at.In-Some);
       room = room-more i.room d.3;
     }

@@ -9,7 +9,7 @@ closing-init g c = record {
   alive = c.requires.alive;
   rested = c.requires.rested;
   swept = swept-first _ _ c.requires.alive;
-  room = room-same c.args.self.now;
+  room = room-same;
 }
 
 pub returns-then-effect-clause-closing : goal.returns-then-effect-clause-closing
@@ -27,7 +27,7 @@ returns-else-effect-2-clause-closing g c =
 pub closing-smaller : goal.closing-smaller
 closing-smaller g c =
     let s = c.sweep-effect.ensures.swept in
-    fewer _ _ _ (within_of _ _ (IsBoardOf-same _ _ _ c.requires.board_of c.closing.invariant.room.shape)) s.left (s.struck c.if-effect-2.true)
+    fewer _ _ _ (within_of _ _ (IsBoardOf-same c.requires.board_of c.closing.invariant.room.shape)) s.left (s.struck c.if-effect-2.true)
 
 pub closing-preserved : goal.closing-preserved
 closing-preserved g c =
@@ -37,6 +37,6 @@ closing-preserved g c =
     record {
       alive = alive;
       rested = s.rested;
-      swept = swept-turn _ _ _ _ _ i.swept (within_of _ _ (IsBoardOf-same _ _ _ c.requires.board_of i.room.shape)) s.left (s.struck c.if-effect-2.true) alive;
+      swept = swept-turn _ _ _ _ _ i.swept (within_of _ _ (IsBoardOf-same c.requires.board_of i.room.shape)) s.left (s.struck c.if-effect-2.true) alive;
       room = room-more i.room c.sweep-effect.ensures.room;
     }

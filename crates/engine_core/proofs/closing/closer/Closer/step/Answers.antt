@@ -23,7 +23,7 @@ returns-then-not-visit-clause-visited g c =
       idle = λ _. same;
       struck = λ e. absurd (true≢false (sym e));
       dead = ap (is_dead p.cells p.values) same ∙ unwoken _;
-      woken = rw (written-back v.len c.dequeue.new.waits _ (omega (arith, v.ok.0, c.deref_mut.ensures.len, c.dequeue.auto.waits))) (woken-unstruck p c.args.house K _ _ _ same (rw c.deref_mut.ensures.value at c.dequeue.ensures));
+      woken = rw (written-back v.len c.dequeue.new.waits _ (omega (arith, v.ok.0, c.deref_mut.ensures.len, c.dequeue.auto.waits))) (woken-unstruck same (rw c.deref_mut.ensures.value at c.dequeue.ensures));
     })
 
 pub returns-clause-visited : goal.returns-clause-visited
@@ -42,8 +42,8 @@ returns-clause-visited g c =
       left = c.visit.ensures.left;
       idle = λ e. absurd (true≢false e);
       struck = λ _. c.visit.ensures.changed c.if-not-visit.false;
-      dead = emptied-dead p laws c.args.house K K' c.requires.house_in c.visit.ensures.left ∙ ap (λ b. is_dead p.cells p.values K || b) (sym (c.mark_changed-dead.ensures.dead K are inside));
-      woken = rw (written-back v.len c.dequeue_if.new.waits _ (omega (arith, v.ok.0, c.deref_mut.ensures.len, c.dequeue.auto.waits, c.deref_mut-waits.ensures.len, c.mark_changed-dead.auto.waits, c.dequeue_if.auto.waits))) (woken-by p c.args.house K K' (is_waiting v.items) (is_waiting c.dequeue.new.waits) (is_waiting c.mark_changed-dead.new.waits) (is_waiting c.dequeue_if.new.waits)
+      dead = emptied-dead p laws K K' c.requires.house_in c.visit.ensures.left ∙ ap (λ b. is_dead p.cells p.values K || b) (sym (c.mark_changed-dead.ensures.dead K are inside));
+      woken = rw (written-back v.len c.dequeue_if.new.waits _ (omega (arith, v.ok.0, c.deref_mut.ensures.len, c.dequeue.auto.waits, c.deref_mut-waits.ensures.len, c.mark_changed-dead.auto.waits, c.dequeue_if.auto.waits))) (woken-by
           (rw c.deref_mut.ensures.value at c.dequeue.ensures) (rw (c.deref_mut-waits.ensures.value, cleared) at (c.mark_changed-dead.ensures.called K are inside))
           (λ j. rw (c.SETTLED.ensures, ← (g.met.R.Rules.settled_is c.args.rules.now)) at (c.dequeue_if.ensures j)));
     })

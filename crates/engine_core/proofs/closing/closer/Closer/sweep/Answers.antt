@@ -11,7 +11,7 @@ picked g c = rw (← c.self.view_is, ← c.houses.ensures, ← c.deref.ensures.v
 
 -- those before it strike nothing
 here : (g : _) (c : In-Some g) → IsSweeping (g.R.Rules.system c.args.rules.now) (has c.args.self.now.board) c.in-Some.house (has c.loop-house.self.board) (is_waiting c.loop-house.self.waits)
-here g c = let next = picked g c in sweeping-passed _ _ c.loop-house.from c.in-Some.house _ _ c.loop-house.invariant.sweeping next.0 (omega (arith, next.1)) next.3
+here g c = let next = picked g c in sweeping-passed c.loop-house.invariant.sweeping next.0 (omega (arith, next.1)) next.3
 
 pub loop-house-init : goal.loop-house-init
 loop-house-init g c = record {
@@ -20,7 +20,7 @@ loop-house-init g c = record {
   idle = λ _. refl;
   struck = λ e. absurd (true≢false (sym e));
   dead = c.requires.alive;
-  room = room-same c.args.self.now;
+  room = room-same;
   trace = refl;
 }
 
@@ -33,8 +33,8 @@ loop-house-preserved g c =
     let s = here g at in
     record {
       past = omega (arith, next.1);
-      sweeping = sweeping-turn _ (g.met.R.Rules.lawful c.args.rules.now) _ _ _ _ _ _ s next.1 (within_of _ _ (IsBoardOf-same _ _ _ c.requires.board_of i.room.shape)) v.left v.woken;
-      idle = λ e. struck-none _ _ i.idle v.idle e;
+      sweeping = sweeping-turn _ (g.met.R.Rules.lawful c.args.rules.now) _ _ _ _ _ _ s next.1 (within_of _ _ (IsBoardOf-same c.requires.board_of i.room.shape)) v.left v.woken;
+      idle = λ e. struck-none i.idle v.idle e;
       struck = struck-more _ _ _ _ (sweeping-inside s) v.left i.struck v.struck;
       dead = v.dead ∙ ap (λ b. b || c.step-effect.result.dead) i.dead;
       room = room-more i.room c.step-effect.ensures.room;
@@ -45,5 +45,5 @@ pub returns-clause-swept : goal.returns-clause-swept
 returns-clause-swept g c =
     let i = c.loop-house.invariant in
     let none = rw (c.in_default.is, c.houses.ensures, c.deref.ensures.value) at c.next_waiting.ensures in
-    let all = sweeping-passed _ _ c.loop-house.from _ _ _ i.sweeping i.past (omega arith) (λ h le lt. rw (← c.self.view_is) (none h le lt)) in
-    record { left = all.left; idle = λ e. (i.idle e, sweep-idle _ _ _ _ all (i.idle e)); struck = i.struck; dead = i.dead; rested = all.rested }
+    let all = sweeping-passed i.sweeping i.past (omega arith) (λ h le lt. rw (← c.self.view_is) (none h le lt)) in
+    record { left = all.left; idle = λ e. (i.idle e, sweep-idle all (i.idle e)); struck = i.struck; dead = i.dead; rested = all.rested }

@@ -20,7 +20,7 @@ leave-requires-clause-cell_in g c = rw c.innermost-top.ensures (top-open c.requi
 
 pub leave-requires-clause-several : goal.leave-requires-clause-several
 leave-requires-clause-several g c =
-    rw c.innermost-top.ensures (open-cell _ _ _ (open-back c.requires.ready c.requires.deep c.undo.ensures.returned)).two
+    rw c.innermost-top.ensures (open-cell (open-back c.requires.ready c.requires.deep c.undo.ensures.returned)).two
 
 pub returns-in-None-clause-turn : goal.returns-in-None-clause-turn
 returns-in-None-clause-turn g c =
@@ -33,7 +33,7 @@ pub returns-in-Some-clause-turn : goal.returns-in-Some-clause-turn
 returns-in-Some-clause-turn g c =
     let e = c.innermost-top.ensures in
     rw e (turn-trial c.requires.ready c.requires.deep c.undo.ensures.returned c.in-Some.value (rw e at c.in-Some.ensures)
-    (rw e at c.leave.ensures.left) c.leave.ensures.onward (g.met.P.Position.lawful c.args.rules.now) _ refl refl)
+    (rw e at c.leave.ensures.left) c.leave.ensures.onward (g.met.P.Position.lawful c.args.rules.now) refl refl)
 
 pub returns-in-Some-clause-ready : goal.returns-in-Some-clause-ready
 returns-in-Some-clause-ready g c =

@@ -16,7 +16,7 @@ more : (g : _) (c : In-Some g) → c.loop-house.turns < (g.R.Rules.system c.args
 more g c =
     let r = c.loop-house.invariant.running in
     let w = picked g c in
-    omega (arith, room _ _ r.0 _ _ _ r.2 w.0 w.1, r.1)
+    omega (arith, room r.2 w.0 w.1, r.1)
 
 -- a visit that would leave a cell without a value ends the closing
 dead : (g : _) (c : Then-step g) → (c.in-Some.house < (g.R.Rules.system c.args.rules.now).houses) × (is_waiting c.loop-house.self.waits c.in-Some.house ≡ true)
@@ -38,14 +38,14 @@ loop-house-init g c = record {
   running = ([], refl, running-first _ (g.met.R.Rules.lawful c.args.rules.now) _ _ c.requires.queue c.requires.alive c.requires.rested);
   turns = omega arith;
   along = c.requires.along;
-  onward = on-none c.args.self.now;
+  onward = on-none;
 }
 
 pub overflow_add-turns : goal.overflow_add-turns
 overflow_add-turns g c = omega (arith, more g (goal.at.overflow_add-turns g c).In-Some, (rw (← c.self.view_is) at c.loop-house.invariant.along.fits).bound_in, c.self.invariant.0.few_turns)
 
 pub step-requires-clause-alive : goal.step-requires-clause-alive
-step-requires-clause-alive g c = running-alive _ _ _ _ _ c.loop-house.invariant.running.2
+step-requires-clause-alive g c = running-alive c.loop-house.invariant.running.2
 
 pub loop-house-smaller : goal.loop-house-smaller
 loop-house-smaller g c = omega (arith, more g (goal.at.loop-house-smaller g c).In-Some)
@@ -70,16 +70,16 @@ loop-house-preserved g c =
     }
 
 pub returns-then-step-clause-taken : goal.returns-then-step-clause-taken
-returns-then-step-clause-taken g c = taken-dead _ _ _ _ _ _ (dead g (goal.at.returns-then-step-clause-taken g c).Then-step (picked g (goal.at.returns-then-step-clause-taken g c).In-Some))
+returns-then-step-clause-taken g c = taken-dead (dead g (goal.at.returns-then-step-clause-taken g c).Then-step (picked g (goal.at.returns-then-step-clause-taken g c).In-Some))
 
 pub returns-then-step-clause-turns : goal.returns-then-step-clause-turns
 returns-then-step-clause-turns g c =
     let r = c.loop-house.invariant.running in
-    closed-in _ _ _ _ _ _ _ (dead g (goal.at.returns-then-step-clause-turns g c).Then-step (picked g (goal.at.returns-then-step-clause-turns g c).In-Some)) (λ _. omega (arith, length-append r.0 (c.in-Some.house ∷ []), r.1)) (λ e. absurd (true≢false (sym c.requires.queue ∙ e)))
+    closed-in (dead g (goal.at.returns-then-step-clause-turns g c).Then-step (picked g (goal.at.returns-then-step-clause-turns g c).In-Some)) (λ _. omega (arith, length-append r.0 (c.in-Some.house ∷ []), r.1)) (λ e. absurd (true≢false (sym c.requires.queue ∙ e)))
 
 pub returns-clause-taken : goal.returns-clause-taken
-returns-clause-taken g c = taken-open _ _ _ _ _ (shut g (goal.at.returns-clause-taken g c).In_default)
+returns-clause-taken g c = taken-open (shut g (goal.at.returns-clause-taken g c).In_default)
 
 pub returns-clause-turns : goal.returns-clause-turns
 returns-clause-turns g c =
-    closed-in _ _ _ _ _ _ _ (shut g (goal.at.returns-clause-turns g c).In_default) (λ _. c.loop-house.invariant.running.1) (λ e. absurd (true≢false (sym c.requires.queue ∙ e)))
+    closed-in (shut g (goal.at.returns-clause-turns g c).In_default) (λ _. c.loop-house.invariant.running.1) (λ e. absurd (true≢false (sym c.requires.queue ∙ e)))

@@ -11,7 +11,7 @@ use Rattle.engine_core.proofs.trail.position.TrailPosition.run_sweeps.Goals.{Els
 struck : (g : _) (c : Else-is_none g) → HasStruck (board_in c.closing.self) (board_in c.sweep-dead.new.self)
 struck g c =
     let next = rw (c.houses.ensures, c.deref.ensures.value) at c.next_waiting.ensures in
-    let w = some_waits _ _ c.next_waiting.result next c.if-is_none.ensures in
+    let w = some_waits _ c.next_waiting.result next c.if-is_none.ensures in
     c.sweep-dead.ensures.swept.struck c.if-dead.false w.0 w.1 (rw (← c.self.view_is) w.2)
 
 -- a sweep that leaves a cell without a value ends the closing
@@ -27,7 +27,7 @@ shut g c =
     let i = c.closing.invariant in
     let next = rw (c.houses.ensures, c.deref.ensures.value) at c.next_waiting.ensures in
     swept-open _ (g.met.R.Rules.lawful c.args.rules.now) _ c.closing.turns _ _ _ c.requires.sweeps (within_of _ _ c.requires.along.board_of) i.alive i.swept (rw c.if-dead.false at c.sweep-dead.ensures.swept)
-    (λ h lt. rw (← c.self.view_is) (none_waits _ _ c.next_waiting.result next c.if-is_none.ensures h lt))
+    (λ h lt. rw (← c.self.view_is) (none_waits _ c.next_waiting.result next c.if-is_none.ensures lt))
 
 pub closing-init : goal.closing-init
 closing-init g c = record {
@@ -35,22 +35,22 @@ closing-init g c = record {
   rested = c.requires.rested;
   swept = swept-first _ _ c.requires.alive;
   along = c.requires.along;
-  onward = on-none c.args.self.now;
+  onward = on-none;
 }
 
 pub returns-then-dead-clause-taken : goal.returns-then-dead-clause-taken
-returns-then-dead-clause-taken g c = taken-dead _ _ _ _ _ _ (dead g (goal.at.returns-then-dead-clause-taken g c).Then-dead)
+returns-then-dead-clause-taken g c = taken-dead (dead g (goal.at.returns-then-dead-clause-taken g c).Then-dead)
 
 pub returns-then-dead-clause-turns : goal.returns-then-dead-clause-turns
 returns-then-dead-clause-turns g c =
-    closed-in _ _ _ _ _ _ _ (dead g (goal.at.returns-then-dead-clause-turns g c).Then-dead) (λ e. absurd (true≢false (sym e ∙ c.requires.sweeps))) (λ _. refl)
+    closed-in (dead g (goal.at.returns-then-dead-clause-turns g c).Then-dead) (λ e. absurd (true≢false (sym e ∙ c.requires.sweeps))) (λ _. refl)
 
 pub returns-then-is_none-clause-taken : goal.returns-then-is_none-clause-taken
-returns-then-is_none-clause-taken g c = taken-open _ _ _ _ _ (shut g (goal.at.returns-then-is_none-clause-taken g c).Then-is_none)
+returns-then-is_none-clause-taken g c = taken-open (shut g (goal.at.returns-then-is_none-clause-taken g c).Then-is_none)
 
 pub returns-then-is_none-clause-turns : goal.returns-then-is_none-clause-turns
 returns-then-is_none-clause-turns g c =
-    closed-in _ _ _ _ _ _ _ (shut g (goal.at.returns-then-is_none-clause-turns g c).Then-is_none) (λ e. absurd (true≢false (sym e ∙ c.requires.sweeps))) (λ _. refl)
+    closed-in (shut g (goal.at.returns-then-is_none-clause-turns g c).Then-is_none) (λ e. absurd (true≢false (sym e ∙ c.requires.sweeps))) (λ _. refl)
 
 pub closing-smaller : goal.closing-smaller
 closing-smaller g c =

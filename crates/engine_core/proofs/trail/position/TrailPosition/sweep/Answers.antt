@@ -11,7 +11,7 @@ picked g c = rw (← c.self.view_is, ← c.houses.ensures, ← c.deref.ensures.v
 
 -- those before it strike nothing
 here : (g : _) (c : In-Some g) → IsSweeping (g.R.Rules.system c.args.rules.now) (board_in c.args.self.now) c.in-Some.house (board_in c.loop-house.self) (is_waiting c.loop-house.self.waits)
-here g c = let next = picked g c in sweeping-passed _ _ c.loop-house.from c.in-Some.house _ _ c.loop-house.invariant.sweeping next.0 (omega (arith, next.1)) next.3
+here g c = let next = picked g c in sweeping-passed c.loop-house.invariant.sweeping next.0 (omega (arith, next.1)) next.3
 
 pub loop-house-init : goal.loop-house-init
 loop-house-init g c = record {
@@ -19,7 +19,7 @@ loop-house-init g c = record {
   sweeping = sweeping-first _ _ _ c.requires.rested;
   alive = c.requires.alive;
   along = c.requires.along;
-  onward = on-none c.args.self.now;
+  onward = on-none;
 }
 
 pub step-requires-clause-house_in : goal.step-requires-clause-house_in
@@ -46,10 +46,10 @@ loop-house-preserved g c =
 pub returns-then-step-clause-swept : goal.returns-then-step-clause-swept
 returns-then-step-clause-swept g c =
     let at = (goal.at.returns-then-step-clause-swept g c).In-Some in
-    sweep-dead _ _ _ _ _ _ _ (here g at) (picked g at).1 c.if-step.ensures.step
+    sweep-dead _ _ _ _ _ (here g at) (picked g at).1 c.if-step.ensures.step
 
 pub returns-clause-swept : goal.returns-clause-swept
 returns-clause-swept g c =
     let i = c.loop-house.invariant in
     let none = rw (c.in_default.is, c.houses.ensures, c.deref.ensures.value) at c.next_waiting.ensures in
-    sweep-whole _ _ _ _ (sweeping-passed _ _ c.loop-house.from _ _ _ i.sweeping i.past (omega arith) (λ h le lt. rw (← c.self.view_is) (none h le lt))) i.alive
+    sweep-whole _ _ _ _ (sweeping-passed i.sweeping i.past (omega arith) (λ h le lt. rw (← c.self.view_is) (none h le lt))) i.alive

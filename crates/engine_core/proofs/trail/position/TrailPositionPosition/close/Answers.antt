@@ -13,13 +13,13 @@ dead g c =
     let p = g.R.Rules.system c.args.rules.now in
     let of = (rw (← c.self.view_is) at c.requires.walks).along.board_of in
     rw (← c.self.view_is) (closing-none p (g.met.R.Rules.lawful c.args.rules.now) (has c.self.inside.trailed.board) (within_of p _ of)
-    (sym (dead_of p _ of) ∙ (sym (rw c.board.ensures at c.has_empty_cell.ensures) ∙ c.if-has_empty_cell.true)))
+    (sym (dead_of p of) ∙ (sym (rw c.board.ensures at c.has_empty_cell.ensures) ∙ c.if-has_empty_cell.true)))
 
 pub returns-then-has_empty_cell-clause-taken : goal.returns-then-has_empty_cell-clause-taken
-returns-then-has_empty_cell-clause-taken g c = taken-dead _ _ _ _ _ _ (dead g (goal.at.returns-then-has_empty_cell-clause-taken g c).Then-has_empty_cell)
+returns-then-has_empty_cell-clause-taken g c = taken-dead (dead g (goal.at.returns-then-has_empty_cell-clause-taken g c).Then-has_empty_cell)
 
 pub returns-then-has_empty_cell-clause-turns : goal.returns-then-has_empty_cell-clause-turns
-returns-then-has_empty_cell-clause-turns g c = closed-in _ _ _ _ _ _ _ (dead g (goal.at.returns-then-has_empty_cell-clause-turns g c).Then-has_empty_cell) (λ _. refl) (λ _. refl)
+returns-then-has_empty_cell-clause-turns g c = closed-in (dead g (goal.at.returns-then-has_empty_cell-clause-turns g c).Then-has_empty_cell) (λ _. refl) (λ _. refl)
 
 -- the houses that wait at first
 rested : (g : _) (c : After-wait_from g)
@@ -27,7 +27,7 @@ rested : (g : _) (c : After-wait_from g)
 rested g c =
     let r = rw (← c.self.view_is) at c.requires in
     rw (written-back c.self.inside.waits.len c.wait_from.new.waits (drop (length c.wait_from.new.waits) c.self.inside.waits.items) (omega (arith, c.self.inside.waits.ok.0, c.deref_mut.ensures.len, c.wait_from.auto.waits)))
-    (rested_from _ _ c.args.from _ r.closed_but (c.wait_from.ensures.called _ r.walks.along.follows))
+    (rested_from c.args.from r.closed_but (c.wait_from.ensures.called _ r.walks.along.follows))
 
 pub run_queue-requires-clause-rested : goal.run_queue-requires-clause-rested
 run_queue-requires-clause-rested g c = rested g (goal.at.run_queue-requires-clause-rested g c).After-wait_from

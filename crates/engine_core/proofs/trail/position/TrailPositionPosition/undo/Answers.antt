@@ -28,13 +28,13 @@ overflow_add-self g c =
 pub returns-clause-returned : goal.returns-clause-returned
 returns-clause-returned g c =
     let r = rw (← c.self.view_is) at c.requires in
-    rw (← c.self.view_is) (back-returned _ _ _ _ c.args.level _ r.walks.marked r.marked (read g (goal.at.returns-clause-returned g c).After-index) c.undo.ensures.back)
+    rw (← c.self.view_is) (back-returned r.walks.marked r.marked (read g (goal.at.returns-clause-returned g c).After-index) c.undo.ensures.back)
 
 pub returns-clause-walks : goal.returns-clause-walks
 returns-clause-walks g c =
     let r = rw (← c.self.view_is) at c.requires in
     record {
-      along = record { fits = r.walks.along.fits; board_of = IsBoardOf-same _ _ _ r.walks.along.board_of c.undo.ensures.back.shape; follows = c.undo.ensures.follows };
+      along = record { fits = r.walks.along.fits; board_of = IsBoardOf-same r.walks.along.board_of c.undo.ensures.back.shape; follows = c.undo.ensures.follows };
       few = omega (arith, r.walks.few, r.marked);
-      marked = rw c.undo.ensures.back.len (marks-returned _ _ _ c.args.level _ r.walks.marked r.marked (read g (goal.at.returns-clause-walks g c).After-index));
+      marked = rw c.undo.ensures.back.len (marks-returned r.walks.marked r.marked (read g (goal.at.returns-clause-walks g c).After-index));
     }

@@ -19,10 +19,10 @@ index_mut-requires g c =
 pub overflow_add-self : goal.overflow_add-self
 overflow_add-self g c =
     let v = c.self.inside.changes in
-    omega (arith, trail-len _ _ _ _ _ c.self.invariant, v.ok, v.small)
+    omega (arith, trail-len c.self.invariant, v.ok, v.small)
 
 pub change-requires : goal.change-requires
-change-requires g c = (_, _, rw (← c.self.view_is) at c.requires.follows, (noted g (goal.at.change-requires g c).After-retain).change)
+change-requires g c = record { board = _; changed = _; is_so = rw (← c.self.view_is) at c.requires.follows; change = (noted g (goal.at.change-requires g c).After-retain).change }
 
 pub invariant_of-self : goal.invariant_of-self
 invariant_of-self g c = (noted g (goal.at.invariant_of-self g c).After-retain).trail

@@ -15,16 +15,16 @@ in_scope g c = omega (arith, c.requires.sets.as_many)
 left : (g : _) (c : After-left_of-left g)
     → IsBitsOf (after (g.R.Rules.system c.args.rules.now) c.args.house (has c.args.self.now.board) (slice_index ((g.R.Rules.system c.args.rules.now).scope c.args.house) c.loop-k.k))
     (g.R.Rules.system c.args.rules.now).values c.left_of-left.result
-left g c = rw c.left_of-left.ensures (kept-left _ _ _ _ _ c.requires.sets c.requires.kept c.loop-k.k (in_scope g c))
+left g c = rw c.left_of-left.ensures (kept-left c.requires.sets c.requires.kept (in_scope g c))
 
 pub leave-requires-clause-place_in : goal.leave-requires-clause-place_in
 leave-requires-clause-place_in g c =
-    rw c.scope.ensures (scope-in _ (g.met.R.Rules.lawful c.args.rules.now) c.args.house c.loop-k.k c.requires.house_in (omega (arith, c.requires.sets.as_many)))
+    rw c.scope.ensures (scope-in (g.met.R.Rules.lawful c.args.rules.now) c.loop-k.k c.requires.house_in (omega (arith, c.requires.sets.as_many)))
 
 pub leave-requires-clause-before : goal.leave-requires-clause-before
 leave-requires-clause-before g c =
     let lt = in_scope g (goal.at.leave-requires-clause-before g c).After-left_of-left in
-    rw (c.scope.ensures, upto-next _ (g.met.R.Rules.lawful c.args.rules.now) c.args.house c.loop-k.k _ _ c.requires.house_in lt c.loop-k.invariant.upto) (c.requires.sets.bits c.loop-k.k lt)
+    rw (c.scope.ensures, upto-next (g.met.R.Rules.lawful c.args.rules.now) c.requires.house_in lt c.loop-k.invariant.upto) (c.requires.sets.bits c.loop-k.k lt)
 
 pub leave-requires-clause-left : goal.leave-requires-clause-left
 leave-requires-clause-left g c =
@@ -32,13 +32,13 @@ leave-requires-clause-left g c =
     let left = left g here in
     rw (
       c.scope.ensures,
-      upto-cell _ (g.met.R.Rules.lawful c.args.rules.now) c.args.house c.loop-k.k _ _ _ c.requires.house_in (in_scope g here) (within_of _ _ c.requires.board_of) c.loop-k.invariant.upto left,
+      upto-cell (g.met.R.Rules.lawful c.args.rules.now) c.requires.house_in (in_scope g here) (within_of _ _ c.requires.board_of) c.loop-k.invariant.upto left,
     ) left
 
 pub returns-then-left-eq0-clause-dead : goal.returns-then-left-eq0-clause-dead
 returns-then-left-eq0-clause-dead g c = λ _.
     let here = (goal.at.returns-then-left-eq0-clause-dead g c).After-left_of-left in
-    struck-dead _ (g.met.R.Rules.lawful c.args.rules.now) c.args.house _ c.loop-k.k c.requires.house_in (in_scope g here) (rw c.if-left-eq0.true at (left g here))
+    struck-dead _ (g.met.R.Rules.lawful c.args.rules.now) _ c.requires.house_in (in_scope g here) (rw c.if-left-eq0.true at (left g here))
 
 pub loop-k-preserved : goal.loop-k-preserved
 loop-k-preserved g c =
@@ -50,7 +50,7 @@ loop-k-preserved g c =
     let left = left g here in
     let lt = in_scope g here in
     let within = within_of _ _ c.requires.board_of in
-    let some = struck-some _ laws c.args.house (has c.args.self.now.board) c.loop-k.k c.requires.house_in lt c.requires.alive (are.bits c.loop-k.k lt) left in
+    let some = struck-some _ laws (has c.args.self.now.board) c.requires.house_in lt c.requires.alive (are.bits c.loop-k.k lt) left in
     elim c.if-left-sets.branch [
       | then-left-sets+else-left-eq0 w ↦
           let e = w.leave.ensures in
@@ -61,9 +61,9 @@ loop-k-preserved g c =
               | inl same ↦ rw same (some (inr w.if-left-eq0.false))
               | inr ne ↦ i.some j (omega arith)
             ];
-            lost = lost-more _ laws _ _ _ _ _ _ _ c.requires.house_in lt grows e.longer (rw w.scope.ensures at e.noted) e.earlier (rw w.scope.ensures at e.left)
+            lost = lost-more _ laws _ _ _ _ _ _ c.requires.house_in lt grows e.longer (rw w.scope.ensures at e.noted) e.earlier (rw w.scope.ensures at e.left)
                 (lost-differ _ _ _ _ _ _ _ upto (are.bits c.loop-k.k lt) left w.if-left-sets.true) i.lost;
-            further = further-more _ _ _ i.further e.further;
+            further = further-more i.further e.further;
             follows = e.follows;
             keeps = λ needs served. e.keeps needs (i.keeps needs served);
           })
@@ -85,9 +85,9 @@ returns-clause-struck g c = λ _.
     let i = c.loop-k.invariant in
     let laws = g.met.R.Rules.lawful c.args.rules.now in
     let all : c.loop-k.k ≡ length ((g.R.Rules.system c.args.rules.now).scope c.args.house) = omega (arith, c.requires.sets.as_many) in
-    let left = upto-all _ laws c.args.house _ _ c.requires.house_in (rw all at i.upto) in
+    let left = upto-all _ laws _ _ c.requires.house_in (rw all at i.upto) in
     record {
       left = left;
-      alive = rw left (struck-alive _ laws c.args.house (has c.args.self.now.board) c.requires.house_in c.requires.alive (λ j lt. i.some j (omega arith)));
+      alive = rw left (struck-alive _ laws (has c.args.self.now.board) c.requires.house_in c.requires.alive (λ j lt. i.some j (omega arith)));
       lost = rw all at i.lost;
     }

@@ -10,12 +10,12 @@ last_undone : (g : _) (c : After-cell_bits g)
 last_undone g c =
     let i = c.loop-self.invariant in
     let t = c.loop-self.self-inside in
-    let few = trail-len _ _ _ _ _ i.trail in
+    let few = trail-len i.trail in
     let last = get_or_read_under t.changes.items (t.len - 1) t.changes.len _ _ c.index.ensures (omega (arith, t.changes.ok.0)) t.changes.ok.0 in
     undone _ _ _ _ _ _ _ _ _ c.requires.board_of i.shape c.restore_set.ensures.shape i.trail (omega arith) last c.restore_set.ensures.left c.cell_bits-before.ensures c.cell_bits.ensures
 
 pub change-requires : goal.change-requires
-change-requires g c = (_, _, c.loop-self.invariant.follows, (last_undone g (goal.at.change-requires g c).After-cell_bits).change)
+change-requires g c = record { board = _; changed = _; is_so = c.loop-self.invariant.follows; change = (last_undone g (goal.at.change-requires g c).After-cell_bits).change }
 
 pub loop-self-preserved : goal.loop-self-preserved
 loop-self-preserved g c =
@@ -36,7 +36,7 @@ returns-clause-back g c =
     let t = c.loop-self.self-inside in
     record {
       shape = i.shape;
-      here = sym (put_back-none (has t.board) t.changes.items c.args.mark t.len (omega arith)) ∙ i.back c.args.mark (omega arith);
+      here = sym (put_back-none t.changes.items c.args.mark t.len (omega arith)) ∙ i.back c.args.mark (omega arith);
       len = (let low = i.low in omega arith);
       back = λ m le. i.back m le;
     }

@@ -13,4 +13,5 @@ pub returns-clause-columns : goal.returns-clause-columns
 returns-clause-columns c = λ x lt. ap (λ (cs : List (List ℕ)). get_or cs x []) c.in_ok-clues.ensures.runs ∙ at_column runs [] c.args.size c.args.grid.now x lt
 
 pub returns-clause-rows : goal.returns-clause-rows
-returns-clause-rows c = λ y lt. ap (λ (cs : List (List ℕ)). get_or cs (c.args.size.w + y) []) c.in_ok-clues.ensures.runs ∙ at_row runs [] c.args.size c.args.grid.now y lt
+returns-clause-rows c = λ y lt. ap (λ (cs : List (List ℕ)). get_or cs (c.args.size.w + y) []) c.in_ok-clues.ensures.runs
+    ∙ at_row runs [] c.args.size c.args.grid.now y lt

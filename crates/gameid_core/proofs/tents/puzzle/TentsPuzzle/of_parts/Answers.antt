@@ -6,4 +6,5 @@ pub returns-clause-columns : goal.returns-clause-columns
 returns-clause-columns c = λ x lt. ap (λ (cs : List ℕ). get_or cs x 0) c.in_ok-counts.ensures.ones ∙ at_column ones 0 c.args.size c.args.tents.now x lt
 
 pub returns-clause-rows : goal.returns-clause-rows
-returns-clause-rows c = λ y lt. ap (λ (cs : List ℕ). get_or cs (c.args.size.w + y) 0) c.in_ok-counts.ensures.ones ∙ at_row ones 0 c.args.size c.args.tents.now y lt
+returns-clause-rows c = λ y lt. ap (λ (cs : List ℕ). get_or cs (c.args.size.w + y) 0) c.in_ok-counts.ensures.ones
+    ∙ at_row ones 0 c.args.size c.args.tents.now y lt

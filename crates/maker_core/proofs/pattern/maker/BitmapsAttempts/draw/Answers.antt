@@ -12,7 +12,7 @@ plain g c colour =
     let t = c.args.self.now in
     let grid = c.in_ok-grid.ensures in
     let puzzle = c.in_ok-puzzle.ensures in
-    rw c.has_switch.ensures.same (plain_passes t.size c.in_ok-grid.grid t.limits.budget c.cells.ensures.lawful (rw puzzle.puzzle at puzzle.solved)
+    rw c.has_switch.ensures.same (plain_passes t.limits.budget c.cells.ensures.lawful (rw puzzle.puzzle at puzzle.solved)
     (elim colour [ inl e ↦ inl (grid.white e) | inr e ↦ inr (grid.full e) ]))
 
 -- a second solution close by refutes a verdict of one
@@ -21,7 +21,7 @@ returns-then-has_switch-clause-verdict g c =
     let t = c.args.self.now in
     let puzzle = c.in_ok-puzzle.ensures in
     let other = c.has_switch.ensures.other c.if-has_switch.true in
-    rw c.has_switch.ensures.same (sym (other_fails (clued_by t.size c.in_ok-grid.grid) c.in_ok-grid.grid t.limits.budget c.cells.ensures.lawful
+    rw c.has_switch.ensures.same (sym (other_fails t.limits.budget c.cells.ensures.lawful
     (rw puzzle.puzzle at puzzle.solved) (rw puzzle.puzzle at other)))
 
 pub returns-then-has_switch-clause-known : goal.returns-then-has_switch-clause-known

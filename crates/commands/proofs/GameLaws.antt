@@ -1,0 +1,304 @@
+-- What the laws rest on, for each game; and what is told of an ID beside its verdict: a grid that is told passes, what is
+-- handed out is solved, and an input that is correct is a solution.
+use Rattle.std.proofs.Common.{◌≡◌, ◌≢◌, ◌⊎◌, ◌<◌, length, true≢false, ◌∙◌, ℕ, List, Result, sym, ap, subst, arith, inl, inr, Some, None, Err, true, refl, drop, ◌∷◌, Bool, false, [], if◌then◌else◌}
+use Rattle.std.proofs.lemmas.Bool.{false_from_ne_true}
+use Rattle.std.proofs.lemmas.Grind.{common_steps}
+use Rattle.std.specs.Prelude.{◌↔◌, is_ok, ◌≤◌}
+use Rattle.gameid_core.specs.declared.id.game.Game.TheVariants as game
+use Rattle.gameid_core.specs.declared.id.fault.IdFault.TheVariants.{TooLong}
+use Rattle.gameid_core.proofs.HeadLaws.{puzzle_too_long}
+use Rattle.gameid_core.proofs.LightTexts.{light_reading}
+use Rattle.gameid_core.proofs.LightWritten.{light_is_written}
+use Rattle.gameid_core.proofs.PatternTexts.{pattern_reading}
+use Rattle.gameid_core.proofs.PatternWritten.{pattern_is_written}
+use Rattle.gameid_core.proofs.SoloCanon.{solo_is_written}
+use Rattle.gameid_core.proofs.SoloTexts.{solo_reading}
+use Rattle.gameid_core.proofs.TentsTexts.{tents_reading}
+use Rattle.gameid_core.proofs.TentsWritten.{tents_is_written}
+use Rattle.engine_core.specs.Verdict.{Outcome.OneSolution, Outcome.NoSolution, Outcome.SeveralSolutions, Outcome.GaveUp, trials_in}
+use Rattle.maker_core.specs.Made.{IsOnlySolution}
+use Rattle.maker_core.specs.Thinning.{HasTwo}
+use Rattle.solo_core.proofs.SinglesLemmas.{singles_in_houses}
+use Rattle.commands.specs.Common.{IsRight, IsSolo, Solo, max_id, light_rules, tent_rules, line_rules, crossings_rules, houses_rules, singles_rules}
+use Rattle.commands.specs.Common.{IdFault, SizeRead, IsPrinted, Game, HasOneReading, verdict_of, Solves, Outcome, RuleSystem, is_settled, walk}
+use Rattle.commands.specs.Answers.{Answer, Text}
+use Rattle.commands.specs.Each.{HasAnswers}
+use Rattle.commands.specs.Games.{game_of}
+use Rattle.commands.specs.PuzzleFacts.{PuzzleFacts, printed_by}
+use Rattle.commands.specs.SoloFacts.{solo_sets}
+use Rattle.commands.specs.Makings.{MadePuzzle, Wanted}
+use Rattle.commands.specs.Replies.{gave_up_answer, one_answer, verdict_answer, refused}
+use Rattle.commands.specs.Allowed.{AllowsCheck, AllowsGrade, AllowsSolve, IsSolved}
+use Rattle.commands.specs.CheckAnswers.{AllowsGrid, checked as correct_or, without_returns}
+use Rattle.commands.specs.LawsOfCommands.{ArePassed, HasOneAnswer, Passes}
+use Rattle.commands.specs.Grades.{HasOneSolution, IsRightGrade, NamedRules, grade_by, listed_grade, only_set, searched_grade}
+use Rattle.commands.specs.declared.grade.Grade.TheVariants.{ByRules}
+use Rattle.commands.specs.declared.grade.RuleSet.TheVariants.{Singles, Houses, Crossings, Lines, Local}
+use Rattle.commands.proofs.GradedAlike.{status_one, told_status, graded_one, settled_found, settled_by_stronger, is_within, own_named, weaker_named}
+use Rattle.commands.proofs.Readings.{id_once}
+use Rattle.commands.proofs.CheckedPuzzles.{correct_grid, CheckedPuzzle, light_checked, pattern_checked, solo_checked, tents_checked}
+use Rattle.commands.proofs.PrintedGrids.{printed_once}
+use Rattle.commands.proofs.SearchedPuzzles.{SearchedPuzzle, found_with_enough, verdict_right, crossings_searched, light_searched, pattern_searched, singles_searched, solo_searched, solved_once, tents_searched}
+
+same_status : (a b : Answer) → a ≡ b → a.status ≡ b.status
+same_status a b e = ap (λ (c : Answer). c.status) e
+
+module _ {P : Type 0} (play : PuzzleFacts P) (reading : HasOneReading play.game.spells play.game.reading) where
+  -- the verdict is one, of that grid
+  pub found_alone : (id : Text) (p : P) (budget : ℕ) (g : List ℕ) (said : Answer) → play.game.spells id p → verdict_of (play.game.rules p) budget ≡ OneSolution g
+      → IsOnlySolution (play.game.solves p) g
+      → AllowsSolve play budget id said ↔ (said ≡ one_answer (printed_by play p g))
+  found_alone id p budget g said s verdict only = (allowed, allows)
+    where
+      allowed : AllowsSolve play budget id said → said ≡ one_answer (printed_by play p g)
+      allowed (inl refusal) = absurd (reading.apart id p refusal.fault s refusal.first)
+      allowed (inr answered) =
+          let mine = subst (λ q. IsSolved play budget q said) (reading.one id answered.puzzle p answered.spelled s) answered.allowed in
+          mine.said ∙ ap (verdict_answer (λ h. printed_by play p h)) verdict
+
+      allows : said ≡ one_answer (printed_by play p g) → AllowsSolve play budget id said
+      allows is = inr (record {
+        puzzle = p;
+        spelled = s;
+        allowed = record {
+          right = subst (IsRight (play.game.solves p)) (sym verdict) (only.0, λ h other. sym (only.1 h other));
+          said = is ∙ sym (ap (verdict_answer (λ h. printed_by play p h)) verdict);
+        };
+      })
+
+  -- with two solutions no verdict is one
+  pub never_one : (id : Text) (p : P) (any : ℕ) (said : Answer) → play.game.spells id p → HasTwo (play.game.rules p)
+      → ((g : List ℕ) → Solves (play.game.rules p) g → play.game.solves p g)
+      → AllowsSolve play any id said → said.status ≢ 0
+  never_one id p any said h1 h2 h3 h4 = grind (arith, common_steps, status_one, told_status)
+
+-- what is spelled is read
+pub spelled_read : {P : Type 0} (of : Text → Result P IdFault) (spells : Text → P → Type 0) → HasOneReading spells of → (id : Text) (p : P) → spells id p → is_ok (of id) ≡ true
+spelled_read of spells h1 id p h2 = grind (arith, common_steps)
+
+module _ {P : Type 0} (play : PuzzleFacts P) (reading : HasOneReading play.game.spells play.game.reading)
+    (game : (id : Text) (p : P) → play.game.spells id p → CheckedPuzzle play p) where
+  abbrev printed : P → List ℕ → Text
+  printed p g = printed_by play p g
+
+  pub passes_as : (id : Text) (p : P) → play.game.spells id p → (g : List ℕ) → play.game.solves p g → (said : Answer)
+      → AllowsCheck play id (printed p g) said ↔ (said ≡ correct_or None)
+  passes_as id p s g solution said = (allowed, λ same. inr (record { puzzle = p; spelled = s; allowed = correct.1 same }))
+    where
+      correct : AllowsGrid play p (printed p g) said ↔ (said ≡ correct_or None)
+      correct = correct_grid play p (game id p s) g solution said
+
+      allowed : AllowsCheck play id (printed p g) said → said ≡ correct_or None
+      allowed (inl x) = absurd (reading.apart id p x.fault s x.first)
+      allowed (inr x) = correct.0 (subst (λ q. AllowsGrid play q (printed p g) said) (reading.one id x.puzzle p x.spelled s) x.allowed)
+
+  -- no grid is told
+  other_status : (id : Text) (solved said : Answer) → solved ≡ said → said.status ≢ 0 → said.status ≢ 3 → said.status ≢ 4 → ArePassed (AllowsCheck play id) solved
+  other_status id solved said told none nor neither = record {
+    one = λ e. absurd (none (sym (same_status _ _ told) ∙ e));
+    several = λ e. absurd (nor (sym (same_status _ _ told) ∙ e));
+    gave_up = λ e. absurd (neither (sym (same_status _ _ told) ∙ e));
+  }
+
+  pub passed : (id : Text) (budget : ℕ) (solved : Answer) → AllowsSolve play budget id solved → ArePassed (AllowsCheck play id) solved
+  passed id budget solved (inl x) = other_status id solved _ x.said (omega arith) (omega arith) (omega arith)
+  passed id budget solved (inr x) = by (verdict_of (play.game.rules x.puzzle) budget) x.allowed.right x.allowed.said
+    where
+      differ : (g h : List ℕ) → play.game.solves x.puzzle g → play.game.solves x.puzzle h → (g ≢ h) → printed x.puzzle g ≢ printed x.puzzle h
+      differ g h a b other same =
+          let checked = game id x.puzzle x.spelled in
+          other (printed_once (play.hides x.puzzle) (play.value_count x.puzzle) (play.extent x.puzzle) (play.cell_text x.puzzle) checked.once g h (checked.shown g a) (checked.shown h b)
+          (printed x.puzzle g) (inl refl) (inl same))
+
+      found_so_far : {grid : Text} → solved ≡ gave_up_answer grid
+          → (solved ≡ gave_up_answer []) ⊎ ((found : Text) × (solved ≡ gave_up_answer found) × Passes (AllowsCheck play id) found) → ArePassed (AllowsCheck play id) solved
+      found_so_far told passes = record {
+        one = λ e. absurd (let s = same_status _ _ told in omega (arith, e, s));
+        several = λ e. absurd (let s = same_status _ _ told in omega (arith, e, s));
+        gave_up = λ e. passes;
+      }
+
+      by : (o : Outcome) → IsRight (play.game.solves x.puzzle) o → solved ≡ verdict_answer (printed x.puzzle) o → ArePassed (AllowsCheck play id) solved
+      by NoSolution right told = other_status id solved _ told (omega arith) (omega arith) (omega arith)
+      by (OneSolution g) right told = record {
+        one = λ e. (printed x.puzzle g, told, passes_as id x.puzzle x.spelled g right.0);
+        several = λ e. absurd (let s = same_status _ _ told in omega (arith, e, s));
+        gave_up = λ e. absurd (let s = same_status _ _ told in omega (arith, e, s));
+      }
+      by (SeveralSolutions g h) right told = record {
+        one = λ e. absurd (let s = same_status _ _ told in omega (arith, e, s));
+        several = λ e. (
+          printed x.puzzle g,
+          printed x.puzzle h,
+          told,
+          differ g h right.0 right.1 right.2,
+          passes_as id x.puzzle x.spelled g right.0,
+          passes_as id x.puzzle x.spelled h right.1,
+        );
+        gave_up = λ e. absurd (let s = same_status _ _ told in omega (arith, e, s));
+      }
+      by (GaveUp None) right told = found_so_far told (inl told)
+      by (GaveUp (Some g)) right told = found_so_far told (inr (printed x.puzzle g, told, passes_as id x.puzzle x.spelled g right))
+
+-- what is said of an ID where an input is correct
+pub record GoesWithCorrect (input : Text) (solved : Answer) : Type 0 where
+  pub some : solved.status ≢ 1
+  pub that : (grid : Text) → solved ≡ one_answer grid → IsPrinted (without_returns input) grid
+
+abbrev pub GoesWith : Text → Answer → Answer → Type 0
+GoesWith input given solved = given.status ≡ 0 → GoesWithCorrect input solved
+
+pub refusals_go : (input first second : Text) → GoesWith input (refused first) (refused second)
+refusals_go input first second e = absurd (omega (arith, e))
+
+same_grid : (a b : Text) → one_answer a ≡ one_answer b → a ≡ b
+same_grid a b e = ap (λ (c : Answer). drop 4 c.text) e
+
+module _ (solves : List ℕ → Type 0) (printed : List ℕ → Text) (input : Text) (g : List ℕ) (solution : solves g)
+    (form : IsPrinted (without_returns input) (printed g)) (solved : Answer) where
+  -- neither none is told nor one
+  other_told : (said : Answer) → solved ≡ said → said.status ≢ 1 → said.status ≢ 0 → GoesWithCorrect input solved
+  other_told said told none nor = record {
+    some = λ e. none (sym (same_status _ _ told) ∙ e);
+    that = λ grid is. absurd (nor (same_status _ _ (sym told ∙ is)));
+  }
+
+  by_verdict : (o : Outcome) → IsRight solves o → solved ≡ verdict_answer printed o → GoesWithCorrect input solved
+  by_verdict NoSolution right told = absurd (right g solution)
+  by_verdict (OneSolution f) right told = record {
+    some = λ e. let s = same_status _ _ told in absurd (omega (arith, e, s));
+    that = λ grid is. subst (IsPrinted (without_returns input)) (ap printed (sym (right.1 g solution)) ∙ same_grid (printed f) grid (sym told ∙ is)) form;
+  }
+  by_verdict (SeveralSolutions f h) right told = other_told _ told (omega arith) (omega arith)
+  by_verdict (GaveUp None) right told = other_told _ told (omega arith) (omega arith)
+  by_verdict (GaveUp (Some f)) right told = other_told _ told (omega arith) (omega arith)
+
+-- the answers to a puzzle
+pub goes_with : {P : Type 0} (play : PuzzleFacts P) (p : P) (budget : ℕ) (input : Text) (given solved : Answer) → CheckedPuzzle play p → AllowsGrid play p input given
+    → IsSolved play budget p solved → GoesWith input given solved
+goes_with play p budget input given solved checked (inr none) s fine = absurd (let e = same_status _ _ none.said in omega (arith, fine, e))
+goes_with play p budget input given solved checked (inl here) s fine =
+    by_verdict (play.game.solves p) (λ g. printed_by play p g) input here.grid (checked.sound here.grid given here.given.shown.grid here.said fine)
+    here.given.printed solved (verdict_of (play.game.rules p) budget) s.right s.said
+
+right_by_verdict : (solves : List ℕ → Type 0) (trials : ℕ) (o : Outcome) → IsRight solves o → IsRightGrade solves (grade_by trials o)
+right_by_verdict solves trials NoSolution right = right
+right_by_verdict solves trials (OneSolution g) right = (g, right.0, right.1)
+right_by_verdict solves trials (SeveralSolutions g h) right = (g, h, right.0, right.1, right.2)
+right_by_verdict solves trials (GaveUp found) right = tt
+
+pub settled_one : (rules : RuleSystem) (solves : List ℕ → Type 0) → SearchedPuzzle rules solves → is_settled rules ≡ true → HasOneSolution solves
+settled_one rules solves searched settled =
+    let right = subst (IsRight solves) (settled_found rules searched.lawful settled 0) (verdict_right rules solves searched 0) in
+    (_, right.0, right.1)
+
+-- so are those of each rule set
+abbrev pub EachSearched : (List ℕ → Type 0) → List NamedRules → Type 0
+EachSearched solves [] = Unit {0}
+EachSearched solves (first ∷ rest) = SearchedPuzzle first.rules solves × EachSearched solves rest
+
+pub listed_right : (solves : List ℕ → Type 0) (sets : List NamedRules) (search : RuleSystem) (budget : ℕ) → EachSearched solves sets → SearchedPuzzle search solves
+    → IsRightGrade solves (listed_grade sets search budget)
+unfolding searched_grade
+listed_right solves [] search budget each searched =
+    right_by_verdict solves (trials_in (walk search 0 search.start)) (verdict_of search budget) (verdict_right search solves searched budget)
+listed_right solves (first ∷ rest) search budget each searched = by (is_settled first.rules) refl (listed_right solves rest search budget each.1 searched)
+  where
+    by : (b : Bool) → is_settled first.rules ≡ b → IsRightGrade solves (listed_grade rest search budget) → IsRightGrade solves (if b then ByRules first.set else listed_grade rest search budget)
+    by true settled later = settled_one first.rules solves each.0 settled
+    by false unsettled later = later
+
+-- with enough budget a search tells the one solution of a puzzle whose grade names a rule set or a search
+pub with_enough : {P : Type 0} (play : PuzzleFacts P) (reading : HasOneReading play.game.spells play.game.reading)
+    → ((id : Text) (p : P) → play.game.spells id p → SearchedPuzzle (play.game.rules p) (play.game.solves p))
+    → (id : Text) (budget : ℕ) (traced : Bool) (graded : Answer) → AllowsGrade play id budget traced graded → graded.status ≡ 0
+    → (enough : ℕ) × (grid : Text) × ((budget : ℕ) → enough ≤ budget → (said : Answer) → AllowsSolve play budget id said ↔ (said ≡ one_answer grid))
+with_enough play reading searched id budget traced graded (inl refusal) fine = absurd (omega (arith, fine, ap (λ (a : Answer). a.status) refusal.said))
+with_enough play reading searched id budget traced graded (inr answered) fine =
+    let p = answered.puzzle in
+    let one = graded_one (play.game.solves p) _ answered.allowed.right (sym answered.allowed.said.status ∙ fine) in (
+      trials_in (walk (play.game.rules p) 0 (play.game.rules p).start),
+      printed_by play p one.0,
+      λ more room said. found_alone play reading id p more one.0 said answered.spelled
+          (found_with_enough (play.game.rules p) (play.game.solves p) (searched id p answered.spelled) one more room) (one.1, λ h other. sym (one.2 h other)),
+    )
+
+-- in Solo the singles are named before the search's own rules
+solo_named : (p : Solo) → IsSolo p → (budget : ℕ) → is_within (listed_grade (solo_sets p) (houses_rules p) budget) ≡ is_settled (houses_rules p)
+solo_named p ok budget = weaker_named (houses_rules p) budget Singles (singles_rules p)
+    (record { set = Houses; rules = houses_rules p } ∷ only_set Crossings (crossings_rules p)) refl
+    (settled_by_stronger (singles_rules p) (houses_rules p) (singles_searched p ok).lawful (solo_searched p ok).lawful refl refl refl
+    (λ g s. record { grid = s.grid; good = s.good })
+    (λ K closed h place v lt on. false_from_ne_true _ (λ struck. let both = singles_in_houses p ok h K place v lt struck in
+    true≢false (sym both.1 ∙ closed h place v both.0 on))))
+    (own_named (houses_rules p) budget Houses (only_set Crossings (crossings_rules p)) refl (refl, tt))
+
+pub record GameLaws {P : Type 0} (play : PuzzleFacts P) : Type 0 where
+  -- a text spells one puzzle or has one fault, and what is written for a puzzle spells it
+  pub reading : HasOneReading play.game.spells play.game.reading
+  pub again : (text : Text) (p : P) → play.game.spells text p → play.game.spells (play.game.written p) p
+  -- the rules of the search and of each rule set are lawful and accept the solutions, and checks tell solutions
+  pub searched : (text : Text) (p : P) → play.game.spells text p → SearchedPuzzle (play.game.rules p) (play.game.solves p)
+  pub listed : (text : Text) (p : P) → play.game.spells text p → EachSearched (play.game.solves p) (play.game.sets p)
+  -- where the search's rules settle a puzzle, its grade names them, or weaker ones
+  pub named : (text : Text) (p : P) → play.game.spells text p → (budget : ℕ)
+      → is_within (listed_grade (play.game.sets p) (play.game.rules p) budget) ≡ is_settled (play.game.rules p)
+  pub checked : (text : Text) (p : P) → play.game.spells text p → CheckedPuzzle play p
+  -- a puzzle is made with its only solution, which a search tells
+  pub made : (size : SizeRead) (w : Wanted) (m : MadePuzzle P) → play.game.makes size w m
+      → (verdict_of (play.game.rules m.puzzle) w.budget ≡ OneSolution m.solution) × IsOnlySolution (play.game.solves m.puzzle) m.solution
+
+pub laws_of : (g : Game) → GameLaws (game_of g)
+laws_of game.Pattern = record {
+  reading = pattern_reading;
+  again = λ text p s. (pattern_is_written p s.puzzle).spells;
+  searched = λ text p s. pattern_searched p s.puzzle;
+  listed = λ text p s. (pattern_searched p s.puzzle, tt);
+  named = λ text p s budget. own_named (line_rules p) budget Lines [] refl tt;
+  checked = λ text p s. pattern_checked p s.puzzle;
+  made = λ size w m made. (made.verdict, made.only);
+}
+laws_of game.Solo = record {
+  reading = solo_reading;
+  again = λ text p s. (solo_is_written p s.puzzle).spells;
+  searched = λ text p s. solo_searched p s.puzzle;
+  listed = λ text p s. (singles_searched p s.puzzle, (solo_searched p s.puzzle, (crossings_searched p s.puzzle, tt)));
+  named = λ text p s. solo_named p s.puzzle;
+  checked = λ text p s. solo_checked p s.puzzle;
+  made = λ size w m made. (made.verdict, made.only);
+}
+laws_of game.LightUp = record {
+  reading = light_reading;
+  again = λ text p s. (light_is_written p s.puzzle).spells;
+  searched = λ text p s. light_searched p s.puzzle;
+  listed = λ text p s. (light_searched p s.puzzle, tt);
+  named = λ text p s budget. own_named (light_rules p) budget Local [] refl tt;
+  checked = λ text p s. light_checked p s.puzzle;
+  made = λ size w m made. (made.verdict, made.only);
+}
+laws_of game.Tents = record {
+  reading = tents_reading;
+  again = λ text p s. (tents_is_written p s.puzzle).spells;
+  searched = λ text p s. tents_searched p s.puzzle;
+  listed = λ text p s. (tents_searched p s.puzzle, tt);
+  named = λ text p s budget. own_named (tent_rules p) budget Local [] refl tt;
+  checked = λ text p s. tents_checked p s.puzzle;
+  made = λ size w m made. (made.verdict, made.only);
+}
+
+-- a text of more bytes than an ID may have is too long
+pub too_long : (g : Game) (text : Text) → max_id < length text → (game_of g).game.reading text ≡ Err TooLong
+too_long game.Pattern text over = puzzle_too_long game.Pattern _ text over
+too_long game.Solo text over = puzzle_too_long game.Solo _ text over
+too_long game.LightUp text over = puzzle_too_long game.LightUp _ text over
+too_long game.Tents text over = puzzle_too_long game.Tents _ text over
+
+-- a search has one answer
+pub solving : (g : Game) (budget : ℕ) (id : Text) → HasOneAnswer (AllowsSolve (game_of g) budget id)
+solving g budget id =
+    let play = game_of g in
+    id_once (laws_of g).reading id _ (λ p s. solved_once play p budget ((laws_of g).searched id p s))
+
+-- so each text has an answer
+pub answers : (g : Game) (budget : ℕ) → HasAnswers (AllowsSolve (game_of g) budget)
+answers g budget text = let one = solving g budget text in (one.answer, one.allowed)

@@ -1,9 +1,0 @@
-use Rattle.std.proofs.Common.{◌≡◌, ◌∙◌, ◌==◌, ap, arith, length, vec_len}
-use Rattle.commands.proofs.InputLemmas.{line_empty}
-use Rattle.commands.proofs.batch.lines.Line.is_empty.Goals as goal
-
-pub returns : goal.returns
-returns c = λ piece h.
-    let kept = c.args.self.now.kept in
-    let same : vec_len kept ≡ length kept.items = omega (arith, kept.ok.0) in
-    c.is_empty.ensures ∙ ap (λ n. n == 0) same ∙ line_empty _ (omega arith) _ piece h

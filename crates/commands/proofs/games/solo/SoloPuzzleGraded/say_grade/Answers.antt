@@ -1,0 +1,28 @@
+use Rattle.std.proofs.Common.{refl, rules, subst, sym}
+use Rattle.commands.specs.Common.{IsSolo, crossings_rules, singles_rules}
+use Rattle.commands.specs.Grades.{only_set}
+use Rattle.commands.specs.SoloFacts.{after_singles, solo_facts}
+use Rattle.commands.specs.declared.grade.RuleSet.TheVariants.{Crossings, Singles}
+use Rattle.commands.proofs.GradeLemmas.{said_first, said_later, named, singles_named}
+use Rattle.commands.proofs.SearchedPuzzles.{solo_accepted}
+use Rattle.commands.proofs.RunLemmas.{says_nothing}
+use Rattle.commands.proofs.games.solo.SoloPuzzleGraded.say_grade.Goals as goal
+
+pub returns-in_err-store-clause-answer : goal.returns-in_err-store-clause-answer
+returns-in_err-store-clause-answer g c = says_nothing g.O.Sink.takes _ _ _ (g.met.O.Sink.takes_nothing _) (search rules)
+
+pub say-requires-clause-named : goal.say-requires-clause-named
+say-requires-clause-named g c = λ queue. named c.args.self.now _ _ c.in_ok-singles.ensures.rules (singles_named c.args.self.now)
+
+pub returns-then-settles-clause-answer : goal.returns-then-settles-clause-answer
+returns-then-settles-clause-answer g c =
+    let p = c.args.self.now in
+    let ok = subst IsSolo c.in_ok-singles.ensures.copied c.in_ok-singles.singles.is_solo in
+    said_first solo_facts p c.args.options.budget c.args.options.traced g.O.Sink.takes _ _ _ _ Singles (singles_rules p) (after_singles p) c.in_ok-singles.ensures.rules
+    (sym c.if-settles.ensures.settled) (solo_accepted p ok _ _) (c.if-settles.ensures.one refl) c.say.ensures.answer
+
+pub returns-clause-answer : goal.returns-clause-answer
+returns-clause-answer g c =
+    let p = c.args.self.now in
+    said_later solo_facts p c.args.options.budget c.args.options.traced g.O.Sink.takes _ _ _ _ Singles (singles_rules p) _ (only_set Crossings (crossings_rules p)) c.in_ok-singles.ensures.rules
+    (sym c.if-settles.ensures.settled) c.say_by_houses.ensures.answer

@@ -1,0 +1,33 @@
+use Rattle.std.proofs.Common.{◌≡◌, ℕ, Bool, arith, refl}
+use Rattle.std.specs.Prelude.{Result, Err, Ok, IfErr, true}
+use Rattle.std.proofs.lemmas.Grind.{common_steps}
+use Rattle.gameid_core.specs.declared.id.game.Game.TheVariants as game
+use Rattle.maker_core.specs.SoloMaking.{IsSoloSize, IsSoloUnmade}
+use Rattle.maker_core.specs.declared.made.MakeFault.{MakeFault}
+use Rattle.maker_core.specs.declared.made.MakeFault.TheVariants.{Exhausted, Memory, SizeRange}
+use Rattle.commands.specs.Answers.{Text}
+use Rattle.commands.specs.Common.{in_range, size_of}
+use Rattle.commands.specs.SoloPlayed.{solo_played}
+use Rattle.commands.specs.Unmade.{IsUnmade, unmade_by, wanted_in}
+use Rattle.commands.specs.declared.generate.Recipe.{Recipe}
+use Rattle.commands.specs.declared.generate.makable.Unmade.{Unmade}
+use Rattle.commands.proofs.games.solo.SoloPuzzleMakable.make.Goals as goal
+
+-- a size that was read is one that can be
+sized : {c r : ℕ} → in_range game.Solo c r ≡ true → IsSoloSize c r
+sized range = grind (arith, common_steps)
+
+-- why none is made of it
+unmade : {c r : ℕ} {x : Bool} (recipe : Recipe) (text : Text) (e : MakeFault) → in_range game.Solo c r ≡ true
+    → size_of game.Solo text ≡ Ok (record { w = c; h = r; x = x }) → IsSoloUnmade c r x recipe.limits (wanted_in recipe).stream e
+    → IsUnmade solo_played.game recipe text (unmade_by e)
+unmade recipe text SizeRange range read none = absurd (none (sized range))
+unmade recipe text Exhausted range read out =
+    record { size = _; read = read; allowed = record { none = out.1; plain = out.2; told = refl } }
+unmade recipe text Memory range read out = tt
+
+pub returns-in_err-make_solo-clause-unmade : goal.returns-in_err-make_solo-clause-unmade
+returns-in_err-make_solo-clause-unmade c =
+    let why = unmade c.args.recipe c.args.size.now c.in_err-make_solo.field-0.0 c.in_ok-c.ensures.range c.in_ok-c.ensures.found
+        (let stream = c.generator-rng.ensures in rw (← stream) c.in_err-make_solo.ensures.unmade) in
+    grind (arith, common_steps)

@@ -1,0 +1,20 @@
+use Rattle.std.proofs.Common.{subst}
+use Rattle.commands.specs.Common.{IsSolo, crossings_rules, IsSoloSolution}
+use Rattle.commands.specs.declared.grade.RuleSet.TheVariants.{Crossings}
+use Rattle.commands.specs.SoloFacts.{solo_facts}
+use Rattle.commands.proofs.GradeLemmas.{accepted_by, said_by, crossings_named, named}
+use Rattle.commands.proofs.SearchedPuzzles.{solo_accepted}
+use Rattle.commands.proofs.games.solo.say_by_crossings.Goals as goal
+
+pub say_by-requires-clause-named : goal.say_by-requires-clause-named
+say_by-requires-clause-named g c = λ queue. named c.args.puzzle.now _ _ c.in_ok-crossings.ensures.rules (crossings_named c.args.puzzle.now)
+
+pub say_by-requires-clause-accepted : goal.say_by-requires-clause-accepted
+say_by-requires-clause-accepted g c =
+    let ok = c.in_ok-crossings.ensures.known in
+    accepted_by (crossings_rules c.args.puzzle.now) _ (IsSoloSolution c.args.puzzle.now) c.in_ok-crossings.ensures.rules (solo_accepted c.args.puzzle.now ok _ _)
+
+pub returns-clause-answer : goal.returns-clause-answer
+returns-clause-answer g c =
+    let p = c.args.puzzle.now in
+    said_by solo_facts p c.args.options.budget c.args.options.traced g.O.Sink.takes _ _ _ _ (crossings_rules p) Crossings c.in_ok-crossings.ensures.rules c.say_by.ensures.answer

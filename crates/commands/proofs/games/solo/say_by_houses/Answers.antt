@@ -1,0 +1,27 @@
+use Rattle.std.proofs.Common.{[], refl, rules, subst, sym}
+use Rattle.commands.specs.Common.{IsSolo, houses_rules}
+use Rattle.commands.specs.SoloFacts.{after_houses, solo_facts}
+use Rattle.commands.specs.declared.grade.RuleSet.TheVariants.{Houses}
+use Rattle.commands.proofs.GradeLemmas.{said_first, said_later, houses_named, named}
+use Rattle.commands.proofs.SearchedPuzzles.{solo_accepted}
+use Rattle.commands.proofs.RunLemmas.{says_nothing}
+use Rattle.commands.proofs.games.solo.say_by_houses.Goals as goal
+
+pub returns-in_err-store-clause-answer : goal.returns-in_err-store-clause-answer
+returns-in_err-store-clause-answer g c = says_nothing g.O.Sink.takes _ _ _ (g.met.O.Sink.takes_nothing _) (search rules)
+
+pub say-requires-clause-named : goal.say-requires-clause-named
+say-requires-clause-named g c = λ queue. named c.args.puzzle.now _ _ c.in_ok-houses.ensures.rules (houses_named c.args.puzzle.now)
+
+pub returns-then-settles-clause-answer : goal.returns-then-settles-clause-answer
+returns-then-settles-clause-answer g c =
+    let p = c.args.puzzle.now in
+    let ok = c.in_ok-houses.ensures.known in
+    said_first solo_facts p c.args.options.budget c.args.options.traced g.O.Sink.takes _ _ _ _ Houses (houses_rules p) (after_houses p) c.in_ok-houses.ensures.rules
+    (sym c.if-settles.ensures.settled) (solo_accepted p ok _ _) (c.if-settles.ensures.one refl) c.say.ensures.answer
+
+pub returns-clause-answer : goal.returns-clause-answer
+returns-clause-answer g c =
+    let p = c.args.puzzle.now in
+    said_later solo_facts p c.args.options.budget c.args.options.traced g.O.Sink.takes _ _ _ _ Houses (houses_rules p) _ [] c.in_ok-houses.ensures.rules (sym c.if-settles.ensures.settled)
+    c.say_by_crossings.ensures.answer

@@ -1,8 +1,0 @@
-use Rattle.fields_core.specs.TentSolutions.{IsTentSolution}
-use Rattle.fields_core.specs.TentHouses.{tent_rules}
-use Rattle.commands.proofs.GradeLemmas.{accepted_by}
-use Rattle.commands.proofs.games.tents.TentsPuzzleGraded.tell.Goals as goal
-
-pub tell_by_sweeps-requires-clause-accepted : goal.tell_by_sweeps-requires-clause-accepted
-tell_by_sweeps-requires-clause-accepted g c =
-    accepted_by (tent_rules c.args.self.now) _ (IsTentSolution c.args.self.now) c.in_ok-local.ensures.made c.in_ok-local.ensures.solutions

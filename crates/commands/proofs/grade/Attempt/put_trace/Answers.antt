@@ -1,0 +1,47 @@
+use Rattle.std.proofs.Common.{◌≡◌, ◌∙◌, [], ap, false, refl, rules, sym, true}
+use Rattle.std.proofs.lemmas.Bool.{not-false, not-true}
+use Rattle.std.proofs.lemmas.Result.{on_err_weaker, on_ok_weaker}
+use Rattle.engine_core.specs.Mode.{is_queue}
+use Rattle.commands.specs.Traces.{sweeps_text, visits_text}
+use Rattle.commands.proofs.BatchLemmas.{on_any_err}
+use Rattle.commands.proofs.GradeLemmas.{is_traced, untraced}
+use Rattle.commands.proofs.grade.Attempt.put_trace.Goals as goal
+
+pub returns-then-not-self-clause-put : goal.returns-then-not-self-clause-put
+returns-then-not-self-clause-put g c = untraced g.O.Sink.takes _ _ _ _ _ (g.met.O.Sink.takes_nothing _) (not-true _ c.if-not-self.true)
+
+pub returns-in_err-push_sweeps-in-Sweep-clause-begun : goal.returns-in_err-push_sweeps-in-Sweep-clause-begun
+returns-in_err-push_sweeps-in-Sweep-clause-begun g c =
+    let mode : (g.R.Rules.system c.args.rules.now).by_queue ≡ false = g.met.R.Rules.mode_is _ ∙ ap is_queue (sym c.MODE.ensures ∙ c.in-Sweep.is) in
+    on_any_err c.from_residual.result _ (record {
+      lines = sweeps_text c.sweeps.result;
+      trace = is_traced _ false _ _ _ (not-false _ c.if-not-self.false) mode (record { sweeps = c.sweeps.result; closing = search (rules, mode); said = refl });
+      begun = record { done = []; took = g.met.O.Sink.takes_nothing _; begun = (_, refl) };
+    })
+
+pub returns-in_ok-push_sweeps-in-Sweep-clause-put : goal.returns-in_ok-push_sweeps-in-Sweep-clause-put
+returns-in_ok-push_sweeps-in-Sweep-clause-put g c =
+    let mode : (g.R.Rules.system c.args.rules.now).by_queue ≡ false = g.met.R.Rules.mode_is _ ∙ ap is_queue (sym c.MODE.ensures ∙ c.in-Sweep.is) in
+    record {
+      lines = sweeps_text c.sweeps.result;
+      trace = is_traced _ false _ _ _ (not-false _ c.if-not-self.false) mode (record { sweeps = c.sweeps.result; closing = search (rules, mode); said = refl });
+      put = record { done = []; took = g.met.O.Sink.takes_nothing _; split = sym c.in_ok-push_sweeps-in-Sweep.ensures };
+    }
+
+pub returns-in-Queue-clause-put : goal.returns-in-Queue-clause-put
+returns-in-Queue-clause-put g c =
+    let mode : (g.R.Rules.system c.args.rules.now).by_queue ≡ true = g.met.R.Rules.mode_is _ ∙ ap is_queue (sym c.MODE.ensures ∙ c.in-Queue.is) in
+    on_ok_weaker c.put_visits.result (λ put. record {
+      lines = visits_text (g.P.Played.game.visit_name c.args.puzzle.now) c.trace.result.now;
+      trace = is_traced _ true _ _ _ (not-false _ c.if-not-self.false) mode (record { visits = c.trace.result.now; closing = search (rules, mode); said = refl });
+      put = put;
+    }) c.put_visits.ensures.ok
+
+pub returns-in-Queue-clause-begun : goal.returns-in-Queue-clause-begun
+returns-in-Queue-clause-begun g c =
+    let mode : (g.R.Rules.system c.args.rules.now).by_queue ≡ true = g.met.R.Rules.mode_is _ ∙ ap is_queue (sym c.MODE.ensures ∙ c.in-Queue.is) in
+    on_err_weaker c.put_visits.result (λ begun. record {
+      lines = visits_text (g.P.Played.game.visit_name c.args.puzzle.now) c.trace.result.now;
+      trace = is_traced _ true _ _ _ (not-false _ c.if-not-self.false) mode (record { visits = c.trace.result.now; closing = search (rules, mode); said = refl });
+      begun = begun;
+    }) c.put_visits.ensures.err

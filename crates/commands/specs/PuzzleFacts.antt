@@ -1,0 +1,41 @@
+-- What the commands know of a game, and of its puzzles.
+use Rattle.std.specs.Prelude.{ℕ, List, Result}
+use Rattle.commands.specs.Common.{Extent, RuleSystem, SizeRead, IdFault, grid_text}
+use Rattle.commands.specs.Answers.{Answer, Text}
+use Rattle.commands.specs.Grades.{NamedRules}
+use Rattle.commands.specs.Makings.{MadePuzzle, Wanted}
+
+pub record GameFacts (P : Type 0) : Type 1 where
+  -- the puzzle that a text spells, or its first fault
+  pub reading : Text → Result P IdFault
+  -- the text spells the puzzle
+  pub spells : Text → P → Type 0
+  -- the ID that is written for a puzzle
+  pub written : P → Text
+  -- the solutions, the rules that a search goes by, and what a check answers to a grid
+  pub solves : P → List ℕ → Type 0
+  pub rules : P → RuleSystem
+  pub checks : P → List ℕ → Answer → Type 0
+  -- the rule sets that are tried in turn, and the names of what they visit, in their order
+  pub sets : P → List NamedRules
+  pub visit_name : P → ℕ → Text
+  -- the size that a text is, within the limits of what is made, or its first fault
+  pub sizes : Text → Result SizeRead IdFault
+  -- this is made of the size, or no try makes a puzzle of it
+  pub makes : SizeRead → Wanted → MadePuzzle P → Type 0
+  pub makes_none : SizeRead → Wanted → Type 0
+
+-- The puzzles of a game: the columns and rows of their grids, how many values a cell may have, what
+-- is printed of a grid at a place, whether that shows nothing of the number, and their game.
+abbrev pub PuzzleFacts : Type 0 → Type 1
+PuzzleFacts P = record {
+  extent : P → Extent;
+  value_count : P → ℕ;
+  cell_text : P → List ℕ → ℕ → Text;
+  hides : P → ℕ → Type 0;
+  game : GameFacts P;
+}
+
+-- how a grid of a puzzle is printed
+abbrev pub printed_by : {P : Type 0} → PuzzleFacts P → P → List ℕ → Text
+printed_by play p g = grid_text (play.cell_text p g) (play.extent p)

@@ -1,0 +1,75 @@
+//! Grades: by rules that settle a puzzle, and by a search.
+ghost use Rattle.std.specs.Prelude.{◌≡◌, ◌↔◌, List, ℕ, true, IfOk};
+ghost use Rattle.commands.specs.Common.{needs_of, FitsIn, is_settled, Solves};
+ghost use Rattle.commands.specs.Grades.{HasOneSolution, IsRightGrade, listed_grade, only_set, searched_grade};
+
+use crate::grade::{Attempt, Grade};
+use crate::solve::solvable::Solvable;
+use engine_core::{Searchable, Store, Verdict};
+use std::alloc::{AllocError, Global};
+
+/// Whether the rules alone settle their puzzle: it has exactly one solution then.
+pub fn settles<R: Searchable>(store: &mut Store<R>, rules: &R) -> bool
+    requires { FitsIn (needs_of (R.system rules.now)) store.old.made }
+    ensures settled { result ≡ is_settled (R.system rules.now) }
+    ensures one { result ≡ true → HasOneSolution (Solves (R.system rules.now)) }
+    ensures made { store.new.made ≡ store.old.made }
+{
+    store.settles(rules)
+}
+
+/// The grade of a puzzle by a search.
+fn searched<R: Searchable>(store: &mut Store<R>, rules: &R, budget: u64) -> Grade
+    requires { FitsIn (needs_of (R.system rules.now)) store.old.made }
+    ensures grade { result ≡ searched_grade (R.system rules.now) budget }
+    ensures right { IsRightGrade (Solves (R.system rules.now)) result }
+    ensures made { store.new.made ≡ store.old.made }
+{
+    match store.solve(rules, budget) {
+        Verdict::None => Grade::NoSolution,
+        Verdict::One => Grade::BySearch(store.trials()),
+        Verdict::Several => Grade::SeveralSolutions,
+        Verdict::GaveUp { .. } => Grade::GaveUp,
+    }
+}
+
+/// The grade of a puzzle by a search with the rules of its game's searches.
+fn search_grade<P: Solvable>(alloc: Global, puzzle: &P, budget: u64) -> Result<Grade, AllocError>
+where
+    P::Search: Searchable,
+    requires means { (rules : P.Search) → P.Search.system rules ≡ P.meaning rules }
+    ensures grade { IfOk result (λ grade. grade ≡ searched_grade (P.game.rules puzzle.now) budget) }
+    ensures right { IfOk result (λ grade. IsRightGrade (P.game.solves puzzle.now) grade) }
+{
+    let rules = puzzle.rules(alloc)?;
+    let mut store = Store::new(alloc, &rules)?;
+    Ok(searched(&mut store, &rules, budget))
+}
+
+impl Attempt {
+    /// The grade of a puzzle by these rules, the last in the list, and else by a search.
+    pub fn grade<P: Solvable, R: Searchable>(
+        self,
+        puzzle: &P,
+        rules: &R,
+        store: &mut Store<R>,
+    ) -> Result<Grade, AllocError>
+    where
+        P::Search: Searchable,
+        requires means { (rules : P.Search) → P.Search.system rules ≡ P.meaning rules }
+        requires fits { FitsIn (needs_of (R.system rules.now)) store.old.made }
+        requires accepted { (g : List ℕ)
+            → Solves (R.system rules.now) g ↔ P.game.solves puzzle.now g }
+        ensures grade { IfOk result (λ grade. grade ≡ listed_grade
+            (only_set self.set (R.system rules.now)) (P.game.rules puzzle.now)
+            self.options.budget) }
+        ensures right { IfOk result (λ grade. IsRightGrade (P.game.solves puzzle.now) grade) }
+        ensures made { store.new.made ≡ store.old.made }
+    {
+        if settles(store, rules) {
+            Ok(Grade::ByRules(self.set))
+        } else {
+            search_grade(self.alloc, puzzle, self.options.budget)
+        }
+    }
+}

@@ -1,0 +1,88 @@
+-- Rules whose houses are listed: what their table says, and what a visit leaves.
+use Rattle.std.proofs.Common.{length-take}
+use Rattle.engine_core.specs.HouseIndex.{IsScope, Table}
+use Rattle.engine_core.specs.HouseSets.{Decision, strikes_at}
+use Rattle.engine_core.specs.HouseSetsLaws.{bits-of_values, strikes_at-in_scope, strikes_at-place}
+use Rattle.engine_core.specs.ListedHouses.{AreScopesOf, table_of}
+use Rattle.engine_core.proofs.IndexLemmas.{nth-at}
+use Rattle.engine_core.proofs.KeepLemmas.{kept-none}
+use Rattle.engine_core.proofs.QueueLemmas.{scope-in}
+use Rattle.engine_core.proofs.StoreLemmas.{scope_le-longest}
+use Rattle.engine_core.proofs.Common.{AreHousesAt, AreScopes, AreSetsOf, Bool, Candidates, IsBitsOf, IsBoardOf, IsKept, IsLawful, IsWithin, List, RuleSystem, after, and_left, ap}
+use Rattle.engine_core.proofs.Common.{Layout, arith, cells_of, cases_Bool, common_steps, count_below, false, false_from_ne_true, fun_ext, has, has_bit, has_place, has_place-at}
+use Rattle.engine_core.proofs.Common.{has_place-here, inl, inr, is_waiting, kept_in, length, longest, not, number_at, refl, scope_of, slice_index, sym, take, true}
+use Rattle.engine_core.proofs.Common.{true≢false, ℕ, ◌&&◌, ◌<◌, ◌≡◌, ◌≤◌, ◌∙◌}
+
+-- the lists are of different places of the board
+pub scopes-fit : (p : RuleSystem) {scopes : List (List ℕ)} → IsLawful p → AreScopesOf p scopes → AreScopes p.cells scopes
+scopes-fit p laws are h lt =
+    let lh : h < p.houses = omega (arith, are.as_many) in
+    let is : IsScope p.cells (p.scope h) = record {
+      within = λ k lk. laws.scope_within h _ lh (has_place-here (p.scope h) k lk);
+      different = λ j k lj lk e. laws.scope_distinct h j k lh lj lk e;
+    } in
+    rw (are.each h) at is
+
+module _ {p : RuleSystem} {scopes : List (List ℕ)} {table : Table} (listed : table ≡ table_of p scopes) (are : AreScopesOf p scopes) where
+  pub table-scope : (h : ℕ) → scope_of table.scopes h ≡ p.scope h
+  table-scope h = rw listed (sym (are.each h))
+
+  pub table-houses : length table.scopes ≡ p.houses
+  table-houses = rw listed (sym are.as_many)
+
+  -- what the table says of a place, the rules say of it
+  pub table-says : (place : ℕ) (says : (ℕ → Bool) → ℕ → Type 0) → says (λ h. has_place (scope_of table.scopes h) place) (length table.scopes) → says (λ h. has_place (p.scope h) place) p.houses
+  table-says place says said = rw (fun_ext (λ h. ap (λ xs. has_place xs place) (table-scope h)), table-houses) at said
+
+  pub table-longest : longest (scope_of table.scopes) (length table.scopes) ≡ longest p.scope p.houses
+  table-longest = rw (fun_ext table-scope, table-houses) refl
+
+  -- what it lists as the houses of a place are those that have it, ascending
+  pub housed-at : (place : ℕ) {k : ℕ} (at : List ℕ) → AreHousesAt table.scopes place at → k < length at
+      → (slice_index at k < p.houses) × (has_place (p.scope (slice_index at k)) place ≡ true) × (count_below (λ h. has_place (p.scope h) place) (slice_index at k) ≡ k)
+  housed-at place {k} at houses lt = table-says place
+      (λ test n. (slice_index at k < n) × (test (slice_index at k) ≡ true) × (count_below test (slice_index at k) ≡ k)) (nth-at table.scopes place k at houses lt)
+
+  pub housed-all : (place : ℕ) (at : List ℕ) → AreHousesAt table.scopes place at → count_below (λ h. has_place (p.scope h) place) p.houses ≡ length at
+  housed-all place at houses = table-says place (λ test n. count_below test n ≡ length at) (sym houses.as_many)
+
+  -- ---- the places of a house
+  module _ {h : ℕ} (lt : h < p.houses) {places : List ℕ} (is : places ≡ scope_of table.scopes h) where
+    pub places-are : places ≡ p.scope h
+    places-are = is ∙ table-scope h
+
+    pub places-in : IsLawful p → {b : Layout} → IsBoardOf p b → (k : ℕ) → k < length places → slice_index places k < cells_of b
+    places-in laws board k lk = rw (places-are, board.same_cells) (scope-in laws k lt (rw places-are at lk))
+
+    pub places-fit : {room : ℕ} → longest p.scope p.houses ≤ room → length places ≤ room
+    places-fit most = rw places-are (let le = scope_le-longest p.scope p.houses h lt in omega arith)
+
+    -- what was read of a board, at the head of a longer list
+    pub places-read : {b : Layout} (all sets : List ℕ) → IsBoardOf p b → length (p.scope h) ≤ length all → length sets ≡ length (take (length places) all)
+        → ((k : ℕ) → k < length places → IsBitsOf (has b (slice_index places k)) b.values (slice_index sets k)) → AreSetsOf p h (has b) sets
+    places-read {b} all sets board room long bits = record {
+      as_many = let same = ap length places-are in omega (arith, length-take {A = ℕ});
+      bits = λ k lk. rw places-are at (bits-of_values b p.values places sets board.same_values bits k (rw places-are lk));
+    }
+
+-- the board that is left where the cells of a house keep what is kept of their sets
+pub kept-after : (p : RuleSystem) (laws : IsLawful p) {h : ℕ} {K : Candidates} {kept : List ℕ} → h < p.houses → IsWithin p.cells p.values K → IsKept p h K true kept
+    → kept_in (p.scope h) kept (length (p.scope h)) K ≡ after p h K
+unfolding kept_in strikes_at after
+kept-after p laws {h} {K} {kept = kept} lth within is = fun_ext λ c. fun_ext λ v. elim (cases_Bool (K c v)) [
+  | inr off ↦ rw off refl
+  | inl on ↦ ap (λ b. K c v && not b) (elim (cases_Bool (has_place (p.scope h) c)) [
+    | inr out ↦ false_from_ne_true _ (λ struck. true≢false (sym (strikes_at-in_scope p.values (p.scope h) drops K c v struck) ∙ out))
+        ∙ sym (false_from_ne_true (p.strikes h K c v) (λ struck. true≢false (sym (laws.strikes_in_scope h K c v lth struck) ∙ out)))
+    | inl there ↦
+        let w = has_place-at (p.scope h) c there in
+        rw (sym w.2) (strikes_at-place p.values (p.scope h) drops K w.0 v (λ j k lj lk e. laws.scope_distinct h j k lth lj lk e) w.1
+        ∙ rw (is.bits refl w.0 v w.1 (within c v on).1 (rw (sym w.2) at on)) (not-not _))
+  ])
+]
+  where
+    drops : Decision
+    drops sets k v = not (has_bit (slice_index kept k) v)
+
+    not-not : (b : Bool) → not (not b) ≡ b
+    not-not b = grind (arith, common_steps, cases_Bool b)

@@ -1,0 +1,18 @@
+-- What is counted of a board as it changes.
+use Rattle.std.specs.Prelude.{ℕ}
+use Rattle.grid_core.specs.Candidates.{Candidates}
+use Rattle.engine_core.specs.RuleSystem.{RuleSystem}
+use Rattle.engine_core.specs.Sets.{IsChange}
+
+-- the counts are so of this board
+pub record IsCounted {C : Type 0} (follows : C → Candidates → Type 0) (counts : C) : Type 0 where
+  pub board : Candidates
+  pub is_so : follows counts board
+
+-- the counts are so of this board, of which a cell changed, whose sets have these bits
+pub record IsRecounted {C : Type 0} (p : RuleSystem) (follows : C → Candidates → Type 0) (counts : C)
+    (place before after : ℕ) : Type 0 where
+  pub board : Candidates
+  pub changed : Candidates
+  pub is_so : follows counts board
+  pub change : IsChange p.cells p.values board changed place before after

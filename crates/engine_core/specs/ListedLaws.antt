@@ -1,0 +1,28 @@
+-- A puzzle of houses has the places of its houses listed.
+use Rattle.std.proofs.Common.{◌≡◌, ℕ, zero, suc, ◌+◌, ◌*◌, true, List, [], ◌∷◌, length, refl, sym, ap, ◌∙◌, arith, sum_by}
+use Rattle.std.proofs.lemmas.List.{length-map}
+use Rattle.std.proofs.lemmas.List.Sums.{sum_by-cons}
+use Rattle.engine_core.specs.HouseIndex.{scope_of}
+use Rattle.engine_core.specs.HouseRules.{House, Setting, by_houses, house_of, visits_of}
+use Rattle.engine_core.specs.ListedHouses.{AreScopesOf, all_places, most_turns}
+
+scope-at : (houses : List House) (h : ℕ) → scope_of (all_places houses) h ≡ (house_of houses h).places
+scope-at [] h = refl
+scope-at (house ∷ houses) zero = refl
+scope-at (house ∷ houses) (suc h) = scope-at houses h
+
+pub listed-scopes : (s : Setting) (houses : List House) → AreScopesOf (by_houses s houses) (all_places houses)
+listed-scopes s houses = record { as_many = sym (length-map houses (λ (house : House). house.places)); each = λ h. sym (scope-at houses h) }
+
+visits-sum : (values : ℕ) (houses : List House) → sum_by (visits_of values) houses ≡ sum_by length (all_places houses) * values + length (all_places houses)
+visits-sum values [] = omega arith
+visits-sum values (house ∷ houses) =
+    let rest = visits-sum values houses in
+    let a = sum_by-cons (length {A = ℕ}) house.places (all_places houses) in
+    let b = sum_by-cons (visits_of values) house houses in
+    let c = ap (λ n. n * values) a in
+    omega arith
+
+-- in a queue the bound is that of all visits that the houses can call for
+pub listed-bound : (s : Setting) (houses : List House) → s.by_queue ≡ true → s.bound ≡ sum_by (visits_of s.values) houses → s.bound ≡ most_turns (by_houses s houses) (all_places houses)
+listed-bound s houses queue is = rw queue (is ∙ visits-sum s.values houses)

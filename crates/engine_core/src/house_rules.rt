@@ -1,0 +1,229 @@
+//! Rules made of listed houses: what they do along the lists, for whatever game.
+#![tactic(auto, using(crate::proofs::LawSets::house_rules_laws))]
+
+ghost use Rattle.std.specs.Prelude.{◌≡◌, ◌<◌, ◌≤◌, IfOk, length, true, false, refl};
+ghost use Rattle.grid_core.specs.Board.{has, SameShape};
+ghost use Rattle.engine_core.specs.Closing.{HasStruck};
+ghost use Rattle.engine_core.specs.RuleSystem.{IsBoardOf, after, needs_of};
+ghost use Rattle.engine_core.specs.Trail.{StillServes};
+ghost use Rattle.engine_core.specs.ListedHouses.{table_of};
+
+use crate::counting::{Counting, Uncounted};
+use crate::houses::table::HouseTable;
+use crate::houses::visit::{apply, gather};
+use crate::mode::Mode;
+use crate::rule_set::RuleSet;
+use crate::rules::Rules;
+use crate::searchable::Searchable;
+use crate::trail::position::TrailPosition;
+use crate::trail::propagators::Propagators;
+use crate::waits::enqueue_if;
+use grid_core::{Board, Grid};
+use std::alloc::{AllocError, Global};
+use std::marker::PhantomData;
+
+/// The rules of a puzzle, with the table of its houses.
+#[derive(Drop)]
+pub struct HouseRules<S: RuleSet, C: Counting<S> = Uncounted> {
+    set: S,
+    table: HouseTable,
+    counted: PhantomData<C>,
+    ghost listed: { table ≡ table_of (S.system (S.puzzle_of set)) (S.scopes (S.puzzle_of set)) },
+}
+
+/// What a visit works in: the sets of a house's cells, what is kept of them, and what decides it.
+#[derive(Drop)]
+pub struct HouseScratch<W: Drop> {
+    sets: Vec<u32>,
+    kept: Vec<u32>,
+    work: W,
+}
+
+impl<S: RuleSet, C: Counting<S>> HouseRules<S, C> {
+    /// The rules of the puzzle. They keep a copy of it.
+    pub fn new(alloc: Global, puzzle: &S::Puzzle) -> Result<HouseRules<S, C>, AllocError>
+        ensures known { S.known puzzle.now }
+        ensures copied { IfOk result (λ rules. S.puzzle_of rules.set ≡ puzzle.now) }
+        ensures rules { IfOk result (λ rules. ⟦<HouseRules<S, C> as Rules>⟧.system rules
+            ≡ S.system puzzle.now) }
+    {
+        let (set, list) = S::list(alloc, puzzle)?;
+        let table = HouseTable::of(alloc, set.cells(), list)?;
+        Ok(HouseRules {
+            set,
+            table,
+            counted: PhantomData,
+        })
+    }
+
+    /// Strikes from the house what it strikes.
+    fn strike(
+        &self,
+        house: usize,
+        board: &mut Board,
+        sets: &mut [u32],
+        kept: &mut [u32],
+        work: &mut S::Scratch,
+    ) -> bool
+        requires house_in { house < (S.system (S.puzzle_of self.now.set)).houses }
+        requires board_of { IsBoardOf (S.system (S.puzzle_of self.now.set)) board.old }
+        requires sets_room { length ((S.system (S.puzzle_of self.now.set)).scope house) ≤ length sets.old }
+        requires kept_room { length ((S.system (S.puzzle_of self.now.set)).scope house) ≤ length kept.old }
+        requires served { S.serves work.old (needs_of (S.system (S.puzzle_of self.now.set))) }
+        ensures left { has board.new ≡ after (S.system (S.puzzle_of self.now.set)) house (has board.old) }
+        ensures shape { SameShape board.old board.new }
+        ensures unchanged { result ≡ false → has board.new ≡ has board.old }
+        ensures changed { result ≡ true → HasStruck (has board.old) (has board.new) }
+        ensures keeps { StillServes S.serves work.old work.new }
+    {
+        let places = self.table.places(house);
+        let (sets, kept) = (&mut sets[..places.len()], &mut kept[..places.len()]);
+        gather(board, places, sets);
+        self.set.filter(house, sets, kept, work) && apply(board, places, kept)
+    }
+}
+
+impl<S: RuleSet, C: Counting<S>> Rules for HouseRules<S, C> {
+    ghost use Rattle.std.specs.Prelude.{vec_len};
+    ghost use Rattle.std.proofs.Common.{le_trans};
+
+    type Scratch = HouseScratch<S::Scratch>;
+
+    const SETTLED: bool = S::SETTLED;
+
+    const MODE: Mode = S::MODE;
+
+    ghost system = { λ r. S.system (S.puzzle_of r.set) };
+
+    ghost SETTLED = { S.SETTLED };
+
+    ghost MODE = { S.MODE };
+
+    ghost serves = { λ w needs. (needs.scope ≤ vec_len w.sets) × (needs.scope ≤ vec_len w.kept)
+        × S.serves w.work needs };
+
+    ghost lawful = { λ r. S.lawful (S.puzzle_of r.set) (S.knows r.set) };
+
+    ghost settled_is = { λ r. S.settled_is (S.puzzle_of r.set) };
+
+    ghost mode_is = { λ r. S.mode_is (S.puzzle_of r.set) };
+
+    ghost serves_smaller = { λ w need had f s. (
+      le_trans f.scope_in s.0,
+      le_trans f.scope_in s.1,
+      S.serves_smaller w.work need had f s.2,
+    ) };
+
+    fn cells(&self) -> usize {
+        self.table.cells()
+    }
+
+    fn values(&self) -> u8 {
+        self.set.values()
+    }
+
+    fn houses(&self) -> usize {
+        self.table.len()
+    }
+
+    fn bound(&self) -> usize {
+        let values = usize::from(self.set.values());
+        match S::MODE {
+            Mode::Queue => self.table.total() * values + self.table.len(),
+            Mode::Sweep => self.table.cells() * (values - 1) + 1,
+        }
+    }
+
+    fn scope_len(&self, house: usize) -> usize {
+        self.table.places(house).len()
+    }
+
+    fn scope(&self, house: usize, k: usize) -> usize {
+        self.table.places(house)[k] as usize
+    }
+
+    fn house_at(&self, place: usize, from: usize) -> Option<usize> {
+        self.table.next_at(place, from)
+    }
+
+    fn start(&self, board: &mut Board) {
+        self.set.start(board);
+    }
+
+    fn scratch(&self, alloc: Global) -> Result<HouseScratch<S::Scratch>, AllocError> {
+        let room = self.table.longest();
+        Ok(HouseScratch {
+            sets: vec![in alloc; 0; room]?,
+            kept: vec![in alloc; 0; room]?,
+            work: self.set.scratch(alloc)?,
+        })
+    }
+
+    fn visit(
+        &self,
+        house: usize,
+        board: &mut Board,
+        scratch: &mut HouseScratch<S::Scratch>,
+    ) -> bool {
+        let (sets, kept) = (&mut scratch.sets, &mut scratch.kept);
+        self.strike(house, board, sets, kept, &mut scratch.work)
+    }
+
+    fn accept(&self, scratch: &mut HouseScratch<S::Scratch>, grid: &Grid) -> bool {
+        self.set.accept(&mut scratch.work, grid)
+    }
+}
+
+impl<S: RuleSet, C: Counting<S>> Propagators for HouseRules<S, C> {
+    type Counts = C;
+
+    ghost counts_serve = { C.serves };
+
+    ghost follows = { λ r. C.follows r.set };
+
+    ghost counts_smaller = { C.serves_smaller };
+
+    fn counts(&self, alloc: Global) -> Result<C, AllocError> {
+        C::new(alloc, &self.set, &self.table)
+    }
+
+    fn read(&self, house: usize, board: &Board, sets: &mut [u32]) {
+        gather(board, self.table.places(house), sets);
+    }
+
+    fn filter(
+        &self,
+        house: usize,
+        sets: &[u32],
+        kept: &mut [u32],
+        scratch: &mut HouseScratch<S::Scratch>,
+    ) -> bool {
+        self.set.filter(house, sets, kept, &mut scratch.work)
+    }
+
+    fn watch(&self, board: &Board, counts: &mut C) {
+        counts.watch(&self.set, &self.table, board);
+    }
+
+    fn change(&self, place: usize, before: u32, after: u32, counts: &mut C) {
+        counts.change(&self.set, &self.table, place, before, after);
+    }
+
+    fn may_strike(&self, house: usize, counts: &C) -> bool {
+        counts.may_strike(&self.set, house)
+    }
+
+    fn wake(&self, place: usize, counts: &C, waits: &mut [u64]) {
+        let houses = self.table.houses_at(place);
+        for k in 0..houses.len() {
+            let house = houses[k] as usize;
+            enqueue_if(waits, house, counts.may_strike(&self.set, house));
+        }
+    }
+}
+
+impl<S: RuleSet, C: Counting<S>> Searchable for HouseRules<S, C> {
+    type Position = TrailPosition<HouseRules<S, C>>;
+
+    ghost position_of = { λ _. refl };
+}

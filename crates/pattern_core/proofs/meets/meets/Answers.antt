@@ -1,0 +1,33 @@
+use Rattle.std.proofs.Common.{◌≡◌, ◌∙◌, get_or, ap, arith}
+use Rattle.grid_core.specs.Lines.{line_numbers}
+use Rattle.pattern_core.specs.Track.{along, leads, set_for, led}
+use Rattle.pattern_core.proofs.MeetLemmas.{meet_next, meet_end}
+use Rattle.pattern_core.proofs.TableSteps.{at_first}
+use Rattle.grid_core.proofs.LineLemmas.{length-line_numbers}
+use Rattle.pattern_core.proofs.meets.meets.Goals as goal
+
+pub loop-k-init : goal.loop-k-init
+loop-k-init g c =
+    at_first g.P.Slots.room (g.P.Slots.has c.first-reached.result) (λ p. leads (along g.P.Slots.has c.steps-steps.result) p (line_numbers c.args.size c.args.grid.now c.args.line))
+    c.steps-steps.ensures.below.first c.first-reached.ensures
+
+pub loop-k-preserved : goal.loop-k-preserved
+loop-k-preserved g c =
+    let has = g.P.Slots.has in
+    let t = along g.P.Slots.has c.steps-steps.result in
+    let cells = line_numbers c.args.size c.args.grid.now c.args.line in
+    let long = length-line_numbers c.args.size c.args.grid.now c.args.line in
+    let number : c.line_value.result ≡ get_or cells c.loop-k.k 0 = c.line_value.ensures in
+    meet_next g.P.Slots.room t c.steps-steps.ensures.below cells c.loop-k.k (has c.loop-k.reached) (has c.led_on-reached.result)
+    (omega (arith, long, c.line_len-k-end.ensures.cells, c.loop-k-test.true))
+    (λ p lt. c.led_on-reached.ensures p lt ∙ ap (λ n. led t (set_for n) (has c.loop-k.reached) p) number)
+    c.loop-k.invariant
+
+pub returns : goal.returns
+returns g c =
+    let t = along g.P.Slots.has c.steps-steps.result in
+    let cells = line_numbers c.args.size c.args.grid.now c.args.line in
+    let long = length-line_numbers c.args.size c.args.grid.now c.args.line in
+    c.is_some.ensures ∙ meet_end g.P.Slots.room t c.steps-steps.ensures.below cells c.loop-k.k (g.P.Slots.has c.loop-k.reached) c.args.clue.now
+    (g.P.Slots.has c.both.result) c.steps-steps.ensures.track c.steps-steps.ensures.positive
+    (omega (arith, long, c.line_len-k-end.ensures.cells, c.loop-k-test.false, c.loop-k.auto.k-end)) c.both.ensures c.loop-k.invariant

@@ -1,0 +1,11 @@
+use Rattle.std.proofs.Common.{◌≡◌, ◌&&◌, drop}
+use Rattle.grid_core.specs.Candidates.{any_below}
+use Rattle.grid_core.specs.Lines.{line_numbers}
+use Rattle.pattern_core.specs.Track.{along, leads}
+use Rattle.pattern_core.proofs.meets.meets.Given as goal
+
+abbrev pub invariant-loop-k : goal.invariant-loop-k
+invariant-loop-k g l =
+    let t = along g.P.Slots.has l.steps in
+    let cells = line_numbers l.size l.grid l.line in
+    any_below (λ p. g.P.Slots.has l.reached p && leads t p (drop l.k cells)) g.P.Slots.room ≡ leads t 0 cells

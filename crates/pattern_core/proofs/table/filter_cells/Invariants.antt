@@ -1,0 +1,10 @@
+use Rattle.std.proofs.Common.{◌≡◌, ◌≤◌, ℕ, false, get_or}
+use Rattle.pattern_core.specs.Track.{along, AreKept}
+use Rattle.pattern_core.proofs.TableSteps.{AreReached}
+use Rattle.pattern_core.proofs.table.filter_cells.Given as goal
+
+abbrev pub invariant-loop-at : goal.invariant-loop-at
+invariant-loop-at g l = AreKept (along g.P.Slots.has l.moves.steps) l.initial.sets l.sets l.at
+    × AreReached g.P.Slots.room (along g.P.Slots.has l.moves.steps) l.initial.sets (g.P.Slots.has l.reached) l.at
+    × ((k : ℕ) → l.at ≤ k → get_or l.sets k 0 ≡ get_or l.initial.sets k 0)
+    × (l.struck ≡ false → l.sets ≡ l.initial.sets)

@@ -1,0 +1,22 @@
+use Rattle.std.proofs.Common.{◌++◌, ap, arith, length, sym, true, ◌<◌, ◌≤◌, ◌∙◌}
+use Rattle.solo_core.specs.Common.{House, no_repeat, strikes_by_fillings}
+use Rattle.solo_core.specs.RuleLaws.{crossings_sound}
+use Rattle.solo_core.specs.RuleSets.{crossings_of, filled_houses}
+use Rattle.solo_core.proofs.DecidingLemmas.{decides-at, kept-houses}
+use Rattle.solo_core.proofs.HouseLemmas.{filled-length, first_at, later_at}
+use Rattle.solo_core.proofs.rule_sets.CrossingsRuleSet.filter.Goals as goal
+
+pub returns-then-house-count-clause-kept : goal.returns-then-house-count-clause-kept
+returns-then-house-count-clause-kept c = λ K are.
+    let p = c.args.self.now.puzzle in
+    let lt : c.args.house < length (filled_houses p) = omega (arith, filled-length p, c.houses-count.ensures.value) in
+    let decides = decides-at (strikes_by_fillings no_repeat) p c.args.house lt ∙ ap (λ (house : House). house.decides) (first_at (filled_houses p) (crossings_of p) c.args.house lt) in
+    kept-houses true p (filled_houses p ++ crossings_of p) (crossings_sound p c.args.self.now.is_solo) c.args.house c.requires.house_in K _ _ are (rw (c.n.ensures.value, decides) at c.keep_houses.ensures.decided)
+
+pub returns-else-house-count-clause-kept : goal.returns-else-house-count-clause-kept
+returns-else-house-count-clause-kept c = λ K are.
+    let p = c.args.self.now.puzzle in
+    let le : length (filled_houses p) ≤ c.args.house = omega (arith, filled-length p, c.houses-count.ensures.value) in
+    let decides = ap (λ (house : House). house.decides) (later_at (filled_houses p) (crossings_of p) c.args.house le) in
+    kept-houses true p (filled_houses p ++ crossings_of p) (crossings_sound p c.args.self.now.is_solo) c.args.house c.requires.house_in K _ _ are
+    (rw (c.houses-count.ensures.value ∙ sym (filled-length p), decides) at c.keep_crossed.ensures)

@@ -1,0 +1,10 @@
+use Rattle.std.proofs.Common.{true}
+use Rattle.solo_core.specs.Common.{no_repeat, strikes_by_fillings}
+use Rattle.solo_core.specs.RuleLaws.{fillings_sound}
+use Rattle.solo_core.proofs.DecidingLemmas.{kept-deciding}
+use Rattle.solo_core.proofs.rule_sets.FillingsRuleSet.filter.Goals as goal
+
+pub returns-clause-kept : goal.returns-clause-kept
+returns-clause-kept c = λ K are.
+    let p = c.args.self.now.puzzle in
+    kept-deciding true p (strikes_by_fillings no_repeat) (fillings_sound p c.args.self.now.is_solo) _ c.requires.house_in K _ _ are (rw c.n.ensures.value at c.keep_houses.ensures.decided)

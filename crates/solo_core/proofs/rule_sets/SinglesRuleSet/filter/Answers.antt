@@ -1,0 +1,11 @@
+use Rattle.std.proofs.Common.{false}
+use Rattle.solo_core.specs.Common.{solo_n}
+use Rattle.solo_core.specs.RuleLaws.{singles_sound}
+use Rattle.solo_core.specs.Singles.{strikes_by_singles}
+use Rattle.solo_core.proofs.DecidingLemmas.{kept-deciding}
+use Rattle.solo_core.proofs.rule_sets.SinglesRuleSet.filter.Goals as goal
+
+pub returns-clause-kept : goal.returns-clause-kept
+returns-clause-kept c = λ K are.
+    let p = c.args.self.now.puzzle in
+    kept-deciding false p (strikes_by_singles (solo_n p)) (singles_sound p c.args.self.now.is_solo) _ c.requires.house_in K _ _ are (rw c.n.ensures.value at c.keep_singles.ensures)

@@ -1,0 +1,296 @@
+//! The rule sets of Solo: which houses they have, and what a visit of one strikes.
+#![tactic(auto, using(crate::proofs::LawSets::rule_sets_laws))]
+
+ghost use Rattle.std.specs.Prelude.{◌≡◌, ◌≤◌, ◌++◌, IfOk, true, false, refl};
+ghost use Rattle.std.proofs.Common.{arith};
+ghost use Rattle.std.proofs.Props.{props};
+ghost use Rattle.engine_core.specs.declared.mode.Mode.TheVariants.{Queue};
+ghost use Rattle.engine_core.specs.ListedHouses.{all_places};
+ghost use Rattle.solo_core.specs.Common.{IsSolo, house_places};
+ghost use Rattle.solo_core.specs.RuleLaws.{listed_in_rules, bound_of_rules, singles_lawful, houses_lawful, crossings_lawful};
+ghost use Rattle.solo_core.specs.RuleSets.{single_houses, singles_rules, filled_houses, houses_rules, crossings_of, crossings_rules};
+
+use crate::check::accepts;
+use crate::houses::crossings::push_crossings;
+use crate::houses::places::{cells, houses, push_houses};
+use crate::houses::rooms::{cells_of_crossings, cells_of_houses, crossings};
+use crate::start::write_start;
+use crate::visits::crossing::keep_crossed;
+use crate::visits::houses::keep_houses;
+use crate::visits::singles::keep_singles;
+use engine_core::{HouseList, HouseRules, Mode, RuleSet};
+use gameid_core::SoloPuzzle;
+use grid_core::{Board, Grid, Pairing};
+use std::alloc::{AllocError, Global};
+
+/// The rules whose houses strike by single values and places.
+pub type SoloSingles = HouseRules<Singles>;
+
+/// The rules whose houses strike what no filling without repeat allows.
+pub type SoloHouses = HouseRules<Fillings>;
+
+/// The rules of houses, and of their crossings.
+pub type SoloCrossings = HouseRules<Crossings>;
+
+/// Strikes a value from a cell where another cell of the house has only that value, where the cell is the only place of
+/// another value, and, of every cell, where some cell has no value or some value no place.
+#[derive(Drop)]
+pub struct Singles {
+    puzzle: SoloPuzzle,
+    ghost is_solo: { IsSolo puzzle } by { Prim.hlevel props },
+}
+
+/// Strikes what no filling of the house without repeat allows.
+#[derive(Drop)]
+pub struct Fillings {
+    puzzle: SoloPuzzle,
+    ghost is_solo: { IsSolo puzzle } by { Prim.hlevel props },
+}
+
+/// Strikes what no filling of a house without repeat allows; and in a block and a row or column that it meets, what has a
+/// place in the one only where they meet, from the rest of the other.
+#[derive(Drop)]
+pub struct Crossings {
+    puzzle: SoloPuzzle,
+    ghost is_solo: { IsSolo puzzle } by { Prim.hlevel props },
+}
+
+/// The places of the houses.
+fn list_houses(alloc: Global, puzzle: &SoloPuzzle) -> Result<HouseList, AllocError>
+    ensures lawful { IsSolo puzzle.now }
+    ensures listed { IfOk result (λ list. list.closed ≡ house_places puzzle.now) }
+{
+    let mut list = HouseList::new(alloc, houses(puzzle), cells_of_houses(puzzle))?;
+    push_houses(&mut list, puzzle)?;
+    Ok(list)
+}
+
+impl RuleSet for Singles {
+    type Puzzle = SoloPuzzle;
+
+    type Scratch = ();
+
+    const SETTLED: bool = false;
+
+    const MODE: Mode = Mode::Queue;
+
+    ghost puzzle_of = { λ set. set.puzzle };
+
+    ghost known = { IsSolo };
+
+    ghost system = { singles_rules };
+
+    ghost scopes = { λ p. all_places (single_houses p) };
+
+    ghost SETTLED = { false };
+
+    ghost MODE = { Queue };
+
+    ghost serves = { λ _ _. Unit {0} };
+
+    ghost knows = { λ set. set.is_solo };
+
+    ghost lawful = { singles_lawful };
+
+    ghost settled_is = { λ _. refl };
+
+    ghost mode_is = { λ _. refl };
+
+    ghost scopes_are = { λ p. listed_in_rules false p (single_houses p) };
+
+    ghost bound_is = { λ p. bound_of_rules false p (single_houses p) };
+
+    ghost serves_smaller = { λ _ _ _ _ served. served };
+
+    fn list(alloc: Global, puzzle: &SoloPuzzle) -> Result<(Singles, HouseList), AllocError> {
+        let list = list_houses(alloc, puzzle)?;
+        let puzzle = puzzle.copy(alloc)?;
+        Ok((Singles { puzzle }, list))
+    }
+
+    fn cells(&self) -> usize {
+        cells(&self.puzzle)
+    }
+
+    fn values(&self) -> u8 {
+        self.puzzle.n()
+    }
+
+    fn start(&self, board: &mut Board) {
+        write_start(&self.puzzle, board);
+    }
+
+    fn scratch(&self, _alloc: Global) -> Result<(), AllocError> {
+        Ok(())
+    }
+
+    fn filter(&self, _house: usize, sets: &[u32], kept: &mut [u32], _scratch: &mut ()) -> bool {
+        keep_singles(self.puzzle.n(), sets, kept);
+        true
+    }
+
+    fn accept(&self, _scratch: &mut (), grid: &Grid) -> bool {
+        accepts(&self.puzzle, grid)
+    }
+}
+
+impl RuleSet for Fillings {
+    type Puzzle = SoloPuzzle;
+
+    type Scratch = Pairing;
+
+    const SETTLED: bool = true;
+
+    const MODE: Mode = Mode::Queue;
+
+    ghost puzzle_of = { λ set. set.puzzle };
+
+    ghost known = { IsSolo };
+
+    ghost system = { houses_rules };
+
+    ghost scopes = { λ p. all_places (filled_houses p) };
+
+    ghost SETTLED = { true };
+
+    ghost MODE = { Queue };
+
+    ghost serves = { λ pairing needs. needs.values ≤ pairing.room };
+
+    ghost knows = { λ set. set.is_solo };
+
+    ghost lawful = { houses_lawful };
+
+    ghost settled_is = { λ _. refl };
+
+    ghost mode_is = { λ _. refl };
+
+    ghost scopes_are = { λ p. listed_in_rules true p (filled_houses p) };
+
+    ghost bound_is = { λ p. bound_of_rules true p (filled_houses p) };
+
+    ghost serves_smaller = { λ pairing need had fits served. let same = fits.same_values in
+        Prim.omega arith };
+
+    fn list(alloc: Global, puzzle: &SoloPuzzle) -> Result<(Fillings, HouseList), AllocError> {
+        let list = list_houses(alloc, puzzle)?;
+        let puzzle = puzzle.copy(alloc)?;
+        Ok((Fillings { puzzle }, list))
+    }
+
+    fn cells(&self) -> usize {
+        cells(&self.puzzle)
+    }
+
+    fn values(&self) -> u8 {
+        self.puzzle.n()
+    }
+
+    fn start(&self, board: &mut Board) {
+        write_start(&self.puzzle, board);
+    }
+
+    fn scratch(&self, alloc: Global) -> Result<Pairing, AllocError> {
+        Pairing::new(alloc, usize::from(self.puzzle.n()))
+    }
+
+    fn filter(
+        &self,
+        _house: usize,
+        sets: &[u32],
+        kept: &mut [u32],
+        work: &mut Pairing,
+    ) -> bool {
+        keep_houses(self.puzzle.n(), sets, kept, work);
+        true
+    }
+
+    fn accept(&self, _pairing: &mut Pairing, grid: &Grid) -> bool {
+        accepts(&self.puzzle, grid)
+    }
+}
+
+impl RuleSet for Crossings {
+    type Puzzle = SoloPuzzle;
+
+    type Scratch = Pairing;
+
+    const SETTLED: bool = true;
+
+    const MODE: Mode = Mode::Queue;
+
+    ghost puzzle_of = { λ set. set.puzzle };
+
+    ghost known = { IsSolo };
+
+    ghost system = { crossings_rules };
+
+    ghost scopes = { λ p. all_places (filled_houses p ++ crossings_of p) };
+
+    ghost SETTLED = { true };
+
+    ghost MODE = { Queue };
+
+    ghost serves = { λ pairing needs. needs.values ≤ pairing.room };
+
+    ghost knows = { λ set. set.is_solo };
+
+    ghost lawful = { crossings_lawful };
+
+    ghost settled_is = { λ _. refl };
+
+    ghost mode_is = { λ _. refl };
+
+    ghost scopes_are = { λ p. listed_in_rules true p (filled_houses p ++ crossings_of p) };
+
+    ghost bound_is = { λ p. bound_of_rules true p (filled_houses p ++ crossings_of p) };
+
+    ghost serves_smaller = { λ pairing need had fits served. let same = fits.same_values in
+        Prim.omega arith };
+
+    fn list(alloc: Global, puzzle: &SoloPuzzle) -> Result<(Crossings, HouseList), AllocError> {
+        let count = houses(puzzle) + crossings(puzzle);
+        let places = cells_of_houses(puzzle) + cells_of_crossings(puzzle);
+        let mut list = HouseList::new(alloc, count, places)?;
+        push_houses(&mut list, puzzle)?;
+        push_crossings(&mut list, puzzle)?;
+        let puzzle = puzzle.copy(alloc)?;
+        Ok((Crossings { puzzle }, list))
+    }
+
+    fn cells(&self) -> usize {
+        cells(&self.puzzle)
+    }
+
+    fn values(&self) -> u8 {
+        self.puzzle.n()
+    }
+
+    fn start(&self, board: &mut Board) {
+        write_start(&self.puzzle, board);
+    }
+
+    fn scratch(&self, alloc: Global) -> Result<Pairing, AllocError> {
+        Pairing::new(alloc, usize::from(self.puzzle.n()))
+    }
+
+    fn filter(
+        &self,
+        house: usize,
+        sets: &[u32],
+        kept: &mut [u32],
+        pairing: &mut Pairing,
+    ) -> bool {
+        let count = houses(&self.puzzle);
+        if house < count {
+            keep_houses(self.puzzle.n(), sets, kept, pairing);
+        } else {
+            keep_crossed(&self.puzzle, house - count, sets, kept);
+        }
+        true
+    }
+
+    fn accept(&self, _pairing: &mut Pairing, grid: &Grid) -> bool {
+        accepts(&self.puzzle, grid)
+    }
+}
