@@ -4,6 +4,7 @@ ghost use Rattle.std.specs.Prelude.{◌≡◌, ◌<◌, ◌≤◌, length};
 ghost use Rattle.grid_core.specs.Board as plain;
 ghost use Rattle.grid_core.specs.Planes.{cells_of};
 
+use fields_core::{Part, visit};
 use grid_core::{Board, Grid, Line, Planes, Size, Word};
 use std::alloc::{AllocError, Global};
 use std::test::Fail;
@@ -123,5 +124,36 @@ fn planes_are_branched_on_and_written(rt: HostRuntime) -> Result<(), Fail> {
     let told = Some(([Some(2), Some(3), None], [0, 0, 1, 1, 1, 1]));
     assert_eq!(rt; branches::<u64>(rt.alloc())?, told);
     assert_eq!(rt; branches::<u128>(rt.alloc())?, told);
+    Ok(())
+}
+
+/// Planes of 3 by 2 cells whose first cell has only 1, and the fifth too where that is asked: whether the square of the
+/// cells 0, 1, 3 and 4 can have one 1 at most, and the sets after a visit.
+fn visit_square<W: Word>(alloc: Global, second: bool) -> Result<(bool, [u32; 6]), AllocError>
+    requires { 3 ≤ W.room }
+{
+    let mut planes = Planes::<W>::new(alloc, Size::new(3, 2).unwrap())?;
+    planes.take(Line::Row(0), 0, W::one(0));
+    planes.take(Line::Row(1), 0, if second { W::one(1) } else { W::none() });
+    let above = Part {
+        line: Line::Row(0),
+        cells: W::all(2),
+    };
+    let below = Part {
+        line: Line::Row(1),
+        cells: W::all(2),
+    };
+    let fills = visit(&mut planes, &(above, below), 0, 1);
+    Ok((fills, sets_of(&planes)))
+}
+
+#[test]
+fn a_square_is_visited_by_its_rows(rt: HostRuntime) -> Result<(), Fail> {
+    let struck = (true, [2, 1, 3, 1, 1, 3]);
+    assert_eq!(rt; visit_square::<u64>(rt.alloc(), false)?, struck);
+    assert_eq!(rt; visit_square::<u128>(rt.alloc(), false)?, struck);
+    let broken = (false, [2, 3, 3, 3, 2, 3]);
+    assert_eq!(rt; visit_square::<u64>(rt.alloc(), true)?, broken);
+    assert_eq!(rt; visit_square::<u128>(rt.alloc(), true)?, broken);
     Ok(())
 }

@@ -1,4 +1,6 @@
 pub mod CountBounds
+pub mod PartCounts
+pub mod PartLemmas
 pub mod CountKept
 pub mod CountTallies
 pub mod CountWatch

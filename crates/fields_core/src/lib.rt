@@ -4,6 +4,7 @@
 mod count;
 mod laws;
 mod light_up;
+mod planes;
 mod tents;
 
 pub use count::game::CountGame;
@@ -19,6 +20,8 @@ pub use light_up::check::check_lights;
 pub use light_up::fault::LightFault;
 pub use light_up::rules::LightRules;
 pub use light_up::sight::{count_beside, sees_a_bulb};
+pub use planes::part::{Part, Parts};
+pub use planes::visit::visit;
 pub use tents::check::check_tents;
 pub use tents::fault::TentFault;
 pub use tents::rules::TentRules;

@@ -1,0 +1,10 @@
+use Rattle.std.proofs.Common.{◌≡◌}
+use Rattle.grid_core.specs.Planes.{has, IsFurther}
+use Rattle.fields_core.specs.Parts.{without_value}
+use Rattle.fields_core.proofs.planes.visit.strike.Given as goal
+
+abbrev pub invariant-loop-number : goal.invariant-loop-number
+invariant-loop-number g l = record {
+  left : has l.planes ≡ without_value l.fn.planes.size.w (g.P.Parts.pieces l.parts) l.number l.value (has l.fn.planes);
+  further : IsFurther l.fn.planes l.planes;
+}

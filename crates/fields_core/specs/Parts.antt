@@ -1,0 +1,70 @@
+-- Count houses as parts of lines of planes.
+use Rattle.std.specs.Prelude.{◌≡◌, ℕ, ◌-◌, ◌*◌, ◌/◌, ◌%◌, ◌<◌, Bool, true, false, not, ◌&&◌, ◌==◌, ◌⊎◌, List, length, slice_index_or}
+use Rattle.grid_core.specs.Candidates.{Candidates, any_below, count_below}
+use Rattle.grid_core.specs.Extent.{Extent}
+use Rattle.grid_core.specs.Planes.{Layers, has, cells_of, crosses, lines_beside, number_of}
+use Rattle.grid_core.specs.declared.planes.line.Line.{Line}
+use Rattle.grid_core.specs.declared.planes.line.Line.TheVariants.{Row}
+use Rattle.engine_core.specs.RuleSystem.{has_place}
+use Rattle.fields_core.specs.Count.{is_open}
+use Rattle.fields_core.specs.CountHouse.{CountHouse, IsHouse, after_house}
+use Rattle.fields_core.specs.declared.planes.part.Part.{Part}
+
+-- some places of a line, as bits
+pub record Piece : Type 0 where
+  pub line : Line
+  pub bits : ℕ
+
+abbrev pub piece_of : {W : Type 0} → (W → ℕ) → Part W → Piece
+piece_of bits part = record { line = part.line; bits = bits part.cells }
+
+abbrev pub piece_at : List Piece → ℕ → Piece
+piece_at pieces k = slice_index_or pieces k (record { line = Row 0; bits = 0 })
+
+-- whether the cell is at one of its places, in a grid of so many columns
+unfoldable pub lies_in : ℕ → Piece → ℕ → Bool
+lies_in w piece c = crosses piece.line piece.bits (c / w) (c % w)
+
+-- whether it is in one of the first n
+unfoldable pub lies_in_first : ℕ → List Piece → ℕ → ℕ → Bool
+lies_in_first w pieces n c = any_below (λ k. lies_in w (piece_at pieces k) c) n
+
+-- pieces of lines of the grid, no two of which have a cell together
+pub record ArePieces (size : Extent) (pieces : List Piece) : Type 0 where
+  pub lines_in : (k : ℕ) → k < length pieces
+      → number_of (piece_at pieces k).line < lines_beside size (piece_at pieces k).line
+  pub apart : (j k c : ℕ) → j < length pieces → k < length pieces
+      → lies_in size.w (piece_at pieces j) c ≡ true
+      → lies_in size.w (piece_at pieces k) c ≡ true → j ≡ k
+
+-- of the cells of the first n pieces so many can have 1, and so many of these are undecided
+pub record IsCount (p : Layers) (pieces : List Piece) (n may undecided : ℕ) : Type 0 where
+  pub may_is : may
+      ≡ count_below (λ c. lies_in_first p.size.w pieces n c && has p c 1) (cells_of p)
+  pub undecided_is : undecided
+      ≡ count_below (λ c. lies_in_first p.size.w pieces n c && is_open (has p) c) (cells_of p)
+
+abbrev pub IsCounted : Layers → List Piece → ℕ → ℕ → Type 0
+IsCounted p pieces may undecided = IsCount p pieces (length pieces) may undecided
+
+-- a count house of the cells of these pieces
+pub record IsHouseOf (size : Extent) (pieces : List Piece) (least most : ℕ) (house : CountHouse)
+    : Type 0 where
+  pub is : IsHouse (size.w * size.h) house
+  pub least_is : house.least ≡ least
+  pub most_is : house.most ≡ most
+  pub cells : (c : ℕ) → has_place house.places c ≡ lies_in_first size.w pieces (length pieces) c
+
+-- each cell has a value
+abbrev pub IsAlive : Layers → Type 0
+IsAlive p = (c : ℕ) → c < cells_of p → (has p c 0 ≡ true) ⊎ (has p c 1 ≡ true)
+
+-- a visit leaves no value in the house's cells
+abbrev pub IsBroken : CountHouse → Candidates → Type 0
+IsBroken house K = (c v : ℕ) → has_place house.places c ≡ true → v < 2
+    → after_house house K c v ≡ false
+
+-- the board without the value in the cells of the first n pieces that have the other value
+unfoldable pub without_value : ℕ → List Piece → ℕ → ℕ → Candidates → Candidates
+without_value w pieces n value K c v =
+    K c v && not ((v == value) && (K c (1 - value) && lies_in_first w pieces n c))

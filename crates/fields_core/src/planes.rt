@@ -1,0 +1,4 @@
+//! Count houses on planes.
+
+pub(crate) mod part;
+pub(crate) mod visit;

@@ -1,0 +1,79 @@
+//! A visit of a count house on planes: its ones are counted by words.
+#![tactic(auto)]
+
+ghost use Rattle.std.specs.Prelude.{◌≡◌, ◌<◌, ◌≤◌, true, false, length};
+ghost use Rattle.grid_core.specs.Planes.{has, IsFurther};
+ghost use Rattle.fields_core.specs.CountHouse.{CountHouse, after_house};
+ghost use Rattle.fields_core.specs.Parts.{without_value, ArePieces, IsCounted, IsHouseOf, IsAlive, IsBroken};
+
+use crate::planes::part::Parts;
+use grid_core::{Planes, Word};
+
+/// How many cells of the parts can be a one, and how many of these are undecided: can be a zero too.
+fn count<W: Word, P: Parts<W>>(planes: &Planes<W>, parts: &P) -> (usize, usize)
+    requires { ArePieces planes.now.size (P.pieces parts.now) }
+    ensures { IsCounted planes.now (P.pieces parts.now) result.0 result.1 }
+{
+    let mut may = 0;
+    let mut undecided = 0;
+    for number in 0..parts.len() {
+        let part = parts.part(number);
+        let ones = planes.line(part.line, 1).both(part.cells);
+        let open = ones.both(planes.line(part.line, 0));
+        may += ones.count();
+        undecided += open.count();
+    }
+    (may, undecided)
+}
+
+/// Takes the value from those cells of the parts that have the other value.
+fn strike<W: Word, P: Parts<W>>(planes: &mut Planes<W>, parts: &P, value: u8)
+    requires pieces { ArePieces planes.old.size (P.pieces parts.now) }
+    requires value_in { value < 2 }
+    ensures left { has planes.new ≡ without_value planes.old.size.w (P.pieces parts.now)
+        (length (P.pieces parts.now)) value (has planes.old) }
+    ensures further { IsFurther planes.old planes.new }
+{
+    for number in 0..parts.len() {
+        let part = parts.part(number);
+        let other = planes.line(part.line, 1 - value).both(part.cells);
+        planes.take(part.line, value, other);
+    }
+}
+
+/// Visits the count house of the cells of these parts: at least and at most so many of them are ones. Undecided cells lose
+/// 1 if enough cells must be ones, and 0 if all that can be ones are needed. Says whether the house has a filling: if not,
+/// nothing is taken.
+pub fn visit<W: Word, P: Parts<W>>(
+    planes: &mut Planes<W>,
+    parts: &P,
+    least: usize,
+    most: usize,
+) -> bool
+    requires pieces { ArePieces planes.old.size (P.pieces parts.now) }
+    requires order { least ≤ most }
+    requires alive { IsAlive planes.old }
+    ensures left { result ≡ true → (house : CountHouse)
+        → IsHouseOf planes.old.size (P.pieces parts.now) least most house
+        → has planes.new ≡ after_house house (has planes.old) }
+    ensures broken { result ≡ false → (house : CountHouse)
+        → IsHouseOf planes.old.size (P.pieces parts.now) least most house
+        → IsBroken house (has planes.old) }
+    ensures unchanged { result ≡ false → planes.new ≡ planes.old }
+    ensures alive { IsAlive planes.new }
+    ensures further { IsFurther planes.old planes.new }
+{
+    let (may, undecided) = count(planes, parts);
+    let must = may - undecided;
+    if may < least || most < must {
+        return false;
+    }
+    if undecided > 0 {
+        if must == most {
+            strike(planes, parts, 1);
+        } else if may == least {
+            strike(planes, parts, 0);
+        }
+    }
+    true
+}
