@@ -135,7 +135,8 @@ module _ (allows : Text → Answer → Type 0) where
     }
 
     -- no more was written
-    pub last_stopped : HasAnswers allows → (start now : S) {batch : Batch} (seen : Text) → Batched takes allows start batch seen now → Begun takes allows start seen now
+    pub last_stopped : HasAnswers allows → (start now : S) {batch : Batch} (seen : Text)
+        → Batched takes allows start batch seen now → Begun takes allows start seen now
     last_stopped answers start now seen b =
         let s = step_stopped answers [] b in
         record { written = s.written; took = s.took; begun = simp append-nil at (s.begun []) }

@@ -186,7 +186,10 @@ solo_checked p ok = record {
   once = solo_once p ok;
   text = λ g shown. grid_is_text (solo_cell p g) (solo_extent p) 3 (λ place lt. solo_cell_text p ok g shown lt) ok.n_high ok.n_high (omega arith);
   decides = λ place. inr (λ none. none);
-  some = λ g grid. told_some (IsSoloFault p g) (solo_fault p) (one_answer (FailsSolo p g) (given_tests p ++ house_tests p) (solo_sound p ok g grid) (solo_known p ok g));
+  some =
+      λ g grid. told_some (IsSoloFault p g) (solo_fault p)
+      (one_answer (FailsSolo p g) (given_tests p ++ house_tests p) (solo_sound p ok g grid)
+      (solo_known p ok g));
   alone = λ g. told_alone (IsSoloFault p g) (solo_fault p) (answer_once (FailsSolo p g) (given_tests p ++ house_tests p) (solo_none p ok g));
   sound = λ g a grid told fine. told_sound (IsSoloFault p g) (solo_fault p) told fine;
   right = λ g s. told_right (IsSoloFault p g) (solo_fault p) s;
@@ -215,7 +218,10 @@ light_checked p ok = record {
   once = light_once p;
   text = λ g shown. grid_is_text (light_cell p g) p.size 1 (λ place lt. light_cell_text p ok g place) ok.size.extent.w_high ok.size.extent.h_high (omega arith);
   decides = λ place. light_decides (slice_get p.cells place);
-  some = λ g grid. told_some (IsLightFault p g) (light_fault p) (one_answer (FailsLight p g) (light_tests p) (light.light-sound p g grid) (light.light-known p g grid));
+  some =
+      λ g grid. told_some (IsLightFault p g) (light_fault p)
+      (one_answer (FailsLight p g) (light_tests p) (light.light-sound p g grid)
+      (light.light-known p g grid));
   alone = λ g. told_alone (IsLightFault p g) (light_fault p) (answer_once (FailsLight p g) (light_tests p) (λ s. light.light-none p g s.grid s));
   sound = λ g a grid told fine. told_sound (IsLightFault p g) (light_fault p) told fine;
   right = λ g s. told_right (IsLightFault p g) (light_fault p) s;
@@ -231,7 +237,10 @@ tents_checked p ok = record {
   once = tents_once p;
   text = λ g shown. grid_is_text (tents_cell p g) p.size 1 (λ place lt. tents_cell_text p g place) ok.size.extent.w_high ok.size.extent.h_high (omega arith);
   decides = λ place. cases_eq (slice_index p.trees place) 1;
-  some = λ g grid. told_some (IsTentFault p g) (tent_fault p) (one_answer (FailsTents p g) (tent_tests p) (tents.tents-sound p g grid) (tents.tents-known p g grid));
+  some =
+      λ g grid. told_some (IsTentFault p g) (tent_fault p)
+      (one_answer (FailsTents p g) (tent_tests p) (tents.tents-sound p g grid)
+      (tents.tents-known p g grid));
   alone = λ g. told_alone (IsTentFault p g) (tent_fault p) (answer_once (FailsTents p g) (tent_tests p) (λ s. tents.tents-none p g s.grid s));
   sound = λ g a grid told fine. told_sound (IsTentFault p g) (tent_fault p) told fine;
   right = λ g s. told_right (IsTentFault p g) (tent_fault p) s;

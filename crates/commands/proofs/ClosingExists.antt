@@ -89,12 +89,15 @@ module _ {p : RuleSystem} (laws : IsLawful p) where
           let w = any_below-some waits p.houses some in
           elim (cases_Bool (is_dead p.cells p.values (after p w.0 K))) [
             | inl dead ↦ (t ++ w.0 ∷ [], ((closing-dead p laws K0 t K (after p w.0 K) waits w.0 by_queue start r w.1 w.2 refl dead).by_visits by_queue).1)
-            | inr alive ↦ again w.0 (after p w.0 K) (wakes p w.0 K waits) (omega (arith, visits_left-pos p K waits w.0 w.1 w.2, r.enough)) (visited_within p w.0 within)
+            | inr alive ↦ again w.0 (after p w.0 K) (wakes p w.0 K waits)
+                (omega (arith, visits_left-pos p K waits w.0 w.1 w.2, r.enough))
+                (visited_within p w.0 within)
                 (running-turn p laws K0 t K (after p w.0 K) waits (wakes p w.0 K waits) w.0 r w.1 w.2 within refl woken_is alive)
           ]
     ]
 
-    visits_from : (fuel : ℕ) {t : List ℕ} (K : Candidates) {waits : ℕ → Bool} → p.bound ≤ length t + fuel → IsWithin p.cells p.values K → IsRunning p K0 t K waits
+    visits_from : (fuel : ℕ) {t : List ℕ} (K : Candidates) {waits : ℕ → Bool}
+        → p.bound ≤ length t + fuel → IsWithin p.cells p.values K → IsRunning p K0 t K waits
         → (visits : List ℕ) × IsClosingList p K0 visits
     visits_from zero {t} K room within r = one_visit t K within r (λ h L left less a b. absurd (omega arith))
     visits_from (suc fuel) {t} K room within r = one_visit t K within r

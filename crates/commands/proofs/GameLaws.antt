@@ -45,7 +45,8 @@ same_status e = ap (λ (c : Answer). c.status) e
 
 module _ {P : Type 0} (play : PuzzleFacts P) (reading : HasOneReading play.game.spells play.game.reading) where
   -- the verdict is one, of that grid
-  pub found_alone : (id : Text) (p : P) (budget : ℕ) (g : List ℕ) (said : Answer) → play.game.spells id p → verdict_of (play.game.rules p) budget ≡ OneSolution g
+  pub found_alone : (id : Text) (p : P) (budget : ℕ) (g : List ℕ) (said : Answer)
+      → play.game.spells id p → verdict_of (play.game.rules p) budget ≡ OneSolution g
       → IsOnlySolution (play.game.solves p) g
       → AllowsSolve play budget id said ↔ (said ≡ one_answer (printed_by play p g))
   found_alone id p budget g said s verdict only = (allowed, allows)
@@ -94,7 +95,8 @@ module _ {P : Type 0} (play : PuzzleFacts P) (reading : HasOneReading play.game.
       allowed (inr x) = correct.0 (subst (λ q. AllowsGrid play q (printed p g) said) (reading.one id x.puzzle p x.spelled s) x.allowed)
 
   -- no grid is told
-  other_status : (id : Text) {solved said : Answer} → solved ≡ said → said.status ≢ 0 → said.status ≢ 3 → said.status ≢ 4 → ArePassed (AllowsCheck play id) solved
+  other_status : (id : Text) {solved said : Answer} → solved ≡ said → said.status ≢ 0
+      → said.status ≢ 3 → said.status ≢ 4 → ArePassed (AllowsCheck play id) solved
   other_status id told none nor neither = record {
     one = λ e. absurd (none (sym (same_status told) ∙ e));
     several = λ e. absurd (nor (sym (same_status told) ∙ e));
@@ -112,7 +114,8 @@ module _ {P : Type 0} (play : PuzzleFacts P) (reading : HasOneReading play.game.
           (printed x.puzzle g) (inl refl) (inl same))
 
       found_so_far : {grid : Text} → solved ≡ gave_up_answer grid
-          → (solved ≡ gave_up_answer []) ⊎ ((found : Text) × (solved ≡ gave_up_answer found) × Passes (AllowsCheck play id) found) → ArePassed (AllowsCheck play id) solved
+          → (solved ≡ gave_up_answer [])
+          ⊎ ((found : Text) × (solved ≡ gave_up_answer found) × Passes (AllowsCheck play id) found) → ArePassed (AllowsCheck play id) solved
       found_so_far told passes = record {
         one = λ e. absurd (let s = same_status told in omega (arith, e, s));
         several = λ e. absurd (let s = same_status told in omega (arith, e, s));
@@ -175,7 +178,8 @@ module _ (solves : List ℕ → Type 0) (printed : List ℕ → Text) {input : T
   by_verdict (GaveUp (Some f)) right told = other_told told (omega arith) (omega arith)
 
 -- the answers to a puzzle
-pub goes_with : {P : Type 0} {play : PuzzleFacts P} (p : P) {budget : ℕ} {input : Text} (given solved : Answer) → CheckedPuzzle play p → AllowsGrid play p input given
+pub goes_with : {P : Type 0} {play : PuzzleFacts P} (p : P) {budget : ℕ} {input : Text}
+    (given solved : Answer) → CheckedPuzzle play p → AllowsGrid play p input given
     → IsSolved play budget p solved → GoesWith input given solved
 goes_with p given solved checked (inr none) s fine = absurd (let e = same_status none.said in omega (arith, fine, e))
 goes_with {play} p {budget} given solved checked (inl here) s fine =
@@ -198,7 +202,8 @@ abbrev pub EachSearched : (List ℕ → Type 0) → List NamedRules → Type 0
 EachSearched solves [] = Unit {0}
 EachSearched solves (first ∷ rest) = SearchedPuzzle first.rules solves × EachSearched solves rest
 
-pub listed_right : {solves : List ℕ → Type 0} (sets : List NamedRules) {search : RuleSystem} (budget : ℕ) → EachSearched solves sets → SearchedPuzzle search solves
+pub listed_right : {solves : List ℕ → Type 0} (sets : List NamedRules) {search : RuleSystem}
+    (budget : ℕ) → EachSearched solves sets → SearchedPuzzle search solves
     → IsRightGrade solves (listed_grade sets search budget)
 unfolding searched_grade
 listed_right {solves} [] {search} budget each searched =

@@ -118,7 +118,8 @@ module _ {P : Type 0} (play : PuzzleFacts P) (p : P) (budget : ℕ) (traced : Bo
   pub said_last : (grade : Grade) (set : RuleSet) (rules : RuleSystem) → grade ≡ listed_grade (only_set set rules) (play.game.rules p) budget
       → IsRightGrade (play.game.solves p) grade → SaysLast grade rules → SaysBy (only_set set rules)
   said_last grade set rules e right told = rightly (only_set set rules) (rw e at right)
-      (subst (λ (g : Grade). SaysLast g (last_tried (play.game.rules p) (only_set set rules))) e (subst (SaysLast grade) (last_of_one (play.game.rules p) set) told))
+      (subst (λ (g : Grade). SaysLast g (last_tried (play.game.rules p) (only_set set rules))) e
+      (subst (SaysLast grade) (last_of_one (play.game.rules p) set) told))
 
   -- the first in the list settles the puzzle
   pub said_first : {q : RuleSystem} (set : RuleSet) {rules : RuleSystem} (rest : List NamedRules) → q ≡ rules → is_settled q ≡ true
@@ -139,10 +140,12 @@ module _ {P : Type 0} (play : PuzzleFacts P) (p : P) (budget : ℕ) (traced : Bo
   pub said_by : {q r : RuleSystem} (set : RuleSet) → q ≡ r → SaysBy (only_set set q) → SaysBy (only_set set r)
   said_by set e told = subst (λ (x : RuleSystem). SaysBy (only_set set x)) e told
 
-module _ {S : Type 0} {takes : S → Text → S → Type 0} (nothing : (s : S) → takes s [] s) (both : (s t u : S) (a b : Text) → takes s a t → takes t b u → takes s (a ++ b) u)
+module _ {S : Type 0} {takes : S → Text → S → Type 0} (nothing : (s : S) → takes s [] s)
+    (both : (s t u : S) (a b : Text) → takes s a t → takes t b u → takes s (a ++ b) u)
     {grade : Grade} {traced : Bool} {name : ℕ → Text} {rules : RuleSystem} where
   -- the rest was delivered
-  pub said_whole : {s t u : S} {line rest : Text} {a : Answer} {status : ℕ} → line ≡ grade_text grade ++ codes "\n" → PutsTrace takes traced name rules s line rest t
+  pub said_whole : {s t u : S} {line rest : Text} {a : Answer} {status : ℕ}
+      → line ≡ grade_text grade ++ codes "\n" → PutsTrace takes traced name rules s line rest t
       → Delivers takes t a u status → a.text ≡ rest → a.status ≡ grade_status grade → SaysIfAny takes (SaysGrade grade traced name rules) s u status
   said_whole {s} {t} {u} {line} is p d same ends = record {
     written = p.put.done ++ d.written;
@@ -184,7 +187,8 @@ is_traced true name rules lines e mode said = subst (λ (b : Bool). SaysClosing 
 is_traced false name rules lines e mode said = absurd (true≢false (sym e))
 
 -- no trace was asked for
-pub untraced : {S : Type 0} {takes : S → Text → S → Type 0} (traced : Bool) {name : ℕ → Text} {rules : RuleSystem} {s : S} {text : Text} → takes s [] s → traced ≡ false
+pub untraced : {S : Type 0} {takes : S → Text → S → Type 0} (traced : Bool) {name : ℕ → Text}
+    {rules : RuleSystem} {s : S} {text : Text} → takes s [] s → traced ≡ false
     → PutsTrace takes traced name rules s text text s
 untraced true nothing is = absurd (true≢false is)
 untraced false {text} nothing is = record { lines = []; trace = refl; put = record { done = []; took = nothing; split = append-nil text } }

@@ -90,7 +90,8 @@ module _ {weak strong : RuleSystem} (weak_laws : IsLawful weak) (strong_laws : I
       count_below-one (closure weak weak.start c) weak.values v _ (omega (arith, one)) (omega (arith, same_values, lv)) least.0 here least.1
       ∙ sym (grid_of-at weak.cells weak.values (closure weak weak.start) c lw)))
     where
-      solved : is_full weak.cells weak.values (closure weak weak.start) ≡ true → weak.is_solution (grid_of weak.cells weak.values (closure weak weak.start)) ≡ true
+      solved : is_full weak.cells weak.values (closure weak weak.start) ≡ true
+          → weak.is_solution (grid_of weak.cells weak.values (closure weak weak.start)) ≡ true
           → Solves strong (grid_of weak.cells weak.values (closure weak weak.start))
       solved full good = solves_too (grid_of weak.cells weak.values (closure weak weak.start)) (record {
         grid = grid-fits weak (closure weak weak.start) (grid_of weak.cells weak.values (closure weak weak.start)) weak.cells weak.values refl refl full refl;
@@ -200,7 +201,8 @@ module _ (search : RuleSystem) (budget : ℕ) where
   beyond [] none = searched_apart (trials_in (walk search 0 search.start)) (verdict_of search budget)
   beyond (first ∷ rest) none = by (is_settled first.rules) (beyond rest none.1)
     where
-      by : (b : Bool) → is_within (listed_grade rest search budget) ≡ false → is_within (if b then ByRules first.set else listed_grade rest search budget) ≡ false
+      by : (b : Bool) → is_within (listed_grade rest search budget) ≡ false
+          → is_within (if b then ByRules first.set else listed_grade rest search budget) ≡ false
       by true later = none.0
       by false later = later
 
@@ -211,7 +213,8 @@ module _ (search : RuleSystem) (budget : ℕ) where
   own_named set rest same h2 = grind (arith, common_steps, beyond, is_within)
 
   -- one more rule set before the others, where what it settles the search's rules settle
-  pub weaker_named : (set : RuleSet) (weak : RuleSystem) (rest : List NamedRules) → is_within_search set ≡ true → (is_settled weak ≡ true → is_settled search ≡ true)
+  pub weaker_named : (set : RuleSet) (weak : RuleSystem) (rest : List NamedRules)
+      → is_within_search set ≡ true → (is_settled weak ≡ true → is_settled search ≡ true)
       → is_within (listed_grade rest search budget) ≡ is_settled search
       → is_within (listed_grade (record { set = set; rules = weak } ∷ rest) search budget) ≡ is_settled search
   unfolding is_within

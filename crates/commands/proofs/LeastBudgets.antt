@@ -68,7 +68,8 @@ module _ (game : Game) (id : Text) (p : puzzle_of game) (s : (game_of game).game
   printed g = printed_by (game_of game) p g
 
   -- an answer of status 0 tells the verdict one
-  tells_one : (budget : ℕ) (said : Answer) → AllowsSolve (game_of game) budget id said → said.status ≡ 0 → (g : List ℕ) × (verdict_of rules budget ≡ OneSolution g)
+  tells_one : (budget : ℕ) (said : Answer) → AllowsSolve (game_of game) budget id said
+      → said.status ≡ 0 → (g : List ℕ) × (verdict_of rules budget ≡ OneSolution g)
   tells_one budget said (inl x) fine = absurd ((laws_of game).reading.apart id p x.fault s x.first)
   tells_one budget said (inr x) fine =
       let mine = subst (λ q. IsSolved (game_of game) budget q said)

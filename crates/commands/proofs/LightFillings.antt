@@ -77,7 +77,10 @@ module _ (size : Extent) (wide : IsWide size) (black : ℕ) where
 
 -- ---- the puzzle of a filling, and what is left of it
 numbers_small : (cells : List LightCell) → ((place n : ℕ) → number_clue (get_or cells place Black) ≡ Some n → n ≤ 4) → AllByRecursion IsLightCell cells
-numbers_small cells small = recursion_from_All IsLightCell cells (All-from_get_or IsLightCell cells Black (λ place lt. by (get_or cells place Black) (small place)))
+numbers_small cells small =
+    recursion_from_All IsLightCell cells
+    (All-from_get_or IsLightCell cells Black
+    (λ place lt. by (get_or cells place Black) (small place)))
   where
     by : (cell : LightCell) → ((n : ℕ) → number_clue cell ≡ Some n → n ≤ 4) → IsLightCell cell
     by White low = tt
@@ -100,10 +103,13 @@ numbered_small p g place n e = elim (cases_lt place (light_cells p)) [
     by false off is = let few = bulbs_few p g place in let same = some_is (bulbs_beside p g place) (rw off at is) in omega arith
 
 -- with fewer numbers it is a puzzle still
-light_thinner : (p q : Light) → IsLight p → ((place n : ℕ) → number_clue (get_or p.cells place Black) ≡ Some n → n ≤ 4) → IsThinnedFrom light_game q p → IsLight q
+light_thinner : (p q : Light) → IsLight p
+    → ((place n : ℕ) → number_clue (get_or p.cells place Black) ≡ Some n → n ≤ 4)
+    → IsThinnedFrom light_game q p → IsLight q
 light_thinner p q ok small w = record {
   size = subst IsWide (sym w.frame.size) ok.size;
-  count = sym (length-map q.cells is_white) ∙ ap length w.frame.black ∙ length-map p.cells is_white ∙ ok.count ∙ ap (λ (e : Extent). e.w * e.h) (sym w.frame.size);
+  count = sym (length-map q.cells is_white) ∙ ap length w.frame.black ∙ length-map p.cells is_white
+      ∙ ok.count ∙ ap (λ (e : Extent). e.w * e.h) (sym w.frame.size);
   each = numbers_small q.cells (λ place n e. small place n (w.clues place n e));
 }
 

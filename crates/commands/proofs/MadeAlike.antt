@@ -103,6 +103,10 @@ lights_differ text seed budget tries black one other = sizes_differ (wanted seed
 
         alone : y.is_made.k ≡ x.is_made.k
         alone = first_once (light_filling (extent_of size) black) (light_passes (extent_of size) budget) w.stream tries y.is_made.first x.is_made.first
-    by size (inl x) (inr y) = absurd (first_not_none (light_filling (extent_of size) black) (light_passes (extent_of size) budget) w.stream tries x.is_made.first y.none)
-    by size (inr x) (inl y) = absurd (first_not_none (light_filling (extent_of size) black) (light_passes (extent_of size) budget) w.stream tries y.is_made.first x.none)
+    by size (inl x) (inr y) =
+        absurd (first_not_none (light_filling (extent_of size) black)
+        (light_passes (extent_of size) budget) w.stream tries x.is_made.first y.none)
+    by size (inr x) (inl y) =
+        absurd (first_not_none (light_filling (extent_of size) black)
+        (light_passes (extent_of size) budget) w.stream tries y.is_made.first x.none)
     by size (inr x) (inr y) = same_differ x.said y.said (omega arith)

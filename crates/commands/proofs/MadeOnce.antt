@@ -111,7 +111,8 @@ module _ {A : Type 0} (make : Making A) (passes : A → Bool) (s : Stream) (trie
 pub size_reading : (sizes : Text → Result SizeRead IdFault) → HasOneReading (λ text size. sizes text ≡ Ok size) sizes
 size_reading sizes = reading_of (λ text size. sizes text ≡ Ok size) sizes (λ text size is. is) (λ text size is. is)
 
-made_once : {P : Type 0} (play : PuzzleFacts P) (w : Wanted) (text : Text) → ((read : SizeRead) → play.game.sizes text ≡ Ok read → HasOneAnswer (AllowsOfSize play w read))
+made_once : {P : Type 0} (play : PuzzleFacts P) (w : Wanted) (text : Text)
+    → ((read : SizeRead) → play.game.sizes text ≡ Ok read → HasOneAnswer (AllowsOfSize play w read))
     → HasOneAnswer (AllowsMade play w text)
 made_once play w text each = id_once (size_reading play.game.sizes) text {allows = AllowsOfSize play w} each
 
@@ -125,7 +126,9 @@ has_one rules laws budget one =
     let found = one_found (verdict_of rules budget) one in
     record { answer = found.0; found = found.1; only = subst (IsTrueOf rules) found.1 (outcome-true rules laws budget) }
 
-pub is_extent : (least : ℕ) {w h : ℕ} → 1 ≤ least → (nat_le least w && nat_le least h && nat_le w max_side && nat_le h max_side) ≡ true → IsExtent (record { w = w; h = h })
+pub is_extent : (least : ℕ) {w h : ℕ} → 1 ≤ least
+    → (nat_le least w && nat_le least h && nat_le w max_side && nat_le h max_side) ≡ true
+    → IsExtent (record { w = w; h = h })
 is_extent least {w} {h} low e =
     let a = and_parts (nat_le least w && nat_le least h && nat_le w max_side) (nat_le h max_side) e in
     let b = and_parts (nat_le least w && nat_le least h) (nat_le w max_side) a.0 in

@@ -62,7 +62,8 @@ pub put_begins : {S : Type 0} {takes : S → Text → S → Type 0} {s t : S} (t
 put_begins text held put = record { done = put.done; took = put.took; begun = (held, put.split) }
 
 -- a beginning of the text with the first lines begins the text with all of them
-pub lines_begun : {S : Type 0} {takes : S → Text → S → Type 0} {s t : S} (text : Text) (f : ℕ → Text) (i n : ℕ) → i ≤ n → PutBegun takes s (text ++ each_below f i) t
+pub lines_begun : {S : Type 0} {takes : S → Text → S → Type 0} {s t : S} (text : Text)
+    (f : ℕ → Text) (i n : ℕ) → i ≤ n → PutBegun takes s (text ++ each_below f i) t
     → PutBegun takes s (text ++ each_below f n) t
 lines_begun text f i n le begun =
     let h = each_begins f i n le in
@@ -92,7 +93,8 @@ module _ {S : Type 0} {takes : S → Text → S → Type 0} {most : ℕ} where
   }
 
   -- what was held was kept, or is one piece more
-  pub next_piece : (s t u : S) {text : Text} (held : Text) {rest : Text} → PutInPieces takes most s text held t → length held < most → KeptOrPut takes t held rest u
+  pub next_piece : (s t u : S) {text : Text} (held : Text) {rest : Text}
+      → PutInPieces takes most s text held t → length held < most → KeptOrPut takes t held rest u
       → PutInPieces takes most s text rest u
   next_piece s t u held put short next = elim next [
     | inl kept ↦ record {

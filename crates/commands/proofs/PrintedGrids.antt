@@ -48,7 +48,9 @@ module _ {hides : ℕ → Type 0} {values : ℕ} {size : Extent} (cell : List �
       let first = after_cell (λ k. cell g (y * size.w + k)) size.w more rest x lt a in
       let second = after_cell (λ k. cell h (y * size.w + k)) size.w less rest x lt b in
       let here = once g h (y * size.w + x) first.after second.after shown also (in_grid size y size.w x (size.w * size.h) refl lt below refl)
-      (cell_follows (cell g) size y size.w x more rest refl first) (cell_follows (cell h) size y size.w x less rest refl second) (sym first.split ∙ second.split) in
+      (cell_follows (cell g) size y size.w x more rest refl first)
+      (cell_follows (cell h) size y size.w x less rest refl second)
+      (sym first.split ∙ second.split) in
       let later = row_once y m (x + 1) more less first.after below (let n : x + 1 + m ≡ size.w = omega arith in n) first.left
       (subst (Left (λ k. cell h (y * size.w + k)) size.w less (x + 1)) (sym here.1) second.left) in (
         λ k low high. elim (cases_eq k x) [
@@ -71,7 +73,8 @@ module _ {hides : ℕ → Type 0} {values : ℕ} {size : Extent} (cell : List �
       let first = row_first (row_text (cell g) size) size.h more rest y below a in
       let second = row_first (row_text (cell h) size) size.h less rest y below b in
       let here = row_once y size.w 0 first.after second.after rest below (omega arith)
-      (all_left (λ k. cell g (y * size.w + k)) size.w first.after rest first.split) (all_left (λ k. cell h (y * size.w + k)) size.w second.after rest second.split) in
+      (all_left (λ k. cell g (y * size.w + k)) size.w first.after rest first.split)
+      (all_left (λ k. cell h (y * size.w + k)) size.w second.after rest second.split) in
       let next : (y + 1) * size.w ≡ y * size.w + size.w = next_row y size.w in
       elim (cases_lt place (y * size.w + size.w)) [
         | inl inside ↦
@@ -143,7 +146,9 @@ number_once v w after rest low small none also e = by (decimal v ++ after) refl
 
 pub pattern_once : (p : Pattern) → CellOnce hides_nothing 2 p.size (pattern_cell p)
 pattern_once p g h place after other shown also lt follows more e =
-    mark_once 35 46 (slice_index g place) (slice_index h place) (number_fits hides_nothing 2 p.size g place shown lt) (number_fits hides_nothing 2 p.size h place also lt)
+    mark_once 35 46 (slice_index g place) (slice_index h place)
+    (number_fits hides_nothing 2 p.size g place shown lt)
+    (number_fits hides_nothing 2 p.size h place also lt)
     (λ same. absurd (omega arith)) e
 
 pub light_once : (p : Light) → CellOnce (light_hides p) 2 p.size (light_cell p)
@@ -269,7 +274,11 @@ digit d small e = absurd (omega arith)
 number_text : (n : ℕ) → n < 100 → IsCellText 2 (decimal n)
 number_text n small = elim (cases_lt n 10) [
   | inl low ↦ subst (IsCellText 2) (sym (decimal_digit n low)) (record { plain = (digit n low, tt); few = omega arith })
-  | inr high ↦ subst (IsCellText 2) (sym (two n high small)) (record { plain = (digit (n / 10) (omega arith), (digit (n % 10) (omega arith), tt)); few = omega arith })
+  | inr high ↦ subst (IsCellText 2) (sym (two n high small))
+      (record {
+        plain = (digit (n / 10) (omega arith), (digit (n % 10) (omega arith), tt));
+        few = omega arith;
+      })
 ]
   where
     two : (n : ℕ) → 10 ≤ n → n < 100 → decimal n ≡ (48 + n / 10) ∷ (48 + n % 10) ∷ []

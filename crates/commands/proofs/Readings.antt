@@ -42,13 +42,17 @@ told_once answer = record { answer = answer; allowed = refl; only = λ other is.
 
 module _ {P : Type 0} {of : Text → Result P IdFault} {spells : Text → P → Type 0} (reading : HasOneReading spells of) where
   -- an ID has an answer where each puzzle has one
-  pub id_some : (id : Text) (allows : P → Answer → Type 0) → ((p : P) → spells id p → (a : Answer) × allows p a) → (a : Answer) × AllowsId (of id) (spells id) allows a
+  pub id_some : (id : Text) (allows : P → Answer → Type 0)
+      → ((p : P) → spells id p → (a : Answer) × allows p a)
+      → (a : Answer) × AllowsId (of id) (spells id) allows a
   id_some id allows each = elim (reading.either id) [
     | inl s ↦ let some = each s.0 s.1 in (some.0, inr (record { puzzle = s.0; spelled = s.1; allowed = some.1 }))
     | inr f ↦ (refused (fault_text f.0), inl (record { fault = f.0; first = f.1; said = refl }))
   ]
 
-  pub id_once : (id : Text) {allows : P → Answer → Type 0} → ((p : P) → spells id p → HasOneAnswer (allows p)) → HasOneAnswer (AllowsId (of id) (spells id) allows)
+  pub id_once : (id : Text) {allows : P → Answer → Type 0}
+      → ((p : P) → spells id p → HasOneAnswer (allows p))
+      → HasOneAnswer (AllowsId (of id) (spells id) allows)
   id_once id {allows} each = elim (reading.either id) [
     | inl s ↦ record {
       answer = (each s.0 s.1).answer;

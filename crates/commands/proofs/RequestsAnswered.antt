@@ -44,7 +44,8 @@ closing_said name {rules} laws = by rules.by_queue refl
         (sweeps_text closing.0, record { sweeps = closing.0; closing = closing.1; said = refl })
 
 -- the rules that were tried last are lawful
-last_lawful : (solves : List ℕ → Type 0) {before : RuleSystem} (sets : List NamedRules) → IsLawful before → EachSearched solves sets → IsLawful (last_tried before sets)
+last_lawful : (solves : List ℕ → Type 0) {before : RuleSystem} (sets : List NamedRules)
+    → IsLawful before → EachSearched solves sets → IsLawful (last_tried before sets)
 last_lawful solves [] laws each = laws
 last_lawful solves (first ∷ rest) laws each = by (is_settled first.rules) (last_lawful solves rest each.0.lawful each.1)
   where

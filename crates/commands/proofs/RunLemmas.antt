@@ -157,7 +157,8 @@ module _ {I O : Type 0} {source : sources.Ghosts I} {sink : sinks.Ghosts O}
   ran_if_any_unwritten seen high gave took =
       record { read = seen; written = []; gave = gave; took = took; begun = λ input _. inl refl; whole = λ low. absurd (omega arith) }
 
-  pub ran_if_any_by_telling : {i : I} {o p : O} (tells : Answer → Type 0) {status : ℕ} → source.gives i [] i → ((input : Text) (a : Answer) → tells a → allows input a)
+  pub ran_if_any_by_telling : {i : I} {o p : O} (tells : Answer → Type 0) {status : ℕ}
+      → source.gives i [] i → ((input : Text) (a : Answer) → tells a → allows input a)
       → SaysIfAny sink.takes tells o p status → RanIfAny source sink allows i i o p status
   ran_if_any_by_telling tells nothing allowed t = record {
     read = [];

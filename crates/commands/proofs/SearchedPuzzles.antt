@@ -91,11 +91,14 @@ module _ {rules : RuleSystem} {solves : List ℕ → Type 0} (searched : Searche
   verdict_right budget = right_of solves (verdict_of rules budget) searched.accepted (outcome-true rules searched.lawful budget)
 
   -- so where one grid is the solution, it is what a search with enough trials tells
-  pub found_with_enough : (one : HasOneSolution solves) {budget : ℕ} → trials_in (walk rules 0 rules.start) ≤ budget → verdict_of rules budget ≡ OneSolution one.0
+  pub found_with_enough : (one : HasOneSolution solves) {budget : ℕ}
+      → trials_in (walk rules 0 rules.start) ≤ budget → verdict_of rules budget ≡ OneSolution one.0
   found_with_enough one at_most = grind (arith, common_steps, never_out, verdict_right)
 
 -- a search has one answer
-pub solved_once : {P : Type 0} (play : PuzzleFacts P) (p : P) {budget : ℕ} → SearchedPuzzle (play.game.rules p) (play.game.solves p) → HasOneAnswer (IsSolved play budget p)
+pub solved_once : {P : Type 0} (play : PuzzleFacts P) (p : P) {budget : ℕ}
+    → SearchedPuzzle (play.game.rules p) (play.game.solves p)
+    → HasOneAnswer (IsSolved play budget p)
 solved_once play p {budget} searched = record {
   answer = verdict_answer (printed_by play p) (verdict_of (play.game.rules p) budget);
   allowed = record { right = verdict_right searched budget; said = refl };

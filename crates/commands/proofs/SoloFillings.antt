@@ -118,7 +118,9 @@ module _ (c r : ℕ) (size : IsSoloSize c r) where
     solo_filled k = (filling_is x budget (words_after k)).solution
 
     -- one that doesn't pass isn't there
-    pub solo_missing : (k : ℕ) → solo_passes c r x budget (filling_at (solo_filling c r x budget) k s) ≡ false → filling_at (solo_filling c r x budget) k s ≡ None
+    pub solo_missing : (k : ℕ) → solo_passes c r x budget
+        (filling_at (solo_filling c r x budget) k s) ≡ false
+        → filling_at (solo_filling c r x budget) k s ≡ None
     solo_missing k fails =
         by (filling_at (solo_filling c r x budget) k s)
         (found_passes c r x budget (filling_at (solo_filling c r x budget) k s) size (solo_filled k) ∙ fails)
@@ -153,6 +155,9 @@ module _ (c r : ℕ) (size : IsSoloSize c r) where
             givens = is.within;
             only = only_by_rules p g ok is.only;
             verdict = is.found;
-            reasons = subst (λ (all : Solo). AreReasons solo_game budget all p t.1) {x = all_given p.c p.r p.x g} (same_given p c r x g frame.c frame.r frame.x) is.reasons;
+            reasons =
+                subst (λ (all : Solo). AreReasons solo_game budget all p t.1)
+                {x = all_given p.c p.r p.x g} (same_given p c r x g frame.c frame.r frame.x)
+                is.reasons;
           },
         )

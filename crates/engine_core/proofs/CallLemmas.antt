@@ -11,7 +11,9 @@ use Rattle.engine_core.proofs.SetLemmas.{bits-empty, counts-differ, counts-same}
 pub called-none : {p : RuleSystem} {K : Candidates} {called waits : ℕ → Bool} → ((j : ℕ) → j < p.houses → called j ≡ false) → AreCalled p K called waits waits
 called-none none = grind (arith, common_steps)
 
-pub called-same : (p : RuleSystem) (K : Candidates) (called called' before now : ℕ → Bool) → ((j : ℕ) → j < p.houses → called j ≡ called' j) → AreCalled p K called before now → AreCalled p K called' before now
+pub called-same : (p : RuleSystem) (K : Candidates) (called called' before now : ℕ → Bool)
+    → ((j : ℕ) → j < p.houses → called j ≡ called' j) → AreCalled p K called before now
+    → AreCalled p K called' before now
 called-same p K called called' before now same a = grind (arith, common_steps)
 
 -- first some are called for, and then others
@@ -31,7 +33,9 @@ upto-next : (test : ℕ → Bool) (n k j : ℕ) → test n ≡ true → count_be
 upto-next test n k j on number = grind (arith, common_steps, and_from, and_left, cases_eq, cases_lt, counted, eq-eqb, le-ltb, lt-ltb, ne_eqb, or_right)
 
 -- the next one is marked
-pub upto-marked : {p : RuleSystem} {K : Candidates} (test : ℕ → Bool) {before : ℕ → Bool} (now : ℕ → Bool) {after : ℕ → Bool} (n k : ℕ) → test n ≡ true → count_below test n ≡ k → ((j : ℕ) → after j ≡ (now j || eqb j n))
+pub upto-marked : {p : RuleSystem} {K : Candidates} (test : ℕ → Bool) {before : ℕ → Bool}
+    (now : ℕ → Bool) {after : ℕ → Bool} (n k : ℕ) → test n ≡ true → count_below test n ≡ k
+    → ((j : ℕ) → after j ≡ (now j || eqb j n))
     → AreCalled p K (asked_upto test k) before now → AreCalled p K (asked_upto test (k + 1)) before after
 upto-marked test now n k on number marks a = grind (arith, common_steps, called-more, called-same, or_left, or_right, upto-next)
 
@@ -43,16 +47,21 @@ upto-idle p K test before now n k on number idle a =
     (called-more p K (asked_upto test k) (λ j. eqb j n) before now now a (grind (arith, common_steps, eqb-true)))
 
 -- one or the other
-pub upto-asked : (p : RuleSystem) (K : Candidates) (test : ℕ → Bool) {before now after : ℕ → Bool} (n k : ℕ) (called : Bool) → test n ≡ true → count_below test n ≡ k → (called ≡ false → IsIdle p n K)
+pub upto-asked : (p : RuleSystem) (K : Candidates) (test : ℕ → Bool) {before now after : ℕ → Bool}
+    (n k : ℕ) (called : Bool) → test n ≡ true → count_below test n ≡ k
+    → (called ≡ false → IsIdle p n K)
     → ((j : ℕ) → after j ≡ (now j || (called && eqb j n))) → AreCalled p K (asked_upto test k) before now → AreCalled p K (asked_upto test (k + 1)) before after
 upto-asked p K test {now} n k true on number idle marks a = upto-marked test now n k on number marks a
 upto-asked p K test {before} {after} n k false on number idle marks a = upto-idle p K test before after n k on number (idle refl) (grind (arith, common_steps))
 
-pub upto-all : {p : RuleSystem} {K : Candidates} {test before now : ℕ → Bool} (k : ℕ) → count_below test p.houses ≤ k → AreCalled p K (asked_upto test k) before now → AreCalled p K test before now
+pub upto-all : {p : RuleSystem} {K : Candidates} {test before now : ℕ → Bool} (k : ℕ)
+    → count_below test p.houses ≤ k → AreCalled p K (asked_upto test k) before now
+    → AreCalled p K test before now
 upto-all k le a = grind (arith, common_steps, and_from, and_left, called-same, counted, lt-ltb)
 
 -- ---- the cells of a house one after another
-pub called-first : (p : RuleSystem) (h : ℕ) (K K' : Candidates) {waits : ℕ → Bool} → AreCalled p K' (λ j. any_below (calls p h (counts_of p h K) K' j) 0) waits waits
+pub called-first : (p : RuleSystem) (h : ℕ) (K K' : Candidates) {waits : ℕ → Bool}
+    → AreCalled p K' (λ j. any_below (calls p h (counts_of p h K) K' j) 0) waits waits
 unfolding any_below
 called-first p h K K' = called-none (λ j lt. refl)
 
@@ -77,11 +86,14 @@ unfolding woken but
 woken-by clears a settles = grind (arith, common_steps)
 
 -- where nothing was struck, only the house's own mark goes
-pub woken-unstruck : {p : RuleSystem} {h : ℕ} {K K' : Candidates} {waits left : ℕ → Bool} → K' ≡ K → ((j : ℕ) → left j ≡ but waits h j) → IsWoken p h K K' waits left
+pub woken-unstruck : {p : RuleSystem} {h : ℕ} {K K' : Candidates} {waits left : ℕ → Bool} → K' ≡ K
+    → ((j : ℕ) → left j ≡ but waits h j) → IsWoken p h K K' waits left
 woken-unstruck same clears = grind (arith, common_steps, woken-none)
 
 -- where no house waited before
-pub called-from : {p : RuleSystem} {K : Candidates} {called called' before now : ℕ → Bool} → ((j : ℕ) → j < p.houses → before j ≡ false) → ((j : ℕ) → j < p.houses → called j ≡ called' j) → AreCalled p K called before now
+pub called-from : {p : RuleSystem} {K : Candidates} {called called' before now : ℕ → Bool}
+    → ((j : ℕ) → j < p.houses → before j ≡ false) → ((j : ℕ) → j < p.houses → called j ≡ called' j)
+    → AreCalled p K called before now
     → AreCalled p K called' (λ j. false) now
 called-from none same a = grind (arith, common_steps)
 
@@ -90,17 +102,24 @@ pub before-first : (p : RuleSystem) (K : Candidates) (test waits : ℕ → Bool)
 before-first p K test waits = called-none (λ j lt. and_right (test j) _ (le-ltb j 0 (omega arith)))
 
 -- the next one is marked
-pub before-marked : (p : RuleSystem) (K : Candidates) (test before now after : ℕ → Bool) (from n : ℕ) → IsNext test p.houses from (Some n) → ((j : ℕ) → after j ≡ (now j || eqb j n))
+pub before-marked : (p : RuleSystem) (K : Candidates) (test before now after : ℕ → Bool)
+    (from n : ℕ) → IsNext test p.houses from (Some n) → ((j : ℕ) → after j ≡ (now j || eqb j n))
     → AreCalled p K (λ j. test j && ltb j from) before now → AreCalled p K (λ j. test j && ltb j (n + 1)) before after
 before-marked p K test before now after from n next marks a =
-    called-same p K _ _ before after (λ j lt. one (test j) j lt) (called-more p K (λ j. test j && ltb j from) (λ j. eqb j n) before now after a (grind (arith, common_steps, or_left, or_right)))
+    called-same p K _ _ before after (λ j lt. one (test j) j lt)
+    (called-more p K (λ j. test j && ltb j from) (λ j. eqb j n) before now after a
+    (grind (arith, common_steps, or_left, or_right)))
   where
     one : (on : Bool) (j : ℕ) → j < p.houses → ((test j && ltb j from) || eqb j n) ≡ (test j && ltb j (n + 1))
     one on j lt = grind (arith, common_steps, and_from, and_left, and_right, cases_eq, cases_lt, eq-eqb, le-ltb, lt-ltb, ne_eqb, next.3 j)
 
 -- and none is left
-pub before-all : {p : RuleSystem} (K : Candidates) {test before now : ℕ → Bool} (from : ℕ) → IsNext test p.houses from None → AreCalled p K (λ j. test j && ltb j from) before now → AreCalled p K test before now
-before-all {p} K {before} {now} from next a = called-same p K _ _ before now (λ j lt. grind (arith, common_steps, and_from, and_left, cases_lt, lt-ltb, next j)) a
+pub before-all : {p : RuleSystem} (K : Candidates) {test before now : ℕ → Bool} (from : ℕ)
+    → IsNext test p.houses from None → AreCalled p K (λ j. test j && ltb j from) before now
+    → AreCalled p K test before now
+before-all {p} K {before} {now} from next a =
+    called-same p K _ _ before now
+    (λ j lt. grind (arith, common_steps, and_from, and_left, cases_lt, lt-ltb, next j)) a
 
 -- ---- the cells of a house one after another, by their sets before and now
 pub record IsMarking (p : RuleSystem) (h : ℕ) (K K' : Candidates) (k : ℕ) (before now : ℕ → Bool) (dead : Bool) : Type 0 where
@@ -112,12 +131,15 @@ unfolding any_below
 marking-first p h K K' waits = record { called = called-first p h K K'; dead_is = refl }
 
 module _ {p : RuleSystem} {h : ℕ} {K K' : Candidates} {k place set bits : ℕ} {before now : ℕ → Bool} {dead : Bool} (at : place ≡ slice_index (p.scope h) k)
-    (was : IsBitsOf (K (slice_index (p.scope h) k)) p.values set) (is : IsBitsOf (K' place) p.values bits) (inside : IsInside K' K) (m : IsMarking p h K K' k before now dead) where
+    (was : IsBitsOf (K (slice_index (p.scope h) k)) p.values set)
+    (is : IsBitsOf (K' place) p.values bits) (inside : IsInside K' K)
+    (m : IsMarking p h K K' k before now dead) where
   here : IsBitsOf (K' (slice_index (p.scope h) k)) p.values bits
   here = rw (← at) is
 
   -- a cell with another set calls for its houses
-  pub marking-then : (after : ℕ → Bool) (dead' : Bool) → (bits ≡ set → ⊥) → AreCalled p K' (λ j. has_place (p.scope j) place) now after → dead' ≡ (dead || eqb bits 0)
+  pub marking-then : (after : ℕ → Bool) (dead' : Bool) → (bits ≡ set → ⊥)
+      → AreCalled p K' (λ j. has_place (p.scope j) place) now after → dead' ≡ (dead || eqb bits 0)
       → IsMarking p h K K' (k + 1) before after dead'
   unfolding counts_of
   marking-then after dead' ne a e =

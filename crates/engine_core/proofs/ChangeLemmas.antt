@@ -6,7 +6,9 @@ use Rattle.engine_core.proofs.BitLemmas.{bits-of_power}
 use Rattle.engine_core.proofs.QueueLemmas.{within_of}
 
 -- by the bits that boards give for a cell
-pub change-of : {p : RuleSystem} {b b' : Layout} (place before after : ℕ) → IsBoardOf p b → SameShape b b' → place < p.cells → IsBitsOf (has b place) b.values before → IsBitsOf (has b' place) b'.values after
+pub change-of : {p : RuleSystem} {b b' : Layout} (place before after : ℕ) → IsBoardOf p b
+    → SameShape b b' → place < p.cells → IsBitsOf (has b place) b.values before
+    → IsBitsOf (has b' place) b'.values after
     → ((c v : ℕ) → (c ≡ place → ⊥) → has b' c v ≡ has b c v) → IsChange p.cells p.values (has b) (has b') place before after
 change-of place before after of shape lt was is others = grind (arith, common_steps, has-within)
 
@@ -24,8 +26,11 @@ pub left-others : (K : Candidates) (place bits c v : ℕ) → (c ≡ place → �
 unfolding left_by
 left-others K place bits c v ne = grind (arith, common_steps)
 
-pub left-change : (p : RuleSystem) (b b' : Layout) (place : ℕ) {before : ℕ} (left : ℕ) → IsBoardOf p b → place < p.cells → IsBitsOf (has b place) p.values before
-    → IsBitsOf (left_by (has b) place left place) p.values left → has b' ≡ left_by (has b) place left → IsChange p.cells p.values (has b) (has b') place before left
+pub left-change : (p : RuleSystem) (b b' : Layout) (place : ℕ) {before : ℕ} (left : ℕ)
+    → IsBoardOf p b → place < p.cells → IsBitsOf (has b place) p.values before
+    → IsBitsOf (left_by (has b) place left place) p.values left
+    → has b' ≡ left_by (has b) place left
+    → IsChange p.cells p.values (has b) (has b') place before left
 left-change p b b' place left of lt was is e = rw e (record {
   place_in = lt;
   before_is = was;

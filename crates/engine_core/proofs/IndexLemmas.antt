@@ -66,7 +66,8 @@ module _ (places : List ℕ) {k : ℕ} (lt : k < length places) where
 lengths_sum : (scopes : List (List ℕ)) → sum_below (λ h. length (scope_of scopes h)) (length scopes) ≡ sum_by length scopes
 unfolding sum_below
 lengths_sum [] = refl
-lengths_sum (places ∷ scopes) = omega (arith, lengths_sum scopes, from_first (λ h. length (scope_of (places ∷ scopes) h)) (length scopes), sum_by-cons (length {A = ℕ}) places scopes)
+lengths_sum (places ∷ scopes) =
+    omega (arith, lengths_sum scopes, from_first (λ h. length (scope_of (places ∷ scopes) h)) (length scopes), sum_by-cons (length {A = ℕ}) places scopes)
 
 pub houses_of_places : (scopes : List (List ℕ)) (slots : ℕ) → start_at scopes slots ≤ sum_by length scopes
 houses_of_places scopes slots = omega (arith, counted_twice (scope_of scopes) (length scopes) slots, lengths_sum scopes)
@@ -135,7 +136,9 @@ module _ (slots : ℕ) (scopes : List (List ℕ)) (are : AreScopes slots scopes)
     unfolding sum_below
     index-room = record {
       some = λ c on. omega (arith, index.begins c (within on), one_more c on);
-      within = λ c on. omega (arith, index.begins c (within on), index.long, count_below-more (holds c) (suc house) (length scopes) lt, sum_below-more (number_at scopes (length scopes)) (suc c) slots (within on));
+      within =
+          λ c on.
+          omega (arith, index.begins c (within on), index.long, count_below-more (holds c) (suc house) (length scopes) lt, sum_below-more (number_at scopes (length scopes)) (suc c) slots (within on));
       apart = λ c d on_c on_d e. slot-apart (number_at scopes (length scopes)) c d
           (counted (holds c) house (length scopes) lt on_c) (counted (holds d) house (length scopes) lt on_d)
           (omega (arith, index.begins c (within on_c), one_more c on_c, index.begins d (within on_d), one_more d on_d));
@@ -168,7 +171,8 @@ unfolding has_place
 put-none = grind (arith, common_steps)
 
 module _ (house : ℕ) (places : List ℕ) (k : ℕ) (lt : k < length places) (different : AreDifferent places) (starts houses starts' houses' : List ℕ)
-    (place_in : slice_index places k < length starts) (room : IsRoom starts (length houses) places) (was : IsPut house (take k places) starts houses starts' houses') where
+    (place_in : slice_index places k < length starts) (room : IsRoom starts (length houses) places)
+    (was : IsPut house (take k places) starts houses starts' houses') where
   abbrev place : ℕ
   place = slice_index places k
 
@@ -181,7 +185,9 @@ module _ (house : ℕ) (places : List ℕ) (k : ℕ) (lt : k < length places) (d
   pub put-room : (0 < slice_index starts' place) × (slice_index starts' place - 1 < length houses')
   put-room = (omega (arith, put-start, room.some place here), omega (arith, put-start, room.some place here, room.within place here, was.long))
 
-  pub put-more : IsPut house (take (k + 1) places) starts houses (set starts' place (slice_index starts' place - 1)) (set houses' (slice_index starts' place - 1) house)
+  pub put-more : IsPut house (take (k + 1) places) starts houses
+      (set starts' place (slice_index starts' place - 1))
+      (set houses' (slice_index starts' place - 1) house)
   put-more = record {
     as_many = length-set starts' place _ ∙ was.as_many;
     long = length-set houses' _ house ∙ was.long;
@@ -241,7 +247,8 @@ nth-at scopes c k houses at lt =
 
 pub next-at : {scopes : List (List ℕ)} (c from : ℕ) {houses : List ℕ} (answer : Option ℕ) → AreHousesAt scopes c houses → IsFirstFrom houses from answer
     → IsNext (λ h. has_place (scope_of scopes h) c) (length scopes) from answer
-next-at {scopes} c from None at none = λ h late lt. grind (arith, common_steps, counted (λ j. has_place (scope_of scopes j) c) h (length scopes) lt, none (number_at scopes h c), at.each h lt, at.as_many)
+next-at {scopes} c from None at none =
+    λ h late lt. grind (arith, common_steps, counted (λ j. has_place (scope_of scopes j) c) h (length scopes) lt, none (number_at scopes h c), at.each h lt, at.as_many)
 next-at {scopes} c from {houses} (Some h) at (k, lt, is, late, before) =
     let w = rw is at (nth-at scopes c k houses at lt) in
     (late, w.0, w.1, λ j m lj. grind (arith, common_steps, counted (λ i. has_place (scope_of scopes i) c) j h lj, before (number_at scopes j c), at.each j))

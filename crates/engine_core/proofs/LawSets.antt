@@ -19,13 +19,58 @@ use Rattle.engine_core.proofs.SweepLemmas.{total-bound}
 use Rattle.engine_core.proofs.TrailLemmas.{put_back-none, trail-none}
 use Rattle.engine_core.proofs.WaitLemmas.{lowest_left, none_left, waiting-enqueue, waiting-dequeue}
 
-pub ruleset house_index_laws = (counted-few, counted-place, has_place-none, number_at-none, longest-none, longest-more, not_taken, summed-none, summed-sum, summed-more, sum_below-more, ascends, ends_in, houses-at, next-at, nth-at, scopes-wider, index-none, counts_same, houses_of_places, index-room, index-turn, put-none, put-room, put-more, number_at-more, few-listed, length-set)
+pub ruleset house_index_laws = (
+  counted-few,
+  counted-place,
+  has_place-none,
+  number_at-none,
+  longest-none,
+  longest-more,
+  not_taken,
+  summed-none,
+  summed-sum,
+  summed-more,
+  sum_below-more,
+  ascends,
+  ends_in,
+  houses-at,
+  next-at,
+  nth-at,
+  scopes-wider,
+  index-none,
+  counts_same,
+  houses_of_places,
+  index-room,
+  index-turn,
+  put-none,
+  put-room,
+  put-more,
+  number_at-more,
+  few-listed,
+  length-set,
+)
 
 pub ruleset house_rules_laws = (scopes-fit, table-houses, table-longest, upto-first)
 
-pub ruleset house_list_laws = (last-le, pieces-joined, closed-in, ends-close, listed-close, length-pieces, total-closed, ends-more, listed-more, piece-at, piece-ends, last-at, others-skip, others-push)
+pub ruleset house_list_laws =
+    (last-le, pieces-joined, closed-in, ends-close, listed-close, length-pieces, total-closed, ends-more, listed-more, piece-at, piece-ends, last-at, others-skip, others-push)
 
-pub ruleset laws_laws = (by_houses-lawful, bound_enough, closure_inside, closure_closed, closure_largest, outcome-true, shown_from_test, test_from_shown, pick-is, walk-once, found_iff, outcome-counts, spent-counts, walk-unfold)
+pub ruleset laws_laws = (
+  by_houses-lawful,
+  bound_enough,
+  closure_inside,
+  closure_closed,
+  closure_largest,
+  outcome-true,
+  shown_from_test,
+  test_from_shown,
+  pick-is,
+  walk-once,
+  found_iff,
+  outcome-counts,
+  spent-counts,
+  walk-unfold,
+)
 
 pub ruleset trials_laws = (tried-first, trials-counted)
 

@@ -17,7 +17,9 @@ frame_at-here frames n f lt = get_or-set_same frames n f (record { cell = 0; nex
 frame_at-other : (frames : List Frame) (n k : ℕ) (f : Frame) → k ≢ n → frame_at (set frames n f) k ≡ frame_at frames k
 frame_at-other frames n k f ne = get_or-set_other frames n k f (record { cell = 0; next = 0 }) ne
 
-levels-same : (s s' : Standing) (frames frames' : List Frame) (n : ℕ) → ((k : ℕ) → k < n → level_at s k (frame_at frames k) ≡ level_at s' k (frame_at frames' k)) → levels_of s frames n ≡ levels_of s' frames' n
+levels-same : (s s' : Standing) (frames frames' : List Frame) (n : ℕ)
+    → ((k : ℕ) → k < n → level_at s k (frame_at frames k) ≡ level_at s' k (frame_at frames' k))
+    → levels_of s frames n ≡ levels_of s' frames' n
 unfolding levels_of
 levels-same s s' frames frames' zero same = refl
 levels-same s s' frames frames' (suc n) same = rw (same n (omega arith), levels-same s s' frames frames' n (λ k lt. same k (omega arith)))
@@ -36,7 +38,8 @@ levels-back : (s s' : Standing) (frames : List Frame) (n : ℕ) → ((k : ℕ) �
 levels-back s s' frames n back = levels-same s' s frames frames n (λ k lt. level-with s' k (frame_at frames k) (back k lt))
 
 -- ---- values are struck
-pub levels-onward : {p : RuleSystem} (s s' : Standing) {frames : List Frame} (n : ℕ) → IsReady p s frames n → IsOnward s s' → levels_of s' frames n ≡ levels_of s frames n
+pub levels-onward : {p : RuleSystem} (s s' : Standing) {frames : List Frame} (n : ℕ)
+    → IsReady p s frames n → IsOnward s s' → levels_of s' frames n ≡ levels_of s frames n
 levels-onward s s' {frames} n ready onward = levels-back s s' frames n (λ k lt. onward.back k (let m = ready.marked in omega arith))
 
 pub ready-onward : {p : RuleSystem} {s s' : Standing} {frames : List Frame} {n : ℕ} → IsReady p s frames n → IsOnward s s' → IsReady p s' frames n
@@ -48,12 +51,16 @@ pub levels-push : {s s' : Standing} (frames : List Frame) {n cell : ℕ} → n <
 unfolding levels_of
 levels-push frames lt m = grind (arith, common_steps, add-one, frame_at-here, frame_at-other, level-with, levels-same)
 
-pub ready-push : {p : RuleSystem} {s s' : Standing} {frames : List Frame} {n cell : ℕ} → IsReady p s frames n → n < length frames → IsCheckpoint s s' n → IsOpen p (record { board = s.board; cell = cell; next = 0 }) n
+pub ready-push : {p : RuleSystem} {s s' : Standing} {frames : List Frame} {n cell : ℕ}
+    → IsReady p s frames n → n < length frames → IsCheckpoint s s' n
+    → IsOpen p (record { board = s.board; cell = cell; next = 0 }) n
     → IsReady p s' (set frames n (record { cell = cell; next = 0 })) (n + 1)
 ready-push ready lt m opened = grind (arith, common_steps, cases_eq, frame_at-here, frame_at-other, length-set, level-with)
 
 -- ---- the innermost frame
-levels-top : (s : Standing) (frames : List Frame) {n : ℕ} → 0 < n → levels_of s frames n ≡ level_at s (n - 1) (frame_at frames (n - 1)) ∷ levels_of s frames (n - 1)
+levels-top : (s : Standing) (frames : List Frame) {n : ℕ} → 0 < n
+    → levels_of s frames n ≡ level_at s (n - 1) (frame_at frames (n - 1)) ∷ levels_of s frames
+    (n - 1)
 unfolding levels_of
 levels-top s frames lt = grind (arith, common_steps)
 
@@ -63,7 +70,8 @@ levels-retried : (s : Standing) (frames : List Frame) (n next : ℕ) → 0 < n �
 levels-retried s frames n next pos lt e = grind (arith, common_steps, frame_at-here, frame_at-other, level-with, levels-same, levels-top)
 
 -- the innermost level is open
-pub top-open : {p : RuleSystem} {s : Standing} {frames : List Frame} {n : ℕ} → IsReady p s frames n → 0 < n → ((frame_at frames (n - 1)).cell < p.cells) × (n - 1 < p.cells)
+pub top-open : {p : RuleSystem} {s : Standing} {frames : List Frame} {n : ℕ} → IsReady p s frames n
+    → 0 < n → ((frame_at frames (n - 1)).cell < p.cells) × (n - 1 < p.cells)
 top-open {p = p} {n = n} ready pos = let o = ready.open_levels (n - 1) (omega arith) in ((open-cell o).within, open-room o)
 
 -- ---- one turn of the search: the position s was taken back to s1
@@ -101,7 +109,8 @@ module _ {p : RuleSystem} {s s1 : Standing} {frames : List Frame} {n : ℕ} (rea
   turn-done none = pending-back ∙ pending-pop p _ outside none
 
   -- else one value is left in the cell
-  module _ {s2 : Standing} (v : ℕ) (next : IsNext (s1.board top.cell) p.values top.next (Some v)) (left : s2.board ≡ only s1.board top.cell v) (onward : IsOnward s1 s2) where
+  module _ {s2 : Standing} (v : ℕ) (next : IsNext (s1.board top.cell) p.values top.next (Some v))
+      (left : s2.board ≡ only s1.board top.cell v) (onward : IsOnward s1 s2) where
     -- with its next value moved on
     abbrev moved : List Frame
     moved = set frames (n - 1) (record { cell = top.cell; next = v + 1 })
@@ -127,7 +136,9 @@ module _ {p : RuleSystem} {s s1 : Standing} {frames : List Frame} {n : ℕ} (rea
     turn-trial laws f d = record {
       marks_are = let m = marks in cc;
       closed_but = rw left (closed-but_only p laws s1.board top.cell v best.within next.1 next.2 open-back.closed open-back.alive);
-      none_before = λ two. rw left (pick-inside top.cell p.values _ s1.board (only-inside s1.board top.cell v) (pick-before p.cells p.values s1.board two open-back.picked));
+      none_before =
+          λ two. rw left (pick-inside top.cell p.values _ s1.board (only-inside s1.board top.cell v)
+          (pick-before p.cells p.values s1.board two open-back.picked));
       single = rw left (let s = open-back.single in omega (arith, singles-only p s1.board top.cell v best.within next.1 next.2 best.two));
       deep = omega (arith, open-room open-back);
     }

@@ -31,7 +31,9 @@ module _ {p : RuleSystem} {scopes : List (List ℕ)} {table : Table} (listed : t
   table-houses = rw listed (sym are.as_many)
 
   -- what the table says of a place, the rules say of it
-  pub table-says : (place : ℕ) (says : (ℕ → Bool) → ℕ → Type 0) → says (λ h. has_place (scope_of table.scopes h) place) (length table.scopes) → says (λ h. has_place (p.scope h) place) p.houses
+  pub table-says : (place : ℕ) (says : (ℕ → Bool) → ℕ → Type 0)
+      → says (λ h. has_place (scope_of table.scopes h) place) (length table.scopes)
+      → says (λ h. has_place (p.scope h) place) p.houses
   table-says place says said = rw (fun_ext (λ h. ap (λ xs. has_place xs place) (table-scope h)), table-houses) at said
 
   pub table-longest : longest (scope_of table.scopes) (length table.scopes) ≡ longest p.scope p.houses
@@ -39,9 +41,11 @@ module _ {p : RuleSystem} {scopes : List (List ℕ)} {table : Table} (listed : t
 
   -- what it lists as the houses of a place are those that have it, ascending
   pub housed-at : (place : ℕ) {k : ℕ} (at : List ℕ) → AreHousesAt table.scopes place at → k < length at
-      → (slice_index at k < p.houses) × (has_place (p.scope (slice_index at k)) place ≡ true) × (count_below (λ h. has_place (p.scope h) place) (slice_index at k) ≡ k)
+      → (slice_index at k < p.houses) × (has_place (p.scope (slice_index at k)) place ≡ true)
+      × (count_below (λ h. has_place (p.scope h) place) (slice_index at k) ≡ k)
   housed-at place {k} at houses lt = table-says place
-      (λ test n. (slice_index at k < n) × (test (slice_index at k) ≡ true) × (count_below test (slice_index at k) ≡ k)) (nth-at table.scopes place k at houses lt)
+      (λ test n. (slice_index at k < n) × (test (slice_index at k) ≡ true)
+      × (count_below test (slice_index at k) ≡ k)) (nth-at table.scopes place k at houses lt)
 
   pub housed-all : (place : ℕ) (at : List ℕ) → AreHousesAt table.scopes place at → count_below (λ h. has_place (p.scope h) place) p.houses ≡ length at
   housed-all place at houses = table-says place (λ test n. count_below test n ≡ length at) (sym houses.as_many)
@@ -66,7 +70,8 @@ module _ {p : RuleSystem} {scopes : List (List ℕ)} {table : Table} (listed : t
     }
 
 -- the board that is left where the cells of a house keep what is kept of their sets
-pub kept-after : (p : RuleSystem) (laws : IsLawful p) {h : ℕ} {K : Candidates} {kept : List ℕ} → h < p.houses → IsWithin p.cells p.values K → IsKept p h K true kept
+pub kept-after : (p : RuleSystem) (laws : IsLawful p) {h : ℕ} {K : Candidates} {kept : List ℕ}
+    → h < p.houses → IsWithin p.cells p.values K → IsKept p h K true kept
     → kept_in (p.scope h) kept (length (p.scope h)) K ≡ after p h K
 unfolding kept_in strikes_at after
 kept-after p laws {h} {K} {kept = kept} lth within is = fun_ext λ c. fun_ext λ v. elim (cases_Bool (K c v)) [

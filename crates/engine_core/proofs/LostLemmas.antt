@@ -11,19 +11,23 @@ use Rattle.engine_core.proofs.ScopeLemmas.{IsUpto, upto-next}
 use Rattle.engine_core.proofs.SetLemmas.{counts-differ}
 
 -- a cell that is left alone has as many values as before
-counts-left : (p : RuleSystem) (h j place left : ℕ) (L : Candidates) → slice_index (p.scope h) j ≢ place → counts_of p h (left_by L place left) j ≡ counts_of p h L j
+counts-left : (p : RuleSystem) (h j place left : ℕ) (L : Candidates)
+    → slice_index (p.scope h) j ≢ place → counts_of p h (left_by L place left) j ≡ counts_of p h L j
 unfolding counts_of
 counts-left p h j place left L ne = count_below-same _ _ p.values (λ v lt. left-others L place left _ v ne)
 
 -- the next cell loses a value, which is noted
-pub lost-more : (p : RuleSystem) (laws : IsLawful p) (h k : ℕ) (A B C : Trail) {before : ℕ} (left : ℕ) → h < p.houses → k < length (p.scope h) → A.len ≤ B.len → C.len ≡ B.len + 1
+pub lost-more : (p : RuleSystem) (laws : IsLawful p) (h k : ℕ) (A B C : Trail) {before : ℕ}
+    (left : ℕ) → h < p.houses → k < length (p.scope h) → A.len ≤ B.len → C.len ≡ B.len + 1
     → change_at C.changes B.len ≡ (slice_index (p.scope h) k, before) → ((m : ℕ) → m < B.len → change_at C.changes m ≡ change_at B.changes m)
     → has C.board ≡ left_by (has B.board) (slice_index (p.scope h) k) left → counts_of p h (has A.board) k ≢ counts_of p h (has C.board) k
     → AreLost p h k A B → AreLost p h (k + 1) A C
 lost-more p laws h k A B C left lth lt grows longer noted earlier board ne i = record { only = only; all = all }
   where
     same : (j : ℕ) → j < k → counts_of p h (has C.board) j ≡ counts_of p h (has B.board) j
-    same j less = ap (λ L. counts_of p h L j) board ∙ counts-left p h j _ left (has B.board) (λ e. let is = laws.scope_distinct h j k lth (omega arith) lt e in omega arith)
+    same j less = ap (λ L. counts_of p h L j) board
+        ∙ counts-left p h j _ left (has B.board)
+        (λ e. let is = laws.scope_distinct h j k lth (omega arith) lt e in omega arith)
 
     only : (m : ℕ) → A.len ≤ m → m < C.len
         → (j : ℕ) × (j < k + 1) × (slice_index (p.scope h) j ≡ (change_at C.changes m).0) × (counts_of p h (has A.board) j ≢ counts_of p h (has C.board) j)
@@ -48,7 +52,8 @@ lost-differ p h k K L set left upto was is ne =
     counts-differ was (rw same is) (λ v on. after_inside p h K _ v (rw same at on)) ne
 
 -- or it loses none
-pub lost-same : (p : RuleSystem) (laws : IsLawful p) (h k : ℕ) (A B : Trail) → h < p.houses → k < length (p.scope h) → IsUpto p h k (has A.board) (has B.board) → AreLost p h k A B
+pub lost-same : (p : RuleSystem) (laws : IsLawful p) (h k : ℕ) (A B : Trail) → h < p.houses
+    → k < length (p.scope h) → IsUpto p h k (has A.board) (has B.board) → AreLost p h k A B
     → AreLost p h (k + 1) A B
 unfolding counts_of
 lost-same p laws h k A B lth lt upto i =
@@ -62,7 +67,8 @@ lost-same p laws h k A B lth lt upto i =
     }
 
 -- ---- what is asked of the changes is asked of the cells that lost a value
-any-same : (p q : ℕ → Bool) (m n : ℕ) → ((k : ℕ) → k < m → p k ≡ true → any_below q n ≡ true) → ((k : ℕ) → k < n → q k ≡ true → any_below p m ≡ true) → any_below p m ≡ any_below q n
+any-same : (p q : ℕ → Bool) (m n : ℕ) → ((k : ℕ) → k < m → p k ≡ true → any_below q n ≡ true)
+    → ((k : ℕ) → k < n → q k ≡ true → any_below p m ≡ true) → any_below p m ≡ any_below q n
 any-same p q m n there back = grind (arith, common_steps, any_below-some p m, any_below-some q n, cases_Bool (any_below p m), cases_Bool (any_below q n))
 
 pub lost-any : (p : RuleSystem) {h : ℕ} (n : ℕ) (A B : Trail) (asks : ℕ → Bool) → AreLost p h n A B
@@ -85,10 +91,15 @@ since-first asks from = elim (cases_Bool (any_below (λ m. nat_le from m && asks
   | inr none ↦ none
 ]
 
-pub since-more : (asks : ℕ → Bool) (from n : ℕ) → from ≤ n → any_below (λ m. nat_le from m && asks m) (n + 1) ≡ (any_below (λ m. nat_le from m && asks m) n || asks n)
-since-more asks from n le = any_below-more (λ m. nat_le from m && asks m) n ∙ ap (λ b. any_below (λ m. nat_le from m && asks m) n || (b && asks n)) (le-leb from n le)
+pub since-more : (asks : ℕ → Bool) (from n : ℕ) → from ≤ n
+    → any_below (λ m. nat_le from m && asks m)
+    (n + 1) ≡ (any_below (λ m. nat_le from m && asks m) n || asks n)
+since-more asks from n le =
+    any_below-more (λ m. nat_le from m && asks m) n
+    ∙ ap (λ b. any_below (λ m. nat_le from m && asks m) n || (b && asks n)) (le-leb from n le)
 
-pub since-called : (p : RuleSystem) (t : Trail) {K : Candidates} {from n : ℕ} {before now after : ℕ → Bool} → from ≤ n → AreCalled p K (is_since p t from n) before now
+pub since-called : (p : RuleSystem) (t : Trail) {K : Candidates} {from n : ℕ}
+    {before now after : ℕ → Bool} → from ≤ n → AreCalled p K (is_since p t from n) before now
     → AreCalled p K (λ j. has_place (p.scope j) (change_at t.changes n).0) now after → AreCalled p K (is_since p t from (n + 1)) before after
 since-called p t {K} {from} {n} {before} {now} {after} le first next =
     called-same p K _ _ before after (λ j lt. sym (since-more (λ m. has_place (p.scope j) (change_at t.changes m).0) from n le))

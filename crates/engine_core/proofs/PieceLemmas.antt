@@ -14,7 +14,12 @@ pub listed-more : (xs ends ys : List ℕ) → AreEnds (length xs) 0 ends
     → listed (xs ++ ys) ends ≡ record { closed = (listed xs ends).closed; begun = (listed xs ends).begun ++ ys }
 listed-more xs ends ys e = rw (pieces-more xs ys 0 ends e, drop-append-le (last_end 0 ends) xs ys ((last-le (length xs) 0 ends e).1)) refl
 
-pub listed-close : (xs ends : List ℕ) → listed xs (ends ++ length xs ∷ []) ≡ record { closed = (listed xs ends).closed ++ (listed xs ends).begun ∷ []; begun = [] }
+pub listed-close : (xs ends : List ℕ)
+    → listed xs (ends ++ length xs ∷ []) ≡ record {
+      closed =
+          (listed xs ends).closed ++ (listed xs ends).begun ∷ [];
+      begun = [];
+    }
 listed-close xs ends = grind (arith, common_steps, between_to_end, last-close, pieces-close)
 
 pub closed-in : (xs ends : List ℕ) {h : ℕ} → h < length (listed xs ends).closed → h < length ends
@@ -62,10 +67,13 @@ between-split : (xs : List ℕ) (a b : ℕ) {c : ℕ} → a ≤ b → b ≤ c �
 between-split xs a b {c} low high =
     let whole : b - a + (c - b) ≡ c - a = omega arith in
     let past : a + (b - a) ≡ b = omega arith in
-    rw (sym whole) (take-split (b - a) (c - b) (drop a xs)) ∙ ap (λ l. take (b - a) (drop a xs) ++ take (c - b) l) (drop-past xs a (b - a) ∙ ap (λ n. drop n xs) past)
+    rw (sym whole) (take-split (b - a) (c - b) (drop a xs))
+    ∙ ap (λ l. take (b - a) (drop a xs) ++ take (c - b) l)
+    (drop-past xs a (b - a) ∙ ap (λ n. drop n xs) past)
 
 -- the pieces together are what they are pieces of
-pub pieces-joined : (xs : List ℕ) (from : ℕ) (ends : List ℕ) → AreEnds (length xs) from ends → between from (last_end from ends) xs ≡ concat (pieces xs from ends)
+pub pieces-joined : (xs : List ℕ) (from : ℕ) (ends : List ℕ) → AreEnds (length xs) from ends
+    → between from (last_end from ends) xs ≡ concat (pieces xs from ends)
 pieces-joined xs from [] e = between_none xs from
 pieces-joined xs from (end ∷ ends) (low, e) =
     let w = last-le (length xs) end ends e in
@@ -75,16 +83,20 @@ pieces-joined xs from (end ∷ ends) (low, e) =
 abbrev others : ℕ → List ℕ → List ℕ
 others but xs = filter (λ d. not (eqb d but)) xs
 
-others-next : (but from k x : ℕ) (xs : List ℕ) → from ≤ k → k < length xs → x ≡ get_or xs k x → others but (between from (k + 1) xs) ≡ others but (between from k xs) ++ others but (x ∷ [])
+others-next : (but from k x : ℕ) (xs : List ℕ) → from ≤ k → k < length xs → x ≡ get_or xs k x
+    → others but (between from (k + 1) xs) ≡ others but (between from k xs) ++ others but (x ∷ [])
 others-next but from k x xs low lt is = rw (between_more xs from k x low lt, ← is) (filter-append (λ d. not (eqb d but)) (between from k xs) (x ∷ []))
 
-pub others-skip : (xs : List ℕ) {ys : List ℕ} {but from k x : ℕ} → from ≤ k → k < length xs → ys ≡ xs ++ filter (λ d. not (eqb d but)) (between from k xs) → x ≡ get_or ys k x → x ≡ but
+pub others-skip : (xs : List ℕ) {ys : List ℕ} {but from k x : ℕ} → from ≤ k → k < length xs
+    → ys ≡ xs ++ filter (λ d. not (eqb d but)) (between from k xs) → x ≡ get_or ys k x → x ≡ but
     → ys ≡ xs ++ filter (λ d. not (eqb d but)) (between from (k + 1) xs)
 others-skip xs {but} {from} {k} {x} low lt e is same =
     let at = is ∙ ap (λ l. get_or l k x) e ∙ get_or_append_left xs (others but (between from k xs)) x k lt in
     rw (others-next but from k x xs low lt at, eq-eqb x but same, append-nil) e
 
-pub others-push : (xs : List ℕ) {ys : List ℕ} {but from k x : ℕ} → from ≤ k → k < length xs → ys ≡ xs ++ filter (λ d. not (eqb d but)) (between from k xs) → x ≡ get_or ys k x → (x ≡ but → ⊥)
+pub others-push : (xs : List ℕ) {ys : List ℕ} {but from k x : ℕ} → from ≤ k → k < length xs
+    → ys ≡ xs ++ filter (λ d. not (eqb d but)) (between from k xs) → x ≡ get_or ys k x
+    → (x ≡ but → ⊥)
     → ys ++ x ∷ [] ≡ xs ++ filter (λ d. not (eqb d but)) (between from (k + 1) xs)
 others-push xs {but} {from} {k} {x} low lt e is other =
     let at = is ∙ ap (λ l. get_or l k x) e ∙ get_or_append_left xs (others but (between from k xs)) x k lt in
@@ -96,13 +108,15 @@ added-grown {xs} {ys} more e few =
     let long : length ys ≡ length xs + length more = ap length e ∙ length-append xs more in
     record { kept = omega arith; few = omega arith }
 
-pub others-grown : {xs ys : List ℕ} (but from k : ℕ) {end : ℕ} → k ≤ end → end ≤ length xs → ys ≡ xs ++ filter (λ d. not (eqb d but)) (between from k xs) → IsGrown xs (end - from) ys
+pub others-grown : {xs ys : List ℕ} (but from k : ℕ) {end : ℕ} → k ≤ end → end ≤ length xs
+    → ys ≡ xs ++ filter (λ d. not (eqb d but)) (between from k xs) → IsGrown xs (end - from) ys
 others-grown {xs} but from k le within e =
     let all = between from k xs in
     added-grown (filter (λ d. not (eqb d but)) all) e
     (omega (arith, length-filter (λ d. not (eqb d but)) all, count_by-le-length (λ d. not (eqb d but)) all, length-between xs from k (omega arith)))
 
-pub grown-listed : {xs ys ends : List ℕ} {list : Listed} {n : ℕ} → IsListed xs ends → listed xs ends ≡ list → FitsPlaces list n → IsGrown xs n ys → IsListed ys ends
+pub grown-listed : {xs ys ends : List ℕ} {list : Listed} {n : ℕ} → IsListed xs ends
+    → listed xs ends ≡ list → FitsPlaces list n → IsGrown xs n ys → IsListed ys ends
 grown-listed {xs} {ys} {ends} l is fits g = record {
   are_ends = ends-more (length xs) (length ys) 0 ends g.kept l.are_ends;
   few_lists = l.few_lists;
@@ -114,7 +128,9 @@ grown-listed {xs} {ys} {ends} l is fits g = record {
 }
 
 -- the part of the places that a closed list is
-pub closed-is : (xs ends : List ℕ) {list : Listed} {h from end : ℕ} → AreEnds (length xs) 0 ends → listed xs ends ≡ list → h < length list.closed → from ≡ get_or (0 ∷ ends) h 0 → end ≡ get_or ends h end
+pub closed-is : (xs ends : List ℕ) {list : Listed} {h from end : ℕ} → AreEnds (length xs) 0 ends
+    → listed xs ends ≡ list → h < length list.closed → from ≡ get_or (0 ∷ ends) h 0
+    → end ≡ get_or ends h end
     → (between from end xs ≡ get_or list.closed h []) × (end ≤ length xs)
 closed-is xs ends {h} {end} e is lt low high =
     let lists = ap (λ (v : Listed). length v.closed) is in

@@ -57,7 +57,8 @@ none-in : (c : ℕ) → 0 ≡ number_at [] 0 c
 unfolding count_below
 none-in c = refl
 
-pub counted-in : {cells : ℕ} (scopes : List (List ℕ)) (c : ℕ) → AreScopes cells scopes → count_by (λ d. eqb d c) (concat scopes) ≡ number_at scopes (length scopes) c
+pub counted-in : {cells : ℕ} (scopes : List (List ℕ)) (c : ℕ) → AreScopes cells scopes
+    → count_by (λ d. eqb d c) (concat scopes) ≡ number_at scopes (length scopes) c
 counted-in [] c are = none-in c
 counted-in (s ∷ scopes) c are =
     sum_by-append (λ d. cond (eqb d c) 1 0) s (concat scopes)

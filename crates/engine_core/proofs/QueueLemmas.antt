@@ -17,7 +17,8 @@ scope-in {p} laws {h} k lt lk = laws.scope_within h _ lt (has_place-here (p.scop
 
 -- ---- what a visit leaves in the cells of other houses
 -- a cell outside the house is left alone
-pub after-outside : {p : RuleSystem} (laws : IsLawful p) {h : ℕ} (K : Candidates) (c v : ℕ) → h < p.houses → has_place (p.scope h) c ≡ false → K c v ≡ true → after p h K c v ≡ true
+pub after-outside : {p : RuleSystem} (laws : IsLawful p) {h : ℕ} (K : Candidates) (c v : ℕ)
+    → h < p.houses → has_place (p.scope h) c ≡ false → K c v ≡ true → after p h K c v ≡ true
 unfolding after
 after-outside laws K c v lt out on = grind (arith, common_steps, and_from, false_from_ne_true, not_from_false, true≢false)
 
@@ -35,7 +36,8 @@ not_struck : (p : RuleSystem) (h : ℕ) (K : Candidates) (c v : ℕ) → after p
 unfolding after
 not_struck p h K c v on = not-true (p.strikes h K c v) (and_parts (K c v) (not (p.strikes h K c v)) on).1
 
-pub rested_after : (p : RuleSystem) (laws : IsLawful p) (h : ℕ) (K : Candidates) (waits : ℕ → Bool) → h < p.houses → IsWithin p.cells p.values K → IsRested p K waits
+pub rested_after : (p : RuleSystem) (laws : IsLawful p) (h : ℕ) (K : Candidates) (waits : ℕ → Bool)
+    → h < p.houses → IsWithin p.cells p.values K → IsRested p K waits
     → IsRested p (after p h K) (woken p h (counts_of p h K) (after p h K) (but waits h))
 unfolding woken but
 rested_after p laws h K waits lth within rested = λ j c v ltj asleep on.
@@ -45,12 +47,16 @@ rested_after p laws h K waits lth within rested = λ j c v ltj asleep on.
     grind (arith, common_steps, eqb-true, not_struck p h K c v on, within c v, after_inside p h K c v on, rested j c v ltj, settles, still)
 
 -- where the houses that a closing begins with were called for, each other one strikes nothing
-pub rested_from : {p : RuleSystem} {K : Candidates} (from : Option ℕ) {waits : ℕ → Bool} → IsClosedBut p K from → AreCalled p K (waits_from p from) (λ j. false) waits → IsRested p K waits
+pub rested_from : {p : RuleSystem} {K : Candidates} (from : Option ℕ) {waits : ℕ → Bool}
+    → IsClosedBut p K from → AreCalled p K (waits_from p from) (λ j. false) waits
+    → IsRested p K waits
 unfolding waits_from
 rested_from from e h = grind (arith, common_steps)
 
 -- a closed board whose cell lost all values but one is closed around it
-pub closed-but_only : (p : RuleSystem) (laws : IsLawful p) (K : Candidates) (cell v : ℕ) → cell < p.cells → v < p.values → K cell v ≡ true → IsClosed p K → is_dead p.cells p.values K ≡ false → IsClosedBut p (only K cell v) (Some cell)
+pub closed-but_only : (p : RuleSystem) (laws : IsLawful p) (K : Candidates) (cell v : ℕ)
+    → cell < p.cells → v < p.values → K cell v ≡ true → IsClosed p K
+    → is_dead p.cells p.values K ≡ false → IsClosedBut p (only K cell v) (Some cell)
 closed-but_only p laws K cell v lt ltv on closed alive = record {
   place_in = lt;
   closed = λ h c w lth out still.
@@ -74,7 +80,10 @@ grow x y s pos lt = let h : (y - 1 + 1) * s ≤ (x - 1) * s = mul-le-mul_right s
 
 -- the cell fell, and the house has it and is sent for
 sent : RuleSystem → ℕ → Candidates → ℕ → ℕ → Bool
-sent p h K c j = (not (eqb (count_below (K c) p.values) (count_below (after p h K c) p.values)) && (has_place (p.scope h) c && has_place (p.scope j) c)) && not (p.settled && eqb j h)
+sent p h K c j =
+    (not (eqb (count_below (K c) p.values)
+    (count_below (after p h K c) p.values)) && (has_place (p.scope h) c && has_place (p.scope j) c))
+    && not (p.settled && eqb j h)
 
 -- so many houses are sent for by a cell
 sent_few : (p : RuleSystem) (h : ℕ) (K : Candidates) (c : ℕ) → h < p.houses → count_below (sent p h K c) p.houses ≤ share p c
@@ -88,9 +97,15 @@ sent_few p h K c lth =
     sent_of : (j : ℕ) → sent p h K c j ≡ true → (has_place (p.scope h) c ≡ true) × (has_place (p.scope j) c ≡ true)
     sent_of j on = grind (arith, common_steps)
 
-unsent : (p : RuleSystem) (h : ℕ) (K : Candidates) (c : ℕ) → count_below (K c) p.values ≡ count_below (after p h K c) p.values → count_below (sent p h K c) p.houses ≡ 0
+unsent : (p : RuleSystem) (h : ℕ) (K : Candidates) (c : ℕ)
+    → count_below (K c) p.values ≡ count_below (after p h K c) p.values
+    → count_below (sent p h K c) p.houses ≡ 0
 unfolding sent
-unsent p h K c same = count_below-none (sent p h K c) p.houses (λ j _. and_left _ (not (p.settled && eqb j h)) (and_left _ (has_place (p.scope h) c && has_place (p.scope j) c) (not_from_true _ (eq-eqb _ _ same))))
+unsent p h K c same =
+    count_below-none (sent p h K c) p.houses
+    (λ j _. and_left _ (not (p.settled && eqb j h))
+    (and_left _ (has_place (p.scope h) c && has_place (p.scope j) c)
+    (not_from_true _ (eq-eqb _ _ same))))
 
 -- what a cell's houses cost is paid by the values that it lost
 cell_pays : (p : RuleSystem) {h : ℕ} (K : Candidates) (c : ℕ) → h < p.houses → 0 < count_below (after p h K c) p.values
@@ -115,7 +130,8 @@ unfolding but
 one_less waits n h lt waiting =
     count_below-lt (λ j. waits j && not (eqb j h)) waits n h (λ j _ on. (and_parts (waits j) _ on).0) lt (grind (arith, common_steps, eq-eqb h h refl)) waiting
 
-pub visit_pays : (p : RuleSystem) (laws : IsLawful p) (h : ℕ) (K : Candidates) (waits : ℕ → Bool) → h < p.houses → waits h ≡ true → is_dead p.cells p.values (after p h K) ≡ false
+pub visit_pays : (p : RuleSystem) (laws : IsLawful p) (h : ℕ) (K : Candidates) (waits : ℕ → Bool)
+    → h < p.houses → waits h ≡ true → is_dead p.cells p.values (after p h K) ≡ false
     → visits_left p (after p h K) (woken p h (counts_of p h K) (after p h K) (but waits h)) + 1 ≤ visits_left p K waits
 unfolding visits_left
 visit_pays p laws h K waits lth waiting alive =
@@ -145,7 +161,8 @@ pub unwoken : (x : Bool) → x ≡ (x || false)
 unwoken x = sym or_false
 
 -- a cell that lost values is empty where it has none, and one that lost none counts for nothing
-pub empties_then : (p : RuleSystem) (h : ℕ) (before : ℕ → ℕ) (K : Candidates) (k : ℕ) {d d' now : Bool} → d' ≡ (d || now) → d ≡ any_below (empties p h before K) k
+pub empties_then : (p : RuleSystem) (h : ℕ) (before : ℕ → ℕ) (K : Candidates) (k : ℕ)
+    {d d' now : Bool} → d' ≡ (d || now) → d ≡ any_below (empties p h before K) k
     → (before k ≡ count_below (K (slice_index (p.scope h) k)) p.values → ⊥) → now ≡ eqb (count_below (K (slice_index (p.scope h) k)) p.values) 0
     → d' ≡ any_below (empties p h before K) (k + 1)
 unfolding counts_of
@@ -157,7 +174,9 @@ unfolding counts_of
 empties_else p h before K k e f same = grind (arith, common_steps, and_left, any_below-more, eq-eqb, not_from_true, unwoken)
 
 -- ---- one turn of the queue
-visits_left-fewer : (p : RuleSystem) (K : Candidates) (waits waits' : ℕ → Bool) → ((j : ℕ) → j < p.houses → waits j ≡ true → waits' j ≡ true) → visits_left p K waits ≤ visits_left p K waits'
+visits_left-fewer : (p : RuleSystem) (K : Candidates) (waits waits' : ℕ → Bool)
+    → ((j : ℕ) → j < p.houses → waits j ≡ true → waits' j ≡ true)
+    → visits_left p K waits ≤ visits_left p K waits'
 unfolding visits_left
 visits_left-fewer p K waits waits' fewer = let le = count_below-le waits waits' p.houses fewer in omega arith
 
@@ -165,14 +184,16 @@ pub visits_left-pos : (p : RuleSystem) (K : Candidates) (waits : ℕ → Bool) (
 unfolding visits_left
 visits_left-pos p K waits h lt on = let some = count_below-pos waits p.houses h lt on in omega arith
 
-pub turn_enough : (p : RuleSystem) (laws : IsLawful p) (h : ℕ) (K K' : Candidates) {waits waits' : ℕ → Bool} (visits : ℕ) → h < p.houses → waits h ≡ true → K' ≡ after p h K
+pub turn_enough : (p : RuleSystem) (laws : IsLawful p) (h : ℕ) (K K' : Candidates)
+    {waits waits' : ℕ → Bool} (visits : ℕ) → h < p.houses → waits h ≡ true → K' ≡ after p h K
     → IsWoken p h K K' waits waits' → visits_left p K waits + visits ≤ p.bound
     → is_dead p.cells p.values K' ≡ false → visits_left p K' waits' + (visits + 1) ≤ p.bound
 turn_enough p laws h K K' {waits} {waits'} visits lth waiting e woke enough alive =
     let pays = visit_pays p laws h K waits lth waiting (rw e at alive) in
     let less = visits_left-fewer p K' waits' (woken p h (counts_of p h K) K' (but waits h)) woke.fewer in grind (arith, common_steps)
 
-pub turn_rested : {p : RuleSystem} (laws : IsLawful p) {h : ℕ} {K K' : Candidates} {waits waits' : ℕ → Bool} → h < p.houses → IsWithin p.cells p.values K → K' ≡ after p h K
+pub turn_rested : {p : RuleSystem} (laws : IsLawful p) {h : ℕ} {K K' : Candidates}
+    {waits waits' : ℕ → Bool} → h < p.houses → IsWithin p.cells p.values K → K' ≡ after p h K
     → IsWoken p h K K' waits waits' → IsRested p K waits → IsRested p K' waits'
 turn_rested laws lth within e woke rested = grind (arith, common_steps, cases_Bool, rested_after)
 

@@ -6,7 +6,8 @@ use Rattle.engine_core.proofs.Common.{true, ℕ, ◌<◌, ◌∙◌, ◌≡◌, 
 use Rattle.engine_core.proofs.PickLemmas.{pick-fewest}
 use Rattle.engine_core.proofs.ClosingLemmas.{closure_closed}
 
-pub singles-only : (p : RuleSystem) (K : Candidates) (cell v : ℕ) → cell < p.cells → v < p.values → K cell v ≡ true → 2 ≤ count_below (K cell) p.values → singles p K < singles p (only K cell v)
+pub singles-only : (p : RuleSystem) (K : Candidates) (cell v : ℕ) → cell < p.cells → v < p.values
+    → K cell v ≡ true → 2 ≤ count_below (K cell) p.values → singles p K < singles p (only K cell v)
 unfolding singles
 singles-only p K cell v ltc ltv on two =
     let few = count_below-few (only K cell v cell) p.values (λ k j _ _ onk onj. only-at K cell v k onk ∙ sym (only-at K cell v j onj)) in
@@ -25,7 +26,8 @@ singles-room p K {cell} lt two =
     let less = count_below-lt (λ c. eqb (count_below (K c) p.values) 1) (λ c. true) p.cells cell (λ c _ _. refl) lt (ne_eqb _ 1 (λ one. omega arith)) refl in
     omega (arith, count_below-bound (λ c. true) p.cells)
 
-pub split-room : {p : RuleSystem} {K K' : Candidates} {n cell : ℕ} → IsInside K' K → n ≤ singles p K → is_dead p.cells p.values K' ≡ false → pick p.cells p.values K' ≡ Some cell
+pub split-room : {p : RuleSystem} {K K' : Candidates} {n cell : ℕ} → IsInside K' K → n ≤ singles p K
+    → is_dead p.cells p.values K' ≡ false → pick p.cells p.values K' ≡ Some cell
     → IsWithin p.cells p.values K → K' ≡ closure p K → IsOpen p (record { board = K'; cell = cell; next = 0 }) n
 split-room inside single alive picked within reached = grind (arith, common_steps, closure_closed, singles-inside)
 

@@ -18,7 +18,8 @@ upto-next laws {h} {k} lth lt i = fun_ext λ v. i.rest _ v (λ j less e. let sam
 
 -- it comes to be as after the visit, and the others stay
 upto-more : (p : RuleSystem) (laws : IsLawful p) (h k : ℕ) {K L M : Candidates} → h < p.houses → k < length (p.scope h) → IsUpto p h k K L
-    → M (slice_index (p.scope h) k) ≡ after p h K (slice_index (p.scope h) k) → ((c v : ℕ) → c ≢ slice_index (p.scope h) k → M c v ≡ L c v) → IsUpto p h (k + 1) K M
+    → M (slice_index (p.scope h) k) ≡ after p h K (slice_index (p.scope h) k)
+    → ((c v : ℕ) → c ≢ slice_index (p.scope h) k → M c v ≡ L c v) → IsUpto p h (k + 1) K M
 upto-more p laws h k lth lt i here others = record {
   done = λ j v less.
       grind (arith, common_steps, cases_eq j k, ap (λ (f : ℕ → Bool). f v) here, others (slice_index (p.scope h) j) v, laws.scope_distinct h j k lth, i.done j v);
@@ -31,20 +32,28 @@ left-cell : (p : RuleSystem) (h : ℕ) (K L : Candidates) (c left v : ℕ) → I
 unfolding left_by
 left-cell p h K L c left v within same is = grind (arith, common_steps, cases_Bool, eq-eqb, after_inside)
 
-pub upto-cell : {p : RuleSystem} (laws : IsLawful p) {h k : ℕ} {K L : Candidates} {left : ℕ} → h < p.houses → k < length (p.scope h) → IsWithin p.cells p.values K → IsUpto p h k K L
-    → IsBitsOf (after p h K (slice_index (p.scope h) k)) p.values left → left_by L (slice_index (p.scope h) k) left (slice_index (p.scope h) k) ≡ after p h K (slice_index (p.scope h) k)
+pub upto-cell : {p : RuleSystem} (laws : IsLawful p) {h k : ℕ} {K L : Candidates} {left : ℕ}
+    → h < p.houses → k < length (p.scope h) → IsWithin p.cells p.values K → IsUpto p h k K L
+    → IsBitsOf (after p h K (slice_index (p.scope h) k)) p.values left
+    → left_by L (slice_index (p.scope h) k) left (slice_index (p.scope h) k) ≡ after p h K
+    (slice_index (p.scope h) k)
 upto-cell {p} laws {h} {K} {L} {left} lth lt within i is = fun_ext λ v. left-cell p h K L _ left v within (upto-next laws lth lt i) is
 
-pub upto-left : (p : RuleSystem) (laws : IsLawful p) (h k : ℕ) (K L : Candidates) (left : ℕ) → h < p.houses → k < length (p.scope h) → IsWithin p.cells p.values K
+pub upto-left : (p : RuleSystem) (laws : IsLawful p) (h k : ℕ) (K L : Candidates) (left : ℕ)
+    → h < p.houses → k < length (p.scope h) → IsWithin p.cells p.values K
     → IsUpto p h k K L → IsBitsOf (after p h K (slice_index (p.scope h) k)) p.values left → IsUpto p h (k + 1) K (left_by L (slice_index (p.scope h) k) left)
 upto-left p laws h k K L left lth lt within i is = upto-more p laws h k lth lt i (upto-cell laws lth lt within i is) (left-others L _ left)
 
 -- or it loses nothing
-same-cell : (p : RuleSystem) (h : ℕ) {K : Candidates} (c bits v : ℕ) → IsWithin p.cells p.values K → IsBitsOf (K c) p.values bits → IsBitsOf (after p h K c) p.values bits → K c v ≡ after p h K c v
+same-cell : (p : RuleSystem) (h : ℕ) {K : Candidates} (c bits v : ℕ) → IsWithin p.cells p.values K
+    → IsBitsOf (K c) p.values bits → IsBitsOf (after p h K c) p.values bits
+    → K c v ≡ after p h K c v
 same-cell p h c bits v within was is = grind (arith, common_steps, cases_Bool, after_inside)
 
-pub upto-same : (p : RuleSystem) (laws : IsLawful p) (h k : ℕ) (K L : Candidates) (bits : ℕ) → h < p.houses → k < length (p.scope h) → IsWithin p.cells p.values K
-    → IsUpto p h k K L → IsBitsOf (K (slice_index (p.scope h) k)) p.values bits → IsBitsOf (after p h K (slice_index (p.scope h) k)) p.values bits → IsUpto p h (k + 1) K L
+pub upto-same : (p : RuleSystem) (laws : IsLawful p) (h k : ℕ) (K L : Candidates) (bits : ℕ)
+    → h < p.houses → k < length (p.scope h) → IsWithin p.cells p.values K
+    → IsUpto p h k K L → IsBitsOf (K (slice_index (p.scope h) k)) p.values bits
+    → IsBitsOf (after p h K (slice_index (p.scope h) k)) p.values bits → IsUpto p h (k + 1) K L
 upto-same p laws h k K L bits lth lt within i was is =
     upto-more p laws h k lth lt i (upto-next laws lth lt i ∙ fun_ext (λ v. same-cell p h _ bits v within was is)) (λ c v ne. refl)
 

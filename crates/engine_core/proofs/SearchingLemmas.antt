@@ -35,9 +35,13 @@ after_grids : {two : Bool} (one : Bool) (f g : List ℕ) (n : ℕ) (K : Candidat
 unfolding outcome tried
 after_grids x1 f g n x5 ms going = grind (arith, common_steps, true≢false)
 
-module _ {p : RuleSystem} {from at : Progress} {all : List Mark} {trials : ℕ} (st : Standing) (levels : Levels) (grids : Grids) (s : IsSearching p from all trials (marks_of p st levels at grids) at) where
+module _ {p : RuleSystem} {from at : Progress} {all : List Mark} {trials : ℕ} (st : Standing)
+    (levels : Levels) (grids : Grids)
+    (s : IsSearching p from all trials (marks_of p st levels at grids) at) where
   -- a trial is made
-  pub searching-trial : {mid : Standing} {now : Levels} {cell : ℕ} {at' : Progress} (st' : Standing) (to : Levels) (grids' : Grids) → IsTrial p (pending_of p st levels) mid now cell → at.has_second ≡ false
+  pub searching-trial : {mid : Standing} {now : Levels} {cell : ℕ} {at' : Progress} (st' : Standing)
+      (to : Levels) (grids' : Grids) → IsTrial p (pending_of p st levels) mid now cell
+      → at.has_second ≡ false
       → trials < from.budget → CountsClosing p mid.board at.turns at'.turns → at'.deepest ≡ max at.deepest now.depth
       → marks_from p mid now at grids ≡ marks_of p st' to at' grids' → IsSearching p from all (trials + 1) (marks_of p st' to at' grids') at'
   searching-trial {mid = mid} {now = now} {at' = at'} st' to grids' t going less turned deeper after =
@@ -47,7 +51,9 @@ module _ {p : RuleSystem} {from at : Progress} {all : List Mark} {trials : ℕ} 
       let next = after_grids at.found grids.first grids.second now.depth mid.board (walk_of p mid now) going in
       let answer = next.0 b in
       let trial = next.1 b in
-      let rest : tried (from.budget - trials) None (marks_of p st levels at grids) ≡ (now.depth, mid.board) ∷ tried b None (marks_of p st' to at' grids') = cc in
+      let rest : tried (from.budget - trials) None
+      (marks_of p st levels at grids) ≡ (now.depth, mid.board) ∷ tried b None
+      (marks_of p st' to at' grids') = cc in
       let sum : at'.turns - from.turns ≡ at.turns - from.turns + (at'.turns - at.turns) = (let a = s.grows in let c = turned.grows in omega arith) in
       record {
         answer = s.answer ∙ cc;
@@ -61,7 +67,8 @@ module _ {p : RuleSystem} {from at : Progress} {all : List Mark} {trials : ℕ} 
 
   -- ---- how a search ends
   ended : (v : Verdict) → Says v grids.first grids.second (outcome (from.budget - trials) None (marks_of p st levels at grids))
-      → tried (from.budget - trials) None (marks_of p st levels at grids) ≡ [] → IsSearched p from.budget all from (searched_at at v trials) grids.first grids.second
+      → tried (from.budget - trials) None (marks_of p st levels at grids) ≡ []
+      → IsSearched p from.budget all from (searched_at at v trials) grids.first grids.second
   ended v says none = grind (arith, common_steps)
 
   -- a trial more than the budget allows
@@ -79,11 +86,15 @@ module _ {p : RuleSystem} {from at : Progress} {all : List Mark} {trials : ℕ} 
   ended-two both = ended verdict.Several (rw both refl) (rw both refl)
 
   -- no level is left
-  pub ended-one : levels.depth ≡ 0 → at.has_second ≡ false → at.found ≡ true → IsSearched p from.budget all from (searched_at at verdict.One trials) grids.first grids.second
+  pub ended-one : levels.depth ≡ 0 → at.has_second ≡ false → at.found ≡ true
+      → IsSearched p from.budget all from (searched_at at verdict.One trials) grids.first
+      grids.second
   unfolding outcome tried levels_of pending
   ended-one none going old = ended verdict.One (rw (none, going, old) refl) (rw (none, going, old) refl)
 
-  pub ended-none : levels.depth ≡ 0 → at.has_second ≡ false → at.found ≡ false → IsSearched p from.budget all from (searched_at at verdict.None trials) grids.first grids.second
+  pub ended-none : levels.depth ≡ 0 → at.has_second ≡ false → at.found ≡ false
+      → IsSearched p from.budget all from (searched_at at verdict.None trials) grids.first
+      grids.second
   unfolding outcome tried levels_of pending
   ended-none none going new = ended verdict.None (rw (none, going, new) refl) (rw (none, going, new) refl)
 

@@ -58,13 +58,18 @@ waiting-enqueue waits h j lt = waiting-word ◌||◌ (λ x. grind (arith, common
 
 -- a house is marked where it is called for
 pub waiting-enqueue_if : (waits : List ℕ) (h j bit : ℕ) (called : Bool) → (called ≡ true → bit ≡ 1) → (called ≡ false → bit ≡ 0) → h / 64 < length waits
-    → is_waiting (set waits (h / 64) (bit_or (get_or waits (h / 64) 0) (bit * 2 ^ (h % 64) % 18446744073709551616))) j ≡ (is_waiting waits j || (called && eqb j h))
+    → is_waiting (set waits (h / 64)
+    (bit_or (get_or waits (h / 64) 0) (bit * 2 ^ (h % 64) % 18446744073709551616)))
+    j ≡ (is_waiting waits j || (called && eqb j h))
 waiting-enqueue_if waits h j bit true is off lt = rw (is refl) (waiting-enqueue waits h j lt)
 waiting-enqueue_if waits h j bit false on is lt =
     rw (is refl) (waiting-word (λ x here. x || false) (λ x. sym or_false) waits h _ j lt (λ b small. grind (arith, common_steps, bits-either, bits-of_zero)))
 
 pub waiting-dequeue : (waits : List ℕ) (h j : ℕ) → h / 64 < length waits
-    → is_waiting (set waits (h / 64) (bit_and (get_or waits (h / 64) 0) (18446744073709551615 - 1 * 2 ^ (h % 64) % 18446744073709551616))) j ≡ but (is_waiting waits) h j
+    → is_waiting (set waits (h / 64)
+    (bit_and (get_or waits (h / 64) 0)
+    (18446744073709551615 - 1 * 2 ^ (h % 64) % 18446744073709551616))) j ≡ but
+    (is_waiting waits) h j
 unfolding but
 waiting-dequeue waits h j lt = waiting-word (λ x here. x && not here) (λ x. grind (arith, common_steps)) waits h _ j lt (λ b small.
     let other = bit_at_clear_other w64 (get_or waits (h / 64) 0) (h % 64) in
@@ -76,7 +81,9 @@ waiting-none words j lt = ap (λ (x : ℕ). has_bit x (j % 64)) (get_or-replicat
 
 pub waiting-all : (words j : ℕ) → j / 64 < words → is_waiting (replicate words 18446744073709551615) j ≡ true
 unfolding is_waiting
-waiting-all words j lt = ap (λ (x : ℕ). has_bit x (j % 64)) (get_or-replicate words (j / 64) 18446744073709551615 0 lt) ∙ ap (λ (b : ℕ). eqb b 1) (bit_at_ones 64 (j % 64) (omega arith))
+waiting-all words j lt =
+    ap (λ (x : ℕ). has_bit x (j % 64)) (get_or-replicate words (j / 64) 18446744073709551615 0 lt)
+    ∙ ap (λ (b : ℕ). eqb b 1) (bit_at_ones 64 (j % 64) (omega arith))
 
 -- ---- the bits of a word from one on
 shifted : (word from i : ℕ) → bit_at (word / 2 ^ from) i ≡ bit_at word (from + i)
@@ -88,7 +95,8 @@ none_left word from j none le =
     let e : from + (j - from) ≡ j = omega arith in grind (arith, common_steps, shifted word from (j - from), bit_at-zero)
 
 -- the lowest bit of what is left above
-pub lowest_left : (word from : ℕ) → word < 2 ^ 64 → (word / 2 ^ from ≡ 0 → ⊥) → IsNext (has_bit word) 64 from (Some (from + trailing_zeros w64 (word / 2 ^ from)))
+pub lowest_left : (word from : ℕ) → word < 2 ^ 64 → (word / 2 ^ from ≡ 0 → ⊥)
+    → IsNext (has_bit word) 64 from (Some (from + trailing_zeros w64 (word / 2 ^ from)))
 lowest_left word from small some =
     let left = word / 2 ^ from in
     let z = trailing_zeros w64 left in

@@ -26,7 +26,10 @@ by_houses-lawful s houses fine sound queue sweeps = record {
   solutions_closed = λ g grid good h c v lt on. closed_at s.values (places h) g
       (λ k lk. let e = grid.each_cell in let w = (house h lt).within k lk in omega arith) (λ d ld. grid.each_value d 0 ld)
       (decides h) ((house h lt).keeps g grid good) c v on;
-  settles = λ e h K c v lt low on. settled_at s.values (places h) K (λ d u. K d u && not (strikes_at s.values (places h) (decides h) K d u)) ((house h lt).settles e) (house h lt).different (λ d u. refl) c v low on;
+  settles =
+      λ e h K c v lt low on. settled_at s.values (places h) K
+      (λ d u. K d u && not (strikes_at s.values (places h) (decides h) K d u))
+      ((house h lt).settles e) (house h lt).different (λ d u. refl) c v low on;
   bound_of_queue = queue;
   bound_of_sweeps = sweeps;
   some_values = fine.some_values;
@@ -76,7 +79,9 @@ unfolding sum_below
 from_first f zero = omega arith
 from_first f (suc n) = let rest = from_first f n in omega arith
 
-visits_sum : (values : ℕ) (houses : List House) → sum_by (visits_of values) houses ≡ length houses + values * sum_below (λ h. length (house_of houses h).places) (length houses)
+visits_sum : (values : ℕ) (houses : List House)
+    → sum_by (visits_of values) houses ≡ length houses + values * sum_below
+    (λ h. length (house_of houses h).places) (length houses)
 unfolding sum_below
 visits_sum values [] = omega arith
 visits_sum values (house ∷ houses) =

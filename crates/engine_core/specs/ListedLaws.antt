@@ -24,5 +24,7 @@ visits-sum values (house ∷ houses) =
     omega arith
 
 -- in a queue the bound is that of all visits that the houses can call for
-pub listed-bound : (s : Setting) (houses : List House) → s.by_queue ≡ true → s.bound ≡ sum_by (visits_of s.values) houses → s.bound ≡ most_turns (by_houses s houses) (all_places houses)
+pub listed-bound : (s : Setting) (houses : List House) → s.by_queue ≡ true
+    → s.bound ≡ sum_by (visits_of s.values) houses
+    → s.bound ≡ most_turns (by_houses s houses) (all_places houses)
 listed-bound s houses queue is = rw queue (is ∙ visits-sum s.values houses)

@@ -54,9 +54,13 @@ none-twice-from (x ∷ xs) d = and_from _ _ (ap not d.0) (none-twice-from xs d.1
 
 pub distinct-none-twice : (xs : List ℕ) → names_none_twice xs ≡ true → AreDistinct xs
 distinct-none-twice [] on = tt
-distinct-none-twice (x ∷ xs) on = let w = and_parts (not (has_place xs x)) (names_none_twice xs) on in (not-true (has_place xs x) w.0, distinct-none-twice xs w.1)
+distinct-none-twice (x ∷ xs) on = let w =
+    and_parts (not (has_place xs x)) (names_none_twice xs) on in
+    (not-true (has_place xs x) w.0, distinct-none-twice xs w.1)
 
-pub different-map : (f : ℕ → ℕ) (xs : List ℕ) → AreDifferent xs → ((a b : ℕ) → has_place xs a ≡ true → has_place xs b ≡ true → f a ≡ f b → a ≡ b) → AreDifferent (map f xs)
+pub different-map : (f : ℕ → ℕ) (xs : List ℕ) → AreDifferent xs
+    → ((a b : ℕ) → has_place xs a ≡ true → has_place xs b ≡ true → f a ≡ f b → a ≡ b)
+    → AreDifferent (map f xs)
 different-map f xs differ own j k lj lk e =
     let long = length-map xs f in
     let inj : j < length xs = omega arith in
@@ -81,7 +85,8 @@ abbrev with_next : (ℕ → ℕ) → ℕ → ℕ → ℕ → ℕ
 with_next f n c l = cond (ltb l n) (f l) c
 
 -- n different numbers below n are all of them: another would be one more
-pub each-named : (f : ℕ → ℕ) {n : ℕ} (c : ℕ) → ((l : ℕ) → l < n → f l < n) → ((l m : ℕ) → l < n → m < n → f l ≡ f m → l ≡ m) → c < n → (l : ℕ) × (l < n) × (f l ≡ c)
+pub each-named : (f : ℕ → ℕ) {n : ℕ} (c : ℕ) → ((l : ℕ) → l < n → f l < n)
+    → ((l m : ℕ) → l < n → m < n → f l ≡ f m → l ≡ m) → c < n → (l : ℕ) × (l < n) × (f l ≡ c)
 each-named f {n} c below own lt = elim (cases_Bool (any_below (λ l. eqb (f l) c) n)) [
   | inl on ↦ let w = any_below-some (λ l. eqb (f l) c) n on in (w.0, w.1, eqb-true (f w.0) c w.2)
   | inr off ↦ absurd (let few = few-below (with_next f n c) inside

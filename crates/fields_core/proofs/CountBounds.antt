@@ -31,10 +31,14 @@ no : {b : Bool} → b ≡ true → num (not b) ≡ 0
 no e = rw e refl
 
 -- a filling has one of the values of each cell
-pub filled-at : (K : Candidates) (places : List ℕ) {f : List ℕ} → Fills (sets_at 2 places K) f → {k : ℕ} → k < length places → (get_or f k 0 < 2) × (K (slice_index places k) (get_or f k 0) ≡ true)
+pub filled-at : (K : Candidates) (places : List ℕ) {f : List ℕ} → Fills (sets_at 2 places K) f
+    → {k : ℕ} → k < length places → (get_or f k 0 < 2)
+    × (K (slice_index places k) (get_or f k 0) ≡ true)
 filled-at K places p lt = grind (arith, common_steps, length-sets_at, sets_at-small, get_or, sets_at-value)
 
-filled-from : (K : Candidates) (places f : List ℕ) → length f ≡ length places → ((k : ℕ) → k < length places → (get_or f k 0 < 2) × (K (slice_index places k) (get_or f k 0) ≡ true)) → Fills (sets_at 2 places K) f
+filled-from : (K : Candidates) (places f : List ℕ) → length f ≡ length places
+    → ((k : ℕ) → k < length places → (get_or f k 0 < 2)
+    × (K (slice_index places k) (get_or f k 0) ≡ true)) → Fills (sets_at 2 places K) f
 filled-from K places f long each = grind (arith, common_steps, length-sets_at, sets_at-value, get_or)
 
 -- ---- how many ones
@@ -44,7 +48,9 @@ ones-bounds K [] [] p = (omega arith, omega arith)
 ones-bounds K [] (v ∷ f) p = absurd (omega (arith, p.len))
 ones-bounds K (x ∷ xs) [] p = absurd (omega (arith, p.len))
 ones-bounds K (x ∷ xs) (v ∷ f) p =
-    by v (filled-at K (x ∷ xs) p {k = 0} (omega arith)) (ones-bounds K xs f (Fills-tail _ (sets_at 2 xs K) v f p)) (count-cons (λ c. not (K c 0)) x xs) (count-cons (λ c. K c 1) x xs)
+    by v (filled-at K (x ∷ xs) p {k = 0} (omega arith))
+    (ones-bounds K xs f (Fills-tail _ (sets_at 2 xs K) v f p))
+    (count-cons (λ c. not (K c 0)) x xs) (count-cons (λ c. K c 1) x xs)
   where
     by : (u : ℕ) → (u < 2) × (K x u ≡ true) → (must_of K xs ≤ nonzeros f) × (nonzeros f ≤ may_of K xs)
         → must_of K (x ∷ xs) ≡ num (not (K x 0)) + must_of K xs → may_of K (x ∷ xs) ≡ num (K x 1) + may_of K xs
@@ -58,7 +64,9 @@ must-under K [] full = omega arith
 must-under K (x ∷ xs) full =
     by (full 0 (omega arith)) (must-under K xs (λ k lt. full (suc k) (omega arith))) (count-cons (λ c. not (K c 0)) x xs) (count-cons (λ c. K c 1) x xs)
   where
-    by : (K x 0 ≡ true) ⊎ (K x 1 ≡ true) → must_of K xs ≤ may_of K xs → must_of K (x ∷ xs) ≡ num (not (K x 0)) + must_of K xs → may_of K (x ∷ xs) ≡ num (K x 1) + may_of K xs
+    by : (K x 0 ≡ true) ⊎ (K x 1 ≡ true) → must_of K xs ≤ may_of K xs
+        → must_of K (x ∷ xs) ≡ num (not (K x 0)) + must_of K xs
+        → may_of K (x ∷ xs) ≡ num (K x 1) + may_of K xs
         → must_of K (x ∷ xs) ≤ may_of K (x ∷ xs)
     by (inl z) r a b = let e = no z in omega arith
     by (inr o) r a b = let e = yes o in let m = num-most (not (K x 0)) in omega arith
@@ -67,7 +75,9 @@ must-under K (x ∷ xs) full =
 abbrev Reached : Candidates → List ℕ → ℕ → Type 0
 Reached K places n = (f : List ℕ) × Fills (sets_at 2 places K) f × (nonzeros f ≡ n)
 
-reached-more : (K : Candidates) (x : ℕ) (xs : List ℕ) (n : ℕ) → IsFull K (x ∷ xs) → must_of K (x ∷ xs) ≤ n → n ≤ may_of K (x ∷ xs) → ((m : ℕ) → must_of K xs ≤ m → m ≤ may_of K xs → Reached K xs m) → Reached K (x ∷ xs) n
+reached-more : (K : Candidates) (x : ℕ) (xs : List ℕ) (n : ℕ) → IsFull K (x ∷ xs)
+    → must_of K (x ∷ xs) ≤ n → n ≤ may_of K (x ∷ xs)
+    → ((m : ℕ) → must_of K xs ≤ m → m ≤ may_of K xs → Reached K xs m) → Reached K (x ∷ xs) n
 unfolding sets_at
 reached-more K x xs n full low high rest = elim (cases_Bool (K x 0)) [
   | inl z ↦ elim (cases_lt (may_of K xs) n) [
@@ -102,7 +112,8 @@ ones-reached K [] n full low high = ([], record { len = refl; each = λ k lt. ab
 ones-reached K (x ∷ xs) n full low high = reached-more K x xs n full low high (λ m. ones-reached K xs m (λ k lt. full (suc k) (omega arith)))
 
 -- ---- one value of a cell alone
-module _ (K : Candidates) (places : List ℕ) (k v : ℕ) (different : AreDifferent places) (lt : k < length places) (low : v < 2) (on : K (slice_index places k) v ≡ true) where
+module _ (K : Candidates) (places : List ℕ) (k v : ℕ) (different : AreDifferent places)
+    (lt : k < length places) (low : v < 2) (on : K (slice_index places k) v ≡ true) where
   abbrev cell : ℕ
   cell = slice_index places k
 
@@ -123,7 +134,8 @@ module _ (K : Candidates) (places : List ℕ) (k v : ℕ) (different : AreDiffer
 
   must-fixed : must_of fixed places + num (not (K cell 0)) ≡ must_of K places + v
   must-fixed =
-      count-at (λ c. not (K c 0)) (λ c. not (fixed c 0)) cell (λ c ne. ap not (others 0 ne)) places (distinct-from places different) (has_place-here places k lt)
+      count-at (λ c. not (K c 0)) (λ c. not (fixed c 0)) cell (λ c ne. ap not (others 0 ne)) places
+      (distinct-from places different) (has_place-here places k lt)
       ∙ ap (λ n. must_of K places + n) (by v low refl)
     where
       by : (u : ℕ) → u < 2 → u ≡ v → num (not (fixed cell 0)) ≡ u
@@ -152,7 +164,9 @@ module _ (K : Candidates) (places : List ℕ) (k v : ℕ) (different : AreDiffer
 
   filled-fixed : (f : List ℕ) → Fills (sets_at 2 places fixed) f → Fills (sets_at 2 places K) f × (get_or f k 0 ≡ v)
   filled-fixed f p = (
-    filled-from K places f (p.len ∙ length-sets_at 2 places fixed) (λ j lj. let w = filled-at fixed places p lj in (w.0, (and_parts (K (slice_index places j) (get_or f j 0)) _ w.1).0)),
+    filled-from K places f (p.len ∙ length-sets_at 2 places fixed)
+        (λ j lj. let w = filled-at fixed places p lj in
+        (w.0, (and_parts (K (slice_index places j) (get_or f j 0)) _ w.1).0)),
     elim (cases_eq (get_or f k 0) v) [
       | inl is ↦ is
       | inr ne ↦ absurd (true≢false (sym (filled-at fixed places p lt).1 ∙ own-alone ne))
@@ -163,12 +177,16 @@ module _ (K : Candidates) (places : List ℕ) (k v : ℕ) (different : AreDiffer
       → (least ≤ most) × (least + num (K cell 1) ≤ may_of K places + v) × (must_of K places + v ≤ most + num (not (K cell 0)))
   shown-bounds least most (f, s) = grind (arith, common_steps, ones-bounds, fixed-filled, and_parts, leb-true, must-fixed, may-fixed)
 
-  pub bounds-shown : {least most : ℕ} → IsFull K places → least ≤ most → least + num (K cell 1) ≤ may_of K places + v → must_of K places + v ≤ most + num (not (K cell 0))
+  pub bounds-shown : {least most : ℕ} → IsFull K places → least ≤ most
+      → least + num (K cell 1) ≤ may_of K places + v
+      → must_of K places + v ≤ most + num (not (K cell 0))
       → IsShown (counts_between least most) (sets_at 2 places K) k v
   bounds-shown {least} {most} full order few many =
       let m = must-fixed in
       let n = may-fixed in
-      let w = ones-reached fixed places (max least (must_of fixed places)) (full-fixed full) (omega arith) (let u = must-under fixed places (full-fixed full) in omega arith) in
+      let w =
+      ones-reached fixed places (max least (must_of fixed places)) (full-fixed full)
+      (omega arith) (let u = must-under fixed places (full-fixed full) in omega arith) in
       let o = filled-fixed w.0 w.1 in
       (w.0, record { fills = o.0; holds_true = and_from _ _ (le-leb least (nonzeros w.0) (omega (arith, w.2))) (le-leb (nonzeros w.0) most (omega (arith, w.2))); has_it = o.1 })
 

@@ -94,7 +94,9 @@ module _ (cells : ℕ) (house : CountHouse) (K : Candidates) (t : Tally) (is : I
       true-by : (b : Bool) → (b ≡ false → ⊥) → b ≡ true
       true-by b never = grind (arith, common_steps, cases_Bool b)
 
-      by : K (at k) v ≡ true → lacks_filling t (bounds_of house) ≡ false → ((is_open K (at k) && at_bound v) ≡ true) ⊎ ((is_open K (at k) && at_bound v) ≡ false) → not (struck k v) ≡ not (is_open K (at k) && at_bound v)
+      by : K (at k) v ≡ true → lacks_filling t (bounds_of house) ≡ false
+          → ((is_open K (at k) && at_bound v) ≡ true) ⊎ ((is_open K (at k) && at_bound v) ≡ false)
+          → not (struck k v) ≡ not (is_open K (at k) && at_bound v)
       by on fills (inl reached) = ap not (true-by (struck k v) (λ off. gone (shown_from_test _ _ k v off)) ∙ sym reached)
         where
           gone : IsShown (counts_between house.least house.most) (sets_at 2 house.places K) k v → ⊥
@@ -115,32 +117,45 @@ module _ (cells : ℕ) (house : CountHouse) (K : Candidates) (t : Tally) (is : I
           let order = or_parts (ltb house.most house.least) _ a.1 in
           let ends = or_parts (ltb t.may house.least) _ order.1 in
           let none : t.empty ≡ 0 = let e = ltb-false 0 t.empty a.0 in omega arith in
-          let w = room v (K (at k) 0) (K (at k) 1) low (by-value K (at k) v low on) (ltb-false t.may house.least ends.0) (ltb-false house.most t.must ends.1) free in
+          let w =
+          room v (K (at k) 0) (K (at k) 1) low (by-value K (at k) v low on)
+          (ltb-false t.may house.least ends.0) (ltb-false house.most t.must ends.1) free in
           ap not (test_from_shown _ _ k v (bounds-shown K house.places k v is.different lt low on (full none) (ltb-false house.most house.least order.0)
           (let n = tally.may_is in omega (arith, w.0)) (let m = tally.must_is in omega (arith, w.1))) ∙ sym free)
 
   -- ---- the board after a visit
   pub after-at : (k v : ℕ) → k < length house.places → v < 2 → after_house house K (at k) v ≡ (K (at k) v && stays t (bounds_of house) (is_open K (at k)) v)
   unfolding after_house strikes_of
-  after-at k v lt low = ap (λ b. K (at k) v && not b) (strikes_at-place 2 house.places (strikes_by_fillings (counts_between house.least house.most)) K k v is.different lt) ∙ stays-at k v lt low
+  after-at k v lt low =
+      ap (λ b. K (at k) v && not b)
+      (strikes_at-place 2 house.places (strikes_by_fillings (counts_between house.least house.most))
+      K k v is.different lt) ∙ stays-at k v lt low
 
   -- a house that does not call strikes nothing
   pub idle-at : has_strikes t (bounds_of house) ≡ false → (c v : ℕ) → v < 2 → K c v ≡ true → strikes_of house K c v ≡ false
   unfolding after_house
   idle-at off c v low on = elim (cases_Bool (has_place house.places c)) [
     | inr out ↦ off-scope house K c v out
-    | inl here ↦ let w = has_place-at house.places c here in rw (sym w.2) (by (K (at w.0) v) _ (rw (sym w.2) at on) (after-at w.0 v w.1 low ∙ stays-all w.0 v w.1))
+    | inl here ↦ let w = has_place-at house.places c here in
+        rw (sym w.2) (by (K (at w.0) v) _ (rw (sym w.2) at on)
+        (after-at w.0 v w.1 low ∙ stays-all w.0 v w.1))
   ]
     where
       by : (a b : Bool) → a ≡ true → (a && not b) ≡ a → b ≡ false
       by a b e f = grind (arith, common_steps, cases_Bool a, cases_Bool b)
 
-      full_parts : (ltb 0 t.empty ≡ false) × ((ltb house.most house.least || (ltb t.may (house.least + num (not (eqb t.must t.may))) || ltb house.most (t.must + num (not (eqb t.must t.may))))) ≡ false)
+      full_parts : (ltb 0 t.empty ≡ false)
+          × ((ltb house.most house.least || (ltb t.may
+          (house.least + num (not (eqb t.must t.may))) || ltb house.most
+          (t.must + num (not (eqb t.must t.may))))) ≡ false)
       full_parts = or_parts _ _ off
 
       stays-all : (k v : ℕ) → k < length house.places → (K (at k) v && stays t (bounds_of house) (is_open K (at k)) v) ≡ K (at k) v
       stays-all k v lt =
-          let order = or_parts (ltb house.most house.least) (ltb t.may (house.least + num (not (eqb t.must t.may))) || ltb house.most (t.must + num (not (eqb t.must t.may)))) full_parts.1 in
+          let order =
+          or_parts (ltb house.most house.least)
+          (ltb t.may (house.least + num (not (eqb t.must t.may))) || ltb house.most
+          (t.must + num (not (eqb t.must t.may)))) full_parts.1 in
           let ends = or_parts (ltb t.may (house.least + num (not (eqb t.must t.may)))) (ltb house.most (t.must + num (not (eqb t.must t.may)))) order.1 in
           let few = ltb-false t.may (house.least + num (not (eqb t.must t.may))) ends.0 in
           let many = ltb-false house.most (t.must + num (not (eqb t.must t.may))) ends.1 in
@@ -150,7 +165,10 @@ module _ (cells : ℕ) (house : CountHouse) (K : Candidates) (t : Tally) (is : I
                 let w = and_parts (K (at k) 0) (K (at k) 1) both in
                 let m = tally.must_is in
                 let n = tally.may_is in
-                let apart : t.must < t.may = let r = open-room K house.places k 0 is.different lt (omega arith) w.0 (full (let e = ltb-false 0 t.empty full_parts.0 in omega arith)) both in omega arith in
+                let apart : t.must < t.may = let r =
+                open-room K house.places k 0 is.different lt (omega arith) w.0
+                (full (let e = ltb-false 0 t.empty full_parts.0 in omega arith)) both in
+                omega arith in
                 let one : num (not (eqb t.must t.may)) ≡ 1 = rw (ne_eqb t.must t.may (λ e. absurd (omega arith))) refl in
                 rw (both, ne_eqb t.must house.most (λ e. absurd (omega arith)), ne_eqb t.may house.least (λ e. absurd (omega arith))) (neither (eqb v 1) (eqb v 0))
           ])
@@ -160,7 +178,9 @@ all-set : (bits : ℕ) → bits < 4 → eqb bits 3 ≡ (has_bit bits 0 && has_bi
 all-set bits lt = grind (arith, common_steps, cases_eq bits 0, cases_eq bits 1, cases_eq bits 2, cases_eq bits 3)
 
 kept-table : (none few most : Bool) (bits v : ℕ) → bits < 4 → v < 2
-    → has_bit (cond none 0 (cond (eqb bits 3) (num (not few) + 2 * num (not most)) bits)) v ≡ (has_bit bits v && (not none && not (eqb bits 3 && (((eqb v 1) && most) || ((eqb v 0) && few)))))
+    → has_bit (cond none 0 (cond (eqb bits 3) (num (not few) + 2 * num (not most)) bits))
+    v ≡ (has_bit bits v && (not none && not
+    (eqb bits 3 && (((eqb v 1) && most) || ((eqb v 0) && few)))))
 kept-table true few most bits zero small low = sym (and-false (has_bit bits 0))
 kept-table true few most bits (suc zero) small low = sym (and-false (has_bit bits 1))
 kept-table false few most zero v small low = sym (and-true (has_bit 0 v))
@@ -171,12 +191,17 @@ kept-table false few most (suc (suc (suc zero))) (suc zero) small low = grind (a
 kept-table none few most bits (suc (suc v)) small low = absurd (omega arith)
 kept-table none few most (suc (suc (suc (suc bits)))) v small low = absurd (omega arith)
 
-pub kept-bits : (t : Tally) (b : Bounds) (K : Candidates) (c bits v : ℕ) → IsBitsOf (K c) 2 bits → v < 2 → has_bit (kept_of t b bits) v ≡ (K c v && stays t b (is_open K c) v)
+pub kept-bits : (t : Tally) (b : Bounds) (K : Candidates) (c bits v : ℕ) → IsBitsOf (K c) 2 bits
+    → v < 2 → has_bit (kept_of t b bits) v ≡ (K c v && stays t b (is_open K c) v)
 kept-bits t b K c bits v is low = grind (arith, common_steps, kept-table, all-set)
 
 -- a value that a cell has stays exactly where its bit is kept
-pub kept-strikes : (cells : ℕ) (house : CountHouse) (K : Candidates) (t : Tally) → IsHouse cells house → IsTally K house.places t → (k v bits : ℕ) → k < length house.places → v < 2
-    → IsBitsOf (K (slice_index house.places k)) 2 bits → K (slice_index house.places k) v ≡ true → has_bit (kept_of t (bounds_of house) bits) v ≡ not (strikes_of house K (slice_index house.places k) v)
+pub kept-strikes : (cells : ℕ) (house : CountHouse) (K : Candidates) (t : Tally)
+    → IsHouse cells house → IsTally K house.places t → (k v bits : ℕ) → k < length house.places
+    → v < 2
+    → IsBitsOf (K (slice_index house.places k)) 2 bits → K (slice_index house.places k) v ≡ true
+    → has_bit (kept_of t (bounds_of house) bits) v ≡ not
+    (strikes_of house K (slice_index house.places k) v)
 unfolding after_house
 kept-strikes cells house K t is tally k v bits lt low of on =
     kept-bits t (bounds_of house) K (slice_index house.places k) bits v of low ∙ sym (after-at cells house K t is tally k v lt low) ∙ rw on refl

@@ -48,19 +48,24 @@ below-few f zero each = omega arith
 below-few f (suc n) each = omega (arith, length-append (houses_below f n) (f n), below-few f n each, each n)
 
 -- the cells beside a cell that pass a test have room
-pub beside-fits : (a b : CountList) (test : ℕ → Bool) (size : Extent) (place n : ℕ) → IsBegun a b (filter test (steps size place n)) → n < 4 → FitsPlaces a.list 4 → FitsPlaces b.list 1
+pub beside-fits : (a b : CountList) (test : ℕ → Bool) (size : Extent) (place n : ℕ)
+    → IsBegun a b (filter test (steps size place n)) → n < 4 → FitsPlaces a.list 4
+    → FitsPlaces b.list 1
 beside-fits a b test size place n begun lt fits =
     let some = filter test (steps size place n) in
     let long = ap length begun.begun in
     omega (arith, fits, length-append a.list.begun some, filter-few test (steps size place n), steps-few size place n)
 
-pub added-few : {a b : CountList} (f : ℕ → List CountHouse) (n : ℕ) → IsAdded a b (houses_below f n) → ((c : ℕ) → length (f c) ≤ 1) → length b.list.closed ≤ length a.list.closed + n
+pub added-few : {a b : CountList} (f : ℕ → List CountHouse) (n : ℕ) → IsAdded a b (houses_below f n)
+    → ((c : ℕ) → length (f c) ≤ 1) → length b.list.closed ≤ length a.list.closed + n
 added-few {a} f n added each =
     let long = ap length added.closed in
     omega (arith, length-append a.list.closed (map house_places (houses_below f n)), length-map (houses_below f n) house_places, below-few f n each)
 
 -- and so there is room for the next
-pub added-fits : {a b : CountList} (f : ℕ → List CountHouse) {n cells : ℕ} → IsAdded a b (houses_below f n) → ((c : ℕ) → length (f c) ≤ 1) → n < cells → FitsLists a.list cells → FitsLists b.list 1
+pub added-fits : {a b : CountList} (f : ℕ → List CountHouse) {n cells : ℕ}
+    → IsAdded a b (houses_below f n) → ((c : ℕ) → length (f c) ≤ 1) → n < cells
+    → FitsLists a.list cells → FitsLists b.list 1
 added-fits f {n} added each lt fits = omega (arith, added-few f n added each, fits)
 
 -- houses of four kinds, each of the numbers below some number
@@ -69,11 +74,14 @@ pub four-added : {a b c d e : CountList} (f g h k : ℕ → List CountHouse) {i 
     → IsAdded a b (houses_below f i) → IsAdded b c (houses_below g j) → IsAdded c d (houses_below h l) → IsAdded d e (houses_below k m)
     → i ≡ i' → j ≡ j' → l ≡ l' → m ≡ m'
     → AreListed e (houses_below f i' ++ (houses_below g j' ++ (houses_below h l' ++ houses_below k m')))
-four-added {a} {b} {c} {d} {e} f g h k {i} {j} {l} {m} {i'} {j'} {l'} {m'} none no_bounds p q r s same_i same_j same_l same_m = grind (arith, common_steps, append_assoc, map-append)
+four-added {a} {b} {c} {d} {e} f g h k {i} {j} {l} {m} {i'} {j'} {l'} {m'} none no_bounds p q r s
+    same_i same_j same_l same_m = grind (arith, common_steps, append_assoc, map-append)
 
 -- ---- a table of their cells, and their bounds
 pub counted-table : {cells : ℕ} {houses : List CountHouse} → AreHouses cells houses → AreCounted cells (map house_places houses) houses
 counted-table {houses} are = record { as_many = length-map houses house_places; places = places-at houses; each = are }
 
-pub bounds-at : (houses : List CountHouse) {bounds : List Bounds} {h : ℕ} (d : Bounds) → bounds ≡ map bounds_of houses → h < length houses → get_or bounds h d ≡ bounds_of (count_house_of houses h)
+pub bounds-at : (houses : List CountHouse) {bounds : List Bounds} {h : ℕ} (d : Bounds)
+    → bounds ≡ map bounds_of houses → h < length houses
+    → get_or bounds h d ≡ bounds_of (count_house_of houses h)
 bounds-at houses {h} d e lt = rw e (get_or-map bounds_of houses h no_count_house d lt)

@@ -25,7 +25,9 @@ use Rattle.fields_core.proofs.CountKept.{idle-at}
 pub sets-first : (sets : List ℕ) → record { must = 0; may = 0; empty = 0 } ≡ tally_of (take 0 sets)
 sets-first sets = refl
 
-count-next : (test : ℕ → Bool) (xs : List ℕ) (n : ℕ) → n < length xs → count_by test (take (n + 1) xs) ≡ count_by test (take n xs) + cond (test (slice_index xs n)) 1 0
+count-next : (test : ℕ → Bool) (xs : List ℕ) (n : ℕ) → n < length xs
+    → count_by test (take (n + 1) xs) ≡ count_by test (take n xs) + cond (test (slice_index xs n)) 1
+    0
 count-next test xs n lt = sum_by_more (λ c. cond (test c) 1 0) xs n 0 lt
 
 pub sets-next : (sets : List ℕ) (n : ℕ) (t one : Tally) → t ≡ tally_of (take n sets) → n < length sets → one ≡ tally_of_one (slice_index sets n)
@@ -49,7 +51,9 @@ bits-counted : (K : Candidates) (c : ℕ) {bits : ℕ} → IsBitsOf (K c) 2 bits
     → (num (not (has_bit bits 0)) ≡ num (not (K c 0))) × (num (has_bit bits 1) ≡ num (K c 1)) × (num (eqb bits 0) ≡ num (is_empty K c))
 bits-counted K c is = grind (arith, common_steps, none-set)
 
-counts-as : (f g : ℕ → Bool) (xs ys : List ℕ) → length xs ≡ length ys → ((k : ℕ) → k < length xs → num (f (slice_index xs k)) ≡ num (g (slice_index ys k))) → count_by f xs ≡ count_by g ys
+counts-as : (f g : ℕ → Bool) (xs ys : List ℕ) → length xs ≡ length ys
+    → ((k : ℕ) → k < length xs → num (f (slice_index xs k)) ≡ num (g (slice_index ys k)))
+    → count_by f xs ≡ count_by g ys
 counts-as f g [] [] e same = refl
 counts-as f g [] (y ∷ ys) e same = absurd (omega arith)
 counts-as f g (x ∷ xs) [] e same = absurd (omega arith)
@@ -59,14 +63,18 @@ counts-as f g (x ∷ xs) (y ∷ ys) e same =
     omega (arith, count-cons f x xs, count-cons g y ys)
 
 -- the sets of a house's cells have the house's tally
-pub sets-tally : (K : Candidates) (places sets : List ℕ) → length sets ≡ length places → ((k : ℕ) → k < length places → IsBitsOf (K (slice_index places k)) 2 (slice_index sets k)) → IsTally K places (tally_of sets)
+pub sets-tally : (K : Candidates) (places sets : List ℕ) → length sets ≡ length places
+    → ((k : ℕ) → k < length places → IsBitsOf (K (slice_index places k)) 2 (slice_index sets k))
+    → IsTally K places (tally_of sets)
 sets-tally K places sets long bits = record {
   must_is = counts-as (λ b. not (has_bit b 0)) (λ c. not (K c 0)) sets places long (λ k lt. (bits-counted K _ (bits k (omega arith))).0);
   may_is = counts-as (λ b. has_bit b 1) (λ c. K c 1) sets places long (λ k lt. (bits-counted K _ (bits k (omega arith))).1);
   empty_is = counts-as (λ b. eqb b 0) (is_empty K) sets places long (λ k lt. (bits-counted K _ (bits k (omega arith))).2);
 }
 
-module _ (cells : ℕ) (K L : Candidates) (place before after : ℕ) (change : IsChange cells 2 K L place before after) (places : List ℕ) (t : Tally) (is : IsTally K places t) where
+module _ (cells : ℕ) (K L : Candidates) (place before after : ℕ)
+    (change : IsChange cells 2 K L place before after) (places : List ℕ) (t : Tally)
+    (is : IsTally K places t) where
   other : {c : ℕ} → (c ≡ place → ⊥) → (v : ℕ) → L c v ≡ K c v
   other {c} ne v = change.others c v ne
 
@@ -111,7 +119,9 @@ pub record AreCounted (cells : ℕ) (scopes : List (List ℕ)) (houses : List Co
 module _ (scopes : List (List ℕ)) (place : ℕ) (listed : List ℕ) (at : AreHousesAt scopes place listed) where
   -- a house of the list is one that has the place, and its number among these is its place in the list
   pub in-list : (k : ℕ) → k < length listed
-      → (slice_index listed k < length scopes) × (has_place (scope_of scopes (slice_index listed k)) place ≡ true) × (number_at scopes (slice_index listed k) place ≡ k)
+      → (slice_index listed k < length scopes)
+      × (has_place (scope_of scopes (slice_index listed k)) place ≡ true)
+      × (number_at scopes (slice_index listed k) place ≡ k)
   in-list k lt =
       let w = numbered (λ j. has_place (scope_of scopes j) place) (length scopes) k (let e = at.as_many in omega arith) in
       let same : slice_index listed k ≡ w.0 = ap (slice_index listed) (sym w.3) ∙ at.each w.0 w.1 w.2 in
@@ -124,14 +134,18 @@ module _ (scopes : List (List ℕ)) (place : ℕ) (listed : List ℕ) (at : AreH
   listed-at h lt on = let c = counted (λ j. has_place (scope_of scopes j) place) h (length scopes) lt on in let e = at.as_many in omega arith
 
 -- the houses of the list, by the houses that count
-module _ (cells : ℕ) (scopes : List (List ℕ)) (houses : List CountHouse) (table : AreCounted cells scopes houses) (place : ℕ) (listed : List ℕ) (at : AreHousesAt scopes place listed) where
+module _ (cells : ℕ) (scopes : List (List ℕ)) (houses : List CountHouse)
+    (table : AreCounted cells scopes houses) (place : ℕ) (listed : List ℕ)
+    (at : AreHousesAt scopes place listed) where
   abbrev has_it : ℕ → Bool
   has_it h = has_place (count_house_of houses h).places place
 
   same-houses : (λ h. has_place (scope_of scopes h) place) ≡ has_it
   same-houses = fun_ext λ h. ap (λ l. has_place l place) (table.places h)
 
-  pub listed-house : (k : ℕ) → k < length listed → (slice_index listed k < length houses) × (has_it (slice_index listed k) ≡ true) × (count_below has_it (slice_index listed k) ≡ k)
+  pub listed-house : (k : ℕ) → k < length listed
+      → (slice_index listed k < length houses) × (has_it (slice_index listed k) ≡ true)
+      × (count_below has_it (slice_index listed k) ≡ k)
   listed-house k lt = let w = in-list scopes place listed at k lt in
       (omega (arith, w.0, table.as_many), ap (λ (f : ℕ → Bool). f (slice_index listed k)) (sym same-houses) ∙ w.1, ap (λ f. count_below f (slice_index listed k)) (sym same-houses) ∙ w.2)
 
@@ -145,12 +159,15 @@ pub record AreMovedBelow (old new : List Tally) (listed : List ℕ) (before afte
 
 pub moved-next : {old new : List Tally} {listed : List ℕ} {before after n : ℕ} {t : Tally} → AreMovedBelow old new listed before after n → n < length listed
     → ((j k : ℕ) → j < length listed → k < length listed → slice_index listed j ≡ slice_index listed k → j ≡ k)
-    → slice_index listed n < length old → t ≡ moved_tally (tally_at old (slice_index listed n)) before after → AreMovedBelow old (set new (slice_index listed n) t) listed before after (n + 1)
+    → slice_index listed n < length old
+    → t ≡ moved_tally (tally_at old (slice_index listed n)) before after
+    → AreMovedBelow old (set new (slice_index listed n) t) listed before after (n + 1)
 moved-next {new} {listed} {n} {t} m lt twice within is = record {
   as_many = length-set new (slice_index listed n) t ∙ m.as_many;
   moved = λ k low. elim (cases_eq k n) [
     | inl e ↦ rw e (get_or-set_same new (slice_index listed n) t none (let s = m.as_many in omega arith) ∙ is)
-    | inr ne ↦ get_or-set_other new (slice_index listed n) (slice_index listed k) t none (λ same. ne (twice k n (omega arith) lt same)) ∙ m.moved k (omega arith)
+    | inr ne ↦ get_or-set_other new (slice_index listed n) (slice_index listed k) t none
+        (λ same. ne (twice k n (omega arith) lt same)) ∙ m.moved k (omega arith)
   ];
   kept = λ h off. get_or-set_other new (slice_index listed n) h t none (λ same. off n (omega arith) (sym same)) ∙ m.kept h (λ k low. off k (omega arith));
 }
@@ -158,7 +175,9 @@ moved-next {new} {listed} {n} {t} m lt twice within is = record {
     none : Tally
     none = record { must = 0; may = 0; empty = 0 }
 
-module _ (cells : ℕ) (scopes : List (List ℕ)) (houses : List CountHouse) (table : AreCounted cells scopes houses) (K L : Candidates) (place before after : ℕ) (change : IsChange cells 2 K L place before after)
+module _ (cells : ℕ) (scopes : List (List ℕ)) (houses : List CountHouse)
+    (table : AreCounted cells scopes houses) (K L : Candidates) (place before after : ℕ)
+    (change : IsChange cells 2 K L place before after)
     (old : List Tally) (tallied : AreTallied cells houses old K) (listed : List ℕ) (at : AreHousesAt scopes place listed) where
   there : (h : ℕ) → has_place (scope_of scopes h) place ≡ true → has_place (count_house_of houses h).places place ≡ true
   there h on = ap (λ l. has_place l place) (sym (table.places h)) ∙ on
@@ -183,7 +202,9 @@ module _ (cells : ℕ) (scopes : List (List ℕ)) (houses : List CountHouse) (ta
       record {
         low = let l = tallied.long in let a = m.as_many in omega arith;
         same = same;
-        can = rw same (can-move cells K L place before after change (count_house_of houses h).places (tally_at old h) is on (distinct h low) (table.each h low).few_places);
+        can =
+            rw same (can-move cells K L place before after change (count_house_of houses h).places
+            (tally_at old h) is on (distinct h low) (table.each h low).few_places);
       }
 
   pub tallied-moved : {new : List Tally} → AreMovedBelow old new listed before after (length listed) → AreTallied cells houses new L
@@ -197,18 +218,26 @@ module _ (cells : ℕ) (scopes : List (List ℕ)) (houses : List CountHouse) (ta
       | inl on ↦
           let low : h < length scopes = let e = table.as_many in omega arith in
           let here = at.each h low on in
-          let same : tally_at new h ≡ moved_tally (tally_at old h) before after = rw here at (m.moved (number_at scopes h place) (listed-at scopes place listed at h low on)) in
-          rw same (tally-moved cells K L place before after change (count_house_of houses h).places (tally_at old h) (tallied.each h lt) (there h on) (distinct h lt))
+          let same : tally_at new h ≡ moved_tally (tally_at old h) before after =
+          rw here at (m.moved (number_at scopes h place)
+          (listed-at scopes place listed at h low on)) in
+          rw same (tally-moved cells K L place before after change (count_house_of houses h).places
+          (tally_at old h) (tallied.each h lt) (there h on) (distinct h lt))
       | inr off ↦
           let same = m.kept h (λ k low e. true≢false (sym (rw e at (in-list scopes place listed at k low).1) ∙ off)) in
-          rw same (tally-kept cells K L place before after change (count_house_of houses h).places (tally_at old h) (tallied.each h lt) (ap (λ l. has_place l place) (sym (table.places h)) ∙ off))
+          rw same (tally-kept cells K L place before after change (count_house_of houses h).places
+          (tally_at old h) (tallied.each h lt)
+          (ap (λ l. has_place l place) (sym (table.places h)) ∙ off))
     ];
   }
 
-pub moved-end : (old new : List Tally) (listed : List ℕ) (before after n : ℕ) → AreMovedBelow old new listed before after n → n ≤ length listed → length listed ≤ n → AreMovedBelow old new listed before after (length listed)
+pub moved-end : (old new : List Tally) (listed : List ℕ) (before after n : ℕ)
+    → AreMovedBelow old new listed before after n → n ≤ length listed → length listed ≤ n
+    → AreMovedBelow old new listed before after (length listed)
 moved-end old new listed before after n m le ge = let e : n ≡ length listed = omega arith in subst (AreMovedBelow old new listed before after) e m
 
 -- ---- a house that does not call strikes nothing, by the bounds that a table has for it
-pub idle-by : {cells : ℕ} {house : CountHouse} {t : Tally} {b : Bounds} {calls : Bool} → IsHouse cells house → b ≡ bounds_of house → calls ≡ has_strikes t b → calls ≡ false
+pub idle-by : {cells : ℕ} {house : CountHouse} {t : Tally} {b : Bounds} {calls : Bool}
+    → IsHouse cells house → b ≡ bounds_of house → calls ≡ has_strikes t b → calls ≡ false
     → (K : Candidates) → IsTally K house.places t → (c v : ℕ) → v < 2 → K c v ≡ true → strikes_of house K c v ≡ false
 idle-by {cells} {house} {t} is e told off K tally = idle-at cells house K t is tally (rw e at (sym told ∙ off))

@@ -28,12 +28,15 @@ module _ {cells : ℕ} (K : Candidates) where
   unread-tally : {house : CountHouse} → IsHouse cells house → IsTally (read_below cells K 0) house.places (open_tally house.places)
   unread-tally is = grind (arith, common_steps, unread, count-none, count-every)
 
-  pub unread-tallied : {scopes : List (List ℕ)} {houses : List CountHouse} {tallies : List Tally} → AreCounted cells scopes houses → length houses ≤ length tallies
-      → ((h : ℕ) → h < length houses → tally_at tallies h ≡ open_tally (count_house_of houses h).places) → AreTallied cells houses tallies (read_below cells K 0)
+  pub unread-tallied : {scopes : List (List ℕ)} {houses : List CountHouse} {tallies : List Tally}
+      → AreCounted cells scopes houses → length houses ≤ length tallies
+      →
+      ((h : ℕ) → h < length houses → tally_at tallies h ≡ open_tally (count_house_of houses h).places) → AreTallied cells houses tallies (read_below cells K 0)
   unread-tallied table long all = grind (arith, common_steps, and_parts, le-ltb, ltb-true, unread-tally)
 
   -- the next cell is read
-  pub read-change : {n bits : ℕ} → n < cells → IsWithin cells 2 K → IsBitsOf (K n) 2 bits → IsChange cells 2 (read_below cells K n) (read_below cells K (n + 1)) n 3 bits
+  pub read-change : {n bits : ℕ} → n < cells → IsWithin cells 2 K → IsBitsOf (K n) 2 bits
+      → IsChange cells 2 (read_below cells K n) (read_below cells K (n + 1)) n 3 bits
   read-change lt within is = grind (arith, common_steps, le-ltb, lt-ltb, cases_lt, both)
 
   -- the next cell has both values, as if it were not read
@@ -48,5 +51,6 @@ module _ {cells : ℕ} (K : Candidates) where
 pub board-within : (b : Layout) {cells : ℕ} → cells_of b ≡ cells → b.values ≡ 2 → IsWithin cells 2 (has b)
 board-within b e two c v on = let w = has-within b c v on in (omega (arith, w.0), omega (arith, w.1))
 
-pub bits-are : (b : Layout) (c : ℕ) {bits : ℕ} → b.values ≡ 2 → bits < 2 ^ b.values → ((v : ℕ) → v < b.values → has_bit bits v ≡ has b c v) → IsBitsOf (has b c) 2 bits
+pub bits-are : (b : Layout) (c : ℕ) {bits : ℕ} → b.values ≡ 2 → bits < 2 ^ b.values
+    → ((v : ℕ) → v < b.values → has_bit bits v ≡ has b c v) → IsBitsOf (has b c) 2 bits
 bits-are b c two small same = record { small = rw two at small; same = λ v low. same v (omega arith) }

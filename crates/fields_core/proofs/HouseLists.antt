@@ -22,15 +22,19 @@ pub column-long : (size : Extent) (x : ℕ) → length (column_places size x) �
 column-long size x = length-map-range_with_len _ 0 size.h
 
 -- ---- the steps from a place that pass a test
-pub step-none : (test : ℕ → Bool) (size : Extent) (place n : ℕ) → None ≡ step size place n → filter test (steps size place n) ≡ filter test (steps size place (n + 1))
+pub step-none : (test : ℕ → Bool) (size : Extent) (place n : ℕ) → None ≡ step size place n
+    → filter test (steps size place n) ≡ filter test (steps size place (n + 1))
 unfolding steps
 step-none test size place n e = rw (add-one, ← e) (ap (filter test) (sym (append-nil (steps size place n))))
 
-pub step-skip : (test : ℕ → Bool) (size : Extent) (place n x : ℕ) → Some x ≡ step size place n → false ≡ test x → filter test (steps size place n) ≡ filter test (steps size place (n + 1))
+pub step-skip : (test : ℕ → Bool) (size : Extent) (place n x : ℕ) → Some x ≡ step size place n
+    → false ≡ test x → filter test (steps size place n) ≡ filter test (steps size place (n + 1))
 unfolding steps
 step-skip test size place n x e off = grind (arith, common_steps, add-one, filter-append, cond-false, append-nil)
 
-pub step-keep : (test : ℕ → Bool) (size : Extent) (place n x : ℕ) → Some x ≡ step size place n → true ≡ test x → filter test (steps size place n) ++ x ∷ [] ≡ filter test (steps size place (n + 1))
+pub step-keep : (test : ℕ → Bool) (size : Extent) (place n x : ℕ) → Some x ≡ step size place n
+    → true ≡ test x → filter test (steps size place n) ++ x ∷ [] ≡ filter test
+    (steps size place (n + 1))
 unfolding steps
 step-keep test size place n x e on = grind (arith, common_steps, add-one, filter-append, cond-true)
 
@@ -55,7 +59,8 @@ pub column-edge : (p : Light) (c w : ℕ) → w ≡ p.size.w → true ≡ white 
 unfolding begins_column_run
 column-edge p c w e on edge = let top : c / w ≡ 0 = div-eq_of_lt {n = c} {m = w} edge in rw (sym on, rw e at top) refl
 
-pub column-after : (p : Light) (c w : ℕ) (b : Bool) → 0 < w → w ≡ p.size.w → true ≡ white p c → (c < w → ⊥) → b ≡ white p (c - w) → not b ≡ begins_column_run p c
+pub column-after : (p : Light) (c w : ℕ) (b : Bool) → 0 < w → w ≡ p.size.w → true ≡ white p c
+    → (c < w → ⊥) → b ≡ white p (c - w) → not b ≡ begins_column_run p c
 unfolding begins_column_run
 column-after p c w b some e on inner is = grind (arith, common_steps, ne_eqb, lt-div-mul-add)
 

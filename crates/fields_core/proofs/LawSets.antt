@@ -47,7 +47,8 @@ pub ruleset tent_check_laws = (line-start, line-skip, line-more, line-all, ne_eq
 
 pub ruleset tent_houses_laws = (beside-fits, begun-none, begun-same, step-none, step-skip, begun-more, step-keep)
 
-pub ruleset tent_pairs_laws = (next-joined, listed-skip, listed-all, passed-start, passed-edge, passed-bare, passed-early, next-none, count-none, others-unpaired, listed-tents, count-is, whole-pairs, short-unpaired)
+pub ruleset tent_pairs_laws =
+    (next-joined, listed-skip, listed-all, passed-start, passed-edge, passed-bare, passed-early, next-none, count-none, others-unpaired, listed-tents, count-is, whole-pairs, short-unpaired)
 
 pub ruleset tent_rules_laws = (tent-counting, tents-tell, barred-tree, barred-alone, tree-found, treeless-all)
 

@@ -38,7 +38,9 @@ pub record IsBoard (p : Light) : Type 0 where
 bulb-white : (p : Light) (g : List ℕ) → IsGrid (light_cells p) 2 g → solves_lights p g ≡ true → (d : ℕ) → bulb g d ≡ true → white p d ≡ true
 unfolding black_right
 bulb-white p g grid good d on =
-    elim (or_cases (white p d) (eqb (slice_index g d) 0) (all_below-at (black_right p g) (light_cells p) d (lit-parts p g good).black (bulb-in g (light_cells p) d grid.each_cell on))) [
+    elim (or_cases (white p d) (eqb (slice_index g d) 0)
+    (all_below-at (black_right p g) (light_cells p) d (lit-parts p g good).black
+    (bulb-in g (light_cells p) d grid.each_cell on))) [
       | inl is ↦ is
       | inr none ↦ let a = eqb-true (slice_index g d) 0 none in let b = eqb-true (slice_index g d) 1 on in absurd (omega arith)
     ]
@@ -50,7 +52,10 @@ unfolding bulb_right sees_bulb sees
 no-sight p g grid good d e bd be joined = elim (cases_eq d e) [
   | inl same ↦ same
   | inr other ↦
-      let seen = any_below-here (λ f. not (eqb d f) && (joined_in_row p d f || joined_in_column p d f) && eqb (slice_index g f) 1) (light_cells p) e (bulb-in g (light_cells p) e grid.each_cell be)
+      let seen =
+      any_below-here (λ f. not
+      (eqb d f) && (joined_in_row p d f || joined_in_column p d f) && eqb (slice_index g f) 1)
+      (light_cells p) e (bulb-in g (light_cells p) e grid.each_cell be)
       (and_from _ _ (and_from _ _ (ap not (ne_eqb d e other)) joined) be) in
       let right = all_below-at (bulb_right p g) (light_cells p) d (lit-parts p g good).seen (bulb-in g (light_cells p) d grid.each_cell bd) in
       absurd (true≢false (sym (and_from _ _ bd seen) ∙ not-true _ right))
@@ -64,7 +69,9 @@ number-kind p c board lt = by (get_or p.cells c Black) refl
     places : List ℕ
     places = filter (white p) (steps p.size c 4)
 
-    by : (cell : LightCell) → get_or p.cells c Black ≡ cell → EachOf (IsMet (light_cells p) (solves_lights p)) (numbered cell (filter (white p) (steps p.size c 4)))
+    by : (cell : LightCell) → get_or p.cells c Black ≡ cell
+        → EachOf (IsMet (light_cells p) (solves_lights p))
+        (numbered cell (filter (white p) (steps p.size c 4)))
     by White e = each-none (IsMet (light_cells p) (solves_lights p))
     by Black e = each-none (IsMet (light_cells p) (solves_lights p))
     by (Numbered n) e = each-one (IsMet (light_cells p) (solves_lights p)) (exactly n (filter (white p) (steps p.size c 4))) (met-from
@@ -87,11 +94,15 @@ column-run-joined p c d on = (place-filter (joined_in_column p c) (column_places
 
 pub row-run-few : {p : Light} (c : ℕ) → IsBoard p → length (row_run p c) ≤ 256
 unfolding row_run
-row-run-few {p} c board = let a = filter-few (joined_in_row p c) (row_places p.size (c / p.size.w)) in let b = row-long p.size (c / p.size.w) in let w = board.w_few in omega arith
+row-run-few {p} c board = let a =
+    filter-few (joined_in_row p c) (row_places p.size (c / p.size.w)) in
+    let b = row-long p.size (c / p.size.w) in let w = board.w_few in omega arith
 
 pub column-run-few : {p : Light} (c : ℕ) → IsBoard p → length (column_run p c) ≤ 256
 unfolding column_run
-column-run-few {p} c board = let a = filter-few (joined_in_column p c) (column_places p.size (c % p.size.w)) in let b = column-long p.size (c % p.size.w) in let w = board.h_few in omega arith
+column-run-few {p} c board = let a =
+    filter-few (joined_in_column p c) (column_places p.size (c % p.size.w)) in
+    let b = column-long p.size (c % p.size.w) in let w = board.h_few in omega arith
 
 row-run-distinct : (p : Light) (c : ℕ) → AreDistinct (row_run p c)
 unfolding row_run
@@ -156,9 +167,14 @@ lit-kind p c board lt on = met-from
         same-cell w x y = let f : d ≡ d / w * w + d % w = omega arith in let h : c ≡ c / w * w + c % w = omega arith in f ∙ rw (x, y) (sym h)
 
     distinct : AreDistinct (row_run p c ++ filter (λ d. not (eqb d c)) (column_run p c))
-    distinct = distinct-append (row_run p c) (filter (λ d. not (eqb d c)) (column_run p c)) (row-run-distinct p c) (distinct-filter (λ d. not (eqb d c)) (column_run p c) (column-run-distinct p c board)) apart
+    distinct =
+        distinct-append (row_run p c) (filter (λ d. not (eqb d c)) (column_run p c))
+        (row-run-distinct p c) (distinct-filter (λ d. not (eqb d c)) (column_run p c)
+        (column-run-distinct p c board)) apart
 
-    some-bulb : (g : List ℕ) → IsGrid (light_cells p) 2 g → solves_lights p g ≡ true → (d : ℕ) × (has_place (row_run p c ++ filter (λ d. not (eqb d c)) (column_run p c)) d ≡ true) × (bulb g d ≡ true)
+    some-bulb : (g : List ℕ) → IsGrid (light_cells p) 2 g → solves_lights p g ≡ true
+        → (d : ℕ) × (has_place (row_run p c ++ filter (λ d. not (eqb d c)) (column_run p c))
+        d ≡ true) × (bulb g d ≡ true)
     some-bulb g grid good = elim (or_cases (not (white p c)) _ (all_below-at (lit_right p g) (light_cells p) c (lit-parts p g good).lit lt)) [
       | inl black ↦ absurd (true≢false (sym on ∙ not-true (white p c) black))
       | inr lit ↦ elim (or_cases (bulb g c) _ lit) [
@@ -181,10 +197,21 @@ lit-kind p c board lt on = met-from
 
 each-met : (p : Light) → IsBoard p → EachOf (IsMet (light_cells p) (solves_lights p)) (light_houses p)
 unfolding light_houses
-each-met p board = each-append (IsMet (light_cells p) (solves_lights p)) _ _ (each-below (IsMet (light_cells p) (solves_lights p)) (number_house p) (light_cells p) (λ c lt. number-kind p c board lt))
-    (each-append (IsMet (light_cells p) (solves_lights p)) _ _ (each-below (IsMet (light_cells p) (solves_lights p)) (row_house p) (light_cells p) (λ c lt. each-if (IsMet (light_cells p) (solves_lights p)) (begins_row_run p c) _ (λ _. row-kind p c board)))
-    (each-append (IsMet (light_cells p) (solves_lights p)) _ _ (each-below (IsMet (light_cells p) (solves_lights p)) (column_house p) (light_cells p) (λ c lt. each-if (IsMet (light_cells p) (solves_lights p)) (begins_column_run p c) _ (λ _. column-kind p c board)))
-    (each-below (IsMet (light_cells p) (solves_lights p)) (lit_house p) (light_cells p) (λ c lt. each-if (IsMet (light_cells p) (solves_lights p)) (white p c) _ (λ on. lit-kind p c board lt on)))))
+each-met p board =
+    each-append (IsMet (light_cells p) (solves_lights p)) _ _
+    (each-below (IsMet (light_cells p) (solves_lights p)) (number_house p) (light_cells p)
+    (λ c lt. number-kind p c board lt))
+    (each-append (IsMet (light_cells p) (solves_lights p)) _ _
+    (each-below (IsMet (light_cells p) (solves_lights p)) (row_house p) (light_cells p)
+    (λ c lt. each-if (IsMet (light_cells p) (solves_lights p)) (begins_row_run p c) _
+    (λ _. row-kind p c board)))
+    (each-append (IsMet (light_cells p) (solves_lights p)) _ _
+    (each-below (IsMet (light_cells p) (solves_lights p)) (column_house p) (light_cells p)
+    (λ c lt. each-if (IsMet (light_cells p) (solves_lights p)) (begins_column_run p c) _
+    (λ _. column-kind p c board)))
+    (each-below (IsMet (light_cells p) (solves_lights p)) (lit_house p) (light_cells p)
+    (λ c lt. each-if (IsMet (light_cells p) (solves_lights p)) (white p c) _
+    (λ on. lit-kind p c board lt on)))))
 
 -- ---- a puzzle's board
 number-few : (cells : List LightCell) (c n : ℕ) → AllByRecursion IsLightCell cells → get_or cells c Black ≡ Numbered n → n ≤ 4
@@ -200,10 +227,12 @@ unfolding black_right
 light-counting {p} is = record {
   few_cells = let b = light-board is in let a : p.size.w * p.size.h ≤ 256 * p.size.h = mul-le-mul_right p.size.h b.w_few in let h = b.h_few in omega arith;
   are_houses = λ h lt. (each-met p (light-board is) h lt).is_house;
-  blocked_zero = λ g grid good c lt blocked. elim (or_cases (white p c) (eqb (slice_index g c) 0) (all_below-at (black_right p g) (light_cells p) c (lit-parts p g good).black lt)) [
-    | inl on ↦ absurd (true≢false (sym on ∙ not-true (white p c) blocked))
-    | inr none ↦ eqb-true (slice_index g c) 0 none
-  ];
+  blocked_zero =
+      λ g grid good c lt blocked. elim (or_cases (white p c) (eqb (slice_index g c) 0)
+      (all_below-at (black_right p g) (light_cells p) c (lit-parts p g good).black lt)) [
+        | inl on ↦ absurd (true≢false (sym on ∙ not-true (white p c) blocked))
+        | inr none ↦ eqb-true (slice_index g c) 0 none
+      ];
   meets_each = λ g grid good h lt. (each-met p (light-board is) h lt).met g grid good;
 }
 

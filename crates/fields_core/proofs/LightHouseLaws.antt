@@ -65,10 +65,12 @@ met-from within distinct few least most counted = grind (arith, common_steps, di
 -- ---- white cells and lines
 pub clear-at : (test : ℕ → Bool) (j k i : ℕ) → clear test j k ≡ true → min j k ≤ i → i ≤ max j k → test i ≡ true
 unfolding clear
-clear-at test j k i on low high = elim (or_cases (ltb i (min j k)) (test i) (all_below-at (λ i. ltb i (min j k) || test i) (suc (max j k)) i on (omega arith))) [
-  | inl below ↦ let l = ltb-true i (min j k) below in absurd (omega arith)
-  | inr here ↦ here
-]
+clear-at test j k i on low high =
+    elim (or_cases (ltb i (min j k)) (test i)
+    (all_below-at (λ i. ltb i (min j k) || test i) (suc (max j k)) i on (omega arith))) [
+      | inl below ↦ let l = ltb-true i (min j k) below in absurd (omega arith)
+      | inr here ↦ here
+    ]
 
 pub clear-from : (test : ℕ → Bool) (j k : ℕ) → ((i : ℕ) → min j k ≤ i → i ≤ max j k → test i ≡ true) → clear test j k ≡ true
 unfolding clear
@@ -90,11 +92,15 @@ clear-both test j k l a b = clear-from test k l (λ i low high. elim (cases_lt i
   ]
 ])
 
-pub row-parts : (p : Light) (c d : ℕ) → joined_in_row p c d ≡ true → (c / p.size.w ≡ d / p.size.w) × (clear (λ x. white p (c / p.size.w * p.size.w + x)) (c % p.size.w) (d % p.size.w) ≡ true)
+pub row-parts : (p : Light) (c d : ℕ) → joined_in_row p c d ≡ true
+    → (c / p.size.w ≡ d / p.size.w)
+    × (clear (λ x. white p (c / p.size.w * p.size.w + x)) (c % p.size.w) (d % p.size.w) ≡ true)
 unfolding joined_in_row
 row-parts p c d on = let w = and_parts (eqb (c / p.size.w) (d / p.size.w)) _ on in (eqb-true _ _ w.0, w.1)
 
-pub column-parts : (p : Light) (c d : ℕ) → joined_in_column p c d ≡ true → (c % p.size.w ≡ d % p.size.w) × (clear (λ y. white p (y * p.size.w + c % p.size.w)) (c / p.size.w) (d / p.size.w) ≡ true)
+pub column-parts : (p : Light) (c d : ℕ) → joined_in_column p c d ≡ true
+    → (c % p.size.w ≡ d % p.size.w)
+    × (clear (λ y. white p (y * p.size.w + c % p.size.w)) (c / p.size.w) (d / p.size.w) ≡ true)
 unfolding joined_in_column
 column-parts p c d on = let w = and_parts (eqb (c % p.size.w) (d % p.size.w)) _ on in (eqb-true _ _ w.0, w.1)
 
@@ -146,7 +152,9 @@ module _ (p : Light) (c d : ℕ) (some : 0 < p.size.w) (next : c + 1 ≡ d) (bef
 
   row-run-next : row_run p c ≡ row_run p d
   unfolding row_run
-  row-run-next = filter_agree (joined_in_row p c) (joined_in_row p d) same (row_places p.size (c / p.size.w)) ∙ ap (λ y. filter (joined_in_row p d) (row_places p.size y)) parts.0
+  row-run-next =
+      filter_agree (joined_in_row p c) (joined_in_row p d) same (row_places p.size (c / p.size.w))
+      ∙ ap (λ y. filter (joined_in_row p d) (row_places p.size y)) parts.0
     where
       back : joined_in_row p d c ≡ true
       back = row-both p c d c row-next (row-self p c before)
@@ -162,7 +170,8 @@ pub row-before : (p : Light) (d : ℕ) → begins_row_run p d ≡ false → whit
 unfolding begins_row_run
 row-before p d off on = grind (arith, common_steps, parts, or_parts, eq-eqb, not-false)
 
-pub row-run-on : (p : Light) (d : ℕ) → 0 < p.size.w → begins_row_run p d ≡ false → white p d ≡ true → (c : ℕ) × (c + 1 ≡ d) × (white p c ≡ true) × (row_run p c ≡ row_run p d)
+pub row-run-on : (p : Light) (d : ℕ) → 0 < p.size.w → begins_row_run p d ≡ false → white p d ≡ true
+    → (c : ℕ) × (c + 1 ≡ d) × (white p c ≡ true) × (row_run p c ≡ row_run p d)
 row-run-on p d some off on =
     let v = row-before p d off on in
     let next : d - 1 + 1 ≡ d = omega (arith, positive v.0) in
@@ -185,7 +194,10 @@ module _ (p : Light) (c d : ℕ) (some : 0 < p.size.w) (next : c + p.size.w ≡ 
 
   pub column-run-next : column_run p c ≡ column_run p d
   unfolding column_run
-  column-run-next = filter_agree (joined_in_column p c) (joined_in_column p d) same (column_places p.size (c % p.size.w)) ∙ ap (λ x. filter (joined_in_column p d) (column_places p.size x)) (sym below.1)
+  column-run-next =
+      filter_agree (joined_in_column p c) (joined_in_column p d) same
+      (column_places p.size (c % p.size.w))
+      ∙ ap (λ x. filter (joined_in_column p d) (column_places p.size x)) (sym below.1)
     where
       back : joined_in_column p d c ≡ true
       back = column-both p c d c column-next (column-self p c before)
@@ -193,7 +205,9 @@ module _ (p : Light) (c d : ℕ) (some : 0 < p.size.w) (next : c + p.size.w ≡ 
       same : (e : ℕ) → joined_in_column p c e ≡ joined_in_column p d e
       same e = grind (arith, common_steps, cases_Bool, column-both, column-next, false_from_ne_true, back)
 
-pub column-run-on : (p : Light) (d : ℕ) → 0 < p.size.w → begins_column_run p d ≡ false → white p d ≡ true → (c : ℕ) × (c + p.size.w ≡ d) × (white p c ≡ true) × (column_run p c ≡ column_run p d)
+pub column-run-on : (p : Light) (d : ℕ) → 0 < p.size.w → begins_column_run p d ≡ false
+    → white p d ≡ true → (c : ℕ) × (c + p.size.w ≡ d) × (white p c ≡ true)
+    × (column_run p c ≡ column_run p d)
 unfolding begins_column_run
 column-run-on p d some off on =
     let parts = or_parts (eqb (d / p.size.w) 0) (not (white p (d - p.size.w))) (rw on at off) in

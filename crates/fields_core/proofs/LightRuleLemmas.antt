@@ -199,4 +199,6 @@ module _ (p : Light) (g : List ℕ) where
     light-known = known_tests (FailsLight p g) kinds light-made
 
     pub light-tells : (fault : Option LightFault) (told : Bool) → IsLightFault p g fault → is_some fault ≡ not told → told ≡ solves_lights p g
-    light-tells fault told is e = none_tells (FailsLight p g) (light_tests p) light-none told (solves_lights p g) (rule-from-test p g grid) test-from-rule fault is e
+    light-tells fault told is e =
+        none_tells (FailsLight p g) (light_tests p) light-none told (solves_lights p g)
+        (rule-from-test p g grid) test-from-rule fault is e

@@ -13,7 +13,9 @@ use Rattle.fields_core.proofs.RunLemmas.{clear-same, row-cell-joined, column-cel
 use Rattle.fields_core.proofs.TentBeside.{row-in}
 
 -- ---- a walk from the number `at`, down or up, that has passed as many numbers as from low to next, and is at k
-module _ (white bulb : ℕ → Bool) (at : ℕ) {low high next : ℕ} (k : ℕ) (from : low ≤ next) (to : next < high) (side : ((high ≡ at) × (k + next + 1 ≡ low + at)) ⊎ ((low ≡ at + 1) × (k ≡ next))) where
+module _ (white bulb : ℕ → Bool) (at : ℕ) {low high next : ℕ} (k : ℕ) (from : low ≤ next)
+    (to : next < high)
+    (side : ((high ≡ at) × (k + next + 1 ≡ low + at)) ⊎ ((low ≡ at + 1) × (k ≡ next))) where
   pub walk-black : ((i : ℕ) → low ≤ i → i < high → at + low ≤ i + next → i + low ≤ at + next → bulb i ≡ false) → white k ≡ false → Shines white bulb at low high false
   walk-black dark off = λ i low_in lt joined. grind (arith, common_steps, clear-at white at i k joined, dark i, cases_lt)
 
@@ -34,10 +36,13 @@ row-sees p g {c} w b some e in_grid s = by b s
     test : (i : ℕ) → clear (λ k. white p (c - c % w + k * 1)) (c % w) i ≡ clear (λ k. white p (c / p.size.w * p.size.w + k)) (c % p.size.w) i
     test i = clear-same _ _ (c % w) i (λ k. ap (white p) (same k)) ∙ ap (λ n. clear (λ k. white p (c / p.size.w * p.size.w + k)) (c % n) i) e
 
-    by : (b : Bool) → ShinesAlong (λ i. white p (c - c % w + i * 1)) (λ i. bulb g (c - c % w + i * 1)) (c % w) w b → SeesAlong (joined_in_row p) (light_cells p) g c b
+    by : (b : Bool) → ShinesAlong (λ i. white p (c - c % w + i * 1))
+        (λ i. bulb g (c - c % w + i * 1)) (c % w) w b
+        → SeesAlong (joined_in_row p) (light_cells p) g c b
     by true s = (
       c - c % w + s.0 * 1,
-      rw (same s.0) (let lt : s.0 < p.size.w = rw (sym e) s.1 in omega (arith, mul-add-lt (c / p.size.w) p.size.w s.0 p.size.h (row-in {w = p.size.w} p.size.h c (rw (sym e) some) in_grid) lt)),
+      rw (same s.0) (let lt : s.0 < p.size.w = rw (sym e) s.1 in
+          omega (arith, mul-add-lt (c / p.size.w) p.size.w s.0 p.size.h (row-in {w = p.size.w} p.size.h c (rw (sym e) some) in_grid) lt)),
       (λ f. s.2 (let v = whole c w in omega arith)),
       ap (joined_in_row p c) (same s.0) ∙ row-cell-joined p c s.0 (rw (sym e) s.1) ∙ sym (test s.0) ∙ s.3,
       s.4,
@@ -57,10 +62,12 @@ column-sees p g c w h b some e f s = by b s
     test : (i : ℕ) → clear (λ k. white p (c % w + k * w)) (c / w) i ≡ clear (λ k. white p (k * p.size.w + c % p.size.w)) (c / p.size.w) i
     test i = clear-same _ _ (c / w) i (λ k. ap (white p) (same k)) ∙ ap (λ n. clear (λ k. white p (k * p.size.w + c % p.size.w)) (c / n) i) e
 
-    by : (b : Bool) → ShinesAlong (λ i. white p (c % w + i * w)) (λ i. bulb g (c % w + i * w)) (c / w) h b → SeesAlong (joined_in_column p) (light_cells p) g c b
+    by : (b : Bool) → ShinesAlong (λ i. white p (c % w + i * w)) (λ i. bulb g (c % w + i * w))
+        (c / w) h b → SeesAlong (joined_in_column p) (light_cells p) g c b
     by true s = (
       c % w + s.0 * w,
-      rw (same s.0) (let lt : s.0 < p.size.h = rw (sym f) s.1 in omega (arith, mul-add-lt s.0 p.size.w (c % p.size.w) p.size.h lt (mod-lt c (rw (sym e) some)))),
+      rw (same s.0) (let lt : s.0 < p.size.h = rw (sym f) s.1 in
+          omega (arith, mul-add-lt s.0 p.size.w (c % p.size.w) p.size.h lt (mod-lt c (rw (sym e) some)))),
       (λ t. s.2 (mul-inj some (let v = whole c w in omega arith))),
       ap (joined_in_column p c) (same s.0) ∙ column-cell-joined p c s.0 (rw (sym e) some) ∙ sym (test s.0) ∙ s.3,
       s.4,
@@ -68,13 +75,17 @@ column-sees p g c w h b some e f s = by b s
     by false s = λ d lt ne on.
         let v = column-parts p c d on in
         let here : c % w + d / w * w ≡ d = same (d / w) ∙ rw (v.0, e) (sym (whole d p.size.w)) in
-        ap (bulb g) (sym here) ∙ s (d / w) (rw f (row-in p.size.h d some (rw e lt))) (λ t. ne (sym here ∙ ap (λ y. c % w + y * w) t ∙ (let u = whole c w in omega arith))) (test (d / w) ∙ rw e v.1)
+        ap (bulb g) (sym here) ∙ s (d / w) (rw f (row-in p.size.h d some (rw e lt)))
+        (λ t. ne (sym here ∙ ap (λ y. c % w + y * w) t ∙ (let u = whole c w in omega arith)))
+        (test (d / w) ∙ rw e v.1)
 
 -- ---- both lines
 swapped : (c d : ℕ) → d ≢ c → not (eqb c d) ≡ true
 swapped c d off = ap not (ne_eqb c d (λ e. off (sym e)))
 
-seen-there : (p : Light) (g : List ℕ) (c d : ℕ) → d < light_cells p → d ≢ c → (joined_in_row p c d || joined_in_column p c d) ≡ true → bulb g d ≡ true → sees_bulb p g c ≡ true
+seen-there : (p : Light) (g : List ℕ) (c d : ℕ) → d < light_cells p → d ≢ c
+    → (joined_in_row p c d || joined_in_column p c d) ≡ true → bulb g d ≡ true
+    → sees_bulb p g c ≡ true
 unfolding sees_bulb sees
 seen-there p g c d lt off joined on =
     any_below-here (λ e. (not (eqb c e) && (joined_in_row p c e || joined_in_column p c e)) && eqb (slice_index g e) 1) (light_cells p) d lt
@@ -83,11 +94,15 @@ seen-there p g c d lt off joined on =
 pub seen-in-row : (p : Light) (g : List ℕ) (c : ℕ) → SeesAlong (joined_in_row p) (light_cells p) g c true → sees_bulb p g c ≡ true
 seen-in-row p g c s = seen-there p g c s.0 s.1 s.2 (or_left (joined_in_row p c s.0) (joined_in_column p c s.0) s.3) s.4
 
-unseen : (p : Light) (g : List ℕ) (c : ℕ) → ((d : ℕ) → d < light_cells p → d ≢ c → (joined_in_row p c d || joined_in_column p c d) ≡ true → bulb g d ≡ false) → sees_bulb p g c ≡ false
+unseen : (p : Light) (g : List ℕ) (c : ℕ)
+    → ((d : ℕ) → d < light_cells p → d ≢ c → (joined_in_row p c d || joined_in_column p c d) ≡ true
+    → bulb g d ≡ false) → sees_bulb p g c ≡ false
 unfolding sees_bulb sees
 unseen p g c none = grind (arith, common_steps, false_from_ne_true, any_below-some, and_parts, eq-eqb, not-true)
 
-pub seen-in-column : (p : Light) (g : List ℕ) (c : ℕ) (b : Bool) → SeesAlong (joined_in_row p) (light_cells p) g c false → SeesAlong (joined_in_column p) (light_cells p) g c b → b ≡ sees_bulb p g c
+pub seen-in-column : (p : Light) (g : List ℕ) (c : ℕ) (b : Bool)
+    → SeesAlong (joined_in_row p) (light_cells p) g c false
+    → SeesAlong (joined_in_column p) (light_cells p) g c b → b ≡ sees_bulb p g c
 seen-in-column p g c true row s = sym (seen-there p g c s.0 s.1 s.2 (or_right (joined_in_row p c s.0) (joined_in_column p c s.0) s.3) s.4)
 seen-in-column p g c false row s = sym (unseen p g c (λ d lt ne joined. elim (or_cases (joined_in_row p c d) (joined_in_column p c d) joined) [
   | inl a ↦ row d lt ne a

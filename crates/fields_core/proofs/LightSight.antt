@@ -13,14 +13,17 @@ use Rattle.fields_core.specs.Light.{light_cells, bulb, joined_in_row, joined_in_
 use Rattle.std.proofs.lemmas.Grind.{common_steps}
 
 -- the cells of a row and of a column, by column and by row
-pub row-of : (p : Light) (c d : ℕ) → 0 < p.size.w → joined_in_row p c d ≡ true → (x : ℕ) × (x < p.size.w) × (slice_index (row_places p.size (c / p.size.w)) x ≡ d)
+pub row-of : (p : Light) (c d : ℕ) → 0 < p.size.w → joined_in_row p c d ≡ true
+    → (x : ℕ) × (x < p.size.w) × (slice_index (row_places p.size (c / p.size.w)) x ≡ d)
 unfolding joined_in_row
 row-of p c d pos on =
     let same = eqb-true (c / p.size.w) (d / p.size.w) (and_parts _ _ on).0 in
     let lt = mod-lt d pos in
     (d % p.size.w, lt, sym (row-at p.size (c / p.size.w) (d % p.size.w) lt) ∙ rw same (omega arith))
 
-pub column-of : (p : Light) (c d : ℕ) → 0 < p.size.w → d < light_cells p → joined_in_column p c d ≡ true → (y : ℕ) × (y < p.size.h) × (slice_index (column_places p.size (c % p.size.w)) y ≡ d)
+pub column-of : (p : Light) (c d : ℕ) → 0 < p.size.w → d < light_cells p
+    → joined_in_column p c d ≡ true → (y : ℕ) × (y < p.size.h)
+    × (slice_index (column_places p.size (c % p.size.w)) y ≡ d)
 unfolding joined_in_column
 column-of p c d pos below on =
     let same = eqb-true (c % p.size.w) (d % p.size.w) (and_parts _ _ on).0 in

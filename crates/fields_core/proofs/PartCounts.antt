@@ -32,7 +32,9 @@ count-single p (suc n) x lt off = elim (cases_eq x n) [
 ]
 
 -- numbers that pass one of two tests, and none that passes both
-pub count-apart : (a b t : ℕ → Bool) (n : ℕ) → ((c : ℕ) → c < n → a c ≡ true → b c ≡ true → ⊥) → count_below (λ c. (a c || b c) && t c) n ≡ count_below (λ c. a c && t c) n + count_below (λ c. b c && t c) n
+pub count-apart : (a b t : ℕ → Bool) (n : ℕ) → ((c : ℕ) → c < n → a c ≡ true → b c ≡ true → ⊥)
+    → count_below (λ c. (a c || b c) && t c) n ≡ count_below (λ c. a c && t c) n + count_below
+    (λ c. b c && t c) n
 unfolding count_below
 count-apart a b t zero apart = refl
 count-apart a b t (suc n) apart =
@@ -59,10 +61,14 @@ row-count w y bits (suc n) =
     at : (k : ℕ) → k < w → crosses (Row y) bits ((n * w + k) / w) ((n * w + k) % w) ≡ (eqb n y && has_bit bits k)
     at k lt = rw (div-mul-add n w k lt, place-column w n k lt) refl
 
-    by : (y ≡ n) ⊎ (y ≢ n) → cond (ltb y n) (count_below (has_bit bits) w) 0 + count_below (λ k. crosses (Row y) bits ((n * w + k) / w) ((n * w + k) % w)) w ≡ cond (ltb y (suc n)) (count_below (has_bit bits) w) 0
+    by : (y ≡ n) ⊎ (y ≢ n) → cond (ltb y n) (count_below (has_bit bits) w) 0 + count_below
+        (λ k. crosses (Row y) bits ((n * w + k) / w) ((n * w + k) % w)) w ≡ cond (ltb y (suc n))
+        (count_below (has_bit bits) w) 0
     by (inl e) =
         rw (le-ltb y n (omega arith), lt-ltb y (suc n) (omega arith))
-        (ap (λ m. 0 + m) (count_below-same (λ k. crosses (Row y) bits ((n * w + k) / w) ((n * w + k) % w)) (has_bit bits) w (λ k lt. at k lt ∙ rw (eq-eqb n y (sym e)) refl)) ∙ omega arith)
+        (ap (λ m. 0 + m) (count_below-same
+        (λ k. crosses (Row y) bits ((n * w + k) / w) ((n * w + k) % w)) (has_bit bits) w
+        (λ k lt. at k lt ∙ rw (eq-eqb n y (sym e)) refl)) ∙ omega arith)
     by (inr ne) =
         rw (count_below-none (λ k. crosses (Row y) bits ((n * w + k) / w) ((n * w + k) % w)) w (λ k lt. at k lt ∙ rw (ne_eqb n y (λ e. ne (sym e))) refl))
         (grind (arith, common_steps, cases_lt y n, cases_lt y (suc n), lt-ltb, le-ltb))
@@ -73,13 +79,17 @@ column-count w x bits zero lt = let e : 0 * w ≡ 0 = omega arith in rw e refl
 column-count w x bits (suc n) lt =
     let e : suc n * w ≡ n * w + w = omega arith in
     rw (e, count-add (λ c. crosses (Column x) bits (c / w) (c % w)) (n * w) w, column-count w x bits n lt)
-    (ap (λ m. count_below (has_bit bits) n + m) (count-single (λ k. crosses (Column x) bits ((n * w + k) / w) ((n * w + k) % w)) w x lt (λ k less ne. at k less ∙ rw (ne_eqb k x ne) refl) ∙ rw (at x lt, eq-eqb x x refl) refl))
+    (ap (λ m. count_below (has_bit bits) n + m)
+    (count-single (λ k. crosses (Column x) bits ((n * w + k) / w) ((n * w + k) % w)) w x lt
+    (λ k less ne. at k less ∙ rw (ne_eqb k x ne) refl) ∙ rw (at x lt, eq-eqb x x refl) refl))
   where
     at : (k : ℕ) → k < w → crosses (Column x) bits ((n * w + k) / w) ((n * w + k) % w) ≡ (eqb k x && has_bit bits n)
     at k less = rw (div-mul-add n w k less, place-column w n k less) refl
 
 -- the cells at some places of a line are as many as these
-pub line-count : (size : Extent) (line : Line) (bits room : ℕ) → number_of line < lines_beside size line → line_len size line ≤ room → ((k : ℕ) → has_bit bits k ≡ true → k < line_len size line)
+pub line-count : (size : Extent) (line : Line) (bits room : ℕ)
+    → number_of line < lines_beside size line → line_len size line ≤ room
+    → ((k : ℕ) → has_bit bits k ≡ true → k < line_len size line)
     → count_below (has_bit bits) room ≡ count_below (λ c. crosses line bits (c / size.w) (c % size.w)) (size.w * size.h)
 line-count size (Row y) bits room lt fits within =
     let e : size.w * size.h ≡ size.h * size.w = omega arith in
@@ -95,7 +105,8 @@ pub crosses-both : (p : Layers) (line : Line) (bits there v c : ℕ) → v < 2 �
     → crosses line there (c / p.size.w) (c % p.size.w) ≡ (crosses line bits (c / p.size.w) (c % p.size.w) && has p c v)
 unfolding crosses has
 crosses-both p (Row n) bits there v c lt is = grind (arith, common_steps, cases_Bool, lt-ltb v 2, cases_eq (c / p.size.w) n, eq-eqb, ne_eqb, is (c % p.size.w))
-crosses-both p (Column n) bits there v c lt is = grind (arith, common_steps, cases_Bool, lt-ltb v 2, cases_eq (c % p.size.w) n, eq-eqb, ne_eqb, is (c / p.size.w))
+crosses-both p (Column n) bits there v c lt is =
+    grind (arith, common_steps, cases_Bool, lt-ltb v 2, cases_eq (c % p.size.w) n, eq-eqb, ne_eqb, is (c / p.size.w))
 
 -- ---- the places of a list
 pub place-count : (test : ℕ → Bool) (places : List ℕ) (cells : ℕ) → AreDistinct places → ((c : ℕ) → has_place places c ≡ true → c < cells)
@@ -106,5 +117,6 @@ place-count test (x ∷ places) cells (alone, distinct) within =
     sum_by-cons (λ c. cond (test c) 1 0) x places
     ∙ rw (place-count test places cells distinct (λ c there. within c (grind (arith, common_steps, cases_Bool))))
     (ap (λ m. m + count_below (λ c. has_place places c && test c) cells)
-    (sym (count-single (λ c. eqb x c && test c) cells x (within x (rw (eq-eqb x x refl) refl)) (λ c lt ne. rw (ne_eqb x c (λ e. ne (sym e))) refl) ∙ rw (eq-eqb x x refl) refl))
+    (sym (count-single (λ c. eqb x c && test c) cells x (within x (rw (eq-eqb x x refl) refl))
+    (λ c lt ne. rw (ne_eqb x c (λ e. ne (sym e))) refl) ∙ rw (eq-eqb x x refl) refl))
     ∙ sym (count-apart (eqb x) (has_place places) test cells (λ c lt here more. true≢false (sym more ∙ rw (sym (eqb-true x c here)) alone))))

@@ -43,7 +43,9 @@ count-every test (x ∷ xs) all =
     omega (arith, count-cons test x xs, ap num first)
 
 -- of different places, one at most passes where no two do
-pub count-one : (test : ℕ → Bool) (xs : List ℕ) → AreDistinct xs → ((d e : ℕ) → has_place xs d ≡ true → has_place xs e ≡ true → test d ≡ true → test e ≡ true → d ≡ e) → count_by test xs ≤ 1
+pub count-one : (test : ℕ → Bool) (xs : List ℕ) → AreDistinct xs
+    →
+    ((d e : ℕ) → has_place xs d ≡ true → has_place xs e ≡ true → test d ≡ true → test e ≡ true → d ≡ e) → count_by test xs ≤ 1
 count-one test xs distinct same = elim (cases_lt 1 (length (filter test xs))) [
   | inl many ↦
       let a = place-filter test xs (slice_index (filter test xs) 0) (has_place-here (filter test xs) 0 (omega arith)) in

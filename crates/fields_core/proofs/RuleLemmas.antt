@@ -15,7 +15,9 @@ pub record IsStarted (cells : ℕ) (blocked : ℕ → Bool) (n : ℕ) (K : Candi
 pub started : (cells : ℕ) {blocked : ℕ → Bool} (K : Candidates) → K ≡ all_of cells 2 → IsStarted cells blocked 0 K
 started cells K e = record { sets = λ c v. ap (λ (L : Candidates). L c v) e ∙ sym (rw (le-ltb c 0 (omega arith)) (and-true (all_of cells 2 c v))) }
 
-pub start-blocked : {cells : ℕ} {blocked : ℕ → Bool} (n : ℕ) (K K' : Candidates) → IsStarted cells blocked n K → blocked n ≡ true → K' ≡ without K n 1 → IsStarted cells blocked (n + 1) K'
+pub start-blocked : {cells : ℕ} {blocked : ℕ → Bool} (n : ℕ) (K K' : Candidates)
+    → IsStarted cells blocked n K → blocked n ≡ true → K' ≡ without K n 1
+    → IsStarted cells blocked (n + 1) K'
 unfolding without
 start-blocked n K K' before is left = grind (arith, common_steps, cases_eq, eq-eqb, lt-ltb, or-true, ne_eqb, or-false, cases_lt, le-ltb)
 

@@ -101,11 +101,15 @@ pub line-run : (joined : ℕ → Bool) (test along_test : ℕ → Bool) (at len 
 line-run joined test along_test at len place along same_place same_test is = grind (arith, common_steps, map-same, filter-same, clear-same, filter-map)
 
 -- ---- the run of a row and of a column
-pub row-cell-joined : (p : Light) (c x : ℕ) → x < p.size.w → joined_in_row p c (c / p.size.w * p.size.w + x) ≡ clear (λ i. white p (c / p.size.w * p.size.w + i)) (c % p.size.w) x
+pub row-cell-joined : (p : Light) (c x : ℕ) → x < p.size.w
+    → joined_in_row p c (c / p.size.w * p.size.w + x) ≡ clear
+    (λ i. white p (c / p.size.w * p.size.w + i)) (c % p.size.w) x
 unfolding joined_in_row
 row-cell-joined p c x lt = grind (arith, common_steps, div-mul-add, mod-mul-add, eq-eqb)
 
-pub column-cell-joined : (p : Light) (c y : ℕ) → 0 < p.size.w → joined_in_column p c (y * p.size.w + c % p.size.w) ≡ clear (λ i. white p (i * p.size.w + c % p.size.w)) (c / p.size.w) y
+pub column-cell-joined : (p : Light) (c y : ℕ) → 0 < p.size.w
+    → joined_in_column p c (y * p.size.w + c % p.size.w) ≡ clear
+    (λ i. white p (i * p.size.w + c % p.size.w)) (c / p.size.w) y
 unfolding joined_in_column
 column-cell-joined p c y pos = grind (arith, common_steps, mod-lt, div-mul-add, mod-mul-add, eq-eqb)
 
@@ -142,7 +146,9 @@ column-begun p c w i e on f = grind (arith, common_steps, and_parts, or_cases, e
 pub run-long : (f : ℕ → ℕ) (start n : ℕ) (xs : List ℕ) → map f (range_with_len start n) ≡ xs → n ≡ length xs
 run-long f start n xs e = sym (length-map-range_with_len f start n) ∙ ap length e
 
-pub run-at : (first stride start n k : ℕ) {xs : List ℕ} → map (λ i. first + i * stride) (range_with_len start n) ≡ xs → k < length xs → first + (start + k) * stride ≡ slice_index xs k
+pub run-at : (first stride start n k : ℕ) {xs : List ℕ}
+    → map (λ i. first + i * stride) (range_with_len start n) ≡ xs → k < length xs
+    → first + (start + k) * stride ≡ slice_index xs k
 run-at first stride start n k e lt = grind (arith, common_steps, run-long, get_or-map-range_with_len, slice_index)
 
 -- the cells of a row and of a column

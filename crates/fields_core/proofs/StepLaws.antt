@@ -38,12 +38,14 @@ step-down size c d e = grind (arith, common_steps, step-when, ltb-true)
 
 -- a later direction leads to a later cell
 pub ascends : (size : Extent) (c d : ℕ) {e : ℕ} (k m : ℕ) → 0 < size.w → k < m → m < 4 → step size c k ≡ Some d → step size c m ≡ Some e → d < e
-ascends size c d {e} zero (suc zero) pos lt less a b = let u = step-up size c d a in let v = step-left size c e b in let r = mod-lt c pos in omega (arith, v.0, v.1)
+ascends size c d {e} zero (suc zero) pos lt less a b = let u = step-up size c d a in
+    let v = step-left size c e b in let r = mod-lt c pos in omega (arith, v.0, v.1)
 ascends size c d {e} zero (suc (suc zero)) pos lt less a b = let u = step-up size c d a in let v = step-right size c e b in omega (arith, v.0)
 ascends size c d {e} zero (suc (suc (suc zero))) pos lt less a b = let u = step-up size c d a in let v = step-down size c e b in omega (arith, v.0)
 ascends size c d {e} (suc zero) (suc (suc zero)) pos lt less a b = let u = step-left size c d a in let v = step-right size c e b in omega (arith, u.0, v.0)
 ascends size c d {e} (suc zero) (suc (suc (suc zero))) pos lt less a b = let u = step-left size c d a in let v = step-down size c e b in omega (arith, u.0, v.0)
-ascends size c d {e} (suc (suc zero)) (suc (suc (suc zero))) pos lt less a b = let u = step-right size c d a in let v = step-down size c e b in omega (arith, u.0, u.1, v.0)
+ascends size c d {e} (suc (suc zero)) (suc (suc (suc zero))) pos lt less a b = let u =
+    step-right size c d a in let v = step-down size c e b in omega (arith, u.0, u.1, v.0)
 ascends size c d k m pos lt less a b = absurd (omega arith)
 
 there-is : (o : Option ℕ) {d : ℕ} → has_place (if_there o) d ≡ true → o ≡ Some d
@@ -67,7 +69,9 @@ there-distinct (Some x) = (refl, tt)
 pub steps-distinct : (size : Extent) (c n : ℕ) → 0 < size.w → n ≤ 4 → AreDistinct (steps size c n)
 unfolding steps
 steps-distinct size c zero pos few = tt
-steps-distinct size c (suc n) pos few = distinct-append (steps size c n) (if_there (step size c n)) (steps-distinct size c n pos (omega arith)) (there-distinct (step size c n))
+steps-distinct size c (suc n) pos few =
+    distinct-append (steps size c n) (if_there (step size c n))
+    (steps-distinct size c n pos (omega arith)) (there-distinct (step size c n))
     (λ d a b. let w = steps-some size c n d a in let up = ascends size c d w.0 n pos w.1 (omega arith) w.2 (there-is (step size c n) b) in absurd (omega arith))
 
 there-few : (o : Option ℕ) → length (if_there o) ≤ 1

@@ -26,7 +26,10 @@ cell-after w c lt = cell-parts w (c / w) (c % w + 1) (c + 1) lt (let e = whole-c
 
 -- the first cell of the next row
 pub cell-turn : (w c : ℕ) → c % w + 1 ≡ w → (c + 1) % w ≡ 0
-cell-turn w c e = (cell-parts w (c / w + 1) 0 (c + 1) (omega arith) (let f = whole-cell w c in let g : (c / w + 1) * w ≡ c / w * w + w = omega arith in omega arith)).1
+cell-turn w c e =
+    (cell-parts w (c / w + 1) 0 (c + 1) (omega arith)
+    (let f = whole-cell w c in let g : (c / w + 1) * w ≡ c / w * w + w = omega arith in
+    omega arith)).1
 
 pub row-in : {w : ℕ} (h c : ℕ) → 0 < w → c < w * h → c / w < h
 row-in h c pos lt = (div-lt_iff_lt-mul pos).1 (omega arith)
@@ -35,12 +38,14 @@ pub cell-in : {w : ℕ} (h : ℕ) {c : ℕ} → 0 < w → c / w < h → c < w * 
 cell-in h pos lt = grind (arith, common_steps, mul-le-mul_right, mod-lt, whole-cell)
 
 -- a step leads back by the other direction
-back : (size : Extent) (t c k : ℕ) → 0 < size.w → t < size.w * size.h → c < size.w * size.h → k < 4 → step size t k ≡ Some c → (m : ℕ) × (m < 4) × (step size c m ≡ Some t)
+back : (size : Extent) (t c k : ℕ) → 0 < size.w → t < size.w * size.h → c < size.w * size.h → k < 4
+    → step size t k ≡ Some c → (m : ℕ) × (m < 4) × (step size c m ≡ Some t)
 unfolding step
 back size t c zero pos lt lc less e =
     let u = step-up size t c e in
     let v = cell-below c pos in
-    let r : c / size.w + 1 < size.h = let s = row-in size.h t pos lt in let q : t / size.w ≡ c / size.w + 1 = ap (λ n. n / size.w) (sym u) ∙ v.0 in omega arith in
+    let r : c / size.w + 1 < size.h = let s = row-in size.h t pos lt in
+    let q : t / size.w ≡ c / size.w + 1 = ap (λ n. n / size.w) (sym u) ∙ v.0 in omega arith in
     (3, omega arith, cond-true (ltb (c / size.w + 1) size.h) _ _ (lt-ltb (c / size.w + 1) size.h r) ∙ ap Some u)
 back size t c (suc zero) pos lt lc less e =
     let u = step-left size t c e in
@@ -70,7 +75,8 @@ steps-has size c (suc n) k {d} lt e = elim (cases_eq k n) [
   | inr other ↦ place-front (steps size c n) (if_there (step size c n)) d (steps-has size c n k (omega arith) e)
 ]
 
-pub beside-both : (size : Extent) {t c : ℕ} → 0 < size.w → t < size.w * size.h → c < size.w * size.h → has_place (steps size t 4) c ≡ true → has_place (steps size c 4) t ≡ true
+pub beside-both : (size : Extent) {t c : ℕ} → 0 < size.w → t < size.w * size.h → c < size.w * size.h
+    → has_place (steps size t 4) c ≡ true → has_place (steps size c 4) t ≡ true
 beside-both size pos lt lc on = grind (arith, common_steps, steps-some, back, steps-has)
 
 -- a step stays in the grid

@@ -65,7 +65,9 @@ column-kind p x field lt = met-from (λ d on. column-within p lt on) (column-dis
     let e = eqb-true (tents_in_column p.size g x) (slice_index p.counts x) (all_below-at (column_right p g) p.size.w x (tents-parts p g good).columns lt) in
     (omega arith, omega arith))
 
-row-kind : (p : Tents) (y : ℕ) → IsField p → y < p.size.h → IsMet (tent_cells p) (solves_tents p) (exactly (slice_index p.counts (p.size.w + y)) (row_places p.size y))
+row-kind : (p : Tents) (y : ℕ) → IsField p → y < p.size.h
+    → IsMet (tent_cells p) (solves_tents p)
+    (exactly (slice_index p.counts (p.size.w + y)) (row_places p.size y))
 unfolding row_right
 row-kind p y field lt = met-from (λ d on. row-within p lt on) (row-distinct p.size y)
     (omega (arith, row-long p.size y, field.w_few)) (omega (arith, field.number (p.size.w + y))) (omega (arith, field.number (p.size.w + y))) (λ g grid good.
@@ -86,14 +88,18 @@ tents_of p g = filter (tent g) (range_with_len 0 (tent_cells p))
 -- a list that gives each tent a tree beside it, names no tree twice and leaves none out
 pub record IsGiven (p : Tents) (g chosen : List ℕ) : Type 0 where
   pub long : length chosen ≡ length (tents_of p g)
-  pub each : (k : ℕ) → k < length (tents_of p g) → (slice_index chosen k < tent_cells p) × (tree p (slice_index chosen k) ≡ true) × (has_place (steps p.size (slice_index (tents_of p g) k) 4) (slice_index chosen k) ≡ true)
+  pub each : (k : ℕ) → k < length (tents_of p g)
+      → (slice_index chosen k < tent_cells p) × (tree p (slice_index chosen k) ≡ true)
+      × (has_place (steps p.size (slice_index (tents_of p g) k) 4) (slice_index chosen k) ≡ true)
   pub none_twice : names_none_twice chosen ≡ true
   pub none_out : (c : ℕ) → c < tent_cells p → tree p c ≡ true → has_place chosen c ≡ true
 
 pub given : (p : Tents) (g : List ℕ) → can_be_paired p g ≡ true → (chosen : List ℕ) × IsGiven p g chosen
 unfolding can_be_paired tents_of
 given p g paired =
-    let w = filling_from_test (map (trees_beside p) (filter (tent g) (range_with_len 0 (tent_cells p)))) (λ chosen. names_none_twice chosen && leaves_none_out p chosen) paired in
+    let w =
+    filling_from_test (map (trees_beside p) (filter (tent g) (range_with_len 0 (tent_cells p))))
+    (λ chosen. names_none_twice chosen && leaves_none_out p chosen) paired in
     let tests = and_parts (names_none_twice w.0) (leaves_none_out p w.0) w.2 in
     let fills = w.1 in (
       w.0,
@@ -103,18 +109,24 @@ given p g paired =
             (sym (ap (λ (s : Set). has_value s (get_or w.0 k 0)) (get_or-map (trees_beside p) (filter (tent g) (range_with_len 0 (tent_cells p))) k 0 [] lt))
             ∙ fills.each k (omega (arith, length-map (filter (tent g) (range_with_len 0 (tent_cells p))) (trees_beside p))));
         none_twice = tests.0;
-        none_out = λ c lt on. elim (or_cases (not (tree p c)) (has_place w.0 c) (all_below-at (λ c. not (tree p c) || has_place w.0 c) (tent_cells p) c tests.1 lt)) [
-          | inl bare ↦ absurd (true≢false (sym on ∙ not-true (tree p c) bare))
-          | inr here ↦ here
-        ];
+        none_out =
+            λ c lt on. elim (or_cases (not (tree p c)) (has_place w.0 c)
+            (all_below-at (λ c. not (tree p c) || has_place w.0 c) (tent_cells p) c tests.1 lt)) [
+              | inl bare ↦ absurd (true≢false (sym on ∙ not-true (tree p c) bare))
+              | inr here ↦ here
+            ];
       },
     )
 
 pub in-range : {n : ℕ} (c : ℕ) → c < n → has_place (range_with_len 0 n) c ≡ true
-in-range {n} c lt = rw (let z : 0 + c ≡ c = omega arith in get_or-range_with_len 0 n c 0 lt ∙ z) at (has_place-here (range_with_len 0 n) c (omega (arith, length-range_with_len 0 n)))
+in-range {n} c lt =
+    rw (let z : 0 + c ≡ c = omega arith in get_or-range_with_len 0 n c 0 lt ∙ z) at (has_place-here
+    (range_with_len 0 n) c (omega (arith, length-range_with_len 0 n)))
 
 -- a tree has a tent beside it
-tree-tent : (p : Tents) (g : List ℕ) → IsGrid (tent_cells p) 2 g → solves_tents p g ≡ true → (c : ℕ) → c < tent_cells p → tree p c ≡ true → (t : ℕ) × (t < tent_cells p) × (tent g t ≡ true) × (has_place (steps p.size t 4) c ≡ true)
+tree-tent : (p : Tents) (g : List ℕ) → IsGrid (tent_cells p) 2 g → solves_tents p g ≡ true → (c : ℕ)
+    → c < tent_cells p → tree p c ≡ true → (t : ℕ) × (t < tent_cells p) × (tent g t ≡ true)
+    × (has_place (steps p.size t 4) c ≡ true)
 unfolding tents_of
 tree-tent p g grid good c lt on =
     let v = given p g (tents-parts p g good).paired in
@@ -127,7 +139,8 @@ tree-tent p g grid good c lt on =
     (t, tent-in g (tent_cells p) t grid.each_cell member.1, member.1, rw w.2 at (is.each w.0 k).2)
 
 -- a tent has a tree beside it
-tent-tree : (p : Tents) (g : List ℕ) → IsGrid (tent_cells p) 2 g → solves_tents p g ≡ true → (t : ℕ) → tent g t ≡ true → (c : ℕ) × (tree p c ≡ true) × (has_place (steps p.size t 4) c ≡ true)
+tent-tree : (p : Tents) (g : List ℕ) → IsGrid (tent_cells p) 2 g → solves_tents p g ≡ true → (t : ℕ)
+    → tent g t ≡ true → (c : ℕ) × (tree p c ≡ true) × (has_place (steps p.size t 4) c ≡ true)
 unfolding tents_of
 tent-tree p g grid good t on =
     let v = given p g (tents-parts p g good).paired in
@@ -140,10 +153,12 @@ tent-tree p g grid good t on =
 -- no tent stands on a tree
 tree-bare : (p : Tents) (g : List ℕ) → solves_tents p g ≡ true → {c : ℕ} → c < tent_cells p → tree p c ≡ true → slice_index g c ≡ 0
 unfolding tree_right
-tree-bare p g good {c} lt on = elim (or_cases (not (tree p c)) (eqb (slice_index g c) 0) (all_below-at (tree_right p g) (tent_cells p) c (tents-parts p g good).trees lt)) [
-  | inl bare ↦ absurd (true≢false (sym on ∙ not-true (tree p c) bare))
-  | inr none ↦ eqb-true (slice_index g c) 0 none
-]
+tree-bare p g good {c} lt on =
+    elim (or_cases (not (tree p c)) (eqb (slice_index g c) 0)
+    (all_below-at (tree_right p g) (tent_cells p) c (tents-parts p g good).trees lt)) [
+      | inl bare ↦ absurd (true≢false (sym on ∙ not-true (tree p c) bare))
+      | inr none ↦ eqb-true (slice_index g c) 0 none
+    ]
 
 pub free-few : (p : Tents) (c : ℕ) → length (free_beside p c) ≤ 4
 free-few p c = omega (arith, filter-few (λ d. not (tree p d)) (steps p.size c 4), steps-few p.size c 4)
@@ -153,7 +168,10 @@ tree-kind p c field lt on = met-from
     (λ d m. beside-in p.size c d field.some lt (place-filter (λ d. not (tree p d)) (steps p.size c 4) d m).0)
     (distinct-filter (λ d. not (tree p d)) (steps p.size c 4) (steps-distinct p.size c 4 field.some (omega arith))) few (omega arith) few (λ g grid good.
     let w = tree-tent p g grid good c lt on in
-    let free : not (tree p w.0) ≡ true = ap not (false_from_ne_true (tree p w.0) (λ is. let z = tree-bare p g good w.1 is in let o = eqb-true (slice_index g w.0) 1 w.2 in absurd (omega arith))) in
+    let free : not (tree p w.0) ≡ true =
+    ap not (false_from_ne_true (tree p w.0)
+    (λ is. let z = tree-bare p g good w.1 is in let o = eqb-true (slice_index g w.0) 1 w.2 in
+    absurd (omega arith))) in
     let m = place-kept (λ d. not (tree p d)) (steps p.size c 4) w.0 (beside-both p.size field.some w.1 lt w.3) free in
     (count-some (tent g) (free_beside p c) w.0 m w.2, count_by-le-length (tent g) (free_beside p c)))
   where
@@ -175,7 +193,9 @@ in-square : {w : ℕ} (c d : ℕ) → c % w + 1 < w → has_place (square_at w c
 unfolding has_place
 in-square c d lt on = grind (arith, common_steps, or_cases, eqb-true, cell-after, cell-below)
 
-square-apart : (p : Tents) (g : List ℕ) → IsGrid (tent_cells p) 2 g → solves_tents p g ≡ true → (c d e : ℕ) → IsInSquare p.size.w c d → IsInSquare p.size.w c e → tent g d ≡ true → tent g e ≡ true → d ≡ e
+square-apart : (p : Tents) (g : List ℕ) → IsGrid (tent_cells p) 2 g → solves_tents p g ≡ true
+    → (c d e : ℕ) → IsInSquare p.size.w c d → IsInSquare p.size.w c e → tent g d ≡ true
+    → tent g e ≡ true → d ≡ e
 unfolding touch_right touches
 square-apart p g grid good c d e sd se td te = elim (cases_eq d e) [
   | inl same ↦ same
@@ -185,15 +205,23 @@ square-apart p g grid good c d e sd se td te = elim (cases_eq d e) [
       let near = and_from _ _ (ap not (ne_eqb d e other)) (and_from _ _
       (and_from _ _ (le-leb (d / p.size.w) (e / p.size.w + 1) (omega arith)) (le-leb (e / p.size.w) (d / p.size.w + 1) (omega arith)))
       (and_from _ _ (le-leb (d % p.size.w) (e % p.size.w + 1) (omega arith)) (le-leb (e % p.size.w) (d % p.size.w + 1) (omega arith)))) in
-      let some = any_below-here (λ f. (not (eqb d f) && (are_near (d / p.size.w) (f / p.size.w) && are_near (d % p.size.w) (f % p.size.w))) && tent g f) (tent_cells p) e (tent-in g (tent_cells p) e grid.each_cell te) (and_from _ _ near te) in
-      absurd (true≢false (sym (and_from _ _ td some) ∙ not-true _ (all_below-at (touch_right p g) (tent_cells p) d (tents-parts p g good).touch (tent-in g (tent_cells p) d grid.each_cell td))))
+      let some =
+      any_below-here (λ f. (not
+      (eqb d f) && (are_near (d / p.size.w) (f / p.size.w) && are_near (d % p.size.w)
+      (f % p.size.w))) && tent g f) (tent_cells p) e
+      (tent-in g (tent_cells p) e grid.each_cell te) (and_from _ _ near te) in
+      absurd (true≢false (sym (and_from _ _ td some)
+      ∙ not-true _ (all_below-at (touch_right p g) (tent_cells p) d (tents-parts p g good).touch
+      (tent-in g (tent_cells p) d grid.each_cell td))))
 ]
 
 square-distinct : (w c : ℕ) → 1 < w → AreDistinct (square_at w c)
 unfolding has_place
 square-distinct w c two = grind (arith, common_steps, ne_eqb)
 
-square-kind : (p : Tents) (c : ℕ) → IsField p → c % p.size.w + 1 < p.size.w → c / p.size.w + 1 < p.size.h → IsMet (tent_cells p) (solves_tents p) (one_at_most (square_at p.size.w c))
+square-kind : (p : Tents) (c : ℕ) → IsField p → c % p.size.w + 1 < p.size.w
+    → c / p.size.w + 1 < p.size.h → IsMet (tent_cells p) (solves_tents p)
+    (one_at_most (square_at p.size.w c))
 square-kind p c field right bottom = met-from
     (λ d on. let s = in-square c d right on in let a = s.row_high in cell-in p.size.h field.some (omega arith))
     distinct (omega arith) (omega arith) (omega arith) (λ g grid good. (
@@ -208,10 +236,20 @@ square-kind p c field right bottom = met-from
 -- ---- all houses
 each-met : (p : Tents) → IsField p → EachOf (IsMet (tent_cells p) (solves_tents p)) (tent_houses p)
 unfolding tent_houses
-each-met p field = each-append (IsMet (tent_cells p) (solves_tents p)) _ _ (each-below (IsMet (tent_cells p) (solves_tents p)) (column_of_tents p) p.size.w (λ x lt. each-one (IsMet (tent_cells p) (solves_tents p)) _ (column-kind p x field lt)))
-    (each-append (IsMet (tent_cells p) (solves_tents p)) _ _ (each-below (IsMet (tent_cells p) (solves_tents p)) (row_of_tents p) p.size.h (λ y lt. each-one (IsMet (tent_cells p) (solves_tents p)) _ (row-kind p y field lt)))
-    (each-append (IsMet (tent_cells p) (solves_tents p)) _ _ (each-below (IsMet (tent_cells p) (solves_tents p)) (tree_house p) (tent_cells p) (λ c lt. each-if (IsMet (tent_cells p) (solves_tents p)) (tree p c) _ (λ on. tree-kind p c field lt on)))
-    (each-below (IsMet (tent_cells p) (solves_tents p)) (square_house p) (tent_cells p) (λ c lt. each-if (IsMet (tent_cells p) (solves_tents p)) (ltb (c % p.size.w + 1) p.size.w && ltb (c / p.size.w + 1) p.size.h) _ (λ on.
+each-met p field =
+    each-append (IsMet (tent_cells p) (solves_tents p)) _ _
+    (each-below (IsMet (tent_cells p) (solves_tents p)) (column_of_tents p) p.size.w
+    (λ x lt. each-one (IsMet (tent_cells p) (solves_tents p)) _ (column-kind p x field lt)))
+    (each-append (IsMet (tent_cells p) (solves_tents p)) _ _
+    (each-below (IsMet (tent_cells p) (solves_tents p)) (row_of_tents p) p.size.h
+    (λ y lt. each-one (IsMet (tent_cells p) (solves_tents p)) _ (row-kind p y field lt)))
+    (each-append (IsMet (tent_cells p) (solves_tents p)) _ _
+    (each-below (IsMet (tent_cells p) (solves_tents p)) (tree_house p) (tent_cells p)
+    (λ c lt. each-if (IsMet (tent_cells p) (solves_tents p)) (tree p c) _
+    (λ on. tree-kind p c field lt on)))
+    (each-below (IsMet (tent_cells p) (solves_tents p)) (square_house p) (tent_cells p)
+    (λ c lt. each-if (IsMet (tent_cells p) (solves_tents p))
+    (ltb (c % p.size.w + 1) p.size.w && ltb (c / p.size.w + 1) p.size.h) _ (λ on.
     let w = and_parts (ltb (c % p.size.w + 1) p.size.w) (ltb (c / p.size.w + 1) p.size.h) on in
     square-kind p c field (ltb-true (c % p.size.w + 1) p.size.w w.0) (ltb-true (c / p.size.w + 1) p.size.h w.1))))))
 

@@ -21,10 +21,14 @@ pub record IsLineCounted (g line : List ℕ) (n tents : ℕ) : Type 0 where
 pub line-start : (g line : List ℕ) → IsLineCounted g line 0 0
 line-start g line = record { few = omega arith; same = refl }
 
-pub line-skip : (g line : List ℕ) (n tents d v : ℕ) → IsLineCounted g line n tents → n < length line → d ≡ slice_index line n → v ≡ slice_index g d → (v ≡ 1 → ⊥) → IsLineCounted g line (n + 1) tents
+pub line-skip : (g line : List ℕ) (n tents d v : ℕ) → IsLineCounted g line n tents → n < length line
+    → d ≡ slice_index line n → v ≡ slice_index g d → (v ≡ 1 → ⊥)
+    → IsLineCounted g line (n + 1) tents
 line-skip g line n tents d v before lt at is none = grind (arith, common_steps, count_by_more_no, ne_eqb, slice_index)
 
-pub line-more : (g line : List ℕ) (n tents d v : ℕ) → IsLineCounted g line n tents → n < length line → d ≡ slice_index line n → v ≡ slice_index g d → v ≡ 1 → IsLineCounted g line (n + 1) (tents + 1)
+pub line-more : (g line : List ℕ) (n tents d v : ℕ) → IsLineCounted g line n tents → n < length line
+    → d ≡ slice_index line n → v ≡ slice_index g d → v ≡ 1
+    → IsLineCounted g line (n + 1) (tents + 1)
 line-more g line n tents d v before lt at is one = grind (arith, common_steps, count_by_more_yes, eq-eqb, slice_index)
 
 pub line-all : (g line : List ℕ) (n m tents : ℕ) → IsLineCounted g line n tents → length line ≡ m → m ≤ n → tents ≡ count_by (tent g) line
@@ -54,7 +58,9 @@ near-from : (a b : ℕ) → a ≤ b + 1 → b ≤ a + 1 → are_near a b ≡ tru
 near-from a b p q = and_from (leb a (b + 1)) (leb b (a + 1)) (le-leb a (b + 1) p) (le-leb b (a + 1) q)
 
 -- a cell of row v and column u is touched where both are near
-touch-from : (size : Extent) (a d v u : ℕ) → d ≡ v * size.w + u → u < size.w → (d ≡ a → ⊥) → a / size.w ≤ v + 1 → v ≤ a / size.w + 1 → a % size.w ≤ u + 1 → u ≤ a % size.w + 1 → touches size a d ≡ true
+touch-from : (size : Extent) (a d v u : ℕ) → d ≡ v * size.w + u → u < size.w → (d ≡ a → ⊥)
+    → a / size.w ≤ v + 1 → v ≤ a / size.w + 1 → a % size.w ≤ u + 1 → u ≤ a % size.w + 1
+    → touches size a d ≡ true
 unfolding touches
 touch-from size a d v u e lt other p q r s = grind (arith, common_steps, div-mul-add, mod-mul-add, near-from, and_from, ne_eqb)
 
@@ -87,7 +93,8 @@ module _ (size : Extent) {a first end : ℕ} (pos : 0 < size.w) (window : IsWind
   pub touch-beside : (d : ℕ) → first ≤ d → d < end → (d ≡ a → ⊥) → touches size a d ≡ true
   touch-beside d p q other =
       let e = ends in
-      touch-from size a d (a / size.w) (d - a / size.w * size.w) (omega arith) (omega arith) other (omega arith) (omega arith) (omega (arith, here)) (omega (arith, here))
+      touch-from size a d (a / size.w) (d - a / size.w * size.w) (omega arith) (omega arith) other
+      (omega arith) (omega arith) (omega (arith, here)) (omega (arith, here))
 
   pub touch-above : (d : ℕ) → first - size.w ≤ d → d < end - size.w → touches size a d ≡ true
   touch-above d p q =
@@ -95,17 +102,22 @@ module _ (size : Extent) {a first end : ℕ} (pos : 0 < size.w) (window : IsWind
       let row : 1 ≤ a / size.w = second-row (a / size.w) size.w (omega arith) in
       let back = row-before (a / size.w) size.w row in
       let third : size.w ≤ first = omega (arith, one-row (a / size.w) size.w row) in
-      touch-from size a d (a / size.w - 1) (d - (a / size.w - 1) * size.w) (omega arith) (omega arith) (omega arith) (omega arith) (omega arith) (omega (arith, here)) (omega (arith, here))
+      touch-from size a d (a / size.w - 1) (d - (a / size.w - 1) * size.w) (omega arith)
+      (omega arith) (omega arith) (omega arith) (omega arith) (omega (arith, here))
+      (omega (arith, here))
 
   pub touch-below : (d : ℕ) → first + size.w ≤ d → d < end + size.w → touches size a d ≡ true
   touch-below d p q =
       let e = ends in
       let next : (a / size.w + 1) * size.w ≡ a / size.w * size.w + size.w = omega arith in
-      touch-from size a d (a / size.w + 1) (d - (a / size.w + 1) * size.w) (omega arith) (omega arith) (omega arith) (omega arith) (omega arith) (omega (arith, here)) (omega (arith, here))
+      touch-from size a d (a / size.w + 1) (d - (a / size.w + 1) * size.w) (omega arith)
+      (omega arith) (omega arith) (omega arith) (omega arith) (omega (arith, here))
+      (omega (arith, here))
 
   -- the cells of another row at the same columns
   inside : {u : ℕ} → u < size.w → a % size.w ≤ u + 1 → u ≤ a % size.w + 1 → (first ≤ a / size.w * size.w + u) × (a / size.w * size.w + u < end)
-  inside lt p q = (elim window.left [ inl l ↦ omega (arith, here) | inr l ↦ omega (arith, here) ], elim window.right [ inl r ↦ omega (arith, here) | inr r ↦ omega (arith, here) ])
+  inside lt p q =
+      (elim window.left [ inl l ↦ omega (arith, here) | inr l ↦ omega (arith, here) ], elim window.right [ inl r ↦ omega (arith, here) | inr r ↦ omega (arith, here) ])
 
   -- a cell that is touched is another one of the three windows
   pub is-touched : (d : ℕ) → touches size a d ≡ true → (d ≡ a → ⊥) × IsNearWindow size.w first end d
@@ -133,13 +145,15 @@ module _ (size : Extent) {a first end : ℕ} (pos : 0 < size.w) (window : IsWind
       )
 
   module _ {g : List ℕ} (n : ℕ) where
-    pub touched : {from to : ℕ} {found : Bool} → IsTentAmong g a from to found → found ≡ true → to ≤ n → ((d : ℕ) → from ≤ d → d < to → (d ≡ a → ⊥) → touches size a d ≡ true)
+    pub touched : {from to : ℕ} {found : Bool} → IsTentAmong g a from to found → found ≡ true
+        → to ≤ n → ((d : ℕ) → from ≤ d → d < to → (d ≡ a → ⊥) → touches size a d ≡ true)
         → found ≡ any_below (λ d. touches size a d && tent g d) n
     touched among is within near =
         let w = among.some is in
         is ∙ sym (any_below-here (λ d. touches size a d && tent g d) n w.0 (omega (arith, w.2)) (and_from _ _ (near w.0 w.1 w.2 w.3) w.4))
 
-    pub untouched : {from to last : ℕ} {found : Bool} → IsTentAmong g a first end false → IsTentAmong g a from to false → IsTentAmong g a (first + size.w) last found
+    pub untouched : {from to last : ℕ} {found : Bool} → IsTentAmong g a first end false
+        → IsTentAmong g a from to false → IsTentAmong g a (first + size.w) last found
         → from ≡ first - size.w → to ≡ end - size.w → last ≡ min n (end + size.w) → found ≡ false → found ≡ any_below (λ d. touches size a d && tent g d) n
     untouched beside above below ef et el off = off ∙ none-below _ n (λ d lt. and_left-or d lt)
       where

@@ -33,13 +33,17 @@ passed-edge p c from n before edge = grind (arith, common_steps, cases_eq, none-
 pub passed-bare : (p : Tents) (c from n other : ℕ) → IsPassed p c from n → Some other ≡ step p.size c n → tree p other ≡ false → IsPassed p c from (n + 1)
 passed-bare p c from n other before at off = grind (arith, common_steps, cases_eq, some-inj)
 
-pub passed-early : (p : Tents) (c from n other number : ℕ) → IsPassed p c from n → Some other ≡ step p.size c n → number ≡ count_below (tree p) other → number < from → IsPassed p c from (n + 1)
+pub passed-early : (p : Tents) (c from n other number : ℕ) → IsPassed p c from n
+    → Some other ≡ step p.size c n → number ≡ count_below (tree p) other → number < from
+    → IsPassed p c from (n + 1)
 passed-early p c from n other number before at is early = grind (arith, common_steps, cases_eq, some-inj)
 
 pub next-none : (p : Tents) (c from n : ℕ) → IsPassed p c from n → 4 ≤ n → IsNext (tree_beside p c) (tree_count p) from None
 next-none p c from n passed all = grind (arith, common_steps, false_from_ne_true, passing-at, passing-long, steps-some, slice_index)
 
-pub next-found : {p : Tents} {c from n other number : ℕ} → 2 ≤ p.size.w → IsPassed p c from n → n < 4 → Some other ≡ step p.size c n → other < tent_cells p → tree p other ≡ true → number ≡ count_below (tree p) other → from ≤ number
+pub next-found : {p : Tents} {c from n other number : ℕ} → 2 ≤ p.size.w → IsPassed p c from n
+    → n < 4 → Some other ≡ step p.size c n → other < tent_cells p → tree p other ≡ true
+    → number ≡ count_below (tree p) other → from ≤ number
     → IsNext (tree_beside p c) (tree_count p) from (Some number)
 next-found {p} {c} {n} {other} wide passed lt at inside on is ge = (
   ge,
@@ -67,7 +71,9 @@ abbrev pub IsNextJoined : Tents → List ℕ → ℕ → ℕ → Option ℕ → 
 IsNextJoined p tents l from o = MatchOption o ((r : ℕ) → from ≤ r → r < tree_count p → may_pair p tents l r ≡ true → ⊥)
     (λ r. (from ≤ r) × (r < tree_count p) × (may_pair p tents l r ≡ true) × ((q : ℕ) → from ≤ q → q < r → may_pair p tents l q ≡ true → ⊥))
 
-pub next-joined : (p : Tents) (tents : List ℕ) (l from c : ℕ) (o : Option ℕ) → c ≡ slice_index tents l → IsNext (tree_beside p c) (tree_count p) from o → IsNextJoined p tents l from o
+pub next-joined : (p : Tents) (tents : List ℕ) (l from c : ℕ) (o : Option ℕ)
+    → c ≡ slice_index tents l → IsNext (tree_beside p c) (tree_count p) from o
+    → IsNextJoined p tents l from o
 unfolding may_pair
 next-joined p tents l from c None e next = λ r ge lt on. true≢false (sym (rw (sym e) at on) ∙ next r ge lt)
 next-joined p tents l from c (Some d) e next = (next.0, next.1, rw (sym e) next.2, λ q ge lt on. true≢false (sym (rw (sym e) at on) ∙ next.3 q ge lt))
@@ -77,7 +83,10 @@ pub record IsTreeless (p : Tents) (c n : ℕ) : Type 0 where
   pub none : (k d : ℕ) → k < n → step p.size c k ≡ Some d → tree p d ≡ false
 
 pub treeless-all : (p : Tents) (c n : ℕ) → IsTreeless p c n → 4 ≤ n → false ≡ list_any (tree p) (steps p.size c 4)
-treeless-all p c n passed ge = sym (any-none (tree p) (steps p.size c 4) (λ d on. let s = steps-some p.size c 4 d on in let lt = s.1 in passed.none s.0 d (omega arith) s.2))
+treeless-all p c n passed ge =
+    sym (any-none (tree p) (steps p.size c 4)
+    (λ d on. let s = steps-some p.size c 4 d on in let lt = s.1 in
+    passed.none s.0 d (omega arith) s.2))
 
 pub tree-found : (p : Tents) (c n other : ℕ) → n < 4 → Some other ≡ step p.size c n → tree p other ≡ true → true ≡ list_any (tree p) (steps p.size c 4)
 tree-found p c n other lt at on = sym (any-here (tree p) (steps p.size c 4) other (steps-has p.size c 4 n lt (sym at)) on)

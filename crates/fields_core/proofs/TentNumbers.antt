@@ -37,11 +37,18 @@ passing-at test n r lt =
     record { below = rw at w.1; passes = rw at w.2; before = rw at w.3 }
 
 -- ---- the tents of a grid, one after another
-pub listed-skip : (g tents : List ℕ) (count n v : ℕ) → take count tents ≡ passing (tent g) n → v ≡ slice_index g n → (v ≡ 1 → ⊥) → take count tents ≡ passing (tent g) (n + 1)
-listed-skip g tents count n v before at none = before ∙ sym (passing-more (tent g) n ∙ rw (ne_eqb (slice_index g n) 1 (λ e. none (at ∙ e))) (append-nil (passing (tent g) n)))
+pub listed-skip : (g tents : List ℕ) (count n v : ℕ) → take count tents ≡ passing (tent g) n
+    → v ≡ slice_index g n → (v ≡ 1 → ⊥) → take count tents ≡ passing (tent g) (n + 1)
+listed-skip g tents count n v before at none =
+    before ∙ sym (passing-more (tent g) n
+    ∙ rw (ne_eqb (slice_index g n) 1 (λ e. none (at ∙ e))) (append-nil (passing (tent g) n)))
 
-pub listed-keep : (g tents : List ℕ) (count n v : ℕ) → take count tents ≡ passing (tent g) n → v ≡ slice_index g n → v ≡ 1 → count < length tents → take (count + 1) (set tents count n) ≡ passing (tent g) (n + 1)
-listed-keep g tents count n v before at one lt = take_more_set tents count n lt ∙ ap (λ l. l ++ n ∷ []) before ∙ sym (passing-more (tent g) n ∙ rw (eq-eqb (slice_index g n) 1 (sym at ∙ one)) refl)
+pub listed-keep : (g tents : List ℕ) (count n v : ℕ) → take count tents ≡ passing (tent g) n
+    → v ≡ slice_index g n → v ≡ 1 → count < length tents
+    → take (count + 1) (set tents count n) ≡ passing (tent g) (n + 1)
+listed-keep g tents count n v before at one lt =
+    take_more_set tents count n lt ∙ ap (λ l. l ++ n ∷ []) before
+    ∙ sym (passing-more (tent g) n ∙ rw (eq-eqb (slice_index g n) 1 (sym at ∙ one)) refl)
 
 pub listed-all : (g tents : List ℕ) (count n cells : ℕ) → take count tents ≡ passing (tent g) n → n ≡ cells → take count tents ≡ passing (tent g) cells
 listed-all g tents count n cells before e = before ∙ ap (passing (tent g)) e
@@ -59,6 +66,8 @@ pub count-keep : (test : ℕ → Bool) (n k : ℕ) → k ≡ count_below test n 
 unfolding count_below
 count-keep test n k e on = rw (add-one n, on) (omega arith)
 
-pub numbers-more : (test : ℕ → Bool) (numbers : List ℕ) (n k : ℕ) → ((c : ℕ) → c < n → get_or numbers c 0 ≡ count_below test c) → k ≡ count_below test n → n < length numbers
+pub numbers-more : (test : ℕ → Bool) (numbers : List ℕ) (n k : ℕ)
+    → ((c : ℕ) → c < n → get_or numbers c 0 ≡ count_below test c) → k ≡ count_below test n
+    → n < length numbers
     → (c : ℕ) → c < n + 1 → get_or (set numbers n k) c 0 ≡ count_below test c
 numbers-more test numbers n k before e lt c less = grind (arith, common_steps, cases_eq, get_or-set_same, get_or-set_other)

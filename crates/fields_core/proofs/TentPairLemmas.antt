@@ -47,7 +47,9 @@ set-of p t c inside on beside = grind (arith, common_steps, beside-in, some-wide
 pub pairs-from : (p : Tents) (g : List ℕ) {tree_of : ℕ → ℕ} → length g ≡ tent_cells p → IsPairedBy p g tree_of → can_be_paired p g ≡ true
 unfolding can_be_paired tents_of
 pairs-from p g {tree_of} long is =
-    test_from_filling (map (trees_beside p) (tents_of p g)) (λ chosen. names_none_twice chosen && leaves_none_out p chosen) chosen fills (and_from _ _ twice none_out)
+    test_from_filling (map (trees_beside p) (tents_of p g))
+    (λ chosen. names_none_twice chosen && leaves_none_out p chosen) chosen fills
+    (and_from _ _ twice none_out)
   where
     chosen : List ℕ
     chosen = map tree_of (tents_of p g)
@@ -74,14 +76,18 @@ pairs-from p g {tree_of} long is =
     none_out = grind (arith, common_steps, all_below-from, cases_Bool, or_right, place-map, tree_of, tents_of, tent-listed, or_left)
 
 -- the number of a tree, and the tree of a number
-tree-number : (p : Tents) {c : ℕ} → c < tent_cells p → tree p c ≡ true → (count_below (tree p) c < tree_count p) × (slice_index (trees_of p) (count_below (tree p) c) ≡ c)
+tree-number : (p : Tents) {c : ℕ} → c < tent_cells p → tree p c ≡ true
+    → (count_below (tree p) c < tree_count p)
+    × (slice_index (trees_of p) (count_below (tree p) c) ≡ c)
 tree-number p {c} lt on = (counted (tree p) c (tent_cells p) lt on, at-passing (tree p) (tent_cells p) lt on)
 
 number-tree : (p : Tents) {r : ℕ} → r < tree_count p → IsPassing (tree p) (tent_cells p) r
 number-tree p {r} lt = passing-at (tree p) (tent_cells p) r (omega (arith, passing-long (tree p) (tent_cells p)))
 
 -- ---- each tent has a tree of its own, and there are as many trees
-module _ (p : Tents) (g mates : List ℕ) (long : length g ≡ tent_cells p) (whole : IsPairing (may_pair p (tents_of p g)) (length (tents_of p g)) (tree_count p) mates) (as_many : length (tents_of p g) ≡ tree_count p) where
+module _ (p : Tents) (g mates : List ℕ) (long : length g ≡ tent_cells p)
+    (whole : IsPairing (may_pair p (tents_of p g)) (length (tents_of p g)) (tree_count p) mates)
+    (as_many : length (tents_of p g) ≡ tree_count p) where
   tree_of : ℕ → ℕ
   tree_of c = slice_index (trees_of p) (slice_index mates (index_of (tents_of p g) c))
 
@@ -114,10 +120,15 @@ module _ (p : Tents) (g mates : List ℕ) (long : length g ≡ tent_cells p) (wh
       by : (d : ℕ) → d < tent_cells p → tree p d ≡ true → (c : ℕ) × (c < tent_cells p) × (tent g c ≡ true) × (tree_of c ≡ d)
       by d lt on =
           let n = tree-number p lt on in
-          let w = each-named (slice_index mates) (count_below (tree p) d) (λ l low. let r = whole.in_range l low in omega arith) whole.own (omega (arith, n.0)) in
+          let w =
+          each-named (slice_index mates) (count_below (tree p) d)
+          (λ l low. let r = whole.in_range l low in omega arith) whole.own
+          (omega (arith, n.0)) in
           let is_tent = listed-tent p g (slice_index (tents_of p g) w.0) (has_place-here (tents_of p g) w.0 w.1) in
           let v = listed (slice_index (tents_of p g) w.0) is_tent in
-          let same : index_of (tents_of p g) (slice_index (tents_of p g) w.0) ≡ w.0 = different-from (tents_of p g) (tents-distinct p g) (index_of (tents_of p g) (slice_index (tents_of p g) w.0)) w.0 v.0 w.1 v.1 in (
+          let same : index_of (tents_of p g) (slice_index (tents_of p g) w.0) ≡ w.0 =
+          different-from (tents_of p g) (tents-distinct p g)
+          (index_of (tents_of p g) (slice_index (tents_of p g) w.0)) w.0 v.0 w.1 v.1 in (
             slice_index (tents_of p g) w.0,
             tent-in g (tent_cells p) (slice_index (tents_of p g) w.0) long is_tent,
             is_tent,
@@ -160,15 +171,22 @@ module _ (p : Tents) (g chosen : List ℕ) (is : IsGiven p g chosen) where
       let b = few-below (λ r. index_of chosen (slice_index (trees_of p) r)) {m = length (tents_of p g)} (λ r lt. let w = at r lt in omega (arith, w.0)) own in
       omega arith
     where
-      at : (r : ℕ) → r < tree_count p → (index_of chosen (slice_index (trees_of p) r) < length chosen) × (slice_index chosen (index_of chosen (slice_index (trees_of p) r)) ≡ slice_index (trees_of p) r)
+      at : (r : ℕ) → r < tree_count p
+          → (index_of chosen (slice_index (trees_of p) r) < length chosen)
+          × (slice_index chosen (index_of chosen (slice_index (trees_of p) r)) ≡ slice_index
+          (trees_of p) r)
       at r lt = let n = number-tree p lt in index-is chosen (slice_index (trees_of p) r) (is.none_out (slice_index (trees_of p) r) n.below n.passes)
 
-      own : (r q : ℕ) → r < tree_count p → q < tree_count p → index_of chosen (slice_index (trees_of p) r) ≡ index_of chosen (slice_index (trees_of p) q) → r ≡ q
+      own : (r q : ℕ) → r < tree_count p → q < tree_count p
+          → index_of chosen (slice_index (trees_of p) r) ≡ index_of chosen
+          (slice_index (trees_of p) q) → r ≡ q
       own r q lr lq e =
           let same : slice_index (trees_of p) r ≡ slice_index (trees_of p) q = sym (at r lr).1 ∙ ap (slice_index chosen) e ∙ (at q lq).1 in
           sym (number-tree p lr).before ∙ ap (count_below (tree p)) same ∙ (number-tree p lq).before
 
-pub short-unpaired : (p : Tents) (g short : List ℕ) → IsShortSet (may_pair p (tents_of p g)) (length (tents_of p g)) (tree_count p) short → can_be_paired p g ≡ false
+pub short-unpaired : (p : Tents) (g short : List ℕ)
+    → IsShortSet (may_pair p (tents_of p g)) (length (tents_of p g)) (tree_count p) short
+    → can_be_paired p g ≡ false
 short-unpaired p g short few = false_from_ne_true (can_be_paired p g) (λ on. let w = given p g on in chosen-whole p g w.0 w.1 few)
 
 pub others-unpaired : (p : Tents) (g : List ℕ) → (length (tents_of p g) ≡ tree_count p → ⊥) → can_be_paired p g ≡ false
@@ -180,7 +198,9 @@ unfolding tents_of
 listed-tents p g tents e = e
 
 pub tents-in : (p : Tents) (g : List ℕ) → length g ≡ tent_cells p → AreIn p (tents_of p g)
-tents-in p g long l lt = tent-in g (tent_cells p) (slice_index (tents_of p g) l) long (listed-tent p g (slice_index (tents_of p g) l) (has_place-here (tents_of p g) l lt))
+tents-in p g long l lt =
+    tent-in g (tent_cells p) (slice_index (tents_of p g) l) long
+    (listed-tent p g (slice_index (tents_of p g) l) (has_place-here (tents_of p g) l lt))
 
 pub count-is : (p : Tents) (g tents : List ℕ) (count : ℕ) → take count tents ≡ tents_of p g → count ≤ length tents → count ≡ length (tents_of p g)
 count-is p g tents count e few = omega (arith, length-take count tents, ap length e)

@@ -26,7 +26,8 @@ unfolding solves_tents
 tents-from p g a b c d e = and_from _ _ a (and_from _ _ b (and_from _ _ c (and_from _ _ d (sym e))))
 
 -- ---- the test of a solution is the rule
-gives-tree : (p : Tents) (g chosen : List ℕ) → length g ≡ tent_cells p → IsGiven p g chosen → IsPairedBy p g (λ c. slice_index chosen (index_of (tents_of p g) c))
+gives-tree : (p : Tents) (g chosen : List ℕ) → length g ≡ tent_cells p → IsGiven p g chosen
+    → IsPairedBy p g (λ c. slice_index chosen (index_of (tents_of p g) c))
 gives-tree p g chosen long is = record {
   is_tree = λ c lt on. (is.each (place c) (stands c on).0).1;
   is_beside = λ c lt on. rw (stands c on).1 at (is.each (place c) (stands c on).0).2;
@@ -34,7 +35,9 @@ gives-tree p g chosen long is = record {
       let all = is.long in
       let a = stands c on_c in
       let b = stands d on_d in
-      let same = different-from chosen (distinct-none-twice chosen is.none_twice) (place c) (place d) (let i = a.0 in omega arith) (let j = b.0 in omega arith) e in
+      let same =
+      different-from chosen (distinct-none-twice chosen is.none_twice) (place c) (place d)
+      (let i = a.0 in omega arith) (let j = b.0 in omega arith) e in
       sym a.1 ∙ ap (slice_index (tents_of p g)) same ∙ b.1;
   none_out = λ d lt on.
       let all = is.long in
@@ -64,10 +67,12 @@ solution-from-tents p g grid on =
     let w = given p g parts.paired in
     record {
       grid = grid;
-      none_on_trees = λ c lt tent_on. elim (or_cases (not (tree p c)) (eqb (slice_index g c) 0) (all_below-at (tree_right p g) (tent_cells p) c parts.trees lt)) [
-        | inl bare ↦ not-true (tree p c) bare
-        | inr zero_at ↦ let a = eqb-true (slice_index g c) 0 zero_at in let b = eqb-true (slice_index g c) 1 tent_on in absurd (omega arith)
-      ];
+      none_on_trees =
+          λ c lt tent_on. elim (or_cases (not (tree p c)) (eqb (slice_index g c) 0)
+          (all_below-at (tree_right p g) (tent_cells p) c parts.trees lt)) [
+            | inl bare ↦ not-true (tree p c) bare
+            | inr zero_at ↦ let a = eqb-true (slice_index g c) 0 zero_at in let b = eqb-true (slice_index g c) 1 tent_on in absurd (omega arith)
+          ];
       none_touch = λ c d lc ld on_c on_d.
           let alone = not-true _ (all_below-at (touch_right p g) (tent_cells p) c parts.touch lc) in
           let none = any_below-none (λ d. touches p.size c d && tent g d) (tent_cells p) (rw on_c at alone) d ld in
@@ -160,4 +165,6 @@ module _ (p : Tents) (g : List ℕ) where
     tents-known = known_tests (FailsTents p g) kinds tents-made
 
     pub tents-tell : (fault : Option TentFault) (told : Bool) → IsTentFault p g fault → is_some fault ≡ not told → told ≡ solves_tents p g
-    tents-tell fault told is e = none_tells (FailsTents p g) (tent_tests p) tents-none told (solves_tents p g) (solution-from-tents p g grid) tents-from-solution fault is e
+    tents-tell fault told is e =
+        none_tells (FailsTents p g) (tent_tests p) tents-none told (solves_tents p g)
+        (solution-from-tents p g grid) tents-from-solution fault is e

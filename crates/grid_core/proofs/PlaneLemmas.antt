@@ -25,7 +25,12 @@ bit-past words line v place high = rw (get_or_past words (2 * line + v) 0 high) 
 pub bit-in : (size : Extent) (rows columns : List ℕ) (y x v : ℕ) → AreWords size rows columns → v < 2 → bit_of rows y v x ≡ true → (y < size.h) × (x < size.w)
 bit-in size rows columns y x v are lt on = (
   elim (cases_lt y size.h) [ inl low ↦ low | inr high ↦ absurd (true≢false (sym on ∙ bit-past rows y v x (omega (arith, are.rows_long)))) ],
-  elim (cases_lt x size.w) [ inl low ↦ low | inr high ↦ absurd (true≢false (sym on ∙ are.agree y x v lt ∙ bit-past columns x v y (omega (arith, are.columns_long)))) ],
+  elim (cases_lt x size.w) [
+    | inl low ↦ low
+    | inr high ↦
+        absurd (true≢false (sym on ∙ are.agree y x v lt
+        ∙ bit-past columns x v y (omega (arith, are.columns_long))))
+  ],
 )
 
 -- turned over, rows and columns still agree
@@ -34,11 +39,14 @@ pub words-turned : (size : Extent) (rows columns rows' columns' : List ℕ) (t :
 words-turned size rows columns rows' columns' t are turned tall wide = record {
   rows_long = tall ∙ are.rows_long;
   columns_long = wide ∙ are.columns_long;
-  agree = λ y x v lt. turned.by_rows y v x lt ∙ ap (λ b. differ b (eqb v t.value && crosses t.line t.bits y x)) (are.agree y x v lt) ∙ sym (turned.by_columns x v y lt);
+  agree = λ y x v lt. turned.by_rows y v x lt
+      ∙ ap (λ b. differ b (eqb v t.value && crosses t.line t.bits y x)) (are.agree y x v lt)
+      ∙ sym (turned.by_columns x v y lt);
 }
 
 -- so is the board
-pub has-turned : (p p' : Layers) (t : Taking) → p'.size ≡ p.size → t.value < 2 → AreTurned p.rows p.columns p'.rows p'.columns t → has p' ≡ turned_by p.size.w (has p) t
+pub has-turned : (p p' : Layers) (t : Taking) → p'.size ≡ p.size → t.value < 2
+    → AreTurned p.rows p.columns p'.rows p'.columns t → has p' ≡ turned_by p.size.w (has p) t
 unfolding has turned_by covers differ
 has-turned p p' t e low turned = rw e (fun_ext λ c. fun_ext λ v.
     grind (arith, common_steps, cases_lt v 2, lt-ltb, le-ltb, ne_eqb, cases_Bool, turned.by_rows (c / p.size.w) v (c % p.size.w)))
@@ -56,7 +64,9 @@ line_of_there size rows columns (Column k) v bits are lt there some =
     let e : some.1 ≡ k = eqb-true _ _ w.0 in
     ((rw e at (bit-in size rows columns some.0 some.1 v are lt (there some.0 some.1 some.2)).1), λ y on. (bit-in size rows columns y k v are lt (there y k (and_from _ _ (eq-eqb k k refl) on))).0)
 
-room_of_line : (room : ℕ) (size : Extent) (rows columns v : ℕ) (line : Line) (bits : ℕ) → size.w ≤ room → size.h ≤ room → rows ≡ 2 * size.h → columns ≡ 2 * size.w → v < 2 → IsLineIn size line bits
+room_of_line : (room : ℕ) (size : Extent) (rows columns v : ℕ) (line : Line) (bits : ℕ)
+    → size.w ≤ room → size.h ≤ room → rows ≡ 2 * size.h → columns ≡ 2 * size.w → v < 2
+    → IsLineIn size line bits
     → HasLine room rows columns line v bits
 room_of_line room size rows columns v (Row k) bits narrow low tall wide lt within =
     (omega (arith, within.0), omega (arith, within.0), λ x on. let h = within.1 x on in (omega arith, omega arith))
@@ -76,7 +86,9 @@ taking_in room p t are there = record {
 -- what is there is taken by turning it over, and put back so
 taken_is : (p : Layers) (t : Taking) → IsThere p t → turned_by p.size.w (has p) t ≡ without_taking p.size.w (has p) t
 unfolding turned_by without_taking covers has differ
-taken_is p t there = fun_ext λ c. fun_ext λ v. grind (arith, common_steps, cases_Bool, cases_eq v t.value, eqb-true, lt-ltb, there.value_in, there.there (c / p.size.w) (c % p.size.w))
+taken_is p t there =
+    fun_ext λ c. fun_ext λ v.
+    grind (arith, common_steps, cases_Bool, cases_eq v t.value, eqb-true, lt-ltb, there.value_in, there.there (c / p.size.w) (c % p.size.w))
 
 pub turned_twice : (w : ℕ) (K : Candidates) (t : Taking) → turned_by w (turned_by w K t) t ≡ K
 unfolding turned_by differ
@@ -87,7 +99,8 @@ pub place-in : (w h y x : ℕ) → y < h → x < w → y * w + x < w * h
 place-in w h y x ly lx = let e : (y + 1) * w ≤ h * w = mul-le-mul_right w (omega arith) in omega arith
 
 pub place-column : (w y x : ℕ) → x < w → (y * w + x) % w ≡ x
-place-column w y x lt = let e = div-mul-add y w x lt in let d = div-add-mod' (y * w + x) w in let r : (y * w + x) / w * w ≡ y * w = ap (λ n. n * w) e in omega arith
+place-column w y x lt = let e = div-mul-add y w x lt in let d = div-add-mod' (y * w + x) w in
+    let r : (y * w + x) / w * w ≡ y * w = ap (λ n. n * w) e in omega arith
 
 without-inside : (w : ℕ) (K : Candidates) (t : Taking) → IsInside (without_taking w K t) K
 unfolding without_taking
@@ -114,14 +127,18 @@ has-within p room are = λ c v on.
     let within = bit-in p.size p.rows p.columns (c / p.size.w) (c % p.size.w) v are.words (ltb-true v 2 w.0) w.1 in
     (rw (div-add-mod' c p.size.w) at (place-in p.size.w p.size.h (c / p.size.w) (c % p.size.w) within.0 within.1), ltb-true v 2 w.0)
 
-taken-fewer : (room : ℕ) (p : Layers) (t : Taking) → ArePlanes room p → IsThere p t → total (p.size.w * p.size.h) 2 (without_taking p.size.w (has p) t) < total (p.size.w * p.size.h) 2 (has p)
+taken-fewer : (room : ℕ) (p : Layers) (t : Taking) → ArePlanes room p → IsThere p t
+    → total (p.size.w * p.size.h) 2 (without_taking p.size.w (has p) t) < total
+    (p.size.w * p.size.h) 2 (has p)
 taken-fewer room p t are there =
     let w = taken-lost room p t are there in
     let within = has-within p room are w.0 w.1 w.2 in
     total-lt (p.size.w * p.size.h) 2 (without_taking p.size.w (has p) t) (has p) (without-inside p.size.w (has p) t) w.0 w.1 within.0 within.1 w.3 w.2
 
 none_of : (bits room n : ℕ) → n ≤ room → any_below (has_bit bits) room ≡ false → ((k : ℕ) → has_bit bits k ≡ true → k < n) → (k : ℕ) → has_bit bits k ≡ false
-none_of bits room n fits none within k = false_from_ne_true _ (λ on. true≢false (sym on ∙ any_below-none (has_bit bits) room none k (let lt = within k on in omega arith)))
+none_of bits room n fits none within k =
+    false_from_ne_true _ (λ on. true≢false
+    (sym on ∙ any_below-none (has_bit bits) room none k (let lt = within k on in omega arith)))
 
 -- planes from which something was taken
 pub record IsTaken (room : ℕ) (p p' : Layers) (t : Taking) : Type 0 where
@@ -132,7 +149,9 @@ pub record IsTaken (room : ℕ) (p p' : Layers) (t : Taking) : Type 0 where
 pub room_to_note : (room : ℕ) (p : Layers) (t : Taking) → ArePlanes room p → IsThere p t → p.len < length p.takings
 room_to_note room p t are there = takings-room p.size (has p) (without_taking p.size.w (has p) t) p.takings p.len are.takings (taken-fewer room p t are there)
 
-pub taken : (room : ℕ) (p : Layers) (t : Taking) (rows columns : List ℕ) → ArePlanes room p → IsThere p t → AreTurned p.rows p.columns rows columns t → length rows ≡ length p.rows → length columns ≡ length p.columns
+pub taken : (room : ℕ) (p : Layers) (t : Taking) (rows columns : List ℕ) → ArePlanes room p
+    → IsThere p t → AreTurned p.rows p.columns rows columns t → length rows ≡ length p.rows
+    → length columns ≡ length p.columns
     → IsTaken room p (record { size = p.size; rows = rows; columns = columns; takings = set p.takings p.len t; len = p.len + 1 }) t
 taken room p t rows columns are there turned tall wide =
     let p' : Layers = record { size = p.size; rows = rows; columns = columns; takings = set p.takings p.len t; len = p.len + 1 } in
@@ -189,18 +208,32 @@ further-more p q r first next = record {
 
 -- what is taken of the cells that have it is what is taken of all
 pub without-there : (p : Layers) (line : Line) (v bits there : ℕ) → ((k : ℕ) → has_bit there k ≡ (at_line p line v k && has_bit bits k))
-    → without_taking p.size.w (has p) (record { line = line; value = v; bits = there }) ≡ without_taking p.size.w (has p) (record { line = line; value = v; bits = bits })
+    → without_taking p.size.w (has p)
+    (record { line = line; value = v; bits = there }) ≡ without_taking p.size.w (has p)
+    (record { line = line; value = v; bits = bits })
 unfolding without_taking covers crosses has
-without-there p (Row n) v bits there is = fun_ext λ c. fun_ext λ u. grind (arith, common_steps, cases_Bool, cases_eq u v, cases_eq (c / p.size.w) n, eq-eqb, ne_eqb, is (c % p.size.w))
-without-there p (Column n) v bits there is = fun_ext λ c. fun_ext λ u. grind (arith, common_steps, cases_Bool, cases_eq u v, cases_eq (c % p.size.w) n, eq-eqb, ne_eqb, is (c / p.size.w))
+without-there p (Row n) v bits there is =
+    fun_ext λ c. fun_ext λ u.
+    grind (arith, common_steps, cases_Bool, cases_eq u v, cases_eq (c / p.size.w) n, eq-eqb, ne_eqb, is (c % p.size.w))
+without-there p (Column n) v bits there is =
+    fun_ext λ c. fun_ext λ u.
+    grind (arith, common_steps, cases_Bool, cases_eq u v, cases_eq (c % p.size.w) n, eq-eqb, ne_eqb, is (c / p.size.w))
 
-pub without-none : (p : Layers) (line : Line) (v bits room : ℕ) → line_len p.size line ≤ room → any_below (has_bit bits) room ≡ false → ((k : ℕ) → has_bit bits k ≡ true → k < line_len p.size line)
+pub without-none : (p : Layers) (line : Line) (v bits room : ℕ) → line_len p.size line ≤ room
+    → any_below (has_bit bits) room ≡ false
+    → ((k : ℕ) → has_bit bits k ≡ true → k < line_len p.size line)
     → has p ≡ without_taking p.size.w (has p) (record { line = line; value = v; bits = bits })
 unfolding without_taking covers crosses
-without-none p (Row n) v bits room fits none within = fun_ext λ c. fun_ext λ u. rw (none_of bits room p.size.w fits none within (c % p.size.w)) (grind (arith, common_steps, cases_Bool))
-without-none p (Column n) v bits room fits none within = fun_ext λ c. fun_ext λ u. rw (none_of bits room p.size.h fits none within (c / p.size.w)) (grind (arith, common_steps, cases_Bool))
+without-none p (Row n) v bits room fits none within =
+    fun_ext λ c. fun_ext λ u. rw (none_of bits room p.size.w fits none within (c % p.size.w))
+    (grind (arith, common_steps, cases_Bool))
+without-none p (Column n) v bits room fits none within =
+    fun_ext λ c. fun_ext λ u. rw (none_of bits room p.size.h fits none within (c / p.size.w))
+    (grind (arith, common_steps, cases_Bool))
 
-there-by : (p : Layers) (line : Line) (v bits : ℕ) → ((k : ℕ) → has_bit bits k ≡ true → at_line p line v k ≡ true) → (y x : ℕ) → crosses line bits y x ≡ true → bit_of p.rows y v x ≡ true
+there-by : (p : Layers) (line : Line) (v bits : ℕ)
+    → ((k : ℕ) → has_bit bits k ≡ true → at_line p line v k ≡ true) → (y x : ℕ)
+    → crosses line bits y x ≡ true → bit_of p.rows y v x ≡ true
 unfolding crosses
 there-by p (Row n) v bits there y x on = let w = and_parts _ _ on in rw (eqb-true y n w.0) (there x w.1)
 there-by p (Column n) v bits there y x on = let w = and_parts _ _ on in rw (eqb-true x n w.0) (there y w.1)
@@ -225,8 +258,16 @@ pub record IsPutBack (room : ℕ) (p p' : Layers) : Type 0 where
   pub are : ArePlanes room p'
   pub back : (m : ℕ) → m < p.len → back_at p' m ≡ back_at p m
 
-pub given_back : (room : ℕ) (p : Layers) (rows columns : List ℕ) (n : ℕ) → ArePlanes room p → n + 1 ≡ p.len → AreTurned p.rows p.columns rows columns (taking_at p.takings n)
-    → length rows ≡ length p.rows → length columns ≡ length p.columns → IsPutBack room p (record { size = p.size; rows = rows; columns = columns; takings = p.takings; len = n })
+pub given_back : (room : ℕ) (p : Layers) (rows columns : List ℕ) (n : ℕ) → ArePlanes room p
+    → n + 1 ≡ p.len → AreTurned p.rows p.columns rows columns (taking_at p.takings n)
+    → length rows ≡ length p.rows → length columns ≡ length p.columns
+    → IsPutBack room p (record {
+      size = p.size;
+      rows = rows;
+      columns = columns;
+      takings = p.takings;
+      len = n;
+    })
 given_back room p rows columns n are e turned tall wide =
     let p' : Layers = record { size = p.size; rows = rows; columns = columns; takings = p.takings; len = n } in
     let n_is : n ≡ p.len - 1 = omega arith in

@@ -26,7 +26,9 @@ pub taking_read : {W : Type 0} (bits : W → ℕ) (changes : List (Change W)) (k
     → taking_at (map (taking_of bits) changes) k ≡ taking_of bits change
 taking_read bits changes k change lt read = get_or-map (taking_of bits) changes k change no_taking lt ∙ ap (taking_of bits) (sym read)
 
-full-has : (p : Layers) (size : Extent) → p.size ≡ size → 0 < size.w → ((y v x : ℕ) → v < 2 → bit_of p.rows y v x ≡ (ltb y size.h && ltb x size.w)) → has p ≡ all_of (size.w * size.h) 2
+full-has : (p : Layers) (size : Extent) → p.size ≡ size → 0 < size.w
+    → ((y v x : ℕ) → v < 2 → bit_of p.rows y v x ≡ (ltb y size.h && ltb x size.w))
+    → has p ≡ all_of (size.w * size.h) 2
 unfolding has all_of
 full-has p size e pos is = fun_ext λ c. fun_ext λ v. elim (cases_lt v 2) [
   | inl low ↦ rw (e, lt-ltb v 2 low, is (c / size.w) v (c % size.w) low, lt-ltb (c % size.w) size.w (mod-lt c pos)) (row-in c)
@@ -108,16 +110,21 @@ unfolding has
 has_read p c v lt = rw (lt-ltb v 2 lt) refl
 
 -- ---- a step taken, and put back
-pub take_step : {W : Type 0} (bits : W → ℕ) (room : ℕ) (size : Extent) (rows columns rows' columns' : List W) (changes : List (Change W)) (len : ℕ) (change : Change W)
+pub take_step : {W : Type 0} (bits : W → ℕ) (room : ℕ) (size : Extent)
+    (rows columns rows' columns' : List W) (changes : List (Change W)) (len : ℕ) (change : Change W)
     → ArePlanes room (layers_of bits size rows columns changes len) → IsThere (layers_of bits size rows columns changes len) (taking_of bits change)
-    → AreTurned (map bits rows) (map bits columns) (map bits rows') (map bits columns') (taking_of bits change) → length rows' ≡ length rows → length columns' ≡ length columns
-    → IsTaken room (layers_of bits size rows columns changes len) (layers_of bits size rows' columns' (set changes len change) (len + 1)) (taking_of bits change)
+    → AreTurned (map bits rows) (map bits columns) (map bits rows') (map bits columns')
+    (taking_of bits change) → length rows' ≡ length rows → length columns' ≡ length columns
+    → IsTaken room (layers_of bits size rows columns changes len)
+    (layers_of bits size rows' columns' (set changes len change) (len + 1))
+    (taking_of bits change)
 take_step bits room size rows columns rows' columns' changes len change are there turned tall wide =
     rw (map-set (taking_of bits) changes len change)
     (taken room (layers_of bits size rows columns changes len) (taking_of bits change) (map bits rows') (map bits columns') are there turned
     (length-map rows' bits ∙ tall ∙ sym (length-map rows bits)) (length-map columns' bits ∙ wide ∙ sym (length-map columns bits)))
 
-pub undo_step : {W : Type 0} (bits : W → ℕ) (room : ℕ) (size : Extent) (rows columns rows' columns' : List W) (changes : List (Change W)) (n len : ℕ) (t : Taking)
+pub undo_step : {W : Type 0} (bits : W → ℕ) (room : ℕ) (size : Extent)
+    (rows columns rows' columns' : List W) (changes : List (Change W)) (n len : ℕ) (t : Taking)
     → ArePlanes room (layers_of bits size rows columns changes len) → n + 1 ≡ len → taking_at (map (taking_of bits) changes) n ≡ t
     → AreTurned (map bits rows) (map bits columns) (map bits rows') (map bits columns') t → length rows' ≡ length rows → length columns' ≡ length columns
     → IsPutBack room (layers_of bits size rows columns changes len) (layers_of bits size rows' columns' changes n)
@@ -125,13 +132,17 @@ undo_step bits room size rows columns rows' columns' changes n len t are e last 
     given_back room (layers_of bits size rows columns changes len) (map bits rows') (map bits columns') n are e (rw last turned)
     (length-map rows' bits ∙ tall ∙ sym (length-map rows bits)) (length-map columns' bits ∙ wide ∙ sym (length-map columns bits))
 
-pub room_at : {W : Type 0} (bits : W → ℕ) (room : ℕ) (size : Extent) (rows columns : List W) (changes : List (Change W)) (len : ℕ) (t : Taking) → ArePlanes room (layers_of bits size rows columns changes len)
+pub room_at : {W : Type 0} (bits : W → ℕ) (room : ℕ) (size : Extent) (rows columns : List W)
+    (changes : List (Change W)) (len : ℕ) (t : Taking)
+    → ArePlanes room (layers_of bits size rows columns changes len)
     → IsTakingIn size t → HasRoomFor room (length rows) (length columns) t
 room_at bits room size rows columns changes len t are within =
     rw (length-map rows bits, length-map columns bits) at (room_for room (layers_of bits size rows columns changes len) t are within)
 
 -- what was taken last
-pub last_read : {W : Type 0} (bits : W → ℕ) (room : ℕ) (size : Extent) (rows columns : List W) (changes : List (Change W)) (len : ℕ) (change : Change W) → ArePlanes room (layers_of bits size rows columns changes len)
+pub last_read : {W : Type 0} (bits : W → ℕ) (room : ℕ) (size : Extent) (rows columns : List W)
+    (changes : List (Change W)) (len : ℕ) (change : Change W)
+    → ArePlanes room (layers_of bits size rows columns changes len)
     → 0 < len → change ≡ get_or changes (len - 1) change → taking_at (map (taking_of bits) changes) (len - 1) ≡ taking_of bits change
 last_read bits room size rows columns changes len change are pos read =
     let long = takings-len _ _ _ _ are.takings in

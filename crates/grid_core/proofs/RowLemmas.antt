@@ -28,7 +28,8 @@ values-at p y x lt = two-counted (has p (y * p.size.w + x)) ∙ rw (has-at p y x
 
 -- what is so of the cells of the rows above y, and of those of row y, is so of those of one row more
 rows-more : (p : Layers) (n : ℕ → Type 0) (y : ℕ) → ((c : ℕ) → c < y * p.size.w → n (count_below (has p c) 2))
-    → ((x : ℕ) → x < p.size.w → n (cond (bit_of p.rows y 0 x) 1 0 + cond (bit_of p.rows y 1 x) 1 0)) → (c : ℕ) → c < (y + 1) * p.size.w → n (count_below (has p c) 2)
+    → ((x : ℕ) → x < p.size.w → n (cond (bit_of p.rows y 0 x) 1 0 + cond (bit_of p.rows y 1 x) 1 0))
+    → (c : ℕ) → c < (y + 1) * p.size.w → n (count_below (has p c) 2)
 rows-more p n y above row c lt = elim (cases_lt c (y * p.size.w)) [
   | inl before ↦ above c before
   | inr le ↦
@@ -44,7 +45,8 @@ unfolding pick better
 pick-none zero K few = refl
 pick-none (suc n) K few = grind (arith, common_steps, pick-none n K, few n)
 
-pick-first : (n : ℕ) (K : Candidates) (cell : ℕ) → cell < n → count_below (K cell) 2 ≡ 2 → ((c : ℕ) → c < cell → count_below (K c) 2 < 2) → pick n 2 K ≡ Some cell
+pick-first : (n : ℕ) (K : Candidates) (cell : ℕ) → cell < n → count_below (K cell) 2 ≡ 2
+    → ((c : ℕ) → c < cell → count_below (K c) 2 < 2) → pick n 2 K ≡ Some cell
 unfolding pick better
 pick-first zero K cell lt two few = absurd (omega arith)
 pick-first (suc n) K cell lt two few = grind (arith, common_steps, cases_eq cell n, pick-none cell K few, pick-first n K cell)
@@ -87,7 +89,9 @@ pick-row_some p room y both x ly lx none row least =
     before : (c : ℕ) → c < y * p.size.w + x → count_below (has p c) 2 < 2
     before c lt = elim (cases_lt c (y * p.size.w)) [
       | inl above ↦ pick-few (y * p.size.w) (has p) none c above
-      | inr le ↦ let e : c ≡ y * p.size.w + (c - y * p.size.w) = omega arith in rw (e, values-at p y (c - y * p.size.w) (omega arith)) (few (c - y * p.size.w) (omega arith))
+      | inr le ↦ let e : c ≡ y * p.size.w + (c - y * p.size.w) = omega arith in
+          rw (e, values-at p y (c - y * p.size.w) (omega arith))
+          (few (c - y * p.size.w) (omega arith))
     ]
 
 -- ---- full rows
@@ -103,7 +107,8 @@ full-row p room y lacks narrow above row off = rows-more p (λ n. n ≡ 1) y abo
     each : (x : ℕ) → x < p.size.w → cond (bit_of p.rows y 0 x) 1 0 + cond (bit_of p.rows y 1 x) 1 0 ≡ 1
     each x lt = grind (arith, common_steps, cases_Bool, lt-ltb, any_below-none (has_bit lacks) room off x, row.is x)
 
-pub not_full-row : (p : Layers) (room y lacks : ℕ) → y < p.size.h → IsUnfilledRow p y lacks → any_below (has_bit lacks) room ≡ true → is_full (cells_of p) 2 (has p) ≡ false
+pub not_full-row : (p : Layers) (room y lacks : ℕ) → y < p.size.h → IsUnfilledRow p y lacks
+    → any_below (has_bit lacks) room ≡ true → is_full (cells_of p) 2 (has p) ≡ false
 unfolding differ
 not_full-row p room y lacks ly row some =
     let w = any_below-some (has_bit lacks) room some in
@@ -131,7 +136,8 @@ one-value p c n full lt is = by (has p c 1) refl
     by true e = let n_is : n ≡ 1 = is ∙ rw e refl in (omega arith, rw n_is e)
     by false e = let n_is : n ≡ 0 = is ∙ rw e refl in (omega arith, rw n_is (grind (arith, common_steps, cases_Bool, count)))
 
-pub written-more : (p : Layers) (g : List ℕ) (y x n : ℕ) → is_full (cells_of p) 2 (has p) ≡ true → y < p.size.h → x < p.size.w → IsWritten p g (y * p.size.w + x)
+pub written-more : (p : Layers) (g : List ℕ) (y x n : ℕ) → is_full (cells_of p) 2 (has p) ≡ true
+    → y < p.size.h → x < p.size.w → IsWritten p g (y * p.size.w + x)
     → n ≡ bool_byte (bit_of p.rows y 1 x) → IsWritten p (set g (y * p.size.w + x) n) (y * p.size.w + (x + 1))
 written-more p g y x n full ly lx written is =
     let place = y * p.size.w + x in

@@ -142,7 +142,9 @@ module _ (joins : ℕ → ℕ → Bool) (lefts rights : ℕ) (mates : List ℕ) 
     in_range = All-permutation (λ l. l < lefts) frontier.lefts sorted same (All-from_get_or (λ l. l < lefts) frontier.lefts 0 low);
     fewer =
         let few = count_by-le (λ r. list_any (λ l. joins l r) sorted) rights later_mates
-        (λ r h e. joined_held r h (Any-from_list_any (λ l. joins l r) frontier.lefts (list_any-IsPermutation (λ l. joins l r) frontier.lefts sorted same ∙ e))) in
+        (λ r h e. joined_held r h
+        (Any-from_list_any (λ l. joins l r) frontier.lefts
+        (list_any-IsPermutation (λ l. joins l r) frontier.lefts sorted same ∙ e))) in
         let some = reach.some in
         omega (
           arith,

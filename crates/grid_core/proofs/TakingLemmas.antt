@@ -18,7 +18,8 @@ unfolding put_back
 put_back-last w K takings m n le = rw (add-one, le-leb m n le) refl
 
 -- what is written past the trail's end does not count
-put_back-past : (w : ℕ) (K : Candidates) (takings : List Taking) (l m n : ℕ) (t : Taking) → m ≤ n → put_back w K (set takings n t) l m ≡ put_back w K takings l m
+put_back-past : (w : ℕ) (K : Candidates) (takings : List Taking) (l m n : ℕ) (t : Taking) → m ≤ n
+    → put_back w K (set takings n t) l m ≡ put_back w K takings l m
 unfolding put_back
 put_back-past w K takings l zero n t le = refl
 put_back-past w K takings l (suc m) n t le =
@@ -35,10 +36,13 @@ put_back-noted w K L takings m n t le lt back =
 
 pub put_back-undone : (w : ℕ) (K : Candidates) (takings : List Taking) (m n : ℕ) → m < n
     → put_back w (turned_by w K (taking_at takings (n - 1))) takings m (n - 1) ≡ put_back w K takings m n
-put_back-undone w K takings m n lt = let e : n - 1 + 1 ≡ n = omega arith in sym (put_back-last w K takings m (n - 1) (omega arith)) ∙ ap (put_back w K takings m) e
+put_back-undone w K takings m n lt = let e : n - 1 + 1 ≡ n = omega arith in
+    sym (put_back-last w K takings m (n - 1) (omega arith)) ∙ ap (put_back w K takings m) e
 
 -- ---- the trail stays in order
-pub takings-none : (size : Extent) (K : Candidates) (takings : List Taking) → length takings ≡ size.w * size.h * 2 → total (size.w * size.h) 2 K ≤ size.w * size.h * 2 → AreTakings size K takings 0
+pub takings-none : (size : Extent) (K : Candidates) (takings : List Taking)
+    → length takings ≡ size.w * size.h * 2 → total (size.w * size.h) 2 K ≤ size.w * size.h * 2
+    → AreTakings size K takings 0
 takings-none size K takings long few = record {
   long = long;
   takings_in = λ k lt. absurd (omega arith);
@@ -48,10 +52,13 @@ takings-none size K takings long few = record {
 pub takings-len : (size : Extent) (K : Candidates) (takings : List Taking) (n : ℕ) → AreTakings size K takings n → n ≤ length takings
 takings-len size K takings n t = let room = t.room n (omega arith) in omega arith
 
-pub takings-room : (size : Extent) (K L : Candidates) (takings : List Taking) (n : ℕ) → AreTakings size K takings n → total (size.w * size.h) 2 L < total (size.w * size.h) 2 K → n < length takings
+pub takings-room : (size : Extent) (K L : Candidates) (takings : List Taking) (n : ℕ)
+    → AreTakings size K takings n → total (size.w * size.h) 2 L < total (size.w * size.h) 2 K
+    → n < length takings
 takings-room size K L takings n t fewer = let room = rw (put_back-none size.w K takings n n (omega arith)) at (t.room n (omega arith)) in omega arith
 
-pub takings-noted : (size : Extent) (K L : Candidates) (takings : List Taking) (n : ℕ) (t : Taking) → AreTakings size K takings n → total (size.w * size.h) 2 L < total (size.w * size.h) 2 K
+pub takings-noted : (size : Extent) (K L : Candidates) (takings : List Taking) (n : ℕ) (t : Taking)
+    → AreTakings size K takings n → total (size.w * size.h) 2 L < total (size.w * size.h) 2 K
     → IsTakingIn size t → turned_by size.w L t ≡ K → AreTakings size L (set takings n t) (n + 1)
 takings-noted size K L takings n t are fewer within back =
     let lt = takings-room size K L takings n are fewer in

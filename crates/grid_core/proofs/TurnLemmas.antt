@@ -17,13 +17,15 @@ word_turned words i v word which lv lt is j u p lu =
     grind (arith, common_steps, cases_eq j i, cases_eq u v, eq-eqb, ne_eqb, get_or-set_same, get_or-set_other, is p)
 
 -- the same of words of any kind
-pub turned_at : {W : Type 0} (bits : W → ℕ) (words : List W) (i v : ℕ) (old new : W) (which : ℕ → Bool) → v < 2 → 2 * i + v < length words → old ≡ get_or words (2 * i + v) old
+pub turned_at : {W : Type 0} (bits : W → ℕ) (words : List W) (i v : ℕ) (old new : W)
+    (which : ℕ → Bool) → v < 2 → 2 * i + v < length words → old ≡ get_or words (2 * i + v) old
     → ((p : ℕ) → has_bit (bits new) p ≡ differ (has_bit (bits old) p) (which p))
     → (j u p : ℕ) → u < 2 → bit_of (map bits (set words (2 * i + v) new)) j u p ≡ differ (bit_of (map bits words) j u p) (eqb u v && (eqb j i && which p))
 turned_at bits words i v old new which lv lt read is j u p lu =
     let at : slice_index (map bits words) (2 * i + v) ≡ bits old = get_or-map bits words (2 * i + v) old 0 lt ∙ ap bits (sym read) in
     rw (map-set bits words (2 * i + v) new)
-    (word_turned (map bits words) i v (bits new) which lv (omega (arith, length-map words bits)) (λ q. is q ∙ ap (λ n. differ (has_bit n q) (which q)) (sym at)) j u p lu)
+    (word_turned (map bits words) i v (bits new) which lv (omega (arith, length-map words bits))
+    (λ q. is q ∙ ap (λ n. differ (has_bit n q) (which q)) (sym at)) j u p lu)
 
 -- one more crossing line
 pub crossed : (before after first line v crossing : Bool) (all rest left : Bool)

@@ -44,7 +44,9 @@ next-bit : (a p : ℕ) → has_bit a (suc p) ≡ has_bit (a / 2) p
 next-bit a p = ap (λ n. eqb n 1) (bit_at-suc a p)
 
 -- of a number and the one before it the bits below the lowest differ, and that bit
-dropped-bits : (least a p : ℕ) → has_bit a least ≡ true → ((q : ℕ) → q < least → has_bit a q ≡ false) → (has_bit a p && has_bit (a - 1) p) ≡ (has_bit a p && not (eqb p least))
+dropped-bits : (least a p : ℕ) → has_bit a least ≡ true
+    → ((q : ℕ) → q < least → has_bit a q ≡ false)
+    → (has_bit a p && has_bit (a - 1) p) ≡ (has_bit a p && not (eqb p least))
 dropped-bits zero a zero on before = grind (arith, common_steps, bit_at_lowest a, bit_at_lowest (a - 1))
 dropped-bits zero a (suc p) on before =
     let odd : a % 2 ≡ 1 = grind (arith, common_steps, bit_at_lowest a) in
@@ -63,7 +65,10 @@ lowest-dropped w a least p is = both-bits a (a - 1) p ∙ dropped-bits least a p
 
 -- a word with no bit set is 0
 no-bits : (w a : ℕ) → a < 2 ^ w → any_below (has_bit a) w ≡ false → a ≡ 0
-no-bits w a fits none = same_from_bits_below w a 0 fits (pow_pos w) (λ p lt. off (bit_at a p) (bit_at-lt a p) (any_below-none (has_bit a) w none p lt) ∙ sym (bit_at-zero p))
+no-bits w a fits none =
+    same_from_bits_below w a 0 fits (pow_pos w)
+    (λ p lt. off (bit_at a p) (bit_at-lt a p) (any_below-none (has_bit a) w none p lt)
+    ∙ sym (bit_at-zero p))
   where
     off : (x : ℕ) → x < 2 → eqb x 1 ≡ false → x ≡ 0
     off x lt e = let ne = eqb-false x 1 e in omega arith
@@ -79,4 +84,5 @@ some-bit_is w bits fits = grind (arith, common_steps, cases_Bool, none-below, ca
 pub some-bit : (w bits : ℕ) → any_below (has_bit bits) w ≡ true → 0 < bits
 some-bit w bits some = grind (arith, common_steps, cases_eq bits 0, none-below)
 
-pub ruleset word_laws = (zero-bits, both-bits, either-bits, differ-bits, but-bits, one-bits, all-bits, full-bits, shifted-bit, some-bit_is, some-bit, count_ones-bits)
+pub ruleset word_laws =
+    (zero-bits, both-bits, either-bits, differ-bits, but-bits, one-bits, all-bits, full-bits, shifted-bit, some-bit_is, some-bit, count_ones-bits)

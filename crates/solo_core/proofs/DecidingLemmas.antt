@@ -28,14 +28,22 @@ module _ (decides : Decision) (p : Solo) {h : ℕ} (lt : h < length (deciding de
   long-at ok = ap (λ (house : House). length house.places) deciding-at ∙ (lists_house ok (get_or (houses_of p) h (Row 0)) (all_houses p h (Row 0) inside)).len
 
 -- what is kept of the sets of a house, where it is decided
-pub kept-houses : (settled : Bool) (p : Solo) (houses : List House) → All (IsSound (setting_of settled p houses)) houses → {h : ℕ} → h < length houses → {K : Candidates} {sets kept : List ℕ}
-    → AreSetsOf (rules_of settled p houses) h K sets → IsDecided (solo_n p) (house_of houses h).decides sets kept → IsKept (rules_of settled p houses) h K true kept
-kept-houses settled p houses sound {h} lt {K} {sets} {kept} are decided = kept-decided (rules_of settled p houses) h (house_of houses h).decides K true sets kept (λ L d v. refl)
+pub kept-houses : (settled : Bool) (p : Solo) (houses : List House)
+    → All (IsSound (setting_of settled p houses)) houses → {h : ℕ} → h < length houses
+    → {K : Candidates} {sets kept : List ℕ}
+    → AreSetsOf (rules_of settled p houses) h K sets
+    → IsDecided (solo_n p) (house_of houses h).decides sets kept
+    → IsKept (rules_of settled p houses) h K true kept
+kept-houses settled p houses sound {h} lt {K} {sets} {kept} are decided =
+    kept-decided (rules_of settled p houses) h (house_of houses h).decides K true sets kept
+    (λ L d v. refl)
     (sound h no_house lt).different are decided (λ e. absurd (true≢false e))
 
 pub kept-deciding : (settled : Bool) (p : Solo) {decides : Decision} → All (IsSound (setting_of settled p (deciding decides p))) (deciding decides p)
     → {h : ℕ} → h < length (deciding decides p) → (K : Candidates) {sets kept : List ℕ}
-    → AreSetsOf (rules_of settled p (deciding decides p)) h K sets → IsDecided (solo_n p) decides sets kept → IsKept (rules_of settled p (deciding decides p)) h K true kept
+    → AreSetsOf (rules_of settled p (deciding decides p)) h K sets
+    → IsDecided (solo_n p) decides sets kept
+    → IsKept (rules_of settled p (deciding decides p)) h K true kept
 kept-deciding settled p {decides} sound lt K are decided = kept-houses settled p (deciding decides p) sound lt are (rw (decides-at decides p lt) at decided)
 
 -- ---- crossings after the houses
@@ -46,7 +54,8 @@ listed-deciding decides p none e =
     ∙ sym (map-map (λ (house : House). house.places) (house_by decides p) (houses_of p))
 
 pub listed-crossings : (p : Solo) (none first second : Listed) → none ≡ record { closed = []; begun = [] }
-    → first ≡ record { closed = none.closed ++ map (places_of p) (houses_of p); begun = [] } → second ≡ record { closed = first.closed ++ all_places (crossings_of p); begun = [] }
+    → first ≡ record { closed = none.closed ++ map (places_of p) (houses_of p); begun = [] }
+    → second ≡ record { closed = first.closed ++ all_places (crossings_of p); begun = [] }
     → second.closed ≡ all_places (filled_houses p ++ crossings_of p)
 listed-crossings p none first second z a b =
     ap (λ (list : Listed). list.closed) b ∙ ap (λ xs. xs ++ all_places (crossings_of p)) (listed-deciding (strikes_by_fillings no_repeat) p z a)

@@ -16,7 +16,10 @@ use Rattle.solo_core.specs.declared.houses.scope.VisitName.TheVariants as scope
 -- ---- a list that begins with the values of a function
 module _ {X : Type 0} (f : ℕ → X) {n : ℕ} (rest : List X) {h : ℕ} (d : X) where
   pub part_first : h < n → get_or (map f (range_with_len 0 n) ++ rest) h d ≡ f h
-  part_first lt = get_or_append_left (map f (range_with_len 0 n)) rest d h (omega (arith, length-map-range_with_len f 0 n)) ∙ get_or-map-range_with_len f 0 n h h d lt (omega arith)
+  part_first lt =
+      get_or_append_left (map f (range_with_len 0 n)) rest d h
+      (omega (arith, length-map-range_with_len f 0 n))
+      ∙ get_or-map-range_with_len f 0 n h h d lt (omega arith)
 
   pub part_later : n ≤ h → get_or (map f (range_with_len 0 n) ++ rest) h d ≡ get_or rest (h - n) d
   part_later le = get_or-append_right (map f (range_with_len 0 n)) rest n h d (length-map-range_with_len f 0 n) le
@@ -36,7 +39,9 @@ pub begun-more : {old new : Listed} {closed : List (List ℕ)} (places : List �
     → new ≡ record { closed = closed; begun = take (k + 1) places }
 begun-more places k lt is was e = e ∙ rw (was, is, take_more places k 0 lt) refl
 
-pub begun-done : {new : Listed} {closed : List (List ℕ)} {places : List ℕ} (k : ℕ) → length places ≡ k → new ≡ record { closed = closed; begun = take k places } → new ≡ record { closed = closed; begun = places }
+pub begun-done : {new : Listed} {closed : List (List ℕ)} {places : List ℕ} (k : ℕ)
+    → length places ≡ k → new ≡ record { closed = closed; begun = take k places }
+    → new ≡ record { closed = closed; begun = places }
 begun-done {places} k long was = was ∙ rw (← long, take-length places) refl
 
 pub listed-none : {old : Listed} (all : List (List ℕ)) → old.begun ≡ [] → old ≡ record { closed = old.closed ++ take 0 all; begun = [] }
@@ -47,17 +52,21 @@ pub listed-more : {old new : Listed} (closed all : List (List ℕ)) (k : ℕ) {p
     → new ≡ record { closed = closed ++ take (k + 1) all; begun = [] }
 listed-more closed all k lt is was e = e ∙ rw (was, is, take_more all k [] lt, append_assoc) refl
 
-pub listed-all : {list : Listed} (closed all : List (List ℕ)) (k : ℕ) → length all ≡ k → list ≡ record { closed = closed ++ take k all; begun = [] } → list ≡ record { closed = closed ++ all; begun = [] }
+pub listed-all : {list : Listed} (closed all : List (List ℕ)) (k : ℕ) → length all ≡ k
+    → list ≡ record { closed = closed ++ take k all; begun = [] }
+    → list ≡ record { closed = closed ++ all; begun = [] }
 listed-all closed all k long was = was ∙ rw (← long, take-length all) refl
 
 pub places-length : (p : Solo) → length (house_places p) ≡ length (houses_of p)
 places-length p = length-map (houses_of p) (places_of p)
 
-pub places-at : (p : Solo) (k : ℕ) {house : NamedHouse} → k < length (houses_of p) → house ≡ get_or (houses_of p) k house → places_of p house ≡ get_or (house_places p) k []
+pub places-at : (p : Solo) (k : ℕ) {house : NamedHouse} → k < length (houses_of p)
+    → house ≡ get_or (houses_of p) k house → places_of p house ≡ get_or (house_places p) k []
 places-at p k {house} lt is = ap (places_of p) is ∙ sym (get_or-map (places_of p) (houses_of p) k house [] lt)
 
 -- the houses by their numbers, and what the list gets of them
-pub ruleset house_laws = (part_first, part_later, diagonal_at, house_count, count_x, count_plain, begun-none, begun-more, begun-done, listed-none, listed-more, listed-all, places-length, places-at)
+pub ruleset house_laws =
+    (part_first, part_later, diagonal_at, house_count, count_x, count_plain, begun-none, begun-more, begun-done, listed-none, listed-more, listed-all, places-length, places-at)
 
 -- ---- the crossings by their numbers
 module _ {X : Type 0} (first second : ℕ → X) (n m : ℕ) where
@@ -101,7 +110,8 @@ module _ (p : Solo) where
   pub all-length : length (scopes_of p) ≡ length (houses_of p) + length (crossing_scopes p)
   all-length = omega (arith, length-append names (crossing_scopes p), names-length)
 
-  pub house-named : (h : ℕ) (d : VisitName) (house : NamedHouse) → h < length (houses_of p) → get_or (scopes_of p) h d ≡ scope.House (get_or (houses_of p) h house)
+  pub house-named : (h : ℕ) (d : VisitName) (house : NamedHouse) → h < length (houses_of p)
+      → get_or (scopes_of p) h d ≡ scope.House (get_or (houses_of p) h house)
   house-named h d house lt = get_or_append_left names (crossing_scopes p) d h (omega (arith, names-length)) ∙ get_or-map scope.House (houses_of p) h house d lt
 
   pub crossing-after : (h : ℕ) (d : VisitName) → length (houses_of p) ≤ h → get_or (scopes_of p) h d ≡ get_or (crossing_scopes p) (h - length (houses_of p)) d

@@ -19,15 +19,34 @@ use Rattle.solo_core.proofs.Turned.{after-root, before-root, in_ends, after-step
 
 pub ruleset check_laws = (given_first, len_of, number_at, seen_none, seen_more, seen_again, seen_all, fine_more)
 
-pub ruleset crossing_laws = (bits_joined, bits-both, bits-of_zero, any-none, any-more, cut_by, crossings-length, listed-same, lists_house, scopes-length, shared-below, shared-above)
+pub ruleset crossing_laws =
+    (bits_joined, bits-both, bits-of_zero, any-none, any-more, cut_by, crossings-length, listed-same, lists_house, scopes-length, shared-below, shared-above)
 
-pub ruleset crossings_laws = (lists_house, crossing-is, crossings-listed, crossings-length, scopes-length, listed-none, listed-all, rest-out, rest-in, rest-all, listed-same)
+pub ruleset crossings_laws =
+    (lists_house, crossing-is, crossings-listed, crossings-length, scopes-length, listed-none, listed-all, rest-out, rest-in, rest-all, listed-same)
 
-pub ruleset laws_laws = (rule_from_test, test_from_rule, house_count, bound_is, first_at, lists_house, listed-has, singles_in_houses, houses_lawful, singles_lawful, crossings_lawful, length-deciding, crossings-counted, house-named, scope-named)
+pub ruleset laws_laws = (
+  rule_from_test,
+  test_from_rule,
+  house_count,
+  bound_is,
+  first_at,
+  lists_house,
+  listed-has,
+  singles_in_houses,
+  houses_lawful,
+  singles_lawful,
+  crossings_lawful,
+  length-deciding,
+  crossings-counted,
+  house-named,
+  scope-named,
+)
 
 pub ruleset mates_laws = (rest-more, rest-same, rest-apart)
 
-pub ruleset peel_laws = (bits-both, bits-either, alone-none, alone-lone, alone-more, counts-none, counts-more, peeled-step, counts-same, peeled-none, peeled-more)
+pub ruleset peel_laws =
+    (bits-both, bits-either, alone-none, alone-lone, alone-more, counts-none, counts-more, peeled-step, counts-same, peeled-none, peeled-more)
 
 pub ruleset quick_laws = (bits-both, goes_on_free, begun-none, goes_on_swapped)
 

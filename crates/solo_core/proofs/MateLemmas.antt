@@ -20,7 +20,9 @@ pub set_of_bits_below : (n bits : ℕ) {v : ℕ} → has_value (set_of_bits n bi
 unfolding set_of_bits
 set_of_bits_below n bits {v} h = elim (cases_lt v n) [
   | inl low ↦ low
-  | inr high ↦ absurd (true≢false (sym h ∙ get_or_past (map (has_bit bits) (range_with_len 0 n)) v false (omega (arith, length-map-range_with_len (has_bit bits) 0 n))))
+  | inr high ↦
+      absurd (true≢false (sym h ∙ get_or_past (map (has_bit bits) (range_with_len 0 n)) v false
+      (omega (arith, length-map-range_with_len (has_bit bits) 0 n))))
 ]
 
 -- the sets of a house as bits, each within the values
@@ -34,7 +36,9 @@ shown_by_pairing sets {n} {mates} p k = test_from_shown no_repeat (map (set_of_b
   mates,
   record {
     fills = record { len = p.len ∙ sym (length-map sets (set_of_bits n)); each = each };
-    holds_true = no_repeat_from_different mates (λ i j below within same. let e = p.len in absurd (let q = p.own i j (omega arith) (omega arith) same in omega arith));
+    holds_true =
+        no_repeat_from_different mates (λ i j below within same. let e = p.len in
+        absurd (let q = p.own i j (omega arith) (omega arith) same in omega arith));
     has_it = refl;
   },
 )
@@ -73,7 +77,9 @@ struck_from_none sets n place value none = true_from_ne_false (is_struck n sets 
 
 -- ---- the rest, cell by cell
 range_more : (k : ℕ) → range_with_len 0 (k + 1) ≡ range_with_len 0 k ++ k ∷ []
-range_more k = sym (map-id (range_with_len 0 (k + 1))) ∙ map-range_with_len_more (λ j. j) 0 k k (omega arith) ∙ ap (λ xs. xs ++ k ∷ []) (map-id (range_with_len 0 k))
+range_more k = sym (map-id (range_with_len 0 (k + 1)))
+    ∙ map-range_with_len_more (λ j. j) 0 k k (omega arith)
+    ∙ ap (λ xs. xs ++ k ∷ []) (map-id (range_with_len 0 k))
 
 rest-next : (k cells : ℕ) → rest_of (k + 1) cells ≡ rest_of k cells ++ cond (not (has_bit cells k)) (k ∷ []) []
 rest-next k cells = ap (filter (λ j. not (has_bit cells j))) (range_more k) ∙ filter-append (λ j. not (has_bit cells j)) (range_with_len 0 k) (k ∷ [])
@@ -107,7 +113,13 @@ module _ (n cells : ℕ) where
 
   pub rest-different : AreDifferent rest
   rest-different = different-filter (λ k. not (has_bit cells k)) (range_with_len 0 n) (λ j k lj lk same.
-      omega (arith, length-range_with_len 0 n, get_or-range_with_len 0 n j 0 (omega (arith, length-range_with_len 0 n)), get_or-range_with_len 0 n k 0 (omega (arith, length-range_with_len 0 n)), same))
+      omega (
+        arith,
+        length-range_with_len 0 n,
+        get_or-range_with_len 0 n j 0 (omega (arith, length-range_with_len 0 n)),
+        get_or-range_with_len 0 n k 0 (omega (arith, length-range_with_len 0 n)),
+        same,
+      ))
 
 pub rest-within : (n cells : ℕ) {rest : List ℕ} → rest ≡ rest_of n cells → (i : ℕ) → i < length rest → slice_index rest i < n
 rest-within n cells e i lt = rw e ((rest-in n cells (rw e at lt)).0)

@@ -41,7 +41,9 @@ counts-none (a, b, c) = record {
 }
 
 -- the counts of the first cells are the same in a list with the same first cells
-pub counts-same : {sets new : List ℕ} {first some single shared : ℕ} → AreCounts sets first some single shared → ((j : ℕ) → j < first → slice_index new j ≡ slice_index sets j)
+pub counts-same : {sets new : List ℕ} {first some single shared : ℕ}
+    → AreCounts sets first some single shared
+    → ((j : ℕ) → j < first → slice_index new j ≡ slice_index sets j)
     → AreCounts new first some single shared
 counts-same c same = record {
   has = λ j v lj on. c.has j v lj (ap (λ (b : ℕ). has_bit b v) (sym (same j lj)) ∙ on);
@@ -89,7 +91,10 @@ module _ {n : ℕ} {old : List ℕ} (square : length old ≡ n) {some single sha
   peeled-step {new} as_many inside dropped = record {
     as_many = as_many;
     inside = inside;
-    keeps = λ mates p k lk. true_from_ne_false (has_in new k (slice_index mates k)) (λ off. not_dropped mates p k lk (dropped k (slice_index mates k) lk (p.in_range k lk) (p.joined k lk) off));
+    keeps =
+        λ mates p k lk. true_from_ne_false (has_in new k (slice_index mates k))
+        (λ off. not_dropped mates p k lk
+        (dropped k (slice_index mates k) lk (p.in_range k lk) (p.joined k lk) off));
   }
 
   -- a cell with a value that some cell has alone, and that no two have

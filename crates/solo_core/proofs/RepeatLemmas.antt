@@ -112,11 +112,15 @@ module _ (p : Solo) (ok : IsSolo p) (g : List ℕ) where
   Holding test = Holds (FailsSolo p g) test
 
   -- what is so of each house is so of its test
-  house_by : (P : SoloFault → Type 0) → ((h : ℕ) (d : NamedHouse) → h < length (houses_of p) → P (fault_of (get_or (houses_of p) h d))) → AllByRecursion P (house_tests p)
+  house_by : (P : SoloFault → Type 0)
+      →
+      ((h : ℕ) (d : NamedHouse) → h < length (houses_of p) → P (fault_of (get_or (houses_of p) h d))) → AllByRecursion P (house_tests p)
   house_by P each = recursion_from_All P (house_tests p) (All-map P fault_of (houses_of p) each)
 
   test_of_house : AllByRecursion Holding (house_tests p) → (h : ℕ) (d : NamedHouse) → h < length (houses_of p) → Holding (fault_of (get_or (houses_of p) h d))
-  test_of_house none h d lt = subst Holding (get_or-map fault_of (houses_of p) h d (fault_of d) lt) (all_at Holding (fault_of d) (house_tests p) h none (rw length-map lt))
+  test_of_house none h d lt =
+      subst Holding (get_or-map fault_of (houses_of p) h d (fault_of d) lt)
+      (all_at Holding (fault_of d) (house_tests p) h none (rw length-map lt))
 
   abbrev givens : Kind SoloFault
   givens = record { test = Given; count = solo_cells p; right = given_stands p g }
@@ -128,7 +132,9 @@ module _ (p : Solo) (ok : IsSolo p) (g : List ℕ) where
   no_repeat_in house = no_repeat (numbers_of p g house)
 
   -- ---- what is found
-  pub given_first : (place : ℕ) → place < solo_cells p → FailsSolo p g (Given place) → ((q : ℕ) → q < place → Holding (Given q)) → IsFirstOf (FailsSolo p g) (given_tests p) (Some (Given place))
+  pub given_first : (place : ℕ) → place < solo_cells p → FailsSolo p g (Given place)
+      → ((q : ℕ) → q < place → Holding (Given q))
+      → IsFirstOf (FailsSolo p g) (given_tests p) (Some (Given place))
   given_first place lt failed before = first_front (FailsSolo p g) (each givens) [] (Given place) (first_each (FailsSolo p g) givens place lt failed before)
 
   pub givens_stand : ((q : ℕ) → q < solo_cells p → Holding (Given q)) → IsFirstOf (FailsSolo p g) (given_tests p) None
@@ -137,16 +143,24 @@ module _ (p : Solo) (ok : IsSolo p) (g : List ℕ) where
   pub house_first : (h : ℕ) (house : NamedHouse) → h < length (houses_of p) → house ≡ get_or (houses_of p) h house → no_repeat_in house ≡ false
       → ((i : ℕ) (d : NamedHouse) → i < h → no_repeat_in (get_or (houses_of p) i d) ≡ true) → IsFirstOf (FailsSolo p g) (house_tests p) (Some (fault_of house))
   house_first h house lt is broken before =
-      let at : (i : ℕ) → i < length (houses_of p) → get_or (house_tests p) i (fault_of house) ≡ fault_of (get_or (houses_of p) i house) = λ i below. get_or-map fault_of (houses_of p) i house (fault_of house) below in
+      let at : (i : ℕ) → i < length (houses_of p)
+      → get_or (house_tests p) i (fault_of house) ≡ fault_of (get_or (houses_of p) i house) =
+      λ i below. get_or-map fault_of (houses_of p) i house (fault_of house) below in
       let here : get_or (house_tests p) h (fault_of house) ≡ fault_of house = at h lt ∙ ap fault_of (sym is) in
       let failed = fault_fails house (repeats_in house (rw (sym is) at (all_houses p h house lt)) broken) in
       subst (IsFirstFailed (FailsSolo p g) (house_tests p)) here
       (first_at (FailsSolo p g) (house_tests p) h (fault_of house) (rw length-map lt) (subst (FailsSolo p g) (sym here) failed)
-      (λ i low fails. fault_holds (get_or (houses_of p) i house) (none_repeats (get_or (houses_of p) i house) (all_houses p i house (omega arith)) (before i house low))
+      (λ i low fails. fault_holds (get_or (houses_of p) i house)
+      (none_repeats (get_or (houses_of p) i house) (all_houses p i house (omega arith))
+      (before i house low))
       (subst (FailsSolo p g) (at i (omega arith)) fails)))
 
-  pub houses_differ : ((h : ℕ) (d : NamedHouse) → h < length (houses_of p) → no_repeat_in (get_or (houses_of p) h d) ≡ true) → IsFirstOf (FailsSolo p g) (house_tests p) None
-  houses_differ fine = house_by Holding (λ h d lt. fault_holds (get_or (houses_of p) h d) (none_repeats (get_or (houses_of p) h d) (all_houses p h d lt) (fine h d lt)))
+  pub houses_differ : ((h : ℕ) (d : NamedHouse) → h < length (houses_of p)
+      → no_repeat_in (get_or (houses_of p) h d) ≡ true)
+      → IsFirstOf (FailsSolo p g) (house_tests p) None
+  houses_differ fine =
+      house_by Holding (λ h d lt. fault_holds (get_or (houses_of p) h d)
+      (none_repeats (get_or (houses_of p) h d) (all_houses p h d lt) (fine h d lt)))
 
   -- ---- the grids that no test fails are the solutions
   pub solo_sound : IsGrid (solo_cells p) (solo_n p) g → NoneFails (FailsSolo p g) (given_tests p ++ house_tests p) → IsSoloSolution p g
@@ -155,12 +169,16 @@ module _ (p : Solo) (ok : IsSolo p) (g : List ℕ) where
       record {
         grid = grid;
         givens = λ place lt. given_from_test p g place ((right_none (FailsSolo p g) (givens ∷ []) made both.0).0 place lt);
-        different = λ house is j k lj lk ne a b same. each_house p (λ h. Holding (fault_of h)) (test_of_house both.1) house is (fault_fails house (j, k, lj, lk, ne, a, b, same));
+        different =
+            λ house is j k lj lk ne a b same. each_house p (λ h. Holding (fault_of h))
+            (test_of_house both.1) house is (fault_fails house (j, k, lj, lk, ne, a, b, same));
       }
 
   pub solo_none : IsSoloSolution p g → NoneFails (FailsSolo p g) (given_tests p ++ house_tests p)
   solo_none s = AllByRecursion-append Holding (given_tests p) (house_tests p) (givens_stand (λ place lt (some, other). other (s.givens place lt some)))
-      (house_by Holding (λ h d lt. fault_holds (get_or (houses_of p) h d) (λ (j, k, lj, lk, ne, a, b, same). s.different (get_or (houses_of p) h d) (all_houses p h d lt) j k lj lk ne a b same)))
+      (house_by Holding (λ h d lt. fault_holds (get_or (houses_of p) h d)
+      (λ (j, k, lj, lk, ne, a, b, same). s.different (get_or (houses_of p) h d)
+      (all_houses p h d lt) j k lj lk ne a b same)))
 
   pub solo_known : AllByRecursion (IsKnown (FailsSolo p g)) (given_tests p ++ house_tests p)
   solo_known = AllByRecursion-append _ (given_tests p) (house_tests p) (known_tests (FailsSolo p g) (givens ∷ []) made)
@@ -174,16 +192,22 @@ module _ (p : Solo) (ok : IsSolo p) (g : List ℕ) where
   pub broken_first : (fault : SoloFault) → IsFirstOf (FailsSolo p g) (given_tests p) (Some fault) → IsSoloFault p g (Some fault)
   broken_first fault first = first_front (FailsSolo p g) (given_tests p) (house_tests p) fault first
 
-  pub house_after : IsGrid (solo_cells p) (solo_n p) g → IsFirstOf (FailsSolo p g) (given_tests p) None → (fault : Option SoloFault) → IsFirstOf (FailsSolo p g) (house_tests p) fault
+  pub house_after : IsGrid (solo_cells p) (solo_n p) g
+      → IsFirstOf (FailsSolo p g) (given_tests p) None → (fault : Option SoloFault)
+      → IsFirstOf (FailsSolo p g) (house_tests p) fault
       → IsSoloFault p g fault
   house_after grid stand None none = solo_sound grid (AllByRecursion-append Holding (given_tests p) (house_tests p) stand none)
   house_after grid stand (Some fault) first = first_rest (FailsSolo p g) (given_tests p) (house_tests p) fault stand first
 
-  pub solo_tells : IsGrid (solo_cells p) (solo_n p) g → (fault : Option SoloFault) (told : Bool) → IsSoloFault p g fault → is_some fault ≡ not told → told ≡ is_solo_solution p g
-  solo_tells grid fault told is e = none_tells (FailsSolo p g) (given_tests p ++ house_tests p) solo_none told (is_solo_solution p g) (rule_from_test p ok g grid) (test_from_rule p ok g) fault is e
+  pub solo_tells : IsGrid (solo_cells p) (solo_n p) g → (fault : Option SoloFault) (told : Bool)
+      → IsSoloFault p g fault → is_some fault ≡ not told → told ≡ is_solo_solution p g
+  solo_tells grid fault told is e =
+      none_tells (FailsSolo p g) (given_tests p ++ house_tests p) solo_none told
+      (is_solo_solution p g) (rule_from_test p ok g grid) (test_from_rule p ok g) fault is e
 
 -- one house more that repeats nothing
-pub fine_more : (p : Solo) (g : List ℕ) (k : ℕ) (house : NamedHouse) → k < length (houses_of p) → house ≡ get_or (houses_of p) k house → no_repeat (numbers_of p g house) ≡ true
+pub fine_more : (p : Solo) (g : List ℕ) (k : ℕ) (house : NamedHouse) → k < length (houses_of p)
+    → house ≡ get_or (houses_of p) k house → no_repeat (numbers_of p g house) ≡ true
     → ((h : ℕ) (d : NamedHouse) → h < k → no_repeat (numbers_of p g (get_or (houses_of p) h d)) ≡ true)
     → (h : ℕ) (d : NamedHouse) → h < k + 1 → no_repeat (numbers_of p g (get_or (houses_of p) h d)) ≡ true
 fine_more p g k house lt is holds below h d lh = elim (cases_eq h k) [

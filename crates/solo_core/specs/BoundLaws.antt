@@ -57,7 +57,8 @@ filter_count : (test : ℕ → Bool) (f : ℕ → ℕ) (n : ℕ) → length (fil
 unfolding count_below
 filter_count test f zero = refl
 filter_count test f (suc n) =
-    ap length (rw add-one at (filter_of_map_range_with_len_more test f 0 n n (omega arith))) ∙ length-append (filter test (map f (range_with_len 0 n))) (cond (test (f n)) (f n ∷ []) [])
+    ap length (rw add-one at (filter_of_map_range_with_len_more test f 0 n n (omega arith)))
+    ∙ length-append (filter test (map f (range_with_len 0 n))) (cond (test (f n)) (f n ∷ []) [])
     ∙ rw (filter_count test f n) (ap (λ m. count_below (λ k. test (f k)) n + m) (last (test (f n))))
   where
     last : (b : Bool) → length (cond b (f n ∷ []) []) ≡ cond b 1 0
@@ -87,7 +88,9 @@ module _ (p : Solo) (ok : IsSolo p) (b : ℕ) (b_in : b < solo_n p) where
   block = places_of p (Block b)
 
   -- where the q-th part of the line's r cells is the block's
-  crossed : (f : ℕ → ℕ) (r q : ℕ) → 0 < r → q * r + r ≤ solo_n p → ((k : ℕ) → k < solo_n p → f k < solo_cells p) → ((k : ℕ) → k < solo_n p → eqb (block_of p (f k)) b ≡ eqb (k / r) q)
+  crossed : (f : ℕ → ℕ) (r q : ℕ) → 0 < r → q * r + r ≤ solo_n p
+      → ((k : ℕ) → k < solo_n p → f k < solo_cells p)
+      → ((k : ℕ) → k < solo_n p → eqb (block_of p (f k)) b ≡ eqb (k / r) q)
       → length (crossing_places block (map f (range_with_len 0 (solo_n p)))) ≡ solo_n p + (solo_n p - r)
   crossed f r q pos fits inside cut =
       let split = length-append block (filter (λ place. not (has_place block place)) (map f (range_with_len 0 (solo_n p)))) in
@@ -106,7 +109,9 @@ module _ (p : Solo) (ok : IsSolo p) (b : ℕ) (b_in : b < solo_n p) where
       let low = mod_below b p.c (omega arith) in
       let fits = mul-le (b % p.c + 1) p.r p.c p.r (omega arith) (omega arith) in
       let whole = div-add-mod' b p.c in
-      crossed (λ x. y * solo_n p + x) p.r (b % p.c) (omega arith) (omega arith) (λ x lt. mul-add-lt y (solo_n p) x (solo_n p) y_in lt) (λ x lt. rw (div-mul-add y (solo_n p) x lt, mod-mul-add y (solo_n p) x lt, same)
+      crossed (λ x. y * solo_n p + x) p.r (b % p.c) (omega arith) (omega arith)
+      (λ x lt. mul-add-lt y (solo_n p) x (solo_n p) y_in lt)
+      (λ x lt. rw (div-mul-add y (solo_n p) x lt, mod-mul-add y (solo_n p) x lt, same)
       (same_test (b / p.c * p.c + x / p.r) b (x / p.r) (b % p.c) (λ z. omega arith) (λ z. omega arith)))
 
   column_cells : (x : ℕ) → x < solo_n p → x / p.r ≡ b % p.c → length (crossing_places block (places_of p (Column x))) ≡ solo_n p + (solo_n p - p.c)
@@ -116,8 +121,12 @@ module _ (p : Solo) (ok : IsSolo p) (b : ℕ) (b_in : b < solo_n p) where
       let high = div_below b p.c p.r (omega arith) (omega (arith, b_in)) in
       let fits = mul-le (b / p.c + 1) p.c p.r p.c (omega arith) (omega arith) in
       let whole = div-add-mod' b p.c in
-      crossed (λ y. y * solo_n p + x) p.c (b / p.c) (omega arith) (omega arith) (λ y lt. mul-add-lt y (solo_n p) x (solo_n p) lt x_in) (λ y lt. rw (div-mul-add y (solo_n p) x x_in, mod-mul-add y (solo_n p) x x_in, same)
-      (same_test (y / p.c * p.c + b % p.c) b (y / p.c) (b / p.c) (λ z. sym (div-mul-add (y / p.c) p.c (b % p.c) low) ∙ ap (λ k. k / p.c) z) (λ z. ap (λ k. k * p.c + b % p.c) z ∙ whole)))
+      crossed (λ y. y * solo_n p + x) p.c (b / p.c) (omega arith) (omega arith)
+      (λ y lt. mul-add-lt y (solo_n p) x (solo_n p) lt x_in)
+      (λ y lt. rw (div-mul-add y (solo_n p) x x_in, mod-mul-add y (solo_n p) x x_in, same)
+      (same_test (y / p.c * p.c + b % p.c) b (y / p.c) (b / p.c)
+      (λ z. sym (div-mul-add (y / p.c) p.c (b % p.c) low) ∙ ap (λ k. k / p.c) z)
+      (λ z. ap (λ k. k * p.c + b % p.c) z ∙ whole)))
 
 -- ---- the bound with crossings
 sum_alike : (p : Solo) (f : ℕ → VisitName) (k len : ℕ) → ((m : ℕ) → m < k → length (house_at p (f m)).places ≡ len)
@@ -128,7 +137,9 @@ sum_alike p f k len each = sum_same (visits_of (solo_n p)) (1 + len * solo_n p) 
     ∙ ap (λ l. l * (1 + len * solo_n p)) (length-map (map f (range_with_len 0 k)) (house_at p) ∙ length-map-range_with_len f 0 k)
 
 pub crossings_bound : (p : Solo) → IsSolo p
-    → sum_by (visits_of (solo_n p)) (crossings_of p) ≡ solo_n p * p.c * (1 + (solo_n p + (solo_n p - p.r)) * solo_n p) + solo_n p * p.r * (1 + (solo_n p + (solo_n p - p.c)) * solo_n p)
+    → sum_by (visits_of (solo_n p)) (crossings_of p) ≡ solo_n
+    p * p.c * (1 + (solo_n p + (solo_n p - p.r)) * solo_n p) + solo_n
+    p * p.r * (1 + (solo_n p + (solo_n p - p.c)) * solo_n p)
 crossings_bound p ok =
     let c_low = ok.c_low in
     let r_low = ok.r_low in

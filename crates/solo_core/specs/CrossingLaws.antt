@@ -9,18 +9,24 @@ use Rattle.solo_core.specs.NoRepeatLaws.{own_from_no_repeat, none_missing}
 use Rattle.solo_core.specs.Crossing.{has_in_part, strikes_by_crossing, crossing_places, is_shared, in_block_alone, in_line_alone}
 
 -- ---- parts
-part-some : (part : ℕ → Bool) (sets : List Set) (v : ℕ) → has_in_part part sets v ≡ true → (j : ℕ) × (j < length sets) × (part j ≡ true) × (has_value (get_or sets j []) v ≡ true)
+part-some : (part : ℕ → Bool) (sets : List Set) (v : ℕ) → has_in_part part sets v ≡ true
+    → (j : ℕ) × (j < length sets) × (part j ≡ true) × (has_value (get_or sets j []) v ≡ true)
 part-some part sets v on =
     let w = any_below-some (λ j. part j && has_value (get_or sets j []) v) (length sets) on in
     let both = and_parts (part w.0) (has_value (get_or sets w.0 []) v) w.2 in
     (w.0, w.1, both.0, both.1)
 
-part-here : (part : ℕ → Bool) (sets : List Set) (v j : ℕ) → j < length sets → part j ≡ true → has_value (get_or sets j []) v ≡ true → has_in_part part sets v ≡ true
-part-here part sets v j lt in_part has = any_below-here (λ k. part k && has_value (get_or sets k []) v) (length sets) j lt (and_from (part j) (has_value (get_or sets j []) v) in_part has)
+part-here : (part : ℕ → Bool) (sets : List Set) (v j : ℕ) → j < length sets → part j ≡ true
+    → has_value (get_or sets j []) v ≡ true → has_in_part part sets v ≡ true
+part-here part sets v j lt in_part has =
+    any_below-here (λ k. part k && has_value (get_or sets k []) v) (length sets) j lt
+    (and_from (part j) (has_value (get_or sets j []) v) in_part has)
 
 module _ (block line : ℕ → Bool) where
   -- the two cases of a strike
-  two_cases : (P : Type 0) (sets : List Set) (k v : ℕ) → (line k ≡ true → has_in_part block sets v ≡ false → P) → (block k ≡ true → has_in_part line sets v ≡ false → P)
+  two_cases : (P : Type 0) (sets : List Set) (k v : ℕ)
+      → (line k ≡ true → has_in_part block sets v ≡ false → P)
+      → (block k ≡ true → has_in_part line sets v ≡ false → P)
       → strikes_by_crossing block line sets k v ≡ true → P
   two_cases P sets k v a b on = elim (or_cases (line k && not (has_in_part block sets v)) (block k && not (has_in_part line sets v)) on) [
     | inl l ↦ a (grind arith) (grind arith)
@@ -29,8 +35,12 @@ module _ (block line : ℕ → Bool) where
 
   pub crossing-monotone : IsMonotone (strikes_by_crossing block line)
   crossing-monotone smaller larger k v inside on = two_cases (strikes_by_crossing block line smaller k v ≡ true) larger k v
-      (λ here none. or_left (line k && not (has_in_part block smaller v)) (block k && not (has_in_part line smaller v)) (and_from (line k) (not (has_in_part block smaller v)) here (gone block none)))
-      (λ here none. or_right (line k && not (has_in_part block smaller v)) (block k && not (has_in_part line smaller v)) (and_from (block k) (not (has_in_part line smaller v)) here (gone line none)))
+      (λ here none. or_left (line k && not (has_in_part block smaller v))
+      (block k && not (has_in_part line smaller v))
+      (and_from (line k) (not (has_in_part block smaller v)) here (gone block none)))
+      (λ here none. or_right (line k && not (has_in_part block smaller v))
+      (block k && not (has_in_part line smaller v))
+      (and_from (block k) (not (has_in_part line smaller v)) here (gone line none)))
       on
     where
       gone : (part : ℕ → Bool) → has_in_part part larger v ≡ false → not (has_in_part part smaller v) ≡ true
@@ -46,25 +56,38 @@ module _ (block line : ℕ → Bool) where
   crossing-keeps {filling} in_block in_line sets k own lt = false_from_ne_true (strikes_by_crossing block line sets k (get_or filling k 0))
       (two_cases ⊥ sets k (get_or filling k 0) (λ here. there block (in_block k lt here)) (λ here. there line (in_line k lt here)))
     where
-      there : (part : ℕ → Bool) → (j : ℕ) × (j < length filling) × (part j ≡ true) × (get_or filling j 0 ≡ get_or filling k 0) → has_in_part part sets (get_or filling k 0) ≡ false → ⊥
+      there : (part : ℕ → Bool) → (j : ℕ) × (j < length filling) × (part j ≡ true)
+          × (get_or filling j 0 ≡ get_or filling k 0)
+          → has_in_part part sets (get_or filling k 0) ≡ false → ⊥
       there part (j, lj, in_part, same) none = true≢false (sym (part-here part sets (get_or filling k 0) j (let e = own.as_many in omega arith) in_part
           (own.own j (get_or filling k 0) lj ∙ eq-eqb (get_or filling j 0) (get_or filling k 0) same)) ∙ none)
 
   -- a value that is left in a part has a place in the other, which keeps it
   pub crossing-settles : IsSettled (strikes_by_crossing block line)
   crossing-settles old new k v a lt on = false_from_ne_true (strikes_by_crossing block line new k v) (two_cases ⊥ new k v
-      (λ here none. let mine = part-here line old v k lt here was.0 in let other = unstruck line block here (λ e. or_left (line k && not (has_in_part block old v)) (block k && not (has_in_part line old v)) e) in gone block other other mine none)
-      (λ here none. let mine = part-here block old v k lt here was.0 in let other = unstruck block line here (λ e. or_right (line k && not (has_in_part block old v)) (block k && not (has_in_part line old v)) e) in gone line other mine other none))
+      (λ here none. let mine = part-here line old v k lt here was.0 in
+      let other =
+      unstruck line block here
+      (λ e. or_left (line k && not (has_in_part block old v))
+      (block k && not (has_in_part line old v)) e) in gone block other other mine none)
+      (λ here none. let mine = part-here block old v k lt here was.0 in
+      let other =
+      unstruck block line here
+      (λ e. or_right (line k && not (has_in_part block old v))
+      (block k && not (has_in_part line old v)) e) in gone line other mine other none))
     where
       was : (has_value (get_or old k []) v ≡ true) × (strikes_by_crossing block line old k v ≡ false)
       was =
           let w = and_parts (has_value (get_or old k []) v) (not (strikes_by_crossing block line old k v)) (sym (a.left k v lt) ∙ on) in
           (w.0, not-true (strikes_by_crossing block line old k v) w.1)
 
-      unstruck : (mine other : ℕ → Bool) → mine k ≡ true → ((mine k && not (has_in_part other old v)) ≡ true → strikes_by_crossing block line old k v ≡ true) → has_in_part other old v ≡ true
+      unstruck : (mine other : ℕ → Bool) → mine k ≡ true
+          → ((mine k && not (has_in_part other old v)) ≡ true
+          → strikes_by_crossing block line old k v ≡ true) → has_in_part other old v ≡ true
       unstruck mine other here struck = let w = was.1 in grind arith
 
-      gone : (part : ℕ → Bool) → has_in_part part old v ≡ true → has_in_part block old v ≡ true → has_in_part line old v ≡ true → has_in_part part new v ≡ false → ⊥
+      gone : (part : ℕ → Bool) → has_in_part part old v ≡ true → has_in_part block old v ≡ true
+          → has_in_part line old v ≡ true → has_in_part part new v ≡ false → ⊥
       gone part had in_block in_line none =
           let w = part-some part old v had in
           let kept = a.left w.0 v w.1 ∙ and_from (has_value (get_or old w.0 []) v) (not (strikes_by_crossing block line old w.0 v)) w.3
@@ -80,7 +103,8 @@ pub record HoldsEach (n : ℕ) (g places : List ℕ) : Type 0 where
 
 module _ {n : ℕ} {g : List ℕ} (small : (c : ℕ) → c < length g → slice_index g c < n) where
   -- a house has each number at one place alone
-  one_place : {places : List ℕ} → HoldsEach n g places → {c : ℕ} (d : ℕ) → has_place places c ≡ true → has_place places d ≡ true → slice_index g c ≡ slice_index g d
+  one_place : {places : List ℕ} → HoldsEach n g places → {c : ℕ} (d : ℕ) → has_place places c ≡ true
+      → has_place places d ≡ true → slice_index g c ≡ slice_index g d
       → c ≡ d
   one_place {places} h {c} d on_c on_d same =
       let j = has_place-at places c on_c in
@@ -142,7 +166,10 @@ module _ (block line : List ℕ) where
   ]
 
   pub crossing-different : AreDifferent block → AreDifferent line → AreDifferent (crossing_places block line)
-  crossing-different in_block in_line = different-from (crossing_places block line) (distinct-append block rest (distinct-from block in_block) (distinct-from rest (different-filter (λ c. not (has_place block c)) line in_line))
+  crossing-different in_block in_line =
+      different-from (crossing_places block line)
+      (distinct-append block rest (distinct-from block in_block)
+      (distinct-from rest (different-filter (λ c. not (has_place block c)) line in_line))
       (λ d here there. true≢false (sym here ∙ not-true (has_place block d) (place-filter (λ c. not (has_place block c)) line d there).1)))
 
   -- where both hold each number, the numbers of each part are those of the other

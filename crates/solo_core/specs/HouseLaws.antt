@@ -48,7 +48,9 @@ row_lists n y lt = by_function (λ x. y * n + x) (λ place. place % n)
     (λ place l on. ap (λ u. u * n + place % n) (sym (eqb-true (place / n) y on)) ∙ div-add-mod' place n)
 
 -- a line that has one cell in each row: in row y that in column f y
-falling_lists : {n : ℕ} (f : ℕ → ℕ) → 0 < n → ((y : ℕ) → y < n → f y < n) → Lists (map (λ y. y * n + f y) (range_with_len 0 n)) n (n * n) (λ place. eqb (place % n) (f (place / n)))
+falling_lists : {n : ℕ} (f : ℕ → ℕ) → 0 < n → ((y : ℕ) → y < n → f y < n)
+    → Lists (map (λ y. y * n + f y) (range_with_len 0 n)) n (n * n)
+    (λ place. eqb (place % n) (f (place / n)))
 falling_lists {n} f pos f_in = by_function (λ y. y * n + f y) (λ place. place / n)
     (λ k l. mul-add-lt k n (f k) n l (f_in k l))
     (λ k l. eq-eqb _ _ (mod-mul-add k n (f k) (f_in k l) ∙ ap f (sym (div-mul-add k n (f k) (f_in k l)))))
@@ -139,20 +141,24 @@ lists_house {p} ok (Diagonal d) lt = falling_lists (λ y. if eqb d 0 then y else
 
 -- the list of a function's values, each of which keeps to something
 pub each_value : {X : Type 0} (P : X → Type 0) (f : ℕ → X) (n : ℕ) → ((k : ℕ) → k < n → P (f k)) → All P (map f (range_with_len 0 n))
-each_value P f n each k d lt = let e = length-map-range_with_len f 0 n in rw (get_or-map-range_with_len f 0 n k k d (omega arith) (omega arith)) (each k (omega arith))
+each_value P f n each k d lt = let e = length-map-range_with_len f 0 n in
+    rw (get_or-map-range_with_len f 0 n k k d (omega arith) (omega arith)) (each k (omega arith))
 
 -- they are the puzzle's, and all of them
 pub all_houses : (p : Solo) → All (IsHouseOf p) (houses_of p)
 all_houses p =
     All-append (IsHouseOf p) (map Row (range_with_len 0 (solo_n p))) _ (each_value (IsHouseOf p) Row (solo_n p) (λ k lt. lt))
     (All-append (IsHouseOf p) (map Column (range_with_len 0 (solo_n p))) _ (each_value (IsHouseOf p) Column (solo_n p) (λ k lt. lt))
-    (All-append (IsHouseOf p) (map Block (range_with_len 0 (solo_n p))) (diagonals p.x) (each_value (IsHouseOf p) Block (solo_n p) (λ k lt. lt)) (all_diagonals p.x refl)))
+    (All-append (IsHouseOf p) (map Block (range_with_len 0 (solo_n p))) (diagonals p.x)
+    (each_value (IsHouseOf p) Block (solo_n p) (λ k lt. lt)) (all_diagonals p.x refl)))
   where
     diagonals : Bool → List NamedHouse
     diagonals x = if x then Diagonal 0 ∷ Diagonal 1 ∷ [] else []
 
     all_diagonals : (x : Bool) → p.x ≡ x → All (IsHouseOf p) (diagonals x)
-    all_diagonals true e = All-cons (IsHouseOf p) (Diagonal 0) (Diagonal 1 ∷ []) (omega arith, e) (All-cons (IsHouseOf p) (Diagonal 1) [] (omega arith, e) (All-nil (IsHouseOf p)))
+    all_diagonals true e =
+        All-cons (IsHouseOf p) (Diagonal 0) (Diagonal 1 ∷ []) (omega arith, e)
+        (All-cons (IsHouseOf p) (Diagonal 1) [] (omega arith, e) (All-nil (IsHouseOf p)))
     all_diagonals false e = All-nil (IsHouseOf p)
 
 -- what holds of each house of the list holds of each house of the puzzle
@@ -161,9 +167,14 @@ each_house p P all (Row y) lt = of_value P Row (solo_n p) (of_first P (map Row (
 each_house p P all (Column i) lt = of_value P Column (solo_n p)
     (of_first P (map Column (range_with_len 0 (solo_n p))) _ (of_rest P (map Row (range_with_len 0 (solo_n p))) _ all)) i lt
 each_house p P all (Block b) lt = of_value P Block (solo_n p)
-    (of_first P (map Block (range_with_len 0 (solo_n p))) _ (of_rest P (map Column (range_with_len 0 (solo_n p))) _ (of_rest P (map Row (range_with_len 0 (solo_n p))) _ all))) b lt
+    (of_first P (map Block (range_with_len 0 (solo_n p))) _
+    (of_rest P (map Column (range_with_len 0 (solo_n p))) _
+    (of_rest P (map Row (range_with_len 0 (solo_n p))) _ all))) b lt
 each_house p P all (Diagonal d) (lt, is) =
-    let last = rw is at (of_rest P (map Block (range_with_len 0 (solo_n p))) _ (of_rest P (map Column (range_with_len 0 (solo_n p))) _ (of_rest P (map Row (range_with_len 0 (solo_n p))) _ all))) in
+    let last =
+    rw is at (of_rest P (map Block (range_with_len 0 (solo_n p))) _
+    (of_rest P (map Column (range_with_len 0 (solo_n p))) _
+    (of_rest P (map Row (range_with_len 0 (solo_n p))) _ all))) in
     elim (cases_lt d 1) [
       | inl first ↦ let e : 0 ≡ d = omega arith in rw e at (last 0 (Diagonal 0) (omega arith))
       | inr second ↦ let e : 1 ≡ d = omega arith in rw e at (last 1 (Diagonal 0) (omega arith))
@@ -187,7 +198,8 @@ module _ {places : List ℕ} {n cells : ℕ} {lies : ℕ → Bool} (l : Lists pl
   )
 
 -- a test of places is that of their list
-pub listed-same : {places : List ℕ} {n cells : ℕ} {lies : ℕ → Bool} → Lists places n cells lies → {place : ℕ} → place < cells → lies place ≡ has_place places place
+pub listed-same : {places : List ℕ} {n cells : ℕ} {lies : ℕ → Bool} → Lists places n cells lies
+    → {place : ℕ} → place < cells → lies place ≡ has_place places place
 listed-same {places} {lies} l {place} lt = elim (cases_Bool (lies place)) [
   | inl on ↦ on ∙ sym ((listed-has l lt).1 on)
   | inr off ↦ off ∙ sym (false_from_ne_true (has_place places place) (λ has. true≢false (sym ((listed-has l lt).0 has) ∙ off)))

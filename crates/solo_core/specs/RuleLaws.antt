@@ -23,7 +23,8 @@ use Rattle.solo_core.specs.CrossingLaws.{crossing-monotone, crossing-settles, cr
 pub listed_in_rules : (settled : Bool) (p : Solo) (houses : List House) → AreScopesOf (rules_of settled p houses) (all_places houses)
 listed_in_rules settled p houses = listed-scopes (setting_of settled p houses) houses
 
-pub bound_of_rules : (settled : Bool) (p : Solo) (houses : List House) → (rules_of settled p houses).bound ≡ most_turns (rules_of settled p houses) (all_places houses)
+pub bound_of_rules : (settled : Bool) (p : Solo) (houses : List House)
+    → (rules_of settled p houses).bound ≡ most_turns (rules_of settled p houses) (all_places houses)
 bound_of_rules settled p houses = listed-bound (setting_of settled p houses) houses refl refl
 
 module _ (p : Solo) (ok : IsSolo p) where
@@ -65,14 +66,18 @@ module _ (p : Solo) (ok : IsSolo p) where
   inside : (house : NamedHouse) → IsHouseOf p house → (k : ℕ) → k < length (places_of p house) → slice_index (places_of p house) k < solo_cells p
   inside house is = listed-within (listed house is)
 
-  different : (house : NamedHouse) → IsHouseOf p house → (j k : ℕ) → j < length (places_of p house) → k < length (places_of p house) → slice_index (places_of p house) j ≡ slice_index (places_of p house) k → j ≡ k
+  different : (house : NamedHouse) → IsHouseOf p house → (j k : ℕ) → j < length (places_of p house)
+      → k < length (places_of p house)
+      → slice_index (places_of p house) j ≡ slice_index (places_of p house) k → j ≡ k
   different house is = listed-different (listed house is)
 
   -- the numbers of a house of a grid: n of them, below n
   numbers_small : {g : List ℕ} → IsGrid (solo_cells p) (solo_n p) g → (c : ℕ) → c < length g → slice_index g c < solo_n p
   numbers_small grid c lt = grid.each_value c 0 lt
 
-  inside_grid : {g : List ℕ} → IsGrid (solo_cells p) (solo_n p) g → (house : NamedHouse) → IsHouseOf p house → (k : ℕ) → k < length (places_of p house) → slice_index (places_of p house) k < length g
+  inside_grid : {g : List ℕ} → IsGrid (solo_cells p) (solo_n p) g → (house : NamedHouse)
+      → IsHouseOf p house → (k : ℕ) → k < length (places_of p house)
+      → slice_index (places_of p house) k < length g
   inside_grid grid house is k lt = let e = grid.each_cell in let w = inside house is k lt in omega arith
 
   holds_each : {g : List ℕ} → IsGrid (solo_cells p) (solo_n p) g → is_solo_solution p g ≡ true → (house : NamedHouse) → IsHouseOf p house
@@ -105,7 +110,9 @@ module _ (p : Solo) (ok : IsSolo p) where
       }
 
   -- ---- crossings of a block and a line
-  crossing_is_sound : (all : List House) {b : ℕ} (line : NamedHouse) → b < solo_n p → IsHouseOf p line → IsSound (setting_of true p all) (crossing (places_of p (Block b)) (places_of p line))
+  crossing_is_sound : (all : List House) {b : ℕ} (line : NamedHouse) → b < solo_n p
+      → IsHouseOf p line → IsSound (setting_of true p all)
+      (crossing (places_of p (Block b)) (places_of p line))
   crossing_is_sound all {b} line b_in is = record {
     within = crossing-within (places_of p (Block b)) (places_of p line) (inside (Block b) b_in) (inside line is);
     different = crossing-different (places_of p (Block b)) (places_of p line) (different (Block b) b_in) (different line is);
@@ -130,16 +137,25 @@ module _ (p : Solo) (ok : IsSolo p) where
 
   -- ---- the three rule sets
   by_fillings : (all : List House) → All (IsSound (setting_of true p all)) (deciding (strikes_by_fillings no_repeat) p)
-  by_fillings all = alike_sound true all (strikes_by_fillings no_repeat) (by_fillings-monotone no_repeat) (λ f long holds small. by_fillings-keeps no_repeat f holds) (λ _. by_fillings-settles no_repeat)
+  by_fillings all =
+      alike_sound true all (strikes_by_fillings no_repeat) (by_fillings-monotone no_repeat)
+      (λ f long holds small. by_fillings-keeps no_repeat f holds)
+      (λ _. by_fillings-settles no_repeat)
 
   pub singles_sound : All (IsSound (setting_of false p (deciding (strikes_by_singles (solo_n p)) p))) (deciding (strikes_by_singles (solo_n p)) p)
-  singles_sound = alike_sound false (deciding (strikes_by_singles (solo_n p)) p) (strikes_by_singles (solo_n p)) (singles-monotone (solo_n p)) (singles-keeps (solo_n p)) (λ e. absurd (true≢false (sym e)))
+  singles_sound =
+      alike_sound false (deciding (strikes_by_singles (solo_n p)) p) (strikes_by_singles (solo_n p))
+      (singles-monotone (solo_n p)) (singles-keeps (solo_n p)) (λ e. absurd (true≢false (sym e)))
 
   pub fillings_sound : All (IsSound (setting_of true p (deciding (strikes_by_fillings no_repeat) p))) (deciding (strikes_by_fillings no_repeat) p)
   fillings_sound = by_fillings (deciding (strikes_by_fillings no_repeat) p)
 
-  pub crossings_sound : All (IsSound (setting_of true p (deciding (strikes_by_fillings no_repeat) p ++ crossings_of p))) (deciding (strikes_by_fillings no_repeat) p ++ crossings_of p)
-  crossings_sound = All-append (IsSound (setting_of true p all)) (deciding (strikes_by_fillings no_repeat) p) (crossings_of p) (by_fillings all) (each_crossing all)
+  pub crossings_sound : All
+      (IsSound (setting_of true p (deciding (strikes_by_fillings no_repeat) p ++ crossings_of p)))
+      (deciding (strikes_by_fillings no_repeat) p ++ crossings_of p)
+  crossings_sound =
+      All-append (IsSound (setting_of true p all)) (deciding (strikes_by_fillings no_repeat) p)
+      (crossings_of p) (by_fillings all) (each_crossing all)
     where
       all : List House
       all = deciding (strikes_by_fillings no_repeat) p ++ crossings_of p

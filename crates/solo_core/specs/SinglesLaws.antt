@@ -13,7 +13,8 @@ fails_below : (test : ℕ → Bool) {n : ℕ} → any_below test n ≡ false →
 fails_below test {n} off {k} lt on = true≢false (sym on ∙ any_below-none test n off k lt)
 
 -- ---- a strike has one of four causes
-or_stays : {a b c d : Bool} (a' b' : Bool) {c' d' : Bool} → (a ≡ true → (a' || c') ≡ true) → (b ≡ true → (b' || d') ≡ true) → (c ≡ true → c' ≡ true) → (d ≡ true → d' ≡ true)
+or_stays : {a b c d : Bool} (a' b' : Bool) {c' d' : Bool} → (a ≡ true → (a' || c') ≡ true)
+    → (b ≡ true → (b' || d') ≡ true) → (c ≡ true → c' ≡ true) → (d ≡ true → d' ≡ true)
     → (a || (b || (c || d))) ≡ true → (a' || (b' || (c' || d'))) ≡ true
 or_stays a' b' f g h i on = grind arith
 
@@ -35,11 +36,15 @@ module _ (cells values : ℕ) (at at' : Has) (down : (k v : ℕ) → k < cells �
       fails_below (λ u. not (eqb u value) && at w.0 u) alone b (and_from (not (eqb u value)) (at w.0 u) ne (down w.0 u w.1 b e)) in
       elim (cases_Bool (at' w.0 value)) [
         | inl has ↦
-            let none : has_other values at' w.0 value ≡ false = none_below (λ u. not (eqb u value) && at' w.0 u) values (λ u b e. no_other u b (grind arith) (grind arith)) in
+            let none : has_other values at' w.0 value ≡ false =
+            none_below (λ u. not (eqb u value) && at' w.0 u) values
+            (λ u b e. no_other u b (grind arith) (grind arith)) in
             or_left (taken_elsewhere cells values at' place value) (has_empty_cell cells values at')
             (any_below-here (λ k. not (eqb k place) && (at' k value && not (has_other values at' k value))) cells w.0 w.1 (grind (arith, w.2)))
         | inr lacks ↦ or_right (taken_elsewhere cells values at' place value) (has_empty_cell cells values at')
-            (any_below-here (λ k. not (any_below (at' k) values)) cells w.0 w.1 (ap not (none_below (at' w.0) values (λ u b e. no_other u b (grind (arith, nat_tests)) e))))
+            (any_below-here (λ k. not (any_below (at' k) values)) cells w.0 w.1
+            (ap not (none_below (at' w.0) values
+            (λ u b e. no_other u b (grind (arith, nat_tests)) e))))
       ]
 
 -- values are to cells as cells are to values: a value's only place is a cell's only value, a lost value an empty cell

@@ -8,10 +8,13 @@ use Rattle.solo_core.specs.HouseLaws.{Lists, lists_house, all_houses, each_house
 use Rattle.solo_core.specs.NoRepeatLaws.{own_from_no_repeat, no_repeat_from_different}
 
 -- ---- a given stands
-pub given_from_test : (p : Solo) (g : List ℕ) (place : ℕ) → given_stands p g place ≡ true → 1 ≤ slice_index p.givens place → slice_index g place + 1 ≡ slice_index p.givens place
+pub given_from_test : (p : Solo) (g : List ℕ) (place : ℕ) → given_stands p g place ≡ true
+    → 1 ≤ slice_index p.givens place → slice_index g place + 1 ≡ slice_index p.givens place
 given_from_test p g place on some = grind (arith, nat_tests)
 
-pub test_from_given : (p : Solo) (g : List ℕ) (place : ℕ) → (1 ≤ slice_index p.givens place → slice_index g place + 1 ≡ slice_index p.givens place) → given_stands p g place ≡ true
+pub test_from_given : (p : Solo) (g : List ℕ) (place : ℕ)
+    → (1 ≤ slice_index p.givens place → slice_index g place + 1 ≡ slice_index p.givens place)
+    → given_stands p g place ≡ true
 test_from_given p g place stands = grind (arith, nat_tests)
 
 -- ---- the numbers of a list of places
@@ -24,7 +27,9 @@ module _ {places : List ℕ} {n cells : ℕ} {lies : ℕ → Bool} (l : Lists pl
       let lm = l.index_in k lk in
       let long = length-map places (slice_index g) in
       let len = l.len in
-      let e = own_from_no_repeat (map (slice_index g) places) holds (l.index j) (l.index k) (omega arith) (omega arith) (at j lj on_j ∙ same ∙ sym (at k lk on_k)) in
+      let e =
+      own_from_no_repeat (map (slice_index g) places) holds (l.index j) (l.index k)
+      (omega arith) (omega arith) (at j lj on_j ∙ same ∙ sym (at k lk on_k)) in
       ne (sym (l.covers j lj on_j) ∙ ap (slice_index places) e ∙ l.covers k lk on_k)
     where
       at : (c : ℕ) → c < cells → lies c ≡ true → get_or (map (slice_index g) places) (l.index c) 0 ≡ slice_index g c
@@ -57,10 +62,12 @@ rule_from_test p ok g grid on =
     }
 
 -- no house of a solution repeats a number
-pub house_of_solution : (p : Solo) → IsSolo p → (g : List ℕ) → IsSoloSolution p g → (house : NamedHouse) → IsHouseOf p house → no_repeat (numbers_of p g house) ≡ true
+pub house_of_solution : (p : Solo) → IsSolo p → (g : List ℕ) → IsSoloSolution p g
+    → (house : NamedHouse) → IsHouseOf p house → no_repeat (numbers_of p g house) ≡ true
 house_of_solution p ok g s house is = no_repeat_in (lists_house ok house is) g (s.different house is)
 
 pub test_from_rule : (p : Solo) → IsSolo p → (g : List ℕ) → IsSoloSolution p g → is_solo_solution p g ≡ true
 unfolding is_solo_solution
 test_from_rule p ok g s = and_from _ _ (all_below-from (given_stands p g) (solo_cells p) (λ place lt. test_from_given p g place (s.givens place lt)))
-    (each_test (λ house. no_repeat (numbers_of p g house)) (houses_of p) (λ k d lt. house_of_solution p ok g s (get_or (houses_of p) k d) (all_houses p k d lt)))
+    (each_test (λ house. no_repeat (numbers_of p g house)) (houses_of p)
+    (λ k d lt. house_of_solution p ok g s (get_or (houses_of p) k d) (all_houses p k d lt)))

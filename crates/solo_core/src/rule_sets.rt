@@ -194,13 +194,7 @@ impl RuleSet for Fillings {
         Pairing::new(alloc, usize::from(self.puzzle.n()))
     }
 
-    fn filter(
-        &self,
-        _house: usize,
-        sets: &[u32],
-        kept: &mut [u32],
-        work: &mut Pairing,
-    ) -> bool {
+    fn filter(&self, _house: usize, sets: &[u32], kept: &mut [u32], work: &mut Pairing) -> bool {
         keep_houses(self.puzzle.n(), sets, kept, work);
         true
     }
@@ -274,13 +268,7 @@ impl RuleSet for Crossings {
         Pairing::new(alloc, usize::from(self.puzzle.n()))
     }
 
-    fn filter(
-        &self,
-        house: usize,
-        sets: &[u32],
-        kept: &mut [u32],
-        pairing: &mut Pairing,
-    ) -> bool {
+    fn filter(&self, house: usize, sets: &[u32], kept: &mut [u32], pairing: &mut Pairing) -> bool {
         let count = houses(&self.puzzle);
         if house < count {
             keep_houses(self.puzzle.n(), sets, kept, pairing);

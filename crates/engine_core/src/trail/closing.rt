@@ -18,7 +18,7 @@ use crate::search::position::Taken;
 use crate::trail::agenda::wake_since;
 use crate::trail::position::TrailPosition;
 use crate::trail::propagators::Propagators;
-use crate::waits::{next_around, next_waiting, dequeue, dequeue_if};
+use crate::waits::{dequeue, dequeue_if, next_around, next_waiting};
 use grid_core::Board;
 
 /// Reads the sets of the house's cells, and decides what a visit keeps of them, at the head of the two slices. Says whether

@@ -43,11 +43,7 @@ impl<P: CountGame> Counting<CountRules<P>> for Tallies {
 
     ghost serves_smaller = { λ t need had fits s. let le = fits.houses_in in Prim.omega arith };
 
-    fn new(
-        alloc: Global,
-        _set: &CountRules<P>,
-        table: &HouseTable,
-    ) -> Result<Tallies, AllocError> {
+    fn new(alloc: Global, _set: &CountRules<P>, table: &HouseTable) -> Result<Tallies, AllocError> {
         Ok(Tallies {
             tallies: vec![in alloc; Tally::of_open(0); table.len()]?,
         })

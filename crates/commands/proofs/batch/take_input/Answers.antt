@@ -9,7 +9,8 @@ returns-in-Some-eq0-clause-taken g c = given_no_more g.met.I.Source.gives_both c
 
 pub returns-in_err-take_chunk-in-Some-clause-stopped : goal.returns-in_err-take_chunk-in-Some-clause-stopped
 returns-in_err-take_chunk-in-Some-clause-stopped g c = on_any_err c.from_residual.result (λ answers.
-    given_more g.met.I.Source.gives_both refl c.loop-turn.invariant.taken c.in-Some.ensures.bytes (c.in_err-take_chunk-in-Some.ensures.stopped answers c.args.output.now))
+    given_more g.met.I.Source.gives_both refl c.loop-turn.invariant.taken c.in-Some.ensures.bytes
+    (c.in_err-take_chunk-in-Some.ensures.stopped answers c.args.output.now))
 
 pub returns-in-None-clause-stopped : goal.returns-in-None-clause-stopped
 returns-in-None-clause-stopped g c =
@@ -19,7 +20,9 @@ returns-in-None-clause-stopped g c =
 
 pub loop-turn-preserved : goal.loop-turn-preserved
 loop-turn-preserved g c = record {
-  taken = given_more g.met.I.Source.gives_both refl c.loop-turn.invariant.taken c.in-Some.ensures.bytes (c.in_ok-take_chunk-in-Some.ensures.goes_on c.args.output.now);
+  taken =
+      given_more g.met.I.Source.gives_both refl c.loop-turn.invariant.taken c.in-Some.ensures.bytes
+      (c.in_ok-take_chunk-in-Some.ensures.goes_on c.args.output.now);
   calls = c.in-Some.ensures.counted ∙ ap (λ n. n + 1) c.loop-turn.invariant.calls;
   input_fine = c.in-Some.ensures.failed;
   input_open = search rules;

@@ -5,7 +5,9 @@ use Rattle.commands.proofs.RunLemmas.{ran_if_any_by_telling, ran_if_any_unwritte
 use Rattle.commands.proofs.check.check_one.Goals as goal
 
 pub returns-in-Err-Memory-clause-ran : goal.returns-in-Err-Memory-clause-ran
-returns-in-Err-Memory-clause-ran g c = ran_if_any_unwritten _ (omega arith) (g.met.I.Source.gives_nothing c.args.input.now) (g.met.O.Sink.takes_nothing c.args.output.now)
+returns-in-Err-Memory-clause-ran g c =
+    ran_if_any_unwritten _ (omega arith) (g.met.I.Source.gives_nothing c.args.input.now)
+    (g.met.O.Sink.takes_nothing c.args.output.now)
 
 pub returns-in-Err-clause-ran : goal.returns-in-Err-clause-ran
 returns-in-Err-clause-ran g c =

@@ -17,7 +17,8 @@ statuses g id budget traced solved graded =
     both_answers (laws_of g).reading (λ x y. GoesAlong y.status x.status) id solved graded refusals_along
     (λ p s a b. status_alike _ _ (goes_along (of.sets p) (of.rules p) (of.solves p) budget a.right b.right) b.said a.said)
 
-enough : (g : Game) (id : Text) (budget : ℕ) (traced : Bool) (graded : Answer) → AllowsGrade (game_of g) id budget traced graded → graded.status ≡ 0 → IsOneWithEnough g id
+enough : (g : Game) (id : Text) (budget : ℕ) (traced : Bool) (graded : Answer)
+    → AllowsGrade (game_of g) id budget traced graded → graded.status ≡ 0 → IsOneWithEnough g id
 enough g id budget traced graded allowed fine =
     let one = with_enough (game_of g) (laws_of g).reading (laws_of g).searched id budget traced graded allowed fine in
     record { enough = one.0; grid = one.1; said = one.2 }

@@ -6,4 +6,5 @@ returns-in-Some-clause-fault c = broken_first c.args.puzzle.now c.in-Some.ensure
 
 pub returns-clause-fault : goal.returns-clause-fault
 returns-clause-fault c =
-    house_after c.args.puzzle.now c.repeating_house.ensures.lawful c.args.grid.now c.requires.fits c.in_default.ensures.first c.repeating_house.result c.repeating_house.ensures.first
+    house_after c.args.puzzle.now c.repeating_house.ensures.lawful c.args.grid.now c.requires.fits
+    c.in_default.ensures.first c.repeating_house.result c.repeating_house.ensures.first

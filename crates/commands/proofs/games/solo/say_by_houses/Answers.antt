@@ -23,5 +23,6 @@ returns-then-settles-clause-answer g c =
 pub returns-clause-answer : goal.returns-clause-answer
 returns-clause-answer g c =
     let p = c.args.puzzle.now in
-    said_later solo_facts p c.args.options.budget c.args.options.traced g.O.Sink.takes _ _ _ Houses _ [] c.in_ok-houses.ensures.rules (sym c.if-settles.ensures.settled)
+    said_later solo_facts p c.args.options.budget c.args.options.traced g.O.Sink.takes _ _ _ Houses
+    _ [] c.in_ok-houses.ensures.rules (sym c.if-settles.ensures.settled)
     c.say_by_crossings.ensures.answer

@@ -8,8 +8,12 @@ use Rattle.commands.proofs.grade.trace.put_visits.Given as goal
 
 abbrev pub invariant-loop-number : goal.invariant-loop-number
 invariant-loop-number g l = PutUpTo g.O.Sink.takes l.fn.output
-    (string_bytes l.fn.text ++ each_below (λ k. line_of (g.P.Played.game.visit_name l.puzzle (slice_index l.visits k))) l.number-index) (string_bytes l.text) l.output
+    (string_bytes l.fn.text ++ each_below
+    (λ k. line_of (g.P.Played.game.visit_name l.puzzle (slice_index l.visits k)))
+    l.number-index) (string_bytes l.text) l.output
     × (g.O.Sink.has_failed l.output ≡ false)
     × (string_len l.fn.text < PIECE → string_len l.text < PIECE)
     × (string_len l.fn.text < PIECE → PutInPieces g.O.Sink.takes (PIECE + LINE) l.fn.output
-    (string_bytes l.fn.text ++ each_below (λ k. line_of (g.P.Played.game.visit_name l.puzzle (slice_index l.visits k))) l.number-index) (string_bytes l.text) l.output)
+    (string_bytes l.fn.text ++ each_below
+    (λ k. line_of (g.P.Played.game.visit_name l.puzzle (slice_index l.visits k)))
+    l.number-index) (string_bytes l.text) l.output)

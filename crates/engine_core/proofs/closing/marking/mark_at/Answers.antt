@@ -12,7 +12,10 @@ loop-other-preserved g c = record {
 }
 
 pub returns : goal.returns
-returns g c = λ K. before-all K c.loop-other.from (λ j le lt. absurd (let i = c.loop-other.invariant in omega (arith, i.past))) (c.loop-other.invariant.called K)
+returns g c =
+    λ K. before-all K c.loop-other.from
+    (λ j le lt. absurd (let i = c.loop-other.invariant in omega (arith, i.past)))
+    (c.loop-other.invariant.called K)
 
 pub returns-in_default : goal.returns-in_default
 returns-in_default g c = λ K. before-all K c.loop-other.from (rw c.in_default.is at c.house_at.ensures) (c.loop-other.invariant.called K)

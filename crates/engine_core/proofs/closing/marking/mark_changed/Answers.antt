@@ -21,7 +21,8 @@ loop-k-preserved g c = λ K are inside.
     let p = g.R.Rules.system c.args.rules.now in
     let i = c.loop-k.invariant K are inside in
     let was = are.bits c.loop-k.k (omega (arith, c.requires.long)) in
-    let is : IsBitsOf (has c.args.board.now c.scope-place.result) p.values c.cell_bits-now.result = rw (← c.requires.board_of.same_values) c.cell_bits-now.ensures in
+    let is : IsBitsOf (has c.args.board.now c.scope-place.result) p.values c.cell_bits-now.result =
+    rw (← c.requires.board_of.same_values) c.cell_bits-now.ensures in
     elim c.if-now-sets.branch [
       | then-now-sets w ↦ rw (w.waits-is, w.dead-is) (marking-then c.scope-place.ensures was is inside i _ _ w.if-now-sets.true (w.mark_at.ensures _) refl)
       | else-now-sets w ↦ rw (w.waits-is, w.dead-is) (marking-else c.scope-place.ensures was is inside i w.if-now-sets.false)

@@ -8,15 +8,21 @@ use Rattle.engine_core.proofs.house_rules.HouseRules.strike.Goals.{After-gather}
 pub gather-requires-clause-places_in : goal.gather-requires-clause-places_in
 gather-requires-clause-places_in g c =
     let puzzle = g.S.RuleSet.puzzle_of c.args.self.now.set in
-    places-in c.args.self.now.listed (g.met.S.RuleSet.scopes_are puzzle) c.requires.house_in c.places-places.ensures (g.met.S.RuleSet.lawful puzzle (g.met.S.RuleSet.knows c.args.self.now.set)) c.requires.board_of
+    places-in c.args.self.now.listed (g.met.S.RuleSet.scopes_are puzzle) c.requires.house_in
+    c.places-places.ensures (g.met.S.RuleSet.lawful puzzle
+    (g.met.S.RuleSet.knows c.args.self.now.set)) c.requires.board_of
 
 pub apply-requires-clause-places_in : goal.apply-requires-clause-places_in
 apply-requires-clause-places_in g c =
     let puzzle = g.S.RuleSet.puzzle_of c.args.self.now.set in
-    places-in c.args.self.now.listed (g.met.S.RuleSet.scopes_are puzzle) c.requires.house_in c.places-places.ensures (g.met.S.RuleSet.lawful puzzle (g.met.S.RuleSet.knows c.args.self.now.set)) c.requires.board_of
+    places-in c.args.self.now.listed (g.met.S.RuleSet.scopes_are puzzle) c.requires.house_in
+    c.places-places.ensures (g.met.S.RuleSet.lawful puzzle
+    (g.met.S.RuleSet.knows c.args.self.now.set)) c.requires.board_of
 
 -- the sets that were read
-read : (g : _) (c : After-gather g) → AreSetsOf (g.S.RuleSet.system (g.S.RuleSet.puzzle_of c.args.self.now.set)) c.args.house (has c.args.board.now) c.gather.new.sets
+read : (g : _) (c : After-gather g)
+    → AreSetsOf (g.S.RuleSet.system (g.S.RuleSet.puzzle_of c.args.self.now.set)) c.args.house
+    (has c.args.board.now) c.gather.new.sets
 read g c =
     let puzzle = g.S.RuleSet.puzzle_of c.args.self.now.set in
     places-read c.args.self.now.listed (g.met.S.RuleSet.scopes_are puzzle) c.requires.house_in c.places-places.ensures c.args.sets.now _ c.requires.board_of
@@ -31,10 +37,12 @@ returns-then-filter-clause-left g c =
     let is = places-are c.args.self.now.listed (g.met.S.RuleSet.scopes_are puzzle) c.requires.house_in c.places-places.ensures in
     let kept = c.filter.ensures.kept _ (read g (goal.at.returns-then-filter-clause-left g c).After-gather) in
     rw is at c.apply.ensures.left
-    ∙ kept-after _ (g.met.S.RuleSet.lawful puzzle (g.met.S.RuleSet.knows c.args.self.now.set)) c.requires.house_in (within_of _ _ c.requires.board_of) (rw c.if-filter.true at kept)
+    ∙ kept-after _ (g.met.S.RuleSet.lawful puzzle (g.met.S.RuleSet.knows c.args.self.now.set))
+    c.requires.house_in (within_of _ _ c.requires.board_of) (rw c.if-filter.true at kept)
 
 pub returns-else-filter-clause-left : goal.returns-else-filter-clause-left
 returns-else-filter-clause-left g c =
     let puzzle = g.S.RuleSet.puzzle_of c.args.self.now.set in
     let kept = c.filter.ensures.kept _ (read g (goal.at.returns-else-filter-clause-left g c).After-gather) in
-    kept-none (g.met.S.RuleSet.lawful puzzle (g.met.S.RuleSet.knows c.args.self.now.set)) c.requires.house_in (within_of _ _ c.requires.board_of) (rw c.if-filter.false at kept)
+    kept-none (g.met.S.RuleSet.lawful puzzle (g.met.S.RuleSet.knows c.args.self.now.set))
+    c.requires.house_in (within_of _ _ c.requires.board_of) (rw c.if-filter.false at kept)

@@ -4,4 +4,6 @@ use Rattle.engine_core.proofs.house_rules.HouseRulesPropagators.read.Goals as go
 pub gather-requires-clause-places_in : goal.gather-requires-clause-places_in
 gather-requires-clause-places_in g c =
     let puzzle = g.S.RuleSet.puzzle_of c.args.self.now.set in
-    places-in c.args.self.now.listed (g.met.S.RuleSet.scopes_are puzzle) c.requires.house_in c.places.ensures (g.met.S.RuleSet.lawful puzzle (g.met.S.RuleSet.knows c.args.self.now.set)) c.requires.board_of
+    places-in c.args.self.now.listed (g.met.S.RuleSet.scopes_are puzzle) c.requires.house_in
+    c.places.ensures (g.met.S.RuleSet.lawful puzzle (g.met.S.RuleSet.knows c.args.self.now.set))
+    c.requires.board_of

@@ -21,7 +21,8 @@ put_house-requires-clause-room c =
     let end = c.len-after-end.ensures.len in
     let house = c.len.result - 1 - c.loop-after.after in
     let first : length c.args.list.now.closed - c.loop-after.after ≡ suc house = omega arith in
-    rw c.places.ensures (index-room (length c.args.starts.now) c.args.list.now.closed c.requires.scopes house (omega arith) (rw first at c.loop-after.invariant))
+    rw c.places.ensures (index-room (length c.args.starts.now) c.args.list.now.closed
+    c.requires.scopes house (omega arith) (rw first at c.loop-after.invariant))
 
 pub loop-after-preserved : goal.loop-after-preserved
 loop-after-preserved c =
@@ -30,4 +31,6 @@ loop-after-preserved c =
     let house = c.len.result - 1 - c.loop-after.after in
     let first : length c.args.list.now.closed - c.loop-after.after ≡ suc house = omega arith in
     let next : length c.args.list.now.closed - (c.loop-after.after + 1) ≡ house = omega arith in
-    rw next (index-turn (length c.args.starts.now) c.args.list.now.closed c.requires.scopes house (omega arith) (rw first at c.loop-after.invariant) (rw c.places.ensures at c.put_house.ensures))
+    rw next (index-turn (length c.args.starts.now) c.args.list.now.closed c.requires.scopes house
+    (omega arith) (rw first at c.loop-after.invariant)
+    (rw c.places.ensures at c.put_house.ensures))

@@ -7,7 +7,9 @@ invariant-loop-levels g l =
     let p = g.P.Position.system l.rules in
     let stands = g.P.Position.stands in
     record {
-      searching : IsSearching p l.from (marks_of p (stands l.fn.position) l.fn.levels l.from l.fn.grids) l.trials (marks_of p (stands l.position) l.levels l.at l.grids) l.at;
+      searching : IsSearching p l.from
+          (marks_of p (stands l.fn.position) l.fn.levels l.from l.fn.grids) l.trials
+          (marks_of p (stands l.position) l.levels l.at l.grids) l.at;
       few_turns : l.at.turns ≤ (l.trials + 1) * 18446744073709551615;
       few_deep : l.at.deepest ≤ max l.from.deepest p.cells;
       trials : l.trials ≤ l.from.budget;

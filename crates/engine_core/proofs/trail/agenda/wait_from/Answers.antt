@@ -10,7 +10,9 @@ returns-in-None g c = record {
       let p = g.R.Rules.system c.args.rules.now in
       let made : c.fill.new.self ≡ replicate (length c.args.waits.now) 0 = search rules in
       rw c.in-None.is (called-from
-      (λ j lt. rw made (waiting-none (length c.args.waits.now) j (let long = c.requires.waits_room in omega arith))) (λ j lt. refl) (c.mark_all.ensures K follows));
+      (λ j lt. rw made (waiting-none (length c.args.waits.now) j
+      (let long = c.requires.waits_room in omega arith))) (λ j lt. refl)
+      (c.mark_all.ensures K follows));
 }
 
 pub returns-in-Some : goal.returns-in-Some
@@ -20,5 +22,7 @@ returns-in-Some g c = record {
       let p = g.R.Rules.system c.args.rules.now in
       let made : c.fill.new.self ≡ replicate (length c.args.waits.now) 0 = search rules in
       rw c.in-Some.is (called-from
-      (λ j lt. rw made (waiting-none (length c.args.waits.now) j (let long = c.requires.waits_room in omega arith))) (λ j lt. refl) (c.wake.ensures.called K follows));
+      (λ j lt. rw made (waiting-none (length c.args.waits.now) j
+      (let long = c.requires.waits_room in omega arith))) (λ j lt. refl)
+      (c.wake.ensures.called K follows));
 }

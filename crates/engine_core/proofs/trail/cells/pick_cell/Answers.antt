@@ -3,7 +3,9 @@ use Rattle.engine_core.proofs.JudgeLemmas.{pick-in, pick-ends}
 use Rattle.engine_core.proofs.trail.cells.pick_cell.Goals as goal
 
 pub better_cell-best-requires-clause-best_in : goal.better_cell-best-requires-clause-best_in
-better_cell-best-requires-clause-best_in c = pick-in c.loop-cell.best c.loop-cell.cell (cells_of c.args.board.now) c.args.board.now.values (has c.args.board.now) c.loop-cell.invariant (omega arith)
+better_cell-best-requires-clause-best_in c =
+    pick-in c.loop-cell.best c.loop-cell.cell (cells_of c.args.board.now) c.args.board.now.values
+    (has c.args.board.now) c.loop-cell.invariant (omega arith)
 
 pub returns-then-count-eq2 : goal.returns-then-count-eq2
 returns-then-count-eq2 c =

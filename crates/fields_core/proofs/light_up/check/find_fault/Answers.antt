@@ -32,13 +32,17 @@ pub returns-then-not-is_lit_right : goal.returns-then-not-is_lit_right
 returns-then-not-is_lit_right c =
     let p = c.args.puzzle.now in
     let g = c.args.grid.now in
-    first_in (FailsLight p g) (black p g ∷ number p g ∷ seen p g ∷ []) (dark p g) [] (light-made p g c.requires)
-    ((λ k lt. c.loop-place.invariant k (omega arith)), ((λ k lt. c.loop-place-2.invariant k (omega arith)), ((λ k lt. c.loop-place-3.invariant k (omega arith)), tt))) c.loop-place-4.place (omega arith)
+    first_in (FailsLight p g) (black p g ∷ number p g ∷ seen p g ∷ []) (dark p g) [] (light-made p g c.requires) (
+      (λ k lt. c.loop-place.invariant k (omega arith)),
+      ((λ k lt. c.loop-place-2.invariant k (omega arith)), ((λ k lt. c.loop-place-3.invariant k (omega arith)), tt)),
+    ) c.loop-place-4.place (omega arith)
     (sym c.is_lit_right.ensures ∙ c.if-not-is_lit_right.true) c.loop-place-4.invariant
 
 pub returns : goal.returns
 returns c =
     let p = c.args.puzzle.now in
     let g = c.args.grid.now in
-    light-sound p g c.requires (none_right (FailsLight p g) (kinds p g) (light-made p g c.requires)
-    ((λ k lt. c.loop-place.invariant k (omega arith)), ((λ k lt. c.loop-place-2.invariant k (omega arith)), ((λ k lt. c.loop-place-3.invariant k (omega arith)), ((λ k lt. c.loop-place-4.invariant k (omega arith)), tt)))))
+    light-sound p g c.requires (none_right (FailsLight p g) (kinds p g) (light-made p g c.requires) (
+      (λ k lt. c.loop-place.invariant k (omega arith)),
+      ((λ k lt. c.loop-place-2.invariant k (omega arith)), ((λ k lt. c.loop-place-3.invariant k (omega arith)), ((λ k lt. c.loop-place-4.invariant k (omega arith)), tt))),
+    ))

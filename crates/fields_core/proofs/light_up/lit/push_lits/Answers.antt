@@ -27,7 +27,8 @@ push_lit-requires-clause-row_in c =
 pub push_lit-requires-clause-column_in : goal.push_lit-requires-clause-column_in
 push_lit-requires-clause-column_in c =
     (column-at _ c.loop-place.place
-    c.loop-place.invariant.added.closed (omega (arith, c.cells-place-end.ensures.lawful.size.w_two)) (sym c.is_white.ensures ∙ c.if-is_white.true) c.loop-place.invariant.x
+    c.loop-place.invariant.added.closed (omega (arith, c.cells-place-end.ensures.lawful.size.w_two))
+    (sym c.is_white.ensures ∙ c.if-is_white.true) c.loop-place.invariant.x
     (c.pass-then-is_white.ensures c.args.houses.now.list.closed c.args.columns c.requires.columns c.loop-place.invariant.column)).within
 
 pub push_lit-requires-clause-few : goal.push_lit-requires-clause-few
@@ -38,7 +39,9 @@ push_lit-requires-clause-few c =
     let board = light-board c.cells-place-end.ensures.lawful in
     let on = sym c.is_white.ensures ∙ c.if-is_white.true in
     let row = row-at _ l.place l.invariant.added.closed on (c.pass.ensures lists c.args.rows c.requires.rows l.invariant.row) in
-    let column = column-at _ l.place l.invariant.added.closed board.some on l.invariant.x (c.pass-then-is_white.ensures lists c.args.columns c.requires.columns l.invariant.column) in
+    let column =
+    column-at _ l.place l.invariant.added.closed board.some on l.invariant.x
+    (c.pass-then-is_white.ensures lists c.args.columns c.requires.columns l.invariant.column) in
     rw (row.same, column.same) (omega (arith, row-run-few l.place board, column-run-few l.place board))
 
 pub push_lit-requires-clause-fits : goal.push_lit-requires-clause-fits

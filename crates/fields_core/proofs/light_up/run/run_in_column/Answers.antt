@@ -7,4 +7,6 @@ pub run_along-requires-clause-edge : goal.run_along-requires-clause-edge
 run_along-requires-clause-edge c = λ i e. column-begun c.args.puzzle.now c.args.place _ i c.columns-w.ensures.value c.requires.begins e
 
 pub returns : goal.returns
-returns c = c.run_along.ensures ∙ column-run-is c.args.puzzle.now c.args.place _ _ (some-column c.args.puzzle.now c.requires.place_in) c.columns-w.ensures.value c.rows.ensures
+returns c =
+    c.run_along.ensures ∙ column-run-is c.args.puzzle.now c.args.place _ _
+    (some-column c.args.puzzle.now c.requires.place_in) c.columns-w.ensures.value c.rows.ensures

@@ -12,18 +12,28 @@ pub loop-number-init : goal.loop-number-init
 loop-number-init g c = counted-first c.args.planes.now (g.P.Parts.pieces c.args.parts.now)
 
 pub line-requires-clause-line_in : goal.line-requires-clause-line_in
-line-requires-clause-line_in g c = line_in c.args.planes.now.size (g.P.Parts.pieces c.args.parts.now) c.loop-number.number (piece_of g.W.Word.bits c.part-part.result) c.requires (rw c.len-number-end.ensures at c.loop-number-test.true) (sym c.part-part.ensures)
+line-requires-clause-line_in g c =
+    line_in c.args.planes.now.size (g.P.Parts.pieces c.args.parts.now) c.loop-number.number
+    (piece_of g.W.Word.bits c.part-part.result) c.requires
+    (rw c.len-number-end.ensures at c.loop-number-test.true) (sym c.part-part.ensures)
 
 pub line-requires-in-loop-number-clause-line_in : goal.line-requires-in-loop-number-clause-line_in
 line-requires-in-loop-number-clause-line_in g c =
-    line_in c.args.planes.now.size (g.P.Parts.pieces c.args.parts.now) c.loop-number.number (piece_of g.W.Word.bits c.part-part.result) c.requires (rw c.len-number-end.ensures at c.loop-number-test.true) (sym c.part-part.ensures)
+    line_in c.args.planes.now.size (g.P.Parts.pieces c.args.parts.now) c.loop-number.number
+    (piece_of g.W.Word.bits c.part-part.result) c.requires
+    (rw c.len-number-end.ensures at c.loop-number-test.true) (sym c.part-part.ensures)
 
 next : (g : _) (c : After-both-open g) → IsCount c.args.planes.now (g.P.Parts.pieces c.args.parts.now) (c.loop-number.number + 1)
-    (c.loop-number.may + count_below (has_bit (g.W.Word.bits c.both-ones.result)) g.W.Word.room) (c.loop-number.undecided + count_below (has_bit (g.W.Word.bits c.both-open.result)) g.W.Word.room)
+    (c.loop-number.may + count_below (has_bit (g.W.Word.bits c.both-ones.result)) g.W.Word.room)
+    (c.loop-number.undecided + count_below (has_bit (g.W.Word.bits c.both-open.result))
+    g.W.Word.room)
 next g c =
     let bits = g.W.Word.bits in
-    counted-next c.args.planes.now (g.P.Parts.pieces c.args.parts.now) c.loop-number.number c.loop-number.may c.loop-number.undecided (bits c.both-ones.result) (bits c.both-open.result) (bits c.line-in-loop-number.result)
-    g.W.Word.room (piece_of bits c.part-part.result) (sym c.part-part.ensures) c.requires (rw c.len-number-end.ensures at c.loop-number-test.true) c.line.ensures.fits
+    counted-next c.args.planes.now (g.P.Parts.pieces c.args.parts.now) c.loop-number.number
+    c.loop-number.may c.loop-number.undecided (bits c.both-ones.result)
+    (bits c.both-open.result) (bits c.line-in-loop-number.result)
+    g.W.Word.room (piece_of bits c.part-part.result) (sym c.part-part.ensures) c.requires
+    (rw c.len-number-end.ensures at c.loop-number-test.true) c.line.ensures.fits
     (λ k. c.both-ones.ensures k ∙ rw (c.line.ensures.cells k) refl) c.both-open.ensures c.line-in-loop-number.ensures.cells
     (λ k on. c.line.ensures.within k (and_parts _ _ (sym (c.both-ones.ensures k) ∙ on)).0) c.loop-number.invariant
 
@@ -42,5 +52,7 @@ loop-number-preserved g c = rw (c.count-may.ensures, c.count-undecided.ensures) 
 
 pub returns : goal.returns
 returns g c =
-    let last : c.loop-number.number ≡ length (g.P.Parts.pieces c.args.parts.now) = (let e = c.loop-number-test.false in let b = c.loop-number.auto.number-end in omega (arith, e, b, c.len-number-end.ensures)) in
+    let last : c.loop-number.number ≡ length (g.P.Parts.pieces c.args.parts.now) =
+    (let e = c.loop-number-test.false in let b = c.loop-number.auto.number-end in
+    omega (arith, e, b, c.len-number-end.ensures)) in
     subst (λ n. IsCount c.args.planes.now (g.P.Parts.pieces c.args.parts.now) n c.loop-number.may c.loop-number.undecided) last c.loop-number.invariant

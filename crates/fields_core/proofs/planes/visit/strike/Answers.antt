@@ -12,11 +12,17 @@ loop-number-init g c = record {
 
 pub line-requires-clause-line_in : goal.line-requires-clause-line_in
 line-requires-clause-line_in g c =
-    rw (c.loop-number.invariant.further.same_size) (line_in c.args.planes.now.size (g.P.Parts.pieces c.args.parts.now) c.loop-number.number (piece_of g.W.Word.bits c.part-part.result) c.requires.pieces (rw c.len-number-end.ensures at c.loop-number-test.true) (sym c.part-part.ensures))
+    rw (c.loop-number.invariant.further.same_size)
+    (line_in c.args.planes.now.size (g.P.Parts.pieces c.args.parts.now) c.loop-number.number
+    (piece_of g.W.Word.bits c.part-part.result) c.requires.pieces
+    (rw c.len-number-end.ensures at c.loop-number-test.true) (sym c.part-part.ensures))
 
 pub take-requires-clause-line_in : goal.take-requires-clause-line_in
 take-requires-clause-line_in g c =
-    rw (c.loop-number.invariant.further.same_size) (line_in c.args.planes.now.size (g.P.Parts.pieces c.args.parts.now) c.loop-number.number (piece_of g.W.Word.bits c.part-part.result) c.requires.pieces (rw c.len-number-end.ensures at c.loop-number-test.true) (sym c.part-part.ensures))
+    rw (c.loop-number.invariant.further.same_size)
+    (line_in c.args.planes.now.size (g.P.Parts.pieces c.args.parts.now) c.loop-number.number
+    (piece_of g.W.Word.bits c.part-part.result) c.requires.pieces
+    (rw c.len-number-end.ensures at c.loop-number-test.true) (sym c.part-part.ensures))
 
 pub loop-number-preserved : goal.loop-number-preserved
 loop-number-preserved g c =
@@ -24,7 +30,10 @@ loop-number-preserved g c =
     let i = c.loop-number.invariant in
     record {
       left = c.take.ensures.left
-          ∙ struck-more c.args.planes.now c.loop-number.planes (g.P.Parts.pieces c.args.parts.now) c.loop-number.number c.args.value (bits c.both-other.result) (piece_of bits c.part-part.result) (sym c.part-part.ensures) i.further.same_size c.requires.value_in i.left
+          ∙ struck-more c.args.planes.now c.loop-number.planes (g.P.Parts.pieces c.args.parts.now)
+          c.loop-number.number c.args.value (bits c.both-other.result)
+          (piece_of bits c.part-part.result) (sym c.part-part.ensures) i.further.same_size
+          c.requires.value_in i.left
           (λ k. c.both-other.ensures k ∙ rw (c.line.ensures.cells k) refl);
       further = further-more c.args.planes.now c.loop-number.planes c.take.new.self i.further c.take.ensures.further;
     }

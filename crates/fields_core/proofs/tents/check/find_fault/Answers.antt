@@ -43,13 +43,20 @@ pub returns-clause-fault : goal.returns-clause-fault
 returns-clause-fault c =
     let p = c.args.puzzle.now in
     let g = c.args.grid.now in
-    first_in (FailsTents p g) (trees p g ∷ touch p g ∷ columns p g ∷ rows p g ∷ []) (match p g) [] (tents-made p g c.requires.fits)
-    ((λ k lt. c.loop-place.invariant k (omega arith)), ((λ k lt. c.loop-place-2.invariant k (omega arith)), ((λ k lt. c.loop-x.invariant k (omega arith)), ((λ k lt. c.loop-y.invariant k (omega arith)), tt)))) 0 (omega arith)
+    first_in (FailsTents p g) (trees p g ∷ touch p g ∷ columns p g ∷ rows p g ∷ []) (match p g) [] (tents-made p g c.requires.fits) (
+      (λ k lt. c.loop-place.invariant k (omega arith)),
+      ((λ k lt. c.loop-place-2.invariant k (omega arith)), ((λ k lt. c.loop-x.invariant k (omega arith)), ((λ k lt. c.loop-y.invariant k (omega arith)), tt))),
+    ) 0 (omega arith)
     (sym c.are_paired.ensures.paired ∙ c.if-are_paired.false) (λ d low. absurd (omega arith))
 
 pub returns-then-are_paired-clause-fault : goal.returns-then-are_paired-clause-fault
 returns-then-are_paired-clause-fault c =
     let p = c.args.puzzle.now in
     let g = c.args.grid.now in
-    tents-sound p g c.requires.fits (none_right (FailsTents p g) (kinds p g) (tents-made p g c.requires.fits)
-    ((λ k lt. c.loop-place.invariant k (omega arith)), ((λ k lt. c.loop-place-2.invariant k (omega arith)), ((λ k lt. c.loop-x.invariant k (omega arith)), ((λ k lt. c.loop-y.invariant k (omega arith)), ((λ k lt. sym c.are_paired.ensures.paired ∙ c.if-are_paired.true), tt))))))
+    tents-sound p g c.requires.fits (none_right (FailsTents p g) (kinds p g) (tents-made p g c.requires.fits) (
+      (λ k lt. c.loop-place.invariant k (omega arith)),
+      (
+        (λ k lt. c.loop-place-2.invariant k (omega arith)),
+        ((λ k lt. c.loop-x.invariant k (omega arith)), ((λ k lt. c.loop-y.invariant k (omega arith)), ((λ k lt. sym c.are_paired.ensures.paired ∙ c.if-are_paired.true), tt))),
+      ),
+    ))

@@ -7,7 +7,9 @@ use Rattle.grid_core.proofs.PlaneSteps.{word_read}
 use Rattle.grid_core.proofs.planes.Planes.column.Goals as goal
 use Rattle.grid_core.proofs.planes.Planes.column.Goals.{After-index}
 
-read : (g : _) (c : After-index g) (y : ℕ) → has_bit (g.W.Word.bits c.index.result.now) y ≡ bit_of (map g.W.Word.bits c.self.inside.rows.items) y c.args.value c.args.x
+read : (g : _) (c : After-index g) (y : ℕ)
+    → has_bit (g.W.Word.bits c.index.result.now) y ≡ bit_of
+    (map g.W.Word.bits c.self.inside.rows.items) y c.args.value c.args.x
 read g c y =
     let r = rw (← c.self.view_is) at c.requires in
     let words = c.self.invariant.words in
@@ -24,4 +26,5 @@ returns-clause-lawful g c = rw (← c.self.view_is) c.self.invariant
 pub returns-clause-within : goal.returns-clause-within
 returns-clause-within g c =
     let r = rw (← c.self.view_is) at c.requires in
-    rw (← c.self.view_is) (λ y on. (bit-in _ _ _ y c.args.x c.args.value c.self.invariant.words r.value_in (sym (read g (goal.at.returns-clause-within g c).After-index y) ∙ on)).0)
+    rw (← c.self.view_is) (λ y on. (bit-in _ _ _ y c.args.x c.args.value c.self.invariant.words
+    r.value_in (sym (read g (goal.at.returns-clause-within g c).After-index y) ∙ on)).0)

@@ -8,7 +8,8 @@ use Rattle.grid_core.proofs.planes.Planes.is_full.Goals.{After-is_some}
 unfilled : (g : _) (c : After-is_some g) → IsUnfilledRow c.args.self.now c.loop-y.y (g.W.Word.bits c.but.result)
 unfilled g c = record {
   is = λ x.
-      c.but.ensures x ∙ rw (c.differ-one.ensures x, c.row.ensures.cells x, c.row-in-loop-y.ensures.cells x, rw (c.size-size.ensures.value) at (rw (c.from.ensures, c.w.ensures.value) at (c.all.ensures x))) refl;
+      c.but.ensures x
+      ∙ rw (c.differ-one.ensures x, c.row.ensures.cells x, c.row-in-loop-y.ensures.cells x, rw (c.size-size.ensures.value) at (rw (c.from.ensures, c.w.ensures.value) at (c.all.ensures x))) refl;
 }
 
 pub loop-y-preserved : goal.loop-y-preserved
@@ -18,7 +19,8 @@ loop-y-preserved g c =
 
 pub returns-then-is_some : goal.returns-then-is_some
 returns-then-is_some g c =
-    sym (not_full-row c.args.self.now g.W.Word.room c.loop-y.y (g.W.Word.bits c.but.result) (rw (c.size-size.ensures.value) at (rw (c.h-y-end.ensures.value) at c.loop-y-test.true))
+    sym (not_full-row c.args.self.now g.W.Word.room c.loop-y.y (g.W.Word.bits c.but.result)
+    (rw (c.size-size.ensures.value) at (rw (c.h-y-end.ensures.value) at c.loop-y-test.true))
     (unfilled g (goal.at.returns-then-is_some g c).After-is_some) (sym c.is_some.ensures ∙ c.if-is_some.true))
 
 pub returns : goal.returns

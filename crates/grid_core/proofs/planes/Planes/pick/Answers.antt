@@ -40,7 +40,8 @@ returns-then-is_some g c =
     let at = goal.at.returns-then-is_some g c in
     let w_is : c.from-then-is_some.result ≡ p.size.w = rw (c.w.ensures.value, c.size-size.ensures.value) at c.from-then-is_some.ensures in
     rw (c.from.ensures, w_is)
-    (sym (pick-row_some p g.W.Word.room c.loop-y.y (g.W.Word.bits c.both-open.result) c.lowest.result (row_in g at.After-lowest) (column_in g at.After-lowest) c.loop-y.invariant
+    (sym (pick-row_some p g.W.Word.room c.loop-y.y (g.W.Word.bits c.both-open.result)
+    c.lowest.result (row_in g at.After-lowest) (column_in g at.After-lowest) c.loop-y.invariant
     (open_row g at.After-is_some) c.lowest.ensures))
 
 pub returns : goal.returns

@@ -7,7 +7,9 @@ use Rattle.grid_core.proofs.PlaneSteps.{word_read}
 use Rattle.grid_core.proofs.planes.Planes.row.Goals as goal
 use Rattle.grid_core.proofs.planes.Planes.row.Goals.{After-index}
 
-read : (g : _) (c : After-index g) (x : ℕ) → has_bit (g.W.Word.bits c.index.result.now) x ≡ bit_of (map g.W.Word.bits c.self.inside.rows.items) c.args.y c.args.value x
+read : (g : _) (c : After-index g) (x : ℕ)
+    → has_bit (g.W.Word.bits c.index.result.now) x ≡ bit_of
+    (map g.W.Word.bits c.self.inside.rows.items) c.args.y c.args.value x
 read g c =
     let r = rw (← c.self.view_is) at c.requires in
     word_read g.W.Word.bits c.self.inside.rows.items c.args.y c.args.value c.index.result.now
@@ -22,4 +24,5 @@ returns-clause-lawful g c = rw (← c.self.view_is) c.self.invariant
 pub returns-clause-within : goal.returns-clause-within
 returns-clause-within g c =
     let r = rw (← c.self.view_is) at c.requires in
-    rw (← c.self.view_is) (λ x on. (bit-in _ _ _ c.args.y x c.args.value c.self.invariant.words r.value_in (sym (read g (goal.at.returns-clause-within g c).After-index x) ∙ on)).1)
+    rw (← c.self.view_is) (λ x on. (bit-in _ _ _ c.args.y x c.args.value c.self.invariant.words
+    r.value_in (sym (read g (goal.at.returns-clause-within g c).After-index x) ∙ on)).1)

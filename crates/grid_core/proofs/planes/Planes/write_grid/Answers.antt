@@ -17,5 +17,7 @@ pub returns : goal.returns
 returns g c =
     let p = c.args.self.now in
     let end : c.h-y-end.result ≡ p.size.h = rw (c.size-size.ensures.value) at c.h-y-end.ensures.value in
-    let last : c.loop-y.y * p.size.w ≡ cells_of p = (let b = c.loop-y.auto.y-end in let e = c.loop-y-test.false in let y_is : c.loop-y.y ≡ p.size.h = omega arith in rw y_is (omega arith)) in
+    let last : c.loop-y.y * p.size.w ≡ cells_of p =
+    (let b = c.loop-y.auto.y-end in let e = c.loop-y-test.false in
+    let y_is : c.loop-y.y ≡ p.size.h = omega arith in rw y_is (omega arith)) in
     written-all p c.loop-y.grid c.requires.full (subst (IsWritten p c.loop-y.grid) last c.loop-y.invariant)

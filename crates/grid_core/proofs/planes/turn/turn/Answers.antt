@@ -24,14 +24,18 @@ loop-own-preserved g c =
     let bits = g.W.Word.bits in
     let i = c.loop-own.invariant in
     let rest = λ (k : ℕ). has_bit (bits c.loop-own.rest) k in
-    let left : (k : ℕ) → has_bit (bits c.without_lowest-rest.result) k ≡ (rest k && not (eqb k c.lowest-crossing.result)) = λ k. c.without_lowest-rest.ensures c.lowest-crossing.result k c.lowest-crossing.ensures in
+    let left : (k : ℕ) → has_bit (bits c.without_lowest-rest.result)
+    k ≡ (rest k && not (eqb k c.lowest-crossing.result)) =
+    λ k. c.without_lowest-rest.ensures c.lowest-crossing.result k c.lowest-crossing.ensures in
     let in_bits = i.inside c.lowest-crossing.result c.lowest-crossing.ensures.has in
     let within = (c.requires.bits_in c.lowest-crossing.result in_bits).1 in
     record {
       inside = λ k on. i.inside k (and_parts _ _ (sym (left k) ∙ on)).0;
       across = λ k u j lt. crossed _ _ _ (eqb j c.args.line) (eqb u c.args.value) (eqb k c.lowest-crossing.result) (has_bit (bits c.args.bits) k) (rest k) _
           (i.across k u j lt)
-          (turned_at bits c.loop-own.across.items c.lowest-crossing.result c.args.value c.index-crossed.result.now c.differ-in-loop-own.result (λ p. eqb p c.args.line) c.requires.value_in
+          (turned_at bits c.loop-own.across.items c.lowest-crossing.result c.args.value
+          c.index-crossed.result.now c.differ-in-loop-own.result (λ p. eqb p c.args.line)
+          c.requires.value_in
           (omega (arith, within, i.wide)) c.index-crossed.ensures (λ p. c.differ-in-loop-own.ensures p ∙ rw (c.one-own.ensures p) refl) k u j lt)
           (left k) (λ e. rw (eqb-true _ _ e) c.lowest-crossing.ensures.has) (i.inside k);
       wide = length-set _ _ _ ∙ i.wide;
@@ -39,7 +43,8 @@ loop-own-preserved g c =
 
 pub returns-clause-along : goal.returns-clause-along
 returns-clause-along g c = λ j u k lt.
-    turned_at g.W.Word.bits c.args.along.now.items c.args.line c.args.value c.index-word.result.now c.differ.result (has_bit (g.W.Word.bits c.args.bits)) c.requires.value_in c.requires.line_in
+    turned_at g.W.Word.bits c.args.along.now.items c.args.line c.args.value c.index-word.result.now
+    c.differ.result (has_bit (g.W.Word.bits c.args.bits)) c.requires.value_in c.requires.line_in
     c.index-word.ensures c.differ.ensures j u k lt
 
 pub returns-clause-across : goal.returns-clause-across

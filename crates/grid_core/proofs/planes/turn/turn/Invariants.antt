@@ -10,7 +10,9 @@ invariant-loop-own g l =
     record {
       inside : (k : ℕ) → has_bit (bits l.rest) k ≡ true → has_bit (bits l.fn.bits) k ≡ true;
       across : (k u j : ℕ) → u < 2 → bit_of (map bits l.across.items) k u j
-          ≡ differ (bit_of (map bits l.fn.across.items) k u j) ((u == l.value) && ((j == l.line) && (has_bit (bits l.fn.bits) k && not (has_bit (bits l.rest) k))));
+          ≡ differ (bit_of (map bits l.fn.across.items) k u j)
+          ((u == l.value) && ((j == l.line) && (has_bit (bits l.fn.bits) k && not
+          (has_bit (bits l.rest) k))));
       wide : length l.across.items ≡ length l.fn.across.items;
     }
 

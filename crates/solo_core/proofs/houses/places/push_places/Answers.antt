@@ -5,7 +5,9 @@ use Rattle.solo_core.proofs.HouseLemmas.{begun-more, begun-done}
 use Rattle.solo_core.proofs.houses.places.push_places.Goals as goal
 
 pub push-requires-clause-fits : goal.push-requires-clause-fits
-push-requires-clause-fits c = rw c.loop-k.invariant (omega (arith, length-take c.loop-k.k (places_of c.args.puzzle.now c.args.house), c.n.ensures.lawful.n_high))
+push-requires-clause-fits c =
+    rw c.loop-k.invariant
+    (omega (arith, length-take c.loop-k.k (places_of c.args.puzzle.now c.args.house), c.n.ensures.lawful.n_high))
 
 pub loop-k-preserved : goal.loop-k-preserved
 loop-k-preserved c =

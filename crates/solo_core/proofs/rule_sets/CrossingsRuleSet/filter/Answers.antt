@@ -11,7 +11,9 @@ returns-then-house-count-clause-kept c = λ K are.
     let p = c.args.self.now.puzzle in
     let lt : c.args.house < length (filled_houses p) = omega (arith, filled-length p, c.houses-count.ensures.value) in
     let decides = decides-at (strikes_by_fillings no_repeat) p lt ∙ ap (λ (house : House). house.decides) (first_at (filled_houses p) (crossings_of p) lt) in
-    kept-houses true p (filled_houses p ++ crossings_of p) (crossings_sound p c.args.self.now.is_solo) c.requires.house_in are (rw (c.n.ensures.value, decides) at c.keep_houses.ensures.decided)
+    kept-houses true p (filled_houses p ++ crossings_of p)
+    (crossings_sound p c.args.self.now.is_solo) c.requires.house_in are
+    (rw (c.n.ensures.value, decides) at c.keep_houses.ensures.decided)
 
 pub returns-else-house-count-clause-kept : goal.returns-else-house-count-clause-kept
 returns-else-house-count-clause-kept c = λ K are.

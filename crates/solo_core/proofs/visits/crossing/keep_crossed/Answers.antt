@@ -10,6 +10,7 @@ returns c =
     let block = c.crossing_at-block.result.0 in
     let line = c.crossing_at-block.result.1 in
     let long = (lists_house c.n.ensures.lawful (Block block) c.crossing_at-block.ensures.block_in).len in
-    subst (λ (house : House). IsDecided (solo_n p) house.decides c.args.sets.now c.keep_crossing.new.kept) (crossing-is p block line c.requires.number_in c.crossing_at-block.ensures.scope)
+    subst
+    (λ (house : House). IsDecided (solo_n p) house.decides c.args.sets.now c.keep_crossing.new.kept) (crossing-is p block line c.requires.number_in c.crossing_at-block.ensures.scope)
     (decided_at (solo_n p) c.shared.result (places_of p (Block block)) (places_of p line) long c.shared.ensures
     (rw (c.from.ensures, c.n.ensures.value) at (c.keep_crossing.ensures (solo_n p))))

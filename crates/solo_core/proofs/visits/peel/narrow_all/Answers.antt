@@ -18,10 +18,15 @@ loop-k-preserved c =
       counts = counts-more k (counts-same i.counts (λ j lj. there j (λ e. absurd (omega arith))))
           (λ v. c.with-narrowed.ensures.some v ∙ ap (λ (b : ℕ). has_bit c.loop-k.narrowed.some v || has_bit b v) (sym here))
           (λ v on. rw here (c.with-narrowed.ensures.single v on))
-          (λ v. c.with-narrowed.ensures.shared v ∙ ap (λ (b : ℕ). has_bit c.loop-k.narrowed.shared v || (has_bit c.loop-k.narrowed.some v && has_bit b v)) (sym here));
+          (λ v. c.with-narrowed.ensures.shared v
+          ∙ ap (λ (b : ℕ). has_bit c.loop-k.narrowed.shared
+          v || (has_bit c.loop-k.narrowed.some v && has_bit b v)) (sym here));
       inside = λ j v lj on. let t = there j in let h = i.inside j v in let g = c.narrow-set.ensures.inside v in grind arith;
       dropped = λ j v lj lv on off. elim (cases_eq j k) [
-        | inl e ↦ rw (e, sym was) (c.narrow-set.ensures.dropped v lv (ap (λ (b : ℕ). has_bit b v) (was ∙ ap old (sym e)) ∙ on) (ap (λ (b : ℕ). has_bit b v) (sym here ∙ ap (slice_index new) (sym e)) ∙ off))
+        | inl e ↦ rw (e, sym was)
+            (c.narrow-set.ensures.dropped v lv
+            (ap (λ (b : ℕ). has_bit b v) (was ∙ ap old (sym e)) ∙ on)
+            (ap (λ (b : ℕ). has_bit b v) (sym here ∙ ap (slice_index new) (sym e)) ∙ off))
         | inr ne ↦ i.dropped j v (omega arith) lv on (ap (λ (b : ℕ). has_bit b v) (sym (there j ne)) ∙ off)
       ];
       rest = λ j le. there j (λ e. absurd (omega arith)) ∙ i.rest j (omega arith);

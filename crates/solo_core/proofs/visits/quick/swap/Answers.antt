@@ -17,7 +17,8 @@ returns-in-Some-clause-on c =
     let b = subst (λ (xs : List ℕ). IsBegun n sets rest k (slice_index xs) c.args.free) (sym c.loop-j.invariant) c.requires.begun in
     let first = slice_set mates k (slice_index mates j) in
     let long : length first ≡ length mates = length-set mates k (slice_index mates j) in
-    goes_on_swapped n sets rest k (slice_index mates) c.args.free v j b (omega arith) (omega (arith, at.1)) (grind (arith, bits-both, at.2)) (grind (arith, bits-both, at.2))
+    goes_on_swapped n sets rest k (slice_index mates) c.args.free v j b (omega arith)
+    (omega (arith, at.1)) (grind (arith, bits-both, at.2)) (grind (arith, bits-both, at.2))
     (get_or-set_other first j k v 0 (λ e. absurd (omega arith)) ∙ get_or-set_at mates k k (slice_index mates j) 0 refl (omega arith))
     (get_or-set_at first j j v 0 refl (omega (arith, long)))
     (λ l lt ne. get_or-set_other first j l v 0 ne ∙ get_or-set_other mates k l (slice_index mates j) 0 (λ e. absurd (omega arith)))

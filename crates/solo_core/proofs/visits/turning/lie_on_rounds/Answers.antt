@@ -24,7 +24,9 @@ pub returns-then-not-has_any : goal.returns-then-not-has_any
 returns-then-not-has_any c = λ on. (
   slice_index c.args.mates.now 0,
   λ i v li lv has.
-      let ends = in_ends c.values_of-all.result c.spread-more.result.after c.spread-more.result.before c.without.result v (c.without.ensures v) (c.values_of-all.ensures i v li has)
+      let ends =
+      in_ends c.values_of-all.result c.spread-more.result.after c.spread-more.result.before
+      c.without.result v (c.without.ensures v) (c.values_of-all.ensures i v li has)
       (c.has_any.ensures.none c.if-not-has_any.true v) in
       (c.spread-more.ensures.after _ c.loop-turn.invariant.after v lv ends.0, (c.spread-more.ensures.before _ c.loop-turn.invariant.before v ends.1).1),
 )

@@ -29,5 +29,5 @@ unmade recipe text Memory range read out = tt
 pub returns-in_err-make_solo-clause-unmade : goal.returns-in_err-make_solo-clause-unmade
 returns-in_err-make_solo-clause-unmade c =
     let why = unmade c.args.recipe c.args.size.now c.in_err-make_solo.field-0.0 c.in_ok-c.ensures.range c.in_ok-c.ensures.found
-        (let stream = c.generator-rng.ensures in rw (← stream) c.in_err-make_solo.ensures.unmade) in
+    (let stream = c.generator-rng.ensures in rw (← stream) c.in_err-make_solo.ensures.unmade) in
     grind (arith, common_steps)

@@ -10,14 +10,22 @@ rested : (g : _) (c : After-fill g) → IsRested (g.R.Rules.system c.args.rules.
 rested g c = λ h d v lt asleep on.
     let fits = rw (← c.self.view_is) at c.requires.fits in
     let made : c.fill.new.self.items ≡ replicate (length c.self.inside.waits.items) 18446744073709551615 = search rules in
-    absurd (true≢false (sym (rw made (waiting-all (length c.self.inside.waits.items) h (omega (arith, c.self.invariant.0.waits_long, fits.houses_in)))) ∙ asleep))
+    absurd (true≢false (sym (rw made
+    (waiting-all (length c.self.inside.waits.items) h
+    (omega (arith, c.self.invariant.0.waits_long, fits.houses_in)))) ∙ asleep))
 
 pub returns-then-has_empty_cell-clause-closing : goal.returns-then-has_empty_cell-clause-closing
 returns-then-has_empty_cell-clause-closing g c =
     let p = g.R.Rules.system c.args.rules.now in
     let fits = rw (← c.self.view_is) at c.requires.fits in
-    let of : IsBoardOf p c.self.inside.board = record { same_cells = c.self.invariant.0.board_cells ∙ sym fits.same_cells; same_values = c.self.invariant.0.board_values ∙ sym fits.same_values } in
-    rw (← c.self.view_is) (closing-none p (g.met.R.Rules.lawful c.args.rules.now) (has c.self.inside.board) (within_of p _ of) (sym (dead_of p of) ∙ (sym c.has_empty_cell.ensures ∙ c.if-has_empty_cell.true)))
+    let of : IsBoardOf p c.self.inside.board =
+    record {
+      same_cells = c.self.invariant.0.board_cells ∙ sym fits.same_cells;
+      same_values = c.self.invariant.0.board_values ∙ sym fits.same_values;
+    } in
+    rw (← c.self.view_is) (closing-none p (g.met.R.Rules.lawful c.args.rules.now)
+    (has c.self.inside.board) (within_of p _ of)
+    (sym (dead_of p of) ∙ (sym c.has_empty_cell.ensures ∙ c.if-has_empty_cell.true)))
 
 pub run_queue-requires-clause-rested : goal.run_queue-requires-clause-rested
 run_queue-requires-clause-rested g c = rested g (goal.at.run_queue-requires-clause-rested g c).After-fill

@@ -53,7 +53,11 @@ done g c lt =
       rw (← c.self.view_is) e.visited.left,
       dead_by (rw (← c.self.view_is) e.visited.dead) alive,
       rw wrote (pushed _ _ _ lt),
-      record { made = rw (← c.self.view_is) e.room.made; shape = rw (← c.self.view_is) e.room.shape; trace_long = rw wrote (length-set _ c.loop-house.visits _) },
+      record {
+        made = rw (← c.self.view_is) e.room.made;
+        shape = rw (← c.self.view_is) e.room.shape;
+        trace_long = rw wrote (length-set _ c.loop-house.visits _);
+      },
     )
 
 pub loop-house-preserved : goal.loop-house-preserved
@@ -75,7 +79,9 @@ returns-then-step-clause-closing g c =
     let at = goal.at.returns-then-step-clause-closing g c in
     let w = picked g at.In-Some in
     let d = done g at.After-step (in_trace g at.In-Some) in
-    rw d.2 (closing-dead _ (g.met.R.Rules.lawful c.args.rules.now) _ (take c.loop-house.visits c.loop-house.self.trace) _ _ _ _ c.requires.queue (within_of _ _ c.requires.board_of) i.running w.0 w.1 d.0 (d.1 ∙ c.if-step.true))
+    rw d.2 (closing-dead _ (g.met.R.Rules.lawful c.args.rules.now) _
+    (take c.loop-house.visits c.loop-house.self.trace) _ _ _ _ c.requires.queue
+    (within_of _ _ c.requires.board_of) i.running w.0 w.1 d.0 (d.1 ∙ c.if-step.true))
 
 pub returns-then-step-clause-visits : goal.returns-then-step-clause-visits
 returns-then-step-clause-visits g c =
@@ -83,7 +89,8 @@ returns-then-step-clause-visits g c =
     omega (arith, in_trace g at.In-Some, (done g at.After-step (in_trace g at.In-Some)).3.trace_long)
 
 pub returns-then-step-clause-room : goal.returns-then-step-clause-room
-returns-then-step-clause-room g c = let at = goal.at.returns-then-step-clause-room g c in room-more c.loop-house.invariant.room (done g at.After-step (in_trace g at.In-Some)).3
+returns-then-step-clause-room g c = let at = goal.at.returns-then-step-clause-room g c in
+    room-more c.loop-house.invariant.room (done g at.After-step (in_trace g at.In-Some)).3
 
 pub returns-clause-closing : goal.returns-clause-closing
 returns-clause-closing g c =

@@ -16,13 +16,17 @@ pub returns-then-effect-clause-closing : goal.returns-then-effect-clause-closing
 returns-then-effect-clause-closing g c =
     let i = c.closing.invariant in
     let s = c.sweep-effect.ensures.swept in
-    rw s.left (swept-dead _ (g.met.R.Rules.lawful c.args.rules.now) _ c.closing.sweeps _ c.requires.sweeps (within_of _ _ c.requires.board_of) i.alive i.swept (rw s.left at (s.dead ∙ c.if-effect.true)))
+    rw s.left (swept-dead _ (g.met.R.Rules.lawful c.args.rules.now) _ c.closing.sweeps _
+    c.requires.sweeps (within_of _ _ c.requires.board_of) i.alive i.swept
+    (rw s.left at (s.dead ∙ c.if-effect.true)))
 
 pub returns-else-effect-2-clause-closing : goal.returns-else-effect-2-clause-closing
 returns-else-effect-2-clause-closing g c =
     let i = c.closing.invariant in
     let s = c.sweep-effect.ensures.swept in
-    rw c.max.ensures (swept-idle _ (g.met.R.Rules.lawful c.args.rules.now) _ c.closing.sweeps _ _ c.requires.sweeps (within_of _ _ c.requires.board_of) i.alive i.swept s.left (s.idle c.if-effect-2.false).0 (s.idle c.if-effect-2.false).1)
+    rw c.max.ensures (swept-idle _ (g.met.R.Rules.lawful c.args.rules.now) _ c.closing.sweeps _ _
+    c.requires.sweeps (within_of _ _ c.requires.board_of) i.alive i.swept s.left
+    (s.idle c.if-effect-2.false).0 (s.idle c.if-effect-2.false).1)
 
 pub closing-smaller : goal.closing-smaller
 closing-smaller g c =

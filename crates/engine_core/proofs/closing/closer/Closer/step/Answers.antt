@@ -23,7 +23,10 @@ returns-then-not-visit-clause-visited g c =
       idle = λ _. same;
       struck = λ e. absurd (true≢false (sym e));
       dead = ap (is_dead p.cells p.values) same ∙ unwoken _;
-      woken = rw (written-back v.len c.dequeue.new.waits _ (omega (arith, v.ok.0, c.deref_mut.ensures.len, c.dequeue.auto.waits))) (woken-unstruck same (rw c.deref_mut.ensures.value at c.dequeue.ensures));
+      woken =
+          rw (written-back v.len c.dequeue.new.waits _
+          (omega (arith, v.ok.0, c.deref_mut.ensures.len, c.dequeue.auto.waits)))
+          (woken-unstruck same (rw c.deref_mut.ensures.value at c.dequeue.ensures));
     })
 
 pub returns-clause-visited : goal.returns-clause-visited
@@ -34,16 +37,28 @@ returns-clause-visited g c =
     let K' = has c.visit.new.board in
     let v = c.self.inside.waits in
     let s = c.self.inside.sets in
-    let cleared = written-back v.len c.dequeue.new.waits (drop (length c.dequeue.new.waits) v.items) (omega (arith, v.ok.0, c.deref_mut.ensures.len, c.dequeue.auto.waits)) in
+    let cleared =
+    written-back v.len c.dequeue.new.waits (drop (length c.dequeue.new.waits) v.items)
+    (omega (arith, v.ok.0, c.deref_mut.ensures.len, c.dequeue.auto.waits)) in
     let inside : IsInside K' K = rw c.visit.ensures.left (after_inside p c.args.house K) in
     let are : AreSetsOf p c.args.house K (take c.scope_len.result c.deref.result.now) =
-    rw (c.scope_len.ensures, c.deref.ensures.value, written-back s.len c.read_head.new.sets (drop (length c.read_head.new.sets) s.items) (omega (arith, s.ok.0, c.deref_mut-2.ensures.len, c.read_head.auto.sets))) c.read_head.ensures in
+    rw (
+      c.scope_len.ensures,
+      c.deref.ensures.value,
+      written-back s.len c.read_head.new.sets (drop (length c.read_head.new.sets) s.items) (omega (arith, s.ok.0, c.deref_mut-2.ensures.len, c.read_head.auto.sets)),
+    ) c.read_head.ensures in
     rw (← c.self.view_is) (record {
       left = c.visit.ensures.left;
       idle = λ e. absurd (true≢false e);
       struck = λ _. c.visit.ensures.changed c.if-not-visit.false;
-      dead = emptied-dead p laws K K' c.requires.house_in c.visit.ensures.left ∙ ap (λ b. is_dead p.cells p.values K || b) (sym (c.mark_changed-dead.ensures.dead K are inside));
-      woken = rw (written-back v.len c.dequeue_if.new.waits _ (omega (arith, v.ok.0, c.deref_mut.ensures.len, c.dequeue.auto.waits, c.deref_mut-waits.ensures.len, c.mark_changed-dead.auto.waits, c.dequeue_if.auto.waits))) (woken-by
-          (rw c.deref_mut.ensures.value at c.dequeue.ensures) (rw (c.deref_mut-waits.ensures.value, cleared) at (c.mark_changed-dead.ensures.called K are inside))
+      dead = emptied-dead p laws K K' c.requires.house_in c.visit.ensures.left
+          ∙ ap (λ b. is_dead p.cells p.values K || b)
+          (sym (c.mark_changed-dead.ensures.dead K are inside));
+      woken =
+          rw (written-back v.len c.dequeue_if.new.waits _
+          (omega (arith, v.ok.0, c.deref_mut.ensures.len, c.dequeue.auto.waits, c.deref_mut-waits.ensures.len, c.mark_changed-dead.auto.waits, c.dequeue_if.auto.waits))) (woken-by
+          (rw c.deref_mut.ensures.value at c.dequeue.ensures)
+          (rw (c.deref_mut-waits.ensures.value, cleared)
+          at (c.mark_changed-dead.ensures.called K are inside))
           (λ j. rw (c.SETTLED.ensures, ← (g.met.R.Rules.settled_is c.args.rules.now)) at (c.dequeue_if.ensures j)));
     })

@@ -6,11 +6,15 @@ use Rattle.engine_core.proofs.closing.closer.Closer.sweep.Goals as goal
 use Rattle.engine_core.proofs.closing.closer.Closer.sweep.Goals.{In-Some}
 
 -- the next house that waits
-picked : (g : _) (c : In-Some g) → IsNext (is_waiting c.loop-house.self.waits) (g.R.Rules.system c.args.rules.now).houses c.loop-house.from (Some c.in-Some.house)
+picked : (g : _) (c : In-Some g)
+    → IsNext (is_waiting c.loop-house.self.waits) (g.R.Rules.system c.args.rules.now).houses
+    c.loop-house.from (Some c.in-Some.house)
 picked g c = rw (← c.self.view_is, ← c.houses.ensures, ← c.deref.ensures.value) c.in-Some.ensures
 
 -- those before it strike nothing
-here : (g : _) (c : In-Some g) → IsSweeping (g.R.Rules.system c.args.rules.now) (has c.args.self.now.board) c.in-Some.house (has c.loop-house.self.board) (is_waiting c.loop-house.self.waits)
+here : (g : _) (c : In-Some g) → IsSweeping (g.R.Rules.system c.args.rules.now)
+    (has c.args.self.now.board) c.in-Some.house (has c.loop-house.self.board)
+    (is_waiting c.loop-house.self.waits)
 here g c = let next = picked g c in sweeping-passed c.loop-house.invariant.sweeping next.0 (omega (arith, next.1)) next.3
 
 pub loop-house-init : goal.loop-house-init
@@ -33,7 +37,9 @@ loop-house-preserved g c =
     let s = here g at in
     record {
       past = omega (arith, next.1);
-      sweeping = sweeping-turn _ (g.met.R.Rules.lawful c.args.rules.now) _ _ _ _ _ _ s next.1 (within_of _ _ (IsBoardOf-same c.requires.board_of i.room.shape)) v.left v.woken;
+      sweeping =
+          sweeping-turn _ (g.met.R.Rules.lawful c.args.rules.now) _ _ _ _ _ _ s next.1
+          (within_of _ _ (IsBoardOf-same c.requires.board_of i.room.shape)) v.left v.woken;
       idle = λ e. struck-none i.idle v.idle e;
       struck = struck-more _ _ _ _ (sweeping-inside s) v.left i.struck v.struck;
       dead = v.dead ∙ ap (λ b. b || c.step-effect.result.dead) i.dead;

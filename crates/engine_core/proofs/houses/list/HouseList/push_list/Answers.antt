@@ -4,6 +4,8 @@ use Rattle.engine_core.proofs.houses.list.HouseList.push_list.Goals as goal
 
 pub invariant_of-self-2 : goal.invariant_of-self-2
 invariant_of-self-2 c =
-    let is = closed-is _ _ c.self.invariant.are_ends c.self.view_is c.requires.house_in (rw c.deref.ensures.value at c.begin-from.ensures) c.index-end.ensures in
+    let is =
+    closed-is _ _ c.self.invariant.are_ends c.self.view_is c.requires.house_in
+    (rw c.deref.ensures.value at c.begin-from.ensures) c.index-end.ensures in
     let long = ap length is.0 in
     grown-listed c.self.invariant c.self.view_is c.requires.fits (added-grown _ c.in_ok-extend_from_within.ensures.items (omega arith))

@@ -14,7 +14,9 @@ pub put_houses-requires-clause-none : goal.put_houses-requires-clause-none
 put_houses-requires-clause-none c =
     let ends = c.write_ends-all.new.ends in
     let long : length ends ≡ c.in_ok-starts.starts.len = c.write_ends-all.ensures.as_many ∙ c.deref_mut.ensures.len in
-    let now : c.deref_mut-2.result.now ≡ ends = c.deref_mut-2.ensures.value ∙ take_at ends (drop (length ends) c.in_ok-starts.starts.items) c.in_ok-starts.starts.len long in
+    let now : c.deref_mut-2.result.now ≡ ends =
+    c.deref_mut-2.ensures.value ∙ take_at ends (drop (length ends) c.in_ok-starts.starts.items)
+    c.in_ok-starts.starts.len long in
     let same : length c.deref_mut-2.result.now ≡ length c.deref_mut.result.now = ap length now ∙ c.write_ends-all.ensures.as_many in
     index-none refl
     (λ d lt. ap (λ xs. slice_index xs d) now ∙ c.write_ends-all.ensures.ends d (omega arith))

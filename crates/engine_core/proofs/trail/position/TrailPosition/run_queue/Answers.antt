@@ -20,14 +20,19 @@ more g c =
 
 -- a visit that would leave a cell without a value ends the closing
 dead : (g : _) (c : Then-step g) → (c.in-Some.house < (g.R.Rules.system c.args.rules.now).houses) × (is_waiting c.loop-house.self.waits c.in-Some.house ≡ true)
-    → IsClosing (g.R.Rules.system c.args.rules.now) (board_in c.args.self.now) (after (g.R.Rules.system c.args.rules.now) c.in-Some.house (board_in c.loop-house.self)) Dead
+    → IsClosing (g.R.Rules.system c.args.rules.now) (board_in c.args.self.now)
+    (after (g.R.Rules.system c.args.rules.now) c.in-Some.house (board_in c.loop-house.self))
+    Dead
     (c.loop-house.invariant.running.0 ++ c.in-Some.house ∷ []) 0
 dead g c w =
     let r = c.loop-house.invariant.running in
-    closing-dead _ (g.met.R.Rules.lawful c.args.rules.now) _ r.0 _ _ _ _ c.requires.queue (within_of _ _ c.requires.along.board_of) r.2 w.0 w.1 refl c.if-step.ensures.step
+    closing-dead _ (g.met.R.Rules.lawful c.args.rules.now) _ r.0 _ _ _ _ c.requires.queue
+    (within_of _ _ c.requires.along.board_of) r.2 w.0 w.1 refl c.if-step.ensures.step
 
 -- and so it ends where no house waits
-shut : (g : _) (c : In_default g) → IsClosing (g.R.Rules.system c.args.rules.now) (board_in c.args.self.now) (board_in c.loop-house.self) Open c.loop-house.invariant.running.0 0
+shut : (g : _) (c : In_default g)
+    → IsClosing (g.R.Rules.system c.args.rules.now) (board_in c.args.self.now)
+    (board_in c.loop-house.self) Open c.loop-house.invariant.running.0 0
 shut g c =
     let r = c.loop-house.invariant.running in
     closing-open _ (g.met.R.Rules.lawful c.args.rules.now) _ r.0 _ _ c.requires.queue (within_of _ _ c.requires.along.board_of) r.2
@@ -42,7 +47,8 @@ loop-house-init g c = record {
 }
 
 pub overflow_add-turns : goal.overflow_add-turns
-overflow_add-turns g c = omega (arith, more g (goal.at.overflow_add-turns g c).In-Some, (rw (← c.self.view_is) at c.loop-house.invariant.along.fits).bound_in, c.self.invariant.0.few_turns)
+overflow_add-turns g c =
+    omega (arith, more g (goal.at.overflow_add-turns g c).In-Some, (rw (← c.self.view_is) at c.loop-house.invariant.along.fits).bound_in, c.self.invariant.0.few_turns)
 
 pub step-requires-clause-alive : goal.step-requires-clause-alive
 step-requires-clause-alive g c = running-alive c.loop-house.invariant.running.2
@@ -70,16 +76,23 @@ loop-house-preserved g c =
     }
 
 pub returns-then-step-clause-taken : goal.returns-then-step-clause-taken
-returns-then-step-clause-taken g c = taken-dead (dead g (goal.at.returns-then-step-clause-taken g c).Then-step (picked g (goal.at.returns-then-step-clause-taken g c).In-Some))
+returns-then-step-clause-taken g c =
+    taken-dead (dead g (goal.at.returns-then-step-clause-taken g c).Then-step
+    (picked g (goal.at.returns-then-step-clause-taken g c).In-Some))
 
 pub returns-then-step-clause-turns : goal.returns-then-step-clause-turns
 returns-then-step-clause-turns g c =
     let r = c.loop-house.invariant.running in
-    closed-in (dead g (goal.at.returns-then-step-clause-turns g c).Then-step (picked g (goal.at.returns-then-step-clause-turns g c).In-Some)) (λ _. omega (arith, length-append r.0 (c.in-Some.house ∷ []), r.1)) (λ e. absurd (true≢false (sym c.requires.queue ∙ e)))
+    closed-in (dead g (goal.at.returns-then-step-clause-turns g c).Then-step
+    (picked g (goal.at.returns-then-step-clause-turns g c).In-Some))
+    (λ _. omega (arith, length-append r.0 (c.in-Some.house ∷ []), r.1))
+    (λ e. absurd (true≢false (sym c.requires.queue ∙ e)))
 
 pub returns-clause-taken : goal.returns-clause-taken
 returns-clause-taken g c = taken-open (shut g (goal.at.returns-clause-taken g c).In_default)
 
 pub returns-clause-turns : goal.returns-clause-turns
 returns-clause-turns g c =
-    closed-in (shut g (goal.at.returns-clause-turns g c).In_default) (λ _. c.loop-house.invariant.running.1) (λ e. absurd (true≢false (sym c.requires.queue ∙ e)))
+    closed-in (shut g (goal.at.returns-clause-turns g c).In_default)
+    (λ _. c.loop-house.invariant.running.1)
+    (λ e. absurd (true≢false (sym c.requires.queue ∙ e)))

@@ -16,17 +16,25 @@ struck g c =
 
 -- a sweep that leaves a cell without a value ends the closing
 dead : (g : _) (c : Then-dead g)
-    → IsClosing (g.R.Rules.system c.args.rules.now) (board_in c.args.self.now) (replay (g.R.Rules.system c.args.rules.now) (board_in c.closing.self) (range_with_len 0 (g.R.Rules.system c.args.rules.now).houses)) Dead [] (c.closing.turns + 1)
+    → IsClosing (g.R.Rules.system c.args.rules.now) (board_in c.args.self.now)
+    (replay (g.R.Rules.system c.args.rules.now) (board_in c.closing.self)
+    (range_with_len 0 (g.R.Rules.system c.args.rules.now).houses)) Dead [] (c.closing.turns + 1)
 dead g c =
     let i = c.closing.invariant in
-    swept-dead _ (g.met.R.Rules.lawful c.args.rules.now) _ c.closing.turns _ c.requires.sweeps (within_of _ _ c.requires.along.board_of) i.alive i.swept (c.sweep-dead.ensures.swept.dies c.if-dead.true)
+    swept-dead _ (g.met.R.Rules.lawful c.args.rules.now) _ c.closing.turns _ c.requires.sweeps
+    (within_of _ _ c.requires.along.board_of) i.alive i.swept
+    (c.sweep-dead.ensures.swept.dies c.if-dead.true)
 
 -- and so does one after which no house waits
-shut : (g : _) (c : Then-is_none g) → IsClosing (g.R.Rules.system c.args.rules.now) (board_in c.args.self.now) (board_in c.sweep-dead.new.self) Open [] (c.closing.turns + 1)
+shut : (g : _) (c : Then-is_none g)
+    → IsClosing (g.R.Rules.system c.args.rules.now) (board_in c.args.self.now)
+    (board_in c.sweep-dead.new.self) Open [] (c.closing.turns + 1)
 shut g c =
     let i = c.closing.invariant in
     let next = rw (c.houses.ensures, c.deref.ensures.value) at c.next_waiting.ensures in
-    swept-open _ (g.met.R.Rules.lawful c.args.rules.now) _ c.closing.turns _ _ _ c.requires.sweeps (within_of _ _ c.requires.along.board_of) i.alive i.swept (rw c.if-dead.false at c.sweep-dead.ensures.swept)
+    swept-open _ (g.met.R.Rules.lawful c.args.rules.now) _ c.closing.turns _ _ _ c.requires.sweeps
+    (within_of _ _ c.requires.along.board_of) i.alive i.swept
+    (rw c.if-dead.false at c.sweep-dead.ensures.swept)
     (λ h lt. rw (← c.self.view_is) (none_waits _ c.next_waiting.result next c.if-is_none.ensures lt))
 
 pub closing-init : goal.closing-init
@@ -54,7 +62,9 @@ returns-then-is_none-clause-turns g c =
 
 pub closing-smaller : goal.closing-smaller
 closing-smaller g c =
-    fewer _ _ _ (within_of _ _ c.closing.invariant.along.board_of) (c.sweep-dead.ensures.swept.left c.if-dead.false) (struck g (goal.at.closing-smaller g c).Else-is_none)
+    fewer _ _ _ (within_of _ _ c.closing.invariant.along.board_of)
+    (c.sweep-dead.ensures.swept.left c.if-dead.false)
+    (struck g (goal.at.closing-smaller g c).Else-is_none)
 
 pub closing-preserved : goal.closing-preserved
 closing-preserved g c =
@@ -64,7 +74,10 @@ closing-preserved g c =
     record {
       alive = alive;
       rested = e.swept.rested c.if-dead.false;
-      swept = swept-turn _ _ _ _ _ i.swept (within_of _ _ i.along.board_of) (e.swept.left c.if-dead.false) (struck g (goal.at.closing-preserved g c).Else-is_none) alive;
+      swept =
+          swept-turn _ _ _ _ _ i.swept (within_of _ _ i.along.board_of)
+          (e.swept.left c.if-dead.false) (struck g (goal.at.closing-preserved g c).Else-is_none)
+          alive;
       along = e.along;
       onward = on-more i.onward e.onward;
     }

@@ -24,7 +24,11 @@ returns-then-not-filter_house-clause-step g c =
     let p = g.R.Rules.system c.args.rules.now in
     let r = rw (← c.self.view_is) at c.requires in
     let K = has c.self.inside.trailed.board in
-    let same = kept-none (g.met.R.Rules.lawful c.args.rules.now) r.house_in (within_of p _ r.along.board_of) (rw (c.board-board.ensures, c.if-not-filter_house.true) at c.filter_house.ensures.filtered.kept_are) in
+    let same =
+    kept-none (g.met.R.Rules.lawful c.args.rules.now) r.house_in
+    (within_of p _ r.along.board_of)
+    (rw (c.board-board.ensures, c.if-not-filter_house.true)
+    at c.filter_house.ensures.filtered.kept_are) in
     rw (← c.self.view_is, written-back c.self.inside.waits.len c.dequeue.new.waits _ (omega (arith, c.self.inside.waits.ok.0, c.deref_mut.ensures.len, c.dequeue.auto.waits))) (
       same,
       r.alive,
@@ -39,12 +43,18 @@ returns-clause-step g c =
     let K' = has c.strike.new.self.board in
     let s = c.strike.ensures.struck c.if-strike.false in
     let v = c.self.inside.waits in
-    let cleared = written-back v.len c.dequeue.new.waits (drop (length c.dequeue.new.waits) v.items) (omega (arith, v.ok.0, c.deref_mut.ensures.len, c.dequeue.auto.waits)) in
-    let called = called-same p K' _ _ _ _ (λ j lt. lost-any p _ _ _ (has_place (p.scope j)) s.lost) (rw (c.len-before.ensures.len, c.deref_mut-waits.ensures.value, cleared) at c.wake_since.ensures.called) in
+    let cleared =
+    written-back v.len c.dequeue.new.waits (drop (length c.dequeue.new.waits) v.items)
+    (omega (arith, v.ok.0, c.deref_mut.ensures.len, c.dequeue.auto.waits)) in
+    let called =
+    called-same p K' _ _ _ _ (λ j lt. lost-any p _ _ _ (has_place (p.scope j)) s.lost)
+    (rw (c.len-before.ensures.len, c.deref_mut-waits.ensures.value, cleared)
+    at c.wake_since.ensures.called) in
     rw (← c.self.view_is) (
       s.left,
       s.alive,
-      rw (written-back v.len c.dequeue_if.new.waits _ (omega (arith, v.ok.0, c.deref_mut.ensures.len, c.dequeue.auto.waits, c.deref_mut-waits.ensures.len, c.wake_since.auto.waits, c.dequeue_if.auto.waits)))
+      rw (written-back v.len c.dequeue_if.new.waits _
+          (omega (arith, v.ok.0, c.deref_mut.ensures.len, c.dequeue.auto.waits, c.deref_mut-waits.ensures.len, c.wake_since.auto.waits, c.dequeue_if.auto.waits)))
           (woken-by (rw c.deref_mut.ensures.value at c.dequeue.ensures) called
           (λ j. rw (c.SETTLED.ensures, ← (g.met.R.Rules.settled_is c.args.rules.now)) at (c.dequeue_if.ensures j))),
     )

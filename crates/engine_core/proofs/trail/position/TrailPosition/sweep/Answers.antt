@@ -6,11 +6,15 @@ use Rattle.engine_core.proofs.trail.position.TrailPosition.sweep.Goals as goal
 use Rattle.engine_core.proofs.trail.position.TrailPosition.sweep.Goals.{In-Some}
 
 -- the next house that waits
-picked : (g : _) (c : In-Some g) → IsNext (is_waiting c.loop-house.self.waits) (g.R.Rules.system c.args.rules.now).houses c.loop-house.from (Some c.in-Some.house)
+picked : (g : _) (c : In-Some g)
+    → IsNext (is_waiting c.loop-house.self.waits) (g.R.Rules.system c.args.rules.now).houses
+    c.loop-house.from (Some c.in-Some.house)
 picked g c = rw (← c.self.view_is, ← c.houses.ensures, ← c.deref.ensures.value) c.in-Some.ensures
 
 -- those before it strike nothing
-here : (g : _) (c : In-Some g) → IsSweeping (g.R.Rules.system c.args.rules.now) (board_in c.args.self.now) c.in-Some.house (board_in c.loop-house.self) (is_waiting c.loop-house.self.waits)
+here : (g : _) (c : In-Some g) → IsSweeping (g.R.Rules.system c.args.rules.now)
+    (board_in c.args.self.now) c.in-Some.house (board_in c.loop-house.self)
+    (is_waiting c.loop-house.self.waits)
 here g c = let next = picked g c in sweeping-passed c.loop-house.invariant.sweeping next.0 (omega (arith, next.1)) next.3
 
 pub loop-house-init : goal.loop-house-init

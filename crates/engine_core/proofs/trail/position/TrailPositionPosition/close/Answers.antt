@@ -19,14 +19,20 @@ pub returns-then-has_empty_cell-clause-taken : goal.returns-then-has_empty_cell-
 returns-then-has_empty_cell-clause-taken g c = taken-dead (dead g (goal.at.returns-then-has_empty_cell-clause-taken g c).Then-has_empty_cell)
 
 pub returns-then-has_empty_cell-clause-turns : goal.returns-then-has_empty_cell-clause-turns
-returns-then-has_empty_cell-clause-turns g c = closed-in (dead g (goal.at.returns-then-has_empty_cell-clause-turns g c).Then-has_empty_cell) (λ _. refl) (λ _. refl)
+returns-then-has_empty_cell-clause-turns g c =
+    closed-in (dead g (goal.at.returns-then-has_empty_cell-clause-turns g c).Then-has_empty_cell)
+    (λ _. refl) (λ _. refl)
 
 -- the houses that wait at first
 rested : (g : _) (c : After-wait_from g)
-    → IsRested (g.R.Rules.system c.args.rules.now) (has c.self.inside.trailed.board) (is_waiting (take c.self.inside.waits.len (c.wait_from.new.waits ++ drop (length c.wait_from.new.waits) c.self.inside.waits.items)))
+    → IsRested (g.R.Rules.system c.args.rules.now) (has c.self.inside.trailed.board)
+    (is_waiting (take c.self.inside.waits.len
+    (c.wait_from.new.waits ++ drop (length c.wait_from.new.waits) c.self.inside.waits.items)))
 rested g c =
     let r = rw (← c.self.view_is) at c.requires in
-    rw (written-back c.self.inside.waits.len c.wait_from.new.waits (drop (length c.wait_from.new.waits) c.self.inside.waits.items) (omega (arith, c.self.inside.waits.ok.0, c.deref_mut.ensures.len, c.wait_from.auto.waits)))
+    rw (written-back c.self.inside.waits.len c.wait_from.new.waits
+    (drop (length c.wait_from.new.waits) c.self.inside.waits.items)
+    (omega (arith, c.self.inside.waits.ok.0, c.deref_mut.ensures.len, c.wait_from.auto.waits)))
     (rested_from c.args.from r.closed_but (c.wait_from.ensures.called _ r.walks.along.follows))
 
 pub run_queue-requires-clause-rested : goal.run_queue-requires-clause-rested

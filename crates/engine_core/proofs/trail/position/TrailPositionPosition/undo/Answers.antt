@@ -9,7 +9,8 @@ read : (g : _) (c : After-index g) → c.index.result.now ≡ mark_at c.self.ins
 read g c =
     let r = rw (← c.self.view_is) at c.requires in
     let m = c.self.inside.marks in
-    get_or_read_under m.items c.args.level m.len _ 0 c.index.ensures (omega (arith, r.marked, r.walks.few, r.walks.along.fits.same_cells, c.self.invariant.0.marks_long, m.ok.0)) m.ok.0
+    get_or_read_under m.items c.args.level m.len _ 0 c.index.ensures
+    (omega (arith, r.marked, r.walks.few, r.walks.along.fits.same_cells, c.self.invariant.0.marks_long, m.ok.0)) m.ok.0
 
 pub index-requires : goal.index-requires
 index-requires g c =
@@ -34,7 +35,12 @@ pub returns-clause-walks : goal.returns-clause-walks
 returns-clause-walks g c =
     let r = rw (← c.self.view_is) at c.requires in
     record {
-      along = record { fits = r.walks.along.fits; board_of = IsBoardOf-same r.walks.along.board_of c.undo.ensures.back.shape; follows = c.undo.ensures.follows };
+      along =
+          record {
+            fits = r.walks.along.fits;
+            board_of = IsBoardOf-same r.walks.along.board_of c.undo.ensures.back.shape;
+            follows = c.undo.ensures.follows;
+          };
       few = omega (arith, r.walks.few, r.marked);
       marked = rw c.undo.ensures.back.len (marks-returned r.walks.marked r.marked (read g (goal.at.returns-clause-walks g c).After-index));
     }

@@ -5,7 +5,9 @@ use Rattle.engine_core.proofs.trail.trailed.TrailedBoard.leave.Goals as goal
 use Rattle.engine_core.proofs.trail.trailed.TrailedBoard.leave.Goals.{After-retain}
 
 -- what the change leaves
-noted : (g : _) (c : After-retain g) → IsLeft (g.R.Rules.system c.args.rules.now) c.self.inside.board c.retain.new.self c.self.inside.changes.items c.self.inside.len c.args.place c.args.before c.args.left
+noted : (g : _) (c : After-retain g)
+    → IsLeft (g.R.Rules.system c.args.rules.now) c.self.inside.board c.retain.new.self
+    c.self.inside.changes.items c.self.inside.len c.args.place c.args.before c.args.left
 noted g c =
     let r = rw (← c.self.view_is) at c.requires in
     left-noted _ _ _ _ _ _ _ _ r.board_of c.retain.ensures.shape r.place_in r.before r.left (left-is _ _ _ _ c.retain.ensures.left) r.other c.self.invariant
@@ -22,7 +24,13 @@ overflow_add-self g c =
     omega (arith, trail-len c.self.invariant, v.ok, v.small)
 
 pub change-requires : goal.change-requires
-change-requires g c = record { board = _; changed = _; is_so = rw (← c.self.view_is) at c.requires.follows; change = (noted g (goal.at.change-requires g c).After-retain).change }
+change-requires g c =
+    record {
+      board = _;
+      changed = _;
+      is_so = rw (← c.self.view_is) at c.requires.follows;
+      change = (noted g (goal.at.change-requires g c).After-retain).change;
+    }
 
 pub invariant_of-self : goal.invariant_of-self
 invariant_of-self g c = (noted g (goal.at.invariant_of-self g c).After-retain).trail
@@ -36,7 +44,9 @@ returns-clause-further g c =
     rw (← c.self.view_is) (record { shape = c.retain.ensures.shape; inside = left.inside; grows = omega arith; back = λ m le. left.back m le })
 
 pub returns-clause-follows : goal.returns-clause-follows
-returns-clause-follows g c = c.change.ensures.follows _ _ (rw (← c.self.view_is) at c.requires.follows) (noted g (goal.at.returns-clause-follows g c).After-retain).change
+returns-clause-follows g c =
+    c.change.ensures.follows _ _ (rw (← c.self.view_is) at c.requires.follows)
+    (noted g (goal.at.returns-clause-follows g c).After-retain).change
 
 pub returns-clause-noted : goal.returns-clause-noted
 returns-clause-noted g c =

@@ -13,7 +13,8 @@ in_scope g c = omega (arith, c.requires.sets.as_many)
 
 -- what it is to have left
 left : (g : _) (c : After-left_of-left g)
-    → IsBitsOf (after (g.R.Rules.system c.args.rules.now) c.args.house (has c.args.self.now.board) (slice_index ((g.R.Rules.system c.args.rules.now).scope c.args.house) c.loop-k.k))
+    → IsBitsOf (after (g.R.Rules.system c.args.rules.now) c.args.house (has c.args.self.now.board)
+    (slice_index ((g.R.Rules.system c.args.rules.now).scope c.args.house) c.loop-k.k))
     (g.R.Rules.system c.args.rules.now).values c.left_of-left.result
 left g c = rw c.left_of-left.ensures (kept-left c.requires.sets c.requires.kept (in_scope g c))
 
@@ -54,7 +55,10 @@ loop-k-preserved g c =
     elim c.if-left-sets.branch [
       | then-left-sets+else-left-eq0 w ↦
           let e = w.leave.ensures in
-          let upto : IsUpto (g.R.Rules.system c.args.rules.now) c.args.house (c.loop-k.k + 1) (has c.args.self.now.board) (has w.leave.new.self.board) = rw (e.left, w.scope.ensures) (upto-left _ laws _ _ _ _ _ c.requires.house_in lt within i.upto left) in
+          let upto : IsUpto (g.R.Rules.system c.args.rules.now) c.args.house (c.loop-k.k + 1)
+          (has c.args.self.now.board) (has w.leave.new.self.board) =
+          rw (e.left, w.scope.ensures)
+          (upto-left _ laws _ _ _ _ _ c.requires.house_in lt within i.upto left) in
           rw (w.self-is, w.counts-is) (record {
             upto = upto;
             some = λ j less. elim (cases_eq j c.loop-k.k) [

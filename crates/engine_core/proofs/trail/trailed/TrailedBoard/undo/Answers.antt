@@ -5,17 +5,26 @@ use Rattle.engine_core.proofs.trail.trailed.TrailedBoard.undo.Goals.{After-cell_
 
 -- what taking the last change back leaves
 last_undone : (g : _) (c : After-cell_bits g)
-    → IsUndone (g.R.Rules.system c.args.rules.now) c.args.self.now.board c.loop-self.self-inside.board c.restore_set.new.self c.loop-self.self-inside.changes.items c.loop-self.self-inside.len
+    → IsUndone (g.R.Rules.system c.args.rules.now) c.args.self.now.board
+    c.loop-self.self-inside.board c.restore_set.new.self c.loop-self.self-inside.changes.items
+    c.loop-self.self-inside.len
     c.index.result.now.0 c.cell_bits-before.result c.cell_bits.result
 last_undone g c =
     let i = c.loop-self.invariant in
     let t = c.loop-self.self-inside in
     let few = trail-len i.trail in
     let last = get_or_read_under t.changes.items (t.len - 1) t.changes.len _ _ c.index.ensures (omega (arith, t.changes.ok.0)) t.changes.ok.0 in
-    undone _ _ _ _ _ _ _ _ _ c.requires.board_of i.shape c.restore_set.ensures.shape i.trail (omega arith) last c.restore_set.ensures.left c.cell_bits-before.ensures c.cell_bits.ensures
+    undone _ _ _ _ _ _ _ _ _ c.requires.board_of i.shape c.restore_set.ensures.shape i.trail
+    (omega arith) last c.restore_set.ensures.left c.cell_bits-before.ensures c.cell_bits.ensures
 
 pub change-requires : goal.change-requires
-change-requires g c = record { board = _; changed = _; is_so = c.loop-self.invariant.follows; change = (last_undone g (goal.at.change-requires g c).After-cell_bits).change }
+change-requires g c =
+    record {
+      board = _;
+      changed = _;
+      is_so = c.loop-self.invariant.follows;
+      change = (last_undone g (goal.at.change-requires g c).After-cell_bits).change;
+    }
 
 pub loop-self-preserved : goal.loop-self-preserved
 loop-self-preserved g c =

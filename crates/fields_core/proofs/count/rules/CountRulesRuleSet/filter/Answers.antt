@@ -14,5 +14,7 @@ pub returns-clause-kept : goal.returns-clause-kept
 returns-clause-kept g c = λ K sets. record {
   none = λ e. absurd (true≢false e);
   bits = λ _ k v lt low on. rw (c.keep.ensures k (let e = sets.as_many in omega arith), c.house_bounds-bounds.ensures.bounds)
-      (kept-strikes _ _ K _ c.house_bounds-bounds.ensures.lawful (rw c.of_sets-tally.ensures (sets-tally K _ _ sets.as_many sets.bits)) k v _ lt low (sets.bits k lt) on);
+      (kept-strikes _ _ K _ c.house_bounds-bounds.ensures.lawful
+      (rw c.of_sets-tally.ensures (sets-tally K _ _ sets.as_many sets.bits)) k v _ lt low
+      (sets.bits k lt) on);
 }

@@ -28,11 +28,12 @@ loop-place-init g c =
     let houses = g.P.CountGame.counted c.args.set.now.puzzle in
     let long = length-map houses house_places in
     let scopes = ap (λ (t : Table). length t.scopes) c.requires.table in
-    let ok = c.args.self.now.tallies.ok.0 in
-    (
+    let ok = c.args.self.now.tallies.ok.0 in (
       rw (written c.args.self.now.tallies.len c.count_open.new.tallies _ (omega (arith, ok, c.deref_mut.ensures.len, c.count_open.ensures.as_many)))
-      (unread-tallied (has c.args.board.now) (counted-table c.args.set.now.counting.are_houses)
-      (omega (arith, c.count_open.ensures.as_many, c.deref_mut.ensures.len, c.requires.served)) (λ h lt. rw (c.requires.table, places-at houses h) at (c.count_open.ensures.counted h (omega arith)))),
+          (unread-tallied (has c.args.board.now) (counted-table c.args.set.now.counting.are_houses)
+          (omega (arith, c.count_open.ensures.as_many, c.deref_mut.ensures.len, c.requires.served))
+          (λ h lt. rw (c.requires.table, places-at houses h)
+          at (c.count_open.ensures.counted h (omega arith)))),
       λ needs served. served,
     )
 
@@ -72,5 +73,6 @@ pub returns-clause-follows : goal.returns-clause-follows
 returns-clause-follows g c =
     let cells = g.P.CountGame.board c.args.set.now.puzzle in
     subst (AreTallied cells (g.P.CountGame.counted c.args.set.now.puzzle) c.loop-place.self.tallies.items)
-    (read-whole (has c.args.board.now) c.loop-place.place (omega (arith, c.loop-place-test.false, c.cells-place-end.ensures, ap (λ (t : Table). t.cells) c.requires.table))
+    (read-whole (has c.args.board.now) c.loop-place.place
+    (omega (arith, c.loop-place-test.false, c.cells-place-end.ensures, ap (λ (t : Table). t.cells) c.requires.table))
     (board-within c.args.board.now c.requires.board_of.same_cells c.requires.board_of.same_values)) c.loop-place.invariant.0
