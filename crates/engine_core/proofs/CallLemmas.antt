@@ -34,10 +34,10 @@ upto-next test n k j on number = grind (arith, common_steps, and_from, and_left,
 
 -- the next one is marked
 pub upto-marked : {p : RuleSystem} {K : Candidates} (test : ℕ → Bool) {before : ℕ → Bool}
-    (now : ℕ → Bool) {after : ℕ → Bool} (n k : ℕ) → test n ≡ true → count_below test n ≡ k
+    {now after : ℕ → Bool} (n k : ℕ) → test n ≡ true → count_below test n ≡ k
     → ((j : ℕ) → after j ≡ (now j || eqb j n))
     → AreCalled p K (asked_upto test k) before now → AreCalled p K (asked_upto test (k + 1)) before after
-upto-marked test now n k on number marks a = grind (arith, common_steps, called-more, called-same, or_left, or_right, upto-next)
+upto-marked test n k on number marks a = grind (arith, common_steps, called-more, called-same, or_left, or_right, upto-next)
 
 -- or it strikes nothing
 pub upto-idle : (p : RuleSystem) (K : Candidates) (test before now : ℕ → Bool) (n k : ℕ) → test n ≡ true → count_below test n ≡ k → IsIdle p n K
@@ -51,7 +51,7 @@ pub upto-asked : (p : RuleSystem) (K : Candidates) (test : ℕ → Bool) {before
     (n k : ℕ) (called : Bool) → test n ≡ true → count_below test n ≡ k
     → (called ≡ false → IsIdle p n K)
     → ((j : ℕ) → after j ≡ (now j || (called && eqb j n))) → AreCalled p K (asked_upto test k) before now → AreCalled p K (asked_upto test (k + 1)) before after
-upto-asked p K test {now} n k true on number idle marks a = upto-marked test now n k on number marks a
+upto-asked p K test {now} n k true on number idle marks a = upto-marked test n k on number marks a
 upto-asked p K test {before} {after} n k false on number idle marks a = upto-idle p K test before after n k on number (idle refl) (grind (arith, common_steps))
 
 pub upto-all : {p : RuleSystem} {K : Candidates} {test before now : ℕ → Bool} (k : ℕ)
@@ -60,10 +60,10 @@ pub upto-all : {p : RuleSystem} {K : Candidates} {test before now : ℕ → Bool
 upto-all k le a = grind (arith, common_steps, and_from, and_left, called-same, counted, lt-ltb)
 
 -- ---- the cells of a house one after another
-pub called-first : (p : RuleSystem) (h : ℕ) (K K' : Candidates) {waits : ℕ → Bool}
+pub called-first : {p : RuleSystem} (h : ℕ) (K K' : Candidates) {waits : ℕ → Bool}
     → AreCalled p K' (λ j. any_below (calls p h (counts_of p h K) K' j) 0) waits waits
 unfolding any_below
-called-first p h K K' = called-none (λ j lt. refl)
+called-first h K K' = called-none (λ j lt. refl)
 
 pub called-then : (p : RuleSystem) (h : ℕ) (K K' : Candidates) (k place : ℕ) (before now after : ℕ → Bool) → place ≡ slice_index (p.scope h) k
     → (count_below (K (slice_index (p.scope h) k)) p.values ≡ count_below (K' (slice_index (p.scope h) k)) p.values → ⊥)
@@ -98,14 +98,14 @@ pub called-from : {p : RuleSystem} {K : Candidates} {called called' before now :
 called-from none same a = grind (arith, common_steps)
 
 -- ---- the houses that pass a test, up to a number
-pub before-first : (p : RuleSystem) (K : Candidates) (test waits : ℕ → Bool) → AreCalled p K (λ j. test j && ltb j 0) waits waits
-before-first p K test waits = called-none (λ j lt. and_right (test j) _ (le-ltb j 0 (omega arith)))
+pub before-first : {p : RuleSystem} {K : Candidates} (test : ℕ → Bool) {waits : ℕ → Bool} → AreCalled p K (λ j. test j && ltb j 0) waits waits
+before-first test = called-none (λ j lt. and_right (test j) _ (le-ltb j 0 (omega arith)))
 
 -- the next one is marked
-pub before-marked : (p : RuleSystem) (K : Candidates) (test before now after : ℕ → Bool)
+pub before-marked : {p : RuleSystem} (K : Candidates) (test : ℕ → Bool) {before now after : ℕ → Bool}
     (from n : ℕ) → IsNext test p.houses from (Some n) → ((j : ℕ) → after j ≡ (now j || eqb j n))
     → AreCalled p K (λ j. test j && ltb j from) before now → AreCalled p K (λ j. test j && ltb j (n + 1)) before after
-before-marked p K test before now after from n next marks a =
+before-marked {p} K test {before} {now} {after} from n next marks a =
     called-same p K _ _ before after (λ j lt. one (test j) j lt)
     (called-more p K (λ j. test j && ltb j from) (λ j. eqb j n) before now after a
     (grind (arith, common_steps, or_left, or_right)))
@@ -126,9 +126,9 @@ pub record IsMarking (p : RuleSystem) (h : ℕ) (K K' : Candidates) (k : ℕ) (b
   pub called : AreCalled p K' (λ j. any_below (calls p h (counts_of p h K) K' j) k) before now
   pub dead_is : dead ≡ any_below (empties p h (counts_of p h K) K') k
 
-pub marking-first : (p : RuleSystem) (h : ℕ) (K K' : Candidates) (waits : ℕ → Bool) → IsMarking p h K K' 0 waits waits false
+pub marking-first : {p : RuleSystem} {h : ℕ} (K K' : Candidates) {waits : ℕ → Bool} → IsMarking p h K K' 0 waits waits false
 unfolding any_below
-marking-first p h K K' waits = record { called = called-first p h K K'; dead_is = refl }
+marking-first {h} K K' = record { called = called-first h K K'; dead_is = refl }
 
 module _ {p : RuleSystem} {h : ℕ} {K K' : Candidates} {k place set bits : ℕ} {before now : ℕ → Bool} {dead : Bool} (at : place ≡ slice_index (p.scope h) k)
     (was : IsBitsOf (K (slice_index (p.scope h) k)) p.values set)
@@ -138,11 +138,11 @@ module _ {p : RuleSystem} {h : ℕ} {K K' : Candidates} {k place set bits : ℕ}
   here = rw (← at) is
 
   -- a cell with another set calls for its houses
-  pub marking-then : (after : ℕ → Bool) (dead' : Bool) → (bits ≡ set → ⊥)
+  pub marking-then : {after : ℕ → Bool} {dead' : Bool} → (bits ≡ set → ⊥)
       → AreCalled p K' (λ j. has_place (p.scope j) place) now after → dead' ≡ (dead || eqb bits 0)
       → IsMarking p h K K' (k + 1) before after dead'
   unfolding counts_of
-  marking-then after dead' ne a e =
+  marking-then {after} ne a e =
       let differ = counts-differ was here (λ v. inside _ v) ne in
       record {
         called = called-then p h K K' k place before now after at differ m.called a;
@@ -153,5 +153,5 @@ module _ {p : RuleSystem} {h : ℕ} {K K' : Candidates} {k place set bits : ℕ}
   pub marking-else : bits ≡ set → IsMarking p h K K' (k + 1) before now dead
   unfolding counts_of
   marking-else e =
-      let same = counts-same _ _ p.values set bits was here e in
+      let same = counts-same p.values set bits was here e in
       record { called = called-else h K K' k same m.called; dead_is = empties_else p h (counts_of p h K) K' k refl m.dead_is same }

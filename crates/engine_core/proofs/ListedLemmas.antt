@@ -14,8 +14,8 @@ use Rattle.engine_core.proofs.Common.{has_place-here, inl, inr, is_waiting, kept
 use Rattle.engine_core.proofs.Common.{true≢false, ℕ, ◌&&◌, ◌<◌, ◌≡◌, ◌≤◌, ◌∙◌}
 
 -- the lists are of different places of the board
-pub scopes-fit : (p : RuleSystem) {scopes : List (List ℕ)} → IsLawful p → AreScopesOf p scopes → AreScopes p.cells scopes
-scopes-fit p laws are h lt =
+pub scopes-fit : {p : RuleSystem} {scopes : List (List ℕ)} → IsLawful p → AreScopesOf p scopes → AreScopes p.cells scopes
+scopes-fit {p} laws are h lt =
     let lh : h < p.houses = omega (arith, are.as_many) in
     let is : IsScope p.cells (p.scope h) = record {
       within = λ k lk. laws.scope_within h _ lh (has_place-here (p.scope h) k lk);
@@ -70,11 +70,11 @@ module _ {p : RuleSystem} {scopes : List (List ℕ)} {table : Table} (listed : t
     }
 
 -- the board that is left where the cells of a house keep what is kept of their sets
-pub kept-after : (p : RuleSystem) (laws : IsLawful p) {h : ℕ} {K : Candidates} {kept : List ℕ}
+pub kept-after : {p : RuleSystem} (laws : IsLawful p) {h : ℕ} {K : Candidates} {kept : List ℕ}
     → h < p.houses → IsWithin p.cells p.values K → IsKept p h K true kept
     → kept_in (p.scope h) kept (length (p.scope h)) K ≡ after p h K
 unfolding kept_in strikes_at after
-kept-after p laws {h} {K} {kept = kept} lth within is = fun_ext λ c. fun_ext λ v. elim (cases_Bool (K c v)) [
+kept-after {p} laws {h} {K} {kept = kept} lth within is = fun_ext λ c. fun_ext λ v. elim (cases_Bool (K c v)) [
   | inr off ↦ rw off refl
   | inl on ↦ ap (λ b. K c v && not b) (elim (cases_Bool (has_place (p.scope h) c)) [
     | inr out ↦ false_from_ne_true _ (λ struck. true≢false (sym (strikes_at-in_scope p.values (p.scope h) drops K c v struck) ∙ out))

@@ -11,22 +11,22 @@ use Rattle.engine_core.proofs.ScopeLemmas.{IsUpto, upto-next}
 use Rattle.engine_core.proofs.SetLemmas.{counts-differ}
 
 -- a cell that is left alone has as many values as before
-counts-left : (p : RuleSystem) (h j place left : ℕ) (L : Candidates)
+counts-left : (p : RuleSystem) (h j : ℕ) {place : ℕ} (left : ℕ) (L : Candidates)
     → slice_index (p.scope h) j ≢ place → counts_of p h (left_by L place left) j ≡ counts_of p h L j
 unfolding counts_of
-counts-left p h j place left L ne = count_below-same _ _ p.values (λ v lt. left-others L place left _ v ne)
+counts-left p h j left L ne = count_below-same _ _ p.values (λ v lt. left-others L left _ v ne)
 
 -- the next cell loses a value, which is noted
-pub lost-more : (p : RuleSystem) (laws : IsLawful p) (h k : ℕ) (A B C : Trail) {before : ℕ}
+pub lost-more : {p : RuleSystem} (laws : IsLawful p) {h k : ℕ} {A B C : Trail} {before : ℕ}
     (left : ℕ) → h < p.houses → k < length (p.scope h) → A.len ≤ B.len → C.len ≡ B.len + 1
     → change_at C.changes B.len ≡ (slice_index (p.scope h) k, before) → ((m : ℕ) → m < B.len → change_at C.changes m ≡ change_at B.changes m)
     → has C.board ≡ left_by (has B.board) (slice_index (p.scope h) k) left → counts_of p h (has A.board) k ≢ counts_of p h (has C.board) k
     → AreLost p h k A B → AreLost p h (k + 1) A C
-lost-more p laws h k A B C left lth lt grows longer noted earlier board ne i = record { only = only; all = all }
+lost-more {p} laws {h} {k} {A} {B} {C} left lth lt grows longer noted earlier board ne i = record { only = only; all = all }
   where
     same : (j : ℕ) → j < k → counts_of p h (has C.board) j ≡ counts_of p h (has B.board) j
     same j less = ap (λ L. counts_of p h L j) board
-        ∙ counts-left p h j _ left (has B.board)
+        ∙ counts-left p h j left (has B.board)
         (λ e. let is = laws.scope_distinct h j k lth (omega arith) lt e in omega arith)
 
     only : (m : ℕ) → A.len ≤ m → m < C.len
@@ -44,19 +44,19 @@ lost-more p laws h k A B C left lth lt grows longer noted earlier board ne i = r
     ]
 
 -- of which another set is left
-pub lost-differ : (p : RuleSystem) (h k : ℕ) (K L : Candidates) (set left : ℕ) → IsUpto p h (k + 1) K L → IsBitsOf (K (slice_index (p.scope h) k)) p.values set
+pub lost-differ : {p : RuleSystem} {h : ℕ} (k : ℕ) {K L : Candidates} {set left : ℕ} → IsUpto p h (k + 1) K L → IsBitsOf (K (slice_index (p.scope h) k)) p.values set
     → IsBitsOf (after p h K (slice_index (p.scope h) k)) p.values left → left ≢ set → counts_of p h K k ≢ counts_of p h L k
 unfolding counts_of
-lost-differ p h k K L set left upto was is ne =
+lost-differ {p} {h} k {K} upto was is ne =
     let same = fun_ext (λ v. upto.done k v (omega arith)) in
     counts-differ was (rw same is) (λ v on. after_inside p h K _ v (rw same at on)) ne
 
 -- or it loses none
-pub lost-same : (p : RuleSystem) (laws : IsLawful p) (h k : ℕ) (A B : Trail) → h < p.houses
+pub lost-same : {p : RuleSystem} (laws : IsLawful p) {h k : ℕ} {A B : Trail} → h < p.houses
     → k < length (p.scope h) → IsUpto p h k (has A.board) (has B.board) → AreLost p h k A B
     → AreLost p h (k + 1) A B
 unfolding counts_of
-lost-same p laws h k A B lth lt upto i =
+lost-same {p} laws {h} {k} {A} {B} lth lt upto i =
     let same : counts_of p h (has B.board) k ≡ counts_of p h (has A.board) k = ap (λ f. count_below f p.values) (upto-next laws lth lt upto) in
     record {
       only = λ m a b. let w = i.only m a b in (w.0, omega (arith, w.1), w.2, w.3);
@@ -71,10 +71,10 @@ any-same : (p q : ℕ → Bool) (m n : ℕ) → ((k : ℕ) → k < m → p k ≡
     → ((k : ℕ) → k < n → q k ≡ true → any_below p m ≡ true) → any_below p m ≡ any_below q n
 any-same p q m n there back = grind (arith, common_steps, any_below-some p m, any_below-some q n, cases_Bool (any_below p m), cases_Bool (any_below q n))
 
-pub lost-any : (p : RuleSystem) {h : ℕ} (n : ℕ) (A B : Trail) (asks : ℕ → Bool) → AreLost p h n A B
+pub lost-any : (p : RuleSystem) {h n : ℕ} {A B : Trail} (asks : ℕ → Bool) → AreLost p h n A B
     → any_below (λ m. nat_le A.len m && asks (change_at B.changes m).0) B.len
     ≡ any_below (λ k. not (counts_of p h (has A.board) k == counts_of p h (has B.board) k) && asks (slice_index (p.scope h) k)) n
-lost-any p {h} n A B asks lost = any-same _ _ B.len n
+lost-any p {h} {n} {A} {B} asks lost = any-same _ _ B.len n
     (λ m lt on.
     let both = and_parts (nat_le A.len m) (asks (change_at B.changes m).0) on in
     let w = lost.only m (leb-true A.len m both.0) lt in

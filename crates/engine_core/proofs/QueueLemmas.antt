@@ -157,8 +157,8 @@ any_below-more p n = rw add-one refl
 or_false : {x : Bool} → (x || false) ≡ x
 or_false = grind (arith, common_steps)
 
-pub unwoken : (x : Bool) → x ≡ (x || false)
-unwoken x = sym or_false
+pub unwoken : {x : Bool} → x ≡ (x || false)
+unwoken = sym or_false
 
 -- a cell that lost values is empty where it has none, and one that lost none counts for nothing
 pub empties_then : (p : RuleSystem) (h : ℕ) (before : ℕ → ℕ) (K : Candidates) (k : ℕ)
@@ -197,8 +197,8 @@ pub turn_rested : {p : RuleSystem} (laws : IsLawful p) {h : ℕ} {K K' : Candida
     → IsWoken p h K K' waits waits' → IsRested p K waits → IsRested p K' waits'
 turn_rested laws lth within e woke rested = grind (arith, common_steps, cases_Bool, rested_after)
 
-pub pushed : (t : List ℕ) (n h : ℕ) → n < length t → take (n + 1) (set t n h) ≡ take n t ++ h ∷ []
-pushed t n h lt = rw add-one (take-suc-set t n h lt)
+pub pushed : (t : List ℕ) {n : ℕ} (h : ℕ) → n < length t → take (n + 1) (set t n h) ≡ take n t ++ h ∷ []
+pushed t {n} h lt = rw add-one (take-suc-set t n h lt)
 
 pub IsBoardOf-same : {p : RuleSystem} {b b' : Layout} → IsBoardOf p b → SameShape b b' → IsBoardOf p b'
 IsBoardOf-same of same = record { same_cells = same.same_cells ∙ of.same_cells; same_values = same.same_values ∙ of.same_values }

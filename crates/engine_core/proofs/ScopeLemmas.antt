@@ -39,10 +39,10 @@ pub upto-cell : {p : RuleSystem} (laws : IsLawful p) {h k : ℕ} {K L : Candidat
     (slice_index (p.scope h) k)
 upto-cell {p} laws {h} {K} {L} {left} lth lt within i is = fun_ext λ v. left-cell p h K L _ left v within (upto-next laws lth lt i) is
 
-pub upto-left : (p : RuleSystem) (laws : IsLawful p) (h k : ℕ) (K L : Candidates) (left : ℕ)
+pub upto-left : {p : RuleSystem} (laws : IsLawful p) {h k : ℕ} {K L : Candidates} {left : ℕ}
     → h < p.houses → k < length (p.scope h) → IsWithin p.cells p.values K
     → IsUpto p h k K L → IsBitsOf (after p h K (slice_index (p.scope h) k)) p.values left → IsUpto p h (k + 1) K (left_by L (slice_index (p.scope h) k) left)
-upto-left p laws h k K L left lth lt within i is = upto-more p laws h k lth lt i (upto-cell laws lth lt within i is) (left-others L _ left)
+upto-left {p} laws {h} {k} {L} {left} lth lt within i is = upto-more p laws h k lth lt i (upto-cell laws lth lt within i is) (left-others L left)
 
 -- or it loses nothing
 same-cell : (p : RuleSystem) (h : ℕ) {K : Candidates} (c bits v : ℕ) → IsWithin p.cells p.values K
@@ -50,15 +50,15 @@ same-cell : (p : RuleSystem) (h : ℕ) {K : Candidates} (c bits v : ℕ) → IsW
     → K c v ≡ after p h K c v
 same-cell p h c bits v within was is = grind (arith, common_steps, cases_Bool, after_inside)
 
-pub upto-same : (p : RuleSystem) (laws : IsLawful p) (h k : ℕ) (K L : Candidates) (bits : ℕ)
+pub upto-same : {p : RuleSystem} (laws : IsLawful p) {h k : ℕ} {K L : Candidates} {bits : ℕ}
     → h < p.houses → k < length (p.scope h) → IsWithin p.cells p.values K
     → IsUpto p h k K L → IsBitsOf (K (slice_index (p.scope h) k)) p.values bits
     → IsBitsOf (after p h K (slice_index (p.scope h) k)) p.values bits → IsUpto p h (k + 1) K L
-upto-same p laws h k K L bits lth lt within i was is =
+upto-same {p} laws {h} {k} {bits} lth lt within i was is =
     upto-more p laws h k lth lt i (upto-next laws lth lt i ∙ fun_ext (λ v. same-cell p h _ bits v within was is)) (λ c v ne. refl)
 
 -- once all cells of the house are done, the board is as after the visit
-pub upto-all : (p : RuleSystem) (laws : IsLawful p) {h : ℕ} (K L : Candidates) → h < p.houses → IsUpto p h (length (p.scope h)) K L → L ≡ after p h K
-upto-all p laws {h} K L lth i = fun_ext λ c. fun_ext λ v.
+pub upto-all : {p : RuleSystem} (laws : IsLawful p) {h : ℕ} {K L : Candidates} → h < p.houses → IsUpto p h (length (p.scope h)) K L → L ≡ after p h K
+upto-all {p} laws {h} {K} lth i = fun_ext λ c. fun_ext λ v.
     let outside = after-outside laws K c v lth in
     grind (arith, common_steps, cases_Bool (has_place (p.scope h) c), has_place-at (p.scope h) c, has_place-here (p.scope h), after_inside p h K c v)

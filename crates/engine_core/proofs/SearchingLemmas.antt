@@ -60,7 +60,7 @@ module _ {p : RuleSystem} {from at : Progress} {all : List Mark} {trials : ℕ} 
         sofar = s.sofar ++ (now.depth, mid.board) ∷ [];
         split = s.split ∙ ap (λ ts. s.sofar ++ ts) rest ∙ sym (append_assoc s.sofar ((now.depth, mid.board) ∷ []) _);
         count = length_push s.sofar (now.depth, mid.board) ∙ ap (λ n. n + 1) s.count;
-        closed = rw (boards-push s.sofar now.depth mid.board, sum) (turns-push (boards_of s.sofar) _ _ s.closed turned.closed);
+        closed = rw (boards-push s.sofar now.depth mid.board, sum) (turns-push (boards_of s.sofar) _ s.closed turned.closed);
         grows = let a = s.grows in let c = turned.grows in omega arith;
         deep = let push = deepest-push s.sofar now.depth mid.board in let deep = s.deep in omega arith;
       }

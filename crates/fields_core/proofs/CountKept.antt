@@ -124,9 +124,9 @@ module _ (cells : ℕ) (house : CountHouse) (K : Candidates) (t : Tally) (is : I
           (let n = tally.may_is in omega (arith, w.0)) (let m = tally.must_is in omega (arith, w.1))) ∙ sym free)
 
   -- ---- the board after a visit
-  pub after-at : (k v : ℕ) → k < length house.places → v < 2 → after_house house K (at k) v ≡ (K (at k) v && stays t (bounds_of house) (is_open K (at k)) v)
+  pub after-at : {k v : ℕ} → k < length house.places → v < 2 → after_house house K (at k) v ≡ (K (at k) v && stays t (bounds_of house) (is_open K (at k)) v)
   unfolding after_house strikes_of
-  after-at k v lt low =
+  after-at {k} {v} lt low =
       ap (λ b. K (at k) v && not b)
       (strikes_at-place 2 house.places (strikes_by_fillings (counts_between house.least house.most))
       K k v is.different lt) ∙ stays-at k v lt low
@@ -138,7 +138,7 @@ module _ (cells : ℕ) (house : CountHouse) (K : Candidates) (t : Tally) (is : I
     | inr out ↦ off-scope house K c v out
     | inl here ↦ let w = has_place-at house.places c here in
         rw (sym w.2) (by (K (at w.0) v) _ (rw (sym w.2) at on)
-        (after-at w.0 v w.1 low ∙ stays-all w.0 v w.1))
+        (after-at w.1 low ∙ stays-all w.0 v w.1))
   ]
     where
       by : (a b : Bool) → a ≡ true → (a && not b) ≡ a → b ≡ false
@@ -196,12 +196,12 @@ pub kept-bits : (t : Tally) (b : Bounds) (K : Candidates) (c bits v : ℕ) → I
 kept-bits t b K c bits v is low = grind (arith, common_steps, kept-table, all-set)
 
 -- a value that a cell has stays exactly where its bit is kept
-pub kept-strikes : (cells : ℕ) (house : CountHouse) (K : Candidates) (t : Tally)
-    → IsHouse cells house → IsTally K house.places t → (k v bits : ℕ) → k < length house.places
+pub kept-strikes : {cells : ℕ} {house : CountHouse} (K : Candidates) {t : Tally}
+    → IsHouse cells house → IsTally K house.places t → (k v : ℕ) {bits : ℕ} → k < length house.places
     → v < 2
     → IsBitsOf (K (slice_index house.places k)) 2 bits → K (slice_index house.places k) v ≡ true
     → has_bit (kept_of t (bounds_of house) bits) v ≡ not
     (strikes_of house K (slice_index house.places k) v)
 unfolding after_house
-kept-strikes cells house K t is tally k v bits lt low of on =
-    kept-bits t (bounds_of house) K (slice_index house.places k) bits v of low ∙ sym (after-at cells house K t is tally k v lt low) ∙ rw on refl
+kept-strikes {cells} {house} K {t} is tally k v {bits} lt low of on =
+    kept-bits t (bounds_of house) K (slice_index house.places k) bits v of low ∙ sym (after-at cells house K t is tally lt low) ∙ rw on refl

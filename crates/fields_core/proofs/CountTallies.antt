@@ -63,10 +63,10 @@ counts-as f g (x ∷ xs) (y ∷ ys) e same =
     omega (arith, count-cons f x xs, count-cons g y ys)
 
 -- the sets of a house's cells have the house's tally
-pub sets-tally : (K : Candidates) (places sets : List ℕ) → length sets ≡ length places
+pub sets-tally : (K : Candidates) {places : List ℕ} (sets : List ℕ) → length sets ≡ length places
     → ((k : ℕ) → k < length places → IsBitsOf (K (slice_index places k)) 2 (slice_index sets k))
     → IsTally K places (tally_of sets)
-sets-tally K places sets long bits = record {
+sets-tally K {places} sets long bits = record {
   must_is = counts-as (λ b. not (has_bit b 0)) (λ c. not (K c 0)) sets places long (λ k lt. (bits-counted K _ (bits k (omega arith))).0);
   may_is = counts-as (λ b. has_bit b 1) (λ c. K c 1) sets places long (λ k lt. (bits-counted K _ (bits k (omega arith))).1);
   empty_is = counts-as (λ b. eqb b 0) (is_empty K) sets places long (λ k lt. (bits-counted K _ (bits k (omega arith))).2);
@@ -231,10 +231,10 @@ module _ (cells : ℕ) (scopes : List (List ℕ)) (houses : List CountHouse)
     ];
   }
 
-pub moved-end : (old new : List Tally) (listed : List ℕ) (before after n : ℕ)
+pub moved-end : {old new : List Tally} {listed : List ℕ} {before after n : ℕ}
     → AreMovedBelow old new listed before after n → n ≤ length listed → length listed ≤ n
     → AreMovedBelow old new listed before after (length listed)
-moved-end old new listed before after n m le ge = let e : n ≡ length listed = omega arith in subst (AreMovedBelow old new listed before after) e m
+moved-end {old} {new} {listed} {before} {after} {n} m le ge = let e : n ≡ length listed = omega arith in subst (AreMovedBelow old new listed before after) e m
 
 -- ---- a house that does not call strikes nothing, by the bounds that a table has for it
 pub idle-by : {cells : ℕ} {house : CountHouse} {t : Tally} {b : Bounds} {calls : Bool}

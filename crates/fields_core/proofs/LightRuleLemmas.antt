@@ -81,9 +81,9 @@ rule-sees : {p : Light} {a b : ℕ} → 0 < p.size.w → Sees p a b → sees p a
 unfolding sees
 rule-sees pos is = grind (arith, common_steps, and_from, ne_eqb, or_left, joined-row, or_right, joined-column)
 
-bulb-rule : (p : Light) (g : List ℕ) (c : ℕ) → 0 < p.size.w → sees_bulb p g c ≡ true → SeesBulb p g c
+bulb-rule : {p : Light} {g : List ℕ} {c : ℕ} → 0 < p.size.w → sees_bulb p g c ≡ true → SeesBulb p g c
 unfolding sees_bulb
-bulb-rule p g c pos on = grind (arith, common_steps, any_below-some, and_parts, sees-rule)
+bulb-rule pos on = grind (arith, common_steps, any_below-some, and_parts, sees-rule)
 
 rule-bulb : (p : Light) (g : List ℕ) (c : ℕ) → 0 < p.size.w → SeesBulb p g c → sees_bulb p g c ≡ true
 unfolding sees_bulb
@@ -114,7 +114,7 @@ rule-from-test p g grid on =
         | inl black ↦ absurd (true≢false (sym is_white ∙ not-true (white p c) black))
         | inr lit ↦ elim (or_cases (bulb g c) (sees_bulb p g c) lit) [
           | inl here ↦ inl here
-          | inr seen ↦ inr (bulb-rule p g c (some-column p lt) seen)
+          | inr seen ↦ inr (bulb-rule (some-column p lt) seen)
         ]
       ];
     }
@@ -159,7 +159,7 @@ module _ (p : Light) (g : List ℕ) where
     seen-made : IsMade (FailsLight p g) seen
     unfolding bulb_right
     seen-made = record {
-      failed = λ c lt off. let parts = and_parts (bulb g c) (sees_bulb p g c) (not-false _ off) in (parts.0, bulb-rule p g c (some-column p lt) parts.1);
+      failed = λ c lt off. let parts = and_parts (bulb g c) (sees_bulb p g c) (not-false _ off) in (parts.0, bulb-rule (some-column p lt) parts.1);
       held = λ c lt on (bulb_on, one). not-alone on bulb_on (rule-bulb p g c (some-column p lt) one);
     }
 
@@ -198,7 +198,7 @@ module _ (p : Light) (g : List ℕ) where
     pub light-known : AllByRecursion (IsKnown (FailsLight p g)) (light_tests p)
     light-known = known_tests (FailsLight p g) kinds light-made
 
-    pub light-tells : (fault : Option LightFault) (told : Bool) → IsLightFault p g fault → is_some fault ≡ not told → told ≡ solves_lights p g
-    light-tells fault told is e =
+    pub light-tells : (fault : Option LightFault) {told : Bool} → IsLightFault p g fault → is_some fault ≡ not told → told ≡ solves_lights p g
+    light-tells fault {told} is e =
         none_tells (FailsLight p g) (light_tests p) light-none told (solves_lights p g)
         (rule-from-test p g grid) test-from-rule fault is e

@@ -26,9 +26,9 @@ module _ (white bulb : ℕ → Bool) (at : ℕ) {low high next : ℕ} (k : ℕ) 
 whole : (c w : ℕ) → c ≡ c / w * w + c % w
 whole c w = omega arith
 
-pub row-sees : (p : Light) (g : List ℕ) {c : ℕ} (w : ℕ) (b : Bool) → 0 < w → w ≡ p.size.w → c < light_cells p
+pub row-sees : (p : Light) (g : List ℕ) {c w : ℕ} (b : Bool) → 0 < w → w ≡ p.size.w → c < light_cells p
     → ShinesAlong (λ i. white p (c - c % w + i * 1)) (λ i. bulb g (c - c % w + i * 1)) (c % w) w b → SeesAlong (joined_in_row p) (light_cells p) g c b
-row-sees p g {c} w b some e in_grid s = by b s
+row-sees p g {c} {w} b some e in_grid s = by b s
   where
     same : (i : ℕ) → c - c % w + i * 1 ≡ c / p.size.w * p.size.w + i
     same i = rw (sym e) (let f = whole c w in omega arith)
@@ -52,9 +52,9 @@ row-sees p g {c} w b some e in_grid s = by b s
         let here : c - c % w + d % w * 1 ≡ d = same (d % w) ∙ rw (v.0, e) (sym (whole d p.size.w)) in
         ap (bulb g) (sym here) ∙ s (d % w) (mod-lt d some) (λ f. ne (let u = whole c w in let t = here in omega arith)) (test (d % w) ∙ rw e v.1)
 
-pub column-sees : (p : Light) (g : List ℕ) (c w h : ℕ) (b : Bool) → 0 < w → w ≡ p.size.w → h ≡ p.size.h
+pub column-sees : (p : Light) (g : List ℕ) (c : ℕ) {w h : ℕ} (b : Bool) → 0 < w → w ≡ p.size.w → h ≡ p.size.h
     → ShinesAlong (λ i. white p (c % w + i * w)) (λ i. bulb g (c % w + i * w)) (c / w) h b → SeesAlong (joined_in_column p) (light_cells p) g c b
-column-sees p g c w h b some e f s = by b s
+column-sees p g c {w} {h} b some e f s = by b s
   where
     same : (i : ℕ) → c % w + i * w ≡ i * p.size.w + c % p.size.w
     same i = rw (sym e) (omega arith)

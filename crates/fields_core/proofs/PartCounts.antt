@@ -42,12 +42,12 @@ count-apart a b t (suc n) apart =
     let here = apart n (omega arith) in
     grind (arith, common_steps, cases_Bool (a n), cases_Bool (b n), cases_Bool (t n))
 
-count-past : (p : ℕ → Bool) (n room : ℕ) → n ≤ room → ((k : ℕ) → n ≤ k → p k ≡ false) → count_below p room ≡ count_below p n
+count-past : (p : ℕ → Bool) {n : ℕ} (room : ℕ) → n ≤ room → ((k : ℕ) → n ≤ k → p k ≡ false) → count_below p room ≡ count_below p n
 unfolding count_below
-count-past p n zero le off = let e : n ≡ 0 = omega arith in rw e refl
-count-past p n (suc room) le off = elim (cases_eq n (suc room)) [
+count-past p {n} zero le off = let e : n ≡ 0 = omega arith in rw e refl
+count-past p {n} (suc room) le off = elim (cases_eq n (suc room)) [
   | inl e ↦ rw e refl
-  | inr ne ↦ rw (off room (omega arith)) (omega (arith, count-past p n room (omega arith) off))
+  | inr ne ↦ rw (off room (omega arith)) (omega (arith, count-past p room (omega arith) off))
 ]
 
 -- ---- the cells of a line
@@ -93,11 +93,11 @@ pub line-count : (size : Extent) (line : Line) (bits room : ℕ)
     → count_below (has_bit bits) room ≡ count_below (λ c. crosses line bits (c / size.w) (c % size.w)) (size.w * size.h)
 line-count size (Row y) bits room lt fits within =
     let e : size.w * size.h ≡ size.h * size.w = omega arith in
-    count-past (has_bit bits) size.w room fits (λ k high. false_from_ne_true _ (λ on. absurd (let less = within k on in omega arith)))
+    count-past (has_bit bits) room fits (λ k high. false_from_ne_true _ (λ on. absurd (let less = within k on in omega arith)))
     ∙ rw e (sym (row-count size.w y bits size.h ∙ rw (lt-ltb y size.h lt) refl))
 line-count size (Column x) bits room lt fits within =
     let e : size.w * size.h ≡ size.h * size.w = omega arith in
-    count-past (has_bit bits) size.h room fits (λ k high. false_from_ne_true _ (λ on. absurd (let less = within k on in omega arith)))
+    count-past (has_bit bits) room fits (λ k high. false_from_ne_true _ (λ on. absurd (let less = within k on in omega arith)))
     ∙ rw e (sym (column-count size.w x bits size.h lt))
 
 -- the cells at those of some places of a line at which the value can be

@@ -21,31 +21,31 @@ use Rattle.fields_core.proofs.CountKept.{after-at}
 use Rattle.fields_core.proofs.PartCounts.{count-apart, line-count, crosses-both, place-count}
 
 -- ---- the cells of the first pieces
-lies-more : (w : ℕ) (pieces : List Piece) (n c : ℕ) (piece : Piece) → piece_at pieces n ≡ piece
+lies-more : (w : ℕ) (pieces : List Piece) (n c : ℕ) {piece : Piece} → piece_at pieces n ≡ piece
     → lies_in_first w pieces (n + 1) c ≡ (lies_in_first w pieces n c || lies_in w piece c)
 unfolding lies_in_first any_below
-lies-more w pieces n c piece e = rw add-one (ap (λ (q : Piece). any_below (λ k. lies_in w (piece_at pieces k) c) n || lies_in w q c) e)
+lies-more w pieces n c e = rw add-one (ap (λ (q : Piece). any_below (λ k. lies_in w (piece_at pieces k) c) n || lies_in w q c) e)
 
 lies-is : (w : ℕ) (piece : Piece) (c : ℕ) → lies_in w piece c ≡ crosses piece.line piece.bits (c / w) (c % w)
 unfolding lies_in
 lies-is w piece c = refl
 
-next-apart : (size : Extent) (pieces : List Piece) (n c : ℕ) (piece : Piece)
+next-apart : {size : Extent} {pieces : List Piece} (n c : ℕ) {piece : Piece}
     → piece_at pieces n ≡ piece → ArePieces size pieces → n < length pieces
     → lies_in_first size.w pieces n c ≡ true → lies_in size.w piece c ≡ true → ⊥
 unfolding lies_in_first
-next-apart size pieces n c piece e are lt first next =
+next-apart {size} {pieces} n c e are lt first next =
     let w = any_below-some (λ k. lies_in size.w (piece_at pieces k) c) n first in
     let same = are.apart w.0 n c (omega (arith, w.1)) lt w.2 (ap (λ (q : Piece). lies_in size.w q c) e ∙ next) in
     absurd (omega (arith, w.1))
 
-pub line_in : (size : Extent) (pieces : List Piece) (n : ℕ) (piece : Piece) → ArePieces size pieces
+pub line_in : {size : Extent} {pieces : List Piece} {n : ℕ} {piece : Piece} → ArePieces size pieces
     → n < length pieces → piece_at pieces n ≡ piece
     → number_of piece.line < lines_beside size piece.line
-line_in size pieces n piece are lt e = subst (λ (q : Piece). number_of q.line < lines_beside size q.line) e (are.lines_in n lt)
+line_in {size} {n} are lt e = subst (λ (q : Piece). number_of q.line < lines_beside size q.line) e (are.lines_in n lt)
 
 -- of a word of the next piece's cells that pass a test, as many pass more
-counted-more : (p : Layers) (pieces : List Piece) (n there room : ℕ) (piece : Piece)
+counted-more : (p : Layers) {pieces : List Piece} (n there room : ℕ) {piece : Piece}
     (test : ℕ → Bool) → piece_at pieces n ≡ piece → ArePieces p.size pieces → n < length pieces
     → line_len p.size piece.line ≤ room
     → ((k : ℕ) → has_bit there k ≡ true → k < line_len p.size piece.line)
@@ -53,17 +53,17 @@ counted-more : (p : Layers) (pieces : List Piece) (n there room : ℕ) (piece : 
     → count_below (λ c. lies_in_first p.size.w pieces n c && test c) (cells_of p) + count_below
     (has_bit there) room ≡ count_below (λ c. lies_in_first p.size.w pieces (n + 1) c && test c)
     (cells_of p)
-counted-more p pieces n there room piece test e are lt fits within is =
+counted-more p {pieces} n there room {piece} test e are lt fits within is =
     let here : count_below (has_bit there) room ≡ count_below (λ c. lies_in p.size.w piece c && test c) (cells_of p) =
-    line-count p.size piece.line there room (line_in p.size pieces n piece are lt e) fits within
+    line-count p.size piece.line there room (line_in are lt e) fits within
     ∙ count_below-same (λ c. crosses piece.line there (c / p.size.w) (c % p.size.w)) (λ c. lies_in p.size.w piece c && test c) (cells_of p) (λ c _. is c) in
     rw here
     (sym (count_below-same (λ c. lies_in_first p.size.w pieces (n + 1) c && test c)
     (λ c. (lies_in_first p.size.w pieces n c || lies_in p.size.w piece c) && test c)
     (cells_of p)
-    (λ c _. ap (λ b. b && test c) (lies-more p.size.w pieces n c piece e))
+    (λ c _. ap (λ b. b && test c) (lies-more p.size.w pieces n c e))
     ∙ count-apart (lies_in_first p.size.w pieces n) (lies_in p.size.w piece) test (cells_of p)
-    (λ c _ first next. next-apart p.size pieces n c piece e are lt first next)))
+    (λ c _ first next. next-apart n c e are lt first next)))
 
 pub counted-none : (w : ℕ) (pieces : List Piece) (cells : ℕ) (test : ℕ → Bool) → 0 ≡ count_below (λ c. lies_in_first w pieces 0 c && test c) cells
 unfolding lies_in_first any_below
@@ -79,53 +79,53 @@ count-split inside zero_on one_on (suc n) full =
     grind (arith, common_steps, cases_Bool (inside n), cases_Bool (zero_on n), cases_Bool (one_on n), rest, full n)
 
 -- ---- the cells of the first pieces, counted
-pub counted-first : (p : Layers) (pieces : List Piece) → IsCount p pieces 0 0 0
-counted-first p pieces = record {
+pub counted-first : {p : Layers} {pieces : List Piece} → IsCount p pieces 0 0 0
+counted-first {p} {pieces} = record {
   may_is = counted-none p.size.w pieces (cells_of p) (λ c. has p c 1);
   undecided_is = counted-none p.size.w pieces (cells_of p) (λ c. is_open (has p) c);
 }
 
 -- one piece more, whose words are those of its cells that can have 1, and that can have both
-pub counted-next : (p : Layers) (pieces : List Piece) (n may undecided ones both none room : ℕ)
-    (piece : Piece) → piece_at pieces n ≡ piece → ArePieces p.size pieces → n < length pieces
+pub counted-next : {p : Layers} {pieces : List Piece} {n may undecided : ℕ} (ones both none : ℕ) {room : ℕ}
+    {piece : Piece} → piece_at pieces n ≡ piece → ArePieces p.size pieces → n < length pieces
     → line_len p.size piece.line ≤ room
     → ((k : ℕ) → has_bit ones k ≡ (at_line p piece.line 1 k && has_bit piece.bits k))
     → ((k : ℕ) → has_bit both k ≡ (has_bit ones k && has_bit none k))
     → ((k : ℕ) → has_bit none k ≡ at_line p piece.line 0 k)
     → ((k : ℕ) → has_bit ones k ≡ true → k < line_len p.size piece.line)
     → IsCount p pieces n may undecided → IsCount p pieces (n + 1) (may + count_below (has_bit ones) room) (undecided + count_below (has_bit both) room)
-counted-next p pieces n may undecided ones both none room piece e are lt fits ones_is both_is none_is within first =
+counted-next {p} {n} ones both none {room} {piece} e are lt fits ones_is both_is none_is within first =
     let one_at : (c : ℕ) → crosses piece.line ones (c / p.size.w) (c % p.size.w) ≡ (lies_in p.size.w piece c && has p c 1) = λ c.
     crosses-both p piece.line piece.bits ones 1 c (omega arith) ones_is ∙ ap (λ b. b && has p c 1) (sym (lies-is p.size.w piece c)) in
     let both_at : (c : ℕ) → crosses piece.line both (c / p.size.w) (c % p.size.w) ≡ (lies_in p.size.w piece c && is_open (has p) c) = λ c.
     crosses-both p piece.line ones both 0 c (omega arith) (λ k. both_is k ∙ rw (none_is k) (and_comm (has_bit ones k) (at_line p piece.line 0 k)))
     ∙ rw (one_at c) (by (lies_in p.size.w piece c) (has p c 1) (has p c 0)) in
     record {
-      may_is = rw (first.may_is) (counted-more p pieces n ones room piece (λ c. has p c 1) e are lt fits within one_at);
+      may_is = rw (first.may_is) (counted-more p n ones room (λ c. has p c 1) e are lt fits within one_at);
       undecided_is =
-          rw (first.undecided_is) (counted-more p pieces n both room piece (λ c. is_open (has p) c)
+          rw (first.undecided_is) (counted-more p n both room (λ c. is_open (has p) c)
           e are lt fits (λ k on. within k (and_parts _ _ (sym (both_is k) ∙ on)).0) both_at);
     }
   where
     by : (a b c : Bool) → ((a && b) && c) ≡ (a && (c && b))
     by a b c = grind (arith, common_steps, cases_Bool a, cases_Bool b, cases_Bool c)
 
-pub counted-small : (p : Layers) (pieces : List Piece) (n may undecided : ℕ) → IsCount p pieces n may undecided → (may ≤ cells_of p) × (undecided ≤ cells_of p)
-counted-small p pieces n may undecided counted = (
+pub counted-small : {p : Layers} {pieces : List Piece} {n may undecided : ℕ} → IsCount p pieces n may undecided → (may ≤ cells_of p) × (undecided ≤ cells_of p)
+counted-small {p} {pieces} {n} counted = (
   omega (arith, counted.may_is, count_below-bound (λ c. lies_in_first p.size.w pieces n c && has p c 1) (cells_of p)),
   omega (arith, counted.undecided_is, count_below-bound (λ c. lies_in_first p.size.w pieces n c && is_open (has p) c) (cells_of p)),
 )
 
 -- ---- the house of all pieces
 
-pub counted-fewer : (p : Layers) (pieces : List Piece) (may undecided : ℕ) → IsAlive p → IsCounted p pieces may undecided → undecided ≤ may
-counted-fewer p pieces may undecided alive counted =
+pub counted-fewer : {p : Layers} {pieces : List Piece} {may undecided : ℕ} → IsAlive p → IsCounted p pieces may undecided → undecided ≤ may
+counted-fewer {p} {pieces} alive counted =
     omega (arith, counted.may_is, counted.undecided_is, count-split (lies_in_first p.size.w pieces (length pieces)) (λ c. has p c 0) (λ c. has p c 1) (cells_of p) alive)
 
-tally-of : (p : Layers) (pieces : List Piece) (may undecided least most : ℕ) (house : CountHouse)
+tally-of : (p : Layers) {pieces : List Piece} {may undecided least most : ℕ} {house : CountHouse}
     → IsAlive p → IsCounted p pieces may undecided → IsHouseOf p.size pieces least most house
     → IsTally (has p) house.places (record { must = may - undecided; may = may; empty = 0 })
-tally-of p pieces may undecided least most house alive counted of =
+tally-of p {pieces} {house} alive counted of =
     let inside = lies_in_first p.size.w pieces (length pieces) in
     let distinct = distinct-from house.places of.is.different in
     let counts : (test : ℕ → Bool) → count_by test house.places ≡ count_below (λ c. inside c && test c) (cells_of p) = λ test.
@@ -161,11 +161,11 @@ module _ (p : Layers) (pieces : List Piece) (may undecided least most : ℕ) (al
   inside = lies_in_first p.size.w pieces (length pieces)
 
   -- a board that lost just what is struck is the one after the visit
-  visited : (L : Candidates) → least ≤ may → may - undecided ≤ most
+  visited : {L : Candidates} → least ≤ may → may - undecided ≤ most
       → ((c v : ℕ) → v < 2 → has p c v ≡ true → L c v ≡ not (inside c && (is_open (has p) c && at_bound least most (may - undecided) may v)))
       → ((c v : ℕ) → has p c v ≡ false → L c v ≡ false) → L ≡ after_house house (has p)
   unfolding after_house
-  visited L enough spare left gone = fun_ext λ c. fun_ext λ v. elim (cases_Bool (has p c v)) [
+  visited enough spare left gone = fun_ext λ c. fun_ext λ v. elim (cases_Bool (has p c v)) [
     | inr off ↦ gone c v off ∙ rw off refl
     | inl on ↦ left c v (value-in p c v on) on ∙ elim (cases_Bool (has_place house.places c)) [
       | inr out ↦ rw (on, off-scope house (has p) c v out, sym (of.cells c) ∙ out) refl
@@ -174,7 +174,7 @@ module _ (p : Layers) (pieces : List Piece) (may undecided least most : ℕ) (al
           let at =
           after-at (cells_of p) house (has p)
           (record { must = may - undecided; may = may; empty = 0 }) of.is
-          (tally-of p pieces may undecided least most house alive counted of) w.0 v w.1
+          (tally-of p alive counted of) w.1
           (value-in p c v on) in
           rw (sym (of.cells c) ∙ there)
           (sym
@@ -187,13 +187,13 @@ module _ (p : Layers) (pieces : List Piece) (may undecided least most : ℕ) (al
       → ((c v : ℕ) → v < 2 → (inside
       c && (is_open (has p) c && at_bound least most (may - undecided) may v)) ≡ false)
       → has p ≡ after_house house (has p)
-  visited-idle enough spare none = visited (has p) enough spare (λ c v low on. on ∙ ap not (sym (none c v low))) (λ c v off. off)
+  visited-idle enough spare none = visited enough spare (λ c v low on. on ∙ ap not (sym (none c v low))) (λ c v off. off)
 
   pub visited-struck : (value : ℕ) → value < 2 → least ≤ may → may - undecided ≤ most
       → ((v : ℕ) → v < 2 → at_bound least most (may - undecided) may v ≡ eqb v value)
       → without_value p.size.w pieces (length pieces) value (has p) ≡ after_house house (has p)
   unfolding without_value
-  visited-struck value lt enough spare bound = visited _ enough spare
+  visited-struck value lt enough spare bound = visited enough spare
       (λ c v low on. rw (on, bound v low) (by c (inside c) v low on (cases_eq v value)))
       (λ c v off. rw off refl)
     where
@@ -211,7 +211,7 @@ module _ (p : Layers) (pieces : List Piece) (may undecided least most : ℕ) (al
       let w = has_place-at house.places c there in
       let gone : after_house house (has p) (slice_index house.places w.0) v ≡ false =
       after-at (cells_of p) house (has p) (record { must = may - undecided; may = may; empty = 0 })
-      of.is (tally-of p pieces may undecided least most house alive counted of) w.0 v w.1 low
+      of.is (tally-of p alive counted of) w.1 low
       ∙ rw (of.least_is, of.most_is, none lacks) (and-false (has p (slice_index house.places w.0) v)) in
       rw w.2 at gone
     where
@@ -220,11 +220,11 @@ module _ (p : Layers) (pieces : List Piece) (may undecided least most : ℕ) (al
       none (inr many) = rw (le-ltb most least order, lt-ltb most (may - undecided) many) (grind (arith, common_steps, cases_Bool))
 
 -- where nothing is undecided, no cell is
-pub none-undecided : (p : Layers) (pieces : List Piece) (may undecided c least most : ℕ) (at : Bool)
-    (house : CountHouse) → IsHouseOf p.size pieces least most house
+pub none-undecided : {p : Layers} {pieces : List Piece} {may undecided : ℕ} (c : ℕ) {least most : ℕ} (at : Bool)
+    {house : CountHouse} → IsHouseOf p.size pieces least most house
     → IsCounted p pieces may undecided → undecided ≡ 0
     → (lies_in_first p.size.w pieces (length pieces) c && (is_open (has p) c && at)) ≡ false
-none-undecided p pieces may undecided c least most at house of counted none = false_from_ne_true _ (λ on.
+none-undecided {p} {pieces} c at of counted none = false_from_ne_true _ (λ on.
     let parts = and_parts _ _ on in
     let open_here = and_parts _ _ parts.1 in
     let lt = of.is.within c (of.cells c ∙ parts.0) in
@@ -234,24 +234,24 @@ none-undecided p pieces may undecided c least most at house of counted none = fa
     absurd (omega (arith, counted.undecided_is)))
 
 -- which bound is reached
-pub one-bound : (least most must may v : ℕ) → must ≡ most → must < may → least ≤ most → v < 2 → at_bound least most must may v ≡ eqb v 1
-one-bound least most must may v reached room order low =
+pub one-bound : {least most must : ℕ} (may v : ℕ) → must ≡ most → must < may → least ≤ most → v < 2 → at_bound least most must may v ≡ eqb v 1
+one-bound {least} {most} {must} may v reached room order low =
     rw (eq-eqb must most reached, ne_eqb may least (λ e. absurd (omega arith))) (grind (arith, common_steps, cases_Bool))
 
-pub zero-bound : (least most must may v : ℕ) → (must ≡ most → ⊥) → may ≡ least → v < 2 → at_bound least most must may v ≡ eqb v 0
-zero-bound least most must may v ne reached low = rw (ne_eqb must most ne, eq-eqb may least reached) (grind (arith, common_steps, cases_Bool))
+pub zero-bound : {least most must may v : ℕ} → (must ≡ most → ⊥) → may ≡ least → v < 2 → at_bound least most must may v ≡ eqb v 0
+zero-bound {least} {most} {must} {may} ne reached low = rw (ne_eqb must most ne, eq-eqb may least reached) (grind (arith, common_steps, cases_Bool))
 
-pub no-bound : (a b : Bool) (least most must may v : ℕ) → (must ≡ most → ⊥) → (may ≡ least → ⊥) → (a && (b && at_bound least most must may v)) ≡ false
-no-bound a b least most must may v ne nf = rw (ne_eqb must most ne, ne_eqb may least nf) (grind (arith, common_steps, cases_Bool))
+pub no-bound : (a b : Bool) {least most must may : ℕ} (v : ℕ) → (must ≡ most → ⊥) → (may ≡ least → ⊥) → (a && (b && at_bound least most must may v)) ≡ false
+no-bound a b {least} {most} {must} {may} v ne nf = rw (ne_eqb must most ne, ne_eqb may least nf) (grind (arith, common_steps, cases_Bool))
 
 -- ---- strikes
-pub struck-more : (p q : Layers) (pieces : List Piece) (n value other : ℕ) (piece : Piece)
+pub struck-more : (p q : Layers) (pieces : List Piece) (n : ℕ) {value : ℕ} (other : ℕ) {piece : Piece}
     → piece_at pieces n ≡ piece → q.size ≡ p.size → value < 2
     → has q ≡ without_value p.size.w pieces n value (has p)
     → ((k : ℕ) → has_bit other k ≡ (at_line q piece.line (1 - value) k && has_bit piece.bits k))
     → without_taking q.size.w (has q) (record { line = piece.line; value = value; bits = other }) ≡ without_value p.size.w pieces (n + 1) value (has p)
 unfolding without_taking covers without_value
-struck-more p q pieces n value other piece e size lt left is = fun_ext λ c. fun_ext λ v.
+struck-more p q pieces n {value} other {piece} e size lt left is = fun_ext λ c. fun_ext λ v.
     let both : crosses piece.line other (c / q.size.w)
     (c % q.size.w) ≡ (crosses piece.line piece.bits (c / q.size.w) (c % q.size.w) && has q c
     (1 - value)) = crosses-both q piece.line piece.bits other (1 - value) c (omega arith) is in
@@ -265,16 +265,16 @@ struck-more p q pieces n value other piece e size lt left is = fun_ext λ c. fun
     let at : crosses piece.line piece.bits (c / q.size.w) (c % q.size.w) ≡ lies_in p.size.w piece
     c = ap (λ (s : Extent). crosses piece.line piece.bits (c / s.w) (c % s.w)) size
     ∙ sym (lies-is p.size.w piece c) in
-    rw (both, first, stays, at, lies-more p.size.w pieces n c piece e)
+    rw (both, first, stays, at, lies-more p.size.w pieces n c e)
     (by (has p c v) (eqb v value) (has p c (1 - value)) (lies_in_first p.size.w pieces n c)
     (lies_in p.size.w piece c))
   where
     by : (a e o f i : Bool) → ((a && not (e && (o && f))) && not (e && (i && o))) ≡ (a && not (e && (o && (f || i))))
     by a e o f i = grind (arith, common_steps, cases_Bool a, cases_Bool e, cases_Bool o, cases_Bool f, cases_Bool i)
 
-pub struck-none : (w : ℕ) (pieces : List Piece) (value : ℕ) (K : Candidates) → K ≡ without_value w pieces 0 value K
+pub struck-none : (w : ℕ) (pieces : List Piece) (value : ℕ) {K : Candidates} → K ≡ without_value w pieces 0 value K
 unfolding without_value lies_in_first any_below
-struck-none w pieces value K = fun_ext λ c. fun_ext λ v. grind (arith, common_steps, cases_Bool)
+struck-none w pieces value = fun_ext λ c. fun_ext λ v. grind (arith, common_steps, cases_Bool)
 
 -- each cell still has a value
 pub struck-alive : (p q : Layers) (pieces : List Piece) (n value : ℕ) → q.size ≡ p.size → value < 2

@@ -113,20 +113,20 @@ pub column-cell-joined : (p : Light) (c y : ℕ) → 0 < p.size.w
 unfolding joined_in_column
 column-cell-joined p c y pos = grind (arith, common_steps, mod-lt, div-mul-add, mod-mul-add, eq-eqb)
 
-pub row-run-is : (p : Light) (c w x : ℕ) → w ≡ p.size.w → c % p.size.w ≡ x
+pub row-run-is : (p : Light) (c : ℕ) {w : ℕ} (x : ℕ) → w ≡ p.size.w → c % p.size.w ≡ x
     → map (λ i. c - x + i * 1) (filter (clear (λ i. white p (c - x + i * 1)) x) (range_with_len 0 w)) ≡ row_run p c
 unfolding row_run
-row-run-is p c w x e f = rw (e, sym f)
+row-run-is p c x e f = rw (e, sym f)
     (line-run (joined_in_row p c) (λ i. white p (c / p.size.w * p.size.w + i)) (λ i. white p (c - c % p.size.w + i * 1)) (c % p.size.w) p.size.w
     (λ x. c / p.size.w * p.size.w + x) (λ i. c - c % p.size.w + i * 1) same (λ i. ap (white p) (same i)) (λ i lt. row-cell-joined p c i lt))
   where
     same : (i : ℕ) → c - c % p.size.w + i * 1 ≡ c / p.size.w * p.size.w + i
     same i = let whole : c ≡ c / p.size.w * p.size.w + c % p.size.w = omega arith in omega arith
 
-pub column-run-is : (p : Light) (c w h : ℕ) → 0 < p.size.w → w ≡ p.size.w → h ≡ p.size.h
+pub column-run-is : (p : Light) (c : ℕ) {w h : ℕ} → 0 < p.size.w → w ≡ p.size.w → h ≡ p.size.h
     → map (λ i. c % w + i * w) (filter (clear (λ i. white p (c % w + i * w)) (c / w)) (range_with_len 0 h)) ≡ column_run p c
 unfolding column_run
-column-run-is p c w h pos e f = rw (e, f)
+column-run-is p c pos e f = rw (e, f)
     (line-run (joined_in_column p c) (λ i. white p (i * p.size.w + c % p.size.w)) (λ i. white p (c % p.size.w + i * p.size.w)) (c / p.size.w) p.size.h
     (λ y. y * p.size.w + c % p.size.w) (λ i. c % p.size.w + i * p.size.w) same (λ i. ap (white p) (same i)) (λ i lt. column-cell-joined p c i pos))
   where
@@ -134,29 +134,29 @@ column-run-is p c w h pos e f = rw (e, f)
     same i = omega arith
 
 -- the cell before the first of a run is black
-pub row-begun : (p : Light) (c : ℕ) {x : ℕ} (i : ℕ) → begins_row_run p c ≡ true → c % p.size.w ≡ x → suc i ≡ x → white p (c - x + i * 1) ≡ false
+pub row-begun : (p : Light) (c : ℕ) {x i : ℕ} → begins_row_run p c ≡ true → c % p.size.w ≡ x → suc i ≡ x → white p (c - x + i * 1) ≡ false
 unfolding begins_row_run
-row-begun p c i on e f = grind (arith, common_steps, and_parts, or_cases, eqb-true, not-true)
+row-begun p c on e f = grind (arith, common_steps, and_parts, or_cases, eqb-true, not-true)
 
-pub column-begun : (p : Light) (c w i : ℕ) → w ≡ p.size.w → begins_column_run p c ≡ true → suc i ≡ c / w → white p (c % w + i * w) ≡ false
+pub column-begun : (p : Light) (c : ℕ) {w : ℕ} (i : ℕ) → w ≡ p.size.w → begins_column_run p c ≡ true → suc i ≡ c / w → white p (c % w + i * w) ≡ false
 unfolding begins_column_run
-column-begun p c w i e on f = grind (arith, common_steps, and_parts, or_cases, eqb-true, not-true)
+column-begun p c i e on f = grind (arith, common_steps, and_parts, or_cases, eqb-true, not-true)
 
 -- ---- the cells of a run
 pub run-long : (f : ℕ → ℕ) (start n : ℕ) (xs : List ℕ) → map f (range_with_len start n) ≡ xs → n ≡ length xs
 run-long f start n xs e = sym (length-map-range_with_len f start n) ∙ ap length e
 
-pub run-at : (first stride start n k : ℕ) {xs : List ℕ}
+pub run-at : (first stride start n : ℕ) {k : ℕ} {xs : List ℕ}
     → map (λ i. first + i * stride) (range_with_len start n) ≡ xs → k < length xs
     → first + (start + k) * stride ≡ slice_index xs k
-run-at first stride start n k e lt = grind (arith, common_steps, run-long, get_or-map-range_with_len, slice_index)
+run-at first stride start n e lt = grind (arith, common_steps, run-long, get_or-map-range_with_len, slice_index)
 
 -- the cells of a row and of a column
-pub row-made : (size : Extent) (y w : ℕ) → w ≡ size.w → map (λ i. y * w + i * 1) (range_with_len 0 (w - 0)) ≡ row_places size y
-row-made size y w e = grind (arith, common_steps, map-same)
+pub row-made : (size : Extent) (y : ℕ) {w : ℕ} → w ≡ size.w → map (λ i. y * w + i * 1) (range_with_len 0 (w - 0)) ≡ row_places size y
+row-made size y e = grind (arith, common_steps, map-same)
 
-pub column-made : (size : Extent) (x w h : ℕ) → w ≡ size.w → h ≡ size.h → map (λ i. x + i * w) (range_with_len 0 (h - 0)) ≡ column_places size x
-column-made size x w h e f = grind (arith, common_steps, map-same)
+pub column-made : (size : Extent) (x : ℕ) {w h : ℕ} → w ≡ size.w → h ≡ size.h → map (λ i. x + i * w) (range_with_len 0 (h - 0)) ≡ column_places size x
+column-made size x e f = grind (arith, common_steps, map-same)
 
 pub row-cell : (size : Extent) {y k : ℕ} → y < size.h → k < length (row_places size y) → slice_index (row_places size y) k < size.w * size.h
 row-cell size lt low = grind (arith, common_steps, row-long, row-at, mul-le-mul_right)

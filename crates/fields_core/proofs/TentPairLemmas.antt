@@ -193,9 +193,9 @@ pub others-unpaired : (p : Tents) (g : List ℕ) → (length (tents_of p g) ≡ 
 others-unpaired p g differ = false_from_ne_true (can_be_paired p g) (λ on. let w = given p g on in differ (chosen-many p g w.0 w.1))
 
 -- ---- the tents of the list
-pub listed-tents : (p : Tents) (g tents : List ℕ) → tents ≡ filter (tent g) (range_with_len 0 (tent_cells p)) → tents ≡ tents_of p g
+pub listed-tents : (p : Tents) (g : List ℕ) {tents : List ℕ} → tents ≡ filter (tent g) (range_with_len 0 (tent_cells p)) → tents ≡ tents_of p g
 unfolding tents_of
-listed-tents p g tents e = e
+listed-tents p g e = e
 
 pub tents-in : (p : Tents) (g : List ℕ) → length g ≡ tent_cells p → AreIn p (tents_of p g)
 tents-in p g long l lt =

@@ -164,7 +164,7 @@ module _ (p : Tents) (g : List ℕ) where
     pub tents-known : AllByRecursion (IsKnown (FailsTents p g)) (tent_tests p)
     tents-known = known_tests (FailsTents p g) kinds tents-made
 
-    pub tents-tell : (fault : Option TentFault) (told : Bool) → IsTentFault p g fault → is_some fault ≡ not told → told ≡ solves_tents p g
-    tents-tell fault told is e =
+    pub tents-tell : (fault : Option TentFault) {told : Bool} → IsTentFault p g fault → is_some fault ≡ not told → told ≡ solves_tents p g
+    tents-tell fault {told} is e =
         none_tells (FailsTents p g) (tent_tests p) tents-none told (solves_tents p g)
         (solution-from-tents p g grid) tents-from-solution fault is e

@@ -145,7 +145,7 @@ impl Rules for PatternLines {
 
     ghost settled_is = { λ _. refl };
 
-    ghost serves_smaller = { λ _ _ _ _ _. tt };
+    ghost serves_smaller = { λ had_by need had fits served. tt };
 
     fn cells(&self) -> usize {
         self.size().cells()
@@ -225,7 +225,7 @@ impl Propagators for PatternLines {
 
     ghost follows = { λ r counts. GoesAlong r.pattern counts.fresh };
 
-    ghost counts_smaller = { λ _ _ _ _ _. tt };
+    ghost counts_smaller = { λ had_by need had fits served. tt };
 
     fn counts(&self, _alloc: Global) -> Result<LineCounts, AllocError> {
         Ok(LineCounts { fresh: false })

@@ -92,7 +92,7 @@ impl Rules for Neighbours {
 
     ghost settled_is = { λ _. refl };
 
-    ghost serves_smaller = { λ _ _ _ _ _. tt };
+    ghost serves_smaller = { λ had_by need had fits served. tt };
 
     fn cells(&self) -> usize {
         self.cells
@@ -170,7 +170,7 @@ impl Propagators for Neighbours {
 
     ghost follows = { λ _ _ _. Unit {0} };
 
-    ghost counts_smaller = { λ _ _ _ _ _. tt };
+    ghost counts_smaller = { λ had_by need had fits served. tt };
 
     fn counts(&self, _alloc: Global) -> Result<(), AllocError> {
         Ok(())

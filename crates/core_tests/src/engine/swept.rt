@@ -39,7 +39,7 @@ impl Rules for Swept {
 
     ghost settled_is = { λ _. refl };
 
-    ghost serves_smaller = { λ _ _ _ _ _. tt };
+    ghost serves_smaller = { λ had_by need had fits served. tt };
 
     fn cells(&self) -> usize {
         self.row.cells()
@@ -93,7 +93,7 @@ impl Propagators for Swept {
 
     ghost follows = { λ _ _ _. Unit {0} };
 
-    ghost counts_smaller = { λ _ _ _ _ _. tt };
+    ghost counts_smaller = { λ had_by need had fits served. tt };
 
     fn counts(&self, alloc: Global) -> Result<(), AllocError> {
         self.row.counts(alloc)

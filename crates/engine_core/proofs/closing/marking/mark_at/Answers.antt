@@ -3,12 +3,12 @@ use Rattle.engine_core.proofs.CallLemmas.{before-first, before-marked, before-al
 use Rattle.engine_core.proofs.closing.marking.mark_at.Goals as goal
 
 pub loop-other-init : goal.loop-other-init
-loop-other-init g c = record { past = omega arith; called = λ K. before-first _ K _ _ }
+loop-other-init g c = record { past = omega arith; called = λ K. before-first _ }
 
 pub loop-other-preserved : goal.loop-other-preserved
 loop-other-preserved g c = record {
   past = let i = c.loop-other.invariant in let next = c.in-Some.ensures in omega (arith, i.past, next.0);
-  called = λ K. before-marked _ K _ _ _ _ c.loop-other.from c.in-Some.house c.in-Some.ensures c.enqueue.ensures (c.loop-other.invariant.called K);
+  called = λ K. before-marked K _ c.loop-other.from c.in-Some.house c.in-Some.ensures c.enqueue.ensures (c.loop-other.invariant.called K);
 }
 
 pub returns : goal.returns

@@ -5,7 +5,7 @@ use Rattle.engine_core.proofs.closing.marking.mark_changed.Goals as goal
 use Rattle.engine_core.proofs.closing.marking.mark_changed.Goals.{then-now-sets, else-now-sets}
 
 pub loop-k-init : goal.loop-k-init
-loop-k-init g c = λ K are inside. marking-first _ _ K _ _
+loop-k-init g c = λ K are inside. marking-first K _
 
 pub cell_bits-now-requires : goal.cell_bits-now-requires
 cell_bits-now-requires g c =
@@ -24,7 +24,7 @@ loop-k-preserved g c = λ K are inside.
     let is : IsBitsOf (has c.args.board.now c.scope-place.result) p.values c.cell_bits-now.result =
     rw (← c.requires.board_of.same_values) c.cell_bits-now.ensures in
     elim c.if-now-sets.branch [
-      | then-now-sets w ↦ rw (w.waits-is, w.dead-is) (marking-then c.scope-place.ensures was is inside i _ _ w.if-now-sets.true (w.mark_at.ensures _) refl)
+      | then-now-sets w ↦ rw (w.waits-is, w.dead-is) (marking-then c.scope-place.ensures was is inside i w.if-now-sets.true (w.mark_at.ensures _) refl)
       | else-now-sets w ↦ rw (w.waits-is, w.dead-is) (marking-else c.scope-place.ensures was is inside i w.if-now-sets.false)
     ]
 

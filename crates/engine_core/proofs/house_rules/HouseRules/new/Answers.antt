@@ -5,5 +5,5 @@ pub of-requires-clause-scopes : goal.of-requires-clause-scopes
 of-requires-clause-scopes g c =
     let puzzle = c.args.puzzle.now in
     rw (c.in_ok-set.ensures.scopes, c.cells.ensures, c.in_ok-set.ensures.copied)
-    (scopes-fit _ (g.met.S.RuleSet.lawful puzzle c.in_ok-set.ensures.known)
+    (scopes-fit (g.met.S.RuleSet.lawful puzzle c.in_ok-set.ensures.known)
     (g.met.S.RuleSet.scopes_are puzzle))

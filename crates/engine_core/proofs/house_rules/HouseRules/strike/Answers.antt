@@ -37,7 +37,7 @@ returns-then-filter-clause-left g c =
     let is = places-are c.args.self.now.listed (g.met.S.RuleSet.scopes_are puzzle) c.requires.house_in c.places-places.ensures in
     let kept = c.filter.ensures.kept _ (read g (goal.at.returns-then-filter-clause-left g c).After-gather) in
     rw is at c.apply.ensures.left
-    ∙ kept-after _ (g.met.S.RuleSet.lawful puzzle (g.met.S.RuleSet.knows c.args.self.now.set))
+    ∙ kept-after (g.met.S.RuleSet.lawful puzzle (g.met.S.RuleSet.knows c.args.self.now.set))
     c.requires.house_in (within_of _ _ c.requires.board_of) (rw c.if-filter.true at kept)
 
 pub returns-else-filter-clause-left : goal.returns-else-filter-clause-left

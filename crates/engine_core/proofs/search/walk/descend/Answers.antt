@@ -47,7 +47,7 @@ overflow_add-levels g c =
 pub returns-in-Dead-clause-marks : goal.returns-in-Dead-clause-marks
 returns-in-Dead-clause-marks g c =
     found-none {one = c.args.at.found} _ _ c.requires.going (λ _. refl)
-    (descend-dead _ _ _ _ _ (descent g
+    (descend-dead (descent g
     (goal.at.returns-in-Dead-clause-marks g c).After-close-taken)
     (c.close-taken.ensures.taken.dead c.in-Dead.is))
 
@@ -64,14 +64,14 @@ returns-in-Solved-clause-marks g c =
     let next =
     descend-solved _ (descent g (goal.at.returns-in-Solved-clause-marks g c).After-close-taken)
     (c.close-taken.ensures.taken.left c.in-Open.is) c.in-Solved.ensures.judged in
-    rw c.in-Solved.ensures.same (found-solved _ _ _ _ c.requires.going c.in-Solved.ensures.kept next)
+    rw c.in-Solved.ensures.same (found-solved _ _ c.requires.going c.in-Solved.ensures.kept next)
 
 pub returns-in-Split-clause-marks : goal.returns-in-Split-clause-marks
 returns-in-Split-clause-marks g c =
     let d = descent g (goal.at.returns-in-Split-clause-marks g c).After-close-taken in
     let room = open-room (opened g (goal.at.returns-in-Split-clause-marks g c).In-Split) in
     let next =
-    descend-split c.args.grids.now.first d (c.close-taken.ensures.taken.left c.in-Open.is) _ _
+    descend-split c.args.grids.now.first d (c.close-taken.ensures.taken.left c.in-Open.is) _
     c.in-Split.ensures.judged (omega (arith, c.requires.ready.room))
     (rw c.in-Split.ensures.same at c.checkpoint.ensures.marked) in
     found-none _ _ c.requires.going c.in-Split.ensures.kept next

@@ -16,7 +16,7 @@ loop-cell-preserved c =
     record {
       long = rw e (length-set c.loop-cell.grid c.loop-cell.cell c.least_value.result ∙ i.long);
       same =
-          rw e (grid-more c.loop-cell.grid c.loop-cell.cell _ (has c.args.board.now) i.long
+          rw e (grid-more c.loop-cell.grid c.loop-cell.cell (has c.args.board.now) i.long
           (omega arith) c.requires.full i.same c.least_value.ensures.value_in
           c.least_value.ensures.there);
     }

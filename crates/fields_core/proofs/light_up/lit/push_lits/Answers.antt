@@ -11,12 +11,12 @@ use Rattle.fields_core.proofs.light_up.lit.push_lits.Goals.{then-is_white+in_ok-
 
 pub pass-requires-clause-few : goal.pass-requires-clause-few
 pass-requires-clause-few c =
-    let few = rows-few _ _ c.loop-place.invariant.row in
+    let few = rows-few c.loop-place.invariant.row in
     omega (arith, few, few-cells c.cells-place-end.ensures.lawful, c.requires.rows_few, c.cells-place-end.ensures.value)
 
 pub pass-requires-then-is_white-clause-few : goal.pass-requires-then-is_white-clause-few
 pass-requires-then-is_white-clause-few c =
-    let few = columns-few _ _ _ c.loop-place.invariant.column in
+    let few = columns-few c.loop-place.invariant.column in
     omega (arith, few, few-cells c.cells-place-end.ensures.lawful, c.requires.columns_few, c.cells-place-end.ensures.value)
 
 pub push_lit-requires-clause-row_in : goal.push_lit-requires-clause-row_in

@@ -9,18 +9,16 @@ use Rattle.fields_core.proofs.planes.visit.count.Goals as goal
 use Rattle.fields_core.proofs.planes.visit.count.Goals.{After-both-open}
 
 pub loop-number-init : goal.loop-number-init
-loop-number-init g c = counted-first c.args.planes.now (g.P.Parts.pieces c.args.parts.now)
+loop-number-init g c = counted-first
 
 pub line-requires-clause-line_in : goal.line-requires-clause-line_in
 line-requires-clause-line_in g c =
-    line_in c.args.planes.now.size (g.P.Parts.pieces c.args.parts.now) c.loop-number.number
-    (piece_of g.W.Word.bits c.part-part.result) c.requires
+    line_in c.requires
     (rw c.len-number-end.ensures at c.loop-number-test.true) (sym c.part-part.ensures)
 
 pub line-requires-in-loop-number-clause-line_in : goal.line-requires-in-loop-number-clause-line_in
 line-requires-in-loop-number-clause-line_in g c =
-    line_in c.args.planes.now.size (g.P.Parts.pieces c.args.parts.now) c.loop-number.number
-    (piece_of g.W.Word.bits c.part-part.result) c.requires
+    line_in c.requires
     (rw c.len-number-end.ensures at c.loop-number-test.true) (sym c.part-part.ensures)
 
 next : (g : _) (c : After-both-open g) → IsCount c.args.planes.now (g.P.Parts.pieces c.args.parts.now) (c.loop-number.number + 1)
@@ -29,22 +27,20 @@ next : (g : _) (c : After-both-open g) → IsCount c.args.planes.now (g.P.Parts.
     g.W.Word.room)
 next g c =
     let bits = g.W.Word.bits in
-    counted-next c.args.planes.now (g.P.Parts.pieces c.args.parts.now) c.loop-number.number
-    c.loop-number.may c.loop-number.undecided (bits c.both-ones.result)
-    (bits c.both-open.result) (bits c.line-in-loop-number.result)
-    g.W.Word.room (piece_of bits c.part-part.result) (sym c.part-part.ensures) c.requires
+    counted-next (bits c.both-ones.result)
+    (bits c.both-open.result) (bits c.line-in-loop-number.result) (sym c.part-part.ensures) c.requires
     (rw c.len-number-end.ensures at c.loop-number-test.true) c.line.ensures.fits
     (λ k. c.both-ones.ensures k ∙ rw (c.line.ensures.cells k) refl) c.both-open.ensures c.line-in-loop-number.ensures.cells
     (λ k on. c.line.ensures.within k (and_parts _ _ (sym (c.both-ones.ensures k) ∙ on)).0) c.loop-number.invariant
 
 pub overflow_add-may : goal.overflow_add-may
 overflow_add-may g c =
-    let small = counted-small _ _ _ _ _ (next g (goal.at.overflow_add-may g c).After-both-open) in
+    let small = counted-small (next g (goal.at.overflow_add-may g c).After-both-open) in
     omega (arith, small.0, few_cells c.args.planes.now.size c.line.ensures.lawful.lawful, c.count-may.ensures)
 
 pub overflow_add-undecided : goal.overflow_add-undecided
 overflow_add-undecided g c =
-    let small = counted-small _ _ _ _ _ (next g (goal.at.overflow_add-undecided g c).After-both-open) in
+    let small = counted-small (next g (goal.at.overflow_add-undecided g c).After-both-open) in
     omega (arith, small.1, few_cells c.args.planes.now.size c.line.ensures.lawful.lawful, c.count-undecided.ensures)
 
 pub loop-number-preserved : goal.loop-number-preserved

@@ -6,22 +6,20 @@ use Rattle.fields_core.proofs.planes.visit.strike.Goals as goal
 
 pub loop-number-init : goal.loop-number-init
 loop-number-init g c = record {
-  left = struck-none c.args.planes.now.size.w (g.P.Parts.pieces c.args.parts.now) c.args.value _;
+  left = struck-none c.args.planes.now.size.w (g.P.Parts.pieces c.args.parts.now) c.args.value;
   further = further-none c.args.planes.now;
 }
 
 pub line-requires-clause-line_in : goal.line-requires-clause-line_in
 line-requires-clause-line_in g c =
     rw (c.loop-number.invariant.further.same_size)
-    (line_in c.args.planes.now.size (g.P.Parts.pieces c.args.parts.now) c.loop-number.number
-    (piece_of g.W.Word.bits c.part-part.result) c.requires.pieces
+    (line_in c.requires.pieces
     (rw c.len-number-end.ensures at c.loop-number-test.true) (sym c.part-part.ensures))
 
 pub take-requires-clause-line_in : goal.take-requires-clause-line_in
 take-requires-clause-line_in g c =
     rw (c.loop-number.invariant.further.same_size)
-    (line_in c.args.planes.now.size (g.P.Parts.pieces c.args.parts.now) c.loop-number.number
-    (piece_of g.W.Word.bits c.part-part.result) c.requires.pieces
+    (line_in c.requires.pieces
     (rw c.len-number-end.ensures at c.loop-number-test.true) (sym c.part-part.ensures))
 
 pub loop-number-preserved : goal.loop-number-preserved
@@ -31,8 +29,7 @@ loop-number-preserved g c =
     record {
       left = c.take.ensures.left
           ∙ struck-more c.args.planes.now c.loop-number.planes (g.P.Parts.pieces c.args.parts.now)
-          c.loop-number.number c.args.value (bits c.both-other.result)
-          (piece_of bits c.part-part.result) (sym c.part-part.ensures) i.further.same_size
+          c.loop-number.number (bits c.both-other.result) (sym c.part-part.ensures) i.further.same_size
           c.requires.value_in i.left
           (λ k. c.both-other.ensures k ∙ rw (c.line.ensures.cells k) refl);
       further = further-more c.args.planes.now c.loop-number.planes c.take.new.self i.further c.take.ensures.further;

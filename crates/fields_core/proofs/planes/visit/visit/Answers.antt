@@ -5,8 +5,7 @@ use Rattle.fields_core.proofs.planes.visit.visit.Goals.{then-may-least-via-then-
 
 pub overflow_sub-must : goal.overflow_sub-must
 overflow_sub-must g c =
-    counted-fewer c.args.planes.now (g.P.Parts.pieces c.args.parts.now) c.count-may.result.0
-    c.count-may.result.1 c.requires.alive c.count-may.ensures
+    counted-fewer c.requires.alive c.count-may.ensures
 
 pub returns-then-may-least-clause-broken : goal.returns-then-may-least-clause-broken
 returns-then-may-least-clause-broken g c = λ _ house of.
@@ -27,9 +26,9 @@ returns-then-must-most-clause-left g c = λ _ house of.
     c.count-may.result.1 c.args.least c.args.most c.requires.alive c.count-may.ensures
     c.requires.order house of
     1 (omega arith) c.if-may-least.false c.if-most-must.false
-    (λ v low. one-bound c.args.least c.args.most _ c.count-may.result.0 v c.if-must-most.true
+    (λ v low. one-bound c.count-may.result.0 v c.if-must-most.true
     (let some = c.if-undecided-gt0.true in let fewer =
-    counted-fewer _ _ _ _ c.requires.alive c.count-may.ensures in omega (arith, some, fewer))
+    counted-fewer c.requires.alive c.count-may.ensures in omega (arith, some, fewer))
     c.requires.order low)
 
 pub returns-then-must-most-clause-alive : goal.returns-then-must-most-clause-alive
@@ -44,7 +43,7 @@ returns-then-may-least-2-clause-left g c = λ _ house of.
     c.count-may.result.1 c.args.least c.args.most c.requires.alive c.count-may.ensures
     c.requires.order house of
     0 (omega arith) c.if-may-least.false c.if-most-must.false
-    (λ v low. zero-bound c.args.least c.args.most _ c.count-may.result.0 v c.if-must-most.false c.if-may-least-2.true low)
+    (λ v low. zero-bound c.if-must-most.false c.if-may-least-2.true low)
 
 pub returns-then-may-least-2-clause-alive : goal.returns-then-may-least-2-clause-alive
 returns-then-may-least-2-clause-alive g c =
@@ -59,7 +58,7 @@ returns-else-may-least-2-clause-left g c = λ _ house of.
     c.count-may.result.1 c.args.least c.args.most c.requires.alive c.count-may.ensures
     c.requires.order house of
     c.if-may-least.false c.if-most-must.false
-    (λ d v low. no-bound _ _ c.args.least c.args.most _ c.count-may.result.0 v c.if-must-most.false c.if-may-least-2.false)
+    (λ d v low. no-bound _ _ v c.if-must-most.false c.if-may-least-2.false)
 
 pub returns-else-undecided-gt0-clause-left : goal.returns-else-undecided-gt0-clause-left
 returns-else-undecided-gt0-clause-left g c = λ _ house of.
@@ -67,6 +66,5 @@ returns-else-undecided-gt0-clause-left g c = λ _ house of.
     c.count-may.result.1 c.args.least c.args.most c.requires.alive c.count-may.ensures
     c.requires.order house of
     c.if-may-least.false c.if-most-must.false
-    (λ d v low. none-undecided c.args.planes.now (g.P.Parts.pieces c.args.parts.now)
-    c.count-may.result.0 c.count-may.result.1 d c.args.least c.args.most _ house of
+    (λ d v low. none-undecided d _ of
     c.count-may.ensures (let none = c.if-undecided-gt0.false in omega arith))

@@ -52,7 +52,7 @@ done g c lt =
     let alive = running-alive c.loop-house.invariant.running in (
       rw (← c.self.view_is) e.visited.left,
       dead_by (rw (← c.self.view_is) e.visited.dead) alive,
-      rw wrote (pushed _ _ _ lt),
+      rw wrote (pushed _ _ lt),
       record {
         made = rw (← c.self.view_is) e.room.made;
         shape = rw (← c.self.view_is) e.room.shape;

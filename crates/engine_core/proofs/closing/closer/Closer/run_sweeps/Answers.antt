@@ -24,7 +24,7 @@ pub returns-else-effect-2-clause-closing : goal.returns-else-effect-2-clause-clo
 returns-else-effect-2-clause-closing g c =
     let i = c.closing.invariant in
     let s = c.sweep-effect.ensures.swept in
-    rw c.max.ensures (swept-idle _ (g.met.R.Rules.lawful c.args.rules.now) _ c.closing.sweeps _ _
+    rw c.max.ensures (swept-idle (g.met.R.Rules.lawful c.args.rules.now) c.closing.sweeps
     c.requires.sweeps (within_of _ _ c.requires.board_of) i.alive i.swept s.left
     (s.idle c.if-effect-2.false).0 (s.idle c.if-effect-2.false).1)
 

@@ -22,7 +22,7 @@ returns-then-not-visit-clause-visited g c =
       left = c.visit.ensures.left;
       idle = λ _. same;
       struck = λ e. absurd (true≢false (sym e));
-      dead = ap (is_dead p.cells p.values) same ∙ unwoken _;
+      dead = ap (is_dead p.cells p.values) same ∙ unwoken;
       woken =
           rw (written-back v.len c.dequeue.new.waits _
           (omega (arith, v.ok.0, c.deref_mut.ensures.len, c.dequeue.auto.waits)))

@@ -41,7 +41,7 @@ loop-house-preserved g c =
           sweeping-turn _ (g.met.R.Rules.lawful c.args.rules.now) _ _ _ _ _ _ s next.1
           (within_of _ _ (IsBoardOf-same c.requires.board_of i.room.shape)) v.left v.woken;
       idle = λ e. struck-none i.idle v.idle e;
-      struck = struck-more _ _ _ _ (sweeping-inside s) v.left i.struck v.struck;
+      struck = struck-more _ _ (sweeping-inside s) v.left i.struck v.struck;
       dead = v.dead ∙ ap (λ b. b || c.step-effect.result.dead) i.dead;
       room = room-more i.room c.step-effect.ensures.room;
       trace = c.step-effect.ensures.trace ∙ i.trace;

@@ -47,7 +47,7 @@ returns-clause-step g c =
     written-back v.len c.dequeue.new.waits (drop (length c.dequeue.new.waits) v.items)
     (omega (arith, v.ok.0, c.deref_mut.ensures.len, c.dequeue.auto.waits)) in
     let called =
-    called-same p K' _ _ _ _ (λ j lt. lost-any p _ _ _ (has_place (p.scope j)) s.lost)
+    called-same p K' _ _ _ _ (λ j lt. lost-any p (has_place (p.scope j)) s.lost)
     (rw (c.len-before.ensures.len, c.deref_mut-waits.ensures.value, cleared)
     at c.wake_since.ensures.called) in
     rw (← c.self.view_is) (

@@ -50,7 +50,7 @@ loop-house-preserved g c =
 pub returns-then-step-clause-swept : goal.returns-then-step-clause-swept
 returns-then-step-clause-swept g c =
     let at = (goal.at.returns-then-step-clause-swept g c).In-Some in
-    sweep-dead _ _ _ _ _ (here g at) (picked g at).1 c.if-step.ensures.step
+    sweep-dead (here g at) (picked g at).1 c.if-step.ensures.step
 
 pub returns-clause-swept : goal.returns-clause-swept
 returns-clause-swept g c =

@@ -9,13 +9,13 @@ bit g c = one_shl c.args.value 32 (omega (arith, (g.met.R.Rules.lawful c.args.ru
 
 pub leave-requires-clause-left : goal.leave-requires-clause-left
 leave-requires-clause-left g c =
-    rw (bit g (goal.at.leave-requires-clause-left g c).After-cell_bits-before) (only-bits _ c.args.place _ c.requires.there c.requires.value_in)
+    rw (bit g (goal.at.leave-requires-clause-left g c).After-cell_bits-before) (only-bits _ c.args.place c.requires.there c.requires.value_in)
 
 pub leave-requires-clause-other : goal.leave-requires-clause-other
 leave-requires-clause-other g c = λ e.
     let bits : IsBitsOf (has c.args.self.now.board c.args.place) (g.R.Rules.system c.args.rules.now).values c.cell_bits-before.result =
     rw (← c.self.view_is, ← (rw (← c.self.view_is) at c.requires.board_of.same_values)) c.cell_bits-before.ensures in
-    only-other c.args.value _ bits c.requires.several (sym (bit g (goal.at.leave-requires-clause-other g c).After-cell_bits-before) ∙ e)
+    only-other c.args.value bits c.requires.several (sym (bit g (goal.at.leave-requires-clause-other g c).After-cell_bits-before) ∙ e)
 
 pub returns-clause-left : goal.returns-clause-left
 returns-clause-left g c =

@@ -10,7 +10,7 @@ noted : (g : _) (c : After-retain g)
     c.self.inside.changes.items c.self.inside.len c.args.place c.args.before c.args.left
 noted g c =
     let r = rw (← c.self.view_is) at c.requires in
-    left-noted _ _ _ _ _ _ _ _ r.board_of c.retain.ensures.shape r.place_in r.before r.left (left-is _ _ _ _ c.retain.ensures.left) r.other c.self.invariant
+    left-noted r.board_of c.retain.ensures.shape r.place_in r.before r.left (left-is _ _ _ c.retain.ensures.left) r.other c.self.invariant
 
 pub index_mut-requires : goal.index_mut-requires
 index_mut-requires g c =
@@ -36,7 +36,7 @@ pub invariant_of-self : goal.invariant_of-self
 invariant_of-self g c = (noted g (goal.at.invariant_of-self g c).After-retain).trail
 
 pub returns-clause-left : goal.returns-clause-left
-returns-clause-left g c = rw (← c.self.view_is) (left-is _ _ _ _ c.retain.ensures.left)
+returns-clause-left g c = rw (← c.self.view_is) (left-is _ _ _ c.retain.ensures.left)
 
 pub returns-clause-further : goal.returns-clause-further
 returns-clause-further g c =

@@ -39,7 +39,7 @@ leave-requires-clause-left g c =
 pub returns-then-left-eq0-clause-dead : goal.returns-then-left-eq0-clause-dead
 returns-then-left-eq0-clause-dead g c = λ _.
     let here = (goal.at.returns-then-left-eq0-clause-dead g c).After-left_of-left in
-    struck-dead _ (g.met.R.Rules.lawful c.args.rules.now) _ c.requires.house_in (in_scope g here) (rw c.if-left-eq0.true at (left g here))
+    struck-dead (g.met.R.Rules.lawful c.args.rules.now) _ c.requires.house_in (in_scope g here) (rw c.if-left-eq0.true at (left g here))
 
 pub loop-k-preserved : goal.loop-k-preserved
 loop-k-preserved g c =
@@ -51,33 +51,33 @@ loop-k-preserved g c =
     let left = left g here in
     let lt = in_scope g here in
     let within = within_of _ _ c.requires.board_of in
-    let some = struck-some _ laws (has c.args.self.now.board) c.requires.house_in lt c.requires.alive (are.bits c.loop-k.k lt) left in
+    let some = struck-some laws (has c.args.self.now.board) c.requires.house_in lt c.requires.alive (are.bits c.loop-k.k lt) left in
     elim c.if-left-sets.branch [
       | then-left-sets+else-left-eq0 w ↦
           let e = w.leave.ensures in
           let upto : IsUpto (g.R.Rules.system c.args.rules.now) c.args.house (c.loop-k.k + 1)
           (has c.args.self.now.board) (has w.leave.new.self.board) =
           rw (e.left, w.scope.ensures)
-          (upto-left _ laws _ _ _ _ _ c.requires.house_in lt within i.upto left) in
+          (upto-left laws c.requires.house_in lt within i.upto left) in
           rw (w.self-is, w.counts-is) (record {
             upto = upto;
             some = λ j less. elim (cases_eq j c.loop-k.k) [
               | inl same ↦ rw same (some (inr w.if-left-eq0.false))
               | inr ne ↦ i.some j (omega arith)
             ];
-            lost = lost-more _ laws _ _ _ _ _ _ c.requires.house_in lt grows e.longer (rw w.scope.ensures at e.noted) e.earlier (rw w.scope.ensures at e.left)
-                (lost-differ _ _ _ _ _ _ _ upto (are.bits c.loop-k.k lt) left w.if-left-sets.true) i.lost;
+            lost = lost-more laws _ c.requires.house_in lt grows e.longer (rw w.scope.ensures at e.noted) e.earlier (rw w.scope.ensures at e.left)
+                (lost-differ _ upto (are.bits c.loop-k.k lt) left w.if-left-sets.true) i.lost;
             further = further-more i.further e.further;
             follows = e.follows;
             keeps = λ needs served. e.keeps needs (i.keeps needs served);
           })
       | else-left-sets w ↦ rw (w.self-is, w.counts-is) (record {
-        upto = upto-same _ laws _ _ _ _ _ c.requires.house_in lt within i.upto (are.bits c.loop-k.k lt) (rw w.if-left-sets.false at left);
+        upto = upto-same laws c.requires.house_in lt within i.upto (are.bits c.loop-k.k lt) (rw w.if-left-sets.false at left);
         some = λ j less. elim (cases_eq j c.loop-k.k) [
           | inl same ↦ rw same (some (inl w.if-left-sets.false))
           | inr ne ↦ i.some j (omega arith)
         ];
-        lost = lost-same _ laws _ _ _ _ c.requires.house_in lt i.upto i.lost;
+        lost = lost-same laws c.requires.house_in lt i.upto i.lost;
         further = i.further;
         follows = i.follows;
         keeps = i.keeps;
@@ -89,9 +89,9 @@ returns-clause-struck g c = λ _.
     let i = c.loop-k.invariant in
     let laws = g.met.R.Rules.lawful c.args.rules.now in
     let all : c.loop-k.k ≡ length ((g.R.Rules.system c.args.rules.now).scope c.args.house) = omega (arith, c.requires.sets.as_many) in
-    let left = upto-all _ laws _ _ c.requires.house_in (rw all at i.upto) in
+    let left = upto-all laws c.requires.house_in (rw all at i.upto) in
     record {
       left = left;
-      alive = rw left (struck-alive _ laws (has c.args.self.now.board) c.requires.house_in c.requires.alive (λ j lt. i.some j (omega arith)));
+      alive = rw left (struck-alive laws (has c.args.self.now.board) c.requires.house_in c.requires.alive (λ j lt. i.some j (omega arith)));
       lost = rw all at i.lost;
     }

@@ -14,7 +14,7 @@ last_undone g c =
     let t = c.loop-self.self-inside in
     let few = trail-len i.trail in
     let last = get_or_read_under t.changes.items (t.len - 1) t.changes.len _ _ c.index.ensures (omega (arith, t.changes.ok.0)) t.changes.ok.0 in
-    undone _ _ _ _ _ _ _ _ _ c.requires.board_of i.shape c.restore_set.ensures.shape i.trail
+    undone c.requires.board_of i.shape c.restore_set.ensures.shape i.trail
     (omega arith) last c.restore_set.ensures.left c.cell_bits-before.ensures c.cell_bits.ensures
 
 pub change-requires : goal.change-requires

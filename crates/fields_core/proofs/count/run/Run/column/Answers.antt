@@ -4,5 +4,5 @@ use Rattle.fields_core.proofs.count.run.Run.column.Goals as goal
 
 pub returns-clause-within : goal.returns-clause-within
 returns-clause-within c = λ k lt.
-    let e = c.of.ensures ∙ column-made c.args.size c.args.x _ _ (c.from.ensures ∙ c.w.ensures.value) (c.from-h.ensures ∙ c.h.ensures.value) in
+    let e = c.of.ensures ∙ column-made c.args.size c.args.x (c.from.ensures ∙ c.w.ensures.value) (c.from-h.ensures ∙ c.h.ensures.value) in
     rw e (column-cell c.args.size c.requires (rw e at lt))

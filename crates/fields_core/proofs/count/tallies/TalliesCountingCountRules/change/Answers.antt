@@ -52,4 +52,4 @@ pub returns-clause-follows : goal.returns-clause-follows
 returns-clause-follows g c =
     λ K L tallied change. tallied-moved _ _ _ (counted-table c.args._set.now.counting.are_houses) K
     L _ _ _ change c.args.self.now.tallies.items tallied c.houses_at-houses.result.now
-    (rw c.requires.table at c.houses_at-houses.ensures) (moved-end _ _ _ _ _ c.loop-k.k c.loop-k.invariant (omega arith) (omega arith))
+    (rw c.requires.table at c.houses_at-houses.ensures) (moved-end c.loop-k.invariant (omega arith) (omega arith))

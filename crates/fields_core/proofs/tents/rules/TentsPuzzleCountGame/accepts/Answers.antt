@@ -3,4 +3,4 @@ use Rattle.fields_core.proofs.tents.rules.TentsPuzzleCountGame.accepts.Goals as 
 
 pub returns-clause-solution : goal.returns-clause-solution
 returns-clause-solution c =
-    tents-tell c.args.self.now c.args.grid.now c.requires.fits c.find_fault.result c.is_none.result c.find_fault.ensures.fault c.is_none.ensures
+    tents-tell c.args.self.now c.args.grid.now c.requires.fits c.find_fault.result c.find_fault.ensures.fault c.is_none.ensures
