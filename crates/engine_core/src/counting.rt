@@ -25,7 +25,8 @@ pub trait Counting<S: RuleSet>: Drop + Sized {
     fn new(alloc: Global, set: &S, table: &HouseTable) -> Result<Self, AllocError>
         requires { table.now ≡ table_of (S.system (S.puzzle_of set.now))
             (S.scopes (S.puzzle_of set.now)) }
-        ensures { IfOk result (λ counts. serves counts (needs_of (S.system (S.puzzle_of set.now)))) };
+        ensures { IfOk result (λ counts.
+            serves counts (needs_of (S.system (S.puzzle_of set.now)))) };
 
     /// Begins to count: what is counted of a board is then so of this one.
     fn watch(&mut self, set: &S, table: &HouseTable, board: &Board)
@@ -43,7 +44,8 @@ pub trait Counting<S: RuleSet>: Drop + Sized {
         requires recounted { IsRecounted (S.system (S.puzzle_of set.now)) (follows set.now) self.old
             place before after }
         ensures follows { (K L : Candidates) → follows set.now self.old K
-            → IsChange (S.system (S.puzzle_of set.now)).cells (S.system (S.puzzle_of set.now)).values K L place before after
+            → IsChange (S.system (S.puzzle_of set.now)).cells
+            (S.system (S.puzzle_of set.now)).values K L place before after
             → follows set.now self.new L }
         ensures keeps { (needs : Needs) → serves self.old needs → serves self.new needs };
 

@@ -67,8 +67,10 @@ impl<S: RuleSet, C: Counting<S>> HouseRules<S, C> {
     ) -> bool
         requires house_in { house < (S.system (S.puzzle_of self.now.set)).houses }
         requires board_of { IsBoardOf (S.system (S.puzzle_of self.now.set)) board.old }
-        requires sets_room { length ((S.system (S.puzzle_of self.now.set)).scope house) ≤ length sets.old }
-        requires kept_room { length ((S.system (S.puzzle_of self.now.set)).scope house) ≤ length kept.old }
+        requires sets_room { length ((S.system (S.puzzle_of self.now.set)).scope house)
+            ≤ length sets.old }
+        requires kept_room { length ((S.system (S.puzzle_of self.now.set)).scope house)
+            ≤ length kept.old }
         requires served { S.serves work.old (needs_of (S.system (S.puzzle_of self.now.set))) }
         ensures left { has board.new ≡ after (S.system (S.puzzle_of self.now.set)) house (has board.old) }
         ensures shape { SameShape board.old board.new }

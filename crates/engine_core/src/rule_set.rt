@@ -69,7 +69,8 @@ pub trait RuleSet: Drop + Sized {
 
     /// Takes the memory that the rules work in.
     fn scratch(&self, alloc: Global) -> Result<Self::Scratch, AllocError>
-        ensures { IfOk result (λ scratch. serves scratch (needs_of (system (puzzle_of self.now)))) };
+        ensures { IfOk result (λ scratch.
+            serves scratch (needs_of (system (puzzle_of self.now)))) };
 
     /// Decides what a visit of the house keeps of the sets of its cells, which are given as bits in the order of its scope.
     /// Says whether anything may be struck; else nothing is, whatever is in `kept`.

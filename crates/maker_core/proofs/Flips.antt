@@ -7,9 +7,6 @@ use Rattle.maker_core.proofs.Common.{length-map-range_with_len, get_or-map-range
 pub line_from-below : (flips : Bool) {n k : ℕ} → k < n → line_from flips n k < n
 line_from-below flips lt = grind arith
 
-pub line_from-apart : (flips : Bool) (n j k : ℕ) → j < n → k < n → line_from flips n j ≡ line_from flips n k → j ≡ k
-line_from-apart flips n j k lj lk e = grind arith
-
 -- the group of a line counted from the other end
 other_group : (count size k : ℕ) → 0 < size → k < count * size → (count * size - 1 - k) / size ≡ count - 1 - k / size
 other_group count size k pos lt =

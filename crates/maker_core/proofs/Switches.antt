@@ -21,10 +21,6 @@ pub told_by : {p : Pattern} (g : List ℕ) {h : List ℕ} (fault : Option Patter
 told_by {p} g fault {told} check e same =
     rw same at (tells (FailsPattern p g) (pattern_tests p) (pattern_none p g) told fault check e)
 
--- a run has one end
-pub one_end : {size : Extent} (g : List ℕ) (x y end other : ℕ) → IsRunEnd size g x y end → IsRunEnd size g x y other → end ≡ other
-one_end g x y end other a b = grind (arith, common_steps, cases_lt end other, cases_lt other end)
-
 -- no run that begins at one place more may be turned
 pub none_more : {p : Pattern} {g : List ℕ} {place : ℕ}
     → ((x y : ℕ) → x < p.size.w → y * p.size.w + x < place → run_begins p.size g x y ≡ true → RunHasSwitch p g x y → ⊥)

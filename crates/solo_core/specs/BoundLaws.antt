@@ -43,9 +43,6 @@ few_lines decides p ok =
     let all = mul-le (length (houses_of p)) (solo_n p * solo_n p) 95 961 (omega arith) square in
     omega arith
 
-pub few_visits : (decides : Decision) (p : Solo) → IsSolo p → sum_by (visits_of (solo_n p)) (deciding decides p) < 2 ^ 32
-few_visits decides p ok = let few = few_lines decides p ok in omega arith
-
 pub count_x : (p : Solo) → p.x ≡ true → length (houses_of p) ≡ 3 * solo_n p + 2
 count_x p is = house_count p ∙ ap (λ b. 3 * solo_n p + (if b then 2 else 0)) is
 

@@ -16,6 +16,7 @@ pub trait Named: Played {
     fn push_name(&self, number: usize, text: &mut String) -> Result<(), AllocError>
         requires { number < named self.now }
         ensures name { OnOk result
-            (string_bytes text.new ≡ string_bytes text.old ++ Self.game.visit_name self.now number) }
+            (string_bytes text.new
+            ≡ string_bytes text.old ++ Self.game.visit_name self.now number) }
         ensures short { OnOk result (string_len text.new ≤ string_len text.old + NAME) };
 }

@@ -22,7 +22,8 @@ const LINE: usize = 60;
 fn push_visit<P: Named>(puzzle: &P, number: usize, text: &mut String) -> Result<(), AllocError>
     requires { number < P.named puzzle.now }
     ensures line { OnOk result
-        (string_bytes text.new ≡ string_bytes text.old ++ line_of (P.game.visit_name puzzle.now number)) }
+        (string_bytes text.new
+        ≡ string_bytes text.old ++ line_of (P.game.visit_name puzzle.now number)) }
     ensures short { OnOk result (string_len text.new ≤ string_len text.old + LINE) }
 {
     puzzle.push_name(number, text)?;
@@ -75,7 +76,8 @@ pub fn put_visits<P: Named, O: Sink>(
         output.old text.old text.new output.new) }
     ensures fine { OnOk result (O.has_failed output.new ≡ false) }
     ensures err { OnErr result
-        (VisitsBegun O.takes (P.game.visit_name puzzle.now) visits.now output.old text.old output.new) }
+        (VisitsBegun O.takes (P.game.visit_name puzzle.now) visits.now output.old text.old
+        output.new) }
     ensures failed { IfErr result (λ stop. O.has_failed output.new ≡ is_broken stop) }
     ensures pieces { OnOk result (VisitsInPieces O.takes (P.game.visit_name puzzle.now) visits.now
         output.old text.old text.new output.new) }

@@ -56,11 +56,14 @@ fn descend<P: Position>(
     at: Progress,
 ) -> Progress
     requires walks { P.walks rules.now position.old }
-    requires closed_but { IsClosedBut (P.system rules.now) (P.stands position.old).board at.changed }
+    requires closed_but { IsClosedBut (P.system rules.now) (P.stands position.old).board
+        at.changed }
     requires from_in { at.from ≤ (P.system rules.now).cells }
-    requires none { pick at.from (P.system rules.now).values (P.stands position.old).board ≡ None }
+    requires none { pick at.from (P.system rules.now).values (P.stands position.old).board
+        ≡ None }
     requires ready { AreReady (P.system rules.now) (P.stands position.old) levels.old }
-    requires single { levels.old.depth ≤ singles (P.system rules.now) (P.stands position.old).board }
+    requires single { levels.old.depth
+        ≤ singles (P.system rules.now) (P.stands position.old).board }
     requires long { AreGrids (P.system rules.now).cells grids.old }
     requires going { at.has_second ≡ false }
     requires turns_room { at.turns + 2 ^ 64 ≤ 2 ^ 128 }
@@ -133,8 +136,8 @@ fn search<P: Position>(
     requires long { AreGrids (P.system rules.now).cells grids.old }
     requires going { from.has_second ≡ false }
     requires turns_room { from.turns < 2 ^ 64 }
-    ensures searched { Searches (P.system rules.now) (P.stands position.old) levels.old grids.old from
-        result grids.new }
+    ensures searched { Searches (P.system rules.now) (P.stands position.old) levels.old
+        grids.old from result grids.new }
     ensures trials { result.trials ≤ from.budget }
     ensures few { result.deepest ≤ max from.deepest (P.system rules.now).cells }
     ensures long { AreGrids (P.system rules.now).cells grids.new }
