@@ -22,7 +22,7 @@ pub fn each_text_has_an_answer()
 pub fn each_request_has_an_answer()
     ensures { EachRequestHasAnAnswer }
 {
-    maker_core::fillings_of_tents_are_solutions();
+    maker_core::laws::fillings_of_tents_are_solutions();
 }
 
 /// A `solve`, a `check`, a `grade` without a trace, a `generate` of Pattern or Tents and words that
@@ -34,7 +34,7 @@ pub fn one_answer()
     ensures solo { SoloDiffersInGivens }
     ensures lights { LightsDifferInNumbers }
 {
-    maker_core::fillings_of_tents_are_solutions();
+    maker_core::laws::fillings_of_tents_are_solutions();
 }
 
 /// Where `solve` tells one grid or two, or gives up with one, `check` of the ID finds each of them

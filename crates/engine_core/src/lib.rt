@@ -5,7 +5,7 @@ mod closing;
 mod counting;
 mod house_rules;
 mod houses;
-mod laws;
+pub mod laws;
 mod mode;
 mod needs;
 mod rule_set;
@@ -21,11 +21,6 @@ pub use house_rules::{HouseRules, HouseScratch};
 pub use houses::list::HouseList;
 pub use houses::table::HouseTable;
 pub use houses::visit::{apply, gather, has_bit};
-pub use laws::{
-    closure_is_largest, picks_the_lowest_of_the_fewest, sound_houses_are_lawful,
-    struck_where_no_filling_has_it, verdict_goes_by_counts, verdict_is_true,
-    visits_of_houses_are_enough, walk_finds_each_solution_once, walk_goes_on_from_the_closure,
-};
 pub use mode::{Closing, Mode};
 pub use rule_set::RuleSet;
 pub use rules::Rules;

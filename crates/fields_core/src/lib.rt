@@ -2,7 +2,7 @@
 #![tactic(auto)]
 
 mod count;
-mod laws;
+pub mod laws;
 mod light_up;
 mod planes;
 mod tents;
@@ -11,10 +11,6 @@ pub use count::game::CountGame;
 pub use count::list::{Bounds, CountList};
 pub use count::rules::CountRules;
 pub use count::tallies::Tallies;
-pub use laws::{
-    accepted_lights_are_solutions, accepted_tents_are_solutions, rules_of_lights_are_lawful,
-    rules_of_tents_are_lawful,
-};
 pub use light_up::cells::is_white;
 pub use light_up::check::check_lights;
 pub use light_up::fault::LightFault;

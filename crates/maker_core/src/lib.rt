@@ -3,7 +3,7 @@
 
 mod black;
 mod draws;
-mod laws;
+pub mod laws;
 mod light_up;
 mod made;
 mod pattern;
@@ -12,9 +12,6 @@ mod tents;
 mod thinning;
 mod tries;
 
-pub use laws::{
-    fewer_clues_keep_solutions, fillings_of_tents_are_solutions, needed_clues_are_not_idle,
-};
 pub use light_up::maker::make_lights;
 pub use made::{Kept, Limits, Made, MakeFault, Why};
 pub use pattern::maker::make_pattern;

@@ -3,7 +3,7 @@
 
 mod check;
 mod fault;
-mod laws;
+pub mod laws;
 mod line_cells;
 mod line_clue;
 mod lines;
@@ -14,5 +14,4 @@ mod track;
 
 pub use check::check_pattern;
 pub use fault::PatternFault;
-pub use laws::{accepted_are_solutions, rules_are_lawful};
 pub use lines::{LineCounts, LineScratch, PatternLines};

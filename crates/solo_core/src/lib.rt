@@ -4,7 +4,7 @@
 mod check;
 mod fault;
 mod houses;
-mod laws;
+pub mod laws;
 mod rule_sets;
 mod start;
 mod visits;
@@ -14,9 +14,4 @@ pub use fault::SoloFault;
 pub use houses::house::NamedHouse;
 pub use houses::scope::VisitName;
 pub use houses::scopes::visit_name;
-pub use laws::{
-    accepted_are_solutions, bounds_are, crossings_strike_what_houses_strike,
-    houses_are_lines_and_blocks, houses_strike_what_singles_strike, rules_are_lawful,
-    rules_of_crossings, rules_of_houses, rules_of_singles, scopes_are_houses_and_crossings,
-};
 pub use rule_sets::{Crossings, Fillings, Singles, SoloCrossings, SoloHouses, SoloSingles};
