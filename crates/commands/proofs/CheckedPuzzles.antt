@@ -2,7 +2,7 @@
 -- a solution is told to be correct.
 use Rattle.std.proofs.Common.{◌≡◌, ◌<◌, ◌≤◌, ◌∷◌, ◌⊎◌, ℕ, List, zero, suc, [], length, refl, sym, ap, subst, arith, inl, inr, ◌≢◌, ◌∙◌, ◌*◌, Bool, true, false, Option, Some, None, get_or, slice_index, true≢false, codes}
 use Rattle.std.proofs.lemmas.Grind.{common_steps}
-use Rattle.std.specs.Prelude.{All, option_map, ◌↔◌}
+use Rattle.std.specs.Prelude.{All, option_map, ◌++◌, ◌↔◌}
 use Rattle.std.proofs.lemmas.Bool.{cases_eq, cases_lt, eq-eqb}
 use Rattle.std.specs.Bool.{Decides}
 use Rattle.std.specs.Cmp.Lexicographic.{bytes_decides}

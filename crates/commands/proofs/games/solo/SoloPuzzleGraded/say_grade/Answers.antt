@@ -1,5 +1,5 @@
-use Rattle.std.proofs.Common.{refl, rules, subst, sym}
-use Rattle.commands.specs.Common.{IsSolo, crossings_rules}
+use Rattle.std.proofs.Common.{refl, rules, sym}
+use Rattle.commands.specs.Common.{crossings_rules}
 use Rattle.commands.specs.Grades.{only_set}
 use Rattle.commands.specs.SoloFacts.{after_singles, solo_facts}
 use Rattle.commands.specs.declared.grade.RuleSet.TheVariants.{Crossings, Singles}
@@ -17,7 +17,7 @@ say-requires-clause-named g c = λ queue. named c.args.self.now c.in_ok-singles.
 pub returns-then-settles-clause-answer : goal.returns-then-settles-clause-answer
 returns-then-settles-clause-answer g c =
     let p = c.args.self.now in
-    let ok = subst IsSolo c.in_ok-singles.ensures.copied c.in_ok-singles.singles.is_solo in
+    let ok = c.in_ok-singles.ensures.known in
     said_first solo_facts p c.args.options.budget c.args.options.traced g.O.Sink.takes _ _ _ Singles (after_singles p) c.in_ok-singles.ensures.rules
     (sym c.if-settles.ensures.settled) (solo_accepted ok _ _) (c.if-settles.ensures.one refl) c.say.ensures.answer
 

@@ -7,7 +7,7 @@ use Rattle.maker_core.specs.declared.made.MakeFault.{MakeFault}
 use Rattle.maker_core.specs.declared.made.MakeFault.TheVariants.{Exhausted, Memory, SizeRange}
 use Rattle.commands.specs.Answers.{Text}
 use Rattle.commands.specs.Common.{in_range, size_of}
-use Rattle.commands.specs.SoloPlayed.{solo_played}
+use Rattle.commands.specs.SoloFacts.{solo_facts}
 use Rattle.commands.specs.Unmade.{IsUnmade, unmade_by, wanted_in}
 use Rattle.commands.specs.declared.generate.Recipe.{Recipe}
 use Rattle.commands.specs.declared.generate.makable.Unmade.{Unmade}
@@ -20,10 +20,10 @@ sized range = grind (arith, common_steps)
 -- why none is made of it
 unmade : {c r : ℕ} {x : Bool} (recipe : Recipe) (text : Text) (e : MakeFault) → in_range game.Solo c r ≡ true
     → size_of game.Solo text ≡ Ok (record { w = c; h = r; x = x }) → IsSoloUnmade c r x recipe.limits (wanted_in recipe).stream e
-    → IsUnmade solo_played.game recipe text (unmade_by e)
+    → IsUnmade solo_facts.game recipe text (unmade_by e)
 unmade recipe text SizeRange range read none = absurd (none (sized range))
 unmade recipe text Exhausted range read out =
-    record { size = _; read = read; allowed = record { none = out.1; plain = out.2; told = refl } }
+    record { size = _; read = read; allowed = record { none = out.1; plain = out.2 } }
 unmade recipe text Memory range read out = tt
 
 pub returns-in_err-make_solo-clause-unmade : goal.returns-in_err-make_solo-clause-unmade
