@@ -12,7 +12,7 @@ use Rattle.std.proofs.lemmas.List.{get_or_past}
 use Rattle.gameid_core.specs.declared.light_up.cell.LightCell.{LightCell}
 use Rattle.gameid_core.specs.declared.light_up.cell.LightCell.TheVariants.{White, Black, Numbered}
 use Rattle.gameid_core.specs.declared.id.game.Game.TheVariants as game
-use Rattle.fields_core.specs.Light.{is_white, light_cells, white}
+use Rattle.fields_core.specs.Light.{is_white, white}
 use Rattle.gameid_core.proofs.FirstFailed.{answer_once, one_answer}
 use Rattle.fields_core.proofs.LightRuleLemmas as light
 use Rattle.fields_core.proofs.TentRuleLemmas as tents
@@ -22,9 +22,9 @@ use Rattle.pattern_core.specs.Faults.{FailsPattern, pattern_tests}
 use Rattle.solo_core.specs.Faults.{FailsSolo, given_tests, house_tests}
 use Rattle.pattern_core.proofs.FaultLemmas.{pattern_known, pattern_none, pattern_sound}
 use Rattle.solo_core.proofs.RepeatLemmas.{solo_known, solo_none, solo_sound}
-use Rattle.commands.specs.Common.{IsGrid, Extent, max_side, IsAsShown, hides_nothing, light_hides, tent_hides, IsPrinted, grid_text, pattern_cell}
-use Rattle.commands.specs.Common.{solo_cell, solo_extent, light_cell, tents_cell, max_numbers, IsLight, IsPattern, IsSolo, IsTents, Light, Pattern, Solo}
-use Rattle.commands.specs.Common.{Tents, solo_n, IsPatternFault, IsSoloFault, IsLightFault, IsLightSolution, IsTentFault, IsTentSolution}
+use Rattle.commands.specs.Common.{IsGrid, Extent, IsAsShown, hides_nothing, light_hides, tent_hides, IsPrinted, pattern_cell}
+use Rattle.commands.specs.Common.{solo_cell, solo_extent, light_cell, tents_cell, IsLight, IsPattern, IsSolo, IsTents, Light, Pattern, Solo}
+use Rattle.commands.specs.Common.{Tents, IsPatternFault, IsSoloFault, IsLightFault, IsLightSolution, IsTentFault, IsTentSolution}
 use Rattle.commands.specs.Answers.{Answer, Text}
 use Rattle.commands.specs.CheckAnswers.{AllowsGrid, SaysFault, checked, IsInputOf, without_returns}
 use Rattle.commands.specs.Games.{game_of}

@@ -1,5 +1,5 @@
 -- How many answers a making without thinning allows: one, since the first filling that passes is one alone.
-use Rattle.std.proofs.Common.{ℕ, ◌/◌, ◌%◌, ◌^◌, ◌<◌, List, arith, ◌≡◌, ◌∙◌, ◌*◌, ◌≤◌, ◌⊎◌, ◌&&◌, Bool, true, false, not, [], Option, Some, None, Result, Ok, Err, refl, sym, ap, ap₂, subst, inl, inr, true≢false, suc, zero, ◌+◌}
+use Rattle.std.proofs.Common.{ℕ, ◌/◌, ◌%◌, ◌^◌, ◌<◌, List, arith, ◌≡◌, ◌∙◌, ◌*◌, ◌≤◌, ◌⊎◌, ◌&&◌, Bool, true, false, [], Result, Ok, Err, refl, sym, ap, ap₂, subst, inl, inr, true≢false, suc, zero}
 use Rattle.std.proofs.lemmas.Nat.{mod_below}
 use Rattle.std.specs.Prelude.{nat_le, if◌then◌else◌}
 use Rattle.std.proofs.lemmas.Bool.{and_parts, cases_eq, cases_lt, leb-true}

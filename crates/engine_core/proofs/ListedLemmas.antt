@@ -5,12 +5,11 @@ use Rattle.engine_core.specs.HouseSets.{Decision, strikes_at}
 use Rattle.engine_core.specs.HouseSetsLaws.{bits-of_values, strikes_at-in_scope, strikes_at-place}
 use Rattle.engine_core.specs.ListedHouses.{AreScopesOf, table_of}
 use Rattle.engine_core.proofs.IndexLemmas.{nth-at}
-use Rattle.engine_core.proofs.KeepLemmas.{kept-none}
 use Rattle.engine_core.proofs.QueueLemmas.{scope-in}
 use Rattle.engine_core.proofs.StoreLemmas.{scope_le-longest}
-use Rattle.engine_core.proofs.Common.{AreHousesAt, AreScopes, AreSetsOf, Bool, Candidates, IsBitsOf, IsBoardOf, IsKept, IsLawful, IsWithin, List, RuleSystem, after, and_left, ap}
-use Rattle.engine_core.proofs.Common.{Layout, arith, cells_of, cases_Bool, common_steps, count_below, false, false_from_ne_true, fun_ext, has, has_bit, has_place, has_place-at}
-use Rattle.engine_core.proofs.Common.{has_place-here, inl, inr, is_waiting, kept_in, length, longest, not, number_at, refl, scope_of, slice_index, sym, take, true}
+use Rattle.engine_core.proofs.Common.{AreHousesAt, AreScopes, AreSetsOf, Bool, Candidates, IsBitsOf, IsBoardOf, IsKept, IsLawful, IsWithin, List, RuleSystem, after, ap}
+use Rattle.engine_core.proofs.Common.{Layout, arith, cells_of, cases_Bool, common_steps, count_below, false_from_ne_true, fun_ext, has, has_bit, has_place, has_place-at}
+use Rattle.engine_core.proofs.Common.{has_place-here, inl, inr, kept_in, length, longest, not, refl, scope_of, slice_index, sym, take, true}
 use Rattle.engine_core.proofs.Common.{true≢false, ℕ, ◌&&◌, ◌<◌, ◌≡◌, ◌≤◌, ◌∙◌}
 
 -- the lists are of different places of the board

@@ -1,15 +1,14 @@
 -- What a visit of a count house leaves of its cells, by the tally of the house.
-use Rattle.std.proofs.Common.{◌≡◌, ℕ, zero, suc, ◌+◌, ◌*◌, ◌<◌, ◌≤◌, Bool, true, false, not, true≢false, ◌&&◌, List, ◌||◌, cond, eqb, ltb, length, get_or, slice_index, refl, sym, ◌∙◌, ap, arith, ◌⊎◌, inl, inr}
-use Rattle.std.proofs.Math.Path.{fun_ext}
+use Rattle.std.proofs.Common.{◌≡◌, ℕ, zero, suc, ◌+◌, ◌*◌, ◌<◌, ◌≤◌, Bool, true, false, not, true≢false, ◌&&◌, ◌||◌, cond, eqb, ltb, length, slice_index, refl, sym, ◌∙◌, ap, arith, ◌⊎◌, inl, inr}
 use Rattle.std.proofs.Math.Bool.{and-true, and-false}
 use Rattle.std.proofs.lemmas.Bool.{cases_Bool, cases_eq, false_from_ne_true, and_parts, or_cases, or_parts, eqb-true, eq-eqb, ne_eqb, le-ltb, ltb-true, ltb-false}
-use Rattle.grid_core.specs.Candidates.{Candidates, IsWithin}
+use Rattle.grid_core.specs.Candidates.{Candidates}
 use Rattle.engine_core.specs.RuleSystem.{has_place}
 use Rattle.engine_core.specs.PlaceLaws.{has_place-at, has_place-here}
 use Rattle.engine_core.specs.Sets.{has_bit, IsBitsOf}
 use Rattle.engine_core.specs.Filling.{IsShown, strikes_by_fillings}
 use Rattle.engine_core.specs.FillingLaws.{shown_from_test, test_from_shown}
-use Rattle.engine_core.specs.HouseSets.{sets_at, strikes_at, kept_in, Decision}
+use Rattle.engine_core.specs.HouseSets.{sets_at}
 use Rattle.engine_core.specs.HouseSetsLaws.{strikes_at-place, strikes_at-in_scope}
 use Rattle.fields_core.specs.Count.{counts_between, is_open, is_empty}
 use Rattle.fields_core.specs.CountHouse.{CountHouse, IsHouse, after_house, strikes_of}

@@ -1,5 +1,5 @@
 -- Lists of count houses, as they are made.
-use Rattle.std.proofs.Common.{◌≡◌, ℕ, zero, suc, ◌+◌, ◌<◌, ◌≤◌, cond, get_or, List, [], ◌∷◌, ◌++◌, length, map, slice_index, Bool, true, false, Option, refl, sym, ap, subst, ◌∙◌, arith, add-one}
+use Rattle.std.proofs.Common.{◌≡◌, ℕ, zero, suc, ◌+◌, ◌<◌, ◌≤◌, cond, get_or, List, [], ◌∷◌, ◌++◌, length, map, Bool, true, false, refl, sym, ap, arith, add-one}
 use Rattle.std.proofs.lemmas.List.{get_or-map, append-nil, append_assoc, length-append, length-map, map-append}
 use Rattle.std.specs.List.{filter}
 use Rattle.grid_core.specs.Extent.{Extent}

@@ -1,7 +1,7 @@
 -- In Light Up the test of a solution is the rule.
 use Rattle.std.proofs.Common.{◌≡◌, ℕ, ◌+◌, ◌*◌, ◌/◌, ◌%◌, ◌<◌, ◌≤◌, min, max, Bool, true, false, not, ◌&&◌, ◌||◌, eqb, List, [], ◌∷◌, get_or, slice_index, Option, is_some, refl, sym, ◌∙◌, inl, inr, arith}
 use Rattle.std.specs.List.{AllByRecursion}
-use Rattle.std.proofs.lemmas.Bool.{cases_lt, cases_Bool, or_left, or_right, or_cases, or_parts, and_from, and_parts, true≢false, not-false, ne_eqb, eqb-true, eq-eqb, not-true, cases_eq}
+use Rattle.std.proofs.lemmas.Bool.{cases_lt, or_left, or_right, or_cases, or_parts, and_from, and_parts, true≢false, not-false, ne_eqb, eqb-true, eq-eqb, not-true, cases_eq}
 use Rattle.std.proofs.lemmas.Nat.{div-mul-add, mod-mul-add, le-div}
 use Rattle.std.proofs.Math.Nat.{mul-le-mul_right, mod-lt, div-mul-le_self}
 use Rattle.grid_core.specs.Grids.{IsGrid}

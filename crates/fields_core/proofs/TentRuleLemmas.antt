@@ -8,7 +8,6 @@ use Rattle.grid_core.proofs.CandidateLemmas.{all_below-at, all_below-from, any_b
 use Rattle.engine_core.specs.PlaceLaws.{has_place-here, different-from}
 use Rattle.gameid_core.specs.Puzzles.{Tents}
 use Rattle.fields_core.specs.Tents.{tent_cells, tree, tent, touches, tents_in_column, tents_in_row, tree_right, touch_right, column_right, row_right, can_be_paired, solves_tents}
-use Rattle.fields_core.specs.TentHouses.{tent_houses}
 use Rattle.fields_core.specs.TentSolutions.{IsPairedBy, IsTentSolution}
 use Rattle.gameid_core.specs.FirstFailed.{NoneFails}
 use Rattle.gameid_core.proofs.FirstFailed.{AreRight, IsKnown, IsMade, Kind, known_tests, none_held, none_tells, right_none}

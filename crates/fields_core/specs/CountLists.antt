@@ -1,5 +1,5 @@
 -- Lists of count houses, as they are made.
-use Rattle.std.specs.Prelude.{◌≡◌, ℕ, List, [], ◌∷◌, ◌++◌, map, slice_index_or}
+use Rattle.std.specs.Prelude.{◌≡◌, ℕ, List, [], ◌∷◌, ◌++◌, map}
 use Rattle.fields_core.specs.CountHouse.{CountHouse}
 use Rattle.fields_core.specs.declared.count.list.Bounds.{Bounds}
 use Rattle.fields_core.specs.declared.count.list.CountList.{CountList}

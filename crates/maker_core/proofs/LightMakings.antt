@@ -1,5 +1,5 @@
 -- A puzzle of black cells alone passes; and what is known of the puzzle of a filling.
-use Rattle.maker_core.proofs.Common.{◌≡◌, ℕ, ◌<◌, true, false, not, List, slice_index, sym, ap, ◌∙◌, arith, Extent, IsGrid, all_below-at, Light}
+use Rattle.maker_core.proofs.Common.{◌≡◌, ℕ, ◌<◌, true, false, not, List, slice_index, sym, ap, ◌∙◌, arith, Extent, all_below-at, Light}
 use Rattle.maker_core.proofs.Common.{IsLawful, closure_inside, start_of, light_cells, white, black_right, solves_lights, light_rules, lit-parts, LightFilling}
 use Rattle.maker_core.proofs.Common.{AreAll, IsLit, light-lawful, lights_of, light_puzzle_of, with_numbers, is_one, has_one, HasOne, TellsOne, IsOnly}
 use Rattle.maker_core.proofs.FoundAtOnce.{found_at_once}

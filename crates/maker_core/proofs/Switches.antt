@@ -1,13 +1,9 @@
 -- Cells turned and turned back leave a grid as it was, and a puzzle with two solutions has no verdict of one.
-use Rattle.maker_core.proofs.Common.{◌≡◌, ◌≢◌, ℕ, ◌<◌, Bool, true, false, List, length, refl, sym, ap, ◌∙◌, arith, not, Option, Some, None}
-use Rattle.maker_core.proofs.Common.{slice_index, slice_set, is_some, true≢false, get_or-set_same, IsExtent, Pattern, RuleSystem, outcome-true, Outcome}
+use Rattle.maker_core.proofs.Common.{◌≡◌, ◌≢◌, ℕ, ◌<◌, Bool, true, false, List, length, refl, sym, ap, ◌∙◌, arith, not, Option}
+use Rattle.maker_core.proofs.Common.{slice_index, slice_set, is_some, get_or-set_same, IsExtent, Pattern, RuleSystem, outcome-true, Outcome}
 use Rattle.maker_core.proofs.Common.{verdict_of, Solves, IsTrueOf, FailsPattern, IsPatternFault, PatternFault, pattern_none, pattern_tests, tells, is_solution-from, line_rules-lawful, line_rules}
-use Rattle.maker_core.proofs.Common.{IsPatternSolution, IsRunEnd, is_one, has_one, HasOther, RunHasSwitch, run_begins, cases_lt, common_steps, div-mul-add, mod-mul-add, inl, inr, ◌+◌, ◌*◌, ◌/◌, ◌%◌}
+use Rattle.maker_core.proofs.Common.{IsPatternSolution, is_one, has_one, HasOther, RunHasSwitch, run_begins, cases_lt, div-mul-add, mod-mul-add, inl, inr, ◌+◌, ◌*◌, ◌/◌, ◌%◌}
 use Rattle.std.specs.Prelude.{◌↔◌}
-use Rattle.std.proofs.lemmas.Bool.{cases_Bool}
-use Rattle.grid_core.specs.Extent.{Extent}
-use Rattle.pattern_core.specs.LineLaws.{line_of_solution}
-use Rattle.pattern_core.specs.declared.fault.PatternFault.TheVariants.{Column, Row}
 use Rattle.engine_core.specs.Verdict.{Outcome.NoSolution, Outcome.OneSolution, Outcome.SeveralSolutions, Outcome.GaveUp}
 use Rattle.maker_core.proofs.WrittenGrids.{grid_with, set_back}
 

@@ -1,9 +1,9 @@
-use Rattle.std.proofs.Common.{◌≡◌, ◌∙◌, ℕ, zero, suc, ◌*◌, ◌/◌, ◌%◌, ◌<◌, ◌≤◌, Bool, true, false, not, ◌&&◌, eqb, ltb, [], ◌∷◌, length, refl, sym, ap, inr, rules, arith}
+use Rattle.std.proofs.Common.{◌≡◌, ◌∙◌, ℕ, zero, suc, ◌/◌, ◌%◌, ◌<◌, ◌≤◌, Bool, true, false, not, ◌&&◌, [], ◌∷◌, refl, ap, inr, rules, arith}
 use Rattle.std.proofs.lemmas.Bool.{cases_Bool, and_parts, eqb-true, lt-ltb}
 use Rattle.std.proofs.lemmas.Grind.{common_steps}
 use Rattle.grid_core.specs.Candidates.{Candidates, all_of}
 use Rattle.grid_core.specs.Extent.{Extent}
-use Rattle.grid_core.specs.Planes.{Layers, Taking, has, cells_of, crosses, covers, lines_beside, number_of, without_taking}
+use Rattle.grid_core.specs.Planes.{Taking, has, crosses, covers, lines_beside, number_of, without_taking}
 use Rattle.grid_core.specs.declared.planes.line.Line.TheVariants.{Row}
 use Rattle.fields_core.specs.Parts.{ArePieces, lies_in, piece_at}
 use Rattle.core_tests.proofs.planes.visit_square.Goals as goal

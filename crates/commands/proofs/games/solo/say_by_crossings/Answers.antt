@@ -1,5 +1,4 @@
-use Rattle.std.proofs.Common.{subst}
-use Rattle.commands.specs.Common.{IsSolo, IsSoloSolution}
+use Rattle.commands.specs.Common.{IsSoloSolution}
 use Rattle.commands.specs.declared.grade.RuleSet.TheVariants.{Crossings}
 use Rattle.commands.specs.SoloFacts.{solo_facts}
 use Rattle.commands.proofs.GradeLemmas.{accepted_by, said_by, crossings_named, named}

@@ -1,4 +1,4 @@
-use Rattle.core_tests.proofs.Common.{List, [], arith, length, refl, set, slice_index, ℕ, ◌∷◌, ◌≡◌}
+use Rattle.core_tests.proofs.Common.{List, [], arith, length, refl, set, ℕ, ◌∷◌, ◌≡◌}
 use Rattle.core_tests.proofs.NeighboursLemmas.{decided, two-of}
 use Rattle.core_tests.proofs.engine.neighbours.keep.Goals as goal
 

@@ -1,5 +1,5 @@
 use Rattle.engine_core.proofs.CallLemmas.{upto-all, upto-asked}
-use Rattle.engine_core.proofs.Common.{arith, has_place, is_waiting}
+use Rattle.engine_core.proofs.Common.{arith, has_place}
 use Rattle.engine_core.proofs.ListedLemmas.{housed-all, housed-at}
 use Rattle.engine_core.proofs.house_rules.HouseRulesPropagators.wake.Goals as goal
 

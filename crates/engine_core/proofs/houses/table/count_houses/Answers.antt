@@ -1,4 +1,4 @@
-use Rattle.engine_core.proofs.Common.{arith, length, ◌∙◌}
+use Rattle.engine_core.proofs.Common.{arith, ◌∙◌}
 use Rattle.engine_core.proofs.PlaceCounts.{all-within, all-long, counted-in}
 use Rattle.engine_core.proofs.houses.table.count_houses.Goals as goal
 

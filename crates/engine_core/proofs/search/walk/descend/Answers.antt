@@ -4,7 +4,7 @@ use Rattle.engine_core.proofs.RoomLemmas.{split-room, open-room}
 use Rattle.engine_core.proofs.LevelLemmas.{ready-onward, ready-push}
 use Rattle.engine_core.proofs.FrameLemmas.{IsDescent, descend-dead, descend-nothing, descend-solved, descend-split, found-none, found-solved}
 use Rattle.engine_core.proofs.search.walk.descend.Goals as goal
-use Rattle.engine_core.proofs.search.walk.descend.Goals.{After-close-taken, In-Open, In-Split}
+use Rattle.engine_core.proofs.search.walk.descend.Goals.{After-close-taken, In-Split}
 
 -- what the closing left
 descent : (g : _) (c : After-close-taken g)

@@ -1,4 +1,4 @@
-use Rattle.engine_core.proofs.Common.{arith, has_place, is_waiting, length, refl, replicate, rules, true, waits_from, ◌≡◌}
+use Rattle.engine_core.proofs.Common.{arith, length, refl, replicate, rules, waits_from, ◌≡◌}
 use Rattle.engine_core.proofs.WaitLemmas.{waiting-none}
 use Rattle.engine_core.proofs.CallLemmas.{called-from}
 use Rattle.engine_core.proofs.trail.agenda.wait_from.Goals as goal

@@ -1,4 +1,4 @@
-use Rattle.engine_core.proofs.Common.{arith, change_at, has, has_place, is_waiting, ◌≡◌, ◌≤◌}
+use Rattle.engine_core.proofs.Common.{arith, change_at, has, has_place, ◌≡◌, ◌≤◌}
 use Rattle.engine_core.proofs.CallLemmas.{called-none}
 use Rattle.engine_core.proofs.LostLemmas.{since-called, since-first}
 use Rattle.engine_core.proofs.trail.agenda.wake_since.Goals as goal

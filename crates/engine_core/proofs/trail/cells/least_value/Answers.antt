@@ -1,4 +1,3 @@
-use Rattle.engine_core.proofs.Common.{has}
 use Rattle.engine_core.proofs.SetLemmas.{least-in}
 use Rattle.engine_core.proofs.trail.cells.least_value.Goals as goal
 

@@ -1,6 +1,5 @@
 use Rattle.std.proofs.Common.{refl, sym, ◌∙◌}
 use Rattle.grid_core.proofs.PlaneLemmas.{further-more, further-none}
-use Rattle.fields_core.specs.Parts.{piece_of}
 use Rattle.fields_core.proofs.PartLemmas.{line_in, struck-more, struck-none}
 use Rattle.fields_core.proofs.planes.visit.strike.Goals as goal
 

@@ -1,7 +1,5 @@
 use Rattle.std.proofs.Common.{false}
-use Rattle.solo_core.specs.Common.{solo_n}
 use Rattle.solo_core.specs.RuleLaws.{singles_sound}
-use Rattle.solo_core.specs.Singles.{strikes_by_singles}
 use Rattle.solo_core.proofs.DecidingLemmas.{kept-deciding}
 use Rattle.solo_core.proofs.rule_sets.SinglesRuleSet.filter.Goals as goal
 

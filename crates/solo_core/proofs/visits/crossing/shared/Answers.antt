@@ -1,5 +1,5 @@
-use Rattle.std.proofs.Common.{◌∙◌, slice_index, arith}
-use Rattle.solo_core.specs.Common.{Block, lies_in, places_of, solo_cells, solo_n}
+use Rattle.std.proofs.Common.{◌∙◌, arith}
+use Rattle.solo_core.specs.Common.{Block}
 use Rattle.solo_core.specs.HouseLaws.{lists_house, listed-same}
 use Rattle.solo_core.proofs.visits.crossing.shared.Goals as goal
 

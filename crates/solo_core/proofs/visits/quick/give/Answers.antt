@@ -1,4 +1,4 @@
-use Rattle.std.proofs.Common.{slice_index, slice_set, refl, arith}
+use Rattle.std.proofs.Common.{refl, arith}
 use Rattle.solo_core.specs.Common.{get_or-set_other, get_or-set_at, bits-both}
 use Rattle.solo_core.proofs.QuickLemmas.{goes_on_free}
 use Rattle.solo_core.proofs.visits.quick.give.Goals as goal

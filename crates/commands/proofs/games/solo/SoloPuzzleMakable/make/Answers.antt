@@ -1,5 +1,5 @@
-use Rattle.std.proofs.Common.{◌≡◌, ℕ, Bool, arith, refl}
-use Rattle.std.specs.Prelude.{Result, Err, Ok, IfErr, true}
+use Rattle.std.proofs.Common.{◌≡◌, ℕ, Bool, arith}
+use Rattle.std.specs.Prelude.{Ok, true}
 use Rattle.std.proofs.lemmas.Grind.{common_steps}
 use Rattle.gameid_core.specs.declared.id.game.Game.TheVariants as game
 use Rattle.maker_core.specs.SoloMaking.{IsSoloSize, IsSoloUnmade}
@@ -10,7 +10,6 @@ use Rattle.commands.specs.Common.{in_range, size_of}
 use Rattle.commands.specs.SoloFacts.{solo_facts}
 use Rattle.commands.specs.Unmade.{IsUnmade, unmade_by, wanted_in}
 use Rattle.commands.specs.declared.generate.Recipe.{Recipe}
-use Rattle.commands.specs.declared.generate.makable.Unmade.{Unmade}
 use Rattle.commands.proofs.games.solo.SoloPuzzleMakable.make.Goals as goal
 
 -- a size that was read is one that can be

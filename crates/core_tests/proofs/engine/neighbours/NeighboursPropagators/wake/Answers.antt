@@ -1,4 +1,4 @@
-use Rattle.core_tests.proofs.Common.{neighbours, refl, true}
+use Rattle.core_tests.proofs.Common.{refl}
 use Rattle.core_tests.proofs.NeighboursLemmas.{called-beside}
 use Rattle.core_tests.proofs.engine.neighbours.NeighboursPropagators.wake.Goals as goal
 

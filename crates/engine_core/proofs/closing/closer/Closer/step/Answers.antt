@@ -1,4 +1,4 @@
-use Rattle.engine_core.proofs.Common.{AreSetsOf, IsInside, ap, arith, drop, has, is_dead, is_waiting, length, sym, take, true≢false, ◌||◌, ◌∙◌}
+use Rattle.engine_core.proofs.Common.{AreSetsOf, IsInside, ap, arith, drop, has, is_dead, length, sym, take, true≢false, ◌||◌, ◌∙◌}
 use Rattle.engine_core.proofs.CallLemmas.{woken-by, woken-unstruck}
 use Rattle.engine_core.proofs.ClosingLemmas.{after_inside}
 use Rattle.engine_core.proofs.QueueLemmas.{emptied-dead, unwoken}

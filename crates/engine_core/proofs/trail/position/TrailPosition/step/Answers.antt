@@ -1,4 +1,4 @@
-use Rattle.engine_core.proofs.Common.{arith, drop, has, has_place, is_waiting, length, refl}
+use Rattle.engine_core.proofs.Common.{arith, drop, has, has_place, length, refl}
 use Rattle.engine_core.proofs.CallLemmas.{called-same, woken-by, woken-unstruck}
 use Rattle.engine_core.proofs.WaitLemmas.{written-back}
 use Rattle.engine_core.proofs.KeepLemmas.{kept-none}

@@ -1,4 +1,4 @@
-use Rattle.engine_core.proofs.Common.{arith, get_or_read_under, has, sym, ◌-◌, ◌∙◌}
+use Rattle.engine_core.proofs.Common.{arith, get_or_read_under, sym, ◌-◌, ◌∙◌}
 use Rattle.engine_core.proofs.TrailLemmas.{IsUndone, put_back-none, undone, trail-len}
 use Rattle.engine_core.proofs.trail.trailed.TrailedBoard.undo.Goals as goal
 use Rattle.engine_core.proofs.trail.trailed.TrailedBoard.undo.Goals.{After-cell_bits}
