@@ -6,7 +6,7 @@ use Rattle.gameid_core.specs.declared.id.fault.IdFault.{IdFault}
 use Rattle.gameid_core.specs.declared.id.fault.IdFault.TheVariants.{BadByte, NumberRange}
 use Rattle.gameid_core.specs.declared.id.game.Game.TheVariants as game
 use Rattle.gameid_core.specs.Words.{begins, is_byte, is_lead, words, value}
-use Rattle.gameid_core.specs.Steps.{first_row, reading}
+use Rattle.gameid_core.specs.Steps.{◌>>=◌, first_row, reading}
 use Rattle.gameid_core.specs.Head.{HeadRead, max_id}
 use Rattle.gameid_core.specs.IdTexts.{puzzle_of}
 use Rattle.gameid_core.specs.SizeText.{solo_size_text, IsSoloSizeText}
