@@ -74,7 +74,7 @@ impl Graded for LightPuzzle {
 }
 
 impl Named for LightPuzzle {
-    ghost named = { λ p. 0 };
+    ghost named = { λ _. 1 };
 
     fn push_name(&self, _number: usize, _text: &mut String) -> Result<(), AllocError> {
         Ok(())

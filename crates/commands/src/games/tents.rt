@@ -77,7 +77,7 @@ impl Graded for TentsPuzzle {
 }
 
 impl Named for TentsPuzzle {
-    ghost named = { λ p. 0 };
+    ghost named = { λ _. 1 };
 
     fn push_name(&self, _number: usize, _text: &mut String) -> Result<(), AllocError> {
         Ok(())

@@ -9,7 +9,8 @@ pub const NAME: usize = 59;
 
 /// A puzzle whose rule sets visit what has a name.
 pub trait Named: Played {
-    // How many numbers have a name; none if the rules are closed by sweeps alone.
+    // How many numbers have a name. If the rules are closed by sweeps alone, the number 0 has one,
+    // which is empty.
     ghost named: { Self → ℕ };
 
     /// Adds the name under the number, in the order of the puzzle's rule sets.
