@@ -14,7 +14,7 @@ use crate::houses::visit::{apply, gather};
 use crate::mode::Mode;
 use crate::rule_set::RuleSet;
 use crate::rules::Rules;
-use crate::searchable::Searchable;
+use crate::searchable::PositionFor;
 use crate::trail::position::TrailPosition;
 use crate::trail::propagators::Propagators;
 use crate::waits::enqueue_if;
@@ -24,7 +24,7 @@ use std::marker::PhantomData;
 
 /// The rules of a puzzle, with the table of its houses.
 #[derive(Drop)]
-pub struct HouseRules<S: RuleSet, C: Counting<S> = Uncounted> {
+pub struct HouseRules<S: RuleSet, C = Uncounted> {
     set: S,
     table: HouseTable,
     counted: PhantomData<C>,
@@ -39,7 +39,7 @@ pub struct HouseScratch<W: Drop> {
     work: W,
 }
 
-impl<S: RuleSet, C: Counting<S>> HouseRules<S, C> {
+impl<S: RuleSet, C> HouseRules<S, C> {
     /// The rules of the puzzle. They keep a copy of it.
     pub fn new(alloc: Global, puzzle: &S::Puzzle) -> Result<HouseRules<S, C>, AllocError>
         ensures known { S.known puzzle.now }
@@ -85,7 +85,7 @@ impl<S: RuleSet, C: Counting<S>> HouseRules<S, C> {
     }
 }
 
-impl<S: RuleSet, C: Counting<S>> Rules for HouseRules<S, C> {
+impl<S: RuleSet, C> Rules for HouseRules<S, C> {
     ghost use Rattle.std.specs.Prelude.{vec_len};
     ghost use Rattle.std.proofs.Common.{le_trans};
 
@@ -224,8 +224,8 @@ impl<S: RuleSet, C: Counting<S>> Propagators for HouseRules<S, C> {
     }
 }
 
-impl<S: RuleSet, C: Counting<S>> Searchable for HouseRules<S, C> {
-    type Position = TrailPosition<HouseRules<S, C>>;
+impl<S: RuleSet> PositionFor<HouseRules<S, Uncounted>> for Uncounted {
+    type Position = TrailPosition<HouseRules<S, Uncounted>>;
 
     ghost position_of = { λ _. refl };
 }

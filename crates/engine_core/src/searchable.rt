@@ -2,6 +2,8 @@
 
 ghost use Rattle.std.specs.Prelude.{◌≡◌};
 
+use crate::house_rules::HouseRules;
+use crate::rule_set::RuleSet;
 use crate::rules::Rules;
 use crate::search::position::Position;
 
@@ -12,4 +14,19 @@ pub trait Searchable: Rules {
 
     /// The position means by the rules what they mean.
     ghost position_of: { (rules : Self) → Self.Position.system rules ≡ Self.system rules };
+}
+
+/// What rules made of listed houses are searched on, named by what is counted.
+pub trait PositionFor<R: Rules> {
+    /// The position.
+    type Position: Position<Game = R>;
+
+    /// It means by the rules what they mean.
+    ghost position_of: { (rules : R) → Self.Position.system rules ≡ R.system rules };
+}
+
+impl<S: RuleSet, C: PositionFor<HouseRules<S, C>>> Searchable for HouseRules<S, C> {
+    type Position = C::Position;
+
+    ghost position_of = { C.position_of };
 }
