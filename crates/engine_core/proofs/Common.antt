@@ -76,7 +76,7 @@ pub use Rattle.engine_core.specs.Closer.{BoardAndMarks, IsCloserOf, IsVisited, I
 pub use Rattle.engine_core.specs.Verdict.{IsTrueOf, Outcome, Outcome.NoSolution, Outcome.OneSolution, Outcome.GaveUp, Outcome.SeveralSolutions, Solves}
 pub use Rattle.engine_core.specs.Verdict.{says_counts}
 unfoldable pub use Rattle.engine_core.specs.Verdict.{before_grid, before_second, grids_in, outcome, spent, trials_in, tried, within_budget}
-pub use Rattle.engine_core.specs.Waiting.{AreCalled}
+pub use Rattle.engine_core.specs.Waiting.{AreWoken}
 unfoldable pub use Rattle.engine_core.specs.Waiting.{is_waiting}
 pub use Rattle.engine_core.specs.Walk.{AreFoundOnce, IsFewest, IsFound, IsPick, Mark, Mark.Found, Mark.Trial}
 unfoldable pub use Rattle.engine_core.specs.Walk.{at_cell, branch_at, branches, walk, walk_closed, walk_to}

@@ -1,9 +1,9 @@
 -- The cells that lost a value at a visit, as the trail names them.
-use Rattle.engine_core.proofs.Common.{AreCalled, AreLost, Bool, Candidates, IsBitsOf, IsLawful, RuleSystem, Trail, after, and_from, and_parts, any_below, any_below-here, any_below-some, ap, arith}
+use Rattle.engine_core.proofs.Common.{AreWoken, AreLost, Bool, Candidates, IsBitsOf, IsLawful, RuleSystem, Trail, after, and_from, and_parts, any_below, any_below-here, any_below-some, ap, arith}
 use Rattle.engine_core.proofs.Common.{cases_Bool, cases_lt, change_at, common_steps, count_below, count_below-same, counts_of, eq-eqb, false, fun_ext, has, has_place, inl, inr, is_since, le-leb, leb-true}
 use Rattle.engine_core.proofs.Common.{left_by, length, nat_le, ne_eqb, not, not_from_false, not_from_true, slice_index, sym, true, true≢false, ℕ, ◌&&◌, ◌+◌, ◌<◌, ◌==◌, ◌||◌}
 use Rattle.engine_core.proofs.Common.{◌∙◌, ◌≡◌, ◌≢◌, ◌≤◌}
-use Rattle.engine_core.proofs.CallLemmas.{called-more, called-same}
+use Rattle.engine_core.proofs.CallLemmas.{woken-more, woken-same}
 use Rattle.engine_core.proofs.ChangeLemmas.{left-others}
 use Rattle.engine_core.proofs.ClosingLemmas.{after_inside}
 use Rattle.engine_core.proofs.QueueLemmas.{any_below-more}
@@ -98,9 +98,9 @@ since-more asks from n le =
     any_below-more (λ m. nat_le from m && asks m) n
     ∙ ap (λ b. any_below (λ m. nat_le from m && asks m) n || (b && asks n)) (le-leb from n le)
 
-pub since-called : (p : RuleSystem) (t : Trail) {K : Candidates} {from n : ℕ}
-    {before now after : ℕ → Bool} → from ≤ n → AreCalled p K (is_since p t from n) before now
-    → AreCalled p K (λ j. has_place (p.scope j) (change_at t.changes n).0) now after → AreCalled p K (is_since p t from (n + 1)) before after
-since-called p t {K} {from} {n} {before} {now} {after} le first next =
-    called-same p K _ _ before after (λ j lt. sym (since-more (λ m. has_place (p.scope j) (change_at t.changes m).0) from n le))
-    (called-more p K (is_since p t from n) (λ j. has_place (p.scope j) (change_at t.changes n).0) before now after first next)
+pub since-woken : (p : RuleSystem) (t : Trail) {K : Candidates} {from n : ℕ}
+    {before now after : ℕ → Bool} → from ≤ n → AreWoken p K (is_since p t from n) before now
+    → AreWoken p K (λ j. has_place (p.scope j) (change_at t.changes n).0) now after → AreWoken p K (is_since p t from (n + 1)) before after
+since-woken p t {K} {from} {n} {before} {now} {after} le first next =
+    woken-same p K _ _ before after (λ j lt. sym (since-more (λ m. has_place (p.scope j) (change_at t.changes m).0) from n le))
+    (woken-more p K (is_since p t from n) (λ j. has_place (p.scope j) (change_at t.changes n).0) before now after first next)

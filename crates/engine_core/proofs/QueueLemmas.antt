@@ -1,4 +1,4 @@
-use Rattle.engine_core.proofs.Common.{AreCalled, Bool, Candidates, IsBoardOf, IsClosed, IsClosedBut, IsInsideAt, IsLawful, IsRested, IsWithin}
+use Rattle.engine_core.proofs.Common.{AreWoken, Bool, Candidates, IsBoardOf, IsClosed, IsClosedBut, IsInsideAt, IsLawful, IsRested, IsWithin}
 use Rattle.engine_core.proofs.Common.{IsWoken, Layout, List, Option, RuleSystem, SameShape, Some, [], add-one, after, and_from, and_left, and_parts}
 use Rattle.engine_core.proofs.Common.{any_below, any_below-here, any_below-none, any_below-some, ap, are_emptied, arith, but, called_for, cases_Bool}
 use Rattle.engine_core.proofs.Common.{cases_eq, cells_of, common_steps, count_below, count_below-any, count_below-bound, count_below-kept}
@@ -48,7 +48,7 @@ rested_after p laws h K waits lth within rested = λ j c v ltj asleep on.
 
 -- where the houses that a closing begins with were called for, each other one strikes nothing
 pub rested_from : {p : RuleSystem} {K : Candidates} (from : Option ℕ) {waits : ℕ → Bool}
-    → IsClosedBut p K from → AreCalled p K (waits_from p from) (λ j. false) waits
+    → IsClosedBut p K from → AreWoken p K (waits_from p from) (λ j. false) waits
     → IsRested p K waits
 unfolding waits_from
 rested_from from e h = grind (arith, common_steps)

@@ -1,7 +1,7 @@
 //! The levels of a search: a frame for each cell whose values are being tried.
 
-ghost use Rattle.std.specs.Prelude.{◌≡◌, ◌-◌, ◌≤◌, ◌<◌, IfOk, length};
-ghost use Rattle.engine_core.specs.Frames.{AreReady, IsTurn, frame_at};
+ghost use Rattle.std.specs.Prelude.{◌≡◌, ◌<◌, IfOk, length};
+ghost use Rattle.engine_core.specs.Frames.{AreReady, IsTurn};
 
 use crate::search::position::Position;
 use std::alloc::{AllocError, Global};
@@ -36,16 +36,6 @@ impl Levels {
         })
     }
 
-    /// The innermost frame.
-    fn innermost(&self) -> Frame
-        requires deep { 0 < self.now.depth }
-        requires room { self.now.depth ≤ length self.now.frames.items }
-        ensures { result ≡ frame_at self.now.frames.items (self.now.depth - 1) }
-    {
-        let frames: &[Frame] = &self.frames;
-        frames[self.depth - 1]
-    }
-
     /// Takes back what was struck since the innermost level's mark, and leaves its cell's next value alone: which cell, or
     /// none where that has no value left.
     pub(crate) fn next_trial<P: Position>(
@@ -64,7 +54,8 @@ impl Levels {
         ensures walks { P.walks rules.now position.new }
         ensures room { P.room position.new ≡ P.room position.old }
     {
-        let top = self.innermost();
+        let frames: &[Frame] = &self.frames;
+        let top = frames[self.depth - 1];
         position.undo(rules, self.depth - 1);
         match position.next_value(rules, top.cell, top.next) {
             None => None,

@@ -8,7 +8,7 @@ ghost use Rattle.engine_core.specs.RuleSystem.{Needs, needs_of, FitsIn, has_plac
 ghost use Rattle.engine_core.specs.Sets.{IsChange};
 ghost use Rattle.engine_core.specs.Counting.{IsCounted, IsRecounted};
 ghost use Rattle.engine_core.specs.Keeping.{AreSetsOf, AreSets, IsKept};
-ghost use Rattle.engine_core.specs.Waiting.{words_of, is_waiting, AreCalled};
+ghost use Rattle.engine_core.specs.Waiting.{words_of, is_waiting, AreWoken};
 
 use crate::houses::visit::read_sets;
 use crate::rules::Rules;
@@ -94,8 +94,8 @@ pub trait Propagators: Rules {
         requires place_in { place < (Self.system self.now).cells }
         requires room { words_of (Self.system self.now).houses ≤ length waits.old }
         requires counted { IsCounted (follows self.now) counts.now }
-        ensures called { (K : Candidates) → follows self.now counts.now K
-            → AreCalled (Self.system self.now) K
+        ensures woken { (K : Candidates) → follows self.now counts.now K
+            → AreWoken (Self.system self.now) K
             (λ j. has_place ((Self.system self.now).scope j) place)
             (is_waiting waits.old) (is_waiting waits.new) };
 

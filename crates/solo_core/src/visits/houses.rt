@@ -4,7 +4,7 @@ ghost use Rattle.std.specs.Prelude.{◌≡◌, ℕ, ◌<◌, ◌≤◌, ◌&&◌
 ghost use Rattle.grid_core.specs.Candidates.{max_values};
 ghost use Rattle.solo_core.specs.Common.{strikes_by_fillings, has_bit as is_set, IsDecided};
 ghost use Rattle.solo_core.specs.Common.{IsPairing, no_repeat, has_in};
-ghost use Rattle.solo_core.specs.Peeled.{AreAlone, IsRest, IsPaired, HasSetOfCell, KeepsReaching};
+ghost use Rattle.solo_core.specs.Peeled.{IsRest, IsPaired, HasSetOfCell, KeepsReaching};
 
 use crate::visits::bits::{all_below, next_bit, with_bit_if};
 use crate::visits::mates::{MANY, pair_rest, rest_of, write_mates};
@@ -32,18 +32,6 @@ pub(crate) fn keep_houses(values: u8, sets: &[u32], kept: &mut [u32], pairing: &
 {
     kept.copy_from_slice(sets);
     let alone = peel(values, kept);
-    keep_peeled(values, alone, kept, pairing);
-}
-
-/// Decides what is kept of a house in which the cells with these bits are alone.
-fn keep_peeled(values: u8, alone: u32, kept: &mut [u32], pairing: &mut Pairing)
-    requires few { values ≤ max_values }
-    requires square { length kept.old ≡ values }
-    requires alone { AreAlone values kept.old alone }
-    requires room { values ≤ pairing.old.room }
-    ensures decided { IsDecided values (strikes_by_fillings no_repeat) kept.old kept.new }
-    ensures room { pairing.new.room ≡ pairing.old.room }
-{
     if alone == all_below(values) {
         return;
     }

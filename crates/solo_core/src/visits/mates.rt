@@ -92,16 +92,8 @@ fn write_own(values: u8, sets: &[u32], mates: &mut [u8])
     ensures own { HasMate values sets.now mates.new }
 {
     for cell in 0..sets.len() {
-        mates[cell] = lowest(values, sets[cell]);
+        mates[cell] = next_bit(sets[cell], 0, usize::from(values)).unwrap_or(0) as u8;
     }
-}
-
-/// The least value of the set, where it has one.
-fn lowest(values: u8, set: u32) -> u8
-    requires { values ≤ max_values }
-    ensures { (v : ℕ) → v < values → is_set set v ≡ true → is_set set result ≡ true }
-{
-    next_bit(set, 0, usize::from(values)).unwrap_or(0) as u8
 }
 
 /// Writes for each of these cells the value that it is paired with.

@@ -29,15 +29,6 @@ fn reach_over(reach: &mut [u32], over: u8)
     if is_alone(more, over) {
         return;
     }
-    add_more(reach, over, more);
-}
-
-/// Adds `more` to each set with `over`.
-fn add_more(reach: &mut [u32], over: u8, more: u32)
-    requires over_in { over < 32 }
-    ensures as_many { length reach.new ≡ length reach.old }
-    ensures bits { LeadsOver (is_set more) over reach.old reach.new }
-{
     for value in 0..reach.len() {
         reach[value] = with_more(reach[value], over, more);
     }

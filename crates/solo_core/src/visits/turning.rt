@@ -68,23 +68,13 @@ fn spread(values: u8, sets: &[u32], rest: &[u8], mates: &[u8], ends: Ends) -> En
 {
     let mut more = ends;
     for i in 0..rest.len() {
-        more = more.over(usize::from(mates[i]), sets[usize::from(rest[i])]);
+        let (value, next) = (mates[i], sets[usize::from(rest[i])]);
+        more = Ends {
+            after: with_more(more.after, value, next),
+            before: with_bit_over(more.before, usize::from(value), next),
+        };
     }
     more
-}
-
-impl Ends {
-    /// Goes on over a value that leads to these.
-    fn over(self, value: usize, next: u32) -> Ends
-        requires { value < 32 }
-        ensures after { HasMore self.after value next result.after }
-        ensures before { HasBefore self.before value next result.before }
-    {
-        Ends {
-            after: with_more(self.after, value as u8, next),
-            before: with_bit_over(self.before, value, next),
-        }
-    }
 }
 
 /// The bits with bit `value` set too, where some bit of `next` is among them.

@@ -33,7 +33,7 @@ rested g c =
     rw (written-back c.self.inside.waits.len c.wait_from.new.waits
     (drop (length c.wait_from.new.waits) c.self.inside.waits.items)
     (omega (arith, c.self.inside.waits.ok.0, c.deref_mut.ensures.len, c.wait_from.auto.waits)))
-    (rested_from c.args.from r.closed_but (c.wait_from.ensures.called _ r.walks.along.follows))
+    (rested_from c.args.from r.closed_but (c.wait_from.ensures.woken _ r.walks.along.follows))
 
 pub run_queue-requires-clause-rested : goal.run_queue-requires-clause-rested
 run_queue-requires-clause-rested g c = rested g (goal.at.run_queue-requires-clause-rested g c).After-wait_from

@@ -1,6 +1,6 @@
 use Rattle.std.proofs.Common.{◌≡◌, ℕ, ◌<◌, ◌≤◌, ◌&&◌, ◌||◌, length, slice_index}
 use Rattle.solo_core.specs.Common.{has_bit, has_in}
-use Rattle.solo_core.proofs.visits.reach.add_more.Given as goal
+use Rattle.solo_core.proofs.visits.reach.reach_over.Given as goal
 
 abbrev pub invariant-loop-value : goal.invariant-loop-value
 invariant-loop-value l = record {
