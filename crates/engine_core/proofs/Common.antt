@@ -68,7 +68,7 @@ unfoldable pub use Rattle.engine_core.specs.Search.{branches_from, pending}
 pub use Rattle.engine_core.specs.Sets.{IsBitsOf, IsChange, has_bit}
 pub use Rattle.engine_core.specs.Stored.{is_settled}
 pub use Rattle.engine_core.specs.Trail.{AreLost, IsBack, IsFurther, IsTrail, Trail, back_at, change_at, given_back, is_since}
-pub use Rattle.engine_core.specs.Trail.{IsStruck, StillServes, Visits}
+pub use Rattle.engine_core.specs.Trail.{IsStruck, StillServes}
 unfoldable pub use Rattle.engine_core.specs.Trail.{left_by, put_back}
 unfoldable pub use Rattle.engine_core.specs.Trials.{trials_of}
 pub use Rattle.engine_core.specs.TrailPosition.{AreMarks, AreRested, GoesOn, IsAlong, IsPlaced, IsStep, IsUnderWay, Placed, board_in, mark_at, standing_by, standing_of}

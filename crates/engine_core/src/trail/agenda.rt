@@ -1,12 +1,13 @@
 //! Which houses wait to be visited, after a change of cells.
 
-ghost use Rattle.std.specs.Prelude.{◌≡◌, ◌<◌, ◌≤◌, length, IfSome};
+ghost use Rattle.std.specs.Prelude.{◌≡◌, ◌<◌, ◌≤◌, false, length, IfSome};
 ghost use Rattle.grid_core.specs.Board.{has};
 ghost use Rattle.engine_core.specs.Counting.{IsCounted};
 ghost use Rattle.engine_core.specs.RuleSystem.{IsBoardOf};
 ghost use Rattle.engine_core.specs.Trail.{is_since};
 ghost use Rattle.engine_core.specs.Waiting.{words_of, is_waiting, AreWoken};
-ghost use Rattle.engine_core.specs.TrailPosition.{WaitsFrom};
+ghost use Rattle.grid_core.specs.Candidates.{Candidates};
+ghost use Rattle.engine_core.specs.Queue.{waits_from};
 
 use crate::trail::propagators::Propagators;
 use crate::trail::trailed::TrailedBoard;
@@ -23,8 +24,9 @@ pub(crate) fn wait_from<R: Propagators>(
     requires place_in { IfSome from (λ place. place < (R.system rules.now).cells) }
     requires waits_room { words_of (R.system rules.now).houses ≤ length waits.old }
     requires counted { IsCounted (R.follows rules.now) counts.now }
-    ensures woken { WaitsFrom (R.system rules.now) (R.follows rules.now) counts.now
-        from waits.new }
+    ensures woken { (K : Candidates) → R.follows rules.now counts.now K
+        → AreWoken (R.system rules.now) K (waits_from (R.system rules.now) from) (λ j. false)
+        (is_waiting waits.new) }
 {
     waits.fill(0);
     match from {

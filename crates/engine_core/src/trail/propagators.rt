@@ -23,7 +23,7 @@ pub trait Propagators: Rules {
     /// There is room to count for rules of these sizes.
     ghost counts_serve: { Self.Counts → Needs → Type 0 };
 
-    /// What is counted of a board is so of this one.
+    /// The counts are those of this board.
     ghost follows: { Self → Self.Counts → Candidates → Type 0 };
 
     /// Takes the memory that is counted in.
@@ -63,7 +63,7 @@ pub trait Propagators: Rules {
         ensures keeps { (needs : Needs) → Self.serves scratch.old needs
             → Self.serves scratch.new needs };
 
-    /// Begins to count: what is counted of a board is then so of this one.
+    /// Begins to count: the counts are then those of this board.
     fn watch(&self, board: &Board, counts: &mut Self::Counts)
         requires board_of { IsBoardOf (Self.system self.now) board.now }
         requires served { counts_serve counts.old (needs_of (Self.system self.now)) }
@@ -82,14 +82,14 @@ pub trait Propagators: Rules {
         ensures keeps { (needs : Needs) → counts_serve counts.old needs
             → counts_serve counts.new needs };
 
-    /// Whether the house may strike anything from the board that was counted.
+    /// Whether the house may strike anything from a board with these counts. Where not, it need not wait.
     fn may_strike(&self, house: usize, counts: &Self::Counts) -> bool
         requires house_in { house < (Self.system self.now).houses }
         requires counted { IsCounted (follows self.now) counts.now }
         ensures { result ≡ false → (K : Candidates) → follows self.now counts.now K
             → IsIdle (Self.system self.now) house K };
 
-    /// Marks the houses that have the place. It may leave out those that strike nothing of the board that was counted.
+    /// Marks the houses that have the place. It may leave out those that strike nothing from a board with these counts.
     fn wake(&self, place: usize, counts: &Self::Counts, waits: &mut [u64])
         requires place_in { place < (Self.system self.now).cells }
         requires room { words_of (Self.system self.now).houses ≤ length waits.old }

@@ -16,7 +16,15 @@ keep_rest-requires-clause-alone c = (c.peel-alone.result, c.deref.ensures.0 ∙ 
 
 pub keep_rest-requires-clause-rest_few : goal.keep_rest-requires-clause-rest_few
 keep_rest-requires-clause-rest_few c =
-    omega (arith, ap length c.deref.ensures.0, c.rest_of-rest.ensures.few, c.requires.square, c.requires.as_many, c.copy_from_slice.auto.self, c.peel-alone.auto.sets)
+    omega (
+      arith,
+      ap length c.deref.ensures.0,
+      c.rest_of-rest.ensures.few,
+      c.requires.square,
+      c.requires.as_many,
+      c.copy_from_slice.auto.self,
+      c.peel-alone.auto.sets,
+    )
 
 pub returns-clause-decided : goal.returns-clause-decided
 returns-clause-decided c = decided_by_peeled (rw c.copy_from_slice.ensures.after at c.peel-alone.ensures.peeled) c.keep_rest.ensures.decided

@@ -21,4 +21,5 @@ leave-requires-clause-other g c = λ e.
 
 pub returns-clause-left : goal.returns-clause-left
 returns-clause-left g c =
-    rw (← c.self.view_is) (c.leave.ensures.left ∙ rw (bit g (goal.at.returns-clause-left g c).After-cell_bits-before) (left-only _ c.args.cell c.args.value))
+    rw (← c.self.view_is) (c.leave.ensures.left
+    ∙ rw (bit g (goal.at.returns-clause-left g c).After-cell_bits-before) (left-only _ c.args.cell c.args.value))

@@ -6,14 +6,16 @@ pub better_cell-best-requires-clause-best_in : goal.better_cell-best-requires-cl
 better_cell-best-requires-clause-best_in g c =
     let r = rw (← c.self.view_is) at c.requires in
     let p = g.R.Rules.system c.args.rules.now in
-    rw (c.board-board.ensures, r.walks.along.board_of.same_cells) (pick-in c.loop-cell.best c.loop-cell.cell p.cells _ _ c.loop-cell.invariant (omega (arith, c.cells-cell-end.ensures)))
+    rw (c.board-board.ensures, r.walks.along.board_of.same_cells)
+    (pick-in c.loop-cell.best c.loop-cell.cell p.cells _ _ c.loop-cell.invariant (omega (arith, c.cells-cell-end.ensures)))
 
 pub returns-then-count-eq2 : goal.returns-then-count-eq2
 returns-then-count-eq2 g c =
     let r = rw (← c.self.view_is) at c.requires in
     let of = r.walks.along.board_of in
-    rw (← c.self.view_is) (pick-ends (g.R.Rules.system c.args.rules.now).values (has c.self.inside.trailed.board) (rw (← c.self.view_is) at c.loop-cell.invariant)
-    (rw c.board-board.ensures at c.better_cell-best.ensures ∙ ap (λ v. better v (has c.self.inside.trailed.board) c.loop-cell.best c.loop-cell.cell) of.same_values)
-    (ap (λ v. count_below (has c.self.inside.trailed.board c.loop-cell.cell) v) (sym of.same_values)
+    let K = has c.self.inside.trailed.board in
+    rw (← c.self.view_is) (pick-ends (g.R.Rules.system c.args.rules.now).values K (rw (← c.self.view_is) at c.loop-cell.invariant)
+    (rw c.board-board.ensures at c.better_cell-best.ensures ∙ ap (λ v. better v K c.loop-cell.best c.loop-cell.cell) of.same_values)
+    (ap (λ v. count_below (K c.loop-cell.cell) v) (sym of.same_values)
     ∙ sym (rw c.board-board.ensures at c.count.ensures) ∙ c.if-count-eq2.true)
     (omega (arith, c.cells-cell-end.ensures)))
