@@ -6,9 +6,7 @@ use Rattle.gameid_core.proofs.Lists.{AllByRecursion-append, all_at}
 use Rattle.std.proofs.lemmas.Bool.{not-false, not-true, true_from_ne_false}
 
 bool_is : (a b : Bool) → (a ≡ true → b ≡ true) → (b ≡ true → a ≡ true) → a ≡ b
-bool_is true b to from = sym (to refl)
-bool_is false true to from = absurd (false≢true (from refl))
-bool_is false false to from = refl
+bool_is a b to from = grind arith
 
 pub all_split : {F : Type 0} (P : F → Type 0) (xs ys : List F) → AllByRecursion P (xs ++ ys) → AllByRecursion P xs × AllByRecursion P ys
 all_split P [] ys all = (tt, all)
@@ -44,9 +42,8 @@ module _ {F : Type 0} (fails : F → Type 0) where
 
   -- ---- the first that fails
   pub first_front : (front rest : List F) (f : F) → IsFirstFailed fails front f → IsFirstFailed fails (front ++ rest) f
-  first_front [] rest f h = elim h [ ]
-  first_front (t ∷ front) rest f (inl here) = inl here
-  first_front (t ∷ front) rest f (inr later) = inr (later.0, first_front front rest f later.1)
+  first_front [] rest f h = grind arith
+  first_front (t ∷ front) rest f h = grind (arith, first_front front rest f)
 
   pub first_rest : (front rest : List F) (f : F) → NoneFails fails front → IsFirstFailed fails rest f → IsFirstFailed fails (front ++ rest) f
   first_rest [] rest f none first = first
@@ -67,16 +64,12 @@ module _ {F : Type 0} (fails : F → Type 0) where
       (λ d low. subst Holds (sym (at d (omega arith))) (before d low)))
 
   none_first : (tests : List F) (f : F) → NoneFails fails tests → IsFirstFailed fails tests f → ⊥
-  none_first [] f none h = elim h [ ]
-  none_first (t ∷ tests) f none (inl here) = none.0 here.1
-  none_first (t ∷ tests) f none (inr later) = none_first tests f none.1 later.1
+  none_first [] f none h = grind arith
+  none_first (t ∷ tests) f none h = grind (arith, none_first tests f none.1)
 
   first_once : (tests : List F) {f g : F} → IsFirstFailed fails tests f → IsFirstFailed fails tests g → f ≡ g
-  first_once [] h k = elim h [ ]
-  first_once (t ∷ tests) (inl here) (inl there) = sym here.0 ∙ there.0
-  first_once (t ∷ tests) (inl here) (inr later) = absurd (later.0 here.1)
-  first_once (t ∷ tests) (inr later) (inl there) = absurd (later.0 there.1)
-  first_once (t ∷ tests) (inr later) (inr after) = first_once tests later.1 after.1
+  first_once [] h k = grind arith
+  first_once (t ∷ tests) h k = grind (arith, first_once tests)
 
   -- ---- one first that fails, or none
   abbrev pub IsKnown : F → Type 0
