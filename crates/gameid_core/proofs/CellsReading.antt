@@ -73,7 +73,7 @@ module _ {T A : Type 0} (text : T → List ℕ) (cells : T → List A) (Fits : T
         → reading (fill_step token most) (fill_end most) at before (map text tokens) ≡ Ok
         (before ++ flat_map cells tokens)
     unfolding reading
-    cells_again again most at before [] each full = grind (arith, common_steps, fill_end_is most before true)
+    cells_again again most at before [] each full = grind (arith, common_steps, fill_end_is)
     cells_again again most at before (t ∷ tokens) each full =
         let both = length-append (cells t) (flat_map cells tokens) in
         let so_far = length-append before (cells t) in

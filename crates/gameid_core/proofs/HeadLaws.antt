@@ -21,7 +21,7 @@ after_stops (b ∷ after) = grind (arith, after_stops after)
 
 pub number_in : (text : List ℕ) → begins is_lead text ≡ true → HasNumber text (digits_front text) (after_digits text)
 number_in [] e = absurd (false≢true e)
-number_in (b ∷ after) e = grind (arith, front_parts (b ∷ after), front_digits (b ∷ after), after_stops (b ∷ after))
+number_in (b ∷ after) e = grind (arith, front_parts, front_digits, after_stops)
 
 pub number_is : (text number rest : List ℕ) → HasNumber text number rest → (digits_front text ≡ number) × (after_digits text ≡ rest)
 number_is text number rest h = grind (arith, front_numeral number rest h.digits h.all)
@@ -35,7 +35,7 @@ number_decimal (b ∷ ds) h small =
 
 side_read : (text number rest : List ℕ) → HasNumber text number rest → side_at text ≡ Ok (value number, rest)
 unfolding side_at
-side_read text number rest h = grind (arith, number_is text number rest h)
+side_read text number rest h = grind (arith, number_is)
 
 pub side_again : {n : ℕ} (rest : List ℕ) → n < 2 ^ 64 → 0 < n → begins is_ascii_digit rest ≡ false → side_at (decimal n ++ rest) ≡ Ok (n, rest)
 unfolding side_at
@@ -78,7 +78,7 @@ place_of p (b ∷ front) c rest none here = grind (arith, nat_tests, place_of p 
 
 pub position_at : (p : ℕ → Bool) (front : List ℕ) (c : ℕ) (rest : List ℕ) → list_any p front ≡ false
     → p c ≡ true → position p (front ++ c ∷ rest) ≡ Some (length front)
-position_at p front c rest none here = grind (arith, common_steps, place_of p front c rest none here)
+position_at p front c rest none here = grind (arith, common_steps, place_of)
 
 colon_splits : (text : List ℕ) (k : ℕ) → position (λ c. eqb c 58) text ≡ Some k → text ≡ take k text ++ 58 ∷ drop (k + 1) text
 colon_splits text k e = grind (arith, common_steps, position-Some (λ c. eqb c 58) text k 0 e, take-append-drop k text)
@@ -99,31 +99,17 @@ module _ (game : Game) where
   goes_on after = grind arith
 
   one_found : (text : List ℕ) (x : ℕ × List ℕ) → side_at text ≡ Ok x → begins (λ c. eqb c 120) x.1 ≡ false → HasSize game text (one_side x.0 x.1)
-  one_found text x e alone =
-      let l = side_found text e in
-      inl (record { side = l.0; number = l.1; alone = alone; both = (l.2, l.2); plain = refl })
+  one_found text x e alone = grind (arith, common_steps, side_found)
 
   two_found : (text : List ℕ) (x y : ℕ × List ℕ) → side_at text ≡ Ok x
       → begins (λ c. eqb c 120) x.1 ≡ true → side_at (drop 1 x.1) ≡ Ok y
       → HasSize game text (two_sides game x.0 y.0 y.1)
-  two_found text x y e two f =
-      let l = side_found text e in
-      let r = side_found (drop 1 x.1) f in
-      inr (record {
-        w_digits = l.0;
-        h_digits = r.0;
-        behind = drop 1 x.1;
-        after = y.1;
-        first = subst (λ t. HasNumber text l.0 t) (x_first two) l.1;
-        second = r.1;
-        goes_on = goes_on y.1;
-        both = (l.2, r.2);
-      })
+  two_found text x y e two f = grind (arith, common_steps, side_found, x_first)
 
   -- and what is read is such a size
   pub sides_found : {text : List ℕ} {size : Sides} → sides_at game text ≡ taken size → HasSize game text size
   unfolding sides_at
-  sides_found {text} e = grind (arith, common_steps, one_found text, two_found text)
+  sides_found {text} e = grind (arith, common_steps, one_found, two_found)
 
   -- a size of the game, with the 'x' of Solo X or without
   abbrev pub IsGameSize : List ℕ → ℕ → ℕ → Bool → Type 0
@@ -134,7 +120,7 @@ module _ (game : Game) where
   plain_size a b x other s = grind arith
 
   game_size : (text : List ℕ) {s : Sides} → s.w < 2 ^ 64 → s.h < 2 ^ 64 → length s.rest ≤ 0 → HasSize game text s → IsGameSize text s.w s.h s.x
-  game_size text small_w small_h none (inl one) = grind (arith, common_steps, number_decimal one.side one.number)
+  game_size text small_w small_h none (inl one) = grind (arith, common_steps, number_decimal)
   game_size text small_w small_h none (inr two) = grind (arith, common_steps, number_decimal two.w_digits two.first, number_decimal two.h_digits two.second)
 
   pub sides_again : (front : List ℕ) (a b : ℕ) (x : Bool) → a < 2 ^ 64 → b < 2 ^ 64 → 0 < a → 0 < b
@@ -144,8 +130,7 @@ module _ (game : Game) where
   sides_again front a b false small_a small_b some_a some_b (inl e) =
       grind (arith, common_steps, side_again (120 ∷ decimal b) small_a some_a refl, side_again [] small_b some_b refl)
   sides_again front a b false small_a small_b some_a some_b (inr e) = grind (arith, common_steps, side_again [] small_a some_a refl)
-  sides_again front a b true small_a small_b some_a some_b e =
-      grind (arith, common_steps, side_again (120 ∷ (decimal b ++ 120 ∷ [])) small_a some_a refl, side_again (120 ∷ []) small_b some_b refl)
+  sides_again front a b true small_a small_b some_a some_b e = grind (arith, common_steps, side_again)
 
   pub range_small : (a b : ℕ) → in_range game a b ≡ true → Small a b
   range_small a b e = grind arith
@@ -165,7 +150,7 @@ module _ (game : Game) where
 
   pub size_again : (front : List ℕ) (a b : ℕ) (x : Bool) → IsGameSize front a b x → in_range game a b ≡ true → size_of game front ≡ Ok (size_read a b x)
   unfolding size_of
-  size_again front a b x text range = grind (arith, range_small a b range, sides_again front a b x)
+  size_again front a b x text range = grind (arith, range_small, sides_again)
 
   game_size_lacks : (k : ℕ) (front : List ℕ) (a b : ℕ) (x : Bool) → is_ascii_digit k ≡ false
       → eqb 120 k ≡ false → a < 2 ^ 64 → b < 2 ^ 64 → IsGameSize front a b x
@@ -210,7 +195,7 @@ module _ (game : Game) where
 
   head_too_long : (text : List ℕ) → max_id < length text → head_of game text ≡ Err TooLong
   unfolding head_of
-  head_too_long text over = rw (lt-ltb max_id (length text) over) refl
+  head_too_long text over = grind (arith, common_steps, lt-ltb)
 
 pub solo_size : (front : List ℕ) (a b : ℕ) (x : Bool) → IsGameSize Solo front a b x → IsSoloSizeText front a b x
 solo_size front a b x s = grind arith
@@ -240,7 +225,7 @@ pub puzzle_again : {P : Type 0} (game : Game) (behind : HeadRead → List ℕ �
     → puzzle_of game behind (front ++ 58 ∷ rest) ≡ behind
     (record { size = size_read a b x; description = length front + 1 }) rest
 unfolding puzzle_of
-puzzle_again game behind front rest a b x size range short = rw (head_again game front rest a b x size range short, after_front front rest) refl
+puzzle_again game behind front rest a b x size range short = grind (arith, common_steps, head_again, after_front)
 
 pub puzzle_too_long : {P : Type 0} (game : Game) (behind : HeadRead → List ℕ → Result P IdFault)
     (text : List ℕ) → max_id < length text → puzzle_of game behind text ≡ Err TooLong

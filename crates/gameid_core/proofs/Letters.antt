@@ -21,10 +21,10 @@ unfolding letters_of
 letters_one r = refl
 
 pub letters_more : (k : ℕ) → 26 < k → letters k ≡ 122 ∷ letters (k - 26)
-letters_more k long = grind (arith, letters_are k, letters_suc ((k - 26 - 1) / 26) ((k - 26 - 1) % 26), letters_are (k - 26))
+letters_more k long = grind (arith, letters_are, letters_suc ((k - 26 - 1) / 26) ((k - 26 - 1) % 26))
 
 pub letters_last : (k : ℕ) → 0 < k → k ≤ 26 → letters k ≡ (96 + k) ∷ []
-letters_last k some short = grind (arith, letters_are k 0 (k - 1) some, letters_one (k - 1))
+letters_last k some short = grind (arith, letters_are, letters_one (k - 1))
 
 -- ---- how many
 

@@ -39,7 +39,7 @@ digit_word b low high = record { token = numbered (b - 48); texts = grind arith;
 
 token_byte : (at : ℕ) (word : List ℕ) (more : List LightCell) → IsByte word → light_token at word ≡ Ok more → LightWord word more
 unfolding light_token
-token_byte at word more one e = grind (arith, common_steps, letter_word (get_or word 0 0), digit_word (get_or word 0 0))
+token_byte at word more one e = grind (arith, common_steps, letter_word (get_or word 0 0), digit_word)
 
 -- ---- what is read is spelled
 

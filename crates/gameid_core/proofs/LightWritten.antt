@@ -9,7 +9,7 @@ use Rattle.gameid_core.proofs.Numerals.{length_decimal}
 -- ---- the cells of a puzzle
 
 pub light_at : (cells : List LightCell) (i : ℕ) → AllByRecursion IsLightCell cells → i < length cells → IsLightCell (get_or cells i White)
-light_at cells i each lt = all_at IsLightCell White cells i each lt
+light_at cells i each lt = grind (arith, common_steps, all_at)
 
 pub ruleset turns = (common_steps, light_at)
 
@@ -24,7 +24,7 @@ cells_short k (Black ∷ cells) = grind (arith, common_steps, cells_short 0 cell
 cells_short k (Numbered n ∷ cells) = grind (arith, common_steps, cells_short 0 cells, letters_short)
 
 pub light_short : (p : Light) → IsLight p → length (light_text p) ≤ max_id
-light_short p h = grind (arith, common_steps, length_decimal p.size.w, length_decimal p.size.h, cells_short 0 p.cells)
+light_short p h = grind (arith, common_steps, length_decimal, cells_short)
 
 -- ---- what it spells
 
@@ -42,10 +42,10 @@ tokens_of k (Numbered n ∷ cells) = run k (numbered n ∷ tokens_of 0 cells)
 
 z_first : (k : ℕ) (cells : List LightCell) → 0 < k → light_cells_text (k + 26) cells ≡ 122 ∷ light_cells_text k cells
 unfolding light_cells_text
-z_first k [] some = grind (arith, letters_more (k + 26))
+z_first k [] some = grind (arith, letters_more)
 z_first k (White ∷ cells) some = grind (arith, z_first (k + 1) cells)
-z_first k (Black ∷ cells) some = grind (arith, letters_more (k + 26))
-z_first k (Numbered n ∷ cells) some = grind (arith, letters_more (k + 26))
+z_first k (Black ∷ cells) some = grind (arith, letters_more)
+z_first k (Numbered n ∷ cells) some = grind (arith, letters_more)
 
 tokens_spell : (k : ℕ) (cells : List LightCell) → k ≤ 26 → light_cells_text k cells ≡ map light_token_byte (tokens_of k cells)
 unfolding light_cells_text tokens_of
@@ -66,7 +66,8 @@ record Form (cells : List LightCell) (tokens : List LightToken) : Type 0 where
 tokens_form : (k : ℕ) (cells : List LightCell) → k ≤ 26 → AllByRecursion IsLightCell cells → Form (replicate k White ++ cells) (tokens_of k cells)
 unfolding tokens_of
 tokens_form k [] few h = grind (arith, common_steps)
-tokens_form k (White ∷ cells) few h = grind (arith, nat_tests, common_steps, full_z (tokens_of 1 cells), tokens_form 1 cells, tokens_form (k + 1) cells)
+tokens_form k (White ∷ cells) few h =
+    grind (arith, nat_tests, common_steps, full_z, tokens_form 1 cells, tokens_form (k + 1) cells)
 tokens_form k (Black ∷ cells) few h = grind (arith, common_steps, tokens_form 0 cells)
 tokens_form k (Numbered n ∷ cells) few h = grind (arith, common_steps, tokens_form 0 cells)
 
@@ -98,18 +99,17 @@ of_run k (suc j) cells le = grind (arith, nat_tests, common_steps, of_run (k + 1
 form_tokens : (tokens : List LightToken) → AllByRecursion IsLightToken tokens → AreFullLights tokens → tokens_of 0 (flat_map light_token_cells tokens) ≡ tokens
 unfolding tokens_of
 form_tokens [] each full = refl
-form_tokens (whites k ∷ []) each full = grind (arith, common_steps, of_run 0 k [])
+form_tokens (whites k ∷ []) each full = grind (arith, common_steps, of_run)
 form_tokens (whites k ∷ whites zero ∷ tokens) each full = absurd (omega arith)
 form_tokens (whites k ∷ whites (suc j) ∷ tokens) each full =
-    grind (arith, common_steps, of_run 0 k (flat_map light_token_cells (whites (suc j) ∷ tokens)), form_tokens (whites (suc j) ∷ tokens))
-form_tokens (whites k ∷ black ∷ tokens) each full = grind (arith, common_steps, of_run 0 k (Black ∷ flat_map light_token_cells tokens), form_tokens tokens)
-form_tokens (whites k ∷ numbered n ∷ tokens) each full =
-    grind (arith, common_steps, of_run 0 k (Numbered n ∷ flat_map light_token_cells tokens), form_tokens tokens)
+    grind (arith, common_steps, of_run, form_tokens (whites (suc j) ∷ tokens))
+form_tokens (whites k ∷ black ∷ tokens) each full = grind (arith, common_steps, of_run, form_tokens tokens)
+form_tokens (whites k ∷ numbered n ∷ tokens) each full = grind (arith, common_steps, of_run, form_tokens tokens)
 form_tokens (black ∷ tokens) each full = grind (arith, form_tokens tokens)
 form_tokens (numbered n ∷ tokens) each full = grind (arith, form_tokens tokens)
 
 pub light_form : (text : List ℕ) (p : Light) → IsWrittenLight text p → text ≡ light_text p
-light_form text p w = grind (arith, form_tokens, tokens_spell 0 p.cells)
+light_form text p w = grind (arith, form_tokens, tokens_spell)
 
 pub light_one_text : HasOneText IsLight IsWrittenLight light_text
 light_one_text = record { some = light_is_written; one = one_text _ _ light_form }

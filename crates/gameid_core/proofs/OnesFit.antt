@@ -14,4 +14,4 @@ pub ones_lawful : (size : Extent) (trees tents counts kept : List ℕ) → IsExt
     → 2 ≤ size.h → IsGrid (size.w * size.h) 2 trees → kept ≡ trees → counts ≡ lines_ones size tents
     → IsTents (record { size = size; trees = kept; counts = counts })
 ones_lawful size trees tents counts kept e w h grid same is =
-    grind (arith, recursion_from_All, length-map-range_with_len, are_ones size tents 0 (lines_of size))
+    grind (arith, recursion_from_All, length-map-range_with_len, are_ones)

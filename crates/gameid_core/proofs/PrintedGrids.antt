@@ -46,5 +46,4 @@ module _ {hides : ℕ → Type 0} {values : ℕ} {size : Extent} (printed : List
   pub other_read : {found : List ℕ} → ended ≡ text ++ codes "\n" → field ≡ Some found
       → ((g : List ℕ) (more : List ℕ) → IsAsShown hides values size g → ended ≡ printed g ++ more → field ≡ Some g)
       → (IsPrinted text (printed found) → ⊥) → IsReadOf hides values size (λ g. IsPrinted text (printed g)) None
-  other_read is some reads other g shown form =
-      other (subst (λ (h : List ℕ). IsPrinted text (printed h)) (sym (only_read is some reads g shown form)) form)
+  other_read is some reads other g shown form = grind (arith, common_steps, only_read)

@@ -11,10 +11,10 @@ pub record Number (n : ℕ) (byte : ℕ) (rest : List ℕ) : Type 0 where
 
 pub number_of : (n : ℕ) (text after rest : List ℕ) (byte : ℕ) → n < 100 → first_digit after ≡ None → text ≡ decimal n ++ after → text ≡ byte ∷ rest
     → Number n byte rest
-number_of n text after rest byte small ends is split = grind (arith, decimal_digit n, two_digits n)
+number_of n text after rest byte small ends is split = grind (arith, decimal_digit, two_digits)
 
 pub not_empty : (n : ℕ) (text after : List ℕ) → n < 100 → text ≡ decimal n ++ after → length text ≡ 0 → ⊥
-not_empty n text after small is empty = grind (arith, decimal_digit n, two_digits n)
+not_empty n text after small is empty = grind (arith, decimal_digit, two_digits)
 
 -- the first byte is a digit
 pub no_digit : {n byte : ℕ} {rest : List ℕ} → Number n byte rest → digit_of byte ≡ None → ⊥

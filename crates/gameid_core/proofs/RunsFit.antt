@@ -10,7 +10,7 @@ runs_after-cut k (suc x ∷ f) g = runs_after-cut (suc k) f g
 
 runs_after-ones : (k n : ℕ) → runs_after k (replicate n 1) ≡ run_of (k + n)
 unfolding runs_after
-runs_after-ones k zero = ap run_of (let z : k ≡ k + 0 = omega arith in z)
+runs_after-ones k zero = grind (arith, common_steps)
 runs_after-ones k (suc n) = grind (arith, runs_after-ones (suc k) n)
 
 -- black cells alone are one run
@@ -51,6 +51,6 @@ are_runs size g line (suc n) = (runs_line_fits size g line, are_runs size g (lin
 -- the runs of the lines are clues that fit
 pub runs_lawful : (size : Extent) (g : List ℕ) (clues : List (List ℕ)) → IsExtent size
     → clues ≡ lines_runs size g → IsPattern (record { size = size; clues = clues })
-runs_lawful size g clues e is = grind (arith, length-map-range_with_len, are_runs size g 0 (lines_of size))
+runs_lawful size g clues e is = grind (arith, length-map-range_with_len, are_runs)
 
 pub ruleset laws = (runs_run, runs_run_and_white)

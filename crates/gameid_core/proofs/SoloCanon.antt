@@ -6,7 +6,7 @@ use Rattle.gameid_core.proofs.Letters.{letters_short, letters_none, letters_more
 
 -- no more cells than the most numbers by as many
 pub solo_few : (n : ℕ) → n ≤ max_numbers → n * n ≤ max_numbers * max_numbers
-solo_few n h = omega (arith, mul-le-mul_left n h, mul-le-mul_right max_numbers h)
+solo_few n h = grind (arith, common_steps, mul-le-mul_left, mul-le-mul_right)
 
 before_short : (k : ℕ) (touches : Bool) → length (before_given k touches) ≤ k + 1
 before_short k touches = grind (arith, common_steps, letters_short)
@@ -64,9 +64,9 @@ before_some k touches some = grind arith
 
 z_first : (k : ℕ) (touches : Bool) (cells : List ℕ) → 0 < k → cells_text (k + 26) touches cells ≡ 122 ∷ cells_text k false cells
 unfolding cells_text
-z_first k touches [] some = grind (arith, letters_more (k + 26))
+z_first k touches [] some = grind (arith, letters_more)
 z_first k touches (zero ∷ cells) some = grind (arith, z_first (k + 1) touches cells)
-z_first k touches (suc v ∷ cells) some = grind (arith, before_some (k + 26) touches, before_some k false some, letters_more (k + 26))
+z_first k touches (suc v ∷ cells) some = grind (arith, before_some, letters_more)
 
 tokens_spell : (k : ℕ) (touches : Bool) (cells : List ℕ) → k ≤ 26 → cells_text k touches cells ≡ flat_map solo_token_text (tokens_of k touches cells)
 unfolding cells_text tokens_of
@@ -101,8 +101,8 @@ tokens_form : (n k : ℕ) (touches : Bool) (cells : List ℕ) → k ≤ 26
 unfolding tokens_of
 tokens_form n k touches [] few h = grind (arith, common_steps)
 tokens_form n k touches (zero ∷ cells) few h =
-    grind (arith, nat_tests, common_steps, full_z (tokens_of 1 false cells), tokens_form n 1 false cells, tokens_form n (k + 1) touches cells)
-tokens_form n k touches (suc v ∷ cells) few h = grind (arith, common_steps, given_apart (suc v) (tokens_of 0 true cells), tokens_form n 0 true cells)
+    grind (arith, nat_tests, common_steps, full_z, tokens_form n 1 false cells, tokens_form n (k + 1) touches cells)
+tokens_form n k touches (suc v ∷ cells) few h = grind (arith, common_steps, given_apart, tokens_form n 0 true cells)
 
 written_size : (c r : ℕ) (x : Bool) → IsSoloSizeText (solo_size_text c r x) c r x
 written_size c r x = grind arith
@@ -139,16 +139,15 @@ form_tokens : (n : ℕ) (touches : Bool) (tokens : List SoloToken)
     → tokens_of 0 touches (flat_map solo_token_cells tokens) ≡ tokens
 unfolding tokens_of
 form_tokens n touches [] f = refl
-form_tokens n touches (blanks k ∷ []) f = grind (arith, common_steps, of_run 0 k touches [])
-form_tokens n touches (blanks k ∷ blanks zero ∷ tokens) f = absurd (let each = f.each in omega arith)
+form_tokens n touches (blanks k ∷ []) f = grind (arith, common_steps, of_run)
+form_tokens n touches (blanks k ∷ blanks zero ∷ tokens) f = grind (arith, common_steps)
 form_tokens n touches (blanks k ∷ blanks (suc j) ∷ tokens) f =
-    grind (arith, common_steps, of_run 0 k touches (flat_map solo_token_cells (blanks (suc j) ∷ tokens)), form_tokens n false (blanks (suc j) ∷ tokens))
-form_tokens n touches (blanks k ∷ gap ∷ tokens) f = absurd (let needed = f.needed in false≢true needed.0)
-form_tokens n touches (blanks k ∷ given v ∷ tokens) f =
-    grind (arith, common_steps, of_run 0 k touches (flat_map solo_token_cells (given v ∷ tokens)), form_tokens n true tokens)
-form_tokens n touches (gap ∷ []) f = absurd (let needed = f.needed in needed.1)
-form_tokens n touches (gap ∷ blanks k ∷ tokens) f = absurd (let needed = f.needed in needed.1)
-form_tokens n touches (gap ∷ gap ∷ tokens) f = absurd (let needed = f.needed in needed.1)
+    grind (arith, common_steps, of_run, form_tokens n false (blanks (suc j) ∷ tokens))
+form_tokens n touches (blanks k ∷ gap ∷ tokens) f = grind (arith, common_steps, false≢true)
+form_tokens n touches (blanks k ∷ given v ∷ tokens) f = grind (arith, common_steps, of_run, form_tokens n true tokens)
+form_tokens n touches (gap ∷ []) f = grind (arith, common_steps)
+form_tokens n touches (gap ∷ blanks k ∷ tokens) f = grind (arith, common_steps)
+form_tokens n touches (gap ∷ gap ∷ tokens) f = grind (arith, common_steps)
 form_tokens n touches (gap ∷ given v ∷ tokens) f = grind (arith, common_steps, form_tokens n true tokens)
 form_tokens n touches (given v ∷ tokens) f = grind (arith, common_steps, form_tokens n true tokens)
 

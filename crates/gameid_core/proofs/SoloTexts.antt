@@ -14,7 +14,7 @@ module _ (n at : ℕ) where
       → Cuts (first ∷ after) (first ∷ []) after
       × (solo_token n at (first ∷ []) ≡ Ok (replicate (first - 96) 0))
   unfolding solo_token
-  solo_letter first after low high = grind (arith, cuts_single first after)
+  solo_letter first after low high = grind (arith, cuts_single)
 
   pub solo_gap : (after : List ℕ) → Cuts (95 ∷ after) (95 ∷ []) after × (solo_token n at (95 ∷ []) ≡ Ok [])
   unfolding solo_token
@@ -67,7 +67,7 @@ words_apart (b ∷ d ∷ after) = grind (arith, cuts_some d after, words_apart (
 
 concat_texts : (tokens : List SoloToken) → concat (map solo_token_text tokens) ≡ flat_map solo_token_text tokens
 concat_texts [] = refl
-concat_texts (t ∷ tokens) = ap (λ (x : List ℕ). solo_token_text t ++ x) (concat_texts tokens)
+concat_texts (t ∷ tokens) = grind (arith, common_steps, concat_texts tokens)
 
 decimal_digit_first : (v : ℕ) → v < 2 ^ 64 → 0 < v → digit_first (decimal v) ≡ true
 decimal_digit_first v small some = grind (arith, decimal_leads v small some, lead_is_digit)
@@ -122,7 +122,7 @@ module _ (n : ℕ) where
 
     token_word : (at : ℕ) (word more : List ℕ) → IsWord word → solo_token n at word ≡ Ok more → SoloWord word more
     unfolding solo_token
-    token_word at word more w e = grind (arith, common_steps, letter_word word, gap_word word, given_word word)
+    token_word at word more w e = grind (arith, common_steps, letter_word word, gap_word, given_word)
 
     apart_tokens : (tokens : List SoloToken) → Each tokens → Apart (map solo_token_text tokens) → AreApart tokens
     apart_tokens [] each h = grind (arith, common_steps, decimal_digit_first)
@@ -152,12 +152,13 @@ module _ (n : ℕ) where
 
     words_again : (tokens : List SoloToken) → Each tokens → AreApart tokens → words (flat_map solo_token_text tokens) ≡ map solo_token_text tokens
     words_again [] each h = words_nil
-    words_again (token ∷ tokens) each h = grind (arith, token_cuts token tokens each h, words_again tokens each.1 (apart_rest token tokens h))
+    words_again (token ∷ tokens) each h =
+        grind (arith, token_cuts, words_again tokens each.1 (apart_rest token tokens h))
 
     token_again : (at : ℕ) (token : SoloToken) → IsSoloToken n token → solo_token n at (solo_token_text token) ≡ Ok (solo_token_cells token)
     token_again at (blanks k) h = grind (arith, solo_letter n at (96 + k) [])
     token_again at gap h = (solo_gap n at []).1
-    token_again at (given v) h = given_read at v (omega (arith, h.1)) h.0 h.1
+    token_again at (given v) h = grind (arith, common_steps, given_read)
 
     solo_again : (at : ℕ) (tokens : List SoloToken) → Each tokens → AreApart tokens
         → length (flat_map solo_token_cells tokens) ≡ n * n

@@ -17,7 +17,7 @@ at_tents places counts = record { places = places; counts = counts }
 -- some digit is in front
 pub front_some : (after : List ℕ) → begins is_ascii_digit after ≡ true → length (44 ∷ digits_front after) ≡ 1 → ⊥
 front_some [] d e = false≢true d
-front_some (b ∷ after) d e = let t = front_turn (b ∷ after) b after refl d in omega (arith, ap length t.0)
+front_some (b ∷ after) d e = grind (arith, common_steps, front_turn)
 
 -- ---- the trees
 
@@ -96,7 +96,7 @@ numbers_begin [] = refl
 numbers_begin (num ∷ numerals) = refl
 
 not_one : (num : List ℕ) → 0 < length num → length (44 ∷ num) ≡ 1 → ⊥
-not_one num some e = absurd (omega (arith, e))
+not_one num some e = grind arith
 
 -- the blanks of a token, and whether it has a tree
 abbrev token_blanks : TentsToken → ℕ
@@ -198,7 +198,7 @@ module _ (size : Extent) where
   sound_counted : {places counts : List ℕ} (n : ℕ) → Sound places counts
       → cells_in size + 1 ≤ length places → n ≤ line_cells size (length counts)
       → Sound places (counts ++ n ∷ [])
-  sound_counted {counts} n s full fits = grind (arith, AreCounts-push 0 counts n s.fit)
+  sound_counted {counts} n s full fits = grind (arith, AreCounts-push)
 
   sound_planted : {places counts : List ℕ} (blanks : ℕ) (tree : Bool) → Sound places counts
       → length counts ≤ 0 → length places + length (run_cells blanks tree) ≤ cells_in size + cond
@@ -246,9 +246,7 @@ module _ (size : Extent) where
       → tents_tree size at (at_tents places []) b ≡ Ok t
       → reads at places [] (b ∷ after) ≡ read_words (at + 1) t (words after)
   unfolding reading tents_tree
-  tree_taken at b places after t other e =
-      let r = bind_ok (tents_run at b) _ t e in
-      grind (arith, common_steps, nat_tests, words_single b after, run_single at b r.0 r.1)
+  tree_taken at b places after t other e = grind (arith, nat_tests, common_steps, bind_ok, words_single, run_single)
 
   pub tree_refused : (at b : ℕ) (places after : List ℕ) (f : IdFault) → (b ≡ 44 → ⊥)
       → tents_tree size at (at_tents places []) b ≡ Err f → reads at places [] (b ∷ after) ≡ Err f
@@ -284,8 +282,7 @@ module _ (size : Extent) where
       → AllByRecursion IsNumeral numerals → cells_in size + 1 ≤ length places
       → counts ++ map value numerals ≡ total → length total ≡ lines_of size → AreCounts size 0 total
       → Reads (at_tents places total) places counts (numbers_text numerals)
-  numbers_again places counts total [] d full is len are at =
-      grind (arith, common_steps, reading_end (tents_step size) (tents_end size) at (at_tents places counts) [] refl, end_is places counts true)
+  numbers_again places counts total [] d full is len are at = grind (arith, common_steps, reading_end, end_is)
   numbers_again places counts total (num ∷ numerals) d full is len are at =
       grind (
         arith,
