@@ -1,8 +1,8 @@
 //! Game IDs of Solo.
 
-ghost use Rattle.std.specs.Prelude.{◌≡◌, ◌<◌, ◌≤◌, ◌+◌, ◌*◌, ◌^◌, ◌∷◌, true, length, IfOk, IfErr, Ok, Err, ◌++◌, false, string_bytes, OnOk};
-ghost use Rattle.gameid_core.specs.Common.{Fails, Gives, IdFault, IsSolo, Solo, TakesRun, begins, head_of, is_lead, max_id, max_numbers, size_read, words};
-ghost use Rattle.gameid_core.specs.SoloText.{IsWrittenSolo, SpellsSolo, before_given, cells_text, solo_behind, solo_cells_at, solo_of, solo_text, solo_token};
+ghost use Rattle.std.specs.Prelude.{◌≡◌, ◌<◌, ◌≤◌, ◌+◌, ◌*◌, ◌^◌, ◌∷◌, true, length, IfOk, IfErr, Ok, Err, ◌++◌, List, false, string_bytes, OnOk};
+ghost use Rattle.gameid_core.specs.Common.{Fails, Gives, IdFault, IsSolo, Solo, TakesRun, begins, flat_map, head_of, is_lead, max_id, max_numbers, size_read, words};
+ghost use Rattle.gameid_core.specs.SoloText.{IsWrittenSolo, SpellsSolo, SoloToken, cells_text, gap_before, solo_behind, solo_cells_at, solo_of, solo_text, solo_token, solo_token_text};
 ghost use Rattle.gameid_core.specs.declared.id.game.Game.TheVariants as game;
 
 use crate::id::fault::IdFault;
@@ -12,7 +12,7 @@ use crate::id::text::{IdText, read_id, write_id};
 use crate::solo::puzzle::SoloPuzzle;
 use crate::text::number::{first_of, leading_number};
 use crate::text::runs::push_run;
-use crate::text::writing::{push_letters, push_number, push_size};
+use crate::text::writing::{push_letter, push_number, push_size};
 use std::alloc::{AllocError, Global};
 
 /// The number of one given cell, and the text after it.
@@ -76,19 +76,21 @@ fn cells(alloc: Global, n: u8, base: usize, description: &[u8]) -> Result<Vec<u8
 }
 
 /// Writes what stands before a number that has so many blanks before it.
-fn push_before(out: &mut String, blanks: usize, touches: bool) -> Result<(), AllocError>
-    ensures { OnOk result (string_bytes out.new
-        ≡ string_bytes out.old ++ before_given blanks touches) }
+fn push_before(out: &mut String, blanks: u8, touches: bool) -> Result<(), AllocError>
+    requires { blanks ≤ 26 }
+    ensures { OnOk result ((tokens : List SoloToken)
+        → string_bytes out.new ++ flat_map solo_token_text tokens
+        ≡ string_bytes out.old ++ flat_map solo_token_text (gap_before blanks touches tokens)) }
 {
     if blanks == 0 && touches {
         out.push('_')
     } else {
-        push_letters(out, blanks)
+        push_letter(out, blanks)
     }
 }
 
 /// Writes the cells.
-#[tactic(auto, unfolding(crate::specs::SoloText::cells_text))]
+#[tactic(auto, unfolding(crate::specs::SoloText::solo_tokens))]
 fn push_cells(out: &mut String, givens: &[u8]) -> Result<(), AllocError>
     ensures { OnOk result (string_bytes out.new
         ≡ string_bytes out.old ++ cells_text 0 false givens.now) }
@@ -97,6 +99,11 @@ fn push_cells(out: &mut String, givens: &[u8]) -> Result<(), AllocError>
     let mut touches = false;
     for given in givens {
         if *given == 0 {
+            if blanks == 26 {
+                out.push('z')?;
+                blanks = 0;
+                touches = false;
+            }
             blanks += 1;
             continue;
         }
@@ -105,7 +112,7 @@ fn push_cells(out: &mut String, givens: &[u8]) -> Result<(), AllocError>
         blanks = 0;
         touches = true;
     }
-    push_letters(out, blanks)
+    push_letter(out, blanks)
 }
 
 impl IdText for SoloPuzzle {
