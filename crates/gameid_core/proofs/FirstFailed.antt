@@ -76,8 +76,7 @@ module _ {F : Type 0} (fails : F → Type 0) where
   IsKnown test = fails test ⊎ Holds test
 
   pub known_by : {test : F} (right : Bool) → (right ≡ false → fails test) → (right ≡ true → Holds test) → IsKnown test
-  known_by true failed held = inr (held refl)
-  known_by false failed held = inl (failed refl)
+  known_by right failed held = grind arith
 
   judged : (tests : List F) → AllByRecursion IsKnown tests → NoneFails fails tests ⊎ ((f : F) × IsFirstFailed fails tests f)
   judged [] known = inl tt
@@ -141,18 +140,14 @@ module _ {F : Type 0} (fails : F → Type 0) where
     Answers fault = IsAnswerOfCheck solution fails tests fault
 
     pub answer_once : (a b : Option F) → Answers a → Answers b → a ≡ b
-    answer_once None None x y = refl
-    answer_once None (Some f) x y = absurd (none_first tests f (complete x) y)
-    answer_once (Some f) None x y = absurd (none_first tests f (complete y) x)
-    answer_once (Some f) (Some g) x y = ap Some (first_once tests x y)
+    answer_once a b x y = grind (arith, none_first, first_once)
 
     pub none_exactly : (fault : Option F) → Answers fault → (fault ≡ None) ↔ solution
     none_exactly fault is = (λ e. subst Answers e is, λ s. answer_once fault None is s)
 
     -- whether nothing is wrong, as a Bool
     pub tells : (told : Bool) (fault : Option F) → Answers fault → is_some fault ≡ not told → (told ≡ true) ↔ solution
-    tells told None is e = ((λ on. is), (λ s. not-false told (sym e)))
-    tells told (Some f) is e = ((λ on. absurd (false≢true (sym (not-true told (sym e)) ∙ on))), (λ s. absurd (none_first tests f (complete s) is)))
+    tells told fault is e = grind (arith, not-false, false≢true, not-true, none_first)
 
     pub none_tells : (told right : Bool) → (right ≡ true → solution) → (solution → right ≡ true)
         → (fault : Option F) → Answers fault → is_some fault ≡ not told → told ≡ right

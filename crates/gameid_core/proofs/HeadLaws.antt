@@ -20,8 +20,7 @@ after_stops [] = refl
 after_stops (b ∷ after) = grind (arith, after_stops after)
 
 pub number_in : (text : List ℕ) → begins is_lead text ≡ true → HasNumber text (digits_front text) (after_digits text)
-number_in [] e = absurd (false≢true e)
-number_in (b ∷ after) e = grind (arith, front_parts, front_digits, after_stops)
+number_in text e = grind (arith, common_steps, false≢true, front_parts, front_digits, after_stops)
 
 pub number_is : (text number rest : List ℕ) → HasNumber text number rest → (digits_front text ≡ number) × (after_digits text ≡ rest)
 number_is text number rest h = grind (arith, front_numeral number rest h.digits h.all)

@@ -43,8 +43,7 @@ module _ (game : Game) (text : List ℕ) where
   of_rest : (s : Sides) (more : Bool) → HasSize game text s → ltb 0 (length s.rest) ≡ more
       → Judged (cond more (Err Variant)
       (cond (in_range game s.w s.h) (Ok (size_read s.w s.h s.x)) (Err SizeRange)))
-  of_rest s true h e = grind (arith, common_steps, ltb-true)
-  of_rest s false h e = of_range s _ h (ltb-false _ _ e) refl
+  of_rest s more h e = grind (arith, common_steps, ltb-true, of_range, ltb-false)
 
   of_sides : (r : Result Sides IdFault) → sides_at game text ≡ r
       → Judged (r >>= (λ s. cond (ltb 0 (length s.rest)) (Err Variant)
@@ -140,8 +139,7 @@ module _ (game : Game) (text : List ℕ) where
   hash_first s lacks = grind (arith, common_steps)
 
   without : Lacks 58 text → Lacks 35 text ⊎ Split 35 text → Behind (cond (has_hash text) (Err SeedId) (Err NoColon))
-  without none (inl h) = rw (any_lacks 35 text h) (inr ((λ c. no_byte 35 c.0 c.1 (subst (Lacks 35) c.2.parts h)), inl (refl, none)))
-  without none (inr s) = grind (arith, common_steps, any_has, hash_first, lacks_front)
+  without none h1 = grind (arith, common_steps, any_lacks, no_byte, any_has, hash_first, lacks_front)
 
   behind : (front rest : List ℕ) → Comes 58 text front rest → Lacks 35 front ⊎ Split 35 front
       → Behind (cond (has_hash front) (Err SeedId)
@@ -176,8 +174,7 @@ module _ (game : Game) (text : List ℕ) where
   judged : (over : Bool) → ltb max_id (length text) ≡ over
       → IsJudged fails head_tests
       (cond over (Err TooLong) (head_at game text (position (λ b. eqb b 58) text)))
-  judged true e = inl (refl, ltb-true _ _ e)
-  judged false e = grind (arith, common_steps, passed, ltb-false, head_at_judged, split)
+  judged over e = grind (arith, common_steps, ltb-true, passed, ltb-false, head_at_judged, split)
 
   pub head_judged : IsJudged {A = HeadRead} (FailsHead game text) head_tests (head_of game text)
   unfolding head_of

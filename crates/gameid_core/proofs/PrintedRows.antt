@@ -57,8 +57,7 @@ pub record AfterCell (f : ℕ → List ℕ) (w : ℕ) (more : List ℕ) (x : ℕ
 end_or_cell : (f : ℕ → List ℕ) {w : ℕ} (more : List ℕ) (x m : ℕ) {after : List ℕ} → x + 1 + m ≡ w → after ≡ each_from f (x + 1) m ++ (codes "\n" ++ more)
     → ((x + 1 ≡ w) × (after ≡ codes "\n" ++ more)) ⊎ ((x + 1 < w) × ((t : List ℕ) × (after ≡ f (x + 1) ++ t)))
 unfolding each_from
-end_or_cell f more x zero e is = inl (omega arith, is)
-end_or_cell f more x (suc m) e is = grind (arith, append_assoc)
+end_or_cell f more x m e is = grind (arith, common_steps, append_assoc)
 
 pub after_cell : (f : ℕ → List ℕ) (w : ℕ) (more rest : List ℕ) (x : ℕ) → x < w → Left f w more x rest → AfterCell f w more x rest
 after_cell f w more rest x lt left =

@@ -16,8 +16,7 @@ at_tents places counts = record { places = places; counts = counts }
 
 -- some digit is in front
 pub front_some : (after : List ℕ) → begins is_ascii_digit after ≡ true → length (44 ∷ digits_front after) ≡ 1 → ⊥
-front_some [] d e = false≢true d
-front_some (b ∷ after) d e = grind (arith, common_steps, front_turn)
+front_some after d e = grind (arith, common_steps, false≢true, front_turn)
 
 -- ---- the trees
 
