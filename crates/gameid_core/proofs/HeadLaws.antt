@@ -94,9 +94,6 @@ module _ (game : Game) where
   unfolding sides_at
   has_size_read size = grind (arith, common_steps, side_read)
 
-  goes_on : (after : List ℕ) → GoesOn game after (has_x game after) (cond (has_x game after) (drop 1 after) after)
-  goes_on after = grind arith
-
   one_found : (text : List ℕ) (x : ℕ × List ℕ) → side_at text ≡ Ok x → begins (λ c. eqb c 120) x.1 ≡ false → HasSize game text (one_side x.0 x.1)
   one_found text x e alone = grind (arith, common_steps, side_found)
 

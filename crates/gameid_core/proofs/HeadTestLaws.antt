@@ -135,11 +135,8 @@ module _ (game : Game) (text : List ℕ) where
   abbrev Behind : Result HeadRead IdFault → Type 0
   Behind r = IsJudged fails (SeedId ∷ NoColon ∷ size_tests) r
 
-  hash_first : (s : Split 35 text) → Lacks 58 s.0 → fails SeedId
-  hash_first s lacks = grind (arith, common_steps)
-
   without : Lacks 58 text → Lacks 35 text ⊎ Split 35 text → Behind (cond (has_hash text) (Err SeedId) (Err NoColon))
-  without none h1 = grind (arith, common_steps, any_lacks, no_byte, any_has, hash_first, lacks_front)
+  without none h1 = grind (arith, common_steps, any_lacks, no_byte, any_has, lacks_front)
 
   behind : (front rest : List ℕ) → Comes 58 text front rest → Lacks 35 front ⊎ Split 35 front
       → Behind (cond (has_hash front) (Err SeedId)
@@ -159,7 +156,7 @@ module _ (game : Game) (text : List ℕ) where
       (passed fails SeedId (NoColon ∷ size_tests) _ seed
       (passed fails NoColon size_tests _
       (λ none. no_byte 58 front rest (subst (Lacks 58) colon.parts none)) moved))
-  behind front rest colon (inr s) = grind (arith, common_steps, any_has, append_assoc, hash_first, lacks_front)
+  behind front rest colon (inr s) = grind (arith, common_steps, any_has, append_assoc, lacks_front)
 
   head_at_judged : Lacks 58 text ⊎ Split 58 text → Behind (head_at game text (position (λ b. eqb b 58) text))
   unfolding head_at

@@ -110,10 +110,6 @@ light_takes text p e =
     description) (λ head cells. record { size = extent_of head.size; cells = cells }) e in
     grind (arith, light_take _ _ _ _ r.read, light_lawful _ _ r.is_head.range r.read, plain_size)
 
--- a wide size is in the limits of Light Up, which are those of Tents
-pub wide_range : (size : Extent) → IsWide size → in_range game.LightUp size.w size.h ≡ true
-wide_range size h = grind arith
-
 pub light_text_again : (text : List ℕ) (p : Light) → SpellsLight text p → light_of text ≡ Ok p
 light_text_again text p s =
     grind (arith, puzzle_again game.LightUp light_behind s.front (map light_token_byte s.tokens) p.size.w p.size.h false s.size, light_again (p.size.w * p.size.h) (length s.front + 1) s.tokens s.each)

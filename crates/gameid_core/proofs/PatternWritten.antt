@@ -6,9 +6,6 @@ use Rattle.gameid_core.proofs.Numerals.{decimal_plain, own, length_decimal, nume
 
 -- ---- how long
 
-pub line_small : {size : Extent} (line : ℕ) → IsExtent size → line_cells size line ≤ max_side
-line_small line h = grind arith
-
 length_clue : (clue : List ℕ) → AllByRecursion (λ n. 0 < n) clue → used clue < 2 ^ 64 → 0 < length clue → length (clue_text clue) + 1 ≤ used clue
 length_clue [] h small some = grind (arith, common_steps, length_decimal, length-append)
 length_clue (x ∷ xs) h small some = grind (arith, common_steps, length_clue xs, length_decimal, length-append)

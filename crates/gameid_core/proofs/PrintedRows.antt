@@ -109,9 +109,3 @@ next_row y w = grind (arith, common_steps, add-one, suc-mul)
 
 pub in_grid : (size : Extent) (y w x cells : ℕ) → w ≡ size.w → x < w → y < size.h → cells ≡ size.w * size.h → y * w + x < cells
 in_grid size y w x cells wide lt below all = grind arith
-
-pub line_end : {rest more left : List ℕ} {byte : ℕ} → rest ≡ byte ∷ more → rest ≡ 10 ∷ left → (byte ≡ 10) × (more ≡ left)
-line_end split is = (cc, cc)
-
-pub row_end : (y w x width : ℕ) → w ≤ x → x ≤ w → w ≡ width → (y + 1) * width ≡ y * w + x
-row_end y w x width over under wide = grind arith

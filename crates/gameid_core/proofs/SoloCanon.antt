@@ -57,9 +57,6 @@ record Form (n : ℕ) (touches : Bool) (cells : List ℕ) (tokens : List SoloTok
 full_z : (tokens : List SoloToken) → AreFull tokens → AreFull (blanks 26 ∷ tokens)
 full_z tokens h = grind arith
 
-given_apart : (v : ℕ) (tokens : List SoloToken) → IsClear tokens → AreApart tokens → AreApart (given v ∷ tokens)
-given_apart v tokens c h = grind arith
-
 tokens_form : (n k : ℕ) (touches : Bool) (cells : List ℕ) → k ≤ 26
     → AllByRecursion (λ v. v ≤ n) cells
     → Form n touches (replicate k 0 ++ cells) (solo_tokens k touches cells)
@@ -67,7 +64,7 @@ unfolding solo_tokens
 tokens_form n k touches [] few h = grind (arith, common_steps)
 tokens_form n k touches (zero ∷ cells) few h =
     grind (arith, nat_tests, common_steps, full_z, tokens_form n 1 false cells, tokens_form n (k + 1) touches cells)
-tokens_form n k touches (suc v ∷ cells) few h = grind (arith, common_steps, given_apart, tokens_form n 0 true cells)
+tokens_form n k touches (suc v ∷ cells) few h = grind (arith, common_steps, tokens_form n 0 true cells)
 
 written_size : (c r : ℕ) (x : Bool) → IsSoloSizeText (solo_size_text c r x) c r x
 written_size c r x = grind arith

@@ -94,9 +94,6 @@ module _ (n : ℕ) where
   letter_word [] w e = absurd w
   letter_word (b ∷ more) w e = record { token = blanks (b - 96); texts = grind (arith, alone b more w); each = grind arith; stands = refl }
 
-  gap_word : (word : List ℕ) → IsWord word → begins (λ b. eqb b 95) word ≡ true → SoloWord word []
-  gap_word word w e = grind arith
-
   token_range : (token : SoloToken) → IsSoloToken n token → AllByRecursion (λ v. v ≤ n) (solo_token_cells token)
   token_range (blanks k) h = AllByRecursion-replicate (λ v. v ≤ n) 0 k (omega arith)
   token_range gap h = tt
@@ -122,7 +119,7 @@ module _ (n : ℕ) where
 
     token_word : (at : ℕ) (word more : List ℕ) → IsWord word → solo_token n at word ≡ Ok more → SoloWord word more
     unfolding solo_token
-    token_word at word more w e = grind (arith, common_steps, letter_word word, gap_word, given_word)
+    token_word at word more w e = grind (arith, common_steps, letter_word word, given_word)
 
     apart_tokens : (tokens : List SoloToken) → Each tokens → Apart (map solo_token_text tokens) → AreApart tokens
     apart_tokens [] each h = grind (arith, common_steps, decimal_digit_first)

@@ -3,7 +3,6 @@ use Rattle.gameid_core.specs.Common.{AllByRecursion, AreCounts, Extent, HasOneTe
 use Rattle.gameid_core.specs.TentsText.{IsTentsToken, IsWrittenTents, SpellsTents, TentsToken, blanks_and_tree, only_blanks, tents_text, tents_token_cells, trees_text, AreTight, tents_tokens}
 use Rattle.gameid_core.proofs.OneReading.{one_text}
 use Rattle.gameid_core.proofs.Numerals.{own, decimal_plain, numeral, length_decimal, plain_decimal}
-use Rattle.gameid_core.proofs.PatternWritten.{line_small}
 use Rattle.gameid_core.proofs.TentsTexts.{numbers_text}
 
 -- ---- the numbers of tents
@@ -51,7 +50,7 @@ numerals : (size : Extent) (line : ℕ) (counts : List ℕ) → IsExtent size �
     → AllByRecursion IsNumeral (map decimal counts) × AllByRecursion IsPlain (map decimal counts) × (map value (map decimal counts) ≡ counts)
 numerals size line [] e h = (tt, tt, refl)
 numerals size line (n ∷ counts) e h =
-    grind (arith, line_small line e, numerals size (line + 1) counts e h.1, digits_value-decimal own n, numeral n, decimal_plain n)
+    grind (arith, numerals size (line + 1) counts e h.1, digits_value-decimal own n, numeral n, decimal_plain n)
 
 -- the written text has the form of a written text, and so it spells the puzzle
 pub tents_is_written : (p : Tents) → IsTents p → IsWrittenTents (tents_text p) p
