@@ -19,12 +19,6 @@ after_stops : (text : List ℕ) → begins is_ascii_digit (after_digits text) �
 after_stops [] = refl
 after_stops (b ∷ after) = grind (arith, after_stops after)
 
-pub number_in : (text : List ℕ) → begins is_lead text ≡ true → HasNumber text (digits_front text) (after_digits text)
-number_in text e = grind (arith, common_steps, false≢true, front_parts, front_digits, after_stops)
-
-pub number_is : (text number rest : List ℕ) → HasNumber text number rest → (digits_front text ≡ number) × (after_digits text ≡ rest)
-number_is text number rest h = grind (arith, front_numeral number rest h.digits h.all)
-
 -- a number is what is written of its value
 number_decimal : {text : List ℕ} (number : List ℕ) {rest : List ℕ} → HasNumber text number rest → value number < 2 ^ 64 → decimal (value number) ≡ number
 number_decimal [] h small = absurd (false≢true h.lead)
@@ -34,7 +28,7 @@ number_decimal (b ∷ ds) h small =
 
 side_read : (text number rest : List ℕ) → HasNumber text number rest → side_at text ≡ Ok (value number, rest)
 unfolding side_at
-side_read text number rest h = grind (arith, number_is)
+side_read text number rest h = grind (arith, front_numeral)
 
 pub side_again : {n : ℕ} (rest : List ℕ) → n < 2 ^ 64 → 0 < n → begins is_ascii_digit rest ≡ false → side_at (decimal n ++ rest) ≡ Ok (n, rest)
 unfolding side_at
@@ -50,7 +44,7 @@ x_first e = grind arith
 
 side_found : (text : List ℕ) {x : ℕ × List ℕ} → side_at text ≡ Ok x → (number : List ℕ) × HasNumber text number x.1 × (value number ≡ x.0)
 unfolding side_at
-side_found text e = grind (arith, number_in text)
+side_found text e = grind (arith, common_steps, false≢true, front_parts, front_digits, after_stops)
 
 -- ---- the size
 
@@ -65,10 +59,6 @@ pub record Small (a b : ℕ) : Type 0 where
 digits_lack : (k : ℕ) (ds : List ℕ) → is_ascii_digit k ≡ false → all_ascii_digits ds ≡ true → list_any (λ c. eqb c k) ds ≡ false
 digits_lack k [] other d = refl
 digits_lack k (c ∷ ds) other d = grind (arith, nat_tests, digits_lack k ds other)
-
-size_lacks : (k : ℕ) {front : List ℕ} (a b : ℕ) → is_ascii_digit k ≡ false → eqb 120 k ≡ false
-    → a < 2 ^ 64 → b < 2 ^ 64 → IsSizeText front a b → list_any (λ c. eqb c k) front ≡ false
-size_lacks k a b other x small_a small_b size_text = grind (arith, common_steps, list_any-append, digits_lack, digits_decimal, own)
 
 pub place_of : (p : ℕ → Bool) (front : List ℕ) (c : ℕ) (rest : List ℕ) → list_any p front ≡ false
     → p c ≡ true → position_or_len p (front ++ c ∷ rest) ≡ length front
@@ -151,7 +141,8 @@ module _ (game : Game) where
   game_size_lacks : (k : ℕ) (front : List ℕ) (a b : ℕ) (x : Bool) → is_ascii_digit k ≡ false
       → eqb 120 k ≡ false → a < 2 ^ 64 → b < 2 ^ 64 → IsGameSize front a b x
       → list_any (λ c. eqb c k) front ≡ false
-  game_size_lacks k front a b x other x' small_a small_b s = grind (arith, common_steps, size_lacks)
+  game_size_lacks k front a b x other x' small_a small_b s =
+      grind (arith, common_steps, list_any-append, digits_lack, digits_decimal, own)
 
   pub record IsHead (text : List ℕ) (head : HeadRead) : Type 0 where
     pub front : List ℕ

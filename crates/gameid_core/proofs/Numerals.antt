@@ -1,6 +1,6 @@
 -- Numbers as texts: the digits in front, and the written digits of a number.
 use Rattle.gameid_core.specs.Common.{Bool, Cuts, IsNumeral, IsNumeralModel, IsPlain, List, [], after_digits, all_ascii_digits, and_parts, arith, begins, common_steps, decimal, decimal-digits_value, decimal_by_steps, digits_decimal, digits_front, false, is_ascii_digit, is_lead, joins, length, length-append, length-decimal-le, nat_tests, numerals_by_fold, refl, rules, suc, true, value, value_after, zero, ℕ, ◌%◌, ◌*◌, ◌++◌, ◌+◌, ◌-◌, ◌<◌, ◌^◌, ◌∷◌, ◌≡◌, ◌≤◌}
-use Rattle.gameid_core.proofs.Tokens.{value_after_ge, front_turn, front_stop, front_end, cuts_joined, cuts_number}
+use Rattle.gameid_core.proofs.Tokens.{value_after_ge, front_stop, front_end, cuts_joined, cuts_number}
 
 pub own : IsNumeralModel (λ ds. all_ascii_digits ds ≡ true) value
 own = numerals_by_fold _ (search rules) value_after (search rules)
@@ -28,8 +28,7 @@ pub front_numeral : (digits rest : List ℕ) → all_ascii_digits digits ≡ tru
     × (after_digits (digits ++ rest) ≡ rest)
 front_numeral [] [] d other = front_end refl
 front_numeral [] (b ∷ rest) d other = front_stop b rest refl other
-front_numeral (c ∷ digits) rest d other =
-    grind (arith, nat_tests, common_steps, front_turn, front_numeral digits rest)
+front_numeral (c ∷ digits) rest d other = grind (arith, nat_tests, common_steps, front_numeral digits rest)
 
 pub digit_front : (num rest : List ℕ) → IsNumeral num → begins is_ascii_digit (num ++ rest) ≡ true
 digit_front [] rest h = grind (arith, common_steps)

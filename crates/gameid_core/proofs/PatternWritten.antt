@@ -10,17 +10,13 @@ length_clue : (clue : List ℕ) → AllByRecursion (λ n. 0 < n) clue → used c
 length_clue [] h small some = grind (arith, common_steps, length_decimal, length-append)
 length_clue (x ∷ xs) h small some = grind (arith, common_steps, length_clue xs, length_decimal, length-append)
 
--- a clue's text is no longer than its line
-pub clue_short : {cells : ℕ} {clue : List ℕ} → IsClue cells clue → cells ≤ max_side → length (clue_text clue) ≤ cells
-clue_short h small = grind (arith, common_steps, length_clue)
-
 clues_short : (size : Extent) (line : ℕ) (clues : List (List ℕ)) → IsExtent size
     → AreClues size line clues
     → length (join_with_byte 47 (map clue_text clues)) ≤ (max_side + 1) * length clues
 clues_short size line [] e h = omega arith
-clues_short size line (c ∷ []) e h = grind (arith, common_steps, clue_short)
+clues_short size line (c ∷ []) e h = grind (arith, common_steps, length_clue)
 clues_short size line (c ∷ d ∷ clues) e h =
-    grind (arith, common_steps, clue_short, clues_short size (line + 1) (d ∷ clues) e h.1)
+    grind (arith, common_steps, clues_short size (line + 1) (d ∷ clues) e h.1, length_clue)
 
 pub pattern_short : (p : Pattern) → IsPattern p → length (pattern_text p) ≤ max_id
 pattern_short p h = grind (arith, common_steps, length_decimal, clues_short)

@@ -38,11 +38,8 @@ runs_used k [] = omega (arith, run_of_used k)
 runs_used k (zero ∷ cells) = grind (arith, runs_used 0 cells)
 runs_used k (suc b ∷ cells) = omega (arith, runs_used (suc k) cells)
 
-pub runs_fit : (cells : List ℕ) → IsClue (length cells) (runs cells)
-runs_fit cells = grind (arith, common_steps, runs_positive, runs_used)
-
 runs_line_fits : (size : Extent) (g : List ℕ) (line : ℕ) → IsClue (line_cells size line) (runs (line_numbers size g line))
-runs_line_fits size g line = grind (arith, common_steps, length-line_numbers, runs_fit)
+runs_line_fits size g line = grind (arith, common_steps, length-line_numbers, runs_positive, runs_used)
 
 are_runs : (size : Extent) (g : List ℕ) (line n : ℕ) → AreClues size line (map (λ i. runs (line_numbers size g i)) (range_with_len line n))
 are_runs size g line zero = tt

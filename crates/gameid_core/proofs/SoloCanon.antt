@@ -4,10 +4,6 @@ use Rattle.gameid_core.specs.SoloText.{AreApart, IsSoloToken, IsWrittenSolo, Sol
 use Rattle.gameid_core.proofs.OneReading.{one_text}
 
 
--- no more cells than the most numbers by as many
-pub solo_few : (n : ℕ) → n ≤ max_numbers → n * n ≤ max_numbers * max_numbers
-solo_few n h = grind (arith, common_steps, mul-le-mul_left, mul-le-mul_right)
-
 -- a cell takes at most three bytes: '_' and two digits
 cells_short : (k : ℕ) (touches : Bool) (cells : List ℕ)
     → AllByRecursion (λ v. v ≤ max_numbers) cells
@@ -21,22 +17,12 @@ range_more : (n : ℕ) (cells : List ℕ) → n ≤ max_numbers → AllByRecursi
 range_more n [] le h = tt
 range_more n (v ∷ cells) le h = (omega (arith, h.0), range_more n cells le h.1)
 
-size_short : (c r : ℕ) (x : Bool) → length (solo_size_text c r x) ≤ length (size_text c r) + 1
-size_short c r x = grind (arith, common_steps, length-append)
-
 pub solo_short : (p : Solo) → IsSolo p → length (solo_text p) ≤ max_id
 solo_short p h =
-    grind (
-      arith,
-      length-decimal-le 2 p.c,
-      length-decimal-le 2 p.r,
-      cells_short 0 false p.givens,
-      range_more (solo_n p) p.givens,
-      solo_few (solo_n p),
-      size_short p.c p.r p.x,
-      length-append (decimal p.c) (120 ∷ decimal p.r),
-      length-append (solo_size_text p.c p.r p.x) (58 ∷ cells_text 0 false p.givens),
-    )
+    grind (arith, length-decimal-le 2 p.c, length-decimal-le 2 p.r, cells_short 0 false p.givens,
+        range_more (solo_n p) p.givens, length-append (decimal p.c) (120 ∷ decimal p.r),
+        length-append (solo_size_text p.c p.r p.x) (58 ∷ cells_text 0 false p.givens),
+        common_steps, mul-le-mul_left, mul-le-mul_right)
 
 -- ---- what it spells
 
