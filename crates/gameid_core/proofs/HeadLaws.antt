@@ -114,7 +114,7 @@ module _ (game : Game) where
       (record { w = a; h = b; x = x; rest = [] })
   unfolding sides_at
   sides_again front a b false small_a small_b some_a some_b (inl e) =
-      grind (arith, common_steps, side_again (120 ∷ decimal b) small_a some_a refl, side_again [] small_b some_b refl)
+      grind (arith, common_steps, side_again, side_again [] small_b some_b refl)
   sides_again front a b false small_a small_b some_a some_b (inr e) = grind (arith, common_steps, side_again [] small_a some_a refl)
   sides_again front a b true small_a small_b some_a some_b e = grind (arith, common_steps, side_again)
 

@@ -68,7 +68,7 @@ split_later byte b text other s = (b ∷ s.0, s.1, ap (λ (t : List ℕ). b ∷ 
 
 split : (byte : ℕ) (text : List ℕ) → Lacks byte text ⊎ Split byte text
 split byte [] = inl tt
-split byte (b ∷ text) = grind (arith, split byte text, split_later byte b text, split_here byte text, cases_eq b byte)
+split byte (b ∷ text) = grind (arith, split byte text, split_later, split_here byte text, cases_eq b byte)
 
 lacks_front : (byte : ℕ) (xs ys : List ℕ) → Lacks byte (xs ++ ys) → Lacks byte xs
 lacks_front byte [] ys h = tt

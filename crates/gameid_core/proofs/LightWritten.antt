@@ -87,7 +87,4 @@ light_form text p w = grind (arith, form_tokens)
 pub light_one_text : HasOneText IsLight IsWrittenLight light_text
 light_one_text = record { some = light_is_written; one = one_text _ _ light_form }
 
-pub light_spelled : (p : Light) → IsLight p → SpellsLight (light_text p) p
-light_spelled p h = (light_is_written p h).spells
-
-pub ruleset laws = (common_steps, light_is_written, light_spelled, light_short)
+pub ruleset laws = (common_steps, light_is_written, light_short)

@@ -39,7 +39,7 @@ numeral_cuts num rest h other = grind (arith, front_numeral num rest h.digits ot
 
 -- a byte that joins digits, and a numeral
 pub joined_cuts : (b : ℕ) → joins b ≡ true → (num rest : List ℕ) → IsNumeral num → begins is_ascii_digit rest ≡ false → Cuts (b ∷ (num ++ rest)) (b ∷ num) rest
-joined_cuts b j num rest h other = grind (arith, front_numeral num rest h.digits other, cuts_joined b (num ++ rest) j)
+joined_cuts b j num rest h other = grind (arith, front_numeral, cuts_joined b (num ++ rest) j)
 
 -- a number takes no more digits than it counts
 pub length_decimal : (n : ℕ) → n < 2 ^ 64 → 0 < n → length (decimal n) ≤ n

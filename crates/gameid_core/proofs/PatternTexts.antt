@@ -18,7 +18,7 @@ pub first_takes : (cells line at : ℕ) (clue text : List ℕ) (r : Result (ℕ 
 unfolding clue_token
 first_takes cells line at (n ∷ clue) text r none some gives = absurd (omega arith)
 first_takes cells line at [] [] r none some gives = absurd (omega arith)
-first_takes cells line at [] (b ∷ after) r none some gives = grind (arith, cuts_number (b ∷ after), cuts_some b after)
+first_takes cells line at [] (b ∷ after) r none some gives = grind (arith, cuts_number, cuts_some b after)
 
 pub further_takes : (cells line at : ℕ) (clue text : List ℕ) (r : Result (ℕ × Bor (List ℕ)) IdFault) → 0 < used clue → begins (λ b. eqb b 46) text ≡ true
     → GivesDigits (clue_number cells line (used clue) (at + 1) (digits_front (drop 1 text))) (drop 1 text) at r

@@ -21,8 +21,7 @@ pub solo_short : (p : Solo) → IsSolo p → length (solo_text p) ≤ max_id
 solo_short p h =
     grind (arith, length-decimal-le 2 p.c, length-decimal-le 2 p.r, cells_short 0 false p.givens,
         range_more (solo_n p) p.givens, length-append (decimal p.c) (120 ∷ decimal p.r),
-        length-append (solo_size_text p.c p.r p.x) (58 ∷ cells_text 0 false p.givens),
-        common_steps, mul-le-mul_left, mul-le-mul_right)
+        length-append, common_steps, mul-le-mul_left, mul-le-mul_right)
 
 -- ---- what it spells
 
@@ -105,7 +104,4 @@ solo_form text p w = grind (arith, form_tokens (solo_n p) false)
 pub solo_one_text : HasOneText IsSolo IsWrittenSolo solo_text
 solo_one_text = record { some = solo_is_written; one = one_text _ _ solo_form }
 
-pub solo_spelled : (p : Solo) → IsSolo p → SpellsSolo (solo_text p) p
-solo_spelled p h = (solo_is_written p h).spells
-
-pub ruleset laws = (common_steps, solo_is_written, solo_spelled, solo_short)
+pub ruleset laws = (common_steps, solo_is_written, solo_short)

@@ -131,7 +131,7 @@ last_push [] x = grind arith
 last_push (x1 ∷ xs) x = grind (arith, common_steps, last_push xs)
 
 blank_last : (places trees : List ℕ) → places ++ replicate 25 0 ≡ trees ++ 1 ∷ [] → ⊥
-blank_last places trees e = grind (arith, append_assoc places (replicate 24 0) (0 ∷ []), last_push (places ++ replicate 24 0) 0, last_push trees 1)
+blank_last places trees e = grind (arith, append_assoc, last_push (places ++ replicate 24 0) 0, last_push trees 1)
 
 module _ (size : Extent) where
   abbrev pub read_words : ℕ → TentsSoFar → List (List ℕ) → Result TentsSoFar IdFault

@@ -119,7 +119,4 @@ tents_form text p w = grind (arith, of_cells, form_tokens, numbers_plain, number
 pub tents_one_text : HasOneText IsTents IsWrittenTents tents_text
 tents_one_text = record { some = tents_is_written; one = one_text _ _ tents_form }
 
-pub tents_spelled : (p : Tents) → IsTents p → SpellsTents (tents_text p) p
-tents_spelled p h = (tents_is_written p h).spells
-
-pub ruleset laws = (common_steps, tents_is_written, tents_spelled, tents_short)
+pub ruleset laws = (common_steps, tents_is_written, tents_short)
