@@ -113,7 +113,7 @@ impl IdText for LightPuzzle {
     fn read_description(alloc: Global, head: Head, description: &[u8]) -> Result<Self, IdFault> {
         let size = Size::new(head.w, head.h).unwrap();
         let cells = cells(alloc, size.cells(), head.description, description)?;
-        Ok(LightPuzzle::of_cells(size, cells))
+        Ok(LightPuzzle { size, cells })
     }
 
     fn id_size(&self) -> (u8, u8, bool) {

@@ -162,7 +162,7 @@ impl IdText for PatternPuzzle {
     fn read_description(alloc: Global, head: Head, description: &[u8]) -> Result<Self, IdFault> {
         let size = Size::new(head.w, head.h).unwrap();
         let clues = clues(alloc, size, head.description, description)?;
-        Ok(PatternPuzzle::of_clues(size, clues))
+        Ok(PatternPuzzle { size, clues })
     }
 
     fn id_size(&self) -> (u8, u8, bool) {

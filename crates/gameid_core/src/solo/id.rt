@@ -15,18 +15,6 @@ use crate::text::runs::push_run;
 use crate::text::writing::{push_letter, push_number, push_size};
 use std::alloc::{AllocError, Global};
 
-/// The number of one given cell, and the text after it.
-fn given(n: u8, at: usize, rest: &[u8]) -> Result<(usize, u8, &[u8]), IdFault>
-    requires begins { begins is_lead rest.now ≡ true }
-    ensures { TakesRun (solo_token n at) rest.now result }
-{
-    let (number, after) = leading_number(rest);
-    if number > u32::from(n) {
-        return Err(IdFault::NumberRange(at));
-    }
-    Ok((1, number as u8, after))
-}
-
 /// How many cells the first token stands for and their value, and the text after it.
 fn next_run<'a>(
     n: u8,
@@ -45,7 +33,11 @@ fn next_run<'a>(
         return Ok((0, 0, after));
     }
     if first >= b'1' && first <= b'9' {
-        return given(n, at, rest);
+        let (number, after) = leading_number(rest);
+        if number > u32::from(n) {
+            return Err(IdFault::NumberRange(at));
+        }
+        return Ok((1, number as u8, after));
     }
     Err(IdFault::BadByte(at))
 }
@@ -131,7 +123,12 @@ impl IdText for SoloPuzzle {
     #[tactic(auto, using(crate::proofs::SoloTexts::n_few))]
     fn read_description(alloc: Global, head: Head, description: &[u8]) -> Result<Self, IdFault> {
         let givens = cells(alloc, head.w * head.h, head.description, description)?;
-        Ok(SoloPuzzle::of_givens(head.w, head.h, head.x, givens))
+        Ok(SoloPuzzle {
+            c: head.w,
+            r: head.h,
+            x: head.x,
+            givens,
+        })
     }
 
     fn id_size(&self) -> (u8, u8, bool) {

@@ -198,7 +198,11 @@ impl IdText for TentsPuzzle {
         let size = Size::new(head.w, head.h).unwrap();
         let (mut places, counts) = parts(alloc, size, head.description, description)?;
         places.truncate(size.cells());
-        Ok(TentsPuzzle::of_lists(size, places, counts))
+        Ok(TentsPuzzle {
+            size,
+            trees: places,
+            counts,
+        })
     }
 
     fn id_size(&self) -> (u8, u8, bool) {
