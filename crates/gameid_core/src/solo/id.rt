@@ -10,7 +10,7 @@ use crate::id::game::Game;
 use crate::id::head::Head;
 use crate::id::text::{IdText, read_id, write_id};
 use crate::solo::puzzle::SoloPuzzle;
-use crate::text::number::{first_of, leading_number};
+use crate::text::number::leading_number;
 use crate::text::runs::push_run;
 use crate::text::writing::{push_letter, push_number, push_size};
 use std::alloc::{AllocError, Global};
@@ -52,7 +52,7 @@ fn cells(alloc: Global, n: u8, base: usize, description: &[u8]) -> Result<Vec<u8
     let all = usize::from(n) * usize::from(n);
     let mut cells = Vec::with_capacity(alloc, all)?;
     let mut rest = description;
-    while let Some((first, after)) = first_of(rest) {
+    while let Some((&first, after)) = rest.split_first() {
         let at = base + (description.len() - rest.len());
         let (count, value, after) = next_run(n, at, first, after, rest)?;
         if count > all - cells.len() {
