@@ -1,5 +1,5 @@
 -- Reading a description that fills cells: Solo and Light Up.
-use Rattle.gameid_core.specs.Common.{AllByRecursion, Bool, Err, IdFault, List, Ok, Result, TooFew, TooMany, [], ap, append_assoc, arith, common_steps, cond, eqb, fill_end, fill_step, flat_map, le-ltb, length, length-append, ltb, map, reading, refl, true, words, ℕ, ◌++◌, ◌+◌, ◌>>=◌, ◌∙◌, ◌∷◌, ◌≡◌, ◌≤◌}
+use Rattle.gameid_core.specs.Common.{AllByRecursion, Err, IdFault, List, Ok, Result, TooMany, [], ap, append_assoc, arith, common_steps, cond, fill_end, fill_step, flat_map, le-ltb, length, length-append, ltb, map, reading, refl, words, ℕ, ◌++◌, ◌+◌, ◌>>=◌, ◌∙◌, ◌∷◌, ◌≡◌, ◌≤◌}
 use Rattle.gameid_core.proofs.Results.{bind_ok, taken}
 
 -- ---- filling

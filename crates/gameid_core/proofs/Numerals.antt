@@ -1,5 +1,5 @@
 -- Numbers as texts: the digits in front, and the written digits of a number.
-use Rattle.gameid_core.specs.Common.{Bool, Cuts, IsNumeral, IsNumeralModel, IsPlain, List, [], after_digits, all_ascii_digits, and_parts, arith, begins, common_steps, decimal, decimal-digits_value, decimal_by_steps, digits_decimal, digits_front, false, is_ascii_digit, is_lead, joins, length, length-append, length-decimal-le, nat_tests, numerals_by_fold, refl, rules, suc, true, value, value_after, zero, ℕ, ◌%◌, ◌*◌, ◌++◌, ◌+◌, ◌-◌, ◌<◌, ◌^◌, ◌∷◌, ◌≡◌, ◌≤◌}
+use Rattle.gameid_core.specs.Common.{Bool, Cuts, IsNumeral, IsNumeralModel, IsPlain, List, [], after_digits, all_ascii_digits, and_parts, arith, begins, common_steps, decimal, decimal-digits_value, decimal_by_steps, digits_decimal, digits_front, false, is_ascii_digit, is_lead, joins, length, length-append, length-decimal-le, nat_tests, numerals_by_fold, refl, rules, suc, true, value, value_after, zero, ℕ, ◌%◌, ◌++◌, ◌+◌, ◌<◌, ◌^◌, ◌∷◌, ◌≡◌, ◌≤◌}
 use Rattle.gameid_core.proofs.Tokens.{value_after_ge, front_stop, front_end, cuts_joined, cuts_number}
 
 pub own : IsNumeralModel (λ ds. all_ascii_digits ds ≡ true) value

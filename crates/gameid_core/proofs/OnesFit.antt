@@ -1,5 +1,5 @@
 -- The ones of a line are no more than its cells.
-use Rattle.gameid_core.specs.Common.{AreCounts, Extent, IsExtent, IsGrid, IsTents, List, [], arith, common_steps, length, length-line_numbers, length-map-range_with_len, line_numbers, lines_of, lines_ones, map, ones, range_with_len, recursion_from_All, suc, zero, ℕ, ◌*◌, ◌+◌, ◌∷◌, ◌≡◌, ◌≤◌}
+use Rattle.gameid_core.specs.Common.{AreCounts, Extent, IsExtent, IsGrid, IsTents, List, [], arith, common_steps, length, length-line_numbers, length-map-range_with_len, line_numbers, lines_ones, map, ones, range_with_len, recursion_from_All, suc, zero, ℕ, ◌*◌, ◌+◌, ◌∷◌, ◌≡◌, ◌≤◌}
 
 ones_few : (cells : List ℕ) → ones cells ≤ length cells
 ones_few [] = omega arith

@@ -1,5 +1,5 @@
 -- A printed number below 100 is read back by its one or two digits.
-use Rattle.gameid_core.specs.Common.{List, None, Option, Some, [], arith, common_steps, decimal, decimal_digit, decimal_step, digit_of, first_digit, length, ℕ, ◌%◌, ◌*◌, ◌++◌, ◌+◌, ◌/◌, ◌<◌, ◌∷◌, ◌≡◌, ◌≤◌, ◌⊎◌}
+use Rattle.gameid_core.specs.Common.{List, None, Option, Some, arith, common_steps, decimal, decimal_digit, decimal_step, digit_of, first_digit, length, ℕ, ◌%◌, ◌*◌, ◌++◌, ◌+◌, ◌/◌, ◌<◌, ◌∷◌, ◌≡◌, ◌⊎◌}
 
 -- what is read of a number
 pub record Number (n : ℕ) (byte : ℕ) (rest : List ℕ) : Type 0 where

@@ -1,6 +1,6 @@
 -- A row is read cell by cell: what is left of it is what is printed of the cells from there on, its line end and what
 -- follows.
-use Rattle.gameid_core.specs.Common.{AgreeUpTo, Extent, FitUpTo, Follows, List, None, Option, Some, [], add-one, ap, append_assoc, ap₂, arith, codes, common_steps, drop, each_below, inl, length, mod-mul-add, set, slice_index, suc, suc-mul, take, zero, ℕ, ◌*◌, ◌++◌, ◌+◌, ◌-◌, ◌<◌, ◌∙◌, ◌∷◌, ◌≡◌, ◌≤◌, ◌⊎◌}
+use Rattle.gameid_core.specs.Common.{AgreeUpTo, Extent, FitUpTo, Follows, List, None, Option, Some, [], add-one, ap, append_assoc, ap₂, arith, codes, common_steps, drop, each_below, length, mod-mul-add, set, slice_index, suc, suc-mul, take, zero, ℕ, ◌*◌, ◌++◌, ◌+◌, ◌-◌, ◌<◌, ◌∙◌, ◌∷◌, ◌≡◌, ◌⊎◌}
 
 -- the texts of the n numbers from k on
 unfoldable pub each_from : (ℕ → List ℕ) → ℕ → ℕ → List ℕ

@@ -1,5 +1,5 @@
 -- Laws of the runs of a line, by induction on the cells.
-use Rattle.gameid_core.specs.Common.{AllByRecursion, AreClues, Extent, IsClue, IsExtent, IsPattern, List, [], ap, arith, common_steps, length, length-line_numbers, length-map-range_with_len, line_cells, line_numbers, lines_of, lines_runs, map, range_with_len, refl, replicate, run_of, runs, runs_after, suc, used, zero, ℕ, ◌++◌, ◌+◌, ◌<◌, ◌∙◌, ◌∷◌, ◌≡◌, ◌≤◌}
+use Rattle.gameid_core.specs.Common.{AllByRecursion, AreClues, Extent, IsClue, IsExtent, IsPattern, List, [], ap, arith, common_steps, length, length-line_numbers, length-map-range_with_len, line_cells, line_numbers, lines_runs, map, range_with_len, refl, replicate, run_of, runs, runs_after, suc, used, zero, ℕ, ◌++◌, ◌+◌, ◌<◌, ◌∙◌, ◌∷◌, ◌≡◌, ◌≤◌}
 
 -- a white cell cuts a line in two
 pub runs_after-cut : (k : ℕ) (f g : List ℕ) → runs_after k (f ++ 0 ∷ g) ≡ runs_after k f ++ runs g

@@ -1,8 +1,7 @@
 -- The written text of a puzzle of Solo: its length, that it spells the puzzle, and that no other does.
 use Rattle.gameid_core.specs.Common.{AllByRecursion, Bool, HasOneText, IsSolo, IsSoloSizeText, List, Solo, [], ap, arith, common_steps, cond, decimal, eqb, false, false≢true, flat_map, length, length-append, length-decimal-le, max_id, max_numbers, mul-le-mul_left, mul-le-mul_right, nat_tests, refl, replicate, size_text, solo_n, solo_size_text, suc, true, zero, ℕ, ◌*◌, ◌++◌, ◌+◌, ◌<◌, ◌∷◌, ◌≡◌, ◌≤◌}
-use Rattle.gameid_core.specs.SoloText.{AreApart, IsSoloToken, IsWrittenSolo, SoloToken, SpellsSolo, blanks, cells_text, solo_tokens, gap, given, solo_text, solo_token_cells, solo_token_text, AreFull, AreNeeded}
+use Rattle.gameid_core.specs.SoloText.{AreApart, IsSoloToken, IsWrittenSolo, SoloToken, blanks, cells_text, solo_tokens, gap, given, solo_text, solo_token_cells, AreFull, AreNeeded}
 use Rattle.gameid_core.proofs.OneReading.{one_text}
-
 
 -- a cell takes at most three bytes: '_' and two digits
 cells_short : (k : ℕ) (touches : Bool) (cells : List ℕ)
@@ -19,9 +18,18 @@ range_more n (v ∷ cells) le h = (omega (arith, h.0), range_more n cells le h.1
 
 pub solo_short : (p : Solo) → IsSolo p → length (solo_text p) ≤ max_id
 solo_short p h =
-    grind (arith, length-decimal-le 2 p.c, length-decimal-le 2 p.r, cells_short 0 false p.givens,
-        range_more (solo_n p) p.givens, length-append (decimal p.c) (120 ∷ decimal p.r),
-        length-append, common_steps, mul-le-mul_left, mul-le-mul_right)
+    grind (
+      arith,
+      length-decimal-le 2 p.c,
+      length-decimal-le 2 p.r,
+      cells_short 0 false p.givens,
+      range_more (solo_n p) p.givens,
+      length-append (decimal p.c) (120 ∷ decimal p.r),
+      length-append,
+      common_steps,
+      mul-le-mul_left,
+      mul-le-mul_right,
+    )
 
 -- ---- what it spells
 

@@ -1,5 +1,5 @@
 -- Solo: the tokens of a text, and that a text is read exactly where it spells a puzzle.
-use Rattle.gameid_core.specs.Common.{AllByRecursion, BadByte, Bool, Cuts, Err, Gives, HasOneReading, IdFault, IsSolo, List, NumberRange, Ok, Result, Solo, [], after_digits, ap, arith, begins, common_steps, concat, decimal, decimal-digits_value, digits_front, digits_value-decimal, eqb, false, false≢true, flat_map, get_or, in_range, is_ascii_digit, is_lead, is_letter, length, map, max_numbers, refl, replicate, solo_puzzle, subst, true, value, words, ℕ, ◌*◌, ◌++◌, ◌+◌, ◌-◌, ◌<◌, ◌^◌, ◌∷◌, ◌≡◌, ◌≤◌}
+use Rattle.gameid_core.specs.Common.{AllByRecursion, BadByte, Bool, Cuts, Err, Gives, HasOneReading, IdFault, IsSolo, List, NumberRange, Ok, Result, Solo, [], after_digits, arith, begins, common_steps, concat, decimal, decimal-digits_value, digits_front, digits_value-decimal, false, false≢true, flat_map, get_or, in_range, is_ascii_digit, is_lead, is_letter, length, map, max_numbers, refl, replicate, solo_puzzle, subst, true, value, words, ℕ, ◌*◌, ◌++◌, ◌+◌, ◌-◌, ◌<◌, ◌^◌, ◌∷◌, ◌≡◌, ◌≤◌}
 use Rattle.gameid_core.specs.SoloText.{AreApart, IsSoloToken, SoloToken, SpellsSolo, blanks, gap, given, solo_behind, solo_cells_at, solo_of, solo_token, solo_token_cells, solo_token_text}
 use Rattle.gameid_core.proofs.OneReading.{only_of, reading_of}
 use Rattle.gameid_core.proofs.Tokens.{cuts_some, cuts_single, cuts_number, words_nil, IsWord, words_are, concat_words, alone}

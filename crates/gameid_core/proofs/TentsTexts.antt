@@ -363,10 +363,12 @@ tents_takes text p e =
 
 pub tents_text_again : (text : List ℕ) (p : Tents) → SpellsTents text p → tents_of text ≡ Ok p
 tents_text_again text p s =
-    grind (arith,
-        puzzle_again game.Tents tents_behind s.front (map tents_token_byte s.tokens ++ numbers_text s.numerals) p.size.w p.size.h false s.size,
-        tents_again p.size (length s.front + 1) p.trees p.counts s.tokens s.numerals s.each s.digits,
-        take_at p.trees (1 ∷ []) (p.size.w * p.size.h))
+    grind (
+      arith,
+      puzzle_again game.Tents tents_behind s.front (map tents_token_byte s.tokens ++ numbers_text s.numerals) p.size.w p.size.h false s.size,
+      tents_again p.size (length s.front + 1) p.trees p.counts s.tokens s.numerals s.each s.digits,
+      take_at p.trees (1 ∷ []) (p.size.w * p.size.h),
+    )
 
 pub tents_reading : HasOneReading SpellsTents tents_of
 tents_reading = reading_of _ _ tents_text_again tents_takes
