@@ -55,6 +55,6 @@ clue_from size (clue ∷ clues) from (suc k) all lt =
 pub clue_of_line : (p : Pattern) (line : ℕ) {clue : List ℕ} → IsPattern p → line < lines_of p.size
     → clue ≡ clue_of p line → AllByRecursion (λ n. 0 < n) clue × (used clue ≤ 127)
 clue_of_line p line is lt same =
-    let here : IsClue (line_cells p.size (0 + line)) (clue_of p line) = clue_from p.size p.clues 0 line is.clues (let e = is.lines in omega arith) in
+    let here : IsClue (line_cells p.size (0 + line)) (clue_of p line) = clue_from p.size p.clues 0 line is.clues (omega arith) in
     let short = line_short p.size (0 + line) is.size in
-    (subst (AllByRecursion (λ n. 0 < n)) (sym same) here.positive, (let f = here.fits in let e = ap used same in omega arith))
+    (subst (AllByRecursion (λ n. 0 < n)) (sym same) here.positive, (omega (arith, ap used same)))

@@ -67,7 +67,7 @@ module _ (d a : ℕ) (cells : List ℕ) where
 abbrev whiter : {clue : List ℕ} {n : ℕ} (d : ℕ) → Fitting clue n → Fitting clue (d + n)
 whiter d f = record {
   cells = replicate d 0 ++ f.cells;
-  long = let e = longer d 0 f.cells in let l = f.long in omega arith;
+  long = omega (arith, longer d 0 f.cells);
   are = whites d f.cells ∙ f.are;
   small = stays_small d 0 f.cells (omega arith) f.small;
 }
@@ -80,7 +80,7 @@ ended cells small (suc j) = small j
 abbrev longer_by : {clue : List ℕ} {n : ℕ} (m : ℕ) → 0 < m → Fitting clue n → Fitting (m ∷ clue) (m + suc n)
 longer_by m some f = record {
   cells = replicate m 1 ++ 0 ∷ f.cells;
-  long = let e = longer m 1 (0 ∷ f.cells) in let l = f.long in omega arith;
+  long = omega (arith, longer m 1 (0 ∷ f.cells));
   are = run_first m f.cells some ∙ ap (λ (r : List ℕ). m ∷ r) f.are;
   small = stays_small m 1 (0 ∷ f.cells) (omega arith) (ended f.cells f.small);
 }
@@ -141,7 +141,7 @@ pub white : (clue : List ℕ) (n k s : ℕ) → Positive clue → AtMost s clue 
 white [] n k s p most room lt = placed n k (whiter n empty, before n 0 [] k lt) (omega arith) refl
 white (m ∷ clue) n k s p most room lt = elim (cases_lt k m) [
   | inl low ↦
-      let f : Fitting (m ∷ clue) (n - k - 1) = fill (m ∷ clue) p (let z = most.0 in omega arith) in
+      let f : Fitting (m ∷ clue) (n - k - 1) = fill (m ∷ clue) p (omega arith) in
       placed n k (whiter (k + 1) f, before (k + 1) 0 f.cells k (omega arith)) (omega arith) refl
   | inr high ↦ elim (cases_eq k m) [
     | inl e ↦

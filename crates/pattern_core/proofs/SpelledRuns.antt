@@ -33,7 +33,7 @@ first_run : (k : ℕ) (cells : List ℕ) → (m : ℕ) × (rest : List ℕ) × (
 unfolding runs_after
 first_run k [] = (suc k, [], refl, omega arith)
 first_run k (zero ∷ cells) = (suc k, runs_after 0 cells, refl, omega arith)
-first_run k (suc x ∷ cells) = let w = first_run (suc k) cells in (w.0, w.1, w.2, let h = w.3 in omega arith)
+first_run k (suc x ∷ cells) = let w = first_run (suc k) cells in (w.0, w.1, w.2, omega arith)
 
 -- the runs after black cells are some
 not_none : (k : ℕ) (cells : List ℕ) → pointwise eqb (runs_after (suc k) cells) [] ≡ false
@@ -56,20 +56,20 @@ GoesOn cells = (k d : ℕ) (clue : List ℕ) → Positive clue
 starts_none : Starts []
 unfolding spelled runs_after matches
 starts_none [] p = refl
-starts_none (zero ∷ clue) p = absurd (let q = p.0 in omega arith)
+starts_none (zero ∷ clue) p = absurd (omega arith)
 starts_none (suc m ∷ clue) p = long m clue
 
 goes_on_none : GoesOn []
 unfolding spelled runs_after matches
 goes_on_none k zero [] p = sym (ap (λ b. b && true) (eq-eqb (suc k) (suc k + 0) (omega arith)))
-goes_on_none k zero (zero ∷ clue) p = absurd (let q = p.0 in omega arith)
+goes_on_none k zero (zero ∷ clue) p = absurd (omega arith)
 goes_on_none k zero (suc m ∷ clue) p = lt-leb (length (0 ∷ spelled (suc m ∷ clue))) 1 (omega arith) ∙ sym (and-false (eqb (suc k) (suc k + 0)))
 goes_on_none k (suc d) clue p = long d clue ∙ sym (ap (λ b. b && pointwise eqb [] clue) (ne_eqb (suc k) (suc k + suc d) (λ e. absurd (omega arith))))
 
 starts_white : (cells : List ℕ) → Starts cells → Starts (zero ∷ cells)
 unfolding spelled runs_after matches
 starts_white cells rest [] p = or-false (matches true [] cells) ∙ rest [] p
-starts_white cells rest (zero ∷ clue) p = absurd (let q = p.0 in omega arith)
+starts_white cells rest (zero ∷ clue) p = absurd (omega arith)
 starts_white cells rest (suc m ∷ clue) p = or-false (matches true (spelled (suc m ∷ clue)) cells) ∙ rest (suc m ∷ clue) p
 
 goes_on_white : (cells : List ℕ) → Starts cells → GoesOn (zero ∷ cells)
@@ -81,7 +81,7 @@ goes_on_white cells rest k (suc d) clue p = sym (ap (λ b. b && pointwise eqb (r
 starts_black : (x : ℕ) (cells : List ℕ) → GoesOn cells → Starts (suc x ∷ cells)
 unfolding spelled runs_after matches
 starts_black x cells rest [] p = sym (not_none 0 cells)
-starts_black x cells rest (zero ∷ clue) p = absurd (let q = p.0 in omega arith)
+starts_black x cells rest (zero ∷ clue) p = absurd (omega arith)
 starts_black x cells rest (suc m ∷ clue) p = rest 0 m clue p.1
     ∙ ap (λ n. pointwise eqb (runs_after 1 cells) (n ∷ clue)) (let z : suc 0 + m ≡ suc m = omega arith in z)
 

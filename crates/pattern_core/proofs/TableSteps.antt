@@ -65,9 +65,9 @@ module _ {A : Type 0} (has : A → ℕ → Bool) (t : Track) (sets : List ℕ) (
   pub one_row : (at : ℕ) (row : A) {next : A} → AreRows has t sets rows (at + 1) → at < length sets → next ≡ get_or rows (at + 1) next
       → ((p : ℕ) → has row p ≡ ahead t (get_or sets at 0) (has next) p) → AreRows has t sets (set rows at row) at
   one_row at row {next} rest lt read is = record {
-    room = let r = rest.room in omega (arith, length-set rows at row);
+    room = omega (arith, length-set rows at row);
     row = λ i p w from upto. elim (cases_eq i at) [
-      | inl e ↦ ap (λ j. has (get_or (set rows at row) j w) p) e ∙ ap (λ x. has x p) (get_or-set_same rows at row w (let r = rest.room in omega arith)) ∙ is p
+      | inl e ↦ ap (λ j. has (get_or (set rows at row) j w) p) e ∙ ap (λ x. has x p) (get_or-set_same rows at row w (omega arith)) ∙ is p
           ∙ ap (λ after. ahead t (get_or sets at 0) after p) (sym (row_next (at + 1) at next rest (omega arith) lt read)) ∙ sym (way_any t sets at lt p)
           ∙ ap (λ j. some_leads t (drop j (sets_of sets)) any_cells p) (sym e)
       | inr ne ↦ ap (λ x. has x p) (get_or-set_other rows at i row w ne) ∙ rest.row i p w (omega arith) upto

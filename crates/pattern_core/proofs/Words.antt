@@ -42,7 +42,7 @@ no_bits w a fits some none =
     ∙ sym (bit_at-zero p))
   where
     off : (x : ℕ) → x < 2 → eqb x 1 ≡ false → x ≡ 0
-    off x lt e = let ne = eqb-false x 1 e in omega arith
+    off x lt e = omega (arith, eqb-false x 1 e)
 
 bits_of_none : (w : ℕ) → any_below (has_bit 0) w ≡ false
 bits_of_none w = false_from_ne_true (any_below (has_bit 0) w) (λ on. let z = any_below-some (has_bit 0) w on in true≢false (sym z.2 ∙ bits-of_zero z.0))

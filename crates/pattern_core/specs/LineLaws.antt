@@ -41,8 +41,8 @@ on_row size line c le on = grind (arith, common_steps, cases_Bool, has_place-at,
 
 pub in_grid : (size : Extent) {line c : ℕ} → line < lines_of size → has_place (line_places size line) c ≡ true → c < size.w * size.h
 in_grid size {line} {c} lt on = elim (cases_lt line size.w) [
-  | inl column ↦ let w = on_column size line c column on in let z = cell_in_grid size line w.0 column w.1 in omega (arith, w.2)
-  | inr row ↦ let w = on_row size line c row on in let z = cell_in_grid size w.0 (line - size.w) w.1 (omega arith) in omega (arith, w.2)
+  | inl column ↦ let w = on_column size line c column on in omega (arith, w.2, cell_in_grid size line w.0 column w.1)
+  | inr row ↦ let w = on_row size line c row on in omega (arith, w.2, cell_in_grid size w.0 (line - size.w) w.1 (omega arith))
 ]
 
 pub different_places : (size : Extent) (line : ℕ) → AreDifferent (line_places size line)
@@ -78,7 +78,7 @@ two_lines size c n =
 few_shares : (p : Pattern) (n : ℕ) → sum_below (λ c. (2 - 1) * share (line_rules p) c) n ≤ n
 unfolding sum_below share
 few_shares p zero = omega arith
-few_shares p (suc n) = let rest = few_shares p n in let two = two_lines p.size n (lines_of p.size) in omega arith
+few_shares p (suc n) = omega (arith, few_shares p n, two_lines p.size n (lines_of p.size))
 
 -- ---- solutions
 pub has_runs-is : (clue cells : List ℕ) → has_runs clue cells ≡ true → runs cells ≡ clue
@@ -143,7 +143,7 @@ line_rules-lawful p extent = record {
       (λ d u. K d u && not (strikes_at 2 (line_places p.size h)
       (strikes_by_fillings (has_runs (clue_of p h))) K d u)) (different_places p.size h)
       (λ d u. refl) c v on;
-  bound_of_queue = λ e. let z = few_shares p (p.size.w * p.size.h) in omega arith;
+  bound_of_queue = λ e. omega (arith, few_shares p (p.size.w * p.size.h));
   bound_of_sweeps = λ e. absurd (true≢false e);
   some_values = omega arith;
   few_values = omega arith;

@@ -19,7 +19,7 @@ loop-k-preserved c =
       omega (arith, next, c.loop-k.invariant.0, c.from.ensures),
       λ j lt. elim (cases_eq j c.loop-k.k) [
         | inl e ↦ rw e here
-        | inr ne ↦ let z = c.loop-k.invariant.1 j (omega arith) in omega arith
+        | inr ne ↦ omega (arith, c.loop-k.invariant.1 j (omega arith))
       ],
       omega arith,
     )
