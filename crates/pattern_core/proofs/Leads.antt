@@ -46,7 +46,7 @@ module _ (t : Track) (set : ℕ) (sets : List Set) where
       || (has_bit set 1 && (t.black p && some_leads t sets (λ f. test (1 ∷ f)) (suc p))))
   unfolding some_leads leads
   leads_on test p =
-      some_split (has_bit set 0) (has_bit set 1) sets (λ f. leads t p f && test f) ∙ ap₂ (λ x y. (has_bit set 0 && x) || (has_bit set 1 && y))
+      some_split _ _ sets (λ f. leads t p f && test f) ∙ ap₂ (λ x y. (has_bit set 0 && x) || (has_bit set 1 && y))
       (some_same sets (λ f. leads t p (0 ∷ f) && test (0 ∷ f))
       (λ f. (t.stay p && (leads t p f && test (0 ∷ f)))
       || (t.white p && (leads t (suc p) f && test (0 ∷ f))))
@@ -63,7 +63,7 @@ module _ (t : Track) (set : ℕ) (sets : List Set) where
       ≡ ahead t set (some_leads t sets test) p
   unfolding ahead stays goes_on
   leads_next test p = leads_on (λ cells. test (drop 1 cells)) p
-      ∙ regroup (has_bit set 0) (t.stay p) (t.white p) (has_bit set 1) (t.black p) (some_leads t sets test p) (some_leads t sets test (suc p))
+      ∙ regroup _ (t.stay p) (t.white p) _ (t.black p) (some_leads t sets test p) (some_leads t sets test (suc p))
     where
       regroup : (a s w b k x y : Bool) → ((a && ((s && x) || (w && y))) || (b && (k && y))) ≡ (((a && s) && x) || (((a && w) || (b && k)) && y))
       regroup a s w b k x y = grind (arith, common_steps, cases_Bool)
@@ -76,8 +76,8 @@ module _ (t : Track) (set : ℕ) (sets : List Set) where
   pub leads_here : (v p : ℕ) → v < 2 → some_leads t ((has_bit set 0 ∷ has_bit set 1 ∷ []) ∷ sets) (cell_is 0 v) p
       ≡ (has_bit set v && ahead t (set_for v) (some_leads t sets any_cells) p)
   unfolding ahead stays goes_on cell_is any_cells
-  leads_here zero p lt = leads_on (cell_is 0 0) p ∙ simp (never (suc p), and-false, or-false)
-  leads_here (suc zero) p lt = leads_on (cell_is 0 1) p ∙ simp (never p, never (suc p), and-false)
+  leads_here zero p lt = leads_on _ p ∙ simp (never (suc p), and-false, or-false)
+  leads_here (suc zero) p lt = leads_on _ p ∙ simp (never p, never (suc p), and-false)
   leads_here (suc (suc v)) p lt = absurd (omega arith)
 
 -- ---- all places that were reached

@@ -29,7 +29,7 @@ line_visited p line {b} K clue places sets kept is sized same written long bits 
     let at : places ≡ line_places p.size line = rw sized at written in
     let two = is.same_values in
     visited-after (line_rules p) line (strikes_by_fillings (has_runs (clue_of p line))) (has b) K sets kept (λ L c v. refl)
-    (within_of (line_rules p) b is) (rw at at long) (rw at at (bits-of_values b 2 places sets two bits)) (rw at at (sets-of_values b 2 places sets two read))
+    (within_of _ b is) (rw at at long) (rw at at (bits-of_values b 2 places sets two bits)) (rw at at (sets-of_values b 2 places sets two read))
     (rw same at decided) (rw at at left)
 
 -- what is kept of a line's sets, where its clue was read

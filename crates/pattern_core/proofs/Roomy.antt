@@ -50,11 +50,11 @@ run_first (suc m) cells some = blacks 0 (suc m) (0 ∷ cells) ∙ ap (λ j. runs
 -- the cells with so many of one value before them
 module _ (d a : ℕ) (cells : List ℕ) where
   before : (k : ℕ) → k < d → get_or (replicate d a ++ cells) k 0 ≡ a
-  before k lt = get_or_append_left (replicate d a) cells 0 k (omega (arith, length-replicate {A = ℕ} d a)) ∙ get_or-replicate d k a 0 lt
+  before k lt = get_or_append_left _ cells 0 k (omega (arith, length-replicate {A = ℕ} d a)) ∙ get_or-replicate d k a 0 lt
 
   behind : (k : ℕ) → get_or (replicate d a ++ cells) (d + k) 0 ≡ get_or cells k 0
   behind k =
-      get_or-append_right (replicate d a) cells d (d + k) 0 (length-replicate d a) (omega arith)
+      get_or-append_right _ cells d (d + k) 0 (length-replicate d a) (omega arith)
       ∙ ap (λ j. get_or cells j 0) (let z : d + k - d ≡ k = omega arith in z)
 
   stays_small : a < 2 → ((j : ℕ) → get_or cells j 0 < 2) → (j : ℕ) → get_or (replicate d a ++ cells) j 0 < 2
@@ -82,7 +82,7 @@ longer_by m some f = record {
   cells = replicate m 1 ++ 0 ∷ f.cells;
   long = omega (arith, longer m 1 (0 ∷ f.cells));
   are = run_first m f.cells some ∙ ap (λ (r : List ℕ). m ∷ r) f.are;
-  small = stays_small m 1 (0 ∷ f.cells) (omega arith) (ended f.cells f.small);
+  small = stays_small m 1 _ (omega arith) (ended f.cells f.small);
 }
 
 none_small : (j : ℕ) → get_or {A = ℕ} [] j 0 < 2
@@ -116,7 +116,7 @@ Begins clue m n = (f : Fitting (m ∷ clue) n) × ((k : ℕ) → k < m → get_o
 
 run_and : {clue : List ℕ} (m n : ℕ) → Positive (m ∷ clue) → m < n → Fitting clue (n - m - 1) → Begins clue m n
 run_and {clue} m n p lt f = subst (Begins clue m) (let z : m + suc (n - m - 1) ≡ n = omega arith in z)
-    (longer_by m p.0 f, λ k low. before m 1 (0 ∷ f.cells) k low)
+    (longer_by m p.0 f, λ k low. before m 1 _ k low)
 
 blank : {n : ℕ} → Fitting [] n
 blank {n} = subst (Fitting []) (let z : n + 0 ≡ n = omega arith in z) (whiter n empty)
@@ -146,7 +146,7 @@ white (m ∷ clue) n k s p most room lt = elim (cases_lt k m) [
   | inr high ↦ elim (cases_eq k m) [
     | inl e ↦
         let f : Fitting clue (n - m - 1) = fill clue p.1 (omega arith) in
-        placed n k (longer_by m p.0 f, behind m 1 (0 ∷ f.cells) 0) (omega arith) (omega arith)
+        placed n k (longer_by m p.0 f, behind m 1 _ 0) (omega arith) (omega arith)
     | inr ne ↦
         let w = white clue (n - m - 1) (k - m - 1) s p.1 most.1 (omega arith) (omega arith) in
         placed n k (longer_by m p.0 w.0, behind m 1 (0 ∷ w.0.cells) (suc (k - m - 1)) ∙ w.1) (omega arith) (omega arith)

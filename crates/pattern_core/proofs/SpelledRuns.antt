@@ -63,8 +63,8 @@ goes_on_none : GoesOn []
 unfolding spelled runs_after matches
 goes_on_none k zero [] p = sym (ap (λ b. b && true) (eq-eqb (suc k) (suc k + 0) (omega arith)))
 goes_on_none k zero (zero ∷ clue) p = absurd (omega arith)
-goes_on_none k zero (suc m ∷ clue) p = lt-leb (length (0 ∷ spelled (suc m ∷ clue))) 1 (omega arith) ∙ sym (and-false (eqb (suc k) (suc k + 0)))
-goes_on_none k (suc d) clue p = long d clue ∙ sym (ap (λ b. b && pointwise eqb [] clue) (ne_eqb (suc k) (suc k + suc d) (λ e. absurd (omega arith))))
+goes_on_none k zero (suc m ∷ clue) p = lt-leb (length (0 ∷ spelled (suc m ∷ clue))) 1 (omega arith) ∙ sym (and-false _)
+goes_on_none k (suc d) clue p = long d clue ∙ sym (ap (λ b. b && pointwise eqb [] clue) (ne_eqb (suc k) _ (λ e. absurd (omega arith))))
 
 starts_white : (cells : List ℕ) → Starts cells → Starts (zero ∷ cells)
 unfolding spelled runs_after matches
@@ -76,7 +76,7 @@ goes_on_white : (cells : List ℕ) → Starts cells → GoesOn (zero ∷ cells)
 unfolding spelled runs_after matches
 goes_on_white cells rest k zero clue p = rest clue p ∙ sym (ap (λ b. b && pointwise eqb (runs_after 0 cells) clue) (eq-eqb (suc k) (suc k + 0) (omega arith)))
 goes_on_white cells rest k (suc d) clue p = sym (ap (λ b. b && pointwise eqb (runs_after 0 cells) clue)
-    (ne_eqb (suc k) (suc k + suc d) (λ e. absurd (omega arith))))
+    (ne_eqb (suc k) _ (λ e. absurd (omega arith))))
 
 starts_black : (x : ℕ) (cells : List ℕ) → GoesOn cells → Starts (suc x ∷ cells)
 unfolding spelled runs_after matches
@@ -118,16 +118,16 @@ leads_left : (spell cells : List ℕ) {p : ℕ} → p ≤ length spell → leads
 unfolding leads track_of may_stay matches
 leads_left spell [] le = grind (arith, common_steps, cases_Bool, cases_eq, eq-eqb, ne_eqb, le-leb, lt-leb, length-drop)
 leads_left spell (zero ∷ cells) {p} le = ap₂ (λ a b. a || b)
-    (and_same (may_stay spell p) (leads (track_of spell) p cells)
+    (and_same _ (leads _ p cells)
     (matches true (drop p spell) cells)
     (λ on. leads_left spell cells le ∙ ap (λ b. matches b (drop p spell) cells) on))
-    (and_same (eqb (get_or spell p 2) 0) (leads (track_of spell) (suc p) cells) (matches true (drop 1 (drop p spell)) cells) (λ on.
+    (and_same _ (leads _ (suc p) cells) (matches true (drop 1 (drop p spell)) cells) (λ on.
     leads_left spell cells (place_low spell p 0 (omega arith) on) ∙ ap₂ (λ b l. matches b l cells) on (sym (next_left spell p)))
     ∙ ap (λ v. eqb v 0 && matches true (drop 1 (drop p spell)) cells) (sym (left_first spell p)))
 leads_left spell (suc x ∷ cells) {p} le =
-    and_same (eqb (get_or spell p 2) 1) (leads (track_of spell) (suc p) cells) (matches false (drop 1 (drop p spell)) cells) (λ on.
+    and_same _ (leads _ (suc p) cells) (matches false (drop 1 (drop p spell)) cells) (λ on.
     leads_left spell cells (place_low spell p 1 (omega arith) on)
-    ∙ ap₂ (λ b l. matches b l cells) (black_not_white (get_or spell p 2) on)
+    ∙ ap₂ (λ b l. matches b l cells) (black_not_white _ on)
     (sym (next_left spell p)))
     ∙ ap (λ v. eqb v 1 && matches false (drop 1 (drop p spell)) cells) (sym (left_first spell p))
 

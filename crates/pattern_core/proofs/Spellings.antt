@@ -67,10 +67,10 @@ spelling_none A w b f = record { whites = w; blacks = b; nexts = f }
 
 -- one more black cell of a run, and its white cell
 pub one_more : (cells : List ℕ) (k : ℕ) → (cells ++ replicate k 1) ++ 1 ∷ [] ≡ cells ++ replicate (k + 1) 1
-one_more cells k = append_assoc cells (replicate k 1) (1 ∷ []) ∙ ap (λ l. cells ++ l) (replicate-append-replicate k 1 1)
+one_more cells k = append_assoc cells _ (1 ∷ []) ∙ ap (λ l. cells ++ l) (replicate-append-replicate k 1 1)
 
 pub run_ended : (cells : List ℕ) (k : ℕ) → (cells ++ replicate k 1) ++ 0 ∷ [] ≡ cells ++ (replicate k 1 ++ 0 ∷ [])
-run_ended cells k = append_assoc cells (replicate k 1) (0 ∷ [])
+run_ended cells k = append_assoc cells _ (0 ∷ [])
 
 -- ---- the clue run by run
 module _ (front clue : List ℕ) (k : ℕ) (lt : k < length clue) (so_far : front ++ spelled (drop k clue) ≡ spelled clue) where
@@ -134,7 +134,7 @@ unfolding clue_along track_of
 clue_back {clue} {n} positive fits is = ap (λ (u : Track). runs (cells_from u.black n 0)) is ∙ spelled_runs clue n positive (omega arith)
 
 pub track_under : (n : ℕ) (t : Track) → IsTrack n t → IsBelow n t
-track_under n t is = subst (IsBelow n) (sym is.spells) (track_below (spelled (clue_along n t)) (omega (arith, is.fits, length-spelled (clue_along n t))))
+track_under n t is = subst (IsBelow n) (sym is.spells) (track_below (spelled _) (omega (arith, is.fits, length-spelled (clue_along n t))))
 
 pub track_of_clue : (clue : List ℕ) {n : ℕ} {t : Track} → AllByRecursion (λ k. 0 < k) clue → used clue < n → t ≡ track_of (spelled clue) → IsTrack n t
 track_of_clue clue positive fits is = grind (arith, common_steps, cases_Bool, clue_back)

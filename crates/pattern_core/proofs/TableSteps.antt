@@ -28,7 +28,7 @@ module _ (t : Track) (sets : List ℕ) (at : ℕ) (lt : at < length sets) where
   next_set : drop at (sets_of sets) ≡ (has_bit (get_or sets at 0) 0 ∷ has_bit (get_or sets at 0) 1 ∷ []) ∷ drop (at + 1) (sets_of sets)
   unfolding set_of_bits
   next_set = drop_more (sets_of sets) at [] (omega (arith, length-map sets (set_of_bits 2)))
-      ∙ ap (λ (s : Set). s ∷ drop (at + 1) (sets_of sets)) (get_or-map (set_of_bits 2) sets at 0 [] lt)
+      ∙ ap (λ (s : Set). s ∷ drop (at + 1) (sets_of sets)) (get_or-map _ sets at 0 [] lt)
 
   way_next : (test : List ℕ → Bool) (p : ℕ) → some_leads t (drop at (sets_of sets)) (λ cells. test (drop 1 cells)) p
       ≡ ahead t (get_or sets at 0) (some_leads t (drop (at + 1) (sets_of sets)) test) p
@@ -110,7 +110,7 @@ module _ (n : ℕ) (t : Track) (sets : List ℕ) (reached : ℕ → Bool) (at : 
   pulled : (x : Bool) (way : ℕ → Bool) → any_below (λ p. reached p && (x && way p)) n ≡ (x && any_below (λ p. reached p && way p) n)
   pulled true way = refl
   pulled false way = false_from_ne_true (any_below (λ p. reached p && false) n) (λ on.
-      let w = any_below-some (λ p. reached p && false) n on in true≢false (sym (and_parts (reached w.0) false w.2).1))
+      let w = any_below-some (λ p. reached p && false) n on in true≢false (sym (and_parts _ false w.2).1))
 
   shown_at : (v : ℕ) → v < 2 → some_leads t (sets_of sets) (cell_is at v) 0 ≡ (has_bit (get_or sets at 0) v && leads_by (set_for v))
   unfolding cell_is
@@ -129,7 +129,7 @@ module _ (n : ℕ) (t : Track) (sets : List ℕ) (reached : ℕ → Bool) (at : 
   kept_step kept new k long others is = record {
     as_many = long ∙ k.as_many;
     bits = λ i v below small. elim (cases_eq i at) [
-      | inl e ↦ ap (λ j. has_bit (get_or new j 0) v) e ∙ is v small ∙ twice (has_bit (get_or sets at 0) v) (leads_by (set_for v))
+      | inl e ↦ ap (λ j. has_bit (get_or new j 0) v) e ∙ is v small ∙ twice (has_bit (get_or sets at 0) v) _
           ∙ ap (λ x. has_bit (get_or sets at 0) v && x) (sym (shown_at v small))
           ∙ ap (λ j. has_bit (get_or sets j 0) v && some_leads t (sets_of sets) (cell_is j v) 0) (sym e)
       | inr ne ↦ ap (λ x. has_bit x v) (others i ne) ∙ k.bits i v (omega arith) small

@@ -38,7 +38,7 @@ bits_on w a (suc p) lt =
 no_bits : (w a : ℕ) → a < 2 ^ w → 0 < 2 ^ w → any_below (has_bit a) w ≡ false → a ≡ 0
 no_bits w a fits some none =
     same_from_bits_below w a 0 fits some
-    (λ p lt. off (bit_at a p) (bit_at-lt a p) (any_below-none (has_bit a) w none p lt)
+    (λ p lt. off _ (bit_at-lt a p) (any_below-none (has_bit a) w none p lt)
     ∙ sym (bit_at-zero p))
   where
     off : (x : ℕ) → x < 2 → eqb x 1 ≡ false → x ≡ 0

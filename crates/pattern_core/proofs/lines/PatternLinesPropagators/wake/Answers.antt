@@ -7,6 +7,6 @@ pub returns : goal.returns
 returns c = record {
   called = λ K follows.
       let p = c.args.self.now.pattern in
-      called-same (line_rules p) K _ _ _ _ (λ line _. its_lines p.size 0 c.columns-w.ensures c.requires.place_in line)
-      (called-more (line_rules p) K _ _ _ _ _ (c.wake_line.ensures K follows) (c.wake_line-2.ensures K follows));
+      called-same _ K _ _ _ _ (λ line _. its_lines p.size 0 c.columns-w.ensures c.requires.place_in line)
+      (called-more _ K _ _ _ _ _ (c.wake_line.ensures K follows) (c.wake_line-2.ensures K follows));
 }

@@ -6,4 +6,4 @@ pub returns-clause-within : goal.returns-clause-within
 returns-clause-within c = bits_on 128 c.args.self
 
 pub returns-clause-past : goal.returns-clause-past
-returns-clause-past c = λ p high. no_high 128 (c.args.self * 2) p (omega arith) high
+returns-clause-past c = λ p high. no_high 128 _ p (omega arith) high
