@@ -46,15 +46,15 @@ line_kept p {line} K {struck} sets copied kept is are same decided unchanged =
 clue_from : (size : Extent) (clues : List (List ℕ)) (from k : ℕ) → AreClues size from clues
     → k < length clues → IsClue (line_cells size (from + k)) (get_or clues k [])
 clue_from size [] from k all lt = absurd (omega arith)
-clue_from size (clue ∷ clues) from zero all lt = subst (λ n. IsClue (line_cells size n) clue) (let z : from ≡ from + 0 = omega arith in z) all.0
+clue_from size (clue ∷ clues) from zero all lt = subst (λ n. IsClue (line_cells size n) clue) (omega arith) all.0
 clue_from size (clue ∷ clues) from (suc k) all lt =
     subst (λ n. IsClue (line_cells size n) (get_or clues k []))
-    (let z : from + 1 + k ≡ from + suc k = omega arith in z)
+    (omega arith)
     (clue_from size clues (from + 1) k all.1 (omega arith))
 
 pub clue_of_line : (p : Pattern) (line : ℕ) {clue : List ℕ} → IsPattern p → line < lines_of p.size
     → clue ≡ clue_of p line → AllByRecursion (λ n. 0 < n) clue × (used clue ≤ 127)
 clue_of_line p line is lt same =
-    let here : IsClue (line_cells p.size (0 + line)) (clue_of p line) = clue_from p.size p.clues 0 line is.clues (omega arith) in
+    let here = clue_from p.size p.clues 0 line is.clues (omega arith) in
     let short = line_short p.size (0 + line) is.size in
     (subst (AllByRecursion (λ n. 0 < n)) (sym same) here.positive, (omega (arith, ap used same)))

@@ -39,8 +39,8 @@ whites (suc d) cells = whites d cells
 
 blacks : (k d : ℕ) (cells : List ℕ) → runs_after k (replicate d 1 ++ cells) ≡ runs_after (k + d) cells
 unfolding runs_after
-blacks k zero cells = ap (λ j. runs_after j cells) (let z : k ≡ k + 0 = omega arith in z)
-blacks k (suc d) cells = blacks (suc k) d cells ∙ ap (λ j. runs_after j cells) (let z : suc k + d ≡ k + suc d = omega arith in z)
+blacks k zero cells = ap (λ j. runs_after j cells) (omega arith)
+blacks k (suc d) cells = blacks (suc k) d cells ∙ ap (λ j. runs_after j cells) (omega arith)
 
 pub run_first : (m : ℕ) (cells : List ℕ) → 0 < m → runs (replicate m 1 ++ 0 ∷ cells) ≡ m ∷ runs cells
 unfolding runs_after
@@ -50,18 +50,18 @@ run_first (suc m) cells some = blacks 0 (suc m) (0 ∷ cells) ∙ ap (λ j. runs
 -- the cells with so many of one value before them
 module _ (d a : ℕ) (cells : List ℕ) where
   before : (k : ℕ) → k < d → get_or (replicate d a ++ cells) k 0 ≡ a
-  before k lt = get_or_append_left _ cells 0 k (omega (arith, length-replicate {A = ℕ} d a)) ∙ get_or-replicate d k a 0 lt
+  before k lt = get_or_append_left _ cells 0 k (omega (arith, length-replicate d a)) ∙ get_or-replicate d k a 0 lt
 
   behind : (k : ℕ) → get_or (replicate d a ++ cells) (d + k) 0 ≡ get_or cells k 0
   behind k =
       get_or-append_right _ cells d (d + k) 0 (length-replicate d a) (omega arith)
-      ∙ ap (λ j. get_or cells j 0) (let z : d + k - d ≡ k = omega arith in z)
+      ∙ ap (λ j. get_or cells j 0) (omega arith)
 
   stays_small : a < 2 → ((j : ℕ) → get_or cells j 0 < 2) → (j : ℕ) → get_or (replicate d a ++ cells) j 0 < 2
   stays_small low small j = grind (arith, common_steps, cases_Bool, before, behind, cases_lt)
 
   longer : length (replicate d a ++ cells) ≡ d + length cells
-  longer = omega (arith, length-append (replicate d a) cells, length-replicate {A = ℕ} d a)
+  longer = omega (arith, length-append (replicate d a) cells, length-replicate d a)
 
 -- white cells come first
 abbrev whiter : {clue : List ℕ} {n : ℕ} (d : ℕ) → Fitting clue n → Fitting clue (d + n)
@@ -81,7 +81,7 @@ abbrev longer_by : {clue : List ℕ} {n : ℕ} (m : ℕ) → 0 < m → Fitting c
 longer_by m some f = record {
   cells = replicate m 1 ++ 0 ∷ f.cells;
   long = omega (arith, longer m 1 (0 ∷ f.cells));
-  are = run_first m f.cells some ∙ ap (λ (r : List ℕ). m ∷ r) f.are;
+  are = run_first m f.cells some ∙ ap (λ r. m ∷ r) f.are;
   small = stays_small m 1 _ (omega arith) (ended f.cells f.small);
 }
 
@@ -96,7 +96,7 @@ no_runs = refl
 one_run : (k m : ℕ) → 0 < m → k ≡ m → runs_after k [] ≡ m ∷ []
 unfolding runs_after
 one_run zero m some e = absurd (omega arith)
-one_run (suc k) m some e = ap (λ (i : ℕ). i ∷ []) e
+one_run (suc k) m some e = ap (λ i. i ∷ []) e
 
 -- white cells alone, and a run alone
 abbrev empty : Fitting [] 0
@@ -115,16 +115,16 @@ abbrev Begins : List ℕ → ℕ → ℕ → Type 0
 Begins clue m n = (f : Fitting (m ∷ clue) n) × ((k : ℕ) → k < m → get_or f.cells k 0 ≡ 1)
 
 run_and : {clue : List ℕ} (m n : ℕ) → Positive (m ∷ clue) → m < n → Fitting clue (n - m - 1) → Begins clue m n
-run_and {clue} m n p lt f = subst (Begins clue m) (let z : m + suc (n - m - 1) ≡ n = omega arith in z)
+run_and {clue} m n p lt f = subst (Begins clue m) (omega arith)
     (longer_by m p.0 f, λ k low. before m 1 _ k low)
 
 blank : {n : ℕ} → Fitting [] n
-blank {n} = subst (Fitting []) (let z : n + 0 ≡ n = omega arith in z) (whiter n empty)
+blank {n} = subst (Fitting []) (omega arith) (whiter n empty)
 
 begins : (clue : List ℕ) (m n : ℕ) → Positive (m ∷ clue) → used (m ∷ clue) ≤ n + 1 → Begins clue m n
 begins [] m n p fits = elim (cases_lt m n) [
   | inl lt ↦ run_and m n p lt blank
-  | inr ge ↦ subst (Begins [] m) (let z : m + 0 ≡ n = omega arith in z) (alone m p.0, λ k lt. before m 1 [] k lt)
+  | inr ge ↦ subst (Begins [] m) (omega arith) (alone m p.0, λ k lt. before m 1 [] k lt)
 ]
 begins (x ∷ clue) m n p fits = run_and m n p (omega arith) (begins clue x (n - m - 1) p.1 (omega arith)).0
 
@@ -156,7 +156,7 @@ white (m ∷ clue) n k s p most room lt = elim (cases_lt k m) [
 -- and black in some, where there is a run, and one cell more than needed
 in_run : (clue : List ℕ) (m n d k : ℕ) → Positive (m ∷ clue) → used (m ∷ clue) + d ≤ n + 1 → d < n → d ≤ k → k < d + m → Shows (m ∷ clue) n k 1
 in_run clue m n d k p room inside from low =
-    let f : Begins clue m (n - d) = begins clue m (n - d) p (omega arith) in
+    let f = begins clue m (n - d) p (omega arith) in
     placed n k (whiter d f.0, behind d 0 f.0.cells (k - d) ∙ f.1 (k - d) (omega arith)) (omega arith) (omega arith)
 
 pub black : (clue : List ℕ) (m n k : ℕ) → Positive (m ∷ clue) → used (m ∷ clue) ≤ n → k < n → Shows (m ∷ clue) n k 1

@@ -83,13 +83,13 @@ unfolding spelled runs_after matches
 starts_black x cells rest [] p = sym (not_none 0 cells)
 starts_black x cells rest (zero ∷ clue) p = absurd (omega arith)
 starts_black x cells rest (suc m ∷ clue) p = rest 0 m clue p.1
-    ∙ ap (λ n. pointwise eqb (runs_after 1 cells) (n ∷ clue)) (let z : suc 0 + m ≡ suc m = omega arith in z)
+    ∙ ap (λ n. pointwise eqb (runs_after 1 cells) (n ∷ clue)) (omega arith)
 
 goes_on_black : (x : ℕ) (cells : List ℕ) → GoesOn cells → GoesOn (suc x ∷ cells)
 unfolding spelled runs_after matches
 goes_on_black x cells rest k zero clue p = sym (too_long (suc k) (suc k + 0) cells clue (omega arith))
 goes_on_black x cells rest k (suc d) clue p =
-    rest (suc k) d clue p ∙ ap (λ m. pointwise eqb (runs_after (suc (suc k)) cells) (m ∷ clue)) (let z : suc (suc k) + d ≡ suc k + suc d = omega arith in z)
+    rest (suc k) d clue p ∙ ap (λ m. pointwise eqb (runs_after (suc (suc k)) cells) (m ∷ clue)) (omega arith)
 
 both : (cells : List ℕ) → Starts cells × GoesOn cells
 both [] = (starts_none, goes_on_none)
@@ -102,7 +102,7 @@ and_same true x y h = h refl
 and_same false x y h = refl
 
 left_first : (spell : List ℕ) (p : ℕ) → get_or (drop p spell) 0 2 ≡ get_or spell p 2
-left_first spell p = get_or-drop p spell 0 2 ∙ ap (λ n. get_or spell n 2) (let z : p + 0 ≡ p = omega arith in z)
+left_first spell p = get_or-drop p spell 0 2 ∙ ap (λ n. get_or spell n 2) (omega arith)
 
 -- a place at which something is spelled
 place_low : (spell : List ℕ) (p v : ℕ) → v < 2 → eqb (get_or spell p 2) v ≡ true → p < length spell
@@ -133,7 +133,7 @@ leads_left spell (suc x ∷ cells) {p} le =
 
 pub leads_runs : (clue cells : List ℕ) → AllByRecursion (λ n. 0 < n) clue → leads (track_of (spelled clue)) 0 cells ≡ has_runs clue cells
 unfolding has_runs may_stay
-leads_runs clue cells positive = leads_left (spelled clue) cells {p = 0} (omega arith) ∙ (both cells).0 clue positive
+leads_runs clue cells positive = leads_left (spelled clue) cells (omega arith) ∙ (both cells).0 clue positive
 
 -- what a visit strikes, by the track
 pub strikes_by_track : (clue : List ℕ) (sets : List Set) (k v : ℕ) → AllByRecursion (λ n. 0 < n) clue

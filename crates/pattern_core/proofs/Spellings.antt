@@ -105,7 +105,7 @@ track_spelled stay on ends first back fits s within past one stay_is back_is end
 from_next : (x : ℕ) (spell : List ℕ) (n p : ℕ) → cells_from (λ q. eqb (get_or (x ∷ spell) q 2) 1) n (suc p) ≡ cells_from (λ q. eqb (get_or spell q 2) 1) n p
 unfolding cells_from
 from_next x spell zero p = refl
-from_next x spell (suc n) p = ap (λ (l : List ℕ). cond (eqb (get_or spell p 2) 1) 1 0 ∷ l) (from_next x spell n (suc p))
+from_next x spell (suc n) p = ap (λ l. cond (eqb (get_or spell p 2) 1) 1 0 ∷ l) (from_next x spell n (suc p))
 
 all_white : (n p : ℕ) → runs_after 0 (cells_from (λ q. eqb (get_or [] q 2) 1) n p) ≡ []
 unfolding cells_from runs_after
@@ -116,9 +116,9 @@ run_cells : (m n k : ℕ) (rest : List ℕ) → n ≡ m + suc k
     → cells_from (λ q. eqb (get_or (replicate m 1 ++ 0 ∷ rest) q 2) 1) n 0 ≡ replicate m 1 ++ 0 ∷ cells_from (λ q. eqb (get_or rest q 2) 1) k 0
 unfolding cells_from
 run_cells m zero k rest e = absurd (omega arith)
-run_cells zero (suc n) k rest e = ap (λ (l : List ℕ). 0 ∷ l)
-    (from_next 0 rest n 0 ∙ ap (λ j. cells_from (λ q. eqb (get_or rest q 2) 1) j 0) (let z : n ≡ k = omega arith in z))
-run_cells (suc m) (suc n) k rest e = ap (λ (l : List ℕ). 1 ∷ l) (from_next 1 (replicate m 1 ++ 0 ∷ rest) n 0 ∙ run_cells m n k rest (omega arith))
+run_cells zero (suc n) k rest e = ap (λ l. 0 ∷ l)
+    (from_next 0 rest n 0 ∙ ap (λ j. cells_from (λ q. eqb (get_or rest q 2) 1) j 0) (omega arith))
+run_cells (suc m) (suc n) k rest e = ap (λ l. 1 ∷ l) (from_next 1 (replicate m 1 ++ 0 ∷ rest) n 0 ∙ run_cells m n k rest (omega arith))
 
 spelled_runs : (clue : List ℕ) (n : ℕ) → AllByRecursion (λ k. 0 < k) clue → used clue ≤ n
     → runs (cells_from (λ q. eqb (get_or (spelled clue) q 2) 1) n 0) ≡ clue
@@ -126,12 +126,12 @@ unfolding spelled
 spelled_runs [] n positive fits = all_white n 0
 spelled_runs (m ∷ clue) n positive fits =
     ap runs (run_cells m n (n - m - 1) (spelled clue) (omega arith)) ∙ run_first m _ positive.0
-    ∙ ap (λ (l : List ℕ). m ∷ l) (spelled_runs clue (n - m - 1) positive.1 (omega arith))
+    ∙ ap (λ l. m ∷ l) (spelled_runs clue (n - m - 1) positive.1 (omega arith))
 
 -- a clue is that of its track
 pub clue_back : {clue : List ℕ} {n : ℕ} {t : Track} → AllByRecursion (λ k. 0 < k) clue → used clue < n → t ≡ track_of (spelled clue) → clue_along n t ≡ clue
 unfolding clue_along track_of
-clue_back {clue} {n} positive fits is = ap (λ (u : Track). runs (cells_from u.black n 0)) is ∙ spelled_runs clue n positive (omega arith)
+clue_back {clue} {n} positive fits is = ap (λ u. runs (cells_from u.black n 0)) is ∙ spelled_runs clue n positive (omega arith)
 
 pub track_under : (n : ℕ) (t : Track) → IsTrack n t → IsBelow n t
 track_under n t is = subst (IsBelow n) (sym is.spells) (track_below (spelled _) (omega (arith, is.fits, length-spelled (clue_along n t))))

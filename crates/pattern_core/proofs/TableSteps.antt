@@ -28,7 +28,7 @@ module _ (t : Track) (sets : List ℕ) (at : ℕ) (lt : at < length sets) where
   next_set : drop at (sets_of sets) ≡ (has_bit (get_or sets at 0) 0 ∷ has_bit (get_or sets at 0) 1 ∷ []) ∷ drop (at + 1) (sets_of sets)
   unfolding set_of_bits
   next_set = drop_more (sets_of sets) at [] (omega (arith, length-map sets (set_of_bits 2)))
-      ∙ ap (λ (s : Set). s ∷ drop (at + 1) (sets_of sets)) (get_or-map _ sets at 0 [] lt)
+      ∙ ap (λ s. s ∷ drop (at + 1) (sets_of sets)) (get_or-map _ sets at 0 [] lt)
 
   way_next : (test : List ℕ → Bool) (p : ℕ) → some_leads t (drop at (sets_of sets)) (λ cells. test (drop 1 cells)) p
       ≡ ahead t (get_or sets at 0) (some_leads t (drop (at + 1) (sets_of sets)) test) p
@@ -92,7 +92,7 @@ reached_next n t sets reached new at below lt is r = record {
   shown = λ test.
       ways_on (get_or sets at 0) n below reached new (some_leads t (drop at (sets_of sets)) (λ cells. test (drop 1 cells)))
       (some_leads t (drop (at + 1) (sets_of sets)) test) is (way_next t sets at lt test)
-      ∙ r.shown (λ cells. test (drop 1 cells)) ∙ ap (λ (h : List ℕ → Bool). some_leads t (sets_of sets) h 0) (fun_ext λ cells. ap test (drop-drop 1 at cells));
+      ∙ r.shown (λ cells. test (drop 1 cells)) ∙ ap (λ h. some_leads t (sets_of sets) h 0) (fun_ext λ cells. ap test (drop-drop 1 at cells));
 }
 
 -- ---- what is kept of a cell
@@ -115,8 +115,8 @@ module _ (n : ℕ) (t : Track) (sets : List ℕ) (reached : ℕ → Bool) (at : 
   shown_at : (v : ℕ) → v < 2 → some_leads t (sets_of sets) (cell_is at v) 0 ≡ (has_bit (get_or sets at 0) v && leads_by (set_for v))
   unfolding cell_is
   shown_at v small =
-      ap (λ (h : List ℕ → Bool). some_leads t (sets_of sets) h 0)
-      (fun_ext λ cells. ap (λ x. eqb x v) (sym (get_or-drop at cells 0 0 ∙ ap (λ j. get_or cells j 0) (let z : at + 0 ≡ at = omega arith in z))))
+      ap (λ h. some_leads t (sets_of sets) h 0)
+      (fun_ext λ cells. ap (λ x. eqb x v) (sym (get_or-drop at cells 0 0 ∙ ap (λ j. get_or cells j 0) (omega arith))))
       ∙ sym (r.shown (cell_is 0 v))
       ∙ any_below-same (λ p. reached p && some_leads t (drop at (sets_of sets)) (cell_is 0 v) p)
       (λ p. reached p && (has_bit (get_or sets at 0) v && ahead t (set_for v) next p)) n

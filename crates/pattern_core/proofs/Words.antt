@@ -32,7 +32,7 @@ pub bits_on : (w a p : ℕ) → p < w → has_bit (a * 2 % 2 ^ w) p ≡ one_on (
 unfolding one_on
 bits_on w a zero lt = low_bits w (a * 2) lt ∙ ap (λ n. eqb n 1) (bit_at_lowest (a * 2) ∙ (let z : a * 2 % 2 ≡ 0 = omega arith in z))
 bits_on w a (suc p) lt =
-    low_bits w (a * 2) lt ∙ sym (bits_next (a * 2) p) ∙ ap (λ n. has_bit n p) (let z : a * 2 / 2 ≡ a = omega arith in z)
+    low_bits w (a * 2) lt ∙ sym (bits_next (a * 2) p) ∙ ap (λ n. has_bit n p) (omega arith)
 
 -- a word with no bit set is 0
 no_bits : (w a : ℕ) → a < 2 ^ w → 0 < 2 ^ w → any_below (has_bit a) w ≡ false → a ≡ 0

@@ -19,7 +19,7 @@ loop-k-preserved g c =
     let t = along g.P.Slots.has c.steps-steps.result in
     let cells = line_numbers c.args.size c.args.grid.now c.args.line in
     let long = length-line_numbers c.args.size c.args.grid.now c.args.line in
-    let number : c.line_value.result ≡ get_or cells c.loop-k.k 0 = c.line_value.ensures in
+    let number = c.line_value.ensures in
     meet_next c.steps-steps.ensures.below cells c.loop-k.k (has c.loop-k.reached) (has c.led_on-reached.result)
     (omega (arith, long, c.line_len-k-end.ensures.cells, c.loop-k-test.true))
     (λ p lt. c.led_on-reached.ensures p lt ∙ ap (λ n. led t (set_for n) (has c.loop-k.reached) p) number)

@@ -11,8 +11,8 @@ loop-at-init g c = (
 
 pub loop-at-preserved : goal.loop-at-preserved
 loop-at-preserved g c =
-    let pos : 0 < c.loop-at.at = c.loop-at-test.true in
-    let low : c.loop-at.at ≤ length c.args.sets.now = c.loop-at.invariant.0 in
+    let pos = c.loop-at-test.true in
+    let low = c.loop-at.invariant.0 in
     let next : c.loop-at.at ≡ c.loop-at.at - 1 + 1 = omega arith in
     let t = along g.P.Slots.has c.args.moves.now.steps in (
       omega arith,
