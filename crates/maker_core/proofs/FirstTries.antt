@@ -13,7 +13,7 @@ module _ {A : Type 0} (t : Tries A) (known : A → Bool → Type 0) (s : Stream)
     pub failing : (j : ℕ) → j < done → (t.passes (filling_at t.make j s) ≡ false) × known (filling_at t.make j s) false
 
   -- one more filling is made
-  module _ {done : ℕ} {now u : Stream} {x : A} (p : IsTrying done now) (made : ◌≡◌ {A = A × Stream} (x, u) (t.make now)) where
+  module _ {done : ℕ} {now u : Stream} {x : A} (p : IsTrying done now) (made : (x, u) ≡ t.make now) where
     filling_is : x ≡ filling_at t.make done s
     filling_is = ap (λ q. q.0) made ∙ ap (λ w. (t.make w).0) p.stands
 

@@ -57,12 +57,6 @@ module _ (p : Solo) (c_low : 0 < p.c) (r_low : 0 < p.r) (across down : Bool) whe
     column_below : column_of p place < solo_n p
     column_below = mod_below place (solo_n p) some
 
-    in_row : (y : ℕ) → lies_in p (Row y) place ≡ true → lies_in p (Row (line_from down (solo_n p) y)) (from place) ≡ true
-    in_row y on = grind (arith, row)
-
-    in_column : (x : ℕ) → lies_in p (Column x) place ≡ true → lies_in p (Column (line_from across (solo_n p) x)) (from place) ≡ true
-    in_column x on = grind (arith, column)
-
     in_diagonal : {d : ℕ} → d < 2 → lies_in p (Diagonal d) place ≡ true → lies_in p (Diagonal (diagonal_from across down d)) (from place) ≡ true
     in_diagonal few on = eq-eqb _ _
         (rw (row, column) (diagonal_is across down few column_below row_below (eqb-true _ _ on)))
@@ -86,14 +80,14 @@ module _ (p : Solo) (c_low : 0 < p.c) (r_low : 0 < p.r) (across down : Bool) whe
   together (Row y) is lj lk a b = record {
     house = Row (line_from down (solo_n p) y);
     house_of = line_from-below down is;
-    first = in_row lj y a;
-    second = in_row lk y b;
+    first = grind (arith, row lj);
+    second = grind (arith, row lk);
   }
   together (Column x) is lj lk a b = record {
     house = Column (line_from across (solo_n p) x);
     house_of = line_from-below across is;
-    first = in_column lj x a;
-    second = in_column lk x b;
+    first = grind (arith, column lj);
+    second = grind (arith, column lk);
   }
   together (Block n) is {j} {k} lj lk a b = record {
     house = Block (block_of p (from j));

@@ -30,7 +30,7 @@ pub none_is_idle : {A : Type 0} {game : CluedGame A} → IsGame game → LeavesN
 none_is_idle {game} laws budget all p q kept place reasons needed w has lacks =
     let n = some_of (game.clue p place) has in
     let listed = passes_kept (has_clue game p) (game.cells p) place (laws.clue_in p place n.0 n.1) has in
-    two_in game laws (lacking_within laws p q place n.0 w n.1 lacks)
+    two_in laws (lacking_within laws p q place n.0 w n.1 lacks)
     (needed_at game all p kept place reasons needed (subst (λ xs. Contains xs place) (sym reasons.places) listed))
 
 -- what the taking away of clues cites, and that fewer clues lose no solution

@@ -17,7 +17,6 @@ pub mod FirstTries
 pub mod SoloNumbers
 pub mod SoloOrderLemmas
 pub mod SoloSolution
-pub mod FullStart
 pub mod SoloFull
 pub mod Flips
 pub mod FlippedHouses

@@ -4,27 +4,13 @@ use Rattle.maker_core.proofs.Common.{get_or_past, length-map, All, IsPermutation
 use Rattle.maker_core.proofs.Common.{Extent, Light, White, Black, light_cells, white, solves_lights, white-in, AreAll, shuffled_list, lights_of}
 use Rattle.maker_core.proofs.Common.{white_places, bulbs_after, numbered_cell, with_numbers, LightFilling, light_puzzle_of}
 use Rattle.maker_core.proofs.LightSight.{same_white}
-use Rattle.maker_core.proofs.LightSolved.{order_white, lit_solved}
+use Rattle.maker_core.proofs.LightSolved.{order_white}
 
--- the white cells that were listed, shuffled and lent
-pub record AreWhitesShuffled (p : Light) (items new order : List ℕ) (s t : Stream) : Type 0 where
-  pub listed : items ≡ white_places p
-  pub drawn : ◌≡◌ {A = List ℕ × Stream} (new, t) (shuffled_list items s)
-  pub mixed : IsPermutation items new
-  pub lent : order ≡ new
-
-mixed_order : {p : Light} {items new order : List ℕ} {s t : Stream} → AreWhitesShuffled p items new order s t → IsPermutation (white_places p) order
-mixed_order w = rw (w.lent, sym w.listed) w.mixed
-
-pub order_within : (p : Light) {items new order : List ℕ} {s t : Stream} → AreWhitesShuffled p items new order s t → length p.cells ≡ light_cells p
+-- the white cells in any order
+pub order_within : (p : Light) {order : List ℕ} → IsPermutation (white_places p) order → length p.cells ≡ light_cells p
     → All (λ c. c < light_cells p) order
-order_within p {order} w long k d lt =
-    let on = order_white p (mixed_order w) k lt in
-    rw (get_or_default order k d 0 lt) (white-in p (slice_index order k) long on)
-
-pub lit_up_solved : (p : Light) {items new order g : List ℕ} {s t : Stream} → AreWhitesShuffled p items new order s t → length p.cells ≡ light_cells p
-    → g ≡ bulbs_after p order (length order) → solves_lights (with_numbers p g) g ≡ true
-lit_up_solved p {order} {g} w long is = lit_solved p order g long (mixed_order w) is
+order_within p {order} mixed long k d lt =
+    rw (get_or_default order k d 0 lt) (white-in p (slice_index order k) long (order_white p mixed k lt))
 
 -- black cells alone
 black_at : (size : Extent) (cells : List ℕ) → AreAll 1 cells → (c : ℕ) → white (lights_of size cells) c ≡ false

@@ -3,7 +3,6 @@ use Rattle.maker_core.proofs.Common.{◌≡◌, ℕ, ◌+◌, ◌-◌, ◌*◌, 
 use Rattle.maker_core.proofs.Common.{range_with_len, slice_index_or, IsTrue, ◌↔◌, cases_lt, line_numbers-column, line_numbers-row, fill_by_all, Extent, IsGrid, row_cells}
 use Rattle.maker_core.proofs.Common.{column_cells, runs, line_numbers, Pattern, lines_of, line_rules, IsPatternSolution, HasOne, TellsOne, IsOnlySolution}
 use Rattle.maker_core.proofs.Common.{clued_by}
-use Rattle.maker_core.proofs.OnlySolutions.{one_is}
 
 -- a puzzle with those clues
 pub record HasRuns (size : Extent) (g : List ℕ) (p : Pattern) : Type 0 where
@@ -34,13 +33,6 @@ pub pattern_solved : (size : Extent) (g : List ℕ) (p : Pattern) → HasRuns si
 pattern_solved size g p has grid =
     let w = subst (λ (s : Extent). HasRuns s g p × IsGrid (s.w * s.h) 2 g) (sym has.sized) (has, grid) in
     record { grid = w.1; columns = λ x lt. sym (w.0.columns x lt); rows = λ y lt. sym (w.0.rows y lt) }
-
--- and the one that the verdict names, where it is one
-pub pattern_only : (p : Pattern) (g : List ℕ)
-    → ((q : Pattern) (h : List ℕ) → IsGrid (q.size.w * q.size.h) 2 h → (IsTrue ((line_rules q).is_solution h)) ↔ IsPatternSolution q h)
-    → (budget : ℕ) → HasOne (line_rules p) budget
-    → IsPatternSolution p g → IsOnlySolution (IsPatternSolution p) g × TellsOne (line_rules p) budget g
-pattern_only p g accepted budget one good = one_is (line_rules p) (IsPatternSolution p) (λ h s. s.grid) (accepted p) one good
 
 -- what the making of a puzzle of a grid cites
 pub ruleset pattern_laws = (pattern_is, pattern_solved)

@@ -3,12 +3,11 @@ use Rattle.maker_core.proofs.Common.{sum, sum_by, nat_lt, cond, set, length-set,
 use Rattle.maker_core.proofs.Common.{sum_by-append, sum_by-cons, sum_by-le, sum_by-set, ◌≡◌, ℕ, zero, suc, ◌+◌, ◌-◌, ◌*◌, ◌/◌, ◌%◌, ◌<◌, ◌≤◌, true}
 use Rattle.maker_core.proofs.Common.{false, List, [], ◌∷◌, length, slice_index, refl, sym, ap, ◌∙◌, arith, inl, inr, ◌⊎◌, le-ltb, div-add-mod'}
 use Rattle.maker_core.proofs.Common.{div_below, mod_below, get_or-map-range_with_len, length-map-range_with_len, Extent, IsExtent, Candidates}
-use Rattle.maker_core.proofs.Common.{row_cells, run_of, runs_after, runs, at_row, Pattern, lines_of, closure, strikes_by_fillings, shown_from_test}
+use Rattle.maker_core.proofs.Common.{row_cells, run_of, runs_after, runs, at_row, Pattern, lines_of, closure, closure_closed, strikes_by_fillings, shown_from_test}
 use Rattle.maker_core.proofs.Common.{sets_at, strikes_at, strikes_at-place, length-sets_at, IsClosed, line_places, clue_of, has_runs}
 use Rattle.maker_core.proofs.Common.{length-line_places, place_in_row, cell_in_grid, different_places, has_runs-is, is_solution-from}
 use Rattle.maker_core.proofs.Common.{line_rules-lawful, line_rules, IsPatternSolution, AreAll, is_one, has_one, clued_by}
-use Rattle.maker_core.proofs.FoundAtOnce.{closed_start, found_at_once}
-use Rattle.maker_core.proofs.FullStart.{known}
+use Rattle.maker_core.proofs.FoundAtOnce.{found_at_once}
 
 -- 1 for a black cell, and how many cells are black
 abbrev black : ℕ → ℕ
@@ -121,6 +120,8 @@ pub plain_passes : {size : Extent} {g : List ℕ} (budget : ℕ) → IsExtent si
     → has_one (line_rules (clued_by size g)) budget ≡ true
 plain_passes {size} {g} budget extent good plain =
     let p : Pattern = clued_by size g in
-    let rules = known (line_rules p) (line_rules-lawful p extent) in
-    ap is_one (found_at_once (line_rules p) budget g rules (record { grid = good.grid; good = is_solution-from p g good })
-    (λ c v. plain_alone size g (closure (line_rules p) (line_rules p).start) c v extent good.grid.each_cell plain (closed_start rules)))
+    let laws = line_rules-lawful p extent in
+    let start = (line_rules p).start in
+    ap is_one (found_at_once laws (record { grid = good.grid; good = is_solution-from p g good })
+    (λ c v. plain_alone size g (closure (line_rules p) start) c v extent good.grid.each_cell plain
+    (closure_closed (line_rules p) start laws.start_within)) budget)

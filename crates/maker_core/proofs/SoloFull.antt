@@ -6,7 +6,7 @@ use Rattle.maker_core.proofs.Common.{slice_set, Solo, IsSolo, solo_puzzle, Solve
 use Rattle.maker_core.proofs.Common.{houses_rules, houses_lawful, TellsOne, is_one, IsOnlySolution, all_given, solo_game, clue_is, is_clue, IsSoloSize}
 use Rattle.maker_core.proofs.Common.{solo_passes, IsThinnedFrom, Option, None, IfSome, is_some}
 use Rattle.engine_core.specs.Verdict.{Outcome.OneSolution}
-use Rattle.maker_core.proofs.FullStart.{start_found, start_only}
+use Rattle.maker_core.proofs.FoundAtOnce.{start_found, start_only}
 
 pub given-at : (g : List ℕ) (place : ℕ) → place < length g → slice_index (map suc g) place ≡ slice_index g place + 1
 given-at g place lt = grind (arith, get_or-map)
@@ -32,29 +32,22 @@ given-all p c r x g k is all long =
     let none : (c * r) * (c * r) - k ≡ 0 = omega arith in
     is ∙ ap (solo_puzzle c r x) (rw (none, take_all k g (omega arith)) (append-nil (map suc g)))
 
-module _ {c r : ℕ} (x : Bool) {g : List ℕ} (size : IsSoloSize c r) (fits : IsGrid ((c * r) * (c * r)) (c * r) g) where
-  all_given-solo : IsSolo (all_given c r x g)
-  all_given-solo = record {
+module _ (c r : ℕ) (x : Bool) (g : List ℕ) (size : IsSoloSize c r) (solution : IsSoloSolution (all_given c r x g) g) where
+  solo : IsSolo (all_given c r x g)
+  solo = record {
     c_low = size.c_low;
     r_low = size.r_low;
     n_high = size.n_high;
-    cells = length-map g suc ∙ fits.each_cell;
-    range = recursion_from_All (λ v. v ≤ c * r) (map suc g) (All-map (λ v. v ≤ c * r) suc g fits.each_value);
+    cells = length-map g suc ∙ solution.grid.each_cell;
+    range = recursion_from_All (λ v. v ≤ c * r) (map suc g) (All-map (λ v. v ≤ c * r) suc g solution.grid.each_value);
   }
-
-  start_inside : IsInside (start (all_given c r x g)) (single g)
-  unfolding start single
-  start_inside place v on = grind (arith, given-at g place, fits.each_cell)
-
-module _ (c r : ℕ) (x : Bool) (g : List ℕ) (size : IsSoloSize c r) (solution : IsSoloSolution (all_given c r x g) g) where
-  solo : IsSolo (all_given c r x g)
-  solo = all_given-solo x size solution.grid
 
   solves : Solves (houses_rules (all_given c r x g)) g
   solves = record { grid = solution.grid; good = test_from_rule (all_given c r x g) solo g solution }
 
   inside : IsInside (start (all_given c r x g)) (single g)
-  inside = start_inside x size solution.grid
+  unfolding start single
+  inside place v on = grind (arith, given-at g place, solution.grid.each_cell)
 
   -- no other grid solves it, and its verdict with any budget says so
   pub all_given-only : IsTrueOf (houses_rules (all_given c r x g)) (OneSolution g)
@@ -104,7 +97,3 @@ only_by_rules p g ok w = (
   rule_from_test p ok g w.0.grid w.0.good,
   λ h other. sym (w.1 h (record { grid = other.grid; good = test_from_rule p ok h other })),
 )
-
--- a puzzle that has the sizes of the full one has its clues among the same
-pub same_given : (p : Solo) (c r : ℕ) (x : Bool) (g : List ℕ) → p.c ≡ c → p.r ≡ r → p.x ≡ x → all_given p.c p.r p.x g ≡ all_given c r x g
-same_given p c r x g columns rows diagonals = rw (columns, rows, diagonals) refl

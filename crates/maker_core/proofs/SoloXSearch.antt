@@ -38,15 +38,12 @@ module _ (c r : ℕ) (numbers : List ℕ) (size : IsSoloSize c r) (order : IsOrd
   row : length (map suc numbers) ≡ c * r
   row = length-map numbers suc ∙ order.len
 
-  top_cells : length (map suc numbers ++ replicate rest 0) ≡ (c * r) * (c * r)
-  top_cells = grind (arith, common_steps, row, room c r size)
-
   pub top-solo : IsSolo (top_row_given c r numbers)
   top-solo = record {
     c_low = size.c_low;
     r_low = size.r_low;
     n_high = size.n_high;
-    cells = top_cells;
+    cells = grind (arith, common_steps, row, room c r size);
     range = recursion_from_All (λ v. v ≤ c * r) (map suc numbers ++ replicate rest 0)
         (All-append (λ v. v ≤ c * r) (map suc numbers) (replicate rest 0)
         (All-map (λ v. v ≤ c * r) suc numbers (All-from_get_or (λ v. suc v ≤ c * r) numbers 0 (λ k lt. grind (arith, order.len, order.within k))))
@@ -57,35 +54,29 @@ module _ (c r : ℕ) (numbers : List ℕ) (size : IsSoloSize c r) (order : IsOrd
   top-all p k is all = is
       ∙ rw (all, order.len) (ap (λ xs. solo_puzzle c r true (map suc xs ++ replicate rest 0)) (take_all (c * r) numbers (omega (arith, order.len))))
 
-  found-solution : (g : List ℕ) → Solves (houses_rules (top_row_given c r numbers)) g → IsSoloSolution (top_row_given c r numbers) g
-  found-solution g s = rule_from_test (top_row_given c r numbers) top-solo g s.grid s.good
-
   -- the flipped grid keeps to the rules
   pub flipped-found : (found : Option (List ℕ)) (t : Stream) → IfSome found (Solves (houses_rules (top_row_given c r numbers)))
       → IfSome (flipped_by_draw (c * r) found t).0 (λ g. IsSoloSolution (all_given c r true g) g)
   flipped-found None t s = tt
   flipped-found (Some g) t s =
-      let c_low = size.c_low in
-      let r_low = size.r_low in
-      flipped-solution c r true _ g (omega arith) (omega arith) _ _ (found-solution g s)
+      let solution = rule_from_test (top_row_given c r numbers) top-solo g s.grid s.good in
+      flipped-solution c r true _ g (omega (arith, size.c_low)) (omega (arith, size.r_low)) _ _ solution
 
 -- ---- the filling
 pub x-filling-is : {c r : ℕ} (budget : ℕ) {n : ℕ} (s : Stream) {t u : Stream} {numbers : List ℕ} {p : Solo} {q : RuleSystem}
     {found filling : Option (List ℕ)} → n ≡ c * r
-    → ◌≡◌ {A = List ℕ × Stream} (numbers, t) (shuffled_order n s) → p ≡ top_row_given c r numbers → q ≡ houses_rules p
+    → (numbers, t) ≡ shuffled_order n s → p ≡ top_row_given c r numbers → q ≡ houses_rules p
     → found ≡ first_grid (verdict_of q budget)
-    → ◌≡◌ {A = Option (List ℕ) × Stream} (filling, u) (flipped_by_draw n found t) → ◌≡◌ {A = Option (List ℕ) × Stream} (filling, u) (x_filling c r budget s)
+    → (filling, u) ≡ flipped_by_draw n found t → (filling, u) ≡ x_filling c r budget s
 x-filling-is {c} {r} budget {n} s {t} is drawn top rules first flipped =
-    flipped ∙ ap (λ (f : Option (List ℕ)). flipped_by_draw n f t)
-    (first ∙ ap (λ (z : RuleSystem). first_grid (verdict_of z budget)) (rules ∙ ap houses_rules top))
-    ∙ ap (λ (d : List ℕ × Stream). flipped_by_draw n (first_grid (verdict_of (houses_rules (top_row_given c r d.0)) budget)) d.1) drawn
-    ∙ ap (λ m. let d = shuffled_order m s in flipped_by_draw m (first_grid (verdict_of (houses_rules (top_row_given c r d.0)) budget)) d.1) is
+    rw (sym (rw is at drawn)) (rw is at (flipped ∙ ap (λ f. flipped_by_draw n f t)
+    (first ∙ ap (λ z. first_grid (verdict_of z budget)) (rules ∙ ap houses_rules top))))
 
 -- what is there of the filling keeps to the rules
 pub x-filling-solves : {c r n : ℕ} (t : Stream) {u : Stream} {numbers : List ℕ} {p : Solo} {q : RuleSystem} (found filling : Option (List ℕ))
     → IsSoloSize c r → IsOrder (c * r) numbers → n ≡ c * r
     → p ≡ top_row_given c r numbers → q ≡ houses_rules p → IfSome found (Solves q)
-    → ◌≡◌ {A = Option (List ℕ) × Stream} (filling, u) (flipped_by_draw n found t) → IfSome filling (λ g. IsSoloSolution (all_given c r true g) g)
+    → (filling, u) ≡ flipped_by_draw n found t → IfSome filling (λ g. IsSoloSolution (all_given c r true g) g)
 x-filling-solves {c} {r} t {numbers} found filling size order is top rules solves flipped =
     rw (ap (λ (z : Option (List ℕ) × Stream). z.0) (rw is at flipped)) (flipped-found c r numbers size order found t (rw (rules, top) at solves))
 

@@ -42,20 +42,20 @@ free_in size filling c k free lt is below =
 
 -- ---- the cells in turn
 pub none_after : (size : Extent) (order : List ℕ) {filling : TentFilling} {s : Stream} → filling ≡ no_tents size
-    → ◌≡◌ {A = TentFilling × Stream} (filling, s) (tents_after size order 0 s)
+    → (filling, s) ≡ tents_after size order 0 s
 unfolding tents_after
 none_after size order {s} is = ap (λ c. (c, s)) is
 
 pub more_after : (size : Extent) (order : List ℕ) (k : ℕ) {c : ℕ} {old new : TentFilling} (s : Stream) {t u : Stream}
-    → ◌≡◌ {A = TentFilling × Stream} (old, t) (tents_after size order k s)
-    → ◌≡◌ {A = TentFilling × Stream} (new, u) (take_cell size old c t) → c ≡ slice_index order k
-    → ◌≡◌ {A = TentFilling × Stream} (new, u) (tents_after size order (k + 1) s)
+    → (old, t) ≡ tents_after size order k s
+    → (new, u) ≡ take_cell size old c t → c ≡ slice_index order k
+    → (new, u) ≡ tents_after size order (k + 1) s
 unfolding tents_after
 more_after size order k s before drawn at = rw (add-one, sym before, sym at) drawn
 
 pub filled : (size : Extent) {places order : List ℕ} {filling : TentFilling} {n : ℕ} (s : Stream) {t u : Stream} → n ≡ size.w * size.h
-    → ◌≡◌ {A = List ℕ × Stream} (places, t) (shuffled_order n s) → order ≡ places
-    → ◌≡◌ {A = TentFilling × Stream} (filling, u) (tents_after size order (length order) t) → ◌≡◌ {A = TentFilling × Stream} (filling, u) (tent_filling size s)
+    → (places, t) ≡ shuffled_order n s → order ≡ places
+    → (filling, u) ≡ tents_after size order (length order) t → (filling, u) ≡ tent_filling size s
 unfolding tent_filling
 filled size s cells drawn lent after = rw (sym cells, sym drawn, sym lent) after
 

@@ -12,15 +12,12 @@ record IsTakenBy (size : Extent) (old : TentFilling) (c : ℕ) (q : TentFilling 
   taken : IsTaken size old c q.0
   words : HasWords q.1
 
-some_free : (size : Extent) (filling : TentFilling) (c : ℕ) → may_have_tent size filling c ≡ true → 0 < length (free_cells_beside size filling c)
-some_free size filling c may = grind arith
-
 place_takes : (size : Extent) {filling : TentFilling} (c : ℕ) (s : Stream) → may_have_tent size filling c ≡ true → HasWords s
     → IsTakenBy size filling c (place_tent size filling c s)
 place_takes size {filling} c s may words =
     let free : List ℕ = free_cells_beside size filling c in
     let few = free_few size filling c in
-    let drawn : IsDrawnBelow (length free) (draw_below (length free) s) = draw_is (length free) s (some_free size filling c may) (omega arith) words in
+    let drawn : IsDrawnBelow (length free) (draw_below (length free) s) = draw_is (length free) s (grind arith) (omega arith) words in
     record { taken = inr (placed_is free refl drawn.below may refl refl); words = drawn.words }
 
 cell_takes : (size : Extent) (filling : TentFilling) (c : ℕ) (s : Stream) → HasWords s → IsTakenBy size filling c (take_cell size filling c s)

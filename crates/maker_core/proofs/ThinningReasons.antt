@@ -97,7 +97,7 @@ pub thinning_start : {A : Type 0} {game : CluedGame A} → IsGame game → (budg
     → IsOnly (game.rules p) answer → TellsOne (game.rules p) budget answer → IsPermutation (clue_places game p) order
     → whys ≡ replicate (game.cells p) None → IsThinning game budget p p whys order
 thinning_start {game} laws budget p answer {order} whys only found mixed blank = record {
-  within = within_itself game laws;
+  within = within_itself laws;
   one = record { answer = answer; found = found; only = only };
   waiting =
       λ place held. All-contains (λ c. has_clue game p c ≡ true) (clue_places game p) place
