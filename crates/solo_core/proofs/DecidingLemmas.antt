@@ -12,17 +12,17 @@ use Rattle.solo_core.specs.HouseLaws.{lists_house, all_houses}
 use Rattle.solo_core.specs.RuleSets.{deciding, house_by, filled_houses, setting_of, rules_of, crossings_of}
 
 pub length-deciding : (decides : Decision) (p : Solo) → length (deciding decides p) ≡ length (houses_of p)
-length-deciding decides p = length-map (houses_of p) (house_by decides p)
+length-deciding decides p = length-map _ (house_by decides p)
 
 module _ (decides : Decision) (p : Solo) {h : ℕ} (lt : h < length (deciding decides p)) where
   inside : h < length (houses_of p)
   inside = omega (arith, lt, length-deciding decides p)
 
   pub deciding-at : house_of (deciding decides p) h ≡ house_by decides p (get_or (houses_of p) h (Row 0))
-  deciding-at = get_or-map (house_by decides p) (houses_of p) h (Row 0) no_house inside
+  deciding-at = get_or-map (house_by decides p) _ h (Row 0) no_house inside
 
   pub decides-at : decides ≡ (house_of (deciding decides p) h).decides
-  decides-at = sym (ap (λ (house : House). house.decides) deciding-at)
+  decides-at = sym (ap (λ house. house.decides) deciding-at)
 
   pub long-at : IsSolo p → length (house_of (deciding decides p) h).places ≡ solo_n p
   long-at ok = ap (λ (house : House). length house.places) deciding-at ∙ (lists_house ok (get_or (houses_of p) h (Row 0)) (all_houses p h (Row 0) inside)).len
@@ -50,8 +50,8 @@ kept-deciding settled p {decides} sound lt K are decided = kept-houses settled p
 pub listed-deciding : (decides : Decision) (p : Solo) {first second : Listed} → first ≡ record { closed = []; begun = [] }
     → second ≡ record { closed = first.closed ++ map (places_of p) (houses_of p); begun = [] } → second.closed ≡ all_places (deciding decides p)
 listed-deciding decides p none e =
-    ap (λ (list : Listed). list.closed) e ∙ ap (λ (list : Listed). list.closed ++ map (places_of p) (houses_of p)) none
-    ∙ sym (map-map (λ (house : House). house.places) (house_by decides p) (houses_of p))
+    ap (λ list. list.closed) e ∙ ap (λ list. list.closed ++ map (places_of p) (houses_of p)) none
+    ∙ sym (map-map (λ house. house.places) (house_by decides p) _)
 
 pub listed-crossings : (p : Solo) (none first second : Listed) → none ≡ record { closed = []; begun = [] }
     → first ≡ record { closed = none.closed ++ map (places_of p) (houses_of p); begun = [] }

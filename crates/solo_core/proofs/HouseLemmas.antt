@@ -17,12 +17,12 @@ use Rattle.solo_core.specs.declared.houses.scope.VisitName.TheVariants as scope
 module _ {X : Type 0} (f : ℕ → X) {n : ℕ} (rest : List X) {h : ℕ} (d : X) where
   pub part_first : h < n → get_or (map f (range_with_len 0 n) ++ rest) h d ≡ f h
   part_first lt =
-      get_or_append_left (map f (range_with_len 0 n)) rest d h
+      get_or_append_left _ rest d h
       (omega (arith, length-map-range_with_len f 0 n))
       ∙ get_or-map-range_with_len f 0 n h h d lt (omega arith)
 
   pub part_later : n ≤ h → get_or (map f (range_with_len 0 n) ++ rest) h d ≡ get_or rest (h - n) d
-  part_later le = get_or-append_right (map f (range_with_len 0 n)) rest n h d (length-map-range_with_len f 0 n) le
+  part_later le = get_or-append_right _ rest n h d (length-map-range_with_len f 0 n) le
 
 pub diagonal_at : (x : Bool) (k : ℕ) (d : NamedHouse) → k < (if x then 2 else 0) → get_or (if x then Diagonal 0 ∷ Diagonal 1 ∷ [] else []) k d ≡ Diagonal k
 diagonal_at true zero d lt = refl
@@ -58,11 +58,11 @@ pub listed-all : {list : Listed} (closed all : List (List ℕ)) (k : ℕ) → le
 listed-all closed all k long was = was ∙ rw (← long, take-length all) refl
 
 pub places-length : (p : Solo) → length (house_places p) ≡ length (houses_of p)
-places-length p = length-map (houses_of p) (places_of p)
+places-length p = length-map _ _
 
 pub places-at : (p : Solo) (k : ℕ) {house : NamedHouse} → k < length (houses_of p)
     → house ≡ get_or (houses_of p) k house → places_of p house ≡ get_or (house_places p) k []
-places-at p k {house} lt is = ap (places_of p) is ∙ sym (get_or-map (places_of p) (houses_of p) k house [] lt)
+places-at p k {house} lt is = ap (places_of p) is ∙ sym (get_or-map _ _ k house [] lt)
 
 -- the houses by their numbers, and what the list gets of them
 pub ruleset house_laws =
@@ -84,7 +84,7 @@ module _ {X : Type 0} (first second : ℕ → X) (n m : ℕ) where
 
 module _ (p : Solo) where
   pub scopes-length : length (crossing_scopes p) ≡ solo_n p * p.c + solo_n p * p.r
-  scopes-length = both-length (row_scope p) (column_scope p) (solo_n p * p.c) (solo_n p * p.r)
+  scopes-length = both-length _ _ _ (solo_n p * p.r)
 
   pub crossings-length : length (crossings_of p) ≡ solo_n p * p.c + solo_n p * p.r
   crossings-length = length-map (crossing_scopes p) (house_at p) ∙ scopes-length
@@ -99,32 +99,32 @@ later_at some more {h} le = sym (get_or-append_right some more (length some) h n
 -- ---- all scopes by their numbers
 module _ (p : Solo) where
   pub filled-length : length (filled_houses p) ≡ length (houses_of p)
-  filled-length = length-deciding (strikes_by_fillings no_repeat) p
+  filled-length = length-deciding _ p
 
   abbrev names : List VisitName
   names = map scope.House (houses_of p)
 
   names-length : length names ≡ length (houses_of p)
-  names-length = length-map (houses_of p) scope.House
+  names-length = length-map _ scope.House
 
   pub all-length : length (scopes_of p) ≡ length (houses_of p) + length (crossing_scopes p)
   all-length = omega (arith, length-append names (crossing_scopes p), names-length)
 
   pub house-named : (h : ℕ) (d : VisitName) (house : NamedHouse) → h < length (houses_of p)
       → get_or (scopes_of p) h d ≡ scope.House (get_or (houses_of p) h house)
-  house-named h d house lt = get_or_append_left names (crossing_scopes p) d h (omega (arith, names-length)) ∙ get_or-map scope.House (houses_of p) h house d lt
+  house-named h d house lt = get_or_append_left names _ d h (omega (arith, names-length)) ∙ get_or-map scope.House _ h house d lt
 
   pub crossing-after : (h : ℕ) (d : VisitName) → length (houses_of p) ≤ h → get_or (scopes_of p) h d ≡ get_or (crossing_scopes p) (h - length (houses_of p)) d
-  crossing-after h d le = get_or-append_right names (crossing_scopes p) (length (houses_of p)) h d names-length le
+  crossing-after h d le = get_or-append_right names _ _ h d names-length le
 
   all-named : map (house_at p) (scopes_of p) ≡ filled_houses p ++ crossings_of p
   all-named = map-append (house_at p) names (crossing_scopes p) ∙ rw (map-map (house_at p) scope.House) refl
 
   pub crossings-counted : length (filled_houses p ++ crossings_of p) ≡ length (scopes_of p)
-  crossings-counted = ap length (sym all-named) ∙ length-map (scopes_of p) (house_at p)
+  crossings-counted = ap length (sym all-named) ∙ length-map _ _
 
   pub scope-named : (h : ℕ) (d : VisitName) → h < length (scopes_of p) → house_of (filled_houses p ++ crossings_of p) h ≡ house_at p (get_or (scopes_of p) h d)
-  scope-named h d lt = ap (λ xs. house_of xs h) (sym all-named) ∙ get_or-map (house_at p) (scopes_of p) h d no_house lt
+  scope-named h d lt = ap (λ xs. house_of xs h) (sym all-named) ∙ get_or-map _ _ h d no_house lt
 
 -- ---- room for all of them
 pub crossings-count : (p : Solo) → solo_n p * (p.c + p.r) ≡ length (crossings_of p)

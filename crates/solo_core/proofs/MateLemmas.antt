@@ -27,7 +27,7 @@ set_of_bits_below n bits {v} h = elim (cases_lt v n) [
 
 -- the sets of a house as bits, each within the values
 pub at_sets : (n : ℕ) (sets : List ℕ) {k : ℕ} → k < length sets → get_or (map (set_of_bits n) sets) k [] ≡ set_of_bits n (get_or sets k 0)
-at_sets n sets {k} h = get_or-map (set_of_bits n) sets k 0 [] h
+at_sets n sets {k} h = get_or-map _ sets k 0 [] h
 
 -- a pairing of the cells with values is a filling without repeat, which shows its values
 pub shown_by_pairing : (sets : List ℕ) {n : ℕ} {mates : List ℕ} → IsPairing (has_in sets) (length sets) n mates
@@ -35,10 +35,10 @@ pub shown_by_pairing : (sets : List ℕ) {n : ℕ} {mates : List ℕ} → IsPair
 shown_by_pairing sets {n} {mates} p k = test_from_shown no_repeat (map (set_of_bits n) sets) k (slice_index mates k) (
   mates,
   record {
-    fills = record { len = p.len ∙ sym (length-map sets (set_of_bits n)); each = each };
+    fills = record { len = p.len ∙ sym (length-map sets _); each = each };
     holds_true =
         no_repeat_from_different mates (λ i j below within same. let e = p.len in
-        absurd (let q = p.own i j (omega arith) (omega arith) same in omega arith));
+        absurd (omega (arith, p.own i j (omega arith) (omega arith) same)));
     has_it = refl;
   },
 )
@@ -60,7 +60,7 @@ pairing_of_filling sets n {filling} s = record {
 }
   where
     long : length filling ≡ length sets
-    long = s.fills.len ∙ length-map sets (set_of_bits n)
+    long = s.fills.len ∙ length-map sets _
 
     has : (l : ℕ) → l < length sets → has_value (set_of_bits n (get_or sets l 0)) (get_or filling l 0) ≡ true
     has l h =
@@ -77,12 +77,12 @@ struck_from_none sets n place value none = true_from_ne_false (is_struck n sets 
 
 -- ---- the rest, cell by cell
 range_more : (k : ℕ) → range_with_len 0 (k + 1) ≡ range_with_len 0 k ++ k ∷ []
-range_more k = sym (map-id (range_with_len 0 (k + 1)))
+range_more k = sym (map-id _)
     ∙ map-range_with_len_more (λ j. j) 0 k k (omega arith)
-    ∙ ap (λ xs. xs ++ k ∷ []) (map-id (range_with_len 0 k))
+    ∙ ap (λ xs. xs ++ k ∷ []) (map-id _)
 
 rest-next : (k cells : ℕ) → rest_of (k + 1) cells ≡ rest_of k cells ++ cond (not (has_bit cells k)) (k ∷ []) []
-rest-next k cells = ap (filter (λ j. not (has_bit cells j))) (range_more k) ∙ filter-append (λ j. not (has_bit cells j)) (range_with_len 0 k) (k ∷ [])
+rest-next k cells = ap (filter (λ j. not (has_bit cells j))) (range_more k) ∙ filter-append (λ j. not (has_bit cells j)) _ (k ∷ [])
 
 pub rest-more : (k cells : ℕ) {rest : List ℕ} → rest ≡ rest_of k cells → has_bit cells k ≡ false → rest ++ k ∷ [] ≡ rest_of (k + 1) cells
 rest-more k cells e off = rw e (sym (rest-next k cells ∙ ap (λ b. rest_of k cells ++ cond (not b) (k ∷ []) []) off))
@@ -97,14 +97,14 @@ module _ (n cells : ℕ) where
 
   pub rest-in : {i : ℕ} → i < length rest → (slice_index rest i < n) × (has_bit cells (slice_index rest i) ≡ false)
   rest-in {i} lt =
-      let w = place-filter (λ k. not (has_bit cells k)) (range_with_len 0 n) (slice_index rest i) (has_place-here rest i lt) in
-      let at = has_place-at (range_with_len 0 n) (slice_index rest i) w.0 in
+      let w = place-filter (λ k. not (has_bit cells k)) _ (slice_index rest i) (has_place-here rest i lt) in
+      let at = has_place-at _ (slice_index rest i) w.0 in
       let low : at.0 < n = omega (arith, at.1, length-range_with_len 0 n) in
       let is = get_or-range_with_len 0 n at.0 0 low in
       (omega (arith, at.2, is), not-true (has_bit cells (slice_index rest i)) w.1)
 
   pub rest-has : {k : ℕ} → k < n → has_bit cells k ≡ false → (i : ℕ) × (i < length rest) × (slice_index rest i ≡ k)
-  rest-has {k} lt off = has_place-at rest k (place-kept (λ j. not (has_bit cells j)) (range_with_len 0 n) k in_range (not_from_false (has_bit cells k) off))
+  rest-has {k} lt off = has_place-at rest k (place-kept (λ j. not (has_bit cells j)) _ k in_range (not_from_false (has_bit cells k) off))
     where
       in_range : has_place (range_with_len 0 n) k ≡ true
       in_range =
@@ -112,7 +112,7 @@ module _ (n cells : ℕ) where
           rw e at (has_place-here (range_with_len 0 n) k (omega (arith, length-range_with_len 0 n)))
 
   pub rest-different : AreDifferent rest
-  rest-different = different-filter (λ k. not (has_bit cells k)) (range_with_len 0 n) (λ j k lj lk same.
+  rest-different = different-filter (λ k. not (has_bit cells k)) _ (λ j k lj lk same.
       omega (
         arith,
         length-range_with_len 0 n,
@@ -173,7 +173,7 @@ module _ (n : ℕ) (sets : List ℕ) (cells : ℕ) (alone : AreAlone n sets cell
     different : {k m : ℕ} → (i : ℕ) × (i < length others) × (slice_index others i ≡ k) → (j : ℕ) × (j < length others) × (slice_index others j ≡ m)
         → slice_index mates k ≡ slice_index mates m → k ≡ m
     different (i, li, is) (j, lj, is_m) same =
-        let e : i ≡ j = p.own i j li lj (sym (at_rest i li) ∙ ap (slice_index mates) is ∙ same ∙ sym (ap (slice_index mates) is_m) ∙ at_rest j lj) in
+        let e = p.own i j li lj (sym (at_rest i li) ∙ ap (slice_index mates) is ∙ same ∙ sym (ap (slice_index mates) is_m) ∙ at_rest j lj) in
         sym is ∙ ap (slice_index others) e ∙ is_m
 
     pub whole_pairing : IsPairing (has_in sets) (length sets) n mates
@@ -195,13 +195,13 @@ last (suc n) passes = cond (passes n) n (last n passes)
 pub last-passes : (n : ℕ) (passes : ℕ → Bool) (v : ℕ) → v < n → passes v ≡ true → passes (last n passes) ≡ true
 unfolding last
 last-passes zero passes v lt on = absurd (omega arith)
-last-passes (suc n) passes v lt on = let below = last-passes n passes v in grind (arith, nat_tests)
+last-passes (suc n) passes v lt on = grind (arith, nat_tests, last-passes n passes v)
 
 pub last-below : (n : ℕ) (passes : ℕ → Bool) → 0 < n → last n passes < n
 unfolding last
 last-below zero passes some = absurd (omega arith)
 last-below (suc zero) passes some = grind (arith, nat_tests)
-last-below (suc (suc n)) passes some = let below = last-below (suc n) passes (omega arith) in grind (arith, nat_tests)
+last-below (suc (suc n)) passes some = grind (arith, nat_tests, last-below (suc n) passes (omega arith))
 
 -- ---- where the rest is paired, some pairing of the house pairs it so
 module _ (n : ℕ) (sets : List ℕ) (cells : ℕ) (alone : AreAlone n sets cells) (paired : List ℕ) (p : IsPaired n sets (rest_of (length sets) cells) paired) where
@@ -251,7 +251,7 @@ module _ (n : ℕ) (sets : List ℕ) (cells : ℕ) (alone : AreAlone n sets cell
 -- where no value is struck, the sets are kept
 pub decided_by_all : {n : ℕ} {sets : List ℕ} → ((k v : ℕ) → k < length sets → v < n → has_in sets k v ≡ true → is_struck n sets k v ≡ false)
     → IsDecided n (strikes_by_fillings no_repeat) sets sets
-decided_by_all all = record { as_many = refl; bits = λ k v lk lv. let shown = all k v lk lv in grind arith }
+decided_by_all all = record { as_many = refl; bits = λ k v lk lv. grind (arith, all k v lk lv) }
 
 -- where all are alone, nothing more is struck
 pub decided_alone : {n : ℕ} {sets : List ℕ} (cells : ℕ) → AreAlone n sets cells → ((k : ℕ) → k < length sets → has_bit cells k ≡ true)

@@ -25,8 +25,8 @@ peeled-none n = record { as_many = refl; inside = λ k v lk on. on; keeps = λ m
 pub peeled-more : {n : ℕ} {first second third : List ℕ} → IsPeeled n first second → IsPeeled n second third → IsPeeled n first third
 peeled-more {n} a b = record {
   as_many = b.as_many ∙ a.as_many;
-  inside = λ k v lk on. a.inside k v lk (b.inside k v (let e = a.as_many in omega arith) on);
-  keeps = λ mates p k lk. b.keeps mates (pairing_peeled n a p) k (let e = a.as_many in omega arith);
+  inside = λ k v lk on. a.inside k v lk (b.inside k v (omega (arith, a.as_many)) on);
+  keeps = λ mates p k lk. b.keeps mates (pairing_peeled n a p) k (omega (arith, a.as_many));
 }
 
 pub alone-none : (n : ℕ) {sets : List ℕ} → AreAlone n sets 0
@@ -46,10 +46,10 @@ pub counts-same : {sets new : List ℕ} {first some single shared : ℕ}
     → ((j : ℕ) → j < first → slice_index new j ≡ slice_index sets j)
     → AreCounts new first some single shared
 counts-same c same = record {
-  has = λ j v lj on. c.has j v lj (ap (λ (b : ℕ). has_bit b v) (sym (same j lj)) ∙ on);
-  singles = λ v on. let w = c.singles v on in (w.0, w.1, λ u. ap (λ (b : ℕ). has_bit b u) (same w.0 w.1) ∙ w.2 u);
+  has = λ j v lj on. c.has j v lj (ap (λ b. has_bit b v) (sym (same j lj)) ∙ on);
+  singles = λ v on. let w = c.singles v on in (w.0, w.1, λ u. ap (λ b. has_bit b u) (same w.0 w.1) ∙ w.2 u);
   shares = λ j k v lt lk on_j on_k. c.shares j k v lt lk
-      (ap (λ (b : ℕ). has_bit b v) (sym (same j (omega arith))) ∙ on_j) (ap (λ (b : ℕ). has_bit b v) (sym (same k lk)) ∙ on_k);
+      (ap (λ b. has_bit b v) (sym (same j (omega arith))) ∙ on_j) (ap (λ b. has_bit b v) (sym (same k lk)) ∙ on_k);
 }
 
 pub counts-more : {sets : List ℕ} (first : ℕ) {some single shared some' single' shared' : ℕ} → AreCounts sets first some single shared
@@ -58,18 +58,18 @@ pub counts-more : {sets : List ℕ} (first : ℕ) {some single shared some' sing
     → ((v : ℕ) → has_bit shared' v ≡ (has_bit shared v || (has_bit some v && has_in sets first v)))
     → AreCounts sets (first + 1) some' single' shared'
 counts-more first c a b d = record {
-  has = λ j v lj on. let e = a v in let h = c.has j v in grind (arith, nat_tests);
+  has = λ j v lj on. grind (arith, nat_tests, a v, c.has j v);
   singles = λ v on. elim (b v on) [
     | inl was ↦ let w = c.singles v was in (w.0, omega (arith, w.1), w.2)
     | inr new ↦ (first, omega arith, new)
   ];
-  shares = λ j k v lt lk on_j on_k. let e = d v in let h = c.has j v in let s = c.shares j k v lt in grind (arith, nat_tests);
+  shares = λ j k v lt lk on_j on_k. grind (arith, nat_tests, d v, c.has j v, c.shares j k v lt);
 }
 
 -- what is dropped, no pairing has: each value has a cell, and a cell with one value alone has it
 module _ {n : ℕ} {old : List ℕ} (square : length old ≡ n) {some single shared : ℕ} (c : AreCounts old (length old) some single shared) where
   shares : (j k v : ℕ) → j < length old → k < length old → (j ≡ k → ⊥) → has_in old j v ≡ true → has_in old k v ≡ true → has_bit shared v ≡ true
-  shares j k v lj lk ne on_j on_k = let a = c.shares j k v in let b = c.shares k j v in grind arith
+  shares j k v lj lk ne on_j on_k = grind (arith, c.shares j k v, c.shares k j v)
 
   not_dropped : (mates : List ℕ) → IsPairing (has_in old) (length old) n mates → (k : ℕ) → k < length old
       → IsDropped n single shared (slice_index old k) (slice_index mates k) → ⊥
@@ -94,7 +94,7 @@ module _ {n : ℕ} {old : List ℕ} (square : length old ≡ n) {some single sha
     keeps =
         λ mates p k lk. true_from_ne_false (has_in new k (slice_index mates k))
         (λ off. not_dropped mates p k lk
-        (dropped k (slice_index mates k) lk (p.in_range k lk) (p.joined k lk) off));
+        (dropped k _ lk (p.in_range k lk) (p.joined k lk) off));
   }
 
   -- a cell with a value that some cell has alone, and that no two have
@@ -109,7 +109,7 @@ module _ {n : ℕ} {old : List ℕ} (square : length old ≡ n) {some single sha
           | inl e ↦ eqb-true w v (sym (j.2 w) ∙ ap (λ i. has_in old i w) e ∙ there)
           | inr nj ↦ absurd (true≢false (sym (shares j.0 k v j.1 lk nj (j.2 v ∙ eq-eqb v v refl) has) ∙ off))
         ];
-        apart = λ m lm ne. false_from_ne_true (has_in old m v) (λ there. true≢false (sym (shares m k v lm lk ne there has) ∙ off));
+        apart = λ m lm ne. false_from_ne_true _ (λ there. true≢false (sym (shares m k v lm lk ne there has) ∙ off));
       }
 
 pub alone-more : {n : ℕ} {sets : List ℕ} (cells more cell : ℕ) (on : Bool) → AreAlone n sets cells → (on ≡ true → IsAlone n sets cell)
@@ -133,11 +133,5 @@ pub decided_by_peeled : {n : ℕ} {sets peeled kept : List ℕ} → IsPeeled n s
 decided_by_peeled {n} {sets} {peeled} e d = record {
   as_many = d.as_many ∙ e.as_many;
   bits = λ k v lk lv.
-      let low : k < length peeled = omega (arith, e.as_many) in
-      let there = shown_over n sets peeled (λ mates p. pairing_peeled n e p) k v low in
-      let back = shown_over n peeled sets (λ mates p. pairing_over peeled sets (sym e.as_many)
-      (λ j lj on. e.inside j (slice_index mates j) (omega (arith, e.as_many)) on) p) k v lk in
-      let bits = d.bits k v low lv in
-      let inside = e.inside k v lk in
-      grind arith;
+      let low : k < length peeled = omega (arith, e.as_many) in grind (arith, shown_over n sets peeled (λ mates p. pairing_peeled n e p) k v low, shown_over n peeled sets (λ mates p. pairing_over peeled sets (sym e.as_many) (λ j lj on. e.inside j (slice_index mates j) (omega (arith, e.as_many)) on) p) k v lk, d.bits k v low lv, e.inside k v lk);
 }

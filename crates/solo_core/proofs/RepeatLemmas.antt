@@ -20,7 +20,7 @@ use Rattle.gameid_core.proofs.Lists.{AllByRecursion-append, all_at}
 pub repeat_found : (xs : List ℕ) → no_repeat xs ≡ false → (i : ℕ) × (j : ℕ) × (i < j) × (j < length xs) × (get_or xs i 0 ≡ get_or xs j 0)
 unfolding no_repeat
 repeat_found [] e = absurd (true≢false e)
-repeat_found (x ∷ xs) e = elim (and_cases (not (list_any (eqb x) xs)) (no_repeat xs) e) [
+repeat_found (x ∷ xs) e = elim (and_cases (not (list_any (eqb x) xs)) _ e) [
   | inl again ↦
       let w = contains_from_member xs x (not-false (list_any (eqb x) xs) again) in
       (0, suc w.0, omega arith, omega (arith, w.1), sym w.2 ∙ get_or_default xs w.0 x 0 w.1)
@@ -28,17 +28,17 @@ repeat_found (x ∷ xs) e = elim (and_cases (not (list_any (eqb x) xs)) (no_repe
 ]
 
 pub repeat_shown : (xs : List ℕ) (i j : ℕ) → i < j → j < length xs → slice_index xs i ≡ slice_index xs j → false ≡ no_repeat xs
-repeat_shown xs i j low within same = sym (false_from_ne_true (no_repeat xs) (λ on. different_from_no_repeat xs on i j low within same))
+repeat_shown xs i j low within same = sym (false_from_ne_true _ (λ on. different_from_no_repeat xs on i j low within same))
 
 -- the numbers of a house, one by one
 pub len_of : (p : Solo) (g : List ℕ) (house : NamedHouse) → IsSolo p → IsHouseOf p house → length (numbers_of p g house) ≡ solo_n p
-len_of p g house ok is = length-map (places_of p house) (slice_index g) ∙ (lists_house ok house is).len
+len_of p g house ok is = length-map (places_of p house) _ ∙ (lists_house ok house is).len
 
 pub number_at : (p : Solo) (g : List ℕ) (house : NamedHouse) (k place number : ℕ) → IsSolo p → IsHouseOf p house → k < solo_n p
     → place ≡ slice_index (places_of p house) k → number ≡ slice_index g place → number ≡ get_or (numbers_of p g house) k 0
 number_at p g house k place number ok is lt at read =
     let len = (lists_house ok house is).len in
-    read ∙ ap (slice_index g) at ∙ sym (get_or-map (slice_index g) (places_of p house) k 0 0 (omega arith))
+    read ∙ ap (slice_index g) at ∙ sym (get_or-map _ (places_of p house) k 0 0 (omega arith))
 
 -- the bits are the first k numbers, which differ
 pub record HasSeen (xs : List ℕ) (k seen : ℕ) : Type 0 where
@@ -60,8 +60,8 @@ module _ (xs : List ℕ) (k seen number : ℕ) (h : HasSeen xs k seen) (is : num
       | inl before ↦ let w = h.shown v before in (w.0, omega (arith, w.1), w.2)
       | inr here ↦ (k, omega arith, sym (eqb-true v number here ∙ is))
     ];
-    noted = λ i lt. let e = each (get_or xs i 0) in let n = h.noted i in grind (arith, nat_tests);
-    different = λ i j low below same. let n = h.noted i in let d = h.different i j low in grind (arith, nat_tests);
+    noted = λ i lt. grind (arith, nat_tests, each (get_or xs i 0), h.noted i);
+    different = λ i j low below same. grind (arith, nat_tests, h.noted i, h.different i j low);
   }
 
   pub seen_again : k < length xs → has_bit seen number ≡ true → false ≡ no_repeat xs
@@ -135,7 +135,7 @@ module _ (p : Solo) (ok : IsSolo p) (g : List ℕ) where
   pub given_first : (place : ℕ) → place < solo_cells p → FailsSolo p g (Given place)
       → ((q : ℕ) → q < place → Holding (Given q))
       → IsFirstOf (FailsSolo p g) (given_tests p) (Some (Given place))
-  given_first place lt failed before = first_front (FailsSolo p g) (each givens) [] (Given place) (first_each (FailsSolo p g) givens place lt failed before)
+  given_first place lt failed before = first_front _ (each givens) [] _ (first_each _ givens place lt failed before)
 
   pub givens_stand : ((q : ℕ) → q < solo_cells p → Holding (Given q)) → IsFirstOf (FailsSolo p g) (given_tests p) None
   givens_stand held = none_held (FailsSolo p g) (givens ∷ []) (held, tt)
@@ -159,8 +159,8 @@ module _ (p : Solo) (ok : IsSolo p) (g : List ℕ) where
       → no_repeat_in (get_or (houses_of p) h d) ≡ true)
       → IsFirstOf (FailsSolo p g) (house_tests p) None
   houses_differ fine =
-      house_by Holding (λ h d lt. fault_holds (get_or (houses_of p) h d)
-      (none_repeats (get_or (houses_of p) h d) (all_houses p h d lt) (fine h d lt)))
+      house_by Holding (λ h d lt. fault_holds _
+      (none_repeats _ (all_houses p h d lt) (fine h d lt)))
 
   -- ---- the grids that no test fails are the solutions
   pub solo_sound : IsGrid (solo_cells p) (solo_n p) g → NoneFails (FailsSolo p g) (given_tests p ++ house_tests p) → IsSoloSolution p g
@@ -190,7 +190,7 @@ module _ (p : Solo) (ok : IsSolo p) (g : List ℕ) where
 
   -- the first given that fails, or else the first house
   pub broken_first : (fault : SoloFault) → IsFirstOf (FailsSolo p g) (given_tests p) (Some fault) → IsSoloFault p g (Some fault)
-  broken_first fault first = first_front (FailsSolo p g) (given_tests p) (house_tests p) fault first
+  broken_first fault first = first_front _ _ _ fault first
 
   pub house_after : IsGrid (solo_cells p) (solo_n p) g
       → IsFirstOf (FailsSolo p g) (given_tests p) None → (fault : Option SoloFault)
@@ -202,8 +202,8 @@ module _ (p : Solo) (ok : IsSolo p) (g : List ℕ) where
   pub solo_tells : IsGrid (solo_cells p) (solo_n p) g → (fault : Option SoloFault) (told : Bool)
       → IsSoloFault p g fault → is_some fault ≡ not told → told ≡ is_solo_solution p g
   solo_tells grid fault told is e =
-      none_tells (FailsSolo p g) (given_tests p ++ house_tests p) solo_none told
-      (is_solo_solution p g) (rule_from_test p ok g grid) (test_from_rule p ok g) fault is e
+      none_tells _ _ solo_none told
+      _ (rule_from_test p ok g grid) (test_from_rule p ok g) fault is e
 
 -- one house more that repeats nothing
 pub fine_more : (p : Solo) (g : List ℕ) (k : ℕ) (house : NamedHouse) → k < length (houses_of p)

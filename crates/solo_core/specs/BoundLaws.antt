@@ -18,10 +18,7 @@ house_count p = simp (length-append, length-map-range_with_len) (elim (cases_Boo
 pub sum_same : {X : Type 0} (f : X → ℕ) (m : ℕ) (xs : List X) → All (λ y. f y ≡ m) xs → sum_by f xs ≡ length xs * m
 sum_same f m [] all = omega arith
 sum_same f m (y ∷ ys) all =
-    let cons = sum_by-cons f y ys in
-    let here = all 0 y (omega arith) in
-    let rest = sum_same f m ys (λ k d lt. all (suc k) d (omega arith)) in
-    omega arith
+    omega (arith, sum_by-cons f y ys, all 0 y (omega arith), sum_same f m ys (λ k d lt. all (suc k) d (omega arith)))
 
 -- one visit for each house, and one more for each number of each of its n cells
 pub bound_is : (decides : Decision) (p : Solo) → IsSolo p
@@ -47,7 +44,7 @@ pub count_x : (p : Solo) → p.x ≡ true → length (houses_of p) ≡ 3 * solo_
 count_x p is = house_count p ∙ ap (λ b. 3 * solo_n p + (if b then 2 else 0)) is
 
 pub count_plain : (p : Solo) → p.x ≡ false → length (houses_of p) ≡ 3 * solo_n p
-count_plain p is = let e = house_count p ∙ ap (λ b. 3 * solo_n p + (if b then 2 else 0)) is in omega arith
+count_plain p is = omega (arith, house_count p ∙ ap (λ b. 3 * solo_n p + (if b then 2 else 0)) is)
 
 -- ---- counting
 filter_count : (test : ℕ → Bool) (f : ℕ → ℕ) (n : ℕ) → length (filter test (map f (range_with_len 0 n))) ≡ count_below (λ k. test (f k)) n

@@ -35,18 +35,18 @@ module _ (block line : ℕ → Bool) where
 
   pub crossing-monotone : IsMonotone (strikes_by_crossing block line)
   crossing-monotone smaller larger k v inside on = two_cases (strikes_by_crossing block line smaller k v ≡ true) larger k v
-      (λ here none. or_left (line k && not (has_in_part block smaller v))
-      (block k && not (has_in_part line smaller v))
-      (and_from (line k) (not (has_in_part block smaller v)) here (gone block none)))
-      (λ here none. or_right (line k && not (has_in_part block smaller v))
-      (block k && not (has_in_part line smaller v))
-      (and_from (block k) (not (has_in_part line smaller v)) here (gone line none)))
+      (λ here none. or_left _
+      _
+      (and_from (line k) _ here (gone block none)))
+      (λ here none. or_right _
+      _
+      (and_from (block k) _ here (gone line none)))
       on
     where
       gone : (part : ℕ → Bool) → has_in_part part larger v ≡ false → not (has_in_part part smaller v) ≡ true
       gone part none = not_from_false (has_in_part part smaller v) (false_from_ne_true (has_in_part part smaller v) (λ has.
           let w = part-some part smaller v has in
-          true≢false (sym (part-here part larger v w.0 (let e = inside.as_many in let lt = w.1 in omega arith) w.2 (inside.inside w.0 v w.1 w.3)) ∙ none)))
+          true≢false (sym (part-here part larger v w.0 (omega arith) w.2 (inside.inside w.0 v w.1 w.3)) ∙ none)))
 
   -- where the values of each part are those of the other, none is struck
   pub crossing-keeps : {filling : List ℕ}
@@ -59,7 +59,7 @@ module _ (block line : ℕ → Bool) where
       there : (part : ℕ → Bool) → (j : ℕ) × (j < length filling) × (part j ≡ true)
           × (get_or filling j 0 ≡ get_or filling k 0)
           → has_in_part part sets (get_or filling k 0) ≡ false → ⊥
-      there part (j, lj, in_part, same) none = true≢false (sym (part-here part sets (get_or filling k 0) j (let e = own.as_many in omega arith) in_part
+      there part (j, lj, in_part, same) none = true≢false (sym (part-here part sets (get_or filling k 0) j (omega arith) in_part
           (own.own j (get_or filling k 0) lj ∙ eq-eqb (get_or filling j 0) (get_or filling k 0) same)) ∙ none)
 
   -- a value that is left in a part has a place in the other, which keeps it
@@ -68,32 +68,32 @@ module _ (block line : ℕ → Bool) where
       (λ here none. let mine = part-here line old v k lt here was.0 in
       let other =
       unstruck line block here
-      (λ e. or_left (line k && not (has_in_part block old v))
-      (block k && not (has_in_part line old v)) e) in gone block other other mine none)
+      (λ e. or_left _
+      _ e) in gone block other other mine none)
       (λ here none. let mine = part-here block old v k lt here was.0 in
       let other =
       unstruck block line here
-      (λ e. or_right (line k && not (has_in_part block old v))
-      (block k && not (has_in_part line old v)) e) in gone line other mine other none))
+      (λ e. or_right _
+      _ e) in gone line other mine other none))
     where
       was : (has_value (get_or old k []) v ≡ true) × (strikes_by_crossing block line old k v ≡ false)
       was =
-          let w = and_parts (has_value (get_or old k []) v) (not (strikes_by_crossing block line old k v)) (sym (a.left k v lt) ∙ on) in
-          (w.0, not-true (strikes_by_crossing block line old k v) w.1)
+          let w = and_parts _ _ (sym (a.left k v lt) ∙ on) in
+          (w.0, not-true _ w.1)
 
       unstruck : (mine other : ℕ → Bool) → mine k ≡ true
           → ((mine k && not (has_in_part other old v)) ≡ true
           → strikes_by_crossing block line old k v ≡ true) → has_in_part other old v ≡ true
-      unstruck mine other here struck = let w = was.1 in grind arith
+      unstruck mine other here struck = grind arith
 
       gone : (part : ℕ → Bool) → has_in_part part old v ≡ true → has_in_part block old v ≡ true
           → has_in_part line old v ≡ true → has_in_part part new v ≡ false → ⊥
       gone part had in_block in_line none =
           let w = part-some part old v had in
-          let kept = a.left w.0 v w.1 ∙ and_from (has_value (get_or old w.0 []) v) (not (strikes_by_crossing block line old w.0 v)) w.3
-          (not_from_false (strikes_by_crossing block line old w.0 v) (false_from_ne_true (strikes_by_crossing block line old w.0 v)
+          let kept = a.left w.0 v w.1 ∙ and_from _ _ w.3
+          (not_from_false _ (false_from_ne_true _
           (two_cases ⊥ old w.0 v (λ _ no. true≢false (sym in_block ∙ no)) (λ _ no. true≢false (sym in_line ∙ no))))) in
-          true≢false (sym (part-here part new v w.0 (let e = a.as_many in let l = w.1 in omega arith) w.2 kept) ∙ none)
+          true≢false (sym (part-here part new v w.0 (omega arith) w.2 kept) ∙ none)
 
 -- ---- houses of n different cells of a grid, with no number twice
 pub record HoldsEach (n : ℕ) (g places : List ℕ) : Type 0 where
@@ -145,7 +145,7 @@ module _ (block line : List ℕ) where
   at_block {k} lt = get_or_append_left block rest 0 k lt
 
   at_rest : (k : ℕ) → length block ≤ k → slice_index (crossing_places block line) k ≡ slice_index rest (k - length block)
-  at_rest k le = get_or-append_right block rest (length block) k 0 refl le
+  at_rest k le = get_or-append_right block rest _ k 0 refl le
 
   long : length (crossing_places block line) ≡ length block + length rest
   long = length-append block rest
@@ -155,22 +155,22 @@ module _ (block line : List ℕ) where
       → (has_place line (slice_index (crossing_places block line) k) ≡ true) × (has_place block (slice_index (crossing_places block line) k) ≡ false)
   rest_is k le lt =
       let len = long in
-      let w = place-filter (λ c. not (has_place block c)) line (slice_index rest (k - length block)) (has_place-here rest (k - length block) (omega arith)) in
+      let w = place-filter _ line (slice_index rest (k - length block)) (has_place-here rest _ (omega arith)) in
       rw (at_rest k le) (w.0, not-true (has_place block (slice_index rest (k - length block))) w.1)
 
   pub crossing-within : {cells : ℕ} → ((k : ℕ) → k < length block → slice_index block k < cells) → ((k : ℕ) → k < length line → slice_index line k < cells)
       → (k : ℕ) → k < length (crossing_places block line) → slice_index (crossing_places block line) k < cells
-  crossing-within in_block in_line k lt = elim (cases_lt k (length block)) [
+  crossing-within in_block in_line k lt = elim (cases_lt k _) [
     | inl low ↦ rw (at_block low) (in_block k low)
-    | inr high ↦ let w = has_place-at line (slice_index (crossing_places block line) k) (rest_is k high lt).0 in rw w.2 at (in_line w.0 w.1)
+    | inr high ↦ let w = has_place-at line _ (rest_is k high lt).0 in rw w.2 at (in_line w.0 w.1)
   ]
 
   pub crossing-different : AreDifferent block → AreDifferent line → AreDifferent (crossing_places block line)
   crossing-different in_block in_line =
-      different-from (crossing_places block line)
+      different-from _
       (distinct-append block rest (distinct-from block in_block)
-      (distinct-from rest (different-filter (λ c. not (has_place block c)) line in_line))
-      (λ d here there. true≢false (sym here ∙ not-true (has_place block d) (place-filter (λ c. not (has_place block c)) line d there).1)))
+      (distinct-from rest (different-filter _ line in_line))
+      (λ d here there. true≢false (sym here ∙ not-true _ (place-filter _ line d there).1)))
 
   -- where both hold each number, the numbers of each part are those of the other
   module _ (n : ℕ) (g : List ℕ) (small : (c : ℕ) → c < length g → slice_index g c < n) (in_block : HoldsEach n g block) (in_line : HoldsEach n g line) where
@@ -178,13 +178,13 @@ module _ (block line : List ℕ) where
     values = map (slice_index g) (crossing_places block line)
 
     value_at : (k : ℕ) → k < length (crossing_places block line) → get_or values k 0 ≡ slice_index g (slice_index (crossing_places block line) k)
-    value_at k lt = get_or-map (slice_index g) (crossing_places block line) k 0 0 lt
+    value_at k lt = get_or-map _ _ k 0 0 lt
 
     pub crossing-sound : Keeps (strikes_by_crossing (in_block_alone (length block) (is_shared block line)) (in_line_alone (length block))) values
     crossing-sound = crossing-keeps (in_block_alone (length block) (is_shared block line)) (in_line_alone (length block)) from_line from_block
       where
         size : length values ≡ length block + length rest
-        size = length-map (crossing_places block line) (slice_index g) ∙ long
+        size = length-map _ _ ∙ long
 
         from_line : (k : ℕ) → k < length values → in_line_alone (length block) k ≡ true
             → (j : ℕ) × (j < length values) × (in_block_alone (length block) (is_shared block line) j ≡ true) × (get_or values j 0 ≡ get_or values k 0)
@@ -192,13 +192,13 @@ module _ (block line : List ℕ) where
             let len = long in
             let s = size in
             let lk : k < length (crossing_places block line) = omega arith in
-            let w = rest_is k (leb-true (length block) k here) lk in
-            let d = other_cell small in_line in_block (slice_index (crossing_places block line) k) w.0 w.1 in
+            let w = rest_is k (leb-true _ k here) lk in
+            let d = other_cell small in_line in_block _ w.0 w.1 in
             let j = has_place-at block d.0 d.1 in
             let lj = j.1 in (
               j.0,
               omega arith,
-              and_from _ _ (lt-ltb j.0 (length block) lj) (not_from_false (has_place line (slice_index block j.0)) (ap (has_place line) j.2 ∙ d.2)),
+              and_from _ _ (lt-ltb j.0 _ lj) (not_from_false _ (ap (has_place line) j.2 ∙ d.2)),
               value_at j.0 (omega arith) ∙ ap (slice_index g) (at_block lj ∙ j.2) ∙ d.3 ∙ sym (value_at k lk),
             )
 
@@ -208,16 +208,16 @@ module _ (block line : List ℕ) where
             let len = long in
             let s = size in
             let parts = and_parts _ _ here in
-            let low = ltb-true k (length block) parts.0 in
-            let d = other_cell small in_block in_line (slice_index block k) (has_place-here block k low)
-            (not-true (has_place line (slice_index block k)) parts.1) in
-            let j = has_place-at rest d.0 (place-kept (λ c. not (has_place block c)) line d.0 d.1 (not_from_false (has_place block d.0) d.2)) in
+            let low = ltb-true k _ parts.0 in
+            let d = other_cell small in_block in_line _ (has_place-here block k low)
+            (not-true _ parts.1) in
+            let j = has_place-at rest d.0 (place-kept _ line d.0 d.1 (not_from_false _ d.2)) in
             let lj = j.1 in
             let e : length block + j.0 - length block ≡ j.0 = omega arith in (
               length block + j.0,
               omega arith,
-              le-leb (length block) (length block + j.0) (omega arith),
-              value_at (length block + j.0) (omega arith) ∙ ap (slice_index g) (at_rest (length block + j.0) (omega arith) ∙ ap (slice_index rest) e ∙ j.2)
+              le-leb _ _ (omega arith),
+              value_at _ (omega arith) ∙ ap (slice_index g) (at_rest _ (omega arith) ∙ ap (slice_index rest) e ∙ j.2)
                   ∙ d.3
                   ∙ sym (value_at k (omega arith) ∙ ap (slice_index g) (at_block low)),
             )

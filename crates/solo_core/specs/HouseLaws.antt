@@ -40,9 +40,9 @@ by_function f index {n} {lies} within lies_at back index_in covers = record {
 
 -- ---- lines of a square grid
 row_lists : (n y : ℕ) → y < n → Lists (map (λ x. y * n + x) (range_with_len 0 n)) n (n * n) (λ place. eqb (place / n) y)
-row_lists n y lt = by_function (λ x. y * n + x) (λ place. place % n)
+row_lists n y lt = by_function (λ x. y * n + x) _
     (λ k l. mul-add-lt y n k n lt l)
-    (λ k l. eq-eqb ((y * n + k) / n) y (div-mul-add y n k l))
+    (λ k l. eq-eqb _ y (div-mul-add y n k l))
     (λ k l. mod-mul-add y n k l)
     (λ place l. mod_below place n (omega arith))
     (λ place l on. ap (λ u. u * n + place % n) (sym (eqb-true (place / n) y on)) ∙ div-add-mod' place n)
@@ -51,12 +51,12 @@ row_lists n y lt = by_function (λ x. y * n + x) (λ place. place % n)
 falling_lists : {n : ℕ} (f : ℕ → ℕ) → 0 < n → ((y : ℕ) → y < n → f y < n)
     → Lists (map (λ y. y * n + f y) (range_with_len 0 n)) n (n * n)
     (λ place. eqb (place % n) (f (place / n)))
-falling_lists {n} f pos f_in = by_function (λ y. y * n + f y) (λ place. place / n)
+falling_lists {n} f pos f_in = by_function _ _
     (λ k l. mul-add-lt k n (f k) n l (f_in k l))
     (λ k l. eq-eqb _ _ (mod-mul-add k n (f k) (f_in k l) ∙ ap f (sym (div-mul-add k n (f k) (f_in k l)))))
     (λ k l. div-mul-add k n (f k) (f_in k l))
     (λ place l. div_below place n n (omega arith) l)
-    (λ place l on. ap (λ c. place / n * n + c) (sym (eqb-true (place % n) (f (place / n)) on)) ∙ div-add-mod' place n)
+    (λ place l on. ap (λ c. place / n * n + c) (sym (eqb-true (place % n) _ on)) ∙ div-add-mod' place n)
 
 -- ---- blocks, r wide and c tall
 module _ (c r b : ℕ) (c_pos : 0 < c) (r_pos : 0 < r) (b_in : b < c * r) where
@@ -99,7 +99,7 @@ module _ (c r b : ℕ) (c_pos : 0 < c) (r_pos : 0 < r) (b_in : b < c * r) where
 
   index_below : (place : ℕ) → index_at place < c * r
   unfolding index_at
-  index_below place = fits (mod_below (place / (c * r)) c c_pos) (mod_below (place % (c * r)) r r_pos)
+  index_below place = fits (mod_below _ c c_pos) (mod_below _ r r_pos)
 
   pos : 0 < c * r
   pos = omega arith
@@ -109,32 +109,32 @@ module _ (c r b : ℕ) (c_pos : 0 < c) (r_pos : 0 < r) (b_in : b < c * r) where
   covered {place} e =
       let y = place / (c * r) in
       let x = place % (c * r) in
-      let x_low : x / r < c = div_below x r c r_pos (mod_below place (c * r) pos) in
-      let band_is : b / c ≡ y / c = ap (λ k. k / c) (sym e) ∙ div-mul-add (y / c) c (x / r) x_low in
-      let stack_is : b % c ≡ x / r = ap (λ k. k % c) (sym e) ∙ mod-mul-add (y / c) c (x / r) x_low in
-      let low : x % r < r = mod_below x r r_pos in
-      let tall_is : (y % c * r + x % r) / r ≡ y % c = div-mul-add (y % c) r (x % r) low in
-      let wide_is : (y % c * r + x % r) % r ≡ x % r = mod-mul-add (y % c) r (x % r) low in
+      let x_low = div_below x r c r_pos (mod_below place (c * r) pos) in
+      let band_is = ap (λ k. k / c) (sym e) ∙ div-mul-add (y / c) c (x / r) x_low in
+      let stack_is = ap (λ k. k % c) (sym e) ∙ mod-mul-add (y / c) c (x / r) x_low in
+      let low = mod_below x r r_pos in
+      let tall_is = div-mul-add (y % c) r (x % r) low in
+      let wide_is = mod-mul-add (y % c) r (x % r) low in
       rw (band_is, stack_is, tall_is, wide_is, div-add-mod' y c, div-add-mod' x r) (div-add-mod' place (c * r))
 
   block_lists : Lists (block_places c r b) (c * r) ((c * r) * (c * r)) (λ place. eqb (block_at place) b)
-  block_lists = by_function (λ k. ((b / c) * c + k / r) * (c * r) + ((b % c) * r + k % r)) index_at
+  block_lists = by_function _ index_at
       (λ k l. block-within c r b k b_in l)
-      (λ k l. eq-eqb (block_at (y_of k * (c * r) + x_of k)) b (in_block k l))
+      (λ k l. eq-eqb _ b (in_block k l))
       (λ k l. at_index k l)
       (λ place l. index_below place)
-      (λ place l on. covered (eqb-true (block_at place) b on))
+      (λ place l on. covered (eqb-true _ b on))
 
 -- ---- the houses of a puzzle
 pub some_numbers : {p : Solo} → IsSolo p → 0 < solo_n p
-some_numbers {p} ok = let c_low = ok.c_low in let r_low = ok.r_low in omega (arith, mul-le 1 1 p.c p.r (omega arith) (omega arith))
+some_numbers {p} ok = omega (arith, mul-le 1 1 p.c p.r (omega arith) (omega arith))
 
 pub lists_house : {p : Solo} → IsSolo p → (house : NamedHouse) → IsHouseOf p house → Lists (places_of p house) (solo_n p) (solo_cells p) (lies_in p house)
 unfolding block_at
 lists_house {p} ok (Row y) lt = row_lists (solo_n p) y lt
 lists_house ok (Column i) lt = falling_lists (λ y. i) (some_numbers ok) (λ y l. lt)
 lists_house {p} ok (Block b) lt = let c_low = ok.c_low in let r_low = ok.r_low in block_lists p.c p.r b (omega arith) (omega arith) lt
-lists_house {p} ok (Diagonal d) lt = falling_lists (λ y. if eqb d 0 then y else solo_n p - 1 - y) (some_numbers ok) (λ y l. elim (cases_Bool (eqb d 0)) [
+lists_house {p} ok (Diagonal d) lt = falling_lists _ (some_numbers ok) (λ y l. elim (cases_Bool (eqb d 0)) [
   | inl first ↦ rw first l
   | inr second ↦ rw second (omega arith)
 ])
@@ -212,7 +212,7 @@ module _ {p : Solo} (ok : IsSolo p) where
       let low = ok.c_low in
       let pos : 0 < p.c = omega arith in
       let b = div_below m p.c (solo_n p) pos lt in
-      let w = mul-add-lt (m / p.c / p.c) p.c (m % p.c) p.r (div_below (m / p.c) p.c p.r pos (omega arith)) (mod_below m p.c pos) in
+      let w = mul-add-lt _ p.c (m % p.c) p.r (div_below (m / p.c) p.c p.r pos (omega arith)) (mod_below m p.c pos) in
       (b, omega arith)
 
   pub column_in : (m : ℕ) → m < solo_n p * p.r → (m / p.r < solo_n p) × (m / p.r % p.c * p.r + m % p.r < solo_n p)
@@ -222,5 +222,5 @@ module _ {p : Solo} (ok : IsSolo p) where
       let pos : 0 < p.c = omega arith in
       let pos_r : 0 < p.r = omega arith in
       let b = div_below m p.r (solo_n p) pos_r lt in
-      let w = mul-add-lt (m / p.r % p.c) p.r (m % p.r) p.c (mod_below (m / p.r) p.c pos) (mod_below m p.r pos_r) in
+      let w = mul-add-lt _ p.r (m % p.r) p.c (mod_below (m / p.r) p.c pos) (mod_below m p.r pos_r) in
       (b, omega arith)

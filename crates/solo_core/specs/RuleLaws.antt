@@ -42,9 +42,9 @@ module _ (p : Solo) (ok : IsSolo p) where
   within_start : IsWithin (solo_cells p) (solo_n p) (start p)
   unfolding start
   within_start c v on =
-      let w = and_parts (ltb c (solo_cells p)) _ on in
-      let u = and_parts (ltb v (solo_n p)) _ w.1 in
-      (ltb-true c (solo_cells p) w.0, ltb-true v (solo_n p) u.0)
+      let w = and_parts _ _ on in
+      let u = and_parts _ _ w.1 in
+      (ltb-true c _ w.0, ltb-true v (solo_n p) u.0)
 
   fine : {settled : Bool} (houses : List House) → IsSetting (setting_of settled p houses)
   fine houses = record {
@@ -78,7 +78,7 @@ module _ (p : Solo) (ok : IsSolo p) where
   inside_grid : {g : List ℕ} → IsGrid (solo_cells p) (solo_n p) g → (house : NamedHouse)
       → IsHouseOf p house → (k : ℕ) → k < length (places_of p house)
       → slice_index (places_of p house) k < length g
-  inside_grid grid house is k lt = let e = grid.each_cell in let w = inside house is k lt in omega arith
+  inside_grid grid house is k lt = omega (arith, inside house is k lt)
 
   holds_each : {g : List ℕ} → IsGrid (solo_cells p) (solo_n p) g → is_solo_solution p g ≡ true → (house : NamedHouse) → IsHouseOf p house
       → HoldsEach (solo_n p) g (places_of p house)
@@ -138,7 +138,7 @@ module _ (p : Solo) (ok : IsSolo p) where
   -- ---- the three rule sets
   by_fillings : (all : List House) → All (IsSound (setting_of true p all)) (deciding (strikes_by_fillings no_repeat) p)
   by_fillings all =
-      alike_sound true all (strikes_by_fillings no_repeat) (by_fillings-monotone no_repeat)
+      alike_sound true all _ (by_fillings-monotone no_repeat)
       (λ f long holds small. by_fillings-keeps no_repeat f holds)
       (λ _. by_fillings-settles no_repeat)
 
@@ -154,8 +154,8 @@ module _ (p : Solo) (ok : IsSolo p) where
       (IsSound (setting_of true p (deciding (strikes_by_fillings no_repeat) p ++ crossings_of p)))
       (deciding (strikes_by_fillings no_repeat) p ++ crossings_of p)
   crossings_sound =
-      All-append (IsSound (setting_of true p all)) (deciding (strikes_by_fillings no_repeat) p)
-      (crossings_of p) (by_fillings all) (each_crossing all)
+      All-append (IsSound (setting_of true p all)) _
+      _ (by_fillings all) (each_crossing all)
     where
       all : List House
       all = deciding (strikes_by_fillings no_repeat) p ++ crossings_of p

@@ -58,8 +58,8 @@ strikes_stay cells values at at' down place value = or_stays
 
 pub singles-monotone : (values : ℕ) → IsMonotone (strikes_by_singles values)
 singles-monotone values smaller larger k v inside on =
-    rw inside.as_many (strikes_stay (length larger) values (has_at larger) (has_at smaller)
-    (λ j w lj lw. inside.inside j w (let e = inside.as_many in omega arith)) k v on)
+    rw inside.as_many (strikes_stay _ values _ _
+    (λ j w lj lw. inside.inside j w (omega arith)) k v on)
 
 -- from cells that have one value each, all different, nothing is struck
 module _ (n : ℕ) (f : List ℕ) (long : length f ≡ n) (holds : no_repeat f ≡ true) (small : (k : ℕ) → k < n → get_or f k 0 < n) where
@@ -80,11 +80,11 @@ module _ (n : ℕ) (f : List ℕ) (long : length f ≡ n) (holds : no_repeat f �
   pub shown_stays : (sets : List Set) → length sets ≡ n → ((k : ℕ) → k < n → has_at sets k (get_or f k 0) ≡ true) → (k : ℕ) → k < n
       → strikes_by_singles n sets k (get_or f k 0) ≡ false
   shown_stays sets all has k lk = false_from_ne_true (strikes_by_singles n sets k (get_or f k 0)) (λ on.
-      true≢false (sym (strikes_stay n n (has_at sets) (λ j u. eqb (get_or f j 0) u) (λ j u lj lu e. rw (eqb-true (get_or f j 0) u e) at (has j lj)) k
-      (get_or f k 0)
+      true≢false (sym (strikes_stay n n (has_at sets) _ (λ j u lj lu e. rw (eqb-true (get_or f j 0) u e) at (has j lj)) k
+      _
       (subst (λ m. strikes_where m n (has_at sets) k (get_or f k 0) ≡ true) all on)) ∙ own_stays k lk))
 
   -- cells that have these values alone lose none
   pub singles-keeps : Keeps (strikes_by_singles n) f
   singles-keeps sets k own lt = shown_stays sets (own.as_many ∙ long)
-      (λ j lj. own.own j (get_or f j 0) (omega arith) ∙ eq-eqb (get_or f j 0) (get_or f j 0) refl) k (omega arith)
+      (λ j lj. own.own j (get_or f j 0) (omega arith) ∙ eq-eqb _ _ refl) k (omega arith)
