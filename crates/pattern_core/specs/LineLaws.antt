@@ -129,7 +129,7 @@ line_rules-lawful p extent = record {
       λ h K L lt inside c v struck. strikes_at-inside 2 _
       (strikes_by_fillings (has_runs (clue_of p h))) (by_fillings-monotone (has_runs (clue_of p h)))
       K L inside c v struck;
-  strikes_in_scope = λ h K c v lt struck. strikes_at-in_scope 2 (line_places p.size h) (strikes_by_fillings (has_runs (clue_of p h))) K c v struck;
+  strikes_in_scope = λ h K c v lt. strikes_at-in_scope 2 (line_places p.size h) (strikes_by_fillings (has_runs (clue_of p h))) K c v;
   solutions_start = λ g grid good. single-all grid;
   solutions_closed = λ g grid good h c v lt on.
       by_fillings-closed 2 (line_places p.size h) (has_runs (clue_of p h)) g
@@ -148,7 +148,7 @@ line_rules-lawful p extent = record {
   some_values = omega arith;
   few_values = omega arith;
   few_cells = few_cells p.size extent;
-  start_within = λ c v on. all-within 2 c v on;
-  scope_within = λ h c lt member. in_grid p.size lt member;
-  scope_distinct = λ h j k lt lj lk e. different_places p.size h j k lj lk e;
+  start_within = all-within 2;
+  scope_within = λ h c. in_grid p.size;
+  scope_distinct = λ h j k lt. different_places p.size h j k;
 }
