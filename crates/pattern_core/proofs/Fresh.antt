@@ -13,14 +13,14 @@ use Rattle.engine_core.specs.HouseSets.{sets_at, strikes_at}
 use Rattle.engine_core.specs.HouseSetsLaws.{length-sets_at, sets_at-value, strikes_at-some}
 use Rattle.engine_core.specs.PlaceLaws.{has_place-here}
 use Rattle.engine_core.specs.RuleSystem.{IsIdle}
-use Rattle.pattern_core.specs.Lines.{clue_of, has_runs, IsRoomy, IsFresh}
+use Rattle.pattern_core.specs.Lines.{clue_of, has_runs, IsRoomy, IsFresh, ArePositive}
 use Rattle.grid_core.proofs.LineLemmas.{length-line_places}
 use Rattle.pattern_core.specs.LineLaws.{in_grid}
 use Rattle.pattern_core.specs.LineRules.{line_rules}
 use Rattle.pattern_core.proofs.Roomy.{nothing_struck}
 
 -- a clue's spelled length and its longest run tell from where on a line is roomy
-pub roomy : {clue : List ℕ} (cells longest n : ℕ) → AllByRecursion (λ m. 0 < m) clue → 0 < length clue
+pub roomy : {clue : List ℕ} (cells longest n : ℕ) → ArePositive clue → 0 < length clue
     → ((k : ℕ) → k < length clue → get_or clue k 0 ≤ longest) → cells ≡ used clue → cells + longest - 1 ≤ n → IsRoomy clue n
 roomy {clue} cells longest n positive some each long from = record {
   some = some;
@@ -31,7 +31,7 @@ roomy {clue} cells longest n positive some each long from = record {
   fits = omega arith;
 }
   where
-    first : (clue : List ℕ) → AllByRecursion (λ m. 0 < m) clue → 0 < length clue → ((k : ℕ) → k < length clue → get_or clue k 0 ≤ longest) → 0 < longest
+    first : (clue : List ℕ) → ArePositive clue → 0 < length clue → ((k : ℕ) → k < length clue → get_or clue k 0 ≤ longest) → 0 < longest
     first [] positive some each = absurd (omega arith)
     first (m ∷ clue) positive some each = omega (arith, each 0 some)
 

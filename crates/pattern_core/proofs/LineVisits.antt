@@ -1,6 +1,5 @@
 -- A visit of a line, from its three steps, and the clues that it reads.
 use Rattle.std.proofs.Common.{◌≡◌, ◌∙◌, ℕ, zero, suc, ◌+◌, ◌<◌, ◌≤◌, Bool, false, refl, List, [], ◌∷◌, length, slice_index, get_or, map, sym, ap, subst, arith}
-use Rattle.std.specs.List.{AllByRecursion}
 use Rattle.grid_core.specs.Board.{Layout, has}
 use Rattle.grid_core.specs.Extent.{Extent}
 use Rattle.grid_core.specs.Candidates.{Candidates}
@@ -13,7 +12,7 @@ use Rattle.engine_core.specs.Keeping.{AreSetsOf, IsKept}
 use Rattle.engine_core.specs.RuleSystem.{IsBoardOf, after}
 use Rattle.engine_core.specs.Sets.{set_of_bits, IsBitsOf}
 use Rattle.engine_core.specs.PositionLaws.{within_of}
-use Rattle.pattern_core.specs.Lines.{has_runs, clue_of, IsDecidedBy}
+use Rattle.pattern_core.specs.Lines.{has_runs, clue_of, IsDecidedBy, ArePositive}
 use Rattle.pattern_core.specs.LineRules.{line_rules}
 use Rattle.pattern_core.specs.LineLaws.{different_places}
 use Rattle.grid_core.proofs.LineLemmas.{line_short}
@@ -53,8 +52,8 @@ clue_from size (clue ∷ clues) from (suc k) all lt =
     (clue_from size clues (from + 1) k all.1 (omega arith))
 
 pub clue_of_line : (p : Pattern) (line : ℕ) {clue : List ℕ} → IsPattern p → line < lines_of p.size
-    → clue ≡ clue_of p line → AllByRecursion (λ n. 0 < n) clue × (used clue ≤ 127)
+    → clue ≡ clue_of p line → ArePositive clue × (used clue ≤ 127)
 clue_of_line p line is lt same =
     let here = clue_from p.size p.clues 0 line is.clues (omega arith) in
     let short = line_short p.size (0 + line) is.size in
-    (subst (AllByRecursion (λ n. 0 < n)) (sym same) here.positive, (omega (arith, ap used same)))
+    (subst (ArePositive) (sym same) here.positive, (omega (arith, ap used same)))

@@ -10,7 +10,7 @@ use Rattle.gameid_core.specs.BlackRuns.{runs, runs_after}
 use Rattle.gameid_core.specs.Puzzles.{used}
 use Rattle.engine_core.specs.Filling.{Set, has_value, strikes_by_fillings}
 use Rattle.engine_core.specs.FillingLaws.{test_from_shown}
-use Rattle.pattern_core.specs.Lines.{has_runs}
+use Rattle.pattern_core.specs.Lines.{has_runs, ArePositive}
 use Rattle.pattern_core.specs.LineLaws.{has_runs-from}
 
 -- cells of such a number that have these runs
@@ -23,9 +23,6 @@ pub record Fitting (clue : List ℕ) (n : ℕ) : Type 0 where
 -- some such cells have the value at the place
 abbrev pub Shows : List ℕ → ℕ → ℕ → ℕ → Type 0
 Shows clue n k v = (f : Fitting clue n) × (get_or f.cells k 0 ≡ v)
-
-abbrev Positive : List ℕ → Type 0
-Positive clue = AllByRecursion (λ m. 0 < m) clue
 
 -- each run is at most s
 abbrev pub AtMost : ℕ → List ℕ → Type 0
@@ -114,14 +111,14 @@ alone m some = record {
 abbrev Begins : List ℕ → ℕ → ℕ → Type 0
 Begins clue m n = (f : Fitting (m ∷ clue) n) × ((k : ℕ) → k < m → get_or f.cells k 0 ≡ 1)
 
-run_and : {clue : List ℕ} (m n : ℕ) → Positive (m ∷ clue) → m < n → Fitting clue (n - m - 1) → Begins clue m n
+run_and : {clue : List ℕ} (m n : ℕ) → ArePositive (m ∷ clue) → m < n → Fitting clue (n - m - 1) → Begins clue m n
 run_and {clue} m n p lt f = subst (Begins clue m) (omega arith)
     (longer_by m p.0 f, λ k low. before m 1 _ k low)
 
 blank : {n : ℕ} → Fitting [] n
 blank {n} = subst (Fitting []) (omega arith) (whiter n empty)
 
-begins : (clue : List ℕ) (m n : ℕ) → Positive (m ∷ clue) → used (m ∷ clue) ≤ n + 1 → Begins clue m n
+begins : (clue : List ℕ) (m n : ℕ) → ArePositive (m ∷ clue) → used (m ∷ clue) ≤ n + 1 → Begins clue m n
 begins [] m n p fits = elim (cases_lt m n) [
   | inl lt ↦ run_and m n p lt blank
   | inr ge ↦ subst (Begins [] m) (omega arith) (alone m p.0, λ k lt. before m 1 [] k lt)
@@ -129,7 +126,7 @@ begins [] m n p fits = elim (cases_lt m n) [
 begins (x ∷ clue) m n p fits = run_and m n p (omega arith) (begins clue x (n - m - 1) p.1 (omega arith)).0
 
 -- a clue that fits has a filling
-fill : (clue : List ℕ) {n : ℕ} → Positive clue → used clue ≤ n + 1 → Fitting clue n
+fill : (clue : List ℕ) {n : ℕ} → ArePositive clue → used clue ≤ n + 1 → Fitting clue n
 fill [] p fits = blank
 fill (m ∷ clue) {n} p fits = (begins clue m n p fits).0
 
@@ -137,7 +134,7 @@ placed : {clue : List ℕ} {n k v : ℕ} (m j : ℕ) → Shows clue n k v → n 
 placed {clue} {n} {k} {v} m j s n_is k_is = subst (λ i. Shows clue i j v) n_is (subst (λ i. Shows clue n i v) k_is s)
 
 -- each cell is white in some filling
-pub white : (clue : List ℕ) (n k s : ℕ) → Positive clue → AtMost s clue → used clue + s ≤ n + 1 → k < n → Shows clue n k 0
+pub white : (clue : List ℕ) (n k s : ℕ) → ArePositive clue → AtMost s clue → used clue + s ≤ n + 1 → k < n → Shows clue n k 0
 white [] n k s p most room lt = placed n k (whiter n empty, before n 0 [] k lt) (omega arith) refl
 white (m ∷ clue) n k s p most room lt = elim (cases_lt k m) [
   | inl low ↦
@@ -154,12 +151,12 @@ white (m ∷ clue) n k s p most room lt = elim (cases_lt k m) [
 ]
 
 -- and black in some, where there is a run, and one cell more than needed
-in_run : (clue : List ℕ) (m n d k : ℕ) → Positive (m ∷ clue) → used (m ∷ clue) + d ≤ n + 1 → d < n → d ≤ k → k < d + m → Shows (m ∷ clue) n k 1
+in_run : (clue : List ℕ) (m n d k : ℕ) → ArePositive (m ∷ clue) → used (m ∷ clue) + d ≤ n + 1 → d < n → d ≤ k → k < d + m → Shows (m ∷ clue) n k 1
 in_run clue m n d k p room inside from low =
     let f = begins clue m (n - d) p (omega arith) in
     placed n k (whiter d f.0, behind d 0 f.0.cells (k - d) ∙ f.1 (k - d) (omega arith)) (omega arith) (omega arith)
 
-pub black : (clue : List ℕ) (m n k : ℕ) → Positive (m ∷ clue) → used (m ∷ clue) ≤ n → k < n → Shows (m ∷ clue) n k 1
+pub black : (clue : List ℕ) (m n k : ℕ) → ArePositive (m ∷ clue) → used (m ∷ clue) ≤ n → k < n → Shows (m ∷ clue) n k 1
 black [] m n k p room lt = let more = p.0 in in_run [] m n (k + 1 - m) k p (omega arith) (omega arith) (omega arith) (omega arith)
 black (x ∷ clue) m n k p room lt = let more = p.0 in elim (cases_lt k (m + 1)) [
   | inl low ↦ in_run (x ∷ clue) m n (k + 1 - m) k p (omega arith) (omega arith) (omega arith) (omega arith)
@@ -169,7 +166,7 @@ black (x ∷ clue) m n k p room lt = let more = p.0 in elim (cases_lt k (m + 1))
 ]
 
 -- nothing is struck from cells that may be either
-pub nothing_struck : (clue : List ℕ) (sets : List Set) (k v s : ℕ) → Positive clue → 0 < length clue → AtMost s clue → 0 < s → used clue + s ≤ length sets + 1
+pub nothing_struck : (clue : List ℕ) (sets : List Set) (k v s : ℕ) → ArePositive clue → 0 < length clue → AtMost s clue → 0 < s → used clue + s ≤ length sets + 1
     → ((j : ℕ) → j < length sets → (has_value (get_or sets j []) 0 ≡ true) × (has_value (get_or sets j []) 1 ≡ true)) → k < length sets → v < 2
     → strikes_by_fillings (has_runs clue) sets k v ≡ false
 nothing_struck clue sets k v s p some most one room both lt low = by clue v p some most room low
@@ -189,7 +186,7 @@ nothing_struck clue sets k v s p some most one room both lt low = by clue v p so
         either (suc zero) small set both = both.1
         either (suc (suc u)) small set both = absurd (omega arith)
 
-    by : (clue : List ℕ) (v : ℕ) → Positive clue → 0 < length clue → AtMost s clue
+    by : (clue : List ℕ) (v : ℕ) → ArePositive clue → 0 < length clue → AtMost s clue
         → used clue + s ≤ length sets + 1 → v < 2
         → strikes_by_fillings (has_runs clue) sets k v ≡ false
     by clue zero p some most room low = by_filling clue 0 (white clue (length sets) k s p most room lt)

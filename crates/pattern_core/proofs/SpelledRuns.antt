@@ -3,7 +3,6 @@ use Rattle.std.proofs.lemmas.Bool.{cases_Bool}
 use Rattle.std.proofs.lemmas.Grind.{common_steps}
 use Rattle.std.proofs.Common.{◌≡◌, ◌∙◌, ℕ, zero, suc, ◌+◌, ◌<◌, ◌≤◌, Bool, true, false, not, ◌&&◌, ◌||◌, eqb, leb, List, [], ◌∷◌, ◌++◌, length, get_or, drop, replicate, refl, sym, ap, ap₂, arith}
 use Rattle.std.specs.Cmp.Lexicographic.{pointwise}
-use Rattle.std.specs.List.{AllByRecursion}
 use Rattle.std.proofs.Math.Bool.{and-false, or-false}
 use Rattle.std.proofs.Math.Path.{fun_ext}
 use Rattle.std.proofs.lemmas.Bool.{cases_eq, cases_lt, eq-eqb, ne_eqb, eqb-true, le-leb, lt-leb}
@@ -11,7 +10,7 @@ use Rattle.std.proofs.lemmas.List.{length-append, length-drop, get_or-drop, drop
 use Rattle.gameid_core.specs.BlackRuns.{runs_after}
 use Rattle.gameid_core.specs.Puzzles.{used}
 use Rattle.engine_core.specs.Filling.{Set, strikes_by_fillings}
-use Rattle.pattern_core.specs.Lines.{has_runs}
+use Rattle.pattern_core.specs.Lines.{has_runs, ArePositive}
 use Rattle.pattern_core.specs.Track.{spelled, IsBelow, may_stay, track_of, leads, some_leads, cell_is}
 
 -- ---- by what is left of the spelled clue
@@ -24,9 +23,6 @@ matches may left (suc x ∷ cells) = eqb (get_or left 0 2) 1 && matches false (d
 -- more than one cell is left of a run
 long : (d : ℕ) (clue : List ℕ) → leb (length (1 ∷ (replicate d 1 ++ 0 ∷ spelled clue))) 1 ≡ false
 long d clue = lt-leb (length (1 ∷ (replicate d 1 ++ 0 ∷ spelled clue))) 1 (omega (arith, length-append (replicate d 1) (0 ∷ spelled clue)))
-
-abbrev Positive : List ℕ → Type 0
-Positive clue = AllByRecursion (λ n. 0 < n) clue
 
 -- after a black cell the first run is at least as long as what was passed
 first_run : (k : ℕ) (cells : List ℕ) → (m : ℕ) × (rest : List ℕ) × (runs_after (suc k) cells ≡ m ∷ rest) × (suc k ≤ m)
@@ -47,10 +43,10 @@ too_long k m cells clue le =
 
 -- cells from the start of a run on, and cells after so many black ones of a run
 abbrev Starts : List ℕ → Type 0
-Starts cells = (clue : List ℕ) → Positive clue → matches true (spelled clue) cells ≡ pointwise eqb (runs_after 0 cells) clue
+Starts cells = (clue : List ℕ) → ArePositive clue → matches true (spelled clue) cells ≡ pointwise eqb (runs_after 0 cells) clue
 
 abbrev GoesOn : List ℕ → Type 0
-GoesOn cells = (k d : ℕ) (clue : List ℕ) → Positive clue
+GoesOn cells = (k d : ℕ) (clue : List ℕ) → ArePositive clue
     → matches false (replicate d 1 ++ 0 ∷ spelled clue) cells ≡ pointwise eqb (runs_after (suc k) cells) ((suc k + d) ∷ clue)
 
 starts_none : Starts []
@@ -131,12 +127,12 @@ leads_left spell (suc x ∷ cells) {p} le =
     (sym (next_left spell p)))
     ∙ ap (λ v. eqb v 1 && matches false (drop 1 (drop p spell)) cells) (sym (left_first spell p))
 
-pub leads_runs : (clue cells : List ℕ) → AllByRecursion (λ n. 0 < n) clue → leads (track_of (spelled clue)) 0 cells ≡ has_runs clue cells
+pub leads_runs : (clue cells : List ℕ) → ArePositive clue → leads (track_of (spelled clue)) 0 cells ≡ has_runs clue cells
 unfolding has_runs may_stay
 leads_runs clue cells positive = leads_left (spelled clue) cells (omega arith) ∙ (both cells).0 clue positive
 
 -- what a visit strikes, by the track
-pub strikes_by_track : (clue : List ℕ) (sets : List Set) (k v : ℕ) → AllByRecursion (λ n. 0 < n) clue
+pub strikes_by_track : (clue : List ℕ) (sets : List Set) (k v : ℕ) → ArePositive clue
     → strikes_by_fillings (has_runs clue) sets k v ≡ not (some_leads (track_of (spelled clue)) sets (cell_is k v) 0)
 unfolding some_leads cell_is
 strikes_by_track clue sets k v positive = ap (λ holds. strikes_by_fillings holds sets k v) (sym (fun_ext λ cells. leads_runs clue cells positive))

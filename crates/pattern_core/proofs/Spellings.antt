@@ -2,13 +2,13 @@
 use Rattle.std.proofs.lemmas.Bool.{cases_Bool}
 use Rattle.std.proofs.lemmas.Grind.{common_steps}
 use Rattle.std.proofs.Common.{◌≡◌, ◌∙◌, ℕ, zero, suc, ◌+◌, ◌-◌, ◌<◌, ◌≤◌, Bool, false, cond, ◌||◌, eqb, List, [], ◌∷◌, ◌++◌, length, get_or, drop, replicate, refl, sym, ap, subst, arith, append_assoc, length-append}
-use Rattle.std.specs.List.{AllByRecursion}
 use Rattle.std.proofs.Math.Bool.{or-false, or-true}
 use Rattle.std.proofs.Math.Path.{fun_ext}
 use Rattle.std.proofs.lemmas.Bool.{cases_eq, cases_lt, eq-eqb, ne_eqb}
 use Rattle.std.proofs.lemmas.List.{get_or_append_left, get_or_past, drop_more, length-replicate, replicate-append-replicate}
 use Rattle.gameid_core.specs.BlackRuns.{runs_after, runs}
 use Rattle.gameid_core.specs.Puzzles.{used}
+use Rattle.pattern_core.specs.Lines.{ArePositive}
 use Rattle.pattern_core.specs.Track.{spelled, Track, track_of, may_stay, one_on, IsSpelling, cells_from, clue_along, IsTrack, IsBelow}
 use Rattle.pattern_core.proofs.Roomy.{run_first}
 use Rattle.pattern_core.proofs.SpelledRuns.{length-spelled, track_below}
@@ -120,7 +120,7 @@ run_cells zero (suc n) k rest e = ap (λ l. 0 ∷ l)
     (from_next 0 rest n 0 ∙ ap (λ j. cells_from (λ q. eqb (get_or rest q 2) 1) j 0) (omega arith))
 run_cells (suc m) (suc n) k rest e = ap (λ l. 1 ∷ l) (from_next 1 (replicate m 1 ++ 0 ∷ rest) n 0 ∙ run_cells m n k rest (omega arith))
 
-spelled_runs : (clue : List ℕ) (n : ℕ) → AllByRecursion (λ k. 0 < k) clue → used clue ≤ n
+spelled_runs : (clue : List ℕ) (n : ℕ) → ArePositive clue → used clue ≤ n
     → runs (cells_from (λ q. eqb (get_or (spelled clue) q 2) 1) n 0) ≡ clue
 unfolding spelled
 spelled_runs [] n positive fits = all_white n 0
@@ -129,12 +129,12 @@ spelled_runs (m ∷ clue) n positive fits =
     ∙ ap (λ l. m ∷ l) (spelled_runs clue (n - m - 1) positive.1 (omega arith))
 
 -- a clue is that of its track
-pub clue_back : {clue : List ℕ} {n : ℕ} {t : Track} → AllByRecursion (λ k. 0 < k) clue → used clue < n → t ≡ track_of (spelled clue) → clue_along n t ≡ clue
+pub clue_back : {clue : List ℕ} {n : ℕ} {t : Track} → ArePositive clue → used clue < n → t ≡ track_of (spelled clue) → clue_along n t ≡ clue
 unfolding clue_along track_of
 clue_back {clue} {n} positive fits is = ap (λ u. runs (cells_from u.black n 0)) is ∙ spelled_runs clue n positive (omega arith)
 
 pub track_under : (n : ℕ) (t : Track) → IsTrack n t → IsBelow n t
 track_under n t is = subst (IsBelow n) (sym is.spells) (track_below (spelled _) (omega (arith, is.fits, length-spelled (clue_along n t))))
 
-pub track_of_clue : (clue : List ℕ) {n : ℕ} {t : Track} → AllByRecursion (λ k. 0 < k) clue → used clue < n → t ≡ track_of (spelled clue) → IsTrack n t
+pub track_of_clue : (clue : List ℕ) {n : ℕ} {t : Track} → ArePositive clue → used clue < n → t ≡ track_of (spelled clue) → IsTrack n t
 track_of_clue clue positive fits is = grind (arith, common_steps, cases_Bool, clue_back)

@@ -2,7 +2,6 @@
 use Rattle.std.proofs.lemmas.Bool.{cases_Bool}
 use Rattle.std.proofs.lemmas.Grind.{common_steps}
 use Rattle.std.proofs.Common.{bit_and, ◌≡◌, ◌∙◌, ℕ, zero, suc, ◌+◌, ◌<◌, ◌≤◌, Bool, true, false, ◌&&◌, eqb, List, [], ◌∷◌, length, get_or, drop, set, refl, sym, ap, ap₂, arith, inl, inr}
-use Rattle.std.specs.List.{AllByRecursion}
 use Rattle.std.proofs.Math.Path.{fun_ext}
 use Rattle.std.proofs.Math.Bool.{and-true}
 use Rattle.std.proofs.lemmas.Bool.{cases_eq, and_parts, and_from, eqb-true, true≢false, false_from_ne_true}
@@ -13,7 +12,7 @@ use Rattle.grid_core.proofs.CandidateLemmas.{any_below-some, any_below-here, any
 use Rattle.engine_core.specs.Filling.{Set, some_filling, strikes_by_fillings}
 use Rattle.engine_core.specs.Sets.{has_bit, set_of_bits}
 use Rattle.engine_core.specs.HouseSets.{IsDecided}
-use Rattle.pattern_core.specs.Lines.{has_runs}
+use Rattle.pattern_core.specs.Lines.{has_runs, ArePositive}
 use Rattle.pattern_core.specs.Track.{spelled, Track, IsBelow, track_of, leads, some_leads, set_for, ahead, led, any_cells, cell_is, sets_of, AreRows, AreKept}
 use Rattle.pattern_core.proofs.Leads.{same_tests, leads_next, leads_here, ways_on}
 use Rattle.pattern_core.proofs.SpelledRuns.{strikes_by_track}
@@ -158,7 +157,7 @@ module _ (n : ℕ) (t : Track) (sets : List ℕ) (reached : ℕ → Bool) (at : 
 
 -- ---- all cells
 pub decided_by_track : (clue : List ℕ) {sets kept : List ℕ} {t : Track}
-    → t ≡ track_of (spelled clue) → AllByRecursion (λ n. 0 < n) clue
+    → t ≡ track_of (spelled clue) → ArePositive clue
     → AreKept t sets kept (length sets)
     → IsDecided 2 (strikes_by_fillings (has_runs clue)) sets kept
 decided_by_track clue is positive k = grind (arith, common_steps, cases_Bool, strikes_by_track)
