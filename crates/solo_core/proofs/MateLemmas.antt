@@ -3,8 +3,8 @@
 use Rattle.std.proofs.Common.{◌≡◌, ℕ, ◌<◌, true, false, true≢false, List, [], length, get_or, slice_index, map, refl, sym, ◌∙◌, ap, arith, inl, inr, zero, suc, ◌+◌, Bool, not, eqb, ◌∷◌, ◌++◌, cond, append-nil}
 use Rattle.solo_core.specs.Common.{range_with_len, cases_lt, true_from_ne_false, get_or-map, length-map, get_or_past, get_or-map-range_with_len}
 use Rattle.solo_core.specs.Common.{length-map-range_with_len, has_value, IsShownBy, IsPairing, has_bit, set_of_bits, no_repeat, has_in, is_struck, filter}
-use Rattle.solo_core.specs.Common.{cases_Bool, true≢false, not-true, not_from_false, eqb-true, eq-eqb, map-id, map-range_with_len_more, length-range_with_len}
-use Rattle.solo_core.specs.Common.{get_or-range_with_len, filter-append, AreDifferent, has_place-at, has_place-here, place-filter, place-kept, different-filter}
+use Rattle.solo_core.specs.Common.{cases_Bool, true≢false, not-true, not_from_false, eqb-true, eq-eqb, map-id, filter_of_map_range_with_len_more, length-range_with_len}
+use Rattle.solo_core.specs.Common.{get_or-range_with_len, AreDifferent, has_place-at, has_place-here, place-filter, place-kept, different-filter}
 use Rattle.solo_core.specs.Common.{has_place, nat_tests, strikes_by_fillings, IsDecided}
 use Rattle.engine_core.specs.FillingLaws.{shown_from_test, test_from_shown}
 use Rattle.solo_core.specs.NoRepeatLaws.{own_from_no_repeat, no_repeat_from_different}
@@ -76,13 +76,8 @@ struck_from_none sets n place value none = true_from_ne_false (is_struck n sets 
     none w.0 (pairing_of_filling sets n w.1) w.1.has_it)
 
 -- ---- the rest, cell by cell
-range_more : (k : ℕ) → range_with_len 0 (k + 1) ≡ range_with_len 0 k ++ k ∷ []
-range_more k = sym (map-id _)
-    ∙ map-range_with_len_more (λ j. j) 0 k k (omega arith)
-    ∙ ap (λ xs. xs ++ k ∷ []) (map-id _)
-
 rest-next : (k cells : ℕ) → rest_of (k + 1) cells ≡ rest_of k cells ++ cond (not (has_bit cells k)) (k ∷ []) []
-rest-next k cells = ap (filter (λ j. not (has_bit cells j))) (range_more k) ∙ filter-append (λ j. not (has_bit cells j)) _ (k ∷ [])
+rest-next k cells = simp map-id at (filter_of_map_range_with_len_more (λ j. not (has_bit cells j)) (λ j. j) 0 k k (omega arith))
 
 pub rest-more : (k cells : ℕ) {rest : List ℕ} → rest ≡ rest_of k cells → has_bit cells k ≡ false → rest ++ k ∷ [] ≡ rest_of (k + 1) cells
 rest-more k cells e off = rw e (sym (rest-next k cells ∙ ap (λ b. rest_of k cells ++ cond (not b) (k ∷ []) []) off))
