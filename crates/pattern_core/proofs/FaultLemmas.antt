@@ -65,8 +65,7 @@ module _ (p : Pattern) (g : List ℕ) where
       → ((k : ℕ) → k < line → HasClue p g k) → IsPatternFault p g (Some (Row y))
   first_row y is lt wrong before = first_rest _ (each columns) (each rows ++ []) (Row y)
       (all_each _ columns (λ x low fails. fails (before x (omega arith))))
-      (first_front _ (each rows) [] (Row y)
-      (first_each _ rows y lt (rw is at wrong)
+      (first_front _ (each rows) [] (Row y) (first_each _ rows y lt (rw is at wrong)
       (λ k low fails. fails (before (p.size.w + k) (omega arith)))))
 
 pub ruleset fault_laws = (first_column, first_row, has_runs-is, has_runs-from, solution_from_lines)

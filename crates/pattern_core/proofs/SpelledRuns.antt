@@ -113,8 +113,7 @@ black_not_white v on = ne_eqb v 0 (λ e. let one = eqb-true v 1 on in absurd (om
 leads_left : (spell cells : List ℕ) {p : ℕ} → p ≤ length spell → leads (track_of spell) p cells ≡ matches (may_stay spell p) (drop p spell) cells
 unfolding leads track_of may_stay matches
 leads_left spell [] le = grind (arith, common_steps, cases_Bool, cases_eq, eq-eqb, ne_eqb, le-leb, lt-leb, length-drop)
-leads_left spell (zero ∷ cells) {p} le = ap₂ (λ a b. a || b)
-    (and_same _ (leads _ p cells)
+leads_left spell (zero ∷ cells) {p} le = ap₂ (λ a b. a || b) (and_same _ (leads _ p cells)
     (matches true (drop p spell) cells)
     (λ on. leads_left spell cells le ∙ ap (λ b. matches b (drop p spell) cells) on))
     (and_same _ (leads _ (suc p) cells) (matches true (drop 1 (drop p spell)) cells) (λ on.
@@ -123,8 +122,7 @@ leads_left spell (zero ∷ cells) {p} le = ap₂ (λ a b. a || b)
 leads_left spell (suc x ∷ cells) {p} le =
     and_same _ (leads _ (suc p) cells) (matches false (drop 1 (drop p spell)) cells) (λ on.
     leads_left spell cells (place_low spell p 1 (omega arith) on)
-    ∙ ap₂ (λ b l. matches b l cells) (black_not_white _ on)
-    (sym (next_left spell p)))
+    ∙ ap₂ (λ b l. matches b l cells) (black_not_white _ on) (sym (next_left spell p)))
     ∙ ap (λ v. eqb v 1 && matches false (drop 1 (drop p spell)) cells) (sym (left_first spell p))
 
 pub leads_runs : (clue cells : List ℕ) → ArePositive clue → leads (track_of (spelled clue)) 0 cells ≡ has_runs clue cells

@@ -135,8 +135,7 @@ line_rules-lawful p extent = record {
       by_fillings-closed 2 (line_places p.size h) (has_runs (clue_of p h)) g
       (λ k less. let e = grid.each_cell in let z =
       in_grid p.size {c = slice_index (line_places p.size h) k} lt
-      (has_place-here _ k less) in omega arith)
-      (λ d less. grid.each_value d 0 less)
+      (has_place-here _ k less) in omega arith) (λ d less. grid.each_value d 0 less)
       (ap (has_runs (clue_of p h)) (line_numbers-places p.size g h) ∙ is_solution-line p g good lt) c v on;
   settles = λ settled h K c v lt _ on.
       by_fillings-settled 2 (line_places p.size h) (has_runs (clue_of p h)) K

@@ -17,8 +17,7 @@ use Rattle.solo_core.specs.declared.houses.scope.VisitName.TheVariants as scope
 module _ {X : Type 0} (f : ℕ → X) {n : ℕ} (rest : List X) {h : ℕ} (d : X) where
   pub part_first : h < n → get_or (map f (range_with_len 0 n) ++ rest) h d ≡ f h
   part_first lt =
-      get_or_append_left _ rest d h
-      (omega (arith, length-map-range_with_len f 0 n))
+      get_or_append_left _ rest d h (omega (arith, length-map-range_with_len f 0 n))
       ∙ get_or-map-range_with_len f 0 n h h d lt (omega arith)
 
   pub part_later : n ≤ h → get_or (map f (range_with_len 0 n) ++ rest) h d ≡ get_or rest (h - n) d

@@ -107,8 +107,7 @@ module _ (n cells : ℕ) where
           rw e at (has_place-here (range_with_len 0 n) k (omega (arith, length-range_with_len 0 n)))
 
   pub rest-different : AreDifferent rest
-  rest-different = different-filter (λ k. not (has_bit cells k)) _ (λ j k lj lk same.
-      omega (
+  rest-different = different-filter (λ k. not (has_bit cells k)) _ (λ j k lj lk same. omega (
         arith,
         length-range_with_len 0 n,
         get_or-range_with_len 0 n j 0 (omega (arith, length-range_with_len 0 n)),

@@ -93,8 +93,7 @@ module _ {n : ℕ} {old : List ℕ} (square : length old ≡ n) {some single sha
     inside = inside;
     keeps =
         λ mates p k lk. true_from_ne_false (has_in new k (slice_index mates k))
-        (λ off. not_dropped mates p k lk
-        (dropped k _ lk (p.in_range k lk) (p.joined k lk) off));
+        (λ off. not_dropped mates p k lk (dropped k _ lk (p.in_range k lk) (p.joined k lk) off));
   }
 
   -- a cell with a value that some cell has alone, and that no two have

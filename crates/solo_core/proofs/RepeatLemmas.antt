@@ -159,8 +159,7 @@ module _ (p : Solo) (ok : IsSolo p) (g : List ℕ) where
       → no_repeat_in (get_or (houses_of p) h d) ≡ true)
       → IsFirstOf (FailsSolo p g) (house_tests p) None
   houses_differ fine =
-      house_by Holding (λ h d lt. fault_holds _
-      (none_repeats _ (all_houses p h d lt) (fine h d lt)))
+      house_by Holding (λ h d lt. fault_holds _ (none_repeats _ (all_houses p h d lt) (fine h d lt)))
 
   -- ---- the grids that no test fails are the solutions
   pub solo_sound : IsGrid (solo_cells p) (solo_n p) g → NoneFails (FailsSolo p g) (given_tests p ++ house_tests p) → IsSoloSolution p g
@@ -202,8 +201,7 @@ module _ (p : Solo) (ok : IsSolo p) (g : List ℕ) where
   pub solo_tells : IsGrid (solo_cells p) (solo_n p) g → (fault : Option SoloFault) (told : Bool)
       → IsSoloFault p g fault → is_some fault ≡ not told → told ≡ is_solo_solution p g
   solo_tells grid fault told is e =
-      none_tells _ _ solo_none told
-      _ (rule_from_test p ok g grid) (test_from_rule p ok g) fault is e
+      none_tells _ _ solo_none told _ (rule_from_test p ok g grid) (test_from_rule p ok g) fault is e
 
 -- one house more that repeats nothing
 pub fine_more : (p : Solo) (g : List ℕ) (k : ℕ) (house : NamedHouse) → k < length (houses_of p)

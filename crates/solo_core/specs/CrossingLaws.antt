@@ -129,8 +129,7 @@ module _ (block line : List ℕ) where
 
   pub crossing-different : AreDifferent block → AreDifferent line → AreDifferent places
   crossing-different in_block in_line =
-      different-from _
-      (distinct-append block rest (distinct-from block in_block)
+      different-from _ (distinct-append block rest (distinct-from block in_block)
       (distinct-from rest (different-filter _ line in_line))
       (λ d here there. true≢false (sym here ∙ not-true _ (place-filter _ line d there).1)))
 

@@ -40,10 +40,8 @@ by_function f index {n} {lies} within lies_at back index_in covers = record {
 
 -- ---- lines of a square grid
 row_lists : (n y : ℕ) → y < n → Lists (map (λ x. y * n + x) (range_with_len 0 n)) n (n * n) (λ place. eqb (place / n) y)
-row_lists n y lt = by_function (λ x. y * n + x) _
-    (λ k l. mul-add-lt y n k n lt l)
-    (λ k l. eq-eqb _ y (div-mul-add y n k l))
-    (λ k l. mod-mul-add y n k l)
+row_lists n y lt = by_function (λ x. y * n + x) _ (λ k l. mul-add-lt y n k n lt l)
+    (λ k l. eq-eqb _ y (div-mul-add y n k l)) (λ k l. mod-mul-add y n k l)
     (λ place l. mod_below place n (omega arith))
     (λ place l on. ap (λ u. u * n + place % n) (sym (eqb-true (place / n) y on)) ∙ div-add-mod' place n)
 
@@ -51,8 +49,7 @@ row_lists n y lt = by_function (λ x. y * n + x) _
 falling_lists : {n : ℕ} (f : ℕ → ℕ) → 0 < n → ((y : ℕ) → y < n → f y < n)
     → Lists (map (λ y. y * n + f y) (range_with_len 0 n)) n (n * n)
     (λ place. eqb (place % n) (f (place / n)))
-falling_lists {n} f pos f_in = by_function _ _
-    (λ k l. mul-add-lt k n (f k) n l (f_in k l))
+falling_lists {n} f pos f_in = by_function _ _ (λ k l. mul-add-lt k n (f k) n l (f_in k l))
     (λ k l. eq-eqb _ _ (mod-mul-add k n (f k) (f_in k l) ∙ ap f (sym (div-mul-add k n (f k) (f_in k l)))))
     (λ k l. div-mul-add k n (f k) (f_in k l))
     (λ place l. div_below place n n (omega arith) l)
@@ -118,11 +115,8 @@ module _ (c r b : ℕ) (c_pos : 0 < c) (r_pos : 0 < r) (b_in : b < c * r) where
       rw (band_is, stack_is, tall_is, wide_is, div-add-mod' y c, div-add-mod' x r) (div-add-mod' place (c * r))
 
   block_lists : Lists (block_places c r b) (c * r) ((c * r) * (c * r)) (λ place. eqb (block_at place) b)
-  block_lists = by_function _ index_at
-      (λ k l. block-within c r b k b_in l)
-      (λ k l. eq-eqb _ b (in_block k l))
-      (λ k l. at_index k l)
-      (λ place l. index_below place)
+  block_lists = by_function _ index_at (λ k l. block-within c r b k b_in l)
+      (λ k l. eq-eqb _ b (in_block k l)) (λ k l. at_index k l) (λ place l. index_below place)
       (λ place l on. covered (eqb-true _ b on))
 
 -- ---- the houses of a puzzle

@@ -58,8 +58,7 @@ strikes_stay cells values at at' down place value = or_stays
 
 pub singles-monotone : (values : ℕ) → IsMonotone (strikes_by_singles values)
 singles-monotone values smaller larger k v inside on =
-    rw inside.as_many (strikes_stay _ values _ _
-    (λ j w lj lw. inside.inside j w (omega arith)) k v on)
+    rw inside.as_many (strikes_stay _ values _ _ (λ j w lj lw. inside.inside j w (omega arith)) k v on)
 
 -- from cells that have one value each, all different, nothing is struck
 module _ (n : ℕ) (f : List ℕ) (long : length f ≡ n) (holds : no_repeat f ≡ true) (small : (k : ℕ) → k < n → get_or f k 0 < n) where

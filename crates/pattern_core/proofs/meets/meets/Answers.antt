@@ -8,9 +8,7 @@ use Rattle.pattern_core.proofs.meets.meets.Goals as goal
 
 pub loop-k-init : goal.loop-k-init
 loop-k-init g c =
-    at_first _
-    (λ p. leads (along g.P.Slots.has c.steps-steps.result) p
-    _)
+    at_first _ (λ p. leads (along g.P.Slots.has c.steps-steps.result) p _)
     c.steps-steps.ensures.below.first c.first-reached.ensures
 
 pub loop-k-preserved : goal.loop-k-preserved

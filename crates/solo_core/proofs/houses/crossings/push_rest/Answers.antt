@@ -6,8 +6,7 @@ use Rattle.solo_core.proofs.houses.crossings.push_rest.Goals as goal
 
 pub push-requires-clause-fits : goal.push-requires-clause-fits
 push-requires-clause-fits c =
-    rest-fits _
-    c.args.list.now _ c.loop-k.k _
+    rest-fits _ c.args.list.now _ c.loop-k.k _
     c.loop-k.list c.loop-k.invariant (omega arith) c.requires.fits
 
 pub loop-k-preserved-then-lies : goal.loop-k-preserved-then-lies
