@@ -8,7 +8,7 @@ pub range_more : (k : ℕ) → range_with_len 0 (k + 1) ≡ range_with_len 0 k +
 range_more k = simp map-id at (map-range_with_len_more (λ x. x) 0 k k (omega arith))
 
 filter_more : (p : ℕ → Bool) (k : ℕ) → filter p (range_with_len 0 (k + 1)) ≡ filter p (range_with_len 0 k) ++ cond (p k) (k ∷ []) []
-filter_more p k = rw range_more (filter-append p (range_with_len 0 k) (k ∷ []))
+filter_more p k = rw range_more (filter-append p _ (k ∷ []))
 
 pub filter_kept : (p : ℕ → Bool) (k : ℕ) (xs ys : List ℕ) → p k ≡ true → xs ≡ filter p (range_with_len 0 k) → ys ≡ xs ++ k ∷ []
     → ys ≡ filter p (range_with_len 0 (k + 1))
@@ -23,7 +23,7 @@ passes_kept p zero q lt on = absurd (omega arith)
 passes_kept p (suc n) q lt on =
     subst (λ xs. Contains xs q) (sym (ap (λ k. filter p (range_with_len 0 k)) (sym (add-one n)) ∙ filter_more p n)) (elim (cases_eq q n) [
       | inl e ↦ Contains-append_right (filter p (range_with_len 0 n)) (cond (p n) (n ∷ []) []) q (grind arith)
-      | inr ne ↦ Contains-append_left (filter p (range_with_len 0 n)) (cond (p n) (n ∷ []) []) q (passes_kept p n q (omega arith) on)
+      | inr ne ↦ Contains-append_left _ _ q (passes_kept p n q (omega arith) on)
     ])
 
 -- no number after the head is the head

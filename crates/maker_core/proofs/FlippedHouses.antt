@@ -63,9 +63,9 @@ module _ (p : Solo) (c_low : 0 < p.c) (r_low : 0 < p.r) (across down : Bool) whe
 
   block_in : {place : ℕ} → place < solo_cells p → block_of p place < solo_n p
   block_in {place} within =
-      mul-add-lt (row_of p place / p.c) p.c (column_of p place / p.r) p.r
-      (div_below (row_of p place) p.c p.r c_low (let low = row_below within in omega (arith, low, turned)))
-      (div_below (column_of p place) p.r p.c r_low (column_below within))
+      mul-add-lt _ p.c _ p.r
+      (div_below _ p.c p.r c_low (let low = row_below within in omega (arith, low, turned)))
+      (div_below _ p.r p.c r_low (column_below within))
 
   same_block : (j k : ℕ) → j < solo_cells p → k < solo_cells p → block_of p j ≡ block_of p k → block_of p (from j) ≡ block_of p (from k)
   same_block j k lj lk e =
@@ -111,7 +111,7 @@ pub flipped-solution : (c r : ℕ) (x : Bool) (givens g : List ℕ) → 0 < c �
     → IsSoloSolution (all_given c r x (flipped (c * r) across down g)) (flipped (c * r) across down g)
 flipped-solution c r x givens g c_low r_low across down s = record {
   grid = flipped-grid (c * r) across down g s.grid;
-  givens = λ place lt low. given_itself c r x (flipped (c * r) across down g) place (let long = length-flipped (c * r) across down g in omega arith);
+  givens = λ place lt low. given_itself c r x (flipped (c * r) across down g) place (omega (arith, length-flipped (c * r) across down g));
   different = λ house is j k lj lk ne a b e.
       let n = c * r in
       let all = all_given c r x (flipped n across down g) in

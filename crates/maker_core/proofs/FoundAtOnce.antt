@@ -48,6 +48,6 @@ module _ {p : RuleSystem} (laws : IsLawful p) {g : List ℕ} (solves : Solves p 
       λ h other.
           let long = solves.grid.each_cell in
           let long' = other.grid.each_cell in
-          same_number_lists g h (omega arith) (λ k lt. (single-is g k (slice_index h k)
+          same_number_lists g h (omega arith) (λ k lt. (single-is g k _
           (inside k _ (laws.solutions_start h other.grid other.good k _ (single-at h k (omega arith))))).1),
     )

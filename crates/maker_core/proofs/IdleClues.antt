@@ -21,7 +21,7 @@ needed_at : {A : Type 0} (game : CluedGame A) {budget : ℕ} (all p : A) (kept :
 needed_at game {budget} all p kept place reasons needed listed =
     let entry : Kept = record { place = place; why = Needed } in
     let below : listed.0 < length kept = omega (arith, listed.1, length-map kept (λ k. k.place)) in
-    let here : (get_or kept listed.0 entry).place ≡ place = sym (get_or-map (λ k. k.place) kept listed.0 entry place below) ∙ listed.2 in
+    let here = sym (get_or-map _ kept listed.0 entry place below) ∙ listed.2 in
     subst (λ x. IsReason game budget all p x Needed) here
     (subst (λ w. IsReason game budget all p (get_or kept listed.0 entry).place w) (needed listed.0 entry below)
     (reasons.reasons listed.0 entry below))

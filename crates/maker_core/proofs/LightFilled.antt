@@ -19,7 +19,7 @@ black_at size cells all c = grind (arith, all c, get_or-map, get_or_past, length
 
 black_long : (size : Extent) (cells : List ℕ) → length cells ≡ size.w * size.h → length (lights_of size cells).cells ≡ light_cells (lights_of size cells)
 unfolding lights_of
-black_long size cells long = length-map cells (λ v. if v == 1 then Black else White) ∙ long
+black_long size cells long = length-map cells _ ∙ long
 
 pub none_white : (size : Extent) (f : LightFilling) → length f.black ≡ size.w * size.h → AreAll 1 f.black → (c : ℕ) → white (light_puzzle_of size f) c ≡ false
 unfolding light_puzzle_of
@@ -32,7 +32,7 @@ again_at p g long c = rw (same_white p g long c) refl
 
 again : (p : Light) (g : List ℕ) → length p.cells ≡ light_cells p → with_numbers p g ≡ with_numbers (with_numbers p g) g
 unfolding with_numbers
-again p g long = ap (λ (f : ℕ → LightCell). record { size = p.size; cells = map f (range_with_len 0 (light_cells p)) }) (λ i c. again_at p g long c i)
+again p g long = ap (λ f. record { size = p.size; cells = map f (range_with_len 0 (light_cells p)) }) (λ i c. again_at p g long c i)
 
 pub numbers_again : (size : Extent) (f : LightFilling) → length f.black ≡ size.w * size.h
     → light_puzzle_of size f ≡ with_numbers (light_puzzle_of size f) f.bulbs

@@ -35,7 +35,7 @@ all_black size f budget p is laws lit black =
     let none : (c : ℕ) → white p c ≡ false = λ c. rw is (none_white size f lit.black.each_cell black c) in
     let good : solves_lights p f.bulbs ≡ true = rw is lit.solved in
     ap is_one (found_at_once laws (record { grid = rw is lit.bulbs; good = good })
-    (λ c v lt few here. start_black p c v (none c) few (closure_inside (light_rules p) (light_rules p).start c v here)
+    (λ c v lt few here. start_black p c v (none c) few (closure_inside _ (light_rules p).start c v here)
     ∙ sym (no_bulb_on p f.bulbs c good lt (none c))) budget)
 
 pub ruleset black_laws = (all_black, light-lawful)

@@ -38,12 +38,12 @@ sees_itself p a = grind arith
 pub seen_bulb : (p : Light) (g : List ℕ) (c : ℕ) → sees_bulb p g c ≡ true → (d : ℕ) × (d < light_cells p) × (sees p c d ≡ true) × (bulb g d ≡ true)
 unfolding sees_bulb
 seen_bulb p g c on =
-    let w = any_below-some (λ d. sees p c d && bulb g d) (light_cells p) on in
+    let w = any_below-some _ _ on in
     (w.0, w.1, grind arith, grind arith)
 
 pub bulb_seen : (p : Light) (g : List ℕ) (c d : ℕ) → d < light_cells p → sees p c d ≡ true → bulb g d ≡ true → sees_bulb p g c ≡ true
 unfolding sees_bulb
-bulb_seen p g c d lt sight on = any_below-here (λ d. sees p c d && bulb g d) (light_cells p) d lt (and_from _ _ sight on)
+bulb_seen p g c d lt sight on = any_below-here _ _ d lt (and_from _ _ sight on)
 
 -- ---- the white cells
 pub white_all : (p : Light) (k : ℕ) (xs : List ℕ) → xs ≡ filter (white p) (range_with_len 0 k) → k ≡ light_cells p → xs ≡ white_places p

@@ -20,7 +20,7 @@ each_line of none size g xs long columns rows =
       | inl column ↦ columns line column ∙ ap of (sym (line_numbers-column size g line column))
       | inr row ↦
           let back : size.w + (line - size.w) ≡ line = omega arith in
-          ap (λ n. get_or xs n none) (sym back) ∙ rows (line - size.w) (omega arith) ∙ ap of (sym (line_numbers-row size g line row))
+          ap (λ n. get_or xs n none) (sym back) ∙ rows _ (omega arith) ∙ ap of (sym (line_numbers-row size g line row))
     ])
 
 pub pattern_is : (size : Extent) (g : List ℕ) (p : Pattern) → length p.clues ≡ lines_of p.size → HasRuns size g p → p ≡ clued_by size g
@@ -31,7 +31,7 @@ pattern_is size g p lines has =
 -- that grid is a solution of it
 pub pattern_solved : (size : Extent) (g : List ℕ) (p : Pattern) → HasRuns size g p → IsGrid (size.w * size.h) 2 g → IsPatternSolution p g
 pattern_solved size g p has grid =
-    let w = subst (λ (s : Extent). HasRuns s g p × IsGrid (s.w * s.h) 2 g) (sym has.sized) (has, grid) in
+    let w = subst (λ s. HasRuns s g p × IsGrid (s.w * s.h) 2 g) (sym has.sized) (has, grid) in
     record { grid = w.1; columns = λ x lt. sym (w.0.columns x lt); rows = λ y lt. sym (w.0.rows y lt) }
 
 -- what the making of a puzzle of a grid cites

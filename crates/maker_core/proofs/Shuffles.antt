@@ -26,9 +26,9 @@ draw_is range s some within words =
     let w = (next_u32 s).0 in
     let high = w * range / 2 ^ 32 in
     let low = w * range % 2 ^ 32 in
-    let fits : w < 2 ^ 32 = word_below words in
-    let room : (w + 1) * range ≤ 2 ^ 32 * range = mul-le (w + 1) range (2 ^ 32) range (omega arith) (omega arith) in
-    let under : high < range = div_below (w * range) (2 ^ 32) range (omega arith) (omega arith) in
+    let fits = word_below words in
+    let room = mul-le (w + 1) range (2 ^ 32) range (omega arith) (omega arith) in
+    let under = div_below (w * range) (2 ^ 32) range (omega arith) (omega arith) in
     let left = words_left words in
     cond_both (nat_lt (2 ^ 32 - range) low) _ _ (IsDrawnBelow range)
     (λ carried. record {
@@ -68,11 +68,11 @@ record IsRefilled (n : ℕ) (r : ℕ × ℕ × Stream) : Type 0 where
 
 refill_is : (c : Chooser) (s : Stream) → IsChooser c → HasWords s → c.n + 1 < 2 ^ 32 → IsRefilled c.n (chooser_refill c s)
 refill_is c s is words within =
-    let m : ℕ = c.n + 1 in
-    let chunk : IsChunk m (chunk_of m) = chunk_is m within in
+    let m = c.n + 1 in
+    let chunk = chunk_is m within in
     let positive : 0 < (chunk_of m).0 = rw chunk.product (rising_positive m (chunk_of m).1 (omega arith)) in
-    let drawn : IsDrawnBelow (chunk_of m).0 (canon (2 ^ 32) next_u32 (chunk_of m).0 s) =
-    draw_is (chunk_of m).0 s positive (let w = chunk.within in omega arith) words in
+    let drawn =
+    draw_is (chunk_of m).0 s positive (omega arith) words in
     cond_both (c.left == 0) _ _ (IsRefilled c.n)
     (λ none. record { some = chunk.some; room = rw (← chunk.product) drawn.below; words = drawn.words })
     (λ left. let low : 0 < c.left = grind arith in record { some = low; room = is.room low; words = words })
@@ -86,17 +86,17 @@ record IsDrawnNext (n : ℕ) (d : ℕ × Chooser × Stream) : Type 0 where
 
 next_is : (c : Chooser) (s : Stream) → IsChooser c → HasWords s → c.n + 1 < 2 ^ 32 → IsDrawnNext c.n (chooser_next c s)
 next_is c s is words within =
-    let r : ℕ × ℕ × Stream = chooser_refill c s in
-    let filled : IsRefilled c.n r = refill_is c s is words within in
+    let r = chooser_refill c s in
+    let filled = refill_is c s is words within in
     cond_both (r.1 == 1) _ _ (IsDrawnNext c.n)
     (λ last. record {
-      index = let low = last_below r.0 (c.n + 1) (rw (eqb-true r.1 1 last) at filled.room) in omega arith;
+      index = omega (arith, last_below r.0 (c.n + 1) (rw (eqb-true r.1 1 last) at filled.room));
       bound = refl;
       chooser = record { room = λ none. absurd (omega arith) };
       words = filled.words;
     })
     (λ more. record {
-      index = let low = mod_below r.0 (c.n + 1) (omega arith) in omega arith;
+      index = omega (arith, mod_below r.0 (c.n + 1) (omega arith));
       bound = refl;
       chooser = record {
         room = λ some. let e : r.1 ≡ suc (r.1 - 1) = let f = filled.some in omega arith in

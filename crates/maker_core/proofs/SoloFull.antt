@@ -16,11 +16,11 @@ pub written : (xs : List ℕ) (m k v : ℕ) → k < length xs → length xs ≤ 
     → slice_set (map suc (take k xs) ++ replicate (m - k) 0) k v ≡ map suc (take (k + 1) xs) ++ replicate (m - (k + 1)) 0
 written xs m k v lt room is =
     let front = map suc (take k xs) in
-    let rest : List ℕ = replicate (m - (k + 1)) 0 in
+    let rest = replicate (m - (k + 1)) 0 in
     let e : m - k ≡ suc (m - (k + 1)) = omega arith in
     let next : suc (slice_index xs k) ≡ v = omega arith in
     rw e (set_at front 0 rest v k (length-map (take k xs) suc ∙ length-take-le k xs (omega arith)))
-    ∙ sym (ap (λ ys. ys ++ rest) (map_more suc xs k 0 lt) ∙ append_assoc front (suc (slice_index xs k) ∷ []) rest ∙ ap (λ z. front ++ z ∷ rest) next)
+    ∙ sym (ap (λ ys. ys ++ rest) (map_more suc xs k 0 lt) ∙ append_assoc front _ rest ∙ ap (λ z. front ++ z ∷ rest) next)
 
 -- the puzzle whose first k cells have the numbers of a list, and whose other cells are blank
 abbrev pub given_first : ℕ → ℕ → Bool → List ℕ → ℕ → Solo

@@ -25,7 +25,7 @@ pub found_solves : (p : RuleSystem) {found first : Option (List ℕ)} (second : 
     → IsAnswer answer first second said → IsTrueOf p said
     → IfSome found (Solves p)
 found_solves p second answer said lent is true_of =
-    subst (λ (f : Option (List ℕ)). IfSome f (Solves p)) (sym (lent ∙ first_is answer second said is)) (first_solves p said true_of)
+    subst (λ f. IfSome f (Solves p)) (sym (lent ∙ first_is answer second said is)) (first_solves p said true_of)
 
 -- ---- the top row
 pub room : (c r : ℕ) → IsSoloSize c r → c * r ≤ (c * r) * (c * r)
@@ -78,7 +78,7 @@ pub x-filling-solves : {c r n : ℕ} (t : Stream) {u : Stream} {numbers : List �
     → p ≡ top_row_given c r numbers → q ≡ houses_rules p → IfSome found (Solves q)
     → (filling, u) ≡ flipped_by_draw n found t → IfSome filling (λ g. IsSoloSolution (all_given c r true g) g)
 x-filling-solves {c} {r} t {numbers} found filling size order is top rules solves flipped =
-    rw (ap (λ (z : Option (List ℕ) × Stream). z.0) (rw is at flipped)) (flipped-found c r numbers size order found t (rw (rules, top) at solves))
+    rw (ap (λ z. z.0) (rw is at flipped)) (flipped-found c r numbers size order found t (rw (rules, top) at solves))
 
 -- what the writing of the top row cites
 pub ruleset top_laws = (written, top-all, room)

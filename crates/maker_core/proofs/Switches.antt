@@ -15,7 +15,7 @@ undone g i u {was} e is same f = f ∙ (ap (λ xs. slice_set xs i was) (same ∙
 pub told_by : {p : Pattern} (g : List ℕ) {h : List ℕ} (fault : Option PatternFault) {told : Bool} → IsPatternFault p g fault
     → is_some fault ≡ not told → g ≡ h → told ≡ true ↔ IsPatternSolution p h
 told_by {p} g fault {told} check e same =
-    rw same at (tells (FailsPattern p g) (pattern_tests p) (pattern_none p g) told fault check e)
+    rw same at (tells _ _ (pattern_none p g) told fault check e)
 
 -- no run that begins at one place more may be turned
 pub none_more : {p : Pattern} {g : List ℕ} {place : ℕ}
@@ -34,8 +34,8 @@ none_more {p} {place} none here x y lt below begins has = elim (cases_lt (y * p.
 -- the last cell written has another number than before
 pub turned_other : (g before h : List ℕ) (i : ℕ) → i < length before → slice_index g i ≡ 1 → h ≡ slice_set before i 0 → h ≢ g
 turned_other g before h i lt black e same =
-    let white : slice_index h i ≡ 0 = ap (λ xs. slice_index xs i) e ∙ get_or-set_same before i 0 0 lt in
-    let here : slice_index h i ≡ 1 = ap (λ xs. slice_index xs i) same ∙ black in
+    let white = ap (λ xs. slice_index xs i) e ∙ get_or-set_same before i 0 0 lt in
+    let here = ap (λ xs. slice_index xs i) same ∙ black in
     absurd (omega (arith, white, here))
 
 -- two solutions refute a verdict of one
@@ -47,7 +47,7 @@ two_fail rules (GaveUp first) true_of sg sh ne = refl
 
 pub other_fails : {p : Pattern} {g : List ℕ} (budget : ℕ) → IsExtent p.size → IsPatternSolution p g → HasOther p g → false ≡ has_one (line_rules p) budget
 other_fails {p} {g} budget extent good other =
-    sym (two_fail (line_rules p) (verdict_of (line_rules p) budget) (outcome-true (line_rules p) (line_rules-lawful p extent) budget)
+    sym (two_fail _ _ (outcome-true _ (line_rules-lawful p extent) budget)
     (record { grid = good.grid; good = is_solution-from p g good }) (record { grid = other.1.grid; good = is_solution-from p other.0 other.1 }) other.2)
 
 -- what the turning of four cells cites

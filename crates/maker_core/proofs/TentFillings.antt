@@ -14,7 +14,7 @@ free_all size filling c is all = is ∙ ap (λ k. filter (is_free filling) (step
 
 pub free_few : (size : Extent) (filling : TentFilling) (c : ℕ) → length (free_cells_beside size filling c) ≤ 4
 unfolding free_cells_beside
-free_few size filling c = let a = filter-few (is_free filling) (steps size c 4) in let b = steps-few size c 4 in omega arith
+free_few size filling c = omega (arith, filter-few (is_free filling) (steps size c 4), steps-few size c 4)
 
 pub free_place : (size : Extent) (filling : TentFilling) (c t : ℕ) → has_place (free_cells_beside size filling c) t ≡ true
     → (has_place (steps size c 4) t ≡ true) × (is_free filling t ≡ true)
@@ -28,7 +28,7 @@ pub placed_is : {size : Extent} {filling new : TentFilling} {c k : ℕ} (free : 
 placed_is {k} free is below may trees tents = record {
   may = may;
   tree = slice_index free k;
-  free = subst (λ (xs : List ℕ). has_place xs (slice_index free k) ≡ true) is (has_place-here free k below);
+  free = subst (λ xs. has_place xs (slice_index free k) ≡ true) is (has_place-here free k below);
   trees = trees;
   tents = tents;
 }
@@ -38,7 +38,7 @@ pub free_in : (size : Extent) (filling : TentFilling) (c k : ℕ) (free : List �
     → free ≡ free_cells_beside size filling c → k < length free → slice_index free k < size.w * size.h
 free_in size filling c k free lt is below =
     beside-in size c (slice_index free k) (wide size lt) lt
-    (free_place size filling c (slice_index free k) (subst (λ (xs : List ℕ). has_place xs (slice_index free k) ≡ true) is (has_place-here free k below))).0
+    (free_place size filling c (slice_index free k) (subst (λ xs. has_place xs (slice_index free k) ≡ true) is (has_place-here free k below))).0
 
 -- ---- the cells in turn
 pub none_after : (size : Extent) (order : List ℕ) {filling : TentFilling} {s : Stream} → filling ≡ no_tents size

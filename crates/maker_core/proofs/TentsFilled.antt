@@ -15,9 +15,9 @@ record IsTakenBy (size : Extent) (old : TentFilling) (c : ℕ) (q : TentFilling 
 place_takes : (size : Extent) {filling : TentFilling} (c : ℕ) (s : Stream) → may_have_tent size filling c ≡ true → HasWords s
     → IsTakenBy size filling c (place_tent size filling c s)
 place_takes size {filling} c s may words =
-    let free : List ℕ = free_cells_beside size filling c in
+    let free = free_cells_beside size filling c in
     let few = free_few size filling c in
-    let drawn : IsDrawnBelow (length free) (draw_below (length free) s) = draw_is (length free) s (grind arith) (omega arith) words in
+    let drawn = draw_is (length free) s (grind arith) (omega arith) words in
     record { taken = inr (placed_is free refl drawn.below may refl refl); words = drawn.words }
 
 cell_takes : (size : Extent) (filling : TentFilling) (c : ℕ) (s : Stream) → HasWords s → IsTakenBy size filling c (take_cell size filling c s)

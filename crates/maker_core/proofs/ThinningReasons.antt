@@ -27,7 +27,7 @@ taken_more : (whys : List (Option Why)) (k : ℕ) (o : Option Why) → k < lengt
     → reasons_from 0 (take (k + 1) whys) ≡ reasons_from 0 (take k whys) ++ one_reason k o
 taken_more whys k o below is =
     ap (reasons_from 0) (take_more whys k None below ∙ ap (λ x. take k whys ++ x ∷ []) is)
-    ∙ reasons_more (take k whys) o 0 k (omega (arith, length-take k whys))
+    ∙ reasons_more _ o 0 k (omega (arith, length-take k whys))
 
 pub reason_kept : (whys : List (Option Why)) {k : ℕ} {why : Why} {before after : List Kept} → k < length whys → get_or whys k None ≡ Some why
     → before ≡ reasons_from 0 (take k whys) → after ≡ before ++ record { place = k; why = why } ∷ [] → after ≡ reasons_from 0 (take (k + 1) whys)

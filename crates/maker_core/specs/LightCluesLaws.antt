@@ -55,13 +55,13 @@ unfolding with_cells number_right black_right bulb_right lit_right sees_bulb see
 lit_stays p cells g same clues lit =
     let parts = lit-parts (with_cells p.size cells) g lit in
     let q = with_cells p.size cells in
-    lit-from p g (all_below-from (black_right p g) (light_cells p)
-    (λ c below. simp whites (all_below-at (black_right q g) (light_cells p) c parts.black below)))
-    (all_below-from (number_right p g) (light_cells p) (λ c below.
+    lit-from p g (all_below-from _ _
+    (λ c below. simp whites (all_below-at _ _ c parts.black below)))
+    (all_below-from _ _ (λ c below.
     number_stays (slice_index_or p.cells c Black) (slice_index_or cells c Black) _ (clues c)
-    (all_below-at (number_right q g) (light_cells p) c parts.number below)))
-    (all_below-from (bulb_right p g) (light_cells p) (λ c below. simp whites (all_below-at (bulb_right q g) (light_cells p) c parts.seen below)))
-    (all_below-from (lit_right p g) (light_cells p) (λ c below. simp whites (all_below-at (lit_right q g) (light_cells p) c parts.lit below)))
+    (all_below-at _ _ c parts.number below)))
+    (all_below-from _ _ (λ c below. simp whites (all_below-at _ _ c parts.seen below)))
+    (all_below-from _ _ (λ c below. simp whites (all_below-at _ _ c parts.lit below)))
   where
     whites : (c : ℕ) → white p c ≡ white (with_cells p.size cells) c
     whites c = ap (λ wh. wh c) (same_white p (with_cells p.size cells) same)
@@ -96,10 +96,10 @@ fewer_houses : (p : Light) (place n : ℕ) → number_clue (slice_index_or p.cel
     → IsFewer (light_houses (without_number p place)) (light_houses p)
 unfolding without_number light_houses row_run column_run seen_from begins_row_run begins_column_run joined_in_row joined_in_column
 fewer_houses p place n e =
-    fewer_append (fewer_below (number_house (without_number p place)) (number_house p) (light_cells p) (λ c. by c (cases_eq c place)))
-    (fewer_append (fewer_below (row_house (without_number p place)) (row_house p) (light_cells p) (λ c. inl (simp (joined_row, white_at))))
-    (fewer_append (fewer_below (column_house (without_number p place)) (column_house p) (light_cells p) (λ c. inl (simp (joined_column, white_at))))
-    (fewer_below (lit_house (without_number p place)) (lit_house p) (light_cells p) (λ c. inl (simp (joined_row, joined_column, white_at))))))
+    fewer_append (fewer_below (number_house (without_number p place)) _ _ (λ c. by c (cases_eq c place)))
+    (fewer_append (fewer_below (row_house (without_number p place)) _ _ (λ c. inl (simp (joined_row, white_at))))
+    (fewer_append (fewer_below (column_house (without_number p place)) _ _ (λ c. inl (simp (joined_column, white_at))))
+    (fewer_below (lit_house (without_number p place)) _ _ (λ c. inl (simp (joined_row, joined_column, white_at))))))
   where
     whites : white (without_number p place) ≡ white p
     whites = same_white (without_number p place) p (same_without p place n e).black

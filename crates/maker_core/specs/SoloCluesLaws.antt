@@ -27,7 +27,7 @@ resized p q same =
 
 pub clue_is : (v n : ℕ) → given_clue v ≡ Some n → v ≡ n
 clue_is zero n e = absurd (none-some n e)
-clue_is (suc v) n e = let same : Some (suc v) ≡ Some n = e in cc
+clue_is (suc v) n e = let same = e in cc
 
 pub is_clue : (v : ℕ) → 1 ≤ v → given_clue v ≡ Some v
 is_clue zero low = absurd (omega arith)
@@ -52,7 +52,7 @@ given_stays : (p : Solo) (givens g : List ℕ) (place : ℕ) → HasClues p give
     → (1 ≤ slice_index givens place → slice_index g place + 1 ≡ slice_index givens place)
     → 1 ≤ slice_index p.givens place → slice_index g place + 1 ≡ slice_index p.givens place
 given_stays p givens g place clues stands low =
-    let same = clue_is (slice_index givens place) (slice_index p.givens place) (clues place (slice_index p.givens place) (is_clue _ low)) in
+    let same = clue_is _ _ (clues place (slice_index p.givens place) (is_clue _ low)) in
     stands (omega (arith, low, same)) ∙ same
 
 -- what differs in a puzzle of the same size differs in the puzzle
@@ -72,12 +72,12 @@ test_stays : (p : Solo) (givens g : List ℕ) → HasClues p givens → is_solo_
 unfolding is_solo_solution
 test_stays p givens g clues on =
     let q = solo_puzzle p.c p.r p.x givens in
-    let parts = and_parts (all_below (given_stands q g) (solo_cells q)) _ on in
+    let parts = and_parts _ _ on in
     and_from _ _
-    (all_below-from (given_stands p g) (solo_cells p) (λ place below.
+    (all_below-from _ _ (λ place below.
     test_from_given p g place
     (given_stays p givens g place clues
-    (given_from_test q g place (all_below-at (given_stands q g) (solo_cells q) place parts.0 below)))))
+    (given_from_test q g place (all_below-at _ _ place parts.0 below)))))
     parts.1
 
 solutions_stay : (p q : Solo) (g : List ℕ) → IsThinnedFrom solo_game p q → Solves (houses_rules q) g → Solves (houses_rules p) g

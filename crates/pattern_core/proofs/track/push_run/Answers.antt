@@ -8,8 +8,8 @@ pub loop-k-preserved : goal.loop-k-preserved
 loop-k-preserved g c = λ cells fits s.
     subst (λ l. IsSpelling g.P.Slots.has l c.push_black-longer.result.white
     c.push_black-longer.result.black c.push_black-longer.result.next)
-    (one_more cells c.loop-k._k)
-    (c.push_black-longer.ensures (cells ++ replicate c.loop-k._k 1)
+    (one_more cells _)
+    (c.push_black-longer.ensures (cells ++ replicate _ 1)
     (omega (arith, fits, length-append cells (replicate c.loop-k._k 1), length-replicate {A = ℕ} c.loop-k._k 1))
     (c.loop-k.invariant cells (omega (arith, fits)) s))
 
@@ -17,7 +17,7 @@ pub returns : goal.returns
 returns g c = λ cells fits s.
     let all : c.loop-k._k ≡ c.args.number = omega (arith, c.loop-k.auto._k-end, c.loop-k-test.false) in
     subst (λ l. IsSpelling g.P.Slots.has l c.push_white.result.white c.push_white.result.black c.push_white.result.next)
-    (run_ended cells c.loop-k._k ∙ ap (λ n. cells ++ (replicate n 1 ++ 0 ∷ [])) all)
-    (c.push_white.ensures (cells ++ replicate c.loop-k._k 1)
+    (run_ended cells _ ∙ ap (λ n. cells ++ (replicate n 1 ++ 0 ∷ [])) all)
+    (c.push_white.ensures (cells ++ replicate _ 1)
     (omega (arith, fits, all, length-append cells (replicate c.loop-k._k 1), length-replicate {A = ℕ} c.loop-k._k 1))
     (c.loop-k.invariant cells (omega (arith, fits, all)) s))

@@ -12,8 +12,8 @@ loop-k-init g c = ([], refl, spelling_none _ c.none.ensures c.none-2.ensures c.f
 pub loop-k-preserved : goal.loop-k-preserved
 loop-k-preserved g c =
     let (front, so_far, spells) = c.loop-k.invariant in
-    let low = run_fits front c.args.clue.now c.loop-k.k c.loop-k-test.true so_far in
-    (_, next_run front c.args.clue.now c.loop-k.k c.loop-k-test.true so_far, c.push_run-cells.ensures front (omega (arith, low, c.requires)) spells)
+    let low = run_fits front _ _ c.loop-k-test.true so_far in
+    (_, next_run front _ _ c.loop-k-test.true so_far, c.push_run-cells.ensures front (omega (arith, low, c.requires)) spells)
 
 pub returns : goal.returns
 unfolding spelled
