@@ -78,10 +78,7 @@ pub lights_solved : (p : Light) {order g : List ℕ} {k : ℕ} → length p.cell
     → ((c : ℕ) → white p c ≡ true → (j : ℕ) × (j < k) × (slice_index order j ≡ c)) → solves_lights (with_numbers p g) g ≡ true
 unfolding with_numbers black_right number_right bulb_right lit_right
 lights_solved p {g} long grid w each =
-    lit-from _ g
-    (all_below-from _ _ black)
-    (all_below-from _ _ number)
-    (all_below-from _ _ alone)
+    lit-from _ g (all_below-from _ _ black) (all_below-from _ _ number) (all_below-from _ _ alone)
     (all_below-from _ _ lit)
   where
     black : (c : ℕ) → c < light_cells p → black_right (with_numbers p g) g c ≡ true

@@ -30,8 +30,7 @@ draw_is range s some within words =
     let room = mul-le (w + 1) range (2 ^ 32) range (omega arith) (omega arith) in
     let under = div_below (w * range) (2 ^ 32) range (omega arith) (omega arith) in
     let left = words_left words in
-    cond_both (nat_lt (2 ^ 32 - range) low) _ _ (IsDrawnBelow range)
-    (λ carried. record {
+    cond_both (nat_lt (2 ^ 32 - range) low) _ _ (IsDrawnBelow range) (λ carried. record {
       below = if_below (nat_le (2 ^ 32) (low + (next_u32 (next_u32 s).1).0 * range / 2 ^ 32)) _ (high + 1) high range refl
           (carry_room (2 ^ 32) range w high low fits (div-add-mod' (w * range) (2 ^ 32)) (ltb-true (2 ^ 32 - range) low carried) within) under;
       words = words_left left;
@@ -88,8 +87,7 @@ next_is : (c : Chooser) (s : Stream) → IsChooser c → HasWords s → c.n + 1 
 next_is c s is words within =
     let r = chooser_refill c s in
     let filled = refill_is c s is words within in
-    cond_both (r.1 == 1) _ _ (IsDrawnNext c.n)
-    (λ last. record {
+    cond_both (r.1 == 1) _ _ (IsDrawnNext c.n) (λ last. record {
       index = omega (arith, last_below r.0 (c.n + 1) (rw (eqb-true r.1 1 last) at filled.room));
       bound = refl;
       chooser = record { room = λ none. absurd (omega arith) };

@@ -51,5 +51,4 @@ longest_at_most scope (suc n) each = max-le (longest_at_most scope n (λ h lt. e
 pub longest_of_fewer : {xs ys : List CountHouse} → IsFewer xs ys
     → longest (λ h. (count_house_of xs h).places) (length xs) ≤ longest (λ h. (count_house_of ys h).places) (length ys)
 longest_of_fewer {xs} {ys} less =
-    longest_at_most _ (length xs)
-    (less.short _ (λ h lt. scope_le-longest _ (length ys) h lt))
+    longest_at_most _ (length xs) (less.short _ (λ h lt. scope_le-longest _ (length ys) h lt))

@@ -55,8 +55,7 @@ unfolding with_cells number_right black_right bulb_right lit_right sees_bulb see
 lit_stays p cells g same clues lit =
     let parts = lit-parts (with_cells p.size cells) g lit in
     let q = with_cells p.size cells in
-    lit-from p g (all_below-from _ _
-    (λ c below. simp whites (all_below-at _ _ c parts.black below)))
+    lit-from p g (all_below-from _ _ (λ c below. simp whites (all_below-at _ _ c parts.black below)))
     (all_below-from _ _ (λ c below.
     number_stays (slice_index_or p.cells c Black) (slice_index_or cells c Black) _ (clues c)
     (all_below-at _ _ c parts.number below)))

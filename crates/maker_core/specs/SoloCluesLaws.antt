@@ -73,12 +73,9 @@ unfolding is_solo_solution
 test_stays p givens g clues on =
     let q = solo_puzzle p.c p.r p.x givens in
     let parts = and_parts _ _ on in
-    and_from _ _
-    (all_below-from _ _ (λ place below.
-    test_from_given p g place
+    and_from _ _ (all_below-from _ _ (λ place below. test_from_given p g place
     (given_stays p givens g place clues
-    (given_from_test q g place (all_below-at _ _ place parts.0 below)))))
-    parts.1
+    (given_from_test q g place (all_below-at _ _ place parts.0 below))))) parts.1
 
 solutions_stay : (p q : Solo) (g : List ℕ) → IsThinnedFrom solo_game p q → Solves (houses_rules q) g → Solves (houses_rules p) g
 solutions_stay p q g w s =

@@ -1,4 +1,5 @@
 -- Houses that decide alike.
+use Rattle.std.proofs.lemmas.Grind.{common_steps}
 use Rattle.std.proofs.Common.{◌≡◌, ℕ, ◌<◌, List, [], map, length, get_or, refl, sym, ap, ◌∙◌, arith, ◌++◌, All, Bool, true}
 use Rattle.std.proofs.lemmas.Bool.{true≢false}
 use Rattle.std.proofs.lemmas.Simd.{map-map}
@@ -49,14 +50,10 @@ kept-deciding settled p {decides} sound lt K are decided = kept-houses settled p
 -- ---- crossings after the houses
 pub listed-deciding : (decides : Decision) (p : Solo) {first second : Listed} → first ≡ record { closed = []; begun = [] }
     → second ≡ record { closed = first.closed ++ map (places_of p) (houses_of p); begun = [] } → second.closed ≡ all_places (deciding decides p)
-listed-deciding decides p none e =
-    ap (λ list. list.closed) e ∙ ap (λ list. list.closed ++ map (places_of p) (houses_of p)) none
-    ∙ sym (map-map (λ house. house.places) (house_by decides p) _)
+listed-deciding decides p none e = grind (arith, common_steps, map-map)
 
 pub listed-crossings : (p : Solo) (none first second : Listed) → none ≡ record { closed = []; begun = [] }
     → first ≡ record { closed = none.closed ++ map (places_of p) (houses_of p); begun = [] }
     → second ≡ record { closed = first.closed ++ all_places (crossings_of p); begun = [] }
     → second.closed ≡ all_places (filled_houses p ++ crossings_of p)
-listed-crossings p none first second z a b =
-    ap (λ (list : Listed). list.closed) b ∙ ap (λ xs. xs ++ all_places (crossings_of p)) (listed-deciding (strikes_by_fillings no_repeat) p z a)
-    ∙ sym (map-append (λ (house : House). house.places) (filled_houses p) (crossings_of p))
+listed-crossings p none first second z a b = grind (arith, common_steps, listed-deciding, map-append)

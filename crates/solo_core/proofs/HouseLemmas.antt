@@ -1,4 +1,5 @@
 -- Houses and crossings by their numbers, and lists of their places.
+use Rattle.std.proofs.lemmas.Grind.{common_steps}
 use Rattle.std.proofs.Common.{◌≡◌, ℕ, zero, suc, ◌+◌, ◌-◌, ◌<◌, ◌≤◌, Bool, true, false, List, [], ◌∷◌, ◌++◌, map, length, get_or, slice_index, take, if◌then◌else◌, refl, sym, ap, ◌∙◌, arith, append-nil, append_assoc, ◌*◌, length-append}
 use Rattle.solo_core.specs.Common.{range_with_len, get_or_append_left, get_or-append_right, get_or-map, length-map, take_more, map-append}
 use Rattle.solo_core.specs.Common.{get_or-map-range_with_len, length-map-range_with_len, Solo, solo_n, NamedHouse, Diagonal, houses_of, house_places, places_of}
@@ -16,9 +17,7 @@ use Rattle.solo_core.specs.declared.houses.scope.VisitName.TheVariants as scope
 -- ---- a list that begins with the values of a function
 module _ {X : Type 0} (f : ℕ → X) {n : ℕ} (rest : List X) {h : ℕ} (d : X) where
   pub part_first : h < n → get_or (map f (range_with_len 0 n) ++ rest) h d ≡ f h
-  part_first lt =
-      get_or_append_left _ rest d h (omega (arith, length-map-range_with_len f 0 n))
-      ∙ get_or-map-range_with_len f 0 n h h d lt (omega arith)
+  part_first lt = grind (arith, common_steps, get_or_append_left, length-map-range_with_len, get_or-map-range_with_len)
 
   pub part_later : n ≤ h → get_or (map f (range_with_len 0 n) ++ rest) h d ≡ get_or rest (h - n) d
   part_later le = get_or-append_right _ rest n h d (length-map-range_with_len f 0 n) le
@@ -79,7 +78,7 @@ module _ {X : Type 0} (first second : ℕ → X) (n m : ℕ) where
   first-at k d lt = sym (part_first first (map second (range_with_len 0 m)) d lt)
 
   pub second-at : (k : ℕ) (d : X) → n ≤ k → k - n < m → second (k - n) ≡ get_or both k d
-  second-at k d le lt = sym (part_later first (map second (range_with_len 0 m)) d le ∙ get_or-map-range_with_len second 0 m (k - n) (k - n) d lt (omega arith))
+  second-at k d le lt = grind (arith, common_steps, part_later, get_or-map-range_with_len)
 
 module _ (p : Solo) where
   pub scopes-length : length (crossing_scopes p) ≡ solo_n p * p.c + solo_n p * p.r
@@ -117,7 +116,7 @@ module _ (p : Solo) where
   crossing-after h d le = get_or-append_right names _ _ h d names-length le
 
   all-named : map (house_at p) (scopes_of p) ≡ filled_houses p ++ crossings_of p
-  all-named = map-append (house_at p) names (crossing_scopes p) ∙ rw (map-map (house_at p) scope.House) refl
+  all-named = grind (arith, common_steps, map-append, map-map)
 
   pub crossings-counted : length (filled_houses p ++ crossings_of p) ≡ length (scopes_of p)
   crossings-counted = ap length (sym all-named) ∙ length-map _ _
@@ -136,6 +135,6 @@ pub few_crossings : (n lines : ℕ) → n ≤ 31 → lines ≤ 510 → n * lines
 few_crossings n lines high few = omega (arith, mul-le n lines 31 510 high few)
 
 pub few_in_crossings : (crossings n : ℕ) → crossings ≤ 16000 → n ≤ 31 → crossings * (2 * n) ≤ 1000000
-few_in_crossings crossings n few high = omega (arith, mul-le crossings (2 * n) 16000 62 few (omega arith))
+few_in_crossings crossings n few high = grind (arith, common_steps, mul-le)
 
 pub ruleset room_laws = (crossings-count, few_in_houses, few_crossings, few_in_crossings)

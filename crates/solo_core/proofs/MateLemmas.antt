@@ -1,5 +1,6 @@
 -- A pairing of the cells with values is a filling without repeat, and a short set rules out every one. The values of the cells that
 -- are alone and a pairing of the rest make a pairing of the house.
+use Rattle.std.proofs.lemmas.Grind.{common_steps}
 use Rattle.std.proofs.Common.{◌≡◌, ℕ, ◌<◌, true, false, true≢false, List, [], length, get_or, slice_index, map, refl, sym, ◌∙◌, ap, arith, inl, inr, zero, suc, ◌+◌, Bool, not, eqb, ◌∷◌, ◌++◌, cond, append-nil}
 use Rattle.solo_core.specs.Common.{range_with_len, cases_lt, true_from_ne_false, get_or-map, length-map, get_or_past, get_or-map-range_with_len}
 use Rattle.solo_core.specs.Common.{length-map-range_with_len, has_value, IsShownBy, IsPairing, has_bit, set_of_bits, no_repeat, has_in, is_struck, filter}
@@ -18,12 +19,7 @@ has_set_of_bits {n} bits {v} h = get_or-map-range_with_len (has_bit bits) 0 n v 
 
 pub set_of_bits_below : (n bits : ℕ) {v : ℕ} → has_value (set_of_bits n bits) v ≡ true → v < n
 unfolding set_of_bits
-set_of_bits_below n bits {v} h = elim (cases_lt v n) [
-  | inl low ↦ low
-  | inr high ↦
-      absurd (true≢false (sym h ∙ get_or_past (map (has_bit bits) (range_with_len 0 n)) v false
-      (omega (arith, length-map-range_with_len (has_bit bits) 0 n))))
-]
+set_of_bits_below n bits {v} h = grind (arith, common_steps, cases_lt, get_or_past, length-map-range_with_len)
 
 -- the sets of a house as bits, each within the values
 pub at_sets : (n : ℕ) (sets : List ℕ) {k : ℕ} → k < length sets → get_or (map (set_of_bits n) sets) k [] ≡ set_of_bits n (get_or sets k 0)
@@ -107,13 +103,7 @@ module _ (n cells : ℕ) where
           rw e at (has_place-here (range_with_len 0 n) k (omega (arith, length-range_with_len 0 n)))
 
   pub rest-different : AreDifferent rest
-  rest-different = different-filter (λ k. not (has_bit cells k)) _ (λ j k lj lk same. omega (
-        arith,
-        length-range_with_len 0 n,
-        get_or-range_with_len 0 n j 0 (omega (arith, length-range_with_len 0 n)),
-        get_or-range_with_len 0 n k 0 (omega (arith, length-range_with_len 0 n)),
-        same,
-      ))
+  rest-different = grind (arith, common_steps, different-filter, length-range_with_len, get_or-range_with_len)
 
 pub rest-within : (n cells : ℕ) {rest : List ℕ} → rest ≡ rest_of n cells → (i : ℕ) → i < length rest → slice_index rest i < n
 rest-within n cells e i lt = rw e ((rest-in n cells (rw e at lt)).0)
@@ -245,7 +235,7 @@ module _ (n : ℕ) (sets : List ℕ) (cells : ℕ) (alone : AreAlone n sets cell
 -- where no value is struck, the sets are kept
 pub decided_by_all : {n : ℕ} {sets : List ℕ} → ((k v : ℕ) → k < length sets → v < n → has_in sets k v ≡ true → is_struck n sets k v ≡ false)
     → IsDecided n (strikes_by_fillings no_repeat) sets sets
-decided_by_all all = record { as_many = refl; bits = λ k v lk lv. grind (arith, all k v lk lv) }
+decided_by_all all = grind (arith, common_steps)
 
 -- where all are alone, nothing more is struck
 pub decided_alone : {n : ℕ} {sets : List ℕ} (cells : ℕ) → AreAlone n sets cells → ((k : ℕ) → k < length sets → has_bit cells k ≡ true)

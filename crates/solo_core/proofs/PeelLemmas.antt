@@ -1,4 +1,5 @@
 -- Striking the value of a cell that has one alone from the other cells takes no filling away.
+use Rattle.std.proofs.lemmas.Grind.{common_steps}
 use Rattle.std.proofs.Common.{◌≡◌, ℕ, ◌+◌, ◌<◌, ◌⊎◌, Bool, true, false, ◌&&◌, ◌||◌, eqb, List, map, length, slice_index, refl, sym, ap, ◌∙◌, inl, inr, arith}
 use Rattle.solo_core.specs.Common.{cases_Bool, cases_eq, eq-eqb, eqb-true, true≢false, false_from_ne_true, true_from_ne_false, nat_tests, strikes_by_fillings, IsDecided}
 use Rattle.solo_core.specs.Common.{has_bit, set_of_bits, bits-of_zero, IsPairing, has_in, is_struck, no_repeat}
@@ -13,14 +14,14 @@ use Rattle.solo_core.proofs.Marks.{none_in_zero}
 pairing_over : {n : ℕ} (old new : List ℕ) {mates : List ℕ} → length new ≡ length old
     → ((k : ℕ) → k < length old → has_in old k (slice_index mates k) ≡ true → has_in new k (slice_index mates k) ≡ true)
     → IsPairing (has_in old) (length old) n mates → IsPairing (has_in new) (length new) n mates
-pairing_over old new same joined p = rw same (record { len = p.len; in_range = p.in_range; joined = λ k lk. joined k lk (p.joined k lk); own = p.own })
+pairing_over old new same joined p = grind (arith, common_steps)
 
 pairing_peeled : (n : ℕ) {old new mates : List ℕ} → IsPeeled n old new → IsPairing (has_in old) (length old) n mates
     → IsPairing (has_in new) (length new) n mates
 pairing_peeled n {old} {new} {mates} e p = pairing_over old new e.as_many (λ k lk on. e.keeps mates p k lk) p
 
 pub peeled-none : (n : ℕ) {sets : List ℕ} → IsPeeled n sets sets
-peeled-none n = record { as_many = refl; inside = λ k v lk on. on; keeps = λ mates p k lk. p.joined k lk }
+peeled-none n = grind (arith, common_steps)
 
 pub peeled-more : {n : ℕ} {first second third : List ℕ} → IsPeeled n first second → IsPeeled n second third → IsPeeled n first third
 peeled-more {n} a b = record {
@@ -45,12 +46,7 @@ pub counts-same : {sets new : List ℕ} {first some single shared : ℕ}
     → AreCounts sets first some single shared
     → ((j : ℕ) → j < first → slice_index new j ≡ slice_index sets j)
     → AreCounts new first some single shared
-counts-same c same = record {
-  has = λ j v lj on. c.has j v lj (ap (λ b. has_bit b v) (sym (same j lj)) ∙ on);
-  singles = λ v on. let w = c.singles v on in (w.0, w.1, λ u. ap (λ b. has_bit b u) (same w.0 w.1) ∙ w.2 u);
-  shares = λ j k v lt lk on_j on_k. c.shares j k v lt lk
-      (ap (λ b. has_bit b v) (sym (same j (omega arith))) ∙ on_j) (ap (λ b. has_bit b v) (sym (same k lk)) ∙ on_k);
-}
+counts-same c same = grind (arith, common_steps)
 
 pub counts-more : {sets : List ℕ} (first : ℕ) {some single shared some' single' shared' : ℕ} → AreCounts sets first some single shared
     → ((v : ℕ) → has_bit some' v ≡ (has_bit some v || has_in sets first v))

@@ -1,16 +1,12 @@
 -- A pairing goes on by a cell with a free value, or with the value of another cell that has a free one.
+use Rattle.std.proofs.lemmas.Grind.{common_steps}
 use Rattle.std.proofs.Common.{◌≡◌, ℕ, ◌+◌, ◌<◌, true, false, true≢false, eqb, cond, List, slice_index, sym, ap, ◌∙◌, arith}
 use Rattle.solo_core.specs.Common.{false_from_ne_true, nat_tests, has_bit, has_in}
 use Rattle.solo_core.specs.Quick.{IsBegun, GoesOn}
 
 module _ (n : ℕ) (sets rest : List ℕ) where
   pub begun-none : {mate : ℕ → ℕ} {free : ℕ} → IsBegun n sets rest 0 mate free
-  begun-none = record {
-    in_range = λ l lt. absurd (omega arith);
-    joined = λ l lt. absurd (omega arith);
-    own = λ l m lt lm same. absurd (omega arith);
-    taken = λ l lt. absurd (omega arith);
-  }
+  begun-none = grind (arith, common_steps)
 
   -- one more cell with a value that no other has
   given : {k : ℕ} {mate new : ℕ → ℕ} {free left : ℕ} → IsBegun n sets rest k mate free → ((l : ℕ) → l < k → new l ≡ mate l)
@@ -39,7 +35,7 @@ module _ (n : ℕ) (sets rest : List ℕ) where
     changed l = cond (eqb l j) value (mate l)
 
     no_free : (l : ℕ) → l < k → mate l ≡ value → ⊥
-    no_free l lt e = true≢false (sym unused ∙ ap (has_bit free) (sym e) ∙ b.taken l lt)
+    no_free l lt e = grind (arith, common_steps)
 
     begun : {left : ℕ} → ((v : ℕ) → has_bit left v ≡ true → has_bit free v ≡ true) → has_bit left value ≡ false → IsBegun n sets rest k changed left
     unfolding changed

@@ -1,4 +1,5 @@
 -- What a house that holds a number twice says of the grid, and what a house that does not rules out.
+use Rattle.std.proofs.lemmas.Grind.{common_steps}
 use Rattle.std.proofs.Common.{◌≡◌, ℕ, suc, ◌+◌, ◌<◌, ◌≤◌, true, false, not, ◌||◌, eqb, List, [], ◌∷◌, length, get_or, slice_index, Bool, Option, None, Some, is_some, refl, subst, ◌++◌, sym, ap, ◌∙◌, inl, inr, arith}
 use Rattle.solo_core.specs.Common.{list_any, cases_eq, and_cases, or_cases, eqb-true, true≢false, not-false, false_from_ne_true, nat_tests, get_or-map}
 use Rattle.solo_core.specs.Common.{length-map, get_or_default, has_bit, bits-of_zero, IsGrid, Solo, IsSolo, solo_n, NamedHouse, Row, Column, Block, Diagonal}
@@ -47,28 +48,17 @@ pub record HasSeen (xs : List ℕ) (k seen : ℕ) : Type 0 where
   pub different : (i j : ℕ) → i < j → j < k → get_or xs i 0 ≡ get_or xs j 0 → ⊥
 
 pub seen_none : (xs : List ℕ) → HasSeen xs 0 0
-seen_none xs = record {
-  shown = λ v on. absurd (true≢false (sym on ∙ bits-of_zero v));
-  noted = λ i lt. absurd (omega arith);
-  different = λ i j low below same. absurd (omega arith);
-}
+seen_none xs = grind (arith, common_steps, bits-of_zero)
 
 module _ (xs : List ℕ) (k seen number : ℕ) (h : HasSeen xs k seen) (is : number ≡ get_or xs k 0) where
   pub seen_more : {new : ℕ} → has_bit seen number ≡ false → ((v : ℕ) → has_bit new v ≡ (has_bit seen v || eqb v number)) → HasSeen xs (k + 1) new
-  seen_more off each = record {
-    shown = λ v on. elim (or_cases (has_bit seen v) (eqb v number) (sym (each v) ∙ on)) [
-      | inl before ↦ let w = h.shown v before in (w.0, omega (arith, w.1), w.2)
-      | inr here ↦ (k, omega arith, sym (eqb-true v number here ∙ is))
-    ];
-    noted = λ i lt. grind (arith, nat_tests, each (get_or xs i 0), h.noted i);
-    different = λ i j low below same. grind (arith, nat_tests, h.noted i, h.different i j low);
-  }
+  seen_more off each = grind (arith, common_steps, nat_tests, or_cases, eqb-true)
 
   pub seen_again : k < length xs → has_bit seen number ≡ true → false ≡ no_repeat xs
   seen_again lt on = let w = h.shown number on in repeat_shown xs w.0 k w.1 lt (w.2 ∙ is)
 
 pub seen_all : (xs : List ℕ) (k seen : ℕ) → HasSeen xs k seen → length xs ≤ k → true ≡ no_repeat xs
-seen_all xs k seen h all = sym (no_repeat_from_different xs (λ i j low within same. h.different i j low (omega arith) same))
+seen_all xs k seen h all = grind (arith, common_steps, no_repeat_from_different)
 
 module _ (p : Solo) (ok : IsSolo p) (g : List ℕ) where
   -- a house that holds a number twice
@@ -126,7 +116,7 @@ module _ (p : Solo) (ok : IsSolo p) (g : List ℕ) where
   givens = record { test = Given; count = solo_cells p; right = given_stands p g }
 
   made : AllByRecursion (IsMade (FailsSolo p g)) (givens ∷ [])
-  made = (record { failed = λ c lt off. grind (arith, nat_tests); held = λ c lt on (some, other). other (given_from_test p g c on some) }, tt)
+  made = grind (arith, common_steps, nat_tests, given_from_test)
 
   abbrev no_repeat_in : NamedHouse → Bool
   no_repeat_in house = no_repeat (numbers_of p g house)

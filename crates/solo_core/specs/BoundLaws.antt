@@ -1,4 +1,5 @@
 -- The bounds of closings as numbers: 3n + 3n^3 in plain Solo, with two houses more in Solo X, and with crossings what these add.
+use Rattle.std.proofs.lemmas.Grind.{common_steps}
 use Rattle.std.proofs.Common.{◌≡◌, ℕ, zero, suc, ◌+◌, ◌-◌, ◌*◌, ◌/◌, ◌%◌, ◌^◌, ◌<◌, ◌≤◌, Bool, true, false, not, cond, eqb, List, [], ◌∷◌, ◌++◌, map, length, get_or, if◌then◌else◌, refl, sym, ap, ◌∙◌, min, inl, inr, add-one, arith, length-append, All, sum_by}
 use Rattle.solo_core.specs.Common.{cases_Bool, range_with_len, filter, cases_order, eq-eqb, ne_eqb, nat_tests, div-mul-add, mod-mul-add, div_below, mod_below, mul-le}
 use Rattle.solo_core.specs.Common.{mul-add-lt, div-add-mod', length-map, map-append, All-map, length-map-range_with_len, filter_of_map_range_with_len_more}
@@ -14,7 +15,7 @@ use Rattle.solo_core.specs.Scopes.{row_scope, column_scope}
 
 -- how many houses the puzzle has
 pub house_count : (p : Solo) → length (houses_of p) ≡ 3 * solo_n p + (if p.x then 2 else 0)
-house_count p = simp (length-append, length-map-range_with_len) (elim (cases_Bool p.x) [ inl on ↦ rw on (omega arith) | inr off ↦ rw off (omega arith) ])
+house_count p = grind (arith, common_steps, length-append, length-map-range_with_len)
 
 pub sum_same : {X : Type 0} (f : X → ℕ) (m : ℕ) (xs : List X) → All (λ y. f y ≡ m) xs → sum_by f xs ≡ length xs * m
 sum_same f m [] all = omega arith

@@ -1,5 +1,6 @@
 -- Laws of crossings: what they strike from larger sets they strike from smaller ones, from a block and a line of n
 -- different numbers they strike nothing, and a second visit strikes nothing more.
+use Rattle.std.proofs.lemmas.Grind.{common_steps}
 use Rattle.std.proofs.Common.{◌≡◌, ℕ, ◌+◌, ◌-◌, ◌<◌, ◌≤◌, Bool, true, false, not, ◌&&◌, true≢false, List, [], map, length, get_or, slice_index, refl, sym, ap, ◌∙◌, inl, inr, arith, length-append}
 use Rattle.solo_core.specs.Common.{filter, cases_lt, and_parts, and_from, or_cases, or_left, or_right, eq-eqb, not-true, not_from_false, false_from_ne_true}
 use Rattle.solo_core.specs.Common.{ltb-true, leb-true, lt-ltb, le-leb, get_or-map, length-map, get_or_append_left, get_or-append_right, any_below-here}
@@ -11,10 +12,7 @@ use Rattle.solo_core.specs.Crossing.{has_in_part, strikes_by_crossing, crossing_
 -- ---- parts
 part-some : (part : ℕ → Bool) (sets : List Set) (v : ℕ) → has_in_part part sets v ≡ true
     → (j : ℕ) × (j < length sets) × (part j ≡ true) × (has_value (get_or sets j []) v ≡ true)
-part-some part sets v on =
-    let w = any_below-some (λ j. part j && has_value (get_or sets j []) v) (length sets) on in
-    let both = and_parts (part w.0) (has_value (get_or sets w.0 []) v) w.2 in
-    (w.0, w.1, both.0, both.1)
+part-some part sets v on = grind (arith, common_steps, any_below-some, and_parts)
 
 part-here : (part : ℕ → Bool) (sets : List Set) (v j : ℕ) → j < length sets → part j ≡ true
     → has_value (get_or sets j []) v ≡ true → has_in_part part sets v ≡ true

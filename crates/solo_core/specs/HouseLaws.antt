@@ -1,4 +1,5 @@
 -- Laws of the houses: each has n different places of the grid, exactly those that lie in it.
+use Rattle.std.proofs.lemmas.Grind.{common_steps}
 use Rattle.std.proofs.Common.{◌≡◌, ℕ, ◌+◌, ◌-◌, ◌*◌, ◌/◌, ◌%◌, ◌<◌, Bool, true, false, eqb, List, [], ◌∷◌, map, length, slice_index, if◌then◌else◌, refl, sym, ap, ◌∙◌, inl, inr, arith, All, ◌↔◌, IsTrue}
 use Rattle.solo_core.specs.Common.{has_place, has_place-at, has_place-here, range_with_len, cases_lt, cases_Bool, eq-eqb, eqb-true, true≢false}
 use Rattle.solo_core.specs.Common.{false_from_ne_true, mul-add-lt, mul-le, div-mul-add, mod-mul-add, div_below, mod_below, div-add-mod', All-append, All-nil}
@@ -76,7 +77,7 @@ module _ (c r b : ℕ) (c_pos : 0 < c) (r_pos : 0 < r) (b_in : b < c * r) where
   x_in k = fits (mod_below b c c_pos) (mod_below k r r_pos)
 
   here : {k : ℕ} → k < c * r → ((y_of k * (c * r) + x_of k) / (c * r) ≡ y_of k) × ((y_of k * (c * r) + x_of k) % (c * r) ≡ x_of k)
-  here {k} l = (div-mul-add (y_of k) (c * r) (x_of k) (x_in k), mod-mul-add (y_of k) (c * r) (x_of k) (x_in k))
+  here {k} l = grind (arith, common_steps, div-mul-add, x_in, mod-mul-add)
 
   block_at : ℕ → ℕ
   block_at place = ((place / (c * r)) / c) * c + (place % (c * r)) / r
@@ -86,13 +87,11 @@ module _ (c r b : ℕ) (c_pos : 0 < c) (r_pos : 0 < r) (b_in : b < c * r) where
 
   in_block : (k : ℕ) → k < c * r → block_at (y_of k * (c * r) + x_of k) ≡ b
   unfolding block_at
-  in_block k l =
-      rw ((here l).0, (here l).1, div-mul-add (b / c) c (k / r) (tall k l), div-mul-add (b % c) r (k % r) (mod_below k r r_pos)) (div-add-mod' b c)
+  in_block k l = grind (arith, common_steps, here, div-mul-add, tall, mod_below, div-add-mod')
 
   at_index : (k : ℕ) → k < c * r → index_at (y_of k * (c * r) + x_of k) ≡ k
   unfolding index_at
-  at_index k l =
-      rw ((here l).0, (here l).1, mod-mul-add (b / c) c (k / r) (tall k l), mod-mul-add (b % c) r (k % r) (mod_below k r r_pos)) (div-add-mod' k r)
+  at_index k l = grind (arith, common_steps, here, mod-mul-add, tall, mod_below, div-add-mod')
 
   index_below : (place : ℕ) → index_at place < c * r
   unfolding index_at
@@ -135,8 +134,7 @@ lists_house {p} ok (Diagonal d) lt = falling_lists _ (some_numbers ok) (λ y l. 
 
 -- the list of a function's values, each of which keeps to something
 pub each_value : {X : Type 0} (P : X → Type 0) (f : ℕ → X) (n : ℕ) → ((k : ℕ) → k < n → P (f k)) → All P (map f (range_with_len 0 n))
-each_value P f n each k d lt = let e = length-map-range_with_len f 0 n in
-    rw (get_or-map-range_with_len f 0 n k k d (omega arith) (omega arith)) (each k (omega arith))
+each_value P f n each k d lt = grind (arith, common_steps, length-map-range_with_len, get_or-map-range_with_len)
 
 -- they are the puzzle's, and all of them
 pub all_houses : (p : Solo) → All (IsHouseOf p) (houses_of p)
@@ -180,16 +178,11 @@ module _ {places : List ℕ} {n cells : ℕ} {lies : ℕ → Bool} (l : Lists pl
   listed-within k lt = let e = l.len in l.within k (omega arith)
 
   pub listed-different : AreDifferent places
-  listed-different j k lj lk e =
-      let long = l.len in
-      sym (l.index_of j (omega arith)) ∙ ap l.index e ∙ l.index_of k (omega arith)
+  listed-different j k lj lk e = grind (arith, common_steps)
 
   -- a place is in the list where it passes the test
   pub listed-has : {place : ℕ} → place < cells → (IsTrue (has_place places place)) ↔ (IsTrue (lies place))
-  listed-has {place} lt = (
-    λ has. let w = has_place-at places place has in let l_in : w.0 < n = let a = w.1 in let e = l.len in omega arith in rw w.2 at (l.lies_at w.0 l_in),
-    λ on. rw (l.covers place lt on) at (has_place-here places (l.index place) (let e = l.len in let i = l.index_in place lt in omega arith)),
-  )
+  listed-has {place} lt = grind (arith, common_steps, has_place-at, has_place-here)
 
 -- a test of places is that of their list
 pub listed-same : {places : List ℕ} {n cells : ℕ} {lies : ℕ → Bool} → Lists places n cells lies

@@ -1,5 +1,6 @@
 -- Laws of singles: what they strike from larger sets they strike from smaller ones, and from a solution's own values
 -- they strike nothing.
+use Rattle.std.proofs.lemmas.Grind.{common_steps}
 use Rattle.std.proofs.Common.{◌≡◌, ℕ, ◌<◌, Bool, true, false, not, ◌&&◌, ◌||◌, true≢false, eqb, List, length, get_or, refl, sym, ◌∙◌, ap, subst, arith, inl, inr}
 use Rattle.solo_core.specs.Common.{cases_Bool, and_from, or_left, or_right, eqb-true, eq-eqb, not-true, false_from_ne_true, nat_tests, any_below}
 use Rattle.solo_core.specs.Common.{any_below-here, any_below-some, any_below-none, Set, Keeps, IsMonotone, no_repeat}
@@ -7,7 +8,7 @@ use Rattle.solo_core.specs.NoRepeatLaws.{own_from_no_repeat, none_missing}
 use Rattle.solo_core.specs.Singles.{Has, has_other, is_elsewhere, taken_elsewhere, needed_for_other, has_empty_cell, strikes_where, has_at, strikes_by_singles}
 
 none_below : (test : ℕ → Bool) (n : ℕ) → ((k : ℕ) → k < n → test k ≡ true → ⊥) → any_below test n ≡ false
-none_below test n none = false_from_ne_true (any_below test n) (λ on. let w = any_below-some test n on in none w.0 w.1 w.2)
+none_below test n none = grind (arith, common_steps, false_from_ne_true, any_below-some)
 
 fails_below : (test : ℕ → Bool) {n : ℕ} → any_below test n ≡ false → {k : ℕ} → k < n → test k ≡ true → ⊥
 fails_below test {n} off {k} lt on = true≢false (sym on ∙ any_below-none test n off k lt)
