@@ -10,7 +10,7 @@ use Rattle.solo_core.specs.Common.{has_place, nat_tests, strikes_by_fillings, Is
 use Rattle.engine_core.specs.FillingLaws.{shown_from_test, test_from_shown}
 use Rattle.solo_core.specs.NoRepeatLaws.{own_from_no_repeat, no_repeat_from_different}
 use Rattle.grid_core.proofs.ShortSets.{no_choice}
-use Rattle.solo_core.specs.Peeled.{AreAlone, IsPaired, IsShort, rest_of}
+use Rattle.solo_core.specs.Peeled.{AreAlone, IsPaired, IsShort, rest_of, PairsCells, KeepsFillings}
 
 -- a set of bits has the values below n whose bit is set
 pub has_set_of_bits : {n : ℕ} (bits : ℕ) {v : ℕ} → v < n → has_value (set_of_bits n bits) v ≡ has_bit bits v
@@ -26,7 +26,7 @@ pub at_sets : (n : ℕ) (sets : List ℕ) {k : ℕ} → k < length sets → get_
 at_sets n sets {k} h = get_or-map _ sets k 0 [] h
 
 -- a pairing of the cells with values is a filling without repeat, which shows its values
-pub shown_by_pairing : (sets : List ℕ) {n : ℕ} {mates : List ℕ} → IsPairing (has_in sets) (length sets) n mates
+pub shown_by_pairing : (sets : List ℕ) {n : ℕ} {mates : List ℕ} → PairsCells n sets mates
     → (k : ℕ) → is_struck n sets k (slice_index mates k) ≡ false
 shown_by_pairing sets {n} {mates} p k = test_from_shown no_repeat (map (set_of_bits n) sets) k (slice_index mates k) (
   mates,
@@ -47,7 +47,7 @@ shown_by_pairing sets {n} {mates} p k = test_from_shown no_repeat (map (set_of_b
 
 -- a filling without repeat as a pairing of the cells with values
 pub pairing_of_filling : (sets : List ℕ) (n : ℕ) {place value : ℕ} {filling : List ℕ} → IsShownBy no_repeat (map (set_of_bits n) sets) place value filling
-    → IsPairing (has_in sets) (length sets) n filling
+    → PairsCells n sets filling
 pairing_of_filling sets n {filling} s = record {
   len = long;
   in_range = λ l h. set_of_bits_below n (get_or sets l 0) (has l h);
@@ -65,7 +65,7 @@ pairing_of_filling sets n {filling} s = record {
 
 -- what no pairing of the cells can have is struck
 pub struck_from_none : (sets : List ℕ) (n place value : ℕ)
-    → ((filling : List ℕ) → IsPairing (has_in sets) (length sets) n filling → slice_index filling place ≡ value → ⊥)
+    → ((filling : List ℕ) → PairsCells n sets filling → slice_index filling place ≡ value → ⊥)
     → is_struck n sets place value ≡ true
 struck_from_none sets n place value none = true_from_ne_false (is_struck n sets place value) (λ e.
     let w = shown_from_test no_repeat (map (set_of_bits n) sets) place value e in
@@ -120,7 +120,7 @@ module _ (n : ℕ) (sets : List ℕ) (cells : ℕ) (alone : AreAlone n sets cell
   joins l r = has_in sets (slice_index others l) r
 
   -- where the rest has no pairing, the house has none
-  pub no_pairing : (xs mates : List ℕ) → IsShort n sets others xs → IsPairing (has_in sets) (length sets) n mates → ⊥
+  pub no_pairing : (xs mates : List ℕ) → IsShort n sets others xs → PairsCells n sets mates → ⊥
   no_pairing xs mates short p = no_choice joins (length others) n xs short (λ l. slice_index mates (slice_index others l))
       (λ l lt. p.in_range (slice_index others l) (inside l lt))
       (λ l lt. p.joined (slice_index others l) (inside l lt))
@@ -160,7 +160,7 @@ module _ (n : ℕ) (sets : List ℕ) (cells : ℕ) (alone : AreAlone n sets cell
         let e = p.own i j li lj (sym (at_rest i li) ∙ ap (slice_index mates) is ∙ same ∙ sym (ap (slice_index mates) is_m) ∙ at_rest j lj) in
         sym is ∙ ap (slice_index others) e ∙ is_m
 
-    pub whole_pairing : IsPairing (has_in sets) (length sets) n mates
+    pub whole_pairing : PairsCells n sets mates
     whole_pairing = record { len = as_many; in_range = λ k lk. (fits lk).0; joined = λ k lk. (fits lk).1; own = own_mate }
       where
         own_mate : (k m : ℕ) → k < length sets → m < length sets → slice_index mates k ≡ slice_index mates m → k ≡ m
@@ -189,9 +189,12 @@ last-below (suc (suc n)) passes some = grind (arith, nat_tests, last-below (suc 
 
 -- ---- where the rest is paired, some pairing of the house pairs it so
 module _ (n : ℕ) (sets : List ℕ) (cells : ℕ) (alone : AreAlone n sets cells) (paired : List ℕ) (p : IsPaired n sets (rest_of (length sets) cells) paired) where
+  abbrev left : List ℕ
+  left = rest_of (length sets) cells
+
   -- the place of a cell in the rest
   at : ℕ → ℕ
-  at k = last (length (rest_of (length sets) cells)) (λ i. eqb (slice_index (rest_of (length sets) cells) i) k)
+  at k = last (length left) (λ i. eqb (slice_index left i) k)
 
   mate : ℕ → ℕ
   mate k = cond (has_bit cells k) (last n (has_in sets k)) (slice_index paired (at k))
@@ -203,18 +206,18 @@ module _ (n : ℕ) (sets : List ℕ) (cells : ℕ) (alone : AreAlone n sets cell
   unfolding house_mates
   mates-at k lk = get_or-map-range_with_len mate 0 (length sets) k k 0 lk (omega arith)
 
-  pub mates-rest : (i : ℕ) → i < length (rest_of (length sets) cells)
-      → slice_index house_mates (slice_index (rest_of (length sets) cells) i) ≡ slice_index paired i
+  pub mates-rest : (i : ℕ) → i < length left
+      → slice_index house_mates (slice_index left i) ≡ slice_index paired i
   unfolding mate at
   mates-rest i li =
-      let k = slice_index (rest_of (length sets) cells) i in
+      let k = slice_index left i in
       let r = rest-in (length sets) cells li in
-      let passes : ℕ → Bool = λ j. eqb (slice_index (rest_of (length sets) cells) j) k in
-      let low = last-below (length (rest_of (length sets) cells)) passes (omega arith) in
-      let same = eqb-true _ k (last-passes (length (rest_of (length sets) cells)) passes i li (eq-eqb k k refl)) in
+      let passes : ℕ → Bool = λ j. eqb (slice_index left j) k in
+      let low = last-below (length left) passes (omega arith) in
+      let same = eqb-true _ k (last-passes (length left) passes i li (eq-eqb k k refl)) in
       mates-at k r.0 ∙ rw r.1 (ap (slice_index paired) (rest-different (length sets) cells (at k) i low li same))
 
-  pub house_pairing : IsPairing (has_in sets) (length sets) n house_mates
+  pub house_pairing : PairsCells n sets house_mates
   unfolding house_mates mate
   house_pairing = whole_pairing n sets cells alone house_mates house_mates p own (length-map-range_with_len mate 0 (length sets)) mates-rest
       (λ k out. refl)
@@ -234,12 +237,12 @@ module _ (n : ℕ) (sets : List ℕ) (cells : ℕ) (alone : AreAlone n sets cell
 
 -- where no value is struck, the sets are kept
 pub decided_by_all : {n : ℕ} {sets : List ℕ} → ((k v : ℕ) → k < length sets → v < n → has_in sets k v ≡ true → is_struck n sets k v ≡ false)
-    → IsDecided n (strikes_by_fillings no_repeat) sets sets
+    → KeepsFillings n sets sets
 decided_by_all all = grind (arith, common_steps)
 
 -- where all are alone, nothing more is struck
 pub decided_alone : {n : ℕ} {sets : List ℕ} (cells : ℕ) → AreAlone n sets cells → ((k : ℕ) → k < length sets → has_bit cells k ≡ true)
-    → IsDecided n (strikes_by_fillings no_repeat) sets sets
+    → KeepsFillings n sets sets
 decided_alone {n} {sets} cells alone all = decided_by_all
     (λ k v lk lv has. shown_alone n sets cells alone (rest_of (length sets) cells) paired k v lk (all k lk) has)
   where

@@ -4,7 +4,7 @@ use Rattle.std.proofs.Common.{◌≡◌, ℕ, ◌+◌, ◌<◌, ◌⊎◌, Bool,
 use Rattle.solo_core.specs.Common.{cases_Bool, cases_eq, eq-eqb, eqb-true, true≢false, false_from_ne_true, true_from_ne_false, nat_tests, strikes_by_fillings, IsDecided}
 use Rattle.solo_core.specs.Common.{has_bit, set_of_bits, bits-of_zero, IsPairing, has_in, is_struck, no_repeat}
 use Rattle.engine_core.specs.FillingLaws.{shown_from_test}
-use Rattle.solo_core.specs.Peeled.{IsPeeled, IsAlone, AreAlone, AreCounts, IsSingleSet, IsDropped}
+use Rattle.solo_core.specs.Peeled.{IsPeeled, IsAlone, AreAlone, AreCounts, IsSingleSet, IsDropped, PairsCells, KeepsFillings}
 use Rattle.solo_core.proofs.MateLemmas.{shown_by_pairing, pairing_of_filling}
 use Rattle.solo_core.specs.NoRepeatLaws.{none_missed}
 use Rattle.solo_core.proofs.Marks.{none_in_zero}
@@ -13,11 +13,11 @@ use Rattle.solo_core.proofs.Marks.{none_in_zero}
 -- a pairing is one of other sets where they have its values too
 pairing_over : {n : ℕ} (old new : List ℕ) {mates : List ℕ} → length new ≡ length old
     → ((k : ℕ) → k < length old → has_in old k (slice_index mates k) ≡ true → has_in new k (slice_index mates k) ≡ true)
-    → IsPairing (has_in old) (length old) n mates → IsPairing (has_in new) (length new) n mates
+    → PairsCells n old mates → PairsCells n new mates
 pairing_over old new same joined p = grind (arith, common_steps)
 
-pairing_peeled : (n : ℕ) {old new mates : List ℕ} → IsPeeled n old new → IsPairing (has_in old) (length old) n mates
-    → IsPairing (has_in new) (length new) n mates
+pairing_peeled : (n : ℕ) {old new mates : List ℕ} → IsPeeled n old new → PairsCells n old mates
+    → PairsCells n new mates
 pairing_peeled n {old} {new} {mates} e p = pairing_over old new e.as_many (λ k lk on. e.keeps mates p k lk) p
 
 pub peeled-none : (n : ℕ) {sets : List ℕ} → IsPeeled n sets sets
@@ -67,7 +67,7 @@ module _ {n : ℕ} {old : List ℕ} (square : length old ≡ n) {some single sha
   shares : (j k v : ℕ) → j < length old → k < length old → (j ≡ k → ⊥) → has_in old j v ≡ true → has_in old k v ≡ true → has_bit shared v ≡ true
   shares j k v lj lk ne on_j on_k = grind (arith, c.shares j k v, c.shares k j v)
 
-  not_dropped : (mates : List ℕ) → IsPairing (has_in old) (length old) n mates → (k : ℕ) → k < length old
+  not_dropped : (mates : List ℕ) → PairsCells n old mates → (k : ℕ) → k < length old
       → IsDropped n single shared (slice_index old k) (slice_index mates k) → ⊥
   not_dropped mates p k lk (w, lw, has, ne, inl lone) =
       none_missed (slice_index mates) (λ x lx. p.in_range x (omega arith)) (λ x y lx ly same. p.own x y (omega arith) (omega arith) same) lw
@@ -116,15 +116,15 @@ alone-more cells more cell on alone a bit k lk set = elim (cases_Bool (has_bit c
 
 -- ---- what is decided of the peeled sets is decided of the sets
 -- what is shown by a pairing is shown where each pairing of the sets is one of the others
-shown_over : (n : ℕ) (old new : List ℕ) → ((mates : List ℕ) → IsPairing (has_in old) (length old) n mates → IsPairing (has_in new) (length new) n mates)
+shown_over : (n : ℕ) (old new : List ℕ) → ((mates : List ℕ) → PairsCells n old mates → PairsCells n new mates)
     → (k v : ℕ) → k < length new → is_struck n old k v ≡ false → (has_in new k v ≡ true) × (is_struck n new k v ≡ false)
 shown_over n old new over k v lk off =
     let w = shown_from_test no_repeat (map (set_of_bits n) old) k v off in
     let p = over w.0 (pairing_of_filling old n w.1) in
     (rw w.1.has_it at (p.joined k lk), rw w.1.has_it at (shown_by_pairing new p k))
 
-pub decided_by_peeled : {n : ℕ} {sets peeled kept : List ℕ} → IsPeeled n sets peeled → IsDecided n (strikes_by_fillings no_repeat) peeled kept
-    → IsDecided n (strikes_by_fillings no_repeat) sets kept
+pub decided_by_peeled : {n : ℕ} {sets peeled kept : List ℕ} → IsPeeled n sets peeled → KeepsFillings n peeled kept
+    → KeepsFillings n sets kept
 decided_by_peeled {n} {sets} {peeled} e d = record {
   as_many = d.as_many ∙ e.as_many;
   bits = λ k v lk lv.

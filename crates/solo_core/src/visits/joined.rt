@@ -1,8 +1,9 @@
 //! The cells of a house and their values as two sides to be paired.
 
-ghost use Rattle.std.specs.Prelude.{◌≡◌, ℕ, ◌<◌, ◌≤◌, length, slice_index};
+ghost use Rattle.std.specs.Prelude.{◌≡◌, ◌<◌, ◌≤◌, length, slice_index};
 ghost use Rattle.grid_core.specs.Candidates.{max_values};
 ghost use Rattle.solo_core.specs.Bits.{has_in};
+ghost use Rattle.solo_core.specs.Peeled.{AreCellsOf};
 
 use crate::visits::bits::next_bit;
 use grid_core::Edges;
@@ -14,7 +15,7 @@ pub(crate) struct Joined<'a> {
     pub(crate) rest: &'a [u8],
     pub(crate) values: u8,
     ghost few: { values ≤ max_values },
-    ghost rest_in: { (i : ℕ) → i < length rest.now → slice_index rest.now i < length sets.now },
+    ghost rest_in: { AreCellsOf sets.now rest.now },
 }
 
 impl Joined<'_> {

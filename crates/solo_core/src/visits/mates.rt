@@ -3,8 +3,8 @@
 
 ghost use Rattle.std.specs.Prelude.{◌≡◌, ℕ, ◌<◌, ◌≤◌, true, length, slice_index};
 ghost use Rattle.grid_core.specs.Candidates.{max_values};
-ghost use Rattle.solo_core.specs.Common.{AreDifferent, has_bit as is_set, IsPairing, has_in};
-ghost use Rattle.solo_core.specs.Peeled.{IsRest, IsPaired, IsShort, HasMate, GotMates, KeepMates, AgreeBelow, rest_of as rest_cells};
+ghost use Rattle.solo_core.specs.Common.{AreDifferent, has_bit as is_set};
+ghost use Rattle.solo_core.specs.Peeled.{IsRest, IsPaired, IsShort, HasMate, GotMates, KeepMates, AgreeBelow, rest_of as rest_cells, PairsCells, AreCellsOf};
 
 use crate::visits::bits::next_bit;
 use crate::visits::joined::Joined;
@@ -41,7 +41,7 @@ pub(crate) fn pair_rest(
     paired: &mut [u8],
 ) -> Paired
     requires few { values ≤ max_values }
-    requires rest_in { (i : ℕ) → i < length rest.now → slice_index rest.now i < length sets.now }
+    requires rest_in { AreCellsOf sets.now rest.now }
     requires lefts { length rest.now ≤ pairing.old.room }
     requires rights { values ≤ pairing.old.room }
     requires paired_room { length paired.old ≡ length rest.now }
@@ -78,7 +78,7 @@ pub(crate) fn write_mates(values: u8, sets: &[u32], rest: &[u8], paired: &[u8], 
     requires as_many { length mates.old ≡ length sets.now }
     requires alone { IsRest values sets.now rest.now }
     requires paired { IsPaired values sets.now rest.now paired.now }
-    ensures { IsPairing (has_in sets.now) (length sets.now) values mates.new }
+    ensures { PairsCells values sets.now mates.new }
 {
     write_own(values, sets, mates);
     write_rest(rest, paired, mates);
@@ -106,7 +106,7 @@ fn lowest(values: u8, set: u32) -> u8
 
 /// Writes for each of these cells the value that it is paired with.
 fn write_rest(rest: &[u8], paired: &[u8], mates: &mut [u8])
-    requires rest_in { (i : ℕ) → i < length rest.now → slice_index rest.now i < length mates.old }
+    requires rest_in { AreCellsOf mates.old rest.now }
     requires different { AreDifferent rest.now }
     requires as_many { length paired.now ≡ length rest.now }
     ensures as_many { length mates.new ≡ length mates.old }
