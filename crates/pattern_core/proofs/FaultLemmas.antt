@@ -6,7 +6,7 @@ use Rattle.grid_core.specs.Grids.{IsGrid}
 use Rattle.grid_core.specs.Lines.{lines_of, line_numbers}
 use Rattle.gameid_core.specs.FirstFailed.{NoneFails}
 use Rattle.gameid_core.specs.Puzzles.{Pattern}
-use Rattle.gameid_core.proofs.FirstFailed.{Holds, IsKnown, IsMade, Kind, all_each, each, first_each, first_front, first_rest, known_tests, none_held, right_none}
+use Rattle.gameid_core.proofs.FirstFailed.{IsKnown, IsMade, Kind, all_each, each, first_each, first_front, first_rest, known_tests, none_held, right_none}
 use Rattle.pattern_core.specs.Faults.{FailsPattern, IsPatternFault, pattern_tests}
 use Rattle.pattern_core.specs.LineLaws.{has_runs-from, has_runs-is, line_of_solution, solution_from_lines}
 use Rattle.pattern_core.specs.Lines.{HasClue, clue_of, has_runs}

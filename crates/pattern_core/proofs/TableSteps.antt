@@ -9,7 +9,7 @@ use Rattle.std.proofs.lemmas.List.{length-map, get_or-map, get_or-set_same, get_
 use Rattle.grid_core.specs.Candidates.{any_below}
 use Rattle.grid_core.proofs.BoardLemmas.{bits_both}
 use Rattle.grid_core.proofs.CandidateLemmas.{any_below-some, any_below-here, any_below-same}
-use Rattle.engine_core.specs.Filling.{Set, some_filling, strikes_by_fillings}
+use Rattle.engine_core.specs.Filling.{some_filling, strikes_by_fillings}
 use Rattle.engine_core.specs.Sets.{has_bit, set_of_bits}
 use Rattle.engine_core.specs.HouseSets.{IsDecided}
 use Rattle.pattern_core.specs.Lines.{has_runs, ArePositive}

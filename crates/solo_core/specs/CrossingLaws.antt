@@ -1,8 +1,8 @@
 -- Laws of crossings: what they strike from larger sets they strike from smaller ones, from a block and a line of n
 -- different numbers they strike nothing, and a second visit strikes nothing more.
 use Rattle.std.proofs.lemmas.Grind.{common_steps}
-use Rattle.std.proofs.Common.{◌≡◌, ℕ, ◌+◌, ◌-◌, ◌<◌, ◌≤◌, Bool, true, false, not, ◌&&◌, true≢false, List, [], map, length, get_or, slice_index, refl, sym, ap, ◌∙◌, inl, inr, arith, length-append}
-use Rattle.solo_core.specs.Common.{filter, cases_lt, and_parts, and_from, or_cases, or_left, or_right, eq-eqb, not-true, not_from_false, false_from_ne_true}
+use Rattle.std.proofs.Common.{◌≡◌, ℕ, ◌+◌, ◌-◌, ◌<◌, ◌≤◌, Bool, true, false, true≢false, List, [], map, length, get_or, slice_index, refl, sym, ap, ◌∙◌, inl, inr, arith, length-append}
+use Rattle.solo_core.specs.Common.{cases_lt, and_parts, and_from, eq-eqb, not-true, not_from_false, false_from_ne_true}
 use Rattle.solo_core.specs.Common.{ltb-true, leb-true, lt-ltb, le-leb, get_or-map, length-map, get_or_append_left, get_or-append_right, any_below-here}
 use Rattle.solo_core.specs.Common.{any_below-some, has_place, has_place-at, has_place-here, place-filter, place-kept, different-filter, different-from}
 use Rattle.solo_core.specs.Common.{distinct-from, distinct-append, Set, has_value, IsMonotone, AreDifferent, IsSettled, Keeps, no_repeat}

@@ -9,7 +9,7 @@ ghost use Rattle.solo_core.specs.Peeled.{AreAlone, IsRest, IsPaired, HasSetOfCel
 use crate::visits::bits::{all_below, next_bit, with_bit_if};
 use crate::visits::mates::{MANY, pair_rest, rest_of, write_mates};
 use crate::visits::peel::peel;
-use crate::visits::reach::close_reach;
+use crate::visits::reach::close_under_steps;
 use crate::visits::singles::clear;
 use crate::visits::turning::lie_on_rounds;
 use engine_core::has_bit;
@@ -84,7 +84,7 @@ fn keep_paired(values: u8, rest: &[u8], paired: &[u8], kept: &mut [u32])
     let mut reach_space = [0u32; MANY];
     let reach = &mut reach_space[..kept.len()];
     write_own_sets(kept, mates, reach);
-    close_reach(reach);
+    close_under_steps(reach);
     keep_reached(values, mates, reach, kept);
 }
 

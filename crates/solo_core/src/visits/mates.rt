@@ -7,7 +7,7 @@ ghost use Rattle.solo_core.specs.Common.{AreDifferent, has_bit as is_set};
 ghost use Rattle.solo_core.specs.Peeled.{IsRest, IsPaired, IsShort, HasMate, GotMates, KeepMates, AgreeBelow, rest_of as rest_cells, PairsCells, AreCellsOf};
 
 use crate::visits::bits::next_bit;
-use crate::visits::joined::Joined;
+use crate::visits::graph::CellValueGraph;
 use crate::visits::quick::pair_quickly;
 use arrayvec::ArrayVec;
 use engine_core::has_bit;
@@ -49,11 +49,11 @@ pub(crate) fn pair_rest(
     ensures all { result ≡ Paired.All → IsPaired values sets.now rest.now paired.new }
     ensures short { result ≡ Paired.Short → IsShort values sets.now rest.now pairing.new.short }
 {
-    let joined = Joined { sets, rest, values };
-    if pair_quickly(&joined, paired) {
+    let graph = CellValueGraph { sets, rest, values };
+    if pair_quickly(&graph, paired) {
         return Paired::All;
     }
-    let found = pairing.run(&joined);
+    let found = pairing.run(&graph);
     if let Paired::All = found {
         copy_mates(values, pairing, paired);
     }

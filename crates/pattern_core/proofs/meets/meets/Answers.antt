@@ -1,4 +1,4 @@
-use Rattle.std.proofs.Common.{◌≡◌, ◌∙◌, get_or, ap, arith}
+use Rattle.std.proofs.Common.{◌∙◌, ap, arith}
 use Rattle.grid_core.specs.Lines.{line_numbers}
 use Rattle.pattern_core.specs.Track.{along, leads, set_for, led}
 use Rattle.pattern_core.proofs.MeetLemmas.{meet_next, meet_end}

@@ -1,4 +1,4 @@
-use Rattle.std.proofs.Common.{ap, arith, get_or, refl, set, ◌&&◌, ◌∙◌, ◌≡◌}
+use Rattle.std.proofs.Common.{ap, arith, refl, set, ◌&&◌, ◌∙◌}
 use Rattle.std.proofs.lemmas.Bool.{eqb-true, not-false, or_parts}
 use Rattle.std.proofs.lemmas.List.{get_or-set_other, set-get_or}
 use Rattle.grid_core.proofs.CandidateLemmas.{any_below-same}

@@ -1,4 +1,4 @@
-use Rattle.std.proofs.Common.{◌≡◌, ◌∙◌, ◌++◌, ℕ, List, [], ◌∷◌, replicate, ap, arith, subst, length-append}
+use Rattle.std.proofs.Common.{◌≡◌, ◌∙◌, ◌++◌, ℕ, [], ◌∷◌, replicate, ap, arith, subst, length-append}
 use Rattle.std.proofs.lemmas.List.{length-replicate}
 use Rattle.pattern_core.specs.Track.{IsSpelling}
 use Rattle.pattern_core.proofs.Spellings.{one_more, run_ended}

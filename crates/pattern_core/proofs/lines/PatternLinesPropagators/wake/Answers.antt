@@ -1,5 +1,4 @@
 use Rattle.engine_core.proofs.CallLemmas.{called-more, called-same}
-use Rattle.pattern_core.specs.LineRules.{line_rules}
 use Rattle.pattern_core.proofs.NextLine.{its_lines}
 use Rattle.pattern_core.proofs.lines.PatternLinesPropagators.wake.Goals as goal
 

@@ -14,7 +14,7 @@ loop-k-preserved c =
     let long = (lists_house c.n.ensures.lawful c.args.house c.requires.house_of).len in
     begun-more _ c.loop-k.k (omega arith) c.place.ensures.place c.loop-k.invariant c.in_ok-push.ensures
 
-pub returns : goal.returns
-returns c =
+pub returns-clause-begun : goal.returns-clause-begun
+returns-clause-begun c =
     let long = (lists_house c.n.ensures.lawful c.args.house c.requires.house_of).len in
     begun-done c.loop-k.k (omega arith) c.loop-k.invariant

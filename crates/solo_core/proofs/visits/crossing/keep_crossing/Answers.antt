@@ -1,5 +1,5 @@
 use Rattle.std.proofs.Common.{◌&&◌, not, ltb, leb, ◌∙◌, arith}
-use Rattle.solo_core.specs.Common.{length-set, has_bit, has_in}
+use Rattle.solo_core.specs.Common.{length-set, has_bit}
 use Rattle.solo_core.proofs.CrossingLemmas.{crossing-decided, bits-more}
 use Rattle.solo_core.proofs.visits.crossing.keep_crossing.Goals as goal
 

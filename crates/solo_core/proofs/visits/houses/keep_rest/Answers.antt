@@ -1,4 +1,4 @@
-use Rattle.std.proofs.Common.{refl, length}
+use Rattle.std.proofs.Common.{refl}
 use Rattle.solo_core.proofs.MateLemmas.{rest-within, no_pairing}
 use Rattle.solo_core.proofs.Turned.{decided_by_none, decided_by_rounds}
 use Rattle.solo_core.proofs.visits.houses.keep_rest.Goals as goal

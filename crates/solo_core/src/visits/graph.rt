@@ -10,7 +10,7 @@ use grid_core::Edges;
 
 /// Some cells of a house as lefts and the values as rights: each of these cells is joined to the values of its set.
 #[derive(Drop)]
-pub(crate) struct Joined<'a> {
+pub(crate) struct CellValueGraph<'a> {
     pub(crate) sets: &'a [u32],
     pub(crate) rest: &'a [u8],
     pub(crate) values: u8,
@@ -18,7 +18,7 @@ pub(crate) struct Joined<'a> {
     ghost rest_in: { AreCellsOf sets.now rest.now },
 }
 
-impl Joined<'_> {
+impl CellValueGraph<'_> {
     /// The set of a cell.
     pub(crate) fn set(&self, left: usize) -> u32
         requires { left < length self.now.rest.now }
@@ -28,7 +28,7 @@ impl Joined<'_> {
     }
 }
 
-impl Edges for Joined<'_> {
+impl Edges for CellValueGraph<'_> {
     ghost left_count = { λ e. length e.rest.now };
 
     ghost right_count = { λ e. e.values };
