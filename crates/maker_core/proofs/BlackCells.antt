@@ -22,12 +22,7 @@ pub record IsPartDrawn (black cells place : ℕ) (s now : Stream) (grid : List �
   pub full : black ≡ 100 → (k : ℕ) → k < place → slice_index grid k ≡ 1
 
 pub IsPartDrawn-none : {black cells : ℕ} {s : Stream} {grid : List ℕ} → length grid ≡ cells → IsPartDrawn black cells 0 s s grid
-IsPartDrawn-none {black} long = record {
-  long = long;
-  drawn = black_cells-none black;
-  white = λ e k lt. absurd (omega arith);
-  full = λ e k lt. absurd (omega arith);
-}
+IsPartDrawn-none {black} long = grind (arith, common_steps, black_cells-none)
 
 pub IsPartDrawn-more : {black cells place d v : ℕ} {s now u : Stream} {grid : List ℕ}
     → IsPartDrawn black cells place s now grid → (d, u) ≡ draw_below 100 now → d < 100 → v ≡ cond (nat_lt d black) 1 0 → place < cells
@@ -45,8 +40,7 @@ IsPartDrawn-more {black} {place} {d} {v} {s} {now} {u} {grid} before draw below 
 
 pub IsPartDrawn-all : {black cells : ℕ} {s now : Stream} {grid : List ℕ} → IsPartDrawn black cells cells s now grid
     → (grid, now) ≡ black_cells black cells s
-IsPartDrawn-all {cells} {grid} all =
-    rw (take_all cells grid (omega (arith, all.long))) at all.drawn
+IsPartDrawn-all {cells} {grid} all = grind (arith, common_steps)
 
 -- one more cell, of 0 or 1
 pub bit_below : (b : Bool) → cond b 1 0 < 2

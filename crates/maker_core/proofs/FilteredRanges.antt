@@ -1,4 +1,5 @@
 -- A filter of a range grows by its end, and keeps each number that passes.
+use Rattle.std.proofs.lemmas.Grind.{common_steps}
 use Rattle.maker_core.proofs.Common.{◌≡◌, ◌≢◌, ℕ, zero, suc, ◌+◌, ◌<◌, Bool, true, false, eqb, cond, List, [], ◌∷◌, ◌++◌, sym, ◌∙◌, ap, subst, arith}
 use Rattle.maker_core.proofs.Common.{add-one, map-id, inl, inr, filter, Contains, AllByRecursion, range_with_len, cases_eq, append-nil, All-contains}
 use Rattle.maker_core.proofs.Common.{All-from_recursion, Contains-append_left, Contains-append_right, filter-append, map-range_with_len_more}
@@ -28,8 +29,7 @@ passes_kept p (suc n) q lt on =
 
 -- no number after the head is the head
 pub head_apart : (xs : List ℕ) {x q : ℕ} → AllByRecursion (λ y. eqb x y ≡ false) xs → Contains xs q → q ≢ x
-head_apart xs {x} {q} apart held = λ e.
-    grind (arith, All-contains (λ y. eqb x y ≡ false) xs q (All-from_recursion (λ y. eqb x y ≡ false) xs apart) held)
+head_apart xs {x} {q} apart held = grind (arith, common_steps, All-contains, All-from_recursion)
 
 -- what the listing of cells that pass cites
 pub ruleset filter_laws = (filter_kept, filter_skipped)

@@ -1,4 +1,5 @@
 -- A puzzle that lacks a needed clue is within the puzzle without that clue alone.
+use Rattle.std.proofs.lemmas.Grind.{common_steps}
 use Rattle.maker_core.proofs.Common.{clue_is, solved_by_fewer, lit_by_fewer, numbered_is, ◌≡◌, ℕ, ◌<◌, false, Some, List, length, get_or, map, sym}
 use Rattle.maker_core.proofs.Common.{◌∙◌, subst, arith, All, Contains, cases_eq, get_or-map, length-map, CluedGame, IsGame, has_clue, IsThinnedFrom, HasTwo}
 use Rattle.maker_core.proofs.Common.{IsReason, AreReasons, LeavesNoIdleClue, Kept, Needed}
@@ -9,10 +10,7 @@ use Rattle.maker_core.proofs.ThinningTurns.{some_of, two_in}
 lacking_within : {A : Type 0} {game : CluedGame A} → IsGame game → (p q : A) (place n : ℕ) → IsThinnedFrom game q p
     → game.clue p place ≡ Some n → has_clue game q place ≡ false
     → IsThinnedFrom game q (game.without p place)
-lacking_within laws p q place n w e lacks = record {
-  frame = laws.same_through _ _ _ w.frame (laws.same_back _ _ (laws.without_frame p place n e));
-  clues = λ other m had. grind (arith, cases_eq other place, laws.others_stay p place other, w.clues other m);
-}
+lacking_within laws p q place n w e lacks = grind (arith, common_steps, cases_eq)
 
 -- the reason of a clue that is left
 needed_at : {A : Type 0} (game : CluedGame A) {budget : ℕ} (all p : A) (kept : List Kept) (place : ℕ)

@@ -1,4 +1,5 @@
 -- What is drawn for a filling of Light Up is its definition.
+use Rattle.std.proofs.lemmas.Grind.{common_steps}
 use Rattle.maker_core.proofs.Common.{◌≡◌, ℕ, ◌*◌, ◌<◌, true, List, false, arith, map, length, refl, sym, ap, ◌∙◌, get_or_default, get_or-map}
 use Rattle.maker_core.proofs.Common.{get_or_past, length-map, All, IsPermutation, slice_index, ◌==◌, if◌then◌else◌, range_with_len, LightCell, Stream}
 use Rattle.maker_core.proofs.Common.{Extent, Light, White, Black, light_cells, white, solves_lights, white-in, AreAll, shuffled_list, lights_of}
@@ -23,7 +24,7 @@ black_long size cells long = length-map cells _ ∙ long
 
 pub none_white : (size : Extent) (f : LightFilling) → length f.black ≡ size.w * size.h → AreAll 1 f.black → (c : ℕ) → white (light_puzzle_of size f) c ≡ false
 unfolding light_puzzle_of
-none_white size f long all c = same_white (lights_of size f.black) f.bulbs (black_long size f.black long) c ∙ black_at size f.black all c
+none_white size f long all c = grind (arith, common_steps, same_white, black_long, black_at)
 
 -- numbers told by the same bulbs are the same
 again_at : (p : Light) (g : List ℕ) → length p.cells ≡ light_cells p → (c : ℕ) → numbered_cell p g c ≡ numbered_cell (with_numbers p g) g c
@@ -32,7 +33,7 @@ again_at p g long c = rw (same_white p g long c) refl
 
 again : (p : Light) (g : List ℕ) → length p.cells ≡ light_cells p → with_numbers p g ≡ with_numbers (with_numbers p g) g
 unfolding with_numbers
-again p g long = ap (λ f. record { size = p.size; cells = map f (range_with_len 0 (light_cells p)) }) (λ i c. again_at p g long c i)
+again p g long = grind (arith, common_steps, again_at)
 
 pub numbers_again : (size : Extent) (f : LightFilling) → length f.black ≡ size.w * size.h
     → light_puzzle_of size f ≡ with_numbers (light_puzzle_of size f) f.bulbs

@@ -1,5 +1,6 @@
 -- White cells that were taken in turn, in any order, hold or see a bulb, and no bulb sees a bulb: the grid solves the
 -- puzzle with all numbers.
+use Rattle.std.proofs.lemmas.Grind.{common_steps}
 use Rattle.maker_core.proofs.Common.{elements, ◌≡◌, ℕ, zero, suc, ◌<◌, ◌≤◌, Bool, true, false, List, length, refl, sym, ◌∙◌, arith, inl, inr}
 use Rattle.maker_core.proofs.Common.{replicate, ◌||◌, slice_index, slice_set, if◌then◌else◌, IsPermutation, cond_both, cases_eq, true≢false}
 use Rattle.maker_core.proofs.Common.{false_from_ne_true, or_cases, or_left, or_right, filter_passes, All-contains, Contains-get_or}
@@ -17,29 +18,16 @@ pub record IsPlanted (p : Light) (order g : List ℕ) (k : ℕ) : Type 0 where
   pub lit : (j : ℕ) → j < k → (bulb g (slice_index order j) || sees_bulb p g (slice_index order j)) ≡ true
 
 planted_none : (p : Light) {order : List ℕ} → IsPlanted p order (replicate (light_cells p) 0) 0
-planted_none p = record {
-  on_white = λ c on. absurd (no_one _ c on);
-  apart = λ c d on _. absurd (no_one _ c on);
-  lit = λ j lt. absurd (omega arith);
-}
+planted_none p = grind (arith, common_steps, no_one)
 
 planted_held : {p : Light} {order g : List ℕ} {k : ℕ} → IsPlanted p order g k
     → (bulb g (slice_index order k) || sees_bulb p g (slice_index order k)) ≡ true → IsPlanted p order g (suc k)
-planted_held w held = record {
-  on_white = w.on_white;
-  apart = w.apart;
-  lit = λ j lt. grind (arith, w.lit j);
-}
+planted_held w held = grind (arith, common_steps)
 
 -- ---- a new bulb
 lit_stays : (p : Light) (g : List ℕ) (c d : ℕ) → c < length g → (bulb g d || sees_bulb p g d) ≡ true
     → (bulb (slice_set g c 1) d || sees_bulb p (slice_set g c 1) d) ≡ true
-lit_stays p g c d lt on = elim (or_cases (bulb g d) _ on) [
-  | inl own ↦ or_left _ _ (old_stays g c d lt own)
-  | inr seen ↦
-      let w = seen_bulb p g d seen in
-      or_right _ _ (bulb_seen p _ d w.0 w.1 w.2 (old_stays g c w.0 lt w.3))
-]
+lit_stays p g c d lt on = grind (arith, common_steps, or_cases, or_left, old_stays, seen_bulb, or_right, bulb_seen)
 
 planted_new : (p : Light) (order g : List ℕ) (k c : ℕ) → length g ≡ light_cells p → IsPlanted p order g k
     → c ≡ slice_index order k → white p c ≡ true → c < light_cells p

@@ -1,4 +1,5 @@
 -- The puzzle of a grid has the runs of its lines as clues, and the grid is a solution of it.
+use Rattle.std.proofs.lemmas.Grind.{common_steps}
 use Rattle.maker_core.proofs.Common.{◌≡◌, ℕ, ◌+◌, ◌-◌, ◌*◌, ◌<◌, List, [], length, map, get_or, subst, refl, sym, ap, ◌∙◌, arith, inl, inr}
 use Rattle.maker_core.proofs.Common.{range_with_len, slice_index_or, IsTrue, ◌↔◌, cases_lt, line_numbers-column, line_numbers-row, fill_by_all, Extent, IsGrid, row_cells}
 use Rattle.maker_core.proofs.Common.{column_cells, runs, line_numbers, Pattern, lines_of, line_rules, IsPatternSolution, HasOne, TellsOne, IsOnlySolution}
@@ -30,9 +31,7 @@ pattern_is size g p lines has =
 
 -- that grid is a solution of it
 pub pattern_solved : (size : Extent) (g : List ℕ) (p : Pattern) → HasRuns size g p → IsGrid (size.w * size.h) 2 g → IsPatternSolution p g
-pattern_solved size g p has grid =
-    let w = subst (λ s. HasRuns s g p × IsGrid (s.w * s.h) 2 g) (sym has.sized) (has, grid) in
-    record { grid = w.1; columns = λ x lt. sym (w.0.columns x lt); rows = λ y lt. sym (w.0.rows y lt) }
+pattern_solved size g p has grid = grind (arith, common_steps)
 
 -- what the making of a puzzle of a grid cites
 pub ruleset pattern_laws = (pattern_is, pattern_solved)

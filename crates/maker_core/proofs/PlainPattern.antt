@@ -1,4 +1,5 @@
 -- A grid of white cells alone, or of black cells alone, is all that one visit of each row leaves.
+use Rattle.std.proofs.lemmas.Grind.{common_steps}
 use Rattle.maker_core.proofs.Common.{sum, sum_by, nat_lt, cond, set, length-set, lt-ltb, All-from_get_or, count_by-le-length, get_or-le-sum_by}
 use Rattle.maker_core.proofs.Common.{sum_by-append, sum_by-cons, sum_by-le, sum_by-set, ◌≡◌, ℕ, zero, suc, ◌+◌, ◌-◌, ◌*◌, ◌/◌, ◌%◌, ◌<◌, ◌≤◌, true}
 use Rattle.maker_core.proofs.Common.{false, List, [], ◌∷◌, length, slice_index, refl, sym, ap, ◌∙◌, arith, inl, inr, ◌⊎◌, le-ltb, div-add-mod'}
@@ -60,10 +61,7 @@ black_line line cells all long e = each_black cells (same_blacks cells line e �
 
 -- ---- the row of a cell
 row_all : (size : Extent) (g : List ℕ) {y b : ℕ} → length g ≡ size.w * size.h → y < size.h → AreAll b g → AreAll b (row_cells size g y)
-row_all size g {y} long lty all k lt =
-    let few : k < size.w = omega (arith, lt, length-map-range_with_len (λ x. slice_index g (y * size.w + x)) 0 size.w) in
-    let cell = cell_in_grid size k y few lty in
-    get_or-map-range_with_len (λ x. slice_index g (y * size.w + x)) 0 size.w k k 0 few (omega arith) ∙ all _ (omega arith)
+row_all size g {y} long lty all k lt = grind (arith, common_steps, length-map-range_with_len, cell_in_grid, get_or-map-range_with_len)
 
 -- a filling that shows a value that a closed board still has
 shown : (size : Extent) (g : List ℕ) (E : Candidates) (c v : ℕ) → IsExtent size → IsClosed (line_rules (clued_by size g)) E → c < size.w * size.h → E c v ≡ true

@@ -1,4 +1,5 @@
 -- A draw below a number is below it, a shuffle brings a list into another order, and both leave a stream of words.
+use Rattle.std.proofs.lemmas.Grind.{common_steps}
 use Rattle.maker_core.proofs.Common.{◌≡◌, ℕ, ◌+◌, ◌-◌, ◌*◌, ◌/◌, ◌%◌, ◌^◌, ◌<◌, ◌≤◌, [], ◌∷◌, nat_le, nat_lt, refl, arith, ◌∙◌, zero, suc, List}
 use Rattle.maker_core.proofs.Common.{length, sym, subst, cond_both, ltb-true, eqb-true, lt-ltb, ltb-false, true≢false, div-add-mod', div_below, mul-le}
 use Rattle.maker_core.proofs.Common.{mod_below, Stream, next_u32, u32_call, canon, carry_room, if_below, HasWords, shuffled_order, ◌==◌, IsPermutation}
@@ -13,7 +14,7 @@ word_below words = words.below []
 
 words_left : {s : Stream} → HasWords s → HasWords (next_u32 s).1
 unfolding next_u32
-words_left words = record { below = λ calls. words.below (u32_call ∷ calls) }
+words_left words = grind (arith, common_steps)
 
 -- a number below a range, and words after it
 pub record IsDrawnBelow (range : ℕ) (draw : ℕ × Stream) : Type 0 where

@@ -1,4 +1,5 @@
 -- The puzzle that gives all cells of a grid: its search starts from that grid alone.
+use Rattle.std.proofs.lemmas.Grind.{common_steps}
 use Rattle.maker_core.proofs.Common.{◌≡◌, ℕ, suc, ◌+◌, ◌*◌, ◌<◌, ◌≤◌, Bool, List, map, length, slice_index, take, replicate, [], ◌∷◌, ◌++◌, ◌-◌, refl}
 use Rattle.maker_core.proofs.Common.{sym, ◌∙◌, arith, Some, ap, length-map, length-take-le, get_or-map, map_more, set_at, append_assoc}
 use Rattle.maker_core.proofs.Common.{append-nil, take_all, All-map, All-get_or, All-from_get_or, recursion_from_All, IsInside, single, IsGrid}
@@ -28,9 +29,7 @@ given_first c r x numbers k = solo_puzzle c r x (map suc (take k numbers) ++ rep
 
 pub given-all : (p : Solo) (c r : ℕ) (x : Bool) (g : List ℕ) (k : ℕ) → p ≡ given_first c r x g k → k ≡ length g → length g ≡ (c * r) * (c * r)
     → p ≡ all_given c r x g
-given-all p c r x g k is all long =
-    let none : (c * r) * (c * r) - k ≡ 0 = omega arith in
-    is ∙ ap (solo_puzzle c r x) (rw (none, take_all k g (omega arith)) (append-nil (map suc g)))
+given-all p c r x g k is all long = grind (arith, common_steps, append-nil)
 
 module _ (c r : ℕ) (x : Bool) (g : List ℕ) (size : IsSoloSize c r) (solution : IsSoloSolution (all_given c r x g) g) where
   solo : IsSolo (all_given c r x g)
@@ -93,7 +92,4 @@ found_passes c r x budget (Some g) size solution = sym (ap is_one (all_given-fou
 found_passes c r x budget None size solution = refl
 
 pub only_by_rules : (p : Solo) (g : List ℕ) → IsSolo p → IsTrueOf (houses_rules p) (OneSolution g) → IsOnlySolution (IsSoloSolution p) g
-only_by_rules p g ok w = (
-  rule_from_test p ok g w.0.grid w.0.good,
-  λ h other. sym (w.1 h (record { grid = other.grid; good = test_from_rule p ok h other })),
-)
+only_by_rules p g ok w = grind (arith, common_steps, rule_from_test, test_from_rule)

@@ -1,5 +1,6 @@
 -- The grid of orders is a solution of the puzzle that gives all its cells: two cells of one row, column or block come of two
 -- cells of one before the shuffles, and there the numbers differ.
+use Rattle.std.proofs.lemmas.Grind.{common_steps}
 use Rattle.maker_core.proofs.Common.{same_number_lists, ◌≡◌, ℕ, ◌*◌, ◌/◌, ◌%◌, ◌<◌, true, false, List, length, slice_index, sym, ◌∙◌, arith, eqb-true}
 use Rattle.maker_core.proofs.Common.{true≢false, mul-pos, div_below, mod_below, same_from_place, get_or-map, All-from_get_or}
 use Rattle.maker_core.proofs.Common.{length-map-range_with_len, get_or-map-range_with_len, IsGrid, NamedHouse, Row, Column, Block, Diagonal, block_of}
@@ -39,23 +40,21 @@ module _ (c r : ℕ) (numbers rows columns : List ℕ) (orders : AreOrders c r n
   y_below {place} lt = omega (arith, div_below place (c * r) (c * r) side_some lt)
 
   pub old_x_below : (place : ℕ) → old_x place < c * r
-  old_x_below place = orders.column_order.order.within (place % (c * r)) (x_below place)
+  old_x_below place = grind (arith, common_steps, x_below)
 
   pub old_y_below : (place : ℕ) → place < cells → old_y place < c * r
-  old_y_below place lt = omega (arith, orders.row_order.order.within (place / (c * r)) (y_below lt))
+  old_y_below place lt = grind (arith, common_steps, y_below)
 
   -- two cells that hold the same
   module _ {j k : ℕ} (lj : j < cells) (lk : k < cells) (e : slice_index grid j ≡ slice_index grid k) where
     same_first : old_number c r rows columns j ≡ old_number c r rows columns k
-    same_first =
-        orders.number_order.apart _ _ (mod_below _ (c * r) side_some) (mod_below _ (c * r) side_some)
-        (sym (rearranged-at c r numbers rows columns j lj) ∙ e ∙ rearranged-at c r numbers rows columns k lk)
+    same_first = grind (arith, common_steps, mod_below, side_some, rearranged-at)
 
     same_x : old_x j ≡ old_x k → j % (c * r) ≡ k % (c * r)
-    same_x = orders.column_order.order.apart (j % (c * r)) (k % (c * r)) (x_below j) (x_below k)
+    same_x = grind (arith, common_steps, x_below)
 
     same_y : old_y j ≡ old_y k → j / (c * r) ≡ k / (c * r)
-    same_y = orders.row_order.order.apart (j / (c * r)) (k / (c * r)) (y_below lj) (y_below lk)
+    same_y = grind (arith, common_steps, y_below)
 
     apart_in_row : j / (c * r) ≡ k / (c * r) → j ≡ k
     apart_in_row row =

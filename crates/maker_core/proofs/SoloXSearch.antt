@@ -24,12 +24,11 @@ first_solves p (GaveUp (Some first)) is = is
 pub found_solves : (p : RuleSystem) {found first : Option (List ℕ)} (second : Option (List ℕ)) (answer : Verdict) (said : Outcome) → found ≡ first
     → IsAnswer answer first second said → IsTrueOf p said
     → IfSome found (Solves p)
-found_solves p second answer said lent is true_of =
-    subst (λ f. IfSome f (Solves p)) (sym (lent ∙ first_is answer second said is)) (first_solves p said true_of)
+found_solves p second answer said lent is true_of = grind (arith, common_steps, first_is, first_solves)
 
 -- ---- the top row
 pub room : (c r : ℕ) → IsSoloSize c r → c * r ≤ (c * r) * (c * r)
-room c r size = grind (arith, mul-le 1 1 c r, mul-le 1 (c * r) (c * r) (c * r), size.c_low, size.r_low)
+room c r size = grind (arith, common_steps, mul-le)
 
 module _ (c r : ℕ) (numbers : List ℕ) (size : IsSoloSize c r) (order : IsOrder (c * r) numbers) where
   abbrev rest : ℕ
@@ -51,8 +50,7 @@ module _ (c r : ℕ) (numbers : List ℕ) (size : IsSoloSize c r) (order : IsOrd
   }
 
   pub top-all : (p : Solo) (k : ℕ) → p ≡ given_first c r true numbers k → k ≡ length numbers → p ≡ top_row_given c r numbers
-  top-all p k is all = is
-      ∙ rw (all, order.len) (ap (λ xs. solo_puzzle c r true (map suc xs ++ replicate rest 0)) (take_all (c * r) numbers (omega (arith, order.len))))
+  top-all p k is all = grind (arith, common_steps)
 
   -- the flipped grid keeps to the rules
   pub flipped-found : (found : Option (List ℕ)) (t : Stream) → IfSome found (Solves (houses_rules (top_row_given c r numbers)))

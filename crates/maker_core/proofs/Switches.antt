@@ -1,4 +1,5 @@
 -- Cells turned and turned back leave a grid as it was, and a puzzle with two solutions has no verdict of one.
+use Rattle.std.proofs.lemmas.Grind.{common_steps}
 use Rattle.maker_core.proofs.Common.{◌≡◌, ◌≢◌, ℕ, ◌<◌, Bool, true, false, List, length, refl, sym, ap, ◌∙◌, arith, not, Option}
 use Rattle.maker_core.proofs.Common.{slice_index, slice_set, is_some, get_or-set_same, IsExtent, Pattern, RuleSystem, outcome-true, Outcome}
 use Rattle.maker_core.proofs.Common.{verdict_of, Solves, IsTrueOf, FailsPattern, IsPatternFault, PatternFault, pattern_none, pattern_tests, tells, is_solution-from, line_rules-lawful, line_rules}
@@ -9,7 +10,7 @@ use Rattle.maker_core.proofs.WrittenGrids.{grid_with, set_back}
 
 -- one number put back, after those that were written later
 pub undone : (g : List ℕ) {h back k : List ℕ} (i u : ℕ) {was : ℕ} → h ≡ slice_set g i u → was ≡ slice_index g i → back ≡ h → k ≡ slice_set back i was → k ≡ g
-undone g i u {was} e is same f = f ∙ (ap (λ xs. slice_set xs i was) (same ∙ e) ∙ set_back g i u was 0 (sym is))
+undone g i u {was} e is same f = grind (arith, common_steps, set_back)
 
 -- whether no fault was told
 pub told_by : {p : Pattern} (g : List ℕ) {h : List ℕ} (fault : Option PatternFault) {told : Bool} → IsPatternFault p g fault
@@ -33,10 +34,7 @@ none_more {p} {place} none here x y lt below begins has = elim (cases_lt (y * p.
 
 -- the last cell written has another number than before
 pub turned_other : (g before h : List ℕ) (i : ℕ) → i < length before → slice_index g i ≡ 1 → h ≡ slice_set before i 0 → h ≢ g
-turned_other g before h i lt black e same =
-    let white = ap (λ xs. slice_index xs i) e ∙ get_or-set_same before i 0 0 lt in
-    let here = ap (λ xs. slice_index xs i) same ∙ black in
-    absurd (omega (arith, white, here))
+turned_other g before h i lt black e same = grind (arith, common_steps, get_or-set_same)
 
 -- two solutions refute a verdict of one
 two_fail : (rules : RuleSystem) {g h : List ℕ} (o : Outcome) → IsTrueOf rules o → Solves rules g → Solves rules h → h ≢ g → is_one o ≡ false

@@ -1,5 +1,6 @@
 -- A clue is tried: it stays for a reason that the verdict tells, and what was told of other cells holds of the thinner puzzle
 -- too, since fewer clues lose no solution.
+use Rattle.std.proofs.lemmas.Grind.{common_steps}
 use Rattle.engine_core.specs.declared.search.walk.Verdict.TheVariants as verdict
 use Rattle.maker_core.proofs.Common.{◌≡◌, ℕ, List, Option, None, Bool, sym, ◌≢◌, zero, suc, ◌<◌, true, false, true≢false, [], ◌∷◌, Some, length}
 use Rattle.maker_core.proofs.Common.{get_or, set, drop, ◌+◌, refl, ◌∙◌, ap, arith, ◌⊎◌, inl, inr, add-one, RuleSystem, Needs, FitsIn, needs_of, Outcome}
@@ -10,9 +11,7 @@ use Rattle.maker_core.proofs.FilteredRanges.{head_apart}
 
 pub needed : (p : RuleSystem) (budget : ℕ) {first second : Option (List ℕ)} {o : Outcome} {why : Why} → why ≡ Needed
     → IsAnswer verdict.Several first second o → IsTrueOf p o → IsVerdict p budget why
-needed p budget is answer sound =
-    let two = rw answer.2 at sound in
-    rw is (record { first = answer.0; second = answer.1; first_solves = two.0; second_solves = two.1; differ = two.2 })
+needed p budget is answer sound = grind (arith, common_steps)
 
 pub gave_up : (p : RuleSystem) (budget : ℕ) {first second : Option (List ℕ)} {found : Bool} {why : Why} → why ≡ Budget
     → IsAnswer (verdict.GaveUp found) first second (outcome budget None (walk p 0 p.start)) → IsVerdict p budget why
@@ -48,34 +47,24 @@ next_turn order {k} below now = rw (add-one, sym (drop-cons order k 0 below)) no
 
 module _ {A : Type 0} {game : CluedGame A} (laws : IsGame game) where
   pub within_itself : {p : A} → IsThinnedFrom game p p
-  within_itself {p} = record { frame = laws.same_itself p; clues = λ place n e. e }
+  within_itself {p} = grind (arith, common_steps)
 
   within_through : {p q r : A} → IsThinnedFrom game p q → IsThinnedFrom game q r → IsThinnedFrom game p r
-  within_through {p} {q} {r} first second =
-      record { frame = laws.same_through p q r first.frame second.frame; clues = λ place n e. second.clues place n (first.clues place n e) }
+  within_through {p} {q} {r} first second = grind (arith, common_steps)
 
   -- a clue of the puzzle without the clue of a cell is a clue of another cell
   other_clue : (p : A) (place other m : ℕ) → game.clue (game.without p place) other ≡ Some m → (other ≢ place) × (game.clue p other ≡ Some m)
-  other_clue p place other m had = grind (arith, cases_eq other place, laws.without_it p place, laws.others_stay p place other)
+  other_clue p place other m had = grind (arith, common_steps, cases_eq)
 
   thinner : (p : A) (place n : ℕ) → game.clue p place ≡ Some n → IsThinnedFrom game (game.without p place) p
-  thinner p place n e = record { frame = laws.without_frame p place n e; clues = λ other m had. (other_clue p place other m had).1 }
+  thinner p place n e = grind (arith, common_steps, other_clue)
 
   without_within : (p q : A) (place n : ℕ) → IsThinnedFrom game p q → game.clue p place ≡ Some n
       → IsThinnedFrom game (game.without p place) (game.without q place)
-  without_within p q place n w e = record {
-    frame = laws.same_through _ _ _ (within_through (thinner p place n e) w).frame (laws.same_back _ _ (thinner q place n (w.clues place n e)).frame);
-    clues = λ other m had. let o = other_clue p place other m had in laws.others_stay q place other o.0 ∙ w.clues other m o.1;
-  }
+  without_within p q place n w e = grind (arith, common_steps, within_through, thinner, other_clue)
 
   pub two_in : {p q : A} → IsThinnedFrom game p q → HasTwo (game.rules q) → HasTwo (game.rules p)
-  two_in {p} {q} w two = record {
-    first = two.first;
-    second = two.second;
-    differ = two.differ;
-    first_solves = laws.solutions_stay p q two.first w two.first_solves;
-    second_solves = laws.solutions_stay p q two.second w two.second_solves;
-  }
+  two_in {p} {q} w two = grind (arith, common_steps)
 
   module _ (budget : ℕ) (all : A) where
     reason_in : (p q : A) (place : ℕ) (why : Why) → IsThinnedFrom game (game.without p place) (game.without q place)

@@ -1,4 +1,5 @@
 -- A list of houses from which some are left out is no longer, and has no longer house.
+use Rattle.std.proofs.lemmas.Grind.{common_steps}
 use Rattle.std.proofs.Common.{◌≡◌, ℕ, zero, suc, ◌+◌, ◌<◌, ◌≤◌, List, [], ◌++◌, length, sym, subst, arith, inl, inr, ◌⊎◌}
 use Rattle.std.proofs.Math.Nat.{le_refl, max-le}
 use Rattle.std.proofs.lemmas.List.{length-append, get_or_append_left, get_or-append-add}
@@ -19,7 +20,7 @@ pub fewer_itself : {xs : List CountHouse} → IsFewer xs xs
 fewer_itself = record { fewer = le_refl _; short = λ m each. each }
 
 fewer_none : {xs : List CountHouse} → IsFewer [] xs
-fewer_none = record { fewer = omega arith; short = λ m each h lt. absurd (omega arith) }
+fewer_none = grind (arith, common_steps)
 
 front : (P : CountHouse → Type 0) (xs ys : List CountHouse) → EachOf P (xs ++ ys) → EachOf P xs
 front P xs ys each h lt = subst P (get_or_append_left xs ys no_count_house h lt) (each h (omega (arith, lt, length-append xs ys)))

@@ -1,4 +1,5 @@
 -- What fewer numbers change.
+use Rattle.std.proofs.lemmas.Grind.{common_steps}
 use Rattle.std.proofs.Common.{◌≡◌, ◌≢◌, ℕ, ◌<◌, true, false, cond, Some, List, [], length, map, get_or, set, refl, sym, ◌∙◌, ap, subst, arith, inl, inr, ◌⊎◌}
 use Rattle.std.specs.Prelude.{filter, slice_index_or, slice_set}
 use Rattle.std.specs.List.{range_with_len}
@@ -37,7 +38,7 @@ unfolding white
 white_map p c = sym (get_or-map is_white p.cells c Black)
 
 same_white : (p q : Light) → map is_white p.cells ≡ map is_white q.cells → white p ≡ white q
-same_white p q same = fun_ext λ c. white_map p c ∙ ap (λ whites. get_or whites c false) same ∙ sym (white_map q c)
+same_white p q same = grind (arith, common_steps, white_map)
 
 -- ---- fewer numbers
 pub numbered_is : {cell : LightCell} {n : ℕ} → number_clue cell ≡ Some n → cell ≡ Numbered n
@@ -71,25 +72,21 @@ lit_by_fewer p q g w lit = lit_stays p q.cells g w.frame.black w.clues (subst (�
 
 solutions_stay : (p q : Light) (g : List ℕ) → IsThinnedFrom light_game p q → Solves (light_rules q) g → Solves (light_rules p) g
 unfolding with_cells
-solutions_stay p q g w s = record {
-  grid = (subst (λ x. Solves (light_rules x) g) (resized w.frame) s).grid;
-  good = lit_by_fewer p q g w s.good;
-}
+solutions_stay p q g w s = grind (arith, common_steps, resized, lit_by_fewer)
 
 -- ---- houses and needs
 without_number : Light → ℕ → Light
 without_number p place = record p { cells = set p.cells place Black }
 
 cleared : (cells : List LightCell) (place : ℕ) → slice_index_or (slice_set cells place Black) place Black ≡ Black
-cleared cells place =
-    grind (arith, cases_lt place (length cells), get_or-set_same cells place Black Black, get_or_past (set cells place Black) place Black, length-set cells place Black)
+cleared cells place = grind (arith, common_steps, cases_lt, get_or-set_same, get_or_past, length-set)
 
 not_white : (cell : LightCell) {n : ℕ} → number_clue cell ≡ Some n → is_white cell ≡ false
 not_white cell e = ap is_white (numbered_is e)
 
 same_without : (p : Light) (place n : ℕ) → number_clue (slice_index_or p.cells place Black) ≡ Some n → SameLight (without_number p place) p
 unfolding without_number
-same_without p place n e = record { size = refl; black = map-set_same is_white p.cells place Black Black (sym (not_white _ e)) }
+same_without p place n e = grind (arith, common_steps, map-set_same, not_white)
 
 fewer_houses : (p : Light) (place n : ℕ) → number_clue (slice_index_or p.cells place Black) ≡ Some n
     → IsFewer (light_houses (without_number p place)) (light_houses p)
@@ -125,15 +122,12 @@ clue_in : (cells : List LightCell) {place n : ℕ} → number_clue (slice_index_
 clue_in cells {place} e = grind (arith, get_or_past cells place Black)
 
 same_length : (p q : Light) → map is_white p.cells ≡ map is_white q.cells → length p.cells ≡ length q.cells
-same_length p q same = sym (length-map p.cells is_white) ∙ ap length same ∙ length-map q.cells is_white
+same_length p q same = grind (arith, common_steps, length-map)
 
 told_same : (p : Light) (cells : List LightCell) (g : List ℕ) → map is_white p.cells ≡ map is_white cells
     → light_game.all_clues p g ≡ light_game.all_clues (with_cells p.size cells) g
 unfolding with_cells with_numbers
-told_same p cells g same =
-    ap (λ wh. with_cells p.size
-    (map (λ place. cond (wh place) White (Numbered (bulbs_beside p g place))) (range_with_len 0 (light_cells p))))
-    (same_white p (with_cells p.size cells) same)
+told_same p cells g same = grind (arith, common_steps, with_cells, same_white)
 
 pub light_is_game : IsGame light_game
 unfolding without_number

@@ -1,4 +1,5 @@
 -- What fewer givens change.
+use Rattle.std.proofs.lemmas.Grind.{common_steps}
 use Rattle.std.proofs.Common.{◌≡◌, ℕ, zero, suc, ◌+◌, ◌<◌, ◌≤◌, true, Some, List, length, set, refl, sym, ◌∙◌, ap, subst, arith}
 use Rattle.std.specs.Prelude.{slice_index, slice_set}
 use Rattle.std.proofs.Math.Nat.{le_refl}
@@ -21,9 +22,7 @@ use Rattle.maker_core.specs.SoloClues.{given_clue, SameSolo, solo_game}
 
 -- the second puzzle, with the first one's size
 resized : (p q : Solo) → SameSolo p q → q ≡ solo_puzzle p.c p.r p.x q.givens
-resized p q same =
-    ap (λ c. solo_puzzle c q.r q.x q.givens) (sym same.c) ∙ ap (λ r. solo_puzzle p.c r q.x q.givens) (sym same.r)
-    ∙ ap (λ x. solo_puzzle p.c p.r x q.givens) (sym same.x)
+resized p q same = grind (arith, common_steps)
 
 pub clue_is : (v n : ℕ) → given_clue v ≡ Some n → v ≡ n
 clue_is zero n e = absurd (none-some n e)
@@ -83,8 +82,7 @@ solutions_stay p q g w s =
     record { grid = same.grid; good = test_stays p q.givens g w.clues same.good }
 
 cleared : (givens : List ℕ) (place : ℕ) → slice_index (slice_set givens place 0) place ≡ 0
-cleared givens place =
-    grind (arith, cases_lt place (length givens), get_or-set_same givens place 0 0, get_or_past (set givens place 0) place 0, length-set givens place 0)
+cleared givens place = grind (arith, common_steps, cases_lt, get_or-set_same, get_or_past, length-set)
 
 pub solo_is_game : IsGame solo_game
 solo_is_game = record {
