@@ -1,5 +1,5 @@
 -- The cells of a grid that were drawn so far are the list of draws.
-use Rattle.maker_core.proofs.Common.{take_all, elements, ◌≡◌, ℕ, zero, suc, ◌+◌, ◌<◌, Bool, List, [], ◌∷◌, ◌++◌, refl, sym, ◌∙◌, ap, arith, add-one}
+use Rattle.maker_core.proofs.Common.{elements, ◌≡◌, ℕ, zero, suc, ◌+◌, ◌<◌, Bool, List, [], ◌∷◌, ◌++◌, refl, sym, ◌∙◌, ap, arith, add-one}
 use Rattle.maker_core.proofs.Common.{take, length, length-append, cond, nat_lt, slice_index, slice_set, common_steps, take_more_set, All-append}
 use Rattle.maker_core.proofs.Common.{All-cons, All-nil, Stream, IsGrid, draw_below, black_cells}
 

@@ -1,6 +1,6 @@
 -- The loop over tries: so many fillings were made, and each failed.
 use Rattle.std.proofs.lemmas.Grind.{common_steps}
-use Rattle.maker_core.proofs.Common.{◌≡◌, ℕ, suc, ◌+◌, ◌<◌, Bool, true, false, sym, ◌∙◌, ap, arith, add-one, inl, inr, cases_eq, Stream, refl, ◌≢◌}
+use Rattle.maker_core.proofs.Common.{◌≡◌, ℕ, suc, ◌+◌, ◌<◌, Bool, true, false, ◌∙◌, ap, arith, add-one, cases_eq, Stream, refl, ◌≢◌}
 use Rattle.std.specs.Prelude.{Result, Err}
 use Rattle.maker_core.specs.declared.made.MakeFault.{MakeFault}
 use Rattle.maker_core.specs.declared.made.MakeFault.TheVariants.{Exhausted, Memory, SizeRange}

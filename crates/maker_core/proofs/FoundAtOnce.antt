@@ -2,7 +2,7 @@
 -- it is where the start is the solution alone, and then no other grid lies inside the start.
 
 use Rattle.maker_core.proofs.Common.{◌≡◌, ℕ, zero, suc, ◌<◌, true, List, [], ◌∷◌, length, slice_index, None, refl, sym, ap, ◌∙◌, arith}
-use Rattle.maker_core.proofs.Common.{Candidates, IsInside, single, grid_of, count_below, count_below-pos, count_below-few, is_dead-each}
+use Rattle.maker_core.proofs.Common.{Candidates, IsInside, single, count_below, count_below-pos, count_below-few, is_dead-each}
 use Rattle.maker_core.proofs.Common.{is_full-each, single-at, single-is, grid_of-full, RuleSystem, IsLawful, closure, closure_inside, closure_largest}
 use Rattle.maker_core.proofs.Common.{walk, walk-unfold, outcome, Solves, IsTrueOf, walk_closed-solved, TellsOne, same_number_lists}
 use Rattle.engine_core.specs.Walk.{Mark.Found}

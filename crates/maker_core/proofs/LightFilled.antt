@@ -1,9 +1,9 @@
 -- What is drawn for a filling of Light Up is its definition.
 use Rattle.std.proofs.lemmas.Grind.{common_steps}
-use Rattle.maker_core.proofs.Common.{◌≡◌, ℕ, ◌*◌, ◌<◌, true, List, false, arith, map, length, refl, sym, ap, ◌∙◌, get_or_default, get_or-map}
-use Rattle.maker_core.proofs.Common.{get_or_past, length-map, All, IsPermutation, slice_index, ◌==◌, if◌then◌else◌, range_with_len, LightCell, Stream}
-use Rattle.maker_core.proofs.Common.{Extent, Light, White, Black, light_cells, white, solves_lights, white-in, AreAll, shuffled_list, lights_of}
-use Rattle.maker_core.proofs.Common.{white_places, bulbs_after, numbered_cell, with_numbers, LightFilling, light_puzzle_of}
+use Rattle.maker_core.proofs.Common.{◌≡◌, ℕ, ◌*◌, ◌<◌, List, false, arith, length, refl, ◌∙◌, get_or_default, get_or-map}
+use Rattle.maker_core.proofs.Common.{get_or_past, length-map, All, IsPermutation, slice_index}
+use Rattle.maker_core.proofs.Common.{Extent, Light, light_cells, white, white-in, AreAll, lights_of}
+use Rattle.maker_core.proofs.Common.{white_places, numbered_cell, with_numbers, LightFilling, light_puzzle_of}
 use Rattle.maker_core.proofs.LightSight.{same_white}
 use Rattle.maker_core.proofs.LightSolved.{order_white}
 

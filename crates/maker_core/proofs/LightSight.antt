@@ -1,6 +1,6 @@
 -- Who sees whom, whatever the numbers, and both ways; and bulbs that are placed in turn.
 use Rattle.maker_core.proofs.FilteredRanges.{filter_laws}
-use Rattle.maker_core.proofs.Common.{◌≡◌, ℕ, ◌+◌, ◌<◌, true, false, ◌&&◌, List, length, get_or, refl, ap, ◌∙◌, arith, zero, suc}
+use Rattle.maker_core.proofs.Common.{◌≡◌, ℕ, ◌+◌, ◌<◌, true, false, List, length, get_or, refl, ap, ◌∙◌, arith, zero, suc}
 use Rattle.maker_core.proofs.Common.{replicate, add-one, ◌||◌, slice_index, filter, range_with_len, cond_both, and_from, get_or_past}
 use Rattle.maker_core.proofs.Common.{get_or-map-range_with_len, length-map-range_with_len, any_below-here, any_below-some, Light, Black, light_cells}
 use Rattle.maker_core.proofs.Common.{white, bulb, joined_in_row, joined_in_column, sees, sees_bulb, row-both, row-self, column-both, column-self}

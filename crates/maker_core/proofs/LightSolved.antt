@@ -5,7 +5,7 @@ use Rattle.maker_core.proofs.Common.{elements, ◌≡◌, ℕ, zero, suc, ◌<�
 use Rattle.maker_core.proofs.Common.{replicate, ◌||◌, slice_index, slice_set, if◌then◌else◌, IsPermutation, cond_both, cases_eq, true≢false}
 use Rattle.maker_core.proofs.Common.{false_from_ne_true, or_cases, or_left, or_right, filter_passes, All-contains, Contains-get_or}
 use Rattle.maker_core.proofs.Common.{Contains-permutation, IsPermutation-sym, range_with_len, get_or_default, all_below-from, IsGrid, Light, LightCell}
-use Rattle.maker_core.proofs.Common.{White, Numbered, light_cells, white, bulb, bulbs_beside, number_is, sees, sees_bulb, black_right}
+use Rattle.maker_core.proofs.Common.{White, Numbered, light_cells, white, bulb, number_is, sees, sees_bulb, black_right}
 use Rattle.maker_core.proofs.Common.{number_right, bulb_right, lit_right, solves_lights, lit-from, white-in, bulb-in, white_places, bulbs_after, with_numbers}
 use Rattle.maker_core.proofs.FilteredRanges.{passes_kept}
 use Rattle.maker_core.proofs.LightSight.{bulbs_after-grid, number_at, same_white, same_seen, sees_back, sees_itself, seen_bulb, bulb_seen}

@@ -1,8 +1,8 @@
 -- The puzzle of a grid has the runs of its lines as clues, and the grid is a solution of it.
 use Rattle.std.proofs.lemmas.Grind.{common_steps}
-use Rattle.maker_core.proofs.Common.{◌≡◌, ℕ, ◌+◌, ◌-◌, ◌*◌, ◌<◌, List, [], length, map, get_or, subst, refl, sym, ap, ◌∙◌, arith, inl, inr}
-use Rattle.maker_core.proofs.Common.{range_with_len, slice_index_or, IsTrue, ◌↔◌, cases_lt, line_numbers-column, line_numbers-row, fill_by_all, Extent, IsGrid, row_cells}
-use Rattle.maker_core.proofs.Common.{column_cells, runs, line_numbers, Pattern, lines_of, line_rules, IsPatternSolution, HasOne, TellsOne, IsOnlySolution}
+use Rattle.maker_core.proofs.Common.{◌≡◌, ℕ, ◌+◌, ◌-◌, ◌*◌, ◌<◌, List, [], length, map, get_or, refl, sym, ap, ◌∙◌, arith, inl, inr}
+use Rattle.maker_core.proofs.Common.{range_with_len, slice_index_or, cases_lt, line_numbers-column, line_numbers-row, fill_by_all, Extent, IsGrid, row_cells}
+use Rattle.maker_core.proofs.Common.{column_cells, runs, line_numbers, Pattern, lines_of, IsPatternSolution}
 use Rattle.maker_core.proofs.Common.{clued_by}
 
 -- a puzzle with those clues

@@ -4,7 +4,7 @@ use Rattle.maker_core.proofs.Common.{sum, sum_by, nat_lt, cond, set, length-set,
 use Rattle.maker_core.proofs.Common.{sum_by-append, sum_by-cons, sum_by-le, sum_by-set, ◌≡◌, ℕ, zero, suc, ◌+◌, ◌-◌, ◌*◌, ◌/◌, ◌%◌, ◌<◌, ◌≤◌, true}
 use Rattle.maker_core.proofs.Common.{false, List, [], ◌∷◌, length, slice_index, refl, sym, ap, ◌∙◌, arith, inl, inr, ◌⊎◌, le-ltb, div-add-mod'}
 use Rattle.maker_core.proofs.Common.{div_below, mod_below, get_or-map-range_with_len, length-map-range_with_len, Extent, IsExtent, Candidates}
-use Rattle.maker_core.proofs.Common.{row_cells, run_of, runs_after, runs, at_row, Pattern, lines_of, closure, closure_closed, strikes_by_fillings, shown_from_test}
+use Rattle.maker_core.proofs.Common.{row_cells, run_of, runs_after, runs, at_row, lines_of, closure_closed, strikes_by_fillings, shown_from_test}
 use Rattle.maker_core.proofs.Common.{sets_at, strikes_at, strikes_at-place, length-sets_at, IsClosed, line_places, clue_of, has_runs}
 use Rattle.maker_core.proofs.Common.{length-line_places, place_in_row, cell_in_grid, different_places, has_runs-is, is_solution-from}
 use Rattle.maker_core.proofs.Common.{line_rules-lawful, line_rules, IsPatternSolution, AreAll, is_one, has_one, clued_by}

@@ -1,8 +1,8 @@
 -- The puzzle that gives all cells of a grid: its search starts from that grid alone.
 use Rattle.std.proofs.lemmas.Grind.{common_steps}
-use Rattle.maker_core.proofs.Common.{◌≡◌, ℕ, suc, ◌+◌, ◌*◌, ◌<◌, ◌≤◌, Bool, List, map, length, slice_index, take, replicate, [], ◌∷◌, ◌++◌, ◌-◌, refl}
+use Rattle.maker_core.proofs.Common.{◌≡◌, ℕ, suc, ◌+◌, ◌*◌, ◌<◌, ◌≤◌, Bool, List, map, length, slice_index, take, replicate, ◌∷◌, ◌++◌, ◌-◌, refl}
 use Rattle.maker_core.proofs.Common.{sym, ◌∙◌, arith, Some, ap, length-map, length-take-le, get_or-map, map_more, set_at, append_assoc}
-use Rattle.maker_core.proofs.Common.{append-nil, take_all, All-map, All-get_or, All-from_get_or, recursion_from_All, IsInside, single, IsGrid}
+use Rattle.maker_core.proofs.Common.{append-nil, All-map, All-get_or, All-from_get_or, recursion_from_All, IsInside, single}
 use Rattle.maker_core.proofs.Common.{slice_set, Solo, IsSolo, solo_puzzle, Solves, IsTrueOf, IsSoloSolution, test_from_rule, rule_from_test, start}
 use Rattle.maker_core.proofs.Common.{houses_rules, houses_lawful, TellsOne, is_one, IsOnlySolution, all_given, solo_game, clue_is, is_clue, IsSoloSize}
 use Rattle.maker_core.proofs.Common.{solo_passes, IsThinnedFrom, Option, None, IfSome, is_some}

@@ -1,6 +1,5 @@
 -- Two cells of one row, column or block of the grid before it is shuffled hold different numbers: each is a number below
 -- n, another for each cell of the line, moved on by what the line has in common, and counted round n.
-use Rattle.std.proofs.lemmas.Grind.{common_steps}
 use Rattle.maker_core.proofs.Common.{◌≡◌, ℕ, ◌+◌, ◌*◌, ◌/◌, ◌%◌, ◌<◌, arith, rows, mul-add-lt, same_from_place, div_below, mod_below, div-add-mod'}
 use Rattle.maker_core.proofs.Common.{first_number}
 

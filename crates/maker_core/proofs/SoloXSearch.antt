@@ -1,7 +1,7 @@
 -- What the search of a top row gives: the first grid of the verdict, which keeps to the rules of Solo X.
-use Rattle.maker_core.proofs.Common.{◌≡◌, ℕ, suc, ◌-◌, ◌*◌, ◌≤◌, true, Option, Some, None, List, map, ◌++◌, length, replicate, sym, ap, subst}
-use Rattle.maker_core.proofs.Common.{◌∙◌, arith, IfSome, common_steps, length-map, take_all, All-map, All-append, All-replicate, All-from_get_or}
-use Rattle.maker_core.proofs.Common.{recursion_from_All, mul-le, Stream, Solo, IsSolo, solo_puzzle, RuleSystem, Outcome, verdict_of, Solves, IsTrueOf}
+use Rattle.maker_core.proofs.Common.{◌≡◌, ℕ, suc, ◌-◌, ◌*◌, ◌≤◌, true, Option, Some, None, List, map, ◌++◌, length, replicate, sym, ap}
+use Rattle.maker_core.proofs.Common.{◌∙◌, arith, IfSome, common_steps, length-map, All-map, All-append, All-replicate, All-from_get_or}
+use Rattle.maker_core.proofs.Common.{recursion_from_All, mul-le, Stream, Solo, IsSolo, RuleSystem, Outcome, verdict_of, Solves, IsTrueOf}
 use Rattle.maker_core.proofs.Common.{IsAnswer, Verdict, houses_rules, IsSoloSolution, rule_from_test, shuffled_order, all_given, IsSoloSize, IsOrder}
 use Rattle.maker_core.proofs.Common.{top_row_given, first_grid, flipped_by_draw, x_filling}
 use Rattle.engine_core.specs.Verdict.{Outcome.NoSolution, Outcome.OneSolution, Outcome.SeveralSolutions, Outcome.GaveUp}

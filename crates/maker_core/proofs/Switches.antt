@@ -1,8 +1,8 @@
 -- Cells turned and turned back leave a grid as it was, and a puzzle with two solutions has no verdict of one.
 use Rattle.std.proofs.lemmas.Grind.{common_steps}
-use Rattle.maker_core.proofs.Common.{◌≡◌, ◌≢◌, ℕ, ◌<◌, Bool, true, false, List, length, refl, sym, ap, ◌∙◌, arith, not, Option}
+use Rattle.maker_core.proofs.Common.{◌≡◌, ◌≢◌, ℕ, ◌<◌, Bool, true, false, List, length, refl, sym, ◌∙◌, arith, not, Option}
 use Rattle.maker_core.proofs.Common.{slice_index, slice_set, is_some, get_or-set_same, IsExtent, Pattern, RuleSystem, outcome-true, Outcome}
-use Rattle.maker_core.proofs.Common.{verdict_of, Solves, IsTrueOf, FailsPattern, IsPatternFault, PatternFault, pattern_none, pattern_tests, tells, is_solution-from, line_rules-lawful, line_rules}
+use Rattle.maker_core.proofs.Common.{Solves, IsTrueOf, IsPatternFault, PatternFault, pattern_none, tells, is_solution-from, line_rules-lawful, line_rules}
 use Rattle.maker_core.proofs.Common.{IsPatternSolution, is_one, has_one, HasOther, RunHasSwitch, run_begins, cases_lt, div-mul-add, mod-mul-add, inl, inr, ◌+◌, ◌*◌, ◌/◌, ◌%◌}
 use Rattle.std.specs.Prelude.{◌↔◌}
 use Rattle.engine_core.specs.Verdict.{Outcome.NoSolution, Outcome.OneSolution, Outcome.SeveralSolutions, Outcome.GaveUp}

@@ -1,6 +1,6 @@
 -- The puzzle of a filling has its trees and the numbers of its tents.
-use Rattle.maker_core.proofs.Common.{◌≡◌, ℕ, ◌+◌, ◌<◌, List, length, subst, refl, sym, ap, ◌∙◌, slice_index, IsTrue, ◌↔◌, Extent, row_cells}
-use Rattle.maker_core.proofs.Common.{column_cells, ones, Tents, lines_of, IsGridOf, tent_rules, IsTentSolution, TentFilling, HasOne, TellsOne, IsOnlySolution}
+use Rattle.maker_core.proofs.Common.{◌≡◌, ℕ, ◌+◌, ◌<◌, length, refl, ap, ◌∙◌, slice_index, Extent, row_cells}
+use Rattle.maker_core.proofs.Common.{column_cells, ones, Tents, lines_of, TentFilling}
 use Rattle.maker_core.proofs.Common.{tents_puzzle_of}
 use Rattle.maker_core.proofs.PatternMakings.{each_line}
 

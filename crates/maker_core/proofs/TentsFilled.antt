@@ -1,11 +1,11 @@
 -- Each filling of Tents over a stream of words solves its puzzle.
-use Rattle.maker_core.proofs.Common.{◌≡◌, ℕ, zero, suc, ◌*◌, ◌<◌, ◌≤◌, true, List, length, refl, subst, add-one, inl, inr, arith, slice_index}
-use Rattle.maker_core.proofs.Common.{cond_both, mul-le, Stream, Extent, IsExtent, IsGrid, IsTentSolution, HasWords, draw_below, shuffled_order}
+use Rattle.maker_core.proofs.Common.{◌≡◌, ℕ, zero, suc, ◌*◌, ◌≤◌, true, List, length, refl, subst, add-one, inl, inr, arith, slice_index}
+use Rattle.maker_core.proofs.Common.{cond_both, mul-le, Stream, Extent, IsExtent, IsGrid, IsTentSolution, HasWords, shuffled_order}
 use Rattle.maker_core.proofs.Common.{stream_after, IsOrder, tents_after, free_cells_beside, may_have_tent, place_tent, take_cell, tent_filling}
 use Rattle.maker_core.proofs.Common.{tents_puzzle_of, IsTaken, TentFilling}
 use Rattle.maker_core.proofs.TentFillings.{free_few, placed_is}
 use Rattle.maker_core.proofs.TentsSolved.{IsFillingAfter, filling_none, filling_step}
-use Rattle.maker_core.proofs.Shuffles.{IsDrawnBelow, draw_is, IsShuffledOrder, order_is}
+use Rattle.maker_core.proofs.Shuffles.{draw_is, IsShuffledOrder, order_is}
 
 -- a filling, and words after it
 record IsTakenBy (size : Extent) (old : TentFilling) (c : ℕ) (q : TentFilling × Stream) : Type 0 where

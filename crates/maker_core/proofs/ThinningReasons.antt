@@ -2,7 +2,7 @@
 use Rattle.std.proofs.lemmas.Grind.{common_steps}
 use Rattle.maker_core.proofs.Common.{◌≡◌, ℕ, suc, ◌+◌, ◌<◌, ◌≤◌, Bool, true, false, eqb, List, [], ◌∷◌, ◌++◌, Option, Some, None, length, get_or, map}
 use Rattle.maker_core.proofs.Common.{take, drop, replicate, refl, add-one, sym, ◌∙◌, ap, subst, arith, length-take, ◌⊎◌, inl, inr, filter, All}
-use Rattle.maker_core.proofs.Common.{Contains, IsPermutation, range_with_len, take_more, drop_all, append-nil, get_or-replicate, get_or_past}
+use Rattle.maker_core.proofs.Common.{Contains, IsPermutation, range_with_len, append-nil, get_or-replicate, get_or_past}
 use Rattle.maker_core.proofs.Common.{length-replicate, All-contains, All-cons, All-nil, filter_passes, Contains-permutation, IsPermutation-sym}
 use Rattle.maker_core.proofs.Common.{IsDistinct-IsPermutation, nat_eq_equiv, Kept, Why, TellsOne, CluedGame, IsGame, has_clue, clue_places, IsOnly}
 use Rattle.maker_core.proofs.Common.{IsReason, AreReasons, IsTold, IsThinning, reasons_from, distinct_filtered_range}

@@ -1,6 +1,6 @@
 -- A list of houses from which some are left out is no longer, and has no longer house.
 use Rattle.std.proofs.lemmas.Grind.{common_steps}
-use Rattle.std.proofs.Common.{◌≡◌, ℕ, zero, suc, ◌+◌, ◌<◌, ◌≤◌, List, [], ◌++◌, length, sym, subst, arith, inl, inr, ◌⊎◌}
+use Rattle.std.proofs.Common.{◌≡◌, ℕ, zero, suc, ◌<◌, ◌≤◌, List, [], ◌++◌, length, sym, subst, arith, inl, inr, ◌⊎◌}
 use Rattle.std.proofs.Math.Nat.{le_refl, max-le}
 use Rattle.std.proofs.lemmas.List.{length-append, get_or_append_left, get_or-append-add}
 use Rattle.engine_core.specs.RuleSystem.{longest}

@@ -1,4 +1,4 @@
-use Rattle.maker_core.proofs.Common.{length, sym, subst, IsGrid, light_cells}
+use Rattle.maker_core.proofs.Common.{length, sym}
 use Rattle.maker_core.proofs.LightSight.{bulbs_after-grid}
 use Rattle.maker_core.proofs.LightFilled.{order_within}
 use Rattle.maker_core.proofs.LightSolved.{lit_solved}
