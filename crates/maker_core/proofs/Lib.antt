@@ -27,4 +27,4 @@ pub mod ThinningReasons
 pub mod IdleClues
 pub mod Switches
 pub mod WrittenGrids
-mod OnlySolutions
+pub mod OnlySolutions

@@ -16,6 +16,10 @@ unfolding black_right
 no_bulb_on p g c lit lt off = grind (arith, all_below-at (black_right p g) (light_cells p) c (lit-parts p g lit).black lt)
 
 -- ---- the puzzle of a filling
+pub size_is : (size : Extent) (f : LightFilling) (p : Light) → p ≡ light_puzzle_of size f → p.size ≡ size
+unfolding light_puzzle_of with_numbers lights_of
+size_is size f p is = ap (λ r. r.size) is
+
 pub all_numbers : (size : Extent) (f : LightFilling) (p : Light) → p ≡ light_puzzle_of size f → IsLit size f → p ≡ with_numbers p f.bulbs
 all_numbers size f p is lit = rw is (numbers_again size f lit.black.each_cell)
 

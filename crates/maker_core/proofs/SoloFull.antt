@@ -93,3 +93,7 @@ found_passes c r x budget None size solution = refl
 
 pub only_by_rules : (p : Solo) (g : List ℕ) → IsSolo p → IsTrueOf (houses_rules p) (OneSolution g) → IsOnlySolution (IsSoloSolution p) g
 only_by_rules p g ok w = grind (arith, common_steps, rule_from_test, test_from_rule)
+
+-- a puzzle that has the sizes of the full one has its clues among the same
+pub same_given : (p : Solo) (c r : ℕ) (x : Bool) (g : List ℕ) → p.c ≡ c → p.r ≡ r → p.x ≡ x → all_given p.c p.r p.x g ≡ all_given c r x g
+same_given p c r x g columns rows diagonals = rw (columns, rows, diagonals) refl

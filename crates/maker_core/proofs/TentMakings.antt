@@ -17,3 +17,7 @@ unfolding tents_puzzle_of
 tents_is size filling p lines has =
     let counts = each_line ones 0 size filling.tents p.counts (lines ∙ ap lines_of has.sized) has.columns has.rows in
     rw (← counts, ← has.sized, ← has.trees) refl
+
+pub tents_size : (size : Extent) (filling : TentFilling) (p : Tents) → p ≡ tents_puzzle_of size filling → p.size ≡ size
+unfolding tents_puzzle_of
+tents_size size filling p is = ap (λ q. q.size) is
