@@ -19,12 +19,12 @@ use Rattle.grid_core.proofs.LineLemmas.{line_short}
 
 -- a visit that strikes what is not kept
 pub line_visited : (p : Pattern) (line : ℕ) {b : Layout} {size : Extent} (K : Candidates)
-    (clue places sets kept : List ℕ) → IsBoardOf (line_rules p) b → size ≡ p.size
+    {clue places sets kept : List ℕ} → IsBoardOf (line_rules p) b → size ≡ p.size
     → clue ≡ clue_of p line → places ≡ line_places size line → length sets ≡ length places
     → ((k : ℕ) → k < length places → IsBitsOf (has b (slice_index places k)) b.values (slice_index sets k))
     → map (set_of_bits b.values) sets ≡ sets_at b.values places (has b) → IsDecidedBy clue sets kept
     → K ≡ kept_in places kept (length places) (has b) → K ≡ after (line_rules p) line (has b)
-line_visited p line {b} K clue places sets kept is sized same written long bits read decided left =
+line_visited p line {b} K {clue} {places} {sets} {kept} is sized same written long bits read decided left =
     let at : places ≡ line_places p.size line = rw sized at written in
     let two = is.same_values in
     visited-after (line_rules p) line (strikes_by_fillings (has_runs (clue_of p line))) (has b) K sets kept (λ L c v. refl)

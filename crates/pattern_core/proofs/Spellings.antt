@@ -90,14 +90,14 @@ module _ (front clue : List ℕ) (k : ℕ) (lt : k < length clue) (so_far : fron
 
 -- ---- the track
 pub track_spelled : {A : Type 0} {has : A → ℕ → Bool} {n : ℕ} {cells : List ℕ}
-    {white black next : A} (stay on ends first back : A) → length cells < n
+    {white black next stay on ends first back : A} → length cells < n
     → IsSpelling has cells white black next
     → ((p : ℕ) → p < n → has on p ≡ one_on (has white) p) → ((p : ℕ) → n ≤ p → has on p ≡ false)
     → ((p : ℕ) → has first p ≡ eqb p 0) → ((p : ℕ) → has stay p ≡ (has on p || has first p))
     → ((p : ℕ) → has back p ≡ has next (suc p)) → ((p : ℕ) → has ends p ≡ (has next p || has back p))
     → ◌≡◌ {A = Track} (record { stay = has stay; white = has white; black = has black; ends = has ends }) (track_of cells)
 unfolding track_of may_stay one_on
-track_spelled stay on ends first back fits s within past one stay_is back_is ends_is =
+track_spelled fits s within past one stay_is back_is ends_is =
     grind (arith, common_steps, cases_Bool, cases_lt, fun_ext, get_or_past, ne_eqb, or-false, or-true)
 
 -- ---- the clue of a track

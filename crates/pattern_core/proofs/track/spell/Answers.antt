@@ -20,6 +20,6 @@ unfolding spelled
 returns g c =
     let (front, so_far, spells) = c.loop-k.invariant in
     let all = sym (append-nil front) ∙ ap (λ l. front ++ spelled l) (sym (drop_all c.loop-k.k c.args.clue.now c.loop-k-test.false)) ∙ so_far in
-    track_spelled _ _ _ _ _ (omega (arith, c.requires, length-spelled c.args.clue.now))
+    track_spelled (omega (arith, c.requires, length-spelled c.args.clue.now))
     (subst (λ l. Spells g.P.Slots.has l c.loop-k.cells) all spells) c.on.ensures.within c.on.ensures.past c.first-2.ensures c.either.ensures c.back.ensures
     c.either-2.ensures
