@@ -14,7 +14,6 @@ use Rattle.engine_core.proofs.ClosingLemmas.{closure_inside, closure_closed, clo
 use Rattle.engine_core.proofs.JudgeLemmas.{grid-fits}
 use Rattle.engine_core.proofs.WalkLemmas.{walk-unfold, walk_closed-dead, walk_closed-wrong}
 use Rattle.maker_core.proofs.FoundAtOnce.{found_at_once, found_one}
-use Rattle.maker_core.proofs.FullStart.{known}
 use Rattle.commands.specs.Common.{IsRight, Candidates, IsInside, grid_of, only, HasOneReading, IdFault, RuleSystem, IsLawful, IsClosed, is_settled, Solves}
 use Rattle.commands.specs.Common.{verdict_of, Outcome, Mark, walk}
 use Rattle.commands.specs.Answers.{Answer, Begins, Text}
@@ -81,14 +80,14 @@ module _ {weak strong : RuleSystem} (weak_laws : IsLawful weak) (strong_laws : I
       and_parts (is_full weak.cells weak.values (closure weak weak.start))
       (weak.is_solution (grid_of weak.cells weak.values (closure weak weak.start))) settled in
       one_settled strong_laws (grid_of weak.cells weak.values (closure weak weak.start))
-      (found_at_once strong 0 (grid_of weak.cells weak.values (closure weak weak.start)) (known strong strong_laws) (solved parts.0 parts.1)
+      (found_at_once strong_laws (solved parts.0 parts.1)
       (λ c v lc lv on.
       let here = inside_weak c v on in
       let lw : c < weak.cells = omega (arith, same_cells, lc) in
       let one = is_full-count weak.cells weak.values (closure weak weak.start) c parts.0 lw in
       let least = least_below-passes (closure weak weak.start c) weak.values (omega (arith, one)) in
       count_below-one (closure weak weak.start c) weak.values v _ (omega (arith, one)) (omega (arith, same_values, lv)) least.0 here least.1
-      ∙ sym (grid_of-at weak.cells weak.values (closure weak weak.start) c lw)))
+      ∙ sym (grid_of-at weak.cells weak.values (closure weak weak.start) c lw)) 0)
     where
       solved : is_full weak.cells weak.values (closure weak weak.start) ≡ true
           → weak.is_solution (grid_of weak.cells weak.values (closure weak weak.start)) ≡ true

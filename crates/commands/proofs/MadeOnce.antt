@@ -27,8 +27,9 @@ use Rattle.maker_core.specs.PatternMaking.{IsPatternMade, clued_by, pattern_fill
 use Rattle.maker_core.specs.TentMaking.{IsTentsMade}
 use Rattle.maker_core.specs.TentFilling.{tent_filling, tents_pass, tents_puzzle_of}
 use Rattle.maker_core.proofs.BlackCells.{black_cells-grid}
-use Rattle.maker_core.proofs.PatternMakings.{pattern_only, pattern_solved}
-use Rattle.maker_core.proofs.TentMakings.{tents_only, tents_size}
+use Rattle.maker_core.proofs.PatternMakings.{pattern_solved}
+use Rattle.maker_core.proofs.TentMakings.{tents_size}
+use Rattle.maker_core.proofs.OnlySolutions.{one_is}
 use Rattle.commands.specs.Common.{Stream, Extent, IsExtent, max_side, IsGrid, SizeRead, extent_of}
 use Rattle.commands.specs.Common.{size_of, HasOneReading, IsTents, Tents, IdFault, IsLawful, RuleSystem, Outcome, IsTrueOf, verdict_of}
 use Rattle.commands.specs.Common.{is_solution-from, is_solution-is, line_rules-lawful, line_rules, IsPatternSolution, tent_rules, IsTentSolution}
@@ -160,7 +161,8 @@ module _ (size : Extent) (extent : IsExtent size) (black budget tries : ℕ) (s 
           (black_cells-grid black (size.w * size.h) (stream_after (pattern_filling size black) k s))
 
       only : IsOnlySolution (IsPatternSolution (clued_by size (grid_of k))) (grid_of k) × TellsOne (line_rules (clued_by size (grid_of k))) budget (grid_of k)
-      only = pattern_only (clued_by size (grid_of k)) (grid_of k) (λ q h grid. (is_solution-is q h grid, is_solution-from q h)) budget
+      only = one_is (line_rules (clued_by size (grid_of k))) (IsPatternSolution (clued_by size (grid_of k))) (λ h s. s.grid)
+          (λ h grid. (is_solution-is (clued_by size (grid_of k)) h grid, is_solution-from (clued_by size (grid_of k)) h))
           (has_one (line_rules (clued_by size (grid_of k))) (line_rules-lawful (clued_by size (grid_of k)) extent) budget first.passing) solved
 
 pub made_pattern : (text : Text) (seed budget tries black : ℕ) → HasOneAnswer (AllowsMade (game_of game.Pattern) (wanted seed budget tries black) text)
@@ -243,9 +245,10 @@ module _ (filled : AreFilled) (size : Extent) (large : IsTentsExtent size) (budg
   }
     where
       only : IsOnlySolution (IsTentSolution (puzzle_at k)) (filling_of k).tents × TellsOne (tent_rules (puzzle_at k)) budget (filling_of k).tents
-      only = tents_only size (filling_of k) (puzzle_at k) refl (filled.solved size s k large.extent words)
-          (λ q h grid. (tents.solution-from-tents q h grid, tents.tents-from-solution q h grid)) budget
+      only = one_is (tent_rules (puzzle_at k)) (IsTentSolution (puzzle_at k)) (λ h s. s.grid)
+          (λ h grid. (tents.solution-from-tents (puzzle_at k) h grid, tents.tents-from-solution (puzzle_at k) h grid))
           (has_one (tent_rules (puzzle_at k)) (tents_searched (puzzle_lawful k)).lawful budget first.passing)
+          (filled.solved size s k large.extent words)
 
 pub made_tents : AreFilled → (text : Text) (seed budget tries black : ℕ) → HasOneAnswer (AllowsMade (game_of game.Tents) (wanted seed budget tries black) text)
 made_tents filled text seed budget tries black = made_once tents_facts (wanted seed budget tries black) text (λ read is.

@@ -9,7 +9,7 @@ use Rattle.maker_core.specs.declared.made.Kept.{Kept}
 use Rattle.maker_core.specs.declared.made.Why.{Why}
 use Rattle.maker_core.specs.declared.made.Why.TheVariants.{Budget, Needed}
 use Rattle.maker_core.proofs.ThinningReasons.{answer_left, reasons_left, thinning_start}
-use Rattle.maker_core.proofs.ThinningTurns.{contains_head, some_of, thinning_turn}
+use Rattle.maker_core.proofs.ThinningTurns.{contains_head, some_of, thinning_turn, turn}
 
 module _ {A : Type 0} (game : CluedGame A) (laws : IsGame game) (budget : ℕ) (all : A) (answer : List ℕ) where
   without_in : (p : A) (place n : ℕ) → IsThinnedFrom game p all → game.clue p place ≡ Some n → IsThinnedFrom game (game.without p place) all
@@ -55,7 +55,7 @@ module _ {A : Type 0} (game : CluedGame A) (laws : IsGame game) (budget : ℕ) (
     thin [] {p} {whys} now = (p, whys, now)
     thin (place ∷ rest) {p} {whys} now =
         let t : IsTried place p = tried place rest p whys now in
-        thin rest (thinning_turn game laws now t.new t.why t.left t.asked)
+        thin rest (thinning_turn laws now (turn laws now t.why t.left t.asked))
 
 -- some of the clues are left, each for a reason, and the answer is still the one solution
 pub record IsThinnedTo {A : Type 0} (game : CluedGame A) (budget : ℕ) (all : A) (answer : List ℕ) (p : A) (kept : List Kept) : Type 0 where

@@ -57,21 +57,15 @@ module _ (p : Solo) (c_low : 0 < p.c) (r_low : 0 < p.r) (across down : Bool) whe
     column_below : column_of p place < solo_n p
     column_below = mod_below place (solo_n p) some
 
-    in_row : (y : ℕ) → lies_in p (Row y) place ≡ true → lies_in p (Row (line_from down (solo_n p) y)) (from place) ≡ true
-    in_row y on = grind (arith, row)
-
-    in_column : (x : ℕ) → lies_in p (Column x) place ≡ true → lies_in p (Column (line_from across (solo_n p) x)) (from place) ≡ true
-    in_column x on = grind (arith, column)
-
     in_diagonal : {d : ℕ} → d < 2 → lies_in p (Diagonal d) place ≡ true → lies_in p (Diagonal (diagonal_from across down d)) (from place) ≡ true
     in_diagonal few on = eq-eqb _ _
         (rw (row, column) (diagonal_is across down few column_below row_below (eqb-true _ _ on)))
 
   block_in : {place : ℕ} → place < solo_cells p → block_of p place < solo_n p
   block_in {place} within =
-      mul-add-lt (row_of p place / p.c) p.c (column_of p place / p.r) p.r
-      (div_below (row_of p place) p.c p.r c_low (let low = row_below within in omega (arith, low, turned)))
-      (div_below (column_of p place) p.r p.c r_low (column_below within))
+      mul-add-lt _ p.c _ p.r
+      (div_below _ p.c p.r c_low (let low = row_below within in omega (arith, low, turned)))
+      (div_below _ p.r p.c r_low (column_below within))
 
   same_block : (j k : ℕ) → j < solo_cells p → k < solo_cells p → block_of p j ≡ block_of p k → block_of p (from j) ≡ block_of p (from k)
   same_block j k lj lk e =
@@ -86,14 +80,14 @@ module _ (p : Solo) (c_low : 0 < p.c) (r_low : 0 < p.r) (across down : Bool) whe
   together (Row y) is lj lk a b = record {
     house = Row (line_from down (solo_n p) y);
     house_of = line_from-below down is;
-    first = in_row lj y a;
-    second = in_row lk y b;
+    first = grind (arith, row lj);
+    second = grind (arith, row lk);
   }
   together (Column x) is lj lk a b = record {
     house = Column (line_from across (solo_n p) x);
     house_of = line_from-below across is;
-    first = in_column lj x a;
-    second = in_column lk x b;
+    first = grind (arith, column lj);
+    second = grind (arith, column lk);
   }
   together (Block n) is {j} {k} lj lk a b = record {
     house = Block (block_of p (from j));
@@ -117,7 +111,7 @@ pub flipped-solution : (c r : ℕ) (x : Bool) (givens g : List ℕ) → 0 < c �
     → IsSoloSolution (all_given c r x (flipped (c * r) across down g)) (flipped (c * r) across down g)
 flipped-solution c r x givens g c_low r_low across down s = record {
   grid = flipped-grid (c * r) across down g s.grid;
-  givens = λ place lt low. given_itself c r x (flipped (c * r) across down g) place (let long = length-flipped (c * r) across down g in omega arith);
+  givens = λ place lt low. given_itself c r x (flipped (c * r) across down g) place (omega (arith, length-flipped (c * r) across down g));
   different = λ house is j k lj lk ne a b e.
       let n = c * r in
       let all = all_given c r x (flipped n across down g) in

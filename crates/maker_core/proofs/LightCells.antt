@@ -44,4 +44,4 @@ numbered_all p q g w all = IsRewritten-all q w all
 
 -- a cell has at most four beside it
 pub bulbs_few : (p : Light) (g : List ℕ) (c : ℕ) → bulbs_beside p g c ≤ 4
-bulbs_few p g c = let a = count_by-le-length (bulb g) (beside p.size c) in let b = steps-few p.size c 4 in omega arith
+bulbs_few p g c = omega (arith, count_by-le-length (bulb g) (beside p.size c), steps-few p.size c 4)

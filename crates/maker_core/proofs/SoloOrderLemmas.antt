@@ -96,16 +96,16 @@ line-more f old lines new inside k x lt before pushed is = grind (arith, common_
 
 -- all lines of a group
 pub lines-all : (size group k : ℕ) (old lines inside : List ℕ) (t : Stream) {drawn : List ℕ × Stream}
-    → lines ≡ old ++ map (λ line. group * size + line) (take k inside) → length inside ≤ k → ◌≡◌ {A = List ℕ × Stream} (inside, t) drawn
-    → ◌≡◌ {A = List ℕ × Stream} (lines, t) (group_added size group old drawn)
+    → lines ≡ old ++ map (λ line. group * size + line) (take k inside) → length inside ≤ k → (inside, t) ≡ drawn
+    → (lines, t) ≡ group_added size group old drawn
 lines-all size group k old lines inside t done all e = rw (done, take_all k inside all, sym e) refl
 
-pub order_drawn : (n : ℕ) (xs : List ℕ) (t : Stream) {drawn : List ℕ × Stream} → ◌≡◌ {A = List ℕ × Stream} (xs, t) drawn → IsOrder n xs → IsOrder n drawn.0
+pub order_drawn : (n : ℕ) (xs : List ℕ) (t : Stream) {drawn : List ℕ × Stream} → (xs, t) ≡ drawn → IsOrder n xs → IsOrder n drawn.0
 order_drawn n xs t e is = rw (sym e) is
 
 -- no group yet
 pub groups-none : (size : ℕ) (groups lines : List ℕ) (s t : Stream) → lines ≡ [] → s ≡ t
-    → ◌≡◌ {A = List ℕ × Stream} (lines, s) (lines_of_groups size groups 0 t)
+    → (lines, s) ≡ lines_of_groups size groups 0 t
 unfolding lines_of_groups
 groups-none size groups lines s t none same = rw (none, same) refl
 
@@ -114,15 +114,15 @@ grouped-none size groups lines none = grind arith
 
 -- one more group
 pub groups-more : (size k : ℕ) {group : ℕ} (groups : List ℕ) {lines new : List ℕ} (s : Stream) {t u : Stream}
-    → ◌≡◌ {A = List ℕ × Stream} (lines, t) (lines_of_groups size groups k s) → group ≡ slice_index groups k
-    → ◌≡◌ {A = List ℕ × Stream} (new, u) (group_added size group lines (shuffled_order size t))
-    → ◌≡◌ {A = List ℕ × Stream} (new, u) (lines_of_groups size groups (k + 1) s)
+    → (lines, t) ≡ lines_of_groups size groups k s → group ≡ slice_index groups k
+    → (new, u) ≡ group_added size group lines (shuffled_order size t)
+    → (new, u) ≡ lines_of_groups size groups (k + 1) s
 unfolding lines_of_groups
 groups-more size k groups s before is added = rw (add-one, sym before, sym is) added
 
 pub grouped-more : {size k group : ℕ} {groups lines new : List ℕ} (t : Stream) {u : Stream} → 0 < size
     → AreGrouped size groups k lines → group ≡ slice_index groups k
-    → IsOrder size (shuffled_order size t).0 → ◌≡◌ {A = List ℕ × Stream} (new, u) (group_added size group lines (shuffled_order size t))
+    → IsOrder size (shuffled_order size t).0 → (new, u) ≡ group_added size group lines (shuffled_order size t)
     → AreGrouped size groups (k + 1) new
 grouped-more {size} {k} {groups} {lines} t some before is inner added =
     rw (ap (λ (q : List ℕ × Stream). q.0) added, is) (AreGrouped-more size groups k lines (shuffled_order size t).0 some before inner)

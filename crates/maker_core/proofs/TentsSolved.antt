@@ -17,8 +17,7 @@ pub record IsFillingAfter (size : Extent) (order : List ℕ) (k : ℕ) (filling 
 -- ---- cells
 none_itself : (size : Extent) (c : ℕ) → 1 ≤ size.w → has_place (steps size c 4) c ≡ true → ⊥
 none_itself size c w on =
-    let s = steps-some size c 4 c on in
-    grind (arith, step-up size c c, step-left size c c, step-right size c c, step-down size c c)
+    grind (arith, step-up size c c, step-left size c c, step-right size c c, step-down size c c, steps-some size c 4 c on)
 
 touch_back : (size : Extent) (a b : ℕ) → touches size a b ≡ true → touches size b a ≡ true
 unfolding touches
@@ -31,7 +30,7 @@ touch_itself size a = grind arith
 -- ---- the rules
 filtered_ones : (g xs : List ℕ) → length (filter (tent g) xs) ≡ ones (map (slice_index g) xs)
 filtered_ones g [] = refl
-filtered_ones g (x ∷ xs) = let e = filtered_ones g xs in grind arith
+filtered_ones g (x ∷ xs) = grind (arith, filtered_ones g xs)
 
 column_count : (size : Extent) (g : List ℕ) (x : ℕ) → x < size.w → tents_in_column size g x ≡ slice_index (lines_ones size g) x
 column_count size g x lt =
@@ -98,8 +97,7 @@ new_from size k c old new w ordered lt at before p =
       other = λ e. none_itself size c w (subst (λ x. has_place (steps size c 4) x ≡ true) (sym e) free.0);
       beside = free.0;
       alone = λ d on.
-          let inside = tent-in old.tents (size.w * size.h) d before.tents_grid.each_cell on in
-          grind (arith, any_below-none (λ d. touches size c d && tent old.tents d) (size.w * size.h));
+          grind (arith, any_below-none (λ d. touches size c d && tent old.tents d) (size.w * size.h), tent-in old.tents (size.w * size.h) d before.tents_grid.each_cell on);
     }
 
 filling_more : (size : Extent) {order : List ℕ} (k c : ℕ) (old new : TentFilling) → IsFillingAfter size order k old

@@ -13,12 +13,14 @@ use engine_core::{HouseRules, Rules, Uncounted};
 
 /// What the rules by singles mean: those of the puzzle that they keep.
 pub fn rules_of_singles(rules: &SoloSingles)
-    ensures { ⟦<HouseRules<Singles, Uncounted> as Rules>⟧.system rules.now ≡ singles_rules rules.now.set.puzzle }
+    ensures { ⟦<HouseRules<Singles, Uncounted> as Rules>⟧.system rules.now
+        ≡ singles_rules rules.now.set.puzzle }
 {}
 
 /// What the rules by fillings of houses mean.
 pub fn rules_of_houses(rules: &SoloHouses)
-    ensures { ⟦<HouseRules<Fillings, Uncounted> as Rules>⟧.system rules.now ≡ houses_rules rules.now.set.puzzle }
+    ensures { ⟦<HouseRules<Fillings, Uncounted> as Rules>⟧.system rules.now
+        ≡ houses_rules rules.now.set.puzzle }
 {}
 
 /// What the rules by houses and crossings mean.

@@ -93,7 +93,8 @@ pub(crate) fn push_places(
 ) -> Result<(), AllocError>
     requires house_of { IsHouseOf puzzle.now house }
     requires closed { list.old.begun ≡ [] }
-    ensures { OnOk result (Begins (places_of puzzle.now house) list.old list.new) }
+    ensures lawful { IsSolo puzzle.now }
+    ensures begun { OnOk result (Begins (places_of puzzle.now house) list.old list.new) }
 {
     for k in 0..usize::from(puzzle.n()) {
         list.push(place(puzzle, house, k))?;

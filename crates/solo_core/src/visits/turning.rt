@@ -5,6 +5,7 @@ ghost use Rattle.std.specs.Prelude.{◌≡◌, ℕ, ◌<◌, ◌≤◌, true, le
 ghost use Rattle.grid_core.specs.Candidates.{max_values};
 ghost use Rattle.solo_core.specs.Bits.{HasMore, HasBefore};
 ghost use Rattle.solo_core.specs.Ways.{HasValuesOf, StaysAfter, StaysBefore, LiesOnRounds};
+ghost use Rattle.solo_core.specs.Peeled.{AreCellsOf};
 
 use crate::visits::bits::{has_any, with_bit, with_more, without};
 
@@ -18,7 +19,7 @@ struct Ends {
 /// Whether each value of these cells, paired so, leads to the first one's mate and back, as far as that is found soon.
 pub(crate) fn lie_on_rounds(values: u8, sets: &[u32], rest: &[u8], mates: &[u8]) -> bool
     requires few { values ≤ max_values }
-    requires rest_in { (i : ℕ) → i < length rest.now → slice_index rest.now i < length sets.now }
+    requires rest_in { AreCellsOf sets.now rest.now }
     requires as_many { length mates.now ≡ length rest.now }
     requires small { (i : ℕ) → i < length rest.now → slice_index mates.now i < values }
     ensures { result ≡ true → LiesOnRounds values sets.now rest.now mates.now }
@@ -47,7 +48,7 @@ pub(crate) fn lie_on_rounds(values: u8, sets: &[u32], rest: &[u8], mates: &[u8])
 
 /// The values that some of the cells has.
 fn values_of(sets: &[u32], rest: &[u8]) -> u32
-    requires rest_in { (i : ℕ) → i < length rest.now → slice_index rest.now i < length sets.now }
+    requires rest_in { AreCellsOf sets.now rest.now }
     ensures { HasValuesOf sets.now rest.now result }
 {
     let mut all = 0u32;
@@ -60,7 +61,7 @@ fn values_of(sets: &[u32], rest: &[u8]) -> u32
 /// Goes on by one step of each cell, one after another.
 fn spread(values: u8, sets: &[u32], rest: &[u8], mates: &[u8], ends: Ends) -> Ends
     requires few { values ≤ max_values }
-    requires rest_in { (i : ℕ) → i < length rest.now → slice_index rest.now i < length sets.now }
+    requires rest_in { AreCellsOf sets.now rest.now }
     requires as_many { length mates.now ≡ length rest.now }
     requires small { (i : ℕ) → i < length rest.now → slice_index mates.now i < values }
     ensures after { StaysAfter values sets.now rest.now mates.now ends.after result.after }

@@ -16,4 +16,4 @@ loop-place-preserved c = λ k lt. elim (cases_eq k c.loop-place.place) [
 ]
 
 pub returns : goal.returns
-returns c = λ _. board_is_fresh c.args.board.now c.requires.values (λ k lt. c.loop-place.invariant k (omega (arith, lt, c.loop-place-test.false)))
+returns c = λ _. board_is_fresh _ c.requires.values (λ k lt. c.loop-place.invariant k (omega (arith, lt, c.loop-place-test.false)))

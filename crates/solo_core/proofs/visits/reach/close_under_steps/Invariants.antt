@@ -1,7 +1,7 @@
 use Rattle.std.proofs.Common.{◌≡◌, length}
 use Rattle.solo_core.specs.Common.{has_in}
 use Rattle.solo_core.proofs.WayLemmas.{ReachesOver}
-use Rattle.solo_core.proofs.visits.reach.close_reach.Given as goal
+use Rattle.solo_core.proofs.visits.reach.close_under_steps.Given as goal
 
 abbrev pub invariant-loop-over : goal.invariant-loop-over
 invariant-loop-over l = record {
