@@ -72,8 +72,8 @@ sets-tally K {places} sets long bits = record {
   empty_is = counts-as (λ b. eqb b 0) (is_empty K) sets places long (λ k lt. (bits-counted K _ (bits k (omega arith))).2);
 }
 
-module _ (cells : ℕ) (K L : Candidates) (place before after : ℕ)
-    (change : IsChange cells 2 K L place before after) (places : List ℕ) (t : Tally)
+module _ {cells : ℕ} {K L : Candidates} {place before after : ℕ}
+    (change : IsChange cells 2 K L place before after) {places : List ℕ} {t : Tally}
     (is : IsTally K places t) where
   other : {c : ℕ} → (c ≡ place → ⊥) → (v : ℕ) → L c v ≡ K c v
   other {c} ne v = change.others c v ne
@@ -116,7 +116,7 @@ pub record AreCounted (cells : ℕ) (scopes : List (List ℕ)) (houses : List Co
   pub each : (h : ℕ) → h < length houses → IsHouse cells (count_house_of houses h)
 
 -- ---- the houses of a place, one after the other
-module _ (scopes : List (List ℕ)) (place : ℕ) (listed : List ℕ) (at : AreHousesAt scopes place listed) where
+module _ {scopes : List (List ℕ)} {place : ℕ} {listed : List ℕ} (at : AreHousesAt scopes place listed) where
   -- a house of the list is one that has the place, and its number among these is its place in the list
   pub in-list : (k : ℕ) → k < length listed
       → (slice_index listed k < length scopes)
@@ -132,25 +132,6 @@ module _ (scopes : List (List ℕ)) (place : ℕ) (listed : List ℕ) (at : AreH
 
   pub listed-at : (h : ℕ) → h < length scopes → has_place (scope_of scopes h) place ≡ true → number_at scopes h place < length listed
   listed-at h lt on = let c = counted (λ j. has_place (scope_of scopes j) place) h (length scopes) lt on in let e = at.as_many in omega arith
-
--- the houses of the list, by the houses that count
-module _ (cells : ℕ) (scopes : List (List ℕ)) (houses : List CountHouse)
-    (table : AreCounted cells scopes houses) (place : ℕ) (listed : List ℕ)
-    (at : AreHousesAt scopes place listed) where
-  abbrev has_it : ℕ → Bool
-  has_it h = has_place (count_house_of houses h).places place
-
-  same-houses : (λ h. has_place (scope_of scopes h) place) ≡ has_it
-  same-houses = fun_ext λ h. ap (λ l. has_place l place) (table.places h)
-
-  pub listed-house : (k : ℕ) → k < length listed
-      → (slice_index listed k < length houses) × (has_it (slice_index listed k) ≡ true)
-      × (count_below has_it (slice_index listed k) ≡ k)
-  listed-house k lt = let w = in-list scopes place listed at k lt in
-      (omega (arith, w.0, table.as_many), ap (λ (f : ℕ → Bool). f (slice_index listed k)) (sym same-houses) ∙ w.1, ap (λ f. count_below f (slice_index listed k)) (sym same-houses) ∙ w.2)
-
-  pub listed-all : count_below has_it (length houses) ≡ length listed
-  listed-all = ap₂ count_below (sym same-houses) (sym table.as_many) ∙ sym at.as_many
 
 pub record AreMovedBelow (old new : List Tally) (listed : List ℕ) (before after n : ℕ) : Type 0 where
   pub as_many : length new ≡ length old
@@ -175,10 +156,10 @@ moved-next {new} {listed} {n} {t} m lt twice within is = record {
     none : Tally
     none = record { must = 0; may = 0; empty = 0 }
 
-module _ (cells : ℕ) (scopes : List (List ℕ)) (houses : List CountHouse)
-    (table : AreCounted cells scopes houses) (K L : Candidates) (place before after : ℕ)
-    (change : IsChange cells 2 K L place before after)
-    (old : List Tally) (tallied : AreTallied cells houses old K) (listed : List ℕ) (at : AreHousesAt scopes place listed) where
+module _ {cells : ℕ} {scopes : List (List ℕ)} {houses : List CountHouse}
+    (table : AreCounted cells scopes houses) {K L : Candidates} {place before after : ℕ}
+    (change : IsChange cells 2 K L place before after) {old : List Tally}
+    (tallied : AreTallied cells houses old K) {listed : List ℕ} (at : AreHousesAt scopes place listed) where
   there : (h : ℕ) → has_place (scope_of scopes h) place ≡ true → has_place (count_house_of houses h).places place ≡ true
   there h on = ap (λ l. has_place l place) (sym (table.places h)) ∙ on
 
@@ -194,17 +175,16 @@ module _ (cells : ℕ) (scopes : List (List ℕ)) (houses : List CountHouse)
   pub movable : {new : List Tally} {k : ℕ} → AreMovedBelow old new listed before after k → k < length listed → IsMovable new k
   movable {k} m lt =
       let h = slice_index listed k in
-      let w = in-list scopes place listed at k lt in
+      let w = in-list at k lt in
       let low : h < length houses = let e = table.as_many in omega (arith, w.0) in
       let is = tallied.each h low in
       let on = there h w.1 in
-      let same = m.kept h (λ j less e. let twice = not-twice scopes place listed at j k (omega arith) lt e in absurd (omega arith)) in
+      let same = m.kept h (λ j less e. let twice = not-twice at j k (omega arith) lt e in absurd (omega arith)) in
       record {
         low = let l = tallied.long in let a = m.as_many in omega arith;
         same = same;
         can =
-            rw same (can-move cells K L place before after change (count_house_of houses h).places
-            (tally_at old h) is on (distinct h low) (table.each h low).few_places);
+            rw same (can-move change is on (distinct h low) (table.each h low).few_places);
       }
 
   pub tallied-moved : {new : List Tally} → AreMovedBelow old new listed before after (length listed) → AreTallied cells houses new L
@@ -220,14 +200,11 @@ module _ (cells : ℕ) (scopes : List (List ℕ)) (houses : List CountHouse)
           let here = at.each h low on in
           let same : tally_at new h ≡ moved_tally (tally_at old h) before after =
           rw here at (m.moved (number_at scopes h place)
-          (listed-at scopes place listed at h low on)) in
-          rw same (tally-moved cells K L place before after change (count_house_of houses h).places
-          (tally_at old h) (tallied.each h lt) (there h on) (distinct h lt))
+          (listed-at at h low on)) in
+          rw same (tally-moved change (tallied.each h lt) (there h on) (distinct h lt))
       | inr off ↦
-          let same = m.kept h (λ k low e. true≢false (sym (rw e at (in-list scopes place listed at k low).1) ∙ off)) in
-          rw same (tally-kept cells K L place before after change (count_house_of houses h).places
-          (tally_at old h) (tallied.each h lt)
-          (ap (λ l. has_place l place) (sym (table.places h)) ∙ off))
+          let same = m.kept h (λ k low e. true≢false (sym (rw e at (in-list at k low).1) ∙ off)) in
+          rw same (tally-kept change (tallied.each h lt) (ap (λ l. has_place l place) (sym (table.places h)) ∙ off))
     ];
   }
 

@@ -60,9 +60,10 @@ impl LightPuzzle {
 
     /// The cell at a place. Places go row by row from the top left.
     pub fn cell(&self, place: usize) -> LightCell
-        requires { place < length self.now.cells }
+        requires { place < self.now.size.w * self.now.size.h }
         ensures value { slice_get self.now.cells place ≡ Some result }
         ensures range { IsLightCell result }
+        ensures lawful { IsLight self.now }
     {
         self.cells[place]
     }

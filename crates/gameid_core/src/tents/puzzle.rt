@@ -81,7 +81,7 @@ impl TentsPuzzle {
 
     /// Whether a tree stands at a place. Places go row by row from the top left.
     pub fn tree(&self, place: usize) -> bool
-        requires { place < length self.now.trees }
+        requires { place < self.now.size.w * self.now.size.h }
         ensures value { IsTrue result ↔ (slice_index self.now.trees place ≡ 1) }
         ensures lawful { IsTents self.now }
     {

@@ -25,14 +25,14 @@ push_lits-requires-clause-columns c =
 pub push_numbers-requires-clause-fits : goal.push_numbers-requires-clause-fits
 push_numbers-requires-clause-fits c =
     let p = c.args.puzzle.now in
-    let few = (light-counting c.cells-cells.ensures.lawful).few_cells in
+    let few = (light-counting c.of-sizes.ensures).few_cells in
     let none = ap (λ (list : Listed). length list.closed) c.in_ok-houses.ensures.none in
     omega arith
 
 pub push_rows-requires-clause-fits : goal.push_rows-requires-clause-fits
 push_rows-requires-clause-fits c =
     let p = c.args.puzzle.now in
-    let few = (light-counting c.cells-cells.ensures.lawful).few_cells in
+    let few = (light-counting c.of-sizes.ensures).few_cells in
     let none = ap (λ (list : Listed). length list.closed) c.in_ok-houses.ensures.none in
     let numbers = added-few (number_house p) _ c.in_ok-push_numbers.ensures (number-one p) in
     omega arith
@@ -40,7 +40,7 @@ push_rows-requires-clause-fits c =
 pub push_columns-requires-clause-fits : goal.push_columns-requires-clause-fits
 push_columns-requires-clause-fits c =
     let p = c.args.puzzle.now in
-    let few = (light-counting c.cells-cells.ensures.lawful).few_cells in
+    let few = (light-counting c.of-sizes.ensures).few_cells in
     let none = ap (λ (list : Listed). length list.closed) c.in_ok-houses.ensures.none in
     let numbers = added-few (number_house p) _ c.in_ok-push_numbers.ensures (number-one p) in
     let rows = added-few (row_house p) _ c.in_ok-push_rows.ensures (λ d. if-few (begins_row_run p d) _) in
@@ -49,7 +49,7 @@ push_columns-requires-clause-fits c =
 pub push_lits-requires-clause-fits : goal.push_lits-requires-clause-fits
 push_lits-requires-clause-fits c =
     let p = c.args.puzzle.now in
-    let few = (light-counting c.cells-cells.ensures.lawful).few_cells in
+    let few = (light-counting c.of-sizes.ensures).few_cells in
     let none = ap (λ (list : Listed). length list.closed) c.in_ok-houses.ensures.none in
     let numbers = added-few (number_house p) _ c.in_ok-push_numbers.ensures (number-one p) in
     let rows = added-few (row_house p) _ c.in_ok-push_rows.ensures (λ d. if-few (begins_row_run p d) _) in

@@ -11,7 +11,7 @@ returns-then-not-is_white c =
     (λ i. bulb c.args.grid.now (l.first + i * l.stride)) c.args.at c.if-at-side.number
     c.loop-next.auto.next c.loop-next-test.true
     (grind (arith, c.requires.beside, c.if-at-side.branch)) c.loop-next.invariant.dark
-    (ap (white c.args.puzzle.now) (sym c.along-place.ensures) ∙ sym c.is_white.ensures
+    (ap (white c.args.puzzle.now) (sym c.along-place.ensures) ∙ sym c.is_white.ensures.value
     ∙ c.if-not-is_white.true)
 
 pub returns-then-get-eq1 : goal.returns-then-get-eq1
@@ -21,5 +21,5 @@ returns-then-get-eq1 c =
     (λ i. bulb c.args.grid.now (l.first + i * l.stride)) c.args.at c.if-at-side.number
     c.loop-next.auto.next c.loop-next-test.true
     (grind (arith, c.requires.beside, c.if-at-side.branch)) c.loop-next.invariant.pass c.requires.white
-    (ap (white c.args.puzzle.now) (sym c.along-place.ensures) ∙ sym c.is_white.ensures ∙ c.if-not-is_white.false)
+    (ap (white c.args.puzzle.now) (sym c.along-place.ensures) ∙ sym c.is_white.ensures.value ∙ c.if-not-is_white.false)
     (eq-eqb (slice_index c.args.grid.now _) 1 (ap (slice_index c.args.grid.now) (sym c.along-place.ensures) ∙ sym c.get.ensures ∙ c.if-get-eq1.true))
