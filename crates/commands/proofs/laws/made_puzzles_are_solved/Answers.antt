@@ -15,9 +15,9 @@ use Rattle.commands.specs.LawsOfCommands.{IsSolvedAsMade}
 use Rattle.commands.specs.Allowed.{AllowsMade, wanted}
 use Rattle.commands.proofs.GameLaws.{laws_of, passes_as, spelled_read, found_alone, never_one}
 use Rattle.commands.proofs.laws.made_puzzles_are_solved.Goals as goal
+use Rattle.commands.specs.LawsOfCommands.{MadePuzzlesAreSolved}
 
-by : (game : Game) (size : Text) (seed budget tries black : ℕ) (answer : Answer)
-    → AllowsMade (game_of game) (wanted seed budget tries black) size answer → answer.status ≡ 0 → IsSolvedAsMade game budget answer
+by : MadePuzzlesAreSolved
 by game size seed budget tries black answer (inl refusal) fine = absurd (omega (arith, fine, ap (λ (a : Answer). a.status) refusal.said))
 by game size seed budget tries black answer (inr sized) fine = elim sized.allowed [
   | inl handed ↦
