@@ -85,7 +85,8 @@ pub record AreTold (is_grid solves : List ℕ → Type 0) (checks : List ℕ →
   pub right : (g : List ℕ) → solves g → checks g (checked None)
 
 faults_told : {F : Type 0} {is_grid solves : List ℕ → Type 0} (rule_text : F → Text) (fails : List ℕ → F → Type 0) (tests : List F)
-    → ((g : List ℕ) → is_grid g → NoneFails (fails g) tests → solves g) → ((g : List ℕ) → is_grid g → AllByRecursion (IsKnown (fails g)) tests)
+    → ((g : List ℕ) → is_grid g → NoneFails (fails g) tests → solves g)
+    → ((g : List ℕ) → is_grid g → AllByRecursion (IsKnown (fails g)) tests)
     → ((g : List ℕ) → solves g → NoneFails (fails g) tests)
     → AreTold is_grid solves (λ g. SaysFault (IsAnswerOfCheck (solves g) (fails g) tests) rule_text)
 faults_told {F} rule_text fails tests sound known complete = record {

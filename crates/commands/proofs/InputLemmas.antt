@@ -25,7 +25,13 @@ module _ (most b : ℕ) {kept : List ℕ} (piece : List ℕ) (holds : kept ≡ t
 
 pub line_empty : {most : ℕ} → 0 < most → {kept : List ℕ} (piece : List ℕ) → kept ≡ take most piece → (length kept == 0) ≡ (length piece == 0)
 line_empty {most} some {kept} piece holds = elim (cases_lt most (length piece)) [
-  | inl long ↦ rw (holds, length-take-le most piece (omega arith), ne_eqb most 0 (λ e. absurd (omega arith)), ne_eqb (length piece) 0 (λ e. absurd (omega arith))) refl
+  | inl long ↦
+      rw (
+        holds,
+        length-take-le most piece (omega arith),
+        ne_eqb most 0 (λ e. absurd (omega arith)),
+        ne_eqb (length piece) 0 (λ e. absurd (omega arith)),
+      ) refl
   | inr all ↦ ap (λ (l : List ℕ). length l == 0) (holds ∙ take_all most piece all)
 ]
 
@@ -33,16 +39,21 @@ pub strip_length : (l : List ℕ) → length l ≤ length (strip_carriage_return
 strip_length l = grind (arith, common_steps, common_steps)
 
 -- what is told of such a line at its end, as it stands or without a return
-pub line_told : (f : List ℕ → List ℕ) → ((l : List ℕ) → length l ≤ length (f l) + 1) → (line : Option (Bor (List ℕ))) {kept : List ℕ} (piece : List ℕ)
+pub line_told : (f : List ℕ → List ℕ) → ((l : List ℕ) → length l ≤ length (f l) + 1)
+    → (line : Option (Bor (List ℕ))) {kept : List ℕ} (piece : List ℕ)
     → kept ≡ take (max_id + 2) piece → IsLine line (f kept) → IfSome line (λ l. length l.now ≤ max_id) → IsLine line (f piece)
 line_told f less line {kept} piece holds told within = elim (cases_lt (max_id + 2) (length piece)) [
   | inl long ↦ by line long told within (omega (arith, less kept, ap length holds, length-take-le (max_id + 2) piece (omega arith)))
   | inr all ↦ subst (λ (l : List ℕ). IsLine line (f l)) (holds ∙ take_all (max_id + 2) piece all) told
 ]
   where
-    by : (line : Option (Bor (List ℕ))) → max_id + 2 < length piece → IsLine line (f kept) → IfSome line (λ l. length l.now ≤ max_id) → max_id < length (f kept) → IsLine line (f piece)
+    by : (line : Option (Bor (List ℕ))) → max_id + 2 < length piece → IsLine line (f kept)
+        → IfSome line (λ l. length l.now ≤ max_id) → max_id < length (f kept) → IsLine line (f piece)
     by None long told within over = omega (arith, less piece)
-    by (Some l) long told within over = let few : length l.now ≤ max_id = within in let same : l.now ≡ f kept = told in absurd (omega (arith, ap length same))
+    by (Some l) long told within over =
+        let few : length l.now ≤ max_id = within in
+        let same : l.now ≡ f kept = told in
+        absurd (omega (arith, ap length same))
 
 -- ---- a text without its returns
 choice : {b : Bool} (byte : ℕ) (more : Text) → (byte == 13) && begins_with_line_end more ≡ b

@@ -276,7 +276,8 @@ tents_making filled w words text read is = record {
         }
 
 -- ---- the first filling of Solo that is there, and of Light Up, is thinned
-solo_making : (w : Wanted) → HasWords w.stream → (text : Text) (read : SizeRead) → size_of game.Solo text ≡ Ok read → IsMaking solo_facts SameSolo w read
+solo_making : (w : Wanted) → HasWords w.stream → (text : Text) (read : SizeRead) → size_of game.Solo text ≡ Ok read
+    → IsMaking solo_facts SameSolo w read
 solo_making w words text read is = record {
   filling = Option (List ℕ);
   make = solo_filling read.w read.h read.x w.budget;
@@ -325,7 +326,8 @@ solo_making w words text read is = record {
         there : filling_at (solo_filling read.w read.h false w.budget) 0 w.stream ≡ None → ⊥
         there e = cc
 
-light_making : (w : Wanted) → HasWords w.stream → (text : Text) (read : SizeRead) → size_of game.LightUp text ≡ Ok read → IsMaking light_facts SameLight w read
+light_making : (w : Wanted) → HasWords w.stream → (text : Text) (read : SizeRead) → size_of game.LightUp text ≡ Ok read
+    → IsMaking light_facts SameLight w read
 light_making w words text read is = record {
   filling = _;
   make = light_filling size w.black;

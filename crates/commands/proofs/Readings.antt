@@ -47,7 +47,8 @@ module _ {P : Type 0} {of : Text → Result P IdFault} {spells : Text → P → 
   answer_to allows id p s (inl x) = absurd (reading.apart id p x.fault s x.first)
   answer_to allows id p {a} s (inr x) = subst (λ q. allows q a) (reading.one id x.puzzle p x.spelled s) x.allowed
 
-  refusal_to : (allows : P → Answer → Type 0) (id : Text) (f : IdFault) {a : Answer} → of id ≡ Err f → AllowsId (of id) (spells id) allows a → a ≡ refused (fault_text f)
+  refusal_to : (allows : P → Answer → Type 0) (id : Text) (f : IdFault) {a : Answer} → of id ≡ Err f
+      → AllowsId (of id) (spells id) allows a → a ≡ refused (fault_text f)
   refusal_to allows id f is (inl x) = let same : Err x.fault ≡ Err f = sym x.first ∙ is in
       x.said ∙ ap (λ (h : IdFault). refused (fault_text h)) (let fault : x.fault ≡ f = cc in fault)
   refusal_to allows id f is (inr x) = absurd (reading.apart id x.puzzle f x.spelled is)

@@ -1,10 +1,7 @@
-use Rattle.std.proofs.Common.{refl, ◌≡◌, ℕ, Bool, inl}
+use Rattle.std.proofs.Common.{refl, ◌≡◌, inl}
 use Rattle.std.specs.Prelude.{◌↔◌}
-use Rattle.commands.specs.Common.{Game}
-use Rattle.commands.specs.Answers.{Answer, Text}
 use Rattle.commands.specs.Games.{game_of}
-use Rattle.commands.specs.Allowed.{AllowsGrade, AllowsSolve}
-use Rattle.commands.specs.LawsOfCommands.{StatusesAgree, IsOneWithEnough, NamesSetWithinSearch}
+use Rattle.commands.specs.LawsOfCommands.{StatusesAgree, NamesSetWithinSearch}
 use Rattle.commands.proofs.GameLaws.{laws_of, with_enough}
 use Rattle.commands.proofs.GradedAlike.{statuses_agree, named_alike, refusals_apart, status_alike}
 use Rattle.commands.proofs.Readings.{both_answers}

@@ -1,6 +1,4 @@
 use Rattle.std.proofs.Common.{◌∙◌, sym}
-use Rattle.engine_core.proofs.VerdictLemmas.{found_iff}
-use Rattle.engine_core.proofs.WalkLemmas.{walk-unfold}
 use Rattle.commands.proofs.GradeLemmas.{settled_one}
 use Rattle.commands.proofs.grade.grading.settles.Goals as goal
 

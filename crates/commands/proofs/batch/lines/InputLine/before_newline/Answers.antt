@@ -1,4 +1,4 @@
-use Rattle.std.proofs.Common.{◌∙◌, arith, ap, subst}
+use Rattle.std.proofs.Common.{◌∙◌, ap, subst}
 use Rattle.commands.specs.Batches.{IsLine}
 use Rattle.std.specs.Str.Lines.{strip_carriage_return}
 use Rattle.commands.proofs.InputLemmas.{line_told, strip_length}

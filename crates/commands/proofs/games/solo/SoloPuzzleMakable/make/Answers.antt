@@ -2,7 +2,7 @@ use Rattle.std.proofs.Common.{◌≡◌, ℕ, Bool, arith}
 use Rattle.std.specs.Prelude.{Ok, true}
 use Rattle.std.proofs.lemmas.Grind.{common_steps}
 use Rattle.gameid_core.specs.declared.id.game.Game.TheVariants as game
-use Rattle.maker_core.specs.SoloMaking.{IsSoloSize, IsSoloUnmade}
+use Rattle.maker_core.specs.SoloMaking.{IsSoloUnmade}
 use Rattle.maker_core.specs.declared.made.MakeFault.{MakeFault}
 use Rattle.maker_core.specs.declared.made.MakeFault.TheVariants.{Exhausted, Memory, SizeRange}
 use Rattle.commands.specs.Answers.{Text}
