@@ -1,8 +1,8 @@
 -- What the checks of grids rest on, for a puzzle of each game: an input has one answer of `check`, and the printed form of
 -- a solution is told to be correct.
-use Rattle.std.proofs.Common.{◌≡◌, ◌<◌, ◌≤◌, ◌∷◌, ◌⊎◌, ℕ, List, zero, suc, [], length, refl, sym, ap, subst, arith, inl, inr, ◌≢◌, ◌∙◌, ◌+◌, ◌*◌, Bool, true, false, Option, Some, None, get_or, slice_index, true≢false, codes}
+use Rattle.std.proofs.Common.{◌≡◌, ◌<◌, ◌∷◌, ◌⊎◌, ℕ, List, zero, suc, [], length, refl, sym, ap, subst, arith, inl, inr, ◌≢◌, ◌∙◌, ◌+◌, ◌*◌, Bool, true, false, Option, Some, None, get_or, slice_index, true≢false, codes}
 use Rattle.std.proofs.lemmas.Grind.{common_steps}
-use Rattle.std.specs.Prelude.{All, option_map, ◌++◌, ◌↔◌}
+use Rattle.std.specs.Prelude.{option_map, ◌++◌, ◌↔◌}
 use Rattle.std.proofs.lemmas.Bool.{cases_eq, cases_lt, eq-eqb}
 use Rattle.std.specs.Bool.{Decides}
 use Rattle.std.specs.Cmp.Lexicographic.{bytes_decides}
@@ -23,9 +23,9 @@ use Rattle.pattern_core.specs.Faults.{FailsPattern, pattern_tests}
 use Rattle.solo_core.specs.Faults.{FailsSolo, given_tests, house_tests}
 use Rattle.pattern_core.proofs.FaultLemmas.{pattern_known, pattern_none, pattern_sound}
 use Rattle.solo_core.proofs.RepeatLemmas.{solo_known, solo_none, solo_sound}
-use Rattle.commands.specs.Common.{IsGrid, Extent, IsAsShown, hides_nothing, light_hides, tent_hides, IsPrinted, pattern_cell}
+use Rattle.commands.specs.Common.{IsGrid, Extent, IsAsShown, hides_nothing, light_hides, tent_hides, pattern_cell}
 use Rattle.commands.specs.Common.{solo_cell, solo_extent, light_cell, tents_cell, IsLight, IsPattern, IsSolo, IsTents, Light, Pattern, Solo}
-use Rattle.commands.specs.Common.{Tents, IsPatternFault, IsSoloFault, IsLightFault, IsLightSolution, IsTentFault, IsTentSolution}
+use Rattle.commands.specs.Common.{Tents, IsLightSolution, IsTentSolution}
 use Rattle.commands.specs.Answers.{Answer, Text}
 use Rattle.commands.specs.CheckAnswers.{AllowsGrid, SaysFault, checked, IsInputOf, without_returns}
 use Rattle.commands.specs.Games.{game_of}

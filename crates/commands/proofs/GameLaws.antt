@@ -1,9 +1,9 @@
 -- What the laws rest on, for each game; and what is told of an ID beside its verdict: a grid that is told passes, what is
 -- handed out is solved, and an input that is correct is a solution.
-use Rattle.std.proofs.Common.{◌≡◌, ◌≢◌, ◌⊎◌, ◌<◌, length, true≢false, ◌∙◌, ℕ, List, Result, sym, ap, subst, arith, inl, inr, Some, None, Err, true, refl, drop, ◌∷◌, Bool, false, [], if◌then◌else◌}
+use Rattle.std.proofs.Common.{◌≡◌, ◌≢◌, ◌⊎◌, ◌<◌, length, true≢false, ◌∙◌, ℕ, List, Result, sym, ap, subst, arith, inl, inr, Some, None, Err, true, refl, drop, ◌∷◌, []}
 use Rattle.std.proofs.lemmas.Bool.{false_from_ne_true}
 use Rattle.std.proofs.lemmas.Grind.{common_steps}
-use Rattle.std.specs.Prelude.{◌↔◌, is_ok, ◌≤◌}
+use Rattle.std.specs.Prelude.{◌↔◌, is_ok}
 use Rattle.gameid_core.specs.declared.id.game.Game.TheVariants as game
 use Rattle.gameid_core.specs.declared.id.fault.IdFault.TheVariants.{TooLong}
 use Rattle.gameid_core.proofs.HeadLaws.{puzzle_too_long}
@@ -28,13 +28,12 @@ use Rattle.commands.specs.PuzzleFacts.{PuzzleFacts, printed_by}
 use Rattle.commands.specs.SoloFacts.{solo_sets}
 use Rattle.commands.specs.Makings.{MadePuzzle, Wanted}
 use Rattle.commands.specs.Replies.{gave_up_answer, one_answer, verdict_answer, refused}
-use Rattle.commands.specs.Allowed.{AllowsCheck, AllowsGrade, AllowsSolve, IsSolved}
+use Rattle.commands.specs.Allowed.{AllowsCheck, AllowsSolve, IsSolved}
 use Rattle.commands.specs.CheckAnswers.{AllowsGrid, checked as correct_or, without_returns}
 use Rattle.commands.specs.LawsOfCommands.{ArePassed, HasOneAnswer, Passes}
-use Rattle.commands.specs.Grades.{HasOneSolution, IsRightGrade, NamedRules, grade_by, listed_grade, only_set, searched_grade}
-use Rattle.commands.specs.declared.grade.Grade.TheVariants.{ByRules}
+use Rattle.commands.specs.Grades.{IsRightGrade, NamedRules, grade_by, listed_grade, only_set, searched_grade}
 use Rattle.commands.specs.declared.grade.RuleSet.TheVariants.{Singles, Houses, Crossings, Lines, Local}
-use Rattle.commands.proofs.GradedAlike.{status_one, told_status, graded_one, settled_found, settled_by_stronger, is_within, own_named, weaker_named}
+use Rattle.commands.proofs.GradedAlike.{status_one, told_status, graded_one, settled_by_stronger, is_within, own_named, weaker_named}
 use Rattle.commands.proofs.Readings.{answer_to, id_once}
 use Rattle.commands.proofs.GradeLemmas.{settled_one}
 use Rattle.commands.proofs.CheckedPuzzles.{correct_grid, printed_apart, CheckedPuzzle, light_checked, pattern_checked, solo_checked, tents_checked}

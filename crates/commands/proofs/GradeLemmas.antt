@@ -1,21 +1,18 @@
 -- What grades mean of the games' own solutions, and how their texts and traces are told.
-use Rattle.std.proofs.Common.{length, ◌≡◌, ◌∙◌, ℕ, zero, suc, Bool, true, false, ◌==◌, List, [], ◌∷◌, Option, Some, None, refl, sym, ap, subst, inl, inr, arith, ◌++◌, ◌≤◌, append_assoc, append-nil, codes, true≢false, map, length-append}
+use Rattle.std.proofs.Common.{length, ◌≡◌, ◌∙◌, ℕ, zero, suc, Bool, true, false, List, [], ◌∷◌, Option, Some, None, refl, sym, ap, subst, inr, arith, ◌++◌, ◌≤◌, append_assoc, append-nil, codes, true≢false, map, length-append}
 use Rattle.std.proofs.lemmas.Grind.{common_steps}
 use Rattle.std.specs.Prelude.{◌↔◌}
-use Rattle.std.proofs.lemmas.Bool.{and_parts, ne_eqb, eqb-true}
 use Rattle.std.proofs.lemmas.List.{length-map}
-use Rattle.grid_core.specs.Candidates.{all_below, any_below, is_dead, is_full}
-use Rattle.engine_core.specs.Closing.{closure}
 use Rattle.engine_core.specs.Filling.{strikes_by_fillings}
 use Rattle.engine_core.specs.HouseSets.{Decision}
-use Rattle.engine_core.specs.Walk.{Mark.Trial, Mark.Found, walk_closed}
+use Rattle.engine_core.specs.Walk.{Mark.Trial, Mark.Found}
 use Rattle.engine_core.specs.Verdict.{Outcome.OneSolution, outcome, spent, trials_in}
 use Rattle.solo_core.specs.Houses.{houses_of}
 use Rattle.solo_core.specs.NoRepeat.{no_repeat}
 use Rattle.solo_core.specs.RuleSets.{crossings_of, deciding, filled_houses, house_at, house_by}
 use Rattle.solo_core.specs.Singles.{strikes_by_singles}
 use Rattle.solo_core.specs.declared.houses.scope.VisitName.TheVariants.{House}
-use Rattle.commands.specs.Common.{Candidates, count_below, grid_of, Solo, RuleSystem, is_settled, Mark, IsFound, walk, Outcome, Solves, verdict_of, IsRight}
+use Rattle.commands.specs.Common.{Solo, RuleSystem, is_settled, Mark, walk, Outcome, Solves, verdict_of, IsRight}
 use Rattle.commands.specs.Common.{crossing_scopes, crossings_rules, houses_rules, scopes_of, singles_rules, solo_n}
 use Rattle.commands.specs.Grades.{HasOneSolution, IsRightGrade, SaysGrade, grade_by, searched_grade, NamedRules, last_tried, listed_grade, only_set, grade_status, grade_text}
 use Rattle.commands.specs.Answers.{Text, Answer, Delivers}

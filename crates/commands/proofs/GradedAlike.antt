@@ -1,6 +1,6 @@
 -- A puzzle is settled exactly where its verdict without a trial is one, and its grade goes along with its verdict; and so what is
 -- told of the two.
-use Rattle.std.proofs.Common.{◌==◌, ◌≡◌, ◌∙◌, ◌⊎◌, ◌<◌, ℕ, zero, suc, Bool, true, false, List, [], ◌∷◌, ◌++◌, Option, None, refl, sym, ap, subst, inl, inr, arith, ◌≢◌, Result, if◌then◌else◌, codes, slice_index, true≢false}
+use Rattle.std.proofs.Common.{◌==◌, ◌≡◌, ◌∙◌, ◌⊎◌, ◌<◌, ℕ, zero, suc, Bool, true, false, List, [], ◌∷◌, ◌++◌, Option, None, refl, sym, ap, subst, inl, inr, arith, ◌≢◌, codes, slice_index, true≢false}
 use Rattle.std.proofs.lemmas.Grind.{common_steps}
 use Rattle.std.proofs.lemmas.Bool.{eqb-true, ne_eqb, and_parts, and_from, cases_eq}
 use Rattle.std.specs.Prelude.{◌↔◌, ◌+◌, ◌*◌}
@@ -15,17 +15,16 @@ use Rattle.engine_core.proofs.JudgeLemmas.{grid-fits}
 use Rattle.engine_core.proofs.WalkLemmas.{walk-unfold, walk_closed-dead, walk_closed-wrong}
 use Rattle.maker_core.proofs.FoundAtOnce.{found_at_once, found_one}
 use Rattle.maker_core.proofs.FullStart.{known}
-use Rattle.commands.specs.Common.{IsRight, Candidates, IsInside, grid_of, only, HasOneReading, IdFault, RuleSystem, IsLawful, IsClosed, is_settled, Solves, count_below}
+use Rattle.commands.specs.Common.{IsRight, Candidates, IsInside, grid_of, only, RuleSystem, IsLawful, IsClosed, is_settled, Solves, count_below}
 use Rattle.commands.specs.Common.{verdict_of, Outcome, Mark, walk}
 use Rattle.commands.specs.Answers.{Answer, Begins, Text}
 use Rattle.commands.specs.Grades.{HasOneSolution, IsRightGrade, NamedRules, SaysGrade, first_settled, grade_by, grade_status, grade_text, listed_grade, rule_set_text, searched_grade}
-use Rattle.commands.specs.Allowed.{AllowsId}
 use Rattle.commands.specs.LawsOfCommands.{StatusesAgree, NamesSetWithinSearch, is_within_search}
-use Rattle.commands.specs.Replies.{refused, fault_text, verdict_answer}
+use Rattle.commands.specs.Replies.{refused, verdict_answer}
 use Rattle.commands.specs.declared.grade.Grade.{Grade}
 use Rattle.commands.specs.declared.grade.Grade.TheVariants.{ByRules, BySearch}
 use Rattle.commands.specs.declared.grade.RuleSet.{RuleSet}
-use Rattle.commands.specs.declared.grade.RuleSet.TheVariants.{Singles, Houses, Crossings, Lines, Local}
+use Rattle.commands.specs.declared.grade.RuleSet.TheVariants.{Crossings}
 use Rattle.std.proofs.lemmas.Bool.{cond_both}
 
 -- the branches of a cell begin with a trial, or there are none

@@ -1,11 +1,9 @@
 -- The bytes of a line that are kept, and a text that is copied without its returns: what is copied, and the rest without
 -- its returns, is always the whole without them.
-use Rattle.std.proofs.Common.{◌≡◌, ◌∙◌, ◌==◌, ◌<◌, ◌≤◌, ◌-◌, ◌+◌, ◌++◌, ℕ, Bool, true, false, List, [], ◌∷◌, length, take, drop, ap, sym, refl, subst, arith, slice_index, if◌then◌else◌, append-nil, length-drop, eq-eqb, true≢false, ◌&&◌, append_assoc, inl, inr}
-use Rattle.std.proofs.lemmas.List.{take-append-drop, take-append-le, drop-append-le, length-append}
-use Rattle.std.proofs.lemmas.Bool.{cases_lt, ne_eqb, eqb-true}
+use Rattle.std.proofs.Common.{◌≡◌, ◌∙◌, ◌==◌, ◌<◌, ◌≤◌, ◌+◌, ◌++◌, ℕ, Bool, true, false, List, [], ◌∷◌, length, take, drop, ap, sym, refl, subst, arith, if◌then◌else◌, append-nil, ◌&&◌, append_assoc, inl, inr}
+use Rattle.std.proofs.lemmas.Bool.{cases_lt, ne_eqb}
 use Rattle.std.proofs.lemmas.Grind.{common_steps}
 use Rattle.std.specs.Str.Lines.{strip_carriage_return}
-use Rattle.commands.specs.declared.batch.lines.InputLine.{InputLine}
 use Rattle.commands.specs.Answers.{Text}
 use Rattle.commands.specs.CheckAnswers.{begins_with_line_end, without_returns}
 use Rattle.std.proofs.lemmas.List.{length-take-le, take_all}

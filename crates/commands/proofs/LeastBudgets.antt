@@ -5,10 +5,10 @@ use Rattle.engine_core.specs.Verdict.{Outcome.OneSolution, Outcome.NoSolution, o
 use Rattle.engine_core.specs.Walk.{Mark.Found, Mark.Trial}
 use Rattle.commands.specs.Common.{IsRight, Game, Outcome, Mark, RuleSystem, verdict_of, walk}
 use Rattle.commands.specs.Answers.{Answer, Text}
-use Rattle.commands.specs.Allowed.{AllowsGrade, AllowsSolve, IsSolved}
+use Rattle.commands.specs.Allowed.{AllowsSolve, IsSolved}
 use Rattle.commands.specs.Games.{game_of, puzzle_of}
 use Rattle.commands.specs.Grades.{HasOneSolution, SaysGrade, grade_by, grade_text, listed_grade, searched_grade}
-use Rattle.commands.specs.LawsOfCommands.{IsLeastBudget, NamesLeastBudget, NamesSearch, NamesSet}
+use Rattle.commands.specs.LawsOfCommands.{IsLeastBudget, NamesSearch, NamesSet}
 use Rattle.commands.specs.PuzzleFacts.{printed_by}
 use Rattle.commands.specs.Replies.{refused}
 use Rattle.commands.specs.declared.grade.Grade.{Grade}

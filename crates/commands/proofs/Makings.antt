@@ -2,15 +2,15 @@
 use Rattle.commands.proofs.LightFillings.{light_thinned}
 use Rattle.commands.proofs.SearchedPuzzles.{tents_searched}
 use Rattle.commands.proofs.SoloFillings.{solo_missing, solo_thinned}
-use Rattle.commands.specs.Allowed.{Allows, AllowsCheck, AllowsGrade, AllowsMade, AllowsOfSize, AllowsSolve, handed_out, wanted}
-use Rattle.commands.specs.Allowed.{AllowsMade, AllowsOfSize, IsHandedOut, handed_out, wanted}
-use Rattle.commands.specs.Allowed.{AllowsMade, AllowsOfSize, handed_out, wanted}
+use Rattle.commands.specs.Allowed.{AllowsMade, AllowsOfSize, handed_out}
+use Rattle.commands.specs.Allowed.{AllowsMade, AllowsOfSize, IsHandedOut, handed_out}
+use Rattle.commands.specs.Allowed.{AllowsMade, AllowsOfSize, handed_out}
 use Rattle.commands.specs.Answers.{Answer, Text}
-use Rattle.commands.specs.Common.{Extent, Game, IsLawful, RuleSystem, SizeRead, Stream, extent_of, is_settled, max_side, size_of, Pattern}
-use Rattle.commands.specs.Common.{IdFault, Light, SizeRead, Solo, extent_of}
-use Rattle.commands.specs.Common.{Stream, Extent, IsExtent, max_side, IsGrid, SizeRead, extent_of}
-use Rattle.commands.specs.Common.{is_solution-from, is_solution-is, line_rules-lawful, line_rules, IsPatternSolution, tent_rules, IsTentSolution}
-use Rattle.commands.specs.Common.{size_of, HasOneReading, IsTents, Tents, IdFault, IsLawful, RuleSystem, Outcome, IsTrueOf, verdict_of}
+use Rattle.commands.specs.Common.{Extent, Game, SizeRead, Stream, extent_of, size_of, Pattern}
+use Rattle.commands.specs.Common.{Light, SizeRead, extent_of}
+use Rattle.commands.specs.Common.{Stream, Extent, IsExtent, IsGrid, SizeRead, extent_of}
+use Rattle.commands.specs.Common.{is_solution-from, is_solution-is, line_rules-lawful, line_rules, tent_rules, IsTentSolution}
+use Rattle.commands.specs.Common.{size_of, IsTents, Tents}
 use Rattle.commands.specs.Games.{game_of}
 use Rattle.commands.specs.LightFacts.{light_facts}
 use Rattle.commands.specs.Makings.{Wanted, exhausted_answer}
@@ -18,16 +18,12 @@ use Rattle.commands.specs.Makings.{Wanted}
 use Rattle.commands.specs.Makings.{exhausted_answer}
 use Rattle.commands.specs.PatternFacts.{pattern_facts}
 use Rattle.commands.specs.PuzzleFacts.{PuzzleFacts}
-use Rattle.commands.specs.Replies.{fault_text, refused}
 use Rattle.commands.specs.SoloFacts.{solo_facts}
 use Rattle.commands.specs.TentsFacts.{tents_facts, tents_sizes}
-use Rattle.engine_core.proofs.VerdictLemmas.{outcome-true}
-use Rattle.engine_core.specs.Verdict.{Outcome.OneSolution}
 use Rattle.fields_core.proofs.TentRuleLemmas as tents
 use Rattle.gameid_core.proofs.HeadLaws.{size_take}
 use Rattle.gameid_core.proofs.LightWritten.{light_is_written}
 use Rattle.gameid_core.proofs.LineLaws.{at_column, at_row}
-use Rattle.gameid_core.proofs.OneReading.{reading_of}
 use Rattle.gameid_core.proofs.OnesFit.{ones_lawful}
 use Rattle.gameid_core.proofs.PatternWritten.{pattern_is_written}
 use Rattle.gameid_core.proofs.Results.{bind_ok, chosen, ok_is, taken}
@@ -35,7 +31,6 @@ use Rattle.gameid_core.proofs.RunsFit.{runs_lawful}
 use Rattle.gameid_core.proofs.SoloCanon.{solo_is_written}
 use Rattle.gameid_core.proofs.TentsWritten.{tents_is_written}
 use Rattle.gameid_core.specs.BlackRuns.{runs}
-use Rattle.gameid_core.specs.Head.{max_numbers}
 use Rattle.gameid_core.specs.Lines.{lines_ones, lines_runs}
 use Rattle.gameid_core.specs.Puzzles.{IsWide}
 use Rattle.gameid_core.specs.declared.id.fault.IdFault.TheVariants.{SizeRange}
@@ -50,21 +45,19 @@ use Rattle.maker_core.specs.LightClues.{SameLight}
 use Rattle.maker_core.specs.LightCluesLaws.{light_is_game}
 use Rattle.maker_core.specs.LightFilling.{light_filling, light_passes, light_puzzle_of}
 use Rattle.maker_core.specs.LightFilling.{light_filling, light_passes}
-use Rattle.maker_core.specs.Made.{HasOne, IsOnlySolution, TellsOne, is_one}
-use Rattle.maker_core.specs.PatternMaking.{IsPatternMade, clued_by, pattern_filling, pattern_passes}
+use Rattle.maker_core.specs.PatternMaking.{clued_by, pattern_filling, pattern_passes}
 use Rattle.maker_core.specs.SoloMaking.{IsSoloSize, solo_filling, solo_passes}
 use Rattle.maker_core.specs.SoloMaking.{solo_filling, solo_passes}
 use Rattle.maker_core.specs.TentFilling.{tent_filling, tents_pass, tents_puzzle_of}
-use Rattle.maker_core.specs.TentMaking.{IsTentsMade}
-use Rattle.std.proofs.Common.{ℕ, ◌/◌, ◌%◌, ◌^◌, ◌<◌, List, arith, ◌≡◌, ◌∙◌, ◌*◌, ◌≤◌, ◌⊎◌, ◌&&◌, Bool, true, false, [], Result, Ok, Err, refl, sym, ap, ap₂, subst, inl, inr, true≢false, suc, zero}
-use Rattle.std.proofs.Common.{◌≡◌, ◌*◌, ◌++◌, ◌&&◌, ℕ, Bool, true, false, List, [], ◌∷◌, Option, Some, None, Ok, codes, refl, sym, inl, inr, arith, suc, zero, if◌then◌else◌, true≢false}
+use Rattle.std.proofs.Common.{ℕ, List, arith, ◌≡◌, ◌∙◌, ◌*◌, ◌≤◌, ◌&&◌, Bool, true, false, [], Ok, Err, refl, sym, ap, subst, inl, inr, true≢false, suc, zero}
+use Rattle.std.proofs.Common.{◌≡◌, ◌*◌, ◌&&◌, ℕ, Bool, true, false, List, [], Option, Some, None, Ok, refl, sym, inl, inr, arith, suc, zero, if◌then◌else◌, true≢false}
 use Rattle.std.proofs.Common.{◌≡◌, ◌≢◌, ◌∙◌, ℕ, Bool, true, List, Option, Some, None, Ok, Err, refl, sym, ap, subst, inl, inr, arith, true≢false}
-use Rattle.std.proofs.lemmas.Bool.{and_parts, cases_eq, cases_lt, leb-true}
+use Rattle.std.proofs.lemmas.Bool.{and_parts, cases_eq, leb-true}
 use Rattle.std.proofs.lemmas.Bool.{and_parts, leb-true}
 use Rattle.std.specs.Prelude.{nat_le, if◌then◌else◌}
 use Rattle.std.specs.Prelude.{nat_le}
 use Rattle.commands.proofs.Readings.{both_answers, id_some, one_of_same, size_reading}
-use Rattle.commands.proofs.MadeOnce.{first_once, first_or_none, has_one, seed_words}
+use Rattle.commands.proofs.MadeOnce.{first_once, first_or_none, has_one}
 use Rattle.commands.specs.LawsOfCommands.{DifferInClues, HandOutAlike, HasOneAnswer}
 use Rattle.maker_core.specs.SoloClues.{SameSolo}
 use Rattle.maker_core.specs.SoloFilling.{all_given}

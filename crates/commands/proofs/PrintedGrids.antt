@@ -2,7 +2,7 @@
 -- carriage return, and is never too long to be read back.
 use Rattle.std.proofs.Common.{◌≡◌, ◌∙◌, ◌+◌, ◌*◌, ◌-◌, ◌<◌, ◌≤◌, ◌++◌, ◌∷◌, ℕ, List, zero, suc, take, slice_index, refl, sym, subst, arith, codes, inl, inr, ◌≢◌, ◌/◌, ◌%◌, ◌==◌, Bool, true, false, Option, Some, None, [], length, drop, ap, decimal, if◌then◌else◌, length-append}
 use Rattle.std.proofs.lemmas.Grind.{common_steps}
-use Rattle.std.proofs.lemmas.Bool.{cases_eq, cases_lt, eqb-true, ne_eqb}
+use Rattle.std.proofs.lemmas.Bool.{cases_lt, eqb-true, ne_eqb}
 use Rattle.std.specs.List.{slice_get, AllByRecursion}
 use Rattle.std.proofs.Math.Seq.{drop-append_seam, drop-cons}
 use Rattle.std.proofs.lemmas.List.{drop_all, drop-drop, take-append-drop}
@@ -21,7 +21,7 @@ use Rattle.gameid_core.specs.Puzzles.{IsSolo, Light, Pattern, Solo, Tents, solo_
 use Rattle.gameid_core.specs.declared.light_up.cell.LightCell.{LightCell}
 use Rattle.gameid_core.specs.declared.light_up.cell.LightCell.TheVariants.{White, Black, Numbered}
 use Rattle.gameid_core.proofs.PrintedCells.{number_fits}
-use Rattle.gameid_core.proofs.PrintedNumbers.{Number, not_empty, number_of}
+use Rattle.gameid_core.proofs.PrintedNumbers.{not_empty, number_of}
 use Rattle.commands.specs.Answers.{Text}
 use Rattle.commands.specs.CheckAnswers.{without_returns}
 use Rattle.commands.specs.Texts.{text_limit}

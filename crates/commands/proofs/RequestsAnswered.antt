@@ -1,36 +1,21 @@
 -- Each request has an answer on each input.
-use Rattle.std.proofs.Common.{◌≡◌, ◌*◌, ◌++◌, ◌&&◌, ℕ, Bool, true, false, List, [], ◌∷◌, Option, Some, None, Ok, codes, refl, sym, inl, inr, arith, suc, zero, if◌then◌else◌, true≢false}
-use Rattle.std.proofs.lemmas.Bool.{and_parts, leb-true}
-use Rattle.std.specs.Prelude.{nat_le}
+use Rattle.std.proofs.Common.{◌≡◌, ◌++◌, ℕ, Bool, true, false, List, [], ◌∷◌, Option, Some, None, codes, refl}
 use Rattle.std.specs.Str.Lines.{lines}
-use Rattle.gameid_core.specs.Head.{max_numbers}
-use Rattle.gameid_core.specs.Puzzles.{IsWide}
-use Rattle.gameid_core.specs.declared.id.game.Game.TheVariants as game
-use Rattle.gameid_core.proofs.HeadLaws.{size_take}
-use Rattle.gameid_core.proofs.LightWritten.{light_is_written}
-use Rattle.gameid_core.proofs.SoloCanon.{solo_is_written}
-use Rattle.maker_core.specs.Draws.{IsFirstPassing, NonePasses, filling_at}
-use Rattle.maker_core.specs.LightFilling.{light_filling, light_passes}
-use Rattle.maker_core.specs.SoloMaking.{IsSoloSize, solo_filling, solo_passes}
-use Rattle.commands.specs.Common.{Extent, Game, IsLawful, RuleSystem, SizeRead, Stream, extent_of, is_settled, max_side, size_of}
+use Rattle.commands.specs.Common.{Game, IsLawful, RuleSystem, is_settled}
 use Rattle.commands.specs.Answers.{Answer, Text}
-use Rattle.commands.specs.Allowed.{Allows, AllowsCheck, AllowsGrade, AllowsMade, AllowsOfSize, AllowsSolve, handed_out, wanted}
+use Rattle.commands.specs.Allowed.{Allows, AllowsCheck, AllowsGrade, AllowsSolve, wanted}
 use Rattle.commands.specs.Asked.{Asked, check, generate, grade, solve}
 use Rattle.commands.specs.Games.{game_of}
 use Rattle.commands.specs.Grades.{NamedRules, grade_status, grade_text, last_tried, listed_grade}
-use Rattle.commands.specs.Makings.{exhausted_answer}
 use Rattle.commands.specs.Replies.{refused_words}
-use Rattle.commands.specs.Seeds.{seed_stream}
 use Rattle.commands.specs.Traces.{IsTrace, SaysClosing, sweeps_text, visits_text}
 use Rattle.commands.proofs.BatchLemmas.{each_has}
 use Rattle.commands.proofs.CheckedPuzzles.{check_some}
 use Rattle.commands.proofs.ClosingExists.{sweeps_close, visits_close}
 use Rattle.commands.proofs.GameLaws.{EachSearched, answers, laws_of, listed_right}
-use Rattle.commands.proofs.LightFillings.{light_thinned}
 use Rattle.commands.proofs.MadeOnce.{seed_words}
 use Rattle.commands.proofs.Makings.{AreFilled, made_some}
 use Rattle.commands.proofs.Readings.{id_some}
-use Rattle.commands.proofs.SoloFillings.{solo_missing, solo_thinned}
 use Rattle.std.proofs.lemmas.Bool.{cond_both}
 
 -- ---- traces

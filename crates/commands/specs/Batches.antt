@@ -1,7 +1,7 @@
 -- What is kept of a line that is being read, and a batch, between two bytes of its input. No
 -- contract of a run uses these words.
 use Rattle.std.specs.Borrow.{Bor}
-use Rattle.std.specs.Prelude.{◌≡◌, ◌==◌, ◌<◌, ◌+◌, ℕ, List, Option, MatchOption, [], ◌∷◌, length, take, ◌++◌, false}
+use Rattle.std.specs.Prelude.{◌≡◌, ◌==◌, ◌<◌, ◌+◌, ℕ, List, Option, MatchOption, length, take, ◌++◌, false}
 use Rattle.std.specs.List.{All}
 use Rattle.std.specs.Str.Lines.{lines}
 use Rattle.gameid_core.specs.Head.{max_id}

@@ -12,7 +12,7 @@ use Rattle.commands.specs.Common.{Stream, Extent, Game, IsPrinted, Light, Solo, 
 use Rattle.commands.specs.Answers.{Answer, Text, Begins, code_of}
 use Rattle.commands.specs.Games.{game_of, puzzle_of}
 use Rattle.commands.specs.LightFacts.{light_facts}
-use Rattle.commands.specs.PuzzleFacts.{GameFacts, PuzzleFacts, printed_by}
+use Rattle.commands.specs.PuzzleFacts.{GameFacts, PuzzleFacts}
 use Rattle.commands.specs.SoloFacts.{solo_facts}
 use Rattle.commands.specs.Allowed.{Allows, AllowsCheck, AllowsSolve, AllowsGrade, is_read, AllowsMade, handed_out, wanted}
 use Rattle.commands.specs.Asked.{Asked, solve, check, grade, generate}

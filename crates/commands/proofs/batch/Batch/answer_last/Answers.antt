@@ -1,4 +1,3 @@
-use Rattle.commands.specs.Batches.{AllowsTask}
 use Rattle.commands.proofs.BatchLemmas.{last_answered, last_broken, last_none, last_stopped, on_any_err}
 use Rattle.commands.proofs.batch.Batch.answer_last.Goals as goal
 

@@ -1,4 +1,4 @@
-use Rattle.std.proofs.Common.{[], refl, rules, sym}
+use Rattle.std.proofs.Common.{[], rules, sym}
 use Rattle.commands.specs.SoloFacts.{after_houses, solo_facts}
 use Rattle.commands.specs.declared.grade.RuleSet.TheVariants.{Houses}
 use Rattle.commands.proofs.GradeLemmas.{said_first, said_later, houses_named, named}

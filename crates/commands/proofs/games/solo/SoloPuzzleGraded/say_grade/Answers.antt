@@ -1,4 +1,4 @@
-use Rattle.std.proofs.Common.{refl, rules, sym}
+use Rattle.std.proofs.Common.{rules, sym}
 use Rattle.commands.specs.Common.{crossings_rules}
 use Rattle.commands.specs.Grades.{only_set}
 use Rattle.commands.specs.SoloFacts.{after_singles, solo_facts}
