@@ -1,21 +1,18 @@
 -- What grades mean of the games' own solutions, and how their texts and traces are told.
-use Rattle.std.proofs.Common.{length, ◌≡◌, ◌∙◌, ℕ, zero, suc, Bool, true, false, ◌==◌, List, [], ◌∷◌, Option, Some, None, refl, sym, ap, subst, inl, inr, arith, ◌++◌, ◌≤◌, append_assoc, append-nil, codes, true≢false, map, length-append}
+use Rattle.std.proofs.Common.{length, ◌≡◌, ◌∙◌, ℕ, zero, suc, Bool, true, false, List, [], ◌∷◌, Option, Some, None, refl, sym, ap, subst, inr, arith, ◌++◌, ◌≤◌, append_assoc, append-nil, codes, true≢false, map, length-append}
 use Rattle.std.proofs.lemmas.Grind.{common_steps}
 use Rattle.std.specs.Prelude.{◌↔◌}
-use Rattle.std.proofs.lemmas.Bool.{and_parts, ne_eqb, eqb-true}
 use Rattle.std.proofs.lemmas.List.{length-map}
-use Rattle.grid_core.specs.Candidates.{all_below, any_below, is_dead, is_full}
-use Rattle.engine_core.specs.Closing.{closure}
 use Rattle.engine_core.specs.Filling.{strikes_by_fillings}
 use Rattle.engine_core.specs.HouseSets.{Decision}
-use Rattle.engine_core.specs.Walk.{Mark.Trial, Mark.Found, walk_closed}
+use Rattle.engine_core.specs.Walk.{Mark.Trial, Mark.Found}
 use Rattle.engine_core.specs.Verdict.{Outcome.OneSolution, outcome, spent, trials_in}
 use Rattle.solo_core.specs.Houses.{houses_of}
 use Rattle.solo_core.specs.NoRepeat.{no_repeat}
 use Rattle.solo_core.specs.RuleSets.{crossings_of, deciding, filled_houses, house_at, house_by}
 use Rattle.solo_core.specs.Singles.{strikes_by_singles}
 use Rattle.solo_core.specs.declared.houses.scope.VisitName.TheVariants.{House}
-use Rattle.commands.specs.Common.{Candidates, count_below, grid_of, Solo, RuleSystem, is_settled, Mark, IsFound, walk, Outcome, Solves, verdict_of}
+use Rattle.commands.specs.Common.{Solo, RuleSystem, is_settled, Mark, walk, Outcome, Solves, verdict_of, IsRight}
 use Rattle.commands.specs.Common.{crossing_scopes, crossings_rules, houses_rules, scopes_of, singles_rules, solo_n}
 use Rattle.commands.specs.Grades.{HasOneSolution, IsRightGrade, SaysGrade, grade_by, searched_grade, NamedRules, last_tried, listed_grade, only_set, grade_status, grade_text}
 use Rattle.commands.specs.Answers.{Text, Answer, Delivers}
@@ -27,7 +24,9 @@ use Rattle.commands.specs.Allowed.{IsGraded}
 use Rattle.commands.specs.Traces.{IsTrace, SaysClosing}
 use Rattle.commands.specs.declared.grade.RuleSet.{RuleSet}
 use Rattle.commands.specs.TracePieces.{BeginsTrace, PutsTrace}
-use Rattle.commands.proofs.RunLemmas.{says_as}
+use Rattle.commands.proofs.RunLemmas.{TakesBoth, says_as}
+use Rattle.commands.proofs.SearchedPuzzles.{SearchedPuzzle, verdict_right}
+use Rattle.commands.proofs.GradedAlike.{settled_found}
 
 -- where one grid is found, all trials of the walk were made
 pub spent_whole : (budget : ℕ) (found : Option (List ℕ)) (marks : List Mark) (g : List ℕ) → outcome budget found marks ≡ OneSolution g
@@ -44,43 +43,11 @@ pub grade_is : (rules : RuleSystem) (budget : ℕ) {verdict : Outcome} → verdi
 unfolding searched_grade
 grade_is rules budget e = ap (grade_by (trials_in (walk rules 0 rules.start))) (sym e)
 
--- numbers that are 1 are not 0
-none_zero : (f : ℕ → ℕ) (n : ℕ) → all_below (λ c. f c == 1) n ≡ true → any_below (λ c. f c == 0) n ≡ false
-unfolding all_below any_below
-none_zero f zero e = refl
-none_zero f (suc n) e =
-    let parts = and_parts (all_below (λ c. f c == 1) n) (f n == 1) e in
-    rw (none_zero f n parts.0) (one (f n) parts.1)
-  where
-    one : (k : ℕ) → (k == 1) ≡ true → (k == 0) ≡ false
-    one k h = let is = eqb-true k 1 h in ne_eqb k 0 (λ z. absurd (omega arith))
-
--- a full board is not dead
-full_alive : (cells values : ℕ) (K : Candidates) → is_full cells values K ≡ true → is_dead cells values K ≡ false
-unfolding is_full is_dead
-full_alive cells values K e = none_zero (λ c. count_below (K c) values) cells e
-
--- the walk from a full board whose grid is a solution finds that grid
-pub full_walk : (p : RuleSystem) (walk_of : Candidates → List Mark) (E : Candidates) → is_full p.cells p.values E ≡ true
-    → p.is_solution (grid_of p.cells p.values E) ≡ true → walk_closed p walk_of 0 E ≡ Found (grid_of p.cells p.values E) ∷ []
-unfolding walk_closed
-full_walk p walk_of E full good = rw (full_alive p.cells p.values E full) (rw full (rw good refl))
-
 -- a puzzle that is settled has the grid of its closure as its one solution
-pub settled_has_one : {p : RuleSystem} → walk p 0 p.start ≡ walk_closed p (walk p 1) 0 (closure p p.start)
-    → ((g : List ℕ) → IsFound g (walk p 0 p.start) ↔ Solves p g) → is_settled p ≡ true → HasOneSolution (Solves p)
-settled_has_one {p} goes_on finds settled =
-    let parts = and_parts (is_full p.cells p.values (closure p p.start)) (p.is_solution (grid_of p.cells p.values (closure p p.start))) settled in
-    let g : List ℕ = grid_of p.cells p.values (closure p p.start) in
-    let whole : walk p 0 p.start ≡ Found g ∷ [] = goes_on ∙ full_walk p (walk p 1) (closure p p.start) parts.0 parts.1 in (
-      g,
-      (finds g).0 (subst (IsFound g) (sym whole) (inl refl)),
-      λ h solves. only (subst (IsFound h) whole ((finds h).1 solves)),
-    )
-  where
-    only : {g h : List ℕ} → IsFound h (Found g ∷ []) → g ≡ h
-    only (inl e) = e
-    only (inr none) = absurd none
+pub settled_one : {rules : RuleSystem} {solves : List ℕ → Type 0} → SearchedPuzzle rules solves → is_settled rules ≡ true → HasOneSolution solves
+settled_one {solves} searched settled =
+    let right = subst (IsRight solves) (settled_found searched.lawful settled 0) (verdict_right searched 0) in
+    (_, right.0, right.1)
 
 -- a grade that is right of the one is right of the other, where they are the same
 pub right_as : (A B : List ℕ → Type 0) (grade : Grade) → ((g : List ℕ) → A g ↔ B g) → IsRightGrade A grade → IsRightGrade B grade
@@ -123,11 +90,11 @@ module _ {P : Type 0} (play : PuzzleFacts P) (p : P) (budget : ℕ) (traced : Bo
 
   -- the first in the list settles the puzzle
   pub said_first : {q : RuleSystem} (set : RuleSet) {rules : RuleSystem} (rest : List NamedRules) → q ≡ rules → is_settled q ≡ true
-      → ((g : List ℕ) → Solves rules g ↔ play.game.solves p g) → HasOneSolution (Solves q) → SaysLast (ByRules set) q
+      → SearchedPuzzle rules (play.game.solves p) → SaysLast (ByRules set) q
       → SaysBy (record { set = set; rules = rules } ∷ rest)
-  said_first set {rules} rest e settled same one told =
+  said_first set {rules} rest e settled searched told =
       let is : is_settled rules ≡ true = ap is_settled (sym e) ∙ settled in
-      rightly (record { set = set; rules = rules } ∷ rest) (rw is (right_by (play.game.solves p) (ByRules set) e same one)) (rw is (rw e at told))
+      rightly (record { set = set; rules = rules } ∷ rest) (rw is (settled_one searched is)) (rw is (rw e at told))
 
   -- the first of two or more in the list doesn't
   pub said_later : {q : RuleSystem} (set : RuleSet) {rules : RuleSystem} (next : NamedRules) (rest : List NamedRules) → q ≡ rules → is_settled q ≡ false
@@ -140,14 +107,12 @@ module _ {P : Type 0} (play : PuzzleFacts P) (p : P) (budget : ℕ) (traced : Bo
   pub said_by : {q r : RuleSystem} (set : RuleSet) → q ≡ r → SaysBy (only_set set q) → SaysBy (only_set set r)
   said_by set e told = subst (λ (x : RuleSystem). SaysBy (only_set set x)) e told
 
-module _ {S : Type 0} {takes : S → Text → S → Type 0} (nothing : (s : S) → takes s [] s)
-    (both : (s t u : S) (a b : Text) → takes s a t → takes t b u → takes s (a ++ b) u)
-    {grade : Grade} {traced : Bool} {name : ℕ → Text} {rules : RuleSystem} where
+module _ {S : Type 0} {takes : S → Text → S → Type 0} {grade : Grade} {traced : Bool} {name : ℕ → Text} {rules : RuleSystem} where
   -- the rest was delivered
-  pub said_whole : {s t u : S} {line rest : Text} {a : Answer} {status : ℕ}
+  pub said_whole : TakesBoth takes → {s t u : S} {line rest : Text} {a : Answer} {status : ℕ}
       → line ≡ grade_text grade ++ codes "\n" → PutsTrace takes traced name rules s line rest t
       → Delivers takes t a u status → a.text ≡ rest → a.status ≡ grade_status grade → SaysIfAny takes (SaysGrade grade traced name rules) s u status
-  said_whole {s} {t} {u} {line} is p d same ends = record {
+  said_whole both {s} {t} {u} {line} is p d same ends = record {
     written = p.put.done ++ d.written;
     took = both s t u p.put.done d.written p.put.took d.took;
     begun = inr (

@@ -5,10 +5,10 @@ use Rattle.engine_core.specs.Verdict.{Outcome.OneSolution, Outcome.NoSolution, o
 use Rattle.engine_core.specs.Walk.{Mark.Found, Mark.Trial}
 use Rattle.commands.specs.Common.{IsRight, Game, Outcome, Mark, RuleSystem, verdict_of, walk}
 use Rattle.commands.specs.Answers.{Answer, Text}
-use Rattle.commands.specs.Allowed.{AllowsGrade, AllowsSolve, IsSolved}
+use Rattle.commands.specs.Allowed.{AllowsSolve, IsSolved}
 use Rattle.commands.specs.Games.{game_of, puzzle_of}
 use Rattle.commands.specs.Grades.{HasOneSolution, SaysGrade, grade_by, grade_text, listed_grade, searched_grade}
-use Rattle.commands.specs.LawsOfCommands.{IsLeastBudget, NamesLeastBudget, NamesSearch, NamesSet}
+use Rattle.commands.specs.LawsOfCommands.{IsLeastBudget, NamesSearch, NamesSet}
 use Rattle.commands.specs.PuzzleFacts.{printed_by}
 use Rattle.commands.specs.Replies.{refused}
 use Rattle.commands.specs.declared.grade.Grade.{Grade}
@@ -17,6 +17,8 @@ use Rattle.commands.specs.declared.grade.RuleSet.TheVariants.{Singles, Houses, C
 use Rattle.commands.proofs.GameLaws.{laws_of, found_alone, solving}
 use Rattle.commands.proofs.GradedAlike.{named_or_searched, status_one, told_status}
 use Rattle.commands.proofs.SearchedPuzzles.{found_with_enough, verdict_right}
+use Rattle.commands.proofs.Readings.{answer_to}
+use Rattle.commands.specs.LawsOfCommands.{SearchesNameLeastBudgets}
 
 -- the third byte of a text: of all grades only a search has an 'a' there
 third : Text → ℕ
@@ -68,12 +70,10 @@ module _ (game : Game) (id : Text) (p : puzzle_of game) (s : (game_of game).game
   printed g = printed_by (game_of game) p g
 
   -- an answer of status 0 tells the verdict one
-  tells_one : (budget : ℕ) (said : Answer) → AllowsSolve (game_of game) budget id said
+  tells_one : (budget : ℕ) (said : Answer) → AllowsSolve (game_of game) id budget said
       → said.status ≡ 0 → (g : List ℕ) × (verdict_of rules budget ≡ OneSolution g)
-  tells_one budget said (inl x) fine = absurd ((laws_of game).reading.apart id p x.fault s x.first)
-  tells_one budget said (inr x) fine =
-      let mine = subst (λ q. IsSolved (game_of game) budget q said)
-      ((laws_of game).reading.one id x.puzzle p x.spelled s) x.allowed in
+  tells_one budget said allowed fine =
+      let mine = answer_to (laws_of game).reading (IsSolved (game_of game) budget) id p s allowed in
       status_one (verdict_of rules budget) (sym (told_status printed (verdict_of rules budget)) ∙ sym (ap (λ (a : Answer). a.status) mine.said) ∙ fine)
 
   one_is : (budget : ℕ) (g : List ℕ) → verdict_of rules budget ≡ OneSolution g → HasOneSolution ((game_of game).game.solves p)
@@ -83,14 +83,14 @@ module _ (game : Game) (id : Text) (p : puzzle_of game) (s : (game_of game).game
 
   -- with a budget for all trials each answer tells the one solution
   tells_fine : HasOneSolution ((game_of game).game.solves p) → (budget : ℕ) → trials_of rules ≤ budget → (said : Answer)
-      → AllowsSolve (game_of game) budget id said → said.status ≡ 0
+      → AllowsSolve (game_of game) id budget said → said.status ≡ 0
   unfolding trials_of
   tells_fine one budget room said allowed = ap (λ (a : Answer). a.status)
       ((found_alone (game_of game) (laws_of game).reading id p budget one.0 said s
       (found_with_enough ((laws_of game).searched id p s) one room) (one.1, λ h other. sym (one.2 h other))).0 allowed)
 
   -- and with a smaller one none does
-  tells_less : (budget : ℕ) → budget < trials_of rules → (said : Answer) → AllowsSolve (game_of game) budget id said → said.status ≢ 0
+  tells_less : (budget : ℕ) → budget < trials_of rules → (said : Answer) → AllowsSolve (game_of game) id budget said → said.status ≢ 0
   unfolding trials_of
   tells_less budget less said allowed fine =
       let one = tells_one budget said allowed fine in
@@ -155,8 +155,7 @@ module _ (game : Game) (id : Text) (p : puzzle_of game) (s : (game_of game).game
           inr (names n (same ∙ ap (grade_by (trials_of rules)) found ∙ ap BySearch one.1))
     ]
 
-pub least_budgets : (game : Game) (id : Text) (budget : ℕ) (traced : Bool) (graded : Answer)
-    → AllowsGrade (game_of game) id budget traced graded → NamesLeastBudget game id budget graded
+pub least_budgets : SearchesNameLeastBudgets
 least_budgets game id budget traced graded (inl x) = record {
   said = λ b. absurd (no_refusal _ b.0 (sym (ap (λ (a : Answer). a.text) x.said) ∙ b.1));
   only = λ n least room. absurd (omega (arith, least.enough graded (inl x), ap (λ (a : Answer). a.status) x.said));

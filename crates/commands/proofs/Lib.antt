@@ -11,10 +11,10 @@ pub mod GradeLemmas
 pub mod GameLaws
 pub mod MadeOnce
 pub mod LeastBudgets
-pub mod MadeAlike
 pub mod ShuffledLists
 pub mod ThinnedExists
 pub mod ClosingExists
 pub mod SoloFillings
 pub mod LightFillings
+pub mod Makings
 pub mod RequestsAnswered

@@ -5,6 +5,7 @@ use Rattle.std.proofs.lemmas.Bool.{cases_lt}
 use Rattle.commands.specs.Answers.{Text, Begins, PutUpTo, PutBegun}
 use Rattle.gameid_core.specs.GridTexts.{each_below}
 use Rattle.commands.specs.TracePieces.{KeptOrPut, PutInPieces, TakesPieces, joined}
+use Rattle.commands.proofs.RunLemmas.{TakesBoth}
 
 -- a text begins itself
 begins_itself : {text other : Text} → other ≡ text → Begins text other
@@ -25,12 +26,11 @@ line_split : (text done held : Text) {longer line : Text} (f : ℕ → Text) (i 
 unfolding each_below
 line_split text done held f i same is equal = grind (arith, common_steps, add-one, append_assoc)
 
-module _ {S : Type 0} {takes : S → Text → S → Type 0} (nothing : (s : S) → takes s [] s)
-    (both : (s t u : S) (a b : Text) → takes s a t → takes t b u → takes s (a ++ b) u) where
+module _ {S : Type 0} {takes : S → Text → S → Type 0} where
   -- before the first line
-  pub no_line : (s : S) (text : Text) (f : ℕ → Text) → PutUpTo takes s (text ++ each_below f 0) text s
+  pub no_line : (s : S) → takes s [] s → (text : Text) (f : ℕ → Text) → PutUpTo takes s (text ++ each_below f 0) text s
   unfolding each_below
-  no_line s text f = record { done = []; took = nothing s; split = append-nil text }
+  no_line s nothing text f = record { done = []; took = nothing; split = append-nil text }
 
   -- one more line is in the text, and nothing more was put
   pub line_added : {s t : S} (text : Text) {held longer line : Text} (f : ℕ → Text) (i : ℕ) → PutUpTo takes s (text ++ each_below f i) held t
@@ -42,16 +42,16 @@ module _ {S : Type 0} {takes : S → Text → S → Type 0} (nothing : (s : S) �
   }
 
   -- what was held was put up to a rest
-  pub piece_put : (s t u : S) {text held : Text} (rest : Text) → PutUpTo takes s text held t → PutUpTo takes t held rest u → PutUpTo takes s text rest u
-  piece_put s t u rest put more = record {
+  pub piece_put : TakesBoth takes → (s t u : S) {text held : Text} (rest : Text) → PutUpTo takes s text held t → PutUpTo takes t held rest u → PutUpTo takes s text rest u
+  piece_put both s t u rest put more = record {
     done = put.done ++ more.done;
     took = both s t u put.done more.done put.took more.took;
     split = put.split ∙ ap (λ (l : Text). put.done ++ l) more.split ∙ sym (append_assoc put.done more.done rest);
   }
 
   -- what was held was begun
-  pub piece_begun : (s t u : S) {text held : Text} → PutUpTo takes s text held t → PutBegun takes t held u → PutBegun takes s text u
-  piece_begun s t u put more = record {
+  pub piece_begun : TakesBoth takes → (s t u : S) {text held : Text} → PutUpTo takes s text held t → PutBegun takes t held u → PutBegun takes s text u
+  piece_begun both s t u put more = record {
     done = put.done ++ more.done;
     took = both s t u put.done more.done put.took more.took;
     begun = (more.begun.0, put.split ∙ ap (λ (l : Text). put.done ++ l) more.begun.1 ∙ sym (append_assoc put.done more.done more.begun.0));

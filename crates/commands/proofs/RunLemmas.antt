@@ -69,8 +69,11 @@ says_nothing nothing high = record { written = []; took = nothing; begun = inl r
 rest_is : (rest : List ℕ) (n m : ℕ) → m ≡ length rest → take (m - n) (drop n rest) ≡ drop n rest
 rest_is rest n m e = grind (arith, common_steps)
 
-module _ {S : Type 0} {takes : S → List ℕ → S → Type 0} (nothing : (s : S) → takes s [] s)
-    (both : (s t u : S) (a b : List ℕ) → takes s a t → takes t b u → takes s (a ++ b) u) where
+-- what two times in turn took is taken by both together
+abbrev pub TakesBoth : {S : Type 0} → (S → Text → S → Type 0) → Type 0
+TakesBoth {S} takes = (s t u : S) (a b : Text) → takes s a t → takes t b u → takes s (a ++ b) u
+
+module _ {S : Type 0} {takes : S → Text → S → Type 0} (both : TakesBoth takes) where
   -- after one more put, which took n bytes
   pub put_more : {s t u : S} {bytes rest : List ℕ} (n m : ℕ) → m ≡ length rest → PutUpTo takes s bytes rest t
       → takes t (take n rest) u → PutUpTo takes s bytes (take (m - n) (drop n rest)) u

@@ -25,8 +25,9 @@ pub record GameFacts (P : Type 0) : Type 1 where
   pub makes : SizeRead → Wanted → MadePuzzle P → Type 0
   pub makes_none : SizeRead → Wanted → Type 0
 
--- The puzzles of a game: the columns and rows of their grids, how many values a cell may have, what
--- is printed of a grid at a place, whether that shows nothing of the number, and their game.
+-- The puzzles of a game. It mirrors the ghost members of the traits `Printed`, `Readable` and
+-- `Played`, in their order: the columns and rows of the grids, how many values a cell may have, what
+-- is printed of a grid at a place, whether that shows nothing of the number, and the game.
 abbrev pub PuzzleFacts : Type 0 → Type 1
 PuzzleFacts P = record {
   extent : P → Extent;

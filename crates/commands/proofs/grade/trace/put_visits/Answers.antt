@@ -6,7 +6,7 @@ use Rattle.commands.proofs.PieceLemmas.{no_line, line_added, piece_put, piece_be
 use Rattle.commands.proofs.grade.trace.put_visits.Goals as goal
 
 pub loop-number-init : goal.loop-number-init
-loop-number-init g c = (no_line g.met.O.Sink.takes_nothing g.met.O.Sink.takes_both _ _ _, search rules, λ small. small, λ _. no_pieces _ _)
+loop-number-init g c = (no_line _ (g.met.O.Sink.takes_nothing _) _ _, search rules, λ small. small, λ _. no_pieces _ _)
 
 pub returns-in_err-push_visit-clause-err : goal.returns-in_err-push_visit-clause-err
 returns-in_err-push_visit-clause-err g c =
@@ -25,15 +25,15 @@ returns-in_err-put_piece-clause-err g c =
     c.put_piece.new.output =
     lines_begun _ (λ k. line_of (g.P.Played.game.visit_name c.args.puzzle.now (slice_index c.args.visits.now k)))
     (c.loop-number.number-index + 1) (length c.args.visits.now) (omega arith)
-    (piece_begun g.met.O.Sink.takes_nothing g.met.O.Sink.takes_both _ _ _
-    (line_added g.met.O.Sink.takes_nothing g.met.O.Sink.takes_both _ _ _ c.loop-number.invariant.0 c.in_ok-push_visit.ensures.line refl)
+    (piece_begun g.met.O.Sink.takes_both _ _ _
+    (line_added _ _ _ c.loop-number.invariant.0 c.in_ok-push_visit.ensures.line refl)
     c.in_err-put_piece.ensures.err) in
     on_any_err c.from_residual-in_err-put_piece.result begun
 
 pub loop-number-preserved : goal.loop-number-preserved
 loop-number-preserved g c = (
-  piece_put g.met.O.Sink.takes_nothing g.met.O.Sink.takes_both _ _ _ _
-      (line_added g.met.O.Sink.takes_nothing g.met.O.Sink.takes_both _ _ _ c.loop-number.invariant.0 c.in_ok-push_visit.ensures.line refl)
+  piece_put g.met.O.Sink.takes_both _ _ _ _
+      (line_added _ _ _ c.loop-number.invariant.0 c.in_ok-push_visit.ensures.line refl)
       c.in_ok-put_piece.ensures.ok,
   c.in_ok-put_piece.ensures.fine,
   λ small. c.in_ok-put_piece.ensures.small,
