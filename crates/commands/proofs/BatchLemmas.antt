@@ -1,17 +1,7 @@
 -- The steps of a batch, and the chunks of its input.
-use Rattle.std.proofs.Common.{◌≡◌, ◌∙◌, ◌==◌, ◌<◌, ◌+◌, ◌++◌, ℕ, true, false, List, [], ◌∷◌, length, ap, sym, refl, subst, arith, if◌then◌else◌, append-nil, append_assoc, inr, max, Result, Ok, Err, IfErr, take, drop, get_or, ◌≤◌, ◌⊎◌, Bool, inl, true≢false}
-use Rattle.std.proofs.lemmas.Grind.{common_steps}
-use Rattle.std.proofs.lemmas.List.{take-append-drop, take_more}
-use Rattle.std.specs.List.{All, slice_split}
+use Rattle.commands.proofs.Common.{All, All-nil, All-push, AllowsEach, Answer, Answered, Batched, Begins, Begun, Bool, Err, Given, HasAnswers, Holds, IfErr, IsInput, List, Ok, PutBegun, Ran, Result, Stopped, Text, [], answer_with, ap, append-nil, append_assoc, arith, both, code_of, common_steps, drop, false, get_or, if◌then◌else◌, inl, inr, length, lines, lines_of_parts, max, refl, silence, slice_split, strip_carriage_return, subst, sym, take, take-append-drop, take_more, true, true≢false, ℕ, ◌++◌, ◌+◌, ◌<◌, ◌==◌, ◌∙◌, ◌∷◌, ◌≡◌, ◌≤◌, ◌⊎◌}
 use Rattle.std.proofs.lemmas.List.Splits.{slice_split_at, slice_split_none, length-slice_split}
-use Rattle.std.proofs.lemmas.List.Elements.{All-push, All-nil}
-use Rattle.std.specs.Str.Lines.{lines, lines_of_parts, strip_carriage_return}
-use Rattle.commands.specs.Answers.{Answer, PutBegun, Text, Begins, IsInput, answer_with, code_of}
-use Rattle.commands.specs.Each.{AllowsEach, Answered, Begun, HasAnswers, Stopped, both, silence}
-use Rattle.commands.specs.Batches.{Batched, Holds}
-use Rattle.commands.specs.Texts.{Given}
 use Rattle.commands.specs.declared.batch.Batch.{Batch}
-use Rattle.commands.specs.Runs.{Ran}
 use Rattle.commands.specs.declared.ends.Sink as sinks
 use Rattle.commands.specs.declared.ends.Source as sources
 use Rattle.commands.proofs.RunLemmas.{TakesBoth}

@@ -1,18 +1,10 @@
 -- What the checks of grids rest on, for a puzzle of each game: an input has one answer of `check`, and the printed form of
 -- a solution is told to be correct.
-use Rattle.std.proofs.Common.{◌≡◌, ◌<◌, ◌∷◌, ◌⊎◌, ℕ, List, zero, suc, [], length, refl, sym, ap, subst, arith, inl, inr, ◌≢◌, ◌∙◌, ◌+◌, ◌*◌, Bool, true, false, Option, Some, None, get_or, slice_index, true≢false, codes}
-use Rattle.std.proofs.lemmas.Grind.{common_steps}
-use Rattle.std.specs.Prelude.{option_map, ◌++◌, ◌↔◌}
-use Rattle.std.proofs.lemmas.Bool.{cases_eq, cases_lt, eq-eqb}
+use Rattle.commands.proofs.Common.{AllByRecursion, AllowsGrid, Answer, Black, Bool, Extent, IsAsShown, IsGrid, IsInputOf, IsLight, IsLightSolution, IsPattern, IsSolo, IsTentSolution, IsTents, Light, LightCell, List, None, Numbered, Option, Pattern, PuzzleFacts, SaysFault, Solo, Some, Tents, Text, White, [], ap, arith, cases_eq, cases_lt, checked, codes, common_steps, eq-eqb, false, game_of, get_or, get_or_past, hides_nothing, inl, inr, is_shown, is_white, length, light_cell, light_fault, light_hides, number_fits, option_map, pattern_cell, pattern_fault, printed_by, refl, refused, slice_get, slice_index, solo_cell, solo_extent, solo_fault, subst, suc, sym, tent_fault, tent_hides, tents_cell, text_limit, true, true≢false, white, without_returns, zero, ℕ, ◌*◌, ◌++◌, ◌+◌, ◌<◌, ◌↔◌, ◌∙◌, ◌∷◌, ◌≡◌, ◌≢◌, ◌⊎◌}
 use Rattle.std.specs.Bool.{Decides}
 use Rattle.std.specs.Cmp.Lexicographic.{bytes_decides}
-use Rattle.std.specs.List.{slice_get, AllByRecursion}
 use Rattle.std.specs.Str.{bytes_eq}
-use Rattle.std.proofs.lemmas.List.{get_or_past}
-use Rattle.gameid_core.specs.declared.light_up.cell.LightCell.{LightCell}
-use Rattle.gameid_core.specs.declared.light_up.cell.LightCell.TheVariants.{White, Black, Numbered}
 use Rattle.gameid_core.specs.declared.id.game.Game.TheVariants as game
-use Rattle.fields_core.specs.Light.{is_white, white}
 use Rattle.gameid_core.proofs.FirstFailed.{IsKnown, answer_once, one_answer}
 use Rattle.gameid_core.specs.FirstFailed.{IsAnswerOfCheck, NoneFails}
 use Rattle.fields_core.proofs.LightRuleLemmas as light
@@ -23,22 +15,7 @@ use Rattle.pattern_core.specs.Faults.{FailsPattern, pattern_tests}
 use Rattle.solo_core.specs.Faults.{FailsSolo, given_tests, house_tests}
 use Rattle.pattern_core.proofs.FaultLemmas.{pattern_known, pattern_none, pattern_sound}
 use Rattle.solo_core.proofs.RepeatLemmas.{solo_known, solo_none, solo_sound}
-use Rattle.commands.specs.Common.{IsGrid, Extent, IsAsShown, hides_nothing, light_hides, tent_hides, pattern_cell}
-use Rattle.commands.specs.Common.{solo_cell, solo_extent, light_cell, tents_cell, IsLight, IsPattern, IsSolo, IsTents, Light, Pattern, Solo}
-use Rattle.commands.specs.Common.{Tents, IsLightSolution, IsTentSolution}
-use Rattle.commands.specs.Answers.{Answer, Text}
-use Rattle.commands.specs.CheckAnswers.{AllowsGrid, SaysFault, checked, IsInputOf, without_returns}
-use Rattle.commands.specs.Games.{game_of}
-use Rattle.commands.specs.LightFacts.{light_fault}
-use Rattle.commands.specs.PatternFacts.{pattern_fault}
-use Rattle.commands.specs.PuzzleFacts.{PuzzleFacts, printed_by}
-use Rattle.commands.specs.SoloFacts.{solo_fault}
-use Rattle.commands.specs.TentsFacts.{tent_fault}
-use Rattle.commands.specs.Replies.{refused}
-use Rattle.commands.specs.Texts.{text_limit}
 use Rattle.commands.proofs.PrintedGrids.{IsCellText, ReadsCells, grid_is_text, grid_read, light_cell_text, light_in, light_reads, pattern_cell_text, pattern_reads, plain_kept, printed_read, solo_cell_text, solo_in, solo_reads, symbol_in, tents_cell_text, tents_in, tents_reads}
-use Rattle.gameid_core.proofs.PrintedGrids.{is_shown}
-use Rattle.gameid_core.proofs.PrintedCells.{number_fits}
 use Rattle.commands.proofs.Readings.{AreSame}
 
 -- so it is, or not

@@ -1,12 +1,8 @@
 -- A lawful rule set has visits that close each of its boards, or sweeps that do: those that its closing would make.
-use Rattle.std.proofs.Common.{Bool, List, [], add-one, arith, false, inl, inr, length, length-append, refl, sym, true, zero, suc, ℕ, ◌+◌, ◌<◌, ◌∙◌, ◌≡◌, ◌≤◌, ◌++◌, ◌∷◌}
-use Rattle.std.proofs.lemmas.Bool.{cases_Bool, true≢false}
-use Rattle.grid_core.specs.Candidates.{Candidates, IsWithin, any_below, is_dead, total}
-use Rattle.grid_core.proofs.CandidateLemmas.{any_below-none, any_below-some, within_inside}
-use Rattle.engine_core.specs.RuleSystem.{IsLawful, RuleSystem, after}
+use Rattle.commands.proofs.Common.{Bool, Candidates, IsLawful, IsWithin, List, RuleSystem, [], add-one, after_inside, any_below, any_below-none, any_below-some, arith, cases_Bool, false, inl, inr, is_dead, length, length-append, refl, suc, sym, total, true, true≢false, within_inside, zero, ℕ, ◌++◌, ◌+◌, ◌<◌, ◌∙◌, ◌∷◌, ◌≡◌, ◌≤◌}
+use Rattle.engine_core.specs.RuleSystem.{after}
 use Rattle.engine_core.specs.ClosingList.{IsAlive, IsClosingList, IsClosingSweeps}
 use Rattle.engine_core.specs.Queue.{IsRested, IsWoken, but, counts_of, woken}
-use Rattle.engine_core.proofs.ClosingLemmas.{after_inside}
 use Rattle.engine_core.proofs.ListLemmas.{IsRunning, closing-dead, closing-none, closing-open, running-first, running-turn}
 use Rattle.engine_core.proofs.QueueLemmas.{visits_left-pos}
 use Rattle.engine_core.proofs.SweepLemmas.{IsSweeping, IsSwept, fewer, sweep-whole, sweeping-first, sweeping-turn, swept-dead, swept-first, swept-open, swept-turn}

@@ -1,45 +1,14 @@
 -- What the laws rest on, for each game; and what is told of an ID beside its verdict: a grid that is told passes, what is
 -- handed out is solved, and an input that is correct is a solution.
-use Rattle.std.proofs.Common.{◌≡◌, ◌≢◌, ◌⊎◌, ◌<◌, length, true≢false, ◌∙◌, ℕ, List, Result, sym, ap, subst, arith, inl, inr, Some, None, Err, true, refl, drop, ◌∷◌, []}
-use Rattle.std.proofs.lemmas.Bool.{false_from_ne_true}
-use Rattle.std.proofs.lemmas.Grind.{common_steps}
-use Rattle.std.specs.Prelude.{◌↔◌, is_ok}
+use Rattle.commands.proofs.Common.{AllowsCheck, AllowsGrid, AllowsSolve, Answer, ArePassed, Crossings, Err, Game, GradedPuzzlesHaveOne, HasAnswers, HasOneAnswer, HasOneReading, HasTwo, Houses, IdFault, IsOnlySolution, IsPrinted, IsRight, IsRightGrade, IsSolo, IsSolved, Lines, List, Local, MadePuzzle, NamedRules, None, Outcome, Outcome.GaveUp, Outcome.NoSolution, Outcome.OneSolution, Outcome.SeveralSolutions, Passes, PuzzleFacts, Result, RuleSystem, Singles, SizeRead, Solo, Solves, Some, Text, TooLong, Wanted, [], ap, arith, common_steps, cond_both, crossings_rules, drop, false_from_ne_true, game_of, gave_up_answer, grade_by, houses_rules, inl, inr, is_ok, is_settled, length, light_is_written, light_reading, light_rules, line_rules, listed_grade, max_id, one_answer, only_set, pattern_is_written, pattern_reading, printed_by, puzzle_too_long, refl, refused, searched_grade, singles_rules, solo_is_written, solo_reading, solo_sets, subst, sym, tent_rules, tents_is_written, tents_reading, trials_in, true, true≢false, verdict_answer, verdict_of, walk, without_returns, ℕ, ◌<◌, ◌↔◌, ◌∙◌, ◌∷◌, ◌≡◌, ◌≢◌, ◌⊎◌}
 use Rattle.gameid_core.specs.declared.id.game.Game.TheVariants as game
-use Rattle.gameid_core.specs.declared.id.fault.IdFault.TheVariants.{TooLong}
-use Rattle.gameid_core.proofs.HeadLaws.{puzzle_too_long}
-use Rattle.gameid_core.proofs.LightTexts.{light_reading}
-use Rattle.gameid_core.proofs.LightWritten.{light_is_written}
-use Rattle.gameid_core.proofs.PatternTexts.{pattern_reading}
-use Rattle.gameid_core.proofs.PatternWritten.{pattern_is_written}
-use Rattle.gameid_core.proofs.SoloCanon.{solo_is_written}
-use Rattle.gameid_core.proofs.SoloTexts.{solo_reading}
-use Rattle.gameid_core.proofs.TentsTexts.{tents_reading}
-use Rattle.gameid_core.proofs.TentsWritten.{tents_is_written}
-use Rattle.engine_core.specs.Verdict.{Outcome.OneSolution, Outcome.NoSolution, Outcome.SeveralSolutions, Outcome.GaveUp, trials_in}
-use Rattle.maker_core.specs.Made.{IsOnlySolution}
-use Rattle.maker_core.specs.Thinning.{HasTwo}
 use Rattle.solo_core.proofs.SinglesLemmas.{singles_in_houses}
-use Rattle.commands.specs.Common.{IsRight, IsSolo, Solo, max_id, light_rules, tent_rules, line_rules, crossings_rules, houses_rules, singles_rules}
-use Rattle.commands.specs.Common.{IdFault, SizeRead, IsPrinted, Game, HasOneReading, verdict_of, Solves, Outcome, RuleSystem, is_settled, walk}
-use Rattle.commands.specs.Answers.{Answer, Text}
-use Rattle.commands.specs.Each.{HasAnswers}
-use Rattle.commands.specs.Games.{game_of}
-use Rattle.commands.specs.PuzzleFacts.{PuzzleFacts, printed_by}
-use Rattle.commands.specs.SoloFacts.{solo_sets}
-use Rattle.commands.specs.Makings.{MadePuzzle, Wanted}
-use Rattle.commands.specs.Replies.{gave_up_answer, one_answer, verdict_answer, refused}
-use Rattle.commands.specs.Allowed.{AllowsCheck, AllowsSolve, IsSolved}
-use Rattle.commands.specs.CheckAnswers.{AllowsGrid, checked as correct_or, without_returns}
-use Rattle.commands.specs.LawsOfCommands.{ArePassed, HasOneAnswer, Passes}
-use Rattle.commands.specs.Grades.{IsRightGrade, NamedRules, grade_by, listed_grade, only_set, searched_grade}
-use Rattle.commands.specs.declared.grade.RuleSet.TheVariants.{Singles, Houses, Crossings, Lines, Local}
+use Rattle.commands.specs.CheckAnswers.{checked as correct_or}
 use Rattle.commands.proofs.GradedAlike.{status_one, told_status, graded_one, settled_by_stronger, is_within, own_named, weaker_named}
 use Rattle.commands.proofs.Readings.{answer_to, id_once}
 use Rattle.commands.proofs.GradeLemmas.{settled_one}
 use Rattle.commands.proofs.CheckedPuzzles.{correct_grid, printed_apart, CheckedPuzzle, light_checked, pattern_checked, solo_checked, tents_checked}
 use Rattle.commands.proofs.SearchedPuzzles.{SearchedPuzzle, found_with_enough, verdict_right, crossings_searched, light_searched, pattern_searched, singles_searched, solo_searched, solved_once, tents_searched}
-use Rattle.std.proofs.lemmas.Bool.{cond_both}
-use Rattle.commands.specs.LawsOfCommands.{GradedPuzzlesHaveOne}
 
 same_status : {a b : Answer} → a ≡ b → a.status ≡ b.status
 same_status e = ap (λ (c : Answer). c.status) e

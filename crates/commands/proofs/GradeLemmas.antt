@@ -1,29 +1,12 @@
 -- What grades mean of the games' own solutions, and how their texts and traces are told.
-use Rattle.std.proofs.Common.{length, ◌≡◌, ◌∙◌, ℕ, zero, suc, Bool, true, false, List, [], ◌∷◌, Option, Some, None, refl, sym, ap, subst, inr, arith, ◌++◌, ◌≤◌, append_assoc, append-nil, codes, true≢false, map, length-append}
-use Rattle.std.proofs.lemmas.Grind.{common_steps}
-use Rattle.std.specs.Prelude.{◌↔◌}
-use Rattle.std.proofs.lemmas.List.{length-map}
+use Rattle.commands.proofs.Common.{Answer, BeginsTrace, Bool, ByRules, BySearch, Delivers, GaveUp, Grade, HasOneSolution, IsGraded, IsRight, IsRightGrade, IsTrace, List, Mark, Mark.Found, Mark.Trial, NamedRules, NoSolution, None, Option, Outcome, Outcome.OneSolution, PutsTrace, PuzzleFacts, RuleSet, RuleSystem, SaysClosing, SaysGrade, SaysIfAny, SeveralSolutions, Solo, Solves, Some, Text, [], ap, append-nil, append_assoc, arith, codes, common_steps, crossing_scopes, crossings_rules, false, grade_by, grade_status, grade_text, houses_rules, inr, is_settled, last_tried, length, length-append, length-map, listed_grade, map, only_set, outcome, refl, scopes_of, searched_grade, singles_rules, solo_n, spent, subst, suc, sym, trials_in, true, true≢false, verdict_of, walk, zero, ℕ, ◌++◌, ◌↔◌, ◌∙◌, ◌∷◌, ◌≡◌, ◌≤◌}
 use Rattle.engine_core.specs.Filling.{strikes_by_fillings}
 use Rattle.engine_core.specs.HouseSets.{Decision}
-use Rattle.engine_core.specs.Walk.{Mark.Trial, Mark.Found}
-use Rattle.engine_core.specs.Verdict.{Outcome.OneSolution, outcome, spent, trials_in}
 use Rattle.solo_core.specs.Houses.{houses_of}
 use Rattle.solo_core.specs.NoRepeat.{no_repeat}
 use Rattle.solo_core.specs.RuleSets.{crossings_of, deciding, filled_houses, house_at, house_by}
 use Rattle.solo_core.specs.Singles.{strikes_by_singles}
 use Rattle.solo_core.specs.declared.houses.scope.VisitName.TheVariants.{House}
-use Rattle.commands.specs.Common.{Solo, RuleSystem, is_settled, Mark, walk, Outcome, Solves, verdict_of, IsRight}
-use Rattle.commands.specs.Common.{crossing_scopes, crossings_rules, houses_rules, scopes_of, singles_rules, solo_n}
-use Rattle.commands.specs.Grades.{HasOneSolution, IsRightGrade, SaysGrade, grade_by, searched_grade, NamedRules, last_tried, listed_grade, only_set, grade_status, grade_text}
-use Rattle.commands.specs.Answers.{Text, Answer, Delivers}
-use Rattle.commands.specs.Stops.{SaysIfAny}
-use Rattle.commands.specs.declared.grade.Grade.{Grade}
-use Rattle.commands.specs.declared.grade.Grade.TheVariants.{ByRules, BySearch, NoSolution, SeveralSolutions, GaveUp}
-use Rattle.commands.specs.PuzzleFacts.{PuzzleFacts}
-use Rattle.commands.specs.Allowed.{IsGraded}
-use Rattle.commands.specs.Traces.{IsTrace, SaysClosing}
-use Rattle.commands.specs.declared.grade.RuleSet.{RuleSet}
-use Rattle.commands.specs.TracePieces.{BeginsTrace, PutsTrace}
 use Rattle.commands.proofs.RunLemmas.{TakesBoth, says_as}
 use Rattle.commands.proofs.SearchedPuzzles.{SearchedPuzzle, verdict_right}
 use Rattle.commands.proofs.GradedAlike.{settled_found}

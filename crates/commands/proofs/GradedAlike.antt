@@ -1,30 +1,11 @@
 -- A puzzle is settled exactly where its verdict without a trial is one, and its grade goes along with its verdict; and so what is
 -- told of the two.
-use Rattle.std.proofs.Common.{◌==◌, ◌≡◌, ◌∙◌, ◌⊎◌, ◌<◌, ℕ, zero, suc, Bool, true, false, List, [], ◌∷◌, ◌++◌, Option, None, refl, sym, ap, subst, inl, inr, arith, ◌≢◌, codes, slice_index, true≢false}
-use Rattle.std.proofs.lemmas.Grind.{common_steps}
-use Rattle.std.proofs.lemmas.Bool.{eqb-true, ne_eqb, and_parts, and_from, cases_eq}
-use Rattle.std.specs.Prelude.{◌↔◌, ◌+◌, ◌*◌}
-use Rattle.grid_core.specs.Candidates.{is_full, all_below, is_dead, any_below}
-use Rattle.grid_core.proofs.CandidateLemmas.{count_below-one, least_below-passes}
+use Rattle.commands.proofs.Common.{Answer, Begins, Bool, ByRules, BySearch, Candidates, Crossings, Found, Grade, HasOneSolution, IsClosed, IsInside, IsLawful, IsRight, IsRightGrade, List, Mark, Mark.Trial, NamedRules, NamesSetWithinSearch, None, Option, Outcome, Outcome.GaveUp, Outcome.NoSolution, Outcome.OneSolution, Outcome.SeveralSolutions, RuleSet, RuleSystem, SaysGrade, Solves, StatusesAgree, Text, [], all_below, and_from, and_parts, any_below, ap, arith, at_cell, branch_at, branches, cases_eq, closure_closed, closure_inside, closure_largest, codes, common_steps, cond_both, count_below, count_below-one, eqb-true, false, first_settled, grade_by, grade_status, grade_text, grid_of, inl, inr, is_dead, is_full, is_settled, is_within_search, least_below-passes, listed_grade, ne_eqb, only, outcome, refl, refused, rule_set_text, searched_grade, slice_index, subst, suc, sym, trials_in, true, true≢false, verdict_answer, verdict_of, walk, walk_closed, zero, ℕ, ◌*◌, ◌++◌, ◌+◌, ◌<◌, ◌==◌, ◌↔◌, ◌∙◌, ◌∷◌, ◌≡◌, ◌≢◌, ◌⊎◌}
 use Rattle.grid_core.proofs.GridLemmas.{is_full-count, grid_of-at}
 use Rattle.engine_core.specs.Closing.{closure}
-use Rattle.engine_core.specs.Verdict.{Outcome.OneSolution, Outcome.NoSolution, outcome, Outcome.SeveralSolutions, Outcome.GaveUp, trials_in}
-use Rattle.engine_core.specs.Walk.{Mark.Trial, walk_closed, branches, branch_at, at_cell, Found}
-use Rattle.engine_core.proofs.ClosingLemmas.{closure_inside, closure_closed, closure_largest}
 use Rattle.engine_core.proofs.JudgeLemmas.{grid-fits}
 use Rattle.engine_core.proofs.WalkLemmas.{walk-unfold, walk_closed-dead, walk_closed-wrong}
 use Rattle.maker_core.proofs.FoundAtOnce.{found_at_once, found_one}
-use Rattle.commands.specs.Common.{IsRight, Candidates, IsInside, grid_of, only, RuleSystem, IsLawful, IsClosed, is_settled, Solves, count_below}
-use Rattle.commands.specs.Common.{verdict_of, Outcome, Mark, walk}
-use Rattle.commands.specs.Answers.{Answer, Begins, Text}
-use Rattle.commands.specs.Grades.{HasOneSolution, IsRightGrade, NamedRules, SaysGrade, first_settled, grade_by, grade_status, grade_text, listed_grade, rule_set_text, searched_grade}
-use Rattle.commands.specs.LawsOfCommands.{StatusesAgree, NamesSetWithinSearch, is_within_search}
-use Rattle.commands.specs.Replies.{refused, verdict_answer}
-use Rattle.commands.specs.declared.grade.Grade.{Grade}
-use Rattle.commands.specs.declared.grade.Grade.TheVariants.{ByRules, BySearch}
-use Rattle.commands.specs.declared.grade.RuleSet.{RuleSet}
-use Rattle.commands.specs.declared.grade.RuleSet.TheVariants.{Crossings}
-use Rattle.std.proofs.lemmas.Bool.{cond_both}
 
 -- the branches of a cell begin with a trial, or there are none
 begins_with_trial : (walk_of : Candidates → List Mark) (d : ℕ) (E : Candidates) (cell n : ℕ)

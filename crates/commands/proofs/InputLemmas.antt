@@ -1,16 +1,7 @@
 -- The bytes of a line that are kept, and a text that is copied without its returns: what is copied, and the rest without
 -- its returns, is always the whole without them.
-use Rattle.std.proofs.Common.{◌≡◌, ◌∙◌, ◌==◌, ◌<◌, ◌≤◌, ◌+◌, ◌++◌, ℕ, Bool, true, false, List, [], ◌∷◌, length, take, drop, ap, sym, refl, subst, arith, if◌then◌else◌, append-nil, ◌&&◌, append_assoc, inl, inr}
-use Rattle.std.proofs.lemmas.Bool.{cases_lt, ne_eqb}
-use Rattle.std.proofs.lemmas.Grind.{common_steps}
-use Rattle.std.specs.Str.Lines.{strip_carriage_return}
-use Rattle.commands.specs.Answers.{Text}
-use Rattle.commands.specs.CheckAnswers.{begins_with_line_end, without_returns}
-use Rattle.std.proofs.lemmas.List.{length-take-le, take_all}
-use Rattle.std.specs.Prelude.{Option, Some, None, IfSome}
+use Rattle.commands.proofs.Common.{Bool, IfSome, IsLine, List, None, Option, Some, Text, [], ap, append-nil, append_assoc, arith, begins_with_line_end, cases_lt, common_steps, drop, false, if◌then◌else◌, inl, inr, length, length-take-le, max_id, ne_eqb, refl, strip_carriage_return, subst, sym, take, take_all, true, without_returns, ℕ, ◌&&◌, ◌++◌, ◌+◌, ◌<◌, ◌==◌, ◌∙◌, ◌∷◌, ◌≡◌, ◌≤◌}
 use Rattle.std.specs.Borrow.{Bor}
-use Rattle.commands.specs.Batches.{IsLine}
-use Rattle.commands.specs.Common.{max_id}
 
 -- ---- a line of which so many bytes at most are kept
 module _ (most b : ℕ) {kept : List ℕ} (piece : List ℕ) (holds : kept ≡ take most piece) where

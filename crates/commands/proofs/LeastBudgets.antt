@@ -1,24 +1,9 @@
 -- A grade names a search by the trials of the whole walk, which are the least budget with which the verdict is one.
-use Rattle.std.proofs.Common.{◌≡◌, ◌∙◌, ◌⊎◌, ◌<◌, ◌≤◌, ◌≢◌, ℕ, zero, suc, Bool, List, [], ◌∷◌, ◌++◌, Option, Some, None, refl, sym, ap, subst, inl, inr, arith, codes, slice_index}
-use Rattle.std.proofs.Math.Nat.{eq-or-lt_of_le}
-use Rattle.engine_core.specs.Verdict.{Outcome.OneSolution, Outcome.NoSolution, outcome, Outcome.SeveralSolutions, Outcome.GaveUp, trials_in}
-use Rattle.engine_core.specs.Walk.{Mark.Found, Mark.Trial}
-use Rattle.commands.specs.Common.{IsRight, Game, Outcome, Mark, RuleSystem, verdict_of, walk}
-use Rattle.commands.specs.Answers.{Answer, Text}
-use Rattle.commands.specs.Allowed.{AllowsSolve, IsSolved}
-use Rattle.commands.specs.Games.{game_of, puzzle_of}
-use Rattle.commands.specs.Grades.{HasOneSolution, SaysGrade, grade_by, grade_text, listed_grade, searched_grade}
-use Rattle.commands.specs.LawsOfCommands.{IsLeastBudget, NamesSearch, NamesSet}
-use Rattle.commands.specs.PuzzleFacts.{printed_by}
-use Rattle.commands.specs.Replies.{refused}
-use Rattle.commands.specs.declared.grade.Grade.{Grade}
-use Rattle.commands.specs.declared.grade.Grade.TheVariants.{ByRules, BySearch}
-use Rattle.commands.specs.declared.grade.RuleSet.TheVariants.{Singles, Houses, Crossings, Lines, Local}
+use Rattle.commands.proofs.Common.{AllowsSolve, Answer, Bool, ByRules, BySearch, Crossings, Game, Grade, HasOneSolution, Houses, IsLeastBudget, IsRight, IsSolved, Lines, List, Local, Mark, Mark.Found, Mark.Trial, NamesSearch, NamesSet, None, Option, Outcome, Outcome.GaveUp, Outcome.NoSolution, Outcome.OneSolution, Outcome.SeveralSolutions, RuleSystem, SaysGrade, SearchesNameLeastBudgets, Singles, Some, Text, [], ap, arith, codes, eq-or-lt_of_le, game_of, grade_by, grade_text, inl, inr, listed_grade, outcome, printed_by, puzzle_of, refl, refused, searched_grade, slice_index, subst, suc, sym, trials_in, verdict_of, walk, zero, ℕ, ◌++◌, ◌<◌, ◌∙◌, ◌∷◌, ◌≡◌, ◌≢◌, ◌≤◌, ◌⊎◌}
 use Rattle.commands.proofs.GameLaws.{laws_of, found_alone, solving}
 use Rattle.commands.proofs.GradedAlike.{named_or_searched, status_one, told_status}
 use Rattle.commands.proofs.SearchedPuzzles.{found_with_enough, verdict_right}
 use Rattle.commands.proofs.Readings.{answer_to}
-use Rattle.commands.specs.LawsOfCommands.{SearchesNameLeastBudgets}
 
 -- the third byte of a text: of all grades only a search has an 'a' there
 third : Text → ℕ

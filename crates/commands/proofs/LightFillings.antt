@@ -1,20 +1,7 @@
 -- Each filling of Light Up over a stream of words solves its puzzle; and the first that passes can be thinned.
-use Rattle.maker_core.proofs.Common.{◌≡◌, ◌∙◌, ℕ, zero, suc, ◌*◌, ◌^◌, ◌-◌, ◌<◌, ◌≤◌, ◌==◌, Bool, true, false, List, Option, Some, length, get_or, refl, sym, ap, subst, arith}
-use Rattle.maker_core.proofs.Common.{mul-le, if◌then◌else◌, length-filter, count_by-le-length, length-map, length-map-range_with_len, length-range_with_len}
-use Rattle.maker_core.proofs.Common.{All-from_get_or, recursion_from_All, AllByRecursion, range_with_len, Extent, Stream, Light, LightCell, Black, Numbered, White}
-use Rattle.maker_core.proofs.Common.{HasWords, IsFirstPassing, IsLit, IsThinnedFrom, black_cells, bulbs_after, filling_at, light_cells, light_filling, light_game}
-use Rattle.maker_core.proofs.Common.{light_is_game, light_passes, light_puzzle_of, light_rules, lights_of, numbered_cell, shuffled_list, stream_after, white, white_places, with_numbers}
-use Rattle.maker_core.proofs.Common.{IsLightSolution, bulbs_beside, cases_lt, get_or_past, inl, inr}
-use Rattle.std.proofs.lemmas.Option.{none-some}
-use Rattle.engine_core.specs.Verdict.{Outcome.OneSolution}
-use Rattle.gameid_core.specs.Puzzles.{IsLight, IsLightCell, IsWide}
-use Rattle.fields_core.specs.Light.{is_white}
-use Rattle.maker_core.specs.Draws.{Making}
-use Rattle.maker_core.specs.LightClues.{number_clue}
-use Rattle.maker_core.specs.LightFilling.{lit_up}
+use Rattle.commands.proofs.Common.{All-from_get_or, AllByRecursion, Black, Bool, Extent, HasWords, IsFirstPassing, IsLight, IsLightCell, IsLightSolution, IsLit, IsThinnedFrom, IsWide, Kept, Light, LightCell, List, Making, Numbered, Option, Outcome.OneSolution, Some, Stream, White, ap, arith, black_cells, black_cells-grid, bulbs_after, bulbs_beside, cases_lt, count_by-le-length, false, filling_at, get_or, get_or_past, if◌then◌else◌, inl, inr, is_white, length, length-filter, length-map, length-map-range_with_len, length-range_with_len, light_cells, light_filling, light_game, light_is_game, light_puzzle_of, light_rules, lights_of, lit_up, mul-le, none-some, number_clue, numbered_cell, range_with_len, recursion_from_All, refl, shuffled_list, stream_after, subst, suc, sym, true, white, white_places, with_numbers, zero, ℕ, ◌*◌, ◌-◌, ◌<◌, ◌==◌, ◌^◌, ◌∙◌, ◌≡◌, ◌≤◌}
+use Rattle.maker_core.proofs.Common.{light_passes}
 use Rattle.maker_core.specs.LightMaking.{IsLightMade}
-use Rattle.maker_core.specs.declared.made.Kept.{Kept}
-use Rattle.maker_core.proofs.BlackCells.{black_cells-grid}
 use Rattle.maker_core.proofs.LightCells.{bulbs_few}
 use Rattle.maker_core.proofs.LightMakings.{all_numbers, lit_one, size_is}
 use Rattle.maker_core.proofs.LightSight.{bulbs_after-grid, number_at}

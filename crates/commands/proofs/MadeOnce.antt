@@ -1,16 +1,9 @@
 -- The words of a seed, the first filling that passes, and what a search finds.
-use Rattle.std.proofs.Common.{ℕ, ◌/◌, ◌%◌, ◌^◌, ◌<◌, List, arith, ◌≡◌, ◌∙◌, ◌⊎◌, Bool, true, false, refl, sym, subst, inl, inr, true≢false, suc, zero}
+use Rattle.commands.proofs.Common.{Bool, HasOne, HasWords, IsFirstPassing, IsLawful, IsTrueOf, List, Making, NonePasses, Outcome, Outcome.OneSolution, RuleSystem, Stream, arith, cases_Bool, cases_eq, cases_lt, false, filling_at, inl, inr, is_one, outcome-true, refl, subst, suc, sym, true, true≢false, verdict_of, zero, ℕ, ◌%◌, ◌/◌, ◌<◌, ◌^◌, ◌∙◌, ◌≡◌, ◌⊎◌}
 use Rattle.std.proofs.lemmas.Nat.{mod_below}
-use Rattle.std.proofs.lemmas.Bool.{cases_Bool, cases_eq, cases_lt}
 use Rattle.rand_core.specs.Steps.{state_after, steps_u32, stream_of}
 use Rattle.rand_chacha.specs.Block.{block_word}
 use Rattle.rand_chacha.specs.ChaCha.{ChaCha, next_word, of_seed}
-use Rattle.engine_core.specs.Verdict.{Outcome.OneSolution}
-use Rattle.engine_core.proofs.VerdictLemmas.{outcome-true}
-use Rattle.maker_core.specs.Draws.{HasWords, IsFirstPassing, Making, NonePasses, filling_at}
-use Rattle.maker_core.specs.Made.{HasOne, is_one}
-use Rattle.commands.specs.Common.{Stream}
-use Rattle.commands.specs.Common.{IsLawful, RuleSystem, Outcome, IsTrueOf, verdict_of}
 use Rattle.commands.specs.Seeds.{seed_key, seed_stream}
 
 block_below : (n : ℕ) (key : List ℕ) (counter nonce k : ℕ) → block_word n key counter nonce k < 2 ^ 32

@@ -2,72 +2,22 @@
 use Rattle.commands.proofs.LightFillings.{light_thinned}
 use Rattle.commands.proofs.SearchedPuzzles.{tents_searched}
 use Rattle.commands.proofs.SoloFillings.{solo_missing, solo_thinned}
-use Rattle.commands.specs.Allowed.{AllowsMade, AllowsOfSize, handed_out}
-use Rattle.commands.specs.Allowed.{AllowsMade, AllowsOfSize, IsHandedOut, handed_out}
-use Rattle.commands.specs.Allowed.{AllowsMade, AllowsOfSize, handed_out}
-use Rattle.commands.specs.Answers.{Answer, Text}
-use Rattle.commands.specs.Common.{Extent, Game, SizeRead, Stream, extent_of, size_of, Pattern}
-use Rattle.commands.specs.Common.{Light, SizeRead, extent_of}
-use Rattle.commands.specs.Common.{Stream, Extent, IsExtent, IsGrid, SizeRead, extent_of}
-use Rattle.commands.specs.Common.{is_solution-from, is_solution-is, line_rules-lawful, line_rules, tent_rules, IsTentSolution, IsPatternSolution}
-use Rattle.commands.specs.Common.{size_of, IsTents, Tents}
-use Rattle.commands.specs.Games.{game_of}
-use Rattle.commands.specs.LightFacts.{light_facts}
-use Rattle.commands.specs.Makings.{Wanted, exhausted_answer}
-use Rattle.commands.specs.Makings.{Wanted}
-use Rattle.commands.specs.Makings.{exhausted_answer}
-use Rattle.commands.specs.PatternFacts.{pattern_facts}
-use Rattle.commands.specs.PuzzleFacts.{PuzzleFacts}
-use Rattle.commands.specs.SoloFacts.{solo_facts}
-use Rattle.commands.specs.TentsFacts.{tents_facts, tents_sizes}
+use Rattle.commands.proofs.Common.{AllowsMade, AllowsOfSize, Answer, Bool, DifferInClues, Err, Extent, Game, HandOutAlike, HasOneAnswer, HasWords, IsExtent, IsFirstPassing, IsGrid, IsHandedOut, IsPatternSolution, IsSoloSize, IsTentSolution, IsTents, IsWide, Light, List, MadePuzzle, Making, None, NonePasses, Ok, Option, Pattern, PuzzleFacts, SameLight, SameSolo, SizeRange, SizeRead, Some, Stream, Tents, Text, Wanted, [], all_given, and_parts, ap, arith, black_cells-grid, cases_eq, common_steps, exhausted_answer, extent_of, false, filling_at, game_of, handed_out, if◌then◌else◌, in_range, inl, inr, is_solution-from, is_solution-is, leb-true, light_facts, light_filling, light_is_game, light_is_written, light_passes, light_puzzle_of, line_rules, line_rules-lawful, nat_le, pattern_facts, pattern_is_written, puzzle_of, refl, size_of, size_take, solo_facts, solo_filling, solo_is_game, solo_is_written, solo_passes, stream_after, subst, suc, sym, tent_rules, tents_facts, tents_is_written, tents_sizes, true, true≢false, zero, ℕ, ◌&&◌, ◌*◌, ◌↔◌, ◌∙◌, ◌≡◌, ◌≢◌, ◌≤◌}
 use Rattle.fields_core.proofs.TentRuleLemmas as tents
-use Rattle.gameid_core.proofs.HeadLaws.{size_take}
-use Rattle.gameid_core.proofs.LightWritten.{light_is_written}
 use Rattle.gameid_core.proofs.LineLaws.{at_column, at_row}
 use Rattle.gameid_core.proofs.OnesFit.{ones_lawful}
-use Rattle.gameid_core.proofs.PatternWritten.{pattern_is_written}
 use Rattle.gameid_core.proofs.Results.{bind_ok, chosen, ok_is, taken}
 use Rattle.gameid_core.proofs.RunsFit.{runs_lawful}
-use Rattle.gameid_core.proofs.SoloCanon.{solo_is_written}
-use Rattle.gameid_core.proofs.TentsWritten.{tents_is_written}
 use Rattle.gameid_core.specs.BlackRuns.{runs}
 use Rattle.gameid_core.specs.Lines.{lines_ones, lines_runs}
-use Rattle.gameid_core.specs.Puzzles.{IsWide}
-use Rattle.gameid_core.specs.declared.id.fault.IdFault.TheVariants.{SizeRange}
 use Rattle.gameid_core.specs.declared.id.game.Game.TheVariants as game
-use Rattle.maker_core.proofs.BlackCells.{black_cells-grid}
 use Rattle.maker_core.proofs.OnlySolutions.{one_is}
 use Rattle.maker_core.proofs.PatternMakings.{pattern_solved}
 use Rattle.maker_core.proofs.TentMakings.{tents_size}
-use Rattle.maker_core.specs.Draws.{HasWords, IsFirstPassing, Making, NonePasses, filling_at, stream_after}
-use Rattle.maker_core.specs.Draws.{IsFirstPassing, NonePasses, filling_at}
-use Rattle.maker_core.specs.Draws.{filling_at}
-use Rattle.maker_core.specs.LightClues.{SameLight}
-use Rattle.maker_core.specs.LightCluesLaws.{light_is_game}
-use Rattle.maker_core.specs.LightFilling.{light_filling, light_passes, light_puzzle_of}
-use Rattle.maker_core.specs.LightFilling.{light_filling, light_passes}
 use Rattle.maker_core.specs.PatternMaking.{clued_by, pattern_filling, pattern_passes}
-use Rattle.maker_core.specs.SoloMaking.{IsSoloSize, solo_filling, solo_passes}
-use Rattle.maker_core.specs.SoloMaking.{solo_filling, solo_passes}
 use Rattle.maker_core.specs.TentFilling.{tent_filling, tents_pass, tents_puzzle_of}
-use Rattle.std.proofs.Common.{ℕ, List, arith, ◌≡◌, ◌∙◌, ◌*◌, ◌≤◌, ◌&&◌, Bool, true, false, [], Ok, Err, refl, sym, ap, subst, inl, inr, true≢false, suc, zero}
-use Rattle.std.proofs.Common.{◌≡◌, ◌*◌, ◌&&◌, ℕ, Bool, true, false, List, [], Option, Some, None, Ok, refl, sym, inl, inr, arith, suc, zero, if◌then◌else◌, true≢false}
-use Rattle.std.proofs.Common.{◌≡◌, ◌≢◌, ◌∙◌, ℕ, Bool, true, List, Option, Some, None, Ok, Err, refl, sym, ap, subst, inl, inr, arith, true≢false}
-use Rattle.std.proofs.lemmas.Bool.{and_parts, cases_eq, leb-true}
-use Rattle.std.proofs.lemmas.Bool.{and_parts, leb-true}
-use Rattle.std.specs.Prelude.{nat_le, if◌then◌else◌}
-use Rattle.std.specs.Prelude.{nat_le}
 use Rattle.commands.proofs.Readings.{both_answers, id_some, one_of_same, size_reading}
 use Rattle.commands.proofs.MadeOnce.{first_once, first_or_none, has_one}
-use Rattle.commands.specs.LawsOfCommands.{DifferInClues, HandOutAlike, HasOneAnswer}
-use Rattle.maker_core.specs.SoloClues.{SameSolo}
-use Rattle.maker_core.specs.SoloFilling.{all_given}
-use Rattle.maker_core.specs.SoloCluesLaws.{solo_is_game}
-use Rattle.commands.specs.Makings.{MadePuzzle}
-use Rattle.commands.specs.Games.{puzzle_of}
-use Rattle.std.specs.Prelude.{◌↔◌}
-use Rattle.std.proofs.lemmas.Grind.{common_steps}
-use Rattle.commands.specs.Common.{in_range}
 
 module _ {P : Type 0} {play : PuzzleFacts P} {alike : P → P → Type 0} where
   -- answers that are the same differ in no clue, where nothing is handed out

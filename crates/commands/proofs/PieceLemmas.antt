@@ -1,10 +1,5 @@
 -- A text that is put piece by piece: what was put and what is left of it are the text so far.
-use Rattle.std.proofs.Common.{◌≡◌, ◌∙◌, ◌++◌, ◌∷◌, ◌+◌, ◌<◌, ◌≤◌, ℕ, length, refl, subst, zero, suc, [], sym, ap, append_assoc, append-nil, arith, add-one, inl, inr}
-use Rattle.std.proofs.lemmas.Grind.{common_steps}
-use Rattle.std.proofs.lemmas.Bool.{cases_lt}
-use Rattle.commands.specs.Answers.{Text, Begins, PutUpTo, PutBegun}
-use Rattle.gameid_core.specs.GridTexts.{each_below}
-use Rattle.commands.specs.TracePieces.{KeptOrPut, PutInPieces, TakesPieces, joined}
+use Rattle.commands.proofs.Common.{Begins, KeptOrPut, PutBegun, PutInPieces, PutUpTo, TakesPieces, Text, [], add-one, ap, append-nil, append_assoc, arith, cases_lt, common_steps, each_below, inl, inr, joined, length, refl, subst, suc, sym, zero, ℕ, ◌++◌, ◌+◌, ◌<◌, ◌∙◌, ◌∷◌, ◌≡◌, ◌≤◌}
 use Rattle.commands.proofs.RunLemmas.{TakesBoth}
 
 -- a text begins itself

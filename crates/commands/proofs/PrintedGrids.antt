@@ -1,30 +1,12 @@
 -- The grid that a text can be the printed form of is read of the text, so it is the only one; and what is printed has no
 -- carriage return, and is never too long to be read back.
-use Rattle.std.proofs.Common.{◌≡◌, ◌∙◌, ◌+◌, ◌*◌, ◌-◌, ◌<◌, ◌≤◌, ◌++◌, ◌∷◌, ℕ, List, zero, suc, take, slice_index, refl, sym, subst, arith, codes, inl, inr, ◌≢◌, ◌/◌, ◌%◌, ◌==◌, Bool, true, false, Option, Some, None, [], length, drop, ap, decimal, if◌then◌else◌, length-append}
-use Rattle.std.proofs.lemmas.Grind.{common_steps}
-use Rattle.std.proofs.lemmas.Bool.{cases_lt, eqb-true, ne_eqb}
-use Rattle.std.specs.List.{slice_get, AllByRecursion}
+use Rattle.commands.proofs.Common.{AllByRecursion, Black, Bool, Extent, IsAsShown, IsLight, IsLightCell, IsPrinted, IsSolo, Light, LightCell, List, None, Numbered, Option, Pattern, Solo, Some, Tents, Text, White, [], ap, arith, begins_with_form, cases_lt, codes, common_steps, decimal, drop, drop-drop, drop_all, each_below, eqb-true, false, grid_text, hides_nothing, if◌then◌else◌, inl, inr, length, length-append, light_cell, light_hides, mul-le-mul_left, mul-le-mul_right, ne_eqb, number_fits, pattern_cell, refl, row_text, slice_get, slice_index, solo_cell, solo_extent, solo_n, subst, suc, suc-mul, sym, take, take-append-drop, tent_hides, tents_cell, text_limit, true, without_returns, zero, ℕ, ◌%◌, ◌*◌, ◌++◌, ◌+◌, ◌-◌, ◌/◌, ◌<◌, ◌==◌, ◌∙◌, ◌∷◌, ◌≡◌, ◌≢◌, ◌≤◌}
 use Rattle.std.proofs.Math.Seq.{drop-append_seam, drop-cons}
-use Rattle.std.proofs.lemmas.List.{drop_all, drop-drop, take-append-drop}
 use Rattle.std.proofs.lemmas.Fmt.{decimal_digit, decimal_step}
-use Rattle.std.proofs.Math.Nat.{mul-le-mul_left, mul-le-mul_right, suc-mul}
-use Rattle.grid_core.specs.Extent.{Extent}
-use Rattle.gameid_core.specs.GridReading.{Follows, IsAsShown, IsPrinted, first_digit, hides_nothing}
-use Rattle.gameid_core.specs.GridTexts.{grid_text, row_text, each_below}
-use Rattle.gameid_core.specs.TentsText.{tent_hides, tents_cell}
-use Rattle.gameid_core.specs.SoloText.{solo_cell, solo_extent}
-use Rattle.gameid_core.specs.PatternText.{pattern_cell}
-use Rattle.gameid_core.specs.LightText.{light_hides, light_cell, light_symbol}
-use Rattle.gameid_core.proofs.PrintedGrids.{begins_with_form}
+use Rattle.gameid_core.specs.GridReading.{Follows, first_digit}
+use Rattle.gameid_core.specs.LightText.{light_symbol}
 use Rattle.gameid_core.proofs.PrintedRows.{Left, LeftOf, after_cell, all_left, all_rows_left, cell_follows, in_grid, next_row, none_left, row_first}
-use Rattle.gameid_core.specs.Puzzles.{IsSolo, Light, Pattern, Solo, Tents, solo_n, IsLight, IsLightCell}
-use Rattle.gameid_core.specs.declared.light_up.cell.LightCell.{LightCell}
-use Rattle.gameid_core.specs.declared.light_up.cell.LightCell.TheVariants.{White, Black, Numbered}
-use Rattle.gameid_core.proofs.PrintedCells.{number_fits}
 use Rattle.gameid_core.proofs.PrintedNumbers.{not_empty, number_of}
-use Rattle.commands.specs.Answers.{Text}
-use Rattle.commands.specs.CheckAnswers.{without_returns}
-use Rattle.commands.specs.Texts.{text_limit}
 
 -- the number at a place and how many bytes are printed of it are read of each text that begins with that, where what may stand after
 -- it follows

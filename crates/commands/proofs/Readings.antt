@@ -1,19 +1,7 @@
 -- What is answered to an ID, where a text spells one puzzle or has one fault, and never both.
-use Rattle.std.proofs.Common.{◌≡◌, Result, Err, ◌≢◌, ◌<◌, ℕ, length, inl, Ok, refl, ◌∙◌, ◌++◌, false, List, [], ◌∷◌, codes, sym, ap, ap₂, subst, inr}
-use Rattle.std.specs.Prelude.{IfOk, ◌↔◌}
+use Rattle.commands.proofs.Common.{AllowsEach, AllowsId, AllowsSolve, Answer, Err, Game, GameFacts, HasOneAnswer, HasOneReading, IdFault, IfOk, IsGraded, IsRewritten, IsRightGrade, List, Memory, NamedRules, Ok, PuzzleFacts, Reply, Result, SizeRead, Text, TooLong, [], answer_in, ap, ap₂, both, codes, false, fault_text, game_of, grade_status, grade_text, inl, inr, length, listed_grade, max_id, refl, refused, silence, subst, sym, ℕ, ◌++◌, ◌<◌, ◌↔◌, ◌∙◌, ◌∷◌, ◌≡◌, ◌≢◌}
 use Rattle.gameid_core.specs.Steps.{Fails}
-use Rattle.gameid_core.specs.declared.id.fault.IdFault.TheVariants.{Memory, TooLong}
 use Rattle.gameid_core.proofs.OneReading.{reading_of}
-use Rattle.commands.specs.Common.{HasOneReading, IdFault, max_id, Game, SizeRead}
-use Rattle.commands.specs.Answers.{Text, Answer}
-use Rattle.commands.specs.Games.{game_of}
-use Rattle.commands.specs.Allowed.{AllowsId, AllowsSolve, IsGraded}
-use Rattle.commands.specs.PuzzleFacts.{GameFacts, PuzzleFacts}
-use Rattle.commands.specs.Replies.{refused, fault_text, answer_in}
-use Rattle.commands.specs.declared.answers.reply.Reply.{Reply}
-use Rattle.commands.specs.Each.{AllowsEach, both, silence}
-use Rattle.commands.specs.Grades.{IsRightGrade, NamedRules, grade_status, grade_text, listed_grade}
-use Rattle.commands.specs.LawsOfCommands.{HasOneAnswer, IsRewritten}
 
 first_fault : {P : Type 0} {fault : IdFault} {reading : Result P IdFault} → fault ≢ Memory → Fails fault reading → reading ≡ Err fault
 first_fault {fault = Memory} {reading} other fails = absurd (other refl)

@@ -1,14 +1,5 @@
 -- Each request has an answer on each input.
-use Rattle.std.proofs.Common.{◌≡◌, ◌++◌, ℕ, Bool, true, false, List, [], ◌∷◌, Option, Some, None, codes, refl}
-use Rattle.std.specs.Str.Lines.{lines}
-use Rattle.commands.specs.Common.{Game, IsLawful, RuleSystem, is_settled}
-use Rattle.commands.specs.Answers.{Answer, Text}
-use Rattle.commands.specs.Allowed.{Allows, AllowsCheck, AllowsGrade, AllowsSolve, wanted}
-use Rattle.commands.specs.Asked.{Asked, check, generate, grade, solve}
-use Rattle.commands.specs.Games.{game_of}
-use Rattle.commands.specs.Grades.{NamedRules, grade_status, grade_text, last_tried, listed_grade}
-use Rattle.commands.specs.Replies.{refused_words}
-use Rattle.commands.specs.Traces.{IsTrace, SaysClosing, sweeps_text, visits_text}
+use Rattle.commands.proofs.Common.{Allows, AllowsCheck, AllowsGrade, AllowsSolve, Answer, Asked, Bool, Game, IsLawful, IsTrace, List, NamedRules, None, Option, RuleSystem, SaysClosing, Some, Text, [], check, codes, cond_both, false, game_of, generate, grade, grade_status, grade_text, is_settled, last_tried, lines, listed_grade, refl, refused_words, solve, sweeps_text, true, visits_text, wanted, ℕ, ◌++◌, ◌∷◌, ◌≡◌}
 use Rattle.commands.proofs.BatchLemmas.{each_has}
 use Rattle.commands.proofs.CheckedPuzzles.{check_some}
 use Rattle.commands.proofs.ClosingExists.{sweeps_close, visits_close}
@@ -16,7 +7,6 @@ use Rattle.commands.proofs.GameLaws.{EachSearched, answers, laws_of, listed_righ
 use Rattle.commands.proofs.MadeOnce.{seed_words}
 use Rattle.commands.proofs.Makings.{AreFilled, made_some}
 use Rattle.commands.proofs.Readings.{id_some}
-use Rattle.std.proofs.lemmas.Bool.{cond_both}
 
 -- ---- traces
 closing_said : (name : ℕ → Text) {rules : RuleSystem} → IsLawful rules → (lines : Text) × SaysClosing rules.by_queue name rules lines

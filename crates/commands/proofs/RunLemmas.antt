@@ -1,17 +1,9 @@
 -- Runs that deliver one answer, and those that end before their answers are whole.
-use Rattle.std.proofs.Common.{[], refl, ◌≡◌, ◌≤◌, ℕ, Bool, Result, Ok, Err, IfErr, IfOk, sym, subst, inl, inr, arith, false, true≢false, ◌++◌, ◌-◌, List, take, drop, length, ap, ◌∙◌, append_assoc, append-nil, ◌⊎◌, true}
+use Rattle.commands.proofs.Common.{Answer, BeginsAnswer, BeginsIfAny, Bool, Delivers, Err, HasAnswers, IfErr, IfOk, IsInput, List, Ok, PutBegun, PutUpTo, Ran, RanIfAny, Reply, Result, Says, SaysIfAny, Text, [], answer_in, ap, append-nil, append_assoc, arith, common_steps, drop, false, inl, inr, length, refl, status_in, status_of, subst, sym, take, take-append-drop, true, true≢false, ℕ, ◌++◌, ◌-◌, ◌∙◌, ◌≡◌, ◌≤◌, ◌⊎◌}
 use Rattle.std.specs.Result.{IsErr, IsErrAnd}
-use Rattle.std.proofs.lemmas.List.{take-append-drop}
-use Rattle.std.proofs.lemmas.Grind.{common_steps}
-use Rattle.commands.specs.Answers.{Answer, BeginsAnswer, Text, Delivers, PutBegun, PutUpTo, IsInput, status_of}
-use Rattle.commands.specs.Each.{HasAnswers}
-use Rattle.commands.specs.Replies.{answer_in}
-use Rattle.commands.specs.declared.answers.reply.Reply.{Reply}
-use Rattle.commands.specs.Stops.{BeginsIfAny, RanIfAny, Says, SaysIfAny, status_in}
 use Rattle.commands.specs.declared.answers.status.Status.{Status}
 use Rattle.commands.specs.declared.answers.status.Stop.{Stop}
 use Rattle.commands.specs.declared.answers.status.Stop.TheVariants.{Memory, Broken}
-use Rattle.commands.specs.Runs.{Ran}
 use Rattle.commands.specs.declared.ends.Sink as sinks
 use Rattle.commands.specs.declared.ends.Source as sources
 

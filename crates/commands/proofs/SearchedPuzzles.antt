@@ -1,26 +1,11 @@
 -- What the searches rest on, for a puzzle of each game, and what follows for their verdicts.
-use Rattle.std.proofs.Common.{◌≡◌, ℕ, Bool, List, Some, None, ◌≤◌, ◌∷◌, zero, suc, [], Option, refl, sym, arith}
-use Rattle.std.proofs.lemmas.Grind.{common_steps}
-use Rattle.std.specs.Prelude.{◌↔◌}
-use Rattle.engine_core.specs.Verdict.{Outcome.NoSolution, Outcome.OneSolution, Outcome.SeveralSolutions, Outcome.GaveUp, outcome, trials_in}
-use Rattle.engine_core.specs.Walk.{Mark.Found, Mark.Trial}
-use Rattle.engine_core.proofs.VerdictLemmas.{outcome-true}
-use Rattle.solo_core.specs.RuleLaws.{crossings_lawful, houses_lawful, singles_lawful}
+use Rattle.commands.proofs.Common.{Answer, Bool, HasOneAnswer, HasOneSolution, IsLawful, IsLight, IsLightSolution, IsPattern, IsPatternSolution, IsRight, IsSolo, IsSoloSolution, IsSolved, IsTentSolution, IsTents, IsTrueOf, Light, List, Mark, Mark.Found, Mark.Trial, None, Option, Outcome, Outcome.GaveUp, Outcome.NoSolution, Outcome.OneSolution, Outcome.SeveralSolutions, Pattern, PuzzleFacts, RuleSystem, Solo, Solves, Some, Tents, [], arith, common_steps, crossings_rules, houses_lawful, houses_rules, is_solution-from, is_solution-is, light_rules, line_rules, line_rules-lawful, outcome, outcome-true, printed_by, refl, rule_from_test, rules_of, singles_rules, suc, sym, tent_rules, test_from_rule, trials_in, verdict_answer, verdict_of, walk, zero, ℕ, ◌↔◌, ◌∷◌, ◌≡◌, ◌≤◌}
+use Rattle.solo_core.specs.RuleLaws.{crossings_lawful, singles_lawful}
 use Rattle.engine_core.specs.HouseRules.{House}
 use Rattle.fields_core.proofs.LightCounting.{light-lawful}
 use Rattle.fields_core.proofs.LightRuleLemmas as light
 use Rattle.fields_core.proofs.TentCounting.{tent-lawful}
 use Rattle.fields_core.proofs.TentRuleLemmas as tents
-use Rattle.commands.specs.Common.{IsRight, IsLight, IsPattern, IsSolo, IsTents, Light, Pattern, Solo, Tents, RuleSystem, IsLawful, Outcome}
-use Rattle.commands.specs.Common.{verdict_of, IsTrueOf, Solves, Mark, walk, is_solution-from, is_solution-is, line_rules-lawful, line_rules}
-use Rattle.commands.specs.Common.{IsPatternSolution, crossings_rules, houses_rules, rules_of, singles_rules, rule_from_test, test_from_rule}
-use Rattle.commands.specs.Common.{IsSoloSolution, light_rules, IsLightSolution, tent_rules, IsTentSolution}
-use Rattle.commands.specs.Answers.{Answer}
-use Rattle.commands.specs.Allowed.{IsSolved}
-use Rattle.commands.specs.PuzzleFacts.{PuzzleFacts, printed_by}
-use Rattle.commands.specs.Replies.{verdict_answer}
-use Rattle.commands.specs.Grades.{HasOneSolution}
-use Rattle.commands.specs.LawsOfCommands.{HasOneAnswer}
 
 -- what is true of the grids that the rules accept is right of the solutions, where these are the same
 pub right_of : {p : RuleSystem} (solves : List ℕ → Type 0) (o : Outcome) → ((g : List ℕ) → Solves p g ↔ solves g) → IsTrueOf p o → IsRight solves o

@@ -1,8 +1,5 @@
 -- A shuffle brings any list into another order, and leaves a stream of words; and so many draws of black cells leave one.
-use Rattle.maker_core.proofs.Common.{ℕ, ◌-◌, ◌^◌, ◌<◌, nat_lt, arith, ◌∙◌, zero, suc, List, length, sym, cond_both}
-use Rattle.maker_core.proofs.Common.{lt-ltb, true≢false, Stream, HasWords, IsPermutation}
-use Rattle.maker_core.proofs.Common.{black_cells, shuffled_list}
-use Rattle.maker_core.proofs.Shuffles.{draw_is, swaps_are}
+use Rattle.commands.proofs.Common.{HasWords, IsPermutation, List, Stream, arith, black_cells, cond_both, draw_is, length, lt-ltb, nat_lt, shuffled_list, suc, swaps_are, sym, true≢false, zero, ℕ, ◌-◌, ◌<◌, ◌^◌, ◌∙◌}
 
 -- ---- a list in a shuffled order
 pub record IsShuffled (items : List ℕ) (p : List ℕ × Stream) : Type 0 where

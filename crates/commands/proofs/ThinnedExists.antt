@@ -1,11 +1,6 @@
 -- A puzzle with all its clues can be thinned: a clue is taken away where the verdict without it is one, and else left for the reason
 -- that the verdict tells.
-use Rattle.maker_core.proofs.Common.{◌≡◌, ◌∙◌, ℕ, List, [], ◌∷◌, Option, Some, None, replicate, refl, sym, inl, inr, cases_eq}
-use Rattle.maker_core.proofs.Common.{IsPermutation-refl, outcome-true, IsLawful, IsTrueOf, Outcome, Solves, verdict_of, CluedGame, IsGame, IsThinnedFrom}
-use Rattle.maker_core.proofs.Common.{clue_places, AreReasons, IsOnly, TellsOne, IsAsked, IsLeft, IsThinning, reasons_from}
-use Rattle.std.proofs.lemmas.Option.{none-some}
-use Rattle.engine_core.specs.Verdict.{Outcome.NoSolution, Outcome.OneSolution, Outcome.SeveralSolutions, Outcome.GaveUp}
-use Rattle.maker_core.specs.declared.made.Kept.{Kept}
+use Rattle.commands.proofs.Common.{AreReasons, CluedGame, IsAsked, IsGame, IsLawful, IsLeft, IsOnly, IsPermutation-refl, IsThinnedFrom, IsThinning, IsTrueOf, Kept, List, None, Option, Outcome, Outcome.GaveUp, Outcome.NoSolution, Outcome.OneSolution, Outcome.SeveralSolutions, Solves, Some, TellsOne, [], cases_eq, clue_places, inl, inr, none-some, outcome-true, reasons_from, refl, replicate, sym, verdict_of, ℕ, ◌∙◌, ◌∷◌, ◌≡◌}
 use Rattle.maker_core.specs.declared.made.Why.{Why}
 use Rattle.maker_core.specs.declared.made.Why.TheVariants.{Budget, Needed}
 use Rattle.maker_core.proofs.ThinningReasons.{answer_left, reasons_left, thinning_start}

@@ -4,11 +4,7 @@ ghost use Rattle.commands.specs.Common.{Game};
 ghost use Rattle.commands.specs.Allowed.{AllowsSolve};
 ghost use Rattle.commands.specs.Games.{game_of};
 ghost use Rattle.commands.specs.Each.{HasAnswers};
-ghost use Rattle.commands.specs.LawsOfCommands.{EachRequestHasAnAnswer, FixedRequestsHaveOneAnswer, SoloDiffersInGivens, LightsDifferInNumbers};
-ghost use Rattle.commands.specs.LawsOfCommands.{CorrectGridsExcludeNone, CorrectGridsAreTheOneTold, SolvedGridsPass};
-ghost use Rattle.commands.specs.LawsOfCommands.{GradedPuzzlesHaveOne, GradesGoWithVerdicts, RuleSetsNeedNoTrial, SearchesNameLeastBudgets};
-ghost use Rattle.commands.specs.LawsOfCommands.{LightsNeedTheirClues, MadePuzzlesAreSolved, SoloNeedsItsClues};
-ghost use Rattle.commands.specs.LawsOfCommands.{RewritingKeepsAnswers};
+ghost use Rattle.commands.specs.LawsOfCommands.{EachRequestHasAnAnswer, FixedRequestsHaveOneAnswer, SoloDiffersInGivens, LightsDifferInNumbers, CorrectGridsExcludeNone, CorrectGridsAreTheOneTold, SolvedGridsPass, GradedPuzzlesHaveOne, GradesGoWithVerdicts, RuleSetsNeedNoTrial, SearchesNameLeastBudgets, LightsNeedTheirClues, MadePuzzlesAreSolved, SoloNeedsItsClues, RewritingKeepsAnswers};
 
 /// Each text has an answer of `solve`, for each game and budget: it spells a puzzle or has a fault,
 /// and the verdict of a puzzle's walk is right of its solutions.

@@ -1,8 +1,5 @@
 -- Which houses wait after others were called for.
-use Rattle.engine_core.proofs.Common.{AreWoken, Bool, Candidates, IsIdle, IsWoken, RuleSystem, and_from, and_left, and_right, any_below, arith, but}
-use Rattle.engine_core.proofs.Common.{called_for, calls, cases_eq, cases_lt, common_steps, count_below, counts_of, eq-eqb, eqb, eqb-true, false}
-use Rattle.engine_core.proofs.Common.{has_place, le-ltb, lt-ltb, ltb, ne_eqb, not, not_from_false, not_from_true, or_left, or_right, refl}
-use Rattle.engine_core.proofs.Common.{IsBitsOf, IsInside, IsNext, None, Some, any_below, empties, slice_index, true, woken, ℕ, ◌&&◌, ◌+◌, ◌<◌, ◌||◌, ◌≡◌, ◌≤◌}
+use Rattle.engine_core.proofs.Common.{AreWoken, Bool, Candidates, IsBitsOf, IsIdle, IsInside, IsNext, IsWoken, None, RuleSystem, Some, and_from, and_left, and_right, any_below, arith, but, called_for, calls, cases_eq, cases_lt, common_steps, count_below, counts_of, empties, eq-eqb, eqb, eqb-true, false, has_place, le-ltb, lt-ltb, ltb, ne_eqb, not, not_from_false, not_from_true, or_left, or_right, refl, slice_index, true, woken, ℕ, ◌&&◌, ◌+◌, ◌<◌, ◌||◌, ◌≡◌, ◌≤◌}
 use Rattle.engine_core.proofs.IndexLemmas.{counted}
 use Rattle.engine_core.proofs.QueueLemmas.{any_below-more, empties_else, empties_then, woken-none}
 use Rattle.engine_core.proofs.SetLemmas.{bits-empty, counts-differ, counts-same}

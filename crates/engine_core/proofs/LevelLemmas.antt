@@ -1,10 +1,5 @@
 -- The levels of a search: what its frames and its marks say of the boards that are open.
-use Rattle.engine_core.proofs.Common.{Candidates, IsFewest, IsLawful, IsCheckpoint, IsNext, IsOnward, IsOpen, IsReady, IsReturned, IsTrial, Level}
-use Rattle.engine_core.proofs.Common.{List, Mark.Trial, None, RuleSystem, Some, Standing, add-one, ap, arith, cases_eq, common_steps, frame_at}
-use Rattle.engine_core.proofs.Common.{get_or-set_other, get_or-set_same, length, length-set, level_at, levels_of, only, only-inside, pending}
-use Rattle.engine_core.proofs.Common.{pending_in, refl, set, subst, suc, sym, walk, zero, ℕ, ◌++◌, ◌+◌, ◌-◌, ◌<◌, ◌∙◌, ◌∷◌, ◌≡◌, ◌≢◌}
-use Rattle.engine_core.specs.declared.search.levels.Frame.{Frame}
-use Rattle.engine_core.specs.declared.search.levels.Levels.{Levels}
+use Rattle.engine_core.proofs.Common.{Candidates, Frame, IsCheckpoint, IsFewest, IsLawful, IsNext, IsOnward, IsOpen, IsReady, IsReturned, IsTrial, Level, Levels, List, Mark.Trial, None, RuleSystem, Some, Standing, add-one, ap, arith, cases_eq, common_steps, frame_at, get_or-set_other, get_or-set_same, length, length-set, level_at, levels_of, only, only-inside, pending, pending_in, refl, set, subst, suc, sym, walk, zero, ℕ, ◌++◌, ◌+◌, ◌-◌, ◌<◌, ◌∙◌, ◌∷◌, ◌≡◌, ◌≢◌}
 use Rattle.engine_core.proofs.QueueLemmas.{closed-but_only}
 use Rattle.engine_core.proofs.SearchLemmas.{pending-pop, pending-trial}
 use Rattle.engine_core.proofs.RoomLemmas.{singles-only, open-cell, open-room}

@@ -1,16 +1,9 @@
 -- Rules whose houses are listed: what their table says, and what a visit leaves.
-use Rattle.std.proofs.Common.{length-take}
-use Rattle.engine_core.specs.HouseIndex.{IsScope, Table}
-use Rattle.engine_core.specs.HouseSets.{Decision, strikes_at}
-use Rattle.engine_core.specs.HouseSetsLaws.{bits-of_values, strikes_at-in_scope, strikes_at-place}
+use Rattle.engine_core.proofs.Common.{AreHousesAt, AreScopes, AreSetsOf, Bool, Candidates, Decision, IsBitsOf, IsBoardOf, IsKept, IsLawful, IsScope, IsWithin, Layout, List, RuleSystem, Table, after, ap, arith, bits-of_values, cases_Bool, cells_of, common_steps, count_below, false_from_ne_true, fun_ext, has, has_bit, has_place, has_place-at, has_place-here, inl, inr, kept_in, length, length-take, longest, not, refl, scope_of, slice_index, strikes_at, strikes_at-in_scope, strikes_at-place, sym, take, true, true≢false, ℕ, ◌&&◌, ◌<◌, ◌∙◌, ◌≡◌, ◌≤◌}
 use Rattle.engine_core.specs.ListedHouses.{AreScopesOf, table_of}
 use Rattle.engine_core.proofs.IndexLemmas.{nth-at}
 use Rattle.engine_core.proofs.QueueLemmas.{scope-in}
 use Rattle.engine_core.proofs.StoreLemmas.{scope_le-longest}
-use Rattle.engine_core.proofs.Common.{AreHousesAt, AreScopes, AreSetsOf, Bool, Candidates, IsBitsOf, IsBoardOf, IsKept, IsLawful, IsWithin, List, RuleSystem, after, ap}
-use Rattle.engine_core.proofs.Common.{Layout, arith, cells_of, cases_Bool, common_steps, count_below, false_from_ne_true, fun_ext, has, has_bit, has_place, has_place-at}
-use Rattle.engine_core.proofs.Common.{has_place-here, inl, inr, kept_in, length, longest, not, refl, scope_of, slice_index, sym, take, true}
-use Rattle.engine_core.proofs.Common.{true≢false, ℕ, ◌&&◌, ◌<◌, ◌≡◌, ◌≤◌, ◌∙◌}
 
 -- the lists are of different places of the board
 pub scopes-fit : {p : RuleSystem} {scopes : List (List ℕ)} → IsLawful p → AreScopesOf p scopes → AreScopes p.cells scopes

@@ -1,14 +1,5 @@
 -- Laws of lists of places that are the pieces of one list.
-use Rattle.std.specs.List.{concat, filter}
-use Rattle.std.proofs.lemmas.List.{append-nil, get_or_append_left, get_or_read, length-drop}
-use Rattle.std.proofs.lemmas.List.Edits.{between_more, between_none}
-use Rattle.std.proofs.lemmas.List.Elements.{filter-append}
-use Rattle.std.proofs.lemmas.List.Sums.{count_by-le-length, length-filter}
-use Rattle.engine_core.specs.HouseList.{Listed}
-use Rattle.engine_core.proofs.Common.{append_assoc, drop, eq-eqb, eqb, length-append, ne_eqb, not, take, ◌∙◌}
-use Rattle.engine_core.proofs.Common.{AreEnds, FitsPlaces, IsGrown, IsListed, List, [], ap, arith, between, between_to_end, common_steps}
-use Rattle.engine_core.proofs.Common.{drop-append-le, get_or, last_end, length, length-between, listed, pieces, refl, suc, sum_by, sum_by-cons, sym}
-use Rattle.engine_core.proofs.Common.{ends-more, last-close, last-le, length-pieces, piece-at, piece-ends, pieces-close, pieces-more, zero, ℕ, ◌++◌, ◌+◌, ◌-◌, ◌<◌, ◌^◌, ◌∷◌, ◌≡◌, ◌≤◌}
+use Rattle.engine_core.proofs.Common.{AreEnds, FitsPlaces, IsGrown, IsListed, List, Listed, [], ap, append-nil, append_assoc, arith, between, between_more, between_none, between_to_end, common_steps, concat, count_by-le-length, drop, drop-append-le, ends-more, eq-eqb, eqb, filter, filter-append, get_or, get_or_append_left, get_or_read, last-close, last-le, last_end, length, length-append, length-between, length-drop, length-filter, length-pieces, listed, ne_eqb, not, piece-at, piece-ends, pieces, pieces-close, pieces-more, refl, suc, sum_by, sum_by-cons, sym, take, zero, ℕ, ◌++◌, ◌+◌, ◌-◌, ◌<◌, ◌^◌, ◌∙◌, ◌∷◌, ◌≡◌, ◌≤◌}
 
 pub listed-more : (xs ends ys : List ℕ) → AreEnds (length xs) 0 ends
     → listed (xs ++ ys) ends ≡ record { closed = (listed xs ends).closed; begun = (listed xs ends).begun ++ ys }

@@ -1,12 +1,5 @@
 -- How many of some lists have a place, by the places of all.
-use Rattle.engine_core.proofs.Common.{AreScopes, List, [], ap, arith, cases_eq, cases_lt, common_steps, cond, eq-eqb, eqb, false}
-use Rattle.engine_core.proofs.Common.{has_place, inl, inr, length, length-append, ne_eqb, number_at, refl, set, slice_index, suc, sum_by, sum_by-cons, sym, take, zero, ℕ}
-use Rattle.engine_core.proofs.Common.{◌+◌, ◌-◌, ◌<◌, ◌∙◌, ◌∷◌, ◌≡◌, ◌≤◌}
-use Rattle.std.specs.List.{concat, count_by}
-use Rattle.std.proofs.lemmas.List.{get_or_append_left, get_or-append_right}
-use Rattle.std.proofs.lemmas.List.Sums.{count_by-le-length, count_by_more_no, count_by_more_yes, sum_by-append}
-use Rattle.grid_core.specs.Candidates.{count_below}
-use Rattle.engine_core.specs.PlaceLaws.{AreDistinct, distinct-from}
+use Rattle.engine_core.proofs.Common.{AreDistinct, AreScopes, List, [], ap, arith, cases_eq, cases_lt, common_steps, concat, cond, count_below, count_by, count_by-le-length, count_by_more_no, count_by_more_yes, distinct-from, eq-eqb, eqb, false, get_or-append_right, get_or_append_left, has_place, inl, inr, length, length-append, ne_eqb, number_at, refl, set, slice_index, suc, sum_by, sum_by-append, sum_by-cons, sym, take, zero, ℕ, ◌+◌, ◌-◌, ◌<◌, ◌∙◌, ◌∷◌, ◌≡◌, ◌≤◌}
 
 -- ---- the k-th place counts once more
 pub counted-place : (places counts : List ℕ) (k x : ℕ) → k < length places → x ≡ slice_index places k

@@ -1,8 +1,5 @@
 -- Room for the frames: each open level has one more cell with a single value.
-use Rattle.engine_core.proofs.Common.{Candidates, IsFewest, IsInside, IsOpen, IsWithin, Level, RuleSystem, Some, arith, cases_eq, closure, common_steps}
-use Rattle.engine_core.proofs.Common.{count_below, count_below-bound, count_below-few, count_below-le, count_below-lt, count_below-pos, eq-eqb, eqb}
-use Rattle.engine_core.proofs.Common.{eqb-true, false, is_dead, is_dead-not, ne_eqb, only, only-at, only-here, only-other, pick, refl, singles, sym}
-use Rattle.engine_core.proofs.Common.{true, ℕ, ◌<◌, ◌∙◌, ◌≡◌, ◌≤◌}
+use Rattle.engine_core.proofs.Common.{Candidates, IsFewest, IsInside, IsOpen, IsWithin, Level, RuleSystem, Some, arith, cases_eq, closure, common_steps, count_below, count_below-bound, count_below-few, count_below-le, count_below-lt, count_below-pos, eq-eqb, eqb, eqb-true, false, is_dead, is_dead-not, ne_eqb, only, only-at, only-here, only-other, pick, refl, singles, sym, true, ℕ, ◌<◌, ◌∙◌, ◌≡◌, ◌≤◌}
 use Rattle.engine_core.proofs.PickLemmas.{pick-fewest}
 use Rattle.engine_core.proofs.ClosingLemmas.{closure_closed}
 

@@ -1,11 +1,6 @@
 -- A search that is under way: which marks are left, and what was counted of those before.
-use Rattle.engine_core.proofs.Common.{Bool, Candidates, CountsClosing, IsSearched, IsTrial, IsTurns, IsWalked, List, Mark, Mark.Trial, None}
-use Rattle.engine_core.proofs.Common.{Outcome.GaveUp, RuleSystem, Says, Standing, [], ap, append_assoc, arith, boards_of, common_steps, deepest_of}
-use Rattle.engine_core.proofs.Common.{false, found_marks, found_of, length, length_push, levels_of, marks_from, marks_of, max, outcome, pending}
-use Rattle.engine_core.proofs.Common.{pending_of, refl, searched_at, suc, sym, tried, true, true≢false, walk, walk_of, ℕ, ◌++◌, ◌+◌, ◌-◌, ◌<◌, ◌∙◌}
-use Rattle.engine_core.proofs.Common.{◌∷◌, ◌≡◌, ◌≤◌}
+use Rattle.engine_core.proofs.Common.{Bool, Candidates, CountsClosing, IsSearched, IsTrial, IsTurns, IsWalked, Levels, List, Mark, Mark.Trial, None, Outcome.GaveUp, RuleSystem, Says, Standing, [], ap, append_assoc, arith, boards_of, common_steps, deepest_of, false, found_marks, found_of, length, length_push, levels_of, marks_from, marks_of, max, outcome, pending, pending_of, refl, searched_at, suc, sym, tried, true, true≢false, walk, walk_of, ℕ, ◌++◌, ◌+◌, ◌-◌, ◌<◌, ◌∙◌, ◌∷◌, ◌≡◌, ◌≤◌}
 use Rattle.engine_core.specs.declared.search.judge.Grids.{Grids}
-use Rattle.engine_core.specs.declared.search.levels.Levels.{Levels}
 use Rattle.engine_core.specs.declared.search.walk.Progress.{Progress}
 use Rattle.engine_core.specs.declared.search.walk.Searched.{Searched}
 use Rattle.engine_core.specs.declared.search.walk.Verdict.{Verdict}

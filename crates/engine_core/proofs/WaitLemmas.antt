@@ -1,11 +1,6 @@
 -- Marks of houses as the bits of words.
-use Rattle.engine_core.proofs.Common.{Bool, IsNext, List, Some, ap, arith, bit_and, bit_at, bit_at-trailing_zeros, bit_at-zero, bit_at_above, bit_at_ones}
-use Rattle.engine_core.proofs.Common.{bit_at_clear_other, bit_at_clear_same, bit_at_set_other, bit_at_set_same, bit_or, but, cases_eq, cases_lt}
-use Rattle.engine_core.proofs.Common.{common_steps, div-div-eq-div-mul, div-le_self, eq-eqb, eqb, eqb-true, false, get_or, get_or-replicate}
-use Rattle.engine_core.proofs.Common.{get_or-set_other, get_or-set_same, has_bit, inl, inr, is_waiting, length, ne_eqb, not, pow-add, refl, replicate}
+use Rattle.engine_core.proofs.Common.{Bool, IsNext, List, Some, ap, arith, bit_and, bit_at, bit_at-trailing_zeros, bit_at-zero, bit_at_above, bit_at_clear_other, bit_at_clear_same, bit_at_ones, bit_at_set_other, bit_at_set_same, bit_or, but, cases_eq, cases_lt, common_steps, div-div-eq-div-mul, div-le_self, eq-eqb, eqb, eqb-true, false, get_or, get_or-replicate, get_or-set_other, get_or-set_same, has_bit, inl, inr, is_waiting, length, ne_eqb, not, pow-add, refl, replicate, set, sym, take, take-append_seam, trailing_zeros, true, w64, ℕ, ◌%◌, ◌&&◌, ◌*◌, ◌++◌, ◌+◌, ◌-◌, ◌/◌, ◌<◌, ◌^◌, ◌||◌, ◌∙◌, ◌≡◌, ◌≢◌, ◌≤◌}
 use Rattle.engine_core.proofs.BitLemmas.{bits-either, bits-of_zero}
-use Rattle.std.proofs.Math.Seq.{take-append_seam}
-use Rattle.engine_core.proofs.Common.{set, sym, take, trailing_zeros, true, w64, ◌++◌, ℕ, ◌%◌, ◌&&◌, ◌*◌, ◌+◌, ◌-◌, ◌/◌, ◌<◌, ◌^◌, ◌||◌, ◌∙◌, ◌≡◌, ◌≢◌, ◌≤◌}
 
 -- words that are written back whole
 pub written-back : (n : ℕ) (words rest : List ℕ) → n ≡ length words → take n (words ++ rest) ≡ words

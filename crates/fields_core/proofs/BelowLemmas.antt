@@ -1,19 +1,7 @@
 -- Lists of different numbers: a number's place in one, and a choice of different numbers below n names each of them.
-use Rattle.std.proofs.Common.{◌≡◌, ℕ, ◌+◌, ◌<◌, ◌≤◌, Bool, true, false, not, eqb, ltb, cond, List, [], ◌∷◌, length, get_or, slice_index, map, refl, sym, ap, ◌∙◌, inl, inr, arith}
-use Rattle.std.specs.List.{list_any, range_with_len}
-use Rattle.std.proofs.lemmas.Bool.{cases_Bool, cases_lt, or_left, or_right, or_cases, and_from, and_parts, true≢false, eqb-true, eq-eqb, lt-ltb, le-ltb, not-true}
-use Rattle.std.proofs.lemmas.List.{get_or-map, length-map}
-use Rattle.std.proofs.lemmas.List.Elements.{All-from_get_or}
+use Rattle.fields_core.proofs.Common.{All-from_get_or, AreDifferent, AreDistinct, Bool, List, [], and_from, and_parts, any_below, any_below-none, any_below-some, ap, arith, cases_Bool, cases_lt, common_steps, cond, count_below-pos, distinct-from, eq-eqb, eqb, eqb-true, false, get_or, get_or-map, get_or-map-range_with_len, get_or-range_with_len, has_place, has_place-at, has_place-here, inl, inr, le-ltb, least_below, least_below-passes, length, length-map, length-map-range_with_len, length-range_with_len, list_any, lt-ltb, ltb, map, names_none_twice, not, not-true, or_cases, or_left, or_right, range_with_len, refl, slice_index, sym, true, true≢false, ℕ, ◌+◌, ◌<◌, ◌∙◌, ◌∷◌, ◌≡◌, ◌≤◌}
 use Rattle.std.proofs.lemmas.List.Folds.{list_any_at, list_any_none}
-use Rattle.std.proofs.lemmas.List.FromFn.{get_or-range_with_len, length-range_with_len, get_or-map-range_with_len, length-map-range_with_len}
-use Rattle.grid_core.specs.Candidates.{any_below, least_below}
-use Rattle.grid_core.proofs.CandidateLemmas.{any_below-some, any_below-none, count_below-pos, least_below-passes}
 use Rattle.grid_core.proofs.DifferentNumbers.{apart-le}
-use Rattle.engine_core.specs.RuleSystem.{has_place}
-use Rattle.engine_core.specs.PlaceLaws.{has_place-at, has_place-here, AreDistinct, distinct-from}
-use Rattle.engine_core.specs.HouseSets.{AreDifferent}
-use Rattle.fields_core.specs.Tents.{names_none_twice}
-use Rattle.std.proofs.lemmas.Grind.{common_steps}
 
 -- where a number stands in a list
 unfoldable pub index_of : List ℕ → ℕ → ℕ

@@ -1,17 +1,6 @@
 -- Which numbers of ones the fillings of a house's cells have, and what that says of a value of a cell.
-use Rattle.std.proofs.Common.{◌≡◌, ℕ, zero, suc, ◌+◌, ◌-◌, ◌<◌, ◌≤◌, max, Bool, true, false, not, true≢false, ◌&&◌, ◌||◌, eqb, List, [], ◌∷◌, length, get_or, slice_index, refl, sym, ◌∙◌, ap, arith, ◌⊎◌, inl, inr, le-leb, leb-true}
-use Rattle.std.specs.List.{count_by}
-use Rattle.std.proofs.Math.Bool.{and-true}
-use Rattle.std.proofs.lemmas.Bool.{cases_Bool, cases_eq, cases_lt, and_parts, and_from, eq-eqb, ne_eqb}
-use Rattle.grid_core.specs.Candidates.{Candidates}
-use Rattle.engine_core.specs.PlaceLaws.{has_place-here, distinct-from}
-use Rattle.engine_core.specs.Filling.{Fills, IsShown}
-use Rattle.engine_core.specs.FillingLaws.{Fills-cons, Fills-tail}
-use Rattle.engine_core.specs.HouseSets.{sets_at, AreDifferent}
-use Rattle.engine_core.specs.HouseSetsLaws.{length-sets_at, sets_at-value, sets_at-small}
-use Rattle.fields_core.specs.Count.{nonzeros, counts_between, is_open}
+use Rattle.fields_core.proofs.Common.{AreDifferent, Bool, Candidates, Fills, Fills-cons, Fills-tail, IsShown, List, [], and-true, and_from, and_parts, ap, arith, cases_Bool, cases_eq, cases_lt, common_steps, count_by, counts_between, distinct-from, eq-eqb, eqb, false, get_or, has_place-here, inl, inr, is_open, le-leb, leb-true, length, length-sets_at, max, ne_eqb, nonzeros, not, refl, sets_at, sets_at-small, sets_at-value, slice_index, suc, sym, true, true≢false, zero, ℕ, ◌&&◌, ◌+◌, ◌-◌, ◌<◌, ◌||◌, ◌∙◌, ◌∷◌, ◌≡◌, ◌≤◌, ◌⊎◌}
 use Rattle.fields_core.proofs.PlaceLists.{num, num-most, count-cons, count-at}
-use Rattle.std.proofs.lemmas.Grind.{common_steps}
 
 -- how many cells must hold a one, and how many may
 abbrev pub must_of : Candidates → List ℕ → ℕ

@@ -1,25 +1,8 @@
 -- What a visit of a count house leaves of its cells, by the tally of the house.
-use Rattle.std.proofs.Common.{◌≡◌, ℕ, zero, suc, ◌+◌, ◌*◌, ◌<◌, ◌≤◌, Bool, true, false, not, true≢false, ◌&&◌, ◌||◌, cond, eqb, ltb, length, slice_index, refl, sym, ◌∙◌, ap, arith, ◌⊎◌, inl, inr}
-use Rattle.std.proofs.Math.Bool.{and-true, and-false}
-use Rattle.std.proofs.lemmas.Bool.{cases_Bool, cases_eq, false_from_ne_true, and_parts, or_cases, or_parts, eqb-true, eq-eqb, ne_eqb, le-ltb, ltb-true, ltb-false}
-use Rattle.grid_core.specs.Candidates.{Candidates}
-use Rattle.engine_core.specs.RuleSystem.{has_place}
-use Rattle.engine_core.specs.PlaceLaws.{has_place-at, has_place-here}
-use Rattle.engine_core.specs.Sets.{has_bit, IsBitsOf}
-use Rattle.engine_core.specs.Filling.{IsShown, strikes_by_fillings}
-use Rattle.engine_core.specs.FillingLaws.{shown_from_test, test_from_shown}
-use Rattle.engine_core.specs.HouseSets.{sets_at}
-use Rattle.engine_core.specs.HouseSetsLaws.{strikes_at-place, strikes_at-in_scope}
-use Rattle.fields_core.specs.Count.{counts_between, is_open, is_empty}
-use Rattle.fields_core.specs.CountHouse.{CountHouse, IsHouse, after_house, strikes_of}
-use Rattle.fields_core.specs.CountLists.{bounds_of}
-use Rattle.fields_core.specs.Tallies.{IsTally, lacks_filling, has_strikes, stays, kept_of}
-use Rattle.fields_core.specs.declared.count.list.Bounds.{Bounds}
-use Rattle.fields_core.specs.declared.count.tally.Tally.{Tally}
+use Rattle.fields_core.proofs.Common.{Bool, Bounds, Candidates, CountHouse, IsBitsOf, IsHouse, IsShown, IsTally, Tally, after_house, and-false, and-true, and_parts, ap, arith, bounds_of, cases_Bool, cases_eq, common_steps, cond, counts_between, eq-eqb, eqb, eqb-true, false, false_from_ne_true, has_bit, has_place, has_place-at, has_place-here, has_strikes, inl, inr, is_empty, is_open, kept_of, lacks_filling, le-ltb, length, ltb, ltb-false, ltb-true, ne_eqb, not, or_cases, or_parts, refl, sets_at, shown_from_test, slice_index, stays, strikes_at-in_scope, strikes_at-place, strikes_by_fillings, strikes_of, suc, sym, test_from_shown, true, true≢false, zero, ℕ, ◌&&◌, ◌*◌, ◌+◌, ◌<◌, ◌||◌, ◌∙◌, ◌≡◌, ◌≤◌, ◌⊎◌}
 use Rattle.fields_core.proofs.BelowLemmas.{any-some}
 use Rattle.fields_core.proofs.PlaceLists.{num, count-some, some-counted}
 use Rattle.fields_core.proofs.CountBounds.{IsFull, filled-at, shown-bounds, bounds-shown, open-room}
-use Rattle.std.proofs.lemmas.Grind.{common_steps}
 
 -- ---- a cell that is empty
 not-empty : (K : Candidates) (c : ℕ) {v : ℕ} → v < 2 → K c v ≡ true → is_empty K c ≡ true → ⊥

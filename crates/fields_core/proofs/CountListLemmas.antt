@@ -1,19 +1,8 @@
 -- Lists of count houses, as they are made.
-use Rattle.std.proofs.Common.{◌≡◌, ℕ, zero, suc, ◌+◌, ◌<◌, ◌≤◌, cond, get_or, List, [], ◌∷◌, ◌++◌, length, map, Bool, true, false, refl, sym, ap, arith, add-one}
-use Rattle.std.proofs.lemmas.List.{get_or-map, append-nil, append_assoc, length-append, length-map, map-append}
-use Rattle.std.specs.List.{filter}
-use Rattle.grid_core.specs.Extent.{Extent}
-use Rattle.grid_core.specs.Regions.{steps}
-use Rattle.engine_core.specs.HouseList.{FitsLists, FitsPlaces}
-use Rattle.fields_core.specs.CountHouse.{CountHouse, AreHouses, count_house_of, houses_below, no_count_house}
-use Rattle.fields_core.specs.CountLaws.{places-at}
-use Rattle.fields_core.specs.CountLists.{house_places, bounds_of, AreListed, IsBegun, IsAdded}
+use Rattle.fields_core.proofs.Common.{AreHouses, AreListed, Bool, Bounds, CountHouse, CountList, Extent, FitsLists, FitsPlaces, IsAdded, IsBegun, List, [], add-one, ap, append-nil, append_assoc, arith, bounds_of, common_steps, cond, count_house_of, false, filter, get_or, get_or-map, house_places, houses_below, length, length-append, length-map, map, map-append, no_count_house, places-at, refl, steps, suc, sym, true, zero, ℕ, ◌++◌, ◌+◌, ◌<◌, ◌∷◌, ◌≡◌, ◌≤◌}
 use Rattle.fields_core.proofs.CountTallies.{AreCounted}
 use Rattle.fields_core.proofs.PlaceLists.{filter-few}
 use Rattle.fields_core.proofs.StepLaws.{steps-few}
-use Rattle.fields_core.specs.declared.count.list.Bounds.{Bounds}
-use Rattle.fields_core.specs.declared.count.list.CountList.{CountList}
-use Rattle.std.proofs.lemmas.Grind.{common_steps}
 
 -- ---- the cells of a house that is begun
 pub begun-none : (list : CountList) → IsBegun list list []

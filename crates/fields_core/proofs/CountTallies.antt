@@ -1,23 +1,5 @@
 -- What is counted of the cells of count houses.
-use Rattle.std.proofs.lemmas.Grind.{common_steps}
-use Rattle.std.proofs.Common.{◌≡◌, ℕ, ◌+◌, ◌-◌, ◌<◌, ◌≤◌, Bool, true, false, not, ◌&&◌, eqb, cond, List, suc, [], ◌∷◌, length, slice_index, set, take, refl, sym, ◌∙◌, ap, ap₂, subst, inl, inr, arith}
-use Rattle.std.specs.List.{count_by}
-use Rattle.std.proofs.lemmas.Bool.{cases_Bool, cases_eq, true≢false}
-use Rattle.std.proofs.Math.Path.{fun_ext}
-use Rattle.std.proofs.lemmas.List.{length-set, take_all, get_or-set_same, get_or-set_other}
-use Rattle.std.proofs.lemmas.List.Sums.{sum_by_more, count_by-le-length}
-use Rattle.grid_core.specs.Candidates.{Candidates, count_below}
-use Rattle.engine_core.specs.RuleSystem.{has_place}
-use Rattle.engine_core.specs.PlaceLaws.{AreDistinct, distinct-from}
-use Rattle.engine_core.specs.HouseIndex.{scope_of, number_at, AreHousesAt}
-use Rattle.engine_core.proofs.IndexLemmas.{counted, numbered}
-use Rattle.engine_core.specs.Sets.{has_bit, IsBitsOf, IsChange}
-use Rattle.fields_core.specs.Count.{is_empty}
-use Rattle.fields_core.specs.CountHouse.{CountHouse, IsHouse, count_house_of, strikes_of}
-use Rattle.fields_core.specs.Tallies.{IsTally, tally_of, tally_of_one, has_strikes, moved_tally, CanMove, tally_at, AreTallied}
-use Rattle.fields_core.specs.CountLists.{bounds_of}
-use Rattle.fields_core.specs.declared.count.list.Bounds.{Bounds}
-use Rattle.fields_core.specs.declared.count.tally.Tally.{Tally}
+use Rattle.fields_core.proofs.Common.{AreDistinct, AreHousesAt, AreTallied, Bool, Bounds, CanMove, Candidates, CountHouse, IsBitsOf, IsChange, IsHouse, IsTally, List, Tally, [], ap, ap₂, arith, bounds_of, cases_Bool, cases_eq, common_steps, cond, count_by, count_by-le-length, count_house_of, counted, distinct-from, eqb, false, get_or-set_other, get_or-set_same, has_bit, has_place, has_strikes, inl, inr, is_empty, length, length-set, moved_tally, not, number_at, numbered, refl, scope_of, set, slice_index, strikes_of, subst, suc, sum_by_more, sym, take, take_all, tally_at, tally_of, tally_of_one, true, true≢false, ℕ, ◌&&◌, ◌+◌, ◌-◌, ◌<◌, ◌∙◌, ◌∷◌, ◌≡◌, ◌≤◌}
 use Rattle.fields_core.proofs.PlaceLists.{num, count-cons, count-off, count-at, count-there}
 use Rattle.fields_core.proofs.CountKept.{idle-at}
 

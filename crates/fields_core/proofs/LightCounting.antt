@@ -1,30 +1,12 @@
 -- The count houses of Light Up keep to what every rule set of count houses keeps to.
-use Rattle.engine_core.specs.RuleSystem.{IsLawful}
-use Rattle.fields_core.specs.CountLaws.{count-lawful}
-use Rattle.std.proofs.Common.{◌≡◌, ℕ, zero, suc, ◌+◌, ◌*◌, ◌/◌, ◌%◌, ◌<◌, ◌≤◌, true, not, ◌&&◌, ◌||◌, eqb, List, [], ◌∷◌, ◌++◌, length, get_or, slice_index, refl, sym, ap, ◌∙◌, inl, inr, arith}
-use Rattle.std.specs.List.{filter, AllByRecursion}
-use Rattle.std.proofs.lemmas.Bool.{cases_eq, or_left, or_right, or_cases, and_from, and_parts, true≢false, eqb-true, eq-eqb, ne_eqb, not-true}
-use Rattle.std.proofs.lemmas.List.{length-append}
-use Rattle.std.proofs.lemmas.List.Sums.{count_by-le-length}
-use Rattle.std.proofs.Math.Nat.{mul-le-mul_right}
-use Rattle.grid_core.specs.Grids.{IsGrid}
-use Rattle.grid_core.specs.Regions.{row_places, column_places, steps}
-use Rattle.grid_core.proofs.CandidateLemmas.{all_below-at, any_below-here, any_below-some}
-use Rattle.engine_core.specs.RuleSystem.{has_place}
-use Rattle.engine_core.specs.PlaceLaws.{has_place-here, AreDistinct, place-filter, place-kept, place-append, place-front, place-back, distinct-filter, distinct-append}
-use Rattle.gameid_core.specs.Puzzles.{Light, IsLight, IsLightCell}
-use Rattle.gameid_core.specs.declared.light_up.cell.LightCell.{LightCell}
-use Rattle.gameid_core.specs.declared.light_up.cell.LightCell.TheVariants.{White, Black, Numbered}
-use Rattle.fields_core.specs.CountHouse.{exactly, one_at_most, one_at_least, IsCounting}
-use Rattle.fields_core.specs.Light.{light_cells, white, bulb, joined_in_row, joined_in_column, sees, sees_bulb, bulbs_beside, black_right, number_right, bulb_right, lit_right, solves_lights}
-use Rattle.fields_core.specs.LightHouses.{light_rules, row_run, column_run, seen_from, begins_row_run, begins_column_run, numbered, number_house, row_house, column_house, lit_house, light_houses}
+use Rattle.fields_core.proofs.Common.{AllByRecursion, AreDistinct, Black, IsCounting, IsGrid, IsLawful, IsLight, IsLightCell, Light, LightCell, List, Numbered, White, [], all_below-at, and_from, and_parts, any_below-here, any_below-some, ap, arith, begins_column_run, begins_row_run, black_right, bulb, bulb_right, bulbs_beside, cases_eq, column_house, column_places, column_run, common_steps, count-lawful, count_by-le-length, distinct-append, distinct-filter, eq-eqb, eqb, eqb-true, exactly, filter, get_or, has_place, has_place-here, inl, inr, joined_in_column, joined_in_row, length, length-append, light_cells, light_houses, light_rules, lit_house, lit_right, mul-le-mul_right, ne_eqb, not, not-true, number_house, number_right, one_at_least, one_at_most, or_cases, or_left, or_right, place-append, place-back, place-filter, place-front, place-kept, refl, row_house, row_places, row_run, seen_from, sees, sees_bulb, slice_index, solves_lights, steps, suc, sym, true, true≢false, white, zero, ℕ, ◌%◌, ◌&&◌, ◌*◌, ◌++◌, ◌+◌, ◌/◌, ◌<◌, ◌||◌, ◌∙◌, ◌∷◌, ◌≡◌, ◌≤◌}
+use Rattle.fields_core.specs.LightHouses.{numbered}
 use Rattle.fields_core.proofs.LightFaultLemmas.{lit-parts}
 use Rattle.fields_core.proofs.LightSight.{bulb-in, row-of, column-of}
 use Rattle.fields_core.proofs.HouseLists.{row-long, column-long}
 use Rattle.fields_core.proofs.PlaceLists.{count-some, count-one, count-filter, filter-few}
 use Rattle.fields_core.proofs.StepLaws.{steps-distinct, steps-few}
 use Rattle.fields_core.proofs.LightHouseLaws.{IsMet, met-from, EachOf, each-none, each-one, each-append, each-below, each-if, row-both, column-both, row-white-end, column-white-end, row-self, white-in, row-distinct, column-distinct, row-parts, column-parts}
-use Rattle.std.proofs.lemmas.Grind.{common_steps}
 
 -- what is used of a puzzle
 pub record IsBoard (p : Light) : Type 0 where

@@ -1,25 +1,8 @@
 -- The houses of Light Up are houses, and each solution meets them.
-use Rattle.std.proofs.Common.{◌≡◌, ℕ, zero, suc, ◌+◌, ◌-◌, ◌*◌, ◌/◌, ◌%◌, ◌<◌, ◌≤◌, min, max, Bool, true, false, not, ◌||◌, eqb, ltb, cond, List, [], ◌∷◌, ◌++◌, length, slice_index, refl, sym, ap, ◌∙◌, inl, inr, arith, le-leb}
-use Rattle.std.proofs.lemmas.Bool.{cases_Bool, cases_lt, cases_eq, or_left, or_right, or_cases, or_parts, and_from, and_parts, false_from_ne_true, eqb-true, eq-eqb, lt-ltb, ltb-true, true≢false}
-use Rattle.std.specs.List.{filter, count_by}
-use Rattle.std.proofs.lemmas.List.{get_or_past}
-use Rattle.std.proofs.lemmas.List.Elements.{filter_agree}
-use Rattle.std.proofs.Math.Nat.{div-eq_of_lt, mul-le-mul_right}
-use Rattle.grid_core.specs.Extent.{Extent}
-use Rattle.grid_core.specs.Regions.{row_places, column_places}
-use Rattle.grid_core.proofs.RegionLemmas.{row-at, column-at}
-use Rattle.grid_core.proofs.CandidateLemmas.{all_below-at, all_below-from}
-use Rattle.gameid_core.specs.Puzzles.{Light}
-use Rattle.engine_core.specs.RuleSystem.{has_place}
-use Rattle.engine_core.specs.PlaceLaws.{AreDistinct, distinct-from, different-from}
-use Rattle.grid_core.specs.Grids.{IsGrid}
-use Rattle.fields_core.specs.CountHouse.{CountHouse, count_house_of, houses_below, meets, IsHouse}
-use Rattle.fields_core.specs.Light.{light_cells, white, bulb, clear, joined_in_row, joined_in_column}
-use Rattle.fields_core.specs.LightHouses.{row_run, column_run, begins_row_run, begins_column_run}
+use Rattle.fields_core.proofs.Common.{AreDistinct, Bool, CountHouse, Extent, IsGrid, IsHouse, Light, List, [], all_below-at, all_below-from, and_from, and_parts, ap, arith, begins_column_run, begins_row_run, bulb, cases_Bool, cases_eq, cases_lt, clear, column-at, column_places, column_run, common_steps, cond, count_by, count_house_of, different-from, distinct-from, div-eq_of_lt, eq-eqb, eqb, eqb-true, false, false_from_ne_true, filter, filter_agree, get_or_past, has_place, houses_below, inl, inr, joined_in_column, joined_in_row, le-leb, length, light_cells, lt-ltb, ltb, ltb-true, max, meets, min, mul-le-mul_right, not, or_cases, or_left, or_parts, or_right, refl, row-at, row_places, row_run, slice_index, suc, sym, true, true≢false, white, zero, ℕ, ◌%◌, ◌*◌, ◌++◌, ◌+◌, ◌-◌, ◌/◌, ◌<◌, ◌||◌, ◌∙◌, ◌∷◌, ◌≡◌, ◌≤◌}
 use Rattle.fields_core.proofs.HouseLists.{row-long, column-long}
 use Rattle.fields_core.proofs.TentBeside.{cell-below, cell-parts, whole-cell}
 use Rattle.fields_core.proofs.PlaceLists.{ones-bulbs}
-use Rattle.std.proofs.lemmas.Grind.{common_steps}
 
 -- ---- what holds of each house of a list
 abbrev pub EachOf : (CountHouse → Type 0) → List CountHouse → Type 0

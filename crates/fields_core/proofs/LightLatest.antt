@@ -1,18 +1,6 @@
 -- Where the houses of runs stand in a list of houses, and which of them a walk over the cells has come to.
-use Rattle.std.proofs.Common.{◌≡◌, ℕ, zero, suc, ◌+◌, ◌%◌, ◌<◌, ◌≤◌, Bool, true, false, not, eqb, cond, List, [], ◌∷◌, ◌++◌, length, get_or, map, set, slice_index, refl, sym, ap, subst, ◌∙◌, inl, inr, arith}
-use Rattle.std.proofs.lemmas.Bool.{cases_lt}
-use Rattle.std.proofs.lemmas.List.{length-append, length-map, map-append, append_assoc, get_or_append_left, get_or-append-add, get_or-set_other, get_or-set_same}
+use Rattle.fields_core.proofs.Common.{AreColumnsListed, AreRowsListed, AreRunsListed, Bool, CountHouse, CountList, IsAdded, IsColumnsAt, IsListAt, IsRowsAt, Light, List, [], ap, append_assoc, arith, begins_column_run, begins_row_run, cases_lt, column_house, column_run, common_steps, cond, eqb, false, filter, get_or, get_or-append-add, get_or-set_other, get_or-set_same, get_or_append_left, house_places, houses_below, inl, inr, length, length-append, length-map, light_cells, lit_house, map, map-append, mod-lt, mul-le-mul_right, not, one_at_least, one_at_most, refl, row_house, row_run, seen_from, set, slice_index, subst, suc, sym, true, white, zero, ℕ, ◌%◌, ◌++◌, ◌+◌, ◌<◌, ◌∙◌, ◌∷◌, ◌≡◌, ◌≤◌}
 use Rattle.std.proofs.Math.ListN.{length-set}
-use Rattle.std.specs.List.{filter}
-use Rattle.std.proofs.Math.Nat.{mod-lt, mul-le-mul_right}
-use Rattle.gameid_core.specs.Puzzles.{Light}
-use Rattle.std.proofs.lemmas.Grind.{common_steps}
-use Rattle.fields_core.specs.CountHouse.{CountHouse, houses_below, one_at_least, one_at_most}
-use Rattle.fields_core.specs.CountLists.{house_places, IsAdded}
-use Rattle.fields_core.specs.declared.count.list.CountList.{CountList}
-use Rattle.fields_core.specs.Light.{light_cells, white}
-use Rattle.fields_core.specs.LightHouses.{row_run, column_run, seen_from, begins_row_run, begins_column_run, row_house, column_house, lit_house}
-use Rattle.fields_core.specs.LightRuns.{IsListAt, AreRunsListed, AreRowsListed, AreColumnsListed, IsRowsAt, IsColumnsAt}
 use Rattle.fields_core.proofs.CountListLemmas.{added-none, below-few, below-more, if-few}
 use Rattle.fields_core.proofs.LightHouseLaws.{column-run-on, row-run-on}
 use Rattle.fields_core.proofs.TentBeside.{cell-below, whole-cell}

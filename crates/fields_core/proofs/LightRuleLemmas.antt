@@ -1,25 +1,11 @@
 -- In Light Up the test of a solution is the rule.
-use Rattle.std.proofs.Common.{◌≡◌, ℕ, ◌+◌, ◌*◌, ◌/◌, ◌%◌, ◌<◌, ◌≤◌, min, max, Bool, true, false, not, ◌&&◌, ◌||◌, eqb, List, [], ◌∷◌, get_or, slice_index, Option, is_some, refl, sym, ◌∙◌, inl, inr, arith}
-use Rattle.std.specs.List.{AllByRecursion}
-use Rattle.std.proofs.lemmas.Bool.{cases_lt, or_left, or_right, or_cases, or_parts, and_from, and_parts, true≢false, not-false, ne_eqb, eqb-true, eq-eqb, not-true, cases_eq}
-use Rattle.std.proofs.lemmas.Nat.{div-mul-add, mod-mul-add, le-div}
-use Rattle.std.proofs.Math.Nat.{mul-le-mul_right, mod-lt, div-mul-le_self}
-use Rattle.grid_core.specs.Grids.{IsGrid}
-use Rattle.grid_core.proofs.CandidateLemmas.{all_below-at, all_below-from, any_below-here, any_below-some}
-use Rattle.gameid_core.specs.Puzzles.{Light}
-use Rattle.gameid_core.specs.declared.light_up.cell.LightCell.{LightCell}
-use Rattle.gameid_core.specs.declared.light_up.cell.LightCell.TheVariants.{White, Black, Numbered}
-use Rattle.fields_core.specs.Light.{light_cells, white, bulb, bulbs_beside, number_is, joined_in_row, joined_in_column, sees, sees_bulb, black_right, number_right, bulb_right, lit_right, solves_lights}
+use Rattle.fields_core.proofs.Common.{AllByRecursion, AreRight, Black, Bool, FailsLight, IsGrid, IsKnown, IsLightFault, IsMade, Kind, Light, LightCell, List, NoneFails, Numbered, Option, White, [], all_below-at, all_below-from, and_from, and_parts, any_below-here, any_below-some, arith, black_right, bulb, bulb_right, bulbs_beside, cases_eq, cases_lt, common_steps, div-mul-add, div-mul-le_self, eq-eqb, eqb, eqb-true, false, get_or, inl, inr, is_some, joined_in_column, joined_in_row, known_tests, le-div, light_cells, light_tests, lit_right, max, min, mod-lt, mod-mul-add, mul-le-mul_right, ne_eqb, none_held, none_tells, not, not-false, not-true, number_is, number_right, or_cases, or_left, or_parts, or_right, refl, right_none, sees, sees_bulb, slice_index, solves_lights, sym, true, true≢false, white, ℕ, ◌%◌, ◌&&◌, ◌*◌, ◌+◌, ◌/◌, ◌<◌, ◌||◌, ◌∙◌, ◌∷◌, ◌≡◌, ◌≤◌}
 use Rattle.fields_core.specs.LightSolutions.{light_row, light_column, IsFromTo, AreJoined, Sees, SeesBulb, IsLightSolution}
-use Rattle.gameid_core.specs.FirstFailed.{NoneFails}
-use Rattle.gameid_core.proofs.FirstFailed.{AreRight, IsKnown, IsMade, Kind, known_tests, none_held, none_tells, right_none}
-use Rattle.fields_core.specs.LightFaults.{FailsLight, IsLightFault, light_tests}
 use Rattle.fields_core.specs.declared.light_up.fault.LightFault.{LightFault}
 use Rattle.fields_core.specs.declared.light_up.fault.LightFault.TheVariants as fault
 use Rattle.fields_core.proofs.LightFaultLemmas.{lit-from, lit-parts}
 use Rattle.fields_core.proofs.LightHouseLaws.{clear-at, clear-from, row-parts, column-parts}
 use Rattle.fields_core.proofs.LightSight.{some-column}
-use Rattle.std.proofs.lemmas.Grind.{common_steps}
 
 -- ---- who sees whom
 div-under : {a b w : ℕ} → 0 < w → a ≤ b → a / w ≤ b / w

@@ -1,13 +1,5 @@
 -- A cell sees a bulb exactly if a walk from it along its row or its column comes to one before a black cell.
-use Rattle.std.proofs.Common.{◌≡◌, ◌≢◌, ◌⊎◌, ℕ, ◌+◌, ◌-◌, ◌*◌, ◌/◌, ◌%◌, ◌<◌, ◌≤◌, Bool, true, false, not, ◌&&◌, ◌||◌, eqb, List, slice_index, sym, ap, ◌∙◌, inl, inr, arith}
-use Rattle.std.proofs.lemmas.Bool.{cases_lt, or_left, or_right, or_cases, and_from, and_parts, eq-eqb, ne_eqb, not-true, true≢false, false_from_ne_true}
-use Rattle.std.proofs.Math.Nat.{mod-lt}
-use Rattle.std.proofs.lemmas.Nat.{mul-add-lt}
-use Rattle.grid_core.proofs.CandidateLemmas.{any_below-here, any_below-some}
-use Rattle.gameid_core.specs.Puzzles.{Light}
-use Rattle.std.proofs.lemmas.Grind.{common_steps}
-use Rattle.fields_core.specs.Light.{light_cells, white, bulb, clear, joined_in_row, joined_in_column, sees, sees_bulb}
-use Rattle.fields_core.specs.Runs.{Shines, ShinesAlong, SeesAlong}
+use Rattle.fields_core.proofs.Common.{Bool, Light, List, SeesAlong, Shines, ShinesAlong, and_from, and_parts, any_below-here, any_below-some, ap, arith, bulb, cases_lt, clear, common_steps, eq-eqb, eqb, false, false_from_ne_true, inl, inr, joined_in_column, joined_in_row, light_cells, mod-lt, mul-add-lt, ne_eqb, not, not-true, or_cases, or_left, or_right, sees, sees_bulb, slice_index, sym, true, true≢false, white, ℕ, ◌%◌, ◌&&◌, ◌*◌, ◌+◌, ◌-◌, ◌/◌, ◌<◌, ◌||◌, ◌∙◌, ◌≡◌, ◌≢◌, ◌≤◌, ◌⊎◌}
 use Rattle.fields_core.proofs.LightHouseLaws.{clear-at, clear-from, mul-inj, row-parts, column-parts}
 use Rattle.fields_core.proofs.RunLemmas.{clear-same, row-cell-joined, column-cell-joined}
 use Rattle.fields_core.proofs.TentBeside.{row-in}

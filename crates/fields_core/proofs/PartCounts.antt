@@ -1,20 +1,8 @@
 -- How many cells of a grid lie in pieces of lines.
-use Rattle.std.proofs.Common.{◌≡◌, ◌≢◌, ◌∙◌, ℕ, zero, suc, ◌+◌, ◌*◌, ◌/◌, ◌%◌, ◌<◌, ◌≤◌, Bool, true, false, cond, ◌&&◌, ◌||◌, eqb, ltb, List, [], ◌∷◌, refl, sym, ap, inl, inr, ◌⊎◌, arith}
-use Rattle.std.specs.List.{count_by}
-use Rattle.std.proofs.lemmas.Bool.{cases_Bool, cases_eq, cases_lt, eq-eqb, ne_eqb, eqb-true, true≢false, false_from_ne_true, lt-ltb, le-ltb}
-use Rattle.std.proofs.lemmas.Grind.{common_steps}
-use Rattle.std.proofs.lemmas.List.Sums.{sum_by-cons}
-use Rattle.std.proofs.lemmas.Nat.{div-mul-add}
-use Rattle.grid_core.specs.Candidates.{count_below}
-use Rattle.grid_core.specs.Extent.{Extent}
-use Rattle.grid_core.specs.Planes.{Layers, has, at_line, crosses, lines_beside, line_len, number_of}
-use Rattle.grid_core.specs.Words.{has_bit}
+use Rattle.fields_core.proofs.Common.{AreDistinct, Bool, Extent, Layers, List, [], ap, arith, at_line, cases_Bool, cases_eq, cases_lt, common_steps, cond, count_below, count_below-none, count_below-same, count_by, crosses, div-mul-add, eq-eqb, eqb, eqb-true, false, false_from_ne_true, has_bit, has_place, inl, inr, le-ltb, line_len, lines_beside, lt-ltb, ltb, ne_eqb, number_of, place-column, refl, suc, sum_by-cons, sym, true, true≢false, zero, ℕ, ◌%◌, ◌&&◌, ◌*◌, ◌+◌, ◌/◌, ◌<◌, ◌||◌, ◌∙◌, ◌∷◌, ◌≡◌, ◌≢◌, ◌≤◌, ◌⊎◌}
+use Rattle.grid_core.specs.Planes.{has}
 use Rattle.grid_core.specs.declared.planes.line.Line.{Line}
 use Rattle.grid_core.specs.declared.planes.line.Line.TheVariants.{Row, Column}
-use Rattle.grid_core.proofs.CandidateLemmas.{count_below-none, count_below-same}
-use Rattle.grid_core.proofs.PlaneLemmas.{place-column}
-use Rattle.engine_core.specs.RuleSystem.{has_place}
-use Rattle.engine_core.specs.PlaceLaws.{AreDistinct}
 
 -- ---- counts in two steps
 count-add : (p : ℕ → Bool) (m n : ℕ) → count_below p (m + n) ≡ count_below p m + count_below (λ k. p (m + k)) n

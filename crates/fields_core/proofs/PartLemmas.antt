@@ -1,22 +1,6 @@
 -- Visits of count houses by pieces of lines.
-use Rattle.std.proofs.Common.{◌≡◌, ◌≢◌, ◌∙◌, ℕ, zero, suc, ◌+◌, ◌-◌, ◌/◌, ◌%◌, ◌<◌, ◌≤◌, Bool, true, false, not, ◌&&◌, ◌||◌, eqb, ltb, List, length, slice_index, subst, refl, sym, ap, add-one, inl, inr, ◌⊎◌, arith}
-use Rattle.std.specs.List.{count_by}
-use Rattle.std.proofs.Math.Path.{fun_ext}
-use Rattle.std.proofs.Math.Bool.{and_comm, and-true, and-false}
-use Rattle.std.proofs.lemmas.Bool.{cases_Bool, cases_eq, and_parts, and_from, eq-eqb, ne_eqb, true≢false, false_from_ne_true, lt-ltb, le-ltb, ltb-true}
-use Rattle.std.proofs.lemmas.Grind.{common_steps}
-use Rattle.grid_core.specs.Candidates.{Candidates, any_below, count_below}
-use Rattle.grid_core.specs.Extent.{Extent}
-use Rattle.grid_core.specs.Planes.{Layers, has, cells_of, at_line, crosses, covers, without_taking, line_len, lines_beside, number_of}
-use Rattle.grid_core.specs.Words.{has_bit}
-use Rattle.grid_core.proofs.CandidateLemmas.{any_below-some, count_below-bound, count_below-none, count_below-pos, count_below-same}
-use Rattle.engine_core.specs.RuleSystem.{has_place}
-use Rattle.engine_core.specs.PlaceLaws.{has_place-at, distinct-from}
-use Rattle.engine_core.specs.HouseSetsLaws.{strikes_at-in_scope}
-use Rattle.fields_core.specs.Count.{is_open, is_empty}
-use Rattle.fields_core.specs.CountHouse.{CountHouse, after_house, strikes_of}
-use Rattle.fields_core.specs.Parts.{Piece, piece_at, lies_in, lies_in_first, ArePieces, IsCount, IsCounted, IsHouseOf, IsAlive, IsBroken, without_value}
-use Rattle.fields_core.specs.Tallies.{IsTally}
+use Rattle.fields_core.proofs.Common.{ArePieces, Bool, Candidates, CountHouse, Extent, IsAlive, IsBroken, IsCount, IsCounted, IsHouseOf, IsTally, Layers, List, Piece, add-one, after_house, and-false, and-true, and_comm, and_from, and_parts, any_below, any_below-some, ap, arith, at_line, cases_Bool, cases_eq, cells_of, common_steps, count_below, count_below-bound, count_below-none, count_below-pos, count_below-same, count_by, covers, crosses, distinct-from, eq-eqb, eqb, false, false_from_ne_true, fun_ext, has_bit, has_place, has_place-at, inl, inr, is_empty, is_open, le-ltb, length, lies_in, lies_in_first, line_len, lines_beside, lt-ltb, ltb, ltb-true, ne_eqb, not, number_of, piece_at, refl, slice_index, strikes_at-in_scope, strikes_of, subst, suc, sym, true, true≢false, without_taking, without_value, zero, ℕ, ◌%◌, ◌&&◌, ◌+◌, ◌-◌, ◌/◌, ◌<◌, ◌||◌, ◌∙◌, ◌≡◌, ◌≢◌, ◌≤◌, ◌⊎◌}
+use Rattle.grid_core.specs.Planes.{has}
 use Rattle.fields_core.proofs.CountKept.{after-at}
 use Rattle.fields_core.proofs.PartCounts.{count-apart, line-count, crosses-both, place-count}
 

@@ -1,14 +1,6 @@
 -- Lists of different places, and how many of them pass a test.
-use Rattle.std.proofs.Common.{◌≡◌, ℕ, ◌+◌, ◌<◌, ◌≤◌, Bool, true, false, ◌||◌, eqb, ltb, cond, List, [], ◌∷◌, length, slice_index, map, refl, sym, ap, ◌∙◌, inl, inr, arith}
-use Rattle.std.specs.List.{filter, count_by, list_any}
-use Rattle.std.proofs.lemmas.Bool.{cases_Bool, cases_eq, cases_lt, lt-ltb, ltb-true, ltb-false, or_parts, false≢true, eqb-false, ne_eqb}
-use Rattle.std.proofs.lemmas.List.Sums.{sum_by-cons, count_by-le-length, length-filter}
-use Rattle.engine_core.specs.RuleSystem.{has_place}
-use Rattle.engine_core.specs.PlaceLaws.{has_place-here, AreDistinct, different-from, place-filter, distinct-filter}
-use Rattle.fields_core.specs.Count.{nonzeros}
-use Rattle.fields_core.specs.Light.{bulb}
+use Rattle.fields_core.proofs.Common.{AreDistinct, Bool, List, [], ap, arith, bulb, cases_Bool, cases_eq, cases_lt, common_steps, cond, count_by, count_by-le-length, different-from, distinct-filter, eqb, eqb-false, false, false≢true, filter, has_place, has_place-here, inl, inr, length, length-filter, list_any, lt-ltb, ltb, ltb-false, ltb-true, map, ne_eqb, nonzeros, or_parts, place-filter, refl, slice_index, sum_by-cons, sym, true, ℕ, ◌+◌, ◌<◌, ◌||◌, ◌∙◌, ◌∷◌, ◌≡◌, ◌≤◌}
 use Rattle.fields_core.proofs.BelowLemmas.{any-here, any-none}
-use Rattle.std.proofs.lemmas.Grind.{common_steps}
 
 pub filter-few : (test : ℕ → Bool) (xs : List ℕ) → length (filter test xs) ≤ length xs
 filter-few test xs = omega (arith, length-filter test xs, count_by-le-length test xs)

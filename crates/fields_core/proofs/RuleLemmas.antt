@@ -1,12 +1,5 @@
 -- The board that a search of count houses starts from.
-use Rattle.std.proofs.Common.{◌≡◌, ℕ, ◌+◌, ◌≤◌, Bool, true, not, ◌&&◌, eqb, ltb, sym, ap, ◌∙◌, arith}
-use Rattle.std.proofs.Math.Path.{fun_ext}
-use Rattle.std.proofs.Math.Bool.{and-true, or-true, or-false}
-use Rattle.std.proofs.lemmas.Bool.{cases_eq, cases_lt, lt-ltb, le-ltb, ne_eqb, eq-eqb}
-use Rattle.grid_core.specs.Candidates.{Candidates, all_of, without}
-use Rattle.grid_core.specs.Board.{Layout, SameShape}
-use Rattle.fields_core.specs.CountHouse.{start_of}
-use Rattle.std.proofs.lemmas.Grind.{common_steps}
+use Rattle.fields_core.proofs.Common.{Bool, Candidates, Layout, SameShape, all_of, and-true, ap, arith, cases_eq, cases_lt, common_steps, eq-eqb, eqb, fun_ext, le-ltb, lt-ltb, ltb, ne_eqb, not, or-false, or-true, start_of, sym, true, without, ℕ, ◌&&◌, ◌+◌, ◌∙◌, ◌≡◌, ◌≤◌}
 
 -- ---- the start, with the cells below a place blocked
 pub record IsStarted (cells : ℕ) (blocked : ℕ → Bool) (n : ℕ) (K : Candidates) : Type 0 where

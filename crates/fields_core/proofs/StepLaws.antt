@@ -1,13 +1,5 @@
 -- The cells beside a cell are different.
-use Rattle.std.proofs.Common.{◌≡◌, ℕ, zero, suc, ◌+◌, ◌-◌, ◌*◌, ◌/◌, ◌%◌, ◌<◌, ◌≤◌, Bool, true, false, leb, cond, length, Option, Some, None, refl, sym, inl, inr, arith}
-use Rattle.std.proofs.lemmas.Bool.{true≢false, eqb-true, leb-true, ltb-true, or_cases}
-use Rattle.std.proofs.lemmas.List.{length-append}
-use Rattle.std.proofs.Math.Nat.{mod-lt, mul-le-mul_right}
-use Rattle.grid_core.specs.Extent.{Extent}
-use Rattle.grid_core.specs.Regions.{steps, step, if_there}
-use Rattle.engine_core.specs.RuleSystem.{has_place}
-use Rattle.engine_core.specs.PlaceLaws.{AreDistinct, place-append, distinct-append}
-use Rattle.std.proofs.lemmas.Grind.{common_steps}
+use Rattle.fields_core.proofs.Common.{AreDistinct, Bool, Extent, None, Option, Some, arith, common_steps, cond, distinct-append, eqb-true, false, has_place, if_there, inl, inr, leb, leb-true, length, length-append, ltb-true, mod-lt, mul-le-mul_right, or_cases, place-append, refl, step, steps, suc, sym, true, true≢false, zero, ℕ, ◌%◌, ◌*◌, ◌+◌, ◌-◌, ◌/◌, ◌<◌, ◌≡◌, ◌≤◌}
 
 pub some-inj : {x y : ℕ} → Some x ≡ Some y → x ≡ y
 some-inj {x} {y} e = cc

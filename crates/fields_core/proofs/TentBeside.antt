@@ -1,14 +1,6 @@
 -- Cells beside each other: each is beside the other, and they lie in the grid.
-use Rattle.std.proofs.Common.{◌≡◌, ℕ, zero, suc, ◌+◌, ◌-◌, ◌*◌, ◌/◌, ◌%◌, ◌<◌, ◌≤◌, true, false, leb, ltb, eqb, Some, refl, sym, ap, ◌∙◌, inl, inr, arith, le-leb}
-use Rattle.std.proofs.lemmas.Bool.{cond-true, lt-ltb, or_left, eq-eqb, cases_eq}
-use Rattle.std.proofs.lemmas.Nat.{div-mul-add}
-use Rattle.std.proofs.Math.Nat.{mod-lt, div-lt_iff_lt-mul, mul-le-mul_right}
-use Rattle.grid_core.specs.Extent.{Extent}
-use Rattle.grid_core.specs.Regions.{steps, step, if_there}
-use Rattle.engine_core.specs.RuleSystem.{has_place}
-use Rattle.engine_core.specs.PlaceLaws.{place-front, place-back}
+use Rattle.fields_core.proofs.Common.{Extent, Some, ap, arith, cases_eq, common_steps, cond-true, div-lt_iff_lt-mul, div-mul-add, eq-eqb, eqb, false, has_place, if_there, inl, inr, le-leb, leb, lt-ltb, ltb, mod-lt, mul-le-mul_right, or_left, place-back, place-front, refl, step, steps, suc, sym, true, zero, ℕ, ◌%◌, ◌*◌, ◌+◌, ◌-◌, ◌/◌, ◌<◌, ◌∙◌, ◌≡◌, ◌≤◌}
 use Rattle.fields_core.proofs.StepLaws.{step-up, step-left, step-right, step-down, steps-some}
-use Rattle.std.proofs.lemmas.Grind.{common_steps}
 
 -- the row and the column of a cell
 pub cell-parts : (w q r d : ℕ) → r < w → d ≡ q * w + r → (d / w ≡ q) × (d % w ≡ r)

@@ -1,35 +1,12 @@
 -- The count houses of Tents keep to what every rule set of count houses keeps to.
-use Rattle.engine_core.specs.RuleSystem.{IsLawful}
-use Rattle.fields_core.specs.CountLaws.{count-lawful}
-use Rattle.std.proofs.Common.{◌≡◌, ℕ, zero, suc, ◌+◌, ◌*◌, ◌/◌, ◌%◌, ◌<◌, ◌≤◌, true, not, ◌&&◌, ◌||◌, eqb, ltb, List, [], ◌∷◌, length, get_or, slice_index, map, sym, ap, ◌∙◌, inl, inr, arith, le-leb}
-use Rattle.std.specs.List.{filter, range_with_len, list_any}
-use Rattle.std.proofs.lemmas.Bool.{cases_eq, cases_lt, or_cases, and_from, and_parts, true≢false, false_from_ne_true, eqb-true, eq-eqb, ne_eqb, not-true, ltb-true}
-use Rattle.std.proofs.lemmas.List.{get_or_past, length-map, get_or-map}
-use Rattle.std.proofs.lemmas.List.FromFn.{get_or-map-range_with_len, length-map-range_with_len, get_or-range_with_len, length-range_with_len}
-use Rattle.std.proofs.lemmas.List.Sums.{count_by-le-length}
-use Rattle.std.proofs.Math.Nat.{mul-le-mul_right}
-use Rattle.grid_core.specs.Extent.{Extent}
-use Rattle.grid_core.specs.Grids.{IsGrid}
-use Rattle.grid_core.specs.Regions.{row_places, column_places, steps}
-use Rattle.grid_core.specs.Candidates.{all_below}
-use Rattle.grid_core.proofs.RegionLemmas.{row-at, column-at}
-use Rattle.grid_core.proofs.CandidateLemmas.{all_below-at, any_below-here}
-use Rattle.engine_core.specs.RuleSystem.{has_place}
-use Rattle.engine_core.specs.PlaceLaws.{has_place-at, has_place-here, AreDistinct, place-filter, place-kept, distinct-filter}
-use Rattle.engine_core.specs.Filling.{Set, has_value}
-use Rattle.engine_core.specs.FillingLaws.{filling_from_test, has_value_below}
+use Rattle.fields_core.proofs.Common.{AreCounts, AreDistinct, Extent, IsCounting, IsGrid, IsLawful, IsTents, List, Set, Tents, [], all_below, all_below-at, and_from, and_parts, any_below-here, ap, are_near, arith, can_be_paired, cases_eq, cases_lt, column-at, column_of_tents, column_places, column_right, common_steps, count-lawful, count_by-le-length, distinct-filter, eq-eqb, eqb, eqb-true, exactly, false_from_ne_true, filling_from_test, filter, free_beside, get_or, get_or-map, get_or-map-range_with_len, get_or-range_with_len, get_or_past, has_place, has_place-at, has_place-here, has_value, has_value_below, inl, inr, is_barred, le-leb, leaves_none_out, length, length-map, length-map-range_with_len, length-range_with_len, list_any, ltb, ltb-true, map, mul-le-mul_right, names_none_twice, ne_eqb, not, not-true, one_at_least, one_at_most, or_cases, place-filter, place-kept, range_with_len, row-at, row_of_tents, row_places, row_right, slice_index, solves_tents, square_house, steps, suc, sym, tent, tent_cells, tent_houses, tent_rules, tents_in_column, tents_in_row, touch_right, touches, tree, tree_house, tree_right, trees_beside, true, true≢false, zero, ℕ, ◌%◌, ◌&&◌, ◌*◌, ◌+◌, ◌/◌, ◌<◌, ◌||◌, ◌∙◌, ◌∷◌, ◌≡◌, ◌≤◌}
 use Rattle.grid_core.specs.Lines.{line_cells}
-use Rattle.gameid_core.specs.Puzzles.{Tents, IsTents, AreCounts}
-use Rattle.fields_core.specs.CountHouse.{exactly, one_at_most, one_at_least, IsCounting}
-use Rattle.fields_core.specs.Tents.{tent_cells, tree, tent, are_near, touches, tents_in_column, tents_in_row, tree_right, touch_right, column_right, row_right, names_none_twice, leaves_none_out, trees_beside, can_be_paired, solves_tents}
-use Rattle.fields_core.specs.TentHouses.{tent_rules, column_of_tents, row_of_tents, free_beside, tree_house, square_house, tent_houses, is_barred}
 use Rattle.fields_core.proofs.HouseLists.{row-long, column-long}
 use Rattle.fields_core.proofs.PlaceLists.{count-some, count-one, filter-few}
 use Rattle.fields_core.proofs.StepLaws.{steps-distinct, steps-few}
 use Rattle.fields_core.proofs.LightHouseLaws.{IsMet, small-at, met-from, EachOf, each-one, each-append, each-below, each-if, row-distinct, column-distinct}
 use Rattle.fields_core.proofs.BelowLemmas.{any-here}
 use Rattle.fields_core.proofs.TentBeside.{cell-below, cell-after, cell-in, beside-both, beside-in}
-use Rattle.std.proofs.lemmas.Grind.{common_steps}
 
 -- the parts of a solution
 pub record TentParts (p : Tents) (g : List ℕ) : Type 0 where

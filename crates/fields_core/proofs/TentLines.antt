@@ -1,17 +1,6 @@
 -- The tents of a line, and the cells that a cell can touch.
-use Rattle.std.proofs.Common.{◌≡◌, ℕ, zero, suc, ◌+◌, ◌-◌, ◌*◌, ◌/◌, ◌%◌, ◌<◌, ◌≤◌, ◌⊎◌, inl, inr, min, Bool, true, false, not, ◌&&◌, eqb, leb, List, length, slice_index, take, refl, sym, ap, ◌∙◌, arith, leb-true, le-leb}
-use Rattle.std.specs.List.{count_by}
-use Rattle.std.proofs.lemmas.Bool.{cases_Bool, cases_lt, and_parts, and_from, and_left, true≢false, false_from_ne_true, eq-eqb, ne_eqb}
-use Rattle.std.proofs.lemmas.List.{take_all}
-use Rattle.std.proofs.lemmas.List.Sums.{count_by_more_yes, count_by_more_no}
-use Rattle.std.proofs.Math.Nat.{mod-lt}
-use Rattle.std.proofs.lemmas.Nat.{div-add-mod', div-mul-add, mod-mul-add}
-use Rattle.grid_core.specs.Extent.{Extent}
-use Rattle.grid_core.specs.Candidates.{any_below}
-use Rattle.grid_core.proofs.CandidateLemmas.{any_below-some, any_below-here}
-use Rattle.fields_core.specs.Tents.{tent, touches, are_near}
+use Rattle.fields_core.proofs.Common.{Bool, Extent, List, and_from, and_left, and_parts, any_below, any_below-here, any_below-some, ap, are_near, arith, cases_Bool, cases_lt, common_steps, count_by, count_by_more_no, count_by_more_yes, div-add-mod', div-mul-add, eq-eqb, eqb, false, false_from_ne_true, inl, inr, le-leb, leb, leb-true, length, min, mod-lt, mod-mul-add, ne_eqb, not, refl, slice_index, suc, sym, take, take_all, tent, touches, true, true≢false, zero, ℕ, ◌%◌, ◌&&◌, ◌*◌, ◌+◌, ◌-◌, ◌/◌, ◌<◌, ◌∙◌, ◌≡◌, ◌≤◌, ◌⊎◌}
 use Rattle.fields_core.specs.TentTouching.{IsTentAmong, IsWindow}
-use Rattle.std.proofs.lemmas.Grind.{common_steps}
 
 -- so many of the first cells of a line have a tent
 pub record IsLineCounted (g line : List ℕ) (n tents : ℕ) : Type 0 where

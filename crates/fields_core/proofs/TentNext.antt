@@ -1,21 +1,10 @@
 -- The next cell that a cell is joined to, and whether a tree is beside a cell: the cells beside a cell ascend by direction.
-use Rattle.std.proofs.Common.{◌≡◌, ℕ, ◌+◌, ◌<◌, ◌≤◌, Bool, true, false, not, List, slice_index, Option, Some, None, refl, sym, ap, ◌∙◌, inl, inr, arith}
+use Rattle.fields_core.proofs.Common.{Bool, IsNext, List, None, Option, Some, Tents, ap, arith, cases_eq, cases_lt, common_steps, count_below, counted, false, false_from_ne_true, inl, inr, is_barred, list_any, may_pair, not, refl, slice_index, step, steps, sym, tent_cells, tree, tree_beside, tree_count, trees_of, true, true≢false, ℕ, ◌+◌, ◌<◌, ◌∙◌, ◌≡◌, ◌≤◌}
 use Rattle.std.specs.Prelude.{MatchOption}
-use Rattle.std.specs.List.{list_any}
-use Rattle.std.proofs.lemmas.Bool.{cases_eq, cases_lt, true≢false, false_from_ne_true}
-use Rattle.grid_core.specs.Candidates.{count_below}
-use Rattle.grid_core.specs.Regions.{steps, step}
-use Rattle.engine_core.specs.RuleSystem.{IsNext}
-use Rattle.engine_core.proofs.IndexLemmas.{counted}
-use Rattle.gameid_core.specs.Puzzles.{Tents}
-use Rattle.fields_core.specs.Tents.{tent_cells, tree}
-use Rattle.fields_core.specs.TentPairs.{trees_of, tree_count, tree_beside, may_pair}
-use Rattle.fields_core.specs.TentHouses.{is_barred}
 use Rattle.fields_core.proofs.StepLaws.{some-inj, ascends, steps-some}
 use Rattle.fields_core.proofs.BelowLemmas.{any-here, any-none}
 use Rattle.fields_core.proofs.TentBeside.{steps-has}
 use Rattle.fields_core.proofs.TentNumbers.{passing-long, passing-at, at-passing}
-use Rattle.std.proofs.lemmas.Grind.{common_steps}
 
 none-some : (d : ℕ) → None ≡ Some d → ⊥
 none-some d e = grind (arith, common_steps)

@@ -1,12 +1,6 @@
 -- Numbers below n that pass a test, by how many pass before them.
-use Rattle.std.proofs.Common.{◌≡◌, ℕ, zero, suc, ◌+◌, ◌-◌, ◌<◌, Bool, true, false, cond, List, [], ◌∷◌, ◌++◌, length, get_or, slice_index, take, set, refl, sym, ap, ◌∙◌, inl, inr, add-one, arith}
-use Rattle.std.proofs.lemmas.Bool.{cases_Bool, cases_eq, cases_lt, ne_eqb, eq-eqb}
-use Rattle.std.proofs.lemmas.List.{append-nil, length-append, take_more_set, get_or-set_same, get_or-set_other, get_or_append_left, get_or-append_right}
-use Rattle.grid_core.specs.Candidates.{count_below}
-use Rattle.engine_core.proofs.IndexLemmas.{counted, numbered}
-use Rattle.fields_core.specs.Tents.{tent}
+use Rattle.fields_core.proofs.Common.{Bool, List, [], add-one, ap, append-nil, arith, cases_Bool, cases_eq, cases_lt, common_steps, cond, count_below, counted, eq-eqb, false, get_or, get_or-append_right, get_or-set_other, get_or-set_same, get_or_append_left, inl, inr, length, length-append, ne_eqb, numbered, refl, set, slice_index, suc, sym, take, take_more_set, tent, true, zero, ℕ, ◌++◌, ◌+◌, ◌-◌, ◌<◌, ◌∙◌, ◌∷◌, ◌≡◌}
 use Rattle.fields_core.proofs.RunLemmas.{passing, passing-more, passing-suc}
-use Rattle.std.proofs.lemmas.Grind.{common_steps}
 
 pub passing-long : (test : ℕ → Bool) (n : ℕ) → length (passing test n) ≡ count_below test n
 unfolding count_below

@@ -1,31 +1,13 @@
 -- Tents and trees can be paired exactly if there are as many of both and each tent can have a tree of its own: then none is
 -- left out. A pairing is a choice of a tree for each tent, which a short set rules out.
-use Rattle.std.proofs.Common.{◌≡◌, ℕ, ◌<◌, ◌≤◌, true, false, ◌&&◌, List, [], length, slice_index, take, map, sym, ap, subst, ◌∙◌, arith}
-use Rattle.std.specs.List.{filter, range_with_len}
-use Rattle.std.proofs.lemmas.Bool.{cases_Bool, or_left, or_right, and_from, false_from_ne_true}
-use Rattle.std.proofs.lemmas.List.{length-map, length-take, get_or-map}
-use Rattle.std.proofs.lemmas.List.FromFn.{get_or-map-range_with_len}
-use Rattle.grid_core.specs.Regions.{steps}
-use Rattle.grid_core.specs.Candidates.{count_below}
+use Rattle.fields_core.proofs.Common.{AreDifferent, AreDistinct, AreIn, Fills, IsPairedBy, List, Tents, [], all_below-from, and_from, ap, arith, can_be_paired, cases_Bool, common_steps, count_below, counted, different-from, distinct-filter, distinct-from, false, false_from_ne_true, filter, get_or-map, get_or-map-range_with_len, has_place, has_place-here, has_value, leaves_none_out, length, length-map, length-take, map, may_pair, names_none_twice, or_left, or_right, place-filter, place-kept, range_with_len, slice_index, steps, subst, sym, take, tent, tent_cells, test_from_filling, tree, tree_count, trees_beside, trees_of, true, ℕ, ◌&&◌, ◌<◌, ◌∙◌, ◌≡◌, ◌≤◌}
 use Rattle.grid_core.specs.Pairings.{IsPairing, IsShortSet}
 use Rattle.grid_core.proofs.ShortSets.{no_choice}
-use Rattle.grid_core.proofs.CandidateLemmas.{all_below-from}
-use Rattle.engine_core.specs.RuleSystem.{has_place}
-use Rattle.engine_core.specs.PlaceLaws.{has_place-here, AreDistinct, different-from, distinct-from, place-filter, place-kept, distinct-filter}
-use Rattle.engine_core.specs.Filling.{has_value, Fills}
-use Rattle.engine_core.specs.FillingLaws.{test_from_filling}
-use Rattle.engine_core.specs.HouseSets.{AreDifferent}
-use Rattle.engine_core.proofs.IndexLemmas.{counted}
-use Rattle.gameid_core.specs.Puzzles.{Tents}
-use Rattle.fields_core.specs.Tents.{tent_cells, tree, tent, names_none_twice, leaves_none_out, trees_beside, can_be_paired}
-use Rattle.fields_core.specs.TentPairs.{trees_of, tree_count, may_pair, AreIn}
-use Rattle.fields_core.specs.TentSolutions.{IsPairedBy}
 use Rattle.fields_core.proofs.BelowLemmas.{index_of, index-is, place-map, none-twice-from, distinct-none-twice, different-map, range-distinct, few-below, each-named}
 use Rattle.fields_core.proofs.TentBeside.{beside-in}
 use Rattle.fields_core.proofs.TentLines.{some-wide}
 use Rattle.fields_core.proofs.TentNumbers.{IsPassing, passing-long, passing-at, at-passing}
 use Rattle.fields_core.proofs.TentCounting.{tents_of, IsGiven, given, tent-in, in-range}
-use Rattle.std.proofs.lemmas.Grind.{common_steps}
 
 -- ---- the tents by place
 pub tents-distinct : (p : Tents) (g : List ℕ) → AreDistinct (tents_of p g)

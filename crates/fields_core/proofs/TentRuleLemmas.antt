@@ -1,23 +1,10 @@
 -- A grid of Tents without a fault is a solution, and one with a fault is not; and the rules' own table.
-use Rattle.std.proofs.Common.{◌≡◌, ℕ, ◌+◌, ◌<◌, Bool, true, false, not, ◌&&◌, eqb, List, [], ◌∷◌, length, slice_index, Option, is_some, sym, ap, ◌∙◌, inl, inr, arith}
-use Rattle.std.proofs.lemmas.Bool.{cases_eq, or_cases, or_parts, not-false, and_from, and_parts, true≢false, eqb-true, eq-eqb, not-true}
-use Rattle.std.specs.List.{AllByRecursion}
-use Rattle.grid_core.specs.Grids.{IsGrid}
-use Rattle.grid_core.specs.Candidates.{all_below}
-use Rattle.grid_core.proofs.CandidateLemmas.{all_below-at, all_below-from, any_below-here, any_below-some, any_below-none}
-use Rattle.engine_core.specs.PlaceLaws.{has_place-here, different-from}
-use Rattle.gameid_core.specs.Puzzles.{Tents}
-use Rattle.fields_core.specs.Tents.{tent_cells, tree, tent, touches, tents_in_column, tents_in_row, tree_right, touch_right, column_right, row_right, can_be_paired, solves_tents}
-use Rattle.fields_core.specs.TentSolutions.{IsPairedBy, IsTentSolution}
-use Rattle.gameid_core.specs.FirstFailed.{NoneFails}
-use Rattle.gameid_core.proofs.FirstFailed.{AreRight, IsKnown, IsMade, Kind, known_tests, none_held, none_tells, right_none}
-use Rattle.fields_core.specs.TentFaults.{FailsTents, IsTentFault, tent_tests}
+use Rattle.fields_core.proofs.Common.{AllByRecursion, AreRight, Bool, FailsTents, IsGrid, IsKnown, IsMade, IsPairedBy, IsTentFault, IsTentSolution, Kind, List, NoneFails, Option, Tents, [], all_below, all_below-at, all_below-from, and_from, and_parts, any_below-here, any_below-none, any_below-some, ap, arith, can_be_paired, cases_eq, column_right, common_steps, different-from, eq-eqb, eqb, eqb-true, false, has_place-here, inl, inr, is_some, known_tests, length, none_held, none_tells, not, not-false, not-true, or_cases, or_parts, right_none, row_right, slice_index, solves_tents, sym, tent, tent_cells, tent_tests, tents_in_column, tents_in_row, touch_right, touches, tree, tree_right, true, true≢false, ℕ, ◌&&◌, ◌+◌, ◌<◌, ◌∙◌, ◌∷◌, ◌≡◌}
 use Rattle.fields_core.specs.declared.tents.fault.TentFault.{TentFault}
 use Rattle.fields_core.specs.declared.tents.fault.TentFault.TheVariants.{Tree, Touch, Column, Row, Match}
 use Rattle.fields_core.proofs.BelowLemmas.{index_of, index-is, distinct-none-twice}
 use Rattle.fields_core.proofs.TentCounting.{tents-parts, tents_of, IsGiven, given, tent-in}
 use Rattle.fields_core.proofs.TentPairLemmas.{tents-distinct, tent-listed, listed-tent, pairs-from}
-use Rattle.std.proofs.lemmas.Grind.{common_steps}
 
 pub tents-from : (p : Tents) (g : List ℕ) → all_below (tree_right p g) (tent_cells p) ≡ true → all_below (touch_right p g) (tent_cells p) ≡ true
     → all_below (column_right p g) p.size.w ≡ true → all_below (row_right p g) p.size.h ≡ true → true ≡ can_be_paired p g → solves_tents p g ≡ true

@@ -1,5 +1,5 @@
 -- The written text of a puzzle of Light Up: its length, that it spells the puzzle, and that no other does.
-use Rattle.gameid_core.specs.Common.{AllByRecursion, Black, HasOneText, IsLight, IsLightCell, Light, LightCell, List, Numbered, White, [], ap, arith, common_steps, cond, eqb, flat_map, get_or, inl, length, map, max_id, nat_tests, refl, replicate, size_text, suc, zero, ℕ, ◌++◌, ◌+◌, ◌<◌, ◌∷◌, ◌≡◌, ◌≤◌}
+use Rattle.gameid_core.specs.Common.{AllByRecursion, Black, HasOneText, IsLight, IsLightCell, Light, LightCell, List, Numbered, White, [], arith, common_steps, flat_map, get_or, inl, length, max_id, nat_tests, refl, replicate, size_text, suc, zero, ℕ, ◌++◌, ◌+◌, ◌<◌, ◌∷◌, ◌≡◌, ◌≤◌}
 use Rattle.gameid_core.specs.LightText.{IsLightToken, IsWrittenLight, LightToken, black, light_cells_text, light_text, light_tokens, light_token_cells, numbered, whites, AreFullLights}
 use Rattle.gameid_core.proofs.Lists.{all_at}
 use Rattle.gameid_core.proofs.OneReading.{one_text}

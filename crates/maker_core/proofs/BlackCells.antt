@@ -1,7 +1,5 @@
 -- The cells of a grid that were drawn so far are the list of draws.
-use Rattle.maker_core.proofs.Common.{elements, ◌≡◌, ℕ, zero, suc, ◌+◌, ◌<◌, Bool, List, [], ◌∷◌, ◌++◌, refl, sym, ◌∙◌, ap, arith, add-one}
-use Rattle.maker_core.proofs.Common.{take, length, length-append, cond, nat_lt, slice_index, slice_set, common_steps, take_more_set, All-append}
-use Rattle.maker_core.proofs.Common.{All-cons, All-nil, Stream, IsGrid, draw_below, black_cells}
+use Rattle.maker_core.proofs.Common.{All-append, All-cons, All-nil, Bool, IsGrid, List, Stream, [], add-one, ap, arith, black_cells, common_steps, cond, draw_below, elements, length, length-append, nat_lt, refl, slice_index, slice_set, suc, sym, take, take_more_set, zero, ℕ, ◌++◌, ◌+◌, ◌<◌, ◌∙◌, ◌∷◌, ◌≡◌}
 
 -- the steps of the drawing
 black_cells-none : (black : ℕ) {s : Stream} → ([], s) ≡ black_cells black 0 s

@@ -1,8 +1,5 @@
 -- A filter of a range grows by its end, and keeps each number that passes.
-use Rattle.std.proofs.lemmas.Grind.{common_steps}
-use Rattle.maker_core.proofs.Common.{◌≡◌, ◌≢◌, ℕ, zero, suc, ◌+◌, ◌<◌, Bool, true, false, eqb, cond, List, [], ◌∷◌, ◌++◌, sym, ◌∙◌, ap, subst, arith}
-use Rattle.maker_core.proofs.Common.{add-one, map-id, inl, inr, filter, Contains, AllByRecursion, range_with_len, cases_eq, append-nil, All-contains}
-use Rattle.maker_core.proofs.Common.{All-from_recursion, Contains-append_left, Contains-append_right, filter-append, map-range_with_len_more}
+use Rattle.maker_core.proofs.Common.{All-contains, All-from_recursion, AllByRecursion, Bool, Contains, Contains-append_left, Contains-append_right, List, [], add-one, ap, append-nil, arith, cases_eq, common_steps, cond, eqb, false, filter, filter-append, inl, inr, map-id, map-range_with_len_more, range_with_len, subst, suc, sym, true, zero, ℕ, ◌++◌, ◌+◌, ◌<◌, ◌∙◌, ◌∷◌, ◌≡◌, ◌≢◌}
 
 -- one more number of a range
 pub range_more : (k : ℕ) → range_with_len 0 (k + 1) ≡ range_with_len 0 k ++ k ∷ []

@@ -1,11 +1,7 @@
 -- The loop over tries: so many fillings were made, and each failed.
-use Rattle.std.proofs.lemmas.Grind.{common_steps}
-use Rattle.maker_core.proofs.Common.{◌≡◌, ℕ, suc, ◌+◌, ◌<◌, Bool, true, false, ◌∙◌, ap, arith, add-one, cases_eq, Stream, refl, ◌≢◌}
-use Rattle.std.specs.Prelude.{Result, Err}
+use Rattle.maker_core.proofs.Common.{Bool, Err, IsFirst, IsFirstPassing, LeavesStream, Result, Stream, Tries, add-one, ap, arith, cases_eq, common_steps, false, filling_at, refl, stream_after, suc, true, ℕ, ◌+◌, ◌<◌, ◌∙◌, ◌≡◌, ◌≢◌}
 use Rattle.maker_core.specs.declared.made.MakeFault.{MakeFault}
 use Rattle.maker_core.specs.declared.made.MakeFault.TheVariants.{Exhausted, Memory, SizeRange}
-use Rattle.maker_core.specs.Draws.{LeavesStream}
-use Rattle.maker_core.proofs.Common.{Tries, stream_after, filling_at, IsFirst, IsFirstPassing}
 
 module _ {A : Type 0} (t : Tries A) (known : A → Bool → Type 0) (s : Stream) where
   -- so many tries were made, each failed, and the generator stands where the last left it

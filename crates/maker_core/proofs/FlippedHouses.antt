@@ -1,9 +1,6 @@
 -- A flip of a grid that keeps to all rules but the givens keeps to them: what lies in one row, column, block or diagonal
 -- comes from one row, column, block or diagonal.
-use Rattle.maker_core.proofs.Common.{◌≡◌, ℕ, ◌+◌, ◌-◌, ◌*◌, ◌/◌, ◌<◌, Bool, true, false, eqb, List, length, slice_index, if◌then◌else◌, refl, sym, ◌∙◌}
-use Rattle.maker_core.proofs.Common.{arith, mul-pos, eqb-true, eq-eqb, mul-add-lt, div_below, mod_below, same_from_place, get_or-map, Solo, solo_n}
-use Rattle.maker_core.proofs.Common.{solo_puzzle, NamedHouse, Row, Column, Block, Diagonal, solo_cells, row_of, column_of, block_of, IsHouseOf, lies_in}
-use Rattle.maker_core.proofs.Common.{IsSoloSolution, line_from, flipped_from, flipped, house_stays, lies_alike, all_given}
+use Rattle.maker_core.proofs.Common.{Block, Bool, Column, Diagonal, IsHouseOf, IsSoloSolution, List, NamedHouse, Row, Solo, all_given, arith, block_of, column_of, div_below, eq-eqb, eqb, eqb-true, false, flipped, flipped_from, get_or-map, house_stays, if◌then◌else◌, length, lies_alike, lies_in, line_from, mod_below, mul-add-lt, mul-pos, refl, row_of, same_from_place, slice_index, solo_cells, solo_n, solo_puzzle, sym, true, ℕ, ◌*◌, ◌+◌, ◌-◌, ◌/◌, ◌<◌, ◌∙◌, ◌≡◌}
 use Rattle.maker_core.proofs.Flips.{line_from-below, line_from-together, from_row, from_column, from_below, from_apart, flipped-at, flipped-grid, length-flipped}
 
 -- two places lie in one house of the puzzle

@@ -1,8 +1,5 @@
 -- A flip of a square grid brings each row to a row, each column to a column, and lines of one group to lines of one group.
-use Rattle.std.proofs.lemmas.Grind.{common_steps}
-use Rattle.maker_core.proofs.Common.{same_number_lists, ◌≡◌, ℕ, ◌+◌, ◌-◌, ◌*◌, ◌/◌, ◌%◌, ◌<◌, Bool, List, length, slice_index, ap, arith, cases_eq}
-use Rattle.maker_core.proofs.Common.{mul-add-lt, div-mul-add, mod-mul-add, div_below, mod_below, div-add-mod', All-get_or, All-from_get_or}
-use Rattle.maker_core.proofs.Common.{length-map-range_with_len, get_or-map-range_with_len, IsGrid, line_from, flipped_from, flipped}
+use Rattle.maker_core.proofs.Common.{All-from_get_or, All-get_or, Bool, IsGrid, List, ap, arith, cases_eq, common_steps, div-add-mod', div-mul-add, div_below, flipped, flipped_from, get_or-map-range_with_len, length, length-map-range_with_len, line_from, mod-mul-add, mod_below, mul-add-lt, same_number_lists, slice_index, ℕ, ◌%◌, ◌*◌, ◌+◌, ◌-◌, ◌/◌, ◌<◌, ◌≡◌}
 
 -- ---- lines
 pub line_from-below : (flips : Bool) {n k : ℕ} → k < n → line_from flips n k < n

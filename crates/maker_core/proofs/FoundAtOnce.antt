@@ -1,12 +1,7 @@
 -- Where the closure of the start leaves each cell only its number of a solution, the verdict is that one, whatever the budget. So
 -- it is where the start is the solution alone, and then no other grid lies inside the start.
 
-use Rattle.maker_core.proofs.Common.{◌≡◌, ℕ, zero, suc, ◌<◌, true, List, [], ◌∷◌, length, slice_index, None, refl, sym, ap, ◌∙◌, arith}
-use Rattle.maker_core.proofs.Common.{Candidates, IsInside, single, count_below, count_below-pos, count_below-few, is_dead-each}
-use Rattle.maker_core.proofs.Common.{is_full-each, single-at, single-is, grid_of-full, RuleSystem, IsLawful, closure, closure_inside, closure_largest}
-use Rattle.maker_core.proofs.Common.{walk, walk-unfold, outcome, Solves, IsTrueOf, walk_closed-solved, TellsOne, same_number_lists}
-use Rattle.engine_core.specs.Walk.{Mark.Found}
-use Rattle.engine_core.specs.Verdict.{Outcome.OneSolution}
+use Rattle.maker_core.proofs.Common.{Candidates, IsInside, IsLawful, IsTrueOf, List, Mark.Found, None, Outcome.OneSolution, RuleSystem, Solves, TellsOne, [], ap, arith, closure, closure_inside, closure_largest, count_below, count_below-few, count_below-pos, grid_of-full, is_dead-each, is_full-each, length, outcome, refl, same_number_lists, single, single-at, single-is, slice_index, suc, sym, true, walk, walk-unfold, walk_closed-solved, zero, ℕ, ◌<◌, ◌∙◌, ◌∷◌, ◌≡◌}
 
 pub found_one : (budget : ℕ) (g : List ℕ) → outcome budget None (Found g ∷ []) ≡ OneSolution g
 unfolding outcome

@@ -1,8 +1,5 @@
 -- A puzzle that lacks a needed clue is within the puzzle without that clue alone.
-use Rattle.std.proofs.lemmas.Grind.{common_steps}
-use Rattle.maker_core.proofs.Common.{clue_is, solved_by_fewer, lit_by_fewer, numbered_is, ◌≡◌, ℕ, ◌<◌, false, Some, List, length, get_or, map, sym}
-use Rattle.maker_core.proofs.Common.{◌∙◌, subst, arith, All, Contains, cases_eq, get_or-map, length-map, CluedGame, IsGame, has_clue, IsThinnedFrom, HasTwo}
-use Rattle.maker_core.proofs.Common.{IsReason, AreReasons, LeavesNoIdleClue, Kept, Needed}
+use Rattle.maker_core.proofs.Common.{All, AreReasons, CluedGame, Contains, HasTwo, IsGame, IsReason, IsThinnedFrom, Kept, LeavesNoIdleClue, List, Needed, Some, arith, cases_eq, clue_is, common_steps, false, get_or, get_or-map, has_clue, length, length-map, lit_by_fewer, map, numbered_is, solved_by_fewer, subst, sym, ℕ, ◌<◌, ◌∙◌, ◌≡◌}
 use Rattle.maker_core.proofs.WrittenGrids.{set_back}
 use Rattle.maker_core.proofs.FilteredRanges.{passes_kept}
 use Rattle.maker_core.proofs.ThinningTurns.{some_of, two_in}

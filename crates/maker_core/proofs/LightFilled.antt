@@ -1,9 +1,5 @@
 -- What is drawn for a filling of Light Up is its definition.
-use Rattle.std.proofs.lemmas.Grind.{common_steps}
-use Rattle.maker_core.proofs.Common.{◌≡◌, ℕ, ◌*◌, ◌<◌, List, false, arith, length, refl, ◌∙◌, get_or_default, get_or-map}
-use Rattle.maker_core.proofs.Common.{get_or_past, length-map, All, IsPermutation, slice_index}
-use Rattle.maker_core.proofs.Common.{Extent, Light, light_cells, white, white-in, AreAll, lights_of}
-use Rattle.maker_core.proofs.Common.{white_places, numbered_cell, with_numbers, LightFilling, light_puzzle_of}
+use Rattle.maker_core.proofs.Common.{All, AreAll, Extent, IsPermutation, Light, LightFilling, List, arith, common_steps, false, get_or-map, get_or_default, get_or_past, length, length-map, light_cells, light_puzzle_of, lights_of, numbered_cell, refl, slice_index, white, white-in, white_places, with_numbers, ℕ, ◌*◌, ◌<◌, ◌∙◌, ◌≡◌}
 use Rattle.maker_core.proofs.LightSight.{same_white}
 use Rattle.maker_core.proofs.LightSolved.{order_white}
 

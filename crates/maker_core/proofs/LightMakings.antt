@@ -1,7 +1,5 @@
 -- A puzzle of black cells alone passes; and what is known of the puzzle of a filling.
-use Rattle.maker_core.proofs.Common.{◌≡◌, ℕ, ◌<◌, true, false, not, List, slice_index, sym, ap, ◌∙◌, arith, Extent, all_below-at, Light}
-use Rattle.maker_core.proofs.Common.{IsLawful, closure_inside, start_of, light_cells, white, black_right, solves_lights, light_rules, lit-parts, LightFilling}
-use Rattle.maker_core.proofs.Common.{AreAll, IsLit, light-lawful, lights_of, light_puzzle_of, with_numbers, is_one, has_one, HasOne, TellsOne, IsOnly}
+use Rattle.maker_core.proofs.Common.{AreAll, Extent, HasOne, IsLawful, IsLit, IsOnly, Light, LightFilling, List, TellsOne, all_below-at, ap, arith, black_right, closure_inside, false, has_one, is_one, light-lawful, light_cells, light_puzzle_of, light_rules, lights_of, lit-parts, not, slice_index, solves_lights, start_of, sym, true, white, with_numbers, ℕ, ◌<◌, ◌∙◌, ◌≡◌}
 use Rattle.maker_core.proofs.FoundAtOnce.{found_at_once}
 use Rattle.maker_core.proofs.LightFilled.{none_white, numbers_again}
 use Rattle.maker_core.proofs.OnlySolutions.{one_grid}

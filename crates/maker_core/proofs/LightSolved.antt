@@ -1,12 +1,6 @@
 -- White cells that were taken in turn, in any order, hold or see a bulb, and no bulb sees a bulb: the grid solves the
 -- puzzle with all numbers.
-use Rattle.std.proofs.lemmas.Grind.{common_steps}
-use Rattle.maker_core.proofs.Common.{elements, ◌≡◌, ℕ, zero, suc, ◌<◌, ◌≤◌, Bool, true, false, List, length, refl, sym, ◌∙◌, arith, inl, inr}
-use Rattle.maker_core.proofs.Common.{replicate, ◌||◌, slice_index, slice_set, if◌then◌else◌, IsPermutation, cond_both, cases_eq, true≢false}
-use Rattle.maker_core.proofs.Common.{false_from_ne_true, or_cases, or_left, or_right, filter_passes, All-contains, Contains-get_or}
-use Rattle.maker_core.proofs.Common.{Contains-permutation, IsPermutation-sym, range_with_len, get_or_default, all_below-from, IsGrid, Light, LightCell}
-use Rattle.maker_core.proofs.Common.{White, Numbered, light_cells, white, bulb, number_is, sees, sees_bulb, black_right}
-use Rattle.maker_core.proofs.Common.{number_right, bulb_right, lit_right, solves_lights, lit-from, white-in, bulb-in, white_places, bulbs_after, with_numbers}
+use Rattle.maker_core.proofs.Common.{All-contains, Bool, Contains-get_or, Contains-permutation, IsGrid, IsPermutation, IsPermutation-sym, Light, LightCell, List, Numbered, White, all_below-from, arith, black_right, bulb, bulb-in, bulb_right, bulbs_after, cases_eq, common_steps, cond_both, elements, false, false_from_ne_true, filter_passes, get_or_default, if◌then◌else◌, inl, inr, length, light_cells, lit-from, lit_right, number_is, number_right, or_cases, or_left, or_right, range_with_len, refl, replicate, sees, sees_bulb, slice_index, slice_set, solves_lights, suc, sym, true, true≢false, white, white-in, white_places, with_numbers, zero, ℕ, ◌<◌, ◌||◌, ◌∙◌, ◌≡◌, ◌≤◌}
 use Rattle.maker_core.proofs.FilteredRanges.{passes_kept}
 use Rattle.maker_core.proofs.LightSight.{bulbs_after-grid, number_at, same_white, same_seen, sees_back, sees_itself, seen_bulb, bulb_seen}
 use Rattle.maker_core.proofs.WrittenGrids.{no_one, old_stays}

@@ -1,9 +1,5 @@
 -- The puzzle of a grid has the runs of its lines as clues, and the grid is a solution of it.
-use Rattle.std.proofs.lemmas.Grind.{common_steps}
-use Rattle.maker_core.proofs.Common.{◌≡◌, ℕ, ◌+◌, ◌-◌, ◌*◌, ◌<◌, List, [], length, map, get_or, refl, sym, ap, ◌∙◌, arith, inl, inr}
-use Rattle.maker_core.proofs.Common.{range_with_len, slice_index_or, cases_lt, line_numbers-column, line_numbers-row, fill_by_all, Extent, IsGrid, row_cells}
-use Rattle.maker_core.proofs.Common.{column_cells, runs, line_numbers, Pattern, lines_of, IsPatternSolution}
-use Rattle.maker_core.proofs.Common.{clued_by}
+use Rattle.maker_core.proofs.Common.{Extent, IsGrid, IsPatternSolution, List, Pattern, [], ap, arith, cases_lt, clued_by, column_cells, common_steps, fill_by_all, get_or, inl, inr, length, line_numbers, line_numbers-column, line_numbers-row, lines_of, map, range_with_len, refl, row_cells, runs, slice_index_or, sym, ℕ, ◌*◌, ◌+◌, ◌-◌, ◌<◌, ◌∙◌, ◌≡◌}
 
 -- a puzzle with those clues
 pub record HasRuns (size : Extent) (g : List ℕ) (p : Pattern) : Type 0 where

@@ -1,13 +1,5 @@
 -- A grid of white cells alone, or of black cells alone, is all that one visit of each row leaves.
-use Rattle.std.proofs.lemmas.Grind.{common_steps}
-use Rattle.maker_core.proofs.Common.{sum, sum_by, nat_lt, cond, set, length-set, lt-ltb, All-from_get_or, count_by-le-length, get_or-le-sum_by}
-use Rattle.maker_core.proofs.Common.{sum_by-append, sum_by-cons, sum_by-le, sum_by-set, ◌≡◌, ℕ, zero, suc, ◌+◌, ◌-◌, ◌*◌, ◌/◌, ◌%◌, ◌<◌, ◌≤◌, true}
-use Rattle.maker_core.proofs.Common.{false, List, [], ◌∷◌, length, slice_index, refl, sym, ap, ◌∙◌, arith, inl, inr, ◌⊎◌, le-ltb, div-add-mod'}
-use Rattle.maker_core.proofs.Common.{div_below, mod_below, get_or-map-range_with_len, length-map-range_with_len, Extent, IsExtent, Candidates}
-use Rattle.maker_core.proofs.Common.{row_cells, run_of, runs_after, runs, at_row, lines_of, closure_closed, strikes_by_fillings, shown_from_test}
-use Rattle.maker_core.proofs.Common.{sets_at, strikes_at, strikes_at-place, length-sets_at, IsClosed, line_places, clue_of, has_runs}
-use Rattle.maker_core.proofs.Common.{length-line_places, place_in_row, cell_in_grid, different_places, has_runs-is, is_solution-from}
-use Rattle.maker_core.proofs.Common.{line_rules-lawful, line_rules, IsPatternSolution, AreAll, is_one, has_one, clued_by}
+use Rattle.maker_core.proofs.Common.{All-from_get_or, AreAll, Candidates, Extent, IsClosed, IsExtent, IsPatternSolution, List, [], ap, arith, at_row, cell_in_grid, closure_closed, clue_of, clued_by, common_steps, cond, count_by-le-length, different_places, div-add-mod', div_below, false, get_or-le-sum_by, get_or-map-range_with_len, has_one, has_runs, has_runs-is, inl, inr, is_one, is_solution-from, le-ltb, length, length-line_places, length-map-range_with_len, length-set, length-sets_at, line_places, line_rules, line_rules-lawful, lines_of, lt-ltb, mod_below, nat_lt, place_in_row, refl, row_cells, run_of, runs, runs_after, set, sets_at, shown_from_test, slice_index, strikes_at, strikes_at-place, strikes_by_fillings, suc, sum, sum_by, sum_by-append, sum_by-cons, sum_by-le, sum_by-set, sym, true, zero, ℕ, ◌%◌, ◌*◌, ◌+◌, ◌-◌, ◌/◌, ◌<◌, ◌∙◌, ◌∷◌, ◌≡◌, ◌≤◌, ◌⊎◌}
 use Rattle.maker_core.proofs.FoundAtOnce.{found_at_once}
 
 -- 1 for a black cell, and how many cells are black

@@ -1,11 +1,5 @@
 -- A draw below a number is below it, a shuffle brings a list into another order, and both leave a stream of words.
-use Rattle.std.proofs.lemmas.Grind.{common_steps}
-use Rattle.maker_core.proofs.Common.{◌≡◌, ℕ, ◌+◌, ◌-◌, ◌*◌, ◌/◌, ◌%◌, ◌^◌, ◌<◌, ◌≤◌, [], nat_le, nat_lt, refl, arith, ◌∙◌, zero, suc, List}
-use Rattle.maker_core.proofs.Common.{length, sym, subst, cond_both, ltb-true, eqb-true, lt-ltb, ltb-false, true≢false, div-add-mod', div_below, mul-le}
-use Rattle.maker_core.proofs.Common.{mod_below, Stream, next_u32, canon, carry_room, if_below, HasWords, shuffled_order, ◌==◌, IsPermutation}
-use Rattle.maker_core.proofs.Common.{range_with_len, length-range_with_len, IsPermutation-refl, IsPermutation-swap, IsPermutation-trans}
-use Rattle.maker_core.proofs.Common.{length_permutation, Chooser, chooser_at, chooser_next, chooser_refill, chunk_of, grow, narrow_swaps, rising}
-use Rattle.maker_core.proofs.Common.{last_below, rest_below, rising_more, rising_one, rising_positive, IsOrder}
+use Rattle.maker_core.proofs.Common.{Chooser, HasWords, IsOrder, IsPermutation, IsPermutation-refl, IsPermutation-swap, IsPermutation-trans, List, Stream, [], arith, canon, carry_room, chooser_at, chooser_next, chooser_refill, chunk_of, common_steps, cond_both, div-add-mod', div_below, eqb-true, grow, if_below, last_below, length, length-range_with_len, length_permutation, lt-ltb, ltb-false, ltb-true, mod_below, mul-le, narrow_swaps, nat_le, nat_lt, next_u32, range_with_len, refl, rest_below, rising, rising_more, rising_one, rising_positive, shuffled_order, subst, suc, sym, true≢false, zero, ℕ, ◌%◌, ◌*◌, ◌+◌, ◌-◌, ◌/◌, ◌<◌, ◌==◌, ◌^◌, ◌∙◌, ◌≡◌, ◌≤◌}
 use Rattle.maker_core.proofs.SoloOrderLemmas.{order_from_permutation}
 
 word_below : {s : Stream} → HasWords s → (next_u32 s).0 < 2 ^ 32

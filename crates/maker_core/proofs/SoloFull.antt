@@ -1,12 +1,5 @@
 -- The puzzle that gives all cells of a grid: its search starts from that grid alone.
-use Rattle.std.proofs.lemmas.Grind.{common_steps}
-use Rattle.maker_core.proofs.Common.{◌≡◌, ℕ, suc, ◌+◌, ◌*◌, ◌<◌, ◌≤◌, Bool, List, map, length, slice_index, take, replicate, ◌∷◌, ◌++◌, ◌-◌, refl}
-use Rattle.maker_core.proofs.Common.{sym, ◌∙◌, arith, Some, ap, length-map, length-take-le, get_or-map, map_more, set_at, append_assoc}
-use Rattle.maker_core.proofs.Common.{append-nil, All-map, All-get_or, All-from_get_or, recursion_from_All, IsInside, single}
-use Rattle.maker_core.proofs.Common.{slice_set, Solo, IsSolo, solo_puzzle, Solves, IsTrueOf, IsSoloSolution, test_from_rule, rule_from_test, start}
-use Rattle.maker_core.proofs.Common.{houses_rules, houses_lawful, TellsOne, is_one, IsOnlySolution, all_given, solo_game, clue_is, is_clue, IsSoloSize}
-use Rattle.maker_core.proofs.Common.{solo_passes, IsThinnedFrom, Option, None, IfSome, is_some}
-use Rattle.engine_core.specs.Verdict.{Outcome.OneSolution}
+use Rattle.maker_core.proofs.Common.{All-from_get_or, All-get_or, All-map, Bool, IfSome, IsInside, IsOnlySolution, IsSolo, IsSoloSize, IsSoloSolution, IsThinnedFrom, IsTrueOf, List, None, Option, Outcome.OneSolution, Solo, Solves, Some, TellsOne, all_given, ap, append-nil, append_assoc, arith, clue_is, common_steps, get_or-map, houses_lawful, houses_rules, is_clue, is_one, is_some, length, length-map, length-take-le, map, map_more, recursion_from_All, refl, replicate, rule_from_test, set_at, single, slice_index, slice_set, solo_game, solo_passes, solo_puzzle, start, suc, sym, take, test_from_rule, ℕ, ◌*◌, ◌++◌, ◌+◌, ◌-◌, ◌<◌, ◌∙◌, ◌∷◌, ◌≡◌, ◌≤◌}
 use Rattle.maker_core.proofs.FoundAtOnce.{start_found, start_only}
 
 pub given-at : (g : List ℕ) (place : ℕ) → place < length g → slice_index (map suc g) place ≡ slice_index g place + 1

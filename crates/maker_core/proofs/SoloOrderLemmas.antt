@@ -1,12 +1,7 @@
 -- A shuffled list of numbers is an order of them, and groups of lines that are appended in such an order, each group's lines
 -- in such an order too, are an order of the lines that keeps groups together: a line is its group's number times the size,
 -- and its place in the group.
-use Rattle.maker_core.proofs.Common.{◌≡◌, ℕ, ◌+◌, ◌-◌, ◌*◌, ◌/◌, ◌<◌, ◌≤◌, eqb, List, ◌++◌, [], map, length, slice_index, sym, ap, ◌∙◌, arith, ◌∷◌}
-use Rattle.maker_core.proofs.Common.{take, refl, add-one, IsPermutation, range_with_len, nat_eq_equiv, common_steps, elements, mul-le, div_below}
-use Rattle.maker_core.proofs.Common.{div-mul-add, mod_below, div-add-mod', get_or_append_left, append_assoc, map_more, take_all, All-get_or}
-use Rattle.maker_core.proofs.Common.{All-from_get_or, length-range_with_len, get_or-range_with_len, length_permutation, All-permutation}
-use Rattle.maker_core.proofs.Common.{IsDistinct-from_apart, IsDistinct-IsPermutation, apart_from_distinct, IsOrder, IsLineOrder, Stream}
-use Rattle.maker_core.proofs.Common.{shuffled_order, lines_of_groups, group_added}
+use Rattle.maker_core.proofs.Common.{All-from_get_or, All-get_or, All-permutation, IsDistinct-IsPermutation, IsDistinct-from_apart, IsLineOrder, IsOrder, IsPermutation, List, Stream, [], add-one, ap, apart_from_distinct, append_assoc, arith, common_steps, div-add-mod', div-mul-add, div_below, elements, eqb, get_or-range_with_len, get_or_append_left, group_added, length, length-range_with_len, length_permutation, lines_of_groups, map, map_more, mod_below, mul-le, nat_eq_equiv, range_with_len, refl, shuffled_order, slice_index, sym, take, take_all, ℕ, ◌*◌, ◌++◌, ◌+◌, ◌-◌, ◌/◌, ◌<◌, ◌∙◌, ◌∷◌, ◌≡◌, ◌≤◌}
 
 -- the lines of the first k groups, each group's own lines beside each other
 pub record AreGrouped (size : ℕ) (groups : List ℕ) (k : ℕ) (lines : List ℕ) : Type 0 where

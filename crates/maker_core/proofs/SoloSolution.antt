@@ -1,10 +1,6 @@
 -- The grid of orders is a solution of the puzzle that gives all its cells: two cells of one row, column or block come of two
 -- cells of one before the shuffles, and there the numbers differ.
-use Rattle.std.proofs.lemmas.Grind.{common_steps}
-use Rattle.maker_core.proofs.Common.{same_number_lists, ◌≡◌, ℕ, ◌*◌, ◌/◌, ◌%◌, ◌<◌, true, false, List, length, slice_index, sym, ◌∙◌, arith, eqb-true}
-use Rattle.maker_core.proofs.Common.{true≢false, mul-pos, div_below, mod_below, same_from_place, get_or-map, All-from_get_or}
-use Rattle.maker_core.proofs.Common.{length-map-range_with_len, get_or-map-range_with_len, IsGrid, NamedHouse, Row, Column, Block, Diagonal, block_of}
-use Rattle.maker_core.proofs.Common.{IsHouseOf, lies_in, IsSoloSolution, old_number, rearranged, all_given, AreOrders}
+use Rattle.maker_core.proofs.Common.{All-from_get_or, AreOrders, Block, Column, Diagonal, IsHouseOf, IsSoloSolution, List, NamedHouse, Row, all_given, arith, block_of, common_steps, div_below, eqb-true, false, get_or-map, get_or-map-range_with_len, length, length-map-range_with_len, lies_in, mod_below, mul-pos, old_number, rearranged, same_from_place, same_number_lists, slice_index, sym, true, true≢false, ℕ, ◌%◌, ◌*◌, ◌/◌, ◌<◌, ◌∙◌, ◌≡◌}
 use Rattle.maker_core.proofs.SoloNumbers.{begin_below, row_apart, column_apart, block_apart, same_line}
 
 pub rearranged-at : (c r : ℕ) (numbers rows columns : List ℕ) (place : ℕ) → place < (c * r) * (c * r)

@@ -1,10 +1,5 @@
 -- What the search of a top row gives: the first grid of the verdict, which keeps to the rules of Solo X.
-use Rattle.maker_core.proofs.Common.{◌≡◌, ℕ, suc, ◌-◌, ◌*◌, ◌≤◌, true, Option, Some, None, List, map, ◌++◌, length, replicate, sym, ap}
-use Rattle.maker_core.proofs.Common.{◌∙◌, arith, IfSome, common_steps, length-map, All-map, All-append, All-replicate, All-from_get_or}
-use Rattle.maker_core.proofs.Common.{recursion_from_All, mul-le, Stream, Solo, IsSolo, RuleSystem, Outcome, verdict_of, Solves, IsTrueOf}
-use Rattle.maker_core.proofs.Common.{IsAnswer, Verdict, houses_rules, IsSoloSolution, rule_from_test, shuffled_order, all_given, IsSoloSize, IsOrder}
-use Rattle.maker_core.proofs.Common.{top_row_given, first_grid, flipped_by_draw, x_filling}
-use Rattle.engine_core.specs.Verdict.{Outcome.NoSolution, Outcome.OneSolution, Outcome.SeveralSolutions, Outcome.GaveUp}
+use Rattle.maker_core.proofs.Common.{All-append, All-from_get_or, All-map, All-replicate, IfSome, IsAnswer, IsOrder, IsSolo, IsSoloSize, IsSoloSolution, IsTrueOf, List, None, Option, Outcome, Outcome.GaveUp, Outcome.NoSolution, Outcome.OneSolution, Outcome.SeveralSolutions, RuleSystem, Solo, Solves, Some, Stream, Verdict, all_given, ap, arith, common_steps, first_grid, flipped_by_draw, houses_rules, length, length-map, map, mul-le, recursion_from_All, replicate, rule_from_test, shuffled_order, suc, sym, top_row_given, true, verdict_of, x_filling, ℕ, ◌*◌, ◌++◌, ◌-◌, ◌∙◌, ◌≡◌, ◌≤◌}
 use Rattle.maker_core.proofs.FlippedHouses.{flipped-solution}
 use Rattle.maker_core.proofs.SoloFull.{given_first, written}
 

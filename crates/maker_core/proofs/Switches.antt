@@ -1,11 +1,5 @@
 -- Cells turned and turned back leave a grid as it was, and a puzzle with two solutions has no verdict of one.
-use Rattle.std.proofs.lemmas.Grind.{common_steps}
-use Rattle.maker_core.proofs.Common.{◌≡◌, ◌≢◌, ℕ, ◌<◌, Bool, true, false, List, length, refl, sym, ◌∙◌, arith, not, Option}
-use Rattle.maker_core.proofs.Common.{slice_index, slice_set, is_some, get_or-set_same, IsExtent, Pattern, RuleSystem, outcome-true, Outcome}
-use Rattle.maker_core.proofs.Common.{Solves, IsTrueOf, IsPatternFault, PatternFault, pattern_none, tells, is_solution-from, line_rules-lawful, line_rules}
-use Rattle.maker_core.proofs.Common.{IsPatternSolution, is_one, has_one, HasOther, RunHasSwitch, run_begins, cases_lt, div-mul-add, mod-mul-add, inl, inr, ◌+◌, ◌*◌, ◌/◌, ◌%◌}
-use Rattle.std.specs.Prelude.{◌↔◌}
-use Rattle.engine_core.specs.Verdict.{Outcome.NoSolution, Outcome.OneSolution, Outcome.SeveralSolutions, Outcome.GaveUp}
+use Rattle.maker_core.proofs.Common.{Bool, HasOther, IsExtent, IsPatternFault, IsPatternSolution, IsTrueOf, List, Option, Outcome, Outcome.GaveUp, Outcome.NoSolution, Outcome.OneSolution, Outcome.SeveralSolutions, Pattern, PatternFault, RuleSystem, RunHasSwitch, Solves, arith, cases_lt, common_steps, div-mul-add, false, get_or-set_same, has_one, inl, inr, is_one, is_solution-from, is_some, length, line_rules, line_rules-lawful, mod-mul-add, not, outcome-true, pattern_none, refl, run_begins, slice_index, slice_set, sym, tells, true, ℕ, ◌%◌, ◌*◌, ◌+◌, ◌/◌, ◌<◌, ◌↔◌, ◌∙◌, ◌≡◌, ◌≢◌}
 use Rattle.maker_core.proofs.WrittenGrids.{grid_with, set_back}
 
 -- one number put back, after those that were written later

@@ -1,9 +1,5 @@
 -- What taking a cell does, as the definitions say it.
-use Rattle.std.proofs.lemmas.Grind.{common_steps}
-use Rattle.maker_core.proofs.Common.{cases_eq, step-keep, step-none, step-skip, replicate, add-one, ◌≡◌, ℕ, ◌+◌, ◌*◌, ◌<◌, ◌≤◌, true, List, length, refl, sym}
-use Rattle.maker_core.proofs.Common.{ap, subst, ◌∙◌, arith, slice_index, slice_set, filter, Stream, Extent, steps, has_place, has_place-here}
-use Rattle.maker_core.proofs.Common.{place-filter, beside-in, filter-few, steps-few, TentFilling, shuffled_order, no_tents, is_free, free_cells_beside}
-use Rattle.maker_core.proofs.Common.{may_have_tent, take_cell, tents_after, tent_filling, IsPlaced}
+use Rattle.maker_core.proofs.Common.{Extent, IsPlaced, List, Stream, TentFilling, add-one, ap, arith, beside-in, cases_eq, common_steps, filter, filter-few, free_cells_beside, has_place, has_place-here, is_free, length, may_have_tent, no_tents, place-filter, refl, replicate, shuffled_order, slice_index, slice_set, step-keep, step-none, step-skip, steps, steps-few, subst, sym, take_cell, tent_filling, tents_after, true, ℕ, ◌*◌, ◌+◌, ◌<◌, ◌≡◌, ◌≤◌}
 
 pub wide : (size : Extent) {c : ℕ} → c < size.w * size.h → 1 ≤ size.w
 wide size lt = grind (arith, cases_eq size.w 0)

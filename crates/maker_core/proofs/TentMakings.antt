@@ -1,7 +1,5 @@
 -- The puzzle of a filling has its trees and the numbers of its tents.
-use Rattle.maker_core.proofs.Common.{◌≡◌, ℕ, ◌+◌, ◌<◌, length, refl, ap, ◌∙◌, slice_index, Extent, row_cells}
-use Rattle.maker_core.proofs.Common.{column_cells, ones, Tents, lines_of, TentFilling}
-use Rattle.maker_core.proofs.Common.{tents_puzzle_of}
+use Rattle.maker_core.proofs.Common.{Extent, TentFilling, Tents, ap, column_cells, length, lines_of, ones, refl, row_cells, slice_index, tents_puzzle_of, ℕ, ◌+◌, ◌<◌, ◌∙◌, ◌≡◌}
 use Rattle.maker_core.proofs.PatternMakings.{each_line}
 
 -- a puzzle with those trees and numbers

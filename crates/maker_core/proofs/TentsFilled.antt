@@ -1,8 +1,5 @@
 -- Each filling of Tents over a stream of words solves its puzzle.
-use Rattle.maker_core.proofs.Common.{◌≡◌, ℕ, zero, suc, ◌*◌, ◌≤◌, true, List, length, refl, subst, add-one, inl, inr, arith, slice_index}
-use Rattle.maker_core.proofs.Common.{cond_both, mul-le, Stream, Extent, IsExtent, IsGrid, IsTentSolution, HasWords, shuffled_order}
-use Rattle.maker_core.proofs.Common.{stream_after, IsOrder, tents_after, free_cells_beside, may_have_tent, place_tent, take_cell, tent_filling}
-use Rattle.maker_core.proofs.Common.{tents_puzzle_of, IsTaken, TentFilling}
+use Rattle.maker_core.proofs.Common.{Extent, HasWords, IsExtent, IsGrid, IsOrder, IsTaken, IsTentSolution, List, Stream, TentFilling, add-one, arith, cond_both, free_cells_beside, inl, inr, length, may_have_tent, mul-le, place_tent, refl, shuffled_order, slice_index, stream_after, subst, suc, take_cell, tent_filling, tents_after, tents_puzzle_of, true, zero, ℕ, ◌*◌, ◌≡◌, ◌≤◌}
 use Rattle.maker_core.proofs.TentFillings.{free_few, placed_is}
 use Rattle.maker_core.proofs.TentsSolved.{IsFillingAfter, filling_none, filling_step}
 use Rattle.maker_core.proofs.Shuffles.{draw_is, IsShuffledOrder, order_is}

@@ -1,9 +1,5 @@
 -- Cells that were taken in turn: each tent has a tree of its own beside it, none stands on a tree, and no two touch.
-use Rattle.maker_core.proofs.Common.{◌≡◌, ℕ, ◌+◌, ◌*◌, ◌<◌, ◌≤◌, true, false, ◌&&◌, cond, List, [], ◌∷◌, length, map, replicate, refl, sym, ap}
-use Rattle.maker_core.proofs.Common.{subst, ◌∙◌, arith, inl, inr, ◌==◌, slice_index, filter, range_with_len, elements, length-filter, map-map, Extent}
-use Rattle.maker_core.proofs.Common.{IsGrid, steps, row_places, column_places, any_below-none, at_column, at_row, lines_ones, ones, has_place, tent}
-use Rattle.maker_core.proofs.Common.{touches, tents_in_column, tents_in_row, IsTentSolution, steps-some, step-up, step-left, step-right, step-down}
-use Rattle.maker_core.proofs.Common.{beside-in, tent-in, TentFilling, IsOrder, no_tents, tents_puzzle_of, IsPlaced, IsTaken}
+use Rattle.maker_core.proofs.Common.{Extent, IsGrid, IsOrder, IsPlaced, IsTaken, IsTentSolution, List, TentFilling, [], any_below-none, ap, arith, at_column, at_row, beside-in, column_places, cond, elements, false, filter, has_place, inl, inr, length, length-filter, lines_ones, map, map-map, no_tents, ones, range_with_len, refl, replicate, row_places, slice_index, step-down, step-left, step-right, step-up, steps, steps-some, subst, sym, tent, tent-in, tents_in_column, tents_in_row, tents_puzzle_of, touches, true, ℕ, ◌&&◌, ◌*◌, ◌+◌, ◌<◌, ◌==◌, ◌∙◌, ◌∷◌, ◌≡◌, ◌≤◌}
 use Rattle.maker_core.proofs.WrittenGrids.{grid_with, new_or_old, no_one, zeros-grid}
 use Rattle.maker_core.proofs.TentFillings.{free_place}
 

@@ -1,11 +1,5 @@
 -- The reasons that were written are those of the clues that are left, by place.
-use Rattle.std.proofs.lemmas.Grind.{common_steps}
-use Rattle.maker_core.proofs.Common.{◌≡◌, ℕ, suc, ◌+◌, ◌<◌, ◌≤◌, Bool, true, false, eqb, List, [], ◌∷◌, ◌++◌, Option, Some, None, length, get_or, map}
-use Rattle.maker_core.proofs.Common.{take, drop, replicate, refl, add-one, sym, ◌∙◌, ap, subst, arith, length-take, ◌⊎◌, inl, inr, filter, All}
-use Rattle.maker_core.proofs.Common.{Contains, IsPermutation, range_with_len, append-nil, get_or-replicate, get_or_past}
-use Rattle.maker_core.proofs.Common.{length-replicate, All-contains, All-cons, All-nil, filter_passes, Contains-permutation, IsPermutation-sym}
-use Rattle.maker_core.proofs.Common.{IsDistinct-IsPermutation, nat_eq_equiv, Kept, Why, TellsOne, CluedGame, IsGame, has_clue, clue_places, IsOnly}
-use Rattle.maker_core.proofs.Common.{IsReason, AreReasons, IsTold, IsThinning, reasons_from, distinct_filtered_range}
+use Rattle.maker_core.proofs.Common.{All, All-cons, All-contains, All-nil, AreReasons, Bool, CluedGame, Contains, Contains-permutation, IsDistinct-IsPermutation, IsGame, IsOnly, IsPermutation, IsPermutation-sym, IsReason, IsThinning, IsTold, Kept, List, None, Option, Some, TellsOne, Why, [], add-one, ap, append-nil, arith, clue_places, common_steps, distinct_filtered_range, drop, eqb, false, filter, filter_passes, get_or, get_or-replicate, get_or_past, has_clue, inl, inr, length, length-replicate, length-take, map, nat_eq_equiv, range_with_len, reasons_from, refl, replicate, subst, suc, sym, take, true, ℕ, ◌++◌, ◌+◌, ◌<◌, ◌∙◌, ◌∷◌, ◌≡◌, ◌≤◌, ◌⊎◌}
 use Rattle.maker_core.proofs.FilteredRanges.{passes_kept}
 use Rattle.maker_core.proofs.ThinningTurns.{some_of, none_of, within_itself}
 

@@ -1,12 +1,7 @@
 -- A clue is tried: it stays for a reason that the verdict tells, and what was told of other cells holds of the thinner puzzle
 -- too, since fewer clues lose no solution.
-use Rattle.std.proofs.lemmas.Grind.{common_steps}
+use Rattle.maker_core.proofs.Common.{Bool, Budget, CluedGame, Contains, Contains-append_right, FitsIn, HasOne, HasTwo, IsAnswer, IsAsked, IsDistinct, IsGame, IsLeft, IsReason, IsThinnedFrom, IsThinning, IsTold, IsTrueOf, IsVerdict, List, Needed, Needs, None, Option, Outcome, RuleSystem, Some, Why, [], add-one, ap, arith, cases_eq, common_steps, drop, drop-cons, false, get_or, get_or-set_at, get_or-set_other, inl, inr, is_some, length, length-set, needs_of, outcome, refl, set, suc, sym, true, true≢false, walk, zero, ℕ, ◌+◌, ◌<◌, ◌∙◌, ◌∷◌, ◌≡◌, ◌≢◌, ◌⊎◌}
 use Rattle.engine_core.specs.declared.search.walk.Verdict.TheVariants as verdict
-use Rattle.maker_core.proofs.Common.{◌≡◌, ℕ, List, Option, None, Bool, sym, ◌≢◌, zero, suc, ◌<◌, true, false, true≢false, [], ◌∷◌, Some, length}
-use Rattle.maker_core.proofs.Common.{get_or, set, drop, ◌+◌, refl, ◌∙◌, ap, arith, ◌⊎◌, inl, inr, add-one, RuleSystem, Needs, FitsIn, needs_of, Outcome}
-use Rattle.maker_core.proofs.Common.{outcome, IsTrueOf, walk, IsAnswer, IsVerdict, IsAsked, IsLeft, IsTold, IsThinning, Why, Needed, Budget, is_some}
-use Rattle.maker_core.proofs.Common.{Contains, IsDistinct, cases_eq, get_or-set_other, length-set, Contains-append_right, get_or-set_at, drop-cons}
-use Rattle.maker_core.proofs.Common.{HasOne, CluedGame, IsGame, IsThinnedFrom, HasTwo, IsReason}
 use Rattle.maker_core.proofs.FilteredRanges.{head_apart}
 
 pub needed : (p : RuleSystem) (budget : ℕ) {first second : Option (List ℕ)} {o : Outcome} {why : Why} → why ≡ Needed

@@ -1,8 +1,5 @@
 -- Grids of 0 and 1, of which a cell is written.
-use Rattle.std.proofs.lemmas.Grind.{common_steps}
-use Rattle.maker_core.proofs.Common.{◌≡◌, ℕ, ◌<◌, true, List, length, replicate, ◌∙◌, arith, ◌⊎◌, get_or, set, sym, ap, ◌==◌, slice_index, slice_set}
-use Rattle.maker_core.proofs.Common.{elements, get_or-replicate, get_or_past, length-replicate, length-set, set-set, set-get_or, All-replicate}
-use Rattle.maker_core.proofs.Common.{All-set, IsGrid}
+use Rattle.maker_core.proofs.Common.{All-replicate, All-set, IsGrid, List, ap, arith, common_steps, elements, get_or, get_or-replicate, get_or_past, length, length-replicate, length-set, replicate, set, set-get_or, set-set, slice_index, slice_set, sym, true, ℕ, ◌<◌, ◌==◌, ◌∙◌, ◌≡◌, ◌⊎◌}
 
 pub zeros-grid : {n : ℕ} → IsGrid n 2 (replicate n 0)
 zeros-grid {n} = grind (arith, common_steps, length-replicate, All-replicate)

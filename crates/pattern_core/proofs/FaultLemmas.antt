@@ -1,15 +1,9 @@
 -- A grid that no test of a line fails is a solution, and the first line that fails is what a check tells.
-use Rattle.std.proofs.Common.{◌≡◌, ℕ, ◌+◌, ◌-◌, ◌*◌, ◌<◌, ◌++◌, [], ◌∷◌, Bool, true, false, List, Some, sym, ◌∙◌, arith, inl, inr}
-use Rattle.std.specs.List.{AllByRecursion}
-use Rattle.std.proofs.lemmas.Bool.{true≢false, cases_lt}
+use Rattle.pattern_core.proofs.Common.{AllByRecursion, Bool, HasClue, List, Pattern, Some, [], arith, cases_lt, clue_of, false, has_runs, has_runs-from, has_runs-is, inl, inr, line_numbers, line_of_solution, lines_of, solution_from_lines, sym, true, true≢false, ℕ, ◌*◌, ◌++◌, ◌+◌, ◌-◌, ◌<◌, ◌∙◌, ◌∷◌, ◌≡◌}
 use Rattle.grid_core.specs.Grids.{IsGrid}
-use Rattle.grid_core.specs.Lines.{lines_of, line_numbers}
 use Rattle.gameid_core.specs.FirstFailed.{NoneFails}
-use Rattle.gameid_core.specs.Puzzles.{Pattern}
 use Rattle.gameid_core.proofs.FirstFailed.{IsKnown, IsMade, Kind, all_each, each, first_each, first_front, first_rest, known_tests, none_held, right_none}
 use Rattle.pattern_core.specs.Faults.{FailsPattern, IsPatternFault, pattern_tests}
-use Rattle.pattern_core.specs.LineLaws.{has_runs-from, has_runs-is, line_of_solution, solution_from_lines}
-use Rattle.pattern_core.specs.Lines.{HasClue, clue_of, has_runs}
 use Rattle.pattern_core.specs.Solutions.{IsPatternSolution}
 use Rattle.pattern_core.specs.declared.fault.PatternFault.{PatternFault}
 use Rattle.pattern_core.specs.declared.fault.PatternFault.TheVariants.{Column, Row}

@@ -1,22 +1,6 @@
 -- A line of a board whose cells may all be either strikes nothing, where it is roomy for its clue.
-use Rattle.std.proofs.lemmas.Bool.{cases_Bool}
-use Rattle.std.proofs.lemmas.Grind.{common_steps}
-use Rattle.std.proofs.Common.{◌≡◌, ◌∙◌, ℕ, suc, ◌+◌, ◌-◌, ◌*◌, ◌<◌, ◌≤◌, true, false, List, [], ◌∷◌, length, get_or, slice_index, sym, subst, arith}
-use Rattle.std.specs.List.{AllByRecursion}
-use Rattle.std.proofs.lemmas.Bool.{and_parts, ltb-true, true≢false, false_from_ne_true}
-use Rattle.grid_core.specs.Board.{Layout, has}
-use Rattle.grid_core.specs.Candidates.{Candidates}
-use Rattle.grid_core.specs.Lines.{lines_of, line_cells, line_places}
-use Rattle.gameid_core.specs.Puzzles.{Pattern, used}
-use Rattle.engine_core.specs.Filling.{has_value, strikes_by_fillings}
-use Rattle.engine_core.specs.HouseSets.{sets_at, strikes_at}
-use Rattle.engine_core.specs.HouseSetsLaws.{length-sets_at, sets_at-value, strikes_at-some}
+use Rattle.pattern_core.proofs.Common.{AllByRecursion, ArePositive, Candidates, IsFresh, IsIdle, IsRoomy, Layout, List, Pattern, [], and_parts, arith, cases_Bool, clue_of, common_steps, false, false_from_ne_true, get_or, has, has_runs, has_value, in_grid, length, length-line_places, length-sets_at, line_cells, line_places, line_rules, lines_of, ltb-true, sets_at, sets_at-value, slice_index, strikes_at, strikes_at-some, strikes_by_fillings, subst, suc, sym, true, true≢false, used, ℕ, ◌*◌, ◌+◌, ◌-◌, ◌<◌, ◌∙◌, ◌∷◌, ◌≡◌, ◌≤◌}
 use Rattle.engine_core.specs.PlaceLaws.{has_place-here}
-use Rattle.engine_core.specs.RuleSystem.{IsIdle}
-use Rattle.pattern_core.specs.Lines.{clue_of, has_runs, IsRoomy, IsFresh, ArePositive}
-use Rattle.grid_core.proofs.LineLemmas.{length-line_places}
-use Rattle.pattern_core.specs.LineLaws.{in_grid}
-use Rattle.pattern_core.specs.LineRules.{line_rules}
 use Rattle.pattern_core.proofs.Roomy.{nothing_struck}
 
 -- a clue's spelled length and its longest run tell from where on a line is roomy

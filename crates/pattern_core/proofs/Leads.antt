@@ -1,16 +1,5 @@
 -- Fillings that lead along a track, cell by cell: by tests alone, no filling is taken apart.
-use Rattle.std.proofs.lemmas.Bool.{cases_Bool}
-use Rattle.std.proofs.lemmas.Grind.{common_steps}
-use Rattle.std.proofs.Common.{◌≡◌, ◌∙◌, ℕ, zero, suc, ◌<◌, Bool, true, false, ◌&&◌, ◌||◌, List, [], ◌∷◌, drop, refl, sym, ap, ap₂, arith, inl, inr}
-use Rattle.std.proofs.Math.Path.{fun_ext}
-use Rattle.std.proofs.Math.Bool.{and-or_distrib_right, and_assoc, and-false, or-false}
-use Rattle.std.proofs.lemmas.Bool.{false≢true, and_parts, or_cases, or_left, or_right, false_from_ne_true}
-use Rattle.grid_core.specs.Candidates.{any_below}
-use Rattle.grid_core.proofs.CandidateLemmas.{any_below-some, any_below-here}
-use Rattle.engine_core.specs.Filling.{Set, some_filling}
-use Rattle.engine_core.specs.FillingLaws.{filling_from_test, test_from_filling}
-use Rattle.engine_core.specs.Sets.{has_bit}
-use Rattle.pattern_core.specs.Track.{Track, IsBelow, leads, some_leads, set_for, stays, goes_on, ahead, one_on, led, any_cells, cell_is}
+use Rattle.pattern_core.proofs.Common.{Bool, IsBelow, List, Set, Track, [], ahead, and-false, and-or_distrib_right, and_assoc, and_parts, any_below, any_below-here, any_below-some, any_cells, ap, ap₂, arith, cases_Bool, cell_is, common_steps, drop, false, false_from_ne_true, false≢true, filling_from_test, fun_ext, goes_on, has_bit, inl, inr, leads, led, one_on, or-false, or_cases, or_left, or_right, refl, set_for, some_filling, some_leads, stays, suc, sym, test_from_filling, true, zero, ℕ, ◌&&◌, ◌<◌, ◌||◌, ◌∙◌, ◌∷◌, ◌≡◌}
 
 pub same_tests : (x y : Bool) → (x ≡ true → y ≡ true) → (y ≡ true → x ≡ true) → x ≡ y
 same_tests true y h k = sym (h refl)

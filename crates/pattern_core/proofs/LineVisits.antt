@@ -1,21 +1,7 @@
 -- A visit of a line, from its three steps, and the clues that it reads.
-use Rattle.std.proofs.Common.{◌≡◌, ◌∙◌, ℕ, zero, suc, ◌+◌, ◌<◌, ◌≤◌, Bool, false, refl, List, [], ◌∷◌, length, slice_index, get_or, map, sym, ap, subst, arith}
-use Rattle.grid_core.specs.Board.{Layout, has}
-use Rattle.grid_core.specs.Extent.{Extent}
-use Rattle.grid_core.specs.Candidates.{Candidates}
-use Rattle.grid_core.specs.Lines.{line_cells, lines_of, line_places}
-use Rattle.gameid_core.specs.Puzzles.{Pattern, IsPattern, IsClue, AreClues, used}
-use Rattle.engine_core.specs.Filling.{strikes_by_fillings}
-use Rattle.engine_core.specs.HouseSets.{sets_at, kept_in}
-use Rattle.engine_core.specs.HouseSetsLaws.{visited-after, kept-decided, bits-of_values, sets-of_values}
+use Rattle.pattern_core.proofs.Common.{AreClues, ArePositive, Bool, Candidates, Extent, IsBitsOf, IsBoardOf, IsClue, IsDecidedBy, IsPattern, Layout, List, Pattern, [], after, ap, arith, bits-of_values, clue_of, different_places, false, get_or, has, has_runs, kept-decided, kept_in, length, line_cells, line_places, line_rules, line_short, lines_of, map, refl, set_of_bits, sets-of_values, sets_at, slice_index, strikes_by_fillings, subst, suc, sym, used, visited-after, zero, ℕ, ◌+◌, ◌<◌, ◌∙◌, ◌∷◌, ◌≡◌, ◌≤◌}
 use Rattle.engine_core.specs.Keeping.{AreSetsOf, IsKept}
-use Rattle.engine_core.specs.RuleSystem.{IsBoardOf, after}
-use Rattle.engine_core.specs.Sets.{set_of_bits, IsBitsOf}
 use Rattle.engine_core.specs.PositionLaws.{within_of}
-use Rattle.pattern_core.specs.Lines.{has_runs, clue_of, IsDecidedBy, ArePositive}
-use Rattle.pattern_core.specs.LineRules.{line_rules}
-use Rattle.pattern_core.specs.LineLaws.{different_places}
-use Rattle.grid_core.proofs.LineLemmas.{line_short}
 
 -- a visit that strikes what is not kept
 pub line_visited : (p : Pattern) (line : ℕ) {b : Layout} {size : Extent} (K : Candidates)

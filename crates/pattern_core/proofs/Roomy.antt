@@ -1,17 +1,6 @@
 -- A line of cells that may be either, longer than its clue needs by as much as each run is: each of its cells is white in some
 -- filling, and black in some.
-use Rattle.std.proofs.lemmas.Bool.{cases_Bool}
-use Rattle.std.proofs.lemmas.Grind.{common_steps}
-use Rattle.std.proofs.Common.{◌≡◌, ◌∙◌, ℕ, zero, suc, ◌+◌, ◌-◌, ◌<◌, ◌≤◌, List, [], ◌∷◌, ◌++◌, true, false, length, get_or, replicate, refl, ap, subst, arith, inl, inr}
-use Rattle.std.specs.List.{AllByRecursion}
-use Rattle.std.proofs.lemmas.Bool.{cases_lt, cases_eq}
-use Rattle.std.proofs.lemmas.List.{length-append, length-replicate, get_or-replicate, get_or_append_left, get_or-append_right}
-use Rattle.gameid_core.specs.BlackRuns.{runs, runs_after}
-use Rattle.gameid_core.specs.Puzzles.{used}
-use Rattle.engine_core.specs.Filling.{Set, has_value, strikes_by_fillings}
-use Rattle.engine_core.specs.FillingLaws.{test_from_shown}
-use Rattle.pattern_core.specs.Lines.{has_runs, ArePositive}
-use Rattle.pattern_core.specs.LineLaws.{has_runs-from}
+use Rattle.pattern_core.proofs.Common.{AllByRecursion, ArePositive, List, Set, [], ap, arith, cases_Bool, cases_eq, cases_lt, common_steps, false, get_or, get_or-append_right, get_or-replicate, get_or_append_left, has_runs, has_runs-from, has_value, inl, inr, length, length-append, length-replicate, refl, replicate, runs, runs_after, strikes_by_fillings, subst, suc, test_from_shown, true, used, zero, ℕ, ◌++◌, ◌+◌, ◌-◌, ◌<◌, ◌∙◌, ◌∷◌, ◌≡◌, ◌≤◌}
 
 -- cells of such a number that have these runs
 pub record Fitting (clue : List ℕ) (n : ℕ) : Type 0 where

@@ -1,17 +1,6 @@
 -- A line leads along the spelled clue from its first place to an end exactly where its runs are the clue.
-use Rattle.std.proofs.lemmas.Bool.{cases_Bool}
-use Rattle.std.proofs.lemmas.Grind.{common_steps}
-use Rattle.std.proofs.Common.{◌≡◌, ◌∙◌, ℕ, zero, suc, ◌+◌, ◌<◌, ◌≤◌, Bool, true, false, not, ◌&&◌, ◌||◌, eqb, leb, List, [], ◌∷◌, ◌++◌, length, get_or, drop, replicate, refl, sym, ap, ap₂, arith}
+use Rattle.pattern_core.proofs.Common.{ArePositive, Bool, IsBelow, List, Set, [], and-false, ap, ap₂, arith, cases_Bool, cases_eq, cases_lt, cell_is, common_steps, drop, drop-drop, eq-eqb, eqb, eqb-true, false, fun_ext, get_or, get_or-drop, get_or_past, has_runs, le-leb, leads, leb, length, length-append, length-drop, length-replicate, lt-leb, may_stay, ne_eqb, not, or-false, refl, replicate, runs_after, some_leads, spelled, strikes_by_fillings, suc, sym, track_of, true, used, zero, ℕ, ◌&&◌, ◌++◌, ◌+◌, ◌<◌, ◌||◌, ◌∙◌, ◌∷◌, ◌≡◌, ◌≤◌}
 use Rattle.std.specs.Cmp.Lexicographic.{pointwise}
-use Rattle.std.proofs.Math.Bool.{and-false, or-false}
-use Rattle.std.proofs.Math.Path.{fun_ext}
-use Rattle.std.proofs.lemmas.Bool.{cases_eq, cases_lt, eq-eqb, ne_eqb, eqb-true, le-leb, lt-leb}
-use Rattle.std.proofs.lemmas.List.{length-append, length-drop, get_or-drop, drop-drop, get_or_past, length-replicate}
-use Rattle.gameid_core.specs.BlackRuns.{runs_after}
-use Rattle.gameid_core.specs.Puzzles.{used}
-use Rattle.engine_core.specs.Filling.{Set, strikes_by_fillings}
-use Rattle.pattern_core.specs.Lines.{has_runs, ArePositive}
-use Rattle.pattern_core.specs.Track.{spelled, IsBelow, may_stay, track_of, leads, some_leads, cell_is}
 
 -- ---- by what is left of the spelled clue
 -- whether the cells go on to an end of what is left; `may` says whether a further white cell may come first

@@ -1,15 +1,5 @@
 -- A clue spelled cell by cell, as sets of places, and read back from them.
-use Rattle.std.proofs.lemmas.Bool.{cases_Bool}
-use Rattle.std.proofs.lemmas.Grind.{common_steps}
-use Rattle.std.proofs.Common.{◌≡◌, ◌∙◌, ℕ, zero, suc, ◌+◌, ◌-◌, ◌<◌, ◌≤◌, Bool, false, cond, ◌||◌, eqb, List, [], ◌∷◌, ◌++◌, length, get_or, drop, replicate, refl, sym, ap, subst, arith, append_assoc, length-append}
-use Rattle.std.proofs.Math.Bool.{or-false, or-true}
-use Rattle.std.proofs.Math.Path.{fun_ext}
-use Rattle.std.proofs.lemmas.Bool.{cases_eq, cases_lt, eq-eqb, ne_eqb}
-use Rattle.std.proofs.lemmas.List.{get_or_append_left, get_or_past, drop_more, length-replicate, replicate-append-replicate}
-use Rattle.gameid_core.specs.BlackRuns.{runs_after, runs}
-use Rattle.gameid_core.specs.Puzzles.{used}
-use Rattle.pattern_core.specs.Lines.{ArePositive}
-use Rattle.pattern_core.specs.Track.{spelled, Track, track_of, may_stay, one_on, IsSpelling, cells_from, clue_along, IsTrack, IsBelow}
+use Rattle.pattern_core.proofs.Common.{ArePositive, Bool, IsBelow, IsSpelling, IsTrack, List, Track, [], ap, append_assoc, arith, cases_Bool, cases_eq, cases_lt, cells_from, clue_along, common_steps, cond, drop, drop_more, eq-eqb, eqb, false, fun_ext, get_or, get_or_append_left, get_or_past, length, length-append, length-replicate, may_stay, ne_eqb, one_on, or-false, or-true, refl, replicate, replicate-append-replicate, runs, runs_after, spelled, subst, suc, sym, track_of, used, zero, ℕ, ◌++◌, ◌+◌, ◌-◌, ◌<◌, ◌||◌, ◌∙◌, ◌∷◌, ◌≡◌, ◌≤◌}
 use Rattle.pattern_core.proofs.Roomy.{run_first}
 use Rattle.pattern_core.proofs.SpelledRuns.{length-spelled, track_below}
 

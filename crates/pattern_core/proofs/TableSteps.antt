@@ -1,19 +1,6 @@
 -- The steps of the table, at a place of the line.
-use Rattle.std.proofs.lemmas.Bool.{cases_Bool}
-use Rattle.std.proofs.lemmas.Grind.{common_steps}
-use Rattle.std.proofs.Common.{bit_and, ◌≡◌, ◌∙◌, ℕ, zero, suc, ◌+◌, ◌<◌, ◌≤◌, Bool, true, false, ◌&&◌, eqb, List, [], ◌∷◌, length, get_or, drop, set, refl, sym, ap, ap₂, arith, inl, inr}
-use Rattle.std.proofs.Math.Path.{fun_ext}
-use Rattle.std.proofs.Math.Bool.{and-true}
-use Rattle.std.proofs.lemmas.Bool.{cases_eq, and_parts, and_from, eqb-true, true≢false, false_from_ne_true}
-use Rattle.std.proofs.lemmas.List.{length-map, get_or-map, get_or-set_same, get_or-set_other, length-set, drop_all, drop_more, drop-drop, get_or-drop}
-use Rattle.grid_core.specs.Candidates.{any_below}
+use Rattle.pattern_core.proofs.Common.{AreKept, ArePositive, AreRows, Bool, IsBelow, IsDecided, List, Track, [], ahead, and-true, and_from, and_parts, any_below, any_below-here, any_below-same, any_below-some, any_cells, ap, ap₂, arith, bit_and, cases_Bool, cases_eq, cell_is, common_steps, drop, drop-drop, drop_all, drop_more, eqb, eqb-true, false, false_from_ne_true, fun_ext, get_or, get_or-drop, get_or-map, get_or-set_other, get_or-set_same, has_bit, has_runs, inl, inr, leads, led, length, length-map, length-set, refl, set, set_for, set_of_bits, sets_of, some_filling, some_leads, spelled, strikes_by_fillings, suc, sym, track_of, true, true≢false, zero, ℕ, ◌&&◌, ◌+◌, ◌<◌, ◌∙◌, ◌∷◌, ◌≡◌, ◌≤◌}
 use Rattle.grid_core.proofs.BoardLemmas.{bits_both}
-use Rattle.grid_core.proofs.CandidateLemmas.{any_below-some, any_below-here, any_below-same}
-use Rattle.engine_core.specs.Filling.{some_filling, strikes_by_fillings}
-use Rattle.engine_core.specs.Sets.{has_bit, set_of_bits}
-use Rattle.engine_core.specs.HouseSets.{IsDecided}
-use Rattle.pattern_core.specs.Lines.{has_runs, ArePositive}
-use Rattle.pattern_core.specs.Track.{spelled, Track, IsBelow, track_of, leads, some_leads, set_for, ahead, led, any_cells, cell_is, sets_of, AreRows, AreKept}
 use Rattle.pattern_core.proofs.Leads.{same_tests, leads_next, leads_here, ways_on}
 use Rattle.pattern_core.proofs.SpelledRuns.{strikes_by_track}
 

@@ -1,9 +1,8 @@
 -- The command line: what the words may be, by the parser's own definitions of a simple command.
-use Rattle.std.specs.Prelude.{◌≡◌, Bool, false, [], ◌∷◌, List, Option, Some, None, codes, true}
+use Rattle.std.specs.Prelude.{◌≡◌, false, [], ◌∷◌, List, Option, Some, None, codes, true}
 use Rattle.clap.specs.Kinds.{Kinds}
 use Rattle.clap.specs.Walk.{Row, Rule, Text}
-use Rattle.clap.specs.Simple.{App, app_of, new_app, new_rule, on_top, subcommand_of}
-use Rattle.clap.specs.Simple.{with_rule, with_subcommand}
+use Rattle.clap.specs.Simple.{App, app_of, new_app, new_rule, on_top, subcommand_of, with_rule, with_subcommand}
 use Rattle.clap.specs.Faults.{fault_of}
 use Rattle.clap.specs.declared.builder.command.Command.{Command}
 use Rattle.clap.specs.declared.builder.command.Command.TheViews.{out-Command as fields_of}

@@ -7,8 +7,7 @@ use Rattle.engine_core.specs.HouseList.{Listed}
 use Rattle.engine_core.specs.HouseSetsLaws.{kept-decided}
 use Rattle.engine_core.specs.Keeping.{AreSetsOf, IsKept}
 use Rattle.engine_core.specs.ListedHouses.{all_places}
-use Rattle.solo_core.specs.Common.{Candidates, get_or-map, length-map, map-append, Solo, IsSolo, solo_n, Decision, IsDecided, House, house_of, no_house, IsSound}
-use Rattle.solo_core.specs.Common.{Row, houses_of, places_of}
+use Rattle.solo_core.specs.Common.{Candidates, get_or-map, length-map, map-append, Solo, IsSolo, solo_n, Decision, IsDecided, House, house_of, no_house, IsSound, Row, houses_of, places_of}
 use Rattle.solo_core.specs.HouseLaws.{lists_house, all_houses}
 use Rattle.solo_core.specs.RuleSets.{deciding, house_by, filled_houses, setting_of, rules_of, crossings_of}
 

@@ -1,9 +1,7 @@
 -- Houses and crossings by their numbers, and lists of their places.
 use Rattle.std.proofs.lemmas.Grind.{common_steps}
 use Rattle.std.proofs.Common.{◌≡◌, ℕ, zero, suc, ◌+◌, ◌-◌, ◌<◌, ◌≤◌, Bool, true, false, List, [], ◌∷◌, ◌++◌, map, length, get_or, slice_index, take, if◌then◌else◌, refl, sym, ap, ◌∙◌, arith, append-nil, append_assoc, ◌*◌, length-append}
-use Rattle.solo_core.specs.Common.{range_with_len, get_or_append_left, get_or-append_right, get_or-map, length-map, take_more, map-append}
-use Rattle.solo_core.specs.Common.{get_or-map-range_with_len, length-map-range_with_len, Solo, solo_n, NamedHouse, Diagonal, houses_of, house_places, places_of}
-use Rattle.solo_core.specs.Common.{mul-le, House, house_of, no_house}
+use Rattle.solo_core.specs.Common.{range_with_len, get_or_append_left, get_or-append_right, get_or-map, length-map, take_more, map-append, get_or-map-range_with_len, length-map-range_with_len, Solo, solo_n, NamedHouse, Diagonal, houses_of, house_places, places_of, mul-le, House, house_of, no_house}
 use Rattle.std.proofs.Math.Seq.{take-length}
 use Rattle.engine_core.specs.HouseList.{Listed}
 use Rattle.solo_core.specs.BoundLaws.{house_count, count_x, count_plain}

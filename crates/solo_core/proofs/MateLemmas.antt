@@ -2,11 +2,7 @@
 -- are alone and a pairing of the rest make a pairing of the house.
 use Rattle.std.proofs.lemmas.Grind.{common_steps}
 use Rattle.std.proofs.Common.{◌≡◌, ℕ, ◌<◌, true, false, true≢false, List, [], length, get_or, slice_index, map, refl, sym, ◌∙◌, ap, arith, inl, inr, zero, suc, ◌+◌, Bool, not, eqb, ◌∷◌, ◌++◌, cond, append-nil}
-use Rattle.solo_core.specs.Common.{range_with_len, cases_lt, true_from_ne_false, get_or-map, length-map, get_or_past, get_or-map-range_with_len}
-use Rattle.solo_core.specs.Common.{length-map-range_with_len, has_value, IsShownBy, IsPairing, has_bit, set_of_bits, no_repeat, has_in, is_struck}
-use Rattle.solo_core.specs.Common.{cases_Bool, true≢false, not-true, not_from_false, eqb-true, eq-eqb, map-id, filter_of_map_range_with_len_more, length-range_with_len}
-use Rattle.solo_core.specs.Common.{get_or-range_with_len, AreDifferent, has_place-at, has_place-here, place-filter, place-kept, different-filter}
-use Rattle.solo_core.specs.Common.{has_place, nat_tests}
+use Rattle.solo_core.specs.Common.{range_with_len, cases_lt, true_from_ne_false, get_or-map, length-map, get_or_past, get_or-map-range_with_len, length-map-range_with_len, has_value, IsShownBy, IsPairing, has_bit, set_of_bits, no_repeat, has_in, is_struck, cases_Bool, true≢false, not-true, not_from_false, eqb-true, eq-eqb, map-id, filter_of_map_range_with_len_more, length-range_with_len, get_or-range_with_len, AreDifferent, has_place-at, has_place-here, place-filter, place-kept, different-filter, has_place, nat_tests}
 use Rattle.engine_core.specs.FillingLaws.{shown_from_test, test_from_shown}
 use Rattle.solo_core.specs.NoRepeatLaws.{own_from_no_repeat, no_repeat_from_different}
 use Rattle.grid_core.proofs.ShortSets.{no_choice}

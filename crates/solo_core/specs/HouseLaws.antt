@@ -1,10 +1,7 @@
 -- Laws of the houses: each has n different places of the grid, exactly those that lie in it.
 use Rattle.std.proofs.lemmas.Grind.{common_steps}
 use Rattle.std.proofs.Common.{◌≡◌, ℕ, ◌+◌, ◌*◌, ◌/◌, ◌%◌, ◌<◌, Bool, true, false, eqb, List, [], ◌∷◌, map, length, slice_index, if◌then◌else◌, refl, sym, ap, ◌∙◌, inl, inr, arith, All, ◌↔◌, IsTrue}
-use Rattle.solo_core.specs.Common.{has_place, has_place-at, has_place-here, range_with_len, cases_lt, cases_Bool, eq-eqb, eqb-true, true≢false}
-use Rattle.solo_core.specs.Common.{false_from_ne_true, mul-add-lt, mul-le, div-mul-add, mod-mul-add, div_below, mod_below, div-add-mod', All-append, All-nil}
-use Rattle.solo_core.specs.Common.{All-cons, get_or-map-range_with_len, length-map-range_with_len, Solo, IsSolo, solo_n, AreDifferent, NamedHouse, Row, Column}
-use Rattle.solo_core.specs.Common.{Block, Diagonal, solo_cells, houses_of, IsHouseOf, lies_in, places_of}
+use Rattle.solo_core.specs.Common.{has_place, has_place-at, has_place-here, range_with_len, cases_lt, cases_Bool, eq-eqb, eqb-true, true≢false, false_from_ne_true, mul-add-lt, mul-le, div-mul-add, mod-mul-add, div_below, mod_below, div-add-mod', All-append, All-nil, All-cons, get_or-map-range_with_len, length-map-range_with_len, Solo, IsSolo, solo_n, AreDifferent, NamedHouse, Row, Column, Block, Diagonal, solo_cells, houses_of, IsHouseOf, lies_in, places_of}
 use Rattle.grid_core.specs.Regions.{block_places}
 use Rattle.grid_core.proofs.RegionLemmas.{block-within}
 use Rattle.engine_core.specs.Every.{of_first, of_rest, of_value}

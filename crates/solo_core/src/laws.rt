@@ -2,8 +2,7 @@
 #![tactic(auto, using(crate::proofs::LawSets::laws_laws))]
 
 ghost use Rattle.std.specs.Prelude.{◌≡◌, ◌+◌, ◌*◌, length, if◌then◌else◌};
-ghost use Rattle.solo_core.specs.Common.{Solo, IsSolo, solo_n, IsLawful, NamedHouse, houses_of};
-ghost use Rattle.solo_core.specs.Common.{IsHouseOf};
+ghost use Rattle.solo_core.specs.Common.{Solo, IsSolo, solo_n, IsLawful, NamedHouse, houses_of, IsHouseOf};
 ghost use Rattle.solo_core.specs.Meanings.{AcceptsSolutions, StrikesAsMuch, ListsItsPlaces, HousesComeFirst, AreNamedByScopes, house_visits, all_visits};
 ghost use Rattle.solo_core.specs.RuleSets.{houses_rules, singles_rules, crossings_rules};
 ghost use Rattle.solo_core.specs.Scopes.{scopes_of};

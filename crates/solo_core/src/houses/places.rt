@@ -3,8 +3,7 @@
 
 ghost use Rattle.std.specs.Prelude.{◌≡◌, ◌<◌, ◌≤◌, [], OnOk, length, slice_index, slice_index_or};
 ghost use Rattle.engine_core.specs.HouseList.{FitsLists};
-ghost use Rattle.solo_core.specs.Common.{IsSolo, solo_n, NamedHouse, solo_cells, houses_of};
-ghost use Rattle.solo_core.specs.Common.{house_places, IsHouseOf, lies_in, places_of};
+ghost use Rattle.solo_core.specs.Common.{IsSolo, solo_n, NamedHouse, solo_cells, houses_of, house_places, IsHouseOf, lies_in, places_of};
 ghost use Rattle.solo_core.specs.Work.{HasAdded, Begins};
 
 use crate::houses::house::NamedHouse;

@@ -2,8 +2,7 @@
 
 ghost use Rattle.std.specs.Prelude.{◌≡◌, ℕ, ◌<◌, ◌≤◌, ◌&&◌, length};
 ghost use Rattle.grid_core.specs.Candidates.{max_values};
-ghost use Rattle.solo_core.specs.Common.{has_bit as is_set};
-ghost use Rattle.solo_core.specs.Common.{has_in};
+ghost use Rattle.solo_core.specs.Common.{has_bit as is_set, has_in};
 ghost use Rattle.solo_core.specs.Peeled.{IsRest, IsPaired, HasSetOfCell, KeepsReaching, PairsCells, KeepsFillings};
 
 use crate::visits::bits::{all_below, next_bit, with_bit_if};

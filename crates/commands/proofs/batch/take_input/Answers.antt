@@ -1,4 +1,4 @@
-use Rattle.std.proofs.Common.{◌+◌, subst, take, ℕ, ap, refl, ◌∙◌, rules}
+use Rattle.commands.proofs.Common.{ap, refl, rules, subst, take, ℕ, ◌+◌, ◌∙◌}
 use Rattle.commands.proofs.BatchLemmas.{given_more, given_no_more, on_any_err, stopped_here}
 use Rattle.commands.proofs.batch.take_input.Goals as goal
 

@@ -1,7 +1,4 @@
-use Rattle.std.proofs.Common.{refl, ◌≡◌, inl}
-use Rattle.std.specs.Prelude.{◌↔◌}
-use Rattle.commands.specs.Games.{game_of}
-use Rattle.commands.specs.LawsOfCommands.{StatusesAgree, NamesSetWithinSearch}
+use Rattle.commands.proofs.Common.{NamesSetWithinSearch, StatusesAgree, game_of, inl, refl, ◌↔◌, ◌≡◌}
 use Rattle.commands.proofs.GameLaws.{laws_of, with_enough}
 use Rattle.commands.proofs.GradedAlike.{statuses_agree, named_alike, refusals_apart, status_alike}
 use Rattle.commands.proofs.Readings.{both_answers}

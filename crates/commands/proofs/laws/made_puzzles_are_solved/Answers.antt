@@ -1,20 +1,8 @@
-use Rattle.std.proofs.Common.{ap, arith, inl, inr}
-use Rattle.std.proofs.lemmas.List.Elements.{All-contains}
-use Rattle.gameid_core.specs.declared.id.game.Game.TheVariants.{Solo, LightUp}
+use Rattle.commands.proofs.Common.{All-contains, Answer, IsReason, LightUp, MadePuzzlesAreSolved, all_given, ap, arith, game_of, inl, inr, light_game, printed_by, rule_from_test, solo_game, wanted, with_numbers}
+use Rattle.gameid_core.specs.declared.id.game.Game.TheVariants.{Solo}
 use Rattle.fields_core.proofs.LightRuleLemmas.{rule-from-test}
-use Rattle.maker_core.specs.LightClues.{light_game}
-use Rattle.maker_core.specs.LightFilling.{with_numbers}
-use Rattle.maker_core.specs.SoloClues.{solo_game}
-use Rattle.maker_core.specs.SoloFilling.{all_given}
-use Rattle.maker_core.specs.Thinning.{IsReason}
-use Rattle.commands.specs.Common.{rule_from_test}
-use Rattle.commands.specs.Answers.{Answer}
-use Rattle.commands.specs.Games.{game_of}
-use Rattle.commands.specs.PuzzleFacts.{printed_by}
-use Rattle.commands.specs.Allowed.{wanted}
 use Rattle.commands.proofs.GameLaws.{laws_of, passes_as, spelled_read, found_alone, never_one}
 use Rattle.commands.proofs.laws.made_puzzles_are_solved.Goals as goal
-use Rattle.commands.specs.LawsOfCommands.{MadePuzzlesAreSolved}
 
 by : MadePuzzlesAreSolved
 by game size seed budget tries black answer (inl refusal) fine = absurd (omega (arith, fine, ap (λ (a : Answer). a.status) refusal.said))

@@ -1,13 +1,5 @@
-use Rattle.std.proofs.Common.{◌≡◌, ℕ, true, false, Option, Some, None, sym, true≢false}
-use Rattle.std.specs.Str.Lines.{lines}
-use Rattle.gameid_core.specs.declared.id.game.Game.{Game}
-use Rattle.gameid_core.specs.declared.id.game.Game.TheVariants.{Solo, Pattern, LightUp, Tents}
-use Rattle.commands.specs.Answers.{Text}
-use Rattle.commands.specs.Allowed.{AllowsCheck, AllowsGrade, Allows, AllowsSolve, wanted}
-use Rattle.commands.specs.Games.{game_of}
-use Rattle.commands.specs.LawsOfCommands.{HasOneAnswer, is_fixed}
-use Rattle.commands.specs.Replies.{refused_words}
-use Rattle.commands.specs.Asked.{Asked, solve, check, grade, generate}
+use Rattle.commands.proofs.Common.{Allows, AllowsCheck, AllowsGrade, AllowsSolve, Asked, Game, HasOneAnswer, LightUp, None, Option, Some, Text, check, false, game_of, generate, grade, is_fixed, lines, refused_words, solve, sym, true, true≢false, wanted, ℕ, ◌≡◌}
+use Rattle.gameid_core.specs.declared.id.game.Game.TheVariants.{Solo, Pattern, Tents}
 use Rattle.commands.proofs.CheckedPuzzles.{check_same, check_some}
 use Rattle.commands.proofs.GameLaws.{laws_of, solving, listed_right}
 use Rattle.commands.proofs.MadeOnce.{seed_words}

@@ -1,8 +1,4 @@
-use Rattle.std.proofs.Common.{ℕ}
-use Rattle.gameid_core.specs.declared.id.game.Game.{Game}
-use Rattle.commands.specs.Answers.{Answer, Text}
-use Rattle.commands.specs.Allowed.{AllowsCheck, AllowsSolve}
-use Rattle.commands.specs.Games.{game_of}
+use Rattle.commands.proofs.Common.{AllowsCheck, AllowsSolve, Answer, Game, Text, game_of, ℕ}
 use Rattle.commands.proofs.GameLaws.{GoesWith, goes_with, refusals_go, passed, laws_of}
 use Rattle.commands.proofs.Readings.{both_answers}
 use Rattle.commands.proofs.laws.solved_grids_pass.Goals as goal

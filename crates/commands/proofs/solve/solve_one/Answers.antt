@@ -1,4 +1,4 @@
-use Rattle.std.proofs.Common.{Ok, Err, IfOk, Result, inr, ◌∙◌}
+use Rattle.commands.proofs.Common.{Err, IfOk, Ok, Result, inr, ◌∙◌}
 use Rattle.commands.proofs.SearchedPuzzles.{solved_of}
 use Rattle.commands.proofs.solve.solve_one.Goals as goal
 

@@ -1,5 +1,4 @@
-use Rattle.maker_core.proofs.Common.{◌≡◌, ℕ, List, ap, subst, sym, arith, length, ◌+◌, ◌∙◌, refl, Bool, true, false, cond, nat_lt, length-replicate}
-use Rattle.maker_core.proofs.Common.{Stream, IsGrid}
+use Rattle.maker_core.proofs.Common.{Bool, IsGrid, List, Stream, ap, arith, cond, false, length, length-replicate, nat_lt, refl, subst, sym, true, ℕ, ◌+◌, ◌∙◌, ◌≡◌}
 use Rattle.maker_core.proofs.BlackCells.{IsPartDrawn, IsPartDrawn-none, IsPartDrawn-more, IsPartDrawn-all, black_cells-grid}
 use Rattle.maker_core.proofs.black.draw_black.Goals as goal
 

@@ -1,4 +1,4 @@
-use Rattle.std.proofs.Common.{ap, arith}
+use Rattle.pattern_core.proofs.Common.{ap, arith}
 use Rattle.pattern_core.proofs.FaultLemmas.{first_row, not_right}
 use Rattle.pattern_core.proofs.check.check_pattern.Goals as goal
 

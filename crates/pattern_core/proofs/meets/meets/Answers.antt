@@ -1,9 +1,6 @@
-use Rattle.std.proofs.Common.{◌∙◌, ap, arith}
-use Rattle.grid_core.specs.Lines.{line_numbers}
-use Rattle.pattern_core.specs.Track.{along, leads, set_for, led}
+use Rattle.pattern_core.proofs.Common.{along, ap, arith, leads, led, length-line_numbers, line_numbers, set_for, ◌∙◌}
 use Rattle.pattern_core.proofs.MeetLemmas.{meet_next, meet_end}
 use Rattle.pattern_core.proofs.TableSteps.{at_first}
-use Rattle.grid_core.proofs.LineLemmas.{length-line_numbers}
 use Rattle.pattern_core.proofs.meets.meets.Goals as goal
 
 pub loop-k-init : goal.loop-k-init

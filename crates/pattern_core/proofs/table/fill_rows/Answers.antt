@@ -1,5 +1,4 @@
-use Rattle.std.proofs.Common.{◌≡◌, ◌+◌, ◌-◌, arith, refl, subst}
-use Rattle.pattern_core.specs.Track.{along, AreRows}
+use Rattle.pattern_core.proofs.Common.{AreRows, along, arith, refl, subst, ◌+◌, ◌-◌, ◌≡◌}
 use Rattle.pattern_core.proofs.TableSteps.{last_row, one_row}
 use Rattle.pattern_core.proofs.table.fill_rows.Goals as goal
 

@@ -1,8 +1,4 @@
-use Rattle.std.proofs.Common.{ap, arith, refl, set, ◌&&◌, ◌∙◌}
-use Rattle.std.proofs.lemmas.Bool.{eqb-true, not-false, or_parts}
-use Rattle.std.proofs.lemmas.List.{get_or-set_other, set-get_or}
-use Rattle.grid_core.proofs.CandidateLemmas.{any_below-same}
-use Rattle.pattern_core.specs.Track.{along, led}
+use Rattle.pattern_core.proofs.Common.{along, any_below-same, ap, arith, eqb-true, get_or-set_other, led, not-false, or_parts, refl, set, set-get_or, ◌&&◌, ◌∙◌}
 use Rattle.pattern_core.proofs.TableSteps.{kept_cell, kept_none, reached_first, reached_next, row_next}
 use Rattle.pattern_core.proofs.table.filter_cells.Goals as goal
 

@@ -1,5 +1,4 @@
-use Rattle.std.proofs.Common.{◌∙◌, ◌&&◌, ◌||◌, ap, ap₂}
-use Rattle.pattern_core.specs.Track.{along}
+use Rattle.pattern_core.proofs.Common.{along, ap, ap₂, ◌&&◌, ◌||◌, ◌∙◌}
 use Rattle.pattern_core.proofs.Words.{led_words}
 use Rattle.pattern_core.proofs.table.led_by.Goals as goal
 

@@ -1,6 +1,4 @@
-use Rattle.std.proofs.Common.{◌∙◌, ◌&&◌, ◌||◌, ap, ap₂, sym}
-use Rattle.std.proofs.Math.Bool.{or-false}
-use Rattle.pattern_core.specs.Track.{along, stays, goes_on}
+use Rattle.pattern_core.proofs.Common.{along, ap, ap₂, goes_on, or-false, stays, sym, ◌&&◌, ◌||◌, ◌∙◌}
 use Rattle.pattern_core.proofs.Words.{led_words}
 use Rattle.pattern_core.proofs.table.ways_of.Goals as goal
 

@@ -1,8 +1,4 @@
-use Rattle.std.proofs.Common.{◌≤◌, get_or, ap, arith, inl, inr}
-use Rattle.std.proofs.lemmas.Bool.{cases_eq}
-use Rattle.std.proofs.lemmas.Grind.{common_steps}
-use Rattle.std.proofs.lemmas.List.{drop_more}
-use Rattle.gameid_core.specs.Puzzles.{used}
+use Rattle.pattern_core.proofs.Common.{ap, arith, cases_eq, common_steps, drop_more, get_or, inl, inr, used, ◌≤◌}
 use Rattle.pattern_core.proofs.Fresh.{roomy}
 use Rattle.pattern_core.proofs.track.measured.Goals as goal
 

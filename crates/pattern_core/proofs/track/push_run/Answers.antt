@@ -1,6 +1,4 @@
-use Rattle.std.proofs.Common.{◌≡◌, ◌∙◌, ◌++◌, ℕ, [], ◌∷◌, replicate, ap, arith, subst, length-append}
-use Rattle.std.proofs.lemmas.List.{length-replicate}
-use Rattle.pattern_core.specs.Track.{IsSpelling}
+use Rattle.pattern_core.proofs.Common.{IsSpelling, [], ap, arith, length-append, length-replicate, replicate, subst, ℕ, ◌++◌, ◌∙◌, ◌∷◌, ◌≡◌}
 use Rattle.pattern_core.proofs.Spellings.{one_more, run_ended}
 use Rattle.pattern_core.proofs.track.push_run.Goals as goal
 

@@ -1,6 +1,4 @@
-use Rattle.std.proofs.Common.{◌∙◌, ◌++◌, [], refl, sym, ap, arith, append-nil, subst}
-use Rattle.std.proofs.lemmas.List.{drop_all}
-use Rattle.pattern_core.specs.Track.{spelled, Spells}
+use Rattle.pattern_core.proofs.Common.{Spells, [], ap, append-nil, arith, drop_all, refl, spelled, subst, sym, ◌++◌, ◌∙◌}
 use Rattle.pattern_core.proofs.SpelledRuns.{length-spelled}
 use Rattle.pattern_core.proofs.Spellings.{spelling_none, next_run, run_fits, track_spelled}
 use Rattle.pattern_core.proofs.track.spell.Goals as goal

@@ -1,5 +1,4 @@
-use Rattle.std.proofs.Common.{◌∷◌, []}
-use Rattle.std.specs.Str.Lines.{strip_carriage_return}
+use Rattle.commands.proofs.Common.{[], strip_carriage_return, ◌∷◌}
 use Rattle.commands.proofs.BatchLemmas.{on_any_err, step_answered, step_broken, step_stopped}
 use Rattle.commands.proofs.batch.Batch.answer_line.Goals as goal
 

@@ -1,5 +1,4 @@
-use Rattle.std.proofs.Common.{◌∷◌, [], refl}
-use Rattle.std.proofs.lemmas.Bool.{ne_eqb}
+use Rattle.commands.proofs.Common.{[], ne_eqb, refl, ◌∷◌}
 use Rattle.commands.proofs.BatchLemmas.{on_any_err, step_in_line, step_stopped}
 use Rattle.commands.proofs.batch.Batch.take_byte.Goals as goal
 

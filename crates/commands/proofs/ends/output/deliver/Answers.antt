@@ -1,4 +1,4 @@
-use Rattle.std.proofs.Common.{refl, inl, inr}
+use Rattle.commands.proofs.Common.{inl, inr, refl}
 use Rattle.commands.proofs.RunLemmas.{delivers_all}
 use Rattle.commands.proofs.ends.output.deliver.Goals as goal
 

@@ -1,4 +1,4 @@
-use Rattle.std.proofs.Common.{refl}
+use Rattle.commands.proofs.Common.{refl}
 use Rattle.commands.proofs.RunLemmas.{put_more, put_failed}
 use Rattle.commands.proofs.ends.output.put_all.Goals as goal
 

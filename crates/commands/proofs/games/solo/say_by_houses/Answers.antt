@@ -1,6 +1,4 @@
-use Rattle.std.proofs.Common.{[], rules, sym}
-use Rattle.commands.specs.SoloFacts.{after_houses, solo_facts}
-use Rattle.commands.specs.declared.grade.RuleSet.TheVariants.{Houses}
+use Rattle.commands.proofs.Common.{Houses, [], after_houses, rules, solo_facts, sym}
 use Rattle.commands.proofs.GradeLemmas.{said_first, said_later, houses_named, named}
 use Rattle.commands.proofs.SearchedPuzzles.{solo_searched}
 use Rattle.commands.proofs.RunLemmas.{says_nothing}

@@ -1,4 +1,4 @@
-use Rattle.std.proofs.Common.{refl}
+use Rattle.commands.proofs.Common.{refl}
 use Rattle.commands.proofs.GradeLemmas.{said_begun, said_whole}
 use Rattle.commands.proofs.RunLemmas.{is_late}
 use Rattle.commands.proofs.grade.Attempt.say.Goals as goal

@@ -1,4 +1,4 @@
-use Rattle.std.proofs.Common.{◌∙◌, sym}
+use Rattle.commands.proofs.Common.{sym, ◌∙◌}
 use Rattle.commands.proofs.GradeLemmas.{settled_one}
 use Rattle.commands.proofs.grade.grading.settles.Goals as goal
 

@@ -1,5 +1,4 @@
-use Rattle.engine_core.proofs.Common.{ap, arith, length, start_at, suc, ◌∙◌}
-use Rattle.engine_core.specs.HouseIndex.{AreAt, number_in}
+use Rattle.engine_core.proofs.Common.{AreAt, ap, arith, length, number_in, start_at, suc, ◌∙◌}
 use Rattle.engine_core.proofs.IndexLemmas.{counts_same, houses_of_places}
 use Rattle.engine_core.proofs.PlaceCounts.{all-within, all-long, counted-in}
 use Rattle.engine_core.proofs.houses.table.write_ends.Goals as goal

@@ -1,4 +1,4 @@
-use Rattle.std.proofs.Common.{◌∙◌, arith}
+use Rattle.fields_core.proofs.Common.{arith, ◌∙◌}
 use Rattle.fields_core.proofs.TentBeside.{cell-after, cell-turn}
 use Rattle.fields_core.proofs.light_up.cells.next_column.Goals as goal
 

@@ -1,10 +1,4 @@
-use Rattle.std.proofs.Common.{[], ap, map, length, sym, arith}
-use Rattle.std.proofs.lemmas.List.{append-nil}
-use Rattle.engine_core.specs.HouseList.{Listed}
-use Rattle.fields_core.specs.CountHouse.{houses_below}
-use Rattle.fields_core.specs.CountLists.{house_places}
-use Rattle.fields_core.specs.Light.{light_cells}
-use Rattle.fields_core.specs.LightHouses.{row_run, column_run, begins_row_run, begins_column_run, number_house, row_house, column_house, light_houses}
+use Rattle.fields_core.proofs.Common.{Listed, [], ap, append-nil, arith, begins_column_run, begins_row_run, column_house, column_run, house_places, houses_below, length, light_cells, light_houses, map, number_house, row_house, row_run, sym}
 use Rattle.fields_core.proofs.CountListLemmas.{added-few, four-added, if-few}
 use Rattle.fields_core.proofs.LightCounting.{light-counting, number-one}
 use Rattle.fields_core.proofs.LightLatest.{runs-added}

@@ -1,4 +1,4 @@
-use Rattle.std.proofs.Common.{arith}
+use Rattle.fields_core.proofs.Common.{arith}
 use Rattle.fields_core.proofs.LightCounting.{light-board, column-run-few}
 use Rattle.fields_core.proofs.light_up.houses.push_column.Goals as goal
 

@@ -1,6 +1,4 @@
-use Rattle.std.proofs.Common.{◌≡◌, ◌<◌, true, false, sym, ◌∙◌, arith}
-use Rattle.fields_core.specs.Light.{white}
-use Rattle.fields_core.specs.LightHouses.{lit_house}
+use Rattle.fields_core.proofs.Common.{arith, false, lit_house, sym, true, white, ◌<◌, ◌∙◌, ◌≡◌}
 use Rattle.fields_core.proofs.CountListLemmas.{added-fits, if-few}
 use Rattle.fields_core.proofs.LightLatest.{added-next, rows-few, rows-same, row-at, columns-few, columns-same, column-at, lit-added, lit-none}
 use Rattle.fields_core.proofs.HouseLists.{column-black, row-black}

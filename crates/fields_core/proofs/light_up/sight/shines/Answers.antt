@@ -1,6 +1,4 @@
-use Rattle.std.proofs.Common.{◌+◌, ◌*◌, arith, ap, slice_index, sym, ◌∙◌}
-use Rattle.std.proofs.lemmas.Bool.{eq-eqb}
-use Rattle.fields_core.specs.Light.{white, bulb}
+use Rattle.fields_core.proofs.Common.{ap, arith, bulb, eq-eqb, slice_index, sym, white, ◌*◌, ◌+◌, ◌∙◌}
 use Rattle.fields_core.proofs.LightSeen.{walk-black, walk-bulb}
 use Rattle.fields_core.proofs.light_up.sight.shines.Goals as goal
 

@@ -1,5 +1,4 @@
-use Rattle.std.proofs.Common.{refl, sym, ◌∙◌}
-use Rattle.grid_core.proofs.PlaneLemmas.{further-more, further-none}
+use Rattle.fields_core.proofs.Common.{further-more, further-none, refl, sym, ◌∙◌}
 use Rattle.fields_core.proofs.PartLemmas.{line_in, struck-more, struck-none}
 use Rattle.fields_core.proofs.planes.visit.strike.Goals as goal
 

@@ -1,4 +1,4 @@
-use Rattle.std.proofs.Common.{arith, ◌∙◌, inl, inr}
+use Rattle.fields_core.proofs.Common.{arith, inl, inr, ◌∙◌}
 use Rattle.fields_core.proofs.PartLemmas.{broken, counted-fewer, no-bound, none-undecided, one-bound, struck-alive, visited-idle, visited-struck, zero-bound}
 use Rattle.fields_core.proofs.planes.visit.visit.Goals as goal
 use Rattle.fields_core.proofs.planes.visit.visit.Goals.{then-may-least-via-then-may-least, then-may-least-via-else-may-least+then-most-must}

@@ -1,5 +1,4 @@
-use Rattle.gameid_core.proofs.FirstFailed.{none_exactly}
-use Rattle.fields_core.specs.TentFaults.{FailsTents, tent_tests}
+use Rattle.fields_core.proofs.Common.{FailsTents, none_exactly, tent_tests}
 use Rattle.fields_core.proofs.TentRuleLemmas.{tents-none}
 use Rattle.fields_core.proofs.tents.check.check_tents.Goals as goal
 

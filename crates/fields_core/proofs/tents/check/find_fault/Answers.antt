@@ -1,7 +1,4 @@
-use Rattle.std.proofs.Common.{[], ◌∷◌, arith, sym, ◌∙◌}
-use Rattle.gameid_core.proofs.FirstFailed.{first_in, none_right}
-use Rattle.fields_core.specs.TentFaults.{FailsTents}
-use Rattle.fields_core.specs.Tents.{column_right, row_right}
+use Rattle.fields_core.proofs.Common.{FailsTents, [], arith, column_right, first_in, none_right, row_right, sym, ◌∙◌, ◌∷◌}
 use Rattle.fields_core.proofs.TentRuleLemmas.{columns, kinds, match, rows, tents-made, tents-sound, touch, trees}
 use Rattle.fields_core.proofs.tents.check.find_fault.Goals as goal
 

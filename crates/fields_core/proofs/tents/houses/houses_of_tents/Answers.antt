@@ -1,7 +1,4 @@
-use Rattle.std.proofs.Common.{◌+◌, ◌/◌, ◌%◌, ◌&&◌, ltb, ap, length, arith}
-use Rattle.engine_core.specs.HouseList.{Listed}
-use Rattle.fields_core.specs.Tents.{tree}
-use Rattle.fields_core.specs.TentHouses.{column_of_tents, row_of_tents, tree_house, square_house, tent_houses}
+use Rattle.fields_core.proofs.Common.{Listed, ap, arith, column_of_tents, length, ltb, row_of_tents, square_house, tent_houses, tree, tree_house, ◌%◌, ◌&&◌, ◌+◌, ◌/◌}
 use Rattle.fields_core.proofs.CountListLemmas.{added-few, four-added, if-few}
 use Rattle.fields_core.proofs.TentCounting.{tent-counting, tent-field}
 use Rattle.fields_core.proofs.tents.houses.houses_of_tents.Goals as goal

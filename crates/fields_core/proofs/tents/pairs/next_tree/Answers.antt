@@ -1,6 +1,4 @@
-use Rattle.std.proofs.Common.{sym, ap, ◌∙◌}
-use Rattle.grid_core.specs.Extent.{Extent}
-use Rattle.grid_core.specs.Regions.{step}
+use Rattle.fields_core.proofs.Common.{Extent, ap, step, sym, ◌∙◌}
 use Rattle.fields_core.proofs.TentNext.{next-found}
 use Rattle.fields_core.proofs.tents.pairs.next_tree.Goals as goal
 

@@ -1,4 +1,4 @@
-use Rattle.maker_core.proofs.Common.{◌*◌, ◌∙◌, ap, arith, rules}
+use Rattle.maker_core.proofs.Common.{ap, arith, rules, ◌*◌, ◌∙◌}
 use Rattle.maker_core.proofs.LightCells.{numbered_all, bulbs_few}
 use Rattle.maker_core.proofs.light_up.filling.number_cells.Goals as goal
 

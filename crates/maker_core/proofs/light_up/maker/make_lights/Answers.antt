@@ -1,5 +1,4 @@
-use Rattle.maker_core.proofs.Common.{refl, sym, ◌∙◌, ap, subst, light_rules, IsLightSolution, rule-from-test, test-from-rule}
-use Rattle.maker_core.proofs.Common.{light_game, light_puzzle_of, lights_of, with_numbers, IsThinnedFrom}
+use Rattle.maker_core.proofs.Common.{IsLightSolution, IsThinnedFrom, ap, light_game, light_puzzle_of, light_rules, lights_of, refl, rule-from-test, subst, sym, test-from-rule, with_numbers, ◌∙◌}
 use Rattle.maker_core.proofs.OnlySolutions.{only_is}
 use Rattle.maker_core.proofs.FirstTries.{draws_first}
 use Rattle.maker_core.proofs.light_up.maker.make_lights.Goals as goal

@@ -1,4 +1,4 @@
-use Rattle.maker_core.proofs.Common.{refl, line_rules, is_solution-is, is_solution-from, IsPatternSolution}
+use Rattle.maker_core.proofs.Common.{IsPatternSolution, is_solution-from, is_solution-is, line_rules, refl}
 use Rattle.maker_core.proofs.OnlySolutions.{one_is}
 use Rattle.maker_core.proofs.FirstTries.{draws_first}
 use Rattle.maker_core.proofs.pattern.maker.make_pattern.Goals as goal

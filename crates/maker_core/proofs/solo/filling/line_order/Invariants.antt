@@ -1,4 +1,4 @@
-use Rattle.maker_core.proofs.Common.{◌≡◌, lines_of_groups, shuffled_order}
+use Rattle.maker_core.proofs.Common.{lines_of_groups, shuffled_order, ◌≡◌}
 use Rattle.maker_core.proofs.SoloOrderLemmas.{AreGrouped}
 use Rattle.maker_core.proofs.solo.filling.line_order.Given as goal
 

@@ -1,4 +1,4 @@
-use Rattle.maker_core.proofs.Common.{◌≡◌, tents_after}
+use Rattle.maker_core.proofs.Common.{tents_after, ◌≡◌}
 use Rattle.maker_core.proofs.TentsSolved.{IsFillingAfter}
 use Rattle.maker_core.proofs.tents.filling.take_cells.Given as goal
 

@@ -1,4 +1,4 @@
-use Rattle.maker_core.proofs.Common.{refl, ◌∙◌, ap, tent_rules, IsTentSolution, solution-from-tents, tents-from-solution, tents_puzzle_of}
+use Rattle.maker_core.proofs.Common.{IsTentSolution, ap, refl, solution-from-tents, tent_rules, tents-from-solution, tents_puzzle_of, ◌∙◌}
 use Rattle.maker_core.proofs.OnlySolutions.{one_is}
 use Rattle.maker_core.proofs.FirstTries.{draws_first}
 use Rattle.maker_core.proofs.tents.maker.make_tents.Goals as goal

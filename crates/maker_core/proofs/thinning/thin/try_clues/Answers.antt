@@ -1,4 +1,4 @@
-use Rattle.maker_core.proofs.Common.{◌≡◌, Option, None, replicate, rules, ap, ◌∙◌, Why}
+use Rattle.maker_core.proofs.Common.{None, Option, Why, ap, replicate, rules, ◌∙◌, ◌≡◌}
 use Rattle.maker_core.proofs.ThinningReasons.{thinning_start, all_tried}
 use Rattle.maker_core.proofs.ThinningTurns.{contains_head, next_turn, turn, turn_in_room, thinning_turn}
 use Rattle.maker_core.proofs.thinning.thin.try_clues.Goals as goal

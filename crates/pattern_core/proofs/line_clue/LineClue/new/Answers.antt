@@ -1,4 +1,4 @@
-use Rattle.std.proofs.Common.{arith}
+use Rattle.pattern_core.proofs.Common.{arith}
 use Rattle.pattern_core.proofs.LineVisits.{clue_of_line}
 use Rattle.pattern_core.proofs.line_clue.LineClue.new.Goals as goal
 

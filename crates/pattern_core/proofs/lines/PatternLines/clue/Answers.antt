@@ -1,8 +1,4 @@
-use Rattle.std.proofs.Common.{[], ◌∙◌, sym, ap, arith}
-use Rattle.std.proofs.lemmas.List.{get_or-map, length-map}
-use Rattle.grid_core.specs.Lines.{lines_of}
-use Rattle.pattern_core.specs.Lines.{clue_of}
-use Rattle.pattern_core.specs.LineClues.{numbers_in}
+use Rattle.pattern_core.proofs.Common.{[], ap, arith, clue_of, get_or-map, length-map, lines_of, numbers_in, sym, ◌∙◌}
 use Rattle.pattern_core.proofs.lines.PatternLines.clue.Goals as goal
 
 pub returns : goal.returns

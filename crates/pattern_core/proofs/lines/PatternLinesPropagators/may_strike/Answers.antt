@@ -1,5 +1,4 @@
-use Rattle.std.proofs.Common.{◌∙◌, ap}
-use Rattle.grid_core.specs.Lines.{line_cells}
+use Rattle.pattern_core.proofs.Common.{ap, line_cells, ◌∙◌}
 use Rattle.pattern_core.proofs.Fresh.{fresh_idle}
 use Rattle.pattern_core.proofs.lines.PatternLinesPropagators.may_strike.Goals as goal
 

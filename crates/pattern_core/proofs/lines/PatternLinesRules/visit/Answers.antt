@@ -1,5 +1,4 @@
-use Rattle.std.proofs.Common.{arith}
-use Rattle.std.proofs.lemmas.Grind.{common_steps}
+use Rattle.pattern_core.proofs.Common.{arith, common_steps}
 use Rattle.pattern_core.proofs.LineVisits.{line_visited}
 use Rattle.pattern_core.proofs.lines.PatternLinesRules.visit.Goals as goal
 

@@ -1,4 +1,4 @@
-use Rattle.std.proofs.Common.{arith}
+use Rattle.pattern_core.proofs.Common.{arith}
 use Rattle.pattern_core.proofs.Words.{bits_on, no_high}
 use Rattle.pattern_core.proofs.slots.U128Slots.on.Goals as goal
 

@@ -1,5 +1,4 @@
-use Rattle.std.proofs.Common.{sym, subst}
-use Rattle.pattern_core.specs.Lines.{IsRoomy}
+use Rattle.pattern_core.proofs.Common.{IsRoomy, subst, sym}
 use Rattle.pattern_core.proofs.Spellings.{clue_back, track_of_clue}
 use Rattle.pattern_core.proofs.track.SpelledClue.new.Goals as goal
 

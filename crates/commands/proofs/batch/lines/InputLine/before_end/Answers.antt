@@ -1,5 +1,4 @@
-use Rattle.std.proofs.Common.{arith, subst}
-use Rattle.commands.specs.Batches.{IsLine}
+use Rattle.commands.proofs.Common.{IsLine, arith, subst}
 use Rattle.commands.proofs.InputLemmas.{line_told}
 use Rattle.commands.proofs.batch.lines.InputLine.before_end.Goals as goal
 

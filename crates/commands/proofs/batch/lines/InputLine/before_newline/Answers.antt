@@ -1,6 +1,4 @@
-use Rattle.std.proofs.Common.{◌∙◌, ap, subst}
-use Rattle.commands.specs.Batches.{IsLine}
-use Rattle.std.specs.Str.Lines.{strip_carriage_return}
+use Rattle.commands.proofs.Common.{IsLine, ap, strip_carriage_return, subst, ◌∙◌}
 use Rattle.commands.proofs.InputLemmas.{line_told, strip_length}
 use Rattle.commands.proofs.batch.lines.InputLine.before_newline.Goals as goal
 

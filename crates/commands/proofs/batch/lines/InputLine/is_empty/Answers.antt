@@ -1,5 +1,4 @@
-use Rattle.std.proofs.Common.{◌≡◌, ◌∙◌, ◌==◌, ◌+◌, ap, arith, length, vec_len}
-use Rattle.commands.specs.Common.{max_id}
+use Rattle.commands.proofs.Common.{ap, arith, length, max_id, vec_len, ◌+◌, ◌==◌, ◌∙◌, ◌≡◌}
 use Rattle.commands.proofs.InputLemmas.{line_empty}
 use Rattle.commands.proofs.batch.lines.InputLine.is_empty.Goals as goal
 

@@ -1,5 +1,4 @@
-use Rattle.std.proofs.Common.{◌≡◌, ◌∙◌, ◌+◌, ◌++◌, ◌∷◌, [], rules}
-use Rattle.commands.specs.Common.{max_id}
+use Rattle.commands.proofs.Common.{[], max_id, rules, ◌++◌, ◌+◌, ◌∙◌, ◌∷◌, ◌≡◌}
 use Rattle.commands.proofs.InputLemmas.{holds_kept, holds_more}
 use Rattle.commands.proofs.batch.lines.InputLine.push.Goals as goal
 

@@ -1,8 +1,4 @@
-use Rattle.std.proofs.Common.{rules, sym}
-use Rattle.commands.specs.Common.{crossings_rules}
-use Rattle.commands.specs.Grades.{only_set}
-use Rattle.commands.specs.SoloFacts.{after_singles, solo_facts}
-use Rattle.commands.specs.declared.grade.RuleSet.TheVariants.{Crossings, Singles}
+use Rattle.commands.proofs.Common.{Crossings, Singles, after_singles, crossings_rules, only_set, rules, solo_facts, sym}
 use Rattle.commands.proofs.GradeLemmas.{said_first, said_later, named, singles_named}
 use Rattle.commands.proofs.SearchedPuzzles.{singles_searched}
 use Rattle.commands.proofs.RunLemmas.{says_nothing}

@@ -1,13 +1,7 @@
-use Rattle.std.proofs.Common.{◌≡◌, ℕ, Bool, arith}
-use Rattle.std.specs.Prelude.{Ok, true}
-use Rattle.std.proofs.lemmas.Grind.{common_steps}
+use Rattle.commands.proofs.Common.{Bool, IsSoloUnmade, Ok, Text, arith, common_steps, in_range, size_of, solo_facts, true, ℕ, ◌≡◌}
 use Rattle.gameid_core.specs.declared.id.game.Game.TheVariants as game
-use Rattle.maker_core.specs.SoloMaking.{IsSoloUnmade}
 use Rattle.maker_core.specs.declared.made.MakeFault.{MakeFault}
 use Rattle.maker_core.specs.declared.made.MakeFault.TheVariants.{Exhausted, Memory, SizeRange}
-use Rattle.commands.specs.Answers.{Text}
-use Rattle.commands.specs.Common.{in_range, size_of}
-use Rattle.commands.specs.SoloFacts.{solo_facts}
 use Rattle.commands.specs.Unmade.{IsUnmade, unmade_by, wanted_in}
 use Rattle.commands.specs.declared.generate.Recipe.{Recipe}
 use Rattle.commands.proofs.games.solo.SoloPuzzleMakable.make.Goals as goal

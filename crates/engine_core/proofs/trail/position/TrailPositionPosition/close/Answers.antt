@@ -1,6 +1,5 @@
-use Rattle.engine_core.proofs.Common.{IsClosing, IsRested, [], arith, board_in, drop, has, is_waiting, length, refl, sym, take, ◌++◌, ◌∙◌}
+use Rattle.engine_core.proofs.Common.{Dead, IsClosing, IsRested, [], arith, board_in, drop, has, is_waiting, length, refl, sym, take, ◌++◌, ◌∙◌}
 use Rattle.engine_core.proofs.WaitLemmas.{written-back}
-use Rattle.engine_core.specs.declared.mode.Closing.TheVariants.{Dead}
 use Rattle.engine_core.proofs.QueueLemmas.{rested_from, dead_of, within_of}
 use Rattle.engine_core.proofs.ListLemmas.{closing-none}
 use Rattle.engine_core.proofs.EndLemmas.{closed-in, taken-dead}

@@ -1,4 +1,4 @@
-use Rattle.std.proofs.Common.{ap, arith, length, length-append, length-take, take}
+use Rattle.fields_core.proofs.Common.{ap, arith, length, length-append, length-take, take}
 use Rattle.fields_core.proofs.count.list.CountList.push_run.Goals as goal
 
 pub push-requires-clause-fits : goal.push-requires-clause-fits

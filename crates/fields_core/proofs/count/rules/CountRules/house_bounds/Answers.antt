@@ -1,6 +1,4 @@
-use Rattle.std.proofs.Common.{ap, length, ◌∙◌, arith}
-use Rattle.std.proofs.lemmas.List.{length-map}
-use Rattle.fields_core.specs.CountLists.{bounds_of}
+use Rattle.fields_core.proofs.Common.{ap, arith, bounds_of, length, length-map, ◌∙◌}
 use Rattle.fields_core.proofs.CountListLemmas.{bounds-at}
 use Rattle.fields_core.proofs.count.rules.CountRules.house_bounds.Goals as goal
 

@@ -1,7 +1,4 @@
-use Rattle.std.proofs.Common.{arith, ap, slice_index, ◌≡◌, ◌∙◌}
-use Rattle.std.proofs.lemmas.List.{get_or_default}
-use Rattle.fields_core.specs.Tallies.{moved_tally, tally_at}
-use Rattle.fields_core.specs.declared.count.tally.Tally.{Tally}
+use Rattle.fields_core.proofs.Common.{Tally, ap, arith, get_or_default, moved_tally, slice_index, tally_at, ◌∙◌, ◌≡◌}
 use Rattle.fields_core.proofs.CountListLemmas.{counted-table}
 use Rattle.fields_core.proofs.CountTallies.{movable, not-twice, moved-next, moved-end, tallied-moved}
 use Rattle.fields_core.proofs.count.tallies.TalliesCountingCountRules.change.Goals as goal

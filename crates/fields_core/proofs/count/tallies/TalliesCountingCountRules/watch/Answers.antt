@@ -1,12 +1,5 @@
-use Rattle.std.proofs.Common.{◌≡◌, ◌++◌, ◌<◌, ◌^◌, List, ℕ, take, subst, ap, length, arith}
-use Rattle.std.proofs.lemmas.List.{length-map}
-use Rattle.grid_core.specs.Board.{has}
-use Rattle.engine_core.specs.HouseIndex.{Table, scope_of}
+use Rattle.fields_core.proofs.Common.{AreTallied, List, Table, Tally, ap, arith, has, house_places, length, length-map, places-at, scope_of, subst, take, ℕ, ◌++◌, ◌<◌, ◌^◌, ◌≡◌}
 use Rattle.std.proofs.Math.Seq.{take-append_seam}
-use Rattle.fields_core.specs.CountLaws.{places-at}
-use Rattle.fields_core.specs.CountLists.{house_places}
-use Rattle.fields_core.specs.Tallies.{AreTallied}
-use Rattle.fields_core.specs.declared.count.tally.Tally.{Tally}
 use Rattle.fields_core.proofs.CountListLemmas.{counted-table}
 use Rattle.fields_core.proofs.CountWatch.{board-within, bits-are, unread-tallied, read-change, read-both, read-whole}
 use Rattle.fields_core.proofs.count.tallies.TalliesCountingCountRules.watch.Goals as goal

@@ -1,6 +1,6 @@
 use Rattle.fields_core.proofs.LightLatest.{columns-begun, columns-same}
 use Rattle.fields_core.proofs.LightSight.{some-column}
-use Rattle.std.proofs.Common.{sym, ◌∙◌}
+use Rattle.fields_core.proofs.Common.{sym, ◌∙◌}
 use Rattle.fields_core.proofs.light_up.lit.ColumnRuns.pass.Goals as goal
 
 pub returns : goal.returns
