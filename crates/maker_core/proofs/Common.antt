@@ -22,7 +22,8 @@ pub use Rattle.std.proofs.lemmas.Map.Keys.{IsDistinct-IsPermutation, IsDistinct-
 pub use Rattle.std.proofs.lemmas.Nat.{div-add-mod', div-mul-add, div_below, mod-mul-add, mod_below, mul-add-lt, mul-le, same_from_place}
 pub use Rattle.std.proofs.lemmas.Result.{IfOk-weaker}
 pub use Rattle.std.proofs.lemmas.Simd.{map-map}
-pub use Rattle.std.specs.List.{AllByRecursion, IsDistinct, range_with_len}
+pub use Rattle.std.specs.List.{AllByRecursion, range_with_len}
+unfoldable pub use Rattle.std.specs.List.{IsDistinct}
 pub use Rattle.std.specs.Prelude.{All, Contains, Err, IfSome, IsPermutation, IsTrue, Result, filter, if◌then◌else◌, is_some, nat_lt, slice_index_or}
 pub use Rattle.std.specs.Prelude.{slice_set, sum, sum_by, ◌==◌, ◌||◌, ◌↔◌}
 pub use Rattle.grid_core.proofs.CandidateLemmas.{all_below-at, all_below-from, any_below-here, any_below-none, any_below-some, count_below-few}
@@ -61,7 +62,7 @@ pub use Rattle.engine_core.specs.Stored.{IsAnswer}
 pub use Rattle.engine_core.specs.Verdict.{IsTrueOf, Outcome, Outcome.GaveUp, Outcome.NoSolution, Outcome.OneSolution, Outcome.SeveralSolutions}
 pub use Rattle.engine_core.specs.Verdict.{Solves, verdict_of}
 unfoldable pub use Rattle.engine_core.specs.Verdict.{outcome}
-pub use Rattle.engine_core.specs.Walk.{Mark.Found}
+pub use Rattle.engine_core.specs.Walk.{Mark, Mark.Found}
 unfoldable pub use Rattle.engine_core.specs.Walk.{walk}
 pub use Rattle.engine_core.specs.declared.search.walk.Verdict.{Verdict}
 pub use Rattle.pattern_core.proofs.FaultLemmas.{pattern_none}
@@ -135,7 +136,9 @@ pub use Rattle.maker_core.specs.declared.made.Why.TheVariants.{Budget, Needed}
 pub use Rattle.maker_core.specs.declared.tents.filling.TentFilling.{TentFilling}
 pub use Rattle.rand.proofs.ShuffleLemmas.{last_below, rest_below, rising_more, rising_one, rising_positive}
 pub use Rattle.rand.proofs.UniformLemmas.{carry_room, if_below}
-pub use Rattle.rand.specs.Shuffle.{Chooser, chooser_at, chooser_next, chooser_refill, chunk_of, grow, narrow_swaps, rising}
-pub use Rattle.rand.specs.Uniform.{canon}
-pub use Rattle.rand_core.specs.Stream.{Stream, next_u32}
+pub use Rattle.rand.specs.Shuffle.{Chooser, chooser_at, chooser_next, chooser_refill, chunk_of}
+unfoldable pub use Rattle.rand.specs.Shuffle.{grow, narrow_swaps, rising}
+unfoldable pub use Rattle.rand.specs.Uniform.{canon}
+pub use Rattle.rand_core.specs.Stream.{Stream}
+unfoldable pub use Rattle.rand_core.specs.Stream.{next_u32}
 pub use native.Mathlib.Nat.{mul-pos}
