@@ -26,7 +26,7 @@ counted p k n lt on = grind (arith, common_steps, count_below-more p (suc k) n)
 pub numbered : (p : ℕ → Bool) (n r : ℕ) → r < count_below p n → (k : ℕ) × (k < n) × (p k ≡ true) × (count_below p k ≡ r)
 unfolding count_below
 numbered p zero r lt = absurd (omega arith)
-numbered p (suc n) r lt = elim (cases_lt r (count_below p n)) [
+numbered p (suc n) r lt = elim (cases_lt r _) [
   | inl low ↦ let w = numbered p n r low in (w.0, grind (arith, w.1), w.2, w.3)
   | inr high ↦ (n, omega arith, grind (arith, common_steps), grind (arith, common_steps))
 ]
@@ -73,7 +73,7 @@ scopes-wider scopes le are h lt = record { within = λ k lk. omega (arith, (are 
 
 pub counts_same : (scopes : List (List ℕ)) (counts : List ℕ) → ((c : ℕ) → c < length counts → slice_index counts c ≡ number_at scopes (length scopes) c)
     → (n : ℕ) → n ≤ length counts → sum_below (slice_index counts) n ≡ start_at scopes n
-counts_same scopes counts each n le = sum_below-same (slice_index counts) (number_at scopes (length scopes)) n (λ k lt. each k (omega arith))
+counts_same scopes counts each n le = sum_below-same (slice_index counts) (number_at scopes _) n (λ k lt. each k (omega arith))
 
 pub index-none : {scopes : List (List ℕ)} {slots : ℕ} {ends houses : List ℕ} → length ends ≡ slots
     → ((c : ℕ) → c < slots → slice_index ends c ≡ start_at scopes (suc c)) → length houses ≡ start_at scopes slots
@@ -146,8 +146,8 @@ module _ (slots : ℕ) (scopes : List (List ℕ)) (are : AreScopes slots scopes)
       long = put.long ∙ index.long;
       there = λ c h lc le lh on. elim (cases_lt house h) [
         | inl later ↦ put.kept (start_at scopes c + number_at scopes h c) (λ d on_d e.
-            let same = slot-apart (number_at scopes (length scopes)) c d
-            (counted (holds c) h (length scopes) lh on) (counted (holds d) house (length scopes) lt on_d)
+            let same = slot-apart (number_at scopes _) c d
+            (counted (holds c) h _ lh on) (counted (holds d) house _ lt on_d)
             (omega (arith, index.begins d (within on_d), one_more d on_d)) in
             let at = ap (λ x. start_at scopes x + number_at scopes house x) same in
             absurd (omega (arith, count_below-more (holds c) (suc house) h later, one_more c (rw same on_d), one_more d on_d, index.begins d (within on_d))))
@@ -195,7 +195,7 @@ module _ (house : ℕ) (places : List ℕ) (k : ℕ) (lt : k < length places) (d
       | inr other ↦ ap suc (get_or-set_other starts' place c _ 0 other) ∙ was.on c (sym (taken-other places lt other) ∙ on)
     ];
     put = λ c on. grind (arith, common_steps, cases_eq, get_or-set_at, get_or-set_other, here, in_starts, place, put-room, put-start, taken-in, taken-other);
-    kept = λ i free. get_or-set_other houses' (slice_index starts' place - 1) i house 0
+    kept = λ i free. get_or-set_other houses' _ i house 0
         (λ e. free place (taken-here places lt place refl) (omega (arith, put-room, put-start)))
         ∙ was.kept i (λ c on e. elim (cases_eq c place) [
           | inl is ↦ free c (taken-here places lt c is) e
@@ -236,8 +236,8 @@ module _ (slots : ℕ) (scopes : List (List ℕ)) (starts houses : List ℕ) (in
 pub nth-at : (scopes : List (List ℕ)) (c k : ℕ) (houses : List ℕ) → AreHousesAt scopes c houses → k < length houses
     → (slice_index houses k < length scopes) × (has_place (scope_of scopes (slice_index houses k)) c ≡ true) × (number_at scopes (slice_index houses k) c ≡ k)
 nth-at scopes c k houses at lt =
-    let w = numbered (λ j. has_place (scope_of scopes j) c) (length scopes) k (let e = at.as_many in omega arith) in
-    let same : slice_index houses k ≡ w.0 = ap (slice_index houses) (sym w.3) ∙ at.each w.0 w.1 w.2 in
+    let w = numbered _ _ k (omega arith) in
+    let same = ap (slice_index houses) (sym w.3) ∙ at.each w.0 w.1 w.2 in
     rw same (w.1, w.2, w.3)
 
 pub next-at : {scopes : List (List ℕ)} (c from : ℕ) {houses : List ℕ} (answer : Option ℕ) → AreHousesAt scopes c houses → IsFirstFrom houses from answer
