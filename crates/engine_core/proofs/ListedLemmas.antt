@@ -40,7 +40,7 @@ module _ {p : RuleSystem} {scopes : List (List ℕ)} {table : Table} (listed : t
       × (count_below test (slice_index at k) ≡ k)) (nth-at table.scopes place k at houses lt)
 
   pub housed-all : (place : ℕ) (at : List ℕ) → AreHousesAt table.scopes place at → count_below (λ h. has_place (p.scope h) place) p.houses ≡ length at
-  housed-all place at houses = table-says place (λ test n. count_below test n ≡ length at) (sym houses.as_many)
+  housed-all place at houses = grind (arith, common_steps, table-says)
 
   -- ---- the places of a house
   module _ {h : ℕ} (lt : h < p.houses) {places : List ℕ} (is : places ≡ scope_of table.scopes h) where
@@ -56,10 +56,7 @@ module _ {p : RuleSystem} {scopes : List (List ℕ)} {table : Table} (listed : t
     -- what was read of a board, at the head of a longer list
     pub places-read : {b : Layout} (all sets : List ℕ) → IsBoardOf p b → length (p.scope h) ≤ length all → length sets ≡ length (take (length places) all)
         → ((k : ℕ) → k < length places → IsBitsOf (has b (slice_index places k)) b.values (slice_index sets k)) → AreSetsOf p h (has b) sets
-    places-read {b} all sets board room long bits = record {
-      as_many = omega (arith, length-take {A = ℕ}, ap length places-are);
-      bits = λ k lk. rw places-are at (bits-of_values b p.values places sets board.same_values bits k (rw places-are lk));
-    }
+    places-read {b} all sets board room long bits = grind (arith, common_steps, length-take, places-are, bits-of_values)
 
 -- the board that is left where the cells of a house keep what is kept of their sets
 pub kept-after : {p : RuleSystem} (laws : IsLawful p) {h : ℕ} {K : Candidates} {kept : List ℕ}

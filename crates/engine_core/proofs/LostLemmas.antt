@@ -66,7 +66,7 @@ lost-same {p} laws {h} {k} {A} {B} lth lt upto i =
 -- ---- what is asked of the changes is asked of the cells that lost a value
 any-same : (p q : ℕ → Bool) (m n : ℕ) → ((k : ℕ) → k < m → p k ≡ true → any_below q n ≡ true)
     → ((k : ℕ) → k < n → q k ≡ true → any_below p m ≡ true) → any_below p m ≡ any_below q n
-any-same p q m n there back = grind (arith, common_steps, any_below-some p m, any_below-some q n, cases_Bool (any_below p m), cases_Bool (any_below q n))
+any-same p q m n there back = grind (arith, common_steps, any_below-some)
 
 pub lost-any : (p : RuleSystem) {h n : ℕ} {A B : Trail} (asks : ℕ → Bool) → AreLost p h n A B
     → any_below (λ m. nat_le A.len m && asks (change_at B.changes m).0) B.len
@@ -83,17 +83,12 @@ lost-any p {h} {n} {A} {B} asks lost = any-same _ _ B.len n
 
 -- ---- the changes one after another
 pub since-first : (asks : ℕ → Bool) (from : ℕ) → any_below (λ m. nat_le from m && asks m) from ≡ false
-since-first asks from = elim (cases_Bool (any_below (λ m. nat_le from m && asks m) from)) [
-  | inl some ↦ let w = any_below-some _ from some in absurd (omega (arith, leb-true from w.0 (and_parts (nat_le from w.0) _ w.2).0))
-  | inr none ↦ none
-]
+since-first asks from = grind (arith, common_steps, any_below-some, leb-true, and_parts)
 
 pub since-more : (asks : ℕ → Bool) (from n : ℕ) → from ≤ n
     → any_below (λ m. nat_le from m && asks m)
     (n + 1) ≡ (any_below (λ m. nat_le from m && asks m) n || asks n)
-since-more asks from n le =
-    any_below-more (λ m. nat_le from m && asks m) n
-    ∙ ap (λ b. any_below (λ m. nat_le from m && asks m) n || (b && asks n)) (le-leb from n le)
+since-more asks from n le = grind (arith, common_steps, any_below-more, le-leb)
 
 pub since-woken : (p : RuleSystem) (t : Trail) {K : Candidates} {from n : ℕ}
     {before now after : ℕ → Bool} → from ≤ n → AreWoken p K (is_since p t from n) before now

@@ -3,7 +3,7 @@ use Rattle.engine_core.proofs.Common.{AreEnds, FitsPlaces, IsGrown, IsListed, Li
 
 pub listed-more : (xs ends ys : List ℕ) → AreEnds (length xs) 0 ends
     → listed (xs ++ ys) ends ≡ record { closed = (listed xs ends).closed; begun = (listed xs ends).begun ++ ys }
-listed-more xs ends ys e = rw (pieces-more xs ys 0 ends e, drop-append-le (last_end 0 ends) xs ys ((last-le (length xs) 0 ends e).1)) refl
+listed-more xs ends ys e = grind (arith, common_steps, pieces-more, drop-append-le, last-le)
 
 pub listed-close : (xs ends : List ℕ)
     → listed xs (ends ++ length xs ∷ []) ≡ record {
@@ -33,7 +33,7 @@ total-closed xs ends n e is = omega (arith, total-is xs 0 ends e)
 
 -- all closed lists have fewer than 2^32 places together
 pub few-listed : (xs ends : List ℕ) → IsListed xs ends → sum_by length (listed xs ends).closed < 2 ^ 32
-few-listed xs ends l = omega (arith, total-is xs 0 ends l.are_ends, l.few_closed, l.few_lists)
+few-listed xs ends l = grind (arith, common_steps, total-is)
 
 -- a part is its first and its second part
 drop-none : (m : ℕ) → drop {A = ℕ} m [] ≡ []
@@ -95,26 +95,15 @@ others-push xs {but} {from} {k} {x} low lt e is other =
 
 -- ---- lists that are few and short
 pub added-grown : {xs ys : List ℕ} (more : List ℕ) {n : ℕ} → ys ≡ xs ++ more → length more ≤ n → IsGrown xs n ys
-added-grown {xs} {ys} more e few =
-    let long = ap length e ∙ length-append xs more in
-    record { kept = omega arith; few = omega arith }
+added-grown {xs} {ys} more e few = grind (arith, common_steps, length-append)
 
 pub others-grown : {xs ys : List ℕ} (but from k : ℕ) {end : ℕ} → k ≤ end → end ≤ length xs
     → ys ≡ xs ++ filter (λ d. not (eqb d but)) (between from k xs) → IsGrown xs (end - from) ys
-others-grown {xs} but from k le within e =
-    let all = between from k xs in
-    added-grown (filter (λ d. not (eqb d but)) all) e
-    (omega (arith, length-filter (λ d. not (eqb d but)) all, count_by-le-length (λ d. not (eqb d but)) all, length-between xs from k (omega arith)))
+others-grown {xs} but from k le within e = grind (arith, common_steps, between, added-grown, length-filter, count_by-le-length, length-between)
 
 pub grown-listed : {xs ys ends : List ℕ} {list : Listed} {n : ℕ} → IsListed xs ends
     → listed xs ends ≡ list → FitsPlaces list n → IsGrown xs n ys → IsListed ys ends
-grown-listed {xs} {ys} {ends} l is fits g = record {
-  are_ends = ends-more (length xs) (length ys) 0 ends g.kept l.are_ends;
-  few_lists = l.few_lists;
-  few_closed = l.few_closed;
-  few_begun =
-      omega (arith, g.few, length-drop (last_end 0 ends) xs, fits, ap (λ (v : Listed). length v.begun) is, (last-le (length xs) 0 ends l.are_ends).1);
-}
+grown-listed {xs} {ys} {ends} l is fits g = grind (arith, common_steps, ends-more, length-drop, last-le)
 
 -- the part of the places that a closed list is
 pub closed-is : (xs ends : List ℕ) {list : Listed} {h from end : ℕ} → AreEnds (length xs) 0 ends

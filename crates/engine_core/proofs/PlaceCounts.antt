@@ -5,10 +5,7 @@ use Rattle.engine_core.proofs.Common.{AreDistinct, AreScopes, List, [], ap, arit
 pub counted-place : (places counts : List ℕ) (k x : ℕ) → k < length places → x ≡ slice_index places k
     → ((c : ℕ) → c < length counts → slice_index counts c ≡ count_by (λ d. eqb d c) (take k places)) → (c : ℕ) → c < length counts
     → slice_index (set counts x (slice_index counts x + 1)) c ≡ count_by (λ d. eqb d c) (take (k + 1) places)
-counted-place places counts k x lt is before c lc = elim (cases_eq x c) [
-  | inl here ↦ grind (arith, common_steps, count_by_more_yes (λ d. eqb d c) places k 0 lt (eq-eqb (slice_index places k) c (sym is ∙ here)), before c lc)
-  | inr other ↦ grind (arith, common_steps, count_by_more_no (λ d. eqb d c) places k 0 lt (ne_eqb (slice_index places k) c (λ e. other (is ∙ e))), before c lc)
-]
+counted-place places counts k x lt is before c lc = grind (arith, common_steps, cases_eq, eq-eqb, ne_eqb)
 
 pub counted-few : (places : List ℕ) (k c : ℕ) → count_by (λ d. eqb d c) (take k places) ≤ length (take k places)
 counted-few places k c = count_by-le-length _ (take k places)

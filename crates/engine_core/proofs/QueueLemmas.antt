@@ -57,7 +57,7 @@ closed-but_only p laws K cell v lt ltv on closed alive = record {
 }
 
 pub dead_of : (p : RuleSystem) {b : Layout} → IsBoardOf p b → is_dead (cells_of b) b.values (has b) ≡ is_dead p.cells p.values (has b)
-dead_of p {b} of = ap (λ n. is_dead n b.values (has b)) of.same_cells ∙ ap (λ v. is_dead p.cells v (has b)) of.same_values
+dead_of p {b} of = grind (arith, common_steps, has)
 
 -- where no house waits, the board is closed
 pub closed_from_rested : (p : RuleSystem) (K : Candidates) (waits : ℕ → Bool) → ((h : ℕ) → h < p.houses → waits h ≡ false) → IsRested p K waits → IsClosed p K
@@ -65,7 +65,7 @@ closed_from_rested p K waits none rested = λ h c v lt on. rested h c v lt (none
 
 -- ---- a visit pays for the visits that it calls for
 grow : (x y s : ℕ) → 1 ≤ y → y < x → (y - 1) * s + s ≤ (x - 1) * s
-grow x y s pos lt = let h : (y - 1 + 1) * s ≤ (x - 1) * s = mul-le-mul_right s (omega arith) in omega arith
+grow x y s pos lt = grind (arith, common_steps, mul-le-mul_right)
 
 -- the cell fell, and the house has it and is sent for
 sent : RuleSystem → ℕ → Candidates → ℕ → ℕ → Bool
@@ -190,7 +190,7 @@ pub pushed : (t : List ℕ) {n : ℕ} (h : ℕ) → n < length t → take (n + 1
 pushed t {n} h lt = rw add-one (take-suc-set t n h lt)
 
 pub IsBoardOf-same : {p : RuleSystem} {b b' : Layout} → IsBoardOf p b → SameShape b b' → IsBoardOf p b'
-IsBoardOf-same of same = record { same_cells = same.same_cells ∙ of.same_cells; same_values = same.same_values ∙ of.same_values }
+IsBoardOf-same of same = grind (arith, common_steps)
 
 -- ---- a visit that empties a cell empties one of its own house
 emptied-alive : (p : RuleSystem) (laws : IsLawful p) (h : ℕ) (K K' : Candidates) → h < p.houses → is_dead p.cells p.values K ≡ false → K' ≡ after p h K

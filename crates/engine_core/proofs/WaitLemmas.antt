@@ -13,7 +13,7 @@ same_house j h words bits = omega arith
 -- a word written anew
 word-same : (waits : List ℕ) (w y j : ℕ) → w < length waits → j / 64 ≡ w → is_waiting (set waits w y) j ≡ has_bit y (j % 64)
 unfolding is_waiting
-word-same waits w y j lt e = ap (λ x. has_bit x (j % 64)) (ap (λ k. get_or (set waits w y) k 0) e ∙ get_or-set_same waits w y 0 lt)
+word-same waits w y j lt e = grind (arith, common_steps, get_or-set_same)
 
 word-other : (waits : List ℕ) (w y j : ℕ) → j / 64 ≢ w → is_waiting (set waits w y) j ≡ is_waiting waits j
 unfolding is_waiting
@@ -71,7 +71,7 @@ waiting-dequeue waits h j lt = waiting-word (λ x here. x && not here) (λ x. gr
 
 pub waiting-none : (words j : ℕ) → j / 64 < words → is_waiting (replicate words 0) j ≡ false
 unfolding is_waiting
-waiting-none words j lt = ap (λ x. has_bit x (j % 64)) (get_or-replicate words (j / 64) 0 0 lt) ∙ ap (λ b. eqb b 1) (bit_at-zero (j % 64))
+waiting-none words j lt = grind (arith, common_steps, get_or-replicate, bit_at-zero)
 
 pub waiting-all : (words j : ℕ) → j / 64 < words → is_waiting (replicate words 18446744073709551615) j ≡ true
 unfolding is_waiting
@@ -81,7 +81,7 @@ waiting-all words j lt =
 
 -- ---- the bits of a word from one on
 shifted : (word from i : ℕ) → bit_at (word / 2 ^ from) i ≡ bit_at word (from + i)
-shifted word from i = ap (λ x. x % 2) (div-div-eq-div-mul word (2 ^ from) (2 ^ i) ∙ ap (λ x. word / x) (sym (pow-add 2 from i)))
+shifted word from i = grind (arith, common_steps, div-div-eq-div-mul, pow-add)
 
 -- where nothing is left above, no bit is set from there on
 pub none_left : (word from j : ℕ) → word / 2 ^ from ≡ 0 → from ≤ j → has_bit word j ≡ false
