@@ -41,7 +41,7 @@ pub upto-idle : (p : RuleSystem) (K : Candidates) (test before now : ℕ → Boo
     → AreWoken p K (asked_upto test k) before now → AreWoken p K (asked_upto test (k + 1)) before now
 upto-idle p K test before now n k on number idle a =
     woken-same p K _ _ before now (λ j lt. upto-next test n k j on number)
-    (woken-more p K (asked_upto test k) (λ j. eqb j n) before now now a (grind (arith, common_steps, eqb-true)))
+    (woken-more p K (asked_upto test k) _ before now now a (grind (arith, common_steps, eqb-true)))
 
 -- one or the other
 pub upto-asked : (p : RuleSystem) (K : Candidates) (test : ℕ → Bool) {before now after : ℕ → Bool}
@@ -104,7 +104,7 @@ pub before-marked : {p : RuleSystem} (K : Candidates) (test : ℕ → Bool) {bef
     → AreWoken p K (λ j. test j && ltb j from) before now → AreWoken p K (λ j. test j && ltb j (n + 1)) before after
 before-marked {p} K test {before} {now} {after} from n next marks a =
     woken-same p K _ _ before after (λ j lt. one (test j) j lt)
-    (woken-more p K (λ j. test j && ltb j from) (λ j. eqb j n) before now after a
+    (woken-more p K (λ j. test j && ltb j from) _ before now after a
     (grind (arith, common_steps, or_left, or_right)))
   where
     one : (on : Bool) (j : ℕ) → j < p.houses → ((test j && ltb j from) || eqb j n) ≡ (test j && ltb j (n + 1))
@@ -151,4 +151,4 @@ module _ {p : RuleSystem} {h : ℕ} {K K' : Candidates} {k place set bits : ℕ}
   unfolding counts_of
   marking-else e =
       let same = counts-same p.values set bits was here e in
-      record { woken = woken-else h K K' k same m.woken; dead_is = empties_else p h (counts_of p h K) K' k refl m.dead_is same }
+      record { woken = woken-else h K K' k same m.woken; dead_is = empties_else p h _ K' k refl m.dead_is same }

@@ -32,10 +32,7 @@ pub struck-some : {p : RuleSystem} (laws : IsLawful p) {h : ℕ} (K : Candidates
     → (left ≡ set) ⊎ (left ≢ 0) → 0 < counts_of p h (after p h K) k
 unfolding counts_of
 struck-some {p} laws K {k} {set} {left} lth lt alive was is some =
-    let before = bits-empty was in
-    let now = bits-empty is in
-    let had = is_dead-not p.cells p.values K _ alive (scope-in laws k lth lt) in
-    grind (arith, common_steps, eq-eqb, eqb-true, ne_eqb, cases_eq)
+    grind (arith, common_steps, eq-eqb, eqb-true, ne_eqb, cases_eq, bits-empty was, bits-empty is, is_dead-not p.cells p.values K _ alive (scope-in laws k lth lt))
 
 pub struck-alive : {p : RuleSystem} (laws : IsLawful p) {h : ℕ} (K : Candidates) → h < p.houses
     → IsAlive p K → ((k : ℕ) → k < length (p.scope h) → 0 < counts_of p h (after p h K) k)

@@ -21,9 +21,7 @@ sum_up-requires c =
     let same =
     counts_same c.args.list.now.closed c.count_places.new.counts
     (λ d lt. counts d (omega arith)) (length c.count_places.new.counts) (omega arith) in
-    let few = houses_of_places c.args.list.now.closed (length c.count_places.new.counts) in
-    let all = c.requires.few in
-    omega arith
+    let few = houses_of_places c.args.list.now.closed (length c.count_places.new.counts) in omega (arith, c.requires.few)
 
 pub returns-clause-ends : goal.returns-clause-ends
 returns-clause-ends c = λ d lt.

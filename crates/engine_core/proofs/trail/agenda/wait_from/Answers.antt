@@ -8,7 +8,7 @@ use Rattle.engine_core.proofs.trail.agenda.wait_from.Goals.{After-fill}
 none : (g : _) (c : After-fill g) (j : ℕ) → j < (g.R.Rules.system c.args.rules.now).houses → is_waiting c.fill.new.self j ≡ false
 none g c j lt =
     let made : c.fill.new.self ≡ replicate (length c.args.waits.now) 0 = search rules in
-    rw made (waiting-none (length c.args.waits.now) j (let long = c.requires.waits_room in omega arith))
+    rw made (waiting-none (length c.args.waits.now) j (omega arith))
 
 pub loop-house-init : goal.loop-house-init
 loop-house-init g c = λ K follows.

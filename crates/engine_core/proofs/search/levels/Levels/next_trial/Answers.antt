@@ -10,7 +10,7 @@ pub bounds-frames-self : goal.bounds-frames-self
 bounds-frames-self g c = rw c.deref-frames.ensures.value (omega (arith, (top-open c.requires.ready c.requires.deep).1, c.requires.ready.room))
 
 pub undo-requires-clause-marked : goal.undo-requires-clause-marked
-undo-requires-clause-marked g c = let deep = c.requires.deep in omega (arith, c.requires.ready.marked)
+undo-requires-clause-marked g c = omega (arith, c.requires.ready.marked, c.requires.deep)
 
 pub next_value-requires-clause-cell_in : goal.next_value-requires-clause-cell_in
 next_value-requires-clause-cell_in g c = rw c.deref-frames.ensures.value (top-open c.requires.ready c.requires.deep).0
