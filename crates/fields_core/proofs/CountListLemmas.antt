@@ -41,15 +41,12 @@ pub beside-fits : (a b : CountList) (test : ℕ → Bool) (size : Extent) (place
     → IsBegun a b (filter test (steps size place n)) → n < 4 → FitsPlaces a.list 4
     → FitsPlaces b.list 1
 beside-fits a b test size place n begun lt fits =
-    let some = filter test (steps size place n) in
-    let long = ap length begun.begun in
-    omega (arith, fits, length-append a.list.begun some, filter-few test (steps size place n), steps-few size place n)
+    let some = filter test (steps size place n) in omega (arith, fits, length-append a.list.begun some, filter-few test (steps size place n), steps-few size place n, ap length begun.begun)
 
 pub added-few : {a b : CountList} (f : ℕ → List CountHouse) (n : ℕ) → IsAdded a b (houses_below f n)
     → ((c : ℕ) → length (f c) ≤ 1) → length b.list.closed ≤ length a.list.closed + n
 added-few {a} f n added each =
-    let long = ap length added.closed in
-    omega (arith, length-append a.list.closed (map house_places (houses_below f n)), length-map (houses_below f n) house_places, below-few f n each)
+    omega (arith, length-append a.list.closed (map house_places (houses_below f n)), length-map (houses_below f n) house_places, below-few f n each, ap length added.closed)
 
 -- and so there is room for the next
 pub added-fits : {a b : CountList} (f : ℕ → List CountHouse) {n cells : ℕ}

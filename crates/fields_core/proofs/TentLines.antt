@@ -25,7 +25,7 @@ line-all g line n m tents before long ge = before.same ∙ ap (count_by (tent g)
 
 -- a cell touches only those that are no further than a row and a cell
 near-parts : (a b : ℕ) → are_near a b ≡ true → (a ≤ b + 1) × (b ≤ a + 1)
-near-parts a b on = let w = and_parts (leb a (b + 1)) (leb b (a + 1)) on in (leb-true a (b + 1) w.0, leb-true b (a + 1) w.1)
+near-parts a b on = let w = and_parts _ _ on in (leb-true a (b + 1) w.0, leb-true b (a + 1) w.1)
 
 -- it lies in the row, and each of its cells is near
 record HasEnds (w a first end : ℕ) : Type 0 where
@@ -44,7 +44,7 @@ not-same : {a b : ℕ} → not (eqb a b) ≡ true → a ≡ b → ⊥
 not-same off e = grind (arith, common_steps)
 
 near-from : (a b : ℕ) → a ≤ b + 1 → b ≤ a + 1 → are_near a b ≡ true
-near-from a b p q = and_from (leb a (b + 1)) (leb b (a + 1)) (le-leb a (b + 1) p) (le-leb b (a + 1) q)
+near-from a b p q = and_from _ _ (le-leb a (b + 1) p) (le-leb b (a + 1) q)
 
 -- a cell of row v and column u is touched where both are near
 touch-from : (size : Extent) (a d v u : ℕ) → d ≡ v * size.w + u → u < size.w → (d ≡ a → ⊥)
@@ -88,8 +88,8 @@ module _ (size : Extent) {a first end : ℕ} (pos : 0 < size.w) (window : IsWind
   pub touch-above : (d : ℕ) → first - size.w ≤ d → d < end - size.w → touches size a d ≡ true
   touch-above d p q =
       let e = ends in
-      let row : 1 ≤ a / size.w = second-row (a / size.w) size.w (omega arith) in
-      let back = row-before (a / size.w) size.w row in
+      let row = second-row _ size.w (omega arith) in
+      let back = row-before _ size.w row in
       let third : size.w ≤ first = omega (arith, one-row (a / size.w) size.w row) in
       touch-from size a d (a / size.w - 1) (d - (a / size.w - 1) * size.w) (omega arith)
       (omega arith) (omega arith) (omega arith) (omega arith) (omega (arith, here))

@@ -35,7 +35,7 @@ pub listed-skip : (g tents : List ℕ) (count n v : ℕ) → take count tents �
     → v ≡ slice_index g n → (v ≡ 1 → ⊥) → take count tents ≡ passing (tent g) (n + 1)
 listed-skip g tents count n v before at none =
     before ∙ sym (passing-more (tent g) n
-    ∙ rw (ne_eqb (slice_index g n) 1 (λ e. none (at ∙ e))) (append-nil (passing (tent g) n)))
+    ∙ rw (ne_eqb (slice_index g n) 1 (λ e. none (at ∙ e))) (append-nil _))
 
 pub listed-keep : (g tents : List ℕ) (count n v : ℕ) → take count tents ≡ passing (tent g) n
     → v ≡ slice_index g n → v ≡ 1 → count < length tents

@@ -39,7 +39,7 @@ start-single {cells} blocked g grid zero_at c v on =
     let lt : c < cells = omega (arith, w.0, grid.each_cell) in
     let within = and_from _ _ (lt-ltb c cells lt) (lt-ltb v 2 (omega (arith, small, w.1))) in
     and_from _ _ within (elim (cases_Bool (blocked c)) [
-      | inl is ↦ let z : v ≡ 0 = sym w.1 ∙ zero_at c lt is in rw (is, z) refl
+      | inl is ↦ let z = sym w.1 ∙ zero_at c lt is in rw (is, z) refl
       | inr free ↦ rw free refl
     ])
 
