@@ -22,7 +22,7 @@ place-map f xs d on =
 
 -- ---- whether some number of a list passes
 pub any-here : (test : ℕ → Bool) (xs : List ℕ) (d : ℕ) → has_place xs d ≡ true → test d ≡ true → list_any test xs ≡ true
-any-here test xs d on passes = let w = has_place-at xs d on in list_any_at test xs w.0 0 w.1 (ap test w.2 ∙ passes)
+any-here test xs d on passes = grind (arith, common_steps, has_place-at)
 
 pub any-some : (test : ℕ → Bool) (xs : List ℕ) → list_any test xs ≡ true → (d : ℕ) × (has_place xs d ≡ true) × (test d ≡ true)
 unfolding has_place

@@ -12,13 +12,13 @@ by-value : (K : Candidates) (c v : ℕ) → v < 2 → K c v ≡ true → cond (e
 by-value K c v low on = grind (arith, common_steps, cases_eq v 0, ne_eqb)
 
 within-values : (v : ℕ) (zero_on one_on : Bool) → v < 2 → cond (eqb v 0) zero_on one_on ≡ true → (v ≤ num one_on) × (num (not zero_on) ≤ v)
-within-values v zero_on one_on low on = grind (arith, common_steps, cases_eq v 0, ne_eqb, cases_Bool zero_on, cases_Bool one_on)
+within-values v zero_on one_on low on = grind (arith, common_steps, cases_eq, ne_eqb)
 
 -- there is room for a value that a cell has, unless it has both and the value's bound is reached
 room : {least most must may : ℕ} (v : ℕ) (zero_on one_on : Bool) → v < 2 → cond (eqb v 0) zero_on one_on ≡ true → least ≤ may → must ≤ most
     → ((zero_on && one_on) && (((eqb v 1) && (eqb must most)) || ((eqb v 0) && (eqb may least)))) ≡ false
     → (least + num one_on ≤ may + v) × (must + v ≤ most + num (not zero_on))
-room v zero_on one_on low on few many off = grind (arith, common_steps, cases_Bool zero_on, cases_Bool one_on, cases_eq v 0, eq-eqb, ne_eqb)
+room v zero_on one_on low on few many off = grind (arith, common_steps, cases_eq, eq-eqb, ne_eqb)
 
 neither : {k : Bool} (a b : Bool) → (k && not ((a && false) || (b && false))) ≡ k
 neither a b = grind (arith, common_steps)
@@ -157,7 +157,7 @@ module _ (cells : ℕ) (house : CountHouse) (K : Candidates) (t : Tally) (is : I
 
 -- ---- the bits of a cell
 all-set : (bits : ℕ) → bits < 4 → eqb bits 3 ≡ (has_bit bits 0 && has_bit bits 1)
-all-set bits lt = grind (arith, common_steps, cases_eq bits 0, cases_eq bits 1, cases_eq bits 2, cases_eq bits 3)
+all-set bits lt = grind (arith, common_steps, cases_eq)
 
 kept-table : (none few most : Bool) (bits v : ℕ) → bits < 4 → v < 2
     → has_bit (cond none 0 (cond (eqb bits 3) (num (not few) + 2 * num (not most)) bits))

@@ -21,7 +21,7 @@ sets-all sets n t is ge = rw (take_all n sets ge) at is
 
 -- no bit of two is set
 none-set : (bits : ℕ) → bits < 4 → eqb bits 0 ≡ (not (has_bit bits 0) && not (has_bit bits 1))
-none-set bits lt = grind (arith, common_steps, cases_eq bits 0, cases_eq bits 1, cases_eq bits 2, cases_eq bits 3)
+none-set bits lt = grind (arith, common_steps, cases_eq)
 
 -- one count after a cell changed
 one-moved : (p q : ℕ → Bool) (place : ℕ) → ((c : ℕ) → (c ≡ place → ⊥) → q c ≡ p c) → (places : List ℕ) → has_place places place ≡ true → AreDistinct places
@@ -46,11 +46,7 @@ counts-as f g (x ∷ xs) (y ∷ ys) e same =
 pub sets-tally : (K : Candidates) {places : List ℕ} (sets : List ℕ) → length sets ≡ length places
     → ((k : ℕ) → k < length places → IsBitsOf (K (slice_index places k)) 2 (slice_index sets k))
     → IsTally K places (tally_of sets)
-sets-tally K {places} sets long bits = record {
-  must_is = counts-as _ _ sets places long (λ k lt. (bits-counted K _ (bits k (omega arith))).0);
-  may_is = counts-as _ _ sets places long (λ k lt. (bits-counted K _ (bits k (omega arith))).1);
-  empty_is = counts-as _ _ sets places long (λ k lt. (bits-counted K _ (bits k (omega arith))).2);
-}
+sets-tally K {places} sets long bits = grind (arith, common_steps, counts-as, bits-counted)
 
 module _ {cells : ℕ} {K L : Candidates} {place before after : ℕ}
     (change : IsChange cells 2 K L place before after) {places : List ℕ} {t : Tally}
@@ -79,14 +75,7 @@ module _ {cells : ℕ} {K L : Candidates} {place before after : ℕ}
 
     -- no count passes the number of cells
     pub can-move : length places ≤ 512 → CanMove t before after
-    can-move few = record {
-      must_before = must_moved.0;
-      may_before = may_moved.0;
-      empty_before = empty_moved.0;
-      few_must = omega (arith, must_moved.1, count_by-le-length (λ c. not (L c 0)) places);
-      few_may = omega (arith, may_moved.1, count_by-le-length (λ c. L c 1) places);
-      few_empty = omega (arith, empty_moved.1, count_by-le-length (is_empty L) places);
-    }
+    can-move few = grind (arith, common_steps, must_moved, may_moved, empty_moved, count_by-le-length)
 
 -- ---- a table of houses, and the tallies of all of them
 -- as a table of scopes has it
@@ -111,7 +100,7 @@ module _ {scopes : List (List ℕ)} {place : ℕ} {listed : List ℕ} (at : AreH
   not-twice j k lj lk e = sym (in-list j lj).2 ∙ ap (λ h. number_at scopes h place) e ∙ (in-list k lk).2
 
   pub listed-at : (h : ℕ) → h < length scopes → has_place (scope_of scopes h) place ≡ true → number_at scopes h place < length listed
-  listed-at h lt on = omega (arith, counted (λ j. has_place (scope_of scopes j) place) h (length scopes) lt on)
+  listed-at h lt on = grind (arith, common_steps, counted)
 
 pub record AreMovedBelow (old new : List Tally) (listed : List ℕ) (before after n : ℕ) : Type 0 where
   pub as_many : length new ≡ length old
@@ -144,7 +133,7 @@ module _ {cells : ℕ} {scopes : List (List ℕ)} {houses : List CountHouse}
   there h on = ap (λ l. has_place l place) (sym (table.places h)) ∙ on
 
   distinct : (h : ℕ) → h < length houses → AreDistinct (count_house_of houses h).places
-  distinct h lt = distinct-from (count_house_of houses h).places (table.each h lt).different
+  distinct h lt = grind (arith, common_steps, distinct-from)
 
   -- what a step of the loop may rely on
   pub record IsMovable (tallies : List Tally) (k : ℕ) : Type 0 where

@@ -68,23 +68,19 @@ number-kind p c board lt = by _ refl
 -- ---- the houses of runs
 pub row-run-joined : (p : Light) (c d : ℕ) → has_place (row_run p c) d ≡ true → joined_in_row p c d ≡ true
 unfolding row_run
-row-run-joined p c d on = (place-filter (joined_in_row p c) (row_places p.size (c / p.size.w)) d on).1
+row-run-joined p c d on = grind (arith, common_steps, place-filter)
 
 pub column-run-joined : (p : Light) (c d : ℕ) → has_place (column_run p c) d ≡ true → joined_in_column p c d ≡ true
 unfolding column_run
-column-run-joined p c d on = (place-filter (joined_in_column p c) (column_places p.size (c % p.size.w)) d on).1
+column-run-joined p c d on = grind (arith, common_steps, place-filter)
 
 pub row-run-few : {p : Light} (c : ℕ) → IsBoard p → length (row_run p c) ≤ 256
 unfolding row_run
-row-run-few {p} c board = let a =
-    filter-few (joined_in_row p c) (row_places p.size (c / p.size.w)) in
-    let b = row-long p.size (c / p.size.w) in let w = board.w_few in omega arith
+row-run-few {p} c board = grind (arith, common_steps, filter-few, row-long)
 
 pub column-run-few : {p : Light} (c : ℕ) → IsBoard p → length (column_run p c) ≤ 256
 unfolding column_run
-column-run-few {p} c board = let a =
-    filter-few (joined_in_column p c) (column_places p.size (c % p.size.w)) in
-    let b = column-long p.size (c % p.size.w) in let w = board.h_few in omega arith
+column-run-few {p} c board = grind (arith, common_steps, filter-few, column-long)
 
 row-run-distinct : (p : Light) (c : ℕ) → AreDistinct (row_run p c)
 unfolding row_run

@@ -85,7 +85,7 @@ pub column-parts : (p : Light) (c d : ℕ) → joined_in_column p c d ≡ true
     → (c % p.size.w ≡ d % p.size.w)
     × (clear (λ y. white p (y * p.size.w + c % p.size.w)) (c / p.size.w) (d / p.size.w) ≡ true)
 unfolding joined_in_column
-column-parts p c d on = let w = and_parts (eqb (c % p.size.w) (d % p.size.w)) _ on in (eqb-true _ _ w.0, w.1)
+column-parts p c d on = grind (arith, common_steps, and_parts, eqb-true)
 
 pub row-both : (p : Light) (c d e : ℕ) → joined_in_row p c d ≡ true → joined_in_row p c e ≡ true → joined_in_row p d e ≡ true
 unfolding joined_in_row
@@ -127,7 +127,7 @@ column-self p c on = grind (arith, common_steps, and_from, eq-eqb, clear-from)
 -- the run of a row goes on at a white cell, unless one begins there
 module _ (p : Light) (c d : ℕ) (some : 0 < p.size.w) (next : c + 1 ≡ d) (before : white p c ≡ true) (on : white p d ≡ true) (inner : d % p.size.w ≡ 0 → ⊥) where
   parts : (c / p.size.w ≡ d / p.size.w) × (c % p.size.w ≡ d % p.size.w - 1)
-  parts = cell-parts p.size.w _ _ c (omega (arith, some)) (omega (arith, inner))
+  parts = grind (arith, common_steps, cell-parts)
 
   row-next : joined_in_row p c d ≡ true
   unfolding joined_in_row

@@ -118,11 +118,11 @@ lit-none p place none off = added-none none (rw off refl)
 
 -- the numbers of houses are small
 pub rows-few : {p : Light} {lists : List (List ℕ)} {first last next place : ℕ} → IsRowsAt p lists first last next place → next ≤ first + place
-rows-few {p} {place} is = omega (arith, below-few (row_house p) place (λ c. if-few (begins_row_run p c) _))
+rows-few {p} {place} is = grind (arith, common_steps, below-few, if-few)
 
 pub columns-few : {p : Light} {lists : List (List ℕ)} {first : ℕ} {last : List ℕ} {next place : ℕ}
     → IsColumnsAt p lists first last next place → next ≤ first + place
-columns-few {p} {place} is = omega (arith, below-few (column_house p) place (λ c. if-few (begins_column_run p c) _))
+columns-few {p} {place} is = grind (arith, common_steps, below-few, if-few)
 
 -- the houses of one more cell
 pub added-next : {a b d : CountList} (f : ℕ → List CountHouse) (n : ℕ)

@@ -125,10 +125,7 @@ module _ (p : Light) (g : List ℕ) where
   module _ (grid : IsGrid (light_cells p) 2 g) where
     black-made : IsMade (FailsLight p g) black
     unfolding black_right
-    black-made = record {
-      failed = λ c lt off. grind (arith, common_steps, or_parts, slice_index, cases_eq (slice_index g c) 1, eq-eqb);
-      held = λ c lt on (bulb_on, off). grind (arith, common_steps, or_cases);
-    }
+    black-made = grind (arith, common_steps, or_parts, cases_eq, eq-eqb, or_cases)
 
     number-made : IsMade (FailsLight p g) number
     unfolding number_right
@@ -144,17 +141,11 @@ module _ (p : Light) (g : List ℕ) where
 
     seen-made : IsMade (FailsLight p g) seen
     unfolding bulb_right
-    seen-made = record {
-      failed = λ c lt off. let parts = and_parts (bulb g c) _ (not-false _ off) in (parts.0, bulb-rule (some-column p lt) parts.1);
-      held = λ c lt on (bulb_on, one). not-alone on bulb_on (rule-bulb p g c (some-column p lt) one);
-    }
+    seen-made = grind (arith, common_steps, and_parts, not-false, bulb-rule, some-column, not-alone, rule-bulb)
 
     dark-made : IsMade (FailsLight p g) dark
     unfolding lit_right
-    dark-made = record {
-      failed = λ c lt off. grind (arith, common_steps, or_parts, not-false, rule-bulb, some-column p lt);
-      held = λ c lt on (is_white, dark, unseen). grind (arith, common_steps, or_cases, not-true, bulb-rule, some-column p lt);
-    }
+    dark-made = grind (arith, common_steps, or_parts, not-false, rule-bulb, some-column, or_cases, not-true, bulb-rule)
 
     pub light-made : AllByRecursion (IsMade (FailsLight p g)) kinds
     light-made = (black-made, (number-made, (seen-made, (dark-made, tt))))

@@ -12,7 +12,7 @@ module _ (white bulb : ℕ → Bool) (at : ℕ) {low high next : ℕ} (k : ℕ) 
   walk-black dark off = λ i low_in lt joined. grind (arith, common_steps, clear-at white at i k joined, dark i, cases_lt)
 
   pub walk-bulb : ((i : ℕ) → low ≤ i → i < high → at + low ≤ i + next → i + low ≤ at + next → white i ≡ true) → white at ≡ true → white k ≡ true → bulb k ≡ true → Shines white bulb at low high true
-  walk-bulb pass start here on = (k, grind arith, grind arith, clear-from white at k (λ i low_in high_in. grind (arith, common_steps, pass i, cases_lt)), on)
+  walk-bulb pass start here on = grind (arith, common_steps, clear-from, white, cases_lt)
 
 -- ---- the line of a cell
 whole : (c w : ℕ) → c ≡ c / w * w + c % w
@@ -26,7 +26,7 @@ row-sees p g {c} {w} b some e in_grid s = by b s
     same i = rw (sym e) (omega (arith, whole c w))
 
     test : (i : ℕ) → clear (λ k. white p (c - c % w + k * 1)) (c % w) i ≡ clear (λ k. white p (c / p.size.w * p.size.w + k)) (c % p.size.w) i
-    test i = clear-same _ _ (c % w) i (λ k. ap (white p) (same k)) ∙ ap (λ n. clear (λ k. white p (c / p.size.w * p.size.w + k)) (c % n) i) e
+    test i = grind (arith, common_steps, clear-same, white, clear)
 
     by : (b : Bool) → ShinesAlong (λ i. white p (c - c % w + i * 1))
         (λ i. bulb g (c - c % w + i * 1)) (c % w) w b
@@ -52,7 +52,7 @@ column-sees p g c {w} {h} b some e f s = by b s
     same i = rw (sym e) (omega arith)
 
     test : (i : ℕ) → clear (λ k. white p (c % w + k * w)) (c / w) i ≡ clear (λ k. white p (k * p.size.w + c % p.size.w)) (c / p.size.w) i
-    test i = clear-same _ _ (c / w) i (λ k. ap (white p) (same k)) ∙ ap (λ n. clear (λ k. white p (k * p.size.w + c % p.size.w)) (c / n) i) e
+    test i = grind (arith, common_steps, clear-same, white, clear)
 
     by : (b : Bool) → ShinesAlong (λ i. white p (c % w + i * w)) (λ i. bulb g (c % w + i * w))
         (c / w) h b → SeesAlong (joined_in_column p) (light_cells p) g c b

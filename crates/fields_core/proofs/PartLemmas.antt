@@ -8,7 +8,7 @@ use Rattle.fields_core.proofs.PartCounts.{count-apart, line-count, crosses-both,
 lies-more : (w : ℕ) (pieces : List Piece) (n c : ℕ) {piece : Piece} → piece_at pieces n ≡ piece
     → lies_in_first w pieces (n + 1) c ≡ (lies_in_first w pieces n c || lies_in w piece c)
 unfolding lies_in_first any_below
-lies-more w pieces n c e = rw add-one (ap (λ q. any_below (λ k. lies_in w (piece_at pieces k) c) n || lies_in w q c) e)
+lies-more w pieces n c e = grind (arith, common_steps, add-one)
 
 lies-is : (w : ℕ) (piece : Piece) (c : ℕ) → lies_in w piece c ≡ crosses piece.line piece.bits (c / w) (c % w)
 unfolding lies_in
@@ -18,15 +18,12 @@ next-apart : {size : Extent} {pieces : List Piece} (n c : ℕ) {piece : Piece}
     → piece_at pieces n ≡ piece → ArePieces size pieces → n < length pieces
     → lies_in_first size.w pieces n c ≡ true → lies_in size.w piece c ≡ true → ⊥
 unfolding lies_in_first
-next-apart {size} {pieces} n c e are lt first next =
-    let w = any_below-some _ n first in
-    let same = are.apart w.0 n c (omega (arith, w.1)) lt w.2 (ap (λ q. lies_in size.w q c) e ∙ next) in
-    absurd (omega (arith, w.1))
+next-apart {size} {pieces} n c e are lt first next = grind (arith, common_steps, any_below-some)
 
 pub line_in : {size : Extent} {pieces : List Piece} {n : ℕ} {piece : Piece} → ArePieces size pieces
     → n < length pieces → piece_at pieces n ≡ piece
     → number_of piece.line < lines_beside size piece.line
-line_in {size} {n} are lt e = subst (λ q. number_of q.line < lines_beside size q.line) e (are.lines_in n lt)
+line_in {size} {n} are lt e = grind (arith, common_steps, number_of)
 
 -- of a word of the next piece's cells that pass a test, as many pass more
 counted-more : (p : Layers) {pieces : List Piece} (n there room : ℕ) {piece : Piece}
@@ -95,10 +92,7 @@ counted-next {p} {n} ones both none {room} {piece} e are lt fits ones_is both_is
     by a b c = grind (arith, common_steps, cases_Bool a, cases_Bool b, cases_Bool c)
 
 pub counted-small : {p : Layers} {pieces : List Piece} {n may undecided : ℕ} → IsCount p pieces n may undecided → (may ≤ cells_of p) × (undecided ≤ cells_of p)
-counted-small {p} {pieces} {n} counted = (
-  omega (arith, counted.may_is, count_below-bound (λ c. lies_in_first p.size.w pieces n c && has p c 1) (cells_of p)),
-  omega (arith, counted.undecided_is, count_below-bound (λ c. lies_in_first p.size.w pieces n c && is_open (has p) c) (cells_of p)),
-)
+counted-small {p} {pieces} {n} counted = grind (arith, common_steps, count_below-bound, has)
 
 -- ---- the house of all pieces
 
@@ -219,14 +213,13 @@ none-undecided {p} {pieces} c at of counted none = false_from_ne_true _ (λ on.
 
 -- which bound is reached
 pub one-bound : {least most must : ℕ} (may v : ℕ) → must ≡ most → must < may → least ≤ most → v < 2 → at_bound least most must may v ≡ eqb v 1
-one-bound {least} {most} {must} may v reached room order low =
-    rw (eq-eqb must most reached, ne_eqb may least (λ e. absurd (omega arith))) (grind (arith, common_steps, cases_Bool))
+one-bound {least} {most} {must} may v reached room order low = grind (arith, common_steps, eq-eqb, ne_eqb)
 
 pub zero-bound : {least most must may v : ℕ} → (must ≡ most → ⊥) → may ≡ least → v < 2 → at_bound least most must may v ≡ eqb v 0
-zero-bound {least} {most} {must} {may} ne reached low = rw (ne_eqb must most ne, eq-eqb may least reached) (grind (arith, common_steps, cases_Bool))
+zero-bound {least} {most} {must} {may} ne reached low = grind (arith, common_steps, ne_eqb, eq-eqb)
 
 pub no-bound : (a b : Bool) {least most must may : ℕ} (v : ℕ) → (must ≡ most → ⊥) → (may ≡ least → ⊥) → (a && (b && at_bound least most must may v)) ≡ false
-no-bound a b {least} {most} {must} {may} v ne nf = rw (ne_eqb must most ne, ne_eqb may least nf) (grind (arith, common_steps, cases_Bool))
+no-bound a b {least} {most} {must} {may} v ne nf = grind (arith, common_steps, ne_eqb)
 
 -- ---- strikes
 pub struck-more : (p q : Layers) (pieces : List Piece) (n : ℕ) {value : ℕ} (other : ℕ) {piece : Piece}
@@ -258,7 +251,7 @@ struck-more p q pieces n {value} other {piece} e size lt left is = fun_ext λ c.
 
 pub struck-none : (w : ℕ) (pieces : List Piece) (value : ℕ) {K : Candidates} → K ≡ without_value w pieces 0 value K
 unfolding without_value lies_in_first any_below
-struck-none w pieces value = fun_ext λ c. fun_ext λ v. grind (arith, common_steps, cases_Bool)
+struck-none w pieces value = grind (arith, common_steps)
 
 -- each cell still has a value
 pub struck-alive : (p q : Layers) (pieces : List Piece) (n value : ℕ) → q.size ≡ p.size → value < 2

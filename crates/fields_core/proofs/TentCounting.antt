@@ -138,7 +138,7 @@ tree-bare p g good {c} lt on =
     ]
 
 pub free-few : (p : Tents) (c : ℕ) → length (free_beside p c) ≤ 4
-free-few p c = omega (arith, filter-few (λ d. not (tree p d)) (steps p.size c 4), steps-few p.size c 4)
+free-few p c = grind (arith, common_steps, filter-few, tree, steps-few)
 
 tree-kind : (p : Tents) (c : ℕ) → IsField p → c < tent_cells p → tree p c ≡ true → IsMet (tent_cells p) (solves_tents p) (one_at_least (free_beside p c))
 tree-kind p c field lt on = met-from

@@ -13,15 +13,15 @@ line-start g line = record { few = omega arith; same = refl }
 pub line-skip : (g line : List ℕ) (n tents d v : ℕ) → IsLineCounted g line n tents → n < length line
     → d ≡ slice_index line n → v ≡ slice_index g d → (v ≡ 1 → ⊥)
     → IsLineCounted g line (n + 1) tents
-line-skip g line n tents d v before lt at is none = grind (arith, common_steps, count_by_more_no, ne_eqb, slice_index)
+line-skip g line n tents d v before lt at is none = grind (arith, common_steps, ne_eqb)
 
 pub line-more : (g line : List ℕ) (n tents d v : ℕ) → IsLineCounted g line n tents → n < length line
     → d ≡ slice_index line n → v ≡ slice_index g d → v ≡ 1
     → IsLineCounted g line (n + 1) (tents + 1)
-line-more g line n tents d v before lt at is one = grind (arith, common_steps, count_by_more_yes, eq-eqb, slice_index)
+line-more g line n tents d v before lt at is one = grind (arith, common_steps, eq-eqb)
 
 pub line-all : (g line : List ℕ) (n m tents : ℕ) → IsLineCounted g line n tents → length line ≡ m → m ≤ n → tents ≡ count_by (tent g) line
-line-all g line n m tents before long ge = before.same ∙ ap (count_by (tent g)) (take_all n line (omega arith))
+line-all g line n m tents before long ge = grind (arith, common_steps)
 
 -- a cell touches only those that are no further than a row and a cell
 near-parts : (a b : ℕ) → are_near a b ≡ true → (a ≤ b + 1) × (b ≤ a + 1)
@@ -58,7 +58,7 @@ row-before (suc v) w p = let e : suc v - 1 ≡ v = omega arith in rw e (omega ar
 row-before zero w p = absurd (omega arith)
 
 none-below : (test : ℕ → Bool) (n : ℕ) → ((k : ℕ) → k < n → test k ≡ false) → false ≡ any_below test n
-none-below test n none = sym (false_from_ne_true (any_below test n) (λ on. let w = any_below-some test n on in true≢false (sym w.2 ∙ none w.0 w.1)))
+none-below test n none = grind (arith, common_steps, false_from_ne_true, any_below-some)
 
 -- a row that ends past the first is not the first
 second-row : (y w : ℕ) → w < y * w + w → 1 ≤ y
@@ -105,8 +105,7 @@ module _ (size : Extent) {a first end : ℕ} (pos : 0 < size.w) (window : IsWind
 
   -- the cells of another row at the same columns
   inside : {u : ℕ} → u < size.w → a % size.w ≤ u + 1 → u ≤ a % size.w + 1 → (first ≤ a / size.w * size.w + u) × (a / size.w * size.w + u < end)
-  inside lt p q =
-      (elim window.left [ inl l ↦ omega (arith, here) | inr l ↦ omega (arith, here) ], elim window.right [ inl r ↦ omega (arith, here) | inr r ↦ omega (arith, here) ])
+  inside lt p q = grind (arith, common_steps, here)
 
   -- a cell that is touched is another one of the three windows
   pub is-touched : (d : ℕ) → touches size a d ≡ true → (d ≡ a → ⊥) × IsNearWindow size.w first end d

@@ -51,11 +51,10 @@ pairs-from p g {tree_of} long is =
     }
 
     twice : names_none_twice chosen ≡ true
-    twice = none-twice-from chosen (distinct-from chosen (different-map tree_of _ (different-from _ (tents-distinct p g))
-        (λ a b at_a at_b. let x = listed-tent p g a at_a in let y = listed-tent p g b at_b in is.own a b (below a x) (below b y) x y)))
+    twice = grind (arith, common_steps, none-twice-from, distinct-from, different-map, different-from, tents-distinct, listed-tent, below)
 
     none_out : leaves_none_out p chosen ≡ true
-    none_out = grind (arith, common_steps, all_below-from, cases_Bool, or_right, place-map, tree_of, tents_of, tent-listed, or_left)
+    none_out = grind (arith, common_steps, all_below-from, or_right, place-map, tent-listed, or_left)
 
 -- the number of a tree, and the tree of a number
 tree-number : (p : Tents) {c : ℕ} → c < tent_cells p → tree p c ≡ true
@@ -141,7 +140,7 @@ module _ (p : Tents) (g chosen : List ℕ) (is : IsGiven p g chosen) where
 
   right-joined : (l : ℕ) → l < length (tents_of p g) → may_pair p (tents_of p g) l (right_of l) ≡ true
   unfolding may_pair
-  right-joined l lt = let e = is.each l lt in subst (λ d. has_place (steps p.size (slice_index (tents_of p g) l) 4) d ≡ true) (sym (right-at lt)) e.2
+  right-joined l lt = grind (arith, common_steps, right-at)
 
   chosen-whole : {short : List ℕ} → IsShortSet (may_pair p (tents_of p g)) (length (tents_of p g)) (tree_count p) short → ⊥
   chosen-whole {short} few = no_choice _ _ _ short few right_of right-in right-joined right-own

@@ -9,7 +9,7 @@ use Rattle.fields_core.proofs.TentPairLemmas.{tents-distinct, tent-listed, liste
 pub tents-from : (p : Tents) (g : List ℕ) → all_below (tree_right p g) (tent_cells p) ≡ true → all_below (touch_right p g) (tent_cells p) ≡ true
     → all_below (column_right p g) p.size.w ≡ true → all_below (row_right p g) p.size.h ≡ true → true ≡ can_be_paired p g → solves_tents p g ≡ true
 unfolding solves_tents
-tents-from p g a b c d e = and_from _ _ a (and_from _ _ b (and_from _ _ c (and_from _ _ d (sym e))))
+tents-from p g a b c d e = grind (arith, common_steps, and_from)
 
 -- ---- the test of a solution is the rule
 gives-tree : (p : Tents) (g chosen : List ℕ) → length g ≡ tent_cells p → IsGiven p g chosen
@@ -92,10 +92,7 @@ module _ (p : Tents) (g : List ℕ) where
   module _ (grid : IsGrid (tent_cells p) 2 g) where
     tree-made : IsMade (FailsTents p g) trees
     unfolding tree_right
-    tree-made = record {
-      failed = λ c lt off. grind (arith, common_steps, or_parts, not-false, slice_index, cases_eq (slice_index g c) 1, eq-eqb);
-      held = λ c lt on (tent_on, tree_on). grind (arith, common_steps, or_cases, not-true, eqb-true);
-    }
+    tree-made = grind (arith, common_steps, or_parts, not-false, cases_eq, eq-eqb, or_cases, not-true, eqb-true)
 
     touch-made : IsMade (FailsTents p g) touch
     unfolding touch_right
@@ -112,11 +109,11 @@ module _ (p : Tents) (g : List ℕ) where
 
     column-made : IsMade (FailsTents p g) columns
     unfolding column_right
-    column-made = record { failed = λ x lt off same. true≢false (sym (eq-eqb _ _ same) ∙ off); held = λ x lt on other. other (eqb-true _ _ on) }
+    column-made = grind (arith, common_steps, eq-eqb, eqb-true)
 
     row-made : IsMade (FailsTents p g) rows
     unfolding row_right
-    row-made = record { failed = λ y lt off same. true≢false (sym (eq-eqb _ _ same) ∙ off); held = λ y lt on other. other (eqb-true _ _ on) }
+    row-made = grind (arith, common_steps, eq-eqb, eqb-true)
 
     match-made : IsMade (FailsTents p g) match
     match-made = record {
