@@ -6,7 +6,7 @@ use Rattle.fields_core.proofs.StepLaws.{steps-few}
 
 -- ---- the cells of a house that is begun
 pub begun-none : (list : CountList) → IsBegun list list []
-begun-none list = record { closed = refl; begun = sym (append-nil list.list.begun); bounds = refl }
+begun-none list = grind (arith, common_steps, append-nil)
 
 pub begun-more : (a b c : CountList) (xs ys : List ℕ) → IsBegun a b xs → IsBegun b c ys → IsBegun a c (xs ++ ys)
 begun-more a b c xs ys p q = grind (arith, common_steps, append_assoc)
@@ -40,16 +40,11 @@ below-few f (suc n) each = omega (arith, length-append (houses_below f n) (f n),
 pub beside-fits : (a b : CountList) (test : ℕ → Bool) (size : Extent) (place n : ℕ)
     → IsBegun a b (filter test (steps size place n)) → n < 4 → FitsPlaces a.list 4
     → FitsPlaces b.list 1
-beside-fits a b test size place n begun lt fits =
-    let some = filter test (steps size place n) in
-    let long = ap length begun.begun in
-    omega (arith, fits, length-append a.list.begun some, filter-few test (steps size place n), steps-few size place n)
+beside-fits a b test size place n begun lt fits = grind (arith, common_steps, length-append, filter-few, steps-few)
 
 pub added-few : {a b : CountList} (f : ℕ → List CountHouse) (n : ℕ) → IsAdded a b (houses_below f n)
     → ((c : ℕ) → length (f c) ≤ 1) → length b.list.closed ≤ length a.list.closed + n
-added-few {a} f n added each =
-    let long = ap length added.closed in
-    omega (arith, length-append a.list.closed (map house_places (houses_below f n)), length-map (houses_below f n) house_places, below-few f n each)
+added-few {a} f n added each = grind (arith, common_steps, length-append, length-map, below-few)
 
 -- and so there is room for the next
 pub added-fits : {a b : CountList} (f : ℕ → List CountHouse) {n cells : ℕ}
@@ -68,7 +63,7 @@ four-added {a} {b} {c} {d} {e} f g h k {i} {j} {l} {m} {i'} {j'} {l'} {m'} none 
 
 -- ---- a table of their cells, and their bounds
 pub counted-table : {cells : ℕ} {houses : List CountHouse} → AreHouses cells houses → AreCounted cells (map house_places houses) houses
-counted-table {houses} are = record { as_many = length-map houses house_places; places = places-at houses; each = are }
+counted-table {houses} are = grind (arith, common_steps, length-map, places-at)
 
 pub bounds-at : (houses : List CountHouse) {bounds : List Bounds} {h : ℕ} (d : Bounds)
     → bounds ≡ map bounds_of houses → h < length houses

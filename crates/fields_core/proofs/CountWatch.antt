@@ -41,8 +41,8 @@ module _ {cells : ℕ} (K : Candidates) where
 
 -- ---- a board of two values
 pub board-within : (b : Layout) {cells : ℕ} → cells_of b ≡ cells → b.values ≡ 2 → IsWithin cells 2 (has b)
-board-within b e two c v on = let w = has-within b c v on in (omega (arith, w.0), omega (arith, w.1))
+board-within b e two c v on = grind (arith, common_steps, has-within)
 
 pub bits-are : (b : Layout) (c : ℕ) {bits : ℕ} → b.values ≡ 2 → bits < 2 ^ b.values
     → ((v : ℕ) → v < b.values → has_bit bits v ≡ has b c v) → IsBitsOf (has b c) 2 bits
-bits-are b c two small same = record { small = rw two at small; same = λ v low. same v (omega arith) }
+bits-are b c two small same = grind (arith, common_steps)

@@ -44,7 +44,7 @@ column-black p c off = rw (sym off) refl
 
 pub column-edge : (p : Light) (c w : ℕ) → w ≡ p.size.w → true ≡ white p c → c < w → true ≡ begins_column_run p c
 unfolding begins_column_run
-column-edge p c w e on edge = let top : c / w ≡ 0 = div-eq_of_lt {n = c} {m = w} edge in rw (sym on, rw e at top) refl
+column-edge p c w e on edge = grind (arith, common_steps, div-eq_of_lt)
 
 pub column-after : (p : Light) (c w : ℕ) (b : Bool) → 0 < w → w ≡ p.size.w → true ≡ white p c
     → (c < w → ⊥) → b ≡ white p (c - w) → not b ≡ begins_column_run p c

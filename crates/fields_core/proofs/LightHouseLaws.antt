@@ -23,7 +23,7 @@ each-append P (x ∷ xs) ys ex ey (suc h) lt = each-append P xs ys (λ k l. ex (
 pub each-below : (P : CountHouse → Type 0) (f : ℕ → List CountHouse) (n : ℕ) → ((c : ℕ) → c < n → EachOf P (f c)) → EachOf P (houses_below f n)
 unfolding houses_below
 each-below P f zero each = each-none P
-each-below P f (suc n) each = each-append P (houses_below f n) (f n) (each-below P f n (λ c lt. each c (omega arith))) (each n (omega arith))
+each-below P f (suc n) each = each-append P _ (f n) (each-below P f n (λ c lt. each c (omega arith))) (each n (omega arith))
 
 pub each-if : (P : CountHouse → Type 0) (b : Bool) (house : CountHouse) → (b ≡ true → P house) → EachOf P (cond b (house ∷ []) [])
 each-if P true house is = each-one P house (is refl)
@@ -49,8 +49,8 @@ met-from within distinct few least most counted = grind (arith, common_steps, di
 pub clear-at : (test : ℕ → Bool) (j k i : ℕ) → clear test j k ≡ true → min j k ≤ i → i ≤ max j k → test i ≡ true
 unfolding clear
 clear-at test j k i on low high =
-    elim (or_cases (ltb i (min j k)) (test i)
-    (all_below-at (λ i. ltb i (min j k) || test i) (suc (max j k)) i on (omega arith))) [
+    elim (or_cases _ (test i)
+    (all_below-at (λ i. ltb i (min j k) || test i) _ i on (omega arith))) [
       | inl below ↦ let l = ltb-true i (min j k) below in absurd (omega arith)
       | inr here ↦ here
     ]
@@ -79,29 +79,29 @@ pub row-parts : (p : Light) (c d : ℕ) → joined_in_row p c d ≡ true
     → (c / p.size.w ≡ d / p.size.w)
     × (clear (λ x. white p (c / p.size.w * p.size.w + x)) (c % p.size.w) (d % p.size.w) ≡ true)
 unfolding joined_in_row
-row-parts p c d on = let w = and_parts (eqb (c / p.size.w) (d / p.size.w)) _ on in (eqb-true _ _ w.0, w.1)
+row-parts p c d on = let w = and_parts _ _ on in (eqb-true _ _ w.0, w.1)
 
 pub column-parts : (p : Light) (c d : ℕ) → joined_in_column p c d ≡ true
     → (c % p.size.w ≡ d % p.size.w)
     × (clear (λ y. white p (y * p.size.w + c % p.size.w)) (c / p.size.w) (d / p.size.w) ≡ true)
 unfolding joined_in_column
-column-parts p c d on = let w = and_parts (eqb (c % p.size.w) (d % p.size.w)) _ on in (eqb-true _ _ w.0, w.1)
+column-parts p c d on = grind (arith, common_steps, and_parts, eqb-true)
 
 pub row-both : (p : Light) (c d e : ℕ) → joined_in_row p c d ≡ true → joined_in_row p c e ≡ true → joined_in_row p d e ≡ true
 unfolding joined_in_row
 row-both p c d e a b =
     let v = row-parts p c d a in
     let w = row-parts p c e b in
-    and_from _ _ (eq-eqb (d / p.size.w) (e / p.size.w) (sym v.0 ∙ w.0))
-    (rw (sym v.0) (clear-both (λ x. white p (c / p.size.w * p.size.w + x)) (c % p.size.w) (d % p.size.w) (e % p.size.w) v.1 w.1))
+    and_from _ _ (eq-eqb _ _ (sym v.0 ∙ w.0))
+    (rw (sym v.0) (clear-both (λ x. white p (c / p.size.w * p.size.w + x)) _ _ _ v.1 w.1))
 
 pub column-both : (p : Light) (c d e : ℕ) → joined_in_column p c d ≡ true → joined_in_column p c e ≡ true → joined_in_column p d e ≡ true
 unfolding joined_in_column
 column-both p c d e a b =
     let v = column-parts p c d a in
     let w = column-parts p c e b in
-    and_from _ _ (eq-eqb (d % p.size.w) (e % p.size.w) (sym v.0 ∙ w.0))
-    (rw (sym v.0) (clear-both (λ y. white p (y * p.size.w + c % p.size.w)) (c / p.size.w) (d / p.size.w) (e / p.size.w) v.1 w.1))
+    and_from _ _ (eq-eqb _ _ (sym v.0 ∙ w.0))
+    (rw (sym v.0) (clear-both (λ y. white p _) _ _ _ v.1 w.1))
 
 pub row-white-end : (p : Light) (c d : ℕ) → 0 < p.size.w → joined_in_row p c d ≡ true → white p d ≡ true
 row-white-end p c d pos on =
@@ -127,7 +127,7 @@ column-self p c on = grind (arith, common_steps, and_from, eq-eqb, clear-from)
 -- the run of a row goes on at a white cell, unless one begins there
 module _ (p : Light) (c d : ℕ) (some : 0 < p.size.w) (next : c + 1 ≡ d) (before : white p c ≡ true) (on : white p d ≡ true) (inner : d % p.size.w ≡ 0 → ⊥) where
   parts : (c / p.size.w ≡ d / p.size.w) × (c % p.size.w ≡ d % p.size.w - 1)
-  parts = cell-parts p.size.w (d / p.size.w) (d % p.size.w - 1) c (omega (arith, some)) (omega (arith, inner))
+  parts = grind (arith, common_steps, cell-parts)
 
   row-next : joined_in_row p c d ≡ true
   unfolding joined_in_row

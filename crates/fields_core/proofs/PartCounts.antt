@@ -26,9 +26,7 @@ pub count-apart : (a b t : ℕ → Bool) (n : ℕ) → ((c : ℕ) → c < n → 
 unfolding count_below
 count-apart a b t zero apart = refl
 count-apart a b t (suc n) apart =
-    let rest = count-apart a b t n (λ c lt. apart c (omega arith)) in
-    let here = apart n (omega arith) in
-    grind (arith, common_steps, cases_Bool (a n), cases_Bool (b n), cases_Bool (t n))
+    grind (arith, common_steps, cases_Bool (a n), cases_Bool (b n), cases_Bool (t n), count-apart a b t n (λ c lt. apart c (omega arith)), apart n (omega arith))
 
 count-past : (p : ℕ → Bool) {n : ℕ} (room : ℕ) → n ≤ room → ((k : ℕ) → n ≤ k → p k ≡ false) → count_below p room ≡ count_below p n
 unfolding count_below
@@ -81,11 +79,11 @@ pub line-count : (size : Extent) (line : Line) (bits room : ℕ)
     → count_below (has_bit bits) room ≡ count_below (λ c. crosses line bits (c / size.w) (c % size.w)) (size.w * size.h)
 line-count size (Row y) bits room lt fits within =
     let e : size.w * size.h ≡ size.h * size.w = omega arith in
-    count-past (has_bit bits) room fits (λ k high. false_from_ne_true _ (λ on. absurd (let less = within k on in omega arith)))
+    count-past (has_bit bits) room fits (λ k high. false_from_ne_true _ (λ on. absurd (omega (arith, within k on))))
     ∙ rw e (sym (row-count size.w y bits size.h ∙ rw (lt-ltb y size.h lt) refl))
 line-count size (Column x) bits room lt fits within =
     let e : size.w * size.h ≡ size.h * size.w = omega arith in
-    count-past (has_bit bits) room fits (λ k high. false_from_ne_true _ (λ on. absurd (let less = within k on in omega arith)))
+    count-past (has_bit bits) room fits (λ k high. false_from_ne_true _ (λ on. absurd (omega (arith, within k on))))
     ∙ rw e (sym (column-count size.w x bits size.h lt))
 
 -- the cells at those of some places of a line at which the value can be

@@ -6,7 +6,7 @@ pub record IsStarted (cells : ℕ) (blocked : ℕ → Bool) (n : ℕ) (K : Candi
   pub sets : (c v : ℕ) → K c v ≡ (all_of cells 2 c v && not ((ltb c n && blocked c) && eqb v 1))
 
 pub started : (cells : ℕ) {blocked : ℕ → Bool} (K : Candidates) → K ≡ all_of cells 2 → IsStarted cells blocked 0 K
-started cells K e = record { sets = λ c v. ap (λ (L : Candidates). L c v) e ∙ sym (rw (le-ltb c 0 (omega arith)) (and-true (all_of cells 2 c v))) }
+started cells K e = grind (arith, common_steps, le-ltb, and-true)
 
 pub start-blocked : {cells : ℕ} {blocked : ℕ → Bool} (n : ℕ) (K K' : Candidates)
     → IsStarted cells blocked n K → blocked n ≡ true → K' ≡ without K n 1

@@ -102,8 +102,8 @@ pub row-run-is : (p : Light) (c : ℕ) {w : ℕ} (x : ℕ) → w ≡ p.size.w �
     → map (λ i. c - x + i * 1) (filter (clear (λ i. white p (c - x + i * 1)) x) (range_with_len 0 w)) ≡ row_run p c
 unfolding row_run
 row-run-is p c x e f = rw (e, sym f)
-    (line-run (joined_in_row p c) (λ i. white p (c / p.size.w * p.size.w + i)) (λ i. white p (c - c % p.size.w + i * 1)) (c % p.size.w) p.size.w
-    (λ x. c / p.size.w * p.size.w + x) (λ i. c - c % p.size.w + i * 1) same (λ i. ap (white p) (same i)) (λ i lt. row-cell-joined p c i lt))
+    (line-run _ (λ i. white p _) (λ i. white p _) _ p.size.w
+    (λ x. c / p.size.w * p.size.w + x) _ same (λ i. ap (white p) (same i)) (λ i lt. row-cell-joined p c i lt))
   where
     same : (i : ℕ) → c - c % p.size.w + i * 1 ≡ c / p.size.w * p.size.w + i
     same i = let whole : c ≡ c / p.size.w * p.size.w + c % p.size.w = omega arith in omega arith

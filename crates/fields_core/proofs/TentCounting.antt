@@ -39,7 +39,7 @@ column-kind : (p : Tents) (x : ℕ) → IsField p → x < p.size.w → IsMet (te
 unfolding column_right
 column-kind p x field lt = met-from (λ d on. column-within p lt on) (column-distinct p.size x field.some)
     (omega (arith, column-long p.size x, field.h_few)) (omega (arith, field.number x)) (omega (arith, field.number x)) (λ g grid good.
-    let e = eqb-true (tents_in_column p.size g x) (slice_index p.counts x) (all_below-at (column_right p g) p.size.w x (tents-parts p g good).columns lt) in
+    let e = eqb-true (tents_in_column p.size g x) (slice_index p.counts x) (all_below-at _ p.size.w x (tents-parts p g good).columns lt) in
     (omega arith, omega arith))
 
 row-kind : (p : Tents) (y : ℕ) → IsField p → y < p.size.h
@@ -48,7 +48,7 @@ row-kind : (p : Tents) (y : ℕ) → IsField p → y < p.size.h
 unfolding row_right
 row-kind p y field lt = met-from (λ d on. row-within p lt on) (row-distinct p.size y)
     (omega (arith, row-long p.size y, field.w_few)) (omega (arith, field.number (p.size.w + y))) (omega (arith, field.number (p.size.w + y))) (λ g grid good.
-    let e = eqb-true (tents_in_row p.size g y) (slice_index p.counts (p.size.w + y)) (all_below-at (row_right p g) p.size.h y (tents-parts p g good).rows lt) in
+    let e = eqb-true _ _ (all_below-at _ p.size.h y (tents-parts p g good).rows lt) in
     (omega arith, omega arith))
 
 -- ---- trees and their tents
@@ -75,20 +75,20 @@ pub given : (p : Tents) (g : List ℕ) → can_be_paired p g ≡ true → (chose
 unfolding can_be_paired tents_of
 given p g paired =
     let w =
-    filling_from_test (map (trees_beside p) (filter (tent g) (range_with_len 0 (tent_cells p))))
+    filling_from_test _
     (λ chosen. names_none_twice chosen && leaves_none_out p chosen) paired in
-    let tests = and_parts (names_none_twice w.0) (leaves_none_out p w.0) w.2 in
+    let tests = and_parts _ _ w.2 in
     let fills = w.1 in (
       w.0,
       record {
-        long = fills.len ∙ length-map (filter (tent g) (range_with_len 0 (tent_cells p))) (trees_beside p);
-        each = λ k lt. set-has p (slice_index (filter (tent g) (range_with_len 0 (tent_cells p))) k)
-            (sym (ap (λ (s : Set). has_value s (get_or w.0 k 0)) (get_or-map (trees_beside p) (filter (tent g) (range_with_len 0 (tent_cells p))) k 0 [] lt))
+        long = fills.len ∙ length-map _ _;
+        each = λ k lt. set-has p _
+            (sym (ap (λ s. has_value s (get_or w.0 k 0)) (get_or-map _ _ k 0 [] lt))
             ∙ fills.each k (omega (arith, length-map (filter (tent g) (range_with_len 0 (tent_cells p))) (trees_beside p))));
         none_twice = tests.0;
         none_out =
-            λ c lt on. elim (or_cases (not (tree p c)) (has_place w.0 c)
-            (all_below-at (λ c. not (tree p c) || has_place w.0 c) (tent_cells p) c tests.1 lt)) [
+            λ c lt on. elim (or_cases (not (tree p c)) _
+            (all_below-at (λ c. not (tree p c) || has_place w.0 c) _ c tests.1 lt)) [
               | inl bare ↦ absurd (true≢false (sym on ∙ not-true (tree p c) bare))
               | inr here ↦ here
             ];
@@ -112,7 +112,7 @@ tree-tent p g grid good c lt on =
     let k : w.0 < length (tents_of p g) = omega (arith, w.1, is.long) in
     let tents = filter (tent g) (range_with_len 0 (tent_cells p)) in
     let t = slice_index tents w.0 in
-    let member = place-filter (tent g) (range_with_len 0 (tent_cells p)) t (has_place-here tents w.0 k) in
+    let member = place-filter (tent g) _ t (has_place-here tents w.0 k) in
     (t, tent-in g (tent_cells p) t grid.each_cell member.1, member.1, rw w.2 at (is.each w.0 k).2)
 
 -- a tent has a tree beside it
@@ -131,14 +131,14 @@ tent-tree p g grid good t on =
 tree-bare : (p : Tents) (g : List ℕ) → solves_tents p g ≡ true → {c : ℕ} → c < tent_cells p → tree p c ≡ true → slice_index g c ≡ 0
 unfolding tree_right
 tree-bare p g good {c} lt on =
-    elim (or_cases (not (tree p c)) (eqb (slice_index g c) 0)
-    (all_below-at (tree_right p g) (tent_cells p) c (tents-parts p g good).trees lt)) [
+    elim (or_cases (not (tree p c)) _
+    (all_below-at _ _ c (tents-parts p g good).trees lt)) [
       | inl bare ↦ absurd (true≢false (sym on ∙ not-true (tree p c) bare))
-      | inr none ↦ eqb-true (slice_index g c) 0 none
+      | inr none ↦ eqb-true _ 0 none
     ]
 
 pub free-few : (p : Tents) (c : ℕ) → length (free_beside p c) ≤ 4
-free-few p c = omega (arith, filter-few (λ d. not (tree p d)) (steps p.size c 4), steps-few p.size c 4)
+free-few p c = grind (arith, common_steps, filter-few, tree, steps-few)
 
 tree-kind : (p : Tents) (c : ℕ) → IsField p → c < tent_cells p → tree p c ≡ true → IsMet (tent_cells p) (solves_tents p) (one_at_least (free_beside p c))
 tree-kind p c field lt on = met-from
@@ -236,7 +236,7 @@ line-few size line w h = grind (arith, common_steps)
 
 counts-few : (size : Extent) (line : ℕ) (counts : List ℕ) (k : ℕ) → size.w ≤ 256 → size.h ≤ 256 → AreCounts size line counts → slice_index counts k ≤ 256
 counts-few size line [] k w h all = omega arith
-counts-few size line (n ∷ counts) zero w h all = let f = line-few size line w h in let g = all.0 in omega arith
+counts-few size line (n ∷ counts) zero w h all = omega (arith, line-few size line w h)
 counts-few size line (n ∷ counts) (suc k) w h all = counts-few size (line + 1) counts k w h all.1
 
 pub tent-field : {p : Tents} → IsTents p → IsField p
@@ -245,13 +245,13 @@ tent-field is = grind (arith, common_steps, counts-few)
 pub tent-counting : {p : Tents} → IsTents p → IsCounting (tent_cells p) (is_barred p) (tent_houses p) (solves_tents p)
 unfolding is_barred
 tent-counting {p} is = record {
-  few_cells = let b = tent-field is in let a : p.size.w * p.size.h ≤ 256 * p.size.h = mul-le-mul_right p.size.h b.w_few in let h = b.h_few in omega arith;
+  few_cells = let b = tent-field is in omega (arith, mul-le-mul_right p.size.h b.w_few);
   are_houses = λ h lt. (each-met p (tent-field is) h lt).is_house;
   blocked_zero = λ g grid good c lt bare. elim (or_cases (tree p c) _ bare) [
     | inl on ↦ tree-bare p g good lt on
-    | inr alone ↦ zero-from (slice_index g c) (small-at grid c) (λ one.
-        let w = tent-tree p g grid good c (eq-eqb (slice_index g c) 1 one) in
-        true≢false (sym (any-here (tree p) (steps p.size c 4) w.0 w.2 w.1) ∙ not-true (list_any (tree p) (steps p.size c 4)) alone))
+    | inr alone ↦ zero-from _ (small-at grid c) (λ one.
+        let w = tent-tree p g grid good c (eq-eqb _ 1 one) in
+        true≢false (sym (any-here (tree p) _ w.0 w.2 w.1) ∙ not-true (list_any (tree p) (steps p.size c 4)) alone))
   ];
   meets_each = λ g grid good h lt. (each-met p (tent-field is) h lt).met g grid good;
 }

@@ -33,16 +33,12 @@ passing-at test n r lt =
 -- ---- the tents of a grid, one after another
 pub listed-skip : (g tents : List ℕ) (count n v : ℕ) → take count tents ≡ passing (tent g) n
     → v ≡ slice_index g n → (v ≡ 1 → ⊥) → take count tents ≡ passing (tent g) (n + 1)
-listed-skip g tents count n v before at none =
-    before ∙ sym (passing-more (tent g) n
-    ∙ rw (ne_eqb (slice_index g n) 1 (λ e. none (at ∙ e))) (append-nil (passing (tent g) n)))
+listed-skip g tents count n v before at none = grind (arith, common_steps, passing-more, ne_eqb, append-nil)
 
 pub listed-keep : (g tents : List ℕ) (count n v : ℕ) → take count tents ≡ passing (tent g) n
     → v ≡ slice_index g n → v ≡ 1 → count < length tents
     → take (count + 1) (set tents count n) ≡ passing (tent g) (n + 1)
-listed-keep g tents count n v before at one lt =
-    take_more_set tents count n lt ∙ ap (λ l. l ++ n ∷ []) before
-    ∙ sym (passing-more (tent g) n ∙ rw (eq-eqb (slice_index g n) 1 (sym at ∙ one)) refl)
+listed-keep g tents count n v before at one lt = grind (arith, common_steps, passing-more, eq-eqb)
 
 pub listed-all : (g tents : List ℕ) (count n cells : ℕ) → take count tents ≡ passing (tent g) n → n ≡ cells → take count tents ≡ passing (tent g) cells
 listed-all g tents count n cells before e = before ∙ ap (passing (tent g)) e

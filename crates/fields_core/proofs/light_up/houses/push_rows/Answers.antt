@@ -5,4 +5,4 @@ use Rattle.fields_core.proofs.light_up.houses.push_rows.Goals as goal
 pub push_row-requires-clause-fits : goal.push_row-requires-clause-fits
 push_row-requires-clause-fits c =
     let p = c.args.puzzle.now in
-    added-fits (row_house p) c.loop-place.invariant.added (λ d. if-few (begins_row_run p d) _) (omega arith) c.requires.fits
+    added-fits (row_house p) c.loop-place.invariant.added (λ d. if-few _ _) (omega arith) c.requires.fits

@@ -5,8 +5,8 @@ use Rattle.fields_core.proofs.light_up.sight.shines.Goals as goal
 pub returns-then-not-is_white : goal.returns-then-not-is_white
 returns-then-not-is_white c =
     let l = c.args.line in
-    walk-black (λ i. white c.args.puzzle.now (l.first + i * l.stride))
-    (λ i. bulb c.args.grid.now (l.first + i * l.stride)) c.args.at c.if-at-side.number
+    walk-black (λ i. white c.args.puzzle.now _)
+    _ c.args.at c.if-at-side.number
     c.loop-next.auto.next c.loop-next-test.true
     (grind (arith, c.requires.beside, c.if-at-side.branch)) c.loop-next.invariant.dark
     (ap (white c.args.puzzle.now) (sym c.along-place.ensures) ∙ sym c.is_white.ensures.value
@@ -15,9 +15,9 @@ returns-then-not-is_white c =
 pub returns-then-get-eq1 : goal.returns-then-get-eq1
 returns-then-get-eq1 c =
     let l = c.args.line in
-    walk-bulb (λ i. white c.args.puzzle.now (l.first + i * l.stride))
-    (λ i. bulb c.args.grid.now (l.first + i * l.stride)) c.args.at c.if-at-side.number
+    walk-bulb (λ i. white c.args.puzzle.now _)
+    _ c.args.at c.if-at-side.number
     c.loop-next.auto.next c.loop-next-test.true
     (grind (arith, c.requires.beside, c.if-at-side.branch)) c.loop-next.invariant.pass c.requires.white
     (ap (white c.args.puzzle.now) (sym c.along-place.ensures) ∙ sym c.is_white.ensures.value ∙ c.if-not-is_white.false)
-    (eq-eqb (slice_index c.args.grid.now _) 1 (ap (slice_index c.args.grid.now) (sym c.along-place.ensures) ∙ sym c.get.ensures ∙ c.if-get-eq1.true))
+    (eq-eqb _ 1 (ap (slice_index c.args.grid.now) (sym c.along-place.ensures) ∙ sym c.get.ensures ∙ c.if-get-eq1.true))

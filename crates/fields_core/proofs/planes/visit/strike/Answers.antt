@@ -4,7 +4,7 @@ use Rattle.fields_core.proofs.planes.visit.strike.Goals as goal
 
 pub loop-number-init : goal.loop-number-init
 loop-number-init g c = record {
-  left = struck-none c.args.planes.now.size.w (g.P.Parts.pieces c.args.parts.now) c.args.value;
+  left = struck-none c.args.planes.now.size.w _ c.args.value;
   further = further-none c.args.planes.now;
 }
 

@@ -4,6 +4,6 @@ use Rattle.fields_core.proofs.tents.check.check_tents.Goals as goal
 
 pub returns-clause-solution : goal.returns-clause-solution
 returns-clause-solution c =
-    none_exactly (FailsTents c.args.puzzle.now c.args.grid.now) (tent_tests c.args.puzzle.now)
+    none_exactly _ _
     (tents-none c.args.puzzle.now c.args.grid.now c.requires.fits) c.find_fault-fault.result
     c.find_fault-fault.ensures.fault

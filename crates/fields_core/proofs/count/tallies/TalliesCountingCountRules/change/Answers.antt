@@ -22,7 +22,7 @@ moved-requires g c =
     let r = c.requires in
     let m = movable (counted-table c.args._set.now.counting.are_houses) r.recounted.change r.recounted.is_so
         (rw r.table at c.houses_at-houses.ensures) c.loop-k.invariant c.loop-k-test.true in
-    let is : c.index-tally.result.now ≡ tally_at c.loop-k.self.tallies.items (slice_index c.houses_at-houses.result.now c.loop-k.k) =
+    let is =
         c.index-tally.ensures ∙ get_or_default c.loop-k.self.tallies.items _ _ _ m.low in
     rw is m.can
 
@@ -33,7 +33,7 @@ loop-k-preserved g c =
         (rw r.table at c.houses_at-houses.ensures) c.loop-k.invariant c.loop-k-test.true in
     moved-next c.loop-k.invariant c.loop-k-test.true
         (not-twice c.houses_at-houses.ensures) (omega (arith, m.low, c.loop-k.invariant.as_many))
-        (c.moved.ensures ∙ ap (λ (t : Tally). moved_tally t c.args.before c.args.after)
+        (c.moved.ensures ∙ ap (λ t. moved_tally t c.args.before c.args.after)
         (c.index-tally.ensures ∙ get_or_default c.loop-k.self.tallies.items _ _ _ m.low ∙ m.same))
 
 pub returns-clause-follows : goal.returns-clause-follows
