@@ -81,7 +81,7 @@ pub use Rattle.commands.specs.Grades.{HasOneSolution, IsRightGrade, NamedRules, 
 pub use Rattle.commands.specs.Grades.{last_tried, listed_grade, only_set, rule_set_text}
 unfoldable pub use Rattle.commands.specs.Grades.{searched_grade}
 pub use Rattle.commands.specs.LawsOfCommands.{ArePassed, DifferInClues, GradedPuzzlesHaveOne, HandOutAlike, HasOneAnswer, IsLeastBudget, IsRewritten}
-pub use Rattle.commands.specs.LawsOfCommands.{MadePuzzlesAreSolved, NamesSearch, NamesSet, NamesSetWithinSearch, Passes, SearchesNameLeastBudgets}
+pub use Rattle.commands.specs.LawsOfCommands.{MadePuzzlesAreSolved, NamesSearch, NamesSet, NamesSetNoStrongerThanSearch, Passes, SearchesNameLeastBudgets}
 pub use Rattle.commands.specs.LawsOfCommands.{StatusesAgree, is_fixed, is_within_search}
 pub use Rattle.commands.specs.LightFacts.{light_facts, light_fault}
 pub use Rattle.commands.specs.Makings.{MadePuzzle, Wanted, exhausted_answer}

@@ -1,6 +1,6 @@
 -- A puzzle is settled exactly where its verdict without a trial is one, and its grade goes along with its verdict; and so what is
 -- told of the two.
-use Rattle.commands.proofs.Common.{Answer, Begins, Bool, ByRules, BySearch, Candidates, Crossings, Found, Grade, HasOneSolution, IsClosed, IsInside, IsLawful, IsRight, IsRightGrade, List, Mark, Mark.Trial, NamedRules, NamesSetWithinSearch, None, Option, Outcome, Outcome.GaveUp, Outcome.NoSolution, Outcome.OneSolution, Outcome.SeveralSolutions, RuleSet, RuleSystem, SaysGrade, Solves, StatusesAgree, Text, [], all_below, and_from, and_parts, any_below, ap, arith, at_cell, branch_at, branches, cases_eq, closure_closed, closure_inside, closure_largest, codes, common_steps, cond_both, count_below, count_below-one, eqb-true, false, first_settled, grade_by, grade_status, grade_text, grid_of, inl, inr, is_dead, is_full, is_settled, is_within_search, least_below-passes, listed_grade, ne_eqb, only, outcome, refl, refused, rule_set_text, searched_grade, slice_index, subst, suc, sym, trials_in, true, true≢false, verdict_answer, verdict_of, walk, walk_closed, zero, ℕ, ◌*◌, ◌++◌, ◌+◌, ◌<◌, ◌==◌, ◌↔◌, ◌∙◌, ◌∷◌, ◌≡◌, ◌≢◌, ◌⊎◌}
+use Rattle.commands.proofs.Common.{Answer, Begins, Bool, ByRules, BySearch, Candidates, Crossings, Found, Grade, HasOneSolution, IsClosed, IsInside, IsLawful, IsRight, IsRightGrade, List, Mark, Mark.Trial, NamedRules, NamesSetNoStrongerThanSearch, None, Option, Outcome, Outcome.GaveUp, Outcome.NoSolution, Outcome.OneSolution, Outcome.SeveralSolutions, RuleSet, RuleSystem, SaysGrade, Solves, StatusesAgree, Text, [], all_below, and_from, and_parts, any_below, ap, arith, at_cell, branch_at, branches, cases_eq, closure_closed, closure_inside, closure_largest, codes, common_steps, cond_both, count_below, count_below-one, eqb-true, false, first_settled, grade_by, grade_status, grade_text, grid_of, inl, inr, is_dead, is_full, is_settled, is_within_search, least_below-passes, listed_grade, ne_eqb, only, outcome, refl, refused, rule_set_text, searched_grade, slice_index, subst, suc, sym, trials_in, true, true≢false, verdict_answer, verdict_of, walk, walk_closed, zero, ℕ, ◌*◌, ◌++◌, ◌+◌, ◌<◌, ◌==◌, ◌↔◌, ◌∙◌, ◌∷◌, ◌≡◌, ◌≢◌, ◌⊎◌}
 use Rattle.grid_core.proofs.GridLemmas.{is_full-count, grid_of-at}
 use Rattle.engine_core.specs.Closing.{closure}
 use Rattle.engine_core.proofs.JudgeLemmas.{grid-fits}
@@ -216,12 +216,12 @@ names_it (ByRules set) lines e = (set, e, (lines, refl))
 names_it grade lines e = absurd cc
 
 -- a refusal names no rule set
-none_named : (cause : Text) → NamesSetWithinSearch (refused cause) → ⊥
+none_named : (cause : Text) → NamesSetNoStrongerThanSearch (refused cause) → ⊥
 unfolding marks
 none_named cause (Crossings, within, (rest, e)) = absurd (true≢false (sym within))
 none_named cause (set, within, (rest, e)) = absurd (omega (arith, ap marks e))
 
-pub refusals_apart : (cause : Text) → NamesSetWithinSearch (refused cause) ↔ ((refused cause).status ≡ 0)
+pub refusals_apart : (cause : Text) → NamesSetNoStrongerThanSearch (refused cause) ↔ ((refused cause).status ≡ 0)
 refusals_apart cause = (λ named. absurd (none_named cause named), λ e. absurd (omega (arith, e)))
 
 module _ {traced : Bool} {name : ℕ → Text} {tried : RuleSystem} (printed : List ℕ → Text) {solved graded : Answer} where
@@ -230,7 +230,7 @@ module _ {traced : Bool} {name : ℕ → Text} {tried : RuleSystem} (printed : L
   status_alike o along told is = rw (told.status, is, told_status printed o) along
 
   pub named_alike : (grade : Grade) {rules : RuleSystem} → IsLawful rules → is_within grade ≡ is_settled rules → SaysGrade grade traced name tried graded
-      → solved ≡ verdict_answer printed (verdict_of rules 0) → NamesSetWithinSearch graded ↔ (solved.status ≡ 0)
+      → solved ≡ verdict_answer printed (verdict_of rules 0) → NamesSetNoStrongerThanSearch graded ↔ (solved.status ≡ 0)
   named_alike grade {rules} laws within told is = (
     λ named. let by : is_within grade ≡ true = named_is grade told.lines named.2.0 named.0 named.1 (sym told.text ∙ named.2.1) in
         is_status ∙ sym (one_status _ (settled_found laws (sym within ∙ by) 0)),

@@ -71,8 +71,8 @@ SolvedGridsPass = (game : Game) (id : Text) (budget : ℕ) (solved : Answer)
     → ArePassed (AllowsCheck (game_of game) id) solved
 
 -- where an input is correct, the ID is never told to have no solution, whatever the budget
-abbrev pub CorrectGridsExcludeNone : Type 0
-CorrectGridsExcludeNone = (game : Game) (id input : Text) (budget : ℕ) (given solved : Answer)
+abbrev pub CorrectMeansNeverNone : Type 0
+CorrectMeansNeverNone = (game : Game) (id input : Text) (budget : ℕ) (given solved : Answer)
     → AllowsCheck (game_of game) id input given → given.status ≡ code_of Fine
     → AllowsSolve (game_of game) id budget solved → solved.status ≢ code_of Wrong
 
@@ -86,7 +86,7 @@ CorrectGridsAreTheOneTold = (game : Game) (id input grid : Text) (budget : ℕ)
 
 -- The statuses of `grade` and of `solve` with the same budget:
 --   solve:   Fine   Wrong   Refused   Several   GaveUp
---   grade:   Fine   Wrong   Refused   Several   GaveUp, or Fine by a rule set that needs no search
+--   grade:   Fine   Wrong   Refused   Several   GaveUp, or Fine (by `crossings`)
 abbrev pub StatusesAgree : ℕ → ℕ → Type 0
 StatusesAgree graded solved =
     (graded ≡ solved) ⊎ ((graded ≡ code_of Fine) × (solved ≡ code_of GaveUp))
@@ -120,8 +120,8 @@ is_within_search Lines = true
 is_within_search Local = true
 
 -- the first line of the answer names such a rule set
-abbrev pub NamesSetWithinSearch : Answer → Type 0
-NamesSetWithinSearch answer = (set : RuleSet) × (is_within_search set ≡ true)
+abbrev pub NamesSetNoStrongerThanSearch : Answer → Type 0
+NamesSetNoStrongerThanSearch answer = (set : RuleSet) × (is_within_search set ≡ true)
     × Begins (rule_set_text set ++ codes "\n") answer.text
 
 -- it does exactly where a search without a trial tells the one solution
@@ -130,7 +130,7 @@ RuleSetsNeedNoTrial = (game : Game) (id : Text) (budget : ℕ) (traced : Bool)
     (solved graded : Answer)
     → AllowsSolve (game_of game) id 0 solved
     → AllowsGrade (game_of game) id budget traced graded
-    → (NamesSetWithinSearch graded ↔ (solved.status ≡ code_of Fine))
+    → (NamesSetNoStrongerThanSearch graded ↔ (solved.status ≡ code_of Fine))
 
 -- so many trials are the least budget with which the one answer to the ID tells one solution
 pub record IsLeastBudget (game : Game) (id : Text) (trials : ℕ) : Type 0 where
@@ -238,8 +238,8 @@ pub record DifferInClues {P : Type 0} (play : PuzzleFacts P) (alike : P → P �
   pub made : one.status ≡ code_of Fine → HandOutAlike play alike one other
 
 -- two answers to one making of Solo have the same size, with or without diagonals, and the same grid
-abbrev pub SoloDiffersInGivens : Type 0
-SoloDiffersInGivens = (size : Text) (seed budget tries black : ℕ) (one other : Answer)
+abbrev pub SoloDiffersAtMostInGivens : Type 0
+SoloDiffersAtMostInGivens = (size : Text) (seed budget tries black : ℕ) (one other : Answer)
     → AllowsMade (game_of game.Solo) (wanted seed budget tries black) size one
     → AllowsMade (game_of game.Solo) (wanted seed budget tries black) size other
     → DifferInClues solo_facts SameSolo one other

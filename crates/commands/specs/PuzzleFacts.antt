@@ -1,4 +1,4 @@
--- What the commands know of a game, and of its puzzles.
+-- The words in which the commands speak of a game and of its puzzles. The traits say what ties them.
 use Rattle.std.specs.Prelude.{ℕ, List, Result}
 use Rattle.commands.specs.Common.{Extent, RuleSystem, SizeRead, IdFault, grid_text}
 use Rattle.commands.specs.Answers.{Answer, Text}
@@ -16,7 +16,7 @@ pub record GameFacts (P : Type 0) : Type 1 where
   pub solves : P → List ℕ → Type 0
   pub rules : P → RuleSystem
   pub checks : P → List ℕ → Answer → Type 0
-  -- the rule sets that are tried in turn, and the names of what they visit, in their order
+  -- the rule sets that are tried in turn, and the name of the house with that number
   pub sets : P → List NamedRules
   pub visit_name : P → ℕ → Text
   -- the size that a text is, within the limits of what is made, or its first fault

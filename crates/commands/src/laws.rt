@@ -4,7 +4,7 @@ ghost use Rattle.commands.specs.Common.{Game};
 ghost use Rattle.commands.specs.Allowed.{AllowsSolve};
 ghost use Rattle.commands.specs.Games.{game_of};
 ghost use Rattle.commands.specs.Each.{HasAnswers};
-ghost use Rattle.commands.specs.LawsOfCommands.{EachRequestHasAnAnswer, FixedRequestsHaveOneAnswer, SoloDiffersInGivens, LightsDifferInNumbers, CorrectGridsExcludeNone, CorrectGridsAreTheOneTold, SolvedGridsPass, GradedPuzzlesHaveOne, GradesGoWithVerdicts, RuleSetsNeedNoTrial, SearchesNameLeastBudgets, LightsNeedTheirClues, MadePuzzlesAreSolved, SoloNeedsItsClues, RewritingKeepsAnswers};
+ghost use Rattle.commands.specs.LawsOfCommands.{EachRequestHasAnAnswer, FixedRequestsHaveOneAnswer, SoloDiffersAtMostInGivens, LightsDifferInNumbers, CorrectMeansNeverNone, CorrectGridsAreTheOneTold, SolvedGridsPass, GradedPuzzlesHaveOne, GradesGoWithVerdicts, RuleSetsNeedNoTrial, SearchesNameLeastBudgets, LightsNeedTheirClues, MadePuzzlesAreSolved, SoloNeedsItsClues, RewritingKeepsAnswers};
 
 /// Each text has an answer of `solve`, for each game and budget: it spells a puzzle or has a fault,
 /// and the verdict of a puzzle's walk is right of its solutions.
@@ -27,7 +27,7 @@ pub fn each_request_has_an_answer()
 /// are the same, in Light Up the size, the black cells and the bulbs.
 pub fn one_answer()
     ensures fixed { FixedRequestsHaveOneAnswer }
-    ensures solo { SoloDiffersInGivens }
+    ensures solo { SoloDiffersAtMostInGivens }
     ensures lights { LightsDifferInNumbers }
 {
     maker_core::laws::fillings_of_tents_are_solutions();
@@ -39,7 +39,7 @@ pub fn one_answer()
 /// its printed form, but for its line ends.
 pub fn solved_grids_pass()
     ensures pass { SolvedGridsPass }
-    ensures some { CorrectGridsExcludeNone }
+    ensures some { CorrectMeansNeverNone }
     ensures same { CorrectGridsAreTheOneTold }
 {}
 

@@ -46,7 +46,8 @@ pub trait Propagators: Rules {
     }
 
     /// Decides what a visit of the house keeps of the sets of its cells, which are given as bits in the order of its scope.
-    /// Says whether anything may be struck; else nothing is, whatever is in `kept`.
+    /// The bits of values that a cell lacks are open. Says whether anything may be struck; else nothing is, whatever is in
+    /// `kept`.
     fn filter(
         &self,
         house: usize,

@@ -1,4 +1,4 @@
-use Rattle.commands.proofs.Common.{NamesSetWithinSearch, StatusesAgree, game_of, inl, refl, ◌↔◌, ◌≡◌}
+use Rattle.commands.proofs.Common.{NamesSetNoStrongerThanSearch, StatusesAgree, game_of, inl, refl, ◌↔◌, ◌≡◌}
 use Rattle.commands.proofs.GameLaws.{laws_of, with_enough}
 use Rattle.commands.proofs.GradedAlike.{statuses_agree, named_alike, refusals_apart, status_alike}
 use Rattle.commands.proofs.Readings.{both_answers}
@@ -19,5 +19,5 @@ returns-clause-least c = least_budgets
 
 pub returns-clause-rule_sets : goal.returns-clause-rule_sets
 returns-clause-rule_sets c = λ g id budget traced solved graded.
-    both_answers (laws_of g).reading (λ x y. NamesSetWithinSearch y ↔ (x.status ≡ 0)) id solved graded refusals_apart
+    both_answers (laws_of g).reading (λ x y. NamesSetNoStrongerThanSearch y ↔ (x.status ≡ 0)) id solved graded refusals_apart
     (λ p s a b. named_alike _ _ ((laws_of g).searched id p s).lawful ((laws_of g).named id p s budget) b.said a.said)
