@@ -124,7 +124,7 @@ pattern_making w text read is = record {
         (record { sized = refl; columns = λ x lt. at_column runs [] size (grid k) x lt; rows = λ y lt. at_row runs [] size (grid k) y lt })
         (black_cells-grid w.black (size.w * size.h) (stream_after (pattern_filling size w.black) k w.stream)) in
         let only = one_is (line_rules p) (IsPatternSolution p) (λ h s. s.grid) (λ h cells. (is_solution-is p h cells, is_solution-from p h))
-            (has_one (line_rules p) (line_rules-lawful p extent) w.budget first.passing) solved in
+        (has_one (line_rules p) (line_rules-lawful p extent) w.budget first.passing) solved in
         record {
           made = record { puzzle = p; solution = grid k; kept = [] };
           is_made = record { k = k; first = first; filled = refl; clues = refl; only = only.0; verdict = only.1; unthinned = refl };
@@ -201,8 +201,8 @@ tents_making filled w words text read is = record {
         let p : Tents = tents_puzzle_of size (filling k) in
         let ok = tents_lawful size (filling k) large (filled.trees size w.stream k large.extent words) in
         let only = one_is (tent_rules p) (IsTentSolution p) (λ h s. s.grid)
-            (λ h cells. (tents.solution-from-tents p h cells, tents.tents-from-solution p h cells))
-            (has_one (tent_rules p) (tents_searched ok).lawful w.budget first.passing) (filled.solved size w.stream k large.extent words) in
+        (λ h cells. (tents.solution-from-tents p h cells, tents.tents-from-solution p h cells))
+        (has_one (tent_rules p) (tents_searched ok).lawful w.budget first.passing) (filled.solved size w.stream k large.extent words) in
         record {
           made = record { puzzle = p; solution = (filling k).tents; kept = [] };
           is_made = record {
