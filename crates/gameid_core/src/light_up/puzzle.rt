@@ -60,7 +60,7 @@ impl LightPuzzle {
 
     /// The cell at a place. Places go row by row from the top left.
     pub fn cell(&self, place: usize) -> LightCell
-        requires { place < self.now.size.w * self.now.size.h }
+        requires { IsLight self.now → place < length self.now.cells }
         ensures value { slice_get self.now.cells place ≡ Some result }
         ensures range { IsLightCell result }
         ensures lawful { IsLight self.now }
