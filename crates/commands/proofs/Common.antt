@@ -46,7 +46,8 @@ pub use Rattle.maker_core.proofs.Common.{All-from_get_or, AreReasons, CluedGame,
 pub use Rattle.maker_core.proofs.Common.{IsPermutation, IsPermutation-refl, IsThinnedFrom, IsThinning, IsTrueOf, Stream, TellsOne, bulbs_beside}
 pub use Rattle.maker_core.proofs.Common.{clue_places, count_by-le-length, first_grid, flipped_by_draw, houses_lawful, is_some, length-filter}
 pub use Rattle.maker_core.proofs.Common.{length-map-range_with_len, length-range_with_len, light_cells, light_is_game, lt-ltb, mul-le, nat_lt}
-pub use Rattle.maker_core.proofs.Common.{numbered_cell, outcome-true, range_with_len, recursion_from_All, replicate, shuffled_list, shuffled_order}
+pub use Rattle.maker_core.proofs.Common.{numbered_cell, outcome-true, range_with_len, recursion_from_All, replicate, shuffled_order}
+pub use Rattle.maker_core.specs.Draws.{shuffled_list}
 pub use Rattle.maker_core.proofs.Common.{solo_is_game, top_row_given, x_filling, ◌-◌, ◌^◌}
 unfoldable pub use Rattle.maker_core.proofs.Common.{black_cells, bulbs_after, lights_of, lines_of_groups, reasons_from, stream_after, white}
 unfoldable pub use Rattle.maker_core.proofs.Common.{white_places}

@@ -1,6 +1,6 @@
 -- Each filling of Light Up over a stream of words solves its puzzle; and the first that passes can be thinned.
 use Rattle.commands.proofs.Common.{All-from_get_or, AllByRecursion, Black, Bool, Extent, HasWords, IsFirstPassing, IsLight, IsLightCell, IsLightSolution, IsLit, IsThinnedFrom, IsWide, Kept, Light, LightCell, List, Making, Numbered, Option, Outcome.OneSolution, Some, Stream, White, ap, arith, black_cells, black_cells-grid, bulbs_after, bulbs_beside, cases_lt, count_by-le-length, false, filling_at, get_or, get_or_past, if◌then◌else◌, inl, inr, is_white, length, length-filter, length-map, length-map-range_with_len, length-range_with_len, light_cells, light_filling, light_game, light_is_game, light_puzzle_of, light_rules, lights_of, lit_up, mul-le, none-some, number_clue, numbered_cell, range_with_len, recursion_from_All, refl, shuffled_list, stream_after, subst, suc, sym, true, white, white_places, with_numbers, zero, ℕ, ◌*◌, ◌-◌, ◌<◌, ◌==◌, ◌^◌, ◌∙◌, ◌≡◌, ◌≤◌}
-use Rattle.maker_core.proofs.Common.{light_passes}
+use Rattle.maker_core.specs.LightFilling.{light_passes}
 use Rattle.maker_core.specs.LightMaking.{IsLightMade}
 use Rattle.maker_core.proofs.LightCells.{bulbs_few}
 use Rattle.maker_core.proofs.LightMakings.{all_numbers, lit_one, size_is}

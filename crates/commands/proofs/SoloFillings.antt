@@ -1,6 +1,6 @@
 -- Each filling of Solo over a stream of words is a grid that keeps to the rules; and the first that is there can be thinned.
 use Rattle.commands.proofs.Common.{AreReasons, Bool, HasWords, IfSome, IsFirstPassing, IsLineOrder, IsShuffledOrder, IsSolo, IsSoloMade, IsSoloSize, IsSoloSolution, IsTrueOf, Kept, List, None, Option, Outcome, Outcome.GaveUp, Outcome.NoSolution, Outcome.OneSolution, Outcome.SeveralSolutions, Solo, Solves, Some, Stream, [], add-one, all_given, arith, draw_is, false, filling_at, first_grid, flipped_by_draw, houses_lawful, houses_rules, is_some, line_order, lines_of_groups, mul-le, order_is, outcome-true, plain_filling, refl, shuffled_order, solo_game, solo_is_game, solo_passes, stream_after, subst, suc, top_row_given, true, true≢false, verdict_of, x_filling, zero, ℕ, ◌*◌, ◌-◌, ◌<◌, ◌^◌, ◌∙◌, ◌≡◌}
-use Rattle.maker_core.proofs.Common.{solo_filling}
+use Rattle.maker_core.specs.SoloMaking.{solo_filling}
 use Rattle.maker_core.proofs.SoloFull.{all_given-found, all_given-only, found_passes, only_by_rules, same_given, thinned-solo}
 use Rattle.maker_core.proofs.SoloOrderLemmas.{AreGrouped, AreGrouped-more, grouped-none, line_order_from_groups}
 use Rattle.maker_core.proofs.SoloSolution.{is_solution_of_all}
