@@ -143,10 +143,10 @@ stopped_further {seen} more s =
 
 -- the bytes up to one more
 pub one_further : (seen chunk : Text) (i : ℕ) → i < length chunk → (seen ++ take i chunk) ++ get_or chunk i 0 ∷ [] ≡ seen ++ take (i + 1) chunk
-one_further seen chunk i h = append_assoc seen (take i chunk) (get_or chunk i 0 ∷ []) ∙ ap (λ t. seen ++ t) (sym (take_more chunk i 0 h))
+one_further seen chunk i h = append_assoc seen _ _ ∙ ap (λ t. seen ++ t) (sym (take_more chunk i 0 h))
 
 pub to_the_end : (seen chunk : Text) (i : ℕ) → i < length chunk → ((seen ++ take i chunk) ++ get_or chunk i 0 ∷ []) ++ drop (i + 1) chunk ≡ seen ++ chunk
-to_the_end seen chunk i h = ap (λ t. t ++ drop (i + 1) chunk) (one_further seen chunk i h) ∙ append_assoc seen (take (i + 1) chunk) (drop (i + 1) chunk)
+to_the_end seen chunk i h = ap (λ t. t ++ drop (i + 1) chunk) (one_further seen chunk i h) ∙ append_assoc seen _ _
     ∙ ap (λ t. seen ++ t) (take-append-drop (i + 1) chunk)
 
 module _ {I : Type 0} {gives : I → Text → I → Type 0} (gives_both : TakesBoth gives) where
@@ -155,13 +155,13 @@ module _ {I : Type 0} {gives : I → Text → I → Type 0} (gives_both : TakesB
       → Given gives from j Q
   given_more {from} {i} {j} {chunk} same t more step = record {
     seen = t.seen ++ chunk;
-    gave = gives_both from i j t.seen chunk t.gave (subst (λ (c : Text). gives i c j) same more);
+    gave = gives_both from i j t.seen chunk t.gave (subst (λ c. gives i c j) same more);
     is = step t.seen t.is;
   }
 
   pub given_no_more : {from i j : I} {P : Text → Type 0} → Given gives from i P → gives i [] j → Given gives from j P
   given_no_more {from} {i} {j} t more =
-      record { seen = t.seen; gave = subst (λ (c : Text). gives from c j) (append-nil t.seen) (gives_both from i j t.seen [] t.gave more); is = t.is }
+      record { seen = t.seen; gave = subst (λ c. gives from c j) (append-nil t.seen) (gives_both from i j t.seen [] t.gave more); is = t.is }
 
   -- no more was written
   pub stopped_here : {S : Type 0} {takes : S → Text → S → Type 0} {allows : Text → Answer → Type 0}

@@ -94,7 +94,7 @@ shows_all grid = record { grid = grid; hidden = λ place none. absurd none }
 
 -- a number below 2 that isn't 1
 none_at : (v : ℕ) → v < 2 → (v ≡ 1 → ⊥) → v ≡ 0
-none_at v small never = let other : v ≢ 1 = never in omega arith
+none_at v small never = omega (arith, never)
 
 -- in a grid of 0 and 1 a cell holds 0 where it can't hold 1
 hidden_zero : {cells : ℕ} {g : List ℕ} (place : ℕ) → IsGrid cells 2 g → (place < cells → slice_index g place ≡ 1 → ⊥) → slice_index g place ≡ 0
@@ -131,7 +131,7 @@ white_at (x ∷ cells) (suc place) on = white_at cells place on
 light_hidden : (p : Light) (g : List ℕ) → IsLightSolution p g → (place : ℕ) → light_hides p place → slice_index g place ≡ 0
 unfolding white
 light_hidden p g s place hides = hidden_zero place s.grid
-    (λ lt one. hides (white_at p.cells place (s.none_on_black place lt (eq-eqb (slice_index g place) 1 one))))
+    (λ lt one. hides (white_at p.cells place (s.none_on_black place lt (eq-eqb _ 1 one))))
 
 light_decides : (o : Option LightCell) → Decided (o ≢ Some White)
 light_decides (Some White) = inr (λ never. never refl)
@@ -139,24 +139,24 @@ light_decides o = inl (λ e. cc)
 
 pub light_checked : (p : Light) → IsLight p → CheckedPuzzle (game_of game.LightUp) p
 light_checked p ok = record {
-  reads = λ place. light_in (slice_get p.cells place);
+  reads = λ place. light_in _;
   known = light_reads p ok;
-  text = λ g shown. grid_is_text (light_cell p g) p.size 1 (λ place lt. light_cell_text p ok g place) ok.size.extent.w_high ok.size.extent.h_high (omega arith);
-  decides = λ place. light_decides (slice_get p.cells place);
+  text = λ g shown. grid_is_text _ p.size 1 (λ place lt. light_cell_text p ok g place) ok.size.extent.w_high ok.size.extent.h_high (omega arith);
+  decides = λ place. light_decides _;
   told = faults_told (light_fault p) (FailsLight p) (light_tests p) (light.light-sound p) (light.light-known p) (λ g s. light.light-none p g s.grid s);
   shown = λ g s. record { grid = s.grid; hidden = light_hidden p g s };
 }
 
 tent_hidden : (p : Tents) (g : List ℕ) → IsTentSolution p g → (place : ℕ) → tent_hides p place → slice_index g place ≡ 0
 tent_hidden p g s place hides = hidden_zero place s.grid
-    (λ lt one. true≢false (sym (eq-eqb (slice_index p.trees place) 1 hides) ∙ s.none_on_trees place lt (eq-eqb (slice_index g place) 1 one)))
+    (λ lt one. true≢false (sym (eq-eqb _ 1 hides) ∙ s.none_on_trees place lt (eq-eqb _ 1 one)))
 
 pub tents_checked : (p : Tents) → IsTents p → CheckedPuzzle (game_of game.Tents) p
 tents_checked p ok = record {
   reads = tents_in p;
   known = tents_reads p;
-  text = λ g shown. grid_is_text (tents_cell p g) p.size 1 (λ place lt. tents_cell_text p g place) ok.size.extent.w_high ok.size.extent.h_high (omega arith);
-  decides = λ place. cases_eq (slice_index p.trees place) 1;
+  text = λ g shown. grid_is_text _ p.size 1 (λ place lt. tents_cell_text p g place) ok.size.extent.w_high ok.size.extent.h_high (omega arith);
+  decides = λ place. cases_eq _ 1;
   told = faults_told (tent_fault p) (FailsTents p) (tent_tests p) (tents.tents-sound p) (tents.tents-known p) (λ g s. tents.tents-none p g s.grid s);
   shown = λ g s. record { grid = s.grid; hidden = tent_hidden p g s };
 }
@@ -174,7 +174,7 @@ module _ {P : Type 0} (play : PuzzleFacts P) (p : P) (game : CheckedPuzzle play 
 
   candidate_is : {input : Text} {g : List ℕ} → IsInputOf play p input g → candidate input ≡ g
   unfolding candidate
-  candidate_is {input} given = printed_read (play.cell_text p) game.reads game.known given.shown (without_returns input) given.printed
+  candidate_is {input} given = printed_read (play.cell_text p) game.reads game.known given.shown _ given.printed
 
   shown_decided : (g : List ℕ) → Decided (Shown g)
   shown_decided g =
@@ -185,7 +185,7 @@ module _ {P : Type 0} (play : PuzzleFacts P) (p : P) (game : CheckedPuzzle play 
         λ place lt. (number_fits (play.hides p) (play.value_count p) (play.extent p) g place shown lt, shown.hidden place),
       ))
       (decided_both (cases_eq (length g) cells) (decided_below cells _ (λ place.
-      decided_both (decided_less (slice_index g place) (play.value_count p)) (decided_if (game.decides place) (cases_eq (slice_index g place) 0)))))
+      decided_both (decided_less _ (play.value_count p)) (decided_if (game.decides place) (cases_eq _ 0)))))
 
   input_decided : (input : Text) (g : List ℕ) → Decided (IsInputOf play p input g)
   input_decided input g = decided_as (λ given. record { small = omega (arith, given.0); shown = given.1.0; printed = given.1.1 })
@@ -193,7 +193,7 @@ module _ {P : Type 0} (play : PuzzleFacts P) (p : P) (game : CheckedPuzzle play 
       (decided_both (decided_less (length input) (text_limit + 1)) (decided_both (shown_decided g) (decided_either decided_text decided_text)))
 
   pub check_some : (input : Text) → (a : Answer) × AllowsGrid play p input a
-  check_some input = elim (input_decided input (candidate input)) [
+  check_some input = elim (input_decided input _) [
     | inl given ↦
         let said = game.told.some (candidate input) given.shown.grid in
         (said.0, inl (record { grid = candidate input; given = given; only = λ other. candidate_is; said = said.1 }))

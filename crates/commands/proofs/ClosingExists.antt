@@ -32,8 +32,8 @@ module _ {p : RuleSystem} (laws : IsLawful p) where
   swept : (K : Candidates) → IsWithin p.cells p.values K → (n : ℕ) → n ≤ p.houses → Sweeping p K n
   swept K within zero le = record { board = K; waits = λ h. true; sweeping = sweeping-first p K (λ h. true) (all_rested p K); within = within }
   swept K within (suc n) le =
-      let s : Sweeping p K n = swept K within n (omega arith) in
-      let turn = sweeping-turn p laws K n s.board (after p n s.board) s.waits (wakes p n s.board s.waits) s.sweeping (omega arith) s.within refl woken_is in
+      let s = swept K within n (omega arith) in
+      let turn = sweeping-turn p laws K n s.board (after p n s.board) s.waits _ s.sweeping (omega arith) s.within refl woken_is in
       record { board = _; waits = _; sweeping = rw add-one at turn; within = visited_within p n s.within }
 
   module _ {K0 : Candidates} (by_sweeps : p.by_queue ≡ false) (start : IsWithin p.cells p.values K0) where
@@ -67,7 +67,7 @@ module _ {p : RuleSystem} (laws : IsLawful p) where
     sweeps_from (suc fuel) n K few alive within done = one_sweep n K alive within done (λ L less a b c. sweeps_from fuel (n + 1) L (omega arith) a b c)
 
     pub sweeps_close : (sweeps : ℕ) × IsClosingSweeps p K0 sweeps
-    sweeps_close = elim (cases_Bool (is_dead p.cells p.values K0)) [
+    sweeps_close = elim (cases_Bool _) [
       | inl dead ↦ (0, ((closing-none p laws K0 start dead).by_sweeps by_sweeps).1)
       | inr alive ↦ sweeps_from (total p.cells p.values K0) 0 K0 (omega arith) alive start (swept-first p K0 alive)
     ]
@@ -79,13 +79,13 @@ module _ {p : RuleSystem} (laws : IsLawful p) where
         → ((h : ℕ) (L : Candidates) (left : ℕ → Bool) → length t < p.bound → IsWithin p.cells p.values L → IsRunning p K0 (t ++ h ∷ []) L left
         → (visits : List ℕ) × IsClosingList p K0 visits)
         → (visits : List ℕ) × IsClosingList p K0 visits
-    one_visit t K {waits} within r again = elim (cases_Bool (any_below waits p.houses)) [
+    one_visit t K {waits} within r again = elim (cases_Bool _) [
       | inr none ↦ (t, ((closing-open p laws K0 t K waits by_queue start r (any_below-none waits p.houses none)).by_visits by_queue).1)
       | inl some ↦
           let w = any_below-some waits p.houses some in
           elim (cases_Bool (is_dead p.cells p.values (after p w.0 K))) [
             | inl dead ↦ (t ++ w.0 ∷ [], ((closing-dead p laws K0 t K (after p w.0 K) waits w.0 by_queue start r w.1 w.2 refl dead).by_visits by_queue).1)
-            | inr alive ↦ again w.0 (after p w.0 K) (wakes p w.0 K waits)
+            | inr alive ↦ again w.0 (after p w.0 K) _
                 (omega (arith, visits_left-pos p K waits w.0 w.1 w.2, r.enough))
                 (visited_within p w.0 within)
                 (running-turn p laws K0 t K (after p w.0 K) waits (wakes p w.0 K waits) w.0 r w.1 w.2 within refl woken_is alive)
@@ -100,7 +100,7 @@ module _ {p : RuleSystem} (laws : IsLawful p) where
         (λ h L left less a b. visits_from fuel L (omega (arith, length-append t (h ∷ []))) a b)
 
     pub visits_close : (visits : List ℕ) × IsClosingList p K0 visits
-    visits_close = elim (cases_Bool (is_dead p.cells p.values K0)) [
+    visits_close = elim (cases_Bool _) [
       | inl dead ↦ ([], ((closing-none p laws K0 start dead).by_visits by_queue).1)
       | inr alive ↦ visits_from p.bound K0 (omega arith) start (running-first p laws K0 (λ h. true) by_queue alive (all_rested p K0))
     ]

@@ -11,7 +11,7 @@ use Rattle.commands.proofs.CheckedPuzzles.{correct_grid, printed_apart, CheckedP
 use Rattle.commands.proofs.SearchedPuzzles.{SearchedPuzzle, found_with_enough, verdict_right, crossings_searched, light_searched, pattern_searched, singles_searched, solo_searched, solved_once, tents_searched}
 
 same_status : {a b : Answer} → a ≡ b → a.status ≡ b.status
-same_status e = ap (λ (c : Answer). c.status) e
+same_status e = ap (λ c. c.status) e
 
 module _ {P : Type 0} (play : PuzzleFacts P) (reading : HasOneReading play.game.spells play.game.reading) where
   -- the verdict is one, of that grid
@@ -22,7 +22,7 @@ module _ {P : Type 0} (play : PuzzleFacts P) (reading : HasOneReading play.game.
   found_alone id p budget g said s verdict only = (allowed, allows)
     where
       allowed : AllowsSolve play id budget said → said ≡ one_answer (printed_by play p g)
-      allowed answered = (answer_to reading (IsSolved play budget) id p s answered).said ∙ ap (verdict_answer (λ h. printed_by play p h)) verdict
+      allowed answered = (answer_to reading _ id p s answered).said ∙ ap (verdict_answer (λ h. printed_by play p h)) verdict
 
       allows : said ≡ one_answer (printed_by play p g) → AllowsSolve play id budget said
       allows is = inr (record {
@@ -114,7 +114,7 @@ pub refusals_go : (input cause : Text) → GoesWith input (refused cause) (refus
 refusals_go input cause e = absurd (omega (arith, e))
 
 same_grid : {a b : Text} → one_answer a ≡ one_answer b → a ≡ b
-same_grid e = ap (λ (c : Answer). drop 4 c.text) e
+same_grid e = ap (λ c. drop 4 c.text) e
 
 module _ (solves : List ℕ → Type 0) (printed : List ℕ → Text) {input : Text} (g : List ℕ) (solution : solves g)
     (form : IsPrinted (without_returns input) (printed g)) {solved : Answer} where
@@ -141,8 +141,8 @@ pub goes_with : {P : Type 0} {play : PuzzleFacts P} (p : P) {budget : ℕ} {inpu
     → IsSolved play budget p solved → GoesWith input given solved
 goes_with p given solved checked (inr none) s fine = absurd (let e = same_status none.said in omega (arith, fine, e))
 goes_with {play} p {budget} given solved checked (inl here) s fine =
-    by_verdict (play.game.solves p) (λ g. printed_by play p g) here.grid (checked.told.sound here.grid given here.said fine)
-    here.given.printed (verdict_of (play.game.rules p) budget) s.right s.said
+    by_verdict (play.game.solves p) _ here.grid (checked.told.sound here.grid given here.said fine)
+    here.given.printed _ s.right s.said
 
 right_by_verdict : (solves : List ℕ → Type 0) (trials : ℕ) (o : Outcome) → IsRight solves o → IsRightGrade solves (grade_by trials o)
 right_by_verdict solves trials NoSolution right = right
@@ -229,7 +229,7 @@ laws_of game.Tents = record {
 
 -- with enough budget a search tells the one solution of a puzzle whose grade names a rule set or a search
 pub with_enough : GradedPuzzlesHaveOne
-with_enough g id budget traced graded (inl refusal) fine = absurd (omega (arith, fine, ap (λ (a : Answer). a.status) refusal.said))
+with_enough g id budget traced graded (inl refusal) fine = absurd (omega (arith, fine, ap (λ a. a.status) refusal.said))
 with_enough g id budget traced graded (inr answered) fine =
     let of = (game_of g).game in
     let p = answered.puzzle in

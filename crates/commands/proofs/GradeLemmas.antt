@@ -43,10 +43,10 @@ right_as A B GaveUp same right = tt
 -- the grids that rules accept are the solutions, and a grade is right of both
 pub right_by : {p q : RuleSystem} (solves : List ℕ → Type 0) (grade : Grade) → q ≡ p → ((g : List ℕ) → Solves p g ↔ solves g)
     → IsRightGrade (Solves q) grade → IsRightGrade solves grade
-right_by {p} solves grade e same right = right_as (Solves p) solves grade same (subst (λ (r : RuleSystem). IsRightGrade (Solves r) grade) e right)
+right_by {p} solves grade e same right = right_as (Solves p) solves grade same (subst (λ r. IsRightGrade (Solves r) grade) e right)
 
 pub accepted_by : {p q : RuleSystem} (solves : List ℕ → Type 0) → q ≡ p → ((g : List ℕ) → Solves p g ↔ solves g) → (g : List ℕ) → Solves q g ↔ solves g
-accepted_by solves e same = subst (λ (r : RuleSystem). (g : List ℕ) → Solves r g ↔ solves g) (sym e) same
+accepted_by solves e same = subst (λ r. (g : List ℕ) → Solves r g ↔ solves g) (sym e) same
 
 -- the last rules in the list were tried last, whether they settle the puzzle or not
 pub last_of_one : (before : RuleSystem) (set : RuleSet) {rules : RuleSystem} → rules ≡ last_tried before (only_set set rules)
@@ -67,8 +67,8 @@ module _ {P : Type 0} (play : PuzzleFacts P) (p : P) (budget : ℕ) (traced : Bo
   -- the last in the list
   pub said_last : (grade : Grade) (set : RuleSet) (rules : RuleSystem) → grade ≡ listed_grade (only_set set rules) (play.game.rules p) budget
       → IsRightGrade (play.game.solves p) grade → SaysLast grade rules → SaysBy (only_set set rules)
-  said_last grade set rules e right told = rightly (only_set set rules) (rw e at right)
-      (subst (λ (g : Grade). SaysLast g (last_tried (play.game.rules p) (only_set set rules))) e
+  said_last grade set rules e right told = rightly _ (rw e at right)
+      (subst (λ g. SaysLast g (last_tried (play.game.rules p) (only_set set rules))) e
       (subst (SaysLast grade) (last_of_one (play.game.rules p) set) told))
 
   -- the first in the list settles the puzzle
@@ -76,19 +76,19 @@ module _ {P : Type 0} (play : PuzzleFacts P) (p : P) (budget : ℕ) (traced : Bo
       → SearchedPuzzle rules (play.game.solves p) → SaysLast (ByRules set) q
       → SaysBy (record { set = set; rules = rules } ∷ rest)
   said_first set {rules} rest e settled searched told =
-      let is : is_settled rules ≡ true = ap is_settled (sym e) ∙ settled in
+      let is = ap is_settled (sym e) ∙ settled in
       rightly (record { set = set; rules = rules } ∷ rest) (rw is (settled_one searched is)) (rw is (rw e at told))
 
   -- the first of two or more in the list doesn't
   pub said_later : {q : RuleSystem} (set : RuleSet) {rules : RuleSystem} (next : NamedRules) (rest : List NamedRules) → q ≡ rules → is_settled q ≡ false
       → SaysBy (next ∷ rest) → SaysBy (record { set = set; rules = rules } ∷ next ∷ rest)
   said_later set {rules} next rest e unsettled told =
-      let is : is_settled rules ≡ false = ap is_settled (sym e) ∙ unsettled in
+      let is = ap is_settled (sym e) ∙ unsettled in
       says_as (λ a graded. record { right = rw is graded.right; said = rw is graded.said }) told
 
   -- rules that were made for a puzzle are its own
   pub said_by : {q r : RuleSystem} (set : RuleSet) → q ≡ r → SaysBy (only_set set q) → SaysBy (only_set set r)
-  said_by set e told = subst (λ (x : RuleSystem). SaysBy (only_set set x)) e told
+  said_by set e told = subst (λ x. SaysBy (only_set set x)) e told
 
 module _ {S : Type 0} {takes : S → Text → S → Type 0} {grade : Grade} {traced : Bool} {name : ℕ → Text} {rules : RuleSystem} where
   -- the rest was delivered
@@ -100,16 +100,16 @@ module _ {S : Type 0} {takes : S → Text → S → Type 0} {grade : Grade} {tra
     took = both s t u p.put.done d.written p.put.took d.took;
     begun = inr (
       record { text = line ++ p.lines; status = grade_status grade },
-      record { lines = p.lines; trace = p.trace; text = ap (λ (l : Text). l ++ p.lines) is; status = refl },
+      record { lines = p.lines; trace = p.trace; text = ap (λ l. l ++ p.lines) is; status = refl },
       (
         d.begun.0,
-        p.put.split ∙ ap (λ (l : Text). p.put.done ++ l) (sym same ∙ d.begun.1) ∙ sym (append_assoc p.put.done d.written d.begun.0),
+        p.put.split ∙ ap (λ l. p.put.done ++ l) (sym same ∙ d.begun.1) ∙ sym (append_assoc p.put.done d.written d.begun.0),
       ),
     );
     whole = λ small. record {
       lines = p.lines;
       trace = p.trace;
-      text = ap (λ (l : Text). p.put.done ++ l) ((d.whole small).0 ∙ same) ∙ sym p.put.split ∙ ap (λ (l : Text). l ++ p.lines) is;
+      text = ap (λ l. p.put.done ++ l) ((d.whole small).0 ∙ same) ∙ sym p.put.split ∙ ap (λ l. l ++ p.lines) is;
       status = (d.whole small).1 ∙ ends;
     };
   }
@@ -122,7 +122,7 @@ module _ {S : Type 0} {takes : S → Text → S → Type 0} {grade : Grade} {tra
     took = p.begun.took;
     begun = inr (
       record { text = line ++ p.lines; status = grade_status grade },
-      record { lines = p.lines; trace = p.trace; text = ap (λ (l : Text). l ++ p.lines) is; status = refl },
+      record { lines = p.lines; trace = p.trace; text = ap (λ l. l ++ p.lines) is; status = refl },
       p.begun.begun,
     );
     whole = λ small. absurd (omega arith);
@@ -131,7 +131,7 @@ module _ {S : Type 0} {takes : S → Text → S → Type 0} {grade : Grade} {tra
 -- the lines of a closing are those of a trace that is asked for
 pub is_traced : (traced : Bool) {queue : Bool} (name : ℕ → Text) (rules : RuleSystem) (lines : Text) → traced ≡ true → rules.by_queue ≡ queue
     → SaysClosing queue name rules lines → IsTrace traced name rules lines
-is_traced true name rules lines e mode said = subst (λ (b : Bool). SaysClosing b name rules lines) (sym mode) said
+is_traced true name rules lines e mode said = subst (λ b. SaysClosing b name rules lines) (sym mode) said
 is_traced false name rules lines e mode said = absurd (true≢false (sym e))
 
 -- no trace was asked for
@@ -147,10 +147,10 @@ over_houses decides p =
     omega (arith, length-map (houses_of p) (house_by decides p), length-append (map House (houses_of p)) (crossing_scopes p), length-map (houses_of p) House)
 
 pub singles_named : (p : Solo) → (singles_rules p).houses ≤ length (scopes_of p)
-singles_named p = over_houses (strikes_by_singles (solo_n p)) p
+singles_named p = over_houses _ p
 
 pub houses_named : (p : Solo) → (houses_rules p).houses ≤ length (scopes_of p)
-houses_named p = over_houses (strikes_by_fillings no_repeat) p
+houses_named p = over_houses _ p
 
 pub crossings_named : (p : Solo) → (crossings_rules p).houses ≤ length (scopes_of p)
 crossings_named p =
@@ -164,4 +164,4 @@ crossings_named p =
     )
 
 pub named : (p : Solo) {q rules : RuleSystem} → q ≡ rules → rules.houses ≤ length (scopes_of p) → q.houses ≤ length (scopes_of p)
-named p e few = subst (λ (r : RuleSystem). r.houses ≤ length (scopes_of p)) (sym e) few
+named p e few = subst (λ r. r.houses ≤ length (scopes_of p)) (sym e) few

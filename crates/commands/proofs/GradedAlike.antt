@@ -14,14 +14,14 @@ unfolding branches branch_at
 begins_with_trial walk_of d E cell zero = inl refl
 begins_with_trial walk_of d E cell (suc n) = elim (begins_with_trial walk_of d E cell n) [
   | inl none ↦ by (E cell n) refl none
-  | inr w ↦ inr (w.0, w.1, w.2 ++ branch_at walk_of d E cell n, ap (λ (m : List Mark). m ++ branch_at walk_of d E cell n) w.3)
+  | inr w ↦ inr (w.0, w.1, w.2 ++ branch_at walk_of d E cell n, ap (λ m. m ++ branch_at walk_of d E cell n) w.3)
 ]
   where
     by : (b : Bool) → E cell n ≡ b → branches walk_of d E cell n ≡ []
         → (branches walk_of d E cell n ++ branch_at walk_of d E cell n ≡ [])
         ⊎ ((depth : ℕ) × (board : Candidates) × (rest : List Mark) × (branches walk_of d E cell n ++ branch_at walk_of d E cell n ≡ Trial depth board ∷ rest))
-    by true on none = inr (suc d, only E cell n, walk_of (only E cell n), ap (λ (m : List Mark). m ++ branch_at walk_of d E cell n) none ∙ rw on refl)
-    by false off none = inl (ap (λ (m : List Mark). m ++ branch_at walk_of d E cell n) none ∙ rw off refl)
+    by true on none = inr (suc d, only E cell n, walk_of (only E cell n), ap (λ m. m ++ branch_at walk_of d E cell n) none ∙ rw on refl)
+    by false off none = inl (ap (λ m. m ++ branch_at walk_of d E cell n) none ∙ rw off refl)
 
 -- without a trial nothing is found below an open board
 none_below : (p : RuleSystem) (walk_of : Candidates → List Mark) (d : ℕ) (E : Candidates) (o : Option ℕ) (g : List ℕ)
@@ -34,7 +34,7 @@ none_zero : (f : ℕ → ℕ) (n : ℕ) → all_below (λ c. f c == 1) n ≡ tru
 unfolding all_below any_below
 none_zero f zero e = refl
 none_zero f (suc n) e =
-    let parts = and_parts (all_below (λ c. f c == 1) n) (f n == 1) e in
+    let parts = and_parts _ (f n == 1) e in
     rw (none_zero f n parts.0) (one (f n) parts.1)
   where
     one : (k : ℕ) → (k == 1) ≡ true → (k == 0) ≡ false
@@ -60,7 +60,7 @@ module _ {p : RuleSystem} (laws : IsLawful p) where
 
   nothing : {marks : List Mark} (g : List ℕ) → walk p 0 p.start ≡ marks → marks ≡ [] → verdict_of p 0 ≡ OneSolution g → ⊥
   unfolding outcome
-  nothing g is none e = let empty : NoSolution ≡ OneSolution g = sym (ap (outcome 0 None) (is ∙ none)) ∙ e in cc
+  nothing g is none e = let empty = sym (ap (outcome 0 None) (is ∙ none)) ∙ e in cc
 
   pub one_settled : (g : List ℕ) → verdict_of p 0 ≡ OneSolution g → is_settled p ≡ true
   unfolding walk_closed
@@ -72,30 +72,30 @@ module _ {weak strong : RuleSystem} (weak_laws : IsLawful weak) (strong_laws : I
     (solves_too : (g : List ℕ) → Solves weak g → Solves strong g)
     (closes_too : (K : Candidates) → IsClosed strong K → IsClosed weak K) where
   inside_weak : IsInside (closure strong strong.start) (closure weak weak.start)
-  inside_weak = closure_largest weak weak_laws (closure strong strong.start) weak.start
+  inside_weak = closure_largest weak weak_laws _ weak.start
       (closes_too (closure strong strong.start) (closure_closed strong strong.start strong_laws.start_within))
       (subst (IsInside (closure strong strong.start)) same_start (closure_inside strong strong.start))
 
   pub settled_by_stronger : is_settled weak ≡ true → is_settled strong ≡ true
   settled_by_stronger settled =
       let parts =
-      and_parts (is_full weak.cells weak.values (closure weak weak.start))
+      and_parts _
       (weak.is_solution (grid_of weak.cells weak.values (closure weak weak.start))) settled in
-      one_settled strong_laws (grid_of weak.cells weak.values (closure weak weak.start))
+      one_settled strong_laws _
       (found_at_once strong_laws (solved parts.0 parts.1)
       (λ c v lc lv on.
       let here = inside_weak c v on in
       let lw : c < weak.cells = omega (arith, same_cells, lc) in
-      let one = is_full-count weak.cells weak.values (closure weak weak.start) c parts.0 lw in
-      let least = least_below-passes (closure weak weak.start c) weak.values (omega (arith, one)) in
+      let one = is_full-count weak.cells weak.values _ c parts.0 lw in
+      let least = least_below-passes _ weak.values (omega (arith, one)) in
       count_below-one (closure weak weak.start c) weak.values v _ (omega (arith, one)) (omega (arith, same_values, lv)) least.0 here least.1
-      ∙ sym (grid_of-at weak.cells weak.values (closure weak weak.start) c lw)) 0)
+      ∙ sym (grid_of-at weak.cells weak.values _ c lw)) 0)
     where
       solved : is_full weak.cells weak.values (closure weak weak.start) ≡ true
           → weak.is_solution (grid_of weak.cells weak.values (closure weak weak.start)) ≡ true
           → Solves strong (grid_of weak.cells weak.values (closure weak weak.start))
       solved full good = solves_too (grid_of weak.cells weak.values (closure weak weak.start)) (record {
-        grid = grid-fits weak (closure weak weak.start) (grid_of weak.cells weak.values (closure weak weak.start)) weak.cells weak.values refl refl full refl;
+        grid = grid-fits weak _ _ weak.cells weak.values refl refl full refl;
         good = good;
       })
 
@@ -143,7 +143,7 @@ pub named_or_searched : (sets : List NamedRules) (otherwise : Grade)
     → ((set : RuleSet) × (first_settled sets otherwise ≡ ByRules set)) ⊎ (first_settled sets otherwise ≡ otherwise)
 named_or_searched [] otherwise = inr refl
 named_or_searched (first ∷ rest) otherwise =
-    cond_both (is_settled first.rules) _ _ (λ (g : Grade). ((set : RuleSet) × (g ≡ ByRules set)) ⊎ (g ≡ otherwise))
+    cond_both (is_settled first.rules) _ _ (λ g. ((set : RuleSet) × (g ≡ ByRules set)) ⊎ (g ≡ otherwise))
     (λ _. inl (first.set, refl)) (λ _. named_or_searched rest otherwise)
 
 pub statuses_agree : (sets : List NamedRules) (search : RuleSystem) (solves : List ℕ → Type 0) (budget : ℕ)
@@ -183,7 +183,7 @@ module _ (search : RuleSystem) (budget : ℕ) where
   unfolding searched_grade is_within
   beyond [] none = searched_apart (trials_in (walk search 0 search.start)) (verdict_of search budget)
   beyond (first ∷ rest) none =
-      cond_both (is_settled first.rules) _ _ (λ (g : Grade). is_within g ≡ false) (λ _. none.0) (λ _. beyond rest none.1)
+      cond_both (is_settled first.rules) _ _ (λ g. is_within g ≡ false) (λ _. none.0) (λ _. beyond rest none.1)
 
   -- the search's own rules, and after them others that may strike more
   pub own_named : (set : RuleSet) (rest : List NamedRules) → is_within_search set ≡ true → AreBeyond rest
@@ -232,12 +232,12 @@ module _ {traced : Bool} {name : ℕ → Text} {tried : RuleSystem} (printed : L
   pub named_alike : (grade : Grade) {rules : RuleSystem} → IsLawful rules → is_within grade ≡ is_settled rules → SaysGrade grade traced name tried graded
       → solved ≡ verdict_answer printed (verdict_of rules 0) → NamesSetNoStrongerThanSearch graded ↔ (solved.status ≡ 0)
   named_alike grade {rules} laws within told is = (
-    λ named. let by : is_within grade ≡ true = named_is grade told.lines named.2.0 named.0 named.1 (sym told.text ∙ named.2.1) in
+    λ named. let by = named_is grade told.lines named.2.0 named.0 named.1 (sym told.text ∙ named.2.1) in
         is_status ∙ sym (one_status _ (settled_found laws (sym within ∙ by) 0)),
-    λ zero_status. let one = status_one (verdict_of rules 0) (sym is_status ∙ zero_status) in
+    λ zero_status. let one = status_one _ (sym is_status ∙ zero_status) in
         let w = names_it grade told.lines (within ∙ one_settled laws one.0 one.1) in
         (w.0, w.1, subst (Begins (rule_set_text w.0 ++ codes "\n")) (sym told.text) w.2),
   )
     where
       is_status : solved.status ≡ verdict_status (verdict_of rules 0)
-      is_status = ap (λ (a : Answer). a.status) is ∙ told_status printed (verdict_of rules 0)
+      is_status = ap (λ a. a.status) is ∙ told_status printed _

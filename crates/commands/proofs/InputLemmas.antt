@@ -31,39 +31,39 @@ strip_length l = grind (arith, common_steps, common_steps)
 pub line_told : (f : List ℕ → List ℕ) → ((l : List ℕ) → length l ≤ length (f l) + 1)
     → (line : Option (Bor (List ℕ))) {kept : List ℕ} (piece : List ℕ)
     → kept ≡ take (max_id + 2) piece → IsLine line (f kept) → IfSome line (λ l. length l.now ≤ max_id) → IsLine line (f piece)
-line_told f less line {kept} piece holds told within = elim (cases_lt (max_id + 2) (length piece)) [
+line_told f less line {kept} piece holds told within = elim (cases_lt _ _) [
   | inl long ↦ by line long told within (omega (arith, less kept, ap length holds, length-take-le (max_id + 2) piece (omega arith)))
-  | inr all ↦ subst (λ (l : List ℕ). IsLine line (f l)) (holds ∙ take_all (max_id + 2) piece all) told
+  | inr all ↦ subst (λ l. IsLine line (f l)) (holds ∙ take_all (max_id + 2) piece all) told
 ]
   where
     by : (line : Option (Bor (List ℕ))) → max_id + 2 < length piece → IsLine line (f kept)
         → IfSome line (λ l. length l.now ≤ max_id) → max_id < length (f kept) → IsLine line (f piece)
     by None long told within over = omega (arith, less piece)
     by (Some l) long told within over =
-        let few : length l.now ≤ max_id = within in
-        let same : l.now ≡ f kept = told in
+        let few = within in
+        let same = told in
         absurd (omega (arith, ap length same))
 
 -- ---- a text without its returns
 choice : {b : Bool} (byte : ℕ) (more : Text) → (byte == 13) && begins_with_line_end more ≡ b
     → without_returns (byte ∷ more) ≡ (if b then without_returns more else byte ∷ without_returns more)
 unfolding without_returns
-choice byte more e = ap (λ (t : Bool). if t then without_returns more else byte ∷ without_returns more) e
+choice byte more e = ap (λ t. if t then without_returns more else byte ∷ without_returns more) e
 
 pub byte_kept : (kept : Text) {new rest : Text} (more whole : Text) (byte : ℕ) {drops : Bool}
     → kept ++ without_returns rest ≡ without_returns whole → rest ≡ byte ∷ more
     → drops ≡ ((byte == 13) && begins_with_line_end more) → drops ≡ false → new ≡ kept ++ (byte ∷ [])
     → new ++ without_returns more ≡ without_returns whole
 byte_kept kept more whole byte so_far is means no_drop copied =
-    ap (λ (t : Text). t ++ without_returns more) copied ∙ append_assoc kept (byte ∷ []) (without_returns more)
-    ∙ ap (λ (t : Text). kept ++ t) (sym (choice byte more (sym means ∙ no_drop))) ∙ ap (λ (t : Text). kept ++ without_returns t) (sym is) ∙ so_far
+    ap (λ t. t ++ without_returns more) copied ∙ append_assoc kept (byte ∷ []) (without_returns more)
+    ∙ ap (λ t. kept ++ t) (sym (choice byte more (sym means ∙ no_drop))) ∙ ap (λ t. kept ++ without_returns t) (sym is) ∙ so_far
 
 pub byte_dropped : (kept : Text) {rest more : Text} (whole : Text) {byte : ℕ} {drops : Bool}
     → kept ++ without_returns rest ≡ without_returns whole → rest ≡ byte ∷ more
     → drops ≡ ((byte == 13) && begins_with_line_end more) → drops ≡ true
     → kept ++ without_returns more ≡ without_returns whole
 byte_dropped kept {rest} {more} whole {byte} so_far is means drop =
-    ap (λ (t : Text). kept ++ t) (sym (choice byte more (sym means ∙ drop))) ∙ ap (λ (t : Text). kept ++ without_returns t) (sym is) ∙ so_far
+    ap (λ t. kept ++ t) (sym (choice byte more (sym means ∙ drop))) ∙ ap (λ t. kept ++ without_returns t) (sym is) ∙ so_far
 
 pub all_copied : (kept rest whole : Text) → kept ++ without_returns rest ≡ without_returns whole → length rest ≡ 0 → kept ≡ without_returns whole
 unfolding without_returns

@@ -70,7 +70,7 @@ module _ (game : Game) (id : Text) (p : puzzle_of game) (s : (game_of game).game
   tells_fine : HasOneSolution ((game_of game).game.solves p) → (budget : ℕ) → trials_of rules ≤ budget → (said : Answer)
       → AllowsSolve (game_of game) id budget said → said.status ≡ 0
   unfolding trials_of
-  tells_fine one budget room said allowed = ap (λ (a : Answer). a.status)
+  tells_fine one budget room said allowed = ap (λ a. a.status)
       ((found_alone (game_of game) (laws_of game).reading id p budget one.0 said s
       (found_with_enough ((laws_of game).searched id p s) one room) (one.1, λ h other. sym (one.2 h other))).0 allowed)
 
@@ -79,11 +79,11 @@ module _ (game : Game) (id : Text) (p : puzzle_of game) (s : (game_of game).game
   unfolding trials_of
   tells_less budget less said allowed fine =
       let one = tells_one budget said allowed fine in
-      let room = room_for (walk rules 0 rules.start) budget None one.0 one.1 in
+      let room = room_for _ budget None one.0 one.1 in
       absurd (omega (arith, less, room))
 
   least_is : HasOneSolution ((game_of game).game.solves p) → IsLeastBudget game id (trials_of rules)
-  least_is one = record { enough = tells_fine one (trials_of rules) (omega arith); least = tells_less }
+  least_is one = record { enough = tells_fine one _ (omega arith); least = tells_less }
 
   -- where there is a least budget, it is that of all trials
   only_least : (n : ℕ) → IsLeastBudget game id n → HasOneSolution ((game_of game).game.solves p) × (trials_of rules ≡ n)
@@ -107,7 +107,7 @@ module _ (game : Game) (id : Text) (p : puzzle_of game) (s : (game_of game).game
     grade = listed_grade ((game_of game).game.sets p) rules budget
 
     text_of : {given : Grade} → grade ≡ given → graded.text ≡ grade_text given ++ codes "\n" ++ told.lines
-    text_of is = told.text ∙ ap (λ (g : Grade). grade_text g ++ codes "\n" ++ told.lines) is
+    text_of is = told.text ∙ ap (λ g. grade_text g ++ codes "\n" ++ told.lines) is
 
     names : (trials : ℕ) → grade ≡ BySearch trials → NamesSearch trials graded
     names trials is = (told.lines, text_of is)
@@ -119,10 +119,10 @@ module _ (game : Game) (id : Text) (p : puzzle_of game) (s : (game_of game).game
       where
         by : (trials : ℕ) × (grade ≡ BySearch trials) → (trials : ℕ) × NamesSearch trials graded × IsLeastBudget game id trials × (trials ≤ budget)
         by (trials, is) = elim (named_or_searched ((game_of game).game.sets p) (searched_grade rules budget)) [
-          | inl named ↦ absurd (let bad : ByRules named.0 ≡ BySearch trials = sym named.1 ∙ is in cc)
+          | inl named ↦ absurd (let bad = sym named.1 ∙ is in cc)
           | inr same ↦
-              let one = by_one (trials_of rules) (verdict_of rules budget) trials (sym same ∙ is) in
-              let room = room_for (walk rules 0 rules.start) budget None one.0 one.1 in (
+              let one = by_one _ _ trials (sym same ∙ is) in
+              let room = room_for _ budget None one.0 one.1 in (
                 trials,
                 names trials is,
                 subst (IsLeastBudget game id) one.2 (least_is (one_is budget one.0 one.1)),
@@ -142,8 +142,8 @@ module _ (game : Game) (id : Text) (p : puzzle_of game) (s : (game_of game).game
 
 pub least_budgets : SearchesNameLeastBudgets
 least_budgets game id budget traced graded (inl x) = record {
-  said = λ b. absurd (no_refusal _ b.0 (sym (ap (λ (a : Answer). a.text) x.said) ∙ b.1));
-  only = λ n least room. absurd (omega (arith, least.enough graded (inl x), ap (λ (a : Answer). a.status) x.said));
+  said = λ b. absurd (no_refusal _ b.0 (sym (ap (λ a. a.text) x.said) ∙ b.1));
+  only = λ n least room. absurd (omega (arith, least.enough graded (inl x), ap (λ a. a.status) x.said));
 }
 least_budgets game id budget traced graded (inr x) = record {
   said = λ b. searched_told game id x.puzzle x.spelled budget traced _ _ graded x.allowed.said b.0 b.1;

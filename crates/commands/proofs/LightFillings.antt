@@ -30,23 +30,23 @@ module _ (size : Extent) (wide : IsWide size) (black : ℕ) where
   lit_words p {s} few words = shuffled_is s (let w = whites_few p in omega arith) words
 
   few : size.w * size.h < 2 ^ 32 - 1
-  few = let cells = mul-le size.w size.h 120 120 wide.extent.w_high wide.extent.h_high in omega arith
+  few = omega (arith, mul-le size.w size.h 120 120 wide.extent.w_high wide.extent.h_high)
 
   filling_words : {s : Stream} → HasWords s → HasWords (light_filling size black s).1
   unfolding light_filling lit_up lights_of
   filling_words {s} words =
-      let drawn : List ℕ × Stream = black_cells black (size.w * size.h) s in
+      let drawn = black_cells black (size.w * size.h) s in
       (lit_words (lights_of size drawn.0) few (black_words black (size.w * size.h) words)).words
 
   filling_lit : {s : Stream} → HasWords s → IsLit size (light_filling size black s).0
   unfolding light_filling lit_up lights_of light_puzzle_of
   filling_lit {s} words =
-      let drawn : List ℕ × Stream = black_cells black (size.w * size.h) s in
+      let drawn = black_cells black (size.w * size.h) s in
       let grid = black_cells-grid black (size.w * size.h) s in
-      let p : Light = lights_of size drawn.0 in
-      let mixed : IsShuffled (white_places p) (shuffled_list (white_places p) drawn.1) = lit_words p few (black_words black (size.w * size.h) words) in
+      let p = lights_of size drawn.0 in
+      let mixed = lit_words p few (black_words black (size.w * size.h) words) in
       let order : List ℕ = (shuffled_list (white_places p) drawn.1).0 in
-      let long : length p.cells ≡ light_cells p = length-map drawn.0 (λ v. if v == 1 then Black else White) ∙ grid.each_cell in
+      let long = length-map drawn.0 _ ∙ grid.each_cell in
       record {
         black = grid;
         bulbs = bulbs_after-grid p order (length order);
@@ -76,10 +76,10 @@ numbers_small cells small =
 
 numbered_small : (p : Light) (g : List ℕ) (place n : ℕ) → number_clue (get_or (with_numbers p g).cells place Black) ≡ Some n → n ≤ 4
 unfolding with_numbers
-numbered_small p g place n e = elim (cases_lt place (light_cells p)) [
+numbered_small p g place n e = elim (cases_lt place _) [
   | inl lt ↦ by (white p place) refl (ap number_clue (sym (number_at p g place lt)) ∙ e)
   | inr over ↦ absurd (none-some n (ap number_clue (sym (get_or_past (with_numbers p g).cells place Black
-      (let long = length-map-range_with_len (numbered_cell p g) 0 (light_cells p) in omega arith))) ∙ e))
+      (omega (arith, length-map-range_with_len (numbered_cell p g) 0 (light_cells p))))) ∙ e))
 ]
   where
     some_is : (m : ℕ) → ◌≡◌ {A = Option ℕ} (Some m) (Some n) → m ≡ n
@@ -87,7 +87,7 @@ numbered_small p g place n e = elim (cases_lt place (light_cells p)) [
 
     by : (b : Bool) → white p place ≡ b → number_clue (numbered_cell p g place) ≡ Some n → n ≤ 4
     by true on is = absurd (none-some n (rw on at is))
-    by false off is = let few = bulbs_few p g place in let same = some_is (bulbs_beside p g place) (rw off at is) in omega arith
+    by false off is = omega (arith, bulbs_few p g place, some_is (bulbs_beside p g place) (rw off at is))
 
 -- with fewer numbers it is a puzzle still
 light_thinner : (p q : Light) → IsLight p
@@ -96,7 +96,7 @@ light_thinner : (p q : Light) → IsLight p
 light_thinner p q ok small w = record {
   size = subst IsWide (sym w.frame.size) ok.size;
   count = sym (length-map q.cells is_white) ∙ ap length w.frame.black ∙ length-map p.cells is_white
-      ∙ ok.count ∙ ap (λ (e : Extent). e.w * e.h) (sym w.frame.size);
+      ∙ ok.count ∙ ap (λ e. e.w * e.h) (sym w.frame.size);
   each = numbers_small q.cells (λ place n e. small place n (w.clues place n e));
 }
 

@@ -11,7 +11,7 @@ unfolding block_word
 block_below n key counter nonce k = mod_below _ (2 ^ 32) (omega arith)
 
 step_below : (n : ℕ) (g : ChaCha) → (next_word n g).0 < 2 ^ 32
-step_below n g = block_below n g.key (g.word_pos / 16) g.stream (g.word_pos % 16)
+step_below n g = block_below n g.key _ g.stream _
 
 pub seed_words : (seed : ℕ) → HasWords (seed_stream seed)
 unfolding stream_of
@@ -22,7 +22,7 @@ module _ {A : Type 0} (make : Making A) (passes : A → Bool) (s : Stream) where
   pub first_or_none : (tries : ℕ) → ((k : ℕ) × IsFirstPassing make passes s tries k) ⊎ NonePasses make passes s tries
   first_or_none zero = inr (record { failing = λ j lt. absurd (omega arith) })
   first_or_none (suc n) = elim (first_or_none n) [
-    | inl first ↦ inl (first.0, record { within = let low = first.1.within in omega arith; passing = first.1.passing; failing = first.1.failing })
+    | inl first ↦ inl (first.0, record { within = omega arith; passing = first.1.passing; failing = first.1.failing })
     | inr none ↦ elim (cases_Bool (passes (filling_at make n s))) [
       | inl is ↦ inl (n, record { within = omega arith; passing = is; failing = none.failing })
       | inr is ↦ inr (record {
@@ -50,5 +50,5 @@ one_found o e = absurd (true≢false (sym e))
 
 pub has_one : (rules : RuleSystem) → IsLawful rules → (budget : ℕ) → is_one (verdict_of rules budget) ≡ true → HasOne rules budget
 has_one rules laws budget one =
-    let found = one_found (verdict_of rules budget) one in
+    let found = one_found _ one in
     record { answer = found.0; found = found.1; only = subst (IsTrueOf rules) found.1 (outcome-true rules laws budget) }

@@ -23,15 +23,15 @@ module _ {P : Type 0} {play : PuzzleFacts P} {alike : P → P → Type 0} where
   -- answers that are the same differ in no clue, where nothing is handed out
   same_differ : {one other said : Answer} → one ≡ said → other ≡ said → said.status ≢ 0 → DifferInClues play alike one other
   same_differ first second none = record {
-    status = ap (λ (a : Answer). a.status) (first ∙ sym second);
+    status = ap (λ a. a.status) (first ∙ sym second);
     others = λ _. first ∙ sym second;
-    made = λ fine. absurd (none (sym (ap (λ (a : Answer). a.status) first) ∙ fine));
+    made = λ fine. absurd (none (sym (ap (λ a. a.status) first) ∙ fine));
   }
 
   handed_differ : {one other : Answer} → HandOutAlike play alike one other → DifferInClues play alike one other
   handed_differ handed = record {
-    status = ap (λ (a : Answer). a.status) handed.first_said ∙ sym (ap (λ (a : Answer). a.status) handed.second_said);
-    others = λ not_fine. absurd (not_fine (ap (λ (a : Answer). a.status) handed.first_said));
+    status = ap (λ a. a.status) handed.first_said ∙ sym (ap (λ a. a.status) handed.second_said);
+    others = λ not_fine. absurd (not_fine (ap (λ a. a.status) handed.first_said));
     made = λ _. handed;
   }
 
@@ -101,7 +101,7 @@ pattern_making w text read is = record {
   passes = pattern_passes size w.budget;
   first = λ m made. (made.k, made.first);
   same = λ m n x y e.
-      let same : m.solution ≡ n.solution = x.filled ∙ ap grid e ∙ sym y.filled in
+      let same = x.filled ∙ ap grid e ∙ sym y.filled in
       (x.clues ∙ ap (clued_by size) same ∙ sym y.clues, same);
   some = λ k first. (handed_out pattern_facts (clued_by size (grid k)) (grid k), handed k first);
   none = (λ none. none, λ none. none);
@@ -119,12 +119,12 @@ pattern_making w text read is = record {
     handed : (k : ℕ) → IsFirstPassing (pattern_filling size w.black) (pattern_passes size w.budget) w.stream w.tries k
         → IsHandedOut pattern_facts w read (handed_out pattern_facts (clued_by size (grid k)) (grid k))
     handed k first =
-        let p : Pattern = clued_by size (grid k) in
+        let p = clued_by size (grid k) in
         let solved = pattern_solved size (grid k) p
         (record { sized = refl; columns = λ x lt. at_column runs [] size (grid k) x lt; rows = λ y lt. at_row runs [] size (grid k) y lt })
         (black_cells-grid w.black (size.w * size.h) (stream_after (pattern_filling size w.black) k w.stream)) in
-        let only = one_is (line_rules p) (IsPatternSolution p) (λ h s. s.grid) (λ h cells. (is_solution-is p h cells, is_solution-from p h))
-        (has_one (line_rules p) (line_rules-lawful p extent) w.budget first.passing) solved in
+        let only = one_is _ _ (λ h s. s.grid) (λ h cells. (is_solution-is p h cells, is_solution-from p h))
+        (has_one _ (line_rules-lawful p extent) w.budget first.passing) solved in
         record {
           made = record { puzzle = p; solution = grid k; kept = [] };
           is_made = record { k = k; first = first; filled = refl; clues = refl; only = only.0; verdict = only.1; unthinned = refl };
@@ -198,11 +198,11 @@ tents_making filled w words text read is = record {
     handed : (k : ℕ) → IsFirstPassing (tent_filling size) (tents_pass size w.budget) w.stream w.tries k
         → IsHandedOut tents_facts w read (handed_out tents_facts (tents_puzzle_of size (filling k)) (filling k).tents)
     handed k first =
-        let p : Tents = tents_puzzle_of size (filling k) in
+        let p = tents_puzzle_of size (filling k) in
         let ok = tents_lawful size (filling k) large (filled.trees size w.stream k large.extent words) in
-        let only = one_is (tent_rules p) (IsTentSolution p) (λ h s. s.grid)
+        let only = one_is _ _ (λ h s. s.grid)
         (λ h cells. (tents.solution-from-tents p h cells, tents.tents-from-solution p h cells))
-        (has_one (tent_rules p) (tents_searched ok).lawful w.budget first.passing) (filled.solved size w.stream k large.extent words) in
+        (has_one _ (tents_searched ok).lawful w.budget first.passing) (filled.solved size w.stream k large.extent words) in
         record {
           made = record { puzzle = p; solution = (filling k).tents; kept = [] };
           is_made = record {
@@ -319,7 +319,7 @@ module _ (filled : AreFilled) (w : Wanted) (words : HasWords w.stream) where
   making game.Tents = tents_making filled w words
 
   pub made_some : (g : Game) (text : Text) → (a : Answer) × AllowsMade (game_of g) w text a
-  made_some g text = id_some (size_reading (game_of g).game.sizes) text (AllowsOfSize (game_of g) w) (λ read is. making_some (making g text read is))
+  made_some g text = id_some (size_reading (game_of g).game.sizes) text _ (λ read is. making_some (making g text read is))
 
   pub made_differ : (g : Game) (text : Text) (one other : Answer) → AllowsMade (game_of g) w text one → AllowsMade (game_of g) w text other
       → DifferInClues (game_of g) (alike_of g) one other

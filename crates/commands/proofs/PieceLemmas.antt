@@ -11,7 +11,7 @@ each_begins : (f : ℕ → Text) (i n : ℕ) → i ≤ n → Begins (each_below 
 unfolding each_below
 each_begins f i zero le = let e : zero ≡ i = omega arith in begins_itself (ap (each_below f) e)
 each_begins f i (suc n) le = elim (cases_lt i (suc n)) [
-  | inl lt ↦ let h = each_begins f i n (omega arith) in (h.0 ++ f n, ap (λ (t : Text). t ++ f n) h.1 ∙ append_assoc (each_below f i) h.0 (f n))
+  | inl lt ↦ let h = each_begins f i n (omega arith) in (h.0 ++ f n, ap (λ t. t ++ f n) h.1 ∙ append_assoc _ h.0 (f n))
   | inr ge ↦ let e : suc n ≡ i = omega arith in begins_itself (ap (each_below f) e)
 ]
 
@@ -41,7 +41,7 @@ module _ {S : Type 0} {takes : S → Text → S → Type 0} where
   piece_put both s t u rest put more = record {
     done = put.done ++ more.done;
     took = both s t u put.done more.done put.took more.took;
-    split = put.split ∙ ap (λ (l : Text). put.done ++ l) more.split ∙ sym (append_assoc put.done more.done rest);
+    split = put.split ∙ ap (λ l. put.done ++ l) more.split ∙ sym (append_assoc put.done more.done rest);
   }
 
   -- what was held was begun
@@ -49,7 +49,7 @@ module _ {S : Type 0} {takes : S → Text → S → Type 0} where
   piece_begun both s t u put more = record {
     done = put.done ++ more.done;
     took = both s t u put.done more.done put.took more.took;
-    begun = (more.begun.0, put.split ∙ ap (λ (l : Text). put.done ++ l) more.begun.1 ∙ sym (append_assoc put.done more.done more.begun.0));
+    begun = (more.begun.0, put.split ∙ ap (λ l. put.done ++ l) more.begun.1 ∙ sym (append_assoc put.done more.done more.begun.0));
   }
 
 -- what was put of a text begins it
@@ -67,7 +67,7 @@ lines_begun text f i n le begun =
       took = begun.took;
       begun = (
         begun.begun.0 ++ h.0,
-        ap (λ (l : Text). text ++ l) h.1 ∙ sym (append_assoc text (each_below f i) h.0) ∙ ap (λ (l : Text). l ++ h.0) begun.begun.1
+        ap (λ l. text ++ l) h.1 ∙ sym (append_assoc text _ h.0) ∙ ap (λ l. l ++ h.0) begun.begun.1
             ∙ append_assoc begun.done begun.begun.0 h.0,
       );
     }
@@ -94,12 +94,12 @@ module _ {S : Type 0} {takes : S → Text → S → Type 0} {most : ℕ} where
   next_piece s t u held put short next = elim next [
     | inl kept ↦ record {
       pieces = put.pieces;
-      took = subst (λ (v : S). TakesPieces takes most s put.pieces v) (sym kept.1) put.took;
-      split = put.split ∙ ap (λ (l : Text). joined put.pieces ++ l) (sym kept.0);
+      took = subst (λ v. TakesPieces takes most s put.pieces v) (sym kept.1) put.took;
+      split = put.split ∙ ap (λ l. joined put.pieces ++ l) (sym kept.0);
     }
     | inr all ↦ record {
       pieces = held ∷ put.pieces;
       took = (t, put.took, all.1, short);
-      split = put.split ∙ sym (append-nil (joined put.pieces ++ held)) ∙ ap (λ (l : Text). (joined put.pieces ++ held) ++ l) (sym all.0);
+      split = put.split ∙ sym (append-nil (joined put.pieces ++ held)) ∙ ap (λ l. (joined put.pieces ++ held) ++ l) (sym all.0);
     }
   ]

@@ -43,16 +43,16 @@ module _ {hides : ℕ → Type 0} {values : ℕ} {size : Extent} (cell : List �
       → cells_read reads (y * size.w + x) m rest ≡ (take m (drop (y * size.w + x) g), 10 ∷ more)
   unfolding cells_read
   row_read y zero x more {rest} below e left =
-      ap (λ (t : Text). ([], t)) (none_left (λ k. cell g (y * size.w + k)) size.w more rest x (omega arith) left)
+      ap (λ t. ([], t)) (none_left (λ k. cell g _) size.w more rest x (omega arith) left)
   row_read y (suc m) x more {rest} below e left =
       let lt : x < size.w = omega arith in
-      let next = after_cell (λ k. cell g (y * size.w + k)) size.w more rest x lt left in
+      let next = after_cell (λ k. cell g _) size.w more rest x lt left in
       let within = in_grid size y size.w x (size.w * size.h) refl lt below refl in
       let one_on : suc (y * size.w + x) ≡ y * size.w + (x + 1) = omega arith in
       cell_first reads m (cell g (y * size.w + x)) next.after {later = (take m (drop (y * size.w + (x + 1)) g), 10 ∷ more)} next.split
       (known g (y * size.w + x) next.after shown within (cell_follows (cell g) size y size.w x more rest refl next))
       (rw one_on (row_read y m (x + 1) more below (omega arith) next.left))
-      ∙ ap (λ (l : List ℕ). (l, 10 ∷ more)) (rw (drop-cons g (y * size.w + x) 0 (let all = shown.grid.each_cell in omega arith), one_on) refl)
+      ∙ ap (λ l. (l, 10 ∷ more)) (rw (drop-cons g (y * size.w + x) 0 (omega arith), one_on) refl)
 
   rows_are : (m y place : ℕ) (more : Text) {rest : Text} → y + m ≡ size.h → place ≡ y * size.w
       → LeftOf (row_text (cell g) size) size.h more y rest → rows_read reads size.w m place rest ≡ drop place g
@@ -63,11 +63,11 @@ module _ {hides : ℕ → Type 0} {values : ℕ} {size : Extent} (cell : List �
   rows_are (suc m) y place more {rest} e at left =
       let below : y < size.h = omega arith in
       let next = row_first (row_text (cell g) size) size.h more rest y below left in
-      let row = row_read y size.w 0 next.after below (omega arith) (all_left (λ k. cell g (y * size.w + k)) size.w next.after rest next.split) in
+      let row = row_read y size.w 0 next.after below (omega arith) (all_left (λ k. cell g _) size.w next.after rest next.split) in
       let here : y * size.w + 0 ≡ place = omega arith in
-      let step : place + size.w ≡ (y + 1) * size.w = rw next_row (ap (λ (n : ℕ). n + size.w) at) in
+      let step : place + size.w ≡ (y + 1) * size.w = rw next_row (ap (λ n. n + size.w) at) in
       rw (rw here at row, rows_are m (y + 1) (place + size.w) more (omega arith) step next.left, ← drop-drop size.w place g)
-      (take-append-drop size.w (drop place g))
+      (take-append-drop size.w _)
 
   -- a text that is the printed form of the grid
   pub printed_read : (text : Text) → IsPrinted text (grid_text (cell g) size) → grid_read reads size text ≡ g
@@ -89,20 +89,20 @@ is_symbol symbol other (suc zero) after small same different = rw same refl
 is_symbol symbol other (suc (suc v)) after small same different = absurd (omega arith)
 
 pub pattern_reads : (p : Pattern) → ReadsCells hides_nothing 2 p.size (pattern_cell p) (λ place. symbol_in 35)
-pattern_reads p g place after shown lt follows = is_symbol 35 46 (slice_index g place) after (number_fits hides_nothing 2 p.size g place shown lt) refl refl
+pattern_reads p g place after shown lt follows = is_symbol 35 46 _ after (number_fits hides_nothing 2 p.size g place shown lt) refl refl
 
 pub tents_in : Tents → ℕ → Text → ℕ × ℕ
 tents_in p place text = if slice_index p.trees place == 1 then (0, 1) else symbol_in 94 text
 
 pub tents_reads : (p : Tents) → ReadsCells (tent_hides p) 2 p.size (tents_cell p) (tents_in p)
 unfolding tents_in
-tents_reads p g place after shown lt follows = by (slice_index p.trees place == 1) refl
+tents_reads p g place after shown lt follows = by _ refl
   where
     by : (b : Bool) → (slice_index p.trees place == 1) ≡ b
         → (if b then (0, 1) else symbol_in 94 ((if b then codes "T" else (if slice_index g place == 1 then codes "^" else codes ".")) ++ after))
         ≡ (slice_index g place, length (if b then codes "T" else (if slice_index g place == 1 then codes "^" else codes ".")))
-    by true is = ap (λ (v : ℕ). (v, 1)) (sym (shown.hidden place (eqb-true (slice_index p.trees place) 1 is)))
-    by false is = is_symbol 94 46 (slice_index g place) after (number_fits (tent_hides p) 2 p.size g place shown lt) refl refl
+    by true is = ap (λ v. (v, 1)) (sym (shown.hidden place (eqb-true _ 1 is)))
+    by false is = is_symbol 94 46 _ after (number_fits _ 2 p.size g place shown lt) refl refl
 
 cell_at : (cells : List LightCell) (place : ℕ) {cell : LightCell} → AllByRecursion IsLightCell cells → slice_get cells place ≡ Some cell → IsLightCell cell
 cell_at [] place all e = absurd cc
@@ -116,19 +116,19 @@ light_in o text = (0, 1)
 
 pub light_reads : (p : Light) → IsLight p → ReadsCells (light_hides p) 2 p.size (light_cell p) (λ place. light_in (slice_get p.cells place))
 unfolding light_in
-light_reads p ok g place after shown lt follows = by (slice_get p.cells place) refl
+light_reads p ok g place after shown lt follows = by _ refl
   where
     none : {o : Option LightCell} → slice_get p.cells place ≡ o → o ≢ Some White → 0 ≡ slice_index g place
     none is black = sym (shown.hidden place (λ white. black (sym is ∙ white)))
 
     by : (o : Option LightCell) → slice_get p.cells place ≡ o
         → light_in o (light_symbol o (slice_index g place) ++ after) ≡ (slice_index g place, length (light_symbol o (slice_index g place)))
-    by None is = ap (λ (v : ℕ). (v, 0)) (none is (λ white. cc))
-    by (Some White) is = is_symbol 79 46 (slice_index g place) after (number_fits (light_hides p) 2 p.size g place shown lt) refl refl
-    by (Some Black) is = ap (λ (v : ℕ). (v, 1)) (none is (λ white. cc))
+    by None is = ap (λ v. (v, 0)) (none is (λ white. cc))
+    by (Some White) is = is_symbol 79 46 _ after (number_fits _ 2 p.size g place shown lt) refl refl
+    by (Some Black) is = ap (λ v. (v, 1)) (none is (λ white. cc))
     by (Some (Numbered n)) is =
-        let low : n ≤ 4 = cell_at p.cells place ok.each is in
-        rw (decimal_digit n (omega arith)) (ap (λ (v : ℕ). (v, 1)) (none is (λ white. cc)))
+        let low = cell_at p.cells place ok.each is in
+        rw (decimal_digit n (omega arith)) (ap (λ v. (v, 1)) (none is (λ white. cc)))
 
 -- the number that these digits write, less one, and how many there are
 number_by : Option ℕ → Option ℕ → ℕ × ℕ
@@ -147,8 +147,8 @@ is_number v after small ends = by (decimal (v + 1) ++ after) refl
     by : (text : Text) → decimal (v + 1) ++ after ≡ text → number_in text ≡ (v, length (decimal (v + 1)))
     by [] is = absurd (not_empty (v + 1) [] after small (sym is) refl)
     by (byte ∷ rest) is = elim (number_of (v + 1) (byte ∷ rest) after rest byte small ends (sym is) refl).digits [
-      | inl one ↦ rw (one.0, one.1, one.2) (ap (λ (n : ℕ). (n, 1)) (omega arith))
-      | inr two ↦ rw (two.0, two.1, two.2) (ap (λ (n : ℕ). (n, 2)) (omega arith))
+      | inl one ↦ rw (one.0, one.1, one.2) (ap (λ n. (n, 1)) (omega arith))
+      | inr two ↦ rw (two.0, two.1, two.2) (ap (λ n. (n, 2)) (omega arith))
     ]
 
 -- one space stands before a number that isn't the first of its row
@@ -176,7 +176,7 @@ solo_reads p ok g place after shown lt follows = by (place % solo_n p == 0)
     by : (b : Bool) → spaced b (((if b then [] else codes " ") ++ decimal (slice_index g place + 1)) ++ after)
         ≡ (slice_index g place, length ((if b then [] else codes " ") ++ decimal (slice_index g place + 1)))
     by true = is
-    by false = ap (λ (r : ℕ × ℕ). (r.0, suc r.1)) is
+    by false = ap (λ r. (r.0, suc r.1)) is
 
 -- no byte is a carriage return
 abbrev pub Plain : Text → Type 0
@@ -191,7 +191,7 @@ plain-append (byte ∷ a) b p q = (p.0, plain-append a b p.1 q)
 pub plain_kept : (text : Text) → Plain text → without_returns text ≡ text
 unfolding without_returns
 plain_kept [] p = refl
-plain_kept (byte ∷ rest) p = rw (ne_eqb byte 13 p.0) (ap (λ (t : Text). byte ∷ t) (plain_kept rest p.1))
+plain_kept (byte ∷ rest) p = rw (ne_eqb byte 13 p.0) (ap (λ t. byte ∷ t) (plain_kept rest p.1))
 
 -- so many bytes at most, none of which is a carriage return
 pub record IsCellText (m : ℕ) (text : Text) : Type 0 where
@@ -208,8 +208,8 @@ both_texts a b x y = record { plain = plain-append a b x.plain y.plain; few = om
 each_text : (f : ℕ → Text) (n m : ℕ) → ((k : ℕ) → k < n → IsCellText m (f k)) → IsCellText (n * m) (each_below f n)
 unfolding each_below
 each_text f zero m each = record { plain = tt; few = omega arith }
-each_text f (suc n) m each = subst (λ (k : ℕ). IsCellText k (each_below f n ++ f n)) (let all : n * m + m ≡ suc n * m = sym (suc-mul n m) in all)
-    (both_texts (each_below f n) (f n) (each_text f n m (λ k lt. each k (omega arith))) (each n (omega arith)))
+each_text f (suc n) m each = subst (λ k. IsCellText k (each_below f n ++ f n)) (let all = sym (suc-mul n m) in all)
+    (both_texts _ (f n) (each_text f n m (λ k lt. each k (omega arith))) (each n (omega arith)))
 
 -- a printed grid has none either, and it may be read, where both sides have so many cells at most
 pub grid_is_text : (cell : ℕ → Text) (size : Extent) (m : ℕ) → ((place : ℕ) → place < size.w * size.h → IsCellText m (cell place))
@@ -220,7 +220,7 @@ grid_is_text cell size m each {most} wide high room =
     (each_text (λ x. cell (y * size.w + x)) size.w m (λ x lt. each (y * size.w + x) (in_grid size y size.w x (size.w * size.h) refl lt below refl)))
     (one_byte (λ e. absurd (omega arith)))) in
     let rows = mul-le-mul_right (size.w * m + 1) high in
-    let cells : size.w * m ≤ most * m = mul-le-mul_right m wide in
+    let cells = mul-le-mul_right m wide in
     let row : size.w * m + 1 ≤ most * m + 1 = omega arith in
     let columns = mul-le-mul_left most row in
     record { plain = all.plain; few = omega (arith, all.few, rows, columns, room) }
@@ -240,7 +240,7 @@ number_text n small = elim (cases_lt n 10) [
 ]
   where
     two : (n : ℕ) → 10 ≤ n → n < 100 → decimal n ≡ (48 + n / 10) ∷ (48 + n % 10) ∷ []
-    two n low high = decimal_step n low (omega arith) ∙ ap (λ (t : Text). t ++ ((48 + n % 10) ∷ [])) (decimal_digit (n / 10) (omega arith))
+    two n low high = decimal_step n low (omega arith) ∙ ap (λ t. t ++ ((48 + n % 10) ∷ [])) (decimal_digit (n / 10) (omega arith))
 
 one_of : (b : Bool) (x y : ℕ) → x ≢ 13 → y ≢ 13 → IsCellText 1 (if b then x ∷ [] else (y ∷ []))
 one_of true x y first second = one_byte first
@@ -248,36 +248,36 @@ one_of false x y first second = one_byte second
 
 -- ---- the cells of each game
 pub pattern_cell_text : (p : Pattern) (g : List ℕ) (place : ℕ) → IsCellText 1 (pattern_cell p g place)
-pattern_cell_text p g place = one_of (slice_index g place == 1) 35 46 (λ e. absurd (omega arith)) (λ e. absurd (omega arith))
+pattern_cell_text p g place = one_of _ 35 46 (λ e. absurd (omega arith)) (λ e. absurd (omega arith))
 
 pub tents_cell_text : (p : Tents) (g : List ℕ) (place : ℕ) → IsCellText 1 (tents_cell p g place)
-tents_cell_text p g place = by (slice_index p.trees place == 1)
+tents_cell_text p g place = by _
   where
     by : (b : Bool) → IsCellText 1 (if b then codes "T" else (if slice_index g place == 1 then codes "^" else codes "."))
     by true = one_byte (λ e. absurd (omega arith))
-    by false = one_of (slice_index g place == 1) 94 46 (λ e. absurd (omega arith)) (λ e. absurd (omega arith))
+    by false = one_of _ 94 46 (λ e. absurd (omega arith)) (λ e. absurd (omega arith))
 
 pub light_cell_text : (p : Light) → IsLight p → (g : List ℕ) (place : ℕ) → IsCellText 1 (light_cell p g place)
-light_cell_text p ok g place = by (slice_get p.cells place) refl
+light_cell_text p ok g place = by _ refl
   where
     by : (o : Option LightCell) → slice_get p.cells place ≡ o → IsCellText 1 (light_symbol o (slice_index g place))
     by None e = record { plain = tt; few = omega arith }
-    by (Some White) e = one_of (slice_index g place == 1) 79 46 (λ e. absurd (omega arith)) (λ e. absurd (omega arith))
+    by (Some White) e = one_of _ 79 46 (λ e. absurd (omega arith)) (λ e. absurd (omega arith))
     by (Some Black) e = one_byte (λ e. absurd (omega arith))
     by (Some (Numbered n)) e =
-        let low : n ≤ 4 = cell_at p.cells place ok.each e in
+        let low = cell_at p.cells place ok.each e in
         subst (IsCellText 1) (sym (decimal_digit n (omega arith))) (one_byte (digit n (omega arith)))
 
 pub solo_cell_text : (p : Solo) → IsSolo p → {hides : ℕ → Type 0} (g : List ℕ) → IsAsShown hides (solo_n p) (solo_extent p) g
     → {place : ℕ} → place < solo_n p * solo_n p → IsCellText 3 (solo_cell p g place)
-solo_cell_text p ok {hides} g shown {place} lt = by (place % solo_n p == 0)
+solo_cell_text p ok {hides} g shown {place} lt = by _
   where
     number : IsCellText 2 (decimal (slice_index g place + 1))
     number =
-        let small = number_fits hides (solo_n p) (solo_extent p) g place shown lt in
+        let small = number_fits hides (solo_n p) _ g place shown lt in
         let few = ok.n_high in
-        number_text (slice_index g place + 1) (omega arith)
+        number_text _ (omega arith)
 
     by : (b : Bool) → IsCellText 3 ((if b then [] else codes " ") ++ decimal (slice_index g place + 1))
-    by true = record { plain = number.plain; few = let l = number.few in omega arith }
-    by false = record { plain = ((λ e. absurd (omega arith)), number.plain); few = let l = number.few in omega arith }
+    by true = record { plain = number.plain; few = omega (arith, number.few) }
+    by false = record { plain = ((λ e. absurd (omega arith)), number.plain); few = omega (arith, number.few) }

@@ -37,8 +37,8 @@ module _ {P : Type 0} {of : Text → Result P IdFault} {spells : Text → P → 
 
   refusal_to : (allows : P → Answer → Type 0) (id : Text) (f : IdFault) {a : Answer} → of id ≡ Err f
       → AllowsId (of id) (spells id) allows a → a ≡ refused (fault_text f)
-  refusal_to allows id f is (inl x) = let same : Err x.fault ≡ Err f = sym x.first ∙ is in
-      x.said ∙ ap (λ (h : IdFault). refused (fault_text h)) (let fault : x.fault ≡ f = cc in fault)
+  refusal_to allows id f is (inl x) = let same = sym x.first ∙ is in
+      x.said ∙ ap (λ h. refused (fault_text h)) (let fault : x.fault ≡ f = cc in fault)
   refusal_to allows id f is (inr x) = absurd (reading.apart id x.puzzle f x.spelled is)
 
   -- an ID has an answer where each puzzle has one
@@ -80,7 +80,7 @@ grade_once {play} {sets} {budget} p right =
       answer = record { text = grade_text given ++ codes "\n" ++ []; status = grade_status given };
       allowed = record { right = right; said = record { lines = []; trace = refl; text = refl; status = refl } };
       only = λ other is. ap₂ (λ (t : Text) (s : ℕ). record { text = t; status = s })
-          (ap (λ (lines : Text). grade_text given ++ codes "\n" ++ lines) (sym is.said.trace) ∙ sym is.said.text) (sym is.said.status);
+          (ap (λ lines. grade_text given ++ codes "\n" ++ lines) (sym is.said.trace) ∙ sym is.said.text) (sym is.said.status);
     }
 
 -- the answers to lines, in turn

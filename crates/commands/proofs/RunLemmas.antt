@@ -91,7 +91,7 @@ module _ {S : Type 0} {takes : S → Text → S → Type 0} (both : TakesBoth ta
   delivers_all {s} t {u} {bytes} e is took more = record {
     written = bytes ++ [];
     took = both s t u bytes [] took more;
-    begun = ([], sym (append-nil (bytes ++ []) ∙ append-nil bytes ∙ e));
+    begun = ([], sym (append-nil _ ∙ append-nil bytes ∙ e));
     whole = λ small. (
       append-nil bytes ∙ e,
       elim is [

@@ -73,7 +73,7 @@ never_out (Trial depth board ∷ marks) (suc budget) found sofar room e = never_
 
 module _ {rules : RuleSystem} {solves : List ℕ → Type 0} (searched : SearchedPuzzle rules solves) where
   pub verdict_right : (budget : ℕ) → IsRight solves (verdict_of rules budget)
-  verdict_right budget = right_of solves (verdict_of rules budget) searched.accepted (outcome-true rules searched.lawful budget)
+  verdict_right budget = right_of solves _ searched.accepted (outcome-true rules searched.lawful budget)
 
   -- so where one grid is the solution, it is what a search with enough trials tells
   pub found_with_enough : (one : HasOneSolution solves) {budget : ℕ}

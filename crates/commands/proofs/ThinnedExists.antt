@@ -42,14 +42,14 @@ module _ {A : Type 0} (game : CluedGame A) (laws : IsGame game) (budget : ℕ) (
     tried place rest p whys now =
         let n = some_of (game.clue p place) (now.waiting place (contains_head rest place)) in
         let thinner = without_in p place n.0 now.within n.1 in
-        by_verdict p (laws.solutions_stay (game.without p place) all answer thinner only.0) (verdict_of (game.rules (game.without p place)) budget) refl
+        by_verdict p (laws.solutions_stay (game.without p place) all answer thinner only.0) _ refl
         (outcome-true (game.rules (game.without p place)) (lawful (game.without p place) thinner) budget)
 
     thin : (rest : List ℕ) {p : A} {whys : List (Option Why)} → IsThinning game budget all p whys rest
         → (q : A) × (ends : List (Option Why)) × IsThinning game budget all q ends []
     thin [] {p} {whys} now = (p, whys, now)
     thin (place ∷ rest) {p} {whys} now =
-        let t : IsTried place p = tried place rest p whys now in
+        let t = tried place rest p whys now in
         thin rest (thinning_turn laws now (turn laws now t.why t.left t.asked))
 
 -- some of the clues are left, each for a reason, and the answer is still the one solution
