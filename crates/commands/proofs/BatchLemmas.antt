@@ -1,5 +1,5 @@
 -- The steps of a batch, and the chunks of its input.
-use Rattle.commands.proofs.Common.{All, All-nil, All-push, AllowsEach, Answer, Answered, Batched, Begins, Begun, Bool, Err, Given, HasAnswers, Holds, IfErr, IsInput, List, Ok, PutBegun, Ran, Result, Stopped, Text, [], answer_with, ap, append-nil, append_assoc, arith, both, code_of, common_steps, drop, false, get_or, if◌then◌else◌, inl, inr, length, lines, lines_of_parts, max, refl, silence, slice_split, strip_carriage_return, subst, sym, take, take-append-drop, take_more, true, true≢false, ℕ, ◌++◌, ◌+◌, ◌<◌, ◌==◌, ◌∙◌, ◌∷◌, ◌≡◌, ◌≤◌, ◌⊎◌}
+use Rattle.commands.proofs.Common.{All, All-nil, All-push, AllowsEach, Answer, Answered, Batched, Begins, Begun, Bool, Err, Given, HasAnswers, Holds, IfErr, IsInput, List, Ok, PutBegun, Ran, Result, Stopped, Text, [], answer_with, ap, append-nil, append_assoc, arith, both, code_of, common_steps, drop, false, get_or, if◌then◌else◌, inl, inr, length, lines, lines_of_parts, max, refl, silence, slice_split, strip_carriage_return, subst, sym, take, take-append-drop, true, true≢false, ℕ, ◌++◌, ◌+◌, ◌<◌, ◌==◌, ◌∙◌, ◌∷◌, ◌≡◌, ◌≤◌, ◌⊎◌}
 use Rattle.std.proofs.lemmas.List.Splits.{slice_split_at, slice_split_none, length-slice_split}
 use Rattle.commands.specs.declared.batch.Batch.{Batch}
 use Rattle.commands.specs.declared.ends.Sink as sinks
@@ -143,21 +143,16 @@ stopped_further {seen} more s =
 
 -- the bytes up to one more
 pub one_further : (seen chunk : Text) (i : ℕ) → i < length chunk → (seen ++ take i chunk) ++ get_or chunk i 0 ∷ [] ≡ seen ++ take (i + 1) chunk
-one_further seen chunk i h = append_assoc seen _ _ ∙ ap (λ t. seen ++ t) (sym (take_more chunk i 0 h))
+one_further seen chunk i h = grind (arith, common_steps, append_assoc)
 
 pub to_the_end : (seen chunk : Text) (i : ℕ) → i < length chunk → ((seen ++ take i chunk) ++ get_or chunk i 0 ∷ []) ++ drop (i + 1) chunk ≡ seen ++ chunk
-to_the_end seen chunk i h = ap (λ t. t ++ drop (i + 1) chunk) (one_further seen chunk i h) ∙ append_assoc seen _ _
-    ∙ ap (λ t. seen ++ t) (take-append-drop (i + 1) chunk)
+to_the_end seen chunk i h = grind (arith, common_steps, one_further, append_assoc, take-append-drop)
 
 module _ {I : Type 0} {gives : I → Text → I → Type 0} (gives_both : TakesBoth gives) where
   pub given_more : {from i j : I} {given chunk : Text} {P Q : Text → Type 0} → given ≡ chunk → Given gives from i P
       → gives i given j → ((seen : Text) → P seen → Q (seen ++ chunk))
       → Given gives from j Q
-  given_more {from} {i} {j} {chunk} same t more step = record {
-    seen = t.seen ++ chunk;
-    gave = gives_both from i j t.seen chunk t.gave (subst (λ c. gives i c j) same more);
-    is = step t.seen t.is;
-  }
+  given_more {from} {i} {j} {chunk} same t more step = grind (arith, common_steps)
 
   pub given_no_more : {from i j : I} {P : Text → Type 0} → Given gives from i P → gives i [] j → Given gives from j P
   given_no_more {from} {i} {j} t more =
@@ -199,16 +194,7 @@ module _ {I S : Type 0} {source : sources.Ghosts I} {sink : sinks.Ghosts S}
 
   pub ran_begun : (i j : I) {o p : S} {seen : Text} {status : ℕ} → 5 ≤ status → source.has_ended j ≡ true → source.gives i seen j
       → Begun sink.takes allows o seen p → Ran source sink (λ input. AllowsEach allows (lines input)) i j o p status
-  ran_begun i j {seen} high ended gave s = record {
-    read = seen;
-    written = s.written;
-    gave = gave;
-    took = s.took;
-    leaves = record {
-      begun = λ input is. rw (← same_input (source.has_ended j) seen input ended is) s.begun;
-      whole = λ low. absurd (omega arith);
-    };
-  }
+  ran_begun i j {seen} high ended gave s = grind (arith, common_steps, same_input)
 
   -- all was answered, and the finishing took nothing more
   pub ran_answered : {i j : I} {o p q : S} {seen : Text} {told status : ℕ} → (status ≡ told) ⊎ (status ≡ 6)

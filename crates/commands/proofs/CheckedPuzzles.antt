@@ -1,6 +1,6 @@
 -- What the checks of grids rest on, for a puzzle of each game: an input has one answer of `check`, and the printed form of
 -- a solution is told to be correct.
-use Rattle.commands.proofs.Common.{AllByRecursion, AllowsGrid, Answer, Black, Bool, Extent, IsAsShown, IsGrid, IsInputOf, IsLight, IsLightSolution, IsPattern, IsSolo, IsTentSolution, IsTents, Light, LightCell, List, None, Numbered, Option, Pattern, PuzzleFacts, SaysFault, Solo, Some, Tents, Text, White, [], ap, arith, cases_eq, cases_lt, checked, codes, common_steps, eq-eqb, false, game_of, get_or, get_or_past, hides_nothing, inl, inr, is_shown, is_white, length, light_cell, light_fault, light_hides, number_fits, option_map, pattern_cell, pattern_fault, printed_by, refl, refused, slice_get, slice_index, solo_cell, solo_extent, solo_fault, subst, suc, sym, tent_fault, tent_hides, tents_cell, text_limit, true, true≢false, white, without_returns, zero, ℕ, ◌*◌, ◌++◌, ◌+◌, ◌<◌, ◌↔◌, ◌∙◌, ◌∷◌, ◌≡◌, ◌≢◌, ◌⊎◌}
+use Rattle.commands.proofs.Common.{AllByRecursion, AllowsGrid, Answer, Black, Bool, Extent, IsAsShown, IsGrid, IsInputOf, IsLight, IsLightSolution, IsPattern, IsSolo, IsTentSolution, IsTents, Light, LightCell, List, None, Numbered, Option, Pattern, PuzzleFacts, SaysFault, Solo, Some, Tents, Text, White, [], ap, arith, cases_eq, cases_lt, checked, codes, common_steps, eq-eqb, false, game_of, get_or, get_or_past, hides_nothing, inl, inr, is_shown, is_white, length, light_fault, light_hides, number_fits, option_map, pattern_cell, pattern_fault, printed_by, refl, refused, slice_get, slice_index, solo_cell, solo_extent, solo_fault, subst, suc, sym, tent_fault, tent_hides, text_limit, true, true≢false, white, without_returns, zero, ℕ, ◌*◌, ◌++◌, ◌+◌, ◌<◌, ◌↔◌, ◌∙◌, ◌∷◌, ◌≡◌, ◌≢◌, ◌⊎◌}
 use Rattle.std.specs.Bool.{Decides}
 use Rattle.std.specs.Cmp.Lexicographic.{bytes_decides}
 use Rattle.std.specs.Str.{bytes_eq}
@@ -47,7 +47,7 @@ decided_text : {a b : List ℕ} → Decided (a ≡ b)
 decided_text {a} {b} = decided_by (bytes_eq a b) (bytes_decides a b)
 
 decided_less : (a b : ℕ) → Decided (a < b)
-decided_less a b = elim (cases_lt a b) [ inl less ↦ inl less | inr over ↦ inr (λ less. absurd (omega arith)) ]
+decided_less a b = grind (arith, common_steps, cases_lt)
 
 decided_below : (n : ℕ) (P : ℕ → Type 0) → ((k : ℕ) → Decided (P k)) → Decided ((k : ℕ) → k < n → P k)
 decided_below zero P each = inl (λ k lt. absurd (omega arith))
@@ -90,7 +90,7 @@ pub record CheckedPuzzle {P : Type 0} (play : PuzzleFacts P) (p : P) : Type 0 wh
   pub shown : (g : List ℕ) → play.game.solves p g → IsAsShown (play.hides p) (play.value_count p) (play.extent p) g
 
 shows_all : {values : ℕ} {size : Extent} {g : List ℕ} → IsGrid (size.w * size.h) values g → IsAsShown hides_nothing values size g
-shows_all grid = record { grid = grid; hidden = λ place none. absurd none }
+shows_all grid = grind (arith, common_steps)
 
 -- a number below 2 that isn't 1
 none_at : (v : ℕ) → v < 2 → (v ≡ 1 → ⊥) → v ≡ 0
@@ -130,8 +130,7 @@ white_at (x ∷ cells) (suc place) on = white_at cells place on
 
 light_hidden : (p : Light) (g : List ℕ) → IsLightSolution p g → (place : ℕ) → light_hides p place → slice_index g place ≡ 0
 unfolding white
-light_hidden p g s place hides = hidden_zero place s.grid
-    (λ lt one. hides (white_at p.cells place (s.none_on_black place lt (eq-eqb _ 1 one))))
+light_hidden p g s place hides = grind (arith, common_steps, hidden_zero, white_at, eq-eqb)
 
 light_decides : (o : Option LightCell) → Decided (o ≢ Some White)
 light_decides (Some White) = inr (λ never. never refl)
@@ -148,8 +147,7 @@ light_checked p ok = record {
 }
 
 tent_hidden : (p : Tents) (g : List ℕ) → IsTentSolution p g → (place : ℕ) → tent_hides p place → slice_index g place ≡ 0
-tent_hidden p g s place hides = hidden_zero place s.grid
-    (λ lt one. true≢false (sym (eq-eqb _ 1 hides) ∙ s.none_on_trees place lt (eq-eqb _ 1 one)))
+tent_hidden p g s place hides = grind (arith, common_steps, hidden_zero, eq-eqb)
 
 pub tents_checked : (p : Tents) → IsTents p → CheckedPuzzle (game_of game.Tents) p
 tents_checked p ok = record {
@@ -221,7 +219,7 @@ module _ {P : Type 0} (play : PuzzleFacts P) (p : P) (game : CheckedPuzzle play 
       shown = game.shown g solution
 
       given : IsInputOf play p (printed g) g
-      given = record { small = (game.text g shown).few; shown = shown; printed = inl (plain_kept (printed g) (game.text g shown).plain) }
+      given = grind (arith, common_steps, plain_kept)
 
       correct : AllowsGrid play p (printed g) (checked None)
       correct = inl (record { grid = g; given = given; only = λ other also. sym (candidate_is given) ∙ candidate_is also; said = game.told.right g solution })

@@ -1,5 +1,6 @@
 -- A lawful rule set has visits that close each of its boards, or sweeps that do: those that its closing would make.
-use Rattle.commands.proofs.Common.{Bool, Candidates, IsLawful, IsWithin, List, RuleSystem, [], add-one, after_inside, any_below, any_below-none, any_below-some, arith, cases_Bool, false, inl, inr, is_dead, length, length-append, refl, suc, sym, total, true, true≢false, within_inside, zero, ℕ, ◌++◌, ◌+◌, ◌<◌, ◌∙◌, ◌∷◌, ◌≡◌, ◌≤◌}
+use Rattle.std.proofs.lemmas.Grind.{common_steps}
+use Rattle.commands.proofs.Common.{Bool, Candidates, IsLawful, IsWithin, List, RuleSystem, [], add-one, after_inside, any_below, any_below-none, any_below-some, arith, cases_Bool, false, inl, inr, is_dead, length, length-append, refl, suc, total, true, true≢false, within_inside, zero, ℕ, ◌++◌, ◌+◌, ◌<◌, ◌∷◌, ◌≡◌, ◌≤◌}
 use Rattle.engine_core.specs.RuleSystem.{after}
 use Rattle.engine_core.specs.ClosingList.{IsAlive, IsClosingList, IsClosingSweeps}
 use Rattle.engine_core.specs.Queue.{IsRested, IsWoken, but, counts_of, woken}
@@ -12,7 +13,7 @@ abbrev wakes : RuleSystem → ℕ → Candidates → (ℕ → Bool) → ℕ → 
 wakes p h K waits = woken p h (counts_of p h K) (after p h K) (but waits h)
 
 woken_is : {p : RuleSystem} {h : ℕ} {K : Candidates} {waits : ℕ → Bool} → IsWoken p h K (after p h K) waits (wakes p h K waits)
-woken_is = record { fewer = λ j lt on. on; idle = λ j lt off on. absurd (true≢false (sym on ∙ off)) }
+woken_is = grind (arith, common_steps)
 
 all_rested : (p : RuleSystem) (K : Candidates) → IsRested p K (λ h. true)
 all_rested p K = λ h c v lt off on. absurd (true≢false off)

@@ -25,14 +25,7 @@ module _ {P : Type 0} (play : PuzzleFacts P) (reading : HasOneReading play.game.
       allowed answered = (answer_to reading _ id p s answered).said ∙ ap (verdict_answer (λ h. printed_by play p h)) verdict
 
       allows : said ≡ one_answer (printed_by play p g) → AllowsSolve play id budget said
-      allows is = inr (record {
-        puzzle = p;
-        spelled = s;
-        allowed = record {
-          right = subst (IsRight (play.game.solves p)) (sym verdict) (only.0, λ h other. sym (only.1 h other));
-          said = is ∙ sym (ap (verdict_answer (λ h. printed_by play p h)) verdict);
-        };
-      })
+      allows is = grind (arith, common_steps)
 
   -- with two solutions no verdict is one
   pub never_one : (id : Text) (p : P) (any : ℕ) (said : Answer) → play.game.spells id p → HasTwo (play.game.rules p)
@@ -61,11 +54,7 @@ module _ {P : Type 0} (play : PuzzleFacts P) (reading : HasOneReading play.game.
   -- no grid is told
   other_status : (id : Text) {solved said : Answer} → solved ≡ said → said.status ≢ 0
       → said.status ≢ 3 → said.status ≢ 4 → ArePassed (AllowsCheck play id) solved
-  other_status id told none nor neither = record {
-    one = λ e. absurd (none (sym (same_status told) ∙ e));
-    several = λ e. absurd (nor (sym (same_status told) ∙ e));
-    gave_up = λ e. absurd (neither (sym (same_status told) ∙ e));
-  }
+  other_status id told none nor neither = grind (arith, common_steps, same_status)
 
   pub passed : (id : Text) (budget : ℕ) (solved : Answer) → AllowsSolve play id budget solved → ArePassed (AllowsCheck play id) solved
   passed id budget solved (inl x) = other_status id x.said (omega arith) (omega arith) (omega arith)
@@ -120,10 +109,7 @@ module _ (solves : List ℕ → Type 0) (printed : List ℕ → Text) {input : T
     (form : IsPrinted (without_returns input) (printed g)) {solved : Answer} where
   -- neither none is told nor one
   other_told : {said : Answer} → solved ≡ said → said.status ≢ 1 → said.status ≢ 0 → GoesWithCorrect input solved
-  other_told told none nor = record {
-    some = λ e. none (sym (same_status told) ∙ e);
-    that = λ grid is. absurd (nor (same_status (sym told ∙ is)));
-  }
+  other_told told none nor = grind (arith, common_steps, same_status)
 
   by_verdict : (o : Outcome) → IsRight solves o → solved ≡ verdict_answer printed o → GoesWithCorrect input solved
   by_verdict NoSolution right told = absurd (right g solution)

@@ -1,12 +1,7 @@
 -- What grades mean of the games' own solutions, and how their texts and traces are told.
-use Rattle.commands.proofs.Common.{Answer, BeginsTrace, Bool, ByRules, BySearch, Delivers, GaveUp, Grade, HasOneSolution, IsGraded, IsRight, IsRightGrade, IsTrace, List, Mark, Mark.Found, Mark.Trial, NamedRules, NoSolution, None, Option, Outcome, Outcome.OneSolution, PutsTrace, PuzzleFacts, RuleSet, RuleSystem, SaysClosing, SaysGrade, SaysIfAny, SeveralSolutions, Solo, Solves, Some, Text, [], ap, append-nil, append_assoc, arith, codes, common_steps, crossing_scopes, crossings_rules, false, grade_by, grade_status, grade_text, houses_rules, inr, is_settled, last_tried, length, length-append, length-map, listed_grade, map, only_set, outcome, refl, scopes_of, searched_grade, singles_rules, solo_n, spent, subst, suc, sym, trials_in, true, true≢false, verdict_of, walk, zero, ℕ, ◌++◌, ◌↔◌, ◌∙◌, ◌∷◌, ◌≡◌, ◌≤◌}
-use Rattle.engine_core.specs.Filling.{strikes_by_fillings}
+use Rattle.commands.proofs.Common.{Answer, BeginsTrace, Bool, ByRules, BySearch, Delivers, GaveUp, Grade, HasOneSolution, IsGraded, IsRight, IsRightGrade, IsTrace, List, Mark, Mark.Found, Mark.Trial, NamedRules, NoSolution, None, Option, Outcome, Outcome.OneSolution, PutsTrace, PuzzleFacts, RuleSet, RuleSystem, SaysClosing, SaysGrade, SaysIfAny, SeveralSolutions, Solo, Solves, Some, Text, [], ap, append-nil, append_assoc, arith, codes, common_steps, crossings_rules, false, grade_by, grade_status, grade_text, houses_rules, inr, is_settled, last_tried, length, length-append, length-map, listed_grade, only_set, outcome, refl, scopes_of, searched_grade, singles_rules, spent, subst, suc, sym, trials_in, true, true≢false, verdict_of, walk, zero, ℕ, ◌++◌, ◌↔◌, ◌∙◌, ◌∷◌, ◌≡◌, ◌≤◌}
 use Rattle.engine_core.specs.HouseSets.{Decision}
-use Rattle.solo_core.specs.Houses.{houses_of}
-use Rattle.solo_core.specs.NoRepeat.{no_repeat}
-use Rattle.solo_core.specs.RuleSets.{crossings_of, deciding, filled_houses, house_at, house_by}
-use Rattle.solo_core.specs.Singles.{strikes_by_singles}
-use Rattle.solo_core.specs.declared.houses.scope.VisitName.TheVariants.{House}
+use Rattle.solo_core.specs.RuleSets.{deciding}
 use Rattle.commands.proofs.RunLemmas.{TakesBoth, says_as}
 use Rattle.commands.proofs.SearchedPuzzles.{SearchedPuzzle, verdict_right}
 use Rattle.commands.proofs.GradedAlike.{settled_found}
@@ -24,7 +19,7 @@ spent_whole (suc budget) found (Trial depth board ∷ marks) g e = ap suc (spent
 pub grade_is : (rules : RuleSystem) (budget : ℕ) {verdict : Outcome} → verdict_of rules budget ≡ verdict
     → grade_by (trials_in (walk rules 0 rules.start)) verdict ≡ searched_grade rules budget
 unfolding searched_grade
-grade_is rules budget e = ap (grade_by (trials_in (walk rules 0 rules.start))) (sym e)
+grade_is rules budget e = grind (arith, common_steps)
 
 -- a puzzle that is settled has the grid of its closure as its one solution
 pub settled_one : {rules : RuleSystem} {solves : List ℕ → Type 0} → SearchedPuzzle rules solves → is_settled rules ≡ true → HasOneSolution solves
@@ -43,10 +38,10 @@ right_as A B GaveUp same right = tt
 -- the grids that rules accept are the solutions, and a grade is right of both
 pub right_by : {p q : RuleSystem} (solves : List ℕ → Type 0) (grade : Grade) → q ≡ p → ((g : List ℕ) → Solves p g ↔ solves g)
     → IsRightGrade (Solves q) grade → IsRightGrade solves grade
-right_by {p} solves grade e same right = right_as (Solves p) solves grade same (subst (λ r. IsRightGrade (Solves r) grade) e right)
+right_by {p} solves grade e same right = grind (arith, common_steps, right_as)
 
 pub accepted_by : {p q : RuleSystem} (solves : List ℕ → Type 0) → q ≡ p → ((g : List ℕ) → Solves p g ↔ solves g) → (g : List ℕ) → Solves q g ↔ solves g
-accepted_by solves e same = subst (λ r. (g : List ℕ) → Solves r g ↔ solves g) (sym e) same
+accepted_by solves e same = grind (arith, common_steps)
 
 -- the last rules in the list were tried last, whether they settle the puzzle or not
 pub last_of_one : (before : RuleSystem) (set : RuleSet) {rules : RuleSystem} → rules ≡ last_tried before (only_set set rules)
@@ -67,9 +62,7 @@ module _ {P : Type 0} (play : PuzzleFacts P) (p : P) (budget : ℕ) (traced : Bo
   -- the last in the list
   pub said_last : (grade : Grade) (set : RuleSet) (rules : RuleSystem) → grade ≡ listed_grade (only_set set rules) (play.game.rules p) budget
       → IsRightGrade (play.game.solves p) grade → SaysLast grade rules → SaysBy (only_set set rules)
-  said_last grade set rules e right told = rightly _ (rw e at right)
-      (subst (λ g. SaysLast g (last_tried (play.game.rules p) (only_set set rules))) e
-      (subst (SaysLast grade) (last_of_one (play.game.rules p) set) told))
+  said_last grade set rules e right told = grind (arith, common_steps, rightly, last_of_one)
 
   -- the first in the list settles the puzzle
   pub said_first : {q : RuleSystem} (set : RuleSet) {rules : RuleSystem} (rest : List NamedRules) → q ≡ rules → is_settled q ≡ true
@@ -82,9 +75,7 @@ module _ {P : Type 0} (play : PuzzleFacts P) (p : P) (budget : ℕ) (traced : Bo
   -- the first of two or more in the list doesn't
   pub said_later : {q : RuleSystem} (set : RuleSet) {rules : RuleSystem} (next : NamedRules) (rest : List NamedRules) → q ≡ rules → is_settled q ≡ false
       → SaysBy (next ∷ rest) → SaysBy (record { set = set; rules = rules } ∷ next ∷ rest)
-  said_later set {rules} next rest e unsettled told =
-      let is = ap is_settled (sym e) ∙ unsettled in
-      says_as (λ a graded. record { right = rw is graded.right; said = rw is graded.said }) told
+  said_later set {rules} next rest e unsettled told = grind (arith, common_steps, says_as)
 
   -- rules that were made for a puzzle are its own
   pub said_by : {q r : RuleSystem} (set : RuleSet) → q ≡ r → SaysBy (only_set set q) → SaysBy (only_set set r)
@@ -143,8 +134,7 @@ untraced false {text} nothing is = record { lines = []; trace = refl; put = reco
 
 -- what the rule sets of Solo visit has a name: houses first, and then crossings
 over_houses : (decides : Decision) (p : Solo) → length (deciding decides p) ≤ length (scopes_of p)
-over_houses decides p =
-    omega (arith, length-map (houses_of p) (house_by decides p), length-append (map House (houses_of p)) (crossing_scopes p), length-map (houses_of p) House)
+over_houses decides p = grind (arith, common_steps, length-map, length-append)
 
 pub singles_named : (p : Solo) → (singles_rules p).houses ≤ length (scopes_of p)
 singles_named p = over_houses _ p
@@ -153,15 +143,7 @@ pub houses_named : (p : Solo) → (houses_rules p).houses ≤ length (scopes_of 
 houses_named p = over_houses _ p
 
 pub crossings_named : (p : Solo) → (crossings_rules p).houses ≤ length (scopes_of p)
-crossings_named p =
-    omega (
-      arith,
-      length-append (filled_houses p) (crossings_of p),
-      length-map (houses_of p) (house_by (strikes_by_fillings no_repeat) p),
-      length-map (crossing_scopes p) (house_at p),
-      length-append (map House (houses_of p)) (crossing_scopes p),
-      length-map (houses_of p) House,
-    )
+crossings_named p = grind (arith, common_steps, length-append, length-map)
 
 pub named : (p : Solo) {q rules : RuleSystem} → q ≡ rules → rules.houses ≤ length (scopes_of p) → q.houses ≤ length (scopes_of p)
 named p e few = subst (λ r. r.houses ≤ length (scopes_of p)) (sym e) few

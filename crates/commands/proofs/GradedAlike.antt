@@ -60,7 +60,7 @@ module _ {p : RuleSystem} (laws : IsLawful p) where
 
   nothing : {marks : List Mark} (g : List ℕ) → walk p 0 p.start ≡ marks → marks ≡ [] → verdict_of p 0 ≡ OneSolution g → ⊥
   unfolding outcome
-  nothing g is none e = let empty = sym (ap (outcome 0 None) (is ∙ none)) ∙ e in cc
+  nothing g is none e = grind (arith, common_steps)
 
   pub one_settled : (g : List ℕ) → verdict_of p 0 ≡ OneSolution g → is_settled p ≡ true
   unfolding walk_closed
@@ -222,7 +222,7 @@ none_named cause (Crossings, within, (rest, e)) = absurd (true≢false (sym with
 none_named cause (set, within, (rest, e)) = absurd (omega (arith, ap marks e))
 
 pub refusals_apart : (cause : Text) → NamesSetNoStrongerThanSearch (refused cause) ↔ ((refused cause).status ≡ 0)
-refusals_apart cause = (λ named. absurd (none_named cause named), λ e. absurd (omega (arith, e)))
+refusals_apart cause = grind (arith, common_steps, none_named)
 
 module _ {traced : Bool} {name : ℕ → Text} {tried : RuleSystem} (printed : List ℕ → Text) {solved graded : Answer} where
   pub status_alike : {grade : Grade} (o : Outcome) → StatusesAgree (grade_status grade) (verdict_status o) → SaysGrade grade traced name tried graded

@@ -1,6 +1,6 @@
 -- The bytes of a line that are kept, and a text that is copied without its returns: what is copied, and the rest without
 -- its returns, is always the whole without them.
-use Rattle.commands.proofs.Common.{Bool, IfSome, IsLine, List, None, Option, Some, Text, [], ap, append-nil, append_assoc, arith, begins_with_line_end, cases_lt, common_steps, drop, false, if◌then◌else◌, inl, inr, length, length-take-le, max_id, ne_eqb, refl, strip_carriage_return, subst, sym, take, take_all, true, without_returns, ℕ, ◌&&◌, ◌++◌, ◌+◌, ◌<◌, ◌==◌, ◌∙◌, ◌∷◌, ◌≡◌, ◌≤◌}
+use Rattle.commands.proofs.Common.{Bool, IfSome, IsLine, List, None, Option, Some, Text, [], ap, append-nil, append_assoc, arith, begins_with_line_end, cases_lt, common_steps, drop, false, if◌then◌else◌, inl, inr, length, length-take-le, max_id, ne_eqb, strip_carriage_return, subst, sym, take, take_all, true, without_returns, ℕ, ◌&&◌, ◌++◌, ◌+◌, ◌<◌, ◌==◌, ◌∙◌, ◌∷◌, ◌≡◌, ◌≤◌}
 use Rattle.std.specs.Borrow.{Bor}
 
 -- ---- a line of which so many bytes at most are kept
@@ -13,16 +13,7 @@ module _ (most b : ℕ) {kept : List ℕ} (piece : List ℕ) (holds : kept ≡ t
   holds_more full = grind (arith, common_steps)
 
 pub line_empty : {most : ℕ} → 0 < most → {kept : List ℕ} (piece : List ℕ) → kept ≡ take most piece → (length kept == 0) ≡ (length piece == 0)
-line_empty {most} some {kept} piece holds = elim (cases_lt most (length piece)) [
-  | inl long ↦
-      rw (
-        holds,
-        length-take-le most piece (omega arith),
-        ne_eqb most 0 (λ e. absurd (omega arith)),
-        ne_eqb (length piece) 0 (λ e. absurd (omega arith)),
-      ) refl
-  | inr all ↦ ap (λ (l : List ℕ). length l == 0) (holds ∙ take_all most piece all)
-]
+line_empty {most} some {kept} piece holds = grind (arith, common_steps, cases_lt, length-take-le, ne_eqb)
 
 pub strip_length : (l : List ℕ) → length l ≤ length (strip_carriage_return l) + 1
 strip_length l = grind (arith, common_steps, common_steps)
@@ -48,7 +39,7 @@ line_told f less line {kept} piece holds told within = elim (cases_lt _ _) [
 choice : {b : Bool} (byte : ℕ) (more : Text) → (byte == 13) && begins_with_line_end more ≡ b
     → without_returns (byte ∷ more) ≡ (if b then without_returns more else byte ∷ without_returns more)
 unfolding without_returns
-choice byte more e = ap (λ t. if t then without_returns more else byte ∷ without_returns more) e
+choice byte more e = grind (arith, common_steps)
 
 pub byte_kept : (kept : Text) {new rest : Text} (more whole : Text) (byte : ℕ) {drops : Bool}
     → kept ++ without_returns rest ≡ without_returns whole → rest ≡ byte ∷ more

@@ -1,4 +1,5 @@
 -- A grade names a search by the trials of the whole walk, which are the least budget with which the verdict is one.
+use Rattle.std.proofs.lemmas.Grind.{common_steps}
 use Rattle.commands.proofs.Common.{AllowsSolve, Answer, Bool, ByRules, BySearch, Crossings, Game, Grade, HasOneSolution, Houses, IsLeastBudget, IsRight, IsSolved, Lines, List, Local, Mark, Mark.Found, Mark.Trial, NamesSearch, NamesSet, None, Option, Outcome, Outcome.GaveUp, Outcome.NoSolution, Outcome.OneSolution, Outcome.SeveralSolutions, RuleSystem, SaysGrade, SearchesNameLeastBudgets, Singles, Some, Text, [], ap, arith, codes, eq-or-lt_of_le, game_of, grade_by, grade_text, inl, inr, listed_grade, outcome, printed_by, puzzle_of, refl, refused, searched_grade, slice_index, subst, suc, sym, trials_in, verdict_of, walk, zero, ℕ, ◌++◌, ◌<◌, ◌∙◌, ◌∷◌, ◌≡◌, ◌≢◌, ◌≤◌, ◌⊎◌}
 use Rattle.commands.proofs.GameLaws.{laws_of, found_alone, solving}
 use Rattle.commands.proofs.GradedAlike.{named_or_searched, status_one, told_status}
@@ -107,7 +108,7 @@ module _ (game : Game) (id : Text) (p : puzzle_of game) (s : (game_of game).game
     grade = listed_grade ((game_of game).game.sets p) rules budget
 
     text_of : {given : Grade} → grade ≡ given → graded.text ≡ grade_text given ++ codes "\n" ++ told.lines
-    text_of is = told.text ∙ ap (λ g. grade_text g ++ codes "\n" ++ told.lines) is
+    text_of is = grind (arith, common_steps)
 
     names : (trials : ℕ) → grade ≡ BySearch trials → NamesSearch trials graded
     names trials is = (told.lines, text_of is)

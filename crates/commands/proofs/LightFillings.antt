@@ -1,5 +1,6 @@
 -- Each filling of Light Up over a stream of words solves its puzzle; and the first that passes can be thinned.
-use Rattle.commands.proofs.Common.{All-from_get_or, AllByRecursion, Black, Bool, Extent, HasWords, IsFirstPassing, IsLight, IsLightCell, IsLightSolution, IsLit, IsThinnedFrom, IsWide, Kept, Light, LightCell, List, Making, Numbered, Option, Outcome.OneSolution, Some, Stream, White, ap, arith, black_cells, black_cells-grid, bulbs_after, bulbs_beside, cases_lt, count_by-le-length, false, filling_at, get_or, get_or_past, if◌then◌else◌, inl, inr, is_white, length, length-filter, length-map, length-map-range_with_len, length-range_with_len, light_cells, light_filling, light_game, light_is_game, light_puzzle_of, light_rules, lights_of, lit_up, mul-le, none-some, number_clue, numbered_cell, range_with_len, recursion_from_All, refl, shuffled_list, stream_after, subst, suc, sym, true, white, white_places, with_numbers, zero, ℕ, ◌*◌, ◌-◌, ◌<◌, ◌==◌, ◌^◌, ◌∙◌, ◌≡◌, ◌≤◌}
+use Rattle.std.proofs.lemmas.Grind.{common_steps}
+use Rattle.commands.proofs.Common.{All-from_get_or, AllByRecursion, Black, Bool, Extent, HasWords, IsFirstPassing, IsLight, IsLightCell, IsLightSolution, IsLit, IsThinnedFrom, IsWide, Kept, Light, LightCell, List, Making, Numbered, Option, Outcome.OneSolution, Some, Stream, White, ap, arith, black_cells, black_cells-grid, bulbs_after, bulbs_beside, cases_lt, count_by-le-length, false, filling_at, get_or, get_or_past, inl, inr, is_white, length, length-filter, length-map, length-map-range_with_len, length-range_with_len, light_cells, light_filling, light_game, light_is_game, light_puzzle_of, light_rules, lights_of, lit_up, mul-le, none-some, number_clue, numbered_cell, recursion_from_All, refl, shuffled_list, stream_after, subst, suc, sym, true, white, white_places, with_numbers, zero, ℕ, ◌*◌, ◌-◌, ◌<◌, ◌^◌, ◌∙◌, ◌≡◌, ◌≤◌}
 use Rattle.maker_core.specs.LightFilling.{light_passes}
 use Rattle.maker_core.specs.LightMaking.{IsLightMade}
 use Rattle.maker_core.proofs.LightCells.{bulbs_few}
@@ -21,16 +22,14 @@ LightFilling = MadeBy light_filling
 -- ---- one filling
 whites_few : (p : Light) → length (white_places p) ≤ light_cells p
 unfolding white_places
-whites_few p =
-    let all = count_by-le-length (white p) (range_with_len 0 (light_cells p)) in
-    omega (arith, length-filter (white p) (range_with_len 0 (light_cells p)), length-range_with_len 0 (light_cells p), all)
+whites_few p = grind (arith, common_steps, count_by-le-length, white, length-filter, length-range_with_len)
 
 module _ (size : Extent) (wide : IsWide size) (black : ℕ) where
   lit_words : (p : Light) {s : Stream} → light_cells p < 2 ^ 32 - 1 → HasWords s → IsShuffled (white_places p) (shuffled_list (white_places p) s)
   lit_words p {s} few words = shuffled_is s (let w = whites_few p in omega arith) words
 
   few : size.w * size.h < 2 ^ 32 - 1
-  few = omega (arith, mul-le size.w size.h 120 120 wide.extent.w_high wide.extent.h_high)
+  few = grind (arith, common_steps, mul-le)
 
   filling_words : {s : Stream} → HasWords s → HasWords (light_filling size black s).1
   unfolding light_filling lit_up lights_of

@@ -1,10 +1,11 @@
 -- The words of a seed, the first filling that passes, and what a search finds.
-use Rattle.commands.proofs.Common.{Bool, HasOne, HasWords, IsFirstPassing, IsLawful, IsTrueOf, List, Making, NonePasses, Outcome, Outcome.OneSolution, RuleSystem, Stream, arith, cases_Bool, cases_eq, cases_lt, false, filling_at, inl, inr, is_one, outcome-true, refl, subst, suc, sym, true, true≢false, verdict_of, zero, ℕ, ◌%◌, ◌/◌, ◌<◌, ◌^◌, ◌∙◌, ◌≡◌, ◌⊎◌}
+use Rattle.std.proofs.lemmas.Grind.{common_steps}
+use Rattle.commands.proofs.Common.{Bool, HasOne, HasWords, IsFirstPassing, IsLawful, List, Making, NonePasses, Outcome, Outcome.OneSolution, RuleSystem, Stream, arith, cases_Bool, cases_eq, cases_lt, false, filling_at, inl, inr, is_one, outcome-true, refl, subst, suc, sym, true, true≢false, verdict_of, zero, ℕ, ◌<◌, ◌^◌, ◌≡◌, ◌⊎◌}
 use Rattle.std.proofs.lemmas.Nat.{mod_below}
-use Rattle.rand_core.specs.Steps.{state_after, steps_u32, stream_of}
+use Rattle.rand_core.specs.Steps.{stream_of}
 use Rattle.rand_chacha.specs.Block.{block_word}
-use Rattle.rand_chacha.specs.ChaCha.{ChaCha, next_word, of_seed}
-use Rattle.commands.specs.Seeds.{seed_key, seed_stream}
+use Rattle.rand_chacha.specs.ChaCha.{ChaCha, next_word}
+use Rattle.commands.specs.Seeds.{seed_stream}
 
 block_below : (n : ℕ) (key : List ℕ) (counter nonce k : ℕ) → block_word n key counter nonce k < 2 ^ 32
 unfolding block_word
@@ -15,7 +16,7 @@ step_below n g = block_below n g.key _ g.stream _
 
 pub seed_words : (seed : ℕ) → HasWords (seed_stream seed)
 unfolding stream_of
-seed_words seed = record { below = λ calls. step_below 4 (state_after (steps_u32 (next_word 4)) calls (of_seed (seed_key seed))) }
+seed_words seed = grind (arith, common_steps, step_below)
 
 -- ---- the first filling that passes
 module _ {A : Type 0} (make : Making A) (passes : A → Bool) (s : Stream) where
@@ -35,13 +36,7 @@ module _ {A : Type 0} (make : Making A) (passes : A → Bool) (s : Stream) where
   ]
 
   pub first_once : {tries j k : ℕ} → IsFirstPassing make passes s tries j → IsFirstPassing make passes s tries k → j ≡ k
-  first_once {tries} {j} {k} a b = elim (cases_lt j k) [
-    | inl low ↦ absurd (true≢false (sym a.passing ∙ b.failing j low))
-    | inr high ↦ elim (cases_lt k j) [
-      | inl low ↦ absurd (true≢false (sym b.passing ∙ a.failing k low))
-      | inr other ↦ omega arith
-    ]
-  ]
+  first_once {tries} {j} {k} a b = grind (arith, common_steps, cases_lt)
 
 -- ---- what a search finds
 one_found : (o : Outcome) → is_one o ≡ true → (g : List ℕ) × (o ≡ OneSolution g)
@@ -49,6 +44,4 @@ one_found (OneSolution g) e = (g, refl)
 one_found o e = absurd (true≢false (sym e))
 
 pub has_one : (rules : RuleSystem) → IsLawful rules → (budget : ℕ) → is_one (verdict_of rules budget) ≡ true → HasOne rules budget
-has_one rules laws budget one =
-    let found = one_found _ one in
-    record { answer = found.0; found = found.1; only = subst (IsTrueOf rules) found.1 (outcome-true rules laws budget) }
+has_one rules laws budget one = grind (arith, common_steps, one_found, outcome-true)

@@ -2,7 +2,7 @@
 use Rattle.commands.proofs.LightFillings.{light_thinned}
 use Rattle.commands.proofs.SearchedPuzzles.{tents_searched}
 use Rattle.commands.proofs.SoloFillings.{solo_missing, solo_thinned}
-use Rattle.commands.proofs.Common.{AllowsMade, AllowsOfSize, Answer, Bool, DifferInClues, Err, Extent, Game, HandOutAlike, HasOneAnswer, HasWords, IsExtent, IsFirstPassing, IsGrid, IsHandedOut, IsPatternSolution, IsSoloSize, IsTentSolution, IsTents, IsWide, Light, List, MadePuzzle, Making, None, NonePasses, Ok, Option, Pattern, PuzzleFacts, SameLight, SameSolo, SizeRange, SizeRead, Some, Stream, Tents, Text, Wanted, [], all_given, and_parts, ap, arith, black_cells-grid, cases_eq, common_steps, exhausted_answer, extent_of, false, filling_at, game_of, handed_out, if◌then◌else◌, in_range, inl, inr, is_solution-from, is_solution-is, leb-true, light_facts, light_filling, light_is_game, light_is_written, light_passes, light_puzzle_of, line_rules, line_rules-lawful, nat_le, pattern_facts, pattern_is_written, puzzle_of, refl, size_of, size_take, solo_facts, solo_filling, solo_is_game, solo_is_written, solo_passes, stream_after, subst, suc, sym, tent_rules, tents_facts, tents_is_written, tents_sizes, true, true≢false, zero, ℕ, ◌&&◌, ◌*◌, ◌↔◌, ◌∙◌, ◌≡◌, ◌≢◌, ◌≤◌}
+use Rattle.commands.proofs.Common.{AllowsMade, AllowsOfSize, Answer, Bool, DifferInClues, Err, Extent, Game, HandOutAlike, HasOneAnswer, HasWords, IsExtent, IsFirstPassing, IsGrid, IsHandedOut, IsSoloSize, IsTentSolution, IsTents, IsWide, Light, List, MadePuzzle, Making, None, NonePasses, Ok, Option, Pattern, PuzzleFacts, SameLight, SameSolo, SizeRange, SizeRead, Some, Stream, Tents, Text, Wanted, [], all_given, and_parts, ap, arith, black_cells-grid, cases_eq, common_steps, exhausted_answer, extent_of, false, filling_at, game_of, handed_out, if◌then◌else◌, in_range, inl, inr, is_solution-from, is_solution-is, leb-true, light_facts, light_filling, light_is_game, light_is_written, light_passes, light_puzzle_of, line_rules-lawful, nat_le, pattern_facts, pattern_is_written, puzzle_of, refl, size_of, size_take, solo_facts, solo_filling, solo_is_game, solo_is_written, solo_passes, stream_after, subst, suc, sym, tents_facts, tents_is_written, tents_sizes, true, true≢false, zero, ℕ, ◌&&◌, ◌*◌, ◌↔◌, ◌∙◌, ◌≡◌, ◌≢◌, ◌≤◌}
 use Rattle.fields_core.proofs.TentRuleLemmas as tents
 use Rattle.gameid_core.proofs.LineLaws.{at_column, at_row}
 use Rattle.gameid_core.proofs.OnesFit.{ones_lawful}
@@ -22,11 +22,7 @@ use Rattle.commands.proofs.MadeOnce.{first_once, first_or_none, has_one}
 module _ {P : Type 0} {play : PuzzleFacts P} {alike : P → P → Type 0} where
   -- answers that are the same differ in no clue, where nothing is handed out
   same_differ : {one other said : Answer} → one ≡ said → other ≡ said → said.status ≢ 0 → DifferInClues play alike one other
-  same_differ first second none = record {
-    status = ap (λ a. a.status) (first ∙ sym second);
-    others = λ _. first ∙ sym second;
-    made = λ fine. absurd (none (sym (ap (λ a. a.status) first) ∙ fine));
-  }
+  same_differ first second none = grind (arith, common_steps)
 
   handed_differ : {one other : Answer} → HandOutAlike play alike one other → DifferInClues play alike one other
   handed_differ handed = record {
@@ -55,9 +51,7 @@ module _ {P : Type 0} {play : PuzzleFacts P} {alike : P → P → Type 0} {w : W
   ]
 
   not_none : (m : MadePuzzle P) → play.game.makes size w m → play.game.makes_none size w → ⊥
-  not_none m made none =
-      let first = is.first m made in
-      true≢false (sym first.1.passing ∙ (is.none.1 none).failing first.0 first.1.within)
+  not_none m made none = grind (arith, common_steps)
 
   making_differs : (one other : Answer) → AllowsOfSize play w size one → AllowsOfSize play w size other → DifferInClues play alike one other
   making_differs one other (inl x) (inl y) =
@@ -77,11 +71,7 @@ module _ {P : Type 0} {play : PuzzleFacts P} {alike : P → P → Type 0} {w : W
 
 -- where what is handed out is the same, so are the answers
 told_same : {P : Type 0} {play : PuzzleFacts P} {one other : Answer} → DifferInClues play (λ p q. p ≡ q) one other → one ≡ other
-told_same {play} {one} differ = elim (cases_eq one.status 0) [
-  | inl fine ↦ let handed = differ.made fine in
-      handed.first_said ∙ ap (λ p. handed_out play p handed.solution) handed.same ∙ sym handed.second_said
-  | inr not_fine ↦ differ.others not_fine
-]
+told_same {play} {one} differ = grind (arith, common_steps, cases_eq)
 
 -- sizes within the limits
 pattern_extent : {w h : ℕ} → in_range game.Pattern w h ≡ true → IsExtent (record { w = w; h = h })

@@ -30,11 +30,7 @@ module _ {S : Type 0} {takes : S → Text → S → Type 0} where
   -- one more line is in the text, and nothing more was put
   pub line_added : {s t : S} (text : Text) {held longer line : Text} (f : ℕ → Text) (i : ℕ) → PutUpTo takes s (text ++ each_below f i) held t
       → longer ≡ held ++ line → line ≡ f i → PutUpTo takes s (text ++ each_below f (i + 1)) longer t
-  line_added text {held} f i put more is = record {
-    done = put.done;
-    took = put.took;
-    split = line_split text put.done held f i put.split more is;
-  }
+  line_added text {held} f i put more is = grind (arith, common_steps, line_split)
 
   -- what was held was put up to a rest
   pub piece_put : TakesBoth takes → (s t u : S) {text held : Text} (rest : Text) → PutUpTo takes s text held t → PutUpTo takes t held rest u → PutUpTo takes s text rest u
@@ -81,11 +77,7 @@ module _ {S : Type 0} {takes : S → Text → S → Type 0} {most : ℕ} where
   -- one more line is in the text, and no piece more was put
   pub line_held : {s t : S} (text : Text) {held longer line : Text} (f : ℕ → Text) (i : ℕ) → PutInPieces takes most s (text ++ each_below f i) held t
       → longer ≡ held ++ line → line ≡ f i → PutInPieces takes most s (text ++ each_below f (i + 1)) longer t
-  line_held text {held} {longer} {line} f i put more is = record {
-    pieces = put.pieces;
-    took = put.took;
-    split = line_split text (joined put.pieces) held f i put.split more is;
-  }
+  line_held text {held} {longer} {line} f i put more is = grind (arith, common_steps, line_split, joined)
 
   -- what was held was kept, or is one piece more
   pub next_piece : (s t u : S) {text : Text} (held : Text) {rest : Text}

@@ -203,7 +203,7 @@ one_byte : {byte : ℕ} → byte ≢ 13 → IsCellText 1 (byte ∷ [])
 one_byte other = record { plain = (other, tt); few = omega arith }
 
 both_texts : {m n : ℕ} (a b : Text) → IsCellText m a → IsCellText n b → IsCellText (m + n) (a ++ b)
-both_texts a b x y = record { plain = plain-append a b x.plain y.plain; few = omega (arith, x.few, y.few, length-append a b) }
+both_texts a b x y = grind (arith, common_steps, plain-append, length-append)
 
 each_text : (f : ℕ → Text) (n m : ℕ) → ((k : ℕ) → k < n → IsCellText m (f k)) → IsCellText (n * m) (each_below f n)
 unfolding each_below
@@ -248,7 +248,7 @@ one_of false x y first second = one_byte second
 
 -- ---- the cells of each game
 pub pattern_cell_text : (p : Pattern) (g : List ℕ) (place : ℕ) → IsCellText 1 (pattern_cell p g place)
-pattern_cell_text p g place = one_of _ 35 46 (λ e. absurd (omega arith)) (λ e. absurd (omega arith))
+pattern_cell_text p g place = grind (arith, common_steps, one_of)
 
 pub tents_cell_text : (p : Tents) (g : List ℕ) (place : ℕ) → IsCellText 1 (tents_cell p g place)
 tents_cell_text p g place = by _

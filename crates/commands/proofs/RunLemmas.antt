@@ -56,7 +56,7 @@ says_some {A} some told = record {
 -- nothing was written
 pub says_nothing : {S : Type 0} {takes : S → Text → S → Type 0} {allows : Answer → Type 0} {s : S} {status : ℕ} → takes s [] s
     → 5 ≤ status → SaysIfAny takes allows s s status
-says_nothing nothing high = record { written = []; took = nothing; begun = inl refl; whole = λ small. absurd (omega arith) }
+says_nothing nothing high = grind (arith, common_steps)
 
 rest_is : (rest : List ℕ) (n m : ℕ) → m ≡ length rest → take (m - n) (drop n rest) ≡ drop n rest
 rest_is rest n m e = grind (arith, common_steps)
@@ -130,13 +130,7 @@ module _ {I O : Type 0} {source : sources.Ghosts I} {sink : sinks.Ghosts O}
   -- bytes were read, and nothing was written
   pub ran_unwritten : HasAnswers allows → {i j : I} {o : O} (seen : Text) {status : ℕ} → 5 ≤ status → source.gives i seen j → sink.takes o [] o
       → Ran source sink allows i j o o status
-  ran_unwritten answers seen high gave took = record {
-    read = seen;
-    written = [];
-    gave = gave;
-    took = took;
-    leaves = record { begun = λ input _. nothing_begins (allows input) (answers input); whole = λ low. absurd (omega arith) };
-  }
+  ran_unwritten answers seen high gave took = grind (arith, common_steps, nothing_begins)
 
   -- an answer that is allowed on every input was put, if there was memory for it
   pub ran_by_put : {E : Type 0} (made : Result Reply E) {i : I} {o p : O} {status : ℕ} → HasAnswers allows → source.gives i [] i → sink.takes o [] o
@@ -149,8 +143,7 @@ module _ {I O : Type 0} {source : sources.Ghosts I} {sink : sinks.Ghosts O}
   -- the same of steps that know of no answer before
   pub ran_if_any_unwritten : {i j : I} {o : O} (seen : Text) {status : ℕ} → 5 ≤ status → source.gives i seen j → sink.takes o [] o
       → RanIfAny source sink allows i j o o status
-  ran_if_any_unwritten seen high gave took =
-      record { read = seen; written = []; gave = gave; took = took; begun = λ input _. inl refl; whole = λ low. absurd (omega arith) }
+  ran_if_any_unwritten seen high gave took = grind (arith, common_steps)
 
   pub ran_if_any_by_telling : {i : I} {o p : O} (tells : Answer → Type 0) {status : ℕ}
       → source.gives i [] i → ((input : Text) (a : Answer) → tells a → allows input a)
@@ -166,13 +159,7 @@ module _ {I O : Type 0} {source : sources.Ghosts I} {sink : sinks.Ghosts O}
 
   -- where each input has an answer, a beginning of one was written
   pub ran_some : HasAnswers allows → {i j : I} {o p : O} {status : ℕ} → RanIfAny source sink allows i j o p status → Ran source sink allows i j o p status
-  ran_some answers r = record {
-    read = r.read;
-    written = r.written;
-    gave = r.gave;
-    took = r.took;
-    leaves = record { begun = λ input is. begins_some (allows input) (answers input) (r.begun input is); whole = r.whole };
-  }
+  ran_some answers r = grind (arith, common_steps, begins_some)
 
 -- what a reader over memory gave is the beginning of its bytes, and all of them where its end was met
 pub input_known : (ended was : Bool) (bytes start read left : Text) → start ≡ bytes → was ≡ false

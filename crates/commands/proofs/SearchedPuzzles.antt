@@ -19,10 +19,7 @@ right_of solves (GaveUp (Some g)) same h = (same g).0 h
 pub solved_of : {P : Type 0} (play : PuzzleFacts P) {budget : ℕ} {p : P} {q : RuleSystem} {a : Answer} → q ≡ play.game.rules p
     → ((g : List ℕ) → Solves (play.game.rules p) g ↔ play.game.solves p g)
     → a ≡ verdict_answer (printed_by play p) (verdict_of q budget) → IsTrueOf q (verdict_of q budget) → IsSolved play budget p a
-solved_of play {p} same accepted told right = record {
-  right = right_of (play.game.solves p) _ accepted (rw same at right);
-  said = rw same at told;
-}
+solved_of play {p} same accepted told right = grind (arith, common_steps, right_of)
 
 -- the rules are lawful, and accept the solutions
 pub record SearchedPuzzle (rules : RuleSystem) (solves : List ℕ → Type 0) : Type 0 where
@@ -31,11 +28,11 @@ pub record SearchedPuzzle (rules : RuleSystem) (solves : List ℕ → Type 0) : 
 
 -- ---- the grids that the rules accept are the solutions, in each game
 pub pattern_accepted : (p : Pattern) (g : List ℕ) → Solves (line_rules p) g ↔ IsPatternSolution p g
-pattern_accepted p g = (λ s. is_solution-is p g s.grid s.good, λ s. record { grid = s.grid; good = is_solution-from p g s })
+pattern_accepted p g = grind (arith, common_steps, is_solution-is, is_solution-from)
 
 -- by each rule set
 pub solo_accepted : {p : Solo} → IsSolo p → (settled : Bool) (houses : List House) (g : List ℕ) → Solves (rules_of settled p houses) g ↔ IsSoloSolution p g
-solo_accepted {p} ok settled houses g = (λ s. rule_from_test p ok g s.grid s.good, λ s. record { grid = s.grid; good = test_from_rule p ok g s })
+solo_accepted {p} ok settled houses g = grind (arith, common_steps, rule_from_test, test_from_rule)
 
 pub light_accepted : (p : Light) (g : List ℕ) → Solves (light_rules p) g ↔ IsLightSolution p g
 light_accepted p g = (λ s. light.rule-from-test p g s.grid s.good, λ s. record { grid = s.grid; good = light.test-from-rule p g s.grid s })

@@ -1,11 +1,12 @@
 -- Each filling of Solo over a stream of words is a grid that keeps to the rules; and the first that is there can be thinned.
-use Rattle.commands.proofs.Common.{AreReasons, Bool, HasWords, IfSome, IsFirstPassing, IsLineOrder, IsShuffledOrder, IsSolo, IsSoloMade, IsSoloSize, IsSoloSolution, IsTrueOf, Kept, List, None, Option, Outcome, Outcome.GaveUp, Outcome.NoSolution, Outcome.OneSolution, Outcome.SeveralSolutions, Solo, Solves, Some, Stream, [], add-one, all_given, arith, draw_is, false, filling_at, first_grid, flipped_by_draw, houses_lawful, houses_rules, is_some, line_order, lines_of_groups, mul-le, order_is, outcome-true, plain_filling, refl, shuffled_order, solo_game, solo_is_game, solo_passes, stream_after, subst, suc, top_row_given, true, true≢false, verdict_of, x_filling, zero, ℕ, ◌*◌, ◌-◌, ◌<◌, ◌^◌, ◌∙◌, ◌≡◌}
+use Rattle.std.proofs.lemmas.Grind.{common_steps}
+use Rattle.commands.proofs.Common.{AreReasons, Bool, HasWords, IfSome, IsFirstPassing, IsLineOrder, IsSolo, IsSoloMade, IsSoloSize, IsSoloSolution, IsTrueOf, Kept, List, None, Option, Outcome, Outcome.GaveUp, Outcome.NoSolution, Outcome.OneSolution, Outcome.SeveralSolutions, Solo, Solves, Some, Stream, [], add-one, all_given, arith, draw_is, false, filling_at, first_grid, flipped_by_draw, houses_lawful, houses_rules, is_some, line_order, lines_of_groups, mul-le, order_is, outcome-true, plain_filling, refl, shuffled_order, solo_game, solo_is_game, solo_passes, stream_after, subst, suc, top_row_given, true, true≢false, verdict_of, x_filling, zero, ℕ, ◌*◌, ◌-◌, ◌<◌, ◌^◌, ◌∙◌, ◌≡◌}
 use Rattle.maker_core.specs.SoloMaking.{solo_filling}
 use Rattle.maker_core.proofs.SoloFull.{all_given-found, all_given-only, found_passes, only_by_rules, same_given, thinned-solo}
 use Rattle.maker_core.proofs.SoloOrderLemmas.{AreGrouped, AreGrouped-more, grouped-none, line_order_from_groups}
 use Rattle.maker_core.proofs.SoloSolution.{is_solution_of_all}
 use Rattle.maker_core.proofs.SoloXSearch.{flipped-found, top-solo}
-use Rattle.commands.proofs.ThinnedExists.{IsThinnedTo, thinned}
+use Rattle.commands.proofs.ThinnedExists.{thinned}
 
 -- ---- plain Solo
 record AreGroupsDrawn (size : ℕ) (groups : List ℕ) (k : ℕ) (q : List ℕ × Stream) : Type 0 where
@@ -44,10 +45,7 @@ record IsFilled (c r : ℕ) (x : Bool) (q : Option (List ℕ) × Stream) : Type 
 
 module _ (c r : ℕ) (size : IsSoloSize c r) where
   few : (c < 2 ^ 32 - 1) × (r < 2 ^ 32 - 1) × (c * r < 2 ^ 32 - 1)
-  few =
-      let wide = mul-le 1 r c r (omega arith) (omega arith) in
-      let tall = mul-le c 1 c r (omega arith) (omega arith) in
-      let high = size.n_high in (omega arith, omega arith, omega arith)
+  few = grind (arith, common_steps, mul-le)
 
   plain_is : (s : Stream) → HasWords s → IsFilled c r false (let plain = plain_filling c r s in (Some plain.0, plain.1))
   plain_is s words =
