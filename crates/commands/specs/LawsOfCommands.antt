@@ -84,9 +84,9 @@ CorrectGridsAreTheOneTold = (game : Game) (id input grid : Text) (budget : ℕ)
     → AllowsSolve (game_of game) id budget solved → solved ≡ one_answer grid
     → IsPrinted (without_returns input) grid
 
--- The statuses of `grade` and of `solve` with the same budget:
---   solve:   Fine   Wrong   Refused   Several   GaveUp
---   grade:   Fine   Wrong   Refused   Several   GaveUp, or Fine (by `crossings`)
+-- The statuses of `grade` and of `solve` with the same budget: they are the same, or `grade` is
+-- Fine where `solve` gave up. Only a rule set that strikes more than the search can do that, as
+-- `crossings` of Solo.
 abbrev pub StatusesAgree : ℕ → ℕ → Type 0
 StatusesAgree graded solved =
     (graded ≡ solved) ⊎ ((graded ≡ code_of Fine) × (solved ≡ code_of GaveUp))
@@ -111,7 +111,8 @@ GradedPuzzlesHaveOne = (game : Game) (id : Text) (budget : ℕ) (traced : Bool) 
     → AllowsGrade (game_of game) id budget traced graded → graded.status ≡ code_of Fine
     → IsOneWithEnough game id
 
--- what the rule set strikes, the rules of its game's search strike too
+-- What the rule set strikes, the rules of its game's search strike too. Of `singles` that is the law
+-- `houses_strike_what_singles_strike`; `houses`, `lines` and `local` are the rules of the search.
 abbrev pub is_within_search : RuleSet → Bool
 is_within_search Singles = true
 is_within_search Houses = true

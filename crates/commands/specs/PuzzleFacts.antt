@@ -1,4 +1,5 @@
--- The words in which the commands speak of a game and of its puzzles. The traits say what ties them.
+-- The words in which the commands speak of a game and of its puzzles. The contracts of the traits tie
+-- them to one another.
 use Rattle.std.specs.Prelude.{ℕ, List, Result}
 use Rattle.commands.specs.Common.{Extent, RuleSystem, SizeRead, IdFault, grid_text}
 use Rattle.commands.specs.Answers.{Answer, Text}
@@ -6,7 +7,8 @@ use Rattle.commands.specs.Grades.{NamedRules}
 use Rattle.commands.specs.Makings.{MadePuzzle, Wanted}
 
 pub record GameFacts (P : Type 0) : Type 1 where
-  -- the puzzle that a text spells, or its first fault
+  -- the puzzle that a text spells, or its first fault; `Played::read_id` gives a puzzle by `spells`
+  -- and a fault by this
   pub reading : Text → Result P IdFault
   -- the text spells the puzzle
   pub spells : Text → P → Type 0
@@ -16,7 +18,8 @@ pub record GameFacts (P : Type 0) : Type 1 where
   pub solves : P → List ℕ → Type 0
   pub rules : P → RuleSystem
   pub checks : P → List ℕ → Answer → Type 0
-  -- the rule sets that are tried in turn, and the name of the house with that number
+  -- the rule sets that are tried in turn, and the name of the house with that number: empty where
+  -- closings go by sweeps, whose traces name no house
   pub sets : P → List NamedRules
   pub visit_name : P → ℕ → Text
   -- the size that a text is, within the limits of what is made, or its first fault

@@ -5,7 +5,7 @@ use Rattle.std.proofs.Math.Nat.{mul-le-mul_left}
 use Rattle.grid_core.specs.Candidates.{IsInside, all_of, only, single, sum_below, count_below}
 use Rattle.grid_core.specs.Grids.{IsGrid}
 use Rattle.grid_core.proofs.CandidateLemmas.{all_below-at, count_below-few, count_below-or}
-use Rattle.grid_core.proofs.GridLemmas.{single-is, only-inside, only-has}
+use Rattle.grid_core.proofs.GridLemmas.{all-within, only-has, only-inside, single-all}
 use Rattle.engine_core.specs.RuleSystem.{IsLawful, after, has_place, share}
 use Rattle.engine_core.specs.PlaceLaws.{has_place-here}
 use Rattle.engine_core.specs.Filling.{strikes_by_fillings}
@@ -75,17 +75,6 @@ row-parts cells first last g e =
     let u = and_parts (eqb (slice_index g (cells - 1)) last) _ w.1 in
     (eqb-true _ _ w.0, eqb-true _ _ u.0, λ h lt. all_below-at (λ h. not (eqb (slice_index g h) (slice_index g (h + 1)))) (cells - 1) h u.1 lt)
 
-single-all : {cells values : ℕ} (g : List ℕ) → IsGrid cells values g → IsInside (single g) (all_of cells values)
-unfolding all_of
-single-all {cells} {values} g grid = λ c v on.
-    let w = single-is g c v on in
-    let lt = grid.each_value c 0 w.0 in
-    and_from _ _ (lt-ltb c cells (omega (arith, w.0, grid.each_cell))) (lt-ltb v values (omega (arith, lt, w.1)))
-
-all-within : (cells values c v : ℕ) → all_of cells values c v ≡ true → (c < cells) × (v < values)
-unfolding all_of
-all-within cells values c v on = let w = and_parts _ _ on in (ltb-true c cells w.0, ltb-true v values w.1)
-
 pub neighbours-lawful : (queue : Bool) (cells values first last : ℕ) → 2 ≤ cells → cells ≤ 65536 → 1 ≤ values → values ≤ 31
     → IsLawful (neighbours queue cells values first last)
 unfolding after
@@ -96,7 +85,7 @@ neighbours-lawful queue cells values first last two few_cells some few_values = 
   strikes_in_scope = λ h K c v lt struck. strikes_at-in_scope values (h ∷ (h + 1) ∷ []) (strikes_by_fillings differ) K c v struck;
   solutions_start = λ g grid good.
       let w = row-parts cells first last g good in
-      only-has (only (all_of cells values) 0 first) (cells - 1) last g (only-has (all_of cells values) 0 first g (single-all g grid) w.0) w.1;
+      only-has (only (all_of cells values) 0 first) (cells - 1) last g (only-has (all_of cells values) 0 first g (single-all grid) w.0) w.1;
   solutions_closed = λ g grid good h c v lt on.
       let w = row-parts cells first last g good in
       by_fillings-closed values (h ∷ (h + 1) ∷ []) differ g
@@ -112,7 +101,7 @@ neighbours-lawful queue cells values first last two few_cells some few_values = 
   few_values = few_values;
   few_cells = few_cells;
   start_within =
-      λ c v on. all-within cells values c v
+      λ c v on. all-within values c v
       (only-inside (all_of cells values) 0 first c v (only-inside (only (all_of cells values) 0 first) (cells - 1) last c v on));
   scope_within = λ h c lt member. elim (pair-cases h c member) [ inl e ↦ omega arith | inr e ↦ omega arith ];
   scope_distinct = λ h j k lt lj lk e. pair-different h j k lj lk e;

@@ -76,9 +76,9 @@ pub woken-else : {p : RuleSystem} (h : ℕ) (K K' : Candidates) (k : ℕ) {befor
 unfolding counts_of
 woken-else h K K' k same a = grind (arith, common_steps, and_left, any_below-more, woken-same, eq-eqb, not_from_true)
 
--- ---- the marks after a visit: of the house, then those of houses that were called for, then its own where it is settled
+-- ---- the marks after a visit: of the house, then those of houses that were called for, then its own where visits settle
 pub woken-by : {p : RuleSystem} {h : ℕ} {K K' : Candidates} {waits cleared now left : ℕ → Bool} → ((j : ℕ) → cleared j ≡ but waits h j)
-    → AreWoken p K' (called_for p h K K') cleared now → ((j : ℕ) → left j ≡ (now j && not (p.settled && eqb j h))) → IsWoken p h K K' waits left
+    → AreWoken p K' (called_for p h K K') cleared now → ((j : ℕ) → left j ≡ (now j && not (p.visits_settle && eqb j h))) → IsWoken p h K K' waits left
 unfolding woken but
 woken-by clears a settles = grind (arith, common_steps)
 

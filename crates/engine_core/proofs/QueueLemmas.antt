@@ -32,7 +32,7 @@ pub rested_after : (p : RuleSystem) (laws : IsLawful p) (h : ℕ) (K : Candidate
     → IsRested p (after p h K) (woken p h (counts_of p h K) (after p h K) (but waits h))
 unfolding woken but
 rested_after p laws h K waits lth within rested = λ j c v ltj asleep on.
-    let settles = λ (e : p.settled ≡ true) (lt : v < p.values). laws.settles e h K c v lth lt on in
+    let settles = λ (e : p.visits_settle ≡ true) (lt : v < p.values). laws.settles e h K c v lth lt on in
     let still = λ (quiet : called_for p h K (after p h K) j ≡ false).
     laws.strikes_inside j K (after p h K) ltj (still_rested p laws h j K lth ltj within quiet) c v in
     grind (arith, common_steps, eqb-true, not_struck p h K c v on, within c v, after_inside p h K c v on, rested j c v ltj, settles, still)
@@ -72,7 +72,7 @@ sent : RuleSystem → ℕ → Candidates → ℕ → ℕ → Bool
 sent p h K c j =
     (not (eqb (count_below (K c) p.values)
     (count_below (after p h K c) p.values)) && (has_place (p.scope h) c && has_place (p.scope j) c))
-    && not (p.settled && eqb j h)
+    && not (p.visits_settle && eqb j h)
 
 -- so many houses are sent for by a cell
 sent_few : (p : RuleSystem) (h : ℕ) (K : Candidates) (c : ℕ) → h < p.houses → count_below (sent p h K c) p.houses ≤ share p c
@@ -108,7 +108,7 @@ unfolding woken sent counts_of
 woken_or_sent p laws h K waits j lth on = elim (or_cases (but waits h j) _ on) [
   | inl waited ↦ or_left (but waits h j) _ waited
   | inr called ↦
-      let w = any_below-some _ (length (p.scope h)) (and_parts _ (not (p.settled && eqb j h)) called).0 in
+      let w = any_below-some _ (length (p.scope h)) (and_parts _ (not (p.visits_settle && eqb j h)) called).0 in
       let member = has_place-here (p.scope h) w.0 w.1 in
       or_right (but waits h j) _ (any_below-here (λ c. sent p h K c j) p.cells (slice_index (p.scope h) w.0)
       (scope-in laws w.0 lth w.1) (grind (arith, common_steps)))

@@ -26,7 +26,7 @@ pub record Setting : Type 0 where
   pub cells : ℕ
   pub values : ℕ
   pub bound : ℕ
-  pub settled : Bool
+  pub visits_settle : Bool
   pub by_queue : Bool
   pub start : Candidates
   pub is_solution : List ℕ → Bool
@@ -38,7 +38,7 @@ by_houses s houses = record {
   values = s.values;
   houses = length houses;
   bound = s.bound;
-  settled = s.settled;
+  visits_settle = s.visits_settle;
   by_queue = s.by_queue;
   scope = λ h. (house_of houses h).places;
   start = s.start;
@@ -76,7 +76,7 @@ pub record IsSound (s : Setting) (house : House) : Type 0 where
   pub monotone : IsMonotone house.decides
   pub keeps : (g : List ℕ) → IsGrid s.cells s.values g → s.is_solution g ≡ true
       → Keeps house.decides (map (slice_index g) house.places)
-  pub settles : s.settled ≡ true → IsSettled house.decides
+  pub settles : s.visits_settle ≡ true → IsSettled house.decides
 
 -- what the rest of a puzzle keeps to
 pub record IsSetting (s : Setting) : Type 0 where

@@ -5,15 +5,16 @@ use Rattle.grid_core.specs.Candidates.{Candidates, IsInside, IsWithin, single, c
 use Rattle.grid_core.specs.Board.{Layout, cells_of}
 use Rattle.grid_core.specs.Grids.{IsGrid}
 
--- what a rule set means: its cells, values and houses, the most visits or sweeps of one closing, whether a second
--- visit of a house in a row strikes nothing, whether closings go by a queue, the cells of a house, where a search starts,
--- what a visit of a house strikes (house, board, cell, value), and which grids are solutions
+-- what a rule set means: its cells, values and houses, the most visits or sweeps of one closing, whether a visit leaves
+-- nothing to strike for a second one of the same house in a row (`visits_settle`), whether closings go by a queue, the
+-- cells of a house, where a search starts, what a visit of a house strikes (house, board, cell, value), and which grids
+-- are solutions
 pub record RuleSystem : Type 0 where
   pub cells : ℕ
   pub values : ℕ
   pub houses : ℕ
   pub bound : ℕ
-  pub settled : Bool
+  pub visits_settle : Bool
   pub by_queue : Bool
   pub scope : ℕ → List ℕ
   pub start : Candidates
@@ -46,9 +47,9 @@ IsInsideAt scope K L =
     (c v : ℕ) → has_place scope c ≡ true → K c v ≡ true → L c v ≡ true
 
 -- how many visits a value lost by the cell can call for: one of each house that has the cell, but for the house
--- just visited where it is settled
+-- just visited where visits settle
 unfoldable pub share : RuleSystem → ℕ → ℕ
-share p c = count_below (λ h. has_place (p.scope h) c) p.houses - cond p.settled 1 0
+share p c = count_below (λ h. has_place (p.scope h) c) p.houses - cond p.visits_settle 1 0
 
 -- what every rule set keeps to
 pub record IsLawful (p : RuleSystem) : Type 0 where
@@ -63,8 +64,8 @@ pub record IsLawful (p : RuleSystem) : Type 0 where
       → IsInside (single g) p.start
   pub solutions_closed : (g : List ℕ) → IsGridOf p g → p.is_solution g ≡ true
       → IsClosed p (single g)
-  -- a visit of a settled house leaves no value of the board for a second one
-  pub settles : p.settled ≡ true → (h : ℕ) (K : Candidates) (c v : ℕ) → h < p.houses
+  -- where visits settle, one of a house leaves no value of the board for a second one
+  pub settles : p.visits_settle ≡ true → (h : ℕ) (K : Candidates) (c v : ℕ) → h < p.houses
       → v < p.values → after p h K c v ≡ true → p.strikes h (after p h K) c v ≡ false
   -- the bound is large enough: in a queue for each house once, and each cell's houses once more for each value that the cell
   -- can lose; in sweeps for each value that the cells can lose, and one sweep more

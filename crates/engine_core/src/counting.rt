@@ -37,7 +37,8 @@ pub trait Counting<S: RuleSet>: Drop + Sized {
         ensures follows { follows set.now self.new (has board.now) }
         ensures keeps { (needs : Needs) → serves self.old needs → serves self.new needs };
 
-    /// Goes along with the change of a cell, whose sets are given as bits.
+    /// Goes along with the change of a cell, whose sets are given as bits. Whichever board had the counts before, the board
+    /// with this change has them after.
     fn change(&mut self, set: &S, table: &HouseTable, place: usize, before: u32, after: u32)
         requires table { table.now ≡ table_of (S.system (S.puzzle_of set.now))
             (S.scopes (S.puzzle_of set.now)) }
@@ -49,7 +50,7 @@ pub trait Counting<S: RuleSet>: Drop + Sized {
             → follows set.now self.new L }
         ensures keeps { (needs : Needs) → serves self.old needs → serves self.new needs };
 
-    /// Whether the house may strike anything from a board with these counts.
+    /// Whether the house may strike anything from some board with these counts: if not, it strikes nothing from any.
     fn may_strike(&self, set: &S, house: usize) -> bool
         requires house_in { house < (S.system (S.puzzle_of set.now)).houses }
         requires counted { IsCounted (follows set.now) self.now }

@@ -101,7 +101,7 @@ pub trait RuleSet: Drop + Sized {
     /// The rules keep to what every search relies on.
     ghost lawful: { (puzzle : Self.Puzzle) → known puzzle → IsLawful (system puzzle) };
 
-    ghost settled_is: { (puzzle : Self.Puzzle) → (system puzzle).settled ≡ SETTLED };
+    ghost settled_is: { (puzzle : Self.Puzzle) → (system puzzle).visits_settle ≡ SETTLED };
 
     ghost mode_is: { (puzzle : Self.Puzzle) → (system puzzle).by_queue ≡ is_queue MODE };
 

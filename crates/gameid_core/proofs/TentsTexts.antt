@@ -62,7 +62,7 @@ record IsSpelled (places counts text : List ℕ) (all : TentsSoFar) (tokens : Li
   parts : text ≡ map tents_token_byte tokens ++ numbers_text numerals
   each : AllByRecursion IsTentsToken tokens
   digits : AllByRecursion IsNumeral numerals
-  filled : places ++ flat_map tents_token_cells tokens ≡ all.places
+  filled : places ++ flat_map tents_token_cells tokens ≡ all.cells
   counted : counts ++ map value numerals ≡ all.counts
   late : 0 < length counts → tokens ≡ []
 
@@ -207,7 +207,7 @@ module _ (size : Extent) where
 
   sound_read : (at : ℕ) (places counts : List ℕ) (ws : List (List ℕ)) (all : TentsSoFar)
       → Sound places counts → read_words at (at_tents places counts) ws ≡ Ok all
-      → Sound all.places all.counts × (length all.counts ≡ lines_of size)
+      → Sound all.cells all.counts × (length all.counts ≡ lines_of size)
   unfolding reading
   sound_read at places counts [] all s e = grind arith
   sound_read at places counts (word ∷ ws) all s e =
@@ -228,7 +228,7 @@ module _ (size : Extent) where
     pub bits : AllByRecursion (λ b. b < 2) (take (cells_in size) places)
 
   pub record TentsRead (s : TentsSoFar) : Type 0 where
-    pub cells : CellsAndTree s.places
+    pub cells : CellsAndTree s.cells
     pub lines : length s.counts ≡ lines_of size
     pub range : AreCounts size 0 s.counts
 
@@ -237,7 +237,7 @@ module _ (size : Extent) where
 
   pub tents_lawful : (at : ℕ) (description : List ℕ) (s : TentsSoFar) → IsWide size
       → tents_at size at description ≡ Ok s
-      → IsTents (record { size = size; trees = take (cells_in size) s.places; counts = s.counts })
+      → IsTents (record { size = size; trees = take (cells_in size) s.cells; counts = s.counts })
   tents_lawful at description s wide e = grind (arith, tents_read at description s wide e)
 
   -- a byte of the trees is a token, and its places are taken or refused
@@ -348,7 +348,7 @@ tents_takes text p e =
     (λ head description. tents_at (extent_of head.size) head.description description)
     (λ head s. record {
       size = extent_of head.size;
-      trees = take (head.size.w * head.size.h) s.places;
+      trees = take (head.size.w * head.size.h) s.cells;
       counts = s.counts;
     }) e in
     let wide = wide_of r.head.size.w r.head.size.h r.is_head.range in

@@ -46,7 +46,7 @@ pub use Rattle.gameid_core.specs.Lines.{lines_ones, lines_runs, ones}
 pub use Rattle.gameid_core.specs.OneText.{HasOneReading, HasOneText}
 pub use Rattle.gameid_core.specs.Puzzles.{AreClues, AreCounts, IsClue, IsLight, IsLightCell, IsPattern, IsSolo, IsTents, IsWide, Light, Pattern, Solo, Tents, pattern_puzzle, solo_n, solo_puzzle, tents_puzzle, used}
 pub use Rattle.gameid_core.specs.SizeText.{IsSizeText, IsSoloSizeText, size_text, solo_size_text}
-pub use Rattle.gameid_core.specs.Steps.{Fails, Gives, first_row, ◌>>=◌}
+pub use Rattle.gameid_core.specs.Steps.{Fails, Gives, first_that_holds, ◌>>=◌}
 unfoldable pub use Rattle.gameid_core.specs.Steps.{reading}
 pub use Rattle.gameid_core.specs.Words.{Cuts, IsNumeral, IsPlain, after_digits, begins, digits_front, is_byte, is_lead, joins, value, value_after}
 unfoldable pub use Rattle.gameid_core.specs.Words.{words}

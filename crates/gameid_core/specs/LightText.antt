@@ -7,7 +7,7 @@ use Rattle.gameid_core.specs.declared.id.game.Game.TheVariants as game
 use Rattle.gameid_core.specs.declared.light_up.cell.LightCell.{LightCell}
 use Rattle.gameid_core.specs.declared.light_up.cell.LightCell.TheVariants.{White, Black, Numbered}
 use Rattle.gameid_core.specs.Words.{begins, is_byte}
-use Rattle.gameid_core.specs.Steps.{◌>>=◌, first_row, reading}
+use Rattle.gameid_core.specs.Steps.{◌>>=◌, first_that_holds, reading}
 use Rattle.gameid_core.specs.Head.{HeadRead, extent_of, max_id}
 use Rattle.gameid_core.specs.IdTexts.{puzzle_of}
 use Rattle.gameid_core.specs.SizeText.{size_text, IsSizeText}
@@ -66,7 +66,7 @@ pub record IsWrittenLight (text : List ℕ) (p : Light) : Type 0 where
 -- the cells of a token, which is one byte, or its fault
 unfoldable pub light_token : ℕ → List ℕ → Result (List LightCell) IdFault
 light_token at word =
-    first_row (
+    first_that_holds (
     (begins is_letter word, Ok (replicate (slice_index word 0 - 96) White))
     ∷ (begins (is_byte 66) word, Ok (Black ∷ []))
     ∷ (begins (λ b. nat_le 48 b && nat_le b 52) word, Ok (Numbered (slice_index word 0 - 48) ∷ []))

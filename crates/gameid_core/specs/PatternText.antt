@@ -8,7 +8,7 @@ use Rattle.gameid_core.specs.declared.id.fault.IdFault.{IdFault}
 use Rattle.gameid_core.specs.declared.id.fault.IdFault.TheVariants.{BadByte, NumberRange, LineTooFull, TooFew, TooMany}
 use Rattle.gameid_core.specs.declared.id.game.Game.TheVariants as game
 use Rattle.gameid_core.specs.Words.{IsNumeral, IsPlain, begins, is_byte, words, value}
-use Rattle.gameid_core.specs.Steps.{◌>>=◌, first_row, reading}
+use Rattle.gameid_core.specs.Steps.{◌>>=◌, first_that_holds, reading}
 use Rattle.gameid_core.specs.Head.{HeadRead, extent_of, max_id}
 use Rattle.gameid_core.specs.IdTexts.{puzzle_of}
 use Rattle.gameid_core.specs.SizeText.{size_text, IsSizeText}
@@ -49,7 +49,7 @@ pub record SoFar : Type 0 where
 -- a number is read, in a line of so many cells, of which the clue's numbers before it use some
 unfoldable pub clue_number : ℕ → ℕ → ℕ → ℕ → List ℕ → Result ℕ IdFault
 clue_number cells line before at digits =
-    first_row (
+    first_that_holds (
     (value digits == 0, Err (NumberRange at))
     ∷ (nat_lt cells (before + value digits), Err (LineTooFull line))
     ∷ []) (Ok (value digits))
@@ -66,7 +66,7 @@ clue_token cells line (n ∷ clue) at word =
 -- '/' ends a clue, and is refused after the last one
 abbrev pub pattern_step : Extent → ℕ → SoFar → List ℕ → Result SoFar IdFault
 pattern_step size at s word =
-    first_row (
+    first_that_holds (
     (begins (is_byte 47) word && (length s.clues + 1 == lines_of size), Err TooMany)
     ∷ (begins (is_byte 47) word, Ok (record { clues = s.clues ++ s.clue ∷ []; clue = [] }))
     ∷ []) (clue_token (line_cells size (length s.clues)) (length s.clues) s.clue at word

@@ -6,7 +6,7 @@ use Rattle.gameid_core.specs.declared.id.fault.IdFault.{IdFault}
 use Rattle.gameid_core.specs.declared.id.fault.IdFault.TheVariants.{BadByte, NumberRange}
 use Rattle.gameid_core.specs.declared.id.game.Game.TheVariants as game
 use Rattle.gameid_core.specs.Words.{begins, is_byte, is_lead, words, value}
-use Rattle.gameid_core.specs.Steps.{◌>>=◌, first_row, reading}
+use Rattle.gameid_core.specs.Steps.{◌>>=◌, first_that_holds, reading}
 use Rattle.gameid_core.specs.Head.{HeadRead, max_id}
 use Rattle.gameid_core.specs.IdTexts.{puzzle_of}
 use Rattle.gameid_core.specs.SizeText.{solo_size_text, IsSoloSizeText}
@@ -86,7 +86,7 @@ pub record IsWrittenSolo (text : List ℕ) (p : Solo) : Type 0 where
 -- the cells of a token, or its fault, by its first byte
 unfoldable pub solo_token : ℕ → ℕ → List ℕ → Result (List ℕ) IdFault
 solo_token n at word =
-    first_row (
+    first_that_holds (
     (begins is_letter word, Ok (replicate (slice_index word 0 - 96) 0))
     ∷ (begins (is_byte 95) word, Ok [])
     ∷ (begins is_lead word && nat_lt n (value word), Err (NumberRange at))

@@ -6,7 +6,7 @@ use Rattle.gameid_core.specs.declared.id.fault.IdFault.{IdFault}
 use Rattle.gameid_core.specs.declared.id.fault.IdFault.TheVariants.{BadByte, NumberRange, TooFew, TooMany}
 use Rattle.gameid_core.specs.declared.id.game.Game.TheVariants as game
 use Rattle.gameid_core.specs.Words.{IsNumeral, IsPlain, begins, is_byte, words, value}
-use Rattle.gameid_core.specs.Steps.{◌>>=◌, first_row, reading}
+use Rattle.gameid_core.specs.Steps.{◌>>=◌, first_that_holds, reading}
 use Rattle.gameid_core.specs.Head.{HeadRead, extent_of, max_id}
 use Rattle.gameid_core.specs.IdTexts.{puzzle_of}
 use Rattle.gameid_core.specs.SizeText.{size_text, IsSizeText}
@@ -67,7 +67,7 @@ pub record IsWrittenTents (text : List ℕ) (p : Tents) : Type 0 where
 
 -- what was read so far: the cells, with the tree after them where that is read, and the numbers
 pub record TentsSoFar : Type 0 where
-  pub places : List ℕ
+  pub cells : List ℕ
   pub counts : List ℕ
 
 abbrev pub cells_in : Extent → ℕ
@@ -76,7 +76,7 @@ cells_in size = size.w * size.h
 -- the blanks that a byte of the trees stands for, and whether a tree follows them
 unfoldable pub tents_run : ℕ → ℕ → Result (ℕ × Bool) IdFault
 tents_run at b =
-    first_row (
+    first_that_holds (
     (b == 95, Ok (0, true))
     ∷ (nat_le 97 b && nat_le b 121, Ok (b - 96, true))
     ∷ (b == 122, Ok (25, false))
@@ -85,18 +85,18 @@ tents_run at b =
 abbrev pub run_cells : ℕ → Bool → List ℕ
 run_cells blanks tree = replicate blanks 0 ++ (if tree then 1 ∷ [] else [])
 
--- a token of the trees: the places may pass the cells by the one tree after them
+-- a token of the trees: what was read may pass the grid by the one tree after it
 unfoldable pub tents_tree : Extent → ℕ → TentsSoFar → ℕ → Result TentsSoFar IdFault
 tents_tree size at s b = tents_run at b >>= (λ run.
     if nat_lt (cells_in size + (if run.1 then 1 else 0))
-    (length s.places + length (run_cells run.0 run.1)) then Err TooMany
-    else Ok (record { places = s.places ++ run_cells run.0 run.1; counts = s.counts }))
+    (length s.cells + length (run_cells run.0 run.1)) then Err TooMany
+    else Ok (record { cells = s.cells ++ run_cells run.0 run.1; counts = s.counts }))
 
 -- a ',' and a line's number
 unfoldable pub tents_count : Extent → ℕ → TentsSoFar → List ℕ → Result ℕ IdFault
 tents_count size at s word =
-    first_row (
-    (nat_lt (length s.places) (cells_in size + 1), Err TooFew)
+    first_that_holds (
+    (nat_lt (length s.cells) (cells_in size + 1), Err TooFew)
     ∷ (length s.counts == lines_of size, Err TooMany)
     ∷ (length word == 1, Err (BadByte at))
     ∷ (nat_lt (line_cells size (length s.counts)) (value (drop 1 word)), Err (NumberRange (at + 1)))
@@ -105,10 +105,10 @@ tents_count size at s word =
 -- ',' begins a number; any other token belongs to the trees, and is refused once a number stands
 abbrev pub tents_step : Extent → ℕ → TentsSoFar → List ℕ → Result TentsSoFar IdFault
 tents_step size at s word =
-    first_row ((
+    first_that_holds ((
       begins (is_byte 44) word,
       tents_count size at s word
-          >>= (λ n. Ok (record { places = s.places; counts = s.counts ++ n ∷ [] })),
+          >>= (λ n. Ok (record { cells = s.cells; counts = s.counts ++ n ∷ [] })),
     )
     ∷ (nat_lt 0 (length s.counts), Err (BadByte at))
     ∷ []) (tents_tree size at s (slice_index word 0))
@@ -116,19 +116,19 @@ tents_step size at s word =
 abbrev pub tents_end : Extent → TentsSoFar → Result TentsSoFar IdFault
 tents_end size s = if length s.counts == lines_of size then Ok s else Err TooFew
 
-abbrev pub no_places : TentsSoFar
-no_places = record { places = []; counts = [] }
+abbrev pub nothing_read : TentsSoFar
+nothing_read = record { cells = []; counts = [] }
 
--- the places and numbers of a description that begins at that place
+-- the cells and numbers of a description that begins at that place
 abbrev pub tents_at : Extent → ℕ → List ℕ → Result TentsSoFar IdFault
 tents_at size at description =
-    reading (tents_step size) (tents_end size) at no_places (words description)
+    reading (tents_step size) (tents_end size) at nothing_read (words description)
 
 -- the puzzle that the description spells behind a head, or its first fault
 abbrev pub tents_behind : HeadRead → List ℕ → Result Tents IdFault
 tents_behind head description = do
   s ← tents_at (extent_of head.size) head.description description
-  Ok (tents_puzzle (extent_of head.size) (take (head.size.w * head.size.h) s.places) s.counts)
+  Ok (tents_puzzle (extent_of head.size) (take (head.size.w * head.size.h) s.cells) s.counts)
 
 -- the puzzle that the text spells, or its first fault
 abbrev pub tents_of : List ℕ → Result Tents IdFault

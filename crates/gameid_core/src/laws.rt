@@ -6,7 +6,7 @@ ghost use Rattle.gameid_core.specs.Common.{Extent, FailsHead, FailsSize, FirstFa
 ghost use Rattle.gameid_core.specs.LightText.{IsWrittenLight, SpellsLight, light_cells_at, light_of, light_text, light_token};
 ghost use Rattle.gameid_core.specs.PatternText.{IsWrittenPattern, SpellsPattern, clues_at, nothing_yet, pattern_end, pattern_of, pattern_step, pattern_text};
 ghost use Rattle.gameid_core.specs.SoloText.{IsWrittenSolo, SpellsSolo, solo_cells_at, solo_of, solo_text, solo_token};
-ghost use Rattle.gameid_core.specs.TentsText.{IsWrittenTents, SpellsTents, tents_at, tents_end, tents_of, tents_step, tents_text, no_places};
+ghost use Rattle.gameid_core.specs.TentsText.{IsWrittenTents, SpellsTents, tents_at, tents_end, tents_of, tents_step, tents_text, nothing_read};
 
 /// A text of more bytes than an ID may have is too long, whatever they are.
 #[tactic(auto, using(crate::proofs::HeadLaws::puzzle_too_long))]
@@ -42,7 +42,7 @@ pub fn first_fault()
         (map (λ b. b ∷ []) description) f }
     ensures tents { (size : Extent) (at : ℕ) (description : List ℕ) (f : IdFault)
         → (tents_at size at description ≡ Err f)
-        ↔ FirstFault (tents_step size) (tents_end size) at no_places (words description) f }
+        ↔ FirstFault (tents_step size) (tents_end size) at nothing_read (words description) f }
 {}
 
 /// Each text spells exactly one puzzle of a game or has exactly one fault, and never both.

@@ -40,6 +40,7 @@ pub use Rattle.grid_core.specs.Candidates.{Candidates, IsInside, IsWithin, max_c
 unfoldable pub use Rattle.grid_core.specs.Candidates.{all_below, all_of, any_below, better, count_below, grid_of, is_dead, is_full, least_below, only}
 unfoldable pub use Rattle.grid_core.specs.Candidates.{pick, single, sum_below, total, with_set, with_value, without}
 pub use Rattle.grid_core.specs.Extent.{Extent, IsExtent, max_side}
+pub use Rattle.grid_core.specs.Grids.{IsGrid}
 pub use Rattle.grid_core.specs.Pairings.{IsShortSet}
 pub use Rattle.grid_core.specs.Planes.{ArePlanes, AreTakings, AreTurned, AreWords, HasLine, HasLost, HasRoomFor, IsFresh, IsFurther, IsLineIn}
 pub use Rattle.grid_core.specs.Planes.{IsTakingIn, IsThere, Layers, Taking, at_line, back_at, cells_of, layers_of, line_len, no_taking, taking_at}

@@ -36,7 +36,8 @@ impl<W: Word> Model for Planes<W> {
 
     ghost Value = { Layers };
 
-    ghost view = { λ p. layers_of W.bits p.size p.rows.items p.columns.items p.changes.items p.len };
+    ghost view = { λ p.
+        layers_of W.bits p.size p.rows.items p.columns.items p.changes.items p.len };
 
     ghost invariant = { λ p. ArePlanes W.room
         (layers_of W.bits p.size p.rows.items p.columns.items p.changes.items p.len) };
@@ -132,7 +133,8 @@ impl<W: Word> Planes<W> {
         requires line_in { number_of line < lines_beside self.now.size line }
         requires value_in { value < 2 }
         ensures cells { (k : ℕ) → has_bit (W.bits result) k ≡ at_line self.now line value k }
-        ensures within { (k : ℕ) → has_bit (W.bits result) k ≡ true → k < line_len self.now.size line }
+        ensures within { (k : ℕ) → has_bit (W.bits result) k ≡ true
+            → k < line_len self.now.size line }
         ensures fits { line_len self.now.size line ≤ W.room }
         ensures lawful { ArePlanes W.room self.now }
     {

@@ -10,7 +10,7 @@ use Rattle.grid_core.specs.Extent.{Extent, IsExtent}
 use Rattle.grid_core.specs.Candidates.{IsInside, all_of, single, sum_below, count_below}
 use Rattle.grid_core.specs.Grids.{IsGrid}
 use Rattle.grid_core.proofs.CandidateLemmas.{all_below-at, all_below-from, count_below-few, count_below-or}
-use Rattle.grid_core.proofs.GridLemmas.{single-is}
+use Rattle.grid_core.proofs.GridLemmas.{single-all, all-within}
 use Rattle.grid_core.proofs.LineLemmas.{column-places, row-places, length-line_places, place_in_column, place_in_row, line_numbers-column, line_numbers-row, line_numbers-places, few_cells}
 use Rattle.grid_core.specs.Lines.{lines_of, line_places, line_numbers}
 use Rattle.gameid_core.specs.Puzzles.{Pattern}
@@ -113,14 +113,6 @@ pub is_solution-from : (p : Pattern) (g : List ℕ) → IsPatternSolution p g �
 is_solution-from p g s = is_solution-each p g (λ line lt. line_of_solution line lt s)
 
 -- ---- the laws
-single-all : {cells values : ℕ} {g : List ℕ} → IsGrid cells values g → IsInside (single g) (all_of cells values)
-unfolding all_of
-single-all grid = grind (arith, common_steps, cases_Bool, single-is, lt-ltb, and_from)
-
-all-within : {cells : ℕ} (values c v : ℕ) → all_of cells values c v ≡ true → (c < cells) × (v < values)
-unfolding all_of
-all-within {cells} values c v on = let w = and_parts _ _ on in (ltb-true c cells w.0, ltb-true v values w.1)
-
 pub line_rules-lawful : (p : Pattern) → IsExtent p.size → IsLawful (line_rules p)
 unfolding after
 line_rules-lawful p extent = record {

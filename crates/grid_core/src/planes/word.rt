@@ -34,19 +34,23 @@ pub trait Word: Copy + Drop {
 
     /// The places that both have.
     fn both(self, other: Self) -> Self
-        ensures { (p : ℕ) → has_bit (bits result) p ≡ (has_bit (bits self) p && has_bit (bits other) p) };
+        ensures { (p : ℕ) → has_bit (bits result) p
+            ≡ (has_bit (bits self) p && has_bit (bits other) p) };
 
     /// The places that one of the two has, or both.
     fn either(self, other: Self) -> Self
-        ensures { (p : ℕ) → has_bit (bits result) p ≡ (has_bit (bits self) p || has_bit (bits other) p) };
+        ensures { (p : ℕ) → has_bit (bits result) p
+            ≡ (has_bit (bits self) p || has_bit (bits other) p) };
 
     /// The places that just one of the two has.
     fn differ(self, other: Self) -> Self
-        ensures { (p : ℕ) → has_bit (bits result) p ≡ differ (has_bit (bits self) p) (has_bit (bits other) p) };
+        ensures { (p : ℕ) → has_bit (bits result) p
+            ≡ differ (has_bit (bits self) p) (has_bit (bits other) p) };
 
     /// The places but the other's.
     fn but(self, other: Self) -> Self
-        ensures { (p : ℕ) → has_bit (bits result) p ≡ (has_bit (bits self) p && not (has_bit (bits other) p)) };
+        ensures { (p : ℕ) → has_bit (bits result) p
+            ≡ (has_bit (bits self) p && not (has_bit (bits other) p)) };
 
     /// Whether it has the place.
     fn has(self, place: usize) -> bool
