@@ -125,7 +125,7 @@ abbrev pub NamesSetNoStrongerThanSearch : Answer → Type 0
 NamesSetNoStrongerThanSearch answer = (set : RuleSet) × (is_within_search set ≡ true)
     × Begins (rule_set_text set ++ codes "\n") answer.text
 
--- it does exactly where a search without a trial tells the one solution
+-- the grade names one exactly where a search without a trial tells the one solution
 abbrev pub RuleSetsNeedNoTrial : Type 0
 RuleSetsNeedNoTrial = (game : Game) (id : Text) (budget : ℕ) (traced : Bool)
     (solved graded : Answer)
@@ -186,15 +186,15 @@ abbrev pub SoloNeedsItsClues : Type 0
 SoloNeedsItsClues = (c r : ℕ) (x : Bool) (budget tries : ℕ) (s : Stream) (p : Solo) (g : List ℕ)
     (kept : List Kept) (place : ℕ)
     → IsSoloMade c r x budget tries s p g kept → IsNeeded kept place
-    → (id : Text) (any : ℕ) (said : Answer) → SpellsSolo id (solo_game.without p place)
-    → AllowsSolve (game_of game.Solo) id any said → said.status ≢ code_of Fine
+    → (id : Text) (other : ℕ) (said : Answer) → SpellsSolo id (solo_game.without p place)
+    → AllowsSolve (game_of game.Solo) id other said → said.status ≢ code_of Fine
 
 abbrev pub LightsNeedTheirClues : Type 0
 LightsNeedTheirClues = (size : Extent) (black budget tries : ℕ) (s : Stream) (p : Light)
     (g : List ℕ) (kept : List Kept) (place : ℕ)
     → IsLightMade size black budget tries s p g kept → IsNeeded kept place
-    → (id : Text) (any : ℕ) (said : Answer) → SpellsLight id (light_game.without p place)
-    → AllowsSolve (game_of game.LightUp) id any said → said.status ≢ code_of Fine
+    → (id : Text) (other : ℕ) (said : Answer) → SpellsLight id (light_game.without p place)
+    → AllowsSolve (game_of game.LightUp) id other said → said.status ≢ code_of Fine
 
 -- one answer is allowed, and no other
 pub record HasOneAnswer (allows : Answer → Type 0) : Type 0 where

@@ -18,8 +18,8 @@ pub record GameFacts (P : Type 0) : Type 1 where
   pub solves : P → List ℕ → Type 0
   pub rules : P → RuleSystem
   pub checks : P → List ℕ → Answer → Type 0
-  -- the rule sets that are tried in turn, and the name of the house with that number: empty where
-  -- closings go by sweeps, whose traces name no house
+  -- the rule sets that are tried in turn, and the name of the house with that number, the same in all
+  -- of them: empty where closings go by sweeps, whose traces name no house
   pub sets : P → List NamedRules
   pub visit_name : P → ℕ → Text
   -- the size that a text is, within the limits of what is made, or its first fault

@@ -2,7 +2,7 @@
 use Rattle.std.specs.Prelude.{◌≡◌, ◌≢◌, ℕ, true, false, List, [], ◌∷◌, Option, slice_index_or}
 use Rattle.gameid_core.specs.FirstFailed.{IsAnswerOfCheck, tests_of}
 use Rattle.gameid_core.specs.Puzzles.{Light}
-use Rattle.gameid_core.specs.declared.light_up.cell.LightCell.TheVariants.{Black as black, Numbered}
+use Rattle.gameid_core.specs.declared.light_up.cell.LightCell.TheVariants.{Black as BlackCell, Numbered}
 use Rattle.fields_core.specs.Light.{light_cells, white, bulb, bulbs_beside}
 use Rattle.fields_core.specs.LightSolutions.{IsLightSolution, SeesBulb}
 use Rattle.fields_core.specs.declared.light_up.fault.LightFault.{LightFault}
@@ -13,7 +13,7 @@ use Rattle.fields_core.specs.declared.light_up.fault.LightFault.TheVariants.{Bla
 abbrev pub FailsLight : Light → List ℕ → LightFault → Type 0
 FailsLight p g (Black c) = (bulb g c ≡ true) × (white p c ≡ false)
 FailsLight p g (Number c) =
-    (n : ℕ) × (slice_index_or p.cells c black ≡ Numbered n) × (bulbs_beside p g c ≢ n)
+    (n : ℕ) × (slice_index_or p.cells c BlackCell ≡ Numbered n) × (bulbs_beside p g c ≢ n)
 FailsLight p g (Seen c) = (bulb g c ≡ true) × SeesBulb p g c
 FailsLight p g (Dark c) = (white p c ≡ true) × (bulb g c ≡ false) × (SeesBulb p g c → ⊥)
 

@@ -12,7 +12,7 @@ use Rattle.gameid_core.proofs.LightTexts.{wide_of, sized}
 use Rattle.gameid_core.specs.declared.id.game.Game.TheVariants as game
 
 abbrev pub at_tents : List ℕ → List ℕ → TentsSoFar
-at_tents places counts = record { places = places; counts = counts }
+at_tents cells counts = record { cells = cells; counts = counts }
 
 -- some digit is in front
 pub front_some : (after : List ℕ) → begins is_ascii_digit after ≡ true → length (44 ∷ digits_front after) ≡ 1 → ⊥

@@ -85,7 +85,7 @@ tents_run at b =
 abbrev pub run_cells : ℕ → Bool → List ℕ
 run_cells blanks tree = replicate blanks 0 ++ (if tree then 1 ∷ [] else [])
 
--- a token of the trees: what was read may pass the grid by the one tree after it
+-- a token of the trees: one with a tree may pass the grid by one, the tree after it
 unfoldable pub tents_tree : Extent → ℕ → TentsSoFar → ℕ → Result TentsSoFar IdFault
 tents_tree size at s b = tents_run at b >>= (λ run.
     if nat_lt (cells_in size + (if run.1 then 1 else 0))

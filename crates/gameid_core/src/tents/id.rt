@@ -48,8 +48,8 @@ fn run_of(at: usize, first: u8) -> Result<(usize, bool), IdFault>
 /// Adds the places that a byte of the trees stands for.
 #[tactic(auto, using(crate::proofs::TentsTexts::run_length), unfolding(crate::specs::TentsText::tents_tree))]
 fn take_places(size: Size, at: usize, first: u8, places: &mut Vec<u8>) -> Result<(), IdFault>
-    ensures { Gives (λ done. record { places = places.new.items; counts = [] }) result
-        (tents_tree size at (record { places = places.old.items; counts = [] }) first) }
+    ensures { Gives (λ done. record { cells = places.new.items; counts = [] }) result
+        (tents_tree size at (record { cells = places.old.items; counts = [] }) first) }
 {
     let (blanks, tree) = run_of(at, first)?;
     let more = blanks + usize::from(tree);
@@ -70,7 +70,7 @@ fn count_at<'a>(
 ) -> Result<(u8, &'a [u8]), IdFault>
     requires { at < 2 ^ 32 }
     ensures { TakesNumber
-        (tents_count size at (record { places = places.now; counts = counts.now }))
+        (tents_count size at (record { cells = places.now; counts = counts.now }))
         (44 ∷ after.now) result }
 {
     if places.len() <= size.cells() {
@@ -98,7 +98,7 @@ fn parts(
     description: &[u8],
 ) -> Result<(Vec<u8>, Vec<u8>), IdFault>
     requires { base + length description.now < 2 ^ 32 }
-    ensures { Gives (λ x. record { places = x.0.items; counts = x.1.items }) result
+    ensures { Gives (λ x. record { cells = x.0.items; counts = x.1.items }) result
         (tents_at size base description.now) }
 {
     let lines = line_count(size);
