@@ -1,11 +1,10 @@
 -- What closings by plain visits work in. No public contract uses these words.
 use Rattle.std.specs.Prelude.{◌≡◌, ℕ, Bool, true, false, ◌||◌, List, length, if◌then◌else◌}
-use Rattle.std.specs.List.{range_with_len}
 use Rattle.grid_core.specs.Board.{Layout, has, cells_of, SameShape}
-use Rattle.grid_core.specs.Candidates.{Candidates, is_dead}
-use Rattle.engine_core.specs.RuleSystem.{RuleSystem, Needs, after, IsClosed}
-use Rattle.engine_core.specs.Closing.{HasStruck, replay}
-use Rattle.engine_core.specs.Queue.{IsRested, IsWoken}
+use Rattle.grid_core.specs.Candidates.{is_dead}
+use Rattle.engine_core.specs.RuleSystem.{RuleSystem, Needs, after}
+use Rattle.engine_core.specs.Closing.{HasStruck}
+use Rattle.engine_core.specs.Queue.{IsWoken}
 use Rattle.engine_core.specs.Waiting.{words_of, is_waiting}
 use Rattle.engine_core.specs.declared.closing.closer.Effect.{Effect}
 
@@ -41,12 +40,3 @@ pub record IsVisited (p : RuleSystem) (h : ℕ) (from to : BoardAndMarks) (effec
       ≡ (is_dead p.cells p.values (has from.board) || effect.dead)
   pub woken : IsWoken p h (has from.board) (has to.board) (is_waiting from.waits)
       (is_waiting to.waits)
-
--- a sweep of the board K left the board E
-pub record IsWholeSweep (p : RuleSystem) (K E : Candidates) (waits : ℕ → Bool) (effect : Effect)
-    : Type 0 where
-  pub left : E ≡ replay p K (range_with_len 0 p.houses)
-  pub idle : effect.struck ≡ false → (E ≡ K) × IsClosed p K
-  pub struck : effect.struck ≡ true → HasStruck K E
-  pub dead : is_dead p.cells p.values E ≡ effect.dead
-  pub rested : IsRested p E waits

@@ -2,5 +2,4 @@
 
 pub(crate) mod closer;
 pub(crate) mod marking;
-pub(crate) mod queue;
-pub(crate) mod sweeps;
+mod run;

@@ -3,7 +3,7 @@
 
 ghost use Rattle.std.specs.Prelude.{◌≡◌, ℕ, ◌/◌, ◌<◌, ◌≤◌, ◌&&◌, ◌||◌, ◌==◌, not, length};
 ghost use Rattle.engine_core.specs.RuleSystem.{IsNext};
-ghost use Rattle.engine_core.specs.Queue.{but, IsAnyOf};
+ghost use Rattle.engine_core.specs.Queue.{but, IsAround};
 ghost use Rattle.engine_core.specs.Waiting.{words_of, is_waiting};
 ghost use Rattle.engine_core.specs.Sets.{has_bit as is_set};
 
@@ -87,7 +87,7 @@ pub(crate) fn next_waiting(waits: &[u64], from: usize, houses: usize) -> Option<
 /// A house that waits: the least at or after `from`, or else the least of all.
 pub(crate) fn next_around(waits: &[u64], from: usize, houses: usize) -> Option<usize>
     requires { words_of houses ≤ length waits.now }
-    ensures { IsAnyOf (is_waiting waits.now) houses result }
+    ensures { IsAround (is_waiting waits.now) houses from result }
 {
     match next_waiting(waits, from, houses) {
         Some(house) => Some(house),

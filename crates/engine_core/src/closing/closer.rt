@@ -174,11 +174,7 @@ impl<R: Rules> Closer<R> {
             };
         }
         self.waits.fill(u64::MAX);
-        if by_queue::<R>() {
-            self.run_queue(rules)
-        } else {
-            self.run_sweeps(rules)
-        }
+        self.run(rules)
     }
 
     /// Whether the grid of the full board is a solution. It is written to `grid`.

@@ -11,7 +11,6 @@ ghost use Rattle.engine_core.specs.Waiting.{words_of};
 use crate::houses::sets::cell_bits;
 use crate::mode::Closing;
 use crate::needs::{Needs, needs_for};
-use crate::rules::by_queue;
 use crate::search::position::{Position, Taken};
 use crate::trail::agenda::wait_from;
 use crate::trail::cells::{better_cell, write_grid};
@@ -121,11 +120,7 @@ impl<R: Propagators> Position for TrailPosition<R> {
             };
         }
         wait_from(rules, from, &self.counts, &mut self.waits);
-        if by_queue::<R>() {
-            self.run_queue(rules)
-        } else {
-            self.run_sweeps(rules)
-        }
+        self.run(rules)
     }
 
     fn pick(&self, rules: &R, from: usize) -> Option<usize> {

@@ -27,8 +27,5 @@ returns-then-has_empty_cell-clause-closing g c =
     (has c.self.inside.board) (within_of p _ of)
     (sym (dead_of p of) ∙ (sym c.has_empty_cell.ensures ∙ c.if-has_empty_cell.true)))
 
-pub run_queue-requires-clause-rested : goal.run_queue-requires-clause-rested
-run_queue-requires-clause-rested g c = rested g (goal.at.run_queue-requires-clause-rested g c).After-fill
-
-pub run_sweeps-requires-clause-rested : goal.run_sweeps-requires-clause-rested
-run_sweeps-requires-clause-rested g c = rested g (goal.at.run_sweeps-requires-clause-rested g c).After-fill
+pub run-requires-clause-rested : goal.run-requires-clause-rested
+run-requires-clause-rested g c = rested g (goal.at.run-requires-clause-rested g c).After-fill

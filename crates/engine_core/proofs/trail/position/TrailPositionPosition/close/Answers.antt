@@ -1,10 +1,10 @@
-use Rattle.engine_core.proofs.Common.{Dead, IsClosing, IsRested, [], arith, board_in, drop, has, is_waiting, length, refl, sym, take, ◌++◌, ◌∙◌}
+use Rattle.engine_core.proofs.Common.{Dead, IsClosing, [], arith, board_in, drop, has, length, refl, sym, ◌++◌, ◌∙◌}
 use Rattle.engine_core.proofs.WaitLemmas.{written-back}
 use Rattle.engine_core.proofs.QueueLemmas.{rested_from, dead_of, within_of}
 use Rattle.engine_core.proofs.ListLemmas.{closing-none}
 use Rattle.engine_core.proofs.EndLemmas.{closed-in, taken-dead}
 use Rattle.engine_core.proofs.trail.position.TrailPositionPosition.close.Goals as goal
-use Rattle.engine_core.proofs.trail.position.TrailPositionPosition.close.Goals.{After-wait_from, Then-has_empty_cell}
+use Rattle.engine_core.proofs.trail.position.TrailPositionPosition.close.Goals.{Then-has_empty_cell}
 
 -- a board that is dead already
 dead : (g : _) (c : Then-has_empty_cell g) → IsClosing (g.R.Rules.system c.args.rules.now) (board_in c.args.self.now) (board_in c.args.self.now) Dead [] 0
@@ -23,19 +23,10 @@ returns-then-has_empty_cell-clause-turns g c =
     (λ _. refl) (λ _. refl)
 
 -- the houses that wait at first
-rested : (g : _) (c : After-wait_from g)
-    → IsRested (g.R.Rules.system c.args.rules.now) (has c.self.inside.trailed.board)
-    (is_waiting (take c.self.inside.waits.len
-    (c.wait_from.new.waits ++ drop (length c.wait_from.new.waits) c.self.inside.waits.items)))
-rested g c =
+pub run-requires-clause-rested : goal.run-requires-clause-rested
+run-requires-clause-rested g c =
     let r = rw (← c.self.view_is) at c.requires in
     rw (written-back c.self.inside.waits.len c.wait_from.new.waits
     (drop (length c.wait_from.new.waits) c.self.inside.waits.items)
     (omega (arith, c.self.inside.waits.ok.0, c.deref_mut.ensures.len, c.wait_from.auto.waits)))
     (rested_from c.args.from r.closed_but (c.wait_from.ensures.woken _ r.walks.along.follows))
-
-pub run_queue-requires-clause-rested : goal.run_queue-requires-clause-rested
-run_queue-requires-clause-rested g c = rested g (goal.at.run_queue-requires-clause-rested g c).After-wait_from
-
-pub run_sweeps-requires-clause-rested : goal.run_sweeps-requires-clause-rested
-run_sweeps-requires-clause-rested g c = rested g (goal.at.run_sweeps-requires-clause-rested g c).After-wait_from

@@ -1,0 +1,89 @@
+//! Closing by plain visits: it goes around over the houses that wait.
+
+ghost use Rattle.std.specs.Prelude.{◌≡◌, ◌-◌, ◌<◌, ◌≤◌, length, max, not, slice_set, take, true, if◌then◌else◌};
+ghost use Rattle.std.specs.Int.{from_bool};
+ghost use Rattle.grid_core.specs.Board.{has};
+ghost use Rattle.engine_core.specs.ClosingList.{IsAlive, IsClosing};
+ghost use Rattle.engine_core.specs.Closer.{SameRoom};
+ghost use Rattle.engine_core.specs.Mode.{is_queue};
+ghost use Rattle.engine_core.specs.Queue.{IsRested};
+ghost use Rattle.engine_core.specs.RuleSystem.{needs_of, FitsIn, IsBoardOf};
+ghost use Rattle.engine_core.specs.Waiting.{is_waiting};
+ghost use Rattle.engine_core.specs.declared.mode.Closing.TheVariants.{Dead, Open};
+
+use crate::closing::closer::{Closer, ClosingReport};
+use crate::mode::Closing;
+use crate::rules::{Rules, by_queue};
+use crate::waits::next_around;
+
+/// What a closing came to that made so many turns: visits of a queue, or sweeps. A last sweep counts only where it struck
+/// something, or where it is the only one.
+fn report<R: Rules>(dead: bool, turns: usize, struck: bool) -> ClosingReport
+    ensures closing { result.closing ≡ (if dead then Dead else Open) }
+    ensures visits { result.visits ≡ (if is_queue R.MODE then turns else 0) }
+    ensures sweeps { result.sweeps
+        ≡ (if is_queue R.MODE then 0 else max (turns - from_bool (not struck)) 1) }
+{
+    let closing = if dead { Closing::Dead } else { Closing::Open };
+    if by_queue::<R>() {
+        return ClosingReport {
+            closing,
+            visits: turns,
+            sweeps: 0,
+        };
+    }
+    ClosingReport {
+        closing,
+        visits: 0,
+        sweeps: turns.saturating_sub(usize::from(!struck)).max(1),
+    }
+}
+
+impl<R: Rules> Closer<R> {
+    /// Writes down a visit of a queue, by its number.
+    fn note(&mut self, number: usize, house: usize)
+        requires room { is_queue R.MODE ≡ true → number < length self.old.trace }
+        ensures board { self.new.board ≡ self.old.board }
+        ensures waits { self.new.waits ≡ self.old.waits }
+        ensures noted { is_queue R.MODE ≡ true
+            → self.new.trace ≡ slice_set self.old.trace number house }
+        ensures room { SameRoom self.old self.new }
+    {
+        if by_queue::<R>() {
+            self.trace[number] = house;
+        }
+    }
+
+    /// Closes the board: goes around over the houses that wait and visits each, until none waits, or a cell has no value. A
+    /// queue ends there, and writes down each house that it visits. A sweep goes on to its end: each visits the houses in
+    /// ascending order, and passes over those that do not wait, since they strike nothing.
+    pub(crate) fn run(&mut self, rules: &R) -> ClosingReport
+        requires fits { FitsIn (needs_of (R.system rules.now)) self.old.made }
+        requires board_of { IsBoardOf (R.system rules.now) self.old.board }
+        requires alive { IsAlive (R.system rules.now) (has self.old.board) }
+        requires rested { IsRested (R.system rules.now) (has self.old.board)
+            (is_waiting self.old.waits) }
+        ensures closing { IsClosing (R.system rules.now) (has self.old.board) (has self.new.board)
+            result.closing (take result.visits self.new.trace) result.sweeps }
+        ensures visits { result.visits ≤ length self.new.trace }
+        ensures room { SameRoom self.old self.new }
+    {
+        let by_queue = by_queue::<R>();
+        let mut turns = usize::from(!by_queue);
+        let (mut struck, mut dead) = (false, false);
+        let mut from = 0;
+        while let Some(house) = next_around(&self.waits, from, rules.houses()) {
+            let begins = by_queue | (house < from);
+            if dead & begins {
+                return report::<R>(dead, turns, struck);
+            }
+            self.note(turns, house);
+            turns += usize::from(begins);
+            from = house + 1;
+            let effect = self.step(rules, house);
+            struck = (struck & !begins) | effect.struck;
+            dead |= effect.dead;
+        }
+        report::<R>(dead, turns, struck)
+    }
+}
