@@ -1,6 +1,6 @@
 -- Boards that differ in one cell alone.
 use Rattle.engine_core.proofs.Common.{Bool, Candidates, IsBitsOf, IsBoardOf, IsChange, IsInside, Layout, RuleSystem, SameShape, arith, cases_eq, common_steps, count_below, count_below-few, eq-eqb, eqb, eqb-true, fun_ext, has, has-within, has_bit, left_by, ne_eqb, not, only, pow_below, true, ℕ, ◌&&◌, ◌<◌, ◌^◌, ◌≡◌, ◌≤◌}
-use Rattle.engine_core.proofs.BitLemmas.{bits-of_power}
+use Rattle.grid_core.proofs.WordLemmas.{power-bits}
 use Rattle.engine_core.proofs.QueueLemmas.{within_of}
 
 -- by the bits that boards give for a cell
@@ -40,11 +40,11 @@ left-change p b b' {place} left of lt was is e = rw e (record {
 -- ---- one value alone is left
 pub left-only : (K : Candidates) (place value : ℕ) → left_by K place (2 ^ value) ≡ only K place value
 unfolding left_by only
-left-only K place value = grind (arith, common_steps, bits-of_power, cases_eq, eq-eqb, ne_eqb)
+left-only K place value = grind (arith, common_steps, power-bits, cases_eq, eq-eqb, ne_eqb)
 
 pub only-bits : (K : Candidates) (place : ℕ) {value n : ℕ} → K place value ≡ true → value < n → IsBitsOf (left_by K place (2 ^ value) place) n (2 ^ value)
 unfolding left_by
-only-bits K place on lt = grind (arith, common_steps, bits-of_power, cases_eq, eq-eqb, ne_eqb, pow_below)
+only-bits K place on lt = grind (arith, common_steps, power-bits, cases_eq, eq-eqb, ne_eqb, pow_below)
 
 pub only-other : {set : ℕ → Bool} (value : ℕ) {n before : ℕ} → IsBitsOf set n before → 2 ≤ count_below set n → 2 ^ value ≡ before → ⊥
-only-other value was several e = grind (arith, common_steps, bits-of_power, count_below-few, eqb-true)
+only-other value was several e = grind (arith, common_steps, power-bits, count_below-few, eqb-true)

@@ -2,7 +2,7 @@
 use Rattle.engine_core.proofs.Common.{AreSetsOf, Candidates, IsAlive, IsBitsOf, IsDead, IsKept, IsLawful, IsWithin, List, RuleSystem, after, and_from, and_le_l, and_left, arith, bit_and, cases_Bool, cases_eq, common_steps, count_below-le, counts_of, eq-eqb, eqb-true, false, false_from_ne_true, has_place, has_place-at, is_dead-each, is_dead-here, is_dead-not, length, ne_eqb, slice_index, true, ℕ, ◌<◌, ◌≡◌, ◌≢◌, ◌⊎◌}
 use Rattle.engine_core.proofs.QueueLemmas.{after-outside, scope-in}
 use Rattle.engine_core.proofs.SetLemmas.{bits-empty}
-use Rattle.engine_core.proofs.BitLemmas.{bits-both}
+use Rattle.grid_core.proofs.WordLemmas.{both-bits}
 
 -- where nothing is struck, the board stays
 pub kept-none : {p : RuleSystem} (laws : IsLawful p) {h : ℕ} {K : Candidates} {kept : List ℕ}
@@ -14,7 +14,7 @@ kept-none laws lth within is = grind (arith, common_steps, and_from, and_left, c
 pub kept-left : {p : RuleSystem} {h : ℕ} {K : Candidates} {sets kept : List ℕ} → AreSetsOf p h K sets → IsKept p h K true kept
     → {k : ℕ} → k < length (p.scope h) → IsBitsOf (after p h K (slice_index (p.scope h) k)) p.values (bit_and (slice_index sets k) (slice_index kept k))
 unfolding after
-kept-left are is lt = grind (arith, common_steps, and_le_l, bits-both)
+kept-left are is lt = grind (arith, common_steps, and_le_l, both-bits)
 
 -- ---- whether the visit leaves each cell a value
 -- a cell of which nothing is left makes the board dead

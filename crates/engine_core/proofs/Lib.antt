@@ -1,6 +1,5 @@
 pub mod Common
 pub mod AroundLemmas
-pub mod BitLemmas
 pub mod SetLemmas
 pub mod ClosingLemmas
 pub mod WaitLemmas

@@ -1,5 +1,5 @@
 -- The cells that lost a value at a visit, as the trail names them.
-use Rattle.engine_core.proofs.Common.{AreLost, AreWoken, Bool, Candidates, IsBitsOf, IsLawful, RuleSystem, Trail, after, and_from, and_parts, any_below, any_below-here, any_below-some, ap, arith, cases_Bool, cases_lt, change_at, common_steps, count_below, count_below-same, counts_of, eq-eqb, false, fun_ext, has, has_place, inl, inr, is_since, le-leb, leb-true, left_by, length, nat_le, ne_eqb, not, not_from_false, not_from_true, slice_index, sym, true, true≢false, ℕ, ◌&&◌, ◌+◌, ◌<◌, ◌==◌, ◌||◌, ◌∙◌, ◌≡◌, ◌≢◌, ◌≤◌}
+use Rattle.engine_core.proofs.Common.{AreLost, AreWoken, Bool, Candidates, IsBitsOf, IsLawful, RuleSystem, Trail, after, and_from, and_parts, any_below, any_below-here, any_below-some, ap, arith, cases_lt, change_at, common_steps, count_below, count_below-same, counts_of, eq-eqb, false, fun_ext, has, has_place, inl, inr, is_since, le-leb, leb-true, left_by, length, nat_le, ne_eqb, not, not_from_false, not_from_true, slice_index, sym, true, true≢false, ℕ, ◌&&◌, ◌+◌, ◌<◌, ◌==◌, ◌||◌, ◌∙◌, ◌≡◌, ◌≢◌, ◌≤◌}
 use Rattle.engine_core.proofs.CallLemmas.{woken-more, woken-same}
 use Rattle.engine_core.proofs.ChangeLemmas.{left-others}
 use Rattle.engine_core.proofs.ClosingLemmas.{after_inside}

@@ -1,5 +1,5 @@
 -- How many of some lists have a place, by the places of all.
-use Rattle.engine_core.proofs.Common.{AreDistinct, AreScopes, List, [], ap, arith, cases_eq, cases_lt, common_steps, concat, cond, count_below, count_by, count_by-le-length, count_by_more_no, count_by_more_yes, distinct-from, eq-eqb, eqb, false, get_or-append_right, get_or_append_left, has_place, inl, inr, length, length-append, ne_eqb, number_at, refl, set, slice_index, suc, sum_by, sum_by-append, sum_by-cons, sym, take, zero, ℕ, ◌+◌, ◌-◌, ◌<◌, ◌∙◌, ◌∷◌, ◌≡◌, ◌≤◌}
+use Rattle.engine_core.proofs.Common.{AreDistinct, AreScopes, List, [], ap, arith, cases_eq, cases_lt, common_steps, concat, cond, count_below, count_by, count_by-le-length, distinct-from, eq-eqb, eqb, get_or-append_right, get_or_append_left, has_place, inl, inr, length, length-append, ne_eqb, number_at, refl, set, slice_index, suc, sum_by, sum_by-append, sum_by-cons, sym, take, zero, ℕ, ◌+◌, ◌<◌, ◌∙◌, ◌∷◌, ◌≡◌, ◌≤◌}
 
 -- ---- the k-th place counts once more
 pub counted-place : (places counts : List ℕ) (k x : ℕ) → k < length places → x ≡ slice_index places k

@@ -1,4 +1,4 @@
-use Rattle.engine_core.proofs.Common.{AreWoken, Bool, Candidates, IsBoardOf, IsClosed, IsClosedBut, IsInsideAt, IsLawful, IsRested, IsWithin, IsWoken, Layout, List, Option, RuleSystem, SameShape, Some, [], add-one, after, and_from, and_left, and_parts, any_below, any_below-here, any_below-none, any_below-some, ap, are_emptied, arith, but, called_for, cases_Bool, cases_eq, cells_of, common_steps, count_below, count_below-any, count_below-bound, count_below-kept, count_below-le, count_below-lt, count_below-none, count_below-pos, counts_of, empties, eq-eqb, eqb, eqb-true, false, false_from_ne_true, has, has_place, has_place-at, has_place-here, inl, inr, is_dead, is_dead-each, is_dead-here, is_dead-inside, is_dead-not, length, mul-le-mul_right, ne_eqb, not, not-true, not_from_false, not_from_true, only, only-here, only-inside, only-other, or_cases, or_left, or_right, refl, set, share, slice_index, sum_below-add, sum_below-le, sym, take, take-suc-set, true, true≢false, visits_left, waits_from, woken, ℕ, ◌&&◌, ◌*◌, ◌++◌, ◌+◌, ◌-◌, ◌<◌, ◌||◌, ◌∙◌, ◌∷◌, ◌≡◌, ◌≤◌}
+use Rattle.engine_core.proofs.Common.{AreWoken, Bool, Candidates, IsBoardOf, IsClosed, IsClosedBut, IsInsideAt, IsLawful, IsRested, IsWithin, IsWoken, Layout, List, Option, RuleSystem, SameShape, Some, [], add-one, after, and_from, and_left, and_parts, any_below, any_below-here, any_below-none, any_below-some, arith, but, called_for, cases_Bool, cases_eq, cells_of, common_steps, count_below, count_below-any, count_below-bound, count_below-kept, count_below-le, count_below-lt, count_below-none, count_below-pos, counts_of, empties, eq-eqb, eqb, eqb-true, false, false_from_ne_true, has, has_place, has_place-at, has_place-here, inl, inr, is_dead, is_dead-each, is_dead-here, is_dead-inside, is_dead-not, length, mul-le-mul_right, ne_eqb, not, not-true, not_from_false, not_from_true, only, only-here, only-inside, only-other, or_cases, or_left, or_right, refl, set, share, slice_index, sum_below-add, sum_below-le, sym, take, take-suc-set, true, true≢false, visits_left, waits_from, woken, ℕ, ◌&&◌, ◌*◌, ◌++◌, ◌+◌, ◌-◌, ◌<◌, ◌||◌, ◌∙◌, ◌∷◌, ◌≡◌, ◌≤◌}
 use Rattle.engine_core.proofs.ClosingLemmas.{after_inside}
 pub use Rattle.engine_core.specs.PositionLaws.{within_of}
 

@@ -1,5 +1,5 @@
 -- The boards on the way from the board before a visit to the board after it, cell by cell of the house.
-use Rattle.engine_core.proofs.Common.{Bool, Candidates, IsBitsOf, IsLawful, IsWithin, RuleSystem, after, ap, arith, cases_Bool, cases_eq, common_steps, eq-eqb, fun_ext, has_place, has_place-at, has_place-here, left_by, length, refl, slice_index, sym, ℕ, ◌+◌, ◌<◌, ◌∙◌, ◌≡◌, ◌≢◌}
+use Rattle.engine_core.proofs.Common.{Candidates, IsBitsOf, IsLawful, IsWithin, RuleSystem, after, ap, arith, cases_Bool, cases_eq, common_steps, eq-eqb, fun_ext, has_place, has_place-at, has_place-here, left_by, length, refl, slice_index, sym, ℕ, ◌+◌, ◌<◌, ◌∙◌, ◌≡◌, ◌≢◌}
 use Rattle.engine_core.proofs.QueueLemmas.{after-outside}
 use Rattle.engine_core.proofs.ChangeLemmas.{left-others}
 use Rattle.engine_core.proofs.ClosingLemmas.{after_inside}

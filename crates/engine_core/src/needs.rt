@@ -20,22 +20,15 @@ pub(crate) struct Needs {
 pub(crate) fn needs_for<R: Rules>(rules: &R) -> Needs
     ensures { needs_in result ≡ needs_of (R.system rules.now) }
 {
+    let mut scope = 0;
+    for house in 0..rules.houses() {
+        scope = scope.max(rules.scope_len(house));
+    }
     Needs {
         cells: rules.cells(),
         values: rules.values(),
         houses: rules.houses(),
         bound: rules.bound(),
-        scope: longest_scope(rules),
+        scope,
     }
-}
-
-/// How many cells the longest scope has.
-fn longest_scope<R: Rules>(rules: &R) -> usize
-    ensures { result ≡ (needs_of (R.system rules.now)).scope }
-{
-    let mut most = 0;
-    for house in 0..rules.houses() {
-        most = most.max(rules.scope_len(house));
-    }
-    most
 }

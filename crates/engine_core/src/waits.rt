@@ -7,13 +7,6 @@ ghost use Rattle.engine_core.specs.Queue.{but, IsAround};
 ghost use Rattle.engine_core.specs.Waiting.{words_of, is_waiting};
 ghost use Rattle.engine_core.specs.Sets.{has_bit as is_set};
 
-/// In how many words the marks of so many houses stand.
-pub(crate) fn words_for(houses: usize) -> usize
-    ensures { result ≡ words_of houses }
-{
-    houses / 64 + 1
-}
-
 /// Marks the house in the bits of those that wait.
 pub fn enqueue(waits: &mut [u64], house: usize)
     requires { house / 64 < length waits.old }
@@ -71,7 +64,7 @@ pub(crate) fn next_waiting(waits: &[u64], from: usize, houses: usize) -> Option<
     ensures { IsNext (is_waiting waits.now) houses from result }
 {
     let mut bit = from % 64;
-    for word in from / 64..words_for(houses) {
+    for word in from / 64..houses / 64 + 1 {
         if let Some(next) = next_bit(waits[word], bit) {
             let house = word * 64 + next;
             if house < houses {

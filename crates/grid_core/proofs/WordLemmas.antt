@@ -20,8 +20,11 @@ but-bits a b p = grind (arith, common_steps, cases_Bool, both-bits, differ-bits)
 pub zero-bits : (p : ℕ) → has_bit 0 p ≡ false
 zero-bits p = ap (λ n. eqb n 1) (bit_at-zero p)
 
+pub power-bits : (k p : ℕ) → has_bit (2 ^ k) p ≡ eqb p k
+power-bits k p = grind (arith, common_steps, bit_at-pow_other, bit_at-pow_same, cases_eq, eq-eqb, ne_eqb)
+
 pub one-bits : (w place p : ℕ) → place < w → has_bit (1 * 2 ^ place % 2 ^ w) p ≡ eqb p place
-one-bits w place p lt = rw (one_shl place w lt) (grind (arith, common_steps, bit_at-pow_other, bit_at-pow_same, cases_eq, eq-eqb, ne_eqb))
+one-bits w place p lt = rw (one_shl place w lt) (power-bits place p)
 
 pub all-bits : (w count p : ℕ) → count < w → has_bit (1 * 2 ^ count % 2 ^ w - 1) p ≡ ltb p count
 all-bits w count p lt = rw (one_shl count w lt) (grind (arith, common_steps, cases_lt p count, bit_at_ones, bit_at_ones_above, lt-ltb, le-ltb))

@@ -2,7 +2,7 @@
 use Rattle.pattern_core.proofs.Common.{Bool, Track, [], any_below, any_below-none, any_below-some, ap, arith, cases_Bool, cases_eq, common_steps, div-add-mod', eq-eqb, eqb, eqb-false, false, false_from_ne_true, fun_ext, get_or, goes_on, has_bit, led, mod-lt, ne_eqb, not, one_on, or-false, stays, suc, sym, true≢false, zero, ℕ, ◌%◌, ◌&&◌, ◌*◌, ◌/◌, ◌<◌, ◌^◌, ◌||◌, ◌∙◌, ◌∷◌, ◌≡◌, ◌≤◌}
 use Rattle.std.specs.Prelude.{bit_or}
 use Rattle.std.proofs.lemmas.Nat.Bits.{bit_at-suc, bit_at-zero, bit_at-lt, bit_at_cat_low, bit_at_lowest, bit_at_above, same_from_bits_below}
-use Rattle.engine_core.proofs.BitLemmas.{bits-both, bits-either, bits-of_power, bits-of_zero}
+use Rattle.grid_core.proofs.WordLemmas.{both-bits, either-bits, power-bits, zero-bits}
 
 -- ---- the bits of a word of w bits
 pub bits_next : (a p : ℕ) → has_bit (a / 2) p ≡ has_bit a (suc p)
@@ -33,7 +33,7 @@ no_bits w a fits some none =
     off x lt e = omega (arith, eqb-false x 1 e)
 
 bits_of_none : (w : ℕ) → any_below (has_bit 0) w ≡ false
-bits_of_none w = false_from_ne_true (any_below (has_bit 0) w) (λ on. let z = any_below-some (has_bit 0) w on in true≢false (sym z.2 ∙ bits-of_zero z.0))
+bits_of_none w = false_from_ne_true (any_below (has_bit 0) w) (λ on. let z = any_below-some (has_bit 0) w on in true≢false (sym z.2 ∙ zero-bits z.0))
 
 -- the test of a word for a bit
 pub some_bit_is : (w bits : ℕ) → bits < 2 ^ w → 0 < 2 ^ w → not (eqb bits 0) ≡ any_below (has_bit bits) w
@@ -47,10 +47,10 @@ low_two set v small = low_bits 2 set small
 pub masks_are : (white black set p : ℕ)
     → has_bit (get_or (0 ∷ white ∷ black ∷ bit_or white black ∷ []) (set % 4) 0)
     p ≡ ((has_bit set 0 && has_bit white p) || (has_bit set 1 && has_bit black p))
-masks_are white black set p = grind (arith, common_steps, cases_Bool, bits-either, bits-of_zero, low_two, mod-lt, or-false)
+masks_are white black set p = grind (arith, common_steps, cases_Bool, either-bits, zero-bits, low_two, mod-lt, or-false)
 
 -- what the operations of words say of their bits
-pub ruleset slot_laws = (bits-of_zero, bits-of_power, bits-both, bits-either, bits_next, bits_on, no_high, masks_are, some_bit_is)
+pub ruleset slot_laws = (zero-bits, power-bits, both-bits, either-bits, bits_next, bits_on, no_high, masks_are, some_bit_is)
 
 -- the places reached, by the words of a step
 pub led_words : (t : Track) (set : ℕ) (reached next : ℕ → Bool) (p : ℕ) → ((q : ℕ) → next q ≡ (goes_on t set q && reached q))

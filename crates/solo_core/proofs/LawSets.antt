@@ -1,5 +1,5 @@
 -- The lemmas by which the functions of a file are proved.
-use Rattle.solo_core.specs.Common.{bits-both, bits-either, bits-of_zero}
+use Rattle.solo_core.specs.Common.{both-bits, either-bits, zero-bits}
 use Rattle.solo_core.specs.SolutionLaws.{test_from_rule, rule_from_test}
 use Rattle.solo_core.proofs.RepeatLemmas.{given_first, len_of, number_at, seen_none, seen_more, seen_again, seen_all, fine_more}
 use Rattle.solo_core.proofs.HouseLemmas.{listed-none, listed-all, crossings-length, scopes-length, first_at, crossings-counted, house-named, scope-named, first-at, second-at, crossing-after, all-length, filled-length}
@@ -20,7 +20,7 @@ use Rattle.solo_core.proofs.Turned.{after-root, before-root, in_ends, after-step
 pub ruleset check_laws = (given_first, len_of, number_at, seen_none, seen_more, seen_again, seen_all, fine_more)
 
 pub ruleset crossing_laws =
-    (bits_joined, bits-both, bits-of_zero, any-none, any-more, cut_by, crossings-length, listed-same, lists_house, scopes-length, shared-below, shared-above)
+    (bits_joined, both-bits, zero-bits, any-none, any-more, cut_by, crossings-length, listed-same, lists_house, scopes-length, shared-below, shared-above)
 
 pub ruleset crossings_laws =
     (lists_house, crossing-is, crossings-listed, crossings-length, scopes-length, listed-none, listed-all, rest-out, rest-in, rest-all, listed-same)
@@ -47,9 +47,9 @@ pub ruleset laws_laws = (
 pub ruleset mates_laws = (rest-more, rest-same, rest-apart)
 
 pub ruleset peel_laws =
-    (bits-both, bits-either, alone-none, alone-lone, alone-more, counts-none, counts-more, peeled-step, counts-same, peeled-none, peeled-more)
+    (both-bits, either-bits, alone-none, alone-lone, alone-more, counts-none, counts-more, peeled-step, counts-same, peeled-none, peeled-more)
 
-pub ruleset quick_laws = (bits-both, goes_on_free, begun-none, goes_on_swapped)
+pub ruleset quick_laws = (both-bits, goes_on_free, begun-none, goes_on_swapped)
 
 pub ruleset reach_laws = (over_none, over_next, over_all, over_alone)
 
@@ -59,4 +59,4 @@ pub ruleset start_laws = (started, started-none, started-all, started-blank, sta
 
 pub ruleset rule_sets_laws = (decides-at, long-at, first_at, filled-length, listed-crossings, listed-deciding, kept-houses)
 
-pub ruleset turning_laws = (after-root, before-root, in_ends, after-step, before-step, bits-either, bits-both)
+pub ruleset turning_laws = (after-root, before-root, in_ends, after-step, before-step, either-bits, both-bits)

@@ -1,7 +1,7 @@
 -- Striking the value of a cell that has one alone from the other cells takes no filling away.
 use Rattle.std.proofs.lemmas.Grind.{common_steps}
 use Rattle.std.proofs.Common.{◌≡◌, ℕ, ◌+◌, ◌<◌, ◌⊎◌, Bool, true, false, ◌&&◌, ◌||◌, eqb, List, map, length, slice_index, refl, sym, ap, ◌∙◌, inl, inr, arith}
-use Rattle.solo_core.specs.Common.{cases_Bool, cases_eq, eq-eqb, eqb-true, true≢false, false_from_ne_true, true_from_ne_false, nat_tests, has_bit, set_of_bits, bits-of_zero, has_in, is_struck, no_repeat}
+use Rattle.solo_core.specs.Common.{cases_Bool, cases_eq, eq-eqb, eqb-true, true≢false, false_from_ne_true, true_from_ne_false, nat_tests, has_bit, set_of_bits, zero-bits, has_in, is_struck, no_repeat}
 use Rattle.engine_core.specs.FillingLaws.{shown_from_test}
 use Rattle.solo_core.specs.Peeled.{IsPeeled, IsAlone, AreAlone, AreCounts, IsSingleSet, IsDropped, PairsCells, KeepsFillings}
 use Rattle.solo_core.proofs.MateLemmas.{shown_by_pairing, pairing_of_filling}
@@ -30,7 +30,7 @@ peeled-more {n} a b = record {
 }
 
 pub alone-none : (n : ℕ) {sets : List ℕ} → AreAlone n sets 0
-alone-none n k lk on = absurd (true≢false (sym on ∙ bits-of_zero k))
+alone-none n k lk on = absurd (true≢false (sym on ∙ zero-bits k))
 
 -- ---- counts
 pub counts-none : {sets : List ℕ} {some single shared : ℕ} → (some ≡ 0) × (single ≡ 0) × (shared ≡ 0) → AreCounts sets 0 some single shared

@@ -1,7 +1,7 @@
 -- What a house that holds a number twice says of the grid, and what a house that does not rules out.
 use Rattle.std.proofs.lemmas.Grind.{common_steps}
 use Rattle.std.proofs.Common.{◌≡◌, ℕ, suc, ◌+◌, ◌<◌, ◌≤◌, true, false, not, ◌||◌, eqb, List, [], ◌∷◌, length, get_or, slice_index, Bool, Option, None, Some, is_some, refl, subst, ◌++◌, sym, ap, ◌∙◌, inl, inr, arith}
-use Rattle.solo_core.specs.Common.{list_any, cases_eq, and_cases, or_cases, eqb-true, true≢false, not-false, false_from_ne_true, nat_tests, get_or-map, length-map, get_or_default, has_bit, bits-of_zero, IsGrid, Solo, IsSolo, solo_n, NamedHouse, Row, Column, Block, Diagonal, solo_cells, houses_of, IsHouseOf, places_of, numbers_of, IsSoloSolution, given_stands, is_solo_solution, no_repeat}
+use Rattle.solo_core.specs.Common.{list_any, cases_eq, and_cases, or_cases, eqb-true, true≢false, not-false, false_from_ne_true, nat_tests, get_or-map, length-map, get_or_default, has_bit, zero-bits, IsGrid, Solo, IsSolo, solo_n, NamedHouse, Row, Column, Block, Diagonal, solo_cells, houses_of, IsHouseOf, places_of, numbers_of, IsSoloSolution, given_stands, is_solo_solution, no_repeat}
 use Rattle.grid_core.proofs.ShortSets.{contains_from_member}
 use Rattle.solo_core.specs.declared.fault.SoloFault.{SoloFault}
 use Rattle.solo_core.specs.declared.fault.SoloFault.TheVariants.{Given}
@@ -46,7 +46,7 @@ pub record HasSeen (xs : List ℕ) (k seen : ℕ) : Type 0 where
   pub different : (i j : ℕ) → i < j → j < k → get_or xs i 0 ≡ get_or xs j 0 → ⊥
 
 pub seen_none : (xs : List ℕ) → HasSeen xs 0 0
-seen_none xs = grind (arith, common_steps, bits-of_zero)
+seen_none xs = grind (arith, common_steps, zero-bits)
 
 module _ (xs : List ℕ) (k seen number : ℕ) (h : HasSeen xs k seen) (is : number ≡ get_or xs k 0) where
   pub seen_more : {new : ℕ} → has_bit seen number ≡ false → ((v : ℕ) → has_bit new v ≡ (has_bit seen v || eqb v number)) → HasSeen xs (k + 1) new

@@ -27,7 +27,7 @@ pub use Rattle.engine_core.specs.Filling.{IsShownBy, Set, has_value, strikes_by_
 pub use Rattle.engine_core.specs.RuleSystem.{IsBoardOf, IsLawful, IsNext, Needs, RuleSystem, after, has_place}
 pub use Rattle.engine_core.specs.PlaceLaws.{different-filter, different-from, distinct-append, distinct-from, has_place-at, has_place-here, place-filter}
 pub use Rattle.engine_core.specs.PlaceLaws.{place-kept}
-pub use Rattle.engine_core.proofs.BitLemmas.{bits-both, bits-either, bits-of_power, bits-of_zero}
+pub use Rattle.grid_core.proofs.WordLemmas.{both-bits, either-bits, power-bits, zero-bits}
 pub use Rattle.solo_core.specs.declared.houses.house.NamedHouse.{NamedHouse}
 pub use Rattle.solo_core.specs.declared.houses.house.NamedHouse.TheVariants.{Block, Column, Diagonal, Row}
 pub use Rattle.solo_core.specs.Cells.{block_of, solo_cells}

@@ -16,7 +16,7 @@ use crate::mode::Closing;
 use crate::needs::{Needs, needs_for};
 use crate::rules::{Rules, by_queue};
 use crate::trail::cells::write_grid;
-use crate::waits::{dequeue, dequeue_if, words_for};
+use crate::waits::{dequeue, dequeue_if};
 use grid_core::{Board, Grid};
 use std::alloc::{AllocError, Global};
 use std::marker::Model;
@@ -93,7 +93,7 @@ impl<R: Rules> Closer<R> {
             made,
             scratch: rules.scratch(alloc)?,
             sets: vec![in alloc; 0u32; made.scope]?,
-            waits: vec![in alloc; 0u64; words_for(made.houses)]?,
+            waits: vec![in alloc; 0u64; made.houses / 64 + 1]?,
             trace: vec![in alloc; 0usize; trace]?,
             board: Board::new(alloc, made.cells, made.values)?,
         })

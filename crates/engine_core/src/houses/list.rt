@@ -139,7 +139,8 @@ impl HouseList {
     pub(crate) fn all(&self) -> &[u32]
         ensures { result.now ≡ concat self.now.closed }
     {
-        part(&self.places, 0, last(&self.ends))
+        let places: &[u32] = &self.places;
+        &places[0..last(&self.ends)]
     }
 
     /// The places of a closed list.
@@ -147,8 +148,8 @@ impl HouseList {
         requires { house < length self.now.closed }
         ensures { result.now ≡ slice_index_or self.now.closed house [] }
     {
-        let ends: &[usize] = &self.ends;
-        part(&self.places, begin(ends, house), ends[house])
+        let (places, ends): (&[u32], &[usize]) = (&self.places, &self.ends);
+        &places[begin(ends, house)..ends[house]]
     }
 }
 
@@ -184,13 +185,4 @@ fn last(ends: &[usize]) -> usize
 {
     let count = ends.len();
     if count == 0 { 0 } else { ends[count - 1] }
-}
-
-/// The part of the list from one number to another.
-pub(crate) fn part(list: &[u32], from: usize, end: usize) -> &[u32]
-    requires ascending { from ≤ end }
-    requires within { end ≤ length list.now }
-    ensures { result.now ≡ between from end list.now }
-{
-    &list[from..end]
 }

@@ -7,7 +7,7 @@ ghost use Rattle.engine_core.specs.RuleSystem.{has_place, IsNext, longest};
 ghost use Rattle.engine_core.specs.HouseSets.{AreDifferent};
 ghost use Rattle.engine_core.specs.HouseIndex.{AreScopes, scope_of, start_at, AreHousesAt, IsIndex, IsRoom, IsPut, IsFirstFrom, AreAt, number_in, IsUnfilled, houses_from, sum_to};
 
-use crate::houses::list::{HouseList, part};
+use crate::houses::list::HouseList;
 use std::alloc::{AllocError, Global};
 use std::marker::Model;
 
@@ -167,9 +167,9 @@ impl HouseTable {
         requires { place < self.now.cells }
         ensures { AreHousesAt self.now.scopes place result.now }
     {
-        let starts: &[u32] = &self.starts;
+        let (starts, houses): (&[u32], &[u32]) = (&self.starts, &self.houses);
         let from = starts[place] as usize;
-        part(&self.houses, from, starts[place + 1] as usize)
+        &houses[from..starts[place + 1] as usize]
     }
 
     /// The least house at or after `from` that has the place.

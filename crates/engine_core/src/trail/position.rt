@@ -16,7 +16,6 @@ use crate::trail::agenda::wait_from;
 use crate::trail::cells::{better_cell, write_grid};
 use crate::trail::propagators::Propagators;
 use crate::trail::trailed::TrailedBoard;
-use crate::waits::words_for;
 use grid_core::Grid;
 use std::alloc::{AllocError, Global};
 use std::marker::Model;
@@ -91,7 +90,7 @@ impl<R: Propagators> Position for TrailPosition<R> {
             counts: rules.counts(alloc)?,
             sets: vec![in alloc; 0u32; made.scope]?,
             kept: vec![in alloc; 0u32; made.scope]?,
-            waits: vec![in alloc; 0u64; words_for(made.houses)]?,
+            waits: vec![in alloc; 0u64; made.houses / 64 + 1]?,
             trailed: TrailedBoard::new(alloc, made.cells, made.values)?,
             marks: vec![in alloc; 0usize; made.cells]?,
             marked: 0,

@@ -1,10 +1,10 @@
 use Rattle.std.proofs.Common.{sym, arith}
-use Rattle.solo_core.specs.Common.{bits-of_zero}
+use Rattle.solo_core.specs.Common.{zero-bits}
 use Rattle.solo_core.proofs.Marks.{next_kept, all_kept}
 use Rattle.solo_core.proofs.visits.houses.reaching.Goals as goal
 
 pub loop-value-init : goal.loop-value-init
-loop-value-init c = record { within = omega arith; kept = record { below = λ v lt. absurd (omega arith); above = λ v le. bits-of_zero v } }
+loop-value-init c = record { within = omega arith; kept = record { below = λ v lt. absurd (omega arith); above = λ v le. zero-bits v } }
 
 pub loop-value-preserved : goal.loop-value-preserved
 loop-value-preserved c =

@@ -1,5 +1,5 @@
 use Rattle.std.proofs.Common.{◌≡◌, ℕ, List, length, slice_index, slice_set, refl, sym, ap, ◌∙◌, subst, arith}
-use Rattle.solo_core.specs.Common.{get_or-set_other, length-set, get_or-set_at, has_bit, bits-both}
+use Rattle.solo_core.specs.Common.{get_or-set_other, length-set, get_or-set_at, has_bit, both-bits}
 use Rattle.solo_core.specs.Quick.{IsBegun}
 use Rattle.solo_core.proofs.QuickLemmas.{goes_on_swapped}
 use Rattle.solo_core.proofs.visits.quick.swap.Goals as goal
@@ -18,7 +18,7 @@ returns-in-Some-clause-on c =
     let first = slice_set mates k (slice_index mates j) in
     let long : length first ≡ length mates = length-set mates k (slice_index mates j) in
     goes_on_swapped n sets rest k (slice_index mates) c.args.free v j b (omega arith)
-    (omega (arith, at.1)) (grind (arith, bits-both, at.2)) (grind (arith, bits-both, at.2))
+    (omega (arith, at.1)) (grind (arith, both-bits, at.2)) (grind (arith, both-bits, at.2))
     (get_or-set_other first j k v 0 (λ e. absurd (omega arith)) ∙ get_or-set_at mates k k (slice_index mates j) 0 refl (omega arith))
     (get_or-set_at first j j v 0 refl (omega (arith, long)))
     (λ l lt ne. get_or-set_other first j l v 0 ne ∙ get_or-set_other mates k l (slice_index mates j) 0 (λ e. absurd (omega arith)))

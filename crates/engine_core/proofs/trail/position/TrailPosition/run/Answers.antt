@@ -1,5 +1,5 @@
 use Rattle.std.specs.Int.{from_bool}
-use Rattle.engine_core.proofs.Common.{IsClosedIn, IsTaken, Dead, Open, arith, board_in, is_waiting, ltb, sym, ℕ, ◌+◌, ◌||◌, ◌∙◌, ◌≡◌}
+use Rattle.engine_core.proofs.Common.{IsClosedIn, IsTaken, Open, arith, board_in, is_waiting, ltb, sym, ℕ, ◌+◌, ◌||◌, ◌∙◌, ◌≡◌}
 use Rattle.engine_core.proofs.AroundLemmas.{IsAtHouse, steps-fall, underway-dead, underway-first, underway-next, underway-open, underway-turn}
 use Rattle.engine_core.proofs.QueueLemmas.{within_of}
 use Rattle.engine_core.proofs.TrailLemmas.{on-none, on-more}

@@ -1,4 +1,4 @@
-use Rattle.engine_core.proofs.Common.{GoesOn, IsAlive, IsAlong, board_in, is_waiting, ◌*◌, ◌+◌, ◌-◌, ◌≤◌}
+use Rattle.engine_core.proofs.Common.{GoesOn, IsAlive, IsAlong, board_in, is_waiting, ◌*◌, ◌+◌, ◌-◌}
 use Rattle.engine_core.proofs.AroundLemmas.{IsUnderway}
 use Rattle.engine_core.proofs.trail.position.TrailPosition.run.Given as goal
 

@@ -1,4 +1,4 @@
-use Rattle.engine_core.proofs.Common.{Dead, IsClosing, [], arith, board_in, drop, has, length, refl, sym, ◌++◌, ◌∙◌}
+use Rattle.engine_core.proofs.Common.{Dead, IsClosing, [], arith, board_in, drop, has, length, refl, sym, ◌∙◌}
 use Rattle.engine_core.proofs.WaitLemmas.{written-back}
 use Rattle.engine_core.proofs.QueueLemmas.{rested_from, dead_of, within_of}
 use Rattle.engine_core.proofs.ListLemmas.{closing-none}
