@@ -1,6 +1,6 @@
 -- Houses and crossings by their numbers, and lists of their places.
 use Rattle.std.proofs.lemmas.Grind.{common_steps}
-use Rattle.std.proofs.Common.{◌≡◌, ℕ, zero, suc, ◌+◌, ◌-◌, ◌<◌, ◌≤◌, Bool, true, false, List, [], ◌∷◌, ◌++◌, map, length, get_or, slice_index, take, if◌then◌else◌, refl, sym, ap, ◌∙◌, arith, append-nil, append_assoc, ◌*◌, length-append}
+use Rattle.std.proofs.Common.{◌≡◌, ℕ, zero, suc, ◌+◌, ◌-◌, ◌<◌, ◌≤◌, Bool, true, false, List, [], ◌∷◌, ◌++◌, map, length, get_or, take, if◌then◌else◌, refl, sym, ap, ◌∙◌, arith, append-nil, append_assoc, ◌*◌, length-append}
 use Rattle.solo_core.specs.Common.{range_with_len, get_or_append_left, get_or-append_right, get_or-map, length-map, take_more, map-append, get_or-map-range_with_len, length-map-range_with_len, Solo, solo_n, NamedHouse, Diagonal, houses_of, house_places, places_of, mul-le, House, house_of, no_house}
 use Rattle.std.proofs.Math.Seq.{take-length}
 use Rattle.engine_core.specs.HouseList.{Listed}
@@ -27,19 +27,6 @@ diagonal_at true (suc (suc k)) d lt = absurd (omega arith)
 diagonal_at false k d lt = absurd (omega arith)
 
 -- ---- lists of places
-pub begun-none : {old : Listed} (places : List ℕ) → old.begun ≡ [] → old ≡ record { closed = old.closed; begun = take 0 places }
-begun-none places e = rw (← e) refl
-
-pub begun-more : {old new : Listed} {closed : List (List ℕ)} (places : List ℕ) (k : ℕ) {place : ℕ} → k < length places → place ≡ slice_index places k
-    → old ≡ record { closed = closed; begun = take k places } → new ≡ record { closed = old.closed; begun = old.begun ++ place ∷ [] }
-    → new ≡ record { closed = closed; begun = take (k + 1) places }
-begun-more places k lt is was e = e ∙ rw (was, is, take_more places k 0 lt) refl
-
-pub begun-done : {new : Listed} {closed : List (List ℕ)} {places : List ℕ} (k : ℕ)
-    → length places ≡ k → new ≡ record { closed = closed; begun = take k places }
-    → new ≡ record { closed = closed; begun = places }
-begun-done {places} k long was = was ∙ rw (← long, take-length places) refl
-
 pub listed-none : {old : Listed} (all : List (List ℕ)) → old.begun ≡ [] → old ≡ record { closed = old.closed ++ take 0 all; begun = [] }
 listed-none all e = rw (append-nil, ← e) refl
 
@@ -60,9 +47,9 @@ pub places-at : (p : Solo) (k : ℕ) {house : NamedHouse} → k < length (houses
     → house ≡ get_or (houses_of p) k house → places_of p house ≡ get_or (house_places p) k []
 places-at p k {house} lt is = ap (places_of p) is ∙ sym (get_or-map _ _ k house [] lt)
 
--- the houses by their numbers, and what the list gets of them
+-- the houses by their numbers
 pub ruleset house_laws =
-    (part_first, part_later, diagonal_at, house_count, count_x, count_plain, begun-none, begun-more, begun-done, listed-none, listed-more, listed-all, places-length, places-at)
+    (part_first, part_later, diagonal_at, house_count, count_x, count_plain)
 
 -- ---- the crossings by their numbers
 module _ {X : Type 0} (first second : ℕ → X) (n m : ℕ) where
@@ -122,17 +109,8 @@ module _ (p : Solo) where
   pub scope-named : (h : ℕ) (d : VisitName) → h < length (scopes_of p) → house_of (filled_houses p ++ crossings_of p) h ≡ house_at p (get_or (scopes_of p) h d)
   scope-named h d lt = ap (λ xs. house_of xs h) (sym all-named) ∙ get_or-map _ _ h d no_house lt
 
--- ---- room for all of them
-pub crossings-count : (p : Solo) → solo_n p * (p.c + p.r) ≡ length (crossings_of p)
-crossings-count p = omega (arith, crossings-length p)
-
-pub few_in_houses : (houses n : ℕ) → houses ≤ 95 → n ≤ 31 → houses * n ≤ 3000
-few_in_houses houses n few high = omega (arith, mul-le houses n 95 31 few high)
-
 pub few_crossings : (n lines : ℕ) → n ≤ 31 → lines ≤ 510 → n * lines ≤ 16000
 few_crossings n lines high few = omega (arith, mul-le n lines 31 510 high few)
 
-pub few_in_crossings : (crossings n : ℕ) → crossings ≤ 16000 → n ≤ 31 → crossings * (2 * n) ≤ 1000000
-few_in_crossings crossings n few high = grind (arith, common_steps, mul-le)
-
-pub ruleset room_laws = (crossings-count, few_in_houses, few_crossings, few_in_crossings)
+pub crossings-count : (p : Solo) → solo_n p * (p.c + p.r) ≡ length (crossings_of p)
+crossings-count p = omega (arith, crossings-length p)

@@ -1,8 +1,10 @@
 -- The lemmas by which the functions of a file are proved.
-use Rattle.solo_core.specs.Common.{both-bits, either-bits, zero-bits}
+use Rattle.std.proofs.Common.{append-nil}
+use Rattle.solo_core.specs.Common.{both-bits, either-bits, length-map-range_with_len, zero-bits}
 use Rattle.solo_core.specs.SolutionLaws.{test_from_rule, rule_from_test}
 use Rattle.solo_core.proofs.RepeatLemmas.{given_first, len_of, number_at, seen_none, seen_more, seen_again, seen_all, fine_more}
 use Rattle.solo_core.proofs.HouseLemmas.{listed-none, listed-all, crossings-length, scopes-length, first_at, crossings-counted, house-named, scope-named, first-at, second-at, crossing-after, all-length, filled-length}
+use Rattle.solo_core.proofs.HouseLists.{line-low, line-more}
 use Rattle.solo_core.specs.HouseLaws.{lists_house, listed-has, listed-same, row_in, column_in}
 use Rattle.solo_core.proofs.CrossingLemmas.{any-more, any-none, cut_by, crossing-is, crossings-listed, rest-out, rest-in, rest-all, shared-below, shared-above}
 use Rattle.solo_core.specs.BoundLaws.{house_count, bound_is, crossings_rules-bound}
@@ -13,11 +15,13 @@ use Rattle.solo_core.proofs.MateLemmas.{rest-more, rest-same, rest-apart}
 use Rattle.solo_core.proofs.PeelLemmas.{alone-none, alone-lone, alone-more, counts-none, counts-more, peeled-step, counts-same, peeled-none, peeled-more}
 use Rattle.solo_core.proofs.QuickLemmas.{goes_on_free, begun-none, goes_on_swapped}
 use Rattle.solo_core.proofs.WayLemmas.{over_none, over_next, over_all}
-use Rattle.solo_core.proofs.Marks.{bits_joined, over_alone}
+use Rattle.solo_core.proofs.Marks.{bits_joined, over_alone, single_bit}
 use Rattle.solo_core.proofs.StartLemmas.{started, started-none, started-all, started-blank, started-given, started-there}
 use Rattle.solo_core.proofs.Turned.{after-root, before-root, in_ends, after-step, before-step}
 
 pub ruleset check_laws = (given_first, len_of, number_at, seen_none, seen_more, seen_again, seen_all, fine_more)
+
+pub ruleset counts_laws = (both-bits, either-bits, zero-bits, single_bit)
 
 pub ruleset crossing_laws =
     (bits_joined, both-bits, zero-bits, any-none, any-more, cut_by, crossings-length, listed-same, lists_house, scopes-length, shared-below, shared-above)
@@ -43,6 +47,8 @@ pub ruleset laws_laws = (
   house-named,
   scope-named,
 )
+
+pub ruleset lists_laws = (append-nil, length-map-range_with_len, line-low, line-more)
 
 pub ruleset mates_laws = (rest-more, rest-same, rest-apart)
 

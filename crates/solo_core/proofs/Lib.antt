@@ -9,6 +9,7 @@ mod PeelLemmas
 mod QuickLemmas
 mod MateLemmas
 mod HouseLemmas
+mod HouseLists
 mod DecidingLemmas
 mod CrossingLemmas
 pub mod LawSets

@@ -1,5 +1,6 @@
 -- How the lists of houses grow.
-use Rattle.std.specs.Prelude.{◌≡◌, ℕ, List, [], ◌∷◌, ◌++◌}
+use Rattle.std.specs.Prelude.{◌≡◌, ℕ, ◌+◌, ◌*◌, List, [], ◌∷◌, ◌++◌, map}
+use Rattle.std.specs.List.{range_with_len}
 use Rattle.engine_core.specs.HouseList.{Listed}
 
 -- the list with more closed lists of places, and none begun
@@ -16,3 +17,7 @@ HasClosed places = HasAdded (places ∷ [])
 
 abbrev pub Begins : List ℕ → Listed → Listed → Type 0
 Begins places old new = new ≡ record { closed = old.closed; begun = places }
+
+-- so many places, the first and each a step after the one before
+abbrev pub strided : ℕ → ℕ → ℕ → List ℕ
+strided first step count = map (λ k. first + k * step) (range_with_len 0 count)

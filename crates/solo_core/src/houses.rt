@@ -2,7 +2,7 @@
 
 pub(crate) mod crossings;
 pub(crate) mod house;
+pub(crate) mod lists;
 pub(crate) mod places;
-pub(crate) mod rooms;
 pub(crate) mod scope;
 pub(crate) mod scopes;

@@ -11,9 +11,9 @@ ghost use Rattle.solo_core.specs.RuleLaws.{listed_in_rules, bound_of_rules, sing
 ghost use Rattle.solo_core.specs.RuleSets.{single_houses, singles_rules, filled_houses, houses_rules, crossings_of, crossings_rules};
 
 use crate::check::accepts;
-use crate::houses::crossings::push_crossings;
-use crate::houses::places::{cells, houses, push_houses};
-use crate::houses::rooms::{cells_of_crossings, cells_of_houses, crossings};
+use crate::houses::crossings::{crossings, push_crossings};
+use crate::houses::lists::list_houses;
+use crate::houses::places::{cells, houses};
 use crate::start::write_start;
 use crate::visits::crossing::keep_crossed;
 use crate::visits::houses::keep_houses;
@@ -55,16 +55,6 @@ pub struct Crossings {
     ghost is_solo: { IsSolo puzzle } by { Prim.hlevel props },
 }
 
-/// The places of the houses.
-fn list_houses(alloc: Global, puzzle: &SoloPuzzle) -> Result<HouseList, AllocError>
-    ensures known { IsSolo puzzle.now }
-    ensures listed { IfOk result (λ list. list.closed ≡ house_places puzzle.now) }
-{
-    let mut list = HouseList::new(alloc, houses(puzzle), cells_of_houses(puzzle))?;
-    push_houses(&mut list, puzzle)?;
-    Ok(list)
-}
-
 impl RuleSet for Singles {
     type Puzzle = SoloPuzzle;
 
@@ -103,7 +93,7 @@ impl RuleSet for Singles {
     ghost serves_smaller = { λ _ _ _ _ served. served };
 
     fn list(alloc: Global, puzzle: &SoloPuzzle) -> Result<(Singles, HouseList), AllocError> {
-        let list = list_houses(alloc, puzzle)?;
+        let list = list_houses(alloc, puzzle, 0)?;
         let puzzle = puzzle.copy(alloc)?;
         Ok((Singles { puzzle }, list))
     }
@@ -173,7 +163,7 @@ impl RuleSet for Fillings {
         Prim.omega arith };
 
     fn list(alloc: Global, puzzle: &SoloPuzzle) -> Result<(Fillings, HouseList), AllocError> {
-        let list = list_houses(alloc, puzzle)?;
+        let list = list_houses(alloc, puzzle, 0)?;
         let puzzle = puzzle.copy(alloc)?;
         Ok((Fillings { puzzle }, list))
     }
@@ -243,10 +233,7 @@ impl RuleSet for Crossings {
         Prim.omega arith };
 
     fn list(alloc: Global, puzzle: &SoloPuzzle) -> Result<(Crossings, HouseList), AllocError> {
-        let count = houses(puzzle) + crossings(puzzle);
-        let places = cells_of_houses(puzzle) + cells_of_crossings(puzzle);
-        let mut list = HouseList::new(alloc, count, places)?;
-        push_houses(&mut list, puzzle)?;
+        let mut list = list_houses(alloc, puzzle, crossings(puzzle))?;
         push_crossings(&mut list, puzzle)?;
         let puzzle = puzzle.copy(alloc)?;
         Ok((Crossings { puzzle }, list))

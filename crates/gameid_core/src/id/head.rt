@@ -1,7 +1,7 @@
 //! The part of an ID before its colon.
 
 ghost use Rattle.std.specs.Prelude.{◌≡◌, ◌==◌, position, ◌≤◌, drop, length, true, if◌then◌else◌, Ok, Err, IfOk, IfErr};
-ghost use Rattle.gameid_core.specs.Common.{has_hash, has_x, head_at, head_of, in_range, side_at, sides_at, size_of};
+ghost use Rattle.gameid_core.specs.Common.{has_x, head_at, head_of, in_range, side_at, sides_at, size_of};
 ghost use Rattle.gameid_core.specs.Head.{GivesSide, GivesSides};
 
 use crate::id::fault::IdFault;
@@ -112,13 +112,6 @@ pub fn read_size(game: Game, text: &[u8]) -> Result<(u8, u8, bool), IdFault>
     }
 }
 
-/// Whether a '#' stands in the text.
-fn contains_hash(text: &[u8]) -> bool
-    ensures { result ≡ has_hash text.now }
-{
-    text.contains(&b'#')
-}
-
 /// How many bytes stand before the first ':', if there is one.
 fn colon_in(text: &[u8]) -> Option<usize>
     ensures { result ≡ position (λ b. b == 58) text.now }
@@ -143,14 +136,14 @@ pub(crate) fn read_head(game: Game, text: &[u8]) -> Result<Head, IdFault>
         return Err(IdFault::TooLong);
     }
     let Some(colon) = colon_in(text) else {
-        return Err(if contains_hash(text) {
+        return Err(if text.contains(&b'#') {
             IdFault::SeedId
         } else {
             IdFault::NoColon
         });
     };
     let before = &text[..colon];
-    if contains_hash(before) {
+    if before.contains(&b'#') {
         return Err(IdFault::SeedId);
     }
     let (w, h, x) = read_size(game, before)?;

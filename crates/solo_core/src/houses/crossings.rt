@@ -1,7 +1,7 @@
 //! The crossings of a puzzle: each block with each row and each column that it meets.
 #![tactic(auto, using(crate::proofs::LawSets::crossings_laws))]
 
-ghost use Rattle.std.specs.Prelude.{◌≡◌, ◌<◌, [], OnOk, length};
+ghost use Rattle.std.specs.Prelude.{◌≡◌, ◌<◌, ◌≤◌, [], OnOk, length};
 ghost use Rattle.engine_core.specs.HouseList.{FitsLists, FitsPlaces};
 ghost use Rattle.engine_core.specs.ListedHouses.{all_places};
 ghost use Rattle.solo_core.specs.Common.{solo_n, IsHouseOf};
@@ -9,12 +9,20 @@ ghost use Rattle.solo_core.specs.RuleSets.{crossing_of, crossings_of, rest_of_li
 ghost use Rattle.solo_core.specs.Work.{HasAdded, HasBegun, HasClosed};
 
 use crate::houses::house::NamedHouse;
-use crate::houses::places::{lies, place, push_places};
-use crate::houses::rooms::crossings;
+use crate::houses::lists::push_block;
+use crate::houses::places::{lies, place};
 use crate::houses::scopes::crossing_at;
 use engine_core::HouseList;
 use gameid_core::SoloPuzzle;
 use std::alloc::AllocError;
+
+/// How many crossings there are.
+pub(crate) fn crossings(puzzle: &SoloPuzzle) -> usize
+    ensures count { result ≡ length (crossings_of puzzle.now) }
+    ensures few { result ≤ 16000 }
+{
+    usize::from(puzzle.n()) * (usize::from(puzzle.c()) + usize::from(puzzle.r()))
+}
 
 /// Adds the line's places outside the block.
 fn push_rest(
@@ -51,7 +59,7 @@ fn push_crossing(
     requires fits { FitsLists list.old 1 }
     ensures { OnOk result (HasClosed (crossing_of puzzle.now block line).places list.old list.new) }
 {
-    push_places(list, puzzle, NamedHouse::Block(block))?;
+    push_block(list, puzzle, block)?;
     push_rest(list, puzzle, block, line)?;
     list.end()?;
     Ok(())

@@ -1,16 +1,12 @@
-//! The houses of a puzzle, their places, and the list of both.
+//! The houses of a puzzle, and their places.
 #![tactic(auto, using(crate::proofs::HouseLemmas::house_laws))]
 
-ghost use Rattle.std.specs.Prelude.{◌≡◌, ◌<◌, ◌≤◌, [], OnOk, length, slice_index, slice_index_or};
-ghost use Rattle.engine_core.specs.HouseList.{FitsLists};
-ghost use Rattle.solo_core.specs.Common.{IsSolo, solo_n, NamedHouse, solo_cells, houses_of, house_places, IsHouseOf, lies_in, places_of};
-ghost use Rattle.solo_core.specs.Work.{HasAdded, Begins};
+ghost use Rattle.std.specs.Prelude.{◌≡◌, ◌<◌, ◌≤◌, length, slice_index, slice_index_or};
+ghost use Rattle.solo_core.specs.Common.{IsSolo, solo_n, NamedHouse, solo_cells, houses_of, IsHouseOf, lies_in, places_of};
 
 use crate::houses::house::NamedHouse;
-use engine_core::HouseList;
 use gameid_core::SoloPuzzle;
-use grid_core::{Size, block_place, column_place, diagonal_place, row_place};
-use std::alloc::AllocError;
+use grid_core::{block_place, diagonal_place};
 
 /// How many cells the grid has.
 pub(crate) fn cells(puzzle: &SoloPuzzle) -> usize
@@ -35,7 +31,8 @@ pub(crate) fn houses(puzzle: &SoloPuzzle) -> usize
 pub(crate) fn house(puzzle: &SoloPuzzle, number: usize) -> NamedHouse
     requires { number < length (houses_of puzzle.now) }
     ensures house_of { IsHouseOf puzzle.now result }
-    ensures at { (other : NamedHouse) → result ≡ slice_index_or (houses_of puzzle.now) number other }
+    ensures at { (other : NamedHouse)
+        → result ≡ slice_index_or (houses_of puzzle.now) number other }
 {
     let n = usize::from(puzzle.n());
     if number < n {
@@ -57,13 +54,12 @@ pub(crate) fn place(puzzle: &SoloPuzzle, house: NamedHouse, k: usize) -> usize
     ensures place { result ≡ slice_index (places_of puzzle.now house) k }
     ensures within { result < solo_cells puzzle.now }
 {
-    let n = puzzle.n();
-    let size = Size::new(n, n).unwrap();
+    let n = usize::from(puzzle.n());
     match house {
-        NamedHouse::Row(y) => row_place(size, y, k),
-        NamedHouse::Column(i) => column_place(size, i, k),
+        NamedHouse::Row(y) => y * n + k,
+        NamedHouse::Column(i) => k * n + i,
         NamedHouse::Block(b) => block_place(puzzle.c(), puzzle.r(), b, k),
-        NamedHouse::Diagonal(d) => diagonal_place(n, d, k),
+        NamedHouse::Diagonal(d) => diagonal_place(puzzle.n(), d, k),
     }
 }
 
@@ -82,35 +78,4 @@ pub(crate) fn lies(puzzle: &SoloPuzzle, house: NamedHouse, place: usize) -> bool
         NamedHouse::Diagonal(0) => place % n == place / n,
         NamedHouse::Diagonal(_) => place % n == n - 1 - place / n,
     }
-}
-
-/// Begins a list with the places of the house.
-pub(crate) fn push_places(
-    list: &mut HouseList,
-    puzzle: &SoloPuzzle,
-    house: NamedHouse,
-) -> Result<(), AllocError>
-    requires house_of { IsHouseOf puzzle.now house }
-    requires closed { list.old.begun ≡ [] }
-    ensures lawful { IsSolo puzzle.now }
-    ensures begun { OnOk result (Begins (places_of puzzle.now house) list.old list.new) }
-{
-    for k in 0..usize::from(puzzle.n()) {
-        list.push(place(puzzle, house, k))?;
-    }
-    Ok(())
-}
-
-/// Adds the places of each house.
-pub(crate) fn push_houses(list: &mut HouseList, puzzle: &SoloPuzzle) -> Result<(), AllocError>
-    requires closed { list.old.begun ≡ [] }
-    requires fits { FitsLists list.old (length (houses_of puzzle.now)) }
-    ensures { OnOk result
-        (HasAdded (house_places puzzle.now) list.old list.new) }
-{
-    for number in 0..houses(puzzle) {
-        push_places(list, puzzle, house(puzzle, number))?;
-        list.end()?;
-    }
-    Ok(())
 }

@@ -9,7 +9,6 @@ use crate::visits::bits::{all_below, next_bit, with_bit_if};
 use crate::visits::mates::{MANY, pair_rest, rest_of, write_mates};
 use crate::visits::peel::peel;
 use crate::visits::reach::close_under_steps;
-use crate::visits::singles::clear;
 use crate::visits::turning::lie_on_rounds;
 use engine_core::has_bit;
 use grid_core::{Paired, Pairing};
@@ -51,7 +50,7 @@ fn keep_rest(values: u8, rest: &[u8], kept: &mut [u32], pairing: &mut Pairing)
     let mut paired_space = [0u8; MANY];
     let paired = &mut paired_space[..rest.len()];
     match pair_rest(values, kept, rest, pairing, paired) {
-        Paired::Short => clear(kept),
+        Paired::Short => kept.fill(0),
         Paired::All if lie_on_rounds(values, kept, rest, paired) => {}
         Paired::All => keep_paired(values, rest, paired, kept),
     }

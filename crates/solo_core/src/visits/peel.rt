@@ -6,7 +6,7 @@ ghost use Rattle.grid_core.specs.Candidates.{max_values};
 ghost use Rattle.engine_core.specs.Sets.{has_bit as is_set};
 ghost use Rattle.solo_core.specs.Peeled.{IsPeeled, AreAlone, AreCounts, AddsSingle, AddsShared, AreDropped};
 
-use crate::visits::bits::{all_below, has_any, single_of, with_bit_if, without};
+use crate::visits::bits::{all_below, has_any, with_bit_if, without};
 
 /// The values that some cell has, those that some cell has alone, and those that several cells have.
 #[derive(Clone, Copy)]
@@ -27,7 +27,9 @@ pub(crate) fn peel(values: u8, sets: &mut [u32]) -> u32
 {
     let mut counts = count(sets);
     for _turn in 0..sets.len() {
-        if counts.are_settled() {
+        // a cell has alone what others have too, or a cell with several values has one that no other has
+        let open = counts.single & counts.shared | counts.some & !counts.shared & !counts.single;
+        if open == 0 {
             break;
         }
         let narrowed = narrow_all(values, counts, sets);
@@ -47,12 +49,8 @@ const NO_COUNTS: Counts = Counts {
 };
 
 impl Counts {
-    /// Whether no cell has alone what others have too, and no cell with several values has one that no other cell has.
-    fn are_settled(self) -> bool {
-        self.single & self.shared == 0 && self.some & !self.shared & !self.single == 0
-    }
-
     /// The counts with one more cell.
+    #[tactic(auto, using(crate::proofs::LawSets::counts_laws))]
     fn with(self, set: u32) -> Counts
         ensures some { (v : ℕ) → is_set result.some v ≡ (is_set self.some v || is_set set v) }
         ensures single { AddsSingle self.single set result.single }
@@ -60,7 +58,7 @@ impl Counts {
     {
         Counts {
             some: self.some | set,
-            single: self.single | single_of(set),
+            single: self.single | if set.is_power_of_two() { set } else { 0 },
             shared: self.shared | (self.some & set),
         }
     }

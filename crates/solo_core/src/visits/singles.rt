@@ -17,20 +17,12 @@ pub(crate) fn keep_singles(values: u8, sets: &[u32], kept: &mut [u32])
     ensures { IsDecided values (strikes_by_singles values) sets.now kept.new }
 {
     if is_broken(values, sets) {
-        clear(kept);
+        kept.fill(0);
         return;
     }
     for place in 0..sets.len() {
         kept[place] = keep_cell(values, sets, place);
     }
-}
-
-/// Keeps nothing.
-pub(crate) fn clear(kept: &mut [u32])
-    ensures as_many { length kept.new ≡ length kept.old }
-    ensures none { (k : ℕ) → k < length kept.new → slice_index kept.new k ≡ 0 }
-{
-    kept.fill(0);
 }
 
 /// The values of the cell that are neither taken by another cell nor given up for another value.

@@ -1,4 +1,4 @@
-use Rattle.std.proofs.Common.{refl}
+use Rattle.std.proofs.Common.{refl, rules}
 use Rattle.solo_core.proofs.MateLemmas.{rest-within, no_pairing}
 use Rattle.solo_core.proofs.Turned.{decided_by_none, decided_by_rounds}
 use Rattle.solo_core.proofs.visits.houses.keep_rest.Goals as goal
@@ -11,7 +11,7 @@ returns-in-Short-clause-decided c =
     let r = c.requires.alone in
     decided_by_none
     (λ mates p. no_pairing c.args.values c.args.kept.now r.0 r.2 _ mates (rw r.1 at (c.in-Short.ensures.short refl)) p)
-    c.clear.ensures.as_many c.clear.ensures.none
+    (search rules) (search rules)
 
 pub returns-in-All-clause-decided : goal.returns-in-All-clause-decided
 returns-in-All-clause-decided c =
