@@ -26,4 +26,9 @@ pub mod TentNumbers
 pub mod TentNext
 pub mod TentPairLemmas
 pub mod TentRuleLemmas
+pub mod PositionSteps
+pub mod VisitLemmas
+pub mod CellLemmas
+pub mod TentVisits
+pub mod TentSweeps
 pub mod LawSets

@@ -1,13 +1,13 @@
 //! The tallies of the houses of a puzzle.
 
-ghost use Rattle.std.specs.Prelude.{◌≡◌, ℕ, ◌<◌, ◌≤◌, ◌^◌, length, refl};
+ghost use Rattle.std.specs.Prelude.{◌≡◌, ℕ, ◌<◌, ◌≤◌, ◌^◌, length};
 ghost use Rattle.engine_core.specs.HouseIndex.{scope_of};
 ghost use Rattle.fields_core.specs.Tallies.{open_tally, tally_at};
 
 use crate::count::game::CountGame;
 use crate::count::rules::CountRules;
 use crate::count::tally::{BOTH, Tally};
-use engine_core::{Counting, HouseRules, HouseTable, PositionFor, TrailPosition};
+use engine_core::{Counting, HouseTable};
 use grid_core::Board;
 use std::alloc::{AllocError, Global};
 
@@ -79,10 +79,4 @@ impl<P: CountGame> Counting<CountRules<P>> for Tallies {
     fn may_strike(&self, set: &CountRules<P>, house: usize) -> bool {
         self.tallies[house].calls(set.house_bounds(house))
     }
-}
-
-impl<P: CountGame> PositionFor<HouseRules<CountRules<P>, Tallies>> for Tallies {
-    type Position = TrailPosition<HouseRules<CountRules<P>, Tallies>>;
-
-    ghost position_of = { λ _. refl };
 }

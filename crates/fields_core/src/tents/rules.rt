@@ -9,7 +9,7 @@ ghost use Rattle.fields_core.specs.Tents.{tent_cells, tree};
 use crate::count::game::CountGame;
 use crate::count::list::CountList;
 use crate::count::rules::CountRules;
-use crate::count::tallies::Tallies;
+use crate::planes::position::OnPlanes;
 use crate::tents::cells::{cells, is_tree};
 use crate::tents::check::find_fault;
 use crate::tents::houses::houses_of_tents;
@@ -20,7 +20,7 @@ use grid_core::{Grid, step};
 use std::alloc::{AllocError, Global};
 
 /// The rules of a puzzle of Tents.
-pub type TentRules = HouseRules<CountRules<TentsPuzzle>, Tallies>;
+pub type TentRules = HouseRules<CountRules<TentsPuzzle>, OnPlanes>;
 
 /// Whether a tree is beside the cell.
 fn is_beside_a_tree(puzzle: &TentsPuzzle, place: usize) -> bool
