@@ -1,19 +1,10 @@
 -- The steps of a batch, and the chunks of its input.
-use Rattle.std.proofs.Common.{◌≡◌, ◌∙◌, ◌==◌, ◌<◌, ◌+◌, ◌++◌, ℕ, true, false, List, [], ◌∷◌, length, ap, sym, refl, subst, arith, if◌then◌else◌, append-nil, append_assoc, inr, max, Result, Ok, Err, IfErr, take, drop, get_or, ◌≤◌, ◌⊎◌, Bool, inl, true≢false}
-use Rattle.std.proofs.lemmas.Grind.{common_steps}
-use Rattle.std.proofs.lemmas.List.{take-append-drop, take_more}
-use Rattle.std.specs.List.{All, slice_split}
+use Rattle.commands.proofs.Common.{All, All-nil, All-push, AllowsEach, Answer, Answered, Batched, Begins, Begun, Bool, Err, Given, HasAnswers, Holds, IfErr, IsInput, List, Ok, PutBegun, Ran, Result, Stopped, Text, [], answer_with, ap, append-nil, append_assoc, arith, both, code_of, common_steps, drop, false, get_or, if◌then◌else◌, inl, inr, length, lines, lines_of_parts, max, refl, silence, slice_split, strip_carriage_return, subst, sym, take, take-append-drop, true, true≢false, ℕ, ◌++◌, ◌+◌, ◌<◌, ◌==◌, ◌∙◌, ◌∷◌, ◌≡◌, ◌≤◌, ◌⊎◌}
 use Rattle.std.proofs.lemmas.List.Splits.{slice_split_at, slice_split_none, length-slice_split}
-use Rattle.std.proofs.lemmas.List.Elements.{All-push, All-nil}
-use Rattle.std.specs.Str.Lines.{lines, lines_of_parts, strip_carriage_return}
-use Rattle.commands.specs.Answers.{Answer, PutBegun, Text, Begins, IsInput, answer_with, code_of}
-use Rattle.commands.specs.Each.{AllowsEach, Answered, Begun, HasAnswers, Stopped, both, silence}
-use Rattle.commands.specs.Batches.{Batched, Holds}
-use Rattle.commands.specs.Texts.{Given}
 use Rattle.commands.specs.declared.batch.Batch.{Batch}
-use Rattle.commands.specs.Runs.{Ran}
 use Rattle.commands.specs.declared.ends.Sink as sinks
 use Rattle.commands.specs.declared.ends.Source as sources
+use Rattle.commands.proofs.RunLemmas.{TakesBoth}
 
 parts_at : (p : Text) (parts : List Text) → 0 < length parts → lines_of_parts (p ∷ parts) ≡ strip_carriage_return p ∷ lines_of_parts parts
 parts_at p [] h = absurd (omega arith)
@@ -26,120 +17,118 @@ lines_at p rest all = grind (arith, common_steps, length-slice_split, parts_at, 
 lines_last : (p : Text) → All (λ b. (b == 10) ≡ false) p → lines p ≡ (if length p == 0 then [] else p ∷ [])
 lines_last p h = ap lines_of_parts (slice_split_none (λ b. b == 10) p h)
 
-module _ (allows : Text → Answer → Type 0) where
-  -- each list of lines has an allowed answer
-  pub each_has : HasAnswers allows → (ls : List Text) → (a : Answer) × AllowsEach allows ls a
-  each_has answers [] = (silence, refl)
-  each_has answers (l ∷ ls) =
-      let first = answers l in
-      let others = each_has answers ls in
-      (both first.0 others.0, (first.0, others.0, first.1, others.1, refl))
+-- each list of lines has an allowed answer
+pub each_has : (allows : Text → Answer → Type 0) → HasAnswers allows → (ls : List Text) → (a : Answer) × AllowsEach allows ls a
+each_has allows answers [] = (silence, refl)
+each_has allows answers (l ∷ ls) =
+    let first = answers l in
+    let others = each_has allows answers ls in
+    (both first.0 others.0, (first.0, others.0, first.1, others.1, refl))
 
-  module _ {S : Type 0} {takes : S → Text → S → Type 0} (nothing : (s : S) → takes s [] s)
-      (both_times : (s t u : S) (a b : Text) → takes s a t → takes t b u → takes s (a ++ b) u) where
-    -- with the answer to a line that ends here, which the lines after it follow
-    after_line : {start now : S} {batch : Batch} {seen : Text} (x : Answer) (b : Batched takes allows start batch seen now)
-        → allows (strip_carriage_return b.piece) x → (rest : Text) (z : Answer) → AllowsEach allows (lines rest) z
-        → AllowsEach allows (lines ((seen ++ 10 ∷ []) ++ rest)) (both (record { text = b.written; status = code_of batch.status }) (both x z))
-    after_line {seen} x b allowed rest z h =
-        let whole : AllowsEach allows (lines (b.piece ++ 10 ∷ rest)) (both x z) = rw (lines_at b.piece rest b.in_line) (x, z, allowed, h, refl) in
-        rw (append_assoc seen (10 ∷ []) rest) (b.goes_on (10 ∷ rest) (both x z) whole)
+module _ {S : Type 0} {takes : S → Text → S → Type 0} {allows : Text → Answer → Type 0} where
+  -- with the answer to a line that ends here, which the lines after it follow
+  after_line : {start now : S} {batch : Batch} {seen : Text} (x : Answer) (b : Batched takes allows start batch seen now)
+      → allows (strip_carriage_return b.piece) x → (rest : Text) (z : Answer) → AllowsEach allows (lines rest) z
+      → AllowsEach allows (lines ((seen ++ 10 ∷ []) ++ rest)) (both (record { text = b.written; status = code_of batch.status }) (both x z))
+  after_line {seen} x b allowed rest z h =
+      let whole : AllowsEach allows (lines (b.piece ++ 10 ∷ rest)) (both x z) = rw (lines_at b.piece rest b.in_line) (x, z, allowed, h, refl) in
+      rw (append_assoc seen (10 ∷ []) rest) (b.goes_on (10 ∷ rest) (both x z) whole)
 
-    pub step_answered : (start now new : S) (batch next : Batch) (seen : Text) (x : Answer) → Batched takes allows start batch seen now
-        → ((piece : Text) → Holds batch.line piece → allows (strip_carriage_return piece) x) → takes now x.text new
-        → Holds next.line [] → code_of next.status ≡ max (code_of batch.status) x.status → Batched takes allows start next (seen ++ 10 ∷ []) new
-    step_answered start now new batch next seen x b allowed took holds status = record {
-      piece = [];
-      written = b.written ++ x.text;
-      holds = holds;
-      in_line = All-nil (λ b. (b == 10) ≡ false);
-      took = both_times start now new b.written x.text b.took took;
-      goes_on = λ rest z h.
-          let same : max (code_of next.status) z.status ≡ max (code_of batch.status) (max x.status z.status) = omega arith in
-          rw (append_assoc b.written x.text z.text, same) (after_line x b (allowed b.piece b.holds) rest z h);
-    }
+  pub step_answered : TakesBoth takes → (start now new : S) (batch next : Batch) (seen : Text) (x : Answer) → Batched takes allows start batch seen now
+      → ((piece : Text) → Holds batch.line piece → allows (strip_carriage_return piece) x) → takes now x.text new
+      → Holds next.line [] → code_of next.status ≡ max (code_of batch.status) x.status → Batched takes allows start next (seen ++ 10 ∷ []) new
+  step_answered both_times start now new batch next seen x b allowed took holds status = record {
+    piece = [];
+    written = b.written ++ x.text;
+    holds = holds;
+    in_line = All-nil (λ b. (b == 10) ≡ false);
+    took = both_times start now new b.written x.text b.took took;
+    goes_on = λ rest z h.
+        let same : max (code_of next.status) z.status ≡ max (code_of batch.status) (max x.status z.status) = omega arith in
+        rw (append_assoc b.written x.text z.text, same) (after_line x b (allowed b.piece b.holds) rest z h);
+  }
 
-    pub step_broken : HasAnswers allows → (start now new : S) (batch : Batch) (seen : Text) (x : Answer) → Batched takes allows start batch seen now
-        → ((piece : Text) → Holds batch.line piece → allows (strip_carriage_return piece) x) → PutBegun takes now x.text new
-        → Stopped takes allows start (seen ++ 10 ∷ []) new
-    step_broken answers start now new batch seen x b allowed w = record {
-      written = b.written ++ w.done;
-      took = both_times start now new b.written w.done b.took w.took;
-      begun = λ rest.
-          let z = each_has answers (lines rest) in
-          let text_is : b.written ++ (x.text ++ z.0.text) ≡ (b.written ++ w.done) ++ (w.begun.0 ++ z.0.text) = rw w.begun.1 (simp append_assoc) in
-          (_, after_line x b (allowed b.piece b.holds) rest z.0 z.1, (w.begun.0 ++ z.0.text, text_is));
-    }
+  pub step_broken : TakesBoth takes → HasAnswers allows → (start now new : S) (batch : Batch) (seen : Text) (x : Answer) → Batched takes allows start batch seen now
+      → ((piece : Text) → Holds batch.line piece → allows (strip_carriage_return piece) x) → PutBegun takes now x.text new
+      → Stopped takes allows start (seen ++ 10 ∷ []) new
+  step_broken both_times answers start now new batch seen x b allowed w = record {
+    written = b.written ++ w.done;
+    took = both_times start now new b.written w.done b.took w.took;
+    begun = λ rest.
+        let z = each_has allows answers (lines rest) in
+        let text_is : b.written ++ (x.text ++ z.0.text) ≡ (b.written ++ w.done) ++ (w.begun.0 ++ z.0.text) = rw w.begun.1 (simp append_assoc) in
+        (_, after_line x b (allowed b.piece b.holds) rest z.0 z.1, (w.begun.0 ++ z.0.text, text_is));
+  }
 
-    -- no more was written
-    pub step_stopped : HasAnswers allows → {start now : S} {batch : Batch} {seen : Text} (more : Text) → Batched takes allows start batch seen now
-        → Stopped takes allows start (seen ++ more) now
-    step_stopped answers {batch} {seen} more b = record {
-      written = b.written;
-      took = b.took;
-      begun = λ rest.
-          let z = each_has answers (lines (b.piece ++ (more ++ rest))) in
-          (both (answer_with b.written (code_of batch.status)) z.0, rw (append_assoc seen more rest) (b.goes_on (more ++ rest) z.0 z.1), (z.0.text, refl));
-    }
+  -- no more was written
+  pub step_stopped : HasAnswers allows → {start now : S} {batch : Batch} {seen : Text} (more : Text) → Batched takes allows start batch seen now
+      → Stopped takes allows start (seen ++ more) now
+  step_stopped answers {batch} {seen} more b = record {
+    written = b.written;
+    took = b.took;
+    begun = λ rest.
+        let z = each_has allows answers (lines (b.piece ++ (more ++ rest))) in
+        (both (answer_with b.written (code_of batch.status)) z.0, rw (append_assoc seen more rest) (b.goes_on (more ++ rest) z.0 z.1), (z.0.text, refl));
+  }
 
-    pub step_in_line : {start now : S} {batch next : Batch} (seen : Text) (byte : ℕ) → (byte == 10) ≡ false → Batched takes allows start batch seen now
-        → ((piece : Text) → Holds batch.line piece → Holds next.line (piece ++ byte ∷ [])) → code_of next.status ≡ code_of batch.status
-        → Batched takes allows start next (seen ++ byte ∷ []) now
-    step_in_line seen byte other b holds status = record {
-      piece = b.piece ++ byte ∷ [];
-      written = b.written;
-      holds = holds b.piece b.holds;
-      in_line = All-push (λ x. (x == 10) ≡ false) b.piece byte b.in_line other;
-      took = b.took;
-      goes_on = λ rest z h.
-          rw (status, append_assoc seen (byte ∷ []) rest) (b.goes_on (byte ∷ rest) z (rw (append_assoc b.piece (byte ∷ []) rest) at h));
-    }
+  pub step_in_line : {start now : S} {batch next : Batch} (seen : Text) (byte : ℕ) → (byte == 10) ≡ false → Batched takes allows start batch seen now
+      → ((piece : Text) → Holds batch.line piece → Holds next.line (piece ++ byte ∷ [])) → code_of next.status ≡ code_of batch.status
+      → Batched takes allows start next (seen ++ byte ∷ []) now
+  step_in_line seen byte other b holds status = record {
+    piece = b.piece ++ byte ∷ [];
+    written = b.written;
+    holds = holds b.piece b.holds;
+    in_line = All-push (λ x. (x == 10) ≡ false) b.piece byte b.in_line other;
+    took = b.took;
+    goes_on = λ rest z h.
+        rw (status, append_assoc seen (byte ∷ []) rest) (b.goes_on (byte ∷ rest) z (rw (append_assoc b.piece (byte ∷ []) rest) at h));
+  }
 
-    -- the end of the input, after a newline
-    pub last_none : {start now : S} {batch : Batch} {seen : Text} → Batched takes allows start batch seen now
-        → ((piece : Text) → Holds batch.line piece → true ≡ (length piece == 0)) → Answered takes allows start (code_of batch.status) seen now
-    last_none {batch} b empty = record {
-      written = b.written;
-      took = b.took;
-      whole =
-          let same : max (code_of batch.status) 0 ≡ code_of batch.status = omega arith in
-          let all = b.goes_on [] silence (rw (append-nil b.piece, lines_last b.piece b.in_line, ← empty b.piece b.holds) refl) in
-          simp (append-nil, same) at all;
-    }
+  -- the end of the input, after a newline
+  pub last_none : {start now : S} {batch : Batch} {seen : Text} → Batched takes allows start batch seen now
+      → ((piece : Text) → Holds batch.line piece → true ≡ (length piece == 0)) → Answered takes allows start (code_of batch.status) seen now
+  last_none {batch} b empty = record {
+    written = b.written;
+    took = b.took;
+    whole =
+        let same : max (code_of batch.status) 0 ≡ code_of batch.status = omega arith in
+        let all = b.goes_on [] silence (rw (append-nil b.piece, lines_last b.piece b.in_line, ← empty b.piece b.holds) refl) in
+        simp (append-nil, same) at all;
+  }
 
-    -- with the answer to a last line that the end of the input ends
-    after_last : {start now : S} {batch : Batch} {seen : Text} (x : Answer) (b : Batched takes allows start batch seen now)
-        → false ≡ (length b.piece == 0) → allows b.piece x
-        → AllowsEach allows (lines seen) (record { text = b.written ++ x.text; status = max (code_of batch.status) x.status })
-    after_last {batch} x b some allowed =
-        let same : max (code_of batch.status) (max x.status 0) ≡ max (code_of batch.status) x.status = omega arith in
-        let all = b.goes_on [] (both x silence) (rw (append-nil b.piece, lines_last b.piece b.in_line, ← some) (x, silence, allowed, refl, refl)) in
-        simp (append-nil, same) at all
+  -- with the answer to a last line that the end of the input ends
+  after_last : {start now : S} {batch : Batch} {seen : Text} (x : Answer) (b : Batched takes allows start batch seen now)
+      → false ≡ (length b.piece == 0) → allows b.piece x
+      → AllowsEach allows (lines seen) (record { text = b.written ++ x.text; status = max (code_of batch.status) x.status })
+  after_last {batch} x b some allowed =
+      let same : max (code_of batch.status) (max x.status 0) ≡ max (code_of batch.status) x.status = omega arith in
+      let all = b.goes_on [] (both x silence) (rw (append-nil b.piece, lines_last b.piece b.in_line, ← some) (x, silence, allowed, refl, refl)) in
+      simp (append-nil, same) at all
 
-    pub last_answered : (start now new : S) {batch : Batch} (seen : Text) (x : Answer) {status : ℕ} → Batched takes allows start batch seen now
-        → ((piece : Text) → Holds batch.line piece → false ≡ (length piece == 0)) → ((piece : Text) → Holds batch.line piece → allows piece x)
-        → takes now x.text new → status ≡ max (code_of batch.status) x.status → Answered takes allows start status seen new
-    last_answered start now new seen x b some allowed took is = record {
-      written = b.written ++ x.text;
-      took = both_times start now new b.written x.text b.took took;
-      whole = rw is (after_last x b (some b.piece b.holds) (allowed b.piece b.holds));
-    }
+  pub last_answered : TakesBoth takes → (start now new : S) {batch : Batch} (seen : Text) (x : Answer) {status : ℕ} → Batched takes allows start batch seen now
+      → ((piece : Text) → Holds batch.line piece → false ≡ (length piece == 0)) → ((piece : Text) → Holds batch.line piece → allows piece x)
+      → takes now x.text new → status ≡ max (code_of batch.status) x.status → Answered takes allows start status seen new
+  last_answered both_times start now new seen x b some allowed took is = record {
+    written = b.written ++ x.text;
+    took = both_times start now new b.written x.text b.took took;
+    whole = rw is (after_last x b (some b.piece b.holds) (allowed b.piece b.holds));
+  }
 
-    pub last_broken : (start now new : S) {batch : Batch} (seen : Text) (x : Answer) → Batched takes allows start batch seen now
-        → ((piece : Text) → Holds batch.line piece → false ≡ (length piece == 0)) → ((piece : Text) → Holds batch.line piece → allows piece x)
-        → PutBegun takes now x.text new → Begun takes allows start seen new
-    last_broken start now new seen x b some allowed w = record {
-      written = b.written ++ w.done;
-      took = both_times start now new b.written w.done b.took w.took;
-      begun = (_, after_last x b (some b.piece b.holds) (allowed b.piece b.holds), (w.begun.0, rw w.begun.1 (simp append_assoc)));
-    }
+  pub last_broken : TakesBoth takes → (start now new : S) {batch : Batch} (seen : Text) (x : Answer) → Batched takes allows start batch seen now
+      → ((piece : Text) → Holds batch.line piece → false ≡ (length piece == 0)) → ((piece : Text) → Holds batch.line piece → allows piece x)
+      → PutBegun takes now x.text new → Begun takes allows start seen new
+  last_broken both_times start now new seen x b some allowed w = record {
+    written = b.written ++ w.done;
+    took = both_times start now new b.written w.done b.took w.took;
+    begun = (_, after_last x b (some b.piece b.holds) (allowed b.piece b.holds), (w.begun.0, rw w.begun.1 (simp append_assoc)));
+  }
 
-    -- no more was written
-    pub last_stopped : HasAnswers allows → (start now : S) {batch : Batch} (seen : Text)
-        → Batched takes allows start batch seen now → Begun takes allows start seen now
-    last_stopped answers start now seen b =
-        let s = step_stopped answers [] b in
-        record { written = s.written; took = s.took; begun = simp append-nil at (s.begun []) }
+  -- no more was written
+  pub last_stopped : HasAnswers allows → (start now : S) {batch : Batch} (seen : Text)
+      → Batched takes allows start batch seen now → Begun takes allows start seen now
+  last_stopped answers start now seen b =
+      let s = step_stopped answers [] b in
+      record { written = s.written; took = s.took; begun = simp append-nil at (s.begun []) }
 
 -- a fact that holds whatever the error
 pub on_any_err : {T E : Type 0} (r : Result T E) {P : Type 0} → P → IfErr r (λ _. P)
@@ -154,33 +143,26 @@ stopped_further {seen} more s =
 
 -- the bytes up to one more
 pub one_further : (seen chunk : Text) (i : ℕ) → i < length chunk → (seen ++ take i chunk) ++ get_or chunk i 0 ∷ [] ≡ seen ++ take (i + 1) chunk
-one_further seen chunk i h = append_assoc seen (take i chunk) (get_or chunk i 0 ∷ []) ∙ ap (λ t. seen ++ t) (sym (take_more chunk i 0 h))
+one_further seen chunk i h = grind (arith, common_steps, append_assoc)
 
 pub to_the_end : (seen chunk : Text) (i : ℕ) → i < length chunk → ((seen ++ take i chunk) ++ get_or chunk i 0 ∷ []) ++ drop (i + 1) chunk ≡ seen ++ chunk
-to_the_end seen chunk i h = ap (λ t. t ++ drop (i + 1) chunk) (one_further seen chunk i h) ∙ append_assoc seen (take (i + 1) chunk) (drop (i + 1) chunk)
-    ∙ ap (λ t. seen ++ t) (take-append-drop (i + 1) chunk)
+to_the_end seen chunk i h = grind (arith, common_steps, one_further, append_assoc, take-append-drop)
 
-module _ {I : Type 0} {gives : I → Text → I → Type 0} (gives_both : (s t u : I) (a b : Text) → gives s a t → gives t b u → gives s (a ++ b) u) where
+module _ {I : Type 0} {gives : I → Text → I → Type 0} (gives_both : TakesBoth gives) where
   pub given_more : {from i j : I} {given chunk : Text} {P Q : Text → Type 0} → given ≡ chunk → Given gives from i P
       → gives i given j → ((seen : Text) → P seen → Q (seen ++ chunk))
       → Given gives from j Q
-  given_more {from} {i} {j} {chunk} same t more step = record {
-    seen = t.seen ++ chunk;
-    gave = gives_both from i j t.seen chunk t.gave (subst (λ (c : Text). gives i c j) same more);
-    is = step t.seen t.is;
-  }
+  given_more {from} {i} {j} {chunk} same t more step = grind (arith, common_steps)
 
   pub given_no_more : {from i j : I} {P : Text → Type 0} → Given gives from i P → gives i [] j → Given gives from j P
   given_no_more {from} {i} {j} t more =
-      record { seen = t.seen; gave = subst (λ (c : Text). gives from c j) (append-nil t.seen) (gives_both from i j t.seen [] t.gave more); is = t.is }
+      record { seen = t.seen; gave = subst (λ c. gives from c j) (append-nil t.seen) (gives_both from i j t.seen [] t.gave more); is = t.is }
 
   -- no more was written
-  pub stopped_here : {S : Type 0} (takes : S → Text → S → Type 0) (nothing : (s : S) → takes s [] s)
-      (both : (s t u : S) (a b : Text) → takes s a t → takes t b u → takes s (a ++ b) u)
-      (allows : Text → Answer → Type 0) → HasAnswers allows → {from i : I} (start o : S) (batch : Batch)
+  pub stopped_here : {S : Type 0} {takes : S → Text → S → Type 0} {allows : Text → Answer → Type 0}
+      → HasAnswers allows → {from i : I} (start o : S) (batch : Batch)
       → Given gives from i (λ seen. Batched takes allows start batch seen o) → Given gives from i (λ seen. Stopped takes allows start seen o)
-  stopped_here takes nothing both allows answers start o batch t =
-      record { seen = t.seen; gave = t.gave; is = simp append-nil at (step_stopped allows nothing both answers [] t.is) }
+  stopped_here answers start o batch t = record { seen = t.seen; gave = t.gave; is = simp append-nil at (step_stopped answers [] t.is) }
 
 -- what was read begins the input
 begins_input : (ended : Bool) (read input : Text) → IsInput ended read input → Begins read input
@@ -192,7 +174,7 @@ same_input true read input end is = sym is
 same_input false read input end is = absurd (true≢false (sym end))
 
 module _ {I S : Type 0} {source : sources.Ghosts I} {sink : sinks.Ghosts S}
-    (takes_both : (s t u : S) (a b : Text) → sink.takes s a t → sink.takes t b u → sink.takes s (a ++ b) u)
+    (takes_both : TakesBoth sink.takes)
     (allows : Text → Answer → Type 0) where
   pub ran_stopped : (i j : I) {o p : S} {status : ℕ} → 5 ≤ status
       → Given source.gives i j (λ seen. Stopped sink.takes allows o seen p)
@@ -212,16 +194,7 @@ module _ {I S : Type 0} {source : sources.Ghosts I} {sink : sinks.Ghosts S}
 
   pub ran_begun : (i j : I) {o p : S} {seen : Text} {status : ℕ} → 5 ≤ status → source.has_ended j ≡ true → source.gives i seen j
       → Begun sink.takes allows o seen p → Ran source sink (λ input. AllowsEach allows (lines input)) i j o p status
-  ran_begun i j {seen} high ended gave s = record {
-    read = seen;
-    written = s.written;
-    gave = gave;
-    took = s.took;
-    leaves = record {
-      begun = λ input is. rw (← same_input (source.has_ended j) seen input ended is) s.begun;
-      whole = λ low. absurd (omega arith);
-    };
-  }
+  ran_begun i j {seen} high ended gave s = grind (arith, common_steps, same_input)
 
   -- all was answered, and the finishing took nothing more
   pub ran_answered : {i j : I} {o p q : S} {seen : Text} {told status : ℕ} → (status ≡ told) ⊎ (status ≡ 6)

@@ -1,19 +1,12 @@
 -- What the checks of grids rest on, for a puzzle of each game: an input has one answer of `check`, and the printed form of
 -- a solution is told to be correct.
-use Rattle.std.proofs.Common.{◌≡◌, ◌<◌, ◌≤◌, ◌∷◌, ◌⊎◌, ℕ, List, zero, suc, [], length, refl, sym, ap, subst, arith, inl, inr, ◌≢◌, ◌∙◌, ◌*◌, Bool, true, false, Option, Some, None, get_or, slice_index, true≢false, codes}
-use Rattle.std.proofs.lemmas.Grind.{common_steps}
-use Rattle.std.specs.Prelude.{All, option_map, ◌++◌, ◌↔◌}
-use Rattle.std.proofs.lemmas.Bool.{cases_eq, cases_lt, eq-eqb}
+use Rattle.commands.proofs.Common.{AllByRecursion, AllowsGrid, Answer, Black, Bool, Extent, IsAsShown, IsGrid, IsInputOf, IsLight, IsLightSolution, IsPattern, IsSolo, IsTentSolution, IsTents, Light, LightCell, List, None, Numbered, Option, Pattern, PuzzleFacts, SaysFault, Solo, Some, Tents, Text, White, [], ap, arith, cases_eq, cases_lt, checked, codes, common_steps, eq-eqb, false, game_of, get_or, get_or_past, hides_nothing, inl, inr, is_shown, is_white, length, light_fault, light_hides, number_fits, option_map, pattern_cell, pattern_fault, printed_by, refl, refused, slice_get, slice_index, solo_cell, solo_extent, solo_fault, subst, suc, sym, tent_fault, tent_hides, text_limit, true, true≢false, white, without_returns, zero, ℕ, ◌*◌, ◌++◌, ◌+◌, ◌<◌, ◌↔◌, ◌∙◌, ◌∷◌, ◌≡◌, ◌≢◌, ◌⊎◌}
 use Rattle.std.specs.Bool.{Decides}
 use Rattle.std.specs.Cmp.Lexicographic.{bytes_decides}
-use Rattle.std.specs.List.{slice_get}
 use Rattle.std.specs.Str.{bytes_eq}
-use Rattle.std.proofs.lemmas.List.{get_or_past}
-use Rattle.gameid_core.specs.declared.light_up.cell.LightCell.{LightCell}
-use Rattle.gameid_core.specs.declared.light_up.cell.LightCell.TheVariants.{White, Black, Numbered}
 use Rattle.gameid_core.specs.declared.id.game.Game.TheVariants as game
-use Rattle.fields_core.specs.Light.{is_white, white}
-use Rattle.gameid_core.proofs.FirstFailed.{answer_once, one_answer}
+use Rattle.gameid_core.proofs.FirstFailed.{IsKnown, answer_once, one_answer}
+use Rattle.gameid_core.specs.FirstFailed.{IsAnswerOfCheck, NoneFails}
 use Rattle.fields_core.proofs.LightRuleLemmas as light
 use Rattle.fields_core.proofs.TentRuleLemmas as tents
 use Rattle.fields_core.specs.LightFaults.{FailsLight, light_tests}
@@ -22,148 +15,86 @@ use Rattle.pattern_core.specs.Faults.{FailsPattern, pattern_tests}
 use Rattle.solo_core.specs.Faults.{FailsSolo, given_tests, house_tests}
 use Rattle.pattern_core.proofs.FaultLemmas.{pattern_known, pattern_none, pattern_sound}
 use Rattle.solo_core.proofs.RepeatLemmas.{solo_known, solo_none, solo_sound}
-use Rattle.commands.specs.Common.{IsGrid, Extent, IsAsShown, hides_nothing, light_hides, tent_hides, IsPrinted, pattern_cell}
-use Rattle.commands.specs.Common.{solo_cell, solo_extent, light_cell, tents_cell, IsLight, IsPattern, IsSolo, IsTents, Light, Pattern, Solo}
-use Rattle.commands.specs.Common.{Tents, IsPatternFault, IsSoloFault, IsLightFault, IsLightSolution, IsTentFault, IsTentSolution}
-use Rattle.commands.specs.Answers.{Answer, Text}
-use Rattle.commands.specs.CheckAnswers.{AllowsGrid, SaysFault, checked, IsInputOf, without_returns}
-use Rattle.commands.specs.Games.{game_of}
-use Rattle.commands.specs.LightFacts.{light_fault}
-use Rattle.commands.specs.PatternFacts.{pattern_fault}
-use Rattle.commands.specs.PuzzleFacts.{PuzzleFacts, printed_by}
-use Rattle.commands.specs.SoloFacts.{solo_fault}
-use Rattle.commands.specs.TentsFacts.{tent_fault}
-use Rattle.commands.specs.Replies.{refused}
-use Rattle.commands.specs.Texts.{text_limit}
-use Rattle.commands.proofs.PrintedGrids.{light_once, pattern_once, solo_once, tents_once, CellOnce, IsGridText, grid_is_text, light_cell_text, pattern_cell_text, solo_cell_text, tents_cell_text, printed_once, plain_kept}
+use Rattle.commands.proofs.PrintedGrids.{IsCellText, ReadsCells, grid_is_text, grid_read, light_cell_text, light_in, light_reads, pattern_cell_text, pattern_reads, plain_kept, printed_read, solo_cell_text, solo_in, solo_reads, symbol_in, tents_cell_text, tents_in, tents_reads}
 use Rattle.commands.proofs.Readings.{AreSame}
 
 -- so it is, or not
 abbrev pub Decided : Type 0 → Type 0
 Decided A = A ⊎ (A → ⊥)
 
-pub decided_either : {A B : Type 0} → Decided A → Decided B → Decided (A ⊎ B)
+decided_as : {A B : Type 0} → (A → B) → (B → A) → Decided A → Decided B
+decided_as to from (inl a) = inl (to a)
+decided_as to from (inr never) = inr (λ b. never (from b))
+
+decided_both : {A B : Type 0} → Decided A → Decided B → Decided (A × B)
+decided_both (inl a) (inl b) = inl (a, b)
+decided_both (inr never) b = inr (λ h. never h.0)
+decided_both a (inr never) = inr (λ h. never h.1)
+
+decided_either : {A B : Type 0} → Decided A → Decided B → Decided (A ⊎ B)
 decided_either (inl a) b = inl (inl a)
-decided_either (inr never) (inl b) = inl (inr b)
-decided_either {A} {B} (inr never) (inr none) = inr (λ h. neither h)
-  where
-    neither : A ⊎ B → ⊥
-    neither (inl a) = never a
-    neither (inr b) = none b
+decided_either (inr never) b = decided_as inr (λ h. elim h [ inl a ↦ absurd (never a) | inr is ↦ is ]) b
+
+decided_if : {A B : Type 0} → Decided A → Decided B → Decided (A → B)
+decided_if (inr never) b = inl (λ a. absurd (never a))
+decided_if (inl a) b = decided_as (λ is _. is) (λ follows. follows a) b
 
 decided_by : {P : Type 0} (test : Bool) → Decides test P → Decided P
 decided_by true d = inl (d.0 refl)
 decided_by false d = inr (λ p. true≢false (sym (d.1 p)))
 
-pub decided_text : {a b : List ℕ} → Decided (a ≡ b)
+decided_text : {a b : List ℕ} → Decided (a ≡ b)
 decided_text {a} {b} = decided_by (bytes_eq a b) (bytes_decides a b)
 
-pub decided_below : (n : ℕ) (P : ℕ → Type 0) → ((k : ℕ) → Decided (P k)) → Decided ((k : ℕ) → k < n → P k)
+decided_less : (a b : ℕ) → Decided (a < b)
+decided_less a b = grind (arith, common_steps, cases_lt)
+
+decided_below : (n : ℕ) (P : ℕ → Type 0) → ((k : ℕ) → Decided (P k)) → Decided ((k : ℕ) → k < n → P k)
 decided_below zero P each = inl (λ k lt. absurd (omega arith))
-decided_below (suc n) P each = elim (decided_below n P each) [
-  | inl all ↦ elim (each n) [
-    | inl last ↦ inl (λ k lt. elim (cases_eq k n) [ inl is ↦ subst P (sym is) last | inr other ↦ all k (omega arith) ])
-    | inr never ↦ inr (λ all. never (all n (omega arith)))
-  ]
-  | inr never ↦ inr (λ all. never (λ k lt. all k (omega arith)))
-]
+decided_below (suc n) P each = decided_as (λ both k lt. elim (cases_eq k n) [ inl is ↦ subst P (sym is) both.1 | inr other ↦ both.0 k (omega arith) ])
+    (λ all. (λ k lt. all k (omega arith), all n (omega arith))) (decided_both (decided_below n P each) (each n))
 
--- ---- grids by their first number and the others
-cons_all : {values v : ℕ} (tail : List ℕ) → v < values → All (λ n. n < values) tail → All (λ n. n < values) (v ∷ tail)
-cons_all tail small all zero d lt = small
-cons_all tail small all (suc k) d lt = all k d (omega arith)
+-- what is told of the grids of a puzzle: each has one answer, and it is that nothing is wrong for solutions alone
+pub record AreTold (is_grid solves : List ℕ → Type 0) (checks : List ℕ → Answer → Type 0) : Type 0 where
+  pub some : (g : List ℕ) → is_grid g → (a : Answer) × checks g a
+  pub alone : (g : List ℕ) (a b : Answer) → checks g a → checks g b → a ≡ b
+  pub sound : (g : List ℕ) (a : Answer) → checks g a → a.status ≡ 0 → solves g
+  pub right : (g : List ℕ) → solves g → checks g (checked None)
 
-cons_grid : {cells values : ℕ} (v : ℕ) {tail : List ℕ} → v < values → IsGrid cells values tail → IsGrid (suc cells) values (v ∷ tail)
-cons_grid v {tail} small grid = record { each_cell = ap suc grid.each_cell; each_value = cons_all tail small grid.each_value }
-
-empty_is : {values : ℕ} (g : List ℕ) → IsGrid 0 values g → [] ≡ g
-empty_is [] grid = refl
-empty_is (v ∷ tail) grid = absurd (let l = grid.each_cell in omega arith)
-
--- one that is found, or none
-abbrev pub Search : ℕ → ℕ → (List ℕ → Type 0) → Type 0
-Search cells values P = ((g : List ℕ) × IsGrid cells values g × P g) ⊎ ((g : List ℕ) → IsGrid cells values g → P g → ⊥)
-
--- none whose first number is below m
-abbrev NoneUnder : ℕ → ℕ → (List ℕ → Type 0) → ℕ → Type 0
-NoneUnder cells values P m = (v : ℕ) (tail : List ℕ) → v < m → IsGrid cells values (v ∷ tail) → P (v ∷ tail) → ⊥
-
-pub grid_found : (cells : ℕ) {values : ℕ} (P : List ℕ → Type 0) → ((g : List ℕ) → IsGrid cells values g → Decided (P g)) → Search cells values P
-grid_found zero {values} P decide = elim (decide [] empty) [
-  | inl wanted ↦ inl ([], empty, wanted)
-  | inr never ↦ inr (λ g grid p. never (subst P (sym (empty_is g grid)) p))
-]
+faults_told : {F : Type 0} {is_grid solves : List ℕ → Type 0} (rule_text : F → Text) (fails : List ℕ → F → Type 0) (tests : List F)
+    → ((g : List ℕ) → is_grid g → NoneFails (fails g) tests → solves g)
+    → ((g : List ℕ) → is_grid g → AllByRecursion (IsKnown (fails g)) tests)
+    → ((g : List ℕ) → solves g → NoneFails (fails g) tests)
+    → AreTold is_grid solves (λ g. SaysFault (IsAnswerOfCheck (solves g) (fails g) tests) rule_text)
+faults_told {F} rule_text fails tests sound known complete = record {
+  some = λ g grid. let fault = one_answer (fails g) tests (sound g grid) (known g grid) in
+      (checked (option_map rule_text fault.0), record { fault = fault.0; first = fault.1; said = refl });
+  alone = λ g a b x y. x.said ∙ ap (λ (f : Option F). checked (option_map rule_text f))
+      (answer_once (fails g) tests (complete g) x.fault y.fault x.first y.first) ∙ sym y.said;
+  sound = λ g a x fine. subst (IsAnswerOfCheck _ (fails g) tests) (no_fault x.fault (sym (ap (λ (c : Answer). c.status) x.said) ∙ fine)) x.first;
+  right = λ g solution. record { fault = None; first = solution; said = refl };
+}
   where
-    empty : IsGrid 0 values []
-    empty = record { each_cell = refl; each_value = λ k d lt. absurd (omega arith) }
-grid_found (suc cells) {values} P decide = elim (under (λ Q decided. grid_found cells Q decided) values (omega arith)) [
-  | inl found ↦ inl found
-  | inr none ↦ inr (λ g grid p. first none g grid p)
-]
-  where
-    tail_grid : (v : ℕ) (tail : List ℕ) → IsGrid (suc cells) values (v ∷ tail) → IsGrid cells values tail
-    tail_grid v tail grid = record {
-      each_cell = let l = grid.each_cell in omega arith;
-      each_value = λ k d lt. grid.each_value (suc k) d (omega arith);
-    }
-
-    -- of those whose first number is below m
-    under : ((Q : List ℕ → Type 0) → ((g : List ℕ) → IsGrid cells values g → Decided (Q g)) → Search cells values Q) → (m : ℕ)
-        → m ≤ values → ((g : List ℕ) × IsGrid (suc cells) values g × P g) ⊎ NoneUnder (suc cells) values P m
-    under find zero low = inr (λ v tail lt. absurd (omega arith))
-    under find (suc m) low = elim (find (λ tail. P (m ∷ tail)) (λ tail grid. decide (m ∷ tail) (cons_grid m (omega arith) grid))) [
-      | inl found ↦ inl (m ∷ found.0, cons_grid m (omega arith) found.1, found.2)
-      | inr none ↦ elim (under find m (omega arith)) [
-        | inl found ↦ inl found
-        | inr before ↦ inr (λ v tail lt grid p. elim (cases_eq v m) [
-          | inl same ↦ none tail (tail_grid v tail grid) (subst (λ (n : ℕ). P (n ∷ tail)) same p)
-          | inr other ↦ before v tail (omega arith) grid p
-        ])
-      ]
-    ]
-
-    first : NoneUnder (suc cells) values P values → (g : List ℕ) → IsGrid (suc cells) values g → P g → ⊥
-    first none [] grid p = absurd (let l = grid.each_cell in omega arith)
-    first none (v ∷ tail) grid p = none v tail (grid.each_value 0 0 (omega arith)) grid p
+    no_fault : (fault : Option F) → (checked (option_map rule_text fault)).status ≡ 0 → fault ≡ None
+    no_fault None e = refl
+    no_fault (Some f) e = absurd (omega (arith, e))
 
 pub record CheckedPuzzle {P : Type 0} (play : PuzzleFacts P) (p : P) : Type 0 where
   -- a printed grid tells its numbers, and may be read
-  pub once : CellOnce (play.hides p) (play.value_count p) (play.extent p) (play.cell_text p)
-  pub text : (g : List ℕ) → IsAsShown (play.hides p) (play.value_count p) (play.extent p) g → IsGridText (printed_by play p g)
+  pub reads : ℕ → Text → ℕ × ℕ
+  pub known : ReadsCells (play.hides p) (play.value_count p) (play.extent p) (play.cell_text p) reads
+  pub text : (g : List ℕ) → IsAsShown (play.hides p) (play.value_count p) (play.extent p) g → IsCellText text_limit (printed_by play p g)
   pub decides : (place : ℕ) → Decided (play.hides p place)
-  -- there is one answer, and it is that nothing is wrong for solutions alone
-  pub some : (g : List ℕ) → IsGrid ((play.extent p).w * (play.extent p).h) (play.value_count p) g → (a : Answer) × play.game.checks p g a
-  pub alone : (g : List ℕ) (a b : Answer) → play.game.checks p g a → play.game.checks p g b → a ≡ b
-  pub sound : (g : List ℕ) (a : Answer) → IsGrid ((play.extent p).w * (play.extent p).h) (play.value_count p) g
-      → play.game.checks p g a → a.status ≡ 0 → play.game.solves p g
-  pub right : (g : List ℕ) → play.game.solves p g → play.game.checks p g (checked None)
+  pub told : AreTold (IsGrid ((play.extent p).w * (play.extent p).h) (play.value_count p)) (play.game.solves p) (play.game.checks p)
   -- a solution is shown by its printed form
   pub shown : (g : List ℕ) → play.game.solves p g → IsAsShown (play.hides p) (play.value_count p) (play.extent p) g
 
--- the answers that tell a fault
-module _ {F : Type 0} (is : Option F → Type 0) (rule_text : F → Text) where
-  told_some : (fault : Option F) × is fault → (a : Answer) × SaysFault is rule_text a
-  told_some fault = (checked (option_map rule_text fault.0), record { fault = fault.0; first = fault.1; said = refl })
-
-  told_alone : ((a b : Option F) → is a → is b → a ≡ b) → (a b : Answer) → SaysFault is rule_text a → SaysFault is rule_text b → a ≡ b
-  told_alone alone a b x y = x.said ∙ ap (λ (f : Option F). checked (option_map rule_text f)) (alone x.fault y.fault x.first y.first) ∙ sym y.said
-
-  told_sound : {a : Answer} → SaysFault is rule_text a → a.status ≡ 0 → is None
-  told_sound x fine = subst is (no_fault x.fault (sym (ap (λ (c : Answer). c.status) x.said) ∙ fine)) x.first
-    where
-      no_fault : (fault : Option F) → (checked (option_map rule_text fault)).status ≡ 0 → fault ≡ None
-      no_fault None e = refl
-      no_fault (Some f) e = absurd (omega (arith, e))
-
-  told_right : is None → SaysFault is rule_text (checked None)
-  told_right first = record { fault = None; first = first; said = refl }
-
 shows_all : {values : ℕ} {size : Extent} {g : List ℕ} → IsGrid (size.w * size.h) values g → IsAsShown hides_nothing values size g
-shows_all grid = record { grid = grid; hidden = λ place none. absurd none }
+shows_all grid = grind (arith, common_steps)
 
 -- a number below 2 that isn't 1
 none_at : (v : ℕ) → v < 2 → (v ≡ 1 → ⊥) → v ≡ 0
-none_at v small never = let other : v ≢ 1 = never in omega arith
+none_at v small never = omega (arith, never)
 
 -- in a grid of 0 and 1 a cell holds 0 where it can't hold 1
 hidden_zero : {cells : ℕ} {g : List ℕ} (place : ℕ) → IsGrid cells 2 g → (place < cells → slice_index g place ≡ 1 → ⊥) → slice_index g place ≡ 0
@@ -171,28 +102,21 @@ hidden_zero place grid not_so = grind (arith, common_steps, cases_lt, get_or_pas
 
 pub pattern_checked : (p : Pattern) → IsPattern p → CheckedPuzzle (game_of game.Pattern) p
 pattern_checked p ok = record {
-  once = pattern_once p;
+  reads = λ place. symbol_in 35;
+  known = pattern_reads p;
   text = λ g shown. grid_is_text (pattern_cell p g) p.size 1 (λ place lt. pattern_cell_text p g place) ok.size.w_high ok.size.h_high (omega arith);
   decides = λ place. inr (λ none. none);
-  some = λ g grid. told_some (IsPatternFault p g) pattern_fault (one_answer (FailsPattern p g) (pattern_tests p) (pattern_sound p g grid) (pattern_known p g));
-  alone = λ g. told_alone (IsPatternFault p g) pattern_fault (answer_once (FailsPattern p g) (pattern_tests p) (pattern_none p g));
-  sound = λ g a grid told fine. told_sound (IsPatternFault p g) pattern_fault told fine;
-  right = λ g s. told_right (IsPatternFault p g) pattern_fault s;
+  told = faults_told pattern_fault (FailsPattern p) (pattern_tests p) (pattern_sound p) (λ g grid. pattern_known p g) (pattern_none p);
   shown = λ g s. shows_all s.grid;
 }
 
 pub solo_checked : (p : Solo) → IsSolo p → CheckedPuzzle (game_of game.Solo) p
 solo_checked p ok = record {
-  once = solo_once p ok;
+  reads = solo_in p;
+  known = solo_reads p ok;
   text = λ g shown. grid_is_text (solo_cell p g) (solo_extent p) 3 (λ place lt. solo_cell_text p ok g shown lt) ok.n_high ok.n_high (omega arith);
   decides = λ place. inr (λ none. none);
-  some =
-      λ g grid. told_some (IsSoloFault p g) (solo_fault p)
-      (one_answer (FailsSolo p g) (given_tests p ++ house_tests p) (solo_sound p ok g grid)
-      (solo_known p ok g));
-  alone = λ g. told_alone (IsSoloFault p g) (solo_fault p) (answer_once (FailsSolo p g) (given_tests p ++ house_tests p) (solo_none p ok g));
-  sound = λ g a grid told fine. told_sound (IsSoloFault p g) (solo_fault p) told fine;
-  right = λ g s. told_right (IsSoloFault p g) (solo_fault p) s;
+  told = faults_told (solo_fault p) (FailsSolo p) (given_tests p ++ house_tests p) (solo_sound p ok) (λ g grid. solo_known p ok g) (solo_none p ok);
   shown = λ g s. shows_all s.grid;
 }
 
@@ -206,8 +130,7 @@ white_at (x ∷ cells) (suc place) on = white_at cells place on
 
 light_hidden : (p : Light) (g : List ℕ) → IsLightSolution p g → (place : ℕ) → light_hides p place → slice_index g place ≡ 0
 unfolding white
-light_hidden p g s place hides = hidden_zero place s.grid
-    (λ lt one. hides (white_at p.cells place (s.none_on_black place lt (eq-eqb (slice_index g place) 1 one))))
+light_hidden p g s place hides = grind (arith, common_steps, hidden_zero, white_at, eq-eqb)
 
 light_decides : (o : Option LightCell) → Decided (o ≢ Some White)
 light_decides (Some White) = inr (λ never. never refl)
@@ -215,35 +138,24 @@ light_decides o = inl (λ e. cc)
 
 pub light_checked : (p : Light) → IsLight p → CheckedPuzzle (game_of game.LightUp) p
 light_checked p ok = record {
-  once = light_once p;
-  text = λ g shown. grid_is_text (light_cell p g) p.size 1 (λ place lt. light_cell_text p ok g place) ok.size.extent.w_high ok.size.extent.h_high (omega arith);
-  decides = λ place. light_decides (slice_get p.cells place);
-  some =
-      λ g grid. told_some (IsLightFault p g) (light_fault p)
-      (one_answer (FailsLight p g) (light_tests p) (light.light-sound p g grid)
-      (light.light-known p g grid));
-  alone = λ g. told_alone (IsLightFault p g) (light_fault p) (answer_once (FailsLight p g) (light_tests p) (λ s. light.light-none p g s.grid s));
-  sound = λ g a grid told fine. told_sound (IsLightFault p g) (light_fault p) told fine;
-  right = λ g s. told_right (IsLightFault p g) (light_fault p) s;
+  reads = λ place. light_in _;
+  known = light_reads p ok;
+  text = λ g shown. grid_is_text _ p.size 1 (λ place lt. light_cell_text p ok g place) ok.size.extent.w_high ok.size.extent.h_high (omega arith);
+  decides = λ place. light_decides _;
+  told = faults_told (light_fault p) (FailsLight p) (light_tests p) (light.light-sound p) (light.light-known p) (λ g s. light.light-none p g s.grid s);
   shown = λ g s. record { grid = s.grid; hidden = light_hidden p g s };
 }
 
 tent_hidden : (p : Tents) (g : List ℕ) → IsTentSolution p g → (place : ℕ) → tent_hides p place → slice_index g place ≡ 0
-tent_hidden p g s place hides = hidden_zero place s.grid
-    (λ lt one. true≢false (sym (eq-eqb (slice_index p.trees place) 1 hides) ∙ s.none_on_trees place lt (eq-eqb (slice_index g place) 1 one)))
+tent_hidden p g s place hides = grind (arith, common_steps, hidden_zero, eq-eqb)
 
 pub tents_checked : (p : Tents) → IsTents p → CheckedPuzzle (game_of game.Tents) p
 tents_checked p ok = record {
-  once = tents_once p;
-  text = λ g shown. grid_is_text (tents_cell p g) p.size 1 (λ place lt. tents_cell_text p g place) ok.size.extent.w_high ok.size.extent.h_high (omega arith);
-  decides = λ place. cases_eq (slice_index p.trees place) 1;
-  some =
-      λ g grid. told_some (IsTentFault p g) (tent_fault p)
-      (one_answer (FailsTents p g) (tent_tests p) (tents.tents-sound p g grid)
-      (tents.tents-known p g grid));
-  alone = λ g. told_alone (IsTentFault p g) (tent_fault p) (answer_once (FailsTents p g) (tent_tests p) (λ s. tents.tents-none p g s.grid s));
-  sound = λ g a grid told fine. told_sound (IsTentFault p g) (tent_fault p) told fine;
-  right = λ g s. told_right (IsTentFault p g) (tent_fault p) s;
+  reads = tents_in p;
+  known = tents_reads p;
+  text = λ g shown. grid_is_text _ p.size 1 (λ place lt. tents_cell_text p g place) ok.size.extent.w_high ok.size.extent.h_high (omega arith);
+  decides = λ place. cases_eq _ 1;
+  told = faults_told (tent_fault p) (FailsTents p) (tent_tests p) (tents.tents-sound p) (tents.tents-known p) (λ g s. tents.tents-none p g s.grid s);
   shown = λ g s. record { grid = s.grid; hidden = tent_hidden p g s };
 }
 
@@ -251,64 +163,47 @@ module _ {P : Type 0} (play : PuzzleFacts P) (p : P) (game : CheckedPuzzle play 
   abbrev printed : List ℕ → Text
   printed g = printed_by play p g
 
-  abbrev Given : Text → List ℕ → Type 0
-  Given = IsInputOf play p
+  abbrev Shown : List ℕ → Type 0
+  Shown = IsAsShown (play.hides p) (play.value_count p) (play.extent p)
 
-  -- ---- there is an answer
-  hidden_decided : (g : List ℕ) → Decided ((place : ℕ) → play.hides p place → slice_index g place ≡ 0)
-  hidden_decided g = elim (decided_below (length g) (λ place. play.hides p place → slice_index g place ≡ 0) each) [
-    | inl all ↦ inl (λ place hidden. elim (cases_lt place (length g)) [
-      | inl within ↦ all place within hidden
-      | inr past ↦ get_or_past g place 0 past
-    ])
-    | inr never ↦ inr (λ all. never (λ place lt. all place))
-  ]
-    where
-      each : (place : ℕ) → Decided (play.hides p place → slice_index g place ≡ 0)
-      each place = elim (game.decides place) [
-        | inr shown ↦ inl (λ hidden. absurd (shown hidden))
-        | inl hidden ↦ elim (cases_eq (slice_index g place) 0) [
-          | inl none ↦ inl (λ _. none)
-          | inr other ↦ inr (λ none. other (none hidden))
-        ]
-      ]
+  -- ---- an input is the printed form of one grid or of none, which is decided by the one that is read of it
+  candidate : Text → List ℕ
+  candidate input = grid_read game.reads (play.extent p) (without_returns input)
 
-  input_decided : (input : Text) (g : List ℕ) → IsGrid ((play.extent p).w * (play.extent p).h) (play.value_count p) g → Decided (Given input g)
-  input_decided input g grid = elim (cases_lt text_limit (length input)) [
-    | inl over ↦ inr (λ given. let small = given.small in absurd (omega arith))
-    | inr small ↦ elim (hidden_decided g) [
-      | inr never ↦ inr (λ given. never given.shown.hidden)
-      | inl hidden ↦ elim (form (without_returns input)) [
-        | inr never ↦ inr (λ given. never given.printed)
-        | inl printed ↦ inl (record { small = small; shown = record { grid = grid; hidden = hidden }; printed = printed })
-      ]
-    ]
-  ]
-    where
-      form : (text : Text) → Decided (IsPrinted text (printed g))
-      form text = decided_either decided_text decided_text
+  candidate_is : {input : Text} {g : List ℕ} → IsInputOf play p input g → candidate input ≡ g
+  unfolding candidate
+  candidate_is {input} given = printed_read (play.cell_text p) game.reads game.known given.shown _ given.printed
 
-  input_once : {input : Text} {g h : List ℕ} → Given input g → Given input h → g ≡ h
-  input_once {input} a b = printed_once (play.cell_text p) game.once a.shown b.shown (without_returns input) a.printed b.printed
+  shown_decided : (g : List ℕ) → Decided (Shown g)
+  shown_decided g =
+      let cells = (play.extent p).w * (play.extent p).h in
+      decided_as (λ both. is_shown (play.extent p).h (omega arith) (omega arith) both.0 (λ place lt. both.1 place (omega arith)))
+      (λ shown. (
+        shown.grid.each_cell,
+        λ place lt. (number_fits (play.hides p) (play.value_count p) (play.extent p) g place shown lt, shown.hidden place),
+      ))
+      (decided_both (cases_eq (length g) cells) (decided_below cells _ (λ place.
+      decided_both (decided_less _ (play.value_count p)) (decided_if (game.decides place) (cases_eq _ 0)))))
+
+  input_decided : (input : Text) (g : List ℕ) → Decided (IsInputOf play p input g)
+  input_decided input g = decided_as (λ given. record { small = omega (arith, given.0); shown = given.1.0; printed = given.1.1 })
+      (λ given. (omega (arith, given.small), (given.shown, given.printed)))
+      (decided_both (decided_less (length input) (text_limit + 1)) (decided_both (shown_decided g) (decided_either decided_text decided_text)))
 
   pub check_some : (input : Text) → (a : Answer) × AllowsGrid play p input a
-  check_some input = elim (grid_found ((play.extent p).w * (play.extent p).h) (Given input) (input_decided input)) [
-    | inl found ↦
-        let said = game.some found.0 found.1 in (
-          said.0,
-          inl (record {
-            grid = found.0;
-            given = found.2;
-            only = λ other given. input_once found.2 given;
-            said = said.1;
-          }),
-        )
-    | inr none ↦ (refused (codes "grid"), inr (record { none = λ g given. none g given.shown.grid given; said = refl }))
+  check_some input = elim (input_decided input _) [
+    | inl given ↦
+        let said = game.told.some (candidate input) given.shown.grid in
+        (said.0, inl (record { grid = candidate input; given = given; only = λ other. candidate_is; said = said.1 }))
+    | inr never ↦ (
+      refused (codes "grid"),
+      inr (record { none = λ g given. never (subst (IsInputOf play p input) (sym (candidate_is given)) given); said = refl }),
+    )
   ]
 
   -- ---- and no other
   pub check_same : (input : Text) → AreSame (AllowsGrid play p input)
-  check_same input a b (inl x) (inl y) = game.alone y.grid a b (subst (λ g. play.game.checks p g a) (x.only y.grid y.given) x.said) y.said
+  check_same input a b (inl x) (inl y) = game.told.alone y.grid a b (subst (λ g. play.game.checks p g a) (x.only y.grid y.given) x.said) y.said
   check_same input a b (inl x) (inr y) = absurd (y.none x.grid x.given)
   check_same input a b (inr x) (inl y) = absurd (x.none y.grid y.given)
   check_same input a b (inr x) (inr y) = x.said ∙ sym y.said
@@ -320,10 +215,16 @@ module _ {P : Type 0} (play : PuzzleFacts P) (p : P) (game : CheckedPuzzle play 
     λ same. subst (AllowsGrid play p (printed g)) (sym same) correct,
   )
     where
-      given : Given (printed g) g
-      given =
-          let shown = game.shown g solution in
-          record { small = (game.text g shown).small; shown = shown; printed = inl (plain_kept (printed g) (game.text g shown).plain) }
+      shown : Shown g
+      shown = game.shown g solution
+
+      given : IsInputOf play p (printed g) g
+      given = grind (arith, common_steps, plain_kept)
 
       correct : AllowsGrid play p (printed g) (checked None)
-      correct = inl (record { grid = g; given = given; only = λ other also. input_once given also; said = game.right g solution })
+      correct = inl (record { grid = g; given = given; only = λ other also. sym (candidate_is given) ∙ candidate_is also; said = game.told.right g solution })
+
+  -- different grids are printed differently
+  pub printed_apart : {g h : List ℕ} → play.game.solves p g → play.game.solves p h → (g ≢ h) → printed g ≢ printed h
+  printed_apart {g} {h} a b other same = other (sym (printed_read (play.cell_text p) game.reads game.known (game.shown g a) (printed h) (inl (sym same)))
+      ∙ printed_read (play.cell_text p) game.reads game.known (game.shown h b) (printed h) (inl refl))

@@ -1,12 +1,9 @@
 -- A lawful rule set has visits that close each of its boards, or sweeps that do: those that its closing would make.
-use Rattle.std.proofs.Common.{Bool, List, [], add-one, arith, false, inl, inr, length, length-append, refl, sym, true, zero, suc, ℕ, ◌+◌, ◌<◌, ◌∙◌, ◌≡◌, ◌≤◌, ◌++◌, ◌∷◌}
-use Rattle.std.proofs.lemmas.Bool.{cases_Bool, true≢false}
-use Rattle.grid_core.specs.Candidates.{Candidates, IsWithin, any_below, is_dead, total}
-use Rattle.grid_core.proofs.CandidateLemmas.{any_below-none, any_below-some, within_inside}
-use Rattle.engine_core.specs.RuleSystem.{IsLawful, RuleSystem, after}
+use Rattle.std.proofs.lemmas.Grind.{common_steps}
+use Rattle.commands.proofs.Common.{Bool, Candidates, IsLawful, IsWithin, List, RuleSystem, [], add-one, after_inside, any_below, any_below-none, any_below-some, arith, cases_Bool, false, inl, inr, is_dead, length, length-append, refl, suc, total, true, true≢false, within_inside, zero, ℕ, ◌++◌, ◌+◌, ◌<◌, ◌∷◌, ◌≡◌, ◌≤◌}
+use Rattle.engine_core.specs.RuleSystem.{after}
 use Rattle.engine_core.specs.ClosingList.{IsAlive, IsClosingList, IsClosingSweeps}
 use Rattle.engine_core.specs.Queue.{IsRested, IsWoken, but, counts_of, woken}
-use Rattle.engine_core.proofs.ClosingLemmas.{after_inside}
 use Rattle.engine_core.proofs.ListLemmas.{IsRunning, closing-dead, closing-none, closing-open, running-first, running-turn}
 use Rattle.engine_core.proofs.QueueLemmas.{visits_left-pos}
 use Rattle.engine_core.proofs.SweepLemmas.{IsSweeping, IsSwept, fewer, sweep-whole, sweeping-first, sweeping-turn, swept-dead, swept-first, swept-open, swept-turn}
@@ -16,7 +13,7 @@ abbrev wakes : RuleSystem → ℕ → Candidates → (ℕ → Bool) → ℕ → 
 wakes p h K waits = woken p h (counts_of p h K) (after p h K) (but waits h)
 
 woken_is : {p : RuleSystem} {h : ℕ} {K : Candidates} {waits : ℕ → Bool} → IsWoken p h K (after p h K) waits (wakes p h K waits)
-woken_is = record { fewer = λ j lt on. on; idle = λ j lt off on. absurd (true≢false (sym on ∙ off)) }
+woken_is = grind (arith, common_steps)
 
 all_rested : (p : RuleSystem) (K : Candidates) → IsRested p K (λ h. true)
 all_rested p K = λ h c v lt off on. absurd (true≢false off)
@@ -36,8 +33,8 @@ module _ {p : RuleSystem} (laws : IsLawful p) where
   swept : (K : Candidates) → IsWithin p.cells p.values K → (n : ℕ) → n ≤ p.houses → Sweeping p K n
   swept K within zero le = record { board = K; waits = λ h. true; sweeping = sweeping-first p K (λ h. true) (all_rested p K); within = within }
   swept K within (suc n) le =
-      let s : Sweeping p K n = swept K within n (omega arith) in
-      let turn = sweeping-turn p laws K n s.board (after p n s.board) s.waits (wakes p n s.board s.waits) s.sweeping (omega arith) s.within refl woken_is in
+      let s = swept K within n (omega arith) in
+      let turn = sweeping-turn p laws K n s.board (after p n s.board) s.waits _ s.sweeping (omega arith) s.within refl woken_is in
       record { board = _; waits = _; sweeping = rw add-one at turn; within = visited_within p n s.within }
 
   module _ {K0 : Candidates} (by_sweeps : p.by_queue ≡ false) (start : IsWithin p.cells p.values K0) where
@@ -71,7 +68,7 @@ module _ {p : RuleSystem} (laws : IsLawful p) where
     sweeps_from (suc fuel) n K few alive within done = one_sweep n K alive within done (λ L less a b c. sweeps_from fuel (n + 1) L (omega arith) a b c)
 
     pub sweeps_close : (sweeps : ℕ) × IsClosingSweeps p K0 sweeps
-    sweeps_close = elim (cases_Bool (is_dead p.cells p.values K0)) [
+    sweeps_close = elim (cases_Bool _) [
       | inl dead ↦ (0, ((closing-none p laws K0 start dead).by_sweeps by_sweeps).1)
       | inr alive ↦ sweeps_from (total p.cells p.values K0) 0 K0 (omega arith) alive start (swept-first p K0 alive)
     ]
@@ -83,13 +80,13 @@ module _ {p : RuleSystem} (laws : IsLawful p) where
         → ((h : ℕ) (L : Candidates) (left : ℕ → Bool) → length t < p.bound → IsWithin p.cells p.values L → IsRunning p K0 (t ++ h ∷ []) L left
         → (visits : List ℕ) × IsClosingList p K0 visits)
         → (visits : List ℕ) × IsClosingList p K0 visits
-    one_visit t K {waits} within r again = elim (cases_Bool (any_below waits p.houses)) [
+    one_visit t K {waits} within r again = elim (cases_Bool _) [
       | inr none ↦ (t, ((closing-open p laws K0 t K waits by_queue start r (any_below-none waits p.houses none)).by_visits by_queue).1)
       | inl some ↦
           let w = any_below-some waits p.houses some in
           elim (cases_Bool (is_dead p.cells p.values (after p w.0 K))) [
             | inl dead ↦ (t ++ w.0 ∷ [], ((closing-dead p laws K0 t K (after p w.0 K) waits w.0 by_queue start r w.1 w.2 refl dead).by_visits by_queue).1)
-            | inr alive ↦ again w.0 (after p w.0 K) (wakes p w.0 K waits)
+            | inr alive ↦ again w.0 (after p w.0 K) _
                 (omega (arith, visits_left-pos p K waits w.0 w.1 w.2, r.enough))
                 (visited_within p w.0 within)
                 (running-turn p laws K0 t K (after p w.0 K) waits (wakes p w.0 K waits) w.0 r w.1 w.2 within refl woken_is alive)
@@ -104,7 +101,7 @@ module _ {p : RuleSystem} (laws : IsLawful p) where
         (λ h L left less a b. visits_from fuel L (omega (arith, length-append t (h ∷ []))) a b)
 
     pub visits_close : (visits : List ℕ) × IsClosingList p K0 visits
-    visits_close = elim (cases_Bool (is_dead p.cells p.values K0)) [
+    visits_close = elim (cases_Bool _) [
       | inl dead ↦ ([], ((closing-none p laws K0 start dead).by_visits by_queue).1)
       | inr alive ↦ visits_from p.bound K0 (omega arith) start (running-first p laws K0 (λ h. true) by_queue alive (all_rested p K0))
     ]

@@ -1,33 +1,10 @@
 -- What grades mean of the games' own solutions, and how their texts and traces are told.
-use Rattle.std.proofs.Common.{length, ◌≡◌, ◌∙◌, ℕ, zero, suc, Bool, true, false, ◌==◌, List, [], ◌∷◌, Option, Some, None, refl, sym, ap, subst, inl, inr, arith, ◌++◌, ◌≤◌, append_assoc, append-nil, codes, true≢false, map, length-append}
-use Rattle.std.proofs.lemmas.Grind.{common_steps}
-use Rattle.std.specs.Prelude.{◌↔◌}
-use Rattle.std.proofs.lemmas.Bool.{and_parts, ne_eqb, eqb-true}
-use Rattle.std.proofs.lemmas.List.{length-map}
-use Rattle.grid_core.specs.Candidates.{all_below, any_below, is_dead, is_full}
-use Rattle.engine_core.specs.Closing.{closure}
-use Rattle.engine_core.specs.Filling.{strikes_by_fillings}
+use Rattle.commands.proofs.Common.{Answer, BeginsTrace, Bool, ByRules, BySearch, Delivers, GaveUp, Grade, HasOneSolution, IsGraded, IsRight, IsRightGrade, IsTrace, List, Mark, Mark.Found, Mark.Trial, NamedRules, NoSolution, None, Option, Outcome, Outcome.OneSolution, PutsTrace, PuzzleFacts, RuleSet, RuleSystem, SaysClosing, SaysGrade, SaysIfAny, SeveralSolutions, Solo, Solves, Some, Text, [], ap, append-nil, append_assoc, arith, codes, common_steps, crossings_rules, false, grade_by, grade_status, grade_text, houses_rules, inr, is_settled, last_tried, length, length-append, length-map, listed_grade, only_set, outcome, refl, scopes_of, searched_grade, singles_rules, spent, subst, suc, sym, trials_in, true, true≢false, verdict_of, walk, zero, ℕ, ◌++◌, ◌↔◌, ◌∙◌, ◌∷◌, ◌≡◌, ◌≤◌}
 use Rattle.engine_core.specs.HouseSets.{Decision}
-use Rattle.engine_core.specs.Walk.{Mark.Trial, Mark.Found, walk_closed}
-use Rattle.engine_core.specs.Verdict.{Outcome.OneSolution, outcome, spent, trials_in}
-use Rattle.solo_core.specs.Houses.{houses_of}
-use Rattle.solo_core.specs.NoRepeat.{no_repeat}
-use Rattle.solo_core.specs.RuleSets.{crossings_of, deciding, filled_houses, house_at, house_by}
-use Rattle.solo_core.specs.Singles.{strikes_by_singles}
-use Rattle.solo_core.specs.declared.houses.scope.VisitName.TheVariants.{House}
-use Rattle.commands.specs.Common.{Candidates, count_below, grid_of, Solo, RuleSystem, is_settled, Mark, IsFound, walk, Outcome, Solves, verdict_of}
-use Rattle.commands.specs.Common.{crossing_scopes, crossings_rules, houses_rules, scopes_of, singles_rules, solo_n}
-use Rattle.commands.specs.Grades.{HasOneSolution, IsRightGrade, SaysGrade, grade_by, searched_grade, NamedRules, last_tried, listed_grade, only_set, grade_status, grade_text}
-use Rattle.commands.specs.Answers.{Text, Answer, Delivers}
-use Rattle.commands.specs.Stops.{SaysIfAny}
-use Rattle.commands.specs.declared.grade.Grade.{Grade}
-use Rattle.commands.specs.declared.grade.Grade.TheVariants.{ByRules, BySearch, NoSolution, SeveralSolutions, GaveUp}
-use Rattle.commands.specs.PuzzleFacts.{PuzzleFacts}
-use Rattle.commands.specs.Allowed.{IsGraded}
-use Rattle.commands.specs.Traces.{IsTrace, SaysClosing}
-use Rattle.commands.specs.declared.grade.RuleSet.{RuleSet}
-use Rattle.commands.specs.TracePieces.{BeginsTrace, PutsTrace}
-use Rattle.commands.proofs.RunLemmas.{says_as}
+use Rattle.solo_core.specs.RuleSets.{deciding}
+use Rattle.commands.proofs.RunLemmas.{TakesBoth, says_as}
+use Rattle.commands.proofs.SearchedPuzzles.{SearchedPuzzle, verdict_right}
+use Rattle.commands.proofs.GradedAlike.{settled_found}
 
 -- where one grid is found, all trials of the walk were made
 pub spent_whole : (budget : ℕ) (found : Option (List ℕ)) (marks : List Mark) (g : List ℕ) → outcome budget found marks ≡ OneSolution g
@@ -42,45 +19,13 @@ spent_whole (suc budget) found (Trial depth board ∷ marks) g e = ap suc (spent
 pub grade_is : (rules : RuleSystem) (budget : ℕ) {verdict : Outcome} → verdict_of rules budget ≡ verdict
     → grade_by (trials_in (walk rules 0 rules.start)) verdict ≡ searched_grade rules budget
 unfolding searched_grade
-grade_is rules budget e = ap (grade_by (trials_in (walk rules 0 rules.start))) (sym e)
-
--- numbers that are 1 are not 0
-none_zero : (f : ℕ → ℕ) (n : ℕ) → all_below (λ c. f c == 1) n ≡ true → any_below (λ c. f c == 0) n ≡ false
-unfolding all_below any_below
-none_zero f zero e = refl
-none_zero f (suc n) e =
-    let parts = and_parts (all_below (λ c. f c == 1) n) (f n == 1) e in
-    rw (none_zero f n parts.0) (one (f n) parts.1)
-  where
-    one : (k : ℕ) → (k == 1) ≡ true → (k == 0) ≡ false
-    one k h = let is = eqb-true k 1 h in ne_eqb k 0 (λ z. absurd (omega arith))
-
--- a full board is not dead
-full_alive : (cells values : ℕ) (K : Candidates) → is_full cells values K ≡ true → is_dead cells values K ≡ false
-unfolding is_full is_dead
-full_alive cells values K e = none_zero (λ c. count_below (K c) values) cells e
-
--- the walk from a full board whose grid is a solution finds that grid
-pub full_walk : (p : RuleSystem) (walk_of : Candidates → List Mark) (E : Candidates) → is_full p.cells p.values E ≡ true
-    → p.is_solution (grid_of p.cells p.values E) ≡ true → walk_closed p walk_of 0 E ≡ Found (grid_of p.cells p.values E) ∷ []
-unfolding walk_closed
-full_walk p walk_of E full good = rw (full_alive p.cells p.values E full) (rw full (rw good refl))
+grade_is rules budget e = grind (arith, common_steps)
 
 -- a puzzle that is settled has the grid of its closure as its one solution
-pub settled_has_one : {p : RuleSystem} → walk p 0 p.start ≡ walk_closed p (walk p 1) 0 (closure p p.start)
-    → ((g : List ℕ) → IsFound g (walk p 0 p.start) ↔ Solves p g) → is_settled p ≡ true → HasOneSolution (Solves p)
-settled_has_one {p} goes_on finds settled =
-    let parts = and_parts (is_full p.cells p.values (closure p p.start)) (p.is_solution (grid_of p.cells p.values (closure p p.start))) settled in
-    let g : List ℕ = grid_of p.cells p.values (closure p p.start) in
-    let whole : walk p 0 p.start ≡ Found g ∷ [] = goes_on ∙ full_walk p (walk p 1) (closure p p.start) parts.0 parts.1 in (
-      g,
-      (finds g).0 (subst (IsFound g) (sym whole) (inl refl)),
-      λ h solves. only (subst (IsFound h) whole ((finds h).1 solves)),
-    )
-  where
-    only : {g h : List ℕ} → IsFound h (Found g ∷ []) → g ≡ h
-    only (inl e) = e
-    only (inr none) = absurd none
+pub settled_one : {rules : RuleSystem} {solves : List ℕ → Type 0} → SearchedPuzzle rules solves → is_settled rules ≡ true → HasOneSolution solves
+settled_one {solves} searched settled =
+    let right = subst (IsRight solves) (settled_found searched.lawful settled 0) (verdict_right searched 0) in
+    (_, right.0, right.1)
 
 -- a grade that is right of the one is right of the other, where they are the same
 pub right_as : (A B : List ℕ → Type 0) (grade : Grade) → ((g : List ℕ) → A g ↔ B g) → IsRightGrade A grade → IsRightGrade B grade
@@ -93,10 +38,10 @@ right_as A B GaveUp same right = tt
 -- the grids that rules accept are the solutions, and a grade is right of both
 pub right_by : {p q : RuleSystem} (solves : List ℕ → Type 0) (grade : Grade) → q ≡ p → ((g : List ℕ) → Solves p g ↔ solves g)
     → IsRightGrade (Solves q) grade → IsRightGrade solves grade
-right_by {p} solves grade e same right = right_as (Solves p) solves grade same (subst (λ (r : RuleSystem). IsRightGrade (Solves r) grade) e right)
+right_by {p} solves grade e same right = grind (arith, common_steps, right_as)
 
 pub accepted_by : {p q : RuleSystem} (solves : List ℕ → Type 0) → q ≡ p → ((g : List ℕ) → Solves p g ↔ solves g) → (g : List ℕ) → Solves q g ↔ solves g
-accepted_by solves e same = subst (λ (r : RuleSystem). (g : List ℕ) → Solves r g ↔ solves g) (sym e) same
+accepted_by solves e same = grind (arith, common_steps)
 
 -- the last rules in the list were tried last, whether they settle the puzzle or not
 pub last_of_one : (before : RuleSystem) (set : RuleSet) {rules : RuleSystem} → rules ≡ last_tried before (only_set set rules)
@@ -117,51 +62,45 @@ module _ {P : Type 0} (play : PuzzleFacts P) (p : P) (budget : ℕ) (traced : Bo
   -- the last in the list
   pub said_last : (grade : Grade) (set : RuleSet) (rules : RuleSystem) → grade ≡ listed_grade (only_set set rules) (play.game.rules p) budget
       → IsRightGrade (play.game.solves p) grade → SaysLast grade rules → SaysBy (only_set set rules)
-  said_last grade set rules e right told = rightly (only_set set rules) (rw e at right)
-      (subst (λ (g : Grade). SaysLast g (last_tried (play.game.rules p) (only_set set rules))) e
-      (subst (SaysLast grade) (last_of_one (play.game.rules p) set) told))
+  said_last grade set rules e right told = grind (arith, common_steps, rightly, last_of_one)
 
   -- the first in the list settles the puzzle
   pub said_first : {q : RuleSystem} (set : RuleSet) {rules : RuleSystem} (rest : List NamedRules) → q ≡ rules → is_settled q ≡ true
-      → ((g : List ℕ) → Solves rules g ↔ play.game.solves p g) → HasOneSolution (Solves q) → SaysLast (ByRules set) q
+      → SearchedPuzzle rules (play.game.solves p) → SaysLast (ByRules set) q
       → SaysBy (record { set = set; rules = rules } ∷ rest)
-  said_first set {rules} rest e settled same one told =
-      let is : is_settled rules ≡ true = ap is_settled (sym e) ∙ settled in
-      rightly (record { set = set; rules = rules } ∷ rest) (rw is (right_by (play.game.solves p) (ByRules set) e same one)) (rw is (rw e at told))
+  said_first set {rules} rest e settled searched told =
+      let is = ap is_settled (sym e) ∙ settled in
+      rightly (record { set = set; rules = rules } ∷ rest) (rw is (settled_one searched is)) (rw is (rw e at told))
 
   -- the first of two or more in the list doesn't
   pub said_later : {q : RuleSystem} (set : RuleSet) {rules : RuleSystem} (next : NamedRules) (rest : List NamedRules) → q ≡ rules → is_settled q ≡ false
       → SaysBy (next ∷ rest) → SaysBy (record { set = set; rules = rules } ∷ next ∷ rest)
-  said_later set {rules} next rest e unsettled told =
-      let is : is_settled rules ≡ false = ap is_settled (sym e) ∙ unsettled in
-      says_as (λ a graded. record { right = rw is graded.right; said = rw is graded.said }) told
+  said_later set {rules} next rest e unsettled told = grind (arith, common_steps, says_as)
 
   -- rules that were made for a puzzle are its own
   pub said_by : {q r : RuleSystem} (set : RuleSet) → q ≡ r → SaysBy (only_set set q) → SaysBy (only_set set r)
-  said_by set e told = subst (λ (x : RuleSystem). SaysBy (only_set set x)) e told
+  said_by set e told = subst (λ x. SaysBy (only_set set x)) e told
 
-module _ {S : Type 0} {takes : S → Text → S → Type 0} (nothing : (s : S) → takes s [] s)
-    (both : (s t u : S) (a b : Text) → takes s a t → takes t b u → takes s (a ++ b) u)
-    {grade : Grade} {traced : Bool} {name : ℕ → Text} {rules : RuleSystem} where
+module _ {S : Type 0} {takes : S → Text → S → Type 0} {grade : Grade} {traced : Bool} {name : ℕ → Text} {rules : RuleSystem} where
   -- the rest was delivered
-  pub said_whole : {s t u : S} {line rest : Text} {a : Answer} {status : ℕ}
+  pub said_whole : TakesBoth takes → {s t u : S} {line rest : Text} {a : Answer} {status : ℕ}
       → line ≡ grade_text grade ++ codes "\n" → PutsTrace takes traced name rules s line rest t
       → Delivers takes t a u status → a.text ≡ rest → a.status ≡ grade_status grade → SaysIfAny takes (SaysGrade grade traced name rules) s u status
-  said_whole {s} {t} {u} {line} is p d same ends = record {
+  said_whole both {s} {t} {u} {line} is p d same ends = record {
     written = p.put.done ++ d.written;
     took = both s t u p.put.done d.written p.put.took d.took;
     begun = inr (
       record { text = line ++ p.lines; status = grade_status grade },
-      record { lines = p.lines; trace = p.trace; text = ap (λ (l : Text). l ++ p.lines) is; status = refl },
+      record { lines = p.lines; trace = p.trace; text = ap (λ l. l ++ p.lines) is; status = refl },
       (
         d.begun.0,
-        p.put.split ∙ ap (λ (l : Text). p.put.done ++ l) (sym same ∙ d.begun.1) ∙ sym (append_assoc p.put.done d.written d.begun.0),
+        p.put.split ∙ ap (λ l. p.put.done ++ l) (sym same ∙ d.begun.1) ∙ sym (append_assoc p.put.done d.written d.begun.0),
       ),
     );
     whole = λ small. record {
       lines = p.lines;
       trace = p.trace;
-      text = ap (λ (l : Text). p.put.done ++ l) ((d.whole small).0 ∙ same) ∙ sym p.put.split ∙ ap (λ (l : Text). l ++ p.lines) is;
+      text = ap (λ l. p.put.done ++ l) ((d.whole small).0 ∙ same) ∙ sym p.put.split ∙ ap (λ l. l ++ p.lines) is;
       status = (d.whole small).1 ∙ ends;
     };
   }
@@ -174,7 +113,7 @@ module _ {S : Type 0} {takes : S → Text → S → Type 0} (nothing : (s : S) �
     took = p.begun.took;
     begun = inr (
       record { text = line ++ p.lines; status = grade_status grade },
-      record { lines = p.lines; trace = p.trace; text = ap (λ (l : Text). l ++ p.lines) is; status = refl },
+      record { lines = p.lines; trace = p.trace; text = ap (λ l. l ++ p.lines) is; status = refl },
       p.begun.begun,
     );
     whole = λ small. absurd (omega arith);
@@ -183,7 +122,7 @@ module _ {S : Type 0} {takes : S → Text → S → Type 0} (nothing : (s : S) �
 -- the lines of a closing are those of a trace that is asked for
 pub is_traced : (traced : Bool) {queue : Bool} (name : ℕ → Text) (rules : RuleSystem) (lines : Text) → traced ≡ true → rules.by_queue ≡ queue
     → SaysClosing queue name rules lines → IsTrace traced name rules lines
-is_traced true name rules lines e mode said = subst (λ (b : Bool). SaysClosing b name rules lines) (sym mode) said
+is_traced true name rules lines e mode said = subst (λ b. SaysClosing b name rules lines) (sym mode) said
 is_traced false name rules lines e mode said = absurd (true≢false (sym e))
 
 -- no trace was asked for
@@ -195,25 +134,16 @@ untraced false {text} nothing is = record { lines = []; trace = refl; put = reco
 
 -- what the rule sets of Solo visit has a name: houses first, and then crossings
 over_houses : (decides : Decision) (p : Solo) → length (deciding decides p) ≤ length (scopes_of p)
-over_houses decides p =
-    omega (arith, length-map (houses_of p) (house_by decides p), length-append (map House (houses_of p)) (crossing_scopes p), length-map (houses_of p) House)
+over_houses decides p = grind (arith, common_steps, length-map, length-append)
 
 pub singles_named : (p : Solo) → (singles_rules p).houses ≤ length (scopes_of p)
-singles_named p = over_houses (strikes_by_singles (solo_n p)) p
+singles_named p = over_houses _ p
 
 pub houses_named : (p : Solo) → (houses_rules p).houses ≤ length (scopes_of p)
-houses_named p = over_houses (strikes_by_fillings no_repeat) p
+houses_named p = over_houses _ p
 
 pub crossings_named : (p : Solo) → (crossings_rules p).houses ≤ length (scopes_of p)
-crossings_named p =
-    omega (
-      arith,
-      length-append (filled_houses p) (crossings_of p),
-      length-map (houses_of p) (house_by (strikes_by_fillings no_repeat) p),
-      length-map (crossing_scopes p) (house_at p),
-      length-append (map House (houses_of p)) (crossing_scopes p),
-      length-map (houses_of p) House,
-    )
+crossings_named p = grind (arith, common_steps, length-append, length-map)
 
 pub named : (p : Solo) {q rules : RuleSystem} → q ≡ rules → rules.houses ≤ length (scopes_of p) → q.houses ≤ length (scopes_of p)
-named p e few = subst (λ (r : RuleSystem). r.houses ≤ length (scopes_of p)) (sym e) few
+named p e few = subst (λ r. r.houses ≤ length (scopes_of p)) (sym e) few

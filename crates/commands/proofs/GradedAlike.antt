@@ -1,32 +1,11 @@
 -- A puzzle is settled exactly where its verdict without a trial is one, and its grade goes along with its verdict; and so what is
 -- told of the two.
-use Rattle.std.proofs.Common.{◌≡◌, ◌∙◌, ◌⊎◌, ◌<◌, ℕ, zero, suc, Bool, true, false, List, [], ◌∷◌, ◌++◌, Option, None, refl, sym, ap, subst, inl, inr, arith, ◌≢◌, Result, if◌then◌else◌, codes, slice_index, true≢false}
-use Rattle.std.proofs.lemmas.Grind.{common_steps}
-use Rattle.std.proofs.lemmas.Bool.{and_parts, and_from, cases_eq}
-use Rattle.std.specs.Prelude.{◌↔◌, ◌+◌, ◌*◌}
-use Rattle.grid_core.specs.Candidates.{is_full}
-use Rattle.grid_core.proofs.CandidateLemmas.{count_below-one, least_below-passes}
+use Rattle.commands.proofs.Common.{Answer, Begins, Bool, ByRules, BySearch, Candidates, Crossings, Found, Grade, HasOneSolution, IsClosed, IsInside, IsLawful, IsRight, IsRightGrade, List, Mark, Mark.Trial, NamedRules, NamesSetNoStrongerThanSearch, None, Option, Outcome, Outcome.GaveUp, Outcome.NoSolution, Outcome.OneSolution, Outcome.SeveralSolutions, RuleSet, RuleSystem, SaysGrade, Solves, StatusesAgree, Text, [], all_below, and_from, and_parts, any_below, ap, arith, at_cell, branch_at, branches, cases_eq, closure_closed, closure_inside, closure_largest, codes, common_steps, cond_both, count_below, count_below-one, eqb-true, false, first_settled, grade_by, grade_status, grade_text, grid_of, inl, inr, is_dead, is_full, is_settled, is_within_search, least_below-passes, listed_grade, ne_eqb, only, outcome, refl, refused, rule_set_text, searched_grade, slice_index, subst, suc, sym, trials_in, true, true≢false, verdict_answer, verdict_of, walk, walk_closed, zero, ℕ, ◌*◌, ◌++◌, ◌+◌, ◌<◌, ◌==◌, ◌↔◌, ◌∙◌, ◌∷◌, ◌≡◌, ◌≢◌, ◌⊎◌}
 use Rattle.grid_core.proofs.GridLemmas.{is_full-count, grid_of-at}
 use Rattle.engine_core.specs.Closing.{closure}
-use Rattle.engine_core.specs.Verdict.{Outcome.OneSolution, Outcome.NoSolution, outcome, Outcome.SeveralSolutions, Outcome.GaveUp, trials_in}
-use Rattle.engine_core.specs.Walk.{Mark.Trial, walk_closed, branches, branch_at, at_cell}
-use Rattle.engine_core.proofs.ClosingLemmas.{closure_inside, closure_closed, closure_largest}
 use Rattle.engine_core.proofs.JudgeLemmas.{grid-fits}
 use Rattle.engine_core.proofs.WalkLemmas.{walk-unfold, walk_closed-dead, walk_closed-wrong}
 use Rattle.maker_core.proofs.FoundAtOnce.{found_at_once, found_one}
-use Rattle.maker_core.proofs.FullStart.{known}
-use Rattle.commands.specs.Common.{IsRight, Candidates, IsInside, grid_of, only, HasOneReading, IdFault, RuleSystem, IsLawful, IsClosed, is_settled, Solves}
-use Rattle.commands.specs.Common.{verdict_of, Outcome, Mark, walk}
-use Rattle.commands.specs.Answers.{Answer, Begins, Text}
-use Rattle.commands.specs.Grades.{HasOneSolution, IsRightGrade, NamedRules, SaysGrade, first_settled, grade_by, grade_status, grade_text, listed_grade, rule_set_text, searched_grade}
-use Rattle.commands.specs.Allowed.{AllowsId}
-use Rattle.commands.specs.LawsOfCommands.{GoesAlong, NamesRules, is_within_search}
-use Rattle.commands.specs.Replies.{refused, fault_text, verdict_answer}
-use Rattle.commands.specs.declared.grade.Grade.{Grade}
-use Rattle.commands.specs.declared.grade.Grade.TheVariants.{ByRules, BySearch}
-use Rattle.commands.specs.declared.grade.RuleSet.{RuleSet}
-use Rattle.commands.specs.declared.grade.RuleSet.TheVariants.{Singles, Houses, Crossings, Lines, Local}
-use Rattle.commands.proofs.GradeLemmas.{full_walk}
 
 -- the branches of a cell begin with a trial, or there are none
 begins_with_trial : (walk_of : Candidates → List Mark) (d : ℕ) (E : Candidates) (cell n : ℕ)
@@ -35,20 +14,42 @@ unfolding branches branch_at
 begins_with_trial walk_of d E cell zero = inl refl
 begins_with_trial walk_of d E cell (suc n) = elim (begins_with_trial walk_of d E cell n) [
   | inl none ↦ by (E cell n) refl none
-  | inr w ↦ inr (w.0, w.1, w.2 ++ branch_at walk_of d E cell n, ap (λ (m : List Mark). m ++ branch_at walk_of d E cell n) w.3)
+  | inr w ↦ inr (w.0, w.1, w.2 ++ branch_at walk_of d E cell n, ap (λ m. m ++ branch_at walk_of d E cell n) w.3)
 ]
   where
     by : (b : Bool) → E cell n ≡ b → branches walk_of d E cell n ≡ []
         → (branches walk_of d E cell n ++ branch_at walk_of d E cell n ≡ [])
         ⊎ ((depth : ℕ) × (board : Candidates) × (rest : List Mark) × (branches walk_of d E cell n ++ branch_at walk_of d E cell n ≡ Trial depth board ∷ rest))
-    by true on none = inr (suc d, only E cell n, walk_of (only E cell n), ap (λ (m : List Mark). m ++ branch_at walk_of d E cell n) none ∙ rw on refl)
-    by false off none = inl (ap (λ (m : List Mark). m ++ branch_at walk_of d E cell n) none ∙ rw off refl)
+    by true on none = inr (suc d, only E cell n, walk_of (only E cell n), ap (λ m. m ++ branch_at walk_of d E cell n) none ∙ rw on refl)
+    by false off none = inl (ap (λ m. m ++ branch_at walk_of d E cell n) none ∙ rw off refl)
 
 -- without a trial nothing is found below an open board
 none_below : (p : RuleSystem) (walk_of : Candidates → List Mark) (d : ℕ) (E : Candidates) (o : Option ℕ) (g : List ℕ)
     → outcome 0 None (at_cell p walk_of d E o) ≡ OneSolution g → ⊥
 unfolding at_cell outcome
 none_below p walk_of d E o g same = grind (arith, common_steps, begins_with_trial)
+
+-- numbers that are 1 are not 0
+none_zero : (f : ℕ → ℕ) (n : ℕ) → all_below (λ c. f c == 1) n ≡ true → any_below (λ c. f c == 0) n ≡ false
+unfolding all_below any_below
+none_zero f zero e = refl
+none_zero f (suc n) e =
+    let parts = and_parts _ (f n == 1) e in
+    rw (none_zero f n parts.0) (one (f n) parts.1)
+  where
+    one : (k : ℕ) → (k == 1) ≡ true → (k == 0) ≡ false
+    one k h = let is = eqb-true k 1 h in ne_eqb k 0 (λ z. absurd (omega arith))
+
+-- a full board is not dead
+full_alive : (cells values : ℕ) (K : Candidates) → is_full cells values K ≡ true → is_dead cells values K ≡ false
+unfolding is_full is_dead
+full_alive cells values K e = none_zero (λ c. count_below (K c) values) cells e
+
+-- the walk from a full board whose grid is a solution finds that grid
+full_walk : (p : RuleSystem) (walk_of : Candidates → List Mark) (E : Candidates) → is_full p.cells p.values E ≡ true
+    → p.is_solution (grid_of p.cells p.values E) ≡ true → walk_closed p walk_of 0 E ≡ Found (grid_of p.cells p.values E) ∷ []
+unfolding walk_closed
+full_walk p walk_of E full good = rw (full_alive p.cells p.values E full) (rw full (rw good refl))
 
 module _ {p : RuleSystem} (laws : IsLawful p) where
   start_walk : walk p 0 p.start ≡ walk_closed p (walk p 1) 0 (closure p p.start)
@@ -59,7 +60,7 @@ module _ {p : RuleSystem} (laws : IsLawful p) where
 
   nothing : {marks : List Mark} (g : List ℕ) → walk p 0 p.start ≡ marks → marks ≡ [] → verdict_of p 0 ≡ OneSolution g → ⊥
   unfolding outcome
-  nothing g is none e = let empty : NoSolution ≡ OneSolution g = sym (ap (outcome 0 None) (is ∙ none)) ∙ e in cc
+  nothing g is none e = grind (arith, common_steps)
 
   pub one_settled : (g : List ℕ) → verdict_of p 0 ≡ OneSolution g → is_settled p ≡ true
   unfolding walk_closed
@@ -71,46 +72,32 @@ module _ {weak strong : RuleSystem} (weak_laws : IsLawful weak) (strong_laws : I
     (solves_too : (g : List ℕ) → Solves weak g → Solves strong g)
     (closes_too : (K : Candidates) → IsClosed strong K → IsClosed weak K) where
   inside_weak : IsInside (closure strong strong.start) (closure weak weak.start)
-  inside_weak = closure_largest weak weak_laws (closure strong strong.start) weak.start
+  inside_weak = closure_largest weak weak_laws _ weak.start
       (closes_too (closure strong strong.start) (closure_closed strong strong.start strong_laws.start_within))
       (subst (IsInside (closure strong strong.start)) same_start (closure_inside strong strong.start))
 
   pub settled_by_stronger : is_settled weak ≡ true → is_settled strong ≡ true
   settled_by_stronger settled =
       let parts =
-      and_parts (is_full weak.cells weak.values (closure weak weak.start))
+      and_parts _
       (weak.is_solution (grid_of weak.cells weak.values (closure weak weak.start))) settled in
-      one_settled strong_laws (grid_of weak.cells weak.values (closure weak weak.start))
-      (found_at_once strong 0 (grid_of weak.cells weak.values (closure weak weak.start)) (known strong strong_laws) (solved parts.0 parts.1)
+      one_settled strong_laws _
+      (found_at_once strong_laws (solved parts.0 parts.1)
       (λ c v lc lv on.
       let here = inside_weak c v on in
       let lw : c < weak.cells = omega (arith, same_cells, lc) in
-      let one = is_full-count weak.cells weak.values (closure weak weak.start) c parts.0 lw in
-      let least = least_below-passes (closure weak weak.start c) weak.values (omega (arith, one)) in
+      let one = is_full-count weak.cells weak.values _ c parts.0 lw in
+      let least = least_below-passes _ weak.values (omega (arith, one)) in
       count_below-one (closure weak weak.start c) weak.values v _ (omega (arith, one)) (omega (arith, same_values, lv)) least.0 here least.1
-      ∙ sym (grid_of-at weak.cells weak.values (closure weak weak.start) c lw)))
+      ∙ sym (grid_of-at weak.cells weak.values _ c lw)) 0)
     where
       solved : is_full weak.cells weak.values (closure weak weak.start) ≡ true
           → weak.is_solution (grid_of weak.cells weak.values (closure weak weak.start)) ≡ true
           → Solves strong (grid_of weak.cells weak.values (closure weak weak.start))
       solved full good = solves_too (grid_of weak.cells weak.values (closure weak weak.start)) (record {
-        grid = grid-fits weak (closure weak weak.start) (grid_of weak.cells weak.values (closure weak weak.start)) weak.cells weak.values refl refl full refl;
+        grid = grid-fits weak _ _ weak.cells weak.values refl refl full refl;
         good = good;
       })
-
--- ---- two commands that answer to one ID
-module _ {P : Type 0} {of : Text → Result P IdFault} {spells : Text → P → Type 0} (reading : HasOneReading spells of) where
-  -- what holds of refusals, and of the answers to each puzzle, holds of the answers to an ID
-  pub both_answers : {first second : P → Answer → Type 0} (holds : Answer → Answer → Type 0) (id : Text) (a b : Answer)
-      → ((causes others : Text) → holds (refused causes) (refused others))
-      → ((p : P) → spells id p → first p a → second p b → holds a b)
-      → AllowsId (of id) (spells id) first a → AllowsId (of id) (spells id) second b → holds a b
-  both_answers holds id a b refusals answers (inl x) (inl y) =
-      subst (λ c. holds c b) (sym x.said) (subst (holds (refused (fault_text x.fault))) (sym y.said) (refusals (fault_text x.fault) (fault_text y.fault)))
-  both_answers holds id a b refusals answers (inl x) (inr y) = absurd (reading.apart id y.puzzle x.fault y.spelled x.first)
-  both_answers holds id a b refusals answers (inr x) (inl y) = absurd (reading.apart id x.puzzle y.fault x.spelled y.first)
-  both_answers {second} holds id a b refusals answers (inr x) (inr y) =
-      answers x.puzzle x.spelled x.allowed (subst (λ p. second p b) (reading.one id y.puzzle x.puzzle y.spelled x.spelled) y.allowed)
 
 -- ---- statuses
 pub verdict_status : Outcome → ℕ
@@ -155,22 +142,18 @@ one_or_out solves o right one_solution differ = grind (arith, common_steps)
 pub named_or_searched : (sets : List NamedRules) (otherwise : Grade)
     → ((set : RuleSet) × (first_settled sets otherwise ≡ ByRules set)) ⊎ (first_settled sets otherwise ≡ otherwise)
 named_or_searched [] otherwise = inr refl
-named_or_searched (first ∷ rest) otherwise = by (is_settled first.rules) (named_or_searched rest otherwise)
-  where
-    by : (b : Bool) → ((set : RuleSet) × (first_settled rest otherwise ≡ ByRules set)) ⊎ (first_settled rest otherwise ≡ otherwise)
-        → ((set : RuleSet) × ((if b then ByRules first.set else first_settled rest otherwise) ≡ ByRules set))
-        ⊎ ((if b then ByRules first.set else first_settled rest otherwise) ≡ otherwise)
-    by true later = inl (first.set, refl)
-    by false later = later
+named_or_searched (first ∷ rest) otherwise =
+    cond_both (is_settled first.rules) _ _ (λ g. ((set : RuleSet) × (g ≡ ByRules set)) ⊎ (g ≡ otherwise))
+    (λ _. inl (first.set, refl)) (λ _. named_or_searched rest otherwise)
 
-pub goes_along : (sets : List NamedRules) (search : RuleSystem) (solves : List ℕ → Type 0) (budget : ℕ)
+pub statuses_agree : (sets : List NamedRules) (search : RuleSystem) (solves : List ℕ → Type 0) (budget : ℕ)
     → IsRight solves (verdict_of search budget) → IsRightGrade solves (listed_grade sets search budget)
-    → GoesAlong (grade_status (listed_grade sets search budget)) (verdict_status (verdict_of search budget))
+    → StatusesAgree (grade_status (listed_grade sets search budget)) (verdict_status (verdict_of search budget))
 unfolding searched_grade
-goes_along sets search solves budget verdict grade = by (named_or_searched sets (searched_grade search budget))
+statuses_agree sets search solves budget verdict grade = by (named_or_searched sets (searched_grade search budget))
   where
     by : ((set : RuleSet) × (listed_grade sets search budget ≡ ByRules set)) ⊎ (listed_grade sets search budget ≡ searched_grade search budget)
-        → GoesAlong (grade_status (listed_grade sets search budget)) (verdict_status (verdict_of search budget))
+        → StatusesAgree (grade_status (listed_grade sets search budget)) (verdict_status (verdict_of search budget))
     by (inr is) = inl (ap grade_status is ∙ by_status (trials_in (walk search 0 search.start)) (verdict_of search budget))
     by (inl named) =
         let fine = ap grade_status named.1 in
@@ -199,12 +182,8 @@ module _ (search : RuleSystem) (budget : ℕ) where
   beyond : (sets : List NamedRules) → AreBeyond sets → is_within (listed_grade sets search budget) ≡ false
   unfolding searched_grade is_within
   beyond [] none = searched_apart (trials_in (walk search 0 search.start)) (verdict_of search budget)
-  beyond (first ∷ rest) none = by (is_settled first.rules) (beyond rest none.1)
-    where
-      by : (b : Bool) → is_within (listed_grade rest search budget) ≡ false
-          → is_within (if b then ByRules first.set else listed_grade rest search budget) ≡ false
-      by true later = none.0
-      by false later = later
+  beyond (first ∷ rest) none =
+      cond_both (is_settled first.rules) _ _ (λ g. is_within g ≡ false) (λ _. none.0) (λ _. beyond rest none.1)
 
   -- the search's own rules, and after them others that may strike more
   pub own_named : (set : RuleSet) (rest : List NamedRules) → is_within_search set ≡ true → AreBeyond rest
@@ -233,39 +212,32 @@ named_is grade lines rest set same is = grind (arith, common_steps, marks, true�
 names_it : (grade : Grade) (lines : Text) → is_within grade ≡ true
     → (set : RuleSet) × (is_within_search set ≡ true) × Begins (rule_set_text set ++ codes "\n") (grade_text grade ++ codes "\n" ++ lines)
 unfolding is_within
-names_it (ByRules Singles) lines e = (Singles, e, (lines, refl))
-names_it (ByRules Houses) lines e = (Houses, e, (lines, refl))
-names_it (ByRules Crossings) lines e = absurd (true≢false (sym e))
-names_it (ByRules Lines) lines e = (Lines, e, (lines, refl))
-names_it (ByRules Local) lines e = (Local, e, (lines, refl))
+names_it (ByRules set) lines e = (set, e, (lines, refl))
 names_it grade lines e = absurd cc
 
 -- a refusal names no rule set
-none_named : (cause : Text) → NamesRules (refused cause) → ⊥
+none_named : (cause : Text) → NamesSetNoStrongerThanSearch (refused cause) → ⊥
 unfolding marks
 none_named cause (Crossings, within, (rest, e)) = absurd (true≢false (sym within))
 none_named cause (set, within, (rest, e)) = absurd (omega (arith, ap marks e))
 
-pub refusals_apart : (first second : Text) → NamesRules (refused second) ↔ ((refused first).status ≡ 0)
-refusals_apart first second = (λ named. absurd (none_named second named), λ e. absurd (omega (arith, e)))
-
-pub refusals_along : (first second : Text) → GoesAlong (refused second).status (refused first).status
-refusals_along first second = inl refl
+pub refusals_apart : (cause : Text) → NamesSetNoStrongerThanSearch (refused cause) ↔ ((refused cause).status ≡ 0)
+refusals_apart cause = grind (arith, common_steps, none_named)
 
 module _ {traced : Bool} {name : ℕ → Text} {tried : RuleSystem} (printed : List ℕ → Text) {solved graded : Answer} where
-  pub status_alike : {grade : Grade} (o : Outcome) → GoesAlong (grade_status grade) (verdict_status o) → SaysGrade grade traced name tried graded
-      → solved ≡ verdict_answer printed o → GoesAlong graded.status solved.status
+  pub status_alike : {grade : Grade} (o : Outcome) → StatusesAgree (grade_status grade) (verdict_status o) → SaysGrade grade traced name tried graded
+      → solved ≡ verdict_answer printed o → StatusesAgree graded.status solved.status
   status_alike o along told is = rw (told.status, is, told_status printed o) along
 
   pub named_alike : (grade : Grade) {rules : RuleSystem} → IsLawful rules → is_within grade ≡ is_settled rules → SaysGrade grade traced name tried graded
-      → solved ≡ verdict_answer printed (verdict_of rules 0) → NamesRules graded ↔ (solved.status ≡ 0)
+      → solved ≡ verdict_answer printed (verdict_of rules 0) → NamesSetNoStrongerThanSearch graded ↔ (solved.status ≡ 0)
   named_alike grade {rules} laws within told is = (
-    λ named. let by : is_within grade ≡ true = named_is grade told.lines named.2.0 named.0 named.1 (sym told.text ∙ named.2.1) in
+    λ named. let by = named_is grade told.lines named.2.0 named.0 named.1 (sym told.text ∙ named.2.1) in
         is_status ∙ sym (one_status _ (settled_found laws (sym within ∙ by) 0)),
-    λ zero_status. let one = status_one (verdict_of rules 0) (sym is_status ∙ zero_status) in
+    λ zero_status. let one = status_one _ (sym is_status ∙ zero_status) in
         let w = names_it grade told.lines (within ∙ one_settled laws one.0 one.1) in
         (w.0, w.1, subst (Begins (rule_set_text w.0 ++ codes "\n")) (sym told.text) w.2),
   )
     where
       is_status : solved.status ≡ verdict_status (verdict_of rules 0)
-      is_status = ap (λ (a : Answer). a.status) is ∙ told_status printed (verdict_of rules 0)
+      is_status = ap (λ a. a.status) is ∙ told_status printed _

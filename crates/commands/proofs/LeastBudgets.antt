@@ -1,22 +1,10 @@
 -- A grade names a search by the trials of the whole walk, which are the least budget with which the verdict is one.
-use Rattle.std.proofs.Common.{◌≡◌, ◌∙◌, ◌⊎◌, ◌<◌, ◌≤◌, ◌≢◌, ℕ, zero, suc, Bool, List, [], ◌∷◌, ◌++◌, Option, Some, None, refl, sym, ap, subst, inl, inr, arith, codes, slice_index}
-use Rattle.std.proofs.Math.Nat.{eq-or-lt_of_le}
-use Rattle.engine_core.specs.Verdict.{Outcome.OneSolution, Outcome.NoSolution, outcome, Outcome.SeveralSolutions, Outcome.GaveUp, trials_in}
-use Rattle.engine_core.specs.Walk.{Mark.Found, Mark.Trial}
-use Rattle.commands.specs.Common.{IsRight, Game, Outcome, Mark, RuleSystem, verdict_of, walk}
-use Rattle.commands.specs.Answers.{Answer, Text}
-use Rattle.commands.specs.Allowed.{AllowsGrade, AllowsSolve, IsSolved}
-use Rattle.commands.specs.Games.{game_of, puzzle_of}
-use Rattle.commands.specs.Grades.{HasOneSolution, SaysGrade, grade_by, grade_text, listed_grade, searched_grade}
-use Rattle.commands.specs.LawsOfCommands.{IsLeastBudget, NamesLeastBudget, NamesSearch, NamesSet}
-use Rattle.commands.specs.PuzzleFacts.{printed_by}
-use Rattle.commands.specs.Replies.{refused}
-use Rattle.commands.specs.declared.grade.Grade.{Grade}
-use Rattle.commands.specs.declared.grade.Grade.TheVariants.{ByRules, BySearch}
-use Rattle.commands.specs.declared.grade.RuleSet.TheVariants.{Singles, Houses, Crossings, Lines, Local}
+use Rattle.std.proofs.lemmas.Grind.{common_steps}
+use Rattle.commands.proofs.Common.{AllowsSolve, Answer, Bool, ByRules, BySearch, Crossings, Game, Grade, HasOneSolution, Houses, IsLeastBudget, IsRight, IsSolved, Lines, List, Local, Mark, Mark.Found, Mark.Trial, NamesSearch, NamesSet, None, Option, Outcome, Outcome.GaveUp, Outcome.NoSolution, Outcome.OneSolution, Outcome.SeveralSolutions, RuleSystem, SaysGrade, SearchesNameLeastBudgets, Singles, Some, Text, [], ap, arith, codes, eq-or-lt_of_le, game_of, grade_by, grade_text, inl, inr, listed_grade, outcome, printed_by, puzzle_of, refl, refused, searched_grade, slice_index, subst, suc, sym, trials_in, verdict_of, walk, zero, ℕ, ◌++◌, ◌<◌, ◌∙◌, ◌∷◌, ◌≡◌, ◌≢◌, ◌≤◌, ◌⊎◌}
 use Rattle.commands.proofs.GameLaws.{laws_of, found_alone, solving}
 use Rattle.commands.proofs.GradedAlike.{named_or_searched, status_one, told_status}
 use Rattle.commands.proofs.SearchedPuzzles.{found_with_enough, verdict_right}
+use Rattle.commands.proofs.Readings.{answer_to}
 
 -- the third byte of a text: of all grades only a search has an 'a' there
 third : Text → ℕ
@@ -68,12 +56,10 @@ module _ (game : Game) (id : Text) (p : puzzle_of game) (s : (game_of game).game
   printed g = printed_by (game_of game) p g
 
   -- an answer of status 0 tells the verdict one
-  tells_one : (budget : ℕ) (said : Answer) → AllowsSolve (game_of game) budget id said
+  tells_one : (budget : ℕ) (said : Answer) → AllowsSolve (game_of game) id budget said
       → said.status ≡ 0 → (g : List ℕ) × (verdict_of rules budget ≡ OneSolution g)
-  tells_one budget said (inl x) fine = absurd ((laws_of game).reading.apart id p x.fault s x.first)
-  tells_one budget said (inr x) fine =
-      let mine = subst (λ q. IsSolved (game_of game) budget q said)
-      ((laws_of game).reading.one id x.puzzle p x.spelled s) x.allowed in
+  tells_one budget said allowed fine =
+      let mine = answer_to (laws_of game).reading (IsSolved (game_of game) budget) id p s allowed in
       status_one (verdict_of rules budget) (sym (told_status printed (verdict_of rules budget)) ∙ sym (ap (λ (a : Answer). a.status) mine.said) ∙ fine)
 
   one_is : (budget : ℕ) (g : List ℕ) → verdict_of rules budget ≡ OneSolution g → HasOneSolution ((game_of game).game.solves p)
@@ -83,22 +69,22 @@ module _ (game : Game) (id : Text) (p : puzzle_of game) (s : (game_of game).game
 
   -- with a budget for all trials each answer tells the one solution
   tells_fine : HasOneSolution ((game_of game).game.solves p) → (budget : ℕ) → trials_of rules ≤ budget → (said : Answer)
-      → AllowsSolve (game_of game) budget id said → said.status ≡ 0
+      → AllowsSolve (game_of game) id budget said → said.status ≡ 0
   unfolding trials_of
-  tells_fine one budget room said allowed = ap (λ (a : Answer). a.status)
+  tells_fine one budget room said allowed = ap (λ a. a.status)
       ((found_alone (game_of game) (laws_of game).reading id p budget one.0 said s
       (found_with_enough ((laws_of game).searched id p s) one room) (one.1, λ h other. sym (one.2 h other))).0 allowed)
 
   -- and with a smaller one none does
-  tells_less : (budget : ℕ) → budget < trials_of rules → (said : Answer) → AllowsSolve (game_of game) budget id said → said.status ≢ 0
+  tells_less : (budget : ℕ) → budget < trials_of rules → (said : Answer) → AllowsSolve (game_of game) id budget said → said.status ≢ 0
   unfolding trials_of
   tells_less budget less said allowed fine =
       let one = tells_one budget said allowed fine in
-      let room = room_for (walk rules 0 rules.start) budget None one.0 one.1 in
+      let room = room_for _ budget None one.0 one.1 in
       absurd (omega (arith, less, room))
 
   least_is : HasOneSolution ((game_of game).game.solves p) → IsLeastBudget game id (trials_of rules)
-  least_is one = record { enough = tells_fine one (trials_of rules) (omega arith); least = tells_less }
+  least_is one = record { enough = tells_fine one _ (omega arith); least = tells_less }
 
   -- where there is a least budget, it is that of all trials
   only_least : (n : ℕ) → IsLeastBudget game id n → HasOneSolution ((game_of game).game.solves p) × (trials_of rules ≡ n)
@@ -122,7 +108,7 @@ module _ (game : Game) (id : Text) (p : puzzle_of game) (s : (game_of game).game
     grade = listed_grade ((game_of game).game.sets p) rules budget
 
     text_of : {given : Grade} → grade ≡ given → graded.text ≡ grade_text given ++ codes "\n" ++ told.lines
-    text_of is = told.text ∙ ap (λ (g : Grade). grade_text g ++ codes "\n" ++ told.lines) is
+    text_of is = grind (arith, common_steps)
 
     names : (trials : ℕ) → grade ≡ BySearch trials → NamesSearch trials graded
     names trials is = (told.lines, text_of is)
@@ -134,10 +120,10 @@ module _ (game : Game) (id : Text) (p : puzzle_of game) (s : (game_of game).game
       where
         by : (trials : ℕ) × (grade ≡ BySearch trials) → (trials : ℕ) × NamesSearch trials graded × IsLeastBudget game id trials × (trials ≤ budget)
         by (trials, is) = elim (named_or_searched ((game_of game).game.sets p) (searched_grade rules budget)) [
-          | inl named ↦ absurd (let bad : ByRules named.0 ≡ BySearch trials = sym named.1 ∙ is in cc)
+          | inl named ↦ absurd (let bad = sym named.1 ∙ is in cc)
           | inr same ↦
-              let one = by_one (trials_of rules) (verdict_of rules budget) trials (sym same ∙ is) in
-              let room = room_for (walk rules 0 rules.start) budget None one.0 one.1 in (
+              let one = by_one _ _ trials (sym same ∙ is) in
+              let room = room_for _ budget None one.0 one.1 in (
                 trials,
                 names trials is,
                 subst (IsLeastBudget game id) one.2 (least_is (one_is budget one.0 one.1)),
@@ -155,11 +141,10 @@ module _ (game : Game) (id : Text) (p : puzzle_of game) (s : (game_of game).game
           inr (names n (same ∙ ap (grade_by (trials_of rules)) found ∙ ap BySearch one.1))
     ]
 
-pub least_budgets : (game : Game) (id : Text) (budget : ℕ) (traced : Bool) (graded : Answer)
-    → AllowsGrade (game_of game) id budget traced graded → NamesLeastBudget game id budget graded
+pub least_budgets : SearchesNameLeastBudgets
 least_budgets game id budget traced graded (inl x) = record {
-  said = λ b. absurd (no_refusal _ b.0 (sym (ap (λ (a : Answer). a.text) x.said) ∙ b.1));
-  only = λ n least room. absurd (omega (arith, least.enough graded (inl x), ap (λ (a : Answer). a.status) x.said));
+  said = λ b. absurd (no_refusal _ b.0 (sym (ap (λ a. a.text) x.said) ∙ b.1));
+  only = λ n least room. absurd (omega (arith, least.enough graded (inl x), ap (λ a. a.status) x.said));
 }
 least_budgets game id budget traced graded (inr x) = record {
   said = λ b. searched_told game id x.puzzle x.spelled budget traced _ _ graded x.allowed.said b.0 b.1;

@@ -1,3 +1,4 @@
+pub mod Common
 pub mod InputLemmas
 pub mod BatchLemmas
 pub mod PieceLemmas
@@ -11,10 +12,10 @@ pub mod GradeLemmas
 pub mod GameLaws
 pub mod MadeOnce
 pub mod LeastBudgets
-pub mod MadeAlike
 pub mod ShuffledLists
 pub mod ThinnedExists
 pub mod ClosingExists
 pub mod SoloFillings
 pub mod LightFillings
+pub mod Makings
 pub mod RequestsAnswered

@@ -1,20 +1,8 @@
 -- Each filling of Light Up over a stream of words solves its puzzle; and the first that passes can be thinned.
-use Rattle.maker_core.proofs.Common.{◌≡◌, ◌∙◌, ℕ, zero, suc, ◌*◌, ◌^◌, ◌-◌, ◌<◌, ◌≤◌, ◌==◌, Bool, true, false, List, Option, Some, length, get_or, refl, sym, ap, subst, arith}
-use Rattle.maker_core.proofs.Common.{mul-le, if◌then◌else◌, length-filter, count_by-le-length, length-map, length-map-range_with_len, length-range_with_len}
-use Rattle.maker_core.proofs.Common.{All-from_get_or, recursion_from_All, AllByRecursion, range_with_len, Extent, Stream, Light, LightCell, Black, Numbered, White}
-use Rattle.maker_core.proofs.Common.{HasWords, IsFirstPassing, IsLit, IsThinnedFrom, black_cells, bulbs_after, filling_at, light_cells, light_filling, light_game}
-use Rattle.maker_core.proofs.Common.{light_is_game, light_passes, light_puzzle_of, light_rules, lights_of, numbered_cell, shuffled_list, stream_after, white, white_places, with_numbers}
-use Rattle.maker_core.proofs.Common.{IsLightSolution, bulbs_beside, cases_lt, get_or_past, inl, inr}
-use Rattle.std.proofs.lemmas.Option.{none-some}
-use Rattle.engine_core.specs.Verdict.{Outcome.OneSolution}
-use Rattle.gameid_core.specs.Puzzles.{IsLight, IsLightCell, IsWide}
-use Rattle.fields_core.specs.Light.{is_white}
-use Rattle.maker_core.specs.Draws.{Making}
-use Rattle.maker_core.specs.LightClues.{number_clue}
-use Rattle.maker_core.specs.LightFilling.{lit_up}
+use Rattle.std.proofs.lemmas.Grind.{common_steps}
+use Rattle.commands.proofs.Common.{All-from_get_or, AllByRecursion, Black, Bool, Extent, HasWords, IsFirstPassing, IsLight, IsLightCell, IsLightSolution, IsLit, IsThinnedFrom, IsWide, Kept, Light, LightCell, List, Making, Numbered, Option, Outcome.OneSolution, Some, Stream, White, ap, arith, black_cells, black_cells-grid, bulbs_after, bulbs_beside, cases_lt, count_by-le-length, false, filling_at, get_or, get_or_past, inl, inr, is_white, length, length-filter, length-map, length-map-range_with_len, length-range_with_len, light_cells, light_filling, light_game, light_is_game, light_puzzle_of, light_rules, lights_of, lit_up, mul-le, none-some, number_clue, numbered_cell, recursion_from_All, refl, shuffled_list, stream_after, subst, suc, sym, true, white, white_places, with_numbers, zero, ℕ, ◌*◌, ◌-◌, ◌<◌, ◌^◌, ◌∙◌, ◌≡◌, ◌≤◌}
+use Rattle.maker_core.specs.LightFilling.{light_passes}
 use Rattle.maker_core.specs.LightMaking.{IsLightMade}
-use Rattle.maker_core.specs.declared.made.Kept.{Kept}
-use Rattle.maker_core.proofs.BlackCells.{black_cells-grid}
 use Rattle.maker_core.proofs.LightCells.{bulbs_few}
 use Rattle.maker_core.proofs.LightMakings.{all_numbers, lit_one, size_is}
 use Rattle.maker_core.proofs.LightSight.{bulbs_after-grid, number_at}
@@ -34,32 +22,30 @@ LightFilling = MadeBy light_filling
 -- ---- one filling
 whites_few : (p : Light) → length (white_places p) ≤ light_cells p
 unfolding white_places
-whites_few p =
-    let all = count_by-le-length (white p) (range_with_len 0 (light_cells p)) in
-    omega (arith, length-filter (white p) (range_with_len 0 (light_cells p)), length-range_with_len 0 (light_cells p), all)
+whites_few p = grind (arith, common_steps, count_by-le-length, white, length-filter, length-range_with_len)
 
 module _ (size : Extent) (wide : IsWide size) (black : ℕ) where
   lit_words : (p : Light) {s : Stream} → light_cells p < 2 ^ 32 - 1 → HasWords s → IsShuffled (white_places p) (shuffled_list (white_places p) s)
   lit_words p {s} few words = shuffled_is s (let w = whites_few p in omega arith) words
 
   few : size.w * size.h < 2 ^ 32 - 1
-  few = let cells = mul-le size.w size.h 120 120 wide.extent.w_high wide.extent.h_high in omega arith
+  few = grind (arith, common_steps, mul-le)
 
   filling_words : {s : Stream} → HasWords s → HasWords (light_filling size black s).1
   unfolding light_filling lit_up lights_of
   filling_words {s} words =
-      let drawn : List ℕ × Stream = black_cells black (size.w * size.h) s in
+      let drawn = black_cells black (size.w * size.h) s in
       (lit_words (lights_of size drawn.0) few (black_words black (size.w * size.h) words)).words
 
   filling_lit : {s : Stream} → HasWords s → IsLit size (light_filling size black s).0
   unfolding light_filling lit_up lights_of light_puzzle_of
   filling_lit {s} words =
-      let drawn : List ℕ × Stream = black_cells black (size.w * size.h) s in
+      let drawn = black_cells black (size.w * size.h) s in
       let grid = black_cells-grid black (size.w * size.h) s in
-      let p : Light = lights_of size drawn.0 in
-      let mixed : IsShuffled (white_places p) (shuffled_list (white_places p) drawn.1) = lit_words p few (black_words black (size.w * size.h) words) in
+      let p = lights_of size drawn.0 in
+      let mixed = lit_words p few (black_words black (size.w * size.h) words) in
       let order : List ℕ = (shuffled_list (white_places p) drawn.1).0 in
-      let long : length p.cells ≡ light_cells p = length-map drawn.0 (λ v. if v == 1 then Black else White) ∙ grid.each_cell in
+      let long = length-map drawn.0 _ ∙ grid.each_cell in
       record {
         black = grid;
         bulbs = bulbs_after-grid p order (length order);
@@ -89,10 +75,10 @@ numbers_small cells small =
 
 numbered_small : (p : Light) (g : List ℕ) (place n : ℕ) → number_clue (get_or (with_numbers p g).cells place Black) ≡ Some n → n ≤ 4
 unfolding with_numbers
-numbered_small p g place n e = elim (cases_lt place (light_cells p)) [
+numbered_small p g place n e = elim (cases_lt place _) [
   | inl lt ↦ by (white p place) refl (ap number_clue (sym (number_at p g place lt)) ∙ e)
   | inr over ↦ absurd (none-some n (ap number_clue (sym (get_or_past (with_numbers p g).cells place Black
-      (let long = length-map-range_with_len (numbered_cell p g) 0 (light_cells p) in omega arith))) ∙ e))
+      (omega (arith, length-map-range_with_len (numbered_cell p g) 0 (light_cells p))))) ∙ e))
 ]
   where
     some_is : (m : ℕ) → ◌≡◌ {A = Option ℕ} (Some m) (Some n) → m ≡ n
@@ -100,7 +86,7 @@ numbered_small p g place n e = elim (cases_lt place (light_cells p)) [
 
     by : (b : Bool) → white p place ≡ b → number_clue (numbered_cell p g place) ≡ Some n → n ≤ 4
     by true on is = absurd (none-some n (rw on at is))
-    by false off is = let few = bulbs_few p g place in let same = some_is (bulbs_beside p g place) (rw off at is) in omega arith
+    by false off is = omega (arith, bulbs_few p g place, some_is (bulbs_beside p g place) (rw off at is))
 
 -- with fewer numbers it is a puzzle still
 light_thinner : (p q : Light) → IsLight p
@@ -109,7 +95,7 @@ light_thinner : (p q : Light) → IsLight p
 light_thinner p q ok small w = record {
   size = subst IsWide (sym w.frame.size) ok.size;
   count = sym (length-map q.cells is_white) ∙ ap length w.frame.black ∙ length-map p.cells is_white
-      ∙ ok.count ∙ ap (λ (e : Extent). e.w * e.h) (sym w.frame.size);
+      ∙ ok.count ∙ ap (λ e. e.w * e.h) (sym w.frame.size);
   each = numbers_small q.cells (λ place n e. small place n (w.clues place n e));
 }
 

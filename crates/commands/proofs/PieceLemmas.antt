@@ -1,10 +1,6 @@
 -- A text that is put piece by piece: what was put and what is left of it are the text so far.
-use Rattle.std.proofs.Common.{◌≡◌, ◌∙◌, ◌++◌, ◌∷◌, ◌+◌, ◌<◌, ◌≤◌, ℕ, length, refl, subst, zero, suc, [], sym, ap, append_assoc, append-nil, arith, add-one, inl, inr}
-use Rattle.std.proofs.lemmas.Grind.{common_steps}
-use Rattle.std.proofs.lemmas.Bool.{cases_lt}
-use Rattle.commands.specs.Answers.{Text, Begins, PutUpTo, PutBegun}
-use Rattle.gameid_core.specs.GridTexts.{each_below}
-use Rattle.commands.specs.TracePieces.{KeptOrPut, PutInPieces, TakesPieces, joined}
+use Rattle.commands.proofs.Common.{Begins, KeptOrPut, PutBegun, PutInPieces, PutUpTo, TakesPieces, Text, [], add-one, ap, append-nil, append_assoc, arith, cases_lt, common_steps, each_below, inl, inr, joined, length, refl, subst, suc, sym, zero, ℕ, ◌++◌, ◌+◌, ◌<◌, ◌∙◌, ◌∷◌, ◌≡◌, ◌≤◌}
+use Rattle.commands.proofs.RunLemmas.{TakesBoth}
 
 -- a text begins itself
 begins_itself : {text other : Text} → other ≡ text → Begins text other
@@ -15,7 +11,7 @@ each_begins : (f : ℕ → Text) (i n : ℕ) → i ≤ n → Begins (each_below 
 unfolding each_below
 each_begins f i zero le = let e : zero ≡ i = omega arith in begins_itself (ap (each_below f) e)
 each_begins f i (suc n) le = elim (cases_lt i (suc n)) [
-  | inl lt ↦ let h = each_begins f i n (omega arith) in (h.0 ++ f n, ap (λ (t : Text). t ++ f n) h.1 ∙ append_assoc (each_below f i) h.0 (f n))
+  | inl lt ↦ let h = each_begins f i n (omega arith) in (h.0 ++ f n, ap (λ t. t ++ f n) h.1 ∙ append_assoc _ h.0 (f n))
   | inr ge ↦ let e : suc n ≡ i = omega arith in begins_itself (ap (each_below f) e)
 ]
 
@@ -25,36 +21,31 @@ line_split : (text done held : Text) {longer line : Text} (f : ℕ → Text) (i 
 unfolding each_below
 line_split text done held f i same is equal = grind (arith, common_steps, add-one, append_assoc)
 
-module _ {S : Type 0} {takes : S → Text → S → Type 0} (nothing : (s : S) → takes s [] s)
-    (both : (s t u : S) (a b : Text) → takes s a t → takes t b u → takes s (a ++ b) u) where
+module _ {S : Type 0} {takes : S → Text → S → Type 0} where
   -- before the first line
-  pub no_line : (s : S) (text : Text) (f : ℕ → Text) → PutUpTo takes s (text ++ each_below f 0) text s
+  pub no_line : (s : S) → takes s [] s → (text : Text) (f : ℕ → Text) → PutUpTo takes s (text ++ each_below f 0) text s
   unfolding each_below
-  no_line s text f = record { done = []; took = nothing s; split = append-nil text }
+  no_line s nothing text f = record { done = []; took = nothing; split = append-nil text }
 
   -- one more line is in the text, and nothing more was put
   pub line_added : {s t : S} (text : Text) {held longer line : Text} (f : ℕ → Text) (i : ℕ) → PutUpTo takes s (text ++ each_below f i) held t
       → longer ≡ held ++ line → line ≡ f i → PutUpTo takes s (text ++ each_below f (i + 1)) longer t
-  line_added text {held} f i put more is = record {
-    done = put.done;
-    took = put.took;
-    split = line_split text put.done held f i put.split more is;
-  }
+  line_added text {held} f i put more is = grind (arith, common_steps, line_split)
 
   -- what was held was put up to a rest
-  pub piece_put : (s t u : S) {text held : Text} (rest : Text) → PutUpTo takes s text held t → PutUpTo takes t held rest u → PutUpTo takes s text rest u
-  piece_put s t u rest put more = record {
+  pub piece_put : TakesBoth takes → (s t u : S) {text held : Text} (rest : Text) → PutUpTo takes s text held t → PutUpTo takes t held rest u → PutUpTo takes s text rest u
+  piece_put both s t u rest put more = record {
     done = put.done ++ more.done;
     took = both s t u put.done more.done put.took more.took;
-    split = put.split ∙ ap (λ (l : Text). put.done ++ l) more.split ∙ sym (append_assoc put.done more.done rest);
+    split = put.split ∙ ap (λ l. put.done ++ l) more.split ∙ sym (append_assoc put.done more.done rest);
   }
 
   -- what was held was begun
-  pub piece_begun : (s t u : S) {text held : Text} → PutUpTo takes s text held t → PutBegun takes t held u → PutBegun takes s text u
-  piece_begun s t u put more = record {
+  pub piece_begun : TakesBoth takes → (s t u : S) {text held : Text} → PutUpTo takes s text held t → PutBegun takes t held u → PutBegun takes s text u
+  piece_begun both s t u put more = record {
     done = put.done ++ more.done;
     took = both s t u put.done more.done put.took more.took;
-    begun = (more.begun.0, put.split ∙ ap (λ (l : Text). put.done ++ l) more.begun.1 ∙ sym (append_assoc put.done more.done more.begun.0));
+    begun = (more.begun.0, put.split ∙ ap (λ l. put.done ++ l) more.begun.1 ∙ sym (append_assoc put.done more.done more.begun.0));
   }
 
 -- what was put of a text begins it
@@ -72,7 +63,7 @@ lines_begun text f i n le begun =
       took = begun.took;
       begun = (
         begun.begun.0 ++ h.0,
-        ap (λ (l : Text). text ++ l) h.1 ∙ sym (append_assoc text (each_below f i) h.0) ∙ ap (λ (l : Text). l ++ h.0) begun.begun.1
+        ap (λ l. text ++ l) h.1 ∙ sym (append_assoc text _ h.0) ∙ ap (λ l. l ++ h.0) begun.begun.1
             ∙ append_assoc begun.done begun.begun.0 h.0,
       );
     }
@@ -86,11 +77,7 @@ module _ {S : Type 0} {takes : S → Text → S → Type 0} {most : ℕ} where
   -- one more line is in the text, and no piece more was put
   pub line_held : {s t : S} (text : Text) {held longer line : Text} (f : ℕ → Text) (i : ℕ) → PutInPieces takes most s (text ++ each_below f i) held t
       → longer ≡ held ++ line → line ≡ f i → PutInPieces takes most s (text ++ each_below f (i + 1)) longer t
-  line_held text {held} {longer} {line} f i put more is = record {
-    pieces = put.pieces;
-    took = put.took;
-    split = line_split text (joined put.pieces) held f i put.split more is;
-  }
+  line_held text {held} {longer} {line} f i put more is = grind (arith, common_steps, line_split, joined)
 
   -- what was held was kept, or is one piece more
   pub next_piece : (s t u : S) {text : Text} (held : Text) {rest : Text}
@@ -99,12 +86,12 @@ module _ {S : Type 0} {takes : S → Text → S → Type 0} {most : ℕ} where
   next_piece s t u held put short next = elim next [
     | inl kept ↦ record {
       pieces = put.pieces;
-      took = subst (λ (v : S). TakesPieces takes most s put.pieces v) (sym kept.1) put.took;
-      split = put.split ∙ ap (λ (l : Text). joined put.pieces ++ l) (sym kept.0);
+      took = subst (λ v. TakesPieces takes most s put.pieces v) (sym kept.1) put.took;
+      split = put.split ∙ ap (λ l. joined put.pieces ++ l) (sym kept.0);
     }
     | inr all ↦ record {
       pieces = held ∷ put.pieces;
       took = (t, put.took, all.1, short);
-      split = put.split ∙ sym (append-nil (joined put.pieces ++ held)) ∙ ap (λ (l : Text). (joined put.pieces ++ held) ++ l) (sym all.0);
+      split = put.split ∙ sym (append-nil (joined put.pieces ++ held)) ∙ ap (λ l. (joined put.pieces ++ held) ++ l) (sym all.0);
     }
   ]

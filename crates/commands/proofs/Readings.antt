@@ -1,18 +1,7 @@
 -- What is answered to an ID, where a text spells one puzzle or has one fault, and never both.
-use Rattle.std.proofs.Common.{◌≡◌, Result, Err, ◌≢◌, ◌<◌, ℕ, length, inl, Ok, refl, ◌∙◌, ◌++◌, false, List, [], ◌∷◌, codes, sym, ap, ap₂, subst, inr}
-use Rattle.std.specs.Prelude.{IfOk, ◌↔◌}
+use Rattle.commands.proofs.Common.{AllowsEach, AllowsId, AllowsSolve, Answer, Err, Game, GameFacts, HasOneAnswer, HasOneReading, IdFault, IfOk, IsGraded, IsRewritten, IsRightGrade, List, Memory, NamedRules, Ok, PuzzleFacts, Reply, Result, SizeRead, Text, TooLong, [], answer_in, ap, ap₂, both, codes, false, fault_text, game_of, grade_status, grade_text, inl, inr, length, listed_grade, max_id, refl, refused, silence, subst, sym, ℕ, ◌++◌, ◌<◌, ◌↔◌, ◌∙◌, ◌∷◌, ◌≡◌, ◌≢◌}
 use Rattle.gameid_core.specs.Steps.{Fails}
-use Rattle.gameid_core.specs.declared.id.fault.IdFault.TheVariants.{Memory, TooLong}
-use Rattle.commands.specs.Common.{HasOneReading, IdFault, max_id, Game}
-use Rattle.commands.specs.Answers.{Text, Answer}
-use Rattle.commands.specs.Games.{game_of}
-use Rattle.commands.specs.Allowed.{AllowsId, AllowsSolve, IsGraded}
-use Rattle.commands.specs.PuzzleFacts.{GameFacts, PuzzleFacts}
-use Rattle.commands.specs.Replies.{refused, fault_text, answer_in}
-use Rattle.commands.specs.declared.answers.reply.Reply.{Reply}
-use Rattle.commands.specs.Each.{AllowsEach, both, silence}
-use Rattle.commands.specs.Grades.{IsRightGrade, NamedRules, grade_status, grade_text, listed_grade}
-use Rattle.commands.specs.LawsOfCommands.{HasOneAnswer, IsRewritten}
+use Rattle.gameid_core.proofs.OneReading.{reading_of}
 
 first_fault : {P : Type 0} {fault : IdFault} {reading : Result P IdFault} → fault ≢ Memory → Fails fault reading → reading ≡ Err fault
 first_fault {fault = Memory} {reading} other fails = absurd (other refl)
@@ -27,7 +16,7 @@ refused_id reading {fault} other fails told = inl (record { fault = fault; first
 pub too_long_id : {E : Type 0} (game : Game) (budget : ℕ) (result : Result Reply E)
     → ((text : Text) → max_id < length text → (game_of game).game.reading text ≡ Err TooLong)
     → IfOk result (λ r. answer_in r ≡ refused (fault_text TooLong))
-    → IfOk result (λ r. (id : Text) → max_id < length id → AllowsSolve (game_of game) budget id (answer_in r))
+    → IfOk result (λ r. (id : Text) → max_id < length id → AllowsSolve (game_of game) id budget (answer_in r))
 too_long_id game budget (Ok r) long told = λ id more. inl (record { fault = TooLong; first = long id more; said = told })
 too_long_id game budget (Err e) long told = tt
 
@@ -41,6 +30,17 @@ pub told_once : (answer : Answer) → HasOneAnswer (λ a. a ≡ answer)
 told_once answer = record { answer = answer; allowed = refl; only = λ other is. sym is }
 
 module _ {P : Type 0} {of : Text → Result P IdFault} {spells : Text → P → Type 0} (reading : HasOneReading spells of) where
+  -- an ID that spells a puzzle has the answers to that puzzle, and a refused one has its refusal
+  pub answer_to : (allows : P → Answer → Type 0) (id : Text) (p : P) {a : Answer} → spells id p → AllowsId (of id) (spells id) allows a → allows p a
+  answer_to allows id p s (inl x) = absurd (reading.apart id p x.fault s x.first)
+  answer_to allows id p {a} s (inr x) = subst (λ q. allows q a) (reading.one id x.puzzle p x.spelled s) x.allowed
+
+  refusal_to : (allows : P → Answer → Type 0) (id : Text) (f : IdFault) {a : Answer} → of id ≡ Err f
+      → AllowsId (of id) (spells id) allows a → a ≡ refused (fault_text f)
+  refusal_to allows id f is (inl x) = let same = sym x.first ∙ is in
+      x.said ∙ ap (λ h. refused (fault_text h)) (let fault : x.fault ≡ f = cc in fault)
+  refusal_to allows id f is (inr x) = absurd (reading.apart id x.puzzle f x.spelled is)
+
   -- an ID has an answer where each puzzle has one
   pub id_some : (id : Text) (allows : P → Answer → Type 0)
       → ((p : P) → spells id p → (a : Answer) × allows p a)
@@ -50,32 +50,26 @@ module _ {P : Type 0} {of : Text → Result P IdFault} {spells : Text → P → 
     | inr f ↦ (refused (fault_text f.0), inl (record { fault = f.0; first = f.1; said = refl }))
   ]
 
+  -- what holds of a refusal, and of the answers to each puzzle, holds of two answers to an ID
+  pub both_answers : {first second : P → Answer → Type 0} (holds : Answer → Answer → Type 0) (id : Text) (a b : Answer)
+      → ((cause : Text) → holds (refused cause) (refused cause))
+      → ((p : P) → spells id p → first p a → second p b → holds a b)
+      → AllowsId (of id) (spells id) first a → AllowsId (of id) (spells id) second b → holds a b
+  both_answers {first} {second} holds id a b refusals answers x y = elim (reading.either id) [
+    | inl s ↦ answers s.0 s.1 (answer_to first id s.0 s.1 x) (answer_to second id s.0 s.1 y)
+    | inr f ↦ rw (refusal_to first id f.0 f.1 x, refusal_to second id f.0 f.1 y) (refusals (fault_text f.0))
+  ]
+
   pub id_once : (id : Text) {allows : P → Answer → Type 0}
       → ((p : P) → spells id p → HasOneAnswer (allows p))
       → HasOneAnswer (AllowsId (of id) (spells id) allows)
-  id_once id {allows} each = elim (reading.either id) [
-    | inl s ↦ record {
-      answer = (each s.0 s.1).answer;
-      allowed = inr (record { puzzle = s.0; spelled = s.1; allowed = (each s.0 s.1).allowed });
-      only = spelled s.0 s.1;
-    }
-    | inr f ↦ record {
-      answer = refused (fault_text f.0);
-      allowed = inl (record { fault = f.0; first = f.1; said = refl });
-      only = faulty f.0 f.1;
-    }
-  ]
-    where
-      spelled : (p : P) (s : spells id p) (other : Answer) → AllowsId (of id) (spells id) allows other → (each p s).answer ≡ other
-      spelled p s other (inl x) = absurd (reading.apart id p x.fault s x.first)
-      spelled p s other (inr x) = (each p s).only other (subst (λ q. allows q other) (reading.one id x.puzzle p x.spelled s) x.allowed)
+  id_once id {allows} each =
+      let some = id_some id allows (λ p s. ((each p s).answer, (each p s).allowed)) in
+      one_of_same some (λ a b. both_answers (λ x y. x ≡ y) id a b (λ cause. refl) (λ p s x y. sym ((each p s).only a x) ∙ (each p s).only b y))
 
-      faults : (f h : IdFault) → ◌≡◌ {A = Result P IdFault} (Err f) (Err h) → f ≡ h
-      faults f h e = cc
-
-      faulty : (f : IdFault) → of id ≡ Err f → (other : Answer) → AllowsId (of id) (spells id) allows other → refused (fault_text f) ≡ other
-      faulty f first other (inl x) = ap (λ (h : IdFault). refused (fault_text h)) (faults f x.fault (sym first ∙ x.first)) ∙ sym x.said
-      faulty f first other (inr x) = absurd (reading.apart id x.puzzle f x.spelled first)
+-- a text is one size, or has one fault
+pub size_reading : (sizes : Text → Result SizeRead IdFault) → HasOneReading (λ text size. sizes text ≡ Ok size) sizes
+size_reading sizes = reading_of (λ text size. sizes text ≡ Ok size) sizes (λ text size is. is) (λ text size is. is)
 
 -- a grade without a trace
 pub grade_once : {P : Type 0} {play : PuzzleFacts P} {sets : List NamedRules} {budget : ℕ} (p : P)
@@ -86,7 +80,7 @@ grade_once {play} {sets} {budget} p right =
       answer = record { text = grade_text given ++ codes "\n" ++ []; status = grade_status given };
       allowed = record { right = right; said = record { lines = []; trace = refl; text = refl; status = refl } };
       only = λ other is. ap₂ (λ (t : Text) (s : ℕ). record { text = t; status = s })
-          (ap (λ (lines : Text). grade_text given ++ codes "\n" ++ lines) (sym is.said.trace) ∙ sym is.said.text) (sym is.said.status);
+          (ap (λ lines. grade_text given ++ codes "\n" ++ lines) (sym is.said.trace) ∙ sym is.said.text) (sym is.said.status);
     }
 
 -- the answers to lines, in turn
@@ -106,12 +100,7 @@ module _ {P : Type 0} (game : GameFacts P) (reading : HasOneReading game.spells 
     (again : (text : Text) (p : P) → game.spells text p → game.spells (game.written p) p) where
   carried : (id other : Text) (p : P) → game.spells id p → game.spells other p → (allows : P → Answer → Type 0) (a : Answer)
       → AllowsId (game.reading id) (game.spells id) allows a → AllowsId (game.reading other) (game.spells other) allows a
-  carried id other p s t allows a (inl refused) = absurd (reading.apart id p refused.fault s refused.first)
-  carried id other p s t allows a (inr answered) = inr (record {
-    puzzle = p;
-    spelled = t;
-    allowed = subst (λ q. allows q a) (reading.one id answered.puzzle p answered.spelled s) answered.allowed;
-  })
+  carried id other p s t allows a said = inr (record { puzzle = p; spelled = t; allowed = answer_to reading allows id p s said })
 
   spells_written : {id other : Text} (r : IsRewritten game id other) → game.spells other r.puzzle
   spells_written {id} r = subst (λ t. game.spells t r.puzzle) (sym r.is_written) (again id r.puzzle r.spelled)

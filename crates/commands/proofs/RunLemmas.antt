@@ -1,17 +1,9 @@
 -- Runs that deliver one answer, and those that end before their answers are whole.
-use Rattle.std.proofs.Common.{[], refl, ◌≡◌, ◌≤◌, ℕ, Bool, Result, Ok, Err, IfErr, IfOk, sym, subst, inl, inr, arith, false, true≢false, ◌++◌, ◌-◌, List, take, drop, length, ap, ◌∙◌, append_assoc, append-nil, ◌⊎◌, true}
+use Rattle.commands.proofs.Common.{Answer, BeginsAnswer, BeginsIfAny, Bool, Delivers, Err, HasAnswers, IfErr, IfOk, IsInput, List, Ok, PutBegun, PutUpTo, Ran, RanIfAny, Reply, Result, Says, SaysIfAny, Text, [], answer_in, ap, append-nil, append_assoc, arith, common_steps, drop, false, inl, inr, length, refl, status_in, status_of, subst, sym, take, take-append-drop, true, true≢false, ℕ, ◌++◌, ◌-◌, ◌∙◌, ◌≡◌, ◌≤◌, ◌⊎◌}
 use Rattle.std.specs.Result.{IsErr, IsErrAnd}
-use Rattle.std.proofs.lemmas.List.{take-append-drop}
-use Rattle.std.proofs.lemmas.Grind.{common_steps}
-use Rattle.commands.specs.Answers.{Answer, BeginsAnswer, Text, Delivers, PutBegun, PutUpTo, IsInput, status_of}
-use Rattle.commands.specs.Each.{HasAnswers}
-use Rattle.commands.specs.Replies.{answer_in}
-use Rattle.commands.specs.declared.answers.reply.Reply.{Reply}
-use Rattle.commands.specs.Stops.{BeginsIfAny, RanIfAny, Says, SaysIfAny, status_in}
 use Rattle.commands.specs.declared.answers.status.Status.{Status}
 use Rattle.commands.specs.declared.answers.status.Stop.{Stop}
 use Rattle.commands.specs.declared.answers.status.Stop.TheVariants.{Memory, Broken}
-use Rattle.commands.specs.Runs.{Ran}
 use Rattle.commands.specs.declared.ends.Sink as sinks
 use Rattle.commands.specs.declared.ends.Source as sources
 
@@ -64,13 +56,16 @@ says_some {A} some told = record {
 -- nothing was written
 pub says_nothing : {S : Type 0} {takes : S → Text → S → Type 0} {allows : Answer → Type 0} {s : S} {status : ℕ} → takes s [] s
     → 5 ≤ status → SaysIfAny takes allows s s status
-says_nothing nothing high = record { written = []; took = nothing; begun = inl refl; whole = λ small. absurd (omega arith) }
+says_nothing nothing high = grind (arith, common_steps)
 
 rest_is : (rest : List ℕ) (n m : ℕ) → m ≡ length rest → take (m - n) (drop n rest) ≡ drop n rest
 rest_is rest n m e = grind (arith, common_steps)
 
-module _ {S : Type 0} {takes : S → List ℕ → S → Type 0} (nothing : (s : S) → takes s [] s)
-    (both : (s t u : S) (a b : List ℕ) → takes s a t → takes t b u → takes s (a ++ b) u) where
+-- what two times in turn took is taken by both together
+abbrev pub TakesBoth : {S : Type 0} → (S → Text → S → Type 0) → Type 0
+TakesBoth {S} takes = (s t u : S) (a b : Text) → takes s a t → takes t b u → takes s (a ++ b) u
+
+module _ {S : Type 0} {takes : S → Text → S → Type 0} (both : TakesBoth takes) where
   -- after one more put, which took n bytes
   pub put_more : {s t u : S} {bytes rest : List ℕ} (n m : ℕ) → m ≡ length rest → PutUpTo takes s bytes rest t
       → takes t (take n rest) u → PutUpTo takes s bytes (take (m - n) (drop n rest)) u
@@ -96,7 +91,7 @@ module _ {S : Type 0} {takes : S → List ℕ → S → Type 0} (nothing : (s : 
   delivers_all {s} t {u} {bytes} e is took more = record {
     written = bytes ++ [];
     took = both s t u bytes [] took more;
-    begun = ([], sym (append-nil (bytes ++ []) ∙ append-nil bytes ∙ e));
+    begun = ([], sym (append-nil _ ∙ append-nil bytes ∙ e));
     whole = λ small. (
       append-nil bytes ∙ e,
       elim is [
@@ -135,13 +130,7 @@ module _ {I O : Type 0} {source : sources.Ghosts I} {sink : sinks.Ghosts O}
   -- bytes were read, and nothing was written
   pub ran_unwritten : HasAnswers allows → {i j : I} {o : O} (seen : Text) {status : ℕ} → 5 ≤ status → source.gives i seen j → sink.takes o [] o
       → Ran source sink allows i j o o status
-  ran_unwritten answers seen high gave took = record {
-    read = seen;
-    written = [];
-    gave = gave;
-    took = took;
-    leaves = record { begun = λ input _. nothing_begins (allows input) (answers input); whole = λ low. absurd (omega arith) };
-  }
+  ran_unwritten answers seen high gave took = grind (arith, common_steps, nothing_begins)
 
   -- an answer that is allowed on every input was put, if there was memory for it
   pub ran_by_put : {E : Type 0} (made : Result Reply E) {i : I} {o p : O} {status : ℕ} → HasAnswers allows → source.gives i [] i → sink.takes o [] o
@@ -154,8 +143,7 @@ module _ {I O : Type 0} {source : sources.Ghosts I} {sink : sinks.Ghosts O}
   -- the same of steps that know of no answer before
   pub ran_if_any_unwritten : {i j : I} {o : O} (seen : Text) {status : ℕ} → 5 ≤ status → source.gives i seen j → sink.takes o [] o
       → RanIfAny source sink allows i j o o status
-  ran_if_any_unwritten seen high gave took =
-      record { read = seen; written = []; gave = gave; took = took; begun = λ input _. inl refl; whole = λ low. absurd (omega arith) }
+  ran_if_any_unwritten seen high gave took = grind (arith, common_steps)
 
   pub ran_if_any_by_telling : {i : I} {o p : O} (tells : Answer → Type 0) {status : ℕ}
       → source.gives i [] i → ((input : Text) (a : Answer) → tells a → allows input a)
@@ -171,13 +159,7 @@ module _ {I O : Type 0} {source : sources.Ghosts I} {sink : sinks.Ghosts O}
 
   -- where each input has an answer, a beginning of one was written
   pub ran_some : HasAnswers allows → {i j : I} {o p : O} {status : ℕ} → RanIfAny source sink allows i j o p status → Ran source sink allows i j o p status
-  ran_some answers r = record {
-    read = r.read;
-    written = r.written;
-    gave = r.gave;
-    took = r.took;
-    leaves = record { begun = λ input is. begins_some (allows input) (answers input) (r.begun input is); whole = r.whole };
-  }
+  ran_some answers r = grind (arith, common_steps, begins_some)
 
 -- what a reader over memory gave is the beginning of its bytes, and all of them where its end was met
 pub input_known : (ended was : Bool) (bytes start read left : Text) → start ≡ bytes → was ≡ false

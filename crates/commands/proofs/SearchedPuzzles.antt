@@ -1,26 +1,11 @@
 -- What the searches rest on, for a puzzle of each game, and what follows for their verdicts.
-use Rattle.std.proofs.Common.{◌≡◌, ℕ, Bool, List, Some, None, ◌≤◌, ◌∷◌, zero, suc, [], Option, refl, sym, arith}
-use Rattle.std.proofs.lemmas.Grind.{common_steps}
-use Rattle.std.specs.Prelude.{◌↔◌}
-use Rattle.engine_core.specs.Verdict.{Outcome.NoSolution, Outcome.OneSolution, Outcome.SeveralSolutions, Outcome.GaveUp, outcome, trials_in}
-use Rattle.engine_core.specs.Walk.{Mark.Found, Mark.Trial}
-use Rattle.engine_core.proofs.VerdictLemmas.{outcome-true}
-use Rattle.solo_core.specs.RuleLaws.{crossings_lawful, houses_lawful, singles_lawful}
+use Rattle.commands.proofs.Common.{Answer, Bool, HasOneAnswer, HasOneSolution, IsLawful, IsLight, IsLightSolution, IsPattern, IsPatternSolution, IsRight, IsSolo, IsSoloSolution, IsSolved, IsTentSolution, IsTents, IsTrueOf, Light, List, Mark, Mark.Found, Mark.Trial, None, Option, Outcome, Outcome.GaveUp, Outcome.NoSolution, Outcome.OneSolution, Outcome.SeveralSolutions, Pattern, PuzzleFacts, RuleSystem, Solo, Solves, Some, Tents, [], arith, common_steps, crossings_rules, houses_lawful, houses_rules, is_solution-from, is_solution-is, light_rules, line_rules, line_rules-lawful, outcome, outcome-true, printed_by, refl, rule_from_test, rules_of, singles_rules, suc, sym, tent_rules, test_from_rule, trials_in, verdict_answer, verdict_of, walk, zero, ℕ, ◌↔◌, ◌∷◌, ◌≡◌, ◌≤◌}
+use Rattle.solo_core.specs.RuleLaws.{crossings_lawful, singles_lawful}
 use Rattle.engine_core.specs.HouseRules.{House}
 use Rattle.fields_core.proofs.LightCounting.{light-lawful}
 use Rattle.fields_core.proofs.LightRuleLemmas as light
 use Rattle.fields_core.proofs.TentCounting.{tent-lawful}
 use Rattle.fields_core.proofs.TentRuleLemmas as tents
-use Rattle.commands.specs.Common.{IsRight, IsLight, IsPattern, IsSolo, IsTents, Light, Pattern, Solo, Tents, RuleSystem, IsLawful, Outcome}
-use Rattle.commands.specs.Common.{verdict_of, IsTrueOf, Solves, Mark, walk, is_solution-from, is_solution-is, line_rules-lawful, line_rules}
-use Rattle.commands.specs.Common.{IsPatternSolution, crossings_rules, houses_rules, rules_of, singles_rules, rule_from_test, test_from_rule}
-use Rattle.commands.specs.Common.{IsSoloSolution, light_rules, IsLightSolution, tent_rules, IsTentSolution}
-use Rattle.commands.specs.Answers.{Answer}
-use Rattle.commands.specs.Allowed.{IsSolved}
-use Rattle.commands.specs.PuzzleFacts.{PuzzleFacts, printed_by}
-use Rattle.commands.specs.Replies.{verdict_answer}
-use Rattle.commands.specs.Grades.{HasOneSolution}
-use Rattle.commands.specs.LawsOfCommands.{HasOneAnswer}
 
 -- what is true of the grids that the rules accept is right of the solutions, where these are the same
 pub right_of : {p : RuleSystem} (solves : List ℕ → Type 0) (o : Outcome) → ((g : List ℕ) → Solves p g ↔ solves g) → IsTrueOf p o → IsRight solves o
@@ -34,10 +19,7 @@ right_of solves (GaveUp (Some g)) same h = (same g).0 h
 pub solved_of : {P : Type 0} (play : PuzzleFacts P) {budget : ℕ} {p : P} {q : RuleSystem} {a : Answer} → q ≡ play.game.rules p
     → ((g : List ℕ) → Solves (play.game.rules p) g ↔ play.game.solves p g)
     → a ≡ verdict_answer (printed_by play p) (verdict_of q budget) → IsTrueOf q (verdict_of q budget) → IsSolved play budget p a
-solved_of play {p} same accepted told right = record {
-  right = right_of (play.game.solves p) _ accepted (rw same at right);
-  said = rw same at told;
-}
+solved_of play {p} same accepted told right = grind (arith, common_steps, right_of)
 
 -- the rules are lawful, and accept the solutions
 pub record SearchedPuzzle (rules : RuleSystem) (solves : List ℕ → Type 0) : Type 0 where
@@ -46,11 +28,11 @@ pub record SearchedPuzzle (rules : RuleSystem) (solves : List ℕ → Type 0) : 
 
 -- ---- the grids that the rules accept are the solutions, in each game
 pub pattern_accepted : (p : Pattern) (g : List ℕ) → Solves (line_rules p) g ↔ IsPatternSolution p g
-pattern_accepted p g = (λ s. is_solution-is p g s.grid s.good, λ s. record { grid = s.grid; good = is_solution-from p g s })
+pattern_accepted p g = grind (arith, common_steps, is_solution-is, is_solution-from)
 
 -- by each rule set
 pub solo_accepted : {p : Solo} → IsSolo p → (settled : Bool) (houses : List House) (g : List ℕ) → Solves (rules_of settled p houses) g ↔ IsSoloSolution p g
-solo_accepted {p} ok settled houses g = (λ s. rule_from_test p ok g s.grid s.good, λ s. record { grid = s.grid; good = test_from_rule p ok g s })
+solo_accepted {p} ok settled houses g = grind (arith, common_steps, rule_from_test, test_from_rule)
 
 pub light_accepted : (p : Light) (g : List ℕ) → Solves (light_rules p) g ↔ IsLightSolution p g
 light_accepted p g = (λ s. light.rule-from-test p g s.grid s.good, λ s. record { grid = s.grid; good = light.test-from-rule p g s.grid s })
@@ -88,7 +70,7 @@ never_out (Trial depth board ∷ marks) (suc budget) found sofar room e = never_
 
 module _ {rules : RuleSystem} {solves : List ℕ → Type 0} (searched : SearchedPuzzle rules solves) where
   pub verdict_right : (budget : ℕ) → IsRight solves (verdict_of rules budget)
-  verdict_right budget = right_of solves (verdict_of rules budget) searched.accepted (outcome-true rules searched.lawful budget)
+  verdict_right budget = right_of solves _ searched.accepted (outcome-true rules searched.lawful budget)
 
   -- so where one grid is the solution, it is what a search with enough trials tells
   pub found_with_enough : (one : HasOneSolution solves) {budget : ℕ}

@@ -1,8 +1,5 @@
 -- A shuffle brings any list into another order, and leaves a stream of words; and so many draws of black cells leave one.
-use Rattle.maker_core.proofs.Common.{ℕ, ◌-◌, ◌^◌, ◌<◌, nat_lt, arith, ◌∙◌, zero, suc, List, length, sym, cond_both}
-use Rattle.maker_core.proofs.Common.{lt-ltb, true≢false, Stream, HasWords, IsPermutation}
-use Rattle.maker_core.proofs.Common.{black_cells, shuffled_list}
-use Rattle.maker_core.proofs.Shuffles.{draw_is, swaps_are}
+use Rattle.commands.proofs.Common.{HasWords, IsPermutation, List, Stream, arith, black_cells, cond_both, draw_is, length, lt-ltb, nat_lt, shuffled_list, suc, swaps_are, sym, true≢false, zero, ℕ, ◌-◌, ◌<◌, ◌^◌, ◌∙◌}
 
 -- ---- a list in a shuffled order
 pub record IsShuffled (items : List ℕ) (p : List ℕ × Stream) : Type 0 where
@@ -11,10 +8,10 @@ pub record IsShuffled (items : List ℕ) (p : List ℕ × Stream) : Type 0 where
 
 pub shuffled_is : {items : List ℕ} (s : Stream) → length items < 2 ^ 32 - 1 → HasWords s → IsShuffled items (shuffled_list items s)
 shuffled_is {items} s few words =
-    let swapped = swaps_are items s words few (length items - 0) (omega arith) in
+    let swapped = swaps_are items s words few _ (omega arith) in
     cond_both (nat_lt (length items) (2 ^ 32 - 1)) _ _ (IsShuffled items)
     (λ narrow. record { permutation = swapped.permutation; words = swapped.words })
-    (λ wide. absurd (true≢false (sym (lt-ltb (length items) (2 ^ 32 - 1) few) ∙ wide)))
+    (λ wide. absurd (true≢false (sym (lt-ltb _ _ few) ∙ wide)))
 
 -- ---- black cells
 pub black_words : (black cells : ℕ) {s : Stream} → HasWords s → HasWords (black_cells black cells s).1

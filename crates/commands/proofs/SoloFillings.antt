@@ -1,19 +1,12 @@
 -- Each filling of Solo over a stream of words is a grid that keeps to the rules; and the first that is there can be thinned.
-use Rattle.maker_core.proofs.Common.{◌≡◌, ◌∙◌, ℕ, zero, suc, ◌*◌, ◌^◌, ◌-◌, ◌<◌, Bool, true, false, List, [], Option, Some, None, refl, subst, add-one, arith}
-use Rattle.maker_core.proofs.Common.{mul-le, IfSome, IsTrueOf, Outcome, Solves, Stream, verdict_of, outcome-true, Solo, IsSolo, IsSoloSolution}
-use Rattle.maker_core.proofs.Common.{houses_lawful, houses_rules, HasWords, IsFirstPassing, IsLineOrder, IsSoloSize, AreReasons}
-use Rattle.maker_core.proofs.Common.{all_given, filling_at, first_grid, flipped_by_draw, lines_of_groups, shuffled_order, solo_filling, solo_game, solo_is_game, is_some}
-use Rattle.maker_core.proofs.Common.{stream_after, top_row_given, x_filling, true≢false}
-use Rattle.engine_core.specs.Verdict.{Outcome.NoSolution, Outcome.OneSolution, Outcome.SeveralSolutions, Outcome.GaveUp}
-use Rattle.maker_core.specs.SoloFilling.{line_order, plain_filling}
-use Rattle.maker_core.specs.SoloMaking.{IsSoloMade, solo_passes}
-use Rattle.maker_core.specs.declared.made.Kept.{Kept}
-use Rattle.maker_core.proofs.Shuffles.{IsShuffledOrder, draw_is, order_is}
+use Rattle.std.proofs.lemmas.Grind.{common_steps}
+use Rattle.commands.proofs.Common.{AreReasons, Bool, HasWords, IfSome, IsFirstPassing, IsLineOrder, IsSolo, IsSoloMade, IsSoloSize, IsSoloSolution, IsTrueOf, Kept, List, None, Option, Outcome, Outcome.GaveUp, Outcome.NoSolution, Outcome.OneSolution, Outcome.SeveralSolutions, Solo, Solves, Some, Stream, [], add-one, all_given, arith, draw_is, false, filling_at, first_grid, flipped_by_draw, houses_lawful, houses_rules, is_some, line_order, lines_of_groups, mul-le, order_is, outcome-true, plain_filling, refl, shuffled_order, solo_game, solo_is_game, solo_passes, stream_after, subst, suc, top_row_given, true, true≢false, verdict_of, x_filling, zero, ℕ, ◌*◌, ◌-◌, ◌<◌, ◌^◌, ◌∙◌, ◌≡◌}
+use Rattle.maker_core.specs.SoloMaking.{solo_filling}
 use Rattle.maker_core.proofs.SoloFull.{all_given-found, all_given-only, found_passes, only_by_rules, same_given, thinned-solo}
 use Rattle.maker_core.proofs.SoloOrderLemmas.{AreGrouped, AreGrouped-more, grouped-none, line_order_from_groups}
 use Rattle.maker_core.proofs.SoloSolution.{is_solution_of_all}
 use Rattle.maker_core.proofs.SoloXSearch.{flipped-found, top-solo}
-use Rattle.commands.proofs.ThinnedExists.{IsThinnedTo, thinned}
+use Rattle.commands.proofs.ThinnedExists.{thinned}
 
 -- ---- plain Solo
 record AreGroupsDrawn (size : ℕ) (groups : List ℕ) (k : ℕ) (q : List ℕ × Stream) : Type 0 where
@@ -25,9 +18,9 @@ groups_are : {size : ℕ} {groups : List ℕ} {s : Stream} → 0 < size → size
 unfolding lines_of_groups
 groups_are {size} {groups} some few words zero = record { grouped = grouped-none size groups [] refl; words = words }
 groups_are {size} {groups} {s} some few words (suc k) =
-    let q : List ℕ × Stream = lines_of_groups size groups k s in
-    let before : AreGroupsDrawn size groups k q = groups_are some few words k in
-    let inner : IsShuffledOrder size (shuffled_order size q.1) = order_is size q.1 few before.words in
+    let q = lines_of_groups size groups k s in
+    let before = groups_are some few words k in
+    let inner = order_is size q.1 few before.words in
     record {
       grouped = rw add-one at (AreGrouped-more size groups k q.0 (shuffled_order size q.1).0 some before.grouped inner.order);
       words = inner.words;
@@ -39,9 +32,9 @@ record IsLinesDrawn (count size : ℕ) (q : List ℕ × Stream) : Type 0 where
 
 lines_are : (count size : ℕ) (s : Stream) → 0 < size → size < 2 ^ 32 - 1 → count < 2 ^ 32 - 1 → HasWords s → IsLinesDrawn count size (line_order count size s)
 lines_are count size s some few few_groups words =
-    let outer : IsShuffledOrder count (shuffled_order count s) = order_is count s few_groups words in
+    let outer = order_is count s few_groups words in
     let groups : List ℕ = (shuffled_order count s).0 in
-    let all : AreGroupsDrawn size groups count (lines_of_groups size groups count (shuffled_order count s).1) =
+    let all =
     groups_are some few outer.words count in
     record { order = line_order_from_groups count size groups _ some outer.order all.grouped; words = all.words }
 
@@ -52,20 +45,17 @@ record IsFilled (c r : ℕ) (x : Bool) (q : Option (List ℕ) × Stream) : Type 
 
 module _ (c r : ℕ) (size : IsSoloSize c r) where
   few : (c < 2 ^ 32 - 1) × (r < 2 ^ 32 - 1) × (c * r < 2 ^ 32 - 1)
-  few =
-      let wide = mul-le 1 r c r (let low = size.c_low in omega arith) (omega arith) in
-      let tall = mul-le c 1 c r (omega arith) (let low = size.r_low in omega arith) in
-      let high = size.n_high in (omega arith, omega arith, omega arith)
+  few = grind (arith, common_steps, mul-le)
 
   plain_is : (s : Stream) → HasWords s → IsFilled c r false (let plain = plain_filling c r s in (Some plain.0, plain.1))
   plain_is s words =
       let c_low = size.c_low in
       let r_low = size.r_low in
-      let numbers : IsShuffledOrder (c * r) (shuffled_order (c * r) s) = order_is (c * r) s few.2 words in
+      let numbers = order_is (c * r) s few.2 words in
       let t : Stream = (shuffled_order (c * r) s).1 in
-      let rows : IsLinesDrawn r c (line_order r c t) = lines_are r c t (omega arith) few.0 few.1 numbers.words in
+      let rows = lines_are r c t (omega arith) few.0 few.1 numbers.words in
       let u : Stream = (line_order r c t).1 in
-      let columns : IsLinesDrawn c r (line_order c r u) = lines_are c r u (omega arith) few.1 few.0 rows.words in
+      let columns = lines_are c r u (omega arith) few.1 few.0 rows.words in
       record {
         solution = is_solution_of_all c r (shuffled_order (c * r) s).0 (line_order r c t).0 (line_order c r u).0 (record {
           c_some = omega arith;
@@ -92,15 +82,15 @@ module _ (c r : ℕ) (size : IsSoloSize c r) where
 
   x_is : (budget : ℕ) (s : Stream) → HasWords s → IsFilled c r true (x_filling c r budget s)
   x_is budget s words =
-      let numbers : IsShuffledOrder (c * r) (shuffled_order (c * r) s) = order_is (c * r) s few.2 words in
+      let numbers = order_is (c * r) s few.2 words in
       let row : List ℕ = (shuffled_order (c * r) s).0 in
       let t : Stream = (shuffled_order (c * r) s).1 in
-      let p : Solo = top_row_given c r row in
-      let said : Outcome = verdict_of (houses_rules p) budget in
-      let sound = outcome-true (houses_rules p) (houses_lawful p (top-solo c r row size numbers.order)) budget in
+      let p = top_row_given c r row in
+      let said = verdict_of (houses_rules p) budget in
+      let sound = outcome-true _ (houses_lawful p (top-solo c r row size numbers.order)) budget in
       record {
-        solution = flipped-found c r row size numbers.order (first_grid said) t (first_solves (houses_rules p) said sound);
-        words = flipped_words (first_grid said) t numbers.words;
+        solution = flipped-found c r row size numbers.order _ t (first_solves _ said sound);
+        words = flipped_words _ t numbers.words;
       }
 
   filling_is : (x : Bool) (budget : ℕ) {s : Stream} → HasWords s → IsFilled c r x (solo_filling c r x budget s)
@@ -138,8 +128,8 @@ module _ (c r : ℕ) (size : IsSoloSize c r) where
         let t = thinned solo_is_game budget (all_given c r x g) g
         (λ q w. houses_lawful q (thinned-solo c r x q g size solution w)) refl
         (all_given-only c r x g size solution) (all_given-found c r x g size solution budget) in
-        let p : Solo = t.0 in
-        let is : IsThinnedTo solo_game budget (all_given c r x g) g p t.1 = t.2 in
+        let p = t.0 in
+        let is = t.2 in
         let frame = is.within.frame in
         let ok = thinned-solo c r x p g size solution is.within in (
           p,
@@ -156,7 +146,7 @@ module _ (c r : ℕ) (size : IsSoloSize c r) where
             only = only_by_rules p g ok is.only;
             verdict = is.found;
             reasons =
-                subst (λ (all : Solo). AreReasons solo_game budget all p t.1)
+                subst (λ all. AreReasons solo_game budget all p t.1)
                 {x = all_given p.c p.r p.x g} (same_given p c r x g frame.c frame.r frame.x)
                 is.reasons;
           },

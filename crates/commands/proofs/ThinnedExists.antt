@@ -1,15 +1,10 @@
 -- A puzzle with all its clues can be thinned: a clue is taken away where the verdict without it is one, and else left for the reason
 -- that the verdict tells.
-use Rattle.maker_core.proofs.Common.{◌≡◌, ◌∙◌, ℕ, List, [], ◌∷◌, Option, Some, None, replicate, refl, sym, inl, inr, cases_eq}
-use Rattle.maker_core.proofs.Common.{IsPermutation-refl, outcome-true, IsLawful, IsTrueOf, Outcome, Solves, verdict_of, CluedGame, IsGame, IsThinnedFrom}
-use Rattle.maker_core.proofs.Common.{clue_places, AreReasons, IsOnly, TellsOne, IsAsked, IsLeft, IsThinning, reasons_from}
-use Rattle.std.proofs.lemmas.Option.{none-some}
-use Rattle.engine_core.specs.Verdict.{Outcome.NoSolution, Outcome.OneSolution, Outcome.SeveralSolutions, Outcome.GaveUp}
-use Rattle.maker_core.specs.declared.made.Kept.{Kept}
+use Rattle.commands.proofs.Common.{AreReasons, CluedGame, IsAsked, IsGame, IsLawful, IsLeft, IsOnly, IsPermutation-refl, IsThinnedFrom, IsThinning, IsTrueOf, Kept, List, None, Option, Outcome, Outcome.GaveUp, Outcome.NoSolution, Outcome.OneSolution, Outcome.SeveralSolutions, Solves, Some, TellsOne, [], cases_eq, clue_places, inl, inr, none-some, outcome-true, reasons_from, refl, replicate, sym, verdict_of, ℕ, ◌∙◌, ◌∷◌, ◌≡◌}
 use Rattle.maker_core.specs.declared.made.Why.{Why}
 use Rattle.maker_core.specs.declared.made.Why.TheVariants.{Budget, Needed}
 use Rattle.maker_core.proofs.ThinningReasons.{answer_left, reasons_left, thinning_start}
-use Rattle.maker_core.proofs.ThinningTurns.{contains_head, some_of, thinning_turn}
+use Rattle.maker_core.proofs.ThinningTurns.{contains_head, some_of, thinning_turn, turn}
 
 module _ {A : Type 0} (game : CluedGame A) (laws : IsGame game) (budget : ℕ) (all : A) (answer : List ℕ) where
   without_in : (p : A) (place n : ℕ) → IsThinnedFrom game p all → game.clue p place ≡ Some n → IsThinnedFrom game (game.without p place) all
@@ -47,15 +42,15 @@ module _ {A : Type 0} (game : CluedGame A) (laws : IsGame game) (budget : ℕ) (
     tried place rest p whys now =
         let n = some_of (game.clue p place) (now.waiting place (contains_head rest place)) in
         let thinner = without_in p place n.0 now.within n.1 in
-        by_verdict p (laws.solutions_stay (game.without p place) all answer thinner only.0) (verdict_of (game.rules (game.without p place)) budget) refl
+        by_verdict p (laws.solutions_stay (game.without p place) all answer thinner only.0) _ refl
         (outcome-true (game.rules (game.without p place)) (lawful (game.without p place) thinner) budget)
 
     thin : (rest : List ℕ) {p : A} {whys : List (Option Why)} → IsThinning game budget all p whys rest
         → (q : A) × (ends : List (Option Why)) × IsThinning game budget all q ends []
     thin [] {p} {whys} now = (p, whys, now)
     thin (place ∷ rest) {p} {whys} now =
-        let t : IsTried place p = tried place rest p whys now in
-        thin rest (thinning_turn game laws now t.new t.why t.left t.asked)
+        let t = tried place rest p whys now in
+        thin rest (thinning_turn laws now (turn laws now t.why t.left t.asked))
 
 -- some of the clues are left, each for a reason, and the answer is still the one solution
 pub record IsThinnedTo {A : Type 0} (game : CluedGame A) (budget : ℕ) (all : A) (answer : List ℕ) (p : A) (kept : List Kept) : Type 0 where

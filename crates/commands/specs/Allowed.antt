@@ -56,8 +56,8 @@ module _ {P : Type 0} (play : PuzzleFacts P) where
     pub said : answer ≡ exhausted_answer
 
   -- the answers to an ID of the game; for `check` on an input
-  abbrev pub AllowsSolve : ℕ → Text → Answer → Type 0
-  AllowsSolve budget id =
+  abbrev pub AllowsSolve : Text → ℕ → Answer → Type 0
+  AllowsSolve id budget =
       AllowsId (play.game.reading id) (play.game.spells id) (IsSolved budget)
 
   abbrev pub AllowsCheck : Text → Text → Answer → Type 0
@@ -84,9 +84,9 @@ wanted seed budget tries black =
 -- has its answer. Words that ask for nothing are refused.
 abbrev pub Allows : Option Asked → Text → Answer → Type 0
 Allows (Some (solve game (Some id) budget)) input answer =
-    AllowsSolve (game_of game) budget id answer
+    AllowsSolve (game_of game) id budget answer
 Allows (Some (solve game None budget)) input answer =
-    AllowsEach (AllowsSolve (game_of game) budget) (lines input) answer
+    AllowsEach (λ id. AllowsSolve (game_of game) id budget) (lines input) answer
 Allows (Some (check game id)) input answer = AllowsCheck (game_of game) id input answer
 Allows (Some (grade game id budget traced)) input answer =
     AllowsGrade (game_of game) id budget traced answer

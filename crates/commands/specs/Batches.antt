@@ -1,12 +1,10 @@
 -- What is kept of a line that is being read, and a batch, between two bytes of its input. No
 -- contract of a run uses these words.
 use Rattle.std.specs.Borrow.{Bor}
-use Rattle.std.specs.Prelude.{◌≡◌, ◌==◌, ◌<◌, ℕ, List, Option, MatchOption, [], ◌∷◌, length, take, drop, if◌then◌else◌, ◌++◌, false}
+use Rattle.std.specs.Prelude.{◌≡◌, ◌==◌, ◌<◌, ◌+◌, ℕ, List, Option, MatchOption, length, take, ◌++◌, false}
 use Rattle.std.specs.List.{All}
 use Rattle.std.specs.Str.Lines.{lines}
 use Rattle.gameid_core.specs.Head.{max_id}
-use Rattle.commands.specs.declared.batch.lines.Tail.{Tail}
-use Rattle.commands.specs.declared.batch.lines.Tail.TheVariants.{Nothing, Return, More}
 use Rattle.commands.specs.declared.batch.lines.InputLine.{InputLine}
 use Rattle.commands.specs.Answers.{Answer, Text, code_of}
 use Rattle.commands.specs.Each.{AllowsEach, Answered, Begun, HasAnswers, Stopped, both}
@@ -17,26 +15,13 @@ use Rattle.commands.specs.declared.answers.status.Status.{Status}
 use Rattle.commands.specs.declared.batch.Batch.{Batch}
 use Rattle.commands.specs.declared.solve.Task.{Task}
 
--- what the bytes after those that are kept come to
-abbrev pub tail_of : List ℕ → Tail
-tail_of [] = Nothing
-tail_of (x ∷ []) = if x == 13 then Return else More
-tail_of (x ∷ y ∷ rest) = More
+-- of these bytes, all that came since the last line, so many are kept
+abbrev pub HoldsUpTo : ℕ → InputLine → List ℕ → Type 0
+HoldsUpTo most line piece = line.kept.items ≡ take most piece
 
--- the same with one more byte
-abbrev pub next_tail : Tail → ℕ → Tail
-next_tail Nothing byte = if byte == 13 then Return else More
-next_tail _ byte = More
-
--- the state stands for these bytes, all that came since the last line, of which no more than so
--- many are kept
-pub record HoldsUpTo (most : ℕ) (line : InputLine) (piece : List ℕ) : Type 0 where
-  pub kept : line.kept.items ≡ take most piece
-  pub tail : line.tail ≡ tail_of (drop most piece)
-
--- no more than the bytes of an ID are kept
+-- two more than the bytes of an ID
 abbrev pub Holds : InputLine → List ℕ → Type 0
-Holds line piece = HoldsUpTo max_id line piece
+Holds line piece = HoldsUpTo (max_id + 2) line piece
 
 -- the line is there with these bytes, or they are too many for an ID
 abbrev pub IsLine : Option (Bor (List ℕ)) → List ℕ → Type 0
@@ -44,7 +29,7 @@ IsLine line bytes = MatchOption line (max_id < length bytes) (λ l. l.now ≡ by
 
 -- what is allowed to a line of the task
 abbrev pub AllowsTask : Task → Text → Answer → Type 0
-AllowsTask task = AllowsSolve (game_of task.game) task.budget
+AllowsTask task id = AllowsSolve (game_of task.game) id task.budget
 
 -- what is allowed to all lines of an input
 abbrev pub AllowsLines : Task → Text → Answer → Type 0

@@ -6,13 +6,13 @@ use Rattle.gameid_core.specs.LightText.{SpellsLight}
 use Rattle.gameid_core.specs.SoloText.{SpellsSolo}
 use Rattle.maker_core.specs.LightClues.{SameLight, light_game}
 use Rattle.maker_core.specs.LightMaking.{IsLightMade}
-use Rattle.maker_core.specs.SoloClues.{solo_game}
+use Rattle.maker_core.specs.SoloClues.{solo_game, SameSolo}
 use Rattle.maker_core.specs.declared.made.Why.TheVariants.{Needed}
 use Rattle.commands.specs.Common.{Stream, Extent, Game, IsPrinted, Light, Solo, IsSoloMade, Kept}
 use Rattle.commands.specs.Answers.{Answer, Text, Begins, code_of}
 use Rattle.commands.specs.Games.{game_of, puzzle_of}
 use Rattle.commands.specs.LightFacts.{light_facts}
-use Rattle.commands.specs.PuzzleFacts.{GameFacts, PuzzleFacts, printed_by}
+use Rattle.commands.specs.PuzzleFacts.{GameFacts, PuzzleFacts}
 use Rattle.commands.specs.SoloFacts.{solo_facts}
 use Rattle.commands.specs.Allowed.{Allows, AllowsCheck, AllowsSolve, AllowsGrade, is_read, AllowsMade, handed_out, wanted}
 use Rattle.commands.specs.Asked.{Asked, solve, check, grade, generate}
@@ -67,42 +67,43 @@ pub record ArePassed (checks : Text → Answer → Type 0) (solved : Answer) : T
 
 abbrev pub SolvedGridsPass : Type 0
 SolvedGridsPass = (game : Game) (id : Text) (budget : ℕ) (solved : Answer)
-    → AllowsSolve (game_of game) budget id solved
+    → AllowsSolve (game_of game) id budget solved
     → ArePassed (AllowsCheck (game_of game) id) solved
 
 -- where an input is correct, the ID is never told to have no solution, whatever the budget
-abbrev pub CorrectGridsAreSolutions : Type 0
-CorrectGridsAreSolutions = (game : Game) (id input : Text) (budget : ℕ) (given solved : Answer)
+abbrev pub CorrectMeansNeverNone : Type 0
+CorrectMeansNeverNone = (game : Game) (id input : Text) (budget : ℕ) (given solved : Answer)
     → AllowsCheck (game_of game) id input given → given.status ≡ code_of Fine
-    → AllowsSolve (game_of game) budget id solved → solved.status ≢ code_of Wrong
+    → AllowsSolve (game_of game) id budget solved → solved.status ≢ code_of Wrong
 
 -- where the ID is told to have one, the input is that grid's printed form, but for its line ends
 abbrev pub CorrectGridsAreTheOneTold : Type 0
 CorrectGridsAreTheOneTold = (game : Game) (id input grid : Text) (budget : ℕ)
     (given solved : Answer)
     → AllowsCheck (game_of game) id input given → given.status ≡ code_of Fine
-    → AllowsSolve (game_of game) budget id solved → solved ≡ one_answer grid
+    → AllowsSolve (game_of game) id budget solved → solved ≡ one_answer grid
     → IsPrinted (without_returns input) grid
 
--- Statuses with the same budget: they are the same, or the grade names what settled the puzzle
--- while the search gave up. So `none` and `several` of the one exclude all else of the other.
-abbrev pub GoesAlong : ℕ → ℕ → Type 0
-GoesAlong graded solved =
+-- The statuses of `grade` and of `solve` with the same budget:
+--   solve:   Fine   Wrong   Refused   Several   GaveUp
+--   grade:   Fine   Wrong   Refused   Several   GaveUp, or Fine (by `crossings`)
+abbrev pub StatusesAgree : ℕ → ℕ → Type 0
+StatusesAgree graded solved =
     (graded ≡ solved) ⊎ ((graded ≡ code_of Fine) × (solved ≡ code_of GaveUp))
 
 abbrev pub GradesGoWithVerdicts : Type 0
 GradesGoWithVerdicts = (game : Game) (id : Text) (budget : ℕ) (traced : Bool)
     (solved graded : Answer)
-    → AllowsSolve (game_of game) budget id solved
+    → AllowsSolve (game_of game) id budget solved
     → AllowsGrade (game_of game) id budget traced graded
-    → GoesAlong graded.status solved.status
+    → StatusesAgree graded.status solved.status
 
 -- with enough budget the one answer to the ID is that this grid is the solution
 pub record IsOneWithEnough (game : Game) (id : Text) : Type 0 where
   pub enough : ℕ
   pub grid : Text
   pub said : (budget : ℕ) → enough ≤ budget → (said : Answer)
-      → (AllowsSolve (game_of game) budget id said ↔ (said ≡ one_answer grid))
+      → (AllowsSolve (game_of game) id budget said ↔ (said ≡ one_answer grid))
 
 -- a grade that names a rule set or a search is that of such an ID
 abbrev pub GradedPuzzlesHaveOne : Type 0
@@ -119,24 +120,24 @@ is_within_search Lines = true
 is_within_search Local = true
 
 -- the first line of the answer names such a rule set
-abbrev pub NamesRules : Answer → Type 0
-NamesRules answer = (set : RuleSet) × (is_within_search set ≡ true)
+abbrev pub NamesSetNoStrongerThanSearch : Answer → Type 0
+NamesSetNoStrongerThanSearch answer = (set : RuleSet) × (is_within_search set ≡ true)
     × Begins (rule_set_text set ++ codes "\n") answer.text
 
 -- it does exactly where a search without a trial tells the one solution
 abbrev pub RuleSetsNeedNoTrial : Type 0
 RuleSetsNeedNoTrial = (game : Game) (id : Text) (budget : ℕ) (traced : Bool)
     (solved graded : Answer)
-    → AllowsSolve (game_of game) 0 id solved
+    → AllowsSolve (game_of game) id 0 solved
     → AllowsGrade (game_of game) id budget traced graded
-    → (NamesRules graded ↔ (solved.status ≡ code_of Fine))
+    → (NamesSetNoStrongerThanSearch graded ↔ (solved.status ≡ code_of Fine))
 
 -- so many trials are the least budget with which the one answer to the ID tells one solution
 pub record IsLeastBudget (game : Game) (id : Text) (trials : ℕ) : Type 0 where
-  pub enough : (said : Answer) → AllowsSolve (game_of game) trials id said
+  pub enough : (said : Answer) → AllowsSolve (game_of game) id trials said
       → said.status ≡ code_of Fine
   pub least : (budget : ℕ) → budget < trials → (said : Answer)
-      → AllowsSolve (game_of game) budget id said → said.status ≢ code_of Fine
+      → AllowsSolve (game_of game) id budget said → said.status ≢ code_of Fine
 
 -- the first line of the answer names a search of so many trials, or any rule set
 abbrev pub NamesSearch : ℕ → Answer → Type 0
@@ -166,7 +167,7 @@ pub record IsSolvedAsMade (game : Game) (budget : ℕ) (answer : Answer) : Type 
   pub said : answer ≡ made_answer id grid
   pub read : is_read game id ≡ true
   pub solved : (said : Answer)
-      → (AllowsSolve (game_of game) budget id said ↔ (said ≡ one_answer grid))
+      → (AllowsSolve (game_of game) id budget said ↔ (said ≡ one_answer grid))
   pub passes : Passes (AllowsCheck (game_of game) id) grid
 
 abbrev pub MadePuzzlesAreSolved : Type 0
@@ -185,14 +186,14 @@ SoloNeedsItsClues = (c r : ℕ) (x : Bool) (budget tries : ℕ) (s : Stream) (p 
     (kept : List Kept) (place : ℕ)
     → IsSoloMade c r x budget tries s p g kept → IsNeeded kept place
     → (id : Text) (any : ℕ) (said : Answer) → SpellsSolo id (solo_game.without p place)
-    → AllowsSolve (game_of game.Solo) any id said → said.status ≢ code_of Fine
+    → AllowsSolve (game_of game.Solo) id any said → said.status ≢ code_of Fine
 
 abbrev pub LightsNeedTheirClues : Type 0
 LightsNeedTheirClues = (size : Extent) (black budget tries : ℕ) (s : Stream) (p : Light)
     (g : List ℕ) (kept : List Kept) (place : ℕ)
     → IsLightMade size black budget tries s p g kept → IsNeeded kept place
     → (id : Text) (any : ℕ) (said : Answer) → SpellsLight id (light_game.without p place)
-    → AllowsSolve (game_of game.LightUp) any id said → said.status ≢ code_of Fine
+    → AllowsSolve (game_of game.LightUp) id any said → said.status ≢ code_of Fine
 
 -- one answer is allowed, and no other
 pub record HasOneAnswer (allows : Answer → Type 0) : Type 0 where
@@ -236,17 +237,12 @@ pub record DifferInClues {P : Type 0} (play : PuzzleFacts P) (alike : P → P �
   pub others : one.status ≢ code_of Fine → one ≡ other
   pub made : one.status ≡ code_of Fine → HandOutAlike play alike one other
 
--- each grid is printed the same for both
-abbrev pub PrintAlike : Solo → Solo → Type 0
-PrintAlike p q = (g : List ℕ)
-    → printed_by solo_facts p g ≡ printed_by solo_facts q g
-
--- two answers to one making of Solo have the same printed grid
-abbrev pub SoloDiffersInGivens : Type 0
-SoloDiffersInGivens = (size : Text) (seed budget tries black : ℕ) (one other : Answer)
+-- two answers to one making of Solo have the same size, with or without diagonals, and the same grid
+abbrev pub SoloDiffersAtMostInGivens : Type 0
+SoloDiffersAtMostInGivens = (size : Text) (seed budget tries black : ℕ) (one other : Answer)
     → AllowsMade (game_of game.Solo) (wanted seed budget tries black) size one
     → AllowsMade (game_of game.Solo) (wanted seed budget tries black) size other
-    → DifferInClues solo_facts PrintAlike one other
+    → DifferInClues solo_facts SameSolo one other
 
 -- two answers to one making of Light Up have the same size, black cells and bulbs
 abbrev pub LightsDifferInNumbers : Type 0

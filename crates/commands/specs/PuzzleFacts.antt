@@ -1,4 +1,4 @@
--- What the commands know of a game, and of its puzzles.
+-- The words in which the commands speak of a game and of its puzzles. The traits say what ties them.
 use Rattle.std.specs.Prelude.{ℕ, List, Result}
 use Rattle.commands.specs.Common.{Extent, RuleSystem, SizeRead, IdFault, grid_text}
 use Rattle.commands.specs.Answers.{Answer, Text}
@@ -16,7 +16,7 @@ pub record GameFacts (P : Type 0) : Type 1 where
   pub solves : P → List ℕ → Type 0
   pub rules : P → RuleSystem
   pub checks : P → List ℕ → Answer → Type 0
-  -- the rule sets that are tried in turn, and the names of what they visit, in their order
+  -- the rule sets that are tried in turn, and the name of the house with that number
   pub sets : P → List NamedRules
   pub visit_name : P → ℕ → Text
   -- the size that a text is, within the limits of what is made, or its first fault
@@ -25,8 +25,9 @@ pub record GameFacts (P : Type 0) : Type 1 where
   pub makes : SizeRead → Wanted → MadePuzzle P → Type 0
   pub makes_none : SizeRead → Wanted → Type 0
 
--- The puzzles of a game: the columns and rows of their grids, how many values a cell may have, what
--- is printed of a grid at a place, whether that shows nothing of the number, and their game.
+-- The puzzles of a game. It mirrors the ghost members of the traits `Printed`, `Readable` and
+-- `Played`, in their order: the columns and rows of the grids, how many values a cell may have, what
+-- is printed of a grid at a place, whether that shows nothing of the number, and the game.
 abbrev pub PuzzleFacts : Type 0 → Type 1
 PuzzleFacts P = record {
   extent : P → Extent;

@@ -1,6 +1,5 @@
 -- An input that is read whole. But for the limit, no contract of a run uses these words.
-use Rattle.std.specs.Prelude.{◌≡◌, ◌<◌, ◌≤◌, ℕ, Bool, true, false, Option, Some, None, length}
-use Rattle.std.specs.Prelude.{Vec}
+use Rattle.std.specs.Prelude.{◌≡◌, ◌<◌, ◌≤◌, ℕ, Bool, true, false, Option, Some, None, length, Vec}
 use Rattle.commands.specs.Answers.{Text}
 use Rattle.commands.specs.declared.ends.text.Kept.{Kept}
 

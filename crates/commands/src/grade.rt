@@ -158,10 +158,6 @@ impl Attempt {
     }
 
     /// Says a grade and, if a trace is asked for, how these rules close their start board.
-    ///
-    /// # Errors
-    ///
-    /// A beginning of the text was put then, or nothing.
     pub fn say<R: Searchable, P: Named, O: Sink>(
         self,
         grade: Grade,
@@ -186,10 +182,6 @@ impl Attempt {
     }
 
     /// Says the grade of a puzzle by these rules, the last in the list, and else by a search.
-    ///
-    /// # Errors
-    ///
-    /// A beginning of the text was put then, or nothing.
     pub fn say_by<P: Solvable + Named, R: Searchable, O: Sink>(
         self,
         puzzle: &P,
@@ -202,7 +194,7 @@ impl Attempt {
         requires named { (R.system rules.now).by_queue ≡ true
             → (R.system rules.now).houses ≤ P.named puzzle.now }
         requires accepted { (g : List ℕ)
-            → Solves (R.system rules.now) g ↔ P.game.solves puzzle.now g }
+            → (Solves (R.system rules.now) g ↔ P.game.solves puzzle.now g) }
         requires not_failed { O.has_failed output.old ≡ false }
         ensures answer { SaysIfAny O.takes
             (IsGraded P.Played (only_set self.set (R.system rules.now))
@@ -219,10 +211,6 @@ impl Attempt {
 /// A puzzle that can be graded.
 pub trait Graded: Solvable {
     /// Says the grade, and then a trace if one is asked for. Gives the status of the run.
-    ///
-    /// # Errors
-    ///
-    /// A beginning of the text was put then, or nothing.
     fn say_grade<O: Sink>(&self, alloc: Global, options: GradeOptions, output: &mut O) -> RunResult
         requires { O.has_failed output.old ≡ false }
         ensures answer { SaysIfAny O.takes (IsGraded Self.Played (Self.game.sets self.now)
@@ -254,10 +242,6 @@ fn grade_one<P: Graded + Drop, O: Sink>(
 /// board gives the solution, and else what a search with the budget says. Where a trace is asked
 /// for, the closing by the last rule set that was tried follows, in pieces, so that it is never
 /// held whole. It gives the status.
-///
-/// # Errors
-///
-/// When memory was refused, or the sink failed. A beginning of an allowed answer was put then.
 pub fn grade_id<O: Sink>(
     alloc: Global,
     game: Game,

@@ -4,16 +4,12 @@ ghost use Rattle.commands.specs.Common.{Game};
 ghost use Rattle.commands.specs.Allowed.{AllowsSolve};
 ghost use Rattle.commands.specs.Games.{game_of};
 ghost use Rattle.commands.specs.Each.{HasAnswers};
-ghost use Rattle.commands.specs.LawsOfCommands.{EachRequestHasAnAnswer, FixedRequestsHaveOneAnswer, SoloDiffersInGivens, LightsDifferInNumbers};
-ghost use Rattle.commands.specs.LawsOfCommands.{CorrectGridsAreSolutions, CorrectGridsAreTheOneTold, SolvedGridsPass};
-ghost use Rattle.commands.specs.LawsOfCommands.{GradedPuzzlesHaveOne, GradesGoWithVerdicts, RuleSetsNeedNoTrial, SearchesNameLeastBudgets};
-ghost use Rattle.commands.specs.LawsOfCommands.{LightsNeedTheirClues, MadePuzzlesAreSolved, SoloNeedsItsClues};
-ghost use Rattle.commands.specs.LawsOfCommands.{RewritingKeepsAnswers};
+ghost use Rattle.commands.specs.LawsOfCommands.{EachRequestHasAnAnswer, FixedRequestsHaveOneAnswer, SoloDiffersAtMostInGivens, LightsDifferInNumbers, CorrectMeansNeverNone, CorrectGridsAreTheOneTold, SolvedGridsPass, GradedPuzzlesHaveOne, GradesGoWithVerdicts, RuleSetsNeedNoTrial, SearchesNameLeastBudgets, LightsNeedTheirClues, MadePuzzlesAreSolved, SoloNeedsItsClues, RewritingKeepsAnswers};
 
 /// Each text has an answer of `solve`, for each game and budget: it spells a puzzle or has a fault,
 /// and the verdict of a puzzle's walk is right of its solutions.
 pub fn each_text_has_an_answer()
-    ensures { (game : Game) (budget : ℕ) → HasAnswers (AllowsSolve (game_of game) budget) }
+    ensures { (game : Game) (budget : ℕ) → HasAnswers (λ id. AllowsSolve (game_of game) id budget) }
 {}
 
 /// Each request has an answer that is allowed, on each input. So a trace that is asked for can be
@@ -27,11 +23,11 @@ pub fn each_request_has_an_answer()
 
 /// A `solve`, a `check`, a `grade` without a trace, a `generate` of Pattern or Tents and words that
 /// are refused have exactly one answer that is allowed, on each input. Two answers to one
-/// `generate` of Solo or Light Up differ only in which clues are left: in Solo the printed grid is
-/// the same, in Light Up the size, the black cells and the bulbs.
+/// `generate` of Solo or Light Up differ only in which clues are left. In Solo the size and the grid
+/// are the same, in Light Up the size, the black cells and the bulbs.
 pub fn one_answer()
     ensures fixed { FixedRequestsHaveOneAnswer }
-    ensures solo { SoloDiffersInGivens }
+    ensures solo { SoloDiffersAtMostInGivens }
     ensures lights { LightsDifferInNumbers }
 {
     maker_core::laws::fillings_of_tents_are_solutions();
@@ -43,7 +39,7 @@ pub fn one_answer()
 /// its printed form, but for its line ends.
 pub fn solved_grids_pass()
     ensures pass { SolvedGridsPass }
-    ensures some { CorrectGridsAreSolutions }
+    ensures some { CorrectMeansNeverNone }
     ensures same { CorrectGridsAreTheOneTold }
 {}
 

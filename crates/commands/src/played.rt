@@ -13,10 +13,6 @@ pub trait Played: Readable + Sized {
     ghost game: { GameFacts Self };
 
     /// The puzzle that an ID spells.
-    ///
-    /// # Errors
-    ///
-    /// The first fault of the ID, or that memory was refused.
     fn read_id(alloc: Global, id: &[u8]) -> Result<Self, IdFault>
         ensures found { IfOk result (λ p. game.spells id.now p) }
         ensures fault { IfErr result (λ f. Fails f (game.reading id.now)) }

@@ -1,7 +1,7 @@
 //! The answers of `solve`.
 ghost use Rattle.std.specs.Prelude.{◌≡◌, ◌*◌, IfOk};
 ghost use Rattle.commands.specs.Common.{FitsIn, needs_of, IsTrueOf, verdict_of};
-ghost use Rattle.commands.specs.Allowed.{AllowsSolve, IsSolved};
+ghost use Rattle.commands.specs.Allowed.{AllowsSolve};
 ghost use Rattle.commands.specs.Games.{game_of};
 ghost use Rattle.commands.specs.Replies.{answer_in, verdict_said};
 
@@ -68,24 +68,6 @@ fn verdict_reply<P: Printed, R: Searchable>(
     }
 }
 
-/// The answer to a puzzle that is to be solved. Its search works in the memory that is kept or in new memory, which is kept.
-fn solve_puzzle<P: Solvable + Drop>(
-    alloc: Global,
-    kept: &mut Option<Store<P::Search>>,
-    puzzle: &P,
-    budget: u64,
-    text: String,
-) -> Result<Reply, AllocError>
-where
-    P::Search: Searchable,
-    requires means { (rules : P.Search) → P.Search.system rules ≡ P.meaning rules }
-    ensures { IfOk result (λ r. IsSolved P.Played budget puzzle.now (answer_in r)) }
-{
-    let rules = puzzle.rules(alloc)?;
-    let store = store_for(alloc, kept, &rules)?;
-    verdict_reply(store, puzzle, &rules, budget, text)
-}
-
 /// The answer to an ID that is to be solved, as `solve_id` says.
 fn solve_one<P: Solvable + Drop>(
     alloc: Global,
@@ -97,10 +79,14 @@ fn solve_one<P: Solvable + Drop>(
 where
     P::Search: Searchable,
     requires means { (rules : P.Search) → P.Search.system rules ≡ P.meaning rules }
-    ensures { IfOk result (λ r. AllowsSolve P.Played budget id.now (answer_in r)) }
+    ensures { IfOk result (λ r. AllowsSolve P.Played id.now budget (answer_in r)) }
 {
     match P::read_id(alloc, id) {
-        Ok(puzzle) => solve_puzzle(alloc, kept, &puzzle, budget, text),
+        Ok(puzzle) => {
+            let rules = puzzle.rules(alloc)?;
+            let store = store_for(alloc, kept, &rules)?;
+            verdict_reply(store, &puzzle, &rules, budget, text)
+        }
         Err(IdFault::Memory) => Err(AllocError),
         Err(fault) => id_refused(text, fault),
     }
@@ -125,7 +111,7 @@ impl Stores {
         text: String,
     ) -> Result<Reply, AllocError>
         ensures { IfOk result
-            (λ r. AllowsSolve (game_of task.game) task.budget id.now (answer_in r)) }
+            (λ r. AllowsSolve (game_of task.game) id.now task.budget (answer_in r)) }
     {
         let budget = task.budget;
         by_game!(task.game, solve_one::<_>(alloc, &mut self._, id, budget, text))

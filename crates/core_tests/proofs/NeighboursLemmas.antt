@@ -1,11 +1,5 @@
 -- Steps of the tests' rule set of neighbours.
-use Rattle.core_tests.proofs.Common.{AreCalled, Bool, Candidates, Fills, IsBitsOf, IsDecided, List, RuleSystem, Set, [], all_below-from, and_from}
-use Rattle.core_tests.proofs.Common.{any_below, any_below-none, any_below-some, arith, cases_Bool, cases_lt, common_steps, differ, eq-eqb, eqb}
-use Rattle.core_tests.proofs.Common.{eqb-false, eqb-true, false, false_from_ne_true, get_or-map-range_with_len, has_bit, has_place, has_value}
-use Rattle.core_tests.proofs.Common.{has_value_below, inl, inr, is_row, length, length-map-range_with_len, lt-ltb, ltb, ltb-true, map, ne_eqb, not}
-use Rattle.core_tests.proofs.Common.{not-true, not_from_false, pair-cases, pair-first, pair-second, range_with_len, refl, set_of_bits}
-use Rattle.core_tests.proofs.Common.{shown_from_test, slice_index, strikes_by_fillings, sym, test_from_shown, true, ℕ, ◌&&◌, ◌+◌, ◌-◌, ◌<◌, ◌||◌, ◌∙◌}
-use Rattle.core_tests.proofs.Common.{◌∷◌, ◌≡◌, ◌≢◌}
+use Rattle.core_tests.proofs.Common.{AreWoken, Bool, Candidates, Fills, IsBitsOf, IsDecided, List, RuleSystem, Set, [], all_below-from, and_from, any_below, any_below-none, any_below-some, arith, cases_Bool, cases_lt, common_steps, differ, eq-eqb, eqb, eqb-false, eqb-true, false, false_from_ne_true, get_or-map-range_with_len, has_bit, has_place, has_value, has_value_below, inl, inr, is_row, length, length-map-range_with_len, lt-ltb, ltb, ltb-true, map, ne_eqb, not, not-true, not_from_false, pair-cases, pair-first, pair-second, range_with_len, refl, set_of_bits, shown_from_test, slice_index, strikes_by_fillings, sym, test_from_shown, true, ℕ, ◌&&◌, ◌+◌, ◌-◌, ◌<◌, ◌||◌, ◌∙◌, ◌∷◌, ◌≡◌, ◌≢◌}
 
 pub pair-out : (h c : ℕ) → h ≢ c → h + 1 ≢ c → has_place (h ∷ (h + 1) ∷ []) c ≡ false
 pair-out h c a b = false_from_ne_true (has_place (h ∷ (h + 1) ∷ []) c) (λ on. elim (pair-cases h c on) [ inl e ↦ a e | inr e ↦ b e ])
@@ -90,7 +84,7 @@ its_houses : (cells place j : ℕ) → j < cells - 1
 its_houses cells place j lt =
     grind (arith, common_steps, cases_Bool, cases_lt, eq-eqb, eqb-true, ltb-true, lt-ltb, ne_eqb, pair-cases, pair-first, pair-second, pair-out)
 
-pub called-beside : {p : RuleSystem} {K : Candidates} (cells place : ℕ) {before : ℕ → Bool} (now : ℕ → Bool) {after : ℕ → Bool} → p.houses ≡ cells - 1
+pub woken-beside : {p : RuleSystem} {K : Candidates} (cells place : ℕ) {before : ℕ → Bool} (now : ℕ → Bool) {after : ℕ → Bool} → p.houses ≡ cells - 1
     → ((j : ℕ) → now j ≡ (before j || (ltb 0 place && eqb j (place - 1)))) → ((j : ℕ) → after j ≡ (now j || (ltb (place + 1) cells && eqb j place)))
-    → AreCalled p K (λ j. has_place (j ∷ (j + 1) ∷ []) place) before after
-called-beside cells place now few one two = grind (arith, common_steps, its_houses cells place)
+    → AreWoken p K (λ j. has_place (j ∷ (j + 1) ∷ []) place) before after
+woken-beside cells place now few one two = grind (arith, common_steps, its_houses cells place)

@@ -1,7 +1,5 @@
 -- Boards that differ in one cell alone.
-use Rattle.engine_core.proofs.Common.{Bool, Candidates, IsBitsOf, IsBoardOf, IsChange, IsInside, Layout, RuleSystem, SameShape, arith, cases_eq}
-use Rattle.engine_core.proofs.Common.{common_steps, count_below, count_below-few, eq-eqb, eqb, eqb-true, fun_ext, has, has-within, has_bit, left_by}
-use Rattle.engine_core.proofs.Common.{ne_eqb, not, only, pow_below, true, ℕ, ◌&&◌, ◌<◌, ◌^◌, ◌≡◌, ◌≤◌}
+use Rattle.engine_core.proofs.Common.{Bool, Candidates, IsBitsOf, IsBoardOf, IsChange, IsInside, Layout, RuleSystem, SameShape, arith, cases_eq, common_steps, count_below, count_below-few, eq-eqb, eqb, eqb-true, fun_ext, has, has-within, has_bit, left_by, ne_eqb, not, only, pow_below, true, ℕ, ◌&&◌, ◌<◌, ◌^◌, ◌≡◌, ◌≤◌}
 use Rattle.engine_core.proofs.BitLemmas.{bits-of_power}
 use Rattle.engine_core.proofs.QueueLemmas.{within_of}
 

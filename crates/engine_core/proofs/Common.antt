@@ -1,28 +1,30 @@
 -- Words and lemmas of std and of the crates below, and words of this crate, as its proofs use them.
 pub use Rattle.std.proofs.Common.{Bool, IfSome, List, None, Option, Some, [], add-one, ap, append_assoc, arith, bit_and, cond, count_ones, drop, eqb}
-pub use Rattle.std.proofs.Common.{false, get_or, if◌then◌else◌, inl, inr, is_some, length, length-append, length-set, ltb, max, not}
+pub use Rattle.std.proofs.Common.{false, get_or, if◌then◌else◌, inl, inr, is_some, length, length-append, length-set, length-take, ltb, max, not}
 pub use Rattle.std.proofs.Common.{option_to_list, refl, replicate, rules, set, slice_index, subst, suc, sym, take, true, w32, w64, zero, ℕ, ◌%◌, ◌&&◌}
 pub use Rattle.std.proofs.Common.{◌*◌, ◌++◌, ◌+◌, ◌-◌, ◌/◌, ◌<◌, ◌==◌, ◌^◌, ◌||◌, ◌↔◌, ◌∙◌, ◌∷◌, ◌≡◌, ◌≢◌, ◌≤◌, ◌⊎◌}
 pub use Rattle.std.proofs.Math.Nat.{div-div-eq-div-mul, div-le_self, mul-le-mul_right, mul-suc, pow-succ'}
 pub use Rattle.std.proofs.Math.Path.{fun_ext}
-pub use Rattle.std.proofs.Math.Seq.{take-suc-set}
+pub use Rattle.std.proofs.Math.Seq.{take-append_seam, take-suc-set}
 pub use Rattle.std.proofs.lemmas.Bool.{and_from, and_left, and_parts, and_right, cases_Bool, cases_eq, cases_lt, cond-false, cond-true, eq-eqb}
-pub use Rattle.std.proofs.lemmas.Bool.{eqb-true, false_from_ne_true, le-leb, le-ltb, leb-true, lt-leb, lt-ltb, ne_eqb, not-true}
-pub use Rattle.std.proofs.lemmas.Bool.{not_from_false, not_from_true, or_cases, or_left, or_right, true≢false}
+pub use Rattle.std.proofs.lemmas.Bool.{eqb-true, false_from_ne_true, le-leb, le-ltb, leb-true, lt-leb, lt-ltb, ne_eqb, not-true, not_from_false}
+pub use Rattle.std.proofs.lemmas.Bool.{not_from_true, or_cases, or_left, or_right, true≢false}
 pub use Rattle.std.proofs.lemmas.Cmp.{upto}
 pub use Rattle.std.proofs.lemmas.Grind.{common_steps, get_or-set_at}
-pub use Rattle.std.proofs.lemmas.List.{drop-append-le, get_or-replicate, get_or-set_other, get_or-set_same, get_or-take, get_or_read_under}
-pub use Rattle.std.proofs.lemmas.List.{length-take-le, length_push, map-id, places, take-append-le, take_all, take_at, take_more}
-pub use Rattle.std.proofs.lemmas.List.Edits.{get_or-between, length-between}
-pub use Rattle.std.proofs.lemmas.List.Elements.{All-from_get_or}
+pub use Rattle.std.proofs.lemmas.List.{append-nil, drop-append-le, get_or-append_right, get_or-replicate, get_or-set_other, get_or-set_same}
+pub use Rattle.std.proofs.lemmas.List.{get_or-take, get_or_append_left, get_or_read, get_or_read_under, length-drop, length-take-le, length_push}
+pub use Rattle.std.proofs.lemmas.List.{map-id, places, take-append-le, take_all, take_at, take_more}
+pub use Rattle.std.proofs.lemmas.List.Edits.{between_more, between_none, get_or-between, length-between}
+pub use Rattle.std.proofs.lemmas.List.Elements.{All-from_get_or, filter-append}
 pub use Rattle.std.proofs.lemmas.List.FromFn.{map-range_with_len_more}
-pub use Rattle.std.proofs.lemmas.List.Sums.{sum_by-cons}
+pub use Rattle.std.proofs.lemmas.List.Sums.{count_by-le-length, count_by_more_no, count_by_more_yes, length-filter, sum_by-append, sum_by-cons}
 pub use Rattle.std.proofs.lemmas.Nat.{and_le_l, one_shl, or_lt, pow-add, pow_below, pow_pos}
-pub use Rattle.std.proofs.lemmas.Nat.Bits.{bit_at-lt, bit_at-pow_other, bit_at-pow_same, bit_at-trailing_zeros, bit_at_ones, bit_at-zero, bit_at_above}
-pub use Rattle.std.proofs.lemmas.Nat.Bits.{bit_at_clear_other, bit_at_clear_same, bit_at_set_other, bit_at_set_same, same_from_bits_below}
+pub use Rattle.std.proofs.lemmas.Nat.Bits.{bit_at-lt, bit_at-pow_other, bit_at-pow_same, bit_at-trailing_zeros, bit_at-zero, bit_at_above}
+pub use Rattle.std.proofs.lemmas.Nat.Bits.{bit_at_clear_other, bit_at_clear_same, bit_at_ones, bit_at_set_other, bit_at_set_same}
+pub use Rattle.std.proofs.lemmas.Nat.Bits.{same_from_bits_below}
 pub use Rattle.std.proofs.lemmas.Slice.{between_to_end}
 pub use Rattle.std.specs.Int.{bit_at, trailing_zeros}
-pub use Rattle.std.specs.List.{AllByRecursion, between, range_with_len}
+pub use Rattle.std.specs.List.{AllByRecursion, between, concat, count_by, filter, range_with_len}
 pub use Rattle.std.specs.Prelude.{bit_or, nat_le, sum_by}
 pub use Rattle.grid_core.proofs.BoardLemmas.{bits_both, bits_either, count_ones-bits, has-within}
 pub use Rattle.grid_core.proofs.CandidateLemmas.{all_below-from, any_below-here, any_below-none, any_below-some, count_below-any, count_below-bound}
@@ -32,51 +34,55 @@ pub use Rattle.grid_core.proofs.CandidateLemmas.{least_below-passes, same_from_i
 pub use Rattle.grid_core.proofs.CandidateLemmas.{total-pos, within_inside}
 pub use Rattle.grid_core.proofs.GridLemmas.{grid_of-at, grid_of-full, grid_of-inside, is_full-count, length-grid_of, only-at, only-has, only-here}
 pub use Rattle.grid_core.proofs.GridLemmas.{only-inside, only-other, single-at, total-only}
-pub use Rattle.grid_core.proofs.PieceLemmas.{ends-close, ends-more, last-close, last-le, length-pieces, piece-at, piece-ends, pieces-close, pieces-more}
+pub use Rattle.grid_core.proofs.PieceLemmas.{ends-close, ends-more, last-close, last-le, length-pieces, piece-at, piece-ends, pieces-close}
+pub use Rattle.grid_core.proofs.PieceLemmas.{pieces-more}
 pub use Rattle.grid_core.specs.Board.{Layout, SameShape, cells_of}
 unfoldable pub use Rattle.grid_core.specs.Board.{has}
 pub use Rattle.grid_core.specs.Candidates.{Candidates, IsInside, IsWithin}
-unfoldable pub use Rattle.grid_core.specs.Candidates.{any_below, better, count_below, grid_of, is_dead, is_full, least_below, only, pick}
-unfoldable pub use Rattle.grid_core.specs.Candidates.{single, sum_below, total, with_set, without}
+unfoldable pub use Rattle.grid_core.specs.Candidates.{any_below, better, count_below, grid_of, is_dead, is_full, least_below, only, pick, single}
+unfoldable pub use Rattle.grid_core.specs.Candidates.{sum_below, total, with_set, without}
 pub use Rattle.grid_core.specs.Pieces.{AreEnds, last_end, pieces}
 unfoldable pub use Rattle.grid_core.specs.Regions.{step}
+pub use Rattle.engine_core.specs.Closer.{BoardAndMarks, SameRoom}
 pub use Rattle.engine_core.specs.Closing.{HasStruck}
 unfoldable pub use Rattle.engine_core.specs.Closing.{closure, replay, round, rounds, sweeps_of}
 pub use Rattle.engine_core.specs.ClosingList.{HasLost, IsAlive, IsCalledFor, IsCalledNext, IsClosing, IsClosingList, IsClosingSweeps, IsDead, Reaches}
 pub use Rattle.engine_core.specs.Counts.{IsClosedIn, IsTurns, boards_of}
 unfoldable pub use Rattle.engine_core.specs.Counts.{deepest_of}
 pub use Rattle.engine_core.specs.FillingLaws.{shown_from_test, test_from_shown}
-pub use Rattle.engine_core.specs.Frames.{AreGrids, AreReady, CountsClosing, IsFull, IsOpen, IsReady, IsSearched, IsTrial, IsWalked, Judges}
-pub use Rattle.engine_core.specs.Frames.{Says, found_marks, found_of, frame_at, level_at, marks_from, marks_of, pending_in, pending_of}
-pub use Rattle.engine_core.specs.Frames.{searched_at, walk_of}
+pub use Rattle.engine_core.specs.Frames.{AreGrids, AreReady, CountsClosing, IsFull, IsOpen, IsReady, IsSearched, IsTrial, IsWalked, Judges, Says}
+pub use Rattle.engine_core.specs.Frames.{found_marks, found_of, frame_at, level_at, marks_from, marks_of, pending_in, pending_of, searched_at}
+pub use Rattle.engine_core.specs.Frames.{walk_of}
 unfoldable pub use Rattle.engine_core.specs.Frames.{levels_of, singles}
-pub use Rattle.engine_core.specs.HouseSets.{AreDifferent}
-unfoldable pub use Rattle.engine_core.specs.HouseSets.{kept_in}
-pub use Rattle.engine_core.specs.HouseIndex.{AreHousesAt, AreScopes, IsFirstFrom, IsIndex, IsPut, IsRoom, number_at, scope_of, start_at}
-pub use Rattle.engine_core.specs.HouseSetsLaws.{sets-bits}
-pub use Rattle.engine_core.specs.HouseList.{FitsLists, FitsPlaces, IsGrown, IsListed, listed}
+pub use Rattle.engine_core.specs.HouseIndex.{AreAt, AreHousesAt, AreScopes, IsFirstFrom, IsIndex, IsPut, IsRoom, IsScope, Table, number_at, number_in}
+pub use Rattle.engine_core.specs.HouseIndex.{scope_of, start_at}
+pub use Rattle.engine_core.specs.HouseList.{FitsPlaces, IsGrown, IsListed, Listed, listed}
 pub use Rattle.engine_core.specs.HouseRulesLaws.{bound_enough, by_houses-lawful, counted_twice, from_first}
+pub use Rattle.engine_core.specs.HouseSets.{AreDifferent, Decision}
+unfoldable pub use Rattle.engine_core.specs.HouseSets.{kept_in, strikes_at}
+pub use Rattle.engine_core.specs.HouseSetsLaws.{bits-of_values, sets-bits, strikes_at-in_scope, strikes_at-place}
 pub use Rattle.engine_core.specs.Keeping.{AreSetsOf, IsKept}
-pub use Rattle.engine_core.specs.PlaceLaws.{has_place-at, has_place-here}
+pub use Rattle.engine_core.specs.PlaceLaws.{AreDistinct, distinct-from, has_place-at, has_place-here}
 pub use Rattle.engine_core.specs.Position.{IsCheckpoint, IsOnward, IsReturned, IsTaken, Standing}
-pub use Rattle.engine_core.specs.RuleSystem.{FitsIn, IsBoardOf, IsClosed, IsGridOf, IsIdle, IsInsideAt, IsLawful, IsNext, Needs, RuleSystem, needs_of}
-unfoldable pub use Rattle.engine_core.specs.RuleSystem.{after, has_place, longest, share}
 pub use Rattle.engine_core.specs.Queue.{IsClosedBut, IsRested, IsSweep, IsWoken, are_emptied, called_for, calls, empties}
 unfoldable pub use Rattle.engine_core.specs.Queue.{but, counts_of, visits_left, waits_from, woken}
+pub use Rattle.engine_core.specs.RuleSystem.{IsBoardOf, IsClosed, IsGridOf, IsIdle, IsInsideAt, IsLawful, IsNext, Needs, RuleSystem}
+unfoldable pub use Rattle.engine_core.specs.RuleSystem.{after, has_place, longest, share}
 pub use Rattle.engine_core.specs.Search.{Level}
 unfoldable pub use Rattle.engine_core.specs.Search.{branches_from, pending}
 pub use Rattle.engine_core.specs.Sets.{IsBitsOf, IsChange, has_bit}
 pub use Rattle.engine_core.specs.Stored.{is_settled}
-pub use Rattle.engine_core.specs.Trail.{AreLost, IsBack, IsFurther, IsTrail, Trail, back_at, change_at, given_back, is_since}
-pub use Rattle.engine_core.specs.Trail.{IsStruck, StillServes, Visits}
+pub use Rattle.engine_core.specs.Trail.{AreLost, IsBack, IsFurther, IsTrail, StillServes, Trail, back_at, change_at, given_back, is_since}
 unfoldable pub use Rattle.engine_core.specs.Trail.{left_by, put_back}
+pub use Rattle.engine_core.specs.TrailPosition.{AreMarks, GoesOn, IsAlong, Placed, board_in, mark_at, standing_by}
 unfoldable pub use Rattle.engine_core.specs.Trials.{trials_of}
-pub use Rattle.engine_core.specs.TrailPosition.{AreMarks, AreRested, GoesOn, IsAlong, IsPlaced, IsStep, IsUnderWay, Placed, board_in, mark_at, standing_by, standing_of}
-pub use Rattle.engine_core.specs.Closer.{BoardAndMarks, IsCloserOf, IsVisited, IsWholeSweep, SameRoom}
-pub use Rattle.engine_core.specs.Verdict.{IsTrueOf, Outcome, Outcome.NoSolution, Outcome.OneSolution, Outcome.GaveUp, Outcome.SeveralSolutions, Solves}
-pub use Rattle.engine_core.specs.Verdict.{says_counts}
+pub use Rattle.engine_core.specs.Verdict.{IsTrueOf, Outcome, Outcome.GaveUp, Outcome.NoSolution, Outcome.OneSolution, Outcome.SeveralSolutions}
+pub use Rattle.engine_core.specs.Verdict.{Solves, says_counts}
 unfoldable pub use Rattle.engine_core.specs.Verdict.{before_grid, before_second, grids_in, outcome, spent, trials_in, tried, within_budget}
-pub use Rattle.engine_core.specs.Waiting.{AreCalled}
+pub use Rattle.engine_core.specs.Waiting.{AreWoken}
 unfoldable pub use Rattle.engine_core.specs.Waiting.{is_waiting}
 pub use Rattle.engine_core.specs.Walk.{AreFoundOnce, IsFewest, IsFound, IsPick, Mark, Mark.Found, Mark.Trial}
 unfoldable pub use Rattle.engine_core.specs.Walk.{at_cell, branch_at, branches, walk, walk_closed, walk_to}
+pub use Rattle.engine_core.specs.declared.mode.Closing.TheVariants.{Dead, Open}
+pub use Rattle.engine_core.specs.declared.search.levels.Frame.{Frame}
+pub use Rattle.engine_core.specs.declared.search.levels.Levels.{Levels}

@@ -1,7 +1,6 @@
 -- What a closing came to, for a walk that goes on from it.
-use Rattle.engine_core.proofs.Common.{Candidates, CountsClosing, IsClosedIn, IsClosing, IsTaken, List, RuleSystem, arith, common_steps, false, length, true, ℕ, ◌+◌, ◌≡◌, ◌≤◌}
+use Rattle.engine_core.proofs.Common.{Candidates, CountsClosing, Dead, IsClosedIn, IsClosing, IsTaken, List, Open, RuleSystem, arith, common_steps, false, length, true, ℕ, ◌+◌, ◌≡◌, ◌≤◌}
 use Rattle.engine_core.specs.declared.mode.Closing.{Closing}
-use Rattle.engine_core.specs.declared.mode.Closing.TheVariants.{Dead, Open}
 
 -- where the closure is dead, any board may be left
 pub taken-dead : {p : RuleSystem} {K own E : Candidates} {trace : List ℕ} {sweeps : ℕ} → IsClosing p K own Dead trace sweeps → IsTaken p K E Dead

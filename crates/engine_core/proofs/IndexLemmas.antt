@@ -1,10 +1,5 @@
 -- Laws of the list of houses place by place.
-use Rattle.engine_core.proofs.Common.{AreDifferent, AreHousesAt, AreScopes, Bool, IsFirstFrom, IsIndex, IsNext, IsPut, IsRoom, List, None, Option}
-use Rattle.engine_core.proofs.Common.{Some, [], add-one, ap, arith, between, cases_Bool, cases_eq, cases_lt, common_steps, cond, count_below}
-use Rattle.engine_core.proofs.Common.{counted_twice, eq-eqb, eqb, false, from_first, get_or-between, get_or-set_at, get_or-set_other, get_or-take}
-use Rattle.engine_core.proofs.Common.{has_place, has_place-at, has_place-here, inl, inr, length, length-between, length-set, length-take-le, longest}
-use Rattle.engine_core.proofs.Common.{max, ne_eqb, number_at, places, refl, scope_of, set, slice_index, start_at, suc, sum_below, sum_by, sum_by-cons}
-use Rattle.engine_core.proofs.Common.{sym, take, take_more, true, true≢false, zero, ℕ, ◌++◌, ◌+◌, ◌-◌, ◌<◌, ◌||◌, ◌∙◌, ◌∷◌, ◌≡◌, ◌≤◌}
+use Rattle.engine_core.proofs.Common.{AreDifferent, AreHousesAt, AreScopes, Bool, IsFirstFrom, IsIndex, IsNext, IsPut, IsRoom, List, None, Option, Some, [], add-one, ap, arith, between, cases_Bool, cases_eq, cases_lt, common_steps, cond, count_below, counted_twice, eq-eqb, eqb, false, from_first, get_or-between, get_or-set_at, get_or-set_other, get_or-take, has_place, has_place-at, has_place-here, inl, inr, length, length-between, length-set, length-take-le, longest, max, ne_eqb, number_at, places, refl, scope_of, set, slice_index, start_at, suc, sum_below, sum_by, sum_by-cons, sym, take, take_more, true, true≢false, zero, ℕ, ◌++◌, ◌+◌, ◌-◌, ◌<◌, ◌||◌, ◌∙◌, ◌∷◌, ◌≡◌, ◌≤◌}
 
 -- ---- sums and counts as they go on
 pub sum_below-more : (f : ℕ → ℕ) (m n : ℕ) → m ≤ n → sum_below f m ≤ sum_below f n
@@ -31,7 +26,7 @@ counted p k n lt on = grind (arith, common_steps, count_below-more p (suc k) n)
 pub numbered : (p : ℕ → Bool) (n r : ℕ) → r < count_below p n → (k : ℕ) × (k < n) × (p k ≡ true) × (count_below p k ≡ r)
 unfolding count_below
 numbered p zero r lt = absurd (omega arith)
-numbered p (suc n) r lt = elim (cases_lt r (count_below p n)) [
+numbered p (suc n) r lt = elim (cases_lt r _) [
   | inl low ↦ let w = numbered p n r low in (w.0, grind (arith, w.1), w.2, w.3)
   | inr high ↦ (n, omega arith, grind (arith, common_steps), grind (arith, common_steps))
 ]
@@ -44,7 +39,7 @@ has_place-last (x ∷ xs) y c = grind (arith, common_steps, has_place-last xs y 
 
 module _ (places : List ℕ) {k : ℕ} (lt : k < length places) where
   taken-last : (c : ℕ) → has_place (take (k + 1) places) c ≡ (has_place (take k places) c || eqb (slice_index places k) c)
-  taken-last c = ap (λ xs. has_place xs c) (take_more places k 0 lt) ∙ has_place-last (take k places) (slice_index places k) c
+  taken-last c = grind (arith, common_steps, places, has_place-last)
 
   pub taken-here : (c : ℕ) → c ≡ slice_index places k → has_place (take (k + 1) places) c ≡ true
   taken-here c is = grind (arith, common_steps, taken-last c, eq-eqb)
@@ -60,7 +55,7 @@ module _ (places : List ℕ) {k : ℕ} (lt : k < length places) where
   taken-in c on = grind (arith, common_steps, taken-at c, has_place-here)
 
   pub not_taken : AreDifferent places → (c : ℕ) → c ≡ slice_index places k → has_place (take k places) c ≡ false
-  not_taken different c is = grind (arith, common_steps, taken-at c, different, cases_Bool (has_place (take k places) c))
+  not_taken different c is = grind (arith, common_steps, taken-at, places)
 
 -- ---- the houses of all places are no more than the places of all houses
 lengths_sum : (scopes : List (List ℕ)) → sum_below (λ h. length (scope_of scopes h)) (length scopes) ≡ sum_by length scopes
@@ -78,13 +73,13 @@ scopes-wider scopes le are h lt = record { within = λ k lk. omega (arith, (are 
 
 pub counts_same : (scopes : List (List ℕ)) (counts : List ℕ) → ((c : ℕ) → c < length counts → slice_index counts c ≡ number_at scopes (length scopes) c)
     → (n : ℕ) → n ≤ length counts → sum_below (slice_index counts) n ≡ start_at scopes n
-counts_same scopes counts each n le = sum_below-same (slice_index counts) (number_at scopes (length scopes)) n (λ k lt. each k (omega arith))
+counts_same scopes counts each n le = grind (arith, common_steps, sum_below-same, number_at)
 
 pub index-none : {scopes : List (List ℕ)} {slots : ℕ} {ends houses : List ℕ} → length ends ≡ slots
     → ((c : ℕ) → c < slots → slice_index ends c ≡ start_at scopes (suc c)) → length houses ≡ start_at scopes slots
     → IsIndex slots scopes (length scopes) ends houses
 unfolding sum_below
-index-none as_many each long = record { as_many = as_many; begins = each; long = long; there = λ place h lp from lh on. absurd (omega arith) }
+index-none as_many each long = grind (arith, common_steps)
 
 -- the numbers before `place` are summed up
 pub record IsSummed (old : List ℕ) (place : ℕ) (counts : List ℕ) (sum : ℕ) : Type 0 where
@@ -151,8 +146,8 @@ module _ (slots : ℕ) (scopes : List (List ℕ)) (are : AreScopes slots scopes)
       long = put.long ∙ index.long;
       there = λ c h lc le lh on. elim (cases_lt house h) [
         | inl later ↦ put.kept (start_at scopes c + number_at scopes h c) (λ d on_d e.
-            let same = slot-apart (number_at scopes (length scopes)) c d
-            (counted (holds c) h (length scopes) lh on) (counted (holds d) house (length scopes) lt on_d)
+            let same = slot-apart (number_at scopes _) c d
+            (counted (holds c) h _ lh on) (counted (holds d) house _ lt on_d)
             (omega (arith, index.begins d (within on_d), one_more d on_d)) in
             let at = ap (λ x. start_at scopes x + number_at scopes house x) same in
             absurd (omega (arith, count_below-more (holds c) (suc house) h later, one_more c (rw same on_d), one_more d on_d, index.begins d (within on_d))))
@@ -183,7 +178,7 @@ module _ (house : ℕ) (places : List ℕ) (k : ℕ) (lt : k < length places) (d
   put-start = was.off place (not_taken places lt different place refl)
 
   pub put-room : (0 < slice_index starts' place) × (slice_index starts' place - 1 < length houses')
-  put-room = (omega (arith, put-start, room.some place here), omega (arith, put-start, room.some place here, room.within place here, was.long))
+  put-room = grind (arith, common_steps, put-start, here)
 
   pub put-more : IsPut house (take (k + 1) places) starts houses
       (set starts' place (slice_index starts' place - 1))
@@ -200,7 +195,7 @@ module _ (house : ℕ) (places : List ℕ) (k : ℕ) (lt : k < length places) (d
       | inr other ↦ ap suc (get_or-set_other starts' place c _ 0 other) ∙ was.on c (sym (taken-other places lt other) ∙ on)
     ];
     put = λ c on. grind (arith, common_steps, cases_eq, get_or-set_at, get_or-set_other, here, in_starts, place, put-room, put-start, taken-in, taken-other);
-    kept = λ i free. get_or-set_other houses' (slice_index starts' place - 1) i house 0
+    kept = λ i free. get_or-set_other houses' _ i house 0
         (λ e. free place (taken-here places lt place refl) (omega (arith, put-room, put-start)))
         ∙ was.kept i (λ c on e. elim (cases_eq c place) [
           | inl is ↦ free c (taken-here places lt c is) e
@@ -226,7 +221,7 @@ module _ (slots : ℕ) (scopes : List (List ℕ)) (starts houses : List ℕ) (in
 
   pub ends_in : slice_index starts (c + 1) ≤ length houses
   unfolding sum_below
-  ends_in = omega (arith, ends_here, index.long, sum_below-more (number_at scopes (length scopes)) (suc c) slots (omega arith))
+  ends_in = grind (arith, common_steps, ends_here, sum_below-more, number_at)
 
   pub houses-at : AreHousesAt scopes c (between (slice_index starts c) (slice_index starts (c + 1)) houses)
   houses-at = record {
@@ -241,8 +236,8 @@ module _ (slots : ℕ) (scopes : List (List ℕ)) (starts houses : List ℕ) (in
 pub nth-at : (scopes : List (List ℕ)) (c k : ℕ) (houses : List ℕ) → AreHousesAt scopes c houses → k < length houses
     → (slice_index houses k < length scopes) × (has_place (scope_of scopes (slice_index houses k)) c ≡ true) × (number_at scopes (slice_index houses k) c ≡ k)
 nth-at scopes c k houses at lt =
-    let w = numbered (λ j. has_place (scope_of scopes j) c) (length scopes) k (let e = at.as_many in omega arith) in
-    let same : slice_index houses k ≡ w.0 = ap (slice_index houses) (sym w.3) ∙ at.each w.0 w.1 w.2 in
+    let w = numbered _ _ k (omega arith) in
+    let same = ap (slice_index houses) (sym w.3) ∙ at.each w.0 w.1 w.2 in
     rw same (w.1, w.2, w.3)
 
 pub next-at : {scopes : List (List ℕ)} (c from : ℕ) {houses : List ℕ} (answer : Option ℕ) → AreHousesAt scopes c houses → IsFirstFrom houses from answer

@@ -1,7 +1,5 @@
 -- What a visit leaves, by what is kept of the sets of its house's cells.
-use Rattle.engine_core.proofs.Common.{AreSetsOf, Candidates, IsBitsOf, IsKept, IsLawful, IsWithin, List, RuleSystem, after, and_from, and_le_l, and_left}
-use Rattle.engine_core.proofs.Common.{arith, bit_and, cases_eq, common_steps, false, false_from_ne_true, has_place-at, length, slice_index, true, ℕ}
-use Rattle.engine_core.proofs.Common.{◌<◌, ◌≡◌, ◌≢◌, ◌⊎◌, IsAlive, IsDead, cases_Bool, count_below-le, counts_of, eq-eqb, eqb-true, has_place, is_dead-each, is_dead-here, is_dead-not, ne_eqb}
+use Rattle.engine_core.proofs.Common.{AreSetsOf, Candidates, IsAlive, IsBitsOf, IsDead, IsKept, IsLawful, IsWithin, List, RuleSystem, after, and_from, and_le_l, and_left, arith, bit_and, cases_Bool, cases_eq, common_steps, count_below-le, counts_of, eq-eqb, eqb-true, false, false_from_ne_true, has_place, has_place-at, is_dead-each, is_dead-here, is_dead-not, length, ne_eqb, slice_index, true, ℕ, ◌<◌, ◌≡◌, ◌≢◌, ◌⊎◌}
 use Rattle.engine_core.proofs.QueueLemmas.{after-outside, scope-in}
 use Rattle.engine_core.proofs.SetLemmas.{bits-empty}
 use Rattle.engine_core.proofs.BitLemmas.{bits-both}
@@ -34,10 +32,7 @@ pub struck-some : {p : RuleSystem} (laws : IsLawful p) {h : ℕ} (K : Candidates
     → (left ≡ set) ⊎ (left ≢ 0) → 0 < counts_of p h (after p h K) k
 unfolding counts_of
 struck-some {p} laws K {k} {set} {left} lth lt alive was is some =
-    let before = bits-empty was in
-    let now = bits-empty is in
-    let had = is_dead-not p.cells p.values K _ alive (scope-in laws k lth lt) in
-    grind (arith, common_steps, eq-eqb, eqb-true, ne_eqb, cases_eq)
+    grind (arith, common_steps, eq-eqb, eqb-true, ne_eqb, cases_eq, bits-empty was, bits-empty is, is_dead-not p.cells p.values K _ alive (scope-in laws k lth lt))
 
 pub struck-alive : {p : RuleSystem} (laws : IsLawful p) {h : ℕ} (K : Candidates) → h < p.houses
     → IsAlive p K → ((k : ℕ) → k < length (p.scope h) → 0 < counts_of p h (after p h K) k)

@@ -13,7 +13,7 @@ use Rattle.engine_core.proofs.WalkLemmas.{walk-once, walk-unfold}
 use Rattle.engine_core.proofs.CountLemmas.{search-few, spent-tried}
 use Rattle.engine_core.proofs.EndLemmas.{turns-counted}
 use Rattle.engine_core.proofs.HouseLemmas.{kept-first, kept-inside, kept-more, striking-first, striking-more}
-use Rattle.engine_core.proofs.JudgeLemmas.{grid-fits, grid-long, pick-ends, pick-in, pick-more}
+use Rattle.engine_core.proofs.JudgeLemmas.{grid-fits, grid-long, pick-ends, pick-more}
 use Rattle.engine_core.proofs.StoreLemmas.{settled-dead}
 use Rattle.engine_core.proofs.SweepLemmas.{total-bound}
 use Rattle.engine_core.proofs.TrailLemmas.{put_back-none, trail-none}
@@ -80,10 +80,10 @@ pub ruleset visit_laws = (kept-first, kept-inside, kept-more, striking-first, st
 
 pub ruleset trail_laws = (trail-none, total-bound, put_back-none)
 
-pub ruleset judge_laws = (grid-fits, grid-long, pick-in, pick-more, pick-ends)
+pub ruleset judge_laws = (grid-fits, grid-long)
 
 pub ruleset walk_laws = (turns-counted)
 
-pub ruleset position_laws = (grid-fits, grid-long)
+pub ruleset position_laws = (grid-fits, grid-long, pick-more, pick-ends)
 
 pub ruleset store_laws = (outcome-true, spent-tried, spent-le, search-few, settled-dead)

@@ -1,10 +1,5 @@
 -- The levels of a search: what its frames and its marks say of the boards that are open.
-use Rattle.engine_core.proofs.Common.{Candidates, IsFewest, IsLawful, IsCheckpoint, IsNext, IsOnward, IsOpen, IsReady, IsReturned, IsTrial, Level}
-use Rattle.engine_core.proofs.Common.{List, Mark.Trial, None, RuleSystem, Some, Standing, add-one, ap, arith, cases_eq, common_steps, frame_at}
-use Rattle.engine_core.proofs.Common.{get_or-set_other, get_or-set_same, length, length-set, level_at, levels_of, only, only-inside, pending}
-use Rattle.engine_core.proofs.Common.{pending_in, refl, set, subst, suc, sym, walk, zero, ℕ, ◌++◌, ◌+◌, ◌-◌, ◌<◌, ◌∙◌, ◌∷◌, ◌≡◌, ◌≢◌}
-use Rattle.engine_core.specs.declared.search.levels.Frame.{Frame}
-use Rattle.engine_core.specs.declared.search.levels.Levels.{Levels}
+use Rattle.engine_core.proofs.Common.{Candidates, Frame, IsCheckpoint, IsFewest, IsLawful, IsNext, IsOnward, IsOpen, IsReady, IsReturned, IsTrial, Level, Levels, List, Mark.Trial, None, RuleSystem, Some, Standing, add-one, ap, arith, cases_eq, common_steps, frame_at, get_or-set_other, get_or-set_same, length, length-set, level_at, levels_of, only, only-inside, pending, pending_in, refl, set, subst, suc, sym, walk, zero, ℕ, ◌++◌, ◌+◌, ◌-◌, ◌<◌, ◌∙◌, ◌∷◌, ◌≡◌, ◌≢◌}
 use Rattle.engine_core.proofs.QueueLemmas.{closed-but_only}
 use Rattle.engine_core.proofs.SearchLemmas.{pending-pop, pending-trial}
 use Rattle.engine_core.proofs.RoomLemmas.{singles-only, open-cell, open-room}
@@ -40,7 +35,7 @@ levels-back s s' frames n back = levels-same s' s frames frames n (λ k lt. leve
 -- ---- values are struck
 pub levels-onward : {p : RuleSystem} (s s' : Standing) {frames : List Frame} (n : ℕ)
     → IsReady p s frames n → IsOnward s s' → levels_of s' frames n ≡ levels_of s frames n
-levels-onward s s' {frames} n ready onward = levels-back s s' frames n (λ k lt. onward.back k (let m = ready.marked in omega arith))
+levels-onward s s' {frames} n ready onward = levels-back s s' frames n (λ k lt. onward.back k (omega arith))
 
 pub ready-onward : {p : RuleSystem} {s s' : Standing} {frames : List Frame} {n : ℕ} → IsReady p s frames n → IsOnward s s' → IsReady p s' frames n
 ready-onward ready onward = grind (arith, common_steps)
@@ -90,13 +85,13 @@ module _ {p : RuleSystem} {s s1 : Standing} {frames : List Frame} {n : ℕ} (rea
   pub ready-back : IsReady p s1 frames n
   ready-back = record {
     room = ready.room;
-    marked = let m = back.marks in omega arith;
-    open_levels = λ k lt. subst (λ (l : Level). IsOpen p l k) (sym (level-with s1 k (frame_at frames k) (back.back k (omega arith)))) (ready.open_levels k lt);
+    marked = omega arith;
+    open_levels = λ k lt. subst (λ l. IsOpen p l k) (sym (level-with s1 k (frame_at frames k) (back.back k (omega arith)))) (ready.open_levels k lt);
   }
 
   -- the innermost level is open
   pub open-back : IsOpen p (record { board = s1.board; cell = top.cell; next = top.next }) (n - 1)
-  open-back = subst (λ (l : Level). IsOpen p l (n - 1)) (level-with s1 (n - 1) top here) (ready-back.open_levels (n - 1) (omega arith))
+  open-back = subst (λ l. IsOpen p l (n - 1)) (level-with s1 (n - 1) top here) (ready-back.open_levels (n - 1) (omega arith))
 
   -- what it still has to give
   pending-back : pending_in p s frames n ≡ pending p (record { board = s1.board; cell = top.cell; next = top.next } ∷ outside)
@@ -119,7 +114,7 @@ module _ {p : RuleSystem} {s s1 : Standing} {frames : List Frame} {n : ℕ} (rea
     room = omega (arith, open-room open-back, ready.room)
 
     retried : IsReady p s1 moved n
-    retried = let r = ready-back in let lt = room in grind (arith, common_steps)
+    retried = grind (arith, common_steps, ready-back, room)
 
     pub turn-ready : IsReady p s2 moved n
     turn-ready = ready-onward retried onward

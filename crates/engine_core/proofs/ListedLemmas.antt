@@ -1,16 +1,9 @@
 -- Rules whose houses are listed: what their table says, and what a visit leaves.
-use Rattle.std.proofs.Common.{length-take}
-use Rattle.engine_core.specs.HouseIndex.{IsScope, Table}
-use Rattle.engine_core.specs.HouseSets.{Decision, strikes_at}
-use Rattle.engine_core.specs.HouseSetsLaws.{bits-of_values, strikes_at-in_scope, strikes_at-place}
+use Rattle.engine_core.proofs.Common.{AreHousesAt, AreScopes, AreSetsOf, Bool, Candidates, Decision, IsBitsOf, IsBoardOf, IsKept, IsLawful, IsScope, IsWithin, Layout, List, RuleSystem, Table, after, ap, arith, bits-of_values, cases_Bool, cells_of, common_steps, count_below, false_from_ne_true, fun_ext, has, has_bit, has_place, has_place-at, has_place-here, inl, inr, kept_in, length, length-take, longest, not, refl, scope_of, slice_index, strikes_at, strikes_at-in_scope, strikes_at-place, sym, take, true, true≢false, ℕ, ◌&&◌, ◌<◌, ◌∙◌, ◌≡◌, ◌≤◌}
 use Rattle.engine_core.specs.ListedHouses.{AreScopesOf, table_of}
 use Rattle.engine_core.proofs.IndexLemmas.{nth-at}
 use Rattle.engine_core.proofs.QueueLemmas.{scope-in}
 use Rattle.engine_core.proofs.StoreLemmas.{scope_le-longest}
-use Rattle.engine_core.proofs.Common.{AreHousesAt, AreScopes, AreSetsOf, Bool, Candidates, IsBitsOf, IsBoardOf, IsKept, IsLawful, IsWithin, List, RuleSystem, after, ap}
-use Rattle.engine_core.proofs.Common.{Layout, arith, cells_of, cases_Bool, common_steps, count_below, false_from_ne_true, fun_ext, has, has_bit, has_place, has_place-at}
-use Rattle.engine_core.proofs.Common.{has_place-here, inl, inr, kept_in, length, longest, not, refl, scope_of, slice_index, sym, take, true}
-use Rattle.engine_core.proofs.Common.{true≢false, ℕ, ◌&&◌, ◌<◌, ◌≡◌, ◌≤◌, ◌∙◌}
 
 -- the lists are of different places of the board
 pub scopes-fit : {p : RuleSystem} {scopes : List (List ℕ)} → IsLawful p → AreScopesOf p scopes → AreScopes p.cells scopes
@@ -47,7 +40,7 @@ module _ {p : RuleSystem} {scopes : List (List ℕ)} {table : Table} (listed : t
       × (count_below test (slice_index at k) ≡ k)) (nth-at table.scopes place k at houses lt)
 
   pub housed-all : (place : ℕ) (at : List ℕ) → AreHousesAt table.scopes place at → count_below (λ h. has_place (p.scope h) place) p.houses ≡ length at
-  housed-all place at houses = table-says place (λ test n. count_below test n ≡ length at) (sym houses.as_many)
+  housed-all place at houses = grind (arith, common_steps, table-says)
 
   -- ---- the places of a house
   module _ {h : ℕ} (lt : h < p.houses) {places : List ℕ} (is : places ≡ scope_of table.scopes h) where
@@ -58,15 +51,12 @@ module _ {p : RuleSystem} {scopes : List (List ℕ)} {table : Table} (listed : t
     places-in laws board k lk = rw (places-are, board.same_cells) (scope-in laws k lt (rw places-are at lk))
 
     pub places-fit : {room : ℕ} → longest p.scope p.houses ≤ room → length places ≤ room
-    places-fit most = rw places-are (let le = scope_le-longest p.scope p.houses h lt in omega arith)
+    places-fit most = rw places-are (omega (arith, scope_le-longest p.scope p.houses h lt))
 
     -- what was read of a board, at the head of a longer list
     pub places-read : {b : Layout} (all sets : List ℕ) → IsBoardOf p b → length (p.scope h) ≤ length all → length sets ≡ length (take (length places) all)
         → ((k : ℕ) → k < length places → IsBitsOf (has b (slice_index places k)) b.values (slice_index sets k)) → AreSetsOf p h (has b) sets
-    places-read {b} all sets board room long bits = record {
-      as_many = let same = ap length places-are in omega (arith, length-take {A = ℕ});
-      bits = λ k lk. rw places-are at (bits-of_values b p.values places sets board.same_values bits k (rw places-are lk));
-    }
+    places-read {b} all sets board room long bits = grind (arith, common_steps, length-take, places-are, bits-of_values)
 
 -- the board that is left where the cells of a house keep what is kept of their sets
 pub kept-after : {p : RuleSystem} (laws : IsLawful p) {h : ℕ} {K : Candidates} {kept : List ℕ}
@@ -75,7 +65,7 @@ pub kept-after : {p : RuleSystem} (laws : IsLawful p) {h : ℕ} {K : Candidates}
 unfolding kept_in strikes_at after
 kept-after {p} laws {h} {K} {kept = kept} lth within is = fun_ext λ c. fun_ext λ v. elim (cases_Bool (K c v)) [
   | inr off ↦ rw off refl
-  | inl on ↦ ap (λ b. K c v && not b) (elim (cases_Bool (has_place (p.scope h) c)) [
+  | inl on ↦ ap (λ b. K c v && not b) (elim (cases_Bool _) [
     | inr out ↦ false_from_ne_true _ (λ struck. true≢false (sym (strikes_at-in_scope p.values (p.scope h) drops K c v struck) ∙ out))
         ∙ sym (false_from_ne_true (p.strikes h K c v) (λ struck. true≢false (sym (laws.strikes_in_scope h K c v lth struck) ∙ out)))
     | inl there ↦

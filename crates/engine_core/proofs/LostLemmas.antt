@@ -1,9 +1,6 @@
 -- The cells that lost a value at a visit, as the trail names them.
-use Rattle.engine_core.proofs.Common.{AreCalled, AreLost, Bool, Candidates, IsBitsOf, IsLawful, RuleSystem, Trail, after, and_from, and_parts, any_below, any_below-here, any_below-some, ap, arith}
-use Rattle.engine_core.proofs.Common.{cases_Bool, cases_lt, change_at, common_steps, count_below, count_below-same, counts_of, eq-eqb, false, fun_ext, has, has_place, inl, inr, is_since, le-leb, leb-true}
-use Rattle.engine_core.proofs.Common.{left_by, length, nat_le, ne_eqb, not, not_from_false, not_from_true, slice_index, sym, true, true≢false, ℕ, ◌&&◌, ◌+◌, ◌<◌, ◌==◌, ◌||◌}
-use Rattle.engine_core.proofs.Common.{◌∙◌, ◌≡◌, ◌≢◌, ◌≤◌}
-use Rattle.engine_core.proofs.CallLemmas.{called-more, called-same}
+use Rattle.engine_core.proofs.Common.{AreLost, AreWoken, Bool, Candidates, IsBitsOf, IsLawful, RuleSystem, Trail, after, and_from, and_parts, any_below, any_below-here, any_below-some, ap, arith, cases_Bool, cases_lt, change_at, common_steps, count_below, count_below-same, counts_of, eq-eqb, false, fun_ext, has, has_place, inl, inr, is_since, le-leb, leb-true, left_by, length, nat_le, ne_eqb, not, not_from_false, not_from_true, slice_index, sym, true, true≢false, ℕ, ◌&&◌, ◌+◌, ◌<◌, ◌==◌, ◌||◌, ◌∙◌, ◌≡◌, ◌≢◌, ◌≤◌}
+use Rattle.engine_core.proofs.CallLemmas.{woken-more, woken-same}
 use Rattle.engine_core.proofs.ChangeLemmas.{left-others}
 use Rattle.engine_core.proofs.ClosingLemmas.{after_inside}
 use Rattle.engine_core.proofs.QueueLemmas.{any_below-more}
@@ -27,7 +24,7 @@ lost-more {p} laws {h} {k} {A} {B} {C} left lth lt grows longer noted earlier bo
     same : (j : ℕ) → j < k → counts_of p h (has C.board) j ≡ counts_of p h (has B.board) j
     same j less = ap (λ L. counts_of p h L j) board
         ∙ counts-left p h j left (has B.board)
-        (λ e. let is = laws.scope_distinct h j k lth (omega arith) lt e in omega arith)
+        (λ e. omega (arith, laws.scope_distinct h j k lth (omega arith) lt e))
 
     only : (m : ℕ) → A.len ≤ m → m < C.len
         → (j : ℕ) × (j < k + 1) × (slice_index (p.scope h) j ≡ (change_at C.changes m).0) × (counts_of p h (has A.board) j ≢ counts_of p h (has C.board) j)
@@ -57,7 +54,7 @@ pub lost-same : {p : RuleSystem} (laws : IsLawful p) {h k : ℕ} {A B : Trail} �
     → AreLost p h (k + 1) A B
 unfolding counts_of
 lost-same {p} laws {h} {k} {A} {B} lth lt upto i =
-    let same : counts_of p h (has B.board) k ≡ counts_of p h (has A.board) k = ap (λ f. count_below f p.values) (upto-next laws lth lt upto) in
+    let same = ap (λ f. count_below f p.values) (upto-next laws lth lt upto) in
     record {
       only = λ m a b. let w = i.only m a b in (w.0, omega (arith, w.1), w.2, w.3);
       all = λ j less differ. elim (cases_lt j k) [
@@ -69,38 +66,33 @@ lost-same {p} laws {h} {k} {A} {B} lth lt upto i =
 -- ---- what is asked of the changes is asked of the cells that lost a value
 any-same : (p q : ℕ → Bool) (m n : ℕ) → ((k : ℕ) → k < m → p k ≡ true → any_below q n ≡ true)
     → ((k : ℕ) → k < n → q k ≡ true → any_below p m ≡ true) → any_below p m ≡ any_below q n
-any-same p q m n there back = grind (arith, common_steps, any_below-some p m, any_below-some q n, cases_Bool (any_below p m), cases_Bool (any_below q n))
+any-same p q m n there back = grind (arith, common_steps, any_below-some)
 
 pub lost-any : (p : RuleSystem) {h n : ℕ} {A B : Trail} (asks : ℕ → Bool) → AreLost p h n A B
     → any_below (λ m. nat_le A.len m && asks (change_at B.changes m).0) B.len
     ≡ any_below (λ k. not (counts_of p h (has A.board) k == counts_of p h (has B.board) k) && asks (slice_index (p.scope h) k)) n
 lost-any p {h} {n} {A} {B} asks lost = any-same _ _ B.len n
     (λ m lt on.
-    let both = and_parts (nat_le A.len m) (asks (change_at B.changes m).0) on in
+    let both = and_parts _ _ on in
     let w = lost.only m (leb-true A.len m both.0) lt in
     any_below-here _ n w.0 w.1 (and_from _ _ (not_from_false _ (ne_eqb _ _ w.3)) (ap asks w.2 ∙ both.1)))
     (λ k lt on.
-    let both = and_parts (not (counts_of p h (has A.board) k == counts_of p h (has B.board) k)) (asks (slice_index (p.scope h) k)) on in
+    let both = and_parts (not (counts_of p h (has A.board) k == counts_of p h (has B.board) k)) _ on in
     let w = lost.all k lt (λ e. absurd (true≢false (sym both.0 ∙ not_from_true _ (eq-eqb _ _ e)))) in
     any_below-here _ B.len w.0 w.2 (and_from _ _ (le-leb A.len w.0 w.1) (ap asks w.3 ∙ both.1)))
 
 -- ---- the changes one after another
 pub since-first : (asks : ℕ → Bool) (from : ℕ) → any_below (λ m. nat_le from m && asks m) from ≡ false
-since-first asks from = elim (cases_Bool (any_below (λ m. nat_le from m && asks m) from)) [
-  | inl some ↦ let w = any_below-some _ from some in absurd (let le = leb-true from w.0 (and_parts (nat_le from w.0) _ w.2).0 in omega arith)
-  | inr none ↦ none
-]
+since-first asks from = grind (arith, common_steps, any_below-some, leb-true, and_parts)
 
 pub since-more : (asks : ℕ → Bool) (from n : ℕ) → from ≤ n
     → any_below (λ m. nat_le from m && asks m)
     (n + 1) ≡ (any_below (λ m. nat_le from m && asks m) n || asks n)
-since-more asks from n le =
-    any_below-more (λ m. nat_le from m && asks m) n
-    ∙ ap (λ b. any_below (λ m. nat_le from m && asks m) n || (b && asks n)) (le-leb from n le)
+since-more asks from n le = grind (arith, common_steps, any_below-more, le-leb)
 
-pub since-called : (p : RuleSystem) (t : Trail) {K : Candidates} {from n : ℕ}
-    {before now after : ℕ → Bool} → from ≤ n → AreCalled p K (is_since p t from n) before now
-    → AreCalled p K (λ j. has_place (p.scope j) (change_at t.changes n).0) now after → AreCalled p K (is_since p t from (n + 1)) before after
-since-called p t {K} {from} {n} {before} {now} {after} le first next =
-    called-same p K _ _ before after (λ j lt. sym (since-more (λ m. has_place (p.scope j) (change_at t.changes m).0) from n le))
-    (called-more p K (is_since p t from n) (λ j. has_place (p.scope j) (change_at t.changes n).0) before now after first next)
+pub since-woken : (p : RuleSystem) (t : Trail) {K : Candidates} {from n : ℕ}
+    {before now after : ℕ → Bool} → from ≤ n → AreWoken p K (is_since p t from n) before now
+    → AreWoken p K (λ j. has_place (p.scope j) (change_at t.changes n).0) now after → AreWoken p K (is_since p t from (n + 1)) before after
+since-woken p t {K} {from} {n} {before} {now} {after} le first next =
+    woken-same p K _ _ before after (λ j lt. sym (since-more _ from n le))
+    (woken-more p K (is_since p t from n) _ before now after first next)

@@ -1,18 +1,9 @@
 -- Laws of lists of places that are the pieces of one list.
-use Rattle.std.specs.List.{concat, filter}
-use Rattle.std.proofs.lemmas.List.{append-nil, get_or_append_left, get_or_read, length-drop}
-use Rattle.std.proofs.lemmas.List.Edits.{between_more, between_none}
-use Rattle.std.proofs.lemmas.List.Elements.{filter-append}
-use Rattle.std.proofs.lemmas.List.Sums.{count_by-le-length, length-filter}
-use Rattle.engine_core.specs.HouseList.{Listed}
-use Rattle.engine_core.proofs.Common.{append_assoc, drop, eq-eqb, eqb, length-append, ne_eqb, not, take, ◌∙◌}
-use Rattle.engine_core.proofs.Common.{AreEnds, FitsPlaces, IsGrown, IsListed, List, [], ap, arith, between, between_to_end, common_steps}
-use Rattle.engine_core.proofs.Common.{drop-append-le, get_or, last_end, length, length-between, listed, pieces, refl, suc, sum_by, sum_by-cons, sym}
-use Rattle.engine_core.proofs.Common.{ends-more, last-close, last-le, length-pieces, piece-at, piece-ends, pieces-close, pieces-more, zero, ℕ, ◌++◌, ◌+◌, ◌-◌, ◌<◌, ◌^◌, ◌∷◌, ◌≡◌, ◌≤◌}
+use Rattle.engine_core.proofs.Common.{AreEnds, FitsPlaces, IsGrown, IsListed, List, Listed, [], ap, append-nil, append_assoc, arith, between, between_more, between_none, between_to_end, common_steps, concat, count_by-le-length, drop, drop-append-le, ends-more, eq-eqb, eqb, filter, filter-append, get_or, get_or_append_left, get_or_read, last-close, last-le, last_end, length, length-append, length-between, length-drop, length-filter, length-pieces, listed, ne_eqb, not, piece-at, piece-ends, pieces, pieces-close, pieces-more, refl, suc, sum_by, sum_by-cons, sym, take, zero, ℕ, ◌++◌, ◌+◌, ◌-◌, ◌<◌, ◌^◌, ◌∙◌, ◌∷◌, ◌≡◌, ◌≤◌}
 
 pub listed-more : (xs ends ys : List ℕ) → AreEnds (length xs) 0 ends
     → listed (xs ++ ys) ends ≡ record { closed = (listed xs ends).closed; begun = (listed xs ends).begun ++ ys }
-listed-more xs ends ys e = rw (pieces-more xs ys 0 ends e, drop-append-le (last_end 0 ends) xs ys ((last-le (length xs) 0 ends e).1)) refl
+listed-more xs ends ys e = grind (arith, common_steps, pieces-more, drop-append-le, last-le)
 
 pub listed-close : (xs ends : List ℕ)
     → listed xs (ends ++ length xs ∷ []) ≡ record {
@@ -23,7 +14,7 @@ pub listed-close : (xs ends : List ℕ)
 listed-close xs ends = grind (arith, common_steps, between_to_end, last-close, pieces-close)
 
 pub closed-in : (xs ends : List ℕ) {h : ℕ} → h < length (listed xs ends).closed → h < length ends
-closed-in xs ends lt = let e = length-pieces xs 0 ends in omega arith
+closed-in xs ends lt = omega (arith, length-pieces xs 0 ends)
 
 pub last-at : (from : ℕ) (ends : List ℕ) → (length ends ≡ 0 → ⊥) → get_or ends (length ends - 1) 0 ≡ last_end from ends
 last-at from [] some = absurd (some refl)
@@ -38,11 +29,11 @@ total-is xs from (end ∷ ends) (low, e) =
     omega (arith, total-is xs end ends e, sum_by-cons (length {A = ℕ}) (between from end xs) (pieces xs end ends), here)
 
 pub total-closed : (xs ends : List ℕ) (n : ℕ) → AreEnds (length xs) 0 ends → n ≡ last_end 0 ends → n ≡ sum_by length (listed xs ends).closed
-total-closed xs ends n e is = let t = total-is xs 0 ends e in omega arith
+total-closed xs ends n e is = omega (arith, total-is xs 0 ends e)
 
 -- all closed lists have fewer than 2^32 places together
 pub few-listed : (xs ends : List ℕ) → IsListed xs ends → sum_by length (listed xs ends).closed < 2 ^ 32
-few-listed xs ends l = omega (arith, total-is xs 0 ends l.are_ends, l.few_closed, l.few_lists)
+few-listed xs ends l = grind (arith, common_steps, total-is)
 
 -- a part is its first and its second part
 drop-none : (m : ℕ) → drop {A = ℕ} m [] ≡ []
@@ -85,7 +76,7 @@ others but xs = filter (λ d. not (eqb d but)) xs
 
 others-next : (but from k x : ℕ) (xs : List ℕ) → from ≤ k → k < length xs → x ≡ get_or xs k x
     → others but (between from (k + 1) xs) ≡ others but (between from k xs) ++ others but (x ∷ [])
-others-next but from k x xs low lt is = rw (between_more xs from k x low lt, ← is) (filter-append (λ d. not (eqb d but)) (between from k xs) (x ∷ []))
+others-next but from k x xs low lt is = rw (between_more xs from k x low lt, ← is) (filter-append _ (between from k xs) (x ∷ []))
 
 pub others-skip : (xs : List ℕ) {ys : List ℕ} {but from k x : ℕ} → from ≤ k → k < length xs
     → ys ≡ xs ++ filter (λ d. not (eqb d but)) (between from k xs) → x ≡ get_or ys k x → x ≡ but
@@ -104,28 +95,15 @@ others-push xs {but} {from} {k} {x} low lt e is other =
 
 -- ---- lists that are few and short
 pub added-grown : {xs ys : List ℕ} (more : List ℕ) {n : ℕ} → ys ≡ xs ++ more → length more ≤ n → IsGrown xs n ys
-added-grown {xs} {ys} more e few =
-    let long : length ys ≡ length xs + length more = ap length e ∙ length-append xs more in
-    record { kept = omega arith; few = omega arith }
+added-grown {xs} {ys} more e few = grind (arith, common_steps, length-append)
 
 pub others-grown : {xs ys : List ℕ} (but from k : ℕ) {end : ℕ} → k ≤ end → end ≤ length xs
     → ys ≡ xs ++ filter (λ d. not (eqb d but)) (between from k xs) → IsGrown xs (end - from) ys
-others-grown {xs} but from k le within e =
-    let all = between from k xs in
-    added-grown (filter (λ d. not (eqb d but)) all) e
-    (omega (arith, length-filter (λ d. not (eqb d but)) all, count_by-le-length (λ d. not (eqb d but)) all, length-between xs from k (omega arith)))
+others-grown {xs} but from k le within e = grind (arith, common_steps, between, added-grown, length-filter, count_by-le-length, length-between)
 
 pub grown-listed : {xs ys ends : List ℕ} {list : Listed} {n : ℕ} → IsListed xs ends
     → listed xs ends ≡ list → FitsPlaces list n → IsGrown xs n ys → IsListed ys ends
-grown-listed {xs} {ys} {ends} l is fits g = record {
-  are_ends = ends-more (length xs) (length ys) 0 ends g.kept l.are_ends;
-  few_lists = l.few_lists;
-  few_closed = l.few_closed;
-  few_begun =
-      let begun = ap (λ (v : Listed). length v.begun) is in
-      let last = (last-le (length xs) 0 ends l.are_ends).1 in
-      omega (arith, g.few, length-drop (last_end 0 ends) xs, fits);
-}
+grown-listed {xs} {ys} {ends} l is fits g = grind (arith, common_steps, ends-more, length-drop, last-le)
 
 -- the part of the places that a closed list is
 pub closed-is : (xs ends : List ℕ) {list : Listed} {h from end : ℕ} → AreEnds (length xs) 0 ends
@@ -133,9 +111,9 @@ pub closed-is : (xs ends : List ℕ) {list : Listed} {h from end : ℕ} → AreE
     → end ≡ get_or ends h end
     → (between from end xs ≡ get_or list.closed h []) × (end ≤ length xs)
 closed-is xs ends {h} {end} e is lt low high =
-    let lists = ap (λ (v : Listed). length v.closed) is in
-    let there : h < length ends = closed-in xs ends (omega arith) in
+    let lists = ap (λ v. length v.closed) is in
+    let there = closed-in xs ends (omega arith) in
     let to = get_or_read ends h end there high 0 in (
-      rw (low, to) (sym (piece-at xs 0 ends h there) ∙ ap (λ (v : Listed). get_or v.closed h []) is),
+      rw (low, to) (sym (piece-at xs 0 ends h there) ∙ ap (λ v. get_or v.closed h []) is),
       omega (arith, to, (piece-ends (length xs) 0 ends h e there).1),
     )

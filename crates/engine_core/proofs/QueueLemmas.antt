@@ -1,13 +1,4 @@
-use Rattle.engine_core.proofs.Common.{AreCalled, Bool, Candidates, IsBoardOf, IsClosed, IsClosedBut, IsInsideAt, IsLawful, IsRested, IsWithin}
-use Rattle.engine_core.proofs.Common.{IsWoken, Layout, List, Option, RuleSystem, SameShape, Some, [], add-one, after, and_from, and_left, and_parts}
-use Rattle.engine_core.proofs.Common.{any_below, any_below-here, any_below-none, any_below-some, ap, are_emptied, arith, but, called_for, cases_Bool}
-use Rattle.engine_core.proofs.Common.{cases_eq, cells_of, common_steps, count_below, count_below-any, count_below-bound, count_below-kept}
-use Rattle.engine_core.proofs.Common.{count_below-le, count_below-lt, count_below-none, count_below-pos, counts_of, empties, eq-eqb, eqb, eqb-true}
-use Rattle.engine_core.proofs.Common.{false, false_from_ne_true, has, has_place, has_place-at, has_place-here, inl, inr, is_dead}
-use Rattle.engine_core.proofs.Common.{is_dead-each, is_dead-here, is_dead-inside, is_dead-not, length, mul-le-mul_right, ne_eqb, not, not-true}
-use Rattle.engine_core.proofs.Common.{not_from_false, not_from_true, only, only-here, only-inside, only-other, or_cases, or_left, or_right, refl, set}
-use Rattle.engine_core.proofs.Common.{share, slice_index, sum_below-add, sum_below-le, sym, take, take-suc-set, true, true≢false, visits_left}
-use Rattle.engine_core.proofs.Common.{waits_from, woken, ℕ, ◌&&◌, ◌*◌, ◌++◌, ◌+◌, ◌-◌, ◌<◌, ◌||◌, ◌∙◌, ◌∷◌, ◌≡◌, ◌≤◌}
+use Rattle.engine_core.proofs.Common.{AreWoken, Bool, Candidates, IsBoardOf, IsClosed, IsClosedBut, IsInsideAt, IsLawful, IsRested, IsWithin, IsWoken, Layout, List, Option, RuleSystem, SameShape, Some, [], add-one, after, and_from, and_left, and_parts, any_below, any_below-here, any_below-none, any_below-some, ap, are_emptied, arith, but, called_for, cases_Bool, cases_eq, cells_of, common_steps, count_below, count_below-any, count_below-bound, count_below-kept, count_below-le, count_below-lt, count_below-none, count_below-pos, counts_of, empties, eq-eqb, eqb, eqb-true, false, false_from_ne_true, has, has_place, has_place-at, has_place-here, inl, inr, is_dead, is_dead-each, is_dead-here, is_dead-inside, is_dead-not, length, mul-le-mul_right, ne_eqb, not, not-true, not_from_false, not_from_true, only, only-here, only-inside, only-other, or_cases, or_left, or_right, refl, set, share, slice_index, sum_below-add, sum_below-le, sym, take, take-suc-set, true, true≢false, visits_left, waits_from, woken, ℕ, ◌&&◌, ◌*◌, ◌++◌, ◌+◌, ◌-◌, ◌<◌, ◌||◌, ◌∙◌, ◌∷◌, ◌≡◌, ◌≤◌}
 use Rattle.engine_core.proofs.ClosingLemmas.{after_inside}
 pub use Rattle.engine_core.specs.PositionLaws.{within_of}
 
@@ -34,7 +25,7 @@ still_rested p laws h j K lth ltj within quiet = λ c v member on.
 -- the waiting houses after a visit
 not_struck : (p : RuleSystem) (h : ℕ) (K : Candidates) (c v : ℕ) → after p h K c v ≡ true → p.strikes h K c v ≡ false
 unfolding after
-not_struck p h K c v on = not-true (p.strikes h K c v) (and_parts (K c v) (not (p.strikes h K c v)) on).1
+not_struck p h K c v on = not-true (p.strikes h K c v) (and_parts (K c v) _ on).1
 
 pub rested_after : (p : RuleSystem) (laws : IsLawful p) (h : ℕ) (K : Candidates) (waits : ℕ → Bool)
     → h < p.houses → IsWithin p.cells p.values K → IsRested p K waits
@@ -48,7 +39,7 @@ rested_after p laws h K waits lth within rested = λ j c v ltj asleep on.
 
 -- where the houses that a closing begins with were called for, each other one strikes nothing
 pub rested_from : {p : RuleSystem} {K : Candidates} (from : Option ℕ) {waits : ℕ → Bool}
-    → IsClosedBut p K from → AreCalled p K (waits_from p from) (λ j. false) waits
+    → IsClosedBut p K from → AreWoken p K (waits_from p from) (λ j. false) waits
     → IsRested p K waits
 unfolding waits_from
 rested_from from e h = grind (arith, common_steps)
@@ -60,15 +51,13 @@ pub closed-but_only : (p : RuleSystem) (laws : IsLawful p) (K : Candidates) (cel
 closed-but_only p laws K cell v lt ltv on closed alive = record {
   place_in = lt;
   closed = λ h c w lth out still.
-      let struck = laws.strikes_inside h K (only K cell v) lth (λ d u member has. grind (arith, common_steps, only-other K cell v d)) c w in
-      grind (arith, common_steps, only-inside K cell v c w still, closed h c w lth);
+      grind (arith, common_steps, only-inside K cell v c w still, closed h c w lth, laws.strikes_inside h K (only K cell v) lth (λ d u member has. grind (arith, common_steps, only-other K cell v d)) c w);
   alive = is_dead-each p.cells p.values (only K cell v) (λ c ltc.
-      let here = count_below-pos (only K cell v cell) p.values v ltv (only-here K cell v on) in
-      grind (arith, common_steps, cases_eq c cell, only-other K cell v c, is_dead-not p.cells p.values K c alive ltc));
+      grind (arith, common_steps, cases_eq c cell, only-other K cell v c, is_dead-not p.cells p.values K c alive ltc, count_below-pos (only K cell v cell) p.values v ltv (only-here K cell v on)));
 }
 
 pub dead_of : (p : RuleSystem) {b : Layout} → IsBoardOf p b → is_dead (cells_of b) b.values (has b) ≡ is_dead p.cells p.values (has b)
-dead_of p {b} of = ap (λ (n : ℕ). is_dead n b.values (has b)) of.same_cells ∙ ap (λ (v : ℕ). is_dead p.cells v (has b)) of.same_values
+dead_of p {b} of = grind (arith, common_steps, has)
 
 -- where no house waits, the board is closed
 pub closed_from_rested : (p : RuleSystem) (K : Candidates) (waits : ℕ → Bool) → ((h : ℕ) → h < p.houses → waits h ≡ false) → IsRested p K waits → IsClosed p K
@@ -76,7 +65,7 @@ closed_from_rested p K waits none rested = λ h c v lt on. rested h c v lt (none
 
 -- ---- a visit pays for the visits that it calls for
 grow : (x y s : ℕ) → 1 ≤ y → y < x → (y - 1) * s + s ≤ (x - 1) * s
-grow x y s pos lt = let h : (y - 1 + 1) * s ≤ (x - 1) * s = mul-le-mul_right s (omega arith) in omega arith
+grow x y s pos lt = grind (arith, common_steps, mul-le-mul_right)
 
 -- the cell fell, and the house has it and is sent for
 sent : RuleSystem → ℕ → Candidates → ℕ → ℕ → Bool
@@ -102,9 +91,9 @@ unsent : (p : RuleSystem) (h : ℕ) (K : Candidates) (c : ℕ)
     → count_below (sent p h K c) p.houses ≡ 0
 unfolding sent
 unsent p h K c same =
-    count_below-none (sent p h K c) p.houses
-    (λ j _. and_left _ (not (p.settled && eqb j h))
-    (and_left _ (has_place (p.scope h) c && has_place (p.scope j) c)
+    count_below-none _ p.houses
+    (λ j _. and_left _ _
+    (and_left _ _
     (not_from_true _ (eq-eqb _ _ same))))
 
 -- what a cell's houses cost is paid by the values that it lost
@@ -128,7 +117,7 @@ woken_or_sent p laws h K waits j lth on = elim (or_cases (but waits h j) _ on) [
 one_less : (waits : ℕ → Bool) (n h : ℕ) → h < n → waits h ≡ true → count_below (but waits h) n < count_below waits n
 unfolding but
 one_less waits n h lt waiting =
-    count_below-lt (λ j. waits j && not (eqb j h)) waits n h (λ j _ on. (and_parts (waits j) _ on).0) lt (grind (arith, common_steps, eq-eqb h h refl)) waiting
+    count_below-lt _ waits n h (λ j _ on. (and_parts (waits j) _ on).0) lt (grind (arith, common_steps, eq-eqb h h refl)) waiting
 
 pub visit_pays : (p : RuleSystem) (laws : IsLawful p) (h : ℕ) (K : Candidates) (waits : ℕ → Bool)
     → h < p.houses → waits h ≡ true → is_dead p.cells p.values (after p h K) ≡ false
@@ -178,11 +167,11 @@ visits_left-fewer : (p : RuleSystem) (K : Candidates) (waits waits' : ℕ → Bo
     → ((j : ℕ) → j < p.houses → waits j ≡ true → waits' j ≡ true)
     → visits_left p K waits ≤ visits_left p K waits'
 unfolding visits_left
-visits_left-fewer p K waits waits' fewer = let le = count_below-le waits waits' p.houses fewer in omega arith
+visits_left-fewer p K waits waits' fewer = omega (arith, count_below-le waits waits' p.houses fewer)
 
 pub visits_left-pos : (p : RuleSystem) (K : Candidates) (waits : ℕ → Bool) (h : ℕ) → h < p.houses → waits h ≡ true → 0 < visits_left p K waits
 unfolding visits_left
-visits_left-pos p K waits h lt on = let some = count_below-pos waits p.houses h lt on in omega arith
+visits_left-pos p K waits h lt on = omega (arith, count_below-pos waits p.houses h lt on)
 
 pub turn_enough : (p : RuleSystem) (laws : IsLawful p) (h : ℕ) (K K' : Candidates)
     {waits waits' : ℕ → Bool} (visits : ℕ) → h < p.houses → waits h ≡ true → K' ≡ after p h K
@@ -201,19 +190,19 @@ pub pushed : (t : List ℕ) {n : ℕ} (h : ℕ) → n < length t → take (n + 1
 pushed t {n} h lt = rw add-one (take-suc-set t n h lt)
 
 pub IsBoardOf-same : {p : RuleSystem} {b b' : Layout} → IsBoardOf p b → SameShape b b' → IsBoardOf p b'
-IsBoardOf-same of same = record { same_cells = same.same_cells ∙ of.same_cells; same_values = same.same_values ∙ of.same_values }
+IsBoardOf-same of same = grind (arith, common_steps)
 
 -- ---- a visit that empties a cell empties one of its own house
 emptied-alive : (p : RuleSystem) (laws : IsLawful p) (h : ℕ) (K K' : Candidates) → h < p.houses → is_dead p.cells p.values K ≡ false → K' ≡ after p h K
     → is_dead p.cells p.values K' ≡ any_below (empties p h (counts_of p h K) K') (length (p.scope h))
 unfolding counts_of
-emptied-alive p laws h K K' lt alive e = elim (cases_Bool (are_emptied p h K K')) [
+emptied-alive p laws h K K' lt alive e = elim (cases_Bool _) [
   | inl some ↦
-      let w = any_below-some (empties p h (counts_of p h K) K') (length (p.scope h)) some in
+      let w = any_below-some _ _ some in
       is_dead-here p.cells p.values K' _ (laws.scope_within h _ lt (has_place-here (p.scope h) w.0 w.1)) (eqb-true _ _ (and_parts _ _ w.2).1) ∙ sym some
   | inr none ↦ is_dead-each p.cells p.values K' (λ c less.
       let same = λ (out : has_place (p.scope h) c ≡ false). count_below-le (K c) (K' c) p.values (λ v _ on. rw e (after-outside laws K c v lt out on)) in
-      let still = any_below-none (empties p h (counts_of p h K) K') (length (p.scope h)) none in
+      let still = any_below-none _ _ none in
       grind (arith, common_steps, cases_Bool (has_place (p.scope h) c), has_place-at (p.scope h) c, is_dead-not p.cells p.values K c alive less)) ∙ sym none
 ]
 

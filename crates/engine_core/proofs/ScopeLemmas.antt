@@ -1,7 +1,5 @@
 -- The boards on the way from the board before a visit to the board after it, cell by cell of the house.
-use Rattle.engine_core.proofs.Common.{Bool, Candidates, IsBitsOf, IsLawful, IsWithin, RuleSystem, after, ap, arith, cases_Bool, cases_eq, common_steps}
-use Rattle.engine_core.proofs.Common.{eq-eqb, fun_ext, has_place, has_place-at, has_place-here, left_by, length, refl, slice_index, sym, ℕ, ◌+◌, ◌<◌}
-use Rattle.engine_core.proofs.Common.{◌∙◌, ◌≡◌, ◌≢◌}
+use Rattle.engine_core.proofs.Common.{Bool, Candidates, IsBitsOf, IsLawful, IsWithin, RuleSystem, after, ap, arith, cases_Bool, cases_eq, common_steps, eq-eqb, fun_ext, has_place, has_place-at, has_place-here, left_by, length, refl, slice_index, sym, ℕ, ◌+◌, ◌<◌, ◌∙◌, ◌≡◌, ◌≢◌}
 use Rattle.engine_core.proofs.QueueLemmas.{after-outside}
 use Rattle.engine_core.proofs.ChangeLemmas.{left-others}
 use Rattle.engine_core.proofs.ClosingLemmas.{after_inside}
@@ -14,7 +12,7 @@ pub record IsUpto (p : RuleSystem) (h k : ℕ) (K L : Candidates) : Type 0 where
 -- the next cell is as before
 pub upto-next : {p : RuleSystem} (laws : IsLawful p) {h k : ℕ} {K L : Candidates} → h < p.houses → k < length (p.scope h) → IsUpto p h k K L
     → L (slice_index (p.scope h) k) ≡ K (slice_index (p.scope h) k)
-upto-next laws {h} {k} lth lt i = fun_ext λ v. i.rest _ v (λ j less e. let same = laws.scope_distinct h j k lth (omega arith) lt e in omega arith)
+upto-next laws {h} {k} lth lt i = fun_ext λ v. i.rest _ v (λ j less e. omega (arith, laws.scope_distinct h j k lth (omega arith) lt e))
 
 -- it comes to be as after the visit, and the others stay
 upto-more : (p : RuleSystem) (laws : IsLawful p) (h k : ℕ) {K L M : Candidates} → h < p.houses → k < length (p.scope h) → IsUpto p h k K L
@@ -22,7 +20,7 @@ upto-more : (p : RuleSystem) (laws : IsLawful p) (h k : ℕ) {K L M : Candidates
     → ((c v : ℕ) → c ≢ slice_index (p.scope h) k → M c v ≡ L c v) → IsUpto p h (k + 1) K M
 upto-more p laws h k lth lt i here others = record {
   done = λ j v less.
-      grind (arith, common_steps, cases_eq j k, ap (λ (f : ℕ → Bool). f v) here, others (slice_index (p.scope h) j) v, laws.scope_distinct h j k lth, i.done j v);
+      grind (arith, common_steps, cases_eq j k, ap (λ f. f v) here, others (slice_index (p.scope h) j) v, laws.scope_distinct h j k lth, i.done j v);
   rest = λ c v none. others c v (λ e. none k (omega arith) (sym e)) ∙ i.rest c v (λ j less. none j (omega arith));
 }
 
@@ -60,5 +58,4 @@ upto-same {p} laws {h} {k} {bits} lth lt within i was is =
 -- once all cells of the house are done, the board is as after the visit
 pub upto-all : {p : RuleSystem} (laws : IsLawful p) {h : ℕ} {K L : Candidates} → h < p.houses → IsUpto p h (length (p.scope h)) K L → L ≡ after p h K
 upto-all {p} laws {h} {K} lth i = fun_ext λ c. fun_ext λ v.
-    let outside = after-outside laws K c v lth in
-    grind (arith, common_steps, cases_Bool (has_place (p.scope h) c), has_place-at (p.scope h) c, has_place-here (p.scope h), after_inside p h K c v)
+    grind (arith, common_steps, cases_Bool (has_place (p.scope h) c), has_place-at (p.scope h) c, has_place-here (p.scope h), after_inside p h K c v, after-outside laws K c v lth)

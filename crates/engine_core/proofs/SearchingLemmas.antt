@@ -1,11 +1,6 @@
 -- A search that is under way: which marks are left, and what was counted of those before.
-use Rattle.engine_core.proofs.Common.{Bool, Candidates, CountsClosing, IsSearched, IsTrial, IsTurns, IsWalked, List, Mark, Mark.Trial, None}
-use Rattle.engine_core.proofs.Common.{Outcome.GaveUp, RuleSystem, Says, Standing, [], ap, append_assoc, arith, boards_of, common_steps, deepest_of}
-use Rattle.engine_core.proofs.Common.{false, found_marks, found_of, length, length_push, levels_of, marks_from, marks_of, max, outcome, pending}
-use Rattle.engine_core.proofs.Common.{pending_of, refl, searched_at, suc, sym, tried, true, true≢false, walk, walk_of, ℕ, ◌++◌, ◌+◌, ◌-◌, ◌<◌, ◌∙◌}
-use Rattle.engine_core.proofs.Common.{◌∷◌, ◌≡◌, ◌≤◌}
+use Rattle.engine_core.proofs.Common.{Bool, Candidates, CountsClosing, IsSearched, IsTrial, IsTurns, IsWalked, Levels, List, Mark, Mark.Trial, None, Outcome.GaveUp, RuleSystem, Says, Standing, [], ap, append_assoc, arith, boards_of, common_steps, deepest_of, false, found_marks, found_of, length, length_push, levels_of, marks_from, marks_of, max, outcome, pending, pending_of, refl, searched_at, suc, sym, tried, true, true≢false, walk, walk_of, ℕ, ◌++◌, ◌+◌, ◌-◌, ◌<◌, ◌∙◌, ◌∷◌, ◌≡◌, ◌≤◌}
 use Rattle.engine_core.specs.declared.search.judge.Grids.{Grids}
-use Rattle.engine_core.specs.declared.search.levels.Levels.{Levels}
 use Rattle.engine_core.specs.declared.search.walk.Progress.{Progress}
 use Rattle.engine_core.specs.declared.search.walk.Searched.{Searched}
 use Rattle.engine_core.specs.declared.search.walk.Verdict.{Verdict}
@@ -54,15 +49,15 @@ module _ {p : RuleSystem} {from at : Progress} {all : List Mark} {trials : ℕ} 
       let rest : tried (from.budget - trials) None
       (marks_of p st levels at grids) ≡ (now.depth, mid.board) ∷ tried b None
       (marks_of p st' to at' grids') = cc in
-      let sum : at'.turns - from.turns ≡ at.turns - from.turns + (at'.turns - at.turns) = (let a = s.grows in let c = turned.grows in omega arith) in
+      let sum : at'.turns - from.turns ≡ at.turns - from.turns + (at'.turns - at.turns) = (omega arith) in
       record {
         answer = s.answer ∙ cc;
         sofar = s.sofar ++ (now.depth, mid.board) ∷ [];
         split = s.split ∙ ap (λ ts. s.sofar ++ ts) rest ∙ sym (append_assoc s.sofar ((now.depth, mid.board) ∷ []) _);
         count = length_push s.sofar (now.depth, mid.board) ∙ ap (λ n. n + 1) s.count;
-        closed = rw (boards-push s.sofar now.depth mid.board, sum) (turns-push (boards_of s.sofar) _ s.closed turned.closed);
-        grows = let a = s.grows in let c = turned.grows in omega arith;
-        deep = let push = deepest-push s.sofar now.depth mid.board in let deep = s.deep in omega arith;
+        closed = rw (boards-push s.sofar now.depth mid.board, sum) (turns-push _ _ s.closed turned.closed);
+        grows = omega arith;
+        deep = omega (arith, deepest-push s.sofar now.depth mid.board);
       }
 
   -- ---- how a search ends

@@ -1,6 +1,5 @@
 -- The trials that a search makes are the first of the walk's.
-use Rattle.engine_core.proofs.Common.{List, Mark, Mark.Found, Mark.Trial, None, Option, Some, [], ap, length, refl, spent, suc, take, trials_in}
-use Rattle.engine_core.proofs.Common.{trials_of, tried, zero, ℕ, ◌∷◌, ◌≡◌}
+use Rattle.engine_core.proofs.Common.{List, Mark, Mark.Found, Mark.Trial, None, Option, Some, [], ap, length, refl, spent, suc, take, trials_in, trials_of, tried, zero, ℕ, ◌∷◌, ◌≡◌}
 
 pub tried-first : (budget : ℕ) (found : Option (List ℕ)) (marks : List Mark) → tried budget found marks ≡ take (spent budget found marks) (trials_of marks)
 unfolding tried spent trials_of

@@ -1,11 +1,6 @@
 -- Marks of houses as the bits of words.
-use Rattle.engine_core.proofs.Common.{Bool, IsNext, List, Some, ap, arith, bit_and, bit_at, bit_at-trailing_zeros, bit_at-zero, bit_at_above, bit_at_ones}
-use Rattle.engine_core.proofs.Common.{bit_at_clear_other, bit_at_clear_same, bit_at_set_other, bit_at_set_same, bit_or, but, cases_eq, cases_lt}
-use Rattle.engine_core.proofs.Common.{common_steps, div-div-eq-div-mul, div-le_self, eq-eqb, eqb, eqb-true, false, get_or, get_or-replicate}
-use Rattle.engine_core.proofs.Common.{get_or-set_other, get_or-set_same, has_bit, inl, inr, is_waiting, length, ne_eqb, not, pow-add, refl, replicate}
+use Rattle.engine_core.proofs.Common.{Bool, IsNext, List, Some, ap, arith, bit_and, bit_at, bit_at-trailing_zeros, bit_at-zero, bit_at_above, bit_at_clear_other, bit_at_clear_same, bit_at_ones, bit_at_set_other, bit_at_set_same, bit_or, but, cases_eq, cases_lt, common_steps, div-div-eq-div-mul, div-le_self, eq-eqb, eqb, eqb-true, false, get_or, get_or-replicate, get_or-set_other, get_or-set_same, has_bit, inl, inr, is_waiting, length, ne_eqb, not, pow-add, refl, replicate, set, sym, take, take-append_seam, trailing_zeros, true, w64, ℕ, ◌%◌, ◌&&◌, ◌*◌, ◌++◌, ◌+◌, ◌-◌, ◌/◌, ◌<◌, ◌^◌, ◌||◌, ◌∙◌, ◌≡◌, ◌≢◌, ◌≤◌}
 use Rattle.engine_core.proofs.BitLemmas.{bits-either, bits-of_zero}
-use Rattle.std.proofs.Math.Seq.{take-append_seam}
-use Rattle.engine_core.proofs.Common.{set, sym, take, trailing_zeros, true, w64, ◌++◌, ℕ, ◌%◌, ◌&&◌, ◌*◌, ◌+◌, ◌-◌, ◌/◌, ◌<◌, ◌^◌, ◌||◌, ◌∙◌, ◌≡◌, ◌≢◌, ◌≤◌}
 
 -- words that are written back whole
 pub written-back : (n : ℕ) (words rest : List ℕ) → n ≡ length words → take n (words ++ rest) ≡ words
@@ -18,15 +13,15 @@ same_house j h words bits = omega arith
 -- a word written anew
 word-same : (waits : List ℕ) (w y j : ℕ) → w < length waits → j / 64 ≡ w → is_waiting (set waits w y) j ≡ has_bit y (j % 64)
 unfolding is_waiting
-word-same waits w y j lt e = ap (λ (x : ℕ). has_bit x (j % 64)) (ap (λ (k : ℕ). get_or (set waits w y) k 0) e ∙ get_or-set_same waits w y 0 lt)
+word-same waits w y j lt e = grind (arith, common_steps, get_or-set_same)
 
 word-other : (waits : List ℕ) (w y j : ℕ) → j / 64 ≢ w → is_waiting (set waits w y) j ≡ is_waiting waits j
 unfolding is_waiting
-word-other waits w y j ne = ap (λ (x : ℕ). has_bit x (j % 64)) (get_or-set_other waits w (j / 64) y 0 ne)
+word-other waits w y j ne = ap (λ x. has_bit x (j % 64)) (get_or-set_other waits w (j / 64) y 0 ne)
 
 word-is : (waits : List ℕ) (w j : ℕ) → j / 64 ≡ w → is_waiting waits j ≡ has_bit (get_or waits w 0) (j % 64)
 unfolding is_waiting
-word-is waits w j e = ap (λ (k : ℕ). has_bit (get_or waits k 0) (j % 64)) e
+word-is waits w j e = ap (λ k. has_bit (get_or waits k 0) (j % 64)) e
 
 or_false : {x : Bool} → x ≡ (x || false)
 or_false = grind (arith, common_steps)
@@ -44,7 +39,7 @@ waiting-word f none waits h y j lt bits = elim (cases_eq (j / 64) (h / 64)) [
       ∙ (let same = same_bool (eqb (j % 64) (h % 64)) (eqb j h) (grind (arith, common_steps, eq-eqb, eqb-true, same_house))
       (grind (arith, common_steps, eq-eqb, eqb-true)) in
       rw (word-is waits (h / 64) j word, same) refl)
-  | inr apart ↦ word-other waits (h / 64) y j apart ∙ rw (ne_eqb j h (λ e. apart (ap (λ (k : ℕ). k / 64) e))) (sym (none _))
+  | inr apart ↦ word-other waits (h / 64) y j apart ∙ rw (ne_eqb j h (λ e. apart (ap (λ k. k / 64) e))) (sym (none _))
 ]
   where
     same_bool : (x y : Bool) → (x ≡ true → y ≡ true) → (y ≡ true → x ≡ true) → x ≡ y
@@ -72,22 +67,21 @@ pub waiting-dequeue : (waits : List ℕ) (h j : ℕ) → h / 64 < length waits
     (is_waiting waits) h j
 unfolding but
 waiting-dequeue waits h j lt = waiting-word (λ x here. x && not here) (λ x. grind (arith, common_steps)) waits h _ j lt (λ b small.
-    let other = bit_at_clear_other w64 (get_or waits (h / 64) 0) (h % 64) in
-    grind (arith, common_steps, cases_eq b (h % 64), bit_at_clear_same w64 (get_or waits (h / 64) 0) (h % 64), eq-eqb, ne_eqb))
+    grind (arith, common_steps, cases_eq b (h % 64), bit_at_clear_same w64 (get_or waits (h / 64) 0) (h % 64), eq-eqb, ne_eqb, bit_at_clear_other w64 (get_or waits (h / 64) 0) (h % 64)))
 
 pub waiting-none : (words j : ℕ) → j / 64 < words → is_waiting (replicate words 0) j ≡ false
 unfolding is_waiting
-waiting-none words j lt = ap (λ (x : ℕ). has_bit x (j % 64)) (get_or-replicate words (j / 64) 0 0 lt) ∙ ap (λ (b : ℕ). eqb b 1) (bit_at-zero (j % 64))
+waiting-none words j lt = grind (arith, common_steps, get_or-replicate, bit_at-zero)
 
 pub waiting-all : (words j : ℕ) → j / 64 < words → is_waiting (replicate words 18446744073709551615) j ≡ true
 unfolding is_waiting
 waiting-all words j lt =
-    ap (λ (x : ℕ). has_bit x (j % 64)) (get_or-replicate words (j / 64) 18446744073709551615 0 lt)
-    ∙ ap (λ (b : ℕ). eqb b 1) (bit_at_ones 64 (j % 64) (omega arith))
+    ap (λ x. has_bit x (j % 64)) (get_or-replicate words (j / 64) 18446744073709551615 0 lt)
+    ∙ ap (λ b. eqb b 1) (bit_at_ones 64 (j % 64) (omega arith))
 
 -- ---- the bits of a word from one on
 shifted : (word from i : ℕ) → bit_at (word / 2 ^ from) i ≡ bit_at word (from + i)
-shifted word from i = ap (λ (x : ℕ). x % 2) (div-div-eq-div-mul word (2 ^ from) (2 ^ i) ∙ ap (λ (x : ℕ). word / x) (sym (pow-add 2 from i)))
+shifted word from i = grind (arith, common_steps, div-div-eq-div-mul, pow-add)
 
 -- where nothing is left above, no bit is set from there on
 pub none_left : (word from j : ℕ) → word / 2 ^ from ≡ 0 → from ≤ j → has_bit word j ≡ false
@@ -101,10 +95,10 @@ lowest_left word from small some =
     let left = word / 2 ^ from in
     let z = trailing_zeros w64 left in
     let w = bit_at-trailing_zeros w64 left (omega arith) (omega (arith, div-le_self word (2 ^ from))) in
-    let here : bit_at word (from + z) ≡ 1 = sym (shifted word from z) ∙ w.1 in (
+    let here = sym (shifted word from z) ∙ w.1 in (
       omega arith,
       grind (arith, common_steps, bit_at_above word 64 (from + z) small),
-      ap (λ (b : ℕ). eqb b 1) here,
+      ap (λ b. eqb b 1) here,
       λ j from_j lt. let e : from + (j - from) ≡ j = omega arith in grind (arith, common_steps, shifted word from (j - from), w.2 (j - from)),
     )
 
@@ -123,4 +117,4 @@ none_so_far waits w {low} small before none j le lt =
 
 pub waits_in_word : (waits : List ℕ) (w : ℕ) {b : ℕ} → b < 64 → has_bit (get_or waits w 0) b ≡ true → is_waiting waits (w * 64 + b) ≡ true
 waits_in_word waits w {b} lt on =
-    let bit : (w * 64 + b) % 64 ≡ b = omega arith in word-is waits w (w * 64 + b) (omega arith) ∙ ap (has_bit (get_or waits w 0)) bit ∙ on
+    let bit : (w * 64 + b) % 64 ≡ b = omega arith in word-is waits w _ (omega arith) ∙ ap (has_bit (get_or waits w 0)) bit ∙ on

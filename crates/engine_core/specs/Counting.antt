@@ -4,12 +4,12 @@ use Rattle.grid_core.specs.Candidates.{Candidates}
 use Rattle.engine_core.specs.RuleSystem.{RuleSystem}
 use Rattle.engine_core.specs.Sets.{IsChange}
 
--- the counts are so of this board
+-- some board has these counts
 pub record IsCounted {C : Type 0} (follows : C → Candidates → Type 0) (counts : C) : Type 0 where
   pub board : Candidates
   pub is_so : follows counts board
 
--- the counts are so of this board, of which a cell changed, whose sets have these bits
+-- some board has these counts, and a cell of it changed, whose sets have these bits
 pub record IsRecounted {C : Type 0} (p : RuleSystem) (follows : C → Candidates → Type 0) (counts : C)
     (place before after : ℕ) : Type 0 where
   pub board : Candidates

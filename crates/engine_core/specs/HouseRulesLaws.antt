@@ -24,7 +24,7 @@ by_houses-lawful s houses fine sound queue sweeps = record {
   strikes_in_scope = λ h K c v lt on. strikes_at-in_scope s.values (places h) (decides h) K c v on;
   solutions_start = fine.solutions_start;
   solutions_closed = λ g grid good h c v lt on. closed_at s.values (places h) g
-      (λ k lk. let e = grid.each_cell in let w = (house h lt).within k lk in omega arith) (λ d ld. grid.each_value d 0 ld)
+      (λ k lk. omega (arith, (house h lt).within k lk)) (λ d ld. grid.each_value d 0 ld)
       (decides h) ((house h lt).keeps g grid good) c v on;
   settles =
       λ e h K c v lt low on. settled_at s.values (places h) K
@@ -65,7 +65,7 @@ count_as_sum p (suc n) = ap (λ k. k + cond (p n) 1 0) (count_as_sum p n)
 times : (k : ℕ) (f : ℕ → ℕ) (n : ℕ) → sum_below (λ c. k * f c) n ≡ k * sum_below f n
 unfolding sum_below
 times k f zero = omega arith
-times k f (suc n) = let rest = times k f n in omega arith
+times k f (suc n) = omega (arith, times k f n)
 
 pub counted_twice : (scope : ℕ → List ℕ) (n cells : ℕ) → sum_below (λ c. count_below (λ h. has_place (scope h) c) n) cells ≤ sum_below (λ h. length (scope h)) n
 unfolding sum_below count_below
@@ -77,7 +77,7 @@ counted_twice scope (suc n) cells =
 pub from_first : (f : ℕ → ℕ) (n : ℕ) → sum_below f (suc n) ≡ f 0 + sum_below (λ k. f (suc k)) n
 unfolding sum_below
 from_first f zero = omega arith
-from_first f (suc n) = let rest = from_first f n in omega arith
+from_first f (suc n) = omega (arith, from_first f n)
 
 visits_sum : (values : ℕ) (houses : List House)
     → sum_by (visits_of values) houses ≡ length houses + values * sum_below

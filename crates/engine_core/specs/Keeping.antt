@@ -16,19 +16,19 @@ pub record AreSets (p : RuleSystem) (h : ℕ) (sets : List ℕ) : Type 0 where
   pub are : AreSetsOf p h board sets
 
 -- nothing is struck from the house's cells, or else a value that one of them has stays exactly where its bit is kept
-pub record IsKept (p : RuleSystem) (h : ℕ) (K : Candidates) (struck : Bool)
+pub record IsKept (p : RuleSystem) (h : ℕ) (K : Candidates) (may_strike : Bool)
     (kept : List ℕ) : Type 0 where
-  pub none : struck ≡ false → (k v : ℕ) → k < length (p.scope h) → v < p.values
+  pub none : may_strike ≡ false → (k v : ℕ) → k < length (p.scope h) → v < p.values
       → K (slice_index (p.scope h) k) v ≡ true
       → p.strikes h K (slice_index (p.scope h) k) v ≡ false
-  pub bits : struck ≡ true → (k v : ℕ) → k < length (p.scope h) → v < p.values
+  pub bits : may_strike ≡ true → (k v : ℕ) → k < length (p.scope h) → v < p.values
       → K (slice_index (p.scope h) k) v ≡ true
       → has_bit (slice_index kept k) v ≡ not (p.strikes h K (slice_index (p.scope h) k) v)
 
 -- at the head of the lists: the sets of the house's cells, and what is kept of them
-pub record IsFiltered (p : RuleSystem) (h : ℕ) (K : Candidates) (struck : Bool)
+pub record IsFiltered (p : RuleSystem) (h : ℕ) (K : Candidates) (may_strike : Bool)
     (sets kept : List ℕ) : Type 0 where
   pub sets_long : length (p.scope h) ≤ length sets
   pub kept_long : length (p.scope h) ≤ length kept
   pub sets_are : AreSetsOf p h K (take (length (p.scope h)) sets)
-  pub kept_are : IsKept p h K struck (take (length (p.scope h)) kept)
+  pub kept_are : IsKept p h K may_strike (take (length (p.scope h)) kept)

@@ -22,4 +22,4 @@ most_turns p scopes =
 
 -- the places of each of the houses
 abbrev pub all_places : List House → List (List ℕ)
-all_places houses = map (λ (house : House). house.places) houses
+all_places houses = map (λ house. house.places) houses

@@ -1,4 +1,5 @@
 -- A puzzle of houses has the places of its houses listed.
+use Rattle.std.proofs.lemmas.Grind.{common_steps}
 use Rattle.std.proofs.Common.{◌≡◌, ℕ, zero, suc, ◌+◌, ◌*◌, true, List, [], ◌∷◌, length, refl, sym, ap, ◌∙◌, arith, sum_by}
 use Rattle.std.proofs.lemmas.List.{length-map}
 use Rattle.std.proofs.lemmas.List.Sums.{sum_by-cons}
@@ -12,16 +13,12 @@ scope-at (house ∷ houses) zero = refl
 scope-at (house ∷ houses) (suc h) = scope-at houses h
 
 pub listed-scopes : (s : Setting) (houses : List House) → AreScopesOf (by_houses s houses) (all_places houses)
-listed-scopes s houses = record { as_many = sym (length-map houses (λ (house : House). house.places)); each = λ h. sym (scope-at houses h) }
+listed-scopes s houses = grind (arith, common_steps, length-map, scope-at)
 
 visits-sum : (values : ℕ) (houses : List House) → sum_by (visits_of values) houses ≡ sum_by length (all_places houses) * values + length (all_places houses)
 visits-sum values [] = omega arith
 visits-sum values (house ∷ houses) =
-    let rest = visits-sum values houses in
-    let a = sum_by-cons (length {A = ℕ}) house.places (all_places houses) in
-    let b = sum_by-cons (visits_of values) house houses in
-    let c = ap (λ n. n * values) a in
-    omega arith
+    let a = sum_by-cons (length {A = ℕ}) house.places (all_places houses) in omega (arith, visits-sum values houses, sum_by-cons (visits_of values) house houses, ap (λ n. n * values) a)
 
 -- in a queue the bound is that of all visits that the houses can call for
 pub listed-bound : (s : Setting) (houses : List House) → s.by_queue ≡ true

@@ -5,8 +5,9 @@ use Rattle.grid_core.specs.Candidates.{Candidates, IsInside, IsWithin, single, c
 use Rattle.grid_core.specs.Board.{Layout, cells_of}
 use Rattle.grid_core.specs.Grids.{IsGrid}
 
--- what a rule set means: its cells, values and houses, the most visits or sweeps of one closing, where a search
--- starts, what a visit of a house strikes (house, board, cell, value), and which grids are solutions
+-- what a rule set means: its cells, values and houses, the most visits or sweeps of one closing, whether a second
+-- visit of a house in a row strikes nothing, whether closings go by a queue, the cells of a house, where a search starts,
+-- what a visit of a house strikes (house, board, cell, value), and which grids are solutions
 pub record RuleSystem : Type 0 where
   pub cells : ℕ
   pub values : ℕ

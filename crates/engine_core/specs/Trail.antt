@@ -51,10 +51,6 @@ pub record IsFurther (from to : Trail) : Type 0 where
   pub grows : from.len ≤ to.len
   pub back : (mark : ℕ) → mark ≤ from.len → back_at to mark ≡ back_at from mark
 
--- the later board is the one after a visit of h
-abbrev pub Visits : RuleSystem → ℕ → Trail → Trail → Type 0
-Visits p h from to = has to.board ≡ after p h (has from.board)
-
 -- the trail was taken back to the mark: each earlier mark gives back the same
 pub record IsBack (from to : Trail) (mark : ℕ) : Type 0 where
   pub shape : SameShape from.board to.board
@@ -78,7 +74,7 @@ is_since p t from n j =
 
 -- a visit of h struck values, noted them, and left each cell a value
 pub record IsStruck (p : RuleSystem) (h : ℕ) (from to : Trail) : Type 0 where
-  pub left : Visits p h from to
+  pub left : has to.board ≡ after p h (has from.board)
   pub alive : IsAlive p (has to.board)
   pub lost : AreLost p h (length (p.scope h)) from to
 

@@ -1,13 +1,13 @@
 -- A board with its trail as a position, and which houses wait. No public contract uses these words.
-use Rattle.std.specs.Prelude.{◌≡◌, ℕ, ◌<◌, ◌≤◌, Bool, true, false, List, length, slice_index_or, Option}
+use Rattle.std.specs.Prelude.{◌≡◌, ℕ, ◌<◌, ◌≤◌, Bool, true, false, List, length, slice_index_or}
 use Rattle.grid_core.specs.Board.{Layout, has, cells_of}
 use Rattle.grid_core.specs.Candidates.{Candidates}
 use Rattle.engine_core.specs.RuleSystem.{RuleSystem, Needs, needs_of, FitsIn, IsBoardOf, after}
 use Rattle.engine_core.specs.ClosingList.{IsDead, IsAlive}
 use Rattle.engine_core.specs.Position.{Standing}
-use Rattle.engine_core.specs.Queue.{IsRested, IsWoken, waits_from}
+use Rattle.engine_core.specs.Queue.{IsRested, IsWoken}
 use Rattle.engine_core.specs.Trail.{Trail, IsFurther, back_at}
-use Rattle.engine_core.specs.Waiting.{words_of, is_waiting, AreCalled}
+use Rattle.engine_core.specs.Waiting.{words_of, is_waiting}
 
 -- what the memory was taken for, the board with its trail, what the rules count of it, which houses wait, and the mark of
 -- each level: so many levels have one
@@ -40,21 +40,7 @@ pub record IsAlong {C : Type 0} (p : RuleSystem) (counted : C → Candidates →
   pub board_of : IsBoardOf p s.trail.board
   pub follows : counted s.counts (has s.trail.board)
 
--- ---- which houses wait, by what is counted
--- all houses were called for
-abbrev pub AllAreCalled : {C : Type 0} → RuleSystem → (C → Candidates → Type 0) → C
-    → List ℕ → List ℕ → Type 0
-AllAreCalled p follows counts before now =
-    (K : Candidates) → follows counts K
-    → AreCalled p K (λ j. true) (is_waiting before) (is_waiting now)
-
--- no house waited, and those that a closing begins with were called for
-abbrev pub WaitsFrom : {C : Type 0} → RuleSystem → (C → Candidates → Type 0) → C
-    → Option ℕ → List ℕ → Type 0
-WaitsFrom p follows counts from now =
-    (K : Candidates) → follows counts K
-    → AreCalled p K (waits_from p from) (λ j. false) (is_waiting now)
-
+-- ---- which houses wait
 -- a house that does not wait strikes nothing
 abbrev pub AreRested : {C : Type 0} → RuleSystem → Placed C → Type 0
 AreRested p s = IsRested p (board_in s) (is_waiting s.waits)

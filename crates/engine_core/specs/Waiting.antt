@@ -14,7 +14,7 @@ is_waiting waits j = has_bit (slice_index waits (j / 64)) (j % 64)
 
 -- the marks after houses were called for: a house that waited waits, another one only if it was called for, and one that was
 -- called for and does not wait strikes nothing
-pub record AreCalled (p : RuleSystem) (K : Candidates) (called before now : ℕ → Bool) : Type 0 where
+pub record AreWoken (p : RuleSystem) (K : Candidates) (called before now : ℕ → Bool) : Type 0 where
   pub kept : (j : ℕ) → j < p.houses → before j ≡ true → now j ≡ true
   pub fewer : (j : ℕ) → j < p.houses → now j ≡ true → (before j || called j) ≡ true
   pub idle : (j : ℕ) → j < p.houses → now j ≡ false → called j ≡ true → IsIdle p j K

@@ -18,7 +18,7 @@ pub trait Counting<S: RuleSet>: Drop + Sized {
     /// There is room to count for rules of these sizes.
     ghost serves: { Self → Needs → Type 0 };
 
-    /// What is counted is so of this board.
+    /// The counts are those of this board.
     ghost follows: { S → Self → Candidates → Type 0 };
 
     /// Takes the memory that is counted in.
@@ -28,7 +28,7 @@ pub trait Counting<S: RuleSet>: Drop + Sized {
         ensures { IfOk result (λ counts.
             serves counts (needs_of (S.system (S.puzzle_of set.now)))) };
 
-    /// Begins to count: what is counted of a board is then so of this one.
+    /// Begins to count: the counts are then those of this board.
     fn watch(&mut self, set: &S, table: &HouseTable, board: &Board)
         requires table { table.now ≡ table_of (S.system (S.puzzle_of set.now))
             (S.scopes (S.puzzle_of set.now)) }
@@ -49,7 +49,7 @@ pub trait Counting<S: RuleSet>: Drop + Sized {
             → follows set.now self.new L }
         ensures keeps { (needs : Needs) → serves self.old needs → serves self.new needs };
 
-    /// Whether the house may strike anything from the board that was counted.
+    /// Whether the house may strike anything from a board with these counts.
     fn may_strike(&self, set: &S, house: usize) -> bool
         requires house_in { house < (S.system (S.puzzle_of set.now)).houses }
         requires counted { IsCounted (follows set.now) self.now }

@@ -79,7 +79,8 @@ impl<S: RuleSet, C> HouseRules<S, C> {
         requires kept_room { length ((S.system (S.puzzle_of self.now.set)).scope house)
             ≤ length kept.old }
         requires served { S.serves work.old (needs_of (S.system (S.puzzle_of self.now.set))) }
-        ensures left { has board.new ≡ after (S.system (S.puzzle_of self.now.set)) house (has board.old) }
+        ensures left { has board.new
+            ≡ after (S.system (S.puzzle_of self.now.set)) house (has board.old) }
         ensures shape { SameShape board.old board.new }
         ensures unchanged { result ≡ false → has board.new ≡ has board.old }
         ensures changed { result ≡ true → HasStruck (has board.old) (has board.new) }

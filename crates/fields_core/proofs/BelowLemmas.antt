@@ -1,19 +1,7 @@
 -- Lists of different numbers: a number's place in one, and a choice of different numbers below n names each of them.
-use Rattle.std.proofs.Common.{◌≡◌, ℕ, ◌+◌, ◌<◌, ◌≤◌, Bool, true, false, not, eqb, ltb, cond, List, [], ◌∷◌, length, get_or, slice_index, map, refl, sym, ap, ◌∙◌, inl, inr, arith}
-use Rattle.std.specs.List.{list_any, range_with_len}
-use Rattle.std.proofs.lemmas.Bool.{cases_Bool, cases_lt, or_left, or_right, or_cases, and_from, and_parts, true≢false, eqb-true, eq-eqb, lt-ltb, le-ltb, not-true}
-use Rattle.std.proofs.lemmas.List.{get_or-map, length-map}
-use Rattle.std.proofs.lemmas.List.Elements.{All-from_get_or}
+use Rattle.fields_core.proofs.Common.{All-from_get_or, AreDifferent, AreDistinct, Bool, List, [], and_from, and_parts, any_below, any_below-none, any_below-some, ap, arith, cases_Bool, cases_lt, common_steps, cond, count_below-pos, distinct-from, eq-eqb, eqb, eqb-true, false, get_or, get_or-map, get_or-map-range_with_len, get_or-range_with_len, has_place, has_place-at, has_place-here, inl, inr, le-ltb, least_below, least_below-passes, length, length-map, length-map-range_with_len, length-range_with_len, list_any, lt-ltb, ltb, map, names_none_twice, not, not-true, or_cases, or_left, or_right, range_with_len, refl, slice_index, sym, true, true≢false, ℕ, ◌+◌, ◌<◌, ◌∙◌, ◌∷◌, ◌≡◌, ◌≤◌}
 use Rattle.std.proofs.lemmas.List.Folds.{list_any_at, list_any_none}
-use Rattle.std.proofs.lemmas.List.FromFn.{get_or-range_with_len, length-range_with_len, get_or-map-range_with_len, length-map-range_with_len}
-use Rattle.grid_core.specs.Candidates.{any_below, least_below}
-use Rattle.grid_core.proofs.CandidateLemmas.{any_below-some, any_below-none, count_below-pos, least_below-passes}
 use Rattle.grid_core.proofs.DifferentNumbers.{apart-le}
-use Rattle.engine_core.specs.RuleSystem.{has_place}
-use Rattle.engine_core.specs.PlaceLaws.{has_place-at, has_place-here, AreDistinct, distinct-from}
-use Rattle.engine_core.specs.HouseSets.{AreDifferent}
-use Rattle.fields_core.specs.Tents.{names_none_twice}
-use Rattle.std.proofs.lemmas.Grind.{common_steps}
 
 -- where a number stands in a list
 unfoldable pub index_of : List ℕ → ℕ → ℕ
@@ -34,18 +22,18 @@ place-map f xs d on =
 
 -- ---- whether some number of a list passes
 pub any-here : (test : ℕ → Bool) (xs : List ℕ) (d : ℕ) → has_place xs d ≡ true → test d ≡ true → list_any test xs ≡ true
-any-here test xs d on passes = let w = has_place-at xs d on in list_any_at test xs w.0 0 w.1 (ap test w.2 ∙ passes)
+any-here test xs d on passes = grind (arith, common_steps, has_place-at)
 
 pub any-some : (test : ℕ → Bool) (xs : List ℕ) → list_any test xs ≡ true → (d : ℕ) × (has_place xs d ≡ true) × (test d ≡ true)
 unfolding has_place
 any-some test [] on = absurd (true≢false (sym on))
 any-some test (x ∷ xs) on = elim (or_cases (test x) (list_any test xs) on) [
   | inl here ↦ (x, or_left (eqb x x) (has_place xs x) (eq-eqb x x refl), here)
-  | inr more ↦ let w = any-some test xs more in (w.0, or_right (eqb x w.0) (has_place xs w.0) w.1, w.2)
+  | inr more ↦ let w = any-some test xs more in (w.0, or_right (eqb x w.0) _ w.1, w.2)
 ]
 
 pub any-none : (test : ℕ → Bool) (xs : List ℕ) → ((d : ℕ) → has_place xs d ≡ true → test d ≡ false) → list_any test xs ≡ false
-any-none test xs none = list_any_none test xs (All-from_get_or (λ d. test d ≡ false) xs 0 (λ i lt. none (slice_index xs i) (has_place-here xs i lt)))
+any-none test xs none = list_any_none test xs (All-from_get_or (λ d. test d ≡ false) xs 0 (λ i lt. none _ (has_place-here xs i lt)))
 
 -- ---- a list that names none twice
 pub none-twice-from : (xs : List ℕ) → AreDistinct xs → names_none_twice xs ≡ true
@@ -55,7 +43,7 @@ none-twice-from (x ∷ xs) d = and_from _ _ (ap not d.0) (none-twice-from xs d.1
 pub distinct-none-twice : (xs : List ℕ) → names_none_twice xs ≡ true → AreDistinct xs
 distinct-none-twice [] on = tt
 distinct-none-twice (x ∷ xs) on = let w =
-    and_parts (not (has_place xs x)) (names_none_twice xs) on in
+    and_parts (not (has_place xs x)) _ on in
     (not-true (has_place xs x) w.0, distinct-none-twice xs w.1)
 
 pub different-map : (f : ℕ → ℕ) (xs : List ℕ) → AreDifferent xs
@@ -65,7 +53,7 @@ different-map f xs differ own j k lj lk e =
     let long = length-map xs f in
     let inj : j < length xs = omega arith in
     let ink : k < length xs = omega arith in
-    differ j k inj ink (own (slice_index xs j) (slice_index xs k) (has_place-here xs j inj) (has_place-here xs k ink)
+    differ j k inj ink (own _ _ (has_place-here xs j inj) (has_place-here xs k ink)
     (sym (get_or-map f xs j 0 0 inj) ∙ e ∙ get_or-map f xs k 0 0 ink))
 
 pub range-distinct : (n : ℕ) → AreDistinct (range_with_len 0 n)
@@ -73,8 +61,8 @@ range-distinct n = grind (arith, common_steps, distinct-from, length-range_with_
 
 -- ---- different numbers below m are m at most
 pub few-below : (f : ℕ → ℕ) {n m : ℕ} → ((l : ℕ) → l < n → f l < m) → ((l k : ℕ) → l < n → k < n → f l ≡ f k → l ≡ k) → n ≤ m
-few-below f {n} {m} below own = apart-le (map f (range_with_len 0 n)) n m (omega (arith, length-map-range_with_len f 0 n))
-    (record { differ = λ i j less lt e. let same = own i j (omega arith) lt (sym (at i (omega arith)) ∙ e ∙ at j lt) in omega arith })
+few-below f {n} {m} below own = apart-le _ n m (omega (arith, length-map-range_with_len f 0 n))
+    (record { differ = λ i j less lt e. omega (arith, own i j (omega arith) lt (sym (at i (omega arith)) ∙ e ∙ at j lt)) })
     (λ l lt. rw (at l lt) (below l lt))
   where
     at : (l : ℕ) → l < n → get_or (map f (range_with_len 0 n)) l 0 ≡ f l
@@ -87,10 +75,9 @@ with_next f n c l = cond (ltb l n) (f l) c
 -- n different numbers below n are all of them: another would be one more
 pub each-named : (f : ℕ → ℕ) {n : ℕ} (c : ℕ) → ((l : ℕ) → l < n → f l < n)
     → ((l m : ℕ) → l < n → m < n → f l ≡ f m → l ≡ m) → c < n → (l : ℕ) × (l < n) × (f l ≡ c)
-each-named f {n} c below own lt = elim (cases_Bool (any_below (λ l. eqb (f l) c) n)) [
-  | inl on ↦ let w = any_below-some (λ l. eqb (f l) c) n on in (w.0, w.1, eqb-true (f w.0) c w.2)
-  | inr off ↦ absurd (let few = few-below (with_next f n c) inside
-      (apart (λ l low e. true≢false (sym (eq-eqb (f l) c e) ∙ any_below-none (λ l. eqb (f l) c) n off l low))) in omega arith)
+each-named f {n} c below own lt = elim (cases_Bool _) [
+  | inl on ↦ let w = any_below-some _ n on in (w.0, w.1, eqb-true (f w.0) c w.2)
+  | inr off ↦ absurd (omega (arith, few-below (with_next f n c) inside (apart (λ l low e. true≢false (sym (eq-eqb (f l) c e) ∙ any_below-none (λ l. eqb (f l) c) n off l low)))))
 ]
   where
     inside : (l : ℕ) → l < n + 1 → with_next f n c l < n

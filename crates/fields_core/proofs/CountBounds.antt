@@ -1,17 +1,6 @@
 -- Which numbers of ones the fillings of a house's cells have, and what that says of a value of a cell.
-use Rattle.std.proofs.Common.{◌≡◌, ℕ, zero, suc, ◌+◌, ◌-◌, ◌<◌, ◌≤◌, max, Bool, true, false, not, true≢false, ◌&&◌, ◌||◌, eqb, List, [], ◌∷◌, length, get_or, slice_index, refl, sym, ◌∙◌, ap, arith, ◌⊎◌, inl, inr, le-leb, leb-true}
-use Rattle.std.specs.List.{count_by}
-use Rattle.std.proofs.Math.Bool.{and-true}
-use Rattle.std.proofs.lemmas.Bool.{cases_Bool, cases_eq, cases_lt, and_parts, and_from, eq-eqb, ne_eqb}
-use Rattle.grid_core.specs.Candidates.{Candidates}
-use Rattle.engine_core.specs.PlaceLaws.{has_place-here, distinct-from}
-use Rattle.engine_core.specs.Filling.{Fills, IsShown}
-use Rattle.engine_core.specs.FillingLaws.{Fills-cons, Fills-tail}
-use Rattle.engine_core.specs.HouseSets.{sets_at, AreDifferent}
-use Rattle.engine_core.specs.HouseSetsLaws.{length-sets_at, sets_at-value, sets_at-small}
-use Rattle.fields_core.specs.Count.{nonzeros, counts_between, is_open}
+use Rattle.fields_core.proofs.Common.{AreDifferent, Bool, Candidates, Fills, Fills-cons, Fills-tail, IsShown, List, [], and-true, and_from, and_parts, ap, arith, cases_Bool, cases_eq, cases_lt, common_steps, count_by, counts_between, distinct-from, eq-eqb, eqb, false, get_or, has_place-here, inl, inr, is_open, le-leb, leb-true, length, length-sets_at, max, ne_eqb, nonzeros, not, refl, sets_at, sets_at-small, sets_at-value, slice_index, suc, sym, true, true≢false, zero, ℕ, ◌&&◌, ◌+◌, ◌-◌, ◌<◌, ◌||◌, ◌∙◌, ◌∷◌, ◌≡◌, ◌≤◌, ◌⊎◌}
 use Rattle.fields_core.proofs.PlaceLists.{num, num-most, count-cons, count-at}
-use Rattle.std.proofs.lemmas.Grind.{common_steps}
 
 -- how many cells must hold a one, and how many may
 abbrev pub must_of : Candidates → List ℕ → ℕ
@@ -49,8 +38,8 @@ ones-bounds K [] (v ∷ f) p = absurd (omega (arith, p.len))
 ones-bounds K (x ∷ xs) [] p = absurd (omega (arith, p.len))
 ones-bounds K (x ∷ xs) (v ∷ f) p =
     by v (filled-at K (x ∷ xs) p {k = 0} (omega arith))
-    (ones-bounds K xs f (Fills-tail _ (sets_at 2 xs K) v f p))
-    (count-cons (λ c. not (K c 0)) x xs) (count-cons (λ c. K c 1) x xs)
+    (ones-bounds K xs f (Fills-tail _ _ v f p))
+    (count-cons _ x xs) (count-cons _ x xs)
   where
     by : (u : ℕ) → (u < 2) × (K x u ≡ true) → (must_of K xs ≤ nonzeros f) × (nonzeros f ≤ may_of K xs)
         → must_of K (x ∷ xs) ≡ num (not (K x 0)) + must_of K xs → may_of K (x ∷ xs) ≡ num (K x 1) + may_of K xs
@@ -62,14 +51,14 @@ ones-bounds K (x ∷ xs) (v ∷ f) p =
 must-under : (K : Candidates) (places : List ℕ) → IsFull K places → must_of K places ≤ may_of K places
 must-under K [] full = omega arith
 must-under K (x ∷ xs) full =
-    by (full 0 (omega arith)) (must-under K xs (λ k lt. full (suc k) (omega arith))) (count-cons (λ c. not (K c 0)) x xs) (count-cons (λ c. K c 1) x xs)
+    by (full 0 (omega arith)) (must-under K xs (λ k lt. full (suc k) (omega arith))) (count-cons _ x xs) (count-cons _ x xs)
   where
     by : (K x 0 ≡ true) ⊎ (K x 1 ≡ true) → must_of K xs ≤ may_of K xs
         → must_of K (x ∷ xs) ≡ num (not (K x 0)) + must_of K xs
         → may_of K (x ∷ xs) ≡ num (K x 1) + may_of K xs
         → must_of K (x ∷ xs) ≤ may_of K (x ∷ xs)
-    by (inl z) r a b = let e = no z in omega arith
-    by (inr o) r a b = let e = yes o in let m = num-most (not (K x 0)) in omega arith
+    by (inl z) r a b = omega (arith, no z)
+    by (inr o) r a b = omega (arith, yes o, num-most (not (K x 0)))
 
 -- each number between the bounds is that of a filling
 abbrev Reached : Candidates → List ℕ → ℕ → Type 0
@@ -99,11 +88,11 @@ reached-more K x xs n full low high rest = elim (cases_Bool (K x 0)) [
     must_cons = count-cons (λ c. not (K c 0)) x xs
 
     may_cons : may_of K (x ∷ xs) ≡ num (K x 1) + may_of K xs
-    may_cons = count-cons (λ c. K c 1) x xs
+    may_cons = count-cons _ x xs
 
     one : K x 1 ≡ true → must_of K xs + 1 ≤ n → Reached K (x ∷ xs) n
     one o some =
-        let w = rest (n - 1) (omega arith) (let b = may_cons in let e = yes o in omega arith) in
+        let w = rest (n - 1) (omega arith) (omega (arith, may_cons, yes o)) in
         (1 ∷ w.0, Fills-cons _ (sets_at 2 xs K) 1 w.0 (sets_at-value 2 (x ∷ xs) K 0 1 (omega arith) (omega arith) ∙ o) w.1, omega (arith, w.2))
 
 ones-reached : (K : Candidates) (places : List ℕ) (n : ℕ) → IsFull K places → must_of K places ≤ n → n ≤ may_of K places → Reached K places n
@@ -134,7 +123,7 @@ module _ (K : Candidates) (places : List ℕ) (k v : ℕ) (different : AreDiffer
 
   must-fixed : must_of fixed places + num (not (K cell 0)) ≡ must_of K places + v
   must-fixed =
-      count-at (λ c. not (K c 0)) (λ c. not (fixed c 0)) cell (λ c ne. ap not (others 0 ne)) places
+      count-at _ _ cell (λ c ne. ap not (others 0 ne)) places
       (distinct-from places different) (has_place-here places k lt)
       ∙ ap (λ n. must_of K places + n) (by v low refl)
     where
@@ -143,7 +132,7 @@ module _ (K : Candidates) (places : List ℕ) (k v : ℕ) (different : AreDiffer
 
   may-fixed : may_of fixed places + num (K cell 1) ≡ may_of K places + v
   may-fixed =
-      count-at (λ c. K c 1) (λ c. fixed c 1) cell (λ c ne. others 1 ne) places (distinct-from places different) (has_place-here places k lt)
+      count-at _ _ cell (λ c ne. others 1 ne) places (distinct-from places different) (has_place-here places k lt)
       ∙ ap (λ n. may_of K places + n) (by v low refl)
     where
       by : (u : ℕ) → u < 2 → u ≡ v → num (fixed cell 1) ≡ u
@@ -158,7 +147,7 @@ module _ (K : Candidates) (places : List ℕ) (k v : ℕ) (different : AreDiffer
     (filled-at K places p lj).0,
     elim (cases_eq (slice_index places j) cell) [
       | inl here ↦ rw (different j k lj lt here, at) own
-      | inr there ↦ others (get_or f j 0) there ∙ (filled-at K places p lj).1
+      | inr there ↦ others _ there ∙ (filled-at K places p lj).1
     ],
   ))
 
@@ -167,7 +156,7 @@ module _ (K : Candidates) (places : List ℕ) (k v : ℕ) (different : AreDiffer
     filled-from K places f (p.len ∙ length-sets_at 2 places fixed)
         (λ j lj. let w = filled-at fixed places p lj in
         (w.0, (and_parts (K (slice_index places j) (get_or f j 0)) _ w.1).0)),
-    elim (cases_eq (get_or f k 0) v) [
+    elim (cases_eq _ v) [
       | inl is ↦ is
       | inr ne ↦ absurd (true≢false (sym (filled-at fixed places p lt).1 ∙ own-alone ne))
     ],
@@ -186,17 +175,11 @@ module _ (K : Candidates) (places : List ℕ) (k v : ℕ) (different : AreDiffer
       let n = may-fixed in
       let w =
       ones-reached fixed places (max least (must_of fixed places)) (full-fixed full)
-      (omega arith) (let u = must-under fixed places (full-fixed full) in omega arith) in
+      (omega arith) (omega (arith, must-under fixed places (full-fixed full))) in
       let o = filled-fixed w.0 w.1 in
-      (w.0, record { fills = o.0; holds_true = and_from _ _ (le-leb least (nonzeros w.0) (omega (arith, w.2))) (le-leb (nonzeros w.0) most (omega (arith, w.2))); has_it = o.1 })
+      (w.0, record { fills = o.0; holds_true = and_from _ _ (le-leb least _ (omega (arith, w.2))) (le-leb _ most (omega (arith, w.2))); has_it = o.1 })
 
   -- a cell that has both values may hold a one and need not
   pub open-room : IsFull K places → is_open K cell ≡ true → must_of K places < may_of K places
   open-room full both =
-      let w = and_parts (K cell 0) (K cell 1) both in
-      let m = must-fixed in
-      let n = may-fixed in
-      let z = no w.0 in
-      let o = yes w.1 in
-      let u = must-under fixed places (full-fixed full) in
-      omega arith
+      let w = and_parts (K cell 0) (K cell 1) both in omega (arith, must-fixed, may-fixed, no w.0, yes w.1, must-under fixed places (full-fixed full))

@@ -1,25 +1,8 @@
 -- What a visit of a count house leaves of its cells, by the tally of the house.
-use Rattle.std.proofs.Common.{◌≡◌, ℕ, zero, suc, ◌+◌, ◌*◌, ◌<◌, ◌≤◌, Bool, true, false, not, true≢false, ◌&&◌, ◌||◌, cond, eqb, ltb, length, slice_index, refl, sym, ◌∙◌, ap, arith, ◌⊎◌, inl, inr}
-use Rattle.std.proofs.Math.Bool.{and-true, and-false}
-use Rattle.std.proofs.lemmas.Bool.{cases_Bool, cases_eq, false_from_ne_true, and_parts, or_cases, or_parts, eqb-true, eq-eqb, ne_eqb, le-ltb, ltb-true, ltb-false}
-use Rattle.grid_core.specs.Candidates.{Candidates}
-use Rattle.engine_core.specs.RuleSystem.{has_place}
-use Rattle.engine_core.specs.PlaceLaws.{has_place-at, has_place-here}
-use Rattle.engine_core.specs.Sets.{has_bit, IsBitsOf}
-use Rattle.engine_core.specs.Filling.{IsShown, strikes_by_fillings}
-use Rattle.engine_core.specs.FillingLaws.{shown_from_test, test_from_shown}
-use Rattle.engine_core.specs.HouseSets.{sets_at}
-use Rattle.engine_core.specs.HouseSetsLaws.{strikes_at-place, strikes_at-in_scope}
-use Rattle.fields_core.specs.Count.{counts_between, is_open, is_empty}
-use Rattle.fields_core.specs.CountHouse.{CountHouse, IsHouse, after_house, strikes_of}
-use Rattle.fields_core.specs.CountLists.{bounds_of}
-use Rattle.fields_core.specs.Tallies.{IsTally, lacks_filling, has_strikes, stays, kept_of}
-use Rattle.fields_core.specs.declared.count.list.Bounds.{Bounds}
-use Rattle.fields_core.specs.declared.count.tally.Tally.{Tally}
+use Rattle.fields_core.proofs.Common.{Bool, Bounds, Candidates, CountHouse, IsBitsOf, IsHouse, IsShown, IsTally, Tally, after_house, and-false, and-true, and_parts, ap, arith, bounds_of, cases_Bool, cases_eq, common_steps, cond, counts_between, eq-eqb, eqb, eqb-true, false, false_from_ne_true, has_bit, has_place, has_place-at, has_place-here, has_strikes, inl, inr, is_empty, is_open, kept_of, lacks_filling, le-ltb, length, ltb, ltb-false, ltb-true, ne_eqb, not, or_cases, or_parts, refl, sets_at, shown_from_test, slice_index, stays, strikes_at-in_scope, strikes_at-place, strikes_by_fillings, strikes_of, suc, sym, test_from_shown, true, true≢false, zero, ℕ, ◌&&◌, ◌*◌, ◌+◌, ◌<◌, ◌||◌, ◌∙◌, ◌≡◌, ◌≤◌, ◌⊎◌}
 use Rattle.fields_core.proofs.BelowLemmas.{any-some}
 use Rattle.fields_core.proofs.PlaceLists.{num, count-some, some-counted}
 use Rattle.fields_core.proofs.CountBounds.{IsFull, filled-at, shown-bounds, bounds-shown, open-room}
-use Rattle.std.proofs.lemmas.Grind.{common_steps}
 
 -- ---- a cell that is empty
 not-empty : (K : Candidates) (c : ℕ) {v : ℕ} → v < 2 → K c v ≡ true → is_empty K c ≡ true → ⊥
@@ -29,13 +12,13 @@ by-value : (K : Candidates) (c v : ℕ) → v < 2 → K c v ≡ true → cond (e
 by-value K c v low on = grind (arith, common_steps, cases_eq v 0, ne_eqb)
 
 within-values : (v : ℕ) (zero_on one_on : Bool) → v < 2 → cond (eqb v 0) zero_on one_on ≡ true → (v ≤ num one_on) × (num (not zero_on) ≤ v)
-within-values v zero_on one_on low on = grind (arith, common_steps, cases_eq v 0, ne_eqb, cases_Bool zero_on, cases_Bool one_on)
+within-values v zero_on one_on low on = grind (arith, common_steps, cases_eq, ne_eqb)
 
 -- there is room for a value that a cell has, unless it has both and the value's bound is reached
 room : {least most must may : ℕ} (v : ℕ) (zero_on one_on : Bool) → v < 2 → cond (eqb v 0) zero_on one_on ≡ true → least ≤ may → must ≤ most
     → ((zero_on && one_on) && (((eqb v 1) && (eqb must most)) || ((eqb v 0) && (eqb may least)))) ≡ false
     → (least + num one_on ≤ may + v) × (must + v ≤ most + num (not zero_on))
-room v zero_on one_on low on few many off = grind (arith, common_steps, cases_Bool zero_on, cases_Bool one_on, cases_eq v 0, eq-eqb, ne_eqb)
+room v zero_on one_on low on few many off = grind (arith, common_steps, cases_eq, eq-eqb, ne_eqb)
 
 neither : {k : Bool} (a b : Bool) → (k && not ((a && false) || (b && false))) ≡ k
 neither a b = grind (arith, common_steps)
@@ -63,15 +46,15 @@ module _ (cells : ℕ) (house : CountHouse) (K : Candidates) (t : Tally) (is : I
       let m = tally.must_is in
       let n = tally.may_is in
       let u = within-values v (K (at k) 0) (K (at k) 1) low (by-value K (at k) v low on) in
-      elim (or_cases (ltb 0 t.empty) _ lacks) [
+      elim (or_cases _ _ lacks) [
         | inl some ↦
-            let d = any-some (is_empty K) house.places (sym (some-counted (is_empty K) house.places) ∙ ap (ltb 0) (sym tally.empty_is) ∙ some) in
+            let d = any-some _ house.places (sym (some-counted _ house.places) ∙ ap (ltb 0) (sym tally.empty_is) ∙ some) in
             let j = has_place-at house.places d.0 d.1 in
             let w = filled-at K house.places s.fills j.1 in
             not-empty K (at j.0) w.0 w.1 (rw j.2 d.2)
-        | inr rest ↦ elim (or_cases (ltb house.most house.least) _ rest) [
+        | inr rest ↦ elim (or_cases _ _ rest) [
           | inl none ↦ let e = ltb-true house.most house.least none in absurd (omega arith)
-          | inr more ↦ elim (or_cases (ltb t.may house.least) (ltb house.most t.must) more) [
+          | inr more ↦ elim (or_cases _ _ more) [
             | inl few ↦ let e = ltb-true t.may house.least few in absurd (omega (arith, b.1, u.0))
             | inr many ↦ let e = ltb-true house.most t.must many in absurd (omega (arith, b.2, u.1))
           ]
@@ -103,24 +86,24 @@ module _ (cells : ℕ) (house : CountHouse) (K : Candidates) (t : Tally) (is : I
               let b = shown-bounds K house.places k v is.different lt low on house.least house.most shown in
               let m = tally.must_is in
               let n = tally.may_is in
-              let w = and_parts (is_open K (at k)) (at_bound v) reached in
+              let w = and_parts (is_open K (at k)) _ reached in
               let both = and_parts (K (at k) 0) (K (at k) 1) w.0 in
               let z : num (not (K (at k) 0)) ≡ 0 = rw both.0 refl in
               let o : num (K (at k) 1) ≡ 1 = rw both.1 refl in
-              elim (or_cases (eqb v 1 && eqb t.must house.most) (eqb v 0 && eqb t.may house.least) w.1) [
-                | inl one ↦ let e = and_parts (eqb v 1) _ one in let f = eqb-true v 1 e.0 in let g = eqb-true t.must house.most e.1 in omega (arith, b.2)
-                | inr none ↦ let e = and_parts (eqb v 0) _ none in let f = eqb-true v 0 e.0 in let g = eqb-true t.may house.least e.1 in omega (arith, b.1)
+              elim (or_cases _ _ w.1) [
+                | inl one ↦ let e = and_parts (eqb v 1) _ one in omega (arith, b.2, eqb-true v 1 e.0, eqb-true t.must house.most e.1)
+                | inr none ↦ let e = and_parts (eqb v 0) _ none in omega (arith, b.1, eqb-true v 0 e.0, eqb-true t.may house.least e.1)
               ]
       by on fills (inr free) =
-          let a = or_parts (ltb 0 t.empty) _ fills in
-          let order = or_parts (ltb house.most house.least) _ a.1 in
-          let ends = or_parts (ltb t.may house.least) _ order.1 in
+          let a = or_parts _ _ fills in
+          let order = or_parts _ _ a.1 in
+          let ends = or_parts _ _ order.1 in
           let none : t.empty ≡ 0 = let e = ltb-false 0 t.empty a.0 in omega arith in
           let w =
           room v (K (at k) 0) (K (at k) 1) low (by-value K (at k) v low on)
           (ltb-false t.may house.least ends.0) (ltb-false house.most t.must ends.1) free in
           ap not (test_from_shown _ _ k v (bounds-shown K house.places k v is.different lt low on (full none) (ltb-false house.most house.least order.0)
-          (let n = tally.may_is in omega (arith, w.0)) (let m = tally.must_is in omega (arith, w.1))) ∙ sym free)
+          (omega (arith, w.0)) (omega (arith, w.1))) ∙ sym free)
 
   -- ---- the board after a visit
   pub after-at : {k v : ℕ} → k < length house.places → v < 2 → after_house house K (at k) v ≡ (K (at k) v && stays t (bounds_of house) (is_open K (at k)) v)
@@ -133,7 +116,7 @@ module _ (cells : ℕ) (house : CountHouse) (K : Candidates) (t : Tally) (is : I
   -- a house that does not call strikes nothing
   pub idle-at : has_strikes t (bounds_of house) ≡ false → (c v : ℕ) → v < 2 → K c v ≡ true → strikes_of house K c v ≡ false
   unfolding after_house
-  idle-at off c v low on = elim (cases_Bool (has_place house.places c)) [
+  idle-at off c v low on = elim (cases_Bool _) [
     | inr out ↦ off-scope house K c v out
     | inl here ↦ let w = has_place-at house.places c here in
         rw (sym w.2) (by (K (at w.0) v) _ (rw (sym w.2) at on)
@@ -174,7 +157,7 @@ module _ (cells : ℕ) (house : CountHouse) (K : Candidates) (t : Tally) (is : I
 
 -- ---- the bits of a cell
 all-set : (bits : ℕ) → bits < 4 → eqb bits 3 ≡ (has_bit bits 0 && has_bit bits 1)
-all-set bits lt = grind (arith, common_steps, cases_eq bits 0, cases_eq bits 1, cases_eq bits 2, cases_eq bits 3)
+all-set bits lt = grind (arith, common_steps, cases_eq)
 
 kept-table : (none few most : Bool) (bits v : ℕ) → bits < 4 → v < 2
     → has_bit (cond none 0 (cond (eqb bits 3) (num (not few) + 2 * num (not most)) bits))
@@ -182,9 +165,9 @@ kept-table : (none few most : Bool) (bits v : ℕ) → bits < 4 → v < 2
     (eqb bits 3 && (((eqb v 1) && most) || ((eqb v 0) && few)))))
 kept-table true few most bits zero small low = sym (and-false (has_bit bits 0))
 kept-table true few most bits (suc zero) small low = sym (and-false (has_bit bits 1))
-kept-table false few most zero v small low = sym (and-true (has_bit 0 v))
-kept-table false few most (suc zero) v small low = sym (and-true (has_bit 1 v))
-kept-table false few most (suc (suc zero)) v small low = sym (and-true (has_bit 2 v))
+kept-table false few most zero v small low = sym (and-true _)
+kept-table false few most (suc zero) v small low = sym (and-true _)
+kept-table false few most (suc (suc zero)) v small low = sym (and-true _)
 kept-table false few most (suc (suc (suc zero))) zero small low = grind (arith, common_steps, cases_Bool few, cases_Bool most)
 kept-table false few most (suc (suc (suc zero))) (suc zero) small low = grind (arith, common_steps, cases_Bool few, cases_Bool most)
 kept-table none few most bits (suc (suc v)) small low = absurd (omega arith)
@@ -203,4 +186,4 @@ pub kept-strikes : {cells : ℕ} {house : CountHouse} (K : Candidates) {t : Tall
     (strikes_of house K (slice_index house.places k) v)
 unfolding after_house
 kept-strikes {cells} {house} K {t} is tally k v {bits} lt low of on =
-    kept-bits t (bounds_of house) K (slice_index house.places k) bits v of low ∙ sym (after-at cells house K t is tally lt low) ∙ rw on refl
+    kept-bits t (bounds_of house) K _ bits v of low ∙ sym (after-at cells house K t is tally lt low) ∙ rw on refl

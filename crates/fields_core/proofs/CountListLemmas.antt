@@ -1,23 +1,12 @@
 -- Lists of count houses, as they are made.
-use Rattle.std.proofs.Common.{◌≡◌, ℕ, zero, suc, ◌+◌, ◌<◌, ◌≤◌, cond, get_or, List, [], ◌∷◌, ◌++◌, length, map, Bool, true, false, refl, sym, ap, arith, add-one}
-use Rattle.std.proofs.lemmas.List.{get_or-map, append-nil, append_assoc, length-append, length-map, map-append}
-use Rattle.std.specs.List.{filter}
-use Rattle.grid_core.specs.Extent.{Extent}
-use Rattle.grid_core.specs.Regions.{steps}
-use Rattle.engine_core.specs.HouseList.{FitsLists, FitsPlaces}
-use Rattle.fields_core.specs.CountHouse.{CountHouse, AreHouses, count_house_of, houses_below, no_count_house}
-use Rattle.fields_core.specs.CountLaws.{places-at}
-use Rattle.fields_core.specs.CountLists.{house_places, bounds_of, AreListed, IsBegun, IsAdded}
+use Rattle.fields_core.proofs.Common.{AreHouses, AreListed, Bool, Bounds, CountHouse, CountList, Extent, FitsLists, FitsPlaces, IsAdded, IsBegun, List, [], add-one, ap, append-nil, append_assoc, arith, bounds_of, common_steps, cond, count_house_of, false, filter, get_or, get_or-map, house_places, houses_below, length, length-append, length-map, map, map-append, no_count_house, places-at, refl, steps, suc, sym, true, zero, ℕ, ◌++◌, ◌+◌, ◌<◌, ◌∷◌, ◌≡◌, ◌≤◌}
 use Rattle.fields_core.proofs.CountTallies.{AreCounted}
 use Rattle.fields_core.proofs.PlaceLists.{filter-few}
 use Rattle.fields_core.proofs.StepLaws.{steps-few}
-use Rattle.fields_core.specs.declared.count.list.Bounds.{Bounds}
-use Rattle.fields_core.specs.declared.count.list.CountList.{CountList}
-use Rattle.std.proofs.lemmas.Grind.{common_steps}
 
 -- ---- the cells of a house that is begun
 pub begun-none : (list : CountList) → IsBegun list list []
-begun-none list = record { closed = refl; begun = sym (append-nil list.list.begun); bounds = refl }
+begun-none list = grind (arith, common_steps, append-nil)
 
 pub begun-more : (a b c : CountList) (xs ys : List ℕ) → IsBegun a b xs → IsBegun b c ys → IsBegun a c (xs ++ ys)
 begun-more a b c xs ys p q = grind (arith, common_steps, append_assoc)
@@ -51,16 +40,11 @@ below-few f (suc n) each = omega (arith, length-append (houses_below f n) (f n),
 pub beside-fits : (a b : CountList) (test : ℕ → Bool) (size : Extent) (place n : ℕ)
     → IsBegun a b (filter test (steps size place n)) → n < 4 → FitsPlaces a.list 4
     → FitsPlaces b.list 1
-beside-fits a b test size place n begun lt fits =
-    let some = filter test (steps size place n) in
-    let long = ap length begun.begun in
-    omega (arith, fits, length-append a.list.begun some, filter-few test (steps size place n), steps-few size place n)
+beside-fits a b test size place n begun lt fits = grind (arith, common_steps, length-append, filter-few, steps-few)
 
 pub added-few : {a b : CountList} (f : ℕ → List CountHouse) (n : ℕ) → IsAdded a b (houses_below f n)
     → ((c : ℕ) → length (f c) ≤ 1) → length b.list.closed ≤ length a.list.closed + n
-added-few {a} f n added each =
-    let long = ap length added.closed in
-    omega (arith, length-append a.list.closed (map house_places (houses_below f n)), length-map (houses_below f n) house_places, below-few f n each)
+added-few {a} f n added each = grind (arith, common_steps, length-append, length-map, below-few)
 
 -- and so there is room for the next
 pub added-fits : {a b : CountList} (f : ℕ → List CountHouse) {n cells : ℕ}
@@ -79,7 +63,7 @@ four-added {a} {b} {c} {d} {e} f g h k {i} {j} {l} {m} {i'} {j'} {l'} {m'} none 
 
 -- ---- a table of their cells, and their bounds
 pub counted-table : {cells : ℕ} {houses : List CountHouse} → AreHouses cells houses → AreCounted cells (map house_places houses) houses
-counted-table {houses} are = record { as_many = length-map houses house_places; places = places-at houses; each = are }
+counted-table {houses} are = grind (arith, common_steps, length-map, places-at)
 
 pub bounds-at : (houses : List CountHouse) {bounds : List Bounds} {h : ℕ} (d : Bounds)
     → bounds ≡ map bounds_of houses → h < length houses

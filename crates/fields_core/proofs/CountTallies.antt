@@ -1,23 +1,5 @@
 -- What is counted of the cells of count houses.
-use Rattle.std.proofs.lemmas.Grind.{common_steps}
-use Rattle.std.proofs.Common.{◌≡◌, ℕ, ◌+◌, ◌-◌, ◌<◌, ◌≤◌, Bool, true, false, not, ◌&&◌, eqb, cond, List, suc, [], ◌∷◌, length, slice_index, set, take, refl, sym, ◌∙◌, ap, ap₂, subst, inl, inr, arith}
-use Rattle.std.specs.List.{count_by}
-use Rattle.std.proofs.lemmas.Bool.{cases_Bool, cases_eq, true≢false}
-use Rattle.std.proofs.Math.Path.{fun_ext}
-use Rattle.std.proofs.lemmas.List.{length-set, take_all, get_or-set_same, get_or-set_other}
-use Rattle.std.proofs.lemmas.List.Sums.{sum_by_more, count_by-le-length}
-use Rattle.grid_core.specs.Candidates.{Candidates, count_below}
-use Rattle.engine_core.specs.RuleSystem.{has_place}
-use Rattle.engine_core.specs.PlaceLaws.{AreDistinct, distinct-from}
-use Rattle.engine_core.specs.HouseIndex.{scope_of, number_at, AreHousesAt}
-use Rattle.engine_core.proofs.IndexLemmas.{counted, numbered}
-use Rattle.engine_core.specs.Sets.{has_bit, IsBitsOf, IsChange}
-use Rattle.fields_core.specs.Count.{is_empty}
-use Rattle.fields_core.specs.CountHouse.{CountHouse, IsHouse, count_house_of, strikes_of}
-use Rattle.fields_core.specs.Tallies.{IsTally, tally_of, tally_of_one, has_strikes, moved_tally, CanMove, tally_at, AreTallied}
-use Rattle.fields_core.specs.CountLists.{bounds_of}
-use Rattle.fields_core.specs.declared.count.list.Bounds.{Bounds}
-use Rattle.fields_core.specs.declared.count.tally.Tally.{Tally}
+use Rattle.fields_core.proofs.Common.{AreDistinct, AreHousesAt, AreTallied, Bool, Bounds, CanMove, Candidates, CountHouse, IsBitsOf, IsChange, IsHouse, IsTally, List, Tally, [], ap, ap₂, arith, bounds_of, cases_Bool, cases_eq, common_steps, cond, count_by, count_by-le-length, count_house_of, counted, distinct-from, eqb, false, get_or-set_other, get_or-set_same, has_bit, has_place, has_strikes, inl, inr, is_empty, length, length-set, moved_tally, not, number_at, numbered, refl, scope_of, set, slice_index, strikes_of, subst, suc, sum_by_more, sym, take, take_all, tally_at, tally_of, tally_of_one, true, true≢false, ℕ, ◌&&◌, ◌+◌, ◌-◌, ◌<◌, ◌∙◌, ◌∷◌, ◌≡◌, ◌≤◌}
 use Rattle.fields_core.proofs.PlaceLists.{num, count-cons, count-off, count-at, count-there}
 use Rattle.fields_core.proofs.CountKept.{idle-at}
 
@@ -39,7 +21,7 @@ sets-all sets n t is ge = rw (take_all n sets ge) at is
 
 -- no bit of two is set
 none-set : (bits : ℕ) → bits < 4 → eqb bits 0 ≡ (not (has_bit bits 0) && not (has_bit bits 1))
-none-set bits lt = grind (arith, common_steps, cases_eq bits 0, cases_eq bits 1, cases_eq bits 2, cases_eq bits 3)
+none-set bits lt = grind (arith, common_steps, cases_eq)
 
 -- one count after a cell changed
 one-moved : (p q : ℕ → Bool) (place : ℕ) → ((c : ℕ) → (c ≡ place → ⊥) → q c ≡ p c) → (places : List ℕ) → has_place places place ≡ true → AreDistinct places
@@ -58,22 +40,16 @@ counts-as f g [] [] e same = refl
 counts-as f g [] (y ∷ ys) e same = absurd (omega arith)
 counts-as f g (x ∷ xs) [] e same = absurd (omega arith)
 counts-as f g (x ∷ xs) (y ∷ ys) e same =
-    let rest = counts-as f g xs ys (omega arith) (λ k lt. same (suc k) (omega arith)) in
-    let first = same 0 (omega arith) in
-    omega (arith, count-cons f x xs, count-cons g y ys)
+    omega (arith, count-cons f x xs, count-cons g y ys, counts-as f g xs ys (omega arith) (λ k lt. same (suc k) (omega arith)), same 0 (omega arith))
 
 -- the sets of a house's cells have the house's tally
 pub sets-tally : (K : Candidates) {places : List ℕ} (sets : List ℕ) → length sets ≡ length places
     → ((k : ℕ) → k < length places → IsBitsOf (K (slice_index places k)) 2 (slice_index sets k))
     → IsTally K places (tally_of sets)
-sets-tally K {places} sets long bits = record {
-  must_is = counts-as (λ b. not (has_bit b 0)) (λ c. not (K c 0)) sets places long (λ k lt. (bits-counted K _ (bits k (omega arith))).0);
-  may_is = counts-as (λ b. has_bit b 1) (λ c. K c 1) sets places long (λ k lt. (bits-counted K _ (bits k (omega arith))).1);
-  empty_is = counts-as (λ b. eqb b 0) (is_empty K) sets places long (λ k lt. (bits-counted K _ (bits k (omega arith))).2);
-}
+sets-tally K {places} sets long bits = grind (arith, common_steps, counts-as, bits-counted)
 
-module _ (cells : ℕ) (K L : Candidates) (place before after : ℕ)
-    (change : IsChange cells 2 K L place before after) (places : List ℕ) (t : Tally)
+module _ {cells : ℕ} {K L : Candidates} {place before after : ℕ}
+    (change : IsChange cells 2 K L place before after) {places : List ℕ} {t : Tally}
     (is : IsTally K places t) where
   other : {c : ℕ} → (c ≡ place → ⊥) → (v : ℕ) → L c v ≡ K c v
   other {c} ne v = change.others c v ne
@@ -83,15 +59,15 @@ module _ (cells : ℕ) (K L : Candidates) (place before after : ℕ)
 
   module _ (on : has_place places place ≡ true) (different : AreDistinct places) where
     must_moved : (num (not (has_bit before 0)) ≤ t.must) × ((moved_tally t before after).must ≡ count_by (λ c. not (L c 0)) places)
-    must_moved = one-moved (λ c. not (K c 0)) (λ c. not (L c 0)) place (λ c ne. ap not (other ne 0))
+    must_moved = one-moved _ _ place (λ c ne. ap not (other ne 0))
         places on different is.must_is (bits-counted K place change.before_is).0 (bits-counted L place change.after_is).0
 
     may_moved : (num (has_bit before 1) ≤ t.may) × ((moved_tally t before after).may ≡ count_by (λ c. L c 1) places)
-    may_moved = one-moved (λ c. K c 1) (λ c. L c 1) place (λ c ne. other ne 1)
+    may_moved = one-moved _ _ place (λ c ne. other ne 1)
         places on different is.may_is (bits-counted K place change.before_is).1 (bits-counted L place change.after_is).1
 
     empty_moved : (num (eqb before 0) ≤ t.empty) × ((moved_tally t before after).empty ≡ count_by (is_empty L) places)
-    empty_moved = one-moved (is_empty K) (is_empty L) place (λ c ne. ap₂ (λ a b. not a && not b) (other ne 0) (other ne 1))
+    empty_moved = one-moved _ _ place (λ c ne. ap₂ (λ a b. not a && not b) (other ne 0) (other ne 1))
         places on different is.empty_is (bits-counted K place change.before_is).2 (bits-counted L place change.after_is).2
 
     pub tally-moved : IsTally L places (moved_tally t before after)
@@ -99,14 +75,7 @@ module _ (cells : ℕ) (K L : Candidates) (place before after : ℕ)
 
     -- no count passes the number of cells
     pub can-move : length places ≤ 512 → CanMove t before after
-    can-move few = record {
-      must_before = must_moved.0;
-      may_before = may_moved.0;
-      empty_before = empty_moved.0;
-      few_must = omega (arith, must_moved.1, count_by-le-length (λ c. not (L c 0)) places);
-      few_may = omega (arith, may_moved.1, count_by-le-length (λ c. L c 1) places);
-      few_empty = omega (arith, empty_moved.1, count_by-le-length (is_empty L) places);
-    }
+    can-move few = grind (arith, common_steps, must_moved, may_moved, empty_moved, count_by-le-length)
 
 -- ---- a table of houses, and the tallies of all of them
 -- as a table of scopes has it
@@ -116,41 +85,22 @@ pub record AreCounted (cells : ℕ) (scopes : List (List ℕ)) (houses : List Co
   pub each : (h : ℕ) → h < length houses → IsHouse cells (count_house_of houses h)
 
 -- ---- the houses of a place, one after the other
-module _ (scopes : List (List ℕ)) (place : ℕ) (listed : List ℕ) (at : AreHousesAt scopes place listed) where
+module _ {scopes : List (List ℕ)} {place : ℕ} {listed : List ℕ} (at : AreHousesAt scopes place listed) where
   -- a house of the list is one that has the place, and its number among these is its place in the list
   pub in-list : (k : ℕ) → k < length listed
       → (slice_index listed k < length scopes)
       × (has_place (scope_of scopes (slice_index listed k)) place ≡ true)
       × (number_at scopes (slice_index listed k) place ≡ k)
   in-list k lt =
-      let w = numbered (λ j. has_place (scope_of scopes j) place) (length scopes) k (let e = at.as_many in omega arith) in
-      let same : slice_index listed k ≡ w.0 = ap (slice_index listed) (sym w.3) ∙ at.each w.0 w.1 w.2 in
+      let w = numbered _ _ k (omega arith) in
+      let same = ap (slice_index listed) (sym w.3) ∙ at.each w.0 w.1 w.2 in
       rw same (w.1, w.2, w.3)
 
   pub not-twice : (j k : ℕ) → j < length listed → k < length listed → slice_index listed j ≡ slice_index listed k → j ≡ k
   not-twice j k lj lk e = sym (in-list j lj).2 ∙ ap (λ h. number_at scopes h place) e ∙ (in-list k lk).2
 
   pub listed-at : (h : ℕ) → h < length scopes → has_place (scope_of scopes h) place ≡ true → number_at scopes h place < length listed
-  listed-at h lt on = let c = counted (λ j. has_place (scope_of scopes j) place) h (length scopes) lt on in let e = at.as_many in omega arith
-
--- the houses of the list, by the houses that count
-module _ (cells : ℕ) (scopes : List (List ℕ)) (houses : List CountHouse)
-    (table : AreCounted cells scopes houses) (place : ℕ) (listed : List ℕ)
-    (at : AreHousesAt scopes place listed) where
-  abbrev has_it : ℕ → Bool
-  has_it h = has_place (count_house_of houses h).places place
-
-  same-houses : (λ h. has_place (scope_of scopes h) place) ≡ has_it
-  same-houses = fun_ext λ h. ap (λ l. has_place l place) (table.places h)
-
-  pub listed-house : (k : ℕ) → k < length listed
-      → (slice_index listed k < length houses) × (has_it (slice_index listed k) ≡ true)
-      × (count_below has_it (slice_index listed k) ≡ k)
-  listed-house k lt = let w = in-list scopes place listed at k lt in
-      (omega (arith, w.0, table.as_many), ap (λ (f : ℕ → Bool). f (slice_index listed k)) (sym same-houses) ∙ w.1, ap (λ f. count_below f (slice_index listed k)) (sym same-houses) ∙ w.2)
-
-  pub listed-all : count_below has_it (length houses) ≡ length listed
-  listed-all = ap₂ count_below (sym same-houses) (sym table.as_many) ∙ sym at.as_many
+  listed-at h lt on = grind (arith, common_steps, counted)
 
 pub record AreMovedBelow (old new : List Tally) (listed : List ℕ) (before after n : ℕ) : Type 0 where
   pub as_many : length new ≡ length old
@@ -165,7 +115,7 @@ pub moved-next : {old new : List Tally} {listed : List ℕ} {before after n : �
 moved-next {new} {listed} {n} {t} m lt twice within is = record {
   as_many = length-set new (slice_index listed n) t ∙ m.as_many;
   moved = λ k low. elim (cases_eq k n) [
-    | inl e ↦ rw e (get_or-set_same new (slice_index listed n) t none (let s = m.as_many in omega arith) ∙ is)
+    | inl e ↦ rw e (get_or-set_same new (slice_index listed n) t none (omega arith) ∙ is)
     | inr ne ↦ get_or-set_other new (slice_index listed n) (slice_index listed k) t none
         (λ same. ne (twice k n (omega arith) lt same)) ∙ m.moved k (omega arith)
   ];
@@ -175,15 +125,15 @@ moved-next {new} {listed} {n} {t} m lt twice within is = record {
     none : Tally
     none = record { must = 0; may = 0; empty = 0 }
 
-module _ (cells : ℕ) (scopes : List (List ℕ)) (houses : List CountHouse)
-    (table : AreCounted cells scopes houses) (K L : Candidates) (place before after : ℕ)
-    (change : IsChange cells 2 K L place before after)
-    (old : List Tally) (tallied : AreTallied cells houses old K) (listed : List ℕ) (at : AreHousesAt scopes place listed) where
+module _ {cells : ℕ} {scopes : List (List ℕ)} {houses : List CountHouse}
+    (table : AreCounted cells scopes houses) {K L : Candidates} {place before after : ℕ}
+    (change : IsChange cells 2 K L place before after) {old : List Tally}
+    (tallied : AreTallied cells houses old K) {listed : List ℕ} (at : AreHousesAt scopes place listed) where
   there : (h : ℕ) → has_place (scope_of scopes h) place ≡ true → has_place (count_house_of houses h).places place ≡ true
   there h on = ap (λ l. has_place l place) (sym (table.places h)) ∙ on
 
   distinct : (h : ℕ) → h < length houses → AreDistinct (count_house_of houses h).places
-  distinct h lt = distinct-from (count_house_of houses h).places (table.each h lt).different
+  distinct h lt = grind (arith, common_steps, distinct-from)
 
   -- what a step of the loop may rely on
   pub record IsMovable (tallies : List Tally) (k : ℕ) : Type 0 where
@@ -194,40 +144,36 @@ module _ (cells : ℕ) (scopes : List (List ℕ)) (houses : List CountHouse)
   pub movable : {new : List Tally} {k : ℕ} → AreMovedBelow old new listed before after k → k < length listed → IsMovable new k
   movable {k} m lt =
       let h = slice_index listed k in
-      let w = in-list scopes place listed at k lt in
+      let w = in-list at k lt in
       let low : h < length houses = let e = table.as_many in omega (arith, w.0) in
       let is = tallied.each h low in
       let on = there h w.1 in
-      let same = m.kept h (λ j less e. let twice = not-twice scopes place listed at j k (omega arith) lt e in absurd (omega arith)) in
+      let same = m.kept h (λ j less e. let twice = not-twice at j k (omega arith) lt e in absurd (omega arith)) in
       record {
-        low = let l = tallied.long in let a = m.as_many in omega arith;
+        low = omega arith;
         same = same;
         can =
-            rw same (can-move cells K L place before after change (count_house_of houses h).places
-            (tally_at old h) is on (distinct h low) (table.each h low).few_places);
+            rw same (can-move change is on (distinct h low) (table.each h low).few_places);
       }
 
   pub tallied-moved : {new : List Tally} → AreMovedBelow old new listed before after (length listed) → AreTallied cells houses new L
   tallied-moved {new} m = record {
-    long = let a = m.as_many in let b = tallied.long in omega arith;
+    long = omega arith;
     within = λ c v on. elim (cases_eq c place) [
       | inl e ↦ (rw e change.place_in, change.within v (rw e at on))
       | inr ne ↦ tallied.within c v (sym (change.others c v ne) ∙ on)
     ];
-    each = λ h lt. elim (cases_Bool (has_place (scope_of scopes h) place)) [
+    each = λ h lt. elim (cases_Bool _) [
       | inl on ↦
           let low : h < length scopes = let e = table.as_many in omega arith in
           let here = at.each h low on in
           let same : tally_at new h ≡ moved_tally (tally_at old h) before after =
           rw here at (m.moved (number_at scopes h place)
-          (listed-at scopes place listed at h low on)) in
-          rw same (tally-moved cells K L place before after change (count_house_of houses h).places
-          (tally_at old h) (tallied.each h lt) (there h on) (distinct h lt))
+          (listed-at at h low on)) in
+          rw same (tally-moved change (tallied.each h lt) (there h on) (distinct h lt))
       | inr off ↦
-          let same = m.kept h (λ k low e. true≢false (sym (rw e at (in-list scopes place listed at k low).1) ∙ off)) in
-          rw same (tally-kept cells K L place before after change (count_house_of houses h).places
-          (tally_at old h) (tallied.each h lt)
-          (ap (λ l. has_place l place) (sym (table.places h)) ∙ off))
+          let same = m.kept h (λ k low e. true≢false (sym (rw e at (in-list at k low).1) ∙ off)) in
+          rw same (tally-kept change (tallied.each h lt) (ap (λ l. has_place l place) (sym (table.places h)) ∙ off))
     ];
   }
 

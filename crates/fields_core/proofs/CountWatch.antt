@@ -1,17 +1,9 @@
 -- A board read cell by cell: the cells not yet read have both values.
-use Rattle.std.proofs.Common.{◌≡◌, ℕ, ◌+◌, ◌<◌, ◌≤◌, ◌^◌, ◌&&◌, cond, true, ltb, List, length, refl, arith}
-use Rattle.std.proofs.Math.Path.{fun_ext}
-use Rattle.std.proofs.lemmas.Bool.{cases_lt, lt-ltb, le-ltb, ltb-true, and_parts, false_from_ne_true, cases_eq}
-use Rattle.grid_core.specs.Board.{Layout, has, cells_of}
-use Rattle.grid_core.specs.Candidates.{Candidates, IsWithin}
+use Rattle.fields_core.proofs.Common.{AreTallied, Candidates, CountHouse, IsBitsOf, IsChange, IsHouse, IsTally, IsWithin, Layout, List, Tally, and_parts, arith, cases_eq, cases_lt, common_steps, cond, count_house_of, false_from_ne_true, fun_ext, has, has_bit, le-ltb, length, lt-ltb, ltb, ltb-true, open_tally, refl, tally_at, true, ℕ, ◌&&◌, ◌+◌, ◌<◌, ◌^◌, ◌≡◌, ◌≤◌}
+use Rattle.grid_core.specs.Board.{cells_of}
 use Rattle.grid_core.proofs.BoardLemmas.{has-within}
-use Rattle.engine_core.specs.Sets.{has_bit, IsBitsOf, IsChange}
-use Rattle.fields_core.specs.CountHouse.{CountHouse, IsHouse, count_house_of}
-use Rattle.fields_core.specs.Tallies.{IsTally, open_tally, tally_at, AreTallied}
-use Rattle.fields_core.specs.declared.count.tally.Tally.{Tally}
 use Rattle.fields_core.proofs.CountTallies.{AreCounted}
 use Rattle.fields_core.proofs.PlaceLists.{count-none, count-every}
-use Rattle.std.proofs.lemmas.Grind.{common_steps}
 
 -- the bits of both values
 both : (v : ℕ) → v < 2 → has_bit 3 v ≡ true
@@ -49,8 +41,8 @@ module _ {cells : ℕ} (K : Candidates) where
 
 -- ---- a board of two values
 pub board-within : (b : Layout) {cells : ℕ} → cells_of b ≡ cells → b.values ≡ 2 → IsWithin cells 2 (has b)
-board-within b e two c v on = let w = has-within b c v on in (omega (arith, w.0), omega (arith, w.1))
+board-within b e two c v on = grind (arith, common_steps, has-within)
 
 pub bits-are : (b : Layout) (c : ℕ) {bits : ℕ} → b.values ≡ 2 → bits < 2 ^ b.values
     → ((v : ℕ) → v < b.values → has_bit bits v ≡ has b c v) → IsBitsOf (has b c) 2 bits
-bits-are b c two small same = record { small = rw two at small; same = λ v low. same v (omega arith) }
+bits-are b c two small same = grind (arith, common_steps)

@@ -1,19 +1,6 @@
 -- Lists of houses and of places that a loop makes.
-use Rattle.std.proofs.Common.{◌≡◌, ℕ, ◌+◌, ◌-◌, ◌/◌, ◌%◌, ◌<◌, Bool, true, false, not, [], ◌∷◌, ◌++◌, length, Some, None, refl, sym, ap, add-one, arith}
-use Rattle.std.specs.List.{filter, slice_get}
-use Rattle.std.proofs.lemmas.Bool.{cond-true, cond-false, ne_eqb}
-use Rattle.std.proofs.lemmas.List.{append-nil}
-use Rattle.std.proofs.Math.Nat.{div-eq_of_lt, lt-div-mul-add}
-use Rattle.std.proofs.lemmas.List.Elements.{filter-append}
-use Rattle.std.proofs.lemmas.List.FromFn.{length-map-range_with_len}
-use Rattle.grid_core.specs.Extent.{Extent}
-use Rattle.grid_core.specs.Regions.{row_places, column_places, steps, step}
-use Rattle.gameid_core.specs.Puzzles.{Light}
-use Rattle.gameid_core.specs.declared.light_up.cell.LightCell.TheVariants.{White, Black}
-use Rattle.fields_core.specs.Light.{white}
-use Rattle.fields_core.specs.LightHouses.{begins_row_run, begins_column_run, number_house}
+use Rattle.fields_core.proofs.Common.{Black, Bool, Extent, Light, None, Some, White, [], add-one, ap, append-nil, arith, begins_column_run, begins_row_run, column_places, common_steps, cond-false, cond-true, div-eq_of_lt, false, filter, filter-append, length, length-map-range_with_len, lt-div-mul-add, ne_eqb, not, number_house, refl, row_places, slice_get, step, steps, sym, true, white, ℕ, ◌%◌, ◌++◌, ◌+◌, ◌-◌, ◌/◌, ◌<◌, ◌∷◌, ◌≡◌}
 use Rattle.fields_core.proofs.LightLines.{cell-at}
-use Rattle.std.proofs.lemmas.Grind.{common_steps}
 
 pub row-long : (size : Extent) (y : ℕ) → length (row_places size y) ≡ size.w
 row-long size y = length-map-range_with_len _ 0 size.w
@@ -57,7 +44,7 @@ column-black p c off = rw (sym off) refl
 
 pub column-edge : (p : Light) (c w : ℕ) → w ≡ p.size.w → true ≡ white p c → c < w → true ≡ begins_column_run p c
 unfolding begins_column_run
-column-edge p c w e on edge = let top : c / w ≡ 0 = div-eq_of_lt {n = c} {m = w} edge in rw (sym on, rw e at top) refl
+column-edge p c w e on edge = grind (arith, common_steps, div-eq_of_lt)
 
 pub column-after : (p : Light) (c w : ℕ) (b : Bool) → 0 < w → w ≡ p.size.w → true ≡ white p c
     → (c < w → ⊥) → b ≡ white p (c - w) → not b ≡ begins_column_run p c

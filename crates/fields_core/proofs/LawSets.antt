@@ -17,9 +17,7 @@ use Rattle.fields_core.proofs.TentNumbers.{count-none, listed-all, listed-skip}
 use Rattle.fields_core.proofs.TentPairLemmas.{count-is, listed-tents, others-unpaired, short-unpaired, whole-pairs}
 use Rattle.fields_core.proofs.TentRuleLemmas.{tents-from-solution, tents-tell, solution-from-tents}
 use Rattle.fields_core.proofs.VisitLemmas.{sweep-first, sweep-more}
-use Rattle.std.proofs.lemmas.Bool.{eq-eqb, ne_eqb}
-use Rattle.std.proofs.Math.Nat.{mul-le-mul_right}
-use Rattle.std.proofs.lemmas.List.{append-nil, append_assoc, map-append, take_all}
+use Rattle.fields_core.proofs.Common.{append-nil, append_assoc, eq-eqb, map-append, mul-le-mul_right, ne_eqb, take_all}
 
 pub ruleset count_rules_laws = (start-blocked, same-shape, start-all)
 

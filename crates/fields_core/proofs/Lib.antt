@@ -1,3 +1,4 @@
+pub mod Common
 pub mod CountBounds
 pub mod PartCounts
 pub mod PartLemmas

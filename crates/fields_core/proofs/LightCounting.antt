@@ -1,30 +1,12 @@
 -- The count houses of Light Up keep to what every rule set of count houses keeps to.
-use Rattle.engine_core.specs.RuleSystem.{IsLawful}
-use Rattle.fields_core.specs.CountLaws.{count-lawful}
-use Rattle.std.proofs.Common.{◌≡◌, ℕ, zero, suc, ◌+◌, ◌*◌, ◌/◌, ◌%◌, ◌<◌, ◌≤◌, true, not, ◌&&◌, ◌||◌, eqb, List, [], ◌∷◌, ◌++◌, length, get_or, slice_index, refl, sym, ap, ◌∙◌, inl, inr, arith}
-use Rattle.std.specs.List.{filter, AllByRecursion}
-use Rattle.std.proofs.lemmas.Bool.{cases_eq, or_left, or_right, or_cases, and_from, and_parts, true≢false, eqb-true, eq-eqb, ne_eqb, not-true}
-use Rattle.std.proofs.lemmas.List.{length-append}
-use Rattle.std.proofs.lemmas.List.Sums.{count_by-le-length}
-use Rattle.std.proofs.Math.Nat.{mul-le-mul_right}
-use Rattle.grid_core.specs.Grids.{IsGrid}
-use Rattle.grid_core.specs.Regions.{row_places, column_places, steps}
-use Rattle.grid_core.proofs.CandidateLemmas.{all_below-at, any_below-here, any_below-some}
-use Rattle.engine_core.specs.RuleSystem.{has_place}
-use Rattle.engine_core.specs.PlaceLaws.{has_place-here, AreDistinct, place-filter, place-kept, place-append, place-front, place-back, distinct-filter, distinct-append}
-use Rattle.gameid_core.specs.Puzzles.{Light, IsLight, IsLightCell}
-use Rattle.gameid_core.specs.declared.light_up.cell.LightCell.{LightCell}
-use Rattle.gameid_core.specs.declared.light_up.cell.LightCell.TheVariants.{White, Black, Numbered}
-use Rattle.fields_core.specs.CountHouse.{exactly, one_at_most, one_at_least, IsCounting}
-use Rattle.fields_core.specs.Light.{light_cells, white, bulb, joined_in_row, joined_in_column, sees, sees_bulb, bulbs_beside, black_right, number_right, bulb_right, lit_right, solves_lights}
-use Rattle.fields_core.specs.LightHouses.{light_rules, row_run, column_run, seen_from, begins_row_run, begins_column_run, numbered, number_house, row_house, column_house, lit_house, light_houses}
+use Rattle.fields_core.proofs.Common.{AllByRecursion, AreDistinct, Black, IsCounting, IsGrid, IsLawful, IsLight, IsLightCell, Light, LightCell, List, Numbered, White, [], all_below-at, and_from, and_parts, any_below-here, any_below-some, ap, arith, begins_column_run, begins_row_run, black_right, bulb, bulb_right, bulbs_beside, cases_eq, column_house, column_places, column_run, common_steps, count-lawful, count_by-le-length, distinct-append, distinct-filter, eq-eqb, eqb, eqb-true, exactly, filter, get_or, has_place, has_place-here, inl, inr, joined_in_column, joined_in_row, length, length-append, light_cells, light_houses, light_rules, lit_house, lit_right, mul-le-mul_right, ne_eqb, not, not-true, number_house, number_right, one_at_least, one_at_most, or_cases, or_left, or_right, place-append, place-back, place-filter, place-front, place-kept, refl, row_house, row_places, row_run, seen_from, sees, sees_bulb, slice_index, solves_lights, steps, suc, sym, true, true≢false, white, zero, ℕ, ◌%◌, ◌&&◌, ◌*◌, ◌++◌, ◌+◌, ◌/◌, ◌<◌, ◌||◌, ◌∙◌, ◌∷◌, ◌≡◌, ◌≤◌}
+use Rattle.fields_core.specs.LightHouses.{numbered}
 use Rattle.fields_core.proofs.LightFaultLemmas.{lit-parts}
 use Rattle.fields_core.proofs.LightSight.{bulb-in, row-of, column-of}
 use Rattle.fields_core.proofs.HouseLists.{row-long, column-long}
 use Rattle.fields_core.proofs.PlaceLists.{count-some, count-one, count-filter, filter-few}
 use Rattle.fields_core.proofs.StepLaws.{steps-distinct, steps-few}
 use Rattle.fields_core.proofs.LightHouseLaws.{IsMet, met-from, EachOf, each-none, each-one, each-append, each-below, each-if, row-both, column-both, row-white-end, column-white-end, row-self, white-in, row-distinct, column-distinct, row-parts, column-parts}
-use Rattle.std.proofs.lemmas.Grind.{common_steps}
 
 -- what is used of a puzzle
 pub record IsBoard (p : Light) : Type 0 where
@@ -64,7 +46,7 @@ no-sight p g grid good d e bd be joined = elim (cases_eq d e) [
 -- ---- the houses of numbers
 number-kind : (p : Light) (c : ℕ) → IsBoard p → c < light_cells p → EachOf (IsMet (light_cells p) (solves_lights p)) (number_house p c)
 unfolding number_right
-number-kind p c board lt = by (get_or p.cells c Black) refl
+number-kind p c board lt = by _ refl
   where
     places : List ℕ
     places = filter (white p) (steps p.size c 4)
@@ -86,31 +68,27 @@ number-kind p c board lt = by (get_or p.cells c Black) refl
 -- ---- the houses of runs
 pub row-run-joined : (p : Light) (c d : ℕ) → has_place (row_run p c) d ≡ true → joined_in_row p c d ≡ true
 unfolding row_run
-row-run-joined p c d on = (place-filter (joined_in_row p c) (row_places p.size (c / p.size.w)) d on).1
+row-run-joined p c d on = grind (arith, common_steps, place-filter)
 
 pub column-run-joined : (p : Light) (c d : ℕ) → has_place (column_run p c) d ≡ true → joined_in_column p c d ≡ true
 unfolding column_run
-column-run-joined p c d on = (place-filter (joined_in_column p c) (column_places p.size (c % p.size.w)) d on).1
+column-run-joined p c d on = grind (arith, common_steps, place-filter)
 
 pub row-run-few : {p : Light} (c : ℕ) → IsBoard p → length (row_run p c) ≤ 256
 unfolding row_run
-row-run-few {p} c board = let a =
-    filter-few (joined_in_row p c) (row_places p.size (c / p.size.w)) in
-    let b = row-long p.size (c / p.size.w) in let w = board.w_few in omega arith
+row-run-few {p} c board = grind (arith, common_steps, filter-few, row-long)
 
 pub column-run-few : {p : Light} (c : ℕ) → IsBoard p → length (column_run p c) ≤ 256
 unfolding column_run
-column-run-few {p} c board = let a =
-    filter-few (joined_in_column p c) (column_places p.size (c % p.size.w)) in
-    let b = column-long p.size (c % p.size.w) in let w = board.h_few in omega arith
+column-run-few {p} c board = grind (arith, common_steps, filter-few, column-long)
 
 row-run-distinct : (p : Light) (c : ℕ) → AreDistinct (row_run p c)
 unfolding row_run
-row-run-distinct p c = distinct-filter (joined_in_row p c) (row_places p.size (c / p.size.w)) (row-distinct p.size (c / p.size.w))
+row-run-distinct p c = distinct-filter _ _ (row-distinct p.size _)
 
 column-run-distinct : (p : Light) (c : ℕ) → IsBoard p → AreDistinct (column_run p c)
 unfolding column_run
-column-run-distinct p c board = distinct-filter (joined_in_column p c) (column_places p.size (c % p.size.w)) (column-distinct p.size (c % p.size.w) board.some)
+column-run-distinct p c board = distinct-filter _ _ (column-distinct p.size _ board.some)
 
 -- cells of which each sees each hold one bulb at most
 run-kind : (p : Light) {run : List ℕ} → AreDistinct run → length run ≤ 256 → ((d : ℕ) → has_place run d ≡ true → d < light_cells p)
@@ -157,10 +135,10 @@ lit-kind p c board lt on = met-from
     -- a cell of the row and of the column is the cell itself
     apart : (d : ℕ) → has_place (row_run p c) d ≡ true → has_place (filter (λ d. not (eqb d c)) (column_run p c)) d ≡ true → ⊥
     apart d a b =
-        let v = place-filter (λ d. not (eqb d c)) (column_run p c) d b in
+        let v = place-filter _ _ d b in
         let r = row-parts p c d (row-run-joined p c d a) in
         let q = column-parts p c d (column-run-joined p c d v.0) in
-        let e : d ≡ c = same-cell p.size.w (sym r.0) (sym q.0) in
+        let e = same-cell p.size.w (sym r.0) (sym q.0) in
         true≢false (sym (eq-eqb d c e) ∙ not-true (eqb d c) v.1)
       where
         same-cell : (w : ℕ) → d / w ≡ c / w → d % w ≡ c % w → d ≡ c
@@ -168,26 +146,26 @@ lit-kind p c board lt on = met-from
 
     distinct : AreDistinct (row_run p c ++ filter (λ d. not (eqb d c)) (column_run p c))
     distinct =
-        distinct-append (row_run p c) (filter (λ d. not (eqb d c)) (column_run p c))
-        (row-run-distinct p c) (distinct-filter (λ d. not (eqb d c)) (column_run p c)
+        distinct-append _ _
+        (row-run-distinct p c) (distinct-filter _ _
         (column-run-distinct p c board)) apart
 
     some-bulb : (g : List ℕ) → IsGrid (light_cells p) 2 g → solves_lights p g ≡ true
         → (d : ℕ) × (has_place (row_run p c ++ filter (λ d. not (eqb d c)) (column_run p c))
         d ≡ true) × (bulb g d ≡ true)
-    some-bulb g grid good = elim (or_cases (not (white p c)) _ (all_below-at (lit_right p g) (light_cells p) c (lit-parts p g good).lit lt)) [
+    some-bulb g grid good = elim (or_cases (not (white p c)) _ (all_below-at _ _ c (lit-parts p g good).lit lt)) [
       | inl black ↦ absurd (true≢false (sym on ∙ not-true (white p c) black))
       | inr lit ↦ elim (or_cases (bulb g c) _ lit) [
-        | inl own ↦ (c, place-front (row_run p c) (filter (λ d. not (eqb d c)) (column_run p c)) c (in-row-run p c c board.some (row-self p c on)), own)
+        | inl own ↦ (c, place-front _ _ c (in-row-run p c c board.some (row-self p c on)), own)
         | inr seen ↦
-            let w = any_below-some (λ e. not (eqb c e) && (joined_in_row p c e || joined_in_column p c e) && eqb (slice_index g e) 1) (light_cells p) seen in
-            let both = and_parts (not (eqb c w.0) && (joined_in_row p c w.0 || joined_in_column p c w.0)) _ w.2 in
-            let parts = and_parts (not (eqb c w.0)) _ both.0 in (
+            let w = any_below-some _ _ seen in
+            let both = and_parts _ _ w.2 in
+            let parts = and_parts _ _ both.0 in (
               w.0,
-              elim (or_cases (joined_in_row p c w.0) (joined_in_column p c w.0) parts.1) [
-                | inl row ↦ place-front (row_run p c) (filter (λ d. not (eqb d c)) (column_run p c)) w.0 (in-row-run p c w.0 board.some row)
-                | inr column ↦ place-back (row_run p c) (filter (λ d. not (eqb d c)) (column_run p c)) w.0
-                    (place-kept (λ d. not (eqb d c)) (column_run p c) w.0 (in-column-run p c w.0 board.some w.1 column)
+              elim (or_cases _ _ parts.1) [
+                | inl row ↦ place-front _ _ w.0 (in-row-run p c w.0 board.some row)
+                | inr column ↦ place-back _ _ w.0
+                    (place-kept _ _ w.0 (in-column-run p c w.0 board.some w.1 column)
                     (ap not (ne_eqb w.0 c (λ e. true≢false (sym (eq-eqb c w.0 (sym e)) ∙ not-true (eqb c w.0) parts.0)))))
               ],
               both.1,
@@ -225,13 +203,13 @@ light-board is = grind (arith, common_steps, number-few)
 pub light-counting : {p : Light} → IsLight p → IsCounting (light_cells p) (λ c. not (white p c)) (light_houses p) (solves_lights p)
 unfolding black_right
 light-counting {p} is = record {
-  few_cells = let b = light-board is in let a : p.size.w * p.size.h ≤ 256 * p.size.h = mul-le-mul_right p.size.h b.w_few in let h = b.h_few in omega arith;
+  few_cells = let b = light-board is in omega (arith, mul-le-mul_right p.size.h b.w_few);
   are_houses = λ h lt. (each-met p (light-board is) h lt).is_house;
   blocked_zero =
-      λ g grid good c lt blocked. elim (or_cases (white p c) (eqb (slice_index g c) 0)
-      (all_below-at (black_right p g) (light_cells p) c (lit-parts p g good).black lt)) [
+      λ g grid good c lt blocked. elim (or_cases (white p c) _
+      (all_below-at _ _ c (lit-parts p g good).black lt)) [
         | inl on ↦ absurd (true≢false (sym on ∙ not-true (white p c) blocked))
-        | inr none ↦ eqb-true (slice_index g c) 0 none
+        | inr none ↦ eqb-true _ 0 none
       ];
   meets_each = λ g grid good h lt. (each-met p (light-board is) h lt).met g grid good;
 }

@@ -1,10 +1,5 @@
 -- The four parts of the test of a grid of Light Up.
-use Rattle.std.proofs.Common.{◌≡◌, ℕ, true, List, arith}
-use Rattle.std.proofs.lemmas.Bool.{and_from, and_parts}
-use Rattle.std.proofs.lemmas.Grind.{common_steps}
-use Rattle.grid_core.specs.Candidates.{all_below}
-use Rattle.gameid_core.specs.Puzzles.{Light}
-use Rattle.fields_core.specs.Light.{light_cells, black_right, number_right, bulb_right, lit_right, solves_lights}
+use Rattle.fields_core.proofs.Common.{Light, List, all_below, and_from, and_parts, arith, black_right, bulb_right, common_steps, light_cells, lit_right, number_right, solves_lights, true, ℕ, ◌≡◌}
 
 pub lit-from : (p : Light) (g : List ℕ) → all_below (black_right p g) (light_cells p) ≡ true → all_below (number_right p g) (light_cells p) ≡ true
     → all_below (bulb_right p g) (light_cells p) ≡ true → all_below (lit_right p g) (light_cells p) ≡ true → solves_lights p g ≡ true

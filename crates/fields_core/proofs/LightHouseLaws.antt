@@ -1,25 +1,8 @@
 -- The houses of Light Up are houses, and each solution meets them.
-use Rattle.std.proofs.Common.{◌≡◌, ℕ, zero, suc, ◌+◌, ◌-◌, ◌*◌, ◌/◌, ◌%◌, ◌<◌, ◌≤◌, min, max, Bool, true, false, not, ◌||◌, eqb, ltb, cond, List, [], ◌∷◌, ◌++◌, length, slice_index, refl, sym, ap, ◌∙◌, inl, inr, arith, le-leb}
-use Rattle.std.proofs.lemmas.Bool.{cases_Bool, cases_lt, cases_eq, or_left, or_right, or_cases, or_parts, and_from, and_parts, false_from_ne_true, eqb-true, eq-eqb, lt-ltb, ltb-true, true≢false}
-use Rattle.std.specs.List.{filter, count_by}
-use Rattle.std.proofs.lemmas.List.{get_or_past}
-use Rattle.std.proofs.lemmas.List.Elements.{filter_agree}
-use Rattle.std.proofs.Math.Nat.{div-eq_of_lt, mul-le-mul_right}
-use Rattle.grid_core.specs.Extent.{Extent}
-use Rattle.grid_core.specs.Regions.{row_places, column_places}
-use Rattle.grid_core.proofs.RegionLemmas.{row-at, column-at}
-use Rattle.grid_core.proofs.CandidateLemmas.{all_below-at, all_below-from}
-use Rattle.gameid_core.specs.Puzzles.{Light}
-use Rattle.engine_core.specs.RuleSystem.{has_place}
-use Rattle.engine_core.specs.PlaceLaws.{AreDistinct, distinct-from, different-from}
-use Rattle.grid_core.specs.Grids.{IsGrid}
-use Rattle.fields_core.specs.CountHouse.{CountHouse, count_house_of, houses_below, meets, IsHouse}
-use Rattle.fields_core.specs.Light.{light_cells, white, bulb, clear, joined_in_row, joined_in_column}
-use Rattle.fields_core.specs.LightHouses.{row_run, column_run, begins_row_run, begins_column_run}
+use Rattle.fields_core.proofs.Common.{AreDistinct, Bool, CountHouse, Extent, IsGrid, IsHouse, Light, List, [], all_below-at, all_below-from, and_from, and_parts, ap, arith, begins_column_run, begins_row_run, bulb, cases_Bool, cases_eq, cases_lt, clear, column-at, column_places, column_run, common_steps, cond, count_by, count_house_of, different-from, distinct-from, div-eq_of_lt, eq-eqb, eqb, eqb-true, false, false_from_ne_true, filter, filter_agree, get_or_past, has_place, houses_below, inl, inr, joined_in_column, joined_in_row, le-leb, length, light_cells, lt-ltb, ltb, ltb-true, max, meets, min, mul-le-mul_right, not, or_cases, or_left, or_parts, or_right, refl, row-at, row_places, row_run, slice_index, suc, sym, true, true≢false, white, zero, ℕ, ◌%◌, ◌*◌, ◌++◌, ◌+◌, ◌-◌, ◌/◌, ◌<◌, ◌||◌, ◌∙◌, ◌∷◌, ◌≡◌, ◌≤◌}
 use Rattle.fields_core.proofs.HouseLists.{row-long, column-long}
 use Rattle.fields_core.proofs.TentBeside.{cell-below, cell-parts, whole-cell}
 use Rattle.fields_core.proofs.PlaceLists.{ones-bulbs}
-use Rattle.std.proofs.lemmas.Grind.{common_steps}
 
 -- ---- what holds of each house of a list
 abbrev pub EachOf : (CountHouse → Type 0) → List CountHouse → Type 0
@@ -40,7 +23,7 @@ each-append P (x ∷ xs) ys ex ey (suc h) lt = each-append P xs ys (λ k l. ex (
 pub each-below : (P : CountHouse → Type 0) (f : ℕ → List CountHouse) (n : ℕ) → ((c : ℕ) → c < n → EachOf P (f c)) → EachOf P (houses_below f n)
 unfolding houses_below
 each-below P f zero each = each-none P
-each-below P f (suc n) each = each-append P (houses_below f n) (f n) (each-below P f n (λ c lt. each c (omega arith))) (each n (omega arith))
+each-below P f (suc n) each = each-append P _ (f n) (each-below P f n (λ c lt. each c (omega arith))) (each n (omega arith))
 
 pub each-if : (P : CountHouse → Type 0) (b : Bool) (house : CountHouse) → (b ≡ true → P house) → EachOf P (cond b (house ∷ []) [])
 each-if P true house is = each-one P house (is refl)
@@ -66,8 +49,8 @@ met-from within distinct few least most counted = grind (arith, common_steps, di
 pub clear-at : (test : ℕ → Bool) (j k i : ℕ) → clear test j k ≡ true → min j k ≤ i → i ≤ max j k → test i ≡ true
 unfolding clear
 clear-at test j k i on low high =
-    elim (or_cases (ltb i (min j k)) (test i)
-    (all_below-at (λ i. ltb i (min j k) || test i) (suc (max j k)) i on (omega arith))) [
+    elim (or_cases _ (test i)
+    (all_below-at (λ i. ltb i (min j k) || test i) _ i on (omega arith))) [
       | inl below ↦ let l = ltb-true i (min j k) below in absurd (omega arith)
       | inr here ↦ here
     ]
@@ -96,29 +79,29 @@ pub row-parts : (p : Light) (c d : ℕ) → joined_in_row p c d ≡ true
     → (c / p.size.w ≡ d / p.size.w)
     × (clear (λ x. white p (c / p.size.w * p.size.w + x)) (c % p.size.w) (d % p.size.w) ≡ true)
 unfolding joined_in_row
-row-parts p c d on = let w = and_parts (eqb (c / p.size.w) (d / p.size.w)) _ on in (eqb-true _ _ w.0, w.1)
+row-parts p c d on = let w = and_parts _ _ on in (eqb-true _ _ w.0, w.1)
 
 pub column-parts : (p : Light) (c d : ℕ) → joined_in_column p c d ≡ true
     → (c % p.size.w ≡ d % p.size.w)
     × (clear (λ y. white p (y * p.size.w + c % p.size.w)) (c / p.size.w) (d / p.size.w) ≡ true)
 unfolding joined_in_column
-column-parts p c d on = let w = and_parts (eqb (c % p.size.w) (d % p.size.w)) _ on in (eqb-true _ _ w.0, w.1)
+column-parts p c d on = grind (arith, common_steps, and_parts, eqb-true)
 
 pub row-both : (p : Light) (c d e : ℕ) → joined_in_row p c d ≡ true → joined_in_row p c e ≡ true → joined_in_row p d e ≡ true
 unfolding joined_in_row
 row-both p c d e a b =
     let v = row-parts p c d a in
     let w = row-parts p c e b in
-    and_from _ _ (eq-eqb (d / p.size.w) (e / p.size.w) (sym v.0 ∙ w.0))
-    (rw (sym v.0) (clear-both (λ x. white p (c / p.size.w * p.size.w + x)) (c % p.size.w) (d % p.size.w) (e % p.size.w) v.1 w.1))
+    and_from _ _ (eq-eqb _ _ (sym v.0 ∙ w.0))
+    (rw (sym v.0) (clear-both (λ x. white p (c / p.size.w * p.size.w + x)) _ _ _ v.1 w.1))
 
 pub column-both : (p : Light) (c d e : ℕ) → joined_in_column p c d ≡ true → joined_in_column p c e ≡ true → joined_in_column p d e ≡ true
 unfolding joined_in_column
 column-both p c d e a b =
     let v = column-parts p c d a in
     let w = column-parts p c e b in
-    and_from _ _ (eq-eqb (d % p.size.w) (e % p.size.w) (sym v.0 ∙ w.0))
-    (rw (sym v.0) (clear-both (λ y. white p (y * p.size.w + c % p.size.w)) (c / p.size.w) (d / p.size.w) (e / p.size.w) v.1 w.1))
+    and_from _ _ (eq-eqb _ _ (sym v.0 ∙ w.0))
+    (rw (sym v.0) (clear-both (λ y. white p _) _ _ _ v.1 w.1))
 
 pub row-white-end : (p : Light) (c d : ℕ) → 0 < p.size.w → joined_in_row p c d ≡ true → white p d ≡ true
 row-white-end p c d pos on =
@@ -144,7 +127,7 @@ column-self p c on = grind (arith, common_steps, and_from, eq-eqb, clear-from)
 -- the run of a row goes on at a white cell, unless one begins there
 module _ (p : Light) (c d : ℕ) (some : 0 < p.size.w) (next : c + 1 ≡ d) (before : white p c ≡ true) (on : white p d ≡ true) (inner : d % p.size.w ≡ 0 → ⊥) where
   parts : (c / p.size.w ≡ d / p.size.w) × (c % p.size.w ≡ d % p.size.w - 1)
-  parts = cell-parts p.size.w (d / p.size.w) (d % p.size.w - 1) c (omega (arith, some)) (omega (arith, inner))
+  parts = grind (arith, common_steps, cell-parts)
 
   row-next : joined_in_row p c d ≡ true
   unfolding joined_in_row

@@ -1,18 +1,6 @@
 -- Where the houses of runs stand in a list of houses, and which of them a walk over the cells has come to.
-use Rattle.std.proofs.Common.{◌≡◌, ℕ, zero, suc, ◌+◌, ◌%◌, ◌<◌, ◌≤◌, Bool, true, false, not, eqb, cond, List, [], ◌∷◌, ◌++◌, length, get_or, map, set, slice_index, refl, sym, ap, subst, ◌∙◌, inl, inr, arith}
-use Rattle.std.proofs.lemmas.Bool.{cases_lt}
-use Rattle.std.proofs.lemmas.List.{length-append, length-map, map-append, append_assoc, get_or_append_left, get_or-append-add, get_or-set_other, get_or-set_same}
+use Rattle.fields_core.proofs.Common.{AreColumnsListed, AreRowsListed, AreRunsListed, Bool, CountHouse, CountList, IsAdded, IsColumnsAt, IsListAt, IsRowsAt, Light, List, [], ap, append_assoc, arith, begins_column_run, begins_row_run, cases_lt, column_house, column_run, common_steps, cond, eqb, false, filter, get_or, get_or-append-add, get_or-set_other, get_or-set_same, get_or_append_left, house_places, houses_below, inl, inr, length, length-append, length-map, light_cells, lit_house, map, map-append, mod-lt, mul-le-mul_right, not, one_at_least, one_at_most, refl, row_house, row_run, seen_from, set, slice_index, subst, suc, sym, true, white, zero, ℕ, ◌%◌, ◌++◌, ◌+◌, ◌<◌, ◌∙◌, ◌∷◌, ◌≡◌, ◌≤◌}
 use Rattle.std.proofs.Math.ListN.{length-set}
-use Rattle.std.specs.List.{filter}
-use Rattle.std.proofs.Math.Nat.{mod-lt, mul-le-mul_right}
-use Rattle.gameid_core.specs.Puzzles.{Light}
-use Rattle.std.proofs.lemmas.Grind.{common_steps}
-use Rattle.fields_core.specs.CountHouse.{CountHouse, houses_below, one_at_least, one_at_most}
-use Rattle.fields_core.specs.CountLists.{house_places, IsAdded}
-use Rattle.fields_core.specs.declared.count.list.CountList.{CountList}
-use Rattle.fields_core.specs.Light.{light_cells, white}
-use Rattle.fields_core.specs.LightHouses.{row_run, column_run, seen_from, begins_row_run, begins_column_run, row_house, column_house, lit_house}
-use Rattle.fields_core.specs.LightRuns.{IsListAt, AreRunsListed, AreRowsListed, AreColumnsListed, IsRowsAt, IsColumnsAt}
 use Rattle.fields_core.proofs.CountListLemmas.{added-none, below-few, below-more, if-few}
 use Rattle.fields_core.proofs.LightHouseLaws.{column-run-on, row-run-on}
 use Rattle.fields_core.proofs.TentBeside.{cell-below, whole-cell}
@@ -30,13 +18,13 @@ below-at : (f : ℕ → List CountHouse) (n c : ℕ) (house : CountHouse) → c 
 unfolding houses_below
 below-at f zero c house lt e = absurd (omega arith)
 below-at f (suc n) c house lt e = rw (map-append house_places (houses_below f n) (f n)) (elim (cases_lt c n) [
-  | inl below ↦ listed-before (map house_places (f n)) (below-at f n c house below e)
+  | inl below ↦ listed-before _ (below-at f n c house below e)
   | inr last ↦
       let here : c ≡ n = omega arith in
       let long : length (map house_places (houses_below f n)) + 0 ≡ length (houses_below f c) =
       rw here (omega (arith, length-map (houses_below f n) house_places)) in
       subst (λ k. IsListAt (map house_places (houses_below f n) ++ map house_places (f n)) k house.places) long
-      (listed-behind (map house_places (houses_below f n)) (map house_places (f n)) 0
+      (listed-behind _ _ 0
       (rw (sym here, e) (record { within = omega arith; same = refl })))
 ])
 
@@ -68,7 +56,7 @@ rows-begun p lists first last next listed lt on is = grind (arith, common_steps,
 pub rows-same : (p : Light) (lists : List (List ℕ)) (first last next place : ℕ) → 0 < p.size.w → begins_row_run p place ≡ false
     → IsRowsAt p lists first last next place → IsRowsAt p lists first last next (place + 1)
 rows-same p lists first last next place some off is = record {
-  after = let e = is.after in omega (arith, length-more (row_house p) place, begun-one false (one_at_most (row_run p place)) off);
+  after = omega (arith, length-more (row_house p) place, begun-one false (one_at_most (row_run p place)) off);
   before = λ c e white.
       let here : c ≡ place = omega arith in
       let v = row-run-on p c some (rw here off) white in
@@ -91,7 +79,7 @@ pub columns-same : (p : Light) (lists : List (List ℕ)) (first : ℕ) (last : L
     → IsColumnsAt p lists first last next place → IsColumnsAt p lists first last next (place + 1)
 columns-same p lists first last next place some off is = record {
   wide = is.wide;
-  after = let f = is.after in omega (arith, length-more (column_house p) place, begun-one false (one_at_most (column_run p place)) off);
+  after = omega (arith, length-more (column_house p) place, begun-one false (one_at_most (column_run p place)) off, is.after);
   before = λ c less near white. elim (cases_lt c place) [
     | inl old ↦ is.before c old (omega arith) white
     | inr new ↦
@@ -99,7 +87,7 @@ columns-same p lists first last next place some off is = record {
         let v = column-run-on p c some (rw here off) white in
         let below = cell-below v.0 some in
         let line : v.0 % p.size.w ≡ c % p.size.w = sym below.1 ∙ ap (λ n. n % p.size.w) v.1 in
-        rw (v.3, line) at (is.before v.0 (let f = v.1 in omega arith) (let f = v.1 in omega arith) v.2)
+        rw (v.3, line) at (is.before v.0 (omega (arith, v.1)) (omega (arith, v.1)) v.2)
   ];
 }
 
@@ -130,11 +118,11 @@ lit-none p place none off = added-none none (rw off refl)
 
 -- the numbers of houses are small
 pub rows-few : {p : Light} {lists : List (List ℕ)} {first last next place : ℕ} → IsRowsAt p lists first last next place → next ≤ first + place
-rows-few {p} {place} is = let e = is.after in omega (arith, below-few (row_house p) place (λ c. if-few (begins_row_run p c) _))
+rows-few {p} {place} is = grind (arith, common_steps, below-few, if-few)
 
 pub columns-few : {p : Light} {lists : List (List ℕ)} {first : ℕ} {last : List ℕ} {next place : ℕ}
     → IsColumnsAt p lists first last next place → next ≤ first + place
-columns-few {p} {place} is = let e = is.after in omega (arith, below-few (column_house p) place (λ c. if-few (begins_column_run p c) _))
+columns-few {p} {place} is = grind (arith, common_steps, below-few, if-few)
 
 -- the houses of one more cell
 pub added-next : {a b d : CountList} (f : ℕ → List CountHouse) (n : ℕ)

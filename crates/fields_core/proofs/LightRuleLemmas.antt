@@ -1,29 +1,15 @@
 -- In Light Up the test of a solution is the rule.
-use Rattle.std.proofs.Common.{◌≡◌, ℕ, ◌+◌, ◌*◌, ◌/◌, ◌%◌, ◌<◌, ◌≤◌, min, max, Bool, true, false, not, ◌&&◌, ◌||◌, eqb, List, [], ◌∷◌, get_or, slice_index, Option, is_some, refl, sym, ◌∙◌, inl, inr, arith}
-use Rattle.std.specs.List.{AllByRecursion}
-use Rattle.std.proofs.lemmas.Bool.{cases_lt, or_left, or_right, or_cases, or_parts, and_from, and_parts, true≢false, not-false, ne_eqb, eqb-true, eq-eqb, not-true, cases_eq}
-use Rattle.std.proofs.lemmas.Nat.{div-mul-add, mod-mul-add, le-div}
-use Rattle.std.proofs.Math.Nat.{mul-le-mul_right, mod-lt, div-mul-le_self}
-use Rattle.grid_core.specs.Grids.{IsGrid}
-use Rattle.grid_core.proofs.CandidateLemmas.{all_below-at, all_below-from, any_below-here, any_below-some}
-use Rattle.gameid_core.specs.Puzzles.{Light}
-use Rattle.gameid_core.specs.declared.light_up.cell.LightCell.{LightCell}
-use Rattle.gameid_core.specs.declared.light_up.cell.LightCell.TheVariants.{White, Black, Numbered}
-use Rattle.fields_core.specs.Light.{light_cells, white, bulb, bulbs_beside, number_is, joined_in_row, joined_in_column, sees, sees_bulb, black_right, number_right, bulb_right, lit_right, solves_lights}
+use Rattle.fields_core.proofs.Common.{AllByRecursion, AreRight, Black, Bool, FailsLight, IsGrid, IsKnown, IsLightFault, IsMade, Kind, Light, LightCell, List, NoneFails, Numbered, Option, White, [], all_below-at, all_below-from, and_from, and_parts, any_below-here, any_below-some, arith, black_right, bulb, bulb_right, bulbs_beside, cases_eq, cases_lt, common_steps, div-mul-add, div-mul-le_self, eq-eqb, eqb, eqb-true, false, get_or, inl, inr, is_some, joined_in_column, joined_in_row, known_tests, le-div, light_cells, light_tests, lit_right, max, min, mod-lt, mod-mul-add, mul-le-mul_right, ne_eqb, none_held, none_tells, not, not-false, not-true, number_is, number_right, or_cases, or_left, or_parts, or_right, refl, right_none, sees, sees_bulb, slice_index, solves_lights, sym, true, true≢false, white, ℕ, ◌%◌, ◌&&◌, ◌*◌, ◌+◌, ◌/◌, ◌<◌, ◌||◌, ◌∙◌, ◌∷◌, ◌≡◌, ◌≤◌}
 use Rattle.fields_core.specs.LightSolutions.{light_row, light_column, IsFromTo, AreJoined, Sees, SeesBulb, IsLightSolution}
-use Rattle.gameid_core.specs.FirstFailed.{NoneFails}
-use Rattle.gameid_core.proofs.FirstFailed.{AreRight, IsKnown, IsMade, Kind, known_tests, none_held, none_tells, right_none}
-use Rattle.fields_core.specs.LightFaults.{FailsLight, IsLightFault, light_tests}
 use Rattle.fields_core.specs.declared.light_up.fault.LightFault.{LightFault}
 use Rattle.fields_core.specs.declared.light_up.fault.LightFault.TheVariants as fault
 use Rattle.fields_core.proofs.LightFaultLemmas.{lit-from, lit-parts}
 use Rattle.fields_core.proofs.LightHouseLaws.{clear-at, clear-from, row-parts, column-parts}
 use Rattle.fields_core.proofs.LightSight.{some-column}
-use Rattle.std.proofs.lemmas.Grind.{common_steps}
 
 -- ---- who sees whom
 div-under : {a b w : ℕ} → 0 < w → a ≤ b → a / w ≤ b / w
-div-under {a} {b} {w} pos le = le-div (a / w) b w pos (let d = div-mul-le_self a w in omega arith)
+div-under {a} {b} {w} pos le = le-div (a / w) b w pos (omega (arith, div-mul-le_self a w))
 
 row-joined : (p : Light) (a b : ℕ) → joined_in_row p a b ≡ true → AreJoined p (light_row p) a b
 row-joined p a b on =
@@ -34,8 +20,8 @@ row-joined p a b on =
           let here : a / p.size.w * p.size.w + a % p.size.w ≡ a = omega arith in
           let there : a / p.size.w * p.size.w + b % p.size.w ≡ b = rw w.0 (omega arith) in
           let at : a / p.size.w * p.size.w + c % p.size.w ≡ c = rw (sym same) (omega arith) in
-          let inside = columns-between (a / p.size.w * p.size.w) a b c (a % p.size.w) (b % p.size.w) (c % p.size.w) here there at between in
-          rw at at (clear-at (λ x. white p (a / p.size.w * p.size.w + x)) (a % p.size.w) (b % p.size.w) (c % p.size.w) w.1 inside.0 inside.1);
+          let inside = columns-between _ a b c _ _ _ here there at between in
+          rw at at (clear-at (λ x. white p (a / p.size.w * p.size.w + x)) _ _ _ w.1 inside.0 inside.1);
     }
   where
     columns-between : (first a b c i j k : ℕ) → first + i ≡ a → first + j ≡ b → first + k ≡ c → IsFromTo a b c → (min i j ≤ k) × (k ≤ max i j)
@@ -63,12 +49,12 @@ column-joined p a b pos on =
 
 joined-column : (p : Light) (a b : ℕ) → 0 < p.size.w → AreJoined p (light_column p) a b → joined_in_column p a b ≡ true
 unfolding joined_in_column
-joined-column p a b pos is = and_from _ _ (eq-eqb (a % p.size.w) (b % p.size.w) is.same_line)
-    (clear-from (λ y. white p (y * p.size.w + a % p.size.w)) (a / p.size.w) (b / p.size.w) (λ y low high.
+joined-column p a b pos is = and_from _ _ (eq-eqb _ _ is.same_line)
+    (clear-from (λ y. white p _) _ _ (λ y low high.
     let here : a / p.size.w * p.size.w + a % p.size.w ≡ a = omega arith in
     let there : b / p.size.w * p.size.w + a % p.size.w ≡ b = rw is.same_line (omega arith) in
-    is.all_white (y * p.size.w + a % p.size.w) (mod-mul-add y p.size.w (a % p.size.w) (mod-lt a pos))
-    (places-between a b (a / p.size.w) (b / p.size.w) y p.size.w (a % p.size.w) here there low high)))
+    is.all_white (y * p.size.w + a % p.size.w) (mod-mul-add y p.size.w _ (mod-lt a pos))
+    (places-between a b _ _ y p.size.w _ here there low high)))
   where
     places-between : (a b i j y w x : ℕ) → i * w + x ≡ a → j * w + x ≡ b → min i j ≤ y → y ≤ max i j → IsFromTo a b (y * w + x)
     places-between a b i j y w x ea eb low high = grind (arith, common_steps, cases_lt, mul-le-mul_right)
@@ -87,7 +73,7 @@ bulb-rule pos on = grind (arith, common_steps, any_below-some, and_parts, sees-r
 
 rule-bulb : (p : Light) (g : List ℕ) (c : ℕ) → 0 < p.size.w → SeesBulb p g c → sees_bulb p g c ≡ true
 unfolding sees_bulb
-rule-bulb p g c pos is = any_below-here (λ d. sees p c d && bulb g d) (light_cells p) is.other is.within (and_from _ _ (rule-sees pos is.seen) is.has_bulb)
+rule-bulb p g c pos is = any_below-here _ _ is.other is.within (and_from _ _ (rule-sees pos is.seen) is.has_bulb)
 
 -- ---- the four rules
 number-rule : {cell : LightCell} {bulbs : ℕ} (n : ℕ) → number_is cell bulbs ≡ true → cell ≡ Numbered n → bulbs ≡ n
@@ -139,15 +125,12 @@ module _ (p : Light) (g : List ℕ) where
   module _ (grid : IsGrid (light_cells p) 2 g) where
     black-made : IsMade (FailsLight p g) black
     unfolding black_right
-    black-made = record {
-      failed = λ c lt off. grind (arith, common_steps, or_parts, slice_index, cases_eq (slice_index g c) 1, eq-eqb);
-      held = λ c lt on (bulb_on, off). grind (arith, common_steps, or_cases);
-    }
+    black-made = grind (arith, common_steps, or_parts, cases_eq, eq-eqb, or_cases)
 
     number-made : IsMade (FailsLight p g) number
     unfolding number_right
     number-made = record {
-      failed = λ c lt off. by c (get_or p.cells c Black) off refl;
+      failed = λ c lt off. by c _ off refl;
       held = λ c lt on (n, e, other). other (number-rule n on e);
     }
       where
@@ -158,17 +141,11 @@ module _ (p : Light) (g : List ℕ) where
 
     seen-made : IsMade (FailsLight p g) seen
     unfolding bulb_right
-    seen-made = record {
-      failed = λ c lt off. let parts = and_parts (bulb g c) (sees_bulb p g c) (not-false _ off) in (parts.0, bulb-rule (some-column p lt) parts.1);
-      held = λ c lt on (bulb_on, one). not-alone on bulb_on (rule-bulb p g c (some-column p lt) one);
-    }
+    seen-made = grind (arith, common_steps, and_parts, not-false, bulb-rule, some-column, not-alone, rule-bulb)
 
     dark-made : IsMade (FailsLight p g) dark
     unfolding lit_right
-    dark-made = record {
-      failed = λ c lt off. grind (arith, common_steps, or_parts, not-false, rule-bulb, some-column p lt);
-      held = λ c lt on (is_white, dark, unseen). grind (arith, common_steps, or_cases, not-true, bulb-rule, some-column p lt);
-    }
+    dark-made = grind (arith, common_steps, or_parts, not-false, rule-bulb, some-column, or_cases, not-true, bulb-rule)
 
     pub light-made : AllByRecursion (IsMade (FailsLight p g)) kinds
     light-made = (black-made, (number-made, (seen-made, (dark-made, tt))))
@@ -178,7 +155,7 @@ module _ (p : Light) (g : List ℕ) where
 
     -- no test fails a solution, and no other grid passes all
     pub light-none : IsLightSolution p g → NoneFails (FailsLight p g) (light_tests p)
-    light-none s = none_held (FailsLight p g) kinds (
+    light-none s = none_held _ kinds (
       (λ c lt (on, off). true≢false (sym (s.none_on_black c lt on) ∙ off)),
       (
         (λ c lt (k, e, other). other (s.numbers c k lt e)),
@@ -193,12 +170,12 @@ module _ (p : Light) (g : List ℕ) where
     test-from-rule s = none-right (right_none (FailsLight p g) kinds light-made (light-none s))
 
     pub light-sound : NoneFails (FailsLight p g) (light_tests p) → IsLightSolution p g
-    light-sound none = rule-from-test p g grid (none-right (right_none (FailsLight p g) kinds light-made none))
+    light-sound none = rule-from-test p g grid (none-right (right_none _ kinds light-made none))
 
     pub light-known : AllByRecursion (IsKnown (FailsLight p g)) (light_tests p)
-    light-known = known_tests (FailsLight p g) kinds light-made
+    light-known = known_tests _ kinds light-made
 
     pub light-tells : (fault : Option LightFault) {told : Bool} → IsLightFault p g fault → is_some fault ≡ not told → told ≡ solves_lights p g
     light-tells fault {told} is e =
-        none_tells (FailsLight p g) (light_tests p) light-none told (solves_lights p g)
+        none_tells _ _ light-none told _
         (rule-from-test p g grid) test-from-rule fault is e

@@ -1,13 +1,5 @@
 -- A cell sees a bulb exactly if a walk from it along its row or its column comes to one before a black cell.
-use Rattle.std.proofs.Common.{◌≡◌, ◌≢◌, ◌⊎◌, ℕ, ◌+◌, ◌-◌, ◌*◌, ◌/◌, ◌%◌, ◌<◌, ◌≤◌, Bool, true, false, not, ◌&&◌, ◌||◌, eqb, List, slice_index, sym, ap, ◌∙◌, inl, inr, arith}
-use Rattle.std.proofs.lemmas.Bool.{cases_lt, or_left, or_right, or_cases, and_from, and_parts, eq-eqb, ne_eqb, not-true, true≢false, false_from_ne_true}
-use Rattle.std.proofs.Math.Nat.{mod-lt}
-use Rattle.std.proofs.lemmas.Nat.{mul-add-lt}
-use Rattle.grid_core.proofs.CandidateLemmas.{any_below-here, any_below-some}
-use Rattle.gameid_core.specs.Puzzles.{Light}
-use Rattle.std.proofs.lemmas.Grind.{common_steps}
-use Rattle.fields_core.specs.Light.{light_cells, white, bulb, clear, joined_in_row, joined_in_column, sees, sees_bulb}
-use Rattle.fields_core.specs.Runs.{Shines, ShinesAlong, SeesAlong}
+use Rattle.fields_core.proofs.Common.{Bool, Light, List, SeesAlong, Shines, ShinesAlong, and_from, and_parts, any_below-here, any_below-some, ap, arith, bulb, cases_lt, clear, common_steps, eq-eqb, eqb, false, false_from_ne_true, inl, inr, joined_in_column, joined_in_row, light_cells, mod-lt, mul-add-lt, ne_eqb, not, not-true, or_cases, or_left, or_right, sees, sees_bulb, slice_index, sym, true, true≢false, white, ℕ, ◌%◌, ◌&&◌, ◌*◌, ◌+◌, ◌-◌, ◌/◌, ◌<◌, ◌||◌, ◌∙◌, ◌≡◌, ◌≢◌, ◌≤◌, ◌⊎◌}
 use Rattle.fields_core.proofs.LightHouseLaws.{clear-at, clear-from, mul-inj, row-parts, column-parts}
 use Rattle.fields_core.proofs.RunLemmas.{clear-same, row-cell-joined, column-cell-joined}
 use Rattle.fields_core.proofs.TentBeside.{row-in}
@@ -20,7 +12,7 @@ module _ (white bulb : ℕ → Bool) (at : ℕ) {low high next : ℕ} (k : ℕ) 
   walk-black dark off = λ i low_in lt joined. grind (arith, common_steps, clear-at white at i k joined, dark i, cases_lt)
 
   pub walk-bulb : ((i : ℕ) → low ≤ i → i < high → at + low ≤ i + next → i + low ≤ at + next → white i ≡ true) → white at ≡ true → white k ≡ true → bulb k ≡ true → Shines white bulb at low high true
-  walk-bulb pass start here on = (k, grind arith, grind arith, clear-from white at k (λ i low_in high_in. grind (arith, common_steps, pass i, cases_lt)), on)
+  walk-bulb pass start here on = grind (arith, common_steps, clear-from, white, cases_lt)
 
 -- ---- the line of a cell
 whole : (c w : ℕ) → c ≡ c / w * w + c % w
@@ -31,10 +23,10 @@ pub row-sees : (p : Light) (g : List ℕ) {c w : ℕ} (b : Bool) → 0 < w → w
 row-sees p g {c} {w} b some e in_grid s = by b s
   where
     same : (i : ℕ) → c - c % w + i * 1 ≡ c / p.size.w * p.size.w + i
-    same i = rw (sym e) (let f = whole c w in omega arith)
+    same i = rw (sym e) (omega (arith, whole c w))
 
     test : (i : ℕ) → clear (λ k. white p (c - c % w + k * 1)) (c % w) i ≡ clear (λ k. white p (c / p.size.w * p.size.w + k)) (c % p.size.w) i
-    test i = clear-same _ _ (c % w) i (λ k. ap (white p) (same k)) ∙ ap (λ n. clear (λ k. white p (c / p.size.w * p.size.w + k)) (c % n) i) e
+    test i = grind (arith, common_steps, clear-same, white, clear)
 
     by : (b : Bool) → ShinesAlong (λ i. white p (c - c % w + i * 1))
         (λ i. bulb g (c - c % w + i * 1)) (c % w) w b
@@ -43,14 +35,14 @@ row-sees p g {c} {w} b some e in_grid s = by b s
       c - c % w + s.0 * 1,
       rw (same s.0) (let lt : s.0 < p.size.w = rw (sym e) s.1 in
           omega (arith, mul-add-lt (c / p.size.w) p.size.w s.0 p.size.h (row-in {w = p.size.w} p.size.h c (rw (sym e) some) in_grid) lt)),
-      (λ f. s.2 (let v = whole c w in omega arith)),
+      (λ f. s.2 (omega (arith, whole c w))),
       ap (joined_in_row p c) (same s.0) ∙ row-cell-joined p c s.0 (rw (sym e) s.1) ∙ sym (test s.0) ∙ s.3,
       s.4,
     )
     by false s = λ d lt ne on.
         let v = row-parts p c d on in
-        let here : c - c % w + d % w * 1 ≡ d = same (d % w) ∙ rw (v.0, e) (sym (whole d p.size.w)) in
-        ap (bulb g) (sym here) ∙ s (d % w) (mod-lt d some) (λ f. ne (let u = whole c w in let t = here in omega arith)) (test (d % w) ∙ rw e v.1)
+        let here = same (d % w) ∙ rw (v.0, e) (sym (whole d p.size.w)) in
+        ap (bulb g) (sym here) ∙ s (d % w) (mod-lt d some) (λ f. ne (omega (arith, whole c w, here))) (test (d % w) ∙ rw e v.1)
 
 pub column-sees : (p : Light) (g : List ℕ) (c : ℕ) {w h : ℕ} (b : Bool) → 0 < w → w ≡ p.size.w → h ≡ p.size.h
     → ShinesAlong (λ i. white p (c % w + i * w)) (λ i. bulb g (c % w + i * w)) (c / w) h b → SeesAlong (joined_in_column p) (light_cells p) g c b
@@ -60,7 +52,7 @@ column-sees p g c {w} {h} b some e f s = by b s
     same i = rw (sym e) (omega arith)
 
     test : (i : ℕ) → clear (λ k. white p (c % w + k * w)) (c / w) i ≡ clear (λ k. white p (k * p.size.w + c % p.size.w)) (c / p.size.w) i
-    test i = clear-same _ _ (c / w) i (λ k. ap (white p) (same k)) ∙ ap (λ n. clear (λ k. white p (k * p.size.w + c % p.size.w)) (c / n) i) e
+    test i = grind (arith, common_steps, clear-same, white, clear)
 
     by : (b : Bool) → ShinesAlong (λ i. white p (c % w + i * w)) (λ i. bulb g (c % w + i * w))
         (c / w) h b → SeesAlong (joined_in_column p) (light_cells p) g c b
@@ -68,15 +60,15 @@ column-sees p g c {w} {h} b some e f s = by b s
       c % w + s.0 * w,
       rw (same s.0) (let lt : s.0 < p.size.h = rw (sym f) s.1 in
           omega (arith, mul-add-lt s.0 p.size.w (c % p.size.w) p.size.h lt (mod-lt c (rw (sym e) some)))),
-      (λ t. s.2 (mul-inj some (let v = whole c w in omega arith))),
+      (λ t. s.2 (mul-inj some (omega (arith, whole c w)))),
       ap (joined_in_column p c) (same s.0) ∙ column-cell-joined p c s.0 (rw (sym e) some) ∙ sym (test s.0) ∙ s.3,
       s.4,
     )
     by false s = λ d lt ne on.
         let v = column-parts p c d on in
-        let here : c % w + d / w * w ≡ d = same (d / w) ∙ rw (v.0, e) (sym (whole d p.size.w)) in
+        let here = same (d / w) ∙ rw (v.0, e) (sym (whole d p.size.w)) in
         ap (bulb g) (sym here) ∙ s (d / w) (rw f (row-in p.size.h d some (rw e lt)))
-        (λ t. ne (sym here ∙ ap (λ y. c % w + y * w) t ∙ (let u = whole c w in omega arith)))
+        (λ t. ne (sym here ∙ ap (λ y. c % w + y * w) t ∙ (omega (arith, whole c w))))
         (test (d / w) ∙ rw e v.1)
 
 -- ---- both lines
@@ -92,7 +84,7 @@ seen-there p g c d lt off joined on =
     (and_from _ _ (and_from _ _ (swapped c d off) joined) on)
 
 pub seen-in-row : (p : Light) (g : List ℕ) (c : ℕ) → SeesAlong (joined_in_row p) (light_cells p) g c true → sees_bulb p g c ≡ true
-seen-in-row p g c s = seen-there p g c s.0 s.1 s.2 (or_left (joined_in_row p c s.0) (joined_in_column p c s.0) s.3) s.4
+seen-in-row p g c s = seen-there p g c s.0 s.1 s.2 (or_left _ _ s.3) s.4
 
 unseen : (p : Light) (g : List ℕ) (c : ℕ)
     → ((d : ℕ) → d < light_cells p → d ≢ c → (joined_in_row p c d || joined_in_column p c d) ≡ true
@@ -103,21 +95,21 @@ unseen p g c none = grind (arith, common_steps, false_from_ne_true, any_below-so
 pub seen-in-column : (p : Light) (g : List ℕ) (c : ℕ) (b : Bool)
     → SeesAlong (joined_in_row p) (light_cells p) g c false
     → SeesAlong (joined_in_column p) (light_cells p) g c b → b ≡ sees_bulb p g c
-seen-in-column p g c true row s = sym (seen-there p g c s.0 s.1 s.2 (or_right (joined_in_row p c s.0) (joined_in_column p c s.0) s.3) s.4)
-seen-in-column p g c false row s = sym (unseen p g c (λ d lt ne joined. elim (or_cases (joined_in_row p c d) (joined_in_column p c d) joined) [
+seen-in-column p g c true row s = sym (seen-there p g c s.0 s.1 s.2 (or_right _ _ s.3) s.4)
+seen-in-column p g c false row s = sym (unseen p g c (λ d lt ne joined. elim (or_cases _ _ joined) [
   | inl a ↦ row d lt ne a
   | inr a ↦ s d lt ne a
 ]))
 
 -- a black cell sees none
 pub black-unseen : (p : Light) (g : List ℕ) (c : ℕ) → white p c ≡ false → sees_bulb p g c ≡ false
-black-unseen p g c off = unseen p g c (λ d lt ne joined. elim (or_cases (joined_in_row p c d) (joined_in_column p c d) joined) [
+black-unseen p g c off = unseen p g c (λ d lt ne joined. elim (or_cases _ _ joined) [
   | inl row ↦
       let v = row-parts p c d row in
-      let on = clear-at (λ x. white p (c / p.size.w * p.size.w + x)) (c % p.size.w) (d % p.size.w) (c % p.size.w) v.1 (omega arith) (omega arith) in
+      let on = clear-at (λ x. white p (c / p.size.w * p.size.w + x)) _ _ _ v.1 (omega arith) (omega arith) in
       absurd (true≢false (sym on ∙ ap (white p) (sym (whole c p.size.w)) ∙ off))
   | inr column ↦
       let v = column-parts p c d column in
-      let on = clear-at (λ y. white p (y * p.size.w + c % p.size.w)) (c / p.size.w) (d / p.size.w) (c / p.size.w) v.1 (omega arith) (omega arith) in
+      let on = clear-at (λ y. white p _) _ _ _ v.1 (omega arith) (omega arith) in
       absurd (true≢false (sym on ∙ ap (white p) (sym (whole c p.size.w)) ∙ off))
 ])

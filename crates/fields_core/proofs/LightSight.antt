@@ -1,16 +1,5 @@
 -- Which bulbs a cell sees: what a walk along its row and its column shows.
-use Rattle.std.proofs.Common.{◌≡◌, ℕ, ◌+◌, ◌/◌, ◌%◌, ◌<◌, Bool, true, cond, List, [], ◌∷◌, ◌++◌, length, slice_index, Some, None, refl, sym, ap, ◌∙◌, arith, add-one}
-use Rattle.std.specs.List.{count_by}
-use Rattle.std.proofs.lemmas.List.Sums.{sum_by-append}
-use Rattle.std.proofs.lemmas.Bool.{cases_lt, and_parts, ne_eqb, eq-eqb, eqb-true}
-use Rattle.std.proofs.lemmas.List.{append-nil, get_or_past}
-use Rattle.std.proofs.Math.Nat.{mod-lt, div-lt_iff_lt-mul}
-use Rattle.grid_core.specs.Extent.{Extent}
-use Rattle.grid_core.specs.Regions.{row_places, column_places, steps, step}
-use Rattle.grid_core.proofs.RegionLemmas.{row-at, column-at}
-use Rattle.gameid_core.specs.Puzzles.{Light}
-use Rattle.fields_core.specs.Light.{light_cells, bulb, joined_in_row, joined_in_column}
-use Rattle.std.proofs.lemmas.Grind.{common_steps}
+use Rattle.fields_core.proofs.Common.{Bool, Extent, Light, List, None, Some, [], add-one, and_parts, ap, append-nil, arith, bulb, cases_lt, column-at, column_places, common_steps, cond, count_by, div-lt_iff_lt-mul, eq-eqb, eqb-true, get_or_past, joined_in_column, joined_in_row, length, light_cells, mod-lt, ne_eqb, refl, row-at, row_places, slice_index, step, steps, sum_by-append, sym, true, ℕ, ◌%◌, ◌++◌, ◌+◌, ◌/◌, ◌<◌, ◌∙◌, ◌∷◌, ◌≡◌}
 
 -- the cells of a row and of a column, by column and by row
 pub row-of : (p : Light) (c d : ℕ) → 0 < p.size.w → joined_in_row p c d ≡ true

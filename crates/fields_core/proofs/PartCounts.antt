@@ -1,20 +1,8 @@
 -- How many cells of a grid lie in pieces of lines.
-use Rattle.std.proofs.Common.{◌≡◌, ◌≢◌, ◌∙◌, ℕ, zero, suc, ◌+◌, ◌*◌, ◌/◌, ◌%◌, ◌<◌, ◌≤◌, Bool, true, false, cond, ◌&&◌, ◌||◌, eqb, ltb, List, [], ◌∷◌, refl, sym, ap, inl, inr, ◌⊎◌, arith}
-use Rattle.std.specs.List.{count_by}
-use Rattle.std.proofs.lemmas.Bool.{cases_Bool, cases_eq, cases_lt, eq-eqb, ne_eqb, eqb-true, true≢false, false_from_ne_true, lt-ltb, le-ltb}
-use Rattle.std.proofs.lemmas.Grind.{common_steps}
-use Rattle.std.proofs.lemmas.List.Sums.{sum_by-cons}
-use Rattle.std.proofs.lemmas.Nat.{div-mul-add}
-use Rattle.grid_core.specs.Candidates.{count_below}
-use Rattle.grid_core.specs.Extent.{Extent}
-use Rattle.grid_core.specs.Planes.{Layers, has, at_line, crosses, lines_beside, line_len, number_of}
-use Rattle.grid_core.specs.Words.{has_bit}
+use Rattle.fields_core.proofs.Common.{AreDistinct, Bool, Extent, Layers, List, [], ap, arith, at_line, cases_Bool, cases_eq, cases_lt, common_steps, cond, count_below, count_below-none, count_below-same, count_by, crosses, div-mul-add, eq-eqb, eqb, eqb-true, false, false_from_ne_true, has_bit, has_place, inl, inr, le-ltb, line_len, lines_beside, lt-ltb, ltb, ne_eqb, number_of, place-column, refl, suc, sum_by-cons, sym, true, true≢false, zero, ℕ, ◌%◌, ◌&&◌, ◌*◌, ◌+◌, ◌/◌, ◌<◌, ◌||◌, ◌∙◌, ◌∷◌, ◌≡◌, ◌≢◌, ◌≤◌, ◌⊎◌}
+use Rattle.grid_core.specs.Planes.{has}
 use Rattle.grid_core.specs.declared.planes.line.Line.{Line}
 use Rattle.grid_core.specs.declared.planes.line.Line.TheVariants.{Row, Column}
-use Rattle.grid_core.proofs.CandidateLemmas.{count_below-none, count_below-same}
-use Rattle.grid_core.proofs.PlaneLemmas.{place-column}
-use Rattle.engine_core.specs.RuleSystem.{has_place}
-use Rattle.engine_core.specs.PlaceLaws.{AreDistinct}
 
 -- ---- counts in two steps
 count-add : (p : ℕ → Bool) (m n : ℕ) → count_below p (m + n) ≡ count_below p m + count_below (λ k. p (m + k)) n
@@ -38,9 +26,7 @@ pub count-apart : (a b t : ℕ → Bool) (n : ℕ) → ((c : ℕ) → c < n → 
 unfolding count_below
 count-apart a b t zero apart = refl
 count-apart a b t (suc n) apart =
-    let rest = count-apart a b t n (λ c lt. apart c (omega arith)) in
-    let here = apart n (omega arith) in
-    grind (arith, common_steps, cases_Bool (a n), cases_Bool (b n), cases_Bool (t n))
+    grind (arith, common_steps, cases_Bool (a n), cases_Bool (b n), cases_Bool (t n), count-apart a b t n (λ c lt. apart c (omega arith)), apart n (omega arith))
 
 count-past : (p : ℕ → Bool) {n : ℕ} (room : ℕ) → n ≤ room → ((k : ℕ) → n ≤ k → p k ≡ false) → count_below p room ≡ count_below p n
 unfolding count_below
@@ -93,11 +79,11 @@ pub line-count : (size : Extent) (line : Line) (bits room : ℕ)
     → count_below (has_bit bits) room ≡ count_below (λ c. crosses line bits (c / size.w) (c % size.w)) (size.w * size.h)
 line-count size (Row y) bits room lt fits within =
     let e : size.w * size.h ≡ size.h * size.w = omega arith in
-    count-past (has_bit bits) room fits (λ k high. false_from_ne_true _ (λ on. absurd (let less = within k on in omega arith)))
+    count-past (has_bit bits) room fits (λ k high. false_from_ne_true _ (λ on. absurd (omega (arith, within k on))))
     ∙ rw e (sym (row-count size.w y bits size.h ∙ rw (lt-ltb y size.h lt) refl))
 line-count size (Column x) bits room lt fits within =
     let e : size.w * size.h ≡ size.h * size.w = omega arith in
-    count-past (has_bit bits) room fits (λ k high. false_from_ne_true _ (λ on. absurd (let less = within k on in omega arith)))
+    count-past (has_bit bits) room fits (λ k high. false_from_ne_true _ (λ on. absurd (omega (arith, within k on))))
     ∙ rw e (sym (column-count size.w x bits size.h lt))
 
 -- the cells at those of some places of a line at which the value can be

@@ -1,22 +1,6 @@
 -- Visits of count houses by pieces of lines.
-use Rattle.std.proofs.Common.{◌≡◌, ◌≢◌, ◌∙◌, ℕ, zero, suc, ◌+◌, ◌-◌, ◌/◌, ◌%◌, ◌<◌, ◌≤◌, Bool, true, false, not, ◌&&◌, ◌||◌, eqb, ltb, List, length, slice_index, subst, refl, sym, ap, add-one, inl, inr, ◌⊎◌, arith}
-use Rattle.std.specs.List.{count_by}
-use Rattle.std.proofs.Math.Path.{fun_ext}
-use Rattle.std.proofs.Math.Bool.{and_comm, and-true, and-false}
-use Rattle.std.proofs.lemmas.Bool.{cases_Bool, cases_eq, and_parts, and_from, eq-eqb, ne_eqb, true≢false, false_from_ne_true, lt-ltb, le-ltb, ltb-true}
-use Rattle.std.proofs.lemmas.Grind.{common_steps}
-use Rattle.grid_core.specs.Candidates.{Candidates, any_below, count_below}
-use Rattle.grid_core.specs.Extent.{Extent}
-use Rattle.grid_core.specs.Planes.{Layers, has, cells_of, at_line, crosses, covers, without_taking, line_len, lines_beside, number_of}
-use Rattle.grid_core.specs.Words.{has_bit}
-use Rattle.grid_core.proofs.CandidateLemmas.{any_below-some, count_below-bound, count_below-none, count_below-pos, count_below-same}
-use Rattle.engine_core.specs.RuleSystem.{has_place}
-use Rattle.engine_core.specs.PlaceLaws.{has_place-at, distinct-from}
-use Rattle.engine_core.specs.HouseSetsLaws.{strikes_at-in_scope}
-use Rattle.fields_core.specs.Count.{is_open, is_empty}
-use Rattle.fields_core.specs.CountHouse.{CountHouse, after_house, strikes_of}
-use Rattle.fields_core.specs.Parts.{Piece, piece_at, lies_in, lies_in_first, ArePieces, IsCount, IsCounted, IsHouseOf, IsAlive, IsBroken, without_value}
-use Rattle.fields_core.specs.Tallies.{IsTally}
+use Rattle.fields_core.proofs.Common.{ArePieces, Bool, Candidates, CountHouse, Extent, IsAlive, IsBroken, IsCount, IsCounted, IsHouseOf, IsTally, Layers, List, Piece, add-one, after_house, and-false, and-true, and_comm, and_from, and_parts, any_below, any_below-some, ap, arith, at_line, cases_Bool, cases_eq, cells_of, common_steps, count_below, count_below-bound, count_below-none, count_below-pos, count_below-same, count_by, covers, crosses, distinct-from, eq-eqb, eqb, false, false_from_ne_true, fun_ext, has_bit, has_place, has_place-at, inl, inr, is_empty, is_open, le-ltb, length, lies_in, lies_in_first, line_len, lines_beside, lt-ltb, ltb, ltb-true, ne_eqb, not, number_of, piece_at, refl, slice_index, strikes_at-in_scope, strikes_of, subst, suc, sym, true, true≢false, without_taking, without_value, zero, ℕ, ◌%◌, ◌&&◌, ◌+◌, ◌-◌, ◌/◌, ◌<◌, ◌||◌, ◌∙◌, ◌≡◌, ◌≢◌, ◌≤◌, ◌⊎◌}
+use Rattle.grid_core.specs.Planes.{has}
 use Rattle.fields_core.proofs.CountKept.{after-at}
 use Rattle.fields_core.proofs.PartCounts.{count-apart, line-count, crosses-both, place-count}
 
@@ -24,7 +8,7 @@ use Rattle.fields_core.proofs.PartCounts.{count-apart, line-count, crosses-both,
 lies-more : (w : ℕ) (pieces : List Piece) (n c : ℕ) {piece : Piece} → piece_at pieces n ≡ piece
     → lies_in_first w pieces (n + 1) c ≡ (lies_in_first w pieces n c || lies_in w piece c)
 unfolding lies_in_first any_below
-lies-more w pieces n c e = rw add-one (ap (λ (q : Piece). any_below (λ k. lies_in w (piece_at pieces k) c) n || lies_in w q c) e)
+lies-more w pieces n c e = grind (arith, common_steps, add-one)
 
 lies-is : (w : ℕ) (piece : Piece) (c : ℕ) → lies_in w piece c ≡ crosses piece.line piece.bits (c / w) (c % w)
 unfolding lies_in
@@ -34,15 +18,12 @@ next-apart : {size : Extent} {pieces : List Piece} (n c : ℕ) {piece : Piece}
     → piece_at pieces n ≡ piece → ArePieces size pieces → n < length pieces
     → lies_in_first size.w pieces n c ≡ true → lies_in size.w piece c ≡ true → ⊥
 unfolding lies_in_first
-next-apart {size} {pieces} n c e are lt first next =
-    let w = any_below-some (λ k. lies_in size.w (piece_at pieces k) c) n first in
-    let same = are.apart w.0 n c (omega (arith, w.1)) lt w.2 (ap (λ (q : Piece). lies_in size.w q c) e ∙ next) in
-    absurd (omega (arith, w.1))
+next-apart {size} {pieces} n c e are lt first next = grind (arith, common_steps, any_below-some)
 
 pub line_in : {size : Extent} {pieces : List Piece} {n : ℕ} {piece : Piece} → ArePieces size pieces
     → n < length pieces → piece_at pieces n ≡ piece
     → number_of piece.line < lines_beside size piece.line
-line_in {size} {n} are lt e = subst (λ (q : Piece). number_of q.line < lines_beside size q.line) e (are.lines_in n lt)
+line_in {size} {n} are lt e = grind (arith, common_steps, number_of)
 
 -- of a word of the next piece's cells that pass a test, as many pass more
 counted-more : (p : Layers) {pieces : List Piece} (n there room : ℕ) {piece : Piece}
@@ -54,15 +35,15 @@ counted-more : (p : Layers) {pieces : List Piece} (n there room : ℕ) {piece : 
     (has_bit there) room ≡ count_below (λ c. lies_in_first p.size.w pieces (n + 1) c && test c)
     (cells_of p)
 counted-more p {pieces} n there room {piece} test e are lt fits within is =
-    let here : count_below (has_bit there) room ≡ count_below (λ c. lies_in p.size.w piece c && test c) (cells_of p) =
+    let here =
     line-count p.size piece.line there room (line_in are lt e) fits within
-    ∙ count_below-same (λ c. crosses piece.line there (c / p.size.w) (c % p.size.w)) (λ c. lies_in p.size.w piece c && test c) (cells_of p) (λ c _. is c) in
+    ∙ count_below-same (λ c. crosses piece.line there (c / p.size.w) (c % p.size.w)) (λ c. lies_in p.size.w piece c && test c) _ (λ c _. is c) in
     rw here
     (sym (count_below-same (λ c. lies_in_first p.size.w pieces (n + 1) c && test c)
     (λ c. (lies_in_first p.size.w pieces n c || lies_in p.size.w piece c) && test c)
-    (cells_of p)
+    _
     (λ c _. ap (λ b. b && test c) (lies-more p.size.w pieces n c e))
-    ∙ count-apart (lies_in_first p.size.w pieces n) (lies_in p.size.w piece) test (cells_of p)
+    ∙ count-apart _ _ test _
     (λ c _ first next. next-apart n c e are lt first next)))
 
 pub counted-none : (w : ℕ) (pieces : List Piece) (cells : ℕ) (test : ℕ → Bool) → 0 ≡ count_below (λ c. lies_in_first w pieces 0 c && test c) cells
@@ -81,8 +62,8 @@ count-split inside zero_on one_on (suc n) full =
 -- ---- the cells of the first pieces, counted
 pub counted-first : {p : Layers} {pieces : List Piece} → IsCount p pieces 0 0 0
 counted-first {p} {pieces} = record {
-  may_is = counted-none p.size.w pieces (cells_of p) (λ c. has p c 1);
-  undecided_is = counted-none p.size.w pieces (cells_of p) (λ c. is_open (has p) c);
+  may_is = counted-none p.size.w pieces _ (λ c. has p c 1);
+  undecided_is = counted-none p.size.w pieces _ (λ c. is_open (has p) c);
 }
 
 -- one piece more, whose words are those of its cells that can have 1, and that can have both
@@ -111,10 +92,7 @@ counted-next {p} {n} ones both none {room} {piece} e are lt fits ones_is both_is
     by a b c = grind (arith, common_steps, cases_Bool a, cases_Bool b, cases_Bool c)
 
 pub counted-small : {p : Layers} {pieces : List Piece} {n may undecided : ℕ} → IsCount p pieces n may undecided → (may ≤ cells_of p) × (undecided ≤ cells_of p)
-counted-small {p} {pieces} {n} counted = (
-  omega (arith, counted.may_is, count_below-bound (λ c. lies_in_first p.size.w pieces n c && has p c 1) (cells_of p)),
-  omega (arith, counted.undecided_is, count_below-bound (λ c. lies_in_first p.size.w pieces n c && is_open (has p) c) (cells_of p)),
-)
+counted-small {p} {pieces} {n} counted = grind (arith, common_steps, count_below-bound, has)
 
 -- ---- the house of all pieces
 
@@ -130,12 +108,12 @@ tally-of p {pieces} {house} alive counted of =
     let distinct = distinct-from house.places of.is.different in
     let counts : (test : ℕ → Bool) → count_by test house.places ≡ count_below (λ c. inside c && test c) (cells_of p) = λ test.
     place-count test house.places (cells_of p) distinct of.is.within
-    ∙ count_below-same (λ c. has_place house.places c && test c) (λ c. inside c && test c) (cells_of p) (λ c _. ap (λ b. b && test c) (of.cells c)) in
-    let split = count-split inside (λ c. has p c 0) (λ c. has p c 1) (cells_of p) alive in
+    ∙ count_below-same (λ c. has_place house.places c && test c) (λ c. inside c && test c) _ (λ c _. ap (λ b. b && test c) (of.cells c)) in
+    let split = count-split inside (λ c. has p c 0) (λ c. has p c 1) _ alive in
     record {
       must_is = omega (arith, counts (λ c. not (has p c 0)), counted.may_is, counted.undecided_is, split);
       may_is = counted.may_is ∙ sym (counts (λ c. has p c 1));
-      empty_is = sym (counts (is_empty (has p)) ∙ count_below-none (λ c. inside c && is_empty (has p) c) (cells_of p) (λ c lt. none c (alive c lt)));
+      empty_is = sym (counts (is_empty (has p)) ∙ count_below-none (λ c. inside c && is_empty (has p) c) _ (λ c lt. none c (alive c lt)));
     }
   where
     none : (c : ℕ) → (has p c 0 ≡ true) ⊎ (has p c 1 ≡ true) → (lies_in_first p.size.w pieces (length pieces) c && is_empty (has p) c) ≡ false
@@ -230,19 +208,18 @@ none-undecided {p} {pieces} c at of counted none = false_from_ne_true _ (λ on.
     let lt = of.is.within c (of.cells c ∙ parts.0) in
     let pos =
     count_below-pos (λ c. lies_in_first p.size.w pieces (length pieces) c && is_open (has p) c)
-    (cells_of p) c lt (and_from _ _ parts.0 open_here.0) in
+    _ c lt (and_from _ _ parts.0 open_here.0) in
     absurd (omega (arith, counted.undecided_is)))
 
 -- which bound is reached
 pub one-bound : {least most must : ℕ} (may v : ℕ) → must ≡ most → must < may → least ≤ most → v < 2 → at_bound least most must may v ≡ eqb v 1
-one-bound {least} {most} {must} may v reached room order low =
-    rw (eq-eqb must most reached, ne_eqb may least (λ e. absurd (omega arith))) (grind (arith, common_steps, cases_Bool))
+one-bound {least} {most} {must} may v reached room order low = grind (arith, common_steps, eq-eqb, ne_eqb)
 
 pub zero-bound : {least most must may v : ℕ} → (must ≡ most → ⊥) → may ≡ least → v < 2 → at_bound least most must may v ≡ eqb v 0
-zero-bound {least} {most} {must} {may} ne reached low = rw (ne_eqb must most ne, eq-eqb may least reached) (grind (arith, common_steps, cases_Bool))
+zero-bound {least} {most} {must} {may} ne reached low = grind (arith, common_steps, ne_eqb, eq-eqb)
 
 pub no-bound : (a b : Bool) {least most must may : ℕ} (v : ℕ) → (must ≡ most → ⊥) → (may ≡ least → ⊥) → (a && (b && at_bound least most must may v)) ≡ false
-no-bound a b {least} {most} {must} {may} v ne nf = rw (ne_eqb must most ne, ne_eqb may least nf) (grind (arith, common_steps, cases_Bool))
+no-bound a b {least} {most} {must} {may} v ne nf = grind (arith, common_steps, ne_eqb)
 
 -- ---- strikes
 pub struck-more : (p q : Layers) (pieces : List Piece) (n : ℕ) {value : ℕ} (other : ℕ) {piece : Piece}
@@ -274,13 +251,13 @@ struck-more p q pieces n {value} other {piece} e size lt left is = fun_ext λ c.
 
 pub struck-none : (w : ℕ) (pieces : List Piece) (value : ℕ) {K : Candidates} → K ≡ without_value w pieces 0 value K
 unfolding without_value lies_in_first any_below
-struck-none w pieces value = fun_ext λ c. fun_ext λ v. grind (arith, common_steps, cases_Bool)
+struck-none w pieces value = grind (arith, common_steps)
 
 -- each cell still has a value
 pub struck-alive : (p q : Layers) (pieces : List Piece) (n value : ℕ) → q.size ≡ p.size → value < 2
     → IsAlive p → has q ≡ without_value p.size.w pieces n value (has p) → IsAlive q
 unfolding without_value
-struck-alive p q pieces n value size lt alive left c lc = by value lt (λ v. ap (λ (L : Candidates). L c v) left) (alive c (rw size at lc))
+struck-alive p q pieces n value size lt alive left c lc = by value lt (λ v. ap (λ L. L c v) left) (alive c (rw size at lc))
   where
     by : (value : ℕ) → value < 2
         → ((v : ℕ) → has q c v ≡ (has p c v && not

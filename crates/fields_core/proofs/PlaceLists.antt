@@ -1,14 +1,6 @@
 -- Lists of different places, and how many of them pass a test.
-use Rattle.std.proofs.Common.{◌≡◌, ℕ, ◌+◌, ◌<◌, ◌≤◌, Bool, true, false, ◌||◌, eqb, ltb, cond, List, [], ◌∷◌, length, slice_index, map, refl, sym, ap, ◌∙◌, inl, inr, arith}
-use Rattle.std.specs.List.{filter, count_by, list_any}
-use Rattle.std.proofs.lemmas.Bool.{cases_Bool, cases_eq, cases_lt, lt-ltb, ltb-true, ltb-false, or_parts, false≢true, eqb-false, ne_eqb}
-use Rattle.std.proofs.lemmas.List.Sums.{sum_by-cons, count_by-le-length, length-filter}
-use Rattle.engine_core.specs.RuleSystem.{has_place}
-use Rattle.engine_core.specs.PlaceLaws.{has_place-here, AreDistinct, different-from, place-filter, distinct-filter}
-use Rattle.fields_core.specs.Count.{nonzeros}
-use Rattle.fields_core.specs.Light.{bulb}
+use Rattle.fields_core.proofs.Common.{AreDistinct, Bool, List, [], ap, arith, bulb, cases_Bool, cases_eq, cases_lt, common_steps, cond, count_by, count_by-le-length, different-from, distinct-filter, eqb, eqb-false, false, false≢true, filter, has_place, has_place-here, inl, inr, length, length-filter, list_any, lt-ltb, ltb, ltb-false, ltb-true, map, ne_eqb, nonzeros, or_parts, place-filter, refl, slice_index, sum_by-cons, sym, true, ℕ, ◌+◌, ◌<◌, ◌||◌, ◌∙◌, ◌∷◌, ◌≡◌, ◌≤◌}
 use Rattle.fields_core.proofs.BelowLemmas.{any-here, any-none}
-use Rattle.std.proofs.lemmas.Grind.{common_steps}
 
 pub filter-few : (test : ℕ → Bool) (xs : List ℕ) → length (filter test xs) ≤ length xs
 filter-few test xs = omega (arith, length-filter test xs, count_by-le-length test xs)
@@ -29,18 +21,16 @@ some-counted test [] = refl
 some-counted test (x ∷ xs) = grind (arith, common_steps, cases_Bool, count-cons test x xs, lt-ltb, some-counted test xs)
 
 pub count-some : (test : ℕ → Bool) (xs : List ℕ) (d : ℕ) → has_place xs d ≡ true → test d ≡ true → 1 ≤ count_by test xs
-count-some test xs d on passes = let some = ltb-true 0 (count_by test xs) (some-counted test xs ∙ any-here test xs d on passes) in omega arith
+count-some test xs d on passes = omega (arith, ltb-true 0 (count_by test xs) (some-counted test xs ∙ any-here test xs d on passes))
 
 pub count-none : (test : ℕ → Bool) (xs : List ℕ) → ((d : ℕ) → has_place xs d ≡ true → test d ≡ false) → count_by test xs ≡ 0
-count-none test xs none = let few = ltb-false 0 (count_by test xs) (some-counted test xs ∙ any-none test xs none) in omega arith
+count-none test xs none = omega (arith, ltb-false 0 (count_by test xs) (some-counted test xs ∙ any-none test xs none))
 
 pub count-every : (test : ℕ → Bool) (xs : List ℕ) → ((d : ℕ) → has_place xs d ≡ true → test d ≡ true) → count_by test xs ≡ length xs
 unfolding has_place
 count-every test [] all = refl
 count-every test (x ∷ xs) all =
-    let rest = count-every test xs (λ d on. all d (grind (arith, common_steps, on))) in
-    let first = all x (grind (arith, common_steps)) in
-    omega (arith, count-cons test x xs, ap num first)
+    let first = all x (grind (arith, common_steps)) in omega (arith, count-cons test x xs, ap num first, count-every test xs (λ d on. all d (grind (arith, common_steps, on))))
 
 -- of different places, one at most passes where no two do
 pub count-one : (test : ℕ → Bool) (xs : List ℕ) → AreDistinct xs
@@ -66,20 +56,15 @@ module _ (p q : ℕ → Bool) (place : ℕ) (others : (c : ℕ) → (c ≡ place
   unfolding has_place
   count-off [] off = refl
   count-off (x ∷ xs) off =
-      let w = or_parts (eqb x place) (has_place xs place) off in
-      let rest = count-off xs w.1 in
-      let same = ap num (others x (eqb-false x place w.0)) in
-      omega (arith, count-cons q x xs, count-cons p x xs)
+      let w = or_parts (eqb x place) (has_place xs place) off in omega (arith, count-cons q x xs, count-cons p x xs, count-off xs w.1, ap num (others x (eqb-false x place w.0)))
 
   pub count-at : (xs : List ℕ) → AreDistinct xs → has_place xs place ≡ true → count_by q xs + num (p place) ≡ count_by p xs + num (q place)
   unfolding has_place
   count-at [] d on = absurd (false≢true on)
   count-at (x ∷ xs) d on = elim (cases_eq x place) [
-    | inl same ↦ rw (sym same) (let rest = count-off xs (ap (has_place xs) (sym same) ∙ d.0) in omega (arith, count-cons q x xs, count-cons p x xs))
+    | inl same ↦ rw (sym same) (omega (arith, count-cons q x xs, count-cons p x xs, count-off xs (ap (has_place xs) (sym same) ∙ d.0)))
     | inr ne ↦
-        let rest = count-at xs d.1 (sym (ap (λ b. b || has_place xs place) (ne_eqb x place ne)) ∙ on) in
-        let same = ap num (others x ne) in
-        omega (arith, count-cons q x xs, count-cons p x xs)
+        omega (arith, count-cons q x xs, count-cons p x xs, count-at xs d.1 (sym (ap (λ b. b || has_place xs place) (ne_eqb x place ne)) ∙ on), ap num (others x ne))
   ]
 
 -- the cell is one of those counted

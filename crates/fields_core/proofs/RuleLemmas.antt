@@ -1,24 +1,19 @@
 -- The board that a search of count houses starts from.
-use Rattle.std.proofs.Common.{◌≡◌, ℕ, ◌+◌, ◌*◌, ◌/◌, ◌%◌, ◌<◌, ◌≤◌, ◌↔◌, Bool, true, not, ◌&&◌, ◌||◌, eqb, ltb, refl, sym, ap, ◌∙◌, inl, inr, arith}
+use Rattle.fields_core.proofs.Common.{Bool, Candidates, Layout, SameShape, all_of, and-true, ap, arith, cases_eq, cases_lt, common_steps, eq-eqb, eqb, fun_ext, le-ltb, lt-ltb, ltb, ne_eqb, not, or-false, or-true, start_of, sym, true, without, ℕ, ◌&&◌, ◌+◌, ◌∙◌, ◌≡◌, ◌≤◌}
+use Rattle.std.proofs.Common.{◌*◌, ◌/◌, ◌%◌, ◌<◌, ◌↔◌, ◌||◌, refl, inl, inr}
 use Rattle.std.proofs.Math.Nat.{mod-lt, div-lt_iff_lt-mul}
 use Rattle.std.proofs.lemmas.Nat.{div-add-mod'}
-use Rattle.std.proofs.Math.Path.{fun_ext}
-use Rattle.std.proofs.Math.Bool.{and-true, or-true, or-false}
-use Rattle.std.proofs.lemmas.Bool.{cases_Bool, cases_eq, cases_lt, lt-ltb, le-ltb, ne_eqb, eq-eqb}
-use Rattle.grid_core.specs.Candidates.{Candidates, all_of, without}
-use Rattle.grid_core.specs.Board.{Layout, SameShape}
+use Rattle.std.proofs.lemmas.Bool.{cases_Bool}
 use Rattle.grid_core.specs.Planes.{covers, crosses, without_taking}
 use Rattle.grid_core.specs.Words.{has_bit}
 use Rattle.grid_core.specs.declared.planes.line.Line.TheVariants.{Row}
-use Rattle.fields_core.specs.CountHouse.{start_of}
-use Rattle.std.proofs.lemmas.Grind.{common_steps}
 
 -- ---- the start, with the cells below a place blocked
 pub record IsStarted (cells : ℕ) (blocked : ℕ → Bool) (n : ℕ) (K : Candidates) : Type 0 where
   pub sets : (c v : ℕ) → K c v ≡ (all_of cells 2 c v && not ((ltb c n && blocked c) && eqb v 1))
 
 pub started : (cells : ℕ) {blocked : ℕ → Bool} (K : Candidates) → K ≡ all_of cells 2 → IsStarted cells blocked 0 K
-started cells K e = record { sets = λ c v. ap (λ (L : Candidates). L c v) e ∙ sym (rw (le-ltb c 0 (omega arith)) (and-true (all_of cells 2 c v))) }
+started cells K e = grind (arith, common_steps, le-ltb, and-true)
 
 pub start-blocked : {cells : ℕ} {blocked : ℕ → Bool} (n : ℕ) (K K' : Candidates)
     → IsStarted cells blocked n K → blocked n ≡ true → K' ≡ without K n 1

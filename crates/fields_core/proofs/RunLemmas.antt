@@ -1,22 +1,7 @@
 -- The run around a cell of a line is what has only white cells between it and the cell.
-use Rattle.std.proofs.Common.{◌≡◌, ℕ, zero, suc, ◌+◌, ◌-◌, ◌*◌, ◌/◌, ◌%◌, ◌<◌, ◌≤◌, ◌^◌, min, max, Bool, true, false, cond, List, [], ◌∷◌, ◌++◌, length, slice_index, map, refl, sym, ap, ◌∙◌, inl, inr, add-one, arith}
-use Rattle.std.specs.List.{filter, range_with_len}
-use Rattle.std.proofs.lemmas.Bool.{and_parts, cases_Bool, cases_lt, true≢false, false_from_ne_true, eq-eqb, eqb-true, not-true, or_cases}
-use Rattle.std.proofs.lemmas.Nat.{div-mul-add, mod-mul-add}
-use Rattle.std.proofs.lemmas.List.FromFn.{length-map-range_with_len, get_or-map-range_with_len}
-use Rattle.std.proofs.Math.Nat.{mod-lt, mul-le-mul_right}
-use Rattle.grid_core.specs.Regions.{row_places, column_places}
-use Rattle.grid_core.specs.Extent.{Extent}
-use Rattle.gameid_core.specs.Puzzles.{Light, IsLight}
-use Rattle.std.proofs.lemmas.List.{append-nil}
-use Rattle.std.proofs.lemmas.List.Elements.{filter-append}
-use Rattle.fields_core.specs.Light.{light_cells, white, clear, joined_in_row, joined_in_column}
-use Rattle.fields_core.specs.LightHouses.{row_run, column_run, begins_row_run, begins_column_run}
-use Rattle.fields_core.specs.Runs.{RunsOn}
-use Rattle.grid_core.proofs.RegionLemmas.{row-at, column-at}
+use Rattle.fields_core.proofs.Common.{Bool, Extent, IsLight, Light, List, RunsOn, [], add-one, and_parts, ap, append-nil, arith, begins_column_run, begins_row_run, cases_Bool, cases_lt, clear, column-at, column_places, column_run, common_steps, cond, div-mul-add, eq-eqb, eqb-true, false, false_from_ne_true, filter, filter-append, get_or-map-range_with_len, inl, inr, joined_in_column, joined_in_row, length, length-map-range_with_len, light_cells, map, max, min, mod-lt, mod-mul-add, mul-le-mul_right, not-true, or_cases, range_with_len, refl, row-at, row_places, row_run, slice_index, suc, sym, true, true≢false, white, zero, ℕ, ◌%◌, ◌*◌, ◌++◌, ◌+◌, ◌-◌, ◌/◌, ◌<◌, ◌^◌, ◌∙◌, ◌∷◌, ◌≡◌, ◌≤◌}
 use Rattle.fields_core.proofs.HouseLists.{row-long, column-long}
 use Rattle.fields_core.proofs.LightHouseLaws.{clear-at, clear-from}
-use Rattle.std.proofs.lemmas.Grind.{common_steps}
 
 -- ---- a filter over numbers one after another
 pub range-split : (s a b : ℕ) → range_with_len s (a + b) ≡ range_with_len s a ++ range_with_len (s + a) b
@@ -117,8 +102,8 @@ pub row-run-is : (p : Light) (c : ℕ) {w : ℕ} (x : ℕ) → w ≡ p.size.w �
     → map (λ i. c - x + i * 1) (filter (clear (λ i. white p (c - x + i * 1)) x) (range_with_len 0 w)) ≡ row_run p c
 unfolding row_run
 row-run-is p c x e f = rw (e, sym f)
-    (line-run (joined_in_row p c) (λ i. white p (c / p.size.w * p.size.w + i)) (λ i. white p (c - c % p.size.w + i * 1)) (c % p.size.w) p.size.w
-    (λ x. c / p.size.w * p.size.w + x) (λ i. c - c % p.size.w + i * 1) same (λ i. ap (white p) (same i)) (λ i lt. row-cell-joined p c i lt))
+    (line-run _ (λ i. white p _) (λ i. white p _) _ p.size.w
+    (λ x. c / p.size.w * p.size.w + x) _ same (λ i. ap (white p) (same i)) (λ i lt. row-cell-joined p c i lt))
   where
     same : (i : ℕ) → c - c % p.size.w + i * 1 ≡ c / p.size.w * p.size.w + i
     same i = let whole : c ≡ c / p.size.w * p.size.w + c % p.size.w = omega arith in omega arith

@@ -1,13 +1,5 @@
 -- The cells beside a cell are different.
-use Rattle.std.proofs.Common.{◌≡◌, ℕ, zero, suc, ◌+◌, ◌-◌, ◌*◌, ◌/◌, ◌%◌, ◌<◌, ◌≤◌, Bool, true, false, leb, cond, length, Option, Some, None, refl, sym, inl, inr, arith}
-use Rattle.std.proofs.lemmas.Bool.{true≢false, eqb-true, leb-true, ltb-true, or_cases}
-use Rattle.std.proofs.lemmas.List.{length-append}
-use Rattle.std.proofs.Math.Nat.{mod-lt, mul-le-mul_right}
-use Rattle.grid_core.specs.Extent.{Extent}
-use Rattle.grid_core.specs.Regions.{steps, step, if_there}
-use Rattle.engine_core.specs.RuleSystem.{has_place}
-use Rattle.engine_core.specs.PlaceLaws.{AreDistinct, place-append, distinct-append}
-use Rattle.std.proofs.lemmas.Grind.{common_steps}
+use Rattle.fields_core.proofs.Common.{AreDistinct, Bool, Extent, None, Option, Some, arith, common_steps, cond, distinct-append, eqb-true, false, has_place, if_there, inl, inr, leb, leb-true, length, length-append, ltb-true, mod-lt, mul-le-mul_right, or_cases, place-append, refl, step, steps, suc, sym, true, true≢false, zero, ℕ, ◌%◌, ◌*◌, ◌+◌, ◌-◌, ◌/◌, ◌<◌, ◌≡◌, ◌≤◌}
 
 pub some-inj : {x y : ℕ} → Some x ≡ Some y → x ≡ y
 some-inj {x} {y} e = cc
@@ -19,10 +11,7 @@ step-when false x d e = absurd (cc)
 pub step-up : (size : Extent) (c d : ℕ) → step size c 0 ≡ Some d → d + size.w ≡ c
 unfolding step
 step-up size c d e =
-    let w = step-when (leb 1 (c / size.w)) (c - size.w) d e in
-    let some = leb-true 1 (c / size.w) w.0 in
-    let h : 1 * size.w ≤ c / size.w * size.w = mul-le-mul_right size.w some in
-    omega (arith, w.1)
+    let w = step-when (leb 1 (c / size.w)) (c - size.w) d e in let some = leb-true 1 (c / size.w) w.0 in omega (arith, w.1, mul-le-mul_right size.w some)
 
 pub step-left : (size : Extent) (c d : ℕ) → step size c 1 ≡ Some d → (d + 1 ≡ c) × (1 ≤ c % size.w)
 unfolding step
@@ -38,10 +27,9 @@ step-down size c d e = grind (arith, common_steps, step-when, ltb-true)
 
 -- a later direction leads to a later cell
 pub ascends : (size : Extent) (c d : ℕ) {e : ℕ} (k m : ℕ) → 0 < size.w → k < m → m < 4 → step size c k ≡ Some d → step size c m ≡ Some e → d < e
-ascends size c d {e} zero (suc zero) pos lt less a b = let u = step-up size c d a in
-    let v = step-left size c e b in let r = mod-lt c pos in omega (arith, v.0, v.1)
-ascends size c d {e} zero (suc (suc zero)) pos lt less a b = let u = step-up size c d a in let v = step-right size c e b in omega (arith, v.0)
-ascends size c d {e} zero (suc (suc (suc zero))) pos lt less a b = let u = step-up size c d a in let v = step-down size c e b in omega (arith, v.0)
+ascends size c d {e} zero (suc zero) pos lt less a b = let v = step-left size c e b in omega (arith, v.0, v.1, step-up size c d a, mod-lt c pos)
+ascends size c d {e} zero (suc (suc zero)) pos lt less a b = let v = step-right size c e b in omega (arith, v.0, step-up size c d a)
+ascends size c d {e} zero (suc (suc (suc zero))) pos lt less a b = let v = step-down size c e b in omega (arith, v.0, step-up size c d a)
 ascends size c d {e} (suc zero) (suc (suc zero)) pos lt less a b = let u = step-left size c d a in let v = step-right size c e b in omega (arith, u.0, v.0)
 ascends size c d {e} (suc zero) (suc (suc (suc zero))) pos lt less a b = let u = step-left size c d a in let v = step-down size c e b in omega (arith, u.0, v.0)
 ascends size c d {e} (suc (suc zero)) (suc (suc (suc zero))) pos lt less a b = let u =
@@ -57,7 +45,7 @@ pub steps-some : (size : Extent) (c n d : ℕ) → has_place (steps size c n) d 
 unfolding steps has_place
 steps-some size c zero d on = absurd (true≢false (sym on))
 steps-some size c (suc n) d on = elim (place-append (steps size c n) (if_there (step size c n)) d on) [
-  | inl before ↦ let w : (k : ℕ) × (k < n) × (step size c k ≡ Some d) = steps-some size c n d before in (w.0, omega (arith, w.1), w.2)
+  | inl before ↦ let w = steps-some size c n d before in (w.0, omega (arith, w.1), w.2)
   | inr here ↦ (n, omega arith, there-is (step size c n) here)
 ]
 

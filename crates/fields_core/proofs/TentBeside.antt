@@ -1,14 +1,6 @@
 -- Cells beside each other: each is beside the other, and they lie in the grid.
-use Rattle.std.proofs.Common.{◌≡◌, ℕ, zero, suc, ◌+◌, ◌-◌, ◌*◌, ◌/◌, ◌%◌, ◌<◌, ◌≤◌, true, false, leb, ltb, eqb, Some, refl, sym, ap, ◌∙◌, inl, inr, arith, le-leb}
-use Rattle.std.proofs.lemmas.Bool.{cond-true, lt-ltb, or_left, eq-eqb, cases_eq}
-use Rattle.std.proofs.lemmas.Nat.{div-mul-add}
-use Rattle.std.proofs.Math.Nat.{mod-lt, div-lt_iff_lt-mul, mul-le-mul_right}
-use Rattle.grid_core.specs.Extent.{Extent}
-use Rattle.grid_core.specs.Regions.{steps, step, if_there}
-use Rattle.engine_core.specs.RuleSystem.{has_place}
-use Rattle.engine_core.specs.PlaceLaws.{place-front, place-back}
+use Rattle.fields_core.proofs.Common.{Extent, Some, ap, arith, cases_eq, common_steps, cond-true, div-lt_iff_lt-mul, div-mul-add, eq-eqb, eqb, false, has_place, if_there, inl, inr, le-leb, leb, lt-ltb, ltb, mod-lt, mul-le-mul_right, or_left, place-back, place-front, refl, step, steps, suc, sym, true, zero, ℕ, ◌%◌, ◌*◌, ◌+◌, ◌-◌, ◌/◌, ◌<◌, ◌∙◌, ◌≡◌, ◌≤◌}
 use Rattle.fields_core.proofs.StepLaws.{step-up, step-left, step-right, step-down, steps-some}
-use Rattle.std.proofs.lemmas.Grind.{common_steps}
 
 -- the row and the column of a cell
 pub cell-parts : (w q r d : ℕ) → r < w → d ≡ q * w + r → (d / w ≡ q) × (d % w ≡ r)
@@ -19,17 +11,14 @@ whole-cell w c = omega arith
 
 -- a cell one row further down, and one column further right
 pub cell-below : {w : ℕ} (c : ℕ) → 0 < w → ((c + w) / w ≡ c / w + 1) × ((c + w) % w ≡ c % w)
-cell-below {w} c pos = cell-parts w (c / w + 1) (c % w) (c + w) (mod-lt c pos) (let e = whole-cell w c in omega arith)
+cell-below {w} c pos = cell-parts w (c / w + 1) (c % w) (c + w) (mod-lt c pos) (omega (arith, whole-cell w c))
 
 pub cell-after : (w c : ℕ) → c % w + 1 < w → ((c + 1) / w ≡ c / w) × ((c + 1) % w ≡ c % w + 1)
-cell-after w c lt = cell-parts w (c / w) (c % w + 1) (c + 1) lt (let e = whole-cell w c in omega arith)
+cell-after w c lt = cell-parts w (c / w) (c % w + 1) (c + 1) lt (omega (arith, whole-cell w c))
 
 -- the first cell of the next row
 pub cell-turn : (w c : ℕ) → c % w + 1 ≡ w → (c + 1) % w ≡ 0
-cell-turn w c e =
-    (cell-parts w (c / w + 1) 0 (c + 1) (omega arith)
-    (let f = whole-cell w c in let g : (c / w + 1) * w ≡ c / w * w + w = omega arith in
-    omega arith)).1
+cell-turn w c e = grind (arith, common_steps, cell-parts, whole-cell)
 
 pub row-in : {w : ℕ} (h c : ℕ) → 0 < w → c < w * h → c / w < h
 row-in h c pos lt = (div-lt_iff_lt-mul pos).1 (omega arith)
@@ -52,19 +41,19 @@ back size t c (suc zero) pos lt lc less e =
     let f : t ≡ c + 1 = omega (arith, u.0) in
     let whole = whole-cell size.w t in
     let r = mod-lt t pos in
-    let v = cell-parts size.w (t / size.w) (t % size.w - 1) c (omega arith) (let some = u.1 in omega arith) in
-    let q : c % size.w + 1 < size.w = let a = v.1 in let some = u.1 in omega arith in
+    let v = cell-parts size.w (t / size.w) (t % size.w - 1) c (omega arith) (omega (arith, u.1)) in
+    let q : c % size.w + 1 < size.w = omega (arith, v.1, u.1) in
     (2, omega arith, cond-true (ltb (c % size.w + 1) size.w) _ _ (lt-ltb (c % size.w + 1) size.w q) ∙ ap Some (sym f))
 back size t c (suc (suc zero)) pos lt lc less e =
     let u = step-right size t c e in
     let v = cell-after size.w t u.1 in
     let q : 1 ≤ c % size.w = let a : c % size.w ≡ t % size.w + 1 = ap (λ n. n % size.w) u.0 ∙ v.1 in omega arith in
-    (1, omega arith, cond-true (leb 1 (c % size.w)) _ _ (le-leb 1 (c % size.w) q) ∙ ap Some (let a = u.0 in omega arith))
+    (1, omega arith, cond-true (leb 1 (c % size.w)) _ _ (le-leb 1 (c % size.w) q) ∙ ap Some (omega (arith, u.0)))
 back size t c (suc (suc (suc zero))) pos lt lc less e =
     let u = step-down size t c e in
     let v = cell-below t pos in
     let q : 1 ≤ c / size.w = let a : c / size.w ≡ t / size.w + 1 = ap (λ n. n / size.w) u.0 ∙ v.0 in omega arith in
-    (0, omega arith, cond-true (leb 1 (c / size.w)) _ _ (le-leb 1 (c / size.w) q) ∙ ap Some (let a = u.0 in omega arith))
+    (0, omega arith, cond-true (leb 1 (c / size.w)) _ _ (le-leb 1 (c / size.w) q) ∙ ap Some (omega (arith, u.0)))
 back size t c (suc (suc (suc (suc k)))) pos lt lc less e = absurd (omega arith)
 
 pub steps-has : (size : Extent) (c n k : ℕ) {d : ℕ} → k < n → step size c k ≡ Some d → has_place (steps size c n) d ≡ true
@@ -81,18 +70,18 @@ beside-both size pos lt lc on = grind (arith, common_steps, steps-some, back, st
 
 -- a step stays in the grid
 step-in : (size : Extent) (c d k : ℕ) → 0 < size.w → c < size.w * size.h → k < 4 → step size c k ≡ Some d → d < size.w * size.h
-step-in size c d zero pos lt less e = let u = step-up size c d e in omega arith
+step-in size c d zero pos lt less e = omega (arith, step-up size c d e)
 step-in size c d (suc zero) pos lt less e = let u = step-left size c d e in omega (arith, u.0)
 step-in size c d (suc (suc zero)) pos lt less e =
     let u = step-right size c d e in
     let v = cell-after size.w c u.1 in
     let a = row-in size.h c pos lt in
-    let b : d / size.w ≡ c / size.w = ap (λ n. n / size.w) u.0 ∙ v.0 in
+    let b = ap (λ n. n / size.w) u.0 ∙ v.0 in
     cell-in size.h pos (omega arith)
 step-in size c d (suc (suc (suc zero))) pos lt less e =
     let u = step-down size c d e in
     let v = cell-below c pos in
-    let b : d / size.w ≡ c / size.w + 1 = ap (λ n. n / size.w) u.0 ∙ v.0 in
+    let b = ap (λ n. n / size.w) u.0 ∙ v.0 in
     let s = u.1 in
     cell-in size.h pos (omega arith)
 step-in size c d (suc (suc (suc (suc k)))) pos lt less e = absurd (omega arith)

@@ -1,35 +1,12 @@
 -- The count houses of Tents keep to what every rule set of count houses keeps to.
-use Rattle.engine_core.specs.RuleSystem.{IsLawful}
-use Rattle.fields_core.specs.CountLaws.{count-lawful}
-use Rattle.std.proofs.Common.{◌≡◌, ℕ, zero, suc, ◌+◌, ◌*◌, ◌/◌, ◌%◌, ◌<◌, ◌≤◌, true, not, ◌&&◌, ◌||◌, eqb, ltb, List, [], ◌∷◌, length, get_or, slice_index, map, sym, ap, ◌∙◌, inl, inr, arith, le-leb}
-use Rattle.std.specs.List.{filter, range_with_len, list_any}
-use Rattle.std.proofs.lemmas.Bool.{cases_eq, cases_lt, or_cases, and_from, and_parts, true≢false, false_from_ne_true, eqb-true, eq-eqb, ne_eqb, not-true, ltb-true}
-use Rattle.std.proofs.lemmas.List.{get_or_past, length-map, get_or-map}
-use Rattle.std.proofs.lemmas.List.FromFn.{get_or-map-range_with_len, length-map-range_with_len, get_or-range_with_len, length-range_with_len}
-use Rattle.std.proofs.lemmas.List.Sums.{count_by-le-length}
-use Rattle.std.proofs.Math.Nat.{mul-le-mul_right}
-use Rattle.grid_core.specs.Extent.{Extent}
-use Rattle.grid_core.specs.Grids.{IsGrid}
-use Rattle.grid_core.specs.Regions.{row_places, column_places, steps}
-use Rattle.grid_core.specs.Candidates.{all_below}
-use Rattle.grid_core.proofs.RegionLemmas.{row-at, column-at}
-use Rattle.grid_core.proofs.CandidateLemmas.{all_below-at, any_below-here}
-use Rattle.engine_core.specs.RuleSystem.{has_place}
-use Rattle.engine_core.specs.PlaceLaws.{has_place-at, has_place-here, AreDistinct, place-filter, place-kept, distinct-filter}
-use Rattle.engine_core.specs.Filling.{Set, has_value}
-use Rattle.engine_core.specs.FillingLaws.{filling_from_test, has_value_below}
+use Rattle.fields_core.proofs.Common.{AreCounts, AreDistinct, Extent, IsCounting, IsGrid, IsLawful, IsTents, List, Set, Tents, [], all_below, all_below-at, and_from, and_parts, any_below-here, ap, are_near, arith, can_be_paired, cases_eq, cases_lt, column-at, column_of_tents, column_places, column_right, common_steps, count-lawful, count_by-le-length, distinct-filter, eq-eqb, eqb, eqb-true, exactly, false_from_ne_true, filling_from_test, filter, free_beside, get_or, get_or-map, get_or-map-range_with_len, get_or-range_with_len, get_or_past, has_place, has_place-at, has_place-here, has_value, has_value_below, inl, inr, is_barred, le-leb, leaves_none_out, length, length-map, length-map-range_with_len, length-range_with_len, list_any, ltb, ltb-true, map, mul-le-mul_right, names_none_twice, ne_eqb, not, not-true, one_at_least, one_at_most, or_cases, place-filter, place-kept, range_with_len, row-at, row_of_tents, row_places, row_right, slice_index, solves_tents, square_house, steps, suc, sym, tent, tent_cells, tent_houses, tent_rules, tents_in_column, tents_in_row, touch_right, touches, tree, tree_house, tree_right, trees_beside, true, true≢false, zero, ℕ, ◌%◌, ◌&&◌, ◌*◌, ◌+◌, ◌/◌, ◌<◌, ◌||◌, ◌∙◌, ◌∷◌, ◌≡◌, ◌≤◌}
 use Rattle.grid_core.specs.Lines.{line_cells}
-use Rattle.gameid_core.specs.Puzzles.{Tents, IsTents, AreCounts}
-use Rattle.fields_core.specs.CountHouse.{exactly, one_at_most, one_at_least, IsCounting}
-use Rattle.fields_core.specs.Tents.{tent_cells, tree, tent, are_near, touches, tents_in_column, tents_in_row, tree_right, touch_right, column_right, row_right, names_none_twice, leaves_none_out, trees_beside, can_be_paired, solves_tents}
-use Rattle.fields_core.specs.TentHouses.{tent_rules, column_of_tents, row_of_tents, free_beside, tree_house, square_house, tent_houses, is_barred}
 use Rattle.fields_core.proofs.HouseLists.{row-long, column-long}
 use Rattle.fields_core.proofs.PlaceLists.{count-some, count-one, filter-few}
 use Rattle.fields_core.proofs.StepLaws.{steps-distinct, steps-few}
 use Rattle.fields_core.proofs.LightHouseLaws.{IsMet, small-at, met-from, EachOf, each-one, each-append, each-below, each-if, row-distinct, column-distinct}
 use Rattle.fields_core.proofs.BelowLemmas.{any-here}
 use Rattle.fields_core.proofs.TentBeside.{cell-below, cell-after, cell-in, beside-both, beside-in}
-use Rattle.std.proofs.lemmas.Grind.{common_steps}
 
 -- the parts of a solution
 pub record TentParts (p : Tents) (g : List ℕ) : Type 0 where
@@ -62,7 +39,7 @@ column-kind : (p : Tents) (x : ℕ) → IsField p → x < p.size.w → IsMet (te
 unfolding column_right
 column-kind p x field lt = met-from (λ d on. column-within p lt on) (column-distinct p.size x field.some)
     (omega (arith, column-long p.size x, field.h_few)) (omega (arith, field.number x)) (omega (arith, field.number x)) (λ g grid good.
-    let e = eqb-true (tents_in_column p.size g x) (slice_index p.counts x) (all_below-at (column_right p g) p.size.w x (tents-parts p g good).columns lt) in
+    let e = eqb-true (tents_in_column p.size g x) (slice_index p.counts x) (all_below-at _ p.size.w x (tents-parts p g good).columns lt) in
     (omega arith, omega arith))
 
 row-kind : (p : Tents) (y : ℕ) → IsField p → y < p.size.h
@@ -71,7 +48,7 @@ row-kind : (p : Tents) (y : ℕ) → IsField p → y < p.size.h
 unfolding row_right
 row-kind p y field lt = met-from (λ d on. row-within p lt on) (row-distinct p.size y)
     (omega (arith, row-long p.size y, field.w_few)) (omega (arith, field.number (p.size.w + y))) (omega (arith, field.number (p.size.w + y))) (λ g grid good.
-    let e = eqb-true (tents_in_row p.size g y) (slice_index p.counts (p.size.w + y)) (all_below-at (row_right p g) p.size.h y (tents-parts p g good).rows lt) in
+    let e = eqb-true _ _ (all_below-at _ p.size.h y (tents-parts p g good).rows lt) in
     (omega arith, omega arith))
 
 -- ---- trees and their tents
@@ -98,20 +75,20 @@ pub given : (p : Tents) (g : List ℕ) → can_be_paired p g ≡ true → (chose
 unfolding can_be_paired tents_of
 given p g paired =
     let w =
-    filling_from_test (map (trees_beside p) (filter (tent g) (range_with_len 0 (tent_cells p))))
+    filling_from_test _
     (λ chosen. names_none_twice chosen && leaves_none_out p chosen) paired in
-    let tests = and_parts (names_none_twice w.0) (leaves_none_out p w.0) w.2 in
+    let tests = and_parts _ _ w.2 in
     let fills = w.1 in (
       w.0,
       record {
-        long = fills.len ∙ length-map (filter (tent g) (range_with_len 0 (tent_cells p))) (trees_beside p);
-        each = λ k lt. set-has p (slice_index (filter (tent g) (range_with_len 0 (tent_cells p))) k)
-            (sym (ap (λ (s : Set). has_value s (get_or w.0 k 0)) (get_or-map (trees_beside p) (filter (tent g) (range_with_len 0 (tent_cells p))) k 0 [] lt))
+        long = fills.len ∙ length-map _ _;
+        each = λ k lt. set-has p _
+            (sym (ap (λ s. has_value s (get_or w.0 k 0)) (get_or-map _ _ k 0 [] lt))
             ∙ fills.each k (omega (arith, length-map (filter (tent g) (range_with_len 0 (tent_cells p))) (trees_beside p))));
         none_twice = tests.0;
         none_out =
-            λ c lt on. elim (or_cases (not (tree p c)) (has_place w.0 c)
-            (all_below-at (λ c. not (tree p c) || has_place w.0 c) (tent_cells p) c tests.1 lt)) [
+            λ c lt on. elim (or_cases (not (tree p c)) _
+            (all_below-at (λ c. not (tree p c) || has_place w.0 c) _ c tests.1 lt)) [
               | inl bare ↦ absurd (true≢false (sym on ∙ not-true (tree p c) bare))
               | inr here ↦ here
             ];
@@ -135,7 +112,7 @@ tree-tent p g grid good c lt on =
     let k : w.0 < length (tents_of p g) = omega (arith, w.1, is.long) in
     let tents = filter (tent g) (range_with_len 0 (tent_cells p)) in
     let t = slice_index tents w.0 in
-    let member = place-filter (tent g) (range_with_len 0 (tent_cells p)) t (has_place-here tents w.0 k) in
+    let member = place-filter (tent g) _ t (has_place-here tents w.0 k) in
     (t, tent-in g (tent_cells p) t grid.each_cell member.1, member.1, rw w.2 at (is.each w.0 k).2)
 
 -- a tent has a tree beside it
@@ -154,14 +131,14 @@ tent-tree p g grid good t on =
 tree-bare : (p : Tents) (g : List ℕ) → solves_tents p g ≡ true → {c : ℕ} → c < tent_cells p → tree p c ≡ true → slice_index g c ≡ 0
 unfolding tree_right
 tree-bare p g good {c} lt on =
-    elim (or_cases (not (tree p c)) (eqb (slice_index g c) 0)
-    (all_below-at (tree_right p g) (tent_cells p) c (tents-parts p g good).trees lt)) [
+    elim (or_cases (not (tree p c)) _
+    (all_below-at _ _ c (tents-parts p g good).trees lt)) [
       | inl bare ↦ absurd (true≢false (sym on ∙ not-true (tree p c) bare))
-      | inr none ↦ eqb-true (slice_index g c) 0 none
+      | inr none ↦ eqb-true _ 0 none
     ]
 
 pub free-few : (p : Tents) (c : ℕ) → length (free_beside p c) ≤ 4
-free-few p c = omega (arith, filter-few (λ d. not (tree p d)) (steps p.size c 4), steps-few p.size c 4)
+free-few p c = grind (arith, common_steps, filter-few, tree, steps-few)
 
 tree-kind : (p : Tents) (c : ℕ) → IsField p → c < tent_cells p → tree p c ≡ true → IsMet (tent_cells p) (solves_tents p) (one_at_least (free_beside p c))
 tree-kind p c field lt on = met-from
@@ -259,7 +236,7 @@ line-few size line w h = grind (arith, common_steps)
 
 counts-few : (size : Extent) (line : ℕ) (counts : List ℕ) (k : ℕ) → size.w ≤ 256 → size.h ≤ 256 → AreCounts size line counts → slice_index counts k ≤ 256
 counts-few size line [] k w h all = omega arith
-counts-few size line (n ∷ counts) zero w h all = let f = line-few size line w h in let g = all.0 in omega arith
+counts-few size line (n ∷ counts) zero w h all = omega (arith, line-few size line w h)
 counts-few size line (n ∷ counts) (suc k) w h all = counts-few size (line + 1) counts k w h all.1
 
 pub tent-field : {p : Tents} → IsTents p → IsField p
@@ -268,13 +245,13 @@ tent-field is = grind (arith, common_steps, counts-few)
 pub tent-counting : {p : Tents} → IsTents p → IsCounting (tent_cells p) (is_barred p) (tent_houses p) (solves_tents p)
 unfolding is_barred
 tent-counting {p} is = record {
-  few_cells = let b = tent-field is in let a : p.size.w * p.size.h ≤ 256 * p.size.h = mul-le-mul_right p.size.h b.w_few in let h = b.h_few in omega arith;
+  few_cells = let b = tent-field is in omega (arith, mul-le-mul_right p.size.h b.w_few);
   are_houses = λ h lt. (each-met p (tent-field is) h lt).is_house;
   blocked_zero = λ g grid good c lt bare. elim (or_cases (tree p c) _ bare) [
     | inl on ↦ tree-bare p g good lt on
-    | inr alone ↦ zero-from (slice_index g c) (small-at grid c) (λ one.
-        let w = tent-tree p g grid good c (eq-eqb (slice_index g c) 1 one) in
-        true≢false (sym (any-here (tree p) (steps p.size c 4) w.0 w.2 w.1) ∙ not-true (list_any (tree p) (steps p.size c 4)) alone))
+    | inr alone ↦ zero-from _ (small-at grid c) (λ one.
+        let w = tent-tree p g grid good c (eq-eqb _ 1 one) in
+        true≢false (sym (any-here (tree p) _ w.0 w.2 w.1) ∙ not-true (list_any (tree p) (steps p.size c 4)) alone))
   ];
   meets_each = λ g grid good h lt. (each-met p (tent-field is) h lt).met g grid good;
 }

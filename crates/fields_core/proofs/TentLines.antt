@@ -1,17 +1,6 @@
 -- The tents of a line, and the cells that a cell can touch.
-use Rattle.std.proofs.Common.{◌≡◌, ℕ, zero, suc, ◌+◌, ◌-◌, ◌*◌, ◌/◌, ◌%◌, ◌<◌, ◌≤◌, ◌⊎◌, inl, inr, min, Bool, true, false, not, ◌&&◌, eqb, leb, List, length, slice_index, take, refl, sym, ap, ◌∙◌, arith, leb-true, le-leb}
-use Rattle.std.specs.List.{count_by}
-use Rattle.std.proofs.lemmas.Bool.{cases_Bool, cases_lt, and_parts, and_from, and_left, true≢false, false_from_ne_true, eq-eqb, ne_eqb}
-use Rattle.std.proofs.lemmas.List.{take_all}
-use Rattle.std.proofs.lemmas.List.Sums.{count_by_more_yes, count_by_more_no}
-use Rattle.std.proofs.Math.Nat.{mod-lt}
-use Rattle.std.proofs.lemmas.Nat.{div-add-mod', div-mul-add, mod-mul-add}
-use Rattle.grid_core.specs.Extent.{Extent}
-use Rattle.grid_core.specs.Candidates.{any_below}
-use Rattle.grid_core.proofs.CandidateLemmas.{any_below-some, any_below-here}
-use Rattle.fields_core.specs.Tents.{tent, touches, are_near}
+use Rattle.fields_core.proofs.Common.{Bool, Extent, List, and_from, and_left, and_parts, any_below, any_below-here, any_below-some, ap, are_near, arith, cases_Bool, cases_lt, common_steps, count_by, count_by_more_no, count_by_more_yes, div-add-mod', div-mul-add, eq-eqb, eqb, false, false_from_ne_true, inl, inr, le-leb, leb, leb-true, length, min, mod-lt, mod-mul-add, ne_eqb, not, refl, slice_index, suc, sym, take, take_all, tent, touches, true, true≢false, zero, ℕ, ◌%◌, ◌&&◌, ◌*◌, ◌+◌, ◌-◌, ◌/◌, ◌<◌, ◌∙◌, ◌≡◌, ◌≤◌, ◌⊎◌}
 use Rattle.fields_core.specs.TentTouching.{IsTentAmong, IsWindow}
-use Rattle.std.proofs.lemmas.Grind.{common_steps}
 
 -- so many of the first cells of a line have a tent
 pub record IsLineCounted (g line : List ℕ) (n tents : ℕ) : Type 0 where
@@ -24,19 +13,19 @@ line-start g line = record { few = omega arith; same = refl }
 pub line-skip : (g line : List ℕ) (n tents d v : ℕ) → IsLineCounted g line n tents → n < length line
     → d ≡ slice_index line n → v ≡ slice_index g d → (v ≡ 1 → ⊥)
     → IsLineCounted g line (n + 1) tents
-line-skip g line n tents d v before lt at is none = grind (arith, common_steps, count_by_more_no, ne_eqb, slice_index)
+line-skip g line n tents d v before lt at is none = grind (arith, common_steps, ne_eqb)
 
 pub line-more : (g line : List ℕ) (n tents d v : ℕ) → IsLineCounted g line n tents → n < length line
     → d ≡ slice_index line n → v ≡ slice_index g d → v ≡ 1
     → IsLineCounted g line (n + 1) (tents + 1)
-line-more g line n tents d v before lt at is one = grind (arith, common_steps, count_by_more_yes, eq-eqb, slice_index)
+line-more g line n tents d v before lt at is one = grind (arith, common_steps, eq-eqb)
 
 pub line-all : (g line : List ℕ) (n m tents : ℕ) → IsLineCounted g line n tents → length line ≡ m → m ≤ n → tents ≡ count_by (tent g) line
-line-all g line n m tents before long ge = before.same ∙ ap (count_by (tent g)) (take_all n line (omega arith))
+line-all g line n m tents before long ge = grind (arith, common_steps)
 
 -- a cell touches only those that are no further than a row and a cell
 near-parts : (a b : ℕ) → are_near a b ≡ true → (a ≤ b + 1) × (b ≤ a + 1)
-near-parts a b on = let w = and_parts (leb a (b + 1)) (leb b (a + 1)) on in (leb-true a (b + 1) w.0, leb-true b (a + 1) w.1)
+near-parts a b on = let w = and_parts _ _ on in (leb-true a (b + 1) w.0, leb-true b (a + 1) w.1)
 
 -- it lies in the row, and each of its cells is near
 record HasEnds (w a first end : ℕ) : Type 0 where
@@ -55,7 +44,7 @@ not-same : {a b : ℕ} → not (eqb a b) ≡ true → a ≡ b → ⊥
 not-same off e = grind (arith, common_steps)
 
 near-from : (a b : ℕ) → a ≤ b + 1 → b ≤ a + 1 → are_near a b ≡ true
-near-from a b p q = and_from (leb a (b + 1)) (leb b (a + 1)) (le-leb a (b + 1) p) (le-leb b (a + 1) q)
+near-from a b p q = and_from _ _ (le-leb a (b + 1) p) (le-leb b (a + 1) q)
 
 -- a cell of row v and column u is touched where both are near
 touch-from : (size : Extent) (a d v u : ℕ) → d ≡ v * size.w + u → u < size.w → (d ≡ a → ⊥)
@@ -69,7 +58,7 @@ row-before (suc v) w p = let e : suc v - 1 ≡ v = omega arith in rw e (omega ar
 row-before zero w p = absurd (omega arith)
 
 none-below : (test : ℕ → Bool) (n : ℕ) → ((k : ℕ) → k < n → test k ≡ false) → false ≡ any_below test n
-none-below test n none = sym (false_from_ne_true (any_below test n) (λ on. let w = any_below-some test n on in true≢false (sym w.2 ∙ none w.0 w.1)))
+none-below test n none = grind (arith, common_steps, false_from_ne_true, any_below-some)
 
 -- a row that ends past the first is not the first
 second-row : (y w : ℕ) → w < y * w + w → 1 ≤ y
@@ -99,8 +88,8 @@ module _ (size : Extent) {a first end : ℕ} (pos : 0 < size.w) (window : IsWind
   pub touch-above : (d : ℕ) → first - size.w ≤ d → d < end - size.w → touches size a d ≡ true
   touch-above d p q =
       let e = ends in
-      let row : 1 ≤ a / size.w = second-row (a / size.w) size.w (omega arith) in
-      let back = row-before (a / size.w) size.w row in
+      let row = second-row _ size.w (omega arith) in
+      let back = row-before _ size.w row in
       let third : size.w ≤ first = omega (arith, one-row (a / size.w) size.w row) in
       touch-from size a d (a / size.w - 1) (d - (a / size.w - 1) * size.w) (omega arith)
       (omega arith) (omega arith) (omega arith) (omega arith) (omega (arith, here))
@@ -116,8 +105,7 @@ module _ (size : Extent) {a first end : ℕ} (pos : 0 < size.w) (window : IsWind
 
   -- the cells of another row at the same columns
   inside : {u : ℕ} → u < size.w → a % size.w ≤ u + 1 → u ≤ a % size.w + 1 → (first ≤ a / size.w * size.w + u) × (a / size.w * size.w + u < end)
-  inside lt p q =
-      (elim window.left [ inl l ↦ omega (arith, here) | inr l ↦ omega (arith, here) ], elim window.right [ inl r ↦ omega (arith, here) | inr r ↦ omega (arith, here) ])
+  inside lt p q = grind (arith, common_steps, here)
 
   -- a cell that is touched is another one of the three windows
   pub is-touched : (d : ℕ) → touches size a d ≡ true → (d ≡ a → ⊥) × IsNearWindow size.w first end d

@@ -1,21 +1,10 @@
 -- The next cell that a cell is joined to, and whether a tree is beside a cell: the cells beside a cell ascend by direction.
-use Rattle.std.proofs.Common.{◌≡◌, ℕ, ◌+◌, ◌<◌, ◌≤◌, Bool, true, false, not, List, slice_index, Option, Some, None, refl, sym, ap, ◌∙◌, inl, inr, arith}
+use Rattle.fields_core.proofs.Common.{Bool, IsNext, List, None, Option, Some, Tents, ap, arith, cases_eq, cases_lt, common_steps, count_below, counted, false, false_from_ne_true, inl, inr, is_barred, list_any, may_pair, not, refl, slice_index, step, steps, sym, tent_cells, tree, tree_beside, tree_count, trees_of, true, true≢false, ℕ, ◌+◌, ◌<◌, ◌∙◌, ◌≡◌, ◌≤◌}
 use Rattle.std.specs.Prelude.{MatchOption}
-use Rattle.std.specs.List.{list_any}
-use Rattle.std.proofs.lemmas.Bool.{cases_eq, cases_lt, true≢false, false_from_ne_true}
-use Rattle.grid_core.specs.Candidates.{count_below}
-use Rattle.grid_core.specs.Regions.{steps, step}
-use Rattle.engine_core.specs.RuleSystem.{IsNext}
-use Rattle.engine_core.proofs.IndexLemmas.{counted}
-use Rattle.gameid_core.specs.Puzzles.{Tents}
-use Rattle.fields_core.specs.Tents.{tent_cells, tree}
-use Rattle.fields_core.specs.TentPairs.{trees_of, tree_count, tree_beside, may_pair}
-use Rattle.fields_core.specs.TentHouses.{is_barred}
 use Rattle.fields_core.proofs.StepLaws.{some-inj, ascends, steps-some}
 use Rattle.fields_core.proofs.BelowLemmas.{any-here, any-none}
 use Rattle.fields_core.proofs.TentBeside.{steps-has}
 use Rattle.fields_core.proofs.TentNumbers.{passing-long, passing-at, at-passing}
-use Rattle.std.proofs.lemmas.Grind.{common_steps}
 
 none-some : (d : ℕ) → None ≡ Some d → ⊥
 none-some d e = grind (arith, common_steps)
@@ -47,21 +36,19 @@ pub next-found : {p : Tents} {c from n other number : ℕ} → 2 ≤ p.size.w �
     → IsNext (tree_beside p c) (tree_count p) from (Some number)
 next-found {p} {c} {n} {other} wide passed lt at inside on is ge = (
   ge,
-  let u = counted (tree p) other (tent_cells p) inside on in omega arith,
+  omega (arith, counted (tree p) other (tent_cells p) inside on),
   rw (is, at-passing (tree p) (tent_cells p) inside on) (steps-has p.size c 4 n lt (sym at)),
-  λ j from_j less. false_from_ne_true (tree_beside p c j) (λ near.
-      let u = counted (tree p) other (tent_cells p) inside on in
-      let w = passing-at (tree p) (tent_cells p) j (omega (arith, passing-long (tree p) (tent_cells p))) in
-      let s = steps-some p.size c 4 (slice_index (trees_of p) j) near in
+  λ j from_j less. false_from_ne_true _ (λ near.
+      let u = counted (tree p) other _ inside on in
+      let w = passing-at (tree p) _ j (omega (arith, passing-long (tree p) (tent_cells p))) in
+      let s = steps-some p.size c 4 _ near in
       let b = w.before in
       elim (cases_lt s.0 n) [
-        | inl early ↦ let f = passed.none s.0 (slice_index (trees_of p) j) early s.2 w.passes in omega arith
+        | inl early ↦ omega (arith, passed.none s.0 (slice_index (trees_of p) j) early s.2 w.passes)
         | inr late ↦ elim (cases_eq s.0 n) [
-          | inl same ↦ let e : other ≡ slice_index (trees_of p) j = some-inj (at ∙ rw same at s.2) in let f = ap (count_below (tree p)) e in omega arith
+          | inl same ↦ let e : other ≡ slice_index (trees_of p) j = some-inj (at ∙ rw same at s.2) in omega (arith, ap (count_below (tree p)) e)
           | inr after ↦
-              let up : other < slice_index (trees_of p) j = ascends p.size c other n s.0 (omega arith) (omega arith) s.1 (sym at) s.2 in
-              let f = counted (tree p) other (slice_index (trees_of p) j) up on in
-              omega arith
+              let up : other < slice_index (trees_of p) j = ascends p.size c other n s.0 (omega arith) (omega arith) s.1 (sym at) s.2 in omega (arith, counted (tree p) other (slice_index (trees_of p) j) up on)
         ]
       ]),
 )
@@ -84,12 +71,12 @@ pub record IsTreeless (p : Tents) (c n : ℕ) : Type 0 where
 
 pub treeless-all : (p : Tents) (c n : ℕ) → IsTreeless p c n → 4 ≤ n → false ≡ list_any (tree p) (steps p.size c 4)
 treeless-all p c n passed ge =
-    sym (any-none (tree p) (steps p.size c 4)
+    sym (any-none (tree p) _
     (λ d on. let s = steps-some p.size c 4 d on in let lt = s.1 in
     passed.none s.0 d (omega arith) s.2))
 
 pub tree-found : (p : Tents) (c n other : ℕ) → n < 4 → Some other ≡ step p.size c n → tree p other ≡ true → true ≡ list_any (tree p) (steps p.size c 4)
-tree-found p c n other lt at on = sym (any-here (tree p) (steps p.size c 4) other (steps-has p.size c 4 n lt (sym at)) on)
+tree-found p c n other lt at on = sym (any-here (tree p) _ other (steps-has p.size c 4 n lt (sym at)) on)
 
 pub barred-tree : (p : Tents) (c : ℕ) → tree p c ≡ true → true ≡ is_barred p c
 unfolding is_barred

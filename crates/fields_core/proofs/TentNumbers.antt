@@ -1,12 +1,6 @@
 -- Numbers below n that pass a test, by how many pass before them.
-use Rattle.std.proofs.Common.{◌≡◌, ℕ, zero, suc, ◌+◌, ◌-◌, ◌<◌, Bool, true, false, cond, List, [], ◌∷◌, ◌++◌, length, get_or, slice_index, take, set, refl, sym, ap, ◌∙◌, inl, inr, add-one, arith}
-use Rattle.std.proofs.lemmas.Bool.{cases_Bool, cases_eq, cases_lt, ne_eqb, eq-eqb}
-use Rattle.std.proofs.lemmas.List.{append-nil, length-append, take_more_set, get_or-set_same, get_or-set_other, get_or_append_left, get_or-append_right}
-use Rattle.grid_core.specs.Candidates.{count_below}
-use Rattle.engine_core.proofs.IndexLemmas.{counted, numbered}
-use Rattle.fields_core.specs.Tents.{tent}
+use Rattle.fields_core.proofs.Common.{Bool, List, [], add-one, ap, append-nil, arith, cases_Bool, cases_eq, cases_lt, common_steps, cond, count_below, counted, eq-eqb, false, get_or, get_or-append_right, get_or-set_other, get_or-set_same, get_or_append_left, inl, inr, length, length-append, ne_eqb, numbered, refl, set, slice_index, suc, sym, take, take_more_set, tent, true, zero, ℕ, ◌++◌, ◌+◌, ◌-◌, ◌<◌, ◌∙◌, ◌∷◌, ◌≡◌}
 use Rattle.fields_core.proofs.RunLemmas.{passing, passing-more, passing-suc}
-use Rattle.std.proofs.lemmas.Grind.{common_steps}
 
 pub passing-long : (test : ℕ → Bool) (n : ℕ) → length (passing test n) ≡ count_below test n
 unfolding count_below
@@ -39,16 +33,12 @@ passing-at test n r lt =
 -- ---- the tents of a grid, one after another
 pub listed-skip : (g tents : List ℕ) (count n v : ℕ) → take count tents ≡ passing (tent g) n
     → v ≡ slice_index g n → (v ≡ 1 → ⊥) → take count tents ≡ passing (tent g) (n + 1)
-listed-skip g tents count n v before at none =
-    before ∙ sym (passing-more (tent g) n
-    ∙ rw (ne_eqb (slice_index g n) 1 (λ e. none (at ∙ e))) (append-nil (passing (tent g) n)))
+listed-skip g tents count n v before at none = grind (arith, common_steps, passing-more, ne_eqb, append-nil)
 
 pub listed-keep : (g tents : List ℕ) (count n v : ℕ) → take count tents ≡ passing (tent g) n
     → v ≡ slice_index g n → v ≡ 1 → count < length tents
     → take (count + 1) (set tents count n) ≡ passing (tent g) (n + 1)
-listed-keep g tents count n v before at one lt =
-    take_more_set tents count n lt ∙ ap (λ l. l ++ n ∷ []) before
-    ∙ sym (passing-more (tent g) n ∙ rw (eq-eqb (slice_index g n) 1 (sym at ∙ one)) refl)
+listed-keep g tents count n v before at one lt = grind (arith, common_steps, passing-more, eq-eqb)
 
 pub listed-all : (g tents : List ℕ) (count n cells : ℕ) → take count tents ≡ passing (tent g) n → n ≡ cells → take count tents ≡ passing (tent g) cells
 listed-all g tents count n cells before e = before ∙ ap (passing (tent g)) e

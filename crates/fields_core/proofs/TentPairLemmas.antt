@@ -1,36 +1,18 @@
 -- Tents and trees can be paired exactly if there are as many of both and each tent can have a tree of its own: then none is
 -- left out. A pairing is a choice of a tree for each tent, which a short set rules out.
-use Rattle.std.proofs.Common.{◌≡◌, ℕ, ◌<◌, ◌≤◌, true, false, ◌&&◌, List, [], length, slice_index, take, map, sym, ap, subst, ◌∙◌, arith}
-use Rattle.std.specs.List.{filter, range_with_len}
-use Rattle.std.proofs.lemmas.Bool.{cases_Bool, or_left, or_right, and_from, false_from_ne_true}
-use Rattle.std.proofs.lemmas.List.{length-map, length-take, get_or-map}
-use Rattle.std.proofs.lemmas.List.FromFn.{get_or-map-range_with_len}
-use Rattle.grid_core.specs.Regions.{steps}
-use Rattle.grid_core.specs.Candidates.{count_below}
+use Rattle.fields_core.proofs.Common.{AreDifferent, AreDistinct, AreIn, Fills, IsPairedBy, List, Tents, [], all_below-from, and_from, ap, arith, can_be_paired, cases_Bool, common_steps, count_below, counted, different-from, distinct-filter, distinct-from, false, false_from_ne_true, filter, get_or-map, get_or-map-range_with_len, has_place, has_place-here, has_value, leaves_none_out, length, length-map, length-take, map, may_pair, names_none_twice, or_left, or_right, place-filter, place-kept, range_with_len, slice_index, steps, subst, sym, take, tent, tent_cells, test_from_filling, tree, tree_count, trees_beside, trees_of, true, ℕ, ◌&&◌, ◌<◌, ◌∙◌, ◌≡◌, ◌≤◌}
 use Rattle.grid_core.specs.Pairings.{IsPairing, IsShortSet}
 use Rattle.grid_core.proofs.ShortSets.{no_choice}
-use Rattle.grid_core.proofs.CandidateLemmas.{all_below-from}
-use Rattle.engine_core.specs.RuleSystem.{has_place}
-use Rattle.engine_core.specs.PlaceLaws.{has_place-here, AreDistinct, different-from, distinct-from, place-filter, place-kept, distinct-filter}
-use Rattle.engine_core.specs.Filling.{has_value, Fills}
-use Rattle.engine_core.specs.FillingLaws.{test_from_filling}
-use Rattle.engine_core.specs.HouseSets.{AreDifferent}
-use Rattle.engine_core.proofs.IndexLemmas.{counted}
-use Rattle.gameid_core.specs.Puzzles.{Tents}
-use Rattle.fields_core.specs.Tents.{tent_cells, tree, tent, names_none_twice, leaves_none_out, trees_beside, can_be_paired}
-use Rattle.fields_core.specs.TentPairs.{trees_of, tree_count, may_pair, AreIn}
-use Rattle.fields_core.specs.TentSolutions.{IsPairedBy}
 use Rattle.fields_core.proofs.BelowLemmas.{index_of, index-is, place-map, none-twice-from, distinct-none-twice, different-map, range-distinct, few-below, each-named}
 use Rattle.fields_core.proofs.TentBeside.{beside-in}
 use Rattle.fields_core.proofs.TentLines.{some-wide}
 use Rattle.fields_core.proofs.TentNumbers.{IsPassing, passing-long, passing-at, at-passing}
 use Rattle.fields_core.proofs.TentCounting.{tents_of, IsGiven, given, tent-in, in-range}
-use Rattle.std.proofs.lemmas.Grind.{common_steps}
 
 -- ---- the tents by place
 pub tents-distinct : (p : Tents) (g : List ℕ) → AreDistinct (tents_of p g)
 unfolding tents_of
-tents-distinct p g = distinct-filter (tent g) (range_with_len 0 (tent_cells p)) (range-distinct (tent_cells p))
+tents-distinct p g = distinct-filter (tent g) _ (range-distinct _)
 
 pub tent-listed : (p : Tents) (g : List ℕ) (c : ℕ) → length g ≡ tent_cells p → tent g c ≡ true → has_place (tents_of p g) c ≡ true
 unfolding tents_of
@@ -38,7 +20,7 @@ tent-listed p g c long on = place-kept (tent g) (range_with_len 0 (tent_cells p)
 
 pub listed-tent : (p : Tents) (g : List ℕ) (c : ℕ) → has_place (tents_of p g) c ≡ true → tent g c ≡ true
 unfolding tents_of
-listed-tent p g c on = (place-filter (tent g) (range_with_len 0 (tent_cells p)) c on).1
+listed-tent p g c on = (place-filter (tent g) _ c on).1
 
 -- ---- a whole pairing of the cells pairs tents and trees
 set-of : (p : Tents) (t c : ℕ) → t < tent_cells p → tree p c ≡ true → has_place (steps p.size t 4) c ≡ true → has_value (trees_beside p t) c ≡ true
@@ -47,7 +29,7 @@ set-of p t c inside on beside = grind (arith, common_steps, beside-in, some-wide
 pub pairs-from : (p : Tents) (g : List ℕ) {tree_of : ℕ → ℕ} → length g ≡ tent_cells p → IsPairedBy p g tree_of → can_be_paired p g ≡ true
 unfolding can_be_paired tents_of
 pairs-from p g {tree_of} long is =
-    test_from_filling (map (trees_beside p) (tents_of p g))
+    test_from_filling _
     (λ chosen. names_none_twice chosen && leaves_none_out p chosen) chosen fills
     (and_from _ _ twice none_out)
   where
@@ -59,30 +41,29 @@ pairs-from p g {tree_of} long is =
 
     fills : Fills (map (trees_beside p) (tents_of p g)) chosen
     fills = record {
-      len = length-map (tents_of p g) tree_of ∙ sym (length-map (tents_of p g) (trees_beside p));
+      len = length-map _ tree_of ∙ sym (length-map _ _);
       each = λ k lt.
           let low : k < length (tents_of p g) = omega (arith, length-map (tents_of p g) (trees_beside p)) in
           let t = slice_index (tents_of p g) k in
-          let on = listed-tent p g t (has_place-here (tents_of p g) k low) in
+          let on = listed-tent p g t (has_place-here _ k low) in
           rw (get_or-map (trees_beside p) (tents_of p g) k 0 [] low, get_or-map tree_of (tents_of p g) k 0 0 low)
           (set-of p t (tree_of t) (below t on) (is.is_tree t (below t on) on) (is.is_beside t (below t on) on));
     }
 
     twice : names_none_twice chosen ≡ true
-    twice = none-twice-from chosen (distinct-from chosen (different-map tree_of (tents_of p g) (different-from (tents_of p g) (tents-distinct p g))
-        (λ a b at_a at_b. let x = listed-tent p g a at_a in let y = listed-tent p g b at_b in is.own a b (below a x) (below b y) x y)))
+    twice = grind (arith, common_steps, none-twice-from, distinct-from, different-map, different-from, tents-distinct, listed-tent, below)
 
     none_out : leaves_none_out p chosen ≡ true
-    none_out = grind (arith, common_steps, all_below-from, cases_Bool, or_right, place-map, tree_of, tents_of, tent-listed, or_left)
+    none_out = grind (arith, common_steps, all_below-from, or_right, place-map, tent-listed, or_left)
 
 -- the number of a tree, and the tree of a number
 tree-number : (p : Tents) {c : ℕ} → c < tent_cells p → tree p c ≡ true
     → (count_below (tree p) c < tree_count p)
     × (slice_index (trees_of p) (count_below (tree p) c) ≡ c)
-tree-number p {c} lt on = (counted (tree p) c (tent_cells p) lt on, at-passing (tree p) (tent_cells p) lt on)
+tree-number p {c} lt on = (counted (tree p) c _ lt on, at-passing (tree p) _ lt on)
 
 number-tree : (p : Tents) {r : ℕ} → r < tree_count p → IsPassing (tree p) (tent_cells p) r
-number-tree p {r} lt = passing-at (tree p) (tent_cells p) r (omega (arith, passing-long (tree p) (tent_cells p)))
+number-tree p {r} lt = passing-at (tree p) _ r (omega (arith, passing-long (tree p) (tent_cells p)))
 
 -- ---- each tent has a tree of its own, and there are as many trees
 module _ (p : Tents) (g mates : List ℕ) (long : length g ≡ tent_cells p)
@@ -93,7 +74,7 @@ module _ (p : Tents) (g mates : List ℕ) (long : length g ≡ tent_cells p)
 
   -- a tent by its number
   listed : (c : ℕ) → tent g c ≡ true → (index_of (tents_of p g) c < length (tents_of p g)) × (slice_index (tents_of p g) (index_of (tents_of p g) c) ≡ c)
-  listed c on = index-is (tents_of p g) c (tent-listed p g c long on)
+  listed c on = index-is _ c (tent-listed p g c long on)
 
   number-of : {l : ℕ} → l < length (tents_of p g) → IsPassing (tree p) (tent_cells p) (slice_index mates l)
   number-of {l} lt = number-tree p (whole.in_range l lt)
@@ -159,38 +140,35 @@ module _ (p : Tents) (g chosen : List ℕ) (is : IsGiven p g chosen) where
 
   right-joined : (l : ℕ) → l < length (tents_of p g) → may_pair p (tents_of p g) l (right_of l) ≡ true
   unfolding may_pair
-  right-joined l lt = let e = is.each l lt in subst (λ d. has_place (steps p.size (slice_index (tents_of p g) l) 4) d ≡ true) (sym (right-at lt)) e.2
+  right-joined l lt = grind (arith, common_steps, right-at)
 
   chosen-whole : {short : List ℕ} → IsShortSet (may_pair p (tents_of p g)) (length (tents_of p g)) (tree_count p) short → ⊥
-  chosen-whole {short} few = no_choice (may_pair p (tents_of p g)) (length (tents_of p g)) (tree_count p) short few right_of right-in right-joined right-own
+  chosen-whole {short} few = no_choice _ _ _ short few right_of right-in right-joined right-own
 
   chosen-many : length (tents_of p g) ≡ tree_count p
   chosen-many =
-      let long = is.long in
-      let a = few-below right_of right-in right-own in
-      let b = few-below (λ r. index_of chosen (slice_index (trees_of p) r)) {m = length (tents_of p g)} (λ r lt. let w = at r lt in omega (arith, w.0)) own in
-      omega arith
+      omega (arith, few-below right_of right-in right-own, few-below (λ r. index_of chosen (slice_index (trees_of p) r)) {m = length (tents_of p g)} (λ r lt. let w = at r lt in omega (arith, w.0)) own)
     where
       at : (r : ℕ) → r < tree_count p
           → (index_of chosen (slice_index (trees_of p) r) < length chosen)
           × (slice_index chosen (index_of chosen (slice_index (trees_of p) r)) ≡ slice_index
           (trees_of p) r)
-      at r lt = let n = number-tree p lt in index-is chosen (slice_index (trees_of p) r) (is.none_out (slice_index (trees_of p) r) n.below n.passes)
+      at r lt = let n = number-tree p lt in index-is chosen _ (is.none_out (slice_index (trees_of p) r) n.below n.passes)
 
       own : (r q : ℕ) → r < tree_count p → q < tree_count p
           → index_of chosen (slice_index (trees_of p) r) ≡ index_of chosen
           (slice_index (trees_of p) q) → r ≡ q
       own r q lr lq e =
-          let same : slice_index (trees_of p) r ≡ slice_index (trees_of p) q = sym (at r lr).1 ∙ ap (slice_index chosen) e ∙ (at q lq).1 in
+          let same = sym (at r lr).1 ∙ ap (slice_index chosen) e ∙ (at q lq).1 in
           sym (number-tree p lr).before ∙ ap (count_below (tree p)) same ∙ (number-tree p lq).before
 
 pub short-unpaired : (p : Tents) (g short : List ℕ)
     → IsShortSet (may_pair p (tents_of p g)) (length (tents_of p g)) (tree_count p) short
     → can_be_paired p g ≡ false
-short-unpaired p g short few = false_from_ne_true (can_be_paired p g) (λ on. let w = given p g on in chosen-whole p g w.0 w.1 few)
+short-unpaired p g short few = false_from_ne_true _ (λ on. let w = given p g on in chosen-whole p g w.0 w.1 few)
 
 pub others-unpaired : (p : Tents) (g : List ℕ) → (length (tents_of p g) ≡ tree_count p → ⊥) → can_be_paired p g ≡ false
-others-unpaired p g differ = false_from_ne_true (can_be_paired p g) (λ on. let w = given p g on in differ (chosen-many p g w.0 w.1))
+others-unpaired p g differ = false_from_ne_true _ (λ on. let w = given p g on in differ (chosen-many p g w.0 w.1))
 
 -- ---- the tents of the list
 pub listed-tents : (p : Tents) (g : List ℕ) {tents : List ℕ} → tents ≡ filter (tent g) (range_with_len 0 (tent_cells p)) → tents ≡ tents_of p g
@@ -200,7 +178,7 @@ listed-tents p g e = e
 pub tents-in : (p : Tents) (g : List ℕ) → length g ≡ tent_cells p → AreIn p (tents_of p g)
 tents-in p g long l lt =
     tent-in g (tent_cells p) (slice_index (tents_of p g) l) long
-    (listed-tent p g (slice_index (tents_of p g) l) (has_place-here (tents_of p g) l lt))
+    (listed-tent p g _ (has_place-here _ l lt))
 
 pub count-is : (p : Tents) (g tents : List ℕ) (count : ℕ) → take count tents ≡ tents_of p g → count ≤ length tents → count ≡ length (tents_of p g)
 count-is p g tents count e few = omega (arith, length-take count tents, ap length e)

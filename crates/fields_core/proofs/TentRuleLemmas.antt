@@ -1,28 +1,15 @@
 -- A grid of Tents without a fault is a solution, and one with a fault is not; and the rules' own table.
-use Rattle.std.proofs.Common.{◌≡◌, ℕ, ◌+◌, ◌<◌, Bool, true, false, not, ◌&&◌, eqb, List, [], ◌∷◌, length, slice_index, Option, is_some, sym, ap, ◌∙◌, inl, inr, arith}
-use Rattle.std.proofs.lemmas.Bool.{cases_eq, or_cases, or_parts, not-false, and_from, and_parts, true≢false, eqb-true, eq-eqb, not-true}
-use Rattle.std.specs.List.{AllByRecursion}
-use Rattle.grid_core.specs.Grids.{IsGrid}
-use Rattle.grid_core.specs.Candidates.{all_below}
-use Rattle.grid_core.proofs.CandidateLemmas.{all_below-at, all_below-from, any_below-here, any_below-some, any_below-none}
-use Rattle.engine_core.specs.PlaceLaws.{has_place-here, different-from}
-use Rattle.gameid_core.specs.Puzzles.{Tents}
-use Rattle.fields_core.specs.Tents.{tent_cells, tree, tent, touches, tents_in_column, tents_in_row, tree_right, touch_right, column_right, row_right, can_be_paired, solves_tents}
-use Rattle.fields_core.specs.TentSolutions.{IsPairedBy, IsTentSolution}
-use Rattle.gameid_core.specs.FirstFailed.{NoneFails}
-use Rattle.gameid_core.proofs.FirstFailed.{AreRight, IsKnown, IsMade, Kind, known_tests, none_held, none_tells, right_none}
-use Rattle.fields_core.specs.TentFaults.{FailsTents, IsTentFault, tent_tests}
+use Rattle.fields_core.proofs.Common.{AllByRecursion, AreRight, Bool, FailsTents, IsGrid, IsKnown, IsMade, IsPairedBy, IsTentFault, IsTentSolution, Kind, List, NoneFails, Option, Tents, [], all_below, all_below-at, all_below-from, and_from, and_parts, any_below-here, any_below-none, any_below-some, ap, arith, can_be_paired, cases_eq, column_right, common_steps, different-from, eq-eqb, eqb, eqb-true, false, has_place-here, inl, inr, is_some, known_tests, length, none_held, none_tells, not, not-false, not-true, or_cases, or_parts, right_none, row_right, slice_index, solves_tents, sym, tent, tent_cells, tent_tests, tents_in_column, tents_in_row, touch_right, touches, tree, tree_right, true, true≢false, ℕ, ◌&&◌, ◌+◌, ◌<◌, ◌∙◌, ◌∷◌, ◌≡◌}
 use Rattle.fields_core.specs.declared.tents.fault.TentFault.{TentFault}
 use Rattle.fields_core.specs.declared.tents.fault.TentFault.TheVariants.{Tree, Touch, Column, Row, Match}
 use Rattle.fields_core.proofs.BelowLemmas.{index_of, index-is, distinct-none-twice}
 use Rattle.fields_core.proofs.TentCounting.{tents-parts, tents_of, IsGiven, given, tent-in}
 use Rattle.fields_core.proofs.TentPairLemmas.{tents-distinct, tent-listed, listed-tent, pairs-from}
-use Rattle.std.proofs.lemmas.Grind.{common_steps}
 
 pub tents-from : (p : Tents) (g : List ℕ) → all_below (tree_right p g) (tent_cells p) ≡ true → all_below (touch_right p g) (tent_cells p) ≡ true
     → all_below (column_right p g) p.size.w ≡ true → all_below (row_right p g) p.size.h ≡ true → true ≡ can_be_paired p g → solves_tents p g ≡ true
 unfolding solves_tents
-tents-from p g a b c d e = and_from _ _ a (and_from _ _ b (and_from _ _ c (and_from _ _ d (sym e))))
+tents-from p g a b c d e = grind (arith, common_steps, and_from)
 
 -- ---- the test of a solution is the rule
 gives-tree : (p : Tents) (g chosen : List ℕ) → length g ≡ tent_cells p → IsGiven p g chosen
@@ -36,17 +23,17 @@ gives-tree p g chosen long is = record {
       let b = stands d on_d in
       let same =
       different-from chosen (distinct-none-twice chosen is.none_twice) (place c) (place d)
-      (let i = a.0 in omega arith) (let j = b.0 in omega arith) e in
+      (omega arith) (omega arith) e in
       sym a.1 ∙ ap (slice_index (tents_of p g)) same ∙ b.1;
   none_out = λ d lt on.
       let all = is.long in
       let w = index-is chosen d (is.none_out d lt on) in
       let low : index_of chosen d < length (tents_of p g) = let i = w.0 in omega arith in
       let t = slice_index (tents_of p g) (index_of chosen d) in
-      let here = has_place-here (tents_of p g) (index_of chosen d) low in
+      let here = has_place-here _ (index_of chosen d) low in
       let tent_on = listed-tent p g t here in
-      let v = index-is (tents_of p g) t here in
-      let same = different-from (tents_of p g) (tents-distinct p g) (place t) (index_of chosen d) v.0 low v.1 in
+      let v = index-is _ t here in
+      let same = different-from _ (tents-distinct p g) (place t) (index_of chosen d) v.0 low v.1 in
       (t, tent-in g (tent_cells p) t long tent_on, tent_on, ap (slice_index chosen) same ∙ w.1);
 }
   where
@@ -54,7 +41,7 @@ gives-tree p g chosen long is = record {
     place c = index_of (tents_of p g) c
 
     stands : (c : ℕ) → tent g c ≡ true → (index_of (tents_of p g) c < length (tents_of p g)) × (slice_index (tents_of p g) (index_of (tents_of p g) c) ≡ c)
-    stands c on = index-is (tents_of p g) c (tent-listed p g c long on)
+    stands c on = index-is _ c (tent-listed p g c long on)
 
 no-two : {touch tent_on : Bool} → (touch && tent_on) ≡ false → tent_on ≡ true → touch ≡ false
 no-two off on = grind (arith, common_steps)
@@ -105,31 +92,28 @@ module _ (p : Tents) (g : List ℕ) where
   module _ (grid : IsGrid (tent_cells p) 2 g) where
     tree-made : IsMade (FailsTents p g) trees
     unfolding tree_right
-    tree-made = record {
-      failed = λ c lt off. grind (arith, common_steps, or_parts, not-false, slice_index, cases_eq (slice_index g c) 1, eq-eqb);
-      held = λ c lt on (tent_on, tree_on). grind (arith, common_steps, or_cases, not-true, eqb-true);
-    }
+    tree-made = grind (arith, common_steps, or_parts, not-false, cases_eq, eq-eqb, or_cases, not-true, eqb-true)
 
     touch-made : IsMade (FailsTents p g) touch
     unfolding touch_right
     touch-made = record {
       failed = λ c lt off.
           let parts = and_parts _ _ (not-false _ off) in
-          let w = any_below-some (λ d. touches p.size c d && tent g d) (tent_cells p) parts.1 in
-          let both = and_parts (touches p.size c w.0) (tent g w.0) w.2 in
+          let w = any_below-some _ _ parts.1 in
+          let both = and_parts _ _ w.2 in
           (parts.0, (w.0, w.1, both.1, both.0));
       held = λ c lt on (tent_on, (d, below, on_d, touched)).
           let none = not-true _ (rw tent_on at on) in
-          true≢false (sym (any_below-here (λ e. touches p.size c e && tent g e) (tent_cells p) d below (and_from _ _ touched on_d)) ∙ none);
+          true≢false (sym (any_below-here _ _ d below (and_from _ _ touched on_d)) ∙ none);
     }
 
     column-made : IsMade (FailsTents p g) columns
     unfolding column_right
-    column-made = record { failed = λ x lt off same. true≢false (sym (eq-eqb _ _ same) ∙ off); held = λ x lt on other. other (eqb-true _ _ on) }
+    column-made = grind (arith, common_steps, eq-eqb, eqb-true)
 
     row-made : IsMade (FailsTents p g) rows
     unfolding row_right
-    row-made = record { failed = λ y lt off same. true≢false (sym (eq-eqb _ _ same) ∙ off); held = λ y lt on other. other (eqb-true _ _ on) }
+    row-made = grind (arith, common_steps, eq-eqb, eqb-true)
 
     match-made : IsMade (FailsTents p g) match
     match-made = record {
@@ -146,7 +130,7 @@ module _ (p : Tents) (g : List ℕ) where
 
     -- no test fails a solution, and no other grid passes all
     pub tents-none : IsTentSolution p g → NoneFails (FailsTents p g) (tent_tests p)
-    tents-none s = none_held (FailsTents p g) kinds (
+    tents-none s = none_held _ kinds (
       (λ c lt (on, tree_on). true≢false (sym tree_on ∙ s.none_on_trees c lt on)),
       (
         (λ c lt (on, (d, below, on_d, touched)). true≢false (sym touched ∙ s.none_touch c d lt below on on_d)),
@@ -155,15 +139,15 @@ module _ (p : Tents) (g : List ℕ) where
     )
 
     pub tents-from-solution : IsTentSolution p g → solves_tents p g ≡ true
-    tents-from-solution s = none-right (right_none (FailsTents p g) kinds tents-made (tents-none s))
+    tents-from-solution s = none-right (right_none _ kinds tents-made (tents-none s))
 
     pub tents-sound : NoneFails (FailsTents p g) (tent_tests p) → IsTentSolution p g
-    tents-sound none = solution-from-tents p g grid (none-right (right_none (FailsTents p g) kinds tents-made none))
+    tents-sound none = solution-from-tents p g grid (none-right (right_none _ kinds tents-made none))
 
     pub tents-known : AllByRecursion (IsKnown (FailsTents p g)) (tent_tests p)
-    tents-known = known_tests (FailsTents p g) kinds tents-made
+    tents-known = known_tests _ kinds tents-made
 
     pub tents-tell : (fault : Option TentFault) {told : Bool} → IsTentFault p g fault → is_some fault ≡ not told → told ≡ solves_tents p g
     tents-tell fault {told} is e =
-        none_tells (FailsTents p g) (tent_tests p) tents-none told (solves_tents p g)
+        none_tells _ _ tents-none told _
         (solution-from-tents p g grid) tents-from-solution fault is e

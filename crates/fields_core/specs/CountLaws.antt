@@ -1,4 +1,5 @@
 -- A rule set of count houses is lawful, by the laws of fillings.
+use Rattle.std.proofs.lemmas.Grind.{common_steps}
 use Rattle.std.proofs.Common.{◌≡◌, ℕ, zero, suc, ◌+◌, ◌<◌, Bool, true, not, ◌&&◌, List, [], ◌∷◌, map, slice_index, refl, sym, ◌∙◌, arith, inl, inr}
 use Rattle.std.proofs.lemmas.Bool.{cases_Bool, true≢false, and_parts, and_from, lt-ltb, ltb-true}
 use Rattle.grid_core.specs.Candidates.{IsInside, IsWithin, all_of, single}
@@ -23,30 +24,19 @@ places-at (house ∷ houses) (suc h) = places-at houses h
 
 start-within : {cells : ℕ} (blocked : ℕ → Bool) → IsWithin cells 2 (start_of cells blocked)
 unfolding start_of all_of
-start-within {cells} blocked c v on =
-    let w = and_parts _ _ on in
-    let u = and_parts _ _ w.0 in
-    (ltb-true c cells u.0, ltb-true v 2 u.1)
+start-within {cells} blocked c v on = grind (arith, common_steps, and_parts, ltb-true)
 
 -- a grid that leaves blocked cells at 0 lies inside the start
 start-single : {cells : ℕ} (blocked : ℕ → Bool) (g : List ℕ) → IsGrid cells 2 g
     → ((c : ℕ) → c < cells → blocked c ≡ true → slice_index g c ≡ 0)
     → IsInside (single g) (start_of cells blocked)
 unfolding start_of all_of
-start-single {cells} blocked g grid zero_at c v on =
-    let w = single-is g c v on in
-    let small = grid.each_value c 0 w.0 in
-    let lt : c < cells = omega (arith, w.0, grid.each_cell) in
-    let within = and_from _ _ (lt-ltb c cells lt) (lt-ltb v 2 (omega (arith, small, w.1))) in
-    and_from _ _ within (elim (cases_Bool (blocked c)) [
-      | inl is ↦ let z : v ≡ 0 = sym w.1 ∙ zero_at c lt is in rw (is, z) refl
-      | inr free ↦ rw free refl
-    ])
+start-single {cells} blocked g grid zero_at c v on = grind (arith, common_steps, single-is, and_from, lt-ltb)
 
 -- the lists of the houses' cells
 pub count-scopes : (cells : ℕ) (blocked : ℕ → Bool) (houses : List CountHouse)
     (is_solution : List ℕ → Bool) → AreScopesOf (count_puzzle cells blocked houses is_solution) (map house_places houses)
-count-scopes cells blocked houses is_solution = record { as_many = sym (length-map houses house_places); each = λ h. sym (places-at houses h) }
+count-scopes cells blocked houses is_solution = grind (arith, common_steps, length-map, places-at)
 
 pub count-bound : (cells : ℕ) (blocked : ℕ → Bool) (houses : List CountHouse)
     (is_solution : List ℕ → Bool) → cells + 1 ≡ most_turns (count_puzzle cells blocked houses is_solution) (map house_places houses)

@@ -1,5 +1,5 @@
 -- Reading a description that fills cells: Solo and Light Up.
-use Rattle.gameid_core.specs.Common.{AllByRecursion, Bool, Err, IdFault, List, Ok, Result, TooFew, TooMany, [], ap, append_assoc, arith, common_steps, cond, eqb, fill_end, fill_step, flat_map, le-ltb, length, length-append, ltb, map, reading, refl, true, words, ℕ, ◌++◌, ◌+◌, ◌>>=◌, ◌∙◌, ◌∷◌, ◌≡◌, ◌≤◌}
+use Rattle.gameid_core.specs.Common.{AllByRecursion, Err, IdFault, List, Ok, Result, TooMany, [], ap, append_assoc, arith, common_steps, cond, fill_end, fill_step, flat_map, le-ltb, length, length-append, ltb, map, reading, refl, words, ℕ, ◌++◌, ◌+◌, ◌>>=◌, ◌∙◌, ◌∷◌, ◌≡◌, ◌≤◌}
 use Rattle.gameid_core.proofs.Results.{bind_ok, taken}
 
 -- ---- filling
@@ -12,9 +12,6 @@ pub fill_is : {A : Type 0} (token : ℕ → List ℕ → Result (List A) IdFault
     (cells : List A) (word : List ℕ) (r : Result (List A) IdFault) → token at word ≡ r
     → fill_step token all at cells word ≡ (r >>= filled all cells)
 fill_is token all at cells word r e = rw e refl
-
-pub fill_end_is : {A : Type 0} (all : ℕ) (cells : List A) (full : Bool) → eqb (length cells) all ≡ full → fill_end all cells ≡ cond full (Ok cells) (Err TooFew)
-fill_end_is all cells full e = rw e refl
 
 abbrev pub fills : {A : Type 0} → (ℕ → List ℕ → Result (List A) IdFault) → ℕ → ℕ → List A → List ℕ → Result (List A) IdFault
 fills token all at cells text = reading (fill_step token all) (fill_end all) at cells (words text)
@@ -73,7 +70,7 @@ module _ {T A : Type 0} (text : T → List ℕ) (cells : T → List A) (Fits : T
         → reading (fill_step token most) (fill_end most) at before (map text tokens) ≡ Ok
         (before ++ flat_map cells tokens)
     unfolding reading
-    cells_again again most at before [] each full = grind (arith, common_steps, fill_end_is most before true)
+    cells_again again most at before [] each full = grind (arith, common_steps)
     cells_again again most at before (t ∷ tokens) each full =
         let both = length-append (cells t) (flat_map cells tokens) in
         let so_far = length-append before (cells t) in

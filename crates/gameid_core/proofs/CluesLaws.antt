@@ -13,6 +13,6 @@ cut-close xs ends = grind (arith, common_steps, between_to_end, last-close, piec
 
 pub whole-in : (xs ends : List ℕ) (k : ℕ) → k < length (cut_at ends xs).clues → k < length ends
 unfolding cut_at
-whole-in xs ends k lt = let e = length-pieces xs 0 ends in omega arith
+whole-in xs ends k lt = grind (arith, common_steps, length-pieces)
 
 pub ruleset laws = (ends-more, ends-close, cut-push, cut-close, length-pieces, whole-in, piece-at, piece-ends)

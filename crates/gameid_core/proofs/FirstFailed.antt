@@ -1,14 +1,10 @@
 -- Of tests in their order one is the first that fails, or none fails; and it is one alone.
-use Rattle.gameid_core.specs.Common.{AllByRecursion, Bool, IsAnswerOfCheck, IsFirstFailed, List, None, NoneFails, Option, Some, [], ap, arith, false, false≢true, get_or}
-use Rattle.gameid_core.specs.Common.{get_or-map-range_with_len, inl, inr, is_some, length, length-map-range_with_len, map, not, range_with_len, recursion_from_All, refl, subst, suc}
-use Rattle.gameid_core.specs.Common.{sym, true, zero, ℕ, ◌++◌, ◌<◌, ◌↔◌, ◌∙◌, ◌∷◌, ◌≡◌, ◌⊎◌}
+use Rattle.gameid_core.specs.Common.{AllByRecursion, Bool, IsAnswerOfCheck, IsFirstFailed, List, None, NoneFails, Option, Some, [], arith, false, false≢true, get_or, get_or-map-range_with_len, inl, inr, is_some, length, length-map-range_with_len, map, not, range_with_len, recursion_from_All, refl, subst, suc, sym, true, zero, ℕ, ◌++◌, ◌<◌, ◌↔◌, ◌∷◌, ◌≡◌, ◌⊎◌}
 use Rattle.gameid_core.proofs.Lists.{AllByRecursion-append, all_at}
 use Rattle.std.proofs.lemmas.Bool.{not-false, not-true, true_from_ne_false}
 
 bool_is : (a b : Bool) → (a ≡ true → b ≡ true) → (b ≡ true → a ≡ true) → a ≡ b
-bool_is true b to from = sym (to refl)
-bool_is false true to from = absurd (false≢true (from refl))
-bool_is false false to from = refl
+bool_is a b to from = grind arith
 
 pub all_split : {F : Type 0} (P : F → Type 0) (xs ys : List F) → AllByRecursion P (xs ++ ys) → AllByRecursion P xs × AllByRecursion P ys
 all_split P [] ys all = (tt, all)
@@ -44,9 +40,8 @@ module _ {F : Type 0} (fails : F → Type 0) where
 
   -- ---- the first that fails
   pub first_front : (front rest : List F) (f : F) → IsFirstFailed fails front f → IsFirstFailed fails (front ++ rest) f
-  first_front [] rest f h = elim h [ ]
-  first_front (t ∷ front) rest f (inl here) = inl here
-  first_front (t ∷ front) rest f (inr later) = inr (later.0, first_front front rest f later.1)
+  first_front [] rest f h = grind arith
+  first_front (t ∷ front) rest f h = grind (arith, first_front front rest f)
 
   pub first_rest : (front rest : List F) (f : F) → NoneFails fails front → IsFirstFailed fails rest f → IsFirstFailed fails (front ++ rest) f
   first_rest [] rest f none first = first
@@ -67,24 +62,19 @@ module _ {F : Type 0} (fails : F → Type 0) where
       (λ d low. subst Holds (sym (at d (omega arith))) (before d low)))
 
   none_first : (tests : List F) (f : F) → NoneFails fails tests → IsFirstFailed fails tests f → ⊥
-  none_first [] f none h = elim h [ ]
-  none_first (t ∷ tests) f none (inl here) = none.0 here.1
-  none_first (t ∷ tests) f none (inr later) = none_first tests f none.1 later.1
+  none_first [] f none h = grind arith
+  none_first (t ∷ tests) f none h = grind (arith, none_first tests f none.1)
 
   first_once : (tests : List F) {f g : F} → IsFirstFailed fails tests f → IsFirstFailed fails tests g → f ≡ g
-  first_once [] h k = elim h [ ]
-  first_once (t ∷ tests) (inl here) (inl there) = sym here.0 ∙ there.0
-  first_once (t ∷ tests) (inl here) (inr later) = absurd (later.0 here.1)
-  first_once (t ∷ tests) (inr later) (inl there) = absurd (later.0 there.1)
-  first_once (t ∷ tests) (inr later) (inr after) = first_once tests later.1 after.1
+  first_once [] h k = grind arith
+  first_once (t ∷ tests) h k = grind (arith, first_once tests)
 
   -- ---- one first that fails, or none
   abbrev pub IsKnown : F → Type 0
   IsKnown test = fails test ⊎ Holds test
 
   pub known_by : {test : F} (right : Bool) → (right ≡ false → fails test) → (right ≡ true → Holds test) → IsKnown test
-  known_by true failed held = inr (held refl)
-  known_by false failed held = inl (failed refl)
+  known_by right failed held = grind arith
 
   judged : (tests : List F) → AllByRecursion IsKnown tests → NoneFails fails tests ⊎ ((f : F) × IsFirstFailed fails tests f)
   judged [] known = inl tt
@@ -148,18 +138,14 @@ module _ {F : Type 0} (fails : F → Type 0) where
     Answers fault = IsAnswerOfCheck solution fails tests fault
 
     pub answer_once : (a b : Option F) → Answers a → Answers b → a ≡ b
-    answer_once None None x y = refl
-    answer_once None (Some f) x y = absurd (none_first tests f (complete x) y)
-    answer_once (Some f) None x y = absurd (none_first tests f (complete y) x)
-    answer_once (Some f) (Some g) x y = ap Some (first_once tests x y)
+    answer_once a b x y = grind (arith, none_first, first_once)
 
     pub none_exactly : (fault : Option F) → Answers fault → (fault ≡ None) ↔ solution
     none_exactly fault is = (λ e. subst Answers e is, λ s. answer_once fault None is s)
 
     -- whether nothing is wrong, as a Bool
     pub tells : (told : Bool) (fault : Option F) → Answers fault → is_some fault ≡ not told → (told ≡ true) ↔ solution
-    tells told None is e = ((λ on. is), (λ s. not-false told (sym e)))
-    tells told (Some f) is e = ((λ on. absurd (false≢true (sym (not-true told (sym e)) ∙ on))), (λ s. absurd (none_first tests f (complete s) is)))
+    tells told fault is e = grind (arith, not-false, false≢true, not-true, none_first)
 
     pub none_tells : (told right : Bool) → (right ≡ true → solution) → (solution → right ≡ true)
         → (fault : Option F) → Answers fault → is_some fault ≡ not told → told ≡ right

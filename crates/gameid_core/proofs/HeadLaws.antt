@@ -1,5 +1,5 @@
 -- The part of an ID before its colon: what is read is spelled, and what is spelled is read.
-use Rattle.gameid_core.specs.Common.{Bool, Err, Game, GoesOn, HasNumber, HasSize, HeadRead, IdFault, IsSizeText, IsSoloSizeText, List, None, Ok, Option, Result, Sides, SizeRange, SizeRead, Some, TooLong, Variant, [], after_digits, all_ascii_digits, and_parts, append_assoc, arith, begins, common_steps, cond, decimal, decimal-digits_value, digits_decimal, digits_front, digits_value-decimal, drop, drop_at, eqb, false, false≢true, has_hash, has_x, head_at, head_of, in_range, inl, inr, is_ascii_digit, is_lead, leb, leb-true, length, length-append, list_any, list_any-append, lt-ltb, ltb, ltb-false, max_id, max_side, nat_tests, position, position-Some, position_or_len, puzzle_of, refl, side_at, sides_at, size_of, size_read, solo_size_text, subst, take, take-append-drop, true, two_sides, value, ℕ, ◌++◌, ◌+◌, ◌<◌, ◌>>=◌, ◌^◌, ◌∷◌, ◌≡◌, ◌≤◌}
+use Rattle.gameid_core.specs.Common.{Bool, Err, Game, HasNumber, HasSize, HeadRead, IdFault, IsSizeText, IsSoloSizeText, List, None, Ok, Option, Result, Sides, SizeRange, SizeRead, Some, TooLong, Variant, [], after_digits, all_ascii_digits, and_parts, append_assoc, arith, begins, common_steps, cond, decimal, decimal-digits_value, digits_decimal, digits_front, digits_value-decimal, drop, drop_at, eqb, false, false≢true, has_hash, head_at, head_of, in_range, inl, inr, is_ascii_digit, leb, leb-true, length, length-append, list_any, list_any-append, lt-ltb, ltb, ltb-false, max_id, max_side, nat_tests, position, position-Some, position_or_len, puzzle_of, refl, side_at, sides_at, size_of, size_read, solo_size_text, subst, take, take-append-drop, true, two_sides, value, ℕ, ◌++◌, ◌+◌, ◌<◌, ◌>>=◌, ◌^◌, ◌∷◌, ◌≡◌, ◌≤◌}
 use Rattle.gameid_core.specs.declared.id.game.Game.TheVariants.{Solo}
 use Rattle.gameid_core.proofs.Results.{bind_ok, not_refused, only_taken, taken, ok_is}
 use Rattle.gameid_core.proofs.Numerals.{front_numeral, own, begins_front, decimal_leads}
@@ -19,13 +19,6 @@ after_stops : (text : List ℕ) → begins is_ascii_digit (after_digits text) �
 after_stops [] = refl
 after_stops (b ∷ after) = grind (arith, after_stops after)
 
-pub number_in : (text : List ℕ) → begins is_lead text ≡ true → HasNumber text (digits_front text) (after_digits text)
-number_in [] e = absurd (false≢true e)
-number_in (b ∷ after) e = grind (arith, front_parts (b ∷ after), front_digits (b ∷ after), after_stops (b ∷ after))
-
-pub number_is : (text number rest : List ℕ) → HasNumber text number rest → (digits_front text ≡ number) × (after_digits text ≡ rest)
-number_is text number rest h = grind (arith, front_numeral number rest h.digits h.all)
-
 -- a number is what is written of its value
 number_decimal : {text : List ℕ} (number : List ℕ) {rest : List ℕ} → HasNumber text number rest → value number < 2 ^ 64 → decimal (value number) ≡ number
 number_decimal [] h small = absurd (false≢true h.lead)
@@ -35,7 +28,7 @@ number_decimal (b ∷ ds) h small =
 
 side_read : (text number rest : List ℕ) → HasNumber text number rest → side_at text ≡ Ok (value number, rest)
 unfolding side_at
-side_read text number rest h = grind (arith, number_is text number rest h)
+side_read text number rest h = grind (arith, front_numeral)
 
 pub side_again : {n : ℕ} (rest : List ℕ) → n < 2 ^ 64 → 0 < n → begins is_ascii_digit rest ≡ false → side_at (decimal n ++ rest) ≡ Ok (n, rest)
 unfolding side_at
@@ -51,7 +44,7 @@ x_first e = grind arith
 
 side_found : (text : List ℕ) {x : ℕ × List ℕ} → side_at text ≡ Ok x → (number : List ℕ) × HasNumber text number x.1 × (value number ≡ x.0)
 unfolding side_at
-side_found text e = grind (arith, number_in text)
+side_found text e = grind (arith, common_steps, false≢true, front_parts, front_digits, after_stops)
 
 -- ---- the size
 
@@ -67,10 +60,6 @@ digits_lack : (k : ℕ) (ds : List ℕ) → is_ascii_digit k ≡ false → all_a
 digits_lack k [] other d = refl
 digits_lack k (c ∷ ds) other d = grind (arith, nat_tests, digits_lack k ds other)
 
-size_lacks : (k : ℕ) {front : List ℕ} (a b : ℕ) → is_ascii_digit k ≡ false → eqb 120 k ≡ false
-    → a < 2 ^ 64 → b < 2 ^ 64 → IsSizeText front a b → list_any (λ c. eqb c k) front ≡ false
-size_lacks k a b other x small_a small_b size_text = grind (arith, common_steps, list_any-append, digits_lack, digits_decimal, own)
-
 pub place_of : (p : ℕ → Bool) (front : List ℕ) (c : ℕ) (rest : List ℕ) → list_any p front ≡ false
     → p c ≡ true → position_or_len p (front ++ c ∷ rest) ≡ length front
 place_of p [] c rest none here = rw here refl
@@ -78,7 +67,7 @@ place_of p (b ∷ front) c rest none here = grind (arith, nat_tests, place_of p 
 
 pub position_at : (p : ℕ → Bool) (front : List ℕ) (c : ℕ) (rest : List ℕ) → list_any p front ≡ false
     → p c ≡ true → position p (front ++ c ∷ rest) ≡ Some (length front)
-position_at p front c rest none here = grind (arith, common_steps, place_of p front c rest none here)
+position_at p front c rest none here = grind (arith, common_steps, place_of)
 
 colon_splits : (text : List ℕ) (k : ℕ) → position (λ c. eqb c 58) text ≡ Some k → text ≡ take k text ++ 58 ∷ drop (k + 1) text
 colon_splits text k e = grind (arith, common_steps, position-Some (λ c. eqb c 58) text k 0 e, take-append-drop k text)
@@ -95,35 +84,18 @@ module _ (game : Game) where
   unfolding sides_at
   has_size_read size = grind (arith, common_steps, side_read)
 
-  goes_on : (after : List ℕ) → GoesOn game after (has_x game after) (cond (has_x game after) (drop 1 after) after)
-  goes_on after = grind arith
-
   one_found : (text : List ℕ) (x : ℕ × List ℕ) → side_at text ≡ Ok x → begins (λ c. eqb c 120) x.1 ≡ false → HasSize game text (one_side x.0 x.1)
-  one_found text x e alone =
-      let l = side_found text e in
-      inl (record { side = l.0; number = l.1; alone = alone; both = (l.2, l.2); plain = refl })
+  one_found text x e alone = grind (arith, common_steps, side_found)
 
   two_found : (text : List ℕ) (x y : ℕ × List ℕ) → side_at text ≡ Ok x
       → begins (λ c. eqb c 120) x.1 ≡ true → side_at (drop 1 x.1) ≡ Ok y
       → HasSize game text (two_sides game x.0 y.0 y.1)
-  two_found text x y e two f =
-      let l = side_found text e in
-      let r = side_found (drop 1 x.1) f in
-      inr (record {
-        w_digits = l.0;
-        h_digits = r.0;
-        behind = drop 1 x.1;
-        after = y.1;
-        first = subst (λ t. HasNumber text l.0 t) (x_first two) l.1;
-        second = r.1;
-        goes_on = goes_on y.1;
-        both = (l.2, r.2);
-      })
+  two_found text x y e two f = grind (arith, common_steps, side_found, x_first)
 
   -- and what is read is such a size
   pub sides_found : {text : List ℕ} {size : Sides} → sides_at game text ≡ taken size → HasSize game text size
   unfolding sides_at
-  sides_found {text} e = grind (arith, common_steps, one_found text, two_found text)
+  sides_found {text} e = grind (arith, common_steps, one_found, two_found)
 
   -- a size of the game, with the 'x' of Solo X or without
   abbrev pub IsGameSize : List ℕ → ℕ → ℕ → Bool → Type 0
@@ -134,7 +106,7 @@ module _ (game : Game) where
   plain_size a b x other s = grind arith
 
   game_size : (text : List ℕ) {s : Sides} → s.w < 2 ^ 64 → s.h < 2 ^ 64 → length s.rest ≤ 0 → HasSize game text s → IsGameSize text s.w s.h s.x
-  game_size text small_w small_h none (inl one) = grind (arith, common_steps, number_decimal one.side one.number)
+  game_size text small_w small_h none (inl one) = grind (arith, common_steps, number_decimal)
   game_size text small_w small_h none (inr two) = grind (arith, common_steps, number_decimal two.w_digits two.first, number_decimal two.h_digits two.second)
 
   pub sides_again : (front : List ℕ) (a b : ℕ) (x : Bool) → a < 2 ^ 64 → b < 2 ^ 64 → 0 < a → 0 < b
@@ -142,10 +114,9 @@ module _ (game : Game) where
       (record { w = a; h = b; x = x; rest = [] })
   unfolding sides_at
   sides_again front a b false small_a small_b some_a some_b (inl e) =
-      grind (arith, common_steps, side_again (120 ∷ decimal b) small_a some_a refl, side_again [] small_b some_b refl)
+      grind (arith, common_steps, side_again, side_again [] small_b some_b refl)
   sides_again front a b false small_a small_b some_a some_b (inr e) = grind (arith, common_steps, side_again [] small_a some_a refl)
-  sides_again front a b true small_a small_b some_a some_b e =
-      grind (arith, common_steps, side_again (120 ∷ (decimal b ++ 120 ∷ [])) small_a some_a refl, side_again (120 ∷ []) small_b some_b refl)
+  sides_again front a b true small_a small_b some_a some_b e = grind (arith, common_steps, side_again)
 
   pub range_small : (a b : ℕ) → in_range game a b ≡ true → Small a b
   range_small a b e = grind arith
@@ -165,12 +136,13 @@ module _ (game : Game) where
 
   pub size_again : (front : List ℕ) (a b : ℕ) (x : Bool) → IsGameSize front a b x → in_range game a b ≡ true → size_of game front ≡ Ok (size_read a b x)
   unfolding size_of
-  size_again front a b x text range = grind (arith, range_small a b range, sides_again front a b x)
+  size_again front a b x text range = grind (arith, range_small, sides_again)
 
   game_size_lacks : (k : ℕ) (front : List ℕ) (a b : ℕ) (x : Bool) → is_ascii_digit k ≡ false
       → eqb 120 k ≡ false → a < 2 ^ 64 → b < 2 ^ 64 → IsGameSize front a b x
       → list_any (λ c. eqb c k) front ≡ false
-  game_size_lacks k front a b x other x' small_a small_b s = grind (arith, common_steps, size_lacks)
+  game_size_lacks k front a b x other x' small_a small_b s =
+      grind (arith, common_steps, list_any-append, digits_lack, digits_decimal, own)
 
   pub record IsHead (text : List ℕ) (head : HeadRead) : Type 0 where
     pub front : List ℕ
@@ -210,7 +182,7 @@ module _ (game : Game) where
 
   head_too_long : (text : List ℕ) → max_id < length text → head_of game text ≡ Err TooLong
   unfolding head_of
-  head_too_long text over = rw (lt-ltb max_id (length text) over) refl
+  head_too_long text over = grind (arith, common_steps, lt-ltb)
 
 pub solo_size : (front : List ℕ) (a b : ℕ) (x : Bool) → IsGameSize Solo front a b x → IsSoloSizeText front a b x
 solo_size front a b x s = grind arith
@@ -240,7 +212,7 @@ pub puzzle_again : {P : Type 0} (game : Game) (behind : HeadRead → List ℕ �
     → puzzle_of game behind (front ++ 58 ∷ rest) ≡ behind
     (record { size = size_read a b x; description = length front + 1 }) rest
 unfolding puzzle_of
-puzzle_again game behind front rest a b x size range short = rw (head_again game front rest a b x size range short, after_front front rest) refl
+puzzle_again game behind front rest a b x size range short = grind (arith, common_steps, head_again, after_front)
 
 pub puzzle_too_long : {P : Type 0} (game : Game) (behind : HeadRead → List ℕ → Result P IdFault)
     (text : List ℕ) → max_id < length text → puzzle_of game behind text ≡ Err TooLong

@@ -38,13 +38,12 @@ module _ (game : Game) (text : List ℕ) where
       → in_range game s.w s.h ≡ fits
       → Judged (cond fits (Ok (size_read s.w s.h s.x)) (Err SizeRange))
   of_range s true h none e = ((λ no. no s h), (no_variant s h none, (no_range s h e, tt)))
-  of_range s false h none e = inr ((λ no. no s h), inr (no_variant s h none, inl (refl, (s, h, e))))
+  of_range s false h none e = grind (arith, common_steps, no_variant)
 
   of_rest : (s : Sides) (more : Bool) → HasSize game text s → ltb 0 (length s.rest) ≡ more
       → Judged (cond more (Err Variant)
       (cond (in_range game s.w s.h) (Ok (size_read s.w s.h s.x)) (Err SizeRange)))
-  of_rest s true h e = inr ((λ no. no s h), inl (refl, (s, h, ltb-true _ _ e)))
-  of_rest s false h e = of_range s _ h (ltb-false _ _ e) refl
+  of_rest s more h e = grind (arith, common_steps, ltb-true, of_range, ltb-false)
 
   of_sides : (r : Result Sides IdFault) → sides_at game text ≡ r
       → Judged (r >>= (λ s. cond (ltb 0 (length s.rest)) (Err Variant)
@@ -69,7 +68,7 @@ split_later byte b text other s = (b ∷ s.0, s.1, ap (λ (t : List ℕ). b ∷ 
 
 split : (byte : ℕ) (text : List ℕ) → Lacks byte text ⊎ Split byte text
 split byte [] = inl tt
-split byte (b ∷ text) = grind (arith, split byte text, split_later byte b text, split_here byte text, cases_eq b byte)
+split byte (b ∷ text) = grind (arith, split byte text, split_later, split_here byte text, cases_eq b byte)
 
 lacks_front : (byte : ℕ) (xs ys : List ℕ) → Lacks byte (xs ++ ys) → Lacks byte xs
 lacks_front byte [] ys h = tt
@@ -89,10 +88,10 @@ any_has byte (b ∷ front) rest = grind (arith, any_has byte front rest)
 
 none_at : (byte : ℕ) (text : List ℕ) → Lacks byte text → position_or_len (λ b. eqb b byte) text ≡ length text
 none_at byte [] h = refl
-none_at byte (b ∷ text) h = rw (ne_eqb b byte h.0) (omega (arith, none_at byte text h.1))
+none_at byte (b ∷ text) h = grind (arith, common_steps, ne_eqb, none_at byte text h.1)
 
 position_none : (byte : ℕ) (text : List ℕ) → Lacks byte text → position (λ b. eqb b byte) text ≡ None
-position_none byte text h = grind (arith, none_at byte text h)
+position_none byte text h = grind (arith, none_at)
 
 head_byte : {b c : ℕ} {xs ys : List ℕ} → b ∷ xs ≡ c ∷ ys → b ≡ c
 head_byte e = ap (λ t. get_or t 0 0) e
@@ -136,14 +135,8 @@ module _ (game : Game) (text : List ℕ) where
   abbrev Behind : Result HeadRead IdFault → Type 0
   Behind r = IsJudged fails (SeedId ∷ NoColon ∷ size_tests) r
 
-  hash_first : (s : Split 35 text) → Lacks 58 s.0 → fails SeedId
-  hash_first s lacks = (s.0, s.1, record { parts = s.2; first = lacks })
-
   without : Lacks 58 text → Lacks 35 text ⊎ Split 35 text → Behind (cond (has_hash text) (Err SeedId) (Err NoColon))
-  without none (inl h) = rw (any_lacks 35 text h) (inr ((λ c. no_byte 35 c.0 c.1 (subst (Lacks 35) c.2.parts h)), inl (refl, none)))
-  without none (inr s) =
-      let hash : has_hash text ≡ true = ap (list_any (λ b. eqb b 35)) s.2 ∙ any_has 35 s.0 s.1 in
-      rw hash (inl (refl, hash_first s (lacks_front 58 s.0 (35 ∷ s.1) (subst (Lacks 58) s.2 none))))
+  without none h1 = grind (arith, common_steps, any_lacks, no_byte, any_has, lacks_front)
 
   behind : (front rest : List ℕ) → Comes 58 text front rest → Lacks 35 front ⊎ Split 35 front
       → Behind (cond (has_hash front) (Err SeedId)
@@ -163,10 +156,7 @@ module _ (game : Game) (text : List ℕ) where
       (passed fails SeedId (NoColon ∷ size_tests) _ seed
       (passed fails NoColon size_tests _
       (λ none. no_byte 58 front rest (subst (Lacks 58) colon.parts none)) moved))
-  behind front rest colon (inr s) =
-      let hash : has_hash front ≡ true = ap (list_any (λ b. eqb b 35)) s.2 ∙ any_has 35 s.0 s.1 in
-      let whole : text ≡ s.0 ++ 35 ∷ (s.1 ++ 58 ∷ rest) = colon.parts ∙ ap (λ t. t ++ 58 ∷ rest) s.2 ∙ append_assoc s.0 (35 ∷ s.1) (58 ∷ rest) in
-      rw hash (inl (refl, hash_first (s.0, s.1 ++ 58 ∷ rest, whole, s.3) (lacks_front 58 s.0 (35 ∷ s.1) (subst (Lacks 58) s.2 colon.first))))
+  behind front rest colon (inr s) = grind (arith, common_steps, any_has, append_assoc, lacks_front)
 
   head_at_judged : Lacks 58 text ⊎ Split 58 text → Behind (head_at game text (position (λ b. eqb b 58) text))
   unfolding head_at
@@ -181,8 +171,7 @@ module _ (game : Game) (text : List ℕ) where
   judged : (over : Bool) → ltb max_id (length text) ≡ over
       → IsJudged fails head_tests
       (cond over (Err TooLong) (head_at game text (position (λ b. eqb b 58) text)))
-  judged true e = inl (refl, ltb-true _ _ e)
-  judged false e = passed fails TooLong (SeedId ∷ NoColon ∷ size_tests) _ (λ over. absurd (omega (arith, ltb-false _ _ e))) (head_at_judged (split 58 text))
+  judged over e = grind (arith, common_steps, ltb-true, passed, ltb-false, head_at_judged, split)
 
   pub head_judged : IsJudged {A = HeadRead} (FailsHead game text) head_tests (head_of game text)
   unfolding head_of

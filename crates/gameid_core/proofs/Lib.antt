@@ -4,7 +4,6 @@ pub mod FirstFailed
 pub mod GameLaws
 pub mod HeadLaws
 pub mod HeadTestLaws
-pub mod Letters
 pub mod LightTexts
 pub mod LightWritten
 pub mod LineLaws

@@ -39,7 +39,7 @@ digit_word b low high = record { token = numbered (b - 48); texts = grind arith;
 
 token_byte : (at : ℕ) (word : List ℕ) (more : List LightCell) → IsByte word → light_token at word ≡ Ok more → LightWord word more
 unfolding light_token
-token_byte at word more one e = grind (arith, common_steps, letter_word (get_or word 0 0), digit_word (get_or word 0 0))
+token_byte at word more one e = grind (arith, common_steps, letter_word (get_or word 0 0), digit_word)
 
 -- ---- what is read is spelled
 
@@ -109,10 +109,6 @@ light_takes text p e =
     (λ head description. light_cells_at (head.size.w * head.size.h) head.description
     description) (λ head cells. record { size = extent_of head.size; cells = cells }) e in
     grind (arith, light_take _ _ _ _ r.read, light_lawful _ _ r.is_head.range r.read, plain_size)
-
--- a wide size is in the limits of Light Up, which are those of Tents
-pub wide_range : (size : Extent) → IsWide size → in_range game.LightUp size.w size.h ≡ true
-wide_range size h = grind arith
 
 pub light_text_again : (text : List ℕ) (p : Light) → SpellsLight text p → light_of text ≡ Ok p
 light_text_again text p s =

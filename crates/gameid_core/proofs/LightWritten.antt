@@ -1,15 +1,14 @@
 -- The written text of a puzzle of Light Up: its length, that it spells the puzzle, and that no other does.
-use Rattle.gameid_core.specs.Common.{AllByRecursion, Black, HasOneText, IsLight, IsLightCell, Light, LightCell, List, Numbered, White, [], ap, arith, common_steps, cond, eqb, flat_map, get_or, inl, length, map, max_id, nat_tests, refl, replicate, size_text, suc, zero, ℕ, ◌++◌, ◌+◌, ◌<◌, ◌∷◌, ◌≡◌, ◌≤◌}
-use Rattle.gameid_core.specs.LightText.{IsLightToken, IsWrittenLight, LightToken, SpellsLight, black, light_cells_text, light_text, light_token_byte, light_token_cells, numbered, whites, AreFullLights}
+use Rattle.gameid_core.specs.Common.{AllByRecursion, Black, HasOneText, IsLight, IsLightCell, Light, LightCell, List, Numbered, White, [], arith, common_steps, flat_map, get_or, inl, length, max_id, nat_tests, refl, replicate, size_text, suc, zero, ℕ, ◌++◌, ◌+◌, ◌<◌, ◌∷◌, ◌≡◌, ◌≤◌}
+use Rattle.gameid_core.specs.LightText.{IsLightToken, IsWrittenLight, LightToken, black, light_cells_text, light_text, light_tokens, light_token_cells, numbered, whites, AreFullLights}
 use Rattle.gameid_core.proofs.Lists.{all_at}
 use Rattle.gameid_core.proofs.OneReading.{one_text}
-use Rattle.gameid_core.proofs.Letters.{letters_none, letters_more, letters_last, letters_short}
 use Rattle.gameid_core.proofs.Numerals.{length_decimal}
 
 -- ---- the cells of a puzzle
 
 pub light_at : (cells : List LightCell) (i : ℕ) → AllByRecursion IsLightCell cells → i < length cells → IsLightCell (get_or cells i White)
-light_at cells i each lt = all_at IsLightCell White cells i each lt
+light_at cells i each lt = grind (arith, common_steps, all_at)
 
 pub ruleset turns = (common_steps, light_at)
 
@@ -17,42 +16,16 @@ pub ruleset turns = (common_steps, light_at)
 
 -- a cell takes at most one byte
 cells_short : (k : ℕ) (cells : List LightCell) → length (light_cells_text k cells) ≤ k + length cells
-unfolding light_cells_text
-cells_short k [] = omega (arith, letters_short k)
-cells_short k (White ∷ cells) = omega (arith, cells_short (k + 1) cells)
-cells_short k (Black ∷ cells) = grind (arith, common_steps, cells_short 0 cells, letters_short)
-cells_short k (Numbered n ∷ cells) = grind (arith, common_steps, cells_short 0 cells, letters_short)
+unfolding light_tokens
+cells_short k [] = grind (arith, common_steps)
+cells_short k (White ∷ cells) = grind (arith, nat_tests, common_steps, cells_short 1 cells, cells_short (k + 1) cells)
+cells_short k (Black ∷ cells) = grind (arith, common_steps, cells_short 0 cells)
+cells_short k (Numbered n ∷ cells) = grind (arith, common_steps, cells_short 0 cells)
 
 pub light_short : (p : Light) → IsLight p → length (light_text p) ≤ max_id
-light_short p h = grind (arith, common_steps, length_decimal p.size.w, length_decimal p.size.h, cells_short 0 p.cells)
+light_short p h = grind (arith, common_steps, length_decimal, cells_short)
 
 -- ---- what it spells
-
--- a letter for so many white cells, unless there are none
-abbrev run : ℕ → List LightToken → List LightToken
-run zero tokens = tokens
-run (suc k) tokens = whites (suc k) ∷ tokens
-
--- the tokens of the cells, with k white cells before them
-unfoldable tokens_of : ℕ → List LightCell → List LightToken
-tokens_of k [] = run k []
-tokens_of k (White ∷ cells) = cond (eqb k 26) (whites 26 ∷ tokens_of 1 cells) (tokens_of (k + 1) cells)
-tokens_of k (Black ∷ cells) = run k (black ∷ tokens_of 0 cells)
-tokens_of k (Numbered n ∷ cells) = run k (numbered n ∷ tokens_of 0 cells)
-
-z_first : (k : ℕ) (cells : List LightCell) → 0 < k → light_cells_text (k + 26) cells ≡ 122 ∷ light_cells_text k cells
-unfolding light_cells_text
-z_first k [] some = grind (arith, letters_more (k + 26))
-z_first k (White ∷ cells) some = grind (arith, z_first (k + 1) cells)
-z_first k (Black ∷ cells) some = grind (arith, letters_more (k + 26))
-z_first k (Numbered n ∷ cells) some = grind (arith, letters_more (k + 26))
-
-tokens_spell : (k : ℕ) (cells : List LightCell) → k ≤ 26 → light_cells_text k cells ≡ map light_token_byte (tokens_of k cells)
-unfolding light_cells_text tokens_of
-tokens_spell k [] few = grind (arith, common_steps, letters_none, letters_last)
-tokens_spell k (White ∷ cells) few = grind (arith, nat_tests, common_steps, z_first 1 cells, tokens_spell 1 cells, tokens_spell (k + 1) cells)
-tokens_spell k (Black ∷ cells) few = grind (arith, common_steps, letters_none, letters_last, tokens_spell 0 cells)
-tokens_spell k (Numbered n ∷ cells) few = grind (arith, common_steps, letters_none, letters_last, tokens_spell 0 cells)
 
 full_z : (tokens : List LightToken) → AreFullLights tokens → AreFullLights (whites 26 ∷ tokens)
 full_z tokens h = grind arith
@@ -63,10 +36,11 @@ record Form (cells : List LightCell) (tokens : List LightToken) : Type 0 where
   full : AreFullLights tokens
   filled : flat_map light_token_cells tokens ≡ cells
 
-tokens_form : (k : ℕ) (cells : List LightCell) → k ≤ 26 → AllByRecursion IsLightCell cells → Form (replicate k White ++ cells) (tokens_of k cells)
-unfolding tokens_of
+tokens_form : (k : ℕ) (cells : List LightCell) → k ≤ 26 → AllByRecursion IsLightCell cells → Form (replicate k White ++ cells) (light_tokens k cells)
+unfolding light_tokens
 tokens_form k [] few h = grind (arith, common_steps)
-tokens_form k (White ∷ cells) few h = grind (arith, nat_tests, common_steps, full_z (tokens_of 1 cells), tokens_form 1 cells, tokens_form (k + 1) cells)
+tokens_form k (White ∷ cells) few h =
+    grind (arith, nat_tests, common_steps, full_z, tokens_form 1 cells, tokens_form (k + 1) cells)
 tokens_form k (Black ∷ cells) few h = grind (arith, common_steps, tokens_form 0 cells)
 tokens_form k (Numbered n ∷ cells) few h = grind (arith, common_steps, tokens_form 0 cells)
 
@@ -79,8 +53,8 @@ light_is_written p h =
         short = light_short p h;
         puzzle = h;
         front = size_text p.size.w p.size.h;
-        tokens = tokens_of 0 p.cells;
-        parts = ap (λ (t : List ℕ). size_text p.size.w p.size.h ++ 58 ∷ t) (tokens_spell 0 p.cells (omega arith));
+        tokens = light_tokens 0 p.cells;
+        parts = refl;
         size = inl refl;
         each = w.each;
         cells = w.filled;
@@ -89,32 +63,28 @@ light_is_written p h =
       full = w.full;
     }
 
-of_run : (k j : ℕ) (cells : List LightCell) → k + j ≤ 26 → tokens_of k (replicate j White ++ cells) ≡ tokens_of (k + j) cells
-unfolding tokens_of
+of_run : (k j : ℕ) (cells : List LightCell) → k + j ≤ 26 → light_tokens k (replicate j White ++ cells) ≡ light_tokens (k + j) cells
+unfolding light_tokens
 of_run k zero cells le = grind arith
 of_run k (suc j) cells le = grind (arith, nat_tests, common_steps, of_run (k + 1) j cells)
 
 -- tokens of the form are those of their cells
-form_tokens : (tokens : List LightToken) → AllByRecursion IsLightToken tokens → AreFullLights tokens → tokens_of 0 (flat_map light_token_cells tokens) ≡ tokens
-unfolding tokens_of
+form_tokens : (tokens : List LightToken) → AllByRecursion IsLightToken tokens → AreFullLights tokens → light_tokens 0 (flat_map light_token_cells tokens) ≡ tokens
+unfolding light_tokens
 form_tokens [] each full = refl
-form_tokens (whites k ∷ []) each full = grind (arith, common_steps, of_run 0 k [])
+form_tokens (whites k ∷ []) each full = grind (arith, common_steps, of_run)
 form_tokens (whites k ∷ whites zero ∷ tokens) each full = absurd (omega arith)
 form_tokens (whites k ∷ whites (suc j) ∷ tokens) each full =
-    grind (arith, common_steps, of_run 0 k (flat_map light_token_cells (whites (suc j) ∷ tokens)), form_tokens (whites (suc j) ∷ tokens))
-form_tokens (whites k ∷ black ∷ tokens) each full = grind (arith, common_steps, of_run 0 k (Black ∷ flat_map light_token_cells tokens), form_tokens tokens)
-form_tokens (whites k ∷ numbered n ∷ tokens) each full =
-    grind (arith, common_steps, of_run 0 k (Numbered n ∷ flat_map light_token_cells tokens), form_tokens tokens)
+    grind (arith, common_steps, of_run, form_tokens (whites (suc j) ∷ tokens))
+form_tokens (whites k ∷ black ∷ tokens) each full = grind (arith, common_steps, of_run, form_tokens tokens)
+form_tokens (whites k ∷ numbered n ∷ tokens) each full = grind (arith, common_steps, of_run, form_tokens tokens)
 form_tokens (black ∷ tokens) each full = grind (arith, form_tokens tokens)
 form_tokens (numbered n ∷ tokens) each full = grind (arith, form_tokens tokens)
 
 pub light_form : (text : List ℕ) (p : Light) → IsWrittenLight text p → text ≡ light_text p
-light_form text p w = grind (arith, form_tokens, tokens_spell 0 p.cells)
+light_form text p w = grind (arith, form_tokens)
 
 pub light_one_text : HasOneText IsLight IsWrittenLight light_text
 light_one_text = record { some = light_is_written; one = one_text _ _ light_form }
 
-pub light_spelled : (p : Light) → IsLight p → SpellsLight (light_text p) p
-light_spelled p h = (light_is_written p h).spells
-
-pub ruleset laws = (common_steps, light_is_written, light_spelled, light_short)
+pub ruleset laws = (common_steps, light_is_written, light_short)

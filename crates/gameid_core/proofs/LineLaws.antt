@@ -2,7 +2,7 @@
 use Rattle.gameid_core.specs.Common.{Extent, List, [], arith, column_cells, common_steps, get_or, get_or-map-range_with_len, length-line_numbers, line_numbers, line_numbers-column, line_numbers-row, lines_of, map, map-append, map-range_with_len_more, range_with_len, row_cells, ℕ, ◌++◌, ◌+◌, ◌<◌, ◌∷◌, ◌≡◌}
 
 pub map_more : {A : Type 0} (f : ℕ → A) (k : ℕ) → map f (range_with_len 0 (k + 1)) ≡ map f (range_with_len 0 k) ++ f k ∷ []
-map_more f k = map-range_with_len_more f 0 k k (let z : 0 + k ≡ k = omega arith in z)
+map_more f k = grind (arith, common_steps, map-range_with_len_more)
 
 -- a function of each line's list, for the columns and for the rows
 pub at_column : {A : Type 0} (f : List ℕ → A) (d : A) (size : Extent) (g : List ℕ) (x : ℕ)

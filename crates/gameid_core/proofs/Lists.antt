@@ -13,7 +13,8 @@ pub AllByRecursion-flat_map : {T A : Type 0} (Fits : T → Type 0) (P : A → Ty
     → ((t : T) → Fits t → AllByRecursion P (f t)) → (ts : List T) → AllByRecursion Fits ts
     → AllByRecursion P (flat_map f ts)
 AllByRecursion-flat_map Fits P f h [] all = tt
-AllByRecursion-flat_map Fits P f h (t ∷ ts) all = AllByRecursion-append P (f t) (flat_map f ts) (h t all.0) (AllByRecursion-flat_map Fits P f h ts all.1)
+AllByRecursion-flat_map Fits P f h (t ∷ ts) all =
+    grind (arith, common_steps, AllByRecursion-append, AllByRecursion-flat_map Fits P f h ts all.1)
 
 pub all_at : {A : Type 0} (P : A → Type 0) (d : A) (xs : List A) (i : ℕ) → AllByRecursion P xs → i < length xs → P (get_or xs i d)
 all_at P d [] i h lt = grind arith
@@ -40,6 +41,6 @@ join_some c f (y ∷ ys) x some = join_push c (f y) (map f ys) x
 
 pub join_more : {A : Type 0} (c : ℕ) (f : A → List ℕ) (ys : List A) (x : A) → 0 < length ys
     → join_with_byte c (map f (ys ++ x ∷ [])) ≡ join_with_byte c (map f ys) ++ c ∷ f x
-join_more c f ys x some = grind (arith, common_steps, join_some c f ys (f x))
+join_more c f ys x some = grind (arith, common_steps, join_some)
 
 pub ruleset joins = (common_steps, join_more)

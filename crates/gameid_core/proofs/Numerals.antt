@@ -1,6 +1,6 @@
 -- Numbers as texts: the digits in front, and the written digits of a number.
-use Rattle.gameid_core.specs.Common.{Bool, Cuts, IsNumeral, IsNumeralModel, IsPlain, List, [], after_digits, all_ascii_digits, and_parts, arith, begins, common_steps, decimal, decimal-digits_value, decimal_by_steps, digits_decimal, digits_front, false, is_ascii_digit, is_lead, joins, length, length-append, length-decimal-le, nat_tests, numerals_by_fold, refl, rules, suc, true, value, value_after, zero, ℕ, ◌%◌, ◌*◌, ◌++◌, ◌+◌, ◌-◌, ◌<◌, ◌^◌, ◌∷◌, ◌≡◌, ◌≤◌}
-use Rattle.gameid_core.proofs.Tokens.{value_after_ge, front_turn, front_stop, front_end, cuts_joined, cuts_number}
+use Rattle.gameid_core.specs.Common.{Bool, Cuts, IsNumeral, IsNumeralModel, IsPlain, List, [], after_digits, all_ascii_digits, and_parts, arith, begins, common_steps, decimal, decimal-digits_value, decimal_by_steps, digits_decimal, digits_front, false, is_ascii_digit, is_lead, joins, length, length-append, length-decimal-le, nat_tests, numerals_by_fold, refl, rules, suc, true, value, value_after, zero, ℕ, ◌%◌, ◌++◌, ◌+◌, ◌<◌, ◌^◌, ◌∷◌, ◌≡◌, ◌≤◌}
+use Rattle.gameid_core.proofs.Tokens.{value_after_ge, front_stop, front_end, cuts_joined, cuts_number}
 
 pub own : IsNumeralModel (λ ds. all_ascii_digits ds ≡ true) value
 own = numerals_by_fold _ (search rules) value_after (search rules)
@@ -20,7 +20,7 @@ pub lead_is_digit : (b : ℕ) → is_lead b ≡ true → is_ascii_digit b ≡ tr
 lead_is_digit b e = grind arith
 
 pub value_positive : (b : ℕ) (ds : List ℕ) → 49 ≤ b → 0 < value (b ∷ ds)
-value_positive b ds low = omega (arith, value_after_ge (10 * 0 + (b - 48)) ds)
+value_positive b ds low = grind (arith, common_steps, value_after_ge)
 
 -- the digits in front of a numeral and a text that begins with none
 pub front_numeral : (digits rest : List ℕ) → all_ascii_digits digits ≡ true
@@ -28,19 +28,18 @@ pub front_numeral : (digits rest : List ℕ) → all_ascii_digits digits ≡ tru
     × (after_digits (digits ++ rest) ≡ rest)
 front_numeral [] [] d other = front_end refl
 front_numeral [] (b ∷ rest) d other = front_stop b rest refl other
-front_numeral (c ∷ digits) rest d other =
-    grind (arith, nat_tests, common_steps, front_turn (c ∷ (digits ++ rest)) c (digits ++ rest) refl, front_numeral digits rest)
+front_numeral (c ∷ digits) rest d other = grind (arith, nat_tests, common_steps, front_numeral digits rest)
 
 pub digit_front : (num rest : List ℕ) → IsNumeral num → begins is_ascii_digit (num ++ rest) ≡ true
-digit_front [] rest h = absurd (let some : 0 < 0 = h.some in omega arith)
-digit_front (c ∷ digits) rest h = (and_parts (is_ascii_digit c) (all_ascii_digits digits) h.digits).0
+digit_front [] rest h = grind (arith, common_steps)
+digit_front (c ∷ digits) rest h = grind (arith, common_steps, and_parts)
 
 pub numeral_cuts : (num rest : List ℕ) → IsNumeral num → begins is_ascii_digit rest ≡ false → Cuts (num ++ rest) num rest
 numeral_cuts num rest h other = grind (arith, front_numeral num rest h.digits other, cuts_number (num ++ rest) (digit_front num rest h))
 
 -- a byte that joins digits, and a numeral
 pub joined_cuts : (b : ℕ) → joins b ≡ true → (num rest : List ℕ) → IsNumeral num → begins is_ascii_digit rest ≡ false → Cuts (b ∷ (num ++ rest)) (b ∷ num) rest
-joined_cuts b j num rest h other = grind (arith, front_numeral num rest h.digits other, cuts_joined b (num ++ rest) j)
+joined_cuts b j num rest h other = grind (arith, front_numeral, cuts_joined b (num ++ rest) j)
 
 -- a number takes no more digits than it counts
 pub length_decimal : (n : ℕ) → n < 2 ^ 64 → 0 < n → length (decimal n) ≤ n
@@ -57,7 +56,7 @@ numeral n small = record {
 
 -- digits without a leading zero are what is written of their value
 pub plain_decimal : (num : List ℕ) → IsNumeral num → IsPlain num → value num < 2 ^ 64 → decimal (value num) ≡ num
-plain_decimal [] d h small = absurd (let some : 0 < 0 = d.some in omega arith)
+plain_decimal [] d h small = grind (arith, common_steps)
 plain_decimal (b ∷ []) d h small = decimal-digits_value own (b ∷ []) d.digits d.some (λ zero. refl) small
 plain_decimal (b ∷ c ∷ more) d h small = decimal-digits_value own (b ∷ c ∷ more) d.digits d.some (λ zero. absurd (h zero)) small
 

@@ -29,4 +29,4 @@ only_of {P} spells of again text r gives p s = grind arith
 pub one_text : {P : Type 0} (written : List ℕ → P → Type 0) (write : P → List ℕ)
     → ((text : List ℕ) (p : P) → written text p → text ≡ write p) → (text other : List ℕ) (p : P)
     → written text p → written other p → text ≡ other
-one_text written write form text other p v w = form text p v ∙ sym (form other p w)
+one_text written write form text other p v w = grind (arith)

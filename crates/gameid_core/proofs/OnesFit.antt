@@ -1,5 +1,5 @@
 -- The ones of a line are no more than its cells.
-use Rattle.gameid_core.specs.Common.{AreCounts, Extent, IsExtent, IsGrid, IsTents, List, [], arith, common_steps, length, length-line_numbers, length-map-range_with_len, line_numbers, lines_of, lines_ones, map, ones, range_with_len, recursion_from_All, suc, zero, ℕ, ◌*◌, ◌+◌, ◌∷◌, ◌≡◌, ◌≤◌}
+use Rattle.gameid_core.specs.Common.{AreCounts, Extent, IsExtent, IsGrid, IsTents, List, [], arith, common_steps, length, length-line_numbers, length-map-range_with_len, line_numbers, lines_ones, map, ones, range_with_len, recursion_from_All, suc, zero, ℕ, ◌*◌, ◌+◌, ◌∷◌, ◌≡◌, ◌≤◌}
 
 ones_few : (cells : List ℕ) → ones cells ≤ length cells
 ones_few [] = omega arith
@@ -14,4 +14,4 @@ pub ones_lawful : (size : Extent) (trees tents counts kept : List ℕ) → IsExt
     → 2 ≤ size.h → IsGrid (size.w * size.h) 2 trees → kept ≡ trees → counts ≡ lines_ones size tents
     → IsTents (record { size = size; trees = kept; counts = counts })
 ones_lawful size trees tents counts kept e w h grid same is =
-    grind (arith, recursion_from_All, length-map-range_with_len, are_ones size tents 0 (lines_of size))
+    grind (arith, recursion_from_All, length-map-range_with_len, are_ones)

@@ -1,5 +1,5 @@
 -- Pattern: the steps of a description, and that a text is read exactly where it spells a puzzle.
-use Rattle.gameid_core.specs.Common.{AllByRecursion, AreClues, BadByte, Bool, Bor, Cuts, Err, Extent, Gives, HasOneReading, IdFault, IsClue, IsExtent, IsNumeral, IsPattern, List, Ok, Pattern, Result, TakesNumber, TooFew, TooMany, [], after_digits, ap, append-nil, append_assoc, arith, begins, common_steps, concat, cond, digits_front, drop, eqb, extent_of, false, flat_map, in_range, inl, inr, is_ascii_digit, join_with_byte, length, line_cells, lines_of, map, nat_tests, reading, refl, subst, sym, true, used, value, words, ℕ, ◌++◌, ◌+◌, ◌<◌, ◌>>=◌, ◌∙◌, ◌∷◌, ◌≡◌, ◌≤◌, ◌⊎◌}
+use Rattle.gameid_core.specs.Common.{AllByRecursion, AreClues, BadByte, Bool, Bor, Cuts, Err, Extent, Gives, HasOneReading, IdFault, IsClue, IsExtent, IsNumeral, IsPattern, List, Ok, Pattern, Result, TakesNumber, TooFew, TooMany, [], after_digits, append-nil, append_assoc, arith, begins, common_steps, concat, cond, digits_front, drop, eqb, extent_of, false, flat_map, in_range, inl, inr, is_ascii_digit, join_with_byte, length, line_cells, lines_of, map, nat_tests, reading, refl, subst, sym, true, used, value, words, ℕ, ◌++◌, ◌+◌, ◌<◌, ◌>>=◌, ◌∙◌, ◌∷◌, ◌≡◌, ◌≤◌, ◌⊎◌}
 use Rattle.gameid_core.specs.PatternText.{GivesNumber, clue_number, clue_token, clues_at, pattern_end, pattern_step, SoFar, SpellsPattern, clues_text, pattern_behind, pattern_of}
 use Rattle.gameid_core.proofs.Tokens.{cuts_some, cuts_single, cuts_number, cuts_joined, words_nil, words_single, IsWord, numeral_word, words_are, concat_words}
 use Rattle.gameid_core.proofs.Reading.{reading_turn, reading_end}
@@ -18,7 +18,7 @@ pub first_takes : (cells line at : ℕ) (clue text : List ℕ) (r : Result (ℕ 
 unfolding clue_token
 first_takes cells line at (n ∷ clue) text r none some gives = absurd (omega arith)
 first_takes cells line at [] [] r none some gives = absurd (omega arith)
-first_takes cells line at [] (b ∷ after) r none some gives = grind (arith, cuts_number (b ∷ after), cuts_some b after)
+first_takes cells line at [] (b ∷ after) r none some gives = grind (arith, cuts_number, cuts_some b after)
 
 pub further_takes : (cells line at : ℕ) (clue text : List ℕ) (r : Result (ℕ × Bor (List ℕ)) IdFault) → 0 < used clue → begins (λ b. eqb b 46) text ≡ true
     → GivesDigits (clue_number cells line (used clue) (at + 1) (digits_front (drop 1 text))) (drop 1 text) at r
@@ -57,7 +57,7 @@ further_cases cells line at n m clue word e = grind arith
 
 pub token_small : (cells line at n : ℕ) (clue word : List ℕ) → clue_token cells line clue at word ≡ Ok n → (0 < n) × (used clue + n ≤ cells)
 token_small cells line at n [] word e = grind (arith, common_steps, first_cases)
-token_small cells line at n (m ∷ clue) word e = let f = further_cases cells line at n m clue word e in (f.3, f.4)
+token_small cells line at n (m ∷ clue) word e = grind (arith, common_steps, further_cases)
 
 -- ---- clues that are read fit
 
@@ -65,13 +65,13 @@ IsClue-push : {cells n : ℕ} {clue : List ℕ} → IsClue cells clue → (0 < n
 IsClue-push h p = grind (arith, common_steps, used_push)
 
 IsClue-none : {cells : ℕ} → IsClue cells []
-IsClue-none = record { positive = tt; fits = omega arith }
+IsClue-none = grind (arith, common_steps)
 
 -- ---- texts of numerals
 
 pub join_cons : (c : ℕ) (x : List ℕ) (xs : List (List ℕ)) → join_with_byte c (x ∷ xs) ≡ x ++ flat_map (λ y. c ∷ y) xs
 join_cons c x [] = sym (append-nil x)
-join_cons c x (y ∷ xs) = ap (λ (t : List ℕ). x ++ (c ∷ t)) (join_cons c y xs)
+join_cons c x (y ∷ xs) = grind (arith, common_steps, join_cons c y xs)
 
 -- the numerals of a clue, of which some were read before
 abbrev pub tail_text : List ℕ → List (List ℕ) → List ℕ
@@ -138,7 +138,7 @@ positive_at n [] rest h = h.0
 positive_at n (m ∷ clue) rest h = positive_at n clue rest h.1
 
 used_fits : {cells : ℕ} (n : ℕ) (clue rest : List ℕ) → IsClue cells (clue ++ n ∷ rest) → (0 < n) × (used clue + n ≤ cells)
-used_fits n clue rest h = grind (arith, used_more n clue rest, positive_at n clue rest h.positive)
+used_fits n clue rest h = grind (arith, used_more, positive_at)
 
 first_read : (cells line at : ℕ) {num : List ℕ} → IsNumeral num → 0 < value num → value num ≤ cells → clue_token cells line [] at num ≡ Ok (value num)
 unfolding clue_token clue_number
@@ -193,19 +193,18 @@ module _ (size : Extent) where
   -- '/' ends a clue that is not the last, and is refused after that
   pub slash_full : (at b : ℕ) (s : SoFar) (after : List ℕ) → b ≡ 47 → length s.clues + 1 ≡ lines_of size → reads at s (b ∷ after) ≡ Err TooMany
   unfolding reading
-  slash_full at b s after slash full = grind (arith, common_steps, words_single 47 after)
+  slash_full at b s after slash full = grind (arith, common_steps, words_single)
 
   pub slash_turn : (at b : ℕ) (s : SoFar) (after : List ℕ) → b ≡ 47 → (length s.clues + 1 ≡ lines_of size → ⊥)
       → reads at s (b ∷ after) ≡ reads (at + 1) (so_far (s.clues ++ s.clue ∷ []) []) after
   unfolding reading
-  slash_turn at b s after slash room = grind (arith, common_steps, words_single 47 after)
+  slash_turn at b s after slash room = grind (arith, common_steps, words_single)
 
   -- another token adds a number to the clue
   pub number_turn : (at n : ℕ) (s : SoFar) (text word after : List ℕ) → Cuts text word after → begins (λ b. eqb b 47) text ≡ false
       → clue_token (line_cells size (length s.clues)) (length s.clues) s.clue at word ≡ Ok n
       → reads at s text ≡ reads (at + length word) (so_far s.clues (s.clue ++ n ∷ [])) after
-  number_turn at n s text word after cuts other token =
-      reading_turn (pattern_step size) (pattern_end size) at s _ text word after cuts (step_number at s.clues s.clue word (Ok n) (cuts.first _ ∙ other) token)
+  number_turn at n s text word after cuts other token = grind (arith, common_steps, reading_turn, step_number)
 
   pub end_is : (clues : List (List ℕ)) (clue : List ℕ) (full : Bool)
       → eqb (length clues + 1) (lines_of size) ≡ full
@@ -240,7 +239,7 @@ module _ (size : Extent) where
       → read_words at (so_far clues clue) ws ≡ Ok all
       → AreClues size 0 all × (length all ≡ lines_of size)
   unfolding reading
-  lawful at clues clue [] all h p e = grind (arith, common_steps, AreClues-push 0 clues clue h)
+  lawful at clues clue [] all h p e = grind (arith, common_steps, AreClues-push)
   lawful at clues clue (word ∷ ws) all h p e =
       let b = bind_ok (pattern_step size at (so_far clues clue) word) (λ t. read_words (at + length word) t ws) all e in
       elim (step_cases at clues clue word b.0 b.1) [
@@ -312,8 +311,7 @@ module _ (size : Extent) where
       → AllByRecursion (AllByRecursion IsNumeral) later
       → clues ++ clue ∷ map (map value) later ≡ all → length all ≡ lines_of size
       → AreClues size 0 all → Reads all clues clue (later_text later)
-  later_again all clues clue [] d is len are at =
-      grind (arith, common_steps, reading_end (pattern_step size) (pattern_end size) at (so_far clues clue) [] refl, end_is clues clue true)
+  later_again all clues clue [] d is len are at = grind (arith, common_steps, reading_end, end_is)
   later_again all clues clue (l ∷ later) d is len are at =
       grind (
         arith,

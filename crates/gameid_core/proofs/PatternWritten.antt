@@ -1,37 +1,31 @@
 -- The written text of a puzzle of Pattern: it is short, and it spells the puzzle.
-use Rattle.gameid_core.specs.Common.{AllByRecursion, AreClues, Extent, HasOneText, IsClue, IsExtent, IsNumeral, IsPattern, IsPlain, List, Pattern, [], ap, arith, common_steps, decimal, digits_value-decimal, inl, join_with_byte, length, length-append, line_cells, map, max_id, max_side, refl, size_text, subst, sym, used, value, ℕ, ◌*◌, ◌++◌, ◌+◌, ◌<◌, ◌^◌, ◌∙◌, ◌∷◌, ◌≡◌, ◌≤◌}
+use Rattle.gameid_core.specs.Common.{AllByRecursion, AreClues, Extent, HasOneText, IsExtent, IsNumeral, IsPattern, IsPlain, List, Pattern, [], ap, arith, common_steps, decimal, digits_value-decimal, inl, join_with_byte, length, length-append, map, max_id, max_side, refl, size_text, subst, sym, used, value, ℕ, ◌*◌, ◌++◌, ◌+◌, ◌<◌, ◌^◌, ◌∙◌, ◌∷◌, ◌≡◌, ◌≤◌}
 use Rattle.gameid_core.specs.PatternText.{IsWrittenPattern, SpellsPattern, clue_text, clues_text, pattern_text}
 use Rattle.gameid_core.proofs.OneReading.{one_text}
 use Rattle.gameid_core.proofs.Numerals.{decimal_plain, own, length_decimal, numeral, plain_decimal}
 
 -- ---- how long
 
-pub line_small : {size : Extent} (line : ℕ) → IsExtent size → line_cells size line ≤ max_side
-line_small line h = grind arith
-
 length_clue : (clue : List ℕ) → AllByRecursion (λ n. 0 < n) clue → used clue < 2 ^ 64 → 0 < length clue → length (clue_text clue) + 1 ≤ used clue
 length_clue [] h small some = grind (arith, common_steps, length_decimal, length-append)
 length_clue (x ∷ xs) h small some = grind (arith, common_steps, length_clue xs, length_decimal, length-append)
-
--- a clue's text is no longer than its line
-pub clue_short : {cells : ℕ} {clue : List ℕ} → IsClue cells clue → cells ≤ max_side → length (clue_text clue) ≤ cells
-clue_short h small = grind (arith, common_steps, length_clue)
 
 clues_short : (size : Extent) (line : ℕ) (clues : List (List ℕ)) → IsExtent size
     → AreClues size line clues
     → length (join_with_byte 47 (map clue_text clues)) ≤ (max_side + 1) * length clues
 clues_short size line [] e h = omega arith
-clues_short size line (c ∷ []) e h = grind (arith, common_steps, clue_short)
-clues_short size line (c ∷ d ∷ clues) e h = grind (arith, common_steps, clue_short h.0, clues_short size (line + 1) (d ∷ clues) e h.1)
+clues_short size line (c ∷ []) e h = grind (arith, common_steps, length_clue)
+clues_short size line (c ∷ d ∷ clues) e h =
+    grind (arith, common_steps, clues_short size (line + 1) (d ∷ clues) e h.1, length_clue)
 
 pub pattern_short : (p : Pattern) → IsPattern p → length (pattern_text p) ≤ max_id
-pattern_short p h = grind (arith, common_steps, length_decimal p.size.w, length_decimal p.size.h, clues_short p.size 0 p.clues)
+pattern_short p h = grind (arith, common_steps, length_decimal, clues_short)
 
 -- ---- what it spells
 
 pub texts_same : (clues : List (List ℕ)) → map (join_with_byte 46) (map (map decimal) clues) ≡ map clue_text clues
 texts_same [] = refl
-texts_same (c ∷ clues) = ap (λ (ts : List (List ℕ)). clue_text c ∷ ts) (texts_same clues)
+texts_same (c ∷ clues) = grind (arith, common_steps, texts_same clues)
 
 numerals : (clue : List ℕ) → used clue < 2 ^ 64
     → AllByRecursion IsNumeral (map decimal clue) × AllByRecursion IsPlain (map decimal clue) × (map value (map decimal clue) ≡ clue)
@@ -42,7 +36,7 @@ all_numerals : {size : Extent} (line : ℕ) (clues : List (List ℕ)) → IsExte
     → AllByRecursion (AllByRecursion IsNumeral) (map (map decimal) clues) × AllByRecursion (AllByRecursion IsPlain) (map (map decimal) clues)
     × (map (map value) (map (map decimal) clues) ≡ clues)
 all_numerals line [] e h = (tt, tt, refl)
-all_numerals line (c ∷ clues) e h = grind (arith, numerals c, all_numerals (line + 1) clues e h.1)
+all_numerals line (c ∷ clues) e h = grind (arith, numerals, all_numerals (line + 1) clues e h.1)
 
 -- the written text has the form of a written text, and so it spells the puzzle
 pub pattern_is_written : (p : Pattern) → IsPattern p → IsWrittenPattern (pattern_text p) p
@@ -66,14 +60,16 @@ pattern_is_written p h =
 clue_plain : (clue : List (List ℕ)) → AllByRecursion IsNumeral clue → AllByRecursion IsPlain clue
     → used (map value clue) < 2 ^ 64 → map decimal (map value clue) ≡ clue
 clue_plain [] d h small = refl
-clue_plain (num ∷ clue) d h small = rw (plain_decimal num d.0 h.0 (omega (arith, small)), clue_plain clue d.1 h.1 (omega (arith, small))) refl
+clue_plain (num ∷ clue) d h small =
+    grind (arith, common_steps, plain_decimal, clue_plain clue d.1 h.1 (omega (arith, small)))
 
 clues_plain : {size : Extent} (line : ℕ) (clues : List (List (List ℕ))) → IsExtent size
     → AreClues size line (map (map value) clues) → AllByRecursion (AllByRecursion IsNumeral) clues
     → AllByRecursion (AllByRecursion IsPlain) clues
     → map (map decimal) (map (map value) clues) ≡ clues
 clues_plain line [] e h d plain = refl
-clues_plain line (clue ∷ clues) e h d plain = grind (arith, clue_plain clue d.0 plain.0, clues_plain (line + 1) clues e h.1 d.1 plain.1)
+clues_plain line (clue ∷ clues) e h d plain =
+    grind (arith, clue_plain, clues_plain (line + 1) clues e h.1 d.1 plain.1)
 
 pub pattern_form : (text : List ℕ) (p : Pattern) → IsWrittenPattern text p → text ≡ pattern_text p
 pattern_form text p w =

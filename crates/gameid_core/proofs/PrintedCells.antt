@@ -6,7 +6,7 @@ use Rattle.gameid_core.proofs.Lists.{all_at}
 -- the number of a place is below `values`
 pub number_fits : (hides : ℕ → Type 0) (values : ℕ) (size : Extent) (g : List ℕ) (place : ℕ) → IsAsShown hides values size g
     → place < size.w * size.h → slice_index g place < values
-number_fits hides values size g place s lt = s.grid.each_value place 0 (omega (arith, s.grid.each_cell))
+number_fits hides values size g place s lt = grind (arith, common_steps)
 
 -- a cell that is one of two symbols
 pub symbol_read : (symbol other v : ℕ) {text : List ℕ} (after : List ℕ) {result : Option (ℕ × ℕ)}
@@ -40,7 +40,7 @@ tent_read tree v text after result none small read is = grind (arith, symbol_rea
 -- the cell at a place of the grid, and that its number is small
 pub light_known : {p : Light} {place : ℕ} {cell : LightCell} {cells : List LightCell} → IsLight p → place < p.size.w * p.size.h → cells ≡ p.cells
     → get_or cells place White ≡ cell → (slice_get p.cells place ≡ Some cell) × IsLightCell cell
-light_known {p} {place} h lt same is = grind (arith, slice_get-get_or p.cells place White, all_at IsLightCell White p.cells place h.each)
+light_known {p} {place} h lt same is = grind (arith, slice_get-get_or, all_at)
 
 pub same_some : {a b : LightCell} {o : Option LightCell} → o ≡ Some a → o ≡ Some b → a ≡ b
 same_some is also = cc

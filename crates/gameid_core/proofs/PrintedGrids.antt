@@ -1,6 +1,6 @@
 -- A grid is read row by row: it agrees so far with every grid whose printed form the text begins with, so in the end it
 -- is the only one.
-use Rattle.gameid_core.specs.Common.{AgreeUpTo, Extent, FitUpTo, IsAsShown, IsPrinted, IsReadOf, List, None, Option, Some, arith, codes, common_steps, ext_get_or, get_or_default, get_or_past, length, subst, sym, take, ℕ, ◌*◌, ◌++◌, ◌∙◌, ◌≡◌, ◌≤◌, ◌⊎◌}
+use Rattle.gameid_core.specs.Common.{AgreeUpTo, Extent, FitUpTo, IsAsShown, IsPrinted, IsReadOf, List, None, Option, Some, arith, codes, common_steps, ext_get_or, get_or_default, get_or_past, length, sym, take, ℕ, ◌*◌, ◌++◌, ◌∙◌, ◌≡◌, ◌≤◌, ◌⊎◌}
 
 -- numbers that fit are a grid
 pub is_shown : {hides : ℕ → Type 0} {values : ℕ} {size : Extent} {g : List ℕ} (y : ℕ) → size.h ≤ y → y ≤ size.h → length g ≡ size.w * size.h
@@ -46,5 +46,4 @@ module _ {hides : ℕ → Type 0} {values : ℕ} {size : Extent} (printed : List
   pub other_read : {found : List ℕ} → ended ≡ text ++ codes "\n" → field ≡ Some found
       → ((g : List ℕ) (more : List ℕ) → IsAsShown hides values size g → ended ≡ printed g ++ more → field ≡ Some g)
       → (IsPrinted text (printed found) → ⊥) → IsReadOf hides values size (λ g. IsPrinted text (printed g)) None
-  other_read is some reads other g shown form =
-      other (subst (λ (h : List ℕ). IsPrinted text (printed h)) (sym (only_read is some reads g shown form)) form)
+  other_read is some reads other g shown form = grind (arith, common_steps, only_read)

@@ -1,8 +1,5 @@
 -- A printed number below 100 is read back by its one or two digits.
-use Rattle.gameid_core.specs.Common.{List, None, Option, Some, [], arith, common_steps, decimal, decimal_digit, decimal_step, digit_of, first_digit, length, ℕ, ◌%◌, ◌*◌, ◌++◌, ◌+◌, ◌/◌, ◌<◌, ◌∷◌, ◌≡◌, ◌≤◌, ◌⊎◌}
-
-two_digits : (n : ℕ) → 10 ≤ n → n < 100 → decimal n ≡ (48 + n / 10) ∷ (48 + n % 10) ∷ []
-two_digits n low high = grind (arith, common_steps, decimal_step, decimal_digit)
+use Rattle.gameid_core.specs.Common.{List, None, Option, Some, arith, common_steps, decimal, decimal_digit, decimal_step, digit_of, first_digit, length, ℕ, ◌%◌, ◌*◌, ◌++◌, ◌+◌, ◌/◌, ◌<◌, ◌∷◌, ◌≡◌, ◌⊎◌}
 
 -- what is read of a number
 pub record Number (n : ℕ) (byte : ℕ) (rest : List ℕ) : Type 0 where
@@ -11,10 +8,10 @@ pub record Number (n : ℕ) (byte : ℕ) (rest : List ℕ) : Type 0 where
 
 pub number_of : (n : ℕ) (text after rest : List ℕ) (byte : ℕ) → n < 100 → first_digit after ≡ None → text ≡ decimal n ++ after → text ≡ byte ∷ rest
     → Number n byte rest
-number_of n text after rest byte small ends is split = grind (arith, decimal_digit n, two_digits n)
+number_of n text after rest byte small ends is split = grind (arith, decimal_digit, common_steps, decimal_step)
 
 pub not_empty : (n : ℕ) (text after : List ℕ) → n < 100 → text ≡ decimal n ++ after → length text ≡ 0 → ⊥
-not_empty n text after small is empty = grind (arith, decimal_digit n, two_digits n)
+not_empty n text after small is empty = grind (arith, decimal_digit, common_steps, decimal_step)
 
 -- the first byte is a digit
 pub no_digit : {n byte : ℕ} {rest : List ℕ} → Number n byte rest → digit_of byte ≡ None → ⊥

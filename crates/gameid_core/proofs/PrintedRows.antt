@@ -1,6 +1,6 @@
 -- A row is read cell by cell: what is left of it is what is printed of the cells from there on, its line end and what
 -- follows.
-use Rattle.gameid_core.specs.Common.{AgreeUpTo, Extent, FitUpTo, Follows, List, None, Option, Some, [], add-one, ap, append_assoc, ap₂, arith, codes, common_steps, drop, each_below, inl, length, mod-mul-add, set, slice_index, suc, suc-mul, take, zero, ℕ, ◌*◌, ◌++◌, ◌+◌, ◌-◌, ◌<◌, ◌∙◌, ◌∷◌, ◌≡◌, ◌≤◌, ◌⊎◌}
+use Rattle.gameid_core.specs.Common.{AgreeUpTo, Extent, FitUpTo, Follows, List, None, Option, Some, [], add-one, ap, append_assoc, ap₂, arith, codes, common_steps, drop, each_below, length, mod-mul-add, set, slice_index, suc, suc-mul, take, zero, ℕ, ◌*◌, ◌++◌, ◌+◌, ◌-◌, ◌<◌, ◌∙◌, ◌∷◌, ◌≡◌, ◌⊎◌}
 
 -- the texts of the n numbers from k on
 unfoldable pub each_from : (ℕ → List ℕ) → ℕ → ℕ → List ℕ
@@ -45,7 +45,7 @@ abbrev pub Left : (ℕ → List ℕ) → ℕ → List ℕ → ℕ → List ℕ �
 Left f w more x rest = LeftOf f w (codes "\n" ++ more) x rest
 
 pub all_left : (f : ℕ → List ℕ) (w : ℕ) (more text : List ℕ) → text ≡ (each_below f w ++ codes "\n") ++ more → Left f w more 0 text
-all_left f w more text is m e = grind (arith, common_steps, from_zero f w)
+all_left f w more text is m e = grind (arith, common_steps, from_zero)
 
 -- what is left after a cell
 pub record AfterCell (f : ℕ → List ℕ) (w : ℕ) (more : List ℕ) (x : ℕ) (rest : List ℕ) : Type 0 where
@@ -57,8 +57,7 @@ pub record AfterCell (f : ℕ → List ℕ) (w : ℕ) (more : List ℕ) (x : ℕ
 end_or_cell : (f : ℕ → List ℕ) {w : ℕ} (more : List ℕ) (x m : ℕ) {after : List ℕ} → x + 1 + m ≡ w → after ≡ each_from f (x + 1) m ++ (codes "\n" ++ more)
     → ((x + 1 ≡ w) × (after ≡ codes "\n" ++ more)) ⊎ ((x + 1 < w) × ((t : List ℕ) × (after ≡ f (x + 1) ++ t)))
 unfolding each_from
-end_or_cell f more x zero e is = inl (omega arith, is)
-end_or_cell f more x (suc m) e is = grind (arith, append_assoc (f (x + 1)) (each_from f (suc (x + 1)) m) (codes "\n" ++ more))
+end_or_cell f more x m e is = grind (arith, common_steps, append_assoc)
 
 pub after_cell : (f : ℕ → List ℕ) (w : ℕ) (more rest : List ℕ) (x : ℕ) → x < w → Left f w more x rest → AfterCell f w more x rest
 after_cell f w more rest x lt left =
@@ -103,16 +102,10 @@ cell_read value count known is all = grind (arith, common_steps)
 
 -- the cell is always read
 pub cell_not_missed : {f : ℕ → List ℕ} {w x v : ℕ} {more rest : List ℕ} {result : Option (ℕ × ℕ)} → KnownCell f w more rest x v result → result ≡ None → ⊥
-cell_not_missed known none = absurd (cc (known.read, none))
+cell_not_missed known none = grind (arith, common_steps)
 
 pub next_row : (y w : ℕ) → (y + 1) * w ≡ y * w + w
-next_row y w = ap (λ (n : ℕ). n * w) (add-one y) ∙ suc-mul y w
+next_row y w = grind (arith, common_steps, add-one, suc-mul)
 
 pub in_grid : (size : Extent) (y w x cells : ℕ) → w ≡ size.w → x < w → y < size.h → cells ≡ size.w * size.h → y * w + x < cells
 in_grid size y w x cells wide lt below all = grind arith
-
-pub line_end : {rest more left : List ℕ} {byte : ℕ} → rest ≡ byte ∷ more → rest ≡ 10 ∷ left → (byte ≡ 10) × (more ≡ left)
-line_end split is = (cc, cc)
-
-pub row_end : (y w x width : ℕ) → w ≤ x → x ≤ w → w ≡ width → (y + 1) * width ≡ y * w + x
-row_end y w x width over under wide = grind arith

@@ -11,7 +11,7 @@ module _ {S P : Type 0} (step : ℕ → S → List ℕ → Result S IdFault) (en
       → step at s word ≡ Ok t → reading step end at s (words text) ≡ reading step end
       (at + length word) t (words after)
   unfolding reading
-  reading_turn t text word after cuts e = ap (reading step end at s) cuts.tokens ∙ rw e refl
+  reading_turn t text word after cuts e = grind (arith)
 
   pub reading_end : (text : List ℕ) → text ≡ [] → reading step end at s (words text) ≡ end s
   unfolding reading words
@@ -33,7 +33,7 @@ module _ {S P : Type 0} (step : ℕ → S → List ℕ → Result S IdFault) (en
   FailsAt at s rest = ((rest ≡ []) × (end s ≡ Err f)) ⊎ ((word : List ℕ) × (more : List (List ℕ)) × (rest ≡ word ∷ more) × (step at s word ≡ Err f))
 
   later : (at : ℕ) (word : List ℕ) (front : List (List ℕ)) → at + length word + length (concat front) ≡ at + length (word ++ concat front)
-  later at word front = omega (arith, length-append word (concat front))
+  later at word front = grind (arith, length-append)
 
   pub first_fault : (at : ℕ) (s : S) (words : List (List ℕ)) → reading step end at s words ≡ Err f → FirstFault step end at s words f
   first_fault at s [] e = grind (arith, reading_nil step stop at s, reading_nil step end at s)
@@ -67,7 +67,7 @@ module _ {S P : Type 0} (step : ℕ → S → List ℕ → Result S IdFault) (en
       → reading step stop at s front ≡ Ok state → FailsAt (at + length (concat front)) state rest
       → reading step end at s (front ++ rest) ≡ Err f
   unfolding reading
-  fails_after at s [] rest state leads fault = grind (arith, reading_nil step stop at s, reading_nil step end at s, reading_cons step end at s)
+  fails_after at s [] rest state leads fault = grind (arith, reading_nil, reading_cons)
   fails_after at s (word ∷ front) rest state leads fault =
       let b = bind_ok (step at s word) (λ t. reading step stop (at + length word) t front) state leads in
       grind (arith, fails_after (at + length word) b.0 front rest state b.2 (subst (λ k. FailsAt k state rest) (sym (later at word front)) fault))

@@ -1,5 +1,5 @@
 -- Laws of the runs of a line, by induction on the cells.
-use Rattle.gameid_core.specs.Common.{AllByRecursion, AreClues, Extent, IsClue, IsExtent, IsPattern, List, [], ap, arith, common_steps, length, length-line_numbers, length-map-range_with_len, line_cells, line_numbers, lines_of, lines_runs, map, range_with_len, refl, replicate, run_of, runs, runs_after, suc, used, zero, ℕ, ◌++◌, ◌+◌, ◌<◌, ◌∙◌, ◌∷◌, ◌≡◌, ◌≤◌}
+use Rattle.gameid_core.specs.Common.{AllByRecursion, AreClues, Extent, IsClue, IsExtent, IsPattern, List, [], ap, arith, common_steps, length, length-line_numbers, length-map-range_with_len, line_cells, line_numbers, lines_runs, map, range_with_len, refl, replicate, run_of, runs, runs_after, suc, used, zero, ℕ, ◌++◌, ◌+◌, ◌<◌, ◌∙◌, ◌∷◌, ◌≡◌, ◌≤◌}
 
 -- a white cell cuts a line in two
 pub runs_after-cut : (k : ℕ) (f g : List ℕ) → runs_after k (f ++ 0 ∷ g) ≡ runs_after k f ++ runs g
@@ -10,7 +10,7 @@ runs_after-cut k (suc x ∷ f) g = runs_after-cut (suc k) f g
 
 runs_after-ones : (k n : ℕ) → runs_after k (replicate n 1) ≡ run_of (k + n)
 unfolding runs_after
-runs_after-ones k zero = ap run_of (let z : k ≡ k + 0 = omega arith in z)
+runs_after-ones k zero = grind (arith, common_steps)
 runs_after-ones k (suc n) = grind (arith, runs_after-ones (suc k) n)
 
 -- black cells alone are one run
@@ -38,11 +38,8 @@ runs_used k [] = omega (arith, run_of_used k)
 runs_used k (zero ∷ cells) = grind (arith, runs_used 0 cells)
 runs_used k (suc b ∷ cells) = omega (arith, runs_used (suc k) cells)
 
-pub runs_fit : (cells : List ℕ) → IsClue (length cells) (runs cells)
-runs_fit cells = grind (arith, common_steps, runs_positive, runs_used)
-
 runs_line_fits : (size : Extent) (g : List ℕ) (line : ℕ) → IsClue (line_cells size line) (runs (line_numbers size g line))
-runs_line_fits size g line = grind (arith, common_steps, length-line_numbers, runs_fit)
+runs_line_fits size g line = grind (arith, common_steps, length-line_numbers, runs_positive, runs_used)
 
 are_runs : (size : Extent) (g : List ℕ) (line n : ℕ) → AreClues size line (map (λ i. runs (line_numbers size g i)) (range_with_len line n))
 are_runs size g line zero = tt
@@ -51,6 +48,6 @@ are_runs size g line (suc n) = (runs_line_fits size g line, are_runs size g (lin
 -- the runs of the lines are clues that fit
 pub runs_lawful : (size : Extent) (g : List ℕ) (clues : List (List ℕ)) → IsExtent size
     → clues ≡ lines_runs size g → IsPattern (record { size = size; clues = clues })
-runs_lawful size g clues e is = grind (arith, length-map-range_with_len, are_runs size g 0 (lines_of size))
+runs_lawful size g clues e is = grind (arith, length-map-range_with_len, are_runs)
 
 pub ruleset laws = (runs_run, runs_run_and_white)

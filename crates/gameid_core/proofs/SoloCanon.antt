@@ -1,31 +1,20 @@
 -- The written text of a puzzle of Solo: its length, that it spells the puzzle, and that no other does.
-use Rattle.gameid_core.specs.Common.{AllByRecursion, Bool, HasOneText, IsSolo, IsSoloSizeText, List, Solo, [], ap, arith, common_steps, cond, decimal, eqb, false, false≢true, flat_map, length, length-append, length-decimal-le, letters, max_id, max_numbers, mul-le-mul_left, mul-le-mul_right, nat_tests, refl, replicate, size_text, solo_n, solo_size_text, suc, true, zero, ℕ, ◌*◌, ◌++◌, ◌+◌, ◌<◌, ◌∷◌, ◌≡◌, ◌≤◌}
-use Rattle.gameid_core.specs.SoloText.{AreApart, IsSoloToken, IsWrittenSolo, SoloToken, SpellsSolo, before_given, blanks, cells_text, gap, given, solo_text, solo_token_cells, solo_token_text, AreFull, AreNeeded}
+use Rattle.gameid_core.specs.Common.{AllByRecursion, Bool, HasOneText, IsSolo, IsSoloSizeText, List, Solo, [], arith, common_steps, decimal, false, false≢true, flat_map, length, length-append, length-decimal-le, max_id, max_numbers, mul-le-mul_left, mul-le-mul_right, nat_tests, refl, replicate, solo_n, solo_size_text, suc, true, zero, ℕ, ◌*◌, ◌++◌, ◌+◌, ◌∷◌, ◌≡◌, ◌≤◌}
+use Rattle.gameid_core.specs.SoloText.{AreApart, IsSoloToken, IsWrittenSolo, SoloToken, blanks, cells_text, solo_tokens, gap, given, solo_text, solo_token_cells, AreFull, AreNeeded}
 use Rattle.gameid_core.proofs.OneReading.{one_text}
-use Rattle.gameid_core.proofs.Letters.{letters_short, letters_none, letters_more, letters_last}
-
--- no more cells than the most numbers by as many
-pub solo_few : (n : ℕ) → n ≤ max_numbers → n * n ≤ max_numbers * max_numbers
-solo_few n h = omega (arith, mul-le-mul_left n h, mul-le-mul_right max_numbers h)
-
-before_short : (k : ℕ) (touches : Bool) → length (before_given k touches) ≤ k + 1
-before_short k touches = grind (arith, common_steps, letters_short)
 
 -- a cell takes at most three bytes: '_' and two digits
 cells_short : (k : ℕ) (touches : Bool) (cells : List ℕ)
     → AllByRecursion (λ v. v ≤ max_numbers) cells
     → length (cells_text k touches cells) ≤ k + 3 * length cells
-unfolding cells_text
-cells_short k touches [] h = omega (arith, letters_short k)
-cells_short k touches (zero ∷ cells) h = omega (arith, cells_short (k + 1) touches cells h.1)
-cells_short k touches (suc v ∷ cells) h = grind (arith, common_steps, cells_short 0 true cells h.1, before_short k touches, length-decimal-le 2 (suc v))
+unfolding solo_tokens
+cells_short k touches [] h = grind (arith, common_steps)
+cells_short k touches (zero ∷ cells) h = grind (arith, nat_tests, common_steps, cells_short 1 false cells, cells_short (k + 1) touches cells)
+cells_short k touches (suc v ∷ cells) h = grind (arith, common_steps, cells_short 0 true cells h.1, length-decimal-le 2 (suc v))
 
 range_more : (n : ℕ) (cells : List ℕ) → n ≤ max_numbers → AllByRecursion (λ v. v ≤ n) cells → AllByRecursion (λ v. v ≤ max_numbers) cells
 range_more n [] le h = tt
 range_more n (v ∷ cells) le h = (omega (arith, h.0), range_more n cells le h.1)
-
-size_short : (c r : ℕ) (x : Bool) → length (solo_size_text c r x) ≤ length (size_text c r) + 1
-size_short c r x = grind (arith, common_steps, length-append)
 
 pub solo_short : (p : Solo) → IsSolo p → length (solo_text p) ≤ max_id
 solo_short p h =
@@ -35,45 +24,14 @@ solo_short p h =
       length-decimal-le 2 p.r,
       cells_short 0 false p.givens,
       range_more (solo_n p) p.givens,
-      solo_few (solo_n p),
-      size_short p.c p.r p.x,
       length-append (decimal p.c) (120 ∷ decimal p.r),
-      length-append (solo_size_text p.c p.r p.x) (58 ∷ cells_text 0 false p.givens),
+      length-append,
+      common_steps,
+      mul-le-mul_left,
+      mul-le-mul_right,
     )
 
 -- ---- what it spells
-
--- a letter for so many blank cells, unless there are none
-abbrev run : ℕ → List SoloToken → List SoloToken
-run zero tokens = tokens
-run (suc k) tokens = blanks (suc k) ∷ tokens
-
--- the same before a number, and '_' where a number stands there
-abbrev before : ℕ → Bool → List SoloToken → List SoloToken
-before zero true tokens = gap ∷ tokens
-before k touches tokens = run k tokens
-
--- the tokens of the cells, with k blanks before them, which have a number before them or not
-unfoldable tokens_of : ℕ → Bool → List ℕ → List SoloToken
-tokens_of k touches [] = run k []
-tokens_of k touches (zero ∷ cells) = cond (eqb k 26) (blanks 26 ∷ tokens_of 1 false cells) (tokens_of (k + 1) touches cells)
-tokens_of k touches (suc v ∷ cells) = before k touches (given (suc v) ∷ tokens_of 0 true cells)
-
-before_some : (k : ℕ) (touches : Bool) → 0 < k → before_given k touches ≡ letters k
-before_some k touches some = grind arith
-
-z_first : (k : ℕ) (touches : Bool) (cells : List ℕ) → 0 < k → cells_text (k + 26) touches cells ≡ 122 ∷ cells_text k false cells
-unfolding cells_text
-z_first k touches [] some = grind (arith, letters_more (k + 26))
-z_first k touches (zero ∷ cells) some = grind (arith, z_first (k + 1) touches cells)
-z_first k touches (suc v ∷ cells) some = grind (arith, before_some (k + 26) touches, before_some k false some, letters_more (k + 26))
-
-tokens_spell : (k : ℕ) (touches : Bool) (cells : List ℕ) → k ≤ 26 → cells_text k touches cells ≡ flat_map solo_token_text (tokens_of k touches cells)
-unfolding cells_text tokens_of
-tokens_spell k touches [] few = grind (arith, common_steps, letters_none, letters_last)
-tokens_spell k touches (zero ∷ cells) few =
-    grind (arith, nat_tests, common_steps, z_first 1 touches cells, tokens_spell 1 false cells, tokens_spell (k + 1) touches cells)
-tokens_spell k touches (suc v ∷ cells) few = grind (arith, common_steps, letters_none, letters_last, tokens_spell 0 true cells)
 
 -- no number comes first
 abbrev IsClear : List SoloToken → Type 0
@@ -92,17 +50,14 @@ record Form (n : ℕ) (touches : Bool) (cells : List ℕ) (tokens : List SoloTok
 full_z : (tokens : List SoloToken) → AreFull tokens → AreFull (blanks 26 ∷ tokens)
 full_z tokens h = grind arith
 
-given_apart : (v : ℕ) (tokens : List SoloToken) → IsClear tokens → AreApart tokens → AreApart (given v ∷ tokens)
-given_apart v tokens c h = grind arith
-
 tokens_form : (n k : ℕ) (touches : Bool) (cells : List ℕ) → k ≤ 26
     → AllByRecursion (λ v. v ≤ n) cells
-    → Form n touches (replicate k 0 ++ cells) (tokens_of k touches cells)
-unfolding tokens_of
+    → Form n touches (replicate k 0 ++ cells) (solo_tokens k touches cells)
+unfolding solo_tokens
 tokens_form n k touches [] few h = grind (arith, common_steps)
 tokens_form n k touches (zero ∷ cells) few h =
-    grind (arith, nat_tests, common_steps, full_z (tokens_of 1 false cells), tokens_form n 1 false cells, tokens_form n (k + 1) touches cells)
-tokens_form n k touches (suc v ∷ cells) few h = grind (arith, common_steps, given_apart (suc v) (tokens_of 0 true cells), tokens_form n 0 true cells)
+    grind (arith, nat_tests, common_steps, full_z, tokens_form n 1 false cells, tokens_form n (k + 1) touches cells)
+tokens_form n k touches (suc v ∷ cells) few h = grind (arith, common_steps, tokens_form n 0 true cells)
 
 written_size : (c r : ℕ) (x : Bool) → IsSoloSizeText (solo_size_text c r x) c r x
 written_size c r x = grind arith
@@ -116,8 +71,8 @@ solo_is_written p h =
         short = solo_short p h;
         puzzle = h;
         front = solo_size_text p.c p.r p.x;
-        tokens = tokens_of 0 false p.givens;
-        parts = ap (λ (t : List ℕ). solo_size_text p.c p.r p.x ++ 58 ∷ t) (tokens_spell 0 false p.givens (omega arith));
+        tokens = solo_tokens 0 false p.givens;
+        parts = refl;
         size = written_size p.c p.r p.x;
         each = w.each;
         apart = w.apart;
@@ -128,37 +83,33 @@ solo_is_written p h =
       needed = w.needed;
     }
 
-of_run : (k j : ℕ) (touches : Bool) (cells : List ℕ) → k + j ≤ 26 → tokens_of k touches (replicate j 0 ++ cells) ≡ tokens_of (k + j) touches cells
-unfolding tokens_of
+of_run : (k j : ℕ) (touches : Bool) (cells : List ℕ) → k + j ≤ 26 → solo_tokens k touches (replicate j 0 ++ cells) ≡ solo_tokens (k + j) touches cells
+unfolding solo_tokens
 of_run k zero touches cells le = grind arith
 of_run k (suc j) touches cells le = grind (arith, nat_tests, common_steps, of_run (k + 1) j touches cells)
 
 -- tokens of the form are those of their cells
 form_tokens : (n : ℕ) (touches : Bool) (tokens : List SoloToken)
     → Form n touches (flat_map solo_token_cells tokens) tokens
-    → tokens_of 0 touches (flat_map solo_token_cells tokens) ≡ tokens
-unfolding tokens_of
+    → solo_tokens 0 touches (flat_map solo_token_cells tokens) ≡ tokens
+unfolding solo_tokens
 form_tokens n touches [] f = refl
-form_tokens n touches (blanks k ∷ []) f = grind (arith, common_steps, of_run 0 k touches [])
-form_tokens n touches (blanks k ∷ blanks zero ∷ tokens) f = absurd (let each = f.each in omega arith)
+form_tokens n touches (blanks k ∷ []) f = grind (arith, common_steps, of_run)
+form_tokens n touches (blanks k ∷ blanks zero ∷ tokens) f = grind (arith, common_steps)
 form_tokens n touches (blanks k ∷ blanks (suc j) ∷ tokens) f =
-    grind (arith, common_steps, of_run 0 k touches (flat_map solo_token_cells (blanks (suc j) ∷ tokens)), form_tokens n false (blanks (suc j) ∷ tokens))
-form_tokens n touches (blanks k ∷ gap ∷ tokens) f = absurd (let needed = f.needed in false≢true needed.0)
-form_tokens n touches (blanks k ∷ given v ∷ tokens) f =
-    grind (arith, common_steps, of_run 0 k touches (flat_map solo_token_cells (given v ∷ tokens)), form_tokens n true tokens)
-form_tokens n touches (gap ∷ []) f = absurd (let needed = f.needed in needed.1)
-form_tokens n touches (gap ∷ blanks k ∷ tokens) f = absurd (let needed = f.needed in needed.1)
-form_tokens n touches (gap ∷ gap ∷ tokens) f = absurd (let needed = f.needed in needed.1)
+    grind (arith, common_steps, of_run, form_tokens n false (blanks (suc j) ∷ tokens))
+form_tokens n touches (blanks k ∷ gap ∷ tokens) f = grind (arith, common_steps, false≢true)
+form_tokens n touches (blanks k ∷ given v ∷ tokens) f = grind (arith, common_steps, of_run, form_tokens n true tokens)
+form_tokens n touches (gap ∷ []) f = grind (arith, common_steps)
+form_tokens n touches (gap ∷ blanks k ∷ tokens) f = grind (arith, common_steps)
+form_tokens n touches (gap ∷ gap ∷ tokens) f = grind (arith, common_steps)
 form_tokens n touches (gap ∷ given v ∷ tokens) f = grind (arith, common_steps, form_tokens n true tokens)
 form_tokens n touches (given v ∷ tokens) f = grind (arith, common_steps, form_tokens n true tokens)
 
 pub solo_form : (text : List ℕ) (p : Solo) → IsWrittenSolo text p → text ≡ solo_text p
-solo_form text p w = grind (arith, form_tokens (solo_n p) false, tokens_spell 0 false p.givens)
+solo_form text p w = grind (arith, form_tokens (solo_n p) false)
 
 pub solo_one_text : HasOneText IsSolo IsWrittenSolo solo_text
 solo_one_text = record { some = solo_is_written; one = one_text _ _ solo_form }
 
-pub solo_spelled : (p : Solo) → IsSolo p → SpellsSolo (solo_text p) p
-solo_spelled p h = (solo_is_written p h).spells
-
-pub ruleset laws = (common_steps, solo_is_written, solo_spelled, solo_short)
+pub ruleset laws = (common_steps, solo_is_written, solo_short)

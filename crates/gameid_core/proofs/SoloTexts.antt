@@ -1,5 +1,5 @@
 -- Solo: the tokens of a text, and that a text is read exactly where it spells a puzzle.
-use Rattle.gameid_core.specs.Common.{AllByRecursion, BadByte, Bool, Cuts, Err, Gives, HasOneReading, IdFault, IsSolo, List, NumberRange, Ok, Result, Solo, [], after_digits, ap, arith, begins, common_steps, concat, decimal, decimal-digits_value, digits_front, digits_value-decimal, eqb, false, false≢true, flat_map, get_or, in_range, is_ascii_digit, is_lead, is_letter, length, map, max_numbers, refl, replicate, solo_puzzle, subst, true, value, words, ℕ, ◌*◌, ◌++◌, ◌+◌, ◌-◌, ◌<◌, ◌^◌, ◌∷◌, ◌≡◌, ◌≤◌}
+use Rattle.gameid_core.specs.Common.{AllByRecursion, BadByte, Bool, Cuts, Err, Gives, HasOneReading, IdFault, IsSolo, List, NumberRange, Ok, Result, Solo, [], after_digits, arith, begins, common_steps, concat, decimal, decimal-digits_value, digits_front, digits_value-decimal, false, false≢true, flat_map, get_or, in_range, is_ascii_digit, is_lead, is_letter, length, map, max_numbers, refl, replicate, solo_puzzle, subst, true, value, words, ℕ, ◌*◌, ◌++◌, ◌+◌, ◌-◌, ◌<◌, ◌^◌, ◌∷◌, ◌≡◌, ◌≤◌}
 use Rattle.gameid_core.specs.SoloText.{AreApart, IsSoloToken, SoloToken, SpellsSolo, blanks, gap, given, solo_behind, solo_cells_at, solo_of, solo_token, solo_token_cells, solo_token_text}
 use Rattle.gameid_core.proofs.OneReading.{only_of, reading_of}
 use Rattle.gameid_core.proofs.Tokens.{cuts_some, cuts_single, cuts_number, words_nil, IsWord, words_are, concat_words, alone}
@@ -14,7 +14,7 @@ module _ (n at : ℕ) where
       → Cuts (first ∷ after) (first ∷ []) after
       × (solo_token n at (first ∷ []) ≡ Ok (replicate (first - 96) 0))
   unfolding solo_token
-  solo_letter first after low high = grind (arith, cuts_single first after)
+  solo_letter first after low high = grind (arith, cuts_single)
 
   pub solo_gap : (after : List ℕ) → Cuts (95 ∷ after) (95 ∷ []) after × (solo_token n at (95 ∷ []) ≡ Ok [])
   unfolding solo_token
@@ -67,7 +67,7 @@ words_apart (b ∷ d ∷ after) = grind (arith, cuts_some d after, words_apart (
 
 concat_texts : (tokens : List SoloToken) → concat (map solo_token_text tokens) ≡ flat_map solo_token_text tokens
 concat_texts [] = refl
-concat_texts (t ∷ tokens) = ap (λ (x : List ℕ). solo_token_text t ++ x) (concat_texts tokens)
+concat_texts (t ∷ tokens) = grind (arith, common_steps, concat_texts tokens)
 
 decimal_digit_first : (v : ℕ) → v < 2 ^ 64 → 0 < v → digit_first (decimal v) ≡ true
 decimal_digit_first v small some = grind (arith, decimal_leads v small some, lead_is_digit)
@@ -94,9 +94,6 @@ module _ (n : ℕ) where
   letter_word [] w e = absurd w
   letter_word (b ∷ more) w e = record { token = blanks (b - 96); texts = grind (arith, alone b more w); each = grind arith; stands = refl }
 
-  gap_word : (word : List ℕ) → IsWord word → begins (λ b. eqb b 95) word ≡ true → SoloWord word []
-  gap_word word w e = grind arith
-
   token_range : (token : SoloToken) → IsSoloToken n token → AllByRecursion (λ v. v ≤ n) (solo_token_cells token)
   token_range (blanks k) h = AllByRecursion-replicate (λ v. v ≤ n) 0 k (omega arith)
   token_range gap h = tt
@@ -122,7 +119,7 @@ module _ (n : ℕ) where
 
     token_word : (at : ℕ) (word more : List ℕ) → IsWord word → solo_token n at word ≡ Ok more → SoloWord word more
     unfolding solo_token
-    token_word at word more w e = grind (arith, common_steps, letter_word word, gap_word word, given_word word)
+    token_word at word more w e = grind (arith, common_steps, letter_word word, given_word)
 
     apart_tokens : (tokens : List SoloToken) → Each tokens → Apart (map solo_token_text tokens) → AreApart tokens
     apart_tokens [] each h = grind (arith, common_steps, decimal_digit_first)
@@ -152,12 +149,13 @@ module _ (n : ℕ) where
 
     words_again : (tokens : List SoloToken) → Each tokens → AreApart tokens → words (flat_map solo_token_text tokens) ≡ map solo_token_text tokens
     words_again [] each h = words_nil
-    words_again (token ∷ tokens) each h = grind (arith, token_cuts token tokens each h, words_again tokens each.1 (apart_rest token tokens h))
+    words_again (token ∷ tokens) each h =
+        grind (arith, token_cuts, words_again tokens each.1 (apart_rest token tokens h))
 
     token_again : (at : ℕ) (token : SoloToken) → IsSoloToken n token → solo_token n at (solo_token_text token) ≡ Ok (solo_token_cells token)
     token_again at (blanks k) h = grind (arith, solo_letter n at (96 + k) [])
     token_again at gap h = (solo_gap n at []).1
-    token_again at (given v) h = given_read at v (omega (arith, h.1)) h.0 h.1
+    token_again at (given v) h = grind (arith, common_steps, given_read)
 
     solo_again : (at : ℕ) (tokens : List SoloToken) → Each tokens → AreApart tokens
         → length (flat_map solo_token_cells tokens) ≡ n * n

@@ -1,14 +1,14 @@
 -- Tents: the steps of a description, and that a text is read exactly where it spells a puzzle.
 use Rattle.gameid_core.specs.Common.{AllByRecursion, AreCounts, Bool, Err, Extent, Gives, HasOneReading, IdFault, IsNumeral, IsTents, IsWide, List, Ok, Result, Tents, TooFew, [], ap, append-nil, append_assoc, arith, begins, common_steps, concat, cond, digits_front, drop, eqb, extent_of, false, false≢true, flat_map, get_or, in_range, inl, inr, is_ascii_digit, joins, length, length-append, length-replicate, line_cells, lines_of, map, nat_tests, reading, refl, replicate, take, take_at, true, value, words, ℕ, ◌*◌, ◌++◌, ◌+◌, ◌-◌, ◌<◌, ◌∙◌, ◌∷◌, ◌≡◌, ◌≤◌, ◌⊎◌}
 use Rattle.gameid_core.specs.TentsText.{IsTentsToken, TentsSoFar, TentsToken, blanks_and_tree, cells_in, run_cells, tents_at, tents_count, tents_end, tents_run, tents_step, tents_token_byte, tents_token_cells, tents_tree, SpellsTents, only_blanks, tents_behind, tents_of}
-use Rattle.gameid_core.proofs.Tokens.{front_turn, cuts_some, words_nil, words_first, words_single, IsWord, words_are, concat_words, alone}
+use Rattle.gameid_core.proofs.Tokens.{cuts_some, words_nil, words_first, words_single, IsWord, words_are, concat_words, alone}
 use Rattle.gameid_core.proofs.Results.{bind_ok}
 use Rattle.gameid_core.proofs.Lists.{AllByRecursion-append, AllByRecursion-replicate}
 use Rattle.gameid_core.proofs.OneReading.{only_of, reading_of}
 use Rattle.gameid_core.proofs.Numerals.{joined_cuts}
 use Rattle.gameid_core.proofs.Reading.{reading_turn, reading_end}
 use Rattle.gameid_core.proofs.HeadLaws.{parts_of, plain_size, puzzle_again}
-use Rattle.gameid_core.proofs.LightTexts.{wide_of, wide_range, sized}
+use Rattle.gameid_core.proofs.LightTexts.{wide_of, sized}
 use Rattle.gameid_core.specs.declared.id.game.Game.TheVariants as game
 
 abbrev pub at_tents : List ℕ → List ℕ → TentsSoFar
@@ -16,8 +16,7 @@ at_tents places counts = record { places = places; counts = counts }
 
 -- some digit is in front
 pub front_some : (after : List ℕ) → begins is_ascii_digit after ≡ true → length (44 ∷ digits_front after) ≡ 1 → ⊥
-front_some [] d e = false≢true d
-front_some (b ∷ after) d e = let t = front_turn (b ∷ after) b after refl d in omega (arith, ap length t.0)
+front_some after d e = grind (arith, common_steps, false≢true)
 
 -- ---- the trees
 
@@ -96,7 +95,7 @@ numbers_begin [] = refl
 numbers_begin (num ∷ numerals) = refl
 
 not_one : (num : List ℕ) → 0 < length num → length (44 ∷ num) ≡ 1 → ⊥
-not_one num some e = absurd (omega (arith, e))
+not_one num some e = grind arith
 
 -- the blanks of a token, and whether it has a tree
 abbrev token_blanks : TentsToken → ℕ
@@ -132,7 +131,7 @@ last_push [] x = grind arith
 last_push (x1 ∷ xs) x = grind (arith, common_steps, last_push xs)
 
 blank_last : (places trees : List ℕ) → places ++ replicate 25 0 ≡ trees ++ 1 ∷ [] → ⊥
-blank_last places trees e = grind (arith, append_assoc places (replicate 24 0) (0 ∷ []), last_push (places ++ replicate 24 0) 0, last_push trees 1)
+blank_last places trees e = grind (arith, append_assoc, last_push (places ++ replicate 24 0) 0, last_push trees 1)
 
 module _ (size : Extent) where
   abbrev pub read_words : ℕ → TentsSoFar → List (List ℕ) → Result TentsSoFar IdFault
@@ -198,7 +197,7 @@ module _ (size : Extent) where
   sound_counted : {places counts : List ℕ} (n : ℕ) → Sound places counts
       → cells_in size + 1 ≤ length places → n ≤ line_cells size (length counts)
       → Sound places (counts ++ n ∷ [])
-  sound_counted {counts} n s full fits = grind (arith, AreCounts-push 0 counts n s.fit)
+  sound_counted {counts} n s full fits = grind (arith, AreCounts-push)
 
   sound_planted : {places counts : List ℕ} (blanks : ℕ) (tree : Bool) → Sound places counts
       → length counts ≤ 0 → length places + length (run_cells blanks tree) ≤ cells_in size + cond
@@ -246,9 +245,7 @@ module _ (size : Extent) where
       → tents_tree size at (at_tents places []) b ≡ Ok t
       → reads at places [] (b ∷ after) ≡ read_words (at + 1) t (words after)
   unfolding reading tents_tree
-  tree_taken at b places after t other e =
-      let r = bind_ok (tents_run at b) _ t e in
-      grind (arith, common_steps, nat_tests, words_single b after, run_single at b r.0 r.1)
+  tree_taken at b places after t other e = grind (arith, nat_tests, common_steps, bind_ok, words_single, run_single)
 
   pub tree_refused : (at b : ℕ) (places after : List ℕ) (f : IdFault) → (b ≡ 44 → ⊥)
       → tents_tree size at (at_tents places []) b ≡ Err f → reads at places [] (b ∷ after) ≡ Err f
@@ -284,8 +281,7 @@ module _ (size : Extent) where
       → AllByRecursion IsNumeral numerals → cells_in size + 1 ≤ length places
       → counts ++ map value numerals ≡ total → length total ≡ lines_of size → AreCounts size 0 total
       → Reads (at_tents places total) places counts (numbers_text numerals)
-  numbers_again places counts total [] d full is len are at =
-      grind (arith, common_steps, reading_end (tents_step size) (tents_end size) at (at_tents places counts) [] refl, end_is places counts true)
+  numbers_again places counts total [] d full is len are at = grind (arith, common_steps, reading_end, end_is)
   numbers_again places counts total (num ∷ numerals) d full is len are at =
       grind (
         arith,
@@ -369,9 +365,7 @@ pub tents_text_again : (text : List ℕ) (p : Tents) → SpellsTents text p → 
 tents_text_again text p s =
     grind (
       arith,
-      puzzle_again game.Tents tents_behind s.front
-          (map tents_token_byte s.tokens ++ numbers_text s.numerals) p.size.w p.size.h false s.size,
-      wide_range p.size,
+      puzzle_again game.Tents tents_behind s.front (map tents_token_byte s.tokens ++ numbers_text s.numerals) p.size.w p.size.h false s.size,
       tents_again p.size (length s.front + 1) p.trees p.counts s.tokens s.numerals s.each s.digits,
       take_at p.trees (1 ∷ []) (p.size.w * p.size.h),
     )

@@ -1,9 +1,8 @@
 -- The written text of a puzzle of Tents: its length, that it spells the puzzle, and that no other does.
 use Rattle.gameid_core.specs.Common.{AllByRecursion, AreCounts, Extent, HasOneText, IsExtent, IsNumeral, IsPlain, IsTents, List, Tents, [], ap, append_assoc, arith, common_steps, cond, decimal, digits_value-decimal, eqb, flat_map, inl, length, length-decimal-le, map, max_id, max_side, nat_tests, refl, replicate, size_text, suc, value, zero, ℕ, ◌*◌, ◌++◌, ◌+◌, ◌<◌, ◌∷◌, ◌≡◌, ◌≤◌}
-use Rattle.gameid_core.specs.TentsText.{IsTentsToken, IsWrittenTents, SpellsTents, TentsToken, blanks_and_tree, only_blanks, tents_text, tents_token_cells, trees_text, AreTight, tents_tokens}
+use Rattle.gameid_core.specs.TentsText.{IsTentsToken, IsWrittenTents, TentsToken, blanks_and_tree, only_blanks, tents_text, tents_token_cells, trees_text, AreTight, tents_tokens}
 use Rattle.gameid_core.proofs.OneReading.{one_text}
 use Rattle.gameid_core.proofs.Numerals.{own, decimal_plain, numeral, length_decimal, plain_decimal}
-use Rattle.gameid_core.proofs.PatternWritten.{line_small}
 use Rattle.gameid_core.proofs.TentsTexts.{numbers_text}
 
 -- ---- the numbers of tents
@@ -28,7 +27,7 @@ counts_short size line [] e h = omega arith
 counts_short size line (n ∷ counts) e h = grind (arith, common_steps, count_short n, counts_short size (line + 1) counts e h.1)
 
 pub tents_short : (p : Tents) → IsTents p → length (tents_text p) ≤ max_id
-tents_short p h = grind (arith, common_steps, length_decimal p.size.w, length_decimal p.size.h, tokens_short 0 p.trees, counts_short p.size 0 p.counts)
+tents_short p h = grind (arith, common_steps, length_decimal, tokens_short, counts_short)
 
 -- ---- what it spells
 
@@ -45,13 +44,13 @@ cells_written k (suc b ∷ cells) few h = grind (arith, nat_tests, common_steps,
 
 pub numbers_are : (counts : List ℕ) → counts_text counts ≡ numbers_text (map decimal counts)
 numbers_are [] = refl
-numbers_are (n ∷ counts) = ap (λ (t : List ℕ). (44 ∷ decimal n) ++ t) (numbers_are counts)
+numbers_are (n ∷ counts) = grind (arith, common_steps, numbers_are counts)
 
 numerals : (size : Extent) (line : ℕ) (counts : List ℕ) → IsExtent size → AreCounts size line counts
     → AllByRecursion IsNumeral (map decimal counts) × AllByRecursion IsPlain (map decimal counts) × (map value (map decimal counts) ≡ counts)
 numerals size line [] e h = (tt, tt, refl)
 numerals size line (n ∷ counts) e h =
-    grind (arith, line_small line e, numerals size (line + 1) counts e h.1, digits_value-decimal own n, numeral n, decimal_plain n)
+    grind (arith, numerals size (line + 1) counts e h.1, digits_value-decimal own n, numeral n, decimal_plain n)
 
 -- the written text has the form of a written text, and so it spells the puzzle
 pub tents_is_written : (p : Tents) → IsTents p → IsWrittenTents (tents_text p) p
@@ -100,13 +99,13 @@ form_tokens : (tokens : List TentsToken) → AllByRecursion IsTentsToken tokens 
 unfolding tokens_of
 form_tokens [] each tight = refl
 form_tokens (blanks_and_tree k ∷ tokens) each tight =
-    grind (arith, common_steps, append_assoc (replicate k 0) (1 ∷ []) (flat_map tents_token_cells tokens), of_run 0 k (1 ∷ flat_map tents_token_cells tokens), form_tokens tokens)
-form_tokens (only_blanks ∷ []) each tight = grind (arith, of_run 0 25 [])
+    grind (arith, common_steps, append_assoc, of_run, form_tokens tokens)
+form_tokens (only_blanks ∷ []) each tight = grind (arith, of_run)
 form_tokens (only_blanks ∷ blanks_and_tree zero ∷ tokens) each tight = absurd tight
 form_tokens (only_blanks ∷ blanks_and_tree (suc k) ∷ tokens) each tight =
-    grind (arith, of_run 0 25 (flat_map tents_token_cells (blanks_and_tree (suc k) ∷ tokens)), form_tokens (blanks_and_tree (suc k) ∷ tokens) each.1 tight)
+    grind (arith, of_run, form_tokens (blanks_and_tree (suc k) ∷ tokens) each.1 tight)
 form_tokens (only_blanks ∷ only_blanks ∷ tokens) each tight =
-    grind (arith, of_run 0 25 (flat_map tents_token_cells (only_blanks ∷ tokens)), form_tokens (only_blanks ∷ tokens) each.1 tight)
+    grind (arith, of_run, form_tokens (only_blanks ∷ tokens) each.1 tight)
 
 numbers_plain : (size : Extent) (line : ℕ) (numerals : List (List ℕ)) → IsExtent size
     → AreCounts size line (map value numerals) → AllByRecursion IsNumeral numerals
@@ -115,12 +114,9 @@ numbers_plain size line [] e h d plain = refl
 numbers_plain size line (num ∷ numerals) e h d plain = grind (arith, numbers_plain size (line + 1) numerals e h.1 d.1 plain.1, plain_decimal)
 
 pub tents_form : (text : List ℕ) (p : Tents) → IsWrittenTents text p → text ≡ tents_text p
-tents_form text p w = grind (arith, of_cells 0 p.trees, form_tokens, numbers_plain p.size 0, numbers_are p.counts)
+tents_form text p w = grind (arith, of_cells, form_tokens, numbers_plain, numbers_are)
 
 pub tents_one_text : HasOneText IsTents IsWrittenTents tents_text
 tents_one_text = record { some = tents_is_written; one = one_text _ _ tents_form }
 
-pub tents_spelled : (p : Tents) → IsTents p → SpellsTents (tents_text p) p
-tents_spelled p h = (tents_is_written p h).spells
-
-pub ruleset laws = (common_steps, tents_is_written, tents_spelled, tents_short)
+pub ruleset laws = (common_steps, tents_is_written, tents_short)

@@ -30,8 +30,7 @@ unfoldable pub use Rattle.grid_core.specs.Lines.{line_numbers}
 pub use Rattle.grid_core.specs.Pieces.{AreEnds}
 pub use Rattle.gameid_core.specs.BlackRuns.{run_of, runs}
 unfoldable pub use Rattle.gameid_core.specs.BlackRuns.{runs_after}
-pub use Rattle.gameid_core.specs.Cells.{fill_end, fill_step, is_letter}
-unfoldable pub use Rattle.gameid_core.specs.Cells.{letters}
+pub use Rattle.gameid_core.specs.Cells.{fill_end, fill_step, is_letter, letter}
 pub use Rattle.gameid_core.specs.FirstFailed.{IsAnswerOfCheck, IsFirstFailed, NoneFails}
 pub use Rattle.gameid_core.specs.FirstFault.{FirstFault, stop}
 pub use Rattle.gameid_core.specs.FirstTokens.{GivesRun, TakesNumber, TakesRun}

@@ -1,5 +1,5 @@
 -- Light Up: what the text of a game ID spells, its first fault, the one written text, and printed grids.
-use Rattle.std.specs.Prelude.{◌≡◌, ℕ, ◌+◌, ◌-◌, ◌*◌, ◌≤◌, ◌&&◌, List, [], ◌∷◌, ◌++◌, map, length, replicate, slice_index, Result, Ok, Err, nat_le, ◌==◌, if◌then◌else◌, codes, decimal, Option, Some, None, slice_get, ◌≢◌}
+use Rattle.std.specs.Prelude.{◌≡◌, zero, suc, ℕ, ◌+◌, ◌-◌, ◌*◌, ◌≤◌, ◌&&◌, List, [], ◌∷◌, ◌++◌, map, length, replicate, slice_index, Result, Ok, Err, nat_le, ◌==◌, if◌then◌else◌, codes, decimal, Option, Some, None, slice_get, ◌≢◌}
 use Rattle.std.specs.List.{AllByRecursion, flat_map}
 use Rattle.gameid_core.specs.declared.id.fault.IdFault.{IdFault}
 use Rattle.gameid_core.specs.declared.id.fault.IdFault.TheVariants.{BadByte}
@@ -11,7 +11,7 @@ use Rattle.gameid_core.specs.Steps.{◌>>=◌, first_row, reading}
 use Rattle.gameid_core.specs.Head.{HeadRead, extent_of, max_id}
 use Rattle.gameid_core.specs.IdTexts.{puzzle_of}
 use Rattle.gameid_core.specs.SizeText.{size_text, IsSizeText}
-use Rattle.gameid_core.specs.Cells.{is_letter, fill_step, fill_end, letters}
+use Rattle.gameid_core.specs.Cells.{is_letter, fill_step, fill_end}
 use Rattle.gameid_core.specs.Puzzles.{Light, IsLight}
 
 -- What a text spells ------------------------------------------------------------------------------
@@ -88,12 +88,21 @@ light_of text = puzzle_of game.LightUp light_behind text
 
 -- The written text --------------------------------------------------------------------------------
 
--- the text of the cells, with k white cells before them
-unfoldable pub light_cells_text : ℕ → List LightCell → List ℕ
-light_cells_text k [] = letters k
-light_cells_text k (White ∷ cells) = light_cells_text (k + 1) cells
-light_cells_text k (Black ∷ cells) = letters k ++ 66 ∷ light_cells_text 0 cells
-light_cells_text k (Numbered n ∷ cells) = letters k ++ (48 + n) ∷ light_cells_text 0 cells
+-- a letter for so many white cells before other tokens, and none for no cell
+abbrev pub whites_before : ℕ → List LightToken → List LightToken
+whites_before zero tokens = tokens
+whites_before (suc k) tokens = whites (suc k) ∷ tokens
+
+-- the tokens of the cells, with k white cells before them
+unfoldable pub light_tokens : ℕ → List LightCell → List LightToken
+light_tokens k [] = whites_before k []
+light_tokens k (White ∷ cells) =
+    if k == 26 then whites 26 ∷ light_tokens 1 cells else light_tokens (k + 1) cells
+light_tokens k (Black ∷ cells) = whites_before k (black ∷ light_tokens 0 cells)
+light_tokens k (Numbered n ∷ cells) = whites_before k (numbered n ∷ light_tokens 0 cells)
+
+abbrev pub light_cells_text : ℕ → List LightCell → List ℕ
+light_cells_text k cells = map light_token_byte (light_tokens k cells)
 
 abbrev pub light_text : Light → List ℕ
 light_text p = size_text p.size.w p.size.h ++ 58 ∷ light_cells_text 0 p.cells

@@ -10,7 +10,7 @@ use Rattle.gameid_core.specs.Steps.{◌>>=◌, first_row, reading}
 use Rattle.gameid_core.specs.Head.{HeadRead, max_id}
 use Rattle.gameid_core.specs.IdTexts.{puzzle_of}
 use Rattle.gameid_core.specs.SizeText.{solo_size_text, IsSoloSizeText}
-use Rattle.gameid_core.specs.Cells.{is_letter, fill_step, fill_end, letters}
+use Rattle.gameid_core.specs.Cells.{is_letter, fill_step, fill_end}
 use Rattle.gameid_core.specs.Puzzles.{Solo, IsSolo, solo_n, solo_puzzle}
 
 -- What a text spells ------------------------------------------------------------------------------
@@ -109,18 +109,26 @@ solo_of text = puzzle_of game.Solo solo_behind text
 
 -- The written text --------------------------------------------------------------------------------
 
--- what stands before a number that has k blanks before it: their letters, or '_' where a number
--- stands there
-abbrev pub before_given : ℕ → Bool → List ℕ
-before_given zero true = 95 ∷ []
-before_given k touches = letters k
+-- a letter for so many blank cells before other tokens, and none for no cell
+abbrev pub blanks_before : ℕ → List SoloToken → List SoloToken
+blanks_before zero tokens = tokens
+blanks_before (suc k) tokens = blanks (suc k) ∷ tokens
 
--- the text of the cells, with k blanks before them, which have a number before them or not
-unfoldable pub cells_text : ℕ → Bool → List ℕ → List ℕ
-cells_text k touches [] = letters k
-cells_text k touches (zero ∷ cells) = cells_text (k + 1) touches cells
-cells_text k touches (suc v ∷ cells) =
-    before_given k touches ++ (decimal (suc v) ++ cells_text 0 true cells)
+-- the same before a number, and '_' where a number stands there
+abbrev pub gap_before : ℕ → Bool → List SoloToken → List SoloToken
+gap_before zero true tokens = gap ∷ tokens
+gap_before k touches tokens = blanks_before k tokens
+
+-- the tokens of the cells, with k blanks before them, which have a number before them or not
+unfoldable pub solo_tokens : ℕ → Bool → List ℕ → List SoloToken
+solo_tokens k touches [] = blanks_before k []
+solo_tokens k touches (zero ∷ cells) =
+    if k == 26 then blanks 26 ∷ solo_tokens 1 false cells else solo_tokens (k + 1) touches cells
+solo_tokens k touches (suc v ∷ cells) =
+    gap_before k touches (given (suc v) ∷ solo_tokens 0 true cells)
+
+abbrev pub cells_text : ℕ → Bool → List ℕ → List ℕ
+cells_text k touches cells = flat_map solo_token_text (solo_tokens k touches cells)
 
 abbrev pub solo_text : Solo → List ℕ
 solo_text p = solo_size_text p.c p.r p.x ++ 58 ∷ cells_text 0 false p.givens

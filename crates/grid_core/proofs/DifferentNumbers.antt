@@ -1,17 +1,6 @@
 -- Lists of different numbers are no longer than what holds them.
-use Rattle.std.proofs.Common.{◌≡◌, ℕ, ◌+◌, ◌<◌, ◌≤◌, Bool, true, eqb, ltb, List, length, get_or, take, sym, ◌∙◌, arith}
-use Rattle.std.specs.Prelude.{Contains, count_by, filter}
-use Rattle.std.specs.List.{IsDistinct, range_with_len}
-use Rattle.std.specs.Cmp.{unsigned_Decides}
-use Rattle.std.proofs.lemmas.Bool.{and_parts, ltb-true}
-use Rattle.std.proofs.lemmas.Cmp.{nat_eq_equiv}
-use Rattle.std.proofs.lemmas.Grind.{common_steps}
-use Rattle.std.proofs.lemmas.List.FromFn.{length-range_with_len, get_or-range_with_len}
-use Rattle.std.proofs.lemmas.List.Kept.{AllPairs-from_increasing, IsStrictlyIncreasing-filter}
-use Rattle.std.proofs.lemmas.List.Sums.{length-filter}
-use Rattle.std.proofs.lemmas.Map.Made.{length-le_from_is_member, IsDistinct-from_AllPairs}
+use Rattle.grid_core.proofs.Common.{AllPairs-from_increasing, Bool, Contains, IsApart, IsDistinct, IsDistinct-from_AllPairs, IsStrictlyIncreasing-filter, List, and_parts, arith, common_steps, count_by, eqb, filter, get_or, get_or-range_with_len, length, length-filter, length-le_from_is_member, length-range_with_len, ltb, ltb-true, nat_eq_equiv, range_with_len, sym, take, true, unsigned_Decides, ℕ, ◌+◌, ◌<◌, ◌∙◌, ◌≡◌, ◌≤◌}
 use Rattle.std.proofs.lemmas.Map.Steps.{length-le_from_distinct_below}
-use Rattle.grid_core.specs.Augmenting.{IsApart}
 use Rattle.grid_core.proofs.ShortSets.{contains_from_member, member_from_contains, member_of_filter}
 
 -- the first `count` entries, all different and below n, are at most n

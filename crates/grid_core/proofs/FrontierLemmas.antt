@@ -1,18 +1,6 @@
 -- What is done to the lefts that a search has reached.
-use Rattle.std.proofs.Common.{◌≡◌, ℕ, ◌+◌, ◌<◌, ◌≤◌, Bool, true, false, true≢false, eqb, List, [], ◌∷◌, ◌++◌, length, get_or, set, take, sym, ◌∙◌, ap, arith, inl, inr, nat_cmp}
-use Rattle.std.specs.Prelude.{Contains, IsPermutation, IsSorted}
-use Rattle.std.specs.List.{IsDistinct}
-use Rattle.std.proofs.lemmas.Bool.{cases_eq, eqb-false}
-use Rattle.std.proofs.lemmas.Cmp.{nat_eq_equiv}
+use Rattle.grid_core.proofs.Common.{All-from_get_or, All-get_or, All-permutation, AreReached, Bool, Contains, Contains-permutation, FrontierView, IsDistinct, IsDistinct-from_AllPairs, IsNonDecreasingBy-from_sort, IsPermutation, IsSorted, IsStrictlyIncreasing, List, [], ap, arith, cases_eq, common_steps, eqb, eqb-false, false, get_or, get_or-set_at, get_or-take, get_or_default, get_or_past, inl, inr, length, length-append, length-set, length-take, nat_cmp, nat_eq_equiv, set, sym, take, take_more_set, true, true≢false, unsigned_Decides, with_left, ℕ, ◌++◌, ◌+◌, ◌<◌, ◌∙◌, ◌∷◌, ◌≡◌, ◌≤◌}
 use Rattle.std.proofs.lemmas.Map.Keys.{IsDistinct-IsPermutation, apart_from_distinct, IsStrictlyIncreasing-from_distinct}
-use Rattle.std.specs.List.Sorted.{IsStrictlyIncreasing}
-use Rattle.std.specs.Cmp.{unsigned_Decides}
-use Rattle.std.proofs.lemmas.Map.Made.{IsDistinct-from_AllPairs}
-use Rattle.std.proofs.lemmas.Grind.{common_steps, get_or-set_at}
-use Rattle.std.proofs.lemmas.List.{get_or-take, get_or_past, get_or_default, take_more_set, length-append, length-set, length-take}
-use Rattle.std.proofs.lemmas.List.Elements.{All-get_or, All-from_get_or}
-use Rattle.std.proofs.lemmas.List.Sorted.{All-permutation, Contains-permutation, IsNonDecreasingBy-from_sort}
-use Rattle.grid_core.specs.Augmenting.{FrontierView, AreReached, with_left}
 use Rattle.grid_core.proofs.DifferentNumbers.{apart-le}
 
 -- what is marked is one of the entries

@@ -1,16 +1,8 @@
 -- The places and the numbers of a grid's lines.
-use Rattle.std.proofs.Common.{◌≡◌, ◌∙◌, ℕ, ◌+◌, ◌-◌, ◌*◌, ◌<◌, ◌≤◌, List, length, slice_index, map, refl, sym, ap, arith}
-use Rattle.std.proofs.lemmas.Bool.{cases_Bool, cases_lt, lt-ltb, le-ltb}
-use Rattle.std.proofs.lemmas.Grind.{common_steps}
-use Rattle.std.proofs.lemmas.List.{get_or-map}
-use Rattle.std.proofs.lemmas.List.FromFn.{length-map-range_with_len, get_or-map-range_with_len}
+use Rattle.grid_core.proofs.Common.{Extent, IsExtent, List, ap, arith, cases_Bool, cases_lt, column_places, common_steps, get_or-map, get_or-map-range_with_len, le-ltb, length, length-map-range_with_len, lt-ltb, map, max_cells, max_side, mul-le-mul_right, refl, row_places, slice_index, sym, ℕ, ◌*◌, ◌+◌, ◌-◌, ◌<◌, ◌∙◌, ◌≡◌, ◌≤◌}
 use Rattle.std.proofs.lemmas.Simd.{map-map}
-use Rattle.std.proofs.Math.Nat.{mul-le-mul_right}
-use Rattle.grid_core.specs.Candidates.{max_cells}
-use Rattle.grid_core.specs.Extent.{Extent, IsExtent, max_side}
 use Rattle.grid_core.specs.Grids.{row_cells, column_cells}
 use Rattle.grid_core.specs.Lines.{line_cells, line_numbers, line_places}
-use Rattle.grid_core.specs.Regions.{row_places, column_places}
 
 -- ---- the places of a line
 pub column-places : (size : Extent) (line : ℕ) → line < size.w → line_places size line ≡ column_places size line

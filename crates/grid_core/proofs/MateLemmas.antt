@@ -1,10 +1,5 @@
 -- What a left's new mate does to the owners of rights.
-use Rattle.std.proofs.Common.{◌≡◌, ℕ, ◌<◌, List, [], ◌∷◌, ◌++◌, length, get_or, set, arith}
-use Rattle.std.specs.Prelude.{Option, Some, None}
-use Rattle.std.proofs.lemmas.Bool.{cases_eq}
-use Rattle.std.proofs.lemmas.Grind.{common_steps}
-use Rattle.std.proofs.lemmas.List.{get_or_past}
-use Rattle.grid_core.specs.Augmenting.{AreOwners, IsFree}
+use Rattle.grid_core.proofs.Common.{AreOwners, IsFree, List, None, Option, Some, [], arith, cases_eq, common_steps, get_or, get_or_past, length, set, ℕ, ◌++◌, ◌<◌, ◌∷◌, ◌≡◌}
 
 -- a right that has an owner is one of the rights
 pub mate_in : (owners : List (Option ℕ)) (r : ℕ) {l : ℕ} → get_or owners r None ≡ Some l → r < length owners

@@ -1,48 +1,32 @@
 -- Planes: their words and the board that they are.
-use Rattle.std.proofs.Common.{◌≡◌, ◌∙◌, ℕ, ◌+◌, ◌-◌, ◌*◌, ◌/◌, ◌%◌, ◌<◌, ◌≤◌, true, false, not, ◌&&◌, eqb, ltb, List, length, set, refl, sym, ap, inl, inr, arith}
-use Rattle.std.proofs.Math.Path.{fun_ext}
-use Rattle.std.proofs.Math.Nat.{mul-le-mul_right}
-use Rattle.std.proofs.lemmas.Bool.{cases_Bool, cases_eq, cases_lt, eq-eqb, ne_eqb, eqb-true, lt-ltb, le-ltb, ltb-true, and_parts, and_from, true≢false, false_from_ne_true}
-use Rattle.std.proofs.lemmas.Grind.{common_steps}
-use Rattle.std.proofs.lemmas.List.{get_or_past}
-use Rattle.std.proofs.lemmas.Nat.{div-mul-add, div-add-mod'}
-use Rattle.grid_core.specs.Candidates.{Candidates, IsInside, IsWithin, any_below, total}
-use Rattle.grid_core.specs.Extent.{Extent}
+use Rattle.grid_core.proofs.Common.{ArePlanes, AreTurned, AreWords, Bool, Candidates, Column, Extent, HasLine, HasLost, HasRoomFor, IsFurther, IsInside, IsLineIn, IsTakingIn, IsThere, IsWithin, Layers, List, Row, Taking, and_from, and_parts, any_below, ap, arith, at_line, back_at, bit_of, cases_Bool, cases_eq, cases_lt, cells_of, common_steps, covers, crosses, differ, div-add-mod', div-mul-add, eq-eqb, eqb, eqb-true, false, false_from_ne_true, fun_ext, has, has_bit, inl, inr, le-ltb, length, length-set, line_len, lt-ltb, ltb, ltb-true, mul-le-mul_right, ne_eqb, not, refl, set, sym, taking_at, total, true, true≢false, turned_by, without_taking, ℕ, ◌%◌, ◌&&◌, ◌*◌, ◌+◌, ◌-◌, ◌/◌, ◌<◌, ◌∙◌, ◌≡◌, ◌≤◌}
 use Rattle.grid_core.proofs.CandidateLemmas.{any_below-none, any_below-some, total-lt}
-use Rattle.grid_core.proofs.WordLemmas.{zero-bits}
-use Rattle.grid_core.specs.Words.{has_bit, differ}
-use Rattle.grid_core.specs.Planes.{Taking, Layers, bit_of, crosses, covers, without_taking, turned_by, has, cells_of, taking_at, back_at, at_line, line_len, HasLost, IsLineIn, IsTakingIn, AreWords, ArePlanes, IsFurther, AreTurned, HasLine, HasRoomFor, IsThere}
 use Rattle.grid_core.specs.declared.planes.line.Line.{Line}
-use Rattle.grid_core.specs.declared.planes.line.Line.TheVariants.{Row, Column}
 use Rattle.grid_core.proofs.TakingLemmas.{put_back-noted, put_back-undone, takings-noted, takings-room, takings-undone}
 
 -- ---- words
-bit-past : (words : List ℕ) (line v place : ℕ) → length words ≤ 2 * line + v → bit_of words line v place ≡ false
-unfolding bit_of
-bit-past words line v place high = rw (get_or_past words (2 * line + v) 0 high) (zero-bits place)
-
--- a bit that is set is in the grid
-pub bit-in : (size : Extent) (rows columns : List ℕ) (y x v : ℕ) → AreWords size rows columns → v < 2 → bit_of rows y v x ≡ true → (y < size.h) × (x < size.w)
-bit-in size rows columns y x v are lt on = (
-  elim (cases_lt y size.h) [ inl low ↦ low | inr high ↦ absurd (true≢false (sym on ∙ bit-past rows y v x (omega (arith, are.rows_long)))) ],
-  elim (cases_lt x size.w) [
-    | inl low ↦ low
-    | inr high ↦
-        absurd (true≢false (sym on ∙ are.agree y x v lt
-        ∙ bit-past columns x v y (omega (arith, are.columns_long))))
-  ],
-)
+-- the cells of a line of the grid are in the grid
+crossed-in : (size : Extent) (line : Line) (bits y x : ℕ) → IsLineIn size line bits → crosses line bits y x ≡ true → (y < size.h) × (x < size.w)
+unfolding crosses
+crossed-in size (Row k) bits y x within on = let w = and_parts _ _ on in (rw (eqb-true y k w.0) within.0, within.1 x w.1)
+crossed-in size (Column k) bits y x within on = let w = and_parts _ _ on in (within.1 y w.1, rw (eqb-true x k w.0) within.0)
 
 -- turned over, rows and columns still agree
 pub words-turned : (size : Extent) (rows columns rows' columns' : List ℕ) (t : Taking) → AreWords size rows columns → AreTurned rows columns rows' columns' t
-    → length rows' ≡ length rows → length columns' ≡ length columns → AreWords size rows' columns'
-words-turned size rows columns rows' columns' t are turned tall wide = record {
-  rows_long = tall ∙ are.rows_long;
-  columns_long = wide ∙ are.columns_long;
+    → IsLineIn size t.line t.bits → AreWords size rows' columns'
+unfolding differ
+words-turned size rows columns rows' columns' t are turned within = record {
+  within = λ y x v lt on. elim (cases_Bool (crosses t.line t.bits y x)) [
+    | inl crossed ↦ crossed-in size t.line t.bits y x within crossed
+    | inr off ↦ are.within y x v lt (same (eqb v t.value) _ _ (sym (turned.by_rows y v x lt) ∙ on) off)
+  ];
   agree = λ y x v lt. turned.by_rows y v x lt
       ∙ ap (λ b. differ b (eqb v t.value && crosses t.line t.bits y x)) (are.agree y x v lt)
       ∙ sym (turned.by_columns x v y lt);
 }
+  where
+    same : (value crossing before : Bool) → differ before (value && crossing) ≡ true → crossing ≡ false → before ≡ true
+    same value crossing before on off = grind (arith, common_steps, cases_Bool)
 
 -- so is the board
 pub has-turned : (p p' : Layers) (t : Taking) → p'.size ≡ p.size → t.value < 2
@@ -58,14 +42,14 @@ unfolding crosses
 line_of_there size rows columns (Row k) v bits are lt there some =
     let w = and_parts _ _ some.2 in
     let e : some.0 ≡ k = eqb-true _ _ w.0 in
-    ((rw e at (bit-in size rows columns some.0 some.1 v are lt (there some.0 some.1 some.2)).0), λ x on. (bit-in size rows columns k x v are lt (there k x (and_from _ _ (eq-eqb k k refl) on))).1)
+    ((rw e at (are.within some.0 some.1 v lt (there some.0 some.1 some.2)).0), λ x on. (are.within k x v lt (there k x (and_from _ _ (eq-eqb k k refl) on))).1)
 line_of_there size rows columns (Column k) v bits are lt there some =
     let w = and_parts _ _ some.2 in
     let e : some.1 ≡ k = eqb-true _ _ w.0 in
-    ((rw e at (bit-in size rows columns some.0 some.1 v are lt (there some.0 some.1 some.2)).1), λ y on. (bit-in size rows columns y k v are lt (there y k (and_from _ _ (eq-eqb k k refl) on))).0)
+    ((rw e at (are.within some.0 some.1 v lt (there some.0 some.1 some.2)).1), λ y on. (are.within y k v lt (there y k (and_from _ _ (eq-eqb k k refl) on))).0)
 
 room_of_line : (room : ℕ) (size : Extent) (rows columns v : ℕ) (line : Line) (bits : ℕ)
-    → size.w ≤ room → size.h ≤ room → rows ≡ 2 * size.h → columns ≡ 2 * size.w → v < 2
+    → size.w ≤ room → size.h ≤ room → rows ≡ 2 * room → columns ≡ 2 * room → v < 2
     → IsLineIn size line bits
     → HasLine room rows columns line v bits
 room_of_line room size rows columns v (Row k) bits narrow low tall wide lt within =
@@ -75,7 +59,7 @@ room_of_line room size rows columns v (Column k) bits narrow low tall wide lt wi
 
 pub room_for : (room : ℕ) (p : Layers) (t : Taking) → ArePlanes room p → IsTakingIn p.size t → HasRoomFor room (length p.rows) (length p.columns) t
 room_for room p t are within =
-    (within.value_in, room_of_line room p.size (length p.rows) (length p.columns) t.value t.line t.bits are.narrow are.low are.words.rows_long are.words.columns_long within.value_in within.line_in)
+    (within.value_in, room_of_line room p.size (length p.rows) (length p.columns) t.value t.line t.bits are.narrow are.low are.tall are.wide within.value_in within.line_in)
 
 pub taking_in : (room : ℕ) (p : Layers) (t : Taking) → ArePlanes room p → IsThere p t → IsTakingIn p.size t
 taking_in room p t are there = record {
@@ -113,18 +97,18 @@ taken-lost room p t are there =
     let y = there.some.0 in
     let x = there.some.1 in
     let on = there.there y x there.some.2 in
-    let within = bit-in p.size p.rows p.columns y x t.value are.words there.value_in on in
+    let within = are.words.within y x t.value there.value_in on in
     let row = div-mul-add y p.size.w x within.1 in
     let column = place-column p.size.w y x within.1 in
     let low = lt-ltb t.value 2 there.value_in in
     (y * p.size.w + x, t.value, rw (row, column, low, on) refl, rw (row, column, there.some.2, eq-eqb t.value t.value refl, low, on) refl)
 
 -- the board has no other cells and values than the grid's
-has-within : (p : Layers) (room : ℕ) → ArePlanes room p → IsWithin (cells_of p) 2 (has p)
+pub has-within : (p : Layers) (room : ℕ) → ArePlanes room p → IsWithin (cells_of p) 2 (has p)
 unfolding has
 has-within p room are = λ c v on.
     let w = and_parts (ltb v 2) _ on in
-    let within = bit-in p.size p.rows p.columns (c / p.size.w) (c % p.size.w) v are.words (ltb-true v 2 w.0) w.1 in
+    let within = are.words.within (c / p.size.w) (c % p.size.w) v (ltb-true v 2 w.0) w.1 in
     (rw (div-add-mod' c p.size.w) at (place-in p.size.w p.size.h (c / p.size.w) (c % p.size.w) within.0 within.1), ltb-true v 2 w.0)
 
 taken-fewer : (room : ℕ) (p : Layers) (t : Taking) → ArePlanes room p → IsThere p t
@@ -166,12 +150,15 @@ taken room p t rows columns are there turned tall wide =
         lawful = are.lawful;
         narrow = are.narrow;
         low = are.low;
-        words = words-turned p.size p.rows p.columns rows columns t are.words turned tall wide;
+        tall = tall ∙ are.tall;
+        wide = wide ∙ are.wide;
+        words = words-turned p.size p.rows p.columns rows columns t are.words turned within.line_in;
         takings = takings-noted p.size (has p) (has p') p.takings p.len t are.takings fewer within back;
       };
       left = left;
       further = record {
         same_size = refl;
+        same_room = length-set p.takings p.len t;
         inside = rw left (without-inside p.size.w (has p) t);
         grows = omega arith;
         same = λ e. absurd (omega arith);
@@ -184,6 +171,7 @@ taken room p t rows columns are there turned tall wide =
 pub further-none : (p : Layers) → IsFurther p p
 further-none p = record {
   same_size = refl;
+  same_room = refl;
   inside = λ c v on. on;
   grows = omega arith;
   same = λ _. refl;
@@ -194,6 +182,7 @@ further-none p = record {
 pub further-more : (p q r : Layers) → IsFurther p q → IsFurther q r → IsFurther p r
 further-more p q r first next = record {
   same_size = next.same_size ∙ first.same_size;
+  same_room = next.same_room ∙ first.same_room;
   inside = λ c v on. first.inside c v (next.inside c v on);
   grows = omega (arith, first.grows, next.grows);
   same = λ e. next.same (omega (arith, first.grows, next.grows)) ∙ first.same (omega (arith, first.grows, next.grows));
@@ -279,7 +268,9 @@ given_back room p rows columns n are e turned tall wide =
         lawful = are.lawful;
         narrow = are.narrow;
         low = are.low;
-        words = words-turned p.size p.rows p.columns rows columns t are.words turned tall wide;
+        tall = tall ∙ are.tall;
+        wide = wide ∙ are.wide;
+        words = words-turned p.size p.rows p.columns rows columns t are.words turned within.line_in;
         takings = rw (turn, n_is) (takings-undone p.size (has p) p.takings p.len (omega arith) are.takings);
       };
       back = λ m lt. rw (turn, n_is) (put_back-undone p.size.w (has p) p.takings m p.len lt);

@@ -1,17 +1,6 @@
 -- One step of planes, by the words that the program keeps.
-use Rattle.std.proofs.Common.{◌≡◌, ◌∙◌, ℕ, zero, suc, ◌∷◌, ◌+◌, ◌-◌, ◌*◌, ◌/◌, ◌%◌, ◌<◌, ◌≤◌, ◌↔◌, true, false, ◌&&◌, ltb, List, length, map, set, get_or, replicate, refl, sym, ap, inl, inr, arith}
-use Rattle.std.proofs.Math.Path.{fun_ext}
-use Rattle.std.proofs.Math.Bool.{and_comm}
-use Rattle.grid_core.proofs.WordLemmas.{zero-bits}
-use Rattle.std.proofs.Math.Nat.{mod-lt, div-lt_iff_lt-mul}
-use Rattle.std.proofs.lemmas.Bool.{cases_Bool, cases_lt, lt-ltb, le-ltb}
-use Rattle.std.proofs.lemmas.Grind.{common_steps}
-use Rattle.std.proofs.lemmas.List.{get_or-map, get_or_past, get_or-replicate, length-map, length-replicate, map-set}
-use Rattle.grid_core.specs.Candidates.{Candidates, all_of, total}
-use Rattle.grid_core.specs.Extent.{Extent, IsExtent}
+use Rattle.grid_core.proofs.Common.{ArePlanes, AreTurned, Candidates, Extent, HasRoomFor, IsExtent, IsFresh, IsTakingIn, IsThere, Layers, List, Taking, all_of, and_comm, and_parts, ap, arith, bit_of, cases_Bool, cases_lt, common_steps, div-lt_iff_lt-mul, false, fun_ext, get_or, get_or-map, has, has_bit, inl, inr, layers_of, le-ltb, length, length-map, lt-ltb, ltb, ltb-true, map, map-set, mod-lt, no_taking, refl, set, slice_index, suc, sym, taking_at, taking_of, total, true, zero, ℕ, ◌%◌, ◌&&◌, ◌*◌, ◌+◌, ◌-◌, ◌/◌, ◌<◌, ◌↔◌, ◌∙◌, ◌≡◌, ◌≤◌, ◌⊎◌}
 use Rattle.grid_core.proofs.CandidateLemmas.{count_below-bound}
-use Rattle.grid_core.specs.Words.{has_bit}
-use Rattle.grid_core.specs.Planes.{Taking, Layers, bit_of, has, taking_of, no_taking, taking_at, layers_of, ArePlanes, IsFresh, AreTurned, HasRoomFor, IsThere, IsTakingIn}
 use Rattle.grid_core.specs.declared.planes.line.Change.{Change}
 use Rattle.grid_core.proofs.TakingLemmas.{takings-none, takings-len}
 use Rattle.grid_core.proofs.PlaneLemmas.{IsTaken, IsPutBack, taken, given_back, room_for}
@@ -65,41 +54,45 @@ pub record IsBegun (room : ℕ) (size : Extent) (K : Candidates) (p : Layers) : 
   pub are : ArePlanes room p
   pub fresh : IsFresh size K p
 
-bit_repeated : (n word line v place : ℕ) → v < 2 → bit_of (replicate (2 * n) word) line v place ≡ (ltb line n && has_bit word place)
-unfolding bit_of
-bit_repeated n word line v place lt = elim (cases_lt line n) [
-  | inl low ↦ rw (lt-ltb line n low, get_or-replicate (2 * n) (2 * line + v) word 0 (omega arith)) refl
-  | inr high ↦ rw (le-ltb line n high, get_or_past (replicate (2 * n) word) (2 * line + v) 0 (omega (arith, length-replicate (2 * n) word))) (zero-bits place)
-]
+-- the first words, so many lines of them, have these places, and all others none
+pub record AreWritten {W : Type 0} (bits : W → ℕ) (words : List W) (lines : ℕ) (word : W) (room : ℕ) : Type 0 where
+  pub is : (k place : ℕ) → has_bit (slice_index (map bits words) k) place ≡ (ltb k (2 * lines) && has_bit (bits word) place)
+  pub long : length words ≡ 2 * room
 
-map-replicate : {W : Type 0} (bits : W → ℕ) (n : ℕ) (word : W) → map bits (replicate n word) ≡ replicate n (bits word)
-map-replicate bits zero word = refl
-map-replicate bits (suc n) word = ap (λ xs. bits word ∷ xs) (map-replicate bits n word)
+bit_written : {W : Type 0} (bits : W → ℕ) (words : List W) (lines : ℕ) (word : W) (room line v place n : ℕ) → AreWritten bits words lines word room
+    → has_bit (bits word) place ≡ ltb place n → v < 2 → bit_of (map bits words) line v place ≡ (ltb line lines && ltb place n)
+unfolding bit_of
+bit_written bits words lines word room line v place n written first lt =
+    written.is (2 * line + v) place ∙ rw first (ap (λ b. b && ltb place n) (same (cases_lt line lines)))
+  where
+    same : (line < lines) ⊎ (lines ≤ line) → ltb (2 * line + v) (2 * lines) ≡ ltb line lines
+    same (inl low) = lt-ltb (2 * line + v) (2 * lines) (omega arith) ∙ sym (lt-ltb line lines low)
+    same (inr high) = le-ltb (2 * line + v) (2 * lines) (omega arith) ∙ sym (le-ltb line lines high)
 
 -- full planes: each row has the places below the width, and each column those below the height
 pub begun : {W : Type 0} (bits : W → ℕ) (room : ℕ) (size : Extent) (row column : W) (changes : List (Change W)) → IsExtent size → size.w ≤ room → size.h ≤ room
-    → ((p : ℕ) → has_bit (bits row) p ≡ ltb p size.w) → ((p : ℕ) → has_bit (bits column) p ≡ ltb p size.h) → length changes ≡ size.w * size.h * 2
-    → (rows columns : List W) → rows ≡ replicate (2 * size.h) row → columns ≡ replicate (2 * size.w) column
+    → ((p : ℕ) → has_bit (bits row) p ≡ ltb p size.w) → ((p : ℕ) → has_bit (bits column) p ≡ ltb p size.h) → size.w * size.h * 2 ≤ length changes
+    → (rows columns : List W) → AreWritten bits rows size.h row room → AreWritten bits columns size.w column room
     → IsBegun room size (all_of (size.w * size.h) 2) (layers_of bits size rows columns changes 0)
 begun bits room size row column changes lawful narrow low row_is column_is long rows columns er ec =
     let p : Layers = layers_of bits size rows columns changes 0 in
-    let rs : p.rows ≡ replicate (2 * size.h) (bits row) = ap (map bits) er ∙ map-replicate bits (2 * size.h) row in
-    let cs : p.columns ≡ replicate (2 * size.w) (bits column) = ap (map bits) ec ∙ map-replicate bits (2 * size.w) column in
     let by_row : (y v x : ℕ) → v < 2 → bit_of p.rows y v x ≡ (ltb y size.h && ltb x size.w) = λ y v x lt.
-    ap (λ (l : List ℕ). bit_of l y v x) rs ∙ bit_repeated size.h (bits row) y v x lt ∙ ap (λ b. ltb y size.h && b) (row_is x) in
+    bit_written bits rows size.h row room y v x size.w er (row_is x) lt in
     let by_column : (x v y : ℕ) → v < 2 → bit_of p.columns x v y ≡ (ltb x size.w && ltb y size.h) = λ x v y lt.
-    ap (λ (l : List ℕ). bit_of l x v y) cs ∙ bit_repeated size.w (bits column) x v y lt ∙ ap (λ b. ltb x size.w && b) (column_is y) in
+    bit_written bits columns size.w column room x v y size.h ec (column_is y) lt in
     record {
       are = record {
         lawful = lawful;
         narrow = narrow;
         low = low;
+        tall = length-map rows bits ∙ er.long;
+        wide = length-map columns bits ∙ ec.long;
         words = record {
-          rows_long = ap length rs ∙ length-replicate (2 * size.h) (bits row);
-          columns_long = ap length cs ∙ length-replicate (2 * size.w) (bits column);
+          within = λ y x v lt on.
+              let w = and_parts _ _ (sym (by_row y v x lt) ∙ on) in (ltb-true y size.h w.0, ltb-true x size.w w.1);
           agree = λ y x v lt. by_row y v x lt ∙ and_comm (ltb y size.h) (ltb x size.w) ∙ sym (by_column x v y lt);
         };
-        takings = takings-none size (has p) p.takings (length-map changes (taking_of bits) ∙ long) (total-bound (size.w * size.h) 2 (has p));
+        takings = takings-none size (has p) p.takings (omega (arith, length-map changes (taking_of bits), long)) (total-bound (size.w * size.h) 2 (has p));
       };
       fresh = record { same_size = refl; holds = full-has p size refl lawful.w_low by_row; none = refl };
     }

@@ -1,14 +1,4 @@
-use Rattle.std.proofs.Common.{◌≡◌, ℕ, zero, suc, ◌+◌, ◌*◌, ◌/◌, ◌%◌, ◌<◌, ◌≤◌, List, [], ◌∷◌, ◌++◌, length, map, slice_index, Some, None, refl, sym, ap, ◌∙◌, arith, length-append, add-one}
-use Rattle.std.specs.List.{slice_get, range_with_len}
-use Rattle.std.proofs.lemmas.Bool.{cases_eq}
-use Rattle.std.proofs.lemmas.Option.{slice_get-get_or, slice_get_within}
-use Rattle.std.proofs.lemmas.List.{get_or_append_left}
-use Rattle.std.proofs.lemmas.List.FromFn.{get_or-map-range_with_len}
-use Rattle.std.proofs.Math.Seq.{get_or-append_seam}
-use Rattle.std.proofs.Math.Nat.{mul-le-mul_right, div-lt_iff_lt-mul, mod-lt}
-use Rattle.grid_core.specs.Extent.{Extent}
-use Rattle.grid_core.specs.Regions.{row_places, column_places, up, left, right, down, step, steps}
-use Rattle.std.proofs.lemmas.Grind.{common_steps}
+use Rattle.grid_core.proofs.Common.{Extent, List, None, Some, [], add-one, ap, arith, cases_eq, column_places, common_steps, div-lt_iff_lt-mul, down, get_or-append_seam, get_or-map-range_with_len, get_or_append_left, left, length, length-append, map, mod-lt, mul-le-mul_right, range_with_len, refl, right, row_places, slice_get, slice_get-get_or, slice_get_within, slice_index, step, steps, suc, sym, up, zero, ℕ, ◌%◌, ◌*◌, ◌++◌, ◌+◌, ◌/◌, ◌<◌, ◌∙◌, ◌∷◌, ◌≡◌, ◌≤◌}
 
 -- ---- lines and blocks
 pub line_at : (place : ℕ → ℕ) {n : ℕ} (k : ℕ) → k < n → slice_index (map place (range_with_len 0 n)) k ≡ place k

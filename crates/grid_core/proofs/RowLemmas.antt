@@ -1,15 +1,5 @@
 -- Rows of planes as cells by place: which can have both values, and which have just one.
-use Rattle.std.proofs.Common.{◌≡◌, ◌∙◌, ℕ, zero, suc, ◌+◌, ◌-◌, ◌*◌, ◌/◌, ◌%◌, ◌||◌, eqb, ◌<◌, ◌≤◌, Bool, true, false, cond, not, ◌&&◌, ltb, List, length, set, slice_index, Option, Some, None, refl, sym, ap, inl, inr, arith}
-use mir.Val.{bool_byte}
-use Rattle.std.proofs.lemmas.Bool.{cases_Bool, cases_eq, eq-eqb, ne_eqb, eqb-true, cases_lt, and_parts, false_from_ne_true, lt-ltb, ltb-true}
-use Rattle.std.proofs.lemmas.Grind.{common_steps}
-use Rattle.std.proofs.lemmas.List.{get_or-set_same, get_or-set_other, length-set}
-use Rattle.std.proofs.lemmas.Nat.{div-mul-add, div-add-mod'}
-use Rattle.std.proofs.Math.Path.{fun_ext}
-use Rattle.grid_core.specs.Candidates.{Candidates, any_below, better, count_below, grid_of, is_full, only, pick}
-use Rattle.grid_core.specs.Planes.{Layers, bit_of, has, cells_of, crosses, covers, without_taking}
-use Rattle.grid_core.specs.Words.{has_bit, differ, IsLeast}
-use Rattle.grid_core.specs.declared.planes.line.Line.TheVariants.{Row}
+use Rattle.grid_core.proofs.Common.{Bool, Candidates, IsLeast, Layers, List, None, Option, Row, Some, and_parts, any_below, ap, arith, better, bit_of, bool_byte, cases_Bool, cases_eq, cases_lt, cells_of, common_steps, cond, count_below, covers, crosses, differ, div-add-mod', div-mul-add, eq-eqb, eqb, eqb-true, false, false_from_ne_true, fun_ext, get_or-set_other, get_or-set_same, grid_of, has, has_bit, inl, inr, is_full, length, length-set, lt-ltb, ltb, ltb-true, ne_eqb, not, only, pick, refl, set, slice_index, suc, sym, true, without_taking, zero, ℕ, ◌%◌, ◌&&◌, ◌*◌, ◌+◌, ◌-◌, ◌/◌, ◌<◌, ◌||◌, ◌∙◌, ◌≡◌, ◌≤◌}
 use Rattle.grid_core.proofs.CandidateLemmas.{any_below-none, any_below-some}
 use Rattle.grid_core.proofs.GridLemmas.{grid_of-full, is_full-count, single-is}
 use Rattle.grid_core.proofs.PlaneLemmas.{place-in, place-column}
@@ -40,7 +30,7 @@ rows-more p n y above row c lt = elim (cases_lt c (y * p.size.w)) [
 ]
 
 -- ---- of two values the cell to branch on is the first with both
-pick-none : (n : ℕ) (K : Candidates) → ((c : ℕ) → c < n → count_below (K c) 2 < 2) → pick n 2 K ≡ None
+pub pick-none : (n : ℕ) (K : Candidates) → ((c : ℕ) → c < n → count_below (K c) 2 < 2) → pick n 2 K ≡ None
 unfolding pick better
 pick-none zero K few = refl
 pick-none (suc n) K few = grind (arith, common_steps, pick-none n K, few n)
@@ -56,7 +46,7 @@ unfolding better
 none-before None n K none = grind (arith, common_steps)
 none-before (Some best) n K none = grind (arith, common_steps)
 
-pick-few : (n : ℕ) (K : Candidates) → pick n 2 K ≡ None → (c : ℕ) → c < n → count_below (K c) 2 < 2
+pub pick-few : (n : ℕ) (K : Candidates) → pick n 2 K ≡ None → (c : ℕ) → c < n → count_below (K c) 2 < 2
 unfolding pick
 pick-few zero K none c lt = absurd (omega arith)
 pick-few (suc n) K none c lt =

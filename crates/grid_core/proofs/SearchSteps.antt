@@ -1,17 +1,5 @@
 -- The steps of a search: the rights of a left are walked, and the lefts reached, and mates change on the way back.
-use Rattle.std.proofs.Common.{◌≡◌, ℕ, ◌+◌, ◌-◌, ◌<◌, ◌≤◌, Bool, true, List, [], ◌∷◌, ◌++◌, length, get_or, drop, map, refl, sym, ◌∙◌, ap, subst, arith, inl, inr}
-use Rattle.std.specs.Prelude.{IsTrue, Contains, Any, IsPermutation}
-use Rattle.std.specs.List.{list_any}
-use Rattle.std.specs.List.Sorted.{IsStrictlyIncreasing}
-use Rattle.std.proofs.lemmas.Bool.{cases_eq, cases_lt}
-use Rattle.std.proofs.lemmas.Grind.{common_steps}
-use Rattle.std.proofs.lemmas.List.{get_or_default, length-append, length-drop, length-map, get_or-map}
-use Rattle.std.proofs.Math.Seq.{get_or-append_seam}
-use Rattle.grid_core.specs.Pairings.{IsShortSet}
-use Rattle.grid_core.specs.Augmenting.{MatesView, AreJoined, FrontierView, IsFree, IsFreeFor, IsBlocked, IsReach, IsMateOfLater, ReachesOwners, Extends, IsClosed}
-use Rattle.std.proofs.lemmas.List.Folds.{Any-from_list_any}
-use Rattle.std.proofs.lemmas.List.Elements.{All-from_get_or}
-use Rattle.std.proofs.lemmas.List.Sorted.{list_any-IsPermutation, length_permutation, All-permutation}
+use Rattle.grid_core.proofs.Common.{All-from_get_or, All-permutation, Any, Any-from_list_any, AreJoined, Bool, Contains, Extends, FrontierView, IsBlocked, IsClosed, IsFree, IsFreeFor, IsMateOfLater, IsPermutation, IsReach, IsShortSet, IsStrictlyIncreasing, IsTrue, List, MatesView, ReachesOwners, [], ap, arith, cases_eq, cases_lt, common_steps, drop, get_or, get_or-append_seam, get_or-map, get_or_default, inl, inr, length, length-append, length-drop, length-map, length_permutation, list_any, list_any-IsPermutation, map, refl, subst, sym, true, ℕ, ◌++◌, ◌+◌, ◌-◌, ◌<◌, ◌∙◌, ◌∷◌, ◌≡◌, ◌≤◌}
 use Rattle.grid_core.proofs.DifferentNumbers.{count_by-le}
 
 -- what stands while the rights of a left are walked, as far as `from`

@@ -1,21 +1,6 @@
 -- A short set rules out every choice of different joined rights.
-use Rattle.std.proofs.Common.{◌≡◌, ℕ, ◌<◌, ◌≤◌, Bool, true, eqb, ltb, List, length, get_or, map, ◌∙◌, ap, arith, ◌&&◌}
-use Rattle.std.specs.Prelude.{Contains, filter}
-use Rattle.std.specs.List.{IsDistinct, list_any, range_with_len}
+use Rattle.grid_core.proofs.Common.{All-get_or, AllPairs-from_increasing, Bool, Contains, Decides-like, Decides-ltb, IsDistinct, IsDistinct-from_AllPairs, IsShortSet, List, and_from, ap, arith, common_steps, eqb, filter, get_or, get_or-map, get_or-range_with_len, is_member-Decides, is_member-filter, length, length-filter, length-le_from_is_member, length-map, length-range_with_len, list_any, list_any_at, lt-ltb, ltb, map, nat_eq_equiv, range_with_len, same_from_decides, true, unsigned_Decides, ℕ, ◌&&◌, ◌<◌, ◌∙◌, ◌≡◌, ◌≤◌}
 use Rattle.std.specs.Set.{is_member}
-use Rattle.std.specs.Cmp.{unsigned_Decides}
-use Rattle.std.proofs.lemmas.Bool.{and_from, lt-ltb}
-use Rattle.std.proofs.lemmas.Bool.Decides.{same_from_decides, Decides-like, Decides-ltb}
-use Rattle.std.proofs.lemmas.Cmp.{nat_eq_equiv}
-use Rattle.std.proofs.lemmas.List.{get_or-map, length-map}
-use Rattle.std.proofs.lemmas.List.Elements.{All-get_or}
-use Rattle.std.proofs.lemmas.List.Folds.{list_any_at}
-use Rattle.std.proofs.lemmas.List.FromFn.{length-range_with_len, get_or-range_with_len}
-use Rattle.std.proofs.lemmas.List.Kept.{AllPairs-from_increasing}
-use Rattle.std.proofs.lemmas.List.Sums.{length-filter}
-use Rattle.std.proofs.lemmas.Map.Made.{length-le_from_is_member, is_member-Decides, is_member-filter, IsDistinct-from_AllPairs}
-use Rattle.grid_core.specs.Pairings.{IsShortSet}
-use Rattle.std.proofs.lemmas.Grind.{common_steps}
 
 -- a test of membership says that the number stands in the list
 pub contains_from_member : (xs : List ℕ) (q : ℕ) → is_member eqb xs q ≡ true → Contains xs q

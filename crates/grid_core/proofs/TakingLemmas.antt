@@ -1,11 +1,5 @@
 -- What a m gives back, and what was taken, noted at the end of a trail and put back from its end.
-use Rattle.std.proofs.Common.{◌≡◌, ◌∙◌, ℕ, zero, suc, ◌+◌, ◌-◌, ◌*◌, ◌<◌, ◌≤◌, List, length, set, refl, sym, ap, inl, inr, add-one, arith}
-use Rattle.std.proofs.lemmas.Bool.{cases_eq, le-leb, lt-leb}
-use Rattle.std.proofs.lemmas.Grind.{common_steps}
-use Rattle.std.proofs.lemmas.List.{get_or-set_same, get_or-set_other, length-set}
-use Rattle.grid_core.specs.Candidates.{Candidates, total}
-use Rattle.grid_core.specs.Extent.{Extent}
-use Rattle.grid_core.specs.Planes.{Taking, IsTakingIn, AreTakings, put_back, taking_at, turned_by}
+use Rattle.grid_core.proofs.Common.{AreTakings, Candidates, Extent, IsTakingIn, List, Taking, add-one, ap, arith, cases_eq, common_steps, get_or-set_other, get_or-set_same, inl, inr, le-leb, length, length-set, lt-leb, put_back, refl, set, suc, sym, taking_at, total, turned_by, zero, ℕ, ◌*◌, ◌+◌, ◌-◌, ◌<◌, ◌∙◌, ◌≡◌, ◌≤◌}
 
 pub put_back-none : (w : ℕ) (K : Candidates) (takings : List Taking) (m n : ℕ) → n ≤ m → put_back w K takings m n ≡ K
 unfolding put_back
@@ -41,7 +35,7 @@ put_back-undone w K takings m n lt = let e : n - 1 + 1 ≡ n = omega arith in
 
 -- ---- the trail stays in order
 pub takings-none : (size : Extent) (K : Candidates) (takings : List Taking)
-    → length takings ≡ size.w * size.h * 2 → total (size.w * size.h) 2 K ≤ size.w * size.h * 2
+    → size.w * size.h * 2 ≤ length takings → total (size.w * size.h) 2 K ≤ size.w * size.h * 2
     → AreTakings size K takings 0
 takings-none size K takings long few = record {
   long = long;
@@ -63,7 +57,7 @@ pub takings-noted : (size : Extent) (K L : Candidates) (takings : List Taking) (
 takings-noted size K L takings n t are fewer within back =
     let lt = takings-room size K L takings n are fewer in
     record {
-      long = length-set takings n t ∙ are.long;
+      long = rw (length-set takings n t) are.long;
       takings_in = λ k less. grind (arith, common_steps, cases_eq k n, get_or-set_same, get_or-set_other, are.takings_in k);
       room = λ m le. elim (cases_eq m (n + 1)) [
         | inl e ↦ rw (put_back-none size.w L (set takings n t) m (n + 1) (omega arith), length-set takings n t)

@@ -1,12 +1,6 @@
 -- Words of a list turned over.
-use Rattle.std.proofs.Common.{◌≡◌, ◌∙◌, ℕ, ◌+◌, ◌*◌, ◌<◌, Bool, true, false, not, ◌&&◌, eqb, List, length, map, set, get_or, slice_index, sym, ap, arith}
-use Rattle.std.proofs.lemmas.Bool.{cases_Bool, cases_eq, eq-eqb, ne_eqb}
-use Rattle.std.proofs.lemmas.Grind.{common_steps}
-use Rattle.std.proofs.lemmas.List.{get_or-set_same, get_or-set_other, get_or-map, map-set, length-map}
-use Rattle.grid_core.specs.Candidates.{count_below}
+use Rattle.grid_core.proofs.Common.{Bool, List, ap, arith, bit_of, cases_Bool, cases_eq, common_steps, count_below, differ, eq-eqb, eqb, false, get_or, get_or-map, get_or-set_other, get_or-set_same, has_bit, length, length-map, map, map-set, ne_eqb, not, set, slice_index, sym, true, ℕ, ◌&&◌, ◌*◌, ◌+◌, ◌<◌, ◌∙◌, ◌≡◌}
 use Rattle.grid_core.proofs.CandidateLemmas.{count_below-lt}
-use Rattle.grid_core.specs.Planes.{bit_of}
-use Rattle.grid_core.specs.Words.{has_bit, differ}
 
 -- a word of the list with some bits turned over
 word_turned : (words : List ℕ) (i v word : ℕ) (which : ℕ → Bool) → v < 2 → 2 * i + v < length words

@@ -1,15 +1,7 @@
 -- What the operations of words say of their bits.
-use Rattle.std.proofs.Common.{◌≡◌, ◌∙◌, ℕ, zero, suc, ◌-◌, ◌*◌, ◌/◌, ◌%◌, ◌^◌, ◌<◌, true, false, not, ◌&&◌, ◌||◌, eqb, ltb, sym, ap, arith, bit_and, bit_or, refl}
-use Rattle.std.proofs.lemmas.Bool.{cases_Bool, cases_eq, cases_lt, eq-eqb, ne_eqb, eqb-false, false_from_ne_true, true≢false, lt-ltb, le-ltb}
-use Rattle.std.proofs.lemmas.Grind.{common_steps}
-use Rattle.std.proofs.lemmas.Nat.{one_shl, pow_pos}
-use Rattle.std.proofs.lemmas.Nat.Bits.{bit_at-suc, bit_at-zero, bit_at-lt, bit_at_xor, bit_at_lowest, bit_at_ones, bit_at_ones_above, bit_at-pow_other, bit_at-pow_same, same_from_bits_below, shr_and_one}
-use Rattle.std.specs.Prelude.{bit_xor}
-use Rattle.std.specs.Int.{bit_at}
-use Rattle.grid_core.specs.Candidates.{any_below}
+use Rattle.grid_core.proofs.Common.{IsLeast, any_below, ap, arith, bit_and, bit_at, bit_at-lt, bit_at-pow_other, bit_at-pow_same, bit_at-suc, bit_at-zero, bit_at_lowest, bit_at_ones, bit_at_ones_above, bit_at_xor, bit_or, bit_xor, cases_Bool, cases_eq, cases_lt, common_steps, differ, eq-eqb, eqb, eqb-false, false, false_from_ne_true, has_bit, le-ltb, lt-ltb, ltb, ne_eqb, not, one_shl, pow_pos, refl, same_from_bits_below, shr_and_one, suc, sym, true, true≢false, zero, ℕ, ◌%◌, ◌&&◌, ◌*◌, ◌-◌, ◌/◌, ◌<◌, ◌^◌, ◌||◌, ◌∙◌, ◌≡◌}
 use Rattle.grid_core.proofs.BoardLemmas.{bits_both, bits_either, count_ones-bits}
 use Rattle.grid_core.proofs.CandidateLemmas.{any_below-none, any_below-some}
-use Rattle.grid_core.specs.Words.{has_bit, differ, IsLeast}
 
 pub both-bits : (a b p : ℕ) → has_bit (bit_and a b) p ≡ (has_bit a p && has_bit b p)
 both-bits a b p = bits_both a b p

@@ -78,24 +78,25 @@ pub record IsTakingIn (size : Extent) (t : Taking) : Type 0 where
   pub line_in : IsLineIn size t.line t.bits
   pub value_in : t.value < 2
 
--- words of both values for each line, by rows and by columns the same; so no word has a place outside of the grid
+-- no word has a place outside of the grid, and rows and columns say the same
 pub record AreWords (size : Extent) (rows columns : List ℕ) : Type 0 where
-  pub rows_long : length rows ≡ 2 * size.h
-  pub columns_long : length columns ≡ 2 * size.w
+  pub within : (y x v : ℕ) → v < 2 → bit_of rows y v x ≡ true → (y < size.h) × (x < size.w)
   pub agree : (y x v : ℕ) → v < 2 → bit_of rows y v x ≡ bit_of columns x v y
 
 -- what is taken is of the grid, and there is room for as much as can be
 pub record AreTakings (size : Extent) (K : Candidates) (takings : List Taking) (len : ℕ) : Type 0 where
-  pub long : length takings ≡ size.w * size.h * 2
+  pub long : size.w * size.h * 2 ≤ length takings
   pub takings_in : (k : ℕ) → k < len → IsTakingIn size (taking_at takings k)
   pub room : (n : ℕ) → n ≤ len
       → total (size.w * size.h) 2 (put_back size.w K takings n len) + n ≤ length takings
 
--- words that hold a line, of a grid of a lawful size, with their trail
+-- words that hold a line, of a grid of a lawful size, with their trail: two for each line that such words can have
 pub record ArePlanes (room : ℕ) (p : Layers) : Type 0 where
   pub lawful : IsExtent p.size
   pub narrow : p.size.w ≤ room
   pub low : p.size.h ≤ room
+  pub tall : length p.rows ≡ 2 * room
+  pub wide : length p.columns ≡ 2 * room
   pub words : AreWords p.size p.rows p.columns
   pub takings : AreTakings p.size (has p) p.takings p.len
 
@@ -112,6 +113,7 @@ HasLost K L = (c : ℕ) × (v : ℕ) × (K c v ≡ true) × (L c v ≡ false)
 -- values were taken, and are noted: the trail is longer where some were, and each shorter trail gives back the same
 pub record IsFurther (from to : Layers) : Type 0 where
   pub same_size : to.size ≡ from.size
+  pub same_room : length to.takings ≡ length from.takings
   pub inside : IsInside (has to) (has from)
   pub grows : from.len ≤ to.len
   pub same : to.len ≡ from.len → has to ≡ has from
@@ -121,6 +123,7 @@ pub record IsFurther (from to : Layers) : Type 0 where
 -- the board was taken back to when the trail had length n: each shorter one gives back the same
 pub record IsBack (from to : Layers) (n : ℕ) : Type 0 where
   pub same_size : to.size ≡ from.size
+  pub same_room : length to.takings ≡ length from.takings
   pub here : has to ≡ back_at from n
   pub len : to.len ≡ n
   pub back : (m : ℕ) → m ≤ n → back_at to m ≡ back_at from m

@@ -1,8 +1,7 @@
 //! The search for a free right, and the change of mates along the way to it.
 
 ghost use Rattle.std.specs.Prelude.{◌≡◌, ◌+◌, ◌<◌, ◌≤◌, length};
-ghost use Rattle.grid_core.specs.Augmenting.{AreJoined, IsReach, IsFreeRight, Reaches, IsWay, IsFreeAt};
-ghost use Rattle.grid_core.specs.Augmenting.{Extends};
+ghost use Rattle.grid_core.specs.Augmenting.{AreJoined, IsReach, IsFreeRight, Reaches, IsWay, IsFreeAt, Extends};
 
 use crate::frontier::Frontier;
 use crate::mates::Mates;

@@ -1,7 +1,7 @@
 //! A board of two values as planes of bits, with the trail of what was taken from it.
 #![tactic(auto, using(crate::proofs::TakingLemmas::taking_laws))]
 
-ghost use Rattle.std.specs.Prelude.{◌≡◌, ℕ, ◌+◌, ◌*◌, ◌<◌, ◌≤◌, true, IfOk};
+ghost use Rattle.std.specs.Prelude.{◌≡◌, ℕ, ◌+◌, ◌*◌, ◌<◌, ◌≤◌, length, true, IfOk};
 ghost use Rattle.grid_core.specs.Candidates.{all_of};
 ghost use Rattle.grid_core.specs.Words.{has_bit};
 ghost use Rattle.grid_core.specs.Planes.{bit_of, has, cells_of, back_at, without_taking, ArePlanes, IsThere, IsFresh, IsFurther, IsBack, at_line, lines_beside, line_len, number_of};
@@ -13,11 +13,11 @@ pub(crate) mod turn;
 pub(crate) mod word;
 
 use crate::size::Size;
-use copies::{copies, write_all};
+use copies::copies;
 use line::{Change, Line};
 use std::alloc::{AllocError, Global};
 use std::marker::Model;
-use turn::turn_line;
+use turn::{turn_line, write_lines};
 use word::Word;
 
 /// A board of two values. For each value the cells that can have it stand as a word of bits for each row, and again as one
@@ -51,10 +51,15 @@ impl<W: Word> Planes<W> {
     pub fn new(alloc: Global, size: Size) -> Result<Planes<W>, AllocError>
         requires narrow { size.w ≤ W.room }
         requires low { size.h ≤ W.room }
-        ensures { IfOk result (λ p. IsFresh size (all_of (size.w * size.h) 2) p) }
+        ensures fresh { IfOk result (λ p. IsFresh size (all_of (size.w * size.h) 2) p) }
+        ensures room { IfOk result (λ p. length p.takings ≡ size.w * size.h * 2) }
     {
         let w = usize::from(size.w());
         let h = usize::from(size.h());
+        let mut rows = copies(alloc, W::none(), 2 * W::places())?;
+        let mut columns = copies(alloc, W::none(), 2 * W::places())?;
+        write_lines(&mut rows, h, W::all(w));
+        write_lines(&mut columns, w, W::all(h));
         let nothing = Change {
             line: Line::Row(0),
             value: 0,
@@ -62,20 +67,34 @@ impl<W: Word> Planes<W> {
         };
         Ok(Planes {
             size,
-            rows: copies(alloc, W::all(w), 2 * h)?,
-            columns: copies(alloc, W::all(h), 2 * w)?,
+            rows,
+            columns,
             changes: copies(alloc, nothing, size.cells() * 2)?,
             len: 0,
         })
     }
 
-    /// Begins with a board in which each cell can have both values.
-    pub fn fill(&mut self)
-        ensures { IsFresh self.old.size (all_of (cells_of self.old) 2) self.new }
+    /// Begins with a board of this size in which each cell can have both values. It takes no memory.
+    pub fn begin(&mut self, size: Size)
+        requires narrow { size.w ≤ W.room }
+        requires low { size.h ≤ W.room }
+        requires few { size.w * size.h * 2 ≤ length self.old.takings }
+        ensures fresh { IsFresh size (all_of (size.w * size.h) 2) self.new }
+        ensures room { length self.new.takings ≡ length self.old.takings }
     {
-        write_all(&mut self.rows, W::all(usize::from(self.size.w())));
-        write_all(&mut self.columns, W::all(usize::from(self.size.h())));
+        let w = usize::from(size.w());
+        let h = usize::from(size.h());
+        write_lines(&mut self.rows, h, W::all(w));
+        write_lines(&mut self.columns, w, W::all(h));
+        self.size = size;
         self.len = 0;
+    }
+
+    /// How many steps can be noted.
+    pub fn room(&self) -> usize
+        ensures { result ≡ length self.now.takings }
+    {
+        self.changes.len()
     }
 
     /// The size of the grid.

@@ -1,36 +1,29 @@
 -- The cells of a grid that were drawn so far are the list of draws.
-use Rattle.maker_core.proofs.Common.{take_all, elements, ◌≡◌, ℕ, zero, suc, ◌+◌, ◌<◌, Bool, List, [], ◌∷◌, ◌++◌, refl, sym, ◌∙◌, ap, arith, add-one}
-use Rattle.maker_core.proofs.Common.{take, length, length-append, cond, nat_lt, slice_index, slice_set, common_steps, take_more_set, All-append}
-use Rattle.maker_core.proofs.Common.{All-cons, All-nil, Stream, IsGrid, draw_below, black_cells}
+use Rattle.maker_core.proofs.Common.{All-append, All-cons, All-nil, Bool, IsGrid, List, Stream, [], add-one, ap, arith, black_cells, common_steps, cond, draw_below, elements, length, length-append, nat_lt, refl, slice_index, slice_set, suc, sym, take, take_more_set, zero, ℕ, ◌++◌, ◌+◌, ◌<◌, ◌∙◌, ◌∷◌, ◌≡◌}
 
 -- the steps of the drawing
-black_cells-none : (black : ℕ) {s : Stream} → ◌≡◌ {A = List ℕ × Stream} ([], s) (black_cells black 0 s)
+black_cells-none : (black : ℕ) {s : Stream} → ([], s) ≡ black_cells black 0 s
 unfolding black_cells
 black_cells-none black = refl
 
 black_cells-more : (black k d : ℕ) (s t u : Stream) {xs : List ℕ}
-    → ◌≡◌ {A = List ℕ × Stream} (xs, t) (black_cells black k s) → ◌≡◌ {A = ℕ × Stream} (d, u) (draw_below 100 t)
-    → ◌≡◌ {A = List ℕ × Stream} (xs ++ cond (nat_lt d black) 1 0 ∷ [], u) (black_cells black (k + 1) s)
+    → (xs, t) ≡ black_cells black k s → (d, u) ≡ draw_below 100 t
+    → (xs ++ cond (nat_lt d black) 1 0 ∷ [], u) ≡ black_cells black (k + 1) s
 unfolding black_cells
 black_cells-more black k d s t u before drawn = rw (add-one, sym before, sym drawn) refl
 
 -- the cells below `place` hold what was drawn, and the generator stands after those draws
 pub record IsPartDrawn (black cells place : ℕ) (s now : Stream) (grid : List ℕ) : Type 0 where
   pub long : length grid ≡ cells
-  pub drawn : ◌≡◌ {A = List ℕ × Stream} (take place grid, now) (black_cells black place s)
+  pub drawn : (take place grid, now) ≡ black_cells black place s
   pub white : black ≡ 0 → (k : ℕ) → k < place → slice_index grid k ≡ 0
   pub full : black ≡ 100 → (k : ℕ) → k < place → slice_index grid k ≡ 1
 
 pub IsPartDrawn-none : {black cells : ℕ} {s : Stream} {grid : List ℕ} → length grid ≡ cells → IsPartDrawn black cells 0 s s grid
-IsPartDrawn-none {black} long = record {
-  long = long;
-  drawn = black_cells-none black;
-  white = λ e k lt. absurd (omega arith);
-  full = λ e k lt. absurd (omega arith);
-}
+IsPartDrawn-none {black} long = grind (arith, common_steps, black_cells-none)
 
 pub IsPartDrawn-more : {black cells place d v : ℕ} {s now u : Stream} {grid : List ℕ}
-    → IsPartDrawn black cells place s now grid → ◌≡◌ {A = ℕ × Stream} (d, u) (draw_below 100 now) → d < 100 → v ≡ cond (nat_lt d black) 1 0 → place < cells
+    → IsPartDrawn black cells place s now grid → (d, u) ≡ draw_below 100 now → d < 100 → v ≡ cond (nat_lt d black) 1 0 → place < cells
     → IsPartDrawn black cells (place + 1) s u (slice_set grid place v)
 IsPartDrawn-more {black} {place} {d} {v} {s} {now} {u} {grid} before draw below value within =
     let inside : place < length grid = omega (arith, before.long) in
@@ -44,9 +37,8 @@ IsPartDrawn-more {black} {place} {d} {v} {s} {now} {u} {grid} before draw below 
     }
 
 pub IsPartDrawn-all : {black cells : ℕ} {s now : Stream} {grid : List ℕ} → IsPartDrawn black cells cells s now grid
-    → ◌≡◌ {A = List ℕ × Stream} (grid, now) (black_cells black cells s)
-IsPartDrawn-all {cells} {grid} all =
-    rw (take_all cells grid (omega (arith, all.long))) at all.drawn
+    → (grid, now) ≡ black_cells black cells s
+IsPartDrawn-all {cells} {grid} all = grind (arith, common_steps)
 
 -- one more cell, of 0 or 1
 pub bit_below : (b : Bool) → cond b 1 0 < 2

@@ -7,9 +7,9 @@ pub use Rattle.std.proofs.lemmas.Bool.{and_from, cases_eq, cases_lt, cond_both, 
 pub use Rattle.std.proofs.lemmas.Bool.{ltb-true, or_cases, or_left, or_right, true≢false}
 pub use Rattle.std.proofs.lemmas.Cmp.{nat_eq_equiv}
 pub use Rattle.std.proofs.lemmas.Grind.{common_steps, elements, get_or-set_at, rows, same_number_lists}
-pub use Rattle.std.proofs.lemmas.List.{append-nil, append_assoc, drop_all, get_or-map, get_or-replicate, get_or-set_same, get_or_append_left}
-pub use Rattle.std.proofs.lemmas.List.{get_or_default, get_or_past, get_or_read, length-append, length-map, length-replicate, length-set}
-pub use Rattle.std.proofs.lemmas.List.{length-take-le, map_more, set-get_or, set-set, set_at, take_all, take_more, take_more_set}
+pub use Rattle.std.proofs.lemmas.List.{append-nil, append_assoc, get_or-map, get_or-replicate, get_or-set_same, get_or_append_left, get_or_default}
+pub use Rattle.std.proofs.lemmas.List.{get_or_past, get_or_read, length-append, length-map, length-replicate, length-set, length-take-le, map_more}
+pub use Rattle.std.proofs.lemmas.List.{set-get_or, set-set, set_at, take_all, take_more_set}
 pub use Rattle.std.proofs.lemmas.List.Elements.{All-append, All-cons, All-contains, All-from_get_or, All-from_recursion, All-get_or, All-map, All-nil}
 pub use Rattle.std.proofs.lemmas.List.Elements.{All-replicate, All-set, Contains-append_left, Contains-append_right, Contains-get_or, filter-append}
 pub use Rattle.std.proofs.lemmas.List.Elements.{filter_passes, recursion_from_All}
@@ -24,79 +24,55 @@ pub use Rattle.std.proofs.lemmas.Result.{IfOk-weaker}
 pub use Rattle.std.proofs.lemmas.Simd.{map-map}
 pub use Rattle.std.specs.List.{AllByRecursion, range_with_len}
 unfoldable pub use Rattle.std.specs.List.{IsDistinct}
-pub use Rattle.std.specs.Prelude.{All, Contains, IfOk, IfSome, IsPermutation, IsTrue, filter, if◌then◌else◌, is_some, nat_lt, slice_index_or}
+pub use Rattle.std.specs.Prelude.{All, Contains, Err, IfSome, IsPermutation, IsTrue, Result, filter, if◌then◌else◌, is_some, nat_lt, slice_index_or}
 pub use Rattle.std.specs.Prelude.{slice_set, sum, sum_by, ◌==◌, ◌||◌, ◌↔◌}
-pub use native.Mathlib.Nat.{mul-pos}
-pub use Rattle.engine_core.proofs.ClosingLemmas.{closure_closed, closure_inside, closure_largest}
-pub use Rattle.engine_core.proofs.VerdictLemmas.{outcome-true}
-pub use Rattle.engine_core.proofs.WalkLemmas.{walk-unfold, walk_closed-solved}
-pub use Rattle.engine_core.specs.Closing.{IsLargestClosed, closure}
-pub use Rattle.engine_core.specs.Filling.{strikes_by_fillings}
-pub use Rattle.engine_core.specs.FillingLaws.{shown_from_test}
-pub use Rattle.engine_core.specs.HouseSets.{sets_at, strikes_at}
-pub use Rattle.engine_core.specs.HouseSetsLaws.{length-sets_at, strikes_at-place}
-pub use Rattle.engine_core.specs.PlaceLaws.{has_place-here, place-filter}
-pub use Rattle.engine_core.specs.RuleSystem.{FitsIn, IsClosed, IsGridOf, IsLawful, Needs, RuleSystem, has_place, needs_of}
-pub use Rattle.engine_core.specs.Stored.{IsAnswer}
-pub use Rattle.engine_core.specs.Verdict.{IsTrueOf, Outcome, Solves, verdict_of}
-unfoldable pub use Rattle.engine_core.specs.Verdict.{outcome}
-pub use Rattle.engine_core.specs.Walk.{Mark, walk, walk_closed}
-pub use Rattle.engine_core.specs.declared.search.walk.Verdict.{Verdict}
-pub use Rattle.fields_core.proofs.HouseLists.{step-keep, step-none, step-skip}
-pub use Rattle.fields_core.proofs.PlaceLists.{filter-few}
-pub use Rattle.fields_core.proofs.LightFaultLemmas.{lit-from, lit-parts}
-pub use Rattle.fields_core.proofs.LightHouseLaws.{clear-from, column-both, column-self, row-both, row-self, white-in}
-pub use Rattle.fields_core.proofs.LightRuleLemmas.{rule-from-test, test-from-rule}
-pub use Rattle.fields_core.proofs.LightSight.{bulb-in}
-pub use Rattle.fields_core.proofs.StepLaws.{step-down, step-left, step-right, step-up, steps-few, steps-some}
-pub use Rattle.fields_core.proofs.TentBeside.{beside-in}
-pub use Rattle.fields_core.proofs.TentCounting.{tent-in}
-pub use Rattle.fields_core.proofs.TentRuleLemmas.{tents-from-solution, solution-from-tents}
-unfoldable pub use Rattle.fields_core.specs.CountHouse.{start_of}
-pub use Rattle.fields_core.specs.Light.{bulb, bulbs_beside, solves_lights, light_cells, number_is}
-unfoldable pub use Rattle.fields_core.specs.Light.{black_right, bulb_right, joined_in_column, joined_in_row, lit_right, number_right, sees, sees_bulb}
-unfoldable pub use Rattle.fields_core.specs.Light.{white}
-pub use Rattle.fields_core.specs.LightHouses.{light_rules}
-pub use Rattle.fields_core.proofs.LightCounting.{light-lawful}
-pub use Rattle.fields_core.specs.LightSolutions.{IsLightSolution}
-pub use Rattle.fields_core.specs.TentHouses.{tent_rules}
-pub use Rattle.fields_core.specs.TentSolutions.{IsTentSolution}
-pub use Rattle.fields_core.specs.Tents.{tent, tents_in_column, tents_in_row}
-unfoldable pub use Rattle.fields_core.specs.Tents.{touches}
-pub use Rattle.gameid_core.proofs.LineLaws.{at_column, at_row}
-pub use Rattle.gameid_core.specs.BlackRuns.{run_of, runs}
-unfoldable pub use Rattle.gameid_core.specs.BlackRuns.{runs_after}
-pub use Rattle.gameid_core.specs.Lines.{lines_ones, ones}
-pub use Rattle.grid_core.specs.Lines.{lines_of, line_numbers, line_places}
-pub use Rattle.gameid_core.specs.Puzzles.{IsSolo, Light, Pattern, Solo, Tents, solo_n, solo_puzzle}
-pub use Rattle.gameid_core.specs.declared.light_up.cell.LightCell.{LightCell}
-pub use Rattle.gameid_core.specs.declared.light_up.cell.LightCell.TheVariants.{Black, Numbered, White}
 pub use Rattle.grid_core.proofs.CandidateLemmas.{all_below-at, all_below-from, any_below-here, any_below-none, any_below-some, count_below-few}
 pub use Rattle.grid_core.proofs.CandidateLemmas.{count_below-pos, is_dead-each, is_full-each}
 pub use Rattle.grid_core.proofs.DifferentNumbers.{distinct_filtered_range}
 pub use Rattle.grid_core.proofs.GridLemmas.{grid_of-full, single-at, single-is}
-pub use Rattle.grid_core.specs.Candidates.{Candidates, IsInside, IsWithin, count_below, grid_of}
-unfoldable pub use Rattle.grid_core.specs.Candidates.{single}
+pub use Rattle.grid_core.proofs.LineLemmas.{length-line_places, line_numbers-column, line_numbers-row, place_in_row}
+pub use Rattle.grid_core.specs.Candidates.{Candidates, IsInside}
+unfoldable pub use Rattle.grid_core.specs.Candidates.{count_below, single}
 pub use Rattle.grid_core.specs.Extent.{Extent, IsExtent}
 pub use Rattle.grid_core.specs.Grids.{IsGrid, column_cells, row_cells}
-pub use Rattle.grid_core.specs.Regions.{beside, column_places, row_places, steps}
-pub use Rattle.pattern_core.specs.Faults.{FailsPattern, IsPatternFault, pattern_tests}
-pub use Rattle.pattern_core.proofs.FaultLemmas.{pattern_none}
+pub use Rattle.grid_core.specs.Lines.{lines_of}
+unfoldable pub use Rattle.grid_core.specs.Lines.{line_numbers, line_places}
+pub use Rattle.grid_core.specs.Regions.{beside, column_places, row_places}
+unfoldable pub use Rattle.grid_core.specs.Regions.{steps}
 pub use Rattle.gameid_core.proofs.FirstFailed.{tells}
-pub use Rattle.grid_core.proofs.LineLemmas.{length-line_places, line_numbers-column, line_numbers-row, place_in_row}
-pub use Rattle.pattern_core.specs.LineLaws.{cell_in_grid, different_places, has_runs-is, is_solution-from, is_solution-is}
-pub use Rattle.pattern_core.specs.LineLaws.{line_rules-lawful}
+pub use Rattle.gameid_core.proofs.LineLaws.{at_column, at_row}
+pub use Rattle.gameid_core.specs.BlackRuns.{run_of, runs}
+unfoldable pub use Rattle.gameid_core.specs.BlackRuns.{runs_after}
+pub use Rattle.gameid_core.specs.Lines.{lines_ones, ones}
+pub use Rattle.gameid_core.specs.Puzzles.{IsSolo, Light, Pattern, Solo, Tents, solo_n, solo_puzzle}
+pub use Rattle.gameid_core.specs.declared.light_up.cell.LightCell.{LightCell}
+pub use Rattle.gameid_core.specs.declared.light_up.cell.LightCell.TheVariants.{Black, Numbered, White}
+pub use Rattle.engine_core.proofs.ClosingLemmas.{closure_closed, closure_inside, closure_largest}
+pub use Rattle.engine_core.proofs.VerdictLemmas.{outcome-true}
+pub use Rattle.engine_core.proofs.WalkLemmas.{walk-unfold, walk_closed-solved}
+unfoldable pub use Rattle.engine_core.specs.Closing.{closure}
+pub use Rattle.engine_core.specs.Filling.{strikes_by_fillings}
+pub use Rattle.engine_core.specs.FillingLaws.{shown_from_test}
+unfoldable pub use Rattle.engine_core.specs.HouseSets.{sets_at, strikes_at}
+pub use Rattle.engine_core.specs.HouseSetsLaws.{length-sets_at, strikes_at-place}
+pub use Rattle.engine_core.specs.PlaceLaws.{has_place-here, place-filter}
+pub use Rattle.engine_core.specs.RuleSystem.{FitsIn, IsClosed, IsGridOf, IsLawful, Needs, RuleSystem, needs_of}
+unfoldable pub use Rattle.engine_core.specs.RuleSystem.{has_place}
+pub use Rattle.engine_core.specs.Stored.{IsAnswer}
+pub use Rattle.engine_core.specs.Verdict.{IsTrueOf, Outcome, Outcome.GaveUp, Outcome.NoSolution, Outcome.OneSolution, Outcome.SeveralSolutions}
+pub use Rattle.engine_core.specs.Verdict.{Solves, verdict_of}
+unfoldable pub use Rattle.engine_core.specs.Verdict.{outcome}
+pub use Rattle.engine_core.specs.Walk.{Mark, Mark.Found}
+unfoldable pub use Rattle.engine_core.specs.Walk.{walk}
+pub use Rattle.engine_core.specs.declared.search.walk.Verdict.{Verdict}
+pub use Rattle.pattern_core.proofs.FaultLemmas.{pattern_none}
+pub use Rattle.pattern_core.specs.Faults.{IsPatternFault}
+pub use Rattle.pattern_core.specs.LineLaws.{cell_in_grid, different_places, has_runs-is, is_solution-from, is_solution-is, line_rules-lawful}
 pub use Rattle.pattern_core.specs.LineRules.{line_rules}
-pub use Rattle.pattern_core.specs.Lines.{clue_of, has_runs}
+pub use Rattle.pattern_core.specs.Lines.{clue_of}
+unfoldable pub use Rattle.pattern_core.specs.Lines.{has_runs}
 pub use Rattle.pattern_core.specs.Solutions.{IsPatternSolution}
 pub use Rattle.pattern_core.specs.declared.fault.PatternFault.{PatternFault}
-pub use Rattle.rand.proofs.ShuffleLemmas.{last_below, rest_below, rising_more, rising_one, rising_positive}
-pub use Rattle.rand.proofs.UniformLemmas.{carry_room, if_below}
-pub use Rattle.rand.specs.Shuffle.{Chooser, chooser_at, chooser_next, chooser_refill, chunk_of, rising}
-unfoldable pub use Rattle.rand.specs.Shuffle.{grow, narrow_swaps}
-unfoldable pub use Rattle.rand.specs.Uniform.{canon}
-pub use Rattle.rand_core.specs.Stream.{Stream, u32_call}
-unfoldable pub use Rattle.rand_core.specs.Stream.{next_u32}
 pub use Rattle.solo_core.specs.Cells.{block_of, column_of, row_of, solo_cells}
 pub use Rattle.solo_core.specs.Houses.{IsHouseOf, lies_in}
 pub use Rattle.solo_core.specs.RuleLaws.{houses_lawful}
@@ -106,32 +82,51 @@ pub use Rattle.solo_core.specs.SolutionLaws.{rule_from_test, test_from_rule}
 pub use Rattle.solo_core.specs.Solutions.{IsSoloSolution}
 pub use Rattle.solo_core.specs.declared.houses.house.NamedHouse.{NamedHouse}
 pub use Rattle.solo_core.specs.declared.houses.house.NamedHouse.TheVariants.{Block, Column, Diagonal, Row}
-pub use Rattle.maker_core.specs.Draws.{AllFail, AreAll, HasWords, IsFirst, IsFirstPassing, Tries, draw_below, filling_at, shuffled_list, shuffled_order}
+pub use Rattle.fields_core.proofs.HouseLists.{step-keep, step-none, step-skip}
+pub use Rattle.fields_core.proofs.LightCounting.{light-lawful}
+pub use Rattle.fields_core.proofs.LightFaultLemmas.{lit-from, lit-parts}
+pub use Rattle.fields_core.proofs.LightHouseLaws.{column-both, column-self, row-both, row-self, white-in}
+pub use Rattle.fields_core.proofs.LightRuleLemmas.{rule-from-test, test-from-rule}
+pub use Rattle.fields_core.proofs.LightSight.{bulb-in}
+pub use Rattle.fields_core.proofs.PlaceLists.{filter-few}
+pub use Rattle.fields_core.proofs.StepLaws.{step-down, step-left, step-right, step-up, steps-few, steps-some}
+pub use Rattle.fields_core.proofs.TentBeside.{beside-in}
+pub use Rattle.fields_core.proofs.TentCounting.{tent-in}
+pub use Rattle.fields_core.proofs.TentRuleLemmas.{solution-from-tents, tents-from-solution}
+unfoldable pub use Rattle.fields_core.specs.CountHouse.{start_of}
+pub use Rattle.fields_core.specs.Light.{bulb, bulbs_beside, light_cells, number_is}
+unfoldable pub use Rattle.fields_core.specs.Light.{black_right, bulb_right, joined_in_column, joined_in_row, lit_right, number_right, sees, sees_bulb}
+unfoldable pub use Rattle.fields_core.specs.Light.{solves_lights, white}
+pub use Rattle.fields_core.specs.LightHouses.{light_rules}
+pub use Rattle.fields_core.specs.LightSolutions.{IsLightSolution}
+pub use Rattle.fields_core.specs.TentHouses.{tent_rules}
+pub use Rattle.fields_core.specs.TentSolutions.{IsTentSolution}
+pub use Rattle.fields_core.specs.Tents.{tent, tents_in_column, tents_in_row}
+unfoldable pub use Rattle.fields_core.specs.Tents.{touches}
+pub use Rattle.maker_core.specs.Draws.{AreAll, HasWords, IsFirst, IsFirstPassing, LeavesStream, Tries, draw_below, filling_at, shuffled_order}
 unfoldable pub use Rattle.maker_core.specs.Draws.{black_cells, stream_after}
 pub use Rattle.maker_core.specs.Flips.{flipped_from, line_from}
 unfoldable pub use Rattle.maker_core.specs.Flips.{flipped}
 pub use Rattle.maker_core.specs.LightClues.{light_game}
 pub use Rattle.maker_core.specs.LightCluesLaws.{light_is_game, lit_by_fewer, numbered_is}
-pub use Rattle.maker_core.specs.LightFilling.{IsLit, light_passes, lit_up, numbered_cell, with_bulb}
+pub use Rattle.maker_core.specs.LightFilling.{IsLit, numbered_cell, with_bulb}
 unfoldable pub use Rattle.maker_core.specs.LightFilling.{bulbs_after, light_filling, light_puzzle_of, lights_of, white_places, with_numbers}
-pub use Rattle.maker_core.specs.LightMaking.{light_tries}
 pub use Rattle.maker_core.specs.Made.{HasOne, IsOnlySolution, TellsOne, has_one, is_one}
-pub use Rattle.maker_core.specs.PatternMaking.{clued_by, pattern_filling, pattern_passes, pattern_tries}
+pub use Rattle.maker_core.specs.PatternMaking.{clued_by}
 pub use Rattle.maker_core.specs.SoloClues.{solo_game}
 pub use Rattle.maker_core.specs.SoloCluesLaws.{clue_is, house_stays, is_clue, lies_alike, solo_is_game, solved_by_fewer}
 pub use Rattle.maker_core.specs.SoloFilling.{all_given, first_number, group_added, old_number}
 unfoldable pub use Rattle.maker_core.specs.SoloFilling.{lines_of_groups, rearranged}
-pub use Rattle.maker_core.specs.SoloMaking.{IsSoloSize, NoneFound, solo_filling, solo_passes, solo_tries}
+pub use Rattle.maker_core.specs.SoloMaking.{IsSoloSize, solo_passes, solo_tries}
 pub use Rattle.maker_core.specs.SoloOrders.{AreOrders, IsLineOrder, IsOrder}
 pub use Rattle.maker_core.specs.SoloXFilling.{first_grid, flipped_by_draw, top_row_given, x_filling}
-pub use Rattle.maker_core.specs.Switch.{HasOther, HasSwitch, IsRunEnd, IsSwitch, RunHasSwitch, cell_of, place_of, turned}
+pub use Rattle.maker_core.specs.Switch.{HasOther, IsSwitch, RunHasSwitch, cell_of}
 unfoldable pub use Rattle.maker_core.specs.Switch.{run_begins}
-pub use Rattle.maker_core.specs.TentFilling.{is_free, may_have_tent, place_tent, take_cell, tents_pass}
-unfoldable pub use Rattle.maker_core.specs.TentFilling.{tents_after, free_cells_beside, no_tents, tent_filling, tents_puzzle_of}
-pub use Rattle.maker_core.specs.TentMaking.{tents_tries}
+pub use Rattle.maker_core.specs.TentFilling.{is_free, may_have_tent, place_tent, take_cell}
+unfoldable pub use Rattle.maker_core.specs.TentFilling.{free_cells_beside, no_tents, tent_filling, tents_after, tents_puzzle_of}
 pub use Rattle.maker_core.specs.TentSteps.{IsPlaced, IsTaken}
-pub use Rattle.maker_core.specs.Thinning.{AreReasons, CluedGame, HasTwo, IsGame, IsOnly, IsReason, IsThinnedFrom, LeavesNoIdleClue, clue_places, has_clue}
-pub use Rattle.maker_core.specs.Thinning.{stream_after_clues}
+pub use Rattle.maker_core.specs.Thinning.{AreReasons, CluedGame, HasTwo, IsGame, IsOnly, IsReason, IsThinnedFrom, LeavesNoIdleClue, clue_places}
+pub use Rattle.maker_core.specs.Thinning.{has_clue, stream_after_clues}
 pub use Rattle.maker_core.specs.ThinningSteps.{IsAsked, IsLeft, IsThinning, IsTold, IsVerdict}
 unfoldable pub use Rattle.maker_core.specs.ThinningSteps.{reasons_from}
 pub use Rattle.maker_core.specs.declared.light_up.filling.LightFilling.{LightFilling}
@@ -139,3 +134,11 @@ pub use Rattle.maker_core.specs.declared.made.Kept.{Kept}
 pub use Rattle.maker_core.specs.declared.made.Why.{Why}
 pub use Rattle.maker_core.specs.declared.made.Why.TheVariants.{Budget, Needed}
 pub use Rattle.maker_core.specs.declared.tents.filling.TentFilling.{TentFilling}
+pub use Rattle.rand.proofs.ShuffleLemmas.{last_below, rest_below, rising_more, rising_one, rising_positive}
+pub use Rattle.rand.proofs.UniformLemmas.{carry_room, if_below}
+pub use Rattle.rand.specs.Shuffle.{Chooser, chooser_at, chooser_next, chooser_refill, chunk_of}
+unfoldable pub use Rattle.rand.specs.Shuffle.{grow, narrow_swaps, rising}
+unfoldable pub use Rattle.rand.specs.Uniform.{canon}
+pub use Rattle.rand_core.specs.Stream.{Stream}
+unfoldable pub use Rattle.rand_core.specs.Stream.{next_u32}
+pub use native.Mathlib.Nat.{mul-pos}

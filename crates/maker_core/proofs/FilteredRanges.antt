@@ -1,14 +1,12 @@
 -- A filter of a range grows by its end, and keeps each number that passes.
-use Rattle.maker_core.proofs.Common.{◌≡◌, ◌≢◌, ℕ, zero, suc, ◌+◌, ◌<◌, Bool, true, false, eqb, cond, List, [], ◌∷◌, ◌++◌, sym, ◌∙◌, ap, subst, arith}
-use Rattle.maker_core.proofs.Common.{add-one, map-id, inl, inr, filter, Contains, AllByRecursion, range_with_len, cases_eq, append-nil, All-contains}
-use Rattle.maker_core.proofs.Common.{All-from_recursion, Contains-append_left, Contains-append_right, filter-append, map-range_with_len_more}
+use Rattle.maker_core.proofs.Common.{All-contains, All-from_recursion, AllByRecursion, Bool, Contains, Contains-append_left, Contains-append_right, List, [], add-one, ap, append-nil, arith, cases_eq, common_steps, cond, eqb, false, filter, filter-append, inl, inr, map-id, map-range_with_len_more, range_with_len, subst, suc, sym, true, zero, ℕ, ◌++◌, ◌+◌, ◌<◌, ◌∙◌, ◌∷◌, ◌≡◌, ◌≢◌}
 
 -- one more number of a range
 pub range_more : (k : ℕ) → range_with_len 0 (k + 1) ≡ range_with_len 0 k ++ k ∷ []
 range_more k = simp map-id at (map-range_with_len_more (λ x. x) 0 k k (omega arith))
 
 filter_more : (p : ℕ → Bool) (k : ℕ) → filter p (range_with_len 0 (k + 1)) ≡ filter p (range_with_len 0 k) ++ cond (p k) (k ∷ []) []
-filter_more p k = rw range_more (filter-append p (range_with_len 0 k) (k ∷ []))
+filter_more p k = rw range_more (filter-append p _ (k ∷ []))
 
 pub filter_kept : (p : ℕ → Bool) (k : ℕ) (xs ys : List ℕ) → p k ≡ true → xs ≡ filter p (range_with_len 0 k) → ys ≡ xs ++ k ∷ []
     → ys ≡ filter p (range_with_len 0 (k + 1))
@@ -23,13 +21,12 @@ passes_kept p zero q lt on = absurd (omega arith)
 passes_kept p (suc n) q lt on =
     subst (λ xs. Contains xs q) (sym (ap (λ k. filter p (range_with_len 0 k)) (sym (add-one n)) ∙ filter_more p n)) (elim (cases_eq q n) [
       | inl e ↦ Contains-append_right (filter p (range_with_len 0 n)) (cond (p n) (n ∷ []) []) q (grind arith)
-      | inr ne ↦ Contains-append_left (filter p (range_with_len 0 n)) (cond (p n) (n ∷ []) []) q (passes_kept p n q (omega arith) on)
+      | inr ne ↦ Contains-append_left _ _ q (passes_kept p n q (omega arith) on)
     ])
 
 -- no number after the head is the head
 pub head_apart : (xs : List ℕ) {x q : ℕ} → AllByRecursion (λ y. eqb x y ≡ false) xs → Contains xs q → q ≢ x
-head_apart xs {x} {q} apart held = λ e.
-    grind (arith, All-contains (λ y. eqb x y ≡ false) xs q (All-from_recursion (λ y. eqb x y ≡ false) xs apart) held)
+head_apart xs {x} {q} apart held = grind (arith, common_steps, All-contains, All-from_recursion)
 
 -- what the listing of cells that pass cites
 pub ruleset filter_laws = (filter_kept, filter_skipped)

@@ -1,10 +1,7 @@
 -- The loop over tries: so many fillings were made, and each failed.
-use Rattle.maker_core.proofs.Common.{◌≡◌, ℕ, suc, ◌+◌, ◌<◌, Bool, true, false, sym, ◌∙◌, ap, arith, add-one, inl, inr, cases_eq, Stream, refl, ◌≢◌}
-use Rattle.std.specs.Prelude.{Result, Err}
+use Rattle.maker_core.proofs.Common.{Bool, Err, IsFirst, IsFirstPassing, LeavesStream, Result, Stream, Tries, add-one, ap, arith, cases_eq, common_steps, false, filling_at, refl, stream_after, suc, true, ℕ, ◌+◌, ◌<◌, ◌∙◌, ◌≡◌, ◌≢◌}
 use Rattle.maker_core.specs.declared.made.MakeFault.{MakeFault}
 use Rattle.maker_core.specs.declared.made.MakeFault.TheVariants.{Exhausted, Memory, SizeRange}
-use Rattle.maker_core.specs.Draws.{LeavesStream}
-use Rattle.maker_core.proofs.Common.{Tries, stream_after, filling_at, IsFirst, IsFirstPassing}
 
 module _ {A : Type 0} (t : Tries A) (known : A → Bool → Type 0) (s : Stream) where
   -- so many tries were made, each failed, and the generator stands where the last left it
@@ -13,7 +10,7 @@ module _ {A : Type 0} (t : Tries A) (known : A → Bool → Type 0) (s : Stream)
     pub failing : (j : ℕ) → j < done → (t.passes (filling_at t.make j s) ≡ false) × known (filling_at t.make j s) false
 
   -- one more filling is made
-  module _ {done : ℕ} {now u : Stream} {x : A} (p : IsTrying done now) (made : ◌≡◌ {A = A × Stream} (x, u) (t.make now)) where
+  module _ {done : ℕ} {now u : Stream} {x : A} (p : IsTrying done now) (made : (x, u) ≡ t.make now) where
     filling_is : x ≡ filling_at t.make done s
     filling_is = ap (λ q. q.0) made ∙ ap (λ w. (t.make w).0) p.stands
 
@@ -22,28 +19,15 @@ module _ {A : Type 0} (t : Tries A) (known : A → Bool → Type 0) (s : Stream)
     left_is = ap (λ q. q.1) made ∙ ap (λ w. (t.make w).1) p.stands
 
     pub IsTrying-more : t.passes x ≡ false → known x false → IsTrying (done + 1) u
-    IsTrying-more fails and_so = record {
-      stands = rw add-one left_is;
-      failing = λ j h. elim (cases_eq j done) [
-        | inl e ↦ rw (e, ← filling_is) (fails, and_so)
-        | inr ne ↦ p.failing j (omega arith)
-      ];
-    }
+    IsTrying-more fails and_so = grind (arith, common_steps, add-one, left_is, cases_eq, filling_is)
 
     pub first_is : t.passes x ≡ true → done < t.count → IsFirst t s x u
-    first_is passing within = record {
-      k = done;
-      first = record { within = within; passing = ap t.passes (sym filling_is) ∙ passing; failing = λ j h. (p.failing j h).0 };
-      filled = filling_is;
-      drawn = left_is;
-    }
+    first_is passing within = grind (arith, common_steps, filling_is, left_is)
 
 -- the stream that is left where the first that passes was made to a puzzle
 pub draws_first : {A : Type 0} {t : Tries A} {s u left : Stream} {x : A} → IsFirst t s x u → left ≡ t.ends x u
     → (k : ℕ) → IsFirstPassing t.make t.passes s t.count k → left ≡ t.ends (filling_at t.make k s) (stream_after t.make (suc k) s)
-draws_first w is k first =
-    let same : w.k ≡ k = let a = w.first in grind arith in
-    rw (← same, ← w.filled, ← w.drawn) is
+draws_first w is k first = grind (arith, common_steps)
 
 -- the stream that is left where none was found
 pub leaves_failed : {A X : Type 0} (t : Tries A) (old : Stream) {new : Stream} {result : Result X MakeFault} (e : MakeFault)

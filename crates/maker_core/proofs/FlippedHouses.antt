@@ -1,9 +1,6 @@
 -- A flip of a grid that keeps to all rules but the givens keeps to them: what lies in one row, column, block or diagonal
 -- comes from one row, column, block or diagonal.
-use Rattle.maker_core.proofs.Common.{◌≡◌, ℕ, ◌+◌, ◌-◌, ◌*◌, ◌/◌, ◌<◌, Bool, true, false, eqb, List, length, slice_index, if◌then◌else◌, refl, sym, ◌∙◌}
-use Rattle.maker_core.proofs.Common.{arith, mul-pos, eqb-true, eq-eqb, mul-add-lt, div_below, mod_below, same_from_place, get_or-map, Solo, solo_n}
-use Rattle.maker_core.proofs.Common.{solo_puzzle, NamedHouse, Row, Column, Block, Diagonal, solo_cells, row_of, column_of, block_of, IsHouseOf, lies_in}
-use Rattle.maker_core.proofs.Common.{IsSoloSolution, line_from, flipped_from, flipped, house_stays, lies_alike, all_given}
+use Rattle.maker_core.proofs.Common.{Block, Bool, Column, Diagonal, IsHouseOf, IsSoloSolution, List, NamedHouse, Row, Solo, all_given, arith, block_of, column_of, div_below, eq-eqb, eqb, eqb-true, false, flipped, flipped_from, get_or-map, house_stays, if◌then◌else◌, length, lies_alike, lies_in, line_from, mod_below, mul-add-lt, mul-pos, refl, row_of, same_from_place, slice_index, solo_cells, solo_n, solo_puzzle, sym, true, ℕ, ◌*◌, ◌+◌, ◌-◌, ◌/◌, ◌<◌, ◌∙◌, ◌≡◌}
 use Rattle.maker_core.proofs.Flips.{line_from-below, line_from-together, from_row, from_column, from_below, from_apart, flipped-at, flipped-grid, length-flipped}
 
 -- two places lie in one house of the puzzle
@@ -57,21 +54,15 @@ module _ (p : Solo) (c_low : 0 < p.c) (r_low : 0 < p.r) (across down : Bool) whe
     column_below : column_of p place < solo_n p
     column_below = mod_below place (solo_n p) some
 
-    in_row : (y : ℕ) → lies_in p (Row y) place ≡ true → lies_in p (Row (line_from down (solo_n p) y)) (from place) ≡ true
-    in_row y on = grind (arith, row)
-
-    in_column : (x : ℕ) → lies_in p (Column x) place ≡ true → lies_in p (Column (line_from across (solo_n p) x)) (from place) ≡ true
-    in_column x on = grind (arith, column)
-
     in_diagonal : {d : ℕ} → d < 2 → lies_in p (Diagonal d) place ≡ true → lies_in p (Diagonal (diagonal_from across down d)) (from place) ≡ true
     in_diagonal few on = eq-eqb _ _
         (rw (row, column) (diagonal_is across down few column_below row_below (eqb-true _ _ on)))
 
   block_in : {place : ℕ} → place < solo_cells p → block_of p place < solo_n p
   block_in {place} within =
-      mul-add-lt (row_of p place / p.c) p.c (column_of p place / p.r) p.r
-      (div_below (row_of p place) p.c p.r c_low (let low = row_below within in omega (arith, low, turned)))
-      (div_below (column_of p place) p.r p.c r_low (column_below within))
+      mul-add-lt _ p.c _ p.r
+      (div_below _ p.c p.r c_low (let low = row_below within in omega (arith, low, turned)))
+      (div_below _ p.r p.c r_low (column_below within))
 
   same_block : (j k : ℕ) → j < solo_cells p → k < solo_cells p → block_of p j ≡ block_of p k → block_of p (from j) ≡ block_of p (from k)
   same_block j k lj lk e =
@@ -86,14 +77,14 @@ module _ (p : Solo) (c_low : 0 < p.c) (r_low : 0 < p.r) (across down : Bool) whe
   together (Row y) is lj lk a b = record {
     house = Row (line_from down (solo_n p) y);
     house_of = line_from-below down is;
-    first = in_row lj y a;
-    second = in_row lk y b;
+    first = grind (arith, row lj);
+    second = grind (arith, row lk);
   }
   together (Column x) is lj lk a b = record {
     house = Column (line_from across (solo_n p) x);
     house_of = line_from-below across is;
-    first = in_column lj x a;
-    second = in_column lk x b;
+    first = grind (arith, column lj);
+    second = grind (arith, column lk);
   }
   together (Block n) is {j} {k} lj lk a b = record {
     house = Block (block_of p (from j));
@@ -117,7 +108,7 @@ pub flipped-solution : (c r : ℕ) (x : Bool) (givens g : List ℕ) → 0 < c �
     → IsSoloSolution (all_given c r x (flipped (c * r) across down g)) (flipped (c * r) across down g)
 flipped-solution c r x givens g c_low r_low across down s = record {
   grid = flipped-grid (c * r) across down g s.grid;
-  givens = λ place lt low. given_itself c r x (flipped (c * r) across down g) place (let long = length-flipped (c * r) across down g in omega arith);
+  givens = λ place lt low. given_itself c r x (flipped (c * r) across down g) place (omega (arith, length-flipped (c * r) across down g));
   different = λ house is j k lj lk ne a b e.
       let n = c * r in
       let all = all_given c r x (flipped n across down g) in

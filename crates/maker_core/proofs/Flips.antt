@@ -1,7 +1,5 @@
 -- A flip of a square grid brings each row to a row, each column to a column, and lines of one group to lines of one group.
-use Rattle.maker_core.proofs.Common.{same_number_lists, ◌≡◌, ℕ, ◌+◌, ◌-◌, ◌*◌, ◌/◌, ◌%◌, ◌<◌, Bool, List, length, slice_index, ap, arith, cases_eq}
-use Rattle.maker_core.proofs.Common.{mul-add-lt, div-mul-add, mod-mul-add, div_below, mod_below, div-add-mod', All-get_or, All-from_get_or}
-use Rattle.maker_core.proofs.Common.{length-map-range_with_len, get_or-map-range_with_len, IsGrid, line_from, flipped_from, flipped}
+use Rattle.maker_core.proofs.Common.{All-from_get_or, All-get_or, Bool, IsGrid, List, ap, arith, cases_eq, common_steps, div-add-mod', div-mul-add, div_below, flipped, flipped_from, get_or-map-range_with_len, length, length-map-range_with_len, line_from, mod-mul-add, mod_below, mul-add-lt, same_number_lists, slice_index, ℕ, ◌%◌, ◌*◌, ◌+◌, ◌-◌, ◌/◌, ◌<◌, ◌≡◌}
 
 -- ---- lines
 pub line_from-below : (flips : Bool) {n k : ℕ} → k < n → line_from flips n k < n
@@ -27,14 +25,13 @@ module _ (n : ℕ) (across down : Bool) where
     some = grind (arith, cases_eq n 0)
 
     pub from_row : flipped_from n across down place / n ≡ line_from down n (place / n)
-    from_row = grind (arith, some, div-mul-add (line_from down n (place / n)) n (line_from across n (place % n)), mod_below place n)
+    from_row = grind (arith, common_steps, some, div-mul-add, mod_below)
 
     pub from_column : flipped_from n across down place % n ≡ line_from across n (place % n)
-    from_column = grind (arith, some, mod-mul-add (line_from down n (place / n)) n (line_from across n (place % n)), mod_below place n)
+    from_column = grind (arith, common_steps, some, mod-mul-add, mod_below)
 
     pub from_below : flipped_from n across down place < n * n
-    from_below =
-        grind (arith, some, mul-add-lt (line_from down n (place / n)) n (line_from across n (place % n)) n, mod_below place n, div_below place n n)
+    from_below = grind (arith, common_steps, some, mul-add-lt, mod_below, div_below)
 
     pub flipped-at : (g : List ℕ) → slice_index (flipped n across down g) place ≡ slice_index g (flipped_from n across down place)
     unfolding flipped

@@ -1,7 +1,5 @@
 -- A puzzle that lacks a needed clue is within the puzzle without that clue alone.
-use Rattle.maker_core.proofs.Common.{clue_is, solved_by_fewer, lit_by_fewer, numbered_is, ◌≡◌, ℕ, ◌<◌, false, Some, List, length, get_or, map, sym}
-use Rattle.maker_core.proofs.Common.{◌∙◌, subst, arith, All, Contains, cases_eq, get_or-map, length-map, CluedGame, IsGame, has_clue, IsThinnedFrom, HasTwo}
-use Rattle.maker_core.proofs.Common.{IsReason, AreReasons, LeavesNoIdleClue, Kept, Needed}
+use Rattle.maker_core.proofs.Common.{All, AreReasons, CluedGame, Contains, HasTwo, IsGame, IsReason, IsThinnedFrom, Kept, LeavesNoIdleClue, List, Needed, Some, arith, cases_eq, clue_is, common_steps, false, get_or, get_or-map, has_clue, length, length-map, lit_by_fewer, map, numbered_is, solved_by_fewer, subst, sym, ℕ, ◌<◌, ◌∙◌, ◌≡◌}
 use Rattle.maker_core.proofs.WrittenGrids.{set_back}
 use Rattle.maker_core.proofs.FilteredRanges.{passes_kept}
 use Rattle.maker_core.proofs.ThinningTurns.{some_of, two_in}
@@ -9,10 +7,7 @@ use Rattle.maker_core.proofs.ThinningTurns.{some_of, two_in}
 lacking_within : {A : Type 0} {game : CluedGame A} → IsGame game → (p q : A) (place n : ℕ) → IsThinnedFrom game q p
     → game.clue p place ≡ Some n → has_clue game q place ≡ false
     → IsThinnedFrom game q (game.without p place)
-lacking_within laws p q place n w e lacks = record {
-  frame = laws.same_through _ _ _ w.frame (laws.same_back _ _ (laws.without_frame p place n e));
-  clues = λ other m had. grind (arith, cases_eq other place, laws.others_stay p place other, w.clues other m);
-}
+lacking_within laws p q place n w e lacks = grind (arith, common_steps, cases_eq)
 
 -- the reason of a clue that is left
 needed_at : {A : Type 0} (game : CluedGame A) {budget : ℕ} (all p : A) (kept : List Kept) (place : ℕ)
@@ -21,7 +16,7 @@ needed_at : {A : Type 0} (game : CluedGame A) {budget : ℕ} (all p : A) (kept :
 needed_at game {budget} all p kept place reasons needed listed =
     let entry : Kept = record { place = place; why = Needed } in
     let below : listed.0 < length kept = omega (arith, listed.1, length-map kept (λ k. k.place)) in
-    let here : (get_or kept listed.0 entry).place ≡ place = sym (get_or-map (λ k. k.place) kept listed.0 entry place below) ∙ listed.2 in
+    let here = sym (get_or-map _ kept listed.0 entry place below) ∙ listed.2 in
     subst (λ x. IsReason game budget all p x Needed) here
     (subst (λ w. IsReason game budget all p (get_or kept listed.0 entry).place w) (needed listed.0 entry below)
     (reasons.reasons listed.0 entry below))
@@ -30,7 +25,7 @@ pub none_is_idle : {A : Type 0} {game : CluedGame A} → IsGame game → LeavesN
 none_is_idle {game} laws budget all p q kept place reasons needed w has lacks =
     let n = some_of (game.clue p place) has in
     let listed = passes_kept (has_clue game p) (game.cells p) place (laws.clue_in p place n.0 n.1) has in
-    two_in game laws (lacking_within laws p q place n.0 w n.1 lacks)
+    two_in laws (lacking_within laws p q place n.0 w n.1 lacks)
     (needed_at game all p kept place reasons needed (subst (λ xs. Contains xs place) (sym reasons.places) listed))
 
 -- what the taking away of clues cites, and that fewer clues lose no solution

@@ -17,7 +17,6 @@ pub mod FirstTries
 pub mod SoloNumbers
 pub mod SoloOrderLemmas
 pub mod SoloSolution
-pub mod FullStart
 pub mod SoloFull
 pub mod Flips
 pub mod FlippedHouses
@@ -28,4 +27,4 @@ pub mod ThinningReasons
 pub mod IdleClues
 pub mod Switches
 pub mod WrittenGrids
-mod OnlySolutions
+pub mod OnlySolutions

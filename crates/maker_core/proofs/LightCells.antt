@@ -1,7 +1,5 @@
 -- The cells of a puzzle of Light Up, rewritten one by one.
-use Rattle.maker_core.proofs.Common.{◌≡◌, ℕ, ◌*◌, ◌<◌, ◌≤◌, List, length, map, get_or, refl, ◌∙◌, arith, ◌==◌, if◌then◌else◌, range_with_len}
-use Rattle.maker_core.proofs.Common.{get_or-map, length-map, count_by-le-length, fill_by_all, Extent, Light, LightCell, White, Black, beside}
-use Rattle.maker_core.proofs.Common.{light_cells, bulb, bulbs_beside, steps-few, lights_of, numbered_cell, with_numbers}
+use Rattle.maker_core.proofs.Common.{Black, Extent, Light, LightCell, List, White, arith, beside, bulb, bulbs_beside, count_by-le-length, fill_by_all, get_or, get_or-map, if◌then◌else◌, length, length-map, light_cells, lights_of, map, numbered_cell, range_with_len, refl, steps-few, with_numbers, ℕ, ◌*◌, ◌<◌, ◌==◌, ◌∙◌, ◌≡◌, ◌≤◌}
 
 -- the cells below `place` are the new ones, and the others the old ones
 pub record IsRewritten (size : Extent) (new old : ℕ → LightCell) (place : ℕ) (p : Light) : Type 0 where
@@ -44,4 +42,4 @@ numbered_all p q g w all = IsRewritten-all q w all
 
 -- a cell has at most four beside it
 pub bulbs_few : (p : Light) (g : List ℕ) (c : ℕ) → bulbs_beside p g c ≤ 4
-bulbs_few p g c = let a = count_by-le-length (bulb g) (beside p.size c) in let b = steps-few p.size c 4 in omega arith
+bulbs_few p g c = omega (arith, count_by-le-length (bulb g) (beside p.size c), steps-few p.size c 4)

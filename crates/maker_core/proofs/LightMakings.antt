@@ -1,9 +1,6 @@
 -- A puzzle of black cells alone passes; and what is known of the puzzle of a filling.
-use Rattle.maker_core.proofs.Common.{◌≡◌, ℕ, ◌<◌, true, false, not, List, slice_index, sym, ap, ◌∙◌, arith, Extent, all_below-at, Light}
-use Rattle.maker_core.proofs.Common.{IsLawful, closure_inside, start_of, light_cells, white, black_right, solves_lights, light_rules, lit-parts, LightFilling}
-use Rattle.maker_core.proofs.Common.{AreAll, IsLit, light-lawful, lights_of, light_puzzle_of, with_numbers, is_one, has_one, HasOne, TellsOne, IsOnly}
+use Rattle.maker_core.proofs.Common.{AreAll, Extent, HasOne, IsLawful, IsLit, IsOnly, Light, LightFilling, List, TellsOne, all_below-at, ap, arith, black_right, closure_inside, false, has_one, is_one, light-lawful, light_cells, light_puzzle_of, light_rules, lights_of, lit-parts, not, slice_index, solves_lights, start_of, sym, true, white, with_numbers, ℕ, ◌<◌, ◌∙◌, ◌≡◌}
 use Rattle.maker_core.proofs.FoundAtOnce.{found_at_once}
-use Rattle.maker_core.proofs.FullStart.{known}
 use Rattle.maker_core.proofs.LightFilled.{none_white, numbers_again}
 use Rattle.maker_core.proofs.OnlySolutions.{one_grid}
 
@@ -19,7 +16,7 @@ no_bulb_on p g c lit lt off = grind (arith, all_below-at (black_right p g) (ligh
 -- ---- the puzzle of a filling
 pub size_is : (size : Extent) (f : LightFilling) (p : Light) → p ≡ light_puzzle_of size f → p.size ≡ size
 unfolding light_puzzle_of with_numbers lights_of
-size_is size f p is = ap (λ (r : Light). r.size) is
+size_is size f p is = ap (λ r. r.size) is
 
 pub all_numbers : (size : Extent) (f : LightFilling) (p : Light) → p ≡ light_puzzle_of size f → IsLit size f → p ≡ with_numbers p f.bulbs
 all_numbers size f p is lit = rw is (numbers_again size f lit.black.each_cell)
@@ -39,8 +36,8 @@ unfolding light_puzzle_of with_numbers lights_of
 all_black size f budget p is laws lit black =
     let none : (c : ℕ) → white p c ≡ false = λ c. rw is (none_white size f lit.black.each_cell black c) in
     let good : solves_lights p f.bulbs ≡ true = rw is lit.solved in
-    ap is_one (found_at_once (light_rules p) budget f.bulbs (known (light_rules p) laws) (record { grid = rw is lit.bulbs; good = good })
-    (λ c v lt few here. start_black p c v (none c) few (closure_inside (light_rules p) (light_rules p).start c v here)
-    ∙ sym (no_bulb_on p f.bulbs c good lt (none c))))
+    ap is_one (found_at_once laws (record { grid = rw is lit.bulbs; good = good })
+    (λ c v lt few here. start_black p c v (none c) few (closure_inside _ (light_rules p).start c v here)
+    ∙ sym (no_bulb_on p f.bulbs c good lt (none c))) budget)
 
 pub ruleset black_laws = (all_black, light-lawful)

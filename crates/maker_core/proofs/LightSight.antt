@@ -1,10 +1,6 @@
 -- Who sees whom, whatever the numbers, and both ways; and bulbs that are placed in turn.
 use Rattle.maker_core.proofs.FilteredRanges.{filter_laws}
-use Rattle.maker_core.proofs.Common.{◌≡◌, ℕ, ◌+◌, ◌<◌, true, false, ◌&&◌, List, length, get_or, refl, ap, ◌∙◌, arith, zero, suc}
-use Rattle.maker_core.proofs.Common.{replicate, add-one, ◌||◌, slice_index, filter, range_with_len, cond_both, and_from, get_or_past}
-use Rattle.maker_core.proofs.Common.{get_or-map-range_with_len, length-map-range_with_len, any_below-here, any_below-some, Light, Black, light_cells}
-use Rattle.maker_core.proofs.Common.{white, bulb, joined_in_row, joined_in_column, sees, sees_bulb, row-both, row-self, column-both, column-self}
-use Rattle.maker_core.proofs.Common.{numbered_cell, with_numbers, with_bulb, bulbs_after, white_places, IsGrid}
+use Rattle.maker_core.proofs.Common.{Black, IsGrid, Light, List, add-one, and_from, any_below-here, any_below-some, ap, arith, bulb, bulbs_after, column-both, column-self, cond_both, false, filter, get_or, get_or-map-range_with_len, get_or_past, joined_in_column, joined_in_row, length, length-map-range_with_len, light_cells, numbered_cell, range_with_len, refl, replicate, row-both, row-self, sees, sees_bulb, slice_index, suc, true, white, white_places, with_bulb, with_numbers, zero, ℕ, ◌+◌, ◌<◌, ◌||◌, ◌∙◌, ◌≡◌}
 use Rattle.maker_core.proofs.WrittenGrids.{grid_with, zeros-grid}
 
 -- ---- numbers change no colour
@@ -38,12 +34,12 @@ sees_itself p a = grind arith
 pub seen_bulb : (p : Light) (g : List ℕ) (c : ℕ) → sees_bulb p g c ≡ true → (d : ℕ) × (d < light_cells p) × (sees p c d ≡ true) × (bulb g d ≡ true)
 unfolding sees_bulb
 seen_bulb p g c on =
-    let w = any_below-some (λ d. sees p c d && bulb g d) (light_cells p) on in
+    let w = any_below-some _ _ on in
     (w.0, w.1, grind arith, grind arith)
 
 pub bulb_seen : (p : Light) (g : List ℕ) (c d : ℕ) → d < light_cells p → sees p c d ≡ true → bulb g d ≡ true → sees_bulb p g c ≡ true
 unfolding sees_bulb
-bulb_seen p g c d lt sight on = any_below-here (λ d. sees p c d && bulb g d) (light_cells p) d lt (and_from _ _ sight on)
+bulb_seen p g c d lt sight on = any_below-here _ _ d lt (and_from _ _ sight on)
 
 -- ---- the white cells
 pub white_all : (p : Light) (k : ℕ) (xs : List ℕ) → xs ≡ filter (white p) (range_with_len 0 k) → k ≡ light_cells p → xs ≡ white_places p

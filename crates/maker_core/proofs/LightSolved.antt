@@ -1,11 +1,6 @@
 -- White cells that were taken in turn, in any order, hold or see a bulb, and no bulb sees a bulb: the grid solves the
 -- puzzle with all numbers.
-use Rattle.maker_core.proofs.Common.{elements, ◌≡◌, ℕ, zero, suc, ◌<◌, ◌≤◌, Bool, true, false, List, length, refl, sym, ◌∙◌, arith, inl, inr}
-use Rattle.maker_core.proofs.Common.{replicate, ◌||◌, slice_index, slice_set, if◌then◌else◌, IsPermutation, cond_both, cases_eq, true≢false}
-use Rattle.maker_core.proofs.Common.{false_from_ne_true, or_cases, or_left, or_right, filter_passes, All-contains, Contains-get_or}
-use Rattle.maker_core.proofs.Common.{Contains-permutation, IsPermutation-sym, range_with_len, get_or_default, all_below-from, IsGrid, Light, LightCell}
-use Rattle.maker_core.proofs.Common.{White, Numbered, light_cells, white, bulb, bulbs_beside, number_is, sees, sees_bulb, black_right}
-use Rattle.maker_core.proofs.Common.{number_right, bulb_right, lit_right, solves_lights, lit-from, white-in, bulb-in, white_places, bulbs_after, with_numbers}
+use Rattle.maker_core.proofs.Common.{All-contains, Bool, Contains-get_or, Contains-permutation, IsGrid, IsPermutation, IsPermutation-sym, Light, LightCell, List, Numbered, White, all_below-from, arith, black_right, bulb, bulb-in, bulb_right, bulbs_after, cases_eq, common_steps, cond_both, elements, false, false_from_ne_true, filter_passes, get_or_default, if◌then◌else◌, inl, inr, length, light_cells, lit-from, lit_right, number_is, number_right, or_cases, or_left, or_right, range_with_len, refl, replicate, sees, sees_bulb, slice_index, slice_set, solves_lights, suc, sym, true, true≢false, white, white-in, white_places, with_numbers, zero, ℕ, ◌<◌, ◌||◌, ◌∙◌, ◌≡◌, ◌≤◌}
 use Rattle.maker_core.proofs.FilteredRanges.{passes_kept}
 use Rattle.maker_core.proofs.LightSight.{bulbs_after-grid, number_at, same_white, same_seen, sees_back, sees_itself, seen_bulb, bulb_seen}
 use Rattle.maker_core.proofs.WrittenGrids.{no_one, old_stays}
@@ -17,29 +12,16 @@ pub record IsPlanted (p : Light) (order g : List ℕ) (k : ℕ) : Type 0 where
   pub lit : (j : ℕ) → j < k → (bulb g (slice_index order j) || sees_bulb p g (slice_index order j)) ≡ true
 
 planted_none : (p : Light) {order : List ℕ} → IsPlanted p order (replicate (light_cells p) 0) 0
-planted_none p = record {
-  on_white = λ c on. absurd (no_one (light_cells p) c on);
-  apart = λ c d on _. absurd (no_one (light_cells p) c on);
-  lit = λ j lt. absurd (omega arith);
-}
+planted_none p = grind (arith, common_steps, no_one)
 
 planted_held : {p : Light} {order g : List ℕ} {k : ℕ} → IsPlanted p order g k
     → (bulb g (slice_index order k) || sees_bulb p g (slice_index order k)) ≡ true → IsPlanted p order g (suc k)
-planted_held w held = record {
-  on_white = w.on_white;
-  apart = w.apart;
-  lit = λ j lt. grind (arith, w.lit j);
-}
+planted_held w held = grind (arith, common_steps)
 
 -- ---- a new bulb
 lit_stays : (p : Light) (g : List ℕ) (c d : ℕ) → c < length g → (bulb g d || sees_bulb p g d) ≡ true
     → (bulb (slice_set g c 1) d || sees_bulb p (slice_set g c 1) d) ≡ true
-lit_stays p g c d lt on = elim (or_cases (bulb g d) (sees_bulb p g d) on) [
-  | inl own ↦ or_left _ _ (old_stays g c d lt own)
-  | inr seen ↦
-      let w = seen_bulb p g d seen in
-      or_right _ _ (bulb_seen p (slice_set g c 1) d w.0 w.1 w.2 (old_stays g c w.0 lt w.3))
-]
+lit_stays p g c d lt on = grind (arith, common_steps, or_cases, or_left, old_stays, seen_bulb, or_right, bulb_seen)
 
 planted_new : (p : Light) (order g : List ℕ) (k c : ℕ) → length g ≡ light_cells p → IsPlanted p order g k
     → c ≡ slice_index order k → white p c ≡ true → c < light_cells p
@@ -78,17 +60,14 @@ pub lights_solved : (p : Light) {order g : List ℕ} {k : ℕ} → length p.cell
     → ((c : ℕ) → white p c ≡ true → (j : ℕ) × (j < k) × (slice_index order j ≡ c)) → solves_lights (with_numbers p g) g ≡ true
 unfolding with_numbers black_right number_right bulb_right lit_right
 lights_solved p {g} long grid w each =
-    lit-from (with_numbers p g) g
-    (all_below-from (black_right (with_numbers p g) g) (light_cells p) black)
-    (all_below-from (number_right (with_numbers p g) g) (light_cells p) number)
-    (all_below-from (bulb_right (with_numbers p g) g) (light_cells p) alone)
-    (all_below-from (lit_right (with_numbers p g) g) (light_cells p) lit)
+    lit-from _ g (all_below-from _ _ black) (all_below-from _ _ number) (all_below-from _ _ alone)
+    (all_below-from _ _ lit)
   where
     black : (c : ℕ) → c < light_cells p → black_right (with_numbers p g) g c ≡ true
     black c lt = grind (arith, same_white p g long c, w.on_white c, grid.each_value c 0, grid.each_cell)
 
     number : (c : ℕ) → c < light_cells p → number_right (with_numbers p g) g c ≡ true
-    number c lt = number_met (white p c) (bulbs_beside p g c) (number_at p g c lt)
+    number c lt = number_met (white p c) _ (number_at p g c lt)
 
     alone : (c : ℕ) → c < light_cells p → bulb_right (with_numbers p g) g c ≡ true
     alone c lt = rw (same_seen p g long c) (grind (arith, seen_bulb p g c, w.apart c))
@@ -100,8 +79,8 @@ lights_solved p {g} long grid w each =
 pub order_white : (p : Light) {order : List ℕ} → IsPermutation (white_places p) order → (j : ℕ) → j < length order → white p (slice_index order j) ≡ true
 unfolding white_places
 order_white p {order} mixed j lt =
-    All-contains (λ c. white p c ≡ true) (white_places p) (slice_index order j) (filter_passes (white p) (range_with_len 0 (light_cells p)))
-    (Contains-permutation order (white_places p) (slice_index order j) (IsPermutation-sym (white_places p) order mixed) (Contains-get_or order j 0 lt))
+    All-contains (λ c. white p c ≡ true) _ (slice_index order j) (filter_passes (white p) (range_with_len 0 (light_cells p)))
+    (Contains-permutation order _ (slice_index order j) (IsPermutation-sym _ order mixed) (Contains-get_or order j 0 lt))
 
 order_each : (p : Light) {order : List ℕ} → length p.cells ≡ light_cells p → IsPermutation (white_places p) order → (c : ℕ) → white p c ≡ true
     → (j : ℕ) × (j < length order) × (slice_index order j ≡ c)
@@ -114,5 +93,5 @@ pub lit_solved : (p : Light) (order g : List ℕ) → length p.cells ≡ light_c
     → solves_lights (with_numbers p g) g ≡ true
 lit_solved p order g long mixed is =
     rw is (lights_solved p long (bulbs_after-grid p order (length order))
-    (planted p order (order_white p mixed) long (length order) (let z : length order ≤ length order = omega arith in z))
+    (planted p order (order_white p mixed) long (length order) (omega arith))
     (order_each p long mixed))

@@ -1,5 +1,5 @@
 -- What a search says of the solutions of its rules it says of the solutions of the game, where the two agree.
-use Rattle.maker_core.proofs.Common.{ℕ, List, sym, subst, IsTrue, ◌↔◌, RuleSystem, IsGridOf, Solves, HasOne, TellsOne, IsOnlySolution, IsOnly}
+use Rattle.maker_core.proofs.Common.{HasOne, IsGridOf, IsOnly, IsOnlySolution, IsTrue, List, RuleSystem, Solves, TellsOne, subst, sym, ℕ, ◌↔◌}
 
 -- a grid that solves is the one of the verdict
 pub one_grid : {rules : RuleSystem} (g : List ℕ) {budget : ℕ} → HasOne rules budget → Solves rules g → IsOnly rules g × TellsOne rules budget g

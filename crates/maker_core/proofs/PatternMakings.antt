@@ -1,9 +1,5 @@
 -- The puzzle of a grid has the runs of its lines as clues, and the grid is a solution of it.
-use Rattle.maker_core.proofs.Common.{◌≡◌, ℕ, ◌+◌, ◌-◌, ◌*◌, ◌<◌, List, [], length, map, get_or, subst, refl, sym, ap, ◌∙◌, arith, inl, inr}
-use Rattle.maker_core.proofs.Common.{range_with_len, slice_index_or, IsTrue, ◌↔◌, cases_lt, line_numbers-column, line_numbers-row, fill_by_all, Extent, IsGrid, row_cells}
-use Rattle.maker_core.proofs.Common.{column_cells, runs, line_numbers, Pattern, lines_of, line_rules, IsPatternSolution, HasOne, TellsOne, IsOnlySolution}
-use Rattle.maker_core.proofs.Common.{clued_by}
-use Rattle.maker_core.proofs.OnlySolutions.{one_is}
+use Rattle.maker_core.proofs.Common.{Extent, IsGrid, IsPatternSolution, List, Pattern, [], ap, arith, cases_lt, clued_by, column_cells, common_steps, fill_by_all, get_or, inl, inr, length, line_numbers, line_numbers-column, line_numbers-row, lines_of, map, range_with_len, refl, row_cells, runs, slice_index_or, sym, ℕ, ◌*◌, ◌+◌, ◌-◌, ◌<◌, ◌∙◌, ◌≡◌}
 
 -- a puzzle with those clues
 pub record HasRuns (size : Extent) (g : List ℕ) (p : Pattern) : Type 0 where
@@ -21,7 +17,7 @@ each_line of none size g xs long columns rows =
       | inl column ↦ columns line column ∙ ap of (sym (line_numbers-column size g line column))
       | inr row ↦
           let back : size.w + (line - size.w) ≡ line = omega arith in
-          ap (λ n. get_or xs n none) (sym back) ∙ rows (line - size.w) (omega arith) ∙ ap of (sym (line_numbers-row size g line row))
+          ap (λ n. get_or xs n none) (sym back) ∙ rows _ (omega arith) ∙ ap of (sym (line_numbers-row size g line row))
     ])
 
 pub pattern_is : (size : Extent) (g : List ℕ) (p : Pattern) → length p.clues ≡ lines_of p.size → HasRuns size g p → p ≡ clued_by size g
@@ -31,16 +27,7 @@ pattern_is size g p lines has =
 
 -- that grid is a solution of it
 pub pattern_solved : (size : Extent) (g : List ℕ) (p : Pattern) → HasRuns size g p → IsGrid (size.w * size.h) 2 g → IsPatternSolution p g
-pattern_solved size g p has grid =
-    let w = subst (λ (s : Extent). HasRuns s g p × IsGrid (s.w * s.h) 2 g) (sym has.sized) (has, grid) in
-    record { grid = w.1; columns = λ x lt. sym (w.0.columns x lt); rows = λ y lt. sym (w.0.rows y lt) }
-
--- and the one that the verdict names, where it is one
-pub pattern_only : (p : Pattern) (g : List ℕ)
-    → ((q : Pattern) (h : List ℕ) → IsGrid (q.size.w * q.size.h) 2 h → (IsTrue ((line_rules q).is_solution h)) ↔ IsPatternSolution q h)
-    → (budget : ℕ) → HasOne (line_rules p) budget
-    → IsPatternSolution p g → IsOnlySolution (IsPatternSolution p) g × TellsOne (line_rules p) budget g
-pattern_only p g accepted budget one good = one_is (line_rules p) (IsPatternSolution p) (λ h s. s.grid) (accepted p) one good
+pattern_solved size g p has grid = grind (arith, common_steps)
 
 -- what the making of a puzzle of a grid cites
 pub ruleset pattern_laws = (pattern_is, pattern_solved)

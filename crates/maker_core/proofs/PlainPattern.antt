@@ -1,14 +1,6 @@
 -- A grid of white cells alone, or of black cells alone, is all that one visit of each row leaves.
-use Rattle.maker_core.proofs.Common.{sum, sum_by, nat_lt, cond, set, length-set, lt-ltb, All-from_get_or, count_by-le-length, get_or-le-sum_by}
-use Rattle.maker_core.proofs.Common.{sum_by-append, sum_by-cons, sum_by-le, sum_by-set, ◌≡◌, ℕ, zero, suc, ◌+◌, ◌-◌, ◌*◌, ◌/◌, ◌%◌, ◌<◌, ◌≤◌, true}
-use Rattle.maker_core.proofs.Common.{false, List, [], ◌∷◌, length, slice_index, refl, sym, ap, ◌∙◌, arith, inl, inr, ◌⊎◌, le-ltb, div-add-mod'}
-use Rattle.maker_core.proofs.Common.{div_below, mod_below, get_or-map-range_with_len, length-map-range_with_len, Extent, IsExtent, Candidates}
-use Rattle.maker_core.proofs.Common.{row_cells, run_of, runs_after, runs, at_row, Pattern, lines_of, closure, strikes_by_fillings, shown_from_test}
-use Rattle.maker_core.proofs.Common.{sets_at, strikes_at, strikes_at-place, length-sets_at, IsClosed, line_places, clue_of, has_runs}
-use Rattle.maker_core.proofs.Common.{length-line_places, place_in_row, cell_in_grid, different_places, has_runs-is, is_solution-from}
-use Rattle.maker_core.proofs.Common.{line_rules-lawful, line_rules, IsPatternSolution, AreAll, is_one, has_one, clued_by}
-use Rattle.maker_core.proofs.FoundAtOnce.{closed_start, found_at_once}
-use Rattle.maker_core.proofs.FullStart.{known}
+use Rattle.maker_core.proofs.Common.{All-from_get_or, AreAll, Candidates, Extent, IsClosed, IsExtent, IsPatternSolution, List, [], ap, arith, at_row, cell_in_grid, closure_closed, clue_of, clued_by, common_steps, cond, count_by-le-length, different_places, div-add-mod', div_below, false, get_or-le-sum_by, get_or-map-range_with_len, has_one, has_runs, has_runs-is, inl, inr, is_one, is_solution-from, le-ltb, length, length-line_places, length-map-range_with_len, length-set, length-sets_at, line_places, line_rules, line_rules-lawful, lines_of, lt-ltb, mod_below, nat_lt, place_in_row, refl, row_cells, run_of, runs, runs_after, set, sets_at, shown_from_test, slice_index, strikes_at, strikes_at-place, strikes_by_fillings, suc, sum, sum_by, sum_by-append, sum_by-cons, sum_by-le, sum_by-set, sym, true, zero, ℕ, ◌%◌, ◌*◌, ◌+◌, ◌-◌, ◌/◌, ◌<◌, ◌∙◌, ◌∷◌, ◌≡◌, ◌≤◌, ◌⊎◌}
+use Rattle.maker_core.proofs.FoundAtOnce.{found_at_once}
 
 -- 1 for a black cell, and how many cells are black
 abbrev black : ℕ → ℕ
@@ -49,10 +41,7 @@ blacks-all (v ∷ cells) all =
 -- lists of the same runs have as many black cells
 same_blacks : (xs ys : List ℕ) → runs xs ≡ runs ys → blacks xs ≡ blacks ys
 same_blacks xs ys e =
-    let a = total-runs 0 xs in
-    let b = total-runs 0 ys in
-    let same = ap sum e in
-    omega arith
+    omega (arith, total-runs 0 xs, total-runs 0 ys, ap sum e)
 
 -- so a line of one colour is told by its runs
 pub white_line : (line cells : List ℕ) → AreAll 0 line → runs cells ≡ runs line → AreAll 0 cells
@@ -64,10 +53,7 @@ black_line line cells all long e = each_black cells (same_blacks cells line e �
 
 -- ---- the row of a cell
 row_all : (size : Extent) (g : List ℕ) {y b : ℕ} → length g ≡ size.w * size.h → y < size.h → AreAll b g → AreAll b (row_cells size g y)
-row_all size g {y} long lty all k lt =
-    let few : k < size.w = omega (arith, lt, length-map-range_with_len (λ x. slice_index g (y * size.w + x)) 0 size.w) in
-    let cell : y * size.w + k < size.w * size.h = cell_in_grid size k y few lty in
-    get_or-map-range_with_len (λ x. slice_index g (y * size.w + x)) 0 size.w k k 0 few (omega arith) ∙ all (y * size.w + k) (omega arith)
+row_all size g {y} long lty all k lt = grind (arith, common_steps, length-map-range_with_len, cell_in_grid, get_or-map-range_with_len)
 
 -- a filling that shows a value that a closed board still has
 shown : (size : Extent) (g : List ℕ) (E : Candidates) (c v : ℕ) → IsExtent size → IsClosed (line_rules (clued_by size g)) E → c < size.w * size.h → E c v ≡ true
@@ -105,7 +91,7 @@ plain_alone size g E c v extent long plain closed lt few on =
     let w = shown size g E c v extent closed lt on in
     let row : List ℕ = row_cells size g (c / size.w) in
     let row_long : length row ≡ size.w = length-map-range_with_len (λ x. slice_index g (c / size.w * size.w + x)) 0 size.w in
-    let k : c % size.w < length w.0 = let l = w.2 in omega arith in
+    let k : c % size.w < length w.0 = omega (arith, w.2) in
     elim plain [
       | inl white ↦ sym w.3 ∙ white_line row w.0 (row_all size g long low white) w.1 (c % size.w) k ∙ sym (white c inside)
       | inr black ↦
@@ -120,7 +106,9 @@ plain_alone size g E c v extent long plain closed lt few on =
 pub plain_passes : {size : Extent} {g : List ℕ} (budget : ℕ) → IsExtent size → IsPatternSolution (clued_by size g) g → AreAll 0 g ⊎ AreAll 1 g
     → has_one (line_rules (clued_by size g)) budget ≡ true
 plain_passes {size} {g} budget extent good plain =
-    let p : Pattern = clued_by size g in
-    let rules = known (line_rules p) (line_rules-lawful p extent) in
-    ap is_one (found_at_once (line_rules p) budget g rules (record { grid = good.grid; good = is_solution-from p g good })
-    (λ c v. plain_alone size g (closure (line_rules p) (line_rules p).start) c v extent good.grid.each_cell plain (closed_start rules)))
+    let p = clued_by size g in
+    let laws = line_rules-lawful p extent in
+    let start = (line_rules p).start in
+    ap is_one (found_at_once laws (record { grid = good.grid; good = is_solution-from p g good })
+    (λ c v. plain_alone size g _ c v extent good.grid.each_cell plain
+    (closure_closed _ start laws.start_within)) budget)

@@ -1,10 +1,5 @@
 -- A draw below a number is below it, a shuffle brings a list into another order, and both leave a stream of words.
-use Rattle.maker_core.proofs.Common.{◌≡◌, ℕ, ◌+◌, ◌-◌, ◌*◌, ◌/◌, ◌%◌, ◌^◌, ◌<◌, ◌≤◌, [], ◌∷◌, nat_le, nat_lt, refl, arith, ◌∙◌, zero, suc, List}
-use Rattle.maker_core.proofs.Common.{length, sym, subst, cond_both, ltb-true, eqb-true, lt-ltb, ltb-false, true≢false, div-add-mod', div_below, mul-le}
-use Rattle.maker_core.proofs.Common.{mod_below, Stream, next_u32, u32_call, canon, carry_room, if_below, HasWords, shuffled_order, ◌==◌, IsPermutation}
-use Rattle.maker_core.proofs.Common.{range_with_len, length-range_with_len, IsPermutation-refl, IsPermutation-swap, IsPermutation-trans}
-use Rattle.maker_core.proofs.Common.{length_permutation, Chooser, chooser_at, chooser_next, chooser_refill, chunk_of, grow, narrow_swaps, rising}
-use Rattle.maker_core.proofs.Common.{last_below, rest_below, rising_more, rising_one, rising_positive, IsOrder}
+use Rattle.maker_core.proofs.Common.{Chooser, HasWords, IsOrder, IsPermutation, IsPermutation-refl, IsPermutation-swap, IsPermutation-trans, List, Stream, [], arith, canon, carry_room, chooser_at, chooser_next, chooser_refill, chunk_of, common_steps, cond_both, div-add-mod', div_below, eqb-true, grow, if_below, last_below, length, length-range_with_len, length_permutation, lt-ltb, ltb-false, ltb-true, mod_below, mul-le, narrow_swaps, nat_le, nat_lt, next_u32, range_with_len, refl, rest_below, rising, rising_more, rising_one, rising_positive, shuffled_order, subst, suc, sym, true≢false, zero, ℕ, ◌%◌, ◌*◌, ◌+◌, ◌-◌, ◌/◌, ◌<◌, ◌==◌, ◌^◌, ◌∙◌, ◌≡◌, ◌≤◌}
 use Rattle.maker_core.proofs.SoloOrderLemmas.{order_from_permutation}
 
 word_below : {s : Stream} → HasWords s → (next_u32 s).0 < 2 ^ 32
@@ -13,7 +8,7 @@ word_below words = words.below []
 
 words_left : {s : Stream} → HasWords s → HasWords (next_u32 s).1
 unfolding next_u32
-words_left words = record { below = λ calls. words.below (u32_call ∷ calls) }
+words_left words = grind (arith, common_steps)
 
 -- a number below a range, and words after it
 pub record IsDrawnBelow (range : ℕ) (draw : ℕ × Stream) : Type 0 where
@@ -26,12 +21,11 @@ draw_is range s some within words =
     let w = (next_u32 s).0 in
     let high = w * range / 2 ^ 32 in
     let low = w * range % 2 ^ 32 in
-    let fits : w < 2 ^ 32 = word_below words in
-    let room : (w + 1) * range ≤ 2 ^ 32 * range = mul-le (w + 1) range (2 ^ 32) range (omega arith) (omega arith) in
-    let under : high < range = div_below (w * range) (2 ^ 32) range (omega arith) (omega arith) in
+    let fits = word_below words in
+    let room = mul-le (w + 1) range (2 ^ 32) range (omega arith) (omega arith) in
+    let under = div_below (w * range) (2 ^ 32) range (omega arith) (omega arith) in
     let left = words_left words in
-    cond_both (nat_lt (2 ^ 32 - range) low) _ _ (IsDrawnBelow range)
-    (λ carried. record {
+    cond_both (nat_lt (2 ^ 32 - range) low) _ _ (IsDrawnBelow range) (λ carried. record {
       below = if_below (nat_le (2 ^ 32) (low + (next_u32 (next_u32 s).1).0 * range / 2 ^ 32)) _ (high + 1) high range refl
           (carry_room (2 ^ 32) range w high low fits (div-add-mod' (w * range) (2 ^ 32)) (ltb-true (2 ^ 32 - range) low carried) within) under;
       words = words_left left;
@@ -68,11 +62,11 @@ record IsRefilled (n : ℕ) (r : ℕ × ℕ × Stream) : Type 0 where
 
 refill_is : (c : Chooser) (s : Stream) → IsChooser c → HasWords s → c.n + 1 < 2 ^ 32 → IsRefilled c.n (chooser_refill c s)
 refill_is c s is words within =
-    let m : ℕ = c.n + 1 in
-    let chunk : IsChunk m (chunk_of m) = chunk_is m within in
+    let m = c.n + 1 in
+    let chunk = chunk_is m within in
     let positive : 0 < (chunk_of m).0 = rw chunk.product (rising_positive m (chunk_of m).1 (omega arith)) in
-    let drawn : IsDrawnBelow (chunk_of m).0 (canon (2 ^ 32) next_u32 (chunk_of m).0 s) =
-    draw_is (chunk_of m).0 s positive (let w = chunk.within in omega arith) words in
+    let drawn =
+    draw_is (chunk_of m).0 s positive (omega arith) words in
     cond_both (c.left == 0) _ _ (IsRefilled c.n)
     (λ none. record { some = chunk.some; room = rw (← chunk.product) drawn.below; words = drawn.words })
     (λ left. let low : 0 < c.left = grind arith in record { some = low; room = is.room low; words = words })
@@ -86,17 +80,16 @@ record IsDrawnNext (n : ℕ) (d : ℕ × Chooser × Stream) : Type 0 where
 
 next_is : (c : Chooser) (s : Stream) → IsChooser c → HasWords s → c.n + 1 < 2 ^ 32 → IsDrawnNext c.n (chooser_next c s)
 next_is c s is words within =
-    let r : ℕ × ℕ × Stream = chooser_refill c s in
-    let filled : IsRefilled c.n r = refill_is c s is words within in
-    cond_both (r.1 == 1) _ _ (IsDrawnNext c.n)
-    (λ last. record {
-      index = let low = last_below r.0 (c.n + 1) (rw (eqb-true r.1 1 last) at filled.room) in omega arith;
+    let r = chooser_refill c s in
+    let filled = refill_is c s is words within in
+    cond_both (r.1 == 1) _ _ (IsDrawnNext c.n) (λ last. record {
+      index = omega (arith, last_below r.0 (c.n + 1) (rw (eqb-true r.1 1 last) at filled.room));
       bound = refl;
       chooser = record { room = λ none. absurd (omega arith) };
       words = filled.words;
     })
     (λ more. record {
-      index = let low = mod_below r.0 (c.n + 1) (omega arith) in omega arith;
+      index = omega (arith, mod_below r.0 (c.n + 1) (omega arith));
       bound = refl;
       chooser = record {
         room = λ some. let e : r.1 ≡ suc (r.1 - 1) = let f = filled.some in omega arith in

@@ -1,12 +1,6 @@
 -- The puzzle that gives all cells of a grid: its search starts from that grid alone.
-use Rattle.maker_core.proofs.Common.{◌≡◌, ℕ, suc, ◌+◌, ◌*◌, ◌<◌, ◌≤◌, Bool, List, map, length, slice_index, take, replicate, [], ◌∷◌, ◌++◌, ◌-◌, refl}
-use Rattle.maker_core.proofs.Common.{sym, ◌∙◌, arith, Some, ap, length-map, length-take-le, get_or-map, map_more, set_at, append_assoc}
-use Rattle.maker_core.proofs.Common.{append-nil, take_all, All-map, All-get_or, All-from_get_or, recursion_from_All, IsInside, single, IsGrid}
-use Rattle.maker_core.proofs.Common.{slice_set, Solo, IsSolo, solo_puzzle, Solves, IsTrueOf, IsSoloSolution, test_from_rule, rule_from_test, start}
-use Rattle.maker_core.proofs.Common.{houses_rules, houses_lawful, TellsOne, is_one, IsOnlySolution, all_given, solo_game, clue_is, is_clue, IsSoloSize}
-use Rattle.maker_core.proofs.Common.{solo_passes, IsThinnedFrom, Option, None, IfSome, is_some}
-use Rattle.engine_core.specs.Verdict.{Outcome.OneSolution}
-use Rattle.maker_core.proofs.FullStart.{start_found, start_only}
+use Rattle.maker_core.proofs.Common.{All-from_get_or, All-get_or, All-map, Bool, IfSome, IsInside, IsOnlySolution, IsSolo, IsSoloSize, IsSoloSolution, IsThinnedFrom, IsTrueOf, List, None, Option, Outcome.OneSolution, Solo, Solves, Some, TellsOne, all_given, ap, append-nil, append_assoc, arith, clue_is, common_steps, get_or-map, houses_lawful, houses_rules, is_clue, is_one, is_some, length, length-map, length-take-le, map, map_more, recursion_from_All, refl, replicate, rule_from_test, set_at, single, slice_index, slice_set, solo_game, solo_passes, solo_puzzle, start, suc, sym, take, test_from_rule, ℕ, ◌*◌, ◌++◌, ◌+◌, ◌-◌, ◌<◌, ◌∙◌, ◌∷◌, ◌≡◌, ◌≤◌}
+use Rattle.maker_core.proofs.FoundAtOnce.{start_found, start_only}
 
 pub given-at : (g : List ℕ) (place : ℕ) → place < length g → slice_index (map suc g) place ≡ slice_index g place + 1
 given-at g place lt = grind (arith, get_or-map)
@@ -16,11 +10,11 @@ pub written : (xs : List ℕ) (m k v : ℕ) → k < length xs → length xs ≤ 
     → slice_set (map suc (take k xs) ++ replicate (m - k) 0) k v ≡ map suc (take (k + 1) xs) ++ replicate (m - (k + 1)) 0
 written xs m k v lt room is =
     let front = map suc (take k xs) in
-    let rest : List ℕ = replicate (m - (k + 1)) 0 in
+    let rest = replicate (m - (k + 1)) 0 in
     let e : m - k ≡ suc (m - (k + 1)) = omega arith in
     let next : suc (slice_index xs k) ≡ v = omega arith in
     rw e (set_at front 0 rest v k (length-map (take k xs) suc ∙ length-take-le k xs (omega arith)))
-    ∙ sym (ap (λ ys. ys ++ rest) (map_more suc xs k 0 lt) ∙ append_assoc front (suc (slice_index xs k) ∷ []) rest ∙ ap (λ z. front ++ z ∷ rest) next)
+    ∙ sym (ap (λ ys. ys ++ rest) (map_more suc xs k 0 lt) ∙ append_assoc front _ rest ∙ ap (λ z. front ++ z ∷ rest) next)
 
 -- the puzzle whose first k cells have the numbers of a list, and whose other cells are blank
 abbrev pub given_first : ℕ → ℕ → Bool → List ℕ → ℕ → Solo
@@ -28,33 +22,24 @@ given_first c r x numbers k = solo_puzzle c r x (map suc (take k numbers) ++ rep
 
 pub given-all : (p : Solo) (c r : ℕ) (x : Bool) (g : List ℕ) (k : ℕ) → p ≡ given_first c r x g k → k ≡ length g → length g ≡ (c * r) * (c * r)
     → p ≡ all_given c r x g
-given-all p c r x g k is all long =
-    let none : (c * r) * (c * r) - k ≡ 0 = omega arith in
-    is ∙ ap (solo_puzzle c r x) (rw (none, take_all k g (omega arith)) (append-nil (map suc g)))
-
-module _ {c r : ℕ} (x : Bool) {g : List ℕ} (size : IsSoloSize c r) (fits : IsGrid ((c * r) * (c * r)) (c * r) g) where
-  all_given-solo : IsSolo (all_given c r x g)
-  all_given-solo = record {
-    c_low = size.c_low;
-    r_low = size.r_low;
-    n_high = size.n_high;
-    cells = length-map g suc ∙ fits.each_cell;
-    range = recursion_from_All (λ v. v ≤ c * r) (map suc g) (All-map (λ v. v ≤ c * r) suc g fits.each_value);
-  }
-
-  start_inside : IsInside (start (all_given c r x g)) (single g)
-  unfolding start single
-  start_inside place v on = grind (arith, given-at g place, fits.each_cell)
+given-all p c r x g k is all long = grind (arith, common_steps, append-nil)
 
 module _ (c r : ℕ) (x : Bool) (g : List ℕ) (size : IsSoloSize c r) (solution : IsSoloSolution (all_given c r x g) g) where
   solo : IsSolo (all_given c r x g)
-  solo = all_given-solo x size solution.grid
+  solo = record {
+    c_low = size.c_low;
+    r_low = size.r_low;
+    n_high = size.n_high;
+    cells = length-map g suc ∙ solution.grid.each_cell;
+    range = recursion_from_All (λ v. v ≤ c * r) (map suc g) (All-map (λ v. v ≤ c * r) suc g solution.grid.each_value);
+  }
 
   solves : Solves (houses_rules (all_given c r x g)) g
   solves = record { grid = solution.grid; good = test_from_rule (all_given c r x g) solo g solution }
 
   inside : IsInside (start (all_given c r x g)) (single g)
-  inside = start_inside x size solution.grid
+  unfolding start single
+  inside place v on = grind (arith, given-at g place, solution.grid.each_cell)
 
   -- no other grid solves it, and its verdict with any budget says so
   pub all_given-only : IsTrueOf (houses_rules (all_given c r x g)) (OneSolution g)
@@ -100,10 +85,7 @@ found_passes c r x budget (Some g) size solution = sym (ap is_one (all_given-fou
 found_passes c r x budget None size solution = refl
 
 pub only_by_rules : (p : Solo) (g : List ℕ) → IsSolo p → IsTrueOf (houses_rules p) (OneSolution g) → IsOnlySolution (IsSoloSolution p) g
-only_by_rules p g ok w = (
-  rule_from_test p ok g w.0.grid w.0.good,
-  λ h other. sym (w.1 h (record { grid = other.grid; good = test_from_rule p ok h other })),
-)
+only_by_rules p g ok w = grind (arith, common_steps, rule_from_test, test_from_rule)
 
 -- a puzzle that has the sizes of the full one has its clues among the same
 pub same_given : (p : Solo) (c r : ℕ) (x : Bool) (g : List ℕ) → p.c ≡ c → p.r ≡ r → p.x ≡ x → all_given p.c p.r p.x g ≡ all_given c r x g

@@ -1,7 +1,6 @@
 -- Two cells of one row, column or block of the grid before it is shuffled hold different numbers: each is a number below
 -- n, another for each cell of the line, moved on by what the line has in common, and counted round n.
-use Rattle.maker_core.proofs.Common.{◌≡◌, ℕ, ◌+◌, ◌*◌, ◌/◌, ◌%◌, ◌<◌, arith, rows, mul-add-lt, same_from_place, div_below, mod_below, div-add-mod'}
-use Rattle.maker_core.proofs.Common.{first_number}
+use Rattle.maker_core.proofs.Common.{arith, div-add-mod', div_below, first_number, mod_below, mul-add-lt, rows, same_from_place, ℕ, ◌%◌, ◌*◌, ◌+◌, ◌/◌, ◌<◌, ◌≡◌}
 
 -- numbers below n that are moved on alike, round n, stay apart
 pub moved_apart : (n k a b : ℕ) → a < n → b < n → (a + k) % n ≡ (b + k) % n → a ≡ b

@@ -1,12 +1,7 @@
 -- A shuffled list of numbers is an order of them, and groups of lines that are appended in such an order, each group's lines
 -- in such an order too, are an order of the lines that keeps groups together: a line is its group's number times the size,
 -- and its place in the group.
-use Rattle.maker_core.proofs.Common.{◌≡◌, ℕ, ◌+◌, ◌-◌, ◌*◌, ◌/◌, ◌<◌, ◌≤◌, eqb, List, ◌++◌, [], map, length, slice_index, sym, ap, ◌∙◌, arith, ◌∷◌}
-use Rattle.maker_core.proofs.Common.{take, refl, add-one, IsPermutation, range_with_len, nat_eq_equiv, common_steps, elements, mul-le, div_below}
-use Rattle.maker_core.proofs.Common.{div-mul-add, mod_below, div-add-mod', get_or_append_left, append_assoc, map_more, take_all, All-get_or}
-use Rattle.maker_core.proofs.Common.{All-from_get_or, length-range_with_len, get_or-range_with_len, length_permutation, All-permutation}
-use Rattle.maker_core.proofs.Common.{IsDistinct-from_apart, IsDistinct-IsPermutation, apart_from_distinct, IsOrder, IsLineOrder, Stream}
-use Rattle.maker_core.proofs.Common.{shuffled_order, lines_of_groups, group_added}
+use Rattle.maker_core.proofs.Common.{All-from_get_or, All-get_or, All-permutation, IsDistinct-IsPermutation, IsDistinct-from_apart, IsLineOrder, IsOrder, IsPermutation, List, Stream, [], add-one, ap, apart_from_distinct, append_assoc, arith, common_steps, div-add-mod', div-mul-add, div_below, elements, eqb, get_or-range_with_len, get_or_append_left, group_added, length, length-range_with_len, length_permutation, lines_of_groups, map, map_more, mod_below, mul-le, nat_eq_equiv, range_with_len, refl, shuffled_order, slice_index, sym, take, take_all, ℕ, ◌*◌, ◌++◌, ◌+◌, ◌-◌, ◌/◌, ◌<◌, ◌∙◌, ◌∷◌, ◌≡◌, ◌≤◌}
 
 -- the lines of the first k groups, each group's own lines beside each other
 pub record AreGrouped (size : ℕ) (groups : List ℕ) (k : ℕ) (lines : List ℕ) : Type 0 where
@@ -96,16 +91,16 @@ line-more f old lines new inside k x lt before pushed is = grind (arith, common_
 
 -- all lines of a group
 pub lines-all : (size group k : ℕ) (old lines inside : List ℕ) (t : Stream) {drawn : List ℕ × Stream}
-    → lines ≡ old ++ map (λ line. group * size + line) (take k inside) → length inside ≤ k → ◌≡◌ {A = List ℕ × Stream} (inside, t) drawn
-    → ◌≡◌ {A = List ℕ × Stream} (lines, t) (group_added size group old drawn)
+    → lines ≡ old ++ map (λ line. group * size + line) (take k inside) → length inside ≤ k → (inside, t) ≡ drawn
+    → (lines, t) ≡ group_added size group old drawn
 lines-all size group k old lines inside t done all e = rw (done, take_all k inside all, sym e) refl
 
-pub order_drawn : (n : ℕ) (xs : List ℕ) (t : Stream) {drawn : List ℕ × Stream} → ◌≡◌ {A = List ℕ × Stream} (xs, t) drawn → IsOrder n xs → IsOrder n drawn.0
+pub order_drawn : (n : ℕ) (xs : List ℕ) (t : Stream) {drawn : List ℕ × Stream} → (xs, t) ≡ drawn → IsOrder n xs → IsOrder n drawn.0
 order_drawn n xs t e is = rw (sym e) is
 
 -- no group yet
 pub groups-none : (size : ℕ) (groups lines : List ℕ) (s t : Stream) → lines ≡ [] → s ≡ t
-    → ◌≡◌ {A = List ℕ × Stream} (lines, s) (lines_of_groups size groups 0 t)
+    → (lines, s) ≡ lines_of_groups size groups 0 t
 unfolding lines_of_groups
 groups-none size groups lines s t none same = rw (none, same) refl
 
@@ -114,15 +109,15 @@ grouped-none size groups lines none = grind arith
 
 -- one more group
 pub groups-more : (size k : ℕ) {group : ℕ} (groups : List ℕ) {lines new : List ℕ} (s : Stream) {t u : Stream}
-    → ◌≡◌ {A = List ℕ × Stream} (lines, t) (lines_of_groups size groups k s) → group ≡ slice_index groups k
-    → ◌≡◌ {A = List ℕ × Stream} (new, u) (group_added size group lines (shuffled_order size t))
-    → ◌≡◌ {A = List ℕ × Stream} (new, u) (lines_of_groups size groups (k + 1) s)
+    → (lines, t) ≡ lines_of_groups size groups k s → group ≡ slice_index groups k
+    → (new, u) ≡ group_added size group lines (shuffled_order size t)
+    → (new, u) ≡ lines_of_groups size groups (k + 1) s
 unfolding lines_of_groups
 groups-more size k groups s before is added = rw (add-one, sym before, sym is) added
 
 pub grouped-more : {size k group : ℕ} {groups lines new : List ℕ} (t : Stream) {u : Stream} → 0 < size
     → AreGrouped size groups k lines → group ≡ slice_index groups k
-    → IsOrder size (shuffled_order size t).0 → ◌≡◌ {A = List ℕ × Stream} (new, u) (group_added size group lines (shuffled_order size t))
+    → IsOrder size (shuffled_order size t).0 → (new, u) ≡ group_added size group lines (shuffled_order size t)
     → AreGrouped size groups (k + 1) new
 grouped-more {size} {k} {groups} {lines} t some before is inner added =
     rw (ap (λ (q : List ℕ × Stream). q.0) added, is) (AreGrouped-more size groups k lines (shuffled_order size t).0 some before inner)

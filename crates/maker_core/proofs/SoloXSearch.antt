@@ -1,10 +1,5 @@
 -- What the search of a top row gives: the first grid of the verdict, which keeps to the rules of Solo X.
-use Rattle.maker_core.proofs.Common.{◌≡◌, ℕ, suc, ◌-◌, ◌*◌, ◌≤◌, true, Option, Some, None, List, map, ◌++◌, length, replicate, sym, ap, subst}
-use Rattle.maker_core.proofs.Common.{◌∙◌, arith, IfSome, common_steps, length-map, take_all, All-map, All-append, All-replicate, All-from_get_or}
-use Rattle.maker_core.proofs.Common.{recursion_from_All, mul-le, Stream, Solo, IsSolo, solo_puzzle, RuleSystem, Outcome, verdict_of, Solves, IsTrueOf}
-use Rattle.maker_core.proofs.Common.{IsAnswer, Verdict, houses_rules, IsSoloSolution, rule_from_test, shuffled_order, all_given, IsSoloSize, IsOrder}
-use Rattle.maker_core.proofs.Common.{top_row_given, first_grid, flipped_by_draw, x_filling}
-use Rattle.engine_core.specs.Verdict.{Outcome.NoSolution, Outcome.OneSolution, Outcome.SeveralSolutions, Outcome.GaveUp}
+use Rattle.maker_core.proofs.Common.{All-append, All-from_get_or, All-map, All-replicate, IfSome, IsAnswer, IsOrder, IsSolo, IsSoloSize, IsSoloSolution, IsTrueOf, List, None, Option, Outcome, Outcome.GaveUp, Outcome.NoSolution, Outcome.OneSolution, Outcome.SeveralSolutions, RuleSystem, Solo, Solves, Some, Stream, Verdict, all_given, ap, arith, common_steps, first_grid, flipped_by_draw, houses_rules, length, length-map, map, mul-le, recursion_from_All, replicate, rule_from_test, shuffled_order, suc, sym, top_row_given, true, verdict_of, x_filling, ℕ, ◌*◌, ◌++◌, ◌-◌, ◌∙◌, ◌≡◌, ◌≤◌}
 use Rattle.maker_core.proofs.FlippedHouses.{flipped-solution}
 use Rattle.maker_core.proofs.SoloFull.{given_first, written}
 
@@ -24,12 +19,11 @@ first_solves p (GaveUp (Some first)) is = is
 pub found_solves : (p : RuleSystem) {found first : Option (List ℕ)} (second : Option (List ℕ)) (answer : Verdict) (said : Outcome) → found ≡ first
     → IsAnswer answer first second said → IsTrueOf p said
     → IfSome found (Solves p)
-found_solves p second answer said lent is true_of =
-    subst (λ (f : Option (List ℕ)). IfSome f (Solves p)) (sym (lent ∙ first_is answer second said is)) (first_solves p said true_of)
+found_solves p second answer said lent is true_of = grind (arith, common_steps, first_is, first_solves)
 
 -- ---- the top row
 pub room : (c r : ℕ) → IsSoloSize c r → c * r ≤ (c * r) * (c * r)
-room c r size = grind (arith, mul-le 1 1 c r, mul-le 1 (c * r) (c * r) (c * r), size.c_low, size.r_low)
+room c r size = grind (arith, common_steps, mul-le)
 
 module _ (c r : ℕ) (numbers : List ℕ) (size : IsSoloSize c r) (order : IsOrder (c * r) numbers) where
   abbrev rest : ℕ
@@ -38,15 +32,12 @@ module _ (c r : ℕ) (numbers : List ℕ) (size : IsSoloSize c r) (order : IsOrd
   row : length (map suc numbers) ≡ c * r
   row = length-map numbers suc ∙ order.len
 
-  top_cells : length (map suc numbers ++ replicate rest 0) ≡ (c * r) * (c * r)
-  top_cells = grind (arith, common_steps, row, room c r size)
-
   pub top-solo : IsSolo (top_row_given c r numbers)
   top-solo = record {
     c_low = size.c_low;
     r_low = size.r_low;
     n_high = size.n_high;
-    cells = top_cells;
+    cells = grind (arith, common_steps, row, room c r size);
     range = recursion_from_All (λ v. v ≤ c * r) (map suc numbers ++ replicate rest 0)
         (All-append (λ v. v ≤ c * r) (map suc numbers) (replicate rest 0)
         (All-map (λ v. v ≤ c * r) suc numbers (All-from_get_or (λ v. suc v ≤ c * r) numbers 0 (λ k lt. grind (arith, order.len, order.within k))))
@@ -54,40 +45,33 @@ module _ (c r : ℕ) (numbers : List ℕ) (size : IsSoloSize c r) (order : IsOrd
   }
 
   pub top-all : (p : Solo) (k : ℕ) → p ≡ given_first c r true numbers k → k ≡ length numbers → p ≡ top_row_given c r numbers
-  top-all p k is all = is
-      ∙ rw (all, order.len) (ap (λ xs. solo_puzzle c r true (map suc xs ++ replicate rest 0)) (take_all (c * r) numbers (omega (arith, order.len))))
-
-  found-solution : (g : List ℕ) → Solves (houses_rules (top_row_given c r numbers)) g → IsSoloSolution (top_row_given c r numbers) g
-  found-solution g s = rule_from_test (top_row_given c r numbers) top-solo g s.grid s.good
+  top-all p k is all = grind (arith, common_steps)
 
   -- the flipped grid keeps to the rules
   pub flipped-found : (found : Option (List ℕ)) (t : Stream) → IfSome found (Solves (houses_rules (top_row_given c r numbers)))
       → IfSome (flipped_by_draw (c * r) found t).0 (λ g. IsSoloSolution (all_given c r true g) g)
   flipped-found None t s = tt
   flipped-found (Some g) t s =
-      let c_low = size.c_low in
-      let r_low = size.r_low in
-      flipped-solution c r true _ g (omega arith) (omega arith) _ _ (found-solution g s)
+      let solution = rule_from_test (top_row_given c r numbers) top-solo g s.grid s.good in
+      flipped-solution c r true _ g (omega (arith, size.c_low)) (omega (arith, size.r_low)) _ _ solution
 
 -- ---- the filling
 pub x-filling-is : {c r : ℕ} (budget : ℕ) {n : ℕ} (s : Stream) {t u : Stream} {numbers : List ℕ} {p : Solo} {q : RuleSystem}
     {found filling : Option (List ℕ)} → n ≡ c * r
-    → ◌≡◌ {A = List ℕ × Stream} (numbers, t) (shuffled_order n s) → p ≡ top_row_given c r numbers → q ≡ houses_rules p
+    → (numbers, t) ≡ shuffled_order n s → p ≡ top_row_given c r numbers → q ≡ houses_rules p
     → found ≡ first_grid (verdict_of q budget)
-    → ◌≡◌ {A = Option (List ℕ) × Stream} (filling, u) (flipped_by_draw n found t) → ◌≡◌ {A = Option (List ℕ) × Stream} (filling, u) (x_filling c r budget s)
+    → (filling, u) ≡ flipped_by_draw n found t → (filling, u) ≡ x_filling c r budget s
 x-filling-is {c} {r} budget {n} s {t} is drawn top rules first flipped =
-    flipped ∙ ap (λ (f : Option (List ℕ)). flipped_by_draw n f t)
-    (first ∙ ap (λ (z : RuleSystem). first_grid (verdict_of z budget)) (rules ∙ ap houses_rules top))
-    ∙ ap (λ (d : List ℕ × Stream). flipped_by_draw n (first_grid (verdict_of (houses_rules (top_row_given c r d.0)) budget)) d.1) drawn
-    ∙ ap (λ m. let d = shuffled_order m s in flipped_by_draw m (first_grid (verdict_of (houses_rules (top_row_given c r d.0)) budget)) d.1) is
+    rw (sym (rw is at drawn)) (rw is at (flipped ∙ ap (λ f. flipped_by_draw n f t)
+    (first ∙ ap (λ z. first_grid (verdict_of z budget)) (rules ∙ ap houses_rules top))))
 
 -- what is there of the filling keeps to the rules
 pub x-filling-solves : {c r n : ℕ} (t : Stream) {u : Stream} {numbers : List ℕ} {p : Solo} {q : RuleSystem} (found filling : Option (List ℕ))
     → IsSoloSize c r → IsOrder (c * r) numbers → n ≡ c * r
     → p ≡ top_row_given c r numbers → q ≡ houses_rules p → IfSome found (Solves q)
-    → ◌≡◌ {A = Option (List ℕ) × Stream} (filling, u) (flipped_by_draw n found t) → IfSome filling (λ g. IsSoloSolution (all_given c r true g) g)
+    → (filling, u) ≡ flipped_by_draw n found t → IfSome filling (λ g. IsSoloSolution (all_given c r true g) g)
 x-filling-solves {c} {r} t {numbers} found filling size order is top rules solves flipped =
-    rw (ap (λ (z : Option (List ℕ) × Stream). z.0) (rw is at flipped)) (flipped-found c r numbers size order found t (rw (rules, top) at solves))
+    rw (ap (λ z. z.0) (rw is at flipped)) (flipped-found c r numbers size order found t (rw (rules, top) at solves))
 
 -- what the writing of the top row cites
 pub ruleset top_laws = (written, top-all, room)

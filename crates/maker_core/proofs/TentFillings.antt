@@ -1,8 +1,5 @@
 -- What taking a cell does, as the definitions say it.
-use Rattle.maker_core.proofs.Common.{cases_eq, step-keep, step-none, step-skip, replicate, add-one, ◌≡◌, ℕ, ◌+◌, ◌*◌, ◌<◌, ◌≤◌, true, List, length, refl, sym}
-use Rattle.maker_core.proofs.Common.{ap, subst, ◌∙◌, arith, slice_index, slice_set, filter, Stream, Extent, steps, has_place, has_place-here}
-use Rattle.maker_core.proofs.Common.{place-filter, beside-in, filter-few, steps-few, TentFilling, shuffled_order, no_tents, is_free, free_cells_beside}
-use Rattle.maker_core.proofs.Common.{may_have_tent, take_cell, tents_after, tent_filling, IsPlaced}
+use Rattle.maker_core.proofs.Common.{Extent, IsPlaced, List, Stream, TentFilling, add-one, ap, arith, beside-in, cases_eq, common_steps, filter, filter-few, free_cells_beside, has_place, has_place-here, is_free, length, may_have_tent, no_tents, place-filter, refl, replicate, shuffled_order, slice_index, slice_set, step-keep, step-none, step-skip, steps, steps-few, subst, sym, take_cell, tent_filling, tents_after, true, ℕ, ◌*◌, ◌+◌, ◌<◌, ◌≡◌, ◌≤◌}
 
 pub wide : (size : Extent) {c : ℕ} → c < size.w * size.h → 1 ≤ size.w
 wide size lt = grind (arith, cases_eq size.w 0)
@@ -10,11 +7,11 @@ wide size lt = grind (arith, cases_eq size.w 0)
 pub free_all : (size : Extent) (filling : TentFilling) (c : ℕ) {n : ℕ} {places : List ℕ}
     → places ≡ filter (is_free filling) (steps size c n) → n ≡ 4 → places ≡ free_cells_beside size filling c
 unfolding free_cells_beside
-free_all size filling c is all = is ∙ ap (λ k. filter (is_free filling) (steps size c k)) all
+free_all size filling c is all = grind (arith, common_steps)
 
 pub free_few : (size : Extent) (filling : TentFilling) (c : ℕ) → length (free_cells_beside size filling c) ≤ 4
 unfolding free_cells_beside
-free_few size filling c = let a = filter-few (is_free filling) (steps size c 4) in let b = steps-few size c 4 in omega arith
+free_few size filling c = grind (arith, common_steps, filter-few, steps-few)
 
 pub free_place : (size : Extent) (filling : TentFilling) (c t : ℕ) → has_place (free_cells_beside size filling c) t ≡ true
     → (has_place (steps size c 4) t ≡ true) × (is_free filling t ≡ true)
@@ -25,37 +22,31 @@ free_place size filling c t on = place-filter (is_free filling) (steps size c 4)
 pub placed_is : {size : Extent} {filling new : TentFilling} {c k : ℕ} (free : List ℕ) → free ≡ free_cells_beside size filling c
     → k < length free → may_have_tent size filling c ≡ true
     → new.trees ≡ slice_set filling.trees (slice_index free k) 1 → new.tents ≡ slice_set filling.tents c 1 → IsPlaced size filling c new
-placed_is {k} free is below may trees tents = record {
-  may = may;
-  tree = slice_index free k;
-  free = subst (λ (xs : List ℕ). has_place xs (slice_index free k) ≡ true) is (has_place-here free k below);
-  trees = trees;
-  tents = tents;
-}
+placed_is {k} free is below may trees tents = grind (arith, common_steps, has_place-here)
 
 -- a free cell beside a cell lies in the grid
 pub free_in : (size : Extent) (filling : TentFilling) (c k : ℕ) (free : List ℕ) → c < size.w * size.h
     → free ≡ free_cells_beside size filling c → k < length free → slice_index free k < size.w * size.h
 free_in size filling c k free lt is below =
     beside-in size c (slice_index free k) (wide size lt) lt
-    (free_place size filling c (slice_index free k) (subst (λ (xs : List ℕ). has_place xs (slice_index free k) ≡ true) is (has_place-here free k below))).0
+    (free_place size filling c (slice_index free k) (subst (λ xs. has_place xs (slice_index free k) ≡ true) is (has_place-here free k below))).0
 
 -- ---- the cells in turn
 pub none_after : (size : Extent) (order : List ℕ) {filling : TentFilling} {s : Stream} → filling ≡ no_tents size
-    → ◌≡◌ {A = TentFilling × Stream} (filling, s) (tents_after size order 0 s)
+    → (filling, s) ≡ tents_after size order 0 s
 unfolding tents_after
 none_after size order {s} is = ap (λ c. (c, s)) is
 
 pub more_after : (size : Extent) (order : List ℕ) (k : ℕ) {c : ℕ} {old new : TentFilling} (s : Stream) {t u : Stream}
-    → ◌≡◌ {A = TentFilling × Stream} (old, t) (tents_after size order k s)
-    → ◌≡◌ {A = TentFilling × Stream} (new, u) (take_cell size old c t) → c ≡ slice_index order k
-    → ◌≡◌ {A = TentFilling × Stream} (new, u) (tents_after size order (k + 1) s)
+    → (old, t) ≡ tents_after size order k s
+    → (new, u) ≡ take_cell size old c t → c ≡ slice_index order k
+    → (new, u) ≡ tents_after size order (k + 1) s
 unfolding tents_after
 more_after size order k s before drawn at = rw (add-one, sym before, sym at) drawn
 
 pub filled : (size : Extent) {places order : List ℕ} {filling : TentFilling} {n : ℕ} (s : Stream) {t u : Stream} → n ≡ size.w * size.h
-    → ◌≡◌ {A = List ℕ × Stream} (places, t) (shuffled_order n s) → order ≡ places
-    → ◌≡◌ {A = TentFilling × Stream} (filling, u) (tents_after size order (length order) t) → ◌≡◌ {A = TentFilling × Stream} (filling, u) (tent_filling size s)
+    → (places, t) ≡ shuffled_order n s → order ≡ places
+    → (filling, u) ≡ tents_after size order (length order) t → (filling, u) ≡ tent_filling size s
 unfolding tent_filling
 filled size s cells drawn lent after = rw (sym cells, sym drawn, sym lent) after
 

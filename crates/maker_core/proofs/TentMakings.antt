@@ -1,8 +1,5 @@
--- The puzzle of a filling has its trees and the numbers of its tents, and its tents are the solution.
-use Rattle.maker_core.proofs.Common.{◌≡◌, ℕ, ◌+◌, ◌<◌, List, length, subst, refl, sym, ap, ◌∙◌, slice_index, IsTrue, ◌↔◌, Extent, row_cells}
-use Rattle.maker_core.proofs.Common.{column_cells, ones, Tents, lines_of, IsGridOf, tent_rules, IsTentSolution, TentFilling, HasOne, TellsOne, IsOnlySolution}
-use Rattle.maker_core.proofs.Common.{tents_puzzle_of}
-use Rattle.maker_core.proofs.OnlySolutions.{one_is}
+-- The puzzle of a filling has its trees and the numbers of its tents.
+use Rattle.maker_core.proofs.Common.{Extent, TentFilling, Tents, ap, column_cells, length, lines_of, ones, refl, row_cells, slice_index, tents_puzzle_of, ℕ, ◌+◌, ◌<◌, ◌∙◌, ◌≡◌}
 use Rattle.maker_core.proofs.PatternMakings.{each_line}
 
 -- a puzzle with those trees and numbers
@@ -21,11 +18,4 @@ tents_is size filling p lines has =
 
 pub tents_size : (size : Extent) (filling : TentFilling) (p : Tents) → p ≡ tents_puzzle_of size filling → p.size ≡ size
 unfolding tents_puzzle_of
-tents_size size filling p is = ap (λ (q : Tents). q.size) is
-
-pub tents_only : (size : Extent) (filling : TentFilling) (p : Tents) → p ≡ tents_puzzle_of size filling
-    → IsTentSolution (tents_puzzle_of size filling) filling.tents
-    → ((q : Tents) (h : List ℕ) → IsGridOf (tent_rules q) h → (IsTrue ((tent_rules q).is_solution h)) ↔ IsTentSolution q h)
-    → (budget : ℕ) → HasOne (tent_rules p) budget → IsOnlySolution (IsTentSolution p) filling.tents × TellsOne (tent_rules p) budget filling.tents
-tents_only size filling p is solution accepted budget one =
-    one_is (tent_rules p) (IsTentSolution p) (λ h s. s.grid) (accepted p) one (subst (λ (q : Tents). IsTentSolution q filling.tents) (sym is) solution)
+tents_size size filling p is = ap (λ q. q.size) is

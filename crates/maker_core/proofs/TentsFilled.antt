@@ -1,26 +1,20 @@
 -- Each filling of Tents over a stream of words solves its puzzle.
-use Rattle.maker_core.proofs.Common.{◌≡◌, ℕ, zero, suc, ◌*◌, ◌<◌, ◌≤◌, true, List, length, refl, subst, add-one, inl, inr, arith, slice_index}
-use Rattle.maker_core.proofs.Common.{cond_both, mul-le, Stream, Extent, IsExtent, IsGrid, IsTentSolution, HasWords, draw_below, shuffled_order}
-use Rattle.maker_core.proofs.Common.{stream_after, IsOrder, tents_after, free_cells_beside, may_have_tent, place_tent, take_cell, tent_filling}
-use Rattle.maker_core.proofs.Common.{tents_puzzle_of, IsTaken, TentFilling}
+use Rattle.maker_core.proofs.Common.{Extent, HasWords, IsExtent, IsGrid, IsOrder, IsTaken, IsTentSolution, List, Stream, TentFilling, add-one, arith, cond_both, free_cells_beside, inl, inr, length, may_have_tent, mul-le, place_tent, refl, shuffled_order, slice_index, stream_after, subst, suc, take_cell, tent_filling, tents_after, tents_puzzle_of, true, zero, ℕ, ◌*◌, ◌≡◌, ◌≤◌}
 use Rattle.maker_core.proofs.TentFillings.{free_few, placed_is}
 use Rattle.maker_core.proofs.TentsSolved.{IsFillingAfter, filling_none, filling_step}
-use Rattle.maker_core.proofs.Shuffles.{IsDrawnBelow, draw_is, IsShuffledOrder, order_is}
+use Rattle.maker_core.proofs.Shuffles.{draw_is, IsShuffledOrder, order_is}
 
 -- a filling, and words after it
 record IsTakenBy (size : Extent) (old : TentFilling) (c : ℕ) (q : TentFilling × Stream) : Type 0 where
   taken : IsTaken size old c q.0
   words : HasWords q.1
 
-some_free : (size : Extent) (filling : TentFilling) (c : ℕ) → may_have_tent size filling c ≡ true → 0 < length (free_cells_beside size filling c)
-some_free size filling c may = grind arith
-
 place_takes : (size : Extent) {filling : TentFilling} (c : ℕ) (s : Stream) → may_have_tent size filling c ≡ true → HasWords s
     → IsTakenBy size filling c (place_tent size filling c s)
 place_takes size {filling} c s may words =
-    let free : List ℕ = free_cells_beside size filling c in
+    let free = free_cells_beside size filling c in
     let few = free_few size filling c in
-    let drawn : IsDrawnBelow (length free) (draw_below (length free) s) = draw_is (length free) s (some_free size filling c may) (omega arith) words in
+    let drawn = draw_is (length free) s (grind arith) (omega arith) words in
     record { taken = inr (placed_is free refl drawn.below may refl refl); words = drawn.words }
 
 cell_takes : (size : Extent) (filling : TentFilling) (c : ℕ) (s : Stream) → HasWords s → IsTakenBy size filling c (take_cell size filling c s)

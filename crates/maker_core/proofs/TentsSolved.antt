@@ -1,9 +1,5 @@
 -- Cells that were taken in turn: each tent has a tree of its own beside it, none stands on a tree, and no two touch.
-use Rattle.maker_core.proofs.Common.{◌≡◌, ℕ, ◌+◌, ◌*◌, ◌<◌, ◌≤◌, true, false, ◌&&◌, cond, List, [], ◌∷◌, length, map, replicate, refl, sym, ap}
-use Rattle.maker_core.proofs.Common.{subst, ◌∙◌, arith, inl, inr, ◌==◌, slice_index, filter, range_with_len, elements, length-filter, map-map, Extent}
-use Rattle.maker_core.proofs.Common.{IsGrid, steps, row_places, column_places, any_below-none, at_column, at_row, lines_ones, ones, has_place, tent}
-use Rattle.maker_core.proofs.Common.{touches, tents_in_column, tents_in_row, IsTentSolution, steps-some, step-up, step-left, step-right, step-down}
-use Rattle.maker_core.proofs.Common.{beside-in, tent-in, TentFilling, IsOrder, no_tents, tents_puzzle_of, IsPlaced, IsTaken}
+use Rattle.maker_core.proofs.Common.{Extent, IsGrid, IsOrder, IsPlaced, IsTaken, IsTentSolution, List, TentFilling, [], any_below-none, ap, arith, at_column, at_row, beside-in, column_places, cond, elements, false, filter, has_place, inl, inr, length, length-filter, lines_ones, map, map-map, no_tents, ones, range_with_len, refl, replicate, row_places, slice_index, step-down, step-left, step-right, step-up, steps, steps-some, subst, sym, tent, tent-in, tents_in_column, tents_in_row, tents_puzzle_of, touches, true, ℕ, ◌&&◌, ◌*◌, ◌+◌, ◌<◌, ◌==◌, ◌∙◌, ◌∷◌, ◌≡◌, ◌≤◌}
 use Rattle.maker_core.proofs.WrittenGrids.{grid_with, new_or_old, no_one, zeros-grid}
 use Rattle.maker_core.proofs.TentFillings.{free_place}
 
@@ -17,8 +13,7 @@ pub record IsFillingAfter (size : Extent) (order : List ℕ) (k : ℕ) (filling 
 -- ---- cells
 none_itself : (size : Extent) (c : ℕ) → 1 ≤ size.w → has_place (steps size c 4) c ≡ true → ⊥
 none_itself size c w on =
-    let s = steps-some size c 4 c on in
-    grind (arith, step-up size c c, step-left size c c, step-right size c c, step-down size c c)
+    grind (arith, step-up size c c, step-left size c c, step-right size c c, step-down size c c, steps-some size c 4 c on)
 
 touch_back : (size : Extent) (a b : ℕ) → touches size a b ≡ true → touches size b a ≡ true
 unfolding touches
@@ -31,7 +26,7 @@ touch_itself size a = grind arith
 -- ---- the rules
 filtered_ones : (g xs : List ℕ) → length (filter (tent g) xs) ≡ ones (map (slice_index g) xs)
 filtered_ones g [] = refl
-filtered_ones g (x ∷ xs) = let e = filtered_ones g xs in grind arith
+filtered_ones g (x ∷ xs) = grind (arith, filtered_ones g xs)
 
 column_count : (size : Extent) (g : List ℕ) (x : ℕ) → x < size.w → tents_in_column size g x ≡ slice_index (lines_ones size g) x
 column_count size g x lt =
@@ -98,8 +93,7 @@ new_from size k c old new w ordered lt at before p =
       other = λ e. none_itself size c w (subst (λ x. has_place (steps size c 4) x ≡ true) (sym e) free.0);
       beside = free.0;
       alone = λ d on.
-          let inside = tent-in old.tents (size.w * size.h) d before.tents_grid.each_cell on in
-          grind (arith, any_below-none (λ d. touches size c d && tent old.tents d) (size.w * size.h));
+          grind (arith, any_below-none (λ d. touches size c d && tent old.tents d) (size.w * size.h), tent-in old.tents (size.w * size.h) d before.tents_grid.each_cell on);
     }
 
 filling_more : (size : Extent) {order : List ℕ} (k c : ℕ) (old new : TentFilling) → IsFillingAfter size order k old

@@ -1,15 +1,10 @@
 -- The reasons that were written are those of the clues that are left, by place.
-use Rattle.maker_core.proofs.Common.{◌≡◌, ℕ, suc, ◌+◌, ◌<◌, ◌≤◌, Bool, true, false, eqb, List, [], ◌∷◌, ◌++◌, Option, Some, None, length, get_or, map}
-use Rattle.maker_core.proofs.Common.{take, drop, replicate, refl, add-one, sym, ◌∙◌, ap, subst, arith, length-take, ◌⊎◌, inl, inr, filter, All}
-use Rattle.maker_core.proofs.Common.{Contains, IsPermutation, range_with_len, take_more, drop_all, append-nil, get_or-replicate, get_or_past}
-use Rattle.maker_core.proofs.Common.{length-replicate, All-contains, All-cons, All-nil, filter_passes, Contains-permutation, IsPermutation-sym}
-use Rattle.maker_core.proofs.Common.{IsDistinct-IsPermutation, nat_eq_equiv, Kept, Why, TellsOne, CluedGame, IsGame, has_clue, clue_places, IsOnly}
-use Rattle.maker_core.proofs.Common.{IsReason, AreReasons, IsTold, IsThinning, reasons_from, distinct_filtered_range}
+use Rattle.maker_core.proofs.Common.{All, All-cons, All-contains, All-nil, AreReasons, Bool, CluedGame, Contains, Contains-permutation, IsDistinct-IsPermutation, IsGame, IsOnly, IsPermutation, IsPermutation-sym, IsReason, IsThinning, IsTold, Kept, List, None, Option, Some, TellsOne, Why, [], add-one, ap, append-nil, arith, clue_places, common_steps, distinct_filtered_range, drop, eqb, false, filter, filter_passes, get_or, get_or-replicate, get_or_past, has_clue, inl, inr, length, length-replicate, length-take, map, nat_eq_equiv, range_with_len, reasons_from, refl, replicate, subst, suc, sym, take, true, ℕ, ◌++◌, ◌+◌, ◌<◌, ◌∙◌, ◌∷◌, ◌≡◌, ◌≤◌, ◌⊎◌}
 use Rattle.maker_core.proofs.FilteredRanges.{passes_kept}
 use Rattle.maker_core.proofs.ThinningTurns.{some_of, none_of, within_itself}
 
 blank_at : (n place : ℕ) → get_or (replicate {A = Option Why} n None) place None ≡ None
-blank_at n place = grind (arith, get_or-replicate {A = Option Why}, get_or_past {X = Option Why}, length-replicate {A = Option Why})
+blank_at n place = grind (arith, common_steps, get_or-replicate, get_or_past, length-replicate)
 
 one_reason : ℕ → Option Why → List Kept
 one_reason place None = []
@@ -25,9 +20,7 @@ reasons_more (Some why ∷ xs) o a b e = ap (λ ks. record { place = a; why = wh
 -- one place more
 taken_more : (whys : List (Option Why)) (k : ℕ) (o : Option Why) → k < length whys → get_or whys k None ≡ o
     → reasons_from 0 (take (k + 1) whys) ≡ reasons_from 0 (take k whys) ++ one_reason k o
-taken_more whys k o below is =
-    ap (reasons_from 0) (take_more whys k None below ∙ ap (λ x. take k whys ++ x ∷ []) is)
-    ∙ reasons_more (take k whys) o 0 k (omega (arith, length-take k whys))
+taken_more whys k o below is = grind (arith, common_steps, reasons_more, length-take)
 
 pub reason_kept : (whys : List (Option Why)) {k : ℕ} {why : Why} {before after : List Kept} → k < length whys → get_or whys k None ≡ Some why
     → before ≡ reasons_from 0 (take k whys) → after ≡ before ++ record { place = k; why = why } ∷ [] → after ≡ reasons_from 0 (take (k + 1) whys)
@@ -68,7 +61,7 @@ module _ {A : Type 0} (game : CluedGame A) (budget : ℕ) (all p : A) where
 -- all clues were tried
 pub all_tried : {A : Type 0} {game : CluedGame A} {budget : ℕ} {all p : A} {whys : List (Option Why)} (order : List ℕ) {k : ℕ} → length order ≤ k
     → IsThinning game budget all p whys (drop k order) → IsThinning game budget all p whys []
-all_tried {game} {budget} {all} {p} {whys} order {k} over left = subst (IsThinning game budget all p whys) (drop_all k order over) left
+all_tried {game} {budget} {all} {p} {whys} order {k} over left = grind (arith, common_steps)
 
 module _ {A : Type 0} {game : CluedGame A} (laws : IsGame game) {budget : ℕ} {all p : A} (answer : List ℕ) {whys : List (Option Why)}
     (now : IsThinning game budget all p whys []) where
@@ -88,16 +81,14 @@ module _ {A : Type 0} {game : CluedGame A} (laws : IsGame game) {budget : ℕ} {
 
   -- the one solution is still the answer
   pub answer_left : IsOnly (game.rules all) answer → IsOnly (game.rules p) answer × TellsOne (game.rules p) budget answer
-  answer_left only =
-      let same = now.one.only.1 answer (laws.solutions_stay p all answer now.within only.0) in
-      subst (λ g. IsOnly (game.rules p) g × TellsOne (game.rules p) budget g) same (now.one.only, now.one.found)
+  answer_left only = grind (arith, common_steps)
 
 -- before any clue is tried
 pub thinning_start : {A : Type 0} {game : CluedGame A} → IsGame game → (budget : ℕ) (p : A) (answer : List ℕ) {order : List ℕ} (whys : List (Option Why))
     → IsOnly (game.rules p) answer → TellsOne (game.rules p) budget answer → IsPermutation (clue_places game p) order
     → whys ≡ replicate (game.cells p) None → IsThinning game budget p p whys order
 thinning_start {game} laws budget p answer {order} whys only found mixed blank = record {
-  within = within_itself game laws;
+  within = within_itself laws;
   one = record { answer = answer; found = found; only = only };
   waiting =
       λ place held. All-contains (λ c. has_clue game p c ≡ true) (clue_places game p) place

@@ -1,17 +1,14 @@
 -- Grids of 0 and 1, of which a cell is written.
-use Rattle.maker_core.proofs.Common.{◌≡◌, ℕ, ◌<◌, true, List, length, replicate, ◌∙◌, arith, ◌⊎◌, get_or, set, sym, ap, ◌==◌, slice_index, slice_set}
-use Rattle.maker_core.proofs.Common.{elements, get_or-replicate, get_or_past, length-replicate, length-set, set-set, set-get_or, All-replicate}
-use Rattle.maker_core.proofs.Common.{All-set, IsGrid}
+use Rattle.maker_core.proofs.Common.{All-replicate, All-set, IsGrid, List, ap, arith, common_steps, elements, get_or, get_or-replicate, get_or_past, length, length-replicate, length-set, replicate, set, set-get_or, set-set, slice_index, slice_set, sym, true, ℕ, ◌<◌, ◌==◌, ◌∙◌, ◌≡◌, ◌⊎◌}
 
 pub zeros-grid : {n : ℕ} → IsGrid n 2 (replicate n 0)
-zeros-grid {n} = record { each_cell = length-replicate n 0; each_value = All-replicate (λ v. v < 2) n 0 (omega arith) }
+zeros-grid {n} = grind (arith, common_steps, length-replicate, All-replicate)
 
 pub grid_with : {n : ℕ} (c v : ℕ) {g h : List ℕ} → v < 2 → h ≡ slice_set g c v → IsGrid n 2 g → IsGrid n 2 h
-grid_with c v {g} few e grid =
-    rw e (record { each_cell = length-set g c v ∙ grid.each_cell; each_value = All-set (λ x. x < 2) g c v few grid.each_value })
+grid_with c v {g} few e grid = grind (arith, common_steps, length-set, All-set)
 
 pub no_one : (n c : ℕ) → (slice_index (replicate n 0) c == 1) ≡ true → ⊥
-no_one n c on = grind (arith, elements, length-replicate {A = ℕ} n 0, get_or-replicate {A = ℕ} n c 0 0, get_or_past {X = ℕ} (replicate n 0) c 0)
+no_one n c on = grind (arith, common_steps, length-replicate, get_or-replicate, get_or_past)
 
 -- the cells that hold 1 when one more does: that one, and those that held it before
 pub new_or_old : (g : List ℕ) (c d : ℕ) → (slice_index (slice_set g c 1) d == 1) ≡ true → (d ≡ c) ⊎ ((slice_index g d == 1) ≡ true)

@@ -1,5 +1,6 @@
 -- A list of houses from which some are left out is no longer, and has no longer house.
-use Rattle.std.proofs.Common.{◌≡◌, ℕ, zero, suc, ◌+◌, ◌<◌, ◌≤◌, List, [], ◌++◌, length, sym, subst, arith, inl, inr, ◌⊎◌}
+use Rattle.std.proofs.lemmas.Grind.{common_steps}
+use Rattle.std.proofs.Common.{◌≡◌, ℕ, zero, suc, ◌<◌, ◌≤◌, List, [], ◌++◌, length, sym, subst, arith, inl, inr, ◌⊎◌}
 use Rattle.std.proofs.Math.Nat.{le_refl, max-le}
 use Rattle.std.proofs.lemmas.List.{length-append, get_or_append_left, get_or-append-add}
 use Rattle.engine_core.specs.RuleSystem.{longest}
@@ -19,13 +20,13 @@ pub fewer_itself : {xs : List CountHouse} → IsFewer xs xs
 fewer_itself = record { fewer = le_refl _; short = λ m each. each }
 
 fewer_none : {xs : List CountHouse} → IsFewer [] xs
-fewer_none = record { fewer = omega arith; short = λ m each h lt. absurd (omega arith) }
+fewer_none = grind (arith, common_steps)
 
 front : (P : CountHouse → Type 0) (xs ys : List CountHouse) → EachOf P (xs ++ ys) → EachOf P xs
 front P xs ys each h lt = subst P (get_or_append_left xs ys no_count_house h lt) (each h (omega (arith, lt, length-append xs ys)))
 
 back : (P : CountHouse → Type 0) (xs ys : List CountHouse) → EachOf P (xs ++ ys) → EachOf P ys
-back P xs ys each h lt = subst P (get_or-append-add xs ys h no_count_house) (each (length xs + h) (omega (arith, lt, length-append xs ys)))
+back P xs ys each h lt = subst P (get_or-append-add xs ys h no_count_house) (each _ (omega (arith, lt, length-append xs ys)))
 
 pub fewer_append : {xs ys us vs : List CountHouse} → IsFewer xs ys → IsFewer us vs → IsFewer (xs ++ us) (ys ++ vs)
 fewer_append {xs} {ys} {us} {vs} first second = record {
@@ -51,5 +52,4 @@ longest_at_most scope (suc n) each = max-le (longest_at_most scope n (λ h lt. e
 pub longest_of_fewer : {xs ys : List CountHouse} → IsFewer xs ys
     → longest (λ h. (count_house_of xs h).places) (length xs) ≤ longest (λ h. (count_house_of ys h).places) (length ys)
 longest_of_fewer {xs} {ys} less =
-    longest_at_most (λ h. (count_house_of xs h).places) (length xs)
-    (less.short _ (λ h lt. scope_le-longest (λ k. (count_house_of ys k).places) (length ys) h lt))
+    longest_at_most _ (length xs) (less.short _ (λ h lt. scope_le-longest _ (length ys) h lt))

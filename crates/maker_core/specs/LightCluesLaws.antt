@@ -1,7 +1,7 @@
 -- What fewer numbers change.
-use Rattle.std.proofs.Common.{◌≡◌, ◌≢◌, ℕ, ◌<◌, true, false, cond, Some, List, [], length, map, get_or, set, refl, sym, ◌∙◌, ap, subst, arith, inl, inr, ◌⊎◌}
+use Rattle.std.proofs.lemmas.Grind.{common_steps}
+use Rattle.std.proofs.Common.{◌≡◌, ◌≢◌, ℕ, ◌<◌, true, false, Some, List, [], length, map, get_or, set, refl, sym, ◌∙◌, ap, subst, arith, inl, inr, ◌⊎◌}
 use Rattle.std.specs.Prelude.{filter, slice_index_or, slice_set}
-use Rattle.std.specs.List.{range_with_len}
 use Rattle.std.proofs.Math.Nat.{le_refl}
 use Rattle.std.proofs.Math.Path.{fun_ext}
 use Rattle.std.proofs.Math.ListN.{get_or-map}
@@ -15,7 +15,7 @@ use Rattle.gameid_core.specs.Puzzles.{Light}
 use Rattle.gameid_core.specs.declared.light_up.cell.LightCell.{LightCell}
 use Rattle.gameid_core.specs.declared.light_up.cell.LightCell.TheVariants.{White, Black, Numbered}
 use Rattle.engine_core.specs.Verdict.{Solves}
-use Rattle.fields_core.specs.Light.{light_cells, is_white, white, joined_in_row, joined_in_column, sees, sees_bulb, bulbs_beside, number_is, black_right, number_right, bulb_right, lit_right, solves_lights}
+use Rattle.fields_core.specs.Light.{is_white, white, joined_in_row, joined_in_column, sees, sees_bulb, number_is, black_right, number_right, bulb_right, lit_right, solves_lights}
 use Rattle.fields_core.specs.LightHouses.{row_run, column_run, seen_from, begins_row_run, begins_column_run, numbered, number_house, row_house, column_house, lit_house, light_houses, light_rules}
 use Rattle.fields_core.proofs.LightFaultLemmas.{lit-from, lit-parts}
 use Rattle.maker_core.specs.Thinning.{IsThinnedFrom, IsGame}
@@ -37,7 +37,7 @@ unfolding white
 white_map p c = sym (get_or-map is_white p.cells c Black)
 
 same_white : (p q : Light) → map is_white p.cells ≡ map is_white q.cells → white p ≡ white q
-same_white p q same = fun_ext λ c. white_map p c ∙ ap (λ whites. get_or whites c false) same ∙ sym (white_map q c)
+same_white p q same = grind (arith, common_steps, white_map)
 
 -- ---- fewer numbers
 pub numbered_is : {cell : LightCell} {n : ℕ} → number_clue cell ≡ Some n → cell ≡ Numbered n
@@ -55,13 +55,12 @@ unfolding with_cells number_right black_right bulb_right lit_right sees_bulb see
 lit_stays p cells g same clues lit =
     let parts = lit-parts (with_cells p.size cells) g lit in
     let q = with_cells p.size cells in
-    lit-from p g (all_below-from (black_right p g) (light_cells p)
-    (λ c below. simp whites (all_below-at (black_right q g) (light_cells p) c parts.black below)))
-    (all_below-from (number_right p g) (light_cells p) (λ c below.
+    lit-from p g (all_below-from _ _ (λ c below. simp whites (all_below-at _ _ c parts.black below)))
+    (all_below-from _ _ (λ c below.
     number_stays (slice_index_or p.cells c Black) (slice_index_or cells c Black) _ (clues c)
-    (all_below-at (number_right q g) (light_cells p) c parts.number below)))
-    (all_below-from (bulb_right p g) (light_cells p) (λ c below. simp whites (all_below-at (bulb_right q g) (light_cells p) c parts.seen below)))
-    (all_below-from (lit_right p g) (light_cells p) (λ c below. simp whites (all_below-at (lit_right q g) (light_cells p) c parts.lit below)))
+    (all_below-at _ _ c parts.number below)))
+    (all_below-from _ _ (λ c below. simp whites (all_below-at _ _ c parts.seen below)))
+    (all_below-from _ _ (λ c below. simp whites (all_below-at _ _ c parts.lit below)))
   where
     whites : (c : ℕ) → white p c ≡ white (with_cells p.size cells) c
     whites c = ap (λ wh. wh c) (same_white p (with_cells p.size cells) same)
@@ -72,34 +71,30 @@ lit_by_fewer p q g w lit = lit_stays p q.cells g w.frame.black w.clues (subst (�
 
 solutions_stay : (p q : Light) (g : List ℕ) → IsThinnedFrom light_game p q → Solves (light_rules q) g → Solves (light_rules p) g
 unfolding with_cells
-solutions_stay p q g w s = record {
-  grid = (subst (λ x. Solves (light_rules x) g) (resized w.frame) s).grid;
-  good = lit_by_fewer p q g w s.good;
-}
+solutions_stay p q g w s = grind (arith, common_steps, resized, lit_by_fewer)
 
 -- ---- houses and needs
 without_number : Light → ℕ → Light
 without_number p place = record p { cells = set p.cells place Black }
 
 cleared : (cells : List LightCell) (place : ℕ) → slice_index_or (slice_set cells place Black) place Black ≡ Black
-cleared cells place =
-    grind (arith, cases_lt place (length cells), get_or-set_same cells place Black Black, get_or_past (set cells place Black) place Black, length-set cells place Black)
+cleared cells place = grind (arith, common_steps, cases_lt, get_or-set_same, get_or_past, length-set)
 
 not_white : (cell : LightCell) {n : ℕ} → number_clue cell ≡ Some n → is_white cell ≡ false
 not_white cell e = ap is_white (numbered_is e)
 
 same_without : (p : Light) (place n : ℕ) → number_clue (slice_index_or p.cells place Black) ≡ Some n → SameLight (without_number p place) p
 unfolding without_number
-same_without p place n e = record { size = refl; black = map-set_same is_white p.cells place Black Black (sym (not_white _ e)) }
+same_without p place n e = grind (arith, common_steps, map-set_same, not_white)
 
 fewer_houses : (p : Light) (place n : ℕ) → number_clue (slice_index_or p.cells place Black) ≡ Some n
     → IsFewer (light_houses (without_number p place)) (light_houses p)
 unfolding without_number light_houses row_run column_run seen_from begins_row_run begins_column_run joined_in_row joined_in_column
 fewer_houses p place n e =
-    fewer_append (fewer_below (number_house (without_number p place)) (number_house p) (light_cells p) (λ c. by c (cases_eq c place)))
-    (fewer_append (fewer_below (row_house (without_number p place)) (row_house p) (light_cells p) (λ c. inl (simp (joined_row, white_at))))
-    (fewer_append (fewer_below (column_house (without_number p place)) (column_house p) (light_cells p) (λ c. inl (simp (joined_column, white_at))))
-    (fewer_below (lit_house (without_number p place)) (lit_house p) (light_cells p) (λ c. inl (simp (joined_row, joined_column, white_at))))))
+    fewer_append (fewer_below (number_house (without_number p place)) _ _ (λ c. by c (cases_eq c place)))
+    (fewer_append (fewer_below (row_house (without_number p place)) _ _ (λ c. inl (simp (joined_row, white_at))))
+    (fewer_append (fewer_below (column_house (without_number p place)) _ _ (λ c. inl (simp (joined_column, white_at))))
+    (fewer_below (lit_house (without_number p place)) _ _ (λ c. inl (simp (joined_row, joined_column, white_at))))))
   where
     whites : white (without_number p place) ≡ white p
     whites = same_white (without_number p place) p (same_without p place n e).black
@@ -126,15 +121,12 @@ clue_in : (cells : List LightCell) {place n : ℕ} → number_clue (slice_index_
 clue_in cells {place} e = grind (arith, get_or_past cells place Black)
 
 same_length : (p q : Light) → map is_white p.cells ≡ map is_white q.cells → length p.cells ≡ length q.cells
-same_length p q same = sym (length-map p.cells is_white) ∙ ap length same ∙ length-map q.cells is_white
+same_length p q same = grind (arith, common_steps, length-map)
 
 told_same : (p : Light) (cells : List LightCell) (g : List ℕ) → map is_white p.cells ≡ map is_white cells
     → light_game.all_clues p g ≡ light_game.all_clues (with_cells p.size cells) g
 unfolding with_cells with_numbers
-told_same p cells g same =
-    ap (λ wh. with_cells p.size
-    (map (λ place. cond (wh place) White (Numbered (bulbs_beside p g place))) (range_with_len 0 (light_cells p))))
-    (same_white p (with_cells p.size cells) same)
+told_same p cells g same = grind (arith, common_steps, with_cells, same_white)
 
 pub light_is_game : IsGame light_game
 unfolding without_number

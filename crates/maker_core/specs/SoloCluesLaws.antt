@@ -1,19 +1,18 @@
 -- What fewer givens change.
-use Rattle.std.proofs.Common.{◌≡◌, ℕ, zero, suc, ◌+◌, ◌<◌, ◌≤◌, true, Some, List, length, set, refl, sym, ◌∙◌, ap, subst, arith}
+use Rattle.std.proofs.lemmas.Grind.{common_steps}
+use Rattle.std.proofs.Common.{◌≡◌, ℕ, zero, suc, ◌+◌, ◌<◌, ◌≤◌, true, Some, List, length, refl, sym, ◌∙◌, ap, subst, arith}
 use Rattle.std.specs.Prelude.{slice_index, slice_set}
 use Rattle.std.proofs.Math.Nat.{le_refl}
 use Rattle.std.proofs.lemmas.Bool.{cases_lt, and_parts, and_from}
 use Rattle.std.proofs.lemmas.Option.{none-some}
 use Rattle.std.proofs.lemmas.List.{get_or-set_other, get_or-set_same, get_or_past, length-set}
-use Rattle.grid_core.specs.Candidates.{all_below}
 use Rattle.grid_core.proofs.CandidateLemmas.{all_below-at, all_below-from}
 use Rattle.gameid_core.specs.Puzzles.{Solo, solo_puzzle}
 use Rattle.engine_core.specs.Verdict.{Solves}
 use Rattle.solo_core.specs.RuleSets.{houses_rules}
 use Rattle.solo_core.specs.declared.houses.house.NamedHouse.{NamedHouse}
-use Rattle.solo_core.specs.Cells.{solo_cells}
 use Rattle.solo_core.specs.Houses.{IsHouseOf, lies_in}
-use Rattle.solo_core.specs.Solutions.{IsSoloSolution, given_stands, is_solo_solution}
+use Rattle.solo_core.specs.Solutions.{IsSoloSolution, is_solo_solution}
 use Rattle.solo_core.specs.SolutionLaws.{given_from_test, test_from_given}
 use Rattle.maker_core.specs.SoloFilling.{all_given}
 use Rattle.maker_core.specs.Thinning.{IsThinnedFrom, IsGame}
@@ -21,13 +20,11 @@ use Rattle.maker_core.specs.SoloClues.{given_clue, SameSolo, solo_game}
 
 -- the second puzzle, with the first one's size
 resized : (p q : Solo) → SameSolo p q → q ≡ solo_puzzle p.c p.r p.x q.givens
-resized p q same =
-    ap (λ c. solo_puzzle c q.r q.x q.givens) (sym same.c) ∙ ap (λ r. solo_puzzle p.c r q.x q.givens) (sym same.r)
-    ∙ ap (λ x. solo_puzzle p.c p.r x q.givens) (sym same.x)
+resized p q same = grind (arith, common_steps)
 
 pub clue_is : (v n : ℕ) → given_clue v ≡ Some n → v ≡ n
 clue_is zero n e = absurd (none-some n e)
-clue_is (suc v) n e = let same : Some (suc v) ≡ Some n = e in cc
+clue_is (suc v) n e = let same = e in cc
 
 pub is_clue : (v : ℕ) → 1 ≤ v → given_clue v ≡ Some v
 is_clue zero low = absurd (omega arith)
@@ -52,7 +49,7 @@ given_stays : (p : Solo) (givens g : List ℕ) (place : ℕ) → HasClues p give
     → (1 ≤ slice_index givens place → slice_index g place + 1 ≡ slice_index givens place)
     → 1 ≤ slice_index p.givens place → slice_index g place + 1 ≡ slice_index p.givens place
 given_stays p givens g place clues stands low =
-    let same = clue_is (slice_index givens place) (slice_index p.givens place) (clues place (slice_index p.givens place) (is_clue _ low)) in
+    let same = clue_is _ _ (clues place (slice_index p.givens place) (is_clue _ low)) in
     stands (omega (arith, low, same)) ∙ same
 
 -- what differs in a puzzle of the same size differs in the puzzle
@@ -72,13 +69,10 @@ test_stays : (p : Solo) (givens g : List ℕ) → HasClues p givens → is_solo_
 unfolding is_solo_solution
 test_stays p givens g clues on =
     let q = solo_puzzle p.c p.r p.x givens in
-    let parts = and_parts (all_below (given_stands q g) (solo_cells q)) _ on in
-    and_from _ _
-    (all_below-from (given_stands p g) (solo_cells p) (λ place below.
-    test_from_given p g place
+    let parts = and_parts _ _ on in
+    and_from _ _ (all_below-from _ _ (λ place below. test_from_given p g place
     (given_stays p givens g place clues
-    (given_from_test q g place (all_below-at (given_stands q g) (solo_cells q) place parts.0 below)))))
-    parts.1
+    (given_from_test q g place (all_below-at _ _ place parts.0 below))))) parts.1
 
 solutions_stay : (p q : Solo) (g : List ℕ) → IsThinnedFrom solo_game p q → Solves (houses_rules q) g → Solves (houses_rules p) g
 solutions_stay p q g w s =
@@ -86,8 +80,7 @@ solutions_stay p q g w s =
     record { grid = same.grid; good = test_stays p q.givens g w.clues same.good }
 
 cleared : (givens : List ℕ) (place : ℕ) → slice_index (slice_set givens place 0) place ≡ 0
-cleared givens place =
-    grind (arith, cases_lt place (length givens), get_or-set_same givens place 0 0, get_or_past (set givens place 0) place 0, length-set givens place 0)
+cleared givens place = grind (arith, common_steps, cases_lt, get_or-set_same, get_or_past, length-set)
 
 pub solo_is_game : IsGame solo_game
 solo_is_game = record {

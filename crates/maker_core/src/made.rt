@@ -21,7 +21,7 @@ pub struct Limits {
 pub enum Why {
     /// Without it there are two solutions.
     Needed,
-    /// The search without it gave up.
+    /// A search without it, maybe with more clues, gave up.
     Budget,
 }
 

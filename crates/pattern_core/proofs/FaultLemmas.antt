@@ -1,15 +1,9 @@
 -- A grid that no test of a line fails is a solution, and the first line that fails is what a check tells.
-use Rattle.std.proofs.Common.{◌≡◌, ℕ, ◌+◌, ◌-◌, ◌*◌, ◌<◌, ◌++◌, [], ◌∷◌, Bool, true, false, List, Some, sym, ◌∙◌, arith, inl, inr}
-use Rattle.std.specs.List.{AllByRecursion}
-use Rattle.std.proofs.lemmas.Bool.{true≢false, cases_lt}
+use Rattle.pattern_core.proofs.Common.{AllByRecursion, Bool, HasClue, List, Pattern, Some, [], arith, cases_lt, clue_of, false, has_runs, has_runs-from, has_runs-is, inl, inr, line_numbers, line_of_solution, lines_of, solution_from_lines, sym, true, true≢false, ℕ, ◌*◌, ◌++◌, ◌+◌, ◌-◌, ◌<◌, ◌∙◌, ◌∷◌, ◌≡◌}
 use Rattle.grid_core.specs.Grids.{IsGrid}
-use Rattle.grid_core.specs.Lines.{lines_of, line_numbers}
 use Rattle.gameid_core.specs.FirstFailed.{NoneFails}
-use Rattle.gameid_core.specs.Puzzles.{Pattern}
-use Rattle.gameid_core.proofs.FirstFailed.{Holds, IsKnown, IsMade, Kind, all_each, each, first_each, first_front, first_rest, known_tests, none_held, right_none}
+use Rattle.gameid_core.proofs.FirstFailed.{IsKnown, IsMade, Kind, all_each, each, first_each, first_front, first_rest, known_tests, none_held, right_none}
 use Rattle.pattern_core.specs.Faults.{FailsPattern, IsPatternFault, pattern_tests}
-use Rattle.pattern_core.specs.LineLaws.{has_runs-from, has_runs-is, line_of_solution, solution_from_lines}
-use Rattle.pattern_core.specs.Lines.{HasClue, clue_of, has_runs}
 use Rattle.pattern_core.specs.Solutions.{IsPatternSolution}
 use Rattle.pattern_core.specs.declared.fault.PatternFault.{PatternFault}
 use Rattle.pattern_core.specs.declared.fault.PatternFault.TheVariants.{Column, Row}
@@ -19,10 +13,10 @@ module _ (p : Pattern) (g : List ℕ) where
   is_right line = has_runs (clue_of p line) (line_numbers p.size g line)
 
   pub not_right : (line : ℕ) → is_right line ≡ false → HasClue p g line → ⊥
-  not_right line off has = true≢false (sym (has_runs-from (line_numbers p.size g line) has) ∙ off)
+  not_right line off has = true≢false (sym (has_runs-from _ has) ∙ off)
 
   right : (line : ℕ) → is_right line ≡ true → HasClue p g line
-  right line on = has_runs-is (clue_of p line) (line_numbers p.size g line) on
+  right line on = has_runs-is (clue_of p line) _ on
 
   abbrev columns : Kind PatternFault
   columns = record { test = Column; count = p.size.w; right = is_right }
@@ -41,7 +35,7 @@ module _ (p : Pattern) (g : List ℕ) where
     where
       each_line : (line : ℕ) → line < lines_of p.size → HasClue p g line
       each_line line lt =
-          let both = right_none (FailsPattern p g) (columns ∷ rows ∷ []) made none in
+          let both = right_none _ (columns ∷ rows ∷ []) made none in
           elim (cases_lt line p.size.w) [
             | inl column ↦ right line (both.0 line column)
             | inr row ↦ let back : p.size.w + (line - p.size.w) ≡ line = omega arith in
@@ -50,23 +44,22 @@ module _ (p : Pattern) (g : List ℕ) where
           ]
 
   pub pattern_none : IsPatternSolution p g → NoneFails (FailsPattern p g) (pattern_tests p)
-  pattern_none s = none_held (FailsPattern p g) (columns ∷ rows ∷ [])
+  pattern_none s = none_held _ (columns ∷ rows ∷ [])
       ((λ x lt fails. fails (line_of_solution x (omega arith) s)), ((λ y lt fails. fails (line_of_solution (p.size.w + y) (omega arith) s)), tt))
 
   pub pattern_known : AllByRecursion (IsKnown (FailsPattern p g)) (pattern_tests p)
-  pattern_known = known_tests (FailsPattern p g) (columns ∷ rows ∷ []) made
+  pattern_known = known_tests _ (columns ∷ rows ∷ []) made
 
   -- ---- the first line that fails
   pub first_column : (x : ℕ) → x < p.size.w → (HasClue p g x → ⊥) → ((k : ℕ) → k < x → HasClue p g k) → IsPatternFault p g (Some (Column x))
-  first_column x lt wrong before = first_front (FailsPattern p g) (each columns) (each rows ++ []) (Column x)
-      (first_each (FailsPattern p g) columns x lt wrong (λ k low fails. fails (before k low)))
+  first_column x lt wrong before = first_front _ (each columns) (each rows ++ []) (Column x)
+      (first_each _ columns x lt wrong (λ k low fails. fails (before k low)))
 
   pub first_row : {line : ℕ} (y : ℕ) → line ≡ p.size.w + y → y < p.size.h → (HasClue p g line → ⊥)
       → ((k : ℕ) → k < line → HasClue p g k) → IsPatternFault p g (Some (Row y))
-  first_row y is lt wrong before = first_rest (FailsPattern p g) (each columns) (each rows ++ []) (Row y)
-      (all_each (Holds (FailsPattern p g)) columns (λ x low fails. fails (before x (omega arith))))
-      (first_front (FailsPattern p g) (each rows) [] (Row y)
-      (first_each (FailsPattern p g) rows y lt (rw is at wrong)
+  first_row y is lt wrong before = first_rest _ (each columns) (each rows ++ []) (Row y)
+      (all_each _ columns (λ x low fails. fails (before x (omega arith))))
+      (first_front _ (each rows) [] (Row y) (first_each _ rows y lt (rw is at wrong)
       (λ k low fails. fails (before (p.size.w + k) (omega arith)))))
 
 pub ruleset fault_laws = (first_column, first_row, has_runs-is, has_runs-from, solution_from_lines)

@@ -1,26 +1,10 @@
 -- A line of a board whose cells may all be either strikes nothing, where it is roomy for its clue.
-use Rattle.std.proofs.lemmas.Bool.{cases_Bool}
-use Rattle.std.proofs.lemmas.Grind.{common_steps}
-use Rattle.std.proofs.Common.{◌≡◌, ◌∙◌, ℕ, suc, ◌+◌, ◌-◌, ◌*◌, ◌<◌, ◌≤◌, true, false, List, [], ◌∷◌, length, get_or, slice_index, sym, subst, arith}
-use Rattle.std.specs.List.{AllByRecursion}
-use Rattle.std.proofs.lemmas.Bool.{and_parts, ltb-true, true≢false, false_from_ne_true}
-use Rattle.grid_core.specs.Board.{Layout, has}
-use Rattle.grid_core.specs.Candidates.{Candidates}
-use Rattle.grid_core.specs.Lines.{lines_of, line_cells, line_places}
-use Rattle.gameid_core.specs.Puzzles.{Pattern, used}
-use Rattle.engine_core.specs.Filling.{has_value, strikes_by_fillings}
-use Rattle.engine_core.specs.HouseSets.{sets_at, strikes_at}
-use Rattle.engine_core.specs.HouseSetsLaws.{length-sets_at, sets_at-value, strikes_at-some}
+use Rattle.pattern_core.proofs.Common.{AllByRecursion, ArePositive, Candidates, IsFresh, IsIdle, IsRoomy, Layout, List, Pattern, [], and_parts, arith, cases_Bool, clue_of, common_steps, false, false_from_ne_true, get_or, has, has_runs, has_value, in_grid, length, length-line_places, length-sets_at, line_cells, line_places, line_rules, lines_of, ltb-true, sets_at, sets_at-value, slice_index, strikes_at, strikes_at-some, strikes_by_fillings, subst, suc, sym, true, true≢false, used, ℕ, ◌*◌, ◌+◌, ◌-◌, ◌<◌, ◌∙◌, ◌∷◌, ◌≡◌, ◌≤◌}
 use Rattle.engine_core.specs.PlaceLaws.{has_place-here}
-use Rattle.engine_core.specs.RuleSystem.{IsIdle}
-use Rattle.pattern_core.specs.Lines.{clue_of, has_runs, IsRoomy, IsFresh}
-use Rattle.grid_core.proofs.LineLemmas.{length-line_places}
-use Rattle.pattern_core.specs.LineLaws.{in_grid}
-use Rattle.pattern_core.specs.LineRules.{line_rules}
 use Rattle.pattern_core.proofs.Roomy.{nothing_struck}
 
 -- a clue's spelled length and its longest run tell from where on a line is roomy
-pub roomy : {clue : List ℕ} (cells longest n : ℕ) → AllByRecursion (λ m. 0 < m) clue → 0 < length clue
+pub roomy : {clue : List ℕ} (cells longest n : ℕ) → ArePositive clue → 0 < length clue
     → ((k : ℕ) → k < length clue → get_or clue k 0 ≤ longest) → cells ≡ used clue → cells + longest - 1 ≤ n → IsRoomy clue n
 roomy {clue} cells longest n positive some each long from = record {
   some = some;
@@ -31,9 +15,9 @@ roomy {clue} cells longest n positive some each long from = record {
   fits = omega arith;
 }
   where
-    first : (clue : List ℕ) → AllByRecursion (λ m. 0 < m) clue → 0 < length clue → ((k : ℕ) → k < length clue → get_or clue k 0 ≤ longest) → 0 < longest
+    first : (clue : List ℕ) → ArePositive clue → 0 < length clue → ((k : ℕ) → k < length clue → get_or clue k 0 ≤ longest) → 0 < longest
     first [] positive some each = absurd (omega arith)
-    first (m ∷ clue) positive some each = let z = each 0 some in let y = positive.0 in omega arith
+    first (m ∷ clue) positive some each = omega (arith, each 0 some)
 
     all : (clue : List ℕ) → ((k : ℕ) → k < length clue → get_or clue k 0 ≤ longest) → AllByRecursion (λ m. m ≤ longest) clue
     all [] each = tt
@@ -52,8 +36,8 @@ fresh_idle p {line} clue K lt same long r fresh c v on =
     λ j u low small. sets_at-value 2 (line_places p.size line) K j u (inside j low) small in
     let full : (j : ℕ) → j < length sets → (K (slice_index (line_places p.size line) j) 0 ≡ true) × (K (slice_index (line_places p.size line) j) 1 ≡ true) =
     λ j low. fresh.both (slice_index (line_places p.size line) j) (in_grid p.size lt (has_place-here (line_places p.size line) j (inside j low))) in
-    let none = nothing_struck clue sets w.0 v r.spare r.positive r.some r.short r.more (let f = r.fits in omega arith)
-    (λ j low. (both j 0 low (omega arith) ∙ (full j low).0, both j 1 low (omega arith) ∙ (full j low).1)) (let z = w.1 in omega arith) (fresh.within c v on) in
+    let none = nothing_struck clue sets w.0 v r.spare r.positive r.some r.short r.more (omega arith)
+    (λ j low. (both j 0 low (omega arith) ∙ (full j low).0, both j 1 low (omega arith) ∙ (full j low).1)) (omega arith) (fresh.within c v on) in
     true≢false (sym w.3 ∙ subst (λ l. strikes_by_fillings (has_runs l) sets w.0 v ≡ false) same none))
 
 -- a board of two values whose cells have both

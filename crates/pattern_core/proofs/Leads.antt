@@ -1,16 +1,5 @@
 -- Fillings that lead along a track, cell by cell: by tests alone, no filling is taken apart.
-use Rattle.std.proofs.lemmas.Bool.{cases_Bool}
-use Rattle.std.proofs.lemmas.Grind.{common_steps}
-use Rattle.std.proofs.Common.{◌≡◌, ◌∙◌, ℕ, zero, suc, ◌<◌, Bool, true, false, ◌&&◌, ◌||◌, List, [], ◌∷◌, drop, refl, sym, ap, ap₂, arith, inl, inr}
-use Rattle.std.proofs.Math.Path.{fun_ext}
-use Rattle.std.proofs.Math.Bool.{and-or_distrib_right, and_assoc, and-false, or-false}
-use Rattle.std.proofs.lemmas.Bool.{false≢true, and_parts, and_from, or_cases, or_left, or_right, false_from_ne_true}
-use Rattle.grid_core.specs.Candidates.{any_below}
-use Rattle.grid_core.proofs.CandidateLemmas.{any_below-some, any_below-here}
-use Rattle.engine_core.specs.Filling.{Set, some_filling}
-use Rattle.engine_core.specs.FillingLaws.{filling_from_test, test_from_filling}
-use Rattle.engine_core.specs.Sets.{has_bit}
-use Rattle.pattern_core.specs.Track.{Track, IsBelow, leads, some_leads, set_for, stays, goes_on, ahead, one_on, led, any_cells, cell_is}
+use Rattle.pattern_core.proofs.Common.{Bool, IsBelow, List, Set, Track, [], ahead, and-false, and-or_distrib_right, and_assoc, and_parts, any_below, any_below-here, any_below-some, any_cells, ap, ap₂, arith, cases_Bool, cell_is, common_steps, drop, false, false_from_ne_true, false≢true, filling_from_test, fun_ext, goes_on, has_bit, inl, inr, leads, led, one_on, or-false, or_cases, or_left, or_right, refl, set_for, some_filling, some_leads, stays, suc, sym, test_from_filling, true, zero, ℕ, ◌&&◌, ◌<◌, ◌||◌, ◌∙◌, ◌∷◌, ◌≡◌}
 
 pub same_tests : (x y : Bool) → (x ≡ true → y ≡ true) → (y ≡ true → x ≡ true) → x ≡ y
 same_tests true y h k = sym (h refl)
@@ -46,7 +35,7 @@ module _ (t : Track) (set : ℕ) (sets : List Set) where
       || (has_bit set 1 && (t.black p && some_leads t sets (λ f. test (1 ∷ f)) (suc p))))
   unfolding some_leads leads
   leads_on test p =
-      some_split (has_bit set 0) (has_bit set 1) sets (λ f. leads t p f && test f) ∙ ap₂ (λ x y. (has_bit set 0 && x) || (has_bit set 1 && y))
+      some_split _ _ sets (λ f. leads t p f && test f) ∙ ap₂ (λ x y. (has_bit set 0 && x) || (has_bit set 1 && y))
       (some_same sets (λ f. leads t p (0 ∷ f) && test (0 ∷ f))
       (λ f. (t.stay p && (leads t p f && test (0 ∷ f)))
       || (t.white p && (leads t (suc p) f && test (0 ∷ f))))
@@ -63,7 +52,7 @@ module _ (t : Track) (set : ℕ) (sets : List Set) where
       ≡ ahead t set (some_leads t sets test) p
   unfolding ahead stays goes_on
   leads_next test p = leads_on (λ cells. test (drop 1 cells)) p
-      ∙ regroup (has_bit set 0) (t.stay p) (t.white p) (has_bit set 1) (t.black p) (some_leads t sets test p) (some_leads t sets test (suc p))
+      ∙ regroup _ (t.stay p) (t.white p) _ (t.black p) (some_leads t sets test p) (some_leads t sets test (suc p))
     where
       regroup : (a s w b k x y : Bool) → ((a && ((s && x) || (w && y))) || (b && (k && y))) ≡ (((a && s) && x) || (((a && w) || (b && k)) && y))
       regroup a s w b k x y = grind (arith, common_steps, cases_Bool)
@@ -76,8 +65,8 @@ module _ (t : Track) (set : ℕ) (sets : List Set) where
   pub leads_here : (v p : ℕ) → v < 2 → some_leads t ((has_bit set 0 ∷ has_bit set 1 ∷ []) ∷ sets) (cell_is 0 v) p
       ≡ (has_bit set v && ahead t (set_for v) (some_leads t sets any_cells) p)
   unfolding ahead stays goes_on cell_is any_cells
-  leads_here zero p lt = leads_on (cell_is 0 0) p ∙ simp (never (suc p), and-false, or-false)
-  leads_here (suc zero) p lt = leads_on (cell_is 0 1) p ∙ simp (never p, never (suc p), and-false)
+  leads_here zero p lt = leads_on _ p ∙ simp (never (suc p), and-false, or-false)
+  leads_here (suc zero) p lt = leads_on _ p ∙ simp (never p, never (suc p), and-false)
   leads_here (suc (suc v)) p lt = absurd (omega arith)
 
 -- ---- all places that were reached
@@ -86,31 +75,23 @@ module _ {t : Track} (set n : ℕ) (below : IsBelow n t) (reached new way after 
     (is : (p : ℕ) → way p ≡ ahead t set after p) where
   low : (p : ℕ) → goes_on t set p ≡ true → suc p < n
   unfolding goes_on
-  low p on = elim (or_cases (has_bit set 0 && t.white p) (has_bit set 1 && t.black p) on) [
-    | inl x ↦ below.white p (and_parts (has_bit set 0) (t.white p) x).1
-    | inr x ↦ below.black p (and_parts (has_bit set 1) (t.black p) x).1
-  ]
+  low p on = grind (arith, below.white p, below.black p)
 
   back : (p : ℕ) → p < n → new p ≡ true → after p ≡ true → any_below (λ p. reached p && way p) n ≡ true
   unfolding ahead led one_on
-  back zero lt on on_after = elim (or_cases (stays t set 0 && reached 0) false (sym (leads_to 0 lt) ∙ on)) [
-    | inl x ↦ let u = and_parts (stays t set 0) (reached 0) x in
-        any_below-here (λ p. reached p && way p) n 0 lt (and_from (reached 0) (way 0) u.1 (is 0 ∙ or_left _ _ (and_from _ _ u.0 on_after)))
-    | inr x ↦ absurd (false≢true x)
-  ]
-  back (suc p) lt on on_after = elim (or_cases (stays t set (suc p) && reached (suc p)) (goes_on t set p && reached p) (sym (leads_to (suc p) lt) ∙ on)) [
-    | inl x ↦ let u = and_parts _ _ x in any_below-here (λ p. reached p && way p) n (suc p) lt
-        (and_from _ _ u.1 (is (suc p) ∙ or_left _ _ (and_from _ _ u.0 on_after)))
-    | inr x ↦ let u = and_parts _ _ x in any_below-here (λ p. reached p && way p) n p (omega arith)
-        (and_from _ _ u.1 (is p ∙ or_right _ _ (and_from _ _ u.0 on_after)))
+  back zero lt on on_after = any_below-here (λ p. reached p && way p) n 0 lt (grind (arith, leads_to 0, is 0))
+  back (suc p) lt on on_after = elim (cases_Bool (stays t set (suc p) && reached (suc p))) [
+    | inl x ↦ any_below-here (λ p. reached p && way p) n (suc p) lt (grind (arith, is (suc p)))
+    | inr x ↦ any_below-here (λ p. reached p && way p) n p (omega arith) (grind (arith, leads_to (suc p), is p))
   ]
 
   forth : (p : ℕ) → p < n → reached p ≡ true → way p ≡ true → any_below (λ p. new p && after p) n ≡ true
   unfolding ahead led one_on
-  forth p lt on on_way = elim (or_cases (stays t set p && after p) (goes_on t set p && after (suc p)) (sym (is p) ∙ on_way)) [
-    | inl x ↦ let u = and_parts _ _ x in any_below-here (λ p. new p && after p) n p lt (and_from _ _ (leads_to p lt ∙ or_left _ _ (and_from _ _ u.0 on)) u.1)
-    | inr x ↦ let u = and_parts _ _ x in any_below-here (λ p. new p && after p) n (suc p) (low p u.0)
-        (and_from _ _ (leads_to (suc p) (low p u.0) ∙ or_right _ _ (and_from _ _ u.0 on)) u.1)
+  forth p lt on on_way = elim (cases_Bool (stays t set p && after p)) [
+    | inl x ↦ any_below-here (λ p. new p && after p) n p lt (grind (arith, leads_to p))
+    | inr x ↦
+        let far = low p (grind (arith, is p)) in
+        any_below-here (λ p. new p && after p) n (suc p) far (grind (arith, is p, leads_to (suc p)))
   ]
 
   pub ways_on : any_below (λ p. new p && after p) n ≡ any_below (λ p. reached p && way p) n

@@ -1,3 +1,4 @@
+pub mod Common
 pub mod FaultLemmas
 pub mod LineSteps
 pub mod NextLine

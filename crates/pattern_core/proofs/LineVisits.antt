@@ -1,35 +1,20 @@
 -- A visit of a line, from its three steps, and the clues that it reads.
-use Rattle.std.proofs.Common.{◌≡◌, ◌∙◌, ℕ, zero, suc, ◌+◌, ◌<◌, ◌≤◌, Bool, false, refl, List, [], ◌∷◌, length, slice_index, get_or, map, sym, ap, subst, arith}
-use Rattle.std.specs.List.{AllByRecursion}
-use Rattle.grid_core.specs.Board.{Layout, has}
-use Rattle.grid_core.specs.Extent.{Extent}
-use Rattle.grid_core.specs.Candidates.{Candidates}
-use Rattle.grid_core.specs.Lines.{line_cells, lines_of, line_places}
-use Rattle.gameid_core.specs.Puzzles.{Pattern, IsPattern, IsClue, AreClues, used}
-use Rattle.engine_core.specs.Filling.{strikes_by_fillings}
-use Rattle.engine_core.specs.HouseSets.{sets_at, kept_in}
-use Rattle.engine_core.specs.HouseSetsLaws.{visited-after, kept-decided, bits-of_values, sets-of_values}
+use Rattle.pattern_core.proofs.Common.{AreClues, ArePositive, Bool, Candidates, Extent, IsBitsOf, IsBoardOf, IsClue, IsDecidedBy, IsPattern, Layout, List, Pattern, [], after, ap, arith, bits-of_values, clue_of, different_places, false, get_or, has, has_runs, kept-decided, kept_in, length, line_cells, line_places, line_rules, line_short, lines_of, map, refl, set_of_bits, sets-of_values, sets_at, slice_index, strikes_by_fillings, subst, suc, sym, used, visited-after, zero, ℕ, ◌+◌, ◌<◌, ◌∙◌, ◌∷◌, ◌≡◌, ◌≤◌}
 use Rattle.engine_core.specs.Keeping.{AreSetsOf, IsKept}
-use Rattle.engine_core.specs.RuleSystem.{IsBoardOf, after}
-use Rattle.engine_core.specs.Sets.{set_of_bits, IsBitsOf}
 use Rattle.engine_core.specs.PositionLaws.{within_of}
-use Rattle.pattern_core.specs.Lines.{has_runs, clue_of, IsDecidedBy}
-use Rattle.pattern_core.specs.LineRules.{line_rules}
-use Rattle.pattern_core.specs.LineLaws.{different_places}
-use Rattle.grid_core.proofs.LineLemmas.{line_short}
 
 -- a visit that strikes what is not kept
 pub line_visited : (p : Pattern) (line : ℕ) {b : Layout} {size : Extent} (K : Candidates)
-    (clue places sets kept : List ℕ) → IsBoardOf (line_rules p) b → size ≡ p.size
+    {clue places sets kept : List ℕ} → IsBoardOf (line_rules p) b → size ≡ p.size
     → clue ≡ clue_of p line → places ≡ line_places size line → length sets ≡ length places
     → ((k : ℕ) → k < length places → IsBitsOf (has b (slice_index places k)) b.values (slice_index sets k))
     → map (set_of_bits b.values) sets ≡ sets_at b.values places (has b) → IsDecidedBy clue sets kept
     → K ≡ kept_in places kept (length places) (has b) → K ≡ after (line_rules p) line (has b)
-line_visited p line {b} K clue places sets kept is sized same written long bits read decided left =
+line_visited p line {b} K {clue} {places} {sets} {kept} is sized same written long bits read decided left =
     let at : places ≡ line_places p.size line = rw sized at written in
     let two = is.same_values in
     visited-after (line_rules p) line (strikes_by_fillings (has_runs (clue_of p line))) (has b) K sets kept (λ L c v. refl)
-    (within_of (line_rules p) b is) (rw at at long) (rw at at (bits-of_values b 2 places sets two bits)) (rw at at (sets-of_values b 2 places sets two read))
+    (within_of _ b is) (rw at at long) (rw at at (bits-of_values b 2 places sets two bits)) (rw at at (sets-of_values b 2 places sets two read))
     (rw same at decided) (rw at at left)
 
 -- what is kept of a line's sets, where its clue was read
@@ -46,15 +31,15 @@ line_kept p {line} K {struck} sets copied kept is are same decided unchanged =
 clue_from : (size : Extent) (clues : List (List ℕ)) (from k : ℕ) → AreClues size from clues
     → k < length clues → IsClue (line_cells size (from + k)) (get_or clues k [])
 clue_from size [] from k all lt = absurd (omega arith)
-clue_from size (clue ∷ clues) from zero all lt = subst (λ n. IsClue (line_cells size n) clue) (let z : from ≡ from + 0 = omega arith in z) all.0
+clue_from size (clue ∷ clues) from zero all lt = subst (λ n. IsClue (line_cells size n) clue) (omega arith) all.0
 clue_from size (clue ∷ clues) from (suc k) all lt =
     subst (λ n. IsClue (line_cells size n) (get_or clues k []))
-    (let z : from + 1 + k ≡ from + suc k = omega arith in z)
+    (omega arith)
     (clue_from size clues (from + 1) k all.1 (omega arith))
 
 pub clue_of_line : (p : Pattern) (line : ℕ) {clue : List ℕ} → IsPattern p → line < lines_of p.size
-    → clue ≡ clue_of p line → AllByRecursion (λ n. 0 < n) clue × (used clue ≤ 127)
+    → clue ≡ clue_of p line → ArePositive clue × (used clue ≤ 127)
 clue_of_line p line is lt same =
-    let here : IsClue (line_cells p.size (0 + line)) (clue_of p line) = clue_from p.size p.clues 0 line is.clues (let e = is.lines in omega arith) in
+    let here = clue_from p.size p.clues 0 line is.clues (omega arith) in
     let short = line_short p.size (0 + line) is.size in
-    (subst (AllByRecursion (λ n. 0 < n)) (sym same) here.positive, (let f = here.fits in let e = ap used same in omega arith))
+    (subst (ArePositive) (sym same) here.positive, (omega (arith, ap used same)))

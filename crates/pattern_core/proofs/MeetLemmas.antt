@@ -1,14 +1,5 @@
 -- A line of numbers goes along the spelled clue, by the places that its cells reach.
-use Rattle.std.proofs.lemmas.Bool.{cases_Bool}
-use Rattle.std.proofs.lemmas.Grind.{common_steps}
-use Rattle.std.proofs.Common.{◌≡◌, ◌∙◌, ℕ, zero, suc, ◌+◌, ◌<◌, Bool, ◌&&◌, ◌||◌, refl, List, ◌∷◌, length, get_or, drop, sym, ap, arith}
-use Rattle.std.specs.List.{AllByRecursion}
-use Rattle.std.proofs.lemmas.List.{drop_all, drop_more}
-use Rattle.std.proofs.Math.Bool.{or-false}
-use Rattle.grid_core.specs.Candidates.{any_below}
-use Rattle.grid_core.proofs.CandidateLemmas.{any_below-same}
-use Rattle.pattern_core.specs.Lines.{has_runs}
-use Rattle.pattern_core.specs.Track.{spelled, Track, IsBelow, track_of, leads, set_for, stays, goes_on, ahead, led}
+use Rattle.pattern_core.proofs.Common.{ArePositive, Bool, IsBelow, List, Track, ahead, any_below, any_below-same, ap, arith, cases_Bool, common_steps, drop, drop_all, drop_more, get_or, goes_on, has_runs, leads, led, length, or-false, refl, set_for, spelled, stays, suc, sym, track_of, zero, ℕ, ◌&&◌, ◌+◌, ◌<◌, ◌||◌, ◌∙◌, ◌∷◌, ◌≡◌}
 use Rattle.pattern_core.proofs.Leads.{ways_on}
 use Rattle.pattern_core.proofs.SpelledRuns.{leads_runs}
 
@@ -32,7 +23,7 @@ module _ {n : ℕ} {t : Track} (below : IsBelow n t) (cells : List ℕ) (k : ℕ
 
   -- after all of them
   pub meet_end : (clue : List ℕ) (both : ℕ → Bool) → t ≡ track_of (spelled clue)
-      → AllByRecursion (λ m. 0 < m) clue → k ≡ length cells
+      → ArePositive clue → k ≡ length cells
       → ((p : ℕ) → both p ≡ (reached p && t.ends p))
       → any_below (λ p. reached p && leads t p (drop k cells)) n ≡ leads t 0 cells → any_below both n ≡ has_runs clue cells
   unfolding leads

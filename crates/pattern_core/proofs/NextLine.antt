@@ -1,13 +1,5 @@
 -- The lines that have a place are its column and its row.
-use Rattle.std.proofs.lemmas.Grind.{common_steps}
-use Rattle.std.proofs.Common.{◌≡◌, ℕ, ◌+◌, ◌*◌, ◌/◌, ◌%◌, ◌<◌, ◌≤◌, ◌||◌, eqb, true, false, Some, None, sym, ap, ◌∙◌, arith, inl, inr, ◌⊎◌}
-use Rattle.std.proofs.lemmas.Bool.{cases_Bool, cases_lt, true≢false, or_left, or_right, eq-eqb, ne_eqb, false_from_ne_true}
-use Rattle.std.proofs.lemmas.Nat.{div-add-mod'}
-use Rattle.std.proofs.Math.Nat.{mul-le-mul_right, mod-lt}
-use Rattle.grid_core.specs.Extent.{Extent}
-use Rattle.grid_core.specs.Lines.{lines_of, line_places}
-use Rattle.engine_core.specs.RuleSystem.{has_place, IsNext}
-use Rattle.pattern_core.specs.LineLaws.{column_has, row_has, lines_with}
+use Rattle.pattern_core.proofs.Common.{Extent, IsNext, None, Some, ap, arith, cases_Bool, cases_lt, column_has, common_steps, div-add-mod', eq-eqb, eqb, false, false_from_ne_true, has_place, inl, inr, line_places, lines_of, lines_with, mod-lt, mul-le-mul_right, ne_eqb, or_left, or_right, row_has, sym, true, true≢false, ℕ, ◌%◌, ◌*◌, ◌+◌, ◌/◌, ◌<◌, ◌||◌, ◌∙◌, ◌≡◌, ◌≤◌, ◌⊎◌}
 
 module _ (size : Extent) {w place : ℕ} (from : ℕ) (same : w ≡ size.w) (within : place < size.w * size.h) where
   x_low : place % w < size.w

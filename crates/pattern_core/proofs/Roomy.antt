@@ -1,17 +1,6 @@
 -- A line of cells that may be either, longer than its clue needs by as much as each run is: each of its cells is white in some
 -- filling, and black in some.
-use Rattle.std.proofs.lemmas.Bool.{cases_Bool}
-use Rattle.std.proofs.lemmas.Grind.{common_steps}
-use Rattle.std.proofs.Common.{◌≡◌, ◌∙◌, ℕ, zero, suc, ◌+◌, ◌-◌, ◌<◌, ◌≤◌, List, [], ◌∷◌, ◌++◌, true, false, length, get_or, replicate, refl, ap, subst, arith, inl, inr}
-use Rattle.std.specs.List.{AllByRecursion}
-use Rattle.std.proofs.lemmas.Bool.{cases_lt, cases_eq}
-use Rattle.std.proofs.lemmas.List.{length-append, length-replicate, get_or-replicate, get_or_append_left, get_or-append_right}
-use Rattle.gameid_core.specs.BlackRuns.{runs, runs_after}
-use Rattle.gameid_core.specs.Puzzles.{used}
-use Rattle.engine_core.specs.Filling.{Set, has_value, strikes_by_fillings}
-use Rattle.engine_core.specs.FillingLaws.{test_from_shown}
-use Rattle.pattern_core.specs.Lines.{has_runs}
-use Rattle.pattern_core.specs.LineLaws.{has_runs-from}
+use Rattle.pattern_core.proofs.Common.{AllByRecursion, ArePositive, List, Set, [], ap, arith, cases_Bool, cases_eq, cases_lt, common_steps, false, get_or, get_or-append_right, get_or-replicate, get_or_append_left, has_runs, has_runs-from, has_value, inl, inr, length, length-append, length-replicate, refl, replicate, runs, runs_after, strikes_by_fillings, subst, suc, test_from_shown, true, used, zero, ℕ, ◌++◌, ◌+◌, ◌-◌, ◌<◌, ◌∙◌, ◌∷◌, ◌≡◌, ◌≤◌}
 
 -- cells of such a number that have these runs
 pub record Fitting (clue : List ℕ) (n : ℕ) : Type 0 where
@@ -23,9 +12,6 @@ pub record Fitting (clue : List ℕ) (n : ℕ) : Type 0 where
 -- some such cells have the value at the place
 abbrev pub Shows : List ℕ → ℕ → ℕ → ℕ → Type 0
 Shows clue n k v = (f : Fitting clue n) × (get_or f.cells k 0 ≡ v)
-
-abbrev Positive : List ℕ → Type 0
-Positive clue = AllByRecursion (λ m. 0 < m) clue
 
 -- each run is at most s
 abbrev pub AtMost : ℕ → List ℕ → Type 0
@@ -39,8 +25,8 @@ whites (suc d) cells = whites d cells
 
 blacks : (k d : ℕ) (cells : List ℕ) → runs_after k (replicate d 1 ++ cells) ≡ runs_after (k + d) cells
 unfolding runs_after
-blacks k zero cells = ap (λ j. runs_after j cells) (let z : k ≡ k + 0 = omega arith in z)
-blacks k (suc d) cells = blacks (suc k) d cells ∙ ap (λ j. runs_after j cells) (let z : suc k + d ≡ k + suc d = omega arith in z)
+blacks k zero cells = ap (λ j. runs_after j cells) (omega arith)
+blacks k (suc d) cells = blacks (suc k) d cells ∙ ap (λ j. runs_after j cells) (omega arith)
 
 pub run_first : (m : ℕ) (cells : List ℕ) → 0 < m → runs (replicate m 1 ++ 0 ∷ cells) ≡ m ∷ runs cells
 unfolding runs_after
@@ -50,24 +36,24 @@ run_first (suc m) cells some = blacks 0 (suc m) (0 ∷ cells) ∙ ap (λ j. runs
 -- the cells with so many of one value before them
 module _ (d a : ℕ) (cells : List ℕ) where
   before : (k : ℕ) → k < d → get_or (replicate d a ++ cells) k 0 ≡ a
-  before k lt = get_or_append_left (replicate d a) cells 0 k (omega (arith, length-replicate {A = ℕ} d a)) ∙ get_or-replicate d k a 0 lt
+  before k lt = get_or_append_left _ cells 0 k (omega (arith, length-replicate d a)) ∙ get_or-replicate d k a 0 lt
 
   behind : (k : ℕ) → get_or (replicate d a ++ cells) (d + k) 0 ≡ get_or cells k 0
   behind k =
-      get_or-append_right (replicate d a) cells d (d + k) 0 (length-replicate d a) (omega arith)
-      ∙ ap (λ j. get_or cells j 0) (let z : d + k - d ≡ k = omega arith in z)
+      get_or-append_right _ cells d (d + k) 0 (length-replicate d a) (omega arith)
+      ∙ ap (λ j. get_or cells j 0) (omega arith)
 
   stays_small : a < 2 → ((j : ℕ) → get_or cells j 0 < 2) → (j : ℕ) → get_or (replicate d a ++ cells) j 0 < 2
   stays_small low small j = grind (arith, common_steps, cases_Bool, before, behind, cases_lt)
 
   longer : length (replicate d a ++ cells) ≡ d + length cells
-  longer = omega (arith, length-append (replicate d a) cells, length-replicate {A = ℕ} d a)
+  longer = omega (arith, length-append (replicate d a) cells, length-replicate d a)
 
 -- white cells come first
 abbrev whiter : {clue : List ℕ} {n : ℕ} (d : ℕ) → Fitting clue n → Fitting clue (d + n)
 whiter d f = record {
   cells = replicate d 0 ++ f.cells;
-  long = let e = longer d 0 f.cells in let l = f.long in omega arith;
+  long = omega (arith, longer d 0 f.cells);
   are = whites d f.cells ∙ f.are;
   small = stays_small d 0 f.cells (omega arith) f.small;
 }
@@ -80,9 +66,9 @@ ended cells small (suc j) = small j
 abbrev longer_by : {clue : List ℕ} {n : ℕ} (m : ℕ) → 0 < m → Fitting clue n → Fitting (m ∷ clue) (m + suc n)
 longer_by m some f = record {
   cells = replicate m 1 ++ 0 ∷ f.cells;
-  long = let e = longer m 1 (0 ∷ f.cells) in let l = f.long in omega arith;
-  are = run_first m f.cells some ∙ ap (λ (r : List ℕ). m ∷ r) f.are;
-  small = stays_small m 1 (0 ∷ f.cells) (omega arith) (ended f.cells f.small);
+  long = omega (arith, longer m 1 (0 ∷ f.cells));
+  are = run_first m f.cells some ∙ ap (λ r. m ∷ r) f.are;
+  small = stays_small m 1 _ (omega arith) (ended f.cells f.small);
 }
 
 none_small : (j : ℕ) → get_or {A = ℕ} [] j 0 < 2
@@ -96,7 +82,7 @@ no_runs = refl
 one_run : (k m : ℕ) → 0 < m → k ≡ m → runs_after k [] ≡ m ∷ []
 unfolding runs_after
 one_run zero m some e = absurd (omega arith)
-one_run (suc k) m some e = ap (λ (i : ℕ). i ∷ []) e
+one_run (suc k) m some e = ap (λ i. i ∷ []) e
 
 -- white cells alone, and a run alone
 abbrev empty : Fitting [] 0
@@ -114,22 +100,22 @@ alone m some = record {
 abbrev Begins : List ℕ → ℕ → ℕ → Type 0
 Begins clue m n = (f : Fitting (m ∷ clue) n) × ((k : ℕ) → k < m → get_or f.cells k 0 ≡ 1)
 
-run_and : {clue : List ℕ} (m n : ℕ) → Positive (m ∷ clue) → m < n → Fitting clue (n - m - 1) → Begins clue m n
-run_and {clue} m n p lt f = subst (Begins clue m) (let z : m + suc (n - m - 1) ≡ n = omega arith in z)
-    (longer_by m p.0 f, λ k low. before m 1 (0 ∷ f.cells) k low)
+run_and : {clue : List ℕ} (m n : ℕ) → ArePositive (m ∷ clue) → m < n → Fitting clue (n - m - 1) → Begins clue m n
+run_and {clue} m n p lt f = subst (Begins clue m) (omega arith)
+    (longer_by m p.0 f, λ k low. before m 1 _ k low)
 
 blank : {n : ℕ} → Fitting [] n
-blank {n} = subst (Fitting []) (let z : n + 0 ≡ n = omega arith in z) (whiter n empty)
+blank {n} = subst (Fitting []) (omega arith) (whiter n empty)
 
-begins : (clue : List ℕ) (m n : ℕ) → Positive (m ∷ clue) → used (m ∷ clue) ≤ n + 1 → Begins clue m n
+begins : (clue : List ℕ) (m n : ℕ) → ArePositive (m ∷ clue) → used (m ∷ clue) ≤ n + 1 → Begins clue m n
 begins [] m n p fits = elim (cases_lt m n) [
   | inl lt ↦ run_and m n p lt blank
-  | inr ge ↦ subst (Begins [] m) (let z : m + 0 ≡ n = omega arith in z) (alone m p.0, λ k lt. before m 1 [] k lt)
+  | inr ge ↦ subst (Begins [] m) (omega arith) (alone m p.0, λ k lt. before m 1 [] k lt)
 ]
 begins (x ∷ clue) m n p fits = run_and m n p (omega arith) (begins clue x (n - m - 1) p.1 (omega arith)).0
 
 -- a clue that fits has a filling
-fill : (clue : List ℕ) {n : ℕ} → Positive clue → used clue ≤ n + 1 → Fitting clue n
+fill : (clue : List ℕ) {n : ℕ} → ArePositive clue → used clue ≤ n + 1 → Fitting clue n
 fill [] p fits = blank
 fill (m ∷ clue) {n} p fits = (begins clue m n p fits).0
 
@@ -137,16 +123,16 @@ placed : {clue : List ℕ} {n k v : ℕ} (m j : ℕ) → Shows clue n k v → n 
 placed {clue} {n} {k} {v} m j s n_is k_is = subst (λ i. Shows clue i j v) n_is (subst (λ i. Shows clue n i v) k_is s)
 
 -- each cell is white in some filling
-pub white : (clue : List ℕ) (n k s : ℕ) → Positive clue → AtMost s clue → used clue + s ≤ n + 1 → k < n → Shows clue n k 0
+pub white : (clue : List ℕ) (n k s : ℕ) → ArePositive clue → AtMost s clue → used clue + s ≤ n + 1 → k < n → Shows clue n k 0
 white [] n k s p most room lt = placed n k (whiter n empty, before n 0 [] k lt) (omega arith) refl
 white (m ∷ clue) n k s p most room lt = elim (cases_lt k m) [
   | inl low ↦
-      let f : Fitting (m ∷ clue) (n - k - 1) = fill (m ∷ clue) p (let z = most.0 in omega arith) in
+      let f : Fitting (m ∷ clue) (n - k - 1) = fill (m ∷ clue) p (omega arith) in
       placed n k (whiter (k + 1) f, before (k + 1) 0 f.cells k (omega arith)) (omega arith) refl
   | inr high ↦ elim (cases_eq k m) [
     | inl e ↦
         let f : Fitting clue (n - m - 1) = fill clue p.1 (omega arith) in
-        placed n k (longer_by m p.0 f, behind m 1 (0 ∷ f.cells) 0) (omega arith) (omega arith)
+        placed n k (longer_by m p.0 f, behind m 1 _ 0) (omega arith) (omega arith)
     | inr ne ↦
         let w = white clue (n - m - 1) (k - m - 1) s p.1 most.1 (omega arith) (omega arith) in
         placed n k (longer_by m p.0 w.0, behind m 1 (0 ∷ w.0.cells) (suc (k - m - 1)) ∙ w.1) (omega arith) (omega arith)
@@ -154,12 +140,12 @@ white (m ∷ clue) n k s p most room lt = elim (cases_lt k m) [
 ]
 
 -- and black in some, where there is a run, and one cell more than needed
-in_run : (clue : List ℕ) (m n d k : ℕ) → Positive (m ∷ clue) → used (m ∷ clue) + d ≤ n + 1 → d < n → d ≤ k → k < d + m → Shows (m ∷ clue) n k 1
+in_run : (clue : List ℕ) (m n d k : ℕ) → ArePositive (m ∷ clue) → used (m ∷ clue) + d ≤ n + 1 → d < n → d ≤ k → k < d + m → Shows (m ∷ clue) n k 1
 in_run clue m n d k p room inside from low =
-    let f : Begins clue m (n - d) = begins clue m (n - d) p (omega arith) in
+    let f = begins clue m (n - d) p (omega arith) in
     placed n k (whiter d f.0, behind d 0 f.0.cells (k - d) ∙ f.1 (k - d) (omega arith)) (omega arith) (omega arith)
 
-pub black : (clue : List ℕ) (m n k : ℕ) → Positive (m ∷ clue) → used (m ∷ clue) ≤ n → k < n → Shows (m ∷ clue) n k 1
+pub black : (clue : List ℕ) (m n k : ℕ) → ArePositive (m ∷ clue) → used (m ∷ clue) ≤ n → k < n → Shows (m ∷ clue) n k 1
 black [] m n k p room lt = let more = p.0 in in_run [] m n (k + 1 - m) k p (omega arith) (omega arith) (omega arith) (omega arith)
 black (x ∷ clue) m n k p room lt = let more = p.0 in elim (cases_lt k (m + 1)) [
   | inl low ↦ in_run (x ∷ clue) m n (k + 1 - m) k p (omega arith) (omega arith) (omega arith) (omega arith)
@@ -169,7 +155,7 @@ black (x ∷ clue) m n k p room lt = let more = p.0 in elim (cases_lt k (m + 1))
 ]
 
 -- nothing is struck from cells that may be either
-pub nothing_struck : (clue : List ℕ) (sets : List Set) (k v s : ℕ) → Positive clue → 0 < length clue → AtMost s clue → 0 < s → used clue + s ≤ length sets + 1
+pub nothing_struck : (clue : List ℕ) (sets : List Set) (k v s : ℕ) → ArePositive clue → 0 < length clue → AtMost s clue → 0 < s → used clue + s ≤ length sets + 1
     → ((j : ℕ) → j < length sets → (has_value (get_or sets j []) 0 ≡ true) × (has_value (get_or sets j []) 1 ≡ true)) → k < length sets → v < 2
     → strikes_by_fillings (has_runs clue) sets k v ≡ false
 nothing_struck clue sets k v s p some most one room both lt low = by clue v p some most room low
@@ -189,7 +175,7 @@ nothing_struck clue sets k v s p some most one room both lt low = by clue v p so
         either (suc zero) small set both = both.1
         either (suc (suc u)) small set both = absurd (omega arith)
 
-    by : (clue : List ℕ) (v : ℕ) → Positive clue → 0 < length clue → AtMost s clue
+    by : (clue : List ℕ) (v : ℕ) → ArePositive clue → 0 < length clue → AtMost s clue
         → used clue + s ≤ length sets + 1 → v < 2
         → strikes_by_fillings (has_runs clue) sets k v ≡ false
     by clue zero p some most room low = by_filling clue 0 (white clue (length sets) k s p most room lt)

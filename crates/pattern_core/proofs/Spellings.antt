@@ -1,15 +1,5 @@
 -- A clue spelled cell by cell, as sets of places, and read back from them.
-use Rattle.std.proofs.lemmas.Bool.{cases_Bool}
-use Rattle.std.proofs.lemmas.Grind.{common_steps}
-use Rattle.std.proofs.Common.{◌≡◌, ◌∙◌, ℕ, zero, suc, ◌+◌, ◌-◌, ◌<◌, ◌≤◌, Bool, false, cond, ◌||◌, eqb, List, [], ◌∷◌, ◌++◌, length, get_or, drop, replicate, refl, sym, ap, subst, arith, append_assoc, length-append}
-use Rattle.std.specs.List.{AllByRecursion}
-use Rattle.std.proofs.Math.Bool.{or-false, or-true}
-use Rattle.std.proofs.Math.Path.{fun_ext}
-use Rattle.std.proofs.lemmas.Bool.{cases_eq, cases_lt, eq-eqb, ne_eqb}
-use Rattle.std.proofs.lemmas.List.{get_or_append_left, get_or_past, drop_more, length-replicate, replicate-append-replicate}
-use Rattle.gameid_core.specs.BlackRuns.{runs_after, runs}
-use Rattle.gameid_core.specs.Puzzles.{used}
-use Rattle.pattern_core.specs.Track.{spelled, Track, track_of, may_stay, one_on, IsSpelling, cells_from, clue_along, IsTrack, IsBelow}
+use Rattle.pattern_core.proofs.Common.{ArePositive, Bool, IsBelow, IsSpelling, IsTrack, List, Track, [], ap, append_assoc, arith, cases_Bool, cases_eq, cases_lt, cells_from, clue_along, common_steps, cond, drop, drop_more, eq-eqb, eqb, false, fun_ext, get_or, get_or_append_left, get_or_past, length, length-append, length-replicate, may_stay, ne_eqb, one_on, or-false, or-true, refl, replicate, replicate-append-replicate, runs, runs_after, spelled, subst, suc, sym, track_of, used, zero, ℕ, ◌++◌, ◌+◌, ◌-◌, ◌<◌, ◌||◌, ◌∙◌, ◌∷◌, ◌≡◌, ◌≤◌}
 use Rattle.pattern_core.proofs.Roomy.{run_first}
 use Rattle.pattern_core.proofs.SpelledRuns.{length-spelled, track_below}
 
@@ -67,10 +57,10 @@ spelling_none A w b f = record { whites = w; blacks = b; nexts = f }
 
 -- one more black cell of a run, and its white cell
 pub one_more : (cells : List ℕ) (k : ℕ) → (cells ++ replicate k 1) ++ 1 ∷ [] ≡ cells ++ replicate (k + 1) 1
-one_more cells k = append_assoc cells (replicate k 1) (1 ∷ []) ∙ ap (λ l. cells ++ l) (replicate-append-replicate k 1 1)
+one_more cells k = append_assoc cells _ (1 ∷ []) ∙ ap (λ l. cells ++ l) (replicate-append-replicate k 1 1)
 
 pub run_ended : (cells : List ℕ) (k : ℕ) → (cells ++ replicate k 1) ++ 0 ∷ [] ≡ cells ++ (replicate k 1 ++ 0 ∷ [])
-run_ended cells k = append_assoc cells (replicate k 1) (0 ∷ [])
+run_ended cells k = append_assoc cells _ (0 ∷ [])
 
 -- ---- the clue run by run
 module _ (front clue : List ℕ) (k : ℕ) (lt : k < length clue) (so_far : front ++ spelled (drop k clue) ≡ spelled clue) where
@@ -90,14 +80,14 @@ module _ (front clue : List ℕ) (k : ℕ) (lt : k < length clue) (so_far : fron
 
 -- ---- the track
 pub track_spelled : {A : Type 0} {has : A → ℕ → Bool} {n : ℕ} {cells : List ℕ}
-    {white black next : A} (stay on ends first back : A) → length cells < n
+    {white black next stay on ends first back : A} → length cells < n
     → IsSpelling has cells white black next
     → ((p : ℕ) → p < n → has on p ≡ one_on (has white) p) → ((p : ℕ) → n ≤ p → has on p ≡ false)
     → ((p : ℕ) → has first p ≡ eqb p 0) → ((p : ℕ) → has stay p ≡ (has on p || has first p))
     → ((p : ℕ) → has back p ≡ has next (suc p)) → ((p : ℕ) → has ends p ≡ (has next p || has back p))
     → ◌≡◌ {A = Track} (record { stay = has stay; white = has white; black = has black; ends = has ends }) (track_of cells)
 unfolding track_of may_stay one_on
-track_spelled stay on ends first back fits s within past one stay_is back_is ends_is =
+track_spelled fits s within past one stay_is back_is ends_is =
     grind (arith, common_steps, cases_Bool, cases_lt, fun_ext, get_or_past, ne_eqb, or-false, or-true)
 
 -- ---- the clue of a track
@@ -105,7 +95,7 @@ track_spelled stay on ends first back fits s within past one stay_is back_is end
 from_next : (x : ℕ) (spell : List ℕ) (n p : ℕ) → cells_from (λ q. eqb (get_or (x ∷ spell) q 2) 1) n (suc p) ≡ cells_from (λ q. eqb (get_or spell q 2) 1) n p
 unfolding cells_from
 from_next x spell zero p = refl
-from_next x spell (suc n) p = ap (λ (l : List ℕ). cond (eqb (get_or spell p 2) 1) 1 0 ∷ l) (from_next x spell n (suc p))
+from_next x spell (suc n) p = ap (λ l. cond (eqb (get_or spell p 2) 1) 1 0 ∷ l) (from_next x spell n (suc p))
 
 all_white : (n p : ℕ) → runs_after 0 (cells_from (λ q. eqb (get_or [] q 2) 1) n p) ≡ []
 unfolding cells_from runs_after
@@ -116,25 +106,25 @@ run_cells : (m n k : ℕ) (rest : List ℕ) → n ≡ m + suc k
     → cells_from (λ q. eqb (get_or (replicate m 1 ++ 0 ∷ rest) q 2) 1) n 0 ≡ replicate m 1 ++ 0 ∷ cells_from (λ q. eqb (get_or rest q 2) 1) k 0
 unfolding cells_from
 run_cells m zero k rest e = absurd (omega arith)
-run_cells zero (suc n) k rest e = ap (λ (l : List ℕ). 0 ∷ l)
-    (from_next 0 rest n 0 ∙ ap (λ j. cells_from (λ q. eqb (get_or rest q 2) 1) j 0) (let z : n ≡ k = omega arith in z))
-run_cells (suc m) (suc n) k rest e = ap (λ (l : List ℕ). 1 ∷ l) (from_next 1 (replicate m 1 ++ 0 ∷ rest) n 0 ∙ run_cells m n k rest (omega arith))
+run_cells zero (suc n) k rest e = ap (λ l. 0 ∷ l)
+    (from_next 0 rest n 0 ∙ ap (λ j. cells_from (λ q. eqb (get_or rest q 2) 1) j 0) (omega arith))
+run_cells (suc m) (suc n) k rest e = ap (λ l. 1 ∷ l) (from_next 1 (replicate m 1 ++ 0 ∷ rest) n 0 ∙ run_cells m n k rest (omega arith))
 
-spelled_runs : (clue : List ℕ) (n : ℕ) → AllByRecursion (λ k. 0 < k) clue → used clue ≤ n
+spelled_runs : (clue : List ℕ) (n : ℕ) → ArePositive clue → used clue ≤ n
     → runs (cells_from (λ q. eqb (get_or (spelled clue) q 2) 1) n 0) ≡ clue
 unfolding spelled
 spelled_runs [] n positive fits = all_white n 0
 spelled_runs (m ∷ clue) n positive fits =
     ap runs (run_cells m n (n - m - 1) (spelled clue) (omega arith)) ∙ run_first m _ positive.0
-    ∙ ap (λ (l : List ℕ). m ∷ l) (spelled_runs clue (n - m - 1) positive.1 (omega arith))
+    ∙ ap (λ l. m ∷ l) (spelled_runs clue (n - m - 1) positive.1 (omega arith))
 
 -- a clue is that of its track
-pub clue_back : {clue : List ℕ} {n : ℕ} {t : Track} → AllByRecursion (λ k. 0 < k) clue → used clue < n → t ≡ track_of (spelled clue) → clue_along n t ≡ clue
+pub clue_back : {clue : List ℕ} {n : ℕ} {t : Track} → ArePositive clue → used clue < n → t ≡ track_of (spelled clue) → clue_along n t ≡ clue
 unfolding clue_along track_of
-clue_back {clue} {n} positive fits is = ap (λ (u : Track). runs (cells_from u.black n 0)) is ∙ spelled_runs clue n positive (omega arith)
+clue_back {clue} {n} positive fits is = ap (λ u. runs (cells_from u.black n 0)) is ∙ spelled_runs clue n positive (omega arith)
 
 pub track_under : (n : ℕ) (t : Track) → IsTrack n t → IsBelow n t
-track_under n t is = subst (IsBelow n) (sym is.spells) (track_below (spelled (clue_along n t)) (omega (arith, is.fits, length-spelled (clue_along n t))))
+track_under n t is = subst (IsBelow n) (sym is.spells) (track_below (spelled _) (omega (arith, is.fits, length-spelled (clue_along n t))))
 
-pub track_of_clue : (clue : List ℕ) {n : ℕ} {t : Track} → AllByRecursion (λ k. 0 < k) clue → used clue < n → t ≡ track_of (spelled clue) → IsTrack n t
+pub track_of_clue : (clue : List ℕ) {n : ℕ} {t : Track} → ArePositive clue → used clue < n → t ≡ track_of (spelled clue) → IsTrack n t
 track_of_clue clue positive fits is = grind (arith, common_steps, cases_Bool, clue_back)

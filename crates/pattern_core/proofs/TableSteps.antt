@@ -1,20 +1,6 @@
 -- The steps of the table, at a place of the line.
-use Rattle.std.proofs.lemmas.Bool.{cases_Bool}
-use Rattle.std.proofs.lemmas.Grind.{common_steps}
-use Rattle.std.proofs.Common.{bit_and, ◌≡◌, ◌∙◌, ℕ, zero, suc, ◌+◌, ◌<◌, ◌≤◌, Bool, true, false, ◌&&◌, eqb, List, [], ◌∷◌, length, get_or, drop, set, refl, sym, ap, ap₂, arith, inl, inr}
-use Rattle.std.specs.List.{AllByRecursion}
-use Rattle.std.proofs.Math.Path.{fun_ext}
-use Rattle.std.proofs.Math.Bool.{and-true}
-use Rattle.std.proofs.lemmas.Bool.{cases_eq, and_parts, and_from, eqb-true, true≢false, false_from_ne_true}
-use Rattle.std.proofs.lemmas.List.{length-map, get_or-map, get_or-set_same, get_or-set_other, length-set, drop_all, drop_more, drop-drop, get_or-drop}
-use Rattle.grid_core.specs.Candidates.{any_below}
+use Rattle.pattern_core.proofs.Common.{AreKept, ArePositive, AreRows, Bool, IsBelow, IsDecided, List, Track, [], ahead, and-true, and_from, and_parts, any_below, any_below-here, any_below-same, any_below-some, any_cells, ap, ap₂, arith, bit_and, cases_Bool, cases_eq, cell_is, common_steps, drop, drop-drop, drop_all, drop_more, eqb, eqb-true, false, false_from_ne_true, fun_ext, get_or, get_or-drop, get_or-map, get_or-set_other, get_or-set_same, has_bit, has_runs, inl, inr, leads, led, length, length-map, length-set, refl, set, set_for, set_of_bits, sets_of, some_filling, some_leads, spelled, strikes_by_fillings, suc, sym, track_of, true, true≢false, zero, ℕ, ◌&&◌, ◌+◌, ◌<◌, ◌∙◌, ◌∷◌, ◌≡◌, ◌≤◌}
 use Rattle.grid_core.proofs.BoardLemmas.{bits_both}
-use Rattle.grid_core.proofs.CandidateLemmas.{any_below-some, any_below-here, any_below-same}
-use Rattle.engine_core.specs.Filling.{Set, some_filling, strikes_by_fillings}
-use Rattle.engine_core.specs.Sets.{has_bit, set_of_bits}
-use Rattle.engine_core.specs.HouseSets.{IsDecided}
-use Rattle.pattern_core.specs.Lines.{has_runs}
-use Rattle.pattern_core.specs.Track.{spelled, Track, IsBelow, track_of, leads, some_leads, set_for, ahead, led, any_cells, cell_is, sets_of, AreRows, AreKept}
 use Rattle.pattern_core.proofs.Leads.{same_tests, leads_next, leads_here, ways_on}
 use Rattle.pattern_core.proofs.SpelledRuns.{strikes_by_track}
 
@@ -28,7 +14,7 @@ module _ (t : Track) (sets : List ℕ) (at : ℕ) (lt : at < length sets) where
   next_set : drop at (sets_of sets) ≡ (has_bit (get_or sets at 0) 0 ∷ has_bit (get_or sets at 0) 1 ∷ []) ∷ drop (at + 1) (sets_of sets)
   unfolding set_of_bits
   next_set = drop_more (sets_of sets) at [] (omega (arith, length-map sets (set_of_bits 2)))
-      ∙ ap (λ (s : Set). s ∷ drop (at + 1) (sets_of sets)) (get_or-map (set_of_bits 2) sets at 0 [] lt)
+      ∙ ap (λ s. s ∷ drop (at + 1) (sets_of sets)) (get_or-map _ sets at 0 [] lt)
 
   way_next : (test : List ℕ → Bool) (p : ℕ) → some_leads t (drop at (sets_of sets)) (λ cells. test (drop 1 cells)) p
       ≡ ahead t (get_or sets at 0) (some_leads t (drop (at + 1) (sets_of sets)) test) p
@@ -65,9 +51,9 @@ module _ {A : Type 0} (has : A → ℕ → Bool) (t : Track) (sets : List ℕ) (
   pub one_row : (at : ℕ) (row : A) {next : A} → AreRows has t sets rows (at + 1) → at < length sets → next ≡ get_or rows (at + 1) next
       → ((p : ℕ) → has row p ≡ ahead t (get_or sets at 0) (has next) p) → AreRows has t sets (set rows at row) at
   one_row at row {next} rest lt read is = record {
-    room = let r = rest.room in omega (arith, length-set rows at row);
+    room = omega (arith, length-set rows at row);
     row = λ i p w from upto. elim (cases_eq i at) [
-      | inl e ↦ ap (λ j. has (get_or (set rows at row) j w) p) e ∙ ap (λ x. has x p) (get_or-set_same rows at row w (let r = rest.room in omega arith)) ∙ is p
+      | inl e ↦ ap (λ j. has (get_or (set rows at row) j w) p) e ∙ ap (λ x. has x p) (get_or-set_same rows at row w (omega arith)) ∙ is p
           ∙ ap (λ after. ahead t (get_or sets at 0) after p) (sym (row_next (at + 1) at next rest (omega arith) lt read)) ∙ sym (way_any t sets at lt p)
           ∙ ap (λ j. some_leads t (drop j (sets_of sets)) any_cells p) (sym e)
       | inr ne ↦ ap (λ x. has x p) (get_or-set_other rows at i row w ne) ∙ rest.row i p w (omega arith) upto
@@ -92,7 +78,7 @@ reached_next n t sets reached new at below lt is r = record {
   shown = λ test.
       ways_on (get_or sets at 0) n below reached new (some_leads t (drop at (sets_of sets)) (λ cells. test (drop 1 cells)))
       (some_leads t (drop (at + 1) (sets_of sets)) test) is (way_next t sets at lt test)
-      ∙ r.shown (λ cells. test (drop 1 cells)) ∙ ap (λ (h : List ℕ → Bool). some_leads t (sets_of sets) h 0) (fun_ext λ cells. ap test (drop-drop 1 at cells));
+      ∙ r.shown (λ cells. test (drop 1 cells)) ∙ ap (λ h. some_leads t (sets_of sets) h 0) (fun_ext λ cells. ap test (drop-drop 1 at cells));
 }
 
 -- ---- what is kept of a cell
@@ -110,13 +96,13 @@ module _ (n : ℕ) (t : Track) (sets : List ℕ) (reached : ℕ → Bool) (at : 
   pulled : (x : Bool) (way : ℕ → Bool) → any_below (λ p. reached p && (x && way p)) n ≡ (x && any_below (λ p. reached p && way p) n)
   pulled true way = refl
   pulled false way = false_from_ne_true (any_below (λ p. reached p && false) n) (λ on.
-      let w = any_below-some (λ p. reached p && false) n on in true≢false (sym (and_parts (reached w.0) false w.2).1))
+      let w = any_below-some (λ p. reached p && false) n on in true≢false (sym (and_parts _ false w.2).1))
 
   shown_at : (v : ℕ) → v < 2 → some_leads t (sets_of sets) (cell_is at v) 0 ≡ (has_bit (get_or sets at 0) v && leads_by (set_for v))
   unfolding cell_is
   shown_at v small =
-      ap (λ (h : List ℕ → Bool). some_leads t (sets_of sets) h 0)
-      (fun_ext λ cells. ap (λ x. eqb x v) (sym (get_or-drop at cells 0 0 ∙ ap (λ j. get_or cells j 0) (let z : at + 0 ≡ at = omega arith in z))))
+      ap (λ h. some_leads t (sets_of sets) h 0)
+      (fun_ext λ cells. ap (λ x. eqb x v) (sym (get_or-drop at cells 0 0 ∙ ap (λ j. get_or cells j 0) (omega arith))))
       ∙ sym (r.shown (cell_is 0 v))
       ∙ any_below-same (λ p. reached p && some_leads t (drop at (sets_of sets)) (cell_is 0 v) p)
       (λ p. reached p && (has_bit (get_or sets at 0) v && ahead t (set_for v) next p)) n
@@ -129,7 +115,7 @@ module _ (n : ℕ) (t : Track) (sets : List ℕ) (reached : ℕ → Bool) (at : 
   kept_step kept new k long others is = record {
     as_many = long ∙ k.as_many;
     bits = λ i v below small. elim (cases_eq i at) [
-      | inl e ↦ ap (λ j. has_bit (get_or new j 0) v) e ∙ is v small ∙ twice (has_bit (get_or sets at 0) v) (leads_by (set_for v))
+      | inl e ↦ ap (λ j. has_bit (get_or new j 0) v) e ∙ is v small ∙ twice (has_bit (get_or sets at 0) v) _
           ∙ ap (λ x. has_bit (get_or sets at 0) v && x) (sym (shown_at v small))
           ∙ ap (λ j. has_bit (get_or sets j 0) v && some_leads t (sets_of sets) (cell_is j v) 0) (sym e)
       | inr ne ↦ ap (λ x. has_bit x v) (others i ne) ∙ k.bits i v (omega arith) small
@@ -158,7 +144,7 @@ module _ (n : ℕ) (t : Track) (sets : List ℕ) (reached : ℕ → Bool) (at : 
 
 -- ---- all cells
 pub decided_by_track : (clue : List ℕ) {sets kept : List ℕ} {t : Track}
-    → t ≡ track_of (spelled clue) → AllByRecursion (λ n. 0 < n) clue
+    → t ≡ track_of (spelled clue) → ArePositive clue
     → AreKept t sets kept (length sets)
     → IsDecided 2 (strikes_by_fillings (has_runs clue)) sets kept
 decided_by_track clue is positive k = grind (arith, common_steps, cases_Bool, strikes_by_track)

@@ -1,20 +1,8 @@
 -- Words as sets of places.
-use Rattle.std.proofs.lemmas.Bool.{cases_Bool}
-use Rattle.std.proofs.lemmas.Grind.{common_steps}
-use Rattle.std.proofs.Common.{◌≡◌, ◌∙◌, ℕ, zero, suc, ◌*◌, ◌/◌, ◌%◌, ◌^◌, ◌<◌, ◌≤◌, Bool, false, not, ◌&&◌, ◌||◌, eqb, [], ◌∷◌, get_or, sym, ap, arith}
+use Rattle.pattern_core.proofs.Common.{Bool, Track, [], any_below, any_below-none, any_below-some, ap, arith, cases_Bool, cases_eq, common_steps, div-add-mod', eq-eqb, eqb, eqb-false, false, false_from_ne_true, fun_ext, get_or, goes_on, has_bit, led, mod-lt, ne_eqb, not, one_on, or-false, stays, suc, sym, true≢false, zero, ℕ, ◌%◌, ◌&&◌, ◌*◌, ◌/◌, ◌<◌, ◌^◌, ◌||◌, ◌∙◌, ◌∷◌, ◌≡◌, ◌≤◌}
 use Rattle.std.specs.Prelude.{bit_or}
-use Rattle.std.specs.Int.{bit_at}
-use Rattle.std.proofs.lemmas.Bool.{cases_eq, eq-eqb, ne_eqb, eqb-false, false_from_ne_true, true≢false}
-use Rattle.std.proofs.lemmas.Nat.{div-add-mod'}
-use Rattle.std.proofs.Math.Nat.{mod-lt}
-use Rattle.std.proofs.Math.Bool.{or-false}
-use Rattle.std.proofs.Math.Path.{fun_ext}
 use Rattle.std.proofs.lemmas.Nat.Bits.{bit_at-suc, bit_at-zero, bit_at-lt, bit_at_cat_low, bit_at_lowest, bit_at_above, same_from_bits_below}
-use Rattle.grid_core.specs.Candidates.{any_below}
-use Rattle.grid_core.proofs.CandidateLemmas.{any_below-none, any_below-some}
-use Rattle.engine_core.specs.Sets.{has_bit}
 use Rattle.engine_core.proofs.BitLemmas.{bits-both, bits-either, bits-of_power, bits-of_zero}
-use Rattle.pattern_core.specs.Track.{Track, one_on, stays, goes_on, led}
 
 -- ---- the bits of a word of w bits
 pub bits_next : (a p : ℕ) → has_bit (a / 2) p ≡ has_bit a (suc p)
@@ -32,17 +20,17 @@ pub bits_on : (w a p : ℕ) → p < w → has_bit (a * 2 % 2 ^ w) p ≡ one_on (
 unfolding one_on
 bits_on w a zero lt = low_bits w (a * 2) lt ∙ ap (λ n. eqb n 1) (bit_at_lowest (a * 2) ∙ (let z : a * 2 % 2 ≡ 0 = omega arith in z))
 bits_on w a (suc p) lt =
-    low_bits w (a * 2) lt ∙ sym (bits_next (a * 2) p) ∙ ap (λ n. has_bit n p) (let z : a * 2 / 2 ≡ a = omega arith in z)
+    low_bits w (a * 2) lt ∙ sym (bits_next (a * 2) p) ∙ ap (λ n. has_bit n p) (omega arith)
 
 -- a word with no bit set is 0
 no_bits : (w a : ℕ) → a < 2 ^ w → 0 < 2 ^ w → any_below (has_bit a) w ≡ false → a ≡ 0
 no_bits w a fits some none =
     same_from_bits_below w a 0 fits some
-    (λ p lt. off (bit_at a p) (bit_at-lt a p) (any_below-none (has_bit a) w none p lt)
+    (λ p lt. off _ (bit_at-lt a p) (any_below-none (has_bit a) w none p lt)
     ∙ sym (bit_at-zero p))
   where
     off : (x : ℕ) → x < 2 → eqb x 1 ≡ false → x ≡ 0
-    off x lt e = let ne = eqb-false x 1 e in omega arith
+    off x lt e = omega (arith, eqb-false x 1 e)
 
 bits_of_none : (w : ℕ) → any_below (has_bit 0) w ≡ false
 bits_of_none w = false_from_ne_true (any_below (has_bit 0) w) (λ on. let z = any_below-some (has_bit 0) w on in true≢false (sym z.2 ∙ bits-of_zero z.0))

@@ -1,8 +1,7 @@
 -- The rules of lines are lawful, by the laws of fillings and the places of lines.
-use Rattle.std.proofs.lemmas.Bool.{cases_Bool}
+use Rattle.std.proofs.lemmas.Bool.{cases_Bool, cases_lt, true≢false, true_from_ne_false, and_parts, and_from, eqb-true, eq-eqb, ltb-true, lt-ltb}
 use Rattle.std.proofs.lemmas.Grind.{common_steps}
 use Rattle.std.proofs.Common.{◌≡◌, ℕ, zero, suc, ◌+◌, ◌-◌, ◌*◌, ◌/◌, ◌%◌, ◌<◌, ◌≤◌, true, not, ◌&&◌, eqb, List, slice_index, refl, sym, ap, ◌∙◌, arith, inl, inr, ◌⊎◌}
-use Rattle.std.proofs.lemmas.Bool.{cases_lt, true≢false, true_from_ne_false, and_parts, and_from, eqb-true, eq-eqb, ltb-true, lt-ltb}
 use Rattle.std.specs.Cmp.Lexicographic.{same_text, other_text}
 use Rattle.std.proofs.lemmas.Nat.{mod-mul-add, div-mul-add}
 use Rattle.std.proofs.lemmas.List.FromFn.{length-map-range_with_len}
@@ -41,8 +40,8 @@ on_row size line c le on = grind (arith, common_steps, cases_Bool, has_place-at,
 
 pub in_grid : (size : Extent) {line c : ℕ} → line < lines_of size → has_place (line_places size line) c ≡ true → c < size.w * size.h
 in_grid size {line} {c} lt on = elim (cases_lt line size.w) [
-  | inl column ↦ let w = on_column size line c column on in let z = cell_in_grid size line w.0 column w.1 in omega (arith, w.2)
-  | inr row ↦ let w = on_row size line c row on in let z = cell_in_grid size w.0 (line - size.w) w.1 (omega arith) in omega (arith, w.2)
+  | inl column ↦ let w = on_column size line c column on in omega (arith, w.2, cell_in_grid size line w.0 column w.1)
+  | inr row ↦ let w = on_row size line c row on in omega (arith, w.2, cell_in_grid size w.0 (line - size.w) w.1 (omega arith))
 ]
 
 pub different_places : (size : Extent) (line : ℕ) → AreDifferent (line_places size line)
@@ -68,17 +67,17 @@ lines_with size c line on = grind (arith, common_steps, cases_lt, on_column, on_
 -- ---- the bound: a cell is in two lines at most
 two_lines : (size : Extent) (c n : ℕ) → count_below (λ h. has_place (line_places size h) c) n ≤ 2
 two_lines size c n =
-    let both = count_below-or (λ h. eqb h (c % size.w)) (λ h. eqb h (size.w + c / size.w)) (λ h. has_place (line_places size h) c) n
-    (λ h _ on. elim (lines_with size c h on) [ inl e ↦ inl (eq-eqb h (c % size.w) e) | inr e ↦ inr (eq-eqb h (size.w + c / size.w) e) ]) in
+    let both = count_below-or _ _ (λ h. has_place (line_places size h) c) n
+    (λ h _ on. elim (lines_with size c h on) [ inl e ↦ inl (eq-eqb h _ e) | inr e ↦ inr (eq-eqb h (size.w + c / size.w) e) ]) in
     omega (arith, both, one (c % size.w), one (size.w + c / size.w))
   where
     one : (a : ℕ) → count_below (λ h. eqb h a) n ≤ 1
-    one a = count_below-few (λ h. eqb h a) n (λ k j _ _ ek ej. eqb-true k a ek ∙ sym (eqb-true j a ej))
+    one a = count_below-few _ n (λ k j _ _ ek ej. eqb-true k a ek ∙ sym (eqb-true j a ej))
 
 few_shares : (p : Pattern) (n : ℕ) → sum_below (λ c. (2 - 1) * share (line_rules p) c) n ≤ n
 unfolding sum_below share
 few_shares p zero = omega arith
-few_shares p (suc n) = let rest = few_shares p n in let two = two_lines p.size n (lines_of p.size) in omega arith
+few_shares p (suc n) = omega (arith, few_shares p n, two_lines p.size n (lines_of p.size))
 
 -- ---- solutions
 pub has_runs-is : (clue cells : List ℕ) → has_runs clue cells ≡ true → runs cells ≡ clue
@@ -100,7 +99,7 @@ line_of_solution line lt s = grind (arith, common_steps, cases_Bool, cases_lt, l
 pub is_solution-line : (p : Pattern) (g : List ℕ) {line : ℕ} → is_pattern_solution p g ≡ true → line < lines_of p.size
     → has_runs (clue_of p line) (line_numbers p.size g line) ≡ true
 unfolding is_pattern_solution
-is_solution-line p g {line} on lt = all_below-at (λ h. has_runs (clue_of p h) (line_numbers p.size g h)) (lines_of p.size) line on lt
+is_solution-line p g {line} on lt = all_below-at (λ h. has_runs (clue_of p h) (line_numbers p.size g h)) _ line on lt
 
 pub is_solution-each : (p : Pattern) (g : List ℕ) → ((line : ℕ) → line < lines_of p.size → HasClue p g line) → is_pattern_solution p g ≡ true
 unfolding is_pattern_solution
@@ -108,7 +107,7 @@ is_solution-each p g each = grind (arith, common_steps, cases_Bool, all_below-fr
 
 pub is_solution-is : (p : Pattern) (g : List ℕ) → IsGrid (p.size.w * p.size.h) 2 g → is_pattern_solution p g ≡ true → IsPatternSolution p g
 is_solution-is p g grid on = solution_from_lines grid
-    (λ line lt. has_runs-is (clue_of p line) (line_numbers p.size g line) (is_solution-line p g on lt))
+    (λ line lt. has_runs-is (clue_of p line) _ (is_solution-line p g on lt))
 
 pub is_solution-from : (p : Pattern) (g : List ℕ) → IsPatternSolution p g → is_pattern_solution p g ≡ true
 is_solution-from p g s = is_solution-each p g (λ line lt. line_of_solution line lt s)
@@ -126,29 +125,28 @@ pub line_rules-lawful : (p : Pattern) → IsExtent p.size → IsLawful (line_rul
 unfolding after
 line_rules-lawful p extent = record {
   strikes_inside =
-      λ h K L lt inside c v struck. strikes_at-inside 2 (line_places p.size h)
+      λ h K L lt inside c v struck. strikes_at-inside 2 _
       (strikes_by_fillings (has_runs (clue_of p h))) (by_fillings-monotone (has_runs (clue_of p h)))
       K L inside c v struck;
-  strikes_in_scope = λ h K c v lt struck. strikes_at-in_scope 2 (line_places p.size h) (strikes_by_fillings (has_runs (clue_of p h))) K c v struck;
+  strikes_in_scope = λ h K c v lt. strikes_at-in_scope 2 (line_places p.size h) (strikes_by_fillings (has_runs (clue_of p h))) K c v;
   solutions_start = λ g grid good. single-all grid;
   solutions_closed = λ g grid good h c v lt on.
       by_fillings-closed 2 (line_places p.size h) (has_runs (clue_of p h)) g
       (λ k less. let e = grid.each_cell in let z =
       in_grid p.size {c = slice_index (line_places p.size h) k} lt
-      (has_place-here (line_places p.size h) k less) in omega arith)
-      (λ d less. grid.each_value d 0 less)
+      (has_place-here _ k less) in omega arith) (λ d less. grid.each_value d 0 less)
       (ap (has_runs (clue_of p h)) (line_numbers-places p.size g h) ∙ is_solution-line p g good lt) c v on;
   settles = λ settled h K c v lt _ on.
       by_fillings-settled 2 (line_places p.size h) (has_runs (clue_of p h)) K
       (λ d u. K d u && not (strikes_at 2 (line_places p.size h)
       (strikes_by_fillings (has_runs (clue_of p h))) K d u)) (different_places p.size h)
       (λ d u. refl) c v on;
-  bound_of_queue = λ e. let z = few_shares p (p.size.w * p.size.h) in omega arith;
+  bound_of_queue = λ e. omega (arith, few_shares p (p.size.w * p.size.h));
   bound_of_sweeps = λ e. absurd (true≢false e);
   some_values = omega arith;
   few_values = omega arith;
   few_cells = few_cells p.size extent;
-  start_within = λ c v on. all-within 2 c v on;
-  scope_within = λ h c lt member. in_grid p.size lt member;
-  scope_distinct = λ h j k lt lj lk e. different_places p.size h j k lj lk e;
+  start_within = all-within 2;
+  scope_within = λ h c. in_grid p.size;
+  scope_distinct = λ h j k lt. different_places p.size h j k;
 }

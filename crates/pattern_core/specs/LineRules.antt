@@ -7,7 +7,7 @@ use Rattle.gameid_core.specs.Puzzles.{Pattern}
 use Rattle.engine_core.specs.RuleSystem.{RuleSystem}
 use Rattle.engine_core.specs.Filling.{strikes_by_fillings}
 use Rattle.engine_core.specs.HouseSets.{strikes_at}
-use Rattle.engine_core.specs.Waiting.{is_waiting, AreCalled}
+use Rattle.engine_core.specs.Waiting.{is_waiting, AreWoken}
 use Rattle.pattern_core.specs.Lines.{clue_of, has_runs, IsFresh}
 
 -- whether each line's runs are its clue
@@ -43,4 +43,4 @@ GoesAlong p fresh K = fresh ≡ true → IsFresh (p.size.w * p.size.h) K
 -- the line is marked beside those that were, unless it strikes nothing of the board that is gone along with
 abbrev pub CallsLine : Pattern → Bool → ℕ → List ℕ → List ℕ → Type 0
 CallsLine p fresh line old new = (K : Candidates) → GoesAlong p fresh K
-    → AreCalled (line_rules p) K (λ j. j == line) (is_waiting old) (is_waiting new)
+    → AreWoken (line_rules p) K (λ j. j == line) (is_waiting old) (is_waiting new)

@@ -21,10 +21,14 @@ HasClue p g line = runs (line_numbers p.size g line) ≡ clue_of p line
 unfoldable pub has_runs : List ℕ → List ℕ → Bool
 has_runs clue cells = pointwise nat_eq (runs cells) clue
 
+-- each run of the clue has a cell
+abbrev pub ArePositive : List ℕ → Type 0
+ArePositive clue = AllByRecursion (λ n. 0 < n) clue
+
 -- the clue has a run, and a line of n cells is longer than the clue needs by as much as each run is
 pub record IsRoomy (clue : List ℕ) (n : ℕ) : Type 0 where
   pub some : 0 < length clue
-  pub positive : AllByRecursion (λ m. 0 < m) clue
+  pub positive : ArePositive clue
   pub spare : ℕ
   pub more : 0 < spare
   pub short : AllByRecursion (λ m. m ≤ spare) clue

@@ -1,11 +1,11 @@
 -- A clue spelled out as cells, and how a line goes along it. The places along the clue are numbered from 0, before its
 -- first cell. A line that is at a place has passed what is spelled before it. No public contract uses these words.
 use Rattle.std.specs.Prelude.{◌≡◌, ℕ, zero, suc, ◌+◌, ◌<◌, ◌≤◌, Bool, true, false, ◌&&◌, ◌||◌, ◌==◌, List, [], ◌∷◌, ◌++◌, length, get_or, replicate, drop, map, if◌then◌else◌}
-use Rattle.std.specs.List.{AllByRecursion}
 use Rattle.gameid_core.specs.BlackRuns.{runs}
 use Rattle.gameid_core.specs.Puzzles.{used}
 use Rattle.engine_core.specs.Filling.{Set, some_filling}
 use Rattle.engine_core.specs.Sets.{has_bit, set_of_bits}
+use Rattle.pattern_core.specs.Lines.{ArePositive}
 use Rattle.pattern_core.specs.declared.track.Spelling.{Spelling}
 use Rattle.pattern_core.specs.declared.track.TrackSlots.{TrackSlots}
 
@@ -158,5 +158,5 @@ clue_along n t = runs (cells_from t.black n 0)
 -- the track is that of a clue, whose places are so few
 pub record IsTrack (n : ℕ) (t : Track) : Type 0 where
   pub spells : t ≡ track_of (spelled (clue_along n t))
-  pub positive : AllByRecursion (λ k. 0 < k) (clue_along n t)
+  pub positive : ArePositive (clue_along n t)
   pub fits : used (clue_along n t) < n

@@ -7,9 +7,8 @@
 //! value of a cell stays where the two meet. What a cell's set lets a line do is looked up by the set.
 
 ghost use Rattle.std.specs.Prelude.{◌≡◌, ◌<◌, false, length};
-ghost use Rattle.std.specs.List.{AllByRecursion};
 ghost use Rattle.engine_core.specs.Sets.{has_bit};
-ghost use Rattle.pattern_core.specs.Lines.{IsDecidedBy};
+ghost use Rattle.pattern_core.specs.Lines.{IsDecidedBy, ArePositive};
 ghost use Rattle.pattern_core.specs.Track.{along, spelled, track_of, AreMoves, AreAhead, AreLed, IsBelow, AreRows, AreKept};
 
 use crate::slots::Slots;
@@ -31,7 +30,7 @@ struct Moves<P: Slots> {
 /// What a cell lets a line do along a clue.
 fn moves_of<P: Slots>(clue: &SpelledClue<P>) -> Moves<P>
     ensures track { along P.has result.steps ≡ track_of (spelled clue.now) }
-    ensures positive { AllByRecursion (λ n. 0 < n) clue.now }
+    ensures positive { ArePositive clue.now }
     ensures below { IsBelow P.room (along P.has result.steps) }
 {
     let steps = clue.steps();

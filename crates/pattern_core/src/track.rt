@@ -3,9 +3,8 @@
 //! number of white cells.
 
 ghost use Rattle.std.specs.Prelude.{◌≡◌, ℕ, ◌<◌, true, ◌++◌, [], ◌∷◌, replicate};
-ghost use Rattle.std.specs.List.{AllByRecursion};
 ghost use Rattle.gameid_core.specs.Puzzles.{used};
-ghost use Rattle.pattern_core.specs.Lines.{IsRoomy, IsRoomyFrom};
+ghost use Rattle.pattern_core.specs.Lines.{IsRoomy, IsRoomyFrom, ArePositive};
 ghost use Rattle.pattern_core.specs.Track.{spelled, track_of, along, AddsCells, IsBelow};
 
 use crate::slots::Slots;
@@ -89,9 +88,9 @@ pub(crate) const TOO_MANY: usize = 1000;
 /// How many cells a clue is spelled with, those of each run and a white one after it; and from how many cells on a line
 /// is roomy for it.
 pub(crate) fn measured(numbers: &[u8]) -> (usize, usize)
-    requires positive { AllByRecursion (λ n. 0 < n) numbers.now }
+    requires positive { ArePositive numbers.now }
     requires fits { used numbers.now < 128 }
-    ensures positive { AllByRecursion (λ n. 0 < n) numbers.now }
+    ensures positive { ArePositive numbers.now }
     ensures cells { result.0 ≡ used numbers.now }
     ensures few { result.0 < 128 }
     ensures roomy { IsRoomyFrom numbers.now result.1 }
@@ -132,7 +131,7 @@ impl<P: Slots> Model for SpelledClue<P> {
 impl<P: Slots> SpelledClue<P> {
     /// The clue with these numbers, for which a line of so many cells is roomy, and each longer one.
     pub(crate) fn new(numbers: &[u8], roomy_from: usize) -> SpelledClue<P>
-        requires positive { AllByRecursion (λ n. 0 < n) numbers.now }
+        requires positive { ArePositive numbers.now }
         requires fits { used numbers.now < P.room }
         requires roomy { IsRoomyFrom numbers.now roomy_from }
         ensures { result ≡ numbers.now }
@@ -155,7 +154,7 @@ impl<P: Slots> SpelledClue<P> {
     #[tactic(auto, using(crate::proofs::Spellings::track_under))]
     pub(crate) fn steps(&self) -> TrackSlots<P>
         ensures track { along P.has result ≡ track_of (spelled self.now) }
-        ensures positive { AllByRecursion (λ n. 0 < n) self.now }
+        ensures positive { ArePositive self.now }
         ensures below { IsBelow P.room (along P.has result) }
     {
         self.steps

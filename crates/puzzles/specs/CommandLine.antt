@@ -1,11 +1,16 @@
 -- The command line: what the words may be, by the parser's own definitions of a simple command.
-use Rattle.std.specs.Prelude.{[], ◌∷◌, List, Option, Some, None, codes, true}
+use Rattle.std.specs.Prelude.{◌≡◌, false, [], ◌∷◌, List, Option, Some, None, codes, true}
 use Rattle.clap.specs.Kinds.{Kinds}
 use Rattle.clap.specs.Walk.{Row, Rule, Text}
-use Rattle.clap.specs.Simple.{App, new_app, new_rule, on_top, subcommand_of}
-use Rattle.clap.specs.Simple.{with_rule, with_subcommand}
+use Rattle.clap.specs.Simple.{App, app_of, new_app, new_rule, on_top, subcommand_of, with_rule, with_subcommand}
 use Rattle.clap.specs.Faults.{fault_of}
+use Rattle.clap.specs.declared.builder.command.Command.{Command}
+use Rattle.clap.specs.declared.builder.command.Command.TheViews.{out-Command as fields_of}
 use Rattle.clap.specs.declared.builder.action.ArgAction.TheVariants.{SetTrue}
+
+-- the command is that one, with no option that its subcommands have too
+abbrev pub IsApp : App → Command → Type 0
+IsApp app command = (app_of command ≡ app) × ((fields_of command).has_globals ≡ false)
 
 -- a word that must be there, and one that may be
 abbrev pub required_word : Text → Rule
@@ -70,11 +75,9 @@ bare_app = on_top (λ s. record s {
   subcommand_required = true;
 }) (new_app (codes "puzzles"))
 
-abbrev pub solving_app : App
-solving_app = with_subcommand (with_subcommand bare_app solve_app.top) check_app.top
-
 abbrev pub puzzles_app : App
-puzzles_app = with_subcommand (with_subcommand solving_app grade_app.top) generate_app.top
+puzzles_app = with_subcommand (with_subcommand (with_subcommand (with_subcommand bare_app
+    solve_app.top) check_app.top) grade_app.top) generate_app.top
 
 -- nothing where a fault was found
 abbrev pub unless_fault : {X : Type 0} → Kinds → Option X → Option X

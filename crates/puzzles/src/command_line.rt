@@ -3,7 +3,7 @@ ghost use Rattle.std.specs.Prelude.{◌≡◌, IfOk, false};
 ghost use Rattle.clap.specs.Walk.{rule_of};
 ghost use Rattle.clap.specs.Simple.{App, app_of, with_rule, with_subcommand};
 ghost use Rattle.clap.specs.declared.builder.command.Command.TheViews.{out-Command as fields_of};
-ghost use Rattle.puzzles.specs.CommandLine.{required_word, text_option, flag, game_app, solve_app, check_app, grade_app, generate_needs_app, generate_app, bare_app, solving_app, puzzles_app};
+ghost use Rattle.puzzles.specs.CommandLine.{IsApp, required_word, text_option, flag, game_app, solve_app, check_app, grade_app, generate_needs_app, generate_app, bare_app, puzzles_app};
 
 use clap::{Arg, ArgAction, Command};
 use std::alloc::{AllocError, Global};
@@ -15,9 +15,8 @@ fn with_word<'a>(
     id: &'a str,
 ) -> Result<Command<'a>, AllocError>
     requires { (fields_of command).has_globals ≡ false }
-    ensures app { IfOk result
-        (λ c. app_of c ≡ with_rule (app_of command.entry) (required_word id.entry.now)) }
-    ensures local { IfOk result (λ c. (fields_of c).has_globals ≡ false) }
+    ensures { IfOk result
+        (IsApp (with_rule (app_of command.entry) (required_word id.entry.now))) }
 {
     command.arg(Arg::new(alloc, id).required(true))
 }
@@ -37,9 +36,8 @@ fn with_option<'a>(
     name: &'a str,
 ) -> Result<Command<'a>, AllocError>
     requires { (fields_of command).has_globals ≡ false }
-    ensures app { IfOk result
-        (λ c. app_of c ≡ with_rule (app_of command.entry) (text_option name.entry.now)) }
-    ensures local { IfOk result (λ c. (fields_of c).has_globals ≡ false) }
+    ensures { IfOk result
+        (IsApp (with_rule (app_of command.entry) (text_option name.entry.now))) }
 {
     command.arg(text_argument(alloc, name))
 }
@@ -51,25 +49,22 @@ fn with_flag<'a>(
     name: &'a str,
 ) -> Result<Command<'a>, AllocError>
     requires { (fields_of command).has_globals ≡ false }
-    ensures app { IfOk result
-        (λ c. app_of c ≡ with_rule (app_of command.entry) (flag name.entry.now)) }
-    ensures local { IfOk result (λ c. (fields_of c).has_globals ≡ false) }
+    ensures { IfOk result
+        (IsApp (with_rule (app_of command.entry) (flag name.entry.now))) }
 {
     command.arg(text_argument(alloc, name).action(ArgAction::SetTrue))
 }
 
 /// A command whose first word names a game.
 fn game_command<'a>(alloc: Global, name: &'a str) -> Result<Command<'a>, AllocError>
-    ensures app { IfOk result (λ c. app_of c ≡ game_app name.entry.now) }
-    ensures local { IfOk result (λ c. (fields_of c).has_globals ≡ false) }
+    ensures { IfOk result (IsApp (game_app name.entry.now)) }
 {
     with_word(alloc, Command::new(alloc, name), "game")
 }
 
 /// `solve GAME [ID] [--budget B]`
 fn solve_command<'a>(alloc: Global) -> Result<Command<'a>, AllocError>
-    ensures app { IfOk result (λ c. app_of c ≡ solve_app) }
-    ensures local { IfOk result (λ c. (fields_of c).has_globals ≡ false) }
+    ensures { IfOk result (IsApp solve_app) }
 {
     let command = game_command(alloc, "solve")?.arg(Arg::new(alloc, "id"))?;
     with_option(alloc, command, "budget")
@@ -77,16 +72,14 @@ fn solve_command<'a>(alloc: Global) -> Result<Command<'a>, AllocError>
 
 /// `check GAME ID`
 fn check_command<'a>(alloc: Global) -> Result<Command<'a>, AllocError>
-    ensures app { IfOk result (λ c. app_of c ≡ check_app) }
-    ensures local { IfOk result (λ c. (fields_of c).has_globals ≡ false) }
+    ensures { IfOk result (IsApp check_app) }
 {
     with_word(alloc, game_command(alloc, "check")?, "id")
 }
 
 /// `grade GAME ID [--budget B] [--trace]`
 fn grade_command<'a>(alloc: Global) -> Result<Command<'a>, AllocError>
-    ensures app { IfOk result (λ c. app_of c ≡ grade_app) }
-    ensures local { IfOk result (λ c. (fields_of c).has_globals ≡ false) }
+    ensures { IfOk result (IsApp grade_app) }
 {
     let command = with_word(alloc, game_command(alloc, "grade")?, "id")?;
     let command = with_option(alloc, command, "budget")?;
@@ -95,8 +88,7 @@ fn grade_command<'a>(alloc: Global) -> Result<Command<'a>, AllocError>
 
 /// `generate GAME SIZE --seed S`: what a generated puzzle cannot do without.
 fn generate_needs<'a>(alloc: Global) -> Result<Command<'a>, AllocError>
-    ensures app { IfOk result (λ c. app_of c ≡ generate_needs_app) }
-    ensures local { IfOk result (λ c. (fields_of c).has_globals ≡ false) }
+    ensures { IfOk result (IsApp generate_needs_app) }
 {
     let command = with_word(alloc, game_command(alloc, "generate")?, "size")?;
     command.arg(text_argument(alloc, "seed").required(true))
@@ -104,8 +96,7 @@ fn generate_needs<'a>(alloc: Global) -> Result<Command<'a>, AllocError>
 
 /// What a puzzle is generated of, with `[--budget B] [--tries T] [--black P]`.
 fn generate_command<'a>(alloc: Global) -> Result<Command<'a>, AllocError>
-    ensures app { IfOk result (λ c. app_of c ≡ generate_app) }
-    ensures local { IfOk result (λ c. (fields_of c).has_globals ≡ false) }
+    ensures { IfOk result (IsApp generate_app) }
 {
     let command = with_option(alloc, generate_needs(alloc)?, "budget")?;
     let command = with_option(alloc, command, "tries")?;
@@ -114,8 +105,7 @@ fn generate_command<'a>(alloc: Global) -> Result<Command<'a>, AllocError>
 
 /// The program without its commands. It has no help and no version, and wants a command.
 fn bare_command<'a>(alloc: Global) -> Command<'a>
-    ensures app { app_of result ≡ bare_app }
-    ensures local { (fields_of result).has_globals ≡ false }
+    ensures { IsApp bare_app result }
 {
     Command::new(alloc, "puzzles")
         .no_binary_name(true)
@@ -130,25 +120,18 @@ fn with_command<'a>(
     program: Command<'a>,
     command: Result<Command<'a>, AllocError>,
 ) -> Result<Command<'a>, AllocError>
-    ensures { (a : App) → IfOk command.entry (λ c. app_of c ≡ a)
-        → IfOk command.entry (λ c. (fields_of c).has_globals ≡ false)
+    ensures { (a : App) → IfOk command.entry (IsApp a)
         → IfOk result (λ p. app_of p ≡ with_subcommand (app_of program.entry) a.top) }
 {
     program.subcommand(command?)
-}
-
-/// The program with `solve` and `check`.
-fn solving_command<'a>(alloc: Global) -> Result<Command<'a>, AllocError>
-    ensures { IfOk result (λ c. app_of c ≡ solving_app) }
-{
-    let program = with_command(bare_command(alloc), solve_command(alloc))?;
-    with_command(program, check_command(alloc))
 }
 
 /// The program with its four commands.
 pub fn puzzles_command<'a>(alloc: Global) -> Result<Command<'a>, AllocError>
     ensures { IfOk result (λ c. app_of c ≡ puzzles_app) }
 {
-    let program = with_command(solving_command(alloc)?, grade_command(alloc))?;
-    with_command(program, generate_command(alloc))
+    let solving = with_command(bare_command(alloc), solve_command(alloc))?;
+    let checking = with_command(solving, check_command(alloc))?;
+    let grading = with_command(checking, grade_command(alloc))?;
+    with_command(grading, generate_command(alloc))
 }

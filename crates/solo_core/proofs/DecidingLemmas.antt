@@ -1,4 +1,5 @@
 -- Houses that decide alike.
+use Rattle.std.proofs.lemmas.Grind.{common_steps}
 use Rattle.std.proofs.Common.{◌≡◌, ℕ, ◌<◌, List, [], map, length, get_or, refl, sym, ap, ◌∙◌, arith, ◌++◌, All, Bool, true}
 use Rattle.std.proofs.lemmas.Bool.{true≢false}
 use Rattle.std.proofs.lemmas.Simd.{map-map}
@@ -6,23 +7,22 @@ use Rattle.engine_core.specs.HouseList.{Listed}
 use Rattle.engine_core.specs.HouseSetsLaws.{kept-decided}
 use Rattle.engine_core.specs.Keeping.{AreSetsOf, IsKept}
 use Rattle.engine_core.specs.ListedHouses.{all_places}
-use Rattle.solo_core.specs.Common.{Candidates, get_or-map, length-map, map-append, Solo, IsSolo, solo_n, Decision, IsDecided, House, house_of, no_house, IsSound}
-use Rattle.solo_core.specs.Common.{Row, houses_of, places_of, no_repeat, strikes_by_fillings}
+use Rattle.solo_core.specs.Common.{Candidates, get_or-map, length-map, map-append, Solo, IsSolo, solo_n, Decision, IsDecided, House, house_of, no_house, IsSound, Row, houses_of, places_of}
 use Rattle.solo_core.specs.HouseLaws.{lists_house, all_houses}
 use Rattle.solo_core.specs.RuleSets.{deciding, house_by, filled_houses, setting_of, rules_of, crossings_of}
 
 pub length-deciding : (decides : Decision) (p : Solo) → length (deciding decides p) ≡ length (houses_of p)
-length-deciding decides p = length-map (houses_of p) (house_by decides p)
+length-deciding decides p = length-map _ (house_by decides p)
 
 module _ (decides : Decision) (p : Solo) {h : ℕ} (lt : h < length (deciding decides p)) where
   inside : h < length (houses_of p)
   inside = omega (arith, lt, length-deciding decides p)
 
   pub deciding-at : house_of (deciding decides p) h ≡ house_by decides p (get_or (houses_of p) h (Row 0))
-  deciding-at = get_or-map (house_by decides p) (houses_of p) h (Row 0) no_house inside
+  deciding-at = get_or-map (house_by decides p) _ h (Row 0) no_house inside
 
   pub decides-at : decides ≡ (house_of (deciding decides p) h).decides
-  decides-at = sym (ap (λ (house : House). house.decides) deciding-at)
+  decides-at = sym (ap (λ house. house.decides) deciding-at)
 
   pub long-at : IsSolo p → length (house_of (deciding decides p) h).places ≡ solo_n p
   long-at ok = ap (λ (house : House). length house.places) deciding-at ∙ (lists_house ok (get_or (houses_of p) h (Row 0)) (all_houses p h (Row 0) inside)).len
@@ -49,14 +49,10 @@ kept-deciding settled p {decides} sound lt K are decided = kept-houses settled p
 -- ---- crossings after the houses
 pub listed-deciding : (decides : Decision) (p : Solo) {first second : Listed} → first ≡ record { closed = []; begun = [] }
     → second ≡ record { closed = first.closed ++ map (places_of p) (houses_of p); begun = [] } → second.closed ≡ all_places (deciding decides p)
-listed-deciding decides p none e =
-    ap (λ (list : Listed). list.closed) e ∙ ap (λ (list : Listed). list.closed ++ map (places_of p) (houses_of p)) none
-    ∙ sym (map-map (λ (house : House). house.places) (house_by decides p) (houses_of p))
+listed-deciding decides p none e = grind (arith, common_steps, map-map)
 
 pub listed-crossings : (p : Solo) (none first second : Listed) → none ≡ record { closed = []; begun = [] }
     → first ≡ record { closed = none.closed ++ map (places_of p) (houses_of p); begun = [] }
     → second ≡ record { closed = first.closed ++ all_places (crossings_of p); begun = [] }
     → second.closed ≡ all_places (filled_houses p ++ crossings_of p)
-listed-crossings p none first second z a b =
-    ap (λ (list : Listed). list.closed) b ∙ ap (λ xs. xs ++ all_places (crossings_of p)) (listed-deciding (strikes_by_fillings no_repeat) p z a)
-    ∙ sym (map-append (λ (house : House). house.places) (filled_houses p) (crossings_of p))
+listed-crossings p none first second z a b = grind (arith, common_steps, listed-deciding, map-append)

@@ -1,28 +1,24 @@
 -- Houses and crossings by their numbers, and lists of their places.
+use Rattle.std.proofs.lemmas.Grind.{common_steps}
 use Rattle.std.proofs.Common.{◌≡◌, ℕ, zero, suc, ◌+◌, ◌-◌, ◌<◌, ◌≤◌, Bool, true, false, List, [], ◌∷◌, ◌++◌, map, length, get_or, slice_index, take, if◌then◌else◌, refl, sym, ap, ◌∙◌, arith, append-nil, append_assoc, ◌*◌, length-append}
-use Rattle.solo_core.specs.Common.{range_with_len, get_or_append_left, get_or-append_right, get_or-map, length-map, take_more, map-append}
-use Rattle.solo_core.specs.Common.{get_or-map-range_with_len, length-map-range_with_len, Solo, solo_n, NamedHouse, Diagonal, houses_of, house_places, places_of}
-use Rattle.solo_core.specs.Common.{mul-le, House, house_of, no_house, strikes_by_fillings, no_repeat}
+use Rattle.solo_core.specs.Common.{range_with_len, get_or_append_left, get_or-append_right, get_or-map, length-map, take_more, map-append, get_or-map-range_with_len, length-map-range_with_len, Solo, solo_n, NamedHouse, Diagonal, houses_of, house_places, places_of, mul-le, House, house_of, no_house}
 use Rattle.std.proofs.Math.Seq.{take-length}
 use Rattle.engine_core.specs.HouseList.{Listed}
 use Rattle.solo_core.specs.BoundLaws.{house_count, count_x, count_plain}
 use Rattle.std.proofs.lemmas.Simd.{map-map}
 use Rattle.solo_core.specs.declared.houses.scope.VisitName.{VisitName}
 use Rattle.solo_core.specs.RuleSets.{filled_houses, crossings_of, house_at}
-use Rattle.solo_core.specs.Scopes.{row_scope, column_scope, crossing_scopes, scopes_of}
+use Rattle.solo_core.specs.Scopes.{crossing_scopes, scopes_of}
 use Rattle.solo_core.proofs.DecidingLemmas.{length-deciding}
 use Rattle.solo_core.specs.declared.houses.scope.VisitName.TheVariants as scope
 
 -- ---- a list that begins with the values of a function
 module _ {X : Type 0} (f : ℕ → X) {n : ℕ} (rest : List X) {h : ℕ} (d : X) where
   pub part_first : h < n → get_or (map f (range_with_len 0 n) ++ rest) h d ≡ f h
-  part_first lt =
-      get_or_append_left (map f (range_with_len 0 n)) rest d h
-      (omega (arith, length-map-range_with_len f 0 n))
-      ∙ get_or-map-range_with_len f 0 n h h d lt (omega arith)
+  part_first lt = grind (arith, common_steps, get_or_append_left, length-map-range_with_len, get_or-map-range_with_len)
 
   pub part_later : n ≤ h → get_or (map f (range_with_len 0 n) ++ rest) h d ≡ get_or rest (h - n) d
-  part_later le = get_or-append_right (map f (range_with_len 0 n)) rest n h d (length-map-range_with_len f 0 n) le
+  part_later le = get_or-append_right _ rest n h d (length-map-range_with_len f 0 n) le
 
 pub diagonal_at : (x : Bool) (k : ℕ) (d : NamedHouse) → k < (if x then 2 else 0) → get_or (if x then Diagonal 0 ∷ Diagonal 1 ∷ [] else []) k d ≡ Diagonal k
 diagonal_at true zero d lt = refl
@@ -58,11 +54,11 @@ pub listed-all : {list : Listed} (closed all : List (List ℕ)) (k : ℕ) → le
 listed-all closed all k long was = was ∙ rw (← long, take-length all) refl
 
 pub places-length : (p : Solo) → length (house_places p) ≡ length (houses_of p)
-places-length p = length-map (houses_of p) (places_of p)
+places-length p = length-map _ _
 
 pub places-at : (p : Solo) (k : ℕ) {house : NamedHouse} → k < length (houses_of p)
     → house ≡ get_or (houses_of p) k house → places_of p house ≡ get_or (house_places p) k []
-places-at p k {house} lt is = ap (places_of p) is ∙ sym (get_or-map (places_of p) (houses_of p) k house [] lt)
+places-at p k {house} lt is = ap (places_of p) is ∙ sym (get_or-map _ _ k house [] lt)
 
 -- the houses by their numbers, and what the list gets of them
 pub ruleset house_laws =
@@ -80,11 +76,11 @@ module _ {X : Type 0} (first second : ℕ → X) (n m : ℕ) where
   first-at k d lt = sym (part_first first (map second (range_with_len 0 m)) d lt)
 
   pub second-at : (k : ℕ) (d : X) → n ≤ k → k - n < m → second (k - n) ≡ get_or both k d
-  second-at k d le lt = sym (part_later first (map second (range_with_len 0 m)) d le ∙ get_or-map-range_with_len second 0 m (k - n) (k - n) d lt (omega arith))
+  second-at k d le lt = grind (arith, common_steps, part_later, get_or-map-range_with_len)
 
 module _ (p : Solo) where
   pub scopes-length : length (crossing_scopes p) ≡ solo_n p * p.c + solo_n p * p.r
-  scopes-length = both-length (row_scope p) (column_scope p) (solo_n p * p.c) (solo_n p * p.r)
+  scopes-length = both-length _ _ _ (solo_n p * p.r)
 
   pub crossings-length : length (crossings_of p) ≡ solo_n p * p.c + solo_n p * p.r
   crossings-length = length-map (crossing_scopes p) (house_at p) ∙ scopes-length
@@ -99,32 +95,32 @@ later_at some more {h} le = sym (get_or-append_right some more (length some) h n
 -- ---- all scopes by their numbers
 module _ (p : Solo) where
   pub filled-length : length (filled_houses p) ≡ length (houses_of p)
-  filled-length = length-deciding (strikes_by_fillings no_repeat) p
+  filled-length = length-deciding _ p
 
   abbrev names : List VisitName
   names = map scope.House (houses_of p)
 
   names-length : length names ≡ length (houses_of p)
-  names-length = length-map (houses_of p) scope.House
+  names-length = length-map _ scope.House
 
   pub all-length : length (scopes_of p) ≡ length (houses_of p) + length (crossing_scopes p)
   all-length = omega (arith, length-append names (crossing_scopes p), names-length)
 
   pub house-named : (h : ℕ) (d : VisitName) (house : NamedHouse) → h < length (houses_of p)
       → get_or (scopes_of p) h d ≡ scope.House (get_or (houses_of p) h house)
-  house-named h d house lt = get_or_append_left names (crossing_scopes p) d h (omega (arith, names-length)) ∙ get_or-map scope.House (houses_of p) h house d lt
+  house-named h d house lt = get_or_append_left names _ d h (omega (arith, names-length)) ∙ get_or-map scope.House _ h house d lt
 
   pub crossing-after : (h : ℕ) (d : VisitName) → length (houses_of p) ≤ h → get_or (scopes_of p) h d ≡ get_or (crossing_scopes p) (h - length (houses_of p)) d
-  crossing-after h d le = get_or-append_right names (crossing_scopes p) (length (houses_of p)) h d names-length le
+  crossing-after h d le = get_or-append_right names _ _ h d names-length le
 
   all-named : map (house_at p) (scopes_of p) ≡ filled_houses p ++ crossings_of p
-  all-named = map-append (house_at p) names (crossing_scopes p) ∙ rw (map-map (house_at p) scope.House) refl
+  all-named = grind (arith, common_steps, map-append, map-map)
 
   pub crossings-counted : length (filled_houses p ++ crossings_of p) ≡ length (scopes_of p)
-  crossings-counted = ap length (sym all-named) ∙ length-map (scopes_of p) (house_at p)
+  crossings-counted = ap length (sym all-named) ∙ length-map _ _
 
   pub scope-named : (h : ℕ) (d : VisitName) → h < length (scopes_of p) → house_of (filled_houses p ++ crossings_of p) h ≡ house_at p (get_or (scopes_of p) h d)
-  scope-named h d lt = ap (λ xs. house_of xs h) (sym all-named) ∙ get_or-map (house_at p) (scopes_of p) h d no_house lt
+  scope-named h d lt = ap (λ xs. house_of xs h) (sym all-named) ∙ get_or-map _ _ h d no_house lt
 
 -- ---- room for all of them
 pub crossings-count : (p : Solo) → solo_n p * (p.c + p.r) ≡ length (crossings_of p)
@@ -137,6 +133,6 @@ pub few_crossings : (n lines : ℕ) → n ≤ 31 → lines ≤ 510 → n * lines
 few_crossings n lines high few = omega (arith, mul-le n lines 31 510 high few)
 
 pub few_in_crossings : (crossings n : ℕ) → crossings ≤ 16000 → n ≤ 31 → crossings * (2 * n) ≤ 1000000
-few_in_crossings crossings n few high = omega (arith, mul-le crossings (2 * n) 16000 62 few (omega arith))
+few_in_crossings crossings n few high = grind (arith, common_steps, mul-le)
 
 pub ruleset room_laws = (crossings-count, few_in_houses, few_crossings, few_in_crossings)

@@ -5,7 +5,7 @@ use Rattle.solo_core.proofs.RepeatLemmas.{given_first, len_of, number_at, seen_n
 use Rattle.solo_core.proofs.HouseLemmas.{listed-none, listed-all, crossings-length, scopes-length, first_at, crossings-counted, house-named, scope-named, first-at, second-at, crossing-after, all-length, filled-length}
 use Rattle.solo_core.specs.HouseLaws.{lists_house, listed-has, listed-same, row_in, column_in}
 use Rattle.solo_core.proofs.CrossingLemmas.{any-more, any-none, cut_by, crossing-is, crossings-listed, rest-out, rest-in, rest-all, shared-below, shared-above}
-use Rattle.solo_core.specs.BoundLaws.{house_count, bound_is}
+use Rattle.solo_core.specs.BoundLaws.{house_count, bound_is, crossings_rules-bound}
 use Rattle.solo_core.proofs.SinglesLemmas.{singles_in_houses}
 use Rattle.solo_core.specs.RuleLaws.{houses_lawful, singles_lawful, crossings_lawful}
 use Rattle.solo_core.proofs.DecidingLemmas.{length-deciding, decides-at, kept-houses, long-at, listed-crossings, listed-deciding}
@@ -30,6 +30,7 @@ pub ruleset laws_laws = (
   test_from_rule,
   house_count,
   bound_is,
+  crossings_rules-bound,
   first_at,
   lists_house,
   listed-has,

@@ -1,15 +1,12 @@
 -- A pairing of the cells with values is a filling without repeat, and a short set rules out every one. The values of the cells that
 -- are alone and a pairing of the rest make a pairing of the house.
+use Rattle.std.proofs.lemmas.Grind.{common_steps}
 use Rattle.std.proofs.Common.{◌≡◌, ℕ, ◌<◌, true, false, true≢false, List, [], length, get_or, slice_index, map, refl, sym, ◌∙◌, ap, arith, inl, inr, zero, suc, ◌+◌, Bool, not, eqb, ◌∷◌, ◌++◌, cond, append-nil}
-use Rattle.solo_core.specs.Common.{range_with_len, cases_lt, true_from_ne_false, get_or-map, length-map, get_or_past, get_or-map-range_with_len}
-use Rattle.solo_core.specs.Common.{length-map-range_with_len, has_value, IsShownBy, IsPairing, has_bit, set_of_bits, no_repeat, has_in, is_struck, filter}
-use Rattle.solo_core.specs.Common.{cases_Bool, true≢false, not-true, not_from_false, eqb-true, eq-eqb, map-id, map-range_with_len_more, length-range_with_len}
-use Rattle.solo_core.specs.Common.{get_or-range_with_len, filter-append, AreDifferent, has_place-at, has_place-here, place-filter, place-kept, different-filter}
-use Rattle.solo_core.specs.Common.{has_place, nat_tests, strikes_by_fillings, IsDecided}
+use Rattle.solo_core.specs.Common.{range_with_len, cases_lt, true_from_ne_false, get_or-map, length-map, get_or_past, get_or-map-range_with_len, length-map-range_with_len, has_value, IsShownBy, IsPairing, has_bit, set_of_bits, no_repeat, has_in, is_struck, cases_Bool, true≢false, not-true, not_from_false, eqb-true, eq-eqb, map-id, filter_of_map_range_with_len_more, length-range_with_len, get_or-range_with_len, AreDifferent, has_place-at, has_place-here, place-filter, place-kept, different-filter, has_place, nat_tests}
 use Rattle.engine_core.specs.FillingLaws.{shown_from_test, test_from_shown}
 use Rattle.solo_core.specs.NoRepeatLaws.{own_from_no_repeat, no_repeat_from_different}
 use Rattle.grid_core.proofs.ShortSets.{no_choice}
-use Rattle.solo_core.specs.Peeled.{AreAlone, IsPaired, IsShort, rest_of}
+use Rattle.solo_core.specs.Peeled.{AreAlone, IsPaired, IsShort, rest_of, PairsCells, KeepsFillings}
 
 -- a set of bits has the values below n whose bit is set
 pub has_set_of_bits : {n : ℕ} (bits : ℕ) {v : ℕ} → v < n → has_value (set_of_bits n bits) v ≡ has_bit bits v
@@ -18,27 +15,22 @@ has_set_of_bits {n} bits {v} h = get_or-map-range_with_len (has_bit bits) 0 n v 
 
 pub set_of_bits_below : (n bits : ℕ) {v : ℕ} → has_value (set_of_bits n bits) v ≡ true → v < n
 unfolding set_of_bits
-set_of_bits_below n bits {v} h = elim (cases_lt v n) [
-  | inl low ↦ low
-  | inr high ↦
-      absurd (true≢false (sym h ∙ get_or_past (map (has_bit bits) (range_with_len 0 n)) v false
-      (omega (arith, length-map-range_with_len (has_bit bits) 0 n))))
-]
+set_of_bits_below n bits {v} h = grind (arith, common_steps, cases_lt, get_or_past, length-map-range_with_len)
 
 -- the sets of a house as bits, each within the values
 pub at_sets : (n : ℕ) (sets : List ℕ) {k : ℕ} → k < length sets → get_or (map (set_of_bits n) sets) k [] ≡ set_of_bits n (get_or sets k 0)
-at_sets n sets {k} h = get_or-map (set_of_bits n) sets k 0 [] h
+at_sets n sets {k} h = get_or-map _ sets k 0 [] h
 
 -- a pairing of the cells with values is a filling without repeat, which shows its values
-pub shown_by_pairing : (sets : List ℕ) {n : ℕ} {mates : List ℕ} → IsPairing (has_in sets) (length sets) n mates
+pub shown_by_pairing : (sets : List ℕ) {n : ℕ} {mates : List ℕ} → PairsCells n sets mates
     → (k : ℕ) → is_struck n sets k (slice_index mates k) ≡ false
 shown_by_pairing sets {n} {mates} p k = test_from_shown no_repeat (map (set_of_bits n) sets) k (slice_index mates k) (
   mates,
   record {
-    fills = record { len = p.len ∙ sym (length-map sets (set_of_bits n)); each = each };
+    fills = record { len = p.len ∙ sym (length-map sets _); each = each };
     holds_true =
         no_repeat_from_different mates (λ i j below within same. let e = p.len in
-        absurd (let q = p.own i j (omega arith) (omega arith) same in omega arith));
+        absurd (omega (arith, p.own i j (omega arith) (omega arith) same)));
     has_it = refl;
   },
 )
@@ -51,7 +43,7 @@ shown_by_pairing sets {n} {mates} p k = test_from_shown no_repeat (map (set_of_b
 
 -- a filling without repeat as a pairing of the cells with values
 pub pairing_of_filling : (sets : List ℕ) (n : ℕ) {place value : ℕ} {filling : List ℕ} → IsShownBy no_repeat (map (set_of_bits n) sets) place value filling
-    → IsPairing (has_in sets) (length sets) n filling
+    → PairsCells n sets filling
 pairing_of_filling sets n {filling} s = record {
   len = long;
   in_range = λ l h. set_of_bits_below n (get_or sets l 0) (has l h);
@@ -60,7 +52,7 @@ pairing_of_filling sets n {filling} s = record {
 }
   where
     long : length filling ≡ length sets
-    long = s.fills.len ∙ length-map sets (set_of_bits n)
+    long = s.fills.len ∙ length-map sets _
 
     has : (l : ℕ) → l < length sets → has_value (set_of_bits n (get_or sets l 0)) (get_or filling l 0) ≡ true
     has l h =
@@ -69,20 +61,15 @@ pairing_of_filling sets n {filling} s = record {
 
 -- what no pairing of the cells can have is struck
 pub struck_from_none : (sets : List ℕ) (n place value : ℕ)
-    → ((filling : List ℕ) → IsPairing (has_in sets) (length sets) n filling → slice_index filling place ≡ value → ⊥)
+    → ((filling : List ℕ) → PairsCells n sets filling → slice_index filling place ≡ value → ⊥)
     → is_struck n sets place value ≡ true
 struck_from_none sets n place value none = true_from_ne_false (is_struck n sets place value) (λ e.
     let w = shown_from_test no_repeat (map (set_of_bits n) sets) place value e in
     none w.0 (pairing_of_filling sets n w.1) w.1.has_it)
 
 -- ---- the rest, cell by cell
-range_more : (k : ℕ) → range_with_len 0 (k + 1) ≡ range_with_len 0 k ++ k ∷ []
-range_more k = sym (map-id (range_with_len 0 (k + 1)))
-    ∙ map-range_with_len_more (λ j. j) 0 k k (omega arith)
-    ∙ ap (λ xs. xs ++ k ∷ []) (map-id (range_with_len 0 k))
-
 rest-next : (k cells : ℕ) → rest_of (k + 1) cells ≡ rest_of k cells ++ cond (not (has_bit cells k)) (k ∷ []) []
-rest-next k cells = ap (filter (λ j. not (has_bit cells j))) (range_more k) ∙ filter-append (λ j. not (has_bit cells j)) (range_with_len 0 k) (k ∷ [])
+rest-next k cells = simp map-id at (filter_of_map_range_with_len_more (λ j. not (has_bit cells j)) (λ j. j) 0 k k (omega arith))
 
 pub rest-more : (k cells : ℕ) {rest : List ℕ} → rest ≡ rest_of k cells → has_bit cells k ≡ false → rest ++ k ∷ [] ≡ rest_of (k + 1) cells
 rest-more k cells e off = rw e (sym (rest-next k cells ∙ ap (λ b. rest_of k cells ++ cond (not b) (k ∷ []) []) off))
@@ -97,14 +84,14 @@ module _ (n cells : ℕ) where
 
   pub rest-in : {i : ℕ} → i < length rest → (slice_index rest i < n) × (has_bit cells (slice_index rest i) ≡ false)
   rest-in {i} lt =
-      let w = place-filter (λ k. not (has_bit cells k)) (range_with_len 0 n) (slice_index rest i) (has_place-here rest i lt) in
-      let at = has_place-at (range_with_len 0 n) (slice_index rest i) w.0 in
+      let w = place-filter (λ k. not (has_bit cells k)) _ (slice_index rest i) (has_place-here rest i lt) in
+      let at = has_place-at _ (slice_index rest i) w.0 in
       let low : at.0 < n = omega (arith, at.1, length-range_with_len 0 n) in
       let is = get_or-range_with_len 0 n at.0 0 low in
       (omega (arith, at.2, is), not-true (has_bit cells (slice_index rest i)) w.1)
 
   pub rest-has : {k : ℕ} → k < n → has_bit cells k ≡ false → (i : ℕ) × (i < length rest) × (slice_index rest i ≡ k)
-  rest-has {k} lt off = has_place-at rest k (place-kept (λ j. not (has_bit cells j)) (range_with_len 0 n) k in_range (not_from_false (has_bit cells k) off))
+  rest-has {k} lt off = has_place-at rest k (place-kept (λ j. not (has_bit cells j)) _ k in_range (not_from_false (has_bit cells k) off))
     where
       in_range : has_place (range_with_len 0 n) k ≡ true
       in_range =
@@ -112,14 +99,7 @@ module _ (n cells : ℕ) where
           rw e at (has_place-here (range_with_len 0 n) k (omega (arith, length-range_with_len 0 n)))
 
   pub rest-different : AreDifferent rest
-  rest-different = different-filter (λ k. not (has_bit cells k)) (range_with_len 0 n) (λ j k lj lk same.
-      omega (
-        arith,
-        length-range_with_len 0 n,
-        get_or-range_with_len 0 n j 0 (omega (arith, length-range_with_len 0 n)),
-        get_or-range_with_len 0 n k 0 (omega (arith, length-range_with_len 0 n)),
-        same,
-      ))
+  rest-different = grind (arith, common_steps, different-filter, length-range_with_len, get_or-range_with_len)
 
 pub rest-within : (n cells : ℕ) {rest : List ℕ} → rest ≡ rest_of n cells → (i : ℕ) → i < length rest → slice_index rest i < n
 rest-within n cells e i lt = rw e ((rest-in n cells (rw e at lt)).0)
@@ -136,7 +116,7 @@ module _ (n : ℕ) (sets : List ℕ) (cells : ℕ) (alone : AreAlone n sets cell
   joins l r = has_in sets (slice_index others l) r
 
   -- where the rest has no pairing, the house has none
-  pub no_pairing : (xs mates : List ℕ) → IsShort n sets others xs → IsPairing (has_in sets) (length sets) n mates → ⊥
+  pub no_pairing : (xs mates : List ℕ) → IsShort n sets others xs → PairsCells n sets mates → ⊥
   no_pairing xs mates short p = no_choice joins (length others) n xs short (λ l. slice_index mates (slice_index others l))
       (λ l lt. p.in_range (slice_index others l) (inside l lt))
       (λ l lt. p.joined (slice_index others l) (inside l lt))
@@ -173,10 +153,10 @@ module _ (n : ℕ) (sets : List ℕ) (cells : ℕ) (alone : AreAlone n sets cell
     different : {k m : ℕ} → (i : ℕ) × (i < length others) × (slice_index others i ≡ k) → (j : ℕ) × (j < length others) × (slice_index others j ≡ m)
         → slice_index mates k ≡ slice_index mates m → k ≡ m
     different (i, li, is) (j, lj, is_m) same =
-        let e : i ≡ j = p.own i j li lj (sym (at_rest i li) ∙ ap (slice_index mates) is ∙ same ∙ sym (ap (slice_index mates) is_m) ∙ at_rest j lj) in
+        let e = p.own i j li lj (sym (at_rest i li) ∙ ap (slice_index mates) is ∙ same ∙ sym (ap (slice_index mates) is_m) ∙ at_rest j lj) in
         sym is ∙ ap (slice_index others) e ∙ is_m
 
-    pub whole_pairing : IsPairing (has_in sets) (length sets) n mates
+    pub whole_pairing : PairsCells n sets mates
     whole_pairing = record { len = as_many; in_range = λ k lk. (fits lk).0; joined = λ k lk. (fits lk).1; own = own_mate }
       where
         own_mate : (k m : ℕ) → k < length sets → m < length sets → slice_index mates k ≡ slice_index mates m → k ≡ m
@@ -195,19 +175,22 @@ last (suc n) passes = cond (passes n) n (last n passes)
 pub last-passes : (n : ℕ) (passes : ℕ → Bool) (v : ℕ) → v < n → passes v ≡ true → passes (last n passes) ≡ true
 unfolding last
 last-passes zero passes v lt on = absurd (omega arith)
-last-passes (suc n) passes v lt on = let below = last-passes n passes v in grind (arith, nat_tests)
+last-passes (suc n) passes v lt on = grind (arith, nat_tests, last-passes n passes v)
 
 pub last-below : (n : ℕ) (passes : ℕ → Bool) → 0 < n → last n passes < n
 unfolding last
 last-below zero passes some = absurd (omega arith)
 last-below (suc zero) passes some = grind (arith, nat_tests)
-last-below (suc (suc n)) passes some = let below = last-below (suc n) passes (omega arith) in grind (arith, nat_tests)
+last-below (suc (suc n)) passes some = grind (arith, nat_tests, last-below (suc n) passes (omega arith))
 
 -- ---- where the rest is paired, some pairing of the house pairs it so
 module _ (n : ℕ) (sets : List ℕ) (cells : ℕ) (alone : AreAlone n sets cells) (paired : List ℕ) (p : IsPaired n sets (rest_of (length sets) cells) paired) where
+  abbrev left : List ℕ
+  left = rest_of (length sets) cells
+
   -- the place of a cell in the rest
   at : ℕ → ℕ
-  at k = last (length (rest_of (length sets) cells)) (λ i. eqb (slice_index (rest_of (length sets) cells) i) k)
+  at k = last (length left) (λ i. eqb (slice_index left i) k)
 
   mate : ℕ → ℕ
   mate k = cond (has_bit cells k) (last n (has_in sets k)) (slice_index paired (at k))
@@ -219,18 +202,18 @@ module _ (n : ℕ) (sets : List ℕ) (cells : ℕ) (alone : AreAlone n sets cell
   unfolding house_mates
   mates-at k lk = get_or-map-range_with_len mate 0 (length sets) k k 0 lk (omega arith)
 
-  pub mates-rest : (i : ℕ) → i < length (rest_of (length sets) cells)
-      → slice_index house_mates (slice_index (rest_of (length sets) cells) i) ≡ slice_index paired i
+  pub mates-rest : (i : ℕ) → i < length left
+      → slice_index house_mates (slice_index left i) ≡ slice_index paired i
   unfolding mate at
   mates-rest i li =
-      let k = slice_index (rest_of (length sets) cells) i in
+      let k = slice_index left i in
       let r = rest-in (length sets) cells li in
-      let passes : ℕ → Bool = λ j. eqb (slice_index (rest_of (length sets) cells) j) k in
-      let low = last-below (length (rest_of (length sets) cells)) passes (omega arith) in
-      let same = eqb-true _ k (last-passes (length (rest_of (length sets) cells)) passes i li (eq-eqb k k refl)) in
+      let passes : ℕ → Bool = λ j. eqb (slice_index left j) k in
+      let low = last-below (length left) passes (omega arith) in
+      let same = eqb-true _ k (last-passes (length left) passes i li (eq-eqb k k refl)) in
       mates-at k r.0 ∙ rw r.1 (ap (slice_index paired) (rest-different (length sets) cells (at k) i low li same))
 
-  pub house_pairing : IsPairing (has_in sets) (length sets) n house_mates
+  pub house_pairing : PairsCells n sets house_mates
   unfolding house_mates mate
   house_pairing = whole_pairing n sets cells alone house_mates house_mates p own (length-map-range_with_len mate 0 (length sets)) mates-rest
       (λ k out. refl)
@@ -250,12 +233,12 @@ module _ (n : ℕ) (sets : List ℕ) (cells : ℕ) (alone : AreAlone n sets cell
 
 -- where no value is struck, the sets are kept
 pub decided_by_all : {n : ℕ} {sets : List ℕ} → ((k v : ℕ) → k < length sets → v < n → has_in sets k v ≡ true → is_struck n sets k v ≡ false)
-    → IsDecided n (strikes_by_fillings no_repeat) sets sets
-decided_by_all all = record { as_many = refl; bits = λ k v lk lv. let shown = all k v lk lv in grind arith }
+    → KeepsFillings n sets sets
+decided_by_all all = grind (arith, common_steps)
 
 -- where all are alone, nothing more is struck
 pub decided_alone : {n : ℕ} {sets : List ℕ} (cells : ℕ) → AreAlone n sets cells → ((k : ℕ) → k < length sets → has_bit cells k ≡ true)
-    → IsDecided n (strikes_by_fillings no_repeat) sets sets
+    → KeepsFillings n sets sets
 decided_alone {n} {sets} cells alone all = decided_by_all
     (λ k v lk lv has. shown_alone n sets cells alone (rest_of (length sets) cells) paired k v lk (all k lk) has)
   where

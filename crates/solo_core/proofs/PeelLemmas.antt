@@ -1,9 +1,9 @@
 -- Striking the value of a cell that has one alone from the other cells takes no filling away.
+use Rattle.std.proofs.lemmas.Grind.{common_steps}
 use Rattle.std.proofs.Common.{◌≡◌, ℕ, ◌+◌, ◌<◌, ◌⊎◌, Bool, true, false, ◌&&◌, ◌||◌, eqb, List, map, length, slice_index, refl, sym, ap, ◌∙◌, inl, inr, arith}
-use Rattle.solo_core.specs.Common.{cases_Bool, cases_eq, eq-eqb, eqb-true, true≢false, false_from_ne_true, true_from_ne_false, nat_tests, strikes_by_fillings, IsDecided}
-use Rattle.solo_core.specs.Common.{has_bit, set_of_bits, bits-of_zero, IsPairing, has_in, is_struck, no_repeat}
+use Rattle.solo_core.specs.Common.{cases_Bool, cases_eq, eq-eqb, eqb-true, true≢false, false_from_ne_true, true_from_ne_false, nat_tests, has_bit, set_of_bits, bits-of_zero, has_in, is_struck, no_repeat}
 use Rattle.engine_core.specs.FillingLaws.{shown_from_test}
-use Rattle.solo_core.specs.Peeled.{IsPeeled, IsAlone, AreAlone, AreCounts, IsSingleSet, IsDropped}
+use Rattle.solo_core.specs.Peeled.{IsPeeled, IsAlone, AreAlone, AreCounts, IsSingleSet, IsDropped, PairsCells, KeepsFillings}
 use Rattle.solo_core.proofs.MateLemmas.{shown_by_pairing, pairing_of_filling}
 use Rattle.solo_core.specs.NoRepeatLaws.{none_missed}
 use Rattle.solo_core.proofs.Marks.{none_in_zero}
@@ -12,21 +12,21 @@ use Rattle.solo_core.proofs.Marks.{none_in_zero}
 -- a pairing is one of other sets where they have its values too
 pairing_over : {n : ℕ} (old new : List ℕ) {mates : List ℕ} → length new ≡ length old
     → ((k : ℕ) → k < length old → has_in old k (slice_index mates k) ≡ true → has_in new k (slice_index mates k) ≡ true)
-    → IsPairing (has_in old) (length old) n mates → IsPairing (has_in new) (length new) n mates
-pairing_over old new same joined p = rw same (record { len = p.len; in_range = p.in_range; joined = λ k lk. joined k lk (p.joined k lk); own = p.own })
+    → PairsCells n old mates → PairsCells n new mates
+pairing_over old new same joined p = grind (arith, common_steps)
 
-pairing_peeled : (n : ℕ) {old new mates : List ℕ} → IsPeeled n old new → IsPairing (has_in old) (length old) n mates
-    → IsPairing (has_in new) (length new) n mates
+pairing_peeled : (n : ℕ) {old new mates : List ℕ} → IsPeeled n old new → PairsCells n old mates
+    → PairsCells n new mates
 pairing_peeled n {old} {new} {mates} e p = pairing_over old new e.as_many (λ k lk on. e.keeps mates p k lk) p
 
 pub peeled-none : (n : ℕ) {sets : List ℕ} → IsPeeled n sets sets
-peeled-none n = record { as_many = refl; inside = λ k v lk on. on; keeps = λ mates p k lk. p.joined k lk }
+peeled-none n = grind (arith, common_steps)
 
 pub peeled-more : {n : ℕ} {first second third : List ℕ} → IsPeeled n first second → IsPeeled n second third → IsPeeled n first third
 peeled-more {n} a b = record {
   as_many = b.as_many ∙ a.as_many;
-  inside = λ k v lk on. a.inside k v lk (b.inside k v (let e = a.as_many in omega arith) on);
-  keeps = λ mates p k lk. b.keeps mates (pairing_peeled n a p) k (let e = a.as_many in omega arith);
+  inside = λ k v lk on. a.inside k v lk (b.inside k v (omega (arith, a.as_many)) on);
+  keeps = λ mates p k lk. b.keeps mates (pairing_peeled n a p) k (omega (arith, a.as_many));
 }
 
 pub alone-none : (n : ℕ) {sets : List ℕ} → AreAlone n sets 0
@@ -45,12 +45,7 @@ pub counts-same : {sets new : List ℕ} {first some single shared : ℕ}
     → AreCounts sets first some single shared
     → ((j : ℕ) → j < first → slice_index new j ≡ slice_index sets j)
     → AreCounts new first some single shared
-counts-same c same = record {
-  has = λ j v lj on. c.has j v lj (ap (λ (b : ℕ). has_bit b v) (sym (same j lj)) ∙ on);
-  singles = λ v on. let w = c.singles v on in (w.0, w.1, λ u. ap (λ (b : ℕ). has_bit b u) (same w.0 w.1) ∙ w.2 u);
-  shares = λ j k v lt lk on_j on_k. c.shares j k v lt lk
-      (ap (λ (b : ℕ). has_bit b v) (sym (same j (omega arith))) ∙ on_j) (ap (λ (b : ℕ). has_bit b v) (sym (same k lk)) ∙ on_k);
-}
+counts-same c same = grind (arith, common_steps)
 
 pub counts-more : {sets : List ℕ} (first : ℕ) {some single shared some' single' shared' : ℕ} → AreCounts sets first some single shared
     → ((v : ℕ) → has_bit some' v ≡ (has_bit some v || has_in sets first v))
@@ -58,20 +53,20 @@ pub counts-more : {sets : List ℕ} (first : ℕ) {some single shared some' sing
     → ((v : ℕ) → has_bit shared' v ≡ (has_bit shared v || (has_bit some v && has_in sets first v)))
     → AreCounts sets (first + 1) some' single' shared'
 counts-more first c a b d = record {
-  has = λ j v lj on. let e = a v in let h = c.has j v in grind (arith, nat_tests);
+  has = λ j v lj on. grind (arith, nat_tests, a v, c.has j v);
   singles = λ v on. elim (b v on) [
     | inl was ↦ let w = c.singles v was in (w.0, omega (arith, w.1), w.2)
     | inr new ↦ (first, omega arith, new)
   ];
-  shares = λ j k v lt lk on_j on_k. let e = d v in let h = c.has j v in let s = c.shares j k v lt in grind (arith, nat_tests);
+  shares = λ j k v lt lk on_j on_k. grind (arith, nat_tests, d v, c.has j v, c.shares j k v lt);
 }
 
 -- what is dropped, no pairing has: each value has a cell, and a cell with one value alone has it
 module _ {n : ℕ} {old : List ℕ} (square : length old ≡ n) {some single shared : ℕ} (c : AreCounts old (length old) some single shared) where
   shares : (j k v : ℕ) → j < length old → k < length old → (j ≡ k → ⊥) → has_in old j v ≡ true → has_in old k v ≡ true → has_bit shared v ≡ true
-  shares j k v lj lk ne on_j on_k = let a = c.shares j k v in let b = c.shares k j v in grind arith
+  shares j k v lj lk ne on_j on_k = grind (arith, c.shares j k v, c.shares k j v)
 
-  not_dropped : (mates : List ℕ) → IsPairing (has_in old) (length old) n mates → (k : ℕ) → k < length old
+  not_dropped : (mates : List ℕ) → PairsCells n old mates → (k : ℕ) → k < length old
       → IsDropped n single shared (slice_index old k) (slice_index mates k) → ⊥
   not_dropped mates p k lk (w, lw, has, ne, inl lone) =
       none_missed (slice_index mates) (λ x lx. p.in_range x (omega arith)) (λ x y lx ly same. p.own x y (omega arith) (omega arith) same) lw
@@ -93,8 +88,7 @@ module _ {n : ℕ} {old : List ℕ} (square : length old ≡ n) {some single sha
     inside = inside;
     keeps =
         λ mates p k lk. true_from_ne_false (has_in new k (slice_index mates k))
-        (λ off. not_dropped mates p k lk
-        (dropped k (slice_index mates k) lk (p.in_range k lk) (p.joined k lk) off));
+        (λ off. not_dropped mates p k lk (dropped k _ lk (p.in_range k lk) (p.joined k lk) off));
   }
 
   -- a cell with a value that some cell has alone, and that no two have
@@ -109,7 +103,7 @@ module _ {n : ℕ} {old : List ℕ} (square : length old ≡ n) {some single sha
           | inl e ↦ eqb-true w v (sym (j.2 w) ∙ ap (λ i. has_in old i w) e ∙ there)
           | inr nj ↦ absurd (true≢false (sym (shares j.0 k v j.1 lk nj (j.2 v ∙ eq-eqb v v refl) has) ∙ off))
         ];
-        apart = λ m lm ne. false_from_ne_true (has_in old m v) (λ there. true≢false (sym (shares m k v lm lk ne there has) ∙ off));
+        apart = λ m lm ne. false_from_ne_true _ (λ there. true≢false (sym (shares m k v lm lk ne there has) ∙ off));
       }
 
 pub alone-more : {n : ℕ} {sets : List ℕ} (cells more cell : ℕ) (on : Bool) → AreAlone n sets cells → (on ≡ true → IsAlone n sets cell)
@@ -121,23 +115,17 @@ alone-more cells more cell on alone a bit k lk set = elim (cases_Bool (has_bit c
 
 -- ---- what is decided of the peeled sets is decided of the sets
 -- what is shown by a pairing is shown where each pairing of the sets is one of the others
-shown_over : (n : ℕ) (old new : List ℕ) → ((mates : List ℕ) → IsPairing (has_in old) (length old) n mates → IsPairing (has_in new) (length new) n mates)
+shown_over : (n : ℕ) (old new : List ℕ) → ((mates : List ℕ) → PairsCells n old mates → PairsCells n new mates)
     → (k v : ℕ) → k < length new → is_struck n old k v ≡ false → (has_in new k v ≡ true) × (is_struck n new k v ≡ false)
 shown_over n old new over k v lk off =
     let w = shown_from_test no_repeat (map (set_of_bits n) old) k v off in
     let p = over w.0 (pairing_of_filling old n w.1) in
     (rw w.1.has_it at (p.joined k lk), rw w.1.has_it at (shown_by_pairing new p k))
 
-pub decided_by_peeled : {n : ℕ} {sets peeled kept : List ℕ} → IsPeeled n sets peeled → IsDecided n (strikes_by_fillings no_repeat) peeled kept
-    → IsDecided n (strikes_by_fillings no_repeat) sets kept
+pub decided_by_peeled : {n : ℕ} {sets peeled kept : List ℕ} → IsPeeled n sets peeled → KeepsFillings n peeled kept
+    → KeepsFillings n sets kept
 decided_by_peeled {n} {sets} {peeled} e d = record {
   as_many = d.as_many ∙ e.as_many;
   bits = λ k v lk lv.
-      let low : k < length peeled = omega (arith, e.as_many) in
-      let there = shown_over n sets peeled (λ mates p. pairing_peeled n e p) k v low in
-      let back = shown_over n peeled sets (λ mates p. pairing_over peeled sets (sym e.as_many)
-      (λ j lj on. e.inside j (slice_index mates j) (omega (arith, e.as_many)) on) p) k v lk in
-      let bits = d.bits k v low lv in
-      let inside = e.inside k v lk in
-      grind arith;
+      let low : k < length peeled = omega (arith, e.as_many) in grind (arith, shown_over n sets peeled (λ mates p. pairing_peeled n e p) k v low, shown_over n peeled sets (λ mates p. pairing_over peeled sets (sym e.as_many) (λ j lj on. e.inside j (slice_index mates j) (omega (arith, e.as_many)) on) p) k v lk, d.bits k v low lv, e.inside k v lk);
 }

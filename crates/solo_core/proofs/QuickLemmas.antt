@@ -1,26 +1,22 @@
 -- A pairing goes on by a cell with a free value, or with the value of another cell that has a free one.
+use Rattle.std.proofs.lemmas.Grind.{common_steps}
 use Rattle.std.proofs.Common.{◌≡◌, ℕ, ◌+◌, ◌<◌, true, false, true≢false, eqb, cond, List, slice_index, sym, ap, ◌∙◌, arith}
 use Rattle.solo_core.specs.Common.{false_from_ne_true, nat_tests, has_bit, has_in}
 use Rattle.solo_core.specs.Quick.{IsBegun, GoesOn}
 
 module _ (n : ℕ) (sets rest : List ℕ) where
   pub begun-none : {mate : ℕ → ℕ} {free : ℕ} → IsBegun n sets rest 0 mate free
-  begun-none = record {
-    in_range = λ l lt. absurd (omega arith);
-    joined = λ l lt. absurd (omega arith);
-    own = λ l m lt lm same. absurd (omega arith);
-    taken = λ l lt. absurd (omega arith);
-  }
+  begun-none = grind (arith, common_steps)
 
   -- one more cell with a value that no other has
   given : {k : ℕ} {mate new : ℕ → ℕ} {free left : ℕ} → IsBegun n sets rest k mate free → ((l : ℕ) → l < k → new l ≡ mate l)
       → new k < n → has_in sets (slice_index rest k) (new k) ≡ true → ((l : ℕ) → l < k → mate l ≡ new k → ⊥)
       → ((v : ℕ) → has_bit left v ≡ true → has_bit free v ≡ true) → has_bit left (new k) ≡ false → IsBegun n sets rest (k + 1) new left
   given {new} b same low has apart inside off = record {
-    in_range = λ l lt. let s = same l in let r = b.in_range l in grind arith;
-    joined = λ l lt. let s = same l in let r = b.joined l in grind arith;
-    own = λ l m lt lm is. let s = same l in let t = same m in let x = apart l in let y = apart m in let o = b.own l m in grind arith;
-    taken = λ l lt. let s = same l in let t = b.taken l in let i = inside (new l) in grind (arith, nat_tests);
+    in_range = λ l lt. grind (arith, same l, b.in_range l);
+    joined = λ l lt. grind (arith, same l, b.joined l);
+    own = λ l m lt lm is. grind (arith, same l, same m, apart l, apart m, b.own l m);
+    taken = λ l lt. grind (arith, nat_tests, same l, b.taken l, inside (new l));
   }
 
   pub goes_on_free : (k : ℕ) {mate new : ℕ → ℕ} {free value : ℕ} → IsBegun n sets rest k mate free → ((l : ℕ) → l < k → new l ≡ mate l) → new k ≡ value
@@ -39,20 +35,20 @@ module _ (n : ℕ) (sets rest : List ℕ) where
     changed l = cond (eqb l j) value (mate l)
 
     no_free : (l : ℕ) → l < k → mate l ≡ value → ⊥
-    no_free l lt e = true≢false (sym unused ∙ ap (has_bit free) (sym e) ∙ b.taken l lt)
+    no_free l lt e = grind (arith, common_steps)
 
     begun : {left : ℕ} → ((v : ℕ) → has_bit left v ≡ true → has_bit free v ≡ true) → has_bit left value ≡ false → IsBegun n sets rest k changed left
     unfolding changed
     begun inside off = record {
-      in_range = λ l lt. let r = b.in_range l in grind (arith, nat_tests);
-      joined = λ l lt. let r = b.joined l in grind (arith, nat_tests);
-      own = λ l m lt lm is. let x = no_free l in let y = no_free m in let o = b.own l m in grind (arith, nat_tests);
-      taken = λ l lt. let t = b.taken l in let i = inside (changed l) in grind (arith, nat_tests);
+      in_range = λ l lt. grind (arith, nat_tests, b.in_range l);
+      joined = λ l lt. grind (arith, nat_tests, b.joined l);
+      own = λ l m lt lm is. grind (arith, nat_tests, no_free l, no_free m, b.own l m);
+      taken = λ l lt. grind (arith, nat_tests, b.taken l, inside (changed l));
     }
 
     apart : (l : ℕ) → l < k → changed l ≡ mate j → ⊥
     unfolding changed
-    apart l lt e = let x = no_free j lj in let o = b.own l j lt lj in grind (arith, nat_tests)
+    apart l lt e = grind (arith, nat_tests, no_free j lj, b.own l j lt lj)
 
     pub goes_on_swapped : {new : ℕ → ℕ} → new k ≡ mate j → new j ≡ value → ((l : ℕ) → l < k → (l ≡ j → ⊥) → new l ≡ mate l)
         → has_in sets (slice_index rest k) (mate j) ≡ true → GoesOn n sets rest k new free value
@@ -60,7 +56,7 @@ module _ (n : ℕ) (sets rest : List ℕ) where
     goes_on_swapped last here other there = (
       low,
       λ left inside off.
-          given (begun inside off) (λ l lt. let o = other l lt in grind (arith, nat_tests))
+          given (begun inside off) (λ l lt. grind (arith, nat_tests, other l lt))
           (rw last (b.in_range j lj)) (rw last there) (λ l lt e. apart l lt (e ∙ last)) (λ v on. on)
           (rw last (false_from_ne_true (has_bit left (mate j)) (λ on. true≢false (sym (inside (mate j) on) ∙ b.taken j lj)))),
     )

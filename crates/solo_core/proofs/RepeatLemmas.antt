@@ -1,8 +1,7 @@
 -- What a house that holds a number twice says of the grid, and what a house that does not rules out.
+use Rattle.std.proofs.lemmas.Grind.{common_steps}
 use Rattle.std.proofs.Common.{◌≡◌, ℕ, suc, ◌+◌, ◌<◌, ◌≤◌, true, false, not, ◌||◌, eqb, List, [], ◌∷◌, length, get_or, slice_index, Bool, Option, None, Some, is_some, refl, subst, ◌++◌, sym, ap, ◌∙◌, inl, inr, arith}
-use Rattle.solo_core.specs.Common.{list_any, cases_eq, and_cases, or_cases, eqb-true, true≢false, not-false, false_from_ne_true, nat_tests, get_or-map}
-use Rattle.solo_core.specs.Common.{length-map, get_or_default, has_bit, bits-of_zero, IsGrid, Solo, IsSolo, solo_n, NamedHouse, Row, Column, Block, Diagonal}
-use Rattle.solo_core.specs.Common.{solo_cells, houses_of, IsHouseOf, places_of, numbers_of, IsSoloSolution, given_stands, is_solo_solution, no_repeat}
+use Rattle.solo_core.specs.Common.{list_any, cases_eq, and_cases, or_cases, eqb-true, true≢false, not-false, false_from_ne_true, nat_tests, get_or-map, length-map, get_or_default, has_bit, bits-of_zero, IsGrid, Solo, IsSolo, solo_n, NamedHouse, Row, Column, Block, Diagonal, solo_cells, houses_of, IsHouseOf, places_of, numbers_of, IsSoloSolution, given_stands, is_solo_solution, no_repeat}
 use Rattle.grid_core.proofs.ShortSets.{contains_from_member}
 use Rattle.solo_core.specs.declared.fault.SoloFault.{SoloFault}
 use Rattle.solo_core.specs.declared.fault.SoloFault.TheVariants.{Given}
@@ -20,7 +19,7 @@ use Rattle.gameid_core.proofs.Lists.{AllByRecursion-append, all_at}
 pub repeat_found : (xs : List ℕ) → no_repeat xs ≡ false → (i : ℕ) × (j : ℕ) × (i < j) × (j < length xs) × (get_or xs i 0 ≡ get_or xs j 0)
 unfolding no_repeat
 repeat_found [] e = absurd (true≢false e)
-repeat_found (x ∷ xs) e = elim (and_cases (not (list_any (eqb x) xs)) (no_repeat xs) e) [
+repeat_found (x ∷ xs) e = elim (and_cases (not (list_any (eqb x) xs)) _ e) [
   | inl again ↦
       let w = contains_from_member xs x (not-false (list_any (eqb x) xs) again) in
       (0, suc w.0, omega arith, omega (arith, w.1), sym w.2 ∙ get_or_default xs w.0 x 0 w.1)
@@ -28,17 +27,17 @@ repeat_found (x ∷ xs) e = elim (and_cases (not (list_any (eqb x) xs)) (no_repe
 ]
 
 pub repeat_shown : (xs : List ℕ) (i j : ℕ) → i < j → j < length xs → slice_index xs i ≡ slice_index xs j → false ≡ no_repeat xs
-repeat_shown xs i j low within same = sym (false_from_ne_true (no_repeat xs) (λ on. different_from_no_repeat xs on i j low within same))
+repeat_shown xs i j low within same = sym (false_from_ne_true _ (λ on. different_from_no_repeat xs on i j low within same))
 
 -- the numbers of a house, one by one
 pub len_of : (p : Solo) (g : List ℕ) (house : NamedHouse) → IsSolo p → IsHouseOf p house → length (numbers_of p g house) ≡ solo_n p
-len_of p g house ok is = length-map (places_of p house) (slice_index g) ∙ (lists_house ok house is).len
+len_of p g house ok is = length-map (places_of p house) _ ∙ (lists_house ok house is).len
 
 pub number_at : (p : Solo) (g : List ℕ) (house : NamedHouse) (k place number : ℕ) → IsSolo p → IsHouseOf p house → k < solo_n p
     → place ≡ slice_index (places_of p house) k → number ≡ slice_index g place → number ≡ get_or (numbers_of p g house) k 0
 number_at p g house k place number ok is lt at read =
     let len = (lists_house ok house is).len in
-    read ∙ ap (slice_index g) at ∙ sym (get_or-map (slice_index g) (places_of p house) k 0 0 (omega arith))
+    read ∙ ap (slice_index g) at ∙ sym (get_or-map _ (places_of p house) k 0 0 (omega arith))
 
 -- the bits are the first k numbers, which differ
 pub record HasSeen (xs : List ℕ) (k seen : ℕ) : Type 0 where
@@ -47,28 +46,17 @@ pub record HasSeen (xs : List ℕ) (k seen : ℕ) : Type 0 where
   pub different : (i j : ℕ) → i < j → j < k → get_or xs i 0 ≡ get_or xs j 0 → ⊥
 
 pub seen_none : (xs : List ℕ) → HasSeen xs 0 0
-seen_none xs = record {
-  shown = λ v on. absurd (true≢false (sym on ∙ bits-of_zero v));
-  noted = λ i lt. absurd (omega arith);
-  different = λ i j low below same. absurd (omega arith);
-}
+seen_none xs = grind (arith, common_steps, bits-of_zero)
 
 module _ (xs : List ℕ) (k seen number : ℕ) (h : HasSeen xs k seen) (is : number ≡ get_or xs k 0) where
   pub seen_more : {new : ℕ} → has_bit seen number ≡ false → ((v : ℕ) → has_bit new v ≡ (has_bit seen v || eqb v number)) → HasSeen xs (k + 1) new
-  seen_more off each = record {
-    shown = λ v on. elim (or_cases (has_bit seen v) (eqb v number) (sym (each v) ∙ on)) [
-      | inl before ↦ let w = h.shown v before in (w.0, omega (arith, w.1), w.2)
-      | inr here ↦ (k, omega arith, sym (eqb-true v number here ∙ is))
-    ];
-    noted = λ i lt. let e = each (get_or xs i 0) in let n = h.noted i in grind (arith, nat_tests);
-    different = λ i j low below same. let n = h.noted i in let d = h.different i j low in grind (arith, nat_tests);
-  }
+  seen_more off each = grind (arith, common_steps, nat_tests, or_cases, eqb-true)
 
   pub seen_again : k < length xs → has_bit seen number ≡ true → false ≡ no_repeat xs
   seen_again lt on = let w = h.shown number on in repeat_shown xs w.0 k w.1 lt (w.2 ∙ is)
 
 pub seen_all : (xs : List ℕ) (k seen : ℕ) → HasSeen xs k seen → length xs ≤ k → true ≡ no_repeat xs
-seen_all xs k seen h all = sym (no_repeat_from_different xs (λ i j low within same. h.different i j low (omega arith) same))
+seen_all xs k seen h all = grind (arith, common_steps, no_repeat_from_different)
 
 module _ (p : Solo) (ok : IsSolo p) (g : List ℕ) where
   -- a house that holds a number twice
@@ -126,7 +114,7 @@ module _ (p : Solo) (ok : IsSolo p) (g : List ℕ) where
   givens = record { test = Given; count = solo_cells p; right = given_stands p g }
 
   made : AllByRecursion (IsMade (FailsSolo p g)) (givens ∷ [])
-  made = (record { failed = λ c lt off. grind (arith, nat_tests); held = λ c lt on (some, other). other (given_from_test p g c on some) }, tt)
+  made = grind (arith, common_steps, nat_tests, given_from_test)
 
   abbrev no_repeat_in : NamedHouse → Bool
   no_repeat_in house = no_repeat (numbers_of p g house)
@@ -135,7 +123,7 @@ module _ (p : Solo) (ok : IsSolo p) (g : List ℕ) where
   pub given_first : (place : ℕ) → place < solo_cells p → FailsSolo p g (Given place)
       → ((q : ℕ) → q < place → Holding (Given q))
       → IsFirstOf (FailsSolo p g) (given_tests p) (Some (Given place))
-  given_first place lt failed before = first_front (FailsSolo p g) (each givens) [] (Given place) (first_each (FailsSolo p g) givens place lt failed before)
+  given_first place lt failed before = first_front _ (each givens) [] _ (first_each _ givens place lt failed before)
 
   pub givens_stand : ((q : ℕ) → q < solo_cells p → Holding (Given q)) → IsFirstOf (FailsSolo p g) (given_tests p) None
   givens_stand held = none_held (FailsSolo p g) (givens ∷ []) (held, tt)
@@ -159,8 +147,7 @@ module _ (p : Solo) (ok : IsSolo p) (g : List ℕ) where
       → no_repeat_in (get_or (houses_of p) h d) ≡ true)
       → IsFirstOf (FailsSolo p g) (house_tests p) None
   houses_differ fine =
-      house_by Holding (λ h d lt. fault_holds (get_or (houses_of p) h d)
-      (none_repeats (get_or (houses_of p) h d) (all_houses p h d lt) (fine h d lt)))
+      house_by Holding (λ h d lt. fault_holds _ (none_repeats _ (all_houses p h d lt) (fine h d lt)))
 
   -- ---- the grids that no test fails are the solutions
   pub solo_sound : IsGrid (solo_cells p) (solo_n p) g → NoneFails (FailsSolo p g) (given_tests p ++ house_tests p) → IsSoloSolution p g
@@ -190,7 +177,7 @@ module _ (p : Solo) (ok : IsSolo p) (g : List ℕ) where
 
   -- the first given that fails, or else the first house
   pub broken_first : (fault : SoloFault) → IsFirstOf (FailsSolo p g) (given_tests p) (Some fault) → IsSoloFault p g (Some fault)
-  broken_first fault first = first_front (FailsSolo p g) (given_tests p) (house_tests p) fault first
+  broken_first fault first = first_front _ _ _ fault first
 
   pub house_after : IsGrid (solo_cells p) (solo_n p) g
       → IsFirstOf (FailsSolo p g) (given_tests p) None → (fault : Option SoloFault)
@@ -202,8 +189,7 @@ module _ (p : Solo) (ok : IsSolo p) (g : List ℕ) where
   pub solo_tells : IsGrid (solo_cells p) (solo_n p) g → (fault : Option SoloFault) (told : Bool)
       → IsSoloFault p g fault → is_some fault ≡ not told → told ≡ is_solo_solution p g
   solo_tells grid fault told is e =
-      none_tells (FailsSolo p g) (given_tests p ++ house_tests p) solo_none told
-      (is_solo_solution p g) (rule_from_test p ok g grid) (test_from_rule p ok g) fault is e
+      none_tells _ _ solo_none told _ (rule_from_test p ok g grid) (test_from_rule p ok g) fault is e
 
 -- one house more that repeats nothing
 pub fine_more : (p : Solo) (g : List ℕ) (k : ℕ) (house : NamedHouse) → k < length (houses_of p)

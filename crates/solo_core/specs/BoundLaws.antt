@@ -1,37 +1,32 @@
 -- The bounds of closings as numbers: 3n + 3n^3 in plain Solo, with two houses more in Solo X, and with crossings what these add.
+use Rattle.std.proofs.lemmas.Grind.{common_steps}
 use Rattle.std.proofs.Common.{◌≡◌, ℕ, zero, suc, ◌+◌, ◌-◌, ◌*◌, ◌/◌, ◌%◌, ◌^◌, ◌<◌, ◌≤◌, Bool, true, false, not, cond, eqb, List, [], ◌∷◌, ◌++◌, map, length, get_or, if◌then◌else◌, refl, sym, ap, ◌∙◌, min, inl, inr, add-one, arith, length-append, All, sum_by}
-use Rattle.solo_core.specs.Common.{cases_Bool, range_with_len, filter, cases_order, eq-eqb, ne_eqb, nat_tests, div-mul-add, mod-mul-add, div_below, mod_below, mul-le}
-use Rattle.solo_core.specs.Common.{mul-add-lt, div-add-mod', length-map, map-append, All-map, length-map-range_with_len, filter_of_map_range_with_len_more}
-use Rattle.solo_core.specs.Common.{count_below, count_below-same, Solo, IsSolo, solo_n, has_place, strikes_by_fillings, Decision, visits_of}
-use Rattle.solo_core.specs.Common.{Row, Column, Block, solo_cells, block_of, houses_of, places_of, no_repeat}
+use Rattle.solo_core.specs.Common.{cases_Bool, range_with_len, filter, cases_order, eq-eqb, ne_eqb, nat_tests, div-mul-add, mod-mul-add, div_below, mod_below, mul-le, mul-add-lt, div-add-mod', length-map, map-append, All-map, length-map-range_with_len, filter_of_map_range_with_len_more, count_below, count_below-same, Solo, IsSolo, solo_n, has_place, strikes_by_fillings, Decision, visits_of, Row, Column, Block, solo_cells, block_of, houses_of, places_of, no_repeat}
 use Rattle.std.proofs.lemmas.List.Sums.{sum_by-cons, sum_by-append}
 use Rattle.solo_core.specs.Crossing.{crossing_places}
+use Rattle.solo_core.specs.Meanings.{house_visits, crossing_visits, all_visits}
 use Rattle.solo_core.specs.HouseLaws.{lists_house, listed-same, all_houses, each_value, row_in, column_in}
-use Rattle.solo_core.specs.RuleSets.{deciding, house_by, house_at, crossings_rules, crossings_of}
+use Rattle.solo_core.specs.RuleSets.{deciding, filled_houses, house_by, house_at, crossings_rules, crossings_of}
 use Rattle.solo_core.specs.declared.houses.scope.VisitName.{VisitName}
 use Rattle.solo_core.specs.Scopes.{row_scope, column_scope}
 
 -- how many houses the puzzle has
 pub house_count : (p : Solo) → length (houses_of p) ≡ 3 * solo_n p + (if p.x then 2 else 0)
-house_count p = simp (length-append, length-map-range_with_len) (elim (cases_Bool p.x) [ inl on ↦ rw on (omega arith) | inr off ↦ rw off (omega arith) ])
+house_count p = grind (arith, common_steps, length-append, length-map-range_with_len)
 
 pub sum_same : {X : Type 0} (f : X → ℕ) (m : ℕ) (xs : List X) → All (λ y. f y ≡ m) xs → sum_by f xs ≡ length xs * m
 sum_same f m [] all = omega arith
 sum_same f m (y ∷ ys) all =
-    let cons = sum_by-cons f y ys in
-    let here = all 0 y (omega arith) in
-    let rest = sum_same f m ys (λ k d lt. all (suc k) d (omega arith)) in
-    omega arith
+    omega (arith, sum_by-cons f y ys, all 0 y (omega arith), sum_same f m ys (λ k d lt. all (suc k) d (omega arith)))
 
 -- one visit for each house, and one more for each number of each of its n cells
 pub bound_is : (decides : Decision) (p : Solo) → IsSolo p
-    → sum_by (visits_of (solo_n p)) (deciding decides p) ≡ length (houses_of p) + length (houses_of p) * (solo_n p * solo_n p)
+    → sum_by (visits_of (solo_n p)) (deciding decides p) ≡ house_visits p
 bound_is decides p ok =
     let same = sum_same (visits_of (solo_n p)) (1 + solo_n p * solo_n p) (deciding decides p)
     (All-map (λ house. visits_of (solo_n p) house ≡ 1 + solo_n p * solo_n p) (house_by decides p) (houses_of p)
     (λ k d lt. ap (λ n. 1 + n * solo_n p) ((lists_house ok (get_or (houses_of p) k d) (all_houses p k d lt)).len))) in
-    let long = length-map (houses_of p) (house_by decides p) in
-    same ∙ rw long (omega arith)
+    same ∙ rw (length-map (houses_of p) (house_by decides p)) (omega arith)
 
 pub few_lines : (decides : Decision) (p : Solo) → IsSolo p → sum_by (visits_of (solo_n p)) (deciding decides p) ≤ 95 + 95 * 961
 few_lines decides p ok =
@@ -47,7 +42,7 @@ pub count_x : (p : Solo) → p.x ≡ true → length (houses_of p) ≡ 3 * solo_
 count_x p is = house_count p ∙ ap (λ b. 3 * solo_n p + (if b then 2 else 0)) is
 
 pub count_plain : (p : Solo) → p.x ≡ false → length (houses_of p) ≡ 3 * solo_n p
-count_plain p is = let e = house_count p ∙ ap (λ b. 3 * solo_n p + (if b then 2 else 0)) is in omega arith
+count_plain p is = omega (arith, house_count p ∙ ap (λ b. 3 * solo_n p + (if b then 2 else 0)) is)
 
 -- ---- counting
 filter_count : (test : ℕ → Bool) (f : ℕ → ℕ) (n : ℕ) → length (filter test (map f (range_with_len 0 n))) ≡ count_below (λ k. test (f k)) n
@@ -56,11 +51,7 @@ filter_count test f zero = refl
 filter_count test f (suc n) =
     ap length (rw add-one at (filter_of_map_range_with_len_more test f 0 n n (omega arith)))
     ∙ length-append (filter test (map f (range_with_len 0 n))) (cond (test (f n)) (f n ∷ []) [])
-    ∙ rw (filter_count test f n) (ap (λ m. count_below (λ k. test (f k)) n + m) (last (test (f n))))
-  where
-    last : (b : Bool) → length (cond b (f n ∷ []) []) ≡ cond b 1 0
-    last true = refl
-    last false = refl
+    ∙ rw (filter_count test f n) (grind arith)
 
 -- of the first m numbers, in parts of r each, all but those of the q-th
 count_other : (r q m : ℕ) → 0 < r → count_below (λ k. not (eqb (k / r) q)) m ≡ min m (q * r) + (m - (q * r + r))
@@ -133,39 +124,30 @@ sum_alike p f k len each = sum_same (visits_of (solo_n p)) (1 + len * solo_n p) 
     (each_value (λ scope. visits_of (solo_n p) (house_at p scope) ≡ 1 + len * solo_n p) f k (λ m lt. ap (λ l. 1 + l * solo_n p) (each m lt))))
     ∙ ap (λ l. l * (1 + len * solo_n p)) (length-map (map f (range_with_len 0 k)) (house_at p) ∙ length-map-range_with_len f 0 k)
 
-pub crossings_bound : (p : Solo) → IsSolo p
-    → sum_by (visits_of (solo_n p)) (crossings_of p) ≡ solo_n
-    p * p.c * (1 + (solo_n p + (solo_n p - p.r)) * solo_n p) + solo_n
-    p * p.r * (1 + (solo_n p + (solo_n p - p.c)) * solo_n p)
+pub crossings_bound : (p : Solo) → IsSolo p → sum_by (visits_of (solo_n p)) (crossings_of p) ≡ crossing_visits p
 crossings_bound p ok =
     let c_low = ok.c_low in
     let r_low = ok.r_low in
     let rows = sum_alike p (row_scope p) (solo_n p * p.c) (solo_n p + (solo_n p - p.r)) (λ m lt. let w = row_in ok m lt in
-    row_cells p ok (m / p.c) w.0 (m / p.c / p.c * p.c + m % p.c) w.1 (div-mul-add (m / p.c / p.c) p.c (m % p.c) (mod_below m p.c (omega arith)))) in
+    row_cells p ok (m / p.c) w.0 _ w.1 (div-mul-add (m / p.c / p.c) p.c (m % p.c) (mod_below m p.c (omega arith)))) in
     let columns = sum_alike p (column_scope p) (solo_n p * p.r) (solo_n p + (solo_n p - p.c)) (λ m lt. let w = column_in ok m lt in
-    column_cells p ok (m / p.r) w.0 (m / p.r % p.c * p.r + m % p.r) w.1 (div-mul-add (m / p.r % p.c) p.r (m % p.r) (mod_below m p.r (omega arith)))) in
-    ap (sum_by (visits_of (solo_n p))) (map-append (house_at p) (map (row_scope p) (range_with_len 0 (solo_n p * p.c)))
-    (map (column_scope p) (range_with_len 0 (solo_n p * p.r))))
-    ∙ sum_by-append (visits_of (solo_n p)) (map (house_at p) (map (row_scope p) (range_with_len 0 (solo_n p * p.c))))
-    (map (house_at p) (map (column_scope p) (range_with_len 0 (solo_n p * p.r))))
-    ∙ rw (rows, columns) refl
-
-pub crossings_rules-bound : (p : Solo) → IsSolo p → (crossings_rules p).bound ≡ length (houses_of p) + length (houses_of p) * (solo_n p * solo_n p)
-    + (solo_n p * p.c * (1 + (2 * solo_n p - p.r) * solo_n p) + solo_n p * p.r * (1 + (2 * solo_n p - p.c) * solo_n p))
-crossings_rules-bound p ok =
-    let a = bound_is (strikes_by_fillings no_repeat) p ok in
-    let b = crossings_bound p ok in
-    let c_low = ok.c_low in
-    let r_low = ok.r_low in
+    column_cells p ok (m / p.r) w.0 _ w.1 (div-mul-add (m / p.r % p.c) p.r (m % p.r) (mod_below m p.r (omega arith)))) in
     let r_in = mul-le 1 p.r p.c p.r (omega arith) (omega arith) in
     let c_in = mul-le p.c 1 p.c p.r (omega arith) (omega arith) in
     let e : solo_n p + (solo_n p - p.r) ≡ 2 * solo_n p - p.r = omega arith in
     let f : solo_n p + (solo_n p - p.c) ≡ 2 * solo_n p - p.c = omega arith in
-    sum_by-append (visits_of (solo_n p)) (deciding (strikes_by_fillings no_repeat) p) (crossings_of p) ∙ rw (a, b, e, f) refl
+    ap (sum_by (visits_of (solo_n p))) (map-append (house_at p) (map (row_scope p) (range_with_len 0 (solo_n p * p.c))) _)
+    ∙ sum_by-append (visits_of (solo_n p)) (map (house_at p) (map (row_scope p) (range_with_len 0 (solo_n p * p.c)))) _
+    ∙ rw (rows, columns, e, f) refl
 
-pub few_crossings : (p : Solo) → IsSolo p → sum_by (visits_of (solo_n p)) (deciding (strikes_by_fillings no_repeat) p ++ crossings_of p) < 2 ^ 32
+pub crossings_rules-bound : (p : Solo) → IsSolo p → (crossings_rules p).bound ≡ all_visits p
+crossings_rules-bound p ok =
+    sum_by-append (visits_of (solo_n p)) (filled_houses p) (crossings_of p)
+    ∙ rw (bound_is (strikes_by_fillings no_repeat) p ok, crossings_bound p ok) refl
+
+pub few_crossings : (p : Solo) → IsSolo p → sum_by (visits_of (solo_n p)) (filled_houses p ++ crossings_of p) < 2 ^ 32
 few_crossings p ok =
-    let all = sum_by-append (visits_of (solo_n p)) (deciding (strikes_by_fillings no_repeat) p) (crossings_of p) in
+    let all = sum_by-append (visits_of (solo_n p)) (filled_houses p) (crossings_of p) in
     let lines = few_lines (strikes_by_fillings no_repeat) p ok in
     let crossed = crossings_bound p ok in
     let high = ok.n_high in
@@ -175,8 +157,8 @@ few_crossings p ok =
     let r_in = mul-le 1 p.r p.c p.r (omega arith) (omega arith) in
     let many_c = mul-le (solo_n p) p.c 31 31 high (omega arith) in
     let many_r = mul-le (solo_n p) p.r 31 31 high (omega arith) in
-    let long_r = mul-le (solo_n p + (solo_n p - p.r)) (solo_n p) 62 31 (omega arith) high in
-    let long_c = mul-le (solo_n p + (solo_n p - p.c)) (solo_n p) 62 31 (omega arith) high in
-    let rows = mul-le (solo_n p * p.c) (1 + (solo_n p + (solo_n p - p.r)) * solo_n p) 961 1923 (omega arith) (omega arith) in
-    let columns = mul-le (solo_n p * p.r) (1 + (solo_n p + (solo_n p - p.c)) * solo_n p) 961 1923 (omega arith) (omega arith) in
+    let long_r = mul-le (2 * solo_n p - p.r) (solo_n p) 62 31 (omega arith) high in
+    let long_c = mul-le (2 * solo_n p - p.c) (solo_n p) 62 31 (omega arith) high in
+    let rows = mul-le (solo_n p * p.c) (1 + (2 * solo_n p - p.r) * solo_n p) 961 1923 (omega arith) (omega arith) in
+    let columns = mul-le (solo_n p * p.r) (1 + (2 * solo_n p - p.c) * solo_n p) 961 1923 (omega arith) (omega arith) in
     omega arith

@@ -1,99 +1,53 @@
 -- Laws of crossings: what they strike from larger sets they strike from smaller ones, from a block and a line of n
 -- different numbers they strike nothing, and a second visit strikes nothing more.
-use Rattle.std.proofs.Common.{◌≡◌, ℕ, ◌+◌, ◌-◌, ◌<◌, ◌≤◌, Bool, true, false, not, ◌&&◌, true≢false, List, [], map, length, get_or, slice_index, refl, sym, ap, ◌∙◌, inl, inr, arith, length-append}
-use Rattle.solo_core.specs.Common.{filter, cases_lt, and_parts, and_from, or_cases, or_left, or_right, eq-eqb, not-true, not_from_false, false_from_ne_true}
-use Rattle.solo_core.specs.Common.{ltb-true, leb-true, lt-ltb, le-leb, get_or-map, length-map, get_or_append_left, get_or-append_right, any_below-here}
-use Rattle.solo_core.specs.Common.{any_below-some, has_place, has_place-at, has_place-here, place-filter, place-kept, different-filter, different-from}
-use Rattle.solo_core.specs.Common.{distinct-from, distinct-append, Set, has_value, IsMonotone, AreDifferent, IsSettled, Keeps, no_repeat}
+use Rattle.std.proofs.lemmas.Grind.{common_steps}
+use Rattle.std.proofs.Common.{◌≡◌, ℕ, ◌+◌, ◌-◌, ◌<◌, ◌≤◌, Bool, true, false, true≢false, List, [], map, length, get_or, slice_index, refl, sym, ap, ◌∙◌, inl, inr, arith, length-append}
+use Rattle.solo_core.specs.Common.{cases_lt, and_parts, and_from, eq-eqb, not-true, not_from_false, false_from_ne_true, ltb-true, leb-true, lt-ltb, le-leb, get_or-map, length-map, get_or_append_left, get_or-append_right, any_below-here, any_below-some, has_place, has_place-at, has_place-here, place-filter, place-kept, different-filter, different-from, distinct-from, distinct-append, Set, has_value, IsMonotone, AreDifferent, IsSettled, Keeps, no_repeat}
 use Rattle.solo_core.specs.NoRepeatLaws.{own_from_no_repeat, none_missing}
-use Rattle.solo_core.specs.Crossing.{has_in_part, strikes_by_crossing, crossing_places, is_shared, in_block_alone, in_line_alone}
+use Rattle.solo_core.specs.Crossing.{has_in_part, strikes_by_crossing, crossing_places, outside, is_shared, in_block_alone, in_line_alone}
 
 -- ---- parts
 part-some : (part : ℕ → Bool) (sets : List Set) (v : ℕ) → has_in_part part sets v ≡ true
     → (j : ℕ) × (j < length sets) × (part j ≡ true) × (has_value (get_or sets j []) v ≡ true)
-part-some part sets v on =
-    let w = any_below-some (λ j. part j && has_value (get_or sets j []) v) (length sets) on in
-    let both = and_parts (part w.0) (has_value (get_or sets w.0 []) v) w.2 in
-    (w.0, w.1, both.0, both.1)
+part-some part sets v on = grind (arith, common_steps, any_below-some, and_parts)
 
 part-here : (part : ℕ → Bool) (sets : List Set) (v j : ℕ) → j < length sets → part j ≡ true
     → has_value (get_or sets j []) v ≡ true → has_in_part part sets v ≡ true
-part-here part sets v j lt in_part has =
-    any_below-here (λ k. part k && has_value (get_or sets k []) v) (length sets) j lt
-    (and_from (part j) (has_value (get_or sets j []) v) in_part has)
+part-here part sets v j lt in_part has = any_below-here _ (length sets) j lt (and_from _ _ in_part has)
 
 module _ (block line : ℕ → Bool) where
-  -- the two cases of a strike
-  two_cases : (P : Type 0) (sets : List Set) (k v : ℕ)
-      → (line k ≡ true → has_in_part block sets v ≡ false → P)
-      → (block k ≡ true → has_in_part line sets v ≡ false → P)
-      → strikes_by_crossing block line sets k v ≡ true → P
-  two_cases P sets k v a b on = elim (or_cases (line k && not (has_in_part block sets v)) (block k && not (has_in_part line sets v)) on) [
-    | inl l ↦ a (grind arith) (grind arith)
-    | inr r ↦ b (grind arith) (grind arith)
-  ]
-
   pub crossing-monotone : IsMonotone (strikes_by_crossing block line)
-  crossing-monotone smaller larger k v inside on = two_cases (strikes_by_crossing block line smaller k v ≡ true) larger k v
-      (λ here none. or_left (line k && not (has_in_part block smaller v))
-      (block k && not (has_in_part line smaller v))
-      (and_from (line k) (not (has_in_part block smaller v)) here (gone block none)))
-      (λ here none. or_right (line k && not (has_in_part block smaller v))
-      (block k && not (has_in_part line smaller v))
-      (and_from (block k) (not (has_in_part line smaller v)) here (gone line none)))
-      on
+  crossing-monotone smaller larger k v inside on = grind (arith, stays block, stays line)
     where
-      gone : (part : ℕ → Bool) → has_in_part part larger v ≡ false → not (has_in_part part smaller v) ≡ true
-      gone part none = not_from_false (has_in_part part smaller v) (false_from_ne_true (has_in_part part smaller v) (λ has.
+      stays : (part : ℕ → Bool) → has_in_part part smaller v ≡ true → has_in_part part larger v ≡ true
+      stays part has =
           let w = part-some part smaller v has in
-          true≢false (sym (part-here part larger v w.0 (let e = inside.as_many in let lt = w.1 in omega arith) w.2 (inside.inside w.0 v w.1 w.3)) ∙ none)))
+          part-here part larger v w.0 (omega arith) w.2 (inside.inside w.0 v w.1 w.3)
 
   -- where the values of each part are those of the other, none is struck
   pub crossing-keeps : {filling : List ℕ}
       → ((k : ℕ) → k < length filling → line k ≡ true → (j : ℕ) × (j < length filling) × (block j ≡ true) × (get_or filling j 0 ≡ get_or filling k 0))
       → ((k : ℕ) → k < length filling → block k ≡ true → (j : ℕ) × (j < length filling) × (line j ≡ true) × (get_or filling j 0 ≡ get_or filling k 0))
       → Keeps (strikes_by_crossing block line) filling
-  crossing-keeps {filling} in_block in_line sets k own lt = false_from_ne_true (strikes_by_crossing block line sets k (get_or filling k 0))
-      (two_cases ⊥ sets k (get_or filling k 0) (λ here. there block (in_block k lt here)) (λ here. there line (in_line k lt here)))
+  crossing-keeps {filling} in_block in_line sets k own lt = grind (arith, there block line (in_block k lt), there line block (in_line k lt))
     where
-      there : (part : ℕ → Bool) → (j : ℕ) × (j < length filling) × (part j ≡ true)
-          × (get_or filling j 0 ≡ get_or filling k 0)
-          → has_in_part part sets (get_or filling k 0) ≡ false → ⊥
-      there part (j, lj, in_part, same) none = true≢false (sym (part-here part sets (get_or filling k 0) j (let e = own.as_many in omega arith) in_part
-          (own.own j (get_or filling k 0) lj ∙ eq-eqb (get_or filling j 0) (get_or filling k 0) same)) ∙ none)
+      there : (part other : ℕ → Bool)
+          → (other k ≡ true → (j : ℕ) × (j < length filling) × (part j ≡ true) × (get_or filling j 0 ≡ get_or filling k 0))
+          → other k ≡ true → has_in_part part sets (get_or filling k 0) ≡ true
+      there part other found here =
+          let (j, lj, in_part, same) = found here in
+          part-here part sets (get_or filling k 0) j (omega arith) in_part (own.own j (get_or filling k 0) lj ∙ eq-eqb _ _ same)
 
   -- a value that is left in a part has a place in the other, which keeps it
   pub crossing-settles : IsSettled (strikes_by_crossing block line)
-  crossing-settles old new k v a lt on = false_from_ne_true (strikes_by_crossing block line new k v) (two_cases ⊥ new k v
-      (λ here none. let mine = part-here line old v k lt here was.0 in
-      let other =
-      unstruck line block here
-      (λ e. or_left (line k && not (has_in_part block old v))
-      (block k && not (has_in_part line old v)) e) in gone block other other mine none)
-      (λ here none. let mine = part-here block old v k lt here was.0 in
-      let other =
-      unstruck block line here
-      (λ e. or_right (line k && not (has_in_part block old v))
-      (block k && not (has_in_part line old v)) e) in gone line other mine other none))
+  crossing-settles old new k v a lt on =
+      grind (arith, a.left k v lt, part-here block old v k lt, part-here line old v k lt, kept block, kept line)
     where
-      was : (has_value (get_or old k []) v ≡ true) × (strikes_by_crossing block line old k v ≡ false)
-      was =
-          let w = and_parts (has_value (get_or old k []) v) (not (strikes_by_crossing block line old k v)) (sym (a.left k v lt) ∙ on) in
-          (w.0, not-true (strikes_by_crossing block line old k v) w.1)
-
-      unstruck : (mine other : ℕ → Bool) → mine k ≡ true
-          → ((mine k && not (has_in_part other old v)) ≡ true
-          → strikes_by_crossing block line old k v ≡ true) → has_in_part other old v ≡ true
-      unstruck mine other here struck = let w = was.1 in grind arith
-
-      gone : (part : ℕ → Bool) → has_in_part part old v ≡ true → has_in_part block old v ≡ true
-          → has_in_part line old v ≡ true → has_in_part part new v ≡ false → ⊥
-      gone part had in_block in_line none =
+      kept : (part : ℕ → Bool) → has_in_part part old v ≡ true → has_in_part block old v ≡ true
+          → has_in_part line old v ≡ true → has_in_part part new v ≡ true
+      kept part had in_block in_line =
           let w = part-some part old v had in
-          let kept = a.left w.0 v w.1 ∙ and_from (has_value (get_or old w.0 []) v) (not (strikes_by_crossing block line old w.0 v)) w.3
-          (not_from_false (strikes_by_crossing block line old w.0 v) (false_from_ne_true (strikes_by_crossing block line old w.0 v)
-          (two_cases ⊥ old w.0 v (λ _ no. true≢false (sym in_block ∙ no)) (λ _ no. true≢false (sym in_line ∙ no))))) in
-          true≢false (sym (part-here part new v w.0 (let e = a.as_many in let l = w.1 in omega arith) w.2 kept) ∙ none)
+          part-here part new v w.0 (omega arith) w.2 (grind (arith, a.left w.0 v w.1, w.3))
 
 -- ---- houses of n different cells of a grid, with no number twice
 pub record HoldsEach (n : ℕ) (g places : List ℕ) : Type 0 where
@@ -139,85 +93,93 @@ module _ {n : ℕ} {g : List ℕ} (small : (c : ℕ) → c < length g → slice_
 -- ---- a crossing of a block and a line
 module _ (block line : List ℕ) where
   abbrev rest : List ℕ
-  rest = filter (λ c. not (has_place block c)) line
+  rest = outside block line
 
-  at_block : {k : ℕ} → k < length block → slice_index (crossing_places block line) k ≡ slice_index block k
+  abbrev places : List ℕ
+  places = crossing_places block line
+
+  at_block : {k : ℕ} → k < length block → slice_index places k ≡ slice_index block k
   at_block {k} lt = get_or_append_left block rest 0 k lt
 
-  at_rest : (k : ℕ) → length block ≤ k → slice_index (crossing_places block line) k ≡ slice_index rest (k - length block)
-  at_rest k le = get_or-append_right block rest (length block) k 0 refl le
+  at_rest : (k : ℕ) → length block ≤ k → slice_index places k ≡ slice_index rest (k - length block)
+  at_rest k le = get_or-append_right block rest _ k 0 refl le
 
-  long : length (crossing_places block line) ≡ length block + length rest
+  long : length places ≡ length block + length rest
   long = length-append block rest
 
   -- a place past the block's is the line's, and not the block's
-  rest_is : (k : ℕ) → length block ≤ k → k < length (crossing_places block line)
-      → (has_place line (slice_index (crossing_places block line) k) ≡ true) × (has_place block (slice_index (crossing_places block line) k) ≡ false)
+  rest_is : (k : ℕ) → length block ≤ k → k < length places
+      → (has_place line (slice_index places k) ≡ true) × (has_place block (slice_index places k) ≡ false)
   rest_is k le lt =
       let len = long in
-      let w = place-filter (λ c. not (has_place block c)) line (slice_index rest (k - length block)) (has_place-here rest (k - length block) (omega arith)) in
+      let w = place-filter _ line (slice_index rest (k - length block)) (has_place-here rest _ (omega arith)) in
       rw (at_rest k le) (w.0, not-true (has_place block (slice_index rest (k - length block))) w.1)
 
   pub crossing-within : {cells : ℕ} → ((k : ℕ) → k < length block → slice_index block k < cells) → ((k : ℕ) → k < length line → slice_index line k < cells)
-      → (k : ℕ) → k < length (crossing_places block line) → slice_index (crossing_places block line) k < cells
-  crossing-within in_block in_line k lt = elim (cases_lt k (length block)) [
+      → (k : ℕ) → k < length places → slice_index places k < cells
+  crossing-within in_block in_line k lt = elim (cases_lt k _) [
     | inl low ↦ rw (at_block low) (in_block k low)
-    | inr high ↦ let w = has_place-at line (slice_index (crossing_places block line) k) (rest_is k high lt).0 in rw w.2 at (in_line w.0 w.1)
+    | inr high ↦ let w = has_place-at line _ (rest_is k high lt).0 in rw w.2 at (in_line w.0 w.1)
   ]
 
-  pub crossing-different : AreDifferent block → AreDifferent line → AreDifferent (crossing_places block line)
+  pub crossing-different : AreDifferent block → AreDifferent line → AreDifferent places
   crossing-different in_block in_line =
-      different-from (crossing_places block line)
-      (distinct-append block rest (distinct-from block in_block)
-      (distinct-from rest (different-filter (λ c. not (has_place block c)) line in_line))
-      (λ d here there. true≢false (sym here ∙ not-true (has_place block d) (place-filter (λ c. not (has_place block c)) line d there).1)))
+      different-from _ (distinct-append block rest (distinct-from block in_block)
+      (distinct-from rest (different-filter _ line in_line))
+      (λ d here there. true≢false (sym here ∙ not-true _ (place-filter _ line d there).1)))
 
   -- where both hold each number, the numbers of each part are those of the other
   module _ (n : ℕ) (g : List ℕ) (small : (c : ℕ) → c < length g → slice_index g c < n) (in_block : HoldsEach n g block) (in_line : HoldsEach n g line) where
     abbrev values : List ℕ
-    values = map (slice_index g) (crossing_places block line)
+    values = map (slice_index g) places
 
-    value_at : (k : ℕ) → k < length (crossing_places block line) → get_or values k 0 ≡ slice_index g (slice_index (crossing_places block line) k)
-    value_at k lt = get_or-map (slice_index g) (crossing_places block line) k 0 0 lt
+    value_at : (k : ℕ) → k < length places → get_or values k 0 ≡ slice_index g (slice_index places k)
+    value_at k lt = get_or-map _ _ k 0 0 lt
 
-    pub crossing-sound : Keeps (strikes_by_crossing (in_block_alone (length block) (is_shared block line)) (in_line_alone (length block))) values
-    crossing-sound = crossing-keeps (in_block_alone (length block) (is_shared block line)) (in_line_alone (length block)) from_line from_block
+    abbrev first : ℕ → Bool
+    first = in_block_alone (length block) (is_shared block line)
+
+    abbrev later : ℕ → Bool
+    later = in_line_alone (length block)
+
+    pub crossing-sound : Keeps (strikes_by_crossing first later) values
+    crossing-sound = crossing-keeps first later from_line from_block
       where
         size : length values ≡ length block + length rest
-        size = length-map (crossing_places block line) (slice_index g) ∙ long
+        size = length-map _ _ ∙ long
 
-        from_line : (k : ℕ) → k < length values → in_line_alone (length block) k ≡ true
-            → (j : ℕ) × (j < length values) × (in_block_alone (length block) (is_shared block line) j ≡ true) × (get_or values j 0 ≡ get_or values k 0)
+        from_line : (k : ℕ) → k < length values → later k ≡ true
+            → (j : ℕ) × (j < length values) × (first j ≡ true) × (get_or values j 0 ≡ get_or values k 0)
         from_line k lt here =
             let len = long in
             let s = size in
-            let lk : k < length (crossing_places block line) = omega arith in
-            let w = rest_is k (leb-true (length block) k here) lk in
-            let d = other_cell small in_line in_block (slice_index (crossing_places block line) k) w.0 w.1 in
+            let lk : k < length places = omega arith in
+            let w = rest_is k (leb-true _ k here) lk in
+            let d = other_cell small in_line in_block _ w.0 w.1 in
             let j = has_place-at block d.0 d.1 in
             let lj = j.1 in (
               j.0,
               omega arith,
-              and_from _ _ (lt-ltb j.0 (length block) lj) (not_from_false (has_place line (slice_index block j.0)) (ap (has_place line) j.2 ∙ d.2)),
+              and_from _ _ (lt-ltb j.0 _ lj) (not_from_false _ (ap (has_place line) j.2 ∙ d.2)),
               value_at j.0 (omega arith) ∙ ap (slice_index g) (at_block lj ∙ j.2) ∙ d.3 ∙ sym (value_at k lk),
             )
 
-        from_block : (k : ℕ) → k < length values → in_block_alone (length block) (is_shared block line) k ≡ true
-            → (j : ℕ) × (j < length values) × (in_line_alone (length block) j ≡ true) × (get_or values j 0 ≡ get_or values k 0)
+        from_block : (k : ℕ) → k < length values → first k ≡ true
+            → (j : ℕ) × (j < length values) × (later j ≡ true) × (get_or values j 0 ≡ get_or values k 0)
         from_block k lt here =
             let len = long in
             let s = size in
             let parts = and_parts _ _ here in
-            let low = ltb-true k (length block) parts.0 in
-            let d = other_cell small in_block in_line (slice_index block k) (has_place-here block k low)
-            (not-true (has_place line (slice_index block k)) parts.1) in
-            let j = has_place-at rest d.0 (place-kept (λ c. not (has_place block c)) line d.0 d.1 (not_from_false (has_place block d.0) d.2)) in
+            let low = ltb-true k _ parts.0 in
+            let d = other_cell small in_block in_line _ (has_place-here block k low)
+            (not-true _ parts.1) in
+            let j = has_place-at rest d.0 (place-kept _ line d.0 d.1 (not_from_false _ d.2)) in
             let lj = j.1 in
             let e : length block + j.0 - length block ≡ j.0 = omega arith in (
               length block + j.0,
               omega arith,
-              le-leb (length block) (length block + j.0) (omega arith),
-              value_at (length block + j.0) (omega arith) ∙ ap (slice_index g) (at_rest (length block + j.0) (omega arith) ∙ ap (slice_index rest) e ∙ j.2)
+              le-leb _ _ (omega arith),
+              value_at _ (omega arith) ∙ ap (slice_index g) (at_rest _ (omega arith) ∙ ap (slice_index rest) e ∙ j.2)
                   ∙ d.3
                   ∙ sym (value_at k (omega arith) ∙ ap (slice_index g) (at_block low)),
             )

@@ -1,9 +1,7 @@
 -- Laws of the houses: each has n different places of the grid, exactly those that lie in it.
-use Rattle.std.proofs.Common.{◌≡◌, ℕ, ◌+◌, ◌-◌, ◌*◌, ◌/◌, ◌%◌, ◌<◌, Bool, true, false, eqb, List, [], ◌∷◌, map, length, slice_index, if◌then◌else◌, refl, sym, ap, ◌∙◌, inl, inr, arith, All, ◌↔◌, IsTrue}
-use Rattle.solo_core.specs.Common.{has_place, has_place-at, has_place-here, range_with_len, cases_lt, cases_Bool, eq-eqb, eqb-true, true≢false}
-use Rattle.solo_core.specs.Common.{false_from_ne_true, mul-add-lt, mul-le, div-mul-add, mod-mul-add, div_below, mod_below, div-add-mod', All-append, All-nil}
-use Rattle.solo_core.specs.Common.{All-cons, get_or-map-range_with_len, length-map-range_with_len, Solo, IsSolo, solo_n, AreDifferent, NamedHouse, Row, Column}
-use Rattle.solo_core.specs.Common.{Block, Diagonal, solo_cells, houses_of, IsHouseOf, lies_in, places_of}
+use Rattle.std.proofs.lemmas.Grind.{common_steps}
+use Rattle.std.proofs.Common.{◌≡◌, ℕ, ◌+◌, ◌*◌, ◌/◌, ◌%◌, ◌<◌, Bool, true, false, eqb, List, [], ◌∷◌, map, length, slice_index, if◌then◌else◌, refl, sym, ap, ◌∙◌, inl, inr, arith, All, ◌↔◌, IsTrue}
+use Rattle.solo_core.specs.Common.{has_place, has_place-at, has_place-here, range_with_len, cases_lt, cases_Bool, eq-eqb, eqb-true, true≢false, false_from_ne_true, mul-add-lt, mul-le, div-mul-add, mod-mul-add, div_below, mod_below, div-add-mod', All-append, All-nil, All-cons, get_or-map-range_with_len, length-map-range_with_len, Solo, IsSolo, solo_n, AreDifferent, NamedHouse, Row, Column, Block, Diagonal, solo_cells, houses_of, IsHouseOf, lies_in, places_of}
 use Rattle.grid_core.specs.Regions.{block_places}
 use Rattle.grid_core.proofs.RegionLemmas.{block-within}
 use Rattle.engine_core.specs.Every.{of_first, of_rest, of_value}
@@ -40,10 +38,8 @@ by_function f index {n} {lies} within lies_at back index_in covers = record {
 
 -- ---- lines of a square grid
 row_lists : (n y : ℕ) → y < n → Lists (map (λ x. y * n + x) (range_with_len 0 n)) n (n * n) (λ place. eqb (place / n) y)
-row_lists n y lt = by_function (λ x. y * n + x) (λ place. place % n)
-    (λ k l. mul-add-lt y n k n lt l)
-    (λ k l. eq-eqb ((y * n + k) / n) y (div-mul-add y n k l))
-    (λ k l. mod-mul-add y n k l)
+row_lists n y lt = by_function (λ x. y * n + x) _ (λ k l. mul-add-lt y n k n lt l)
+    (λ k l. eq-eqb _ y (div-mul-add y n k l)) (λ k l. mod-mul-add y n k l)
     (λ place l. mod_below place n (omega arith))
     (λ place l on. ap (λ u. u * n + place % n) (sym (eqb-true (place / n) y on)) ∙ div-add-mod' place n)
 
@@ -51,12 +47,11 @@ row_lists n y lt = by_function (λ x. y * n + x) (λ place. place % n)
 falling_lists : {n : ℕ} (f : ℕ → ℕ) → 0 < n → ((y : ℕ) → y < n → f y < n)
     → Lists (map (λ y. y * n + f y) (range_with_len 0 n)) n (n * n)
     (λ place. eqb (place % n) (f (place / n)))
-falling_lists {n} f pos f_in = by_function (λ y. y * n + f y) (λ place. place / n)
-    (λ k l. mul-add-lt k n (f k) n l (f_in k l))
+falling_lists {n} f pos f_in = by_function _ _ (λ k l. mul-add-lt k n (f k) n l (f_in k l))
     (λ k l. eq-eqb _ _ (mod-mul-add k n (f k) (f_in k l) ∙ ap f (sym (div-mul-add k n (f k) (f_in k l)))))
     (λ k l. div-mul-add k n (f k) (f_in k l))
     (λ place l. div_below place n n (omega arith) l)
-    (λ place l on. ap (λ c. place / n * n + c) (sym (eqb-true (place % n) (f (place / n)) on)) ∙ div-add-mod' place n)
+    (λ place l on. ap (λ c. place / n * n + c) (sym (eqb-true (place % n) _ on)) ∙ div-add-mod' place n)
 
 -- ---- blocks, r wide and c tall
 module _ (c r b : ℕ) (c_pos : 0 < c) (r_pos : 0 < r) (b_in : b < c * r) where
@@ -79,7 +74,7 @@ module _ (c r b : ℕ) (c_pos : 0 < c) (r_pos : 0 < r) (b_in : b < c * r) where
   x_in k = fits (mod_below b c c_pos) (mod_below k r r_pos)
 
   here : {k : ℕ} → k < c * r → ((y_of k * (c * r) + x_of k) / (c * r) ≡ y_of k) × ((y_of k * (c * r) + x_of k) % (c * r) ≡ x_of k)
-  here {k} l = (div-mul-add (y_of k) (c * r) (x_of k) (x_in k), mod-mul-add (y_of k) (c * r) (x_of k) (x_in k))
+  here {k} l = grind (arith, common_steps, div-mul-add, x_in, mod-mul-add)
 
   block_at : ℕ → ℕ
   block_at place = ((place / (c * r)) / c) * c + (place % (c * r)) / r
@@ -89,17 +84,15 @@ module _ (c r b : ℕ) (c_pos : 0 < c) (r_pos : 0 < r) (b_in : b < c * r) where
 
   in_block : (k : ℕ) → k < c * r → block_at (y_of k * (c * r) + x_of k) ≡ b
   unfolding block_at
-  in_block k l =
-      rw ((here l).0, (here l).1, div-mul-add (b / c) c (k / r) (tall k l), div-mul-add (b % c) r (k % r) (mod_below k r r_pos)) (div-add-mod' b c)
+  in_block k l = grind (arith, common_steps, here, div-mul-add, tall, mod_below, div-add-mod')
 
   at_index : (k : ℕ) → k < c * r → index_at (y_of k * (c * r) + x_of k) ≡ k
   unfolding index_at
-  at_index k l =
-      rw ((here l).0, (here l).1, mod-mul-add (b / c) c (k / r) (tall k l), mod-mul-add (b % c) r (k % r) (mod_below k r r_pos)) (div-add-mod' k r)
+  at_index k l = grind (arith, common_steps, here, mod-mul-add, tall, mod_below, div-add-mod')
 
   index_below : (place : ℕ) → index_at place < c * r
   unfolding index_at
-  index_below place = fits (mod_below (place / (c * r)) c c_pos) (mod_below (place % (c * r)) r r_pos)
+  index_below place = fits (mod_below _ c c_pos) (mod_below _ r r_pos)
 
   pos : 0 < c * r
   pos = omega arith
@@ -109,40 +102,36 @@ module _ (c r b : ℕ) (c_pos : 0 < c) (r_pos : 0 < r) (b_in : b < c * r) where
   covered {place} e =
       let y = place / (c * r) in
       let x = place % (c * r) in
-      let x_low : x / r < c = div_below x r c r_pos (mod_below place (c * r) pos) in
-      let band_is : b / c ≡ y / c = ap (λ k. k / c) (sym e) ∙ div-mul-add (y / c) c (x / r) x_low in
-      let stack_is : b % c ≡ x / r = ap (λ k. k % c) (sym e) ∙ mod-mul-add (y / c) c (x / r) x_low in
-      let low : x % r < r = mod_below x r r_pos in
-      let tall_is : (y % c * r + x % r) / r ≡ y % c = div-mul-add (y % c) r (x % r) low in
-      let wide_is : (y % c * r + x % r) % r ≡ x % r = mod-mul-add (y % c) r (x % r) low in
+      let x_low = div_below x r c r_pos (mod_below place (c * r) pos) in
+      let band_is = ap (λ k. k / c) (sym e) ∙ div-mul-add (y / c) c (x / r) x_low in
+      let stack_is = ap (λ k. k % c) (sym e) ∙ mod-mul-add (y / c) c (x / r) x_low in
+      let low = mod_below x r r_pos in
+      let tall_is = div-mul-add (y % c) r (x % r) low in
+      let wide_is = mod-mul-add (y % c) r (x % r) low in
       rw (band_is, stack_is, tall_is, wide_is, div-add-mod' y c, div-add-mod' x r) (div-add-mod' place (c * r))
 
   block_lists : Lists (block_places c r b) (c * r) ((c * r) * (c * r)) (λ place. eqb (block_at place) b)
-  block_lists = by_function (λ k. ((b / c) * c + k / r) * (c * r) + ((b % c) * r + k % r)) index_at
-      (λ k l. block-within c r b k b_in l)
-      (λ k l. eq-eqb (block_at (y_of k * (c * r) + x_of k)) b (in_block k l))
-      (λ k l. at_index k l)
-      (λ place l. index_below place)
-      (λ place l on. covered (eqb-true (block_at place) b on))
+  block_lists = by_function _ index_at (λ k l. block-within c r b k b_in l)
+      (λ k l. eq-eqb _ b (in_block k l)) (λ k l. at_index k l) (λ place l. index_below place)
+      (λ place l on. covered (eqb-true _ b on))
 
 -- ---- the houses of a puzzle
 pub some_numbers : {p : Solo} → IsSolo p → 0 < solo_n p
-some_numbers {p} ok = let c_low = ok.c_low in let r_low = ok.r_low in omega (arith, mul-le 1 1 p.c p.r (omega arith) (omega arith))
+some_numbers {p} ok = omega (arith, mul-le 1 1 p.c p.r (omega arith) (omega arith))
 
 pub lists_house : {p : Solo} → IsSolo p → (house : NamedHouse) → IsHouseOf p house → Lists (places_of p house) (solo_n p) (solo_cells p) (lies_in p house)
 unfolding block_at
 lists_house {p} ok (Row y) lt = row_lists (solo_n p) y lt
 lists_house ok (Column i) lt = falling_lists (λ y. i) (some_numbers ok) (λ y l. lt)
 lists_house {p} ok (Block b) lt = let c_low = ok.c_low in let r_low = ok.r_low in block_lists p.c p.r b (omega arith) (omega arith) lt
-lists_house {p} ok (Diagonal d) lt = falling_lists (λ y. if eqb d 0 then y else solo_n p - 1 - y) (some_numbers ok) (λ y l. elim (cases_Bool (eqb d 0)) [
+lists_house {p} ok (Diagonal d) lt = falling_lists _ (some_numbers ok) (λ y l. elim (cases_Bool (eqb d 0)) [
   | inl first ↦ rw first l
   | inr second ↦ rw second (omega arith)
 ])
 
 -- the list of a function's values, each of which keeps to something
 pub each_value : {X : Type 0} (P : X → Type 0) (f : ℕ → X) (n : ℕ) → ((k : ℕ) → k < n → P (f k)) → All P (map f (range_with_len 0 n))
-each_value P f n each k d lt = let e = length-map-range_with_len f 0 n in
-    rw (get_or-map-range_with_len f 0 n k k d (omega arith) (omega arith)) (each k (omega arith))
+each_value P f n each k d lt = grind (arith, common_steps, length-map-range_with_len, get_or-map-range_with_len)
 
 -- they are the puzzle's, and all of them
 pub all_houses : (p : Solo) → All (IsHouseOf p) (houses_of p)
@@ -186,16 +175,11 @@ module _ {places : List ℕ} {n cells : ℕ} {lies : ℕ → Bool} (l : Lists pl
   listed-within k lt = let e = l.len in l.within k (omega arith)
 
   pub listed-different : AreDifferent places
-  listed-different j k lj lk e =
-      let long = l.len in
-      sym (l.index_of j (omega arith)) ∙ ap l.index e ∙ l.index_of k (omega arith)
+  listed-different j k lj lk e = grind (arith, common_steps)
 
   -- a place is in the list where it passes the test
   pub listed-has : {place : ℕ} → place < cells → (IsTrue (has_place places place)) ↔ (IsTrue (lies place))
-  listed-has {place} lt = (
-    λ has. let w = has_place-at places place has in let l_in : w.0 < n = let a = w.1 in let e = l.len in omega arith in rw w.2 at (l.lies_at w.0 l_in),
-    λ on. rw (l.covers place lt on) at (has_place-here places (l.index place) (let e = l.len in let i = l.index_in place lt in omega arith)),
-  )
+  listed-has {place} lt = grind (arith, common_steps, has_place-at, has_place-here)
 
 -- a test of places is that of their list
 pub listed-same : {places : List ℕ} {n cells : ℕ} {lies : ℕ → Bool} → Lists places n cells lies
@@ -212,7 +196,7 @@ module _ {p : Solo} (ok : IsSolo p) where
       let low = ok.c_low in
       let pos : 0 < p.c = omega arith in
       let b = div_below m p.c (solo_n p) pos lt in
-      let w = mul-add-lt (m / p.c / p.c) p.c (m % p.c) p.r (div_below (m / p.c) p.c p.r pos (omega arith)) (mod_below m p.c pos) in
+      let w = mul-add-lt _ p.c (m % p.c) p.r (div_below (m / p.c) p.c p.r pos (omega arith)) (mod_below m p.c pos) in
       (b, omega arith)
 
   pub column_in : (m : ℕ) → m < solo_n p * p.r → (m / p.r < solo_n p) × (m / p.r % p.c * p.r + m % p.r < solo_n p)
@@ -222,5 +206,5 @@ module _ {p : Solo} (ok : IsSolo p) where
       let pos : 0 < p.c = omega arith in
       let pos_r : 0 < p.r = omega arith in
       let b = div_below m p.r (solo_n p) pos_r lt in
-      let w = mul-add-lt (m / p.r % p.c) p.r (m % p.r) p.c (mod_below (m / p.r) p.c pos) (mod_below m p.r pos_r) in
+      let w = mul-add-lt _ p.r (m % p.r) p.c (mod_below (m / p.r) p.c pos) (mod_below m p.r pos_r) in
       (b, omega arith)

@@ -1,7 +1,6 @@
 -- What the laws say of the rules of a puzzle of Solo.
 use Rattle.std.specs.Prelude.{◌≡◌, ℕ, ◌+◌, ◌-◌, ◌*◌, ◌<◌, ◌↔◌, IsTrue, true, List, ◌++◌, length, slice_index_or}
-use Rattle.solo_core.specs.Common.{Candidates, IsGrid, Solo, solo_n, RuleSystem, has_place, house_of, NamedHouse, solo_cells, houses_of, lies_in, places_of}
-use Rattle.solo_core.specs.Common.{IsSoloSolution}
+use Rattle.solo_core.specs.Common.{Candidates, IsGrid, Solo, solo_n, RuleSystem, has_place, house_of, NamedHouse, solo_cells, houses_of, lies_in, places_of, IsSoloSolution}
 use Rattle.solo_core.specs.declared.houses.scope.VisitName.{VisitName}
 use Rattle.solo_core.specs.declared.houses.scope.VisitName.TheVariants.{House}
 use Rattle.solo_core.specs.RuleSets.{filled_houses, crossings_of, house_at}

@@ -1,13 +1,21 @@
 -- What may be struck from a house before its cells are paired with values: the value of a cell that has one alone, from
 -- the other cells; and the other values of a cell that is the only one with some value.
 use Rattle.std.specs.Prelude.{◌≡◌, ℕ, ◌<◌, ◌&&◌, ◌||◌, ◌==◌, ◌⊎◌, Bool, true, false, not, List, length, slice_index}
-use Rattle.solo_core.specs.Common.{range_with_len, filter, IsPairing, IsShortSet, has_bit, has_in}
+use Rattle.solo_core.specs.Common.{range_with_len, filter, IsPairing, IsShortSet, has_bit, has_in, strikes_by_fillings, IsDecided, no_repeat}
+
+-- each cell has a value of its own, which its set has
+abbrev pub PairsCells : ℕ → List ℕ → List ℕ → Type 0
+PairsCells n sets mates = IsPairing (has_in sets) (length sets) n mates
+
+-- of each set those values are kept that some filling without repeat shows
+abbrev pub KeepsFillings : ℕ → List ℕ → List ℕ → Type 0
+KeepsFillings n sets kept = IsDecided n (strikes_by_fillings no_repeat) sets kept
 
 -- nothing is added, and each pairing of the cells with values is still one
 pub record IsPeeled (n : ℕ) (old new : List ℕ) : Type 0 where
   pub as_many : length new ≡ length old
   pub inside : (k v : ℕ) → k < length old → has_in new k v ≡ true → has_in old k v ≡ true
-  pub keeps : (mates : List ℕ) → IsPairing (has_in old) (length old) n mates
+  pub keeps : (mates : List ℕ) → PairsCells n old mates
       → (k : ℕ) → k < length old → has_in new k (slice_index mates k) ≡ true
 
 -- the cell has one value, which no other cell has
@@ -17,6 +25,10 @@ pub record IsAlone (n : ℕ) (sets : List ℕ) (cell : ℕ) : Type 0 where
   pub has : has_in sets cell value ≡ true
   pub only : (v : ℕ) → has_in sets cell v ≡ true → v ≡ value
   pub apart : (k : ℕ) → k < length sets → (k ≡ cell → ⊥) → has_in sets k value ≡ false
+
+-- these are cells of the house
+abbrev pub AreCellsOf : List ℕ → List ℕ → Type 0
+AreCellsOf sets rest = (i : ℕ) → i < length rest → slice_index rest i < length sets
 
 -- each cell whose bit is set is
 abbrev pub AreAlone : ℕ → List ℕ → ℕ → Type 0

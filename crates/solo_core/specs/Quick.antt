@@ -2,7 +2,7 @@
 use Rattle.std.specs.Prelude.{◌≡◌, ℕ, ◌+◌, ◌<◌, true, false, List, slice_index, Option, MatchOption}
 use Rattle.solo_core.specs.Common.{has_bit, has_in}
 use Rattle.solo_core.specs.Peeled.{IsPaired}
-use Rattle.solo_core.specs.declared.visits.joined.Joined.{Joined}
+use Rattle.solo_core.specs.declared.visits.graph.CellValueGraph.{CellValueGraph}
 
 -- each of the first cells has a value of its own, which isn't free
 pub record IsBegun (n : ℕ) (sets rest : List ℕ) (first : ℕ) (mate : ℕ → ℕ) (free : ℕ) : Type 0 where
@@ -19,13 +19,13 @@ GoesOn n sets rest first mate free value = (value < n)
 
 -- the same of some cells of a house and their values: all are paired, the first cells are, or one cell more is, where
 -- a value could be given
-abbrev pub AllPaired : Joined → List ℕ → Type 0
-AllPaired joined mates = IsPaired joined.values joined.sets.now joined.rest.now mates
+abbrev pub AllPaired : CellValueGraph → List ℕ → Type 0
+AllPaired graph mates = IsPaired graph.values graph.sets.now graph.rest.now mates
 
-abbrev pub FirstPaired : Joined → ℕ → List ℕ → ℕ → Type 0
-FirstPaired joined first mates free =
-    IsBegun joined.values joined.sets.now joined.rest.now first (slice_index mates) free
+abbrev pub FirstPaired : CellValueGraph → ℕ → List ℕ → ℕ → Type 0
+FirstPaired graph first mates free =
+    IsBegun graph.values graph.sets.now graph.rest.now first (slice_index mates) free
 
-abbrev pub OneMorePaired : Joined → ℕ → List ℕ → ℕ → Option ℕ → Type 0
-OneMorePaired joined first mates free value = MatchOption value (Unit {0})
-    (GoesOn joined.values joined.sets.now joined.rest.now first (slice_index mates) free)
+abbrev pub OneMorePaired : CellValueGraph → ℕ → List ℕ → ℕ → Option ℕ → Type 0
+OneMorePaired graph first mates free value = MatchOption value (Unit {0})
+    (GoesOn graph.values graph.sets.now graph.rest.now first (slice_index mates) free)

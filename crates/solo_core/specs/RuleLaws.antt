@@ -1,22 +1,18 @@
 -- The laws that every rule set keeps to, for the rule sets of Solo.
-use Rattle.std.proofs.Common.{◌≡◌, ℕ, ◌+◌, ◌*◌, ◌/◌, ◌%◌, ◌<◌, Bool, true, false, ltb, List, ◌++◌, map, length, get_or, slice_index, refl, sym, ◌∙◌, arith, All}
-use Rattle.solo_core.specs.Common.{range_with_len, and_parts, ltb-true, true≢false, nat_tests, mul-le, get_or-map, length-map, All-append, All-map, IsInside}
-use Rattle.solo_core.specs.Common.{IsWithin, single, IsGrid, Solo, IsSolo, solo_n, IsLawful, strikes_by_fillings, Decision, IsMonotone, House, IsSettled, Keeps}
-use Rattle.solo_core.specs.Common.{IsSound, IsSetting, NamedHouse, Row, Column, Block, solo_cells, houses_of, IsHouseOf, lies_in, places_of, numbers_of}
-use Rattle.solo_core.specs.Common.{is_solo_solution, no_repeat}
+use Rattle.std.proofs.Common.{◌≡◌, ℕ, ◌*◌, ◌<◌, Bool, true, false, List, ◌++◌, map, length, get_or, slice_index, refl, sym, ◌∙◌, arith, All}
+use Rattle.solo_core.specs.Common.{range_with_len, and_parts, ltb-true, true≢false, nat_tests, mul-le, get_or-map, length-map, All-append, All-map, IsInside, IsWithin, single, IsGrid, Solo, IsSolo, solo_n, IsLawful, Decision, IsMonotone, House, IsSettled, Keeps, IsSound, IsSetting, NamedHouse, Row, Column, Block, solo_cells, houses_of, IsHouseOf, places_of, numbers_of, is_solo_solution, no_repeat}
 use Rattle.grid_core.proofs.GridLemmas.{single-is}
 use Rattle.engine_core.specs.HouseSetsLaws.{by_fillings-monotone}
 use Rattle.engine_core.specs.ListedHouses.{AreScopesOf, all_places, most_turns}
 use Rattle.engine_core.specs.ListedLaws.{listed-bound, listed-scopes}
 use Rattle.engine_core.specs.HouseRulesLaws.{by_houses-lawful, bound_enough, by_fillings-settles, by_fillings-keeps}
-use Rattle.solo_core.specs.RuleSets.{start, house_by, house_at, deciding, crossings_of, setting_of, rules_of, singles_rules, houses_rules, crossings_rules}
+use Rattle.solo_core.specs.RuleSets.{start, house_by, house_at, deciding, crossings_of, setting_of, filled_houses, single_houses, crossing_of, rules_of, singles_rules, houses_rules, crossings_rules}
 use Rattle.solo_core.specs.declared.houses.scope.VisitName.{VisitName}
 use Rattle.solo_core.specs.Scopes.{row_scope, column_scope, crossing_scopes}
-use Rattle.solo_core.specs.HouseLaws.{Lists, lists_house, listed-within, listed-different, some_numbers, each_value, all_houses, row_in, column_in}
+use Rattle.solo_core.specs.HouseLaws.{lists_house, listed-within, listed-different, some_numbers, each_value, all_houses, row_in, column_in}
 use Rattle.solo_core.specs.SolutionLaws.{rule_from_test, house_of_solution}
 use Rattle.solo_core.specs.Singles.{strikes_by_singles}
 use Rattle.solo_core.specs.SinglesLaws.{singles-monotone, singles-keeps}
-use Rattle.solo_core.specs.Crossing.{crossing, is_shared, in_block_alone, in_line_alone}
 use Rattle.solo_core.specs.CrossingLaws.{crossing-monotone, crossing-settles, crossing-within, crossing-different, crossing-sound, HoldsEach}
 
 -- ---- the lists of the houses' places
@@ -42,9 +38,9 @@ module _ (p : Solo) (ok : IsSolo p) where
   within_start : IsWithin (solo_cells p) (solo_n p) (start p)
   unfolding start
   within_start c v on =
-      let w = and_parts (ltb c (solo_cells p)) _ on in
-      let u = and_parts (ltb v (solo_n p)) _ w.1 in
-      (ltb-true c (solo_cells p) w.0, ltb-true v (solo_n p) u.0)
+      let w = and_parts _ _ on in
+      let u = and_parts _ _ w.1 in
+      (ltb-true c _ w.0, ltb-true v (solo_n p) u.0)
 
   fine : {settled : Bool} (houses : List House) → IsSetting (setting_of settled p houses)
   fine houses = record {
@@ -60,32 +56,11 @@ module _ (p : Solo) (ok : IsSolo p) where
       (λ _. bound_enough (setting_of settled p houses) houses (omega arith)) (λ e. absurd (true≢false e))
 
   -- ---- houses that decide alike
-  listed : (house : NamedHouse) → IsHouseOf p house → Lists (places_of p house) (solo_n p) (solo_cells p) (lies_in p house)
-  listed house is = lists_house ok house is
-
-  inside : (house : NamedHouse) → IsHouseOf p house → (k : ℕ) → k < length (places_of p house) → slice_index (places_of p house) k < solo_cells p
-  inside house is = listed-within (listed house is)
-
-  different : (house : NamedHouse) → IsHouseOf p house → (j k : ℕ) → j < length (places_of p house)
-      → k < length (places_of p house)
-      → slice_index (places_of p house) j ≡ slice_index (places_of p house) k → j ≡ k
-  different house is = listed-different (listed house is)
-
-  -- the numbers of a house of a grid: n of them, below n
-  numbers_small : {g : List ℕ} → IsGrid (solo_cells p) (solo_n p) g → (c : ℕ) → c < length g → slice_index g c < solo_n p
-  numbers_small grid c lt = grid.each_value c 0 lt
-
-  inside_grid : {g : List ℕ} → IsGrid (solo_cells p) (solo_n p) g → (house : NamedHouse)
-      → IsHouseOf p house → (k : ℕ) → k < length (places_of p house)
-      → slice_index (places_of p house) k < length g
-  inside_grid grid house is k lt = let e = grid.each_cell in let w = inside house is k lt in omega arith
-
   holds_each : {g : List ℕ} → IsGrid (solo_cells p) (solo_n p) g → is_solo_solution p g ≡ true → (house : NamedHouse) → IsHouseOf p house
       → HoldsEach (solo_n p) g (places_of p house)
   holds_each {g} grid on house is = record {
-    long =
-        (listed house is).len;
-    inside = inside_grid grid house is;
+    long = (lists_house ok house is).len;
+    inside = λ k lt. omega (arith, grid.each_cell, listed-within (lists_house ok house is) k lt);
     holds = house_of_solution p ok g (rule_from_test p ok g grid on) house is;
   }
 
@@ -98,31 +73,30 @@ module _ (p : Solo) (ok : IsSolo p) where
     where
       each : (house : NamedHouse) → IsHouseOf p house → IsSound (setting_of settled p all) (house_by decides p house)
       each house is = record {
-        within = inside house is;
-        different = different house is;
+        within = listed-within (lists_house ok house is);
+        different = listed-different (lists_house ok house is);
         monotone = monotone;
         keeps = λ g grid on.
             let h = holds_each grid on house is in
             keeps (numbers_of p g house) (length-map (places_of p house) (slice_index g) ∙ h.long) h.holds (λ k lt.
             let lk : k < length (places_of p house) = omega (arith, h.long) in
-            rw (get_or-map (slice_index g) (places_of p house) k 0 0 lk) (numbers_small grid (slice_index (places_of p house) k) (h.inside k lk)));
+            rw (get_or-map (slice_index g) (places_of p house) k 0 0 lk) (grid.each_value _ 0 (h.inside k lk)));
         settles = settles;
       }
 
   -- ---- crossings of a block and a line
   crossing_is_sound : (all : List House) {b : ℕ} (line : NamedHouse) → b < solo_n p
-      → IsHouseOf p line → IsSound (setting_of true p all)
-      (crossing (places_of p (Block b)) (places_of p line))
-  crossing_is_sound all {b} line b_in is = record {
-    within = crossing-within (places_of p (Block b)) (places_of p line) (inside (Block b) b_in) (inside line is);
-    different = crossing-different (places_of p (Block b)) (places_of p line) (different (Block b) b_in) (different line is);
-    monotone = crossing-monotone (in_block_alone (length (places_of p (Block b))) (is_shared (places_of p (Block b)) (places_of p line)))
-        (in_line_alone (length (places_of p (Block b))));
-    keeps = λ g grid on. crossing-sound (places_of p (Block b)) (places_of p line) (solo_n p) g (numbers_small grid) (holds_each grid on (Block b) b_in)
-        (holds_each grid on line is);
-    settles = λ _. crossing-settles (in_block_alone (length (places_of p (Block b))) (is_shared (places_of p (Block b)) (places_of p line)))
-        (in_line_alone (length (places_of p (Block b))));
-  }
+      → IsHouseOf p line → IsSound (setting_of true p all) (crossing_of p b line)
+  crossing_is_sound all {b} line b_in is =
+      let block = lists_house ok (Block b) b_in in
+      let other = lists_house ok line is in
+      record {
+        within = crossing-within _ _ (listed-within block) (listed-within other);
+        different = crossing-different _ _ (listed-different block) (listed-different other);
+        monotone = crossing-monotone _ _;
+        keeps = λ g grid on. crossing-sound _ _ (solo_n p) g (λ c. grid.each_value c 0) (holds_each grid on (Block b) b_in) (holds_each grid on line is);
+        settles = λ _. crossing-settles _ _;
+      }
 
   abbrev scope_is_sound : List House → VisitName → Type 0
   scope_is_sound all scope = IsSound (setting_of true p all) (house_at p scope)
@@ -130,41 +104,34 @@ module _ (p : Solo) (ok : IsSolo p) where
   each_crossing : (all : List House) → All (IsSound (setting_of true p all)) (crossings_of p)
   each_crossing all = All-map (IsSound (setting_of true p all)) (house_at p) (crossing_scopes p)
       (All-append (scope_is_sound all) (map (row_scope p) (range_with_len 0 (solo_n p * p.c))) (map (column_scope p) (range_with_len 0 (solo_n p * p.r)))
-      (each_value (scope_is_sound all) (row_scope p) (solo_n p * p.c)
-      (λ m lt. let w = row_in ok m lt in crossing_is_sound all (Row (m / p.c / p.c * p.c + m % p.c)) w.0 w.1))
-      (each_value (scope_is_sound all) (column_scope p) (solo_n p * p.r)
-      (λ m lt. let w = column_in ok m lt in crossing_is_sound all (Column (m / p.r % p.c * p.r + m % p.r)) w.0 w.1)))
+      (each_value (scope_is_sound all) (row_scope p) (solo_n p * p.c) (λ m lt. let w = row_in ok m lt in crossing_is_sound all (Row _) w.0 w.1))
+      (each_value (scope_is_sound all) (column_scope p) (solo_n p * p.r) (λ m lt. let w = column_in ok m lt in crossing_is_sound all (Column _) w.0 w.1)))
 
   -- ---- the three rule sets
-  by_fillings : (all : List House) → All (IsSound (setting_of true p all)) (deciding (strikes_by_fillings no_repeat) p)
+  by_fillings : (all : List House) → All (IsSound (setting_of true p all)) (filled_houses p)
   by_fillings all =
-      alike_sound true all (strikes_by_fillings no_repeat) (by_fillings-monotone no_repeat)
+      alike_sound true all _ (by_fillings-monotone no_repeat)
       (λ f long holds small. by_fillings-keeps no_repeat f holds)
       (λ _. by_fillings-settles no_repeat)
 
-  pub singles_sound : All (IsSound (setting_of false p (deciding (strikes_by_singles (solo_n p)) p))) (deciding (strikes_by_singles (solo_n p)) p)
+  pub singles_sound : All (IsSound (setting_of false p (single_houses p))) (single_houses p)
   singles_sound =
-      alike_sound false (deciding (strikes_by_singles (solo_n p)) p) (strikes_by_singles (solo_n p))
+      alike_sound false (single_houses p) (strikes_by_singles (solo_n p))
       (singles-monotone (solo_n p)) (singles-keeps (solo_n p)) (λ e. absurd (true≢false (sym e)))
 
-  pub fillings_sound : All (IsSound (setting_of true p (deciding (strikes_by_fillings no_repeat) p))) (deciding (strikes_by_fillings no_repeat) p)
-  fillings_sound = by_fillings (deciding (strikes_by_fillings no_repeat) p)
+  pub fillings_sound : All (IsSound (setting_of true p (filled_houses p))) (filled_houses p)
+  fillings_sound = by_fillings (filled_houses p)
 
-  pub crossings_sound : All
-      (IsSound (setting_of true p (deciding (strikes_by_fillings no_repeat) p ++ crossings_of p)))
-      (deciding (strikes_by_fillings no_repeat) p ++ crossings_of p)
+  pub crossings_sound : All (IsSound (setting_of true p (filled_houses p ++ crossings_of p))) (filled_houses p ++ crossings_of p)
   crossings_sound =
-      All-append (IsSound (setting_of true p all)) (deciding (strikes_by_fillings no_repeat) p)
-      (crossings_of p) (by_fillings all) (each_crossing all)
-    where
-      all : List House
-      all = deciding (strikes_by_fillings no_repeat) p ++ crossings_of p
+      let all = filled_houses p ++ crossings_of p in
+      All-append (IsSound (setting_of true p all)) _ _ (by_fillings all) (each_crossing all)
 
   pub singles_lawful : IsLawful (singles_rules p)
-  singles_lawful = rules_lawful false (deciding (strikes_by_singles (solo_n p)) p) singles_sound
+  singles_lawful = rules_lawful false (single_houses p) singles_sound
 
   pub houses_lawful : IsLawful (houses_rules p)
-  houses_lawful = rules_lawful true (deciding (strikes_by_fillings no_repeat) p) fillings_sound
+  houses_lawful = rules_lawful true (filled_houses p) fillings_sound
 
   pub crossings_lawful : IsLawful (crossings_rules p)
-  crossings_lawful = rules_lawful true (deciding (strikes_by_fillings no_repeat) p ++ crossings_of p) crossings_sound
+  crossings_lawful = rules_lawful true (filled_houses p ++ crossings_of p) crossings_sound

@@ -1,8 +1,7 @@
 -- The rule sets of Solo. They have the same start and the same solutions; singles and houses strike differently in the
 -- same houses, and crossings have further ones.
 use Rattle.std.specs.Prelude.{◌≡◌, ℕ, ◌<◌, ◌+◌, Bool, true, false, ◌&&◌, ◌||◌, ◌==◌, nat_lt, List, ◌++◌, map, slice_index, sum_by}
-use Rattle.solo_core.specs.Common.{Candidates, Solo, solo_n, RuleSystem, strikes_by_fillings, Decision, has_bit, House, Setting, by_houses, visits_of, NamedHouse}
-use Rattle.solo_core.specs.Common.{Block, solo_cells, houses_of, places_of, no_repeat, is_solo_solution}
+use Rattle.solo_core.specs.Common.{Candidates, Solo, solo_n, RuleSystem, strikes_by_fillings, Decision, has_bit, House, Setting, by_houses, visits_of, NamedHouse, Block, solo_cells, houses_of, places_of, no_repeat, is_solo_solution}
 use Rattle.solo_core.specs.declared.houses.scope.VisitName.{VisitName}
 use Rattle.solo_core.specs.declared.houses.scope.VisitName.TheVariants as scope
 use Rattle.solo_core.specs.Crossing.{crossing, outside, is_shared}

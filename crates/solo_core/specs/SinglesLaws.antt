@@ -1,13 +1,13 @@
 -- Laws of singles: what they strike from larger sets they strike from smaller ones, and from a solution's own values
 -- they strike nothing.
+use Rattle.std.proofs.lemmas.Grind.{common_steps}
 use Rattle.std.proofs.Common.{◌≡◌, ℕ, ◌<◌, Bool, true, false, not, ◌&&◌, ◌||◌, true≢false, eqb, List, length, get_or, refl, sym, ◌∙◌, ap, subst, arith, inl, inr}
-use Rattle.solo_core.specs.Common.{cases_Bool, and_from, or_left, or_right, eqb-true, eq-eqb, not-true, false_from_ne_true, nat_tests, any_below}
-use Rattle.solo_core.specs.Common.{any_below-here, any_below-some, any_below-none, Set, Keeps, IsMonotone, no_repeat}
+use Rattle.solo_core.specs.Common.{cases_Bool, and_from, or_left, or_right, eqb-true, eq-eqb, not-true, false_from_ne_true, nat_tests, any_below, any_below-here, any_below-some, any_below-none, Set, Keeps, IsMonotone, no_repeat}
 use Rattle.solo_core.specs.NoRepeatLaws.{own_from_no_repeat, none_missing}
 use Rattle.solo_core.specs.Singles.{Has, has_other, is_elsewhere, taken_elsewhere, needed_for_other, has_empty_cell, strikes_where, has_at, strikes_by_singles}
 
 none_below : (test : ℕ → Bool) (n : ℕ) → ((k : ℕ) → k < n → test k ≡ true → ⊥) → any_below test n ≡ false
-none_below test n none = false_from_ne_true (any_below test n) (λ on. let w = any_below-some test n on in none w.0 w.1 w.2)
+none_below test n none = grind (arith, common_steps, false_from_ne_true, any_below-some)
 
 fails_below : (test : ℕ → Bool) {n : ℕ} → any_below test n ≡ false → {k : ℕ} → k < n → test k ≡ true → ⊥
 fails_below test {n} off {k} lt on = true≢false (sym on ∙ any_below-none test n off k lt)
@@ -58,8 +58,7 @@ strikes_stay cells values at at' down place value = or_stays
 
 pub singles-monotone : (values : ℕ) → IsMonotone (strikes_by_singles values)
 singles-monotone values smaller larger k v inside on =
-    rw inside.as_many (strikes_stay (length larger) values (has_at larger) (has_at smaller)
-    (λ j w lj lw. inside.inside j w (let e = inside.as_many in omega arith)) k v on)
+    rw inside.as_many (strikes_stay _ values _ _ (λ j w lj lw. inside.inside j w (omega arith)) k v on)
 
 -- from cells that have one value each, all different, nothing is struck
 module _ (n : ℕ) (f : List ℕ) (long : length f ≡ n) (holds : no_repeat f ≡ true) (small : (k : ℕ) → k < n → get_or f k 0 < n) where
@@ -80,11 +79,11 @@ module _ (n : ℕ) (f : List ℕ) (long : length f ≡ n) (holds : no_repeat f �
   pub shown_stays : (sets : List Set) → length sets ≡ n → ((k : ℕ) → k < n → has_at sets k (get_or f k 0) ≡ true) → (k : ℕ) → k < n
       → strikes_by_singles n sets k (get_or f k 0) ≡ false
   shown_stays sets all has k lk = false_from_ne_true (strikes_by_singles n sets k (get_or f k 0)) (λ on.
-      true≢false (sym (strikes_stay n n (has_at sets) (λ j u. eqb (get_or f j 0) u) (λ j u lj lu e. rw (eqb-true (get_or f j 0) u e) at (has j lj)) k
-      (get_or f k 0)
+      true≢false (sym (strikes_stay n n (has_at sets) _ (λ j u lj lu e. rw (eqb-true (get_or f j 0) u e) at (has j lj)) k
+      _
       (subst (λ m. strikes_where m n (has_at sets) k (get_or f k 0) ≡ true) all on)) ∙ own_stays k lk))
 
   -- cells that have these values alone lose none
   pub singles-keeps : Keeps (strikes_by_singles n) f
   singles-keeps sets k own lt = shown_stays sets (own.as_many ∙ long)
-      (λ j lj. own.own j (get_or f j 0) (omega arith) ∙ eq-eqb (get_or f j 0) (get_or f j 0) refl) k (omega arith)
+      (λ j lj. own.own j (get_or f j 0) (omega arith) ∙ eq-eqb _ _ refl) k (omega arith)

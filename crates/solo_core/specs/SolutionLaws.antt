@@ -1,8 +1,6 @@
 -- Laws of solutions: the test of a grid, house by house, is the rule.
 use Rattle.std.proofs.Common.{◌≡◌, ℕ, ◌+◌, ◌<◌, ◌≤◌, Bool, true, List, map, get_or, slice_index, sym, ap, ◌∙◌, arith}
-use Rattle.solo_core.specs.Common.{list_all, and_parts, and_from, nat_tests, get_or-map, length-map, all_below, IsGrid, all_below-at, all_below-from, Solo}
-use Rattle.solo_core.specs.Common.{IsSolo, solo_n, NamedHouse, solo_cells, houses_of, IsHouseOf, no_repeat, IsSoloSolution, given_stands}
-use Rattle.solo_core.specs.Common.{numbers_of, is_solo_solution}
+use Rattle.solo_core.specs.Common.{list_all, and_parts, and_from, nat_tests, get_or-map, length-map, all_below, IsGrid, all_below-at, all_below-from, Solo, IsSolo, solo_n, NamedHouse, solo_cells, houses_of, IsHouseOf, no_repeat, IsSoloSolution, given_stands, numbers_of, is_solo_solution}
 use Rattle.engine_core.specs.Every.{test_each, each_test}
 use Rattle.solo_core.specs.HouseLaws.{Lists, lists_house, all_houses, each_house}
 use Rattle.solo_core.specs.NoRepeatLaws.{own_from_no_repeat, no_repeat_from_different}

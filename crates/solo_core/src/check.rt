@@ -2,8 +2,7 @@
 #![tactic(auto, using(crate::proofs::LawSets::check_laws))]
 
 ghost use Rattle.std.specs.Prelude.{◌≡◌};
-ghost use Rattle.solo_core.specs.Common.{IsGrid, IsSolo, solo_n, solo_cells, IsHouseOf, numbers_of};
-ghost use Rattle.solo_core.specs.Common.{is_solo_solution, no_repeat};
+ghost use Rattle.solo_core.specs.Common.{IsGrid, IsSolo, solo_n, solo_cells, IsHouseOf, numbers_of, is_solo_solution, no_repeat};
 ghost use Rattle.gameid_core.specs.FirstFailed.{IsFirstOf};
 ghost use Rattle.solo_core.specs.Faults.{FailsSolo, IsSoloFault, fault_of as fault_of_house, given_tests, house_tests};
 

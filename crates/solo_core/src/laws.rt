@@ -2,8 +2,7 @@
 #![tactic(auto, using(crate::proofs::LawSets::laws_laws))]
 
 ghost use Rattle.std.specs.Prelude.{◌≡◌, ◌+◌, ◌*◌, length, if◌then◌else◌};
-ghost use Rattle.solo_core.specs.Common.{Solo, IsSolo, solo_n, IsLawful, NamedHouse, houses_of};
-ghost use Rattle.solo_core.specs.Common.{IsHouseOf};
+ghost use Rattle.solo_core.specs.Common.{Solo, IsSolo, solo_n, IsLawful, NamedHouse, houses_of, IsHouseOf};
 ghost use Rattle.solo_core.specs.Meanings.{AcceptsSolutions, StrikesAsMuch, ListsItsPlaces, HousesComeFirst, AreNamedByScopes, house_visits, all_visits};
 ghost use Rattle.solo_core.specs.RuleSets.{houses_rules, singles_rules, crossings_rules};
 ghost use Rattle.solo_core.specs.Scopes.{scopes_of};
@@ -13,12 +12,14 @@ use engine_core::{HouseRules, Rules, Uncounted};
 
 /// What the rules by singles mean: those of the puzzle that they keep.
 pub fn rules_of_singles(rules: &SoloSingles)
-    ensures { ⟦<HouseRules<Singles, Uncounted> as Rules>⟧.system rules.now ≡ singles_rules rules.now.set.puzzle }
+    ensures { ⟦<HouseRules<Singles, Uncounted> as Rules>⟧.system rules.now
+        ≡ singles_rules rules.now.set.puzzle }
 {}
 
 /// What the rules by fillings of houses mean.
 pub fn rules_of_houses(rules: &SoloHouses)
-    ensures { ⟦<HouseRules<Fillings, Uncounted> as Rules>⟧.system rules.now ≡ houses_rules rules.now.set.puzzle }
+    ensures { ⟦<HouseRules<Fillings, Uncounted> as Rules>⟧.system rules.now
+        ≡ houses_rules rules.now.set.puzzle }
 {}
 
 /// What the rules by houses and crossings mean.

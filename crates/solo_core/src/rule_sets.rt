@@ -57,7 +57,7 @@ pub struct Crossings {
 
 /// The places of the houses.
 fn list_houses(alloc: Global, puzzle: &SoloPuzzle) -> Result<HouseList, AllocError>
-    ensures lawful { IsSolo puzzle.now }
+    ensures known { IsSolo puzzle.now }
     ensures listed { IfOk result (λ list. list.closed ≡ house_places puzzle.now) }
 {
     let mut list = HouseList::new(alloc, houses(puzzle), cells_of_houses(puzzle))?;

@@ -2,8 +2,8 @@
 
 pub(crate) mod bits;
 pub(crate) mod crossing;
+pub(crate) mod graph;
 pub(crate) mod houses;
-pub(crate) mod joined;
 pub(crate) mod mates;
 pub(crate) mod peel;
 pub(crate) mod quick;

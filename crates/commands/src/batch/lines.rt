@@ -1,24 +1,19 @@
-//! Lines that come in chunks, of which no more than an ID's length is kept.
-ghost use Rattle.std.specs.Prelude.{◌≡◌, ◌++◌, ◌∷◌, [], List, ℕ, OnOk, ◌==◌, length};
+//! Lines that come in chunks, of which little more than an ID's length is kept.
+ghost use Rattle.std.specs.Prelude.{◌≡◌, ◌++◌, ◌∷◌, ◌≤◌, [], List, ℕ, IfSome, OnOk, ◌==◌, length};
 ghost use Rattle.std.specs.Str.Lines.{strip_carriage_return};
-ghost use Rattle.commands.specs.Batches.{IsLine, Holds, next_tail};
+ghost use Rattle.commands.specs.Batches.{IsLine, Holds};
 
 use gameid_core::MAX_ID;
 use std::alloc::{AllocError, Global};
 
-/// What came after the bytes of a line that are kept: nothing, one carriage return, or more.
-#[derive(Clone, Copy)]
-pub enum Tail {
-    Nothing,
-    Return,
-    More,
-}
+/// Most bytes of a line that are kept. With so many it is over-long, whatever follows, also if one
+/// carriage return at its end is no part of it.
+const LINE_LIMIT: usize = MAX_ID + 2;
 
-/// A line that is being read: its first bytes, and what came after them.
+/// A line that is being read: its first bytes.
 #[derive(Drop)]
 pub struct InputLine {
     kept: Vec<u8>,
-    tail: Tail,
 }
 
 /// The bytes without one carriage return at their end.
@@ -32,13 +27,15 @@ fn without_return(line: &[u8]) -> &[u8]
     }
 }
 
-/// What came after the bytes that are kept, with one byte more.
-fn after(tail: Tail, byte: u8) -> Tail
-    ensures { result ≡ next_tail tail byte }
+/// The bytes, or nothing where they are too many for an ID.
+fn unless_over(line: &[u8]) -> Option<&[u8]>
+    ensures line { IsLine result line.now }
+    ensures within { IfSome result (λ l. length l.now ≤ MAX_ID) }
 {
-    match tail {
-        Tail::Nothing if byte == b'\r' => Tail::Return,
-        _ => Tail::More,
+    if line.len() > MAX_ID {
+        None
+    } else {
+        Some(line)
     }
 }
 
@@ -49,19 +46,16 @@ impl InputLine {
     {
         InputLine {
             kept: Vec::new(alloc),
-            tail: Tail::Nothing,
         }
     }
 
-    /// Takes one more byte of the line, which is kept where fewer than `MAX_ID` are.
+    /// Takes one more byte of the line.
     pub fn push(&mut self, byte: u8) -> Result<(), AllocError>
         ensures { OnOk result ((piece : List ℕ) → Holds self.old piece
             → Holds self.new (piece ++ byte ∷ [])) }
     {
-        if self.kept.len() < MAX_ID {
+        if self.kept.len() < LINE_LIMIT {
             self.kept.push(byte)?;
-        } else {
-            self.tail = after(self.tail, byte);
         }
         Ok(())
     }
@@ -71,7 +65,6 @@ impl InputLine {
         ensures { Holds self.new [] }
     {
         self.kept.clear();
-        self.tail = Tail::Nothing;
     }
 
     /// Whether no byte came.
@@ -86,20 +79,13 @@ impl InputLine {
         ensures { (piece : List ℕ) → Holds self.now piece
             → IsLine result (strip_carriage_return piece) }
     {
-        match self.tail {
-            Tail::Nothing => Some(without_return(self.kept.as_slice())),
-            Tail::Return => Some(self.kept.as_slice()),
-            Tail::More => None,
-        }
+        unless_over(without_return(self.kept.as_slice()))
     }
 
     /// The line where the end of the input ends it, or nothing where it is over-long.
     pub fn before_end(&self) -> Option<&[u8]>
         ensures { (piece : List ℕ) → Holds self.now piece → IsLine result piece }
     {
-        match self.tail {
-            Tail::Nothing => Some(self.kept.as_slice()),
-            _ => None,
-        }
+        unless_over(self.kept.as_slice())
     }
 }

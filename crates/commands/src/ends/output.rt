@@ -1,9 +1,8 @@
 //! Texts on their way to a sink.
-ghost use Rattle.std.specs.Prelude.{◌≡◌, true, false, OnOk, OnErr};
+ghost use Rattle.std.specs.Prelude.{◌≡◌, true, false, OnOk, OnErr, IfErr};
 ghost use Rattle.commands.specs.Answers.{Delivers, PutBegun};
 ghost use Rattle.commands.specs.Replies.{answer_in, fault_text, refused};
-ghost use Rattle.commands.specs.Stops.{LeavesSink, SaysIfAny, status_in};
-ghost use Rattle.commands.specs.declared.answers.status.Stop.TheVariants as stops;
+ghost use Rattle.commands.specs.Stops.{LeavesSink, SaysIfAny, is_broken, status_in};
 
 use crate::answers::reply::{Reply, id_refused};
 use crate::answers::status::{RunResult, Stop};
@@ -11,45 +10,25 @@ use crate::ends::Sink;
 use gameid_core::IdFault;
 use std::alloc::Global;
 
-/// An end failed.
-#[derive(Drop)]
-pub struct Broken;
-
-impl From<Broken> for Stop {
-    ghost from_gives = { λ _ stop. stop ≡ stops.Broken };
-
-    fn from(_broken: Broken) -> Stop {
-        Stop::Broken
-    }
-}
-
-/// Puts all of the bytes, in as many calls as the sink needs.
-///
-/// # Errors
-///
-/// Where the sink failed. It took a beginning of the bytes then.
-pub fn put_all<O: Sink>(output: &mut O, bytes: &[u8]) -> Result<(), Broken>
+/// Puts all of the bytes, or a beginning of them if the sink fails, in as many calls as it needs.
+pub fn put_all<O: Sink>(output: &mut O, bytes: &[u8]) -> Result<(), Stop>
     requires { O.has_failed output.old ≡ false }
     ensures ok { OnOk result (O.takes output.old bytes.now output.new) }
     ensures fine { OnOk result (O.has_failed output.new ≡ false) }
     ensures err { OnErr result (PutBegun O.takes output.old bytes.now output.new) }
-    ensures failed { OnErr result (O.has_failed output.new ≡ true) }
+    ensures cause { IfErr result (λ e. (O.has_failed output.new ≡ true) × (is_broken e ≡ true)) }
 {
     let mut rest = bytes;
     while !rest.is_empty() {
         match output.put(rest) {
             Some(count) => rest = &rest[count..],
-            None => return Err(Broken),
+            None => return Err(Stop::Broken),
         }
     }
     Ok(())
 }
 
-/// Puts the text of a reply and finishes, and gives its status.
-///
-/// # Errors
-///
-/// Where the sink failed. It took a beginning of the text then.
+/// Puts the text of a reply and finishes, and gives its status. A sink that fails took a beginning.
 pub fn deliver<O: Sink>(output: &mut O, reply: &Reply) -> RunResult
     requires { O.has_failed output.old ≡ false }
     ensures delivers { Delivers O.takes output.old (answer_in reply.now) output.new

@@ -62,10 +62,6 @@ fn take_whole<I: Source>(kept: &mut Kept, input: &mut I) -> Result<(), Stop>
 
 /// Reads the input to its end, and gives its bytes, or nothing where they are more than
 /// `TEXT_LIMIT`.
-///
-/// # Errors
-///
-/// When memory was refused, or the source failed, or its calls were used up before its end.
 pub fn read_whole<I: Source>(alloc: Global, input: &mut I) -> Result<Option<Vec<u8>>, Stop>
     requires { IsUnread I.Source input.old }
     ensures fine { OnOk result ((I.has_failed input.new ≡ false) × (I.has_ended input.new ≡ true)) }

@@ -37,6 +37,7 @@ impl Solvable for LightPuzzle {
 
     ghost meaning = { λ search. light_rules search.set.puzzle };
 
+    #[tactic(auto, using(crate::proofs::SearchedPuzzles::light_accepted))]
     fn rules(&self, alloc: Global) -> Result<LightRules, AllocError> {
         LightRules::new(alloc, self)
     }

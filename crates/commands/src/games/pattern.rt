@@ -39,6 +39,7 @@ impl Solvable for PatternPuzzle {
 
     ghost meaning = { λ search. line_rules search.pattern };
 
+    #[tactic(auto, using(crate::proofs::SearchedPuzzles::pattern_accepted))]
     fn rules(&self, alloc: Global) -> Result<PatternLines, AllocError> {
         PatternLines::new(alloc, self)
     }

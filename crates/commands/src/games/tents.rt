@@ -39,6 +39,7 @@ impl Solvable for TentsPuzzle {
 
     ghost meaning = { λ search. tent_rules search.set.puzzle };
 
+    #[tactic(auto, using(crate::proofs::SearchedPuzzles::tents_accepted))]
     fn rules(&self, alloc: Global) -> Result<TentRules, AllocError> {
         TentRules::new(alloc, self)
     }

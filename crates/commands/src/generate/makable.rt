@@ -45,11 +45,6 @@ impl From<MakeFault> for Unmade {
 /// A puzzle that can be made.
 pub trait Makable: Played {
     /// Makes a puzzle of the size that the text is, with its one solution.
-    ///
-    /// # Errors
-    ///
-    /// Where the text is no size that is made, where no try made a puzzle, or when memory was
-    /// refused.
     fn make(alloc: Global, size: &[u8], recipe: Recipe) -> Result<Made<Self>, Unmade>
         ensures made { IfOk result (λ made. IsMade Self.game recipe size.now
             (record { puzzle = made.puzzle; solution = made.answer; kept = made.kept.items })) }

@@ -59,7 +59,7 @@ impl Attempt {
         requires means { (rules : P.Search) → P.Search.system rules ≡ P.meaning rules }
         requires fits { FitsIn (needs_of (R.system rules.now)) store.old.made }
         requires accepted { (g : List ℕ)
-            → Solves (R.system rules.now) g ↔ P.game.solves puzzle.now g }
+            → (Solves (R.system rules.now) g ↔ P.game.solves puzzle.now g) }
         ensures grade { IfOk result (λ grade. grade ≡ listed_grade
             (only_set self.set (R.system rules.now)) (P.game.rules puzzle.now)
             self.options.budget) }

@@ -59,10 +59,6 @@ fn put_piece<O: Sink>(text: &mut String, output: &mut O) -> Result<(), Stop>
 }
 
 /// Puts a text and then a line for each visit, but for the end of these, which is left in the text.
-///
-/// # Errors
-///
-/// When memory was refused, or the sink failed. A beginning of the text and the lines was put then.
 pub fn put_visits<P: Named, O: Sink>(
     puzzle: &P,
     visits: &[usize],

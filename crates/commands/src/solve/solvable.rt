@@ -20,5 +20,5 @@ pub trait Solvable: Played {
             ≡ (Self.extent self.now).w * (Self.extent self.now).h }
         ensures values { (Self.game.rules self.now).values ≡ Self.value_count self.now }
         ensures solutions { (g : List ℕ)
-            → Solves (Self.game.rules self.now) g ↔ Self.game.solves self.now g };
+            → (Solves (Self.game.rules self.now) g ↔ Self.game.solves self.now g) };
 }

@@ -1,7 +1,7 @@
 //! Tents.
 
 use super::{accepts, close_to, grid_of, repeated};
-use engine_core::Rules;
+use engine_core::{Rules, Store, Verdict};
 use fields_core::{TentFault, TentRules, check_tents};
 use gameid_core::{TentsPuzzle, read_tents};
 use std::alloc::{AllocError, Global};
@@ -76,6 +76,27 @@ fn grids_of_tents(rt: HostRuntime) -> Result<(), Fail> {
 fn a_tree_in_a_corner_closes(rt: HostRuntime) -> Result<(), Fail> {
     let rules = rules_of(rt.alloc(), "2x2:_c,0,1,1,0")?;
     assert!(rt; close_to(rt.alloc(), &rules, &[1])?);
+    Ok(())
+}
+
+/// The verdict on the second puzzle, by a store that was made for the first.
+fn solved_in(alloc: Global, first: &str, second: &str) -> Result<Option<Verdict>, Fail> {
+    let rules = rules_of(alloc, second)?;
+    let mut store = Store::new(alloc, &rules_of(alloc, first)?)?;
+    if !store.fits(&rules) {
+        return Ok(None);
+    }
+    Ok(Some(store.solve(&rules, 100)))
+}
+
+#[test]
+fn a_store_serves_a_grid_of_another_shape(rt: HostRuntime) -> Result<(), Fail> {
+    let wide = "6x4:hbdbd,1,0,0,1,1,1,1,1,0,2";
+    let tall = "4x6:am_f_,1,1,1,1,0,1,1,0,0,2";
+    assert_eq!(rt; solved_in(rt.alloc(), wide, tall)?, Some(Verdict::One));
+    assert_eq!(rt; solved_in(rt.alloc(), tall, wide)?, Some(Verdict::One));
+    assert_eq!(rt; solved_in(rt.alloc(), CAMP, CAMP)?, Some(Verdict::None));
+    assert_eq!(rt; solved_in(rt.alloc(), CAMP, wide)?, None);
     Ok(())
 }
 

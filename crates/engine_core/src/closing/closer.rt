@@ -30,7 +30,7 @@ pub(crate) struct Effect {
 
 /// What a closing came to, and how many visits or sweeps it made.
 #[derive(Clone, Copy)]
-pub(crate) struct Closed {
+pub(crate) struct ClosingReport {
     pub closing: Closing,
     pub visits: usize,
     pub sweeps: usize,
@@ -39,7 +39,7 @@ pub(crate) struct Closed {
 /// A board, and what it takes to close it: what the rules work in, room for the sets that a house's cells had before its
 /// visit, a mark for each house that waits, and in a queue room for the houses visited.
 pub(crate) struct Closer<R: Rules> {
-    made: Needs,
+    pub(crate) made: Needs,
     scratch: R::Scratch,
     sets: Vec<u32>,
     pub(crate) waits: Vec<u64>,
@@ -97,13 +97,6 @@ impl<R: Rules> Closer<R> {
             trace: vec![in alloc; 0usize; trace]?,
             board: Board::new(alloc, made.cells, made.values)?,
         })
-    }
-
-    /// What the memory was taken for.
-    pub(crate) fn made(&self) -> Needs
-        ensures { needs_in result ≡ self.now.made }
-    {
-        self.made
     }
 
     /// The board.
@@ -166,7 +159,7 @@ impl<R: Rules> Closer<R> {
     }
 
     /// Closes the board: at first each house waits.
-    pub(crate) fn close(&mut self, rules: &R) -> Closed
+    pub(crate) fn close(&mut self, rules: &R) -> ClosingReport
         requires fits { FitsIn (needs_of (R.system rules.now)) self.old.made }
         ensures closing { IsClosing (R.system rules.now) (has self.old.board) (has self.new.board)
             result.closing (take result.visits self.new.trace) result.sweeps }
@@ -174,7 +167,7 @@ impl<R: Rules> Closer<R> {
         ensures room { SameRoom self.old self.new }
     {
         if self.board.has_empty_cell() {
-            return Closed {
+            return ClosingReport {
                 closing: Closing::Dead,
                 visits: 0,
                 sweeps: 0,

@@ -6,7 +6,7 @@ ghost use Rattle.grid_core.specs.Candidates.{Candidates, IsInside};
 ghost use Rattle.engine_core.specs.Keeping.{AreSetsOf};
 ghost use Rattle.engine_core.specs.RuleSystem.{has_place, IsBoardOf};
 ghost use Rattle.engine_core.specs.Queue.{called_for, are_emptied};
-ghost use Rattle.engine_core.specs.Waiting.{words_of, is_waiting, AreCalled};
+ghost use Rattle.engine_core.specs.Waiting.{words_of, is_waiting, AreWoken};
 
 use crate::houses::sets::cell_bits;
 use crate::rules::Rules;
@@ -17,7 +17,7 @@ use grid_core::Board;
 pub(crate) fn mark_at<R: Rules>(rules: &R, place: usize, waits: &mut [u64])
     requires place_in { place < (R.system rules.now).cells }
     requires room { words_of (R.system rules.now).houses ≤ length waits.old }
-    ensures { (K : Candidates) → AreCalled (R.system rules.now) K
+    ensures { (K : Candidates) → AreWoken (R.system rules.now) K
         (λ j. has_place ((R.system rules.now).scope j) place)
         (is_waiting waits.old) (is_waiting waits.new) }
 {
@@ -44,9 +44,9 @@ pub(crate) fn mark_changed<R: Rules>(
     requires board_of { IsBoardOf (R.system rules.now) board.now }
     requires long { length sets.now ≡ length ((R.system rules.now).scope house) }
     requires room { words_of (R.system rules.now).houses ≤ length waits.old }
-    ensures called { (K : Candidates) → AreSetsOf (R.system rules.now) house K sets.now
+    ensures woken { (K : Candidates) → AreSetsOf (R.system rules.now) house K sets.now
         → IsInside (has board.now) K
-        → AreCalled (R.system rules.now) (has board.now)
+        → AreWoken (R.system rules.now) (has board.now)
         (called_for (R.system rules.now) house K (has board.now))
         (is_waiting waits.old) (is_waiting waits.new) }
     ensures dead { (K : Candidates) → AreSetsOf (R.system rules.now) house K sets.now

@@ -8,7 +8,7 @@ ghost use Rattle.engine_core.specs.Queue.{IsRested};
 ghost use Rattle.engine_core.specs.Waiting.{is_waiting};
 ghost use Rattle.engine_core.specs.Closer.{SameRoom};
 
-use crate::closing::closer::{Closed, Closer};
+use crate::closing::closer::{Closer, ClosingReport};
 use crate::mode::Closing;
 use crate::rules::Rules;
 use crate::waits::next_around;
@@ -16,7 +16,7 @@ use crate::waits::next_around;
 impl<R: Rules> Closer<R> {
     /// Closes the board: visits the houses that wait until none waits or a cell has no value. After each it goes on with
     /// the next one, and after the last begins again. It writes down each house that it visits.
-    pub(crate) fn run_queue(&mut self, rules: &R) -> Closed
+    pub(crate) fn run_queue(&mut self, rules: &R) -> ClosingReport
         requires fits { FitsIn (needs_of (R.system rules.now)) self.old.made }
         requires queue { (R.system rules.now).by_queue ≡ true }
         requires board_of { IsBoardOf (R.system rules.now) self.old.board }
@@ -35,14 +35,14 @@ impl<R: Rules> Closer<R> {
             visits += 1;
             from = house + 1;
             if self.step(rules, house).dead {
-                return Closed {
+                return ClosingReport {
                     closing: Closing::Dead,
                     visits,
                     sweeps: 0,
                 };
             }
         }
-        Closed {
+        ClosingReport {
             closing: Closing::Open,
             visits,
             sweeps: 0,

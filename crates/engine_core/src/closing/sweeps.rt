@@ -9,7 +9,7 @@ ghost use Rattle.engine_core.specs.Queue.{IsRested};
 ghost use Rattle.engine_core.specs.Waiting.{is_waiting};
 ghost use Rattle.engine_core.specs.Closer.{IsWholeSweep, SameRoom};
 
-use crate::closing::closer::{Closed, Closer, Effect};
+use crate::closing::closer::{Closer, ClosingReport, Effect};
 use crate::mode::Closing;
 use crate::rules::Rules;
 use crate::waits::next_waiting;
@@ -41,7 +41,7 @@ impl<R: Rules> Closer<R> {
 
     /// Closes the board: sweeps until nothing is struck or a cell has no value. The sweeps that strike something count, and
     /// one if there is none.
-    pub(crate) fn run_sweeps(&mut self, rules: &R) -> Closed
+    pub(crate) fn run_sweeps(&mut self, rules: &R) -> ClosingReport
         requires fits { FitsIn (needs_of (R.system rules.now)) self.old.made }
         requires sweeps { (R.system rules.now).by_queue ≡ false }
         requires board_of { IsBoardOf (R.system rules.now) self.old.board }
@@ -57,7 +57,7 @@ impl<R: Rules> Closer<R> {
         'closing: loop {
             let effect = self.sweep(rules);
             if effect.dead {
-                return Closed {
+                return ClosingReport {
                     closing: Closing::Dead,
                     visits: 0,
                     sweeps: sweeps + 1,
@@ -66,7 +66,7 @@ impl<R: Rules> Closer<R> {
             if effect.struck {
                 sweeps += 1;
             } else {
-                return Closed {
+                return ClosingReport {
                     closing: Closing::Open,
                     visits: 0,
                     sweeps: sweeps.max(1),

@@ -147,7 +147,8 @@ impl HouseList {
         requires { house < length self.now.closed }
         ensures { result.now ≡ slice_index_or self.now.closed house [] }
     {
-        piece(&self.places, &self.ends, house)
+        let ends: &[usize] = &self.ends;
+        part(&self.places, begin(ends, house), ends[house])
     }
 }
 
@@ -183,15 +184,6 @@ fn last(ends: &[usize]) -> usize
 {
     let count = ends.len();
     if count == 0 { 0 } else { ends[count - 1] }
-}
-
-/// One of the lists.
-fn piece<'a>(places: &'a [u32], ends: &[usize], house: usize) -> &'a [u32]
-    requires ends { AreEnds (length places.now) 0 ends.now }
-    requires house_in { house < length ends.now }
-    ensures { result.now ≡ slice_index_or (pieces places.now 0 ends.now) house [] }
-{
-    part(places, begin(ends, house), ends[house])
 }
 
 /// The part of the list from one number to another.

@@ -26,17 +26,6 @@ fn count_places(counts: &mut [u32], places: &[u32])
     }
 }
 
-/// Counts for each place the houses that have it.
-fn count_houses(counts: &mut [u32], list: &HouseList)
-    requires scopes { AreScopes (length counts.old) list.now.closed }
-    requires few { sum_by length list.now.closed < 2 ^ 32 }
-    requires none { (c : ℕ) → c < length counts.old → slice_index counts.old c ≡ 0 }
-    ensures as_many { length counts.new ≡ length counts.old }
-    ensures counted { AreAt (length counts.old) (number_in list.now.closed) counts.new }
-{
-    count_places(counts, list.all());
-}
-
 /// Writes in place of each number its sum with those before it, and gives the sum of all.
 fn sum_up(counts: &mut [u32]) -> u32
     requires { sum_below (slice_index counts.old) (length counts.old) < 2 ^ 32 }
@@ -61,7 +50,7 @@ fn write_ends(ends: &mut [u32], list: &HouseList) -> u32
     ensures ends { AreAt (length ends.old) (λ c. start_at list.now.closed (suc c)) ends.new }
     ensures all { result ≡ start_at list.now.closed (length ends.old) }
 {
-    count_houses(ends, list);
+    count_places(ends, list.all());
     sum_up(ends)
 }
 
@@ -91,18 +80,6 @@ fn put_houses(starts: &mut [u32], houses: &mut [u32], list: &HouseList)
         let house = list.len() - 1 - after;
         put_house(starts, houses, house as u32, list.places(house));
     }
-}
-
-/// The houses from where those of a place start to where those of the next place do.
-fn houses_of<'a>(starts: &[u32], houses: &'a [u32], place: usize) -> &'a [u32]
-    requires place_in { place + 1 < length starts.now }
-    requires ascending { slice_index starts.now place ≤ slice_index starts.now (place + 1) }
-    requires within { slice_index starts.now (place + 1) ≤ length houses.now }
-    ensures { result.now ≡ houses_from starts.now houses.now place }
-{
-    let from = starts[place] as usize;
-    let end = starts[place + 1] as usize;
-    part(houses, from, end)
 }
 
 /// The first of the houses that is `from` or later.
@@ -190,7 +167,9 @@ impl HouseTable {
         requires { place < self.now.cells }
         ensures { AreHousesAt self.now.scopes place result.now }
     {
-        houses_of(&self.starts, &self.houses, place)
+        let starts: &[u32] = &self.starts;
+        let from = starts[place] as usize;
+        part(&self.houses, from, starts[place + 1] as usize)
     }
 
     /// The least house at or after `from` that has the place.

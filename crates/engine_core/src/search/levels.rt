@@ -1,10 +1,9 @@
 //! The levels of a search: a frame for each cell whose values are being tried.
 
-ghost use Rattle.std.specs.Prelude.{◌≡◌, ◌-◌, ◌≤◌, ◌<◌, IfOk, length};
-ghost use Rattle.engine_core.specs.Frames.{AreReady, IsTurn, frame_at};
+ghost use Rattle.std.specs.Prelude.{◌≡◌, ◌<◌, length};
+ghost use Rattle.engine_core.specs.Frames.{AreReady, IsTurn};
 
 use crate::search::position::Position;
-use std::alloc::{AllocError, Global};
 
 /// A cell whose values are being tried, and the next of them.
 #[derive(Clone, Copy)]
@@ -21,31 +20,6 @@ pub(crate) struct Levels {
 }
 
 impl Levels {
-    /// Room for a frame for each cell, and no frame.
-    ///
-    /// # Errors
-    ///
-    /// When memory was refused.
-    pub(crate) fn new(alloc: Global, cells: usize) -> Result<Levels, AllocError>
-        ensures frames { IfOk result (λ levels. length levels.frames.items ≡ cells) }
-    {
-        let no_frame = Frame { cell: 0, next: 0 };
-        Ok(Levels {
-            frames: vec![in alloc; no_frame; cells]?,
-            depth: 0,
-        })
-    }
-
-    /// The innermost frame.
-    fn innermost(&self) -> Frame
-        requires deep { 0 < self.now.depth }
-        requires room { self.now.depth ≤ length self.now.frames.items }
-        ensures { result ≡ frame_at self.now.frames.items (self.now.depth - 1) }
-    {
-        let frames: &[Frame] = &self.frames;
-        frames[self.depth - 1]
-    }
-
     /// Takes back what was struck since the innermost level's mark, and leaves its cell's next value alone: which cell, or
     /// none where that has no value left.
     pub(crate) fn next_trial<P: Position>(
@@ -64,7 +38,8 @@ impl Levels {
         ensures walks { P.walks rules.now position.new }
         ensures room { P.room position.new ≡ P.room position.old }
     {
-        let top = self.innermost();
+        let frames: &[Frame] = &self.frames;
+        let top = frames[self.depth - 1];
         position.undo(rules, self.depth - 1);
         match position.next_value(rules, top.cell, top.next) {
             None => None,

@@ -8,12 +8,13 @@ ghost use Rattle.engine_core.specs.PositionLaws.{within_of};
 ghost use Rattle.engine_core.specs.TrailPosition.{IsUnderWay, standing_of};
 ghost use Rattle.engine_core.specs.Waiting.{words_of};
 
+use crate::houses::sets::cell_bits;
 use crate::mode::Closing;
 use crate::needs::{Needs, needs_for};
 use crate::rules::by_queue;
 use crate::search::position::{Position, Taken};
 use crate::trail::agenda::wait_from;
-use crate::trail::cells::{has_empty_cell, next_value, pick_cell, write_grid};
+use crate::trail::cells::{better_cell, write_grid};
 use crate::trail::propagators::Propagators;
 use crate::trail::trailed::TrailedBoard;
 use crate::waits::words_for;
@@ -34,43 +35,6 @@ pub struct TrailPosition<R: Propagators> {
     pub(crate) trailed: TrailedBoard,
     marks: Vec<usize>,
     marked: usize,
-}
-
-/// The board and the lists of a position.
-#[derive(Drop)]
-struct Room {
-    trailed: TrailedBoard,
-    sets: Vec<u32>,
-    kept: Vec<u32>,
-    waits: Vec<u64>,
-    marks: Vec<usize>,
-}
-
-impl Room {
-    /// As large as that needs. The board is full.
-    ///
-    /// # Errors
-    ///
-    /// When memory was refused.
-    fn new(alloc: Global, made: Needs) -> Result<Room, AllocError>
-        requires few_cells { made.cells ≤ max_cells }
-        requires some { 1 ≤ made.values }
-        requires few { made.values ≤ max_values }
-        ensures cells { IfOk result (λ room. cells_of room.trailed.board ≡ made.cells) }
-        ensures values { IfOk result (λ room. room.trailed.board.values ≡ made.values) }
-        ensures sets { IfOk result (λ room. length room.sets.items ≡ made.scope) }
-        ensures kept { IfOk result (λ room. length room.kept.items ≡ made.scope) }
-        ensures waits { IfOk result (λ room. length room.waits.items ≡ words_of made.houses) }
-        ensures marks { IfOk result (λ room. length room.marks.items ≡ made.cells) }
-    {
-        Ok(Room {
-            trailed: TrailedBoard::new(alloc, made.cells, made.values)?,
-            sets: vec![in alloc; 0u32; made.scope]?,
-            kept: vec![in alloc; 0u32; made.scope]?,
-            waits: vec![in alloc; 0u64; words_for(made.houses)]?,
-            marks: vec![in alloc; 0usize; made.cells]?,
-        })
-    }
 }
 
 impl<R: Propagators> Drop for TrailPosition<R> {
@@ -122,18 +86,15 @@ impl<R: Propagators> Position for TrailPosition<R> {
 
     fn new(alloc: Global, rules: &R) -> Result<TrailPosition<R>, AllocError> {
         let made = needs_for(rules);
-        let scratch = rules.scratch(alloc)?;
-        let counts = rules.counts(alloc)?;
-        let room = Room::new(alloc, made)?;
         Ok(TrailPosition {
             made,
-            scratch,
-            counts,
-            sets: room.sets,
-            kept: room.kept,
-            waits: room.waits,
-            trailed: room.trailed,
-            marks: room.marks,
+            scratch: rules.scratch(alloc)?,
+            counts: rules.counts(alloc)?,
+            sets: vec![in alloc; 0u32; made.scope]?,
+            kept: vec![in alloc; 0u32; made.scope]?,
+            waits: vec![in alloc; 0u64; words_for(made.houses)]?,
+            trailed: TrailedBoard::new(alloc, made.cells, made.values)?,
+            marks: vec![in alloc; 0usize; made.cells]?,
             marked: 0,
         })
     }
@@ -153,7 +114,7 @@ impl<R: Propagators> Position for TrailPosition<R> {
     }
 
     fn close(&mut self, rules: &R, from: Option<usize>) -> Taken {
-        if has_empty_cell(self.trailed.board(), from) {
+        if from.is_none() && self.trailed.board().has_empty_cell() {
             return Taken {
                 closing: Closing::Dead,
                 turns: 0,
@@ -168,15 +129,31 @@ impl<R: Propagators> Position for TrailPosition<R> {
     }
 
     fn pick(&self, rules: &R, from: usize) -> Option<usize> {
-        pick_cell(self.trailed.board(), from, rules.cells())
+        let board = self.trailed.board();
+        let mut best = None;
+        for cell in from..rules.cells() {
+            best = better_cell(board, best, cell);
+            if board.count(cell) == 2 {
+                return best; // no later cell is better
+            }
+        }
+        best
     }
 
     fn next_value(&self, rules: &R, cell: usize, from: u8) -> Option<u8> {
-        next_value(self.trailed.board(), cell, from, rules.values())
+        let board = self.trailed.board();
+        for value in from..rules.values() {
+            if board.has(cell, value) {
+                return Some(value);
+            }
+        }
+        None
     }
 
     fn leave(&mut self, rules: &R, cell: usize, value: u8) {
-        self.trailed.assign(rules, cell, value, &mut self.counts);
+        let before = cell_bits(self.trailed.board(), cell);
+        self.trailed
+            .leave(rules, cell, before, 1 << value, &mut self.counts);
     }
 
     fn checkpoint(&mut self, _rules: &R, level: usize) {

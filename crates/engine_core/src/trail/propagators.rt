@@ -8,7 +8,7 @@ ghost use Rattle.engine_core.specs.RuleSystem.{Needs, needs_of, FitsIn, has_plac
 ghost use Rattle.engine_core.specs.Sets.{IsChange};
 ghost use Rattle.engine_core.specs.Counting.{IsCounted, IsRecounted};
 ghost use Rattle.engine_core.specs.Keeping.{AreSetsOf, AreSets, IsKept};
-ghost use Rattle.engine_core.specs.Waiting.{words_of, is_waiting, AreCalled};
+ghost use Rattle.engine_core.specs.Waiting.{words_of, is_waiting, AreWoken};
 
 use crate::houses::visit::read_sets;
 use crate::rules::Rules;
@@ -23,7 +23,7 @@ pub trait Propagators: Rules {
     /// There is room to count for rules of these sizes.
     ghost counts_serve: { Self.Counts → Needs → Type 0 };
 
-    /// What is counted of a board is so of this one.
+    /// The counts are those of this board.
     ghost follows: { Self → Self.Counts → Candidates → Type 0 };
 
     /// Takes the memory that is counted in.
@@ -46,7 +46,8 @@ pub trait Propagators: Rules {
     }
 
     /// Decides what a visit of the house keeps of the sets of its cells, which are given as bits in the order of its scope.
-    /// Says whether anything may be struck; else nothing is, whatever is in `kept`.
+    /// The bits of values that a cell lacks are open. Says whether anything may be struck; else nothing is, whatever is in
+    /// `kept`.
     fn filter(
         &self,
         house: usize,
@@ -63,7 +64,7 @@ pub trait Propagators: Rules {
         ensures keeps { (needs : Needs) → Self.serves scratch.old needs
             → Self.serves scratch.new needs };
 
-    /// Begins to count: what is counted of a board is then so of this one.
+    /// Begins to count: the counts are then those of this board.
     fn watch(&self, board: &Board, counts: &mut Self::Counts)
         requires board_of { IsBoardOf (Self.system self.now) board.now }
         requires served { counts_serve counts.old (needs_of (Self.system self.now)) }
@@ -82,20 +83,20 @@ pub trait Propagators: Rules {
         ensures keeps { (needs : Needs) → counts_serve counts.old needs
             → counts_serve counts.new needs };
 
-    /// Whether the house may strike anything from the board that was counted.
+    /// Whether the house may strike anything from a board with these counts. Where not, it need not wait.
     fn may_strike(&self, house: usize, counts: &Self::Counts) -> bool
         requires house_in { house < (Self.system self.now).houses }
         requires counted { IsCounted (follows self.now) counts.now }
         ensures { result ≡ false → (K : Candidates) → follows self.now counts.now K
             → IsIdle (Self.system self.now) house K };
 
-    /// Marks the houses that have the place. It may leave out those that strike nothing of the board that was counted.
+    /// Marks the houses that have the place. It may leave out those that strike nothing from a board with these counts.
     fn wake(&self, place: usize, counts: &Self::Counts, waits: &mut [u64])
         requires place_in { place < (Self.system self.now).cells }
         requires room { words_of (Self.system self.now).houses ≤ length waits.old }
         requires counted { IsCounted (follows self.now) counts.now }
-        ensures called { (K : Candidates) → follows self.now counts.now K
-            → AreCalled (Self.system self.now) K
+        ensures woken { (K : Candidates) → follows self.now counts.now K
+            → AreWoken (Self.system self.now) K
             (λ j. has_place ((Self.system self.now).scope j) place)
             (is_waiting waits.old) (is_waiting waits.new) };
 

@@ -122,7 +122,7 @@ impl TrailedBoard {
         ensures keeps { StillServes R.counts_serve counts.old counts.new }
     {
         for k in 0..sets.len() {
-            let left = left_of(sets[k], kept[k]);
+            let left = sets[k] & kept[k];
             if left != sets[k] {
                 if left == 0 {
                     return true;
@@ -134,7 +134,7 @@ impl TrailedBoard {
     }
 
     /// Leaves no more than `left` of the cell's set, notes what it had, which was more, and tells the rules.
-    fn leave<R: Propagators>(
+    pub(crate) fn leave<R: Propagators>(
         &mut self,
         rules: &R,
         place: usize,
@@ -164,30 +164,6 @@ impl TrailedBoard {
         rules.change(place, before, left, counts);
     }
 
-    /// Leaves that value alone in the cell, which has several, and notes what it had.
-    pub(crate) fn assign<R: Propagators>(
-        &mut self,
-        rules: &R,
-        place: usize,
-        value: u8,
-        counts: &mut R::Counts,
-    )
-        requires board_of { IsBoardOf (R.system rules.now) self.old.board }
-        requires follows { R.follows rules.now counts.old (has self.old.board) }
-        requires place_in { place < (R.system rules.now).cells }
-        requires value_in { value < (R.system rules.now).values }
-        requires there { has self.old.board place value ≡ true }
-        requires several { 2
-            ≤ count_below (has self.old.board place) (R.system rules.now).values }
-        ensures left { has self.new.board ≡ only (has self.old.board) place value }
-        ensures further { IsFurther self.old self.new }
-        ensures follows { R.follows rules.now counts.new (has self.new.board) }
-        ensures keeps { StillServes R.counts_serve counts.old counts.new }
-    {
-        let before = cell_bits(&self.board, place);
-        self.leave(rules, place, before, 1 << value, counts);
-    }
-
     /// Takes the board back to the mark: each cell changed since gets its values back.
     pub(crate) fn undo<R: Propagators>(&mut self, rules: &R, mark: usize, counts: &mut R::Counts)
         requires board_of { IsBoardOf (R.system rules.now) self.old.board }
@@ -206,11 +182,4 @@ impl TrailedBoard {
             rules.change(place, before, cell_bits(&self.board, place), counts);
         }
     }
-}
-
-/// What a cell has left of its set, by what is kept of it.
-pub(crate) fn left_of(set: u32, kept: u32) -> u32
-    ensures { result ≡ bit_and set kept }
-{
-    set & kept
 }

@@ -14,9 +14,9 @@ pub(crate) const LONGEST: usize = MAX_SIDE as usize;
 /// Whether the cell is white.
 pub fn is_white(puzzle: &LightPuzzle, place: usize) -> bool
     requires { place < light_cells puzzle.now }
-    ensures { result ≡ white puzzle.now place }
+    ensures value { result ≡ white puzzle.now place }
+    ensures lawful { IsLight puzzle.now }
 {
-    let _size = puzzle.size();
     match puzzle.cell(place) {
         LightCell::White => true,
         LightCell::Black => false,

@@ -14,7 +14,7 @@ use crate::count::list::CountList;
 use crate::light_up::cells::{cells, is_white, next_column};
 use crate::light_up::lit::push_lits;
 use crate::light_up::run::{begins_in_column, begins_in_row, run_in_column, run_in_row};
-use crate::light_up::sizes::Sizes;
+use crate::light_up::sizes::HouseCounts;
 use gameid_core::{LightCell, LightPuzzle};
 use grid_core::step;
 use std::alloc::{AllocError, Global};
@@ -47,7 +47,6 @@ fn push_number(houses: &mut CountList, puzzle: &LightPuzzle, place: usize) -> Re
     requires fits { FitsLists houses.old.list 1 }
     ensures { OnOk result (IsAdded houses.old houses.new (number_house puzzle.now place)) }
 {
-    let _size = puzzle.size();
     match puzzle.cell(place) {
         LightCell::White => Ok(()),
         LightCell::Black => Ok(()),
@@ -86,7 +85,6 @@ fn push_row(
     requires fits { FitsLists houses.old.list 1 }
     ensures { OnOk result (IsAdded houses.old houses.new (row_house puzzle.now place)) }
 {
-    let _size = puzzle.size();
     if !begins_in_row(puzzle, x, place) {
         return Ok(());
     }
@@ -118,7 +116,6 @@ fn push_column(houses: &mut CountList, puzzle: &LightPuzzle, place: usize) -> Re
     requires fits { FitsLists houses.old.list 1 }
     ensures { OnOk result (IsAdded houses.old houses.new (column_house puzzle.now place)) }
 {
-    let _size = puzzle.size();
     if !begins_in_column(puzzle, place) {
         return Ok(());
     }
@@ -147,8 +144,7 @@ pub(crate) fn houses_of_lights(alloc: Global, puzzle: &LightPuzzle) -> Result<Co
     ensures lawful { IsLight puzzle.now }
     ensures listed { IfOk result (λ list. AreListed list (light_houses puzzle.now)) }
 {
-    let _cells = cells(puzzle);
-    let sizes = Sizes::of(puzzle);
+    let sizes = HouseCounts::of(puzzle);
     let mut houses = CountList::new(alloc, sizes.houses, sizes.cells)?;
     push_numbers(&mut houses, puzzle)?;
     let rows = houses.len();

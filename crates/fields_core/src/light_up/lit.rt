@@ -60,7 +60,6 @@ impl ColumnRuns {
             → IsColumnsAt puzzle.now lists first self.old.last self.old.next place
             → IsColumnsAt puzzle.now lists first self.new.last self.new.next (place + 1) }
     {
-        let _size = puzzle.size();
         if !begins_in_column(puzzle, place) {
             return;
         }

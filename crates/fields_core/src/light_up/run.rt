@@ -3,6 +3,7 @@
 
 ghost use Rattle.std.specs.Prelude.{◌≡◌, ℕ, suc, ◌+◌, ◌*◌, ◌%◌, ◌<◌, true, false, map, filter};
 ghost use Rattle.std.specs.List.{range_with_len};
+ghost use Rattle.gameid_core.specs.Puzzles.{IsLight};
 ghost use Rattle.fields_core.specs.Light.{light_cells, white, clear};
 ghost use Rattle.fields_core.specs.LightHouses.{row_run, column_run, begins_row_run, begins_column_run};
 ghost use Rattle.fields_core.specs.Runs.{RunsOn};
@@ -13,11 +14,11 @@ use gameid_core::LightPuzzle;
 
 /// Where the run of white cells ends that begins after the cell of number `at` along a line of `len` cells.
 fn run_end(puzzle: &LightPuzzle, first: usize, stride: usize, len: usize, at: usize) -> usize
+    requires lawful { IsLight puzzle.now }
     requires within { (i : ℕ) → i < len → first + i * stride < light_cells puzzle.now }
     requires at_in { at < len }
     ensures { RunsOn (λ i. white puzzle.now (first + i * stride)) len at result }
 {
-    let _size = puzzle.size();
     for after in at + 1..len {
         if !is_white(puzzle, along(first, stride, after)) {
             return after;
@@ -28,6 +29,7 @@ fn run_end(puzzle: &LightPuzzle, first: usize, stride: usize, len: usize, at: us
 
 /// The run of white cells that begins at the cell of number `at` along a line.
 fn run_along(puzzle: &LightPuzzle, first: usize, stride: usize, len: usize, at: usize) -> Run
+    requires lawful { IsLight puzzle.now }
     requires within { (i : ℕ) → i < len → first + i * stride < light_cells puzzle.now }
     requires at_in { at < len }
     requires white { white puzzle.now (first + at * stride) ≡ true }
@@ -35,7 +37,6 @@ fn run_along(puzzle: &LightPuzzle, first: usize, stride: usize, len: usize, at: 
     ensures { result ≡ map (λ i. first + i * stride)
         (filter (clear (λ i. white puzzle.now (first + i * stride)) at) (range_with_len 0 len)) }
 {
-    let _size = puzzle.size();
     Run::of(first, stride, at, run_end(puzzle, first, stride, len, at))
 }
 
@@ -43,7 +44,8 @@ fn run_along(puzzle: &LightPuzzle, first: usize, stride: usize, len: usize, at: 
 pub(crate) fn begins_in_row(puzzle: &LightPuzzle, x: usize, place: usize) -> bool
     requires place_in { place < light_cells puzzle.now }
     requires column { place % puzzle.now.size.w ≡ x }
-    ensures { result ≡ begins_row_run puzzle.now place }
+    ensures value { result ≡ begins_row_run puzzle.now place }
+    ensures lawful { IsLight puzzle.now }
 {
     is_white(puzzle, place) && (x == 0 || !is_white(puzzle, place - 1))
 }
@@ -51,7 +53,8 @@ pub(crate) fn begins_in_row(puzzle: &LightPuzzle, x: usize, place: usize) -> boo
 /// Whether a run of white cells of a column begins at the cell.
 pub(crate) fn begins_in_column(puzzle: &LightPuzzle, place: usize) -> bool
     requires { place < light_cells puzzle.now }
-    ensures { result ≡ begins_column_run puzzle.now place }
+    ensures value { result ≡ begins_column_run puzzle.now place }
+    ensures lawful { IsLight puzzle.now }
 {
     let w = columns(puzzle);
     is_white(puzzle, place) && (place < w || !is_white(puzzle, place - w))

@@ -3,6 +3,7 @@
 
 ghost use Rattle.std.specs.Prelude.{◌≡◌, ◌⊎◌, ℕ, ◌+◌, ◌*◌, ◌<◌, ◌≤◌, true};
 ghost use Rattle.grid_core.specs.Grids.{IsGrid};
+ghost use Rattle.gameid_core.specs.Puzzles.{IsLight};
 ghost use Rattle.fields_core.specs.Light.{light_cells, white, bulb, joined_in_row, joined_in_column, sees_bulb, bulbs_beside};
 ghost use Rattle.fields_core.specs.Runs.{Shines, ShinesAlong, SeesAlong};
 
@@ -13,7 +14,7 @@ use grid_core::{Grid, step};
 
 /// A row or a column. The cell of number `i` along it is `first + i * stride`.
 #[derive(Clone, Copy)]
-struct Line {
+struct StridedLine {
     first: usize,
     stride: usize,
     len: usize,
@@ -28,7 +29,8 @@ struct Side {
 
 /// Whether a bulb on that side of the white cell of number `at` shines on it, with only white cells between. The nearest
 /// is looked at first.
-fn shines(puzzle: &LightPuzzle, grid: &Grid, line: Line, at: usize, side: Side) -> bool
+fn shines(puzzle: &LightPuzzle, grid: &Grid, line: StridedLine, at: usize, side: Side) -> bool
+    requires lawful { IsLight puzzle.now }
     requires fits { IsGrid (light_cells puzzle.now) 2 grid.now }
     requires within { (i : ℕ) → i < line.len
         → line.first + i * line.stride < light_cells puzzle.now }
@@ -39,7 +41,6 @@ fn shines(puzzle: &LightPuzzle, grid: &Grid, line: Line, at: usize, side: Side) 
     ensures { Shines (λ i. white puzzle.now (line.first + i * line.stride))
         (λ i. bulb grid.now (line.first + i * line.stride)) at side.low side.high result }
 {
-    let _size = puzzle.size();
     for next in side.low..side.high {
         let number = if at < side.low {
             next
@@ -58,7 +59,8 @@ fn shines(puzzle: &LightPuzzle, grid: &Grid, line: Line, at: usize, side: Side) 
 }
 
 /// Whether the white cell of number `at` along the line sees a bulb of the line.
-fn shines_along(puzzle: &LightPuzzle, grid: &Grid, line: Line, at: usize) -> bool
+fn shines_along(puzzle: &LightPuzzle, grid: &Grid, line: StridedLine, at: usize) -> bool
+    requires lawful { IsLight puzzle.now }
     requires fits { IsGrid (light_cells puzzle.now) 2 grid.now }
     requires within { (i : ℕ) → i < line.len
         → line.first + i * line.stride < light_cells puzzle.now }
@@ -84,7 +86,7 @@ fn sees_in_row(puzzle: &LightPuzzle, grid: &Grid, place: usize) -> bool
 {
     let w = columns(puzzle);
     let x = place % w;
-    let line = Line {
+    let line = StridedLine {
         first: place - x,
         stride: 1,
         len: w,
@@ -101,7 +103,7 @@ fn sees_in_column(puzzle: &LightPuzzle, grid: &Grid, place: usize) -> bool
         result }
 {
     let w = columns(puzzle);
-    let line = Line {
+    let line = StridedLine {
         first: place % w,
         stride: w,
         len: rows(puzzle),

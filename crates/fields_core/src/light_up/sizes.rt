@@ -1,17 +1,19 @@
 //! How many count houses a puzzle of Light Up has.
 
+ghost use Rattle.gameid_core.specs.Puzzles.{IsLight};
+
 use crate::light_up::cells::{LONGEST, cells, columns, is_white, rows};
 use gameid_core::LightPuzzle;
 use grid_core::row_place;
 
 /// How many houses there are, and how many cells they have together, or somewhat more.
 #[derive(Clone, Copy)]
-pub(crate) struct Sizes {
+pub(crate) struct HouseCounts {
     pub houses: usize,
     pub cells: usize,
 }
 
-impl Sizes {
+impl HouseCounts {
     /// Counts a white cell after so many others of its run, and says how many the run then has. A
     /// longer run is the house of one cell more, and each of its cells sees one more.
     fn lengthen(&mut self, run: usize) -> usize {
@@ -24,9 +26,11 @@ impl Sizes {
     }
 
     /// Of all houses: those of the runs, and one of each cell. A black cell has up to four cells beside it.
-    pub(crate) fn of(puzzle: &LightPuzzle) -> Sizes {
+    pub(crate) fn of(puzzle: &LightPuzzle) -> HouseCounts
+        ensures { IsLight puzzle.now }
+    {
         let size = puzzle.size();
-        let mut sizes = Sizes {
+        let mut sizes = HouseCounts {
             houses: cells(puzzle),
             cells: 0,
         };

@@ -52,7 +52,8 @@ impl<W: Word> Parts<W> for (Part<W>, Part<W>) {
 }
 
 impl<W: Word> Parts<W> for (Part<W>, Part<W>, Part<W>) {
-    ghost pieces = { λ parts. piece_of W.bits parts.0 ∷ piece_of W.bits parts.1 ∷ piece_of W.bits parts.2 ∷ [] };
+    ghost pieces = { λ parts. piece_of W.bits parts.0
+        ∷ piece_of W.bits parts.1 ∷ piece_of W.bits parts.2 ∷ [] };
 
     fn len(&self) -> usize {
         3

@@ -33,7 +33,6 @@ pub(crate) fn is_tree(puzzle: &TentsPuzzle, place: usize) -> bool
     requires { place < tent_cells puzzle.now }
     ensures { result ≡ tree puzzle.now place }
 {
-    let _size = puzzle.size();
     puzzle.tree(place)
 }
 

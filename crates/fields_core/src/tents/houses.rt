@@ -49,7 +49,6 @@ fn push_square_cells(
         ∷ (place + puzzle.now.size.w) ∷ (place + puzzle.now.size.w + 1) ∷ [])) }
 {
     let w = usize::from(puzzle.size().w());
-    let _cells = puzzle.size().cells();
     houses.push(place)?;
     houses.push(place + 1)?;
     houses.push(place + w)?;
@@ -117,7 +116,9 @@ fn push_square(houses: &mut CountList, puzzle: &TentsPuzzle, place: usize) -> Re
 }
 
 /// How many houses there are, and how many cells they have together, or somewhat more.
-fn sizes(puzzle: &TentsPuzzle) -> (usize, usize) {
+fn sizes(puzzle: &TentsPuzzle) -> (usize, usize)
+    ensures { IsTents puzzle.now }
+{
     let all = cells(puzzle);
     let mut trees = 0usize;
     for place in 0..all {
@@ -137,7 +138,6 @@ pub(crate) fn houses_of_tents(alloc: Global, puzzle: &TentsPuzzle) -> Result<Cou
     ensures lawful { IsTents puzzle.now }
     ensures listed { IfOk result (λ list. AreListed list (tent_houses puzzle.now)) }
 {
-    let _cells = cells(puzzle);
     let (count, room) = sizes(puzzle);
     let mut houses = CountList::new(alloc, count, room)?;
     for x in 0..columns(puzzle) {

@@ -45,17 +45,6 @@ fn side(text: &[u8]) -> Result<(u32, &[u8]), IdFault>
     }
 }
 
-/// Whether the text after two numbers goes on with the `x` of Solo X, and the text after the size.
-fn after_two(game: Game, after: &[u8]) -> (bool, &[u8])
-    ensures x { result.0 ≡ has_x game after.now }
-    ensures rest { result.1.now ≡ (if has_x game after.now then drop 1 after.now else after.now) }
-{
-    match (game, after) {
-        (Game::Solo, [b'x', rest @ ..]) => (true, rest),
-        _ => (false, after),
-    }
-}
-
 /// The size that the text begins with.
 #[tactic(auto, unfolding(crate::specs::Head::sides_at))]
 fn sides(game: Game, text: &[u8]) -> Result<SidesRead<'_>, IdFault>
@@ -65,7 +54,10 @@ fn sides(game: Game, text: &[u8]) -> Result<SidesRead<'_>, IdFault>
     match rest {
         [b'x', rest @ ..] => {
             let (h, after) = side(rest)?;
-            let (x, rest) = after_two(game, after);
+            let (x, rest) = match (game, after) {
+                (Game::Solo, [b'x', rest @ ..]) => (true, rest),
+                _ => (false, after),
+            };
             Ok(SidesRead { w, h, x, rest })
         }
         _ => Ok(SidesRead {

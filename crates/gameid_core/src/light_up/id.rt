@@ -12,7 +12,7 @@ use crate::id::text::{IdText, read_id, write_id};
 use crate::light_up::cell::LightCell;
 use crate::light_up::puzzle::LightPuzzle;
 use crate::text::runs::push_run;
-use crate::text::writing::{push_letters, push_size};
+use crate::text::writing::{push_letter, push_size};
 use grid_core::Size;
 use std::alloc::{AllocError, Global};
 
@@ -73,7 +73,7 @@ fn black_byte(cell: LightCell) -> Option<u8>
 }
 
 /// Writes the cells.
-#[tactic(auto, using(crate::proofs::LightWritten::turns), unfolding(crate::specs::LightText::light_cells_text))]
+#[tactic(auto, using(crate::proofs::LightWritten::turns), unfolding(crate::specs::LightText::light_tokens))]
 fn push_cells(out: &mut String, cells: &[LightCell]) -> Result<(), AllocError>
     requires { AllByRecursion IsLightCell cells.now }
     ensures { OnOk result (string_bytes out.new
@@ -82,14 +82,18 @@ fn push_cells(out: &mut String, cells: &[LightCell]) -> Result<(), AllocError>
     let mut whites = 0;
     for cell in cells {
         let Some(byte) = black_byte(*cell) else {
+            if whites == 26 {
+                out.push('z')?;
+                whites = 0;
+            }
             whites += 1;
             continue;
         };
-        push_letters(out, whites)?;
+        push_letter(out, whites)?;
         out.push(byte as char)?;
         whites = 0;
     }
-    push_letters(out, whites)
+    push_letter(out, whites)
 }
 
 impl IdText for LightPuzzle {
@@ -109,7 +113,7 @@ impl IdText for LightPuzzle {
     fn read_description(alloc: Global, head: Head, description: &[u8]) -> Result<Self, IdFault> {
         let size = Size::new(head.w, head.h).unwrap();
         let cells = cells(alloc, size.cells(), head.description, description)?;
-        Ok(LightPuzzle::of_cells(size, cells))
+        Ok(LightPuzzle { size, cells })
     }
 
     fn id_size(&self) -> (u8, u8, bool) {

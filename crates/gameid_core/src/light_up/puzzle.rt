@@ -13,8 +13,8 @@ use std::marker::Model;
 /// from 0 to 4.
 #[derive(Debug, Drop)]
 pub struct LightPuzzle {
-    size: Size,
-    cells: Vec<LightCell>,
+    pub(crate) size: Size,
+    pub(crate) cells: Vec<LightCell>,
 }
 
 impl Model for LightPuzzle {
@@ -28,14 +28,6 @@ impl Model for LightPuzzle {
 }
 
 impl LightPuzzle {
-    /// The puzzle of that size with these cells, by place.
-    pub(crate) fn of_cells(size: Size, cells: Vec<LightCell>) -> LightPuzzle
-        requires { IsLight (record { size = size; cells = cells.items }) }
-        ensures { result ≡ record { size = size; cells = cells.items } }
-    {
-        LightPuzzle { size, cells }
-    }
-
     /// The puzzle of that size with white cells alone.
     pub fn blank(alloc: Global, size: Size) -> Result<LightPuzzle, AllocError>
         requires w_two { 2 ≤ size.w }
@@ -68,9 +60,10 @@ impl LightPuzzle {
 
     /// The cell at a place. Places go row by row from the top left.
     pub fn cell(&self, place: usize) -> LightCell
-        requires { place < length self.now.cells }
+        requires { IsLight self.now → place < length self.now.cells }
         ensures value { slice_get self.now.cells place ≡ Some result }
         ensures range { IsLightCell result }
+        ensures lawful { IsLight self.now }
     {
         self.cells[place]
     }

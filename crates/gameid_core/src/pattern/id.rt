@@ -12,7 +12,7 @@ use crate::id::head::Head;
 use crate::id::text::{IdText, read_id, write_id};
 use crate::pattern::clues::Clues;
 use crate::pattern::puzzle::PatternPuzzle;
-use crate::text::number::{first_of, leading_number, starts_with_digit};
+use crate::text::number::{leading_number, starts_with_digit};
 use crate::text::writing::{push_number, push_size};
 use grid_core::{Size, line_count, line_len};
 use std::alloc::{AllocError, Global};
@@ -89,7 +89,7 @@ fn clues(alloc: Global, size: Size, base: usize, description: &[u8]) -> Result<C
     let mut clues = Clues::new(alloc, lines, description.len().div_ceil(2))?;
     let mut before = 0;
     let mut rest = description;
-    while let Some((first, after)) = first_of(rest) {
+    while let Some((&first, after)) = rest.split_first() {
         if first == b'/' {
             if clues.len() + 1 == lines {
                 return Err(IdFault::TooMany);
@@ -162,7 +162,7 @@ impl IdText for PatternPuzzle {
     fn read_description(alloc: Global, head: Head, description: &[u8]) -> Result<Self, IdFault> {
         let size = Size::new(head.w, head.h).unwrap();
         let clues = clues(alloc, size, head.description, description)?;
-        Ok(PatternPuzzle::of_clues(size, clues))
+        Ok(PatternPuzzle { size, clues })
     }
 
     fn id_size(&self) -> (u8, u8, bool) {

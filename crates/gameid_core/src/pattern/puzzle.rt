@@ -12,8 +12,8 @@ use std::marker::Model;
 /// The size of a grid, and a clue for each of its columns and rows.
 #[derive(Debug, Drop)]
 pub struct PatternPuzzle {
-    size: Size,
-    clues: Clues,
+    pub(crate) size: Size,
+    pub(crate) clues: Clues,
 }
 
 impl Model for PatternPuzzle {
@@ -27,15 +27,6 @@ impl Model for PatternPuzzle {
 }
 
 impl PatternPuzzle {
-    /// The puzzle of that size whose columns from the left, and then rows from the top, have these
-    /// clues.
-    pub(crate) fn of_clues(size: Size, clues: Clues) -> PatternPuzzle
-        requires { IsPattern (pattern_puzzle size clues.clues) }
-        ensures { result ≡ pattern_puzzle size clues.clues }
-    {
-        PatternPuzzle { size, clues }
-    }
-
     /// The puzzle of that size whose clues are the runs of the grid's lines: the clue of each
     /// column is its runs downwards, and the clue of each row its runs rightwards. The grid has 0
     /// for white and 1 for black.

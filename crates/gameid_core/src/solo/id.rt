@@ -1,8 +1,8 @@
 //! Game IDs of Solo.
 
-ghost use Rattle.std.specs.Prelude.{◌≡◌, ◌<◌, ◌≤◌, ◌+◌, ◌*◌, ◌^◌, ◌∷◌, true, length, IfOk, IfErr, Ok, Err, ◌++◌, false, string_bytes, OnOk};
-ghost use Rattle.gameid_core.specs.Common.{Fails, Gives, IdFault, IsSolo, Solo, TakesRun, begins, head_of, is_lead, max_id, max_numbers, size_read, words};
-ghost use Rattle.gameid_core.specs.SoloText.{IsWrittenSolo, SpellsSolo, before_given, cells_text, solo_behind, solo_cells_at, solo_of, solo_text, solo_token};
+ghost use Rattle.std.specs.Prelude.{◌≡◌, ◌<◌, ◌≤◌, ◌+◌, ◌*◌, ◌^◌, ◌∷◌, true, length, IfOk, IfErr, Ok, Err, ◌++◌, List, false, string_bytes, OnOk};
+ghost use Rattle.gameid_core.specs.Common.{Fails, Gives, IdFault, IsSolo, Solo, TakesRun, begins, flat_map, head_of, is_lead, max_id, max_numbers, size_read, words};
+ghost use Rattle.gameid_core.specs.SoloText.{IsWrittenSolo, SpellsSolo, SoloToken, cells_text, gap_before, solo_behind, solo_cells_at, solo_of, solo_text, solo_token, solo_token_text};
 ghost use Rattle.gameid_core.specs.declared.id.game.Game.TheVariants as game;
 
 use crate::id::fault::IdFault;
@@ -10,22 +10,10 @@ use crate::id::game::Game;
 use crate::id::head::Head;
 use crate::id::text::{IdText, read_id, write_id};
 use crate::solo::puzzle::SoloPuzzle;
-use crate::text::number::{first_of, leading_number};
+use crate::text::number::leading_number;
 use crate::text::runs::push_run;
-use crate::text::writing::{push_letters, push_number, push_size};
+use crate::text::writing::{push_letter, push_number, push_size};
 use std::alloc::{AllocError, Global};
-
-/// The number of one given cell, and the text after it.
-fn given(n: u8, at: usize, rest: &[u8]) -> Result<(usize, u8, &[u8]), IdFault>
-    requires begins { begins is_lead rest.now ≡ true }
-    ensures { TakesRun (solo_token n at) rest.now result }
-{
-    let (number, after) = leading_number(rest);
-    if number > u32::from(n) {
-        return Err(IdFault::NumberRange(at));
-    }
-    Ok((1, number as u8, after))
-}
 
 /// How many cells the first token stands for and their value, and the text after it.
 fn next_run<'a>(
@@ -45,7 +33,11 @@ fn next_run<'a>(
         return Ok((0, 0, after));
     }
     if first >= b'1' && first <= b'9' {
-        return given(n, at, rest);
+        let (number, after) = leading_number(rest);
+        if number > u32::from(n) {
+            return Err(IdFault::NumberRange(at));
+        }
+        return Ok((1, number as u8, after));
     }
     Err(IdFault::BadByte(at))
 }
@@ -60,7 +52,7 @@ fn cells(alloc: Global, n: u8, base: usize, description: &[u8]) -> Result<Vec<u8
     let all = usize::from(n) * usize::from(n);
     let mut cells = Vec::with_capacity(alloc, all)?;
     let mut rest = description;
-    while let Some((first, after)) = first_of(rest) {
+    while let Some((&first, after)) = rest.split_first() {
         let at = base + (description.len() - rest.len());
         let (count, value, after) = next_run(n, at, first, after, rest)?;
         if count > all - cells.len() {
@@ -76,19 +68,21 @@ fn cells(alloc: Global, n: u8, base: usize, description: &[u8]) -> Result<Vec<u8
 }
 
 /// Writes what stands before a number that has so many blanks before it.
-fn push_before(out: &mut String, blanks: usize, touches: bool) -> Result<(), AllocError>
-    ensures { OnOk result (string_bytes out.new
-        ≡ string_bytes out.old ++ before_given blanks touches) }
+fn push_before(out: &mut String, blanks: u8, touches: bool) -> Result<(), AllocError>
+    requires { blanks ≤ 26 }
+    ensures { OnOk result ((tokens : List SoloToken)
+        → string_bytes out.new ++ flat_map solo_token_text tokens
+        ≡ string_bytes out.old ++ flat_map solo_token_text (gap_before blanks touches tokens)) }
 {
     if blanks == 0 && touches {
         out.push('_')
     } else {
-        push_letters(out, blanks)
+        push_letter(out, blanks)
     }
 }
 
 /// Writes the cells.
-#[tactic(auto, unfolding(crate::specs::SoloText::cells_text))]
+#[tactic(auto, unfolding(crate::specs::SoloText::solo_tokens))]
 fn push_cells(out: &mut String, givens: &[u8]) -> Result<(), AllocError>
     ensures { OnOk result (string_bytes out.new
         ≡ string_bytes out.old ++ cells_text 0 false givens.now) }
@@ -97,6 +91,11 @@ fn push_cells(out: &mut String, givens: &[u8]) -> Result<(), AllocError>
     let mut touches = false;
     for given in givens {
         if *given == 0 {
+            if blanks == 26 {
+                out.push('z')?;
+                blanks = 0;
+                touches = false;
+            }
             blanks += 1;
             continue;
         }
@@ -105,7 +104,7 @@ fn push_cells(out: &mut String, givens: &[u8]) -> Result<(), AllocError>
         blanks = 0;
         touches = true;
     }
-    push_letters(out, blanks)
+    push_letter(out, blanks)
 }
 
 impl IdText for SoloPuzzle {
@@ -124,7 +123,12 @@ impl IdText for SoloPuzzle {
     #[tactic(auto, using(crate::proofs::SoloTexts::n_few))]
     fn read_description(alloc: Global, head: Head, description: &[u8]) -> Result<Self, IdFault> {
         let givens = cells(alloc, head.w * head.h, head.description, description)?;
-        Ok(SoloPuzzle::of_givens(head.w, head.h, head.x, givens))
+        Ok(SoloPuzzle {
+            c: head.w,
+            r: head.h,
+            x: head.x,
+            givens,
+        })
     }
 
     fn id_size(&self) -> (u8, u8, bool) {

@@ -11,10 +11,10 @@ use std::marker::Model;
 /// Solo X both main diagonals, too, hold every number once.
 #[derive(Debug, Drop)]
 pub struct SoloPuzzle {
-    c: u8,
-    r: u8,
-    x: bool,
-    givens: Vec<u8>,
+    pub(crate) c: u8,
+    pub(crate) r: u8,
+    pub(crate) x: bool,
+    pub(crate) givens: Vec<u8>,
 }
 
 impl Model for SoloPuzzle {
@@ -28,14 +28,6 @@ impl Model for SoloPuzzle {
 }
 
 impl SoloPuzzle {
-    /// The puzzle of that size whose cells, by place, have these givens, 0 for a blank cell.
-    pub(crate) fn of_givens(c: u8, r: u8, x: bool, givens: Vec<u8>) -> SoloPuzzle
-        requires { IsSolo (solo_puzzle c r x givens.items) }
-        ensures { result ≡ solo_puzzle c r x givens.items }
-    {
-        SoloPuzzle { c, r, x, givens }
-    }
-
     /// The puzzle of that size without givens, of Solo X where `x` holds.
     pub fn blank(alloc: Global, c: u8, r: u8, x: bool) -> Result<SoloPuzzle, AllocError>
         requires c_low { 2 ≤ c }

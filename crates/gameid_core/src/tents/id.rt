@@ -10,7 +10,7 @@ use crate::id::game::Game;
 use crate::id::head::Head;
 use crate::id::text::{IdText, read_id, write_id};
 use crate::tents::puzzle::TentsPuzzle;
-use crate::text::number::{first_of, leading_number, starts_with_digit};
+use crate::text::number::{leading_number, starts_with_digit};
 use crate::text::runs::push_run;
 use crate::text::writing::{push_number, push_size};
 use grid_core::{Size, line_count, line_len};
@@ -105,7 +105,7 @@ fn parts(
     let mut places = Vec::with_capacity(alloc, size.cells() + 1)?;
     let mut counts = Vec::with_capacity(alloc, lines)?;
     let mut rest = description;
-    while let Some((first, after)) = first_of(rest) {
+    while let Some((&first, after)) = rest.split_first() {
         let at = base + (description.len() - rest.len());
         if first == b',' {
             let (count, after) = count_at(size, at, &places, &counts, after)?;
@@ -198,7 +198,11 @@ impl IdText for TentsPuzzle {
         let size = Size::new(head.w, head.h).unwrap();
         let (mut places, counts) = parts(alloc, size, head.description, description)?;
         places.truncate(size.cells());
-        Ok(TentsPuzzle::of_lists(size, places, counts))
+        Ok(TentsPuzzle {
+            size,
+            trees: places,
+            counts,
+        })
     }
 
     fn id_size(&self) -> (u8, u8, bool) {

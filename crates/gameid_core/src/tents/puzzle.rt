@@ -12,9 +12,9 @@ use std::marker::Model;
 /// row, which is at most the line's cells.
 #[derive(Debug, Drop)]
 pub struct TentsPuzzle {
-    size: Size,
-    trees: Vec<u8>,
-    counts: Vec<u8>,
+    pub(crate) size: Size,
+    pub(crate) trees: Vec<u8>,
+    pub(crate) counts: Vec<u8>,
 }
 
 impl Model for TentsPuzzle {
@@ -28,19 +28,6 @@ impl Model for TentsPuzzle {
 }
 
 impl TentsPuzzle {
-    /// The puzzle of that size with these trees by place, 1 for a tree and 0 for any other cell,
-    /// and these numbers of tents of the columns from the left and then of the rows from the top.
-    pub(crate) fn of_lists(size: Size, trees: Vec<u8>, counts: Vec<u8>) -> TentsPuzzle
-        requires { IsTents (tents_puzzle size trees.items counts.items) }
-        ensures { result ≡ tents_puzzle size trees.items counts.items }
-    {
-        TentsPuzzle {
-            size,
-            trees,
-            counts,
-        }
-    }
-
     /// The puzzle of that size with these trees, whose numbers are those of the tents of each
     /// column and row. In both grids 1 is a tree or a tent, and 0 is none.
     #[tactic(auto, using(crate::proofs::OnesFit::ones_lawful))]
@@ -94,7 +81,7 @@ impl TentsPuzzle {
 
     /// Whether a tree stands at a place. Places go row by row from the top left.
     pub fn tree(&self, place: usize) -> bool
-        requires { place < length self.now.trees }
+        requires { place < self.now.size.w * self.now.size.h }
         ensures value { IsTrue result ↔ (slice_index self.now.trees place ≡ 1) }
         ensures lawful { IsTents self.now }
     {

@@ -1,7 +1,7 @@
 //! Lists of one item many times.
 #![tactic(auto, using(std::proofs::lemmas::List::replicate_more))]
 
-ghost use Rattle.std.specs.Prelude.{◌≡◌, length, replicate, IfOk};
+ghost use Rattle.std.specs.Prelude.{◌≡◌, replicate, IfOk};
 
 use std::alloc::{AllocError, Global};
 
@@ -22,13 +22,4 @@ pub(crate) fn copies<T: Copy + Drop>(
         items.push(item)?;
     }
     Ok(items)
-}
-
-/// Writes the item everywhere.
-pub(crate) fn write_all<T: Copy + Drop>(items: &mut Vec<T>, item: T)
-    ensures { items.new.items ≡ replicate (length items.old.items) item }
-{
-    for k in 0..items.len() {
-        items[k] = item;
-    }
 }

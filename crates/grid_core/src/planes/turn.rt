@@ -1,12 +1,26 @@
-//! One step of planes: bits of a line turned over, in its word and in the words of its crossing lines.
+//! The words of planes: as they begin, and bits of a line turned over, in its word and in the words of its crossing lines.
 #![tactic(auto)]
 
-ghost use Rattle.std.specs.Prelude.{◌≡◌, ℕ, ◌+◌, ◌*◌, ◌<◌, ◌&&◌, ◌==◌, true, map, length};
+ghost use Rattle.std.specs.Prelude.{◌≡◌, ℕ, ◌+◌, ◌*◌, ◌<◌, ◌&&◌, ◌==◌, true, map, length, nat_lt, slice_index, ◌≤◌};
 ghost use Rattle.grid_core.specs.Words.{has_bit, differ};
 ghost use Rattle.grid_core.specs.Planes.{bit_of, AreTurned, HasRoomFor};
 
 use crate::planes::line::Line;
 use crate::planes::word::Word;
+
+/// Writes the word for both values of the first lines, so many, and no place for all others.
+pub(crate) fn write_lines<W: Word>(words: &mut Vec<W>, lines: usize, word: W)
+    requires few { 2 * lines ≤ length words.old.items }
+    ensures written { (k place : ℕ) → has_bit (slice_index (map W.bits words.new.items) k) place
+        ≡ (nat_lt k (2 * lines) && has_bit (W.bits word) place) }
+    ensures long { length words.new.items ≡ length words.old.items }
+{
+    let none = W::none();
+    for k in 0..words.len() {
+        let here = if k < 2 * lines { word } else { none };
+        words[k] = here;
+    }
+}
 
 /// Turns over the bits in the line's word of the value. In the words of the lines that cross it there it turns over the
 /// bit of the line.

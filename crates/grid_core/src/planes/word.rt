@@ -13,6 +13,11 @@ pub trait Word: Copy + Drop {
     /// The places of a set, as the bits of a number.
     ghost bits: { Self → ℕ };
 
+    /// How many places there are at most.
+    fn places() -> usize
+        ensures value { result ≡ room }
+        ensures few { result ≤ 128 };
+
     /// No place.
     fn none() -> Self
         ensures { (p : ℕ) → has_bit (bits result) p ≡ false };
@@ -73,6 +78,10 @@ impl Word for u64 {
 
     ghost bits = { λ word. word };
 
+    fn places() -> usize {
+        64
+    }
+
     fn none() -> u64 {
         0
     }
@@ -129,6 +138,10 @@ impl Word for u128 {
     ghost room = { 128 };
 
     ghost bits = { λ word. word };
+
+    fn places() -> usize {
+        128
+    }
 
     fn none() -> u128 {
         0

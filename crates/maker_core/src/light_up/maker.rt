@@ -80,8 +80,8 @@ fn is_alone(
 /// of trials, is taken. One of black cells alone passes, so with `black` 100 the first try does.
 ///
 /// The numbers are then tried once each, in a shuffled order. Each is taken away if the search still finds one solution.
-/// `kept` has an entry for each number that is left, by place. It is `Needed` if there are two solutions without the
-/// number, and `Budget` if the search without it gave up.
+/// `kept` has an entry for each number that is left, by place. `Needed` says that there are two solutions without the
+/// number. `Budget` says that a search without it, maybe with more of them, gave up.
 ///
 /// The generator is left where the last filling, and then the shuffle of the numbers, left it.
 ///

@@ -27,8 +27,8 @@ use std::alloc::{AllocError, Global};
 /// is taken.
 ///
 /// The givens are then tried once each, in a shuffled order. Each is taken away if the search still finds one solution.
-/// `kept` has an entry for each given that is left, by place. It is `Needed` if there are two solutions without the
-/// given, and `Budget` if the search without it gave up.
+/// `kept` has an entry for each given that is left, by place. `Needed` says that there are two solutions without the
+/// given. `Budget` says that a search without it, maybe with more of them, gave up.
 ///
 /// The generator is left where the last filling, and then the shuffle of the givens, left it.
 ///

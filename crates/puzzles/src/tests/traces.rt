@@ -63,22 +63,11 @@ fn are_same<R: Rules>(rules: &R, one: &Board, other: &Board) -> bool
     requires other { IsBoardOf (R.system rules.now) other.now }
 {
     for place in 0..rules.cells() {
-        for value in 0..rules.values() {
-            if one.has(place, value) != other.has(place, value) {
-                return false;
-            }
+        if one.bits(place) != other.bits(place) {
+            return false;
         }
     }
     true
-}
-
-/// Whether a closing by the rules leaves this board.
-fn closes_to<R: Searchable>(alloc: Global, rules: &R, board: &Board) -> Result<bool, AllocError>
-    requires { IsBoardOf (R.system rules.now) board.now }
-{
-    let mut store = Store::new(alloc, rules)?;
-    store.close(rules);
-    Ok(are_same(rules, board, store.board()))
 }
 
 /// Whether a closing by the rules leaves the board that these visits leave.
@@ -88,7 +77,9 @@ fn is_closed_by<R: Searchable>(
     visits: &[usize],
 ) -> Result<bool, AllocError> {
     let board = replayed(alloc, rules, visits)?;
-    closes_to(alloc, rules, &board)
+    let mut store = Store::new(alloc, rules)?;
+    store.close(rules);
+    Ok(are_same(rules, &board, store.board()))
 }
 
 /// Whether the visits close the board of a puzzle by these rules, and no visits leave it open, but
@@ -128,16 +119,11 @@ fn visits_in(
     Ok(visits)
 }
 
-/// The lines of a puzzle of Pattern, and how many columns it has.
-fn pattern_lines(alloc: Global, id: &str) -> Result<(PatternLines, usize), Fail> {
-    let puzzle = read_pattern(alloc, id.as_bytes())?;
-    let columns = usize::from(puzzle.size().w());
-    Ok((PatternLines::new(alloc, &puzzle)?, columns))
-}
-
 /// Whether the visits that these lines tell close the board of a puzzle of Pattern.
 fn pattern_closes(alloc: Global, id: &str, lines: &str) -> Result<bool, Fail> {
-    let (rules, columns) = pattern_lines(alloc, id)?;
+    let puzzle = read_pattern(alloc, id.as_bytes())?;
+    let columns = usize::from(puzzle.size().w());
+    let rules = PatternLines::new(alloc, &puzzle)?;
     let visits = visits_in(alloc, lines, &["column", "row"], columns, rules.houses())?;
     Ok(closes(alloc, &rules, &visits, false)?)
 }
@@ -204,17 +190,6 @@ fn traces_of_solo_close_their_boards(rt: HostRuntime) -> Result<(), Fail> {
     Ok(())
 }
 
-/// The houses of so many sweeps, in their order.
-fn swept(alloc: Global, sweeps: usize, houses: usize) -> Result<Vec<usize>, AllocError> {
-    let mut visits = Vec::new(alloc);
-    for _sweep in 0..sweeps {
-        for house in 0..houses {
-            visits.push(house)?;
-        }
-    }
-    Ok(visits)
-}
-
 /// How many sweeps a grade with a trace tells.
 fn sweeps_told(alloc: Global, words: [&str; 4]) -> Result<usize, Fail> {
     let lines = traced(alloc, words)?;
@@ -229,7 +204,12 @@ fn sweeps_close<R: Searchable>(
     rules: &R,
     sweeps: usize,
 ) -> Result<bool, AllocError> {
-    let visits = swept(alloc, sweeps, rules.houses())?;
+    let mut visits = Vec::new(alloc);
+    for _sweep in 0..sweeps {
+        for house in 0..rules.houses() {
+            visits.push(house)?;
+        }
+    }
     closes(alloc, rules, &visits, false)
 }
 

@@ -51,7 +51,6 @@ fn push_crossing(
     requires fits { FitsLists list.old 1 }
     ensures { OnOk result (HasClosed (crossing_of puzzle.now block line).places list.old list.new) }
 {
-    let _n = puzzle.n();
     push_places(list, puzzle, NamedHouse::Block(block))?;
     push_rest(list, puzzle, block, line)?;
     list.end()?;

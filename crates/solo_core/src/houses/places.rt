@@ -3,8 +3,7 @@
 
 ghost use Rattle.std.specs.Prelude.{◌≡◌, ◌<◌, ◌≤◌, [], OnOk, length, slice_index, slice_index_or};
 ghost use Rattle.engine_core.specs.HouseList.{FitsLists};
-ghost use Rattle.solo_core.specs.Common.{IsSolo, solo_n, NamedHouse, solo_cells, houses_of};
-ghost use Rattle.solo_core.specs.Common.{house_places, IsHouseOf, lies_in, places_of};
+ghost use Rattle.solo_core.specs.Common.{IsSolo, solo_n, NamedHouse, solo_cells, houses_of, house_places, IsHouseOf, lies_in, places_of};
 ghost use Rattle.solo_core.specs.Work.{HasAdded, Begins};
 
 use crate::houses::house::NamedHouse;
@@ -93,7 +92,8 @@ pub(crate) fn push_places(
 ) -> Result<(), AllocError>
     requires house_of { IsHouseOf puzzle.now house }
     requires closed { list.old.begun ≡ [] }
-    ensures { OnOk result (Begins (places_of puzzle.now house) list.old list.new) }
+    ensures lawful { IsSolo puzzle.now }
+    ensures begun { OnOk result (Begins (places_of puzzle.now house) list.old list.new) }
 {
     for k in 0..usize::from(puzzle.n()) {
         list.push(place(puzzle, house, k))?;

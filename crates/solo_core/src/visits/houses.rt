@@ -2,14 +2,13 @@
 
 ghost use Rattle.std.specs.Prelude.{◌≡◌, ℕ, ◌<◌, ◌≤◌, ◌&&◌, length};
 ghost use Rattle.grid_core.specs.Candidates.{max_values};
-ghost use Rattle.solo_core.specs.Common.{strikes_by_fillings, has_bit as is_set, IsDecided};
-ghost use Rattle.solo_core.specs.Common.{IsPairing, no_repeat, has_in};
-ghost use Rattle.solo_core.specs.Peeled.{AreAlone, IsRest, IsPaired, HasSetOfCell, KeepsReaching};
+ghost use Rattle.solo_core.specs.Common.{has_bit as is_set, has_in};
+ghost use Rattle.solo_core.specs.Peeled.{IsRest, IsPaired, HasSetOfCell, KeepsReaching, PairsCells, KeepsFillings};
 
 use crate::visits::bits::{all_below, next_bit, with_bit_if};
 use crate::visits::mates::{MANY, pair_rest, rest_of, write_mates};
 use crate::visits::peel::peel;
-use crate::visits::reach::close_reach;
+use crate::visits::reach::close_under_steps;
 use crate::visits::singles::clear;
 use crate::visits::turning::lie_on_rounds;
 use engine_core::has_bit;
@@ -27,23 +26,11 @@ pub(crate) fn keep_houses(values: u8, sets: &[u32], kept: &mut [u32], pairing: &
     requires square { length sets.now ≡ values }
     requires as_many { length kept.old ≡ length sets.now }
     requires room { values ≤ pairing.old.room }
-    ensures decided { IsDecided values (strikes_by_fillings no_repeat) sets.now kept.new }
+    ensures decided { KeepsFillings values sets.now kept.new }
     ensures room { pairing.new.room ≡ pairing.old.room }
 {
     kept.copy_from_slice(sets);
     let alone = peel(values, kept);
-    keep_peeled(values, alone, kept, pairing);
-}
-
-/// Decides what is kept of a house in which the cells with these bits are alone.
-fn keep_peeled(values: u8, alone: u32, kept: &mut [u32], pairing: &mut Pairing)
-    requires few { values ≤ max_values }
-    requires square { length kept.old ≡ values }
-    requires alone { AreAlone values kept.old alone }
-    requires room { values ≤ pairing.old.room }
-    ensures decided { IsDecided values (strikes_by_fillings no_repeat) kept.old kept.new }
-    ensures room { pairing.new.room ≡ pairing.old.room }
-{
     if alone == all_below(values) {
         return;
     }
@@ -58,7 +45,7 @@ fn keep_rest(values: u8, rest: &[u8], kept: &mut [u32], pairing: &mut Pairing)
     requires alone { IsRest values kept.old rest.now }
     requires room { values ≤ pairing.old.room }
     requires rest_few { length rest.now ≤ values }
-    ensures decided { IsDecided values (strikes_by_fillings no_repeat) kept.old kept.new }
+    ensures decided { KeepsFillings values kept.old kept.new }
     ensures room { pairing.new.room ≡ pairing.old.room }
 {
     let mut paired_space = [0u8; MANY];
@@ -76,7 +63,7 @@ fn keep_paired(values: u8, rest: &[u8], paired: &[u8], kept: &mut [u32])
     requires square { length kept.old ≡ values }
     requires alone { IsRest values kept.old rest.now }
     requires paired { IsPaired values kept.old rest.now paired.now }
-    ensures decided { IsDecided values (strikes_by_fillings no_repeat) kept.old kept.new }
+    ensures decided { KeepsFillings values kept.old kept.new }
 {
     let mut mate_space = [0u8; MANY];
     let mates = &mut mate_space[..kept.len()];
@@ -84,14 +71,14 @@ fn keep_paired(values: u8, rest: &[u8], paired: &[u8], kept: &mut [u32])
     let mut reach_space = [0u32; MANY];
     let reach = &mut reach_space[..kept.len()];
     write_own_sets(kept, mates, reach);
-    close_reach(reach);
+    close_under_steps(reach);
     keep_reached(values, mates, reach, kept);
 }
 
 /// Writes for each value the set of the cell that has it.
 fn write_own_sets(sets: &[u32], mates: &[u8], reach: &mut [u32])
     requires as_many { length reach.old ≡ length sets.now }
-    requires paired { IsPairing (has_in sets.now) (length sets.now) (length sets.now) mates.now }
+    requires paired { PairsCells (length sets.now) sets.now mates.now }
     ensures as_many { length reach.new ≡ length sets.now }
     ensures own { HasSetOfCell sets.now mates.now reach.new }
 {
@@ -105,7 +92,7 @@ fn keep_reached(values: u8, mates: &[u8], reach: &[u32], kept: &mut [u32])
     requires few { values ≤ max_values }
     requires square { length kept.old ≡ values }
     requires reached { length reach.now ≡ values }
-    requires paired { IsPairing (has_in kept.old) (length kept.old) (length kept.old) mates.now }
+    requires paired { PairsCells (length kept.old) kept.old mates.now }
     ensures as_many { length kept.new ≡ length kept.old }
     ensures bits { KeepsReaching values mates.now reach.now kept.old kept.new }
 {

@@ -3,11 +3,11 @@
 
 ghost use Rattle.std.specs.Prelude.{◌≡◌, ℕ, ◌<◌, ◌≤◌, true, length, slice_index};
 ghost use Rattle.grid_core.specs.Candidates.{max_values};
-ghost use Rattle.solo_core.specs.Common.{AreDifferent, has_bit as is_set, IsPairing, has_in};
-ghost use Rattle.solo_core.specs.Peeled.{IsRest, IsPaired, IsShort, HasMate, GotMates, KeepMates, AgreeBelow, rest_of as rest_cells};
+ghost use Rattle.solo_core.specs.Common.{AreDifferent, has_bit as is_set};
+ghost use Rattle.solo_core.specs.Peeled.{IsRest, IsPaired, IsShort, HasMate, GotMates, KeepMates, AgreeBelow, rest_of as rest_cells, PairsCells, AreCellsOf};
 
 use crate::visits::bits::next_bit;
-use crate::visits::joined::Joined;
+use crate::visits::graph::CellValueGraph;
 use crate::visits::quick::pair_quickly;
 use arrayvec::ArrayVec;
 use engine_core::has_bit;
@@ -41,7 +41,7 @@ pub(crate) fn pair_rest(
     paired: &mut [u8],
 ) -> Paired
     requires few { values ≤ max_values }
-    requires rest_in { (i : ℕ) → i < length rest.now → slice_index rest.now i < length sets.now }
+    requires rest_in { AreCellsOf sets.now rest.now }
     requires lefts { length rest.now ≤ pairing.old.room }
     requires rights { values ≤ pairing.old.room }
     requires paired_room { length paired.old ≡ length rest.now }
@@ -49,11 +49,11 @@ pub(crate) fn pair_rest(
     ensures all { result ≡ Paired.All → IsPaired values sets.now rest.now paired.new }
     ensures short { result ≡ Paired.Short → IsShort values sets.now rest.now pairing.new.short }
 {
-    let joined = Joined { sets, rest, values };
-    if pair_quickly(&joined, paired) {
+    let graph = CellValueGraph { sets, rest, values };
+    if pair_quickly(&graph, paired) {
         return Paired::All;
     }
-    let found = pairing.run(&joined);
+    let found = pairing.run(&graph);
     if let Paired::All = found {
         copy_mates(values, pairing, paired);
     }
@@ -78,7 +78,7 @@ pub(crate) fn write_mates(values: u8, sets: &[u32], rest: &[u8], paired: &[u8], 
     requires as_many { length mates.old ≡ length sets.now }
     requires alone { IsRest values sets.now rest.now }
     requires paired { IsPaired values sets.now rest.now paired.now }
-    ensures { IsPairing (has_in sets.now) (length sets.now) values mates.new }
+    ensures { PairsCells values sets.now mates.new }
 {
     write_own(values, sets, mates);
     write_rest(rest, paired, mates);
@@ -92,21 +92,13 @@ fn write_own(values: u8, sets: &[u32], mates: &mut [u8])
     ensures own { HasMate values sets.now mates.new }
 {
     for cell in 0..sets.len() {
-        mates[cell] = lowest(values, sets[cell]);
+        mates[cell] = next_bit(sets[cell], 0, usize::from(values)).unwrap_or(0) as u8;
     }
-}
-
-/// The least value of the set, where it has one.
-fn lowest(values: u8, set: u32) -> u8
-    requires { values ≤ max_values }
-    ensures { (v : ℕ) → v < values → is_set set v ≡ true → is_set set result ≡ true }
-{
-    next_bit(set, 0, usize::from(values)).unwrap_or(0) as u8
 }
 
 /// Writes for each of these cells the value that it is paired with.
 fn write_rest(rest: &[u8], paired: &[u8], mates: &mut [u8])
-    requires rest_in { (i : ℕ) → i < length rest.now → slice_index rest.now i < length mates.old }
+    requires rest_in { AreCellsOf mates.old rest.now }
     requires different { AreDifferent rest.now }
     requires as_many { length paired.now ≡ length rest.now }
     ensures as_many { length mates.new ≡ length mates.old }

@@ -40,15 +40,11 @@ pub(crate) fn peel(values: u8, sets: &mut [u32]) -> u32
 }
 
 /// The counts of no cells.
-fn no_counts() -> Counts
-    ensures { (result.some ≡ 0) × (result.single ≡ 0) × (result.shared ≡ 0) }
-{
-    Counts {
-        some: 0,
-        single: 0,
-        shared: 0,
-    }
-}
+const NO_COUNTS: Counts = Counts {
+    some: 0,
+    single: 0,
+    shared: 0,
+};
 
 impl Counts {
     /// Whether no cell has alone what others have too, and no cell with several values has one that no other cell has.
@@ -74,7 +70,7 @@ impl Counts {
 fn count(sets: &[u32]) -> Counts
     ensures { AreCounts sets.now (length sets.now) result.some result.single result.shared }
 {
-    let mut counts = no_counts();
+    let mut counts = NO_COUNTS;
     for k in 0..sets.len() {
         counts = counts.with(sets[k]);
     }
@@ -89,7 +85,7 @@ fn narrow_all(values: u8, counts: Counts, sets: &mut [u32]) -> Counts
     ensures peeled { IsPeeled values sets.old sets.new }
     ensures counts { AreCounts sets.new (length sets.new) result.some result.single result.shared }
 {
-    let mut narrowed = no_counts();
+    let mut narrowed = NO_COUNTS;
     for k in 0..sets.len() {
         let set = narrow(values, counts, sets[k]);
         sets[k] = set;

@@ -8,7 +8,7 @@ ghost use Rattle.solo_core.specs.Ways.{IsTransitiveClosure, LeadsOver};
 use crate::visits::bits::{is_alone, with_more};
 
 /// Adds to what each value leads to all that it leads to over others.
-pub(crate) fn close_reach(reach: &mut [u32])
+pub(crate) fn close_under_steps(reach: &mut [u32])
     requires few { length reach.old ≤ 32 }
     ensures as_many { length reach.new ≡ length reach.old }
     ensures reaches { IsTransitiveClosure (length reach.old) (has_in reach.old) (has_in reach.new) }
@@ -29,15 +29,6 @@ fn reach_over(reach: &mut [u32], over: u8)
     if is_alone(more, over) {
         return;
     }
-    add_more(reach, over, more);
-}
-
-/// Adds `more` to each set with `over`.
-fn add_more(reach: &mut [u32], over: u8, more: u32)
-    requires over_in { over < 32 }
-    ensures as_many { length reach.new ≡ length reach.old }
-    ensures bits { LeadsOver (is_set more) over reach.old reach.new }
-{
     for value in 0..reach.len() {
         reach[value] = with_more(reach[value], over, more);
     }

@@ -5,6 +5,7 @@ ghost use Rattle.std.specs.Prelude.{◌≡◌, ℕ, ◌<◌, ◌≤◌, true, le
 ghost use Rattle.grid_core.specs.Candidates.{max_values};
 ghost use Rattle.solo_core.specs.Bits.{HasMore, HasBefore};
 ghost use Rattle.solo_core.specs.Ways.{HasValuesOf, StaysAfter, StaysBefore, LiesOnRounds};
+ghost use Rattle.solo_core.specs.Peeled.{AreCellsOf};
 
 use crate::visits::bits::{has_any, with_bit, with_more, without};
 
@@ -18,7 +19,7 @@ struct Ends {
 /// Whether each value of these cells, paired so, leads to the first one's mate and back, as far as that is found soon.
 pub(crate) fn lie_on_rounds(values: u8, sets: &[u32], rest: &[u8], mates: &[u8]) -> bool
     requires few { values ≤ max_values }
-    requires rest_in { (i : ℕ) → i < length rest.now → slice_index rest.now i < length sets.now }
+    requires rest_in { AreCellsOf sets.now rest.now }
     requires as_many { length mates.now ≡ length rest.now }
     requires small { (i : ℕ) → i < length rest.now → slice_index mates.now i < values }
     ensures { result ≡ true → LiesOnRounds values sets.now rest.now mates.now }
@@ -47,7 +48,7 @@ pub(crate) fn lie_on_rounds(values: u8, sets: &[u32], rest: &[u8], mates: &[u8])
 
 /// The values that some of the cells has.
 fn values_of(sets: &[u32], rest: &[u8]) -> u32
-    requires rest_in { (i : ℕ) → i < length rest.now → slice_index rest.now i < length sets.now }
+    requires rest_in { AreCellsOf sets.now rest.now }
     ensures { HasValuesOf sets.now rest.now result }
 {
     let mut all = 0u32;
@@ -60,7 +61,7 @@ fn values_of(sets: &[u32], rest: &[u8]) -> u32
 /// Goes on by one step of each cell, one after another.
 fn spread(values: u8, sets: &[u32], rest: &[u8], mates: &[u8], ends: Ends) -> Ends
     requires few { values ≤ max_values }
-    requires rest_in { (i : ℕ) → i < length rest.now → slice_index rest.now i < length sets.now }
+    requires rest_in { AreCellsOf sets.now rest.now }
     requires as_many { length mates.now ≡ length rest.now }
     requires small { (i : ℕ) → i < length rest.now → slice_index mates.now i < values }
     ensures after { StaysAfter values sets.now rest.now mates.now ends.after result.after }
@@ -68,23 +69,13 @@ fn spread(values: u8, sets: &[u32], rest: &[u8], mates: &[u8], ends: Ends) -> En
 {
     let mut more = ends;
     for i in 0..rest.len() {
-        more = more.over(usize::from(mates[i]), sets[usize::from(rest[i])]);
+        let (value, next) = (mates[i], sets[usize::from(rest[i])]);
+        more = Ends {
+            after: with_more(more.after, value, next),
+            before: with_bit_over(more.before, usize::from(value), next),
+        };
     }
     more
-}
-
-impl Ends {
-    /// Goes on over a value that leads to these.
-    fn over(self, value: usize, next: u32) -> Ends
-        requires { value < 32 }
-        ensures after { HasMore self.after value next result.after }
-        ensures before { HasBefore self.before value next result.before }
-    {
-        Ends {
-            after: with_more(self.after, value as u8, next),
-            before: with_bit_over(self.before, value, next),
-        }
-    }
 }
 
 /// The bits with bit `value` set too, where some bit of `next` is among them.

@@ -1,5 +1,4 @@
-use Rattle.std.proofs.Common.{inl, inr, refl}
-use Rattle.commands.specs.Batches.{AllowsTask}
+use Rattle.commands.proofs.Common.{AllowsTask, inl, inr, refl}
 use Rattle.commands.proofs.BatchLemmas.{ran_answered, ran_begun, ran_stopped}
 use Rattle.commands.proofs.GameLaws.{answers}
 use Rattle.commands.proofs.RunLemmas.{is_late}

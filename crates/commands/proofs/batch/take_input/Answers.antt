@@ -1,5 +1,4 @@
-use Rattle.std.proofs.Common.{◌+◌, subst, take, ℕ, ap, refl, ◌∙◌, rules}
-use Rattle.commands.specs.Batches.{AllowsTask}
+use Rattle.commands.proofs.Common.{ap, refl, rules, subst, take, ℕ, ◌+◌, ◌∙◌}
 use Rattle.commands.proofs.BatchLemmas.{given_more, given_no_more, on_any_err, stopped_here}
 use Rattle.commands.proofs.batch.take_input.Goals as goal
 
@@ -14,8 +13,7 @@ returns-in_err-take_chunk-in-Some-clause-stopped g c = on_any_err c.from_residua
 
 pub returns-in-None-clause-stopped : goal.returns-in-None-clause-stopped
 returns-in-None-clause-stopped g c =
-    λ answers. stopped_here g.met.I.Source.gives_both g.O.Sink.takes g.met.O.Sink.takes_nothing g.met.O.Sink.takes_both
-    (AllowsTask c.args.task) answers _ _ _
+    λ answers. stopped_here g.met.I.Source.gives_both answers _ _ _
     (given_no_more g.met.I.Source.gives_both c.loop-turn.invariant.taken c.in-None.ensures.bytes)
 
 pub loop-turn-preserved : goal.loop-turn-preserved
@@ -32,5 +30,4 @@ loop-turn-preserved g c = record {
 
 pub returns-clause-stopped : goal.returns-clause-stopped
 returns-clause-stopped g c =
-    λ answers. stopped_here g.met.I.Source.gives_both g.O.Sink.takes g.met.O.Sink.takes_nothing g.met.O.Sink.takes_both
-    (AllowsTask c.args.task) answers _ _ c.loop-turn.batch c.loop-turn.invariant.taken
+    λ answers. stopped_here g.met.I.Source.gives_both answers _ _ c.loop-turn.batch c.loop-turn.invariant.taken

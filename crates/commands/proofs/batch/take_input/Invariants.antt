@@ -1,5 +1,4 @@
-use Rattle.std.proofs.Common.{◌≡◌, length, false}
-use Rattle.commands.specs.Batches.{TakesTask}
+use Rattle.commands.proofs.Common.{TakesTask, false, length, ◌≡◌}
 use Rattle.commands.proofs.batch.take_input.Given as goal
 
 abbrev pub invariant-loop-turn : goal.invariant-loop-turn

@@ -1,5 +1,4 @@
-use Rattle.std.proofs.Common.{rules, arith, ◌≢◌}
-use Rattle.gameid_core.specs.declared.id.fault.IdFault.TheVariants.{Memory}
+use Rattle.commands.proofs.Common.{Memory, arith, rules, ◌≢◌}
 use Rattle.commands.proofs.Readings.{refused_id}
 use Rattle.commands.proofs.RunLemmas.{ran_if_any_by_telling, ran_if_any_unwritten}
 use Rattle.commands.proofs.check.check_one.Goals as goal

@@ -1,6 +1,4 @@
-use Rattle.std.proofs.Common.{inl, inr, subst}
-use Rattle.std.proofs.lemmas.Result.{IfOk-weaker}
-use Rattle.commands.specs.Answers.{Text}
+use Rattle.commands.proofs.Common.{IfOk-weaker, Text, inl, inr, subst}
 use Rattle.commands.proofs.generate.generate_one.Goals as goal
 
 pub returns-in_ok-written-in-Ok : goal.returns-in_ok-written-in-Ok

@@ -1,23 +1,10 @@
-use Rattle.std.proofs.Common.{◌≡◌, ℕ, ap, arith, inl, inr}
-use Rattle.std.proofs.lemmas.List.Elements.{All-contains}
-use Rattle.gameid_core.specs.declared.id.game.Game.TheVariants.{Solo, LightUp}
+use Rattle.commands.proofs.Common.{All-contains, Answer, IsReason, LightUp, MadePuzzlesAreSolved, all_given, ap, arith, game_of, inl, inr, light_game, printed_by, rule_from_test, solo_game, wanted, with_numbers}
+use Rattle.gameid_core.specs.declared.id.game.Game.TheVariants.{Solo}
 use Rattle.fields_core.proofs.LightRuleLemmas.{rule-from-test}
-use Rattle.maker_core.specs.LightClues.{light_game}
-use Rattle.maker_core.specs.LightFilling.{with_numbers}
-use Rattle.maker_core.specs.SoloClues.{solo_game}
-use Rattle.maker_core.specs.SoloFilling.{all_given}
-use Rattle.maker_core.specs.Thinning.{IsReason}
-use Rattle.commands.specs.Common.{Game, rule_from_test}
-use Rattle.commands.specs.Answers.{Answer, Text}
-use Rattle.commands.specs.Games.{game_of}
-use Rattle.commands.specs.PuzzleFacts.{printed_by}
-use Rattle.commands.specs.LawsOfCommands.{IsSolvedAsMade}
-use Rattle.commands.specs.Allowed.{AllowsMade, wanted}
 use Rattle.commands.proofs.GameLaws.{laws_of, passes_as, spelled_read, found_alone, never_one}
 use Rattle.commands.proofs.laws.made_puzzles_are_solved.Goals as goal
 
-by : (game : Game) (size : Text) (seed budget tries black : ℕ) (answer : Answer)
-    → AllowsMade (game_of game) (wanted seed budget tries black) size answer → answer.status ≡ 0 → IsSolvedAsMade game budget answer
+by : MadePuzzlesAreSolved
 by game size seed budget tries black answer (inl refusal) fine = absurd (omega (arith, fine, ap (λ (a : Answer). a.status) refusal.said))
 by game size seed budget tries black answer (inr sized) fine = elim sized.allowed [
   | inl handed ↦

@@ -1,17 +1,9 @@
-use Rattle.std.proofs.Common.{◌≡◌, ℕ, true, false, Option, Some, None, sym, true≢false}
-use Rattle.std.specs.Str.Lines.{lines}
-use Rattle.gameid_core.specs.declared.id.game.Game.{Game}
-use Rattle.gameid_core.specs.declared.id.game.Game.TheVariants.{Solo, Pattern, LightUp, Tents}
-use Rattle.commands.specs.Answers.{Text}
-use Rattle.commands.specs.Allowed.{AllowsCheck, AllowsGrade, Allows, AllowsSolve}
-use Rattle.commands.specs.Games.{game_of}
-use Rattle.commands.specs.LawsOfCommands.{HasOneAnswer, is_fixed}
-use Rattle.commands.specs.Replies.{refused_words}
-use Rattle.commands.specs.Asked.{Asked, solve, check, grade, generate}
+use Rattle.commands.proofs.Common.{Allows, AllowsCheck, AllowsGrade, AllowsSolve, Asked, Game, HasOneAnswer, LightUp, None, Option, Some, Text, check, false, game_of, generate, grade, is_fixed, lines, refused_words, solve, sym, true, true≢false, wanted, ℕ, ◌≡◌}
+use Rattle.gameid_core.specs.declared.id.game.Game.TheVariants.{Solo, Pattern, Tents}
 use Rattle.commands.proofs.CheckedPuzzles.{check_same, check_some}
 use Rattle.commands.proofs.GameLaws.{laws_of, solving, listed_right}
-use Rattle.commands.proofs.MadeAlike.{lights_differ, solo_differs}
-use Rattle.commands.proofs.MadeOnce.{AreFilled, made_pattern, made_tents}
+use Rattle.commands.proofs.MadeOnce.{seed_words}
+use Rattle.commands.proofs.Makings.{AreFilled, made_differ, made_pattern, made_tents}
 use Rattle.commands.proofs.Readings.{each_once, grade_once, id_once, one_of_same, told_once}
 use Rattle.commands.proofs.laws.one_answer.Goals as goal
 
@@ -28,7 +20,11 @@ grading game id budget =
     (listed_right (of.sets p) budget ((laws_of game).listed id p s) ((laws_of game).searched id p s)))
 
 pub returns : goal.returns
-returns c = record { fixed = by; solo = solo_differs; lights = lights_differ }
+returns c = record {
+  fixed = by;
+  solo = λ text seed budget tries black. made_differ filled (wanted seed budget tries black) (seed_words seed) Solo text;
+  lights = λ text seed budget tries black. made_differ filled (wanted seed budget tries black) (seed_words seed) LightUp text;
+}
   where
     filled : AreFilled
     filled = record { trees = c.fillings_of_tents_are_solutions.ensures.trees; solved = c.fillings_of_tents_are_solutions.ensures.solved }
@@ -36,11 +32,11 @@ returns c = record { fixed = by; solo = solo_differs; lights = lights_differ }
     by : (asked : Option Asked) (input : Text) → is_fixed asked ≡ true → HasOneAnswer (Allows asked input)
     by None input fixed = told_once refused_words
     by (Some (solve game (Some id) budget)) input fixed = solving game budget id
-    by (Some (solve game None budget)) input fixed = each_once (AllowsSolve (game_of game) budget) (solving game budget) (lines input)
+    by (Some (solve game None budget)) input fixed = each_once (λ id. AllowsSolve (game_of game) id budget) (solving game budget) (lines input)
     by (Some (check game id)) input fixed = checking game id input
     by (Some (grade game id budget false)) input fixed = grading game id budget
     by (Some (grade game id budget true)) input fixed = absurd (true≢false (sym fixed))
-    by (Some (generate Pattern size seed budget tries black)) input fixed = made_pattern size seed budget tries black
+    by (Some (generate Pattern size seed budget tries black)) input fixed = made_pattern filled (wanted seed budget tries black) (seed_words seed) size
     by (Some (generate Solo size seed budget tries black)) input fixed = absurd (true≢false (sym fixed))
     by (Some (generate LightUp size seed budget tries black)) input fixed = absurd (true≢false (sym fixed))
-    by (Some (generate Tents size seed budget tries black)) input fixed = made_tents filled size seed budget tries black
+    by (Some (generate Tents size seed budget tries black)) input fixed = made_tents filled (wanted seed budget tries black) (seed_words seed) size

@@ -1,9 +1,4 @@
-use Rattle.std.specs.Prelude.{◌↔◌}
-use Rattle.gameid_core.specs.declared.id.game.Game.{Game}
-use Rattle.commands.specs.Answers.{Answer, Text}
-use Rattle.commands.specs.Games.{game_of, puzzle_of}
-use Rattle.commands.specs.Allowed.{AllowsId}
-use Rattle.commands.specs.LawsOfCommands.{IsRewritten}
+use Rattle.commands.proofs.Common.{AllowsId, Answer, Game, IsRewritten, Text, game_of, puzzle_of, ◌↔◌}
 use Rattle.commands.proofs.GameLaws.{laws_of}
 use Rattle.commands.proofs.Readings.{answered_alike, spelled_alike}
 use Rattle.commands.proofs.laws.rewritten_ids_are_the_same.Goals as goal

@@ -1,14 +1,10 @@
-use Rattle.std.proofs.Common.{ℕ}
-use Rattle.gameid_core.specs.declared.id.game.Game.{Game}
-use Rattle.commands.specs.Answers.{Answer, Text}
-use Rattle.commands.specs.Allowed.{AllowsCheck, AllowsSolve}
-use Rattle.commands.specs.Games.{game_of}
+use Rattle.commands.proofs.Common.{AllowsCheck, AllowsSolve, Answer, Game, Text, game_of, ℕ}
 use Rattle.commands.proofs.GameLaws.{GoesWith, goes_with, refusals_go, passed, laws_of}
-use Rattle.commands.proofs.GradedAlike.{both_answers}
+use Rattle.commands.proofs.Readings.{both_answers}
 use Rattle.commands.proofs.laws.solved_grids_pass.Goals as goal
 
 goes : (game : Game) (id input : Text) (budget : ℕ) (given solved : Answer)
-    → AllowsCheck (game_of game) id input given → AllowsSolve (game_of game) budget id solved → GoesWith input given solved
+    → AllowsCheck (game_of game) id input given → AllowsSolve (game_of game) id budget solved → GoesWith input given solved
 goes game id input budget given solved =
     both_answers (laws_of game).reading (GoesWith input) id given solved (refusals_go input)
     (λ p s a b. goes_with p given solved ((laws_of game).checked id p s) a b)

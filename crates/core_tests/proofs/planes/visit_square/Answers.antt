@@ -46,8 +46,8 @@ visit-fills-requires-clause-pieces g c = let tall : 2 ≤ c.take-2.new.self.size
 
 pub visit-fills-requires-clause-alive : goal.visit-fills-requires-clause-alive
 visit-fills-requires-clause-alive g c = λ d lt.
-    let size : c.take-2.new.self.size ≡ c.unwrap.result = c.take-2.ensures.further.same_size ∙ c.take.ensures.further.same_size ∙ c.in_ok-planes.ensures.same_size in
+    let size : c.take-2.new.self.size ≡ c.unwrap.result = c.take-2.ensures.further.same_size ∙ c.take.ensures.further.same_size ∙ c.in_ok-planes.ensures.fresh.same_size in
     inr (ones-stay _ (has c.take.new.self) (has c.take-2.new.self) _ d refl c.take-2.ensures.left
     ∙ ones-stay _ (has c.in_ok-planes.planes) (has c.take.new.self) _ d refl c.take.ensures.left
-    ∙ ap (λ (L : Candidates). L d 1) c.in_ok-planes.ensures.holds
+    ∙ ap (λ (L : Candidates). L d 1) c.in_ok-planes.ensures.fresh.holds
     ∙ all-on _ d (rw size at lt))

@@ -7,23 +7,23 @@ returns-then-house-houses c =
     let i = c.loop-word.invariant in
     let next = c.in-Some.ensures in
     let w = c.loop-word.word in (
-      (let le = next.0 in let past = i.past in omega arith),
+      (omega arith),
       c.if-house-houses.true,
       waits_in_word c.args.waits.now w next.1 next.2,
-      none_so_far c.args.waits.now w (let lt = next.1 in omega arith) i.none next.3,
+      none_so_far c.args.waits.now w (omega arith) i.none next.3,
     )
 
 pub returns-in-Some : goal.returns-in-Some
 returns-in-Some c = λ j le lt.
     let i = c.loop-word.invariant in
     let next = c.in-Some.ensures in
-    none_so_far c.args.waits.now c.loop-word.word (let lt = next.1 in omega arith) i.none next.3 j le (omega arith)
+    none_so_far c.args.waits.now c.loop-word.word (omega arith) i.none next.3 j le (omega arith)
 
 pub loop-word-preserved : goal.loop-word-preserved
 loop-word-preserved c =
     let i = c.loop-word.invariant in
     record {
       bit_in = omega arith;
-      past = (let past = i.past in let low = i.bit_in in omega arith);
+      past = (omega arith);
       none = λ j le lt. none_so_far c.args.waits.now c.loop-word.word (omega arith) i.none c.in_default.ensures j le (omega arith);
     }

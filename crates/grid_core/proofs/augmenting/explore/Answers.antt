@@ -1,4 +1,4 @@
-use Rattle.std.proofs.Common.{arith, ◌∙◌}
+use Rattle.grid_core.proofs.Common.{arith, ◌∙◌}
 use Rattle.grid_core.proofs.SearchSteps.{IsClosed-step}
 use Rattle.grid_core.proofs.augmenting.explore.Goals as goal
 

@@ -1,5 +1,4 @@
-use Rattle.std.proofs.Common.{◌≡◌, ◌≤◌, ◌-◌, length}
-use Rattle.grid_core.specs.Augmenting.{IsReach, IsClosed}
+use Rattle.grid_core.proofs.Common.{IsClosed, IsReach, length, ◌-◌, ◌≡◌, ◌≤◌}
 use Rattle.grid_core.proofs.augmenting.explore.Given as goal
 
 abbrev pub invariant-loop-head : goal.invariant-loop-head

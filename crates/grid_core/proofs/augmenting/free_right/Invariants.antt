@@ -1,5 +1,4 @@
-use Rattle.std.proofs.Common.{◌-◌, ◌<◌}
-use Rattle.grid_core.specs.Augmenting.{IsFreeFor}
+use Rattle.grid_core.proofs.Common.{IsFreeFor, ◌-◌, ◌<◌}
 use Rattle.grid_core.proofs.augmenting.free_right.Given as goal
 
 abbrev pub invariant-loop-right : goal.invariant-loop-right

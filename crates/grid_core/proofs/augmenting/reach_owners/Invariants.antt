@@ -1,4 +1,4 @@
-use Rattle.std.proofs.Common.{◌-◌}
+use Rattle.grid_core.proofs.Common.{◌-◌}
 use Rattle.grid_core.proofs.SearchSteps.{IsScan}
 use Rattle.grid_core.proofs.augmenting.reach_owners.Given as goal
 

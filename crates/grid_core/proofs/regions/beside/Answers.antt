@@ -1,6 +1,4 @@
-use Rattle.std.proofs.Common.{◌≡◌, length, sym, ◌∙◌, arith}
-use Rattle.std.proofs.lemmas.Option.{slice_get_past}
-use Rattle.grid_core.specs.Regions.{steps, beside}
+use Rattle.grid_core.proofs.Common.{arith, beside, length, slice_get_past, steps, sym, ◌∙◌, ◌≡◌}
 use Rattle.grid_core.proofs.RegionLemmas.{steps-none, steps-some, steps-at}
 use Rattle.grid_core.proofs.regions.beside.Goals as goal
 use Rattle.grid_core.proofs.regions.beside.Goals.{in-Some+else-left-eq0, in_default}

@@ -1,5 +1,4 @@
-use Rattle.std.proofs.Common.{◌≡◌, ◌+◌, length}
-use Rattle.grid_core.specs.Regions.{steps}
+use Rattle.grid_core.proofs.Common.{length, steps, ◌+◌, ◌≡◌}
 use Rattle.grid_core.proofs.regions.beside.Given as goal
 
 abbrev pub invariant-loop-direction : goal.invariant-loop-direction

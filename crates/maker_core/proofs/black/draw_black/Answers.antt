@@ -1,5 +1,4 @@
-use Rattle.maker_core.proofs.Common.{◌≡◌, ℕ, List, ap, subst, sym, arith, length, ◌+◌, ◌∙◌, refl, Bool, true, false, cond, nat_lt, length-replicate}
-use Rattle.maker_core.proofs.Common.{Stream, IsGrid}
+use Rattle.maker_core.proofs.Common.{Bool, IsGrid, List, Stream, ap, arith, cond, false, length, length-replicate, nat_lt, refl, subst, sym, true, ℕ, ◌+◌, ◌∙◌, ◌≡◌}
 use Rattle.maker_core.proofs.BlackCells.{IsPartDrawn, IsPartDrawn-none, IsPartDrawn-more, IsPartDrawn-all, black_cells-grid}
 use Rattle.maker_core.proofs.black.draw_black.Goals as goal
 
@@ -10,8 +9,7 @@ pub loop-place-preserved : goal.loop-place-preserved
 loop-place-preserved g c =
     subst (IsPartDrawn c.args.black c.args.cells (c.loop-place.place + 1) (g.G.Rng.stream c.args.rng.now) (g.G.Rng.stream c.draw.new.rng)) (sym c.set.ensures)
     (IsPartDrawn-more c.loop-place.invariant c.draw.ensures.drawn c.draw.ensures.below
-    (value (nat_lt c.draw.result c.from.result) refl ∙ ap (λ n. cond (nat_lt c.draw.result n) 1 0) c.from.ensures)
-    c.loop-place-test.true)
+    (value _ refl ∙ ap (λ n. cond (nat_lt c.draw.result n) 1 0) c.from.ensures) c.loop-place-test.true)
   where
     value : (b : Bool) → nat_lt c.draw.result c.from.result ≡ b → c.from-in-loop-place.result ≡ cond (nat_lt c.draw.result c.from.result) 1 0
     value true e = c.from-in-loop-place.ensures ∙ rw e refl

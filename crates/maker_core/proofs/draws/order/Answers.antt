@@ -1,4 +1,4 @@
-use Rattle.maker_core.proofs.Common.{◌≡◌, arith}
+use Rattle.maker_core.proofs.Common.{arith, ◌≡◌}
 use Rattle.maker_core.proofs.SoloOrderLemmas.{order_from_permutation}
 use Rattle.maker_core.proofs.draws.order.Goals as goal
 

@@ -1,4 +1,4 @@
-use Rattle.maker_core.proofs.Common.{sym, ◌∙◌, arith}
+use Rattle.maker_core.proofs.Common.{arith, sym, ◌∙◌}
 use Rattle.maker_core.proofs.FirstTries.{IsTrying-more, first_is}
 use Rattle.maker_core.proofs.tries.first_passing.Goals as goal
 

@@ -1,5 +1,4 @@
-use Rattle.std.proofs.Common.{ℕ, ◌<◌}
-use Rattle.pattern_core.specs.Lines.{HasClue}
+use Rattle.pattern_core.proofs.Common.{HasClue, ℕ, ◌<◌}
 use Rattle.pattern_core.proofs.check.check_pattern.Given as goal
 
 abbrev pub invariant-loop-line : goal.invariant-loop-line

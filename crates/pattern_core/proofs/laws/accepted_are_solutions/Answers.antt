@@ -1,4 +1,4 @@
-use Rattle.pattern_core.specs.LineLaws.{is_solution-is, is_solution-from}
+use Rattle.pattern_core.proofs.Common.{is_solution-from, is_solution-is}
 use Rattle.pattern_core.proofs.laws.accepted_are_solutions.Goals as goal
 
 pub returns : goal.returns

@@ -1,4 +1,4 @@
-use Rattle.pattern_core.specs.LineLaws.{line_rules-lawful}
+use Rattle.pattern_core.proofs.Common.{line_rules-lawful}
 use Rattle.pattern_core.proofs.laws.rules_are_lawful.Goals as goal
 
 pub returns : goal.returns

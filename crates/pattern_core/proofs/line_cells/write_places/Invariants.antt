@@ -1,5 +1,4 @@
-use Rattle.std.proofs.Common.{◌≡◌, ℕ, ◌*◌, ◌<◌, length, slice_index}
-use Rattle.grid_core.specs.Lines.{line_cells, line_places}
+use Rattle.pattern_core.proofs.Common.{length, line_cells, line_places, slice_index, ℕ, ◌*◌, ◌<◌, ◌≡◌}
 use Rattle.pattern_core.proofs.line_cells.write_places.Given as goal
 
 abbrev pub invariant-loop-k : goal.invariant-loop-k

@@ -1,7 +1,4 @@
-use Rattle.std.proofs.Common.{◌≡◌, ◌∙◌, ◌<◌, ℕ, eqb, sym, ap, arith, inl, inr}
-use Rattle.std.specs.Int.{bit_at}
-use Rattle.std.proofs.lemmas.Bool.{cases_eq}
-use Rattle.grid_core.specs.Board.{has}
+use Rattle.pattern_core.proofs.Common.{ap, arith, bit_at, cases_eq, eqb, has, inl, inr, sym, ℕ, ◌<◌, ◌∙◌, ◌≡◌}
 use Rattle.pattern_core.proofs.Fresh.{board_is_fresh}
 use Rattle.pattern_core.proofs.lines.is_fresh.Goals as goal
 
@@ -16,4 +13,4 @@ loop-place-preserved c = λ k lt. elim (cases_eq k c.loop-place.place) [
 ]
 
 pub returns : goal.returns
-returns c = λ _. board_is_fresh c.args.board.now c.requires.values (λ k lt. c.loop-place.invariant k (omega (arith, lt, c.loop-place-test.false)))
+returns c = λ _. board_is_fresh _ c.requires.values (λ k lt. c.loop-place.invariant k (omega (arith, lt, c.loop-place-test.false)))

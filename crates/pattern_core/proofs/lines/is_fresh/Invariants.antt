@@ -1,5 +1,4 @@
-use Rattle.std.proofs.Common.{◌≡◌, ◌<◌, ℕ, true}
-use Rattle.grid_core.specs.Board.{has}
+use Rattle.pattern_core.proofs.Common.{has, true, ℕ, ◌<◌, ◌≡◌}
 use Rattle.pattern_core.proofs.lines.is_fresh.Given as goal
 
 abbrev pub invariant-loop-place : goal.invariant-loop-place

@@ -1,16 +1,11 @@
-use Rattle.std.proofs.Common.{◌≡◌, ◌∙◌, get_or, ap, arith}
-use Rattle.grid_core.specs.Lines.{line_numbers}
-use Rattle.pattern_core.specs.Track.{along, leads, set_for, led}
+use Rattle.pattern_core.proofs.Common.{along, ap, arith, leads, led, length-line_numbers, line_numbers, set_for, ◌∙◌}
 use Rattle.pattern_core.proofs.MeetLemmas.{meet_next, meet_end}
 use Rattle.pattern_core.proofs.TableSteps.{at_first}
-use Rattle.grid_core.proofs.LineLemmas.{length-line_numbers}
 use Rattle.pattern_core.proofs.meets.meets.Goals as goal
 
 pub loop-k-init : goal.loop-k-init
 loop-k-init g c =
-    at_first (g.P.Slots.has c.first-reached.result)
-    (λ p. leads (along g.P.Slots.has c.steps-steps.result) p
-    (line_numbers c.args.size c.args.grid.now c.args.line))
+    at_first _ (λ p. leads (along g.P.Slots.has c.steps-steps.result) p _)
     c.steps-steps.ensures.below.first c.first-reached.ensures
 
 pub loop-k-preserved : goal.loop-k-preserved
@@ -19,7 +14,7 @@ loop-k-preserved g c =
     let t = along g.P.Slots.has c.steps-steps.result in
     let cells = line_numbers c.args.size c.args.grid.now c.args.line in
     let long = length-line_numbers c.args.size c.args.grid.now c.args.line in
-    let number : c.line_value.result ≡ get_or cells c.loop-k.k 0 = c.line_value.ensures in
+    let number = c.line_value.ensures in
     meet_next c.steps-steps.ensures.below cells c.loop-k.k (has c.loop-k.reached) (has c.led_on-reached.result)
     (omega (arith, long, c.line_len-k-end.ensures.cells, c.loop-k-test.true))
     (λ p lt. c.led_on-reached.ensures p lt ∙ ap (λ n. led t (set_for n) (has c.loop-k.reached) p) number)

@@ -1,7 +1,4 @@
-use Rattle.std.proofs.Common.{◌≡◌, ◌&&◌, drop}
-use Rattle.grid_core.specs.Candidates.{any_below}
-use Rattle.grid_core.specs.Lines.{line_numbers}
-use Rattle.pattern_core.specs.Track.{along, leads}
+use Rattle.pattern_core.proofs.Common.{along, any_below, drop, leads, line_numbers, ◌&&◌, ◌≡◌}
 use Rattle.pattern_core.proofs.meets.meets.Given as goal
 
 abbrev pub invariant-loop-k : goal.invariant-loop-k

@@ -1,5 +1,4 @@
-use Rattle.std.proofs.Common.{◌≡◌, ◌+◌, ◌-◌, ◌≤◌, ◌<◌, arith, refl, subst, length}
-use Rattle.pattern_core.specs.Track.{along, AreRows}
+use Rattle.pattern_core.proofs.Common.{AreRows, along, arith, refl, subst, ◌+◌, ◌-◌, ◌≡◌}
 use Rattle.pattern_core.proofs.TableSteps.{last_row, one_row}
 use Rattle.pattern_core.proofs.table.fill_rows.Goals as goal
 
@@ -11,8 +10,8 @@ loop-at-init g c = (
 
 pub loop-at-preserved : goal.loop-at-preserved
 loop-at-preserved g c =
-    let pos : 0 < c.loop-at.at = c.loop-at-test.true in
-    let low : c.loop-at.at ≤ length c.args.sets.now = c.loop-at.invariant.0 in
+    let pos = c.loop-at-test.true in
+    let low = c.loop-at.invariant.0 in
     let next : c.loop-at.at ≡ c.loop-at.at - 1 + 1 = omega arith in
     let t = along g.P.Slots.has c.args.moves.now.steps in (
       omega arith,

@@ -1,5 +1,4 @@
-use Rattle.std.proofs.Common.{◌≤◌, length}
-use Rattle.pattern_core.specs.Track.{along, AreRows}
+use Rattle.pattern_core.proofs.Common.{AreRows, along, length, ◌≤◌}
 use Rattle.pattern_core.proofs.table.fill_rows.Given as goal
 
 abbrev pub invariant-loop-at : goal.invariant-loop-at

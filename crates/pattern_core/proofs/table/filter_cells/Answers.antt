@@ -1,8 +1,4 @@
-use Rattle.std.proofs.Common.{ap, arith, get_or, refl, set, ◌&&◌, ◌∙◌, ◌≡◌}
-use Rattle.std.proofs.lemmas.Bool.{eqb-true, not-false, or_parts}
-use Rattle.std.proofs.lemmas.List.{get_or-set_other, set-get_or}
-use Rattle.grid_core.proofs.CandidateLemmas.{any_below-same}
-use Rattle.pattern_core.specs.Track.{along, led}
+use Rattle.pattern_core.proofs.Common.{along, any_below-same, ap, arith, eqb-true, get_or-set_other, led, not-false, or_parts, refl, set, set-get_or, ◌&&◌, ◌∙◌}
 use Rattle.pattern_core.proofs.TableSteps.{kept_cell, kept_none, reached_first, reached_next, row_next}
 use Rattle.pattern_core.proofs.table.filter_cells.Goals as goal
 
@@ -25,7 +21,7 @@ loop-at-preserved g c =
     let row = c.index-rows-at.result in
     let i = c.loop-at.invariant in
     let lt = c.loop-at-test.true in
-    let here : get_or c.loop-at.sets at 0 ≡ get_or sets at 0 = i.2 at (omega arith) in (
+    let here = i.2 at (omega arith) in (
       kept_cell room t sets (has c.loop-at.reached) at i.1 lt (has row)
           (row_next has t sets c.args.rows.now 0 at row c.requires.rows (omega arith) lt
           c.index-rows-at.is)

@@ -1,5 +1,4 @@
-use Rattle.std.proofs.Common.{◌≡◌, ◌≤◌, ℕ, false, get_or}
-use Rattle.pattern_core.specs.Track.{along, AreKept}
+use Rattle.pattern_core.proofs.Common.{AreKept, along, false, get_or, ℕ, ◌≡◌, ◌≤◌}
 use Rattle.pattern_core.proofs.TableSteps.{AreReached}
 use Rattle.pattern_core.proofs.table.filter_cells.Given as goal
 

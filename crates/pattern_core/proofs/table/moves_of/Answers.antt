@@ -1,7 +1,4 @@
-use Rattle.std.proofs.Common.{◌∙◌, ◌&&◌, ◌||◌, ap}
-use Rattle.std.proofs.Math.Bool.{and-false, or-false}
-use Rattle.engine_core.specs.Sets.{has_bit}
-use Rattle.pattern_core.specs.Track.{stays, goes_on}
+use Rattle.pattern_core.proofs.Common.{and-false, ap, goes_on, has_bit, or-false, stays, ◌&&◌, ◌||◌, ◌∙◌}
 use Rattle.pattern_core.proofs.table.moves_of.Goals as goal
 
 pub invariant_of-result : goal.invariant_of-result

@@ -1,16 +1,14 @@
-use Rattle.std.proofs.Common.{◌∙◌, ◌&&◌, ◌||◌, ap, ap₂, sym}
-use Rattle.std.proofs.Math.Bool.{or-false}
-use Rattle.pattern_core.specs.Track.{along, stays, goes_on}
+use Rattle.pattern_core.proofs.Common.{along, ap, ap₂, goes_on, or-false, stays, sym, ◌&&◌, ◌||◌, ◌∙◌}
 use Rattle.pattern_core.proofs.Words.{led_words}
 use Rattle.pattern_core.proofs.table.ways_of.Goals as goal
 
 pub returns-clause-white : goal.returns-clause-white
 unfolding stays goes_on
 returns-clause-white g c = λ p lt. c.either.ensures p ∙ ap₂ (λ m n. m || n) (c.both-2.ensures p) (c.on-next.ensures.within p lt)
-    ∙ led_words (along g.P.Slots.has c.args.steps) 1 (g.P.Slots.has c.args.reached) (g.P.Slots.has c.both.result) p
-    (λ q. c.both.ensures q ∙ ap (λ w. w && g.P.Slots.has c.args.reached q) (sym (or-false (g.P.Slots.has c.args.steps.white q))))
+    ∙ led_words (along g.P.Slots.has c.args.steps) 1 _ _ p
+    (λ q. c.both.ensures q ∙ ap (λ w. w && g.P.Slots.has c.args.reached q) (sym (or-false _)))
 
 pub returns-clause-black : goal.returns-clause-black
 unfolding stays goes_on
 returns-clause-black g c = λ p lt. c.on.ensures.within p lt
-    ∙ led_words (along g.P.Slots.has c.args.steps) 2 (g.P.Slots.has c.args.reached) (g.P.Slots.has c.both-3.result) p c.both-3.ensures
+    ∙ led_words (along g.P.Slots.has c.args.steps) 2 _ _ p c.both-3.ensures

@@ -1,8 +1,4 @@
-use Rattle.std.proofs.Common.{◌≤◌, get_or, ap, arith, inl, inr}
-use Rattle.std.proofs.lemmas.Bool.{cases_eq}
-use Rattle.std.proofs.lemmas.Grind.{common_steps}
-use Rattle.std.proofs.lemmas.List.{drop_more}
-use Rattle.gameid_core.specs.Puzzles.{used}
+use Rattle.pattern_core.proofs.Common.{ap, arith, cases_eq, common_steps, drop_more, get_or, inl, inr, used, ◌≤◌}
 use Rattle.pattern_core.proofs.Fresh.{roomy}
 use Rattle.pattern_core.proofs.track.measured.Goals as goal
 
@@ -17,9 +13,9 @@ loop-k-preserved c =
     let above : c.loop-k.longest ≤ c.max-longest.result = grind (arith, common_steps) in
     let here : get_or c.args.numbers.now c.loop-k.k 0 ≤ c.max-longest.result = grind (arith, common_steps) in (
       omega (arith, next, c.loop-k.invariant.0, c.from.ensures),
-      λ j lt. elim (cases_eq j c.loop-k.k) [
+      λ j lt. elim (cases_eq j _) [
         | inl e ↦ rw e here
-        | inr ne ↦ let z = c.loop-k.invariant.1 j (omega arith) in omega arith
+        | inr ne ↦ omega (arith, c.loop-k.invariant.1 j (omega arith))
       ],
       omega arith,
     )

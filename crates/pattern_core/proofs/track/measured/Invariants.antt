@@ -1,5 +1,4 @@
-use Rattle.std.proofs.Common.{◌≡◌, ℕ, ◌+◌, ◌<◌, ◌≤◌, get_or, drop}
-use Rattle.gameid_core.specs.Puzzles.{used}
+use Rattle.pattern_core.proofs.Common.{drop, get_or, used, ℕ, ◌+◌, ◌<◌, ◌≡◌, ◌≤◌}
 use Rattle.pattern_core.proofs.track.measured.Given as goal
 
 abbrev pub invariant-loop-k : goal.invariant-loop-k

@@ -1,4 +1,4 @@
-use Rattle.std.proofs.Common.{arith}
+use Rattle.pattern_core.proofs.Common.{arith}
 use Rattle.pattern_core.proofs.Spellings.{spelling_black}
 use Rattle.pattern_core.proofs.track.push_black.Goals as goal
 

@@ -1,5 +1,4 @@
-use Rattle.std.proofs.Common.{ℕ, suc, List, ◌++◌, ◌+◌, ◌<◌, length, replicate}
-use Rattle.pattern_core.specs.Track.{Spells}
+use Rattle.pattern_core.proofs.Common.{List, Spells, length, replicate, suc, ℕ, ◌++◌, ◌+◌, ◌<◌}
 use Rattle.pattern_core.proofs.track.push_run.Given as goal
 
 abbrev pub invariant-loop-k : goal.invariant-loop-k

@@ -1,6 +1,4 @@
-use Rattle.std.proofs.Common.{◌∙◌, ◌++◌, [], refl, sym, ap, arith, append-nil, subst}
-use Rattle.std.proofs.lemmas.List.{drop_all}
-use Rattle.pattern_core.specs.Track.{spelled, Spells}
+use Rattle.pattern_core.proofs.Common.{Spells, [], ap, append-nil, arith, drop_all, refl, spelled, subst, sym, ◌++◌, ◌∙◌}
 use Rattle.pattern_core.proofs.SpelledRuns.{length-spelled}
 use Rattle.pattern_core.proofs.Spellings.{spelling_none, next_run, run_fits, track_spelled}
 use Rattle.pattern_core.proofs.track.spell.Goals as goal
@@ -12,14 +10,14 @@ loop-k-init g c = ([], refl, spelling_none _ c.none.ensures c.none-2.ensures c.f
 pub loop-k-preserved : goal.loop-k-preserved
 loop-k-preserved g c =
     let (front, so_far, spells) = c.loop-k.invariant in
-    let low = run_fits front c.args.clue.now c.loop-k.k c.loop-k-test.true so_far in
-    (_, next_run front c.args.clue.now c.loop-k.k c.loop-k-test.true so_far, c.push_run-cells.ensures front (omega (arith, low, c.requires)) spells)
+    let low = run_fits front _ _ c.loop-k-test.true so_far in
+    (_, next_run front _ _ c.loop-k-test.true so_far, c.push_run-cells.ensures front (omega (arith, low, c.requires)) spells)
 
 pub returns : goal.returns
 unfolding spelled
 returns g c =
     let (front, so_far, spells) = c.loop-k.invariant in
     let all = sym (append-nil front) ∙ ap (λ l. front ++ spelled l) (sym (drop_all c.loop-k.k c.args.clue.now c.loop-k-test.false)) ∙ so_far in
-    track_spelled _ _ _ _ _ (omega (arith, c.requires, length-spelled c.args.clue.now))
+    track_spelled (omega (arith, c.requires, length-spelled c.args.clue.now))
     (subst (λ l. Spells g.P.Slots.has l c.loop-k.cells) all spells) c.on.ensures.within c.on.ensures.past c.first-2.ensures c.either.ensures c.back.ensures
     c.either-2.ensures

@@ -1,5 +1,4 @@
-use Rattle.std.proofs.Common.{◌≡◌, ℕ, List, ◌++◌, drop}
-use Rattle.pattern_core.specs.Track.{spelled, Spells}
+use Rattle.pattern_core.proofs.Common.{List, Spells, drop, spelled, ℕ, ◌++◌, ◌≡◌}
 use Rattle.pattern_core.proofs.track.spell.Given as goal
 
 abbrev pub invariant-loop-k : goal.invariant-loop-k

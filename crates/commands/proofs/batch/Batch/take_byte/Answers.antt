@@ -1,6 +1,4 @@
-use Rattle.std.proofs.Common.{◌∷◌, [], refl}
-use Rattle.std.proofs.lemmas.Bool.{ne_eqb}
-use Rattle.commands.specs.Batches.{AllowsTask}
+use Rattle.commands.proofs.Common.{[], ne_eqb, refl, ◌∷◌}
 use Rattle.commands.proofs.BatchLemmas.{on_any_err, step_in_line, step_stopped}
 use Rattle.commands.proofs.batch.Batch.take_byte.Goals as goal
 
@@ -12,9 +10,9 @@ returns-then-byte-eq10-clause-stopped g c = rw c.if-byte-eq10.true c.answer_line
 
 pub returns-in_err-push-clause-stopped : goal.returns-in_err-push-clause-stopped
 returns-in_err-push-clause-stopped g c = on_any_err c.from_residual.result (λ answers start seen b.
-    step_stopped (AllowsTask c.args.task) g.met.O.Sink.takes_nothing g.met.O.Sink.takes_both answers (c.args.byte ∷ []) b)
+    step_stopped answers (c.args.byte ∷ []) b)
 
 pub returns-clause-goes_on : goal.returns-clause-goes_on
 returns-clause-goes_on g c =
-    λ start seen b. step_in_line (AllowsTask c.args.task) g.met.O.Sink.takes_nothing g.met.O.Sink.takes_both seen c.args.byte
+    λ start seen b. step_in_line seen c.args.byte
     (ne_eqb c.args.byte 10 c.if-byte-eq10.false) b c.in_ok-push.ensures refl

@@ -1,6 +1,4 @@
-use Rattle.std.proofs.Common.{◌++◌, List, ℕ, drop, subst, take, ◌+◌}
-use Rattle.commands.specs.Batches.{Batched, AllowsTask}
-use Rattle.commands.specs.Each.{Stopped}
+use Rattle.commands.proofs.Common.{AllowsTask, Batched, List, Stopped, drop, subst, take, ℕ, ◌++◌, ◌+◌}
 use Rattle.commands.proofs.BatchLemmas.{on_any_err, one_further, stopped_further, to_the_end}
 use Rattle.commands.proofs.batch.Batch.take_chunk.Goals as goal
 

@@ -1,5 +1,4 @@
-use Rattle.std.proofs.Common.{◌≡◌, ◌++◌, List, ℕ, take, false}
-use Rattle.commands.specs.Batches.{Batched, AllowsTask}
+use Rattle.commands.proofs.Common.{AllowsTask, Batched, List, false, take, ℕ, ◌++◌, ◌≡◌}
 use Rattle.commands.proofs.batch.Batch.take_chunk.Given as goal
 
 abbrev pub invariant-loop-byte : goal.invariant-loop-byte

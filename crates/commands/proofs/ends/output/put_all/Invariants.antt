@@ -1,5 +1,4 @@
-use Rattle.std.proofs.Common.{◌≡◌, length, false}
-use Rattle.commands.specs.Answers.{PutUpTo}
+use Rattle.commands.proofs.Common.{PutUpTo, false, length, ◌≡◌}
 use Rattle.commands.proofs.ends.output.put_all.Given as goal
 
 abbrev pub invariant-loop-rest : goal.invariant-loop-rest

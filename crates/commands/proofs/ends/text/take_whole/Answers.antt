@@ -1,4 +1,4 @@
-use Rattle.std.proofs.Common.{ℕ, subst, take}
+use Rattle.commands.proofs.Common.{subst, take, ℕ}
 use Rattle.commands.proofs.BatchLemmas.{given_no_more}
 use Rattle.commands.proofs.ends.text.take_whole.Goals as goal
 

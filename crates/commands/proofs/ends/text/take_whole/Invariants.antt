@@ -1,5 +1,4 @@
-use Rattle.std.proofs.Common.{◌≡◌, length, false}
-use Rattle.commands.specs.Texts.{Given, IsKept}
+use Rattle.commands.proofs.Common.{Given, IsKept, false, length, ◌≡◌}
 use Rattle.commands.proofs.ends.text.take_whole.Given as goal
 
 abbrev pub invariant-loop-turn : goal.invariant-loop-turn

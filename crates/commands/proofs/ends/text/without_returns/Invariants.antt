@@ -1,5 +1,4 @@
-use Rattle.std.proofs.Common.{◌≡◌, ◌++◌, length}
-use Rattle.commands.specs.CheckAnswers.{without_returns}
+use Rattle.commands.proofs.Common.{length, without_returns, ◌++◌, ◌≡◌}
 use Rattle.commands.proofs.ends.text.without_returns.Given as goal
 
 abbrev pub invariant-loop-byte : goal.invariant-loop-byte

@@ -1,6 +1,4 @@
-use Rattle.commands.specs.Common.{IsSoloSolution}
-use Rattle.commands.specs.declared.grade.RuleSet.TheVariants.{Crossings}
-use Rattle.commands.specs.SoloFacts.{solo_facts}
+use Rattle.commands.proofs.Common.{Crossings, IsSoloSolution, solo_facts}
 use Rattle.commands.proofs.GradeLemmas.{accepted_by, said_by, crossings_named, named}
 use Rattle.commands.proofs.SearchedPuzzles.{solo_accepted}
 use Rattle.commands.proofs.games.solo.say_by_crossings.Goals as goal

@@ -1,8 +1,6 @@
-use Rattle.std.proofs.Common.{[], refl, rules, sym}
-use Rattle.commands.specs.SoloFacts.{after_houses, solo_facts}
-use Rattle.commands.specs.declared.grade.RuleSet.TheVariants.{Houses}
+use Rattle.commands.proofs.Common.{Houses, [], after_houses, rules, solo_facts, sym}
 use Rattle.commands.proofs.GradeLemmas.{said_first, said_later, houses_named, named}
-use Rattle.commands.proofs.SearchedPuzzles.{solo_accepted}
+use Rattle.commands.proofs.SearchedPuzzles.{solo_searched}
 use Rattle.commands.proofs.RunLemmas.{says_nothing}
 use Rattle.commands.proofs.games.solo.say_by_houses.Goals as goal
 
@@ -17,7 +15,7 @@ returns-then-settles-clause-answer g c =
     let p = c.args.puzzle.now in
     let ok = c.in_ok-houses.ensures.known in
     said_first solo_facts p c.args.options.budget c.args.options.traced g.O.Sink.takes _ _ _ Houses (after_houses p) c.in_ok-houses.ensures.rules
-    (sym c.if-settles.ensures.settled) (solo_accepted ok _ _) (c.if-settles.ensures.one refl) c.say.ensures.answer
+    (sym c.if-settles.ensures.settled) (solo_searched ok) c.say.ensures.answer
 
 pub returns-clause-answer : goal.returns-clause-answer
 returns-clause-answer g c =

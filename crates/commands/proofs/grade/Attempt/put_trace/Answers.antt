@@ -1,8 +1,5 @@
-use Rattle.std.proofs.Common.{◌≡◌, ◌∙◌, [], ap, false, refl, rules, sym, true}
-use Rattle.std.proofs.lemmas.Bool.{not-false, not-true}
-use Rattle.std.proofs.lemmas.Result.{on_err_weaker, on_ok_weaker}
+use Rattle.commands.proofs.Common.{[], ap, false, not-false, not-true, on_err_weaker, on_ok_weaker, refl, rules, sweeps_text, sym, true, visits_text, ◌∙◌, ◌≡◌}
 use Rattle.engine_core.specs.Mode.{is_queue}
-use Rattle.commands.specs.Traces.{sweeps_text, visits_text}
 use Rattle.commands.proofs.BatchLemmas.{on_any_err}
 use Rattle.commands.proofs.GradeLemmas.{is_traced, untraced}
 use Rattle.commands.proofs.grade.Attempt.put_trace.Goals as goal

@@ -1,4 +1,4 @@
-use Rattle.std.proofs.Common.{rules}
+use Rattle.commands.proofs.Common.{rules}
 use Rattle.commands.proofs.GradeLemmas.{said_last}
 use Rattle.commands.proofs.RunLemmas.{says_nothing}
 use Rattle.commands.proofs.grade.Attempt.say_by.Goals as goal

@@ -1,4 +1,4 @@
-use Rattle.std.proofs.Common.{◌∙◌}
+use Rattle.commands.proofs.Common.{◌∙◌}
 use Rattle.commands.proofs.GradeLemmas.{right_by}
 use Rattle.commands.proofs.grade.grading.search_grade.Goals as goal
 

@@ -1,8 +1,5 @@
-use Rattle.std.proofs.Common.{◌≡◌, ◌∙◌, ap}
-use Rattle.engine_core.specs.Verdict.{trials_in}
-use Rattle.engine_core.specs.Walk.{walk}
+use Rattle.commands.proofs.Common.{BySearch, ap, trials_in, walk, ◌∙◌, ◌≡◌}
 use Rattle.commands.proofs.GradeLemmas.{grade_is, spent_whole}
-use Rattle.commands.specs.declared.grade.Grade.TheVariants.{BySearch}
 use Rattle.commands.proofs.grade.grading.searched.Goals as goal
 
 pub returns-in-None-clause-grade : goal.returns-in-None-clause-grade

@@ -1,8 +1,4 @@
-use Rattle.std.proofs.Common.{◌≡◌, ◌++◌, ◌+◌, ◌<◌, false, string_bytes, string_len, slice_index}
-use Rattle.commands.specs.Answers.{PutUpTo}
-use Rattle.gameid_core.specs.GridTexts.{each_below}
-use Rattle.commands.specs.Traces.{line_of}
-use Rattle.commands.specs.TracePieces.{PutInPieces}
+use Rattle.commands.proofs.Common.{PutInPieces, PutUpTo, each_below, false, line_of, slice_index, string_bytes, string_len, ◌++◌, ◌+◌, ◌<◌, ◌≡◌}
 use Rattle.commands.specs.declared.grade.trace.TheConstants.{PIECE, LINE}
 use Rattle.commands.proofs.grade.trace.put_visits.Given as goal
 

@@ -1,5 +1,4 @@
-use Rattle.core_tests.proofs.Common.{and_from, any_below, any_below-here, any_below-some, arith, eqb, false_from_ne_true, has_bit, ne_eqb, not}
-use Rattle.core_tests.proofs.Common.{not_from_false, sym, true≢false, ◌&&◌, ◌∙◌}
+use Rattle.core_tests.proofs.Common.{and_from, any_below, any_below-here, any_below-some, arith, eqb, false_from_ne_true, has_bit, ne_eqb, not, not_from_false, sym, true≢false, ◌&&◌, ◌∙◌}
 use Rattle.core_tests.proofs.engine.neighbours.has_other.Goals as goal
 
 pub returns-then-has_bit : goal.returns-then-has_bit

@@ -32,6 +32,6 @@ pub returns : goal.returns
 returns g c =
     let all : c.loop-k.k ≡ length ((g.R.Rules.system c.args.rules.now).scope c.args.house) = omega (arith, c.requires.long) in
     record {
-      called = λ K are inside. (rw all at (c.loop-k.invariant K are inside)).called;
+      woken = λ K are inside. (rw all at (c.loop-k.invariant K are inside)).woken;
       dead = λ K are inside. (rw all at (c.loop-k.invariant K are inside)).dead_is;
     }

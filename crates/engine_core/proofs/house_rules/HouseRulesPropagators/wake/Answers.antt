@@ -28,5 +28,5 @@ returns g c =
     let p = g.S.RuleSet.system puzzle in
     let all = housed-all c.args.self.now.listed (g.met.S.RuleSet.scopes_are puzzle) c.args.place _ c.houses_at-houses.ensures in
     record {
-      called = λ K follows. upto-all c.loop-k.k (omega (arith, all)) (c.loop-k.invariant K follows);
+      woken = λ K follows. upto-all c.loop-k.k (omega (arith, all)) (c.loop-k.invariant K follows);
     }

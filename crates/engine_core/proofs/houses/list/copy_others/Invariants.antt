@@ -1,5 +1,4 @@
-use Rattle.engine_core.proofs.Common.{between, eqb, not, ◌++◌, ◌≡◌}
-use Rattle.std.specs.List.{filter}
+use Rattle.engine_core.proofs.Common.{between, eqb, filter, not, ◌++◌, ◌≡◌}
 use Rattle.engine_core.proofs.houses.list.copy_others.Given as goal
 
 abbrev pub invariant-loop-k : goal.invariant-loop-k

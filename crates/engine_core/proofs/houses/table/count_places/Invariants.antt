@@ -1,5 +1,4 @@
-use Rattle.engine_core.proofs.Common.{eqb, length, slice_index, take, ℕ, ◌<◌, ◌≡◌}
-use Rattle.std.specs.List.{count_by}
+use Rattle.engine_core.proofs.Common.{count_by, eqb, length, slice_index, take, ℕ, ◌<◌, ◌≡◌}
 use Rattle.engine_core.proofs.houses.table.count_places.Given as goal
 
 abbrev pub invariant-loop-k : goal.invariant-loop-k

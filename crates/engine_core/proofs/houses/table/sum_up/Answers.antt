@@ -4,8 +4,4 @@ use Rattle.engine_core.proofs.houses.table.sum_up.Goals as goal
 
 pub overflow_add-sum : goal.overflow_add-sum
 overflow_add-sum c =
-    let l = c.loop-place in
-    let here = summed-sum c.loop-place-test.true l.invariant in
-    let all = sum_below-more (slice_index c.args.counts.now) (suc l.place) (length c.args.counts.now) c.loop-place-test.true in
-    let few = c.requires in
-    omega arith
+    let l = c.loop-place in omega (arith, summed-sum c.loop-place-test.true l.invariant, sum_below-more (slice_index c.args.counts.now) (suc l.place) (length c.args.counts.now) c.loop-place-test.true)

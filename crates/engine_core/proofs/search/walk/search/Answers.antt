@@ -18,7 +18,7 @@ made g c =
     searching-trial (g.P.Position.stands l.position) l.levels l.grids l.invariant.searching
     (g.P.Position.stands c.descend-at.new.position) c.descend-at.new.levels
     c.descend-at.new.grids c.in-Some.ensures.turn l.invariant.going
-    (let few = l.invariant.trials in omega (arith, c.if-trials-from.false)) d.turned (d.deepest ∙ c.max.ensures) d.marks
+    (omega (arith, c.if-trials-from.false, l.invariant.trials)) d.turned (d.deepest ∙ c.max.ensures) d.marks
 
 pub loop-levels-init : goal.loop-levels-init
 loop-levels-init g c = let first =

@@ -1,21 +1,21 @@
 use Rattle.engine_core.proofs.Common.{arith, change_at, has, has_place, ◌≡◌, ◌≤◌}
-use Rattle.engine_core.proofs.CallLemmas.{called-none}
-use Rattle.engine_core.proofs.LostLemmas.{since-called, since-first}
+use Rattle.engine_core.proofs.CallLemmas.{woken-by_none}
+use Rattle.engine_core.proofs.LostLemmas.{since-woken, since-first}
 use Rattle.engine_core.proofs.trail.agenda.wake_since.Goals as goal
 
 pub loop-number-init : goal.loop-number-init
 loop-number-init g c =
     let p = g.R.Rules.system c.args.rules.now in
     let t = c.args.trailed.now in
-    called-none (λ j lt. since-first (λ m. has_place (p.scope j) (change_at t.changes m).0) c.args.from)
+    woken-by_none (λ j lt. since-first (λ m. has_place (p.scope j) (change_at t.changes m).0) c.args.from)
 
 pub loop-number-preserved : goal.loop-number-preserved
 loop-number-preserved g c =
     let p = g.R.Rules.system c.args.rules.now in
     let t = c.args.trailed.now in
     let le : c.args.from ≤ c.loop-number.number = omega arith in
-    since-called p t le c.loop-number.invariant
-    (rw c.changed.ensures.place at (c.wake.ensures.called (has t.board) c.requires.follows))
+    since-woken p t le c.loop-number.invariant
+    (rw c.changed.ensures.place at (c.wake.ensures.woken (has t.board) c.requires.follows))
 
 pub returns : goal.returns
-returns g c = let all : c.loop-number.number ≡ c.args.trailed.now.len = omega arith in record { called = rw all at c.loop-number.invariant }
+returns g c = let all : c.loop-number.number ≡ c.args.trailed.now.len = omega arith in record { woken = rw all at c.loop-number.invariant }

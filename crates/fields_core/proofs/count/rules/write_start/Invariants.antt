@@ -1,4 +1,4 @@
-use Rattle.grid_core.specs.Board.{has, SameShape}
+use Rattle.fields_core.proofs.Common.{SameShape, has}
 use Rattle.fields_core.proofs.RuleLemmas.{IsStarted}
 use Rattle.fields_core.proofs.count.rules.write_start.Given as goal
 

@@ -1,6 +1,4 @@
-use Rattle.std.proofs.Common.{◌≡◌, ℕ, ◌<◌, length}
-use Rattle.engine_core.specs.HouseIndex.{scope_of}
-use Rattle.fields_core.specs.Tallies.{open_tally, tally_at}
+use Rattle.fields_core.proofs.Common.{length, open_tally, scope_of, tally_at, ℕ, ◌<◌, ◌≡◌}
 use Rattle.fields_core.proofs.count.tallies.count_open.Given as goal
 
 abbrev pub invariant-loop-house : goal.invariant-loop-house

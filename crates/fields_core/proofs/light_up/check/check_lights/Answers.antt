@@ -1,5 +1,4 @@
-use Rattle.gameid_core.proofs.FirstFailed.{none_exactly}
-use Rattle.fields_core.specs.LightFaults.{FailsLight, light_tests}
+use Rattle.fields_core.proofs.Common.{FailsLight, light_tests, none_exactly}
 use Rattle.fields_core.proofs.LightRuleLemmas.{light-none}
 use Rattle.fields_core.proofs.light_up.check.check_lights.Goals as goal
 

@@ -1,6 +1,4 @@
-use Rattle.std.proofs.Common.{[], ◌∷◌, arith, sym, ◌∙◌}
-use Rattle.gameid_core.proofs.FirstFailed.{first_in, none_right}
-use Rattle.fields_core.specs.LightFaults.{FailsLight}
+use Rattle.fields_core.proofs.Common.{FailsLight, [], arith, first_in, none_right, sym, ◌∙◌, ◌∷◌}
 use Rattle.fields_core.proofs.LightRuleLemmas.{black, dark, kinds, light-made, light-sound, number, seen}
 use Rattle.fields_core.proofs.light_up.check.find_fault.Goals as goal
 

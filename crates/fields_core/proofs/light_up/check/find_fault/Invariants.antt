@@ -1,5 +1,4 @@
-use Rattle.std.proofs.Common.{◌≡◌, ℕ, ◌<◌, true}
-use Rattle.fields_core.specs.Light.{black_right, number_right, bulb_right, lit_right}
+use Rattle.fields_core.proofs.Common.{black_right, bulb_right, lit_right, number_right, true, ℕ, ◌<◌, ◌≡◌}
 use Rattle.fields_core.proofs.light_up.check.find_fault.Given as goal
 
 abbrev pub invariant-loop-place : goal.invariant-loop-place

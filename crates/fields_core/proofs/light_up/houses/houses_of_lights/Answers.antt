@@ -1,10 +1,4 @@
-use Rattle.std.proofs.Common.{[], ap, map, length, sym, arith}
-use Rattle.std.proofs.lemmas.List.{append-nil}
-use Rattle.engine_core.specs.HouseList.{Listed}
-use Rattle.fields_core.specs.CountHouse.{houses_below}
-use Rattle.fields_core.specs.CountLists.{house_places}
-use Rattle.fields_core.specs.Light.{light_cells}
-use Rattle.fields_core.specs.LightHouses.{row_run, column_run, begins_row_run, begins_column_run, number_house, row_house, column_house, light_houses}
+use Rattle.fields_core.proofs.Common.{Listed, [], ap, append-nil, arith, begins_column_run, begins_row_run, column_house, column_run, house_places, houses_below, length, light_cells, light_houses, map, number_house, row_house, row_run, sym}
 use Rattle.fields_core.proofs.CountListLemmas.{added-few, four-added, if-few}
 use Rattle.fields_core.proofs.LightCounting.{light-counting, number-one}
 use Rattle.fields_core.proofs.LightLatest.{runs-added}
@@ -25,14 +19,14 @@ push_lits-requires-clause-columns c =
 pub push_numbers-requires-clause-fits : goal.push_numbers-requires-clause-fits
 push_numbers-requires-clause-fits c =
     let p = c.args.puzzle.now in
-    let few = (light-counting c.cells-cells.ensures.lawful).few_cells in
+    let few = (light-counting c.of-sizes.ensures).few_cells in
     let none = ap (λ (list : Listed). length list.closed) c.in_ok-houses.ensures.none in
     omega arith
 
 pub push_rows-requires-clause-fits : goal.push_rows-requires-clause-fits
 push_rows-requires-clause-fits c =
     let p = c.args.puzzle.now in
-    let few = (light-counting c.cells-cells.ensures.lawful).few_cells in
+    let few = (light-counting c.of-sizes.ensures).few_cells in
     let none = ap (λ (list : Listed). length list.closed) c.in_ok-houses.ensures.none in
     let numbers = added-few (number_house p) _ c.in_ok-push_numbers.ensures (number-one p) in
     omega arith
@@ -40,7 +34,7 @@ push_rows-requires-clause-fits c =
 pub push_columns-requires-clause-fits : goal.push_columns-requires-clause-fits
 push_columns-requires-clause-fits c =
     let p = c.args.puzzle.now in
-    let few = (light-counting c.cells-cells.ensures.lawful).few_cells in
+    let few = (light-counting c.of-sizes.ensures).few_cells in
     let none = ap (λ (list : Listed). length list.closed) c.in_ok-houses.ensures.none in
     let numbers = added-few (number_house p) _ c.in_ok-push_numbers.ensures (number-one p) in
     let rows = added-few (row_house p) _ c.in_ok-push_rows.ensures (λ d. if-few (begins_row_run p d) _) in
@@ -49,7 +43,7 @@ push_columns-requires-clause-fits c =
 pub push_lits-requires-clause-fits : goal.push_lits-requires-clause-fits
 push_lits-requires-clause-fits c =
     let p = c.args.puzzle.now in
-    let few = (light-counting c.cells-cells.ensures.lawful).few_cells in
+    let few = (light-counting c.of-sizes.ensures).few_cells in
     let none = ap (λ (list : Listed). length list.closed) c.in_ok-houses.ensures.none in
     let numbers = added-few (number_house p) _ c.in_ok-push_numbers.ensures (number-one p) in
     let rows = added-few (row_house p) _ c.in_ok-push_rows.ensures (λ d. if-few (begins_row_run p d) _) in

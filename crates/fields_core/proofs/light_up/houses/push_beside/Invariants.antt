@@ -1,7 +1,4 @@
-use Rattle.std.specs.List.{filter}
-use Rattle.grid_core.specs.Regions.{steps}
-use Rattle.fields_core.specs.CountLists.{IsBegun}
-use Rattle.fields_core.specs.Light.{white}
+use Rattle.fields_core.proofs.Common.{IsBegun, filter, steps, white}
 use Rattle.fields_core.proofs.light_up.houses.push_beside.Given as goal
 
 abbrev pub invariant-loop-direction : goal.invariant-loop-direction

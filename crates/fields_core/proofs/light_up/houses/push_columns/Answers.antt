@@ -1,5 +1,4 @@
-use Rattle.std.proofs.Common.{arith}
-use Rattle.fields_core.specs.LightHouses.{begins_column_run, column_house}
+use Rattle.fields_core.proofs.Common.{arith, begins_column_run, column_house}
 use Rattle.fields_core.proofs.CountListLemmas.{added-fits, if-few}
 use Rattle.fields_core.proofs.light_up.houses.push_columns.Goals as goal
 

@@ -1,6 +1,4 @@
-use Rattle.fields_core.specs.CountHouse.{houses_below}
-use Rattle.fields_core.specs.CountLists.{IsAdded}
-use Rattle.fields_core.specs.LightHouses.{column_house}
+use Rattle.fields_core.proofs.Common.{IsAdded, column_house, houses_below}
 use Rattle.fields_core.proofs.light_up.houses.push_columns.Given as goal
 
 abbrev pub invariant-loop-place : goal.invariant-loop-place

@@ -1,5 +1,4 @@
-use Rattle.std.proofs.Common.{arith}
-use Rattle.fields_core.specs.LightHouses.{number_house}
+use Rattle.fields_core.proofs.Common.{arith, number_house}
 use Rattle.fields_core.proofs.CountListLemmas.{added-fits}
 use Rattle.fields_core.proofs.LightCounting.{number-one}
 use Rattle.fields_core.proofs.light_up.houses.push_numbers.Goals as goal

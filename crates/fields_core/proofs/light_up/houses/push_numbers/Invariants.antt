@@ -1,6 +1,4 @@
-use Rattle.fields_core.specs.CountHouse.{houses_below}
-use Rattle.fields_core.specs.CountLists.{IsAdded}
-use Rattle.fields_core.specs.LightHouses.{number_house}
+use Rattle.fields_core.proofs.Common.{IsAdded, houses_below, number_house}
 use Rattle.fields_core.proofs.light_up.houses.push_numbers.Given as goal
 
 abbrev pub invariant-loop-place : goal.invariant-loop-place

@@ -1,9 +1,8 @@
-use Rattle.std.proofs.Common.{arith}
-use Rattle.fields_core.specs.LightHouses.{begins_row_run, row_house}
+use Rattle.fields_core.proofs.Common.{arith, begins_row_run, row_house}
 use Rattle.fields_core.proofs.CountListLemmas.{added-fits, if-few}
 use Rattle.fields_core.proofs.light_up.houses.push_rows.Goals as goal
 
 pub push_row-requires-clause-fits : goal.push_row-requires-clause-fits
 push_row-requires-clause-fits c =
     let p = c.args.puzzle.now in
-    added-fits (row_house p) c.loop-place.invariant.added (λ d. if-few (begins_row_run p d) _) (omega arith) c.requires.fits
+    added-fits (row_house p) c.loop-place.invariant.added (λ d. if-few _ _) (omega arith) c.requires.fits

@@ -1,7 +1,4 @@
-use Rattle.std.proofs.Common.{◌≡◌, ◌%◌}
-use Rattle.fields_core.specs.CountHouse.{houses_below}
-use Rattle.fields_core.specs.CountLists.{IsAdded}
-use Rattle.fields_core.specs.LightHouses.{row_house}
+use Rattle.fields_core.proofs.Common.{IsAdded, houses_below, row_house, ◌%◌, ◌≡◌}
 use Rattle.fields_core.proofs.light_up.houses.push_rows.Given as goal
 
 abbrev pub invariant-loop-place : goal.invariant-loop-place

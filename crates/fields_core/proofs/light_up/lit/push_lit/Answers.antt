@@ -1,4 +1,4 @@
-use Rattle.std.proofs.Common.{arith}
+use Rattle.fields_core.proofs.Common.{arith}
 use Rattle.fields_core.proofs.light_up.lit.push_lit.Goals as goal
 
 pub push_house-requires-clause-fits : goal.push_house-requires-clause-fits

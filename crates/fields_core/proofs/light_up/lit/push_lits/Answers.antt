@@ -1,6 +1,4 @@
-use Rattle.std.proofs.Common.{◌≡◌, ◌<◌, true, false, sym, ◌∙◌, arith}
-use Rattle.fields_core.specs.Light.{white}
-use Rattle.fields_core.specs.LightHouses.{lit_house}
+use Rattle.fields_core.proofs.Common.{arith, false, lit_house, sym, true, white, ◌<◌, ◌∙◌, ◌≡◌}
 use Rattle.fields_core.proofs.CountListLemmas.{added-fits, if-few}
 use Rattle.fields_core.proofs.LightLatest.{added-next, rows-few, rows-same, row-at, columns-few, columns-same, column-at, lit-added, lit-none}
 use Rattle.fields_core.proofs.HouseLists.{column-black, row-black}
@@ -22,13 +20,13 @@ pass-requires-then-is_white-clause-few c =
 pub push_lit-requires-clause-row_in : goal.push_lit-requires-clause-row_in
 push_lit-requires-clause-row_in c =
     (row-at _ c.loop-place.place c.loop-place.invariant.added.closed
-    (sym c.is_white.ensures ∙ c.if-is_white.true) (c.pass.ensures c.args.houses.now.list.closed c.args.rows c.requires.rows c.loop-place.invariant.row)).within
+    (sym c.is_white.ensures.value ∙ c.if-is_white.true) (c.pass.ensures c.args.houses.now.list.closed c.args.rows c.requires.rows c.loop-place.invariant.row)).within
 
 pub push_lit-requires-clause-column_in : goal.push_lit-requires-clause-column_in
 push_lit-requires-clause-column_in c =
     (column-at _ c.loop-place.place
     c.loop-place.invariant.added.closed (omega (arith, c.cells-place-end.ensures.lawful.size.w_two))
-    (sym c.is_white.ensures ∙ c.if-is_white.true) c.loop-place.invariant.x
+    (sym c.is_white.ensures.value ∙ c.if-is_white.true) c.loop-place.invariant.x
     (c.pass-then-is_white.ensures c.args.houses.now.list.closed c.args.columns c.requires.columns c.loop-place.invariant.column)).within
 
 pub push_lit-requires-clause-few : goal.push_lit-requires-clause-few
@@ -37,7 +35,7 @@ push_lit-requires-clause-few c =
     let lists = c.args.houses.now.list.closed in
     let l = c.loop-place in
     let board = light-board c.cells-place-end.ensures.lawful in
-    let on = sym c.is_white.ensures ∙ c.if-is_white.true in
+    let on = sym c.is_white.ensures.value ∙ c.if-is_white.true in
     let row = row-at _ l.place l.invariant.added.closed on (c.pass.ensures lists c.args.rows c.requires.rows l.invariant.row) in
     let column =
     column-at _ l.place l.invariant.added.closed board.some on l.invariant.x
@@ -58,7 +56,7 @@ loop-place-preserved c =
     let some : 0 < c.args.puzzle.now.size.w = omega (arith, c.cells-place-end.ensures.lawful.size.w_two) in
     elim c.if-is_white.branch [
       | then-is_white+in_ok-push_lit w ↦
-          let on : white c.args.puzzle.now c.loop-place.place ≡ true = sym c.is_white.ensures ∙ w.if-is_white.true in
+          let on : white c.args.puzzle.now c.loop-place.place ≡ true = sym c.is_white.ensures.value ∙ w.if-is_white.true in
           let row = w.pass.ensures lists c.args.rows c.requires.rows i.row in
           let column = w.pass-then-is_white.ensures lists c.args.columns c.requires.columns i.column in
           let row_there = row-at _ l.place i.added.closed on row in
@@ -70,7 +68,7 @@ loop-place-preserved c =
             x = c.next_column-x.ensures l.place i.x;
           })
       | else-is_white w ↦
-          let off : white c.args.puzzle.now c.loop-place.place ≡ false = sym c.is_white.ensures ∙ w.if-is_white.false in
+          let off : white c.args.puzzle.now c.loop-place.place ≡ false = sym c.is_white.ensures.value ∙ w.if-is_white.false in
           rw (w.houses-is, w.row-is, w.column-is) (record {
             added = added-next (lit_house p) l.place i.added (lit-none p l.place i.added.begun off);
             row = rows-same p lists c.args.rows _ _ l.place some (sym (row-black p l.place (sym off))) i.row;

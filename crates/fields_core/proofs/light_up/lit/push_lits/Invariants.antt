@@ -1,8 +1,4 @@
-use Rattle.std.proofs.Common.{◌≡◌, ◌%◌}
-use Rattle.fields_core.specs.CountHouse.{houses_below}
-use Rattle.fields_core.specs.CountLists.{IsAdded}
-use Rattle.fields_core.specs.LightHouses.{lit_house}
-use Rattle.fields_core.specs.LightRuns.{IsRowsAt, IsColumnsAt}
+use Rattle.fields_core.proofs.Common.{IsAdded, IsColumnsAt, IsRowsAt, houses_below, lit_house, ◌%◌, ◌≡◌}
 use Rattle.fields_core.proofs.light_up.lit.push_lits.Given as goal
 
 abbrev pub invariant-loop-place : goal.invariant-loop-place

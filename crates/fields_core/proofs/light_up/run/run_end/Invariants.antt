@@ -1,5 +1,4 @@
-use Rattle.std.proofs.Common.{◌≡◌, ℕ, ◌+◌, ◌*◌, ◌<◌, true}
-use Rattle.fields_core.specs.Light.{white}
+use Rattle.fields_core.proofs.Common.{true, white, ℕ, ◌*◌, ◌+◌, ◌<◌, ◌≡◌}
 use Rattle.fields_core.proofs.light_up.run.run_end.Given as goal
 
 abbrev pub invariant-loop-after : goal.invariant-loop-after

@@ -1,4 +1,4 @@
-use Rattle.std.proofs.Common.{◌∙◌}
+use Rattle.fields_core.proofs.Common.{◌∙◌}
 use Rattle.fields_core.proofs.LightSight.{some-column}
 use Rattle.fields_core.proofs.RunLemmas.{column-begun, column-run-is}
 use Rattle.fields_core.proofs.light_up.run.run_in_column.Goals as goal

@@ -1,4 +1,4 @@
-use Rattle.std.proofs.Common.{◌∙◌}
+use Rattle.fields_core.proofs.Common.{◌∙◌}
 use Rattle.fields_core.proofs.RunLemmas.{row-begun, row-run-is}
 use Rattle.fields_core.proofs.light_up.run.run_in_row.Goals as goal
 

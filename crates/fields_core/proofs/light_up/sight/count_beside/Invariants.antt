@@ -1,6 +1,5 @@
-use Rattle.std.proofs.Common.{◌≡◌, ◌≤◌, count_by}
-use Rattle.grid_core.specs.Regions.{steps}
-use Rattle.fields_core.specs.Light.{bulb}
+use Rattle.fields_core.proofs.Common.{bulb, steps, ◌≡◌, ◌≤◌}
+use Rattle.std.proofs.Common.{count_by}
 use Rattle.fields_core.proofs.light_up.sight.count_beside.Given as goal
 
 abbrev pub invariant-loop-direction : goal.invariant-loop-direction

@@ -1,5 +1,5 @@
 use Rattle.fields_core.proofs.LightSeen.{column-sees}
-use Rattle.std.proofs.Common.{arith}
+use Rattle.fields_core.proofs.Common.{arith}
 use Rattle.fields_core.proofs.light_up.sight.sees_in_column.Goals as goal
 
 pub returns : goal.returns

@@ -1,5 +1,5 @@
 use Rattle.fields_core.proofs.LightSeen.{row-sees}
-use Rattle.std.proofs.Common.{arith}
+use Rattle.fields_core.proofs.Common.{arith}
 use Rattle.fields_core.proofs.light_up.sight.sees_in_row.Goals as goal
 
 pub returns : goal.returns

@@ -1,5 +1,4 @@
-use Rattle.std.proofs.Common.{◌≡◌, ℕ, ◌+◌, ◌*◌, ◌<◌, ◌≤◌, true, false}
-use Rattle.fields_core.specs.Light.{white, bulb}
+use Rattle.fields_core.proofs.Common.{bulb, false, true, white, ℕ, ◌*◌, ◌+◌, ◌<◌, ◌≡◌, ◌≤◌}
 use Rattle.fields_core.proofs.light_up.sight.shines.Given as goal
 
 abbrev pub invariant-loop-next : goal.invariant-loop-next

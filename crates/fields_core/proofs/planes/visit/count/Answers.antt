@@ -1,9 +1,5 @@
-use Rattle.std.proofs.Common.{arith, refl, sym, subst, ◌≡◌, ◌∙◌, ◌+◌, length}
-use Rattle.std.proofs.lemmas.Bool.{and_parts}
-use Rattle.grid_core.specs.Candidates.{count_below}
-use Rattle.grid_core.specs.Words.{has_bit}
+use Rattle.fields_core.proofs.Common.{IsCount, and_parts, arith, count_below, has_bit, length, refl, subst, sym, ◌+◌, ◌∙◌, ◌≡◌}
 use Rattle.grid_core.proofs.LineLemmas.{few_cells}
-use Rattle.fields_core.specs.Parts.{IsCount}
 use Rattle.fields_core.proofs.PartLemmas.{counted-first, counted-next, counted-small, line_in}
 use Rattle.fields_core.proofs.planes.visit.count.Goals as goal
 use Rattle.fields_core.proofs.planes.visit.count.Goals.{After-both-open}

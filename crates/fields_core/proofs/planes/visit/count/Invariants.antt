@@ -1,4 +1,4 @@
-use Rattle.fields_core.specs.Parts.{IsCount}
+use Rattle.fields_core.proofs.Common.{IsCount}
 use Rattle.fields_core.proofs.planes.visit.count.Given as goal
 
 abbrev pub invariant-loop-number : goal.invariant-loop-number

@@ -1,11 +1,10 @@
-use Rattle.std.proofs.Common.{refl, sym, ◌∙◌}
-use Rattle.grid_core.proofs.PlaneLemmas.{further-more, further-none}
+use Rattle.fields_core.proofs.Common.{further-more, further-none, refl, sym, ◌∙◌}
 use Rattle.fields_core.proofs.PartLemmas.{line_in, struck-more, struck-none}
 use Rattle.fields_core.proofs.planes.visit.strike.Goals as goal
 
 pub loop-number-init : goal.loop-number-init
 loop-number-init g c = record {
-  left = struck-none c.args.planes.now.size.w (g.P.Parts.pieces c.args.parts.now) c.args.value;
+  left = struck-none c.args.planes.now.size.w _ c.args.value;
   further = further-none c.args.planes.now;
 }
 

@@ -1,6 +1,5 @@
-use Rattle.std.proofs.Common.{◌≡◌}
-use Rattle.grid_core.specs.Planes.{has, IsFurther}
-use Rattle.fields_core.specs.Parts.{without_value}
+use Rattle.fields_core.proofs.Common.{IsFurther, without_value, ◌≡◌}
+use Rattle.grid_core.specs.Planes.{has}
 use Rattle.fields_core.proofs.planes.visit.strike.Given as goal
 
 abbrev pub invariant-loop-number : goal.invariant-loop-number

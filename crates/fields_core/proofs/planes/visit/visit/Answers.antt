@@ -1,4 +1,4 @@
-use Rattle.std.proofs.Common.{arith, ◌∙◌, inl, inr}
+use Rattle.fields_core.proofs.Common.{arith, inl, inr, ◌∙◌}
 use Rattle.fields_core.proofs.PartLemmas.{broken, counted-fewer, no-bound, none-undecided, one-bound, struck-alive, visited-idle, visited-struck, zero-bound}
 use Rattle.fields_core.proofs.planes.visit.visit.Goals as goal
 use Rattle.fields_core.proofs.planes.visit.visit.Goals.{then-may-least-via-then-may-least, then-may-least-via-else-may-least+then-most-must}
@@ -33,13 +33,13 @@ returns-then-must-most-clause-left g c = λ _ house of.
 
 pub returns-then-must-most-clause-alive : goal.returns-then-must-most-clause-alive
 returns-then-must-most-clause-alive g c =
-    struck-alive c.args.planes.now c.strike.new.planes (g.P.Parts.pieces c.args.parts.now) _ 1
+    struck-alive c.args.planes.now c.strike.new.planes _ _ 1
     c.strike.ensures.further.same_size (omega arith) c.requires.alive c.strike.ensures.left
 
 pub returns-then-may-least-2-clause-left : goal.returns-then-may-least-2-clause-left
 returns-then-may-least-2-clause-left g c = λ _ house of.
     c.strike-then-may-least-2.ensures.left
-    ∙ visited-struck c.args.planes.now (g.P.Parts.pieces c.args.parts.now) c.count-may.result.0
+    ∙ visited-struck c.args.planes.now _ c.count-may.result.0
     c.count-may.result.1 c.args.least c.args.most c.requires.alive c.count-may.ensures
     c.requires.order house of
     0 (omega arith) c.if-may-least.false c.if-most-must.false
@@ -48,7 +48,7 @@ returns-then-may-least-2-clause-left g c = λ _ house of.
 pub returns-then-may-least-2-clause-alive : goal.returns-then-may-least-2-clause-alive
 returns-then-may-least-2-clause-alive g c =
     struck-alive c.args.planes.now c.strike-then-may-least-2.new.planes
-    (g.P.Parts.pieces c.args.parts.now) _ 0 c.strike-then-may-least-2.ensures.further.same_size
+    _ _ 0 c.strike-then-may-least-2.ensures.further.same_size
     (omega arith) c.requires.alive
     c.strike-then-may-least-2.ensures.left
 
@@ -67,4 +67,4 @@ returns-else-undecided-gt0-clause-left g c = λ _ house of.
     c.requires.order house of
     c.if-may-least.false c.if-most-must.false
     (λ d v low. none-undecided d _ of
-    c.count-may.ensures (let none = c.if-undecided-gt0.false in omega arith))
+    c.count-may.ensures (omega (arith, c.if-undecided-gt0.false)))

@@ -1,10 +1,9 @@
-use Rattle.gameid_core.proofs.FirstFailed.{none_exactly}
-use Rattle.fields_core.specs.TentFaults.{FailsTents, tent_tests}
+use Rattle.fields_core.proofs.Common.{FailsTents, none_exactly, tent_tests}
 use Rattle.fields_core.proofs.TentRuleLemmas.{tents-none}
 use Rattle.fields_core.proofs.tents.check.check_tents.Goals as goal
 
 pub returns-clause-solution : goal.returns-clause-solution
 returns-clause-solution c =
-    none_exactly (FailsTents c.args.puzzle.now c.args.grid.now) (tent_tests c.args.puzzle.now)
+    none_exactly _ _
     (tents-none c.args.puzzle.now c.args.grid.now c.requires.fits) c.find_fault-fault.result
     c.find_fault-fault.ensures.fault

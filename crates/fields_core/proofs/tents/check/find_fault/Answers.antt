@@ -1,7 +1,4 @@
-use Rattle.std.proofs.Common.{[], ◌∷◌, arith, sym, ◌∙◌}
-use Rattle.gameid_core.proofs.FirstFailed.{first_in, none_right}
-use Rattle.fields_core.specs.TentFaults.{FailsTents}
-use Rattle.fields_core.specs.Tents.{column_right, row_right}
+use Rattle.fields_core.proofs.Common.{FailsTents, [], arith, column_right, first_in, none_right, row_right, sym, ◌∙◌, ◌∷◌}
 use Rattle.fields_core.proofs.TentRuleLemmas.{columns, kinds, match, rows, tents-made, tents-sound, touch, trees}
 use Rattle.fields_core.proofs.tents.check.find_fault.Goals as goal
 
@@ -17,7 +14,7 @@ pub returns-then-not-is_touch_right-clause-fault : goal.returns-then-not-is_touc
 returns-then-not-is_touch_right-clause-fault c =
     let p = c.args.puzzle.now in
     let g = c.args.grid.now in
-    first_in (FailsTents p g) (trees p g ∷ []) (touch p g) (columns p g ∷ rows p g ∷ match p g ∷ []) (tents-made p g c.requires.fits)
+    first_in _ (trees p g ∷ []) (touch p g) (columns p g ∷ rows p g ∷ match p g ∷ []) (tents-made p g c.requires.fits)
     ((λ k lt. c.loop-place.invariant k (omega arith)), tt) c.loop-place-2.place (omega arith)
     (sym c.is_touch_right.ensures ∙ c.if-not-is_touch_right.true) c.loop-place-2.invariant
 
@@ -26,7 +23,7 @@ unfolding column_right
 returns-then-not-has_tents-clause-fault c =
     let p = c.args.puzzle.now in
     let g = c.args.grid.now in
-    first_in (FailsTents p g) (trees p g ∷ touch p g ∷ []) (columns p g) (rows p g ∷ match p g ∷ []) (tents-made p g c.requires.fits)
+    first_in _ (trees p g ∷ touch p g ∷ []) (columns p g) (rows p g ∷ match p g ∷ []) (tents-made p g c.requires.fits)
     ((λ k lt. c.loop-place.invariant k (omega arith)), ((λ k lt. c.loop-place-2.invariant k (omega arith)), tt)) c.loop-x.x (omega arith)
     (grind arith) c.loop-x.invariant
 
@@ -43,7 +40,7 @@ pub returns-clause-fault : goal.returns-clause-fault
 returns-clause-fault c =
     let p = c.args.puzzle.now in
     let g = c.args.grid.now in
-    first_in (FailsTents p g) (trees p g ∷ touch p g ∷ columns p g ∷ rows p g ∷ []) (match p g) [] (tents-made p g c.requires.fits) (
+    first_in _ (trees p g ∷ touch p g ∷ columns p g ∷ rows p g ∷ []) (match p g) [] (tents-made p g c.requires.fits) (
       (λ k lt. c.loop-place.invariant k (omega arith)),
       ((λ k lt. c.loop-place-2.invariant k (omega arith)), ((λ k lt. c.loop-x.invariant k (omega arith)), ((λ k lt. c.loop-y.invariant k (omega arith)), tt))),
     ) 0 (omega arith)

@@ -1,5 +1,4 @@
-use Rattle.std.proofs.Common.{◌≡◌, ℕ, ◌<◌, true}
-use Rattle.fields_core.specs.Tents.{tree_right, touch_right, column_right, row_right}
+use Rattle.fields_core.proofs.Common.{column_right, row_right, touch_right, tree_right, true, ℕ, ◌<◌, ◌≡◌}
 use Rattle.fields_core.proofs.tents.check.find_fault.Given as goal
 
 abbrev pub invariant-loop-place : goal.invariant-loop-place

@@ -1,6 +1,4 @@
-use Rattle.fields_core.specs.CountHouse.{houses_below}
-use Rattle.fields_core.specs.CountLists.{IsAdded}
-use Rattle.fields_core.specs.TentHouses.{column_of_tents, row_of_tents, tree_house, square_house}
+use Rattle.fields_core.proofs.Common.{IsAdded, column_of_tents, houses_below, row_of_tents, square_house, tree_house}
 use Rattle.fields_core.proofs.tents.houses.houses_of_tents.Given as goal
 
 abbrev pub invariant-loop-x : goal.invariant-loop-x

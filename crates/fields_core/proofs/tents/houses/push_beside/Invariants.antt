@@ -1,8 +1,4 @@
-use Rattle.std.proofs.Common.{not}
-use Rattle.std.specs.List.{filter}
-use Rattle.grid_core.specs.Regions.{steps}
-use Rattle.fields_core.specs.CountLists.{IsBegun}
-use Rattle.fields_core.specs.Tents.{tree}
+use Rattle.fields_core.proofs.Common.{IsBegun, filter, not, steps, tree}
 use Rattle.fields_core.proofs.tents.houses.push_beside.Given as goal
 
 abbrev pub invariant-loop-direction : goal.invariant-loop-direction

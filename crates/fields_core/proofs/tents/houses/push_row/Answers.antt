@@ -1,4 +1,4 @@
-use Rattle.std.proofs.Common.{arith}
+use Rattle.fields_core.proofs.Common.{arith}
 use Rattle.fields_core.proofs.HouseLists.{row-long}
 use Rattle.fields_core.proofs.TentCounting.{tent-field}
 use Rattle.fields_core.proofs.tents.houses.push_row.Goals as goal

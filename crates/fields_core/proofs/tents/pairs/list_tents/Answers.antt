@@ -1,5 +1,4 @@
-use Rattle.std.proofs.Common.{length-set, arith}
-use Rattle.std.proofs.lemmas.Grind.{common_steps}
+use Rattle.fields_core.proofs.Common.{arith, common_steps, length-set}
 use Rattle.fields_core.proofs.TentNumbers.{listed-keep}
 use Rattle.fields_core.proofs.tents.pairs.list_tents.Goals as goal
 

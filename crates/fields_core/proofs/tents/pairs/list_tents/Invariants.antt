@@ -1,5 +1,4 @@
-use Rattle.std.proofs.Common.{◌≡◌, ◌≤◌, length, take}
-use Rattle.fields_core.specs.Tents.{tent}
+use Rattle.fields_core.proofs.Common.{length, take, tent, ◌≡◌, ◌≤◌}
 use Rattle.fields_core.proofs.RunLemmas.{passing}
 use Rattle.fields_core.proofs.tents.pairs.list_tents.Given as goal
 

@@ -1,6 +1,4 @@
-use Rattle.std.proofs.Common.{◌≡◌, ℕ, ◌<◌, ◌≤◌, length, get_or}
-use Rattle.grid_core.specs.Candidates.{count_below}
-use Rattle.fields_core.specs.Tents.{tree}
+use Rattle.fields_core.proofs.Common.{count_below, get_or, length, tree, ℕ, ◌<◌, ◌≡◌, ◌≤◌}
 use Rattle.fields_core.proofs.tents.pairs.number_trees.Given as goal
 
 abbrev pub invariant-loop-place : goal.invariant-loop-place

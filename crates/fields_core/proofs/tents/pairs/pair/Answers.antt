@@ -1,5 +1,4 @@
-use Rattle.std.proofs.Common.{sym, subst}
-use Rattle.fields_core.specs.TentPairs.{AreIn}
+use Rattle.fields_core.proofs.Common.{AreIn, subst, sym}
 use Rattle.fields_core.proofs.TentPairLemmas.{listed-tents, tents-in}
 use Rattle.fields_core.proofs.tents.pairs.pair.Goals as goal
 

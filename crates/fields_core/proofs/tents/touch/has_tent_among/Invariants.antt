@@ -1,5 +1,4 @@
-use Rattle.std.proofs.Common.{◌≡◌, ℕ, ◌<◌, ◌≤◌, false}
-use Rattle.fields_core.specs.Tents.{tent}
+use Rattle.fields_core.proofs.Common.{false, tent, ℕ, ◌<◌, ◌≡◌, ◌≤◌}
 use Rattle.fields_core.proofs.tents.touch.has_tent_among.Given as goal
 
 abbrev pub invariant-loop-other : goal.invariant-loop-other

@@ -1,5 +1,4 @@
-use Rattle.std.proofs.Common.{◌≡◌, ◌-◌, ◌*◌, inl, inr, true≢false, sym, ap, ◌∙◌, arith}
-use Rattle.std.proofs.lemmas.Bool.{cases_Bool}
+use Rattle.fields_core.proofs.Common.{ap, arith, cases_Bool, inl, inr, sym, true≢false, ◌*◌, ◌-◌, ◌∙◌, ◌≡◌}
 use Rattle.fields_core.proofs.TentLines.{some-wide, touched, untouched, touch-beside, touch-above, touch-below}
 use Rattle.fields_core.proofs.tents.touch.touches_tent.Goals.{then-has_tent_among, else-has_tent_among}
 use Rattle.fields_core.proofs.tents.touch.touches_tent.Goals as goal

@@ -1,4 +1,4 @@
-use Rattle.std.proofs.lemmas.List.{get_or_read}
+use Rattle.grid_core.proofs.Common.{get_or_read}
 use Rattle.grid_core.proofs.BoardLemmas.{IsSetsOf_joined}
 use Rattle.grid_core.proofs.board.Board.restore_set.Goals as goal
 

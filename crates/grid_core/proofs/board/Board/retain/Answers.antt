@@ -1,5 +1,4 @@
-use Rattle.std.proofs.lemmas.Bool.{not-true, eqb-false}
-use Rattle.std.proofs.lemmas.List.{get_or_read}
+use Rattle.grid_core.proofs.Common.{eqb-false, get_or_read, not-true}
 use Rattle.grid_core.proofs.BoardLemmas.{retained_lost}
 use Rattle.grid_core.proofs.board.Board.retain.Goals as goal
 

@@ -1,4 +1,4 @@
-use Rattle.std.proofs.Common.{arith}
+use Rattle.grid_core.proofs.Common.{arith}
 use Rattle.grid_core.proofs.FrontierLemmas.{AreReached-pop, last_in}
 use Rattle.grid_core.proofs.frontier.Frontier.clear.Goals as goal
 

@@ -1,6 +1,4 @@
-use Rattle.std.proofs.Common.{◌≡◌, ◌≤◌, take}
-use Rattle.std.specs.Prelude.{vec_len}
-use Rattle.grid_core.specs.Augmenting.{AreReached}
+use Rattle.grid_core.proofs.Common.{AreReached, take, vec_len, ◌≡◌, ◌≤◌}
 use Rattle.grid_core.proofs.frontier.Frontier.clear.Given as goal
 
 abbrev pub invariant-loop-self : goal.invariant-loop-self

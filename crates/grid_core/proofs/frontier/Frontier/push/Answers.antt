@@ -1,4 +1,4 @@
-use Rattle.std.proofs.Common.{arith}
+use Rattle.grid_core.proofs.Common.{arith}
 use Rattle.grid_core.proofs.FrontierLemmas.{room_for_left, AreReached-write, view-write}
 use Rattle.grid_core.proofs.frontier.Frontier.push.Goals as goal
 

@@ -1,7 +1,4 @@
-use Rattle.std.proofs.Common.{◌≡◌, ℕ, List, ◌++◌, length, take, drop, arith, sym, ap}
-use Rattle.std.specs.Prelude.{vec_len}
-use Rattle.std.proofs.lemmas.Grind.{common_steps}
-use Rattle.grid_core.specs.Augmenting.{FrontierView}
+use Rattle.grid_core.proofs.Common.{FrontierView, List, ap, arith, common_steps, drop, length, sym, take, vec_len, ℕ, ◌++◌, ◌≡◌}
 use Rattle.grid_core.proofs.FrontierLemmas.{AreReached-sort, ascending}
 use Rattle.grid_core.proofs.frontier.Frontier.sort.Goals as goal
 

@@ -1,7 +1,4 @@
-use Rattle.std.proofs.Common.{◌≡◌, ◌<◌, arith, length-take, length, take, ap}
-use Rattle.std.specs.Prelude.{ℕ}
-use Rattle.std.proofs.lemmas.List.{take_more_set}
-use Rattle.grid_core.specs.Augmenting.{MatesView}
+use Rattle.grid_core.proofs.Common.{MatesView, ap, arith, length, length-take, take, take_more_set, ℕ, ◌<◌, ◌≡◌}
 use Rattle.grid_core.proofs.MateLemmas.{AreOwners-push}
 use Rattle.grid_core.proofs.mates.Mates.push.Goals as goal
 

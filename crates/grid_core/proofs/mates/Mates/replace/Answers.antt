@@ -1,8 +1,4 @@
-use Rattle.std.proofs.Common.{◌≡◌, ◌<◌, List, arith, length-take, length, take, set, ap, get_or, sym, ◌∙◌}
-use Rattle.std.specs.Prelude.{ℕ}
-use Rattle.std.proofs.lemmas.List.{get_or-take, get_or_default}
-use Rattle.std.proofs.Math.Seq.{take-set-lt}
-use Rattle.grid_core.specs.Augmenting.{MatesView}
+use Rattle.grid_core.proofs.Common.{List, MatesView, ap, arith, get_or, get_or-take, get_or_default, length, length-take, set, sym, take, take-set-lt, ℕ, ◌<◌, ◌∙◌, ◌≡◌}
 use Rattle.grid_core.proofs.MateLemmas.{mate_in, AreOwners-replace}
 use Rattle.grid_core.proofs.mates.Mates.replace.Goals as goal
 

@@ -1,4 +1,4 @@
-use Rattle.std.proofs.Common.{arith}
+use Rattle.grid_core.proofs.Common.{arith}
 use Rattle.grid_core.proofs.SearchSteps.{IsShortSet-from_closed}
 use Rattle.grid_core.proofs.pairing.Pairing.run.Goals as goal
 

@@ -1,5 +1,4 @@
-use Rattle.std.proofs.Common.{◌≡◌, ◌≤◌, ◌-◌, length}
-use Rattle.grid_core.specs.Augmenting.{AreJoined}
+use Rattle.grid_core.proofs.Common.{AreJoined, length, ◌-◌, ◌≡◌, ◌≤◌}
 use Rattle.grid_core.proofs.pairing.Pairing.run.Given as goal
 
 abbrev pub invariant-loop-self : goal.invariant-loop-self

@@ -1,4 +1,4 @@
-use Rattle.std.proofs.Common.{◌≡◌, ◌∙◌}
+use Rattle.grid_core.proofs.Common.{◌∙◌, ◌≡◌}
 use Rattle.grid_core.proofs.RowLemmas.{kept-only}
 use Rattle.grid_core.proofs.planes.Planes.assign.Goals as goal
 

@@ -1,8 +1,4 @@
-use Rattle.std.proofs.Common.{arith, sym, ◌≡◌, ◌∙◌, ℕ, map}
-use Rattle.std.proofs.lemmas.List.{length-map}
-use Rattle.grid_core.specs.Words.{has_bit}
-use Rattle.grid_core.specs.Planes.{bit_of}
-use Rattle.grid_core.proofs.PlaneLemmas.{bit-in}
+use Rattle.grid_core.proofs.Common.{arith, bit_of, has_bit, length-map, map, sym, ℕ, ◌∙◌, ◌≡◌}
 use Rattle.grid_core.proofs.PlaneSteps.{word_read}
 use Rattle.grid_core.proofs.planes.Planes.column.Goals as goal
 use Rattle.grid_core.proofs.planes.Planes.column.Goals.{After-index}
@@ -14,7 +10,7 @@ read g c y =
     let r = rw (← c.self.view_is) at c.requires in
     let words = c.self.invariant.words in
     word_read g.W.Word.bits c.self.inside.columns.items c.args.x c.args.value c.index.result.now
-    (omega (arith, r.column_in, r.value_in, words.columns_long, length-map c.self.inside.columns.items g.W.Word.bits)) (rw (c.from.ensures, c.from-2.ensures) at c.index.ensures) y
+    (omega (arith, r.column_in, r.value_in, c.self.invariant.wide, length-map c.self.inside.columns.items g.W.Word.bits)) (rw (c.from.ensures, c.from-2.ensures) at c.index.ensures) y
     ∙ sym (words.agree y c.args.x c.args.value r.value_in)
 
 pub returns-clause-cells : goal.returns-clause-cells
@@ -26,5 +22,4 @@ returns-clause-lawful g c = rw (← c.self.view_is) c.self.invariant
 pub returns-clause-within : goal.returns-clause-within
 returns-clause-within g c =
     let r = rw (← c.self.view_is) at c.requires in
-    rw (← c.self.view_is) (λ y on. (bit-in _ _ _ y c.args.x c.args.value c.self.invariant.words
-    r.value_in (sym (read g (goal.at.returns-clause-within g c).After-index y) ∙ on)).0)
+    rw (← c.self.view_is) (λ y on. (c.self.invariant.words.within y c.args.x c.args.value r.value_in (sym (read g (goal.at.returns-clause-within g c).After-index y) ∙ on)).0)

@@ -1,7 +1,4 @@
-use Rattle.std.proofs.Common.{arith, ◌≡◌, ◌∙◌, ◌*◌, ◌/◌, ◌%◌, ◌<◌}
-use Rattle.std.proofs.Math.Nat.{div-lt_iff_lt-mul}
-use Rattle.std.proofs.lemmas.List.{length-map}
-use Rattle.grid_core.specs.Planes.{layers_of}
+use Rattle.grid_core.proofs.Common.{arith, div-lt_iff_lt-mul, layers_of, length-map, ◌%◌, ◌*◌, ◌/◌, ◌<◌, ◌∙◌, ◌≡◌}
 use Rattle.grid_core.proofs.PlaneSteps.{word_read, has_read}
 use Rattle.grid_core.proofs.planes.Planes.has.Goals as goal
 
@@ -15,7 +12,7 @@ returns g c =
     let place_in : c.args.place < p.size.h * p.size.w = omega (arith, r.place_in) in
     let y_in : c.args.place / p.size.w < p.size.h = (div-lt_iff_lt-mul i.lawful.w_low).1 place_in in
     let read = word_read bits p.rows.items (c.args.place / p.size.w) c.args.value c.index-word.result.now
-    (omega (arith, y_in, r.value_in, i.words.rows_long, length-map p.rows.items bits))
+    (omega (arith, y_in, r.value_in, i.tall, length-map p.rows.items bits))
     (rw (w_is, c.from.ensures) at c.index-word.ensures) (c.args.place % p.size.w) in
     rw (← c.self.view_is)
     (rw w_is at c.has.ensures ∙ read ∙ has_read (layers_of bits p.size p.rows.items p.columns.items p.changes.items p.len) c.args.place c.args.value r.value_in)

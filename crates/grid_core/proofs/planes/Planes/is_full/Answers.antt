@@ -1,6 +1,5 @@
-use Rattle.std.proofs.Common.{arith, refl, sym, ◌≡◌, ◌∙◌, ◌*◌}
+use Rattle.grid_core.proofs.Common.{arith, cells_of, has, refl, sym, ◌*◌, ◌∙◌, ◌≡◌}
 use Rattle.grid_core.proofs.CandidateLemmas.{is_full-each}
-use Rattle.grid_core.specs.Planes.{has, cells_of}
 use Rattle.grid_core.proofs.RowLemmas.{IsUnfilledRow, full-row, not_full-row}
 use Rattle.grid_core.proofs.planes.Planes.is_full.Goals as goal
 use Rattle.grid_core.proofs.planes.Planes.is_full.Goals.{After-is_some}

@@ -1,6 +1,4 @@
-use Rattle.std.proofs.Common.{◌≡◌, ℕ, ◌*◌, ◌<◌}
-use Rattle.grid_core.specs.Candidates.{count_below}
-use Rattle.grid_core.specs.Planes.{has}
+use Rattle.grid_core.proofs.Common.{count_below, has, ℕ, ◌*◌, ◌<◌, ◌≡◌}
 use Rattle.grid_core.proofs.planes.Planes.is_full.Given as goal
 
 abbrev pub invariant-loop-y : goal.invariant-loop-y

@@ -1,22 +1,26 @@
-use Rattle.std.proofs.Common.{arith, ap, ◌∙◌, ◌*◌, length}
-use Rattle.std.proofs.lemmas.List.{length-replicate}
-use Rattle.grid_core.specs.Candidates.{all_of}
-use Rattle.grid_core.specs.Planes.{layers_of}
+use Rattle.grid_core.proofs.Common.{all_of, ap, arith, layers_of, length, length-replicate, ◌*◌, ◌∙◌}
 use Rattle.grid_core.proofs.PlaneSteps.{IsBegun, begun}
 use Rattle.grid_core.proofs.planes.Planes.new.Goals as goal
-use Rattle.grid_core.proofs.planes.Planes.new.Goals.{In_ok-copies-3}
+use Rattle.grid_core.proofs.planes.Planes.new.Goals.{In_ok-copies}
 
-filled : (g : _) (c : In_ok-copies-3 g)
+filled : (g : _) (c : In_ok-copies g)
     → IsBegun g.W.Word.room c.args.size (all_of (c.args.size.w * c.args.size.h) 2)
-    (layers_of g.W.Word.bits c.args.size c.in_ok-copies.field-0.items c.in_ok-copies-2.field-0.items c.in_ok-copies-3.field-0.items 0)
+    (layers_of g.W.Word.bits c.args.size c.write_lines.new.words.items c.write_lines-2.new.words.items c.in_ok-copies.field-0.items 0)
 filled g c =
-    begun g.W.Word.bits g.W.Word.room c.args.size c.all.result c.all-2.result c.in_ok-copies-3.field-0.items c.w.ensures.lawful c.requires.narrow c.requires.low
+    begun g.W.Word.bits g.W.Word.room c.args.size c.all.result c.all-2.result c.in_ok-copies.field-0.items c.w.ensures.lawful c.requires.narrow c.requires.low
     (rw (c.from-w.ensures, c.w.ensures.value) at c.all.ensures) (rw (c.from-h.ensures, c.h.ensures.value) at c.all-2.ensures)
-    (let long = ap length c.in_ok-copies-3.ensures ∙ length-replicate _ _ in omega (arith, long, c.cells.ensures.value))
-    _ _ (rw (c.from-h.ensures, c.h.ensures.value) at c.in_ok-copies.ensures) (rw (c.from-w.ensures, c.w.ensures.value) at c.in_ok-copies-2.ensures)
+    (let long = ap length c.in_ok-copies.ensures ∙ length-replicate _ _ in omega (arith, long, c.cells.ensures.value)) _ _
+    (record {
+      is = rw (c.from-h.ensures, c.h.ensures.value) at c.write_lines.ensures.written;
+      long = c.write_lines.ensures.long ∙ ap length c.in_ok-rows.ensures ∙ length-replicate _ _ ∙ ap (λ n. 2 * n) c.places.ensures.value;
+    })
+    (record {
+      is = rw (c.from-w.ensures, c.w.ensures.value) at c.write_lines-2.ensures.written;
+      long = c.write_lines-2.ensures.long ∙ ap length c.in_ok-columns.ensures ∙ length-replicate _ _ ∙ ap (λ n. 2 * n) c.places-2.ensures.value;
+    })
 
 pub invariant_of-result : goal.invariant_of-result
-invariant_of-result g c = (filled g (goal.at.invariant_of-result g c).In_ok-copies-3).are
+invariant_of-result g c = (filled g (goal.at.invariant_of-result g c).In_ok-copies).are
 
-pub returns : goal.returns
-returns g c = (filled g (goal.at.returns g c).In_ok-copies-3).fresh
+pub returns-clause-fresh : goal.returns-clause-fresh
+returns-clause-fresh g c = (filled g (goal.at.returns-clause-fresh g c).In_ok-copies).fresh

@@ -1,7 +1,4 @@
-use Rattle.std.proofs.Common.{arith, refl, sym, ap, ◌≡◌, ◌∙◌, ◌*◌, ◌<◌, ℕ}
-use Rattle.std.proofs.lemmas.Bool.{and_parts}
-use Rattle.grid_core.specs.Candidates.{pick}
-use Rattle.grid_core.specs.Planes.{has, cells_of}
+use Rattle.grid_core.proofs.Common.{and_parts, ap, arith, cells_of, has, pick, refl, sym, ℕ, ◌*◌, ◌<◌, ◌∙◌, ◌≡◌}
 use Rattle.grid_core.proofs.LineLemmas.{few_cells}
 use Rattle.grid_core.proofs.PlaneLemmas.{place-in}
 use Rattle.grid_core.proofs.RowLemmas.{IsOpenRow, pick-row_none, pick-row_some}

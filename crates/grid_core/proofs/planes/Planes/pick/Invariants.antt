@@ -1,6 +1,4 @@
-use Rattle.std.proofs.Common.{◌≡◌, ◌*◌, None}
-use Rattle.grid_core.specs.Candidates.{pick}
-use Rattle.grid_core.specs.Planes.{has}
+use Rattle.grid_core.proofs.Common.{None, has, pick, ◌*◌, ◌≡◌}
 use Rattle.grid_core.proofs.planes.Planes.pick.Given as goal
 
 abbrev pub invariant-loop-y : goal.invariant-loop-y

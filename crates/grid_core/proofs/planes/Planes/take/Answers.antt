@@ -1,7 +1,4 @@
-use Rattle.std.proofs.Common.{sym, refl, ◌≡◌, ◌∙◌, ◌&&◌, ℕ}
-use Rattle.std.proofs.lemmas.Bool.{and_parts}
-use Rattle.grid_core.specs.Planes.{at_line}
-use Rattle.grid_core.specs.Words.{has_bit}
+use Rattle.grid_core.proofs.Common.{and_parts, at_line, has_bit, refl, sym, ℕ, ◌&&◌, ◌∙◌, ◌≡◌}
 use Rattle.grid_core.proofs.PlaneLemmas.{further-none, is-there, without-none, without-there}
 use Rattle.grid_core.proofs.planes.Planes.take.Goals as goal
 use Rattle.grid_core.proofs.planes.Planes.take.Goals.{After-is_some}

@@ -1,6 +1,4 @@
-use Rattle.std.proofs.Common.{arith, ◌+◌, set}
-use Rattle.std.proofs.lemmas.List.{length-map}
-use Rattle.grid_core.specs.Planes.{layers_of, taking_of}
+use Rattle.grid_core.proofs.Common.{arith, layers_of, length-map, set, taking_of, ◌+◌}
 use Rattle.grid_core.proofs.PlaneLemmas.{IsTaken, room_to_note, taking_in}
 use Rattle.grid_core.proofs.TakingLemmas.{takings-len}
 use Rattle.grid_core.proofs.PlaneSteps.{take_step, room_at}

@@ -1,5 +1,4 @@
-use Rattle.std.proofs.Common.{arith, ◌∙◌, ◌-◌}
-use Rattle.grid_core.specs.Planes.{layers_of}
+use Rattle.grid_core.proofs.Common.{arith, layers_of, ◌-◌, ◌∙◌}
 use Rattle.grid_core.proofs.PlaneLemmas.{IsPutBack}
 use Rattle.grid_core.proofs.PlaneSteps.{undo_step, room_at, last_read}
 use Rattle.grid_core.proofs.planes.Planes.undo.Goals as goal
@@ -44,4 +43,5 @@ loop-self-preserved g c =
       are = s.are;
       back = λ m le. s.back m (omega arith) ∙ i.back m le;
       same_size = i.same_size;
+      same_room = i.same_room;
     }

@@ -1,5 +1,4 @@
-use Rattle.std.proofs.Common.{◌≡◌, ℕ, ◌≤◌}
-use Rattle.grid_core.specs.Planes.{ArePlanes, back_at, layers_of}
+use Rattle.grid_core.proofs.Common.{ArePlanes, back_at, layers_of, length, ℕ, ◌≡◌, ◌≤◌}
 use Rattle.grid_core.proofs.planes.Planes.undo.Given as goal
 
 abbrev pub invariant-loop-self : goal.invariant-loop-self
@@ -11,6 +10,7 @@ invariant-loop-self g l =
       are : ArePlanes g.W.Word.room layers;
       back : (m : ℕ) → m ≤ l.len → back_at layers m ≡ back_at l.fn.self m;
       same_size : p.size ≡ l.fn.self.size;
+      same_room : length layers.takings ≡ length l.fn.self.takings;
     }
 
 abbrev pub decreases-loop-self : goal.decreases-loop-self

@@ -1,8 +1,6 @@
-use Rattle.std.proofs.Common.{arith, ap, subst, ◌≡◌, ◌∙◌, ◌*◌, ◌<◌}
-use Rattle.grid_core.specs.Planes.{cells_of}
+use Rattle.grid_core.proofs.Common.{ap, arith, bool_byte, cells_of, subst, ◌*◌, ◌<◌, ◌∙◌, ◌≡◌}
 use Rattle.grid_core.proofs.RowLemmas.{IsWritten, written-more, written-all}
 use Rattle.grid_core.proofs.planes.Planes.write_grid.Goals as goal
-use mir.Val.{bool_byte}
 
 pub loop-x-preserved : goal.loop-x-preserved
 loop-x-preserved g c =

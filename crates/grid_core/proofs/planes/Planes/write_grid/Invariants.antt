@@ -1,4 +1,4 @@
-use Rattle.std.proofs.Common.{◌+◌, ◌*◌}
+use Rattle.grid_core.proofs.Common.{◌*◌, ◌+◌}
 use Rattle.grid_core.proofs.RowLemmas.{IsWritten}
 use Rattle.grid_core.proofs.planes.Planes.write_grid.Given as goal
 

@@ -1,4 +1,4 @@
-use Rattle.std.proofs.Common.{◌≡◌, replicate}
+use Rattle.grid_core.proofs.Common.{replicate, ◌≡◌}
 use Rattle.grid_core.proofs.planes.copies.copies.Given as goal
 
 abbrev pub invariant-loop-k : goal.invariant-loop-k

@@ -1,9 +1,5 @@
-use Rattle.std.proofs.Common.{◌≡◌, ◌∙◌, ℕ, not, refl, ◌&&◌, eqb, sym, arith}
-use Rattle.std.proofs.lemmas.Bool.{and_parts, eqb-true, false_from_ne_true}
-use Rattle.std.proofs.lemmas.Grind.{common_steps}
-use Rattle.std.proofs.lemmas.List.{length-set}
+use Rattle.grid_core.proofs.Common.{and_parts, arith, common_steps, eqb, eqb-true, false_from_ne_true, has_bit, length-set, not, refl, sym, ℕ, ◌&&◌, ◌∙◌, ◌≡◌}
 use Rattle.grid_core.proofs.CandidateLemmas.{any_below-none}
-use Rattle.grid_core.specs.Words.{has_bit}
 use Rattle.grid_core.proofs.TurnLemmas.{turned_at, crossed, fewer_left, turned_none, turned_all}
 use Rattle.grid_core.proofs.planes.turn.turn.Goals as goal
 

@@ -1,7 +1,4 @@
-use Rattle.std.proofs.Common.{◌≡◌, ℕ, ◌<◌, true, not, ◌&&◌, ◌==◌, length, map}
-use Rattle.grid_core.specs.Candidates.{count_below}
-use Rattle.grid_core.specs.Planes.{bit_of}
-use Rattle.grid_core.specs.Words.{has_bit, differ}
+use Rattle.grid_core.proofs.Common.{bit_of, count_below, differ, has_bit, length, map, not, true, ℕ, ◌&&◌, ◌<◌, ◌==◌, ◌≡◌}
 use Rattle.grid_core.proofs.planes.turn.turn.Given as goal
 
 abbrev pub invariant-loop-own : goal.invariant-loop-own

@@ -1,4 +1,4 @@
-use Rattle.maker_core.proofs.Common.{refl, sym, ◌∙◌, ap, black_cells, light_filling, light_puzzle_of, lights_of}
+use Rattle.maker_core.proofs.Common.{ap, black_cells, light_filling, light_puzzle_of, lights_of, refl, sym, ◌∙◌}
 use Rattle.maker_core.proofs.light_up.filling.fill_lights.Goals as goal
 
 pub returns-clause-drawn : goal.returns-clause-drawn

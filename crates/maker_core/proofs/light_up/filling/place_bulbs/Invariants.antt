@@ -1,4 +1,4 @@
-use Rattle.maker_core.proofs.Common.{◌≡◌, bulbs_after}
+use Rattle.maker_core.proofs.Common.{bulbs_after, ◌≡◌}
 use Rattle.maker_core.proofs.light_up.filling.place_bulbs.Given as goal
 
 abbrev pub invariant-loop-k : goal.invariant-loop-k

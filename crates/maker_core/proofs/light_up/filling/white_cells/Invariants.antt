@@ -1,4 +1,4 @@
-use Rattle.maker_core.proofs.Common.{◌≡◌, filter, range_with_len, white}
+use Rattle.maker_core.proofs.Common.{filter, range_with_len, white, ◌≡◌}
 use Rattle.maker_core.proofs.light_up.filling.white_cells.Given as goal
 
 abbrev pub invariant-loop-place : goal.invariant-loop-place

@@ -1,15 +1,15 @@
-use Rattle.maker_core.proofs.Common.{refl, sym, subst, Pattern, line_rules, is_solution-is, is_solution-from, HasOne}
-use Rattle.maker_core.proofs.PatternMakings.{pattern_only}
+use Rattle.maker_core.proofs.Common.{IsPatternSolution, is_solution-from, is_solution-is, line_rules, refl}
+use Rattle.maker_core.proofs.OnlySolutions.{one_is}
 use Rattle.maker_core.proofs.FirstTries.{draws_first}
 use Rattle.maker_core.proofs.pattern.maker.make_pattern.Goals as goal
 
 pub returns-clause-made : goal.returns-clause-made
 returns-clause-made g c =
-    let a = c.args in
     let made = c.in_ok-answer.ensures in
     let puzzle = c.in_ok-puzzle.ensures in
-    let only = pattern_only c.in_ok-puzzle.puzzle c.in_ok-answer.answer (λ q h grid. (is_solution-is q h grid, is_solution-from q h)) a.limits.budget
-    (subst (λ (p : Pattern). HasOne (line_rules p) a.limits.budget) (sym puzzle.puzzle) (made.known.1 refl)) puzzle.solved in
+    let p = c.in_ok-puzzle.puzzle in
+    let only = one_is (line_rules p) (IsPatternSolution p) (λ h s. s.grid) (λ h grid. (is_solution-is p h grid, is_solution-from p h))
+    (rw puzzle.puzzle (made.known.1 refl)) puzzle.solved in
     record {
       k = made.first.k;
       first = made.first.first;

@@ -1,4 +1,4 @@
-use Rattle.maker_core.proofs.Common.{rules, true≢false, sym, ◌∙◌}
+use Rattle.maker_core.proofs.Common.{rules, sym, true≢false, ◌∙◌}
 use Rattle.maker_core.proofs.Switches.{none_more}
 use Rattle.maker_core.proofs.pattern.switch.has_switch.Goals as goal
 use Rattle.maker_core.proofs.pattern.switch.has_switch.Goals.{else-begins_run-via-then-begins_run+else-run_has_switch, else-begins_run-via-else-begins_run}

@@ -1,4 +1,4 @@
-use Rattle.maker_core.proofs.Common.{◌≡◌, ℕ, ◌+◌, ◌*◌, ◌<◌, true, RunHasSwitch, run_begins}
+use Rattle.maker_core.proofs.Common.{RunHasSwitch, run_begins, true, ℕ, ◌*◌, ◌+◌, ◌<◌, ◌≡◌}
 use Rattle.maker_core.proofs.pattern.switch.has_switch.Given as goal
 
 abbrev pub invariant-loop-place : goal.invariant-loop-place

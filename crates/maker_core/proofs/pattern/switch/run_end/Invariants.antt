@@ -1,4 +1,4 @@
-use Rattle.maker_core.proofs.Common.{◌-◌, ◌≡◌, ℕ, ◌<◌, ◌≤◌, cell_of}
+use Rattle.maker_core.proofs.Common.{cell_of, ℕ, ◌-◌, ◌<◌, ◌≡◌, ◌≤◌}
 use Rattle.maker_core.proofs.pattern.switch.run_end.Given as goal
 
 abbrev pub invariant-loop-end : goal.invariant-loop-end

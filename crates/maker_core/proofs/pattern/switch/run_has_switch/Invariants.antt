@@ -1,4 +1,4 @@
-use Rattle.maker_core.proofs.Common.{◌≡◌, ℕ, ◌<◌, IsSwitch}
+use Rattle.maker_core.proofs.Common.{IsSwitch, ℕ, ◌<◌, ◌≡◌}
 use Rattle.maker_core.proofs.pattern.switch.run_has_switch.Given as goal
 
 abbrev pub invariant-loop-row : goal.invariant-loop-row

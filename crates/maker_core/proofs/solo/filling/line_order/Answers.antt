@@ -1,4 +1,4 @@
-use Rattle.maker_core.proofs.Common.{◌+◌, arith, mul-le, get_or_read}
+use Rattle.maker_core.proofs.Common.{arith, get_or_read, mul-le, ◌+◌}
 use Rattle.maker_core.proofs.SoloOrderLemmas.{groups-more, grouped-more}
 use Rattle.maker_core.proofs.solo.filling.line_order.Goals as goal
 

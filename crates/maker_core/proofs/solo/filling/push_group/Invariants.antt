@@ -1,4 +1,4 @@
-use Rattle.maker_core.proofs.Common.{◌≡◌, ◌+◌, ◌*◌, ◌++◌, map, take}
+use Rattle.maker_core.proofs.Common.{map, take, ◌*◌, ◌++◌, ◌+◌, ◌≡◌}
 use Rattle.maker_core.proofs.solo.filling.push_group.Given as goal
 
 abbrev pub invariant-loop-k : goal.invariant-loop-k

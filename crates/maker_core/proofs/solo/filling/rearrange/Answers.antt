@@ -1,4 +1,4 @@
-use Rattle.maker_core.proofs.Common.{sym, ◌∙◌, arith, same_number_lists}
+use Rattle.maker_core.proofs.Common.{arith, same_number_lists, sym, ◌∙◌}
 use Rattle.maker_core.proofs.SoloSolution.{length-rearranged, is_solution_of_all}
 use Rattle.maker_core.proofs.solo.filling.rearrange.Goals as goal
 

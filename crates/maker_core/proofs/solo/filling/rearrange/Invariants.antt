@@ -1,4 +1,4 @@
-use Rattle.maker_core.proofs.Common.{◌≡◌, ◌*◌, ℕ, ◌<◌, length, slice_index, rearranged}
+use Rattle.maker_core.proofs.Common.{length, rearranged, slice_index, ℕ, ◌*◌, ◌<◌, ◌≡◌}
 use Rattle.maker_core.proofs.solo.filling.rearrange.Given as goal
 
 abbrev pub invariant-loop-place : goal.invariant-loop-place

@@ -1,4 +1,4 @@
-use Rattle.maker_core.proofs.Common.{◌≡◌, ℕ, ◌<◌, length, slice_index, flipped}
+use Rattle.maker_core.proofs.Common.{flipped, length, slice_index, ℕ, ◌<◌, ◌≡◌}
 use Rattle.maker_core.proofs.solo.flip.flip.Given as goal
 
 abbrev pub invariant-loop-place : goal.invariant-loop-place

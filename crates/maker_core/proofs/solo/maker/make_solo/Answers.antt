@@ -1,8 +1,6 @@
-use Rattle.std.specs.Prelude.{Err}
-use Rattle.maker_core.proofs.Common.{rules, Some, refl, sym, ◌∙◌, ap, solo_game, all_given, IsThinnedFrom, stream_after_clues}
+use Rattle.maker_core.proofs.Common.{Err, IsThinnedFrom, Some, all_given, ap, refl, rules, solo_game, solo_tries, stream_after_clues, sym, ◌∙◌}
 use Rattle.maker_core.proofs.FirstTries.{draws_first, leaves_failed}
-use Rattle.maker_core.specs.SoloMaking.{solo_tries}
-use Rattle.maker_core.proofs.SoloFull.{all_given-only, all_given-found, thinned-solo, only_by_rules, same_given}
+use Rattle.maker_core.proofs.SoloFull.{all_given-only, all_given-found, thinned-solo, only_by_rules}
 use Rattle.maker_core.proofs.solo.maker.make_solo.Goals as goal
 
 pub thin-requires-clause-only : goal.thin-requires-clause-only
@@ -37,7 +35,7 @@ returns-clause-made g c =
         only = rw given (only_by_rules p c.in-Some.answer
             (thinned-solo a.c a.r a.x p c.in-Some.answer (c.if-not-is_size.ensures.0 refl) solution within) thinned.only);
         verdict = rw given thinned.found;
-        reasons = rw (given, sym (same_given p a.c a.r a.x c.in-Some.answer frame.c frame.r frame.x)) thinned.reasons;
+        reasons = rw (given, sym frame.c, sym frame.r, sym frame.x) thinned.reasons;
       },
     )
 

@@ -1,4 +1,4 @@
-use Rattle.maker_core.proofs.Common.{◌≡◌, ◌*◌, ◌∙◌, ap, IfOk-weaker}
+use Rattle.maker_core.proofs.Common.{IfOk-weaker, ap, ◌*◌, ◌∙◌, ◌≡◌}
 use Rattle.maker_core.proofs.SoloXSearch.{first_is, found_solves, x-filling-is, x-filling-solves}
 use Rattle.maker_core.proofs.solo.x_filling.fill_x.Given as given
 use Rattle.maker_core.proofs.solo.x_filling.fill_x.Goals as goal

@@ -1,4 +1,4 @@
-use Rattle.maker_core.proofs.Common.{◌≡◌, ◌*◌, sym, ◌∙◌, ap, subst, IfOk-weaker, IsOrder, top_row_given}
+use Rattle.maker_core.proofs.Common.{IfOk-weaker, IsOrder, ap, subst, sym, top_row_given, ◌*◌, ◌∙◌, ◌≡◌}
 use Rattle.maker_core.proofs.solo.x_filling.shuffled_puzzle.Given as given
 use Rattle.maker_core.proofs.solo.x_filling.shuffled_puzzle.Goals as goal
 use Rattle.maker_core.proofs.solo.x_filling.shuffled_puzzle.Goals.{After-from-2}

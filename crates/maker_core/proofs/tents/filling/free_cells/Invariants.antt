@@ -1,4 +1,4 @@
-use Rattle.maker_core.proofs.Common.{◌≡◌, filter, steps, is_free}
+use Rattle.maker_core.proofs.Common.{filter, is_free, steps, ◌≡◌}
 use Rattle.maker_core.proofs.tents.filling.free_cells.Given as goal
 
 abbrev pub invariant-loop-direction : goal.invariant-loop-direction

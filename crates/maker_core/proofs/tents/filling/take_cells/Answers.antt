@@ -1,4 +1,4 @@
-use Rattle.maker_core.proofs.Common.{◌*◌, ◌<◌, arith, refl}
+use Rattle.maker_core.proofs.Common.{arith, refl, ◌*◌, ◌<◌}
 use Rattle.maker_core.proofs.TentFillings.{none_after, more_after, wide}
 use Rattle.maker_core.proofs.TentsSolved.{filling_none, filling_step}
 use Rattle.maker_core.proofs.tents.filling.take_cells.Goals as goal

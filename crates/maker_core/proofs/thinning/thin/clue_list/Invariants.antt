@@ -1,4 +1,4 @@
-use Rattle.maker_core.proofs.Common.{◌≡◌, filter, range_with_len, has_clue}
+use Rattle.maker_core.proofs.Common.{filter, has_clue, range_with_len, ◌≡◌}
 use Rattle.maker_core.proofs.thinning.thin.clue_list.Given as goal
 
 abbrev pub invariant-loop-place : goal.invariant-loop-place

@@ -1,4 +1,4 @@
-use Rattle.maker_core.proofs.Common.{◌≡◌, take, reasons_from}
+use Rattle.maker_core.proofs.Common.{reasons_from, take, ◌≡◌}
 use Rattle.maker_core.proofs.thinning.thin.reasons.Given as goal
 
 abbrev pub invariant-loop-place : goal.invariant-loop-place

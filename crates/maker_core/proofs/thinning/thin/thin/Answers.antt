@@ -1,4 +1,4 @@
-use Rattle.maker_core.proofs.Common.{◌∙◌, ap, reasons_from}
+use Rattle.maker_core.proofs.Common.{ap, reasons_from, ◌∙◌}
 use Rattle.maker_core.proofs.ThinningReasons.{answer_left, reasons_left}
 use Rattle.maker_core.proofs.thinning.thin.thin.Goals as goal
 

@@ -1,4 +1,4 @@
-use Rattle.maker_core.proofs.Common.{◌∙◌, ap, subst, IsVerdict}
+use Rattle.maker_core.proofs.Common.{IsVerdict, ap, subst, ◌∙◌}
 use Rattle.maker_core.proofs.thinning.thin.try_clue.Goals as goal
 use Rattle.maker_core.proofs.thinning.thin.try_clue.Goals.{in-Several, in-GaveUp}
 use Rattle.maker_core.proofs.ThinningTurns.{needed, gave_up}

@@ -1,4 +1,4 @@
-use Rattle.maker_core.proofs.Common.{◌≡◌, Option, None, replicate, rules, ap, ◌∙◌, Why}
+use Rattle.maker_core.proofs.Common.{None, Option, Why, ap, replicate, rules, ◌∙◌, ◌≡◌}
 use Rattle.maker_core.proofs.ThinningReasons.{thinning_start, all_tried}
 use Rattle.maker_core.proofs.ThinningTurns.{contains_head, next_turn, turn, turn_in_room, thinning_turn}
 use Rattle.maker_core.proofs.thinning.thin.try_clues.Goals as goal
@@ -14,21 +14,18 @@ loop-place-init g c =
 
 pub loop-place-preserved : goal.loop-place-preserved
 loop-place-preserved g c =
-    let now = next_turn g.P.Clued.game g.met.P.Clued.lawful _ _ _ c.loop-place-test.true c.loop-place.invariant.thinning in
+    let now = next_turn _ c.loop-place-test.true c.loop-place.invariant.thinning in
     let made = c.in_ok-whys-2.ensures in
-    record {
-      thinning = thinning_turn g.P.Clued.game g.met.P.Clued.lawful now _ _ made.left made.asked;
-      fits = rw made.made ((turn g.P.Clued.game g.met.P.Clued.lawful now _ _ made.left made.asked).fits _ c.loop-place.invariant.fits);
-    }
+    let turned = turn g.met.P.Clued.lawful now _ made.left made.asked in
+    record { thinning = thinning_turn g.met.P.Clued.lawful now turned; fits = rw made.made (turned.fits _ c.loop-place.invariant.fits) }
 
 pub try_clue-requires-clause-clue : goal.try_clue-requires-clause-clue
 try_clue-requires-clause-clue g c =
-    (next_turn g.P.Clued.game g.met.P.Clued.lawful _ _ _ c.loop-place-test.true c.loop-place.invariant.thinning).waiting _ (contains_head _ _)
+    (next_turn _ c.loop-place-test.true c.loop-place.invariant.thinning).waiting _ (contains_head _ _)
 
 pub index_mut-requires : goal.index_mut-requires
 index_mut-requires g c =
-    let now = next_turn g.P.Clued.game g.met.P.Clued.lawful _ _ _ c.loop-place-test.true c.loop-place.invariant.thinning in
-    let below = turn_in_room g.P.Clued.game g.met.P.Clued.lawful now in
+    let below = turn_in_room g.met.P.Clued.lawful (next_turn _ c.loop-place-test.true c.loop-place.invariant.thinning) in
     search rules
 
 pub returns : goal.returns

@@ -1,4 +1,4 @@
-use Rattle.maker_core.proofs.Common.{drop, FitsIn, needs_of, IsThinning}
+use Rattle.maker_core.proofs.Common.{FitsIn, IsThinning, drop, needs_of}
 use Rattle.maker_core.proofs.thinning.thin.try_clues.Given as goal
 
 abbrev pub invariant-loop-place : goal.invariant-loop-place

@@ -1,5 +1,4 @@
-use Rattle.std.proofs.Common.{◌≡◌, map, take}
-use Rattle.pattern_core.specs.LineClues.{numbers_in}
+use Rattle.pattern_core.proofs.Common.{map, numbers_in, take, ◌≡◌}
 use Rattle.pattern_core.proofs.lines.PatternLines.new.Given as goal
 
 abbrev pub invariant-loop-line : goal.invariant-loop-line

@@ -1,7 +1,4 @@
-use Rattle.std.proofs.Common.{ℕ, ◌<◌, slice_index}
-use Rattle.grid_core.specs.Board.{has}
-use Rattle.engine_core.specs.Sets.{IsBitsOf}
-use Rattle.grid_core.specs.Lines.{line_places}
+use Rattle.pattern_core.proofs.Common.{IsBitsOf, has, line_places, slice_index, ℕ, ◌<◌}
 use Rattle.pattern_core.proofs.lines.PatternLinesPropagators.read.Given as goal
 
 abbrev pub invariant-loop-k : goal.invariant-loop-k

@@ -1,12 +1,11 @@
-use Rattle.engine_core.proofs.CallLemmas.{called-more, called-same}
-use Rattle.pattern_core.specs.LineRules.{line_rules}
+use Rattle.engine_core.proofs.CallLemmas.{woken-more, woken-same}
 use Rattle.pattern_core.proofs.NextLine.{its_lines}
 use Rattle.pattern_core.proofs.lines.PatternLinesPropagators.wake.Goals as goal
 
 pub returns : goal.returns
 returns c = record {
-  called = λ K follows.
+  woken = λ K follows.
       let p = c.args.self.now.pattern in
-      called-same (line_rules p) K _ _ _ _ (λ line _. its_lines p.size 0 c.columns-w.ensures c.requires.place_in line)
-      (called-more (line_rules p) K _ _ _ _ _ (c.wake_line.ensures K follows) (c.wake_line-2.ensures K follows));
+      woken-same _ K _ _ _ _ (λ line _. its_lines p.size 0 c.columns-w.ensures c.requires.place_in line)
+      (woken-more _ K _ _ _ _ _ (c.wake_line.ensures K follows) (c.wake_line-2.ensures K follows));
 }

@@ -1,6 +1,4 @@
-use Rattle.std.proofs.Common.{◌≡◌, ℕ, ◌<◌, true}
-use Rattle.grid_core.specs.Lines.{line_numbers}
-use Rattle.pattern_core.specs.Lines.{clue_of, has_runs}
+use Rattle.pattern_core.proofs.Common.{clue_of, has_runs, line_numbers, true, ℕ, ◌<◌, ◌≡◌}
 use Rattle.pattern_core.proofs.lines.PatternLinesRules.accept.Given as goal
 
 abbrev pub invariant-loop-line : goal.invariant-loop-line

@@ -1,9 +1,8 @@
-use Rattle.std.proofs.Common.{arith}
-use Rattle.std.proofs.lemmas.Grind.{common_steps}
+use Rattle.pattern_core.proofs.Common.{arith, common_steps}
 use Rattle.pattern_core.proofs.LineVisits.{line_visited}
 use Rattle.pattern_core.proofs.lines.PatternLinesRules.visit.Goals as goal
 
 pub returns-clause-left : goal.returns-clause-left
 returns-clause-left c =
-    line_visited c.args.self.now.pattern c.args.house _ _ _ _ _ c.requires.board_of c.size-size.ensures c.clue.ensures
+    line_visited _ _ _ c.requires.board_of c.size-size.ensures c.clue.ensures
     c.write_places.ensures.written (grind (arith, common_steps)) c.gather.ensures.bits c.gather.ensures.sets c.filter.ensures.decided c.apply.ensures.left

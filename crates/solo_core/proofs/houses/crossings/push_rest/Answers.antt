@@ -1,13 +1,12 @@
 use Rattle.std.proofs.Common.{not, sym, ap, ◌∙◌, arith}
-use Rattle.solo_core.specs.Common.{Block, places_of, has_place, solo_n}
+use Rattle.solo_core.specs.Common.{Block, places_of, has_place}
 use Rattle.solo_core.specs.HouseLaws.{lists_house, listed-same}
 use Rattle.solo_core.proofs.CrossingLemmas.{rest-out, rest-in, rest-fits}
 use Rattle.solo_core.proofs.houses.crossings.push_rest.Goals as goal
 
 pub push-requires-clause-fits : goal.push-requires-clause-fits
 push-requires-clause-fits c =
-    rest-fits (λ z. not (has_place (places_of c.args.puzzle.now (Block c.args.block)) z))
-    c.args.list.now (places_of c.args.puzzle.now c.args.line) c.loop-k.k (solo_n c.args.puzzle.now)
+    rest-fits _ c.args.list.now _ c.loop-k.k _
     c.loop-k.list c.loop-k.invariant (omega arith) c.requires.fits
 
 pub loop-k-preserved-then-lies : goal.loop-k-preserved-then-lies

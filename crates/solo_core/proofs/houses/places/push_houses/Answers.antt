@@ -1,5 +1,4 @@
 use Rattle.std.proofs.Common.{arith}
-use Rattle.solo_core.specs.Common.{house_places}
 use Rattle.solo_core.proofs.HouseLemmas.{listed-more, places-at, places-length}
 use Rattle.solo_core.proofs.houses.places.push_houses.Goals as goal
 
@@ -7,6 +6,6 @@ pub loop-number-preserved : goal.loop-number-preserved
 loop-number-preserved c =
     let p = c.args.puzzle.now in
     let e = c.houses-number-end.ensures.value in
-    listed-more _ (house_places p) c.loop-number.number (omega (arith, places-length p))
+    listed-more _ _ c.loop-number.number (omega (arith, places-length p))
     (places-at p c.loop-number.number (omega arith) (c.house.ensures.at c.house.result))
-    c.loop-number.invariant (rw c.in_ok-push_places.ensures at c.in_ok-end.ensures)
+    c.loop-number.invariant (rw c.in_ok-push_places.ensures.begun at c.in_ok-end.ensures)

@@ -12,9 +12,9 @@ push-requires-clause-fits c =
 pub loop-k-preserved : goal.loop-k-preserved
 loop-k-preserved c =
     let long = (lists_house c.n.ensures.lawful c.args.house c.requires.house_of).len in
-    begun-more (places_of c.args.puzzle.now c.args.house) c.loop-k.k (omega arith) c.place.ensures.place c.loop-k.invariant c.in_ok-push.ensures
+    begun-more _ c.loop-k.k (omega arith) c.place.ensures.place c.loop-k.invariant c.in_ok-push.ensures
 
-pub returns : goal.returns
-returns c =
+pub returns-clause-begun : goal.returns-clause-begun
+returns-clause-begun c =
     let long = (lists_house c.n.ensures.lawful c.args.house c.requires.house_of).len in
     begun-done c.loop-k.k (omega arith) c.loop-k.invariant

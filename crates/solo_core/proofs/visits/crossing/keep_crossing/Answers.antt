@@ -1,5 +1,5 @@
 use Rattle.std.proofs.Common.{◌&&◌, not, ltb, leb, ◌∙◌, arith}
-use Rattle.solo_core.specs.Common.{length-set, has_bit, has_in}
+use Rattle.solo_core.specs.Common.{length-set, has_bit}
 use Rattle.solo_core.proofs.CrossingLemmas.{crossing-decided, bits-more}
 use Rattle.solo_core.proofs.visits.crossing.keep_crossing.Goals as goal
 
@@ -11,10 +11,7 @@ pub loop-k-preserved : goal.loop-k-preserved
 loop-k-preserved c = record {
   as_many = length-set c.loop-k.kept c.loop-k.k c.without_lost.result ∙ c.loop-k.invariant.as_many;
   bits =
-      bits-more (λ k v. (has_in c.args.sets.now k v && not
-      (leb c.args.block k && not (has_bit c.values_in_block-in_block.result v))) && not
-      ((ltb k c.args.block && not (has_bit c.args.shared k)) && not
-      (has_bit c.values_in_line-in_line.result v)))
-      c.loop-k.kept c.loop-k.k c.without_lost.result (let e = c.loop-k.invariant.as_many in omega arith) c.loop-k.invariant.bits
+      bits-more _
+      c.loop-k.kept c.loop-k.k c.without_lost.result (omega (arith, c.loop-k.invariant.as_many)) c.loop-k.invariant.bits
       (λ v. grind (arith, c.without_lost.ensures v, c.is_block_alone.ensures, c.without_lost-left.ensures v));
 }

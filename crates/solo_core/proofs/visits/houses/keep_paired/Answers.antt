@@ -9,6 +9,6 @@ returns c = record {
   decided = decided_by_reach c.args.values c.args.kept.now c.write_mates.new.mates c.requires.square c.write_mates.ensures
       (has_in c.write_own_sets.new.reach) (λ x v lt. ap (λ b. has_bit b v) (c.write_own_sets.ensures.own x (omega (arith, c.requires.square))))
       (subst (λ (n : ℕ). IsTransitiveClosure n (has_in c.write_own_sets.new.reach)
-      (has_in c.close_reach.new.reach)) (c.write_own_sets.ensures.as_many ∙ c.requires.square)
-      c.close_reach.ensures.reaches) c.keep_reached.ensures.as_many c.keep_reached.ensures.bits;
+      (has_in c.close_under_steps.new.reach)) (c.write_own_sets.ensures.as_many ∙ c.requires.square)
+      c.close_under_steps.ensures.reaches) c.keep_reached.ensures.as_many c.keep_reached.ensures.bits;
 }

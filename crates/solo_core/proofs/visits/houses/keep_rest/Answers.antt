@@ -1,10 +1,10 @@
-use Rattle.std.proofs.Common.{refl, length}
+use Rattle.std.proofs.Common.{refl}
 use Rattle.solo_core.proofs.MateLemmas.{rest-within, no_pairing}
 use Rattle.solo_core.proofs.Turned.{decided_by_none, decided_by_rounds}
 use Rattle.solo_core.proofs.visits.houses.keep_rest.Goals as goal
 
 pub pair_rest-requires-clause-rest_in : goal.pair_rest-requires-clause-rest_in
-pair_rest-requires-clause-rest_in c = let r = c.requires.alone in rest-within (length c.args.kept.now) r.0 r.1
+pair_rest-requires-clause-rest_in c = let r = c.requires.alone in rest-within _ r.0 r.1
 
 pub returns-in-Short-clause-decided : goal.returns-in-Short-clause-decided
 returns-in-Short-clause-decided c =

@@ -1,5 +1,5 @@
 use Rattle.std.proofs.Common.{sym, arith}
-use Rattle.solo_core.specs.Common.{has_bit, bits-of_zero}
+use Rattle.solo_core.specs.Common.{bits-of_zero}
 use Rattle.solo_core.proofs.Marks.{next_kept, all_kept}
 use Rattle.solo_core.proofs.visits.houses.reaching.Goals as goal
 

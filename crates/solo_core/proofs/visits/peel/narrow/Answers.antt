@@ -14,6 +14,6 @@ pub returns-then-has_any-2-clause-dropped : goal.returns-then-has_any-2-clause-d
 returns-then-has_any-2-clause-dropped c = λ v lv on off.
     let w = c.has_any-2.ensures.some c.if-has_any-2.true in
     let h = in_both c.args.set c.all_below-2.result c.args.counts.single c.without-2.result w.0 c.without-2.ensures w.1 in
-    let gone = left_out (has_bit c.args.counts.single v) on (c.all_below-2.ensures.all v lv)
+    let gone = left_out _ on (c.all_below-2.ensures.all v lv)
     (sym (bits-both c.args.set c.without-2.result v ∙ ap (λ b. has_bit c.args.set v && b) (c.without-2.ensures v)) ∙ off) in
     (w.0, c.all_below-2.ensures.below w.0 h.1, h.0, λ e. true≢false (sym w.1 ∙ ap (has_bit (bit_and c.args.set c.without-2.result)) e ∙ off), inr gone)

@@ -10,24 +10,24 @@ loop-k-preserved c =
     let set = c.narrow-set.result in
     let old = slice_index c.args.sets.now in
     let new = slice_set c.loop-k.sets k set in
-    let here : slice_index new k ≡ set = get_or-set_at c.loop-k.sets k k set 0 refl (omega arith) in
+    let here = get_or-set_at c.loop-k.sets k k set 0 refl (omega arith) in
     let there : (j : ℕ) → (j ≡ k → ⊥) → slice_index new j ≡ slice_index c.loop-k.sets j = λ j ne. get_or-set_other c.loop-k.sets k j set 0 ne in
-    let was : slice_index c.loop-k.sets k ≡ old k = i.rest k (omega arith) in
+    let was = i.rest k (omega arith) in
     record {
       as_many = length-set c.loop-k.sets k set ∙ i.as_many;
       counts = counts-more k (counts-same i.counts (λ j lj. there j (λ e. absurd (omega arith))))
-          (λ v. c.with-narrowed.ensures.some v ∙ ap (λ (b : ℕ). has_bit c.loop-k.narrowed.some v || has_bit b v) (sym here))
+          (λ v. c.with-narrowed.ensures.some v ∙ ap (λ b. has_bit c.loop-k.narrowed.some v || has_bit b v) (sym here))
           (λ v on. rw here (c.with-narrowed.ensures.single v on))
           (λ v. c.with-narrowed.ensures.shared v
-          ∙ ap (λ (b : ℕ). has_bit c.loop-k.narrowed.shared
+          ∙ ap (λ b. has_bit c.loop-k.narrowed.shared
           v || (has_bit c.loop-k.narrowed.some v && has_bit b v)) (sym here));
-      inside = λ j v lj on. let t = there j in let h = i.inside j v in let g = c.narrow-set.ensures.inside v in grind arith;
+      inside = λ j v lj on. grind (arith, there j, i.inside j v, c.narrow-set.ensures.inside v);
       dropped = λ j v lj lv on off. elim (cases_eq j k) [
         | inl e ↦ rw (e, sym was)
             (c.narrow-set.ensures.dropped v lv
-            (ap (λ (b : ℕ). has_bit b v) (was ∙ ap old (sym e)) ∙ on)
-            (ap (λ (b : ℕ). has_bit b v) (sym here ∙ ap (slice_index new) (sym e)) ∙ off))
-        | inr ne ↦ i.dropped j v (omega arith) lv on (ap (λ (b : ℕ). has_bit b v) (sym (there j ne)) ∙ off)
+            (ap (λ b. has_bit b v) (was ∙ ap old (sym e)) ∙ on)
+            (ap (λ b. has_bit b v) (sym here ∙ ap (slice_index new) (sym e)) ∙ off))
+        | inr ne ↦ i.dropped j v (omega arith) lv on (ap (λ b. has_bit b v) (sym (there j ne)) ∙ off)
       ];
       rest = λ j le. there j (λ e. absurd (omega arith)) ∙ i.rest j (omega arith);
     }

@@ -9,6 +9,6 @@ returns-in-Some-clause-on c =
     let mates = c.args.mates.now in
     let v = c.in-Some.value in
     let at = c.in-Some.ensures in
-    goes_on_free c.args.joined.now.values c.args.joined.now.sets.now c.args.joined.now.rest.now k c.requires.begun
+    goes_on_free c.args.graph.now.values c.args.graph.now.sets.now c.args.graph.now.rest.now k c.requires.begun
     (λ l lt. get_or-set_other mates k l v 0 (λ e. absurd (omega arith))) (get_or-set_at mates k k v 0 refl (omega arith)) (omega (arith, at.1))
     (grind (arith, bits-both, at.2)) (grind (arith, bits-both, at.2))

@@ -6,9 +6,9 @@ use Rattle.solo_core.proofs.visits.quick.swap.Goals as goal
 
 pub returns-in-Some-clause-on : goal.returns-in-Some-clause-on
 returns-in-Some-clause-on c =
-    let n = c.args.joined.now.values in
-    let sets = c.args.joined.now.sets.now in
-    let rest = c.args.joined.now.rest.now in
+    let n = c.args.graph.now.values in
+    let sets = c.args.graph.now.sets.now in
+    let rest = c.args.graph.now.rest.now in
     let mates = c.loop-j.mates in
     let k = c.args.i in
     let j = c.loop-j.j in

@@ -1,9 +1,7 @@
-use Rattle.std.proofs.Common.{◌∙◌}
-use Rattle.commands.proofs.InputLemmas.{line_whole, last_over}
+use Rattle.commands.proofs.Common.{IsLine, arith, subst}
+use Rattle.commands.proofs.InputLemmas.{line_told}
 use Rattle.commands.proofs.batch.lines.InputLine.before_end.Goals as goal
 
-pub returns-in-Nothing : goal.returns-in-Nothing
-returns-in-Nothing c = λ piece h. c.as_slice.ensures.value ∙ line_whole _ h c.in-Nothing.is
-
-pub returns-in_default : goal.returns-in_default
-returns-in_default c = λ piece h. last_over _ h c.in_default.not-Nothing
+pub returns : goal.returns
+returns c = λ piece h. line_told (λ l. l) (λ l. omega arith) c.unless_over.result piece h
+    (subst (IsLine c.unless_over.result) c.as_slice.ensures.value c.unless_over.ensures.line) c.unless_over.ensures.within

@@ -1,4 +1,4 @@
-use Rattle.std.proofs.Common.{◌≡◌, ◌∙◌, ◌==◌, ap, arith, length, vec_len}
+use Rattle.commands.proofs.Common.{ap, arith, length, max_id, vec_len, ◌+◌, ◌==◌, ◌∙◌, ◌≡◌}
 use Rattle.commands.proofs.InputLemmas.{line_empty}
 use Rattle.commands.proofs.batch.lines.InputLine.is_empty.Goals as goal
 
@@ -6,4 +6,4 @@ pub returns : goal.returns
 returns c = λ piece h.
     let kept = c.args.self.now.kept in
     let same : vec_len kept ≡ length kept.items = omega (arith, kept.ok.0) in
-    c.is_empty.ensures ∙ ap (λ n. n == 0) same ∙ line_empty (omega arith) h
+    c.is_empty.ensures ∙ ap (λ n. n == 0) same ∙ line_empty {most = max_id + 2} (omega arith) piece h

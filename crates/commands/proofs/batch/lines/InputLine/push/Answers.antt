@@ -1,9 +1,11 @@
-use Rattle.std.proofs.Common.{refl, rules}
+use Rattle.commands.proofs.Common.{[], max_id, rules, ◌++◌, ◌+◌, ◌∙◌, ◌∷◌, ◌≡◌}
 use Rattle.commands.proofs.InputLemmas.{holds_kept, holds_more}
 use Rattle.commands.proofs.batch.lines.InputLine.push.Goals as goal
 
 pub returns-in_ok-push : goal.returns-in_ok-push
-returns-in_ok-push c = λ piece h. holds_kept _ h (search rules) (search rules) refl
+returns-in_ok-push c = λ piece h.
+    let pushed : c.push.new.self.items ≡ c.args.self.now.kept.items ++ c.args.byte ∷ [] = search rules in
+    pushed ∙ holds_kept (max_id + 2) c.args.byte piece h (search rules)
 
-pub returns-else-len-lt-MAX_ID : goal.returns-else-len-lt-MAX_ID
-returns-else-len-lt-MAX_ID c = λ piece h. holds_more _ h (search rules) refl (search rules)
+pub returns-else-len-lt-LINE_LIMIT : goal.returns-else-len-lt-LINE_LIMIT
+returns-else-len-lt-LINE_LIMIT c = λ piece h. holds_more (max_id + 2) c.args.byte piece h (search rules)

@@ -1,4 +1,4 @@
-use Rattle.gameid_core.proofs.LightTexts.{light_reading}
+use Rattle.commands.proofs.Common.{light_reading}
 use Rattle.commands.proofs.games.light_up.LightPuzzlePlayed.read_id.Goals as goal
 
 pub returns-clause-apart : goal.returns-clause-apart

@@ -1,4 +1,4 @@
-use Rattle.gameid_core.proofs.PatternTexts.{pattern_reading}
+use Rattle.commands.proofs.Common.{pattern_reading}
 use Rattle.commands.proofs.games.pattern.PatternPuzzlePlayed.read_id.Goals as goal
 
 pub returns-clause-apart : goal.returns-clause-apart

@@ -1,10 +1,6 @@
-use Rattle.std.proofs.Common.{refl, rules, sym}
-use Rattle.commands.specs.Common.{crossings_rules}
-use Rattle.commands.specs.Grades.{only_set}
-use Rattle.commands.specs.SoloFacts.{after_singles, solo_facts}
-use Rattle.commands.specs.declared.grade.RuleSet.TheVariants.{Crossings, Singles}
+use Rattle.commands.proofs.Common.{Crossings, Singles, after_singles, crossings_rules, only_set, rules, solo_facts, sym}
 use Rattle.commands.proofs.GradeLemmas.{said_first, said_later, named, singles_named}
-use Rattle.commands.proofs.SearchedPuzzles.{solo_accepted}
+use Rattle.commands.proofs.SearchedPuzzles.{singles_searched}
 use Rattle.commands.proofs.RunLemmas.{says_nothing}
 use Rattle.commands.proofs.games.solo.SoloPuzzleGraded.say_grade.Goals as goal
 
@@ -19,7 +15,7 @@ returns-then-settles-clause-answer g c =
     let p = c.args.self.now in
     let ok = c.in_ok-singles.ensures.known in
     said_first solo_facts p c.args.options.budget c.args.options.traced g.O.Sink.takes _ _ _ Singles (after_singles p) c.in_ok-singles.ensures.rules
-    (sym c.if-settles.ensures.settled) (solo_accepted ok _ _) (c.if-settles.ensures.one refl) c.say.ensures.answer
+    (sym c.if-settles.ensures.settled) (singles_searched p ok) c.say.ensures.answer
 
 pub returns-clause-answer : goal.returns-clause-answer
 returns-clause-answer g c =

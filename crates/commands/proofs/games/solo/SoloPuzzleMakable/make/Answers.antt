@@ -1,26 +1,17 @@
-use Rattle.std.proofs.Common.{◌≡◌, ℕ, Bool, arith}
-use Rattle.std.specs.Prelude.{Ok, true}
-use Rattle.std.proofs.lemmas.Grind.{common_steps}
+use Rattle.commands.proofs.Common.{Bool, IsSoloUnmade, Ok, Text, arith, common_steps, in_range, size_of, solo_facts, true, ℕ, ◌≡◌}
 use Rattle.gameid_core.specs.declared.id.game.Game.TheVariants as game
-use Rattle.maker_core.specs.SoloMaking.{IsSoloSize, IsSoloUnmade}
 use Rattle.maker_core.specs.declared.made.MakeFault.{MakeFault}
 use Rattle.maker_core.specs.declared.made.MakeFault.TheVariants.{Exhausted, Memory, SizeRange}
-use Rattle.commands.specs.Answers.{Text}
-use Rattle.commands.specs.Common.{in_range, size_of}
-use Rattle.commands.specs.SoloFacts.{solo_facts}
 use Rattle.commands.specs.Unmade.{IsUnmade, unmade_by, wanted_in}
 use Rattle.commands.specs.declared.generate.Recipe.{Recipe}
 use Rattle.commands.proofs.games.solo.SoloPuzzleMakable.make.Goals as goal
-
--- a size that was read is one that can be
-sized : {c r : ℕ} → in_range game.Solo c r ≡ true → IsSoloSize c r
-sized range = grind (arith, common_steps)
+use Rattle.commands.proofs.Makings.{solo_sized}
 
 -- why none is made of it
 unmade : {c r : ℕ} {x : Bool} (recipe : Recipe) (text : Text) (e : MakeFault) → in_range game.Solo c r ≡ true
     → size_of game.Solo text ≡ Ok (record { w = c; h = r; x = x }) → IsSoloUnmade c r x recipe.limits (wanted_in recipe).stream e
     → IsUnmade solo_facts.game recipe text (unmade_by e)
-unmade recipe text SizeRange range read none = absurd (none (sized range))
+unmade recipe text SizeRange range read none = absurd (none (solo_sized range))
 unmade recipe text Exhausted range read out =
     record { size = _; read = read; allowed = record { none = out.1; plain = out.2 } }
 unmade recipe text Memory range read out = tt

@@ -1,4 +1,4 @@
-use Rattle.gameid_core.proofs.SoloTexts.{solo_reading}
+use Rattle.commands.proofs.Common.{solo_reading}
 use Rattle.commands.proofs.games.solo.SoloPuzzlePlayed.read_id.Goals as goal
 
 pub returns-clause-apart : goal.returns-clause-apart

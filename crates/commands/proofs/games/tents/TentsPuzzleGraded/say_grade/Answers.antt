@@ -1,4 +1,4 @@
-use Rattle.fields_core.specs.TentSolutions.{IsTentSolution}
+use Rattle.commands.proofs.Common.{IsTentSolution}
 use Rattle.commands.proofs.GradeLemmas.{accepted_by}
 use Rattle.commands.proofs.games.tents.TentsPuzzleGraded.say_grade.Goals as goal
 

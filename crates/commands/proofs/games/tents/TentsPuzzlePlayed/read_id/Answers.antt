@@ -1,4 +1,4 @@
-use Rattle.gameid_core.proofs.TentsTexts.{tents_reading}
+use Rattle.commands.proofs.Common.{tents_reading}
 use Rattle.commands.proofs.games.tents.TentsPuzzlePlayed.read_id.Goals as goal
 
 pub returns-clause-apart : goal.returns-clause-apart

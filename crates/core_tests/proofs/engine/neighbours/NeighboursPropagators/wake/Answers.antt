@@ -1,10 +1,10 @@
 use Rattle.core_tests.proofs.Common.{refl}
-use Rattle.core_tests.proofs.NeighboursLemmas.{called-beside}
+use Rattle.core_tests.proofs.NeighboursLemmas.{woken-beside}
 use Rattle.core_tests.proofs.engine.neighbours.NeighboursPropagators.wake.Goals as goal
 
 pub returns : goal.returns
 returns c = record {
-  called = λ K f.
+  woken = λ K f.
       let r = c.args.self.now in
-      called-beside r.cells c.args.place _ refl (rw c.saturating_sub.ensures at c.enqueue_if.ensures) c.enqueue_if-2.ensures;
+      woken-beside r.cells c.args.place _ refl (rw c.saturating_sub.ensures at c.enqueue_if.ensures) c.enqueue_if-2.ensures;
 }

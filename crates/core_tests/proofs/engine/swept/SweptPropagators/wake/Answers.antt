@@ -2,7 +2,7 @@ use Rattle.core_tests.proofs.engine.swept.SweptPropagators.wake.Goals as goal
 
 pub returns : goal.returns
 returns c = record {
-  called = λ K f.
-      let is = c.wake.ensures.called K f in
+  woken = λ K f.
+      let is = c.wake.ensures.woken K f in
       record { kept = is.kept; fewer = is.fewer; idle = is.idle };
 }

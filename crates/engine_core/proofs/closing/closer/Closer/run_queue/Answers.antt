@@ -12,7 +12,7 @@ picked g c = rw (← c.self.view_is, ← c.houses.ensures, ← c.deref.ensures.v
 -- the trace is long enough
 long : (g : _) (c : In-Some g) → (g.R.Rules.system c.args.rules.now).bound ≤ length c.self.inside.trace.items
 long g c =
-    let queue : is_queue g.R.Rules.MODE ≡ true = sym (g.met.R.Rules.mode_is c.args.rules.now) ∙ c.requires.queue in
+    let queue = sym (g.met.R.Rules.mode_is c.args.rules.now) ∙ c.requires.queue in
     let same = ap (λ m. m.bound) (rw (← c.self.view_is) at c.loop-house.invariant.room.made) in
     omega (arith, rw queue at c.self.invariant.0.trace_long, c.requires.fits.bound_in, same)
 

@@ -59,6 +59,6 @@ returns-clause-visited g c =
           (omega (arith, v.ok.0, c.deref_mut.ensures.len, c.dequeue.auto.waits, c.deref_mut-waits.ensures.len, c.mark_changed-dead.auto.waits, c.dequeue_if.auto.waits))) (woken-by
           (rw c.deref_mut.ensures.value at c.dequeue.ensures)
           (rw (c.deref_mut-waits.ensures.value, cleared)
-          at (c.mark_changed-dead.ensures.called K are inside))
+          at (c.mark_changed-dead.ensures.woken K are inside))
           (λ j. rw (c.SETTLED.ensures, ← (g.met.R.Rules.settled_is c.args.rules.now)) at (c.dequeue_if.ensures j)));
     })

@@ -1,4 +1,4 @@
-use Rattle.std.proofs.Common.{arith}
+use Rattle.engine_core.proofs.Common.{arith}
 use Rattle.engine_core.proofs.PieceLemmas.{added-grown, grown-listed}
 use Rattle.engine_core.proofs.houses.list.HouseList.push.Goals as goal
 

@@ -1,4 +1,4 @@
-use Rattle.std.proofs.Common.{ap, arith, length}
+use Rattle.engine_core.proofs.Common.{ap, arith, length}
 use Rattle.engine_core.proofs.PieceLemmas.{added-grown, closed-is, grown-listed}
 use Rattle.engine_core.proofs.houses.list.HouseList.push_list.Goals as goal
 

@@ -1,5 +1,4 @@
-use Rattle.std.proofs.Common.{ap, length, sym, ◌∙◌}
-use Rattle.engine_core.proofs.Common.{length-between}
+use Rattle.engine_core.proofs.Common.{ap, length, length-between, sym, ◌∙◌}
 use Rattle.engine_core.proofs.PieceLemmas.{closed-is, grown-listed}
 use Rattle.engine_core.proofs.houses.list.HouseList.push_others.Goals as goal
 

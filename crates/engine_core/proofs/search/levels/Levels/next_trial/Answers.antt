@@ -3,40 +3,43 @@ use Rattle.engine_core.proofs.LevelLemmas.{top-open, open-back, ready-back, turn
 use Rattle.engine_core.proofs.RoomLemmas.{open-cell}
 use Rattle.engine_core.proofs.search.levels.Levels.next_trial.Goals as goal
 
-pub innermost-top-requires-clause-room : goal.innermost-top-requires-clause-room
-innermost-top-requires-clause-room g c = omega (arith, (top-open c.requires.ready c.requires.deep).1, c.requires.ready.room)
+pub offset_bounds-frames-self : goal.offset_bounds-frames-self
+offset_bounds-frames-self g c = omega (arith, (top-open c.requires.ready c.requires.deep).1, c.requires.ready.room, c.args.self.now.frames.ok)
+
+pub bounds-frames-self : goal.bounds-frames-self
+bounds-frames-self g c = rw c.deref-frames.ensures.value (omega (arith, (top-open c.requires.ready c.requires.deep).1, c.requires.ready.room))
 
 pub undo-requires-clause-marked : goal.undo-requires-clause-marked
-undo-requires-clause-marked g c = let deep = c.requires.deep in omega (arith, c.requires.ready.marked)
+undo-requires-clause-marked g c = omega (arith, c.requires.ready.marked, c.requires.deep)
 
 pub next_value-requires-clause-cell_in : goal.next_value-requires-clause-cell_in
-next_value-requires-clause-cell_in g c = rw c.innermost-top.ensures (top-open c.requires.ready c.requires.deep).0
+next_value-requires-clause-cell_in g c = rw c.deref-frames.ensures.value (top-open c.requires.ready c.requires.deep).0
 
 pub index_mut-requires : goal.index_mut-requires
 index_mut-requires g c = omega (arith, (top-open c.requires.ready c.requires.deep).1, c.requires.ready.room, c.args.self.now.frames.ok.0)
 
 pub leave-requires-clause-cell_in : goal.leave-requires-clause-cell_in
-leave-requires-clause-cell_in g c = rw c.innermost-top.ensures (top-open c.requires.ready c.requires.deep).0
+leave-requires-clause-cell_in g c = rw c.deref-frames.ensures.value (top-open c.requires.ready c.requires.deep).0
 
 pub leave-requires-clause-several : goal.leave-requires-clause-several
 leave-requires-clause-several g c =
-    rw c.innermost-top.ensures (open-cell (open-back c.requires.ready c.requires.deep c.undo.ensures.returned)).two
+    rw c.deref-frames.ensures.value (open-cell (open-back c.requires.ready c.requires.deep c.undo.ensures.returned)).two
 
 pub returns-in-None-clause-turn : goal.returns-in-None-clause-turn
 returns-in-None-clause-turn g c =
-    turn-done c.requires.ready c.requires.deep c.undo.ensures.returned (rw c.innermost-top.ensures at c.in-None.ensures)
+    turn-done c.requires.ready c.requires.deep c.undo.ensures.returned (rw c.deref-frames.ensures.value at c.in-None.ensures)
 
 pub returns-in-None-clause-ready : goal.returns-in-None-clause-ready
 returns-in-None-clause-ready g c = ready-back c.requires.ready c.requires.deep c.undo.ensures.returned
 
 pub returns-in-Some-clause-turn : goal.returns-in-Some-clause-turn
 returns-in-Some-clause-turn g c =
-    let e = c.innermost-top.ensures in
+    let e = c.deref-frames.ensures.value in
     rw e (turn-trial c.requires.ready c.requires.deep c.undo.ensures.returned c.in-Some.value (rw e at c.in-Some.ensures)
     (rw e at c.leave.ensures.left) c.leave.ensures.onward (g.met.P.Position.lawful c.args.rules.now) refl refl)
 
 pub returns-in-Some-clause-ready : goal.returns-in-Some-clause-ready
 returns-in-Some-clause-ready g c =
-    let e = c.innermost-top.ensures in
+    let e = c.deref-frames.ensures.value in
     rw e (turn-ready c.requires.ready c.requires.deep c.undo.ensures.returned c.in-Some.value (rw e at c.in-Some.ensures)
     (rw e at c.leave.ensures.left) c.leave.ensures.onward)

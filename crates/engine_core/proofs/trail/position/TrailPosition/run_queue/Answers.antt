@@ -1,5 +1,4 @@
-use Rattle.engine_core.proofs.Common.{IsClosing, [], after, arith, board_in, is_waiting, length-append, refl, sym, true, true≢false, ◌++◌, ◌<◌, ◌∙◌, ◌∷◌, ◌≡◌}
-use Rattle.engine_core.specs.declared.mode.Closing.TheVariants.{Dead, Open}
+use Rattle.engine_core.proofs.Common.{Dead, IsClosing, Open, [], after, arith, board_in, is_waiting, length-append, refl, sym, true, true≢false, ◌++◌, ◌<◌, ◌∙◌, ◌∷◌, ◌≡◌}
 use Rattle.engine_core.proofs.QueueLemmas.{within_of}
 use Rattle.engine_core.proofs.TrailLemmas.{on-none, on-more}
 use Rattle.engine_core.proofs.ListLemmas.{running-alive, running-first, running-turn, closing-dead, closing-open, room}

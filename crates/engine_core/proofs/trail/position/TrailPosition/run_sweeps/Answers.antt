@@ -1,5 +1,4 @@
-use Rattle.engine_core.proofs.Common.{HasStruck, IsClosing, [], board_in, range_with_len, refl, replay, sym, true≢false, ◌+◌, ◌∙◌}
-use Rattle.engine_core.specs.declared.mode.Closing.TheVariants.{Dead, Open}
+use Rattle.engine_core.proofs.Common.{Dead, HasStruck, IsClosing, Open, [], board_in, range_with_len, refl, replay, sym, true≢false, ◌+◌, ◌∙◌}
 use Rattle.engine_core.proofs.QueueLemmas.{within_of}
 use Rattle.engine_core.proofs.TrailLemmas.{on-none, on-more}
 use Rattle.engine_core.proofs.SweepLemmas.{fewer, none_waits, some_waits, swept-dead, swept-first, swept-open, swept-turn}

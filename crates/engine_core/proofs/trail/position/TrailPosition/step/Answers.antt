@@ -1,5 +1,5 @@
 use Rattle.engine_core.proofs.Common.{arith, drop, has, has_place, length, refl}
-use Rattle.engine_core.proofs.CallLemmas.{called-same, woken-by, woken-unstruck}
+use Rattle.engine_core.proofs.CallLemmas.{woken-same, woken-by, woken-unstruck}
 use Rattle.engine_core.proofs.WaitLemmas.{written-back}
 use Rattle.engine_core.proofs.KeepLemmas.{kept-none}
 use Rattle.engine_core.proofs.LostLemmas.{lost-any}
@@ -47,9 +47,9 @@ returns-clause-step g c =
     written-back v.len c.dequeue.new.waits (drop (length c.dequeue.new.waits) v.items)
     (omega (arith, v.ok.0, c.deref_mut.ensures.len, c.dequeue.auto.waits)) in
     let called =
-    called-same p K' _ _ _ _ (λ j lt. lost-any p (has_place (p.scope j)) s.lost)
+    woken-same p K' _ _ _ _ (λ j lt. lost-any p (has_place (p.scope j)) s.lost)
     (rw (c.len-before.ensures.len, c.deref_mut-waits.ensures.value, cleared)
-    at c.wake_since.ensures.called) in
+    at c.wake_since.ensures.woken) in
     rw (← c.self.view_is) (
       s.left,
       s.alive,

@@ -1,6 +1,5 @@
-use Rattle.engine_core.proofs.Common.{IsClosing, IsRested, [], arith, board_in, drop, has, is_waiting, length, refl, sym, take, ◌++◌, ◌∙◌}
+use Rattle.engine_core.proofs.Common.{Dead, IsClosing, IsRested, [], arith, board_in, drop, has, is_waiting, length, refl, sym, take, ◌++◌, ◌∙◌}
 use Rattle.engine_core.proofs.WaitLemmas.{written-back}
-use Rattle.engine_core.specs.declared.mode.Closing.TheVariants.{Dead}
 use Rattle.engine_core.proofs.QueueLemmas.{rested_from, dead_of, within_of}
 use Rattle.engine_core.proofs.ListLemmas.{closing-none}
 use Rattle.engine_core.proofs.EndLemmas.{closed-in, taken-dead}
@@ -33,7 +32,7 @@ rested g c =
     rw (written-back c.self.inside.waits.len c.wait_from.new.waits
     (drop (length c.wait_from.new.waits) c.self.inside.waits.items)
     (omega (arith, c.self.inside.waits.ok.0, c.deref_mut.ensures.len, c.wait_from.auto.waits)))
-    (rested_from c.args.from r.closed_but (c.wait_from.ensures.called _ r.walks.along.follows))
+    (rested_from c.args.from r.closed_but (c.wait_from.ensures.woken _ r.walks.along.follows))
 
 pub run_queue-requires-clause-rested : goal.run_queue-requires-clause-rested
 run_queue-requires-clause-rested g c = rested g (goal.at.run_queue-requires-clause-rested g c).After-wait_from

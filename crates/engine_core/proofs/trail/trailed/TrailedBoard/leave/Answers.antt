@@ -14,9 +14,7 @@ noted g c =
 
 pub index_mut-requires : goal.index_mut-requires
 index_mut-requires g c =
-    let room = (noted g (goal.at.index_mut-requires g c).After-retain).room in
-    let long = c.self.inside.changes.ok.0 in
-    omega arith
+    omega (arith, (noted g (goal.at.index_mut-requires g c).After-retain).room, c.self.inside.changes.ok.0)
 
 pub overflow_add-self : goal.overflow_add-self
 overflow_add-self g c =

@@ -1,22 +1,23 @@
-use Rattle.engine_core.proofs.Common.{IsBitsOf, after, arith, cases_eq, has, inl, inr, length, slice_index, ◌+◌, ◌<◌, ◌≡◌}
+use Rattle.engine_core.proofs.Common.{IsBitsOf, after, arith, bit_and, cases_eq, has, inl, inr, length, slice_index, ◌+◌, ◌<◌, ◌≡◌}
 use Rattle.engine_core.proofs.KeepLemmas.{kept-left, struck-alive, struck-dead, struck-some}
 use Rattle.engine_core.proofs.LostLemmas.{lost-differ, lost-more, lost-same}
 use Rattle.engine_core.proofs.QueueLemmas.{scope-in, within_of}
 use Rattle.engine_core.proofs.ScopeLemmas.{IsUpto, upto-next, upto-cell, upto-left, upto-same, upto-all}
 use Rattle.engine_core.proofs.TrailLemmas.{further-more}
 use Rattle.engine_core.proofs.trail.trailed.TrailedBoard.strike.Goals as goal
-use Rattle.engine_core.proofs.trail.trailed.TrailedBoard.strike.Goals.{After-left_of-left, then-left-sets+else-left-eq0, else-left-sets}
+use Rattle.engine_core.proofs.trail.trailed.TrailedBoard.strike.Goals.{In-loop-k, then-left-sets+else-left-eq0, else-left-sets}
 
 -- the cell of this turn is one of the house
-in_scope : (g : _) (c : After-left_of-left g) → c.loop-k.k < length ((g.R.Rules.system c.args.rules.now).scope c.args.house)
+in_scope : (g : _) (c : In-loop-k g) → c.loop-k.k < length ((g.R.Rules.system c.args.rules.now).scope c.args.house)
 in_scope g c = omega (arith, c.requires.sets.as_many)
 
 -- what it is to have left
-left : (g : _) (c : After-left_of-left g)
+left : (g : _) (c : In-loop-k g)
     → IsBitsOf (after (g.R.Rules.system c.args.rules.now) c.args.house (has c.args.self.now.board)
     (slice_index ((g.R.Rules.system c.args.rules.now).scope c.args.house) c.loop-k.k))
-    (g.R.Rules.system c.args.rules.now).values c.left_of-left.result
-left g c = rw c.left_of-left.ensures (kept-left c.requires.sets c.requires.kept (in_scope g c))
+    (g.R.Rules.system c.args.rules.now).values
+    (bit_and (slice_index c.args.sets.now c.loop-k.k) (slice_index c.args.kept.now c.loop-k.k))
+left g c = kept-left c.requires.sets c.requires.kept (in_scope g c)
 
 pub leave-requires-clause-place_in : goal.leave-requires-clause-place_in
 leave-requires-clause-place_in g c =
@@ -24,12 +25,12 @@ leave-requires-clause-place_in g c =
 
 pub leave-requires-clause-before : goal.leave-requires-clause-before
 leave-requires-clause-before g c =
-    let lt = in_scope g (goal.at.leave-requires-clause-before g c).After-left_of-left in
+    let lt = in_scope g (goal.at.leave-requires-clause-before g c).In-loop-k in
     rw (c.scope.ensures, upto-next (g.met.R.Rules.lawful c.args.rules.now) c.requires.house_in lt c.loop-k.invariant.upto) (c.requires.sets.bits c.loop-k.k lt)
 
 pub leave-requires-clause-left : goal.leave-requires-clause-left
 leave-requires-clause-left g c =
-    let here = (goal.at.leave-requires-clause-left g c).After-left_of-left in
+    let here = (goal.at.leave-requires-clause-left g c).In-loop-k in
     let left = left g here in
     rw (
       c.scope.ensures,
@@ -38,7 +39,7 @@ leave-requires-clause-left g c =
 
 pub returns-then-left-eq0-clause-dead : goal.returns-then-left-eq0-clause-dead
 returns-then-left-eq0-clause-dead g c = λ _.
-    let here = (goal.at.returns-then-left-eq0-clause-dead g c).After-left_of-left in
+    let here = (goal.at.returns-then-left-eq0-clause-dead g c).In-loop-k in
     struck-dead (g.met.R.Rules.lawful c.args.rules.now) _ c.requires.house_in (in_scope g here) (rw c.if-left-eq0.true at (left g here))
 
 pub loop-k-preserved : goal.loop-k-preserved
@@ -46,7 +47,7 @@ loop-k-preserved g c =
     let i = c.loop-k.invariant in
     let grows = i.further.grows in
     let laws = g.met.R.Rules.lawful c.args.rules.now in
-    let here = (goal.at.loop-k-preserved g c).After-left_of-left in
+    let here = (goal.at.loop-k-preserved g c).In-loop-k in
     let are = c.requires.sets in
     let left = left g here in
     let lt = in_scope g here in

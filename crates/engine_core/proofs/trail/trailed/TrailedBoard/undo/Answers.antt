@@ -46,6 +46,6 @@ returns-clause-back g c =
     record {
       shape = i.shape;
       here = sym (put_back-none t.changes.items c.args.mark t.len (omega arith)) ∙ i.back c.args.mark (omega arith);
-      len = (let low = i.low in omega arith);
+      len = (omega (arith, i.low));
       back = λ m le. i.back m le;
     }

@@ -1,4 +1,4 @@
-use Rattle.std.proofs.Common.{true≢false, sym, arith}
+use Rattle.fields_core.proofs.Common.{arith, sym, true≢false}
 use Rattle.fields_core.proofs.CountKept.{kept-strikes}
 use Rattle.fields_core.proofs.CountTallies.{idle-by, sets-tally}
 use Rattle.fields_core.proofs.count.rules.CountRulesRuleSet.filter.Goals as goal

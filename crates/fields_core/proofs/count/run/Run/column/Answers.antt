@@ -1,4 +1,4 @@
-use Rattle.std.proofs.Common.{◌∙◌}
+use Rattle.fields_core.proofs.Common.{◌∙◌}
 use Rattle.fields_core.proofs.RunLemmas.{column-made, column-cell}
 use Rattle.fields_core.proofs.count.run.Run.column.Goals as goal
 

@@ -1,4 +1,4 @@
-use Rattle.std.proofs.Common.{◌∙◌}
+use Rattle.fields_core.proofs.Common.{◌∙◌}
 use Rattle.fields_core.proofs.RunLemmas.{run-at}
 use Rattle.fields_core.proofs.count.run.Run.place.Goals as goal
 

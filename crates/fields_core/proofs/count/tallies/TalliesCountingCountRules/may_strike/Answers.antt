@@ -1,6 +1,4 @@
-use Rattle.std.proofs.Common.{arith, ◌≡◌, ◌∙◌}
-use Rattle.std.proofs.lemmas.List.{get_or_default}
-use Rattle.fields_core.specs.Tallies.{tally_at}
+use Rattle.fields_core.proofs.Common.{arith, get_or_default, tally_at, ◌∙◌, ◌≡◌}
 use Rattle.fields_core.proofs.CountTallies.{idle-by}
 use Rattle.fields_core.proofs.count.tallies.TalliesCountingCountRules.may_strike.Goals as goal
 

@@ -1,12 +1,5 @@
-use Rattle.std.proofs.Common.{◌≡◌, ◌++◌, ◌<◌, ◌^◌, List, ℕ, take, subst, ap, length, arith}
-use Rattle.std.proofs.lemmas.List.{length-map}
-use Rattle.grid_core.specs.Board.{has}
-use Rattle.engine_core.specs.HouseIndex.{Table, scope_of}
+use Rattle.fields_core.proofs.Common.{AreTallied, List, Table, Tally, ap, arith, has, house_places, length, length-map, places-at, scope_of, subst, take, ℕ, ◌++◌, ◌<◌, ◌^◌, ◌≡◌}
 use Rattle.std.proofs.Math.Seq.{take-append_seam}
-use Rattle.fields_core.specs.CountLaws.{places-at}
-use Rattle.fields_core.specs.CountLists.{house_places}
-use Rattle.fields_core.specs.Tallies.{AreTallied}
-use Rattle.fields_core.specs.declared.count.tally.Tally.{Tally}
 use Rattle.fields_core.proofs.CountListLemmas.{counted-table}
 use Rattle.fields_core.proofs.CountWatch.{board-within, bits-are, unread-tallied, read-change, read-both, read-whole}
 use Rattle.fields_core.proofs.count.tallies.TalliesCountingCountRules.watch.Goals as goal
@@ -27,7 +20,7 @@ pub loop-place-init : goal.loop-place-init
 loop-place-init g c =
     let houses = g.P.CountGame.counted c.args.set.now.puzzle in
     let long = length-map houses house_places in
-    let scopes = ap (λ (t : Table). length t.scopes) c.requires.table in
+    let scopes = ap (λ t. length t.scopes) c.requires.table in
     let ok = c.args.self.now.tallies.ok.0 in (
       rw (written c.args.self.now.tallies.len c.count_open.new.tallies _ (omega (arith, ok, c.deref_mut.ensures.len, c.count_open.ensures.as_many)))
           (unread-tallied (has c.args.board.now) (counted-table c.args.set.now.counting.are_houses)
@@ -45,7 +38,7 @@ change-requires-clause-recounted g c =
       changed = _;
       is_so = c.loop-place.invariant.0;
       change = read-change (has c.args.board.now)
-          (omega (arith, c.loop-place-test.true, c.cells-place-end.ensures, ap (λ (t : Table). t.cells) c.requires.table))
+          (omega (arith, c.loop-place-test.true, c.cells-place-end.ensures, ap (λ t. t.cells) c.requires.table))
           (board-within c.args.board.now c.requires.board_of.same_cells c.requires.board_of.same_values)
           (bits-are c.args.board.now c.loop-place.place c.requires.board_of.same_values c.bits-bits.ensures.small c.bits-bits.ensures.same);
     }
@@ -55,7 +48,7 @@ loop-place-preserved g c =
     let cells = g.P.CountGame.board c.args.set.now.puzzle in
     let houses = g.P.CountGame.counted c.args.set.now.puzzle in
     let i = c.loop-place.invariant in
-    let lt : c.loop-place.place < cells = omega (arith, c.loop-place-test.true, c.cells-place-end.ensures, ap (λ (t : Table). t.cells) c.requires.table) in
+    let lt : c.loop-place.place < cells = omega (arith, c.loop-place-test.true, c.cells-place-end.ensures, ap (λ t. t.cells) c.requires.table) in
     let within = board-within c.args.board.now c.requires.board_of.same_cells c.requires.board_of.same_values in
     let bits = bits-are c.args.board.now c.loop-place.place c.requires.board_of.same_values c.bits-bits.ensures.small c.bits-bits.ensures.same in
     elim c.if-bits-ne-BOTH.branch [
@@ -74,5 +67,5 @@ returns-clause-follows g c =
     let cells = g.P.CountGame.board c.args.set.now.puzzle in
     subst (AreTallied cells (g.P.CountGame.counted c.args.set.now.puzzle) c.loop-place.self.tallies.items)
     (read-whole (has c.args.board.now) c.loop-place.place
-    (omega (arith, c.loop-place-test.false, c.cells-place-end.ensures, ap (λ (t : Table). t.cells) c.requires.table))
+    (omega (arith, c.loop-place-test.false, c.cells-place-end.ensures, ap (λ t. t.cells) c.requires.table))
     (board-within c.args.board.now c.requires.board_of.same_cells c.requires.board_of.same_values)) c.loop-place.invariant.0

@@ -1,7 +1,4 @@
-use Rattle.std.proofs.Common.{◌≤◌, vec_len}
-use Rattle.grid_core.specs.Board.{has}
-use Rattle.engine_core.specs.RuleSystem.{Needs}
-use Rattle.fields_core.specs.Tallies.{AreTallied}
+use Rattle.fields_core.proofs.Common.{AreTallied, Needs, has, vec_len, ◌≤◌}
 use Rattle.fields_core.proofs.CountWatch.{read_below}
 use Rattle.fields_core.proofs.count.tallies.TalliesCountingCountRules.watch.Given as goal
 

@@ -1,5 +1,4 @@
-use Rattle.std.proofs.Common.{◌≡◌, ℕ, ◌<◌, length, slice_index}
-use Rattle.fields_core.specs.Tallies.{kept_of}
+use Rattle.fields_core.proofs.Common.{kept_of, length, slice_index, ℕ, ◌<◌, ◌≡◌}
 use Rattle.fields_core.proofs.count.tally.Tally.keep.Given as goal
 
 abbrev pub invariant-loop-k : goal.invariant-loop-k

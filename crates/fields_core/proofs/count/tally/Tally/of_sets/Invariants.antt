@@ -1,5 +1,4 @@
-use Rattle.std.proofs.Common.{◌≡◌, take}
-use Rattle.fields_core.specs.Tallies.{tally_of}
+use Rattle.fields_core.proofs.Common.{take, tally_of, ◌≡◌}
 use Rattle.fields_core.proofs.count.tally.Tally.of_sets.Given as goal
 
 abbrev pub invariant-loop-k : goal.invariant-loop-k

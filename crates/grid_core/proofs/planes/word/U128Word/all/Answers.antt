@@ -1,4 +1,4 @@
-use Rattle.std.proofs.Common.{arith}
+use Rattle.grid_core.proofs.Common.{arith}
 use Rattle.grid_core.proofs.WordLemmas.{all-bits, full-bits}
 use Rattle.grid_core.proofs.planes.word.U128Word.all.Goals as goal
 

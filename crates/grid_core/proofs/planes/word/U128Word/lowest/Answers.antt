@@ -1,7 +1,5 @@
-use Rattle.std.proofs.Common.{ap, eqb}
+use Rattle.grid_core.proofs.Common.{ap, bit_at-trailing_zeros, eq-eqb, eqb}
 use mir.Syntax.{w128}
-use Rattle.std.proofs.lemmas.Bool.{eq-eqb}
-use Rattle.std.proofs.lemmas.Nat.Bits.{bit_at-trailing_zeros}
 use Rattle.grid_core.proofs.WordLemmas.{some-bit}
 use Rattle.grid_core.proofs.planes.word.U128Word.lowest.Goals as goal
 

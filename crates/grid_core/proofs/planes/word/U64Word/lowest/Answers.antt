@@ -1,7 +1,4 @@
-use Rattle.std.proofs.Common.{ap, eqb}
-use Rattle.std.proofs.Common.{w64}
-use Rattle.std.proofs.lemmas.Bool.{eq-eqb}
-use Rattle.std.proofs.lemmas.Nat.Bits.{bit_at-trailing_zeros}
+use Rattle.grid_core.proofs.Common.{ap, bit_at-trailing_zeros, eq-eqb, eqb, w64}
 use Rattle.grid_core.proofs.WordLemmas.{some-bit}
 use Rattle.grid_core.proofs.planes.word.U64Word.lowest.Goals as goal
 

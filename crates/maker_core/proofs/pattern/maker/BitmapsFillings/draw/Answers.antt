@@ -1,4 +1,4 @@
-use Rattle.maker_core.proofs.Common.{◌≡◌, ◌∙◌, ◌⊎◌, inl, inr, true, line_rules, has_one, clued_by}
+use Rattle.maker_core.proofs.Common.{clued_by, has_one, inl, inr, line_rules, true, ◌∙◌, ◌≡◌, ◌⊎◌}
 use Rattle.maker_core.proofs.PlainPattern.{plain_passes}
 use Rattle.maker_core.proofs.Switches.{other_fails}
 use Rattle.maker_core.proofs.pattern.maker.BitmapsFillings.draw.Given as given

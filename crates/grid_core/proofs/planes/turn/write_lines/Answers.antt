@@ -1,0 +1,42 @@
+use Rattle.grid_core.proofs.Common.{List, arith, cases_eq, cases_lt, get_or-set_other, get_or-set_same, get_or_past, has_bit, inl, inr, le-ltb, length, length-map, length-set, lt-ltb, ltb, map, map-set, refl, set, slice_index, sym, ℕ, ◌&&◌, ◌*◌, ◌+◌, ◌<◌, ◌∙◌, ◌≡◌}
+use Rattle.grid_core.proofs.WordLemmas.{zero-bits}
+use Rattle.grid_core.proofs.planes.turn.write_lines.Goals as goal
+use Rattle.grid_core.proofs.planes.turn.write_lines.Goals.{Joined-k-lines, then-k-lines, else-k-lines}
+
+-- one more word is written
+more : {W : Type 0} (bits : W → ℕ) (words : List W) (n end : ℕ) (word here : W) → n < length words
+    → ((k place : ℕ) → k < n → has_bit (slice_index (map bits words) k) place ≡ (ltb k end && has_bit (bits word) place))
+    → ((place : ℕ) → has_bit (bits here) place ≡ (ltb n end && has_bit (bits word) place))
+    → (k place : ℕ) → k < n + 1 → has_bit (slice_index (map bits (set words n here)) k) place ≡ (ltb k end && has_bit (bits word) place)
+more bits words n end word here lt written is k place less = rw (map-set bits words n here) (elim (cases_eq k n) [
+  | inl e ↦ rw (e, get_or-set_same (map bits words) n (bits here) 0 (omega (arith, lt, length-map words bits))) (is place)
+  | inr ne ↦ rw (get_or-set_other (map bits words) n k (bits here) 0 ne) (written k place (omega arith))
+])
+
+here : (g : _) (c : Joined-k-lines g) (place : ℕ)
+    → has_bit (g.W.Word.bits c.if-k-lines.here) place ≡ (ltb c.loop-k.k (2 * c.args.lines) && has_bit (g.W.Word.bits c.args.word) place)
+here g c place = elim c.if-k-lines.branch [
+  | then-k-lines w ↦ rw (w.here-is, lt-ltb c.loop-k.k (2 * c.args.lines) w.if-k-lines.true) refl
+  | else-k-lines w ↦ rw (w.here-is, le-ltb c.loop-k.k (2 * c.args.lines) w.if-k-lines.false) (c.none-none.ensures place)
+]
+
+pub loop-k-preserved : goal.loop-k-preserved
+loop-k-preserved g c = record {
+  written = more g.W.Word.bits c.loop-k.words.items c.loop-k.k (2 * c.args.lines) c.args.word _
+      (omega (arith, c.loop-k-test.true, c.len-k-end.ensures, c.args.words.now.ok.0, c.loop-k.invariant.long))
+      c.loop-k.invariant.written
+      (here g (goal.at.loop-k-preserved g c).Joined-k-lines);
+  long = length-set _ _ _ ∙ c.loop-k.invariant.long;
+}
+
+pub returns-clause-written : goal.returns-clause-written
+returns-clause-written g c = λ k place.
+    let i = c.loop-k.invariant in
+    let long : length c.loop-k.words.items ≡ c.len-k-end.result = i.long ∙ sym (c.args.words.now.ok.0) ∙ sym c.len-k-end.ensures in
+    elim (cases_lt k c.loop-k.k) [
+      | inl low ↦ i.written k place low
+      | inr high ↦ rw (
+        get_or_past (map g.W.Word.bits c.loop-k.words.items) k 0 (let e = c.loop-k-test.false in omega (arith, long, length-map c.loop-k.words.items g.W.Word.bits)),
+        le-ltb k (2 * c.args.lines) (let e = c.loop-k-test.false in omega (arith, i.long, c.requires.few)),
+      ) (zero-bits place)
+    ]
