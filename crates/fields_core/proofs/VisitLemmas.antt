@@ -22,7 +22,7 @@ after-inside : (house : CountHouse) (K : Candidates) → IsInside (after_house h
 unfolding after_house
 after-inside house K = λ c v on. (and_parts (K c v) _ on).0
 
-visits-inside : (houses : List CountHouse) (K : Candidates) → IsInside (after_houses houses K) K
+pub visits-inside : (houses : List CountHouse) (K : Candidates) → IsInside (after_houses houses K) K
 unfolding after_houses
 visits-inside [] K = λ c v on. on
 visits-inside (house ∷ houses) K = λ c v on. after-inside house K c v
