@@ -23,7 +23,7 @@ use Rattle.fields_core.specs.Parts.{Piece, piece_at, lies_in, lies_in_first, Are
 use Rattle.fields_core.proofs.BelowLemmas.{any-some, any-here}
 
 -- ---- one piece
-same-truth : (a b : Bool) → (a ≡ true → b ≡ true) → (b ≡ true → a ≡ true) → a ≡ b
+pub same-truth : (a b : Bool) → (a ≡ true → b ≡ true) → (b ≡ true → a ≡ true) → a ≡ b
 same-truth a b to from = grind (arith, common_steps, cases_Bool a, cases_Bool b)
 
 lies-one : (w : ℕ) (piece : Piece) (c : ℕ) → lies_in_first w (piece ∷ []) 1 c ≡ lies_in w piece c
@@ -136,7 +136,7 @@ pub pieces-house : (size : Extent) (pieces : List Piece) (house : CountHouse) �
     → IsHouseOf size pieces house.least house.most house
 pieces-house size pieces house is have = record { is = is; least_is = refl; most_is = refl; cells = have.cells }
 
-has-append : (xs ys : List ℕ) (c : ℕ) → has_place (xs ++ ys) c ≡ (has_place xs c || has_place ys c)
+pub has-append : (xs ys : List ℕ) (c : ℕ) → has_place (xs ++ ys) c ≡ (has_place xs c || has_place ys c)
 unfolding has_place
 has-append xs ys c = list_any-append (λ x. eqb x c) xs ys
 

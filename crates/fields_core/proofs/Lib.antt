@@ -31,5 +31,7 @@ pub mod PositionSteps
 pub mod VisitLemmas
 pub mod CellLemmas
 pub mod TentVisits
+pub mod TreeBoards
+pub mod TreeWords
 pub mod TentSweeps
 pub mod LawSets

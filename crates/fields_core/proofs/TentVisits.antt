@@ -46,7 +46,7 @@ module _ (p : Tents) (lawful : IsTents p) where
       (among-front _ (houses_below (row_of_tents p) p.size.h) _
       (among-below _ (row_of_tents p) y p.size.h lt (among-one _))))
 
-  tree-is : {c : ℕ} → c < tent_cells p → tree p c ≡ true → IsHouse (tent_cells p) (one_at_least (free_beside p c))
+  pub tree-is : {c : ℕ} → c < tent_cells p → tree p c ≡ true → IsHouse (tent_cells p) (one_at_least (free_beside p c))
   unfolding tent_houses
   tree-is {c} lt is =
       among-house _ (tent_houses p) (tent_cells p) (tent-counting lawful).are_houses

@@ -18,7 +18,7 @@ use Rattle.fields_core.specs.Parts.{IsAlive, IsBroken}
 use Rattle.fields_core.specs.Visits.{after_houses, AreVisited}
 
 -- ---- the board after visits
-after-inside : (house : CountHouse) (K : Candidates) → IsInside (after_house house K) K
+pub after-inside : (house : CountHouse) (K : Candidates) → IsInside (after_house house K) K
 unfolding after_house
 after-inside house K = λ c v on. (and_parts (K c v) _ on).0
 
@@ -28,7 +28,7 @@ visits-inside [] K = λ c v on. on
 visits-inside (house ∷ houses) K = λ c v on. after-inside house K c v
     (visits-inside houses (after_house house K) c v on)
 
-visits-append : (front back : List CountHouse) (K : Candidates)
+pub visits-append : (front back : List CountHouse) (K : Candidates)
     → after_houses (front ++ back) K ≡ after_houses back (after_houses front K)
 unfolding after_houses
 visits-append [] back K = refl
@@ -137,7 +137,7 @@ visited-dead {front} back {p} first is = record {
 }
 
 -- ---- the houses of the numbers below n
-below-rest : (f : ℕ → List CountHouse) (n d : ℕ)
+pub below-rest : (f : ℕ → List CountHouse) (n d : ℕ)
     → (rest : List CountHouse) × (houses_below f (n + d) ≡ houses_below f n ++ rest)
 unfolding houses_below
 below-rest f n zero = let e : n + 0 ≡ n = omega arith in ([], rw e (sym (append-nil (houses_below f n))))
@@ -146,7 +146,7 @@ below-rest f n (suc d) =
     let w = below-rest f n d in
     (w.0 ++ f (n + d), rw (e, w.1) (append_assoc (houses_below f n) w.0 (f (n + d))))
 
-below-next : (f : ℕ → List CountHouse) (n : ℕ) → houses_below f (n + 1) ≡ houses_below f n ++ f n
+pub below-next : (f : ℕ → List CountHouse) (n : ℕ) → houses_below f (n + 1) ≡ houses_below f n ++ f n
 unfolding houses_below
 below-next f n = rw add-one refl
 

@@ -2,9 +2,11 @@
 
 pub(crate) mod any;
 pub(crate) mod close;
+pub(crate) mod near;
 pub(crate) mod part;
 pub(crate) mod position;
 pub(crate) mod start;
 pub(crate) mod sweep;
 pub(crate) mod tents;
+pub(crate) mod trees;
 pub(crate) mod visit;
