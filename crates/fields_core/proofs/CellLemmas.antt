@@ -192,32 +192,3 @@ two-pieces size a b xs ys different is_a is_b = record {
     none (suc zero) c lt on = false_from_ne_true _
         (λ first. different-apart xs ys c different (sym (is_a.has c) ∙ first) (sym (is_b.has c) ∙ on))
     none (suc (suc k)) c lt on = absurd (omega arith)
-
-pub three-pieces : (size : Extent) (a b d : Piece) (xs ys zs : List ℕ) → AreDifferent ((xs ++ ys) ++ zs)
-    → IsPieceOf size a xs → IsPieceOf size b ys → IsPieceOf size d zs
-    → HavePlaces size (a ∷ b ∷ d ∷ []) ((xs ++ ys) ++ zs)
-unfolding lies_in_first any_below
-three-pieces size a b d xs ys zs different is_a is_b is_d = record {
-  are = record { lines_in = lines; apart = pieces-apart size.w (a ∷ b ∷ d ∷ []) none };
-  cells = λ c. rw (is_d.has c, ← first-two.cells c) (has-append (xs ++ ys) zs c);
-}
-  where
-    first-two : HavePlaces size (a ∷ b ∷ []) (xs ++ ys)
-    first-two = two-pieces size a b xs ys (different-front (xs ++ ys) zs different) is_a is_b
-
-    lines : (k : ℕ) → k < 3 → number_of (piece_at (a ∷ b ∷ d ∷ []) k).line < lines_beside size
-        (piece_at (a ∷ b ∷ d ∷ []) k).line
-    lines zero lt = is_a.line_in
-    lines (suc zero) lt = is_b.line_in
-    lines (suc (suc zero)) lt = is_d.line_in
-    lines (suc (suc (suc k))) lt = absurd (omega arith)
-
-    none : (k c : ℕ) → k < 3 → lies_in size.w (piece_at (a ∷ b ∷ d ∷ []) k) c ≡ true
-        → lies_in_first size.w (a ∷ b ∷ d ∷ []) k c ≡ false
-    none zero c lt on = refl
-    none (suc zero) c lt on = false_from_ne_true _
-        (λ first. different-apart xs ys c (different-front (xs ++ ys) zs different) (sym (is_a.has c) ∙ first)
-        (sym (is_b.has c) ∙ on))
-    none (suc (suc zero)) c lt on = false_from_ne_true _
-        (λ first. different-apart (xs ++ ys) zs c different (first-two.cells c ∙ first) (sym (is_d.has c) ∙ on))
-    none (suc (suc (suc k))) c lt on = absurd (omega arith)

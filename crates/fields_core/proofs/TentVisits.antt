@@ -1,31 +1,26 @@
 -- Visits of the houses of Tents on planes.
-use Rattle.std.proofs.Common.{◌≡◌, ◌∙◌, ℕ, ◌+◌, ◌-◌, ◌*◌, ◌/◌, ◌%◌, ◌<◌, ◌≤◌, Bool, true, false, not, eqb, ltb, Some, List, [], ◌∷◌, ◌++◌, length, min, slice_index, append_assoc, refl, sym, ap, inl, inr, ◌⊎◌, arith}
+use Rattle.std.proofs.Common.{◌≡◌, ◌∙◌, ℕ, ◌+◌, ◌-◌, ◌/◌, ◌%◌, ◌<◌, ◌≤◌, Bool, true, false, eqb, ltb, List, [], ◌∷◌, slice_index, sym, inl, inr, ◌⊎◌, arith}
 use Rattle.std.specs.List.{list_any}
 use Rattle.std.proofs.lemmas.Bool.{or_cases, eqb-true, lt-ltb, le-ltb}
 use Rattle.std.proofs.Math.Bool.{and-false}
 use Rattle.std.proofs.lemmas.Grind.{common_steps}
-use Rattle.std.proofs.Math.Nat.{mod-lt}
-use Rattle.std.proofs.lemmas.List.{length-append}
-use Rattle.std.proofs.lemmas.List.Elements.{filter-append}
 use Rattle.grid_core.specs.Extent.{Extent}
 use Rattle.grid_core.specs.Planes.{Layers, has, IsFurther}
-use Rattle.grid_core.specs.Regions.{row_places, column_places, step, if_there, steps}
+use Rattle.grid_core.specs.Regions.{row_places, column_places}
 use Rattle.grid_core.specs.Words.{has_bit}
 use Rattle.grid_core.specs.declared.planes.line.Line.TheVariants.{Row, Column}
 use Rattle.engine_core.specs.RuleSystem.{has_place}
-use Rattle.engine_core.specs.PlaceLaws.{place-append, place-filter}
 use Rattle.gameid_core.specs.Puzzles.{Tents, IsTents}
 use Rattle.fields_core.specs.CountHouse.{CountHouse, IsHouse, after_house, exactly, one_at_most, one_at_least, houses_below}
 use Rattle.fields_core.specs.Parts.{Piece, IsHouseOf, IsAlive, IsBroken}
 use Rattle.fields_core.specs.TentHouses.{column_of_tents, row_of_tents, free_beside, tree_house, square_house, tent_houses}
 use Rattle.fields_core.specs.Tents.{tent_cells, tree}
-use Rattle.fields_core.specs.Visits.{AreVisited, free_at}
-use Rattle.fields_core.proofs.CellLemmas.{HavePlaces, column-house, pieces-house, row-house, row-piece, three-pieces, two-pieces}
+use Rattle.fields_core.specs.Visits.{AreVisited}
+use Rattle.fields_core.proofs.CellLemmas.{HavePlaces, column-house, pieces-house, row-house, row-piece, two-pieces}
 use Rattle.fields_core.proofs.HouseLists.{row-long, column-long}
-use Rattle.fields_core.proofs.StepLaws.{step-up, step-left, step-right, step-down, there-is}
-use Rattle.fields_core.proofs.TentBeside.{cell-below, cell-after, cell-parts, row-in, whole-cell}
+use Rattle.fields_core.proofs.TentBeside.{cell-below, cell-after}
 use Rattle.fields_core.proofs.TentCounting.{tent-counting, tent-field}
-use Rattle.fields_core.proofs.VisitLemmas.{among-one, among-front, among-back, among-below, among-house, visited-empty, visited-none, visited-one}
+use Rattle.fields_core.proofs.VisitLemmas.{among-one, among-front, among-back, among-below, among-house, visited-none, visited-one}
 
 -- ---- the houses of Tents are houses
 module _ (p : Tents) (lawful : IsTents p) where
@@ -141,112 +136,3 @@ square-visited p c row top bottom from to fills lawful size lt at wide tall have
     (rw size (pieces-house p.size _ (one_at_most (square_places p.size.w c)) is have)) in
     rw (lt-ltb _ _ wide, lt-ltb _ _ low) (visited-one {house = one_at_most (square_places p.size.w c)}
     (rw size is) (omega arith) told.0 told.1 alive further)
-
--- ---- trees
-free-is : (p : Tents) (c : ℕ) → free_beside p c ≡ (free_at p c 0 ++ (free_at p c 1 ++ free_at p c 2)) ++ free_at p c 3
-unfolding steps
-free-is p c =
-    let bare : ℕ → Bool = (λ d. not (tree p d)) in
-    filter-append bare ((if_there (step p.size c 0) ++ if_there (step p.size c 1)) ++ if_there
-    (step p.size c 2)) (if_there (step p.size c 3))
-    ∙ ap (λ (xs : List ℕ). xs ++ free_at p c 3)
-    (filter-append bare (if_there (step p.size c 0) ++ if_there (step p.size c 1)) (if_there (step p.size c 2))
-    ∙ ap (λ (xs : List ℕ). xs ++ free_at p c 2)
-    (filter-append bare (if_there (step p.size c 0)) (if_there (step p.size c 1)))
-    ∙ append_assoc (free_at p c 0) (free_at p c 1) (free_at p c 2))
-
-free-step : (p : Tents) (c k d : ℕ) → has_place (free_at p c k) d ≡ true → step p.size c k ≡ Some d
-free-step p c k d on = there-is (step p.size c k)
-    (place-filter (λ e. not (tree p e)) (if_there (step p.size c k)) d on).0
-
-pub free-long : (p : Tents) (c up left right down : ℕ) → up ≡ length (free_at p c 0)
-    → left ≡ length (free_at p c 1) → right ≡ length (free_at p c 2) → down ≡ length (free_at p c 3)
-    → up + left + right + down ≡ length (free_beside p c)
-free-long p c up left right down u l r d =
-    rw (
-      free-is p c,
-      u,
-      l,
-      r,
-      d,
-      length-append (free_at p c 0 ++ (free_at p c 1 ++ free_at p c 2))
-          (free_at p c 3),
-      length-append (free_at p c 0) (free_at p c 1 ++ free_at p c 2),
-      length-append
-          (free_at p c 1) (free_at p c 2),
-    )
-    (omega arith)
-
--- the rows of the free cells
-up-row : (p : Tents) (c d : ℕ) → 0 < p.size.w → has_place (free_at p c 0) d ≡ true → d / p.size.w ≡ c / p.size.w - 1
-up-row p c d pos on =
-    let e = step-up p.size c d (free-step p c 0 d on) in
-    let below = (cell-below {w = p.size.w} d pos).0 in
-    let row : c / p.size.w ≡ d / p.size.w + 1 = ap (λ n. n / p.size.w) (sym e) ∙ below in omega arith
-
-beside-row : (p : Tents) (c d : ℕ) → 0 < p.size.w → has_place (free_at p c 1 ++ free_at p c 2) d ≡ true
-    → d / p.size.w ≡ c / p.size.w
-beside-row p c d pos on = elim (place-append (free_at p c 1) (free_at p c 2) d on) [
-  | inl first ↦ left-row (step-left p.size c d (free-step p c 1 d first))
-  | inr second ↦ let e = step-right p.size c d (free-step p c 2 d second) in rw (e.0) (cell-after p.size.w c e.1).0
-]
-  where
-    left-row : (d + 1 ≡ c) × (1 ≤ c % p.size.w) → d / p.size.w ≡ c / p.size.w
-    left-row e =
-        let whole = whole-cell p.size.w c in
-        let at : d ≡ c / p.size.w * p.size.w + (c % p.size.w - 1) = omega (arith, e.0, e.1) in
-        (cell-parts p.size.w (c / p.size.w) (c % p.size.w - 1) d (let small = mod-lt c pos in omega arith) at).0
-
-down-row : (p : Tents) (c d : ℕ) → 0 < p.size.w → has_place (free_at p c 3) d ≡ true
-    → (d / p.size.w ≡ c / p.size.w + 1) × (c / p.size.w + 1 < p.size.h)
-down-row p c d pos on = let e = step-down p.size c d (free-step p c 3 d on) in
-    (rw (e.0) (cell-below {w = p.size.w} c pos).0, e.1)
-
--- the rows of a tree's free cells
-abbrev pub IsTree : Tents → ℕ → ℕ → ℕ → ℕ → ℕ → ℕ → ℕ → Type 0
-IsTree p c above row below up own down =
-    HavePlaces p.size (record { line = Row above; bits = up } ∷ record { line = Row row; bits = own } ∷ record { line = Row below; bits = down } ∷ []) (free_beside p c)
-
-pub tree-pieces : (p : Tents) (c above row below up own down : ℕ) → IsTents p → c < tent_cells p
-    → tree p c ≡ true → row ≡ c / p.size.w → above ≡ row - 1 → below ≡ min (row + 1) (p.size.h - 1)
-    → HasColumns p.size.w up (free_at p c 0) → HasColumns p.size.w own (free_at p c 1 ++ free_at p c 2)
-    → HasColumns p.size.w down (free_at p c 3) → IsTree p c above row below up own down
-tree-pieces p c above row below up own down lawful lt is at at_above at_below is_up is_own is_down =
-    let pos = (tent-field lawful).some in
-    let in_row : row < p.size.h = rw at (row-in p.size.h c pos lt) in
-    rw (free-is p c) (three-pieces p.size _ _ _ (free_at p c 0) (free_at p c 1 ++ free_at p c 2) (free_at p c 3)
-    (rw (free-is p c) at (tree-is p lawful lt is).different)
-    (row-piece p.size above up (free_at p c 0) (omega arith)
-    (λ d on. up-row p c d pos on ∙ rw (at_above, at) refl) is_up)
-    (row-piece p.size row own (free_at p c 1 ++ free_at p c 2) in_row
-    (λ d on. beside-row p c d pos on ∙ sym at) is_own)
-    (row-piece p.size below down (free_at p c 3) (lower p.size.h in_row at_below)
-    (λ d on. let e = down-row p c d pos on in
-    e.0 ∙ rw (← at) (sym (lowest p.size.h (rw (← at) at e.1) at_below))) is_down))
-  where
-    lower : (h : ℕ) → row < h → below ≡ min (row + 1) (h - 1) → below < h
-    lower h less e = omega arith
-
-    lowest : (h : ℕ) → row + 1 < h → below ≡ min (row + 1) (h - 1) → below ≡ row + 1
-    lowest h less e = omega arith
-
-pub tree-visited : (p : Tents) (c cells above row below up own down : ℕ) (from to : Layers) (fills : Bool)
-    → IsTents p → from.size ≡ p.size → c < tent_cells p → tree p c ≡ true → cells ≡ length (free_beside p c)
-    → 0 < cells → IsTree p c above row below up own down
-    → IsVisitOf (record { line = Row above; bits = up } ∷ record { line = Row row; bits = own } ∷ record { line = Row below; bits = down } ∷ []) 1 cells from to fills
-    → IsAlive to → IsFurther from to → AreVisited (tree_house p c) from to fills
-tree-visited p c cells above row below up own down from to fills lawful size lt is count some have visit alive further =
-    let house = tree-is p lawful lt is in
-    let told = visit (one_at_least (free_beside p c))
-    (rw (size, count) (pieces-house p.size _ (one_at_least (free_beside p c)) house have)) in
-    rw is (visited-one {house = one_at_least (free_beside p c)} (rw size house)
-    (rw (← count) some) told.0 told.1 alive further)
-
--- no tree, and one with no free cell beside it
-pub no-tree : (p : Tents) (c : ℕ) (from : Layers) → tree p c ≡ false → IsAlive from
-    → AreVisited (tree_house p c) from from true
-no-tree p c from none alive = rw none (visited-none alive)
-
-pub idle-tree : (p : Tents) (c : ℕ) (from : Layers) → tree p c ≡ true → length (free_beside p c) ≡ 0
-    → IsAlive from → AreVisited (tree_house p c) from from true
-idle-tree p c from is none alive = rw is (visited-empty (one_at_least (free_beside p c)) none alive)

@@ -1,5 +1,5 @@
 -- Words of the cells of a row and of those beside them.
-use Rattle.fields_core.proofs.Common.{Bool, Candidates, Extent, Layers, None, Some, add-one, and-false, and_from, and_parts, any_below, any_below-here, any_below-some, ap, arith, at_line, cases_Bool, cases_lt, common_steps, cond, count_by, covers, crosses, div-add-mod', div-mul-add, eq-eqb, eqb, eqb-true, false, false_from_ne_true, fun_ext, has_bit, has_place, if_there, List, inl, inr, le-ltb, length, lt-ltb, ltb, ltb-true, min, mod-lt, not, or_cases, or_left, or_right, place-column, refl, step, steps, suc, sym, true, true≢false, without_taking, zero, ℕ, ◌%◌, ◌&&◌, ◌*◌, ◌++◌, ◌+◌, ◌-◌, ◌/◌, ◌<◌, ◌||◌, ◌∙◌, ◌≡◌, ◌≤◌, ◌⊎◌}
+use Rattle.fields_core.proofs.Common.{Bool, Candidates, Extent, Layers, None, Some, and_from, and_parts, any_below-here, any_below-some, ap, arith, cases_Bool, cases_lt, common_steps, cond, count_by, covers, crosses, div-add-mod', div-mul-add, eq-eqb, eqb, eqb-true, false, fun_ext, has_bit, has_place, if_there, List, inl, inr, le-ltb, lt-ltb, ltb, ltb-true, mod-lt, not, or_cases, or_left, or_right, place-column, refl, step, steps, suc, sym, true, without_taking, zero, ℕ, ◌%◌, ◌&&◌, ◌*◌, ◌++◌, ◌+◌, ◌-◌, ◌/◌, ◌<◌, ◌||◌, ◌∙◌, ◌≡◌, ◌≤◌}
 use Rattle.std.proofs.lemmas.List.Sums.{sum_by-append}
 use Rattle.grid_core.specs.Planes.{bit_of, has}
 use Rattle.grid_core.specs.Regions.{beside}

@@ -1,19 +1,16 @@
 -- Visits of count houses, one after another, and which houses are among those of a puzzle.
 use Rattle.std.proofs.Common.{◌≡◌, ◌∙◌, ℕ, zero, suc, ◌+◌, ◌-◌, ◌<◌, Bool, true, false, List, [], ◌∷◌, ◌++◌, length, slice_index, refl, sym, ap, add-one, append_assoc, length-append, subst, arith}
 use Rattle.std.specs.List.{range_with_len}
-use Rattle.std.proofs.Math.Bool.{and-true}
-use Rattle.std.proofs.Math.Path.{fun_ext}
 use Rattle.std.proofs.Math.Seq.{get_or-append_seam}
 use Rattle.std.proofs.lemmas.Bool.{and_parts, true≢false, false_from_ne_true}
 use Rattle.std.proofs.lemmas.List.{append-nil, get_or_append_left, get_or-append_right}
-use Rattle.grid_core.specs.Candidates.{Candidates, IsInside, any_below}
+use Rattle.grid_core.specs.Candidates.{Candidates, IsInside}
 use Rattle.grid_core.specs.Planes.{Layers, has, cells_of, IsFurther}
 use Rattle.grid_core.proofs.PlaneLemmas.{further-more, further-none}
 use Rattle.engine_core.specs.RuleSystem.{after}
 use Rattle.engine_core.specs.Closing.{replay}
-use Rattle.engine_core.specs.HouseSets.{strikes_at}
 use Rattle.engine_core.specs.PlaceLaws.{has_place-here}
-use Rattle.fields_core.specs.CountHouse.{CountHouse, no_count_house, houses_below, after_house, strikes_of, count_house_of, count_puzzle, AreHouses, IsHouse}
+use Rattle.fields_core.specs.CountHouse.{CountHouse, no_count_house, houses_below, after_house, count_house_of, count_puzzle, AreHouses, IsHouse}
 use Rattle.fields_core.specs.Parts.{IsAlive, IsBroken}
 use Rattle.fields_core.specs.Visits.{after_houses, AreVisited}
 
@@ -89,17 +86,6 @@ visited-one {house} is some left broken alive further = record {
       (slice_index house.places 0, is.within _ there, λ v low. broken e _ v there low);
   alive = alive;
   further = further;
-}
-
--- of one house that has none
-pub visited-empty : (house : CountHouse) {p : Layers} → length house.places ≡ 0 → IsAlive p
-    → AreVisited (house ∷ []) p p true
-unfolding after_houses after_house strikes_of strikes_at any_below
-visited-empty house {p} none alive = record {
-  left = λ _. fun_ext λ c. fun_ext λ v. rw none (sym (and-true (has p c v)));
-  dies = λ e. absurd (true≢false e);
-  alive = alive;
-  further = further-none p;
 }
 
 cells-same : (p q : Layers) → IsFurther p q → cells_of q ≡ cells_of p

@@ -1,16 +1,15 @@
 -- Visits of count houses on planes, one after another, and sweeps of all houses of Tents.
-use Rattle.std.specs.Prelude.{◌≡◌, ℕ, ◌<◌, Bool, true, false, not, List, [], ◌∷◌, ◌++◌, filter}
+use Rattle.std.specs.Prelude.{◌≡◌, ℕ, ◌<◌, Bool, true, false, List, [], ◌∷◌, ◌++◌}
 use Rattle.std.specs.List.{range_with_len}
 use Rattle.grid_core.specs.Candidates.{Candidates}
 use Rattle.grid_core.specs.Planes.{Layers, has, cells_of, IsFurther}
-use Rattle.grid_core.specs.Regions.{if_there, step}
 use Rattle.engine_core.specs.Closing.{replay}
 use Rattle.engine_core.specs.ClosingList.{IsDead}
 use Rattle.gameid_core.specs.Puzzles.{Tents}
 use Rattle.fields_core.specs.CountHouse.{CountHouse, after_house, houses_below}
 use Rattle.fields_core.specs.Parts.{IsAlive}
 use Rattle.fields_core.specs.TentHouses.{column_of_tents, row_of_tents, tree_house, square_house, tent_rules}
-use Rattle.fields_core.specs.Tents.{tent_cells, tree}
+use Rattle.fields_core.specs.Tents.{tent_cells}
 
 -- the board after visits of the houses, one after another
 unfoldable pub after_houses : List CountHouse → Candidates → Candidates
@@ -25,10 +24,6 @@ pub record AreVisited (houses : List CountHouse) (from to : Layers) (fills : Boo
       × ((v : ℕ) → v < 2 → after_houses houses (has from) c v ≡ false)
   pub alive : IsAlive to
   pub further : IsFurther from to
-
--- the cell one step away, if there is one and it has no tree
-abbrev pub free_at : Tents → ℕ → ℕ → List ℕ
-free_at p c direction = filter (λ d. not (tree p d)) (if_there (step p.size c direction))
 
 -- the houses of the columns and of the rows, and those of the trees and of the squares
 abbrev pub line_houses : Tents → List CountHouse

@@ -1,4 +1,4 @@
-use Rattle.fields_core.proofs.Common.{Extent, Layers, has_bit, not, refl, subst, sym, tree, ◌&&◌, ◌∙◌, ◌≡◌, ◌≤◌}
+use Rattle.fields_core.proofs.Common.{Extent, has_bit, not, refl, subst, sym, tree, ◌&&◌, ◌∙◌, ◌≡◌, ◌≤◌}
 use Rattle.grid_core.specs.Planes.{ArePlanes, has}
 use Rattle.fields_core.specs.Trees.{IsNear, is_beside, without_zeros}
 use Rattle.fields_core.proofs.TreeBoards.{row-dead, row-visited}
