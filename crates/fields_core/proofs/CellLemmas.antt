@@ -23,7 +23,7 @@ use Rattle.fields_core.specs.Parts.{Piece, piece_at, lies_in, lies_in_first, Are
 use Rattle.fields_core.proofs.BelowLemmas.{any-some, any-here}
 
 -- ---- one piece
-same-truth : (a b : Bool) → (a ≡ true → b ≡ true) → (b ≡ true → a ≡ true) → a ≡ b
+pub same-truth : (a b : Bool) → (a ≡ true → b ≡ true) → (b ≡ true → a ≡ true) → a ≡ b
 same-truth a b to from = grind (arith, common_steps, cases_Bool a, cases_Bool b)
 
 lies-one : (w : ℕ) (piece : Piece) (c : ℕ) → lies_in_first w (piece ∷ []) 1 c ≡ lies_in w piece c

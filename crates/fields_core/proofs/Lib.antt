@@ -29,7 +29,10 @@ pub mod TentPairLemmas
 pub mod TentRuleLemmas
 pub mod PositionSteps
 pub mod VisitLemmas
+pub mod AtMostLemmas
 pub mod CellLemmas
 pub mod TentVisits
+pub mod SquareLemmas
+pub mod SquareVisits
 pub mod TentSweeps
 pub mod LawSets

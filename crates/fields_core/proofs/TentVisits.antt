@@ -55,7 +55,7 @@ module _ (p : Tents) (lawful : IsTents p) where
       (among-front _ (houses_below (tree_house p) (tent_cells p)) _
       (among-below _ (tree_house p) c (tent_cells p) lt (rw is (among-one _))))))
 
-  square-is : {c : ℕ} → c < tent_cells p → c % p.size.w + 1 < p.size.w → c / p.size.w + 1 < p.size.h
+  pub square-is : {c : ℕ} → c < tent_cells p → c % p.size.w + 1 < p.size.w → c / p.size.w + 1 < p.size.h
       → IsHouse (tent_cells p) (one_at_most (c ∷ (c + 1) ∷ (c + p.size.w) ∷ (c + p.size.w + 1) ∷ []))
   unfolding tent_houses
   square-is {c} lt wide tall =
@@ -109,7 +109,7 @@ abbrev pub HasColumns : ℕ → ℕ → List ℕ → Type 0
 HasColumns w bits cells = (x : ℕ) → has_bit bits x ≡ list_any (λ c. eqb x (c % w)) cells
 
 -- the places of a square, and the rows of it
-abbrev square_places : ℕ → ℕ → List ℕ
+abbrev pub square_places : ℕ → ℕ → List ℕ
 square_places w c = c ∷ (c + 1) ∷ (c + w) ∷ (c + w + 1) ∷ []
 
 abbrev pub IsSquare : Extent → ℕ → ℕ → ℕ → ℕ → Type 0

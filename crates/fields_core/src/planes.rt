@@ -4,6 +4,7 @@ pub(crate) mod any;
 pub(crate) mod close;
 pub(crate) mod part;
 pub(crate) mod position;
+pub(crate) mod squares;
 pub(crate) mod start;
 pub(crate) mod sweep;
 pub(crate) mod tents;

@@ -137,34 +137,3 @@ pub(crate) fn visit_tree<W: Word>(
     };
     visit(planes, &(above, own, below), 1, cells)
 }
-
-/// Visits the house of the square whose top left cell is the place, if there is one.
-pub(crate) fn visit_square<W: Word>(
-    planes: &mut Planes<W>,
-    puzzle: &TentsPuzzle,
-    place: usize,
-) -> bool
-    requires size { planes.old.size ≡ puzzle.now.size }
-    requires place_in { place < tent_cells puzzle.now }
-    requires alive { IsAlive planes.old }
-    ensures { AreVisited (square_house puzzle.now place) planes.old planes.new result }
-{
-    let size = puzzle.size();
-    let _size = planes.size();
-    let (columns, row) = (columns(puzzle), row_in(size, place));
-    if column_in(size, place) + 1 >= columns {
-        return true;
-    }
-    if row + 1 >= rows(puzzle) {
-        return true;
-    }
-    let top = Part {
-        line: Line::Row(row as u8),
-        cells: cells_word(size, Some(place), Some(place + 1)),
-    };
-    let bottom = Part {
-        line: Line::Row((row + 1) as u8),
-        cells: cells_word(size, Some(place + columns), Some(place + columns + 1)),
-    };
-    visit(planes, &(top, bottom), 0, 1)
-}
