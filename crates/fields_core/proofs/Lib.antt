@@ -29,9 +29,12 @@ pub mod TentPairLemmas
 pub mod TentRuleLemmas
 pub mod PositionSteps
 pub mod VisitLemmas
+pub mod AtMostLemmas
 pub mod CellLemmas
 pub mod TentVisits
 pub mod TreeBoards
 pub mod TreeWords
+pub mod SquareLemmas
+pub mod SquareVisits
 pub mod TentSweeps
 pub mod LawSets

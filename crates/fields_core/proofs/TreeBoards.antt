@@ -1,7 +1,6 @@
 -- What visits of the trees of a row take from a board.
 use Rattle.fields_core.proofs.Common.{Bool, Candidates, CountHouse, IsFurther, IsHouse, IsTally, IsTents, Layers, List, Tally, Tents, [], after_house, and-true, and_parts, any_below, ap, arith, cases_Bool, common_steps, cond, count_by, count_by-le-length, eqb, eqb-true, false, filter, free_beside, fun_ext, has_place, has_place-at, has_bit, has_place-here, houses_below, length-filter, lt-ltb, ltb-false, ltb-true, not-false, not-true, inl, inr, is_empty, le-ltb, length, ltb, not, one_at_least, or_cases, place-filter, place-kept, refl, slice_index, suc, sym, tent_cells, tree, tree_house, true, true≢false, zero, ℕ, ◌&&◌, ◌*◌, ◌++◌, ◌+◌, ◌-◌, ◌<◌, ◌||◌, ◌∙◌, ◌∷◌, ◌≡◌, ◌≤◌, ◌⊎◌}
 use Rattle.std.proofs.lemmas.Bool.{false_from_ne_true}
-use Rattle.std.proofs.lemmas.List.{append-nil, append_assoc}
 use Rattle.grid_core.specs.Candidates.{IsInside}
 use Rattle.grid_core.specs.Planes.{has}
 use Rattle.grid_core.specs.Regions.{beside}
@@ -14,7 +13,7 @@ use Rattle.grid_core.proofs.CandidateLemmas.{any_below-none, any_below-same, any
 use Rattle.fields_core.proofs.PartLemmas.{value-in}
 use Rattle.fields_core.proofs.PlaceLists.{count-cons, count-none, count-some, num, num-most}
 use Rattle.fields_core.proofs.TentVisits.{tree-is}
-use Rattle.fields_core.proofs.VisitLemmas.{below-next, below-rest, visits-append, visits-inside}
+use Rattle.fields_core.proofs.VisitLemmas.{below-next, below-rest, below-rows, visits-append, visits-inside}
 
 -- ---- one tree
 -- where a place does not pass, not all do
@@ -270,19 +269,5 @@ module _ (p : Tents) (y : ℕ) (from : Layers) (room : ℕ) (trees free some bro
       }
 
 -- ---- the trees of all rows
-below-add : (f : ℕ → List CountHouse) (m n : ℕ) → houses_below f (m + n) ≡ houses_below f m ++ houses_below (λ k. f (m + k)) n
-unfolding houses_below
-below-add f m zero = let e : m + 0 ≡ m = omega arith in rw e (sym (append-nil (houses_below f m)))
-below-add f m (suc n) =
-    let e : m + suc n ≡ suc (m + n) = omega arith in
-    rw (e, below-add f m n) (append_assoc (houses_below f m) (houses_below (λ k. f (m + k)) n) (f (m + n)))
-
-below-rows : (f : ℕ → List CountHouse) (w h : ℕ) → houses_below (λ y. houses_below (λ x. f (y * w + x)) w) h ≡ houses_below f (h * w)
-unfolding houses_below
-below-rows f w zero = let e : 0 * w ≡ 0 = omega arith in rw e refl
-below-rows f w (suc h) =
-    let e : suc h * w ≡ h * w + w = omega arith in
-    rw (e, below-add f (h * w) w, below-rows f w h) refl
-
 pub trees-are : (p : Tents) → houses_below (trees_of_row p) p.size.h ≡ houses_below (tree_house p) (tent_cells p)
 trees-are p = below-rows (tree_house p) p.size.w p.size.h ∙ ap (houses_below (tree_house p)) (let e : p.size.h * p.size.w ≡ p.size.w * p.size.h = omega arith in e)

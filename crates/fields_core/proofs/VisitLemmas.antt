@@ -1,5 +1,5 @@
 -- Visits of count houses, one after another, and which houses are among those of a puzzle.
-use Rattle.std.proofs.Common.{◌≡◌, ◌∙◌, ℕ, zero, suc, ◌+◌, ◌-◌, ◌<◌, Bool, true, false, List, [], ◌∷◌, ◌++◌, length, slice_index, refl, sym, ap, add-one, append_assoc, length-append, subst, arith}
+use Rattle.std.proofs.Common.{◌≡◌, ◌∙◌, ℕ, zero, suc, ◌+◌, ◌*◌, ◌-◌, ◌<◌, Bool, true, false, List, [], ◌∷◌, ◌++◌, length, slice_index, refl, sym, ap, add-one, append_assoc, length-append, subst, arith}
 use Rattle.std.specs.List.{range_with_len}
 use Rattle.std.proofs.Math.Seq.{get_or-append_seam}
 use Rattle.std.proofs.lemmas.Bool.{and_parts, true≢false, false_from_ne_true}
@@ -152,6 +152,21 @@ sweep-broken f {n} {m} first next none lt =
     let w = below-rest f (n + 1) (m - (n + 1)) in
     let e : n + 1 + (m - (n + 1)) ≡ m = omega arith in
     rw (← e, w.1) (visited-dead w.0 (rw (below-next f n) (visited-more first refl (rw none at next))) refl)
+
+-- the houses of rows of so many numbers, row by row
+below-add : (f : ℕ → List CountHouse) (m n : ℕ) → houses_below f (m + n) ≡ houses_below f m ++ houses_below (λ k. f (m + k)) n
+unfolding houses_below
+below-add f m zero = let e : m + 0 ≡ m = omega arith in rw e (sym (append-nil (houses_below f m)))
+below-add f m (suc n) =
+    let e : m + suc n ≡ suc (m + n) = omega arith in
+    rw (e, below-add f m n) (append_assoc (houses_below f m) (houses_below (λ k. f (m + k)) n) (f (m + n)))
+
+pub below-rows : (f : ℕ → List CountHouse) (w h : ℕ) → houses_below (λ y. houses_below (λ x. f (y * w + x)) w) h ≡ houses_below f (h * w)
+unfolding houses_below
+below-rows f w zero = let e : 0 * w ≡ 0 = omega arith in rw e refl
+below-rows f w (suc h) =
+    let e : suc h * w ≡ h * w + w = omega arith in
+    rw (e, below-add f (h * w) w, below-rows f w h) refl
 
 -- ---- a house among others
 pub record IsAmong (house : CountHouse) (houses : List CountHouse) : Type 0 where

@@ -5,6 +5,7 @@ pub(crate) mod close;
 pub(crate) mod near;
 pub(crate) mod part;
 pub(crate) mod position;
+pub(crate) mod squares;
 pub(crate) mod start;
 pub(crate) mod sweep;
 pub(crate) mod tents;

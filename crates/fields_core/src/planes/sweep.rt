@@ -8,9 +8,9 @@ ghost use Rattle.fields_core.specs.TentHouses.{column_of_tents, row_of_tents, tr
 ghost use Rattle.fields_core.specs.Tents.{tent_cells};
 ghost use Rattle.fields_core.specs.Visits.{AreVisited, IsTentSweep, line_houses, cell_houses};
 
-use crate::planes::tents::{visit_column, visit_row, visit_square};
+use crate::planes::squares::visit_squares;
+use crate::planes::tents::{visit_column, visit_row};
 use crate::planes::trees::visit_trees;
-use crate::tents::cells::cells;
 use gameid_core::TentsPuzzle;
 use grid_core::{Planes, Word};
 
@@ -62,8 +62,8 @@ fn sweep_squares<W: Word>(planes: &mut Planes<W>, puzzle: &TentsPuzzle) -> bool
     requires alive { IsAlive planes.old }
     ensures { AreVisited (houses_below (square_house puzzle.now) (tent_cells puzzle.now)) planes.old planes.new result }
 {
-    for place in 0..cells(puzzle) {
-        if !visit_square(planes, puzzle, place) {
+    for y in 0..puzzle.size().h() {
+        if !visit_squares(planes, puzzle, y) {
             return false;
         }
     }

@@ -1,8 +1,7 @@
-use Rattle.std.proofs.Common.{true}
-use Rattle.fields_core.specs.CountHouse.{houses_below}
-use Rattle.fields_core.specs.TentHouses.{square_house}
+use Rattle.fields_core.proofs.Common.{houses_below, true}
+use Rattle.fields_core.specs.Squares.{squares_of_row}
 use Rattle.fields_core.specs.Visits.{AreVisited}
 use Rattle.fields_core.proofs.planes.sweep.sweep_squares.Given as goal
 
-abbrev pub invariant-loop-place : goal.invariant-loop-place
-invariant-loop-place g l = AreVisited (houses_below (square_house l.puzzle) l.place) l.fn.planes l.planes true
+abbrev pub invariant-loop-y : goal.invariant-loop-y
+invariant-loop-y g l = AreVisited (houses_below (squares_of_row l.puzzle) l.y) l.fn.planes l.planes true
