@@ -1,5 +1,5 @@
 -- The trees of a row of Tents, and words of the cells beside them.
-use Rattle.std.specs.Prelude.{◌≡◌, ℕ, ◌+◌, ◌-◌, ◌*◌, Bool, not, ◌&&◌, ◌==◌, nat_lt, List}
+use Rattle.std.specs.Prelude.{◌≡◌, ℕ, ◌+◌, ◌-◌, ◌*◌, ◌<◌, ◌≤◌, Bool, not, ◌&&◌, ◌==◌, nat_lt, List, length, slice_index}
 use Rattle.grid_core.specs.Candidates.{Candidates, any_below}
 use Rattle.grid_core.specs.Extent.{Extent}
 use Rattle.grid_core.specs.Regions.{beside}
@@ -8,6 +8,7 @@ use Rattle.engine_core.specs.RuleSystem.{has_place}
 use Rattle.gameid_core.specs.Puzzles.{Tents}
 use Rattle.fields_core.specs.CountHouse.{CountHouse, houses_below}
 use Rattle.fields_core.specs.TentHouses.{tree_house}
+use Rattle.fields_core.specs.Tents.{tree}
 use Rattle.fields_core.specs.declared.planes.near.Near.{Near}
 
 -- the houses of the trees of a row
@@ -17,6 +18,11 @@ trees_of_row p y = houses_below (λ x. tree_house p (y * p.size.w + x)) p.size.w
 -- the word has those cells of the row that pass
 abbrev pub IsRowOf : ℕ → (ℕ → Bool) → ℕ → ℕ → Type 0
 IsRowOf w passes y bits = (x : ℕ) → has_bit bits x ≡ (nat_lt x w && passes (y * w + x))
+
+-- the words have the trees of each row
+pub record AreTreeRows (p : Tents) (rows : List ℕ) : Type 0 where
+  pub long : p.size.h ≤ length rows
+  pub each : (y : ℕ) → y < p.size.h → IsRowOf p.size.w (tree p) y (slice_index rows y)
 
 -- the words have the cells that pass of a row, of the row above and of the one below, where there are such rows
 pub record IsNear {W : Type 0} (bits : W → ℕ) (size : Extent) (passes : ℕ → Bool) (y : ℕ)

@@ -14,6 +14,7 @@ ghost use Rattle.fields_core.specs.TentHouses.{tent_rules};
 
 use crate::planes::close::close_tents;
 use crate::planes::start::start_tents;
+use crate::planes::trees::write_trees;
 use engine_core::Taken;
 use gameid_core::TentsPuzzle;
 use grid_core::{Grid, Planes, Size};
@@ -24,6 +25,38 @@ use std::alloc::{AllocError, Global};
 pub(crate) enum AnyPlanes {
     Short(Planes<u64>),
     Long(Planes<u128>),
+}
+
+/// Closes the board by the puzzle's houses, or finds that its closure is dead.
+fn close_short(planes: &mut Planes<u64>, puzzle: &TentsPuzzle) -> Taken
+    requires size { planes.old.size ≡ puzzle.now.size }
+    requires alive { IsAlive (tent_rules puzzle.now) (has planes.old) }
+    ensures taken { IsTaken (tent_rules puzzle.now) (has planes.old) (has planes.new)
+        result.closing }
+    ensures turns { IsClosedIn (tent_rules puzzle.now) (has planes.old) result.turns }
+    ensures alive { IsAlive (tent_rules puzzle.now) (has planes.new) }
+    ensures further { IsFurther planes.old planes.new }
+{
+    let _size = planes.size();
+    let mut trees = [0u64; 64];
+    write_trees(puzzle, &mut trees);
+    close_tents(planes, puzzle, &trees)
+}
+
+/// Closes the board by the puzzle's houses, or finds that its closure is dead.
+fn close_long(planes: &mut Planes<u128>, puzzle: &TentsPuzzle) -> Taken
+    requires size { planes.old.size ≡ puzzle.now.size }
+    requires alive { IsAlive (tent_rules puzzle.now) (has planes.old) }
+    ensures taken { IsTaken (tent_rules puzzle.now) (has planes.old) (has planes.new)
+        result.closing }
+    ensures turns { IsClosedIn (tent_rules puzzle.now) (has planes.old) result.turns }
+    ensures alive { IsAlive (tent_rules puzzle.now) (has planes.new) }
+    ensures further { IsFurther planes.old planes.new }
+{
+    let _size = planes.size();
+    let mut trees = [0u128; 128];
+    write_trees(puzzle, &mut trees);
+    close_tents(planes, puzzle, &trees)
 }
 
 impl AnyPlanes {
@@ -85,8 +118,8 @@ impl AnyPlanes {
         ensures places { places_of self.new ≡ places_of self.old }
     {
         match self {
-            AnyPlanes::Short(planes) => close_tents(planes, puzzle),
-            AnyPlanes::Long(planes) => close_tents(planes, puzzle),
+            AnyPlanes::Short(planes) => close_short(planes, puzzle),
+            AnyPlanes::Long(planes) => close_long(planes, puzzle),
         }
     }
 

@@ -24,8 +24,8 @@ pub returns-then-is_some : goal.returns-then-is_some
 returns-then-is_some g c =
     let w = (goal.at.returns-then-is_some g c).After-ones_near-ones in
     let size = c.args.puzzle.now.size in
-    row-dead c.args.puzzle.now c.args.y c.args.planes.now g.W.Word.room _ _ _ _ c.trees_in-trees.ensures.lawful c.requires.size c.requires.y_in c.requires.alive (narrow g w)
-    (rw (c.from.ensures) at c.trees_in-trees.ensures.cells)
+    row-dead c.args.puzzle.now c.args.y c.args.planes.now g.W.Word.room _ _ _ _ c.row_trees-own.ensures.lawful c.requires.size c.requires.y_in c.requires.alive (narrow g w)
+    (rw (c.from.ensures) at c.row_trees-own.ensures.cells)
     (λ x lt. c.some.ensures size _ c.args.y x (narrow g w) lt (rw (c.from-2.ensures) at c.free_near-free.ensures))
     (λ x lt. c.some-2.ensures size _ c.args.y x (narrow g w) lt (ones g w))
     (λ x. c.but.ensures x ∙ rw (c.both.ensures x) refl)
@@ -35,8 +35,8 @@ pub returns : goal.returns
 returns g c =
     let w = (goal.at.returns g c).After-ones_near-ones in
     let size = c.args.puzzle.now.size in
-    row-visited c.args.puzzle.now c.args.y c.args.planes.now g.W.Word.room _ _ _ _ c.trees_in-trees.ensures.lawful c.requires.size c.requires.y_in c.requires.alive (narrow g w)
-    (rw (c.from.ensures) at c.trees_in-trees.ensures.cells)
+    row-visited c.args.puzzle.now c.args.y c.args.planes.now g.W.Word.room _ _ _ _ c.row_trees-own.ensures.lawful c.requires.size c.requires.y_in c.requires.alive (narrow g w)
+    (rw (c.from.ensures) at c.row_trees-own.ensures.cells)
     (λ x lt. c.some.ensures size _ c.args.y x (narrow g w) lt (rw (c.from-2.ensures) at c.free_near-free.ensures))
     (λ x lt. c.some-2.ensures size _ c.args.y x (narrow g w) lt (ones g w))
     (λ x. c.but.ensures x ∙ rw (c.both.ensures x) refl)
