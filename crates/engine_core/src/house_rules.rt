@@ -56,6 +56,13 @@ impl<S: RuleSet, C> HouseRules<S, C> {
         })
     }
 
+    /// What only the game knows of them.
+    pub fn set(&self) -> &S
+        ensures { result.now ≡ self.now.set }
+    {
+        &self.set
+    }
+
     /// Strikes from the house what it strikes.
     fn strike(
         &self,

@@ -22,6 +22,7 @@ pub use houses::list::HouseList;
 pub use houses::table::HouseTable;
 pub use houses::visit::{apply, gather, has_bit};
 pub use mode::{Closing, Mode};
+pub use needs::{Needs, needs_for};
 pub use rule_set::RuleSet;
 pub use rules::Rules;
 pub use search::position::{Position, Taken};

@@ -8,7 +8,7 @@ use crate::rules::Rules;
 
 /// What memory is taken for.
 #[derive(Clone, Copy)]
-pub(crate) struct Needs {
+pub struct Needs {
     pub cells: usize,
     pub values: u8,
     pub houses: usize,
@@ -17,7 +17,7 @@ pub(crate) struct Needs {
 }
 
 /// What the rules need memory for.
-pub(crate) fn needs_for<R: Rules>(rules: &R) -> Needs
+pub fn needs_for<R: Rules>(rules: &R) -> Needs
     ensures { needs_in result ≡ needs_of (R.system rules.now) }
 {
     let mut scope = 0;

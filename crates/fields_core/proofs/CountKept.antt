@@ -24,7 +24,7 @@ neither : {k : Bool} (a b : Bool) → (k && not ((a && false) || (b && false))) 
 neither a b = grind (arith, common_steps)
 
 -- nothing is struck outside a house
-off-scope : (house : CountHouse) (K : Candidates) (c v : ℕ) → has_place house.places c ≡ false → strikes_of house K c v ≡ false
+pub off-scope : (house : CountHouse) (K : Candidates) (c v : ℕ) → has_place house.places c ≡ false → strikes_of house K c v ≡ false
 unfolding strikes_of
 off-scope house K c v off = false_from_ne_true _ (λ on. true≢false (sym (strikes_at-in_scope 2 house.places _ K c v on) ∙ off))
 

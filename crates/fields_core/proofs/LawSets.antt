@@ -8,6 +8,7 @@ use Rattle.fields_core.proofs.LightRuleLemmas.{light-tells, rule-from-test, test
 use Rattle.fields_core.proofs.LightSeen.{black-unseen, seen-in-column, seen-in-row}
 use Rattle.fields_core.proofs.LightSight.{count-bulb, count-dark, count-edge, count-start, some-column}
 use Rattle.fields_core.proofs.RuleLemmas.{same-shape, start-all, start-blocked}
+use Rattle.fields_core.proofs.PositionSteps.{high-fits, high-short, long-less, step-onward, step-walks, wide-fits, wide-short}
 use Rattle.fields_core.proofs.RunLemmas.{column-made, few-cells, row-made, run-long, run-white}
 use Rattle.fields_core.proofs.TentCounting.{tent-counting, tent-lawful}
 use Rattle.fields_core.proofs.TentLines.{line-all, line-more, line-skip, line-start}
@@ -15,6 +16,7 @@ use Rattle.fields_core.proofs.TentNext.{barred-alone, barred-tree, next-joined, 
 use Rattle.fields_core.proofs.TentNumbers.{count-none, listed-all, listed-skip}
 use Rattle.fields_core.proofs.TentPairLemmas.{count-is, listed-tents, others-unpaired, short-unpaired, whole-pairs}
 use Rattle.fields_core.proofs.TentRuleLemmas.{tents-from-solution, tents-tell, solution-from-tents}
+use Rattle.fields_core.proofs.VisitLemmas.{sweep-first, sweep-more}
 use Rattle.fields_core.proofs.Common.{append-nil, append_assoc, eq-eqb, map-append, mul-le-mul_right, ne_eqb, take_all}
 
 pub ruleset count_rules_laws = (start-blocked, same-shape, start-all)
@@ -37,6 +39,8 @@ pub ruleset light_run_laws = (column-black, column-edge, column-after, some-colu
 
 pub ruleset light_sight_laws = (count-start, count-edge, count-dark, count-bulb, black-unseen, seen-in-row, seen-in-column)
 
+pub ruleset plane_position_laws = (step-onward, step-walks, wide-short, high-short, long-less, wide-fits, high-fits)
+
 pub ruleset run_laws = (run-long, row-made, column-made, mul-le-mul_right)
 
 pub ruleset tally_laws = (sets-first, sets-next, sets-all)
@@ -51,3 +55,5 @@ pub ruleset tent_pairs_laws =
 pub ruleset tent_rules_laws = (tent-counting, tents-tell, barred-tree, barred-alone, tree-found, treeless-all)
 
 pub ruleset tent_touch_laws = (eq-eqb, ne_eqb)
+
+pub ruleset tent_sweep_laws = (sweep-first, sweep-more)

@@ -27,4 +27,14 @@ pub mod TentNumbers
 pub mod TentNext
 pub mod TentPairLemmas
 pub mod TentRuleLemmas
+pub mod PositionSteps
+pub mod VisitLemmas
+pub mod AtMostLemmas
+pub mod CellLemmas
+pub mod TentVisits
+pub mod TreeBoards
+pub mod TreeWords
+pub mod SquareLemmas
+pub mod SquareVisits
+pub mod TentSweeps
 pub mod LawSets

@@ -124,7 +124,7 @@ off-scope : (house : CountHouse) (K : Candidates) (c v : ℕ) → has_place hous
 unfolding strikes_of
 off-scope house K c v off = false_from_ne_true _ (λ on. true≢false (sym (strikes_at-in_scope 2 house.places _ K c v on) ∙ off))
 
-value-in : (p : Layers) (c v : ℕ) → has p c v ≡ true → v < 2
+pub value-in : (p : Layers) (c v : ℕ) → has p c v ≡ true → v < 2
 unfolding has
 value-in p c v on = ltb-true v 2 (and_parts _ _ on).0
 

@@ -1,5 +1,12 @@
 -- The board that a search of count houses starts from.
 use Rattle.fields_core.proofs.Common.{Bool, Candidates, Layout, SameShape, all_of, and-true, ap, arith, cases_eq, cases_lt, common_steps, eq-eqb, eqb, fun_ext, le-ltb, lt-ltb, ltb, ne_eqb, not, or-false, or-true, start_of, sym, true, without, ℕ, ◌&&◌, ◌+◌, ◌∙◌, ◌≡◌, ◌≤◌}
+use Rattle.std.proofs.Common.{◌*◌, ◌/◌, ◌%◌, ◌<◌, ◌↔◌, ◌||◌, refl, inl, inr}
+use Rattle.std.proofs.Math.Nat.{mod-lt, div-lt_iff_lt-mul}
+use Rattle.std.proofs.lemmas.Nat.{div-add-mod'}
+use Rattle.std.proofs.lemmas.Bool.{cases_Bool}
+use Rattle.grid_core.specs.Planes.{covers, crosses, without_taking}
+use Rattle.grid_core.specs.Words.{has_bit}
+use Rattle.grid_core.specs.declared.planes.line.Line.TheVariants.{Row}
 
 -- ---- the start, with the cells below a place blocked
 pub record IsStarted (cells : ℕ) (blocked : ℕ → Bool) (n : ℕ) (K : Candidates) : Type 0 where
@@ -13,6 +20,31 @@ pub start-blocked : {cells : ℕ} {blocked : ℕ → Bool} (n : ℕ) (K K' : Can
     → IsStarted cells blocked (n + 1) K'
 unfolding without
 start-blocked n K K' before is left = grind (arith, common_steps, cases_eq, eq-eqb, lt-ltb, or-true, ne_eqb, or-false, cases_lt, le-ltb)
+
+-- the cells of one row more, with the blocked ones of the row taken from
+pub row-blocked : {cells : ℕ} {blocked : ℕ → Bool} (w w' y bits : ℕ) (K K' : Candidates) → 0 < w → w' ≡ w → IsStarted cells blocked (y * w) K
+    → K' ≡ without_taking w' K (record { line = Row y; value = 1; bits = bits }) → ((x : ℕ) → has_bit bits x ≡ (ltb x w && blocked (y * w + x)))
+    → IsStarted cells blocked ((y + 1) * w) K'
+unfolding without_taking covers crosses
+row-blocked {cells} {blocked} w w' y bits K K' pos e before left is = record {
+  sets = λ c v. ap (λ (L : Candidates). L c v) (rw e at left) ∙ rw (before.sets c v) (by (all_of cells 2 c v) (eqb v 1) _ _ _ (here c));
+}
+  where
+    by : (all one old new row : Bool) → new ≡ (old || row) → ((all && not (old && one)) && not (one && row)) ≡ (all && not (new && one))
+    by all one old new row e = grind (arith, common_steps, cases_Bool)
+
+    here : (c : ℕ) → (ltb c ((y + 1) * w) && blocked c) ≡ ((ltb c (y * w) && blocked c) || (eqb (c / w) y && has_bit bits (c % w)))
+    here c =
+        let d : (c / w < y) ↔ (c < y * w) = div-lt_iff_lt-mul pos in
+        let n : (c / w < y + 1) ↔ (c < (y + 1) * w) = div-lt_iff_lt-mul pos in
+        elim (cases_eq (c / w) y) [
+          | inl e ↦
+              let at : y * w + c % w ≡ c = rw e at (div-add-mod' c w) in
+              let high : y * w ≤ c = omega arith in
+              let low : c < (y + 1) * w = n.0 (omega arith) in
+              rw (e, eq-eqb y y refl, is (c % w), lt-ltb (c % w) w (mod-lt c pos), at, le-ltb c (y * w) high, lt-ltb c ((y + 1) * w) low) refl
+          | inr ne ↦ rw (ne_eqb (c / w) y ne) (grind (arith, common_steps, cases_lt, lt-ltb, le-ltb, cases_Bool, d.0, d.1, n.0, n.1))
+        ]
 
 pub start-all : {cells : ℕ} {blocked : ℕ → Bool} (n : ℕ) (K : Candidates) → IsStarted cells blocked n K → cells ≤ n → K ≡ start_of cells blocked
 unfolding start_of all_of

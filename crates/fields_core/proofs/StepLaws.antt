@@ -36,7 +36,7 @@ ascends size c d {e} (suc (suc zero)) (suc (suc (suc zero))) pos lt less a b = l
     step-right size c d a in let v = step-down size c e b in omega (arith, u.0, u.1, v.0)
 ascends size c d k m pos lt less a b = absurd (omega arith)
 
-there-is : (o : Option ℕ) {d : ℕ} → has_place (if_there o) d ≡ true → o ≡ Some d
+pub there-is : (o : Option ℕ) {d : ℕ} → has_place (if_there o) d ≡ true → o ≡ Some d
 unfolding has_place
 there-is None on = grind (arith, common_steps, true≢false)
 there-is (Some x) on = grind (arith, common_steps, or_cases, eqb-true, true≢false)

@@ -17,6 +17,7 @@ pub use light_up::fault::LightFault;
 pub use light_up::rules::LightRules;
 pub use light_up::sight::{count_beside, sees_a_bulb};
 pub use planes::part::{Part, Parts};
+pub use planes::position::{OnPlanes, PlanePosition};
 pub use planes::visit::visit;
 pub use tents::check::check_tents;
 pub use tents::fault::TentFault;

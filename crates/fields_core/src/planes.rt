@@ -1,4 +1,13 @@
-//! Count houses on planes.
+//! Count houses on planes, and the planes of Tents.
 
+pub(crate) mod any;
+pub(crate) mod close;
+pub(crate) mod near;
 pub(crate) mod part;
+pub(crate) mod position;
+pub(crate) mod squares;
+pub(crate) mod start;
+pub(crate) mod sweep;
+pub(crate) mod tents;
+pub(crate) mod trees;
 pub(crate) mod visit;

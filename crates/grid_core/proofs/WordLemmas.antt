@@ -1,5 +1,5 @@
 -- What the operations of words say of their bits.
-use Rattle.grid_core.proofs.Common.{IsLeast, any_below, ap, arith, bit_and, bit_at, bit_at-lt, bit_at-pow_other, bit_at-pow_same, bit_at-suc, bit_at-zero, bit_at_lowest, bit_at_ones, bit_at_ones_above, bit_at_xor, bit_or, bit_xor, cases_Bool, cases_eq, cases_lt, common_steps, differ, eq-eqb, eqb, eqb-false, false, false_from_ne_true, has_bit, le-ltb, lt-ltb, ltb, ne_eqb, not, one_shl, pow_pos, refl, same_from_bits_below, shr_and_one, suc, sym, true, true≢false, zero, ℕ, ◌%◌, ◌&&◌, ◌*◌, ◌-◌, ◌/◌, ◌<◌, ◌^◌, ◌||◌, ◌∙◌, ◌≡◌}
+use Rattle.grid_core.proofs.Common.{IsLeast, add-one, any_below, ap, arith, bit_and, bit_at, bit_at-lt, bit_at_above, bit_at_cat_low, div-add-mod', inl, inr, mod-lt, ◌+◌, bit_at-pow_other, bit_at-pow_same, bit_at-suc, bit_at-zero, bit_at_lowest, bit_at_ones, bit_at_ones_above, bit_at_xor, bit_or, bit_xor, cases_Bool, cases_eq, cases_lt, common_steps, differ, eq-eqb, eqb, eqb-false, false, false_from_ne_true, has_bit, le-ltb, lt-ltb, ltb, ne_eqb, not, one_shl, pow_pos, refl, same_from_bits_below, shr_and_one, suc, sym, true, true≢false, zero, ℕ, ◌%◌, ◌&&◌, ◌*◌, ◌-◌, ◌/◌, ◌<◌, ◌^◌, ◌||◌, ◌∙◌, ◌≡◌}
 use Rattle.grid_core.proofs.BoardLemmas.{bits_both, bits_either, count_ones-bits}
 use Rattle.grid_core.proofs.CandidateLemmas.{any_below-none, any_below-some}
 
@@ -37,6 +37,26 @@ shifted-bit a p = ap (λ n. eqb n 1) (shr_and_one a p)
 
 next-bit : (a p : ℕ) → has_bit a (suc p) ≡ has_bit (a / 2) p
 next-bit a p = ap (λ n. eqb n 1) (bit_at-suc a p)
+
+pub back-bits : (a p : ℕ) → has_bit (a / 2) p ≡ has_bit a (p + 1)
+back-bits a p = rw add-one (sym (next-bit a p))
+
+-- one place on, without what does not fit
+pub on-bits : (w a p : ℕ) → has_bit (a * 2 % 2 ^ w) p ≡ (ltb p w && (ltb 0 p && has_bit a (p - 1)))
+on-bits w a p = elim (cases_lt p w) [
+  | inl lt ↦ rw (lt-ltb p w lt) (low lt ∙ by p)
+  | inr high ↦ rw (le-ltb p w high) (ap (λ n. eqb n 1) (bit_at_above (a * 2 % 2 ^ w) w p (mod-lt (a * 2) (pow_pos w)) high))
+]
+  where
+    low : p < w → has_bit (a * 2 % 2 ^ w) p ≡ has_bit (a * 2) p
+    low lt = sym (ap (λ n. has_bit n p) (sym (div-add-mod' (a * 2) (2 ^ w))) ∙ ap (λ n. eqb n 1) (bit_at_cat_low (a * 2 / 2 ^ w) w (a * 2 % 2 ^ w) p lt))
+
+    by : (q : ℕ) → has_bit (a * 2) q ≡ (ltb 0 q && has_bit a (q - 1))
+    by zero = grind (arith, common_steps, bit_at_lowest (a * 2))
+    by (suc q) =
+        let half : a * 2 / 2 ≡ a = omega arith in
+        let same : suc q - 1 ≡ q = omega arith in
+        rw (lt-ltb 0 (suc q) (omega arith), same) (next-bit (a * 2) q ∙ rw half refl)
 
 -- of a number and the one before it the bits below the lowest differ, and that bit
 dropped-bits : (least a p : ℕ) → has_bit a least ≡ true
@@ -80,4 +100,4 @@ pub some-bit : (w bits : ℕ) → any_below (has_bit bits) w ≡ true → 0 < bi
 some-bit w bits some = grind (arith, common_steps, cases_eq bits 0, none-below)
 
 pub ruleset word_laws =
-    (zero-bits, both-bits, either-bits, differ-bits, but-bits, one-bits, all-bits, full-bits, shifted-bit, some-bit_is, some-bit, count_ones-bits)
+    (zero-bits, on-bits, back-bits, both-bits, either-bits, differ-bits, but-bits, one-bits, all-bits, full-bits, shifted-bit, some-bit_is, some-bit, count_ones-bits)

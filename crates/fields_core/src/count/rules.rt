@@ -25,6 +25,13 @@ pub struct CountRules<P: CountGame> {
 }
 
 impl<P: CountGame> CountRules<P> {
+    /// The puzzle.
+    pub(crate) fn puzzle(&self) -> &P
+        ensures { result.now ≡ self.now.puzzle }
+    {
+        &self.puzzle
+    }
+
     /// The bounds of a house.
     pub(crate) fn house_bounds(&self, house: usize) -> Bounds
         requires { house < length (P.counted self.now.puzzle) }

@@ -50,20 +50,3 @@ impl<W: Word> Parts<W> for (Part<W>, Part<W>) {
         if number == 0 { self.0 } else { self.1 }
     }
 }
-
-impl<W: Word> Parts<W> for (Part<W>, Part<W>, Part<W>) {
-    ghost pieces = { λ parts. piece_of W.bits parts.0
-        ∷ piece_of W.bits parts.1 ∷ piece_of W.bits parts.2 ∷ [] };
-
-    fn len(&self) -> usize {
-        3
-    }
-
-    fn part(&self, number: usize) -> Part<W> {
-        match number {
-            0 => self.0,
-            1 => self.1,
-            _ => self.2,
-        }
-    }
-}

@@ -27,7 +27,7 @@ fn count<W: Word, P: Parts<W>>(planes: &Planes<W>, parts: &P) -> (usize, usize)
 }
 
 /// Takes the value from those cells of the parts that have the other value.
-fn strike<W: Word, P: Parts<W>>(planes: &mut Planes<W>, parts: &P, value: u8)
+pub(crate) fn strike<W: Word, P: Parts<W>>(planes: &mut Planes<W>, parts: &P, value: u8)
     requires pieces { ArePieces planes.old.size (P.pieces parts.now) }
     requires value_in { value < 2 }
     ensures left { has planes.new ≡ without_value planes.old.size.w (P.pieces parts.now)

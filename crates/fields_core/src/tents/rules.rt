@@ -1,7 +1,7 @@
 //! What the rules of Tents are to a search.
 #![tactic(auto, using(crate::proofs::LawSets::tent_rules_laws))]
 
-ghost use Rattle.std.specs.Prelude.{◌≡◌, ◌<◌, refl};
+ghost use Rattle.std.specs.Prelude.{◌≡◌, ◌<◌};
 ghost use Rattle.std.specs.List.{list_any};
 ghost use Rattle.grid_core.specs.Regions.{beside};
 ghost use Rattle.fields_core.specs.Tents.{tent_cells, tree};
@@ -9,24 +9,18 @@ ghost use Rattle.fields_core.specs.Tents.{tent_cells, tree};
 use crate::count::game::CountGame;
 use crate::count::list::CountList;
 use crate::count::rules::CountRules;
-use crate::count::tallies::Tallies;
+use crate::planes::position::OnPlanes;
 use crate::tents::cells::{cells, is_tree};
 use crate::tents::check::find_fault;
 use crate::tents::houses::houses_of_tents;
 use crate::tents::pairs::PairingScratch;
-use engine_core::{HouseRules, PositionFor, TrailPosition};
+use engine_core::HouseRules;
 use gameid_core::TentsPuzzle;
 use grid_core::{Grid, step};
 use std::alloc::{AllocError, Global};
 
 /// The rules of a puzzle of Tents.
-pub type TentRules = HouseRules<CountRules<TentsPuzzle>, Tallies>;
-
-impl PositionFor<TentRules> for Tallies {
-    type Position = TrailPosition<TentRules>;
-
-    ghost position_of = { λ _. refl };
-}
+pub type TentRules = HouseRules<CountRules<TentsPuzzle>, OnPlanes>;
 
 /// Whether a tree is beside the cell.
 fn is_beside_a_tree(puzzle: &TentsPuzzle, place: usize) -> bool

@@ -1,7 +1,7 @@
 //! Sets of places along a line as words of bits.
 #![tactic(auto, using(crate::proofs::WordLemmas::word_laws))]
 
-ghost use Rattle.std.specs.Prelude.{◌≡◌, ℕ, ◌<◌, ◌≤◌, true, false, not, ◌&&◌, ◌||◌, ◌==◌, nat_lt};
+ghost use Rattle.std.specs.Prelude.{◌≡◌, ℕ, ◌+◌, ◌-◌, ◌<◌, ◌≤◌, true, false, not, ◌&&◌, ◌||◌, ◌==◌, nat_lt};
 ghost use Rattle.grid_core.specs.Candidates.{any_below, count_below};
 ghost use Rattle.grid_core.specs.Words.{has_bit, differ, IsLeast};
 
@@ -51,6 +51,15 @@ pub trait Word: Copy + Drop {
     fn but(self, other: Self) -> Self
         ensures { (p : ℕ) → has_bit (bits result) p
             ≡ (has_bit (bits self) p && not (has_bit (bits other) p)) };
+
+    /// The places one further on, of those that there are.
+    fn on(self) -> Self
+        ensures { (p : ℕ) → has_bit (bits result) p
+            ≡ (nat_lt p room && (nat_lt 0 p && has_bit (bits self) (p - 1))) };
+
+    /// The places one further back.
+    fn back(self) -> Self
+        ensures { (p : ℕ) → has_bit (bits result) p ≡ has_bit (bits self) (p + 1) };
 
     /// Whether it has the place.
     fn has(self, place: usize) -> bool
@@ -117,6 +126,14 @@ impl Word for u64 {
         self & (self ^ other)
     }
 
+    fn on(self) -> u64 {
+        self << 1
+    }
+
+    fn back(self) -> u64 {
+        self >> 1
+    }
+
     fn has(self, place: usize) -> bool {
         (self >> place) & 1 == 1
     }
@@ -176,6 +193,14 @@ impl Word for u128 {
 
     fn but(self, other: u128) -> u128 {
         self & (self ^ other)
+    }
+
+    fn on(self) -> u128 {
+        self << 1
+    }
+
+    fn back(self) -> u128 {
+        self >> 1
     }
 
     fn has(self, place: usize) -> bool {

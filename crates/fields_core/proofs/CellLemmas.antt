@@ -1,0 +1,100 @@
+-- Pieces of lines, and the cells that they have.
+use Rattle.std.proofs.Common.{◌≡◌, ◌∙◌, ℕ, zero, suc, ◌+◌, ◌-◌, ◌*◌, ◌/◌, ◌%◌, ◌<◌, Bool, true, ◌||◌, eqb, ltb, List, [], ◌∷◌, ◌++◌, length, slice_index, refl, sym, arith}
+use Rattle.std.proofs.lemmas.Bool.{cases_Bool, and_parts, and_from, eq-eqb, eqb-true, lt-ltb, ltb-true}
+use Rattle.std.proofs.lemmas.List.Folds.{list_any-append}
+use Rattle.std.proofs.lemmas.Grind.{common_steps}
+use Rattle.std.proofs.lemmas.List.FromFn.{length-map-range_with_len, get_or-map-range_with_len}
+use Rattle.std.proofs.lemmas.Nat.{div-mul-add, div-add-mod'}
+use Rattle.grid_core.specs.Candidates.{any_below}
+use Rattle.grid_core.specs.Extent.{Extent}
+use Rattle.grid_core.specs.Planes.{crosses, lines_beside, number_of}
+use Rattle.grid_core.specs.Regions.{row_places, column_places}
+use Rattle.grid_core.specs.Words.{has_bit}
+use Rattle.grid_core.specs.declared.planes.line.Line.TheVariants.{Row, Column}
+use Rattle.grid_core.proofs.PlaneLemmas.{place-column}
+use Rattle.engine_core.specs.RuleSystem.{has_place}
+use Rattle.engine_core.specs.PlaceLaws.{has_place-at, has_place-here}
+use Rattle.fields_core.specs.CountHouse.{IsHouse, exactly}
+use Rattle.fields_core.specs.Parts.{Piece, piece_at, lies_in, lies_in_first, ArePieces, IsHouseOf}
+
+-- ---- one piece
+pub same-truth : (a b : Bool) → (a ≡ true → b ≡ true) → (b ≡ true → a ≡ true) → a ≡ b
+same-truth a b to from = grind (arith, common_steps, cases_Bool a, cases_Bool b)
+
+lies-one : (w : ℕ) (piece : Piece) (c : ℕ) → lies_in_first w (piece ∷ []) 1 c ≡ lies_in w piece c
+unfolding lies_in_first any_below
+lies-one w piece c = refl
+
+pub one-piece : (size : Extent) (piece : Piece) → number_of piece.line < lines_beside size piece.line
+    → ArePieces size (piece ∷ [])
+one-piece size piece lt = record { lines_in = one; apart = λ j k c lj lk _ _. omega arith }
+  where
+    one : (k : ℕ) → k < length (piece ∷ []) → number_of (piece_at (piece ∷ []) k).line < lines_beside size
+        (piece_at (piece ∷ []) k).line
+    one zero less = lt
+    one (suc k) less = absurd (omega arith)
+
+column-has : (size : Extent) (x bits c : ℕ) → x < size.w → ((k : ℕ) → has_bit bits k ≡ ltb k size.h)
+    → has_place (column_places size x) c ≡ lies_in size.w (record { line = Column x; bits = bits }) c
+unfolding lies_in crosses
+column-has size x bits c lt is = same-truth _ _
+    (λ there.
+    let w = has_place-at (column_places size x) c there in
+    let lk : w.0 < size.h = omega (arith, w.1, length-map-range_with_len (λ y. y * size.w + x) 0 size.h) in
+    let at : w.0 * size.w + x ≡ c = sym (get_or-map-range_with_len (λ y. y * size.w + x) 0 size.h w.0 w.0 0 lk
+    (omega arith)) ∙ w.2 in
+    rw (← at, div-mul-add w.0 size.w x lt, place-column size.w w.0 x lt)
+    (and_from _ _ (eq-eqb x x refl) (is w.0 ∙ lt-ltb w.0 size.h lk)))
+    (λ on.
+    let w = and_parts _ _ on in
+    let e : c % size.w ≡ x = eqb-true _ _ w.0 in
+    let lk = ltb-true (c / size.w) size.h (sym (is (c / size.w)) ∙ w.1) in
+    let at : slice_index (column_places size x) (c / size.w) ≡ c = get_or-map-range_with_len
+    (λ y. y * size.w + x) 0 size.h (c / size.w) (c / size.w) 0 lk (omega arith) ∙ rw (← e) (div-add-mod' c size.w) in
+    rw at at (has_place-here (column_places size x) (c / size.w)
+    (omega (arith, lk, length-map-range_with_len (λ y. y * size.w + x) 0 size.h))))
+
+row-has : (size : Extent) (y bits c : ℕ) → 0 < size.w → ((k : ℕ) → has_bit bits k ≡ ltb k size.w)
+    → has_place (row_places size y) c ≡ lies_in size.w (record { line = Row y; bits = bits }) c
+unfolding lies_in crosses
+row-has size y bits c pos is = same-truth _ _
+    (λ there.
+    let w = has_place-at (row_places size y) c there in
+    let lk : w.0 < size.w = omega (arith, w.1, length-map-range_with_len (λ x. y * size.w + x) 0 size.w) in
+    let at : y * size.w + w.0 ≡ c = sym (get_or-map-range_with_len (λ x. y * size.w + x) 0 size.w w.0 w.0 0 lk
+    (omega arith)) ∙ w.2 in
+    rw (← at, div-mul-add y size.w w.0 lk, place-column size.w y w.0 lk)
+    (and_from _ _ (eq-eqb y y refl) (is w.0 ∙ lt-ltb w.0 size.w lk)))
+    (λ on.
+    let w = and_parts _ _ on in
+    let e : c / size.w ≡ y = eqb-true _ _ w.0 in
+    let lk = ltb-true (c % size.w) size.w (sym (is (c % size.w)) ∙ w.1) in
+    let at : slice_index (row_places size y) (c % size.w) ≡ c = get_or-map-range_with_len
+    (λ x. y * size.w + x) 0 size.w (c % size.w) (c % size.w) 0 lk (omega arith) ∙ rw (← e) (div-add-mod' c size.w) in
+    rw at at (has_place-here (row_places size y) (c % size.w)
+    (omega (arith, lk, length-map-range_with_len (λ x. y * size.w + x) 0 size.w))))
+
+pub column-house : (size : Extent) (x bits ones : ℕ) → x < size.w → ((k : ℕ) → has_bit bits k ≡ ltb k size.h)
+    → IsHouse (size.w * size.h) (exactly ones (column_places size x))
+    → IsHouseOf size (record { line = Column x; bits = bits } ∷ []) ones ones (exactly ones (column_places size x))
+column-house size x bits ones lt is house = record {
+  is = house;
+  least_is = refl;
+  most_is = refl;
+  cells = λ c. column-has size x bits c lt is ∙ sym (lies-one size.w (record { line = Column x; bits = bits }) c);
+}
+
+pub row-house : (size : Extent) (y bits ones : ℕ) → 0 < size.w → ((k : ℕ) → has_bit bits k ≡ ltb k size.w)
+    → IsHouse (size.w * size.h) (exactly ones (row_places size y))
+    → IsHouseOf size (record { line = Row y; bits = bits } ∷ []) ones ones (exactly ones (row_places size y))
+row-house size y bits ones pos is house = record {
+  is = house;
+  least_is = refl;
+  most_is = refl;
+  cells = λ c. row-has size y bits c pos is ∙ sym (lies-one size.w (record { line = Row y; bits = bits }) c);
+}
+
+-- ---- places in two lists
+pub has-append : (xs ys : List ℕ) (c : ℕ) → has_place (xs ++ ys) c ≡ (has_place xs c || has_place ys c)
+unfolding has_place
+has-append xs ys c = list_any-append (λ x. eqb x c) xs ys

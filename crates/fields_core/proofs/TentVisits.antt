@@ -1,0 +1,86 @@
+-- Visits of the houses of Tents on planes.
+use Rattle.std.proofs.Common.{◌≡◌, ℕ, ◌+◌, ◌-◌, ◌/◌, ◌%◌, ◌<◌, Bool, true, false, ltb, List, [], ◌∷◌, slice_index, arith}
+use Rattle.std.proofs.lemmas.Bool.{lt-ltb}
+use Rattle.grid_core.specs.Planes.{Layers, has, IsFurther}
+use Rattle.grid_core.specs.Regions.{row_places, column_places}
+use Rattle.grid_core.specs.Words.{has_bit}
+use Rattle.grid_core.specs.declared.planes.line.Line.TheVariants.{Row, Column}
+use Rattle.gameid_core.specs.Puzzles.{Tents, IsTents}
+use Rattle.fields_core.specs.CountHouse.{CountHouse, IsHouse, after_house, exactly, one_at_most, one_at_least, houses_below}
+use Rattle.fields_core.specs.Parts.{Piece, IsHouseOf, IsAlive, IsBroken}
+use Rattle.fields_core.specs.TentHouses.{column_of_tents, row_of_tents, free_beside, tree_house, square_house, tent_houses}
+use Rattle.fields_core.specs.Tents.{tent_cells, tree}
+use Rattle.fields_core.specs.Visits.{AreVisited}
+use Rattle.fields_core.proofs.CellLemmas.{column-house, row-house}
+use Rattle.fields_core.proofs.HouseLists.{row-long, column-long}
+use Rattle.fields_core.proofs.TentCounting.{tent-counting, tent-field}
+use Rattle.fields_core.proofs.VisitLemmas.{among-one, among-front, among-back, among-below, among-house, visited-one}
+
+-- ---- the houses of Tents are houses
+module _ (p : Tents) (lawful : IsTents p) where
+  column-is : {x : ℕ} → x < p.size.w → IsHouse (tent_cells p)
+      (exactly (slice_index p.counts x) (column_places p.size x))
+  unfolding tent_houses
+  column-is {x} lt =
+      among-house _ (tent_houses p) (tent_cells p) (tent-counting lawful).are_houses
+      (among-front _ (houses_below (column_of_tents p) p.size.w) _
+      (among-below _ (column_of_tents p) x p.size.w lt (among-one _)))
+
+  row-is : {y : ℕ} → y < p.size.h → IsHouse (tent_cells p)
+      (exactly (slice_index p.counts (p.size.w + y)) (row_places p.size y))
+  unfolding tent_houses
+  row-is {y} lt =
+      among-house _ (tent_houses p) (tent_cells p) (tent-counting lawful).are_houses
+      (among-back _ (houses_below (column_of_tents p) p.size.w) _
+      (among-front _ (houses_below (row_of_tents p) p.size.h) _
+      (among-below _ (row_of_tents p) y p.size.h lt (among-one _))))
+
+  pub tree-is : {c : ℕ} → c < tent_cells p → tree p c ≡ true → IsHouse (tent_cells p) (one_at_least (free_beside p c))
+  unfolding tent_houses
+  tree-is {c} lt is =
+      among-house _ (tent_houses p) (tent_cells p) (tent-counting lawful).are_houses
+      (among-back _ (houses_below (column_of_tents p) p.size.w) _
+      (among-back _ (houses_below (row_of_tents p) p.size.h) _
+      (among-front _ (houses_below (tree_house p) (tent_cells p)) _
+      (among-below _ (tree_house p) c (tent_cells p) lt (rw is (among-one _))))))
+
+  pub square-is : {c : ℕ} → c < tent_cells p → c % p.size.w + 1 < p.size.w → c / p.size.w + 1 < p.size.h
+      → IsHouse (tent_cells p) (one_at_most (c ∷ (c + 1) ∷ (c + p.size.w) ∷ (c + p.size.w + 1) ∷ []))
+  unfolding tent_houses
+  square-is {c} lt wide tall =
+      among-house _ (tent_houses p) (tent_cells p) (tent-counting lawful).are_houses
+      (among-back _ (houses_below (column_of_tents p) p.size.w) _
+      (among-back _ (houses_below (row_of_tents p) p.size.h) _
+      (among-back _ (houses_below (tree_house p) (tent_cells p)) _ (among-below _ (square_house p) c (tent_cells p) lt
+      (rw (lt-ltb _ _ wide, lt-ltb _ _ tall) (among-one _))))))
+
+-- what a visit says of each house of its pieces
+abbrev pub IsVisitOf : List Piece → ℕ → ℕ → Layers → Layers → Bool → Type 0
+IsVisitOf pieces least most from to fills = (house : CountHouse) → IsHouseOf from.size pieces least most house
+    → (fills ≡ true → has to ≡ after_house house (has from)) × (fills ≡ false → IsBroken house (has from))
+
+-- ---- lines
+pub column-visited : (p : Tents) (x bits ones : ℕ) (from to : Layers) (fills : Bool) → IsTents p
+    → from.size ≡ p.size → x < p.size.w → ((k : ℕ) → has_bit bits k ≡ ltb k p.size.h) → ones ≡ slice_index p.counts x
+    → IsVisitOf (record { line = Column x; bits = bits } ∷ []) ones ones from to fills → IsAlive to
+    → IsFurther from to → AreVisited (column_of_tents p x) from to fills
+column-visited p x bits ones from to fills lawful size lt is count visit alive further =
+    let told = visit (exactly (slice_index p.counts x) (column_places p.size x))
+    (rw (size, count) (column-house p.size x bits (slice_index p.counts x) lt is (column-is p lawful lt))) in
+    visited-one (rw size (column-is p lawful lt))
+    (let tall = lawful.size.extent.h_low in omega (arith, column-long p.size x)) told.0 told.1 alive further
+
+pub row-visited : (p : Tents) (y bits ones : ℕ) (from to : Layers) (fills : Bool) → IsTents p
+    → from.size ≡ p.size → y < p.size.h → ((k : ℕ) → has_bit bits k ≡ ltb k p.size.w)
+    → ones ≡ slice_index p.counts (p.size.w + y)
+    → IsVisitOf (record { line = Row y; bits = bits } ∷ []) ones ones from to fills → IsAlive to
+    → IsFurther from to → AreVisited (row_of_tents p y) from to fills
+row-visited p y bits ones from to fills lawful size lt is count visit alive further =
+    let pos = (tent-field lawful).some in
+    let told = visit (exactly (slice_index p.counts (p.size.w + y)) (row_places p.size y))
+    (rw (size, count) (row-house p.size y bits (slice_index p.counts (p.size.w + y)) pos is (row-is p lawful lt))) in
+    visited-one (rw size (row-is p lawful lt)) (omega (arith, row-long p.size y)) told.0 told.1 alive further
+
+-- the places of a square
+abbrev pub square_places : ℕ → ℕ → List ℕ
+square_places w c = c ∷ (c + 1) ∷ (c + w) ∷ (c + w + 1) ∷ []

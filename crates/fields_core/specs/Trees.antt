@@ -1,0 +1,44 @@
+-- The trees of a row of Tents, and words of the cells beside them.
+use Rattle.std.specs.Prelude.{◌≡◌, ℕ, ◌+◌, ◌-◌, ◌*◌, ◌<◌, ◌≤◌, Bool, not, ◌&&◌, ◌==◌, nat_lt, List, length, slice_index}
+use Rattle.grid_core.specs.Candidates.{Candidates, any_below}
+use Rattle.grid_core.specs.Extent.{Extent}
+use Rattle.grid_core.specs.Regions.{beside}
+use Rattle.grid_core.specs.Words.{has_bit}
+use Rattle.engine_core.specs.RuleSystem.{has_place}
+use Rattle.gameid_core.specs.Puzzles.{Tents}
+use Rattle.fields_core.specs.CountHouse.{CountHouse, houses_below}
+use Rattle.fields_core.specs.TentHouses.{tree_house}
+use Rattle.fields_core.specs.Tents.{tree}
+use Rattle.fields_core.specs.declared.planes.near.Near.{Near}
+
+-- the houses of the trees of a row
+abbrev pub trees_of_row : Tents → ℕ → List CountHouse
+trees_of_row p y = houses_below (λ x. tree_house p (y * p.size.w + x)) p.size.w
+
+-- the word has those cells of the row that pass
+abbrev pub IsRowOf : ℕ → (ℕ → Bool) → ℕ → ℕ → Type 0
+IsRowOf w passes y bits = (x : ℕ) → has_bit bits x ≡ (nat_lt x w && passes (y * w + x))
+
+-- the words have the trees of each row
+pub record AreTreeRows (p : Tents) (rows : List ℕ) : Type 0 where
+  pub long : p.size.h ≤ length rows
+  pub each : (y : ℕ) → y < p.size.h → IsRowOf p.size.w (tree p) y (slice_index rows y)
+
+-- the words have the cells that pass of a row, of the row above and of the one below, where there are such rows
+pub record IsNear {W : Type 0} (bits : W → ℕ) (size : Extent) (passes : ℕ → Bool) (y : ℕ)
+    (near : Near W)
+    : Type 0 where
+  pub above : (x : ℕ) → has_bit (bits near.above) x
+      ≡ (nat_lt x size.w && (nat_lt 0 y && passes ((y - 1) * size.w + x)))
+  pub own : IsRowOf size.w passes y (bits near.own)
+  pub below : (x : ℕ) → has_bit (bits near.below) x
+      ≡ (nat_lt x size.w && (nat_lt (y + 1) size.h && passes ((y + 1) * size.w + x)))
+
+-- whether the cell is beside one of the first n cells of a row, of those at these places
+unfoldable pub is_beside : Extent → ℕ → (ℕ → Bool) → ℕ → ℕ → Bool
+is_beside size y places n c =
+    any_below (λ x. places x && has_place (beside size (y * size.w + x)) c) n
+
+-- the board without 0 in the cells that pass
+unfoldable pub without_zeros : (ℕ → Bool) → Candidates → Candidates
+without_zeros passes K c v = K c v && not ((v == 0) && passes c)

@@ -1,0 +1,46 @@
+-- Visits of count houses on planes, one after another, and sweeps of all houses of Tents.
+use Rattle.std.specs.Prelude.{◌≡◌, ℕ, ◌<◌, Bool, true, false, List, [], ◌∷◌, ◌++◌}
+use Rattle.std.specs.List.{range_with_len}
+use Rattle.grid_core.specs.Candidates.{Candidates}
+use Rattle.grid_core.specs.Planes.{Layers, has, cells_of, IsFurther}
+use Rattle.engine_core.specs.Closing.{replay}
+use Rattle.engine_core.specs.ClosingList.{IsDead}
+use Rattle.gameid_core.specs.Puzzles.{Tents}
+use Rattle.fields_core.specs.CountHouse.{CountHouse, after_house, houses_below}
+use Rattle.fields_core.specs.Parts.{IsAlive}
+use Rattle.fields_core.specs.TentHouses.{column_of_tents, row_of_tents, tree_house, square_house, tent_rules}
+use Rattle.fields_core.specs.Tents.{tent_cells}
+
+-- the board after visits of the houses, one after another
+unfoldable pub after_houses : List CountHouse → Candidates → Candidates
+after_houses [] K = K
+after_houses (house ∷ houses) K = after_houses houses (after_house house K)
+
+-- visits of the houses took the planes from the first to the second; or these visits leave a cell without a value
+pub record AreVisited (houses : List CountHouse) (from to : Layers) (fills : Bool)
+    : Type 0 where
+  pub left : fills ≡ true → has to ≡ after_houses houses (has from)
+  pub dies : fills ≡ false → (c : ℕ) × (c < cells_of from)
+      × ((v : ℕ) → v < 2 → after_houses houses (has from) c v ≡ false)
+  pub alive : IsAlive to
+  pub further : IsFurther from to
+
+-- the houses of the columns and of the rows, and those of the trees and of the squares
+abbrev pub line_houses : Tents → List CountHouse
+line_houses p =
+    houses_below (column_of_tents p) p.size.w ++ houses_below (row_of_tents p) p.size.h
+
+abbrev pub cell_houses : Tents → List CountHouse
+cell_houses p =
+    houses_below (tree_house p) (tent_cells p) ++ houses_below (square_house p) (tent_cells p)
+
+-- the board after a sweep: each house is visited once, in ascending order
+abbrev pub swept : Tents → Candidates → Candidates
+swept p K = replay (tent_rules p) K (range_with_len 0 (tent_rules p).houses)
+
+-- a sweep took the planes from the first to the second; or it leaves a cell without a value
+pub record IsTentSweep (p : Tents) (from to : Layers) (fills : Bool) : Type 0 where
+  pub left : fills ≡ true → has to ≡ swept p (has from)
+  pub dies : fills ≡ false → IsDead (tent_rules p) (swept p (has from))
+  pub alive : IsAlive to
+  pub further : IsFurther from to
