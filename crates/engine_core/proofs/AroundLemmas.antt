@@ -5,184 +5,51 @@ use Rattle.engine_core.proofs.ClosingLemmas.{replay_inside}
 use Rattle.engine_core.proofs.EndLemmas.{closed-in, taken-dead, taken-open}
 use Rattle.engine_core.proofs.QueueLemmas.{closed_from_rested}
 use Rattle.engine_core.proofs.ListLemmas.{IsRunning, closing-dead, closing-open, room, running-first, running-turn}
-use Rattle.engine_core.proofs.SweepLemmas.{IsSwept, IsSweeping, few_sweeps, struck-more, struck-none, sweep-idle, swept-dead, swept-first, swept-idle, swept-shut, swept-turn, sweeping-inside, sweeping-first, sweeping-passed, sweeping-dead, sweeping-turn}
+use Rattle.engine_core.proofs.SweepLemmas.{IsSwept, IsSweeping, few_sweeps, struck-more, struck-none, sweep-idle, swept-alive, swept-dead, swept-first, swept-idle, swept-shut, swept-turn, sweeping-inside, sweeping-first, sweeping-passed, sweeping-dead, sweeping-turn}
 
 -- the board K was left in the n-th sweep of K0, which began with the board `first`, before the house `from`; each sweep
 -- before struck something
 pub record IsAmid (p : RuleSystem) (K0 : Candidates) (n from : ℕ) (first K : Candidates) (waits : ℕ → Bool) : Type 0 where
   pub whole : ℕ
   pub told : n ≡ whole + 1
-  pub alive : IsAlive p first
   pub swept : IsSwept p K0 whole first
-  pub past : from ≤ p.houses
   pub sweeping : IsSweeping p first from K waits
 
 pub amid-first : (p : RuleSystem) (K : Candidates) (waits : ℕ → Bool) → IsAlive p K → IsRested p K waits → IsAmid p K 1 0 K K waits
-amid-first p K waits alive rested = record {
-  whole = 0;
-  told = refl;
-  alive = alive;
-  swept = swept-first p K alive;
-  past = omega arith;
-  sweeping = sweeping-first p K waits rested;
-}
-
-module _ {p : RuleSystem} (laws : IsLawful p) {K0 : Candidates} {n from : ℕ} {first K : Candidates} {waits : ℕ → Bool} (s : IsAmid p K0 n from first K waits) where
-  -- the houses from here on do not wait
-  amid-whole : ((h : ℕ) → from ≤ h → h < p.houses → waits h ≡ false) → IsSweeping p first p.houses K waits
-  amid-whole none = sweeping-passed s.sweeping s.past (omega arith) none
-
-  -- the next house that waits is in this sweep, or in a new one
-  pub amid-next : {h : ℕ} (n' : ℕ) → IsWithin p.cells p.values K0 → (h < from → IsAlive p K) → IsAround waits p.houses from (Some h)
-      → (h < from → n' ≡ n + 1) → (from ≤ h → n' ≡ n)
-      → (from ≤ h) × IsAmid p K0 n' h first K waits ⊎ (h < from) × IsAmid p K0 n' h K K waits
-  amid-next {h} n' within alive around more same = elim around [
-    | inl next ↦ inl (
-      next.0,
-      record {
-        whole = s.whole;
-        told = same next.0 ∙ s.told;
-        alive = s.alive;
-        swept = s.swept;
-        past = omega (arith, next.1);
-        sweeping = sweeping-passed s.sweeping next.0 (omega (arith, next.1)) next.3;
-      },
-    )
-    | inr none ↦ (
-        let next = none.1 in
-        let lt : h < from = grind (arith, common_steps, none.0 h) in
-        let all = amid-whole none.0 in
-        inr (
-          lt,
-          record {
-            whole = n;
-            told = more lt;
-            alive = alive lt;
-            swept =
-                rw s.told (swept-turn p K0 s.whole first K s.swept (within_inside _ _ _ _ within (rw s.swept.left (replay_inside p K0 _)))
-                all.left (all.struck h next.1 next.2) (alive lt));
-            past = omega (arith, next.1);
-            sweeping = sweeping-passed (sweeping-first p K waits all.rested) (omega arith) (omega (arith, next.1)) next.3;
-          },
-        ))
-  ]
-
-  pub amid-turn : {K' : Candidates} {waits' : ℕ → Bool} → from < p.houses → IsWithin p.cells p.values K → K' ≡ after p from K
-      → IsWoken p from K K' waits waits' → IsAmid p K0 n (from + 1) first K' waits'
-  amid-turn lt within e woke = record {
-    whole = s.whole;
-    told = s.told;
-    alive = s.alive;
-    swept = s.swept;
-    past = omega arith;
-    sweeping = sweeping-turn p laws first from K _ waits _ s.sweeping lt within e woke;
-  }
-
-  pub amid-few : p.by_queue ≡ false → n ≤ p.bound
-  amid-few sweeps = omega (arith, s.told, few_sweeps p laws first sweeps s.alive s.swept)
-
-  -- a visit that leaves a cell without a value ends the closing, whatever the sweep still visits
-  pub amid-dead : p.by_queue ≡ false → IsWithin p.cells p.values K0 → from < p.houses → IsDead p (after p from K)
-      → IsClosing p K0 (replay p first (range_with_len 0 p.houses)) Dead [] n
-  amid-dead sweeps within lt dead =
-      rw s.told (swept-dead p laws K0 s.whole first sweeps within s.alive s.swept (sweeping-dead s.sweeping lt dead))
-
-  -- no house waits
-  pub amid-open : p.by_queue ≡ false → IsWithin p.cells p.values K0 → IsAlive p K → ((h : ℕ) → h < p.houses → waits h ≡ false)
-      → IsClosing p K0 K Open [] n
-  amid-open sweeps within alive none =
-      let all = amid-whole (λ h le lt. none h lt) in
-      rw s.told (swept-shut p laws s.whole first K sweeps within s.alive s.swept all.left alive (closed_from_rested p K waits none all.rested))
+amid-first p K waits alive rested =
+    record { whole = 0; told = refl; swept = swept-first p K alive; sweeping = sweeping-first p K waits rested }
 
 -- the board K was left by so many visits of K0 in a queue, or else in the sweep of that number, before the house `from`
 pub record IsUnderway (p : RuleSystem) (K0 : Candidates) (turns from : ℕ) (K : Candidates) (waits : ℕ → Bool) : Type 0 where
   pub past : from ≤ p.houses
-  pub by_visits : p.by_queue ≡ true → (t : List ℕ) × (length t ≡ turns) × IsRunning p K0 t K waits
-  pub by_sweeps : p.by_queue ≡ false → (first : Candidates) × IsAmid p K0 turns from first K waits
+  pub made : ((p.by_queue ≡ true) × (t : List ℕ) × (length t ≡ turns) × IsRunning p K0 t K waits)
+      ⊎ ((p.by_queue ≡ false) × (first : Candidates) × IsAmid p K0 turns from first K waits)
+
+pub underway-first : (p : RuleSystem) (laws : IsLawful p) (K : Candidates) (waits : ℕ → Bool) (turns : ℕ) → IsAlive p K → IsRested p K waits
+    → turns ≡ from_bool (not p.by_queue) → IsUnderway p K turns 0 K waits
+underway-first p laws K waits turns alive rested counts = record {
+  past = omega arith;
+  made = elim (cases_Bool p.by_queue) [
+    | inl queue ↦ inl (queue, [], sym (rw queue at counts), running-first p laws K waits queue alive rested)
+    | inr sweeps ↦ (let one : turns ≡ 1 = rw sweeps at counts in inr (sweeps, K, rw one (amid-first p K waits alive rested)))
+  ];
+}
 
 -- the next visit is that of h
 pub record IsAtHouse (p : RuleSystem) (K0 : Candidates) (turns h : ℕ) (K : Candidates) (waits : ℕ → Bool) : Type 0 where
   pub house_in : h < p.houses
   pub few : turns ≤ p.bound
-  pub by_visits : p.by_queue ≡ true → (t : List ℕ) × (length t + 1 ≡ turns) × (waits h ≡ true) × IsRunning p K0 t K waits
-  pub by_sweeps : p.by_queue ≡ false → (first : Candidates) × IsAmid p K0 turns h first K waits
-
-amid-either : {p : RuleSystem} {K0 : Candidates} {n from h : ℕ} {first K : Candidates} {waits : ℕ → Bool}
-    → (from ≤ h) × IsAmid p K0 n h first K waits ⊎ (h < from) × IsAmid p K0 n h K K waits → (first' : Candidates) × IsAmid p K0 n h first' K waits
-amid-either {first} {K} either = elim either [ inl s ↦ (first, s.1) | inr s ↦ (K, s.1) ]
+  pub made : ((p.by_queue ≡ true) × (t : List ℕ) × (length t + 1 ≡ turns) × (waits h ≡ true) × IsRunning p K0 t K waits)
+      ⊎ ((p.by_queue ≡ false) × (first : Candidates) × IsAmid p K0 turns h first K waits)
 
 pub around-in : (waits : ℕ → Bool) (n from h : ℕ) → IsAround waits n from (Some h) → (h < n) × (waits h ≡ true)
 around-in waits n from h around = grind (arith, common_steps)
 
-pub underway-first : (p : RuleSystem) (laws : IsLawful p) (K : Candidates) (waits : ℕ → Bool) (turns : ℕ) → IsAlive p K → IsRested p K waits
-    → (p.by_queue ≡ true → turns ≡ 0) → (p.by_queue ≡ false → turns ≡ 1) → IsUnderway p K turns 0 K waits
-underway-first p laws K waits turns alive rested visits sweeps = record {
-  past = omega arith;
-  by_visits = λ queue. ([], sym (visits queue), running-first p laws K waits queue alive rested);
-  by_sweeps = λ e. (K, rw (sweeps e) (amid-first p K waits alive rested));
-}
-
-pub underway-next : {p : RuleSystem} (laws : IsLawful p) {K0 : Candidates} {turns from : ℕ} {K : Candidates} {waits : ℕ → Bool}
-    → IsUnderway p K0 turns from K waits → {h : ℕ} (more : ℕ) → IsWithin p.cells p.values K0 → IsAlive p K
-    → IsAround waits p.houses from (Some h) → more ≡ from_bool (p.by_queue || ltb h from) → IsAtHouse p K0 (turns + more) h K waits
-underway-next {p} laws {K0} {turns} {from} {K} {waits} u {h} more within alive around counts = elim (cases_Bool p.by_queue) [
-  | inl queue ↦ (
-      let r = u.by_visits queue in
-      let w = around-in waits p.houses from h around in
-      let one : more ≡ 1 = rw queue at counts in
-      record {
-        house_in = w.0;
-        few = omega (arith, room r.2 w.0 w.1, r.1, one);
-        by_visits = λ _. (r.0, omega (arith, r.1, one), w.1, r.2);
-        by_sweeps = λ e. absurd (true≢false (sym queue ∙ e));
-      })
-  | inr sweeps ↦ (
-      let s = amid-either (amid-next laws (u.by_sweeps sweeps).1 (turns + more) within (λ lt. alive) around
-      (λ lt. omega (arith, rw (sweeps, lt-ltb h from lt) at counts)) (λ le. omega (arith, rw (sweeps, le-ltb h from le) at counts))) in
-      record {
-        house_in = (around-in waits p.houses from h around).0;
-        few = amid-few laws s.1 sweeps;
-        by_visits = λ e. absurd (true≢false (sym e ∙ sweeps));
-        by_sweeps = λ _. s;
-      })
-]
-
-module _ {p : RuleSystem} (laws : IsLawful p) {K0 : Candidates} {turns h : ℕ} {K : Candidates} {waits : ℕ → Bool} (v : IsAtHouse p K0 turns h K waits) where
-  pub underway-turn : (K' : Candidates) (waits' : ℕ → Bool) → IsWithin p.cells p.values K → K' ≡ after p h K → IsWoken p h K K' waits waits'
-      → IsAlive p K' → IsUnderway p K0 turns (h + 1) K' waits'
-  underway-turn K' waits' within e woke alive = record {
-    past = omega (arith, v.house_in);
-    by_visits = λ queue. (
-        let r = v.by_visits queue in (
-          r.0 ++ h ∷ [],
-          omega (arith, length-append r.0 (h ∷ []), r.1),
-          running-turn p laws K0 r.0 K K' waits waits' h r.3 v.house_in r.2 within e woke alive,
-        ));
-    by_sweeps = λ sweeps. ((v.by_sweeps sweeps).0, amid-turn laws (v.by_sweeps sweeps).1 v.house_in within e woke);
-  }
-
-  pub underway-dead : (E : Candidates) → IsWithin p.cells p.values K0 → IsDead p (after p h K) → IsTaken p K0 E Dead × IsClosedIn p K0 turns
-  underway-dead E within dead = elim (cases_Bool p.by_queue) [
-    | inl queue ↦ (
-        let r = v.by_visits queue in
-        let c = closing-dead p laws K0 r.0 K _ waits h queue within r.3 v.house_in r.2 refl dead in
-        (taken-dead c, closed-in c (λ _. omega (arith, length-append r.0 (h ∷ []), r.1)) (λ e. absurd (true≢false (sym queue ∙ e)))))
-    | inr sweeps ↦ (
-        let c = amid-dead laws (v.by_sweeps sweeps).1 sweeps within v.house_in dead in
-        (taken-dead c, closed-in c (λ e. absurd (true≢false (sym e ∙ sweeps))) (λ _. refl)))
-  ]
-
-pub underway-open : {p : RuleSystem} (laws : IsLawful p) {K0 : Candidates} {turns from : ℕ} {K : Candidates} {waits : ℕ → Bool}
-    → IsUnderway p K0 turns from K waits → IsWithin p.cells p.values K0 → IsAlive p K → IsAround waits p.houses from None
-    → IsTaken p K0 K Open × IsClosedIn p K0 turns
-underway-open {p} laws {K0} {turns} {from} {K} {waits} u within alive none = elim (cases_Bool p.by_queue) [
-  | inl queue ↦ (
-      let r = u.by_visits queue in
-      let c = closing-open p laws K0 r.0 K waits queue within r.2 none in
-      (taken-open c, closed-in c (λ _. r.1) (λ e. absurd (true≢false (sym queue ∙ e)))))
-  | inr sweeps ↦ (
-      let c = amid-open laws (u.by_sweeps sweeps).1 sweeps within alive none in
-      (taken-open c, closed-in c (λ e. absurd (true≢false (sym e ∙ sweeps))) (λ _. refl)))
+-- where the next house that waits stands before, none waits from here on
+pub rest-around : {waits : ℕ → Bool} {n from h : ℕ} → IsAround waits n from (Some h) → ltb h from ≡ true → (j : ℕ) → from ≤ j → j < n → waits j ≡ false
+rest-around {waits} {n} {from} {h} around lt = elim around [
+  | inl next ↦ absurd (true≢false (sym lt ∙ le-ltb h from next.0))
+  | inr none ↦ none.0
 ]
 
 -- a step makes a turn, or goes on to a later house
@@ -211,21 +78,6 @@ pub record IsQueued (p : RuleSystem) (K0 : Candidates) (t : List ℕ) (K : Candi
   pub running : dead ≡ false → IsRunning p K0 t K waits
   pub ended : dead ≡ true → IsClosing p K0 K Dead t 0
 
-pub queued-turn : {p : RuleSystem} (laws : IsLawful p) {K0 : Candidates} {t : List ℕ} {K : Candidates} {waits : ℕ → Bool} → IsRunning p K0 t K waits
-    → {h : ℕ} (K' : Candidates) {waits' : ℕ → Bool} (dead : Bool) → p.by_queue ≡ true → IsWithin p.cells p.values K0 → IsWithin p.cells p.values K
-    → h < p.houses → waits h ≡ true → K' ≡ after p h K → IsWoken p h K K' waits waits' → is_dead p.cells p.values K' ≡ dead
-    → IsQueued p K0 (t ++ h ∷ []) K' waits' dead
-queued-turn {p} laws {K0} {t} {K} {waits} r {h} K' {waits'} dead queue within0 within lt waiting e woke is = record {
-  running = λ off. running-turn p laws K0 t K K' waits waits' h r lt waiting within e woke (is ∙ off);
-  ended = λ on. closing-dead p laws K0 t K K' waits h queue within0 r lt waiting e (is ∙ on);
-}
-
-pub queued-end : {p : RuleSystem} (laws : IsLawful p) {K0 : Candidates} {t : List ℕ} {K : Candidates} {waits : ℕ → Bool} (dead : Bool)
-    → IsQueued p K0 t K waits dead → p.by_queue ≡ true → IsWithin p.cells p.values K0 → (dead ≡ false → (h : ℕ) → h < p.houses → waits h ≡ false)
-    → IsClosing p K0 K (if dead then Dead else Open) t 0
-queued-end laws true q queue within none = q.ended refl
-queued-end {p} laws {K0} {t} {K} {waits} false q queue within none = closing-open p laws K0 t K waits queue within (q.running refl) (none refl)
-
 -- and whether the sweep struck anything so far
 pub record IsStriking (p : RuleSystem) (K0 : Candidates) (n from : ℕ) (K : Candidates) (waits : ℕ → Bool) (struck : Bool) : Type 0 where
   pub first : Candidates
@@ -241,66 +93,179 @@ kept-off : (x : Bool) → (x && false) ≡ false
 kept-off true = refl
 kept-off false = refl
 
-pub striking-next : {p : RuleSystem} (laws : IsLawful p) {K0 : Candidates} {n from : ℕ} {K : Candidates} {waits : ℕ → Bool} {struck : Bool}
-    → IsStriking p K0 n from K waits struck → {h : ℕ} (more : ℕ) → IsWithin p.cells p.values K0 → (h < from → IsAlive p K)
-    → IsAround waits p.houses from (Some h) → more ≡ from_bool (ltb h from)
-    → IsStriking p K0 (n + more) h K waits (struck && not (ltb h from))
-striking-next {p} laws {K0} {n} {from} {K} {waits} {struck} s {h} more within alive around counts =
-    elim (amid-next laws s.amid (n + more) within alive around
-    (λ lt. omega (arith, rw (lt-ltb h from lt) at counts)) (λ le. omega (arith, rw (le-ltb h from le) at counts))) [
-      | inl here ↦ rw (le-ltb h from here.0, kept-on struck) (record { first = s.first; amid = here.1; lost = s.lost; same = s.same })
-      | inr new ↦ rw (lt-ltb h from new.0, kept-off struck) (record { first = K; amid = new.1; lost = λ e. absurd (true≢false (sym e)); same = λ _. refl })
-    ]
-
-pub striking-turn : {p : RuleSystem} (laws : IsLawful p) {K0 : Candidates} {n h : ℕ} {K : Candidates} {waits : ℕ → Bool} {struck now : Bool}
-    → IsStriking p K0 n h K waits struck → {K' : Candidates} {waits' : ℕ → Bool} → h < p.houses → IsWithin p.cells p.values K → K' ≡ after p h K
-    → IsWoken p h K K' waits waits' → (now ≡ false → K' ≡ K) → (now ≡ true → HasStruck K K') → IsStriking p K0 n (h + 1) K' waits' (struck || now)
-striking-turn {p} laws {h} s lt within e woke idle lost = record {
-  first = s.first;
-  amid = amid-turn laws s.amid lt within e woke;
-  lost = struck-more p h (sweeping-inside s.amid.sweeping) e s.lost lost;
-  same = struck-none s.same idle;
-}
-
--- the sweep is at its end: where it struck nothing it counts only as the first
-pub striking-end : {p : RuleSystem} (laws : IsLawful p) {K0 : Candidates} {n from : ℕ} {K : Candidates} {waits : ℕ → Bool} (struck dead : Bool)
-    → IsStriking p K0 n from K waits struck → p.by_queue ≡ false → IsWithin p.cells p.values K0 → is_dead p.cells p.values K ≡ dead
-    → (dead ≡ true → (h : ℕ) → from ≤ h → h < p.houses → waits h ≡ false)
-    → (dead ≡ false → (h : ℕ) → h < p.houses → waits h ≡ false)
-    → IsClosing p K0 K (if dead then Dead else Open) [] (max (n - from_bool (not struck)) 1)
-striking-end {p} laws {K0} {n} {from} {K} {waits} struck true s sweeps within dead rest none = (
-    let all = amid-whole laws s.amid (rest refl) in
-    let alive = s.amid.alive in
-    let on : struck ≡ true = grind (arith, common_steps, cases_Bool struck, s.same, true≢false) in
-    let e : max (n - from_bool (not struck)) 1 ≡ n = rw (on, s.amid.told) (grind (arith, common_steps)) in
-    rw (e, s.amid.told, all.left) (swept-dead p laws K0 s.amid.whole s.first sweeps within alive s.amid.swept (rw all.left at dead)))
-striking-end {p} laws {K0} {n} {from} {K} {waits} true false s sweeps within dead rest none =
-    let e : max (n - 0) 1 ≡ n = rw s.amid.told (grind (arith, common_steps)) in
-    rw e (amid-open laws s.amid sweeps within dead (none refl))
-striking-end {p} laws {K0} {n} {from} {K} {waits} false false s sweeps within dead rest none =
-    let all = amid-whole laws s.amid (λ h le lt. none refl h lt) in
-    let e : n - 1 ≡ s.amid.whole = omega (arith, s.amid.told) in
-    rw e (swept-idle laws s.amid.whole sweeps within s.amid.alive s.amid.swept all.left (s.same refl) (sweep-idle all (s.same refl)))
-
--- the answer of a closing whose turns are visits of a queue, or else sweeps
-pub exact-end : {p : RuleSystem} (laws : IsLawful p) {K0 : Candidates} {turns from : ℕ} {K : Candidates} {waits : ℕ → Bool}
-    (queue struck dead : Bool) (trace : List ℕ) → p.by_queue ≡ queue
-    → (p.by_queue ≡ true → IsQueued p K0 (take turns trace) K waits dead)
-    → (p.by_queue ≡ false → IsStriking p K0 turns from K waits struck) → IsWithin p.cells p.values K0 → is_dead p.cells p.values K ≡ dead
-    → (dead ≡ true → p.by_queue ≡ false → (h : ℕ) → from ≤ h → h < p.houses → waits h ≡ false)
-    → (dead ≡ false → (h : ℕ) → h < p.houses → waits h ≡ false)
-    → IsClosing p K0 K (if dead then Dead else Open) (take (if queue then turns else 0) trace)
-    (if queue then 0 else max (turns - from_bool (not struck)) 1)
-exact-end laws true struck dead trace e queued striking within is rest none = queued-end laws dead (queued e) e within none
-exact-end laws false struck dead trace e queued striking within is rest none =
-    striking-end laws struck dead (striking e) e within is (λ on. rest on e) none
-
 pub still-alive : (dead : Bool) → (dead && true) ≡ false → dead ≡ false
 still-alive dead e = sym (kept-on dead) ∙ e
 
--- where the next house that waits stands before, none waits from here on
-pub rest-around : {waits : ℕ → Bool} {n from h : ℕ} → IsAround waits n from (Some h) → ltb h from ≡ true → (j : ℕ) → from ≤ j → j < n → waits j ≡ false
-rest-around {waits} {n} {from} {h} around lt = elim around [
-  | inl next ↦ absurd (true≢false (sym lt ∙ le-ltb h from next.0))
-  | inr none ↦ none.0
-]
+module _ (p : RuleSystem) (laws : IsLawful p) (K0 : Candidates) (within : IsWithin p.cells p.values K0) where
+  -- the houses from here on do not wait
+  amid-whole : {n from : ℕ} {first K : Candidates} {waits : ℕ → Bool} → IsAmid p K0 n from first K waits → from ≤ p.houses
+      → ((h : ℕ) → from ≤ h → h < p.houses → waits h ≡ false) → IsSweeping p first p.houses K waits
+  amid-whole s past none = sweeping-passed s.sweeping past (omega arith) none
+
+  -- the next house that waits is in this sweep, or in a new one
+  amid-next : {n from h : ℕ} {first K : Candidates} {waits : ℕ → Bool} → IsAmid p K0 n from first K waits → from ≤ p.houses
+      → (more : ℕ) → (h < from → IsAlive p K) → IsAround waits p.houses from (Some h) → more ≡ from_bool (ltb h from)
+      → (from ≤ h) × IsAmid p K0 (n + more) h first K waits ⊎ (h < from) × IsAmid p K0 (n + more) h K K waits
+  amid-next {n} {from} {h} {first} {K} {waits} s past more alive around counts = elim around [
+    | inl next ↦ (
+        let none : more ≡ 0 = rw (le-ltb h from next.0) at counts in
+        inl (
+          next.0,
+          record {
+            whole = s.whole;
+            told = omega (arith, s.told);
+            swept = s.swept;
+            sweeping = sweeping-passed s.sweeping next.0 (omega (arith, next.1)) next.3;
+          },
+        ))
+    | inr none ↦ (
+        let next = none.1 in
+        let lt : h < from = grind (arith, common_steps, none.0 h) in
+        let one : more ≡ 1 = rw (lt-ltb h from lt) at counts in
+        let all = amid-whole s past none.0 in
+        inr (
+          lt,
+          record {
+            whole = n;
+            told = omega arith;
+            swept = rw s.told (swept-turn p K0 s.whole first K s.swept (within_inside _ _ _ _ within (rw s.swept.left (replay_inside p K0 _)))
+                all.left (all.struck h next.1 next.2) (alive lt));
+            sweeping = sweeping-passed (sweeping-first p K waits all.rested) (omega arith) (omega (arith, next.1)) next.3;
+          },
+        ))
+  ]
+
+  amid-turn : {n h : ℕ} {first K K' : Candidates} {waits waits' : ℕ → Bool} → IsAmid p K0 n h first K waits → h < p.houses
+      → IsWithin p.cells p.values K → K' ≡ after p h K → IsWoken p h K K' waits waits' → IsAmid p K0 n (h + 1) first K' waits'
+  amid-turn {h} {first} {K} s lt fits e woke = record {
+    whole = s.whole;
+    told = s.told;
+    swept = s.swept;
+    sweeping = sweeping-turn p laws first h K _ _ _ s.sweeping lt fits e woke;
+  }
+
+  pub amid-few : {n from : ℕ} {first K : Candidates} {waits : ℕ → Bool} → IsAmid p K0 n from first K waits → p.by_queue ≡ false → n ≤ p.bound
+  amid-few {first} s sweeps = omega (arith, s.told, few_sweeps p laws first sweeps s.swept)
+
+  -- no house waits
+  amid-open : {n from : ℕ} {first K : Candidates} {waits : ℕ → Bool} → IsAmid p K0 n from first K waits → from ≤ p.houses → p.by_queue ≡ false
+      → IsAlive p K → ((h : ℕ) → h < p.houses → waits h ≡ false) → IsClosing p K0 K Open [] n
+  amid-open {first} {K} {waits} s past sweeps alive none =
+      let all = amid-whole s past (λ h le lt. none h lt) in
+      rw s.told (swept-shut p laws s.whole first K sweeps within s.swept all.left alive (closed_from_rested p K waits none all.rested))
+
+  pub underway-next : {turns from h : ℕ} {K : Candidates} {waits : ℕ → Bool} → IsUnderway p K0 turns from K waits
+      → (more : ℕ) → IsAlive p K → IsAround waits p.houses from (Some h) → more ≡ from_bool (p.by_queue || ltb h from)
+      → IsAtHouse p K0 (turns + more) h K waits
+  underway-next {from} {h} {waits} u more alive around counts =
+      let w = around-in waits p.houses from h around in
+      elim u.made [
+        | inl r ↦ (
+            let one : more ≡ 1 = rw r.0 at counts in
+            record {
+              house_in = w.0;
+              few = omega (arith, room r.3 w.0 w.1, r.2, one);
+              made = inl (r.0, r.1, omega (arith, r.2, one), w.1, r.3);
+            })
+        | inr s ↦ elim (amid-next s.2 u.past more (λ lt. alive) around (rw s.0 at counts)) [
+          | inl here ↦ record { house_in = w.0; few = amid-few here.1 s.0; made = inr (s.0, s.1, here.1) }
+          | inr new ↦ record { house_in = w.0; few = amid-few new.1 s.0; made = inr (s.0, _, new.1) }
+        ]
+      ]
+
+  pub underway-turn : {turns h : ℕ} {K : Candidates} {waits : ℕ → Bool} → IsAtHouse p K0 turns h K waits → (K' : Candidates) (waits' : ℕ → Bool)
+      → IsWithin p.cells p.values K → K' ≡ after p h K → IsWoken p h K K' waits waits' → IsAlive p K' → IsUnderway p K0 turns (h + 1) K' waits'
+  underway-turn {h} {K} {waits} v K' waits' fits e woke alive = record {
+    past = omega (arith, v.house_in);
+    made = elim v.made [
+      | inl r ↦ inl (
+        r.0,
+        r.1 ++ h ∷ [],
+        omega (arith, length-append r.1 (h ∷ []), r.2),
+        running-turn p laws K0 r.1 K K' waits waits' h r.4 v.house_in r.3 fits e woke alive,
+      )
+      | inr s ↦ inr (s.0, s.1, amid-turn s.2 v.house_in fits e woke)
+    ];
+  }
+
+  -- a visit that would leave a cell without a value ends the closing, whatever the sweep still visits
+  pub underway-dead : {turns h : ℕ} {K : Candidates} {waits : ℕ → Bool} → IsAtHouse p K0 turns h K waits → (E : Candidates)
+      → IsDead p (after p h K) → IsTaken p K0 E Dead × IsClosedIn p K0 turns
+  underway-dead {h} {K} {waits} v E dead = elim v.made [
+    | inl r ↦ (
+        let c = closing-dead p laws K0 r.1 K _ waits h r.0 within r.4 v.house_in r.3 refl dead in
+        (taken-dead c, closed-in c (λ _. omega (arith, length-append r.1 (h ∷ []), r.2)) (λ e. absurd (true≢false (sym r.0 ∙ e)))))
+    | inr s ↦ (
+        let c = swept-dead p laws K0 s.2.whole s.1 s.0 within s.2.swept (sweeping-dead s.2.sweeping v.house_in dead) in
+        (taken-dead c, closed-in c (λ e. absurd (true≢false (sym e ∙ s.0))) (λ _. sym s.2.told)))
+  ]
+
+  pub underway-open : {turns from : ℕ} {K : Candidates} {waits : ℕ → Bool} → IsUnderway p K0 turns from K waits → IsAlive p K
+      → IsAround waits p.houses from None → IsTaken p K0 K Open × IsClosedIn p K0 turns
+  underway-open {K} {waits} u alive none = elim u.made [
+    | inl r ↦ (
+        let c = closing-open p laws K0 r.1 K waits r.0 within r.3 none in
+        (taken-open c, closed-in c (λ _. r.2) (λ e. absurd (true≢false (sym r.0 ∙ e)))))
+    | inr s ↦ (
+        let c = amid-open s.2 u.past s.0 alive none in
+        (taken-open c, closed-in c (λ e. absurd (true≢false (sym e ∙ s.0))) (λ _. refl)))
+  ]
+
+  pub queued-turn : {t : List ℕ} {K : Candidates} {waits : ℕ → Bool} → IsRunning p K0 t K waits → {h : ℕ} (K' : Candidates) {waits' : ℕ → Bool}
+      (dead : Bool) → p.by_queue ≡ true → IsWithin p.cells p.values K → h < p.houses → waits h ≡ true → K' ≡ after p h K
+      → IsWoken p h K K' waits waits' → is_dead p.cells p.values K' ≡ dead → IsQueued p K0 (t ++ h ∷ []) K' waits' dead
+  queued-turn {t} {K} {waits} r {h} K' {waits'} dead queue fits lt waiting e woke is = record {
+    running = λ off. running-turn p laws K0 t K K' waits waits' h r lt waiting fits e woke (is ∙ off);
+    ended = λ on. closing-dead p laws K0 t K K' waits h queue within r lt waiting e (is ∙ on);
+  }
+
+  pub striking-next : {n from h : ℕ} {K : Candidates} {waits : ℕ → Bool} {struck : Bool} → IsStriking p K0 n from K waits struck → from ≤ p.houses
+      → (more : ℕ) → (h < from → IsAlive p K) → IsAround waits p.houses from (Some h) → more ≡ from_bool (ltb h from)
+      → IsStriking p K0 (n + more) h K waits (struck && not (ltb h from))
+  striking-next {from} {h} {K} {struck} s past more alive around counts = elim (amid-next s.amid past more alive around counts) [
+    | inl here ↦ rw (le-ltb h from here.0, kept-on struck) (record { first = s.first; amid = here.1; lost = s.lost; same = s.same })
+    | inr new ↦ rw (lt-ltb h from new.0, kept-off struck) (record { first = K; amid = new.1; lost = λ e. absurd (true≢false (sym e)); same = λ _. refl })
+  ]
+
+  pub striking-turn : {n h : ℕ} {K K' : Candidates} {waits waits' : ℕ → Bool} {struck now : Bool} → IsStriking p K0 n h K waits struck
+      → h < p.houses → IsWithin p.cells p.values K → K' ≡ after p h K → IsWoken p h K K' waits waits' → (now ≡ false → K' ≡ K)
+      → (now ≡ true → HasStruck K K') → IsStriking p K0 n (h + 1) K' waits' (struck || now)
+  striking-turn {h} s lt fits e woke idle lost = record {
+    first = s.first;
+    amid = amid-turn s.amid lt fits e woke;
+    lost = struck-more p h (sweeping-inside s.amid.sweeping) e s.lost lost;
+    same = struck-none s.same idle;
+  }
+
+  -- the sweep is at its end: where it struck nothing it counts only as the first
+  striking-end : {n from : ℕ} {K : Candidates} {waits : ℕ → Bool} (struck dead : Bool) → IsStriking p K0 n from K waits struck → from ≤ p.houses
+      → p.by_queue ≡ false → is_dead p.cells p.values K ≡ dead → (dead ≡ true → (h : ℕ) → from ≤ h → h < p.houses → waits h ≡ false)
+      → (dead ≡ false → (h : ℕ) → h < p.houses → waits h ≡ false)
+      → IsClosing p K0 K (if dead then Dead else Open) [] (max (n - from_bool (not struck)) 1)
+  striking-end {n} struck true s past sweeps dead rest none = (
+      let all = amid-whole s.amid past (rest refl) in
+      let alive = swept-alive s.amid.swept in
+      let on : struck ≡ true = grind (arith, common_steps, cases_Bool struck, s.same, true≢false) in
+      let e : max (n - from_bool (not struck)) 1 ≡ n = rw (on, s.amid.told) (grind (arith, common_steps)) in
+      rw (e, s.amid.told, all.left) (swept-dead p laws K0 s.amid.whole s.first sweeps within s.amid.swept (rw all.left at dead)))
+  striking-end {n} true false s past sweeps dead rest none =
+      let e : max (n - 0) 1 ≡ n = rw s.amid.told (grind (arith, common_steps)) in
+      rw e (amid-open s.amid past sweeps dead (none refl))
+  striking-end {n} false false s past sweeps dead rest none =
+      let all = amid-whole s.amid past (λ h le lt. none refl h lt) in
+      let e : n - 1 ≡ s.amid.whole = omega (arith, s.amid.told) in
+      rw e (swept-idle laws s.amid.whole sweeps within s.amid.swept all.left (s.same refl) (sweep-idle all (s.same refl)))
+
+  -- the answer of a closing whose turns are visits of a queue, or else sweeps
+  pub exact-end : {turns from : ℕ} {K : Candidates} {waits : ℕ → Bool} (queue struck dead : Bool) (trace : List ℕ) → p.by_queue ≡ queue
+      → (p.by_queue ≡ true → IsQueued p K0 (take turns trace) K waits dead) → (p.by_queue ≡ false → IsStriking p K0 turns from K waits struck)
+      → from ≤ p.houses → is_dead p.cells p.values K ≡ dead
+      → (dead ≡ true → p.by_queue ≡ false → (h : ℕ) → from ≤ h → h < p.houses → waits h ≡ false)
+      → (dead ≡ false → (h : ℕ) → h < p.houses → waits h ≡ false)
+      → IsClosing p K0 K (if dead then Dead else Open) (take (if queue then turns else 0) trace)
+      (if queue then 0 else max (turns - from_bool (not struck)) 1)
+  exact-end true struck true trace e queued striking past is rest none = (queued e).ended refl
+  exact-end {K} {waits} true struck false trace e queued striking past is rest none =
+      closing-open p laws K0 _ K waits e within ((queued e).running refl) (none refl)
+  exact-end false struck dead trace e queued striking past is rest none =
+      striking-end struck dead (striking e) past e is (λ on. rest on e) none

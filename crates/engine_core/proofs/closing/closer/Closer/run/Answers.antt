@@ -71,7 +71,7 @@ here : (g : _) (c : In-Some g) {more : ℕ}
 here g c {more} on counts sweeps =
     let i = c.loop-house.invariant in
     let mode = c.by_queue-by_queue.ensures ∙ sym (g.met.R.Rules.mode_is c.args.rules.now) ∙ sweeps in
-    striking-next (g.met.R.Rules.lawful c.args.rules.now) (i.striking sweeps) more (within_of _ _ c.requires.board_of)
+    striking-next _ (g.met.R.Rules.lawful c.args.rules.now) _ (within_of _ _ c.requires.board_of) (i.striking sweeps) i.past more
     (λ lt. i.dead ∙ still-alive c.loop-house.dead (rw (mode, lt-ltb _ _ lt) at on)) (around g c) (rw mode at counts)
 
 pub note-requires : goal.note-requires
@@ -93,7 +93,7 @@ loop-house-smaller g c =
           let one : c.from-turns-in-Some.result ≡ 1 =
           rw (c.by_queue-by_queue.ensures ∙ sym (g.met.R.Rules.mode_is c.args.rules.now), queue) at counts in
           omega (arith, more g at queue (alive g at on queue), one))
-      | inr sweeps ↦ amid-few (g.met.R.Rules.lawful c.args.rules.now) (here g at on counts sweeps).amid sweeps
+      | inr sweeps ↦ amid-few p (g.met.R.Rules.lawful c.args.rules.now) _ (within_of _ _ c.requires.board_of) (here g at on counts sweeps).amid sweeps
     ] in
     steps-fall _ _ _ _ _ _ _ few c.loop-house.invariant.past (around-in _ _ _ _ (around g at)).0 counts
 
@@ -123,9 +123,9 @@ loop-house-preserved g c =
           let q = i.queued queue in
           rw (one, wrote, pushed c.loop-house.self.trace {n = c.loop-house.turns} c.in-Some.house (omega (arith, lt, long g at queue))) (
             omega (arith, lt, long g at queue, length-set c.loop-house.self.trace c.loop-house.turns c.in-Some.house),
-            queued-turn laws (q.1.running off) _ _ queue (within_of _ _ c.requires.board_of) within w.0 w.1 left woken dead,
+            queued-turn p laws _ (within_of _ _ c.requires.board_of) (q.1.running off) _ _ queue within w.0 w.1 left woken dead,
           ));
-      striking = λ sweeps. rw (mode ∙ sweeps) (striking-turn laws (here g at on c.from-turns-in-Some.ensures sweeps) w.0 within left woken
+      striking = λ sweeps. rw (mode ∙ sweeps) (striking-turn p laws _ (within_of _ _ c.requires.board_of) (here g at on c.from-turns-in-Some.ensures sweeps) w.0 within left woken
           (rw n.board at e.visited.idle) (rw n.board at e.visited.struck));
       room = room-more i.room (room-more n.room e.room);
     }
@@ -138,9 +138,8 @@ returns-then-dead-begins-clause-closing g c =
     let mode = c.by_queue-by_queue.ensures ∙ sym (g.met.R.Rules.mode_is c.args.rules.now) in
     let parts = and_parts _ _ c.if-dead-begins.true in
     rw (r.closing, r.visits, r.sweeps)
-    (exact-end (g.met.R.Rules.lawful c.args.rules.now) _ c.loop-house.struck c.loop-house.dead c.loop-house.self.trace
-    (g.met.R.Rules.mode_is c.args.rules.now) (λ queue. (i.queued queue).1) i.striking
-    (within_of _ _ c.requires.board_of) i.dead
+    (exact-end _ (g.met.R.Rules.lawful c.args.rules.now) _ (within_of _ _ c.requires.board_of) _ c.loop-house.struck c.loop-house.dead c.loop-house.self.trace
+    (g.met.R.Rules.mode_is c.args.rules.now) (λ queue. (i.queued queue).1) i.striking i.past i.dead
     (λ _ sweeps. rest-around (around g at) (rw (mode, sweeps) at parts.1))
     (λ off. absurd (true≢false (sym parts.0 ∙ off))))
 
@@ -150,8 +149,7 @@ returns-clause-closing g c =
     let r = c.report-2.ensures in
     let none = rw (c.in_default.is, c.houses.ensures, c.deref.ensures.value) at c.next_around.ensures in
     rw (r.closing, r.visits, r.sweeps)
-    (exact-end (g.met.R.Rules.lawful c.args.rules.now) _ c.loop-house.struck c.loop-house.dead c.loop-house.self.trace
-    (g.met.R.Rules.mode_is c.args.rules.now) (λ queue. (i.queued queue).1) i.striking
-    (within_of _ _ c.requires.board_of) i.dead
+    (exact-end _ (g.met.R.Rules.lawful c.args.rules.now) _ (within_of _ _ c.requires.board_of) _ c.loop-house.struck c.loop-house.dead c.loop-house.self.trace
+    (g.met.R.Rules.mode_is c.args.rules.now) (λ queue. (i.queued queue).1) i.striking i.past i.dead
     (λ _ _ h _ lt. rw (← c.self.view_is) (none h lt))
     (λ _ h lt. rw (← c.self.view_is) (none h lt)))

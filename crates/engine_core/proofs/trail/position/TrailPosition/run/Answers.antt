@@ -7,17 +7,14 @@ use Rattle.engine_core.proofs.trail.position.TrailPosition.run.Goals as goal
 use Rattle.engine_core.proofs.trail.position.TrailPosition.run.Goals.{In-Some, In_default}
 
 pub loop-house-init : goal.loop-house-init
-loop-house-init g c =
-    let mode = c.by_queue-by_queue.ensures ∙ sym (g.met.R.Rules.mode_is c.args.rules.now) in
-    let turns = rw mode at c.from-turns.ensures in
-    record {
-      underway =
-          underway-first _ (g.met.R.Rules.lawful c.args.rules.now) _ _ _ c.requires.alive c.requires.rested
-          (λ queue. rw queue at turns) (λ sweeps. rw sweeps at turns);
-      alive = c.requires.alive;
-      along = c.requires.along;
-      onward = on-none;
-    }
+loop-house-init g c = record {
+  underway =
+      underway-first _ (g.met.R.Rules.lawful c.args.rules.now) _ _ _ c.requires.alive c.requires.rested
+      (rw (c.by_queue-by_queue.ensures ∙ sym (g.met.R.Rules.mode_is c.args.rules.now)) at c.from-turns.ensures);
+  alive = c.requires.alive;
+  along = c.requires.along;
+  onward = on-none;
+}
 
 -- the house that is visited
 next : (g : _) (c : In-Some g) {more : ℕ}
@@ -27,7 +24,7 @@ next : (g : _) (c : In-Some g) {more : ℕ}
 next g c {more} counts =
     let i = c.loop-house.invariant in
     let mode = c.by_queue-by_queue.ensures ∙ sym (g.met.R.Rules.mode_is c.args.rules.now) in
-    underway-next (g.met.R.Rules.lawful c.args.rules.now) i.underway more (within_of _ _ c.requires.along.board_of) i.alive
+    underway-next _ (g.met.R.Rules.lawful c.args.rules.now) _ (within_of _ _ c.requires.along.board_of) i.underway more i.alive
     (rw (← c.self.view_is, ← c.houses.ensures, ← c.deref.ensures.value) c.in-Some.ensures) (rw mode at counts)
 
 pub overflow_add-turns : goal.overflow_add-turns
@@ -46,7 +43,7 @@ loop-house-preserved g c =
     let s = rw c.if-step.false at e.step in
     let v = next g (goal.at.loop-house-preserved g c).In-Some c.from-turns-in-Some.ensures in
     record {
-      underway = underway-turn (g.met.R.Rules.lawful c.args.rules.now) v _ _ (within_of _ _ i.along.board_of) s.0 s.2 s.1;
+      underway = underway-turn _ (g.met.R.Rules.lawful c.args.rules.now) _ (within_of _ _ c.requires.along.board_of) v _ _ (within_of _ _ i.along.board_of) s.0 s.2 s.1;
       alive = s.1;
       along = e.along;
       onward = on-more i.onward e.onward;
@@ -55,13 +52,13 @@ loop-house-preserved g c =
 -- a visit that would leave a cell without a value ends the closing
 pub returns-then-step-clause-taken : goal.returns-then-step-clause-taken
 returns-then-step-clause-taken g c =
-    (underway-dead (g.met.R.Rules.lawful c.args.rules.now)
-    (next g (goal.at.returns-then-step-clause-taken g c).In-Some c.from-turns-in-Some.ensures) _ (within_of _ _ c.requires.along.board_of) c.if-step.ensures.step).0
+    (underway-dead _ (g.met.R.Rules.lawful c.args.rules.now) _ (within_of _ _ c.requires.along.board_of)
+    (next g (goal.at.returns-then-step-clause-taken g c).In-Some c.from-turns-in-Some.ensures) _ c.if-step.ensures.step).0
 
 pub returns-then-step-clause-turns : goal.returns-then-step-clause-turns
 returns-then-step-clause-turns g c =
-    (underway-dead (g.met.R.Rules.lawful c.args.rules.now)
-    (next g (goal.at.returns-then-step-clause-turns g c).In-Some c.from-turns-in-Some.ensures) (board_in c.step.new.self) (within_of _ _ c.requires.along.board_of) c.if-step.ensures.step).1
+    (underway-dead _ (g.met.R.Rules.lawful c.args.rules.now) _ (within_of _ _ c.requires.along.board_of)
+    (next g (goal.at.returns-then-step-clause-turns g c).In-Some c.from-turns-in-Some.ensures) (board_in c.step.new.self) c.if-step.ensures.step).1
 
 -- and so it ends where no house waits
 shut : (g : _) (c : In_default g)
@@ -69,7 +66,7 @@ shut : (g : _) (c : In_default g)
     × IsClosedIn (g.R.Rules.system c.args.rules.now) (board_in c.args.self.now) c.loop-house.turns
 shut g c =
     let i = c.loop-house.invariant in
-    underway-open (g.met.R.Rules.lawful c.args.rules.now) i.underway (within_of _ _ c.requires.along.board_of) i.alive
+    underway-open _ (g.met.R.Rules.lawful c.args.rules.now) _ (within_of _ _ c.requires.along.board_of) i.underway i.alive
     (λ h lt. rw (← c.self.view_is) ((rw (c.in_default.is, c.houses.ensures, c.deref.ensures.value) at c.next_around.ensures) h lt))
 
 pub returns-clause-taken : goal.returns-clause-taken
