@@ -52,12 +52,9 @@ several_answer first second =
 abbrev pub gave_up_answer : Text → Answer
 gave_up_answer grid = answer_with (codes "gave up\n" ++ grid) (code_of status.GaveUp)
 
--- how a grid of a puzzle is printed, and the answer with two of them
+-- how a grid of a puzzle is printed
 abbrev pub grid_of : {P : Type 0} → printed.Ghosts P → P → List ℕ → Text
 grid_of printing p g = grid_text (printing.cell_text p g) (printing.extent p)
-
-abbrev pub two_grids : {P : Type 0} → printed.Ghosts P → P → List ℕ → List ℕ → Answer
-two_grids printing p g h = several_answer (grid_of printing p g) (grid_of printing p h)
 
 -- the verdict with its grids, printed so
 abbrev pub verdict_answer : (List ℕ → Text) → Outcome → Answer

@@ -7,12 +7,12 @@ ghost use Rattle.commands.specs.Replies.{answer_in, verdict_said};
 
 pub mod solvable;
 
-use crate::answers::reply::{Reply, grid_reply, id_refused, several_reply, words_reply};
+use crate::answers::reply::{Reply, grid_reply, id_refused, words_reply};
 use crate::answers::status::Status;
 use crate::games::{Stores, by_game};
 use crate::solve::solvable::Solvable;
 use engine_core::{Searchable, Store, Verdict};
-use gameid_core::{Game, IdFault, Printed};
+use gameid_core::{Game, IdFault, Printed, push_grid};
 use std::alloc::{AllocError, Global};
 
 /// The memory that is kept, if it is enough for the rules; else new memory is kept in its place.
@@ -57,8 +57,11 @@ fn verdict_reply<P: Printed, R: Searchable>(
             grid_reply(text, "one\n", Status::Fine, puzzle, found)
         }
         Verdict::Several => {
-            let first = store.first().unwrap();
-            several_reply(text, puzzle, first, store.second().unwrap())
+            let found = store.first().unwrap();
+            let mut reply = grid_reply(text, "several\n", Status::Several, puzzle, found)?;
+            reply.text.push_str("\n")?;
+            push_grid(&mut reply.text, puzzle, store.second().unwrap())?;
+            Ok(reply)
         }
         Verdict::GaveUp { found: true } => {
             let found = store.first().unwrap();

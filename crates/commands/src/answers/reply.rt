@@ -1,7 +1,7 @@
 //! A text with the status that goes with it.
 ghost use Rattle.std.specs.Prelude.{◌≡◌, ◌++◌, IfOk, OnOk, string_bytes};
 ghost use Rattle.commands.specs.Answers.{IsGridFor, answer_with, code_of};
-ghost use Rattle.commands.specs.Replies.{answer_in, fault_text, grid_of, refused, two_grids};
+ghost use Rattle.commands.specs.Replies.{answer_in, fault_text, grid_of, refused};
 
 use crate::answers::decimal::push_numbered;
 use crate::answers::status::Status;
@@ -74,23 +74,5 @@ pub fn id_refused(text: String, fault: IdFault) -> Result<Reply, AllocError>
     let mut reply = words_reply(text, "refused: ", Status::Refused)?;
     push_fault(&mut reply.text, fault)?;
     reply.text.push_str("\n")?;
-    Ok(reply)
-}
-
-/// The answer where these two grids are solutions, in the memory of a text.
-pub fn several_reply<P: Printed>(
-    text: String,
-    puzzle: &P,
-    first: &Grid,
-    second: &Grid,
-) -> Result<Reply, AllocError>
-    requires first { IsGridFor (P.extent puzzle.now) (P.value_count puzzle.now) first.now }
-    requires second { IsGridFor (P.extent puzzle.now) (P.value_count puzzle.now) second.now }
-    ensures { IfOk result
-        (λ r. answer_in r ≡ two_grids P.Printed puzzle.now first.now second.now) }
-{
-    let mut reply = grid_reply(text, "several\n", Status::Several, puzzle, first)?;
-    reply.text.push_str("\n")?;
-    push_grid(&mut reply.text, puzzle, second)?;
     Ok(reply)
 }
