@@ -1,5 +1,5 @@
 -- The trees of a row of Tents, and words of the cells beside them.
-use Rattle.std.specs.Prelude.{◌≡◌, ℕ, ◌+◌, ◌-◌, ◌*◌, Bool, not, ◌&&◌, ◌==◌, nat_lt, List}
+use Rattle.std.specs.Prelude.{◌≡◌, ℕ, ◌+◌, ◌-◌, ◌*◌, ◌<◌, ◌≤◌, Bool, not, ◌&&◌, ◌==◌, nat_lt, List, length, slice_index}
 use Rattle.grid_core.specs.Candidates.{Candidates, any_below}
 use Rattle.grid_core.specs.Extent.{Extent}
 use Rattle.grid_core.specs.Regions.{beside}
@@ -17,6 +17,11 @@ trees_of_row p y = houses_below (λ x. tree_house p (y * p.size.w + x)) p.size.w
 -- the word has those cells of the row that pass
 abbrev pub IsRowOf : ℕ → (ℕ → Bool) → ℕ → ℕ → Type 0
 IsRowOf w passes y bits = (x : ℕ) → has_bit bits x ≡ (nat_lt x w && passes (y * w + x))
+
+-- of these words each row has one
+pub record AreRowsOf (size : Extent) (passes : ℕ → Bool) (words : List ℕ) : Type 0 where
+  pub long : size.h ≤ length words
+  pub each : (y : ℕ) → y < size.h → IsRowOf size.w passes y (slice_index words y)
 
 -- the words have the cells that pass of a row, of the row above and of the one below, where there are such rows
 pub record IsNear {W : Type 0} (bits : W → ℕ) (size : Extent) (passes : ℕ → Bool) (y : ℕ)
