@@ -23,7 +23,8 @@ use Rattle.fields_core.specs.AnyPlanes.{AreLongFor}
 use Rattle.fields_core.specs.CountHouse.{CountHouse, exactly, no_count_house, houses_below, start_of}
 use Rattle.fields_core.specs.PlanePosition.{PlacedPlanes, IsUnderWay, standing_by}
 use Rattle.fields_core.specs.TentHouses.{is_barred, tent_rules, tent_houses, column_of_tents, row_of_tents, tree_house, square_house}
-use Rattle.fields_core.specs.Tents.{tent_cells}
+use Rattle.fields_core.specs.Tents.{tent_cells, tree}
+use Rattle.fields_core.specs.Trees.{AreRowsOf}
 
 -- ---- the sides that the memory is for
 abbrev singles : (ℕ → CountHouse) → ℕ → List CountHouse
@@ -96,6 +97,7 @@ pub step-walks : (puzzle : Tents) (s : PlacedPlanes) (p' : Layers) → IsUnderWa
 step-walks puzzle s p' walks further alive = record {
   fits = walks.fits;
   same_size = further.same_size ∙ walks.same_size;
+  trees = walks.trees;
   board = record { alive = alive; within = λ c v on. walks.board.within c v (further.inside c v on) };
   few = walks.few;
   marked = record { within = λ k lt. let le = walks.marked.within k lt in let g = further.grows in omega arith; ascend = walks.marked.ascend };
@@ -114,6 +116,7 @@ pub mark-walks : (puzzle : Tents) (s : PlacedPlanes) (level : ℕ) → IsUnderWa
 mark-walks puzzle s level walks lt outer room = record {
   fits = walks.fits;
   same_size = walks.same_size;
+  trees = walks.trees;
   board = walks.board;
   few = omega arith;
   marked = record { within = within; ascend = ascend };
@@ -150,6 +153,7 @@ pub undo-walks : (puzzle : Tents) (s : PlacedPlanes) (p' : Layers) (level m : �
 undo-walks puzzle s p' level m walks lt e back = record {
   fits = walks.fits;
   same_size = back.same_size ∙ walks.same_size;
+  trees = walks.trees;
   board = rw (back.here, e) (walks.backs level lt);
   few = omega (arith, walks.few);
   marked = rw back.len (marks-returned walks.marked lt e);
@@ -157,12 +161,13 @@ undo-walks puzzle s p' level m walks lt e back = record {
 }
 
 -- ---- a board to begin with
-pub start-walks : (puzzle : Tents) (s : PlacedPlanes) → IsLawful (tent_rules puzzle) → FitsIn (needs_of (tent_rules puzzle)) s.made → s.planes.size ≡ puzzle.size
+pub start-walks : (puzzle : Tents) (s : PlacedPlanes) → IsLawful (tent_rules puzzle) → FitsIn (needs_of (tent_rules puzzle)) s.made → s.planes.size ≡ puzzle.size → AreRowsOf puzzle.size (tree puzzle) s.trees
     → has s.planes ≡ (tent_rules puzzle).start → s.marked ≡ 0 → IsUnderWay puzzle s
 unfolding start_of all_of
-start-walks puzzle s laws fits size start none = record {
+start-walks puzzle s laws fits size trees start none = record {
   fits = fits;
   same_size = size;
+  trees = trees;
   board = rw start (record { alive = is_dead-each (tent_cells puzzle) 2 _ (λ c lt. count_below-pos _ 2 0 (omega arith) (free c lt)); within = laws.start_within });
   few = omega arith;
   marked = record { within = λ k lt. absurd (omega arith); ascend = λ j k le lt. absurd (omega arith) };

@@ -1,11 +1,12 @@
 -- Words of the cells of a row and of those beside them.
-use Rattle.fields_core.proofs.Common.{Bool, Candidates, Extent, Layers, None, Some, and_from, and_parts, any_below-here, any_below-some, ap, arith, cases_Bool, cases_lt, common_steps, cond, count_by, covers, crosses, div-add-mod', div-mul-add, eq-eqb, eqb, eqb-true, false, fun_ext, has_bit, has_place, if_there, List, inl, inr, le-ltb, lt-ltb, ltb, ltb-true, mod-lt, not, or_cases, or_left, or_right, place-column, refl, step, steps, suc, sym, true, without_taking, zero, ℕ, ◌%◌, ◌&&◌, ◌*◌, ◌++◌, ◌+◌, ◌-◌, ◌/◌, ◌<◌, ◌||◌, ◌∙◌, ◌≡◌, ◌≤◌}
+use Rattle.fields_core.proofs.Common.{Bool, Candidates, Extent, Layers, List, None, Some, and_from, and_parts, any_below-here, any_below-some, ap, arith, cases_Bool, cases_eq, cases_lt, common_steps, cond, count_by, covers, crosses, div-add-mod', div-mul-add, eq-eqb, eqb, eqb-true, false, fun_ext, get_or, get_or-map, get_or-set_other, get_or-set_same, has_bit, has_place, if_there, inl, inr, le-ltb, length, length-map, lt-ltb, ltb, ltb-true, map, mod-lt, not, or_cases, or_left, or_right, place-column, refl, set, slice_index, step, steps, suc, sym, true, without_taking, zero, ℕ, ◌%◌, ◌&&◌, ◌*◌, ◌++◌, ◌+◌, ◌-◌, ◌/◌, ◌<◌, ◌||◌, ◌∙◌, ◌≡◌, ◌≤◌}
 use Rattle.std.proofs.lemmas.List.Sums.{sum_by-append}
 use Rattle.grid_core.specs.Planes.{bit_of, has}
 use Rattle.grid_core.specs.Regions.{beside}
 use Rattle.grid_core.specs.Words.{differ}
 use Rattle.grid_core.specs.declared.planes.line.Line.TheVariants.{Row}
-use Rattle.fields_core.specs.Trees.{IsNear, is_beside, without_zeros}
+use Rattle.std.proofs.lemmas.List.{map-set}
+use Rattle.fields_core.specs.Trees.{IsNear, IsRowOf, is_beside, without_zeros}
 use Rattle.fields_core.specs.declared.planes.near.Near.{Near}
 use Rattle.fields_core.proofs.CellLemmas.{has-append, same-truth}
 use Rattle.fields_core.proofs.PlaceLists.{num}
@@ -285,3 +286,17 @@ zeros-taken w w₂ w₃ above y below over own under passes K K₁ K₂ K₃ fir
   where
     by : (k z a b d : Bool) → (((k && not (z && a)) && not (z && b)) && not (z && d)) ≡ (k && not (z && ((a || b) || d)))
     by k z a b d = grind (arith, common_steps, cases_Bool k, cases_Bool z, cases_Bool a, cases_Bool b, cases_Bool d)
+
+-- ---- a word for each row
+-- one more is written
+pub rows-more : {W : Type 0} (bits : W → ℕ) (words : List W) (n w : ℕ) (passes : ℕ → Bool) (word : W) → n < length words
+    → ((y : ℕ) → y < n → IsRowOf w passes y (slice_index (map bits words) y)) → IsRowOf w passes n (bits word)
+    → (y : ℕ) → y < n + 1 → IsRowOf w passes y (slice_index (map bits (set words n word)) y)
+rows-more bits words n w passes word lt written is y less x = rw (map-set bits words n word) (elim (cases_eq y n) [
+  | inl e ↦ rw (e, get_or-set_same (map bits words) n (bits word) 0 (omega (arith, lt, length-map words bits))) (is x)
+  | inr ne ↦ rw (get_or-set_other (map bits words) n y (bits word) 0 ne) (written y (omega arith) x)
+])
+
+-- the word that was read
+pub row-read : {W : Type 0} (bits : W → ℕ) (words : List W) (y : ℕ) (word : W) → y < length words → word ≡ get_or words y word → slice_index (map bits words) y ≡ bits word
+row-read bits words y word lt read = get_or-map bits words y word 0 lt ∙ ap bits (sym read)

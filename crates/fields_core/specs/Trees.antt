@@ -8,7 +8,6 @@ use Rattle.engine_core.specs.RuleSystem.{has_place}
 use Rattle.gameid_core.specs.Puzzles.{Tents}
 use Rattle.fields_core.specs.CountHouse.{CountHouse, houses_below}
 use Rattle.fields_core.specs.TentHouses.{tree_house}
-use Rattle.fields_core.specs.Tents.{tree}
 use Rattle.fields_core.specs.declared.planes.near.Near.{Near}
 
 -- the houses of the trees of a row
@@ -19,10 +18,10 @@ trees_of_row p y = houses_below (λ x. tree_house p (y * p.size.w + x)) p.size.w
 abbrev pub IsRowOf : ℕ → (ℕ → Bool) → ℕ → ℕ → Type 0
 IsRowOf w passes y bits = (x : ℕ) → has_bit bits x ≡ (nat_lt x w && passes (y * w + x))
 
--- the words have the trees of each row
-pub record AreTreeRows (p : Tents) (rows : List ℕ) : Type 0 where
-  pub long : p.size.h ≤ length rows
-  pub each : (y : ℕ) → y < p.size.h → IsRowOf p.size.w (tree p) y (slice_index rows y)
+-- of these words each row has one
+pub record AreRowsOf (size : Extent) (passes : ℕ → Bool) (words : List ℕ) : Type 0 where
+  pub long : size.h ≤ length words
+  pub each : (y : ℕ) → y < size.h → IsRowOf size.w passes y (slice_index words y)
 
 -- the words have the cells that pass of a row, of the row above and of the one below, where there are such rows
 pub record IsNear {W : Type 0} (bits : W → ℕ) (size : Extent) (passes : ℕ → Bool) (y : ℕ)

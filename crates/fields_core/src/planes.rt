@@ -2,9 +2,11 @@
 
 pub(crate) mod any;
 pub(crate) mod close;
+pub(crate) mod field;
 pub(crate) mod near;
 pub(crate) mod part;
 pub(crate) mod position;
+pub(crate) mod rows;
 pub(crate) mod squares;
 pub(crate) mod start;
 pub(crate) mod sweep;

@@ -9,54 +9,24 @@ ghost use Rattle.engine_core.specs.RuleSystem.{needs_of};
 ghost use Rattle.engine_core.specs.ClosingList.{IsAlive};
 ghost use Rattle.engine_core.specs.Counts.{IsClosedIn};
 ghost use Rattle.engine_core.specs.Position.{IsTaken};
-ghost use Rattle.fields_core.specs.AnyPlanes.{layers_in, places_of, AreLongFor};
+ghost use Rattle.fields_core.specs.AnyPlanes.{layers_in, places_of, trees_in, AreLongFor};
 ghost use Rattle.fields_core.specs.TentHouses.{tent_rules};
+ghost use Rattle.fields_core.specs.Tents.{tree};
+ghost use Rattle.fields_core.specs.Trees.{AreRowsOf};
 
 use crate::planes::close::close_tents;
-use crate::planes::start::start_tents;
-use crate::planes::trees::write_trees;
+use crate::planes::field::Field;
+use crate::planes::start::start_field;
 use engine_core::Taken;
 use gameid_core::TentsPuzzle;
-use grid_core::{Grid, Planes, Size};
+use grid_core::{Grid, Size};
 use std::alloc::{AllocError, Global};
 
-/// Planes of words of 64 places, and of 128 where a side may be longer.
+/// Planes of words of 64 places, and of 128 where a side may be longer, with the trees of each row.
 #[derive(Drop)]
 pub(crate) enum AnyPlanes {
-    Short(Planes<u64>),
-    Long(Planes<u128>),
-}
-
-/// Closes the board by the puzzle's houses, or finds that its closure is dead.
-fn close_short(planes: &mut Planes<u64>, puzzle: &TentsPuzzle) -> Taken
-    requires size { planes.old.size ≡ puzzle.now.size }
-    requires alive { IsAlive (tent_rules puzzle.now) (has planes.old) }
-    ensures taken { IsTaken (tent_rules puzzle.now) (has planes.old) (has planes.new)
-        result.closing }
-    ensures turns { IsClosedIn (tent_rules puzzle.now) (has planes.old) result.turns }
-    ensures alive { IsAlive (tent_rules puzzle.now) (has planes.new) }
-    ensures further { IsFurther planes.old planes.new }
-{
-    let _size = planes.size();
-    let mut trees = [0u64; 64];
-    write_trees(puzzle, &mut trees);
-    close_tents(planes, puzzle, &trees)
-}
-
-/// Closes the board by the puzzle's houses, or finds that its closure is dead.
-fn close_long(planes: &mut Planes<u128>, puzzle: &TentsPuzzle) -> Taken
-    requires size { planes.old.size ≡ puzzle.now.size }
-    requires alive { IsAlive (tent_rules puzzle.now) (has planes.old) }
-    ensures taken { IsTaken (tent_rules puzzle.now) (has planes.old) (has planes.new)
-        result.closing }
-    ensures turns { IsClosedIn (tent_rules puzzle.now) (has planes.old) result.turns }
-    ensures alive { IsAlive (tent_rules puzzle.now) (has planes.new) }
-    ensures further { IsFurther planes.old planes.new }
-{
-    let _size = planes.size();
-    let mut trees = [0u128; 128];
-    write_trees(puzzle, &mut trees);
-    close_tents(planes, puzzle, &trees)
+    Short(Field<u64>),
+    Long(Field<u128>),
 }
 
 impl AnyPlanes {
@@ -72,11 +42,12 @@ impl AnyPlanes {
         ensures room { IfOk result (λ planes.
             length (layers_in planes).takings ≡ size.w * size.h * 2) }
         ensures long { IfOk result (λ planes. AreLongFor side (places_of planes)) }
+        ensures rows { IfOk result (λ planes. places_of planes ≤ length (trees_in planes)) }
     {
         if side > 64 {
-            return Ok(AnyPlanes::Long(Planes::new(alloc, size)?));
+            return Ok(AnyPlanes::Long(Field::new(alloc, size)?));
         }
-        Ok(AnyPlanes::Short(Planes::new(alloc, size)?))
+        Ok(AnyPlanes::Short(Field::new(alloc, size)?))
     }
 
     /// How many steps can be taken back.
@@ -84,8 +55,8 @@ impl AnyPlanes {
         ensures { result ≡ length (layers_in self.now).takings }
     {
         match self {
-            AnyPlanes::Short(planes) => planes.room(),
-            AnyPlanes::Long(planes) => planes.room(),
+            AnyPlanes::Short(field) => field.planes.room(),
+            AnyPlanes::Long(field) => field.planes.room(),
         }
     }
 
@@ -94,21 +65,25 @@ impl AnyPlanes {
         requires long { AreLongFor (needs_of (tent_rules puzzle.now)).scope (places_of self.old) }
         requires few { puzzle.now.size.w * puzzle.now.size.h * 2
             ≤ length (layers_in self.old).takings }
+        requires rows { places_of self.old ≤ length (trees_in self.old) }
         ensures start { has (layers_in self.new) ≡ (tent_rules puzzle.now).start }
         ensures size { (layers_in self.new).size ≡ puzzle.now.size }
         ensures room { length (layers_in self.new).takings
             ≡ length (layers_in self.old).takings }
         ensures places { places_of self.new ≡ places_of self.old }
+        ensures trees { AreRowsOf puzzle.now.size (tree puzzle.now) (trees_in self.new) }
+        ensures rows { length (trees_in self.new) ≡ length (trees_in self.old) }
     {
         match self {
-            AnyPlanes::Short(planes) => start_tents(planes, puzzle),
-            AnyPlanes::Long(planes) => start_tents(planes, puzzle),
+            AnyPlanes::Short(field) => start_field(field, puzzle),
+            AnyPlanes::Long(field) => start_field(field, puzzle),
         }
     }
 
     /// Closes the board by the puzzle's houses, or finds that its closure is dead.
     pub(crate) fn close(&mut self, puzzle: &TentsPuzzle) -> Taken
         requires size { (layers_in self.old).size ≡ puzzle.now.size }
+        requires trees { AreRowsOf puzzle.now.size (tree puzzle.now) (trees_in self.old) }
         requires alive { IsAlive (tent_rules puzzle.now) (has (layers_in self.old)) }
         ensures taken { IsTaken (tent_rules puzzle.now) (has (layers_in self.old))
             (has (layers_in self.new)) result.closing }
@@ -116,10 +91,11 @@ impl AnyPlanes {
         ensures alive { IsAlive (tent_rules puzzle.now) (has (layers_in self.new)) }
         ensures further { IsFurther (layers_in self.old) (layers_in self.new) }
         ensures places { places_of self.new ≡ places_of self.old }
+        ensures trees { trees_in self.new ≡ trees_in self.old }
     {
         match self {
-            AnyPlanes::Short(planes) => close_short(planes, puzzle),
-            AnyPlanes::Long(planes) => close_long(planes, puzzle),
+            AnyPlanes::Short(field) => close_tents(&mut field.planes, puzzle, &field.trees),
+            AnyPlanes::Long(field) => close_tents(&mut field.planes, puzzle, &field.trees),
         }
     }
 
@@ -130,8 +106,8 @@ impl AnyPlanes {
         ensures { result ≡ has (layers_in self.now) place value }
     {
         match self {
-            AnyPlanes::Short(planes) => planes.has(place, value),
-            AnyPlanes::Long(planes) => planes.has(place, value),
+            AnyPlanes::Short(field) => field.planes.has(place, value),
+            AnyPlanes::Long(field) => field.planes.has(place, value),
         }
     }
 
@@ -143,8 +119,8 @@ impl AnyPlanes {
         ensures { result ≡ pick (cells_of (layers_in self.now)) 2 (has (layers_in self.now)) }
     {
         match self {
-            AnyPlanes::Short(planes) => planes.pick(from),
-            AnyPlanes::Long(planes) => planes.pick(from),
+            AnyPlanes::Short(field) => field.planes.pick(from),
+            AnyPlanes::Long(field) => field.planes.pick(from),
         }
     }
 
@@ -156,10 +132,11 @@ impl AnyPlanes {
         ensures left { has (layers_in self.new) ≡ only (has (layers_in self.old)) place value }
         ensures further { IsFurther (layers_in self.old) (layers_in self.new) }
         ensures places { places_of self.new ≡ places_of self.old }
+        ensures trees { trees_in self.new ≡ trees_in self.old }
     {
         match self {
-            AnyPlanes::Short(planes) => planes.assign(place, value),
-            AnyPlanes::Long(planes) => planes.assign(place, value),
+            AnyPlanes::Short(field) => field.planes.assign(place, value),
+            AnyPlanes::Long(field) => field.planes.assign(place, value),
         }
     }
 
@@ -169,8 +146,8 @@ impl AnyPlanes {
         ensures here { back_at (layers_in self.now) result ≡ has (layers_in self.now) }
     {
         match self {
-            AnyPlanes::Short(planes) => planes.len(),
-            AnyPlanes::Long(planes) => planes.len(),
+            AnyPlanes::Short(field) => field.planes.len(),
+            AnyPlanes::Long(field) => field.planes.len(),
         }
     }
 
@@ -179,10 +156,11 @@ impl AnyPlanes {
         requires { len ≤ (layers_in self.old).len }
         ensures back { IsBack (layers_in self.old) (layers_in self.new) len }
         ensures places { places_of self.new ≡ places_of self.old }
+        ensures trees { trees_in self.new ≡ trees_in self.old }
     {
         match self {
-            AnyPlanes::Short(planes) => planes.undo(len),
-            AnyPlanes::Long(planes) => planes.undo(len),
+            AnyPlanes::Short(field) => field.planes.undo(len),
+            AnyPlanes::Long(field) => field.planes.undo(len),
         }
     }
 
@@ -193,8 +171,8 @@ impl AnyPlanes {
         ensures { grid.new ≡ grid_of (cells_of (layers_in self.now)) 2 (has (layers_in self.now)) }
     {
         match self {
-            AnyPlanes::Short(planes) => planes.write_grid(grid),
-            AnyPlanes::Long(planes) => planes.write_grid(grid),
+            AnyPlanes::Short(field) => field.planes.write_grid(grid),
+            AnyPlanes::Long(field) => field.planes.write_grid(grid),
         }
     }
 }

@@ -7,7 +7,8 @@ ghost use Rattle.engine_core.specs.ClosingList.{IsAlive};
 ghost use Rattle.engine_core.specs.Counts.{IsClosedIn};
 ghost use Rattle.engine_core.specs.Position.{IsTaken};
 ghost use Rattle.fields_core.specs.TentHouses.{tent_rules};
-ghost use Rattle.fields_core.specs.Trees.{AreTreeRows};
+ghost use Rattle.fields_core.specs.Tents.{tree};
+ghost use Rattle.fields_core.specs.Trees.{AreRowsOf};
 
 use crate::planes::sweep::sweep_tents;
 use crate::tents::cells::cells;
@@ -23,7 +24,7 @@ pub(crate) fn close_tents<W: Word>(
     trees: &[W],
 ) -> Taken
     requires size { planes.old.size ≡ puzzle.now.size }
-    requires rows { AreTreeRows puzzle.now (map W.bits trees.now) }
+    requires trees { AreRowsOf puzzle.now.size (tree puzzle.now) (map W.bits trees.now) }
     requires alive { IsAlive (tent_rules puzzle.now) (has planes.old) }
     ensures taken { IsTaken (tent_rules puzzle.now) (has planes.old) (has planes.new)
         result.closing }

@@ -13,8 +13,8 @@ use grid_core::Grid;
 use std::alloc::{AllocError, Global};
 use std::marker::Model;
 
-/// Planes with their trail, and the length of the trail at the mark of each level: so many levels have one. With it goes
-/// what the test of a grid works in.
+/// Planes with their trail, and the length of the trail at the mark of each level: so many levels have one. With it go the
+/// trees of each row, and what the test of a grid works in.
 #[derive(Drop)]
 pub struct PlanePosition {
     made: Needs,
@@ -26,7 +26,7 @@ pub struct PlanePosition {
 
 impl Model for PlanePosition {
     ghost use Rattle.engine_core.specs.Needs.{needs_in};
-    ghost use Rattle.fields_core.specs.AnyPlanes.{layers_in};
+    ghost use Rattle.fields_core.specs.AnyPlanes.{layers_in, trees_in};
     ghost use Rattle.fields_core.specs.PlanePosition.{PlacedPlanes, ArePlaced};
 
     ghost Value = { PlacedPlanes };
@@ -34,6 +34,7 @@ impl Model for PlanePosition {
     ghost view = { λ s. record {
       made = needs_in s.made;
       planes = layers_in s.planes;
+      trees = trees_in s.planes;
       marks = s.marks.items;
       marked = s.marked;
     } };

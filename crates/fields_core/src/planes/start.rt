@@ -1,14 +1,19 @@
 //! The board that a search of Tents starts from, on planes.
 #![tactic(auto, using(crate::proofs::LawSets::plane_position_laws))]
 
-ghost use Rattle.std.specs.Prelude.{◌≡◌, ℕ, ◌+◌, ◌*◌, ◌<◌, ◌≤◌, ◌&&◌, nat_lt, length};
+ghost use Rattle.std.specs.Prelude.{◌≡◌, ℕ, ◌+◌, ◌*◌, ◌<◌, ◌≤◌, ◌&&◌, nat_lt, length, map};
 ghost use Rattle.grid_core.specs.Planes.{has};
 ghost use Rattle.grid_core.specs.Words.{has_bit};
+ghost use Rattle.gameid_core.specs.Puzzles.{IsTents};
 ghost use Rattle.engine_core.specs.RuleSystem.{needs_of};
 ghost use Rattle.fields_core.specs.AnyPlanes.{AreLongFor};
 ghost use Rattle.fields_core.specs.TentHouses.{is_barred, tent_rules};
+ghost use Rattle.fields_core.specs.Tents.{tree};
+ghost use Rattle.fields_core.specs.Trees.{AreRowsOf};
 
 use crate::count::game::CountGame;
+use crate::planes::field::Field;
+use crate::planes::rows::write_trees;
 use gameid_core::TentsPuzzle;
 use grid_core::{Line, Planes, Word};
 
@@ -30,9 +35,10 @@ fn barred_in<W: Word>(puzzle: &TentsPuzzle, y: usize) -> W
 }
 
 /// Begins with the board that a search of the puzzle starts from. It takes no memory.
-pub(crate) fn start_tents<W: Word>(planes: &mut Planes<W>, puzzle: &TentsPuzzle)
+fn start_tents<W: Word>(planes: &mut Planes<W>, puzzle: &TentsPuzzle)
     requires long { AreLongFor (needs_of (tent_rules puzzle.now)).scope W.room }
     requires few { puzzle.now.size.w * puzzle.now.size.h * 2 ≤ length planes.old.takings }
+    ensures lawful { IsTents puzzle.now }
     ensures start { has planes.new ≡ (tent_rules puzzle.now).start }
     ensures size { planes.new.size ≡ puzzle.now.size }
     ensures room { length planes.new.takings ≡ length planes.old.takings }
@@ -43,4 +49,19 @@ pub(crate) fn start_tents<W: Word>(planes: &mut Planes<W>, puzzle: &TentsPuzzle)
         let barred = barred_in(puzzle, usize::from(y));
         planes.take(Line::Row(y), 1, barred);
     }
+}
+
+/// Begins with that board, and writes the trees of each row. It takes no memory.
+pub(crate) fn start_field<W: Word>(field: &mut Field<W>, puzzle: &TentsPuzzle)
+    requires long { AreLongFor (needs_of (tent_rules puzzle.now)).scope W.room }
+    requires few { puzzle.now.size.w * puzzle.now.size.h * 2 ≤ length field.old.planes.takings }
+    requires rows { W.room ≤ length field.old.trees.items }
+    ensures start { has field.new.planes ≡ (tent_rules puzzle.now).start }
+    ensures size { field.new.planes.size ≡ puzzle.now.size }
+    ensures room { length field.new.planes.takings ≡ length field.old.planes.takings }
+    ensures trees { AreRowsOf puzzle.now.size (tree puzzle.now) (map W.bits field.new.trees.items) }
+    ensures rows { length field.new.trees.items ≡ length field.old.trees.items }
+{
+    start_tents(&mut field.planes, puzzle);
+    write_trees(&mut field.trees, puzzle);
 }

@@ -5,8 +5,8 @@ ghost use Rattle.std.specs.Prelude.{◌≡◌, map};
 ghost use Rattle.fields_core.specs.CountHouse.{houses_below};
 ghost use Rattle.fields_core.specs.Parts.{IsAlive};
 ghost use Rattle.fields_core.specs.TentHouses.{column_of_tents, row_of_tents, tree_house, square_house};
-ghost use Rattle.fields_core.specs.Tents.{tent_cells};
-ghost use Rattle.fields_core.specs.Trees.{AreTreeRows};
+ghost use Rattle.fields_core.specs.Tents.{tent_cells, tree};
+ghost use Rattle.fields_core.specs.Trees.{AreRowsOf};
 ghost use Rattle.fields_core.specs.Visits.{AreVisited, IsTentSweep, line_houses, cell_houses};
 
 use crate::planes::squares::visit_squares;
@@ -46,12 +46,12 @@ fn sweep_rows<W: Word>(planes: &mut Planes<W>, puzzle: &TentsPuzzle) -> bool
 /// Visits the houses of the trees, up to one that has no filling.
 fn sweep_trees<W: Word>(planes: &mut Planes<W>, puzzle: &TentsPuzzle, trees: &[W]) -> bool
     requires size { planes.old.size ≡ puzzle.now.size }
-    requires rows { AreTreeRows puzzle.now (map W.bits trees.now) }
+    requires trees { AreRowsOf puzzle.now.size (tree puzzle.now) (map W.bits trees.now) }
     requires alive { IsAlive planes.old }
     ensures { AreVisited (houses_below (tree_house puzzle.now) (tent_cells puzzle.now)) planes.old planes.new result }
 {
     for y in 0..puzzle.size().h() {
-        if !visit_trees(planes, puzzle, trees, y) {
+        if !visit_trees(planes, trees, y) {
             return false;
         }
     }
@@ -84,7 +84,7 @@ fn sweep_lines<W: Word>(planes: &mut Planes<W>, puzzle: &TentsPuzzle) -> bool
 /// Visits the houses of the cells, up to one that has no filling.
 fn sweep_cells<W: Word>(planes: &mut Planes<W>, puzzle: &TentsPuzzle, trees: &[W]) -> bool
     requires size { planes.old.size ≡ puzzle.now.size }
-    requires rows { AreTreeRows puzzle.now (map W.bits trees.now) }
+    requires trees { AreRowsOf puzzle.now.size (tree puzzle.now) (map W.bits trees.now) }
     requires alive { IsAlive planes.old }
     ensures { AreVisited (cell_houses puzzle.now) planes.old planes.new result }
 {
@@ -94,7 +94,7 @@ fn sweep_cells<W: Word>(planes: &mut Planes<W>, puzzle: &TentsPuzzle, trees: &[W
 /// Visits each house once, in ascending order, up to one that has no filling. Says whether there is none such.
 pub(crate) fn sweep_tents<W: Word>(planes: &mut Planes<W>, puzzle: &TentsPuzzle, trees: &[W]) -> bool
     requires size { planes.old.size ≡ puzzle.now.size }
-    requires rows { AreTreeRows puzzle.now (map W.bits trees.now) }
+    requires trees { AreRowsOf puzzle.now.size (tree puzzle.now) (map W.bits trees.now) }
     requires alive { IsAlive planes.old }
     ensures { IsTentSweep puzzle.now planes.old planes.new result }
 {

@@ -1,82 +1,42 @@
 //! Visits of the trees of a row of Tents, all at once.
 #![tactic(auto)]
 
-ghost use Rattle.std.specs.Prelude.{◌≡◌, ℕ, ◌<◌, ◌≤◌, ◌&&◌, not, Bool, true, length, map};
+ghost use Rattle.std.specs.Prelude.{◌≡◌, ℕ, ◌<◌, ◌≤◌, ◌&&◌, not, Bool, true, length, map, slice_index};
 ghost use Rattle.grid_core.specs.Planes.{has, IsFurther};
 ghost use Rattle.grid_core.specs.Words.{has_bit};
-ghost use Rattle.gameid_core.specs.Puzzles.{IsTents};
+ghost use Rattle.gameid_core.specs.Puzzles.{IsTents, Tents};
 ghost use Rattle.fields_core.specs.Parts.{IsAlive};
 ghost use Rattle.fields_core.specs.Tents.{tree};
-ghost use Rattle.fields_core.specs.Trees.{trees_of_row, AreTreeRows, IsRowOf, IsNear, is_beside, without_zeros};
+ghost use Rattle.fields_core.specs.Trees.{trees_of_row, AreRowsOf, IsRowOf, IsNear, is_beside, without_zeros};
 ghost use Rattle.fields_core.specs.Visits.{AreVisited};
 
 use crate::planes::near::Near;
-use crate::tents::cells::{columns, is_tree, rows};
-use gameid_core::TentsPuzzle;
-use grid_core::{Line, Planes, Word};
+use grid_core::{Line, Planes, Size, Word};
 
-/// The trees of a row.
-fn trees_in<W: Word>(puzzle: &TentsPuzzle, y: usize) -> W
-    requires y_in { y < puzzle.now.size.h }
-    requires narrow { puzzle.now.size.w ≤ W.room }
-    ensures cells { IsRowOf puzzle.now.size.w (tree puzzle.now) y (W.bits result) }
-    ensures lawful { IsTents puzzle.now }
+/// The cells of a row that are none of these.
+fn others_in<W: Word>(rows: &[W], size: Size, y: usize) -> W
+    requires y_in { y < length rows.now }
+    requires narrow { size.w ≤ W.room }
+    ensures { (passes : ℕ → Bool) → IsRowOf size.w passes y (slice_index (map W.bits rows.now) y)
+        → IsRowOf size.w (λ c. not (passes c)) y (W.bits result) }
 {
-    let w = usize::from(puzzle.size().w());
-    let mut trees = W::none();
-    for x in 0..w {
-        if is_tree(puzzle, y * w + x) {
-            trees = trees.either(W::one(x));
-        }
-    }
-    trees
+    W::all(usize::from(size.w())).but(rows[y])
 }
 
-/// Writes the trees of each row.
-pub(crate) fn write_trees<W: Word>(puzzle: &TentsPuzzle, trees: &mut [W])
-    requires narrow { puzzle.now.size.w ≤ W.room }
-    requires long { puzzle.now.size.h ≤ length trees.old }
-    ensures { AreTreeRows puzzle.now (map W.bits trees.new) }
+/// The cells of a row, and of the rows above and below it, that are none of these.
+fn others_near<W: Word>(rows: &[W], size: Size, y: usize) -> Near<W>
+    requires y_in { y < size.h }
+    requires long { size.h ≤ length rows.now }
+    requires narrow { size.w ≤ W.room }
+    ensures { (passes : ℕ → Bool) → AreRowsOf size passes (map W.bits rows.now)
+        → IsNear W.bits size (λ c. not (passes c)) y result }
 {
-    for y in 0..rows(puzzle) {
-        trees[y] = trees_in(puzzle, y);
-    }
-}
-
-/// The trees of a row, as they are written.
-fn row_trees<W: Word>(puzzle: &TentsPuzzle, trees: &[W], y: usize) -> W
-    requires y_in { y < puzzle.now.size.h }
-    requires rows { AreTreeRows puzzle.now (map W.bits trees.now) }
-    ensures cells { IsRowOf puzzle.now.size.w (tree puzzle.now) y (W.bits result) }
-    ensures lawful { IsTents puzzle.now }
-{
-    let _size = puzzle.size();
-    trees[y]
-}
-
-/// The cells of a row that have no tree.
-fn free_in<W: Word>(puzzle: &TentsPuzzle, trees: &[W], y: usize) -> W
-    requires y_in { y < puzzle.now.size.h }
-    requires narrow { puzzle.now.size.w ≤ W.room }
-    requires rows { AreTreeRows puzzle.now (map W.bits trees.now) }
-    ensures { IsRowOf puzzle.now.size.w (λ c. not (tree puzzle.now c)) y (W.bits result) }
-{
-    W::all(columns(puzzle)).but(row_trees(puzzle, trees, y))
-}
-
-/// The cells that have no tree.
-fn free_near<W: Word>(puzzle: &TentsPuzzle, trees: &[W], y: usize) -> Near<W>
-    requires y_in { y < puzzle.now.size.h }
-    requires narrow { puzzle.now.size.w ≤ W.room }
-    requires rows { AreTreeRows puzzle.now (map W.bits trees.now) }
-    ensures { IsNear W.bits puzzle.now.size (λ c. not (tree puzzle.now c)) y result }
-{
-    let h = rows(puzzle);
-    let above = if y > 0 { free_in(puzzle, trees, y - 1) } else { W::none() };
-    let below = if y + 1 < h { free_in(puzzle, trees, y + 1) } else { W::none() };
+    let h = usize::from(size.h());
+    let above = if y > 0 { others_in(rows, size, y - 1) } else { W::none() };
+    let below = if y + 1 < h { others_in(rows, size, y + 1) } else { W::none() };
     Near {
         above,
-        own: free_in(puzzle, trees, y),
+        own: others_in(rows, size, y),
         below,
     }
 }
@@ -98,8 +58,8 @@ fn ones_near<W: Word>(planes: &Planes<W>, near: Near<W>, y: u8) -> Near<W>
 /// Takes 0 from those of the cells that are beside one of these places of the row.
 fn take_beside<W: Word>(planes: &mut Planes<W>, near: Near<W>, places: W, y: u8)
     requires y_in { y < planes.old.size.h }
-    requires places_in { (x : ℕ) → has_bit (W.bits places) x ≡ true → x < planes.old.size.w }
     ensures left { (passes : ℕ → Bool) → IsNear W.bits planes.old.size passes y near
+        → ((x : ℕ) → has_bit (W.bits places) x ≡ true → x < planes.old.size.w)
         → has planes.new ≡ without_zeros (λ c. passes c
         && is_beside planes.old.size y (has_bit (W.bits places)) planes.old.size.w c) (has planes.old) }
     ensures further { IsFurther planes.old planes.new }
@@ -114,22 +74,17 @@ fn take_beside<W: Word>(planes: &mut Planes<W>, near: Near<W>, places: W, y: u8)
 /// Visits the houses of the trees of a row. A tree with one cell beside it that can have a tent takes 0 from it: there is
 /// no other for its tent. Says whether no tree with a free cell beside it is left without one that can have a tent: if
 /// there is one, nothing is taken.
-pub(crate) fn visit_trees<W: Word>(
-    planes: &mut Planes<W>,
-    puzzle: &TentsPuzzle,
-    trees: &[W],
-    y: u8,
-) -> bool
-    requires size { planes.old.size ≡ puzzle.now.size }
-    requires rows { AreTreeRows puzzle.now (map W.bits trees.now) }
-    requires y_in { y < puzzle.now.size.h }
+pub(crate) fn visit_trees<W: Word>(planes: &mut Planes<W>, trees: &[W], y: u8) -> bool
+    requires y_in { y < planes.old.size.h }
+    requires long { planes.old.size.h ≤ length trees.now }
     requires alive { IsAlive planes.old }
-    ensures { AreVisited (trees_of_row puzzle.now y) planes.old planes.new result }
+    ensures { (p : Tents) → IsTents p → planes.old.size ≡ p.size
+        → AreRowsOf p.size (tree p) (map W.bits trees.now)
+        → AreVisited (trees_of_row p y) planes.old planes.new result }
 {
-    let _size = planes.size();
-    let own = row_trees(puzzle, trees, usize::from(y));
-    let free = free_near(puzzle, trees, usize::from(y));
+    let free = others_near(trees, planes.size(), usize::from(y));
     let ones = ones_near(planes, free, y);
+    let own = trees[usize::from(y)];
     if own.both(free.some()).but(ones.some()).is_some() {
         return false;
     }

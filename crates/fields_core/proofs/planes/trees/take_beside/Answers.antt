@@ -4,7 +4,7 @@ use Rattle.fields_core.proofs.TreeWords.{taken-is, zeros-taken}
 use Rattle.fields_core.proofs.planes.trees.take_beside.Goals as goal
 
 pub returns-clause-left : goal.returns-clause-left
-returns-clause-left g c = λ passes is.
+returns-clause-left g c = λ passes is places_in.
     let size = c.args.planes.now.size in
     let are : ArePlanes g.W.Word.room c.args.planes.now = c.size.ensures.lawful in
     let h_is : c.h-last.result ≡ size.h = c.h-last.ensures.value ∙ ap (λ (s : Extent). s.h) c.size.ensures.value in
@@ -15,7 +15,7 @@ returns-clause-left g c = λ passes is.
     (taken-is g.W.Word.bits g.W.Word.room size passes c.args.y c.saturating_sub.result c.min.result c.args.near _ _ _ _
     are.lawful.w_low are.narrow c.saturating_sub.ensures
     (λ lt. omega (arith, c.min.ensures, c.saturating_add.ensures, h_is, lt))
-    c.requires.places_in c.both.ensures
+    places_in c.both.ensures
     (λ x. c.both-2.ensures x ∙ rw (c.either-across.ensures x, c.on.ensures x, c.back.ensures x) refl)
     c.both-3.ensures is)
 

@@ -8,8 +8,11 @@ start-requires-clause-long c =
     let r = rw (← c.self.view_is) at c.requires in
     rw (c.puzzle.ensures, c.set.ensures) (long-less c.self.invariant.0.words r.scope_in)
 
+pub start-requires-clause-rows : goal.start-requires-clause-rows
+start-requires-clause-rows c = c.self.invariant.0.rows
+
 pub returns-clause-walks : goal.returns-clause-walks
 returns-clause-walks c =
     let r = rw (← c.self.view_is) at c.requires in
     start-walks _ _ (count-lawful _ _ _ _ c.args.rules.now.set.counting) r
-    (rw (c.puzzle.ensures, c.set.ensures) at c.start.ensures.size) (rw (c.puzzle.ensures, c.set.ensures) at c.start.ensures.start) refl
+    (rw (c.puzzle.ensures, c.set.ensures) at c.start.ensures.size) (rw (c.puzzle.ensures, c.set.ensures) at c.start.ensures.trees) (rw (c.puzzle.ensures, c.set.ensures) at c.start.ensures.start) refl

@@ -16,4 +16,4 @@ read c =
 pub returns-clause-walks : goal.returns-clause-walks
 returns-clause-walks c =
     let r = rw (← c.self.view_is) at c.requires in
-    undo-walks _ _ _ c.args.level _ r.walks r.marked (read (goal.at.returns-clause-walks c).After-index) c.undo.ensures.back
+    rw (c.undo.ensures.trees) (undo-walks _ _ _ c.args.level _ r.walks r.marked (read (goal.at.returns-clause-walks c).After-index) c.undo.ensures.back)
