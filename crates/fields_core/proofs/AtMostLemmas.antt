@@ -1,5 +1,5 @@
 -- Visits of houses of one at most, one after another, by the cells that can have 0.
-use Rattle.fields_core.proofs.Common.{AllByRecursion, Bool, Candidates, CountHouse, IsHouse, IsTally, List, Tally, [], after_house, and-false, and-true, and_parts, ap, arith, bounds_of, cases_Bool, cases_eq, common_steps, count_by, eq-eqb, eqb, eqb-true, false, false≢true, fun_ext, has_place, has_place-at, inl, inr, is_empty, is_open, lacks_filling, le-ltb, list_any, lt-ltb, ltb, ne_eqb, not, or_cases, refl, slice_index, subst, sym, true, true≢false, zero, ℕ, ◌&&◌, ◌+◌, ◌<◌, ◌||◌, ◌∙◌, ◌∷◌, ◌≡◌, ◌≢◌, ◌≤◌, ◌⊎◌}
+use Rattle.fields_core.proofs.Common.{AllByRecursion, Bool, Candidates, CountHouse, IsHouse, IsTally, List, Tally, [], after_house, and-false, and-true, and_parts, ap, arith, cases_Bool, cases_eq, common_steps, count_by, eq-eqb, eqb, eqb-true, false, false≢true, fun_ext, has_place, has_place-at, inl, inr, is_empty, is_open, le-ltb, list_any, lt-ltb, ltb, ne_eqb, not, or_cases, refl, subst, sym, true, ℕ, ◌&&◌, ◌<◌, ◌||◌, ◌∙◌, ◌∷◌, ◌≡◌, ◌≢◌, ◌≤◌, ◌⊎◌}
 unfoldable use Rattle.fields_core.specs.Visits.{after_houses}
 use Rattle.fields_core.proofs.CountKept.{after-at, off-scope}
 use Rattle.fields_core.proofs.PlaceLists.{num, count-cons, count-none, count-some, some-counted}
@@ -168,4 +168,3 @@ visits-two cells (house ∷ houses) K d e v ((is, one), all) ne some off_d off_e
   where
     dead : (a : Bool) {b : Bool} → (a ≡ true → b ≡ true) → b ≡ false → a ≡ false
     dead a {b} inside off = grind (arith, common_steps, cases_Bool a)
-

@@ -1,19 +1,12 @@
 -- The squares of two rows of Tents, by words of the columns with a cell that has no 0.
-use Rattle.fields_core.proofs.Common.{AllByRecursion, Bool, CountHouse, Extent, IsAlive, IsFurther, IsHouse, IsTents, Layers, Piece, further-none, and-false, mul-le-mul_right, List, Tents, [], and_from, and_parts, any_below, any_below-here, any_below-none, any_below-some, ap, arith, cases_Bool, cases_lt, common_steps, cond, count_by, div-add-mod', div-mul-add, eq-eqb, eqb, eqb-true, false, false≢true, fun_ext, has_bit, has_place, houses_below, inl, inr, le-ltb, lies_in, lies_in_first, list_any, lt-ltb, ltb, ltb-true, mod-lt, not, one_at_most, or_cases, or_left, or_right, place-column, refl, square_house, subst, suc, sym, tent_cells, true, true≢false, without_value, zero, ℕ, ◌%◌, ◌&&◌, ◌*◌, ◌++◌, ◌+◌, ◌-◌, ◌/◌, ◌<◌, ◌||◌, ◌∙◌, ◌∷◌, ◌≡◌, ◌≢◌, ◌≤◌, ◌⊎◌}
+use Rattle.fields_core.proofs.Common.{AllByRecursion, Bool, CountHouse, IsHouse, IsTents, mul-le-mul_right, List, Tents, [], and_from, and_parts, any_below, any_below-here, any_below-some, ap, arith, cases_Bool, cases_lt, common_steps, cond, count_by, div-add-mod', div-mul-add, eq-eqb, eqb, eqb-true, false, false≢true, has_place, houses_below, inl, inr, le-ltb, list_any, lt-ltb, ltb, ltb-true, mod-lt, not, one_at_most, or_cases, or_left, or_right, place-column, refl, square_house, subst, suc, sym, tent_cells, true, zero, ℕ, ◌%◌, ◌&&◌, ◌*◌, ◌++◌, ◌+◌, ◌-◌, ◌/◌, ◌<◌, ◌||◌, ◌∙◌, ◌∷◌, ◌≡◌, ◌≤◌, ◌⊎◌}
 unfoldable use Rattle.grid_core.specs.Planes.{bit_of, crosses, has}
-use Rattle.grid_core.specs.declared.planes.line.Line.TheVariants.{Row}
 use Rattle.std.proofs.lemmas.List.Folds.{list_any-append}
 use Rattle.fields_core.specs.Squares.{squares_of_row}
-use Rattle.fields_core.specs.Visits.{AreVisited, after_houses}
-use Rattle.fields_core.proofs.AtMostLemmas.{IsFull, IsOneAtMost, visits-met, visits-two, zeros_of}
 unfoldable use Rattle.fields_core.proofs.AtMostLemmas.{is_met, without_met}
 use Rattle.fields_core.proofs.CellLemmas.{same-truth}
-use Rattle.fields_core.proofs.PartLemmas.{struck-alive, value-in}
 use Rattle.fields_core.proofs.PlaceLists.{count-cons}
-use Rattle.fields_core.proofs.TentBeside.{row-in}
-use Rattle.fields_core.proofs.TentCounting.{tent-field}
 use Rattle.fields_core.proofs.TentVisits.{square-is, square_places}
-use Rattle.fields_core.proofs.VisitLemmas.{visited-none}
 
 -- ---- the cells of a square
 cell-is : (w y x c : ℕ) → x < w → eqb (y * w + x) c ≡ (eqb (c / w) y && eqb (c % w) x)

@@ -77,11 +77,15 @@ module _ (p : Tents) (y : ℕ) (from : Layers) (room twice must : ℕ) (lawful :
       let in_e = square-has w y x e lt ∙ and_from _ _ row_e column_e in
       record {
         left = λ on. absurd (false≢true on);
-        dies = λ _. (d, rw size ((house-is p y lawful low x lt).within d in_d), λ v small.
-            visits-two (tent_cells p) (squares_of_row p y) (has from) d e v
-            (each-square p y lawful low (λ house. IsHouse (tent_cells p) house × (house.most ≡ 1)) (λ k less. (house-is p y lawful low k less, refl)))
-            ne (some-square p y lawful low (λ house. has_place house.places d && has_place house.places e) x lt (and_from _ _ in_d in_e))
-            off_d off_e small);
+        dies = λ _. (
+          d,
+          rw size ((house-is p y lawful low x lt).within d in_d),
+          λ v small.
+              visits-two (tent_cells p) (squares_of_row p y) (has from) d e v
+              (each-square p y lawful low (λ house. IsHouse (tent_cells p) house × (house.most ≡ 1)) (λ k less. (house-is p y lawful low k less, refl)))
+              ne (some-square p y lawful low (λ house. has_place house.places d && has_place house.places e) x lt (and_from _ _ in_d in_e))
+              off_d off_e small,
+        );
         alive = alive;
         further = further-none from;
       }
@@ -90,8 +94,12 @@ module _ (p : Tents) (y : ℕ) (from : Layers) (room twice must : ℕ) (lawful :
       → (d : ℕ) × (in_rows w y d ≡ true) × (d % w ≡ u) × (zeros d ≡ false)
   must-cell u lt on = elim (cases_Bool (zeros (y * w + u))) [
     | inr off ↦ (y * w + u, or_left (eqb ((y * w + u) / w) y) (eqb ((y * w + u) / w) (y + 1)) (eq-eqb ((y * w + u) / w) y (div-mul-add y w u lt)), place-column w y u lt, off)
-    | inl has_zero ↦ ((y + 1) * w + u, or_right (eqb (((y + 1) * w + u) / w) y) (eqb (((y + 1) * w + u) / w) (y + 1)) (eq-eqb (((y + 1) * w + u) / w) (y + 1) (div-mul-add (y + 1) w u lt)), place-column w (y + 1) u lt,
-        second (zeros (y * w + u)) (zeros ((y + 1) * w + u)) has_zero on)
+    | inl has_zero ↦ (
+      (y + 1) * w + u,
+      or_right (eqb (((y + 1) * w + u) / w) y) (eqb (((y + 1) * w + u) / w) (y + 1)) (eq-eqb (((y + 1) * w + u) / w) (y + 1) (div-mul-add (y + 1) w u lt)),
+      place-column w (y + 1) u lt,
+      second (zeros (y * w + u)) (zeros ((y + 1) * w + u)) has_zero on,
+    )
   ]
     where
       second : (a b : Bool) → a ≡ true → not (a && b) ≡ true → b ≡ false

@@ -1,5 +1,5 @@
 -- Visits of the houses of Tents on planes.
-use Rattle.std.proofs.Common.{◌≡◌, ℕ, ◌+◌, ◌-◌, ◌/◌, ◌%◌, ◌<◌, Bool, true, false, ltb, List, [], ◌∷◌, slice_index, arith}
+use Rattle.std.proofs.Common.{◌≡◌, ℕ, ◌+◌, ◌/◌, ◌%◌, ◌<◌, Bool, true, false, ltb, List, [], ◌∷◌, slice_index, arith}
 use Rattle.std.proofs.lemmas.Bool.{lt-ltb}
 use Rattle.grid_core.specs.Planes.{Layers, has, IsFurther}
 use Rattle.grid_core.specs.Regions.{row_places, column_places}

@@ -233,8 +233,11 @@ module _ (p : Tents) (y : ℕ) (from : Layers) (room : ℕ) (trees free some bro
       let d = slice_index (free_beside p (y * p.size.w + w.0)) 0 in
       record {
         left = λ e. absurd (true≢false (sym e));
-        dies = λ _. (d, rw size ((tree-is p lawful (place-in p.size.w p.size.h y w.0 y_in lt) here.1).within d there),
-            λ v low. trees-dead p lawful (has from) y y_in (value-in from) full w.0 d v lt here.1 none there low);
+        dies = λ _. (
+          d,
+          rw size ((tree-is p lawful (place-in p.size.w p.size.h y w.0 y_in lt) here.1).within d there),
+          λ v low. trees-dead p lawful (has from) y y_in (value-in from) full w.0 d v lt here.1 none there low,
+        );
         alive = alive;
         further = further-none from;
       }
@@ -258,9 +261,9 @@ module _ (p : Tents) (y : ℕ) (from : Layers) (room : ℕ) (trees free some bro
   row-visited one ones {to} off one_is ones_is left further =
       let same : (x : ℕ) → x < p.size.w → has_bit ones x ≡ lone p (has from) y x = λ x lt. ones_is x ∙ rw (trees_is x, lt-ltb x p.size.w lt, one_is x lt, may-is x) refl in
       let board : has to ≡ without_zeros (struck p (has from) y p.size.w) (has from) = left ∙ ap (λ (t : ℕ → Bool). without_zeros t (has from))
-          (fun_ext λ c. ap (λ b. (not (tree p c) && has from c 1) && b)
-          (any_below-same (λ x. has_bit ones x && has_place (beside p.size (y * p.size.w + x)) c) (λ x. lone p (has from) y x && has_place (beside p.size (y * p.size.w + x)) c) p.size.w
-          (λ x lt. rw (same x lt) refl))) in
+      (fun_ext λ c. ap (λ b. (not (tree p c) && has from c 1) && b)
+      (any_below-same (λ x. has_bit ones x && has_place (beside p.size (y * p.size.w + x)) c) (λ x. lone p (has from) y x && has_place (beside p.size (y * p.size.w + x)) c) p.size.w
+      (λ x lt. rw (same x lt) refl))) in
       record {
         left = λ _. board ∙ sym (trees-board p lawful (has from) y y_in (value-in from) full p.size.w (omega arith) (filled off));
         dies = λ e. absurd (true≢false e);

@@ -92,7 +92,11 @@ fn sweep_cells<W: Word>(planes: &mut Planes<W>, puzzle: &TentsPuzzle, trees: &[W
 }
 
 /// Visits each house once, in ascending order, up to one that has no filling. Says whether there is none such.
-pub(crate) fn sweep_tents<W: Word>(planes: &mut Planes<W>, puzzle: &TentsPuzzle, trees: &[W]) -> bool
+pub(crate) fn sweep_tents<W: Word>(
+    planes: &mut Planes<W>,
+    puzzle: &TentsPuzzle,
+    trees: &[W],
+) -> bool
     requires size { planes.old.size ≡ puzzle.now.size }
     requires trees { AreRowsOf puzzle.now.size (tree puzzle.now) (map W.bits trees.now) }
     requires alive { IsAlive planes.old }

@@ -32,8 +32,16 @@ fn others_near<W: Word>(rows: &[W], size: Size, y: usize) -> Near<W>
         → IsNear W.bits size (λ c. not (passes c)) y result }
 {
     let h = usize::from(size.h());
-    let above = if y > 0 { others_in(rows, size, y - 1) } else { W::none() };
-    let below = if y + 1 < h { others_in(rows, size, y + 1) } else { W::none() };
+    let above = if y > 0 {
+        others_in(rows, size, y - 1)
+    } else {
+        W::none()
+    };
+    let below = if y + 1 < h {
+        others_in(rows, size, y + 1)
+    } else {
+        W::none()
+    };
     Near {
         above,
         own: others_in(rows, size, y),
@@ -51,7 +59,9 @@ fn ones_near<W: Word>(planes: &Planes<W>, near: Near<W>, y: u8) -> Near<W>
     Near {
         above: near.above.both(planes.row(y.saturating_sub(1), 1)),
         own: near.own.both(planes.row(y, 1)),
-        below: near.below.both(planes.row(y.saturating_add(1).min(last), 1)),
+        below: near
+            .below
+            .both(planes.row(y.saturating_add(1).min(last), 1)),
     }
 }
 
@@ -68,7 +78,11 @@ fn take_beside<W: Word>(planes: &mut Planes<W>, near: Near<W>, places: W, y: u8)
     let across = places.on().either(places.back());
     planes.take(Line::Row(y.saturating_sub(1)), 0, near.above.both(places));
     planes.take(Line::Row(y), 0, near.own.both(across));
-    planes.take(Line::Row(y.saturating_add(1).min(last)), 0, near.below.both(places));
+    planes.take(
+        Line::Row(y.saturating_add(1).min(last)),
+        0,
+        near.below.both(places),
+    );
 }
 
 /// Visits the houses of the trees of a row. A tree with one cell beside it that can have a tent takes 0 from it: there is

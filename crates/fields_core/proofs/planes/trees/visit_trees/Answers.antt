@@ -1,4 +1,4 @@
-use Rattle.fields_core.proofs.Common.{Extent, IsTents, Layers, Tents, and_parts, arith, has_bit, length-map, ltb-true, map, not, refl, subst, sym, tree, ◌&&◌, ◌∙◌, ◌≡◌, ◌≤◌}
+use Rattle.fields_core.proofs.Common.{Extent, Tents, and_parts, arith, has_bit, ltb-true, map, not, refl, subst, sym, tree, ◌&&◌, ◌∙◌, ◌≡◌, ◌≤◌}
 use Rattle.grid_core.specs.Planes.{ArePlanes, has}
 use Rattle.fields_core.specs.Trees.{AreRowsOf, IsNear, IsRowOf, is_beside, without_zeros}
 use Rattle.fields_core.proofs.TreeBoards.{row-dead, row-visited}
