@@ -1,5 +1,5 @@
 -- Lists of houses and of places that a loop makes.
-use Rattle.fields_core.proofs.Common.{Black, Bool, Extent, Light, None, Some, White, [], add-one, ap, append-nil, arith, begins_column_run, begins_row_run, column_places, common_steps, cond-false, cond-true, div-eq_of_lt, false, filter, filter-append, length, length-map-range_with_len, lt-div-mul-add, ne_eqb, not, number_house, refl, row_places, slice_get, step, steps, sym, true, white, ℕ, ◌%◌, ◌++◌, ◌+◌, ◌-◌, ◌/◌, ◌<◌, ◌∷◌, ◌≡◌}
+use Rattle.fields_core.proofs.Common.{Black, Bool, Extent, Light, None, Some, White, [], add-one, ap, append-nil, arith, begins_column_run, begins_row_run, column_places, common_steps, cond-false, cond-true, div-eq_of_lt, false, filter, filter-append, length, length-map-range_with_len, lt-div-mul-add, ne_eqb, not, number_house, refl, row_places, slice_get, step, steps, sym, true, white, ℕ, ◌%◌, ◌++◌, ◌+◌, ◌-◌, ◌<◌, ◌∷◌, ◌≡◌}
 use Rattle.fields_core.proofs.LightLines.{cell-at}
 
 pub row-long : (size : Extent) (y : ℕ) → length (row_places size y) ≡ size.w

@@ -1,5 +1,5 @@
 -- The count houses of Light Up keep to what every rule set of count houses keeps to.
-use Rattle.fields_core.proofs.Common.{AllByRecursion, AreDistinct, Black, IsCounting, IsGrid, IsLawful, IsLight, IsLightCell, Light, LightCell, List, Numbered, White, [], all_below-at, and_from, and_parts, any_below-here, any_below-some, ap, arith, begins_column_run, begins_row_run, black_right, bulb, bulb_right, bulbs_beside, cases_eq, column_house, column_places, column_run, common_steps, count-lawful, count_by-le-length, distinct-append, distinct-filter, eq-eqb, eqb, eqb-true, exactly, filter, get_or, has_place, has_place-here, inl, inr, joined_in_column, joined_in_row, length, length-append, light_cells, light_houses, light_rules, lit_house, lit_right, mul-le-mul_right, ne_eqb, not, not-true, number_house, number_right, one_at_least, one_at_most, or_cases, or_left, or_right, place-append, place-back, place-filter, place-front, place-kept, refl, row_house, row_places, row_run, seen_from, sees, sees_bulb, slice_index, solves_lights, steps, suc, sym, true, true≢false, white, zero, ℕ, ◌%◌, ◌&&◌, ◌*◌, ◌++◌, ◌+◌, ◌/◌, ◌<◌, ◌||◌, ◌∙◌, ◌∷◌, ◌≡◌, ◌≤◌}
+use Rattle.fields_core.proofs.Common.{AllByRecursion, AreDistinct, Black, IsCounting, IsGrid, IsLawful, IsLight, IsLightCell, Light, LightCell, List, Numbered, White, [], all_below-at, and_from, and_parts, any_below-here, any_below-some, ap, arith, begins_column_run, begins_row_run, black_right, bulb, bulb_right, bulbs_beside, cases_eq, column_house, column_run, common_steps, count-lawful, count_by-le-length, distinct-append, distinct-filter, eq-eqb, eqb, eqb-true, exactly, filter, get_or, has_place, has_place-here, inl, inr, joined_in_column, joined_in_row, length, length-append, light_cells, light_houses, light_rules, lit_house, lit_right, mul-le-mul_right, ne_eqb, not, not-true, number_house, number_right, one_at_least, one_at_most, or_cases, or_left, or_right, place-append, place-back, place-filter, place-front, place-kept, refl, row_house, row_run, seen_from, sees, sees_bulb, slice_index, solves_lights, steps, suc, sym, true, true≢false, white, zero, ℕ, ◌%◌, ◌&&◌, ◌*◌, ◌++◌, ◌+◌, ◌/◌, ◌<◌, ◌||◌, ◌∙◌, ◌∷◌, ◌≡◌, ◌≤◌}
 use Rattle.fields_core.specs.LightHouses.{numbered}
 use Rattle.fields_core.proofs.LightFaultLemmas.{lit-parts}
 use Rattle.fields_core.proofs.LightSight.{bulb-in, row-of, column-of}

@@ -1,5 +1,4 @@
 -- The cells of a puzzle of Light Up.
-use Rattle.std.proofs.lemmas.Grind.{common_steps}
 use Rattle.fields_core.proofs.Common.{Black, Light, LightCell, Some, ap, get_or, is_white, slice_get, white, ℕ, ◌≡◌}
 use Rattle.std.proofs.lemmas.Option.{slice_get-get_or, slice_get_within}
 

@@ -1,5 +1,5 @@
 -- The board that a search of count houses starts from.
-use Rattle.fields_core.proofs.Common.{Bool, Candidates, Layout, SameShape, all_of, and-true, ap, arith, cases_eq, cases_lt, common_steps, eq-eqb, eqb, fun_ext, le-ltb, lt-ltb, ltb, ne_eqb, not, or-false, or-true, start_of, sym, true, without, ℕ, ◌&&◌, ◌+◌, ◌∙◌, ◌≡◌, ◌≤◌}
+use Rattle.fields_core.proofs.Common.{Bool, Candidates, Layout, SameShape, all_of, and-true, ap, arith, cases_eq, cases_lt, common_steps, eq-eqb, eqb, fun_ext, le-ltb, lt-ltb, ltb, ne_eqb, not, or-false, or-true, start_of, true, without, ℕ, ◌&&◌, ◌+◌, ◌∙◌, ◌≡◌, ◌≤◌}
 use Rattle.std.proofs.Common.{◌*◌, ◌/◌, ◌%◌, ◌<◌, ◌↔◌, ◌||◌, refl, inl, inr}
 use Rattle.std.proofs.Math.Nat.{mod-lt, div-lt_iff_lt-mul}
 use Rattle.std.proofs.lemmas.Nat.{div-add-mod'}

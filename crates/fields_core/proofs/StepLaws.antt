@@ -1,5 +1,5 @@
 -- The cells beside a cell are different.
-use Rattle.fields_core.proofs.Common.{AreDistinct, Bool, Extent, None, Option, Some, arith, common_steps, cond, distinct-append, eqb-true, false, has_place, if_there, inl, inr, leb, leb-true, length, length-append, ltb-true, mod-lt, mul-le-mul_right, or_cases, place-append, refl, step, steps, suc, sym, true, true≢false, zero, ℕ, ◌%◌, ◌*◌, ◌+◌, ◌-◌, ◌/◌, ◌<◌, ◌≡◌, ◌≤◌}
+use Rattle.fields_core.proofs.Common.{AreDistinct, Bool, Extent, None, Option, Some, arith, common_steps, cond, distinct-append, eqb-true, false, has_place, if_there, inl, inr, leb, leb-true, length, length-append, ltb-true, mod-lt, mul-le-mul_right, or_cases, place-append, refl, step, steps, suc, sym, true, true≢false, zero, ℕ, ◌%◌, ◌+◌, ◌-◌, ◌/◌, ◌<◌, ◌≡◌, ◌≤◌}
 
 pub some-inj : {x y : ℕ} → Some x ≡ Some y → x ≡ y
 some-inj {x} {y} e = cc

@@ -1,5 +1,5 @@
 -- The count houses of Tents keep to what every rule set of count houses keeps to.
-use Rattle.fields_core.proofs.Common.{AreCounts, AreDistinct, Extent, IsCounting, IsGrid, IsLawful, IsTents, List, Set, Tents, [], all_below, all_below-at, and_from, and_parts, any_below-here, ap, are_near, arith, can_be_paired, cases_eq, cases_lt, column-at, column_of_tents, column_places, column_right, common_steps, count-lawful, count_by-le-length, distinct-filter, eq-eqb, eqb, eqb-true, exactly, false_from_ne_true, filling_from_test, filter, free_beside, get_or, get_or-map, get_or-map-range_with_len, get_or-range_with_len, get_or_past, has_place, has_place-at, has_place-here, has_value, has_value_below, inl, inr, is_barred, le-leb, leaves_none_out, length, length-map, length-map-range_with_len, length-range_with_len, list_any, ltb, ltb-true, map, mul-le-mul_right, names_none_twice, ne_eqb, not, not-true, one_at_least, one_at_most, or_cases, place-filter, place-kept, range_with_len, row-at, row_of_tents, row_places, row_right, slice_index, solves_tents, square_house, steps, suc, sym, tent, tent_cells, tent_houses, tent_rules, tents_in_column, tents_in_row, touch_right, touches, tree, tree_house, tree_right, trees_beside, true, true≢false, zero, ℕ, ◌%◌, ◌&&◌, ◌*◌, ◌+◌, ◌/◌, ◌<◌, ◌||◌, ◌∙◌, ◌∷◌, ◌≡◌, ◌≤◌}
+use Rattle.fields_core.proofs.Common.{AreCounts, AreDistinct, Extent, IsCounting, IsGrid, IsLawful, IsTents, List, Tents, [], all_below, all_below-at, and_from, and_parts, any_below-here, ap, are_near, arith, can_be_paired, cases_eq, cases_lt, column-at, column_of_tents, column_places, column_right, common_steps, count-lawful, count_by-le-length, distinct-filter, eq-eqb, eqb, eqb-true, exactly, false_from_ne_true, filling_from_test, filter, free_beside, get_or, get_or-map, get_or-map-range_with_len, get_or-range_with_len, get_or_past, has_place, has_place-at, has_place-here, has_value, has_value_below, inl, inr, is_barred, le-leb, leaves_none_out, length, length-map, length-map-range_with_len, length-range_with_len, list_any, ltb, ltb-true, mul-le-mul_right, names_none_twice, ne_eqb, not, not-true, one_at_least, one_at_most, or_cases, place-filter, place-kept, range_with_len, row-at, row_of_tents, row_places, row_right, slice_index, solves_tents, square_house, steps, suc, sym, tent, tent_cells, tent_houses, tent_rules, tents_in_column, touch_right, touches, tree, tree_house, tree_right, trees_beside, true, true≢false, zero, ℕ, ◌%◌, ◌&&◌, ◌+◌, ◌/◌, ◌<◌, ◌||◌, ◌∙◌, ◌∷◌, ◌≡◌, ◌≤◌}
 use Rattle.grid_core.specs.Lines.{line_cells}
 use Rattle.fields_core.proofs.HouseLists.{row-long, column-long}
 use Rattle.fields_core.proofs.PlaceLists.{count-some, count-one, filter-few}

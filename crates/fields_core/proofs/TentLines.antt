@@ -1,5 +1,5 @@
 -- The tents of a line, and the cells that a cell can touch.
-use Rattle.fields_core.proofs.Common.{Bool, Extent, List, and_from, and_left, and_parts, any_below, any_below-here, any_below-some, ap, are_near, arith, cases_Bool, cases_lt, common_steps, count_by, count_by_more_no, count_by_more_yes, div-add-mod', div-mul-add, eq-eqb, eqb, false, false_from_ne_true, inl, inr, le-leb, leb, leb-true, length, min, mod-lt, mod-mul-add, ne_eqb, not, refl, slice_index, suc, sym, take, take_all, tent, touches, true, true≢false, zero, ℕ, ◌%◌, ◌&&◌, ◌*◌, ◌+◌, ◌-◌, ◌/◌, ◌<◌, ◌∙◌, ◌≡◌, ◌≤◌, ◌⊎◌}
+use Rattle.fields_core.proofs.Common.{Bool, Extent, List, and_from, and_left, and_parts, any_below, any_below-here, any_below-some, ap, are_near, arith, cases_Bool, cases_lt, common_steps, count_by, div-add-mod', div-mul-add, eq-eqb, eqb, false, false_from_ne_true, inl, inr, le-leb, leb-true, length, min, mod-lt, mod-mul-add, ne_eqb, not, refl, slice_index, suc, sym, take, tent, touches, true, zero, ℕ, ◌%◌, ◌&&◌, ◌*◌, ◌+◌, ◌-◌, ◌/◌, ◌<◌, ◌∙◌, ◌≡◌, ◌≤◌, ◌⊎◌}
 use Rattle.fields_core.specs.TentTouching.{IsTentAmong, IsWindow}
 
 -- so many of the first cells of a line have a tent

@@ -1,6 +1,6 @@
 -- Tents and trees can be paired exactly if there are as many of both and each tent can have a tree of its own: then none is
 -- left out. A pairing is a choice of a tree for each tent, which a short set rules out.
-use Rattle.fields_core.proofs.Common.{AreDifferent, AreDistinct, AreIn, Fills, IsPairedBy, List, Tents, [], all_below-from, and_from, ap, arith, can_be_paired, cases_Bool, common_steps, count_below, counted, different-from, distinct-filter, distinct-from, false, false_from_ne_true, filter, get_or-map, get_or-map-range_with_len, has_place, has_place-here, has_value, leaves_none_out, length, length-map, length-take, map, may_pair, names_none_twice, or_left, or_right, place-filter, place-kept, range_with_len, slice_index, steps, subst, sym, take, tent, tent_cells, test_from_filling, tree, tree_count, trees_beside, trees_of, true, ℕ, ◌&&◌, ◌<◌, ◌∙◌, ◌≡◌, ◌≤◌}
+use Rattle.fields_core.proofs.Common.{AreDifferent, AreDistinct, AreIn, Fills, IsPairedBy, List, Tents, [], all_below-from, and_from, ap, arith, can_be_paired, common_steps, count_below, counted, different-from, distinct-filter, distinct-from, false, false_from_ne_true, filter, get_or-map, get_or-map-range_with_len, has_place, has_place-here, has_value, leaves_none_out, length, length-map, length-take, map, may_pair, names_none_twice, or_left, or_right, place-filter, place-kept, range_with_len, slice_index, steps, subst, sym, take, tent, tent_cells, test_from_filling, tree, tree_count, trees_beside, trees_of, true, ℕ, ◌&&◌, ◌<◌, ◌∙◌, ◌≡◌, ◌≤◌}
 use Rattle.grid_core.specs.Pairings.{IsPairing, IsShortSet}
 use Rattle.grid_core.proofs.ShortSets.{no_choice}
 use Rattle.fields_core.proofs.BelowLemmas.{index_of, index-is, place-map, none-twice-from, distinct-none-twice, different-map, range-distinct, few-below, each-named}

@@ -85,9 +85,6 @@ module _ (p : Tents) {room : ℕ} {from : Layers} {sweeps : ℕ} {to next : Laye
   within-to : IsWithin (tent_cells p) 2 (has to)
   within-to = within_inside (tent_cells p) 2 (has to) (has from) within-from s.further.inside
 
-  alive-to : is_dead (tent_cells p) 2 (has to) ≡ false
-  alive-to = alive-all p to size-to s.alive
-
   alive-next : is_dead (tent_cells p) 2 (has next) ≡ false
   alive-next = alive-all p next (sweep.further.same_size ∙ size-to) sweep.alive
 
@@ -109,11 +106,11 @@ module _ (p : Tents) {room : ℕ} {from : Layers} {sweeps : ℕ} {to next : Laye
 
   pub closed-dead : fills ≡ false → IsClosing (tent_rules p) (has from) (swept p (has to)) Dead [] (sweeps + 1)
   closed-dead none = swept-dead (tent_rules p) (tent-lawful p lawful) (has from) sweeps
-      (has to) refl within-from alive-to s.swept (sweep.dies none)
+      (has to) refl within-from s.swept (sweep.dies none)
 
   pub closed-open : fills ≡ true → next.len ≡ to.len
       → IsClosing (tent_rules p) (has from) (has next) Open [] (max sweeps 1)
   closed-open full same =
       let idle = sweep.further.same same in
-      swept-idle (tent-lawful p lawful) sweeps refl within-from alive-to s.swept (sweep.left full) idle
+      swept-idle (tent-lawful p lawful) sweeps refl within-from s.swept (sweep.left full) idle
       (sweep-shut (tent_rules p) (has to) (sym (sweep.left full) ∙ idle))

@@ -1,4 +1,4 @@
-use Rattle.fields_core.proofs.Common.{arith, begins_row_run, row_house}
+use Rattle.fields_core.proofs.Common.{arith, row_house}
 use Rattle.fields_core.proofs.CountListLemmas.{added-fits, if-few}
 use Rattle.fields_core.proofs.light_up.houses.push_rows.Goals as goal
 

@@ -1,4 +1,4 @@
-use Rattle.fields_core.proofs.Common.{ap, arith, bulb, eq-eqb, slice_index, sym, white, ◌*◌, ◌+◌, ◌∙◌}
+use Rattle.fields_core.proofs.Common.{ap, arith, eq-eqb, slice_index, sym, white, ◌∙◌}
 use Rattle.fields_core.proofs.LightSeen.{walk-black, walk-bulb}
 use Rattle.fields_core.proofs.light_up.sight.shines.Goals as goal
 

@@ -1,4 +1,4 @@
-use Rattle.fields_core.proofs.Common.{FailsTents, none_exactly, tent_tests}
+use Rattle.fields_core.proofs.Common.{none_exactly}
 use Rattle.fields_core.proofs.TentRuleLemmas.{tents-none}
 use Rattle.fields_core.proofs.tents.check.check_tents.Goals as goal
 

@@ -1,4 +1,4 @@
-use Rattle.fields_core.proofs.Common.{Extent, ap, step, sym, ◌∙◌}
+use Rattle.fields_core.proofs.Common.{ap, step, sym, ◌∙◌}
 use Rattle.fields_core.proofs.TentNext.{next-found}
 use Rattle.fields_core.proofs.tents.pairs.next_tree.Goals as goal
 

@@ -1,4 +1,4 @@
-use Rattle.fields_core.proofs.Common.{Tally, ap, arith, get_or_default, moved_tally, slice_index, tally_at, ◌∙◌, ◌≡◌}
+use Rattle.fields_core.proofs.Common.{ap, arith, get_or_default, moved_tally, ◌∙◌}
 use Rattle.fields_core.proofs.CountListLemmas.{counted-table}
 use Rattle.fields_core.proofs.CountTallies.{movable, not-twice, moved-next, moved-end, tallied-moved}
 use Rattle.fields_core.proofs.count.tallies.TalliesCountingCountRules.change.Goals as goal

@@ -1,4 +1,4 @@
-use Rattle.fields_core.proofs.Common.{AreTallied, List, Table, Tally, ap, arith, has, house_places, length, length-map, places-at, scope_of, subst, take, ℕ, ◌++◌, ◌<◌, ◌^◌, ◌≡◌}
+use Rattle.fields_core.proofs.Common.{AreTallied, List, Tally, ap, arith, has, house_places, length, length-map, places-at, scope_of, subst, take, ℕ, ◌++◌, ◌<◌, ◌^◌, ◌≡◌}
 use Rattle.std.proofs.Math.Seq.{take-append_seam}
 use Rattle.fields_core.proofs.CountListLemmas.{counted-table}
 use Rattle.fields_core.proofs.CountWatch.{board-within, bits-are, unread-tallied, read-change, read-both, read-whole}
