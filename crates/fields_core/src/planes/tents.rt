@@ -19,8 +19,7 @@ pub(crate) fn visit_column<W: Word>(planes: &mut Planes<W>, puzzle: &TentsPuzzle
     requires alive { IsAlive planes.old }
     ensures { AreVisited (column_of_tents puzzle.now x) planes.old planes.new result }
 {
-    let size = puzzle.size();
-    let _size = planes.size();
+    let size = planes.size();
     let part = Part {
         line: Line::Column(x),
         cells: W::all(usize::from(size.h())),
@@ -36,8 +35,7 @@ pub(crate) fn visit_row<W: Word>(planes: &mut Planes<W>, puzzle: &TentsPuzzle, y
     requires alive { IsAlive planes.old }
     ensures { AreVisited (row_of_tents puzzle.now y) planes.old planes.new result }
 {
-    let size = puzzle.size();
-    let _size = planes.size();
+    let size = planes.size();
     let part = Part {
         line: Line::Row(y),
         cells: W::all(usize::from(size.w())),

@@ -39,7 +39,8 @@ pub(crate) fn is_tree(puzzle: &TentsPuzzle, place: usize) -> bool
 /// The number of tents that the column is to have.
 pub(crate) fn column_number(puzzle: &TentsPuzzle, x: usize) -> u8
     requires { x < puzzle.now.size.w }
-    ensures { result ≡ slice_index puzzle.now.counts x }
+    ensures value { result ≡ slice_index puzzle.now.counts x }
+    ensures lawful { IsTents puzzle.now }
 {
     puzzle.count(x)
 }
@@ -47,7 +48,8 @@ pub(crate) fn column_number(puzzle: &TentsPuzzle, x: usize) -> u8
 /// The number of tents that the row is to have.
 pub(crate) fn row_number(puzzle: &TentsPuzzle, y: usize) -> u8
     requires { y < puzzle.now.size.h }
-    ensures { result ≡ slice_index puzzle.now.counts (puzzle.now.size.w + y) }
+    ensures value { result ≡ slice_index puzzle.now.counts (puzzle.now.size.w + y) }
+    ensures lawful { IsTents puzzle.now }
 {
     let w = usize::from(puzzle.size().w());
     puzzle.count(w + y)
