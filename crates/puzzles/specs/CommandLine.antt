@@ -52,15 +52,11 @@ grade_app = with_rule (with_rule (with_rule (game_app (codes "grade"))
     (text_option (codes "budget")))
     (flag (codes "trace"))
 
--- `generate GAME SIZE --seed S [--budget B] [--tries T] [--black P]`: what must be there, and the
--- whole
-abbrev pub generate_needs_app : App
-generate_needs_app = with_rule (with_rule (game_app (codes "generate"))
-    (required_word (codes "size")))
-    (required_option (codes "seed"))
-
+-- `generate GAME SIZE --seed S [--budget B] [--tries T] [--black P]`
 abbrev pub generate_app : App
-generate_app = with_rule (with_rule (with_rule generate_needs_app
+generate_app = with_rule (with_rule (with_rule (with_rule (with_rule (game_app (codes "generate"))
+    (required_word (codes "size")))
+    (required_option (codes "seed")))
     (text_option (codes "budget")))
     (text_option (codes "tries")))
     (text_option (codes "black"))

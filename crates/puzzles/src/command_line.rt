@@ -3,7 +3,7 @@ ghost use Rattle.std.specs.Prelude.{◌≡◌, IfOk, false};
 ghost use Rattle.clap.specs.Walk.{rule_of};
 ghost use Rattle.clap.specs.Simple.{App, app_of, with_rule, with_subcommand};
 ghost use Rattle.clap.specs.declared.builder.command.Command.TheViews.{out-Command as fields_of};
-ghost use Rattle.puzzles.specs.CommandLine.{IsApp, required_word, text_option, flag, game_app, solve_app, check_app, grade_app, generate_needs_app, generate_app, bare_app, puzzles_app};
+ghost use Rattle.puzzles.specs.CommandLine.{IsApp, required_word, text_option, game_app, solve_app, check_app, grade_app, generate_app, bare_app, puzzles_app};
 
 use clap::{Arg, ArgAction, Command};
 use std::alloc::{AllocError, Global};
@@ -42,19 +42,6 @@ fn with_option<'a>(
     command.arg(text_argument(alloc, name))
 }
 
-/// A command with one more option, which stands alone.
-fn with_flag<'a>(
-    alloc: Global,
-    command: Command<'a>,
-    name: &'a str,
-) -> Result<Command<'a>, AllocError>
-    requires { (fields_of command).has_globals ≡ false }
-    ensures { IfOk result
-        (IsApp (with_rule (app_of command.entry) (flag name.entry.now))) }
-{
-    command.arg(text_argument(alloc, name).action(ArgAction::SetTrue))
-}
-
 /// A command whose first word names a game.
 fn game_command<'a>(alloc: Global, name: &'a str) -> Result<Command<'a>, AllocError>
     ensures { IfOk result (IsApp (game_app name.entry.now)) }
@@ -83,22 +70,16 @@ fn grade_command<'a>(alloc: Global) -> Result<Command<'a>, AllocError>
 {
     let command = with_word(alloc, game_command(alloc, "grade")?, "id")?;
     let command = with_option(alloc, command, "budget")?;
-    with_flag(alloc, command, "trace")
+    command.arg(text_argument(alloc, "trace").action(ArgAction::SetTrue))
 }
 
-/// `generate GAME SIZE --seed S`: what a generated puzzle cannot do without.
-fn generate_needs<'a>(alloc: Global) -> Result<Command<'a>, AllocError>
-    ensures { IfOk result (IsApp generate_needs_app) }
-{
-    let command = with_word(alloc, game_command(alloc, "generate")?, "size")?;
-    command.arg(text_argument(alloc, "seed").required(true))
-}
-
-/// What a puzzle is generated of, with `[--budget B] [--tries T] [--black P]`.
+/// `generate GAME SIZE --seed S [--budget B] [--tries T] [--black P]`
 fn generate_command<'a>(alloc: Global) -> Result<Command<'a>, AllocError>
     ensures { IfOk result (IsApp generate_app) }
 {
-    let command = with_option(alloc, generate_needs(alloc)?, "budget")?;
+    let command = with_word(alloc, game_command(alloc, "generate")?, "size")?;
+    let command = command.arg(text_argument(alloc, "seed").required(true))?;
+    let command = with_option(alloc, command, "budget")?;
     let command = with_option(alloc, command, "tries")?;
     with_option(alloc, command, "black")
 }

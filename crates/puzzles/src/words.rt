@@ -4,7 +4,6 @@ ghost use Rattle.std.specs.Prelude.{◌≡◌, ◌≤◌, IfSome, IfOk, option_a
 ghost use Rattle.clap.specs.Walk.{first_of, rows_of};
 ghost use Rattle.clap.specs.Simple.{subcommand_rows_of};
 ghost use Rattle.clap.specs.Matches.{found_of};
-ghost use Rattle.puzzles.specs.CommandLine.{parsed};
 
 use crate::command_line::puzzles_command;
 use clap::ArgMatches;
@@ -46,21 +45,6 @@ pub enum Request<'a> {
         size: &'a str,
         recipe: Recipe,
     },
-}
-
-/// What was found in the words, or nothing where they are refused.
-fn matches_of<'a>(alloc: Global, words: &'a [String]) -> Result<Option<ArgMatches<'a>>, AllocError>
-    ensures { IfOk result (λ found. option_and_then subcommand_rows_of found
-        ≡ parsed (map string_bytes words.entry.now)) }
-{
-    let command = puzzles_command(alloc)?;
-    match command.try_get_matches_from(words) {
-        Ok(matches) => Ok(Some(matches)),
-        Err(error) => match error.kind() {
-            ErrorKind::OutOfMemory => Err(AllocError),
-            _ => Ok(None),
-        },
-    }
 }
 
 /// The text of an argument, where the words have it.
@@ -208,26 +192,19 @@ fn generate_request<'a>(matches: &ArgMatches<'a>) -> Option<Request<'a>>
     Some(Request::Generate { game, size, recipe })
 }
 
-/// What the words after the name of a command ask for.
-fn request_by<'a>(name: &str, matches: &ArgMatches<'a>) -> Option<Request<'a>>
-    ensures { option_map asked_in result ≡ asked_by name.now (rows_of (found_of matches.now)) }
-{
-    match name {
-        "solve" => solve_request(matches),
-        "check" => check_request(matches),
-        "grade" => grade_request(matches),
-        "generate" => generate_request(matches),
-        _ => None,
-    }
-}
-
 /// What the command and the words after it ask for.
 fn request_in<'a>(matches: &ArgMatches<'a>) -> Option<Request<'a>>
     ensures { option_map asked_in result
         ≡ option_and_then (λ p. asked_by p.0 p.1) (subcommand_rows_of matches.now) }
 {
     let (name, found) = matches.subcommand()?;
-    request_by(name, found)
+    match name {
+        "solve" => solve_request(found),
+        "check" => check_request(found),
+        "grade" => grade_request(found),
+        "generate" => generate_request(found),
+        _ => None,
+    }
 }
 
 /// What the words ask for, or nothing where they are refused. The words are those after the
@@ -236,8 +213,12 @@ pub fn read_words<'a>(alloc: Global, words: &'a [String]) -> Result<Option<Reque
     ensures { IfOk result
         (λ r. option_map asked_in r ≡ asked_of (map string_bytes words.entry.now)) }
 {
-    match matches_of(alloc, words)? {
-        Some(matches) => Ok(request_in(&matches)),
-        None => Ok(None),
+    let command = puzzles_command(alloc)?;
+    match command.try_get_matches_from(words) {
+        Ok(matches) => Ok(request_in(&matches)),
+        Err(error) => match error.kind() {
+            ErrorKind::OutOfMemory => Err(AllocError),
+            _ => Ok(None),
+        },
     }
 }

@@ -1,11 +1,14 @@
-use Rattle.std.proofs.Common.{◌∙◌, ap, option_and_then}
+use Rattle.std.proofs.Common.{◌∙◌, ap, option_and_then, sym}
 use Rattle.puzzles.specs.Requests.{asked_of, asked_by}
+use Rattle.puzzles.proofs.WordLemmas.{parsed_ok, parsed_err}
 use Rattle.puzzles.proofs.words.read_words.Goals as goal
 
-pub returns-in-Some : goal.returns-in-Some
+pub returns-in-Ok : goal.returns-in-Ok
 unfolding asked_of
-returns-in-Some c = c.request_in.ensures ∙ ap (option_and_then (λ p. asked_by p.0 p.1)) (rw c.in-Some.is at c.in_ok-matches.ensures)
+returns-in-Ok c = c.request_in.ensures ∙ ap (option_and_then (λ p. asked_by p.0 p.1))
+    (parsed_ok _ _ c.in-Ok.matches c.in_ok-command.ensures c.in-Ok.ensures.kinds c.in-Ok.ensures.matches)
 
-pub returns-in-None : goal.returns-in-None
+pub returns : goal.returns
 unfolding asked_of
-returns-in-None c = ap (option_and_then (λ p. asked_by p.0 p.1)) (rw c.in-None.is at c.in_ok-matches.ensures)
+returns c = sym (ap (option_and_then (λ p. asked_by p.0 p.1))
+    (parsed_err _ _ c.in-Err.error c.in_ok-command.ensures c.in-Err.ensures.kinds (λ e. c.in_default.not-OutOfMemory (c.kind.ensures ∙ e))))
