@@ -1,8 +1,8 @@
 -- Visits of the squares of two rows of Tents.
-use Rattle.fields_core.proofs.Common.{AllByRecursion, ArePieces, Bool, eqb-true, lines_beside, number_of, piece_at, Extent, IsAlive, IsFurther, IsHouse, IsTents, Layers, List, Piece, Tents, [], and-false, and_from, and_parts, any_below, any_below-none, any_below-some, ap, arith, cases_Bool, cases_lt, common_steps, crosses, div-mul-add, eq-eqb, eqb, false, false≢true, fun_ext, further-none, has_bit, has_place, houses_below, inl, inr, le-ltb, lies_in, lies_in_first, list_any, lt-ltb, ltb, ltb-true, not, or_left, or_right, place-column, refl, square_house, suc, sym, tent_cells, true, true≢false, without_value, zero, ℕ, ◌%◌, ◌&&◌, ◌*◌, ◌+◌, ◌-◌, ◌/◌, ◌<◌, ◌||◌, ◌∙◌, ◌∷◌, ◌≡◌, ◌≢◌, ◌≤◌, ◌⊎◌}
+use Rattle.fields_core.proofs.Common.{AllByRecursion, ArePieces, Bool, eqb-true, lines_beside, number_of, piece_at, Extent, IsAlive, IsFurther, IsHouse, IsTents, Layers, List, Piece, Tents, [], and-false, and_from, and_parts, any_below, any_below-none, any_below-some, ap, arith, cases_Bool, cases_lt, common_steps, crosses, div-mul-add, eq-eqb, eqb, false, false≢true, fun_ext, further-none, has_bit, has_place, houses_below, inl, inr, le-ltb, lies_in, lies_in_first, list_any, lt-ltb, ltb, ltb-true, not, or_left, or_right, place-column, refl, square_house, suc, sym, tent_cells, true, true≢false, without_value, zero, ℕ, ◌%◌, ◌&&◌, ◌*◌, ◌+◌, ◌-◌, ◌/◌, ◌<◌, ◌||◌, ◌∙◌, ◌∷◌, ◌≡◌, ◌≢◌, ◌≤◌, ◌⊎◌, Candidates, mod-lt}
 unfoldable use Rattle.grid_core.specs.Planes.{bit_of, has}
 use Rattle.grid_core.specs.declared.planes.line.Line.TheVariants.{Row}
-use Rattle.fields_core.specs.Squares.{squares_of_row}
+use Rattle.fields_core.specs.Squares.{squares_of_row, two_rows}
 use Rattle.fields_core.specs.Visits.{AreVisited}
 use Rattle.fields_core.proofs.AtMostLemmas.{IsFull, IsOneAtMost, visits-met, visits-two, zeros_of}
 unfoldable use Rattle.fields_core.proofs.AtMostLemmas.{is_met, without_met}
@@ -15,15 +15,22 @@ zero-at : (q : Layers) (y u : ℕ) {w : ℕ} → q.size.w ≡ w → u < w → ha
 unfolding has
 zero-at q y u same lt = rw (same, div-mul-add y _ u lt, place-column _ y u lt) refl
 
-abbrev pub two_rows : ℕ → ℕ → List Piece
-two_rows y near = record { line = Row y; bits = near } ∷ record { line = Row (y + 1); bits = near } ∷ []
-
 lies-two : (w y near c : ℕ) → lies_in_first w (two_rows y near) 2 c ≡ (in_rows w y c && has_bit near (c % w))
 unfolding lies_in_first any_below lies_in crosses
 lies-two w y near c = by (eqb (c / w) y) (eqb (c / w) (y + 1)) (has_bit near (c % w))
   where
     by : (a b n : Bool) → ((false || (a && n)) || (b && n)) ≡ ((a || b) && n)
     by a b n = grind (arith, common_steps, cases_Bool a, cases_Bool b, cases_Bool n)
+
+pub rows-none : (w y room near : ℕ) (K : Candidates) → 0 < w → w ≤ room → any_below (has_bit near) room ≡ false
+    → K ≡ without_value w (two_rows y near) 2 1 K
+unfolding without_value
+rows-none w y room near K some narrow none = fun_ext λ c. fun_ext λ v.
+    rw (lies-two w y near c, any_below-none (has_bit near) room none (c % w) (omega (arith, mod-lt c some, narrow)))
+    (by (K c v) (eqb v 1) (K c 0) (in_rows w y c))
+  where
+    by : (k z o r : Bool) → k ≡ (k && not (z && (o && (r && false))))
+    by k z o r = grind (arith, common_steps, cases_Bool k, cases_Bool z, cases_Bool o, cases_Bool r)
 
 pub rows-apart : (size : Extent) (y near : ℕ) → y + 1 < size.h → ArePieces size (two_rows y near)
 unfolding lies_in crosses

@@ -75,6 +75,9 @@ fn take_beside<W: Word>(planes: &mut Planes<W>, near: Near<W>, places: W, y: u8)
     ensures further { IsFurther planes.old planes.new }
 {
     let last = planes.size().h() - 1;
+    if !places.is_some() {
+        return;
+    }
     let across = places.on().either(places.back());
     planes.take(Line::Row(y.saturating_sub(1)), 0, near.above.both(places));
     planes.take(Line::Row(y), 0, near.own.both(across));

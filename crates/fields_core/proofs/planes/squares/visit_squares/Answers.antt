@@ -1,5 +1,5 @@
 use Rattle.fields_core.proofs.Common.{arith, inl, inr, refl, sym, ◌+◌, ◌<◌, ◌∙◌}
-use Rattle.fields_core.proofs.SquareVisits.{AreMust, beside-die, none-below, rows-apart, squares-met, twice-die}
+use Rattle.fields_core.proofs.SquareVisits.{AreMust, beside-die, none-below, squares-met, twice-die}
 use Rattle.fields_core.proofs.planes.squares.visit_squares.Goals as goal
 use Rattle.fields_core.proofs.planes.squares.visit_squares.Goals.{After-on-after, then-w-lt2-via-then-w-lt2, then-w-lt2-via-else-w-lt2+then-y-h, then-is_some-via-then-is_some, then-is_some-via-else-is_some+then-is_some-2}
 
@@ -42,17 +42,14 @@ returns-then-is_some g c =
           (sym w.is_some-else-is_some.ensures ∙ w.if-is_some-2.true)
     ]
 
-pub strike-requires-clause-pieces : goal.strike-requires-clause-pieces
-strike-requires-clause-pieces g c = rows-apart c.args.planes.now.size c.args.y _ (rw (c.h.ensures.value, c.size-size.ensures.value, ← c.requires.size) at c.if-y-h.false)
-
 pub returns : goal.returns
 returns g c =
     let bits = g.W.Word.bits in
     let at = (goal.at.returns g c).After-on-after in
     squares-met c.args.puzzle.now c.args.y c.args.planes.now g.W.Word.room (bits c.but-twice.result) (bits c.but-must.result)
     c.size-size.ensures.lawful (low g at) (wide g at) c.requires.size c.requires.alive (must g at)
-    (bits c.both-else-is_some.result) (bits c.either-near.result) c.strike.new.planes
+    (bits c.both-else-is_some.result) (bits c.either-3.result) c.strike_rows.new.planes
     (sym c.is_some.ensures ∙ c.if-is_some.false) (λ u. c.both-else-is_some.ensures u ∙ rw (c.on-after.ensures u) refl)
     (sym c.is_some-else-is_some.ensures ∙ c.if-is_some-2.false)
-    (λ u. c.either-near.ensures u ∙ rw (c.either-2.ensures u, c.on-after.ensures u, c.back.ensures u) refl)
-    c.strike.ensures.left c.strike.ensures.further
+    (λ u. c.either-3.ensures u ∙ rw (c.either-2.ensures u, c.on-after.ensures u, c.back.ensures u) refl)
+    c.strike_rows.ensures.left c.strike_rows.ensures.further
