@@ -2,11 +2,11 @@
 use Rattle.std.proofs.lemmas.Grind.{common_steps}
 use Rattle.commands.proofs.Common.{Bool, Candidates, IsLawful, IsWithin, List, RuleSystem, [], add-one, after_inside, any_below, any_below-none, any_below-some, arith, cases_Bool, false, inl, inr, is_dead, length, length-append, refl, suc, total, true, true≢false, within_inside, zero, ℕ, ◌++◌, ◌+◌, ◌<◌, ◌∷◌, ◌≡◌, ◌≤◌}
 use Rattle.engine_core.specs.RuleSystem.{after}
-use Rattle.engine_core.specs.ClosingList.{IsAlive, IsClosingList, IsClosingSweeps}
+use Rattle.engine_core.specs.ClosingList.{IsClosingList, IsClosingSweeps}
 use Rattle.engine_core.specs.Queue.{IsRested, IsWoken, but, counts_of, woken}
 use Rattle.engine_core.proofs.ListLemmas.{IsRunning, closing-dead, closing-none, closing-open, running-first, running-turn}
-use Rattle.engine_core.proofs.QueueLemmas.{visits_left-pos}
-use Rattle.engine_core.proofs.SweepLemmas.{IsSweeping, IsSwept, fewer, sweep-whole, sweeping-first, sweeping-turn, swept-dead, swept-first, swept-open, swept-turn}
+use Rattle.engine_core.proofs.QueueLemmas.{closed_from_rested, visits_left-pos}
+use Rattle.engine_core.proofs.SweepLemmas.{IsSweeping, IsSwept, fewer, sweeping-first, sweeping-turn, swept-dead, swept-first, swept-shut, swept-turn}
 
 -- after a visit all wait that it wakes
 abbrev wakes : RuleSystem → ℕ → Candidates → (ℕ → Bool) → ℕ → Bool
@@ -39,38 +39,38 @@ module _ {p : RuleSystem} (laws : IsLawful p) where
 
   module _ {K0 : Candidates} (by_sweeps : p.by_queue ≡ false) (start : IsWithin p.cells p.values K0) where
     -- one sweep more closes the board, or leaves fewer values
-    one_sweep : (n : ℕ) (K : Candidates) → IsAlive p K → IsWithin p.cells p.values K → IsSwept p K0 n K
-        → ((L : Candidates) → total p.cells p.values L < total p.cells p.values K → IsAlive p L → IsWithin p.cells p.values L → IsSwept p K0 (n + 1) L
+    one_sweep : (n : ℕ) (K : Candidates) → IsWithin p.cells p.values K → IsSwept p K0 n K
+        → ((L : Candidates) → total p.cells p.values L < total p.cells p.values K → IsWithin p.cells p.values L → IsSwept p K0 (n + 1) L
         → (sweeps : ℕ) × IsClosingSweeps p K0 sweeps)
         → (sweeps : ℕ) × IsClosingSweeps p K0 sweeps
-    one_sweep n K alive within done again =
+    one_sweep n K within done again =
         let s : Sweeping p K p.houses = swept K within p.houses (omega arith) in
         let w = s.sweeping in
         elim (cases_Bool (is_dead p.cells p.values s.board)) [
-          | inl dies ↦ (n + 1, ((swept-dead p laws K0 n K by_sweeps start alive done (rw w.left at dies)).by_sweeps by_sweeps).1)
+          | inl dies ↦ (n + 1, ((swept-dead p laws K0 n K by_sweeps start done (rw w.left at dies)).by_sweeps by_sweeps).1)
           | inr lives ↦
               elim (cases_Bool (any_below s.waits p.houses)) [
                 | inl some ↦
                     let h = any_below-some s.waits p.houses some in
                     let lost = w.struck h.0 h.1 h.2 in
-                    again s.board (fewer p K s.board within w.left lost) lives s.within (swept-turn p K0 n K s.board done within w.left lost lives)
+                    again s.board (fewer p K s.board within w.left lost) s.within (swept-turn p K0 n K s.board done within w.left lost lives)
                 | inr none ↦ (
                   n + 1,
-                  ((swept-open p laws K0 n K s.board s.waits by_sweeps start alive done (sweep-whole p K s.board s.waits w lives)
-                      (any_below-none s.waits p.houses none)).by_sweeps by_sweeps).1,
+                  ((swept-shut p laws n K s.board by_sweeps start done w.left lives
+                      (closed_from_rested p s.board s.waits (any_below-none s.waits p.houses none) w.rested)).by_sweeps by_sweeps).1,
                 )
               ]
         ]
 
-    sweeps_from : (fuel n : ℕ) (K : Candidates) → total p.cells p.values K ≤ fuel → IsAlive p K → IsWithin p.cells p.values K → IsSwept p K0 n K
+    sweeps_from : (fuel n : ℕ) (K : Candidates) → total p.cells p.values K ≤ fuel → IsWithin p.cells p.values K → IsSwept p K0 n K
         → (sweeps : ℕ) × IsClosingSweeps p K0 sweeps
-    sweeps_from zero n K few alive within done = one_sweep n K alive within done (λ L less a b c. absurd (omega arith))
-    sweeps_from (suc fuel) n K few alive within done = one_sweep n K alive within done (λ L less a b c. sweeps_from fuel (n + 1) L (omega arith) a b c)
+    sweeps_from zero n K few within done = one_sweep n K within done (λ L less a b. absurd (omega arith))
+    sweeps_from (suc fuel) n K few within done = one_sweep n K within done (λ L less a b. sweeps_from fuel (n + 1) L (omega arith) a b)
 
     pub sweeps_close : (sweeps : ℕ) × IsClosingSweeps p K0 sweeps
     sweeps_close = elim (cases_Bool _) [
       | inl dead ↦ (0, ((closing-none p laws K0 start dead).by_sweeps by_sweeps).1)
-      | inr alive ↦ sweeps_from (total p.cells p.values K0) 0 K0 (omega arith) alive start (swept-first p K0 alive)
+      | inr alive ↦ sweeps_from (total p.cells p.values K0) 0 K0 (omega arith) start (swept-first p K0 alive)
     ]
 
   -- ---- a queue
