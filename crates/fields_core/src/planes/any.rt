@@ -166,7 +166,8 @@ impl AnyPlanes {
 
     /// Writes each cell's only value.
     pub(crate) fn write_grid(&self, grid: &mut Grid)
-        requires full { is_full (cells_of (layers_in self.now)) 2 (has (layers_in self.now)) ≡ true }
+        requires full { is_full (cells_of (layers_in self.now)) 2 (has (layers_in self.now))
+            ≡ true }
         requires long { length grid.old ≡ cells_of (layers_in self.now) }
         ensures { grid.new ≡ grid_of (cells_of (layers_in self.now)) 2 (has (layers_in self.now)) }
     {

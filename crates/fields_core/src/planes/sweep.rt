@@ -19,7 +19,8 @@ use grid_core::{Planes, Word};
 fn sweep_columns<W: Word>(planes: &mut Planes<W>, puzzle: &TentsPuzzle) -> bool
     requires size { planes.old.size ≡ puzzle.now.size }
     requires alive { IsAlive planes.old }
-    ensures { AreVisited (houses_below (column_of_tents puzzle.now) puzzle.now.size.w) planes.old planes.new result }
+    ensures { AreVisited (houses_below (column_of_tents puzzle.now) puzzle.now.size.w)
+        planes.old planes.new result }
 {
     for x in 0..puzzle.size().w() {
         if !visit_column(planes, puzzle, x) {
@@ -33,7 +34,8 @@ fn sweep_columns<W: Word>(planes: &mut Planes<W>, puzzle: &TentsPuzzle) -> bool
 fn sweep_rows<W: Word>(planes: &mut Planes<W>, puzzle: &TentsPuzzle) -> bool
     requires size { planes.old.size ≡ puzzle.now.size }
     requires alive { IsAlive planes.old }
-    ensures { AreVisited (houses_below (row_of_tents puzzle.now) puzzle.now.size.h) planes.old planes.new result }
+    ensures { AreVisited (houses_below (row_of_tents puzzle.now) puzzle.now.size.h)
+        planes.old planes.new result }
 {
     for y in 0..puzzle.size().h() {
         if !visit_row(planes, puzzle, y) {
@@ -48,7 +50,8 @@ fn sweep_trees<W: Word>(planes: &mut Planes<W>, puzzle: &TentsPuzzle, trees: &[W
     requires size { planes.old.size ≡ puzzle.now.size }
     requires trees { AreRowsOf puzzle.now.size (tree puzzle.now) (map W.bits trees.now) }
     requires alive { IsAlive planes.old }
-    ensures { AreVisited (houses_below (tree_house puzzle.now) (tent_cells puzzle.now)) planes.old planes.new result }
+    ensures { AreVisited (houses_below (tree_house puzzle.now) (tent_cells puzzle.now))
+        planes.old planes.new result }
 {
     for y in 0..puzzle.size().h() {
         if !visit_trees(planes, trees, y) {
@@ -62,7 +65,8 @@ fn sweep_trees<W: Word>(planes: &mut Planes<W>, puzzle: &TentsPuzzle, trees: &[W
 fn sweep_squares<W: Word>(planes: &mut Planes<W>, puzzle: &TentsPuzzle) -> bool
     requires size { planes.old.size ≡ puzzle.now.size }
     requires alive { IsAlive planes.old }
-    ensures { AreVisited (houses_below (square_house puzzle.now) (tent_cells puzzle.now)) planes.old planes.new result }
+    ensures { AreVisited (houses_below (square_house puzzle.now) (tent_cells puzzle.now))
+        planes.old planes.new result }
 {
     for y in 0..puzzle.size().h() {
         if !visit_squares(planes, puzzle, y) {
