@@ -10,6 +10,7 @@ use crate::planes::part::Parts;
 use grid_core::{Planes, Word};
 
 /// How many cells of the parts can be a one, and how many of these are undecided: can be a zero too.
+#[inline(always)]
 fn count<W: Word, P: Parts<W>>(planes: &Planes<W>, parts: &P) -> (usize, usize)
     requires { ArePieces planes.now.size (P.pieces parts.now) }
     ensures { IsCounted planes.now (P.pieces parts.now) result.0 result.1 }
@@ -44,6 +45,7 @@ pub(crate) fn strike<W: Word, P: Parts<W>>(planes: &mut Planes<W>, parts: &P, va
 /// Visits the count house of the cells of these parts: at least and at most so many of them are ones. Undecided cells lose
 /// 1 if enough cells must be ones, and 0 if all that can be ones are needed. Says whether the house has a filling: if not,
 /// nothing is taken.
+#[inline(always)]
 pub fn visit<W: Word, P: Parts<W>>(
     planes: &mut Planes<W>,
     parts: &P,
