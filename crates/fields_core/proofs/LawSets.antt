@@ -16,6 +16,7 @@ use Rattle.fields_core.proofs.TentNext.{barred-alone, barred-tree, next-joined, 
 use Rattle.fields_core.proofs.TentNumbers.{count-none, listed-all, listed-skip}
 use Rattle.fields_core.proofs.TentPairLemmas.{count-is, listed-tents, others-unpaired, short-unpaired, whole-pairs}
 use Rattle.fields_core.proofs.TentRuleLemmas.{tents-from-solution, tents-tell, solution-from-tents}
+use Rattle.fields_core.proofs.TentWaits.{rested-woken}
 use Rattle.fields_core.proofs.VisitLemmas.{sweep-first, sweep-more}
 use Rattle.fields_core.proofs.Common.{append-nil, append_assoc, eq-eqb, map-append, mul-le-mul_right, ne_eqb, take_all}
 
@@ -57,3 +58,5 @@ pub ruleset tent_rules_laws = (tent-counting, tents-tell, barred-tree, barred-al
 pub ruleset tent_touch_laws = (eq-eqb, ne_eqb)
 
 pub ruleset tent_sweep_laws = (sweep-first, sweep-more)
+
+pub ruleset wait_laws = (rested-woken)

@@ -36,5 +36,7 @@ pub mod TreeBoards
 pub mod TreeWords
 pub mod SquareLemmas
 pub mod SquareVisits
+pub mod IdleLemmas
+pub mod TentWaits
 pub mod TentSweeps
 pub mod LawSets

@@ -25,6 +25,8 @@ use Rattle.fields_core.specs.PlanePosition.{PlacedPlanes, IsUnderWay, standing_b
 use Rattle.fields_core.specs.TentHouses.{is_barred, tent_rules, tent_houses, column_of_tents, row_of_tents, tree_house, square_house}
 use Rattle.fields_core.specs.Tents.{tent_cells, tree}
 use Rattle.fields_core.specs.Trees.{AreRowsOf}
+use Rattle.fields_core.specs.Visits.{IsFieldOf}
+use Rattle.fields_core.proofs.TentSweeps.{alive-each}
 
 -- ---- the sides that the memory is for
 abbrev singles : (ℕ → CountHouse) → ℕ → List CountHouse
@@ -95,6 +97,7 @@ step-onward p p' marks live are further = record {
 pub step-walks : (puzzle : Tents) (s : PlacedPlanes) (p' : Layers) → IsUnderWay puzzle s → IsFurther s.planes p' → IsAlive (tent_rules puzzle) (has p')
     → IsUnderWay puzzle (record s { planes = p' })
 step-walks puzzle s p' walks further alive = record {
+  lawful = walks.lawful;
   fits = walks.fits;
   same_size = further.same_size ∙ walks.same_size;
   trees = walks.trees;
@@ -114,6 +117,7 @@ leave-alive p K cell v alive lt on = is_dead-each p.cells p.values (only K cell 
 pub mark-walks : (puzzle : Tents) (s : PlacedPlanes) (level : ℕ) → IsUnderWay puzzle s → level < puzzle.size.w * puzzle.size.h → level ≤ s.marked → level < length s.marks
     → IsUnderWay puzzle (record s { marks = set s.marks level s.planes.len; marked = level + 1 })
 mark-walks puzzle s level walks lt outer room = record {
+  lawful = walks.lawful;
   fits = walks.fits;
   same_size = walks.same_size;
   trees = walks.trees;
@@ -151,6 +155,7 @@ mark-walks puzzle s level walks lt outer room = record {
 pub undo-walks : (puzzle : Tents) (s : PlacedPlanes) (p' : Layers) (level m : ℕ) → IsUnderWay puzzle s → level < s.marked → m ≡ mark_at s.marks level
     → IsBack s.planes p' m → IsUnderWay puzzle (record s { planes = p'; marked = level + 1 })
 undo-walks puzzle s p' level m walks lt e back = record {
+  lawful = walks.lawful;
   fits = walks.fits;
   same_size = back.same_size ∙ walks.same_size;
   trees = walks.trees;
@@ -161,10 +166,11 @@ undo-walks puzzle s p' level m walks lt e back = record {
 }
 
 -- ---- a board to begin with
-pub start-walks : (puzzle : Tents) (s : PlacedPlanes) → IsLawful (tent_rules puzzle) → FitsIn (needs_of (tent_rules puzzle)) s.made → s.planes.size ≡ puzzle.size → AreRowsOf puzzle.size (tree puzzle) s.trees
+pub start-walks : (puzzle : Tents) (s : PlacedPlanes) → IsTents puzzle → IsLawful (tent_rules puzzle) → FitsIn (needs_of (tent_rules puzzle)) s.made → s.planes.size ≡ puzzle.size → AreRowsOf puzzle.size (tree puzzle) s.trees
     → has s.planes ≡ (tent_rules puzzle).start → s.marked ≡ 0 → IsUnderWay puzzle s
 unfolding start_of all_of
-start-walks puzzle s laws fits size trees start none = record {
+start-walks puzzle s lawful laws fits size trees start none = record {
+  lawful = lawful;
   fits = fits;
   same_size = size;
   trees = trees;
@@ -180,3 +186,15 @@ start-walks puzzle s laws fits size trees start none = record {
 -- ---- the cell to branch on
 pub none-above : (n m : ℕ) (K : Candidates) → m ≤ n → pick n 2 K ≡ None → pick m 2 K ≡ None
 none-above n m K le none = pick-none m K (λ c lt. pick-few n K none c (omega arith))
+
+-- what a closing asks of planes
+pub walks-field : (puzzle : Tents) (s : PlacedPlanes) (places : ℕ) → AreLongFor s.made.scope places → IsUnderWay puzzle s
+    → IsFieldOf places puzzle s.planes s.trees
+walks-field puzzle s places words walks = record {
+  lawful = walks.lawful;
+  narrow = wide-short puzzle places walks.lawful (long-less words walks.fits.scope_in);
+  low = high-short puzzle places walks.lawful (long-less words walks.fits.scope_in);
+  size = walks.same_size;
+  trees = walks.trees;
+  alive = alive-each puzzle s.planes walks.same_size walks.board.alive;
+}

@@ -3,9 +3,9 @@ use Rattle.std.proofs.Common.{◌≡◌, ◌∙◌, ℕ, ◌+◌, ◌*◌, ◌<�
 use Rattle.std.proofs.lemmas.Bool.{cases_Bool}
 use Rattle.std.proofs.lemmas.Grind.{common_steps}
 use Rattle.grid_core.specs.Candidates.{Candidates, IsWithin, count_below, is_dead, max_cells, total}
-use Rattle.grid_core.specs.Planes.{Layers, has, ArePlanes, IsFurther}
+use Rattle.grid_core.specs.Planes.{Layers, has, IsFurther}
 use Rattle.grid_core.proofs.CandidateLemmas.{count_below-pos, is_dead-each, is_dead-here, is_dead-not, within_inside}
-use Rattle.grid_core.proofs.PlaneLemmas.{further-more, further-none, has-within}
+use Rattle.grid_core.proofs.PlaneLemmas.{further-more, further-none}
 use Rattle.engine_core.specs.ClosingList.{IsClosing}
 use Rattle.engine_core.proofs.SweepLemmas.{IsSwept, fewer, sweep-shut, swept-dead, swept-first, swept-idle, swept-turn}
 use Rattle.engine_core.specs.declared.mode.Closing.TheVariants.{Dead, Open}
@@ -16,6 +16,8 @@ use Rattle.fields_core.specs.TentHouses.{column_of_tents, row_of_tents, tent_hou
 use Rattle.fields_core.specs.Tents.{tent_cells, solves_tents}
 use Rattle.fields_core.specs.Visits.{AreVisited, IsTentSweep, after_houses, cell_houses, line_houses, swept}
 use Rattle.fields_core.proofs.TentCounting.{tent-counting, tent-lawful}
+use Rattle.fields_core.proofs.SquareVisits.{squares-are}
+use Rattle.fields_core.proofs.TreeBoards.{trees-are}
 use Rattle.fields_core.proofs.VisitLemmas.{replay-visits}
 
 -- ---- each cell has a value
@@ -46,7 +48,7 @@ unfolding tent_houses
 houses-swept p {from} {to} {fills} size visited =
     let all : AreVisited (tent_houses p) from to fills = rw
     (append_assoc (houses_below (column_of_tents p) p.size.w) (houses_below (row_of_tents p) p.size.h)
-    (cell_houses p)) at visited in
+    (cell_houses p), trees-are p, squares-are p) at visited in
     let is = replay-visits (tent_cells p) (is_barred p) (tent_houses p) (solves_tents p) (has from) in
     record {
       left = λ e. all.left e ∙ sym is;
@@ -65,25 +67,22 @@ pub record AreSweeps (p : Tents) (from : Layers) (sweeps : ℕ) (to : Layers) : 
   pub further : IsFurther from to
 
 pub sweeps-first : (p : Tents) {from : Layers} → from.size ≡ p.size
-    → is_dead (tent_cells p) 2 (has from) ≡ false → AreSweeps p from 0 from
+    → IsAlive from → AreSweeps p from 0 from
 sweeps-first p {from} size alive = record {
-  alive = alive-each p from size alive;
-  swept = swept-first (tent_rules p) (has from) alive;
+  alive = alive;
+  swept = swept-first (tent_rules p) (has from) (alive-all p from size alive);
   further = further-none from;
 }
 
-module _ (p : Tents) {room : ℕ} {from : Layers} {sweeps : ℕ} {to next : Layers} {fills : Bool}
-    (lawful : IsTents p) (size : from.size ≡ p.size) (are : ArePlanes room from)
+module _ (p : Tents) {from : Layers} {sweeps : ℕ} {to next : Layers} {fills : Bool}
+    (lawful : IsTents p) (size : from.size ≡ p.size) (within : IsWithin (tent_cells p) 2 (has from))
     (s : AreSweeps p from sweeps to) (sweep : IsTentSweep p to next fills) where
   -- the sizes stay, and so do the cells
   size-to : to.size ≡ p.size
   size-to = s.further.same_size ∙ size
 
-  within-from : IsWithin (tent_cells p) 2 (has from)
-  within-from = λ c v on. let w = has-within from room are c v on in (rw size at w.0, w.1)
-
   within-to : IsWithin (tent_cells p) 2 (has to)
-  within-to = within_inside (tent_cells p) 2 (has to) (has from) within-from s.further.inside
+  within-to = within_inside (tent_cells p) 2 (has to) (has from) within s.further.inside
 
   alive-next : is_dead (tent_cells p) 2 (has next) ≡ false
   alive-next = alive-all p next (sweep.further.same_size ∙ size-to) sweep.alive
@@ -106,11 +105,11 @@ module _ (p : Tents) {room : ℕ} {from : Layers} {sweeps : ℕ} {to next : Laye
 
   pub closed-dead : fills ≡ false → IsClosing (tent_rules p) (has from) (swept p (has to)) Dead [] (sweeps + 1)
   closed-dead none = swept-dead (tent_rules p) (tent-lawful p lawful) (has from) sweeps
-      (has to) refl within-from s.swept (sweep.dies none)
+      (has to) refl within s.swept (sweep.dies none)
 
   pub closed-open : fills ≡ true → next.len ≡ to.len
       → IsClosing (tent_rules p) (has from) (has next) Open [] (max sweeps 1)
   closed-open full same =
       let idle = sweep.further.same same in
-      swept-idle (tent-lawful p lawful) sweeps refl within-from s.swept (sweep.left full) idle
+      swept-idle (tent-lawful p lawful) sweeps refl within s.swept (sweep.left full) idle
       (sweep-shut (tent_rules p) (has to) (sym (sweep.left full) ∙ idle))

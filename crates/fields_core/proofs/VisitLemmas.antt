@@ -38,7 +38,7 @@ visit-is : (cells : ℕ) (blocked : ℕ → Bool) (houses : List CountHouse) (is
 unfolding after after_house
 visit-is cells blocked houses is_solution h K = refl
 
-house-at : (front : List CountHouse) (house : CountHouse) (back : List CountHouse)
+pub house-at : (front : List CountHouse) (house : CountHouse) (back : List CountHouse)
     → count_house_of (front ++ house ∷ back) (length front) ≡ house
 house-at front house back = get_or-append_seam front house back no_count_house
 

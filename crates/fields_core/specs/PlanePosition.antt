@@ -6,7 +6,7 @@ use Rattle.engine_core.specs.RuleSystem.{RuleSystem, Needs, needs_of, FitsIn}
 use Rattle.engine_core.specs.ClosingList.{IsAlive}
 use Rattle.engine_core.specs.Position.{Standing}
 use Rattle.engine_core.specs.TrailPosition.{mark_at, AreMarks}
-use Rattle.gameid_core.specs.Puzzles.{Tents}
+use Rattle.gameid_core.specs.Puzzles.{Tents, IsTents}
 use Rattle.fields_core.specs.AnyPlanes.{layers_in, places_of, trees_in, AreLongFor}
 use Rattle.fields_core.specs.TentHouses.{tent_rules}
 use Rattle.fields_core.specs.Tents.{tree}
@@ -44,6 +44,7 @@ pub record IsBoard (p : RuleSystem) (K : Candidates) : Type 0 where
 
 -- a walk is under way
 pub record IsUnderWay (puzzle : Tents) (s : PlacedPlanes) : Type 0 where
+  pub lawful : IsTents puzzle
   pub fits : FitsIn (needs_of (tent_rules puzzle)) s.made
   pub same_size : s.planes.size ≡ puzzle.size
   pub trees : AreRowsOf puzzle.size (tree puzzle) s.trees

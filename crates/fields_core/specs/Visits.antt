@@ -1,15 +1,17 @@
 -- Visits of count houses on planes, one after another, and sweeps of all houses of Tents.
-use Rattle.std.specs.Prelude.{◌≡◌, ℕ, ◌<◌, Bool, true, false, List, [], ◌∷◌, ◌++◌}
+use Rattle.std.specs.Prelude.{◌≡◌, ℕ, ◌<◌, ◌≤◌, Bool, true, false, List, [], ◌∷◌, ◌++◌}
 use Rattle.std.specs.List.{range_with_len}
 use Rattle.grid_core.specs.Candidates.{Candidates}
 use Rattle.grid_core.specs.Planes.{Layers, has, cells_of, IsFurther}
 use Rattle.engine_core.specs.Closing.{replay}
 use Rattle.engine_core.specs.ClosingList.{IsDead}
-use Rattle.gameid_core.specs.Puzzles.{Tents}
+use Rattle.gameid_core.specs.Puzzles.{Tents, IsTents}
 use Rattle.fields_core.specs.CountHouse.{CountHouse, after_house, houses_below}
 use Rattle.fields_core.specs.Parts.{IsAlive}
 use Rattle.fields_core.specs.TentHouses.{column_of_tents, row_of_tents, tree_house, square_house, tent_rules}
-use Rattle.fields_core.specs.Tents.{tent_cells}
+use Rattle.fields_core.specs.Tents.{tent_cells, tree}
+use Rattle.fields_core.specs.Trees.{AreRowsOf, trees_of_row}
+use Rattle.fields_core.specs.Squares.{squares_of_row}
 
 -- the board after visits of the houses, one after another
 unfoldable pub after_houses : List CountHouse → Candidates → Candidates
@@ -25,6 +27,15 @@ pub record AreVisited (houses : List CountHouse) (from to : Layers) (fills : Boo
   pub alive : IsAlive to
   pub further : IsFurther from to
 
+-- planes of the puzzle on words of so many places, in which each cell has a value, and the trees of each row
+pub record IsFieldOf (room : ℕ) (p : Tents) (planes : Layers) (words : List ℕ) : Type 0 where
+  pub lawful : IsTents p
+  pub narrow : p.size.w ≤ room
+  pub low : p.size.h ≤ room
+  pub size : planes.size ≡ p.size
+  pub trees : AreRowsOf p.size (tree p) words
+  pub alive : IsAlive planes
+
 -- the houses of the columns and of the rows, and those of the trees and of the squares
 abbrev pub line_houses : Tents → List CountHouse
 line_houses p =
@@ -32,7 +43,7 @@ line_houses p =
 
 abbrev pub cell_houses : Tents → List CountHouse
 cell_houses p =
-    houses_below (tree_house p) (tent_cells p) ++ houses_below (square_house p) (tent_cells p)
+    houses_below (trees_of_row p) p.size.h ++ houses_below (squares_of_row p) p.size.h
 
 -- the board after a sweep: each house is visited once, in ascending order
 abbrev pub swept : Tents → Candidates → Candidates

@@ -13,3 +13,4 @@ pub(crate) mod sweep;
 pub(crate) mod tents;
 pub(crate) mod trees;
 pub(crate) mod visit;
+pub(crate) mod waits;

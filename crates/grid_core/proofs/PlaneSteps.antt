@@ -1,7 +1,9 @@
 -- One step of planes, by the words that the program keeps.
-use Rattle.grid_core.proofs.Common.{ArePlanes, AreTurned, Candidates, Extent, HasRoomFor, IsExtent, IsFresh, IsTakingIn, IsThere, Layers, List, Taking, all_of, and_comm, and_parts, ap, arith, bit_of, cases_Bool, cases_lt, common_steps, div-lt_iff_lt-mul, false, fun_ext, get_or, get_or-map, has, has_bit, inl, inr, layers_of, le-ltb, length, length-map, lt-ltb, ltb, ltb-true, map, map-set, mod-lt, no_taking, refl, set, slice_index, suc, sym, taking_at, taking_of, total, true, zero, ℕ, ◌%◌, ◌&&◌, ◌*◌, ◌+◌, ◌-◌, ◌/◌, ◌<◌, ◌↔◌, ◌∙◌, ◌≡◌, ◌≤◌, ◌⊎◌}
+use Rattle.grid_core.proofs.Common.{ArePlanes, AreTurned, Candidates, Column, Extent, HasRoomFor, IsExtent, IsLineIn, IsFresh, IsTakingIn, IsThere, Layers, List, Row, Taking, all_of, and_comm, and_parts, ap, arith, bit_of, cases_Bool, cases_lt, common_steps, div-lt_iff_lt-mul, false, fun_ext, get_or, get_or-map, has, has_bit, inl, inr, layers_of, le-ltb, length, length-map, lt-ltb, ltb, ltb-true, map, map-set, mod-lt, no_taking, refl, set, slice_index, suc, sym, taking_at, taking_of, total, true, zero, ℕ, ◌%◌, ◌&&◌, ◌*◌, ◌+◌, ◌-◌, ◌/◌, ◌<◌, ◌↔◌, ◌∙◌, ◌≡◌, ◌≤◌, ◌⊎◌}
 use Rattle.grid_core.proofs.CandidateLemmas.{count_below-bound}
 use Rattle.grid_core.specs.declared.planes.line.Change.{Change}
+use Rattle.grid_core.specs.declared.planes.line.Line.{Line}
+use Rattle.grid_core.specs.Planes.{number_of}
 use Rattle.grid_core.proofs.TakingLemmas.{takings-none, takings-len}
 use Rattle.grid_core.proofs.PlaneLemmas.{IsTaken, IsPutBack, taken, given_back, room_for}
 
@@ -131,6 +133,14 @@ pub room_at : {W : Type 0} (bits : W → ℕ) (room : ℕ) (size : Extent) (rows
     → IsTakingIn size t → HasRoomFor room (length rows) (length columns) t
 room_at bits room size rows columns changes len t are within =
     rw (length-map rows bits, length-map columns bits) at (room_for room (layers_of bits size rows columns changes len) t are within)
+
+-- a line of the trail is among those that there is room for
+pub line_room : (room : ℕ) (p : Layers) (k : ℕ) → ArePlanes room p → k < p.len → number_of (taking_at p.takings k).line < room
+line_room room p k are lt = by (taking_at p.takings k).line (taking_at p.takings k).bits (are.takings.takings_in k lt).line_in
+  where
+    by : (line : Line) (bits : ℕ) → IsLineIn p.size line bits → number_of line < room
+    by (Row y) bits within = let low = are.low in omega (arith, low, within.0)
+    by (Column x) bits within = let narrow = are.narrow in omega (arith, narrow, within.0)
 
 -- what was taken last
 pub last_read : {W : Type 0} (bits : W → ℕ) (room : ℕ) (size : Extent) (rows columns : List W)

@@ -7,6 +7,7 @@ use Rattle.grid_core.specs.Words.{has_bit, differ}
 use Rattle.grid_core.specs.declared.planes.line.Line.{Line}
 use Rattle.grid_core.specs.declared.planes.line.Line.TheVariants.{Row, Column}
 use Rattle.grid_core.specs.declared.planes.line.Change.{Change}
+use Rattle.grid_core.specs.declared.planes.touched.Touched.{Touched}
 
 -- whether a line's word of the value has the place
 unfoldable pub bit_of : List ℕ → ℕ → ℕ → ℕ → Bool
@@ -178,3 +179,13 @@ line_len size (Column x) = size.h
 abbrev pub number_of : Line → ℕ
 number_of (Row y) = y
 number_of (Column x) = x
+
+-- the lines of a cell of a row and a column are among these
+abbrev pub AreLinesOf : {W : Type 0} → (W → ℕ) → Touched W → ℕ → ℕ → Type 0
+AreLinesOf bits lines y x =
+    (has_bit (bits lines.columns) x ≡ true) × (has_bit (bits lines.rows) y ≡ true)
+
+-- each cell that has a value in the first board and not in the second has its lines among these, in a grid of so many columns
+abbrev pub IsTouched : {W : Type 0} → (W → ℕ) → ℕ → Candidates → Candidates → Touched W → Type 0
+IsTouched bits w K L lines =
+    (c v : ℕ) → K c v ≡ true → L c v ≡ false → AreLinesOf bits lines (c / w) (c % w)

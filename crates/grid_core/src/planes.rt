@@ -9,6 +9,7 @@ ghost use Rattle.grid_core.specs.Planes.{bit_of, has, cells_of, back_at, without
 pub(crate) mod copies;
 pub(crate) mod judge;
 pub(crate) mod line;
+pub(crate) mod touched;
 pub(crate) mod turn;
 pub(crate) mod word;
 

@@ -2,19 +2,21 @@
 #![tactic(auto)]
 
 ghost use Rattle.std.specs.Prelude.{◌≡◌, ℕ, ◌+◌, ◌*◌, ◌<◌, ◌≤◌, ◌⊎◌, IfOk, length, true, None};
-ghost use Rattle.grid_core.specs.Candidates.{count_below, grid_of, is_full, only, pick};
+ghost use Rattle.grid_core.specs.Candidates.{IsWithin, count_below, grid_of, is_full, only, pick};
 ghost use Rattle.grid_core.specs.Extent.{IsExtent, max_side};
 ghost use Rattle.grid_core.specs.Planes.{has, cells_of, back_at, IsBack, IsFurther};
 ghost use Rattle.engine_core.specs.RuleSystem.{needs_of};
 ghost use Rattle.engine_core.specs.ClosingList.{IsAlive};
 ghost use Rattle.engine_core.specs.Counts.{IsClosedIn};
 ghost use Rattle.engine_core.specs.Position.{IsTaken};
+ghost use Rattle.engine_core.specs.Queue.{IsClosedBut};
 ghost use Rattle.fields_core.specs.AnyPlanes.{layers_in, places_of, trees_in, AreLongFor};
 ghost use Rattle.fields_core.specs.TentHouses.{tent_rules};
-ghost use Rattle.fields_core.specs.Tents.{tree};
+ghost use Rattle.fields_core.specs.Tents.{tent_cells, tree};
 ghost use Rattle.fields_core.specs.Trees.{AreRowsOf};
+ghost use Rattle.fields_core.specs.Visits.{IsFieldOf};
+ghost use Rattle.gameid_core.specs.Puzzles.{IsTents};
 
-use crate::planes::close::close_tents;
 use crate::planes::field::Field;
 use crate::planes::start::start_field;
 use engine_core::Taken;
@@ -66,6 +68,7 @@ impl AnyPlanes {
         requires few { puzzle.now.size.w * puzzle.now.size.h * 2
             ≤ length (layers_in self.old).takings }
         requires rows { places_of self.old ≤ length (trees_in self.old) }
+        ensures lawful { IsTents puzzle.now }
         ensures start { has (layers_in self.new) ≡ (tent_rules puzzle.now).start }
         ensures size { (layers_in self.new).size ≡ puzzle.now.size }
         ensures room { length (layers_in self.new).takings
@@ -80,11 +83,13 @@ impl AnyPlanes {
         }
     }
 
-    /// Closes the board by the puzzle's houses, or finds that its closure is dead.
-    pub(crate) fn close(&mut self, puzzle: &TentsPuzzle) -> Taken
-        requires size { (layers_in self.old).size ≡ puzzle.now.size }
-        requires trees { AreRowsOf puzzle.now.size (tree puzzle.now) (trees_in self.old) }
-        requires alive { IsAlive (tent_rules puzzle.now) (has (layers_in self.old)) }
+    /// Closes the board by the puzzle's houses, or finds that its closure is dead. Where `from` names a cell, the board was
+    /// closed before that cell lost a value.
+    pub(crate) fn close(&mut self, puzzle: &TentsPuzzle, from: Option<usize>) -> Taken
+        requires field { IsFieldOf (places_of self.old) puzzle.now (layers_in self.old)
+            (trees_in self.old) }
+        requires within { IsWithin (tent_cells puzzle.now) 2 (has (layers_in self.old)) }
+        requires closed_but { IsClosedBut (tent_rules puzzle.now) (has (layers_in self.old)) from }
         ensures taken { IsTaken (tent_rules puzzle.now) (has (layers_in self.old))
             (has (layers_in self.new)) result.closing }
         ensures turns { IsClosedIn (tent_rules puzzle.now) (has (layers_in self.old)) result.turns }
@@ -94,8 +99,8 @@ impl AnyPlanes {
         ensures trees { trees_in self.new ≡ trees_in self.old }
     {
         match self {
-            AnyPlanes::Short(field) => close_tents(&mut field.planes, puzzle, &field.trees),
-            AnyPlanes::Long(field) => close_tents(&mut field.planes, puzzle, &field.trees),
+            AnyPlanes::Short(field) => field.close(puzzle, from),
+            AnyPlanes::Long(field) => field.close(puzzle, from),
         }
     }
 

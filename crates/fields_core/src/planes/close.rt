@@ -2,53 +2,55 @@
 #![tactic(auto)]
 
 ghost use Rattle.std.specs.Prelude.{◌≡◌, map};
+ghost use Rattle.grid_core.specs.Candidates.{IsWithin};
 ghost use Rattle.grid_core.specs.Planes.{has, IsFurther};
 ghost use Rattle.engine_core.specs.ClosingList.{IsAlive};
 ghost use Rattle.engine_core.specs.Counts.{IsClosedIn};
 ghost use Rattle.engine_core.specs.Position.{IsTaken};
+ghost use Rattle.engine_core.specs.Queue.{IsClosedBut};
 ghost use Rattle.fields_core.specs.TentHouses.{tent_rules};
-ghost use Rattle.fields_core.specs.Tents.{tree};
-ghost use Rattle.fields_core.specs.Trees.{AreRowsOf};
+ghost use Rattle.fields_core.specs.Tents.{tent_cells};
+ghost use Rattle.fields_core.specs.Visits.{IsFieldOf};
 
-use crate::planes::sweep::sweep_tents;
-use crate::tents::cells::cells;
+use crate::planes::field::Field;
+use crate::planes::waits::Waits;
 use engine_core::{Closing, Taken};
 use gameid_core::TentsPuzzle;
-use grid_core::{Planes, Word};
+use grid_core::Word;
 
-/// Closes the board by sweeps, until one takes nothing or a cell would be left without a value: what board is left then is
-/// open. Those sweeps count that took something, and the one that stopped; one at least.
-pub(crate) fn close_tents<W: Word>(
-    planes: &mut Planes<W>,
-    puzzle: &TentsPuzzle,
-    trees: &[W],
-) -> Taken
-    requires size { planes.old.size ≡ puzzle.now.size }
-    requires trees { AreRowsOf puzzle.now.size (tree puzzle.now) (map W.bits trees.now) }
-    requires alive { IsAlive (tent_rules puzzle.now) (has planes.old) }
-    ensures taken { IsTaken (tent_rules puzzle.now) (has planes.old) (has planes.new)
-        result.closing }
-    ensures turns { IsClosedIn (tent_rules puzzle.now) (has planes.old) result.turns }
-    ensures alive { IsAlive (tent_rules puzzle.now) (has planes.new) }
-    ensures further { IsFurther planes.old planes.new }
-{
-    let _size = planes.size();
-    let _cells = cells(puzzle);
-    let mut sweeps = 0;
-    'closing: loop {
-        let before = planes.len();
-        if !sweep_tents(planes, puzzle, trees) {
-            return Taken {
-                closing: Closing::Dead,
-                turns: sweeps + 1,
-            };
+impl<W: Word> Field<W> {
+    /// Closes the board by sweeps, until one takes nothing or a cell would be left without a value: what board is left then
+    /// is open. Those sweeps count that took something, and the one that stopped; one at least. Where `from` names a cell,
+    /// the board was closed before that cell lost a value.
+    pub(crate) fn close(&mut self, puzzle: &TentsPuzzle, from: Option<usize>) -> Taken
+        requires field { IsFieldOf W.room puzzle.now self.old.planes
+            (map W.bits self.old.trees.items) }
+        requires within { IsWithin (tent_cells puzzle.now) 2 (has self.old.planes) }
+        requires closed_but { IsClosedBut (tent_rules puzzle.now) (has self.old.planes) from }
+        ensures taken { IsTaken (tent_rules puzzle.now) (has self.old.planes)
+            (has self.new.planes) result.closing }
+        ensures turns { IsClosedIn (tent_rules puzzle.now) (has self.old.planes) result.turns }
+        ensures alive { IsAlive (tent_rules puzzle.now) (has self.new.planes) }
+        ensures further { IsFurther self.old.planes self.new.planes }
+        ensures trees { self.new.trees ≡ self.old.trees }
+    {
+        self.waits = Waits::new(&self.planes, puzzle, from);
+        let mut sweeps = 0;
+        'closing: loop {
+            let before = self.planes.len();
+            if !self.sweep(puzzle) {
+                return Taken {
+                    closing: Closing::Dead,
+                    turns: sweeps + 1,
+                };
+            }
+            if self.planes.len() == before {
+                return Taken {
+                    closing: Closing::Open,
+                    turns: sweeps.max(1),
+                };
+            }
+            sweeps += 1;
         }
-        if planes.len() == before {
-            return Taken {
-                closing: Closing::Open,
-                turns: sweeps.max(1),
-            };
-        }
-        sweeps += 1;
     }
 }

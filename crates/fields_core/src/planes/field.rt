@@ -3,14 +3,16 @@
 
 ghost use Rattle.std.specs.Prelude.{◌≡◌, ◌*◌, ◌≤◌, IfOk, length};
 
+use crate::planes::waits::Waits;
 use grid_core::{Planes, Size, Word};
 use std::alloc::{AllocError, Global};
 
-/// Planes, and the trees of each row.
+/// Planes, the trees of each row, and what waits while a closing goes on.
 #[derive(Drop)]
 pub(crate) struct Field<W: Word> {
     pub(crate) planes: Planes<W>,
     pub(crate) trees: Vec<W>,
+    pub(crate) waits: Waits<W>,
 }
 
 impl<W: Word> Field<W> {
@@ -32,6 +34,7 @@ impl<W: Word> Field<W> {
         Ok(Field {
             planes: Planes::new(alloc, size)?,
             trees,
+            waits: Waits::all(),
         })
     }
 }

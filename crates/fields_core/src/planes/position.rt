@@ -91,8 +91,8 @@ impl Position for PlanePosition {
         self.marked = 0;
     }
 
-    fn close(&mut self, rules: &TentRules, _from: Option<usize>) -> Taken {
-        self.planes.close(rules.set().puzzle())
+    fn close(&mut self, rules: &TentRules, from: Option<usize>) -> Taken {
+        self.planes.close(rules.set().puzzle(), from)
     }
 
     fn pick(&self, rules: &TentRules, from: usize) -> Option<usize> {

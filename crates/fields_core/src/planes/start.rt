@@ -56,6 +56,7 @@ pub(crate) fn start_field<W: Word>(field: &mut Field<W>, puzzle: &TentsPuzzle)
     requires long { AreLongFor (needs_of (tent_rules puzzle.now)).scope W.room }
     requires few { puzzle.now.size.w * puzzle.now.size.h * 2 ≤ length field.old.planes.takings }
     requires rows { W.room ≤ length field.old.trees.items }
+    ensures lawful { IsTents puzzle.now }
     ensures start { has field.new.planes ≡ (tent_rules puzzle.now).start }
     ensures size { field.new.planes.size ≡ puzzle.now.size }
     ensures room { length field.new.planes.takings ≡ length field.old.planes.takings }

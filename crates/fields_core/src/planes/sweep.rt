@@ -1,110 +1,124 @@
 //! A sweep of the houses of Tents on planes.
 #![tactic(auto, using(crate::proofs::LawSets::tent_sweep_laws))]
 
-ghost use Rattle.std.specs.Prelude.{◌≡◌, map};
+ghost use Rattle.std.specs.Prelude.{◌≡◌, ◌<◌, true, map};
+ghost use Rattle.grid_core.specs.Planes.{has};
 ghost use Rattle.fields_core.specs.CountHouse.{houses_below};
-ghost use Rattle.fields_core.specs.Parts.{IsAlive};
-ghost use Rattle.fields_core.specs.TentHouses.{column_of_tents, row_of_tents, tree_house, square_house};
-ghost use Rattle.fields_core.specs.Tents.{tent_cells, tree};
-ghost use Rattle.fields_core.specs.Trees.{AreRowsOf};
-ghost use Rattle.fields_core.specs.Visits.{AreVisited, IsTentSweep, line_houses, cell_houses};
+ghost use Rattle.fields_core.specs.Visits.{AreVisited, IsFieldOf, IsTentSweep, cell_houses, line_houses};
+ghost use Rattle.fields_core.specs.Waits.{AreRested, kind_houses, kind_lines};
 
+use crate::planes::field::Field;
 use crate::planes::squares::visit_squares;
 use crate::planes::tents::{visit_column, visit_row};
 use crate::planes::trees::visit_trees;
+use crate::planes::waits::Kind;
 use gameid_core::TentsPuzzle;
-use grid_core::{Planes, Word};
+use grid_core::Word;
 
-/// Visits the houses of the columns, up to one that has no filling.
-fn sweep_columns<W: Word>(planes: &mut Planes<W>, puzzle: &TentsPuzzle) -> bool
-    requires size { planes.old.size ≡ puzzle.now.size }
-    requires alive { IsAlive planes.old }
-    ensures { AreVisited (houses_below (column_of_tents puzzle.now) puzzle.now.size.w)
-        planes.old planes.new result }
-{
-    for x in 0..puzzle.size().w() {
-        if !visit_column(planes, puzzle, x) {
-            return false;
+impl<W: Word> Field<W> {
+    /// Visits the houses of a kind at a line.
+    fn visit(&mut self, puzzle: &TentsPuzzle, kind: Kind, line: u8) -> bool
+        requires field { IsFieldOf W.room puzzle.now self.old.planes
+            (map W.bits self.old.trees.items) }
+        requires line_in { line < kind_lines puzzle.now kind }
+        ensures visited { AreVisited (kind_houses puzzle.now kind line) self.old.planes
+            self.new.planes result }
+        ensures trees { self.new.trees ≡ self.old.trees }
+        ensures waits { self.new.waits ≡ self.old.waits }
+    {
+        match kind {
+            Kind::Columns => visit_column(&mut self.planes, puzzle, line),
+            Kind::Rows => visit_row(&mut self.planes, puzzle, line),
+            Kind::Trees => visit_trees(&mut self.planes, &self.trees, line),
+            Kind::Squares => visit_squares(&mut self.planes, puzzle, line),
         }
     }
-    true
-}
 
-/// Visits the houses of the rows, up to one that has no filling.
-fn sweep_rows<W: Word>(planes: &mut Planes<W>, puzzle: &TentsPuzzle) -> bool
-    requires size { planes.old.size ≡ puzzle.now.size }
-    requires alive { IsAlive planes.old }
-    ensures { AreVisited (houses_below (row_of_tents puzzle.now) puzzle.now.size.h)
-        planes.old planes.new result }
-{
-    for y in 0..puzzle.size().h() {
-        if !visit_row(planes, puzzle, y) {
+    /// Visits the houses of a kind at a line if they wait, and wakes what has a cell that lost a value.
+    fn turn(&mut self, puzzle: &TentsPuzzle, kind: Kind, line: u8) -> bool
+        requires field { IsFieldOf W.room puzzle.now self.old.planes
+            (map W.bits self.old.trees.items) }
+        requires line_in { line < kind_lines puzzle.now kind }
+        requires rested { AreRested W.bits puzzle.now self.old.waits (has self.old.planes) }
+        ensures visited { AreVisited (kind_houses puzzle.now kind line) self.old.planes
+            self.new.planes result }
+        ensures rested { result ≡ true
+            → AreRested W.bits puzzle.now self.new.waits (has self.new.planes) }
+        ensures trees { self.new.trees ≡ self.old.trees }
+    {
+        if !self.waits.has(kind, line) {
+            return true;
+        }
+        let len = self.planes.len();
+        if !self.visit(puzzle, kind, line) {
             return false;
         }
-    }
-    true
-}
-
-/// Visits the houses of the trees, up to one that has no filling.
-fn sweep_trees<W: Word>(planes: &mut Planes<W>, puzzle: &TentsPuzzle, trees: &[W]) -> bool
-    requires size { planes.old.size ≡ puzzle.now.size }
-    requires trees { AreRowsOf puzzle.now.size (tree puzzle.now) (map W.bits trees.now) }
-    requires alive { IsAlive planes.old }
-    ensures { AreVisited (houses_below (tree_house puzzle.now) (tent_cells puzzle.now))
-        planes.old planes.new result }
-{
-    for y in 0..puzzle.size().h() {
-        if !visit_trees(planes, trees, y) {
-            return false;
+        if self.planes.len() == len {
+            self.waits.settle(kind, line);
+        } else {
+            self.waits.wake(&self.planes, len);
         }
+        true
     }
-    true
-}
 
-/// Visits the houses of the squares, up to one that has no filling.
-fn sweep_squares<W: Word>(planes: &mut Planes<W>, puzzle: &TentsPuzzle) -> bool
-    requires size { planes.old.size ≡ puzzle.now.size }
-    requires alive { IsAlive planes.old }
-    ensures { AreVisited (houses_below (square_house puzzle.now) (tent_cells puzzle.now))
-        planes.old planes.new result }
-{
-    for y in 0..puzzle.size().h() {
-        if !visit_squares(planes, puzzle, y) {
-            return false;
+    /// Visits the houses of a kind, up to one that has no filling.
+    fn sweep_kind(&mut self, puzzle: &TentsPuzzle, kind: Kind) -> bool
+        requires field { IsFieldOf W.room puzzle.now self.old.planes
+            (map W.bits self.old.trees.items) }
+        requires rested { AreRested W.bits puzzle.now self.old.waits (has self.old.planes) }
+        ensures visited { AreVisited
+            (houses_below (kind_houses puzzle.now kind) (kind_lines puzzle.now kind))
+            self.old.planes self.new.planes result }
+        ensures rested { result ≡ true
+            → AreRested W.bits puzzle.now self.new.waits (has self.new.planes) }
+        ensures trees { self.new.trees ≡ self.old.trees }
+    {
+        for line in 0..kind.lines(puzzle) {
+            if !self.turn(puzzle, kind, line) {
+                return false;
+            }
         }
+        true
     }
-    true
-}
 
-/// Visits the houses of the lines, up to one that has no filling.
-fn sweep_lines<W: Word>(planes: &mut Planes<W>, puzzle: &TentsPuzzle) -> bool
-    requires size { planes.old.size ≡ puzzle.now.size }
-    requires alive { IsAlive planes.old }
-    ensures { AreVisited (line_houses puzzle.now) planes.old planes.new result }
-{
-    sweep_columns(planes, puzzle) && sweep_rows(planes, puzzle)
-}
+    /// Visits the houses of the lines, up to one that has no filling.
+    fn sweep_lines(&mut self, puzzle: &TentsPuzzle) -> bool
+        requires field { IsFieldOf W.room puzzle.now self.old.planes
+            (map W.bits self.old.trees.items) }
+        requires rested { AreRested W.bits puzzle.now self.old.waits (has self.old.planes) }
+        ensures visited { AreVisited (line_houses puzzle.now) self.old.planes self.new.planes
+            result }
+        ensures rested { result ≡ true
+            → AreRested W.bits puzzle.now self.new.waits (has self.new.planes) }
+        ensures trees { self.new.trees ≡ self.old.trees }
+    {
+        self.sweep_kind(puzzle, Kind::Columns) && self.sweep_kind(puzzle, Kind::Rows)
+    }
 
-/// Visits the houses of the cells, up to one that has no filling.
-fn sweep_cells<W: Word>(planes: &mut Planes<W>, puzzle: &TentsPuzzle, trees: &[W]) -> bool
-    requires size { planes.old.size ≡ puzzle.now.size }
-    requires trees { AreRowsOf puzzle.now.size (tree puzzle.now) (map W.bits trees.now) }
-    requires alive { IsAlive planes.old }
-    ensures { AreVisited (cell_houses puzzle.now) planes.old planes.new result }
-{
-    sweep_trees(planes, puzzle, trees) && sweep_squares(planes, puzzle)
-}
+    /// Visits the houses of the cells, up to one that has no filling.
+    fn sweep_cells(&mut self, puzzle: &TentsPuzzle) -> bool
+        requires field { IsFieldOf W.room puzzle.now self.old.planes
+            (map W.bits self.old.trees.items) }
+        requires rested { AreRested W.bits puzzle.now self.old.waits (has self.old.planes) }
+        ensures visited { AreVisited (cell_houses puzzle.now) self.old.planes self.new.planes
+            result }
+        ensures rested { result ≡ true
+            → AreRested W.bits puzzle.now self.new.waits (has self.new.planes) }
+        ensures trees { self.new.trees ≡ self.old.trees }
+    {
+        self.sweep_kind(puzzle, Kind::Trees) && self.sweep_kind(puzzle, Kind::Squares)
+    }
 
-/// Visits each house once, in ascending order, up to one that has no filling. Says whether there is none such.
-pub(crate) fn sweep_tents<W: Word>(
-    planes: &mut Planes<W>,
-    puzzle: &TentsPuzzle,
-    trees: &[W],
-) -> bool
-    requires size { planes.old.size ≡ puzzle.now.size }
-    requires trees { AreRowsOf puzzle.now.size (tree puzzle.now) (map W.bits trees.now) }
-    requires alive { IsAlive planes.old }
-    ensures { IsTentSweep puzzle.now planes.old planes.new result }
-{
-    sweep_lines(planes, puzzle) && sweep_cells(planes, puzzle, trees)
+    /// Visits each house once, in ascending order, up to one that has no filling. Says whether there is none such.
+    pub(crate) fn sweep(&mut self, puzzle: &TentsPuzzle) -> bool
+        requires field { IsFieldOf W.room puzzle.now self.old.planes
+            (map W.bits self.old.trees.items) }
+        requires rested { AreRested W.bits puzzle.now self.old.waits (has self.old.planes) }
+        ensures swept { IsTentSweep puzzle.now self.old.planes self.new.planes result }
+        ensures rested { result ≡ true
+            → AreRested W.bits puzzle.now self.new.waits (has self.new.planes) }
+        ensures trees { self.new.trees ≡ self.old.trees }
+    {
+        self.sweep_lines(puzzle) && self.sweep_cells(puzzle)
+    }
 }

@@ -14,5 +14,5 @@ start-requires-clause-rows c = c.self.invariant.0.rows
 pub returns-clause-walks : goal.returns-clause-walks
 returns-clause-walks c =
     let r = rw (← c.self.view_is) at c.requires in
-    start-walks _ _ (count-lawful _ _ _ _ c.args.rules.now.set.counting) r
+    start-walks _ _ (rw (c.puzzle.ensures, c.set.ensures) at c.start.ensures.lawful) (count-lawful _ _ _ _ c.args.rules.now.set.counting) r
     (rw (c.puzzle.ensures, c.set.ensures) at c.start.ensures.size) (rw (c.puzzle.ensures, c.set.ensures) at c.start.ensures.trees) (rw (c.puzzle.ensures, c.set.ensures) at c.start.ensures.start) refl

@@ -1,0 +1,105 @@
+-- Houses whose visits take nothing, and what is left of a board that has changed far from them.
+use Rattle.fields_core.proofs.Common.{Bool, Candidates, CountHouse, Layers, List, [], after_house, ap, arith, cases_Bool, common_steps, false, fun_ext, has_place, houses_below, inl, inr, length, or_cases, refl, suc, sym, true, true≢false, zero, ℕ, ◌&&◌, ◌++◌, ◌+◌, ◌-◌, ◌<◌, ◌||◌, ◌∙◌, ◌∷◌, ◌≡◌}
+use Rattle.std.specs.List.{list_any}
+use Rattle.std.proofs.lemmas.List.{append-nil}
+use Rattle.std.proofs.lemmas.List.Folds.{list_any-append}
+use Rattle.std.proofs.lemmas.Bool.{false_from_ne_true}
+use Rattle.grid_core.specs.Candidates.{IsInside}
+use Rattle.grid_core.specs.Planes.{has, IsFurther}
+use Rattle.grid_core.proofs.PlaneLemmas.{further-none}
+use Rattle.engine_core.specs.HouseSetsLaws.{strikes_at-inside, strikes_at-in_scope, by_fillings-monotone}
+use Rattle.fields_core.specs.CountHouse.{strikes_of}
+use Rattle.fields_core.specs.Parts.{IsAlive}
+use Rattle.fields_core.specs.Visits.{AreVisited, after_houses}
+use Rattle.fields_core.specs.Waits.{AreIdle}
+use Rattle.fields_core.proofs.VisitLemmas.{after-inside, below-next, below-rest, visits-inside}
+
+-- ---- one house
+-- the cells that lost a value are none of the places
+abbrev pub IsFar : (ℕ → Bool) → Candidates → Candidates → Type 0
+IsFar has_it K L = (c v : ℕ) → K c v ≡ true → L c v ≡ false → has_it c ≡ false
+
+stays : (a b d : Bool) → (a && b) ≡ a → (d ≡ true → a ≡ true) → (a && d) ≡ d → (d && b) ≡ d
+stays a b d e f g = grind (arith, common_steps, cases_Bool a, cases_Bool b, cases_Bool d)
+
+house-far : (house : CountHouse) (K L : Candidates) → IsInside L K → IsFar (has_place house.places) K L
+    → after_house house K ≡ K → after_house house L ≡ L
+unfolding after_house strikes_of
+house-far house K L inside far idle = fun_ext λ c. fun_ext λ v. elim (cases_Bool (strikes_of house L c v)) [
+  | inr off ↦ rw off (grind (arith, common_steps, cases_Bool (L c v)))
+  | inl on ↦ elim (cases_Bool (L c v)) [
+    | inr out ↦ rw out refl
+    | inl there ↦ absurd (true≢false (sym (inside c v there) ∙ ap (λ (M : Candidates). M c v) (sym idle)
+        ∙ rw (inside c v there, struck c v on) refl))
+  ]
+]
+  where
+    near : (c v : ℕ) → has_place house.places c ≡ true → K c v ≡ true → L c v ≡ true
+    near c v here on = grind (arith, common_steps, cases_Bool (L c v), far c v on)
+
+    struck : (c v : ℕ) → strikes_of house L c v ≡ true → strikes_of house K c v ≡ true
+    struck c v on = strikes_at-inside 2 house.places _ (by_fillings-monotone _) K L near c v on
+
+-- ---- lists of houses
+-- a house of the list has the place
+unfoldable pub any_has : List CountHouse → ℕ → Bool
+any_has houses c = list_any (λ house. has_place house.places c) houses
+
+idle-first : (house : CountHouse) (houses : List CountHouse) (K : Candidates) → AreIdle (house ∷ houses) K → after_house house K ≡ K
+unfolding after_houses
+idle-first house houses K idle = fun_ext λ c. fun_ext λ v. elim (cases_Bool (K c v)) [
+  | inl on ↦ visits-inside houses (after_house house K) c v (ap (λ (L : Candidates). L c v) idle ∙ on) ∙ sym on
+  | inr off ↦ false_from_ne_true _ (λ on. true≢false (sym (after-inside house K c v on) ∙ off)) ∙ sym off
+]
+
+idle-rest : (house : CountHouse) (houses : List CountHouse) (K : Candidates) → AreIdle (house ∷ houses) K → AreIdle houses K
+unfolding after_houses
+idle-rest house houses K idle = rw (idle-first house houses K idle) at idle
+
+-- houses far from what has changed stay idle
+pub idle-far : (houses : List CountHouse) (K L : Candidates) → IsInside L K → IsFar (any_has houses) K L → AreIdle houses K → AreIdle houses L
+unfolding after_houses any_has
+idle-far [] K L inside far idle = refl
+idle-far (house ∷ houses) K L inside far idle =
+    rw (house-far house K L inside (λ c v on off. (far-of c v on off).0) (idle-first house houses K idle))
+    (idle-far houses K L inside (λ c v on off. (far-of c v on off).1) (idle-rest house houses K idle))
+  where
+    far-of : (c v : ℕ) → K c v ≡ true → L c v ≡ false → (has_place house.places c ≡ false) × (any_has houses c ≡ false)
+    far-of c v on off = let e = far c v on off in
+        (grind (arith, common_steps, cases_Bool (has_place house.places c)), grind (arith, common_steps, cases_Bool (any_has houses c)))
+
+-- a visit that takes nothing leaves its houses idle; and a visit of idle houses takes nothing
+pub idle-visited : {houses : List CountHouse} {from to : Layers} {fills : Bool} → AreVisited houses from to fills → fills ≡ true
+    → to.len ≡ from.len → AreIdle houses (has to)
+idle-visited {houses} visited full same =
+    let e = visited.further.same same in
+    ap (after_houses houses) e ∙ sym (visited.left full)
+
+pub visited-idle : (houses : List CountHouse) {p : Layers} → IsAlive p → AreIdle houses (has p) → AreVisited houses p p true
+visited-idle houses {p} alive idle = record {
+  left = λ _. sym idle;
+  dies = λ e. absurd (true≢false e);
+  alive = alive;
+  further = further-none p;
+}
+
+-- ---- a list among others
+pub any-append : (front back : List CountHouse) (c : ℕ) → any_has (front ++ back) c ≡ (any_has front c || any_has back c)
+unfolding any_has
+any-append front back c = list_any-append (λ house. has_place house.places c) front back
+
+pub any-below : (f : ℕ → List CountHouse) (n c : ℕ) → any_has (houses_below f n) c ≡ true → (k : ℕ) × (k < n) × (any_has (f k) c ≡ true)
+unfolding any_has houses_below
+any-below f zero c on = absurd (true≢false (sym on))
+any-below f (suc n) c on = elim (or_cases _ _ (sym (any-append (houses_below f n) (f n) c) ∙ on)) [
+  | inl less ↦ let w = any-below f n c less in (w.0, omega (arith, w.1), w.2)
+  | inr here ↦ (n, omega arith, here)
+]
+
+pub any-none : (c : ℕ) → any_has [] c ≡ false
+unfolding any_has
+any-none c = refl
+
+pub any-one : (house : CountHouse) (c : ℕ) → any_has (house ∷ []) c ≡ true → has_place house.places c ≡ true
+unfolding any_has
+any-one house c on = grind (arith, common_steps, cases_Bool (has_place house.places c))

@@ -1,0 +1,251 @@
+-- What waits of Tents: where its houses lie, what stays idle, and what is idle where a closing begins.
+use Rattle.fields_core.proofs.Common.{Bool, Candidates, CountHouse, Option, eq-eqb, free_beside, one_at_least, Layers, Some, eqb-true, List, [], after_house, and_parts, ap, append_assoc, arith, cases_Bool, common_steps, div-mul-add, eqb, false, false_from_ne_true, fun_ext, has_bit, has_place, has_place-at, houses_below, inl, inr, length, ltb, ltb-true, lt-ltb, mod-lt, not, or_cases, place-filter, refl, slice_index, suc, sym, tree, tree_house, tent_cells, true, true≢false, zero, ℕ, ◌%◌, ◌&&◌, ◌*◌, ◌++◌, ◌+◌, ◌-◌, ◌/◌, ◌<◌, ◌||◌, ◌∙◌, ◌∷◌, ◌≡◌, ◌≤◌, ◌⊎◌, length-append}
+use Rattle.std.proofs.lemmas.List.FromFn.{length-map-range_with_len, get_or-map-range_with_len}
+use Rattle.grid_core.specs.Candidates.{IsInside}
+use Rattle.grid_core.specs.Planes.{has, back_at, AreLinesOf, ArePlanes, IsFurther, IsTouched}
+use Rattle.grid_core.specs.Regions.{step, beside, row_places, column_places}
+use Rattle.grid_core.specs.declared.planes.touched.Touched.{Touched}
+use Rattle.grid_core.proofs.PlaneLemmas.{place-column}
+use Rattle.grid_core.proofs.TakingLemmas.{put_back-none}
+use Rattle.engine_core.specs.Queue.{IsClosedAround, IsClosedBut}
+use Rattle.gameid_core.specs.Puzzles.{Tents}
+use Rattle.fields_core.specs.CountHouse.{count_house_of, one_at_most, strikes_of}
+use Rattle.fields_core.specs.Squares.{squares_of_row}
+use Rattle.fields_core.specs.TentHouses.{column_of_tents, row_of_tents, square_house, tent_houses, tent_rules}
+use Rattle.fields_core.specs.Trees.{trees_of_row}
+use Rattle.fields_core.specs.Visits.{after_houses}
+use Rattle.fields_core.specs.Waits.{AreIdle, AreRested, AreWoken, kind_houses, kind_lines, waiting}
+use Rattle.fields_core.specs.declared.planes.waits.Kind.{Kind}
+use Rattle.fields_core.specs.declared.planes.waits.Kind.TheVariants.{Columns, Rows, Trees, Squares}
+use Rattle.fields_core.specs.declared.planes.waits.Waits.{Waits}
+use Rattle.fields_core.proofs.CellLemmas.{has-append}
+use Rattle.fields_core.proofs.IdleLemmas.{any_has, any-below, any-none, any-one, idle-far}
+use Rattle.fields_core.proofs.SquareLemmas.{square-has}
+use Rattle.fields_core.proofs.SquareVisits.{squares-are}
+use Rattle.fields_core.proofs.StepLaws.{step-down, step-left, step-right, step-up, steps-some}
+use Rattle.fields_core.proofs.TentBeside.{cell-after, cell-below, cell-parts, row-in}
+use Rattle.fields_core.proofs.TentVisits.{square_places}
+use Rattle.fields_core.proofs.TreeBoards.{trees-are}
+use Rattle.fields_core.proofs.VisitLemmas.{below-next, below-rest, house-at}
+
+-- ---- where houses lie
+module _ (p : Tents) (c : ℕ) (pos : 0 < p.size.w) where
+  column-lies : {x : ℕ} → x < p.size.w → any_has (column_of_tents p x) c ≡ true → c % p.size.w ≡ x
+  column-lies {x} lt on =
+      let w = has_place-at (column_places p.size x) c (any-one _ c on) in
+      let lk : w.0 < p.size.h = omega (arith, w.1, length-map-range_with_len (λ y. y * p.size.w + x) 0 p.size.h) in
+      let at : w.0 * p.size.w + x ≡ c = sym (get_or-map-range_with_len (λ y. y * p.size.w + x) 0 p.size.h w.0 w.0 0 lk (omega arith)) ∙ w.2 in
+      (cell-parts p.size.w w.0 x c lt (sym at)).1
+
+  row-lies : {y : ℕ} → any_has (row_of_tents p y) c ≡ true → c / p.size.w ≡ y
+  row-lies {y} on =
+      let w = has_place-at (row_places p.size y) c (any-one _ c on) in
+      let lk : w.0 < p.size.w = omega (arith, w.1, length-map-range_with_len (λ x. y * p.size.w + x) 0 p.size.w) in
+      let at : y * p.size.w + w.0 ≡ c = sym (get_or-map-range_with_len (λ x. y * p.size.w + x) 0 p.size.w w.0 w.0 0 lk (omega arith)) ∙ w.2 in
+      (cell-parts p.size.w y w.0 c lk (sym at)).0
+
+  beside-lies : (y x k : ℕ) → x < p.size.w → k < 4 → step p.size (y * p.size.w + x) k ≡ Some c
+      → (c / p.size.w ≡ y) ⊎ ((c / p.size.w + 1 ≡ y) ⊎ (c / p.size.w ≡ y + 1))
+  beside-lies y x zero lt less e =
+      let own = cell-parts p.size.w y x (y * p.size.w + x) lt refl in
+      let up = step-up p.size _ c e in
+      inr (inl (sym (cell-below c pos).0 ∙ ap (λ n. n / p.size.w) up ∙ own.0))
+  beside-lies y x (suc zero) lt less e =
+      let own = cell-parts p.size.w y x (y * p.size.w + x) lt refl in
+      let left = step-left p.size _ c e in
+      let some : 1 ≤ x = rw own.1 at left.1 in
+      inl (cell-parts p.size.w y (x - 1) c (omega arith) (let a = left.0 in omega arith)).0
+  beside-lies y x (suc (suc zero)) lt less e =
+      let own = cell-parts p.size.w y x (y * p.size.w + x) lt refl in
+      let right = step-right p.size _ c e in
+      inl (ap (λ n. n / p.size.w) right.0 ∙ (cell-after p.size.w _ right.1).0 ∙ own.0)
+  beside-lies y x (suc (suc (suc zero))) lt less e =
+      let own = cell-parts p.size.w y x (y * p.size.w + x) lt refl in
+      let down = step-down p.size _ c e in
+      inr (inr (ap (λ n. n / p.size.w) down.0 ∙ (cell-below _ pos).0 ∙ ap (λ n. n + 1) own.0))
+  beside-lies y x (suc (suc (suc (suc k)))) lt less e = absurd (omega arith)
+
+  trees-lie : {y : ℕ} → any_has (trees_of_row p y) c ≡ true
+      → (c / p.size.w ≡ y) ⊎ ((c / p.size.w + 1 ≡ y) ⊎ (c / p.size.w ≡ y + 1))
+  trees-lie {y} on =
+      let w = any-below (λ x. tree_house p (y * p.size.w + x)) p.size.w c on in
+      by w.0 w.1 (cases_Bool (tree p (y * p.size.w + w.0))) w.2
+    where
+      by : (x : ℕ) → x < p.size.w → (tree p (y * p.size.w + x) ≡ true) ⊎ (tree p (y * p.size.w + x) ≡ false)
+          → any_has (tree_house p (y * p.size.w + x)) c ≡ true → (c / p.size.w ≡ y) ⊎ ((c / p.size.w + 1 ≡ y) ⊎ (c / p.size.w ≡ y + 1))
+      by x lt (inr off) here = absurd (true≢false (sym (rw off at here) ∙ any-none c))
+      by x lt (inl is) here =
+          let there = any-one (one_at_least (free_beside p (y * p.size.w + x))) c (rw is at here) in
+          let s = steps-some p.size (y * p.size.w + x) 4 c (place-filter (λ d. not (tree p d)) _ c there).0 in
+          beside-lies y x s.0 lt s.1 s.2
+
+  squares-lie : {y : ℕ} → any_has (squares_of_row p y) c ≡ true → (c / p.size.w ≡ y) ⊎ (c / p.size.w ≡ y + 1)
+  squares-lie {y} on =
+      let w = any-below (λ x. square_house p (y * p.size.w + x)) p.size.w c on in
+      by w.0 w.1 (cases_Bool (ltb ((y * p.size.w + w.0) % p.size.w + 1) p.size.w && ltb ((y * p.size.w + w.0) / p.size.w + 1) p.size.h)) w.2
+    where
+      by : (x : ℕ) → x < p.size.w → ((ltb ((y * p.size.w + x) % p.size.w + 1) p.size.w && ltb ((y * p.size.w + x) / p.size.w + 1) p.size.h) ≡ true)
+          ⊎ ((ltb ((y * p.size.w + x) % p.size.w + 1) p.size.w && ltb ((y * p.size.w + x) / p.size.w + 1) p.size.h) ≡ false)
+          → any_has (square_house p (y * p.size.w + x)) c ≡ true → (c / p.size.w ≡ y) ⊎ (c / p.size.w ≡ y + 1)
+      by x lt (inr off) here = absurd (true≢false (sym (rw off at here) ∙ any-none c))
+      by x lt (inl is) here =
+          let own = (cell-parts p.size.w y x (y * p.size.w + x) lt refl).1 in
+          let less : (y * p.size.w + x) % p.size.w + 1 < p.size.w = ltb-true _ _ (and_parts _ _ is).0 in
+          let wide : x + 1 < p.size.w = rw own at less in
+          let one = any-one (one_at_most (square_places p.size.w (y * p.size.w + x))) c (rw is at here) in
+          let there = sym (square-has p.size.w y x c wide) ∙ one in
+          elim (or_cases _ _ (and_parts _ _ there).0) [
+            | inl upper ↦ inl (eqb-true _ _ upper)
+            | inr lower ↦ inr (eqb-true _ _ lower)
+          ]
+
+both_off : {a b : Bool} → (a || b) ≡ false → (a ≡ false) × (b ≡ false)
+both_off {a} {b} e = (grind (arith, common_steps, cases_Bool a), grind (arith, common_steps, cases_Bool a))
+
+-- ---- a cell in lines that have changed, and what does not wait
+-- where houses do not wait, none of them has the cell
+abbrev pub AreOff : {W : Type 0} → (W → ℕ) → Tents → Waits W → ℕ → Type 0
+AreOff bits p now c = (kind : Kind) (k : ℕ) → k < kind_lines p kind → has_bit (waiting bits now kind) k ≡ false → any_has (kind_houses p kind k) c ≡ false
+
+module _ {W : Type 0} (bits : W → ℕ) {room : ℕ} (p : Tents) {before now : Waits W} {touched : Touched W}
+    (pos : 0 < p.size.w) (low : p.size.h ≤ room) (woken : AreWoken bits room before touched now) where
+  pub woken-off : (c : ℕ) → AreLinesOf bits touched (c / p.size.w) (c % p.size.w) → AreOff bits p now c
+  woken-off c on kind k lt off = false_from_ne_true _ (by kind lt off)
+    where
+      rows_are : {k : ℕ} → c / p.size.w ≡ k → has_bit (bits touched.rows) k ≡ true
+      rows_are e = rw e at on.1
+
+      tree : (k : ℕ) → k < p.size.h → has_bit (bits now.trees) k ≡ false
+          → (c / p.size.w ≡ k) ⊎ ((c / p.size.w + 1 ≡ k) ⊎ (c / p.size.w ≡ k + 1)) → ⊥
+      tree k lt off (inl own) =
+          true≢false (sym (rows_are own) ∙ (both_off (both_off (both_off (sym (woken.trees k) ∙ off)).1).0).1)
+      tree k lt off (inr (inl above)) =
+          let e : has_bit (bits touched.rows) (k - 1) ≡ true = rows_are (omega (arith, above)) in
+          let f : (ltb k room && (ltb 0 k && has_bit (bits touched.rows) (k - 1))) ≡ false =
+              (both_off (both_off (both_off (sym (woken.trees k) ∙ off)).1).0).0 in
+          true≢false (rw (lt-ltb k room (omega (arith, lt, low)), lt-ltb 0 k (omega (arith, above)), e) at f)
+      tree k lt off (inr (inr below)) =
+          true≢false (sym (rows_are below) ∙ (both_off (both_off (sym (woken.trees k) ∙ off)).1).1)
+
+      square : (k : ℕ) → has_bit (bits now.squares) k ≡ false → (c / p.size.w ≡ k) ⊎ (c / p.size.w ≡ k + 1) → ⊥
+      square k off (inl own) = true≢false (sym (rows_are own) ∙ (both_off (both_off (sym (woken.squares k) ∙ off)).1).0)
+      square k off (inr below) = true≢false (sym (rows_are below) ∙ (both_off (both_off (sym (woken.squares k) ∙ off)).1).1)
+
+      by : (kind : Kind) → k < kind_lines p kind → has_bit (waiting bits now kind) k ≡ false → any_has (kind_houses p kind k) c ≡ true → ⊥
+      by Columns lt off has = true≢false (sym on.0 ∙ ap (has_bit (bits touched.columns)) (column-lies p c pos lt has) ∙ (both_off (sym (woken.columns k) ∙ off)).1)
+      by Rows lt off has = true≢false (sym (rows_are (row-lies p c pos has)) ∙ (both_off (sym (woken.rows k) ∙ off)).1)
+      by Trees lt off has = tree k lt off (trees-lie p c pos has)
+      by Squares lt off has = square k off (squares-lie p c pos has)
+
+  -- what does not wait did not wait before
+  waited : (kind : Kind) (k : ℕ) → has_bit (waiting bits now kind) k ≡ false → has_bit (waiting bits before kind) k ≡ false
+  waited Columns k off = (both_off (sym (woken.columns k) ∙ off)).0
+  waited Rows k off = (both_off (sym (woken.rows k) ∙ off)).0
+  waited Trees k off = (both_off (sym (woken.trees k) ∙ off)).0
+  waited Squares k off = (both_off (sym (woken.squares k) ∙ off)).0
+
+  rested-by : {K L : Candidates} → IsInside L K → IsTouched bits p.size.w K L touched → AreRested bits p before K → AreRested bits p now L
+  rested-by {K} {L} inside at rested kind k lt off =
+      idle-far (kind_houses p kind k) K L inside (λ c v on gone. woken-off c (at c v on gone) kind k lt off) (rested kind k lt (waited kind k off))
+
+pub rested-woken : {W : Type 0} (bits : W → ℕ) {room : ℕ} (p : Tents) (before now : Waits W) {touched : Touched W} {from to : Layers} {len : ℕ}
+    → ArePlanes room to → IsTouched bits to.size.w (back_at to len) (has to) touched → AreWoken bits room before touched now
+    → from.size ≡ p.size → from.len ≡ len → IsFurther from to → AreRested bits p before (has from) → AreRested bits p now (has to)
+rested-woken bits {room} p before now {touched} {from} {to} {len} are at woken size is further rested =
+    let same : to.size ≡ p.size = further.same_size ∙ size in
+    let back : back_at to len ≡ has from = rw (← is) (further.back from.len (omega arith)
+        ∙ put_back-none from.size.w (has from) from.takings from.len from.len (omega arith)) in
+    rested-by bits p (rw (← same) (omega (arith, are.lawful.w_low))) (rw (← same) are.low) woken further.inside
+    (λ c v on gone. rw same at (at c v (ap (λ (M : Candidates). M c v) back ∙ on) gone)) rested
+
+-- ---- a board that is closed but around a cell
+-- the houses stand one after another among all
+pub record IsPart (part all : List CountHouse) : Type 0 where
+  pub front : List CountHouse
+  pub back : List CountHouse
+  pub is : all ≡ front ++ (part ++ back)
+
+part-front : (part front back : List CountHouse) → IsPart part front → IsPart part (front ++ back)
+part-front part front back within = record {
+  front = within.front;
+  back = within.back ++ back;
+  is = rw within.is (append_assoc within.front (part ++ within.back) back ∙ ap (λ xs. within.front ++ xs) (append_assoc part within.back back));
+}
+
+part-back : (part front back : List CountHouse) → IsPart part back → IsPart part (front ++ back)
+part-back part front back within = record {
+  front = front ++ within.front;
+  back = within.back;
+  is = rw within.is (sym (append_assoc front within.front (part ++ within.back)));
+}
+
+part-next : (f : ℕ → List CountHouse) (k more : ℕ) → IsPart (f k) (houses_below f (k + 1 + more))
+part-next f k more =
+    let w = below-rest f (k + 1) more in
+    record {
+      front = houses_below f k;
+      back = w.0;
+      is = w.1 ∙ rw (below-next f k) (append_assoc (houses_below f k) (f k) w.0);
+    }
+
+part-below : (f : ℕ → List CountHouse) (k n : ℕ) → k < n → IsPart (f k) (houses_below f n)
+part-below f k n lt =
+    let e : k + 1 + (n - (k + 1)) ≡ n = omega arith in
+    rw e at (part-next f k (n - (k + 1)))
+
+part-kind : (p : Tents) (kind : Kind) (k : ℕ) → k < kind_lines p kind → IsPart (kind_houses p kind k) (tent_houses p)
+unfolding tent_houses
+part-kind p Columns k lt = part-front _ _ _ (part-below (column_of_tents p) k p.size.w lt)
+part-kind p Rows k lt = part-back _ (houses_below (column_of_tents p) p.size.w) _ (part-front _ _ _ (part-below (row_of_tents p) k p.size.h lt))
+part-kind p Trees k lt = part-back _ (houses_below (column_of_tents p) p.size.w) _ (part-back _ (houses_below (row_of_tents p) p.size.h) _
+    (part-front _ _ _ (rw (trees-are p) at (part-below (trees_of_row p) k p.size.h lt))))
+part-kind p Squares k lt = part-back _ (houses_below (column_of_tents p) p.size.w) _ (part-back _ (houses_below (row_of_tents p) p.size.h) _
+    (part-back _ (houses_below (tree_house p) (tent_cells p)) _ (rw (squares-are p) at (part-below (squares_of_row p) k p.size.h lt))))
+
+-- houses of a closed board that do not have the cell are idle
+module _ (p : Tents) (K : Candidates) (place : ℕ) (around : IsClosedAround (tent_rules p) K place) where
+  house-idle : (front : List CountHouse) (house : CountHouse) (back : List CountHouse) → tent_houses p ≡ front ++ house ∷ back
+      → has_place house.places place ≡ false → after_house house K ≡ K
+  unfolding after_house
+  house-idle front house back is off = fun_ext λ c. fun_ext λ v.
+      let at : count_house_of (tent_houses p) (length front) ≡ house = rw is (house-at front house back) in
+      let closed = around.closed (length front) c v (rw is (omega (arith, length-append front (house ∷ back)))) in
+      by c v (rw at at closed) (cases_Bool (K c v))
+    where
+      by : (c v : ℕ) → (has_place house.places place ≡ false → K c v ≡ true → strikes_of house K c v ≡ false)
+          → (K c v ≡ true) ⊎ (K c v ≡ false) → (K c v && not (strikes_of house K c v)) ≡ K c v
+      by c v closed (inr gone) = rw gone refl
+      by c v closed (inl on) = rw (on, closed off on) refl
+
+  part-idle : (front part back : List CountHouse) → tent_houses p ≡ front ++ (part ++ back) → any_has part place ≡ false → AreIdle part K
+  unfolding after_houses any_has
+  part-idle front [] back is off = refl
+  part-idle front (house ∷ part) back is off =
+      let both : (has_place house.places place ≡ false) × (any_has part place ≡ false) =
+          (grind (arith, common_steps, cases_Bool (has_place house.places place)), grind (arith, common_steps, cases_Bool (has_place house.places place))) in
+      rw (house-idle front house (part ++ back) is both.0)
+      (part-idle (front ++ house ∷ []) part back (is ∙ sym (append_assoc front (house ∷ []) (part ++ back))) both.1)
+
+  all-idle : {part : List CountHouse} → IsPart part (tent_houses p) → any_has part place ≡ false → AreIdle part K
+  all-idle {part} within off = part-idle within.front part within.back within.is off
+
+  pub rested-around : {W : Type 0} (bits : W → ℕ) (now : Waits W) → AreOff bits p now place → AreRested bits p now K
+  rested-around bits now off kind k lt none = all-idle (part-kind p kind k lt) (off kind k lt none)
+
+pub rested-from : {W : Type 0} (bits : W → ℕ) {room : ℕ} (p : Tents) {planes : Layers} {from : Option ℕ} {place : ℕ} (before now : Waits W) {touched : Touched W}
+    → ArePlanes room planes → planes.size ≡ p.size → from ≡ Some place → IsClosedBut (tent_rules p) (has planes) from
+    → ((k : ℕ) → has_bit (bits touched.columns) k ≡ eqb k (place % p.size.w)) → ((k : ℕ) → has_bit (bits touched.rows) k ≡ eqb k (place / p.size.w))
+    → AreWoken bits room before touched now → AreRested bits p now (has planes)
+rested-from bits {room} p {planes} {from} {place} before now are size is closed column row woken =
+    rested-around p (has planes) place (rw is at closed) bits now
+    (woken-off bits p (rw (← size) (omega (arith, are.lawful.w_low))) (rw (← size) are.low) woken place
+    (column _ ∙ eq-eqb _ _ refl, row _ ∙ eq-eqb _ _ refl))
+
+pub place-room : {room : ℕ} (p : Tents) {planes : Layers} {from : Option ℕ} {place : ℕ}
+    → ArePlanes room planes → planes.size ≡ p.size → from ≡ Some place → IsClosedBut (tent_rules p) (has planes) from
+    → place / p.size.w < room
+place-room {room} p {planes} {from} {place} are size is closed =
+    let around : IsClosedAround (tent_rules p) (has planes) place = rw is at closed in
+    let pos : 0 < p.size.w = rw (← size) (omega (arith, are.lawful.w_low)) in
+    let low : p.size.h ≤ room = rw (← size) are.low in
+    omega (arith, low, row-in p.size.h place pos around.place_in)

@@ -1,0 +1,59 @@
+-- Which houses of Tents wait on planes. No public contract uses these words.
+use Rattle.std.specs.Prelude.{◌≡◌, ℕ, ◌+◌, ◌-◌, ◌<◌, Bool, false, ◌&&◌, ◌||◌, nat_lt, List}
+use Rattle.grid_core.specs.Candidates.{Candidates}
+use Rattle.grid_core.specs.Words.{has_bit}
+use Rattle.grid_core.specs.declared.planes.touched.Touched.{Touched}
+use Rattle.gameid_core.specs.Puzzles.{Tents}
+use Rattle.fields_core.specs.CountHouse.{CountHouse}
+use Rattle.fields_core.specs.TentHouses.{column_of_tents, row_of_tents}
+use Rattle.fields_core.specs.Squares.{squares_of_row}
+use Rattle.fields_core.specs.Trees.{trees_of_row}
+use Rattle.fields_core.specs.Visits.{after_houses}
+use Rattle.fields_core.specs.declared.planes.waits.Kind.{Kind}
+use Rattle.fields_core.specs.declared.planes.waits.Kind.TheVariants.{Columns, Rows, Trees, Squares}
+use Rattle.fields_core.specs.declared.planes.waits.Waits.{Waits}
+
+-- visits of the houses take nothing
+abbrev pub AreIdle : List CountHouse → Candidates → Type 0
+AreIdle houses K = after_houses houses K ≡ K
+
+-- the houses of a kind at a line, how many lines there are, and which of them wait
+abbrev pub kind_houses : Tents → Kind → ℕ → List CountHouse
+kind_houses p Columns k = column_of_tents p k
+kind_houses p Rows k = row_of_tents p k
+kind_houses p Trees k = trees_of_row p k
+kind_houses p Squares k = squares_of_row p k
+
+abbrev pub kind_lines : Tents → Kind → ℕ
+kind_lines p Columns = p.size.w
+kind_lines p Rows = p.size.h
+kind_lines p Trees = p.size.h
+kind_lines p Squares = p.size.h
+
+abbrev pub waiting : {W : Type 0} → (W → ℕ) → Waits W → Kind → ℕ
+waiting bits waits Columns = bits waits.columns
+waiting bits waits Rows = bits waits.rows
+waiting bits waits Trees = bits waits.trees
+waiting bits waits Squares = bits waits.squares
+
+-- all houses that do not wait are idle
+abbrev pub AreRested : {W : Type 0} → (W → ℕ) → Tents → Waits W → Candidates → Type 0
+AreRested bits p waits K = (kind : Kind) (k : ℕ) → k < kind_lines p kind
+    → has_bit (waiting bits waits kind) k ≡ false → AreIdle (kind_houses p kind k) K
+
+-- what waits once cells of these columns and rows have lost values: their columns and rows, the trees of their rows and of
+-- the rows beside these, and the squares of their rows
+pub record AreWoken {W : Type 0} (bits : W → ℕ) (room : ℕ) (before : Waits W)
+    (touched : Touched W) (now : Waits W)
+    : Type 0 where
+  pub columns : (k : ℕ) → has_bit (bits now.columns) k
+      ≡ (has_bit (bits before.columns) k || has_bit (bits touched.columns) k)
+  pub rows : (k : ℕ) → has_bit (bits now.rows) k
+      ≡ (has_bit (bits before.rows) k || has_bit (bits touched.rows) k)
+  pub trees : (k : ℕ) → has_bit (bits now.trees) k
+      ≡ (has_bit (bits before.trees) k
+      || (((nat_lt k room && (nat_lt 0 k && has_bit (bits touched.rows) (k - 1)))
+      || has_bit (bits touched.rows) k) || has_bit (bits touched.rows) (k + 1)))
+  pub squares : (k : ℕ) → has_bit (bits now.squares) k
+      ≡ (has_bit (bits before.squares) k
+      || (has_bit (bits touched.rows) k || has_bit (bits touched.rows) (k + 1)))

@@ -1,0 +1,140 @@
+//! Which houses of Tents wait to be visited.
+#![tactic(auto, using(crate::proofs::LawSets::wait_laws))]
+
+ghost use Rattle.std.specs.Prelude.{◌≡◌, ◌<◌, ◌≤◌};
+ghost use Rattle.grid_core.specs.Candidates.{Candidates};
+ghost use Rattle.grid_core.specs.Words.{has_bit};
+ghost use Rattle.grid_core.specs.Planes.{Layers, has, IsFurther};
+ghost use Rattle.engine_core.specs.Queue.{IsClosedBut};
+ghost use Rattle.gameid_core.specs.Puzzles.{Tents};
+ghost use Rattle.fields_core.specs.TentHouses.{tent_rules};
+ghost use Rattle.fields_core.specs.Waits.{AreIdle, AreRested, AreWoken, kind_houses, kind_lines, waiting};
+
+use gameid_core::TentsPuzzle;
+use grid_core::{Planes, Touched, Word};
+
+/// Kinds of houses, in the order of a sweep. Those of a kind are visited line by line.
+#[derive(Clone, Copy)]
+pub(crate) enum Kind {
+    /// A column.
+    Columns,
+    /// A row.
+    Rows,
+    /// The trees of a row.
+    Trees,
+    /// The squares of a row and the row below.
+    Squares,
+}
+
+impl Kind {
+    /// How many lines there are.
+    pub(crate) fn lines(self, puzzle: &TentsPuzzle) -> u8
+        ensures { result ≡ kind_lines puzzle.now self }
+    {
+        match self {
+            Kind::Columns => puzzle.size().w(),
+            _ => puzzle.size().h(),
+        }
+    }
+}
+
+/// The lines of each kind that wait.
+#[derive(Clone, Copy)]
+pub(crate) struct Waits<W> {
+    columns: W,
+    rows: W,
+    trees: W,
+    squares: W,
+}
+
+impl<W: Word> Waits<W> {
+    /// Everything waits.
+    pub(crate) fn all() -> Waits<W>
+        ensures { (p : Tents) (K : Candidates) → p.size.w ≤ W.room → p.size.h ≤ W.room
+            → AreRested W.bits p result K }
+    {
+        let all = W::all(W::places());
+        Waits {
+            columns: all,
+            rows: all,
+            trees: all,
+            squares: all,
+        }
+    }
+
+    /// What waits where a closing begins: what has the cell `from`, or all where none is named.
+    pub(crate) fn new(planes: &Planes<W>, puzzle: &TentsPuzzle, from: Option<usize>) -> Waits<W>
+        requires size { planes.now.size ≡ puzzle.now.size }
+        requires closed_but { IsClosedBut (tent_rules puzzle.now) (has planes.now) from }
+        ensures { AreRested W.bits puzzle.now result (has planes.now) }
+    {
+        let w = usize::from(planes.size().w());
+        match from {
+            None => Waits::all(),
+            Some(place) => {
+                let none = Waits {
+                    columns: W::none(),
+                    rows: W::none(),
+                    trees: W::none(),
+                    squares: W::none(),
+                };
+                none.woken(Touched {
+                    columns: W::one(place % w),
+                    rows: W::one(place / w),
+                })
+            }
+        }
+    }
+
+    /// What waits too once cells of these columns and rows have lost values: all that has a cell of both a column and a row.
+    fn woken(self, touched: Touched<W>) -> Waits<W>
+        ensures { AreWoken W.bits W.room self touched result }
+    {
+        let rows = touched.rows;
+        Waits {
+            columns: self.columns.either(touched.columns),
+            rows: self.rows.either(rows),
+            trees: self.trees.either(rows.on().either(rows).either(rows.back())),
+            squares: self.squares.either(rows.either(rows.back())),
+        }
+    }
+
+    /// Whether the houses of this kind at the line wait.
+    pub(crate) fn has(&self, kind: Kind, line: u8) -> bool
+        requires { line < W.room }
+        ensures { result ≡ has_bit (waiting W.bits self.now kind) line }
+    {
+        let lines = match kind {
+            Kind::Columns => self.columns,
+            Kind::Rows => self.rows,
+            Kind::Trees => self.trees,
+            Kind::Squares => self.squares,
+        };
+        lines.has(usize::from(line))
+    }
+
+    /// The houses of this kind at the line wait no more: they are idle.
+    pub(crate) fn settle(&mut self, kind: Kind, line: u8)
+        requires { line < W.room }
+        ensures { (p : Tents) (K : Candidates) → AreRested W.bits p self.old K
+            → AreIdle (kind_houses p kind line) K → AreRested W.bits p self.new K }
+    {
+        let own = W::one(usize::from(line));
+        match kind {
+            Kind::Columns => self.columns = self.columns.but(own),
+            Kind::Rows => self.rows = self.rows.but(own),
+            Kind::Trees => self.trees = self.trees.but(own),
+            Kind::Squares => self.squares = self.squares.but(own),
+        }
+    }
+
+    /// Wakes what has a cell that lost a value since the trail had that length.
+    pub(crate) fn wake(&mut self, planes: &Planes<W>, len: usize)
+        requires { len ≤ planes.now.len }
+        ensures { (p : Tents) (from : Layers) → from.size ≡ p.size → from.len ≡ len
+            → IsFurther from planes.now → AreRested W.bits p self.old (has from)
+            → AreRested W.bits p self.new (has planes.now) }
+    {
+        *self = self.woken(planes.touched(len));
+    }
+}
