@@ -4,6 +4,7 @@ pub(crate) mod any;
 pub(crate) mod close;
 pub(crate) mod field;
 pub(crate) mod near;
+pub(crate) mod next;
 pub(crate) mod part;
 pub(crate) mod position;
 pub(crate) mod rows;
