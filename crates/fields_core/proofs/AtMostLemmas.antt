@@ -118,7 +118,7 @@ visits-met {cells} (house ∷ houses) K full (one, all) =
     by a e z i j = grind (arith, common_steps, cases_Bool a, cases_Bool e, cases_Bool z, cases_Bool i, cases_Bool j)
 
 -- ---- two cells of a house without 0
-count-two : (test : ℕ → Bool) (xs : List ℕ) (d e : ℕ) → d ≢ e → has_place xs d ≡ true → has_place xs e ≡ true
+pub count-two : (test : ℕ → Bool) (xs : List ℕ) (d e : ℕ) → d ≢ e → has_place xs d ≡ true → has_place xs e ≡ true
     → test d ≡ true → test e ≡ true → 1 < count_by test xs
 unfolding has_place
 count-two test [] d e ne in_d in_e on_d on_e = absurd (false≢true in_d)

@@ -38,3 +38,6 @@ pub mod SquareLemmas
 pub mod SquareVisits
 pub mod TentSweeps
 pub mod LawSets
+pub mod LitIdle
+pub mod LitWords
+pub mod LitVisits
