@@ -43,7 +43,7 @@ gone-stays : (house : CountHouse) (K : Candidates) (c v : ℕ) → K c v ≡ fal
 unfolding after_house
 gone-stays house K c v off = rw off refl
 
-others-stay : (house : CountHouse) (K : Candidates) (c v : ℕ) → has_place house.places c ≡ false → after_house house K c v ≡ K c v
+pub others-stay : (house : CountHouse) (K : Candidates) (c v : ℕ) → has_place house.places c ≡ false → after_house house K c v ≡ K c v
 unfolding after_house
 others-stay house K c v out = rw (off-scope house K c v out) (and-true (K c v))
 

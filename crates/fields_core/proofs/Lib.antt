@@ -41,3 +41,4 @@ pub mod LawSets
 pub mod LitIdle
 pub mod LitWords
 pub mod LitVisits
+pub mod NumberVisits
