@@ -42,3 +42,4 @@ pub mod LitIdle
 pub mod LitWords
 pub mod LitVisits
 pub mod NumberVisits
+pub mod NumberRows

@@ -5,7 +5,8 @@ ghost use Rattle.std.specs.Prelude.{◌≡◌, ℕ, ◌+◌, ◌*◌, ◌<◌, �
 ghost use Rattle.grid_core.specs.Words.{has_bit};
 ghost use Rattle.fields_core.specs.Light.{white};
 ghost use Rattle.fields_core.specs.LightHouses.{number_house};
-ghost use Rattle.fields_core.specs.NumberWords.{AreColumnsOf};
+ghost use Rattle.fields_core.specs.LightWords.{numbers_of_row};
+ghost use Rattle.fields_core.specs.NumberWords.{AreColumnsOf, is_numbered};
 ghost use Rattle.fields_core.specs.Parts.{IsAlive};
 ghost use Rattle.fields_core.specs.Trees.{AreRowsOf};
 ghost use Rattle.fields_core.specs.Visits.{AreVisited};
@@ -65,4 +66,34 @@ pub(crate) fn visit_number<W: Word>(
             visit(planes, &parts, ones, ones) || !row.either(column).is_some()
         }
     }
+}
+
+/// Visits the houses of the numbers of a row, up to one that has no filling. The words are the numbered cells of each row,
+/// and the white cells of each row and of each column.
+pub(crate) fn visit_numbers<W: Word>(
+    planes: &mut Planes<W>,
+    puzzle: &LightPuzzle,
+    numbers: &[W],
+    rows: &[W],
+    columns: &[W],
+    y: u8,
+) -> bool
+    requires size { planes.old.size ≡ puzzle.now.size }
+    requires numbers { AreRowsOf puzzle.now.size (is_numbered puzzle.now) (map W.bits numbers.now) }
+    requires rows { AreRowsOf puzzle.now.size (white puzzle.now) (map W.bits rows.now) }
+    requires columns { AreColumnsOf puzzle.now.size (white puzzle.now) (map W.bits columns.now) }
+    requires y_in { y < puzzle.now.size.h }
+    requires alive { IsAlive planes.old }
+    ensures { AreVisited (numbers_of_row puzzle.now y) planes.old planes.new result }
+{
+    let _size = planes.size();
+    let mut left = numbers[usize::from(y)];
+    while left.is_some() {
+        let x = left.lowest() as u8;
+        if !visit_number(planes, puzzle, rows, columns, y, x) {
+            return false;
+        }
+        left = left.without_lowest();
+    }
+    true
 }
