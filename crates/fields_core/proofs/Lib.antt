@@ -43,3 +43,4 @@ pub mod LitWords
 pub mod LitVisits
 pub mod NumberVisits
 pub mod NumberRows
+pub mod LitRuns

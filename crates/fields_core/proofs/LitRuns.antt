@@ -1,0 +1,55 @@
+-- Where a run has two cells that can have a bulb, the house of each of its cells is idle.
+use Rattle.fields_core.proofs.Common.{Candidates, IsLight, Light, ap, cases_eq, column_run, has_place, inl, inr, joined_in_column, joined_in_row, light_cells, lit_house, ne_eqb, not, one_at_least, place-back, place-front, place-kept, refl, row_run, seen_from, strikes_of, true, false, white, ℕ, ◌<◌, ◌≡◌, ◌≢◌, cases_Bool}
+use Rattle.fields_core.specs.Visits.{after_houses}
+use Rattle.fields_core.proofs.AtMostLemmas.{IsFull}
+use Rattle.fields_core.proofs.LightCounting.{in-column-run, in-row-run, light-board}
+use Rattle.fields_core.proofs.LightHouseLaws.{column-white-end, row-self, white-in}
+use Rattle.fields_core.proofs.LitIdle.{several-idle, several-stay}
+use Rattle.fields_core.proofs.LitVisits.{lit-is}
+
+module _ (p : Light) (lawful : IsLight p) (c : ℕ) (is_white : white p c ≡ true) where
+  some : 0 < p.size.w
+  some = (light-board lawful).some
+
+  inside : c < light_cells p
+  inside = white-in p c (light-board lawful).long is_white
+
+  -- the cells of both runs are those of the house
+  pub seen-in-row : (d : ℕ) → joined_in_row p c d ≡ true → has_place (seen_from p c) d ≡ true
+  unfolding seen_from
+  seen-in-row d joined = place-front (row_run p c) _ d (in-row-run p c d some joined)
+
+  pub seen-in-column : (d : ℕ) → joined_in_column p c d ≡ true → has_place (seen_from p c) d ≡ true
+  unfolding seen_from
+  seen-in-column d joined = elim (cases_eq d c) [
+    | inl same ↦ place-front (row_run p c) _ d (rw same (in-row-run p c c some (row-self p c is_white)))
+    | inr other ↦
+        let within = white-in p d (light-board lawful).long (column-white-end p c d some joined) in
+        place-back (row_run p c) _ d (place-kept _ (column_run p c) d (in-column-run p c d some within joined) (ap not (ne_eqb d c other)))
+  ]
+
+  module _ (K : Candidates) (full : IsFull (light_cells p) K) (d e : ℕ) (ne : d ≢ e) (on_d : K d 1 ≡ true) (on_e : K e 1 ≡ true) where
+    pub idle-by-row : joined_in_row p c d ≡ true → joined_in_row p c e ≡ true
+        → (a v : ℕ) → K a v ≡ true → strikes_of (one_at_least (seen_from p c)) K a v ≡ false
+    idle-by-row in_d in_e = several-idle K (lit-is p lawful inside is_white) full d e ne (seen-in-row d in_d) (seen-in-row e in_e) on_d on_e
+
+    pub idle-by-column : joined_in_column p c d ≡ true → joined_in_column p c e ≡ true
+        → (a v : ℕ) → K a v ≡ true → strikes_of (one_at_least (seen_from p c)) K a v ≡ false
+    idle-by-column in_d in_e = several-idle K (lit-is p lawful inside is_white) full d e ne (seen-in-column d in_d) (seen-in-column e in_e) on_d on_e
+
+-- the same of the visits of the house of any cell
+pub row-stays : (p : Light) (c d e : ℕ) (K : Candidates) → IsLight p → IsFull (light_cells p) K → d ≢ e → K d 1 ≡ true → K e 1 ≡ true
+    → joined_in_row p c d ≡ true → joined_in_row p c e ≡ true → after_houses (lit_house p c) K ≡ K
+unfolding after_houses
+row-stays p c d e K lawful full ne on_d on_e in_d in_e = elim (cases_Bool (white p c)) [
+  | inl on ↦ rw on (several-stay K (lit-is p lawful (inside p lawful c on) on) full d e ne (seen-in-row p lawful c on d in_d) (seen-in-row p lawful c on e in_e) on_d on_e)
+  | inr off ↦ rw off refl
+]
+
+pub column-stays : (p : Light) (c d e : ℕ) (K : Candidates) → IsLight p → IsFull (light_cells p) K → d ≢ e → K d 1 ≡ true → K e 1 ≡ true
+    → joined_in_column p c d ≡ true → joined_in_column p c e ≡ true → after_houses (lit_house p c) K ≡ K
+unfolding after_houses
+column-stays p c d e K lawful full ne on_d on_e in_d in_e = elim (cases_Bool (white p c)) [
+  | inl on ↦ rw on (several-stay K (lit-is p lawful (inside p lawful c on) on) full d e ne (seen-in-column p lawful c on d in_d) (seen-in-column p lawful c on e in_e) on_d on_e)
+  | inr off ↦ rw off refl
+]
