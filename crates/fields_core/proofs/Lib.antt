@@ -40,3 +40,9 @@ pub mod IdleLemmas
 pub mod TentWaits
 pub mod TentSweeps
 pub mod LawSets
+pub mod LitIdle
+pub mod LitWords
+pub mod LitVisits
+pub mod NumberVisits
+pub mod NumberRows
+pub mod LitRuns
