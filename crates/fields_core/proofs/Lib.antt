@@ -37,4 +37,5 @@ pub mod TreeWords
 pub mod SquareLemmas
 pub mod SquareVisits
 pub mod TentSweeps
+pub mod RunWords
 pub mod LawSets
