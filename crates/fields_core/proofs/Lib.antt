@@ -37,5 +37,7 @@ pub mod TreeWords
 pub mod SquareLemmas
 pub mod SquareVisits
 pub mod TentSweeps
+pub mod RunIdle
 pub mod RunWords
+pub mod RunHouses
 pub mod LawSets

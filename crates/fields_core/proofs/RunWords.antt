@@ -1,5 +1,5 @@
 -- Words of runs along a line, as they are written one after another.
-use Rattle.fields_core.proofs.Common.{Bool, Light, List, RunsOn, and-false, and_from, and_parts, ap, arith, cases_eq, cases_lt, clear, div-mul-add, false, false_from_ne_true, get_or-set_other, get_or-set_same, has_bit, inl, inr, joined_in_column, joined_in_row, le-ltb, length, length-map, length-set, light_cells, lt-ltb, ltb, ltb-true, map, mul-le-mul_right, not, not-true, place-column, refl, set, slice_index, subst, suc, sym, true, true≢false, white, zero, ℕ, ◌%◌, ◌&&◌, ◌*◌, ◌+◌, ◌/◌, ◌-◌, ◌<◌, ◌∙◌, ◌≡◌, ◌≢◌, ◌≤◌}
+use Rattle.fields_core.proofs.Common.{Bool, Light, List, RunsOn, and-false, and_from, and_parts, ap, arith, cases_eq, cases_lt, clear, div-mul-add, false, false_from_ne_true, get_or-set_other, get_or-set_same, has_bit, inl, inr, joined_in_column, joined_in_row, le-ltb, length, length-map, length-set, light_cells, lt-ltb, ltb, ltb-true, map, mul-le-mul_right, not, not-true, place-column, refl, set, slice_index, subst, suc, sym, true, true≢false, white, zero, ℕ, ◌%◌, ◌&&◌, ◌*◌, ◌+◌, ◌-◌, ◌/◌, ◌<◌, ◌∙◌, ◌≡◌, ◌≢◌, ◌≤◌}
 use Rattle.std.proofs.lemmas.List.{map-set}
 use Rattle.fields_core.specs.LightWords.{IsRowRun, IsColumnRun}
 use Rattle.fields_core.specs.RunWords.{IsRunAt, IsRunBefore, AreWritten}
