@@ -40,4 +40,6 @@ pub mod TentSweeps
 pub mod RunIdle
 pub mod RunWords
 pub mod RunHouses
+pub mod RunLines
+pub mod RunBegins
 pub mod LawSets
