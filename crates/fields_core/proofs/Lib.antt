@@ -42,4 +42,6 @@ pub mod RunWords
 pub mod RunHouses
 pub mod RunLines
 pub mod RunBegins
+pub mod AnyOrder
+pub mod RunOrder
 pub mod LawSets
