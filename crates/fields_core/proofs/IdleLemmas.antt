@@ -45,14 +45,14 @@ house-far house K L inside far idle = fun_ext λ c. fun_ext λ v. elim (cases_Bo
 unfoldable pub any_has : List CountHouse → ℕ → Bool
 any_has houses c = list_any (λ house. has_place house.places c) houses
 
-idle-first : (house : CountHouse) (houses : List CountHouse) (K : Candidates) → AreIdle (house ∷ houses) K → after_house house K ≡ K
+pub idle-first : (house : CountHouse) (houses : List CountHouse) (K : Candidates) → AreIdle (house ∷ houses) K → after_house house K ≡ K
 unfolding after_houses
 idle-first house houses K idle = fun_ext λ c. fun_ext λ v. elim (cases_Bool (K c v)) [
   | inl on ↦ visits-inside houses (after_house house K) c v (ap (λ (L : Candidates). L c v) idle ∙ on) ∙ sym on
   | inr off ↦ false_from_ne_true _ (λ on. true≢false (sym (after-inside house K c v on) ∙ off)) ∙ sym off
 ]
 
-idle-rest : (house : CountHouse) (houses : List CountHouse) (K : Candidates) → AreIdle (house ∷ houses) K → AreIdle houses K
+pub idle-rest : (house : CountHouse) (houses : List CountHouse) (K : Candidates) → AreIdle (house ∷ houses) K → AreIdle houses K
 unfolding after_houses
 idle-rest house houses K idle = rw (idle-first house houses K idle) at idle
 
