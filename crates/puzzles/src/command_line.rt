@@ -33,7 +33,11 @@ fn grade_command<'a>(alloc: Global) -> Result<Command<'a>, AllocError>
         .arg(Arg::new(alloc, "game").required(true))?
         .arg(Arg::new(alloc, "id").required(true))?
         .arg(Arg::new(alloc, "budget").long("budget"))?
-        .arg(Arg::new(alloc, "trace").long("trace").action(ArgAction::SetTrue))
+        .arg(
+            Arg::new(alloc, "trace")
+                .long("trace")
+                .action(ArgAction::SetTrue),
+        )
 }
 
 /// `generate GAME SIZE --seed S [--budget B] [--tries T] [--black P]`
