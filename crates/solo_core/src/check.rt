@@ -3,8 +3,7 @@
 
 ghost use Rattle.std.specs.Prelude.{◌≡◌};
 ghost use Rattle.solo_core.specs.Common.{IsGrid, IsSolo, solo_n, solo_cells, IsHouseOf, numbers_of, no_repeat};
-ghost use Rattle.gameid_core.specs.FirstFailed.{IsFirstOf};
-ghost use Rattle.solo_core.specs.Faults.{FailsSolo, IsSoloFault, fault_of as fault_of_house, house_tests};
+ghost use Rattle.solo_core.specs.Faults.{IsSoloFault, fault_of as fault_of_house};
 
 use crate::fault::SoloFault;
 use crate::houses::house::NamedHouse;
@@ -30,15 +29,6 @@ pub fn check_solo(puzzle: &SoloPuzzle, grid: &Grid) -> Option<SoloFault>
             return Some(SoloFault::Given(place));
         }
     }
-    repeating_house(puzzle, grid)
-}
-
-/// The first house that holds a number twice.
-fn repeating_house(puzzle: &SoloPuzzle, grid: &Grid) -> Option<SoloFault>
-    requires fits { IsGrid (solo_cells puzzle.now) (solo_n puzzle.now) grid.now }
-    ensures lawful { IsSolo puzzle.now }
-    ensures first { IsFirstOf (FailsSolo puzzle.now grid.now) (house_tests puzzle.now) result }
-{
     for number in 0..houses(puzzle) {
         let house = house(puzzle, number);
         if !holds_each_once(puzzle, grid, house) {
