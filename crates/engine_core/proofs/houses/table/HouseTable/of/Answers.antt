@@ -1,4 +1,4 @@
-use Rattle.engine_core.proofs.Common.{AreAt, ap, arith, drop, length, number_in, refl, slice_index, start_at, suc, sym, take_at, ◌<◌, ◌∙◌, ◌≡◌}
+use Rattle.engine_core.proofs.Common.{AreAt, ap, arith, drop, length, number_in, refl, slice_index, start_at, suc, sym, take_at, ◌∙◌, ◌≡◌}
 use Rattle.engine_core.proofs.IndexLemmas.{counts_same, houses_of_places, scopes-wider, index-none}
 use Rattle.engine_core.proofs.PieceLemmas.{few-listed}
 use Rattle.engine_core.proofs.PlaceCounts.{all-within, all-long, counted-in}
