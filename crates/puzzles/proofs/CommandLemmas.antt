@@ -5,7 +5,6 @@ use Rattle.clap.specs.Simple.{App, app_of, with_rule, with_subcommand}
 use Rattle.clap.specs.Walk.{Rule, Text, rule_of}
 use Rattle.clap.specs.declared.builder.arg.Arg.{Arg}
 use Rattle.clap.specs.declared.builder.command.Command.{Command}
-use Rattle.clap.specs.declared.builder.command.Command.TheViews.{out-Command as fields_of}
 use Rattle.puzzles.specs.CommandLine.{IsApp}
 
 pub with_arg : {app : App} {old new : Command} {a : Arg} {rule : Rule} → IsApp app old → AddsArg old a new
