@@ -33,20 +33,8 @@ pub(crate) fn keep_houses(values: u8, sets: &[u32], kept: &mut [u32], pairing: &
     if alone == all_below(values) {
         return;
     }
-    let rest = rest_of(kept.len(), alone);
-    keep_rest(values, &rest, kept, pairing);
-}
-
-/// Decides what is kept of a house in which all cells but these are alone.
-fn keep_rest(values: u8, rest: &[u8], kept: &mut [u32], pairing: &mut Pairing)
-    requires few { values ≤ max_values }
-    requires square { length kept.old ≡ values }
-    requires alone { IsRest values kept.old rest.now }
-    requires room { values ≤ pairing.old.room }
-    requires rest_few { length rest.now ≤ values }
-    ensures decided { KeepsFillings values kept.old kept.new }
-    ensures room { pairing.new.room ≡ pairing.old.room }
-{
+    let others = rest_of(kept.len(), alone);
+    let rest: &[u8] = &others;
     let mut paired_space = [0u8; MANY];
     let paired = &mut paired_space[..rest.len()];
     match pair_rest(values, kept, rest, pairing, paired) {
