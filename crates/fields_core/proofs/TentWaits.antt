@@ -14,14 +14,14 @@ use Rattle.fields_core.specs.Parts.{IsAlive}
 use Rattle.fields_core.specs.Squares.{squares_of_row}
 use Rattle.fields_core.specs.TentHouses.{column_of_tents, row_of_tents, square_house, tent_houses, tent_rules}
 use Rattle.fields_core.specs.Trees.{trees_of_row}
-use Rattle.fields_core.specs.Visits.{after_houses}
+use Rattle.fields_core.specs.Visits.{AreVisited, after_houses}
 use Rattle.fields_core.specs.Waits.{AreIdle, AreRested, AreWoken, kind_houses, kind_lines, waiting}
 use Rattle.fields_core.specs.declared.planes.waits.Kind.{Kind}
 use Rattle.fields_core.specs.declared.planes.waits.Kind.TheVariants.{Columns, Rows, Trees, Squares}
 use Rattle.fields_core.specs.declared.planes.waits.Waits.{Waits}
 use Rattle.fields_core.proofs.AnyOrder.{IsSingle, singles-kept}
 use Rattle.fields_core.proofs.AtMostLemmas.{IsFull}
-use Rattle.fields_core.proofs.IdleLemmas.{any_has, any-below, any-none, any-one, idle-far}
+use Rattle.fields_core.proofs.IdleLemmas.{any_has, any-below, any-none, any-one, idle-far, visited-skip}
 use Rattle.fields_core.proofs.LitIdle.{IsAll, alls-kept}
 use Rattle.fields_core.proofs.PartLemmas.{value-in}
 use Rattle.fields_core.proofs.RunBegins.{all-houses}
@@ -346,3 +346,10 @@ place-room {room} p {planes} {from} {place} are size is closed =
     let pos : 0 < p.size.w = rw (← size) (omega (arith, are.lawful.w_low)) in
     let low : p.size.h ≤ room = rw (← size) are.low in
     omega (arith, low, row-in p.size.h place pos around.place_in)
+
+-- houses that do not wait are passed
+pub waits-skip : {W : Type 0} (bits : W → ℕ) (p : Tents) (kind : Kind) (waits : Waits W) {from to : Layers} {n m : ℕ} → n ≤ m → m ≤ kind_lines p kind
+    → AreRested bits p waits (has to) → ((k : ℕ) → n ≤ k → k < m → has_bit (waiting bits waits kind) k ≡ false)
+    → AreVisited (houses_below (kind_houses p kind) n) from to true → AreVisited (houses_below (kind_houses p kind) m) from to true
+waits-skip bits p kind waits le most rested none visited =
+    visited-skip (kind_houses p kind) le visited (λ k at lt. rested kind k (omega (arith, lt, most)) (none k at lt))

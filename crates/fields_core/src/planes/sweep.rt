@@ -8,6 +8,7 @@ ghost use Rattle.fields_core.specs.Visits.{AreVisited, IsFieldOf, IsTentSweep, c
 ghost use Rattle.fields_core.specs.Waits.{AreRested, kind_houses, kind_lines};
 
 use crate::planes::field::Field;
+use crate::planes::next::next_place;
 use crate::planes::squares::visit_squares;
 use crate::planes::tents::{visit_column, visit_row};
 use crate::planes::trees::visit_trees;
@@ -34,7 +35,7 @@ impl<W: Word> Field<W> {
         }
     }
 
-    /// Visits the houses of a kind at a line if they wait, and wakes what has a cell that lost a value.
+    /// Visits the houses of a kind at a line, which wait, and wakes what the values that were lost may bind.
     fn turn(&mut self, puzzle: &TentsPuzzle, kind: Kind, line: u8) -> bool
         requires field { IsFieldOf W.room puzzle.now self.old.planes
             (map W.bits self.old.trees.items) }
@@ -46,9 +47,6 @@ impl<W: Word> Field<W> {
             → AreRested W.bits puzzle.now self.new.waits (has self.new.planes) }
         ensures trees { self.new.trees ≡ self.old.trees }
     {
-        if !self.waits.has(kind, line) {
-            return true;
-        }
         let len = self.planes.len();
         if !self.visit(puzzle, kind, line) {
             return false;
@@ -61,7 +59,7 @@ impl<W: Word> Field<W> {
         true
     }
 
-    /// Visits the houses of a kind, up to one that has no filling.
+    /// Visits the houses of a kind that wait, up to one that has no filling: all others are idle.
     fn sweep_kind(&mut self, puzzle: &TentsPuzzle, kind: Kind) -> bool
         requires field { IsFieldOf W.room puzzle.now self.old.planes
             (map W.bits self.old.trees.items) }
@@ -73,10 +71,13 @@ impl<W: Word> Field<W> {
             → AreRested W.bits puzzle.now self.new.waits (has self.new.planes) }
         ensures trees { self.new.trees ≡ self.old.trees }
     {
-        for line in 0..kind.lines(puzzle) {
-            if !self.turn(puzzle, kind, line) {
+        let lines = usize::from(kind.lines(puzzle));
+        let mut from = 0;
+        while let Some(line) = next_place(self.waits.lines(kind), from, lines) {
+            if !self.turn(puzzle, kind, line as u8) {
                 return false;
             }
+            from = line + 1;
         }
         true
     }

@@ -3,7 +3,6 @@
 
 ghost use Rattle.std.specs.Prelude.{◌≡◌, ◌<◌, ◌≤◌};
 ghost use Rattle.grid_core.specs.Candidates.{Candidates};
-ghost use Rattle.grid_core.specs.Words.{has_bit};
 ghost use Rattle.grid_core.specs.Planes.{Layers, has, IsFurther};
 ghost use Rattle.engine_core.specs.Queue.{IsClosedBut};
 ghost use Rattle.gameid_core.specs.Puzzles.{IsTents, Tents};
@@ -103,18 +102,16 @@ impl<W: Word> Waits<W> {
         }
     }
 
-    /// Whether the houses of this kind at the line wait.
-    pub(crate) fn has(&self, kind: Kind, line: u8) -> bool
-        requires { line < W.room }
-        ensures { result ≡ has_bit (waiting W.bits self.now kind) line }
+    /// The lines at which houses of this kind wait.
+    pub(crate) fn lines(&self, kind: Kind) -> W
+        ensures { W.bits result ≡ waiting W.bits self.now kind }
     {
-        let lines = match kind {
+        match kind {
             Kind::Columns => self.columns,
             Kind::Rows => self.rows,
             Kind::Trees => self.trees,
             Kind::Squares => self.squares,
-        };
-        lines.has(usize::from(line))
+        }
     }
 
     /// The houses of this kind at the line wait no more: they are idle.
