@@ -39,4 +39,5 @@ pub mod SquareVisits
 pub mod IdleLemmas
 pub mod TentWaits
 pub mod TentSweeps
+pub mod TentPlanes
 pub mod LawSets

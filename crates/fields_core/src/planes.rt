@@ -1,9 +1,11 @@
-//! Count houses on planes, and the planes of Tents.
+//! Count houses on planes, what a search on planes stands on, and how Tents is closed on them.
 
 pub(crate) mod any;
 pub(crate) mod close;
 pub(crate) mod field;
+pub(crate) mod game;
 pub(crate) mod near;
+pub(crate) mod notes;
 pub(crate) mod part;
 pub(crate) mod position;
 pub(crate) mod rows;

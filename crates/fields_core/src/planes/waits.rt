@@ -40,7 +40,7 @@ impl Kind {
 
 /// The lines of each kind that wait.
 #[derive(Clone, Copy)]
-pub(crate) struct Waits<W> {
+pub struct Waits<W> {
     columns: W,
     rows: W,
     trees: W,
@@ -94,7 +94,9 @@ impl<W: Word> Waits<W> {
         Waits {
             columns: self.columns.either(touched.columns),
             rows: self.rows.either(rows),
-            trees: self.trees.either(rows.on().either(rows).either(rows.back())),
+            trees: self
+                .trees
+                .either(rows.on().either(rows).either(rows.back())),
             squares: self.squares.either(rows.either(rows.back())),
         }
     }

@@ -1,6 +1,6 @@
 use Rattle.fields_core.specs.Waits.{kind_houses}
 use Rattle.fields_core.proofs.VisitLemmas.{sweep-broken}
-use Rattle.fields_core.proofs.planes.field.Field.sweep_kind.Goals as goal
+use Rattle.fields_core.proofs.planes.notes.TentNotes.sweep_kind.Goals as goal
 
 pub returns-then-not-turn-clause-visited : goal.returns-then-not-turn-clause-visited
 returns-then-not-turn-clause-visited g c =
