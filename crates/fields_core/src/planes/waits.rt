@@ -40,7 +40,7 @@ impl Kind {
 
 /// The lines of each kind that wait.
 #[derive(Clone, Copy)]
-pub(crate) struct Waits<W> {
+pub struct Waits<W> {
     columns: W,
     rows: W,
     trees: W,

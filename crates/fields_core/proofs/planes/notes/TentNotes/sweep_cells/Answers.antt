@@ -1,7 +1,7 @@
 use Rattle.fields_core.specs.CountHouse.{houses_below}
 use Rattle.fields_core.specs.Squares.{squares_of_row}
 use Rattle.fields_core.proofs.VisitLemmas.{visited-dead, visited-more}
-use Rattle.fields_core.proofs.planes.field.Field.sweep_cells.Goals as goal
+use Rattle.fields_core.proofs.planes.notes.TentNotes.sweep_cells.Goals as goal
 
 pub returns-then-sweep_kind-clause-visited : goal.returns-then-sweep_kind-clause-visited
 returns-then-sweep_kind-clause-visited g c =

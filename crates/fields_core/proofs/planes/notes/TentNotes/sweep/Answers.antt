@@ -1,7 +1,7 @@
 use Rattle.fields_core.specs.Visits.{cell_houses}
 use Rattle.fields_core.proofs.TentSweeps.{houses-swept}
 use Rattle.fields_core.proofs.VisitLemmas.{visited-dead, visited-more}
-use Rattle.fields_core.proofs.planes.field.Field.sweep.Goals as goal
+use Rattle.fields_core.proofs.planes.notes.TentNotes.sweep.Goals as goal
 
 pub returns-then-sweep_lines-clause-swept : goal.returns-then-sweep_lines-clause-swept
 returns-then-sweep_lines-clause-swept g c = houses-swept c.args.puzzle.now c.requires.field.size

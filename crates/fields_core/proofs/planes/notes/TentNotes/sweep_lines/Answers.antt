@@ -1,7 +1,7 @@
 use Rattle.fields_core.specs.CountHouse.{houses_below}
 use Rattle.fields_core.specs.TentHouses.{row_of_tents}
 use Rattle.fields_core.proofs.VisitLemmas.{visited-dead, visited-more}
-use Rattle.fields_core.proofs.planes.field.Field.sweep_lines.Goals as goal
+use Rattle.fields_core.proofs.planes.notes.TentNotes.sweep_lines.Goals as goal
 
 pub returns-then-sweep_kind-clause-visited : goal.returns-then-sweep_kind-clause-visited
 returns-then-sweep_kind-clause-visited g c =

@@ -3,12 +3,12 @@ use Rattle.fields_core.specs.Visits.{AreVisited}
 use Rattle.fields_core.specs.Waits.{kind_houses, kind_lines}
 use Rattle.fields_core.proofs.TentWaits.{waits-skip}
 use Rattle.fields_core.proofs.VisitLemmas.{sweep-broken, sweep-more}
-use Rattle.fields_core.proofs.planes.field.Field.sweep_kind.Goals as goal
-use Rattle.fields_core.proofs.planes.field.Field.sweep_kind.Goals.{In-Some}
+use Rattle.fields_core.proofs.planes.notes.TentNotes.sweep_kind.Goals as goal
+use Rattle.fields_core.proofs.planes.notes.TentNotes.sweep_kind.Goals.{In-Some}
 
 -- the houses below the next line that waits
 passed : (g : _) (c : In-Some g) → AreVisited (houses_below (kind_houses c.args.puzzle.now c.args.kind) c.in-Some.line)
-    c.args.self.now.planes c.loop-line.self.planes true
+    c.args.planes.now c.loop-line.planes true
 passed g c =
     let next = c.in-Some.ensures in
     let most = next.1 in

@@ -7,22 +7,22 @@ use Rattle.engine_core.proofs.EndLemmas.{closed-in, taken-dead, taken-open}
 use Rattle.fields_core.specs.TentHouses.{tent_rules}
 use Rattle.fields_core.specs.Visits.{swept}
 use Rattle.fields_core.proofs.TentSweeps.{alive-all, closed-dead, closed-open, sweeps-few, sweeps-fewer, sweeps-first, sweeps-turn}
-use Rattle.fields_core.proofs.planes.field.Field.close.Goals as goal
-use Rattle.fields_core.proofs.planes.field.Field.close.Goals.{Else-len-before, Then-len-before, Then-not-sweep}
+use Rattle.fields_core.proofs.planes.notes.TentNotes.close.Goals as goal
+use Rattle.fields_core.proofs.planes.notes.TentNotes.close.Goals.{Else-len-before, Then-len-before, Then-not-sweep}
 
 -- a sweep that leaves a cell without a value ends the closing
-dead : (g : _) (c : Then-not-sweep g) → IsClosing (tent_rules c.args.puzzle.now) (has c.args.self.now.planes)
-    (swept c.args.puzzle.now (has c.closing.self.planes)) Dead [] (c.closing.sweeps + 1)
+dead : (g : _) (c : Then-not-sweep g) → IsClosing (tent_rules c.args.puzzle.now) (has c.args.planes.now)
+    (swept c.args.puzzle.now (has c.closing.planes)) Dead [] (c.closing.sweeps + 1)
 dead g c = closed-dead c.args.puzzle.now c.requires.field.lawful c.requires.field.size c.requires.within c.closing.invariant.sweeps c.sweep.ensures.swept c.if-not-sweep.true
 
 -- and so does one that takes nothing
-shut : (g : _) (c : Then-len-before g) → IsClosing (tent_rules c.args.puzzle.now) (has c.args.self.now.planes)
-    (has c.sweep.new.self.planes) Open [] (max c.closing.sweeps 1)
+shut : (g : _) (c : Then-len-before g) → IsClosing (tent_rules c.args.puzzle.now) (has c.args.planes.now)
+    (has c.sweep.new.planes) Open [] (max c.closing.sweeps 1)
 shut g c =
     closed-open c.args.puzzle.now c.requires.field.lawful c.requires.field.size c.requires.within c.closing.invariant.sweeps c.sweep.ensures.swept c.if-not-sweep.false
     (sym c.len.ensures.len ∙ c.if-len-before.true ∙ c.len-before.ensures.len)
 
-more : (g : _) (c : Else-len-before g) → c.closing.self.planes.len < c.sweep.new.self.planes.len
+more : (g : _) (c : Else-len-before g) → c.closing.planes.len < c.sweep.new.planes.len
 more g c = let grows = c.sweep.ensures.swept.further.grows in
     omega (arith, grows, c.if-len-before.false, c.len.ensures.len, c.len-before.ensures.len)
 
@@ -50,7 +50,7 @@ returns-then-not-sweep-clause-turns g c = closed-in
 
 pub returns-then-not-sweep-clause-alive : goal.returns-then-not-sweep-clause-alive
 returns-then-not-sweep-clause-alive g c =
-    alive-all c.args.puzzle.now c.sweep.new.self.planes
+    alive-all c.args.puzzle.now c.sweep.new.planes
     (c.sweep.ensures.swept.further.same_size ∙ c.closing.invariant.sweeps.further.same_size
     ∙ c.requires.field.size) c.sweep.ensures.swept.alive
 
