@@ -1,5 +1,5 @@
 -- Planes with their trail as a position. No public contract uses these words.
-use Rattle.std.specs.Prelude.{◌≡◌, ℕ, ◌*◌, ◌<◌, ◌≤◌, ◌⊎◌, List, length, vec_len}
+use Rattle.std.specs.Prelude.{◌≡◌, ℕ, ◌*◌, ◌<◌, ◌≤◌, ◌⊎◌, List, length}
 use Rattle.grid_core.specs.Candidates.{Candidates, IsWithin}
 use Rattle.grid_core.specs.Extent.{Extent}
 use Rattle.grid_core.specs.Planes.{Layers, has, cells_of, back_at}
@@ -7,7 +7,6 @@ use Rattle.engine_core.specs.RuleSystem.{RuleSystem, Needs, needs_of, FitsIn}
 use Rattle.engine_core.specs.ClosingList.{IsAlive}
 use Rattle.engine_core.specs.Position.{Standing}
 use Rattle.engine_core.specs.TrailPosition.{mark_at, AreMarks}
-use Rattle.engine_core.specs.declared.house_rules.HouseScratch.{HouseScratch}
 
 -- what the memory was taken for, the planes with their trail, what is kept beside them, and the mark of each level: so many
 -- levels have one
@@ -22,11 +21,6 @@ pub record PlacedPlanes (S L : Type 0) : Type 0 where
 pub record ArePlaced (made : Needs) (planes : Layers) (marks : List ℕ) : Type 0 where
   pub steps : length planes.takings ≡ made.cells * made.values
   pub marks_long : length marks ≡ made.cells
-
--- there is room for the sets of a house's cells and for what is kept of them, and the test of a grid has what it works in
-abbrev pub IsServed : {W : Type 0} → (W → ℕ → Type 0) → HouseScratch W → Needs → Type 0
-IsServed serves scratch needs = (needs.scope ≤ vec_len scratch.sets) × (needs.scope ≤ vec_len scratch.kept)
-    × serves scratch.work needs.cells
 
 -- what a walk sees of it
 abbrev pub standing_by : Layers → List ℕ → ℕ → Standing

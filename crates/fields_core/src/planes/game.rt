@@ -11,12 +11,13 @@ ghost use Rattle.engine_core.specs.Counts.{IsClosedIn};
 ghost use Rattle.engine_core.specs.Position.{IsTaken};
 ghost use Rattle.engine_core.specs.Queue.{IsClosedBut};
 ghost use Rattle.engine_core.specs.Trail.{StillServes};
+ghost use Rattle.fields_core.specs.CountHouse.{count_puzzle};
 ghost use Rattle.fields_core.specs.AnyPlanes.{kept_in, layers_in};
 
 use crate::count::game::CountGame;
 use crate::count::rules::CountRules;
 use crate::planes::any::AnyPlanes;
-use engine_core::{Needs, RuleSet, Taken};
+use engine_core::{Needs, RuleSet, Rules, Taken};
 use std::alloc::{AllocError, Global};
 
 /// A puzzle of count houses that is closed on planes. Beside them it keeps what it has written of itself, and what waits.
@@ -92,4 +93,23 @@ pub trait PlaneGame: CountGame {
     /// Memory that serves puzzles serves smaller ones.
     ghost fits_smaller: { (kept : Self.Short ⊎ Self.Long) (need had : Needs) → FitsIn need had
         → fits kept had → fits kept need };
+}
+
+/// The rules of a puzzle that is closed on planes.
+pub trait PlaneRules: Rules {
+    /// The puzzle.
+    type Puzzle: PlaneGame;
+
+    /// The puzzle that they are of.
+    ghost puzzle_of: { Self → Self.Puzzle };
+
+    /// The puzzle.
+    fn puzzle(&self) -> &Self::Puzzle
+        ensures { result.now ≡ puzzle_of self.now };
+
+    /// They are those of its count houses.
+    ghost system_is: { (rules : Self) → Self.system rules
+        ≡ count_puzzle (Self.Puzzle.board (puzzle_of rules))
+        (Self.Puzzle.blocked (puzzle_of rules)) (Self.Puzzle.counted (puzzle_of rules))
+        (Self.Puzzle.solves (puzzle_of rules)) };
 }

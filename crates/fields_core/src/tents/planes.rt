@@ -5,7 +5,7 @@ ghost use Rattle.std.specs.Prelude.{◌≡◌, ◌*◌, ◌≤◌, IfOk, length,
 
 use crate::planes::any::AnyPlanes;
 use crate::planes::field::Field;
-use crate::planes::game::PlaneGame;
+use crate::planes::game::{PlaneGame, PlaneRules};
 use crate::planes::notes::TentNotes;
 use crate::planes::position::{OnPlanes, PlanePosition};
 use crate::planes::start::start_field;
@@ -36,9 +36,21 @@ fn new_field<W: Word>(alloc: Global, size: Size) -> Result<Field<W, TentNotes<W>
 }
 
 impl PositionFor<TentRules> for OnPlanes {
-    type Position = PlanePosition<TentsPuzzle>;
+    type Position = PlanePosition<TentRules>;
 
     ghost position_of = { λ _. refl };
+}
+
+impl PlaneRules for TentRules {
+    type Puzzle = TentsPuzzle;
+
+    ghost puzzle_of = { λ rules. rules.set.puzzle };
+
+    fn puzzle(&self) -> &TentsPuzzle {
+        self.set().puzzle()
+    }
+
+    ghost system_is = { λ _. refl };
 }
 
 impl PlaneGame for TentsPuzzle {

@@ -4,7 +4,7 @@ use Rattle.fields_core.proofs.planes.position.PlanePositionPosition.accept.Goals
 pub accept-requires-clause-fits : goal.accept-requires-clause-fits
 accept-requires-clause-fits g c =
     let r = rw (← c.self.view_is) at c.requires in
-    walks-fits _ r.walks c.write_grid.ensures r.full
+    rw (g.met.R.PlaneRules.system_is c.args.rules.now) (walks-fits _ r.walks c.write_grid.ensures r.full)
 
 pub returns-clause-long : goal.returns-clause-long
 returns-clause-long g c =
