@@ -43,7 +43,7 @@ gone-stays : (house : CountHouse) (K : Candidates) (c v : ℕ) → K c v ≡ fal
 unfolding after_house
 gone-stays house K c v off = rw off refl
 
-others-stay : (house : CountHouse) (K : Candidates) (c v : ℕ) → has_place house.places c ≡ false → after_house house K c v ≡ K c v
+pub others-stay : (house : CountHouse) (K : Candidates) (c v : ℕ) → has_place house.places c ≡ false → after_house house K c v ≡ K c v
 unfolding after_house
 others-stay house K c v out = rw (off-scope house K c v out) (and-true (K c v))
 
@@ -118,7 +118,7 @@ visits-met {cells} (house ∷ houses) K full (one, all) =
     by a e z i j = grind (arith, common_steps, cases_Bool a, cases_Bool e, cases_Bool z, cases_Bool i, cases_Bool j)
 
 -- ---- two cells of a house without 0
-count-two : (test : ℕ → Bool) (xs : List ℕ) (d e : ℕ) → d ≢ e → has_place xs d ≡ true → has_place xs e ≡ true
+pub count-two : (test : ℕ → Bool) (xs : List ℕ) (d e : ℕ) → d ≢ e → has_place xs d ≡ true → has_place xs e ≡ true
     → test d ≡ true → test e ≡ true → 1 < count_by test xs
 unfolding has_place
 count-two test [] d e ne in_d in_e on_d on_e = absurd (false≢true in_d)

@@ -40,3 +40,8 @@ pub mod IdleLemmas
 pub mod TentWaits
 pub mod TentSweeps
 pub mod LawSets
+pub mod LitIdle
+pub mod LitWords
+pub mod LitVisits
+pub mod NumberVisits
+pub mod NumberRows

@@ -34,7 +34,7 @@ abbrev pub IsFilled : List ℕ → Candidates → Type 0
 IsFilled places K = (length places ≡ 0) ⊎ (1 ≤ count_by (λ d. K d 1) places)
 
 -- the cell that loses 0 by a visit of a tree
-abbrev is_lone : List ℕ → Candidates → ℕ → Bool
+abbrev pub is_lone : List ℕ → Candidates → ℕ → Bool
 is_lone places K c = K c 1 && (has_place places c && eqb (count_by (λ d. K d 1) places) 1)
 
 stays-is : (must may long v : ℕ) (none one : Bool) → v < 2 → 1 ≤ may → 1 ≤ long → must ≤ long → (none ≡ true → must < long) → cond (eqb v 0) none one ≡ true
@@ -48,7 +48,7 @@ stays-is must may long (suc zero) none one low some pos few less on = rw (le-ltb
     by (inl is) = let lt = less is in grind (arith, common_steps, cases_Bool one, eqb-true must long)
 stays-is must may long (suc (suc v)) none one low some pos few less on = absurd (omega arith)
 
-tree-after : (cells : ℕ) (places : List ℕ) (K : Candidates) → IsHouse cells (one_at_least places) → AreFull places K → IsFilled places K → (c v : ℕ) → v < 2 → K c v ≡ true
+pub tree-after : (cells : ℕ) (places : List ℕ) (K : Candidates) → IsHouse cells (one_at_least places) → AreFull places K → IsFilled places K → (c v : ℕ) → v < 2 → K c v ≡ true
     → after_house (one_at_least places) K c v ≡ not (eqb v 0 && is_lone places K c)
 unfolding after_house
 tree-after cells places K is full filled c v low on = elim (cases_Bool (has_place places c)) [
@@ -77,7 +77,7 @@ tree-after cells places K is full filled c v low on = elim (cases_Bool (has_plac
 abbrev pub IsOfTwo : Candidates → Type 0
 IsOfTwo K = (c v : ℕ) → K c v ≡ true → v < 2
 
-tree-board : (cells : ℕ) (places : List ℕ) (K : Candidates) → IsHouse cells (one_at_least places) → AreFull places K → IsFilled places K → IsOfTwo K
+pub tree-board : (cells : ℕ) (places : List ℕ) (K : Candidates) → IsHouse cells (one_at_least places) → AreFull places K → IsFilled places K → IsOfTwo K
     → after_house (one_at_least places) K ≡ without_zeros (is_lone places K) K
 unfolding after_house without_zeros
 tree-board cells places K is full filled two = fun_ext λ c. fun_ext λ v. elim (cases_Bool (K c v)) [
@@ -86,7 +86,7 @@ tree-board cells places K is full filled two = fun_ext λ c. fun_ext λ v. elim 
 ]
 
 -- a visit of a tree whose cells can have no tent leaves no value in them
-tree-broken : (cells : ℕ) (places : List ℕ) (K : Candidates) → IsHouse cells (one_at_least places) → count_by (λ d. K d 1) places ≡ 0 → (c v : ℕ) → has_place places c ≡ true → v < 2
+pub tree-broken : (cells : ℕ) (places : List ℕ) (K : Candidates) → IsHouse cells (one_at_least places) → count_by (λ d. K d 1) places ≡ 0 → (c v : ℕ) → has_place places c ≡ true → v < 2
     → after_house (one_at_least places) K c v ≡ false
 tree-broken cells places K is none c v there low =
     let w = has_place-at places c there in
@@ -111,12 +111,12 @@ unfolding without_zeros
 zeros-inside passes K = λ c v on. (and_parts (K c v) _ on).0
 
 -- where only cells that have 1 lose 0, no cell is left without a value
-zeros-full : (passes : ℕ → Bool) (K : Candidates) (c : ℕ) → (passes c ≡ true → K c 1 ≡ true) → (K c 0 ≡ true) ⊎ (K c 1 ≡ true)
+pub zeros-full : (passes : ℕ → Bool) (K : Candidates) (c : ℕ) → (passes c ≡ true → K c 1 ≡ true) → (K c 0 ≡ true) ⊎ (K c 1 ≡ true)
     → (without_zeros passes K c 0 ≡ true) ⊎ (without_zeros passes K c 1 ≡ true)
 unfolding without_zeros
 zeros-full passes K c ones some = grind (arith, common_steps, cases_Bool (K c 0), cases_Bool (K c 1), cases_Bool (passes c))
 
-filter-has : (keeps : ℕ → Bool) (xs : List ℕ) (c : ℕ) → has_place (filter keeps xs) c ≡ (has_place xs c && keeps c)
+pub filter-has : (keeps : ℕ → Bool) (xs : List ℕ) (c : ℕ) → has_place (filter keeps xs) c ≡ (has_place xs c && keeps c)
 filter-has keeps xs c = grind (arith, common_steps, cases_Bool (has_place (filter keeps xs) c), cases_Bool (has_place xs c), cases_Bool (keeps c), place-filter keeps xs c, place-kept keeps xs c)
 
 -- ---- the trees of a row

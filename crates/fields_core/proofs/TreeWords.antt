@@ -71,7 +71,7 @@ beside-count size passes y x lt =
     ap (count_by passes) (beside-is size y x lt)
     ∙ rw (count-append passes ((u ++ l) ++ r) d, count-append passes (u ++ l) r, count-append passes u l, count-if passes (ltb 0 y) ((y - 1) * size.w + x), count-if passes (ltb 0 x) (y * size.w + (x - 1)), count-if passes (ltb (x + 1) size.w) (y * size.w + (x + 1)), count-if passes (ltb (y + 1) size.h) ((y + 1) * size.w + x)) refl
 
-beside-has : (size : Extent) (y x c : ℕ) → x < size.w → has_place (beside size (y * size.w + x)) c
+pub beside-has : (size : Extent) (y x c : ℕ) → x < size.w → has_place (beside size (y * size.w + x)) c
     ≡ (((ltb 0 y && eqb ((y - 1) * size.w + x) c) || (ltb 0 x && eqb (y * size.w + (x - 1)) c))
     || (ltb (x + 1) size.w && eqb (y * size.w + (x + 1)) c)) || (ltb (y + 1) size.h && eqb ((y + 1) * size.w + x) c)
 beside-has size y x c lt =

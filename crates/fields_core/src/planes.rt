@@ -3,7 +3,9 @@
 pub(crate) mod any;
 pub(crate) mod close;
 pub(crate) mod field;
+pub(crate) mod lit;
 pub(crate) mod near;
+pub(crate) mod numbers;
 pub(crate) mod part;
 pub(crate) mod position;
 pub(crate) mod rows;

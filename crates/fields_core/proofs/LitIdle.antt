@@ -1,0 +1,57 @@
+-- Houses of one at least, by the cells of theirs that can be ones.
+use Rattle.fields_core.proofs.Common.{Bool, Candidates, IsHouse, List, after_house, arith, cases_Bool, common_steps, count_by, distinct-from, eqb, false, fun_ext, has_place, inl, inr, ne_eqb, not, one_at_least, refl, strikes_of, sym, true, ℕ, ◌&&◌, ◌<◌, ◌∙◌, ◌≡◌, ◌≢◌}
+use Rattle.fields_core.specs.Trees.{without_zeros}
+use Rattle.fields_core.proofs.AtMostLemmas.{IsFull, count-two}
+use Rattle.fields_core.proofs.PlaceLists.{count-none, count-one, count-some}
+use Rattle.fields_core.proofs.TreeBoards.{AreFull, is_lone, tree-after, tree-board, tree-broken}
+
+module _ {cells : ℕ} {places : List ℕ} (K : Candidates) (is : IsHouse cells (one_at_least places)) (full : IsFull cells K) where
+  places-full : AreFull places K
+  places-full c there = full.some c (is.within c there)
+
+  -- ---- two cells that can be ones: the house is idle
+  module _ (d e : ℕ) (ne : d ≢ e) (in_d : has_place places d ≡ true) (in_e : has_place places e ≡ true) (on_d : K d 1 ≡ true) (on_e : K e 1 ≡ true) where
+    several : 1 < count_by (λ c. K c 1) places
+    several = count-two (λ c. K c 1) places d e ne in_d in_e on_d on_e
+
+    none-lone : (c : ℕ) → is_lone places K c ≡ false
+    none-lone c = rw (ne_eqb (count_by (λ d. K d 1) places) 1 (λ e. absurd (omega (arith, several)))) (by (K c 1) (has_place places c))
+      where
+        by : (a b : Bool) → (a && (b && false)) ≡ false
+        by a b = grind (arith, common_steps, cases_Bool a, cases_Bool b)
+
+    pub several-idle : (c v : ℕ) → K c v ≡ true → strikes_of (one_at_least places) K c v ≡ false
+    unfolding after_house
+    several-idle c v on =
+        let left = tree-after cells places K is places-full (inr (omega (arith, several))) c v (full.low c v on) on in
+        by (eqb v 0) _ ((rw on at left) ∙ rw (none-lone c) refl)
+      where
+        by : (z s : Bool) → (true && not s) ≡ not (z && false) → s ≡ false
+        by z s e = grind (arith, common_steps, cases_Bool z, cases_Bool s)
+
+    pub several-stay : after_house (one_at_least places) K ≡ K
+    unfolding after_house
+    several-stay = fun_ext λ c. fun_ext λ v. elim (cases_Bool (K c v)) [
+      | inl on ↦ rw (on, several-idle c v on) refl
+      | inr off ↦ rw off refl
+    ]
+
+  -- ---- one cell that can be a one: it loses 0
+  pub lone-left : (d : ℕ) → has_place places d ≡ true → K d 1 ≡ true
+      → ((e : ℕ) → has_place places e ≡ true → K e 1 ≡ true → e ≡ d)
+      → after_house (one_at_least places) K ≡ without_zeros (λ c. K c 1 && has_place places c) K
+  unfolding without_zeros
+  lone-left d there on alone =
+      let some = count-some (λ c. K c 1) places d there on in
+      let few = count-one (λ c. K c 1) places (distinct-from places is.different) (λ a b in_a in_b on_a on_b. alone a in_a on_a ∙ sym (alone b in_b on_b)) in
+      let one : count_by (λ c. K c 1) places ≡ 1 = omega arith in
+      tree-board cells places K is places-full (inr some) full.low
+      ∙ fun_ext λ c. fun_ext λ v. rw one (by (K c v) (eqb v 0) (K c 1) (has_place places c))
+    where
+      by : (k z a b : Bool) → (k && not (z && (a && (b && true)))) ≡ (k && not (z && (a && b)))
+      by k z a b = grind (arith, common_steps, cases_Bool b)
+
+  -- ---- no cell that can be a one: no value is left
+  pub none-broken : ((d : ℕ) → has_place places d ≡ true → K d 1 ≡ false) → (c v : ℕ) → has_place places c ≡ true → v < 2
+      → after_house (one_at_least places) K c v ≡ false
+  none-broken none c v there low = tree-broken cells places K is (count-none (λ d. K d 1) places none) c v there low
