@@ -39,6 +39,9 @@ pub mod SquareVisits
 pub mod IdleLemmas
 pub mod TentWaits
 pub mod TentSweeps
+pub mod RunIdle
+pub mod RunWords
+pub mod RunHouses
 pub mod LawSets
 pub mod LitIdle
 pub mod LitWords

@@ -9,6 +9,8 @@ pub(crate) mod numbers;
 pub(crate) mod part;
 pub(crate) mod position;
 pub(crate) mod rows;
+pub(crate) mod run_visits;
+pub(crate) mod runs;
 pub(crate) mod squares;
 pub(crate) mod start;
 pub(crate) mod sweep;

@@ -13,7 +13,13 @@ use crate::light_up::cells::{columns, is_white, rows};
 use gameid_core::LightPuzzle;
 
 /// Where the run of white cells ends that begins after the cell of number `at` along a line of `len` cells.
-fn run_end(puzzle: &LightPuzzle, first: usize, stride: usize, len: usize, at: usize) -> usize
+pub(crate) fn run_end(
+    puzzle: &LightPuzzle,
+    first: usize,
+    stride: usize,
+    len: usize,
+    at: usize,
+) -> usize
     requires lawful { IsLight puzzle.now }
     requires within { (i : ℕ) → i < len → first + i * stride < light_cells puzzle.now }
     requires at_in { at < len }

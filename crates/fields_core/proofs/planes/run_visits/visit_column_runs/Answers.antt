@@ -1,0 +1,23 @@
+use Rattle.fields_core.proofs.Common.{column_house, ◌*◌, ◌+◌}
+use Rattle.fields_core.specs.Visits.{AreVisited}
+use Rattle.fields_core.proofs.VisitLemmas.{sweep-broken, sweep-first, sweep-more}
+use Rattle.fields_core.proofs.planes.run_visits.visit_column_runs.Goals as goal
+use Rattle.fields_core.proofs.planes.run_visits.visit_column_runs.Goals.{After-visit_column_run}
+
+pub loop-x-init : goal.loop-x-init
+loop-x-init g c = sweep-first (λ x. column_house c.args.puzzle.now (c.args.y * c.args.puzzle.now.size.w + x)) c.requires.alive
+
+visited : (g : _) (c : After-visit_column_run g)
+    → AreVisited (column_house c.args.puzzle.now (c.args.y * c.args.puzzle.now.size.w + c.loop-x.x)) c.loop-x.planes c.visit_column_run.new.planes c.visit_column_run.result
+visited g c = rw (c.from.ensures, c.columns-w.ensures.value) at c.visit_column_run.ensures
+
+pub loop-x-preserved : goal.loop-x-preserved
+loop-x-preserved g c =
+    sweep-more (λ x. column_house c.args.puzzle.now (c.args.y * c.args.puzzle.now.size.w + x)) c.loop-x.invariant
+    (visited g (goal.at.loop-x-preserved g c).After-visit_column_run) c.if-not-visit_column_run.false
+
+pub returns-then-not-visit_column_run : goal.returns-then-not-visit_column_run
+returns-then-not-visit_column_run g c =
+    sweep-broken (λ x. column_house c.args.puzzle.now (c.args.y * c.args.puzzle.now.size.w + x)) c.loop-x.invariant
+    (visited g (goal.at.returns-then-not-visit_column_run g c).After-visit_column_run) c.if-not-visit_column_run.true
+    (rw (c.columns-w.ensures.value) at c.loop-x-test.true)

@@ -1,0 +1,20 @@
+-- Words of runs along a line, as they are written one after another. No public contract uses these words.
+use Rattle.std.specs.Prelude.{◌≡◌, ◌≢◌, ℕ, ◌+◌, ◌*◌, ◌<◌, Bool, false, ◌&&◌, nat_lt, List, length, slice_index}
+use Rattle.grid_core.specs.Words.{has_bit}
+use Rattle.fields_core.specs.Light.{clear}
+
+-- the bits are the run that number `at` of a line of so many is in: none where it does not pass
+abbrev pub IsRunAt : (ℕ → Bool) → ℕ → ℕ → ℕ → Type 0
+IsRunAt test len at bits = (k : ℕ) → has_bit bits k ≡ (nat_lt k len && clear test at k)
+
+-- the bits are the run that the number before is in, and none at the first
+pub record IsRunBefore (test : ℕ → Bool) (len at bits : ℕ) : Type 0 where
+  pub none : at ≡ 0 → (k : ℕ) → has_bit bits k ≡ false
+  pub run : (j : ℕ) → j + 1 ≡ at → IsRunAt test len j bits
+
+-- the runs of the first n numbers of a line stand at their cells, and other words are as they were
+pub record AreWritten (test : ℕ → Bool) (len first stride n : ℕ) (from to : List ℕ) : Type 0 where
+  pub each : (i : ℕ) → i < n → IsRunAt test len i (slice_index to (first + i * stride))
+  pub others : (c : ℕ) → ((i : ℕ) → i < n → first + i * stride ≢ c)
+      → slice_index to c ≡ slice_index from c
+  pub long : length to ≡ length from
