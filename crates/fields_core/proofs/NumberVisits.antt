@@ -1,5 +1,7 @@
 -- Visits of the numbers of Light Up on planes.
-use Rattle.fields_core.proofs.Common.{ArePieces, Black, Bool, Extent, IsAlive, IsBroken, IsFurther, IsHouse, IsHouseOf, IsLight, Layers, Light, List, Numbered, Piece, White, [], after_house, and-false, and_from, and_parts, any_below, any_below-none, any_below-some, arith, cases_Bool, cases_eq, cases_lt, common_steps, crosses, div-mul-add, eq-eqb, eqb, eqb-true, exactly, false, filter, fun_ext, further-none, get_or, has_bit, has_place, houses_below, inl, inr, lies_in, lies_in_first, light_cells, light_houses, lines_beside, lt-ltb, le-ltb, ltb, ltb-true, ne_eqb, not, number_house, number_of, or_cases, or_parts, or_left, or_right, piece_at, place-column, refl, suc, sym, true, true≢false, white, zero, ℕ, ◌%◌, ◌&&◌, ◌*◌, ◌+◌, ◌-◌, ◌/◌, ◌<◌, ◌||◌, ◌∙◌, ◌∷◌, ◌≡◌, ◌≤◌, subst}
+use Rattle.fields_core.proofs.Common.{ArePieces, Black, Bool, Extent, IsAlive, IsBroken, IsFurther, IsHouse, IsHouseOf, IsLight, Layers, Light, List, Numbered, Piece, White, [], after_house, and-false, and_from, and_parts, any_below, any_below-none, any_below-some, arith, cases_Bool, cases_eq, cases_lt, common_steps, crosses, div-mul-add, eq-eqb, eqb, eqb-true, exactly, false, filter, fun_ext, further-none, get_or, get_or-set_other, get_or-set_same, has_bit, has_place, houses_below, inl, inr, le-ltb, length, length-map, lies_in, lies_in_first, light_cells, light_houses, lines_beside, lt-ltb, ltb, ltb-true, map, ne_eqb, not, number_house, number_of, or_cases, or_left, or_parts, or_right, piece_at, place-column, refl, set, slice_index, subst, suc, sym, true, true≢false, white, zero, ℕ, ◌%◌, ◌&&◌, ◌*◌, ◌+◌, ◌-◌, ◌/◌, ◌<◌, ◌||◌, ◌∙◌, ◌∷◌, ◌≡◌, ◌≤◌}
+use Rattle.std.proofs.lemmas.List.{map-set}
+use Rattle.fields_core.specs.NumberWords.{IsColumnOf}
 use Rattle.grid_core.specs.Planes.{has}
 use Rattle.grid_core.specs.Regions.{beside}
 use Rattle.grid_core.specs.declared.planes.line.Line.TheVariants.{Row, Column}
@@ -21,6 +23,15 @@ number-is p {c} {n} lawful lt e =
     among-house _ (light_houses p) (light_cells p) (light-counting lawful).are_houses
     (among-front _ (houses_below (number_house p) (light_cells p)) _
     (among-below _ (number_house p) c (light_cells p) lt (rw e (among-one _))))
+
+-- ---- a word for each column: one more is written
+pub columns-more : {W : Type 0} (bits : W → ℕ) (words : List W) (n : ℕ) (size : Extent) (passes : ℕ → Bool) (word : W) → n < length words
+    → ((x : ℕ) → x < n → IsColumnOf size passes x (slice_index (map bits words) x)) → IsColumnOf size passes n (bits word)
+    → (x : ℕ) → x < n + 1 → IsColumnOf size passes x (slice_index (map bits (set words n word)) x)
+columns-more bits words n size passes word lt written is x less y = rw (map-set bits words n word) (elim (cases_eq x n) [
+  | inl e ↦ rw (e, get_or-set_same (map bits words) n (bits word) 0 (omega (arith, lt, length-map words bits))) (is y)
+  | inr ne ↦ rw (get_or-set_other (map bits words) n x (bits word) 0 ne) (written x (omega arith) y)
+])
 
 -- ---- the cells beside a cell, by row and column
 -- the number before one and the number after it

@@ -3,6 +3,7 @@
 pub(crate) mod any;
 pub(crate) mod close;
 pub(crate) mod field;
+pub(crate) mod light_words;
 pub(crate) mod lit;
 pub(crate) mod near;
 pub(crate) mod numbers;
