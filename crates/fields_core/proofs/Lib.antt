@@ -42,6 +42,8 @@ pub mod TentSweeps
 pub mod RunIdle
 pub mod RunWords
 pub mod RunHouses
+pub mod RunLines
+pub mod RunBegins
 pub mod LawSets
 pub mod LitIdle
 pub mod LitWords

@@ -10,6 +10,7 @@ pub(crate) mod numbers;
 pub(crate) mod part;
 pub(crate) mod position;
 pub(crate) mod rows;
+pub(crate) mod run_lines;
 pub(crate) mod run_visits;
 pub(crate) mod runs;
 pub(crate) mod squares;
