@@ -1,0 +1,3 @@
+//! Planes of Light Up: what is kept of a puzzle, which houses wait, and closings by sweeps.
+
+pub(crate) mod tables;
