@@ -50,3 +50,4 @@ pub mod LitWords
 pub mod LitVisits
 pub mod NumberVisits
 pub mod NumberRows
+mod LightNotes

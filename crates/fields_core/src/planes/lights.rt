@@ -1,4 +1,7 @@
 //! Planes of Light Up: what is kept of a puzzle, which houses wait, and closings by sweeps.
 
+pub(crate) mod field;
+pub(crate) mod start;
 pub(crate) mod tables;
 pub(crate) mod waits;
+pub(crate) mod wake;
