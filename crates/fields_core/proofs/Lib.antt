@@ -50,4 +50,5 @@ pub mod LitWords
 pub mod LitVisits
 pub mod NumberVisits
 pub mod NumberRows
+pub mod LitRuns
 mod LightNotes

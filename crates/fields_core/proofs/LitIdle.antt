@@ -1,7 +1,8 @@
 -- Houses of one at least, by the cells of theirs that can be ones.
-use Rattle.fields_core.proofs.Common.{Bool, Candidates, IsHouse, List, after_house, arith, cases_Bool, common_steps, count_by, distinct-from, eqb, false, fun_ext, has_place, inl, inr, ne_eqb, not, one_at_least, refl, strikes_of, sym, true, ℕ, ◌&&◌, ◌<◌, ◌∙◌, ◌≡◌, ◌≢◌}
+use Rattle.fields_core.proofs.Common.{Bool, Candidates, IsHouse, List, after_house, arith, cases_Bool, common_steps, count_by, distinct-from, eqb, false, fun_ext, has_place, inl, inr, ne_eqb, not, one_at_least, refl, strikes_of, sym, true, true≢false, ℕ, ◌&&◌, ◌<◌, ◌∙◌, ◌≡◌, ◌≢◌, and-true, cases_lt, false_from_ne_true, ◌⊎◌, ◌≤◌, ap}
+use Rattle.grid_core.specs.Candidates.{IsInside}
 use Rattle.fields_core.specs.Trees.{without_zeros}
-use Rattle.fields_core.proofs.AtMostLemmas.{IsFull, count-two}
+use Rattle.fields_core.proofs.AtMostLemmas.{IsFull, count-two, others-stay}
 use Rattle.fields_core.proofs.PlaceLists.{count-none, count-one, count-some}
 use Rattle.fields_core.proofs.TreeBoards.{AreFull, is_lone, tree-after, tree-board, tree-broken}
 
@@ -55,3 +56,37 @@ module _ {cells : ℕ} {places : List ℕ} (K : Candidates) (is : IsHouse cells 
   pub none-broken : ((d : ℕ) → has_place places d ≡ true → K d 1 ≡ false) → (c v : ℕ) → has_place places c ≡ true → v < 2
       → after_house (one_at_least places) K c v ≡ false
   none-broken none c v there low = tree-broken cells places K is (count-none (λ d. K d 1) places none) c v there low
+
+  -- ---- some cell that can be a one: no cell loses 1
+  pub ones-stay : 1 ≤ count_by (λ c. K c 1) places → (c : ℕ) → after_house (one_at_least places) K c 1 ≡ K c 1
+  unfolding without_zeros
+  ones-stay some c = ap (λ (L : Candidates). L c 1) (tree-board cells places K is places-full (inr some) full.low) ∙ and-true (K c 1)
+
+  -- none: the house is idle only if it has no cell
+  never-idle : after_house (one_at_least places) K ≡ K → count_by (λ c. K c 1) places ≡ 0 → (c : ℕ) → has_place places c ≡ false
+  never-idle idle none c = false_from_ne_true _ (λ there.
+      let gone : (v : ℕ) → v < 2 → K c v ≡ false = λ v low. ap (λ (L : Candidates). L c v) (sym idle) ∙ tree-broken cells places K is none c v there low in
+      by (gone 0 (omega arith)) (gone 1 (omega arith)) (places-full c there))
+    where
+      by : {c : ℕ} → K c 0 ≡ false → K c 1 ≡ false → (K c 0 ≡ true) ⊎ (K c 1 ≡ true) → ⊥
+      by a b (inl on) = true≢false (sym on ∙ a)
+      by a b (inr on) = true≢false (sym on ∙ b)
+
+-- ---- an idle house stays idle where only 0 is taken
+module _ {cells : ℕ} {places : List ℕ} (K L : Candidates) (is : IsHouse cells (one_at_least places)) (full : IsFull cells K) (still : IsFull cells L)
+    (inside : IsInside L K) (same : (c : ℕ) → L c 1 ≡ K c 1) where
+  counts : count_by (λ c. L c 1) places ≡ count_by (λ c. K c 1) places
+  counts = ap (λ (test : ℕ → Bool). count_by test places) (fun_ext same)
+
+  pub idle-kept : after_house (one_at_least places) K ≡ K → after_house (one_at_least places) L ≡ L
+  unfolding without_zeros
+  idle-kept idle = elim (cases_lt 0 (count_by (λ c. K c 1) places)) [
+    | inl some ↦
+        let before = sym (tree-board cells places K is (places-full K is full) (inr some) full.low) ∙ idle in
+        tree-board cells places L is (places-full L is still) (inr (omega (arith, counts))) still.low
+        ∙ fun_ext λ c. fun_ext λ v. rw (same c, counts) (by (L c v) (K c v) (eqb v 0) (is_lone places K c) (inside c v) (ap (λ (M : Candidates). M c v) before))
+    | inr few ↦ fun_ext λ c. fun_ext λ v. others-stay (one_at_least places) L c v (never-idle K is full idle (omega arith) c)
+  ]
+    where
+      by : (l k z a : Bool) → (l ≡ true → k ≡ true) → (k && not (z && a)) ≡ k → (l && not (z && a)) ≡ l
+      by l k z a in_k stays = grind (arith, common_steps, cases_Bool l, cases_Bool k, cases_Bool z, cases_Bool a)

@@ -1,0 +1,97 @@
+-- Houses of white cells of Light Up that are idle, and stay so while only 0 is taken.
+use Rattle.fields_core.proofs.Common.{Candidates, IsLight, Light, ap, cases_eq, column_run, has_place, inl, inr, joined_in_column, joined_in_row, light_cells, lit_house, ne_eqb, not, one_at_least, place-back, place-front, place-kept, refl, row_run, seen_from, strikes_of, true, false, white, ℕ, ◌<◌, ◌≡◌, ◌≢◌, cases_Bool, after_house, cases_lt, count_by, arith, Bool, sym, true≢false, ◌⊎◌, Layers, IsAlive, ◌∙◌}
+use Rattle.grid_core.specs.Candidates.{IsInside}
+use Rattle.grid_core.specs.Planes.{has}
+use Rattle.fields_core.specs.Visits.{AreVisited, after_houses}
+use Rattle.fields_core.proofs.AtMostLemmas.{IsFull}
+use Rattle.fields_core.proofs.LightCounting.{in-column-run, in-row-run, light-board}
+use Rattle.fields_core.proofs.LightHouseLaws.{column-white-end, row-self, white-in}
+use Rattle.fields_core.proofs.LitIdle.{idle-kept, ones-stay, several-idle, several-stay}
+use Rattle.fields_core.proofs.LitVisits.{lit-is}
+use Rattle.fields_core.proofs.PartLemmas.{value-in}
+use Rattle.fields_core.proofs.TreeBoards.{tree-broken}
+
+module _ (p : Light) (lawful : IsLight p) (c : ℕ) (is_white : white p c ≡ true) where
+  some : 0 < p.size.w
+  some = (light-board lawful).some
+
+  inside : c < light_cells p
+  inside = white-in p c (light-board lawful).long is_white
+
+  -- ---- the cells of both runs are those of the house
+  pub seen-in-row : (d : ℕ) → joined_in_row p c d ≡ true → has_place (seen_from p c) d ≡ true
+  unfolding seen_from
+  seen-in-row d joined = place-front (row_run p c) _ d (in-row-run p c d some joined)
+
+  pub seen-in-column : (d : ℕ) → joined_in_column p c d ≡ true → has_place (seen_from p c) d ≡ true
+  unfolding seen_from
+  seen-in-column d joined = elim (cases_eq d c) [
+    | inl same ↦ place-front (row_run p c) _ d (rw same (in-row-run p c c some (row-self p c is_white)))
+    | inr other ↦
+        let within = white-in p d (light-board lawful).long (column-white-end p c d some joined) in
+        place-back (row_run p c) _ d (place-kept _ (column_run p c) d (in-column-run p c d some within joined) (ap not (ne_eqb d c other)))
+  ]
+
+  -- ---- a run with two cells that can have a bulb
+  module _ (K : Candidates) (full : IsFull (light_cells p) K) (d e : ℕ) (ne : d ≢ e) (on_d : K d 1 ≡ true) (on_e : K e 1 ≡ true) where
+    pub idle-by-row : joined_in_row p c d ≡ true → joined_in_row p c e ≡ true
+        → (a v : ℕ) → K a v ≡ true → strikes_of (one_at_least (seen_from p c)) K a v ≡ false
+    idle-by-row in_d in_e = several-idle K (lit-is p lawful inside is_white) full d e ne (seen-in-row d in_d) (seen-in-row e in_e) on_d on_e
+
+    pub idle-by-column : joined_in_column p c d ≡ true → joined_in_column p c e ≡ true
+        → (a v : ℕ) → K a v ≡ true → strikes_of (one_at_least (seen_from p c)) K a v ≡ false
+    idle-by-column in_d in_e = several-idle K (lit-is p lawful inside is_white) full d e ne (seen-in-column d in_d) (seen-in-column e in_e) on_d on_e
+
+-- the same of the visits of the house of any cell
+pub row-stays : (p : Light) (c d e : ℕ) (K : Candidates) → IsLight p → IsFull (light_cells p) K → d ≢ e → K d 1 ≡ true → K e 1 ≡ true
+    → joined_in_row p c d ≡ true → joined_in_row p c e ≡ true → after_houses (lit_house p c) K ≡ K
+unfolding after_houses
+row-stays p c d e K lawful full ne on_d on_e in_d in_e = elim (cases_Bool (white p c)) [
+  | inl on ↦ rw on (several-stay K (lit-is p lawful (inside p lawful c on) on) full d e ne (seen-in-row p lawful c on d in_d) (seen-in-row p lawful c on e in_e) on_d on_e)
+  | inr off ↦ rw off refl
+]
+
+pub column-stays : (p : Light) (c d e : ℕ) (K : Candidates) → IsLight p → IsFull (light_cells p) K → d ≢ e → K d 1 ≡ true → K e 1 ≡ true
+    → joined_in_column p c d ≡ true → joined_in_column p c e ≡ true → after_houses (lit_house p c) K ≡ K
+unfolding after_houses
+column-stays p c d e K lawful full ne on_d on_e in_d in_e = elim (cases_Bool (white p c)) [
+  | inl on ↦ rw on (several-stay K (lit-is p lawful (inside p lawful c on) on) full d e ne (seen-in-column p lawful c on d in_d) (seen-in-column p lawful c on e in_e) on_d on_e)
+  | inr off ↦ rw off refl
+]
+
+-- ---- an idle house stays idle where no cell loses 1
+pub lit-kept : (p : Light) (c : ℕ) (K L : Candidates) → IsLight p → IsFull (light_cells p) K → IsFull (light_cells p) L → IsInside L K
+    → ((d : ℕ) → L d 1 ≡ K d 1) → after_houses (lit_house p c) K ≡ K → after_houses (lit_house p c) L ≡ L
+unfolding after_houses
+lit-kept p c K L lawful full still inside_of same idle = elim (cases_Bool (white p c)) [
+  | inl on ↦ rw on (idle-kept K L (lit-is p lawful (inside p lawful c on) on) full still inside_of same (rw on at idle))
+  | inr off ↦ rw off refl
+]
+
+-- ---- on planes
+pub planes-full : (p : Light) (from : Layers) → from.size ≡ p.size → IsAlive from → IsFull (light_cells p) (has from)
+planes-full p from size alive = record { low = value-in from; some = λ c lt. alive c (rw size lt) }
+
+-- a visit of a white cell takes 1 from no cell
+pub lit-ones : (p : Light) (c : ℕ) (from to : Layers) → IsLight p → from.size ≡ p.size → IsAlive from
+    → AreVisited (lit_house p c) from to true → (d : ℕ) → has to d 1 ≡ has from d 1
+unfolding after_houses
+lit-ones p c from to lawful size alive visit d = elim (cases_Bool (white p c)) [
+  | inr off ↦ ap (λ (L : Candidates). L d 1) (rw off at visit.left refl)
+  | inl on ↦
+      let house = lit-is p lawful (inside p lawful c on) on in
+      let left : has to ≡ after_house (one_at_least (seen_from p c)) (has from) = rw on at visit.left refl in
+      let full = planes-full p from size alive in
+      elim (cases_lt 0 (count_by (λ e. has from e 1) (seen_from p c))) [
+        | inl some_one ↦ ap (λ (L : Candidates). L d 1) left ∙ ones-stay (has from) house full some_one d
+        | inr none ↦
+            let there = seen-in-row p lawful c on c (row-self p c on) in
+            let gone : (v : ℕ) → v < 2 → has to c v ≡ false = λ v low. ap (λ (L : Candidates). L c v) left
+            ∙ tree-broken (light_cells p) (seen_from p c) (has from) house (omega arith) c v there low in
+            absurd (never (gone 0 (omega arith)) (gone 1 (omega arith)) (visit.alive c (rw (visit.further.same_size, size) (inside p lawful c on))))
+      ]
+]
+  where
+    never : {a b : Bool} → a ≡ false → b ≡ false → (a ≡ true) ⊎ (b ≡ true) → ⊥
+    never a b (inl on) = true≢false (sym on ∙ a)
+    never a b (inr on) = true≢false (sym on ∙ b)
