@@ -44,6 +44,8 @@ pub mod RunWords
 pub mod RunHouses
 pub mod RunLines
 pub mod RunBegins
+pub mod AnyOrder
+pub mod RunOrder
 pub mod LawSets
 pub mod LitIdle
 pub mod LitWords

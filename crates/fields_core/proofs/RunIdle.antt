@@ -1,5 +1,5 @@
 -- Houses of one at most that strike nothing.
-use Rattle.fields_core.proofs.Common.{Bool, Candidates, CountHouse, IsAlive, IsHouse, IsTally, Layers, [], after_house, ap, arith, cases_Bool, cases_eq, common_steps, cond, count_by, eq-eqb, eqb, false, fun_ext, has_place, is_empty, le-ltb, ltb, ne_eqb, not, refl, strikes_of, sym, true, true≢false, ℕ, ◌&&◌, ◌+◌, ◌<◌, ◌||◌, ◌∷◌, ◌≡◌, ◌≢◌, ◌⊎◌}
+use Rattle.fields_core.proofs.Common.{Bool, Candidates, CountHouse, IsAlive, IsHouse, IsTally, Layers, List, [], after_house, ap, arith, cases_Bool, cases_eq, common_steps, cond, count_by, eq-eqb, eqb, false, fun_ext, has_place, houses_below, is_empty, le-ltb, ltb, ne_eqb, not, refl, strikes_of, suc, sym, true, true≢false, zero, ℕ, ◌&&◌, ◌+◌, ◌<◌, ◌||◌, ◌∙◌, ◌∷◌, ◌≡◌, ◌≢◌, ◌⊎◌}
 use Rattle.grid_core.specs.Planes.{has}
 use Rattle.grid_core.proofs.PlaneLemmas.{further-none}
 use Rattle.fields_core.specs.Visits.{AreVisited}
@@ -7,6 +7,7 @@ unfoldable use Rattle.fields_core.specs.Visits.{after_houses}
 use Rattle.fields_core.proofs.CountKept.{idle-at}
 use Rattle.fields_core.proofs.PartLemmas.{value-in}
 use Rattle.fields_core.proofs.PlaceLists.{count-none}
+use Rattle.fields_core.proofs.VisitLemmas.{visits-append}
 
 -- a house of one at most is idle where no cell of it must be 1
 pub at-most-idle : {cells : ℕ} (house : CountHouse) (K : Candidates) → IsHouse cells house
@@ -52,3 +53,10 @@ pub zeros-visited : {cells : ℕ} (house : CountHouse) {p : Layers} → IsHouse 
     → AreVisited (house ∷ []) p p true
 zeros-visited house {p} is least most alive zeros = idle-visited house alive
     (at-most-idle house (has p) is least most (value-in p) zeros)
+
+-- lists of houses, each of which takes nothing
+pub idle-below : (f : ℕ → List CountHouse) (n : ℕ) (K : Candidates) → ((k : ℕ) → k < n → after_houses (f k) K ≡ K) → after_houses (houses_below f n) K ≡ K
+unfolding after_houses houses_below
+idle-below f zero K each = refl
+idle-below f (suc n) K each =
+    visits-append (houses_below f n) (f n) K ∙ ap (after_houses (f n)) (idle-below f n K (λ k lt. each k (omega arith))) ∙ each n (omega arith)

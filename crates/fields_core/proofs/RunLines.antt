@@ -1,5 +1,5 @@
 -- The runs of one line, visited at once.
-use Rattle.fields_core.proofs.Common.{AllByRecursion, and-false, and-true, eq-eqb, ne_eqb, Bool, CountHouse, Extent, IsAlive, IsFurther, IsHouse, Layers, List, [], and_from, and_parts, any_below, any_below-here, any_below-none, any_below-some, ap, arith, at_line, cases_Bool, cases_eq, cases_lt, common_steps, covers, crosses, distinct-from, eqb, false, false_from_ne_true, false≢true, fun_ext, has_bit, has_place, inl, inr, list_any, lt-ltb, ltb, ltb-true, not, not-true, or_cases, or_left, or_right, refl, sym, true, true≢false, without_taking, ℕ, ◌%◌, ◌&&◌, ◌*◌, ◌/◌, ◌<◌, ◌||◌, ◌∙◌, ◌∷◌, ◌≡◌, ◌≢◌, ◌≤◌, ◌⊎◌}
+use Rattle.fields_core.proofs.Common.{AllByRecursion, Bool, CountHouse, Extent, IsAlive, IsFurther, IsHouse, Layers, List, [], and-false, and-true, and_from, and_parts, any_below, any_below-here, any_below-none, any_below-some, ap, arith, at_line, cases_Bool, cases_eq, cases_lt, common_steps, covers, crosses, distinct-from, eq-eqb, eqb, false, false_from_ne_true, false≢true, fun_ext, has_bit, has_place, inl, inr, list_any, lt-ltb, ltb, ltb-true, ne_eqb, not, not-true, or_cases, or_left, or_right, refl, sym, true, true≢false, without_taking, ℕ, ◌%◌, ◌&&◌, ◌*◌, ◌/◌, ◌<◌, ◌||◌, ◌∙◌, ◌∷◌, ◌≡◌, ◌≢◌, ◌≤◌, ◌⊎◌}
 use Rattle.grid_core.specs.Planes.{has}
 use Rattle.grid_core.specs.Words.{IsLeast}
 use Rattle.grid_core.specs.declared.planes.line.Line.{Line}
@@ -292,8 +292,9 @@ module _ (size : Extent) (line : Line) (n room : ℕ) (cell : ℕ → ℕ) (join
           let d = any-some (λ d. not (zeros d)) w.0.places parts.1 in
           let v = w.1.joins d.0 c d.1 parts.0 in
           let marked = must-from v.0 v.2 (ap zeros v.4 ∙ not-true (zeros d.0) d.2) in
-          let lies : has_bit around v.1 ≡ true = is.is v.1 ∙ any_below-here (λ j. has_bit must j && has_bit (run j) v.1) room v.0 (omega (arith, v.2))
-          (and_from _ _ marked (run_is v.0 v.1 v.2 ∙ and_from _ _ (lt-ltb v.1 n v.3) v.6)) in
+          let here : (has_bit must v.0 && has_bit (run v.0) v.1) ≡ true =
+          and_from (has_bit must v.0) (has_bit (run v.0) v.1) marked (run_is v.0 v.1 v.2 ∙ and_from (ltb v.1 n) (joined v.0 v.1) (lt-ltb v.1 n v.3) v.6) in
+          let lies : has_bit around v.1 ≡ true = is.is v.1 ∙ any_below-here (λ j. has_bit must j && has_bit (run j) v.1) room v.0 (omega (arith, v.2)) here in
           let zero : at_line from line 0 v.1 ≡ true = are.values from 0 v.1 same_size (omega arith) v.3 ∙ ap zeros v.5 ∙ has_zero in
           rw v.5 at (are.from_cell taken v.1 v.3 (taken_is v.1 ∙ and_from _ _ lies zero))
 

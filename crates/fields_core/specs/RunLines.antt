@@ -48,8 +48,8 @@ pub record AreRunsOf (size : Extent) (line : Line) (n : ℕ) (cell : ℕ → ℕ
       → at_line p line v k ≡ has p (cell k) v
   pub each : AllByRecursion (IsRunOf (size.w * size.h) n cell joined) houses
   pub some : (j k : ℕ) → j < n → k < n → joined j k ≡ true
-      → list_any (λ house. has_place house.places (cell j) && has_place house.places (cell k)) houses
-      ≡ true
+      → list_any (λ house. has_place house.places (cell j) && has_place house.places (cell k))
+      houses ≡ true
 
 -- the houses of the runs of a column, from the top
 abbrev pub column_runs_of_column : Light → ℕ → List CountHouse

@@ -6,11 +6,13 @@ ghost use Rattle.fields_core.specs.Light.{light_cells};
 ghost use Rattle.fields_core.specs.LightHouses.{column_house, row_house};
 ghost use Rattle.fields_core.specs.LightWords.{IsColumnRun, IsRowRun, column_runs_of_row, row_runs_of_row};
 ghost use Rattle.fields_core.specs.Parts.{IsAlive};
+ghost use Rattle.fields_core.specs.RunLines.{column_runs_of_column};
 ghost use Rattle.fields_core.specs.Visits.{AreVisited};
 
-use crate::light_up::cells::columns;
+use crate::light_up::cells::{columns, rows};
 use crate::light_up::run::{begins_in_column, begins_in_row};
 use crate::planes::part::Part;
+use crate::planes::run_lines::visit_line;
 use crate::planes::visit::visit;
 use gameid_core::LightPuzzle;
 use grid_core::{Line, Planes, Word};
@@ -41,7 +43,7 @@ pub(crate) fn visit_row_run<W: Word>(
     visit(planes, &part, 0, 1)
 }
 
-/// Visits the houses of the runs that begin in a row, up to one that has no filling.
+/// Visits the houses of the runs of a row, all at once.
 pub(crate) fn visit_row_runs<W: Word>(
     planes: &mut Planes<W>,
     puzzle: &LightPuzzle,
@@ -57,13 +59,7 @@ pub(crate) fn visit_row_runs<W: Word>(
     ensures { AreVisited (row_runs_of_row puzzle.now y) planes.old planes.new result }
 {
     let w = columns(puzzle);
-    let first = usize::from(y) * w;
-    for x in 0..w {
-        if !visit_row_run(planes, puzzle, runs, first + x) {
-            return false;
-        }
-    }
-    true
+    visit_line(planes, runs, Line::Row(y), usize::from(y) * w, 1, w)
 }
 
 /// Visits the house of the run of a column that begins at the cell, if one does.
@@ -115,4 +111,30 @@ pub(crate) fn visit_column_runs<W: Word>(
         }
     }
     true
+}
+
+/// Visits the houses of the runs of a column, all at once.
+pub(crate) fn visit_runs_of_column<W: Word>(
+    planes: &mut Planes<W>,
+    puzzle: &LightPuzzle,
+    runs: &[W],
+    x: u8,
+) -> bool
+    requires size { planes.old.size ≡ puzzle.now.size }
+    requires long { light_cells puzzle.now ≤ length (map W.bits runs.now) }
+    requires runs { (c : ℕ) → c < light_cells puzzle.now
+        → IsColumnRun puzzle.now c (slice_index (map W.bits runs.now) c) }
+    requires x_in { x < puzzle.now.size.w }
+    requires alive { IsAlive planes.old }
+    ensures { AreVisited (column_runs_of_column puzzle.now x) planes.old planes.new result }
+{
+    let w = columns(puzzle);
+    visit_line(
+        planes,
+        runs,
+        Line::Column(x),
+        usize::from(x),
+        w,
+        rows(puzzle),
+    )
 }

@@ -78,7 +78,8 @@ fn run_word<W: Word>(
     requires within { (i : ℕ) → i < len → first + i * stride < light_cells puzzle.now }
     requires at_in { at < len }
     requires fits { len ≤ W.room }
-    requires before { IsRunBefore (λ i. white puzzle.now (first + i * stride)) len at (W.bits before) }
+    requires before { IsRunBefore (λ i. white puzzle.now (first + i * stride)) len at
+        (W.bits before) }
     ensures { IsRunAt (λ i. white puzzle.now (first + i * stride)) len at (W.bits result) }
 {
     if before.has(at) {

@@ -1,4 +1,4 @@
-use Rattle.fields_core.proofs.Common.{arith, eqb, has_bit, length, map, not, ◌&&◌, slice_index, sym, ◌*◌, ◌+◌, ◌<◌, ◌∙◌, ◌≡◌, ℕ}
+use Rattle.fields_core.proofs.Common.{arith, eqb, has_bit, length, map, not, slice_index, sym, ℕ, ◌&&◌, ◌*◌, ◌+◌, ◌<◌, ◌∙◌, ◌≡◌}
 use Rattle.grid_core.proofs.TurnLemmas.{fewer_left}
 use Rattle.fields_core.proofs.RunLines.{around-all, around-clash, around-more, around-none}
 use Rattle.fields_core.proofs.TreeWords.{row-read}
