@@ -7,6 +7,7 @@ use Rattle.fields_core.specs.LightWords.{AreRunWords}
 use Rattle.fields_core.specs.NumberWords.{AreColumnsOf, is_numbered}
 use Rattle.fields_core.specs.Parts.{IsAlive}
 use Rattle.fields_core.specs.Trees.{AreRowsOf}
+use Rattle.fields_core.specs.declared.planes.lights.notes.LightNotes.{LightNotes}
 use Rattle.fields_core.specs.declared.planes.lights.tables.LightTables.{LightTables}
 
 -- there are words for so many cells, and for so many lines
@@ -16,6 +17,11 @@ pub record HasTables {W : Type 0} (cells lines : ℕ) (t : LightTables W) : Type
   pub rows : lines ≤ length t.rows.items
   pub columns : lines ≤ length t.columns.items
   pub numbers : lines ≤ length t.numbers.items
+
+-- and for what waits of the lines
+pub record HasLightRoom {W : Type 0} (cells lines : ℕ) (notes : LightNotes W) : Type 0 where
+  pub tables : HasTables cells lines notes.tables
+  pub lit : lines ≤ length notes.waits.lit.items
 
 -- the words are those of the puzzle
 pub record AreTables {W : Type 0} (bits : W → ℕ) (p : Light) (t : LightTables W) : Type 0 where

@@ -1,6 +1,6 @@
 //! Planes of Light Up: what is kept of a puzzle, which houses wait, and closings by sweeps.
 
-pub(crate) mod field;
+pub(crate) mod notes;
 pub(crate) mod start;
 pub(crate) mod tables;
 pub(crate) mod waits;

@@ -6,10 +6,10 @@ ghost use Rattle.grid_core.specs.Planes.{has};
 ghost use Rattle.gameid_core.specs.Puzzles.{IsLight};
 ghost use Rattle.fields_core.specs.Light.{light_cells, white};
 ghost use Rattle.fields_core.specs.LightHouses.{light_rules};
-ghost use Rattle.fields_core.specs.LightPlanes.{AreTables, HasTables};
+ghost use Rattle.fields_core.specs.LightPlanes.{AreTables, HasLightRoom};
 ghost use Rattle.fields_core.specs.Trees.{AreRowsOf};
 
-use crate::planes::lights::field::LightField;
+use crate::planes::lights::notes::LightNotes;
 use gameid_core::LightPuzzle;
 use grid_core::{Line, Planes, Word};
 
@@ -33,23 +33,22 @@ fn start_lights<W: Word>(planes: &mut Planes<W>, puzzle: &LightPuzzle, whites: &
     }
 }
 
-impl<W: Word> LightField<W> {
+impl<W: Word> LightNotes<W> {
     /// Begins with the board that a search of the puzzle starts from, and writes what is kept of it. It takes no memory.
-    pub(crate) fn start(&mut self, puzzle: &LightPuzzle)
+    pub(crate) fn start(&mut self, planes: &mut Planes<W>, puzzle: &LightPuzzle)
         requires narrow { puzzle.now.size.w ≤ W.room }
         requires low { puzzle.now.size.h ≤ W.room }
-        requires few { light_cells puzzle.now * 2 ≤ length self.old.planes.takings }
-        requires tables { HasTables (light_cells puzzle.now) W.room self.old.tables }
+        requires few { light_cells puzzle.now * 2 ≤ length planes.old.takings }
+        requires room { HasLightRoom (light_cells puzzle.now) W.room self.old }
         ensures lawful { IsLight puzzle.now }
-        ensures start { has self.new.planes ≡ (light_rules puzzle.now).start }
-        ensures size { self.new.planes.size ≡ puzzle.now.size }
-        ensures room { length self.new.planes.takings ≡ length self.old.planes.takings }
+        ensures start { has planes.new ≡ (light_rules puzzle.now).start }
+        ensures size { planes.new.size ≡ puzzle.now.size }
+        ensures steps { length planes.new.takings ≡ length planes.old.takings }
         ensures written { AreTables W.bits puzzle.now self.new.tables }
-        ensures tables { (cells lines : ℕ) → HasTables cells lines self.old.tables
-            → HasTables cells lines self.new.tables }
-        ensures waits { self.new.waits ≡ self.old.waits }
+        ensures room { (cells lines : ℕ) → HasLightRoom cells lines self.old
+            → HasLightRoom cells lines self.new }
     {
         self.tables.write(puzzle);
-        start_lights(&mut self.planes, puzzle, &self.tables.rows);
+        start_lights(planes, puzzle, &self.tables.rows);
     }
 }
