@@ -54,3 +54,6 @@ pub mod NumberVisits
 pub mod NumberRows
 pub mod LitRuns
 mod LightNotes
+pub mod PartIdle
+pub mod PlaneSweeps
+mod LightRests

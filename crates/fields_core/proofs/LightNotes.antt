@@ -148,11 +148,11 @@ left-on left rest at k is on = (and_parts _ _ (sym (is k) ∙ on)).0
 
 -- ---- a black cell is in no run
 module _ (p : Light) (c d : ℕ) where
-  row-white-start : joined_in_row p c d ≡ true → white p c ≡ true
+  pub row-white-start : joined_in_row p c d ≡ true → white p c ≡ true
   row-white-start on = rw (← whole-cell p.size.w c) at
       (clear-at (λ x. white p (c / p.size.w * p.size.w + x)) (c % p.size.w) (d % p.size.w) (c % p.size.w) (row-parts p c d on).1 (omega arith) (omega arith))
 
-  column-white-start : joined_in_column p c d ≡ true → white p c ≡ true
+  pub column-white-start : joined_in_column p c d ≡ true → white p c ≡ true
   column-white-start on = rw (← whole-cell p.size.w c) at
       (clear-at (λ y. white p (y * p.size.w + c % p.size.w)) (c / p.size.w) (d / p.size.w) (c / p.size.w) (column-parts p c d on).1 (omega arith) (omega arith))
 

@@ -37,3 +37,8 @@ pub record ArePlanesOf (room : ℕ) (p : Light) (planes : Layers) : Type 0 where
   pub low : p.size.h ≤ room
   pub size : planes.size ≡ p.size
   pub alive : IsAlive planes
+
+-- the words of the puzzle are the same, and there is as much room
+pub record IsKept {W : Type 0} (before now : LightNotes W) : Type 0 where
+  pub tables : now.tables ≡ before.tables
+  pub lit : length now.waits.lit.items ≡ length before.waits.lit.items

@@ -1,16 +1,18 @@
 -- Which houses of Light Up wait on planes. No public contract uses these words.
-use Rattle.std.specs.Prelude.{◌≡◌, ◌≢◌, ℕ, ◌+◌, ◌-◌, ◌/◌, ◌%◌, ◌<◌, Bool, true, false, ◌&&◌, ◌||◌, nat_lt, List, length, map, slice_index}
+use Rattle.std.specs.Prelude.{◌≡◌, ◌≢◌, ℕ, ◌+◌, ◌-◌, ◌*◌, ◌/◌, ◌%◌, ◌<◌, ◌≤◌, Bool, true, false, ◌&&◌, ◌||◌, nat_lt, List, ◌++◌, length, map, slice_index}
 use Rattle.grid_core.specs.Candidates.{Candidates}
 use Rattle.grid_core.specs.Words.{has_bit}
-use Rattle.grid_core.specs.Planes.{AreLinesOf}
+use Rattle.grid_core.specs.Planes.{Layers, has, AreLinesOf}
 use Rattle.grid_core.specs.declared.planes.touched.Touched.{Touched}
 use Rattle.gameid_core.specs.Puzzles.{Light}
-use Rattle.fields_core.specs.CountHouse.{CountHouse}
+use Rattle.fields_core.specs.CountHouse.{CountHouse, houses_below}
 use Rattle.fields_core.specs.Light.{light_cells, joined_in_row, joined_in_column}
-use Rattle.fields_core.specs.LightHouses.{lit_house}
+use Rattle.fields_core.specs.LightHouses.{column_house, lit_house, row_house}
+use Rattle.fields_core.specs.LightPlanes.{ArePlanesOf, AreTables}
 use Rattle.fields_core.specs.LightWords.{numbers_of_row, row_runs_of_row}
 use Rattle.fields_core.specs.RunLines.{column_runs_of_column}
 use Rattle.fields_core.specs.Waits.{AreIdle}
+use Rattle.fields_core.specs.declared.planes.lights.notes.LightNotes.{LightNotes}
 use Rattle.fields_core.specs.declared.planes.lights.waits.LightKind.{LightKind}
 use Rattle.fields_core.specs.declared.planes.lights.waits.LightKind.TheVariants.{Numbers, RowRuns, ColumnRuns}
 use Rattle.fields_core.specs.declared.planes.lights.waits.LineWaits.{LineWaits}
@@ -61,6 +63,16 @@ abbrev pub AreLitRested : Light → List ℕ → Candidates → Type 0
 AreLitRested p words K = (c : ℕ) → c < light_cells p → lit_waits p.size.w words c ≡ false
     → AreIdle (lit_house p c) K
 
+-- the least number that passes of those from `from` on
+pub record IsNextPlace (passes : ℕ → Bool) (from place : ℕ) : Type 0 where
+  pub onward : from ≤ place
+  pub has : passes place ≡ true
+  pub before : (k : ℕ) → from ≤ k → k < place → passes k ≡ false
+
+-- the houses of the white cells of a row from one place to another are idle
+abbrev pub AreIdleBetween : Light → Candidates → ℕ → ℕ → ℕ → Type 0
+AreIdleBetween p K y from to = (k : ℕ) → from ≤ k → k < to → AreIdle (lit_house p (y * p.size.w + k)) K
+
 -- two of these cells can have a bulb
 pub record HaveTwo (cells : ℕ → Bool) (K : Candidates) : Type 0 where
   pub one : ℕ
@@ -98,3 +110,21 @@ pub record AreLightsRested {W : Type 0} (bits : W → ℕ) (p : Light) (waits : 
     : Type 0 where
   pub lines : AreLinesRested bits p waits.lines K
   pub lit : AreLitRested p (map bits waits.lit.items) K
+
+-- planes of a puzzle, with its words and room for what waits; what does not wait is idle
+pub record AreLightsReady {W : Type 0} (bits : W → ℕ) (room : ℕ) (p : Light) (planes : Layers)
+    (notes : LightNotes W)
+    : Type 0 where
+  pub planes_of : ArePlanesOf room p planes
+  pub tables : AreTables bits p notes.tables
+  pub lit_long : room ≤ length notes.waits.lit.items
+  pub rested : AreLightsRested bits p notes.waits (has planes)
+
+-- the houses of the white cells of a row
+abbrev pub lits_of_row : Light → ℕ → List CountHouse
+lits_of_row p y = houses_below (λ x. lit_house p (y * p.size.w + x)) p.size.w
+
+-- the houses of runs and of white cells
+abbrev pub white_houses : Light → List CountHouse
+white_houses p = (houses_below (row_house p) (light_cells p) ++ houses_below (column_house p) (light_cells p))
+    ++ houses_below (lit_house p) (light_cells p)

@@ -1,11 +1,12 @@
 //! Which houses of Light Up wait to be visited.
 #![tactic(auto)]
 
-ghost use Rattle.std.specs.Prelude.{◌≡◌, ◌<◌, ◌≤◌};
+ghost use Rattle.std.specs.Prelude.{◌≡◌, ◌+◌, ◌*◌, ◌<◌, ◌≤◌, length};
 ghost use Rattle.grid_core.specs.Candidates.{Candidates};
 ghost use Rattle.grid_core.specs.Words.{has_bit};
 ghost use Rattle.gameid_core.specs.Puzzles.{Light};
-ghost use Rattle.fields_core.specs.LightWaits.{AreLinesRested, AreLinesWoken, light_kind_houses, light_kind_lines, waiting_lines};
+ghost use Rattle.fields_core.specs.LightHouses.{lit_house};
+ghost use Rattle.fields_core.specs.LightWaits.{AreLightsRested, AreLinesRested, AreLinesWoken, light_kind_houses, light_kind_lines, waiting_lines};
 ghost use Rattle.fields_core.specs.Waits.{AreIdle};
 
 use gameid_core::LightPuzzle;
@@ -111,4 +112,19 @@ impl<W: Word> LineWaits<W> {
 pub(crate) struct LightWaits<W: Word> {
     pub(crate) lines: LineWaits<W>,
     pub(crate) lit: Vec<W>,
+}
+
+impl<W: Word> LightWaits<W> {
+    /// The white cell waits no more: its house is idle.
+    pub(crate) fn settle_lit(&mut self, y: u8, x: u8)
+        requires y_in { y < length self.old.lit.items }
+        requires x_in { x < W.room }
+        ensures rested { (p : Light) (K : Candidates) → x < p.size.w
+            → AreLightsRested W.bits p self.old K → AreIdle (lit_house p (y * p.size.w + x)) K
+            → AreLightsRested W.bits p self.new K }
+        ensures room { length self.new.lit.items ≡ length self.old.lit.items }
+    {
+        let word = self.lit[usize::from(y)];
+        self.lit[usize::from(y)] = word.but(W::one(usize::from(x)));
+    }
 }
