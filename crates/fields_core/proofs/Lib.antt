@@ -57,3 +57,4 @@ mod LightNotes
 pub mod PartIdle
 pub mod PlaneSweeps
 mod LightRests
+mod LightSweeps

@@ -1,7 +1,8 @@
 -- Which white cells of Light Up wait, and what of the others is idle.
-use Rattle.fields_core.proofs.Common.{Bool, Candidates, Light, Layers, List, ap, and_parts, arith, cases_Bool, cases_eq, common_steps, count_below, div-mul-add, eqb, false, ne_eqb, not, get_or, get_or-map, get_or-set_other, get_or-set_same, has_bit, inl, inr, joined_in_column, joined_in_row, length, length-map, length-set, IsLight, lt-ltb, ltb-true, map, mod-lt, or_left, or_right, place-column, refl, set, slice_index, sym, true, true≢false, white, ℕ, ◌%◌, ◌&&◌, ◌*◌, ◌+◌, ◌/◌, ◌<◌, ◌||◌, ◌∙◌, ◌≡◌, ◌≢◌, ◌⊎◌}
+use Rattle.fields_core.proofs.Common.{Bool, Candidates, Light, Layers, List, ap, and_parts, arith, cases_Bool, cases_eq, common_steps, count_below, div-mul-add, eq-eqb, eqb, false, ne_eqb, not, get_or, get_or-map, get_or-set_other, get_or-set_same, has_bit, inl, inr, joined_in_column, joined_in_row, length, length-map, length-set, light_cells, IsLight, lt-ltb, ltb-true, map, mod-lt, or_left, or_right, place-column, refl, set, slice_index, sym, true, true≢false, white, ℕ, ◌%◌, ◌&&◌, ◌*◌, ◌+◌, ◌/◌, ◌<◌, ◌||◌, ◌∙◌, ◌≡◌, ◌≢◌, ◌≤◌, ◌⊎◌}
 use Rattle.std.proofs.lemmas.List.{map-set}
 use Rattle.grid_core.specs.Planes.{bit_of, has}
+use Rattle.grid_core.proofs.PlaneLemmas.{place-in}
 use Rattle.fields_core.specs.LightWaits.{AreWider, HaveTwo, IsMinded, IsNoted}
 unfoldable use Rattle.fields_core.specs.LightWaits.{lit_waits}
 use Rattle.fields_core.specs.LightWords.{IsRowRun, IsColumnRun}
@@ -10,6 +11,7 @@ use Rattle.fields_core.proofs.LightCounting.{light-board}
 use Rattle.fields_core.proofs.LitVisits.{has-at}
 use Rattle.fields_core.proofs.LitWords.{two-places}
 use Rattle.fields_core.proofs.TentBeside.{row-in, whole-cell}
+use Rattle.fields_core.proofs.TreeWords.{row-read}
 
 -- ---- words that grow
 pub wider-same : (words : List ℕ) → AreWider words words
@@ -161,3 +163,24 @@ black-noted p K words c off = record {
   in_row = λ d on _. absurd (true≢false (sym (row-white-start p c d on) ∙ off));
   in_column = λ d on _. absurd (true≢false (sym (column-white-start p c d on) ∙ off));
 }
+
+-- ---- the word of a cell in a table of all cells
+pub table-read : {W : Type 0} (bits : W → ℕ) (p : Light) (Is : ℕ → ℕ → Type 0) (words : List W) (y x place : ℕ) (word : W)
+    → light_cells p ≤ length (map bits words) → ((c : ℕ) → c < light_cells p → Is c (slice_index (map bits words) c))
+    → y < p.size.h → x < p.size.w → place ≡ y * p.size.w + x → word ≡ get_or words place word → Is (y * p.size.w + x) (bits word)
+table-read bits p Is words y x place word long each y_in x_in at read =
+    let cell : y * p.size.w + x < light_cells p = place-in p.size.w p.size.h y x y_in x_in in
+    let inside : y * p.size.w + x < length words = omega (arith, cell, long, length-map words bits) in
+    rw (row-read bits words (y * p.size.w + x) word inside (rw at at read)) at (each (y * p.size.w + x) cell)
+
+-- a word with one place less
+pub set-but : {W : Type 0} (bits : W → ℕ) (words : List W) (y : ℕ) (word next : W) → y < length words → word ≡ get_or words y word
+    → (x : ℕ) → ((j : ℕ) → has_bit (bits next) j ≡ (has_bit (bits word) j && not (eqb j x))) → (k j : ℕ)
+    → has_bit (slice_index (map bits (set words y next)) k) j ≡ (has_bit (slice_index (map bits words) k) j && not (eqb k y && eqb j x))
+set-but bits words y word next lt read x is k j = rw (map-set bits words y next) (elim (cases_eq k y) [
+  | inl e ↦ rw (e, get_or-set_same (map bits words) y (bits next) 0 (omega (arith, lt, length-map words bits)), row-read bits words y word lt read, eq-eqb y y refl) (is j)
+  | inr ne ↦ rw (get_or-set_other (map bits words) y k (bits next) 0 ne, ne_eqb k y ne) (by (has_bit (slice_index (map bits words) k) j))
+])
+  where
+    by : (a : Bool) → a ≡ (a && not false)
+    by a = grind (arith, common_steps, cases_Bool a)

@@ -1,5 +1,5 @@
 -- What waits of Light Up: where its houses lie, what stays idle, and what is idle where a closing begins.
-use Rattle.fields_core.proofs.Common.{Black, Bool, and_from, and_parts, any_below, any_below-none, any_below-some, cases_eq, mod-lt, not-true, or_left, or_right, Candidates, CountHouse, IsAlive, IsLight, Layers, Light, LightCell, List, None, Numbered, Option, Some, White, [], ap, arith, begins_column_run, begins_row_run, cases_Bool, column_run, common_steps, eq-eqb, eqb, exactly, false, false_from_ne_true, filter, get_or, has_bit, has_place, houses_below, inl, inr, joined_in_column, joined_in_row, light_cells, light_houses, light_rules, lit_house, lt-ltb, ltb, map, not, number_house, one_at_least, or_cases, place-filter, refl, row_run, seen_from, slice_index, steps, suc, sym, true, true≢false, white, zero, ℕ, ◌%◌, ◌&&◌, ◌*◌, ◌++◌, ◌+◌, ◌-◌, ◌/◌, ◌<◌, ◌||◌, ◌∙◌, ◌∷◌, ◌≡◌, ◌≢◌, ◌≤◌, ◌⊎◌}
+use Rattle.fields_core.proofs.Common.{Black, Bool, and_from, and_parts, any_below, any_below-none, any_below-some, cases_eq, mod-lt, not-true, or_left, or_right, Candidates, CountHouse, IsAlive, IsLight, Layers, Light, LightCell, List, None, Numbered, Option, Some, White, [], ap, arith, begins_column_run, begins_row_run, cases_Bool, column_run, common_steps, eq-eqb, eqb, eqb-true, exactly, false, false_from_ne_true, filter, get_or, has_bit, has_place, houses_below, inl, inr, joined_in_column, joined_in_row, light_cells, light_houses, light_rules, lit_house, lt-ltb, ltb, map, not, number_house, one_at_least, or_cases, place-filter, refl, row_run, seen_from, slice_index, steps, suc, sym, true, true≢false, white, zero, ℕ, ◌%◌, ◌&&◌, ◌*◌, ◌++◌, ◌+◌, ◌-◌, ◌/◌, ◌<◌, ◌||◌, ◌∙◌, ◌∷◌, ◌≡◌, ◌≢◌, ◌≤◌, ◌⊎◌}
 use Rattle.grid_core.specs.Candidates.{IsInside}
 use Rattle.grid_core.specs.Extent.{Extent}
 use Rattle.grid_core.specs.Planes.{has, back_at, AreLinesOf, ArePlanes, IsFurther, IsTouched}
@@ -11,7 +11,7 @@ use Rattle.engine_core.specs.Queue.{IsClosedAround, IsClosedBut}
 use Rattle.fields_core.specs.Light.{solves_lights}
 use Rattle.fields_core.specs.LightHouses.{numbered, row_house, column_house}
 use Rattle.fields_core.specs.LightPlanes.{ArePlanesOf}
-use Rattle.fields_core.specs.LightWaits.{AreLightsRested, AreLinesRested, AreLinesWoken, AreLitRested, AreNoted, AreWider, HaveTwo, IsMinded, IsNoted, light_kind_houses, light_kind_lines, waiting_lines}
+use Rattle.fields_core.specs.LightWaits.{AreIdleBetween, AreLightsRested, AreLinesRested, AreLinesWoken, AreLitRested, AreNoted, AreWider, HaveTwo, IsMinded, IsNoted, light_kind_houses, light_kind_lines, waiting_lines}
 unfoldable use Rattle.fields_core.specs.LightWaits.{lit_waits}
 use Rattle.fields_core.specs.LightWords.{numbers_of_row, row_runs_of_row}
 use Rattle.fields_core.specs.RunLines.{column_runs_of_column}
@@ -272,3 +272,39 @@ module _ (p : Light) (lawful : IsLight p) (K : Candidates) (place : ℕ) (around
               full (noted place around.place_in lines) off on
         ];
       }
+
+-- ---- white cells that wait no more, and those of a row from one that does not wait to the next
+pub lit-settled : {W : Type 0} (bits : W → ℕ) (p : Light) (before now : LightWaits W) (K : Candidates) (y x : ℕ) → x < p.size.w
+    → ((k j : ℕ) → has_bit (slice_index (map bits now.lit.items) k) j ≡ (has_bit (slice_index (map bits before.lit.items) k) j && not (eqb k y && eqb j x)))
+    → now.lines ≡ before.lines → AreLightsRested bits p before K → AreIdle (lit_house p (y * p.size.w + x)) K → AreLightsRested bits p now K
+unfolding lit_waits
+lit-settled bits p before now K y x lt words lines rested idle = record {
+  lines = rw lines rested.lines;
+  lit = λ c less off. elim (cases_Bool (eqb (c / p.size.w) y && eqb (c % p.size.w) x)) [
+    | inl here ↦
+        let w = and_parts _ _ here in
+        let at : c ≡ y * p.size.w + x = whole-cell p.size.w c ∙ rw (eqb-true (c / p.size.w) y w.0, eqb-true (c % p.size.w) x w.1) refl in
+        rw at idle
+    | inr other ↦ rested.lit c less (by (has_bit (slice_index (map bits before.lit.items) (c / p.size.w)) (c % p.size.w)) (sym (words (c / p.size.w) (c % p.size.w) ∙ rw other refl) ∙ off))
+  ];
+}
+  where
+    by : (a : Bool) → (a && not false) ≡ false → a ≡ false
+    by a e = grind (arith, common_steps, cases_Bool a)
+
+pub lit-between : (p : Light) (words : List ℕ) (K : Candidates) (y from to : ℕ) (white_bits : ℕ) → y < p.size.h → to ≤ p.size.w → AreLitRested p words K
+    → IsRowOf p.size.w (white p) y white_bits
+    → ((k : ℕ) → from ≤ k → k < to → (has_bit (slice_index words y) k && has_bit white_bits k) ≡ false) → AreIdleBetween p K y from to
+unfolding lit_waits after_houses
+lit-between p words K y from to white_bits y_in to_in rested whites none k low lt =
+    let less : k < p.size.w = omega arith in
+    let own = cell-parts p.size.w y k (y * p.size.w + k) less refl in
+    elim (cases_Bool (white p (y * p.size.w + k))) [
+      | inr off ↦ rw off refl
+      | inl on ↦
+          let there : has_bit white_bits k ≡ true = whites k ∙ rw (lt-ltb k p.size.w less, on) refl in
+          rested (y * p.size.w + k) (place-in p.size.w p.size.h y k y_in less) (rw own.0 (rw own.1 (by (has_bit (slice_index words y) k) (rw there at (none k low lt)))))
+    ]
+  where
+    by : (a : Bool) → (a && true) ≡ false → a ≡ false
+    by a e = grind (arith, common_steps, cases_Bool a)

@@ -7,13 +7,14 @@ ghost use Rattle.fields_core.specs.LightPlanes.{ArePlanesOf, AreTables};
 ghost use Rattle.fields_core.specs.LightWaits.{light_kind_houses, light_kind_lines};
 ghost use Rattle.fields_core.specs.Visits.{AreVisited};
 
+use crate::light_up::cells::columns;
 use crate::planes::lights::tables::LightTables;
 use crate::planes::lights::waits::LightKind;
 use crate::planes::lit::visit_lit;
 use crate::planes::numbers::visit_numbers;
 use crate::planes::run_visits::{visit_row_runs, visit_runs_of_column};
 use gameid_core::LightPuzzle;
-use grid_core::{Planes, Word, row_place};
+use grid_core::{Planes, Word};
 
 impl<W: Word> LightTables<W> {
     /// Visits the houses of a kind at a line, up to one that has no filling.
@@ -55,7 +56,7 @@ impl<W: Word> LightTables<W> {
         ensures { AreVisited (lit_house puzzle.now (y * puzzle.now.size.w + x))
             planes.old planes.new result }
     {
-        let place = row_place(planes.size(), usize::from(y), usize::from(x));
+        let place = usize::from(y) * columns(puzzle) + usize::from(x);
         let row = self.runs.rows[place];
         let column = self.runs.columns[place];
         visit_lit(planes, puzzle, y, x, row, column)

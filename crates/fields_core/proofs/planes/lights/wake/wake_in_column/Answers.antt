@@ -1,9 +1,7 @@
 use Rattle.fields_core.proofs.Common.{Extent, and_parts, ap, arith, has_bit, length, length-map, light_cells, ltb-true, sym, ℕ, ◌&&◌, ◌*◌, ◌+◌, ◌<◌, ◌∙◌, ◌≡◌, refl, true}
 use Rattle.grid_core.specs.Planes.{ArePlanes, bit_of}
-use Rattle.grid_core.proofs.PlaneLemmas.{place-in}
 use Rattle.fields_core.specs.LightWords.{IsColumnRun}
-use Rattle.fields_core.proofs.LightNotes.{column-all, column-two, minded-all, minded-two}
-use Rattle.fields_core.proofs.TreeWords.{row-read}
+use Rattle.fields_core.proofs.LightNotes.{column-all, column-two, minded-all, minded-two, table-read}
 use Rattle.fields_core.proofs.planes.lights.wake.wake_in_column.Goals as goal
 use Rattle.fields_core.proofs.planes.lights.wake.wake_in_column.Goals.{After-index-runs-y}
 
@@ -11,10 +9,8 @@ use Rattle.fields_core.proofs.planes.lights.wake.wake_in_column.Goals.{After-ind
 run-is : (g : _) (c : After-index-runs-y g) → IsColumnRun c.args.puzzle.now (c.args.y * c.args.puzzle.now.size.w + c.args.x) (g.W.Word.bits c.index-runs-y.result)
 run-is g c =
     let p = c.args.puzzle.now in
-    let bits = g.W.Word.bits in
-    let cell : c.args.y * p.size.w + c.args.x < light_cells p = place-in p.size.w p.size.h c.args.y c.args.x c.requires.y_in c.requires.x_in in
-    let inside : c.args.y * p.size.w + c.args.x < length c.args.runs.now = omega (arith, cell, c.requires.room, length-map c.args.runs.now bits) in
-    rw (row-read bits c.args.runs.now (c.args.y * p.size.w + c.args.x) c.index-runs-y.result inside (rw (c.columns.ensures.value) at c.index-runs-y.is)) at (c.requires.runs (c.args.y * p.size.w + c.args.x) cell)
+    table-read g.W.Word.bits p (IsColumnRun p) c.args.runs.now c.args.y c.args.x _ c.index-runs-y.result c.requires.room c.requires.runs c.requires.y_in c.requires.x_in
+    (rw (c.columns.ensures.value) refl) c.index-runs-y.is
 
 -- and lies in the grid
 run-in : (g : _) (c : After-index-runs-y g) (k : ℕ) → has_bit (g.W.Word.bits c.index-runs-y.result) k ≡ true → k < c.args.puzzle.now.size.h

@@ -1,9 +1,7 @@
 use Rattle.fields_core.proofs.Common.{arith, has_bit, length, length-map, light_cells, ltb-true, sym, ℕ, ◌&&◌, ◌*◌, ◌+◌, ◌<◌, ◌∙◌, ◌≡◌, refl}
 use Rattle.grid_core.specs.Planes.{bit_of}
-use Rattle.grid_core.proofs.PlaneLemmas.{place-in}
 use Rattle.fields_core.specs.LightWords.{IsRowRun}
-use Rattle.fields_core.proofs.LightNotes.{minded-all, minded-two, row-all, row-two, set-has, wider-set}
-use Rattle.fields_core.proofs.TreeWords.{row-read}
+use Rattle.fields_core.proofs.LightNotes.{minded-all, minded-two, row-all, row-two, set-has, table-read, wider-set}
 use Rattle.fields_core.proofs.planes.lights.wake.wake_in_row.Goals as goal
 use Rattle.fields_core.proofs.planes.lights.wake.wake_in_row.Goals.{After-index-runs-y}
 
@@ -11,10 +9,8 @@ use Rattle.fields_core.proofs.planes.lights.wake.wake_in_row.Goals.{After-index-
 run-is : (g : _) (c : After-index-runs-y g) → IsRowRun c.args.puzzle.now (c.args.y * c.args.puzzle.now.size.w + c.args.x) (g.W.Word.bits c.index-runs-y.result)
 run-is g c =
     let p = c.args.puzzle.now in
-    let bits = g.W.Word.bits in
-    let cell : c.args.y * p.size.w + c.args.x < light_cells p = place-in p.size.w p.size.h c.args.y c.args.x c.requires.y_in c.requires.x_in in
-    let inside : c.args.y * p.size.w + c.args.x < length c.args.runs.now = omega (arith, cell, c.requires.room, length-map c.args.runs.now bits) in
-    rw (row-read bits c.args.runs.now (c.args.y * p.size.w + c.args.x) c.index-runs-y.result inside (rw (c.columns.ensures.value) at c.index-runs-y.is)) at (c.requires.runs (c.args.y * p.size.w + c.args.x) cell)
+    table-read g.W.Word.bits p (IsRowRun p) c.args.runs.now c.args.y c.args.x _ c.index-runs-y.result c.requires.room c.requires.runs c.requires.y_in c.requires.x_in
+    (rw (c.columns.ensures.value) refl) c.index-runs-y.is
 
 pub returns-then-has_two-clause-minded : goal.returns-then-has_two-clause-minded
 returns-then-has_two-clause-minded g c =
