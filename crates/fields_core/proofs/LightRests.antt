@@ -98,7 +98,7 @@ module _ {W : Type 0} (bits : W → ℕ) {room : ℕ} (p : Light) {before now : 
       number k lt off (inr (inl above)) =
           let e : has_bit (bits touched.rows) (k - 1) ≡ true = rows_are (omega (arith, above)) in
           let f : (ltb k room && (ltb 0 k && has_bit (bits touched.rows) (k - 1))) ≡ false =
-              (off_both (off_both (off_both (sym (woken.numbers k) ∙ off)).1).0).0 in
+          (off_both (off_both (off_both (sym (woken.numbers k) ∙ off)).1).0).0 in
           true≢false (rw (lt-ltb k room (omega (arith, lt, low)), lt-ltb 0 k (omega (arith, above)), e) at f)
       number k lt off (inr (inr below)) =
           true≢false (sym (rows_are below) ∙ (off_both (off_both (sym (woken.numbers k) ∙ off)).1).1)
@@ -196,7 +196,7 @@ pub lights-woken : {W : Type 0} (bits : W → ℕ) {room : ℕ} (p : Light) (bef
     → AreLightsRested bits p before (has from) → AreLightsRested bits p now (has to)
 lights-woken bits {room} p before now {touched} {from} {to} {len} are at woken wider noted of size is further rested =
     let back : back_at to len ≡ has from = rw (← is) (further.back from.len (omega arith)
-        ∙ put_back-none from.size.w (has from) from.takings from.len from.len (omega arith)) in
+    ∙ put_back-none from.size.w (has from) from.takings from.len from.len (omega arith)) in
     let lines : IsTouched bits p.size.w (has from) (has to) touched = λ c v on gone. rw (of.size) at (at c v (ap (λ (M : Candidates). M c v) back ∙ on) gone) in
     record {
       lines = lines-rested bits p of.lawful of.low woken further.inside lines rested.lines;

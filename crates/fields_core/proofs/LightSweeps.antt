@@ -38,7 +38,7 @@ pub lights-swept : (p : Light) {from to : Layers} {fills : Bool} → from.size �
 unfolding light_houses
 lights-swept p {from} {to} {fills} size visited =
     let all : AreVisited (light_houses p) from to fills =
-        rw (numbers-are p, append_assoc (houses_below (row_house p) (light_cells p)) (houses_below (column_house p) (light_cells p)) (houses_below (lit_house p) (light_cells p))) at visited in
+    rw (numbers-are p, append_assoc (houses_below (row_house p) (light_cells p)) (houses_below (column_house p) (light_cells p)) (houses_below (lit_house p) (light_cells p))) at visited in
     visits-swept (light_cells p) (λ c. not (white p c)) (light_houses p) (solves_lights p) (rw size refl) all
 
 -- ---- what is kept

@@ -62,7 +62,7 @@ module _ (cells : ℕ) (blocked : ℕ → Bool) (houses : List CountHouse) (is_s
   part-idle front [] back is off = refl
   part-idle front (house ∷ part) back is off =
       let both : (has_place house.places place ≡ false) × (any_has part place ≡ false) =
-          (grind (arith, common_steps, cases_Bool (has_place house.places place)), grind (arith, common_steps, cases_Bool (has_place house.places place))) in
+      (grind (arith, common_steps, cases_Bool (has_place house.places place)), grind (arith, common_steps, cases_Bool (has_place house.places place))) in
       rw (house-idle front house (part ++ back) is both.0)
       (part-idle (front ++ house ∷ []) part back (is ∙ sym (append_assoc front (house ∷ []) (part ++ back))) both.1)
 

@@ -46,9 +46,12 @@ pub houses-swept : (p : Tents) {from to : Layers} {fills : Bool} → from.size �
     → AreVisited (line_houses p ++ cell_houses p) from to fills → IsTentSweep p from to fills
 unfolding tent_houses
 houses-swept p {from} {to} {fills} size visited =
-    let all : AreVisited (tent_houses p) from to fills = rw
-    (append_assoc (houses_below (column_of_tents p) p.size.w) (houses_below (row_of_tents p) p.size.h)
-    (cell_houses p), trees-are p, squares-are p) at visited in
+    let all : AreVisited (tent_houses p) from to fills = rw (
+      append_assoc (houses_below (column_of_tents p) p.size.w) (houses_below (row_of_tents p) p.size.h)
+          (cell_houses p),
+      trees-are p,
+      squares-are p,
+    ) at visited in
     let is = replay-visits (tent_cells p) (is_barred p) (tent_houses p) (solves_tents p) (has from) in
     record {
       left = λ e. all.left e ∙ sym is;

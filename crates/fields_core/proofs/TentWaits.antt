@@ -122,7 +122,7 @@ module _ {W : Type 0} (bits : W → ℕ) {room : ℕ} (p : Tents) {before now : 
       tree k lt off (inr (inl above)) =
           let e : has_bit (bits touched.rows) (k - 1) ≡ true = rows_are (omega (arith, above)) in
           let f : (ltb k room && (ltb 0 k && has_bit (bits touched.rows) (k - 1))) ≡ false =
-              (both_off (both_off (both_off (sym (woken.trees k) ∙ off)).1).0).0 in
+          (both_off (both_off (both_off (sym (woken.trees k) ∙ off)).1).0).0 in
           true≢false (rw (lt-ltb k room (omega (arith, lt, low)), lt-ltb 0 k (omega (arith, above)), e) at f)
       tree k lt off (inr (inr below)) =
           true≢false (sym (rows_are below) ∙ (both_off (both_off (sym (woken.trees k) ∙ off)).1).1)
@@ -154,7 +154,7 @@ pub rested-woken : {W : Type 0} (bits : W → ℕ) {room : ℕ} (p : Tents) (bef
 rested-woken bits {room} p before now {touched} {from} {to} {len} are at woken size is further rested =
     let same : to.size ≡ p.size = further.same_size ∙ size in
     let back : back_at to len ≡ has from = rw (← is) (further.back from.len (omega arith)
-        ∙ put_back-none from.size.w (has from) from.takings from.len from.len (omega arith)) in
+    ∙ put_back-none from.size.w (has from) from.takings from.len from.len (omega arith)) in
     rested-by bits p (rw (← same) (omega (arith, are.lawful.w_low))) (rw (← same) are.low) woken further.inside
     (λ c v on gone. rw same at (at c v (ap (λ (M : Candidates). M c v) back ∙ on) gone)) rested
 
@@ -222,7 +222,7 @@ module _ (p : Tents) (K : Candidates) (place : ℕ) (around : IsClosedAround (te
   part-idle front [] back is off = refl
   part-idle front (house ∷ part) back is off =
       let both : (has_place house.places place ≡ false) × (any_has part place ≡ false) =
-          (grind (arith, common_steps, cases_Bool (has_place house.places place)), grind (arith, common_steps, cases_Bool (has_place house.places place))) in
+      (grind (arith, common_steps, cases_Bool (has_place house.places place)), grind (arith, common_steps, cases_Bool (has_place house.places place))) in
       rw (house-idle front house (part ++ back) is both.0)
       (part-idle (front ++ house ∷ []) part back (is ∙ sym (append_assoc front (house ∷ []) (part ++ back))) both.1)
 

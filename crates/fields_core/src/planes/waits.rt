@@ -94,7 +94,9 @@ impl<W: Word> Waits<W> {
         Waits {
             columns: self.columns.either(touched.columns),
             rows: self.rows.either(rows),
-            trees: self.trees.either(rows.on().either(rows).either(rows.back())),
+            trees: self
+                .trees
+                .either(rows.on().either(rows).either(rows.back())),
             squares: self.squares.either(rows.either(rows.back())),
         }
     }

@@ -48,12 +48,7 @@ impl<W: Word> LightNotes<W> {
     }
 
     /// Visits the houses of a kind, up to one that has no filling.
-    fn sweep_kind(
-        &mut self,
-        planes: &mut Planes<W>,
-        puzzle: &LightPuzzle,
-        kind: LightKind,
-    ) -> bool
+    fn sweep_kind(&mut self, planes: &mut Planes<W>, puzzle: &LightPuzzle, kind: LightKind) -> bool
         requires ready { AreLightsReady W.bits W.room puzzle.now planes.old self.old }
         ensures visited { AreVisited
             (houses_below (light_kind_houses puzzle.now kind) (light_kind_lines puzzle.now kind))

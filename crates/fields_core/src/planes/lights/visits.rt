@@ -32,7 +32,14 @@ impl<W: Word> LightTables<W> {
     {
         match kind {
             LightKind::Numbers => {
-                visit_numbers(planes, puzzle, &self.numbers, &self.rows, &self.columns, line)
+                visit_numbers(
+                    planes,
+                    puzzle,
+                    &self.numbers,
+                    &self.rows,
+                    &self.columns,
+                    line,
+                )
             }
             LightKind::RowRuns => visit_row_runs(planes, puzzle, &self.runs.rows, line),
             LightKind::ColumnRuns => {

@@ -73,7 +73,9 @@ impl<W: Word> LineWaits<W> {
     {
         let rows = touched.rows;
         LineWaits {
-            numbers: self.numbers.either(rows.on().either(rows).either(rows.back())),
+            numbers: self
+                .numbers
+                .either(rows.on().either(rows).either(rows.back())),
             rows: self.rows.either(rows),
             columns: self.columns.either(touched.columns),
         }

@@ -15,11 +15,11 @@ loop-own-preserved g c =
     let i = c.loop-own.invariant in
     let y = c.lowest-y.result in
     let rest : (k : ℕ) → has_bit (bits c.without_lowest-left.result) k ≡ (has_bit (bits c.loop-own.left) k && not (eqb k y)) =
-        λ k. c.without_lowest-left.ensures y k c.lowest-y.ensures in
+    λ k. c.without_lowest-left.ensures y k c.lowest-y.ensures in
     let words = c.loop-own.lit.items in
     let lt : y < length words = omega (arith, c.requires.rows_in y (i.inside y c.lowest-y.ensures.has), i.wider.long, length-map words bits, length-map c.args.lit.now.items bits) in
     let more : (k : ℕ) → has_bit (bits c.either.result) k ≡ (has_bit (bits c.index-word.result.now) k || eqb k c.args.place) =
-        λ k. c.either.ensures k ∙ rw (c.one-own.ensures k) refl in
+    λ k. c.either.ensures k ∙ rw (c.one-own.ensures k) refl in
     let wider = wider-set bits words y c.index-word.result.now c.either.result lt c.index-word.ensures (λ k. eqb k c.args.place) more in
     record {
       inside = λ k on. i.inside k (left-on (has_bit (bits c.loop-own.left)) (has_bit (bits c.without_lowest-left.result)) y k rest on);

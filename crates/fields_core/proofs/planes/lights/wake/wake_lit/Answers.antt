@@ -40,7 +40,7 @@ loop-touched-preserved g c =
     let are : ArePlanes g.W.Word.room c.args.planes.now = c.size-size.ensures.lawful in
     let some : 0 < p.size.w = rw (← c.requires.size) (omega (arith, are.lawful.w_low)) in
     let rest : (k : ℕ) → has_bit (bits c.without_lowest-left.result) k ≡ (has_bit (bits c.loop-touched.left) k && not (eqb k y)) =
-        λ k. c.without_lowest-left.ensures y k c.lowest-y.ensures in
+    λ k. c.without_lowest-left.ensures y k c.lowest-y.ensures in
     record {
       inside = λ k on. i.inside k (left-on (has_bit (bits c.loop-touched.left)) (has_bit (bits c.without_lowest-left.result)) y k rest on);
       wider = wider-more i.wider c.wake_row.ensures.wider;
@@ -51,7 +51,7 @@ loop-touched-preserved g c =
           | inl on ↦
               let at : y * p.size.w + d % p.size.w ≡ d = rw (← e) (sym (whole-cell p.size.w d)) in
               let there : has_bit (bits c.both-cells.result) (d % p.size.w) ≡ true = c.both-cells.ensures (d % p.size.w)
-                  ∙ and_from _ _ column (whites g h (d % p.size.w) ∙ rw (lt-ltb (d % p.size.w) p.size.w (mod-lt d some), at, on) refl) in
+              ∙ and_from _ _ column (whites g h (d % p.size.w) ∙ rw (lt-ltb (d % p.size.w) p.size.w (mod-lt d some), at, on) refl) in
               rw at at (c.wake_row.ensures.noted (d % p.size.w) there)
         ]
       ];

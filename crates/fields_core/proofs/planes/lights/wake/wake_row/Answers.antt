@@ -15,7 +15,7 @@ loop-left-preserved g c =
     let i = c.loop-left.invariant in
     let x = c.lowest-x.result in
     let rest : (k : ℕ) → has_bit (bits c.without_lowest-left.result) k ≡ (has_bit (bits c.loop-left.left) k && not (eqb k x)) =
-        λ k. c.without_lowest-left.ensures x k c.lowest-x.ensures in
+    λ k. c.without_lowest-left.ensures x k c.lowest-x.ensures in
     record {
       inside = λ k on. i.inside k (left-on (has_bit (bits c.loop-left.left)) (has_bit (bits c.without_lowest-left.result)) x k rest on);
       wider = wider-more i.wider (wider-more c.wake_in_row.ensures.wider c.wake_in_column.ensures.wider);

@@ -2,8 +2,6 @@ use Rattle.std.proofs.Common.{◌∙◌, refl}
 use Rattle.fields_core.proofs.TentWaits.{place-room, rested-from}
 use Rattle.fields_core.proofs.planes.waits.Waits.new.Goals as goal
 
-
-
 pub one-requires-in-Some : goal.one-requires-in-Some
 one-requires-in-Some g c =
     rw (c.from-w.ensures, c.w.ensures.value, c.size.ensures.value, c.requires.size)
