@@ -54,3 +54,8 @@ pub mod LitVisits
 pub mod NumberVisits
 pub mod NumberRows
 pub mod LitRuns
+mod LightNotes
+pub mod PartIdle
+pub mod PlaneSweeps
+mod LightRests
+mod LightSweeps

@@ -41,7 +41,7 @@ beq-other true b off same = true≢false (ap (beq true) same ∙ off)
 beq-other false b off same = true≢false (ap (beq false) same ∙ off)
 
 -- ---- the cell at a place of a row
-has-at : (q : Layers) (y u v : ℕ) {w : ℕ} → q.size.w ≡ w → u < w → v < 2 → has q (y * w + u) v ≡ bit_of q.rows y v u
+pub has-at : (q : Layers) (y u v : ℕ) {w : ℕ} → q.size.w ≡ w → u < w → v < 2 → has q (y * w + u) v ≡ bit_of q.rows y v u
 unfolding has
 has-at q y u v same lt low = rw (same, div-mul-add y _ u lt, place-column _ y u lt, lt-ltb v 2 low) refl
 

@@ -5,6 +5,7 @@ pub(crate) mod close;
 pub(crate) mod field;
 pub(crate) mod game;
 pub(crate) mod light_words;
+pub(crate) mod lights;
 pub(crate) mod lit;
 pub(crate) mod near;
 pub(crate) mod next;

@@ -55,7 +55,7 @@ impl<W: Word> Runs<W> {
 }
 
 /// So many words with no place.
-fn empty_words<W: Word>(alloc: Global, count: usize) -> Result<Vec<W>, AllocError>
+pub(crate) fn empty_words<W: Word>(alloc: Global, count: usize) -> Result<Vec<W>, AllocError>
     ensures { IfOk result (λ words. length words.items ≡ count) }
 {
     let mut words = Vec::with_capacity(alloc, count)?;

@@ -1,0 +1,49 @@
+-- Sweeps of the houses of Light Up on planes.
+use Rattle.fields_core.proofs.Common.{CountHouse, IsAlive, IsLight, Layers, Light, List, append_assoc, ap, arith, column_house, houses_below, light_cells, light_houses, light_rules, lit_house, not, number_house, refl, row_house, suc, sym, true, white, zero, ℕ, Bool, ◌*◌, ◌++◌, ◌+◌, ◌-◌, ◌<◌, ◌∙◌, ◌≡◌, ◌≤◌}
+use Rattle.grid_core.specs.Planes.{has, cells_of}
+use Rattle.fields_core.specs.Light.{solves_lights}
+use Rattle.fields_core.specs.LightPlanes.{IsKept}
+use Rattle.fields_core.specs.LightWaits.{lits_of_row, white_houses}
+use Rattle.fields_core.specs.LightWords.{numbers_of_row, row_runs_of_row}
+use Rattle.fields_core.specs.RunLines.{column_runs_of_column}
+use Rattle.fields_core.specs.Sweeps.{IsSweep}
+use Rattle.fields_core.specs.Visits.{AreVisited}
+use Rattle.fields_core.specs.Waits.{AreIdle}
+use Rattle.fields_core.specs.declared.planes.lights.notes.LightNotes.{LightNotes}
+use Rattle.fields_core.proofs.IdleLemmas.{visited-idle}
+use Rattle.fields_core.proofs.NumberRows.{numbers-are}
+use Rattle.fields_core.proofs.PlaneSweeps.{visits-swept}
+use Rattle.fields_core.proofs.VisitLemmas.{below-rows, sweep-more}
+
+-- ---- houses that are idle are passed
+pub passed-idle : (f : ℕ → List CountHouse) {m n : ℕ} {p q : Layers} → m ≤ n → AreVisited (houses_below f m) p q true
+    → ((k : ℕ) → m ≤ k → k < n → AreIdle (f k) (has q)) → AreVisited (houses_below f n) p q true
+passed-idle f {m} {n} {p} {q} le visited idle =
+    let e : m + (n - m) ≡ n = omega arith in
+    rw e at (on (n - m) (λ k low lt. idle k low (omega (arith, lt, e))))
+  where
+    on : (d : ℕ) → ((k : ℕ) → m ≤ k → k < m + d → AreIdle (f k) (has q)) → AreVisited (houses_below f (m + d)) p q true
+    on zero each = let e : m + 0 ≡ m = omega arith in rw e visited
+    on (suc d) each =
+        let e : m + suc d ≡ m + d + 1 = omega arith in
+        rw e (sweep-more f (on d (λ k low lt. each k low (omega arith))) (visited-idle (f (m + d)) visited.alive (each (m + d) (omega arith) (omega arith))) refl)
+
+-- ---- the houses in order
+pub lits-are : (p : Light) → houses_below (lits_of_row p) p.size.h ≡ houses_below (lit_house p) (light_cells p)
+lits-are p = below-rows (lit_house p) p.size.w p.size.h
+    ∙ ap (houses_below (lit_house p)) (let e : p.size.h * p.size.w ≡ p.size.w * p.size.h = omega arith in e)
+
+pub lights-swept : (p : Light) {from to : Layers} {fills : Bool} → from.size ≡ p.size
+    → AreVisited (houses_below (numbers_of_row p) p.size.h ++ white_houses p) from to fills → IsSweep (light_rules p) from to fills
+unfolding light_houses
+lights-swept p {from} {to} {fills} size visited =
+    let all : AreVisited (light_houses p) from to fills =
+    rw (numbers-are p, append_assoc (houses_below (row_house p) (light_cells p)) (houses_below (column_house p) (light_cells p)) (houses_below (lit_house p) (light_cells p))) at visited in
+    visits-swept (light_cells p) (λ c. not (white p c)) (light_houses p) (solves_lights p) (rw size refl) all
+
+-- ---- what is kept
+pub kept-none : {W : Type 0} (notes : LightNotes W) → IsKept notes notes
+kept-none notes = record { tables = refl; lit = refl }
+
+pub kept-more : {W : Type 0} {first second third : LightNotes W} → IsKept first second → IsKept second third → IsKept first third
+kept-more a b = record { tables = b.tables ∙ a.tables; lit = b.lit ∙ a.lit }

@@ -1,0 +1,97 @@
+-- Sweeps of the count houses of a puzzle on planes, and closings by them.
+use Rattle.std.proofs.Common.{◌≡◌, ◌∙◌, ℕ, ◌+◌, ◌*◌, ◌<◌, ◌≤◌, Bool, true, false, List, [], max, refl, sym, inl, inr, ◌⊎◌, arith}
+use Rattle.std.proofs.lemmas.Bool.{cases_Bool}
+use Rattle.std.proofs.lemmas.Grind.{common_steps}
+use Rattle.grid_core.specs.Candidates.{Candidates, IsWithin, count_below, is_dead, max_cells, total}
+use Rattle.grid_core.specs.Planes.{Layers, cells_of, has, IsFurther}
+use Rattle.grid_core.proofs.CandidateLemmas.{count_below-pos, is_dead-each, is_dead-here, within_inside}
+use Rattle.grid_core.proofs.PlaneLemmas.{further-more, further-none}
+use Rattle.engine_core.specs.ClosingList.{IsClosing}
+use Rattle.engine_core.specs.RuleSystem.{RuleSystem}
+use Rattle.engine_core.proofs.SweepLemmas.{IsSwept, fewer, sweep-shut, swept-dead, swept-first, swept-idle, swept-turn}
+use Rattle.engine_core.specs.declared.mode.Closing.TheVariants.{Dead, Open}
+use Rattle.fields_core.specs.CountHouse.{CountHouse, IsCounting, count_puzzle}
+use Rattle.fields_core.specs.CountLaws.{count-lawful}
+use Rattle.fields_core.specs.Parts.{IsAlive}
+use Rattle.fields_core.specs.Sweeps.{IsSweep, swept_by}
+use Rattle.fields_core.specs.Visits.{AreVisited, after_houses}
+use Rattle.fields_core.proofs.VisitLemmas.{replay-visits}
+
+-- ---- each cell has a value
+none-counted : (K : Candidates) (c : ℕ) → ((v : ℕ) → v < 2 → K c v ≡ false) → count_below (K c) 2 ≡ 0
+unfolding count_below
+none-counted K c none = rw (none 0 (omega arith), none 1 (omega arith)) refl
+
+some-counted : (K : Candidates) (c : ℕ) → (K c 0 ≡ true) ⊎ (K c 1 ≡ true) → 0 < count_below (K c) 2
+some-counted K c (inl zero) = count_below-pos (K c) 2 0 (omega arith) zero
+some-counted K c (inr one) = count_below-pos (K c) 2 1 (omega arith) one
+
+pub alive-cells : {cells : ℕ} (s : Layers) → cells_of s ≡ cells → IsAlive s → is_dead cells 2 (has s) ≡ false
+alive-cells {cells} s size alive = is_dead-each cells 2 (has s)
+    (λ c lt. some-counted (has s) c (alive c (rw size lt)))
+
+-- so many sweeps took the planes from the first to the second, and each took something
+pub record AreSweepsOf (p : RuleSystem) (from : Layers) (sweeps : ℕ) (to : Layers) : Type 0 where
+  pub alive : IsAlive to
+  pub swept : IsSwept p (has from) sweeps (has to)
+  pub further : IsFurther from to
+
+module _ (cells : ℕ) (blocked : ℕ → Bool) (houses : List CountHouse) (is_solution : List ℕ → Bool) where
+  abbrev rules : RuleSystem
+  rules = count_puzzle cells blocked houses is_solution
+
+  -- ---- one sweep
+  pub visits-swept : {from to : Layers} {fills : Bool} → cells_of from ≡ cells → AreVisited houses from to fills → IsSweep rules from to fills
+  visits-swept {from} size visited =
+      let is = replay-visits cells blocked houses is_solution (has from) in
+      record {
+        left = λ e. visited.left e ∙ sym is;
+        dies = λ e. let w = visited.dies e in rw is
+            (is_dead-here cells 2 (after_houses houses (has from)) w.0 (rw size at w.1)
+            (none-counted (after_houses houses (has from)) w.0 w.2));
+        alive = visited.alive;
+        further = visited.further;
+      }
+
+  -- ---- sweeps up to the last
+  pub sweeps-none : {from : Layers} → cells_of from ≡ cells → IsAlive from → AreSweepsOf rules from 0 from
+  sweeps-none {from} size alive = record {
+    alive = alive;
+    swept = swept-first rules (has from) (alive-cells from size alive);
+    further = further-none from;
+  }
+
+  module _ {from : Layers} {sweeps : ℕ} {to next : Layers} {fills : Bool}
+      (counting : IsCounting cells blocked houses is_solution) (size : cells_of from ≡ cells) (within : IsWithin cells 2 (has from))
+      (s : AreSweepsOf rules from sweeps to) (sweep : IsSweep rules to next fills) where
+    -- the sizes stay, and so do the cells
+    size-to : cells_of to ≡ cells
+    size-to = rw (s.further.same_size) size
+
+    within-to : IsWithin cells 2 (has to)
+    within-to = within_inside cells 2 (has to) (has from) within s.further.inside
+
+    alive-next : is_dead cells 2 (has next) ≡ false
+    alive-next = alive-cells next (rw (sweep.further.same_size) size-to) sweep.alive
+
+    pub sweeps-few : sweeps ≤ max_cells * 2
+    sweeps-few = omega (arith, s.swept.enough, counting.few_cells)
+
+    pub sweeps-fewer : fills ≡ true → to.len < next.len → total cells 2 (has next) < total cells 2 (has to)
+    sweeps-fewer full more = fewer rules (has to) (has next) within-to (sweep.left full) (sweep.further.lost more)
+
+    pub sweeps-turn : fills ≡ true → to.len < next.len → AreSweepsOf rules from (sweeps + 1) next
+    sweeps-turn full more = record {
+      alive = sweep.alive;
+      swept = swept-turn rules (has from) sweeps (has to) (has next) s.swept within-to (sweep.left full) (sweep.further.lost more) alive-next;
+      further = further-more from to next s.further sweep.further;
+    }
+
+    pub closed-dead : fills ≡ false → IsClosing rules (has from) (swept_by rules (has to)) Dead [] (sweeps + 1)
+    closed-dead none = swept-dead rules (count-lawful _ _ _ _ counting) (has from) sweeps (has to) refl within s.swept (sweep.dies none)
+
+    pub closed-open : fills ≡ true → next.len ≡ to.len → IsClosing rules (has from) (has next) Open [] (max sweeps 1)
+    closed-open full same =
+        let idle = sweep.further.same same in
+        swept-idle (count-lawful _ _ _ _ counting) sweeps refl within s.swept (sweep.left full) idle
+        (sweep-shut rules (has to) (sym (sweep.left full) ∙ idle))

@@ -1,0 +1,44 @@
+-- Planes of Light Up, and the words of a puzzle beside them.
+use Rattle.std.specs.Prelude.{◌≡◌, ℕ, ◌≤◌, List, length, map}
+use Rattle.grid_core.specs.Planes.{Layers}
+use Rattle.gameid_core.specs.Puzzles.{IsLight, Light}
+use Rattle.fields_core.specs.Light.{light_cells, white}
+use Rattle.fields_core.specs.LightWords.{AreRunWords}
+use Rattle.fields_core.specs.NumberWords.{AreColumnsOf, is_numbered}
+use Rattle.fields_core.specs.Parts.{IsAlive}
+use Rattle.fields_core.specs.Trees.{AreRowsOf}
+use Rattle.fields_core.specs.declared.planes.lights.notes.LightNotes.{LightNotes}
+use Rattle.fields_core.specs.declared.planes.lights.tables.LightTables.{LightTables}
+
+-- there are words for so many cells, and for so many lines
+pub record HasTables {W : Type 0} (cells lines : ℕ) (t : LightTables W) : Type 0 where
+  pub row_runs : cells ≤ length t.runs.rows.items
+  pub column_runs : cells ≤ length t.runs.columns.items
+  pub rows : lines ≤ length t.rows.items
+  pub columns : lines ≤ length t.columns.items
+  pub numbers : lines ≤ length t.numbers.items
+
+-- and for what waits of the lines
+pub record HasLightRoom {W : Type 0} (cells lines : ℕ) (notes : LightNotes W) : Type 0 where
+  pub tables : HasTables cells lines notes.tables
+  pub lit : lines ≤ length notes.waits.lit.items
+
+-- the words are those of the puzzle
+pub record AreTables {W : Type 0} (bits : W → ℕ) (p : Light) (t : LightTables W) : Type 0 where
+  pub runs : AreRunWords p (map bits t.runs.rows.items) (map bits t.runs.columns.items)
+  pub rows : AreRowsOf p.size (white p) (map bits t.rows.items)
+  pub columns : AreColumnsOf p.size (white p) (map bits t.columns.items)
+  pub numbers : AreRowsOf p.size (is_numbered p) (map bits t.numbers.items)
+
+-- planes of the puzzle on words of so many places, in which each cell has a value
+pub record ArePlanesOf (room : ℕ) (p : Light) (planes : Layers) : Type 0 where
+  pub lawful : IsLight p
+  pub narrow : p.size.w ≤ room
+  pub low : p.size.h ≤ room
+  pub size : planes.size ≡ p.size
+  pub alive : IsAlive planes
+
+-- the words of the puzzle are the same, and there is as much room
+pub record IsKept {W : Type 0} (before now : LightNotes W) : Type 0 where
+  pub tables : now.tables ≡ before.tables
+  pub lit : length now.waits.lit.items ≡ length before.waits.lit.items

@@ -1,0 +1,20 @@
+-- Sweeps of all houses on planes. No public contract uses these words.
+use Rattle.std.specs.Prelude.{◌≡◌, Bool, true, false}
+use Rattle.std.specs.List.{range_with_len}
+use Rattle.grid_core.specs.Candidates.{Candidates}
+use Rattle.grid_core.specs.Planes.{Layers, has, IsFurther}
+use Rattle.engine_core.specs.Closing.{replay}
+use Rattle.engine_core.specs.ClosingList.{IsDead}
+use Rattle.engine_core.specs.RuleSystem.{RuleSystem}
+use Rattle.fields_core.specs.Parts.{IsAlive}
+
+-- the board after a sweep: each house is visited once, in ascending order
+abbrev pub swept_by : RuleSystem → Candidates → Candidates
+swept_by p K = replay p K (range_with_len 0 p.houses)
+
+-- a sweep took the planes from the first to the second; or it leaves a cell without a value
+pub record IsSweep (p : RuleSystem) (from to : Layers) (fills : Bool) : Type 0 where
+  pub left : fills ≡ true → has to ≡ swept_by p (has from)
+  pub dies : fills ≡ false → IsDead p (swept_by p (has from))
+  pub alive : IsAlive to
+  pub further : IsFurther from to

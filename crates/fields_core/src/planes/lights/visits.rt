@@ -1,0 +1,71 @@
+//! Visits of the houses of Light Up by the words that are kept of a puzzle.
+#![tactic(auto)]
+
+ghost use Rattle.std.specs.Prelude.{◌+◌, ◌*◌, ◌<◌};
+ghost use Rattle.fields_core.specs.LightHouses.{lit_house};
+ghost use Rattle.fields_core.specs.LightPlanes.{ArePlanesOf, AreTables};
+ghost use Rattle.fields_core.specs.LightWaits.{light_kind_houses, light_kind_lines};
+ghost use Rattle.fields_core.specs.Visits.{AreVisited};
+
+use crate::light_up::cells::columns;
+use crate::planes::lights::tables::LightTables;
+use crate::planes::lights::waits::LightKind;
+use crate::planes::lit::visit_lit;
+use crate::planes::numbers::visit_numbers;
+use crate::planes::run_visits::{visit_row_runs, visit_runs_of_column};
+use gameid_core::LightPuzzle;
+use grid_core::{Planes, Word};
+
+impl<W: Word> LightTables<W> {
+    /// Visits the houses of a kind at a line, up to one that has no filling.
+    pub(crate) fn visit(
+        &self,
+        planes: &mut Planes<W>,
+        puzzle: &LightPuzzle,
+        kind: LightKind,
+        line: u8,
+    ) -> bool
+        requires planes { ArePlanesOf W.room puzzle.now planes.old }
+        requires tables { AreTables W.bits puzzle.now self.now }
+        requires line_in { line < light_kind_lines puzzle.now kind }
+        ensures { AreVisited (light_kind_houses puzzle.now kind line) planes.old planes.new result }
+    {
+        match kind {
+            LightKind::Numbers => {
+                visit_numbers(
+                    planes,
+                    puzzle,
+                    &self.numbers,
+                    &self.rows,
+                    &self.columns,
+                    line,
+                )
+            }
+            LightKind::RowRuns => visit_row_runs(planes, puzzle, &self.runs.rows, line),
+            LightKind::ColumnRuns => {
+                visit_runs_of_column(planes, puzzle, &self.runs.columns, line)
+            }
+        }
+    }
+
+    /// Visits the house of a white cell. Says whether it has a filling, or the cell is black.
+    pub(crate) fn visit_lit(
+        &self,
+        planes: &mut Planes<W>,
+        puzzle: &LightPuzzle,
+        y: u8,
+        x: u8,
+    ) -> bool
+        requires planes { ArePlanesOf W.room puzzle.now planes.old }
+        requires tables { AreTables W.bits puzzle.now self.now }
+        requires y_in { y < puzzle.now.size.h }
+        requires x_in { x < puzzle.now.size.w }
+        ensures { AreVisited (lit_house puzzle.now (y * puzzle.now.size.w + x))
+            planes.old planes.new result }
+    {
+        let place = usize::from(y) * columns(puzzle) + usize::from(x);
+        let row = self.runs.rows[place];
+        let column = self.runs.columns[place];
+        visit_lit(planes, puzzle, y, x, row, column)
+    }
+}

@@ -1,0 +1,132 @@
+//! Which houses of Light Up wait to be visited.
+#![tactic(auto)]
+
+ghost use Rattle.std.specs.Prelude.{◌≡◌, ◌+◌, ◌*◌, ◌<◌, ◌≤◌, length};
+ghost use Rattle.grid_core.specs.Candidates.{Candidates};
+ghost use Rattle.grid_core.specs.Words.{has_bit};
+ghost use Rattle.gameid_core.specs.Puzzles.{Light};
+ghost use Rattle.fields_core.specs.LightHouses.{lit_house};
+ghost use Rattle.fields_core.specs.LightWaits.{AreLightsRested, AreLinesRested, AreLinesWoken, light_kind_houses, light_kind_lines, waiting_lines};
+ghost use Rattle.fields_core.specs.Waits.{AreIdle};
+
+use gameid_core::LightPuzzle;
+use grid_core::{Touched, Word};
+
+/// Kinds of houses that are visited line by line, in the order of a sweep. The white cells follow.
+#[derive(Clone, Copy)]
+pub(crate) enum LightKind {
+    /// The numbers of a row.
+    Numbers,
+    /// The runs of a row.
+    RowRuns,
+    /// The runs of a column.
+    ColumnRuns,
+}
+
+impl LightKind {
+    /// How many lines there are.
+    pub(crate) fn lines(self, puzzle: &LightPuzzle) -> u8
+        ensures { result ≡ light_kind_lines puzzle.now self }
+    {
+        match self {
+            LightKind::ColumnRuns => puzzle.size().w(),
+            _ => puzzle.size().h(),
+        }
+    }
+}
+
+/// The lines of each kind that wait.
+#[derive(Clone, Copy)]
+pub(crate) struct LineWaits<W> {
+    numbers: W,
+    rows: W,
+    columns: W,
+}
+
+impl<W: Word> LineWaits<W> {
+    /// Everything waits.
+    pub(crate) fn all() -> LineWaits<W>
+        ensures { (p : Light) (K : Candidates) → p.size.w ≤ W.room → p.size.h ≤ W.room
+            → AreLinesRested W.bits p result K }
+    {
+        let all = W::all(W::places());
+        LineWaits {
+            numbers: all,
+            rows: all,
+            columns: all,
+        }
+    }
+
+    /// Nothing waits.
+    pub(crate) fn none() -> LineWaits<W> {
+        let none = W::none();
+        LineWaits {
+            numbers: none,
+            rows: none,
+            columns: none,
+        }
+    }
+
+    /// What waits too once cells of these columns and rows have lost values: all that has a cell of both a column and a row.
+    pub(crate) fn woken(self, touched: Touched<W>) -> LineWaits<W>
+        ensures { AreLinesWoken W.bits W.room self touched result }
+    {
+        let rows = touched.rows;
+        LineWaits {
+            numbers: self
+                .numbers
+                .either(rows.on().either(rows).either(rows.back())),
+            rows: self.rows.either(rows),
+            columns: self.columns.either(touched.columns),
+        }
+    }
+
+    /// Whether the houses of this kind at the line wait.
+    pub(crate) fn has(&self, kind: LightKind, line: u8) -> bool
+        requires { line < W.room }
+        ensures { result ≡ has_bit (waiting_lines W.bits self.now kind) line }
+    {
+        let lines = match kind {
+            LightKind::Numbers => self.numbers,
+            LightKind::RowRuns => self.rows,
+            LightKind::ColumnRuns => self.columns,
+        };
+        lines.has(usize::from(line))
+    }
+
+    /// The houses of this kind at the line wait no more: they are idle.
+    pub(crate) fn settle(&mut self, kind: LightKind, line: u8)
+        requires { line < W.room }
+        ensures { (p : Light) (K : Candidates) → AreLinesRested W.bits p self.old K
+            → AreIdle (light_kind_houses p kind line) K → AreLinesRested W.bits p self.new K }
+    {
+        let own = W::one(usize::from(line));
+        match kind {
+            LightKind::Numbers => self.numbers = self.numbers.but(own),
+            LightKind::RowRuns => self.rows = self.rows.but(own),
+            LightKind::ColumnRuns => self.columns = self.columns.but(own),
+        }
+    }
+}
+
+/// What waits: the lines of each kind, and white cells, as a word for each row.
+#[derive(Drop)]
+pub(crate) struct LightWaits<W: Word> {
+    pub(crate) lines: LineWaits<W>,
+    pub(crate) lit: Vec<W>,
+}
+
+impl<W: Word> LightWaits<W> {
+    /// The white cell waits no more: its house is idle.
+    pub(crate) fn settle_lit(&mut self, y: u8, x: u8)
+        requires y_in { y < length self.old.lit.items }
+        requires x_in { x < W.room }
+        ensures rested { (p : Light) (K : Candidates) → x < p.size.w
+            → AreLightsRested W.bits p self.old K → AreIdle (lit_house p (y * p.size.w + x)) K
+            → AreLightsRested W.bits p self.new K }
+        ensures room { length self.new.lit.items ≡ length self.old.lit.items }
+    {
+        let word = self.lit[usize::from(y)];
+        self.lit[usize::from(y)] = word.but(W::one(usize::from(x)));
+    }
+}
