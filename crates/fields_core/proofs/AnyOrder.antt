@@ -11,7 +11,6 @@ unfoldable use Rattle.fields_core.proofs.AtMostLemmas.{is_met, without_met}
 use Rattle.fields_core.proofs.BelowLemmas.{any-here, any-some}
 use Rattle.fields_core.proofs.PartLemmas.{value-in}
 use Rattle.fields_core.proofs.PlaceLists.{count-cons, num, some-counted}
-use Rattle.fields_core.proofs.RunIdle.{at-most-idle}
 use Rattle.fields_core.proofs.RunLines.{each-more}
 use Rattle.fields_core.proofs.VisitLemmas.{after-inside, visits-inside}
 
@@ -269,17 +268,3 @@ singles-kept cells (house ∷ houses) K L (is, each) full_K full_L inside zeros 
     let first = first-idle house houses K idle in
     rw (single-kept cells house K L is full_K full_L inside (λ c on. zeros c (or_left (has_place house.places c) _ on)) first)
     (singles-kept cells houses K L each full_K full_L inside (λ c on. zeros c (or_right (has_place house.places c) _ on)) (rw first at idle))
-
--- nor where each cell of theirs can be 0
-pub singles-idle : (cells : ℕ) (houses : List CountHouse) (K : Candidates) → AllByRecursion (IsSingle cells) houses
-    → ((c v : ℕ) → K c v ≡ true → v < 2)
-    → ((c : ℕ) → list_any (λ house. has_place house.places c) houses ≡ true → K c 0 ≡ true) → after_houses houses K ≡ K
-unfolding after_houses after_house
-singles-idle cells [] K each low zeros = refl
-singles-idle cells (house ∷ houses) K (is, each) low zeros =
-    rw (fun_ext λ c. fun_ext λ v. by (K c v) (strikes_of house K c v)
-    (at-most-idle house K is.is is.least_is is.most_is low (λ d there. zeros d (or_left (has_place house.places d) _ there)) c v))
-    (singles-idle cells houses K each low (λ c on. zeros c (or_right (has_place house.places c) _ on)))
-  where
-    by : (a b : Bool) → (a ≡ true → b ≡ false) → (a && not b) ≡ a
-    by a b off = grind (arith, common_steps, cases_Bool a, cases_Bool b)
