@@ -1,5 +1,5 @@
 -- Closings that go around over the houses that wait.
-use Rattle.engine_core.proofs.Common.{Bool, Candidates, Dead, HasStruck, IsAround, IsAlive, IsClosedIn, IsClosing, IsDead, IsLawful, IsRested, IsTaken, IsWithin, IsWoken, List, Open, RuleSystem, Some, None, [], after, arith, cases_Bool, cases_lt, common_steps, false, if◌then◌else◌, inl, inr, is_dead, length, length-append, lt-ltb, ltb, le-ltb, max, not, range_with_len, refl, replay, suc, sym, take, true, true≢false, within_inside, ℕ, ◌&&◌, ◌*◌, ◌++◌, ◌+◌, ◌-◌, ◌<◌, ◌∙◌, ◌∷◌, ◌||◌, ◌≡◌, ◌≤◌, ◌⊎◌}
+use Rattle.engine_core.proofs.Common.{Bool, Candidates, Dead, HasStruck, IsAround, IsAlive, IsClosedIn, IsClosing, IsDead, IsLawful, IsRested, IsTaken, IsWithin, IsWoken, List, Open, RuleSystem, Some, None, [], after, arith, cases_Bool, cases_lt, common_steps, false, if◌then◌else◌, inl, inr, is_dead, length, length-append, lt-ltb, ltb, le-ltb, max, not, refl, suc, sym, take, true, true≢false, within_inside, ℕ, ◌&&◌, ◌*◌, ◌++◌, ◌+◌, ◌-◌, ◌<◌, ◌∙◌, ◌∷◌, ◌||◌, ◌≡◌, ◌≤◌, ◌⊎◌}
 use Rattle.std.specs.Int.{from_bool}
 use Rattle.engine_core.proofs.ClosingLemmas.{replay_inside}
 use Rattle.engine_core.proofs.EndLemmas.{closed-in, taken-dead, taken-open}

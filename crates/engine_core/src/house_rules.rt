@@ -125,7 +125,7 @@ impl<S: RuleSet, C> Rules for HouseRules<S, C> {
     ) };
 
     fn cells(&self) -> usize {
-        self.table.cells()
+        self.set.cells()
     }
 
     fn values(&self) -> u8 {
@@ -140,7 +140,7 @@ impl<S: RuleSet, C> Rules for HouseRules<S, C> {
         let values = usize::from(self.set.values());
         match S::MODE {
             Mode::Queue => self.table.total() * values + self.table.len(),
-            Mode::Sweep => self.table.cells() * (values - 1) + 1,
+            Mode::Sweep => self.set.cells() * (values - 1) + 1,
         }
     }
 

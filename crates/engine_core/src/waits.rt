@@ -46,18 +46,6 @@ pub(crate) fn dequeue_if(waits: &mut [u64], house: usize, settled: bool)
     }
 }
 
-/// The least bit at or after `from` that is set in the word.
-fn next_bit(word: u64, from: usize) -> Option<usize>
-    requires { from < 64 }
-    ensures { IsNext (is_set word) 64 from result }
-{
-    let left = word >> from;
-    if left == 0 {
-        return None;
-    }
-    Some(from + left.trailing_zeros() as usize)
-}
-
 /// The least house at or after `from` that waits.
 pub(crate) fn next_waiting(waits: &[u64], from: usize, houses: usize) -> Option<usize>
     requires { words_of houses ≤ length waits.now }
@@ -65,12 +53,10 @@ pub(crate) fn next_waiting(waits: &[u64], from: usize, houses: usize) -> Option<
 {
     let mut bit = from % 64;
     for word in from / 64..houses / 64 + 1 {
-        if let Some(next) = next_bit(waits[word], bit) {
-            let house = word * 64 + next;
-            if house < houses {
-                return Some(house);
-            }
-            return None;
+        let left = waits[word] >> bit;
+        if left != 0 {
+            let house = word * 64 + (bit + left.trailing_zeros() as usize);
+            return if house < houses { Some(house) } else { None };
         }
         bit = 0;
     }

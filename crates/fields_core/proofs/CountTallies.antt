@@ -33,7 +33,7 @@ bits-counted : (K : Candidates) (c : ℕ) {bits : ℕ} → IsBitsOf (K c) 2 bits
     → (num (not (has_bit bits 0)) ≡ num (not (K c 0))) × (num (has_bit bits 1) ≡ num (K c 1)) × (num (eqb bits 0) ≡ num (is_empty K c))
 bits-counted K c is = grind (arith, common_steps, none-set)
 
-counts-as : (f g : ℕ → Bool) (xs ys : List ℕ) → length xs ≡ length ys
+pub counts-as : (f g : ℕ → Bool) (xs ys : List ℕ) → length xs ≡ length ys
     → ((k : ℕ) → k < length xs → num (f (slice_index xs k)) ≡ num (g (slice_index ys k)))
     → count_by f xs ≡ count_by g ys
 counts-as f g [] [] e same = refl

@@ -1,5 +1,5 @@
 -- Houses whose visits take nothing, and what is left of a board that has changed far from them.
-use Rattle.fields_core.proofs.Common.{Bool, Candidates, CountHouse, Layers, List, [], after_house, ap, arith, cases_Bool, common_steps, false, fun_ext, has_place, houses_below, inl, inr, length, or_cases, refl, suc, sym, true, true≢false, zero, ℕ, ◌&&◌, ◌++◌, ◌+◌, ◌-◌, ◌<◌, ◌||◌, ◌∙◌, ◌∷◌, ◌≡◌}
+use Rattle.fields_core.proofs.Common.{Bool, Candidates, CountHouse, Layers, List, [], after_house, ap, arith, cases_Bool, common_steps, false, fun_ext, has_place, houses_below, inl, inr, length, or_cases, refl, suc, sym, true, true≢false, zero, ℕ, ◌&&◌, ◌++◌, ◌+◌, ◌-◌, ◌<◌, ◌||◌, ◌∙◌, ◌∷◌, ◌≡◌, ◌≤◌}
 use Rattle.std.specs.List.{list_any}
 use Rattle.std.proofs.lemmas.List.{append-nil}
 use Rattle.std.proofs.lemmas.List.Folds.{list_any-append}
@@ -12,7 +12,7 @@ use Rattle.fields_core.specs.CountHouse.{strikes_of}
 use Rattle.fields_core.specs.Parts.{IsAlive}
 use Rattle.fields_core.specs.Visits.{AreVisited, after_houses}
 use Rattle.fields_core.specs.Waits.{AreIdle}
-use Rattle.fields_core.proofs.VisitLemmas.{after-inside, below-next, below-rest, visits-inside}
+use Rattle.fields_core.proofs.VisitLemmas.{after-inside, sweep-more, visits-inside}
 
 -- ---- one house
 -- the cells that lost a value are none of the places
@@ -45,14 +45,14 @@ house-far house K L inside far idle = fun_ext λ c. fun_ext λ v. elim (cases_Bo
 unfoldable pub any_has : List CountHouse → ℕ → Bool
 any_has houses c = list_any (λ house. has_place house.places c) houses
 
-idle-first : (house : CountHouse) (houses : List CountHouse) (K : Candidates) → AreIdle (house ∷ houses) K → after_house house K ≡ K
+pub idle-first : (house : CountHouse) (houses : List CountHouse) (K : Candidates) → AreIdle (house ∷ houses) K → after_house house K ≡ K
 unfolding after_houses
 idle-first house houses K idle = fun_ext λ c. fun_ext λ v. elim (cases_Bool (K c v)) [
   | inl on ↦ visits-inside houses (after_house house K) c v (ap (λ (L : Candidates). L c v) idle ∙ on) ∙ sym on
   | inr off ↦ false_from_ne_true _ (λ on. true≢false (sym (after-inside house K c v on) ∙ off)) ∙ sym off
 ]
 
-idle-rest : (house : CountHouse) (houses : List CountHouse) (K : Candidates) → AreIdle (house ∷ houses) K → AreIdle houses K
+pub idle-rest : (house : CountHouse) (houses : List CountHouse) (K : Candidates) → AreIdle (house ∷ houses) K → AreIdle houses K
 unfolding after_houses
 idle-rest house houses K idle = rw (idle-first house houses K idle) at idle
 
@@ -103,3 +103,18 @@ any-none c = refl
 pub any-one : (house : CountHouse) (c : ℕ) → any_has (house ∷ []) c ≡ true → has_place house.places c ≡ true
 unfolding any_has
 any-one house c on = grind (arith, common_steps, cases_Bool (has_place house.places c))
+
+-- visits of idle lists go on to further ones
+pub below-idle : (f : ℕ → List CountHouse) {from to : Layers} (n d : ℕ) → AreVisited (houses_below f n) from to true
+    → ((k : ℕ) → n ≤ k → k < n + d → AreIdle (f k) (has to)) → AreVisited (houses_below f (n + d)) from to true
+below-idle f n zero visited idle = let e : n + 0 ≡ n = omega arith in rw e visited
+below-idle f {from} {to} n (suc d) visited idle =
+    let e : n + suc d ≡ n + d + 1 = omega arith in
+    let less = below-idle f n d visited (λ k le lt. idle k le (omega arith)) in
+    rw e (sweep-more f less (visited-idle (f (n + d)) less.alive (idle (n + d) (omega arith) (omega arith))) refl)
+
+pub visited-skip : (f : ℕ → List CountHouse) {from to : Layers} {n m : ℕ} → n ≤ m → AreVisited (houses_below f n) from to true
+    → ((k : ℕ) → n ≤ k → k < m → AreIdle (f k) (has to)) → AreVisited (houses_below f m) from to true
+visited-skip f {from} {to} {n} {m} le visited idle =
+    let e : n + (m - n) ≡ m = omega arith in
+    rw e at (below-idle f n (m - n) visited (λ k at lt. idle k at (omega arith)))

@@ -44,6 +44,7 @@ pub mod RunLines
 pub mod RunBegins
 pub mod AnyOrder
 pub mod RunOrder
+pub mod TentPlanes
 pub mod LawSets
 pub mod LitIdle
 pub mod LitWords

@@ -1,9 +1,13 @@
 -- Houses of one at least, by the cells of theirs that can be ones.
-use Rattle.fields_core.proofs.Common.{Bool, Candidates, IsHouse, List, after_house, arith, cases_Bool, common_steps, count_by, distinct-from, eqb, false, fun_ext, has_place, inl, inr, ne_eqb, not, one_at_least, refl, strikes_of, sym, true, true≢false, ℕ, ◌&&◌, ◌<◌, ◌∙◌, ◌≡◌, ◌≢◌, and-true, cases_lt, false_from_ne_true, ◌⊎◌, ◌≤◌, ap}
+use Rattle.fields_core.proofs.Common.{AllByRecursion, Bool, Candidates, CountHouse, IsHouse, List, [], has_place-here, or_left, or_right, slice_index, after_house, arith, cases_Bool, common_steps, count_by, distinct-from, eqb, false, fun_ext, has_place, inl, inr, ne_eqb, not, one_at_least, refl, strikes_of, sym, true, true≢false, ℕ, ◌&&◌, ◌<◌, ◌∙◌, ◌∷◌, ◌≡◌, ◌≢◌, and-true, cases_lt, false_from_ne_true, ◌⊎◌, ◌≤◌, ap}
 use Rattle.grid_core.specs.Candidates.{IsInside}
 use Rattle.fields_core.specs.Trees.{without_zeros}
+use Rattle.fields_core.specs.Visits.{after_houses}
+use Rattle.fields_core.specs.Waits.{AreIdle}
 use Rattle.fields_core.proofs.AtMostLemmas.{IsFull, count-two, others-stay}
-use Rattle.fields_core.proofs.PlaceLists.{count-none, count-one, count-some}
+use Rattle.fields_core.proofs.IdleLemmas.{any_has, idle-first, idle-rest}
+use Rattle.fields_core.proofs.PlaceLists.{count-none, count-one, count-some, num}
+use Rattle.fields_core.proofs.CountTallies.{counts-as}
 use Rattle.fields_core.proofs.TreeBoards.{AreFull, is_lone, tree-after, tree-board, tree-broken}
 
 module _ {cells : ℕ} {places : List ℕ} (K : Candidates) (is : IsHouse cells (one_at_least places)) (full : IsFull cells K) where
@@ -72,11 +76,11 @@ module _ {cells : ℕ} {places : List ℕ} (K : Candidates) (is : IsHouse cells 
       by a b (inl on) = true≢false (sym on ∙ a)
       by a b (inr on) = true≢false (sym on ∙ b)
 
--- ---- an idle house stays idle where only 0 is taken
+-- ---- an idle house stays idle where its cells lose 0 alone
 module _ {cells : ℕ} {places : List ℕ} (K L : Candidates) (is : IsHouse cells (one_at_least places)) (full : IsFull cells K) (still : IsFull cells L)
-    (inside : IsInside L K) (same : (c : ℕ) → L c 1 ≡ K c 1) where
+    (inside : IsInside L K) (same : (c : ℕ) → has_place places c ≡ true → L c 1 ≡ K c 1) where
   counts : count_by (λ c. L c 1) places ≡ count_by (λ c. K c 1) places
-  counts = ap (λ (test : ℕ → Bool). count_by test places) (fun_ext same)
+  counts = counts-as _ _ places places refl (λ k lt. ap num (same (slice_index places k) (has_place-here places k lt)))
 
   pub idle-kept : after_house (one_at_least places) K ≡ K → after_house (one_at_least places) L ≡ L
   unfolding without_zeros
@@ -84,9 +88,30 @@ module _ {cells : ℕ} {places : List ℕ} (K L : Candidates) (is : IsHouse cell
     | inl some ↦
         let before = sym (tree-board cells places K is (places-full K is full) (inr some) full.low) ∙ idle in
         tree-board cells places L is (places-full L is still) (inr (omega (arith, counts))) still.low
-        ∙ fun_ext λ c. fun_ext λ v. rw (same c, counts) (by (L c v) (K c v) (eqb v 0) (is_lone places K c) (inside c v) (ap (λ (M : Candidates). M c v) before))
+        ∙ fun_ext λ c. fun_ext λ v. rw counts (by c v (cases_Bool (has_place places c)) (ap (λ (M : Candidates). M c v) before))
     | inr few ↦ fun_ext λ c. fun_ext λ v. others-stay (one_at_least places) L c v (never-idle K is full idle (omega arith) c)
   ]
     where
-      by : (l k z a : Bool) → (l ≡ true → k ≡ true) → (k && not (z && a)) ≡ k → (l && not (z && a)) ≡ l
-      by l k z a in_k stays = grind (arith, common_steps, cases_Bool l, cases_Bool k, cases_Bool z, cases_Bool a)
+      still_has : (l k z a : Bool) → (l ≡ true → k ≡ true) → (k && not (z && a)) ≡ k → (l && not (z && a)) ≡ l
+      still_has l k z a in_k stays = grind (arith, common_steps, cases_Bool l, cases_Bool k, cases_Bool z, cases_Bool a)
+
+      by : (c v : ℕ) → (has_place places c ≡ true) ⊎ (has_place places c ≡ false) → (K c v && not (eqb v 0 && is_lone places K c)) ≡ K c v
+          → (L c v && not (eqb v 0 && (L c 1 && (has_place places c && eqb (count_by (λ d. K d 1) places) 1)))) ≡ L c v
+      by c v (inl there) stays = rw (same c there) (still_has (L c v) (K c v) (eqb v 0) (is_lone places K c) (inside c v) stays)
+      by c v (inr out) stays = rw out (grind (arith, common_steps, cases_Bool (L c v), cases_Bool (eqb v 0), cases_Bool (L c 1)))
+
+-- ---- lists of such houses
+pub record IsAll (cells : ℕ) (house : CountHouse) : Type 0 where
+  pub is : IsHouse cells (one_at_least house.places)
+  pub same : house ≡ one_at_least house.places
+
+pub alls-kept : (cells : ℕ) (houses : List CountHouse) (K L : Candidates) → AllByRecursion (IsAll cells) houses
+    → IsFull cells K → IsFull cells L → IsInside L K → ((c : ℕ) → any_has houses c ≡ true → L c 1 ≡ K c 1)
+    → AreIdle houses K → AreIdle houses L
+unfolding after_houses any_has
+alls-kept cells [] K L each full_K full_L inside ones idle = refl
+alls-kept cells (house ∷ houses) K L (is, each) full_K full_L inside ones idle =
+    let first = rw is.same at (idle-first house houses K idle) in
+    let kept = rw (← is.same) at (idle-kept K L is.is full_K full_L inside (λ c there. ones c (or_left (has_place house.places c) _ there)) first) in
+    rw kept (alls-kept cells houses K L each full_K full_L inside (λ c there. ones c (or_right (has_place house.places c) _ there))
+    (idle-rest house houses K idle))

@@ -54,7 +54,7 @@ pub lit-kept : (p : Light) (c : ℕ) (K L : Candidates) → IsLight p → IsFull
     → ((d : ℕ) → L d 1 ≡ K d 1) → after_houses (lit_house p c) K ≡ K → after_houses (lit_house p c) L ≡ L
 unfolding after_houses
 lit-kept p c K L lawful full still inside_of same idle = elim (cases_Bool (white p c)) [
-  | inl on ↦ rw on (idle-kept K L (lit-is p lawful (inside p lawful c on) on) full still inside_of same (rw on at idle))
+  | inl on ↦ rw on (idle-kept K L (lit-is p lawful (inside p lawful c on) on) full still inside_of (λ d _. same d) (rw on at idle))
   | inr off ↦ rw off refl
 ]
 

@@ -41,19 +41,21 @@ abbrev pub AreRested : {W : Type 0} → (W → ℕ) → Tents → Waits W → Ca
 AreRested bits p waits K = (kind : Kind) (k : ℕ) → k < kind_lines p kind
     → has_bit (waiting bits waits kind) k ≡ false → AreIdle (kind_houses p kind k) K
 
--- what waits once cells of these columns and rows have lost values: their columns and rows, the trees of their rows and of
--- the rows beside these, and the squares of their rows
+-- what waits once cells of these lines have lost 0, and cells of those 1: the lines of both, the trees of the rows that
+-- have lost 1 and of the rows beside these, and the squares of the rows that have lost 0
 pub record AreWoken {W : Type 0} (bits : W → ℕ) (room : ℕ) (before : Waits W)
-    (touched : Touched W) (now : Waits W)
+    (zeros ones : Touched W) (now : Waits W)
     : Type 0 where
   pub columns : (k : ℕ) → has_bit (bits now.columns) k
-      ≡ (has_bit (bits before.columns) k || has_bit (bits touched.columns) k)
+      ≡ (has_bit (bits before.columns) k
+      || (has_bit (bits zeros.columns) k || has_bit (bits ones.columns) k))
   pub rows : (k : ℕ) → has_bit (bits now.rows) k
-      ≡ (has_bit (bits before.rows) k || has_bit (bits touched.rows) k)
+      ≡ (has_bit (bits before.rows) k
+      || (has_bit (bits zeros.rows) k || has_bit (bits ones.rows) k))
   pub trees : (k : ℕ) → has_bit (bits now.trees) k
       ≡ (has_bit (bits before.trees) k
-      || (((nat_lt k room && (nat_lt 0 k && has_bit (bits touched.rows) (k - 1)))
-      || has_bit (bits touched.rows) k) || has_bit (bits touched.rows) (k + 1)))
+      || (((nat_lt k room && (nat_lt 0 k && has_bit (bits ones.rows) (k - 1)))
+      || has_bit (bits ones.rows) k) || has_bit (bits ones.rows) (k + 1)))
   pub squares : (k : ℕ) → has_bit (bits now.squares) k
       ≡ (has_bit (bits before.squares) k
-      || (has_bit (bits touched.rows) k || has_bit (bits touched.rows) (k + 1)))
+      || (has_bit (bits zeros.rows) k || has_bit (bits zeros.rows) (k + 1)))

@@ -1,12 +1,15 @@
-//! Count houses on planes, and the planes of Tents.
+//! Count houses on planes, what a search on planes stands on, and how Tents is closed on them.
 
 pub(crate) mod any;
 pub(crate) mod close;
 pub(crate) mod field;
+pub(crate) mod game;
 pub(crate) mod light_words;
 pub(crate) mod lights;
 pub(crate) mod lit;
 pub(crate) mod near;
+pub(crate) mod next;
+pub(crate) mod notes;
 pub(crate) mod numbers;
 pub(crate) mod part;
 pub(crate) mod position;

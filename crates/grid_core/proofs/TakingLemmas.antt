@@ -1,5 +1,5 @@
 -- What a m gives back, and what was taken, noted at the end of a trail and put back from its end.
-use Rattle.grid_core.proofs.Common.{AreTakings, Candidates, Extent, IsTakingIn, List, Taking, add-one, and_parts, any_below, ap, arith, cases_Bool, cases_eq, covers, crosses, differ, false, common_steps, get_or-set_other, get_or-set_same, inl, inr, le-leb, length, length-set, lt-leb, put_back, refl, set, suc, sym, taking_at, total, true, true≢false, turned_by, zero, ℕ, ◌%◌, ◌&&◌, ◌*◌, ◌+◌, ◌-◌, ◌/◌, ◌<◌, ◌∙◌, ◌≡◌, ◌≤◌}
+use Rattle.grid_core.proofs.Common.{AreTakings, Candidates, Extent, IsTakingIn, List, Taking, add-one, and_parts, any_below, ap, arith, cases_Bool, cases_eq, covers, crosses, differ, eqb-true, false, common_steps, get_or-set_other, get_or-set_same, inl, inr, le-leb, length, length-set, lt-leb, put_back, refl, set, suc, sym, taking_at, total, true, true≢false, turned_by, zero, ℕ, ◌%◌, ◌&&◌, ◌*◌, ◌+◌, ◌-◌, ◌/◌, ◌<◌, ◌∙◌, ◌≡◌, ◌≤◌}
 use Rattle.std.proofs.lemmas.Bool.{leb-true}
 use Rattle.std.proofs.Math.Dec.{leb}
 use Rattle.grid_core.proofs.CandidateLemmas.{any_below-none, any_below-some}
@@ -94,13 +94,14 @@ put_back-off w K takings m (suc n) c v off = elim (cases_Bool (leb m n)) [
 -- a value that came back with the takings from m on was covered by one of them; so what is true of the lines of all is true of its
 pub covered_since : (w : ℕ) (K : Candidates) (takings : List Taking) (m n c v : ℕ) {A : Type 0}
     → put_back w K takings m n c v ≡ true → K c v ≡ false
-    → ((k : ℕ) → m ≤ k → k < n → crosses (taking_at takings k).line (taking_at takings k).bits (c / w) (c % w) ≡ true → A) → A
+    → ((k : ℕ) → m ≤ k → k < n → v ≡ (taking_at takings k).value → crosses (taking_at takings k).line (taking_at takings k).bits (c / w) (c % w) ≡ true → A) → A
 unfolding covers
 covered_since w K takings m n c v on off each = elim (cases_Bool (any_below (λ k. leb m k && covers w (taking_at takings k) c v) n)) [
   | inl some ↦
       let k = any_below-some _ n some in
       let both = and_parts _ _ k.2 in
-      each k.0 (leb-true m k.0 both.0) k.1 (and_parts _ _ both.1).1
+      let at = and_parts _ _ both.1 in
+      each k.0 (leb-true m k.0 both.0) k.1 (eqb-true _ _ at.0) at.1
   | inr none ↦ absurd (true≢false (sym on ∙ put_back-off w K takings m n c v
       (λ k from lt. by k from (any_below-none _ n none k lt)) ∙ off))
 ]

@@ -189,3 +189,8 @@ AreLinesOf bits lines y x =
 abbrev pub IsTouched : {W : Type 0} → (W → ℕ) → ℕ → Candidates → Candidates → Touched W → Type 0
 IsTouched bits w K L lines =
     (c v : ℕ) → K c v ≡ true → L c v ≡ false → AreLinesOf bits lines (c / w) (c % w)
+
+-- each cell that has this value in the first board and not in the second has its lines among these
+abbrev pub IsLostIn : {W : Type 0} → (W → ℕ) → ℕ → ℕ → Candidates → Candidates → Touched W → Type 0
+IsLostIn bits w v K L lines =
+    (c : ℕ) → K c v ≡ true → L c v ≡ false → AreLinesOf bits lines (c / w) (c % w)

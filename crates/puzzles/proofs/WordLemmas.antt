@@ -15,7 +15,7 @@ use Rattle.clap.specs.declared.error.Error.{Error}
 use Rattle.clap.specs.declared.error.kind.ErrorKind.{ErrorKind}
 use Rattle.clap.specs.declared.error.kind.ErrorKind.TheVariants.{OutOfMemory}
 use Rattle.clap.specs.declared.parser.matches.ArgMatches.{ArgMatches}
-use Rattle.clap.proofs.WalkLemmas.{both}
+use Rattle.clap.proofs.WalkLemmas.{both, first_value-rows}
 use Rattle.puzzles.specs.CommandLine.{parsed, puzzles_app, unless_fault}
 use Rattle.puzzles.specs.Requests.{is_number, number_of}
 
@@ -112,3 +112,6 @@ number-failed most bs h p small = go (is_number bs) refl
       | inl high ↦ let over : most < digits_value 10 bs = omega (arith, high.1) in sym (above most bs over)
       | inr low ↦ absurd (subst (λ (l : List ℕ). IsNumeral 10 l × (digits_value 10 l < 2 ^ 64) → ⊥) (no_plus bs h) p (numeral_from bs is, low.1))
     ]
+
+-- the value that a parse found for an argument is the first of its row
+pub ruleset word_laws = (first_value-rows)

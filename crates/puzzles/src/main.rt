@@ -16,19 +16,16 @@ use std::env;
 use std::io::ErrorKind;
 use std::process::ExitCode;
 
-/// The words after the program's name. Words that are no text count as none.
-fn words_given(rt: &HostRuntime) -> Option<Vec<String>> {
-    match env::args(rt) {
+fn main(rt: HostRuntime) -> ExitCode {
+    // the words after the program's name; words that are no text count as none
+    let words = match env::args(&rt) {
         Ok(args) => args.skip(1).collect(rt.alloc()).ok(),
         Err(error) => match error.kind() {
             ErrorKind::OutOfMemory => None,
-            _ => Some(Vec::new(rt.alloc())),
+            _ => Some(Vec::<String>::new(rt.alloc())),
         },
-    }
-}
-
-fn main(rt: HostRuntime) -> ExitCode {
-    let Some(words) = words_given(&rt) else {
+    };
+    let Some(words) = words else {
         return ExitCode::from(NO_MEMORY);
     };
     let mut input = ReadEnd::new(rt.stdin());

@@ -1,4 +1,6 @@
 //! What the words of a command line ask for.
+#![tactic(auto, using(crate::proofs::WordLemmas::word_laws))]
+
 ghost use Rattle.puzzles.specs.Requests.{number_of, number_or, asked_in, game_in, budget_in, solve_in, check_in, trace_in, grade_in, seed_in, tries_in, black_in, generate_in, asked_by, asked_of};
 ghost use Rattle.std.specs.Prelude.{◌≡◌, ◌≤◌, IfSome, IfOk, option_and_then, option_map, map, string_bytes};
 ghost use Rattle.clap.specs.Walk.{first_of, rows_of};
@@ -47,20 +49,6 @@ pub enum Request<'a> {
     },
 }
 
-/// The text of an argument, where the words have it.
-fn text_of<'a>(matches: &ArgMatches<'a>, id: &str) -> Option<&'a str>
-    ensures { option_map (λ s. s.now) result ≡ first_of id.now (rows_of (found_of matches.now)) }
-{
-    matches.get_str(id)
-}
-
-/// The game that the words name.
-fn game_from<'a>(matches: &ArgMatches<'a>) -> Option<Game>
-    ensures { result ≡ game_in (rows_of (found_of matches.now)) }
-{
-    game_named(text_of(matches, "game")?)
-}
-
 /// A number in decimal digits, up to a limit.
 fn number(text: &str, most: u64) -> Option<u64>
     ensures value { result ≡ number_of most text.now }
@@ -88,20 +76,13 @@ fn number_or(text: Option<&str>, most: u64, otherwise: u64) -> Option<u64>
     }
 }
 
-/// The budget that the words name, or the usual one.
-fn budget_from<'a>(matches: &ArgMatches<'a>) -> Option<u64>
-    ensures { result ≡ budget_in (rows_of (found_of matches.now)) }
-{
-    number_or(text_of(matches, "budget"), u64::MAX, BUDGET)
-}
-
 /// What the words after `solve` ask for.
 fn solve_request<'a>(matches: &ArgMatches<'a>) -> Option<Request<'a>>
     ensures { option_map asked_in result ≡ solve_in (rows_of (found_of matches.now)) }
 {
-    let game = game_from(matches)?;
-    let budget = budget_from(matches)?;
-    let id = text_of(matches, "id");
+    let game = game_named(matches.get_str("game")?)?;
+    let budget = number_or(matches.get_str("budget"), u64::MAX, BUDGET)?;
+    let id = matches.get_str("id");
     let task = Task { game, budget };
     Some(Request::Solve { task, id })
 }
@@ -110,8 +91,8 @@ fn solve_request<'a>(matches: &ArgMatches<'a>) -> Option<Request<'a>>
 fn check_request<'a>(matches: &ArgMatches<'a>) -> Option<Request<'a>>
     ensures { option_map asked_in result ≡ check_in (rows_of (found_of matches.now)) }
 {
-    let game = game_from(matches)?;
-    let id = text_of(matches, "id")?;
+    let game = game_named(matches.get_str("game")?)?;
+    let id = matches.get_str("id")?;
     Some(Request::Check { game, id })
 }
 
@@ -119,7 +100,7 @@ fn check_request<'a>(matches: &ArgMatches<'a>) -> Option<Request<'a>>
 fn trace_from<'a>(matches: &ArgMatches<'a>) -> bool
     ensures { result ≡ trace_in (rows_of (found_of matches.now)) }
 {
-    match text_of(matches, "trace") {
+    match matches.get_str("trace") {
         Some(text) => text == "true",
         None => false,
     }
@@ -129,9 +110,9 @@ fn trace_from<'a>(matches: &ArgMatches<'a>) -> bool
 fn grade_request<'a>(matches: &ArgMatches<'a>) -> Option<Request<'a>>
     ensures { option_map asked_in result ≡ grade_in (rows_of (found_of matches.now)) }
 {
-    let game = game_from(matches)?;
-    let id = text_of(matches, "id")?;
-    let budget = budget_from(matches)?;
+    let game = game_named(matches.get_str("game")?)?;
+    let id = matches.get_str("id")?;
+    let budget = number_or(matches.get_str("budget"), u64::MAX, BUDGET)?;
     let traced = trace_from(matches);
     let options = GradeOptions { budget, traced };
     Some(Request::Grade { game, id, options })
@@ -141,14 +122,14 @@ fn grade_request<'a>(matches: &ArgMatches<'a>) -> Option<Request<'a>>
 fn seed_from<'a>(matches: &ArgMatches<'a>) -> Option<u64>
     ensures { result ≡ seed_in (rows_of (found_of matches.now)) }
 {
-    number(text_of(matches, "seed")?, u64::MAX)
+    number(matches.get_str("seed")?, u64::MAX)
 }
 
 /// The tries that the words name, or the usual number of them.
 fn tries_from<'a>(matches: &ArgMatches<'a>) -> Option<u32>
     ensures { result ≡ tries_in (rows_of (found_of matches.now)) }
 {
-    let tries = number_or(text_of(matches, "tries"), u32::MAX as u64, TRIES as u64)?;
+    let tries = number_or(matches.get_str("tries"), u32::MAX as u64, TRIES as u64)?;
     Some(tries as u32)
 }
 
@@ -165,7 +146,7 @@ fn percent_or(text: Option<&str>, otherwise: Percent) -> Option<Percent>
 fn black_from<'a>(game: Game, matches: &ArgMatches<'a>) -> Option<Percent>
     ensures { option_map (λ p. p.value) result ≡ black_in game (rows_of (found_of matches.now)) }
 {
-    let text = text_of(matches, "black");
+    let text = matches.get_str("black");
     match (usual_black(game), text) {
         (Some(usual), _) => percent_or(text, usual),
         (None, None) => Some(Percent { value: 0 }),
@@ -177,10 +158,10 @@ fn black_from<'a>(game: Game, matches: &ArgMatches<'a>) -> Option<Percent>
 fn generate_request<'a>(matches: &ArgMatches<'a>) -> Option<Request<'a>>
     ensures { option_map asked_in result ≡ generate_in (rows_of (found_of matches.now)) }
 {
-    let game = game_from(matches)?;
-    let size = text_of(matches, "size")?;
+    let game = game_named(matches.get_str("game")?)?;
+    let size = matches.get_str("size")?;
     let seed = seed_from(matches)?;
-    let budget = budget_from(matches)?;
+    let budget = number_or(matches.get_str("budget"), u64::MAX, BUDGET)?;
     let tries = tries_from(matches)?;
     let black = black_from(game, matches)?;
     let limits = Limits { budget, tries };

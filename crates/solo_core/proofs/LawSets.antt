@@ -2,7 +2,7 @@
 use Rattle.std.proofs.Common.{append-nil}
 use Rattle.solo_core.specs.Common.{both-bits, either-bits, length-map-range_with_len, zero-bits}
 use Rattle.solo_core.specs.SolutionLaws.{test_from_rule, rule_from_test}
-use Rattle.solo_core.proofs.RepeatLemmas.{given_first, len_of, number_at, seen_none, seen_more, seen_again, seen_all, fine_more}
+use Rattle.solo_core.proofs.RepeatLemmas.{given_first, len_of, number_at, seen_none, seen_more, seen_again, seen_all, fine_more, solo_tells}
 use Rattle.solo_core.proofs.HouseLemmas.{listed-none, listed-all, crossings-length, scopes-length, first_at, crossings-counted, house-named, scope-named, first-at, second-at, crossing-after, all-length, filled-length}
 use Rattle.solo_core.proofs.HouseLists.{line-low, line-more}
 use Rattle.solo_core.specs.HouseLaws.{lists_house, listed-has, listed-same, row_in, column_in}
@@ -15,7 +15,7 @@ use Rattle.solo_core.proofs.MateLemmas.{rest-more, rest-same, rest-apart}
 use Rattle.solo_core.proofs.PeelLemmas.{alone-none, alone-lone, alone-more, counts-none, counts-more, peeled-step, counts-same, peeled-none, peeled-more}
 use Rattle.solo_core.proofs.QuickLemmas.{goes_on_free, begun-none, goes_on_swapped}
 use Rattle.solo_core.proofs.WayLemmas.{over_none, over_next, over_all}
-use Rattle.solo_core.proofs.Marks.{bits_joined, over_alone, single_bit}
+use Rattle.solo_core.proofs.Marks.{bits_joined, single_bit}
 use Rattle.solo_core.proofs.StartLemmas.{started, started-none, started-all, started-blank, started-given, started-there}
 use Rattle.solo_core.proofs.Turned.{after-root, before-root, in_ends, after-step, before-step}
 
@@ -57,7 +57,7 @@ pub ruleset peel_laws =
 
 pub ruleset quick_laws = (both-bits, goes_on_free, begun-none, goes_on_swapped)
 
-pub ruleset reach_laws = (over_none, over_next, over_all, over_alone)
+pub ruleset reach_laws = (over_none, over_next, over_all)
 
 pub ruleset scopes_laws = (column_in, first-at, second-at, scopes-length, row_in, house-named, crossing-after, all-length)
 

@@ -2,9 +2,8 @@
 #![tactic(auto, using(crate::proofs::LawSets::check_laws))]
 
 ghost use Rattle.std.specs.Prelude.{◌≡◌};
-ghost use Rattle.solo_core.specs.Common.{IsGrid, IsSolo, solo_n, solo_cells, IsHouseOf, numbers_of, is_solo_solution, no_repeat};
-ghost use Rattle.gameid_core.specs.FirstFailed.{IsFirstOf};
-ghost use Rattle.solo_core.specs.Faults.{FailsSolo, IsSoloFault, fault_of as fault_of_house, given_tests, house_tests};
+ghost use Rattle.solo_core.specs.Common.{IsGrid, IsSolo, solo_n, solo_cells, IsHouseOf, numbers_of, no_repeat};
+ghost use Rattle.solo_core.specs.Faults.{IsSoloFault, fault_of as fault_of_house};
 
 use crate::fault::SoloFault;
 use crate::houses::house::NamedHouse;
@@ -24,41 +23,12 @@ pub fn check_solo(puzzle: &SoloPuzzle, grid: &Grid) -> Option<SoloFault>
     ensures lawful { IsSolo puzzle.now }
     ensures fault { IsSoloFault puzzle.now grid.now result }
 {
-    if let Some(fault) = broken_given(puzzle, grid) {
-        return Some(fault);
-    }
-    repeating_house(puzzle, grid)
-}
-
-/// Whether the grid solves the puzzle.
-pub(crate) fn accepts(puzzle: &SoloPuzzle, grid: &Grid) -> bool
-    requires fits { IsGrid (solo_cells puzzle.now) (solo_n puzzle.now) grid.now }
-    ensures { result ≡ is_solo_solution puzzle.now grid.now }
-{
-    check_solo(puzzle, grid).is_none()
-}
-
-/// The lowest place whose given doesn't stand.
-fn broken_given(puzzle: &SoloPuzzle, grid: &Grid) -> Option<SoloFault>
-    requires fits { IsGrid (solo_cells puzzle.now) (solo_n puzzle.now) grid.now }
-    ensures lawful { IsSolo puzzle.now }
-    ensures first { IsFirstOf (FailsSolo puzzle.now grid.now) (given_tests puzzle.now) result }
-{
     for place in 0..cells(puzzle) {
         let given = puzzle.given(place);
         if given != 0 && grid.get(place) + 1 != given {
             return Some(SoloFault::Given(place));
         }
     }
-    None
-}
-
-/// The first house that holds a number twice.
-fn repeating_house(puzzle: &SoloPuzzle, grid: &Grid) -> Option<SoloFault>
-    requires fits { IsGrid (solo_cells puzzle.now) (solo_n puzzle.now) grid.now }
-    ensures lawful { IsSolo puzzle.now }
-    ensures first { IsFirstOf (FailsSolo puzzle.now grid.now) (house_tests puzzle.now) result }
-{
     for number in 0..houses(puzzle) {
         let house = house(puzzle, number);
         if !holds_each_once(puzzle, grid, house) {

@@ -10,7 +10,7 @@ ghost use Rattle.solo_core.specs.Common.{IsSolo, house_places};
 ghost use Rattle.solo_core.specs.RuleLaws.{listed_in_rules, bound_of_rules, singles_lawful, houses_lawful, crossings_lawful};
 ghost use Rattle.solo_core.specs.RuleSets.{single_houses, singles_rules, filled_houses, houses_rules, crossings_of, crossings_rules};
 
-use crate::check::accepts;
+use crate::check::check_solo;
 use crate::houses::crossings::{crossings, push_crossings};
 use crate::houses::lists::list_houses;
 use crate::houses::places::{cells, houses};
@@ -120,7 +120,7 @@ impl RuleSet for Singles {
     }
 
     fn accept(&self, _scratch: &mut (), grid: &Grid) -> bool {
-        accepts(&self.puzzle, grid)
+        check_solo(&self.puzzle, grid).is_none()
     }
 }
 
@@ -190,7 +190,7 @@ impl RuleSet for Fillings {
     }
 
     fn accept(&self, _pairing: &mut Pairing, grid: &Grid) -> bool {
-        accepts(&self.puzzle, grid)
+        check_solo(&self.puzzle, grid).is_none()
     }
 }
 
@@ -266,6 +266,6 @@ impl RuleSet for Crossings {
     }
 
     fn accept(&self, _pairing: &mut Pairing, grid: &Grid) -> bool {
-        accepts(&self.puzzle, grid)
+        check_solo(&self.puzzle, grid).is_none()
     }
 }

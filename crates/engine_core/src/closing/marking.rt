@@ -8,7 +8,6 @@ ghost use Rattle.engine_core.specs.RuleSystem.{has_place, IsBoardOf};
 ghost use Rattle.engine_core.specs.Queue.{called_for, are_emptied};
 ghost use Rattle.engine_core.specs.Waiting.{words_of, is_waiting, AreWoken};
 
-use crate::houses::sets::cell_bits;
 use crate::rules::Rules;
 use crate::waits::enqueue;
 use grid_core::Board;
@@ -56,7 +55,7 @@ pub(crate) fn mark_changed<R: Rules>(
     let mut dead = false;
     for k in 0..sets.len() {
         let place = rules.scope(house, k);
-        let now = cell_bits(board, place);
+        let now = board.bits(place);
         if now != sets[k] {
             mark_at(rules, place, waits);
             dead |= now == 0;

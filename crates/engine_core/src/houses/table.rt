@@ -41,19 +41,6 @@ fn sum_up(counts: &mut [u32]) -> u32
     sum
 }
 
-/// Writes for each place where its houses end in the list of all, and gives the length of that list.
-fn write_ends(ends: &mut [u32], list: &HouseList) -> u32
-    requires scopes { AreScopes (length ends.old) list.now.closed }
-    requires few { sum_by length list.now.closed < 2 ^ 32 }
-    requires none { (c : ℕ) → c < length ends.old → slice_index ends.old c ≡ 0 }
-    ensures as_many { length ends.new ≡ length ends.old }
-    ensures ends { AreAt (length ends.old) (λ c. start_at list.now.closed (suc c)) ends.new }
-    ensures all { result ≡ start_at list.now.closed (length ends.old) }
-{
-    count_places(ends, list.all());
-    sum_up(ends)
-}
-
 /// Puts the house before those that stand already at each of its places.
 fn put_house(starts: &mut [u32], houses: &mut [u32], house: u32, places: &[u32])
     requires within { (k : ℕ) → k < length places.now
@@ -128,7 +115,9 @@ impl HouseTable {
         ensures { IfOk result (λ table. table ≡ record { cells = cells; scopes = list.closed }) }
     {
         let mut starts = vec![in alloc; 0u32; cells + 1]?;
-        let all = write_ends(&mut starts, &list);
+        let ends: &mut [u32] = &mut starts;
+        count_places(ends, list.all());
+        let all = sum_up(ends);
         let mut houses = vec![in alloc; 0u32; all as usize]?;
         put_houses(&mut starts, &mut houses, &list);
         Ok(HouseTable {

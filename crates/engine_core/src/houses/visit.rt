@@ -10,7 +10,6 @@ ghost use Rattle.engine_core.specs.RuleSystem.{IsBoardOf};
 ghost use Rattle.engine_core.specs.Sets.{has_bit as is_set, set_of_bits, IsBitsOf};
 ghost use Rattle.engine_core.specs.HouseSets.{sets_at, kept_in};
 
-use crate::houses::sets::cell_bits;
 use crate::rules::Rules;
 use grid_core::Board;
 
@@ -22,7 +21,7 @@ pub(crate) fn read_sets<R: Rules>(rules: &R, house: usize, board: &Board, sets: 
     ensures { AreSetsOf (R.system rules.now) house (has board.now) sets.new }
 {
     for k in 0..sets.len() {
-        sets[k] = cell_bits(board, rules.scope(house, k));
+        sets[k] = board.bits(rules.scope(house, k));
     }
 }
 
@@ -50,7 +49,7 @@ pub fn gather(board: &Board, places: &[u32], sets: &mut [u32])
         ≡ sets_at board.now.values places.now (has board.now) }
 {
     for k in 0..places.len() {
-        sets[k] = cell_bits(board, places[k] as usize);
+        sets[k] = board.bits(places[k] as usize);
     }
 }
 

@@ -7,7 +7,6 @@ ghost use Rattle.grid_core.specs.Candidates.{count_below, is_full, grid_of, pick
 ghost use Rattle.engine_core.specs.RuleSystem.{IsNext};
 ghost use Rattle.engine_core.specs.Queue.{is_board_dead};
 
-use crate::houses::sets::cell_bits;
 use grid_core::{Board, Grid};
 
 /// Writes each cell's only value.
@@ -18,7 +17,7 @@ pub(crate) fn write_grid(board: &Board, cells: usize, grid: &mut Grid)
     ensures { grid.new ≡ grid_of cells board.now.values (has board.now) }
 {
     for cell in 0..cells {
-        grid.set(cell, cell_bits(board, cell).trailing_zeros() as u8);
+        grid.set(cell, board.bits(cell).trailing_zeros() as u8);
     }
 }
 

@@ -8,7 +8,6 @@ ghost use Rattle.engine_core.specs.PositionLaws.{within_of};
 ghost use Rattle.engine_core.specs.TrailPosition.{IsUnderWay, standing_of};
 ghost use Rattle.engine_core.specs.Waiting.{words_of};
 
-use crate::houses::sets::cell_bits;
 use crate::mode::Closing;
 use crate::needs::{Needs, needs_for};
 use crate::search::position::{Position, Taken};
@@ -145,7 +144,7 @@ impl<R: Propagators> Position for TrailPosition<R> {
     }
 
     fn leave(&mut self, rules: &R, cell: usize, value: u8) {
-        let before = cell_bits(self.trailed.board(), cell);
+        let before = self.trailed.board().bits(cell);
         self.trailed
             .leave(rules, cell, before, 1 << value, &mut self.counts);
     }

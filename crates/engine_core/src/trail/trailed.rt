@@ -10,7 +10,6 @@ ghost use Rattle.engine_core.specs.RuleSystem.{IsBoardOf, after};
 ghost use Rattle.engine_core.specs.Sets.{IsBitsOf};
 ghost use Rattle.engine_core.specs.Trail.{back_at, change_at, left_by, IsFurther, IsBack, IsStruck, StillServes};
 
-use crate::houses::sets::cell_bits;
 use crate::trail::propagators::Propagators;
 use grid_core::Board;
 use std::alloc::{AllocError, Global};
@@ -177,9 +176,9 @@ impl TrailedBoard {
             self.len -= 1;
             let (cell, set) = self.changes[self.len];
             let place = cell as usize;
-            let before = cell_bits(&self.board, place);
+            let before = self.board.bits(place);
             self.board.restore_set(place, set);
-            rules.change(place, before, cell_bits(&self.board, place), counts);
+            rules.change(place, before, self.board.bits(place), counts);
         }
     }
 }

@@ -1,57 +1,23 @@
-//! Planes of words as long as the sides ask for.
+//! Planes of words of either length.
 #![tactic(auto)]
 
-ghost use Rattle.std.specs.Prelude.{◌≡◌, ℕ, ◌+◌, ◌*◌, ◌<◌, ◌≤◌, ◌⊎◌, IfOk, length, true, None};
-ghost use Rattle.grid_core.specs.Candidates.{IsWithin, count_below, grid_of, is_full, only, pick};
-ghost use Rattle.grid_core.specs.Extent.{IsExtent, max_side};
+ghost use Rattle.std.specs.Prelude.{◌≡◌, ◌*◌, ◌<◌, ◌≤◌, length, true, None};
+ghost use Rattle.grid_core.specs.Candidates.{count_below, grid_of, is_full, only, pick};
+ghost use Rattle.grid_core.specs.Extent.{IsExtent};
 ghost use Rattle.grid_core.specs.Planes.{has, cells_of, back_at, IsBack, IsFurther};
-ghost use Rattle.engine_core.specs.RuleSystem.{needs_of};
-ghost use Rattle.engine_core.specs.ClosingList.{IsAlive};
-ghost use Rattle.engine_core.specs.Counts.{IsClosedIn};
-ghost use Rattle.engine_core.specs.Position.{IsTaken};
-ghost use Rattle.engine_core.specs.Queue.{IsClosedBut};
-ghost use Rattle.fields_core.specs.AnyPlanes.{layers_in, places_of, trees_in, AreLongFor};
-ghost use Rattle.fields_core.specs.TentHouses.{tent_rules};
-ghost use Rattle.fields_core.specs.Tents.{tent_cells, tree};
-ghost use Rattle.fields_core.specs.Trees.{AreRowsOf};
-ghost use Rattle.fields_core.specs.Visits.{IsFieldOf};
-ghost use Rattle.gameid_core.specs.Puzzles.{IsTents};
+ghost use Rattle.fields_core.specs.AnyPlanes.{kept_in, layers_in};
 
 use crate::planes::field::Field;
-use crate::planes::start::start_field;
-use engine_core::Taken;
-use gameid_core::TentsPuzzle;
 use grid_core::{Grid, Size};
-use std::alloc::{AllocError, Global};
 
-/// Planes of words of 64 places, and of 128 where a side may be longer, with the trees of each row.
+/// Planes of words of 64 places, or of 128, with what a game keeps beside either.
 #[derive(Drop)]
-pub(crate) enum AnyPlanes {
-    Short(Field<u64>),
-    Long(Field<u128>),
+pub enum AnyPlanes<S, L> {
+    Short(Field<u64, S>),
+    Long(Field<u128, L>),
 }
 
-impl AnyPlanes {
-    /// Planes of that size, whose words are long enough for sides of so many cells.
-    ///
-    /// # Errors
-    ///
-    /// When memory was refused.
-    pub(crate) fn new(alloc: Global, size: Size, side: usize) -> Result<AnyPlanes, AllocError>
-        requires extent { IsExtent size }
-        requires narrow { size.w ≤ side }
-        requires low { size.h ≤ side }
-        ensures room { IfOk result (λ planes.
-            length (layers_in planes).takings ≡ size.w * size.h * 2) }
-        ensures long { IfOk result (λ planes. AreLongFor side (places_of planes)) }
-        ensures rows { IfOk result (λ planes. places_of planes ≤ length (trees_in planes)) }
-    {
-        if side > 64 {
-            return Ok(AnyPlanes::Long(Field::new(alloc, size)?));
-        }
-        Ok(AnyPlanes::Short(Field::new(alloc, size)?))
-    }
-
+impl<S, L> AnyPlanes<S, L> {
     /// How many steps can be taken back.
     pub(crate) fn room(&self) -> usize
         ensures { result ≡ length (layers_in self.now).takings }
@@ -62,45 +28,14 @@ impl AnyPlanes {
         }
     }
 
-    /// Begins with the board that a search of the puzzle starts from.
-    pub(crate) fn start(&mut self, puzzle: &TentsPuzzle)
-        requires long { AreLongFor (needs_of (tent_rules puzzle.now)).scope (places_of self.old) }
-        requires few { puzzle.now.size.w * puzzle.now.size.h * 2
-            ≤ length (layers_in self.old).takings }
-        requires rows { places_of self.old ≤ length (trees_in self.old) }
-        ensures lawful { IsTents puzzle.now }
-        ensures start { has (layers_in self.new) ≡ (tent_rules puzzle.now).start }
-        ensures size { (layers_in self.new).size ≡ puzzle.now.size }
-        ensures room { length (layers_in self.new).takings
-            ≡ length (layers_in self.old).takings }
-        ensures places { places_of self.new ≡ places_of self.old }
-        ensures trees { AreRowsOf puzzle.now.size (tree puzzle.now) (trees_in self.new) }
-        ensures rows { length (trees_in self.new) ≡ length (trees_in self.old) }
+    /// The size of the grid.
+    pub(crate) fn size(&self) -> Size
+        ensures value { result ≡ (layers_in self.now).size }
+        ensures lawful { IsExtent result }
     {
         match self {
-            AnyPlanes::Short(field) => start_field(field, puzzle),
-            AnyPlanes::Long(field) => start_field(field, puzzle),
-        }
-    }
-
-    /// Closes the board by the puzzle's houses, or finds that its closure is dead. Where `from` names a cell, the board was
-    /// closed before that cell lost a value.
-    pub(crate) fn close(&mut self, puzzle: &TentsPuzzle, from: Option<usize>) -> Taken
-        requires field { IsFieldOf (places_of self.old) puzzle.now (layers_in self.old)
-            (trees_in self.old) }
-        requires within { IsWithin (tent_cells puzzle.now) 2 (has (layers_in self.old)) }
-        requires closed_but { IsClosedBut (tent_rules puzzle.now) (has (layers_in self.old)) from }
-        ensures taken { IsTaken (tent_rules puzzle.now) (has (layers_in self.old))
-            (has (layers_in self.new)) result.closing }
-        ensures turns { IsClosedIn (tent_rules puzzle.now) (has (layers_in self.old)) result.turns }
-        ensures alive { IsAlive (tent_rules puzzle.now) (has (layers_in self.new)) }
-        ensures further { IsFurther (layers_in self.old) (layers_in self.new) }
-        ensures places { places_of self.new ≡ places_of self.old }
-        ensures trees { trees_in self.new ≡ trees_in self.old }
-    {
-        match self {
-            AnyPlanes::Short(field) => field.close(puzzle, from),
-            AnyPlanes::Long(field) => field.close(puzzle, from),
+            AnyPlanes::Short(field) => field.planes.size(),
+            AnyPlanes::Long(field) => field.planes.size(),
         }
     }
 
@@ -136,8 +71,7 @@ impl AnyPlanes {
         requires several { 2 ≤ count_below (has (layers_in self.old) place) 2 }
         ensures left { has (layers_in self.new) ≡ only (has (layers_in self.old)) place value }
         ensures further { IsFurther (layers_in self.old) (layers_in self.new) }
-        ensures places { places_of self.new ≡ places_of self.old }
-        ensures trees { trees_in self.new ≡ trees_in self.old }
+        ensures kept { kept_in self.new ≡ kept_in self.old }
     {
         match self {
             AnyPlanes::Short(field) => field.planes.assign(place, value),
@@ -160,8 +94,7 @@ impl AnyPlanes {
     pub(crate) fn undo(&mut self, len: usize)
         requires { len ≤ (layers_in self.old).len }
         ensures back { IsBack (layers_in self.old) (layers_in self.new) len }
-        ensures places { places_of self.new ≡ places_of self.old }
-        ensures trees { trees_in self.new ≡ trees_in self.old }
+        ensures kept { kept_in self.new ≡ kept_in self.old }
     {
         match self {
             AnyPlanes::Short(field) => field.planes.undo(len),

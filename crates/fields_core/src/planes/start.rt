@@ -1,5 +1,5 @@
 //! The board that a search of Tents starts from, on planes.
-#![tactic(auto, using(crate::proofs::LawSets::plane_position_laws))]
+#![tactic(auto, using(crate::proofs::LawSets::tent_planes_laws))]
 
 ghost use Rattle.std.specs.Prelude.{◌≡◌, ℕ, ◌+◌, ◌*◌, ◌<◌, ◌≤◌, ◌&&◌, nat_lt, length, map};
 ghost use Rattle.grid_core.specs.Planes.{has};
@@ -13,6 +13,7 @@ ghost use Rattle.fields_core.specs.Trees.{AreRowsOf};
 
 use crate::count::game::CountGame;
 use crate::planes::field::Field;
+use crate::planes::notes::TentNotes;
 use crate::planes::rows::write_trees;
 use gameid_core::TentsPuzzle;
 use grid_core::{Line, Planes, Word};
@@ -52,17 +53,18 @@ fn start_tents<W: Word>(planes: &mut Planes<W>, puzzle: &TentsPuzzle)
 }
 
 /// Begins with that board, and writes the trees of each row. It takes no memory.
-pub(crate) fn start_field<W: Word>(field: &mut Field<W>, puzzle: &TentsPuzzle)
+pub(crate) fn start_field<W: Word>(field: &mut Field<W, TentNotes<W>>, puzzle: &TentsPuzzle)
     requires long { AreLongFor (needs_of (tent_rules puzzle.now)).scope W.room }
     requires few { puzzle.now.size.w * puzzle.now.size.h * 2 ≤ length field.old.planes.takings }
-    requires rows { W.room ≤ length field.old.trees.items }
+    requires rows { W.room ≤ length field.old.notes.trees.items }
     ensures lawful { IsTents puzzle.now }
     ensures start { has field.new.planes ≡ (tent_rules puzzle.now).start }
     ensures size { field.new.planes.size ≡ puzzle.now.size }
     ensures room { length field.new.planes.takings ≡ length field.old.planes.takings }
-    ensures trees { AreRowsOf puzzle.now.size (tree puzzle.now) (map W.bits field.new.trees.items) }
-    ensures rows { length field.new.trees.items ≡ length field.old.trees.items }
+    ensures trees { AreRowsOf puzzle.now.size (tree puzzle.now)
+        (map W.bits field.new.notes.trees.items) }
+    ensures rows { length field.new.notes.trees.items ≡ length field.old.notes.trees.items }
 {
     start_tents(&mut field.planes, puzzle);
-    write_trees(&mut field.trees, puzzle);
+    write_trees(&mut field.notes.trees, puzzle);
 }

@@ -7,118 +7,124 @@ ghost use Rattle.fields_core.specs.CountHouse.{houses_below};
 ghost use Rattle.fields_core.specs.Visits.{AreVisited, IsFieldOf, IsTentSweep, cell_houses, line_houses};
 ghost use Rattle.fields_core.specs.Waits.{AreRested, kind_houses, kind_lines};
 
-use crate::planes::field::Field;
+use crate::planes::next::next_place;
+use crate::planes::notes::TentNotes;
 use crate::planes::squares::visit_squares;
 use crate::planes::tents::{visit_column, visit_row};
 use crate::planes::trees::visit_trees;
 use crate::planes::waits::Kind;
 use gameid_core::TentsPuzzle;
-use grid_core::Word;
+use grid_core::{Planes, Word};
 
-impl<W: Word> Field<W> {
+impl<W: Word> TentNotes<W> {
     /// Visits the houses of a kind at a line.
-    fn visit(&mut self, puzzle: &TentsPuzzle, kind: Kind, line: u8) -> bool
-        requires field { IsFieldOf W.room puzzle.now self.old.planes
+    #[inline(always)]
+    fn visit(&mut self, planes: &mut Planes<W>, puzzle: &TentsPuzzle, kind: Kind, line: u8) -> bool
+        requires field { IsFieldOf W.room puzzle.now planes.old
             (map W.bits self.old.trees.items) }
         requires line_in { line < kind_lines puzzle.now kind }
-        ensures visited { AreVisited (kind_houses puzzle.now kind line) self.old.planes
-            self.new.planes result }
+        ensures visited { AreVisited (kind_houses puzzle.now kind line) planes.old
+            planes.new result }
         ensures trees { self.new.trees ≡ self.old.trees }
         ensures waits { self.new.waits ≡ self.old.waits }
     {
         match kind {
-            Kind::Columns => visit_column(&mut self.planes, puzzle, line),
-            Kind::Rows => visit_row(&mut self.planes, puzzle, line),
-            Kind::Trees => visit_trees(&mut self.planes, &self.trees, line),
-            Kind::Squares => visit_squares(&mut self.planes, puzzle, line),
+            Kind::Columns => visit_column(planes, puzzle, line),
+            Kind::Rows => visit_row(planes, puzzle, line),
+            Kind::Trees => visit_trees(planes, &self.trees, line),
+            Kind::Squares => visit_squares(planes, puzzle, line),
         }
     }
 
-    /// Visits the houses of a kind at a line if they wait, and wakes what has a cell that lost a value.
-    fn turn(&mut self, puzzle: &TentsPuzzle, kind: Kind, line: u8) -> bool
-        requires field { IsFieldOf W.room puzzle.now self.old.planes
+    /// Visits the houses of a kind at a line, which wait, and wakes what the values that were lost may bind.
+    #[inline(always)]
+    fn turn(&mut self, planes: &mut Planes<W>, puzzle: &TentsPuzzle, kind: Kind, line: u8) -> bool
+        requires field { IsFieldOf W.room puzzle.now planes.old
             (map W.bits self.old.trees.items) }
         requires line_in { line < kind_lines puzzle.now kind }
-        requires rested { AreRested W.bits puzzle.now self.old.waits (has self.old.planes) }
-        ensures visited { AreVisited (kind_houses puzzle.now kind line) self.old.planes
-            self.new.planes result }
+        requires rested { AreRested W.bits puzzle.now self.old.waits (has planes.old) }
+        ensures visited { AreVisited (kind_houses puzzle.now kind line) planes.old
+            planes.new result }
         ensures rested { result ≡ true
-            → AreRested W.bits puzzle.now self.new.waits (has self.new.planes) }
+            → AreRested W.bits puzzle.now self.new.waits (has planes.new) }
         ensures trees { self.new.trees ≡ self.old.trees }
     {
-        if !self.waits.has(kind, line) {
-            return true;
-        }
-        let len = self.planes.len();
-        if !self.visit(puzzle, kind, line) {
+        let len = planes.len();
+        if !self.visit(planes, puzzle, kind, line) {
             return false;
         }
-        if self.planes.len() == len {
+        if planes.len() == len {
             self.waits.settle(kind, line);
         } else {
-            self.waits.wake(&self.planes, len);
+            self.waits.wake(planes, len);
         }
         true
     }
 
-    /// Visits the houses of a kind, up to one that has no filling.
-    fn sweep_kind(&mut self, puzzle: &TentsPuzzle, kind: Kind) -> bool
-        requires field { IsFieldOf W.room puzzle.now self.old.planes
+    /// Visits the houses of a kind that wait, up to one that has no filling: all others are idle.
+    #[inline(always)]
+    fn sweep_kind(&mut self, planes: &mut Planes<W>, puzzle: &TentsPuzzle, kind: Kind) -> bool
+        requires field { IsFieldOf W.room puzzle.now planes.old
             (map W.bits self.old.trees.items) }
-        requires rested { AreRested W.bits puzzle.now self.old.waits (has self.old.planes) }
+        requires rested { AreRested W.bits puzzle.now self.old.waits (has planes.old) }
         ensures visited { AreVisited
             (houses_below (kind_houses puzzle.now kind) (kind_lines puzzle.now kind))
-            self.old.planes self.new.planes result }
+            planes.old planes.new result }
         ensures rested { result ≡ true
-            → AreRested W.bits puzzle.now self.new.waits (has self.new.planes) }
+            → AreRested W.bits puzzle.now self.new.waits (has planes.new) }
         ensures trees { self.new.trees ≡ self.old.trees }
     {
-        for line in 0..kind.lines(puzzle) {
-            if !self.turn(puzzle, kind, line) {
+        let lines = usize::from(kind.lines(puzzle));
+        let mut from = 0;
+        while let Some(line) = next_place(self.waits.lines(kind), from, lines) {
+            if !self.turn(planes, puzzle, kind, line as u8) {
                 return false;
             }
+            from = line + 1;
         }
         true
     }
 
     /// Visits the houses of the lines, up to one that has no filling.
-    fn sweep_lines(&mut self, puzzle: &TentsPuzzle) -> bool
-        requires field { IsFieldOf W.room puzzle.now self.old.planes
+    fn sweep_lines(&mut self, planes: &mut Planes<W>, puzzle: &TentsPuzzle) -> bool
+        requires field { IsFieldOf W.room puzzle.now planes.old
             (map W.bits self.old.trees.items) }
-        requires rested { AreRested W.bits puzzle.now self.old.waits (has self.old.planes) }
-        ensures visited { AreVisited (line_houses puzzle.now) self.old.planes self.new.planes
+        requires rested { AreRested W.bits puzzle.now self.old.waits (has planes.old) }
+        ensures visited { AreVisited (line_houses puzzle.now) planes.old planes.new
             result }
         ensures rested { result ≡ true
-            → AreRested W.bits puzzle.now self.new.waits (has self.new.planes) }
+            → AreRested W.bits puzzle.now self.new.waits (has planes.new) }
         ensures trees { self.new.trees ≡ self.old.trees }
     {
-        self.sweep_kind(puzzle, Kind::Columns) && self.sweep_kind(puzzle, Kind::Rows)
+        self.sweep_kind(planes, puzzle, Kind::Columns)
+            && self.sweep_kind(planes, puzzle, Kind::Rows)
     }
 
     /// Visits the houses of the cells, up to one that has no filling.
-    fn sweep_cells(&mut self, puzzle: &TentsPuzzle) -> bool
-        requires field { IsFieldOf W.room puzzle.now self.old.planes
+    fn sweep_cells(&mut self, planes: &mut Planes<W>, puzzle: &TentsPuzzle) -> bool
+        requires field { IsFieldOf W.room puzzle.now planes.old
             (map W.bits self.old.trees.items) }
-        requires rested { AreRested W.bits puzzle.now self.old.waits (has self.old.planes) }
-        ensures visited { AreVisited (cell_houses puzzle.now) self.old.planes self.new.planes
+        requires rested { AreRested W.bits puzzle.now self.old.waits (has planes.old) }
+        ensures visited { AreVisited (cell_houses puzzle.now) planes.old planes.new
             result }
         ensures rested { result ≡ true
-            → AreRested W.bits puzzle.now self.new.waits (has self.new.planes) }
+            → AreRested W.bits puzzle.now self.new.waits (has planes.new) }
         ensures trees { self.new.trees ≡ self.old.trees }
     {
-        self.sweep_kind(puzzle, Kind::Trees) && self.sweep_kind(puzzle, Kind::Squares)
+        self.sweep_kind(planes, puzzle, Kind::Trees)
+            && self.sweep_kind(planes, puzzle, Kind::Squares)
     }
 
     /// Visits each house once, in ascending order, up to one that has no filling. Says whether there is none such.
-    pub(crate) fn sweep(&mut self, puzzle: &TentsPuzzle) -> bool
-        requires field { IsFieldOf W.room puzzle.now self.old.planes
+    pub(crate) fn sweep(&mut self, planes: &mut Planes<W>, puzzle: &TentsPuzzle) -> bool
+        requires field { IsFieldOf W.room puzzle.now planes.old
             (map W.bits self.old.trees.items) }
-        requires rested { AreRested W.bits puzzle.now self.old.waits (has self.old.planes) }
-        ensures swept { IsTentSweep puzzle.now self.old.planes self.new.planes result }
+        requires rested { AreRested W.bits puzzle.now self.old.waits (has planes.old) }
+        ensures swept { IsTentSweep puzzle.now planes.old planes.new result }
         ensures rested { result ≡ true
-            → AreRested W.bits puzzle.now self.new.waits (has self.new.planes) }
+            → AreRested W.bits puzzle.now self.new.waits (has planes.new) }
         ensures trees { self.new.trees ≡ self.old.trees }
     {
-        self.sweep_lines(puzzle) && self.sweep_cells(puzzle)
+        self.sweep_lines(planes, puzzle) && self.sweep_cells(planes, puzzle)
     }
 }

@@ -3,10 +3,10 @@
 
 ghost use Rattle.std.specs.Prelude.{◌≡◌, ◌<◌, ◌≤◌};
 ghost use Rattle.grid_core.specs.Candidates.{Candidates};
-ghost use Rattle.grid_core.specs.Words.{has_bit};
 ghost use Rattle.grid_core.specs.Planes.{Layers, has, IsFurther};
 ghost use Rattle.engine_core.specs.Queue.{IsClosedBut};
-ghost use Rattle.gameid_core.specs.Puzzles.{Tents};
+ghost use Rattle.gameid_core.specs.Puzzles.{IsTents, Tents};
+ghost use Rattle.fields_core.specs.Parts.{IsAlive};
 ghost use Rattle.fields_core.specs.TentHouses.{tent_rules};
 ghost use Rattle.fields_core.specs.Waits.{AreIdle, AreRested, AreWoken, kind_houses, kind_lines, waiting};
 
@@ -40,7 +40,7 @@ impl Kind {
 
 /// The lines of each kind that wait.
 #[derive(Clone, Copy)]
-pub(crate) struct Waits<W> {
+pub struct Waits<W> {
     columns: W,
     rows: W,
     trees: W,
@@ -78,41 +78,40 @@ impl<W: Word> Waits<W> {
                     trees: W::none(),
                     squares: W::none(),
                 };
-                none.woken(Touched {
+                let own = Touched {
                     columns: W::one(place % w),
                     rows: W::one(place / w),
-                })
+                };
+                none.woken(own, own)
             }
         }
     }
 
-    /// What waits too once cells of these columns and rows have lost values: all that has a cell of both a column and a row.
-    fn woken(self, touched: Touched<W>) -> Waits<W>
-        ensures { AreWoken W.bits W.room self touched result }
+    /// What waits too once cells of these lines have lost 0, and cells of those 1: each line that has one, trees beside which
+    /// 1 is lost, and squares that have lost 0.
+    fn woken(self, zeros: Touched<W>, ones: Touched<W>) -> Waits<W>
+        ensures { AreWoken W.bits W.room self zeros ones result }
     {
-        let rows = touched.rows;
         Waits {
-            columns: self.columns.either(touched.columns),
-            rows: self.rows.either(rows),
+            columns: self.columns.either(zeros.columns.either(ones.columns)),
+            rows: self.rows.either(zeros.rows.either(ones.rows)),
             trees: self
                 .trees
-                .either(rows.on().either(rows).either(rows.back())),
-            squares: self.squares.either(rows.either(rows.back())),
+                .either(ones.rows.on().either(ones.rows).either(ones.rows.back())),
+            squares: self.squares.either(zeros.rows.either(zeros.rows.back())),
         }
     }
 
-    /// Whether the houses of this kind at the line wait.
-    pub(crate) fn has(&self, kind: Kind, line: u8) -> bool
-        requires { line < W.room }
-        ensures { result ≡ has_bit (waiting W.bits self.now kind) line }
+    /// The lines at which houses of this kind wait.
+    pub(crate) fn lines(&self, kind: Kind) -> W
+        ensures { W.bits result ≡ waiting W.bits self.now kind }
     {
-        let lines = match kind {
+        match kind {
             Kind::Columns => self.columns,
             Kind::Rows => self.rows,
             Kind::Trees => self.trees,
             Kind::Squares => self.squares,
-        };
-        lines.has(usize::from(line))
+        }
     }
 
     /// The houses of this kind at the line wait no more: they are idle.
@@ -133,10 +132,10 @@ impl<W: Word> Waits<W> {
     /// Wakes what has a cell that lost a value since the trail had that length.
     pub(crate) fn wake(&mut self, planes: &Planes<W>, len: usize)
         requires { len ≤ planes.now.len }
-        ensures { (p : Tents) (from : Layers) → from.size ≡ p.size → from.len ≡ len
-            → IsFurther from planes.now → AreRested W.bits p self.old (has from)
-            → AreRested W.bits p self.new (has planes.now) }
+        ensures { (p : Tents) (from : Layers) → IsTents p → from.size ≡ p.size → from.len ≡ len
+            → IsAlive from → IsAlive planes.now → IsFurther from planes.now
+            → AreRested W.bits p self.old (has from) → AreRested W.bits p self.new (has planes.now) }
     {
-        *self = self.woken(planes.touched(len));
+        *self = self.woken(planes.lost(len, 0), planes.lost(len, 1));
     }
 }

@@ -69,20 +69,6 @@ fn sides(game: Game, text: &[u8]) -> Result<SidesRead<'_>, IdFault>
     }
 }
 
-/// Whether the sides are within the game's limits.
-fn fits(game: Game, w: u32, h: u32) -> bool
-    requires w { w ≤ 1000 }
-    requires h { h ≤ 1000 }
-    ensures { result ≡ in_range game w h }
-{
-    let most = u32::from(MAX_SIDE);
-    match game {
-        Game::Solo => w >= 2 && h >= 2 && w * h <= MAX_NUMBERS,
-        Game::Pattern => w >= 1 && h >= 1 && w <= most && h <= most,
-        Game::LightUp | Game::Tents => w >= 2 && h >= 2 && w <= most && h <= most,
-    }
-}
-
 /// The size that the whole text is, in the form of Simon Tatham's Portable Puzzle Collection: `CxR`
 /// for Solo, columns and rows of sub-blocks; `WxH` for the other games, columns and rows of cells;
 /// or one number for two equal ones. In Solo an `x` may stand after two numbers. The answer's third
@@ -105,7 +91,13 @@ pub fn read_size(game: Game, text: &[u8]) -> Result<(u8, u8, bool), IdFault>
     if !rest.is_empty() {
         return Err(IdFault::Variant);
     }
-    if fits(game, w, h) {
+    let most = u32::from(MAX_SIDE);
+    let fits = match game {
+        Game::Solo => w >= 2 && h >= 2 && w * h <= MAX_NUMBERS,
+        Game::Pattern => w >= 1 && h >= 1 && w <= most && h <= most,
+        Game::LightUp | Game::Tents => w >= 2 && h >= 2 && w <= most && h <= most,
+    };
+    if fits {
         Ok((w as u8, h as u8, x))
     } else {
         Err(IdFault::SizeRange)

@@ -2,7 +2,7 @@
 #![tactic(auto)]
 
 ghost use Rattle.std.specs.Prelude.{◌≡◌, ℕ, ◌<◌, ◌≤◌, true};
-ghost use Rattle.grid_core.specs.Planes.{has, back_at, crosses, ArePlanes, number_of, IsTouched, AreLinesOf};
+ghost use Rattle.grid_core.specs.Planes.{has, back_at, crosses, number_of, AreLinesOf, ArePlanes, IsLostIn, IsTouched};
 
 use crate::planes::Planes;
 use crate::planes::line::Line;
@@ -54,5 +54,26 @@ impl<W: Word> Planes<W> {
             touched = touched.with(change.line, change.bits);
         }
         touched
+    }
+
+    /// The lines of the cells that lost this value since the trail had that length.
+    pub fn lost(&self, len: usize, value: u8) -> Touched<W>
+        requires { len ≤ self.now.len }
+        ensures lost { IsLostIn W.bits self.now.size.w value (back_at self.now len) (has self.now)
+            result }
+        ensures lawful { ArePlanes W.room self.now }
+    {
+        let mut lines = Touched {
+            columns: W::none(),
+            rows: W::none(),
+        };
+        for k in len..self.len {
+            let change = self.changes[k];
+            if change.value != value {
+                continue;
+            }
+            lines = lines.with(change.line, change.bits);
+        }
+        lines
     }
 }

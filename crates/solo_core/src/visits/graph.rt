@@ -1,6 +1,6 @@
 //! The cells of a house and their values as two sides to be paired.
 
-ghost use Rattle.std.specs.Prelude.{◌≡◌, ◌<◌, ◌≤◌, length, slice_index};
+ghost use Rattle.std.specs.Prelude.{◌≤◌, length, slice_index};
 ghost use Rattle.grid_core.specs.Candidates.{max_values};
 ghost use Rattle.solo_core.specs.Bits.{has_in};
 ghost use Rattle.solo_core.specs.Peeled.{AreCellsOf};
@@ -16,16 +16,6 @@ pub(crate) struct CellValueGraph<'a> {
     pub(crate) values: u8,
     ghost few: { values ≤ max_values },
     ghost rest_in: { AreCellsOf sets.now rest.now },
-}
-
-impl CellValueGraph<'_> {
-    /// The set of a cell.
-    pub(crate) fn set(&self, left: usize) -> u32
-        requires { left < length self.now.rest.now }
-        ensures { result ≡ slice_index self.now.sets.now (slice_index self.now.rest.now left) }
-    {
-        self.sets[usize::from(self.rest[left])]
-    }
 }
 
 impl Edges for CellValueGraph<'_> {
@@ -44,6 +34,10 @@ impl Edges for CellValueGraph<'_> {
     }
 
     fn next(&self, left: usize, from: usize) -> Option<usize> {
-        next_bit(self.set(left), from, usize::from(self.values))
+        next_bit(
+            self.sets[usize::from(self.rest[left])],
+            from,
+            usize::from(self.values),
+        )
     }
 }

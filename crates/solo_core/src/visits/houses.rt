@@ -6,7 +6,7 @@ ghost use Rattle.solo_core.specs.Common.{has_bit as is_set, has_in};
 ghost use Rattle.solo_core.specs.Peeled.{IsRest, IsPaired, HasSetOfCell, KeepsReaching, PairsCells, KeepsFillings};
 
 use crate::visits::bits::{all_below, next_bit, with_bit_if};
-use crate::visits::mates::{MANY, pair_rest, rest_of, write_mates};
+use crate::visits::mates::{MANY, pair_rest, rest_of, write_own, write_rest};
 use crate::visits::peel::peel;
 use crate::visits::reach::close_under_steps;
 use crate::visits::turning::lie_on_rounds;
@@ -33,20 +33,8 @@ pub(crate) fn keep_houses(values: u8, sets: &[u32], kept: &mut [u32], pairing: &
     if alone == all_below(values) {
         return;
     }
-    let rest = rest_of(kept.len(), alone);
-    keep_rest(values, &rest, kept, pairing);
-}
-
-/// Decides what is kept of a house in which all cells but these are alone.
-fn keep_rest(values: u8, rest: &[u8], kept: &mut [u32], pairing: &mut Pairing)
-    requires few { values ≤ max_values }
-    requires square { length kept.old ≡ values }
-    requires alone { IsRest values kept.old rest.now }
-    requires room { values ≤ pairing.old.room }
-    requires rest_few { length rest.now ≤ values }
-    ensures decided { KeepsFillings values kept.old kept.new }
-    ensures room { pairing.new.room ≡ pairing.old.room }
-{
+    let others = rest_of(kept.len(), alone);
+    let rest: &[u8] = &others;
     let mut paired_space = [0u8; MANY];
     let paired = &mut paired_space[..rest.len()];
     match pair_rest(values, kept, rest, pairing, paired) {
@@ -57,6 +45,7 @@ fn keep_rest(values: u8, rest: &[u8], kept: &mut [u32], pairing: &mut Pairing)
 }
 
 /// Decides what is kept of a house in which these cells are paired, and the others are alone.
+#[tactic(auto, using(crate::proofs::LawSets::mates_laws))]
 fn keep_paired(values: u8, rest: &[u8], paired: &[u8], kept: &mut [u32])
     requires few { values ≤ max_values }
     requires square { length kept.old ≡ values }
@@ -66,7 +55,8 @@ fn keep_paired(values: u8, rest: &[u8], paired: &[u8], kept: &mut [u32])
 {
     let mut mate_space = [0u8; MANY];
     let mates = &mut mate_space[..kept.len()];
-    write_mates(values, kept, rest, paired, mates);
+    write_own(values, kept, mates);
+    write_rest(rest, paired, mates);
     let mut reach_space = [0u32; MANY];
     let reach = &mut reach_space[..kept.len()];
     write_own_sets(kept, mates, reach);

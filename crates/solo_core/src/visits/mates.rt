@@ -55,37 +55,15 @@ pub(crate) fn pair_rest(
     }
     let found = pairing.run(&graph);
     if let Paired::All = found {
-        copy_mates(values, pairing, paired);
+        for i in 0..paired.len() {
+            paired[i] = pairing.mate(i) as u8;
+        }
     }
     found
 }
 
-/// Writes the mates of a pairing.
-fn copy_mates(values: u8, pairing: &Pairing, paired: &mut [u8])
-    requires as_many { length pairing.now.mates ≡ length paired.old }
-    requires small { (i : ℕ) → i < length paired.old → slice_index pairing.now.mates i < values }
-    ensures as_many { length paired.new ≡ length paired.old }
-    ensures same { AgreeBelow (length paired.old) paired.new pairing.now.mates }
-{
-    for i in 0..paired.len() {
-        paired[i] = pairing.mate(i) as u8;
-    }
-}
-
-/// Writes for each cell its value: its own, where it is alone, and else the one that it is paired with.
-pub(crate) fn write_mates(values: u8, sets: &[u32], rest: &[u8], paired: &[u8], mates: &mut [u8])
-    requires few { values ≤ max_values }
-    requires as_many { length mates.old ≡ length sets.now }
-    requires alone { IsRest values sets.now rest.now }
-    requires paired { IsPaired values sets.now rest.now paired.now }
-    ensures { PairsCells values sets.now mates.new }
-{
-    write_own(values, sets, mates);
-    write_rest(rest, paired, mates);
-}
-
 /// Writes for each cell the least value of its set.
-fn write_own(values: u8, sets: &[u32], mates: &mut [u8])
+pub(crate) fn write_own(values: u8, sets: &[u32], mates: &mut [u8])
     requires few { values ≤ max_values }
     requires as_many { length mates.old ≡ length sets.now }
     ensures as_many { length mates.new ≡ length sets.now }
@@ -97,7 +75,7 @@ fn write_own(values: u8, sets: &[u32], mates: &mut [u8])
 }
 
 /// Writes for each of these cells the value that it is paired with.
-fn write_rest(rest: &[u8], paired: &[u8], mates: &mut [u8])
+pub(crate) fn write_rest(rest: &[u8], paired: &[u8], mates: &mut [u8])
     requires rest_in { AreCellsOf mates.old rest.now }
     requires different { AreDifferent rest.now }
     requires as_many { length paired.now ≡ length rest.now }

@@ -33,7 +33,8 @@ fn give(graph: &CellValueGraph, i: usize, free: u32, mates: &mut [u8]) -> Option
     ensures as_many { length mates.new ≡ length mates.old }
     ensures on { OneMorePaired graph.now i mates.new free result }
 {
-    match next_bit(graph.set(i) & free, 0, usize::from(graph.values)) {
+    let set = graph.sets[usize::from(graph.rest[i])];
+    match next_bit(set & free, 0, usize::from(graph.values)) {
         Some(value) => {
             mates[i] = value as u8;
             Some(value)
@@ -50,12 +51,13 @@ fn swap(graph: &CellValueGraph, i: usize, free: u32, mates: &mut [u8]) -> Option
     ensures as_many { length mates.new ≡ length mates.old }
     ensures on { OneMorePaired graph.now i mates.new free result }
 {
-    let set = graph.set(i);
+    let set = graph.sets[usize::from(graph.rest[i])];
     for j in 0..i {
         if !has_bit(set, mates[j]) {
             continue;
         }
-        if let Some(value) = next_bit(graph.set(j) & free, 0, usize::from(graph.values)) {
+        let other = graph.sets[usize::from(graph.rest[j])];
+        if let Some(value) = next_bit(other & free, 0, usize::from(graph.values)) {
             mates[i] = mates[j];
             mates[j] = value as u8;
             return Some(value);

@@ -5,7 +5,7 @@ ghost use Rattle.std.specs.Prelude.{◌≡◌, ◌<◌, ◌≤◌, length};
 ghost use Rattle.solo_core.specs.Common.{has_bit as is_set, has_in};
 ghost use Rattle.solo_core.specs.Ways.{IsTransitiveClosure, LeadsOver};
 
-use crate::visits::bits::{is_alone, with_more};
+use crate::visits::bits::with_more;
 
 /// Adds to what each value leads to all that it leads to over others.
 pub(crate) fn close_under_steps(reach: &mut [u32])
@@ -26,7 +26,7 @@ fn reach_over(reach: &mut [u32], over: u8)
     ensures bits { LeadsOver (has_in reach.old over) over reach.old reach.new }
 {
     let more = reach[usize::from(over)];
-    if is_alone(more, over) {
+    if more == 1 << over {
         return;
     }
     for value in 0..reach.len() {

@@ -1,16 +1,14 @@
-use Rattle.std.proofs.Common.{◌≡◌, ◌∙◌, ap}
+use Rattle.std.proofs.Common.{◌≡◌, rules}
 use Rattle.std.proofs.lemmas.Result.{IfOk-weaker}
-use Rattle.clap.specs.Simple.{App, app_of, with_subcommand}
-use Rattle.puzzles.specs.CommandLine.{bare_app, solve_app, check_app, grade_app, generate_app}
+use Rattle.clap.specs.Simple.{app_of}
+use Rattle.puzzles.specs.CommandLine.{bare_app}
+use Rattle.puzzles.proofs.CommandLemmas.{with_command}
 use Rattle.puzzles.proofs.command_line.puzzles_command.Goals as goal
 
 pub returns : goal.returns
 returns c =
-    let with = λ (a b : App). with_subcommand a b.top in
-    let solving : app_of c.in_ok-solving.solving ≡ with bare_app solve_app =
-    c.in_ok-solving.ensures solve_app c.solve_command.ensures ∙ ap (λ a. with a solve_app) c.bare_command.ensures.0 in
-    let checking : app_of c.in_ok-checking.checking ≡ with (with bare_app solve_app) check_app =
-    c.in_ok-checking.ensures check_app c.check_command.ensures ∙ ap (λ a. with a check_app) solving in
-    let grading : app_of c.in_ok-grading.grading ≡ with (with (with bare_app solve_app) check_app) grade_app =
-    c.in_ok-grading.ensures grade_app c.grade_command.ensures ∙ ap (λ a. with a grade_app) checking in
-    IfOk-weaker c.with_command-4.result _ _ (λ p h. h ∙ ap (λ a. with a generate_app) grading) (c.with_command-4.ensures generate_app c.generate_command.ensures)
+    let bare : app_of c.subcommand_required.result ≡ bare_app = search rules in
+    let solving = with_command bare c.in_ok-solve_command.ensures c.in_ok-subcommand.ensures in
+    let checking = with_command solving c.in_ok-check_command.ensures c.in_ok-subcommand-2.ensures in
+    let grading = with_command checking c.in_ok-grade_command.ensures c.in_ok-subcommand-3.ensures in
+    IfOk-weaker c.subcommand-4.result _ _ (λ program adds. with_command grading c.in_ok-generate_command.ensures adds) c.subcommand-4.ensures

@@ -1,5 +1,5 @@
 use Rattle.fields_core.proofs.Common.{arith}
-use Rattle.fields_core.proofs.PositionSteps.{high-short, wide-short}
+use Rattle.fields_core.proofs.TentPlanes.{high-short, wide-short}
 use Rattle.fields_core.proofs.planes.start.start_field.Goals as goal
 
 pub write_trees-requires-clause-long : goal.write_trees-requires-clause-long

@@ -30,7 +30,7 @@ returns-clause-touched g c = λ cell v on off.
     let t = c.loop-k-test.false in
     let e = c.loop-k.auto.k-end in
     covered_since c.args.self.now.size.w (has c.args.self.now) c.args.self.now.takings c.args.len c.args.self.now.len cell v on off
-    (λ k from lt covered. c.loop-k.invariant k _ _ from (let less = rw (← c.self.view_is) at lt in omega arith) covered)
+    (λ k from lt _ covered. c.loop-k.invariant k _ _ from (let less = rw (← c.self.view_is) at lt in omega arith) covered)
 
 pub returns-clause-lawful : goal.returns-clause-lawful
 returns-clause-lawful g c = rw (← c.self.view_is) c.self.invariant

@@ -22,4 +22,4 @@ returns-in-Some-clause-on c =
     (get_or-set_other first j k v 0 (λ e. absurd (omega arith)) ∙ get_or-set_at mates k k (slice_index mates j) 0 refl (omega arith))
     (get_or-set_at first j j v 0 refl (omega (arith, long)))
     (λ l lt ne. get_or-set_other first j l v 0 ne ∙ get_or-set_other mates k l (slice_index mates j) 0 (λ e. absurd (omega arith)))
-    (ap (λ (s : ℕ). has_bit s (slice_index mates j)) (sym c.set-set.ensures) ∙ sym c.has_bit.ensures ∙ c.if-not-has_bit.false)
+    (ap (λ (at : ℕ). has_bit (slice_index sets at) (slice_index mates j)) (sym c.from.ensures) ∙ sym c.has_bit.ensures ∙ c.if-not-has_bit.false)

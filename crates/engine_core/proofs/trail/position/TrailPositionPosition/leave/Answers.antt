@@ -1,25 +1,26 @@
 use Rattle.engine_core.proofs.Common.{IsBitsOf, arith, has, one_shl, sym, ◌%◌, ◌*◌, ◌^◌, ◌∙◌, ◌≡◌}
 use Rattle.engine_core.proofs.ChangeLemmas.{left-only, only-bits, only-other}
+use Rattle.engine_core.proofs.SetLemmas.{bits-are}
 use Rattle.engine_core.proofs.trail.position.TrailPositionPosition.leave.Goals as goal
-use Rattle.engine_core.proofs.trail.position.TrailPositionPosition.leave.Goals.{After-cell_bits-before}
+use Rattle.engine_core.proofs.trail.position.TrailPositionPosition.leave.Goals.{After-bits-before}
 
 -- the bit of the value alone
-bit : (g : _) (c : After-cell_bits-before g) → 1 * 2 ^ c.args.value % 4294967296 ≡ 2 ^ c.args.value
+bit : (g : _) (c : After-bits-before g) → 1 * 2 ^ c.args.value % 4294967296 ≡ 2 ^ c.args.value
 bit g c = one_shl c.args.value 32 (omega (arith, c.requires.value_in, (g.met.R.Rules.lawful c.args.rules.now).few_values))
 
 pub leave-requires-clause-left : goal.leave-requires-clause-left
 leave-requires-clause-left g c =
     let r = rw (← c.self.view_is) at c.requires in
-    rw (bit g (goal.at.leave-requires-clause-left g c).After-cell_bits-before) (only-bits _ c.args.cell r.there r.value_in)
+    rw (bit g (goal.at.leave-requires-clause-left g c).After-bits-before) (only-bits _ c.args.cell r.there r.value_in)
 
 pub leave-requires-clause-other : goal.leave-requires-clause-other
 leave-requires-clause-other g c = λ e.
     let r = rw (← c.self.view_is) at c.requires in
-    let bits : IsBitsOf (has c.self.inside.trailed.board c.args.cell) (g.R.Rules.system c.args.rules.now).values c.cell_bits-before.result =
-    rw (← r.walks.along.board_of.same_values) (rw c.board.ensures at c.cell_bits-before.ensures) in
-    only-other c.args.value bits r.several (sym (bit g (goal.at.leave-requires-clause-other g c).After-cell_bits-before) ∙ e)
+    let bits : IsBitsOf (has c.self.inside.trailed.board c.args.cell) (g.R.Rules.system c.args.rules.now).values c.bits-before.result =
+    rw (← r.walks.along.board_of.same_values) (rw c.board.ensures at (bits-are c.board.result.now c.args.cell c.bits-before.ensures.small c.bits-before.ensures.same)) in
+    only-other c.args.value bits r.several (sym (bit g (goal.at.leave-requires-clause-other g c).After-bits-before) ∙ e)
 
 pub returns-clause-left : goal.returns-clause-left
 returns-clause-left g c =
     rw (← c.self.view_is) (c.leave.ensures.left
-    ∙ rw (bit g (goal.at.returns-clause-left g c).After-cell_bits-before) (left-only _ c.args.cell c.args.value))
+    ∙ rw (bit g (goal.at.returns-clause-left g c).After-bits-before) (left-only _ c.args.cell c.args.value))

@@ -1,18 +1,17 @@
-use Rattle.std.proofs.Common.{refl}
-use Rattle.fields_core.proofs.PositionSteps.{long-less, start-walks}
-use Rattle.fields_core.specs.CountLaws.{count-lawful}
+use Rattle.std.proofs.Common.{refl, subst}
+use Rattle.fields_core.proofs.PositionSteps.{start-walks}
+use Rattle.engine_core.specs.RuleSystem.{IsLawful}
 use Rattle.fields_core.proofs.planes.position.PlanePositionPosition.begin.Goals as goal
 
-pub start-requires-clause-long : goal.start-requires-clause-long
-start-requires-clause-long c =
+pub start-requires-clause-fits : goal.start-requires-clause-fits
+start-requires-clause-fits g c =
     let r = rw (← c.self.view_is) at c.requires in
-    rw (c.puzzle.ensures, c.set.ensures) (long-less c.self.invariant.0.words r.scope_in)
-
-pub start-requires-clause-rows : goal.start-requires-clause-rows
-start-requires-clause-rows c = c.self.invariant.0.rows
+    rw c.puzzle.ensures (g.met.R.Puzzle.PlaneGame.fits_smaller _ _ _ r c.self.invariant.1)
 
 pub returns-clause-walks : goal.returns-clause-walks
-returns-clause-walks c =
+returns-clause-walks g c =
     let r = rw (← c.self.view_is) at c.requires in
-    start-walks _ _ (rw (c.puzzle.ensures, c.set.ensures) at c.start.ensures.lawful) (count-lawful _ _ _ _ c.args.rules.now.set.counting) r
-    (rw (c.puzzle.ensures, c.set.ensures) at c.start.ensures.size) (rw (c.puzzle.ensures, c.set.ensures) at c.start.ensures.trees) (rw (c.puzzle.ensures, c.set.ensures) at c.start.ensures.start) refl
+    let puzzle = g.R.PlaneRules.puzzle_of c.args.rules.now in
+    start-walks _ _ _ _ _ (subst IsLawful (g.met.R.PlaneRules.system_is c.args.rules.now) (g.met.R.Rules.lawful c.args.rules.now)) r (rw c.puzzle.ensures at c.start.ensures.size)
+    (g.met.R.Puzzle.PlaneGame.cells_are puzzle) (rw c.puzzle.ensures at c.start.ensures.written)
+    (rw c.puzzle.ensures at c.start.ensures.start) refl

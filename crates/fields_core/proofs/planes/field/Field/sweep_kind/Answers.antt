@@ -1,8 +1,0 @@
-use Rattle.fields_core.specs.Waits.{kind_houses}
-use Rattle.fields_core.proofs.VisitLemmas.{sweep-broken}
-use Rattle.fields_core.proofs.planes.field.Field.sweep_kind.Goals as goal
-
-pub returns-then-not-turn-clause-visited : goal.returns-then-not-turn-clause-visited
-returns-then-not-turn-clause-visited g c =
-    sweep-broken (kind_houses c.args.puzzle.now c.args.kind) c.loop-line.invariant.visited c.turn.ensures.visited c.if-not-turn.true
-    (rw c.lines-line-end.ensures at c.loop-line-test.true)

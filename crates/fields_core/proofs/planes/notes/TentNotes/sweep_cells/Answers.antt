@@ -1,0 +1,12 @@
+use Rattle.fields_core.specs.CountHouse.{houses_below}
+use Rattle.fields_core.specs.Squares.{squares_of_row}
+use Rattle.fields_core.proofs.VisitLemmas.{visited-dead, visited-more}
+use Rattle.fields_core.proofs.planes.notes.TentNotes.sweep_cells.Goals as goal
+
+pub returns-then-sweep_kind-clause-visited : goal.returns-then-sweep_kind-clause-visited
+returns-then-sweep_kind-clause-visited g c =
+    visited-more c.sweep_kind.ensures.visited c.if-sweep_kind.true c.sweep_kind-then-sweep_kind.ensures.visited
+
+pub returns-else-sweep_kind-clause-visited : goal.returns-else-sweep_kind-clause-visited
+returns-else-sweep_kind-clause-visited g c = visited-dead (houses_below (squares_of_row c.args.puzzle.now) c.args.puzzle.now.size.h)
+    c.sweep_kind.ensures.visited c.if-sweep_kind.false

@@ -1,0 +1,8 @@
+use Rattle.std.proofs.Common.{arith, slice_index}
+use Rattle.solo_core.specs.Common.{has_in}
+use Rattle.solo_core.proofs.Marks.{over_alone}
+use Rattle.solo_core.proofs.visits.reach.reach_over.Goals as goal
+
+pub returns-then-more-over-clause-bits : goal.returns-then-more-over-clause-bits
+returns-then-more-over-clause-bits c = λ i j lt.
+    over_alone (has_in c.args.reach.now i) (slice_index c.args.reach.now c.args.over) c.args.over j (omega arith) (rw c.from.ensures at c.if-more-over.true)
