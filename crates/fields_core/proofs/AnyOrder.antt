@@ -11,7 +11,6 @@ unfoldable use Rattle.fields_core.proofs.AtMostLemmas.{is_met, without_met}
 use Rattle.fields_core.proofs.BelowLemmas.{any-here, any-some}
 use Rattle.fields_core.proofs.PartLemmas.{value-in}
 use Rattle.fields_core.proofs.PlaceLists.{count-cons, num, some-counted}
-use Rattle.fields_core.proofs.RunIdle.{at-most-idle}
 use Rattle.fields_core.proofs.RunLines.{each-more}
 use Rattle.fields_core.proofs.VisitLemmas.{after-inside, visits-inside}
 
@@ -130,6 +129,12 @@ module _ (some all : List CountHouse) (from to : Layers) (fills : Bool) (alive :
       (each-more (IsSingle cells) (λ house. IsHouse cells house × (house.most ≡ 1)) houses (λ house is. (is.is, is.most_is)) each)
       ne on off_d off_e low
 
+  dead : (c : ℕ) → c < cells → ((v : ℕ) → v < 2 → has to c v ≡ false) → ⊥
+  dead c lt none = elim (visited.alive c (rw (visited.further.same_size) lt)) [
+    | inl zero_on ↦ true≢false (sym zero_on ∙ none 0 (omega arith))
+    | inr one_on ↦ true≢false (sym one_on ∙ none 1 (omega arith))
+  ]
+
   -- a house has two cells that must be ones
   broken : list_any (many_in (has from)) some ≡ true → AreVisited all from to fills
   broken many =
@@ -145,12 +150,6 @@ module _ (some all : List CountHouse) (from to : Layers) (fills : Bool) (alive :
         alive = visited.alive;
         further = visited.further;
       }
-    where
-      dead : (c : ℕ) → c < cells → ((v : ℕ) → v < 2 → has to c v ≡ false) → ⊥
-      dead c lt none = elim (visited.alive c (rw (visited.further.same_size) lt)) [
-        | inl zero_on ↦ true≢false (sym zero_on ∙ none 0 (omega arith))
-        | inr one_on ↦ true≢false (sym one_on ∙ none 1 (omega arith))
-      ]
 
   met : (houses : List CountHouse) → AllByRecursion (IsSingle cells) houses → list_any (many_in (has from)) houses ≡ false
       → after_houses houses (has from) ≡ without_met houses (has from)
@@ -187,6 +186,20 @@ module _ (some all : List CountHouse) (from to : Layers) (fills : Bool) (alive :
     | inl many ↦ broken many
     | inr none ↦ whole none
   ]
+
+  -- no cell has lost 0
+  pub visited-zeros : fills ≡ true → (c : ℕ) → has to c 0 ≡ has from c 0
+  unfolding without_met
+  visited-zeros full c = elim (cases_Bool (list_any (many_in (has from)) some)) [
+    | inl many ↦
+        let w = pair-of cells (has from) some each_some many in
+        absurd (dead w.0 w.2 (λ v low. ap (λ (L : Candidates). L w.0 v) (visited.left full) ∙ two some each_some w.0 w.1 v w.3 w.6 w.4 w.5 low))
+    | inr none ↦ ap (λ (L : Candidates). L c 0) (visited.left full ∙ met some each_some none)
+        ∙ stays (has from c 0) (has from c 0 && list_any (λ house. is_met (zeros_of (has from)) house c) some)
+  ]
+    where
+      stays : (a b : Bool) → (a && not (false && b)) ≡ a
+      stays a b = grind (arith, common_steps, cases_Bool a)
 
 -- ---- visits that take nothing
 -- the cells of a house have 0 in both boards, or in neither
@@ -255,17 +268,3 @@ singles-kept cells (house ∷ houses) K L (is, each) full_K full_L inside zeros 
     let first = first-idle house houses K idle in
     rw (single-kept cells house K L is full_K full_L inside (λ c on. zeros c (or_left (has_place house.places c) _ on)) first)
     (singles-kept cells houses K L each full_K full_L inside (λ c on. zeros c (or_right (has_place house.places c) _ on)) (rw first at idle))
-
--- nor where each cell of theirs can be 0
-pub singles-idle : (cells : ℕ) (houses : List CountHouse) (K : Candidates) → AllByRecursion (IsSingle cells) houses
-    → ((c v : ℕ) → K c v ≡ true → v < 2)
-    → ((c : ℕ) → list_any (λ house. has_place house.places c) houses ≡ true → K c 0 ≡ true) → after_houses houses K ≡ K
-unfolding after_houses after_house
-singles-idle cells [] K each low zeros = refl
-singles-idle cells (house ∷ houses) K (is, each) low zeros =
-    rw (fun_ext λ c. fun_ext λ v. by (K c v) (strikes_of house K c v)
-    (at-most-idle house K is.is is.least_is is.most_is low (λ d there. zeros d (or_left (has_place house.places d) _ there)) c v))
-    (singles-idle cells houses K each low (λ c on. zeros c (or_right (has_place house.places c) _ on)))
-  where
-    by : (a b : Bool) → (a ≡ true → b ≡ false) → (a && not b) ≡ a
-    by a b off = grind (arith, common_steps, cases_Bool a, cases_Bool b)

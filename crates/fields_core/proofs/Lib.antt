@@ -39,9 +39,7 @@ pub mod SquareVisits
 pub mod IdleLemmas
 pub mod TentWaits
 pub mod TentSweeps
-pub mod RunIdle
 pub mod RunWords
-pub mod RunHouses
 pub mod RunLines
 pub mod RunBegins
 pub mod AnyOrder

@@ -1,5 +1,5 @@
 -- What waits of Light Up: where its houses lie, what stays idle, and what is idle where a closing begins.
-use Rattle.fields_core.proofs.Common.{Black, Bool, and_from, and_parts, any_below, any_below-none, any_below-some, cases_eq, mod-lt, not-true, or_left, or_right, Candidates, CountHouse, IsAlive, IsLight, Layers, Light, LightCell, List, None, Numbered, Option, Some, White, [], ap, arith, begins_column_run, begins_row_run, cases_Bool, column_run, common_steps, eq-eqb, eqb, eqb-true, exactly, false, false_from_ne_true, filter, get_or, has_bit, has_place, houses_below, inl, inr, joined_in_column, joined_in_row, light_cells, light_houses, light_rules, lit_house, lt-ltb, ltb, map, not, number_house, one_at_least, or_cases, place-filter, refl, row_run, seen_from, slice_index, steps, suc, sym, true, true≢false, white, zero, ℕ, ◌%◌, ◌&&◌, ◌*◌, ◌++◌, ◌+◌, ◌-◌, ◌/◌, ◌<◌, ◌||◌, ◌∙◌, ◌∷◌, ◌≡◌, ◌≢◌, ◌≤◌, ◌⊎◌}
+use Rattle.fields_core.proofs.Common.{AllByRecursion, Black, cells_of, Bool, and_from, and_parts, any_below, any_below-none, any_below-some, cases_eq, mod-lt, not-true, or_left, or_right, Candidates, CountHouse, IsAlive, IsLight, Layers, Light, LightCell, List, None, Numbered, Option, Some, White, [], ap, arith, begins_column_run, begins_row_run, cases_Bool, column_run, common_steps, eq-eqb, eqb, eqb-true, exactly, false, false_from_ne_true, filter, get_or, has_bit, has_place, houses_below, inl, inr, joined_in_column, joined_in_row, light_cells, light_houses, light_rules, lit_house, lt-ltb, ltb, map, not, number_house, one_at_least, or_cases, place-filter, refl, row_run, seen_from, slice_index, steps, suc, sym, true, true≢false, white, zero, ℕ, ◌%◌, ◌&&◌, ◌*◌, ◌++◌, ◌+◌, ◌-◌, ◌/◌, ◌<◌, ◌||◌, ◌∙◌, ◌∷◌, ◌≡◌, ◌≢◌, ◌≤◌, ◌⊎◌}
 use Rattle.grid_core.specs.Candidates.{IsInside}
 use Rattle.grid_core.specs.Extent.{Extent}
 use Rattle.grid_core.specs.Planes.{has, back_at, AreLinesOf, ArePlanes, IsFurther, IsTouched}
@@ -11,17 +11,18 @@ use Rattle.engine_core.specs.Queue.{IsClosedAround, IsClosedBut}
 use Rattle.fields_core.specs.Light.{solves_lights}
 use Rattle.fields_core.specs.LightHouses.{numbered, row_house, column_house}
 use Rattle.fields_core.specs.LightPlanes.{ArePlanesOf}
-use Rattle.fields_core.specs.LightWaits.{AreIdleBetween, AreLightsRested, AreLinesRested, AreLinesWoken, AreLitRested, AreNoted, AreWider, HaveTwo, IsMinded, IsNoted, light_kind_houses, light_kind_lines, waiting_lines}
+use Rattle.fields_core.specs.LightWaits.{AreIdleBetween, AreLightsRested, AreLinesRested, AreLinesWoken, AreLitRested, AreNoted, AreNumbersWoken, AreWokenBy, KeepsZeros, AreWider, HaveTwo, IsMinded, IsNoted, light_kind_houses, light_kind_lines, waiting_lines}
 unfoldable use Rattle.fields_core.specs.LightWaits.{lit_waits}
 use Rattle.fields_core.specs.LightWords.{numbers_of_row, row_runs_of_row}
 use Rattle.fields_core.specs.RunLines.{column_runs_of_column}
 use Rattle.fields_core.specs.Trees.{IsRowOf}
-use Rattle.fields_core.specs.Visits.{after_houses}
+use Rattle.fields_core.specs.Visits.{AreVisited, after_houses}
 use Rattle.fields_core.specs.Waits.{AreIdle}
 use Rattle.fields_core.specs.declared.planes.lights.waits.LightKind.{LightKind}
 use Rattle.fields_core.specs.declared.planes.lights.waits.LightKind.TheVariants.{Numbers, RowRuns, ColumnRuns}
 use Rattle.fields_core.specs.declared.planes.lights.waits.LightWaits.{LightWaits}
 use Rattle.fields_core.specs.declared.planes.lights.waits.LineWaits.{LineWaits}
+use Rattle.fields_core.proofs.AnyOrder.{IsSingle, visited-zeros}
 use Rattle.fields_core.proofs.AtMostLemmas.{IsFull}
 use Rattle.fields_core.proofs.CellLemmas.{has-append}
 unfoldable use Rattle.fields_core.proofs.IdleLemmas.{any_has}
@@ -29,11 +30,11 @@ use Rattle.fields_core.proofs.IdleLemmas.{any-append, any-below, any-none, any-o
 use Rattle.fields_core.proofs.LightCounting.{column-run-joined, light-board, row-run-joined}
 use Rattle.fields_core.proofs.LightHouseLaws.{column-both, column-self, column-white-end, row-both, row-self, row-white-end, white-in}
 use Rattle.fields_core.proofs.LightNotes.{column-white-start, row-white-start}
-use Rattle.fields_core.proofs.LitRuns.{column-stays, row-stays}
+use Rattle.fields_core.proofs.LitRuns.{column-stays, lit-kept, planes-full, row-stays}
 use Rattle.fields_core.proofs.NumberRows.{numbers-are}
 use Rattle.fields_core.proofs.PartIdle.{IsPartOf, idle-around, in-back, in-below, in-front}
 use Rattle.fields_core.proofs.PartLemmas.{value-in}
-use Rattle.fields_core.proofs.RunOrder.{column-runs-lie, row-runs-are, row-runs-lie}
+use Rattle.fields_core.proofs.RunOrder.{column-runs-kept, column-runs-lie, column-runs-single, row-runs-are, row-runs-kept, row-runs-lie, row-runs-single}
 use Rattle.fields_core.proofs.StepLaws.{step-down, step-left, step-right, step-up, steps-some}
 use Rattle.fields_core.proofs.TentBeside.{cell-after, cell-below, cell-parts, row-in, whole-cell}
 use Rattle.fields_core.proofs.TreeBoards.{filter-has}
@@ -80,6 +81,24 @@ numbers-lie p c y pos on =
 off_both : {a b : Bool} → (a || b) ≡ false → (a ≡ false) × (b ≡ false)
 off_both {a} {b} e = (grind (arith, common_steps, cases_Bool a), grind (arith, common_steps, cases_Bool a))
 
+-- where the numbers of a row do not wait, the row is none of these, nor beside one
+numbers-off : {W : Type 0} (bits : W → ℕ) {room : ℕ} (p : Light) (before rows now : W) → p.size.h ≤ room → AreNumbersWoken bits room before rows now
+    → (c : ℕ) → has_bit (bits rows) (c / p.size.w) ≡ true → (k : ℕ) → k < p.size.h → has_bit (bits now) k ≡ false
+    → (c / p.size.w ≡ k) ⊎ ((c / p.size.w + 1 ≡ k) ⊎ (c / p.size.w ≡ k + 1)) → ⊥
+numbers-off bits {room} p before rows now low woken c on k lt off lies = by lies
+  where
+    rows_are : {j : ℕ} → c / p.size.w ≡ j → has_bit (bits rows) j ≡ true
+    rows_are e = rw e at on
+
+    by : (c / p.size.w ≡ k) ⊎ ((c / p.size.w + 1 ≡ k) ⊎ (c / p.size.w ≡ k + 1)) → ⊥
+    by (inl own) = true≢false (sym (rows_are own) ∙ (off_both (off_both (off_both (sym (woken k) ∙ off)).1).0).1)
+    by (inr (inl above)) =
+        let e : has_bit (bits rows) (k - 1) ≡ true = rows_are (omega (arith, above)) in
+        let f : (ltb k room && (ltb 0 k && has_bit (bits rows) (k - 1))) ≡ false =
+        (off_both (off_both (off_both (sym (woken k) ∙ off)).1).0).0 in
+        true≢false (rw (lt-ltb k room (omega (arith, lt, low)), lt-ltb 0 k (omega (arith, above)), e) at f)
+    by (inr (inr below)) = true≢false (sym (rows_are below) ∙ (off_both (off_both (sym (woken k) ∙ off)).1).1)
+
 module _ {W : Type 0} (bits : W → ℕ) {room : ℕ} (p : Light) {before now : LineWaits W} {touched : Touched W}
     (lawful : IsLight p) (low : p.size.h ≤ room) (woken : AreLinesWoken bits room before touched now) where
   -- where houses do not wait, none of them has a cell of both a column and a row of these
@@ -91,20 +110,8 @@ module _ {W : Type 0} (bits : W → ℕ) {room : ℕ} (p : Light) {before now : 
       rows_are : {k : ℕ} → c / p.size.w ≡ k → has_bit (bits touched.rows) k ≡ true
       rows_are e = rw e at on.1
 
-      number : (k : ℕ) → k < p.size.h → has_bit (bits now.numbers) k ≡ false
-          → (c / p.size.w ≡ k) ⊎ ((c / p.size.w + 1 ≡ k) ⊎ (c / p.size.w ≡ k + 1)) → ⊥
-      number k lt off (inl own) =
-          true≢false (sym (rows_are own) ∙ (off_both (off_both (off_both (sym (woken.numbers k) ∙ off)).1).0).1)
-      number k lt off (inr (inl above)) =
-          let e : has_bit (bits touched.rows) (k - 1) ≡ true = rows_are (omega (arith, above)) in
-          let f : (ltb k room && (ltb 0 k && has_bit (bits touched.rows) (k - 1))) ≡ false =
-          (off_both (off_both (off_both (sym (woken.numbers k) ∙ off)).1).0).0 in
-          true≢false (rw (lt-ltb k room (omega (arith, lt, low)), lt-ltb 0 k (omega (arith, above)), e) at f)
-      number k lt off (inr (inr below)) =
-          true≢false (sym (rows_are below) ∙ (off_both (off_both (sym (woken.numbers k) ∙ off)).1).1)
-
       by : (kind : LightKind) → k < light_kind_lines p kind → has_bit (waiting_lines bits now kind) k ≡ false → any_has (light_kind_houses p kind k) c ≡ true → ⊥
-      by Numbers lt off has = number k lt off (numbers-lie p c k (light-board lawful).some has)
+      by Numbers lt off has = numbers-off bits p before.numbers touched.rows now.numbers low woken.numbers c on.1 k lt off (numbers-lie p c k (light-board lawful).some has)
       by RowRuns lt off has = true≢false (sym (rows_are (row-runs-lie p k c lawful has)) ∙ (off_both (sym (woken.rows k) ∙ off)).1)
       by ColumnRuns lt off has =
           true≢false (sym on.0 ∙ ap (has_bit (bits touched.columns)) (column-runs-lie p k c lawful lt has) ∙ (off_both (sym (woken.columns k) ∙ off)).1)
@@ -189,20 +196,61 @@ module _ (p : Light) (lawful : IsLight p) {K L : Candidates} (words : List ℕ) 
       ]
 
 -- ---- once cells have lost values
-pub lights-woken : {W : Type 0} (bits : W → ℕ) {room : ℕ} (p : Light) (before now : LightWaits W) {touched : Touched W} {from to : Layers} {len : ℕ}
-    → ArePlanes room to → IsTouched bits to.size.w (back_at to len) (has to) touched → AreLinesWoken bits room before.lines touched now.lines
-    → AreWider (map bits before.lit.items) (map bits now.lit.items) → AreNoted bits p (has to) touched (map bits now.lit.items)
-    → ArePlanesOf room p to → from.size ≡ p.size → from.len ≡ len → IsFurther from to
-    → AreLightsRested bits p before (has from) → AreLightsRested bits p now (has to)
-lights-woken bits {room} p before now {touched} {from} {to} {len} are at woken wider noted of size is further rested =
-    let back : back_at to len ≡ has from = rw (← is) (further.back from.len (omega arith)
-    ∙ put_back-none from.size.w (has from) from.takings from.len from.len (omega arith)) in
-    let lines : IsTouched bits p.size.w (has from) (has to) touched = λ c v on gone. rw (of.size) at (at c v (ap (λ (M : Candidates). M c v) back ∙ on) gone) in
-    record {
-      lines = lines-rested bits p of.lawful of.low woken further.inside lines rested.lines;
-      lit = lit-rested p of.lawful (map bits now.lit.items) (record { low = value-in to; some = λ c lt. of.alive c (rw (of.size) lt) }) (value-in from) further.inside
-          (λ d v lt on gone. noted d lt (lines d v on gone)) (map bits before.lit.items) wider rested.lit;
-    }
+module _ {W : Type 0} (bits : W → ℕ) {room : ℕ} (p : Light) (touched : Touched W) {from to : Layers} {len : ℕ} (are : ArePlanes room to)
+    (at : IsTouched bits to.size.w (back_at to len) (has to) touched) (of : ArePlanesOf room p to) (was : ArePlanesOf room p from) (is : from.len ≡ len)
+    (further : IsFurther from to) where
+  lines-at : IsTouched bits p.size.w (has from) (has to) touched
+  lines-at =
+      let back : back_at to len ≡ has from = rw (← is) (further.back from.len (omega arith)
+      ∙ put_back-none from.size.w (has from) from.takings from.len from.len (omega arith)) in
+      λ c v on gone. rw (of.size) at (at c v (ap (λ (M : Candidates). M c v) back ∙ on) gone)
+
+  -- runs stay idle while no cell loses 0
+  runs-rested : (before now : LineWaits W) → AreNumbersWoken bits room before.numbers touched.rows now.numbers → now.rows ≡ before.rows → now.columns ≡ before.columns
+      → ((c : ℕ) → has to c 0 ≡ has from c 0) → AreLinesRested bits p before (has from) → AreLinesRested bits p now (has to)
+  runs-rested before now numbers rows columns zeros rested Numbers k lt off =
+      idle-far (numbers_of_row p k) (has from) (has to) further.inside
+      (λ c v on gone. false_from_ne_true _ (λ there. numbers-off bits p before.numbers touched.rows now.numbers of.low numbers c (lines-at c v on gone).1 k lt off (numbers-lie p c k (light-board of.lawful).some there)))
+      (rested Numbers k lt (off_both (sym (numbers k) ∙ off)).0)
+  runs-rested before now numbers rows columns zeros rested RowRuns k lt off =
+      row-runs-kept p k of.lawful was.size was.alive of.alive further (λ c _. zeros c) (rested RowRuns k lt (rw rows at off))
+  runs-rested before now numbers rows columns zeros rested ColumnRuns k lt off =
+      column-runs-kept p k of.lawful lt was.size was.alive of.alive further (λ c _. zeros c) (rested ColumnRuns k lt (rw columns at off))
+
+  kind-rested : (kind : LightKind) (before now : LineWaits W) → AreWokenBy kind bits room before touched now → KeepsZeros kind (has from) (has to)
+      → AreLinesRested bits p before (has from) → AreLinesRested bits p now (has to)
+  kind-rested Numbers before now woken zeros rested = lines-rested bits p of.lawful of.low woken further.inside lines-at rested
+  kind-rested RowRuns before now woken zeros rested = runs-rested before now woken.0 woken.1 woken.2 zeros rested
+  kind-rested ColumnRuns before now woken zeros rested = runs-rested before now woken.0 woken.1 woken.2 zeros rested
+
+  pub lights-woken : (kind : LightKind) (before now : LightWaits W) → AreWokenBy kind bits room before.lines touched now.lines → KeepsZeros kind (has from) (has to)
+      → AreWider (map bits before.lit.items) (map bits now.lit.items) → AreNoted bits p (has to) touched (map bits now.lit.items)
+      → AreLightsRested bits p before (has from) → AreLightsRested bits p now (has to)
+  lights-woken kind before now woken zeros wider noted rested = record {
+    lines = kind-rested kind before.lines now.lines woken zeros rested.lines;
+    lit = lit-rested p of.lawful (map bits now.lit.items) (planes-full p to of.size of.alive) (value-in from) further.inside
+        (λ d v lt on gone. noted d lt (lines-at d v on gone)) (map bits before.lit.items) wider rested.lit;
+  }
+
+  -- white cells stay idle while no cell loses 1
+  pub lines-woken : (before now : LightWaits W) → AreLinesWoken bits room before.lines touched now.lines → now.lit ≡ before.lit
+      → ((c : ℕ) → has to c 1 ≡ has from c 1) → AreLightsRested bits p before (has from) → AreLightsRested bits p now (has to)
+  lines-woken before now woken same ones rested = record {
+    lines = lines-rested bits p of.lawful of.low woken further.inside lines-at rested.lines;
+    lit = λ c lt off. lit-kept p c (has from) (has to) of.lawful (planes-full p from was.size was.alive) (planes-full p to of.size of.alive) further.inside ones
+        (rested.lit c lt (rw same at off));
+  }
+
+-- visits of runs take 0 from no cell
+pub kind-zeros : (p : Light) (kind : LightKind) (k : ℕ) {from to : Layers} {fills : Bool} → IsLight p → from.size ≡ p.size → IsAlive from
+    → AreVisited (light_kind_houses p kind k) from to fills → fills ≡ true → KeepsZeros kind (has from) (has to)
+kind-zeros p Numbers k lawful size alive visited full = tt
+kind-zeros p RowRuns k {from} {to} {fills} lawful size alive visited full =
+    let each : AllByRecursion (IsSingle (cells_of from)) (row_runs_of_row p k) = rw size (row-runs-single p k lawful) in
+    visited-zeros (row_runs_of_row p k) (row_runs_of_row p k) from to fills alive each each (λ test. refl) visited full
+kind-zeros p ColumnRuns k {from} {to} {fills} lawful size alive visited full =
+    let each : AllByRecursion (IsSingle (cells_of from)) (column_runs_of_column p k) = rw size (column-runs-single p k lawful) in
+    visited-zeros (column_runs_of_column p k) (column_runs_of_column p k) from to fills alive each each (λ test. refl) visited full
 
 -- ---- where a closing begins
 -- everything waits
@@ -262,8 +310,7 @@ module _ (p : Light) (lawful : IsLight p) (K : Candidates) (place : ℕ) (around
       → AreLinesWoken bits room before touched now.lines → AreNoted bits p K touched (map bits now.lit.items) → AreLightsRested bits p now K
   lights-at bits {planes = planes} before now {touched} of is column row woken noted =
       let lines : AreLinesOf bits touched (place / p.size.w) (place % p.size.w) = (column _ ∙ eq-eqb _ _ refl, row _ ∙ eq-eqb _ _ refl) in
-      let known : IsFull (light_cells p) (has planes) = record { low = value-in planes; some = λ d less. of.alive d (rw (of.size) less) } in
-      let full : IsFull (light_cells p) K = rw is at known in
+      let full : IsFull (light_cells p) K = rw is at (planes-full p planes of.size of.alive) in
       record {
         lines = λ kind k lt off. kind-idle kind k lt (lines-off bits p lawful of.low woken place lines kind k lt off);
         lit = λ c lt off. elim (cases_Bool (any_has (lit_house p c) place)) [

@@ -1,8 +1,8 @@
 -- Sweeps of the houses of Light Up on planes.
 use Rattle.fields_core.proofs.Common.{CountHouse, IsAlive, IsLight, Layers, Light, List, append_assoc, ap, arith, column_house, houses_below, light_cells, light_houses, light_rules, lit_house, not, number_house, refl, row_house, suc, sym, true, white, zero, ℕ, Bool, ◌*◌, ◌++◌, ◌+◌, ◌-◌, ◌<◌, ◌∙◌, ◌≡◌, ◌≤◌}
-use Rattle.grid_core.specs.Planes.{has, cells_of}
+use Rattle.grid_core.specs.Planes.{IsFurther, cells_of, has}
 use Rattle.fields_core.specs.Light.{solves_lights}
-use Rattle.fields_core.specs.LightPlanes.{IsKept}
+use Rattle.fields_core.specs.LightPlanes.{ArePlanesOf, IsKept}
 use Rattle.fields_core.specs.LightWaits.{lits_of_row, white_houses}
 use Rattle.fields_core.specs.LightWords.{numbers_of_row, row_runs_of_row}
 use Rattle.fields_core.specs.RunLines.{column_runs_of_column}
@@ -47,3 +47,12 @@ kept-none notes = record { tables = refl; lit = refl }
 
 pub kept-more : {W : Type 0} {first second third : LightNotes W} → IsKept first second → IsKept second third → IsKept first third
 kept-more a b = record { tables = b.tables ∙ a.tables; lit = b.lit ∙ a.lit }
+
+pub planes-next : {room : ℕ} {p : Light} {from to : Layers} → ArePlanesOf room p from → IsFurther from to → IsAlive to → ArePlanesOf room p to
+planes-next of further alive = record {
+  lawful = of.lawful;
+  narrow = of.narrow;
+  low = of.low;
+  size = further.same_size ∙ of.size;
+  alive = alive;
+}

@@ -32,17 +32,7 @@ module _ (p : Light) (lawful : IsLight p) (c : ℕ) (is_white : white p c ≡ tr
         place-back (row_run p c) _ d (place-kept _ (column_run p c) d (in-column-run p c d some within joined) (ap not (ne_eqb d c other)))
   ]
 
-  -- ---- a run with two cells that can have a bulb
-  module _ (K : Candidates) (full : IsFull (light_cells p) K) (d e : ℕ) (ne : d ≢ e) (on_d : K d 1 ≡ true) (on_e : K e 1 ≡ true) where
-    pub idle-by-row : joined_in_row p c d ≡ true → joined_in_row p c e ≡ true
-        → (a v : ℕ) → K a v ≡ true → strikes_of (one_at_least (seen_from p c)) K a v ≡ false
-    idle-by-row in_d in_e = several-idle K (lit-is p lawful inside is_white) full d e ne (seen-in-row d in_d) (seen-in-row e in_e) on_d on_e
-
-    pub idle-by-column : joined_in_column p c d ≡ true → joined_in_column p c e ≡ true
-        → (a v : ℕ) → K a v ≡ true → strikes_of (one_at_least (seen_from p c)) K a v ≡ false
-    idle-by-column in_d in_e = several-idle K (lit-is p lawful inside is_white) full d e ne (seen-in-column d in_d) (seen-in-column e in_e) on_d on_e
-
--- the same of the visits of the house of any cell
+-- ---- a run with two cells that can have a bulb leaves the houses of its cells idle
 pub row-stays : (p : Light) (c d e : ℕ) (K : Candidates) → IsLight p → IsFull (light_cells p) K → d ≢ e → K d 1 ≡ true → K e 1 ≡ true
     → joined_in_row p c d ≡ true → joined_in_row p c e ≡ true → after_houses (lit_house p c) K ≡ K
 unfolding after_houses

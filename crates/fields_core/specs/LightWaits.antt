@@ -40,19 +40,35 @@ abbrev pub AreLinesRested : {W : Type 0} → (W → ℕ) → Light → LineWaits
 AreLinesRested bits p waits K = (kind : LightKind) (k : ℕ) → k < light_kind_lines p kind
     → has_bit (waiting_lines bits waits kind) k ≡ false → AreIdle (light_kind_houses p kind k) K
 
--- what waits once cells of these columns and rows have lost values: their runs, and the numbers of their rows and of the
--- rows beside these
+-- the numbers that wait once cells of these rows have lost values: of these rows, and of those beside them
+abbrev pub AreNumbersWoken : {W : Type 0} → (W → ℕ) → ℕ → W → W → W → Type 0
+AreNumbersWoken bits room before rows now = (k : ℕ) → has_bit (bits now) k
+    ≡ (has_bit (bits before) k || (((nat_lt k room && (nat_lt 0 k && has_bit (bits rows) (k - 1)))
+    || has_bit (bits rows) k) || has_bit (bits rows) (k + 1)))
+
+-- and the runs: those of the columns and rows
 pub record AreLinesWoken {W : Type 0} (bits : W → ℕ) (room : ℕ) (before : LineWaits W)
     (touched : Touched W) (now : LineWaits W)
     : Type 0 where
-  pub numbers : (k : ℕ) → has_bit (bits now.numbers) k
-      ≡ (has_bit (bits before.numbers) k
-      || (((nat_lt k room && (nat_lt 0 k && has_bit (bits touched.rows) (k - 1)))
-      || has_bit (bits touched.rows) k) || has_bit (bits touched.rows) (k + 1)))
+  pub numbers : AreNumbersWoken bits room before.numbers touched.rows now.numbers
   pub rows : (k : ℕ) → has_bit (bits now.rows) k
       ≡ (has_bit (bits before.rows) k || has_bit (bits touched.rows) k)
   pub columns : (k : ℕ) → has_bit (bits now.columns) k
       ≡ (has_bit (bits before.columns) k || has_bit (bits touched.columns) k)
+
+-- visits of this kind of houses take 0 from no cell
+abbrev pub KeepsZeros : LightKind → Candidates → Candidates → Type 0
+KeepsZeros Numbers K L = Unit {0}
+KeepsZeros RowRuns K L = (c : ℕ) → L c 0 ≡ K c 0
+KeepsZeros ColumnRuns K L = (c : ℕ) → L c 0 ≡ K c 0
+
+-- what waits after visits of a kind that took values: no more runs, if only 1 was taken
+abbrev pub AreWokenBy : {W : Type 0} → LightKind → (W → ℕ) → ℕ → LineWaits W → Touched W → LineWaits W → Type 0
+AreWokenBy Numbers bits room before touched now = AreLinesWoken bits room before touched now
+AreWokenBy RowRuns bits room before touched now =
+    AreNumbersWoken bits room before.numbers touched.rows now.numbers × (now.rows ≡ before.rows) × (now.columns ≡ before.columns)
+AreWokenBy ColumnRuns bits room before touched now =
+    AreNumbersWoken bits room before.numbers touched.rows now.numbers × (now.rows ≡ before.rows) × (now.columns ≡ before.columns)
 
 -- ---- white cells that wait, as a word for each row
 unfoldable pub lit_waits : ℕ → List ℕ → ℕ → Bool

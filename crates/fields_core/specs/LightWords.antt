@@ -4,7 +4,7 @@ use Rattle.grid_core.specs.Words.{has_bit}
 use Rattle.gameid_core.specs.Puzzles.{Light}
 use Rattle.fields_core.specs.CountHouse.{CountHouse, houses_below}
 use Rattle.fields_core.specs.Light.{light_cells, joined_in_row, joined_in_column}
-use Rattle.fields_core.specs.LightHouses.{number_house, row_house, column_house}
+use Rattle.fields_core.specs.LightHouses.{number_house, row_house}
 
 -- the bits are the places along its row of the run that the cell is in: none where the cell is black; and along its column
 abbrev pub IsRowRun : Light → ℕ → ℕ → Type 0
@@ -22,12 +22,9 @@ pub record AreRunWords (p : Light) (rows columns : List ℕ) : Type 0 where
   pub in_row : (c : ℕ) → c < light_cells p → IsRowRun p c (slice_index rows c)
   pub in_column : (c : ℕ) → c < light_cells p → IsColumnRun p c (slice_index columns c)
 
--- the houses of the numbers of a row, of the runs that begin in it, and of the runs of columns that begin in it
+-- the houses of the numbers of a row, and of its runs
 abbrev pub numbers_of_row : Light → ℕ → List CountHouse
 numbers_of_row p y = houses_below (λ x. number_house p (y * p.size.w + x)) p.size.w
 
 abbrev pub row_runs_of_row : Light → ℕ → List CountHouse
 row_runs_of_row p y = houses_below (λ x. row_house p (y * p.size.w + x)) p.size.w
-
-abbrev pub column_runs_of_row : Light → ℕ → List CountHouse
-column_runs_of_row p y = houses_below (λ x. column_house p (y * p.size.w + x)) p.size.w

@@ -1,23 +1,12 @@
-use Rattle.fields_core.proofs.Common.{column_house, ◌*◌, ◌+◌}
-use Rattle.fields_core.specs.Visits.{AreVisited}
-use Rattle.fields_core.proofs.VisitLemmas.{sweep-broken, sweep-first, sweep-more}
+use Rattle.fields_core.proofs.Common.{joined_in_column, map, ◌*◌, ◌+◌}
+use Rattle.fields_core.specs.RunLines.{column_runs_of_column}
+use Rattle.fields_core.proofs.RunBegins.{column-runs-of, column-words}
 use Rattle.fields_core.proofs.planes.run_visits.visit_column_runs.Goals as goal
-use Rattle.fields_core.proofs.planes.run_visits.visit_column_runs.Goals.{After-visit_column_run}
 
-pub loop-x-init : goal.loop-x-init
-loop-x-init g c = sweep-first (λ x. column_house c.args.puzzle.now (c.args.y * c.args.puzzle.now.size.w + x)) c.requires.alive
-
-visited : (g : _) (c : After-visit_column_run g)
-    → AreVisited (column_house c.args.puzzle.now (c.args.y * c.args.puzzle.now.size.w + c.loop-x.x)) c.loop-x.planes c.visit_column_run.new.planes c.visit_column_run.result
-visited g c = rw (c.from.ensures, c.columns-w.ensures.value) at c.visit_column_run.ensures
-
-pub loop-x-preserved : goal.loop-x-preserved
-loop-x-preserved g c =
-    sweep-more (λ x. column_house c.args.puzzle.now (c.args.y * c.args.puzzle.now.size.w + x)) c.loop-x.invariant
-    (visited g (goal.at.loop-x-preserved g c).After-visit_column_run) c.if-not-visit_column_run.false
-
-pub returns-then-not-visit_column_run : goal.returns-then-not-visit_column_run
-returns-then-not-visit_column_run g c =
-    sweep-broken (λ x. column_house c.args.puzzle.now (c.args.y * c.args.puzzle.now.size.w + x)) c.loop-x.invariant
-    (visited g (goal.at.returns-then-not-visit_column_run g c).After-visit_column_run) c.if-not-visit_column_run.true
-    (rw (c.columns-w.ensures.value) at c.loop-x-test.true)
+pub returns : goal.returns
+returns g c =
+    let p = c.args.puzzle.now in
+    let x = c.args.x in
+    c.visit_line.ensures (λ k. k * p.size.w + x) (λ j k. joined_in_column p (j * p.size.w + x) (k * p.size.w + x)) (column_runs_of_column p x)
+    (rw (c.requires.size, c.rows.ensures) (column-runs-of p x c.columns-w.ensures.lawful c.requires.x_in))
+    (column-words p x (map g.W.Word.bits c.args.runs.now) c.from.ensures c.columns-w.ensures.value c.rows.ensures c.requires.x_in c.requires.runs)
