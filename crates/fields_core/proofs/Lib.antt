@@ -55,5 +55,6 @@ pub mod LitRuns
 mod LightNotes
 pub mod PartIdle
 pub mod PlaneSweeps
+pub mod LightBoards
 mod LightRests
 mod LightSweeps
