@@ -4,7 +4,7 @@
 ghost use Rattle.std.specs.Prelude.{◌≡◌, ◌<◌, true, length};
 ghost use Rattle.solo_core.specs.Quick.{AllPaired, FirstPaired, OneMorePaired};
 
-use crate::visits::bits::{all_below, next_bit, with_bit, without};
+use crate::visits::bits::{all_below, next_bit, with_bit};
 use crate::visits::graph::CellValueGraph;
 use engine_core::has_bit;
 
@@ -19,7 +19,7 @@ pub(crate) fn pair_quickly(graph: &CellValueGraph, mates: &mut [u8]) -> bool
     for i in 0..graph.rest.len() {
         match give(graph, i, free, mates) {
             None => return false,
-            Some(value) => free = without(free, with_bit(0, value)),
+            Some(value) => free &= !with_bit(0, value),
         }
     }
     true
