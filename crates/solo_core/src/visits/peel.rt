@@ -25,7 +25,10 @@ pub(crate) fn peel(values: u8, sets: &mut [u32]) -> u32
     ensures peeled { IsPeeled values sets.old sets.new }
     ensures alone { AreAlone values sets.new result }
 {
-    let mut counts = count(sets);
+    let mut counts = NO_COUNTS;
+    for k in 0..sets.len() {
+        counts = counts.with(sets[k]);
+    }
     for _turn in 0..sets.len() {
         // a cell has alone what others have too, or a cell with several values has one that no other has
         let open = counts.single & counts.shared | counts.some & !counts.shared & !counts.single;
@@ -62,17 +65,6 @@ impl Counts {
             shared: self.shared | (self.some & set),
         }
     }
-}
-
-/// Counts the cells that have each value.
-fn count(sets: &[u32]) -> Counts
-    ensures { AreCounts sets.now (length sets.now) result.some result.single result.shared }
-{
-    let mut counts = NO_COUNTS;
-    for k in 0..sets.len() {
-        counts = counts.with(sets[k]);
-    }
-    counts
 }
 
 /// Strikes from each set what the counts say, and counts again.
