@@ -59,6 +59,7 @@ fn keep_paired(values: u8, rest: &[u8], paired: &[u8], kept: &mut [u32])
     write_rest(rest, paired, mates);
     let mut reach_space = [0u32; MANY];
     let reach = &mut reach_space[..kept.len()];
+    // a value leads to those of the cell that has it
     for cell in 0..kept.len() {
         reach[usize::from(mates[cell])] = kept[cell];
     }
