@@ -42,7 +42,7 @@ impl<W: Word> LightNotes<W> {
         if planes.len() == len {
             self.waits.lines.settle(kind, line);
         } else {
-            self.waits.wake_by(kind, planes, puzzle, &self.tables, len);
+            self.waits.wake(planes, puzzle, &self.tables, len);
         }
         true
     }
@@ -83,7 +83,7 @@ impl<W: Word> LightNotes<W> {
         if planes.len() == len {
             self.waits.settle_lit(y, x);
         } else {
-            self.waits.wake_lines(planes, puzzle, len);
+            self.waits.wake(planes, puzzle, &self.tables, len);
         }
         true
     }
