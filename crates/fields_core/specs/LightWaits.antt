@@ -65,12 +65,6 @@ abbrev pub AreLitRested : Light → List ℕ → Candidates → Type 0
 AreLitRested p words K = (c : ℕ) → c < light_cells p → lit_waits p.size.w words c ≡ false
     → AreIdle (lit_house p c) K
 
--- the least number that passes of those from `from` on
-pub record IsNextPlace (passes : ℕ → Bool) (from place : ℕ) : Type 0 where
-  pub onward : from ≤ place
-  pub has : passes place ≡ true
-  pub before : (k : ℕ) → from ≤ k → k < place → passes k ≡ false
-
 -- the houses of the white cells of a row from one place to another are idle
 abbrev pub AreIdleBetween : Light → Candidates → ℕ → ℕ → ℕ → Type 0
 AreIdleBetween p K y from to = (k : ℕ) → from ≤ k → k < to → AreIdle (lit_house p (y * p.size.w + k)) K

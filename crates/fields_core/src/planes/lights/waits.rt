@@ -3,7 +3,6 @@
 
 ghost use Rattle.std.specs.Prelude.{◌≡◌, ◌+◌, ◌*◌, ◌<◌, ◌≤◌, length};
 ghost use Rattle.grid_core.specs.Candidates.{Candidates};
-ghost use Rattle.grid_core.specs.Words.{has_bit};
 ghost use Rattle.gameid_core.specs.Puzzles.{Light};
 ghost use Rattle.fields_core.specs.LightHouses.{lit_house};
 ghost use Rattle.fields_core.specs.LightWaits.{AreLightsRested, AreLinesRested, AreLinesWoken, light_kind_houses, light_kind_lines, waiting_lines};
@@ -81,17 +80,15 @@ impl<W: Word> LineWaits<W> {
         }
     }
 
-    /// Whether the houses of this kind at the line wait.
-    pub(crate) fn has(&self, kind: LightKind, line: u8) -> bool
-        requires { line < W.room }
-        ensures { result ≡ has_bit (waiting_lines W.bits self.now kind) line }
+    /// The lines at which houses of this kind wait.
+    pub(crate) fn lines(&self, kind: LightKind) -> W
+        ensures { W.bits result ≡ waiting_lines W.bits self.now kind }
     {
-        let lines = match kind {
+        match kind {
             LightKind::Numbers => self.numbers,
             LightKind::RowRuns => self.rows,
             LightKind::ColumnRuns => self.columns,
-        };
-        lines.has(usize::from(line))
+        }
     }
 
     /// The houses of this kind at the line wait no more: they are idle.
