@@ -187,20 +187,6 @@ module _ (some all : List CountHouse) (from to : Layers) (fills : Bool) (alive :
     | inr none ↦ whole none
   ]
 
-  -- no cell has lost 0
-  pub visited-zeros : fills ≡ true → (c : ℕ) → has to c 0 ≡ has from c 0
-  unfolding without_met
-  visited-zeros full c = elim (cases_Bool (list_any (many_in (has from)) some)) [
-    | inl many ↦
-        let w = pair-of cells (has from) some each_some many in
-        absurd (dead w.0 w.2 (λ v low. ap (λ (L : Candidates). L w.0 v) (visited.left full) ∙ two some each_some w.0 w.1 v w.3 w.6 w.4 w.5 low))
-    | inr none ↦ ap (λ (L : Candidates). L c 0) (visited.left full ∙ met some each_some none)
-        ∙ stays (has from c 0) (has from c 0 && list_any (λ house. is_met (zeros_of (has from)) house c) some)
-  ]
-    where
-      stays : (a b : Bool) → (a && not (false && b)) ≡ a
-      stays a b = grind (arith, common_steps, cases_Bool a)
-
 -- ---- visits that take nothing
 -- the cells of a house have 0 in both boards, or in neither
 abbrev pub AreZerosKept : (ℕ → Bool) → Candidates → Candidates → Type 0

@@ -2,7 +2,7 @@
 use Rattle.fields_core.proofs.Common.{AllByRecursion, Black, cells_of, Bool, and_from, and_parts, any_below, any_below-none, any_below-some, cases_eq, mod-lt, not-true, or_left, or_right, Candidates, CountHouse, IsAlive, IsLight, Layers, Light, LightCell, List, None, Numbered, Option, Some, White, [], ap, arith, begins_column_run, begins_row_run, cases_Bool, column_run, common_steps, eq-eqb, eqb, eqb-true, exactly, false, false_from_ne_true, filter, get_or, has_bit, has_place, houses_below, inl, inr, joined_in_column, joined_in_row, light_cells, light_houses, light_rules, lit_house, lt-ltb, ltb, map, not, number_house, one_at_least, or_cases, place-filter, refl, row_run, seen_from, slice_index, steps, suc, sym, true, true≢false, white, zero, ℕ, ◌%◌, ◌&&◌, ◌*◌, ◌++◌, ◌+◌, ◌-◌, ◌/◌, ◌<◌, ◌||◌, ◌∙◌, ◌∷◌, ◌≡◌, ◌≢◌, ◌≤◌, ◌⊎◌}
 use Rattle.grid_core.specs.Candidates.{IsInside}
 use Rattle.grid_core.specs.Extent.{Extent}
-use Rattle.grid_core.specs.Planes.{has, back_at, AreLinesOf, ArePlanes, IsFurther, IsTouched}
+use Rattle.grid_core.specs.Planes.{has, back_at, AreLinesOf, ArePlanes, IsFurther, IsLostIn}
 use Rattle.grid_core.specs.Regions.{step}
 use Rattle.grid_core.specs.declared.planes.touched.Touched.{Touched}
 use Rattle.grid_core.proofs.PlaneLemmas.{place-in}
@@ -11,7 +11,7 @@ use Rattle.engine_core.specs.Queue.{IsClosedAround, IsClosedBut}
 use Rattle.fields_core.specs.Light.{solves_lights}
 use Rattle.fields_core.specs.LightHouses.{numbered, row_house, column_house}
 use Rattle.fields_core.specs.LightPlanes.{ArePlanesOf}
-use Rattle.fields_core.specs.LightWaits.{AreIdleBetween, AreLightsRested, AreLinesRested, AreLinesWoken, AreLitRested, AreNoted, AreNumbersWoken, AreWokenBy, KeepsZeros, AreWider, HaveTwo, IsMinded, IsNoted, light_kind_houses, light_kind_lines, waiting_lines}
+use Rattle.fields_core.specs.LightWaits.{AreIdleBetween, AreLightsRested, AreLinesRested, AreLinesWoken, AreLitRested, AreNoted, AreNumbersWoken, AreWider, HaveTwo, IsMinded, IsNoted, light_kind_houses, light_kind_lines, waiting_lines}
 unfoldable use Rattle.fields_core.specs.LightWaits.{lit_waits}
 use Rattle.fields_core.specs.LightWords.{numbers_of_row, row_runs_of_row}
 use Rattle.fields_core.specs.RunLines.{column_runs_of_column}
@@ -22,7 +22,6 @@ use Rattle.fields_core.specs.declared.planes.lights.waits.LightKind.{LightKind}
 use Rattle.fields_core.specs.declared.planes.lights.waits.LightKind.TheVariants.{Numbers, RowRuns, ColumnRuns}
 use Rattle.fields_core.specs.declared.planes.lights.waits.LightWaits.{LightWaits}
 use Rattle.fields_core.specs.declared.planes.lights.waits.LineWaits.{LineWaits}
-use Rattle.fields_core.proofs.AnyOrder.{IsSingle, visited-zeros}
 use Rattle.fields_core.proofs.AtMostLemmas.{IsFull}
 use Rattle.fields_core.proofs.CellLemmas.{has-append}
 unfoldable use Rattle.fields_core.proofs.IdleLemmas.{any_has}
@@ -30,11 +29,13 @@ use Rattle.fields_core.proofs.IdleLemmas.{any-append, any-below, any-none, any-o
 use Rattle.fields_core.proofs.LightCounting.{column-run-joined, light-board, row-run-joined}
 use Rattle.fields_core.proofs.LightHouseLaws.{column-both, column-self, column-white-end, row-both, row-self, row-white-end, white-in}
 use Rattle.fields_core.proofs.LightNotes.{column-white-start, row-white-start}
-use Rattle.fields_core.proofs.LitRuns.{column-stays, lit-kept, planes-full, row-stays}
+use Rattle.fields_core.proofs.LitIdle.{IsAll, alls-kept}
+use Rattle.fields_core.proofs.LitRuns.{column-stays, planes-full, row-stays}
+use Rattle.fields_core.proofs.LitVisits.{lit-is}
 use Rattle.fields_core.proofs.NumberRows.{numbers-are}
 use Rattle.fields_core.proofs.PartIdle.{IsPartOf, idle-around, in-back, in-below, in-front}
 use Rattle.fields_core.proofs.PartLemmas.{value-in}
-use Rattle.fields_core.proofs.RunOrder.{column-runs-kept, column-runs-lie, column-runs-single, row-runs-are, row-runs-kept, row-runs-lie, row-runs-single}
+use Rattle.fields_core.proofs.RunOrder.{column-runs-kept, column-runs-lie, row-runs-are, row-runs-kept, row-runs-lie}
 use Rattle.fields_core.proofs.StepLaws.{step-down, step-left, step-right, step-up, steps-some}
 use Rattle.fields_core.proofs.TentBeside.{cell-after, cell-below, cell-parts, row-in, whole-cell}
 use Rattle.fields_core.proofs.TreeBoards.{filter-has}
@@ -99,32 +100,21 @@ numbers-off bits {room} p before rows now low woken c on k lt off lies = by lies
         true≢false (rw (lt-ltb k room (omega (arith, lt, low)), lt-ltb 0 k (omega (arith, above)), e) at f)
     by (inr (inr below)) = true≢false (sym (rows_are below) ∙ (off_both (off_both (sym (woken k) ∙ off)).1).1)
 
-module _ {W : Type 0} (bits : W → ℕ) {room : ℕ} (p : Light) {before now : LineWaits W} {touched : Touched W}
-    (lawful : IsLight p) (low : p.size.h ≤ room) (woken : AreLinesWoken bits room before touched now) where
-  -- where houses do not wait, none of them has a cell of both a column and a row of these
-  lines-off : (c : ℕ) → AreLinesOf bits touched (c / p.size.w) (c % p.size.w) → (kind : LightKind) (k : ℕ) → k < light_kind_lines p kind
+module _ {W : Type 0} (bits : W → ℕ) {room : ℕ} (p : Light) {before now : LineWaits W} {rows : W} {zeros : Touched W}
+    (lawful : IsLight p) (low : p.size.h ≤ room) (woken : AreLinesWoken bits room before rows zeros now) where
+  -- where houses do not wait, none of them has a cell of these lines
+  lines-off : (c : ℕ) → has_bit (bits rows) (c / p.size.w) ≡ true → AreLinesOf bits zeros (c / p.size.w) (c % p.size.w)
+      → (kind : LightKind) (k : ℕ) → k < light_kind_lines p kind
       → has_bit (waiting_lines bits now kind) k ≡ false → any_has (light_kind_houses p kind k) c ≡ false
   unfolding any_has
-  lines-off c on kind k lt off = false_from_ne_true _ (by kind lt off)
+  lines-off c row on kind k lt off = false_from_ne_true _ (by kind lt off)
     where
-      rows_are : {k : ℕ} → c / p.size.w ≡ k → has_bit (bits touched.rows) k ≡ true
-      rows_are e = rw e at on.1
-
       by : (kind : LightKind) → k < light_kind_lines p kind → has_bit (waiting_lines bits now kind) k ≡ false → any_has (light_kind_houses p kind k) c ≡ true → ⊥
-      by Numbers lt off has = numbers-off bits p before.numbers touched.rows now.numbers low woken.numbers c on.1 k lt off (numbers-lie p c k (light-board lawful).some has)
-      by RowRuns lt off has = true≢false (sym (rows_are (row-runs-lie p k c lawful has)) ∙ (off_both (sym (woken.rows k) ∙ off)).1)
+      by Numbers lt off has = numbers-off bits p before.numbers rows now.numbers low woken.numbers c row k lt off (numbers-lie p c k (light-board lawful).some has)
+      by RowRuns lt off has =
+          true≢false (sym on.1 ∙ ap (has_bit (bits zeros.rows)) (row-runs-lie p k c lawful has) ∙ (off_both (sym (woken.rows_are k) ∙ off)).1)
       by ColumnRuns lt off has =
-          true≢false (sym on.0 ∙ ap (has_bit (bits touched.columns)) (column-runs-lie p k c lawful lt has) ∙ (off_both (sym (woken.columns k) ∙ off)).1)
-
-  -- what does not wait did not wait before
-  waited : (kind : LightKind) (k : ℕ) → has_bit (waiting_lines bits now kind) k ≡ false → has_bit (waiting_lines bits before kind) k ≡ false
-  waited Numbers k off = (off_both (sym (woken.numbers k) ∙ off)).0
-  waited RowRuns k off = (off_both (sym (woken.rows k) ∙ off)).0
-  waited ColumnRuns k off = (off_both (sym (woken.columns k) ∙ off)).0
-
-  lines-rested : {K L : Candidates} → IsInside L K → IsTouched bits p.size.w K L touched → AreLinesRested bits p before K → AreLinesRested bits p now L
-  lines-rested {K} {L} inside at rested kind k lt off =
-      idle-far (light_kind_houses p kind k) K L inside (λ c v on gone. lines-off c (at c v on gone) kind k lt off) (rested kind k lt (waited kind k off))
+          true≢false (sym on.0 ∙ ap (has_bit (bits zeros.columns)) (column-runs-lie p k c lawful lt has) ∙ (off_both (sym (woken.columns_are k) ∙ off)).1)
 
 -- ---- white cells
 -- the house of a cell has those that it is joined to
@@ -156,22 +146,27 @@ lit-noted p K words d c lawful full noted off on = elim (lit-lies p c d on) [
       (column-both p d c two.one back two.one_in) (column-both p d c two.other back two.other_in)
 ]
 
-module _ (p : Light) (lawful : IsLight p) {K L : Candidates} (words : List ℕ) (full : IsFull (light_cells p) L) (low : (d v : ℕ) → K d v ≡ true → v < 2)
-    (inside : IsInside L K) (noted : (d v : ℕ) → d < light_cells p → K d v ≡ true → L d v ≡ false → IsNoted p L words d) where
-  -- a cell of the house of c has lost a value
+lits-each : (p : Light) (c : ℕ) → IsLight p → c < light_cells p → AllByRecursion (IsAll (light_cells p)) (lit_house p c)
+lits-each p c lawful lt = elim (cases_Bool (white p c)) [
+  | inl on ↦ rw on (record { is = lit-is p lawful lt on; same = refl }, tt)
+  | inr off ↦ rw off tt
+]
+
+-- what keeps a value that it had, unless it is lost
+value-kept : (K L : Candidates) (c v : ℕ) → IsInside L K → (K c v ≡ true → L c v ≡ false → ⊥) → L c v ≡ K c v
+value-kept K L c v inside never = elim (cases_Bool (K c v)) [
+  | inl on ↦ (elim (cases_Bool (L c v)) [
+    | inl still ↦ still
+    | inr gone ↦ absurd (never on gone)
+  ]) ∙ sym on
+  | inr off ↦ false_from_ne_true _ (λ on. true≢false (sym (inside c v on) ∙ off)) ∙ sym off
+]
+
+module _ (p : Light) (lawful : IsLight p) {K L : Candidates} (words : List ℕ) (full_K : IsFull (light_cells p) K) (full_L : IsFull (light_cells p) L)
+    (inside : IsInside L K) (noted : (d : ℕ) → d < light_cells p → K d 1 ≡ true → L d 1 ≡ false → IsNoted p L words d) where
+  -- a cell of the house of c has lost 1
   abbrev has_lost : ℕ → ℕ → Bool
-  has_lost c d = any_has (lit_house p c) d && ((K d 0 && not (L d 0)) || (K d 1 && not (L d 1)))
-
-  lost-at : (d v : ℕ) → K d v ≡ true → L d v ≡ false → ((K d 0 && not (L d 0)) || (K d 1 && not (L d 1))) ≡ true
-  lost-at d zero on gone = or_left _ (K d 1 && not (L d 1)) (and_from _ _ on (ap not gone))
-  lost-at d (suc zero) on gone = or_right (K d 0 && not (L d 0)) _ (and_from _ _ on (ap not gone))
-  lost-at d (suc (suc v)) on gone = absurd (omega (arith, low d (suc (suc v)) on))
-
-  noted-at : (d : ℕ) → d < light_cells p → ((K d 0 && not (L d 0)) || (K d 1 && not (L d 1))) ≡ true → IsNoted p L words d
-  noted-at d lt lost = elim (or_cases _ _ lost) [
-    | inl zeros ↦ let w = and_parts _ _ zeros in noted d 0 lt w.0 (not-true (L d 0) w.1)
-    | inr ones ↦ let w = and_parts _ _ ones in noted d 1 lt w.0 (not-true (L d 1) w.1)
-  ]
+  has_lost c d = any_has (lit_house p c) d && (K d 1 && not (L d 1))
 
   lies-in : (c d : ℕ) → any_has (lit_house p c) d ≡ true → d < light_cells p
   lies-in c d on = white-in p d (light-board lawful).long (elim (lit-lies p c d on) [
@@ -179,7 +174,7 @@ module _ (p : Light) (lawful : IsLight p) {K L : Candidates} (words : List ℕ) 
     | inr column ↦ column-white-end p c d (light-board lawful).some column
   ])
 
-  -- what is idle where each cell that lost a value is noted
+  -- what is idle where each cell that lost 1 is noted
   pub lit-rested : (before : List ℕ) → AreWider before words → AreLitRested p before K → AreLitRested p words L
   unfolding lit_waits
   lit-rested before wider rested c lt off =
@@ -188,69 +183,61 @@ module _ (p : Light) (lawful : IsLight p) {K L : Candidates} (words : List ℕ) 
         | inl some ↦
             let w = any_below-some (has_lost c) (light_cells p) some in
             let parts = and_parts _ _ w.2 in
-            lit-noted p L words w.0 c lawful full (noted-at w.0 w.1 parts.1) off parts.0
-        | inr none ↦ idle-far (lit_house p c) K L inside
-            (λ d v on gone. false_from_ne_true _ (λ there.
-            true≢false (sym (and_from _ _ there (lost-at d v on gone)) ∙ any_below-none (has_lost c) (light_cells p) none d (lies-in c d there))))
+            let lost = and_parts _ _ parts.1 in
+            lit-noted p L words w.0 c lawful full_L (noted w.0 w.1 lost.0 (not-true (L w.0 1) lost.1)) off parts.0
+        | inr none ↦ alls-kept (light_cells p) (lit_house p c) K L (lits-each p c lawful lt) full_K full_L inside
+            (λ d there. value-kept K L d 1 inside (λ on gone.
+            true≢false (sym (and_from _ _ there (and_from _ _ on (ap not gone))) ∙ any_below-none (has_lost c) (light_cells p) none d (lies-in c d there))))
             (rested c lt was_off)
       ]
 
 -- ---- once cells have lost values
-module _ {W : Type 0} (bits : W → ℕ) {room : ℕ} (p : Light) (touched : Touched W) {from to : Layers} {len : ℕ} (are : ArePlanes room to)
-    (at : IsTouched bits to.size.w (back_at to len) (has to) touched) (of : ArePlanesOf room p to) (was : ArePlanesOf room p from) (is : from.len ≡ len)
-    (further : IsFurther from to) where
-  lines-at : IsTouched bits p.size.w (has from) (has to) touched
-  lines-at =
-      let back : back_at to len ≡ has from = rw (← is) (further.back from.len (omega arith)
+module _ {W : Type 0} (bits : W → ℕ) {room : ℕ} (p : Light) (zeros ones : Touched W) (rows : W) {from to : Layers} {len : ℕ} (are : ArePlanes room to)
+    (lost_zeros : IsLostIn bits to.size.w 0 (back_at to len) (has to) zeros) (lost_ones : IsLostIn bits to.size.w 1 (back_at to len) (has to) ones)
+    (all_rows : (k : ℕ) → has_bit (bits rows) k ≡ (has_bit (bits zeros.rows) k || has_bit (bits ones.rows) k))
+    (of : ArePlanesOf room p to) (was : ArePlanesOf room p from) (is : from.len ≡ len) (further : IsFurther from to) where
+  back : (c v : ℕ) → back_at to len c v ≡ has from c v
+  back c v =
+      let whole : back_at to len ≡ has from = rw (← is) (further.back from.len (omega arith)
       ∙ put_back-none from.size.w (has from) from.takings from.len from.len (omega arith)) in
-      λ c v on gone. rw (of.size) at (at c v (ap (λ (M : Candidates). M c v) back ∙ on) gone)
+      ap (λ (M : Candidates). M c v) whole
 
-  -- runs stay idle while no cell loses 0
-  runs-rested : (before now : LineWaits W) → AreNumbersWoken bits room before.numbers touched.rows now.numbers → now.rows ≡ before.rows → now.columns ≡ before.columns
-      → ((c : ℕ) → has to c 0 ≡ has from c 0) → AreLinesRested bits p before (has from) → AreLinesRested bits p now (has to)
-  runs-rested before now numbers rows columns zeros rested Numbers k lt off =
+  zeros-at : IsLostIn bits p.size.w 0 (has from) (has to) zeros
+  zeros-at c on gone = rw (of.size) at (lost_zeros c (back c 0 ∙ on) gone)
+
+  ones-at : IsLostIn bits p.size.w 1 (has from) (has to) ones
+  ones-at c on gone = rw (of.size) at (lost_ones c (back c 1 ∙ on) gone)
+
+  row-at : (c v : ℕ) → v < 2 → has from c v ≡ true → has to c v ≡ false → has_bit (bits rows) (c / p.size.w) ≡ true
+  row-at c zero small on gone = all_rows _ ∙ or_left _ (has_bit (bits ones.rows) _) (zeros-at c on gone).1
+  row-at c (suc zero) small on gone = all_rows _ ∙ or_right (has_bit (bits zeros.rows) _) _ (ones-at c on gone).1
+  row-at c (suc (suc v)) small on gone = absurd (omega (arith, small))
+
+  lines-rested : (before now : LineWaits W) → AreLinesWoken bits room before rows zeros now → AreLinesRested bits p before (has from) → AreLinesRested bits p now (has to)
+  lines-rested before now woken rested Numbers k lt off =
       idle-far (numbers_of_row p k) (has from) (has to) further.inside
-      (λ c v on gone. false_from_ne_true _ (λ there. numbers-off bits p before.numbers touched.rows now.numbers of.low numbers c (lines-at c v on gone).1 k lt off (numbers-lie p c k (light-board of.lawful).some there)))
-      (rested Numbers k lt (off_both (sym (numbers k) ∙ off)).0)
-  runs-rested before now numbers rows columns zeros rested RowRuns k lt off =
-      row-runs-kept p k of.lawful was.size was.alive of.alive further (λ c _. zeros c) (rested RowRuns k lt (rw rows at off))
-  runs-rested before now numbers rows columns zeros rested ColumnRuns k lt off =
-      column-runs-kept p k of.lawful lt was.size was.alive of.alive further (λ c _. zeros c) (rested ColumnRuns k lt (rw columns at off))
+      (λ c v on gone. false_from_ne_true _ (λ there. numbers-off bits p before.numbers rows now.numbers of.low woken.numbers c (row-at c v (value-in from c v on) on gone) k lt off
+      (numbers-lie p c k (light-board of.lawful).some there)))
+      (rested Numbers k lt (off_both (sym (woken.numbers k) ∙ off)).0)
+  lines-rested before now woken rested RowRuns k lt off =
+      let parts = off_both (sym (woken.rows_are k) ∙ off) in
+      row-runs-kept p k of.lawful was.size was.alive of.alive further
+      (λ c row. value-kept (has from) (has to) c 0 further.inside (λ on gone. true≢false (sym (zeros-at c on gone).1 ∙ ap (has_bit (bits zeros.rows)) row ∙ parts.1)))
+      (rested RowRuns k lt parts.0)
+  lines-rested before now woken rested ColumnRuns k lt off =
+      let parts = off_both (sym (woken.columns_are k) ∙ off) in
+      column-runs-kept p k of.lawful lt was.size was.alive of.alive further
+      (λ c column. value-kept (has from) (has to) c 0 further.inside (λ on gone. true≢false (sym (zeros-at c on gone).0 ∙ ap (has_bit (bits zeros.columns)) column ∙ parts.1)))
+      (rested ColumnRuns k lt parts.0)
 
-  kind-rested : (kind : LightKind) (before now : LineWaits W) → AreWokenBy kind bits room before touched now → KeepsZeros kind (has from) (has to)
-      → AreLinesRested bits p before (has from) → AreLinesRested bits p now (has to)
-  kind-rested Numbers before now woken zeros rested = lines-rested bits p of.lawful of.low woken further.inside lines-at rested
-  kind-rested RowRuns before now woken zeros rested = runs-rested before now woken.0 woken.1 woken.2 zeros rested
-  kind-rested ColumnRuns before now woken zeros rested = runs-rested before now woken.0 woken.1 woken.2 zeros rested
-
-  pub lights-woken : (kind : LightKind) (before now : LightWaits W) → AreWokenBy kind bits room before.lines touched now.lines → KeepsZeros kind (has from) (has to)
-      → AreWider (map bits before.lit.items) (map bits now.lit.items) → AreNoted bits p (has to) touched (map bits now.lit.items)
+  pub lights-woken : (before now : LightWaits W) → AreLinesWoken bits room before.lines rows zeros now.lines
+      → AreWider (map bits before.lit.items) (map bits now.lit.items) → AreNoted bits p (has to) ones (map bits now.lit.items)
       → AreLightsRested bits p before (has from) → AreLightsRested bits p now (has to)
-  lights-woken kind before now woken zeros wider noted rested = record {
-    lines = kind-rested kind before.lines now.lines woken zeros rested.lines;
-    lit = lit-rested p of.lawful (map bits now.lit.items) (planes-full p to of.size of.alive) (value-in from) further.inside
-        (λ d v lt on gone. noted d lt (lines-at d v on gone)) (map bits before.lit.items) wider rested.lit;
+  lights-woken before now woken wider noted rested = record {
+    lines = lines-rested before.lines now.lines woken rested.lines;
+    lit = lit-rested p of.lawful (map bits now.lit.items) (planes-full p from was.size was.alive) (planes-full p to of.size of.alive) further.inside
+        (λ d lt on gone. noted d lt (ones-at d on gone)) (map bits before.lit.items) wider rested.lit;
   }
-
-  -- white cells stay idle while no cell loses 1
-  pub lines-woken : (before now : LightWaits W) → AreLinesWoken bits room before.lines touched now.lines → now.lit ≡ before.lit
-      → ((c : ℕ) → has to c 1 ≡ has from c 1) → AreLightsRested bits p before (has from) → AreLightsRested bits p now (has to)
-  lines-woken before now woken same ones rested = record {
-    lines = lines-rested bits p of.lawful of.low woken further.inside lines-at rested.lines;
-    lit = λ c lt off. lit-kept p c (has from) (has to) of.lawful (planes-full p from was.size was.alive) (planes-full p to of.size of.alive) further.inside ones
-        (rested.lit c lt (rw same at off));
-  }
-
--- visits of runs take 0 from no cell
-pub kind-zeros : (p : Light) (kind : LightKind) (k : ℕ) {from to : Layers} {fills : Bool} → IsLight p → from.size ≡ p.size → IsAlive from
-    → AreVisited (light_kind_houses p kind k) from to fills → fills ≡ true → KeepsZeros kind (has from) (has to)
-kind-zeros p Numbers k lawful size alive visited full = tt
-kind-zeros p RowRuns k {from} {to} {fills} lawful size alive visited full =
-    let each : AllByRecursion (IsSingle (cells_of from)) (row_runs_of_row p k) = rw size (row-runs-single p k lawful) in
-    visited-zeros (row_runs_of_row p k) (row_runs_of_row p k) from to fills alive each each (λ test. refl) visited full
-kind-zeros p ColumnRuns k {from} {to} {fills} lawful size alive visited full =
-    let each : AllByRecursion (IsSingle (cells_of from)) (column_runs_of_column p k) = rw size (column-runs-single p k lawful) in
-    visited-zeros (column_runs_of_column p k) (column_runs_of_column p k) from to fills alive each each (λ test. refl) visited full
 
 -- ---- where a closing begins
 -- everything waits
@@ -307,12 +294,12 @@ module _ (p : Light) (lawful : IsLight p) (K : Candidates) (place : ℕ) (around
   -- a closing begins at a cell
   pub lights-at : {W : Type 0} (bits : W → ℕ) {room : ℕ} {planes : Layers} (before : LineWaits W) (now : LightWaits W) {touched : Touched W} → ArePlanesOf room p planes → has planes ≡ K
       → ((k : ℕ) → has_bit (bits touched.columns) k ≡ eqb k (place % p.size.w)) → ((k : ℕ) → has_bit (bits touched.rows) k ≡ eqb k (place / p.size.w))
-      → AreLinesWoken bits room before touched now.lines → AreNoted bits p K touched (map bits now.lit.items) → AreLightsRested bits p now K
+      → AreLinesWoken bits room before touched.rows touched now.lines → AreNoted bits p K touched (map bits now.lit.items) → AreLightsRested bits p now K
   lights-at bits {planes = planes} before now {touched} of is column row woken noted =
       let lines : AreLinesOf bits touched (place / p.size.w) (place % p.size.w) = (column _ ∙ eq-eqb _ _ refl, row _ ∙ eq-eqb _ _ refl) in
       let full : IsFull (light_cells p) K = rw is at (planes-full p planes of.size of.alive) in
       record {
-        lines = λ kind k lt off. kind-idle kind k lt (lines-off bits p lawful of.low woken place lines kind k lt off);
+        lines = λ kind k lt off. kind-idle kind k lt (lines-off bits p lawful of.low woken place lines.1 lines kind k lt off);
         lit = λ c lt off. elim (cases_Bool (any_has (lit_house p c) place)) [
           | inr far ↦ lit-idle c lt far
           | inl on ↦ lit-noted p K (map bits now.lit.items) place c lawful

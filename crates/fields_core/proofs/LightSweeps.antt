@@ -1,32 +1,28 @@
 -- Sweeps of the houses of Light Up on planes.
-use Rattle.fields_core.proofs.Common.{CountHouse, IsAlive, IsLight, Layers, Light, List, append_assoc, ap, arith, column_house, houses_below, light_cells, light_houses, light_rules, lit_house, not, number_house, refl, row_house, suc, sym, true, white, zero, ℕ, Bool, ◌*◌, ◌++◌, ◌+◌, ◌-◌, ◌<◌, ◌∙◌, ◌≡◌, ◌≤◌}
+use Rattle.fields_core.proofs.Common.{CountHouse, IsAlive, IsLight, Layers, Light, List, append_assoc, ap, arith, column_house, has_bit, houses_below, false, light_cells, light_houses, light_rules, lit_house, not, number_house, refl, row_house, suc, sym, true, white, zero, ℕ, Bool, ◌*◌, ◌++◌, ◌+◌, ◌-◌, ◌<◌, ◌∙◌, ◌≡◌, ◌≤◌}
 use Rattle.grid_core.specs.Planes.{IsFurther, cells_of, has}
 use Rattle.fields_core.specs.Light.{solves_lights}
 use Rattle.fields_core.specs.LightPlanes.{ArePlanesOf, IsKept}
-use Rattle.fields_core.specs.LightWaits.{lits_of_row, white_houses}
+use Rattle.fields_core.specs.LightWaits.{AreLinesRested, light_kind_houses, light_kind_lines, lits_of_row, waiting_lines, white_houses}
 use Rattle.fields_core.specs.LightWords.{numbers_of_row, row_runs_of_row}
 use Rattle.fields_core.specs.RunLines.{column_runs_of_column}
 use Rattle.fields_core.specs.Sweeps.{IsSweep}
 use Rattle.fields_core.specs.Visits.{AreVisited}
 use Rattle.fields_core.specs.Waits.{AreIdle}
 use Rattle.fields_core.specs.declared.planes.lights.notes.LightNotes.{LightNotes}
-use Rattle.fields_core.proofs.IdleLemmas.{visited-idle}
+use Rattle.fields_core.specs.declared.planes.lights.waits.LightKind.{LightKind}
+use Rattle.fields_core.specs.declared.planes.lights.waits.LineWaits.{LineWaits}
+use Rattle.fields_core.proofs.IdleLemmas.{visited-skip}
 use Rattle.fields_core.proofs.NumberRows.{numbers-are}
 use Rattle.fields_core.proofs.PlaneSweeps.{visits-swept}
-use Rattle.fields_core.proofs.VisitLemmas.{below-rows, sweep-more}
+use Rattle.fields_core.proofs.VisitLemmas.{below-rows}
 
--- ---- houses that are idle are passed
-pub passed-idle : (f : ℕ → List CountHouse) {m n : ℕ} {p q : Layers} → m ≤ n → AreVisited (houses_below f m) p q true
-    → ((k : ℕ) → m ≤ k → k < n → AreIdle (f k) (has q)) → AreVisited (houses_below f n) p q true
-passed-idle f {m} {n} {p} {q} le visited idle =
-    let e : m + (n - m) ≡ n = omega arith in
-    rw e at (on (n - m) (λ k low lt. idle k low (omega (arith, lt, e))))
-  where
-    on : (d : ℕ) → ((k : ℕ) → m ≤ k → k < m + d → AreIdle (f k) (has q)) → AreVisited (houses_below f (m + d)) p q true
-    on zero each = let e : m + 0 ≡ m = omega arith in rw e visited
-    on (suc d) each =
-        let e : m + suc d ≡ m + d + 1 = omega arith in
-        rw e (sweep-more f (on d (λ k low lt. each k low (omega arith))) (visited-idle (f (m + d)) visited.alive (each (m + d) (omega arith) (omega arith))) refl)
+-- ---- houses that do not wait are passed
+pub lines-skip : {W : Type 0} (bits : W → ℕ) (p : Light) (kind : LightKind) (waits : LineWaits W) {from to : Layers} {n m : ℕ} → n ≤ m → m ≤ light_kind_lines p kind
+    → AreLinesRested bits p waits (has to) → ((k : ℕ) → n ≤ k → k < m → has_bit (waiting_lines bits waits kind) k ≡ false)
+    → AreVisited (houses_below (light_kind_houses p kind) n) from to true → AreVisited (houses_below (light_kind_houses p kind) m) from to true
+lines-skip bits p kind waits le most rested none visited =
+    visited-skip (light_kind_houses p kind) le visited (λ k at lt. rested kind k (omega (arith, lt, most)) (none k at lt))
 
 -- ---- the houses in order
 pub lits-are : (p : Light) → houses_below (lits_of_row p) p.size.h ≡ houses_below (lit_house p) (light_cells p)

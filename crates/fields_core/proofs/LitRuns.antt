@@ -49,39 +49,6 @@ column-stays p c d e K lawful full ne on_d on_e in_d in_e = elim (cases_Bool (wh
   | inr off ↦ rw off refl
 ]
 
--- ---- an idle house stays idle where no cell loses 1
-pub lit-kept : (p : Light) (c : ℕ) (K L : Candidates) → IsLight p → IsFull (light_cells p) K → IsFull (light_cells p) L → IsInside L K
-    → ((d : ℕ) → L d 1 ≡ K d 1) → after_houses (lit_house p c) K ≡ K → after_houses (lit_house p c) L ≡ L
-unfolding after_houses
-lit-kept p c K L lawful full still inside_of same idle = elim (cases_Bool (white p c)) [
-  | inl on ↦ rw on (idle-kept K L (lit-is p lawful (inside p lawful c on) on) full still inside_of (λ d _. same d) (rw on at idle))
-  | inr off ↦ rw off refl
-]
-
 -- ---- on planes
 pub planes-full : (p : Light) (from : Layers) → from.size ≡ p.size → IsAlive from → IsFull (light_cells p) (has from)
 planes-full p from size alive = record { low = value-in from; some = λ c lt. alive c (rw size lt) }
-
--- a visit of a white cell takes 1 from no cell
-pub lit-ones : (p : Light) (c : ℕ) (from to : Layers) → IsLight p → from.size ≡ p.size → IsAlive from
-    → AreVisited (lit_house p c) from to true → (d : ℕ) → has to d 1 ≡ has from d 1
-unfolding after_houses
-lit-ones p c from to lawful size alive visit d = elim (cases_Bool (white p c)) [
-  | inr off ↦ ap (λ (L : Candidates). L d 1) (rw off at visit.left refl)
-  | inl on ↦
-      let house = lit-is p lawful (inside p lawful c on) on in
-      let left : has to ≡ after_house (one_at_least (seen_from p c)) (has from) = rw on at visit.left refl in
-      let full = planes-full p from size alive in
-      elim (cases_lt 0 (count_by (λ e. has from e 1) (seen_from p c))) [
-        | inl some_one ↦ ap (λ (L : Candidates). L d 1) left ∙ ones-stay (has from) house full some_one d
-        | inr none ↦
-            let there = seen-in-row p lawful c on c (row-self p c on) in
-            let gone : (v : ℕ) → v < 2 → has to c v ≡ false = λ v low. ap (λ (L : Candidates). L c v) left
-            ∙ tree-broken (light_cells p) (seen_from p c) (has from) house (omega arith) c v there low in
-            absurd (never (gone 0 (omega arith)) (gone 1 (omega arith)) (visit.alive c (rw (visit.further.same_size, size) (inside p lawful c on))))
-      ]
-]
-  where
-    never : {a b : Bool} → a ≡ false → b ≡ false → (a ≡ true) ⊎ (b ≡ true) → ⊥
-    never a b (inl on) = true≢false (sym on ∙ a)
-    never a b (inr on) = true≢false (sym on ∙ b)

@@ -136,7 +136,7 @@ module _ {W : Type 0} (bits : W → ℕ) {room : ℕ} (p : Tents) {before now : 
       tree on lt off (inr (inl above)) =
           let e : has_bit (bits ones.rows) (k - 1) ≡ true = (let r : c / p.size.w ≡ k - 1 = omega (arith, above) in rw r at on.1) in
           let f : (ltb k room && (ltb 0 k && has_bit (bits ones.rows) (k - 1))) ≡ false =
-              (both_off (both_off (both_off (sym (woken.trees k) ∙ off)).1).0).0 in
+          (both_off (both_off (both_off (sym (woken.trees k) ∙ off)).1).0).0 in
           true≢false (rw (lt-ltb k room (omega (arith, lt, low)), lt-ltb 0 k (omega (arith, above)), e) at f)
       tree on lt off (inr (inr below)) =
           true≢false (rw below at (sym on.1) ∙ (both_off (both_off (sym (woken.trees k) ∙ off)).1).1)
@@ -185,11 +185,14 @@ squares-each p y lawful lt = all-houses (IsSingle (tent_cells p)) (λ x. square_
     by x less (inr off) = rw off tt
     by x less (inl is) =
         let both = and_parts _ _ is in
-        rw is (record {
-          is = square-is p lawful (place-in p.size.w p.size.h y x lt less) (ltb-true _ _ both.0) (ltb-true _ _ both.1);
-          least_is = refl;
-          most_is = refl;
-        }, tt)
+        rw is (
+          record {
+            is = square-is p lawful (place-in p.size.w p.size.h y x lt less) (ltb-true _ _ both.0) (ltb-true _ _ both.1);
+            least_is = refl;
+            most_is = refl;
+          },
+          tt,
+        )
 
 pub rested-woken : {W : Type 0} (bits : W → ℕ) {room : ℕ} (p : Tents) (before now : Waits W) {zeros ones : Touched W} {from to : Layers} {len : ℕ}
     → ArePlanes room to → IsLostIn bits to.size.w 0 (back_at to len) (has to) zeros → IsLostIn bits to.size.w 1 (back_at to len) (has to) ones
@@ -310,7 +313,7 @@ module _ (p : Tents) (K : Candidates) (place : ℕ) (around : IsClosedAround (te
   part-idle front [] back is off = refl
   part-idle front (house ∷ part) back is off =
       let both : (has_place house.places place ≡ false) × (any_has part place ≡ false) =
-          (grind (arith, common_steps, cases_Bool (has_place house.places place)), grind (arith, common_steps, cases_Bool (has_place house.places place))) in
+      (grind (arith, common_steps, cases_Bool (has_place house.places place)), grind (arith, common_steps, cases_Bool (has_place house.places place))) in
       rw (house-idle front house (part ++ back) is both.0)
       (part-idle (front ++ house ∷ []) part back (is ∙ sym (append_assoc front (house ∷ []) (part ++ back))) both.1)
 

@@ -46,29 +46,15 @@ AreNumbersWoken bits room before rows now = (k : ℕ) → has_bit (bits now) k
     ≡ (has_bit (bits before) k || (((nat_lt k room && (nat_lt 0 k && has_bit (bits rows) (k - 1)))
     || has_bit (bits rows) k) || has_bit (bits rows) (k + 1)))
 
--- and the runs: those of the columns and rows
-pub record AreLinesWoken {W : Type 0} (bits : W → ℕ) (room : ℕ) (before : LineWaits W)
-    (touched : Touched W) (now : LineWaits W)
+-- and the runs: those of the columns and rows in which cells have lost 0
+pub record AreLinesWoken {W : Type 0} (bits : W → ℕ) (room : ℕ) (before : LineWaits W) (rows : W)
+    (zeros : Touched W) (now : LineWaits W)
     : Type 0 where
-  pub numbers : AreNumbersWoken bits room before.numbers touched.rows now.numbers
-  pub rows : (k : ℕ) → has_bit (bits now.rows) k
-      ≡ (has_bit (bits before.rows) k || has_bit (bits touched.rows) k)
-  pub columns : (k : ℕ) → has_bit (bits now.columns) k
-      ≡ (has_bit (bits before.columns) k || has_bit (bits touched.columns) k)
-
--- visits of this kind of houses take 0 from no cell
-abbrev pub KeepsZeros : LightKind → Candidates → Candidates → Type 0
-KeepsZeros Numbers K L = Unit {0}
-KeepsZeros RowRuns K L = (c : ℕ) → L c 0 ≡ K c 0
-KeepsZeros ColumnRuns K L = (c : ℕ) → L c 0 ≡ K c 0
-
--- what waits after visits of a kind that took values: no more runs, if only 1 was taken
-abbrev pub AreWokenBy : {W : Type 0} → LightKind → (W → ℕ) → ℕ → LineWaits W → Touched W → LineWaits W → Type 0
-AreWokenBy Numbers bits room before touched now = AreLinesWoken bits room before touched now
-AreWokenBy RowRuns bits room before touched now =
-    AreNumbersWoken bits room before.numbers touched.rows now.numbers × (now.rows ≡ before.rows) × (now.columns ≡ before.columns)
-AreWokenBy ColumnRuns bits room before touched now =
-    AreNumbersWoken bits room before.numbers touched.rows now.numbers × (now.rows ≡ before.rows) × (now.columns ≡ before.columns)
+  pub numbers : AreNumbersWoken bits room before.numbers rows now.numbers
+  pub rows_are : (k : ℕ) → has_bit (bits now.rows) k
+      ≡ (has_bit (bits before.rows) k || has_bit (bits zeros.rows) k)
+  pub columns_are : (k : ℕ) → has_bit (bits now.columns) k
+      ≡ (has_bit (bits before.columns) k || has_bit (bits zeros.columns) k)
 
 -- ---- white cells that wait, as a word for each row
 unfoldable pub lit_waits : ℕ → List ℕ → ℕ → Bool
@@ -78,12 +64,6 @@ lit_waits w words c = has_bit (slice_index words (c / w)) (c % w)
 abbrev pub AreLitRested : Light → List ℕ → Candidates → Type 0
 AreLitRested p words K = (c : ℕ) → c < light_cells p → lit_waits p.size.w words c ≡ false
     → AreIdle (lit_house p c) K
-
--- the least number that passes of those from `from` on
-pub record IsNextPlace (passes : ℕ → Bool) (from place : ℕ) : Type 0 where
-  pub onward : from ≤ place
-  pub has : passes place ≡ true
-  pub before : (k : ℕ) → from ≤ k → k < place → passes k ≡ false
 
 -- the houses of the white cells of a row from one place to another are idle
 abbrev pub AreIdleBetween : Light → Candidates → ℕ → ℕ → ℕ → Type 0

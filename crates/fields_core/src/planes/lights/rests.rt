@@ -6,11 +6,11 @@ ghost use Rattle.grid_core.specs.Planes.{Layers, has, IsFurther};
 ghost use Rattle.engine_core.specs.Queue.{IsClosedAround, IsClosedBut};
 ghost use Rattle.fields_core.specs.LightHouses.{light_rules};
 ghost use Rattle.fields_core.specs.LightPlanes.{ArePlanesOf, AreTables};
-ghost use Rattle.fields_core.specs.LightWaits.{AreLightsRested, KeepsZeros};
+ghost use Rattle.fields_core.specs.LightWaits.{AreLightsRested};
 
 use crate::light_up::cells::{columns, rows};
 use crate::planes::lights::tables::LightTables;
-use crate::planes::lights::waits::{LightKind, LightWaits, LineWaits};
+use crate::planes::lights::waits::{LightWaits, LineWaits};
 use crate::planes::lights::wake::wake_lit;
 use gameid_core::LightPuzzle;
 use grid_core::{Planes, Touched, Word};
@@ -39,10 +39,10 @@ fn clear_words<W: Word>(words: &mut Vec<W>, lines: usize)
 }
 
 impl<W: Word> LightWaits<W> {
-    /// Wakes what may be idle no more after visits of a kind that began when the trail had that length.
-    pub(crate) fn wake_by(
+    /// Wakes what may be idle no more since the trail had that length: runs by the cells that have lost 0, white cells by those
+    /// that have lost 1, and numbers by both.
+    pub(crate) fn wake(
         &mut self,
-        kind: LightKind,
         planes: &Planes<W>,
         puzzle: &LightPuzzle,
         tables: &LightTables<W>,
@@ -53,27 +53,14 @@ impl<W: Word> LightWaits<W> {
         requires tables { AreTables W.bits puzzle.now tables.now }
         requires room { W.room ≤ length self.old.lit.items }
         ensures rested { (from : Layers) → ArePlanesOf W.room puzzle.now from → from.len ≡ len
-            → IsFurther from planes.now → KeepsZeros kind (has from) (has planes.now)
-            → AreLightsRested W.bits puzzle.now self.old (has from)
+            → IsFurther from planes.now → AreLightsRested W.bits puzzle.now self.old (has from)
             → AreLightsRested W.bits puzzle.now self.new (has planes.now) }
         ensures room { length self.new.lit.items ≡ length self.old.lit.items }
     {
-        let touched = planes.touched(len);
-        self.lines = self.lines.woken_by(kind, touched);
-        wake_lit(&mut self.lit, planes, puzzle, tables, touched);
-    }
-
-    /// Wakes what may be idle no more after a visit of a white cell. It takes only 0, which leaves white cells idle.
-    pub(crate) fn wake_lines(&mut self, planes: &Planes<W>, puzzle: &LightPuzzle, len: usize)
-        requires len { len ≤ planes.now.len }
-        requires planes { ArePlanesOf W.room puzzle.now planes.now }
-        ensures rested { (from : Layers) → ArePlanesOf W.room puzzle.now from → from.len ≡ len
-            → IsFurther from planes.now → ((c : ℕ) → has planes.now c 1 ≡ has from c 1)
-            → AreLightsRested W.bits puzzle.now self.old (has from)
-            → AreLightsRested W.bits puzzle.now self.new (has planes.now) }
-        ensures room { length self.new.lit.items ≡ length self.old.lit.items }
-    {
-        self.lines = self.lines.woken(planes.touched(len));
+        let zeros = planes.lost(len, 0);
+        let ones = planes.lost(len, 1);
+        self.lines = self.lines.woken(zeros.rows.either(ones.rows), zeros);
+        wake_lit(&mut self.lit, planes, puzzle, tables, ones);
     }
 
     /// Begins where all houses may strike something.
@@ -108,7 +95,7 @@ impl<W: Word> LightWaits<W> {
             columns: W::one(place % w),
             rows: W::one(place / w),
         };
-        self.lines = LineWaits::none().woken(touched);
+        self.lines = LineWaits::none().woken(touched.rows, touched);
         clear_words(&mut self.lit, rows(puzzle));
         wake_lit(&mut self.lit, planes, puzzle, tables, touched);
     }

@@ -12,11 +12,13 @@ ghost use Rattle.fields_core.specs.Visits.{AreVisited};
 
 use crate::planes::lights::notes::LightNotes;
 use crate::planes::lights::waits::LightKind;
+use crate::planes::next::next_place;
 use gameid_core::LightPuzzle;
 use grid_core::{Planes, Word};
 
 impl<W: Word> LightNotes<W> {
-    /// Visits the houses of a kind at a line if they wait, and wakes what has a cell that lost a value.
+    /// Visits the houses of a kind at a line, which wait, and wakes what the values that were lost may bind.
+    #[inline(always)]
     fn turn(
         &mut self,
         planes: &mut Planes<W>,
@@ -32,9 +34,6 @@ impl<W: Word> LightNotes<W> {
             → AreLightsReady W.bits W.room puzzle.now planes.new self.new }
         ensures kept { IsKept self.old self.new }
     {
-        if !self.waits.lines.has(kind, line) {
-            return true;
-        }
         let len = planes.len();
         if !self.tables.visit(planes, puzzle, kind, line) {
             return false;
@@ -42,12 +41,13 @@ impl<W: Word> LightNotes<W> {
         if planes.len() == len {
             self.waits.lines.settle(kind, line);
         } else {
-            self.waits.wake_by(kind, planes, puzzle, &self.tables, len);
+            self.waits.wake(planes, puzzle, &self.tables, len);
         }
         true
     }
 
-    /// Visits the houses of a kind, up to one that has no filling.
+    /// Visits the houses of a kind that wait, up to one that has no filling: all others are idle.
+    #[inline(always)]
     fn sweep_kind(&mut self, planes: &mut Planes<W>, puzzle: &LightPuzzle, kind: LightKind) -> bool
         requires ready { AreLightsReady W.bits W.room puzzle.now planes.old self.old }
         ensures visited { AreVisited
@@ -57,15 +57,18 @@ impl<W: Word> LightNotes<W> {
             → AreLightsReady W.bits W.room puzzle.now planes.new self.new }
         ensures kept { IsKept self.old self.new }
     {
-        for line in 0..kind.lines(puzzle) {
-            if !self.turn(planes, puzzle, kind, line) {
+        let lines = usize::from(kind.lines(puzzle));
+        let mut from = 0;
+        while let Some(line) = next_place(self.waits.lines.lines(kind), from, lines) {
+            if !self.turn(planes, puzzle, kind, line as u8) {
                 return false;
             }
+            from = line + 1;
         }
         true
     }
 
-    /// Visits the house of a white cell, and wakes what has a cell that lost a value.
+    /// Visits the house of a white cell, which waits, and wakes what the values that were lost may bind.
     fn turn_lit(&mut self, planes: &mut Planes<W>, puzzle: &LightPuzzle, y: u8, x: u8) -> bool
         requires ready { AreLightsReady W.bits W.room puzzle.now planes.old self.old }
         requires y_in { y < puzzle.now.size.h }
@@ -83,7 +86,7 @@ impl<W: Word> LightNotes<W> {
         if planes.len() == len {
             self.waits.settle_lit(y, x);
         } else {
-            self.waits.wake_lines(planes, puzzle, len);
+            self.waits.wake(planes, puzzle, &self.tables, len);
         }
         true
     }

@@ -12,7 +12,7 @@ use crate::planes::lights::tables::LightTables;
 use crate::planes::lights::waits::LightKind;
 use crate::planes::lit::visit_lit;
 use crate::planes::numbers::visit_numbers;
-use crate::planes::run_visits::{visit_row_runs, visit_column_runs};
+use crate::planes::run_visits::{visit_column_runs, visit_row_runs};
 use gameid_core::LightPuzzle;
 use grid_core::{Planes, Word};
 
@@ -42,9 +42,7 @@ impl<W: Word> LightTables<W> {
                 )
             }
             LightKind::RowRuns => visit_row_runs(planes, puzzle, &self.runs.rows, line),
-            LightKind::ColumnRuns => {
-                visit_column_runs(planes, puzzle, &self.runs.columns, line)
-            }
+            LightKind::ColumnRuns => { visit_column_runs(planes, puzzle, &self.runs.columns, line) }
         }
     }
 

@@ -3,10 +3,9 @@
 
 ghost use Rattle.std.specs.Prelude.{◌≡◌, ◌+◌, ◌*◌, ◌<◌, ◌≤◌, length};
 ghost use Rattle.grid_core.specs.Candidates.{Candidates};
-ghost use Rattle.grid_core.specs.Words.{has_bit};
 ghost use Rattle.gameid_core.specs.Puzzles.{Light};
 ghost use Rattle.fields_core.specs.LightHouses.{lit_house};
-ghost use Rattle.fields_core.specs.LightWaits.{AreLightsRested, AreLinesRested, AreLinesWoken, AreWokenBy, light_kind_houses, light_kind_lines, waiting_lines};
+ghost use Rattle.fields_core.specs.LightWaits.{AreLightsRested, AreLinesRested, AreLinesWoken, light_kind_houses, light_kind_lines, waiting_lines};
 ghost use Rattle.fields_core.specs.Waits.{AreIdle};
 
 use gameid_core::LightPuzzle;
@@ -67,47 +66,29 @@ impl<W: Word> LineWaits<W> {
         }
     }
 
-    /// What waits too once cells of these columns and rows have lost values: all that has a cell of both a column and a row.
-    pub(crate) fn woken(self, touched: Touched<W>) -> LineWaits<W>
-        ensures { AreLinesWoken W.bits W.room self touched result }
+    /// What waits too once cells of these rows have lost values, and those of both a column and a row of the others 0. While
+    /// no cell of theirs loses 0, runs stay idle.
+    pub(crate) fn woken(self, rows: W, zeros: Touched<W>) -> LineWaits<W>
+        ensures { AreLinesWoken W.bits W.room self rows zeros result }
     {
-        let rows = touched.rows;
         LineWaits {
             numbers: self
                 .numbers
                 .either(rows.on().either(rows).either(rows.back())),
-            rows: self.rows.either(rows),
-            columns: self.columns.either(touched.columns),
+            rows: self.rows.either(zeros.rows),
+            columns: self.columns.either(zeros.columns),
         }
     }
 
-    /// What waits too once visits of a kind have taken values from cells of these columns and rows. Visits of runs take only 1,
-    /// which leaves runs idle.
-    pub(crate) fn woken_by(self, kind: LightKind, touched: Touched<W>) -> LineWaits<W>
-        ensures { AreWokenBy kind W.bits W.room self touched result }
+    /// The lines at which houses of this kind wait.
+    pub(crate) fn lines(&self, kind: LightKind) -> W
+        ensures { W.bits result ≡ waiting_lines W.bits self.now kind }
     {
-        let all = self.woken(touched);
         match kind {
-            LightKind::Numbers => all,
-            _ => LineWaits {
-                numbers: all.numbers,
-                rows: self.rows,
-                columns: self.columns,
-            },
-        }
-    }
-
-    /// Whether the houses of this kind at the line wait.
-    pub(crate) fn has(&self, kind: LightKind, line: u8) -> bool
-        requires { line < W.room }
-        ensures { result ≡ has_bit (waiting_lines W.bits self.now kind) line }
-    {
-        let lines = match kind {
             LightKind::Numbers => self.numbers,
             LightKind::RowRuns => self.rows,
             LightKind::ColumnRuns => self.columns,
-        };
-        lines.has(usize::from(line))
+        }
     }
 
     /// The houses of this kind at the line wait no more: they are idle.

@@ -1,7 +1,8 @@
 use Rattle.fields_core.proofs.Common.{CountHouse, List, arith, houses_below, lit_house, refl, true, ℕ, ◌*◌, ◌+◌, ◌<◌, ◌∙◌, ◌≡◌}
 use Rattle.grid_core.specs.Planes.{has}
 use Rattle.fields_core.specs.Visits.{AreVisited}
-use Rattle.fields_core.proofs.LightSweeps.{kept-more, passed-idle}
+use Rattle.fields_core.proofs.LightSweeps.{kept-more}
+use Rattle.fields_core.proofs.IdleLemmas.{visited-skip}
 use Rattle.fields_core.proofs.VisitLemmas.{sweep-broken, sweep-more}
 use Rattle.fields_core.proofs.planes.lights.notes.LightNotes.sweep_lits.Goals as goal
 use Rattle.fields_core.proofs.planes.lights.notes.LightNotes.sweep_lits.Goals.{After-turn_lit}
@@ -12,7 +13,7 @@ module _ (g : _) (c : After-turn_lit g) where
 
   -- the cells before the next that waits are passed
   pub passed : AreVisited (houses_below houses c.in-Some.x) c.args.planes.now c.loop-x.planes true
-  passed = passed-idle houses c.in-Some.ensures.onward c.loop-x.invariant.visited (c.in-Some.ensures.before (has c.loop-x.planes) c.loop-x.invariant.ready.rested)
+  passed = visited-skip houses c.in-Some.ensures.onward c.loop-x.invariant.visited (c.in-Some.ensures.before (has c.loop-x.planes) c.loop-x.invariant.ready.rested)
 
 pub returns-then-not-turn_lit-clause-visited : goal.returns-then-not-turn_lit-clause-visited
 returns-then-not-turn_lit-clause-visited g c =
@@ -31,5 +32,5 @@ loop-x-preserved g c =
 
 pub returns-clause-visited : goal.returns-clause-visited
 returns-clause-visited g c =
-    passed-idle (λ x. lit_house c.args.puzzle.now (c.args.y * c.args.puzzle.now.size.w + x)) c.loop-x.invariant.within c.loop-x.invariant.visited
+    visited-skip (λ x. lit_house c.args.puzzle.now (c.args.y * c.args.puzzle.now.size.w + x)) c.loop-x.invariant.within c.loop-x.invariant.visited
     (c.in_default.ensures.none (has c.loop-x.planes) c.loop-x.invariant.ready.rested)
