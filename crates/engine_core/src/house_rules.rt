@@ -183,6 +183,8 @@ impl<S: RuleSet, C> Rules for HouseRules<S, C> {
 }
 
 impl<S: RuleSet, C> Propagators for HouseRules<S, C> {
+    type Noted = ();
+
     fn read(&self, house: usize, board: &Board, sets: &mut [u32]) {
         gather(board, self.table.places(house), sets);
     }
