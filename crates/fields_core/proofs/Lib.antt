@@ -4,7 +4,6 @@ pub mod PartCounts
 pub mod PartLemmas
 pub mod CountKept
 pub mod CountTallies
-pub mod CountWatch
 pub mod CountListLemmas
 pub mod LightLines
 pub mod HouseLists
