@@ -1,5 +1,5 @@
 -- A line of the board that a search starts from strikes nothing, where it is roomy for its clue.
-use Rattle.pattern_core.proofs.Common.{AllByRecursion, ArePositive, IsIdle, IsRoomy, List, Pattern, [], all_of, and_parts, arith, cases_Bool, clue_of, common_steps, false, false_from_ne_true, get_or, has_runs, has_value, in_grid, length, length-line_places, length-sets_at, line_cells, line_places, line_rules, lines_of, lt-ltb, ltb-true, sets_at, sets_at-value, slice_index, strikes_at, strikes_at-some, strikes_by_fillings, subst, suc, sym, true, true≢false, used, ℕ, ◌*◌, ◌+◌, ◌-◌, ◌<◌, ◌∙◌, ◌∷◌, ◌≡◌, ◌≤◌}
+use Rattle.pattern_core.proofs.Common.{AllByRecursion, ArePositive, IsIdle, IsRoomy, List, Pattern, [], all_of, and_parts, arith, clue_of, common_steps, false_from_ne_true, get_or, has_runs, has_value, in_grid, length, length-line_places, length-sets_at, line_cells, line_places, line_rules, lines_of, lt-ltb, ltb-true, sets_at, sets_at-value, slice_index, strikes_at, strikes_at-some, strikes_by_fillings, suc, sym, true, true≢false, used, ℕ, ◌+◌, ◌-◌, ◌<◌, ◌∙◌, ◌∷◌, ◌≡◌, ◌≤◌}
 use Rattle.engine_core.specs.PlaceLaws.{has_place-here}
 use Rattle.pattern_core.proofs.Roomy.{nothing_struck}
 

@@ -1,5 +1,5 @@
 -- The rules of lines are lawful, by the laws of fillings and the places of lines.
-use Rattle.std.proofs.lemmas.Bool.{cases_Bool, cases_lt, true≢false, true_from_ne_false, and_parts, and_from, eqb-true, eq-eqb, ltb-true, lt-ltb}
+use Rattle.std.proofs.lemmas.Bool.{cases_Bool, cases_lt, true≢false, true_from_ne_false, eqb-true, eq-eqb}
 use Rattle.std.proofs.lemmas.Grind.{common_steps}
 use Rattle.std.proofs.Common.{◌≡◌, ℕ, zero, suc, ◌+◌, ◌-◌, ◌*◌, ◌/◌, ◌%◌, ◌<◌, ◌≤◌, true, not, ◌&&◌, eqb, List, slice_index, refl, sym, ap, ◌∙◌, arith, inl, inr, ◌⊎◌}
 use Rattle.std.specs.Cmp.Lexicographic.{same_text, other_text}
@@ -7,7 +7,7 @@ use Rattle.std.proofs.lemmas.Nat.{mod-mul-add, div-mul-add}
 use Rattle.std.proofs.lemmas.List.FromFn.{length-map-range_with_len}
 use Rattle.std.proofs.Math.Nat.{mul-le-mul_right}
 use Rattle.grid_core.specs.Extent.{Extent, IsExtent}
-use Rattle.grid_core.specs.Candidates.{IsInside, all_of, single, sum_below, count_below}
+use Rattle.grid_core.specs.Candidates.{sum_below, count_below}
 use Rattle.grid_core.specs.Grids.{IsGrid}
 use Rattle.grid_core.proofs.CandidateLemmas.{all_below-at, all_below-from, count_below-few, count_below-or}
 use Rattle.grid_core.proofs.GridLemmas.{single-all, all-within}

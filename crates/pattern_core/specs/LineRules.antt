@@ -1,5 +1,5 @@
 -- What the rules of Pattern mean to a search: each line is a house.
-use Rattle.std.specs.Prelude.{◌≡◌, ℕ, ◌+◌, ◌*◌, ◌==◌, Bool, true, List}
+use Rattle.std.specs.Prelude.{ℕ, ◌+◌, ◌*◌, Bool, true, List}
 use Rattle.grid_core.specs.Extent.{IsExtent}
 use Rattle.grid_core.specs.Candidates.{all_below, all_of}
 use Rattle.grid_core.specs.Lines.{lines_of, line_places, line_numbers}
