@@ -13,7 +13,7 @@ abbrev wakes : RuleSystem → ℕ → Candidates → (ℕ → Bool) → ℕ → 
 wakes p h K waits = woken p h (counts_of p h K) (after p h K) (but waits h)
 
 woken_is : {p : RuleSystem} {h : ℕ} {K : Candidates} {waits : ℕ → Bool} → IsWoken p h K (after p h K) waits (wakes p h K waits)
-woken_is = grind (arith, common_steps)
+woken_is = record { marks = λ j lt. refl }
 
 all_rested : (p : RuleSystem) (K : Candidates) → IsRested p K (λ h. true)
 all_rested p K = λ h c v lt off on. absurd (true≢false off)

@@ -84,7 +84,8 @@ its_houses : (cells place j : ℕ) → j < cells - 1
 its_houses cells place j lt =
     grind (arith, common_steps, cases_Bool, cases_lt, eq-eqb, eqb-true, ltb-true, lt-ltb, ne_eqb, pair-cases, pair-first, pair-second, pair-out)
 
-pub woken-beside : {p : RuleSystem} {K : Candidates} (cells place : ℕ) {before : ℕ → Bool} (now : ℕ → Bool) {after : ℕ → Bool} → p.houses ≡ cells - 1
+pub woken-beside : {p : RuleSystem} (cells place : ℕ) {before : ℕ → Bool} (now : ℕ → Bool) {after : ℕ → Bool} → p.houses ≡ cells - 1
     → ((j : ℕ) → now j ≡ (before j || (ltb 0 place && eqb j (place - 1)))) → ((j : ℕ) → after j ≡ (now j || (ltb (place + 1) cells && eqb j place)))
-    → AreWoken p K (λ j. has_place (j ∷ (j + 1) ∷ []) place) before after
-woken-beside cells place now few one two = grind (arith, common_steps, its_houses cells place)
+    → AreWoken p (λ j. has_place (j ∷ (j + 1) ∷ []) place) before after
+woken-beside cells place now few one two =
+    record { marks = λ j lt. grind (arith, common_steps, one j, two j, its_houses cells place j) }

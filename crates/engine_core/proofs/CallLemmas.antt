@@ -1,84 +1,69 @@
 -- Which houses wait after others were called for.
-use Rattle.engine_core.proofs.Common.{AreWoken, Bool, Candidates, IsBitsOf, IsIdle, IsInside, IsNext, IsWoken, None, RuleSystem, Some, and_from, and_left, and_right, any_below, arith, but, called_for, calls, cases_eq, cases_lt, common_steps, count_below, counts_of, empties, eq-eqb, eqb, eqb-true, false, has_place, le-ltb, lt-ltb, ltb, ne_eqb, not, not_from_false, not_from_true, or_left, or_right, refl, slice_index, true, woken, ℕ, ◌&&◌, ◌+◌, ◌<◌, ◌||◌, ◌≡◌, ◌≤◌}
+use Rattle.engine_core.proofs.Common.{AreWoken, Bool, Candidates, IsBitsOf, IsInside, IsNext, IsWoken, None, RuleSystem, Some, and_from, and_left, and_right, any_below, arith, but, called_for, calls, cases_eq, cases_lt, common_steps, count_below, counts_of, empties, eq-eqb, eqb, false, has_place, le-ltb, lt-ltb, ltb, ne_eqb, not, not_from_false, not_from_true, or_right, refl, slice_index, true, woken, ℕ, ◌&&◌, ◌+◌, ◌<◌, ◌||◌, ◌≡◌, ◌≤◌}
 use Rattle.engine_core.proofs.IndexLemmas.{counted}
-use Rattle.engine_core.proofs.QueueLemmas.{any_below-more, empties_else, empties_then, woken-none}
+use Rattle.engine_core.proofs.QueueLemmas.{any_below-more, empties_else, empties_then, unwoken, woken-none}
 use Rattle.engine_core.proofs.SetLemmas.{bits-empty, counts-differ, counts-same}
 
 -- where no house is called for, nothing changes
-pub woken-by_none : {p : RuleSystem} {K : Candidates} {called waits : ℕ → Bool} → ((j : ℕ) → j < p.houses → called j ≡ false) → AreWoken p K called waits waits
-woken-by_none none = grind (arith, common_steps)
+pub woken-by_none : {p : RuleSystem} {called waits : ℕ → Bool} → ((j : ℕ) → j < p.houses → called j ≡ false) → AreWoken p called waits waits
+woken-by_none none = record { marks = λ j lt. rw (none j lt) unwoken }
 
-pub woken-same : (p : RuleSystem) (K : Candidates) (called called' before now : ℕ → Bool)
-    → ((j : ℕ) → j < p.houses → called j ≡ called' j) → AreWoken p K called before now
-    → AreWoken p K called' before now
-woken-same p K called called' before now same a = grind (arith, common_steps)
+pub woken-same : {p : RuleSystem} {called called' before now : ℕ → Bool} → ((j : ℕ) → j < p.houses → called j ≡ called' j) → AreWoken p called before now
+    → AreWoken p called' before now
+woken-same same a = record { marks = λ j lt. rw (same j lt) at (a.marks j lt) }
 
 -- first some are called for, and then others
-pub woken-more : (p : RuleSystem) (K : Candidates) (first more before now after : ℕ → Bool) → AreWoken p K first before now → AreWoken p K more now after
-    → AreWoken p K (λ j. first j || more j) before after
-woken-more p K first more before now after a b = grind (arith, common_steps)
+pub woken-more : {p : RuleSystem} {first more before now after : ℕ → Bool} → AreWoken p first before now → AreWoken p more now after
+    → AreWoken p (λ j. first j || more j) before after
+woken-more a b = record { marks = λ j lt. grind (arith, common_steps, a.marks j lt, b.marks j lt) }
 
 -- ---- the houses that pass a test, by their number among these
 -- those before the number k
 abbrev pub asked_upto : (ℕ → Bool) → ℕ → ℕ → Bool
 asked_upto test k j = test j && ltb (count_below test j) k
 
-pub upto-first : (p : RuleSystem) (K : Candidates) (test waits : ℕ → Bool) → AreWoken p K (asked_upto test 0) waits waits
-upto-first p K test waits = woken-by_none (λ j lt. and_right (test j) _ (le-ltb (count_below test j) 0 (omega arith)))
+pub upto-first : (p : RuleSystem) (test waits : ℕ → Bool) → AreWoken p (asked_upto test 0) waits waits
+upto-first p test waits = woken-by_none (λ j lt. and_right (test j) _ (le-ltb (count_below test j) 0 (omega arith)))
 
 upto-next : (test : ℕ → Bool) (n k j : ℕ) → test n ≡ true → count_below test n ≡ k → (asked_upto test k j || eqb j n) ≡ asked_upto test (k + 1) j
 upto-next test n k j on number = grind (arith, common_steps, and_from, and_left, cases_eq, cases_lt, counted, eq-eqb, le-ltb, lt-ltb, ne_eqb, or_right)
 
 -- the next one is marked
-pub upto-marked : {p : RuleSystem} {K : Candidates} (test : ℕ → Bool) {before : ℕ → Bool}
-    {now after : ℕ → Bool} (n k : ℕ) → test n ≡ true → count_below test n ≡ k
-    → ((j : ℕ) → after j ≡ (now j || eqb j n))
-    → AreWoken p K (asked_upto test k) before now → AreWoken p K (asked_upto test (k + 1)) before after
-upto-marked test n k on number marks a = grind (arith, common_steps, woken-more, woken-same, or_left, or_right, upto-next)
+pub upto-marked : {p : RuleSystem} (test : ℕ → Bool) {before now after : ℕ → Bool} (n k : ℕ)
+    → test n ≡ true → count_below test n ≡ k → ((j : ℕ) → after j ≡ (now j || eqb j n))
+    → AreWoken p (asked_upto test k) before now → AreWoken p (asked_upto test (k + 1)) before after
+upto-marked test n k on number marks a =
+    woken-same (λ j lt. upto-next test n k j on number) (woken-more a (record { marks = λ j lt. marks j }))
 
--- or it strikes nothing
-pub upto-idle : (p : RuleSystem) (K : Candidates) (test before now : ℕ → Bool) (n k : ℕ) → test n ≡ true → count_below test n ≡ k → IsIdle p n K
-    → AreWoken p K (asked_upto test k) before now → AreWoken p K (asked_upto test (k + 1)) before now
-upto-idle p K test before now n k on number idle a =
-    woken-same p K _ _ before now (λ j lt. upto-next test n k j on number)
-    (woken-more p K (asked_upto test k) _ before now now a (grind (arith, common_steps, eqb-true)))
-
--- one or the other
-pub upto-asked : (p : RuleSystem) (K : Candidates) (test : ℕ → Bool) {before now after : ℕ → Bool}
-    (n k : ℕ) (called : Bool) → test n ≡ true → count_below test n ≡ k
-    → (called ≡ false → IsIdle p n K)
-    → ((j : ℕ) → after j ≡ (now j || (called && eqb j n))) → AreWoken p K (asked_upto test k) before now → AreWoken p K (asked_upto test (k + 1)) before after
-upto-asked p K test {now} n k true on number idle marks a = upto-marked test n k on number marks a
-upto-asked p K test {before} {after} n k false on number idle marks a = upto-idle p K test before after n k on number (idle refl) (grind (arith, common_steps))
-
-pub upto-all : {p : RuleSystem} {K : Candidates} {test before now : ℕ → Bool} (k : ℕ)
-    → count_below test p.houses ≤ k → AreWoken p K (asked_upto test k) before now
-    → AreWoken p K test before now
-upto-all k le a = grind (arith, common_steps, and_from, and_left, woken-same, counted, lt-ltb)
+pub upto-all : {p : RuleSystem} {test before now : ℕ → Bool} (k : ℕ)
+    → count_below test p.houses ≤ k → AreWoken p (asked_upto test k) before now → AreWoken p test before now
+upto-all k le a = woken-same (λ j lt. grind (arith, common_steps, and_from, and_left, counted, lt-ltb)) a
 
 -- ---- the cells of a house one after another
 pub woken-first : {p : RuleSystem} (h : ℕ) (K K' : Candidates) {waits : ℕ → Bool}
-    → AreWoken p K' (λ j. any_below (calls p h (counts_of p h K) K' j) 0) waits waits
+    → AreWoken p (λ j. any_below (calls p h (counts_of p h K) K' j) 0) waits waits
 unfolding any_below
 woken-first h K K' = woken-by_none (λ j lt. refl)
 
 pub woken-then : (p : RuleSystem) (h : ℕ) (K K' : Candidates) (k place : ℕ) (before now after : ℕ → Bool) → place ≡ slice_index (p.scope h) k
     → (count_below (K (slice_index (p.scope h) k)) p.values ≡ count_below (K' (slice_index (p.scope h) k)) p.values → ⊥)
-    → AreWoken p K' (λ j. any_below (calls p h (counts_of p h K) K' j) k) before now → AreWoken p K' (λ j. has_place (p.scope j) place) now after
-    → AreWoken p K' (λ j. any_below (calls p h (counts_of p h K) K' j) (k + 1)) before after
+    → AreWoken p (λ j. any_below (calls p h (counts_of p h K) K' j) k) before now → AreWoken p (λ j. has_place (p.scope j) place) now after
+    → AreWoken p (λ j. any_below (calls p h (counts_of p h K) K' j) (k + 1)) before after
 unfolding counts_of
-woken-then p h K K' k place before now after at ne a b = grind (arith, common_steps, any_below-more, woken-more, woken-same, ne_eqb, not_from_false)
+woken-then p h K K' k place before now after at ne a b =
+    woken-same (λ j lt. grind (arith, common_steps, any_below-more, ne_eqb, not_from_false)) (woken-more a b)
 
 pub woken-else : {p : RuleSystem} (h : ℕ) (K K' : Candidates) (k : ℕ) {before now : ℕ → Bool}
     → count_below (K (slice_index (p.scope h) k)) p.values ≡ count_below (K' (slice_index (p.scope h) k)) p.values
-    → AreWoken p K' (λ j. any_below (calls p h (counts_of p h K) K' j) k) before now
-    → AreWoken p K' (λ j. any_below (calls p h (counts_of p h K) K' j) (k + 1)) before now
+    → AreWoken p (λ j. any_below (calls p h (counts_of p h K) K' j) k) before now
+    → AreWoken p (λ j. any_below (calls p h (counts_of p h K) K' j) (k + 1)) before now
 unfolding counts_of
-woken-else h K K' k same a = grind (arith, common_steps, and_left, any_below-more, woken-same, eq-eqb, not_from_true)
+woken-else h K K' k same a =
+    woken-same (λ j lt. grind (arith, common_steps, and_left, any_below-more, eq-eqb, not_from_true, unwoken)) a
 
 -- ---- the marks after a visit: of the house, then those of houses that were called for, then its own where visits settle
 pub woken-by : {p : RuleSystem} {h : ℕ} {K K' : Candidates} {waits cleared now left : ℕ → Bool} → ((j : ℕ) → cleared j ≡ but waits h j)
-    → AreWoken p K' (called_for p h K K') cleared now → ((j : ℕ) → left j ≡ (now j && not (p.visits_settle && eqb j h))) → IsWoken p h K K' waits left
+    → AreWoken p (called_for p h K K') cleared now → ((j : ℕ) → left j ≡ (now j && not (p.visits_settle && eqb j h))) → IsWoken p h K K' waits left
 unfolding woken but
 woken-by clears a settles = grind (arith, common_steps)
 
@@ -87,40 +72,29 @@ pub woken-unstruck : {p : RuleSystem} {h : ℕ} {K K' : Candidates} {waits left 
     → ((j : ℕ) → left j ≡ but waits h j) → IsWoken p h K K' waits left
 woken-unstruck same clears = grind (arith, common_steps, woken-none)
 
--- where no house waited before
-pub woken-from : {p : RuleSystem} {K : Candidates} {called called' before now : ℕ → Bool}
-    → ((j : ℕ) → j < p.houses → before j ≡ false) → ((j : ℕ) → j < p.houses → called j ≡ called' j)
-    → AreWoken p K called before now
-    → AreWoken p K called' (λ j. false) now
-woken-from none same a = grind (arith, common_steps)
-
 -- ---- the houses that pass a test, up to a number
-pub before-first : {p : RuleSystem} {K : Candidates} (test : ℕ → Bool) {waits : ℕ → Bool} → AreWoken p K (λ j. test j && ltb j 0) waits waits
+pub before-first : {p : RuleSystem} (test : ℕ → Bool) {waits : ℕ → Bool} → AreWoken p (λ j. test j && ltb j 0) waits waits
 before-first test = woken-by_none (λ j lt. and_right (test j) _ (le-ltb j 0 (omega arith)))
 
 -- the next one is marked
-pub before-marked : {p : RuleSystem} (K : Candidates) (test : ℕ → Bool) {before now after : ℕ → Bool}
-    (from n : ℕ) → IsNext test p.houses from (Some n) → ((j : ℕ) → after j ≡ (now j || eqb j n))
-    → AreWoken p K (λ j. test j && ltb j from) before now → AreWoken p K (λ j. test j && ltb j (n + 1)) before after
-before-marked {p} K test {before} {now} {after} from n next marks a =
-    woken-same p K _ _ before after (λ j lt. one (test j) j lt)
-    (woken-more p K (λ j. test j && ltb j from) _ before now after a
-    (grind (arith, common_steps, or_left, or_right)))
+pub before-marked : {p : RuleSystem} (test : ℕ → Bool) {before now after : ℕ → Bool} (from n : ℕ)
+    → IsNext test p.houses from (Some n) → ((j : ℕ) → after j ≡ (now j || eqb j n))
+    → AreWoken p (λ j. test j && ltb j from) before now → AreWoken p (λ j. test j && ltb j (n + 1)) before after
+before-marked {p} test from n next marks a =
+    woken-same (λ j lt. one (test j) j lt) (woken-more a (record { marks = λ j lt. marks j }))
   where
     one : (on : Bool) (j : ℕ) → j < p.houses → ((test j && ltb j from) || eqb j n) ≡ (test j && ltb j (n + 1))
     one on j lt = grind (arith, common_steps, and_from, and_left, and_right, cases_eq, cases_lt, eq-eqb, le-ltb, lt-ltb, ne_eqb, next.3 j)
 
 -- and none is left
-pub before-all : {p : RuleSystem} (K : Candidates) {test before now : ℕ → Bool} (from : ℕ)
-    → IsNext test p.houses from None → AreWoken p K (λ j. test j && ltb j from) before now
-    → AreWoken p K test before now
-before-all {p} K {before} {now} from next a =
-    woken-same p K _ _ before now
-    (λ j lt. grind (arith, common_steps, and_from, and_left, cases_lt, lt-ltb, next j)) a
+pub before-all : {p : RuleSystem} {test before now : ℕ → Bool} (from : ℕ)
+    → IsNext test p.houses from None → AreWoken p (λ j. test j && ltb j from) before now → AreWoken p test before now
+before-all from next a =
+    woken-same (λ j lt. grind (arith, common_steps, and_from, and_left, cases_lt, lt-ltb, next j)) a
 
 -- ---- the cells of a house one after another, by their sets before and now
 pub record IsMarking (p : RuleSystem) (h : ℕ) (K K' : Candidates) (k : ℕ) (before now : ℕ → Bool) (dead : Bool) : Type 0 where
-  pub woken : AreWoken p K' (λ j. any_below (calls p h (counts_of p h K) K' j) k) before now
+  pub woken : AreWoken p (λ j. any_below (calls p h (counts_of p h K) K' j) k) before now
   pub dead_is : dead ≡ any_below (empties p h (counts_of p h K) K') k
 
 pub marking-first : {p : RuleSystem} {h : ℕ} (K K' : Candidates) {waits : ℕ → Bool} → IsMarking p h K K' 0 waits waits false
@@ -136,7 +110,7 @@ module _ {p : RuleSystem} {h : ℕ} {K K' : Candidates} {k place set bits : ℕ}
 
   -- a cell with another set calls for its houses
   pub marking-then : {after : ℕ → Bool} {dead' : Bool} → (bits ≡ set → ⊥)
-      → AreWoken p K' (λ j. has_place (p.scope j) place) now after → dead' ≡ (dead || eqb bits 0)
+      → AreWoken p (λ j. has_place (p.scope j) place) now after → dead' ≡ (dead || eqb bits 0)
       → IsMarking p h K K' (k + 1) before after dead'
   unfolding counts_of
   marking-then {after} ne a e =

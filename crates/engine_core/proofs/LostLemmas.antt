@@ -90,9 +90,6 @@ pub since-more : (asks : ℕ → Bool) (from n : ℕ) → from ≤ n
     (n + 1) ≡ (any_below (λ m. nat_le from m && asks m) n || asks n)
 since-more asks from n le = grind (arith, common_steps, any_below-more, le-leb)
 
-pub since-woken : (p : RuleSystem) (t : Trail) {K : Candidates} {from n : ℕ}
-    {before now after : ℕ → Bool} → from ≤ n → AreWoken p K (is_since p t from n) before now
-    → AreWoken p K (λ j. has_place (p.scope j) (change_at t.changes n).0) now after → AreWoken p K (is_since p t from (n + 1)) before after
-since-woken p t {K} {from} {n} {before} {now} {after} le first next =
-    woken-same p K _ _ before after (λ j lt. sym (since-more _ from n le))
-    (woken-more p K (is_since p t from n) _ before now after first next)
+pub since-woken : (p : RuleSystem) (t : Trail) {from n : ℕ} {before now after : ℕ → Bool} → from ≤ n → AreWoken p (is_since p t from n) before now
+    → AreWoken p (λ j. has_place (p.scope j) (change_at t.changes n).0) now after → AreWoken p (is_since p t from (n + 1)) before after
+since-woken p t {from} {n} le first next = woken-same (λ j lt. sym (since-more _ from n le)) (woken-more first next)

@@ -1,4 +1,4 @@
-use Rattle.engine_core.proofs.Common.{AreWoken, Bool, Candidates, IsBoardOf, IsClosed, IsClosedBut, IsInsideAt, IsLawful, IsRested, IsWithin, IsWoken, Layout, List, Option, RuleSystem, SameShape, Some, [], add-one, after, and_from, and_left, and_parts, any_below, any_below-here, any_below-none, any_below-some, arith, but, called_for, cases_Bool, cases_eq, cells_of, common_steps, count_below, count_below-any, count_below-bound, count_below-kept, count_below-le, count_below-lt, count_below-none, count_below-pos, counts_of, empties, eq-eqb, eqb, eqb-true, false, false_from_ne_true, has, has_place, has_place-at, has_place-here, inl, inr, is_dead, is_dead-each, is_dead-here, is_dead-inside, is_dead-not, length, mul-le-mul_right, ne_eqb, not, not-true, not_from_false, not_from_true, only, only-here, only-inside, only-other, or_cases, or_left, or_right, refl, set, share, slice_index, sum_below-add, sum_below-le, sym, take, take-suc-set, true, true≢false, visits_left, waits_from, woken, ℕ, ◌&&◌, ◌*◌, ◌++◌, ◌+◌, ◌-◌, ◌<◌, ◌||◌, ◌∙◌, ◌∷◌, ◌≡◌, ◌≤◌}
+use Rattle.engine_core.proofs.Common.{AreWoken, Bool, Candidates, IsBoardOf, IsClosed, IsClosedAround, IsClosedBut, IsIdle, IsInsideAt, IsLawful, IsRested, IsWithin, IsWoken, Layout, List, RuleSystem, SameShape, Some, [], add-one, after, and_from, and_left, and_parts, any_below, any_below-here, any_below-none, any_below-some, arith, but, called_for, cases_Bool, cases_eq, cells_of, common_steps, count_below, count_below-any, count_below-bound, count_below-kept, count_below-le, count_below-lt, count_below-none, count_below-pos, counts_of, empties, eq-eqb, eqb, eqb-true, false, false_from_ne_true, has, has_place, has_place-at, has_place-here, inl, inr, is_dead, is_dead-each, is_dead-here, is_dead-inside, is_dead-not, length, mul-le-mul_right, ne_eqb, not, not-true, not_from_false, not_from_true, only, only-here, only-inside, only-other, or_cases, or_left, or_right, refl, set, share, slice_index, sum_below-add, sum_below-le, sym, take, take-suc-set, true, true≢false, visits_left, woken, ℕ, ◌&&◌, ◌*◌, ◌++◌, ◌+◌, ◌-◌, ◌<◌, ◌||◌, ◌∙◌, ◌∷◌, ◌≡◌, ◌≤◌}
 use Rattle.engine_core.proofs.ClosingLemmas.{after_inside}
 pub use Rattle.engine_core.specs.PositionLaws.{within_of}
 
@@ -37,12 +37,15 @@ rested_after p laws h K waits lth within rested = λ j c v ltj asleep on.
     laws.strikes_inside j K (after p h K) ltj (still_rested p laws h j K lth ltj within quiet) c v in
     grind (arith, common_steps, eqb-true, not_struck p h K c v on, within c v, after_inside p h K c v on, rested j c v ltj, settles, still)
 
--- where the houses that a closing begins with were called for, each other one strikes nothing
-pub rested_from : {p : RuleSystem} {K : Candidates} (from : Option ℕ) {waits : ℕ → Bool}
-    → IsClosedBut p K from → AreWoken p K (waits_from p from) (λ j. false) waits
-    → IsRested p K waits
-unfolding waits_from
-rested_from from e h = grind (arith, common_steps)
+-- the houses that a closing begins with: at the start those that strike something, and else those that have the place
+pub rested_start : (p : RuleSystem) (K : Candidates) {waits : ℕ → Bool} → ((j : ℕ) → j < p.houses → waits j ≡ false → IsIdle p j p.start)
+    → K ≡ p.start → IsRested p K waits
+rested_start p K idle e = rw e (λ h c v lt asleep on. idle h lt asleep c v on)
+
+pub rested_around : {p : RuleSystem} {K : Candidates} (place : ℕ) {none waits : ℕ → Bool} → ((j : ℕ) → j < p.houses → none j ≡ false)
+    → AreWoken p (λ j. has_place (p.scope j) place) none waits → IsClosedAround p K place → IsRested p K waits
+rested_around place none woken around = λ h c v lt asleep on.
+    around.closed h c v lt (rw (none h lt) at (sym (woken.marks h lt) ∙ asleep)) on
 
 -- a closed board whose cell lost all values but one is closed around it
 pub closed-but_only : (p : RuleSystem) (laws : IsLawful p) (K : Candidates) (cell v : ℕ)
@@ -179,7 +182,7 @@ pub turn_enough : (p : RuleSystem) (laws : IsLawful p) (h : ℕ) (K K' : Candida
     → is_dead p.cells p.values K' ≡ false → visits_left p K' waits' + (visits + 1) ≤ p.bound
 turn_enough p laws h K K' {waits} {waits'} visits lth waiting e woke enough alive =
     let pays = visit_pays p laws h K waits lth waiting (rw e at alive) in
-    let less = visits_left-fewer p K' waits' (woken p h (counts_of p h K) K' (but waits h)) woke.fewer in grind (arith, common_steps)
+    let less = visits_left-fewer p K' waits' (woken p h (counts_of p h K) K' (but waits h)) (λ j lt on. sym (woke.marks j lt) ∙ on) in grind (arith, common_steps)
 
 pub turn_rested : {p : RuleSystem} (laws : IsLawful p) {h : ℕ} {K K' : Candidates}
     {waits waits' : ℕ → Bool} → h < p.houses → IsWithin p.cells p.values K → K' ≡ after p h K

@@ -16,7 +16,6 @@ pub mod HouseList
 pub mod HouseIndex
 pub mod ListedHouses
 pub mod ListedLaws
-pub mod Counting
 pub mod Waiting
 pub mod Queue
 pub mod Walk

@@ -9,12 +9,11 @@ use Rattle.engine_core.specs.Queue.{IsRested, IsWoken}
 use Rattle.engine_core.specs.Trail.{Trail, IsFurther, back_at}
 use Rattle.engine_core.specs.Waiting.{words_of, is_waiting}
 
--- what the memory was taken for, the board with its trail, what the rules count of it, which houses wait, and the mark of
--- each level: so many levels have one
-pub record Placed (C : Type 0) : Type 0 where
+-- what the memory was taken for, the board with its trail, which houses wait, and the mark of each level: so many levels
+-- have one
+pub record Placed : Type 0 where
   pub made : Needs
   pub trail : Trail
-  pub counts : C
   pub waits : List ℕ
   pub marks : List ℕ
   pub marked : ℕ
@@ -30,31 +29,29 @@ pub record IsPlaced (made : Needs) (board : Layout) (sets kept waits marks : Lis
   pub marks_long : length marks ≡ made.cells
   pub few_turns : made.bound < 18446744073709551616
 
-abbrev pub board_in : {C : Type 0} → Placed C → Candidates
+abbrev pub board_in : Placed → Candidates
 board_in s = has s.trail.board
 
--- the memory is enough for the rules, the board is one of theirs, and what they count of it is so
-pub record IsAlong {C : Type 0} (p : RuleSystem) (counted : C → Candidates → Type 0)
-    (s : Placed C) : Type 0 where
+-- the memory is enough for the rules, and the board is one of theirs
+pub record IsAlong (p : RuleSystem) (s : Placed) : Type 0 where
   pub fits : FitsIn (needs_of p) s.made
   pub board_of : IsBoardOf p s.trail.board
-  pub follows : counted s.counts (has s.trail.board)
 
 -- ---- which houses wait
 -- a house that does not wait strikes nothing
-abbrev pub AreRested : {C : Type 0} → RuleSystem → Placed C → Type 0
+abbrev pub AreRested : RuleSystem → Placed → Type 0
 AreRested p s = IsRested p (board_in s) (is_waiting s.waits)
 
 -- ---- from one place to a later one
 -- values were struck and noted: the marks are the same, and give back the same
-pub record GoesOn {C : Type 0} (from to : Placed C) : Type 0 where
+pub record GoesOn (from to : Placed) : Type 0 where
   pub made : to.made ≡ from.made
   pub marks : to.marks ≡ from.marks
   pub marked : to.marked ≡ from.marked
   pub further : IsFurther from.trail to.trail
 
 -- a visit of h that leaves each cell a value was made, and its houses wait; or it would leave a cell without one
-abbrev pub IsStep : {C : Type 0} → RuleSystem → ℕ → Placed C → Placed C → Bool → Type 0
+abbrev pub IsStep : RuleSystem → ℕ → Placed → Placed → Bool → Type 0
 IsStep p h from to true = IsDead p (after p h (board_in from))
 IsStep p h from to false =
     (board_in to ≡ after p h (board_in from)) × IsAlive p (board_in to)
@@ -69,7 +66,7 @@ abbrev pub standing_by : Trail → List ℕ → ℕ → Standing
 standing_by t marks live =
     record { board = has t.board; back = λ level. back_at t (mark_at marks level); marks = live }
 
-abbrev pub standing_of : {C : Type 0} → Placed C → Standing
+abbrev pub standing_of : Placed → Standing
 standing_of s = standing_by s.trail s.marks s.marked
 
 -- the first so many marks ascend along the trail
@@ -78,8 +75,7 @@ pub record AreMarks (marks : List ℕ) (live len : ℕ) : Type 0 where
   pub ascend : (j k : ℕ) → j ≤ k → k < live → mark_at marks j ≤ mark_at marks k
 
 -- a walk is under way
-pub record IsUnderWay {C : Type 0} (p : RuleSystem) (counted : C → Candidates → Type 0)
-    (s : Placed C) : Type 0 where
-  pub along : IsAlong p counted s
+pub record IsUnderWay (p : RuleSystem) (s : Placed) : Type 0 where
+  pub along : IsAlong p s
   pub few : s.marked ≤ p.cells
   pub marked : AreMarks s.marks s.marked s.trail.len

@@ -1,33 +1,31 @@
 //! Rules made of listed houses: what they do along the lists, for whatever game.
 #![tactic(auto, using(crate::proofs::LawSets::house_rules_laws))]
 
-ghost use Rattle.std.specs.Prelude.{◌≡◌, ◌<◌, ◌≤◌, IfOk, length, true, false, refl};
+ghost use Rattle.std.specs.Prelude.{◌≡◌, ◌<◌, ◌≤◌, IfOk, length, true, false};
 ghost use Rattle.grid_core.specs.Board.{has, SameShape};
 ghost use Rattle.engine_core.specs.Closing.{HasStruck};
 ghost use Rattle.engine_core.specs.RuleSystem.{IsBoardOf, after, needs_of};
 ghost use Rattle.engine_core.specs.Trail.{StillServes};
 ghost use Rattle.engine_core.specs.ListedHouses.{table_of};
 
-use crate::counting::{Counting, Uncounted};
 use crate::houses::table::HouseTable;
 use crate::houses::visit::{apply, gather};
 use crate::mode::Mode;
 use crate::rule_set::RuleSet;
 use crate::rules::Rules;
-use crate::searchable::PositionFor;
-use crate::trail::position::TrailPosition;
+use crate::searchable::OnTrail;
 use crate::trail::propagators::Propagators;
-use crate::waits::enqueue_if;
+use crate::waits::enqueue;
 use grid_core::{Board, Grid};
 use std::alloc::{AllocError, Global};
 use std::marker::PhantomData;
 
-/// The rules of a puzzle, with the table of its houses.
+/// The rules of a puzzle, with the table of its houses. The second type names what a search of them stands on.
 #[derive(Drop)]
-pub struct HouseRules<S: RuleSet, C = Uncounted> {
+pub struct HouseRules<S: RuleSet, C = OnTrail> {
     set: S,
     table: HouseTable,
-    counted: PhantomData<C>,
+    stands_on: PhantomData<C>,
     ghost listed: { table ≡ table_of (S.system (S.puzzle_of set)) (S.scopes (S.puzzle_of set)) },
 }
 
@@ -52,7 +50,7 @@ impl<S: RuleSet, C> HouseRules<S, C> {
         Ok(HouseRules {
             set,
             table,
-            counted: PhantomData,
+            stands_on: PhantomData,
         })
     }
 
@@ -184,18 +182,8 @@ impl<S: RuleSet, C> Rules for HouseRules<S, C> {
     }
 }
 
-impl<S: RuleSet, C: Counting<S>> Propagators for HouseRules<S, C> {
-    type Counts = C;
-
-    ghost counts_serve = { C.serves };
-
-    ghost follows = { λ r. C.follows r.set };
-
-    ghost counts_smaller = { C.serves_smaller };
-
-    fn counts(&self, alloc: Global) -> Result<C, AllocError> {
-        C::new(alloc, &self.set, &self.table)
-    }
+impl<S: RuleSet, C> Propagators for HouseRules<S, C> {
+    type Noted = ();
 
     fn read(&self, house: usize, board: &Board, sets: &mut [u32]) {
         gather(board, self.table.places(house), sets);
@@ -211,29 +199,10 @@ impl<S: RuleSet, C: Counting<S>> Propagators for HouseRules<S, C> {
         self.set.filter(house, sets, kept, &mut scratch.work)
     }
 
-    fn watch(&self, board: &Board, counts: &mut C) {
-        counts.watch(&self.set, &self.table, board);
-    }
-
-    fn change(&self, place: usize, before: u32, after: u32, counts: &mut C) {
-        counts.change(&self.set, &self.table, place, before, after);
-    }
-
-    fn may_strike(&self, house: usize, counts: &C) -> bool {
-        counts.may_strike(&self.set, house)
-    }
-
-    fn wake(&self, place: usize, counts: &C, waits: &mut [u64]) {
+    fn wake(&self, place: usize, waits: &mut [u64]) {
         let houses = self.table.houses_at(place);
         for k in 0..houses.len() {
-            let house = houses[k] as usize;
-            enqueue_if(waits, house, counts.may_strike(&self.set, house));
+            enqueue(waits, houses[k] as usize);
         }
     }
-}
-
-impl<S: RuleSet> PositionFor<HouseRules<S, Uncounted>> for Uncounted {
-    type Position = TrailPosition<HouseRules<S, Uncounted>>;
-
-    ghost position_of = { λ _. refl };
 }

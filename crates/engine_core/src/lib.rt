@@ -2,7 +2,6 @@
 #![tactic(auto)]
 
 mod closing;
-mod counting;
 mod house_rules;
 mod houses;
 pub mod laws;
@@ -16,7 +15,6 @@ mod store;
 mod trail;
 mod waits;
 
-pub use counting::{Counting, Uncounted};
 pub use house_rules::{HouseRules, HouseScratch};
 pub use houses::list::HouseList;
 pub use houses::table::HouseTable;
@@ -28,7 +26,7 @@ pub use rules::Rules;
 pub use search::position::{Position, Taken};
 pub use search::trials::trials_made_are_the_first;
 pub use search::walk::Verdict;
-pub use searchable::{PositionFor, Searchable};
+pub use searchable::{OnTrail, PositionFor, Searchable};
 pub use store::{Sizes, Store};
 pub use trail::position::TrailPosition;
 pub use trail::propagators::Propagators;

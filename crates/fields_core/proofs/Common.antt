@@ -69,7 +69,7 @@ pub use Rattle.fields_core.specs.LightRuns.{AreColumnsListed, AreRowsListed, Are
 pub use Rattle.fields_core.specs.Parts.{ArePieces, IsAlive, IsBroken, IsCount, IsCounted, IsHouseOf, Piece, piece_at}
 unfoldable pub use Rattle.fields_core.specs.Parts.{lies_in, lies_in_first, without_value}
 pub use Rattle.fields_core.specs.Runs.{RunsOn, SeesAlong, Shines, ShinesAlong}
-pub use Rattle.fields_core.specs.Tallies.{AreTallied, CanMove, IsTally, has_strikes, kept_of, lacks_filling, moved_tally, open_tally, stays, tally_at}
+pub use Rattle.fields_core.specs.Tallies.{IsTally, has_strikes, kept_of, lacks_filling, stays}
 pub use Rattle.fields_core.specs.Tallies.{tally_of, tally_of_one}
 pub use Rattle.fields_core.specs.TentFaults.{FailsTents, IsTentFault, tent_tests}
 pub use Rattle.fields_core.specs.TentHouses.{column_of_tents, free_beside, row_of_tents, square_house, tent_rules, tree_house}

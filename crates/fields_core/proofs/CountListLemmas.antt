@@ -1,6 +1,5 @@
 -- Lists of count houses, as they are made.
 use Rattle.fields_core.proofs.Common.{AreHouses, AreListed, Bool, Bounds, CountHouse, CountList, Extent, FitsLists, FitsPlaces, IsAdded, IsBegun, List, [], add-one, append-nil, append_assoc, arith, bounds_of, common_steps, cond, count_house_of, false, filter, get_or, get_or-map, house_places, houses_below, length, length-append, length-map, map, map-append, no_count_house, places-at, refl, steps, suc, true, zero, ℕ, ◌++◌, ◌+◌, ◌<◌, ◌∷◌, ◌≡◌, ◌≤◌}
-use Rattle.fields_core.proofs.CountTallies.{AreCounted}
 use Rattle.fields_core.proofs.PlaceLists.{filter-few}
 use Rattle.fields_core.proofs.StepLaws.{steps-few}
 
@@ -61,10 +60,7 @@ pub four-added : {a b c d e : CountList} (f g h k : ℕ → List CountHouse) {i 
 four-added {a} {b} {c} {d} {e} f g h k {i} {j} {l} {m} {i'} {j'} {l'} {m'} none no_bounds p q r s
     same_i same_j same_l same_m = grind (arith, common_steps, append_assoc, map-append)
 
--- ---- a table of their cells, and their bounds
-pub counted-table : {cells : ℕ} {houses : List CountHouse} → AreHouses cells houses → AreCounted cells (map house_places houses) houses
-counted-table {houses} are = grind (arith, common_steps, length-map, places-at)
-
+-- ---- their bounds
 pub bounds-at : (houses : List CountHouse) {bounds : List Bounds} {h : ℕ} (d : Bounds)
     → bounds ≡ map bounds_of houses → h < length houses
     → get_or bounds h d ≡ bounds_of (count_house_of houses h)

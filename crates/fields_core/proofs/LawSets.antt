@@ -9,8 +9,6 @@ use Rattle.fields_core.proofs.LightSeen.{black-unseen, seen-in-column, seen-in-r
 use Rattle.fields_core.proofs.LightSight.{count-bulb, count-dark, count-edge, count-start, some-column}
 use Rattle.fields_core.proofs.RuleLemmas.{same-shape, start-all, start-blocked}
 use Rattle.fields_core.proofs.PositionSteps.{step-onward, step-walks}
-use Rattle.fields_core.proofs.TentPlanes.{high-fits, high-short, wide-fits, wide-short}
-use Rattle.fields_core.specs.TentNotesLaws.{long-less}
 use Rattle.fields_core.proofs.RunLemmas.{column-made, few-cells, row-made, run-long, run-white}
 use Rattle.fields_core.proofs.TentCounting.{tent-counting, tent-lawful}
 use Rattle.fields_core.proofs.TentLines.{line-all, line-more, line-skip, line-start}
@@ -56,8 +54,6 @@ pub ruleset tent_pairs_laws =
     (next-joined, listed-skip, listed-all, passed-start, passed-edge, passed-bare, passed-early, next-none, count-none, others-unpaired, listed-tents, count-is, whole-pairs, short-unpaired)
 
 pub ruleset tent_rules_laws = (tent-counting, tents-tell, barred-tree, barred-alone, tree-found, treeless-all)
-
-pub ruleset tent_planes_laws = (wide-short, high-short, long-less, wide-fits, high-fits)
 
 pub ruleset tent_touch_laws = (eq-eqb, ne_eqb)
 

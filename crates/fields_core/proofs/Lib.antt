@@ -4,7 +4,6 @@ pub mod PartCounts
 pub mod PartLemmas
 pub mod CountKept
 pub mod CountTallies
-pub mod CountWatch
 pub mod CountListLemmas
 pub mod LightLines
 pub mod HouseLists
@@ -55,5 +54,6 @@ pub mod LitRuns
 mod LightNotes
 pub mod PartIdle
 pub mod PlaneSweeps
+pub mod LightBoards
 mod LightRests
 mod LightSweeps

@@ -4,7 +4,7 @@ use Rattle.std.proofs.lemmas.Bool.{cases_Bool}
 use Rattle.std.proofs.lemmas.Grind.{common_steps}
 use Rattle.grid_core.specs.Candidates.{Candidates, IsWithin, count_below, is_dead, max_cells, total}
 use Rattle.grid_core.specs.Planes.{Layers, cells_of, has, IsFurther}
-use Rattle.grid_core.proofs.CandidateLemmas.{count_below-pos, is_dead-each, is_dead-here, within_inside}
+use Rattle.grid_core.proofs.CandidateLemmas.{count_below-pos, is_dead-each, is_dead-here, is_dead-not, within_inside}
 use Rattle.grid_core.proofs.PlaneLemmas.{further-more, further-none}
 use Rattle.engine_core.specs.ClosingList.{IsClosing}
 use Rattle.engine_core.specs.RuleSystem.{RuleSystem}
@@ -25,6 +25,13 @@ none-counted K c none = rw (none 0 (omega arith), none 1 (omega arith)) refl
 some-counted : (K : Candidates) (c : ℕ) → (K c 0 ≡ true) ⊎ (K c 1 ≡ true) → 0 < count_below (K c) 2
 some-counted K c (inl zero) = count_below-pos (K c) 2 0 (omega arith) zero
 some-counted K c (inr one) = count_below-pos (K c) 2 1 (omega arith) one
+
+counted-some : (K : Candidates) (c : ℕ) → 0 < count_below (K c) 2 → (K c 0 ≡ true) ⊎ (K c 1 ≡ true)
+unfolding count_below
+counted-some K c some = grind (arith, common_steps, cases_Bool (K c 0), cases_Bool (K c 1))
+
+pub cells-alive : {cells : ℕ} (s : Layers) → cells_of s ≡ cells → is_dead cells 2 (has s) ≡ false → IsAlive s
+cells-alive {cells} s size alive = λ c lt. counted-some (has s) c (is_dead-not cells 2 (has s) c alive (rw size at lt))
 
 pub alive-cells : {cells : ℕ} (s : Layers) → cells_of s ≡ cells → IsAlive s → is_dead cells 2 (has s) ≡ false
 alive-cells {cells} s size alive = is_dead-each cells 2 (has s)

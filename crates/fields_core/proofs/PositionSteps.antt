@@ -17,6 +17,7 @@ use Rattle.engine_core.specs.TrailPosition.{mark_at, AreMarks}
 use Rattle.engine_core.proofs.JudgeLemmas.{grid-fits, grid-long}
 use Rattle.engine_core.proofs.PositionLemmas.{marks-returned}
 use Rattle.fields_core.specs.CountHouse.{CountHouse, count_puzzle, start_of}
+use Rattle.fields_core.specs.AnyPlanes.{places_of, IsSuited}
 use Rattle.fields_core.specs.PlanePosition.{PlacedPlanes, IsUnderWay, standing_by}
 
 -- ---- a step of the board, and its marks
@@ -30,12 +31,13 @@ step-onward p p' marks live are further = record {
 }
 
 pub step-walks : {S L : Type 0} {p : RuleSystem} {size : Extent} {is_own : S ⊎ L → Type 0} (s : PlacedPlanes S L) (p' : Layers) (kept : S ⊎ L)
-    → IsUnderWay p size is_own s → IsFurther s.planes p' → IsAlive p (has p') → is_own kept
+    → IsUnderWay p size is_own s → IsFurther s.planes p' → IsAlive p (has p') → places_of kept ≡ places_of s.kept → is_own kept
     → IsUnderWay p size is_own (record s { planes = p'; kept = kept })
-step-walks s p' kept walks further alive is = record {
+step-walks s p' kept walks further alive words is = record {
   fits = walks.fits;
   same_size = further.same_size ∙ walks.same_size;
   cells = ap (λ (e : Extent). e.w * e.h) further.same_size ∙ walks.cells;
+  suited = rw words walks.suited;
   own = is;
   board = record { alive = alive; within = λ c v on. walks.board.within c v (further.inside c v on) };
   few = walks.few;
@@ -53,7 +55,7 @@ pub leave-walks : {S L : Type 0} {p : RuleSystem} {size : Extent} {is_own : S �
     → IsUnderWay p size is_own s → IsFurther s.planes p' → v < p.values → has s.planes cell v ≡ true → has p' ≡ only (has s.planes) cell v
     → IsUnderWay p size is_own (record s { planes = p' })
 leave-walks {S} {L} {p} s p' cell v walks further lt on left =
-    step-walks s p' s.kept walks further (rw left (leave-alive p (has s.planes) cell v walks.board.alive lt on)) walks.own
+    step-walks s p' s.kept walks further (rw left (leave-alive p (has s.planes) cell v walks.board.alive lt on)) refl walks.own
 
 -- the board as it is has the mark of this level
 pub mark-walks : {S L : Type 0} {p : RuleSystem} {size : Extent} {is_own : S ⊎ L → Type 0} (s : PlacedPlanes S L) (level : ℕ)
@@ -63,6 +65,7 @@ mark-walks s level walks lt outer room = record {
   fits = walks.fits;
   same_size = walks.same_size;
   cells = walks.cells;
+  suited = walks.suited;
   own = walks.own;
   board = walks.board;
   few = omega arith;
@@ -102,6 +105,7 @@ undo-walks s p' level m walks lt e back = record {
   fits = walks.fits;
   same_size = back.same_size ∙ walks.same_size;
   cells = ap (λ (e : Extent). e.w * e.h) back.same_size ∙ walks.cells;
+  suited = walks.suited;
   own = walks.own;
   board = rw (back.here, e) (walks.backs level lt);
   few = omega (arith, walks.few);
@@ -119,12 +123,13 @@ module _ (cells : ℕ) (blocked : ℕ → Bool) (houses : List CountHouse) (solv
   free c lt = rw (lt-ltb c cells lt) (grind (arith, common_steps, cases_Bool (blocked c)))
 
   pub start-walks : {S L : Type 0} {size : Extent} {is_own : S ⊎ L → Type 0} (s : PlacedPlanes S L) → IsLawful rules → FitsIn (needs_of rules) s.made
-      → s.planes.size ≡ size → size.w * size.h ≡ cells → is_own s.kept → has s.planes ≡ start_of cells blocked → s.marked ≡ 0
+      → s.planes.size ≡ size → size.w * size.h ≡ cells → IsSuited size (places_of s.kept) → is_own s.kept → has s.planes ≡ start_of cells blocked → s.marked ≡ 0
       → IsUnderWay rules size is_own s
-  start-walks s laws fits same few is start none = record {
+  start-walks s laws fits same few suited is start none = record {
     fits = fits;
     same_size = same;
     cells = ap (λ (e : Extent). e.w * e.h) same ∙ few;
+    suited = suited;
     own = is;
     board = rw start (record { alive = is_dead-each cells 2 _ (λ c lt. count_below-pos _ 2 0 (omega arith) (free c lt)); within = laws.start_within });
     few = omega arith;

@@ -1,7 +1,6 @@
 -- Tents on planes: the sides that the memory is for, and what a closing asks of planes.
 use Rattle.std.proofs.Common.{◌≡◌, ◌∙◌, ℕ, zero, suc, ◌+◌, ◌-◌, ◌<◌, ◌≤◌, ◌⊎◌, List, [], ◌∷◌, ◌++◌, length, get_or, slice_index, refl, ap, inl, inr, arith}
 use Rattle.std.proofs.lemmas.List.{append_assoc, length-append, get_or-append_right}
-use Rattle.grid_core.specs.Extent.{max_side}
 use Rattle.grid_core.specs.Regions.{row_places, column_places}
 use Rattle.grid_core.specs.Planes.{Layers, has}
 use Rattle.engine_core.specs.RuleSystem.{needs_of}
@@ -9,11 +8,10 @@ use Rattle.engine_core.specs.ClosingList.{IsAlive}
 use Rattle.engine_core.proofs.StoreLemmas.{scope_le-longest}
 use Rattle.gameid_core.specs.Puzzles.{Tents, IsTents}
 use Rattle.fields_core.proofs.HouseLists.{row-long, column-long}
-use Rattle.fields_core.specs.AnyPlanes.{AreLongFor, places_of}
+use Rattle.fields_core.specs.AnyPlanes.{IsSuited, places_of}
 use Rattle.fields_core.specs.CountHouse.{CountHouse, exactly, no_count_house, houses_below}
 use Rattle.fields_core.specs.TentHouses.{tent_rules, tent_houses, column_of_tents, row_of_tents, tree_house, square_house}
-use Rattle.fields_core.specs.TentNotes.{HaveRoom, AreWritten, trees_in}
-use Rattle.fields_core.specs.TentNotesLaws.{long-less}
+use Rattle.fields_core.specs.TentNotes.{AreWritten, trees_in}
 use Rattle.fields_core.specs.Tents.{tent_cells}
 use Rattle.fields_core.specs.Visits.{IsFieldOf}
 use Rattle.fields_core.specs.declared.planes.notes.TentNotes.{TentNotes}
@@ -60,24 +58,13 @@ wide-fits p is = let two = is.size in (sides-fit p (omega (arith, two.w_two)) (o
 pub high-fits : (p : Tents) → IsTents p → p.size.h ≤ (needs_of (tent_rules p)).scope
 high-fits p is = let two = is.size in (sides-fit p (omega (arith, two.w_two)) (omega (arith, two.h_two))).1
 
--- and for the sides of the grid
-side-short : (side places : ℕ) → AreLongFor side places → side ≤ max_side → side ≤ places
-side-short side places (inl short) low = short
-side-short side places (inr all) low = omega arith
-
-pub wide-short : (p : Tents) (places : ℕ) → IsTents p → AreLongFor (needs_of (tent_rules p)).scope places → p.size.w ≤ places
-wide-short p places is long = side-short p.size.w places (long-less long (wide-fits p is)) is.size.extent.w_high
-
-pub high-short : (p : Tents) (places : ℕ) → IsTents p → AreLongFor (needs_of (tent_rules p)).scope places → p.size.h ≤ places
-high-short p places is long = side-short p.size.h places (long-less long (high-fits p is)) is.size.extent.h_high
-
 -- what a closing asks of planes
-pub field-of : (p : Tents) (kept : TentNotes ℕ ⊎ TentNotes ℕ) (planes : Layers) → HaveRoom kept (needs_of (tent_rules p)) → AreWritten p kept
+pub field-of : (p : Tents) (kept : TentNotes ℕ ⊎ TentNotes ℕ) (planes : Layers) → IsSuited p.size (places_of kept) → AreWritten p kept
     → planes.size ≡ p.size → IsAlive (tent_rules p) (has planes) → IsFieldOf (places_of kept) p planes (trees_in kept)
-field-of p kept planes room is size alive = record {
+field-of p kept planes suited is size alive = record {
   lawful = is.lawful;
-  narrow = wide-short p (places_of kept) is.lawful room.words;
-  low = high-short p (places_of kept) is.lawful room.words;
+  narrow = suited.0;
+  low = suited.1;
   size = size;
   trees = is.trees;
   alive = alive-each p planes size alive;

@@ -1,8 +1,9 @@
 -- Planes of words of either length, with what a game keeps beside them.
-use Rattle.std.specs.Prelude.{ℕ, ◌≤◌, ◌⊎◌}
+use Rattle.std.specs.Prelude.{ℕ, Option, Some, None, ◌≤◌, ◌⊎◌}
 use Rattle.std.proofs.Common.{inl, inr}
-use Rattle.grid_core.specs.Extent.{max_side}
+use Rattle.grid_core.specs.Extent.{Extent}
 use Rattle.grid_core.specs.Planes.{Layers}
+use Rattle.engine_core.specs.RuleSystem.{Needs}
 use Rattle.fields_core.specs.declared.planes.any.AnyPlanes.{AnyPlanes}
 use Rattle.fields_core.specs.declared.planes.any.AnyPlanes.TheVariants.{Short, Long}
 
@@ -20,6 +21,13 @@ abbrev pub places_of : {S L : Type 0} → S ⊎ L → ℕ
 places_of (inl notes) = 64
 places_of (inr notes) = 128
 
--- words of so many places are long enough for a side of so many cells, or for every side
-abbrev pub AreLongFor : ℕ → ℕ → Type 0
-AreLongFor side places = (side ≤ places) ⊎ (max_side ≤ places)
+-- no side of the grid is longer than such words
+abbrev pub IsSuited : Extent → ℕ → Type 0
+IsSuited size places = (size.w ≤ places) × (size.h ≤ places)
+
+-- where words of 64 places may be too short for a puzzle of these sizes, there are planes of 128 to change for
+abbrev pub AreEnough : {S L : Type 0} → (Needs → Type 0) → Needs → AnyPlanes S L → Option (AnyPlanes S L) → Type 0
+AreEnough all_short made (Long field) spare = Unit {0}
+AreEnough all_short made (Short field) (Some (Long other)) = Unit {0}
+AreEnough all_short made (Short field) (Some (Short other)) = all_short made
+AreEnough all_short made (Short field) None = all_short made

@@ -1,5 +1,5 @@
 -- Planes with their trail as a position. No public contract uses these words.
-use Rattle.std.specs.Prelude.{◌≡◌, ℕ, ◌*◌, ◌<◌, ◌≤◌, ◌⊎◌, List, length}
+use Rattle.std.specs.Prelude.{◌≡◌, ℕ, Option, Some, None, ◌*◌, ◌<◌, ◌≤◌, ◌⊎◌, List, length}
 use Rattle.grid_core.specs.Candidates.{Candidates, IsWithin}
 use Rattle.grid_core.specs.Extent.{Extent}
 use Rattle.grid_core.specs.Planes.{Layers, has, cells_of, back_at}
@@ -7,6 +7,8 @@ use Rattle.engine_core.specs.RuleSystem.{RuleSystem, Needs, needs_of, FitsIn}
 use Rattle.engine_core.specs.ClosingList.{IsAlive}
 use Rattle.engine_core.specs.Position.{Standing}
 use Rattle.engine_core.specs.TrailPosition.{mark_at, AreMarks}
+use Rattle.fields_core.specs.AnyPlanes.{kept_in, layers_in, places_of, IsSuited}
+use Rattle.fields_core.specs.declared.planes.any.AnyPlanes.{AnyPlanes}
 
 -- what the memory was taken for, the planes with their trail, what is kept beside them, and the mark of each level: so many
 -- levels have one
@@ -21,6 +23,12 @@ pub record PlacedPlanes (S L : Type 0) : Type 0 where
 pub record ArePlaced (made : Needs) (planes : Layers) (marks : List ℕ) : Type 0 where
   pub steps : length planes.takings ≡ made.cells * made.values
   pub marks_long : length marks ≡ made.cells
+
+-- planes to change for have the same room
+abbrev pub IsSpare : {S L : Type 0} → (S ⊎ L → Needs → Type 0) → Needs → Option (AnyPlanes S L) → Type 0
+IsSpare fits made None = Unit {0}
+IsSpare fits made (Some planes) =
+    (length (layers_in planes).takings ≡ made.cells * made.values) × fits (kept_in planes) made
 
 -- what a walk sees of it
 abbrev pub standing_by : Layers → List ℕ → ℕ → Standing
@@ -41,6 +49,7 @@ pub record IsUnderWay {S L : Type 0} (p : RuleSystem) (size : Extent) (is_own : 
   pub fits : FitsIn (needs_of p) s.made
   pub same_size : s.planes.size ≡ size
   pub cells : cells_of s.planes ≡ p.cells
+  pub suited : IsSuited size (places_of s.kept)
   pub own : is_own s.kept
   pub board : IsBoard p (has s.planes)
   pub few : s.marked ≤ p.cells

@@ -1,10 +1,9 @@
 -- What is counted of the cells of count houses.
-use Rattle.std.specs.Prelude.{◌≡◌, ℕ, ◌+◌, ◌-◌, ◌*◌, ◌<◌, ◌≤◌, ◌^◌, Bool, not, ◌&&◌, ◌||◌, ◌==◌, nat_lt, if◌then◌else◌, cond, List, length, slice_index_or}
+use Rattle.std.specs.Prelude.{◌≡◌, ℕ, ◌+◌, ◌*◌, Bool, not, ◌&&◌, ◌||◌, ◌==◌, nat_lt, if◌then◌else◌, cond, List}
 use Rattle.std.specs.List.{count_by}
-use Rattle.grid_core.specs.Candidates.{Candidates, IsWithin}
+use Rattle.grid_core.specs.Candidates.{Candidates}
 use Rattle.engine_core.specs.Sets.{has_bit}
 use Rattle.fields_core.specs.Count.{is_empty}
-use Rattle.fields_core.specs.CountHouse.{CountHouse, count_house_of}
 use Rattle.fields_core.specs.declared.count.list.Bounds.{Bounds}
 use Rattle.fields_core.specs.declared.count.tally.Tally.{Tally}
 
@@ -44,23 +43,6 @@ kept_of t b bits =
     else if bits == 3 then cond (not (t.may == b.least)) 1 0 + 2 * cond (not (t.must == b.most)) 1 0
     else bits
 
--- the tally of a house by its number
-abbrev pub tally_at : List Tally → ℕ → Tally
-tally_at tallies h = slice_index_or tallies h (record { must = 0; may = 0; empty = 0 })
-
--- the tally of cells that have both values
-abbrev pub open_tally : List ℕ → Tally
-open_tally places = record { must = 0; may = length places; empty = 0 }
-
--- each house of a board of so many cells, of two values, is counted
-pub record AreTallied (cells : ℕ) (houses : List CountHouse) (tallies : List Tally)
-    (K : Candidates)
-    : Type 0 where
-  pub long : length houses ≤ length tallies
-  pub within : IsWithin cells 2 K
-  pub each : (h : ℕ) → h < length houses
-      → IsTally K (count_house_of houses h).places (tally_at tallies h)
-
 -- the tally of cells with these sets, as bits
 abbrev pub tally_of : List ℕ → Tally
 tally_of sets = record {
@@ -76,20 +58,3 @@ tally_of_one bits = record {
   may = cond (has_bit bits 1) 1 0;
   empty = cond (bits == 0) 1 0;
 }
-
--- the tally after one cell of the house changed, whose sets have these bits
-abbrev pub moved_tally : Tally → ℕ → ℕ → Tally
-moved_tally t before after = record {
-  must = t.must - (tally_of_one before).must + (tally_of_one after).must;
-  may = t.may - (tally_of_one before).may + (tally_of_one after).may;
-  empty = t.empty - (tally_of_one before).empty + (tally_of_one after).empty;
-}
-
--- nothing is counted that was not there, and no count grows too large
-pub record CanMove (t : Tally) (before after : ℕ) : Type 0 where
-  pub must_before : (tally_of_one before).must ≤ t.must
-  pub may_before : (tally_of_one before).may ≤ t.may
-  pub empty_before : (tally_of_one before).empty ≤ t.empty
-  pub few_must : (moved_tally t before after).must < 2 ^ 32
-  pub few_may : (moved_tally t before after).may < 2 ^ 32
-  pub few_empty : (moved_tally t before after).empty < 2 ^ 32

@@ -3,7 +3,7 @@ use Rattle.std.specs.Prelude.{ℕ, ◌≤◌, ◌⊎◌, List, length, map}
 use Rattle.std.proofs.Common.{inl, inr}
 use Rattle.engine_core.specs.RuleSystem.{Needs}
 use Rattle.gameid_core.specs.Puzzles.{Tents, IsTents}
-use Rattle.fields_core.specs.AnyPlanes.{AreLongFor, places_of}
+use Rattle.fields_core.specs.AnyPlanes.{places_of}
 use Rattle.fields_core.specs.Tents.{tree}
 use Rattle.fields_core.specs.Trees.{AreRowsOf}
 use Rattle.fields_core.specs.declared.planes.notes.TentNotes.{TentNotes}
@@ -13,10 +13,9 @@ abbrev pub trees_in : TentNotes ℕ ⊎ TentNotes ℕ → List ℕ
 trees_in (inl notes) = map (λ word. word) notes.trees.items
 trees_in (inr notes) = map (λ word. word) notes.trees.items
 
--- words are long enough for the sides of such puzzles, and each row of such words has one for its trees
-pub record HaveRoom (kept : TentNotes ℕ ⊎ TentNotes ℕ) (needs : Needs) : Type 0 where
-  pub words : AreLongFor needs.scope (places_of kept)
-  pub rows : places_of kept ≤ length (trees_in kept)
+-- each row of such words has one for its trees
+abbrev pub HaveRoom : TentNotes ℕ ⊎ TentNotes ℕ → Needs → Type 0
+HaveRoom kept needs = places_of kept ≤ length (trees_in kept)
 
 -- they are the trees of the puzzle
 pub record AreWritten (p : Tents) (kept : TentNotes ℕ ⊎ TentNotes ℕ) : Type 0 where

@@ -4,5 +4,4 @@ pub(crate) mod game;
 pub(crate) mod list;
 pub(crate) mod rules;
 pub(crate) mod run;
-pub(crate) mod tallies;
 pub(crate) mod tally;

@@ -10,7 +10,6 @@ mod tents;
 pub use count::game::CountGame;
 pub use count::list::{Bounds, CountList};
 pub use count::rules::CountRules;
-pub use count::tallies::Tallies;
 pub use light_up::cells::is_white;
 pub use light_up::check::check_lights;
 pub use light_up::fault::LightFault;

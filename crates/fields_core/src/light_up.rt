@@ -5,6 +5,7 @@ pub(crate) mod check;
 pub(crate) mod fault;
 pub(crate) mod houses;
 pub(crate) mod lit;
+pub(crate) mod planes;
 pub(crate) mod rules;
 pub(crate) mod run;
 pub(crate) mod sight;

@@ -52,16 +52,9 @@ pub fn diagonal_place(n: u8, d: usize, k: usize) -> usize
     ensures place { result ≡ slice_index (diagonal_places n d) k }
     ensures within { result < n * n }
 {
-    k * usize::from(n) + diagonal_column(n, d, k)
-}
-
-/// The column of the diagonal's cell in row `k`.
-fn diagonal_column(n: u8, d: usize, k: usize) -> usize
-    requires { k < n }
-    ensures column { result ≡ (if d == 0 then k else n - 1 - k) }
-    ensures within { result < n }
-{
-    if d == 0 { k } else { usize::from(n) - 1 - k }
+    let side = usize::from(n);
+    let column = if d == 0 { k } else { side - 1 - k };
+    k * side + column
 }
 
 /// The `k`-th of the cells that share a side with the place; `None` past the last of them.

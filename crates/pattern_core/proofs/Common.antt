@@ -6,7 +6,7 @@ pub use Rattle.std.proofs.Math.Bool.{and-false, and-or_distrib_right, and-true, 
 pub use Rattle.std.proofs.Math.Nat.{mod-lt, mul-le-mul_right}
 pub use Rattle.std.proofs.Math.Path.{fun_ext}
 pub use Rattle.std.proofs.lemmas.Bool.{and_from, and_parts, cases_Bool, cases_eq, cases_lt, eq-eqb, eqb-false, eqb-true, false_from_ne_true}
-pub use Rattle.std.proofs.lemmas.Bool.{false≢true, le-leb, lt-leb, ltb-true, ne_eqb, not-false, or_cases, or_left, or_parts, or_right, true≢false}
+pub use Rattle.std.proofs.lemmas.Bool.{false≢true, le-leb, lt-leb, lt-ltb, ltb-true, ne_eqb, not-false, or_cases, or_left, or_parts, or_right, true≢false}
 pub use Rattle.std.proofs.lemmas.Grind.{common_steps, elements}
 pub use Rattle.std.proofs.lemmas.List.{drop-drop, drop_all, drop_more, get_or-append_right, get_or-drop, get_or-map, get_or-replicate}
 pub use Rattle.std.proofs.lemmas.List.{get_or-set_other, get_or-set_same, get_or_append_left, get_or_past, length-append, length-drop, length-map}
@@ -19,7 +19,7 @@ pub use Rattle.grid_core.proofs.LineLemmas.{length-line_numbers, length-line_pla
 pub use Rattle.grid_core.specs.Board.{Layout}
 unfoldable pub use Rattle.grid_core.specs.Board.{has}
 pub use Rattle.grid_core.specs.Candidates.{Candidates}
-unfoldable pub use Rattle.grid_core.specs.Candidates.{any_below}
+unfoldable pub use Rattle.grid_core.specs.Candidates.{all_of, any_below}
 pub use Rattle.grid_core.specs.Extent.{Extent}
 pub use Rattle.grid_core.specs.Lines.{line_cells, lines_of}
 unfoldable pub use Rattle.grid_core.specs.Lines.{line_numbers, line_places}
@@ -41,7 +41,7 @@ pub use Rattle.pattern_core.specs.LineClues.{numbers_in}
 pub use Rattle.pattern_core.specs.LineLaws.{column_has, different_places, has_runs-from, has_runs-is, in_grid, is_solution-from, is_solution-is}
 pub use Rattle.pattern_core.specs.LineLaws.{is_solution-line, line_of_solution, line_rules-lawful, lines_with, row_has, solution_from_lines}
 pub use Rattle.pattern_core.specs.LineRules.{line_rules}
-pub use Rattle.pattern_core.specs.Lines.{ArePositive, HasClue, IsDecidedBy, IsFresh, IsRoomy, clue_of}
+pub use Rattle.pattern_core.specs.Lines.{ArePositive, HasClue, IsDecidedBy, IsRoomy, clue_of}
 unfoldable pub use Rattle.pattern_core.specs.Lines.{has_runs}
 pub use Rattle.pattern_core.specs.Track.{AreKept, AreRows, IsBelow, IsSpelling, IsTrack, Spells, Track, along, set_for, sets_of}
 unfoldable pub use Rattle.pattern_core.specs.Track.{ahead, any_cells, cell_is, cells_from, clue_along, goes_on, leads, led, may_stay, one_on}

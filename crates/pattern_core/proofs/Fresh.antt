@@ -1,5 +1,5 @@
--- A line of a board whose cells may all be either strikes nothing, where it is roomy for its clue.
-use Rattle.pattern_core.proofs.Common.{AllByRecursion, ArePositive, Candidates, IsFresh, IsIdle, IsRoomy, Layout, List, Pattern, [], and_parts, arith, cases_Bool, clue_of, common_steps, false, false_from_ne_true, get_or, has, has_runs, has_value, in_grid, length, length-line_places, length-sets_at, line_cells, line_places, line_rules, lines_of, ltb-true, sets_at, sets_at-value, slice_index, strikes_at, strikes_at-some, strikes_by_fillings, subst, suc, sym, true, true≢false, used, ℕ, ◌*◌, ◌+◌, ◌-◌, ◌<◌, ◌∙◌, ◌∷◌, ◌≡◌, ◌≤◌}
+-- A line of the board that a search starts from strikes nothing, where it is roomy for its clue.
+use Rattle.pattern_core.proofs.Common.{AllByRecursion, ArePositive, IsIdle, IsRoomy, List, Pattern, [], all_of, and_parts, arith, cases_Bool, clue_of, common_steps, false, false_from_ne_true, get_or, has_runs, has_value, in_grid, length, length-line_places, length-sets_at, line_cells, line_places, line_rules, lines_of, lt-ltb, ltb-true, sets_at, sets_at-value, slice_index, strikes_at, strikes_at-some, strikes_by_fillings, subst, suc, sym, true, true≢false, used, ℕ, ◌*◌, ◌+◌, ◌-◌, ◌<◌, ◌∙◌, ◌∷◌, ◌≡◌, ◌≤◌}
 use Rattle.engine_core.specs.PlaceLaws.{has_place-here}
 use Rattle.pattern_core.proofs.Roomy.{nothing_struck}
 
@@ -23,9 +23,19 @@ roomy {clue} cells longest n positive some each long from = record {
     all [] each = tt
     all (m ∷ clue) each = (each 0 (omega arith), all clue (λ k lt. each (suc k) (omega arith)))
 
-pub fresh_idle : (p : Pattern) {line n : ℕ} (clue : List ℕ) (K : Candidates) → line < lines_of p.size → clue ≡ clue_of p line → n ≡ line_cells p.size line
-    → IsRoomy clue n → IsFresh (p.size.w * p.size.h) K → IsIdle (line_rules p) line K
-fresh_idle p {line} clue K lt same long r fresh c v on =
+-- each cell of the start has both values, and no other
+has_both : {cells c v : ℕ} → c < cells → v < 2 → all_of cells 2 c v ≡ true
+unfolding all_of
+has_both lt small = grind (arith, common_steps, lt-ltb)
+
+two_values : (cells c v : ℕ) → all_of cells 2 c v ≡ true → v < 2
+unfolding all_of
+two_values cells c v on = ltb-true v 2 (and_parts _ _ on).1
+
+pub start_idle : (p : Pattern) {line : ℕ} → line < lines_of p.size → IsRoomy (clue_of p line) (line_cells p.size line)
+    → IsIdle (line_rules p) line (line_rules p).start
+start_idle p {line} lt r c v on =
+    let K = (line_rules p).start in
     false_from_ne_true (strikes_at 2 (line_places p.size line) (strikes_by_fillings (has_runs (clue_of p line))) K c v) (λ struck.
     let w = strikes_at-some 2 (line_places p.size line) (strikes_by_fillings (has_runs (clue_of p line))) K c v struck in
     let sets = sets_at 2 (line_places p.size line) K in
@@ -35,12 +45,7 @@ fresh_idle p {line} clue K lt same long r fresh c v on =
     let both : (j : ℕ) (u : ℕ) → j < length sets → u < 2 → has_value (get_or sets j []) u ≡ K (slice_index (line_places p.size line) j) u =
     λ j u low small. sets_at-value 2 (line_places p.size line) K j u (inside j low) small in
     let full : (j : ℕ) → j < length sets → (K (slice_index (line_places p.size line) j) 0 ≡ true) × (K (slice_index (line_places p.size line) j) 1 ≡ true) =
-    λ j low. fresh.both (slice_index (line_places p.size line) j) (in_grid p.size lt (has_place-here (line_places p.size line) j (inside j low))) in
-    let none = nothing_struck clue sets w.0 v r.spare r.positive r.some r.short r.more (omega arith)
-    (λ j low. (both j 0 low (omega arith) ∙ (full j low).0, both j 1 low (omega arith) ∙ (full j low).1)) (omega arith) (fresh.within c v on) in
-    true≢false (sym w.3 ∙ subst (λ l. strikes_by_fillings (has_runs l) sets w.0 v ≡ false) same none))
-
--- a board of two values whose cells have both
-pub board_is_fresh : (b : Layout) {cells : ℕ} → b.values ≡ 2 → ((c : ℕ) → c < cells → (has b c 0 ≡ true) × (has b c 1 ≡ true)) → IsFresh cells (has b)
-unfolding has
-board_is_fresh b two both = grind (arith, common_steps, cases_Bool, and_parts, ltb-true)
+    λ j low. let at = in_grid p.size lt (has_place-here (line_places p.size line) j (inside j low)) in (has_both at (omega arith), has_both at (omega arith)) in
+    let none = nothing_struck (clue_of p line) sets w.0 v r.spare r.positive r.some r.short r.more (omega arith)
+    (λ j low. (both j 0 low (omega arith) ∙ (full j low).0, both j 1 low (omega arith) ∙ (full j low).1)) (omega arith) (two_values _ c v on) in
+    true≢false (sym w.3 ∙ none))

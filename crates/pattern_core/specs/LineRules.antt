@@ -1,14 +1,13 @@
 -- What the rules of Pattern mean to a search: each line is a house.
 use Rattle.std.specs.Prelude.{◌≡◌, ℕ, ◌+◌, ◌*◌, ◌==◌, Bool, true, List}
 use Rattle.grid_core.specs.Extent.{IsExtent}
-use Rattle.grid_core.specs.Candidates.{Candidates, all_below, all_of}
+use Rattle.grid_core.specs.Candidates.{all_below, all_of}
 use Rattle.grid_core.specs.Lines.{lines_of, line_places, line_numbers}
 use Rattle.gameid_core.specs.Puzzles.{Pattern}
 use Rattle.engine_core.specs.RuleSystem.{RuleSystem}
 use Rattle.engine_core.specs.Filling.{strikes_by_fillings}
 use Rattle.engine_core.specs.HouseSets.{strikes_at}
-use Rattle.engine_core.specs.Waiting.{is_waiting, AreWoken}
-use Rattle.pattern_core.specs.Lines.{clue_of, has_runs, IsFresh}
+use Rattle.pattern_core.specs.Lines.{clue_of, has_runs}
 
 -- whether each line's runs are its clue
 unfoldable pub is_pattern_solution : Pattern → List ℕ → Bool
@@ -35,12 +34,3 @@ line_rules p = record {
 pub record LawfulPattern : Type 0 where
   pub pattern : Pattern
   pub extent : IsExtent pattern.size
-
--- what is known of the board is so: where it is known to be fresh, it is
-abbrev pub GoesAlong : Pattern → Bool → Candidates → Type 0
-GoesAlong p fresh K = fresh ≡ true → IsFresh (p.size.w * p.size.h) K
-
--- the line is marked beside those that were, unless it strikes nothing of the board that is gone along with
-abbrev pub CallsLine : Pattern → Bool → ℕ → List ℕ → List ℕ → Type 0
-CallsLine p fresh line old new = (K : Candidates) → GoesAlong p fresh K
-    → AreWoken (line_rules p) K (λ j. j == line) (is_waiting old) (is_waiting new)

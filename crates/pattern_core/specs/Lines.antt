@@ -2,7 +2,6 @@
 use Rattle.std.specs.Prelude.{◌≡◌, ℕ, ◌+◌, ◌<◌, ◌≤◌, Bool, true, List, [], length, nat_eq, slice_index_or}
 use Rattle.std.specs.Cmp.Lexicographic.{pointwise}
 use Rattle.std.specs.List.{AllByRecursion}
-use Rattle.grid_core.specs.Candidates.{Candidates}
 use Rattle.grid_core.specs.Lines.{line_numbers}
 use Rattle.gameid_core.specs.Puzzles.{Pattern, used}
 use Rattle.gameid_core.specs.BlackRuns.{runs}
@@ -37,11 +36,6 @@ pub record IsRoomy (clue : List ℕ) (n : ℕ) : Type 0 where
 -- a line of so many cells is roomy, and each longer one
 abbrev pub IsRoomyFrom : List ℕ → ℕ → Type 0
 IsRoomyFrom clue from = (n : ℕ) → n < 1000 → from ≤ n → IsRoomy clue n
-
--- each of so many cells has both values, and no other
-pub record IsFresh (cells : ℕ) (K : Candidates) : Type 0 where
-  pub both : (c : ℕ) → c < cells → (K c 0 ≡ true) × (K c 1 ≡ true)
-  pub within : (c v : ℕ) → K c v ≡ true → v < 2
 
 -- what is kept of a line's sets is what some filling with the clue's runs has
 abbrev pub IsDecidedBy : List ℕ → List ℕ → List ℕ → Type 0

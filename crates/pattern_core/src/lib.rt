@@ -14,4 +14,4 @@ mod track;
 
 pub use check::check_pattern;
 pub use fault::PatternFault;
-pub use lines::{LineCounts, LineScratch, PatternLines};
+pub use lines::{LineScratch, PatternLines};

@@ -2,20 +2,17 @@
 
 ghost use Rattle.std.specs.Prelude.{◌≡◌, ◌<◌, ◌≤◌, IfOk, true, length, refl};
 ghost use Rattle.grid_core.specs.Extent.{IsExtent, max_side};
-ghost use Rattle.grid_core.specs.Board.{has, cells_of, SameShape};
+ghost use Rattle.grid_core.specs.Board.{has, SameShape};
 ghost use Rattle.grid_core.specs.Lines.{lines_of};
-ghost use Rattle.grid_core.specs.Candidates.{Candidates};
 ghost use Rattle.engine_core.specs.Closing.{HasStruck};
 ghost use Rattle.engine_core.specs.RuleSystem.{IsBoardOf, after};
-ghost use Rattle.engine_core.specs.Waiting.{words_of};
 ghost use Rattle.engine_core.specs.declared.mode.Mode.TheVariants.{Queue};
-ghost use Rattle.pattern_core.specs.Lines.{clue_of, IsFresh};
+ghost use Rattle.pattern_core.specs.Lines.{clue_of};
 ghost use Rattle.pattern_core.specs.LineClues.{numbers_in};
-ghost use Rattle.pattern_core.specs.LineRules.{line_rules, GoesAlong, CallsLine};
+ghost use Rattle.pattern_core.specs.LineRules.{line_rules};
 
 use crate::line_cells::write_places;
 use crate::line_clue::{LONGEST, LineClue, Rows};
-use crate::table::BOTH;
 use engine_core::{Mode, Propagators, Rules, Searchable, TrailPosition, apply, enqueue, gather};
 use gameid_core::PatternPuzzle;
 use grid_core::{Board, Grid, Size, line_count, line_len, line_place};
@@ -53,26 +50,6 @@ pub struct LineScratch {
     rows: Box<Rows>,
 }
 
-/// What is counted of a board: whether each cell is known to have both values.
-#[derive(Drop)]
-pub struct LineCounts {
-    fresh: bool,
-}
-
-/// Whether each cell has both values.
-fn is_fresh(board: &Board, cells: usize) -> bool
-    requires values { board.now.values ≡ 2 }
-    requires cells { cells ≡ cells_of board.now }
-    ensures { result ≡ true → IsFresh cells (has board.now) }
-{
-    for place in 0..cells {
-        if board.bits(place) != BOTH {
-            return false;
-        }
-    }
-    true
-}
-
 impl PatternLines {
     /// The rules of the puzzle.
     pub fn new(alloc: Global, puzzle: &PatternPuzzle) -> Result<PatternLines, AllocError>
@@ -107,18 +84,6 @@ impl PatternLines {
         ensures { numbers_in result.now ≡ clue_of self.now.pattern line }
     {
         &self.clues[line]
-    }
-
-    /// Marks the line, unless it strikes nothing.
-    fn wake_line(&self, line: usize, counts: &LineCounts, waits: &mut [u64])
-        requires line_in { line < lines_of self.now.pattern.size }
-        requires room { words_of (lines_of self.now.pattern.size) ≤ length waits.old }
-        requires follows { (K : Candidates) × GoesAlong self.now.pattern counts.now.fresh K }
-        ensures { CallsLine self.now.pattern counts.now.fresh line waits.old waits.new }
-    {
-        if self.may_strike(line, counts) {
-            enqueue(waits, line);
-        }
     }
 }
 
@@ -219,17 +184,7 @@ impl Rules for PatternLines {
 }
 
 impl Propagators for PatternLines {
-    type Counts = LineCounts;
-
-    ghost counts_serve = { λ _ _. Unit {0} };
-
-    ghost follows = { λ r counts. GoesAlong r.pattern counts.fresh };
-
-    ghost counts_smaller = { λ had_by need had fits served. tt };
-
-    fn counts(&self, _alloc: Global) -> Result<LineCounts, AllocError> {
-        Ok(LineCounts { fresh: false })
-    }
+    type Noted = ();
 
     #[tactic(auto, using(grid_core::proofs::LineLemmas::line_laws))]
     fn read(&self, house: usize, board: &Board, sets: &mut [u32]) {
@@ -251,25 +206,14 @@ impl Propagators for PatternLines {
         self.clue(house).filter(kept, &mut scratch.rows)
     }
 
-    fn watch(&self, board: &Board, counts: &mut LineCounts) {
-        counts.fresh = is_fresh(board, self.cells());
+    fn may_strike(&self, house: usize) -> bool {
+        !self.clue(house).is_roomy(line_len(self.size(), house))
     }
 
-    fn change(&self, _place: usize, _before: u32, _after: u32, counts: &mut LineCounts) {
-        counts.fresh = false;
-    }
-
-    fn may_strike(&self, house: usize, counts: &LineCounts) -> bool {
-        if counts.fresh && self.clue(house).is_roomy(line_len(self.size(), house)) {
-            return false;
-        }
-        true
-    }
-
-    fn wake(&self, place: usize, counts: &LineCounts, waits: &mut [u64]) {
+    fn wake(&self, place: usize, waits: &mut [u64]) {
         let w = self.columns();
-        self.wake_line(place % w, counts, waits);
-        self.wake_line(w + place / w, counts, waits);
+        enqueue(waits, place % w);
+        enqueue(waits, w + place / w);
     }
 }
 

@@ -1,5 +1,5 @@
 -- Sets of values as bits, and what a visit reads of those of a house.
-use Rattle.std.specs.Prelude.{◌≡◌, ℕ, ◌<◌, ◌≤◌, ◌&&◌, ◌||◌, ◌⊎◌, Bool, true, List, map, slice_index}
+use Rattle.std.specs.Prelude.{◌≡◌, ℕ, ◌<◌, ◌≤◌, ◌&&◌, ◌||◌, Bool, true, List, map, slice_index}
 use Rattle.engine_core.specs.Filling.{strikes_by_fillings}
 use Rattle.engine_core.specs.Sets.{has_bit, set_of_bits}
 use Rattle.solo_core.specs.NoRepeat.{no_repeat}
@@ -17,11 +17,6 @@ IsFirstSet bits from end v =
 abbrev pub HasMore : ℕ → ℕ → ℕ → ℕ → Type 0
 HasMore old value more new =
     (v : ℕ) → has_bit new v ≡ (has_bit old v || (has_bit old value && has_bit more v))
-
--- the bits get bit `value` at most, and only where some bit of `next` is among them
-abbrev pub HasBefore : ℕ → ℕ → ℕ → ℕ → Type 0
-HasBefore old value next new = (v : ℕ) → has_bit new v ≡ true → (has_bit old v ≡ true)
-    ⊎ ((v ≡ value) × ((w : ℕ) × (has_bit next w ≡ true) × (has_bit old w ≡ true)))
 
 -- whether no filling without repeat has the value in the place
 abbrev pub is_struck : ℕ → List ℕ → ℕ → ℕ → Bool

@@ -164,32 +164,14 @@ impl Rules for Neighbours {
 }
 
 impl Propagators for Neighbours {
-    type Counts = ();
-
-    ghost counts_serve = { λ _ _. Unit {0} };
-
-    ghost follows = { λ _ _ _. Unit {0} };
-
-    ghost counts_smaller = { λ had_by need had fits served. tt };
-
-    fn counts(&self, _alloc: Global) -> Result<(), AllocError> {
-        Ok(())
-    }
+    type Noted = ();
 
     fn filter(&self, _house: usize, sets: &[u32], kept: &mut [u32], _scratch: &mut ()) -> bool {
         keep(self.values, sets, kept);
         true
     }
 
-    fn watch(&self, _board: &Board, _counts: &mut ()) {}
-
-    fn change(&self, _place: usize, _before: u32, _after: u32, _counts: &mut ()) {}
-
-    fn may_strike(&self, _house: usize, _counts: &()) -> bool {
-        true
-    }
-
-    fn wake(&self, place: usize, _counts: &(), waits: &mut [u64]) {
+    fn wake(&self, place: usize, waits: &mut [u64]) {
         enqueue_if(waits, place.saturating_sub(1), place > 0);
         enqueue_if(waits, place, place + 1 < self.cells);
     }

@@ -87,32 +87,14 @@ impl Rules for Swept {
 }
 
 impl Propagators for Swept {
-    type Counts = ();
-
-    ghost counts_serve = { λ _ _. Unit {0} };
-
-    ghost follows = { λ _ _ _. Unit {0} };
-
-    ghost counts_smaller = { λ had_by need had fits served. tt };
-
-    fn counts(&self, alloc: Global) -> Result<(), AllocError> {
-        self.row.counts(alloc)
-    }
+    type Noted = ();
 
     fn filter(&self, house: usize, sets: &[u32], kept: &mut [u32], scratch: &mut ()) -> bool {
         self.row.filter(house, sets, kept, scratch)
     }
 
-    fn watch(&self, _board: &Board, _counts: &mut ()) {}
-
-    fn change(&self, _place: usize, _before: u32, _after: u32, _counts: &mut ()) {}
-
-    fn may_strike(&self, _house: usize, _counts: &()) -> bool {
-        true
-    }
-
-    fn wake(&self, place: usize, counts: &(), waits: &mut [u64]) {
-        self.row.wake(place, counts, waits);
+    fn wake(&self, place: usize, waits: &mut [u64]) {
+        self.row.wake(place, waits);
     }
 }
 

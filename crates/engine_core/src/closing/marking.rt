@@ -16,8 +16,7 @@ use grid_core::Board;
 pub(crate) fn mark_at<R: Rules>(rules: &R, place: usize, waits: &mut [u64])
     requires place_in { place < (R.system rules.now).cells }
     requires room { words_of (R.system rules.now).houses ≤ length waits.old }
-    ensures { (K : Candidates) → AreWoken (R.system rules.now) K
-        (λ j. has_place ((R.system rules.now).scope j) place)
+    ensures { AreWoken (R.system rules.now) (λ j. has_place ((R.system rules.now).scope j) place)
         (is_waiting waits.old) (is_waiting waits.new) }
 {
     let mut from = 0;
@@ -45,7 +44,7 @@ pub(crate) fn mark_changed<R: Rules>(
     requires room { words_of (R.system rules.now).houses ≤ length waits.old }
     ensures woken { (K : Candidates) → AreSetsOf (R.system rules.now) house K sets.now
         → IsInside (has board.now) K
-        → AreWoken (R.system rules.now) (has board.now)
+        → AreWoken (R.system rules.now)
         (called_for (R.system rules.now) house K (has board.now))
         (is_waiting waits.old) (is_waiting waits.new) }
     ensures dead { (K : Candidates) → AreSetsOf (R.system rules.now) house K sets.now

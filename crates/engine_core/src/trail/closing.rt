@@ -45,14 +45,13 @@ fn filter_house<R: Propagators>(
 }
 
 impl<R: Propagators> TrailPosition<R> {
-    /// Visits the house, and marks the houses of each cell that lost a value in place of the house, but for those that
-    /// strike nothing. Says whether the visit would leave a cell without a value: then what it left is open.
+    /// Visits the house, and marks the houses of each cell that lost a value in place of the house. Says whether the visit would leave a cell without a value: then what it left is open.
     fn step(&mut self, rules: &R, house: usize) -> bool
-        requires along { IsAlong (R.system rules.now) (R.follows rules.now) self.old }
+        requires along { IsAlong (R.system rules.now) self.old }
         requires alive { IsAlive (R.system rules.now) (board_in self.old) }
         requires house_in { house < (R.system rules.now).houses }
         ensures step { IsStep (R.system rules.now) house self.old self.new result }
-        ensures along { IsAlong (R.system rules.now) (R.follows rules.now) self.new }
+        ensures along { IsAlong (R.system rules.now) self.new }
         ensures onward { GoesOn self.old self.new }
     {
         dequeue(&mut self.waits, house);
@@ -64,14 +63,11 @@ impl<R: Propagators> TrailPosition<R> {
         let before = self.trailed.len();
         let cells = rules.scope_len(house);
         let (sets, kept) = (&self.sets[..cells], &self.kept[..cells]);
-        if self
-            .trailed
-            .strike(rules, house, sets, kept, &mut self.counts)
-        {
+        if self.trailed.strike(rules, house, sets, kept) {
             return true;
         }
         let waits: &mut [u64] = &mut self.waits;
-        wake_since(rules, &self.trailed, before, &self.counts, waits);
+        wake_since(rules, &self.trailed, before, waits);
         dequeue_if(waits, house, R::SETTLED);
         false
     }
@@ -80,13 +76,13 @@ impl<R: Propagators> TrailPosition<R> {
     /// the last house it begins again. Of a queue each visit counts, and else each sweep, also one that stops. At first each
     /// house waits that strikes anything; it may be more.
     pub(crate) fn run(&mut self, rules: &R) -> Taken
-        requires along { IsAlong (R.system rules.now) (R.follows rules.now) self.old }
+        requires along { IsAlong (R.system rules.now) self.old }
         requires alive { IsAlive (R.system rules.now) (board_in self.old) }
         requires rested { AreRested (R.system rules.now) self.old }
         ensures taken { IsTaken (R.system rules.now) (board_in self.old) (board_in self.new)
             result.closing }
         ensures turns { IsClosedIn (R.system rules.now) (board_in self.old) result.turns }
-        ensures along { IsAlong (R.system rules.now) (R.follows rules.now) self.new }
+        ensures along { IsAlong (R.system rules.now) self.new }
         ensures onward { GoesOn self.old self.new }
     {
         let by_queue = by_queue::<R>();

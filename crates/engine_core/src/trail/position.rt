@@ -20,12 +20,11 @@ use std::alloc::{AllocError, Global};
 use std::marker::Model;
 
 /// A board with its trail, and the length of the trail at the mark of each level: so many levels have one. With it go what
-/// the rules work in and what they count, room for the sets of a house's cells and for what is kept of them, and a mark for
+/// the rules work in, room for the sets of a house's cells and for what is kept of them, and a mark for
 /// each house that waits.
 pub struct TrailPosition<R: Propagators> {
     pub(crate) made: Needs,
     pub(crate) scratch: R::Scratch,
-    pub(crate) counts: R::Counts,
     pub(crate) sets: Vec<u32>,
     pub(crate) kept: Vec<u32>,
     pub(crate) waits: Vec<u64>,
@@ -39,7 +38,6 @@ impl<R: Propagators> Drop for TrailPosition<R> {
         let TrailPosition {
             made,
             scratch,
-            counts,
             sets,
             kept,
             waits,
@@ -54,20 +52,18 @@ impl<R: Propagators> Model for TrailPosition<R> {
     ghost use Rattle.engine_core.specs.Needs.{needs_in};
     ghost use Rattle.engine_core.specs.TrailPosition.{Placed, IsPlaced};
 
-    ghost Value = { Placed R.Counts };
+    ghost Value = { Placed };
 
     ghost view = { λ s. record {
       made = needs_in s.made;
       trail = s.trailed;
-      counts = s.counts;
       waits = s.waits.items;
       marks = s.marks.items;
       marked = s.marked;
     } };
 
     ghost invariant = { λ s. IsPlaced (needs_in s.made) s.trailed.board s.sets.items s.kept.items
-        s.waits.items s.marks.items × R.serves s.scratch (needs_in s.made)
-        × R.counts_serve s.counts (needs_in s.made) };
+        s.waits.items s.marks.items × R.serves s.scratch (needs_in s.made) };
 }
 
 impl<R: Propagators> Position for TrailPosition<R> {
@@ -79,14 +75,13 @@ impl<R: Propagators> Position for TrailPosition<R> {
 
     ghost room = { λ s. s.made };
 
-    ghost walks = { λ rules s. IsUnderWay (R.system rules) (R.follows rules) s };
+    ghost walks = { λ rules s. IsUnderWay (R.system rules) s };
 
     fn new(alloc: Global, rules: &R) -> Result<TrailPosition<R>, AllocError> {
         let made = needs_for(rules);
         Ok(TrailPosition {
             made,
             scratch: rules.scratch(alloc)?,
-            counts: rules.counts(alloc)?,
             sets: vec![in alloc; 0u32; made.scope]?,
             kept: vec![in alloc; 0u32; made.scope]?,
             waits: vec![in alloc; 0u64; made.houses / 64 + 1]?,
@@ -106,7 +101,6 @@ impl<R: Propagators> Position for TrailPosition<R> {
 
     fn begin(&mut self, rules: &R) {
         self.trailed.start(rules);
-        rules.watch(self.trailed.board(), &mut self.counts);
         self.marked = 0;
     }
 
@@ -117,7 +111,7 @@ impl<R: Propagators> Position for TrailPosition<R> {
                 turns: 0,
             };
         }
-        wait_from(rules, from, &self.counts, &mut self.waits);
+        wait_from(rules, from, &mut self.waits);
         self.run(rules)
     }
 
@@ -145,8 +139,7 @@ impl<R: Propagators> Position for TrailPosition<R> {
 
     fn leave(&mut self, rules: &R, cell: usize, value: u8) {
         let before = self.trailed.board().bits(cell);
-        self.trailed
-            .leave(rules, cell, before, 1 << value, &mut self.counts);
+        self.trailed.leave(rules, cell, before, 1 << value);
     }
 
     fn checkpoint(&mut self, _rules: &R, level: usize) {
@@ -154,9 +147,8 @@ impl<R: Propagators> Position for TrailPosition<R> {
         self.marked = level + 1;
     }
 
-    fn undo(&mut self, rules: &R, level: usize) {
-        self.trailed
-            .undo(rules, self.marks[level], &mut self.counts);
+    fn undo(&mut self, _rules: &R, level: usize) {
+        self.trailed.undo(self.marks[level]);
         self.marked = level + 1;
     }
 

@@ -8,7 +8,7 @@ ghost use Rattle.engine_core.specs.ClosingList.{IsAlive, IsDead};
 ghost use Rattle.engine_core.specs.Keeping.{AreSetsOf, IsKept};
 ghost use Rattle.engine_core.specs.RuleSystem.{IsBoardOf, after};
 ghost use Rattle.engine_core.specs.Sets.{IsBitsOf};
-ghost use Rattle.engine_core.specs.Trail.{back_at, change_at, left_by, IsFurther, IsBack, IsStruck, StillServes};
+ghost use Rattle.engine_core.specs.Trail.{back_at, change_at, left_by, IsFurther, IsBack, IsStruck};
 
 use crate::trail::propagators::Propagators;
 use grid_core::Board;
@@ -104,12 +104,10 @@ impl TrailedBoard {
         house: usize,
         sets: &[u32],
         kept: &[u32],
-        counts: &mut R::Counts,
     ) -> bool
         requires house_in { house < (R.system rules.now).houses }
         requires board_of { IsBoardOf (R.system rules.now) self.old.board }
         requires alive { IsAlive (R.system rules.now) (has self.old.board) }
-        requires follows { R.follows rules.now counts.old (has self.old.board) }
         requires sets { AreSetsOf (R.system rules.now) house (has self.old.board) sets.now }
         requires kept { IsKept (R.system rules.now) house (has self.old.board) true kept.now }
         requires as_many { length kept.now ≡ length sets.now }
@@ -117,8 +115,6 @@ impl TrailedBoard {
             → IsDead (R.system rules.now) (after (R.system rules.now) house (has self.old.board)) }
         ensures struck { result ≡ false → IsStruck (R.system rules.now) house self.old self.new }
         ensures further { IsFurther self.old self.new }
-        ensures follows { R.follows rules.now counts.new (has self.new.board) }
-        ensures keeps { StillServes R.counts_serve counts.old counts.new }
     {
         for k in 0..sets.len() {
             let left = sets[k] & kept[k];
@@ -126,23 +122,15 @@ impl TrailedBoard {
                 if left == 0 {
                     return true;
                 }
-                self.leave(rules, rules.scope(house, k), sets[k], left, counts);
+                self.leave(rules, rules.scope(house, k), sets[k], left);
             }
         }
         false
     }
 
-    /// Leaves no more than `left` of the cell's set, notes what it had, which was more, and tells the rules.
-    pub(crate) fn leave<R: Propagators>(
-        &mut self,
-        rules: &R,
-        place: usize,
-        before: u32,
-        left: u32,
-        counts: &mut R::Counts,
-    )
+    /// Leaves no more than `left` of the cell's set, and notes what it had, which was more.
+    pub(crate) fn leave<R: Propagators>(&mut self, rules: &R, place: usize, before: u32, left: u32)
         requires board_of { IsBoardOf (R.system rules.now) self.old.board }
-        requires follows { R.follows rules.now counts.old (has self.old.board) }
         requires place_in { place < (R.system rules.now).cells }
         requires before { IsBitsOf (has self.old.board place) (R.system rules.now).values before }
         requires left { IsBitsOf (left_by (has self.old.board) place left place)
@@ -154,31 +142,21 @@ impl TrailedBoard {
         ensures noted { change_at self.new.changes self.old.len ≡ (place, before) }
         ensures earlier { (m : ℕ) → m < self.old.len
             → change_at self.new.changes m ≡ change_at self.old.changes m }
-        ensures follows { R.follows rules.now counts.new (has self.new.board) }
-        ensures keeps { StillServes R.counts_serve counts.old counts.new }
     {
         self.board.retain(place, left);
         self.changes[self.len] = (place as u32, before);
         self.len += 1;
-        rules.change(place, before, left, counts);
     }
 
     /// Takes the board back to the mark: each cell changed since gets its values back.
-    pub(crate) fn undo<R: Propagators>(&mut self, rules: &R, mark: usize, counts: &mut R::Counts)
-        requires board_of { IsBoardOf (R.system rules.now) self.old.board }
-        requires follows { R.follows rules.now counts.old (has self.old.board) }
-        requires marked { mark ≤ self.old.len }
-        ensures back { IsBack self.old self.new mark }
-        ensures follows { R.follows rules.now counts.new (has self.new.board) }
-        ensures keeps { StillServes R.counts_serve counts.old counts.new }
+    pub(crate) fn undo(&mut self, mark: usize)
+        requires { mark ≤ self.old.len }
+        ensures { IsBack self.old self.new mark }
     {
         while self.len > mark {
             self.len -= 1;
             let (cell, set) = self.changes[self.len];
-            let place = cell as usize;
-            let before = self.board.bits(place);
-            self.board.restore_set(place, set);
-            rules.change(place, before, self.board.bits(place), counts);
+            self.board.restore_set(cell as usize, set);
         }
     }
 }

@@ -2,7 +2,7 @@
 #![tactic(auto, using(crate::proofs::LawSets::tally_laws))]
 
 ghost use Rattle.std.specs.Prelude.{◌≡◌, ℕ, ◌<◌, ◌^◌, cond, length, slice_index};
-ghost use Rattle.fields_core.specs.Tallies.{tally_of, tally_of_one, lacks_filling, kept_of, has_strikes, moved_tally, CanMove};
+ghost use Rattle.fields_core.specs.Tallies.{tally_of, tally_of_one, lacks_filling, kept_of, has_strikes};
 
 use crate::count::list::Bounds;
 use engine_core::has_bit;
@@ -26,17 +26,6 @@ fn number(holds: bool) -> u32
 }
 
 impl Tally {
-    /// Of so many cells that have both values.
-    pub(crate) fn of_open(cells: u32) -> Tally
-        ensures { result ≡ record { must = 0; may = cells; empty = 0 } }
-    {
-        Tally {
-            must: 0,
-            may: cells,
-            empty: 0,
-        }
-    }
-
     /// Of a cell whose set has these bits.
     fn of_one(bits: u32) -> Tally
         ensures { result ≡ tally_of_one bits }
@@ -53,7 +42,11 @@ impl Tally {
         requires { length sets.now < 2 ^ 32 }
         ensures { result ≡ tally_of sets.now }
     {
-        let mut tally = Tally::of_open(0);
+        let mut tally = Tally {
+            must: 0,
+            may: 0,
+            empty: 0,
+        };
         for k in 0..sets.len() {
             let one = Tally::of_one(sets[k]);
             tally = Tally {
@@ -63,20 +56,6 @@ impl Tally {
             };
         }
         tally
-    }
-
-    /// The tally after a cell of the house changed, whose sets have these bits.
-    pub(crate) fn moved(self, before: u32, after: u32) -> Tally
-        requires { CanMove self before after }
-        ensures { result ≡ moved_tally self before after }
-    {
-        let had = Tally::of_one(before);
-        let has = Tally::of_one(after);
-        Tally {
-            must: self.must - had.must + has.must,
-            may: self.may - had.may + has.may,
-            empty: self.empty - had.empty + has.empty,
-        }
     }
 
     /// Whether the cells have no filling within the bounds. No test is left out: which of them holds

@@ -1,28 +1,20 @@
 //! What the rules of Light Up are to a search.
 #![tactic(auto, using(crate::proofs::LawSets::light_rules_laws))]
 
-ghost use Rattle.std.specs.Prelude.{refl};
-
 use crate::count::game::CountGame;
 use crate::count::list::CountList;
 use crate::count::rules::CountRules;
-use crate::count::tallies::Tallies;
 use crate::light_up::cells::{cells, is_white};
 use crate::light_up::check::find_fault;
 use crate::light_up::houses::houses_of_lights;
-use engine_core::{HouseRules, PositionFor, TrailPosition};
+use crate::planes::position::OnPlanes;
+use engine_core::HouseRules;
 use gameid_core::LightPuzzle;
 use grid_core::Grid;
 use std::alloc::{AllocError, Global};
 
 /// The rules of a puzzle of Light Up.
-pub type LightRules = HouseRules<CountRules<LightPuzzle>, Tallies>;
-
-impl PositionFor<LightRules> for Tallies {
-    type Position = TrailPosition<LightRules>;
-
-    ghost position_of = { λ _. refl };
-}
+pub type LightRules = HouseRules<CountRules<LightPuzzle>, OnPlanes>;
 
 impl CountGame for LightPuzzle {
     ghost use Rattle.std.specs.Prelude.{not};

@@ -1,14 +1,22 @@
 //! Planes of words of either length.
 #![tactic(auto)]
 
-ghost use Rattle.std.specs.Prelude.{◌≡◌, ◌*◌, ◌<◌, ◌≤◌, length, true, None};
+ghost use Rattle.std.specs.Prelude.{◌≡◌, ◌*◌, ◌<◌, ◌≤◌, ◌↔◌, IfOk, IfSome, length, true, None, Some};
 ghost use Rattle.grid_core.specs.Candidates.{count_below, grid_of, is_full, only, pick};
 ghost use Rattle.grid_core.specs.Extent.{IsExtent};
 ghost use Rattle.grid_core.specs.Planes.{has, cells_of, back_at, IsBack, IsFurther};
-ghost use Rattle.fields_core.specs.AnyPlanes.{kept_in, layers_in};
+ghost use Rattle.fields_core.specs.AnyPlanes.{kept_in, layers_in, places_of, AreEnough, IsSuited};
+ghost use Rattle.engine_core.specs.Needs.{needs_in};
+ghost use Rattle.engine_core.specs.RuleSystem.{needs_of, FitsIn};
+ghost use Rattle.fields_core.specs.PlanePosition.{IsSpare};
 
+use crate::count::rules::CountRules;
 use crate::planes::field::Field;
-use grid_core::{Grid, Size};
+use crate::planes::game::PlaneGame;
+use engine_core::{Needs, RuleSet};
+use grid_core::{Grid, Planes, Size};
+use std::alloc::{AllocError, Global};
+use std::mem::swap;
 
 /// Planes of words of 64 places, or of 128, with what a game keeps beside either.
 #[derive(Drop)]
@@ -17,7 +25,113 @@ pub enum AnyPlanes<S, L> {
     Long(Field<u128, L>),
 }
 
+/// Planes of words of 128 places, with what the puzzle keeps beside them.
+///
+/// # Errors
+///
+/// When memory was refused.
+fn long<G: PlaneGame>(
+    alloc: Global,
+    puzzle: &G,
+    made: Needs,
+) -> Result<AnyPlanes<G::Short, G::Long>, AllocError>
+    ensures room { IfOk result (λ planes. length (layers_in planes).takings ≡ G.board puzzle.now * 2) }
+    ensures fits { IfOk result (λ planes. G.fits (kept_in planes) (needs_in made)) }
+    ensures words { IfOk result (λ planes. places_of (kept_in planes) ≡ 128) }
+{
+    Ok(AnyPlanes::Long(Field {
+        planes: Planes::new(alloc, puzzle.size())?,
+        notes: puzzle.long(alloc, made)?,
+    }))
+}
+
+/// Planes of words as long as the sides of the puzzle ask for, with what it keeps beside them.
+///
+/// # Errors
+///
+/// When memory was refused.
+pub(crate) fn planes_for<G: PlaneGame>(
+    alloc: Global,
+    puzzle: &G,
+    made: Needs,
+) -> Result<AnyPlanes<G::Short, G::Long>, AllocError>
+    ensures room { IfOk result (λ planes. length (layers_in planes).takings ≡ G.board puzzle.now * 2) }
+    ensures fits { IfOk result (λ planes. G.fits (kept_in planes) (needs_in made)) }
+{
+    let size = puzzle.size();
+    if size.w() > 64 || size.h() > 64 {
+        return long(alloc, puzzle, made);
+    }
+    Ok(AnyPlanes::Short(Field {
+        planes: Planes::new(alloc, size)?,
+        notes: puzzle.short(alloc, made)?,
+    }))
+}
+
+/// Planes of long words to change for, where the words of these may be too short for a puzzle of these sizes.
+///
+/// # Errors
+///
+/// When memory was refused.
+pub(crate) fn spare_for<G: PlaneGame>(
+    alloc: Global,
+    puzzle: &G,
+    made: Needs,
+    planes: &AnyPlanes<G::Short, G::Long>,
+) -> Result<Option<AnyPlanes<G::Short, G::Long>>, AllocError>
+    ensures room { IfOk result (λ spare. IfSome spare (λ planes.
+        length (layers_in planes).takings ≡ G.board puzzle.now * 2)) }
+    ensures fits { IfOk result (λ spare. IfSome spare (λ planes.
+        G.fits (kept_in planes) (needs_in made))) }
+    ensures enough { IfOk result (AreEnough G.all_short (needs_in made) planes.now) }
+{
+    match planes {
+        AnyPlanes::Long(_field) => Ok(None),
+        AnyPlanes::Short(_field) => {
+            if puzzle.are_short(made) {
+                return Ok(None);
+            }
+            Ok(Some(long(alloc, puzzle, made)?))
+        }
+    }
+}
+
+/// Changes for the spare planes if the words of these are too short for the puzzle.
+pub(crate) fn choose<G: PlaneGame>(
+    planes: &mut AnyPlanes<G::Short, G::Long>,
+    spare: &mut Option<AnyPlanes<G::Short, G::Long>>,
+    puzzle: &G,
+    made: Needs,
+)
+    requires fits { FitsIn (needs_of (⟦<CountRules<G> as RuleSet>⟧.system puzzle.now)) (needs_in made) }
+    requires planes { IsSpare G.fits (needs_in made) (Some planes.old) }
+    requires spare { IsSpare G.fits (needs_in made) spare.old }
+    requires enough { AreEnough G.all_short (needs_in made) planes.old spare.old }
+    ensures suited { IsSuited (G.extent puzzle.now) (places_of (kept_in planes.new)) }
+    ensures planes { IsSpare G.fits (needs_in made) (Some planes.new) }
+    ensures spare { IsSpare G.fits (needs_in made) spare.new }
+    ensures enough { AreEnough G.all_short (needs_in made) planes.new spare.new }
+{
+    if planes.suits(puzzle.size()) {
+        return;
+    }
+    if let Some(other) = spare {
+        swap(planes, other);
+    }
+}
+
 impl<S, L> AnyPlanes<S, L> {
+    /// Whether no side of that size is longer than the words.
+    pub(crate) fn suits(&self, size: Size) -> bool
+        requires { IsExtent size }
+        ensures { (result ≡ true) ↔ IsSuited size (places_of (kept_in self.now)) }
+    {
+        match self {
+            AnyPlanes::Short(_field) => size.w() <= 64 && size.h() <= 64,
+            AnyPlanes::Long(_field) => true,
+        }
+    }
+
     /// How many steps can be taken back.
     pub(crate) fn room(&self) -> usize
         ensures { result ≡ length (layers_in self.now).takings }

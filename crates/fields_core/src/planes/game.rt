@@ -1,8 +1,9 @@
 //! What only a game knows of the planes that its search stands on.
 
-ghost use Rattle.std.specs.Prelude.{◌≡◌, ◌*◌, ◌≤◌, ◌⊎◌, IfOk, length};
+ghost use Rattle.std.specs.Prelude.{◌≡◌, ◌*◌, ◌≤◌, ◌⊎◌, IfOk, length, true};
+ghost use Rattle.std.proofs.Common.{inl, inr};
 ghost use Rattle.grid_core.specs.Candidates.{IsWithin};
-ghost use Rattle.grid_core.specs.Extent.{Extent};
+ghost use Rattle.grid_core.specs.Extent.{Extent, IsExtent};
 ghost use Rattle.grid_core.specs.Planes.{has, IsFurther};
 ghost use Rattle.engine_core.specs.RuleSystem.{Needs, needs_of, FitsIn};
 ghost use Rattle.engine_core.specs.Needs.{needs_in};
@@ -12,12 +13,13 @@ ghost use Rattle.engine_core.specs.Position.{IsTaken};
 ghost use Rattle.engine_core.specs.Queue.{IsClosedBut};
 ghost use Rattle.engine_core.specs.Trail.{StillServes};
 ghost use Rattle.fields_core.specs.CountHouse.{count_puzzle};
-ghost use Rattle.fields_core.specs.AnyPlanes.{kept_in, layers_in};
+ghost use Rattle.fields_core.specs.AnyPlanes.{kept_in, layers_in, places_of, IsSuited};
 
 use crate::count::game::CountGame;
 use crate::count::rules::CountRules;
 use crate::planes::any::AnyPlanes;
 use engine_core::{Needs, RuleSet, Rules, Taken};
+use grid_core::Size;
 use std::alloc::{AllocError, Global};
 
 /// A puzzle of count houses that is closed on planes. Beside them it keeps what it has written of itself, and what waits.
@@ -29,40 +31,58 @@ pub trait PlaneGame: CountGame {
     type Long: Drop;
 
     /// The size of its grid.
-    ghost size: { Self → Extent };
+    ghost extent: { Self → Extent };
 
-    /// The memory serves puzzles of these sizes.
+    /// What is kept serves puzzles of these sizes.
     ghost fits: { Self.Short ⊎ Self.Long → Needs → Type 0 };
 
     /// What is kept is of this puzzle.
     ghost written: { Self → Self.Short ⊎ Self.Long → Type 0 };
 
-    /// Takes all the memory that boards of this puzzle, and of smaller ones, need.
+    /// Words of 64 places are long enough for all puzzles of these sizes.
+    ghost all_short: { Needs → Type 0 };
+
+    /// The size of its grid.
+    fn size(&self) -> Size
+        ensures value { result ≡ extent self.now }
+        ensures lawful { IsExtent result }
+        ensures short { (had : Needs)
+            → FitsIn (needs_of (⟦<CountRules<Self> as RuleSet>⟧.system self.now)) (needs_in had)
+            → all_short (needs_in had) → IsSuited result 64 };
+
+    /// Whether words of 64 places are known to be long enough for all puzzles of these sizes.
+    fn are_short(&self, made: Needs) -> bool
+        ensures { result ≡ true → all_short (needs_in made) };
+
+    /// Takes the memory of what is kept beside planes of words of 64 places.
     ///
     /// # Errors
     ///
     /// When memory was refused.
-    fn planes(
-        &self,
-        alloc: Global,
-        made: Needs,
-    ) -> Result<AnyPlanes<Self::Short, Self::Long>, AllocError>
-        requires made { needs_in made ≡ needs_of (⟦<CountRules<Self> as RuleSet>⟧.system self.now) }
-        ensures room { IfOk result (λ planes.
-            length (layers_in planes).takings ≡ Self.board self.now * 2) }
-        ensures fits { IfOk result (λ planes. fits (kept_in planes) (needs_in made)) };
+    fn short(&self, alloc: Global, made: Needs) -> Result<Self::Short, AllocError>
+        ensures { IfOk result (λ kept. fits (inl kept) (needs_in made)) };
+
+    /// Takes the memory of what is kept beside planes of words of 128 places.
+    ///
+    /// # Errors
+    ///
+    /// When memory was refused.
+    fn long(&self, alloc: Global, made: Needs) -> Result<Self::Long, AllocError>
+        ensures { IfOk result (λ kept. fits (inr kept) (needs_in made)) };
 
     /// Begins with the board that a search of the puzzle starts from. It takes no memory.
     fn start(&self, planes: &mut AnyPlanes<Self::Short, Self::Long>)
         requires fits { fits (kept_in planes.old)
             (needs_of (⟦<CountRules<Self> as RuleSet>⟧.system self.now)) }
+        requires suited { IsSuited (extent self.now) (places_of (kept_in planes.old)) }
         requires few { Self.board self.now * 2 ≤ length (layers_in planes.old).takings }
         ensures start { has (layers_in planes.new)
             ≡ (⟦<CountRules<Self> as RuleSet>⟧.system self.now).start }
-        ensures size { (layers_in planes.new).size ≡ size self.now }
+        ensures size { (layers_in planes.new).size ≡ extent self.now }
         ensures room { length (layers_in planes.new).takings
             ≡ length (layers_in planes.old).takings }
         ensures written { written self.now (kept_in planes.new) }
+        ensures words { places_of (kept_in planes.new) ≡ places_of (kept_in planes.old) }
         ensures keeps { StillServes fits (kept_in planes.old) (kept_in planes.new) };
 
     /// Closes the board by the puzzle's houses, or finds that its closure is dead. Where `from` names a cell, the board was
@@ -71,7 +91,8 @@ pub trait PlaneGame: CountGame {
         requires fits { fits (kept_in planes.old)
             (needs_of (⟦<CountRules<Self> as RuleSet>⟧.system self.now)) }
         requires written { written self.now (kept_in planes.old) }
-        requires size { (layers_in planes.old).size ≡ size self.now }
+        requires suited { IsSuited (extent self.now) (places_of (kept_in planes.old)) }
+        requires size { (layers_in planes.old).size ≡ extent self.now }
         requires alive { IsAlive (⟦<CountRules<Self> as RuleSet>⟧.system self.now)
             (has (layers_in planes.old)) }
         requires within { IsWithin (Self.board self.now) 2 (has (layers_in planes.old)) }
@@ -85,10 +106,11 @@ pub trait PlaneGame: CountGame {
             (has (layers_in planes.new)) }
         ensures further { IsFurther (layers_in planes.old) (layers_in planes.new) }
         ensures written { written self.now (kept_in planes.new) }
+        ensures words { places_of (kept_in planes.new) ≡ places_of (kept_in planes.old) }
         ensures keeps { StillServes fits (kept_in planes.old) (kept_in planes.new) };
 
     /// The grid has the cells of the board.
-    ghost cells_are: { (p : Self) → (size p).w * (size p).h ≡ Self.board p };
+    ghost cells_are: { (p : Self) → (extent p).w * (extent p).h ≡ Self.board p };
 
     /// Memory that serves puzzles serves smaller ones.
     ghost fits_smaller: { (kept : Self.Short ⊎ Self.Long) (need had : Needs) → FitsIn need had

@@ -4,7 +4,7 @@
 ghost use Rattle.std.specs.Prelude.{◌≡◌, ◌≤◌};
 ghost use Rattle.fields_core.specs.PlanePosition.{IsUnderWay, standing_of};
 
-use crate::planes::any::AnyPlanes;
+use crate::planes::any::{AnyPlanes, choose, planes_for, spare_for};
 use crate::planes::game::{PlaneGame, PlaneRules};
 use engine_core::{Needs, Position, Taken, needs_for};
 use grid_core::Grid;
@@ -12,11 +12,12 @@ use std::alloc::{AllocError, Global};
 use std::marker::Model;
 
 /// Planes with their trail, and the length of the trail at the mark of each level: so many levels have one. With it go what
-/// the game keeps beside planes, and what the test of a grid works in.
+/// the game keeps beside planes, spare planes of longer words, and what the test of a grid works in.
 pub struct PlanePosition<R: PlaneRules> {
     made: Needs,
     scratch: R::Scratch,
     planes: AnyPlanes<<R::Puzzle as PlaneGame>::Short, <R::Puzzle as PlaneGame>::Long>,
+    spare: Option<AnyPlanes<<R::Puzzle as PlaneGame>::Short, <R::Puzzle as PlaneGame>::Long>>,
     marks: Vec<usize>,
     marked: usize,
 }
@@ -27,6 +28,7 @@ impl<R: PlaneRules> Drop for PlanePosition<R> {
             made,
             scratch,
             planes,
+            spare,
             marks,
             marked,
         } = self;
@@ -35,8 +37,8 @@ impl<R: PlaneRules> Drop for PlanePosition<R> {
 
 impl<R: PlaneRules> Model for PlanePosition<R> {
     ghost use Rattle.engine_core.specs.Needs.{needs_in};
-    ghost use Rattle.fields_core.specs.AnyPlanes.{kept_in, layers_in};
-    ghost use Rattle.fields_core.specs.PlanePosition.{PlacedPlanes, ArePlaced};
+    ghost use Rattle.fields_core.specs.AnyPlanes.{kept_in, layers_in, AreEnough};
+    ghost use Rattle.fields_core.specs.PlanePosition.{PlacedPlanes, ArePlaced, IsSpare};
 
     ghost Value = { PlacedPlanes R.Puzzle.Short R.Puzzle.Long };
 
@@ -50,6 +52,8 @@ impl<R: PlaneRules> Model for PlanePosition<R> {
 
     ghost invariant = { λ s. ArePlaced (needs_in s.made) (layers_in s.planes) s.marks.items
         × R.Puzzle.fits (kept_in s.planes) (needs_in s.made)
+        × IsSpare (R.Puzzle.fits) (needs_in s.made) s.spare
+        × AreEnough R.Puzzle.all_short (needs_in s.made) s.planes s.spare
         × R.serves s.scratch (needs_in s.made) };
 }
 
@@ -74,15 +78,18 @@ impl<R: PlaneRules> Position for PlanePosition<R> {
     ghost walks = { λ rules s. IsUnderWay (count_puzzle (R.Puzzle.board (R.puzzle_of rules))
         (R.Puzzle.blocked (R.puzzle_of rules)) (R.Puzzle.counted (R.puzzle_of rules))
         (R.Puzzle.solves (R.puzzle_of rules)))
-        (R.Puzzle.size (R.puzzle_of rules)) (R.Puzzle.written (R.puzzle_of rules)) s };
+        (R.Puzzle.extent (R.puzzle_of rules)) (R.Puzzle.written (R.puzzle_of rules)) s };
 
     fn new(alloc: Global, rules: &R) -> Result<PlanePosition<R>, AllocError> {
         let made = needs_for(rules);
         let scratch = rules.scratch(alloc)?;
+        let planes = planes_for(alloc, rules.puzzle(), made)?;
+        let spare = spare_for(alloc, rules.puzzle(), made, &planes)?;
         Ok(PlanePosition {
             made,
             scratch,
-            planes: rules.puzzle().planes(alloc, made)?,
+            planes,
+            spare,
             marks: vec![in alloc; 0usize; made.cells]?,
             marked: 0,
         })
@@ -97,6 +104,7 @@ impl<R: PlaneRules> Position for PlanePosition<R> {
     }
 
     fn begin(&mut self, rules: &R) {
+        choose(&mut self.planes, &mut self.spare, rules.puzzle(), self.made);
         rules.puzzle().start(&mut self.planes);
         self.marked = 0;
     }

@@ -17,7 +17,7 @@ use std::alloc::{AllocError, Global};
 /// By place the run of white cells that the cell is in, along its row and along its column: the places of its cells along
 /// that line. A black cell is in none.
 #[derive(Drop)]
-pub(crate) struct Runs<W: Word> {
+pub struct Runs<W: Word> {
     pub(crate) rows: Vec<W>,
     pub(crate) columns: Vec<W>,
 }

@@ -1,12 +1,10 @@
 //! The board that a search of Tents starts from, on planes.
-#![tactic(auto, using(crate::proofs::LawSets::tent_planes_laws))]
+#![tactic(auto)]
 
 ghost use Rattle.std.specs.Prelude.{◌≡◌, ℕ, ◌+◌, ◌*◌, ◌<◌, ◌≤◌, ◌&&◌, nat_lt, length, map};
 ghost use Rattle.grid_core.specs.Planes.{has};
 ghost use Rattle.grid_core.specs.Words.{has_bit};
 ghost use Rattle.gameid_core.specs.Puzzles.{IsTents};
-ghost use Rattle.engine_core.specs.RuleSystem.{needs_of};
-ghost use Rattle.fields_core.specs.AnyPlanes.{AreLongFor};
 ghost use Rattle.fields_core.specs.TentHouses.{is_barred, tent_rules};
 ghost use Rattle.fields_core.specs.Tents.{tree};
 ghost use Rattle.fields_core.specs.Trees.{AreRowsOf};
@@ -37,7 +35,8 @@ fn barred_in<W: Word>(puzzle: &TentsPuzzle, y: usize) -> W
 
 /// Begins with the board that a search of the puzzle starts from. It takes no memory.
 fn start_tents<W: Word>(planes: &mut Planes<W>, puzzle: &TentsPuzzle)
-    requires long { AreLongFor (needs_of (tent_rules puzzle.now)).scope W.room }
+    requires narrow { puzzle.now.size.w ≤ W.room }
+    requires low { puzzle.now.size.h ≤ W.room }
     requires few { puzzle.now.size.w * puzzle.now.size.h * 2 ≤ length planes.old.takings }
     ensures lawful { IsTents puzzle.now }
     ensures start { has planes.new ≡ (tent_rules puzzle.now).start }
@@ -54,7 +53,8 @@ fn start_tents<W: Word>(planes: &mut Planes<W>, puzzle: &TentsPuzzle)
 
 /// Begins with that board, and writes the trees of each row. It takes no memory.
 pub(crate) fn start_field<W: Word>(field: &mut Field<W, TentNotes<W>>, puzzle: &TentsPuzzle)
-    requires long { AreLongFor (needs_of (tent_rules puzzle.now)).scope W.room }
+    requires narrow { puzzle.now.size.w ≤ W.room }
+    requires low { puzzle.now.size.h ≤ W.room }
     requires few { puzzle.now.size.w * puzzle.now.size.h * 2 ≤ length field.old.planes.takings }
     requires rows { W.room ≤ length field.old.notes.trees.items }
     ensures lawful { IsTents puzzle.now }

@@ -1,10 +1,9 @@
 //! Tents on planes.
-#![tactic(auto, using(crate::proofs::LawSets::tent_planes_laws))]
+#![tactic(auto)]
 
-ghost use Rattle.std.specs.Prelude.{◌≡◌, ◌*◌, ◌≤◌, IfOk, length, refl};
+ghost use Rattle.std.specs.Prelude.{◌≤◌, refl};
 
 use crate::planes::any::AnyPlanes;
-use crate::planes::field::Field;
 use crate::planes::game::{PlaneGame, PlaneRules};
 use crate::planes::notes::TentNotes;
 use crate::planes::position::{OnPlanes, PlanePosition};
@@ -12,28 +11,11 @@ use crate::planes::start::start_field;
 use crate::tents::rules::TentRules;
 use engine_core::{Needs, PositionFor, Taken};
 use gameid_core::TentsPuzzle;
-use grid_core::{Planes, Size, Word};
+use grid_core::Size;
 use std::alloc::{AllocError, Global};
 
 /// Planes of Tents.
 type TentPlanes = AnyPlanes<TentNotes<u64>, TentNotes<u128>>;
-
-/// Planes of that size, with what Tents keeps beside them.
-///
-/// # Errors
-///
-/// When memory was refused.
-fn new_field<W: Word>(alloc: Global, size: Size) -> Result<Field<W, TentNotes<W>>, AllocError>
-    requires narrow { size.w ≤ W.room }
-    requires low { size.h ≤ W.room }
-    ensures room { IfOk result (λ field. length field.planes.takings ≡ size.w * size.h * 2) }
-    ensures rows { IfOk result (λ field. length field.notes.trees.items ≡ W.room) }
-{
-    Ok(Field {
-        planes: Planes::new(alloc, size)?,
-        notes: TentNotes::new(alloc)?,
-    })
-}
 
 impl PositionFor<TentRules> for OnPlanes {
     type Position = PlanePosition<TentRules>;
@@ -55,24 +37,33 @@ impl PlaneRules for TentRules {
 
 impl PlaneGame for TentsPuzzle {
     ghost use Rattle.fields_core.specs.TentNotes.{HaveRoom, AreWritten};
-    ghost use Rattle.fields_core.specs.TentNotesLaws.{room-less};
 
     type Short = TentNotes<u64>;
 
     type Long = TentNotes<u128>;
 
-    ghost size = { λ p. p.size };
+    ghost extent = { λ p. p.size };
 
     ghost fits = { HaveRoom };
 
     ghost written = { AreWritten };
 
-    fn planes(&self, alloc: Global, made: Needs) -> Result<TentPlanes, AllocError> {
-        let size = self.size();
-        if made.scope > 64 {
-            return Ok(AnyPlanes::Long(new_field(alloc, size)?));
-        }
-        Ok(AnyPlanes::Short(new_field(alloc, size)?))
+    ghost all_short = { λ needs. needs.scope ≤ 64 };
+
+    fn size(&self) -> Size {
+        TentsPuzzle::size(self)
+    }
+
+    fn are_short(&self, made: Needs) -> bool {
+        made.scope <= 64
+    }
+
+    fn short(&self, alloc: Global, _made: Needs) -> Result<TentNotes<u64>, AllocError> {
+        TentNotes::new(alloc)
+    }
+
+    fn long(&self, alloc: Global, _made: Needs) -> Result<TentNotes<u128>, AllocError> {
+        TentNotes::new(alloc)
     }
 
     fn start(&self, planes: &mut TentPlanes) {
@@ -91,5 +82,5 @@ impl PlaneGame for TentsPuzzle {
 
     ghost cells_are = { λ _. refl };
 
-    ghost fits_smaller = { room-less };
+    ghost fits_smaller = { λ _ _ _ _ room. room };
 }

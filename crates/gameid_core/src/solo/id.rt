@@ -42,31 +42,6 @@ fn next_run<'a>(
     Err(IdFault::BadByte(at))
 }
 
-/// The cells of a description, which begins at that place of the ID.
-#[tactic(auto, unfolding(crate::specs::Steps::reading, crate::specs::Words::words))]
-fn cells(alloc: Global, n: u8, base: usize, description: &[u8]) -> Result<Vec<u8>, IdFault>
-    requires place { base + length description.now < 2 ^ 32 }
-    requires n { n ≤ max_numbers }
-    ensures { Gives (λ v. v.items) result (solo_cells_at n base description.now) }
-{
-    let all = usize::from(n) * usize::from(n);
-    let mut cells = Vec::with_capacity(alloc, all)?;
-    let mut rest = description;
-    while let Some((&first, after)) = rest.split_first() {
-        let at = base + (description.len() - rest.len());
-        let (count, value, after) = next_run(n, at, first, after, rest)?;
-        if count > all - cells.len() {
-            return Err(IdFault::TooMany);
-        }
-        push_run(&mut cells, count, value)?;
-        rest = after;
-    }
-    if cells.len() != all {
-        return Err(IdFault::TooFew);
-    }
-    Ok(cells)
-}
-
 /// Writes what stands before a number that has so many blanks before it.
 fn push_before(out: &mut String, blanks: u8, touches: bool) -> Result<(), AllocError>
     requires { blanks ≤ 26 }
@@ -120,9 +95,24 @@ impl IdText for SoloPuzzle {
 
     ghost text = { λ p. cells_text 0 false p.givens };
 
-    #[tactic(auto, using(crate::proofs::SoloTexts::n_few))]
+    #[tactic(auto, using(crate::proofs::SoloTexts::n_few), unfolding(crate::specs::Steps::reading, crate::specs::Words::words))]
     fn read_description(alloc: Global, head: Head, description: &[u8]) -> Result<Self, IdFault> {
-        let givens = cells(alloc, head.w * head.h, head.description, description)?;
+        let n = head.w * head.h;
+        let all = usize::from(n) * usize::from(n);
+        let mut givens = Vec::with_capacity(alloc, all)?;
+        let mut rest = description;
+        while let Some((&first, after)) = rest.split_first() {
+            let at = head.description + (description.len() - rest.len());
+            let (count, value, after) = next_run(n, at, first, after, rest)?;
+            if count > all - givens.len() {
+                return Err(IdFault::TooMany);
+            }
+            push_run(&mut givens, count, value)?;
+            rest = after;
+        }
+        if givens.len() != all {
+            return Err(IdFault::TooFew);
+        }
         Ok(SoloPuzzle {
             c: head.w,
             r: head.h,

@@ -3,7 +3,7 @@
 ghost use Rattle.std.specs.Prelude.{◌≡◌, ℕ, ◌<◌, ◌≤◌, ◌&&◌, length};
 ghost use Rattle.grid_core.specs.Candidates.{max_values};
 ghost use Rattle.solo_core.specs.Common.{has_bit as is_set, has_in};
-ghost use Rattle.solo_core.specs.Peeled.{IsRest, IsPaired, HasSetOfCell, KeepsReaching, PairsCells, KeepsFillings};
+ghost use Rattle.solo_core.specs.Peeled.{IsRest, IsPaired, KeepsReaching, PairsCells, KeepsFillings};
 
 use crate::visits::bits::{all_below, next_bit, with_bit_if};
 use crate::visits::mates::{MANY, pair_rest, rest_of, write_own, write_rest};
@@ -59,21 +59,12 @@ fn keep_paired(values: u8, rest: &[u8], paired: &[u8], kept: &mut [u32])
     write_rest(rest, paired, mates);
     let mut reach_space = [0u32; MANY];
     let reach = &mut reach_space[..kept.len()];
-    write_own_sets(kept, mates, reach);
+    // a value leads to those of the cell that has it
+    for cell in 0..kept.len() {
+        reach[usize::from(mates[cell])] = kept[cell];
+    }
     close_under_steps(reach);
     keep_reached(values, mates, reach, kept);
-}
-
-/// Writes for each value the set of the cell that has it.
-fn write_own_sets(sets: &[u32], mates: &[u8], reach: &mut [u32])
-    requires as_many { length reach.old ≡ length sets.now }
-    requires paired { PairsCells (length sets.now) sets.now mates.now }
-    ensures as_many { length reach.new ≡ length sets.now }
-    ensures own { HasSetOfCell sets.now mates.now reach.new }
-{
-    for cell in 0..sets.len() {
-        reach[usize::from(mates[cell])] = sets[cell];
-    }
 }
 
 /// Keeps of each set the values that reach the cell's own.

@@ -6,7 +6,7 @@ ghost use Rattle.grid_core.specs.Candidates.{max_values};
 ghost use Rattle.engine_core.specs.Sets.{has_bit as is_set};
 ghost use Rattle.solo_core.specs.Peeled.{IsPeeled, AreAlone, AreCounts, AddsSingle, AddsShared, AreDropped};
 
-use crate::visits::bits::{all_below, has_any, with_bit_if, without};
+use crate::visits::bits::{all_below, with_bit_if};
 
 /// The values that some cell has, those that some cell has alone, and those that several cells have.
 #[derive(Clone, Copy)]
@@ -25,7 +25,10 @@ pub(crate) fn peel(values: u8, sets: &mut [u32]) -> u32
     ensures peeled { IsPeeled values sets.old sets.new }
     ensures alone { AreAlone values sets.new result }
 {
-    let mut counts = count(sets);
+    let mut counts = NO_COUNTS;
+    for k in 0..sets.len() {
+        counts = counts.with(sets[k]);
+    }
     for _turn in 0..sets.len() {
         // a cell has alone what others have too, or a cell with several values has one that no other has
         let open = counts.single & counts.shared | counts.some & !counts.shared & !counts.single;
@@ -64,17 +67,6 @@ impl Counts {
     }
 }
 
-/// Counts the cells that have each value.
-fn count(sets: &[u32]) -> Counts
-    ensures { AreCounts sets.now (length sets.now) result.some result.single result.shared }
-{
-    let mut counts = NO_COUNTS;
-    for k in 0..sets.len() {
-        counts = counts.with(sets[k]);
-    }
-    counts
-}
-
 /// Strikes from each set what the counts say, and counts again.
 fn narrow_all(values: u8, counts: Counts, sets: &mut [u32]) -> Counts
     requires few { values ≤ max_values }
@@ -98,12 +90,13 @@ fn narrow(values: u8, counts: Counts, set: u32) -> u32
     ensures inside { (v : ℕ) → is_set result v ≡ true → is_set set v ≡ true }
     ensures dropped { AreDropped values counts.single counts.shared set result }
 {
-    let own = set & without(all_below(values), counts.shared);
-    if has_any(own) {
+    let inside = set & all_below(values);
+    let own = inside & !counts.shared;
+    if own != 0 {
         return own;
     }
-    let open = set & without(all_below(values), counts.single);
-    if has_any(open) { open } else { set }
+    let open = inside & !counts.single;
+    if open != 0 { open } else { set }
 }
 
 /// The cells that have a value alone that no other has.
@@ -113,10 +106,10 @@ fn alone_cells(values: u8, counts: Counts, sets: &[u32]) -> u32
     requires counts { AreCounts sets.now (length sets.now) counts.some counts.single counts.shared }
     ensures { AreAlone values sets.now result }
 {
-    let lone = counts.single & without(all_below(values), counts.shared);
+    let lone = counts.single & all_below(values) & !counts.shared;
     let mut alone = 0u32;
     for k in 0..sets.len() {
-        alone = with_bit_if(alone, k, has_any(sets[k] & lone));
+        alone = with_bit_if(alone, k, sets[k] & lone != 0);
     }
     alone
 }

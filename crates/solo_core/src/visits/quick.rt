@@ -4,7 +4,7 @@
 ghost use Rattle.std.specs.Prelude.{◌≡◌, ◌<◌, true, length};
 ghost use Rattle.solo_core.specs.Quick.{AllPaired, FirstPaired, OneMorePaired};
 
-use crate::visits::bits::{all_below, next_bit, with_bit, without};
+use crate::visits::bits::{all_below, next_bit, with_bit};
 use crate::visits::graph::CellValueGraph;
 use engine_core::has_bit;
 
@@ -19,13 +19,13 @@ pub(crate) fn pair_quickly(graph: &CellValueGraph, mates: &mut [u8]) -> bool
     for i in 0..graph.rest.len() {
         match give(graph, i, free, mates) {
             None => return false,
-            Some(value) => free = without(free, with_bit(0, value)),
+            Some(value) => free &= !with_bit(0, value),
         }
     }
     true
 }
 
-/// Gives the cell a value, and says which one is free no more.
+/// Gives the cell a free value, or the value of one before it that has a free one. Says which one is free no more.
 fn give(graph: &CellValueGraph, i: usize, free: u32, mates: &mut [u8]) -> Option<usize>
     requires i_in { i < length graph.now.rest.now }
     requires room { length mates.old ≡ length graph.now.rest.now }
@@ -34,30 +34,17 @@ fn give(graph: &CellValueGraph, i: usize, free: u32, mates: &mut [u8]) -> Option
     ensures on { OneMorePaired graph.now i mates.new free result }
 {
     let set = graph.sets[usize::from(graph.rest[i])];
-    match next_bit(set & free, 0, usize::from(graph.values)) {
-        Some(value) => {
-            mates[i] = value as u8;
-            Some(value)
-        }
-        None => swap(graph, i, free, mates),
+    let end = usize::from(graph.values);
+    if let Some(value) = next_bit(set & free, 0, end) {
+        mates[i] = value as u8;
+        return Some(value);
     }
-}
-
-/// Gives the cell the value of one before it that has a free one.
-fn swap(graph: &CellValueGraph, i: usize, free: u32, mates: &mut [u8]) -> Option<usize>
-    requires i_in { i < length graph.now.rest.now }
-    requires room { length mates.old ≡ length graph.now.rest.now }
-    requires begun { FirstPaired graph.now i mates.old free }
-    ensures as_many { length mates.new ≡ length mates.old }
-    ensures on { OneMorePaired graph.now i mates.new free result }
-{
-    let set = graph.sets[usize::from(graph.rest[i])];
     for j in 0..i {
         if !has_bit(set, mates[j]) {
             continue;
         }
         let other = graph.sets[usize::from(graph.rest[j])];
-        if let Some(value) = next_bit(other & free, 0, usize::from(graph.values)) {
+        if let Some(value) = next_bit(other & free, 0, end) {
             mates[i] = mates[j];
             mates[j] = value as u8;
             return Some(value);

@@ -3,11 +3,10 @@
 
 ghost use Rattle.std.specs.Prelude.{◌≡◌, ℕ, ◌<◌, ◌≤◌, true, length, slice_index};
 ghost use Rattle.grid_core.specs.Candidates.{max_values};
-ghost use Rattle.solo_core.specs.Bits.{HasMore, HasBefore};
-ghost use Rattle.solo_core.specs.Ways.{HasValuesOf, StaysAfter, StaysBefore, LiesOnRounds};
+ghost use Rattle.solo_core.specs.Ways.{StaysAfter, StaysBefore, LiesOnRounds};
 ghost use Rattle.solo_core.specs.Peeled.{AreCellsOf};
 
-use crate::visits::bits::{has_any, with_bit, with_more, without};
+use crate::visits::bits::{with_bit, with_bit_if, with_more};
 
 /// Values that a first one leads to, and values that lead to it.
 #[derive(Clone, Copy)]
@@ -27,7 +26,10 @@ pub(crate) fn lie_on_rounds(values: u8, sets: &[u32], rest: &[u8], mates: &[u8])
     if rest.is_empty() {
         return false;
     }
-    let all = values_of(sets, rest);
+    let mut all = 0u32;
+    for i in 0..rest.len() {
+        all |= sets[usize::from(rest[i])];
+    }
     let root = with_bit(0, usize::from(mates[0]));
     let mut ends = Ends {
         after: root,
@@ -35,7 +37,7 @@ pub(crate) fn lie_on_rounds(values: u8, sets: &[u32], rest: &[u8], mates: &[u8])
     };
     for _turn in 0..rest.len() {
         let more = spread(values, sets, rest, mates, ends);
-        if !has_any(without(all, more.after & more.before)) {
+        if all & !(more.after & more.before) == 0 {
             return true;
         }
         if more.after == ends.after && more.before == ends.before {
@@ -44,18 +46,6 @@ pub(crate) fn lie_on_rounds(values: u8, sets: &[u32], rest: &[u8], mates: &[u8])
         ends = more;
     }
     false
-}
-
-/// The values that some of the cells has.
-fn values_of(sets: &[u32], rest: &[u8]) -> u32
-    requires rest_in { AreCellsOf sets.now rest.now }
-    ensures { HasValuesOf sets.now rest.now result }
-{
-    let mut all = 0u32;
-    for i in 0..rest.len() {
-        all |= sets[usize::from(rest[i])];
-    }
-    all
 }
 
 /// Goes on by one step of each cell, one after another.
@@ -72,20 +62,8 @@ fn spread(values: u8, sets: &[u32], rest: &[u8], mates: &[u8], ends: Ends) -> En
         let (value, next) = (mates[i], sets[usize::from(rest[i])]);
         more = Ends {
             after: with_more(more.after, value, next),
-            before: with_bit_over(more.before, usize::from(value), next),
+            before: with_bit_if(more.before, usize::from(value), next & more.before != 0),
         };
     }
     more
-}
-
-/// The bits with bit `value` set too, where some bit of `next` is among them.
-fn with_bit_over(bits: u32, value: usize, next: u32) -> u32
-    requires { value < 32 }
-    ensures { HasBefore bits value next result }
-{
-    if has_any(next & bits) {
-        with_bit(bits, value)
-    } else {
-        bits
-    }
 }

@@ -12,7 +12,7 @@ use std::alloc::{AllocError, Global};
 
 /// What is kept of a puzzle, and what waits while a closing goes on.
 #[derive(Drop)]
-pub(crate) struct LightNotes<W: Word> {
+pub struct LightNotes<W: Word> {
     pub(crate) tables: LightTables<W>,
     pub(crate) waits: LightWaits<W>,
 }

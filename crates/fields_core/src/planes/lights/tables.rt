@@ -13,7 +13,7 @@ use std::alloc::{AllocError, Global};
 
 /// The runs of each cell, the white cells of each row and of each column, and the numbered cells of each row.
 #[derive(Drop)]
-pub(crate) struct LightTables<W: Word> {
+pub struct LightTables<W: Word> {
     pub(crate) runs: Runs<W>,
     pub(crate) rows: Vec<W>,
     pub(crate) columns: Vec<W>,

@@ -36,7 +36,7 @@ impl LightKind {
 
 /// The lines of each kind that wait.
 #[derive(Clone, Copy)]
-pub(crate) struct LineWaits<W> {
+pub struct LineWaits<W> {
     numbers: W,
     rows: W,
     columns: W,
@@ -108,7 +108,7 @@ impl<W: Word> LineWaits<W> {
 
 /// What waits: the lines of each kind, and white cells, as a word for each row.
 #[derive(Drop)]
-pub(crate) struct LightWaits<W: Word> {
+pub struct LightWaits<W: Word> {
     pub(crate) lines: LineWaits<W>,
     pub(crate) lit: Vec<W>,
 }

@@ -24,7 +24,7 @@ loop-k-preserved g c = λ K are inside.
     let is : IsBitsOf (has c.args.board.now c.scope-place.result) p.values c.bits-now.result =
     rw (← c.requires.board_of.same_values) (record { small = c.bits-now.ensures.small; same = c.bits-now.ensures.same }) in
     elim c.if-now-sets.branch [
-      | then-now-sets w ↦ rw (w.waits-is, w.dead-is) (marking-then c.scope-place.ensures was is inside i w.if-now-sets.true (w.mark_at.ensures _) refl)
+      | then-now-sets w ↦ rw (w.waits-is, w.dead-is) (marking-then c.scope-place.ensures was is inside i w.if-now-sets.true w.mark_at.ensures refl)
       | else-now-sets w ↦ rw (w.waits-is, w.dead-is) (marking-else c.scope-place.ensures was is inside i w.if-now-sets.false)
     ]
 

@@ -1,6 +1,6 @@
-use Rattle.engine_core.proofs.Common.{and_left, arith, false, is_waiting, le-ltb, length, lt-ltb, refl, replicate, rules, true, waits_from, ℕ, ◌<◌, ◌≡◌}
+use Rattle.engine_core.proofs.Common.{arith, cases_eq, common_steps, eq-eqb, false, is_waiting, length, replicate, rules, ℕ, ◌<◌, ◌≡◌}
+use Rattle.engine_core.proofs.QueueLemmas.{rested_around, rested_start}
 use Rattle.engine_core.proofs.WaitLemmas.{waiting-none}
-use Rattle.engine_core.proofs.CallLemmas.{woken-from, woken-by_none, woken-same}
 use Rattle.engine_core.proofs.trail.agenda.wait_from.Goals as goal
 use Rattle.engine_core.proofs.trail.agenda.wait_from.Goals.{After-fill}
 
@@ -10,25 +10,14 @@ none g c j lt =
     let made : c.fill.new.self ≡ replicate (length c.args.waits.now) 0 = search rules in
     rw made (waiting-none (length c.args.waits.now) j (omega arith))
 
-pub loop-house-init : goal.loop-house-init
-loop-house-init g c = λ K follows.
-    woken-from (none g (goal.at.loop-house-init g c).After-fill) (λ j lt. refl)
-    (woken-by_none (λ j lt. and_left _ true (le-ltb j 0 (omega arith))))
+pub loop-house-preserved : goal.loop-house-preserved
+loop-house-preserved g c = λ j lt asleep.
+    grind (arith, common_steps, cases_eq j c.loop-house.house, eq-eqb, c.enqueue_if.ensures j, c.may_strike.ensures, c.loop-house.invariant j)
 
 pub returns-after-loop-house : goal.returns-after-loop-house
-unfolding waits_from
-returns-after-loop-house g c = record {
-  woken = λ K follows.
-      let p = g.R.Rules.system c.args.rules.now in
-      rw c.in-None.is (woken-same p K _ _ _ _
-      (λ j lt. rw (lt-ltb j c.loop-house.house (omega (arith, c.houses-house-end.ensures))) refl)
-      (c.loop-house.invariant K follows));
-}
+returns-after-loop-house g c = λ K.
+    rw c.in-None.is (rested_start (g.R.Rules.system c.args.rules.now) K (λ j lt asleep. c.loop-house.invariant j (omega (arith, c.houses-house-end.ensures)) asleep))
 
 pub returns-in-Some : goal.returns-in-Some
-unfolding waits_from
-returns-in-Some g c = record {
-  woken = λ K follows.
-      rw c.in-Some.is (woken-from (none g (goal.at.returns-in-Some g c).After-fill) (λ j lt. refl)
-      (c.wake.ensures.woken K follows));
-}
+returns-in-Some g c = λ K.
+    rw c.in-Some.is (rested_around c.in-Some.place (none g (goal.at.returns-in-Some g c).After-fill) c.wake.ensures)

@@ -1,4 +1,4 @@
-use Rattle.engine_core.proofs.Common.{arith, change_at, has, has_place, ◌≡◌, ◌≤◌}
+use Rattle.engine_core.proofs.Common.{arith, change_at, has_place, ◌≡◌, ◌≤◌}
 use Rattle.engine_core.proofs.CallLemmas.{woken-by_none}
 use Rattle.engine_core.proofs.LostLemmas.{since-woken, since-first}
 use Rattle.engine_core.proofs.trail.agenda.wake_since.Goals as goal
@@ -15,7 +15,7 @@ loop-number-preserved g c =
     let t = c.args.trailed.now in
     let le : c.args.from ≤ c.loop-number.number = omega arith in
     since-woken p t le c.loop-number.invariant
-    (rw c.changed.ensures.place at (c.wake.ensures.woken (has t.board) c.requires.follows))
+    (rw c.changed.ensures.place at c.wake.ensures)
 
 pub returns : goal.returns
-returns g c = let all : c.loop-number.number ≡ c.args.trailed.now.len = omega arith in record { woken = rw all at c.loop-number.invariant }
+returns g c = let all : c.loop-number.number ≡ c.args.trailed.now.len = omega arith in rw all at c.loop-number.invariant

@@ -1,7 +1,7 @@
-use Rattle.engine_core.proofs.Common.{AreWoken, has, is_since, is_waiting}
+use Rattle.engine_core.proofs.Common.{AreWoken, is_since, is_waiting}
 use Rattle.engine_core.proofs.trail.agenda.wake_since.Given as goal
 
 abbrev pub invariant-loop-number : goal.invariant-loop-number
 invariant-loop-number g l =
     let p = g.R.Rules.system l.rules in
-    AreWoken p (has l.trailed.board) (is_since p l.trailed l.from l.number) (is_waiting l.fn.waits) (is_waiting l.waits)
+    AreWoken p (is_since p l.trailed l.from l.number) (is_waiting l.fn.waits) (is_waiting l.waits)

@@ -1,5 +1,6 @@
-use Rattle.std.proofs.Common.{ℕ, ◌∙◌, ap, arith, subst}
-use Rattle.solo_core.specs.Common.{has_bit, has_in}
+use Rattle.std.proofs.Common.{ℕ, ◌∙◌, ap, arith, inl, inr, length-take, slice_index, subst}
+use Rattle.std.proofs.lemmas.Grind.{common_steps}
+use Rattle.solo_core.specs.Common.{cases_eq, get_or-set_at, get_or-set_other, has_bit, has_in, length-set}
 use Rattle.solo_core.specs.Peeled.{PairsCells}
 use Rattle.solo_core.specs.Ways.{IsTransitiveClosure}
 use Rattle.solo_core.proofs.MateLemmas.{whole_pairing}
@@ -15,19 +16,34 @@ whole c = let is = c.requires.alone.1 in
     c.write_own.ensures.own (c.write_rest.ensures.as_many ∙ c.write_own.ensures.as_many) (rw is at c.write_rest.ensures.paired)
     (rw is at c.write_rest.ensures.others)
 
-pub write_own_sets-requires-clause-paired : goal.write_own_sets-requires-clause-paired
-write_own_sets-requires-clause-paired c =
-    rw c.requires.square (rw c.requires.square at (whole (goal.at.write_own_sets-requires-clause-paired c).After-write_rest))
+pub loop-cell-init : goal.loop-cell-init
+loop-cell-init c = record {
+  as_many = grind (arith, length-take);
+  paired = rw c.requires.square (rw c.requires.square at (whole (goal.at.loop-cell-init c).After-write_rest));
+  own = λ k lk. absurd (omega arith);
+}
 
-pub keep_reached-requires-clause-paired : goal.keep_reached-requires-clause-paired
-keep_reached-requires-clause-paired c =
-    rw c.requires.square (rw c.requires.square at (whole (goal.at.keep_reached-requires-clause-paired c).After-write_rest))
+pub loop-cell-preserved : goal.loop-cell-preserved
+loop-cell-preserved c =
+    let i = c.loop-cell.invariant in
+    let cell = c.loop-cell.cell in
+    let set = slice_index c.args.kept.now cell in
+    record {
+      as_many = length-set c.loop-cell.reach c.from.result set ∙ i.as_many;
+      paired = i.paired;
+      own = λ k lk. elim (cases_eq k cell) [
+        | inl e ↦ grind (arith, common_steps, i.paired.in_range k, get_or-set_at)
+        | inr ne ↦ grind (arith, common_steps, i.own k, i.paired.own k cell, get_or-set_other)
+      ];
+    }
 
 pub returns : goal.returns
-returns c = record {
-  decided = decided_by_reach c.args.values c.args.kept.now c.write_rest.new.mates c.requires.square (whole (goal.at.returns c).After-write_rest)
-      (has_in c.write_own_sets.new.reach) (λ x v lt. ap (λ b. has_bit b v) (c.write_own_sets.ensures.own x (omega (arith, c.requires.square))))
-      (subst (λ (n : ℕ). IsTransitiveClosure n (has_in c.write_own_sets.new.reach)
-      (has_in c.close_under_steps.new.reach)) (c.write_own_sets.ensures.as_many ∙ c.requires.square)
-      c.close_under_steps.ensures.reaches) c.keep_reached.ensures.as_many c.keep_reached.ensures.bits;
-}
+returns c =
+    let i = c.loop-cell.invariant in
+    let leads = has_in c.loop-cell.reach in
+    record {
+      decided = decided_by_reach c.args.values c.args.kept.now c.write_rest.new.mates c.requires.square (whole (goal.at.returns c).After-write_rest)
+          leads (λ x v lt. ap (λ b. has_bit b v) (i.own x (omega (arith, c.requires.square))))
+          (subst (λ (n : ℕ). IsTransitiveClosure n leads (has_in c.close_under_steps.new.reach)) (i.as_many ∙ c.requires.square) c.close_under_steps.ensures.reaches)
+          c.keep_reached.ensures.as_many c.keep_reached.ensures.bits;
+    }

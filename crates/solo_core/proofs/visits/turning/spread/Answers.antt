@@ -9,5 +9,5 @@ loop-i-preserved c =
       after = λ root a. after-step c.args.sets.now c.args.rest.now c.args.mates.now root c.loop-i.i (omega arith) small _ _ (c.loop-i.invariant.after root a)
           (rw c.from.ensures at c.with_more.ensures);
       before = λ root b. before-step c.args.sets.now c.args.rest.now c.args.mates.now root c.loop-i.i (omega arith) small _ _ (c.loop-i.invariant.before root b)
-          (rw (c.from.ensures, c.from-in-loop-i.ensures) at c.with_bit_over.ensures);
+          (omega arith) (rw (c.from.ensures, c.from-in-loop-i.ensures) at c.with_bit_if.ensures);
     }

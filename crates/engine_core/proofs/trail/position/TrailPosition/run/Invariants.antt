@@ -8,7 +8,7 @@ invariant-loop-house g l =
     record {
       underway : IsUnderway p (board_in l.fn.self) l.turns l.from (board_in l.self) (is_waiting l.self.waits);
       alive : IsAlive p (board_in l.self);
-      along : IsAlong p (g.R.Propagators.follows l.rules) l.self;
+      along : IsAlong p l.self;
       onward : GoesOn l.fn.self l.self;
     }
 

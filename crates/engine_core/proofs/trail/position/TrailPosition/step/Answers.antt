@@ -40,16 +40,15 @@ returns-clause-step g c =
     let p = g.R.Rules.system c.args.rules.now in
     let r = rw (← c.self.view_is) at c.requires in
     let K = has c.self.inside.trailed.board in
-    let K' = has c.strike.new.self.board in
     let s = c.strike.ensures.struck c.if-strike.false in
     let v = c.self.inside.waits in
     let cleared =
     written-back v.len c.dequeue.new.waits (drop (length c.dequeue.new.waits) v.items)
     (omega (arith, v.ok.0, c.deref_mut.ensures.len, c.dequeue.auto.waits)) in
     let called =
-    woken-same p K' _ _ _ _ (λ j lt. lost-any p (has_place (p.scope j)) s.lost)
+    woken-same (λ j lt. lost-any p (has_place (p.scope j)) s.lost)
     (rw (c.len-before.ensures.len, c.deref_mut-waits.ensures.value, cleared)
-    at c.wake_since.ensures.woken) in
+    at c.wake_since.ensures) in
     rw (← c.self.view_is) (
       s.left,
       s.alive,

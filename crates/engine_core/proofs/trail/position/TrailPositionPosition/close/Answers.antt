@@ -1,6 +1,6 @@
 use Rattle.engine_core.proofs.Common.{Dead, IsClosing, [], arith, board_in, drop, has, length, refl, sym, ◌∙◌}
 use Rattle.engine_core.proofs.WaitLemmas.{written-back}
-use Rattle.engine_core.proofs.QueueLemmas.{rested_from, dead_of, within_of}
+use Rattle.engine_core.proofs.QueueLemmas.{dead_of, within_of}
 use Rattle.engine_core.proofs.ListLemmas.{closing-none}
 use Rattle.engine_core.proofs.EndLemmas.{closed-in, taken-dead}
 use Rattle.engine_core.proofs.trail.position.TrailPositionPosition.close.Goals as goal
@@ -29,4 +29,4 @@ run-requires-clause-rested g c =
     rw (written-back c.self.inside.waits.len c.wait_from.new.waits
     (drop (length c.wait_from.new.waits) c.self.inside.waits.items)
     (omega (arith, c.self.inside.waits.ok.0, c.deref_mut.ensures.len, c.wait_from.auto.waits)))
-    (rested_from c.args.from r.closed_but (c.wait_from.ensures.woken _ r.walks.along.follows))
+    (c.wait_from.ensures _ r.closed_but)

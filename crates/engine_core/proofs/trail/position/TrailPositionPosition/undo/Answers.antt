@@ -17,19 +17,19 @@ index-requires g c =
     let r = rw (← c.self.view_is) at c.requires in
     omega (arith, r.marked, r.walks.few, r.walks.along.fits.same_cells, c.self.invariant.0.marks_long, c.self.inside.marks.ok.0)
 
-pub undo-requires-clause-marked : goal.undo-requires-clause-marked
-undo-requires-clause-marked g c =
+pub undo-requires : goal.undo-requires
+undo-requires g c =
     let r = rw (← c.self.view_is) at c.requires in
-    rw (read g (goal.at.undo-requires-clause-marked g c).After-index) (r.walks.marked.within c.args.level r.marked)
+    rw (read g (goal.at.undo-requires g c).After-index) (r.walks.marked.within c.args.level r.marked)
 
 pub overflow_add-self : goal.overflow_add-self
 overflow_add-self g c =
-    let r = rw (← c.self.view_is) at c.requires in omega (arith, r.marked, r.walks.few, (g.met.R.Rules.lawful c.args.rules.now).few_cells)
+    let r = rw (← c.self.view_is) at c.requires in omega (arith, r.marked, r.walks.few, (g.met.R.Rules.lawful c.args._rules.now).few_cells)
 
 pub returns-clause-returned : goal.returns-clause-returned
 returns-clause-returned g c =
     let r = rw (← c.self.view_is) at c.requires in
-    rw (← c.self.view_is) (back-returned r.walks.marked r.marked (read g (goal.at.returns-clause-returned g c).After-index) c.undo.ensures.back)
+    rw (← c.self.view_is) (back-returned r.walks.marked r.marked (read g (goal.at.returns-clause-returned g c).After-index) c.undo.ensures)
 
 pub returns-clause-walks : goal.returns-clause-walks
 returns-clause-walks g c =
@@ -38,9 +38,8 @@ returns-clause-walks g c =
       along =
           record {
             fits = r.walks.along.fits;
-            board_of = IsBoardOf-same r.walks.along.board_of c.undo.ensures.back.shape;
-            follows = c.undo.ensures.follows;
+            board_of = IsBoardOf-same r.walks.along.board_of c.undo.ensures.shape;
           };
       few = omega (arith, r.walks.few, r.marked);
-      marked = rw c.undo.ensures.back.len (marks-returned r.walks.marked r.marked (read g (goal.at.returns-clause-walks g c).After-index));
+      marked = rw c.undo.ensures.len (marks-returned r.walks.marked r.marked (read g (goal.at.returns-clause-walks g c).After-index));
     }

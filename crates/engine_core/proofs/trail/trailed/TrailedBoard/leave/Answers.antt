@@ -21,15 +21,6 @@ overflow_add-self g c =
     let v = c.self.inside.changes in
     omega (arith, trail-len c.self.invariant, v.ok, v.small)
 
-pub change-requires : goal.change-requires
-change-requires g c =
-    record {
-      board = _;
-      changed = _;
-      is_so = rw (← c.self.view_is) at c.requires.follows;
-      change = (noted g (goal.at.change-requires g c).After-retain).change;
-    }
-
 pub invariant_of-self : goal.invariant_of-self
 invariant_of-self g c = (noted g (goal.at.invariant_of-self g c).After-retain).trail
 
@@ -40,11 +31,6 @@ pub returns-clause-further : goal.returns-clause-further
 returns-clause-further g c =
     let left = noted g (goal.at.returns-clause-further g c).After-retain in
     rw (← c.self.view_is) (record { shape = c.retain.ensures.shape; inside = left.inside; grows = omega arith; back = λ m le. left.back m le })
-
-pub returns-clause-follows : goal.returns-clause-follows
-returns-clause-follows g c =
-    c.change.ensures.follows _ _ (rw (← c.self.view_is) at c.requires.follows)
-    (noted g (goal.at.returns-clause-follows g c).After-retain).change
 
 pub returns-clause-noted : goal.returns-clause-noted
 returns-clause-noted g c =

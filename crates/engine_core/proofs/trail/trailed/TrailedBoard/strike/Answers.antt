@@ -60,7 +60,7 @@ loop-k-preserved g c =
           (has c.args.self.now.board) (has w.leave.new.self.board) =
           rw (e.left, w.scope.ensures)
           (upto-left laws c.requires.house_in lt within i.upto left) in
-          rw (w.self-is, w.counts-is) (record {
+          rw w.self-is (record {
             upto = upto;
             some = λ j less. elim (cases_eq j c.loop-k.k) [
               | inl same ↦ rw same (some (inr w.if-left-eq0.false))
@@ -69,10 +69,8 @@ loop-k-preserved g c =
             lost = lost-more laws _ c.requires.house_in lt grows e.longer (rw w.scope.ensures at e.noted) e.earlier (rw w.scope.ensures at e.left)
                 (lost-differ _ upto (are.bits c.loop-k.k lt) left w.if-left-sets.true) i.lost;
             further = further-more i.further e.further;
-            follows = e.follows;
-            keeps = λ needs served. e.keeps needs (i.keeps needs served);
           })
-      | else-left-sets w ↦ rw (w.self-is, w.counts-is) (record {
+      | else-left-sets w ↦ rw w.self-is (record {
         upto = upto-same laws c.requires.house_in lt within i.upto (are.bits c.loop-k.k lt) (rw w.if-left-sets.false at left);
         some = λ j less. elim (cases_eq j c.loop-k.k) [
           | inl same ↦ rw same (some (inl w.if-left-sets.false))
@@ -80,8 +78,6 @@ loop-k-preserved g c =
         ];
         lost = lost-same laws c.requires.house_in lt i.upto i.lost;
         further = i.further;
-        follows = i.follows;
-        keeps = i.keeps;
       })
     ]
 

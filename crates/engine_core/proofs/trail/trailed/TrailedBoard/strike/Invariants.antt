@@ -1,4 +1,4 @@
-use Rattle.engine_core.proofs.Common.{AreLost, IsFurther, StillServes, after, counts_of, has, ℕ, ◌<◌}
+use Rattle.engine_core.proofs.Common.{AreLost, IsFurther, after, counts_of, has, ℕ, ◌<◌}
 use Rattle.engine_core.proofs.ScopeLemmas.{IsUpto}
 use Rattle.engine_core.proofs.trail.trailed.TrailedBoard.strike.Given as goal
 
@@ -10,6 +10,4 @@ invariant-loop-k g l =
       some : (j : ℕ) → j < l.k → 0 < counts_of p l.house (after p l.house (has l.fn.self.board)) j;
       lost : AreLost p l.house l.k l.fn.self l.self;
       further : IsFurther l.fn.self l.self;
-      follows : g.R.Propagators.follows l.rules l.counts (has l.self.board);
-      keeps : StillServes g.R.Propagators.counts_serve l.fn.counts l.counts;
     }

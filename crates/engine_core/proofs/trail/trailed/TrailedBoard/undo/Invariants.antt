@@ -1,17 +1,15 @@
-use Rattle.engine_core.proofs.Common.{IsTrail, Needs, SameShape, back_at, cells_of, has, put_back, ℕ, ◌≡◌, ◌≤◌}
+use Rattle.engine_core.proofs.Common.{IsTrail, SameShape, back_at, cells_of, has, put_back, ℕ, ◌≡◌, ◌≤◌}
 use Rattle.engine_core.proofs.trail.trailed.TrailedBoard.undo.Given as goal
 
 abbrev pub invariant-loop-self : goal.invariant-loop-self
-invariant-loop-self g l =
+invariant-loop-self l =
     let b = l.self-inside.board in
     record {
       low : l.mark ≤ l.self-inside.len;
       trail : IsTrail (cells_of b) b.values (has b) l.self-inside.changes.items l.self-inside.len;
       back : (m : ℕ) → m ≤ l.mark → put_back (has b) l.self-inside.changes.items m l.self-inside.len ≡ back_at l.fn.self m;
       shape : SameShape l.fn.self.board b;
-      follows : g.R.Propagators.follows l.rules l.counts (has b);
-      keeps : (needs : Needs) → g.R.Propagators.counts_serve l.fn.counts needs → g.R.Propagators.counts_serve l.counts needs;
     }
 
 abbrev pub decreases-loop-self : goal.decreases-loop-self
-decreases-loop-self g l = l.self-inside.len
+decreases-loop-self l = l.self-inside.len

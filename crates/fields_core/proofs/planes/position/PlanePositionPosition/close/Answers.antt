@@ -10,4 +10,4 @@ pub returns-clause-walks : goal.returns-clause-walks
 returns-clause-walks g c =
     let r = rw (← c.self.view_is) at c.requires in
     step-walks _ _ _ r.walks c.close.ensures.further (rw c.puzzle.ensures at c.close.ensures.alive)
-    (rw c.puzzle.ensures at c.close.ensures.written)
+    c.close.ensures.words (rw c.puzzle.ensures at c.close.ensures.written)

@@ -1,0 +1,85 @@
+//! Light Up on planes.
+#![tactic(auto)]
+
+ghost use Rattle.std.specs.Prelude.{◌≤◌, refl};
+
+use crate::light_up::rules::LightRules;
+use crate::planes::any::AnyPlanes;
+use crate::planes::game::{PlaneGame, PlaneRules};
+use crate::planes::lights::notes::LightNotes;
+use crate::planes::position::{OnPlanes, PlanePosition};
+use engine_core::{Needs, PositionFor, Taken};
+use gameid_core::LightPuzzle;
+use grid_core::Size;
+use std::alloc::{AllocError, Global};
+
+/// Planes of Light Up.
+type LightPlanes = AnyPlanes<LightNotes<u64>, LightNotes<u128>>;
+
+impl PositionFor<LightRules> for OnPlanes {
+    type Position = PlanePosition<LightRules>;
+
+    ghost position_of = { λ _. refl };
+}
+
+impl PlaneRules for LightRules {
+    type Puzzle = LightPuzzle;
+
+    ghost puzzle_of = { λ rules. rules.set.puzzle };
+
+    fn puzzle(&self) -> &LightPuzzle {
+        self.set().puzzle()
+    }
+
+    ghost system_is = { λ _. refl };
+}
+
+impl PlaneGame for LightPuzzle {
+    ghost use Rattle.fields_core.specs.LightNotes.{AreLightsWritten, HaveLightRoom, light-room-less};
+
+    type Short = LightNotes<u64>;
+
+    type Long = LightNotes<u128>;
+
+    ghost extent = { λ p. p.size };
+
+    ghost fits = { HaveLightRoom };
+
+    ghost written = { AreLightsWritten };
+
+    ghost all_short = { λ needs. needs.cells ≤ 64 };
+
+    fn size(&self) -> Size {
+        LightPuzzle::size(self)
+    }
+
+    fn are_short(&self, made: Needs) -> bool {
+        made.cells <= 64
+    }
+
+    fn short(&self, alloc: Global, made: Needs) -> Result<LightNotes<u64>, AllocError> {
+        LightNotes::new(alloc, made.cells)
+    }
+
+    fn long(&self, alloc: Global, made: Needs) -> Result<LightNotes<u128>, AllocError> {
+        LightNotes::new(alloc, made.cells)
+    }
+
+    fn start(&self, planes: &mut LightPlanes) {
+        match planes {
+            AnyPlanes::Short(field) => field.notes.start(&mut field.planes, self),
+            AnyPlanes::Long(field) => field.notes.start(&mut field.planes, self),
+        }
+    }
+
+    fn close(&self, planes: &mut LightPlanes, from: Option<usize>) -> Taken {
+        match planes {
+            AnyPlanes::Short(field) => field.notes.close(&mut field.planes, self, from),
+            AnyPlanes::Long(field) => field.notes.close(&mut field.planes, self, from),
+        }
+    }
+
+    ghost cells_are = { λ _. refl };
+
+    ghost fits_smaller = { light-room-less };
+}
