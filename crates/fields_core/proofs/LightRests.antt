@@ -36,33 +36,12 @@ use Rattle.fields_core.proofs.NumberRows.{numbers-are}
 use Rattle.fields_core.proofs.PartIdle.{IsPartOf, idle-around, in-back, in-below, in-front}
 use Rattle.fields_core.proofs.PartLemmas.{value-in}
 use Rattle.fields_core.proofs.RunOrder.{column-runs-kept, column-runs-lie, row-runs-are, row-runs-kept, row-runs-lie}
-use Rattle.fields_core.proofs.StepLaws.{step-down, step-left, step-right, step-up, steps-some}
-use Rattle.fields_core.proofs.TentBeside.{cell-after, cell-below, cell-parts, row-in, whole-cell}
+use Rattle.fields_core.proofs.StepLaws.{steps-some}
+use Rattle.fields_core.proofs.TentBeside.{cell-parts, row-in, step-lies, whole-cell}
 use Rattle.fields_core.proofs.TreeBoards.{filter-has}
 use Rattle.fields_core.proofs.VisitLemmas.{visits-append}
 
 -- ---- where houses lie
-step-lies : (size : Extent) (c : ℕ) → 0 < size.w → (y x k : ℕ) → x < size.w → k < 4 → step size (y * size.w + x) k ≡ Some c
-    → (c / size.w ≡ y) ⊎ ((c / size.w + 1 ≡ y) ⊎ (c / size.w ≡ y + 1))
-step-lies size c pos y x zero lt less e =
-    let own = cell-parts size.w y x (y * size.w + x) lt refl in
-    let up = step-up size _ c e in
-    inr (inl (sym (cell-below c pos).0 ∙ ap (λ n. n / size.w) up ∙ own.0))
-step-lies size c pos y x (suc zero) lt less e =
-    let own = cell-parts size.w y x (y * size.w + x) lt refl in
-    let left = step-left size _ c e in
-    let some : 1 ≤ x = rw own.1 at left.1 in
-    inl (cell-parts size.w y (x - 1) c (omega arith) (let a = left.0 in omega arith)).0
-step-lies size c pos y x (suc (suc zero)) lt less e =
-    let own = cell-parts size.w y x (y * size.w + x) lt refl in
-    let right = step-right size _ c e in
-    inl (ap (λ n. n / size.w) right.0 ∙ (cell-after size.w _ right.1).0 ∙ own.0)
-step-lies size c pos y x (suc (suc (suc zero))) lt less e =
-    let own = cell-parts size.w y x (y * size.w + x) lt refl in
-    let down = step-down size _ c e in
-    inr (inr (ap (λ n. n / size.w) down.0 ∙ (cell-below _ pos).0 ∙ ap (λ n. n + 1) own.0))
-step-lies size c pos y x (suc (suc (suc (suc k)))) lt less e = absurd (omega arith)
-
 numbers-lie : (p : Light) (c y : ℕ) → 0 < p.size.w → any_has (numbers_of_row p y) c ≡ true
     → (c / p.size.w ≡ y) ⊎ ((c / p.size.w + 1 ≡ y) ⊎ (c / p.size.w ≡ y + 1))
 numbers-lie p c y pos on =

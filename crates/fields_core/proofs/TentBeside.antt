@@ -1,5 +1,5 @@
 -- Cells beside each other: each is beside the other, and they lie in the grid.
-use Rattle.fields_core.proofs.Common.{Extent, Some, ap, arith, cases_eq, common_steps, cond-true, div-lt_iff_lt-mul, div-mul-add, eq-eqb, eqb, false, has_place, if_there, inl, inr, le-leb, leb, lt-ltb, ltb, mod-lt, mul-le-mul_right, or_left, place-back, place-front, refl, step, steps, suc, sym, true, zero, ℕ, ◌%◌, ◌*◌, ◌+◌, ◌-◌, ◌/◌, ◌<◌, ◌∙◌, ◌≡◌, ◌≤◌}
+use Rattle.fields_core.proofs.Common.{Extent, Some, ap, arith, cases_eq, common_steps, cond-true, div-lt_iff_lt-mul, div-mul-add, eq-eqb, eqb, false, has_place, if_there, inl, inr, le-leb, leb, lt-ltb, ltb, mod-lt, mul-le-mul_right, or_left, place-back, place-front, refl, step, steps, suc, sym, true, zero, ℕ, ◌%◌, ◌*◌, ◌+◌, ◌-◌, ◌/◌, ◌<◌, ◌∙◌, ◌≡◌, ◌≤◌, ◌⊎◌}
 use Rattle.fields_core.proofs.StepLaws.{step-up, step-left, step-right, step-down, steps-some}
 
 -- the row and the column of a cell
@@ -88,3 +88,25 @@ step-in size c d (suc (suc (suc (suc k)))) pos lt less e = absurd (omega arith)
 
 pub beside-in : (size : Extent) (c d : ℕ) → 0 < size.w → c < size.w * size.h → has_place (steps size c 4) d ≡ true → d < size.w * size.h
 beside-in size c d pos lt on = let w = steps-some size c 4 d on in step-in size c d w.0 pos lt w.1 w.2
+
+-- a step leads to a cell of the row, or of one beside it
+pub step-lies : (size : Extent) (c : ℕ) → 0 < size.w → (y x k : ℕ) → x < size.w → k < 4 → step size (y * size.w + x) k ≡ Some c
+    → (c / size.w ≡ y) ⊎ ((c / size.w + 1 ≡ y) ⊎ (c / size.w ≡ y + 1))
+step-lies size c pos y x zero lt less e =
+    let own = cell-parts size.w y x (y * size.w + x) lt refl in
+    let up = step-up size _ c e in
+    inr (inl (sym (cell-below c pos).0 ∙ ap (λ n. n / size.w) up ∙ own.0))
+step-lies size c pos y x (suc zero) lt less e =
+    let own = cell-parts size.w y x (y * size.w + x) lt refl in
+    let left = step-left size _ c e in
+    let some : 1 ≤ x = rw own.1 at left.1 in
+    inl (cell-parts size.w y (x - 1) c (omega arith) (let a = left.0 in omega arith)).0
+step-lies size c pos y x (suc (suc zero)) lt less e =
+    let own = cell-parts size.w y x (y * size.w + x) lt refl in
+    let right = step-right size _ c e in
+    inl (ap (λ n. n / size.w) right.0 ∙ (cell-after size.w _ right.1).0 ∙ own.0)
+step-lies size c pos y x (suc (suc (suc zero))) lt less e =
+    let own = cell-parts size.w y x (y * size.w + x) lt refl in
+    let down = step-down size _ c e in
+    inr (inr (ap (λ n. n / size.w) down.0 ∙ (cell-below _ pos).0 ∙ ap (λ n. n + 1) own.0))
+step-lies size c pos y x (suc (suc (suc (suc k)))) lt less e = absurd (omega arith)

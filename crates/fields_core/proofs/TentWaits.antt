@@ -12,7 +12,8 @@ use Rattle.gameid_core.specs.Puzzles.{Tents, IsTents}
 use Rattle.fields_core.specs.CountHouse.{count_house_of, one_at_most, strikes_of}
 use Rattle.fields_core.specs.Parts.{IsAlive}
 use Rattle.fields_core.specs.Squares.{squares_of_row}
-use Rattle.fields_core.specs.TentHouses.{column_of_tents, row_of_tents, square_house, tent_houses, tent_rules}
+use Rattle.fields_core.specs.TentHouses.{is_barred, column_of_tents, row_of_tents, square_house, tent_houses, tent_rules}
+use Rattle.fields_core.specs.Tents.{solves_tents}
 use Rattle.fields_core.specs.Trees.{trees_of_row}
 use Rattle.fields_core.specs.Visits.{AreVisited, after_houses}
 use Rattle.fields_core.specs.Waits.{AreIdle, AreRested, AreWoken, kind_houses, kind_lines, waiting}
@@ -27,8 +28,9 @@ use Rattle.fields_core.proofs.PartLemmas.{value-in}
 use Rattle.fields_core.proofs.RunBegins.{all-houses}
 use Rattle.fields_core.proofs.SquareLemmas.{square-has}
 use Rattle.fields_core.proofs.SquareVisits.{squares-are}
-use Rattle.fields_core.proofs.StepLaws.{step-down, step-left, step-right, step-up, steps-some}
-use Rattle.fields_core.proofs.TentBeside.{cell-after, cell-below, cell-parts, row-in}
+use Rattle.fields_core.proofs.StepLaws.{steps-some}
+use Rattle.fields_core.proofs.PartIdle.{IsPartOf, idle-around, in-back, in-below, in-front}
+use Rattle.fields_core.proofs.TentBeside.{cell-parts, row-in, step-lies}
 use Rattle.fields_core.proofs.TentVisits.{square-is, square_places, tree-is}
 use Rattle.fields_core.proofs.TreeBoards.{trees-are}
 use Rattle.fields_core.proofs.VisitLemmas.{below-next, below-rest, house-at}
@@ -49,27 +51,6 @@ module _ (p : Tents) (c : ℕ) (pos : 0 < p.size.w) where
       let at : y * p.size.w + w.0 ≡ c = sym (get_or-map-range_with_len (λ x. y * p.size.w + x) 0 p.size.w w.0 w.0 0 lk (omega arith)) ∙ w.2 in
       (cell-parts p.size.w y w.0 c lk (sym at)).0
 
-  beside-lies : (y x k : ℕ) → x < p.size.w → k < 4 → step p.size (y * p.size.w + x) k ≡ Some c
-      → (c / p.size.w ≡ y) ⊎ ((c / p.size.w + 1 ≡ y) ⊎ (c / p.size.w ≡ y + 1))
-  beside-lies y x zero lt less e =
-      let own = cell-parts p.size.w y x (y * p.size.w + x) lt refl in
-      let up = step-up p.size _ c e in
-      inr (inl (sym (cell-below c pos).0 ∙ ap (λ n. n / p.size.w) up ∙ own.0))
-  beside-lies y x (suc zero) lt less e =
-      let own = cell-parts p.size.w y x (y * p.size.w + x) lt refl in
-      let left = step-left p.size _ c e in
-      let some : 1 ≤ x = rw own.1 at left.1 in
-      inl (cell-parts p.size.w y (x - 1) c (omega arith) (let a = left.0 in omega arith)).0
-  beside-lies y x (suc (suc zero)) lt less e =
-      let own = cell-parts p.size.w y x (y * p.size.w + x) lt refl in
-      let right = step-right p.size _ c e in
-      inl (ap (λ n. n / p.size.w) right.0 ∙ (cell-after p.size.w _ right.1).0 ∙ own.0)
-  beside-lies y x (suc (suc (suc zero))) lt less e =
-      let own = cell-parts p.size.w y x (y * p.size.w + x) lt refl in
-      let down = step-down p.size _ c e in
-      inr (inr (ap (λ n. n / p.size.w) down.0 ∙ (cell-below _ pos).0 ∙ ap (λ n. n + 1) own.0))
-  beside-lies y x (suc (suc (suc (suc k)))) lt less e = absurd (omega arith)
-
   trees-lie : {y : ℕ} → any_has (trees_of_row p y) c ≡ true
       → (c / p.size.w ≡ y) ⊎ ((c / p.size.w + 1 ≡ y) ⊎ (c / p.size.w ≡ y + 1))
   trees-lie {y} on =
@@ -82,7 +63,7 @@ module _ (p : Tents) (c : ℕ) (pos : 0 < p.size.w) where
       by x lt (inl is) here =
           let there = any-one (one_at_least (free_beside p (y * p.size.w + x))) c (rw is at here) in
           let s = steps-some p.size (y * p.size.w + x) 4 c (place-filter (λ d. not (tree p d)) _ c there).0 in
-          beside-lies y x s.0 lt s.1 s.2
+          step-lies p.size c pos y x s.0 lt s.1 s.2
 
   squares-lie : {y : ℕ} → any_has (squares_of_row p y) c ≡ true → (c / p.size.w ≡ y) ⊎ (c / p.size.w ≡ y + 1)
   squares-lie {y} on =
@@ -250,78 +231,21 @@ rested-woken bits {room} p before now {zeros} {ones} {from} {to} {len} are lost_
         (λ c. kept Squares 0 c lt off refl) idle
 
 -- ---- a board that is closed but around a cell
--- the houses stand one after another among all
-pub record IsPart (part all : List CountHouse) : Type 0 where
-  pub front : List CountHouse
-  pub back : List CountHouse
-  pub is : all ≡ front ++ (part ++ back)
-
-part-front : (part front back : List CountHouse) → IsPart part front → IsPart part (front ++ back)
-part-front part front back within = record {
-  front = within.front;
-  back = within.back ++ back;
-  is = rw within.is (append_assoc within.front (part ++ within.back) back ∙ ap (λ xs. within.front ++ xs) (append_assoc part within.back back));
-}
-
-part-back : (part front back : List CountHouse) → IsPart part back → IsPart part (front ++ back)
-part-back part front back within = record {
-  front = front ++ within.front;
-  back = within.back;
-  is = rw within.is (sym (append_assoc front within.front (part ++ within.back)));
-}
-
-part-next : (f : ℕ → List CountHouse) (k more : ℕ) → IsPart (f k) (houses_below f (k + 1 + more))
-part-next f k more =
-    let w = below-rest f (k + 1) more in
-    record {
-      front = houses_below f k;
-      back = w.0;
-      is = w.1 ∙ rw (below-next f k) (append_assoc (houses_below f k) (f k) w.0);
-    }
-
-part-below : (f : ℕ → List CountHouse) (k n : ℕ) → k < n → IsPart (f k) (houses_below f n)
-part-below f k n lt =
-    let e : k + 1 + (n - (k + 1)) ≡ n = omega arith in
-    rw e at (part-next f k (n - (k + 1)))
-
-part-kind : (p : Tents) (kind : Kind) (k : ℕ) → k < kind_lines p kind → IsPart (kind_houses p kind k) (tent_houses p)
+-- the houses of a kind at a line are among all
+part-kind : (p : Tents) (kind : Kind) (k : ℕ) → k < kind_lines p kind → IsPartOf (kind_houses p kind k) (tent_houses p)
 unfolding tent_houses
-part-kind p Columns k lt = part-front _ _ _ (part-below (column_of_tents p) k p.size.w lt)
-part-kind p Rows k lt = part-back _ (houses_below (column_of_tents p) p.size.w) _ (part-front _ _ _ (part-below (row_of_tents p) k p.size.h lt))
-part-kind p Trees k lt = part-back _ (houses_below (column_of_tents p) p.size.w) _ (part-back _ (houses_below (row_of_tents p) p.size.h) _
-    (part-front _ _ _ (rw (trees-are p) at (part-below (trees_of_row p) k p.size.h lt))))
-part-kind p Squares k lt = part-back _ (houses_below (column_of_tents p) p.size.w) _ (part-back _ (houses_below (row_of_tents p) p.size.h) _
-    (part-back _ (houses_below (tree_house p) (tent_cells p)) _ (rw (squares-are p) at (part-below (squares_of_row p) k p.size.h lt))))
+part-kind p Columns k lt = in-front _ _ _ (in-below (column_of_tents p) k p.size.w lt)
+part-kind p Rows k lt = in-back _ (houses_below (column_of_tents p) p.size.w) _ (in-front _ _ _ (in-below (row_of_tents p) k p.size.h lt))
+part-kind p Trees k lt = in-back _ (houses_below (column_of_tents p) p.size.w) _ (in-back _ (houses_below (row_of_tents p) p.size.h) _
+    (in-front _ _ _ (rw (trees-are p) at (in-below (trees_of_row p) k p.size.h lt))))
+part-kind p Squares k lt = in-back _ (houses_below (column_of_tents p) p.size.w) _ (in-back _ (houses_below (row_of_tents p) p.size.h) _
+    (in-back _ (houses_below (tree_house p) (tent_cells p)) _ (rw (squares-are p) at (in-below (squares_of_row p) k p.size.h lt))))
 
 -- houses of a closed board that do not have the cell are idle
 module _ (p : Tents) (K : Candidates) (place : ℕ) (around : IsClosedAround (tent_rules p) K place) where
-  house-idle : (front : List CountHouse) (house : CountHouse) (back : List CountHouse) → tent_houses p ≡ front ++ house ∷ back
-      → has_place house.places place ≡ false → after_house house K ≡ K
-  unfolding after_house
-  house-idle front house back is off = fun_ext λ c. fun_ext λ v.
-      let at : count_house_of (tent_houses p) (length front) ≡ house = rw is (house-at front house back) in
-      let closed = around.closed (length front) c v (rw is (omega (arith, length-append front (house ∷ back)))) in
-      by c v (rw at at closed) (cases_Bool (K c v))
-    where
-      by : (c v : ℕ) → (has_place house.places place ≡ false → K c v ≡ true → strikes_of house K c v ≡ false)
-          → (K c v ≡ true) ⊎ (K c v ≡ false) → (K c v && not (strikes_of house K c v)) ≡ K c v
-      by c v closed (inr gone) = rw gone refl
-      by c v closed (inl on) = rw (on, closed off on) refl
-
-  part-idle : (front part back : List CountHouse) → tent_houses p ≡ front ++ (part ++ back) → any_has part place ≡ false → AreIdle part K
-  unfolding after_houses any_has
-  part-idle front [] back is off = refl
-  part-idle front (house ∷ part) back is off =
-      let both : (has_place house.places place ≡ false) × (any_has part place ≡ false) =
-      (grind (arith, common_steps, cases_Bool (has_place house.places place)), grind (arith, common_steps, cases_Bool (has_place house.places place))) in
-      rw (house-idle front house (part ++ back) is both.0)
-      (part-idle (front ++ house ∷ []) part back (is ∙ sym (append_assoc front (house ∷ []) (part ++ back))) both.1)
-
-  all-idle : {part : List CountHouse} → IsPart part (tent_houses p) → any_has part place ≡ false → AreIdle part K
-  all-idle {part} within off = part-idle within.front part within.back within.is off
-
   pub rested-around : {W : Type 0} (bits : W → ℕ) (now : Waits W) → ((v : ℕ) → v < 2 → AreOff bits p now v place) → AreRested bits p now K
-  rested-around bits now off kind k lt none = all-idle (part-kind p kind k lt) (by kind lt none)
+  rested-around bits now off kind k lt none =
+      idle-around (tent_cells p) (is_barred p) (tent_houses p) (solves_tents p) K place around (part-kind p kind k lt) (by kind lt none)
     where
       by : (kind : Kind) → k < kind_lines p kind → has_bit (waiting bits now kind) k ≡ false → any_has (kind_houses p kind k) place ≡ false
       by Columns lt none = off 0 (omega arith) Columns k lt none refl

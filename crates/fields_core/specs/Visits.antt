@@ -44,14 +44,3 @@ line_houses p =
 abbrev pub cell_houses : Tents → List CountHouse
 cell_houses p =
     houses_below (trees_of_row p) p.size.h ++ houses_below (squares_of_row p) p.size.h
-
--- the board after a sweep: each house is visited once, in ascending order
-abbrev pub swept : Tents → Candidates → Candidates
-swept p K = replay (tent_rules p) K (range_with_len 0 (tent_rules p).houses)
-
--- a sweep took the planes from the first to the second; or it leaves a cell without a value
-pub record IsTentSweep (p : Tents) (from to : Layers) (fills : Bool) : Type 0 where
-  pub left : fills ≡ true → has to ≡ swept p (has from)
-  pub dies : fills ≡ false → IsDead (tent_rules p) (swept p (has from))
-  pub alive : IsAlive to
-  pub further : IsFurther from to

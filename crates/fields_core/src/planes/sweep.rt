@@ -4,7 +4,9 @@
 ghost use Rattle.std.specs.Prelude.{◌≡◌, ◌<◌, true, map};
 ghost use Rattle.grid_core.specs.Planes.{has};
 ghost use Rattle.fields_core.specs.CountHouse.{houses_below};
-ghost use Rattle.fields_core.specs.Visits.{AreVisited, IsFieldOf, IsTentSweep, cell_houses, line_houses};
+ghost use Rattle.fields_core.specs.Sweeps.{IsSweep};
+ghost use Rattle.fields_core.specs.TentHouses.{tent_rules};
+ghost use Rattle.fields_core.specs.Visits.{AreVisited, IsFieldOf, cell_houses, line_houses};
 ghost use Rattle.fields_core.specs.Waits.{AreRested, kind_houses, kind_lines};
 
 use crate::planes::next::next_place;
@@ -120,7 +122,7 @@ impl<W: Word> TentNotes<W> {
         requires field { IsFieldOf W.room puzzle.now planes.old
             (map W.bits self.old.trees.items) }
         requires rested { AreRested W.bits puzzle.now self.old.waits (has planes.old) }
-        ensures swept { IsTentSweep puzzle.now planes.old planes.new result }
+        ensures swept { IsSweep (tent_rules puzzle.now) planes.old planes.new result }
         ensures rested { result ≡ true
             → AreRested W.bits puzzle.now self.new.waits (has planes.new) }
         ensures trees { self.new.trees ≡ self.old.trees }
