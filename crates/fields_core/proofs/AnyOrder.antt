@@ -1,6 +1,6 @@
 -- Houses of one at most, visited in any order.
 unfoldable use Rattle.engine_core.specs.RuleSystem.{has_place}
-use Rattle.fields_core.proofs.Common.{AllByRecursion, AreDistinct, Bool, Candidates, CountHouse, IsHouse, Layers, List, [], after_house, and_from, and_parts, ap, arith, cases_Bool, cells_of, common_steps, count_by, distinct-from, eq-eqb, eqb, eqb-true, false, false_from_ne_true, false≢true, fun_ext, inl, inr, list_any, lt-ltb, ltb, ltb-false, ltb-true, not, not-true, or_cases, or_left, or_parts, or_right, refl, strikes_of, sym, true, true≢false, ℕ, ◌&&◌, ◌<◌, ◌||◌, ◌∙◌, ◌∷◌, ◌≡◌, ◌≢◌, ◌⊎◌}
+use Rattle.fields_core.proofs.Common.{AllByRecursion, AreDistinct, Bool, Candidates, CountHouse, IsHouse, Layers, List, [], after_house, and_from, and_parts, ap, arith, cases_Bool, cells_of, common_steps, count_by, distinct-from, eq-eqb, eqb, eqb-true, false, false_from_ne_true, false≢true, fun_ext, inl, inr, list_any, lt-ltb, ltb, ltb-false, ltb-true, not, not-true, or_cases, or_left, or_parts, or_right, refl, sym, true, true≢false, ℕ, ◌&&◌, ◌<◌, ◌||◌, ◌∙◌, ◌∷◌, ◌≡◌, ◌≢◌, ◌⊎◌}
 use Rattle.grid_core.specs.Candidates.{IsInside}
 use Rattle.grid_core.specs.Planes.{has}
 use Rattle.fields_core.specs.Parts.{IsAlive}

@@ -1,5 +1,5 @@
 -- Lists of count houses, as they are made.
-use Rattle.fields_core.proofs.Common.{AreHouses, AreListed, Bool, Bounds, CountHouse, CountList, Extent, FitsLists, FitsPlaces, IsAdded, IsBegun, List, [], add-one, append-nil, append_assoc, arith, bounds_of, common_steps, cond, count_house_of, false, filter, get_or, get_or-map, house_places, houses_below, length, length-append, length-map, map, map-append, no_count_house, places-at, refl, steps, suc, true, zero, ℕ, ◌++◌, ◌+◌, ◌<◌, ◌∷◌, ◌≡◌, ◌≤◌}
+use Rattle.fields_core.proofs.Common.{AreListed, Bool, Bounds, CountHouse, CountList, Extent, FitsLists, FitsPlaces, IsAdded, IsBegun, List, [], add-one, append-nil, append_assoc, arith, bounds_of, common_steps, cond, count_house_of, false, filter, get_or, get_or-map, houses_below, length, length-append, length-map, map, map-append, no_count_house, refl, steps, suc, true, zero, ℕ, ◌++◌, ◌+◌, ◌<◌, ◌∷◌, ◌≡◌, ◌≤◌}
 use Rattle.fields_core.proofs.PlaceLists.{filter-few}
 use Rattle.fields_core.proofs.StepLaws.{steps-few}
 

@@ -1,6 +1,6 @@
 -- What is counted of the cells of count houses.
-use Rattle.fields_core.proofs.Common.{AreDistinct, AreHousesAt, Bool, Bounds, Candidates, CountHouse, IsBitsOf, IsChange, IsHouse, IsTally, List, Tally, [], ap, ap₂, arith, bounds_of, cases_Bool, cases_eq, common_steps, cond, count_by, count_by-le-length, count_house_of, counted, distinct-from, eqb, false, get_or-set_other, get_or-set_same, has_bit, has_place, has_strikes, inl, inr, is_empty, length, length-set, not, number_at, numbered, refl, scope_of, set, slice_index, strikes_of, subst, suc, sum_by_more, sym, take, take_all, tally_of, tally_of_one, true, true≢false, ℕ, ◌&&◌, ◌+◌, ◌-◌, ◌<◌, ◌∙◌, ◌∷◌, ◌≡◌, ◌≤◌}
-use Rattle.fields_core.proofs.PlaceLists.{num, count-cons, count-off, count-at, count-there}
+use Rattle.fields_core.proofs.Common.{Bool, Bounds, Candidates, CountHouse, IsBitsOf, IsHouse, IsTally, List, Tally, [], arith, bounds_of, cases_eq, common_steps, cond, count_by, eqb, false, has_bit, has_strikes, is_empty, length, not, refl, slice_index, strikes_of, suc, sum_by_more, sym, take, take_all, tally_of, tally_of_one, true, ℕ, ◌&&◌, ◌+◌, ◌<◌, ◌∙◌, ◌∷◌, ◌≡◌, ◌≤◌}
+use Rattle.fields_core.proofs.PlaceLists.{num, count-cons}
 use Rattle.fields_core.proofs.CountKept.{idle-at}
 
 -- ---- counted by the sets of the cells

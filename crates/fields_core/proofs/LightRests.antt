@@ -1,22 +1,19 @@
 -- What waits of Light Up: where its houses lie, what stays idle, and what is idle where a closing begins.
-use Rattle.fields_core.proofs.Common.{AllByRecursion, Black, cells_of, Bool, and_from, and_parts, any_below, any_below-none, any_below-some, cases_eq, mod-lt, not-true, or_left, or_right, Candidates, CountHouse, IsAlive, IsLight, Layers, Light, LightCell, List, None, Numbered, Option, Some, White, [], ap, arith, begins_column_run, begins_row_run, cases_Bool, column_run, common_steps, eq-eqb, eqb, eqb-true, exactly, false, false_from_ne_true, filter, get_or, has_bit, has_place, houses_below, inl, inr, joined_in_column, joined_in_row, light_cells, light_houses, light_rules, lit_house, lt-ltb, ltb, map, not, number_house, one_at_least, or_cases, place-filter, refl, row_run, seen_from, slice_index, steps, suc, sym, true, true≢false, white, zero, ℕ, ◌%◌, ◌&&◌, ◌*◌, ◌++◌, ◌+◌, ◌-◌, ◌/◌, ◌<◌, ◌||◌, ◌∙◌, ◌∷◌, ◌≡◌, ◌≢◌, ◌≤◌, ◌⊎◌}
+use Rattle.fields_core.proofs.Common.{AllByRecursion, Black, Bool, and_from, and_parts, any_below, any_below-none, any_below-some, cases_eq, mod-lt, not-true, or_left, or_right, Candidates, CountHouse, IsLight, Layers, Light, LightCell, List, Numbered, White, ap, arith, cases_Bool, column_run, common_steps, eq-eqb, eqb, eqb-true, exactly, false, false_from_ne_true, filter, get_or, has_bit, houses_below, inl, inr, joined_in_column, joined_in_row, light_cells, light_houses, light_rules, lit_house, lt-ltb, ltb, map, not, number_house, one_at_least, or_cases, place-filter, refl, row_run, seen_from, slice_index, steps, suc, sym, true, true≢false, white, zero, ℕ, ◌%◌, ◌&&◌, ◌*◌, ◌+◌, ◌-◌, ◌/◌, ◌<◌, ◌||◌, ◌∙◌, ◌≡◌, ◌≤◌, ◌⊎◌}
 use Rattle.grid_core.specs.Candidates.{IsInside}
-use Rattle.grid_core.specs.Extent.{Extent}
 use Rattle.grid_core.specs.Planes.{has, back_at, AreLinesOf, ArePlanes, IsFurther, IsLostIn}
-use Rattle.grid_core.specs.Regions.{step}
 use Rattle.grid_core.specs.declared.planes.touched.Touched.{Touched}
 use Rattle.grid_core.proofs.PlaneLemmas.{place-in}
 use Rattle.grid_core.proofs.TakingLemmas.{put_back-none}
-use Rattle.engine_core.specs.Queue.{IsClosedAround, IsClosedBut}
+use Rattle.engine_core.specs.Queue.{IsClosedAround}
 use Rattle.fields_core.specs.Light.{solves_lights}
-use Rattle.fields_core.specs.LightHouses.{numbered, row_house, column_house}
+use Rattle.fields_core.specs.LightHouses.{row_house, column_house}
 use Rattle.fields_core.specs.LightPlanes.{ArePlanesOf}
-use Rattle.fields_core.specs.LightWaits.{AreIdleBetween, AreLightsRested, AreLinesRested, AreLinesWoken, AreLitRested, AreNoted, AreNumbersWoken, AreWider, HaveTwo, IsMinded, IsNoted, light_kind_houses, light_kind_lines, waiting_lines}
+use Rattle.fields_core.specs.LightWaits.{AreIdleBetween, AreLightsRested, AreLinesRested, AreLinesWoken, AreLitRested, AreNoted, AreNumbersWoken, AreWider, IsNoted, light_kind_houses, light_kind_lines, waiting_lines}
 unfoldable use Rattle.fields_core.specs.LightWaits.{lit_waits}
 use Rattle.fields_core.specs.LightWords.{numbers_of_row, row_runs_of_row}
-use Rattle.fields_core.specs.RunLines.{column_runs_of_column}
 use Rattle.fields_core.specs.Trees.{IsRowOf}
-use Rattle.fields_core.specs.Visits.{AreVisited, after_houses}
+use Rattle.fields_core.specs.Visits.{after_houses}
 use Rattle.fields_core.specs.Waits.{AreIdle}
 use Rattle.fields_core.specs.declared.planes.lights.waits.LightKind.{LightKind}
 use Rattle.fields_core.specs.declared.planes.lights.waits.LightKind.TheVariants.{Numbers, RowRuns, ColumnRuns}
@@ -38,7 +35,6 @@ use Rattle.fields_core.proofs.PartLemmas.{value-in}
 use Rattle.fields_core.proofs.RunOrder.{column-runs-kept, column-runs-lie, row-runs-are, row-runs-kept, row-runs-lie}
 use Rattle.fields_core.proofs.StepLaws.{steps-some}
 use Rattle.fields_core.proofs.TentBeside.{cell-parts, row-in, step-lies, whole-cell}
-use Rattle.fields_core.proofs.TreeBoards.{filter-has}
 use Rattle.fields_core.proofs.VisitLemmas.{visits-append}
 
 -- ---- where houses lie

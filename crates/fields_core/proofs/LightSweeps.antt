@@ -1,14 +1,12 @@
 -- Sweeps of the houses of Light Up on planes.
-use Rattle.fields_core.proofs.Common.{CountHouse, IsAlive, IsLight, Layers, Light, List, append_assoc, ap, arith, column_house, has_bit, houses_below, false, light_cells, light_houses, light_rules, lit_house, not, number_house, refl, row_house, suc, sym, true, white, zero, ℕ, Bool, ◌*◌, ◌++◌, ◌+◌, ◌-◌, ◌<◌, ◌∙◌, ◌≡◌, ◌≤◌}
-use Rattle.grid_core.specs.Planes.{IsFurther, cells_of, has}
+use Rattle.fields_core.proofs.Common.{IsAlive, Layers, Light, append_assoc, ap, arith, column_house, has_bit, houses_below, false, light_cells, light_houses, light_rules, lit_house, not, refl, row_house, true, white, ℕ, Bool, ◌*◌, ◌++◌, ◌<◌, ◌∙◌, ◌≡◌, ◌≤◌}
+use Rattle.grid_core.specs.Planes.{IsFurther, has}
 use Rattle.fields_core.specs.Light.{solves_lights}
 use Rattle.fields_core.specs.LightPlanes.{ArePlanesOf, IsKept}
 use Rattle.fields_core.specs.LightWaits.{AreLinesRested, light_kind_houses, light_kind_lines, lits_of_row, waiting_lines, white_houses}
-use Rattle.fields_core.specs.LightWords.{numbers_of_row, row_runs_of_row}
-use Rattle.fields_core.specs.RunLines.{column_runs_of_column}
+use Rattle.fields_core.specs.LightWords.{numbers_of_row}
 use Rattle.fields_core.specs.Sweeps.{IsSweep}
 use Rattle.fields_core.specs.Visits.{AreVisited}
-use Rattle.fields_core.specs.Waits.{AreIdle}
 use Rattle.fields_core.specs.declared.planes.lights.notes.LightNotes.{LightNotes}
 use Rattle.fields_core.specs.declared.planes.lights.waits.LightKind.{LightKind}
 use Rattle.fields_core.specs.declared.planes.lights.waits.LineWaits.{LineWaits}

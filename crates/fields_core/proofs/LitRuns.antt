@@ -1,15 +1,13 @@
 -- Houses of white cells of Light Up that are idle, and stay so while only 0 is taken.
-use Rattle.fields_core.proofs.Common.{Candidates, IsLight, Light, ap, cases_eq, column_run, has_place, inl, inr, joined_in_column, joined_in_row, light_cells, lit_house, ne_eqb, not, one_at_least, place-back, place-front, place-kept, refl, row_run, seen_from, strikes_of, true, false, white, ℕ, ◌<◌, ◌≡◌, ◌≢◌, cases_Bool, after_house, cases_lt, count_by, arith, Bool, sym, true≢false, ◌⊎◌, Layers, IsAlive, ◌∙◌}
-use Rattle.grid_core.specs.Candidates.{IsInside}
+use Rattle.fields_core.proofs.Common.{Candidates, IsLight, Light, ap, cases_eq, column_run, has_place, inl, inr, joined_in_column, joined_in_row, light_cells, lit_house, ne_eqb, not, place-back, place-front, place-kept, refl, row_run, seen_from, true, white, ℕ, ◌<◌, ◌≡◌, ◌≢◌, cases_Bool, Layers, IsAlive}
 use Rattle.grid_core.specs.Planes.{has}
-use Rattle.fields_core.specs.Visits.{AreVisited, after_houses}
+use Rattle.fields_core.specs.Visits.{after_houses}
 use Rattle.fields_core.proofs.AtMostLemmas.{IsFull}
 use Rattle.fields_core.proofs.LightCounting.{in-column-run, in-row-run, light-board}
 use Rattle.fields_core.proofs.LightHouseLaws.{column-white-end, row-self, white-in}
-use Rattle.fields_core.proofs.LitIdle.{idle-kept, ones-stay, several-idle, several-stay}
+use Rattle.fields_core.proofs.LitIdle.{several-stay}
 use Rattle.fields_core.proofs.LitVisits.{lit-is}
 use Rattle.fields_core.proofs.PartLemmas.{value-in}
-use Rattle.fields_core.proofs.TreeBoards.{tree-broken}
 
 module _ (p : Light) (lawful : IsLight p) (c : ℕ) (is_white : white p c ≡ true) where
   some : 0 < p.size.w

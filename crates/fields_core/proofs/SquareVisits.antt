@@ -1,7 +1,6 @@
 -- Visits of the squares of two rows of Tents.
-use Rattle.fields_core.proofs.Common.{AllByRecursion, ArePieces, Bool, eqb-true, lines_beside, number_of, piece_at, Extent, IsAlive, IsFurther, IsHouse, IsTents, Layers, List, Piece, Tents, [], and-false, and_from, and_parts, any_below, any_below-none, any_below-some, ap, arith, cases_Bool, cases_lt, common_steps, crosses, div-mul-add, eq-eqb, eqb, false, false≢true, fun_ext, further-none, has_bit, has_place, houses_below, inl, inr, le-ltb, lies_in, lies_in_first, list_any, lt-ltb, ltb, ltb-true, not, or_left, or_right, place-column, refl, square_house, suc, sym, tent_cells, true, true≢false, without_value, zero, ℕ, ◌%◌, ◌&&◌, ◌*◌, ◌+◌, ◌-◌, ◌/◌, ◌<◌, ◌||◌, ◌∙◌, ◌∷◌, ◌≡◌, ◌≢◌, ◌≤◌, ◌⊎◌, Candidates, mod-lt}
+use Rattle.fields_core.proofs.Common.{AllByRecursion, ArePieces, Bool, eqb-true, lines_beside, number_of, piece_at, Extent, IsAlive, IsFurther, IsHouse, IsTents, Layers, Tents, [], and-false, and_from, and_parts, any_below, any_below-none, any_below-some, ap, arith, cases_Bool, cases_lt, common_steps, crosses, div-mul-add, eq-eqb, eqb, false, false≢true, fun_ext, further-none, has_bit, has_place, houses_below, inl, inr, le-ltb, lies_in, lies_in_first, list_any, lt-ltb, ltb, ltb-true, not, or_left, or_right, place-column, refl, square_house, suc, sym, tent_cells, true, true≢false, without_value, zero, ℕ, ◌%◌, ◌&&◌, ◌*◌, ◌+◌, ◌-◌, ◌/◌, ◌<◌, ◌||◌, ◌∙◌, ◌≡◌, ◌≢◌, ◌≤◌, ◌⊎◌, Candidates, mod-lt}
 unfoldable use Rattle.grid_core.specs.Planes.{bit_of, has}
-use Rattle.grid_core.specs.declared.planes.line.Line.TheVariants.{Row}
 use Rattle.fields_core.specs.Squares.{squares_of_row, two_rows}
 use Rattle.fields_core.specs.Visits.{AreVisited}
 use Rattle.fields_core.proofs.AtMostLemmas.{IsFull, IsOneAtMost, visits-met, visits-two, zeros_of}

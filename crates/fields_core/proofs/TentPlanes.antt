@@ -1,5 +1,5 @@
 -- Tents on planes: the sides that the memory is for, and what a closing asks of planes.
-use Rattle.std.proofs.Common.{◌≡◌, ◌∙◌, ℕ, zero, suc, ◌+◌, ◌-◌, ◌<◌, ◌≤◌, ◌⊎◌, List, [], ◌∷◌, ◌++◌, length, get_or, slice_index, refl, ap, inl, inr, arith}
+use Rattle.std.proofs.Common.{◌≡◌, ◌∙◌, ℕ, zero, suc, ◌+◌, ◌-◌, ◌<◌, ◌≤◌, ◌⊎◌, List, [], ◌∷◌, ◌++◌, length, get_or, slice_index, refl, ap, arith}
 use Rattle.std.proofs.lemmas.List.{append_assoc, length-append, get_or-append_right}
 use Rattle.grid_core.specs.Regions.{row_places, column_places}
 use Rattle.grid_core.specs.Planes.{Layers, has}

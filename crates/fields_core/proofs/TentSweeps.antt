@@ -1,5 +1,5 @@
 -- Sweeps of the houses of Tents on planes.
-use Rattle.std.proofs.Common.{◌≡◌, ℕ, ◌*◌, ◌<◌, Bool, true, false, ◌++◌, append_assoc, refl, inl, inr, ◌⊎◌, arith}
+use Rattle.std.proofs.Common.{◌≡◌, ℕ, ◌<◌, Bool, true, false, ◌++◌, append_assoc, refl, ◌⊎◌, arith}
 use Rattle.std.proofs.lemmas.Bool.{cases_Bool}
 use Rattle.std.proofs.lemmas.Grind.{common_steps}
 use Rattle.grid_core.specs.Candidates.{Candidates, count_below, is_dead}

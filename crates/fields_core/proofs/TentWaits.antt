@@ -1,21 +1,21 @@
 -- What waits of Tents: where its houses lie, what stays idle, and what is idle where a closing begins.
-use Rattle.fields_core.proofs.Common.{AllByRecursion, Bool, Candidates, CountHouse, Option, eq-eqb, free_beside, one_at_least, Layers, Some, eqb-true, List, [], after_house, and_parts, ap, append_assoc, arith, cases_Bool, common_steps, div-mul-add, eqb, false, false_from_ne_true, fun_ext, has_bit, has_place, has_place-at, houses_below, inl, inr, length, ltb, ltb-true, lt-ltb, mod-lt, not, or_cases, place-filter, refl, slice_index, suc, sym, tree, tree_house, tent_cells, true, true≢false, zero, ℕ, ◌%◌, ◌&&◌, ◌*◌, ◌++◌, ◌+◌, ◌-◌, ◌/◌, ◌<◌, ◌||◌, ◌∙◌, ◌∷◌, ◌≡◌, ◌≤◌, ◌⊎◌, length-append}
+use Rattle.fields_core.proofs.Common.{AllByRecursion, Bool, Candidates, Option, eq-eqb, free_beside, one_at_least, Layers, Some, eqb-true, and_parts, ap, arith, cases_Bool, common_steps, eqb, false, false_from_ne_true, has_bit, has_place-at, houses_below, inl, inr, ltb, ltb-true, lt-ltb, not, or_cases, place-filter, refl, suc, sym, tree, tree_house, tent_cells, true, true≢false, zero, ℕ, ◌%◌, ◌&&◌, ◌*◌, ◌+◌, ◌-◌, ◌/◌, ◌<◌, ◌||◌, ◌∙◌, ◌≡◌, ◌≤◌, ◌⊎◌}
 use Rattle.std.proofs.lemmas.Bool.{true_from_ne_false}
 use Rattle.std.proofs.lemmas.List.FromFn.{length-map-range_with_len, get_or-map-range_with_len}
 use Rattle.grid_core.specs.Planes.{has, back_at, AreLinesOf, ArePlanes, IsFurther, IsLostIn}
-use Rattle.grid_core.specs.Regions.{step, beside, row_places, column_places}
+use Rattle.grid_core.specs.Regions.{row_places, column_places}
 use Rattle.grid_core.specs.declared.planes.touched.Touched.{Touched}
 use Rattle.grid_core.proofs.PlaneLemmas.{place-in}
 use Rattle.grid_core.proofs.TakingLemmas.{put_back-none}
 use Rattle.engine_core.specs.Queue.{IsClosedAround, IsClosedBut}
 use Rattle.gameid_core.specs.Puzzles.{Tents, IsTents}
-use Rattle.fields_core.specs.CountHouse.{count_house_of, one_at_most, strikes_of}
+use Rattle.fields_core.specs.CountHouse.{one_at_most}
 use Rattle.fields_core.specs.Parts.{IsAlive}
 use Rattle.fields_core.specs.Squares.{squares_of_row}
 use Rattle.fields_core.specs.TentHouses.{is_barred, column_of_tents, row_of_tents, square_house, tent_houses, tent_rules}
 use Rattle.fields_core.specs.Tents.{solves_tents}
 use Rattle.fields_core.specs.Trees.{trees_of_row}
-use Rattle.fields_core.specs.Visits.{AreVisited, after_houses}
+use Rattle.fields_core.specs.Visits.{AreVisited}
 use Rattle.fields_core.specs.Waits.{AreIdle, AreRested, AreWoken, kind_houses, kind_lines, waiting}
 use Rattle.fields_core.specs.declared.planes.waits.Kind.{Kind}
 use Rattle.fields_core.specs.declared.planes.waits.Kind.TheVariants.{Columns, Rows, Trees, Squares}
@@ -33,7 +33,6 @@ use Rattle.fields_core.proofs.PartIdle.{IsPartOf, idle-around, in-back, in-below
 use Rattle.fields_core.proofs.TentBeside.{cell-parts, row-in, step-lies}
 use Rattle.fields_core.proofs.TentVisits.{square-is, square_places, tree-is}
 use Rattle.fields_core.proofs.TreeBoards.{trees-are}
-use Rattle.fields_core.proofs.VisitLemmas.{below-next, below-rest, house-at}
 
 -- ---- where houses lie
 module _ (p : Tents) (c : ℕ) (pos : 0 < p.size.w) where

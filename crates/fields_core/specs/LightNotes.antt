@@ -1,6 +1,6 @@
 -- What Light Up keeps beside planes. No public contract uses these words.
 use Rattle.std.specs.Prelude.{ℕ, ◌⊎◌}
-use Rattle.std.proofs.Common.{inl, inr, subst}
+use Rattle.std.proofs.Common.{inl, inr}
 use Rattle.engine_core.specs.RuleSystem.{Needs, FitsIn}
 use Rattle.gameid_core.specs.Puzzles.{IsLight, Light}
 use Rattle.fields_core.specs.LightPlanes.{AreTables, HasLightRoom}

@@ -1,8 +1,8 @@
 -- Planes of Light Up, and the words of a puzzle beside them.
-use Rattle.std.specs.Prelude.{◌≡◌, ℕ, ◌≤◌, List, length, map}
+use Rattle.std.specs.Prelude.{◌≡◌, ℕ, ◌≤◌, length, map}
 use Rattle.grid_core.specs.Planes.{Layers}
 use Rattle.gameid_core.specs.Puzzles.{IsLight, Light}
-use Rattle.fields_core.specs.Light.{light_cells, white}
+use Rattle.fields_core.specs.Light.{white}
 use Rattle.fields_core.specs.LightWords.{AreRunWords}
 use Rattle.fields_core.specs.NumberWords.{AreColumnsOf, is_numbered}
 use Rattle.fields_core.specs.Parts.{IsAlive}

@@ -1,15 +1,12 @@
 -- Visits of count houses on planes, one after another, and sweeps of all houses of Tents.
 use Rattle.std.specs.Prelude.{◌≡◌, ℕ, ◌<◌, ◌≤◌, Bool, true, false, List, [], ◌∷◌, ◌++◌}
-use Rattle.std.specs.List.{range_with_len}
 use Rattle.grid_core.specs.Candidates.{Candidates}
 use Rattle.grid_core.specs.Planes.{Layers, has, cells_of, IsFurther}
-use Rattle.engine_core.specs.Closing.{replay}
-use Rattle.engine_core.specs.ClosingList.{IsDead}
 use Rattle.gameid_core.specs.Puzzles.{Tents, IsTents}
 use Rattle.fields_core.specs.CountHouse.{CountHouse, after_house, houses_below}
 use Rattle.fields_core.specs.Parts.{IsAlive}
-use Rattle.fields_core.specs.TentHouses.{column_of_tents, row_of_tents, tree_house, square_house, tent_rules}
-use Rattle.fields_core.specs.Tents.{tent_cells, tree}
+use Rattle.fields_core.specs.TentHouses.{column_of_tents, row_of_tents}
+use Rattle.fields_core.specs.Tents.{tree}
 use Rattle.fields_core.specs.Trees.{AreRowsOf, trees_of_row}
 use Rattle.fields_core.specs.Squares.{squares_of_row}
 

@@ -1,5 +1,5 @@
 -- Which houses of Tents wait on planes. No public contract uses these words.
-use Rattle.std.specs.Prelude.{◌≡◌, ℕ, ◌+◌, ◌-◌, ◌<◌, Bool, false, ◌&&◌, ◌||◌, nat_lt, List}
+use Rattle.std.specs.Prelude.{◌≡◌, ℕ, ◌+◌, ◌-◌, ◌<◌, false, ◌&&◌, ◌||◌, nat_lt, List}
 use Rattle.grid_core.specs.Candidates.{Candidates}
 use Rattle.grid_core.specs.Words.{has_bit}
 use Rattle.grid_core.specs.declared.planes.touched.Touched.{Touched}

@@ -1,4 +1,4 @@
-use Rattle.fields_core.proofs.Common.{Extent, ap, arith, further-more, further-none, refl, sym, ◌∙◌, ◌≡◌}
+use Rattle.fields_core.proofs.Common.{Extent, ap, arith, further-more, refl, sym, ◌∙◌, ◌≡◌}
 use Rattle.grid_core.specs.Planes.{ArePlanes}
 use Rattle.fields_core.proofs.TreeWords.{taken-is, zeros-kept, zeros-taken}
 use Rattle.fields_core.proofs.planes.trees.take_beside.Goals as goal

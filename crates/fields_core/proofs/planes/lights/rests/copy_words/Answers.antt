@@ -1,4 +1,4 @@
-use Rattle.fields_core.proofs.Common.{ap, arith, cases_eq, get_or-set_other, get_or-set_same, inl, inr, length, length-map, length-set, map, sym, ◌<◌, ◌∙◌}
+use Rattle.fields_core.proofs.Common.{arith, cases_eq, get_or-set_other, get_or-set_same, inl, inr, length, length-map, length-set, map, sym, ◌<◌, ◌∙◌}
 use Rattle.std.proofs.lemmas.List.{map-set}
 use Rattle.fields_core.proofs.TreeWords.{row-read}
 use Rattle.fields_core.proofs.planes.lights.rests.copy_words.Goals as goal

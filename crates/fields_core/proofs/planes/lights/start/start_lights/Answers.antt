@@ -1,4 +1,4 @@
-use Rattle.fields_core.proofs.Common.{Bool, Extent, ap, arith, cases_Bool, common_steps, has_bit, length, length-map, ltb, not, white, ℕ, ◌&&◌, ◌*◌, ◌+◌, ◌<◌, ◌∙◌, ◌≡◌}
+use Rattle.fields_core.proofs.Common.{Bool, Extent, ap, arith, cases_Bool, common_steps, length, length-map, ltb, not, white, ◌&&◌, ◌*◌, ◌+◌, ◌<◌, ◌∙◌, ◌≡◌}
 use Rattle.grid_core.specs.Planes.{has}
 use Rattle.fields_core.proofs.RuleLemmas.{row-blocked, start-all}
 use Rattle.fields_core.proofs.TreeWords.{row-read}

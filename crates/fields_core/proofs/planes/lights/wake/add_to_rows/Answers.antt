@@ -1,7 +1,6 @@
-use Rattle.fields_core.proofs.Common.{ap, arith, eq-eqb, eqb, false_from_ne_true, has_bit, inl, inr, length, length-map, map, not, refl, slice_index, sym, true, ℕ, ◌&&◌, ◌<◌, ◌||◌, ◌∙◌, ◌≡◌, any_below-none, true≢false}
+use Rattle.fields_core.proofs.Common.{arith, eq-eqb, eqb, false_from_ne_true, has_bit, inl, inr, length, length-map, not, refl, sym, ℕ, ◌&&◌, ◌<◌, ◌||◌, ◌∙◌, ◌≡◌, any_below-none, true≢false}
 use Rattle.grid_core.proofs.TurnLemmas.{fewer_left}
-use Rattle.fields_core.specs.LightWaits.{AreWider}
-use Rattle.fields_core.proofs.LightNotes.{left-off, left-on, set-has, wider-more, wider-same, wider-set}
+use Rattle.fields_core.proofs.LightNotes.{left-off, left-on, set-has, wider-more, wider-set}
 use Rattle.fields_core.proofs.planes.lights.wake.add_to_rows.Goals as goal
 
 pub loop-own-smaller : goal.loop-own-smaller

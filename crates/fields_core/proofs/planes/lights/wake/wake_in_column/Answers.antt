@@ -1,4 +1,4 @@
-use Rattle.fields_core.proofs.Common.{Extent, and_parts, ap, arith, has_bit, length, length-map, light_cells, ltb-true, sym, ℕ, ◌&&◌, ◌*◌, ◌+◌, ◌<◌, ◌∙◌, ◌≡◌, refl, true}
+use Rattle.fields_core.proofs.Common.{Extent, and_parts, ap, arith, has_bit, ltb-true, sym, ℕ, ◌&&◌, ◌*◌, ◌+◌, ◌<◌, ◌∙◌, ◌≡◌, refl, true}
 use Rattle.grid_core.specs.Planes.{ArePlanes, bit_of}
 use Rattle.fields_core.specs.LightWords.{IsColumnRun}
 use Rattle.fields_core.proofs.LightNotes.{column-all, column-two, minded-all, minded-two, table-read}

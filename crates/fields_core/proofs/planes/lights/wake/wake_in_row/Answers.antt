@@ -1,4 +1,4 @@
-use Rattle.fields_core.proofs.Common.{arith, has_bit, length, length-map, light_cells, ltb-true, sym, ℕ, ◌&&◌, ◌*◌, ◌+◌, ◌<◌, ◌∙◌, ◌≡◌, refl}
+use Rattle.fields_core.proofs.Common.{arith, has_bit, ltb-true, sym, ℕ, ◌&&◌, ◌*◌, ◌+◌, ◌∙◌, ◌≡◌, refl}
 use Rattle.grid_core.specs.Planes.{bit_of}
 use Rattle.fields_core.specs.LightWords.{IsRowRun}
 use Rattle.fields_core.proofs.LightNotes.{minded-all, minded-two, row-all, row-two, set-has, table-read, wider-set}

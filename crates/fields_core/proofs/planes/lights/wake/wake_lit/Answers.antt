@@ -1,8 +1,8 @@
-use Rattle.fields_core.proofs.Common.{Extent, and_from, and_parts, any_below-none, ap, arith, cases_Bool, eqb, false_from_ne_true, has_bit, inl, inr, length, length-map, lt-ltb, ltb, ltb-true, mod-lt, not, refl, sym, true, true≢false, white, ℕ, ◌%◌, ◌&&◌, ◌*◌, ◌+◌, ◌/◌, ◌<◌, ◌∙◌, ◌≡◌}
+use Rattle.fields_core.proofs.Common.{Extent, and_from, and_parts, any_below-none, ap, arith, cases_Bool, eqb, false_from_ne_true, has_bit, inl, inr, length, length-map, lt-ltb, ltb-true, mod-lt, not, refl, sym, true, true≢false, white, ℕ, ◌%◌, ◌&&◌, ◌*◌, ◌+◌, ◌/◌, ◌<◌, ◌∙◌, ◌≡◌}
 use Rattle.grid_core.specs.Planes.{ArePlanes}
 use Rattle.grid_core.proofs.TurnLemmas.{fewer_left}
 use Rattle.fields_core.specs.Trees.{IsRowOf}
-use Rattle.fields_core.proofs.LightNotes.{black-noted, left-off, left-on, noted-wider, wider-more, wider-same}
+use Rattle.fields_core.proofs.LightNotes.{black-noted, left-off, left-on, noted-wider, wider-more}
 use Rattle.fields_core.proofs.TentBeside.{whole-cell}
 use Rattle.fields_core.proofs.TreeWords.{row-read}
 use Rattle.fields_core.proofs.planes.lights.wake.wake_lit.Goals as goal

@@ -1,7 +1,7 @@
-use Rattle.fields_core.proofs.Common.{any_below-none, arith, eqb, false_from_ne_true, has_bit, inl, inr, length, length-map, not, sym, true, true≢false, ℕ, ◌&&◌, ◌∙◌, ◌≡◌, ◌≤◌, ap, Extent}
+use Rattle.fields_core.proofs.Common.{any_below-none, arith, eqb, false_from_ne_true, has_bit, inl, inr, not, sym, true≢false, ℕ, ◌&&◌, ◌∙◌, ◌≡◌, ap, Extent}
 use Rattle.grid_core.specs.Planes.{ArePlanes}
 use Rattle.grid_core.proofs.TurnLemmas.{fewer_left}
-use Rattle.fields_core.proofs.LightNotes.{left-off, left-on, minded-wider, noted-wider, wider-more, wider-same}
+use Rattle.fields_core.proofs.LightNotes.{left-off, left-on, minded-wider, noted-wider, wider-more}
 use Rattle.fields_core.proofs.planes.lights.wake.wake_row.Goals as goal
 
 pub loop-left-smaller : goal.loop-left-smaller

@@ -1,6 +1,6 @@
-use Rattle.fields_core.proofs.Common.{arith, houses_below, true, ◌+◌, ◌∙◌, ◌≡◌}
+use Rattle.fields_core.proofs.Common.{arith, houses_below, true, ◌∙◌}
 use Rattle.fields_core.specs.Visits.{AreVisited}
-use Rattle.fields_core.specs.Waits.{kind_houses, kind_lines}
+use Rattle.fields_core.specs.Waits.{kind_houses}
 use Rattle.fields_core.proofs.TentWaits.{waits-skip}
 use Rattle.fields_core.proofs.VisitLemmas.{sweep-broken, sweep-more}
 use Rattle.fields_core.proofs.planes.notes.TentNotes.sweep_kind.Goals as goal

@@ -1,4 +1,4 @@
-use Rattle.fields_core.proofs.Common.{CountHouse, Light, List, [], arith, ap, light_cells, light_houses, light_rules, max, not, refl, sym, true≢false, white, Bool, ℕ, ◌*◌, ◌+◌, ◌<◌, ◌∙◌, ◌≡◌}
+use Rattle.fields_core.proofs.Common.{Light, [], arith, light_cells, light_houses, light_rules, max, not, refl, sym, true≢false, white, ◌+◌, ◌<◌, ◌∙◌, ◌≡◌}
 use Rattle.grid_core.specs.Planes.{Layers, cells_of, has}
 use Rattle.engine_core.specs.ClosingList.{IsClosing}
 use Rattle.engine_core.specs.declared.mode.Closing.TheVariants.{Dead, Open}
@@ -6,7 +6,7 @@ use Rattle.engine_core.proofs.EndLemmas.{closed-in, taken-dead, taken-open}
 use Rattle.fields_core.specs.Light.{solves_lights}
 use Rattle.fields_core.specs.Sweeps.{swept_by}
 use Rattle.fields_core.proofs.LightCounting.{light-counting}
-use Rattle.fields_core.proofs.LightSweeps.{kept-more, kept-none}
+use Rattle.fields_core.proofs.LightSweeps.{kept-more}
 use Rattle.fields_core.proofs.PlaneSweeps.{alive-cells, closed-dead, closed-open, sweeps-fewer, sweeps-none, sweeps-turn}
 use Rattle.fields_core.proofs.planes.lights.notes.LightNotes.close.Goals as goal
 use Rattle.fields_core.proofs.planes.lights.notes.LightNotes.close.Goals.{Else-len-before, Then-len-before, Then-not-sweep}

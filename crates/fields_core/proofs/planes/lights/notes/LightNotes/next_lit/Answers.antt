@@ -1,4 +1,4 @@
-use Rattle.fields_core.proofs.Common.{Bool, None, Option, Some, true, and_parts, arith, has_bit, length, length-map, ltb-true, sym, white, refl, false, ℕ, ◌&&◌, ◌<◌, ◌∙◌, ◌≡◌, ◌≤◌}
+use Rattle.fields_core.proofs.Common.{Bool, None, Option, Some, arith, has_bit, length, length-map, sym, white, false, ℕ, ◌<◌, ◌∙◌, ◌≡◌, ◌≤◌}
 use Rattle.std.specs.Option.{IfNone, IfSome}
 use Rattle.engine_core.specs.RuleSystem.{IsNext}
 use Rattle.grid_core.specs.Candidates.{Candidates}

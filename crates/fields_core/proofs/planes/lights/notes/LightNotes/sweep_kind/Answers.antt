@@ -1,5 +1,5 @@
-use Rattle.fields_core.proofs.Common.{arith, houses_below, true, ◌+◌, ◌≡◌}
-use Rattle.fields_core.specs.LightWaits.{light_kind_houses, light_kind_lines}
+use Rattle.fields_core.proofs.Common.{arith, houses_below, true}
+use Rattle.fields_core.specs.LightWaits.{light_kind_houses}
 use Rattle.fields_core.specs.Visits.{AreVisited}
 use Rattle.fields_core.proofs.LightSweeps.{kept-more, lines-skip}
 use Rattle.fields_core.proofs.VisitLemmas.{sweep-broken, sweep-more}

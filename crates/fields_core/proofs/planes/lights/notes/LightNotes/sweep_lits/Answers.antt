@@ -1,4 +1,4 @@
-use Rattle.fields_core.proofs.Common.{CountHouse, List, arith, houses_below, lit_house, refl, true, ℕ, ◌*◌, ◌+◌, ◌<◌, ◌∙◌, ◌≡◌}
+use Rattle.fields_core.proofs.Common.{CountHouse, List, arith, houses_below, lit_house, true, ℕ, ◌*◌, ◌+◌}
 use Rattle.grid_core.specs.Planes.{has}
 use Rattle.fields_core.specs.Visits.{AreVisited}
 use Rattle.fields_core.proofs.LightSweeps.{kept-more}
