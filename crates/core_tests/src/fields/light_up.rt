@@ -1,7 +1,7 @@
 //! Light Up.
 
 use super::{accepts, close_to, grid_of, repeated, stands_in};
-use engine_core::Rules;
+use engine_core::{Rules, Store, Verdict};
 use fields_core::{LightFault, LightRules, check_lights};
 use gameid_core::{LightPuzzle, read_lights};
 use std::alloc::{AllocError, Global};
@@ -118,5 +118,25 @@ fn a_wide_grid_of_black_cells(rt: HostRuntime) -> Result<(), Fail> {
     let puzzle = black_cells(rt.alloc())?;
     assert_eq!(rt; checked(rt.alloc(), &puzzle, &[])?, Some(None));
     assert_eq!(rt; closed(rt.alloc(), &puzzle)?, (240, 0, true));
+    Ok(())
+}
+
+/// The verdict on the second puzzle, by a store that was made for the first.
+fn solved_in(alloc: Global, first: &str, second: &str) -> Result<Option<Verdict>, Fail> {
+    let rules = rules_of(alloc, second)?;
+    let mut store = Store::new(alloc, &rules_of(alloc, first)?)?;
+    if !store.fits(&rules) {
+        return Ok(None);
+    }
+    Ok(Some(store.solve(&rules, 100)))
+}
+
+#[test]
+fn a_store_serves_a_longer_grid_of_as_many_cells(rt: HostRuntime) -> Result<(), Fail> {
+    let white = "12x12:zzzzzn";
+    let long = repeated(rt.alloc(), "72x2:a", "B", 143)?;
+    assert_eq!(rt; solved_in(rt.alloc(), white, long.as_str())?, Some(Verdict::One));
+    assert_eq!(rt; solved_in(rt.alloc(), long.as_str(), long.as_str())?, Some(Verdict::One));
+    assert_eq!(rt; solved_in(rt.alloc(), long.as_str(), white)?, None);
     Ok(())
 }
