@@ -135,8 +135,14 @@ fn solved_in(alloc: Global, first: &str, second: &str) -> Result<Option<Verdict>
 fn a_store_serves_a_longer_grid_of_as_many_cells(rt: HostRuntime) -> Result<(), Fail> {
     let white = "12x12:zzzzzn";
     let long = repeated(rt.alloc(), "72x2:a", "B", 143)?;
-    assert_eq!(rt; solved_in(rt.alloc(), white, long.as_str())?, Some(Verdict::One));
-    assert_eq!(rt; solved_in(rt.alloc(), long.as_str(), long.as_str())?, Some(Verdict::One));
+    assert_eq!(rt;
+        solved_in(rt.alloc(), white, long.as_str())?,
+        Some(Verdict::One)
+    );
+    assert_eq!(rt;
+        solved_in(rt.alloc(), long.as_str(), long.as_str())?,
+        Some(Verdict::One)
+    );
     assert_eq!(rt; solved_in(rt.alloc(), long.as_str(), white)?, None);
     Ok(())
 }
