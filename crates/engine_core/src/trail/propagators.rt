@@ -51,7 +51,8 @@ pub trait Propagators: Rules {
     /// Whether the house may strike anything from the board that a search starts from. Where not, it need not wait then.
     fn may_strike(&self, house: usize) -> bool
         requires { house < (Self.system self.now).houses }
-        ensures { result ≡ false → IsIdle (Self.system self.now) house (Self.system self.now).start }
+        ensures { result ≡ false
+            → IsIdle (Self.system self.now) house (Self.system self.now).start }
     {
         true
     }
