@@ -185,11 +185,6 @@ abbrev pub AreLinesOf : {W : Type 0} → (W → ℕ) → Touched W → ℕ → �
 AreLinesOf bits lines y x =
     (has_bit (bits lines.columns) x ≡ true) × (has_bit (bits lines.rows) y ≡ true)
 
--- each cell that has a value in the first board and not in the second has its lines among these, in a grid of so many columns
-abbrev pub IsTouched : {W : Type 0} → (W → ℕ) → ℕ → Candidates → Candidates → Touched W → Type 0
-IsTouched bits w K L lines =
-    (c v : ℕ) → K c v ≡ true → L c v ≡ false → AreLinesOf bits lines (c / w) (c % w)
-
 -- each cell that has this value in the first board and not in the second has its lines among these
 abbrev pub IsLostIn : {W : Type 0} → (W → ℕ) → ℕ → ℕ → Candidates → Candidates → Touched W → Type 0
 IsLostIn bits w v K L lines =

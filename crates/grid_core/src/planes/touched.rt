@@ -2,7 +2,7 @@
 #![tactic(auto)]
 
 ghost use Rattle.std.specs.Prelude.{◌≡◌, ℕ, ◌<◌, ◌≤◌, true};
-ghost use Rattle.grid_core.specs.Planes.{has, back_at, crosses, number_of, AreLinesOf, ArePlanes, IsLostIn, IsTouched};
+ghost use Rattle.grid_core.specs.Planes.{has, back_at, crosses, number_of, AreLinesOf, ArePlanes, IsLostIn};
 
 use crate::planes::Planes;
 use crate::planes::line::Line;
@@ -38,24 +38,6 @@ impl<W: Word> Touched<W> {
 }
 
 impl<W: Word> Planes<W> {
-    /// The lines of the cells that lost a value since the trail had that length.
-    pub fn touched(&self, len: usize) -> Touched<W>
-        requires { len ≤ self.now.len }
-        ensures touched { IsTouched W.bits self.now.size.w (back_at self.now len) (has self.now)
-            result }
-        ensures lawful { ArePlanes W.room self.now }
-    {
-        let mut touched = Touched {
-            columns: W::none(),
-            rows: W::none(),
-        };
-        for k in len..self.len {
-            let change = self.changes[k];
-            touched = touched.with(change.line, change.bits);
-        }
-        touched
-    }
-
     /// The lines of the cells that lost this value since the trail had that length.
     pub fn lost(&self, len: usize, value: u8) -> Touched<W>
         requires { len ≤ self.now.len }

@@ -1,8 +1,0 @@
-use Rattle.grid_core.proofs.Common.{crosses, taking_at, true, ℕ, ◌<◌, ◌≡◌, ◌≤◌}
-use Rattle.grid_core.specs.Planes.{AreLinesOf}
-use Rattle.grid_core.proofs.planes.Planes.touched.Given as goal
-
-abbrev pub invariant-loop-k : goal.invariant-loop-k
-invariant-loop-k g l = (j y x : ℕ) → l.fn.len ≤ j → j < l.k
-    → crosses (taking_at l.self.takings j).line (taking_at l.self.takings j).bits y x ≡ true
-    → AreLinesOf g.W.Word.bits l.touched y x
