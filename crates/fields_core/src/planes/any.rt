@@ -35,7 +35,8 @@ fn long<G: PlaneGame>(
     puzzle: &G,
     made: Needs,
 ) -> Result<AnyPlanes<G::Short, G::Long>, AllocError>
-    ensures room { IfOk result (λ planes. length (layers_in planes).takings ≡ G.board puzzle.now * 2) }
+    ensures room { IfOk result (λ planes.
+        length (layers_in planes).takings ≡ G.board puzzle.now * 2) }
     ensures fits { IfOk result (λ planes. G.fits (kept_in planes) (needs_in made)) }
     ensures words { IfOk result (λ planes. places_of (kept_in planes) ≡ 128) }
 {
@@ -55,7 +56,8 @@ pub(crate) fn planes_for<G: PlaneGame>(
     puzzle: &G,
     made: Needs,
 ) -> Result<AnyPlanes<G::Short, G::Long>, AllocError>
-    ensures room { IfOk result (λ planes. length (layers_in planes).takings ≡ G.board puzzle.now * 2) }
+    ensures room { IfOk result (λ planes.
+        length (layers_in planes).takings ≡ G.board puzzle.now * 2) }
     ensures fits { IfOk result (λ planes. G.fits (kept_in planes) (needs_in made)) }
 {
     let size = puzzle.size();
@@ -103,7 +105,8 @@ pub(crate) fn choose<G: PlaneGame>(
     puzzle: &G,
     made: Needs,
 )
-    requires fits { FitsIn (needs_of (⟦<CountRules<G> as RuleSet>⟧.system puzzle.now)) (needs_in made) }
+    requires fits { FitsIn (needs_of (⟦<CountRules<G> as RuleSet>⟧.system puzzle.now))
+        (needs_in made) }
     requires planes { IsSpare G.fits (needs_in made) (Some planes.old) }
     requires spare { IsSpare G.fits (needs_in made) spare.old }
     requires enough { AreEnough G.all_short (needs_in made) planes.old spare.old }
