@@ -80,6 +80,6 @@ pub use Rattle.fields_core.specs.TentSolutions.{IsPairedBy, IsTentSolution}
 pub use Rattle.fields_core.specs.Tents.{are_near, leaves_none_out, names_none_twice, tent, tent_cells, tents_in_column, tents_in_row, tree}
 pub use Rattle.fields_core.specs.Tents.{trees_beside}
 unfoldable pub use Rattle.fields_core.specs.Tents.{can_be_paired, column_right, row_right, solves_tents, touch_right, touches, tree_right}
-pub use Rattle.fields_core.specs.declared.count.list.Bounds.{Bounds}
+pub use Rattle.fields_core.specs.declared.count.house.Bounds.{Bounds}
 pub use Rattle.fields_core.specs.declared.count.list.CountList.{CountList}
 pub use Rattle.fields_core.specs.declared.count.tally.Tally.{Tally}
