@@ -1,5 +1,5 @@
 -- Words and lemmas of std and of the crates below, and words of this crate, as its proofs use them.
-pub use Rattle.std.proofs.Common.{Bool, List, None, Option, Some, [], add-one, ap, ap₂, arith, cond, eqb, false, get_or, inl, inr, is_some, le-leb}
+pub use Rattle.std.proofs.Common.{Bool, List, None, Option, Some, [], add-one, ap, ap₂, arith, cond, drop, eqb, false, get_or, inl, inr, is_some, le-leb}
 pub use Rattle.std.proofs.Common.{leb, leb-true, length, length-set, ltb, map, max, min, not, refl, set, slice_index, subst, suc, sym, take, true}
 pub use Rattle.std.proofs.Common.{vec_len, zero, ℕ, ◌%◌, ◌&&◌, ◌*◌, ◌++◌, ◌+◌, ◌-◌, ◌/◌, ◌<◌, ◌^◌, ◌||◌, ◌∙◌, ◌∷◌, ◌≡◌, ◌≢◌, ◌≤◌, ◌⊎◌}
 pub use Rattle.std.proofs.Math.Bool.{and-false, and-true, and_comm, or-false, or-true}
@@ -65,7 +65,6 @@ unfoldable pub use Rattle.fields_core.specs.Light.{sees_bulb, solves_lights, whi
 pub use Rattle.fields_core.specs.LightFaults.{FailsLight, IsLightFault, light_tests}
 pub use Rattle.fields_core.specs.LightHouses.{column_house, light_rules, lit_house, number_house, row_house}
 unfoldable pub use Rattle.fields_core.specs.LightHouses.{begins_column_run, begins_row_run, column_run, light_houses, row_run, seen_from}
-pub use Rattle.fields_core.specs.LightRuns.{AreColumnsListed, AreRowsListed, AreRunsListed, IsColumnsAt, IsListAt, IsRowsAt}
 pub use Rattle.fields_core.specs.Parts.{ArePieces, IsAlive, IsBroken, IsCount, IsCounted, IsHouseOf, Piece, piece_at}
 unfoldable pub use Rattle.fields_core.specs.Parts.{lies_in, lies_in_first, without_value}
 pub use Rattle.fields_core.specs.Runs.{RunsOn, SeesAlong, Shines, ShinesAlong}
@@ -81,5 +80,4 @@ pub use Rattle.fields_core.specs.Tents.{are_near, leaves_none_out, names_none_tw
 pub use Rattle.fields_core.specs.Tents.{trees_beside}
 unfoldable pub use Rattle.fields_core.specs.Tents.{can_be_paired, column_right, row_right, solves_tents, touch_right, touches, tree_right}
 pub use Rattle.fields_core.specs.declared.count.house.Bounds.{Bounds}
-pub use Rattle.fields_core.specs.declared.count.list.CountList.{CountList}
 pub use Rattle.fields_core.specs.declared.count.tally.Tally.{Tally}
