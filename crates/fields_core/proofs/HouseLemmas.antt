@@ -1,7 +1,8 @@
 -- Houses told by segments.
-use Rattle.fields_core.proofs.Common.{List, ap, append-nil, false, false_from_ne_true, has_place, has_place-at, has_place-here, true, ◌≢◌, arith, common_steps, drop, get_or, get_or-append_right, get_or-map-range_with_len, get_or_append_left, length, length-append, length-map-range_with_len, places_of, segment_places, slice_index, sym, ℕ, ◌*◌, ◌++◌, ◌+◌, ◌-◌, ◌<◌, ◌∙◌, ◌≡◌, ◌≤◌}
+use Rattle.fields_core.proofs.Common.{AreAdded, Bool, CountHouse, Extent, List, [], ap, append-nil, append_assoc, arith, common_steps, drop, false, false_from_ne_true, filter, filter-append, get_or, get_or-append_right, get_or-map-range_with_len, get_or_append_left, has_place, has_place-at, has_place-here, house_told, houses_below, if_there, length, length-append, length-map-range_with_len, map, map-append, places_of, range_with_len, segment_places, slice_index, step, steps, sym, true, ℕ, ◌*◌, ◌++◌, ◌+◌, ◌-◌, ◌<◌, ◌∙◌, ◌∷◌, ◌≡◌, ◌≢◌, ◌≤◌}
 use Rattle.std.proofs.lemmas.List.{at_drop_more}
 use Rattle.std.proofs.lemmas.Nat.{mul-lt}
+use Rattle.fields_core.specs.declared.count.house.House.{House}
 use Rattle.fields_core.specs.declared.count.house.Segment.{Segment}
 
 -- ---- the cells of a segment
@@ -47,3 +48,38 @@ has-found xs k c lt e = rw e at (sym (has_place-here xs k lt))
 
 pub has-none : (xs : List ℕ) (c : ℕ) → ((j : ℕ) → j < length xs → slice_index xs j ≢ c) → false ≡ has_place xs c
 has-none xs c none = sym (false_from_ne_true _ (λ on. let w = has_place-at xs c on in none w.0 w.1 w.2))
+
+-- ---- the cells beside a cell that pass a test, direction by direction
+pub beside-cells : (test : ℕ → Bool) (size : Extent) (place : ℕ) (up left right down : Segment)
+    → segment_places up ≡ filter test (if_there (step size place 0)) → segment_places left ≡ filter test (if_there (step size place 1))
+    → segment_places right ≡ filter test (if_there (step size place 2)) → segment_places down ≡ filter test (if_there (step size place 3))
+    → places_of (up ∷ left ∷ right ∷ down ∷ []) ≡ filter test (steps size place 4)
+unfolding steps
+beside-cells test size place up left right down u l r d = grind (arith, common_steps, filter-append, append_assoc, append-nil)
+
+-- the cells of one line, and of a square
+pub line-cells : (s none : Segment) (places : List ℕ) → segment_places s ≡ places → segment_places none ≡ []
+    → places_of (s ∷ none ∷ none ∷ none ∷ []) ≡ places
+line-cells s none places e n = rw (e, n) (append-nil places)
+
+pub square-cells : (top bottom none : Segment) (c w : ℕ) → segment_places top ≡ map (λ k. c + k * 1) (range_with_len 0 2)
+    → segment_places bottom ≡ map (λ k. c + w + k * 1) (range_with_len 0 2) → segment_places none ≡ []
+    → places_of (top ∷ bottom ∷ none ∷ none ∷ []) ≡ c ∷ (c + 1) ∷ (c + w) ∷ (c + w + 1) ∷ []
+square-cells top bottom none c w t b n = rw (t, b, n) (grind (arith, common_steps))
+
+-- ---- houses that are added one after another
+pub added-none : (a : List House) {houses : List CountHouse} → houses ≡ [] → AreAdded a a houses
+added-none a e = rw e (sym (append-nil _))
+
+pub added-one : (a : List House) (house : House) {told : CountHouse} → house_told house ≡ told → AreAdded a (a ++ house ∷ []) (told ∷ [])
+added-one a house e = map-append _ _ _ ∙ ap (λ h. map house_told a ++ h ∷ []) e
+
+pub added-more : (a b c : List House) (xs ys : List CountHouse) → AreAdded a b xs → AreAdded b c ys → AreAdded a c (xs ++ ys)
+added-more a b c xs ys p q = q ∙ ap (λ l. l ++ ys) p ∙ append_assoc (map house_told a) xs ys
+
+-- of four kinds, each of the numbers below some number
+pub four-told : (a b c d e : List House) (f g h k : ℕ → List CountHouse) {i j l m i' j' l' m' : ℕ} → a ≡ []
+    → AreAdded a b (houses_below f i) → AreAdded b c (houses_below g j) → AreAdded c d (houses_below h l) → AreAdded d e (houses_below k m)
+    → i ≡ i' → j ≡ j' → l ≡ l' → m ≡ m'
+    → map house_told e ≡ houses_below f i' ++ (houses_below g j' ++ (houses_below h l' ++ houses_below k m'))
+four-told a b c d e f g h k none p q r s same_i same_j same_l same_m = grind (arith, common_steps, append_assoc)

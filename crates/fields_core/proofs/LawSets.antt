@@ -1,7 +1,7 @@
 -- The lemmas that the proofs of each source file go by.
 use Rattle.fields_core.proofs.CountListLemmas.{below-more, below-none}
 use Rattle.fields_core.proofs.CountTallies.{sets-first, sets-next, sets-all}
-use Rattle.fields_core.proofs.HouseLemmas.{four-long, has-found, has-none, left-within, place-here, place-later, places-last, segment-at, segment-long}
+use Rattle.fields_core.proofs.HouseLemmas.{added-more, added-none, added-one, beside-cells, four-long, line-cells, square-cells, has-found, has-none, left-within, place-here, place-later, places-last, segment-at, segment-long}
 use Rattle.fields_core.proofs.HouseLists.{column-after, column-black, column-edge, row-after, row-black, row-edge, step-keep, step-none, step-skip}
 use Rattle.fields_core.proofs.HouseVisits.{longest-more, longest-none, same-places, told-at, told-long}
 use Rattle.fields_core.proofs.LightCounting.{light-counting, light-lawful}
@@ -27,7 +27,7 @@ pub ruleset count_rules_laws = (start-blocked, same-shape, start-all, same-place
 
 pub ruleset house_laws = (segment-at, segment-long, place-here, place-later, places-last, left-within, four-long, has-found, has-none, mul-lt)
 
-pub ruleset house_list_laws = (below-none, below-more, append_assoc, append-nil, map-append)
+pub ruleset house_list_laws = (below-none, below-more, added-none, added-more)
 
 pub ruleset laws_laws = (light-lawful, tent-lawful, rule-from-test, test-from-rule, solution-from-tents, tents-from-solution)
 
@@ -53,7 +53,7 @@ pub ruleset tally_laws = (sets-first, sets-next, sets-all)
 
 pub ruleset tent_check_laws = (line-start, line-skip, line-more, line-all, ne_eqb, eq-eqb)
 
-pub ruleset tent_houses_laws = (step-none, step-skip, step-keep)
+pub ruleset tent_houses_laws = (beside-cells, line-cells, square-cells, added-none, added-one)
 
 pub ruleset tent_pairs_laws =
     (next-joined, listed-skip, listed-all, passed-start, passed-edge, passed-bare, passed-early, next-none, count-none, others-unpaired, listed-tents, count-is, whole-pairs, short-unpaired)

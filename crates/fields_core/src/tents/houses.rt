@@ -1,9 +1,10 @@
 //! The count houses of Tents.
 #![tactic(auto, using(crate::proofs::LawSets::tent_houses_laws))]
 
-ghost use Rattle.std.specs.Prelude.{◌≡◌, ◌+◌, ◌<◌, ◌&&◌, ◌∷◌, [], nat_lt, IfOk, OnOk, map};
-ghost use Rattle.fields_core.specs.Houses.{AreAdded, house_told, places_of};
-ghost use Rattle.fields_core.specs.Tents.{tent_cells};
+ghost use Rattle.std.specs.Prelude.{◌≡◌, ◌+◌, ◌<◌, ◌&&◌, ◌∷◌, [], filter, nat_lt, not, IfOk, OnOk, map};
+ghost use Rattle.grid_core.specs.Regions.{if_there, step as step_to};
+ghost use Rattle.fields_core.specs.Houses.{AreAdded, house_told, places_of, segment_places};
+ghost use Rattle.fields_core.specs.Tents.{tent_cells, tree};
 ghost use Rattle.fields_core.specs.TentHouses.{column_of_tents, row_of_tents, free_beside, tree_house, square_house, tent_houses};
 ghost use Rattle.gameid_core.specs.Puzzles.{IsTents};
 
@@ -14,22 +15,31 @@ use gameid_core::TentsPuzzle;
 use grid_core::step;
 use std::alloc::{AllocError, Global};
 
+/// The cell beside the cell in a direction, if it has no tree.
+fn free_in(puzzle: &TentsPuzzle, place: usize, direction: usize) -> Segment
+    requires place_in { place < tent_cells puzzle.now }
+    requires direction_in { direction < 4 }
+    ensures { segment_places result ≡ filter (λ d. not (tree puzzle.now d))
+        (if_there (step_to puzzle.now.size place direction)) }
+{
+    match step(puzzle.size(), place, direction) {
+        None => Segment::none(),
+        Some(other) => {
+            if is_tree(puzzle, other) {
+                return Segment::none();
+            }
+            Segment::cell(other)
+        }
+    }
+}
+
 /// The cells beside the cell that have no tree.
-#[tactic(auto, using(crate::proofs::LawSets::tent_houses_laws), unfolding(grid_core::specs::Regions::steps))]
 fn beside(puzzle: &TentsPuzzle, place: usize) -> [Segment; 4]
     requires { place < tent_cells puzzle.now }
     ensures { places_of result ≡ free_beside puzzle.now place }
 {
-    let mut segments = [Segment::none(); 4];
-    for direction in 0..4 {
-        let Some(other) = step(puzzle.size(), place, direction) else {
-            continue;
-        };
-        if !is_tree(puzzle, other) {
-            segments[usize::from(direction)] = Segment::cell(other);
-        }
-    }
-    segments
+    let (up, left) = (free_in(puzzle, place, 0), free_in(puzzle, place, 1));
+    [up, left, free_in(puzzle, place, 2), free_in(puzzle, place, 3)]
 }
 
 /// Adds the house of a column.

@@ -39,8 +39,7 @@ fn is_beside_a_tree(puzzle: &TentsPuzzle, place: usize) -> bool
 
 impl CountGame for TentsPuzzle {
     ghost use Rattle.fields_core.specs.PairingScratches.{HasRoom};
-    ghost use Rattle.fields_core.specs.TentHouses.{is_barred, tent_houses};
-    ghost use Rattle.fields_core.specs.Tents.{solves_tents, tent_cells};
+    ghost use Rattle.fields_core.specs.TentHouses.{tent_counts};
 
     type Scratch = PairingScratch;
 
