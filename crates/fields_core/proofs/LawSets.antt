@@ -1,5 +1,5 @@
 -- The lemmas that the proofs of each source file go by.
-use Rattle.fields_core.proofs.CountListLemmas.{begun-more, beside-fits, begun-none, begun-same, below-more, below-none}
+use Rattle.fields_core.proofs.CountListLemmas.{below-more, below-none}
 use Rattle.fields_core.proofs.CountTallies.{sets-first, sets-next, sets-all}
 use Rattle.fields_core.proofs.HouseLists.{column-after, column-black, column-edge, row-after, row-black, row-edge, step-keep, step-none, step-skip}
 use Rattle.fields_core.proofs.LightCounting.{light-counting, light-lawful}
@@ -30,7 +30,7 @@ pub ruleset light_cells_laws = (white-at)
 
 pub ruleset light_check_laws = (ne_eqb, eq-eqb, cell-at)
 
-pub ruleset light_houses_laws = (beside-fits, begun-none, begun-same, step-none, step-skip, begun-more, step-keep, take_all)
+pub ruleset light_houses_laws = (step-none, step-skip, step-keep)
 
 pub ruleset light_lit_laws = (below-none, below-more, append_assoc, append-nil, map-append)
 
@@ -48,7 +48,7 @@ pub ruleset tally_laws = (sets-first, sets-next, sets-all)
 
 pub ruleset tent_check_laws = (line-start, line-skip, line-more, line-all, ne_eqb, eq-eqb)
 
-pub ruleset tent_houses_laws = (beside-fits, begun-none, begun-same, step-none, step-skip, begun-more, step-keep)
+pub ruleset tent_houses_laws = (step-none, step-skip, step-keep)
 
 pub ruleset tent_pairs_laws =
     (next-joined, listed-skip, listed-all, passed-start, passed-edge, passed-bare, passed-early, next-none, count-none, others-unpaired, listed-tents, count-is, whole-pairs, short-unpaired)
