@@ -1,5 +1,5 @@
 -- Words and lemmas of std and of the crates below, and words of this crate, as its proofs use them.
-pub use Rattle.std.proofs.Common.{Bool, List, None, Option, Some, [], add-one, ap, ap₂, arith, cond, eqb, false, get_or, inl, inr, is_some, le-leb}
+pub use Rattle.std.proofs.Common.{Bool, List, None, Option, Some, [], add-one, ap, ap₂, arith, cond, drop, eqb, false, get_or, inl, inr, is_some, le-leb}
 pub use Rattle.std.proofs.Common.{leb, leb-true, length, length-set, ltb, map, max, min, not, refl, set, slice_index, subst, suc, sym, take, true}
 pub use Rattle.std.proofs.Common.{vec_len, zero, ℕ, ◌%◌, ◌&&◌, ◌*◌, ◌++◌, ◌+◌, ◌-◌, ◌/◌, ◌<◌, ◌^◌, ◌||◌, ◌∙◌, ◌∷◌, ◌≡◌, ◌≢◌, ◌≤◌, ◌⊎◌}
 pub use Rattle.std.proofs.Math.Bool.{and-false, and-true, and_comm, or-false, or-true}

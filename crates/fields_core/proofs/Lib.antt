@@ -5,6 +5,7 @@ pub mod PartLemmas
 pub mod CountKept
 pub mod CountTallies
 pub mod CountListLemmas
+pub mod HouseLemmas
 pub mod LightLines
 pub mod HouseLists
 pub mod LightSight

@@ -1,5 +1,5 @@
 //! Count houses, each told by few numbers.
-#![tactic(auto)]
+#![tactic(auto, using(crate::proofs::LawSets::house_laws))]
 
 ghost use Rattle.std.specs.Prelude.{◌≡◌, ◌+◌, ◌*◌, ◌<◌, ◌^◌, ◌∷◌, [], length, map, slice_index};
 ghost use Rattle.std.specs.List.{range_with_len};
@@ -77,7 +77,7 @@ impl Segment {
         requires { k < length (segment_places self) }
         ensures { result ≡ slice_index (segment_places self) k }
     {
-        usize::from(self.first) + k * usize::from(self.stride)
+        at(self.first, self.stride, self.len, k)
     }
 }
 
@@ -144,14 +144,14 @@ impl House {
         ensures { result ≡ slice_index (house_told self.now).places k }
     {
         let mut left = k;
-        for number in 0..4 {
+        for number in 0..3 {
             let segment = self.cells[number];
             if left < segment.len() {
                 return segment.place(left);
             }
             left -= segment.len();
         }
-        left
+        self.cells[3].place(left)
     }
 
     /// Whether it has the place.
@@ -174,9 +174,26 @@ impl House {
     }
 }
 
+/// So many.
+fn long(len: u8) -> usize
+    ensures same { result ≡ len }
+    ensures small { result < 2 ^ 8 }
+{
+    usize::from(len)
+}
+
+/// The place of the `k`-th of so many cells.
+fn at(first: u16, stride: u8, len: u8, k: usize) -> usize
+    requires { k < len }
+    ensures { result ≡ first + k * stride }
+{
+    usize::from(first) + k * usize::from(stride)
+}
+
 /// How many cells segments have together.
 fn count_cells(cells: &[Segment; 4]) -> usize
-    ensures { result ≡ length (places_of cells.now) }
+    ensures long { result ≡ length (places_of cells.now) }
+    ensures few { result < 2 ^ 10 }
 {
-    cells[0].len() + cells[1].len() + cells[2].len() + cells[3].len()
+    long(cells[0].len) + long(cells[1].len) + long(cells[2].len) + long(cells[3].len)
 }

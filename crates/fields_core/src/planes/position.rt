@@ -4,8 +4,8 @@
 ghost use Rattle.std.specs.Prelude.{◌≡◌, ◌≤◌, refl};
 ghost use Rattle.fields_core.specs.PlanePosition.{IsUnderWay, standing_of};
 
-use crate::planes::any::{AnyPlanes, choose, planes_for, spare_for};
 use crate::count::rules::CountRules;
+use crate::planes::any::{AnyPlanes, choose, planes_for, spare_for};
 use crate::planes::game::PlaneGame;
 use engine_core::{Needs, Position, Searchable, Taken, needs_for};
 use grid_core::Grid;

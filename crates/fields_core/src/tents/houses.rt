@@ -33,11 +33,7 @@ fn beside(puzzle: &TentsPuzzle, place: usize) -> [Segment; 4]
 }
 
 /// Adds the house of a column.
-fn push_column(
-    houses: &mut Vec<House>,
-    puzzle: &TentsPuzzle,
-    x: usize,
-) -> Result<(), AllocError>
+fn push_column(houses: &mut Vec<House>, puzzle: &TentsPuzzle, x: usize) -> Result<(), AllocError>
     requires x_in { x < puzzle.now.size.w }
     ensures { OnOk result
         (AreAdded houses.old.items houses.new.items (column_of_tents puzzle.now x)) }
@@ -73,7 +69,11 @@ fn push_tree(houses: &mut Vec<House>, puzzle: &TentsPuzzle, place: usize) -> Res
 }
 
 /// Adds the house of the square whose top left cell is the place, if there is one.
-fn push_square(houses: &mut Vec<House>, puzzle: &TentsPuzzle, place: usize) -> Result<(), AllocError>
+fn push_square(
+    houses: &mut Vec<House>,
+    puzzle: &TentsPuzzle,
+    place: usize,
+) -> Result<(), AllocError>
     requires place_in { place < tent_cells puzzle.now }
     ensures { OnOk result
         (AreAdded houses.old.items houses.new.items (square_house puzzle.now place)) }
