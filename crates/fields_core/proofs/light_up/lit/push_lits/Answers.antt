@@ -1,4 +1,4 @@
-use Rattle.fields_core.proofs.Common.{arith, different-from, false, lit_house, sym, true, white, ◌<◌, ◌∙◌, ◌≡◌}
+use Rattle.fields_core.proofs.Common.{[], ap, arith, different-from, false, length-set, lit_house, sym, true, true≢false, white, ◌<◌, ◌∙◌, ◌∷◌, ◌≡◌}
 use Rattle.fields_core.proofs.LightCounting.{column-run-distinct, in-column-run, light-board}
 use Rattle.fields_core.proofs.LightHouseLaws.{column-self}
 use Rattle.fields_core.proofs.LightLatest.{columns-black, columns-white, lit-seen, row-kept}
@@ -18,4 +18,32 @@ seen-requires-clause-different c =
     rw c.column_run_at-column.ensures (different-from _ (column-run-distinct p c.loop-place.place (light-board c.is_white.ensures.lawful)))
 
 pub loop-place-preserved : goal.loop-place-preserved
-loop-place-preserved c = ?
+loop-place-preserved c =
+    let p = c.args.puzzle.now in
+    let l = c.loop-place in
+    let i = l.invariant in
+    let some : 0 < c.args.puzzle.now.size.w = (light-board c.is_white.ensures.lawful).some in
+    elim c.if-is_white.branch [
+      | then-is_white+in_ok-push w ↦
+          let on : white c.args.puzzle.now c.loop-place.place ≡ true = sym c.is_white.ensures.value ∙ w.if-is_white.true in
+          let row = w.row_run_at-row.ensures in
+          let column = w.column_run_at-column.ensures in
+          let lit = lit-seen p _ _ l.place on row column w.seen.ensures in
+          rw (w.houses-is, w.row-is, w.columns-is) (record {
+            added = added-more (lit_house p) c.args.houses.now.items l.houses.items w.push.new.self.items l.place i.added
+                (added-one l.houses.items w.one_at_least.result w.in_ok-push.ensures.items (ap (λ h. h ∷ []) w.one_at_least.ensures ∙ lit));
+            row = row-kept p _ l.place (λ _. row);
+            columns = columns-white p _ _ l.place some i.x i.wide column i.columns;
+            wide = rw (length-set l.columns l.x w.column_run_at-column.result) i.wide;
+            x = c.next_column-x.ensures l.place i.x;
+          })
+      | else-is_white w ↦
+          let off : white c.args.puzzle.now c.loop-place.place ≡ false = sym c.is_white.ensures.value ∙ w.if-is_white.false in
+          rw (w.houses-is, w.row-is, w.columns-is) (record {
+            added = added-more (lit_house p) c.args.houses.now.items l.houses.items l.houses.items l.place i.added (rw off (added-none l.houses.items));
+            row = row-kept p _ l.place (λ on. absurd (true≢false (sym on ∙ off)));
+            columns = columns-black p _ l.place off i.columns;
+            wide = i.wide;
+            x = c.next_column-x.ensures l.place i.x;
+          })
+    ]
