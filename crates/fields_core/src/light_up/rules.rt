@@ -15,9 +15,7 @@ use std::alloc::{AllocError, Global};
 pub type LightRules = CountRules<LightPuzzle>;
 
 impl CountGame for LightPuzzle {
-    ghost use Rattle.std.specs.Prelude.{not};
-    ghost use Rattle.fields_core.specs.Light.{light_cells, solves_lights, white};
-    ghost use Rattle.fields_core.specs.LightHouses.{light_houses};
+    ghost use Rattle.fields_core.specs.LightHouses.{light_counts};
 
     type Scratch = ();
 
