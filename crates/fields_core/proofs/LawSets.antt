@@ -3,6 +3,7 @@ use Rattle.fields_core.proofs.CountListLemmas.{below-more, below-none}
 use Rattle.fields_core.proofs.CountTallies.{sets-first, sets-next, sets-all}
 use Rattle.fields_core.proofs.HouseLemmas.{four-long, has-found, has-none, left-within, place-here, place-later, places-last, segment-at, segment-long}
 use Rattle.fields_core.proofs.HouseLists.{column-after, column-black, column-edge, row-after, row-black, row-edge, step-keep, step-none, step-skip}
+use Rattle.fields_core.proofs.HouseVisits.{longest-more, longest-none, same-places, told-at, told-long}
 use Rattle.fields_core.proofs.LightCounting.{light-counting, light-lawful}
 use Rattle.fields_core.proofs.LightLines.{cell-at, white-at}
 use Rattle.fields_core.proofs.LightRuleLemmas.{light-tells, rule-from-test, test-from-rule}
@@ -23,7 +24,7 @@ use Rattle.fields_core.proofs.VisitLemmas.{sweep-first, sweep-more}
 use Rattle.fields_core.proofs.Common.{append-nil, append_assoc, eq-eqb, map-append, mul-le-mul_right, ne_eqb, take_all}
 use Rattle.std.proofs.lemmas.Nat.{mul-lt}
 
-pub ruleset count_rules_laws = (start-blocked, same-shape, start-all)
+pub ruleset count_rules_laws = (start-blocked, same-shape, start-all, same-places, told-long, told-at, longest-none, longest-more)
 
 pub ruleset house_laws = (segment-at, segment-long, place-here, place-later, places-last, left-within, four-long, has-found, has-none, mul-lt)
 

@@ -4,6 +4,7 @@ pub mod PartCounts
 pub mod PartLemmas
 pub mod CountKept
 pub mod CountTallies
+pub mod HouseVisits
 pub mod CountListLemmas
 pub mod HouseLemmas
 pub mod LightLines

@@ -1,11 +1,12 @@
 //! The rules of a puzzle of count houses.
 #![tactic(auto, using(crate::proofs::LawSets::count_rules_laws))]
 
-ghost use Rattle.std.specs.Prelude.{◌≡◌, ◌<◌, ◌≤◌, IfOk, true, false, refl, length, map};
+ghost use Rattle.std.specs.Prelude.{◌≡◌, ℕ, ◌<◌, ◌≤◌, ◌^◌, IfOk, true, false, refl, length, map, slice_index};
 ghost use Rattle.engine_core.specs.Closing.{HasStruck};
 ghost use Rattle.engine_core.specs.declared.mode.Mode.TheVariants.{Sweep};
 ghost use Rattle.grid_core.specs.Board.{cells_of, has, SameShape};
-ghost use Rattle.fields_core.specs.CountHouse.{IsCounted, IsHouse, after_house, rules_of, start_of};
+ghost use Rattle.grid_core.specs.Candidates.{max_cells};
+ghost use Rattle.fields_core.specs.CountHouse.{IsCounted, IsHouse, after_house, count_house_of, rules_of, start_of};
 ghost use Rattle.fields_core.specs.Houses.{house_told};
 
 use crate::count::game::CountGame;
@@ -57,6 +58,15 @@ impl<P: CountGame> CountRules<P> {
     {
         &self.puzzle
     }
+
+    /// The house of that number.
+    fn house(&self, house: usize) -> &House
+        requires { house < length (P.counts self.now.puzzle).houses }
+        ensures { house_told result.now
+            ≡ count_house_of (P.counts self.now.puzzle).houses house }
+    {
+        &self.houses[house]
+    }
 }
 
 /// Writes the board that a search starts from: a blocked cell has only 0, and all other sets are full.
@@ -75,6 +85,18 @@ fn write_start<P: CountGame>(puzzle: &P, board: &mut Board)
     }
 }
 
+/// Writes the places of the house's cells.
+fn list_places(house: &House, places: &mut [u32])
+    requires small { (k : ℕ) → k < length places.old
+        → slice_index (house_told house.now).places k < 2 ^ 32 }
+    requires room { length places.old ≡ length (house_told house.now).places }
+    ensures { places.new ≡ (house_told house.now).places }
+{
+    for k in 0..places.len() {
+        places[k] = house.place(k) as u32;
+    }
+}
+
 /// Strikes from the house's cells what it strikes. The last three are room.
 fn strike(
     house: &House,
@@ -83,19 +105,20 @@ fn strike(
     sets: &mut [u32],
     kept: &mut [u32],
 ) -> bool
+    requires few { cells_of board.old ≤ max_cells }
     requires lawful { IsHouse (cells_of board.old) (house_told house.now) }
     requires values { board.old.values ≡ 2 }
-    requires places_room { length places.old ≡ length (house_told house.now).places }
-    requires sets_room { length sets.old ≡ length (house_told house.now).places }
-    requires kept_room { length kept.old ≡ length (house_told house.now).places }
+    requires places_room { length (house_told house.now).places ≤ length places.old }
+    requires sets_room { length (house_told house.now).places ≤ length sets.old }
+    requires kept_room { length (house_told house.now).places ≤ length kept.old }
     ensures left { has board.new ≡ after_house (house_told house.now) (has board.old) }
     ensures shape { SameShape board.old board.new }
     ensures unchanged { result ≡ false → has board.new ≡ has board.old }
     ensures changed { result ≡ true → HasStruck (has board.old) (has board.new) }
 {
-    for k in 0..places.len() {
-        places[k] = house.place(k) as u32;
-    }
+    let cells = house.len();
+    let (places, sets, kept) = (&mut places[..cells], &mut sets[..cells], &mut kept[..cells]);
+    list_places(house, places);
     gather(board, places, sets);
     let tally = Tally::of_sets(sets);
     if !tally.calls(house.bounds()) {
@@ -107,6 +130,7 @@ fn strike(
 
 impl<P: CountGame> Rules for CountRules<P> {
     ghost use Rattle.std.specs.Prelude.{vec_len};
+    ghost use Rattle.std.proofs.Common.{le_trans, subst, sym};
     ghost use Rattle.fields_core.specs.CountLaws.{count-lawful};
 
     type Scratch = CountScratch<P::Scratch>;
@@ -130,7 +154,12 @@ impl<P: CountGame> Rules for CountRules<P> {
 
     ghost mode_is = { λ _. refl };
 
-    ghost serves_smaller = { λ w need had f s. ? };
+    ghost serves_smaller = { λ w need had f s. (
+      le_trans f.scope_in s.0,
+      le_trans f.scope_in s.1,
+      le_trans f.scope_in s.2,
+      subst (P.serves w.work) (sym f.same_cells) s.3,
+    ) };
 
     fn cells(&self) -> usize {
         self.puzzle.cells()
@@ -149,17 +178,17 @@ impl<P: CountGame> Rules for CountRules<P> {
     }
 
     fn scope_len(&self, house: usize) -> usize {
-        self.houses[house].len()
+        self.house(house).len()
     }
 
     fn scope(&self, house: usize, k: usize) -> usize {
-        self.houses[house].place(k)
+        self.house(house).place(k)
     }
 
     /// A sweep visits all houses: no closing asks for it.
     fn house_at(&self, place: usize, from: usize) -> Option<usize> {
         for house in from..self.houses.len() {
-            if self.houses[house].has(place) {
+            if self.house(house).has(place) {
                 return Some(house);
             }
         }
@@ -173,7 +202,7 @@ impl<P: CountGame> Rules for CountRules<P> {
     fn scratch(&self, alloc: Global) -> Result<CountScratch<P::Scratch>, AllocError> {
         let mut room = 0;
         for house in 0..self.houses.len() {
-            room = room.max(self.houses[house].len());
+            room = room.max(self.house(house).len());
         }
         Ok(CountScratch {
             places: vec![in alloc; 0; room]?,
@@ -189,11 +218,8 @@ impl<P: CountGame> Rules for CountRules<P> {
         board: &mut Board,
         scratch: &mut CountScratch<P::Scratch>,
     ) -> bool {
-        let house = &self.houses[house];
-        let cells = house.len();
-        let places = &mut scratch.places[..cells];
-        let (sets, kept) = (&mut scratch.sets[..cells], &mut scratch.kept[..cells]);
-        strike(house, board, places, sets, kept)
+        let (sets, kept) = (&mut scratch.sets, &mut scratch.kept);
+        strike(self.house(house), board, &mut scratch.places, sets, kept)
     }
 
     fn accept(&self, scratch: &mut CountScratch<P::Scratch>, grid: &Grid) -> bool {
