@@ -65,6 +65,7 @@ unfoldable pub use Rattle.fields_core.specs.Light.{sees_bulb, solves_lights, whi
 pub use Rattle.fields_core.specs.LightFaults.{FailsLight, IsLightFault, light_tests}
 pub use Rattle.fields_core.specs.LightHouses.{column_house, light_rules, lit_house, number_house, row_house}
 unfoldable pub use Rattle.fields_core.specs.LightHouses.{begins_column_run, begins_row_run, column_run, light_houses, row_run, seen_from}
+pub use Rattle.fields_core.specs.LightRuns.{AreRunsAbove, IsRunAbove, IsRunBefore, no_segment}
 pub use Rattle.fields_core.specs.Parts.{ArePieces, IsAlive, IsBroken, IsCount, IsCounted, IsHouseOf, Piece, piece_at}
 unfoldable pub use Rattle.fields_core.specs.Parts.{lies_in, lies_in_first, without_value}
 pub use Rattle.fields_core.specs.Runs.{RunsOn, SeesAlong, Shines, ShinesAlong}
@@ -80,4 +81,6 @@ pub use Rattle.fields_core.specs.Tents.{are_near, leaves_none_out, names_none_tw
 pub use Rattle.fields_core.specs.Tents.{trees_beside}
 unfoldable pub use Rattle.fields_core.specs.Tents.{can_be_paired, column_right, row_right, solves_tents, touch_right, touches, tree_right}
 pub use Rattle.fields_core.specs.declared.count.house.Bounds.{Bounds}
+pub use Rattle.fields_core.specs.declared.count.house.House.{House}
+pub use Rattle.fields_core.specs.declared.count.house.Segment.{Segment}
 pub use Rattle.fields_core.specs.declared.count.tally.Tally.{Tally}

@@ -12,6 +12,7 @@ use Rattle.fields_core.proofs.LightSight.{count-bulb, count-dark, count-edge, co
 use Rattle.fields_core.proofs.RuleLemmas.{same-shape, start-all, start-blocked}
 use Rattle.fields_core.proofs.PositionSteps.{step-onward, step-walks}
 use Rattle.fields_core.proofs.RunLemmas.{column-made, few-cells, row-made, run-long, run-white}
+use Rattle.fields_core.proofs.SegmentLemmas.{written-none}
 use Rattle.fields_core.proofs.TentCounting.{tent-counting, tent-lawful}
 use Rattle.fields_core.proofs.TentLines.{line-all, line-more, line-skip, line-start}
 use Rattle.fields_core.proofs.TentNext.{barred-alone, barred-tree, next-joined, next-none, passed-bare, passed-early, passed-edge, passed-start, tree-found, treeless-all}
@@ -35,7 +36,7 @@ pub ruleset light_cells_laws = (white-at)
 
 pub ruleset light_check_laws = (ne_eqb, eq-eqb, cell-at)
 
-pub ruleset light_houses_laws = (step-none, step-skip, step-keep, take_all)
+pub ruleset light_houses_laws = (written-none)
 
 pub ruleset light_lit_laws = (below-none, below-more, append_assoc, append-nil, map-append)
 

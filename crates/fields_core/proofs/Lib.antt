@@ -16,6 +16,7 @@ pub mod PlaceLists
 pub mod LightHouseLaws
 pub mod StepLaws
 pub mod RunLemmas
+pub mod SegmentLemmas
 pub mod LightCounting
 pub mod LightSeen
 pub mod LightLatest

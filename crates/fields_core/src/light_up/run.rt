@@ -1,7 +1,7 @@
 //! Runs of white cells along a row or a column.
 #![tactic(auto, using(crate::proofs::LawSets::light_run_laws))]
 
-ghost use Rattle.std.specs.Prelude.{◌≡◌, ℕ, suc, ◌+◌, ◌*◌, ◌%◌, ◌<◌, true, false, map, filter};
+ghost use Rattle.std.specs.Prelude.{◌≡◌, ℕ, suc, ◌+◌, ◌*◌, ◌%◌, ◌<◌, ◌^◌, true, false, map, filter};
 ghost use Rattle.std.specs.List.{range_with_len};
 ghost use Rattle.gameid_core.specs.Puzzles.{IsLight};
 ghost use Rattle.fields_core.specs.Houses.{segment_places};
@@ -40,6 +40,8 @@ fn run_along(puzzle: &LightPuzzle, first: usize, stride: usize, len: usize, at: 
     requires lawful { IsLight puzzle.now }
     requires within { (i : ℕ) → i < len → first + i * stride < light_cells puzzle.now }
     requires at_in { at < len }
+    requires near { stride < 2 ^ 8 }
+    requires short { len < 2 ^ 8 }
     requires white { white puzzle.now (first + at * stride) ≡ true }
     requires edge { (i : ℕ) → suc i ≡ at → white puzzle.now (first + i * stride) ≡ false }
     ensures { segment_places result ≡ map (λ i. first + i * stride)
