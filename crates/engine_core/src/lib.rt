@@ -26,7 +26,7 @@ pub use rules::Rules;
 pub use search::position::{Position, Taken};
 pub use search::trials::trials_made_are_the_first;
 pub use search::walk::Verdict;
-pub use searchable::{OnTrail, PositionFor, Searchable};
+pub use searchable::Searchable;
 pub use store::{Sizes, Store};
 pub use trail::position::TrailPosition;
 pub use trail::propagators::Propagators;
