@@ -17,7 +17,6 @@ mod waits;
 
 pub use house_rules::{HouseRules, HouseScratch};
 pub use houses::list::HouseList;
-pub use houses::table::HouseTable;
 pub use houses::visit::{apply, gather, has_bit};
 pub use mode::{Closing, Mode};
 pub use needs::{Needs, needs_for};
