@@ -1,8 +1,7 @@
-//! Closings, searches and tables of houses, over small rule sets of the tests' own.
+//! Closings and searches, over small rule sets of the tests' own.
 
 mod closings;
 mod neighbours;
 mod searches;
 mod swept;
-mod tables;
 mod walks;

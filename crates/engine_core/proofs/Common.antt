@@ -56,7 +56,7 @@ pub use Rattle.engine_core.specs.Frames.{walk_of}
 unfoldable pub use Rattle.engine_core.specs.Frames.{levels_of, singles}
 pub use Rattle.engine_core.specs.HouseIndex.{AreAt, AreHousesAt, AreScopes, IsFirstFrom, IsIndex, IsPut, IsRoom, IsScope, Table, number_at, number_in}
 pub use Rattle.engine_core.specs.HouseIndex.{scope_of, start_at}
-pub use Rattle.engine_core.specs.HouseList.{FitsPlaces, IsGrown, IsListed, Listed, listed}
+pub use Rattle.engine_core.specs.HouseList.{FitsPlaces, IsListed, Listed, listed}
 pub use Rattle.engine_core.specs.HouseRulesLaws.{bound_enough, by_houses-lawful, counted_twice, from_first}
 pub use Rattle.engine_core.specs.HouseSets.{AreDifferent, Decision}
 unfoldable pub use Rattle.engine_core.specs.HouseSets.{kept_in, strikes_at}

@@ -5,7 +5,7 @@ use Rattle.engine_core.proofs.IndexLemmas.{has_place-none, number_at-none, longe
 use Rattle.engine_core.proofs.CallLemmas.{upto-first}
 use Rattle.engine_core.proofs.ListedLemmas.{scopes-fit, table-houses, table-longest}
 use Rattle.engine_core.proofs.PickLemmas.{pick-is}
-use Rattle.engine_core.proofs.PieceLemmas.{pieces-joined, closed-in, listed-close, total-closed, listed-more, last-at, few-listed, others-skip, others-push}
+use Rattle.engine_core.proofs.PieceLemmas.{pieces-joined, closed-in, listed-close, total-closed, listed-more, last-at, few-listed}
 use Rattle.engine_core.proofs.PlaceCounts.{counted-few, counted-place}
 use Rattle.engine_core.proofs.TrialLemmas.{tried-first, trials-counted}
 use Rattle.engine_core.proofs.VerdictLemmas.{spent-le, outcome-true, outcome-counts, spent-counts, found_iff}
@@ -53,7 +53,7 @@ pub ruleset house_index_laws = (
 pub ruleset house_rules_laws = (scopes-fit, table-houses, table-longest, upto-first)
 
 pub ruleset house_list_laws =
-    (last-le, pieces-joined, closed-in, ends-close, listed-close, length-pieces, total-closed, ends-more, listed-more, piece-at, piece-ends, last-at, others-skip, others-push)
+    (last-le, pieces-joined, closed-in, ends-close, listed-close, length-pieces, total-closed, ends-more, listed-more, piece-at, piece-ends, last-at)
 
 pub ruleset laws_laws = (
   by_houses-lawful,

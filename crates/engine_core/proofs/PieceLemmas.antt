@@ -1,5 +1,5 @@
 -- Laws of lists of places that are the pieces of one list.
-use Rattle.engine_core.proofs.Common.{AreEnds, FitsPlaces, IsGrown, IsListed, List, Listed, [], ap, append-nil, append_assoc, arith, between, between_more, between_none, between_to_end, common_steps, concat, count_by-le-length, drop, drop-append-le, ends-more, eq-eqb, eqb, filter, filter-append, get_or, get_or_append_left, get_or_read, last-close, last-le, last_end, length, length-append, length-between, length-drop, length-filter, length-pieces, listed, ne_eqb, not, piece-at, piece-ends, pieces, pieces-close, pieces-more, refl, suc, sum_by, sum_by-cons, sym, take, zero, ℕ, ◌++◌, ◌+◌, ◌-◌, ◌<◌, ◌^◌, ◌∙◌, ◌∷◌, ◌≡◌, ◌≤◌}
+use Rattle.engine_core.proofs.Common.{AreEnds, FitsPlaces, IsListed, List, Listed, [], ap, arith, between, between_none, between_to_end, common_steps, concat, drop, drop-append-le, ends-more, get_or, last-close, last-le, last_end, length, length-append, length-between, length-drop, length-pieces, listed, pieces, pieces-close, pieces-more, refl, suc, sum_by, sum_by-cons, sym, take, zero, ℕ, ◌++◌, ◌+◌, ◌-◌, ◌<◌, ◌^◌, ◌∙◌, ◌∷◌, ◌≡◌, ◌≤◌}
 
 pub listed-more : (xs ends ys : List ℕ) → AreEnds (length xs) 0 ends
     → listed (xs ++ ys) ends ≡ record { closed = (listed xs ends).closed; begun = (listed xs ends).begun ++ ys }
@@ -70,50 +70,7 @@ pieces-joined xs from (end ∷ ends) (low, e) =
     let w = last-le (length xs) end ends e in
     between-split xs from end low w.0 ∙ ap (λ l. between from end xs ++ l) (pieces-joined xs end ends e)
 
--- ---- a part of a list once more at its end, without a place
-abbrev others : ℕ → List ℕ → List ℕ
-others but xs = filter (λ d. not (eqb d but)) xs
-
-others-next : (but from k x : ℕ) (xs : List ℕ) → from ≤ k → k < length xs → x ≡ get_or xs k x
-    → others but (between from (k + 1) xs) ≡ others but (between from k xs) ++ others but (x ∷ [])
-others-next but from k x xs low lt is = rw (between_more xs from k x low lt, ← is) (filter-append _ (between from k xs) (x ∷ []))
-
-pub others-skip : (xs : List ℕ) {ys : List ℕ} {but from k x : ℕ} → from ≤ k → k < length xs
-    → ys ≡ xs ++ filter (λ d. not (eqb d but)) (between from k xs) → x ≡ get_or ys k x → x ≡ but
-    → ys ≡ xs ++ filter (λ d. not (eqb d but)) (between from (k + 1) xs)
-others-skip xs {but} {from} {k} {x} low lt e is same =
-    let at = is ∙ ap (λ l. get_or l k x) e ∙ get_or_append_left xs (others but (between from k xs)) x k lt in
-    rw (others-next but from k x xs low lt at, eq-eqb x but same, append-nil) e
-
-pub others-push : (xs : List ℕ) {ys : List ℕ} {but from k x : ℕ} → from ≤ k → k < length xs
-    → ys ≡ xs ++ filter (λ d. not (eqb d but)) (between from k xs) → x ≡ get_or ys k x
-    → (x ≡ but → ⊥)
-    → ys ++ x ∷ [] ≡ xs ++ filter (λ d. not (eqb d but)) (between from (k + 1) xs)
-others-push xs {but} {from} {k} {x} low lt e is other =
-    let at = is ∙ ap (λ l. get_or l k x) e ∙ get_or_append_left xs (others but (between from k xs)) x k lt in
-    rw (others-next but from k x xs low lt at, ne_eqb x but other) (ap (λ l. l ++ x ∷ []) e ∙ append_assoc xs (others but (between from k xs)) (x ∷ []))
-
--- ---- lists that are few and short
-pub added-grown : {xs ys : List ℕ} (more : List ℕ) {n : ℕ} → ys ≡ xs ++ more → length more ≤ n → IsGrown xs n ys
-added-grown {xs} {ys} more e few = grind (arith, common_steps, length-append)
-
-pub others-grown : {xs ys : List ℕ} (but from k : ℕ) {end : ℕ} → k ≤ end → end ≤ length xs
-    → ys ≡ xs ++ filter (λ d. not (eqb d but)) (between from k xs) → IsGrown xs (end - from) ys
-others-grown {xs} but from k le within e = grind (arith, common_steps, between, added-grown, length-filter, count_by-le-length, length-between)
-
-pub grown-listed : {xs ys ends : List ℕ} {list : Listed} {n : ℕ} → IsListed xs ends
-    → listed xs ends ≡ list → FitsPlaces list n → IsGrown xs n ys → IsListed ys ends
-grown-listed {xs} {ys} {ends} l is fits g = grind (arith, common_steps, ends-more, length-drop, last-le)
-
--- the part of the places that a closed list is
-pub closed-is : (xs ends : List ℕ) {list : Listed} {h from end : ℕ} → AreEnds (length xs) 0 ends
-    → listed xs ends ≡ list → h < length list.closed → from ≡ get_or (0 ∷ ends) h 0
-    → end ≡ get_or ends h end
-    → (between from end xs ≡ get_or list.closed h []) × (end ≤ length xs)
-closed-is xs ends {h} {end} e is lt low high =
-    let lists = ap (λ v. length v.closed) is in
-    let there = closed-in xs ends (omega arith) in
-    let to = get_or_read ends h end there high 0 in (
-      rw (low, to) (sym (piece-at xs 0 ends h there) ∙ ap (λ v. get_or v.closed h []) is),
-      omega (arith, to, (piece-ends (length xs) 0 ends h e there).1),
-    )
+-- one place more of the begun list
+pub pushed-listed : {xs ends : List ℕ} {list : Listed} (x : ℕ) → IsListed xs ends → listed xs ends ≡ list
+    → FitsPlaces list 1 → IsListed (xs ++ x ∷ []) ends
+pushed-listed {xs} {ends} x l is fits = grind (arith, common_steps, ends-more, length-append, length-drop, last-le)

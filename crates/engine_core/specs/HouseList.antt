@@ -24,8 +24,3 @@ pub record IsListed (places ends : List ℕ) : Type 0 where
   pub few_lists : length ends < 2 ^ 20
   pub few_closed : last_end 0 ends ≤ 2 ^ 12 * length ends
   pub few_begun : length places < last_end 0 ends + 2 ^ 12
-
--- the list has so many numbers more, or fewer
-pub record IsGrown (old : List ℕ) (most : ℕ) (new : List ℕ) : Type 0 where
-  pub kept : length old ≤ length new
-  pub few : length new ≤ length old + most

@@ -13,19 +13,16 @@ use crate::houses::visit::{apply, gather};
 use crate::mode::Mode;
 use crate::rule_set::RuleSet;
 use crate::rules::Rules;
-use crate::searchable::OnTrail;
 use crate::trail::propagators::Propagators;
 use crate::waits::enqueue;
 use grid_core::{Board, Grid};
 use std::alloc::{AllocError, Global};
-use std::marker::PhantomData;
 
-/// The rules of a puzzle, with the table of its houses. The second type names what a search of them stands on.
+/// The rules of a puzzle, with the table of its houses.
 #[derive(Drop)]
-pub struct HouseRules<S: RuleSet, C = OnTrail> {
+pub struct HouseRules<S: RuleSet> {
     set: S,
     table: HouseTable,
-    stands_on: PhantomData<C>,
     ghost listed: { table ≡ table_of (S.system (S.puzzle_of set)) (S.scopes (S.puzzle_of set)) },
 }
 
@@ -37,21 +34,17 @@ pub struct HouseScratch<W: Drop> {
     work: W,
 }
 
-impl<S: RuleSet, C> HouseRules<S, C> {
+impl<S: RuleSet> HouseRules<S> {
     /// The rules of the puzzle. They keep a copy of it.
-    pub fn new(alloc: Global, puzzle: &S::Puzzle) -> Result<HouseRules<S, C>, AllocError>
+    pub fn new(alloc: Global, puzzle: &S::Puzzle) -> Result<HouseRules<S>, AllocError>
         ensures known { S.known puzzle.now }
         ensures copied { IfOk result (λ rules. S.puzzle_of rules.set ≡ puzzle.now) }
-        ensures rules { IfOk result (λ rules. ⟦<HouseRules<S, C> as Rules>⟧.system rules
+        ensures rules { IfOk result (λ rules. ⟦<HouseRules<S> as Rules>⟧.system rules
             ≡ S.system puzzle.now) }
     {
         let (set, list) = S::list(alloc, puzzle)?;
         let table = HouseTable::of(alloc, set.cells(), list)?;
-        Ok(HouseRules {
-            set,
-            table,
-            stands_on: PhantomData,
-        })
+        Ok(HouseRules { set, table })
     }
 
     /// What only the game knows of them.
@@ -91,7 +84,7 @@ impl<S: RuleSet, C> HouseRules<S, C> {
     }
 }
 
-impl<S: RuleSet, C> Rules for HouseRules<S, C> {
+impl<S: RuleSet> Rules for HouseRules<S> {
     ghost use Rattle.std.specs.Prelude.{vec_len};
     ghost use Rattle.std.proofs.Common.{le_trans};
 
@@ -182,7 +175,7 @@ impl<S: RuleSet, C> Rules for HouseRules<S, C> {
     }
 }
 
-impl<S: RuleSet, C> Propagators for HouseRules<S, C> {
+impl<S: RuleSet> Propagators for HouseRules<S> {
     type Noted = ();
 
     fn read(&self, house: usize, board: &Board, sets: &mut [u32]) {

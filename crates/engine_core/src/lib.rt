@@ -17,7 +17,6 @@ mod waits;
 
 pub use house_rules::{HouseRules, HouseScratch};
 pub use houses::list::HouseList;
-pub use houses::table::HouseTable;
 pub use houses::visit::{apply, gather, has_bit};
 pub use mode::{Closing, Mode};
 pub use needs::{Needs, needs_for};
@@ -26,7 +25,7 @@ pub use rules::Rules;
 pub use search::position::{Position, Taken};
 pub use search::trials::trials_made_are_the_first;
 pub use search::walk::Verdict;
-pub use searchable::{OnTrail, PositionFor, Searchable};
+pub use searchable::Searchable;
 pub use store::{Sizes, Store};
 pub use trail::position::TrailPosition;
 pub use trail::propagators::Propagators;

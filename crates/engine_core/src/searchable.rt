@@ -17,27 +17,8 @@ pub trait Searchable: Rules {
     ghost position_of: { (rules : Self) → Self.Position.system rules ≡ Self.system rules };
 }
 
-/// What rules made of listed houses are searched on: the type that they name stands for it.
-pub trait PositionFor<R: Rules> {
-    /// The position.
-    type Position: Position<Game = R>;
-
-    /// It means by the rules what they mean.
-    ghost position_of: { (rules : R) → Self.Position.system rules ≡ R.system rules };
-}
-
-/// Named by rules whose searches stand on a board with a trail.
-#[derive(Drop)]
-pub struct OnTrail;
-
-impl<S: RuleSet> PositionFor<HouseRules<S, OnTrail>> for OnTrail {
-    type Position = TrailPosition<HouseRules<S, OnTrail>>;
+impl<S: RuleSet> Searchable for HouseRules<S> {
+    type Position = TrailPosition<HouseRules<S>>;
 
     ghost position_of = { λ _. refl };
-}
-
-impl<S: RuleSet, C: PositionFor<HouseRules<S, C>>> Searchable for HouseRules<S, C> {
-    type Position = C::Position;
-
-    ghost position_of = { C.position_of };
 }

@@ -1,5 +1,5 @@
 -- Words and lemmas of std and of the crates below, and words of this crate, as its proofs use them.
-pub use Rattle.std.proofs.Common.{Bool, List, None, Option, Some, [], add-one, ap, ap₂, arith, cond, eqb, false, get_or, inl, inr, is_some, le-leb}
+pub use Rattle.std.proofs.Common.{Bool, List, None, Option, Some, [], add-one, ap, ap₂, arith, cond, drop, eqb, false, get_or, inl, inr, is_some, le-leb}
 pub use Rattle.std.proofs.Common.{leb, leb-true, length, length-set, ltb, map, max, min, not, refl, set, slice_index, subst, suc, sym, take, true}
 pub use Rattle.std.proofs.Common.{vec_len, zero, ℕ, ◌%◌, ◌&&◌, ◌*◌, ◌++◌, ◌+◌, ◌-◌, ◌/◌, ◌<◌, ◌^◌, ◌||◌, ◌∙◌, ◌∷◌, ◌≡◌, ◌≢◌, ◌≤◌, ◌⊎◌}
 pub use Rattle.std.proofs.Math.Bool.{and-false, and-true, and_comm, or-false, or-true}
@@ -58,14 +58,14 @@ pub use Rattle.fields_core.specs.CountHouse.{AreHouses, CountHouse, IsCounting, 
 pub use Rattle.fields_core.specs.CountHouse.{one_at_most}
 unfoldable pub use Rattle.fields_core.specs.CountHouse.{after_house, houses_below, meets, start_of, strikes_of}
 pub use Rattle.fields_core.specs.CountLaws.{count-lawful, places-at}
-pub use Rattle.fields_core.specs.CountLists.{AreListed, IsAdded, IsBegun, bounds_of, house_places}
+pub use Rattle.fields_core.specs.Houses.{AreAdded, bounds_of, house_places, house_told, places_of, segment_places}
 pub use Rattle.fields_core.specs.Light.{bulb, bulbs_beside, is_white, light_cells, number_is}
 unfoldable pub use Rattle.fields_core.specs.Light.{black_right, bulb_right, clear, joined_in_column, joined_in_row, lit_right, number_right, sees}
 unfoldable pub use Rattle.fields_core.specs.Light.{sees_bulb, solves_lights, white}
 pub use Rattle.fields_core.specs.LightFaults.{FailsLight, IsLightFault, light_tests}
 pub use Rattle.fields_core.specs.LightHouses.{column_house, light_rules, lit_house, number_house, row_house}
 unfoldable pub use Rattle.fields_core.specs.LightHouses.{begins_column_run, begins_row_run, column_run, light_houses, row_run, seen_from}
-pub use Rattle.fields_core.specs.LightRuns.{AreColumnsListed, AreRowsListed, AreRunsListed, IsColumnsAt, IsListAt, IsRowsAt}
+pub use Rattle.fields_core.specs.LightRuns.{AreRunsAbove, IsRunAbove, IsRunBefore, no_segment}
 pub use Rattle.fields_core.specs.Parts.{ArePieces, IsAlive, IsBroken, IsCount, IsCounted, IsHouseOf, Piece, piece_at}
 unfoldable pub use Rattle.fields_core.specs.Parts.{lies_in, lies_in_first, without_value}
 pub use Rattle.fields_core.specs.Runs.{RunsOn, SeesAlong, Shines, ShinesAlong}
@@ -80,6 +80,7 @@ pub use Rattle.fields_core.specs.TentSolutions.{IsPairedBy, IsTentSolution}
 pub use Rattle.fields_core.specs.Tents.{are_near, leaves_none_out, names_none_twice, tent, tent_cells, tents_in_column, tents_in_row, tree}
 pub use Rattle.fields_core.specs.Tents.{trees_beside}
 unfoldable pub use Rattle.fields_core.specs.Tents.{can_be_paired, column_right, row_right, solves_tents, touch_right, touches, tree_right}
-pub use Rattle.fields_core.specs.declared.count.list.Bounds.{Bounds}
-pub use Rattle.fields_core.specs.declared.count.list.CountList.{CountList}
+pub use Rattle.fields_core.specs.declared.count.house.Bounds.{Bounds}
+pub use Rattle.fields_core.specs.declared.count.house.House.{House}
+pub use Rattle.fields_core.specs.declared.count.house.Segment.{Segment}
 pub use Rattle.fields_core.specs.declared.count.tally.Tally.{Tally}

@@ -1,5 +1,5 @@
 -- Lists of houses and of places that a loop makes.
-use Rattle.fields_core.proofs.Common.{Black, Bool, Extent, Light, None, Some, White, [], add-one, ap, append-nil, arith, begins_column_run, begins_row_run, column_places, common_steps, cond-false, cond-true, div-eq_of_lt, false, filter, filter-append, length, length-map-range_with_len, lt-div-mul-add, ne_eqb, not, number_house, refl, row_places, slice_get, step, steps, sym, true, white, ℕ, ◌%◌, ◌++◌, ◌+◌, ◌-◌, ◌<◌, ◌∷◌, ◌≡◌}
+use Rattle.fields_core.proofs.Common.{Black, Bool, Extent, Light, LightCell, None, Numbered, Some, White, [], add-one, ap, append-nil, arith, begins_column_run, begins_row_run, column_places, common_steps, cond-false, cond-true, div-eq_of_lt, exactly, false, filter, filter-append, length, length-map-range_with_len, lt-div-mul-add, ne_eqb, not, number_house, refl, row_places, slice_get, step, steps, sym, true, white, ℕ, ◌%◌, ◌++◌, ◌+◌, ◌-◌, ◌<◌, ◌∷◌, ◌≡◌}
 use Rattle.fields_core.proofs.LightLines.{cell-at}
 
 pub row-long : (size : Extent) (y : ℕ) → length (row_places size y) ≡ size.w
@@ -52,8 +52,10 @@ unfolding begins_column_run
 column-after p c w b some e on inner is = grind (arith, common_steps, ne_eqb, lt-div-mul-add)
 
 -- ---- the house of a cell's number
-pub number-white : (p : Light) (c : ℕ) → slice_get p.cells c ≡ Some White → number_house p c ≡ []
-number-white p c e = rw (cell-at p c e) refl
+pub number-at : (p : Light) (c n : ℕ) → slice_get p.cells c ≡ Some (Numbered n) → exactly n (filter (white p) (steps p.size c 4)) ∷ [] ≡ number_house p c
+number-at p c n e = rw (cell-at p c e) refl
 
-pub number-black : (p : Light) (c : ℕ) → slice_get p.cells c ≡ Some Black → number_house p c ≡ []
-number-black p c e = rw (cell-at p c e) refl
+pub number-none : (p : Light) (c : ℕ) (cell : LightCell) → slice_get p.cells c ≡ Some cell → ((n : ℕ) → cell ≡ Numbered n → ⊥) → number_house p c ≡ []
+number-none p c White e other = rw (cell-at p c e) refl
+number-none p c Black e other = rw (cell-at p c e) refl
+number-none p c (Numbered n) e other = absurd (other n refl)

@@ -1,7 +1,9 @@
 -- The lemmas that the proofs of each source file go by.
-use Rattle.fields_core.proofs.CountListLemmas.{begun-more, beside-fits, begun-none, begun-same, below-more, below-none}
+use Rattle.fields_core.proofs.CountListLemmas.{below-more, below-none}
 use Rattle.fields_core.proofs.CountTallies.{sets-first, sets-next, sets-all}
+use Rattle.fields_core.proofs.HouseLemmas.{added-more, added-none, added-one, beside-cells, four-long, line-cells, square-cells, has-found, has-none, left-within, place-here, place-later, places-last, segment-at, segment-long}
 use Rattle.fields_core.proofs.HouseLists.{column-after, column-black, column-edge, row-after, row-black, row-edge, step-keep, step-none, step-skip}
+use Rattle.fields_core.proofs.HouseVisits.{longest-more, longest-none, same-places, told-at, told-long}
 use Rattle.fields_core.proofs.LightCounting.{light-counting, light-lawful}
 use Rattle.fields_core.proofs.LightLines.{cell-at, white-at}
 use Rattle.fields_core.proofs.LightRuleLemmas.{light-tells, rule-from-test, test-from-rule}
@@ -10,6 +12,7 @@ use Rattle.fields_core.proofs.LightSight.{count-bulb, count-dark, count-edge, co
 use Rattle.fields_core.proofs.RuleLemmas.{same-shape, start-all, start-blocked}
 use Rattle.fields_core.proofs.PositionSteps.{step-onward, step-walks}
 use Rattle.fields_core.proofs.RunLemmas.{column-made, few-cells, row-made, run-long, run-white}
+use Rattle.fields_core.proofs.SegmentLemmas.{written-none}
 use Rattle.fields_core.proofs.TentCounting.{tent-counting, tent-lawful}
 use Rattle.fields_core.proofs.TentLines.{line-all, line-more, line-skip, line-start}
 use Rattle.fields_core.proofs.TentNext.{barred-alone, barred-tree, next-joined, next-none, passed-bare, passed-early, passed-edge, passed-start, tree-found, treeless-all}
@@ -19,10 +22,13 @@ use Rattle.fields_core.proofs.TentRuleLemmas.{tents-from-solution, tents-tell, s
 use Rattle.fields_core.proofs.TentWaits.{rested-woken}
 use Rattle.fields_core.proofs.VisitLemmas.{sweep-first, sweep-more}
 use Rattle.fields_core.proofs.Common.{append-nil, append_assoc, eq-eqb, map-append, mul-le-mul_right, ne_eqb, take_all}
+use Rattle.std.proofs.lemmas.Nat.{mul-lt}
 
-pub ruleset count_rules_laws = (start-blocked, same-shape, start-all)
+pub ruleset count_rules_laws = (start-blocked, same-shape, start-all, same-places, told-long, told-at, longest-none, longest-more)
 
-pub ruleset house_list_laws = (below-none, below-more, append_assoc, append-nil, map-append)
+pub ruleset house_laws = (segment-at, segment-long, place-here, place-later, places-last, left-within, four-long, has-found, has-none, mul-lt)
+
+pub ruleset house_list_laws = (below-none, below-more, added-none, added-more)
 
 pub ruleset laws_laws = (light-lawful, tent-lawful, rule-from-test, test-from-rule, solution-from-tents, tents-from-solution)
 
@@ -30,7 +36,7 @@ pub ruleset light_cells_laws = (white-at)
 
 pub ruleset light_check_laws = (ne_eqb, eq-eqb, cell-at)
 
-pub ruleset light_houses_laws = (beside-fits, begun-none, begun-same, step-none, step-skip, begun-more, step-keep, take_all)
+pub ruleset light_houses_laws = (written-none)
 
 pub ruleset light_lit_laws = (below-none, below-more, append_assoc, append-nil, map-append)
 
@@ -48,7 +54,7 @@ pub ruleset tally_laws = (sets-first, sets-next, sets-all)
 
 pub ruleset tent_check_laws = (line-start, line-skip, line-more, line-all, ne_eqb, eq-eqb)
 
-pub ruleset tent_houses_laws = (beside-fits, begun-none, begun-same, step-none, step-skip, begun-more, step-keep)
+pub ruleset tent_houses_laws = (beside-cells, line-cells, square-cells, added-none, added-one)
 
 pub ruleset tent_pairs_laws =
     (next-joined, listed-skip, listed-all, passed-start, passed-edge, passed-bare, passed-early, next-none, count-none, others-unpaired, listed-tents, count-is, whole-pairs, short-unpaired)

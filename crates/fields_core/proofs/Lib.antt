@@ -4,7 +4,9 @@ pub mod PartCounts
 pub mod PartLemmas
 pub mod CountKept
 pub mod CountTallies
+pub mod HouseVisits
 pub mod CountListLemmas
+pub mod HouseLemmas
 pub mod LightLines
 pub mod HouseLists
 pub mod LightSight
@@ -14,6 +16,7 @@ pub mod PlaceLists
 pub mod LightHouseLaws
 pub mod StepLaws
 pub mod RunLemmas
+pub mod SegmentLemmas
 pub mod LightCounting
 pub mod LightSeen
 pub mod LightLatest

@@ -86,7 +86,7 @@ row-run-distinct : (p : Light) (c : ℕ) → AreDistinct (row_run p c)
 unfolding row_run
 row-run-distinct p c = distinct-filter _ _ (row-distinct p.size _)
 
-column-run-distinct : (p : Light) (c : ℕ) → IsBoard p → AreDistinct (column_run p c)
+pub column-run-distinct : (p : Light) (c : ℕ) → IsBoard p → AreDistinct (column_run p c)
 unfolding column_run
 column-run-distinct p c board = distinct-filter _ _ (column-distinct p.size _ board.some)
 

@@ -77,6 +77,17 @@ count_puzzle cells blocked houses is_solution = record {
   is_solution = is_solution;
 }
 
+-- what a puzzle counts: its cells, which of them can only hold 0, its houses, and which grids solve it
+pub record CountPuzzle : Type 0 where
+  pub cells : ℕ
+  pub blocked : ℕ → Bool
+  pub houses : List CountHouse
+  pub is_solution : List ℕ → Bool
+
+-- its rules
+abbrev pub rules_of : CountPuzzle → RuleSystem
+rules_of p = count_puzzle p.cells p.blocked p.houses p.is_solution
+
 -- the game's solutions leave blocked cells at 0 and meet each house
 pub record IsCounting (cells : ℕ) (blocked : ℕ → Bool) (houses : List CountHouse)
     (is_solution : List ℕ → Bool)
@@ -87,3 +98,6 @@ pub record IsCounting (cells : ℕ) (blocked : ℕ → Bool) (houses : List Coun
       → (c : ℕ) → c < cells → blocked c ≡ true → slice_index g c ≡ 0
   pub meets_each : (g : List ℕ) → IsGrid cells 2 g → is_solution g ≡ true
       → (h : ℕ) → h < length houses → meets (count_house_of houses h) g ≡ true
+
+abbrev pub IsCounted : CountPuzzle → Type 0
+IsCounted p = IsCounting p.cells p.blocked p.houses p.is_solution

@@ -14,7 +14,7 @@ use Rattle.engine_core.specs.Filling.{strikes_by_fillings}
 use Rattle.engine_core.specs.HouseSets.{strikes_at, Decision}
 use Rattle.engine_core.specs.HouseSetsLaws.{strikes_at-inside, strikes_at-in_scope, by_fillings-monotone, by_fillings-settled, by_fillings-closed}
 use Rattle.fields_core.specs.Count.{counts_between}
-use Rattle.fields_core.specs.CountLists.{house_places}
+use Rattle.fields_core.specs.Houses.{house_places}
 use Rattle.fields_core.specs.CountHouse.{CountHouse, count_house_of, meets, strikes_of, start_of, count_puzzle, IsCounting}
 
 pub places-at : (houses : List CountHouse) (h : ℕ) → scope_of (map house_places houses) h ≡ (count_house_of houses h).places

@@ -5,7 +5,7 @@ use Rattle.engine_core.specs.RuleSystem.{RuleSystem}
 use Rattle.gameid_core.specs.Puzzles.{Light}
 use Rattle.gameid_core.specs.declared.light_up.cell.LightCell.{LightCell}
 use Rattle.gameid_core.specs.declared.light_up.cell.LightCell.TheVariants.{White, Black, Numbered}
-use Rattle.fields_core.specs.CountHouse.{CountHouse, exactly, one_at_most, one_at_least, houses_below, count_puzzle}
+use Rattle.fields_core.specs.CountHouse.{CountHouse, exactly, one_at_most, one_at_least, houses_below, CountPuzzle, rules_of}
 use Rattle.fields_core.specs.Light.{light_cells, white, joined_in_row, joined_in_column, solves_lights}
 
 -- the run of white cells of the row that the cell is in, from the left; and of the column, from the top
@@ -54,7 +54,15 @@ light_houses p =
     ++ (houses_below (column_house p) (light_cells p)
     ++ houses_below (lit_house p) (light_cells p)))
 
+-- what Light Up counts
+abbrev pub light_counts : Light → CountPuzzle
+light_counts p = record {
+  cells = light_cells p;
+  blocked = λ c. not (white p c);
+  houses = light_houses p;
+  is_solution = solves_lights p;
+}
+
 -- what the rules of Light Up mean to a search
 abbrev pub light_rules : Light → RuleSystem
-light_rules p =
-    count_puzzle (light_cells p) (λ c. not (white p c)) (light_houses p) (solves_lights p)
+light_rules p = rules_of (light_counts p)

@@ -4,7 +4,7 @@ use Rattle.std.specs.List.{count_by}
 use Rattle.grid_core.specs.Candidates.{Candidates}
 use Rattle.engine_core.specs.Sets.{has_bit}
 use Rattle.fields_core.specs.Count.{is_empty}
-use Rattle.fields_core.specs.declared.count.list.Bounds.{Bounds}
+use Rattle.fields_core.specs.declared.count.house.Bounds.{Bounds}
 use Rattle.fields_core.specs.declared.count.tally.Tally.{Tally}
 
 -- how many of the cells have no 0, how many have a 1, and how many have neither

@@ -4,7 +4,7 @@ use Rattle.std.specs.List.{list_any}
 use Rattle.grid_core.specs.Regions.{beside, row_places, column_places}
 use Rattle.engine_core.specs.RuleSystem.{RuleSystem}
 use Rattle.gameid_core.specs.Puzzles.{Tents}
-use Rattle.fields_core.specs.CountHouse.{CountHouse, exactly, one_at_most, one_at_least, houses_below, count_puzzle}
+use Rattle.fields_core.specs.CountHouse.{CountHouse, exactly, one_at_most, one_at_least, houses_below, CountPuzzle, rules_of}
 use Rattle.fields_core.specs.Tents.{tent_cells, tree, solves_tents}
 
 -- a column, and a row, has its number of tents
@@ -41,6 +41,15 @@ tent_houses p =
 unfoldable pub is_barred : Tents → ℕ → Bool
 is_barred p c = tree p c || not (list_any (tree p) (beside p.size c))
 
+-- what Tents counts
+abbrev pub tent_counts : Tents → CountPuzzle
+tent_counts p = record {
+  cells = tent_cells p;
+  blocked = is_barred p;
+  houses = tent_houses p;
+  is_solution = solves_tents p;
+}
+
 -- what the rules of Tents mean to a search
 abbrev pub tent_rules : Tents → RuleSystem
-tent_rules p = count_puzzle (tent_cells p) (is_barred p) (tent_houses p) (solves_tents p)
+tent_rules p = rules_of (tent_counts p)

@@ -1,7 +1,7 @@
 //! Houses that count the ones of their cells.
 
 pub(crate) mod game;
-pub(crate) mod list;
+pub(crate) mod house;
 pub(crate) mod rules;
 pub(crate) mod run;
 pub(crate) mod tally;

@@ -8,7 +8,7 @@ mod planes;
 mod tents;
 
 pub use count::game::CountGame;
-pub use count::list::{Bounds, CountList};
+pub use count::house::{Bounds, House};
 pub use count::rules::CountRules;
 pub use light_up::cells::is_white;
 pub use light_up::check::check_lights;
@@ -16,7 +16,7 @@ pub use light_up::fault::LightFault;
 pub use light_up::rules::LightRules;
 pub use light_up::sight::{count_beside, sees_a_bulb};
 pub use planes::part::{Part, Parts};
-pub use planes::position::{OnPlanes, PlanePosition};
+pub use planes::position::PlanePosition;
 pub use planes::visit::visit;
 pub use tents::check::check_tents;
 pub use tents::fault::TentFault;

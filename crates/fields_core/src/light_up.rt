@@ -9,4 +9,3 @@ pub(crate) mod planes;
 pub(crate) mod rules;
 pub(crate) mod run;
 pub(crate) mod sight;
-pub(crate) mod sizes;

@@ -8,23 +8,23 @@ ghost use Rattle.solo_core.specs.RuleSets.{houses_rules, singles_rules, crossing
 ghost use Rattle.solo_core.specs.Scopes.{scopes_of};
 
 use crate::rule_sets::{Crossings, Fillings, Singles, SoloCrossings, SoloHouses, SoloSingles};
-use engine_core::{HouseRules, OnTrail, Rules};
+use engine_core::{HouseRules, Rules};
 
 /// What the rules by singles mean: those of the puzzle that they keep.
 pub fn rules_of_singles(rules: &SoloSingles)
-    ensures { ⟦<HouseRules<Singles, OnTrail> as Rules>⟧.system rules.now
+    ensures { ⟦<HouseRules<Singles> as Rules>⟧.system rules.now
         ≡ singles_rules rules.now.set.puzzle }
 {}
 
 /// What the rules by fillings of houses mean.
 pub fn rules_of_houses(rules: &SoloHouses)
-    ensures { ⟦<HouseRules<Fillings, OnTrail> as Rules>⟧.system rules.now
+    ensures { ⟦<HouseRules<Fillings> as Rules>⟧.system rules.now
         ≡ houses_rules rules.now.set.puzzle }
 {}
 
 /// What the rules by houses and crossings mean.
 pub fn rules_of_crossings(rules: &SoloCrossings)
-    ensures { ⟦<HouseRules<Crossings, OnTrail> as Rules>⟧.system rules.now
+    ensures { ⟦<HouseRules<Crossings> as Rules>⟧.system rules.now
         ≡ crossings_rules rules.now.set.puzzle }
 {}
 

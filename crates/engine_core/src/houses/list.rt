@@ -1,10 +1,10 @@
 //! Houses as lists of places, one after another.
 #![tactic(auto, using(crate::proofs::LawSets::house_list_laws))]
 
-ghost use Rattle.std.specs.Prelude.{◌≡◌, ◌-◌, ◌<◌, ◌≤◌, ◌^◌, ◌==◌, not, ◌++◌, ◌∷◌, [], filter, IfOk, OnOk, length, slice_index, slice_index_or, sum_by};
-ghost use Rattle.std.specs.List.{between, concat};
-ghost use Rattle.grid_core.specs.Pieces.{last_end, pieces, AreEnds};
-ghost use Rattle.engine_core.specs.HouseList.{FitsPlaces, FitsLists, IsGrown};
+ghost use Rattle.std.specs.Prelude.{◌≡◌, ◌<◌, ◌^◌, ◌++◌, ◌∷◌, [], IfOk, OnOk, length, slice_index, slice_index_or, sum_by};
+ghost use Rattle.std.specs.List.{concat};
+ghost use Rattle.grid_core.specs.Pieces.{last_end};
+ghost use Rattle.engine_core.specs.HouseList.{FitsPlaces, FitsLists};
 
 use std::alloc::{AllocError, Global};
 use std::marker::Model;
@@ -58,42 +58,6 @@ impl HouseList {
         Ok(())
     }
 
-    /// Adds the places of a closed list to the begun one.
-    ///
-    /// # Errors
-    ///
-    /// When memory was refused.
-    pub fn push_list(&mut self, house: usize) -> Result<(), AllocError>
-        requires house_in { house < length self.old.closed }
-        requires fits { FitsPlaces self.old (length (slice_index_or self.old.closed house [])) }
-        ensures { OnOk result (self.new ≡ record self.old {
-          begun = self.old.begun ++ slice_index_or self.old.closed house [];
-        }) }
-    {
-        let from = begin(&self.ends, house);
-        let end = self.ends[house];
-        self.places.extend_from_within(from..end)?;
-        Ok(())
-    }
-
-    /// Adds the places of a closed list to the begun one, but for the place `but`.
-    ///
-    /// # Errors
-    ///
-    /// When memory was refused.
-    pub fn push_others(&mut self, house: usize, but: usize) -> Result<(), AllocError>
-        requires house_in { house < length self.old.closed }
-        requires fits { FitsPlaces self.old (length (slice_index_or self.old.closed house [])) }
-        ensures { OnOk result (self.new ≡ record self.old {
-          begun = self.old.begun
-              ++ filter (λ d. not (d == but)) (slice_index_or self.old.closed house []);
-        }) }
-    {
-        let from = begin(&self.ends, house);
-        let end = self.ends[house];
-        copy_others(&mut self.places, from, end, but)
-    }
-
     /// Closes the begun list, and begins the next.
     ///
     /// # Errors
@@ -116,15 +80,6 @@ impl HouseList {
     {
         let ends: &[usize] = &self.ends;
         ends.len()
-    }
-
-    /// How many places the begun list has.
-    pub fn begun(&self) -> usize
-        ensures begun { result ≡ length self.now.begun }
-        ensures few { result < 2 ^ 32 }
-    {
-        let places: &[u32] = &self.places;
-        places.len() - last(&self.ends)
     }
 
     /// How many places all closed lists have together.
@@ -151,24 +106,6 @@ impl HouseList {
         let (places, ends): (&[u32], &[usize]) = (&self.places, &self.ends);
         &places[begin(ends, house)..ends[house]]
     }
-}
-
-/// Adds the places from one number of the list to another at its end once more, but for the place `but`.
-fn copy_others(places: &mut Vec<u32>, from: usize, end: usize, but: usize) -> Result<(), AllocError>
-    requires ascending { from ≤ end }
-    requires within { end ≤ length places.old.items }
-    ensures copied { OnOk result (places.new.items ≡ places.old.items
-        ++ filter (λ d. not (d == but)) (between from end places.old.items)) }
-    ensures kept { IsGrown places.old.items (end - from) places.new.items }
-{
-    for k in from..end {
-        let place = places[k];
-        if place as usize == but {
-            continue;
-        }
-        places.push(place)?;
-    }
-    Ok(())
 }
 
 /// Where a list begins: where the one before ends.

@@ -85,7 +85,7 @@ fn first_from(houses: &[u32], from: usize) -> Option<usize>
 /// The houses of a board of `cells` cells, and for each place those that have it: these stand in one list, place by
 /// place, in four bytes each. `starts` says for each place where its houses start.
 #[derive(Drop)]
-pub struct HouseTable {
+pub(crate) struct HouseTable {
     cells: usize,
     list: HouseList,
     starts: Vec<u32>,
@@ -109,7 +109,7 @@ impl HouseTable {
     /// # Errors
     ///
     /// When memory was refused.
-    pub fn of(alloc: Global, cells: usize, list: HouseList) -> Result<HouseTable, AllocError>
+    pub(crate) fn of(alloc: Global, cells: usize, list: HouseList) -> Result<HouseTable, AllocError>
         requires cells { cells < 2 ^ 32 }
         requires scopes { AreScopes cells list.closed }
         ensures { IfOk result (λ table. table ≡ record { cells = cells; scopes = list.closed }) }
@@ -128,15 +128,8 @@ impl HouseTable {
         })
     }
 
-    /// How many cells the board has.
-    pub fn cells(&self) -> usize
-        ensures { result ≡ self.now.cells }
-    {
-        self.cells
-    }
-
     /// How many houses there are: fewer than 2^32.
-    pub fn len(&self) -> usize
+    pub(crate) fn len(&self) -> usize
         ensures len { result ≡ length self.now.scopes }
         ensures few { result < 2 ^ 32 }
     {
@@ -144,7 +137,7 @@ impl HouseTable {
     }
 
     /// The places of a house.
-    pub fn places(&self, house: usize) -> &[u32]
+    pub(crate) fn places(&self, house: usize) -> &[u32]
         requires { house < length self.now.scopes }
         ensures { result.now ≡ scope_of self.now.scopes house }
     {
@@ -152,7 +145,7 @@ impl HouseTable {
     }
 
     /// The houses that have the place, ascending.
-    pub fn houses_at(&self, place: usize) -> &[u32]
+    pub(crate) fn houses_at(&self, place: usize) -> &[u32]
         requires { place < self.now.cells }
         ensures { AreHousesAt self.now.scopes place result.now }
     {
@@ -162,7 +155,7 @@ impl HouseTable {
     }
 
     /// The least house at or after `from` that has the place.
-    pub fn next_at(&self, place: usize, from: usize) -> Option<usize>
+    pub(crate) fn next_at(&self, place: usize, from: usize) -> Option<usize>
         requires { place < self.now.cells }
         ensures { IsNext (λ h. has_place (scope_of self.now.scopes h) place)
             (length self.now.scopes) from result }
@@ -171,7 +164,7 @@ impl HouseTable {
     }
 
     /// The cells of all houses together: fewer than 2^32.
-    pub fn total(&self) -> usize
+    pub(crate) fn total(&self) -> usize
         ensures total { result ≡ sum_by length self.now.scopes }
         ensures few { result < 2 ^ 32 }
     {
@@ -179,7 +172,7 @@ impl HouseTable {
     }
 
     /// The cells of the longest house.
-    pub fn longest(&self) -> usize
+    pub(crate) fn longest(&self) -> usize
         ensures { result ≡ longest (scope_of self.now.scopes) (length self.now.scopes) }
     {
         let mut most = 0;

@@ -1,11 +1,11 @@
 //! What only a game knows of rules whose houses count the ones of their cells.
 
-ghost use Rattle.std.specs.Prelude.{◌≡◌, ℕ, Bool, List, ◌<◌, IfOk};
+ghost use Rattle.std.specs.Prelude.{◌≡◌, ℕ, ◌<◌, IfOk, map};
 ghost use Rattle.grid_core.specs.Grids.{IsGrid};
-ghost use Rattle.fields_core.specs.CountHouse.{CountHouse, IsCounting};
-ghost use Rattle.fields_core.specs.CountLists.{AreListed};
+ghost use Rattle.fields_core.specs.CountHouse.{CountPuzzle, IsCounted};
+ghost use Rattle.fields_core.specs.Houses.{house_told};
 
-use crate::count::list::CountList;
+use crate::count::house::House;
 use grid_core::Grid;
 use std::alloc::{AllocError, Global};
 
@@ -14,14 +14,8 @@ pub trait CountGame: Drop + Sized {
     /// What the test of a grid works in.
     type Scratch: Drop;
 
-    /// How many cells it has, and which of them can only hold 0.
-    ghost board: { Self → ℕ };
-
-    ghost blocked: { Self → ℕ → Bool };
-
-    ghost counted: { Self → List CountHouse };
-
-    ghost solves: { Self → List ℕ → Bool };
+    /// What it counts.
+    ghost counts: { Self → CountPuzzle };
 
     /// The scratch serves so many cells.
     ghost serves: { Self.Scratch → ℕ → Type 0 };
@@ -31,28 +25,31 @@ pub trait CountGame: Drop + Sized {
         ensures { IfOk result (λ copy. copy ≡ self.now) };
 
     /// Its houses.
-    fn houses(&self, alloc: Global) -> Result<CountList, AllocError>
-        ensures counting { IsCounting (board self.now) (blocked self.now) (counted self.now)
-            (solves self.now) }
-        ensures listed { IfOk result (λ list. AreListed list (counted self.now)) };
+    ///
+    /// # Errors
+    ///
+    /// When memory was refused.
+    fn houses(&self, alloc: Global) -> Result<Vec<House>, AllocError>
+        ensures counting { IsCounted (counts self.now) }
+        ensures told { IfOk result (λ list. map house_told list.items ≡ (counts self.now).houses) };
 
     /// How many cells it has.
     fn cells(&self) -> usize
-        ensures { result ≡ board self.now };
+        ensures { result ≡ (counts self.now).cells };
 
     /// Whether the cell can only hold 0.
     fn is_blocked(&self, place: usize) -> bool
-        requires { place < board self.now }
-        ensures { result ≡ blocked self.now place };
+        requires { place < (counts self.now).cells }
+        ensures { result ≡ (counts self.now).blocked place };
 
     /// Takes the memory that the test of a grid works in.
     fn scratch(&self, alloc: Global) -> Result<Self::Scratch, AllocError>
-        ensures { IfOk result (λ scratch. serves scratch (board self.now)) };
+        ensures { IfOk result (λ scratch. serves scratch ((counts self.now).cells)) };
 
     /// Whether the grid is a solution.
     fn accepts(&self, scratch: &mut Self::Scratch, grid: &Grid) -> bool
-        requires fits { IsGrid (board self.now) 2 grid.now }
-        requires served { serves scratch.old (board self.now) }
-        ensures solution { result ≡ solves self.now grid.now }
+        requires fits { IsGrid ((counts self.now).cells) 2 grid.now }
+        requires served { serves scratch.old ((counts self.now).cells) }
+        ensures solution { result ≡ (counts self.now).is_solution grid.now }
         ensures keeps { (n : ℕ) → serves scratch.old n → serves scratch.new n };
 }

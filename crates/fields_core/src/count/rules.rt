@@ -1,30 +1,57 @@
 //! The rules of a puzzle of count houses.
 #![tactic(auto, using(crate::proofs::LawSets::count_rules_laws))]
 
-ghost use Rattle.std.specs.Prelude.{◌≡◌, ◌<◌, true, refl, length, map};
+ghost use Rattle.std.specs.Prelude.{◌≡◌, ℕ, ◌<◌, ◌≤◌, ◌^◌, IfOk, true, false, refl, length, map, slice_index};
+ghost use Rattle.engine_core.specs.Closing.{HasStruck};
 ghost use Rattle.engine_core.specs.declared.mode.Mode.TheVariants.{Sweep};
-ghost use Rattle.grid_core.specs.Board.{has, SameShape};
-ghost use Rattle.fields_core.specs.CountHouse.{IsCounting, IsHouse, count_house_of, start_of};
-ghost use Rattle.fields_core.specs.CountLists.{bounds_of};
+ghost use Rattle.grid_core.specs.Board.{cells_of, has, SameShape};
+ghost use Rattle.grid_core.specs.Candidates.{max_cells};
+ghost use Rattle.fields_core.specs.CountHouse.{IsCounted, IsHouse, after_house, count_house_of, rules_of, start_of};
+ghost use Rattle.fields_core.specs.Houses.{house_told};
 
 use crate::count::game::CountGame;
-use crate::count::list::{Bounds, CountList};
+use crate::count::house::House;
 use crate::count::tally::Tally;
-use engine_core::{HouseList, Mode, RuleSet};
+use engine_core::{Mode, Rules, apply, gather};
 use grid_core::{Board, Grid};
 use std::alloc::{AllocError, Global};
 
-/// A copy of the puzzle, and the bounds of its houses.
+/// A copy of the puzzle, and its houses.
 #[derive(Drop)]
 pub struct CountRules<P: CountGame> {
     puzzle: P,
-    bounds: Vec<Bounds>,
-    ghost counting: { IsCounting (P.board puzzle) (P.blocked puzzle) (P.counted puzzle)
-        (P.solves puzzle) },
-    ghost bounded: { bounds.items ≡ map bounds_of (P.counted puzzle) },
+    houses: Vec<House>,
+    ghost counting: { IsCounted (P.counts puzzle) },
+    ghost told: { map house_told houses.items ≡ (P.counts puzzle).houses },
+}
+
+/// What a visit works in: the places of a house's cells, their sets and what is kept of these. With it goes what the test of
+/// a grid works in.
+#[derive(Drop)]
+pub struct CountScratch<W: Drop> {
+    places: Vec<u32>,
+    sets: Vec<u32>,
+    kept: Vec<u32>,
+    work: W,
 }
 
 impl<P: CountGame> CountRules<P> {
+    /// The rules of the puzzle. They keep a copy of it.
+    ///
+    /// # Errors
+    ///
+    /// When memory was refused.
+    pub fn new(alloc: Global, puzzle: &P) -> Result<CountRules<P>, AllocError>
+        ensures known { IsCounted (P.counts puzzle.now) }
+        ensures copied { IfOk result (λ rules. rules.puzzle ≡ puzzle.now) }
+        ensures rules { IfOk result (λ rules. ⟦<CountRules<P> as Rules>⟧.system rules
+            ≡ rules_of (P.counts puzzle.now)) }
+    {
+        let houses = puzzle.houses(alloc)?;
+        let puzzle = puzzle.copied(alloc)?;
+        Ok(CountRules { puzzle, houses })
+    }
+
     /// The puzzle.
     pub(crate) fn puzzle(&self) -> &P
         ensures { result.now ≡ self.now.puzzle }
@@ -32,22 +59,21 @@ impl<P: CountGame> CountRules<P> {
         &self.puzzle
     }
 
-    /// The bounds of a house.
-    pub(crate) fn house_bounds(&self, house: usize) -> Bounds
-        requires { house < length (P.counted self.now.puzzle) }
-        ensures bounds { result ≡ bounds_of (count_house_of (P.counted self.now.puzzle) house) }
-        ensures lawful { IsHouse (P.board self.now.puzzle)
-            (count_house_of (P.counted self.now.puzzle) house) }
+    /// The house of that number.
+    fn house(&self, house: usize) -> &House
+        requires { house < length (P.counts self.now.puzzle).houses }
+        ensures { house_told result.now
+            ≡ count_house_of (P.counts self.now.puzzle).houses house }
     {
-        self.bounds[house]
+        &self.houses[house]
     }
 }
 
 /// Writes the board that a search starts from: a blocked cell has only 0, and all other sets are full.
 fn write_start<P: CountGame>(puzzle: &P, board: &mut Board)
-    requires cells { length board.old.sets ≡ P.board puzzle.now }
+    requires cells { length board.old.sets ≡ (P.counts puzzle.now).cells }
     requires values { board.old.values ≡ 2 }
-    ensures start { has board.new ≡ start_of (P.board puzzle.now) (P.blocked puzzle.now) }
+    ensures start { has board.new ≡ start_of (P.counts puzzle.now).cells (P.counts puzzle.now).blocked }
     ensures shape { SameShape board.old board.new }
 {
     board.fill();
@@ -59,55 +85,81 @@ fn write_start<P: CountGame>(puzzle: &P, board: &mut Board)
     }
 }
 
-impl<P: CountGame> RuleSet for CountRules<P> {
-    ghost use Rattle.std.proofs.Common.{subst, sym};
-    ghost use Rattle.fields_core.specs.CountHouse.{count_puzzle};
-    ghost use Rattle.fields_core.specs.CountLists.{house_places};
-    ghost use Rattle.fields_core.specs.CountLaws.{count-lawful, count-scopes, count-bound};
+/// Writes the places of the house's cells.
+fn list_places(house: &House, places: &mut [u32])
+    requires small { (k : ℕ) → k < length places.old
+        → slice_index (house_told house.now).places k < 2 ^ 32 }
+    requires room { length places.old ≡ length (house_told house.now).places }
+    ensures { places.new ≡ (house_told house.now).places }
+{
+    for k in 0..places.len() {
+        places[k] = house.place(k) as u32;
+    }
+}
 
-    type Puzzle = P;
+/// Strikes from the house's cells what it strikes. The last three are room.
+fn strike(
+    house: &House,
+    board: &mut Board,
+    places: &mut [u32],
+    sets: &mut [u32],
+    kept: &mut [u32],
+) -> bool
+    requires few { cells_of board.old ≤ max_cells }
+    requires lawful { IsHouse (cells_of board.old) (house_told house.now) }
+    requires values { board.old.values ≡ 2 }
+    requires places_room { length (house_told house.now).places ≤ length places.old }
+    requires sets_room { length (house_told house.now).places ≤ length sets.old }
+    requires kept_room { length (house_told house.now).places ≤ length kept.old }
+    ensures left { has board.new ≡ after_house (house_told house.now) (has board.old) }
+    ensures shape { SameShape board.old board.new }
+    ensures unchanged { result ≡ false → has board.new ≡ has board.old }
+    ensures changed { result ≡ true → HasStruck (has board.old) (has board.new) }
+{
+    let cells = house.len();
+    let (places, sets, kept) = (&mut places[..cells], &mut sets[..cells], &mut kept[..cells]);
+    list_places(house, places);
+    gather(board, places, sets);
+    let tally = Tally::of_sets(sets);
+    if !tally.calls(house.bounds()) {
+        return false;
+    }
+    tally.keep(house.bounds(), sets, kept);
+    apply(board, places, kept)
+}
 
-    type Scratch = P::Scratch;
+impl<P: CountGame> Rules for CountRules<P> {
+    ghost use Rattle.std.specs.Prelude.{vec_len};
+    ghost use Rattle.std.proofs.Common.{le_trans, subst, sym};
+    ghost use Rattle.fields_core.specs.CountLaws.{count-lawful};
+
+    type Scratch = CountScratch<P::Scratch>;
 
     const SETTLED: bool = true;
 
     const MODE: Mode = Mode::Sweep;
 
-    ghost puzzle_of = { λ set. set.puzzle };
-
-    ghost known = { λ p. IsCounting (P.board p) (P.blocked p) (P.counted p) (P.solves p) };
-
-    ghost system = { λ p. count_puzzle (P.board p) (P.blocked p) (P.counted p) (P.solves p) };
-
-    ghost scopes = { λ p. map house_places (P.counted p) };
+    ghost system = { λ r. rules_of (P.counts r.puzzle) };
 
     ghost SETTLED = { true };
 
     ghost MODE = { Sweep };
 
-    ghost serves = { λ scratch needs. P.serves scratch needs.cells };
+    ghost serves = { λ w needs. (needs.scope ≤ vec_len w.places) × (needs.scope ≤ vec_len w.sets)
+        × (needs.scope ≤ vec_len w.kept) × P.serves w.work needs.cells };
 
-    ghost knows = { λ set. set.counting };
-
-    ghost lawful = { λ p. count-lawful (P.board p) (P.blocked p) (P.counted p) (P.solves p) };
+    ghost lawful = { λ r. count-lawful _ _ _ _ r.counting };
 
     ghost settled_is = { λ _. refl };
 
     ghost mode_is = { λ _. refl };
 
-    ghost scopes_are = { λ p.
-        count-scopes (P.board p) (P.blocked p) (P.counted p) (P.solves p) };
-
-    ghost bound_is = { λ p. count-bound (P.board p) (P.blocked p) (P.counted p) (P.solves p) };
-
-    ghost serves_smaller = { λ scratch need had fits.
-        subst (P.serves scratch) (sym fits.same_cells) };
-
-    fn list(alloc: Global, puzzle: &P) -> Result<(CountRules<P>, HouseList), AllocError> {
-        let CountList { list, bounds } = puzzle.houses(alloc)?;
-        let puzzle = puzzle.copied(alloc)?;
-        Ok((CountRules { puzzle, bounds }, list))
-    }
+    ghost serves_smaller = { λ w need had f s. (
+      le_trans f.scope_in s.0,
+      le_trans f.scope_in s.1,
+      le_trans f.scope_in s.2,
+      subst (P.serves w.work) (sym f.same_cells) s.3,
+    ) };
 
     fn cells(&self) -> usize {
         self.puzzle.cells()
@@ -117,31 +169,60 @@ impl<P: CountGame> RuleSet for CountRules<P> {
         2
     }
 
+    fn houses(&self) -> usize {
+        self.houses.len()
+    }
+
+    fn bound(&self) -> usize {
+        self.puzzle.cells() + 1
+    }
+
+    fn scope_len(&self, house: usize) -> usize {
+        self.house(house).len()
+    }
+
+    fn scope(&self, house: usize, k: usize) -> usize {
+        self.house(house).place(k)
+    }
+
+    /// A sweep visits all houses: no closing asks for it.
+    fn house_at(&self, place: usize, from: usize) -> Option<usize> {
+        for house in from..self.houses.len() {
+            if self.house(house).has(place) {
+                return Some(house);
+            }
+        }
+        None
+    }
+
     fn start(&self, board: &mut Board) {
         write_start(&self.puzzle, board);
     }
 
-    fn scratch(&self, alloc: Global) -> Result<P::Scratch, AllocError> {
-        self.puzzle.scratch(alloc)
+    fn scratch(&self, alloc: Global) -> Result<CountScratch<P::Scratch>, AllocError> {
+        let mut room = 0;
+        for house in 0..self.houses.len() {
+            room = room.max(self.house(house).len());
+        }
+        Ok(CountScratch {
+            places: vec![in alloc; 0; room]?,
+            sets: vec![in alloc; 0; room]?,
+            kept: vec![in alloc; 0; room]?,
+            work: self.puzzle.scratch(alloc)?,
+        })
     }
 
-    fn filter(
+    fn visit(
         &self,
         house: usize,
-        sets: &[u32],
-        kept: &mut [u32],
-        _scratch: &mut P::Scratch,
+        board: &mut Board,
+        scratch: &mut CountScratch<P::Scratch>,
     ) -> bool {
-        let bounds = self.house_bounds(house);
-        let tally = Tally::of_sets(sets);
-        if !tally.calls(bounds) {
-            return false;
-        }
-        tally.keep(bounds, sets, kept);
-        true
+        let (sets, kept) = (&mut scratch.sets, &mut scratch.kept);
+        strike(self.house(house), board, &mut scratch.places, sets, kept)
     }
 
-    fn accept(&self, scratch: &mut P::Scratch, grid: &Grid) -> bool {
-        self.puzzle.accepts(scratch, grid)
+    fn accept(&self, scratch: &mut CountScratch<P::Scratch>, grid: &Grid) -> bool {
+        self.puzzle.accepts(&mut scratch.work, grid)
     }
 }

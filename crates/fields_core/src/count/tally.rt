@@ -4,7 +4,7 @@
 ghost use Rattle.std.specs.Prelude.{◌≡◌, ℕ, ◌<◌, ◌^◌, cond, length, slice_index};
 ghost use Rattle.fields_core.specs.Tallies.{tally_of, tally_of_one, lacks_filling, kept_of, has_strikes};
 
-use crate::count::list::Bounds;
+use crate::count::house::Bounds;
 use engine_core::has_bit;
 
 /// The set with both values, as bits.

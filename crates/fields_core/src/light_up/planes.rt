@@ -3,36 +3,16 @@
 
 ghost use Rattle.std.specs.Prelude.{◌≤◌, refl};
 
-use crate::light_up::rules::LightRules;
 use crate::planes::any::AnyPlanes;
-use crate::planes::game::{PlaneGame, PlaneRules};
+use crate::planes::game::PlaneGame;
 use crate::planes::lights::notes::LightNotes;
-use crate::planes::position::{OnPlanes, PlanePosition};
-use engine_core::{Needs, PositionFor, Taken};
+use engine_core::{Needs, Taken};
 use gameid_core::LightPuzzle;
 use grid_core::Size;
 use std::alloc::{AllocError, Global};
 
 /// Planes of Light Up.
 type LightPlanes = AnyPlanes<LightNotes<u64>, LightNotes<u128>>;
-
-impl PositionFor<LightRules> for OnPlanes {
-    type Position = PlanePosition<LightRules>;
-
-    ghost position_of = { λ _. refl };
-}
-
-impl PlaneRules for LightRules {
-    type Puzzle = LightPuzzle;
-
-    ghost puzzle_of = { λ rules. rules.set.puzzle };
-
-    fn puzzle(&self) -> &LightPuzzle {
-        self.set().puzzle()
-    }
-
-    ghost system_is = { λ _. refl };
-}
 
 impl PlaneGame for LightPuzzle {
     ghost use Rattle.fields_core.specs.LightNotes.{AreLightsWritten, HaveLightRoom, light-room-less};

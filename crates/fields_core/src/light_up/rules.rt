@@ -2,34 +2,24 @@
 #![tactic(auto, using(crate::proofs::LawSets::light_rules_laws))]
 
 use crate::count::game::CountGame;
-use crate::count::list::CountList;
+use crate::count::house::House;
 use crate::count::rules::CountRules;
 use crate::light_up::cells::{cells, is_white};
 use crate::light_up::check::find_fault;
 use crate::light_up::houses::houses_of_lights;
-use crate::planes::position::OnPlanes;
-use engine_core::HouseRules;
 use gameid_core::LightPuzzle;
 use grid_core::Grid;
 use std::alloc::{AllocError, Global};
 
 /// The rules of a puzzle of Light Up.
-pub type LightRules = HouseRules<CountRules<LightPuzzle>, OnPlanes>;
+pub type LightRules = CountRules<LightPuzzle>;
 
 impl CountGame for LightPuzzle {
-    ghost use Rattle.std.specs.Prelude.{not};
-    ghost use Rattle.fields_core.specs.Light.{light_cells, solves_lights, white};
-    ghost use Rattle.fields_core.specs.LightHouses.{light_houses};
+    ghost use Rattle.fields_core.specs.LightHouses.{light_counts};
 
     type Scratch = ();
 
-    ghost board = { light_cells };
-
-    ghost blocked = { λ p c. not (white p c) };
-
-    ghost counted = { light_houses };
-
-    ghost solves = { solves_lights };
+    ghost counts = { light_counts };
 
     ghost serves = { λ _ _. Unit {0} };
 
@@ -37,7 +27,7 @@ impl CountGame for LightPuzzle {
         self.copy(alloc)
     }
 
-    fn houses(&self, alloc: Global) -> Result<CountList, AllocError> {
+    fn houses(&self, alloc: Global) -> Result<Vec<House>, AllocError> {
         houses_of_lights(alloc, self)
     }
 

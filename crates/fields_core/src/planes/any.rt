@@ -8,12 +8,12 @@ ghost use Rattle.grid_core.specs.Planes.{has, cells_of, back_at, IsBack, IsFurth
 ghost use Rattle.fields_core.specs.AnyPlanes.{kept_in, layers_in, places_of, AreEnough, IsSuited};
 ghost use Rattle.engine_core.specs.Needs.{needs_in};
 ghost use Rattle.engine_core.specs.RuleSystem.{needs_of, FitsIn};
+ghost use Rattle.fields_core.specs.CountHouse.{rules_of};
 ghost use Rattle.fields_core.specs.PlanePosition.{IsSpare};
 
-use crate::count::rules::CountRules;
 use crate::planes::field::Field;
 use crate::planes::game::PlaneGame;
-use engine_core::{Needs, RuleSet};
+use engine_core::Needs;
 use grid_core::{Grid, Planes, Size};
 use std::alloc::{AllocError, Global};
 use std::mem::swap;
@@ -36,7 +36,7 @@ fn long<G: PlaneGame>(
     made: Needs,
 ) -> Result<AnyPlanes<G::Short, G::Long>, AllocError>
     ensures room { IfOk result (λ planes.
-        length (layers_in planes).takings ≡ G.board puzzle.now * 2) }
+        length (layers_in planes).takings ≡ (G.counts puzzle.now).cells * 2) }
     ensures fits { IfOk result (λ planes. G.fits (kept_in planes) (needs_in made)) }
     ensures words { IfOk result (λ planes. places_of (kept_in planes) ≡ 128) }
 {
@@ -57,7 +57,7 @@ pub(crate) fn planes_for<G: PlaneGame>(
     made: Needs,
 ) -> Result<AnyPlanes<G::Short, G::Long>, AllocError>
     ensures room { IfOk result (λ planes.
-        length (layers_in planes).takings ≡ G.board puzzle.now * 2) }
+        length (layers_in planes).takings ≡ (G.counts puzzle.now).cells * 2) }
     ensures fits { IfOk result (λ planes. G.fits (kept_in planes) (needs_in made)) }
 {
     let size = puzzle.size();
@@ -82,7 +82,7 @@ pub(crate) fn spare_for<G: PlaneGame>(
     planes: &AnyPlanes<G::Short, G::Long>,
 ) -> Result<Option<AnyPlanes<G::Short, G::Long>>, AllocError>
     ensures room { IfOk result (λ spare. IfSome spare (λ planes.
-        length (layers_in planes).takings ≡ G.board puzzle.now * 2)) }
+        length (layers_in planes).takings ≡ (G.counts puzzle.now).cells * 2)) }
     ensures fits { IfOk result (λ spare. IfSome spare (λ planes.
         G.fits (kept_in planes) (needs_in made))) }
     ensures enough { IfOk result (AreEnough G.all_short (needs_in made) planes.now) }
@@ -105,7 +105,7 @@ pub(crate) fn choose<G: PlaneGame>(
     puzzle: &G,
     made: Needs,
 )
-    requires fits { FitsIn (needs_of (⟦<CountRules<G> as RuleSet>⟧.system puzzle.now))
+    requires fits { FitsIn (needs_of (rules_of (G.counts puzzle.now)))
         (needs_in made) }
     requires planes { IsSpare G.fits (needs_in made) (Some planes.old) }
     requires spare { IsSpare G.fits (needs_in made) spare.old }

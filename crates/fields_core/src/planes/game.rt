@@ -12,13 +12,12 @@ ghost use Rattle.engine_core.specs.Counts.{IsClosedIn};
 ghost use Rattle.engine_core.specs.Position.{IsTaken};
 ghost use Rattle.engine_core.specs.Queue.{IsClosedBut};
 ghost use Rattle.engine_core.specs.Trail.{StillServes};
-ghost use Rattle.fields_core.specs.CountHouse.{count_puzzle};
+ghost use Rattle.fields_core.specs.CountHouse.{rules_of};
 ghost use Rattle.fields_core.specs.AnyPlanes.{kept_in, layers_in, places_of, IsSuited};
 
 use crate::count::game::CountGame;
-use crate::count::rules::CountRules;
 use crate::planes::any::AnyPlanes;
-use engine_core::{Needs, RuleSet, Rules, Taken};
+use engine_core::{Needs, Taken};
 use grid_core::Size;
 use std::alloc::{AllocError, Global};
 
@@ -47,7 +46,7 @@ pub trait PlaneGame: CountGame {
         ensures value { result ≡ extent self.now }
         ensures lawful { IsExtent result }
         ensures short { (had : Needs)
-            → FitsIn (needs_of (⟦<CountRules<Self> as RuleSet>⟧.system self.now)) (needs_in had)
+            → FitsIn (needs_of (rules_of (Self.counts self.now))) (needs_in had)
             → all_short (needs_in had) → IsSuited result 64 };
 
     /// Whether words of 64 places are known to be long enough for all puzzles of these sizes.
@@ -73,11 +72,11 @@ pub trait PlaneGame: CountGame {
     /// Begins with the board that a search of the puzzle starts from. It takes no memory.
     fn start(&self, planes: &mut AnyPlanes<Self::Short, Self::Long>)
         requires fits { fits (kept_in planes.old)
-            (needs_of (⟦<CountRules<Self> as RuleSet>⟧.system self.now)) }
+            (needs_of (rules_of (Self.counts self.now))) }
         requires suited { IsSuited (extent self.now) (places_of (kept_in planes.old)) }
-        requires few { Self.board self.now * 2 ≤ length (layers_in planes.old).takings }
+        requires few { (Self.counts self.now).cells * 2 ≤ length (layers_in planes.old).takings }
         ensures start { has (layers_in planes.new)
-            ≡ (⟦<CountRules<Self> as RuleSet>⟧.system self.now).start }
+            ≡ (rules_of (Self.counts self.now)).start }
         ensures size { (layers_in planes.new).size ≡ extent self.now }
         ensures room { length (layers_in planes.new).takings
             ≡ length (layers_in planes.old).takings }
@@ -89,20 +88,20 @@ pub trait PlaneGame: CountGame {
     /// closed before that cell lost a value.
     fn close(&self, planes: &mut AnyPlanes<Self::Short, Self::Long>, from: Option<usize>) -> Taken
         requires fits { fits (kept_in planes.old)
-            (needs_of (⟦<CountRules<Self> as RuleSet>⟧.system self.now)) }
+            (needs_of (rules_of (Self.counts self.now))) }
         requires written { written self.now (kept_in planes.old) }
         requires suited { IsSuited (extent self.now) (places_of (kept_in planes.old)) }
         requires size { (layers_in planes.old).size ≡ extent self.now }
-        requires alive { IsAlive (⟦<CountRules<Self> as RuleSet>⟧.system self.now)
+        requires alive { IsAlive (rules_of (Self.counts self.now))
             (has (layers_in planes.old)) }
-        requires within { IsWithin (Self.board self.now) 2 (has (layers_in planes.old)) }
-        requires closed_but { IsClosedBut (⟦<CountRules<Self> as RuleSet>⟧.system self.now)
+        requires within { IsWithin ((Self.counts self.now).cells) 2 (has (layers_in planes.old)) }
+        requires closed_but { IsClosedBut (rules_of (Self.counts self.now))
             (has (layers_in planes.old)) from }
-        ensures taken { IsTaken (⟦<CountRules<Self> as RuleSet>⟧.system self.now)
+        ensures taken { IsTaken (rules_of (Self.counts self.now))
             (has (layers_in planes.old)) (has (layers_in planes.new)) result.closing }
-        ensures turns { IsClosedIn (⟦<CountRules<Self> as RuleSet>⟧.system self.now)
+        ensures turns { IsClosedIn (rules_of (Self.counts self.now))
             (has (layers_in planes.old)) result.turns }
-        ensures alive { IsAlive (⟦<CountRules<Self> as RuleSet>⟧.system self.now)
+        ensures alive { IsAlive (rules_of (Self.counts self.now))
             (has (layers_in planes.new)) }
         ensures further { IsFurther (layers_in planes.old) (layers_in planes.new) }
         ensures written { written self.now (kept_in planes.new) }
@@ -110,28 +109,9 @@ pub trait PlaneGame: CountGame {
         ensures keeps { StillServes fits (kept_in planes.old) (kept_in planes.new) };
 
     /// The grid has the cells of the board.
-    ghost cells_are: { (p : Self) → (extent p).w * (extent p).h ≡ Self.board p };
+    ghost cells_are: { (p : Self) → (extent p).w * (extent p).h ≡ (Self.counts p).cells };
 
     /// Memory that serves puzzles serves smaller ones.
     ghost fits_smaller: { (kept : Self.Short ⊎ Self.Long) (need had : Needs) → FitsIn need had
         → fits kept had → fits kept need };
-}
-
-/// The rules of a puzzle that is closed on planes.
-pub trait PlaneRules: Rules {
-    /// The puzzle.
-    type Puzzle: PlaneGame;
-
-    /// The puzzle that they are of.
-    ghost puzzle_of: { Self → Self.Puzzle };
-
-    /// The puzzle.
-    fn puzzle(&self) -> &Self::Puzzle
-        ensures { result.now ≡ puzzle_of self.now };
-
-    /// They are those of its count houses.
-    ghost system_is: { (rules : Self) → Self.system rules
-        ≡ count_puzzle (Self.Puzzle.board (puzzle_of rules))
-        (Self.Puzzle.blocked (puzzle_of rules)) (Self.Puzzle.counted (puzzle_of rules))
-        (Self.Puzzle.solves (puzzle_of rules)) };
 }

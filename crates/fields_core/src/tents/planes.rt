@@ -4,36 +4,16 @@
 ghost use Rattle.std.specs.Prelude.{◌≤◌, refl};
 
 use crate::planes::any::AnyPlanes;
-use crate::planes::game::{PlaneGame, PlaneRules};
+use crate::planes::game::PlaneGame;
 use crate::planes::notes::TentNotes;
-use crate::planes::position::{OnPlanes, PlanePosition};
 use crate::planes::start::start_field;
-use crate::tents::rules::TentRules;
-use engine_core::{Needs, PositionFor, Taken};
+use engine_core::{Needs, Taken};
 use gameid_core::TentsPuzzle;
 use grid_core::Size;
 use std::alloc::{AllocError, Global};
 
 /// Planes of Tents.
 type TentPlanes = AnyPlanes<TentNotes<u64>, TentNotes<u128>>;
-
-impl PositionFor<TentRules> for OnPlanes {
-    type Position = PlanePosition<TentRules>;
-
-    ghost position_of = { λ _. refl };
-}
-
-impl PlaneRules for TentRules {
-    type Puzzle = TentsPuzzle;
-
-    ghost puzzle_of = { λ rules. rules.set.puzzle };
-
-    fn puzzle(&self) -> &TentsPuzzle {
-        self.set().puzzle()
-    }
-
-    ghost system_is = { λ _. refl };
-}
 
 impl PlaneGame for TentsPuzzle {
     ghost use Rattle.fields_core.specs.TentNotes.{HaveRoom, AreWritten};

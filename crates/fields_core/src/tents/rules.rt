@@ -7,20 +7,18 @@ ghost use Rattle.grid_core.specs.Regions.{beside};
 ghost use Rattle.fields_core.specs.Tents.{tent_cells, tree};
 
 use crate::count::game::CountGame;
-use crate::count::list::CountList;
+use crate::count::house::House;
 use crate::count::rules::CountRules;
-use crate::planes::position::OnPlanes;
 use crate::tents::cells::{cells, is_tree};
 use crate::tents::check::find_fault;
 use crate::tents::houses::houses_of_tents;
 use crate::tents::pairs::PairingScratch;
-use engine_core::HouseRules;
 use gameid_core::TentsPuzzle;
 use grid_core::{Grid, step};
 use std::alloc::{AllocError, Global};
 
 /// The rules of a puzzle of Tents.
-pub type TentRules = HouseRules<CountRules<TentsPuzzle>, OnPlanes>;
+pub type TentRules = CountRules<TentsPuzzle>;
 
 /// Whether a tree is beside the cell.
 fn is_beside_a_tree(puzzle: &TentsPuzzle, place: usize) -> bool
@@ -41,18 +39,11 @@ fn is_beside_a_tree(puzzle: &TentsPuzzle, place: usize) -> bool
 
 impl CountGame for TentsPuzzle {
     ghost use Rattle.fields_core.specs.PairingScratches.{HasRoom};
-    ghost use Rattle.fields_core.specs.TentHouses.{is_barred, tent_houses};
-    ghost use Rattle.fields_core.specs.Tents.{solves_tents, tent_cells};
+    ghost use Rattle.fields_core.specs.TentHouses.{tent_counts};
 
     type Scratch = PairingScratch;
 
-    ghost board = { tent_cells };
-
-    ghost blocked = { is_barred };
-
-    ghost counted = { tent_houses };
-
-    ghost solves = { solves_tents };
+    ghost counts = { tent_counts };
 
     ghost serves = { HasRoom };
 
@@ -60,7 +51,7 @@ impl CountGame for TentsPuzzle {
         self.copy(alloc)
     }
 
-    fn houses(&self, alloc: Global) -> Result<CountList, AllocError> {
+    fn houses(&self, alloc: Global) -> Result<Vec<House>, AllocError> {
         houses_of_tents(alloc, self)
     }
 

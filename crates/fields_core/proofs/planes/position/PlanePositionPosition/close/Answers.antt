@@ -4,7 +4,7 @@ use Rattle.fields_core.proofs.planes.position.PlanePositionPosition.close.Goals 
 pub close-requires-clause-fits : goal.close-requires-clause-fits
 close-requires-clause-fits g c =
     let r = rw (← c.self.view_is) at c.requires in
-    rw c.puzzle.ensures (g.met.R.Puzzle.PlaneGame.fits_smaller _ _ _ r.walks.fits c.self.invariant.1)
+    rw c.puzzle.ensures (g.met.P.PlaneGame.fits_smaller _ _ _ r.walks.fits c.self.invariant.1)
 
 pub returns-clause-walks : goal.returns-clause-walks
 returns-clause-walks g c =

@@ -1,0 +1,33 @@
+-- Count houses as they are told by few numbers.
+use Rattle.std.specs.Prelude.{◌≡◌, ℕ, ◌+◌, ◌*◌, List, ◌++◌, map}
+use Rattle.std.specs.List.{range_with_len, concat}
+use Rattle.fields_core.specs.CountHouse.{CountHouse}
+use Rattle.fields_core.specs.declared.count.house.Bounds.{Bounds}
+use Rattle.fields_core.specs.declared.count.house.House.{House}
+use Rattle.fields_core.specs.declared.count.house.Segment.{Segment}
+
+-- the cells of a segment, and of several
+abbrev pub segment_places : Segment → List ℕ
+segment_places s = map (λ k. s.first + k * s.stride) (range_with_len 0 s.len)
+
+abbrev pub places_of : List Segment → List ℕ
+places_of segments = concat (map segment_places segments)
+
+-- the house that is told
+abbrev pub house_told : House → CountHouse
+house_told house = record {
+  places = places_of house.cells;
+  least = house.bounds.least;
+  most = house.bounds.most;
+}
+
+-- the cells of a house, and its bounds
+abbrev pub house_places : CountHouse → List ℕ
+house_places house = house.places
+
+abbrev pub bounds_of : CountHouse → Bounds
+bounds_of house = record { least = house.least; most = house.most }
+
+-- these houses were added at the end
+abbrev pub AreAdded : List House → List House → List CountHouse → Type 0
+AreAdded old new houses = map house_told new ≡ map house_told old ++ houses

@@ -1,0 +1,199 @@
+//! Count houses, each told by few numbers.
+#![tactic(auto, using(crate::proofs::LawSets::house_laws))]
+
+ghost use Rattle.std.specs.Prelude.{◌≡◌, ◌+◌, ◌*◌, ◌<◌, ◌^◌, ◌∷◌, [], length, map, slice_index};
+ghost use Rattle.std.specs.List.{range_with_len};
+ghost use Rattle.engine_core.specs.RuleSystem.{has_place};
+ghost use Rattle.grid_core.specs.Regions.{row_places, column_places};
+ghost use Rattle.fields_core.specs.CountHouse.{exactly, one_at_least, one_at_most};
+ghost use Rattle.fields_core.specs.Houses.{bounds_of, house_told, places_of, segment_places};
+
+use grid_core::Size;
+
+/// Cells one after another along a row or a column: the `k`-th stands at `first + k * stride`.
+#[derive(Clone, Copy)]
+pub struct Segment {
+    first: u16,
+    stride: u8,
+    len: u8,
+}
+
+impl Segment {
+    /// So many cells from `first` on.
+    pub(crate) fn of(first: usize, stride: usize, len: usize) -> Segment
+        requires first { first < 2 ^ 16 }
+        requires stride { stride < 2 ^ 8 }
+        requires len { len < 2 ^ 8 }
+        ensures { segment_places result ≡ map (λ k. first + k * stride) (range_with_len 0 len) }
+    {
+        Segment {
+            first: first as u16,
+            stride: stride as u8,
+            len: len as u8,
+        }
+    }
+
+    /// No cell.
+    pub(crate) fn none() -> Segment
+        ensures { segment_places result ≡ [] }
+    {
+        Segment::of(0, 0, 0)
+    }
+
+    /// One cell.
+    pub(crate) fn cell(place: usize) -> Segment
+        requires { place < 2 ^ 16 }
+        ensures { segment_places result ≡ place ∷ [] }
+    {
+        Segment::of(place, 0, 1)
+    }
+
+    /// The cells of a row, from the left.
+    pub(crate) fn row(size: Size, y: usize) -> Segment
+        requires { y < size.h }
+        ensures { segment_places result ≡ row_places size y }
+    {
+        let w = usize::from(size.w());
+        Segment::of(y * w, 1, w)
+    }
+
+    /// The cells of a column, from the top.
+    pub(crate) fn column(size: Size, x: usize) -> Segment
+        requires { x < size.w }
+        ensures { segment_places result ≡ column_places size x }
+    {
+        Segment::of(x, usize::from(size.w()), usize::from(size.h()))
+    }
+
+    /// How many cells it has.
+    pub(crate) fn len(self) -> usize
+        ensures { result ≡ length (segment_places self) }
+    {
+        usize::from(self.len)
+    }
+
+    /// The place of its `k`-th cell.
+    pub(crate) fn place(self, k: usize) -> usize
+        requires { k < length (segment_places self) }
+        ensures { result ≡ slice_index (segment_places self) k }
+    {
+        at(self.first, self.stride, self.len, k)
+    }
+}
+
+/// The fewest and the most ones that the cells of a house may hold together.
+#[derive(Clone, Copy)]
+pub struct Bounds {
+    pub(crate) least: u32,
+    pub(crate) most: u32,
+}
+
+/// The cells of four segments, one segment after another, and the bounds of the ones among them.
+#[derive(Clone, Copy)]
+pub struct House {
+    cells: [Segment; 4],
+    bounds: Bounds,
+}
+
+impl House {
+    /// Cells that hold so many ones.
+    pub(crate) fn exactly(ones: u8, cells: [Segment; 4]) -> House
+        ensures { house_told result ≡ exactly ones (places_of cells) }
+    {
+        let ones = u32::from(ones);
+        House {
+            cells,
+            bounds: Bounds {
+                least: ones,
+                most: ones,
+            },
+        }
+    }
+
+    /// Cells that hold one 1 at most.
+    pub(crate) fn one_at_most(cells: [Segment; 4]) -> House
+        ensures { house_told result ≡ one_at_most (places_of cells) }
+    {
+        House {
+            cells,
+            bounds: Bounds { least: 0, most: 1 },
+        }
+    }
+
+    /// Cells that hold one 1 at least.
+    pub(crate) fn one_at_least(cells: [Segment; 4]) -> House
+        ensures { house_told result ≡ one_at_least (places_of cells) }
+    {
+        let most = count_cells(&cells) as u32;
+        House {
+            cells,
+            bounds: Bounds { least: 1, most },
+        }
+    }
+
+    /// How many cells it has.
+    pub(crate) fn len(&self) -> usize
+        ensures { result ≡ length (house_told self.now).places }
+    {
+        count_cells(&self.cells)
+    }
+
+    /// The place of its `k`-th cell.
+    pub(crate) fn place(&self, k: usize) -> usize
+        requires { k < length (house_told self.now).places }
+        ensures { result ≡ slice_index (house_told self.now).places k }
+    {
+        let mut left = k;
+        for number in 0..3 {
+            let segment = self.cells[number];
+            if left < segment.len() {
+                return segment.place(left);
+            }
+            left -= segment.len();
+        }
+        self.cells[3].place(left)
+    }
+
+    /// Whether it has the place.
+    pub(crate) fn has(&self, place: usize) -> bool
+        ensures { result ≡ has_place (house_told self.now).places place }
+    {
+        for k in 0..self.len() {
+            if self.place(k) == place {
+                return true;
+            }
+        }
+        false
+    }
+
+    /// Its bounds.
+    pub(crate) fn bounds(&self) -> Bounds
+        ensures { result ≡ bounds_of (house_told self.now) }
+    {
+        self.bounds
+    }
+}
+
+/// So many.
+fn long(len: u8) -> usize
+    ensures same { result ≡ len }
+    ensures small { result < 2 ^ 8 }
+{
+    usize::from(len)
+}
+
+/// The place of the `k`-th of so many cells.
+fn at(first: u16, stride: u8, len: u8, k: usize) -> usize
+    requires { k < len }
+    ensures { result ≡ first + k * stride }
+{
+    usize::from(first) + k * usize::from(stride)
+}
+
+/// How many cells segments have together.
+fn count_cells(cells: &[Segment; 4]) -> usize
+    ensures long { result ≡ length (places_of cells.now) }
+    ensures few { result < 2 ^ 10 }
+{
+    long(cells[0].len) + long(cells[1].len) + long(cells[2].len) + long(cells[3].len)
+}
