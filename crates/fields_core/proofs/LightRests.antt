@@ -1,5 +1,5 @@
 -- What waits of Light Up: where its houses lie, what stays idle, and what is idle where a closing begins.
-use Rattle.fields_core.proofs.Common.{AllByRecursion, Black, Bool, and_from, and_parts, any_below, any_below-none, any_below-some, cases_eq, mod-lt, not-true, or_left, or_right, Candidates, CountHouse, IsLight, Layers, Light, LightCell, List, Numbered, White, ap, arith, cases_Bool, column_run, common_steps, eq-eqb, eqb, eqb-true, exactly, false, false_from_ne_true, filter, get_or, has_bit, houses_below, inl, inr, joined_in_column, joined_in_row, light_cells, light_houses, light_rules, lit_house, lt-ltb, ltb, map, not, number_house, one_at_least, or_cases, place-filter, refl, row_run, seen_from, slice_index, steps, suc, sym, true, true≢false, white, zero, ℕ, ◌%◌, ◌&&◌, ◌*◌, ◌+◌, ◌-◌, ◌/◌, ◌<◌, ◌||◌, ◌∙◌, ◌≡◌, ◌≤◌, ◌⊎◌}
+use Rattle.fields_core.proofs.Common.{[], AllByRecursion, Black, Bool, and_from, and_parts, any_below, any_below-none, any_below-some, cases_eq, mod-lt, not-true, or_left, or_right, Candidates, CountHouse, IsLight, Layers, Light, LightCell, List, Numbered, White, ap, arith, cases_Bool, column_run, common_steps, eq-eqb, eqb, eqb-true, exactly, false, false_from_ne_true, filter, get_or, has_bit, houses_below, inl, inr, joined_in_column, joined_in_row, light_cells, light_houses, light_rules, lit_house, lt-ltb, ltb, map, not, number_house, one_at_least, or_cases, place-filter, refl, row_run, seen_from, slice_index, steps, suc, sym, true, true≢false, white, zero, ℕ, ◌%◌, ◌&&◌, ◌*◌, ◌++◌, ◌+◌, ◌-◌, ◌/◌, ◌<◌, ◌||◌, ◌∙◌, ◌∷◌, ◌≡◌, ◌≤◌, ◌⊎◌}
 use Rattle.grid_core.specs.Candidates.{IsInside}
 use Rattle.grid_core.specs.Planes.{has, back_at, AreLinesOf, ArePlanes, IsFurther, IsLostIn}
 use Rattle.grid_core.specs.declared.planes.touched.Touched.{Touched}
@@ -9,7 +9,7 @@ use Rattle.engine_core.specs.Queue.{IsClosedAround}
 use Rattle.fields_core.specs.Light.{solves_lights}
 use Rattle.fields_core.specs.LightHouses.{row_house, column_house}
 use Rattle.fields_core.specs.LightPlanes.{ArePlanesOf}
-use Rattle.fields_core.specs.LightWaits.{AreIdleBetween, AreLightsRested, AreLinesRested, AreLinesWoken, AreLitRested, AreNoted, AreNumbersWoken, AreWider, IsNoted, light_kind_houses, light_kind_lines, waiting_lines}
+use Rattle.fields_core.specs.LightWaits.{AreIdleBetween, AreIdleBut, AreLightsRested, AreLinesRested, AreLinesWoken, AreLitRested, AreNoted, AreSpread, AreWider, IsNoted, light_kind_houses, light_kind_lines, waiting_lines}
 unfoldable use Rattle.fields_core.specs.LightWaits.{lit_waits}
 use Rattle.fields_core.specs.LightWords.{numbers_of_row, row_runs_of_row}
 use Rattle.fields_core.specs.Trees.{IsRowOf}
@@ -22,7 +22,7 @@ use Rattle.fields_core.specs.declared.planes.lights.waits.LineWaits.{LineWaits}
 use Rattle.fields_core.proofs.AtMostLemmas.{IsFull}
 use Rattle.fields_core.proofs.CellLemmas.{has-append}
 unfoldable use Rattle.fields_core.proofs.IdleLemmas.{any_has}
-use Rattle.fields_core.proofs.IdleLemmas.{any-append, any-below, any-none, any-one, idle-far}
+use Rattle.fields_core.proofs.IdleLemmas.{any-append, any-below, any-none, any-one, idle-far, idle-first, idle-rest}
 use Rattle.fields_core.proofs.LightCounting.{column-run-joined, light-board, row-run-joined}
 use Rattle.fields_core.proofs.LightHouseLaws.{column-both, column-self, column-white-end, row-both, row-self, row-white-end, white-in}
 use Rattle.fields_core.proofs.LightNotes.{column-white-start, row-white-start}
@@ -34,58 +34,55 @@ use Rattle.fields_core.proofs.PartIdle.{IsPartOf, idle-around, in-back, in-below
 use Rattle.fields_core.proofs.PartLemmas.{value-in}
 use Rattle.fields_core.proofs.RunOrder.{column-runs-kept, column-runs-lie, row-runs-are, row-runs-kept, row-runs-lie}
 use Rattle.fields_core.proofs.StepLaws.{steps-some}
-use Rattle.fields_core.proofs.TentBeside.{cell-parts, row-in, step-lies, whole-cell}
+use Rattle.fields_core.proofs.TentBeside.{IsNextTo, cell-parts, row-in, step-across, step-lies, whole-cell}
 use Rattle.fields_core.proofs.VisitLemmas.{visits-append}
 
 -- ---- where houses lie
-numbers-lie : (p : Light) (c y : ℕ) → 0 < p.size.w → any_has (numbers_of_row p y) c ≡ true
-    → (c / p.size.w ≡ y) ⊎ ((c / p.size.w + 1 ≡ y) ⊎ (c / p.size.w ≡ y + 1))
-numbers-lie p c y pos on =
-    let w = any-below (λ x. number_house p (y * p.size.w + x)) p.size.w c on in
-    by w.0 w.1 (get_or p.cells (y * p.size.w + w.0) Black) refl w.2
+number-lies : (p : Light) (c y x : ℕ) → x < p.size.w → any_has (number_house p (y * p.size.w + x)) c ≡ true
+    → IsNextTo (c / p.size.w) y × IsNextTo (c % p.size.w) x
+number-lies p c y x lt on = by (get_or p.cells (y * p.size.w + x) Black) refl
   where
-    by : (x : ℕ) → x < p.size.w → (cell : LightCell) → get_or p.cells (y * p.size.w + x) Black ≡ cell
-        → any_has (number_house p (y * p.size.w + x)) c ≡ true → (c / p.size.w ≡ y) ⊎ ((c / p.size.w + 1 ≡ y) ⊎ (c / p.size.w ≡ y + 1))
-    by x lt White e here = absurd (true≢false (sym (rw e at here) ∙ any-none c))
-    by x lt Black e here = absurd (true≢false (sym (rw e at here) ∙ any-none c))
-    by x lt (Numbered n) e here =
-        let there = any-one (exactly n (filter (white p) (steps p.size (y * p.size.w + x) 4))) c (rw e at here) in
+    by : (cell : LightCell) → get_or p.cells (y * p.size.w + x) Black ≡ cell → IsNextTo (c / p.size.w) y × IsNextTo (c % p.size.w) x
+    by White e = absurd (true≢false (sym (rw e at on) ∙ any-none c))
+    by Black e = absurd (true≢false (sym (rw e at on) ∙ any-none c))
+    by (Numbered n) e =
+        let there = any-one (exactly n (filter (white p) (steps p.size (y * p.size.w + x) 4))) c (rw e at on) in
         let s = steps-some p.size (y * p.size.w + x) 4 c (place-filter (white p) _ c there).0 in
-        step-lies p.size c pos y x s.0 lt s.1 s.2
+        (step-lies p.size c (omega (arith, lt)) y x s.0 lt s.1 s.2, step-across p.size c y x s.0 lt s.1 s.2)
+
+numbers-lie : (p : Light) (c y : ℕ) → any_has (numbers_of_row p y) c ≡ true → IsNextTo (c / p.size.w) y
+numbers-lie p c y on =
+    let w = any-below (λ x. number_house p (y * p.size.w + x)) p.size.w c on in
+    (number-lies p c y w.0 w.1 w.2).0
 
 -- ---- lines that have changed
 off_both : {a b : Bool} → (a || b) ≡ false → (a ≡ false) × (b ≡ false)
 off_both {a} {b} e = (grind (arith, common_steps, cases_Bool a), grind (arith, common_steps, cases_Bool a))
 
--- where the numbers of a row do not wait, the row is none of these, nor beside one
-numbers-off : {W : Type 0} (bits : W → ℕ) {room : ℕ} (p : Light) (before rows now : W) → p.size.h ≤ room → AreNumbersWoken bits room before rows now
-    → (c : ℕ) → has_bit (bits rows) (c / p.size.w) ≡ true → (k : ℕ) → k < p.size.h → has_bit (bits now) k ≡ false
-    → (c / p.size.w ≡ k) ⊎ ((c / p.size.w + 1 ≡ k) ⊎ (c / p.size.w ≡ k + 1)) → ⊥
-numbers-off bits {room} p before rows now low woken c on k lt off lies = by lies
-  where
-    rows_are : {j : ℕ} → c / p.size.w ≡ j → has_bit (bits rows) j ≡ true
-    rows_are e = rw e at on
+-- a line that does not wait is none of these, nor beside one
+spread-off : {W : Type 0} (bits : W → ℕ) {room : ℕ} (before lines now : W) → AreSpread bits room before lines now
+    → {j k : ℕ} → has_bit (bits lines) j ≡ true → k < room → has_bit (bits now) k ≡ false → IsNextTo j k → ⊥
+spread-off bits {room} before lines now woken {j} {k} on lt off (inl own) =
+    true≢false (sym (rw own at on) ∙ (off_both (off_both (off_both (sym (woken k) ∙ off)).1).0).1)
+spread-off bits {room} before lines now woken {j} {k} on lt off (inr (inl above)) =
+    let at : j ≡ k - 1 = omega (arith, above) in
+    let f : (ltb k room && (ltb 0 k && has_bit (bits lines) (k - 1))) ≡ false =
+    (off_both (off_both (off_both (sym (woken k) ∙ off)).1).0).0 in
+    true≢false (rw (lt-ltb k room lt, lt-ltb 0 k (omega (arith, above)), rw at at on) at f)
+spread-off bits {room} before lines now woken {j} {k} on lt off (inr (inr below)) =
+    true≢false (sym (rw below at on) ∙ (off_both (off_both (sym (woken k) ∙ off)).1).1)
 
-    by : (c / p.size.w ≡ k) ⊎ ((c / p.size.w + 1 ≡ k) ⊎ (c / p.size.w ≡ k + 1)) → ⊥
-    by (inl own) = true≢false (sym (rows_are own) ∙ (off_both (off_both (off_both (sym (woken k) ∙ off)).1).0).1)
-    by (inr (inl above)) =
-        let e : has_bit (bits rows) (k - 1) ≡ true = rows_are (omega (arith, above)) in
-        let f : (ltb k room && (ltb 0 k && has_bit (bits rows) (k - 1))) ≡ false =
-        (off_both (off_both (off_both (sym (woken k) ∙ off)).1).0).0 in
-        true≢false (rw (lt-ltb k room (omega (arith, lt, low)), lt-ltb 0 k (omega (arith, above)), e) at f)
-    by (inr (inr below)) = true≢false (sym (rows_are below) ∙ (off_both (off_both (sym (woken k) ∙ off)).1).1)
-
-module _ {W : Type 0} (bits : W → ℕ) {room : ℕ} (p : Light) {before now : LineWaits W} {rows : W} {zeros : Touched W}
-    (lawful : IsLight p) (low : p.size.h ≤ room) (woken : AreLinesWoken bits room before rows zeros now) where
+module _ {W : Type 0} (bits : W → ℕ) {room : ℕ} (p : Light) {before now : LineWaits W} {cells zeros : Touched W}
+    (lawful : IsLight p) (low : p.size.h ≤ room) (woken : AreLinesWoken bits room before cells zeros now) where
   -- where houses do not wait, none of them has a cell of these lines
-  lines-off : (c : ℕ) → has_bit (bits rows) (c / p.size.w) ≡ true → AreLinesOf bits zeros (c / p.size.w) (c % p.size.w)
+  lines-off : (c : ℕ) → has_bit (bits cells.rows) (c / p.size.w) ≡ true → AreLinesOf bits zeros (c / p.size.w) (c % p.size.w)
       → (kind : LightKind) (k : ℕ) → k < light_kind_lines p kind
       → has_bit (waiting_lines bits now kind) k ≡ false → any_has (light_kind_houses p kind k) c ≡ false
   unfolding any_has
   lines-off c row on kind k lt off = false_from_ne_true _ (by kind lt off)
     where
       by : (kind : LightKind) → k < light_kind_lines p kind → has_bit (waiting_lines bits now kind) k ≡ false → any_has (light_kind_houses p kind k) c ≡ true → ⊥
-      by Numbers lt off has = numbers-off bits p before.numbers rows now.numbers low woken.numbers c row k lt off (numbers-lie p c k (light-board lawful).some has)
+      by Numbers lt off has = spread-off bits _ _ _ woken.numbers row (omega (arith, lt, low)) off (numbers-lie p c k has)
       by RowRuns lt off has =
           true≢false (sym on.1 ∙ ap (has_bit (bits zeros.rows)) (row-runs-lie p k c lawful has) ∙ (off_both (sym (woken.rows_are k) ∙ off)).1)
       by ColumnRuns lt off has =
@@ -167,9 +164,10 @@ module _ (p : Light) (lawful : IsLight p) {K L : Candidates} (words : List ℕ) 
       ]
 
 -- ---- once cells have lost values
-module _ {W : Type 0} (bits : W → ℕ) {room : ℕ} (p : Light) (zeros ones : Touched W) (rows : W) {from to : Layers} {len : ℕ} (are : ArePlanes room to)
+module _ {W : Type 0} (bits : W → ℕ) {room : ℕ} (p : Light) (zeros ones cells : Touched W) {from to : Layers} {len : ℕ} (are : ArePlanes room to)
     (lost_zeros : IsLostIn bits to.size.w 0 (back_at to len) (has to) zeros) (lost_ones : IsLostIn bits to.size.w 1 (back_at to len) (has to) ones)
-    (all_rows : (k : ℕ) → has_bit (bits rows) k ≡ (has_bit (bits zeros.rows) k || has_bit (bits ones.rows) k))
+    (all_rows : (k : ℕ) → has_bit (bits cells.rows) k ≡ (has_bit (bits zeros.rows) k || has_bit (bits ones.rows) k))
+    (all_columns : (k : ℕ) → has_bit (bits cells.columns) k ≡ (has_bit (bits zeros.columns) k || has_bit (bits ones.columns) k))
     (of : ArePlanesOf room p to) (was : ArePlanesOf room p from) (is : from.len ≡ len) (further : IsFurther from to) where
   back : (c v : ℕ) → back_at to len c v ≡ has from c v
   back c v =
@@ -183,33 +181,48 @@ module _ {W : Type 0} (bits : W → ℕ) {room : ℕ} (p : Light) (zeros ones : 
   ones-at : IsLostIn bits p.size.w 1 (has from) (has to) ones
   ones-at c on gone = rw (of.size) at (lost_ones c (back c 1 ∙ on) gone)
 
-  row-at : (c v : ℕ) → v < 2 → has from c v ≡ true → has to c v ≡ false → has_bit (bits rows) (c / p.size.w) ≡ true
-  row-at c zero small on gone = all_rows _ ∙ or_left _ (has_bit (bits ones.rows) _) (zeros-at c on gone).1
-  row-at c (suc zero) small on gone = all_rows _ ∙ or_right (has_bit (bits zeros.rows) _) _ (ones-at c on gone).1
-  row-at c (suc (suc v)) small on gone = absurd (omega (arith, small))
+  lost-at : (c v : ℕ) → v < 2 → has from c v ≡ true → has to c v ≡ false → AreLinesOf bits cells (c / p.size.w) (c % p.size.w)
+  lost-at c zero small on gone = let at = zeros-at c on gone in
+      (all_columns _ ∙ or_left _ (has_bit (bits ones.columns) _) at.0, all_rows _ ∙ or_left _ (has_bit (bits ones.rows) _) at.1)
+  lost-at c (suc zero) small on gone = let at = ones-at c on gone in
+      (all_columns _ ∙ or_right (has_bit (bits zeros.columns) _) _ at.0, all_rows _ ∙ or_right (has_bit (bits zeros.rows) _) _ at.1)
+  lost-at c (suc (suc v)) small on gone = absurd (omega (arith, small))
 
-  lines-rested : (before now : LineWaits W) → AreLinesWoken bits room before rows zeros now → AreLinesRested bits p before (has from) → AreLinesRested bits p now (has to)
-  lines-rested before now woken rested Numbers k lt off =
+  -- numbers in a column that does not wait
+  columns-rested : (before now : LineWaits W) → AreLinesWoken bits room before cells zeros now → AreLinesRested bits p before (has from)
+      → (y : ℕ) → y < p.size.h → AreIdleBut p (bits now.number_columns) y (has to)
+  columns-rested before now woken rested y y_in x lt off =
+      idle-far (number_house p (y * p.size.w + x)) (has from) (has to) further.inside
+      (λ c v on gone. false_from_ne_true _ (λ there.
+      spread-off bits _ _ _ woken.number_columns (lost-at c v (value-in from c v on) on gone).0 (omega (arith, lt, of.narrow)) off (number-lies p c y x lt there).1))
+      (rested.columns y y_in x lt (off_both (sym (woken.number_columns x) ∙ off)).0)
+
+  kinds-rested : (before now : LineWaits W) → AreLinesWoken bits room before cells zeros now → AreLinesRested bits p before (has from)
+      → (kind : LightKind) (k : ℕ) → k < light_kind_lines p kind → has_bit (waiting_lines bits now kind) k ≡ false → AreIdle (light_kind_houses p kind k) (has to)
+  kinds-rested before now woken rested Numbers k lt off =
       idle-far (numbers_of_row p k) (has from) (has to) further.inside
-      (λ c v on gone. false_from_ne_true _ (λ there. numbers-off bits p before.numbers rows now.numbers of.low woken.numbers c (row-at c v (value-in from c v on) on gone) k lt off
-      (numbers-lie p c k (light-board of.lawful).some there)))
-      (rested Numbers k lt (off_both (sym (woken.numbers k) ∙ off)).0)
-  lines-rested before now woken rested RowRuns k lt off =
+      (λ c v on gone. false_from_ne_true _ (λ there.
+      spread-off bits _ _ _ woken.numbers (lost-at c v (value-in from c v on) on gone).1 (omega (arith, lt, of.low)) off (numbers-lie p c k there)))
+      (rested.lines Numbers k lt (off_both (sym (woken.numbers k) ∙ off)).0)
+  kinds-rested before now woken rested RowRuns k lt off =
       let parts = off_both (sym (woken.rows_are k) ∙ off) in
       row-runs-kept p k of.lawful was.size was.alive of.alive further
       (λ c row. value-kept (has from) (has to) c 0 further.inside (λ on gone. true≢false (sym (zeros-at c on gone).1 ∙ ap (has_bit (bits zeros.rows)) row ∙ parts.1)))
-      (rested RowRuns k lt parts.0)
-  lines-rested before now woken rested ColumnRuns k lt off =
+      (rested.lines RowRuns k lt parts.0)
+  kinds-rested before now woken rested ColumnRuns k lt off =
       let parts = off_both (sym (woken.columns_are k) ∙ off) in
       column-runs-kept p k of.lawful lt was.size was.alive of.alive further
       (λ c column. value-kept (has from) (has to) c 0 further.inside (λ on gone. true≢false (sym (zeros-at c on gone).0 ∙ ap (has_bit (bits zeros.columns)) column ∙ parts.1)))
-      (rested ColumnRuns k lt parts.0)
+      (rested.lines ColumnRuns k lt parts.0)
 
-  pub lights-woken : (before now : LightWaits W) → AreLinesWoken bits room before.lines rows zeros now.lines
+  pub lights-woken : (before now : LightWaits W) → AreLinesWoken bits room before.lines cells zeros now.lines
       → AreWider (map bits before.lit.items) (map bits now.lit.items) → AreNoted bits p (has to) ones (map bits now.lit.items)
       → AreLightsRested bits p before (has from) → AreLightsRested bits p now (has to)
   lights-woken before now woken wider noted rested = record {
-    lines = lines-rested before.lines now.lines woken rested.lines;
+    lines = record {
+      lines = kinds-rested before.lines now.lines woken rested.lines;
+      columns = columns-rested before.lines now.lines woken rested.lines;
+    };
     lit = lit-rested p of.lawful (map bits now.lit.items) (planes-full p from was.size was.alive) (planes-full p to of.size of.alive) further.inside
         (λ d lt on gone. noted d lt (ones-at d on gone)) (map bits before.lit.items) wider rested.lit;
   }
@@ -231,6 +244,20 @@ unfolding houses_below after_houses
 below-idle f zero K each = refl
 below-idle f (suc n) K each =
     visits-append (houses_below f n) (f n) K ∙ rw (below-idle f n K (λ k lt. each k (omega arith))) (each n (omega arith))
+
+-- each list of idle houses is idle
+idle-parts : (front back : List CountHouse) (K : Candidates) → AreIdle (front ++ back) K → AreIdle front K × AreIdle back K
+unfolding after_houses
+idle-parts [] back K idle = (refl, idle)
+idle-parts (house ∷ front) back K idle =
+    let first = idle-first house (front ++ back) K idle in
+    let rest = idle-parts front back K (idle-rest house (front ++ back) K idle) in
+    (rw first rest.0, rest.1)
+
+idle-one : (f : ℕ → List CountHouse) (n k : ℕ) (K : Candidates) → k < n → AreIdle (houses_below f n) K → AreIdle (f k) K
+idle-one f n k K lt idle =
+    let within = in-below f k n lt in
+    (idle-parts (f k) within.back K (idle-parts within.front (f k ++ within.back) K (rw (within.is) at idle)).1).0
 
 below-has : (f : ℕ → List CountHouse) (n k c : ℕ) → k < n → any_has (f k) c ≡ true → any_has (houses_below f n) c ≡ true
 unfolding houses_below
@@ -256,6 +283,10 @@ module _ (p : Light) (lawful : IsLight p) (K : Candidates) (place : ℕ) (around
       (in-back _ (houses_below (number_house p) (light_cells p)) _ (in-back _ (houses_below (row_house p) (light_cells p)) _
       (in-back _ (houses_below (column_house p) (light_cells p)) _ (in-below (lit_house p) c (light_cells p) lt)))) off
 
+  number-idle : (c : ℕ) → c < light_cells p → any_has (number_house p c) place ≡ false → AreIdle (number_house p c) K
+  unfolding light_houses
+  number-idle c lt off = part-idle (number_house p c) (in-front _ _ _ (in-below (number_house p) c (light_cells p) lt)) off
+
   kind-idle : (kind : LightKind) (k : ℕ) → k < light_kind_lines p kind → any_has (light_kind_houses p kind k) place ≡ false → AreIdle (light_kind_houses p kind k) K
   unfolding light_houses
   kind-idle Numbers k lt off = part-idle (numbers_of_row p k)
@@ -269,18 +300,45 @@ module _ (p : Light) (lawful : IsLight p) (K : Candidates) (place : ℕ) (around
   -- a closing begins at a cell
   pub lights-at : {W : Type 0} (bits : W → ℕ) {room : ℕ} {planes : Layers} (before : LineWaits W) (now : LightWaits W) {touched : Touched W} → ArePlanesOf room p planes → has planes ≡ K
       → ((k : ℕ) → has_bit (bits touched.columns) k ≡ eqb k (place % p.size.w)) → ((k : ℕ) → has_bit (bits touched.rows) k ≡ eqb k (place / p.size.w))
-      → AreLinesWoken bits room before touched.rows touched now.lines → AreNoted bits p K touched (map bits now.lit.items) → AreLightsRested bits p now K
+      → AreLinesWoken bits room before touched touched now.lines → AreNoted bits p K touched (map bits now.lit.items) → AreLightsRested bits p now K
   lights-at bits {planes = planes} before now {touched} of is column row woken noted =
       let lines : AreLinesOf bits touched (place / p.size.w) (place % p.size.w) = (column _ ∙ eq-eqb _ _ refl, row _ ∙ eq-eqb _ _ refl) in
       let full : IsFull (light_cells p) K = rw is at (planes-full p planes of.size of.alive) in
       record {
-        lines = λ kind k lt off. kind-idle kind k lt (lines-off bits p lawful of.low woken place lines.1 lines kind k lt off);
+        lines = record {
+          lines = λ kind k lt off. kind-idle kind k lt (lines-off bits p lawful of.low woken place lines.1 lines kind k lt off);
+          columns = λ y y_in x lt off. number-idle (y * p.size.w + x) (place-in p.size.w p.size.h y x y_in lt)
+              (false_from_ne_true _ (λ there. spread-off bits _ _ _ woken.number_columns lines.0 (omega (arith, lt, of.narrow)) off (number-lies p place y x lt there).1));
+        };
         lit = λ c lt off. elim (cases_Bool (any_has (lit_house p c) place)) [
           | inr far ↦ lit-idle c lt far
           | inl on ↦ lit-noted p K (map bits now.lit.items) place c lawful
               full (noted place around.place_in lines) off on
         ];
       }
+
+-- ---- the last row whose numbers wait is settled
+module _ {W : Type 0} (bits : W → ℕ) (p : Light) (before now : LineWaits W) (room y : ℕ) (K : Candidates)
+    (numbers : (k : ℕ) → has_bit (bits now.numbers) k ≡ (has_bit (bits before.numbers) k && not (eqb k y)))
+    (rows : now.rows ≡ before.rows) (columns : now.columns ≡ before.columns)
+    (rested : AreLinesRested bits p before K) (idle : AreIdle (numbers_of_row p y) K) where
+  kinds-settled : (kind : LightKind) (k : ℕ) → k < light_kind_lines p kind → has_bit (waiting_lines bits now kind) k ≡ false → AreIdle (light_kind_houses p kind k) K
+  kinds-settled RowRuns k lt off = rested.lines RowRuns k lt (rw rows at off)
+  kinds-settled ColumnRuns k lt off = rested.lines ColumnRuns k lt (rw columns at off)
+  kinds-settled Numbers k lt off = elim (cases_Bool (eqb k y)) [
+    | inl own ↦ rw (eqb-true k y own) idle
+    | inr other ↦ rested.lines Numbers k lt (by (has_bit (bits before.numbers) k) (sym (numbers k ∙ rw other refl) ∙ off))
+  ]
+    where
+      by : (a : Bool) → (a && not false) ≡ false → a ≡ false
+      by a e = grind (arith, common_steps, cases_Bool a)
+
+  pub last-settled : p.size.h ≤ room → any_below (has_bit (bits now.numbers)) room ≡ false → AreLinesRested bits p now K
+  last-settled low none = record {
+    lines = kinds-settled;
+    columns = λ z z_in x lt off. idle-one (λ k. number_house p (z * p.size.w + k)) p.size.w x K lt
+        (kinds-settled Numbers z z_in (any_below-none (has_bit (bits now.numbers)) room none z (omega (arith, z_in, low))));
+  }
 
 -- ---- white cells that wait no more, and those of a row from one that does not wait to the next
 pub lit-settled : {W : Type 0} (bits : W → ℕ) (p : Light) (before now : LightWaits W) (K : Candidates) (y x : ℕ) → x < p.size.w

@@ -20,7 +20,7 @@ pub lines-skip : {W : Type 0} (bits : W → ℕ) (p : Light) (kind : LightKind) 
     → AreLinesRested bits p waits (has to) → ((k : ℕ) → n ≤ k → k < m → has_bit (waiting_lines bits waits kind) k ≡ false)
     → AreVisited (houses_below (light_kind_houses p kind) n) from to true → AreVisited (houses_below (light_kind_houses p kind) m) from to true
 lines-skip bits p kind waits le most rested none visited =
-    visited-skip (light_kind_houses p kind) le visited (λ k at lt. rested kind k (omega (arith, lt, most)) (none k at lt))
+    visited-skip (light_kind_houses p kind) le visited (λ k at lt. rested.lines kind k (omega (arith, lt, most)) (none k at lt))
 
 -- ---- the houses in order
 pub lits-are : (p : Light) → houses_below (lits_of_row p) p.size.h ≡ houses_below (lit_house p) (light_cells p)

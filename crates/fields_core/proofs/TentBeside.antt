@@ -89,9 +89,34 @@ step-in size c d (suc (suc (suc (suc k)))) pos lt less e = absurd (omega arith)
 pub beside-in : (size : Extent) (c d : ℕ) → 0 < size.w → c < size.w * size.h → has_place (steps size c 4) d ≡ true → d < size.w * size.h
 beside-in size c d pos lt on = let w = steps-some size c 4 d on in step-in size c d w.0 pos lt w.1 w.2
 
+-- the one number is the other, or next to it
+abbrev pub IsNextTo : ℕ → ℕ → Type 0
+IsNextTo j k = (j ≡ k) ⊎ ((j + 1 ≡ k) ⊎ (j ≡ k + 1))
+
+-- a step leads to a cell of the column, or of one beside it
+pub step-across : (size : Extent) (c y x k : ℕ) → x < size.w → k < 4 → step size (y * size.w + x) k ≡ Some c → IsNextTo (c % size.w) x
+step-across size c y x zero lt less e =
+    let own = cell-parts size.w y x (y * size.w + x) lt refl in
+    let up = step-up size _ c e in
+    inl (sym (cell-below c (omega (arith, lt))).1 ∙ ap (λ n. n % size.w) up ∙ own.1)
+step-across size c y x (suc zero) lt less e =
+    let own = cell-parts size.w y x (y * size.w + x) lt refl in
+    let left = step-left size _ c e in
+    let some : 1 ≤ x = rw own.1 at left.1 in
+    let at = (cell-parts size.w y (x - 1) c (omega arith) (let a = left.0 in omega arith)).1 in
+    inr (inl (omega arith))
+step-across size c y x (suc (suc zero)) lt less e =
+    let own = cell-parts size.w y x (y * size.w + x) lt refl in
+    let right = step-right size _ c e in
+    inr (inr (ap (λ n. n % size.w) right.0 ∙ (cell-after size.w _ right.1).1 ∙ ap (λ n. n + 1) own.1))
+step-across size c y x (suc (suc (suc zero))) lt less e =
+    let own = cell-parts size.w y x (y * size.w + x) lt refl in
+    let down = step-down size _ c e in
+    inl (ap (λ n. n % size.w) down.0 ∙ (cell-below _ (omega (arith, lt))).1 ∙ own.1)
+step-across size c y x (suc (suc (suc (suc k)))) lt less e = absurd (omega arith)
+
 -- a step leads to a cell of the row, or of one beside it
-pub step-lies : (size : Extent) (c : ℕ) → 0 < size.w → (y x k : ℕ) → x < size.w → k < 4 → step size (y * size.w + x) k ≡ Some c
-    → (c / size.w ≡ y) ⊎ ((c / size.w + 1 ≡ y) ⊎ (c / size.w ≡ y + 1))
+pub step-lies : (size : Extent) (c : ℕ) → 0 < size.w → (y x k : ℕ) → x < size.w → k < 4 → step size (y * size.w + x) k ≡ Some c → IsNextTo (c / size.w) y
 step-lies size c pos y x zero lt less e =
     let own = cell-parts size.w y x (y * size.w + x) lt refl in
     let up = step-up size _ c e in

@@ -7,7 +7,7 @@ use Rattle.grid_core.specs.declared.planes.touched.Touched.{Touched}
 use Rattle.gameid_core.specs.Puzzles.{Light}
 use Rattle.fields_core.specs.CountHouse.{CountHouse, houses_below}
 use Rattle.fields_core.specs.Light.{light_cells, joined_in_row, joined_in_column}
-use Rattle.fields_core.specs.LightHouses.{column_house, lit_house, row_house}
+use Rattle.fields_core.specs.LightHouses.{column_house, lit_house, number_house, row_house}
 use Rattle.fields_core.specs.LightPlanes.{ArePlanesOf, AreTables}
 use Rattle.fields_core.specs.LightWords.{numbers_of_row, row_runs_of_row}
 use Rattle.fields_core.specs.RunLines.{column_runs_of_column}
@@ -35,22 +35,32 @@ waiting_lines bits waits Numbers = bits waits.numbers
 waiting_lines bits waits RowRuns = bits waits.rows
 waiting_lines bits waits ColumnRuns = bits waits.columns
 
+-- the numbers of a row in columns that are none of these are idle
+abbrev pub AreIdleBut : Light → ℕ → ℕ → Candidates → Type 0
+AreIdleBut p columns y K = (x : ℕ) → x < p.size.w → has_bit columns x ≡ false
+    → AreIdle (number_house p (y * p.size.w + x)) K
+
 -- all of these houses that do not wait are idle
-abbrev pub AreLinesRested : {W : Type 0} → (W → ℕ) → Light → LineWaits W → Candidates → Type 0
-AreLinesRested bits p waits K = (kind : LightKind) (k : ℕ) → k < light_kind_lines p kind
-    → has_bit (waiting_lines bits waits kind) k ≡ false → AreIdle (light_kind_houses p kind k) K
-
--- the numbers that wait once cells of these rows have lost values: of these rows, and of those beside them
-abbrev pub AreNumbersWoken : {W : Type 0} → (W → ℕ) → ℕ → W → W → W → Type 0
-AreNumbersWoken bits room before rows now = (k : ℕ) → has_bit (bits now) k
-    ≡ (has_bit (bits before) k || (((nat_lt k room && (nat_lt 0 k && has_bit (bits rows) (k - 1)))
-    || has_bit (bits rows) k) || has_bit (bits rows) (k + 1)))
-
--- and the runs: those of the columns and rows in which cells have lost 0
-pub record AreLinesWoken {W : Type 0} (bits : W → ℕ) (room : ℕ) (before : LineWaits W) (rows : W)
-    (zeros : Touched W) (now : LineWaits W)
+pub record AreLinesRested {W : Type 0} (bits : W → ℕ) (p : Light) (waits : LineWaits W)
+    (K : Candidates)
     : Type 0 where
-  pub numbers : AreNumbersWoken bits room before.numbers rows now.numbers
+  pub lines : (kind : LightKind) (k : ℕ) → k < light_kind_lines p kind
+      → has_bit (waiting_lines bits waits kind) k ≡ false → AreIdle (light_kind_houses p kind k) K
+  pub columns : (y : ℕ) → y < p.size.h → AreIdleBut p (bits waits.number_columns) y K
+
+-- what waited, and these lines with those beside them
+abbrev pub AreSpread : {W : Type 0} → (W → ℕ) → ℕ → W → W → W → Type 0
+AreSpread bits room before lines now = (k : ℕ) → has_bit (bits now) k
+    ≡ (has_bit (bits before) k || (((nat_lt k room && (nat_lt 0 k && has_bit (bits lines) (k - 1)))
+    || has_bit (bits lines) k) || has_bit (bits lines) (k + 1)))
+
+-- what waits once these cells have lost values, and those 0: numbers of their lines and of the lines beside them, and runs
+-- of the columns and rows in which cells have lost 0
+pub record AreLinesWoken {W : Type 0} (bits : W → ℕ) (room : ℕ) (before : LineWaits W)
+    (cells zeros : Touched W) (now : LineWaits W)
+    : Type 0 where
+  pub numbers : AreSpread bits room before.numbers cells.rows now.numbers
+  pub number_columns : AreSpread bits room before.number_columns cells.columns now.number_columns
   pub rows_are : (k : ℕ) → has_bit (bits now.rows) k
       ≡ (has_bit (bits before.rows) k || has_bit (bits zeros.rows) k)
   pub columns_are : (k : ℕ) → has_bit (bits now.columns) k

@@ -2,15 +2,18 @@
 #![tactic(auto)]
 
 ghost use Rattle.std.specs.Prelude.{◌≡◌, ℕ, ◌+◌, ◌*◌, ◌<◌, ◌||◌, ◌==◌, map};
+ghost use Rattle.grid_core.specs.Planes.{has};
 ghost use Rattle.grid_core.specs.Words.{has_bit};
 ghost use Rattle.fields_core.specs.Light.{white};
 ghost use Rattle.fields_core.specs.LightHouses.{number_house};
+ghost use Rattle.fields_core.specs.LightWaits.{AreIdleBut};
 ghost use Rattle.fields_core.specs.LightWords.{numbers_of_row};
 ghost use Rattle.fields_core.specs.NumberWords.{AreColumnsOf, is_numbered};
 ghost use Rattle.fields_core.specs.Parts.{IsAlive};
 ghost use Rattle.fields_core.specs.Trees.{AreRowsOf};
 ghost use Rattle.fields_core.specs.Visits.{AreVisited};
 
+use crate::planes::next::next_place;
 use crate::planes::part::Part;
 use crate::planes::visit::visit;
 use gameid_core::{LightCell, LightPuzzle};
@@ -68,8 +71,9 @@ pub(crate) fn visit_number<W: Word>(
     }
 }
 
-/// Visits the houses of the numbers of a row, up to one that has no filling. The words are the numbered cells of each row,
-/// and the white cells of each row and of each column.
+/// Visits the houses of the numbers of a row that stand in the columns `at`, up to one that has no filling: all others are
+/// idle. Once one has taken something, all that follow are visited. The words are the numbered cells of each row, and the
+/// white cells of each row and of each column.
 pub(crate) fn visit_numbers<W: Word>(
     planes: &mut Planes<W>,
     puzzle: &LightPuzzle,
@@ -77,23 +81,30 @@ pub(crate) fn visit_numbers<W: Word>(
     rows: &[W],
     columns: &[W],
     y: u8,
+    at: W,
 ) -> bool
     requires size { planes.old.size ≡ puzzle.now.size }
     requires numbers { AreRowsOf puzzle.now.size (is_numbered puzzle.now) (map W.bits numbers.now) }
     requires rows { AreRowsOf puzzle.now.size (white puzzle.now) (map W.bits rows.now) }
     requires columns { AreColumnsOf puzzle.now.size (white puzzle.now) (map W.bits columns.now) }
     requires y_in { y < puzzle.now.size.h }
+    requires others { AreIdleBut puzzle.now (W.bits at) y (has planes.old) }
     requires alive { IsAlive planes.old }
     ensures { AreVisited (numbers_of_row puzzle.now y) planes.old planes.new result }
 {
-    let _size = planes.size();
-    let mut left = numbers[usize::from(y)];
-    while left.is_some() {
-        let x = left.lowest() as u8;
-        if !visit_number(planes, puzzle, rows, columns, y, x) {
+    let w = usize::from(planes.size().w());
+    let own = numbers[usize::from(y)];
+    let mut left = own.both(at);
+    let mut from = 0;
+    while let Some(x) = next_place(left, from, w) {
+        let len = planes.len();
+        if !visit_number(planes, puzzle, rows, columns, y, x as u8) {
             return false;
         }
-        left = left.without_lowest();
+        if planes.len() != len {
+            left = own;
+        }
+        from = x + 1;
     }
     true
 }

@@ -59,7 +59,11 @@ impl<W: Word> LightWaits<W> {
     {
         let zeros = planes.lost(len, 0);
         let ones = planes.lost(len, 1);
-        self.lines = self.lines.woken(zeros.rows.either(ones.rows), zeros);
+        let both = Touched {
+            columns: zeros.columns.either(ones.columns),
+            rows: zeros.rows.either(ones.rows),
+        };
+        self.lines = self.lines.woken(both, zeros);
         wake_lit(&mut self.lit, planes, puzzle, tables, ones);
     }
 
@@ -95,7 +99,7 @@ impl<W: Word> LightWaits<W> {
             columns: W::one(place % w),
             rows: W::one(place / w),
         };
-        self.lines = LineWaits::none().woken(touched.rows, touched);
+        self.lines = LineWaits::none().woken(touched, touched);
         clear_words(&mut self.lit, rows(puzzle));
         wake_lit(&mut self.lit, planes, puzzle, tables, touched);
     }

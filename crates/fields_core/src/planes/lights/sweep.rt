@@ -35,7 +35,8 @@ impl<W: Word> LightNotes<W> {
         ensures kept { IsKept self.old self.new }
     {
         let len = planes.len();
-        if !self.tables.visit(planes, puzzle, kind, line) {
+        let columns = self.waits.lines.number_columns;
+        if !self.tables.visit(planes, puzzle, kind, line, columns) {
             return false;
         }
         if planes.len() == len {

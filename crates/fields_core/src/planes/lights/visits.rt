@@ -1,10 +1,11 @@
 //! Visits of the houses of Light Up by the words that are kept of a puzzle.
 #![tactic(auto)]
 
-ghost use Rattle.std.specs.Prelude.{◌+◌, ◌*◌, ◌<◌};
+ghost use Rattle.std.specs.Prelude.{ℕ, ◌+◌, ◌*◌, ◌<◌};
+ghost use Rattle.grid_core.specs.Planes.{has};
 ghost use Rattle.fields_core.specs.LightHouses.{lit_house};
 ghost use Rattle.fields_core.specs.LightPlanes.{ArePlanesOf, AreTables};
-ghost use Rattle.fields_core.specs.LightWaits.{light_kind_houses, light_kind_lines};
+ghost use Rattle.fields_core.specs.LightWaits.{AreIdleBut, light_kind_houses, light_kind_lines};
 ghost use Rattle.fields_core.specs.Visits.{AreVisited};
 
 use crate::light_up::cells::columns;
@@ -17,17 +18,21 @@ use gameid_core::LightPuzzle;
 use grid_core::{Planes, Word};
 
 impl<W: Word> LightTables<W> {
-    /// Visits the houses of a kind at a line, up to one that has no filling.
+    /// Visits the houses of a kind at a line, up to one that has no filling. Numbers in other columns than these are idle.
+    #[inline(always)]
     pub(crate) fn visit(
         &self,
         planes: &mut Planes<W>,
         puzzle: &LightPuzzle,
         kind: LightKind,
         line: u8,
+        columns: W,
     ) -> bool
         requires planes { ArePlanesOf W.room puzzle.now planes.old }
         requires tables { AreTables W.bits puzzle.now self.now }
         requires line_in { line < light_kind_lines puzzle.now kind }
+        requires others { (y : ℕ) → y < puzzle.now.size.h
+            → AreIdleBut puzzle.now (W.bits columns) y (has planes.old) }
         ensures { AreVisited (light_kind_houses puzzle.now kind line) planes.old planes.new result }
     {
         match kind {
@@ -39,6 +44,7 @@ impl<W: Word> LightTables<W> {
                     &self.rows,
                     &self.columns,
                     line,
+                    columns,
                 )
             }
             LightKind::RowRuns => visit_row_runs(planes, puzzle, &self.runs.rows, line),

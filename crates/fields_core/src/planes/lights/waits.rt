@@ -5,7 +5,8 @@ ghost use Rattle.std.specs.Prelude.{◌≡◌, ◌+◌, ◌*◌, ◌<◌, ◌≤
 ghost use Rattle.grid_core.specs.Candidates.{Candidates};
 ghost use Rattle.gameid_core.specs.Puzzles.{Light};
 ghost use Rattle.fields_core.specs.LightHouses.{lit_house};
-ghost use Rattle.fields_core.specs.LightWaits.{AreLightsRested, AreLinesRested, AreLinesWoken, light_kind_houses, light_kind_lines, waiting_lines};
+ghost use Rattle.fields_core.specs.LightWaits.{AreLightsRested, AreLinesRested, AreLinesWoken, AreSpread, light_kind_houses, light_kind_lines, waiting_lines};
+ghost use Rattle.fields_core.specs.LightWords.{numbers_of_row};
 ghost use Rattle.fields_core.specs.Waits.{AreIdle};
 
 use gameid_core::LightPuzzle;
@@ -34,12 +35,21 @@ impl LightKind {
     }
 }
 
-/// The lines of each kind that wait.
+/// The lines of each kind that wait. Of the numbers of a row those wait that stand in one of the columns of numbers.
 #[derive(Clone, Copy)]
 pub struct LineWaits<W> {
     numbers: W,
+    pub(crate) number_columns: W,
     rows: W,
     columns: W,
+}
+
+/// Places of the first word, and those of these lines and beside them.
+#[inline(always)]
+fn spread<W: Word>(before: W, lines: W) -> W
+    ensures { AreSpread W.bits W.room before lines result }
+{
+    before.either(lines.on().either(lines).either(lines.back()))
 }
 
 impl<W: Word> LineWaits<W> {
@@ -51,6 +61,7 @@ impl<W: Word> LineWaits<W> {
         let all = W::all(W::places());
         LineWaits {
             numbers: all,
+            number_columns: all,
             rows: all,
             columns: all,
         }
@@ -61,20 +72,20 @@ impl<W: Word> LineWaits<W> {
         let none = W::none();
         LineWaits {
             numbers: none,
+            number_columns: none,
             rows: none,
             columns: none,
         }
     }
 
-    /// What waits too once cells of these rows have lost values, and those of both a column and a row of the others 0. While
-    /// no cell of theirs loses 0, runs stay idle.
-    pub(crate) fn woken(self, rows: W, zeros: Touched<W>) -> LineWaits<W>
-        ensures { AreLinesWoken W.bits W.room self rows zeros result }
+    /// What waits too once cells of both a column and a row of these have lost values, and those of the others 0. While no
+    /// cell of theirs loses 0, runs stay idle.
+    pub(crate) fn woken(self, cells: Touched<W>, zeros: Touched<W>) -> LineWaits<W>
+        ensures { AreLinesWoken W.bits W.room self cells zeros result }
     {
         LineWaits {
-            numbers: self
-                .numbers
-                .either(rows.on().either(rows).either(rows.back())),
+            numbers: spread(self.numbers, cells.rows),
+            number_columns: spread(self.number_columns, cells.columns),
             rows: self.rows.either(zeros.rows),
             columns: self.columns.either(zeros.columns),
         }
@@ -91,15 +102,29 @@ impl<W: Word> LineWaits<W> {
         }
     }
 
+    /// The numbers of the row wait no more: they are idle. Once no row waits, no column does.
+    fn settle_numbers(&mut self, y: u8)
+        requires { y < W.room }
+        ensures { (p : Light) (K : Candidates) → p.size.h ≤ W.room
+            → AreLinesRested W.bits p self.old K
+            → AreIdle (numbers_of_row p y) K → AreLinesRested W.bits p self.new K }
+    {
+        self.numbers = self.numbers.but(W::one(usize::from(y)));
+        if !self.numbers.is_some() {
+            self.number_columns = W::none();
+        }
+    }
+
     /// The houses of this kind at the line wait no more: they are idle.
     pub(crate) fn settle(&mut self, kind: LightKind, line: u8)
         requires { line < W.room }
-        ensures { (p : Light) (K : Candidates) → AreLinesRested W.bits p self.old K
+        ensures { (p : Light) (K : Candidates) → p.size.h ≤ W.room
+            → AreLinesRested W.bits p self.old K
             → AreIdle (light_kind_houses p kind line) K → AreLinesRested W.bits p self.new K }
     {
         let own = W::one(usize::from(line));
         match kind {
-            LightKind::Numbers => self.numbers = self.numbers.but(own),
+            LightKind::Numbers => self.settle_numbers(line),
             LightKind::RowRuns => self.rows = self.rows.but(own),
             LightKind::ColumnRuns => self.columns = self.columns.but(own),
         }

@@ -1,9 +1,15 @@
-use Rattle.fields_core.proofs.Common.{count_below, has_bit}
-use Rattle.fields_core.proofs.NumberRows.{IsVisitedTo}
+use Rattle.fields_core.proofs.Common.{houses_below, number_house, true, ◌*◌, ◌+◌, ◌-◌, ◌≤◌}
+use Rattle.grid_core.specs.Planes.{has}
+use Rattle.fields_core.specs.LightWaits.{AreIdleBut}
+use Rattle.fields_core.specs.Visits.{AreVisited}
 use Rattle.fields_core.proofs.planes.numbers.visit_numbers.Given as goal
 
-abbrev pub invariant-loop-left : goal.invariant-loop-left
-invariant-loop-left g l = IsVisitedTo l.puzzle l.y l.fn.planes l.planes (g.W.Word.bits l.left)
+abbrev pub invariant-loop-x : goal.invariant-loop-x
+invariant-loop-x g l = record {
+  within : l.from ≤ l.puzzle.size.w;
+  visited : AreVisited (houses_below (λ x. number_house l.puzzle (l.y * l.puzzle.size.w + x)) l.from) l.fn.planes l.planes true;
+  others : AreIdleBut l.puzzle (g.W.Word.bits l.left) l.y (has l.planes);
+}
 
-abbrev pub decreases-loop-left : goal.decreases-loop-left
-decreases-loop-left g l = count_below (has_bit (g.W.Word.bits l.left)) g.W.Word.room
+abbrev pub decreases-loop-x : goal.decreases-loop-x
+decreases-loop-x g l = l.puzzle.size.w - l.from
