@@ -137,10 +137,10 @@ pub run-at : (first stride start n : ℕ) {k : ℕ} {xs : List ℕ}
 run-at first stride start n e lt = grind (arith, common_steps, run-long, get_or-map-range_with_len, slice_index)
 
 -- the cells of a row and of a column
-pub row-made : (size : Extent) (y : ℕ) {w : ℕ} → w ≡ size.w → map (λ i. y * w + i * 1) (range_with_len 0 (w - 0)) ≡ row_places size y
+pub row-made : (size : Extent) (y : ℕ) {w : ℕ} → w ≡ size.w → map (λ i. y * w + i * 1) (range_with_len 0 w) ≡ row_places size y
 row-made size y e = grind (arith, common_steps, map-same)
 
-pub column-made : (size : Extent) (x : ℕ) {w h : ℕ} → w ≡ size.w → h ≡ size.h → map (λ i. x + i * w) (range_with_len 0 (h - 0)) ≡ column_places size x
+pub column-made : (size : Extent) (x : ℕ) {w h : ℕ} → w ≡ size.w → h ≡ size.h → map (λ i. x + i * w) (range_with_len 0 h) ≡ column_places size x
 column-made size x e f = grind (arith, common_steps, map-same)
 
 pub row-cell : (size : Extent) {y k : ℕ} → y < size.h → k < length (row_places size y) → slice_index (row_places size y) k < size.w * size.h

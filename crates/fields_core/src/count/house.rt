@@ -1,7 +1,7 @@
 //! Count houses, each told by few numbers.
 #![tactic(auto, using(crate::proofs::LawSets::house_laws))]
 
-ghost use Rattle.std.specs.Prelude.{◌≡◌, ◌+◌, ◌*◌, ◌<◌, ◌^◌, ◌∷◌, [], length, map, slice_index};
+ghost use Rattle.std.specs.Prelude.{◌≡◌, ℕ, ◌+◌, ◌*◌, ◌<◌, ◌^◌, ◌∷◌, [], length, map, slice_index};
 ghost use Rattle.std.specs.List.{range_with_len};
 ghost use Rattle.engine_core.specs.RuleSystem.{has_place};
 ghost use Rattle.grid_core.specs.Regions.{row_places, column_places};
@@ -51,7 +51,9 @@ impl Segment {
     /// The cells of a row, from the left.
     pub(crate) fn row(size: Size, y: usize) -> Segment
         requires { y < size.h }
-        ensures { segment_places result ≡ row_places size y }
+        ensures places { segment_places result ≡ row_places size y }
+        ensures within { (k : ℕ) → k < length (segment_places result)
+            → slice_index (segment_places result) k < size.w * size.h }
     {
         let w = usize::from(size.w());
         Segment::of(y * w, 1, w)
@@ -60,7 +62,9 @@ impl Segment {
     /// The cells of a column, from the top.
     pub(crate) fn column(size: Size, x: usize) -> Segment
         requires { x < size.w }
-        ensures { segment_places result ≡ column_places size x }
+        ensures places { segment_places result ≡ column_places size x }
+        ensures within { (k : ℕ) → k < length (segment_places result)
+            → slice_index (segment_places result) k < size.w * size.h }
     {
         Segment::of(x, usize::from(size.w()), usize::from(size.h()))
     }

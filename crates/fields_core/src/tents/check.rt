@@ -3,12 +3,13 @@
 
 ghost use Rattle.std.specs.Prelude.{◌≡◌, ℕ, ◌<◌, ◌==◌, ◌↔◌, IfOk, None, count_by, length, slice_index};
 ghost use Rattle.grid_core.specs.Grids.{IsGrid};
+ghost use Rattle.fields_core.specs.Houses.{segment_places};
 ghost use Rattle.fields_core.specs.TentFaults.{IsTentFault};
 ghost use Rattle.fields_core.specs.PairingScratches.{HasRoom};
 ghost use Rattle.fields_core.specs.TentSolutions.{IsTentSolution};
 ghost use Rattle.fields_core.specs.Tents.{tent_cells, tent, tree_right, touch_right};
 
-use crate::count::run::Run;
+use crate::count::house::Segment;
 use crate::tents::cells::{cells, column_number, columns, is_tree, row_number, rows};
 use crate::tents::fault::TentFault;
 use crate::tents::pairs::{PairingScratch, are_paired};
@@ -38,9 +39,10 @@ fn is_touch_right(puzzle: &TentsPuzzle, grid: &Grid, place: usize) -> bool
 }
 
 /// How many tents stand in the run.
-fn count_tents(grid: &Grid, run: &Run) -> usize
-    requires { (k : ℕ) → k < length run.now → slice_index run.now k < length grid.now }
-    ensures { result ≡ count_by (tent grid.now) run.now }
+fn count_tents(grid: &Grid, run: Segment) -> usize
+    requires { (k : ℕ) → k < length (segment_places run)
+        → slice_index (segment_places run) k < length grid.now }
+    ensures { result ≡ count_by (tent grid.now) (segment_places run) }
 {
     let mut tents = 0;
     for k in 0..run.len() {
@@ -53,9 +55,10 @@ fn count_tents(grid: &Grid, run: &Run) -> usize
 }
 
 /// Whether as many tents stand in the run as the number says.
-fn has_tents(grid: &Grid, run: &Run, number: u8) -> bool
-    requires { (k : ℕ) → k < length run.now → slice_index run.now k < length grid.now }
-    ensures { result ≡ (count_by (tent grid.now) run.now == number) }
+fn has_tents(grid: &Grid, run: Segment, number: u8) -> bool
+    requires { (k : ℕ) → k < length (segment_places run)
+        → slice_index (segment_places run) k < length grid.now }
+    ensures { result ≡ (count_by (tent grid.now) (segment_places run) == number) }
 {
     count_tents(grid, run) == usize::from(number)
 }
@@ -84,12 +87,12 @@ pub(crate) fn find_fault(
         }
     }
     for x in 0..columns(puzzle) {
-        if !has_tents(grid, &Run::column(size, x), column_number(puzzle, x)) {
+        if !has_tents(grid, Segment::column(size, x), column_number(puzzle, x)) {
             return Some(TentFault::Column(x));
         }
     }
     for y in 0..rows(puzzle) {
-        if !has_tents(grid, &Run::row(size, y), row_number(puzzle, y)) {
+        if !has_tents(grid, Segment::row(size, y), row_number(puzzle, y)) {
             return Some(TentFault::Row(y));
         }
     }

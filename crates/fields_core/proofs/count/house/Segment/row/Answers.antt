@@ -1,6 +1,6 @@
 use Rattle.fields_core.proofs.Common.{◌∙◌}
 use Rattle.fields_core.proofs.RunLemmas.{row-made, row-cell}
-use Rattle.fields_core.proofs.count.run.Run.row.Goals as goal
+use Rattle.fields_core.proofs.count.house.Segment.row.Goals as goal
 
 pub returns-clause-within : goal.returns-clause-within
 returns-clause-within c = λ k lt.
