@@ -1,11 +1,11 @@
 -- Closings that go around over the houses that wait.
-use Rattle.engine_core.proofs.Common.{Bool, Candidates, Dead, HasStruck, IsAround, IsAlive, IsClosedIn, IsClosing, IsDead, IsLawful, IsRested, IsTaken, IsWithin, IsWoken, List, Open, RuleSystem, Some, None, [], after, arith, cases_Bool, cases_lt, common_steps, false, if◌then◌else◌, inl, inr, is_dead, length, length-append, lt-ltb, ltb, le-ltb, max, not, refl, suc, sym, take, true, true≢false, within_inside, ℕ, ◌&&◌, ◌*◌, ◌++◌, ◌+◌, ◌-◌, ◌<◌, ◌∙◌, ◌∷◌, ◌||◌, ◌≡◌, ◌≤◌, ◌⊎◌}
+use Rattle.engine_core.proofs.Common.{Bool, Candidates, Dead, HasStruck, IsAround, IsAlive, IsClosedIn, IsClosing, IsDead, IsLawful, IsRested, IsTaken, IsWithin, IsWoken, List, Open, RuleSystem, Some, None, [], after, arith, but, cases_Bool, cases_lt, common_steps, false, if◌then◌else◌, inl, inr, is_dead, length, length-append, lt-ltb, ltb, le-ltb, max, not, refl, suc, sym, take, true, true≢false, within_inside, ℕ, ◌&&◌, ◌*◌, ◌++◌, ◌+◌, ◌-◌, ◌<◌, ◌∙◌, ◌∷◌, ◌||◌, ◌≡◌, ◌≤◌, ◌⊎◌}
 use Rattle.std.specs.Int.{from_bool}
 use Rattle.engine_core.proofs.ClosingLemmas.{replay_inside}
 use Rattle.engine_core.proofs.EndLemmas.{closed-in, taken-dead, taken-open}
 use Rattle.engine_core.proofs.QueueLemmas.{closed_from_rested}
 use Rattle.engine_core.proofs.ListLemmas.{IsRunning, closing-dead, closing-open, room, running-first, running-turn}
-use Rattle.engine_core.proofs.SweepLemmas.{IsSwept, IsSweeping, few_sweeps, struck-more, struck-none, sweep-idle, swept-alive, swept-dead, swept-first, swept-idle, swept-shut, swept-turn, sweeping-inside, sweeping-first, sweeping-passed, sweeping-dead, sweeping-turn}
+use Rattle.engine_core.proofs.SweepLemmas.{IsMarked, IsSwept, IsSweeping, all-marked, few_sweeps, struck-more, struck-none, sweep-idle, swept-alive, swept-dead, swept-first, swept-idle, swept-shut, swept-turn, sweeping-inside, sweeping-first, sweeping-passed, sweeping-dead, sweeping-turn, woken-marked}
 
 -- the board K was left in the n-th sweep of K0, which began with the board `first`, before the house `from`; each sweep
 -- before struck something
@@ -136,12 +136,12 @@ module _ (p : RuleSystem) (laws : IsLawful p) (K0 : Candidates) (within : IsWith
   ]
 
   amid-turn : {n h : ℕ} {first K K' : Candidates} {waits waits' : ℕ → Bool} → IsAmid p K0 n h first K waits → h < p.houses
-      → IsWithin p.cells p.values K → K' ≡ after p h K → IsWoken p h K K' waits waits' → IsAmid p K0 n (h + 1) first K' waits'
-  amid-turn {h} {first} {K} s lt fits e woke = record {
+      → K' ≡ after p h K → IsMarked p h K K' waits waits' → IsAmid p K0 n (h + 1) first K' waits'
+  amid-turn {h} {first} {K} s lt e m = record {
     whole = s.whole;
     told = s.told;
     swept = s.swept;
-    sweeping = sweeping-turn p laws first h K _ _ _ s.sweeping lt fits e woke;
+    sweeping = sweeping-turn p first h K _ _ _ s.sweeping lt e m;
   }
 
   pub amid-few : {n from : ℕ} {first K : Candidates} {waits : ℕ → Bool} → IsAmid p K0 n from first K waits → p.by_queue ≡ false → n ≤ p.bound
@@ -184,7 +184,7 @@ module _ (p : RuleSystem) (laws : IsLawful p) (K0 : Candidates) (within : IsWith
         omega (arith, length-append r.1 (h ∷ []), r.2),
         running-turn p laws K0 r.1 K K' waits waits' h r.4 v.house_in r.3 fits e woke alive,
       )
-      | inr s ↦ inr (s.0, s.1, amid-turn s.2 v.house_in fits e woke)
+      | inr s ↦ inr (s.0, s.1, amid-turn s.2 v.house_in e (woken-marked p laws h K v.house_in fits e woke))
     ];
   }
 
@@ -228,11 +228,11 @@ module _ (p : RuleSystem) (laws : IsLawful p) (K0 : Candidates) (within : IsWith
   ]
 
   pub striking-turn : {n h : ℕ} {K K' : Candidates} {waits waits' : ℕ → Bool} {struck now : Bool} → IsStriking p K0 n h K waits struck
-      → h < p.houses → IsWithin p.cells p.values K → K' ≡ after p h K → IsWoken p h K K' waits waits' → (now ≡ false → K' ≡ K)
+      → h < p.houses → K' ≡ after p h K → ((j : ℕ) → j < p.houses → waits' j ≡ (now || but waits h j)) → (now ≡ false → K' ≡ K)
       → (now ≡ true → HasStruck K K') → IsStriking p K0 n (h + 1) K' waits' (struck || now)
-  striking-turn {h} s lt fits e woke idle lost = record {
+  striking-turn {h} {now = now} s lt e marks idle lost = record {
     first = s.first;
-    amid = amid-turn s.amid lt fits e woke;
+    amid = amid-turn s.amid lt e (all-marked p now e idle lost marks);
     lost = struck-more p h (sweeping-inside s.amid.sweeping) e s.lost lost;
     same = struck-none s.same idle;
   }

@@ -1,8 +1,8 @@
 -- Which houses wait after others were called for.
-use Rattle.engine_core.proofs.Common.{AreWoken, Bool, Candidates, IsBitsOf, IsInside, IsNext, IsWoken, None, RuleSystem, Some, and_from, and_left, and_right, any_below, arith, but, called_for, calls, cases_eq, cases_lt, common_steps, count_below, counts_of, empties, eq-eqb, eqb, false, has_place, le-ltb, lt-ltb, ltb, ne_eqb, not, not_from_false, not_from_true, or_right, refl, slice_index, true, woken, ℕ, ◌&&◌, ◌+◌, ◌<◌, ◌||◌, ◌≡◌, ◌≤◌}
+use Rattle.engine_core.proofs.Common.{AreWoken, Bool, Candidates, IsBitsOf, IsInside, IsNext, IsWoken, None, RuleSystem, Some, and_from, and_left, and_right, any_below, arith, but, called_for, calls, cases_eq, cases_lt, common_steps, count_below, counts_of, eq-eqb, eqb, false, has_place, le-ltb, lt-ltb, ltb, ne_eqb, not, not_from_false, not_from_true, or_right, refl, slice_index, true, woken, ℕ, ◌&&◌, ◌+◌, ◌<◌, ◌||◌, ◌≡◌, ◌≤◌}
 use Rattle.engine_core.proofs.IndexLemmas.{counted}
-use Rattle.engine_core.proofs.QueueLemmas.{any_below-more, empties_else, empties_then, unwoken, woken-none}
-use Rattle.engine_core.proofs.SetLemmas.{bits-empty, counts-differ, counts-same}
+use Rattle.engine_core.proofs.QueueLemmas.{any_below-more, unwoken, woken-none}
+use Rattle.engine_core.proofs.SetLemmas.{counts-differ, counts-same}
 
 -- where no house is called for, nothing changes
 pub woken-by_none : {p : RuleSystem} {called waits : ℕ → Bool} → ((j : ℕ) → j < p.houses → called j ≡ false) → AreWoken p called waits waits
@@ -45,20 +45,25 @@ pub woken-first : {p : RuleSystem} (h : ℕ) (K K' : Candidates) {waits : ℕ �
 unfolding any_below
 woken-first h K K' = woken-by_none (λ j lt. refl)
 
-pub woken-then : (p : RuleSystem) (h : ℕ) (K K' : Candidates) (k place : ℕ) (before now after : ℕ → Bool) → place ≡ slice_index (p.scope h) k
-    → (count_below (K (slice_index (p.scope h) k)) p.values ≡ count_below (K' (slice_index (p.scope h) k)) p.values → ⊥)
+-- a cell with another set calls for its houses
+pub woken-then : (p : RuleSystem) (h : ℕ) (K K' : Candidates) (k : ℕ) {place set bits : ℕ} {before now after : ℕ → Bool}
+    → place ≡ slice_index (p.scope h) k → IsBitsOf (K (slice_index (p.scope h) k)) p.values set → IsBitsOf (K' place) p.values bits
+    → IsInside K' K → (bits ≡ set → ⊥)
     → AreWoken p (λ j. any_below (calls p h (counts_of p h K) K' j) k) before now → AreWoken p (λ j. has_place (p.scope j) place) now after
     → AreWoken p (λ j. any_below (calls p h (counts_of p h K) K' j) (k + 1)) before after
 unfolding counts_of
-woken-then p h K K' k place before now after at ne a b =
+woken-then p h K K' k at was is inside ne a b =
+    let differ = counts-differ was (rw at at is) (λ v. inside _ v) ne in
     woken-same (λ j lt. grind (arith, common_steps, any_below-more, ne_eqb, not_from_false)) (woken-more a b)
 
-pub woken-else : {p : RuleSystem} (h : ℕ) (K K' : Candidates) (k : ℕ) {before now : ℕ → Bool}
-    → count_below (K (slice_index (p.scope h) k)) p.values ≡ count_below (K' (slice_index (p.scope h) k)) p.values
-    → AreWoken p (λ j. any_below (calls p h (counts_of p h K) K' j) k) before now
+-- one with the same set doesn't
+pub woken-else : (p : RuleSystem) (h : ℕ) (K K' : Candidates) (k : ℕ) {place set bits : ℕ} {before now : ℕ → Bool}
+    → place ≡ slice_index (p.scope h) k → IsBitsOf (K (slice_index (p.scope h) k)) p.values set → IsBitsOf (K' place) p.values bits
+    → bits ≡ set → AreWoken p (λ j. any_below (calls p h (counts_of p h K) K' j) k) before now
     → AreWoken p (λ j. any_below (calls p h (counts_of p h K) K' j) (k + 1)) before now
 unfolding counts_of
-woken-else h K K' k same a =
+woken-else p h K K' k at was is e a =
+    let same = counts-same p.values _ _ was (rw at at is) e in
     woken-same (λ j lt. grind (arith, common_steps, and_left, any_below-more, eq-eqb, not_from_true, unwoken)) a
 
 -- ---- the marks after a visit: of the house, then those of houses that were called for, then its own where visits settle
@@ -91,38 +96,3 @@ pub before-all : {p : RuleSystem} {test before now : ℕ → Bool} (from : ℕ)
     → IsNext test p.houses from None → AreWoken p (λ j. test j && ltb j from) before now → AreWoken p test before now
 before-all from next a =
     woken-same (λ j lt. grind (arith, common_steps, and_from, and_left, cases_lt, lt-ltb, next j)) a
-
--- ---- the cells of a house one after another, by their sets before and now
-pub record IsMarking (p : RuleSystem) (h : ℕ) (K K' : Candidates) (k : ℕ) (before now : ℕ → Bool) (dead : Bool) : Type 0 where
-  pub woken : AreWoken p (λ j. any_below (calls p h (counts_of p h K) K' j) k) before now
-  pub dead_is : dead ≡ any_below (empties p h (counts_of p h K) K') k
-
-pub marking-first : {p : RuleSystem} {h : ℕ} (K K' : Candidates) {waits : ℕ → Bool} → IsMarking p h K K' 0 waits waits false
-unfolding any_below
-marking-first {h} K K' = record { woken = woken-first h K K'; dead_is = refl }
-
-module _ {p : RuleSystem} {h : ℕ} {K K' : Candidates} {k place set bits : ℕ} {before now : ℕ → Bool} {dead : Bool} (at : place ≡ slice_index (p.scope h) k)
-    (was : IsBitsOf (K (slice_index (p.scope h) k)) p.values set)
-    (is : IsBitsOf (K' place) p.values bits) (inside : IsInside K' K)
-    (m : IsMarking p h K K' k before now dead) where
-  here : IsBitsOf (K' (slice_index (p.scope h) k)) p.values bits
-  here = rw (← at) is
-
-  -- a cell with another set calls for its houses
-  pub marking-then : {after : ℕ → Bool} {dead' : Bool} → (bits ≡ set → ⊥)
-      → AreWoken p (λ j. has_place (p.scope j) place) now after → dead' ≡ (dead || eqb bits 0)
-      → IsMarking p h K K' (k + 1) before after dead'
-  unfolding counts_of
-  marking-then {after} ne a e =
-      let differ = counts-differ was here (λ v. inside _ v) ne in
-      record {
-        woken = woken-then p h K K' k place before now after at differ m.woken a;
-        dead_is = empties_then p h (counts_of p h K) K' k e m.dead_is differ (bits-empty here);
-      }
-
-  -- one with the same set doesn't
-  pub marking-else : bits ≡ set → IsMarking p h K K' (k + 1) before now dead
-  unfolding counts_of
-  marking-else e =
-      let same = counts-same p.values set bits was here e in
-      record { woken = woken-else h K K' k same m.woken; dead_is = empties_else p h _ K' k refl m.dead_is same }

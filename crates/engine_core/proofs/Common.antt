@@ -64,7 +64,7 @@ pub use Rattle.engine_core.specs.HouseSetsLaws.{bits-of_values, sets-bits, strik
 pub use Rattle.engine_core.specs.Keeping.{AreSetsOf, IsKept}
 pub use Rattle.engine_core.specs.PlaceLaws.{AreDistinct, distinct-from, has_place-at, has_place-here}
 pub use Rattle.engine_core.specs.Position.{IsCheckpoint, IsOnward, IsReturned, IsTaken, Standing}
-pub use Rattle.engine_core.specs.Queue.{IsAround, IsClosedAround, IsClosedBut, IsRested, IsWoken, are_emptied, called_for, calls, empties}
+pub use Rattle.engine_core.specs.Queue.{IsAround, IsClosedAround, IsClosedBut, IsRested, IsWoken, called_for, calls, is_dead_in}
 unfoldable pub use Rattle.engine_core.specs.Queue.{but, counts_of, visits_left, woken}
 pub use Rattle.engine_core.specs.RuleSystem.{IsBoardOf, IsClosed, IsGridOf, IsIdle, IsInsideAt, IsLawful, IsNext, Needs, RuleSystem}
 unfoldable pub use Rattle.engine_core.specs.RuleSystem.{after, has_place, longest, share}

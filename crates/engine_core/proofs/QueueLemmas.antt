@@ -1,5 +1,6 @@
-use Rattle.engine_core.proofs.Common.{AreWoken, Bool, Candidates, IsBoardOf, IsClosed, IsClosedAround, IsClosedBut, IsIdle, IsInsideAt, IsLawful, IsRested, IsWithin, IsWoken, Layout, List, RuleSystem, SameShape, Some, [], add-one, after, and_from, and_left, and_parts, any_below, any_below-here, any_below-none, any_below-some, arith, but, called_for, cases_Bool, cases_eq, cells_of, common_steps, count_below, count_below-any, count_below-bound, count_below-kept, count_below-le, count_below-lt, count_below-none, count_below-pos, counts_of, empties, eq-eqb, eqb, eqb-true, false, false_from_ne_true, has, has_place, has_place-at, has_place-here, inl, inr, is_dead, is_dead-each, is_dead-here, is_dead-inside, is_dead-not, length, mul-le-mul_right, ne_eqb, not, not-true, not_from_false, not_from_true, only, only-here, only-inside, only-other, or_cases, or_left, or_right, refl, set, share, slice_index, sum_below-add, sum_below-le, sym, take, take-suc-set, true, true≢false, visits_left, woken, ℕ, ◌&&◌, ◌*◌, ◌++◌, ◌+◌, ◌-◌, ◌<◌, ◌||◌, ◌∙◌, ◌∷◌, ◌≡◌, ◌≤◌}
+use Rattle.engine_core.proofs.Common.{AreWoken, IsBitsOf, Bool, Candidates, IsBoardOf, IsClosed, IsClosedAround, IsClosedBut, IsIdle, IsInsideAt, IsLawful, IsRested, IsWithin, IsWoken, Layout, List, RuleSystem, SameShape, Some, [], add-one, after, and_from, and_left, and_parts, any_below, any_below-here, any_below-none, any_below-some, arith, but, called_for, cases_Bool, cases_eq, cells_of, common_steps, count_below, count_below-any, count_below-bound, count_below-kept, count_below-le, count_below-lt, count_below-none, count_below-pos, counts_of, is_dead_in, eq-eqb, eqb, eqb-true, false, false_from_ne_true, has, has_place, has_place-at, has_place-here, inl, inr, is_dead, is_dead-each, is_dead-here, is_dead-inside, is_dead-not, length, mul-le-mul_right, not, not-true, not_from_false, not_from_true, only, only-here, only-inside, only-other, or_cases, or_left, or_right, refl, set, share, slice_index, sum_below-add, sum_below-le, sym, take, take-suc-set, true, true≢false, visits_left, woken, ℕ, ◌&&◌, ◌*◌, ◌++◌, ◌+◌, ◌-◌, ◌<◌, ◌||◌, ◌∙◌, ◌∷◌, ◌≡◌, ◌≤◌}
 use Rattle.engine_core.proofs.ClosingLemmas.{after_inside}
+use Rattle.engine_core.proofs.SetLemmas.{bits-empty}
 pub use Rattle.engine_core.specs.PositionLaws.{within_of}
 
 -- the cells of a house are cells of the board
@@ -152,18 +153,16 @@ or_false = grind (arith, common_steps)
 pub unwoken : {x : Bool} → x ≡ (x || false)
 unwoken = sym or_false
 
--- a cell that lost values is empty where it has none, and one that lost none counts for nothing
-pub empties_then : (p : RuleSystem) (h : ℕ) (before : ℕ → ℕ) (K : Candidates) (k : ℕ)
-    {d d' now : Bool} → d' ≡ (d || now) → d ≡ any_below (empties p h before K) k
-    → (before k ≡ count_below (K (slice_index (p.scope h) k)) p.values → ⊥) → now ≡ eqb (count_below (K (slice_index (p.scope h) k)) p.values) 0
-    → d' ≡ any_below (empties p h before K) (k + 1)
-unfolding counts_of
-empties_then p h before K k e f ne g = grind (arith, common_steps, any_below-more, ne_eqb, not_from_false)
+-- and whether it has no value
+pub dead-first : (p : RuleSystem) (h : ℕ) (K : Candidates) → false ≡ any_below (λ k. eqb (counts_of p h K k) 0) 0
+unfolding any_below
+dead-first p h K = refl
 
-pub empties_else : (p : RuleSystem) (h : ℕ) (before : ℕ → ℕ) (K : Candidates) (k : ℕ) {d d' : Bool} → d' ≡ d → d ≡ any_below (empties p h before K) k
-    → before k ≡ count_below (K (slice_index (p.scope h) k)) p.values → d' ≡ any_below (empties p h before K) (k + 1)
+pub dead-more : (p : RuleSystem) (h : ℕ) (K : Candidates) (k : ℕ) {place bits : ℕ} {d : Bool} → place ≡ slice_index (p.scope h) k
+    → IsBitsOf (K place) p.values bits → d ≡ any_below (λ k. eqb (counts_of p h K k) 0) k
+    → (d || eqb bits 0) ≡ any_below (λ k. eqb (counts_of p h K k) 0) (k + 1)
 unfolding counts_of
-empties_else p h before K k e f same = grind (arith, common_steps, and_left, any_below-more, eq-eqb, not_from_true, unwoken)
+dead-more p h K k at is e = grind (arith, common_steps, any_below-more, bits-empty is)
 
 -- ---- one turn of the queue
 visits_left-fewer : (p : RuleSystem) (K : Candidates) (waits waits' : ℕ → Bool)
@@ -197,12 +196,12 @@ IsBoardOf-same of same = grind (arith, common_steps)
 
 -- ---- a visit that empties a cell empties one of its own house
 emptied-alive : (p : RuleSystem) (laws : IsLawful p) (h : ℕ) (K K' : Candidates) → h < p.houses → is_dead p.cells p.values K ≡ false → K' ≡ after p h K
-    → is_dead p.cells p.values K' ≡ any_below (empties p h (counts_of p h K) K') (length (p.scope h))
+    → is_dead p.cells p.values K' ≡ is_dead_in p h K'
 unfolding counts_of
 emptied-alive p laws h K K' lt alive e = elim (cases_Bool _) [
   | inl some ↦
       let w = any_below-some _ _ some in
-      is_dead-here p.cells p.values K' _ (laws.scope_within h _ lt (has_place-here (p.scope h) w.0 w.1)) (eqb-true _ _ (and_parts _ _ w.2).1) ∙ sym some
+      is_dead-here p.cells p.values K' _ (laws.scope_within h _ lt (has_place-here (p.scope h) w.0 w.1)) (eqb-true _ _ w.2) ∙ sym some
   | inr none ↦ is_dead-each p.cells p.values K' (λ c less.
       let same = λ (out : has_place (p.scope h) c ≡ false). count_below-le (K c) (K' c) p.values (λ v _ on. rw e (after-outside laws K c v lt out on)) in
       let still = any_below-none _ _ none in
@@ -211,7 +210,7 @@ emptied-alive p laws h K K' lt alive e = elim (cases_Bool _) [
 
 -- a board is dead after a visit where it was before, or where a cell of the house lost its last values
 pub emptied-dead : (p : RuleSystem) (laws : IsLawful p) {h : ℕ} (K K' : Candidates) → h < p.houses → K' ≡ after p h K
-    → is_dead p.cells p.values K' ≡ (is_dead p.cells p.values K || any_below (empties p h (counts_of p h K) K') (length (p.scope h)))
+    → is_dead p.cells p.values K' ≡ (is_dead p.cells p.values K || is_dead_in p h K')
 emptied-dead p laws {h} K K' lt e = elim (cases_Bool (is_dead p.cells p.values K)) [
   | inl dead ↦ rw dead (is_dead-inside p.cells p.values K' K (rw e (after_inside p h K)) dead)
   | inr alive ↦ rw alive (emptied-alive p laws h K K' lt alive e)

@@ -1,10 +1,10 @@
 -- What closings by plain visits work in. No public contract uses these words.
-use Rattle.std.specs.Prelude.{◌≡◌, ℕ, Bool, true, false, ◌||◌, List, length, if◌then◌else◌}
+use Rattle.std.specs.Prelude.{◌≡◌, ℕ, ◌<◌, Bool, true, false, ◌||◌, List, length, if◌then◌else◌}
 use Rattle.grid_core.specs.Board.{Layout, has, cells_of, SameShape}
 use Rattle.grid_core.specs.Candidates.{is_dead}
 use Rattle.engine_core.specs.RuleSystem.{RuleSystem, Needs, after}
 use Rattle.engine_core.specs.Closing.{HasStruck}
-use Rattle.engine_core.specs.Queue.{IsWoken}
+use Rattle.engine_core.specs.Queue.{IsWoken, but}
 use Rattle.engine_core.specs.Waiting.{words_of, is_waiting}
 use Rattle.engine_core.specs.declared.closing.closer.Effect.{Effect}
 
@@ -38,5 +38,7 @@ pub record IsVisited (p : RuleSystem) (h : ℕ) (from to : BoardAndMarks) (effec
   pub struck : effect.struck ≡ true → HasStruck (has from.board) (has to.board)
   pub dead : is_dead p.cells p.values (has to.board)
       ≡ (is_dead p.cells p.values (has from.board) || effect.dead)
-  pub woken : IsWoken p h (has from.board) (has to.board) (is_waiting from.waits)
-      (is_waiting to.waits)
+  pub woken : p.by_queue ≡ true
+      → IsWoken p h (has from.board) (has to.board) (is_waiting from.waits) (is_waiting to.waits)
+  pub rewoken : p.by_queue ≡ false → (j : ℕ) → j < p.houses
+      → is_waiting to.waits j ≡ (effect.struck || but (is_waiting from.waits) h j)

@@ -10,13 +10,13 @@ ghost use Rattle.engine_core.specs.Needs.{needs_in};
 ghost use Rattle.engine_core.specs.RuleSystem.{needs_of, FitsIn, IsBoardOf};
 ghost use Rattle.engine_core.specs.Closer.{IsVisited, SameRoom};
 
-use crate::closing::marking::mark_changed;
+use crate::closing::marking::{is_house_dead, mark_after};
 use crate::houses::visit::read_head;
 use crate::mode::Closing;
 use crate::needs::{Needs, needs_for};
 use crate::rules::{Rules, by_queue};
 use crate::trail::cells::write_grid;
-use crate::waits::{dequeue, dequeue_if};
+use crate::waits::dequeue;
 use grid_core::{Board, Grid};
 use std::alloc::{AllocError, Global};
 use std::marker::Model;
@@ -135,7 +135,8 @@ impl<R: Rules> Closer<R> {
         self.board.copy_from(board);
     }
 
-    /// Visits the house, and marks the houses of each cell that lost a value in place of the house.
+    /// Visits the house, and takes its mark away. Where it struck anything, the houses of each cell that lost a value are
+    /// marked in a queue, and else all houses.
     pub(crate) fn step(&mut self, rules: &R, house: usize) -> Effect
         requires fits { FitsIn (needs_of (R.system rules.now)) self.old.made }
         requires house_in { house < (R.system rules.now).houses }
@@ -151,11 +152,11 @@ impl<R: Rules> Closer<R> {
                 dead: false,
             };
         }
-        let sets = &self.sets[..rules.scope_len(house)];
-        let waits: &mut [u64] = &mut self.waits;
-        let dead = mark_changed(rules, house, sets, &self.board, waits);
-        dequeue_if(waits, house, R::SETTLED);
-        Effect { struck: true, dead }
+        mark_after(rules, house, &self.sets, &self.board, &mut self.waits);
+        Effect {
+            struck: true,
+            dead: is_house_dead(rules, house, &self.board),
+        }
     }
 
     /// Closes the board: at first each house waits.

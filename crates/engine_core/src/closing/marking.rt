@@ -1,15 +1,16 @@
-//! Which houses wait after a plain visit: those of each cell that lost a value.
+//! What is looked for after a plain visit: the houses of each cell that lost a value, and a cell without any.
 
-ghost use Rattle.std.specs.Prelude.{◌≡◌, ◌<◌, ◌≤◌, length};
+ghost use Rattle.std.specs.Prelude.{◌≡◌, ℕ, ◌<◌, ◌≤◌, Bool, true, false, length, take};
 ghost use Rattle.grid_core.specs.Board.{has};
 ghost use Rattle.grid_core.specs.Candidates.{Candidates, IsInside};
 ghost use Rattle.engine_core.specs.Keeping.{AreSetsOf};
 ghost use Rattle.engine_core.specs.RuleSystem.{has_place, IsBoardOf};
-ghost use Rattle.engine_core.specs.Queue.{called_for, are_emptied};
+ghost use Rattle.engine_core.specs.Mode.{is_queue};
+ghost use Rattle.engine_core.specs.Queue.{IsWoken, but, called_for, is_dead_in};
 ghost use Rattle.engine_core.specs.Waiting.{words_of, is_waiting, AreWoken};
 
-use crate::rules::Rules;
-use crate::waits::enqueue;
+use crate::rules::{Rules, by_queue};
+use crate::waits::{dequeue_if, enqueue};
 use grid_core::Board;
 
 /// Marks the houses that have the place.
@@ -29,36 +30,72 @@ pub(crate) fn mark_at<R: Rules>(rules: &R, place: usize, waits: &mut [u64])
     }
 }
 
-/// Marks the houses of each cell of this house that has another set than the one given, and says whether such a cell has no
-/// value.
+/// Marks the houses of each cell of this house that has another set than the one given.
 pub(crate) fn mark_changed<R: Rules>(
     rules: &R,
     house: usize,
     sets: &[u32],
     board: &Board,
     waits: &mut [u64],
-) -> bool
+)
     requires house_in { house < (R.system rules.now).houses }
     requires board_of { IsBoardOf (R.system rules.now) board.now }
     requires long { length sets.now ≡ length ((R.system rules.now).scope house) }
     requires room { words_of (R.system rules.now).houses ≤ length waits.old }
-    ensures woken { (K : Candidates) → AreSetsOf (R.system rules.now) house K sets.now
+    ensures { (K : Candidates) → AreSetsOf (R.system rules.now) house K sets.now
         → IsInside (has board.now) K
         → AreWoken (R.system rules.now)
         (called_for (R.system rules.now) house K (has board.now))
         (is_waiting waits.old) (is_waiting waits.new) }
-    ensures dead { (K : Candidates) → AreSetsOf (R.system rules.now) house K sets.now
-        → IsInside (has board.now) K
-        → result ≡ are_emptied (R.system rules.now) house K (has board.now) }
 {
-    let mut dead = false;
     for k in 0..sets.len() {
         let place = rules.scope(house, k);
-        let now = board.bits(place);
-        if now != sets[k] {
+        if board.bits(place) != sets[k] {
             mark_at(rules, place, waits);
-            dead |= now == 0;
         }
+    }
+}
+
+/// Marks the houses that wait after a visit of this house that struck anything. Its own mark is taken away already. In a
+/// queue they are those of each cell with another set than the one given, and else all houses.
+pub(crate) fn mark_after<R: Rules>(
+    rules: &R,
+    house: usize,
+    sets: &[u32],
+    board: &Board,
+    waits: &mut [u64],
+)
+    requires house_in { house < (R.system rules.now).houses }
+    requires board_of { IsBoardOf (R.system rules.now) board.now }
+    requires long { length ((R.system rules.now).scope house) ≤ length sets.now }
+    requires room { words_of (R.system rules.now).houses ≤ length waits.old }
+    ensures queue { is_queue R.MODE ≡ true → (K : Candidates) (before : ℕ → Bool)
+        → AreSetsOf (R.system rules.now) house K
+        (take (length ((R.system rules.now).scope house)) sets.now)
+        → IsInside (has board.now) K
+        → ((j : ℕ) → is_waiting waits.old j ≡ but before house j)
+        → IsWoken (R.system rules.now) house K (has board.now) before (is_waiting waits.new) }
+    ensures sweeps { is_queue R.MODE ≡ false → (j : ℕ) → j < (R.system rules.now).houses
+        → is_waiting waits.new j ≡ true }
+{
+    if !by_queue::<R>() {
+        waits.fill(u64::MAX);
+        return;
+    }
+    let sets = &sets[..rules.scope_len(house)];
+    mark_changed(rules, house, sets, board, waits);
+    dequeue_if(waits, house, R::SETTLED);
+}
+
+/// Whether a cell of the house has no value.
+pub(crate) fn is_house_dead<R: Rules>(rules: &R, house: usize, board: &Board) -> bool
+    requires house_in { house < (R.system rules.now).houses }
+    requires board_of { IsBoardOf (R.system rules.now) board.now }
+    ensures { result ≡ is_dead_in (R.system rules.now) house (has board.now) }
+{
+    let mut dead = false;
+    for k in 0..rules.scope_len(house) {
+        dead |= board.bits(rules.scope(house, k)) == 0;
     }
     dead
 }

@@ -56,7 +56,8 @@ impl<R: Rules> Closer<R> {
 
     /// Closes the board: goes around over the houses that wait and visits each, until none waits, or a cell has no value. A
     /// queue ends there, and writes down each house that it visits. A sweep goes on to its end: each visits the houses in
-    /// ascending order, and passes over those that do not wait, since they strike nothing.
+    /// ascending order, and passes over those that do not wait, since they strike nothing. A visit of a sweep that struck
+    /// anything makes all houses wait.
     pub(crate) fn run(&mut self, rules: &R) -> ClosingReport
         requires fits { FitsIn (needs_of (R.system rules.now)) self.old.made }
         requires board_of { IsBoardOf (R.system rules.now) self.old.board }

@@ -6,11 +6,12 @@ ghost use Rattle.std.specs.Prelude.{◌≡◌, ℕ, ◌<◌, ◌≤◌, ◌==◌
 ghost use Rattle.grid_core.specs.Board.{has, cells_of, SameShape};
 ghost use Rattle.engine_core.specs.Closing.{HasStruck};
 ghost use Rattle.engine_core.specs.Keeping.{AreSetsOf};
+ghost use Rattle.engine_core.specs.Mode.{is_queue};
 ghost use Rattle.engine_core.specs.RuleSystem.{IsBoardOf};
 ghost use Rattle.engine_core.specs.Sets.{has_bit as is_set, set_of_bits, IsBitsOf};
 ghost use Rattle.engine_core.specs.HouseSets.{sets_at, kept_in};
 
-use crate::rules::Rules;
+use crate::rules::{Rules, by_queue};
 use grid_core::Board;
 
 /// Writes down the sets of the house's cells as bits, in the order of its scope.
@@ -25,15 +26,17 @@ pub(crate) fn read_sets<R: Rules>(rules: &R, house: usize, board: &Board, sets: 
     }
 }
 
-/// The same at the head of a longer list.
+/// The same at the head of a longer list, in a queue alone.
 pub(crate) fn read_head<R: Rules>(rules: &R, house: usize, board: &Board, sets: &mut [u32])
     requires house_in { house < (R.system rules.now).houses }
     requires board_of { IsBoardOf (R.system rules.now) board.now }
     requires room { length ((R.system rules.now).scope house) ≤ length sets.old }
-    ensures { AreSetsOf (R.system rules.now) house (has board.now)
+    ensures { is_queue R.MODE ≡ true → AreSetsOf (R.system rules.now) house (has board.now)
         (take (length ((R.system rules.now).scope house)) sets.new) }
 {
-    read_sets(rules, house, board, &mut sets[..rules.scope_len(house)]);
+    if by_queue::<R>() {
+        read_sets(rules, house, board, &mut sets[..rules.scope_len(house)]);
+    }
 }
 
 /// Reads the set of each of the places into `sets`: bit `v` of the `k`-th says whether the `k`-th place has the value

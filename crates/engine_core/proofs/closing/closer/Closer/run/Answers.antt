@@ -109,7 +109,6 @@ loop-house-preserved g c =
     let e = c.step-effect.ensures in
     let within = within_of p _ (IsBoardOf-same c.requires.board_of i.room.shape) in
     let left = rw n.board at e.visited.left in
-    let woken = rw (n.board, n.waits) at e.visited.woken in
     let dead = (rw n.board at e.visited.dead) ∙ ap (λ b. b || c.step-effect.result.dead) i.dead in
     let mode = c.by_queue-by_queue.ensures ∙ sym (g.met.R.Rules.mode_is c.args.rules.now) in
     record {
@@ -123,9 +122,10 @@ loop-house-preserved g c =
           let q = i.queued queue in
           rw (one, wrote, pushed c.loop-house.self.trace {n = c.loop-house.turns} c.in-Some.house (omega (arith, lt, long g at queue))) (
             omega (arith, lt, long g at queue, length-set c.loop-house.self.trace c.loop-house.turns c.in-Some.house),
-            queued-turn p laws _ (within_of _ _ c.requires.board_of) (q.1.running off) _ _ queue within w.0 w.1 left woken dead,
+            queued-turn p laws _ (within_of _ _ c.requires.board_of) (q.1.running off) _ _ queue within w.0 w.1 left (rw (n.board, n.waits) at (e.visited.woken queue)) dead,
           ));
-      striking = λ sweeps. rw (mode ∙ sweeps) (striking-turn p laws _ (within_of _ _ c.requires.board_of) (here g at on c.from-turns-in-Some.ensures sweeps) w.0 within left woken
+      striking = λ sweeps. rw (mode ∙ sweeps) (striking-turn p laws _ (within_of _ _ c.requires.board_of) (here g at on c.from-turns-in-Some.ensures sweeps) w.0 left
+          (rw n.waits at (e.visited.rewoken sweeps))
           (rw n.board at e.visited.idle) (rw n.board at e.visited.struck));
       room = room-more i.room (room-more n.room e.room);
     }
