@@ -35,7 +35,7 @@ impl Played for LightPuzzle {
 impl Solvable for LightPuzzle {
     type Search = LightRules;
 
-    ghost meaning = { λ search. light_rules search.set.puzzle };
+    ghost meaning = { λ search. light_rules search.puzzle };
 
     #[tactic(auto, using(crate::proofs::SearchedPuzzles::light_accepted))]
     fn rules(&self, alloc: Global) -> Result<LightRules, AllocError> {

@@ -37,7 +37,7 @@ impl Played for TentsPuzzle {
 impl Solvable for TentsPuzzle {
     type Search = TentRules;
 
-    ghost meaning = { λ search. tent_rules search.set.puzzle };
+    ghost meaning = { λ search. tent_rules search.puzzle };
 
     #[tactic(auto, using(crate::proofs::SearchedPuzzles::tents_accepted))]
     fn rules(&self, alloc: Global) -> Result<TentRules, AllocError> {

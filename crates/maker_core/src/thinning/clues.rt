@@ -60,7 +60,7 @@ impl Clued for LightPuzzle {
 
     ghost game = { light_game };
 
-    ghost meaning = { λ search. light_rules search.set.puzzle };
+    ghost meaning = { λ search. light_rules search.puzzle };
 
     ghost can_be_clue = { λ p n. n ≤ 4 };
 
