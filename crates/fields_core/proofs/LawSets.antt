@@ -11,7 +11,7 @@ use Rattle.fields_core.proofs.LightSeen.{black-unseen, seen-in-column, seen-in-r
 use Rattle.fields_core.proofs.LightSight.{count-bulb, count-dark, count-edge, count-start, some-column}
 use Rattle.fields_core.proofs.RuleLemmas.{same-shape, start-all, start-blocked}
 use Rattle.fields_core.proofs.PositionSteps.{step-onward, step-walks}
-use Rattle.fields_core.proofs.RunLemmas.{column-made, few-cells, row-made, run-long, run-white}
+use Rattle.fields_core.proofs.RunLemmas.{column-made, few-cells, row-made, run-long}
 use Rattle.fields_core.proofs.SegmentLemmas.{written-none}
 use Rattle.fields_core.proofs.TentCounting.{tent-counting, tent-lawful}
 use Rattle.fields_core.proofs.TentLines.{line-all, line-more, line-skip, line-start}
@@ -21,7 +21,7 @@ use Rattle.fields_core.proofs.TentPairLemmas.{count-is, listed-tents, others-unp
 use Rattle.fields_core.proofs.TentRuleLemmas.{tents-from-solution, tents-tell, solution-from-tents}
 use Rattle.fields_core.proofs.TentWaits.{rested-woken}
 use Rattle.fields_core.proofs.VisitLemmas.{sweep-first, sweep-more}
-use Rattle.fields_core.proofs.Common.{append-nil, append_assoc, eq-eqb, map-append, mul-le-mul_right, ne_eqb, take_all}
+use Rattle.fields_core.proofs.Common.{append-nil, append_assoc, eq-eqb, map-append, mul-le-mul_right, ne_eqb}
 use Rattle.std.proofs.lemmas.Nat.{mul-lt}
 
 pub ruleset count_rules_laws = (start-blocked, same-shape, start-all, same-places, told-long, told-at, longest-none, longest-more)
@@ -38,11 +38,9 @@ pub ruleset light_check_laws = (ne_eqb, eq-eqb, cell-at)
 
 pub ruleset light_houses_laws = (written-none)
 
-pub ruleset light_lit_laws = (below-none, below-more, append_assoc, append-nil, map-append)
-
 pub ruleset light_rules_laws = (light-counting, light-tells)
 
-pub ruleset light_run_laws = (column-black, column-edge, column-after, some-column, row-black, row-edge, row-after, run-long, few-cells, run-white)
+pub ruleset light_run_laws = (column-black, column-edge, column-after, some-column, row-black, row-edge, row-after, few-cells)
 
 pub ruleset light_sight_laws = (count-start, count-edge, count-dark, count-bulb, black-unseen, seen-in-row, seen-in-column)
 

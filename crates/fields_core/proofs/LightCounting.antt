@@ -214,14 +214,5 @@ light-counting {p} is = record {
   meets_each = λ g grid good h lt. (each-met p (light-board is) h lt).met g grid good;
 }
 
--- ---- few houses
-pub number-one : (p : Light) (c : ℕ) → length (number_house p c) ≤ 1
-number-one p c = by (get_or p.cells c Black) (filter (white p) (steps p.size c 4))
-  where
-    by : (cell : LightCell) (places : List ℕ) → length (numbered cell places) ≤ 1
-    by White places = omega arith
-    by Black places = omega arith
-    by (Numbered n) places = omega arith
-
 pub light-lawful : (p : Light) → IsLight p → IsLawful (light_rules p)
 light-lawful p is = count-lawful _ _ _ _ (light-counting is)

@@ -32,7 +32,7 @@ none-written : (segments : List Segment) → AreEmptyFrom segments 0 → places_
 none-written [] empty = refl
 none-written (s ∷ segments) empty = rw (empty 0 (omega arith) (omega arith)) (none-written segments (λ i low lt. empty (suc i) (omega arith) (omega arith)))
 
-pub one-written : (segments : List Segment) (k : ℕ) (s : Segment) → k < length segments → AreEmptyFrom segments k → places_of (set segments k s) ≡ places_of segments ++ segment_places s
+one-written : (segments : List Segment) (k : ℕ) (s : Segment) → k < length segments → AreEmptyFrom segments k → places_of (set segments k s) ≡ places_of segments ++ segment_places s
 one-written [] k s lt empty = absurd (omega arith)
 one-written (r ∷ segments) zero s lt empty =
     let rest = none-written segments (λ i low less. empty (suc i) (omega arith) (omega arith)) in

@@ -36,7 +36,11 @@ fn beside(puzzle: &LightPuzzle, place: usize) -> [Segment; 4]
 }
 
 /// Adds the house of a cell with a number.
-fn push_number(houses: &mut Vec<House>, puzzle: &LightPuzzle, place: usize) -> Result<(), AllocError>
+fn push_number(
+    houses: &mut Vec<House>,
+    puzzle: &LightPuzzle,
+    place: usize,
+) -> Result<(), AllocError>
     requires place_in { place < light_cells puzzle.now }
     ensures { OnOk result
         (AreAdded houses.old.items houses.new.items (number_house puzzle.now place)) }
@@ -94,7 +98,11 @@ fn push_rows(houses: &mut Vec<House>, puzzle: &LightPuzzle) -> Result<(), AllocE
 }
 
 /// Adds the house of the run of a column that begins at the cell, if one does.
-fn push_column(houses: &mut Vec<House>, puzzle: &LightPuzzle, place: usize) -> Result<(), AllocError>
+fn push_column(
+    houses: &mut Vec<House>,
+    puzzle: &LightPuzzle,
+    place: usize,
+) -> Result<(), AllocError>
     requires place_in { place < light_cells puzzle.now }
     ensures { OnOk result
         (AreAdded houses.old.items houses.new.items (column_house puzzle.now place)) }
@@ -121,7 +129,10 @@ fn push_columns(houses: &mut Vec<House>, puzzle: &LightPuzzle) -> Result<(), All
 
 /// The houses of numbers, of runs in rows, of runs in columns and of white cells, each by place.
 #[tactic(auto, using(crate::proofs::LawSets::house_list_laws))]
-pub(crate) fn houses_of_lights(alloc: Global, puzzle: &LightPuzzle) -> Result<Vec<House>, AllocError>
+pub(crate) fn houses_of_lights(
+    alloc: Global,
+    puzzle: &LightPuzzle,
+) -> Result<Vec<House>, AllocError>
     ensures lawful { IsLight puzzle.now }
     ensures told { IfOk result (λ list. map house_told list.items ≡ light_houses puzzle.now) }
 {

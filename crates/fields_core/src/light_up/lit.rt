@@ -1,5 +1,5 @@
 //! The houses of the white cells of Light Up.
-#![tactic(auto, using(crate::proofs::LawSets::light_lit_laws))]
+#![tactic(auto, using(crate::proofs::LawSets::house_list_laws))]
 
 ghost use Rattle.std.specs.Prelude.{◌≡◌, ◌%◌, ◌<◌, ◌^◌, ◌==◌, ◌++◌, true, not, filter, OnOk};
 ghost use Rattle.engine_core.specs.HouseSets.{AreDifferent};

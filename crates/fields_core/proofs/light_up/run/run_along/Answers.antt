@@ -1,4 +1,4 @@
-use Rattle.fields_core.proofs.Common.{ap, map, sym, ◌*◌, ◌+◌, ◌-◌, ◌∙◌, ℕ}
+use Rattle.fields_core.proofs.Common.{ap, map, sym, ◌*◌, ◌+◌, ◌-◌, ◌∙◌}
 use Rattle.fields_core.proofs.RunLemmas.{run-white}
 use Rattle.fields_core.proofs.SegmentLemmas.{line-from}
 use Rattle.fields_core.proofs.light_up.run.run_along.Goals as goal
