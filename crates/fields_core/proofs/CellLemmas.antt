@@ -25,15 +25,6 @@ lies-one : (w : ℕ) (piece : Piece) (c : ℕ) → lies_in_first w (piece ∷ []
 unfolding lies_in_first any_below
 lies-one w piece c = refl
 
-pub one-piece : (size : Extent) (piece : Piece) → number_of piece.line < lines_beside size piece.line
-    → ArePieces size (piece ∷ [])
-one-piece size piece lt = record { lines_in = one; apart = λ j k c lj lk _ _. omega arith }
-  where
-    one : (k : ℕ) → k < length (piece ∷ []) → number_of (piece_at (piece ∷ []) k).line < lines_beside size
-        (piece_at (piece ∷ []) k).line
-    one zero less = lt
-    one (suc k) less = absurd (omega arith)
-
 column-has : (size : Extent) (x bits c : ℕ) → x < size.w → ((k : ℕ) → has_bit bits k ≡ ltb k size.h)
     → has_place (column_places size x) c ≡ lies_in size.w (record { line = Column x; bits = bits }) c
 unfolding lies_in crosses

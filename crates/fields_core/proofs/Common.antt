@@ -57,7 +57,7 @@ pub use Rattle.fields_core.specs.Count.{counts_between, is_empty, is_open, nonze
 pub use Rattle.fields_core.specs.CountHouse.{AreHouses, CountHouse, IsCounting, IsHouse, count_house_of, exactly, no_count_house, one_at_least}
 pub use Rattle.fields_core.specs.CountHouse.{one_at_most}
 unfoldable pub use Rattle.fields_core.specs.CountHouse.{after_house, houses_below, meets, start_of, strikes_of}
-pub use Rattle.fields_core.specs.CountLaws.{count-lawful, places-at}
+pub use Rattle.fields_core.specs.CountLaws.{count-lawful}
 pub use Rattle.fields_core.specs.Houses.{AreAdded, bounds_of, house_places, house_told, places_of, segment_places}
 pub use Rattle.fields_core.specs.Light.{bulb, bulbs_beside, is_white, light_cells, number_is}
 unfoldable pub use Rattle.fields_core.specs.Light.{black_right, bulb_right, clear, joined_in_column, joined_in_row, lit_right, number_right, sees}

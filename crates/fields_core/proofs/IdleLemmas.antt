@@ -67,13 +67,7 @@ idle-far (house ∷ houses) K L inside far idle =
     far-of c v on off = let e = far c v on off in
         (grind (arith, common_steps, cases_Bool (has_place house.places c)), grind (arith, common_steps, cases_Bool (any_has houses c)))
 
--- a visit that takes nothing leaves its houses idle; and a visit of idle houses takes nothing
-pub idle-visited : {houses : List CountHouse} {from to : Layers} {fills : Bool} → AreVisited houses from to fills → fills ≡ true
-    → to.len ≡ from.len → AreIdle houses (has to)
-idle-visited {houses} visited full same =
-    let e = visited.further.same same in
-    ap (after_houses houses) e ∙ sym (visited.left full)
-
+-- a visit of idle houses takes nothing
 pub visited-idle : (houses : List CountHouse) {p : Layers} → IsAlive p → AreIdle houses (has p) → AreVisited houses p p true
 visited-idle houses {p} alive idle = record {
   left = λ _. sym idle;

@@ -2,7 +2,7 @@
 use Rattle.fields_core.proofs.CountListLemmas.{below-more, below-none}
 use Rattle.fields_core.proofs.CountTallies.{sets-first, sets-next, sets-all}
 use Rattle.fields_core.proofs.HouseLemmas.{added-more, added-none, added-one, beside-cells, four-long, line-cells, square-cells, has-found, has-none, left-within, place-here, place-later, places-last, segment-at, segment-long}
-use Rattle.fields_core.proofs.HouseLists.{column-after, column-black, column-edge, row-after, row-black, row-edge, step-keep, step-none, step-skip}
+use Rattle.fields_core.proofs.HouseLists.{column-after, column-black, column-edge, row-after, row-black, row-edge}
 use Rattle.fields_core.proofs.HouseVisits.{longest-more, longest-none, same-places, told-at, told-long}
 use Rattle.fields_core.proofs.LightCounting.{light-counting, light-lawful}
 use Rattle.fields_core.proofs.LightLines.{cell-at, white-at}
@@ -11,8 +11,7 @@ use Rattle.fields_core.proofs.LightSeen.{black-unseen, seen-in-column, seen-in-r
 use Rattle.fields_core.proofs.LightSight.{count-bulb, count-dark, count-edge, count-start, some-column}
 use Rattle.fields_core.proofs.RuleLemmas.{same-shape, start-all, start-blocked}
 use Rattle.fields_core.proofs.PositionSteps.{step-onward, step-walks}
-use Rattle.fields_core.proofs.RunLemmas.{column-made, few-cells, row-made, run-long}
-use Rattle.fields_core.proofs.SegmentLemmas.{written-none}
+use Rattle.fields_core.proofs.RunLemmas.{few-cells}
 use Rattle.fields_core.proofs.TentCounting.{tent-counting, tent-lawful}
 use Rattle.fields_core.proofs.TentLines.{line-all, line-more, line-skip, line-start}
 use Rattle.fields_core.proofs.TentNext.{barred-alone, barred-tree, next-joined, next-none, passed-bare, passed-early, passed-edge, passed-start, tree-found, treeless-all}
@@ -36,7 +35,7 @@ pub ruleset light_cells_laws = (white-at)
 
 pub ruleset light_check_laws = (ne_eqb, eq-eqb, cell-at)
 
-pub ruleset light_houses_laws = (written-none)
+pub ruleset light_houses_laws = (beside-cells)
 
 pub ruleset light_rules_laws = (light-counting, light-tells)
 
@@ -45,8 +44,6 @@ pub ruleset light_run_laws = (column-black, column-edge, column-after, some-colu
 pub ruleset light_sight_laws = (count-start, count-edge, count-dark, count-bulb, black-unseen, seen-in-row, seen-in-column)
 
 pub ruleset plane_position_laws = (step-onward, step-walks)
-
-pub ruleset run_laws = (run-long, row-made, column-made, mul-le-mul_right)
 
 pub ruleset tally_laws = (sets-first, sets-next, sets-all)
 

@@ -14,9 +14,6 @@ use Rattle.fields_core.proofs.TentBeside.{row-in, whole-cell}
 use Rattle.fields_core.proofs.TreeWords.{row-read}
 
 -- ---- words that grow
-pub wider-same : (words : List ℕ) → AreWider words words
-wider-same words = record { kept = λ y x on. on; long = refl }
-
 pub wider-more : {first second third : List ℕ} → AreWider first second → AreWider second third → AreWider first third
 wider-more a b = record { kept = λ y x on. b.kept y x (a.kept y x on); long = b.long ∙ a.long }
 

@@ -67,10 +67,6 @@ module _ (p q : ℕ → Bool) (place : ℕ) (others : (c : ℕ) → (c ≡ place
         omega (arith, count-cons q x xs, count-cons p x xs, count-at xs d.1 (sym (ap (λ b. b || has_place xs place) (ne_eqb x place ne)) ∙ on), ap num (others x ne))
   ]
 
--- the cell is one of those counted
-pub count-there : (p : ℕ → Bool) (place : ℕ) (xs : List ℕ) → has_place xs place ≡ true → num (p place) ≤ count_by p xs
-count-there p place xs on = elim (cases_Bool (p place)) [ inl is ↦ rw is (count-some p xs place on is) | inr off ↦ rw off (omega arith) ]
-
 -- the ones of a grid's cells are its bulbs
 pub ones-bulbs : (g : List ℕ) (xs : List ℕ) → ((c : ℕ) → slice_index g c < 2) → nonzeros (map (slice_index g) xs) ≡ count_by (bulb g) xs
 ones-bulbs g [] small = refl

@@ -131,11 +131,6 @@ column-begun p c i e on f = grind (arith, common_steps, and_parts, or_cases, eqb
 pub run-long : (f : ℕ → ℕ) (start n : ℕ) (xs : List ℕ) → map f (range_with_len start n) ≡ xs → n ≡ length xs
 run-long f start n xs e = sym (length-map-range_with_len f start n) ∙ ap length e
 
-pub run-at : (first stride start n : ℕ) {k : ℕ} {xs : List ℕ}
-    → map (λ i. first + i * stride) (range_with_len start n) ≡ xs → k < length xs
-    → first + (start + k) * stride ≡ slice_index xs k
-run-at first stride start n e lt = grind (arith, common_steps, run-long, get_or-map-range_with_len, slice_index)
-
 -- the cells of a row and of a column
 pub row-made : (size : Extent) (y : ℕ) {w : ℕ} → w ≡ size.w → map (λ i. y * w + i * 1) (range_with_len 0 w) ≡ row_places size y
 row-made size y e = grind (arith, common_steps, map-same)

@@ -1,20 +1,16 @@
--- Segments that are written one after another, and one that is cut at a cell.
+-- Houses that are added, and a segment that is cut at a cell.
 use Rattle.fields_core.proofs.Common.{AreAdded, AreDifferent, Bool, CountHouse, Extent, House, List, None, Segment, Some, [], ap, ap₂, append-nil, append_assoc, arith, cases_Bool, cases_eq, common_steps, div-mul-add, eq-eqb, eqb, false, filter, filter-append, get_or, get_or-map-range_with_len, get_or-set_other, has_place, has_place-at, house_told, houses_below, inl, inr, length, length-map-range_with_len, length-set, map, map-append, mul-le-mul_right, ne_eqb, no_segment, not, places_of, range_with_len, refl, segment_places, set, slice_index, step, steps, suc, sym, true, true≢false, zero, ℕ, ◌*◌, ◌++◌, ◌+◌, ◌-◌, ◌/◌, ◌<◌, ◌∙◌, ◌∷◌, ◌≡◌, ◌≤◌}
 use Rattle.fields_core.proofs.CountListLemmas.{below-more}
-use Rattle.fields_core.proofs.HouseLists.{step-keep, step-none, step-skip}
 use Rattle.fields_core.proofs.RunLemmas.{map-same, range-split}
 
 -- ---- houses that are added
-pub added-none : (items : List House) → AreAdded items items []
-added-none items = sym (append-nil (map house_told items))
-
-pub added-one : (items : List House) (house : House) {more : List House} {told : List CountHouse}
+pub push-added : (items : List House) (house : House) {more : List House} {told : List CountHouse}
     → more ≡ items ++ house ∷ [] → house_told house ∷ [] ≡ told → AreAdded items more told
-added-one items house e f = rw (e, sym f) (map-append house_told items (house ∷ []))
+push-added items house e f = rw (e, sym f) (map-append house_told items (house ∷ []))
 
-pub added-more : (f : ℕ → List CountHouse) (old items more : List House) (n : ℕ)
+pub below-added : (f : ℕ → List CountHouse) (old items more : List House) (n : ℕ)
     → AreAdded old items (houses_below f n) → AreAdded items more (f n) → AreAdded old more (houses_below f (n + 1))
-added-more f old items more n added one =
+below-added f old items more n added one =
     one ∙ ap (λ l. l ++ f n) added ∙ append_assoc (map house_told old) (houses_below f n) (f n)
     ∙ ap (λ l. map house_told old ++ l) (sym (below-more f n))
 
@@ -23,59 +19,6 @@ pub added-four : (a b c d e : List House) (ps qs rs ss : List CountHouse) → a 
 added-four a b c d e ps qs rs ss none p q r s =
     s ∙ ap (λ l. l ++ ss) (r ∙ ap (λ l. l ++ rs) (q ∙ ap (λ l. l ++ qs) (p ∙ ap (λ l. map house_told l ++ ps) none)))
     ∙ append_assoc (ps ++ qs) rs ss ∙ append_assoc ps qs (rs ++ ss)
-
--- ---- a segment at the number behind which all are empty
-abbrev pub AreEmptyFrom : List Segment → ℕ → Type 0
-AreEmptyFrom segments k = (i : ℕ) → k ≤ i → i < length segments → segment_places (get_or segments i no_segment) ≡ []
-
-none-written : (segments : List Segment) → AreEmptyFrom segments 0 → places_of segments ≡ []
-none-written [] empty = refl
-none-written (s ∷ segments) empty = rw (empty 0 (omega arith) (omega arith)) (none-written segments (λ i low lt. empty (suc i) (omega arith) (omega arith)))
-
-one-written : (segments : List Segment) (k : ℕ) (s : Segment) → k < length segments → AreEmptyFrom segments k → places_of (set segments k s) ≡ places_of segments ++ segment_places s
-one-written [] k s lt empty = absurd (omega arith)
-one-written (r ∷ segments) zero s lt empty =
-    let rest = none-written segments (λ i low less. empty (suc i) (omega arith) (omega arith)) in
-    rw (empty 0 (omega arith) (omega arith), rest) (append-nil (segment_places s))
-one-written (r ∷ segments) (suc k) s lt empty =
-    ap (λ l. segment_places r ++ l) (one-written segments k s (omega arith) (λ i low less. empty (suc i) (omega arith) (omega arith)))
-    ∙ sym (append_assoc (segment_places r) (places_of segments) (segment_places s))
-
--- ---- the cells beside a cell that pass a test, one segment for each direction
-pub record AreWritten (test : ℕ → Bool) (size : Extent) (place n : ℕ) (segments : List Segment) : Type 0 where
-  pub written : places_of segments ≡ filter test (steps size place n)
-  pub empty : AreEmptyFrom segments n
-  pub four : length segments ≡ 4
-
-later-empty : (segments : List Segment) (n : ℕ) → AreEmptyFrom segments n → AreEmptyFrom segments (n + 1)
-later-empty segments n empty = λ i low lt. empty i (omega arith) lt
-
-pub written-none : (test : ℕ → Bool) (size : Extent) (place n : ℕ) (segments : List Segment) → None ≡ step size place n
-    → AreWritten test size place n segments → AreWritten test size place (n + 1) segments
-written-none test size place n segments e are = record {
-  written = are.written ∙ step-none test size place n e;
-  empty = later-empty segments n are.empty;
-  four = are.four;
-}
-
-pub written-skip : (test : ℕ → Bool) (size : Extent) (place n x : ℕ) (segments : List Segment) → Some x ≡ step size place n → test x ≡ false
-    → AreWritten test size place n segments → AreWritten test size place (n + 1) segments
-written-skip test size place n x segments e off are = record {
-  written = are.written ∙ step-skip test size place n x e (sym off);
-  empty = later-empty segments n are.empty;
-  four = are.four;
-}
-
-pub written-keep : (test : ℕ → Bool) (size : Extent) (place n x : ℕ) (segments : List Segment) (s : Segment) → Some x ≡ step size place n → test x ≡ true
-    → n < 4 → segment_places s ≡ x ∷ [] → AreWritten test size place n segments → AreWritten test size place (n + 1) (set segments n s)
-written-keep test size place n x segments s e on lt one are = record {
-  written =
-      one-written segments n s (omega (arith, are.four)) are.empty ∙ ap₂ (λ a b. a ++ b) are.written one ∙ step-keep test size place n x e (sym on);
-  empty = λ i low less.
-      let other = get_or-set_other segments n i s no_segment (λ same. omega arith) in
-      rw other (are.empty i (omega arith) (rw (length-set segments n s) at less));
-  four = length-set segments n s ∙ are.four;
-}
 
 -- ---- the cells of some segments and of empty ones
 pub places-alone : (a none : Segment) → segment_places none ≡ [] → places_of (a ∷ none ∷ none ∷ none ∷ []) ≡ segment_places a

@@ -17,11 +17,6 @@ use Rattle.fields_core.specs.Count.{counts_between}
 use Rattle.fields_core.specs.Houses.{house_places}
 use Rattle.fields_core.specs.CountHouse.{CountHouse, count_house_of, meets, strikes_of, start_of, count_puzzle, IsCounting}
 
-pub places-at : (houses : List CountHouse) (h : ℕ) → scope_of (map house_places houses) h ≡ (count_house_of houses h).places
-places-at [] h = refl
-places-at (house ∷ houses) zero = refl
-places-at (house ∷ houses) (suc h) = places-at houses h
-
 start-within : {cells : ℕ} (blocked : ℕ → Bool) → IsWithin cells 2 (start_of cells blocked)
 unfolding start_of all_of
 start-within {cells} blocked c v on = grind (arith, common_steps, and_parts, ltb-true)
@@ -32,15 +27,6 @@ start-single : {cells : ℕ} (blocked : ℕ → Bool) (g : List ℕ) → IsGrid 
     → IsInside (single g) (start_of cells blocked)
 unfolding start_of all_of
 start-single {cells} blocked g grid zero_at c v on = grind (arith, common_steps, single-is, and_from, lt-ltb)
-
--- the lists of the houses' cells
-pub count-scopes : (cells : ℕ) (blocked : ℕ → Bool) (houses : List CountHouse)
-    (is_solution : List ℕ → Bool) → AreScopesOf (count_puzzle cells blocked houses is_solution) (map house_places houses)
-count-scopes cells blocked houses is_solution = grind (arith, common_steps, length-map, places-at)
-
-pub count-bound : (cells : ℕ) (blocked : ℕ → Bool) (houses : List CountHouse)
-    (is_solution : List ℕ → Bool) → cells + 1 ≡ most_turns (count_puzzle cells blocked houses is_solution) (map house_places houses)
-count-bound cells blocked houses is_solution = omega arith
 
 pub count-lawful : (cells : ℕ) (blocked : ℕ → Bool) (houses : List CountHouse)
     (is_solution : List ℕ → Bool) → IsCounting cells blocked houses is_solution

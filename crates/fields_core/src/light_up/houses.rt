@@ -2,9 +2,9 @@
 #![tactic(auto, using(crate::proofs::LawSets::light_houses_laws))]
 
 ghost use Rattle.std.specs.Prelude.{◌≡◌, ◌%◌, ◌<◌, IfOk, OnOk, filter, map};
-ghost use Rattle.grid_core.specs.Regions.{beside as beside_places};
+ghost use Rattle.grid_core.specs.Regions.{beside as beside_places, if_there, step as step_to};
 ghost use Rattle.fields_core.specs.CountHouse.{houses_below};
-ghost use Rattle.fields_core.specs.Houses.{AreAdded, house_told, places_of};
+ghost use Rattle.fields_core.specs.Houses.{AreAdded, house_told, places_of, segment_places};
 ghost use Rattle.fields_core.specs.Light.{light_cells, white};
 ghost use Rattle.fields_core.specs.LightHouses.{number_house, row_house, column_house, light_houses};
 ghost use Rattle.gameid_core.specs.Puzzles.{IsLight};
@@ -17,22 +17,36 @@ use gameid_core::{LightCell, LightPuzzle};
 use grid_core::step;
 use std::alloc::{AllocError, Global};
 
+/// The cell beside the cell in a direction, if it is white.
+fn white_in(puzzle: &LightPuzzle, place: usize, direction: usize) -> Segment
+    requires place_in { place < light_cells puzzle.now }
+    requires direction_in { direction < 4 }
+    ensures { segment_places result ≡ filter (white puzzle.now)
+        (if_there (step_to puzzle.now.size place direction)) }
+{
+    match step(puzzle.size(), place, direction) {
+        None => Segment::none(),
+        Some(other) => {
+            if is_white(puzzle, other) {
+                return Segment::cell(other);
+            }
+            Segment::none()
+        }
+    }
+}
+
 /// The white cells beside the cell.
-#[tactic(auto, using(crate::proofs::LawSets::light_houses_laws), unfolding(grid_core::specs::Regions::steps))]
 fn beside(puzzle: &LightPuzzle, place: usize) -> [Segment; 4]
     requires { place < light_cells puzzle.now }
     ensures { places_of result ≡ filter (white puzzle.now) (beside_places puzzle.now.size place) }
 {
-    let mut segments = [Segment::none(); 4];
-    for direction in 0..4 {
-        let Some(other) = step(puzzle.size(), place, direction) else {
-            continue;
-        };
-        if is_white(puzzle, other) {
-            segments[usize::from(direction)] = Segment::cell(other);
-        }
-    }
-    segments
+    let (up, left) = (white_in(puzzle, place, 0), white_in(puzzle, place, 1));
+    [
+        up,
+        left,
+        white_in(puzzle, place, 2),
+        white_in(puzzle, place, 3),
+    ]
 }
 
 /// Adds the house of a cell with a number.

@@ -39,7 +39,12 @@ fn beside(puzzle: &TentsPuzzle, place: usize) -> [Segment; 4]
     ensures { places_of result ≡ free_beside puzzle.now place }
 {
     let (up, left) = (free_in(puzzle, place, 0), free_in(puzzle, place, 1));
-    [up, left, free_in(puzzle, place, 2), free_in(puzzle, place, 3)]
+    [
+        up,
+        left,
+        free_in(puzzle, place, 2),
+        free_in(puzzle, place, 3),
+    ]
 }
 
 /// Adds the house of a column.

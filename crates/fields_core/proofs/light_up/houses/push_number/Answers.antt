@@ -1,14 +1,15 @@
 use Rattle.fields_core.proofs.Common.{[], ap, exactly, ◌∙◌, ◌∷◌}
 use Rattle.fields_core.proofs.HouseLists.{number-at, number-none}
-use Rattle.fields_core.proofs.SegmentLemmas.{added-none, added-one}
+use Rattle.fields_core.proofs.HouseLemmas.{added-none}
+use Rattle.fields_core.proofs.SegmentLemmas.{push-added}
 use Rattle.fields_core.proofs.light_up.houses.push_number.Goals as goal
 
 pub returns-in_ok-push : goal.returns-in_ok-push
 returns-in_ok-push c =
     let n = c.in-Numbered.n in
-    added-one c.args.houses.now.items c.exactly.result c.in_ok-push.ensures.items
+    push-added c.args.houses.now.items c.exactly.result c.in_ok-push.ensures.items
     (ap (λ h. h ∷ []) (c.exactly.ensures ∙ ap (exactly n) c.beside.ensures) ∙ number-at c.args.puzzle.now c.args.place n c.in-Numbered.ensures.value)
 
 pub returns-in_default : goal.returns-in_default
 returns-in_default c =
-    rw (number-none c.args.puzzle.now c.args.place c.cell.result c.cell.ensures.value c.in_default.not-Numbered) (added-none c.args.houses.now.items)
+    added-none c.args.houses.now.items (number-none c.args.puzzle.now c.args.place c.cell.result c.cell.ensures.value c.in_default.not-Numbered)

@@ -1,8 +1,9 @@
-use Rattle.fields_core.proofs.Common.{[], ap, arith, different-from, false, length-set, lit_house, sym, true, true≢false, white, ◌<◌, ◌∙◌, ◌∷◌, ◌≡◌}
+use Rattle.fields_core.proofs.Common.{[], ap, arith, different-from, false, length-set, lit_house, refl, sym, true, true≢false, white, ◌<◌, ◌∙◌, ◌∷◌, ◌≡◌}
+use Rattle.fields_core.proofs.HouseLemmas.{added-none}
 use Rattle.fields_core.proofs.LightCounting.{column-run-distinct, in-column-run, light-board}
 use Rattle.fields_core.proofs.LightHouseLaws.{column-self}
 use Rattle.fields_core.proofs.LightLatest.{columns-black, columns-white, lit-seen, row-kept}
-use Rattle.fields_core.proofs.SegmentLemmas.{added-more, added-none, added-one}
+use Rattle.fields_core.proofs.SegmentLemmas.{below-added, push-added}
 use Rattle.fields_core.proofs.light_up.lit.push_lits.Goals as goal
 use Rattle.fields_core.proofs.light_up.lit.push_lits.Goals.{then-is_white+in_ok-push, else-is_white}
 
@@ -30,8 +31,8 @@ loop-place-preserved c =
           let column = w.column_run_at-column.ensures in
           let lit = lit-seen p _ _ l.place on row column w.seen.ensures in
           rw (w.houses-is, w.row-is, w.columns-is) (record {
-            added = added-more (lit_house p) c.args.houses.now.items l.houses.items w.push.new.self.items l.place i.added
-                (added-one l.houses.items w.one_at_least.result w.in_ok-push.ensures.items (ap (λ h. h ∷ []) w.one_at_least.ensures ∙ lit));
+            added = below-added (lit_house p) c.args.houses.now.items l.houses.items w.push.new.self.items l.place i.added
+                (push-added l.houses.items w.one_at_least.result w.in_ok-push.ensures.items (ap (λ h. h ∷ []) w.one_at_least.ensures ∙ lit));
             row = row-kept p _ l.place (λ _. row);
             columns = columns-white p _ _ l.place some i.x i.wide column i.columns;
             wide = rw (length-set l.columns l.x w.column_run_at-column.result) i.wide;
@@ -40,7 +41,7 @@ loop-place-preserved c =
       | else-is_white w ↦
           let off : white c.args.puzzle.now c.loop-place.place ≡ false = sym c.is_white.ensures.value ∙ w.if-is_white.false in
           rw (w.houses-is, w.row-is, w.columns-is) (record {
-            added = added-more (lit_house p) c.args.houses.now.items l.houses.items l.houses.items l.place i.added (rw off (added-none l.houses.items));
+            added = below-added (lit_house p) c.args.houses.now.items l.houses.items l.houses.items l.place i.added (rw off (added-none l.houses.items refl));
             row = row-kept p _ l.place (λ on. absurd (true≢false (sym on ∙ off)));
             columns = columns-black p _ l.place off i.columns;
             wide = i.wide;
