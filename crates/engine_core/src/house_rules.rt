@@ -47,13 +47,6 @@ impl<S: RuleSet> HouseRules<S> {
         Ok(HouseRules { set, table })
     }
 
-    /// What only the game knows of them.
-    pub fn set(&self) -> &S
-        ensures { result.now ≡ self.now.set }
-    {
-        &self.set
-    }
-
     /// Strikes from the house what it strikes.
     fn strike(
         &self,
