@@ -6,7 +6,7 @@ use Rattle.engine_core.specs.ClosingList.{IsClosingList, IsClosingSweeps}
 use Rattle.engine_core.specs.Queue.{IsRested, IsWoken, but, counts_of, woken}
 use Rattle.engine_core.proofs.ListLemmas.{IsRunning, closing-dead, closing-none, closing-open, running-first, running-turn}
 use Rattle.engine_core.proofs.QueueLemmas.{closed_from_rested, visits_left-pos}
-use Rattle.engine_core.proofs.SweepLemmas.{IsSweeping, IsSwept, fewer, sweeping-first, sweeping-turn, swept-dead, swept-first, swept-shut, swept-turn}
+use Rattle.engine_core.proofs.SweepLemmas.{IsSweeping, IsSwept, fewer, sweeping-first, sweeping-turn, swept-dead, swept-first, swept-shut, swept-turn, woken-marked}
 
 -- after a visit all wait that it wakes
 abbrev wakes : RuleSystem → ℕ → Candidates → (ℕ → Bool) → ℕ → Bool
@@ -34,7 +34,8 @@ module _ {p : RuleSystem} (laws : IsLawful p) where
   swept K within zero le = record { board = K; waits = λ h. true; sweeping = sweeping-first p K (λ h. true) (all_rested p K); within = within }
   swept K within (suc n) le =
       let s = swept K within n (omega arith) in
-      let turn = sweeping-turn p laws K n s.board (after p n s.board) s.waits _ s.sweeping (omega arith) s.within refl woken_is in
+      let marked = woken-marked p laws n s.board (omega arith) s.within refl woken_is in
+      let turn = sweeping-turn p K n s.board (after p n s.board) s.waits _ s.sweeping (omega arith) refl marked in
       record { board = _; waits = _; sweeping = rw add-one at turn; within = visited_within p n s.within }
 
   module _ {K0 : Candidates} (by_sweeps : p.by_queue ≡ false) (start : IsWithin p.cells p.values K0) where

@@ -27,14 +27,14 @@ impl PlaneGame for LightPuzzle {
 
     ghost written = { AreLightsWritten };
 
-    ghost all_short = { λ needs. needs.cells ≤ 64 };
+    ghost all_short = { λ needs. needs.cells ≤ 128 };
 
     fn size(&self) -> Size {
         LightPuzzle::size(self)
     }
 
     fn are_short(&self, made: Needs) -> bool {
-        made.cells <= 64
+        made.cells <= 128 // each side is 2 at least
     }
 
     fn short(&self, alloc: Global, made: Needs) -> Result<LightNotes<u64>, AllocError> {

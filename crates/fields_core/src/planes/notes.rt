@@ -3,6 +3,7 @@
 
 ghost use Rattle.std.specs.Prelude.{◌≡◌, IfOk, length};
 
+use crate::planes::runs::empty_words;
 use crate::planes::waits::Waits;
 use grid_core::Word;
 use std::alloc::{AllocError, Global};
@@ -23,12 +24,8 @@ impl<W: Word> TentNotes<W> {
     pub(crate) fn new(alloc: Global) -> Result<TentNotes<W>, AllocError>
         ensures { IfOk result (λ notes. length notes.trees.items ≡ W.room) }
     {
-        let mut trees = Vec::with_capacity(alloc, W::places())?;
-        for _row in 0..W::places() {
-            trees.push(W::none())?;
-        }
         Ok(TentNotes {
-            trees,
+            trees: empty_words(alloc, W::places())?,
             waits: Waits::all(),
         })
     }

@@ -59,9 +59,7 @@ pub(crate) fn empty_words<W: Word>(alloc: Global, count: usize) -> Result<Vec<W>
     ensures { IfOk result (λ words. length words.items ≡ count) }
 {
     let mut words = Vec::with_capacity(alloc, count)?;
-    for _word in 0..count {
-        words.push(W::none())?;
-    }
+    words.resize(count, W::none())?;
     Ok(words)
 }
 

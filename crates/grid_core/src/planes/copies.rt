@@ -1,5 +1,5 @@
 //! Lists of one item many times.
-#![tactic(auto, using(std::proofs::lemmas::List::replicate_more))]
+#![tactic(auto)]
 
 ghost use Rattle.std.specs.Prelude.{◌≡◌, replicate, IfOk};
 
@@ -18,8 +18,6 @@ pub(crate) fn copies<T: Copy + Drop>(
     ensures { IfOk result (λ v. v.items ≡ replicate count item) }
 {
     let mut items = Vec::with_capacity(alloc, count)?;
-    for _k in 0..count {
-        items.push(item)?;
-    }
+    items.resize(count, item)?;
     Ok(items)
 }
