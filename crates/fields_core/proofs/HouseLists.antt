@@ -8,6 +8,23 @@ row-long size y = length-map-range_with_len _ 0 size.w
 pub column-long : (size : Extent) (x : ℕ) → length (column_places size x) ≡ size.h
 column-long size x = length-map-range_with_len _ 0 size.h
 
+-- ---- the steps from a place that pass a test
+pub step-none : (test : ℕ → Bool) (size : Extent) (place n : ℕ) → None ≡ step size place n
+    → filter test (steps size place n) ≡ filter test (steps size place (n + 1))
+unfolding steps
+step-none test size place n e = rw (add-one, ← e) (ap (filter test) (sym (append-nil (steps size place n))))
+
+pub step-skip : (test : ℕ → Bool) (size : Extent) (place n x : ℕ) → Some x ≡ step size place n
+    → false ≡ test x → filter test (steps size place n) ≡ filter test (steps size place (n + 1))
+unfolding steps
+step-skip test size place n x e off = grind (arith, common_steps, add-one, filter-append, cond-false, append-nil)
+
+pub step-keep : (test : ℕ → Bool) (size : Extent) (place n x : ℕ) → Some x ≡ step size place n
+    → true ≡ test x → filter test (steps size place n) ++ x ∷ [] ≡ filter test
+    (steps size place (n + 1))
+unfolding steps
+step-keep test size place n x e on = grind (arith, common_steps, add-one, filter-append, cond-true)
+
 -- ---- where a run begins
 pub row-black : (p : Light) (c : ℕ) → false ≡ white p c → false ≡ begins_row_run p c
 unfolding begins_row_run
