@@ -14,12 +14,6 @@ below-added f old items more n added one =
     one ∙ ap (λ l. l ++ f n) added ∙ append_assoc (map house_told old) (houses_below f n) (f n)
     ∙ ap (λ l. map house_told old ++ l) (sym (below-more f n))
 
-pub added-four : (a b c d e : List House) (ps qs rs ss : List CountHouse) → a ≡ []
-    → AreAdded a b ps → AreAdded b c qs → AreAdded c d rs → AreAdded d e ss → map house_told e ≡ ps ++ (qs ++ (rs ++ ss))
-added-four a b c d e ps qs rs ss none p q r s =
-    s ∙ ap (λ l. l ++ ss) (r ∙ ap (λ l. l ++ rs) (q ∙ ap (λ l. l ++ qs) (p ∙ ap (λ l. map house_told l ++ ps) none)))
-    ∙ append_assoc (ps ++ qs) rs ss ∙ append_assoc ps qs (rs ++ ss)
-
 -- ---- the cells of some segments and of empty ones
 pub places-alone : (a none : Segment) → segment_places none ≡ [] → places_of (a ∷ none ∷ none ∷ none ∷ []) ≡ segment_places a
 places-alone a none e = rw e (append-nil (segment_places a))

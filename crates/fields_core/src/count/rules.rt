@@ -73,7 +73,8 @@ impl<P: CountGame> CountRules<P> {
 fn write_start<P: CountGame>(puzzle: &P, board: &mut Board)
     requires cells { length board.old.sets ≡ (P.counts puzzle.now).cells }
     requires values { board.old.values ≡ 2 }
-    ensures start { has board.new ≡ start_of (P.counts puzzle.now).cells (P.counts puzzle.now).blocked }
+    ensures start { has board.new
+        ≡ start_of (P.counts puzzle.now).cells (P.counts puzzle.now).blocked }
     ensures shape { SameShape board.old board.new }
 {
     board.fill();
