@@ -1,5 +1,5 @@
 -- Pieces of lines, and the cells that they have.
-use Rattle.std.proofs.Common.{◌≡◌, ◌∙◌, ℕ, zero, suc, ◌+◌, ◌*◌, ◌/◌, ◌%◌, ◌<◌, Bool, true, ◌||◌, eqb, ltb, List, [], ◌∷◌, ◌++◌, length, slice_index, refl, sym, arith}
+use Rattle.std.proofs.Common.{◌≡◌, ◌∙◌, ℕ, ◌+◌, ◌*◌, ◌/◌, ◌%◌, ◌<◌, Bool, true, ◌||◌, eqb, ltb, List, [], ◌∷◌, ◌++◌, slice_index, refl, sym, arith}
 use Rattle.std.proofs.lemmas.Bool.{cases_Bool, and_parts, and_from, eq-eqb, eqb-true, lt-ltb, ltb-true}
 use Rattle.std.proofs.lemmas.List.Folds.{list_any-append}
 use Rattle.std.proofs.lemmas.Grind.{common_steps}
@@ -7,7 +7,7 @@ use Rattle.std.proofs.lemmas.List.FromFn.{length-map-range_with_len, get_or-map-
 use Rattle.std.proofs.lemmas.Nat.{div-mul-add, div-add-mod'}
 use Rattle.grid_core.specs.Candidates.{any_below}
 use Rattle.grid_core.specs.Extent.{Extent}
-use Rattle.grid_core.specs.Planes.{crosses, lines_beside, number_of}
+use Rattle.grid_core.specs.Planes.{crosses}
 use Rattle.grid_core.specs.Regions.{row_places, column_places}
 use Rattle.grid_core.specs.Words.{has_bit}
 use Rattle.grid_core.specs.declared.planes.line.Line.TheVariants.{Row, Column}
@@ -15,7 +15,7 @@ use Rattle.grid_core.proofs.PlaneLemmas.{place-column}
 use Rattle.engine_core.specs.RuleSystem.{has_place}
 use Rattle.engine_core.specs.PlaceLaws.{has_place-at, has_place-here}
 use Rattle.fields_core.specs.CountHouse.{IsHouse, exactly}
-use Rattle.fields_core.specs.Parts.{Piece, piece_at, lies_in, lies_in_first, ArePieces, IsHouseOf}
+use Rattle.fields_core.specs.Parts.{Piece, lies_in, lies_in_first, IsHouseOf}
 
 -- ---- one piece
 pub same-truth : (a b : Bool) → (a ≡ true → b ≡ true) → (b ≡ true → a ≡ true) → a ≡ b

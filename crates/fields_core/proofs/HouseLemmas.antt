@@ -1,7 +1,6 @@
 -- Houses told by segments.
 use Rattle.fields_core.proofs.Common.{AreAdded, Bool, CountHouse, Extent, List, [], ap, append-nil, append_assoc, arith, common_steps, drop, false, false_from_ne_true, filter, filter-append, get_or, get_or-append_right, get_or-map-range_with_len, get_or_append_left, has_place, has_place-at, has_place-here, house_told, houses_below, if_there, length, length-append, length-map-range_with_len, map, map-append, places_of, range_with_len, segment_places, slice_index, step, steps, sym, true, ℕ, ◌*◌, ◌++◌, ◌+◌, ◌-◌, ◌<◌, ◌∙◌, ◌∷◌, ◌≡◌, ◌≢◌, ◌≤◌}
 use Rattle.std.proofs.lemmas.List.{at_drop_more}
-use Rattle.std.proofs.lemmas.Nat.{mul-lt}
 use Rattle.fields_core.specs.declared.count.house.House.{House}
 use Rattle.fields_core.specs.declared.count.house.Segment.{Segment}
 

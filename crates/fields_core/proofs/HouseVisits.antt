@@ -1,5 +1,5 @@
 -- What a visit of a count house leaves, and the houses that rules have.
-use Rattle.fields_core.proofs.Common.{Bounds, Candidates, add-one, max, CountHouse, IsBitsOf, IsHouse, IsLawful, IsTally, IsWithin, List, Tally, [], after_house, ap, arith, bounds_of, common_steps, count-lawful, count_house_of, false, get_or, get_or-map, has_place-here, has_strikes, house_told, kept_of, length, length-map, map, no_count_house, refl, slice_index, suc, sym, tally_of, true, true≢false, zero, ℕ, ◌+◌, ◌<◌, ◌^◌, ◌∙◌, ◌∷◌, ◌≡◌, ◌≤◌}
+use Rattle.fields_core.proofs.Common.{Bounds, Candidates, add-one, max, CountHouse, IsBitsOf, IsHouse, IsLawful, IsTally, IsWithin, List, Tally, [], after_house, ap, arith, bounds_of, count-lawful, count_house_of, false, get_or, get_or-map, has_place-here, has_strikes, house_told, kept_of, length, length-map, map, no_count_house, refl, slice_index, suc, sym, tally_of, true≢false, zero, ℕ, ◌+◌, ◌<◌, ◌^◌, ◌∙◌, ◌∷◌, ◌≡◌, ◌≤◌}
 use Rattle.std.proofs.lemmas.List.{ext_get_or}
 use Rattle.grid_core.specs.Candidates.{max_cells}
 use Rattle.engine_core.proofs.KeepLemmas.{kept-none}

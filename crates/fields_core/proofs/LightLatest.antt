@@ -1,5 +1,5 @@
 -- The runs that a walk over the cells keeps.
-use Rattle.fields_core.proofs.Common.{AreRunsAbove, IsRunAbove, IsRunBefore, Light, List, [], Segment, ap, arith, begins_column_run, begins_row_run, cases_lt, column_run, common_steps, eqb, false, filter, get_or, get_or-set_other, get_or-set_same, inl, inr, length, lit_house, mod-lt, mul-le-mul_right, no_segment, not, one_at_least, row_run, seen_from, segment_places, set, sym, true, true≢false, white, ℕ, ◌%◌, ◌++◌, ◌∷◌, ◌+◌, ◌-◌, ◌<◌, ◌∙◌, ◌≡◌, ◌≤◌}
+use Rattle.fields_core.proofs.Common.{AreRunsAbove, IsRunAbove, IsRunBefore, Light, List, [], Segment, ap, arith, begins_column_run, begins_row_run, cases_lt, column_run, common_steps, eqb, false, filter, get_or, get_or-set_other, get_or-set_same, inl, inr, length, lit_house, mod-lt, mul-le-mul_right, no_segment, not, one_at_least, row_run, seen_from, segment_places, set, sym, true, true≢false, white, ℕ, ◌%◌, ◌++◌, ◌∷◌, ◌+◌, ◌<◌, ◌∙◌, ◌≡◌, ◌≤◌}
 use Rattle.fields_core.proofs.LightHouseLaws.{column-run-on, row-run-on}
 use Rattle.fields_core.proofs.TentBeside.{cell-below, whole-cell}
 

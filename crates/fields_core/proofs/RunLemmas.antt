@@ -1,5 +1,5 @@
 -- The run around a cell of a line is what has only white cells between it and the cell.
-use Rattle.fields_core.proofs.Common.{Bool, Extent, IsLight, Light, List, RunsOn, [], add-one, and_parts, ap, append-nil, arith, begins_column_run, begins_row_run, cases_Bool, cases_lt, clear, column-at, column_places, column_run, common_steps, cond, div-mul-add, eq-eqb, eqb-true, false, false_from_ne_true, filter, filter-append, get_or-map-range_with_len, inl, inr, joined_in_column, joined_in_row, length, length-map-range_with_len, light_cells, map, max, min, mod-lt, mod-mul-add, mul-le-mul_right, not-true, or_cases, range_with_len, refl, row-at, row_places, row_run, slice_index, suc, sym, true, true≢false, white, zero, ℕ, ◌%◌, ◌*◌, ◌++◌, ◌+◌, ◌-◌, ◌/◌, ◌<◌, ◌^◌, ◌∙◌, ◌∷◌, ◌≡◌, ◌≤◌}
+use Rattle.fields_core.proofs.Common.{Bool, Extent, IsLight, Light, List, RunsOn, [], add-one, and_parts, ap, append-nil, arith, begins_column_run, begins_row_run, cases_Bool, cases_lt, clear, column-at, column_places, column_run, common_steps, cond, div-mul-add, eq-eqb, eqb-true, false, false_from_ne_true, filter, filter-append, inl, inr, joined_in_column, joined_in_row, length, length-map-range_with_len, light_cells, map, max, min, mod-lt, mod-mul-add, mul-le-mul_right, not-true, or_cases, range_with_len, refl, row-at, row_places, row_run, slice_index, suc, sym, true, true≢false, white, zero, ℕ, ◌%◌, ◌*◌, ◌++◌, ◌+◌, ◌-◌, ◌/◌, ◌<◌, ◌^◌, ◌∙◌, ◌∷◌, ◌≡◌, ◌≤◌}
 use Rattle.fields_core.proofs.HouseLists.{row-long, column-long}
 use Rattle.fields_core.proofs.LightHouseLaws.{clear-at, clear-from}
 

@@ -1,5 +1,5 @@
 -- Houses that are added, and a segment that is cut at a cell.
-use Rattle.fields_core.proofs.Common.{AreAdded, AreDifferent, Bool, CountHouse, Extent, House, List, None, Segment, Some, [], ap, ap₂, append-nil, append_assoc, arith, cases_Bool, cases_eq, common_steps, div-mul-add, eq-eqb, eqb, false, filter, filter-append, get_or, get_or-map-range_with_len, get_or-set_other, has_place, has_place-at, house_told, houses_below, inl, inr, length, length-map-range_with_len, length-set, map, map-append, mul-le-mul_right, ne_eqb, no_segment, not, places_of, range_with_len, refl, segment_places, set, slice_index, step, steps, suc, sym, true, true≢false, zero, ℕ, ◌*◌, ◌++◌, ◌+◌, ◌-◌, ◌/◌, ◌<◌, ◌∙◌, ◌∷◌, ◌≡◌, ◌≤◌}
+use Rattle.fields_core.proofs.Common.{AreAdded, AreDifferent, Bool, CountHouse, House, List, Segment, [], ap, ap₂, append-nil, append_assoc, arith, cases_Bool, cases_eq, common_steps, div-mul-add, eq-eqb, eqb, filter, filter-append, get_or-map-range_with_len, get_or-set_other, has_place, has_place-at, house_told, houses_below, inl, inr, length, length-map-range_with_len, map, map-append, mul-le-mul_right, ne_eqb, not, places_of, range_with_len, refl, segment_places, slice_index, suc, sym, true, true≢false, zero, ℕ, ◌*◌, ◌++◌, ◌+◌, ◌-◌, ◌/◌, ◌<◌, ◌∙◌, ◌∷◌, ◌≡◌, ◌≤◌}
 use Rattle.fields_core.proofs.CountListLemmas.{below-more}
 use Rattle.fields_core.proofs.RunLemmas.{map-same, range-split}
 

@@ -1,4 +1,4 @@
-use Rattle.fields_core.proofs.Common.{house_told, length, slice_index, ℕ, ◌<◌, ◌≡◌}
+use Rattle.fields_core.proofs.Common.{house_told, slice_index, ℕ, ◌<◌, ◌≡◌}
 use Rattle.fields_core.proofs.count.rules.list_places.Given as goal
 
 abbrev pub invariant-loop-k : goal.invariant-loop-k
