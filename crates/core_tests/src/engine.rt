@@ -1,6 +1,7 @@
-//! Closings and searches, over small rule sets of the tests' own.
+//! Closings, searches and lists of houses, over small rule sets of the tests' own.
 
 mod closings;
+mod lists;
 mod neighbours;
 mod searches;
 mod swept;
