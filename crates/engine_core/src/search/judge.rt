@@ -3,6 +3,7 @@
 ghost use Rattle.std.specs.Prelude.{◌≡◌, ◌≤◌, true, None};
 ghost use Rattle.grid_core.specs.Candidates.{pick};
 ghost use Rattle.engine_core.specs.ClosingList.{IsAlive};
+ghost use Rattle.engine_core.specs.RuleSystem.{IsClosed};
 ghost use Rattle.engine_core.specs.Frames.{Judges, AreGrids, written};
 
 use crate::search::position::Position;
@@ -35,6 +36,7 @@ pub(crate) fn judge<P: Position>(
     grids: &mut Grids,
 ) -> Judgement
     requires walks { P.walks rules.now position.old }
+    requires closed { IsClosed (P.system rules.now) (P.stands position.old).board }
     requires alive { IsAlive (P.system rules.now) (P.stands position.old).board }
     requires from_in { at.from ≤ (P.system rules.now).cells }
     requires none { pick at.from (P.system rules.now).values (P.stands position.old).board

@@ -2,7 +2,7 @@
 
 ghost use Rattle.std.specs.Prelude.{◌≡◌, ℕ, ◌*◌, ◌<◌, ◌≤◌, IfOk, true, None, length};
 ghost use Rattle.grid_core.specs.Candidates.{IsWithin, count_below, grid_of, is_full, only, pick};
-ghost use Rattle.engine_core.specs.RuleSystem.{RuleSystem, IsLawful, IsNext, Needs, needs_of, FitsIn};
+ghost use Rattle.engine_core.specs.RuleSystem.{RuleSystem, IsClosed, IsLawful, IsNext, Needs, needs_of, FitsIn};
 ghost use Rattle.engine_core.specs.Queue.{IsClosedBut};
 ghost use Rattle.engine_core.specs.Counts.{IsClosedIn};
 ghost use Rattle.engine_core.specs.Position.{Standing, IsOnward, IsCheckpoint, IsReturned, IsTaken};
@@ -115,9 +115,10 @@ pub trait Position: Drop + Sized {
         ensures walks { walks rules.now self.new }
         ensures room { room self.new ≡ room self.old };
 
-    /// Writes down the grid of the full board, and says whether it is a solution.
+    /// Writes down the grid of the full board, which is closed, and says whether it is a solution.
     fn accept(&mut self, rules: &Self::Game, grid: &mut Grid) -> bool
         requires walks { walks rules.now self.old }
+        requires closed { IsClosed (system rules.now) (stands self.old).board }
         requires full { is_full (system rules.now).cells (system rules.now).values
             (stands self.old).board ≡ true }
         requires long { length grid.old ≡ (system rules.now).cells }

@@ -1,4 +1,5 @@
 use Rattle.engine_core.proofs.Common.{IsOpen, arith, refl}
+use Rattle.engine_core.proofs.ClosingLemmas.{closure_closed}
 use Rattle.engine_core.proofs.PickLemmas.{pick-inside}
 use Rattle.engine_core.proofs.RoomLemmas.{split-room, open-room}
 use Rattle.engine_core.proofs.LevelLemmas.{ready-onward, ready-push}
@@ -86,3 +87,10 @@ returns-in-Split-clause-ready g c =
 
 pub judge-requires-clause-none : goal.judge-requires-clause-none
 judge-requires-clause-none g c = pick-inside _ _ _ _ c.close-taken.ensures.onward.inside c.requires.none
+
+pub judge-requires-clause-closed : goal.judge-requires-clause-closed
+judge-requires-clause-closed g c =
+    rw (c.close-taken.ensures.taken.left c.in-Open.is)
+    (closure_closed (g.P.Position.system c.args.rules.now)
+    (g.P.Position.stands c.args.position.now).board
+    (g.met.P.Position.within c.args.rules.now c.args.position.now c.requires.walks))
