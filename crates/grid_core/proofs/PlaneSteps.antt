@@ -1,6 +1,7 @@
 -- One step of planes, by the words that the program keeps.
-use Rattle.grid_core.proofs.Common.{ArePlanes, AreTurned, Candidates, Column, Extent, HasRoomFor, IsExtent, IsLineIn, IsFresh, IsTakingIn, IsThere, Layers, List, Row, Taking, all_of, and_comm, and_parts, ap, arith, bit_of, cases_Bool, cases_lt, common_steps, div-lt_iff_lt-mul, false, fun_ext, get_or, get_or-map, has, has_bit, inl, inr, layers_of, le-ltb, length, length-map, lt-ltb, ltb, ltb-true, map, map-set, mod-lt, no_taking, refl, set, slice_index, suc, sym, taking_at, taking_of, total, true, zero, ℕ, ◌%◌, ◌&&◌, ◌*◌, ◌+◌, ◌-◌, ◌/◌, ◌<◌, ◌↔◌, ◌∙◌, ◌≡◌, ◌≤◌, ◌⊎◌}
+use Rattle.grid_core.proofs.Common.{ArePlanes, AreTurned, Candidates, Column, Extent, HasRoomFor, IsExtent, IsLineIn, IsFresh, IsTakingIn, IsThere, Layers, List, Row, Taking, all_of, and_comm, and_parts, ap, arith, bit_of, cases_Bool, cases_lt, common_steps, div-lt_iff_lt-mul, false, false_from_ne_true, fun_ext, get_or, get_or-map, get_or-replicate, get_or_past, has, has_bit, inl, inr, layers_of, le-ltb, length, length-map, length-replicate, lt-ltb, ltb, ltb-true, map, map-set, mod-lt, no_taking, refl, replicate, set, slice_index, suc, sym, taking_at, taking_of, total, true, zero, ℕ, ◌%◌, ◌&&◌, ◌*◌, ◌+◌, ◌-◌, ◌/◌, ◌<◌, ◌↔◌, ◌∙◌, ◌≡◌, ◌≤◌, ◌⊎◌}
 use Rattle.grid_core.proofs.CandidateLemmas.{count_below-bound}
+use Rattle.grid_core.proofs.WordLemmas.{zero-bits}
 use Rattle.grid_core.specs.declared.planes.line.Change.{Change}
 use Rattle.grid_core.specs.declared.planes.line.Line.{Line}
 use Rattle.grid_core.specs.Planes.{number_of}
@@ -70,6 +71,22 @@ bit_written bits words lines word room line v place n written first lt =
     same : (line < lines) ⊎ (lines ≤ line) → ltb (2 * line + v) (2 * lines) ≡ ltb line lines
     same (inl low) = lt-ltb (2 * line + v) (2 * lines) (omega arith) ∙ sym (lt-ltb line lines low)
     same (inr high) = le-ltb (2 * line + v) (2 * lines) (omega arith) ∙ sym (le-ltb line lines high)
+
+-- words that have places in the first lines alone have none further on; and words of no place have none
+pub none-beyond : (words : List ℕ) (lines : ℕ) → ((line place v : ℕ) → v < 2 → bit_of words line v place ≡ true → line < lines)
+    → (k place : ℕ) → 2 * lines ≤ k → has_bit (slice_index words k) place ≡ false
+unfolding bit_of
+none-beyond words lines within k place le = false_from_ne_true (has_bit (slice_index words k) place) (λ on.
+    let split : 2 * (k / 2) + k % 2 ≡ k = omega arith in
+    let low = within (k / 2) place (k % 2) (omega arith) (rw split on) in
+    absurd (omega (arith, low, le)))
+
+pub none-anywhere : {W : Type 0} (bits : W → ℕ) (none : W) (count : ℕ) (words : List W) → ((p : ℕ) → has_bit (bits none) p ≡ false) → words ≡ replicate count none
+    → (k place : ℕ) → has_bit (slice_index (map bits words) k) place ≡ false
+none-anywhere bits none count words empty e k place = elim (cases_lt k count) [
+  | inl low ↦ rw (e, get_or-map bits (replicate count none) k none 0 (omega (arith, low, length-replicate count none)), get_or-replicate count k none none low) (empty place)
+  | inr high ↦ rw (e, get_or_past (map bits (replicate count none)) k 0 (omega (arith, high, length-map (replicate count none) bits, length-replicate count none))) (zero-bits place)
+]
 
 -- full planes: each row has the places below the width, and each column those below the height
 pub begun : {W : Type 0} (bits : W → ℕ) (room : ℕ) (size : Extent) (row column : W) (changes : List (Change W)) → IsExtent size → size.w ≤ room → size.h ≤ room

@@ -60,8 +60,8 @@ impl<W: Word> Planes<W> {
         let h = usize::from(size.h());
         let mut rows = copies(alloc, W::none(), 2 * W::places())?;
         let mut columns = copies(alloc, W::none(), 2 * W::places())?;
-        write_lines(&mut rows, h, W::all(w));
-        write_lines(&mut columns, w, W::all(h));
+        write_lines(&mut rows, 0, h, W::all(w));
+        write_lines(&mut columns, 0, w, W::all(h));
         let nothing = Change {
             line: Line::Row(0),
             value: 0,
@@ -86,8 +86,8 @@ impl<W: Word> Planes<W> {
     {
         let w = usize::from(size.w());
         let h = usize::from(size.h());
-        write_lines(&mut self.rows, h, W::all(w));
-        write_lines(&mut self.columns, w, W::all(h));
+        write_lines(&mut self.rows, usize::from(self.size.h()), h, W::all(w));
+        write_lines(&mut self.columns, usize::from(self.size.w()), w, W::all(h));
         self.size = size;
         self.len = 0;
     }

@@ -1,22 +1,26 @@
 //! The words of planes: as they begin, and bits of a line turned over, in its word and in the words of its crossing lines.
 #![tactic(auto)]
 
-ghost use Rattle.std.specs.Prelude.{◌≡◌, ℕ, ◌+◌, ◌*◌, ◌<◌, ◌&&◌, ◌==◌, true, map, length, nat_lt, slice_index, ◌≤◌};
+ghost use Rattle.std.specs.Prelude.{◌≡◌, ℕ, ◌+◌, ◌*◌, ◌<◌, ◌&&◌, ◌==◌, true, false, map, length, nat_lt, slice_index, ◌≤◌};
 ghost use Rattle.grid_core.specs.Words.{has_bit, differ};
 ghost use Rattle.grid_core.specs.Planes.{bit_of, AreTurned, HasRoomFor};
 
 use crate::planes::line::Line;
 use crate::planes::word::Word;
 
-/// Writes the word for both values of the first lines, so many, and no place for all others.
-pub(crate) fn write_lines<W: Word>(words: &mut Vec<W>, lines: usize, word: W)
+/// Writes the word for both values of the first lines, so many, and no place for all others: of these the words of the first
+/// `had` lines alone may have some.
+pub(crate) fn write_lines<W: Word>(words: &mut Vec<W>, had: usize, lines: usize, word: W)
     requires few { 2 * lines ≤ length words.old.items }
+    requires had_few { 2 * had ≤ length words.old.items }
+    requires others { (k place : ℕ) → 2 * had ≤ k
+        → has_bit (slice_index (map W.bits words.old.items) k) place ≡ false }
     ensures written { (k place : ℕ) → has_bit (slice_index (map W.bits words.new.items) k) place
         ≡ (nat_lt k (2 * lines) && has_bit (W.bits word) place) }
     ensures long { length words.new.items ≡ length words.old.items }
 {
     let none = W::none();
-    for k in 0..words.len() {
+    for k in 0..2 * had.max(lines) {
         let here = if k < 2 * lines { word } else { none };
         words[k] = here;
     }

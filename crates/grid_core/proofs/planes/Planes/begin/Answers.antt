@@ -1,5 +1,5 @@
 use Rattle.grid_core.proofs.Common.{all_of, arith, layers_of, length, length-map, sym, taking_of, ◌*◌, ◌∙◌, ◌≡◌}
-use Rattle.grid_core.proofs.PlaneSteps.{IsBegun, begun}
+use Rattle.grid_core.proofs.PlaneSteps.{IsBegun, begun, none-beyond}
 use Rattle.grid_core.proofs.planes.Planes.begin.Goals as goal
 use Rattle.grid_core.proofs.planes.Planes.begin.Goals.{After-write_lines-2}
 
@@ -24,3 +24,11 @@ invariant_of-self g c = (filled g (goal.at.invariant_of-self g c).After-write_li
 
 pub returns-clause-fresh : goal.returns-clause-fresh
 returns-clause-fresh g c = (filled g (goal.at.returns-clause-fresh g c).After-write_lines-2).fresh
+
+pub write_lines-requires-clause-others : goal.write_lines-requires-clause-others
+write_lines-requires-clause-others g c =
+    rw (c.from.ensures, c.h-2.ensures.value) (none-beyond _ _ (λ line place v lt on. (c.self.invariant.words.within line place v lt on).0))
+
+pub write_lines-requires-2-clause-others : goal.write_lines-requires-2-clause-others
+write_lines-requires-2-clause-others g c =
+    rw (c.from-2.ensures, c.w-2.ensures.value) (none-beyond _ _ (λ line place v lt on. (c.self.invariant.words.within place line v lt (c.self.invariant.words.agree place line v lt ∙ on)).1))

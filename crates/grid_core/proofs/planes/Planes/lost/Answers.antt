@@ -1,4 +1,4 @@
-use Rattle.grid_core.proofs.Common.{arith, cases_eq, inl, inr, length-map, sym, taking_at, taking_of, ◌∙◌, ◌≡◌}
+use Rattle.grid_core.proofs.Common.{arith, cases_eq, inl, inr, length-map, sym, taking_at, taking_of, ◌≡◌}
 use Rattle.grid_core.specs.Planes.{has}
 use Rattle.grid_core.proofs.PlaneSteps.{line_room, taking_read}
 use Rattle.grid_core.proofs.TakingLemmas.{covered_since, takings-len}

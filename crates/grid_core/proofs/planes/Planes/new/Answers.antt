@@ -1,5 +1,5 @@
 use Rattle.grid_core.proofs.Common.{all_of, ap, arith, layers_of, length, length-replicate, ◌*◌, ◌∙◌}
-use Rattle.grid_core.proofs.PlaneSteps.{IsBegun, begun}
+use Rattle.grid_core.proofs.PlaneSteps.{IsBegun, begun, none-anywhere}
 use Rattle.grid_core.proofs.planes.Planes.new.Goals as goal
 use Rattle.grid_core.proofs.planes.Planes.new.Goals.{In_ok-copies}
 
@@ -24,3 +24,9 @@ invariant_of-result g c = (filled g (goal.at.invariant_of-result g c).In_ok-copi
 
 pub returns-clause-fresh : goal.returns-clause-fresh
 returns-clause-fresh g c = (filled g (goal.at.returns-clause-fresh g c).In_ok-copies).fresh
+
+pub write_lines-requires-clause-others : goal.write_lines-requires-clause-others
+write_lines-requires-clause-others g c = λ k place _. none-anywhere g.W.Word.bits _ _ _ c.none.ensures c.in_ok-rows.ensures k place
+
+pub write_lines-requires-2-clause-others : goal.write_lines-requires-2-clause-others
+write_lines-requires-2-clause-others g c = λ k place _. none-anywhere g.W.Word.bits _ _ _ c.none-2.ensures c.in_ok-columns.ensures k place

@@ -1,5 +1,4 @@
-use Rattle.grid_core.proofs.Common.{List, arith, cases_eq, cases_lt, get_or-set_other, get_or-set_same, get_or_past, has_bit, inl, inr, le-ltb, length, length-map, length-set, lt-ltb, ltb, map, map-set, refl, set, slice_index, sym, ℕ, ◌&&◌, ◌*◌, ◌+◌, ◌<◌, ◌∙◌, ◌≡◌}
-use Rattle.grid_core.proofs.WordLemmas.{zero-bits}
+use Rattle.grid_core.proofs.Common.{List, arith, cases_eq, cases_lt, get_or-set_other, get_or-set_same, has_bit, inl, inr, le-ltb, length, length-map, length-set, lt-ltb, ltb, map, map-set, refl, set, slice_index, ℕ, ◌&&◌, ◌*◌, ◌+◌, ◌<◌, ◌∙◌, ◌≡◌}
 use Rattle.grid_core.proofs.planes.turn.write_lines.Goals as goal
 use Rattle.grid_core.proofs.planes.turn.write_lines.Goals.{Joined-k-lines, then-k-lines, else-k-lines}
 
@@ -21,22 +20,26 @@ here g c place = elim c.if-k-lines.branch [
 ]
 
 pub loop-k-preserved : goal.loop-k-preserved
-loop-k-preserved g c = record {
-  written = more g.W.Word.bits c.loop-k.words.items c.loop-k.k (2 * c.args.lines) c.args.word _
-      (omega (arith, c.loop-k-test.true, c.len-k-end.ensures, c.args.words.now.ok.0, c.loop-k.invariant.long))
-      c.loop-k.invariant.written
-      (here g (goal.at.loop-k-preserved g c).Joined-k-lines);
-  long = length-set _ _ _ ∙ c.loop-k.invariant.long;
-}
+loop-k-preserved g c =
+    let in_words : c.loop-k.k < length c.loop-k.words.items = omega (arith, c.loop-k-test.true, c.max-k-end.ensures, c.requires.few, c.requires.had_few, c.loop-k.invariant.long) in
+    record {
+      written = more g.W.Word.bits c.loop-k.words.items c.loop-k.k (2 * c.args.lines) c.args.word _ in_words
+          c.loop-k.invariant.written
+          (here g (goal.at.loop-k-preserved g c).Joined-k-lines);
+      others = λ k le. rw (map-set g.W.Word.bits c.loop-k.words.items c.loop-k.k c.if-k-lines.here)
+          (get_or-set_other (map g.W.Word.bits c.loop-k.words.items) c.loop-k.k k _ 0 (λ e. omega (arith, le, e))
+          ∙ c.loop-k.invariant.others k (omega (arith, le)));
+      long = length-set _ _ _ ∙ c.loop-k.invariant.long;
+    }
 
 pub returns-clause-written : goal.returns-clause-written
 returns-clause-written g c = λ k place.
     let i = c.loop-k.invariant in
-    let long : length c.loop-k.words.items ≡ c.len-k-end.result = i.long ∙ sym (c.args.words.now.ok.0) ∙ sym c.len-k-end.ensures in
+    let e = c.loop-k-test.false in
     elim (cases_lt k c.loop-k.k) [
       | inl low ↦ i.written k place low
       | inr high ↦ rw (
-        get_or_past (map g.W.Word.bits c.loop-k.words.items) k 0 (let e = c.loop-k-test.false in omega (arith, long, length-map c.loop-k.words.items g.W.Word.bits)),
-        le-ltb k (2 * c.args.lines) (let e = c.loop-k-test.false in omega (arith, i.long, c.requires.few)),
-      ) (zero-bits place)
+        i.others k high,
+        le-ltb k (2 * c.args.lines) (omega (arith, high, e, c.max-k-end.ensures)),
+      ) (c.requires.others k place (omega (arith, high, e, c.max-k-end.ensures)))
     ]
