@@ -14,7 +14,7 @@ use Rattle.fields_core.proofs.PositionSteps.{step-onward, step-walks}
 use Rattle.fields_core.proofs.RunLemmas.{few-cells}
 use Rattle.fields_core.proofs.TentCounting.{tent-counting, tent-lawful}
 use Rattle.fields_core.proofs.TentLines.{line-all, line-more, line-skip, line-start}
-use Rattle.fields_core.proofs.TentNext.{barred-alone, barred-tree, next-joined, next-none, passed-bare, passed-early, passed-edge, passed-start, tree-found, treeless-all}
+use Rattle.fields_core.proofs.TentNext.{barred-alone, barred-tree, next-joined, next-none, none-beside, one-beside, passed-bare, passed-early, passed-edge, passed-start}
 use Rattle.fields_core.proofs.TentNumbers.{count-none, listed-all, listed-skip}
 use Rattle.fields_core.proofs.TentPairLemmas.{count-is, listed-tents, others-unpaired, short-unpaired, whole-pairs}
 use Rattle.fields_core.proofs.TentRuleLemmas.{tents-from-solution, tents-tell, solution-from-tents}
@@ -54,7 +54,7 @@ pub ruleset tent_houses_laws = (beside-cells, line-cells, square-cells, added-no
 pub ruleset tent_pairs_laws =
     (next-joined, listed-skip, listed-all, passed-start, passed-edge, passed-bare, passed-early, next-none, count-none, others-unpaired, listed-tents, count-is, whole-pairs, short-unpaired)
 
-pub ruleset tent_rules_laws = (tent-counting, tents-tell, barred-tree, barred-alone, tree-found, treeless-all)
+pub ruleset tent_rules_laws = (tent-counting, tents-tell, barred-tree, barred-alone, one-beside, none-beside)
 
 pub ruleset tent_touch_laws = (eq-eqb, ne_eqb)
 

@@ -1,6 +1,10 @@
 -- Tents on planes: the sides that the memory is for, and what a closing asks of planes.
-use Rattle.std.proofs.Common.{◌≡◌, ◌∙◌, ℕ, zero, suc, ◌+◌, ◌-◌, ◌<◌, ◌≤◌, ◌⊎◌, List, [], ◌∷◌, ◌++◌, length, get_or, slice_index, refl, ap, arith}
+use Rattle.std.proofs.Common.{◌≡◌, ◌∙◌, ℕ, zero, suc, ◌+◌, ◌-◌, ◌<◌, ◌≤◌, ◌⊎◌, true, List, [], ◌∷◌, ◌++◌, length, get_or, slice_index, refl, ap, arith}
+use Rattle.std.proofs.Common.{sym}
+use Rattle.std.proofs.lemmas.Bool.{cases_Bool, false_from_ne_true, true≢false}
+use Rattle.std.proofs.lemmas.Grind.{common_steps}
 use Rattle.std.proofs.lemmas.List.{append_assoc, length-append, get_or-append_right}
+use Rattle.grid_core.specs.Candidates.{Candidates, IsInside, all_of}
 use Rattle.grid_core.specs.Regions.{row_places, column_places}
 use Rattle.grid_core.specs.Planes.{Layers, has}
 use Rattle.engine_core.specs.RuleSystem.{needs_of}
@@ -9,10 +13,11 @@ use Rattle.engine_core.proofs.StoreLemmas.{scope_le-longest}
 use Rattle.gameid_core.specs.Puzzles.{Tents, IsTents}
 use Rattle.fields_core.proofs.HouseLists.{row-long, column-long}
 use Rattle.fields_core.specs.AnyPlanes.{IsSuited, places_of}
-use Rattle.fields_core.specs.CountHouse.{CountHouse, exactly, no_count_house, houses_below}
-use Rattle.fields_core.specs.TentHouses.{tent_rules, tent_houses, column_of_tents, row_of_tents, tree_house, square_house}
+use Rattle.fields_core.specs.CountHouse.{CountHouse, exactly, no_count_house, houses_below, start_of}
+use Rattle.fields_core.specs.TentHouses.{is_barred, tent_rules, tent_houses, column_of_tents, row_of_tents, tree_house, square_house}
 use Rattle.fields_core.specs.TentNotes.{AreWritten, trees_in}
 use Rattle.fields_core.specs.Tents.{tent_cells}
+use Rattle.fields_core.specs.Trees.{AreBare}
 use Rattle.fields_core.specs.Visits.{IsFieldOf}
 use Rattle.fields_core.specs.declared.planes.notes.TentNotes.{TentNotes}
 use Rattle.fields_core.proofs.TentSweeps.{alive-each}
@@ -58,14 +63,20 @@ wide-fits p is = let two = is.size in (sides-fit p (omega (arith, two.w_two)) (o
 pub high-fits : (p : Tents) → IsTents p → p.size.h ≤ (needs_of (tent_rules p)).scope
 high-fits p is = let two = is.size in (sides-fit p (omega (arith, two.w_two)) (omega (arith, two.h_two))).1
 
+-- no cell with a tree can have a tent on a board inside the start
+bare-inside : (p : Tents) (K : Candidates) → IsInside K (tent_rules p).start → AreBare p K
+unfolding start_of is_barred
+bare-inside p K inside c is = false_from_ne_true (K c 1) (λ on. true≢false (sym (inside c 1 on) ∙ rw is (grind (arith, common_steps, cases_Bool (all_of (tent_cells p) 2 c 1)))))
+
 -- what a closing asks of planes
 pub field-of : (p : Tents) (kept : TentNotes ℕ ⊎ TentNotes ℕ) (planes : Layers) → IsSuited p.size (places_of kept) → AreWritten p kept
-    → planes.size ≡ p.size → IsAlive (tent_rules p) (has planes) → IsFieldOf (places_of kept) p planes (trees_in kept)
-field-of p kept planes suited is size alive = record {
+    → planes.size ≡ p.size → IsAlive (tent_rules p) (has planes) → IsInside (has planes) (tent_rules p).start → IsFieldOf (places_of kept) p planes (trees_in kept)
+field-of p kept planes suited is size alive inside = record {
   lawful = is.lawful;
   narrow = suited.0;
   low = suited.1;
   size = size;
   trees = is.trees;
+  bare = bare-inside p (has planes) inside;
   alive = alive-each p planes size alive;
 }

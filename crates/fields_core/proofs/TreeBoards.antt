@@ -1,12 +1,12 @@
 -- What visits of the trees of a row take from a board.
-use Rattle.fields_core.proofs.Common.{Bool, Candidates, CountHouse, IsFurther, IsHouse, IsTally, IsTents, Layers, List, Tally, Tents, [], after_house, and-true, and_parts, any_below, ap, arith, cases_Bool, common_steps, cond, count_by, count_by-le-length, eqb, eqb-true, false, filter, free_beside, fun_ext, has_place, has_place-at, has_bit, has_place-here, houses_below, length-filter, lt-ltb, ltb-false, ltb-true, not-false, not-true, inl, inr, is_empty, le-ltb, length, ltb, not, one_at_least, or_cases, place-filter, place-kept, refl, slice_index, suc, sym, tent_cells, tree, tree_house, true, true≢false, zero, ℕ, ◌&&◌, ◌*◌, ◌++◌, ◌+◌, ◌-◌, ◌<◌, ◌||◌, ◌∙◌, ◌∷◌, ◌≡◌, ◌≤◌, ◌⊎◌}
+use Rattle.fields_core.proofs.Common.{Bool, Candidates, CountHouse, IsFurther, IsHouse, IsTally, IsTents, Layers, List, Tally, Tents, [], after_house, and-true, and_parts, any_below, ap, arith, cases_Bool, common_steps, cond, count_by, count_by-le-length, eqb, eqb-true, false, filter, free_beside, fun_ext, has_place, has_place-at, has_bit, has_place-here, houses_below, length-filter, lt-ltb, ltb-false, ltb-true, not-false, not-true, inl, inr, is_empty, le-ltb, length, list_any, ltb, not, one_at_least, or_cases, place-filter, place-kept, refl, slice_index, suc, sym, tent_cells, tree, tree_house, true, true≢false, zero, ℕ, ◌&&◌, ◌*◌, ◌++◌, ◌+◌, ◌-◌, ◌<◌, ◌||◌, ◌∙◌, ◌∷◌, ◌≡◌, ◌≤◌, ◌⊎◌}
 use Rattle.std.proofs.lemmas.Bool.{false_from_ne_true}
 use Rattle.grid_core.specs.Candidates.{IsInside}
 use Rattle.grid_core.specs.Planes.{has}
 use Rattle.grid_core.specs.Regions.{beside}
 use Rattle.grid_core.proofs.PlaneLemmas.{further-none, place-in}
 use Rattle.fields_core.specs.Parts.{IsAlive}
-use Rattle.fields_core.specs.Trees.{IsRowOf, is_beside, trees_of_row, without_zeros}
+use Rattle.fields_core.specs.Trees.{IsRowOf, is_beside, trees_of_row, wants_tent, without_zeros}
 use Rattle.fields_core.specs.Visits.{AreVisited, after_houses}
 use Rattle.fields_core.proofs.CountKept.{after-at, off-scope}
 use Rattle.grid_core.proofs.CandidateLemmas.{any_below-none, any_below-same, any_below-some}
@@ -204,17 +204,23 @@ count-filtered : (keeps passes : ℕ → Bool) (xs : List ℕ) → count_by pass
 count-filtered keeps passes [] = refl
 count-filtered keeps passes (x ∷ xs) = grind (arith, common_steps, cases_Bool (keeps x), cases_Bool (passes x), count-cons, count-filtered keeps passes xs)
 
-module _ (p : Tents) (y : ℕ) (from : Layers) (room : ℕ) (trees free some broken : ℕ) (lawful : IsTents p) (size : from.size ≡ p.size) (y_in : y < p.size.h) (alive : IsAlive from)
+-- whether one passes, and how many do
+any-count : (test : ℕ → Bool) (xs : List ℕ) → list_any test xs ≡ ltb 0 (count_by test xs)
+any-count test [] = refl
+any-count test (x ∷ xs) = grind (arith, common_steps, cases_Bool (test x), count-cons, any-count test xs)
+
+module _ (p : Tents) (y : ℕ) (from : Layers) (room : ℕ) (wants some broken : ℕ) (lawful : IsTents p) (size : from.size ≡ p.size) (y_in : y < p.size.h) (alive : IsAlive from)
     (narrow : p.size.w ≤ room)
-    (trees_is : IsRowOf p.size.w (tree p) y trees)
-    (free_is : (x : ℕ) → x < p.size.w → has_bit free x ≡ ltb 0 (count_by (λ c. not (tree p c)) (beside p.size (y * p.size.w + x))))
+    (wants_is : IsRowOf p.size.w (wants_tent p) y wants)
     (some_is : (x : ℕ) → x < p.size.w → has_bit some x ≡ ltb 0 (count_by (λ c. not (tree p c) && has from c 1) (beside p.size (y * p.size.w + x))))
-    (broken_is : (x : ℕ) → has_bit broken x ≡ ((has_bit trees x && has_bit free x) && not (has_bit some x))) where
+    (broken_is : (x : ℕ) → has_bit broken x ≡ (has_bit wants x && not (has_bit some x))) where
   full : (c : ℕ) → c < tent_cells p → (has from c 0 ≡ true) ⊎ (has from c 1 ≡ true)
   full c lt = alive c (rw size lt)
 
-  free-long : (x : ℕ) → length (free_beside p (y * p.size.w + x)) ≡ count_by (λ c. not (tree p c)) (beside p.size (y * p.size.w + x))
-  free-long x = length-filter (λ c. not (tree p c)) (beside p.size (y * p.size.w + x))
+  -- a tree wants a tent where there is a free cell beside it
+  wants-at : (x : ℕ) → x < p.size.w → has_bit wants x ≡ (tree p (y * p.size.w + x) && ltb 0 (length (free_beside p (y * p.size.w + x))))
+  unfolding wants_tent
+  wants-at x lt = wants_is x ∙ rw (lt-ltb x p.size.w lt, any-count (λ c. not (tree p c)) (beside p.size (y * p.size.w + x)), length-filter (λ c. not (tree p c)) (beside p.size (y * p.size.w + x))) refl
 
   may-is : (x : ℕ) → may p (has from) y x ≡ count_by (λ c. not (tree p c) && has from c 1) (beside p.size (y * p.size.w + x))
   may-is x = count-filtered (λ c. not (tree p c)) (λ c. has from c 1) (beside p.size (y * p.size.w + x))
@@ -224,10 +230,9 @@ module _ (p : Tents) (y : ℕ) (from : Layers) (room : ℕ) (trees free some bro
   row-dead on =
       let w = any_below-some (has_bit broken) room on in
       let parts = and_parts _ _ (sym (broken_is w.0) ∙ w.2) in
-      let both = and_parts _ _ parts.0 in
-      let here = and_parts _ _ (sym (trees_is w.0) ∙ both.0) in
-      let lt : w.0 < p.size.w = ltb-true w.0 p.size.w here.0 in
-      let long : 0 < length (free_beside p (y * p.size.w + w.0)) = rw (free-long w.0) (ltb-true _ _ (sym (free_is w.0 lt) ∙ both.1)) in
+      let lt : w.0 < p.size.w = ltb-true w.0 p.size.w (and_parts _ _ (sym (wants_is w.0) ∙ parts.0)).0 in
+      let here = and_parts _ _ (sym (wants-at w.0 lt) ∙ parts.0) in
+      let long : 0 < length (free_beside p (y * p.size.w + w.0)) = ltb-true _ _ here.1 in
       let none : may p (has from) y w.0 ≡ 0 = (let few = ltb-false 0 _ (sym (some_is w.0 lt) ∙ not-true _ parts.1) in omega (arith, few, may-is w.0)) in
       let there = has_place-here (free_beside p (y * p.size.w + w.0)) 0 long in
       let d = slice_index (free_beside p (y * p.size.w + w.0)) 0 in
@@ -235,31 +240,40 @@ module _ (p : Tents) (y : ℕ) (from : Layers) (room : ℕ) (trees free some bro
         left = λ e. absurd (true≢false (sym e));
         dies = λ _. (
           d,
-          rw size ((tree-is p lawful (place-in p.size.w p.size.h y w.0 y_in lt) here.1).within d there),
-          λ v low. trees-dead p lawful (has from) y y_in (value-in from) full w.0 d v lt here.1 none there low,
+          rw size ((tree-is p lawful (place-in p.size.w p.size.h y w.0 y_in lt) here.0).within d there),
+          λ v low. trees-dead p lawful (has from) y y_in (value-in from) full w.0 d v lt here.0 none there low,
         );
         alive = alive;
         further = further-none from;
       }
 
   filled : any_below (has_bit broken) room ≡ false → AreFilled p (has from) y p.size.w
-  filled off x lt is = elim (cases_Bool (has_bit free x)) [
-    | inr none ↦ inl (let few = ltb-false 0 _ (sym (free_is x lt) ∙ none) in omega (arith, few, free-long x))
+  filled off x lt is = elim (cases_Bool (ltb 0 (length (free_beside p (y * p.size.w + x))))) [
+    | inr none ↦ inl (let few = ltb-false 0 _ none in omega (arith, few))
     | inl on ↦
-        let own : has_bit trees x ≡ true = trees_is x ∙ rw (lt-ltb x p.size.w lt) is in
-        let sound : not (has_bit some x) ≡ false = rw (own, on) at (sym (broken_is x) ∙ any_below-none (has_bit broken) room off x (omega arith)) in
+        let own : has_bit wants x ≡ true = wants-at x lt ∙ rw (is, on) refl in
+        let sound : not (has_bit some x) ≡ false = rw own at (sym (broken_is x) ∙ any_below-none (has_bit broken) room off x (omega arith)) in
         inr (let more = ltb-true 0 _ (sym (some_is x lt) ∙ not-false _ sound) in omega (arith, more, may-is x))
   ]
+
+  -- a tree with one free cell that can have a tent wants one
+  lone-wants : (x : ℕ) → x < p.size.w → (has_bit wants x && eqb (may p (has from) y x) 1) ≡ lone p (has from) y x
+  lone-wants x lt = rw (wants-at x lt) (by (tree p (y * p.size.w + x)) (length (free_beside p (y * p.size.w + x))) (may p (has from) y x) (count_by-le-length _ (free_beside p (y * p.size.w + x))))
+    where
+      by : (t : Bool) (long may : ℕ) → may ≤ long → ((t && ltb 0 long) && eqb may 1) ≡ (t && eqb may 1)
+      by t zero zero le = grind (arith, common_steps, cases_Bool t)
+      by t zero (suc may) le = absurd (omega arith)
+      by t (suc long) may le = grind (arith, common_steps, cases_Bool t)
 
   -- the words of the trees that have one cell left, and what is taken beside them
   pub row-visited : (one ones : ℕ) {to : Layers} → any_below (has_bit broken) room ≡ false
       → ((x : ℕ) → x < p.size.w → has_bit one x ≡ eqb (count_by (λ c. not (tree p c) && has from c 1) (beside p.size (y * p.size.w + x))) 1)
-      → ((x : ℕ) → has_bit ones x ≡ (has_bit trees x && has_bit one x))
+      → ((x : ℕ) → has_bit ones x ≡ (has_bit wants x && has_bit one x))
       → has to ≡ without_zeros (λ c. (not (tree p c) && has from c 1) && is_beside p.size y (has_bit ones) p.size.w c) (has from)
       → IsFurther from to → AreVisited (trees_of_row p y) from to true
   unfolding is_beside
   row-visited one ones {to} off one_is ones_is left further =
-      let same : (x : ℕ) → x < p.size.w → has_bit ones x ≡ lone p (has from) y x = λ x lt. ones_is x ∙ rw (trees_is x, lt-ltb x p.size.w lt, one_is x lt, may-is x) refl in
+      let same : (x : ℕ) → x < p.size.w → has_bit ones x ≡ lone p (has from) y x = λ x lt. ones_is x ∙ rw (one_is x lt, sym (may-is x)) (lone-wants x lt) in
       let board : has to ≡ without_zeros (struck p (has from) y p.size.w) (has from) = left ∙ ap (λ (t : ℕ → Bool). without_zeros t (has from))
       (fun_ext λ c. ap (λ b. (not (tree p c) && has from c 1) && b)
       (any_below-same (λ x. has_bit ones x && has_place (beside p.size (y * p.size.w + x)) c) (λ x. lone p (has from) y x && has_place (beside p.size (y * p.size.w + x)) c) p.size.w

@@ -126,29 +126,29 @@ has-row : (p : Layers) (y x v : ℕ) → x < p.size.w → v < 2 → has p (y * p
 unfolding has
 has-row p y x v lt low = rw (div-mul-add y p.size.w x lt, place-column p.size.w y x lt, lt-ltb v 2 low) refl
 
-row-ones : (p : Layers) (w y x : ℕ) (here there is : Bool) → w ≡ p.size.w → (x < w → is ≡ bit_of p.rows y 1 x) → here ≡ (ltb x w && there) → (here && is) ≡ (ltb x w && (there && has p (y * w + x) 1))
-row-ones p w y x here there is e reads h = elim (cases_lt x w) [
-  | inl lt ↦ rw (h, e, has-row p y x 1 (rw e at lt) (omega arith), reads lt, lt-ltb x p.size.w (rw e at lt)) refl
-  | inr ge ↦ rw (h, le-ltb x w (omega arith)) refl
+pub row-ones : (p : Layers) (y word : ℕ) → ((x : ℕ) → has_bit word x ≡ bit_of p.rows y 1 x) → ((x : ℕ) → has_bit word x ≡ true → x < p.size.w) → IsRowOf p.size.w (λ c. has p c 1) y word
+row-ones p y word is within x = elim (cases_lt x p.size.w) [
+  | inl lt ↦ is x ∙ rw (lt-ltb x p.size.w lt) (sym (has-row p y x 1 lt (omega arith)))
+  | inr ge ↦ rw (le-ltb x p.size.w ge) (false_from_ne_true (has_bit word x) (λ on. let lt = within x on in absurd (omega arith)))
 ]
 
-pub near-ones : {W : Type 0} (bits : W → ℕ) (p : Layers) (passes : ℕ → Bool) (y above below : ℕ) (near ones : Near W)
-    → above ≡ y - 1 → (y + 1 < p.size.h → below ≡ y + 1)
-    → ((x : ℕ) → has_bit (bits ones.above) x ≡ (has_bit (bits near.above) x && bit_of p.rows above 1 x))
-    → ((x : ℕ) → has_bit (bits ones.own) x ≡ (has_bit (bits near.own) x && bit_of p.rows y 1 x))
-    → ((x : ℕ) → has_bit (bits ones.below) x ≡ (has_bit (bits near.below) x && bit_of p.rows below 1 x))
-    → IsNear bits p.size passes y near → IsNear bits p.size (λ c. passes c && has p c 1) y ones
-near-ones bits p passes y above below near ones e_above e_below a o b is = record {
-  above = λ x. a x ∙ row-ones p p.size.w (y - 1) x _ _ (bit_of p.rows above 1 x) refl (λ _. rw e_above refl) (is.above x) ∙ by (ltb x p.size.w) (ltb 0 y) _ _;
-  own = λ x. o x ∙ row-ones p p.size.w y x _ _ (bit_of p.rows y 1 x) refl (λ _. refl) (is.own x);
-  below = λ x. b x ∙ elim (cases_lt (y + 1) p.size.h) [
-    | inl lt ↦ row-ones p p.size.w (y + 1) x _ _ (bit_of p.rows below 1 x) refl (λ _. rw (e_below lt) refl) (is.below x) ∙ by (ltb x p.size.w) (ltb (y + 1) p.size.h) _ _
-    | inr ge ↦ rw (is.below x, le-ltb (y + 1) p.size.h (omega arith)) (grind (arith, common_steps, cases_Bool (ltb x p.size.w)))
+-- the words of a row and of those beside it, where there are such rows
+pub near-ones : {W : Type 0} (bits : W → ℕ) (p : Layers) (y : ℕ) (near : Near W)
+    → (0 < y → IsRowOf p.size.w (λ c. has p c 1) (y - 1) (bits near.above)) → (y ≡ 0 → (x : ℕ) → has_bit (bits near.above) x ≡ false)
+    → IsRowOf p.size.w (λ c. has p c 1) y (bits near.own)
+    → (y + 1 < p.size.h → IsRowOf p.size.w (λ c. has p c 1) (y + 1) (bits near.below)) → (p.size.h ≤ y + 1 → (x : ℕ) → has_bit (bits near.below) x ≡ false)
+    → IsNear bits p.size (λ c. has p c 1) y near
+near-ones bits p y near above top own below bottom = record {
+  above = λ x. elim (cases_lt 0 y) [
+    | inl pos ↦ above pos x ∙ rw (lt-ltb 0 y pos) refl
+    | inr le ↦ rw (le-ltb 0 y le) (top (omega arith) x ∙ grind (arith, common_steps, cases_Bool (ltb x p.size.w)))
+  ];
+  own = own;
+  below = λ x. elim (cases_lt (y + 1) p.size.h) [
+    | inl lt ↦ below lt x ∙ rw (lt-ltb (y + 1) p.size.h lt) refl
+    | inr ge ↦ rw (le-ltb (y + 1) p.size.h ge) (bottom ge x ∙ grind (arith, common_steps, cases_Bool (ltb x p.size.w)))
   ];
 }
-  where
-    by : (a b c d : Bool) → (a && ((b && c) && d)) ≡ (a && (b && (c && d)))
-    by a b c d = grind (arith, common_steps, cases_Bool a, cases_Bool b, cases_Bool c, cases_Bool d)
 
 -- ---- 0 taken from those of the cells that are beside some places of the row
 module _ {W : Type 0} (bits : W → ℕ) (room : ℕ) (size : Extent) (passes : ℕ → Bool) (y above below : ℕ) (near : Near W) (places over own under : ℕ)

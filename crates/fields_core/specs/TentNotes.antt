@@ -4,8 +4,7 @@ use Rattle.std.proofs.Common.{inl, inr}
 use Rattle.engine_core.specs.RuleSystem.{Needs}
 use Rattle.gameid_core.specs.Puzzles.{Tents, IsTents}
 use Rattle.fields_core.specs.AnyPlanes.{places_of}
-use Rattle.fields_core.specs.Tents.{tree}
-use Rattle.fields_core.specs.Trees.{AreRowsOf}
+use Rattle.fields_core.specs.Trees.{AreRowsOf, wants_tent}
 use Rattle.fields_core.specs.declared.planes.notes.TentNotes.{TentNotes}
 
 -- the trees of each row, as bits
@@ -17,7 +16,7 @@ trees_in (inr notes) = map (λ word. word) notes.trees.items
 abbrev pub HaveRoom : TentNotes ℕ ⊎ TentNotes ℕ → Needs → Type 0
 HaveRoom kept needs = places_of kept ≤ length (trees_in kept)
 
--- they are the trees of the puzzle
+-- they are the trees of the puzzle that want a tent
 pub record AreWritten (p : Tents) (kept : TentNotes ℕ ⊎ TentNotes ℕ) : Type 0 where
   pub lawful : IsTents p
-  pub trees : AreRowsOf p.size (tree p) (trees_in kept)
+  pub trees : AreRowsOf p.size (wants_tent p) (trees_in kept)

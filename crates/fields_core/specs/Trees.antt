@@ -1,5 +1,6 @@
 -- The trees of a row of Tents, and words of the cells beside them.
-use Rattle.std.specs.Prelude.{◌≡◌, ℕ, ◌+◌, ◌-◌, ◌*◌, ◌<◌, ◌≤◌, Bool, not, ◌&&◌, ◌==◌, nat_lt, List, length, slice_index}
+use Rattle.std.specs.Prelude.{◌≡◌, ℕ, ◌+◌, ◌-◌, ◌*◌, ◌<◌, ◌≤◌, Bool, true, false, not, ◌&&◌, ◌==◌, nat_lt, List, length, slice_index}
+use Rattle.std.specs.List.{list_any}
 use Rattle.grid_core.specs.Candidates.{Candidates, any_below}
 use Rattle.grid_core.specs.Extent.{Extent}
 use Rattle.grid_core.specs.Regions.{beside}
@@ -8,11 +9,20 @@ use Rattle.engine_core.specs.RuleSystem.{has_place}
 use Rattle.gameid_core.specs.Puzzles.{Tents}
 use Rattle.fields_core.specs.CountHouse.{CountHouse, houses_below}
 use Rattle.fields_core.specs.TentHouses.{tree_house}
+use Rattle.fields_core.specs.Tents.{tree}
 use Rattle.fields_core.specs.declared.planes.near.Near.{Near}
 
 -- the houses of the trees of a row
 abbrev pub trees_of_row : Tents → ℕ → List CountHouse
 trees_of_row p y = houses_below (λ x. tree_house p (y * p.size.w + x)) p.size.w
+
+-- the cell has a tree, and a cell without one is beside it
+unfoldable pub wants_tent : Tents → ℕ → Bool
+wants_tent p c = tree p c && list_any (λ d. not (tree p d)) (beside p.size c)
+
+-- no cell with a tree can have a tent
+abbrev pub AreBare : Tents → Candidates → Type 0
+AreBare p K = (c : ℕ) → tree p c ≡ true → K c 1 ≡ false
 
 -- the word has those cells of the row that pass
 abbrev pub IsRowOf : ℕ → (ℕ → Bool) → ℕ → ℕ → Type 0

@@ -6,8 +6,7 @@ use Rattle.gameid_core.specs.Puzzles.{Tents, IsTents}
 use Rattle.fields_core.specs.CountHouse.{CountHouse, after_house, houses_below}
 use Rattle.fields_core.specs.Parts.{IsAlive}
 use Rattle.fields_core.specs.TentHouses.{column_of_tents, row_of_tents}
-use Rattle.fields_core.specs.Tents.{tree}
-use Rattle.fields_core.specs.Trees.{AreRowsOf, trees_of_row}
+use Rattle.fields_core.specs.Trees.{AreBare, AreRowsOf, trees_of_row, wants_tent}
 use Rattle.fields_core.specs.Squares.{squares_of_row}
 
 -- the board after visits of the houses, one after another
@@ -24,13 +23,14 @@ pub record AreVisited (houses : List CountHouse) (from to : Layers) (fills : Boo
   pub alive : IsAlive to
   pub further : IsFurther from to
 
--- planes of the puzzle on words of so many places, in which each cell has a value, and the trees of each row
+-- planes of the puzzle on words of so many places, in which each cell has a value, and the trees of each row that want a tent
 pub record IsFieldOf (room : ℕ) (p : Tents) (planes : Layers) (words : List ℕ) : Type 0 where
   pub lawful : IsTents p
   pub narrow : p.size.w ≤ room
   pub low : p.size.h ≤ room
   pub size : planes.size ≡ p.size
-  pub trees : AreRowsOf p.size (tree p) words
+  pub trees : AreRowsOf p.size (wants_tent p) words
+  pub bare : AreBare p (has planes)
   pub alive : IsAlive planes
 
 -- the houses of the columns and of the rows, and those of the trees and of the squares

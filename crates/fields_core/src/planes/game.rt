@@ -2,7 +2,7 @@
 
 ghost use Rattle.std.specs.Prelude.{◌≡◌, ◌*◌, ◌≤◌, ◌⊎◌, IfOk, length, true};
 ghost use Rattle.std.proofs.Common.{inl, inr};
-ghost use Rattle.grid_core.specs.Candidates.{IsWithin};
+ghost use Rattle.grid_core.specs.Candidates.{IsInside, IsWithin};
 ghost use Rattle.grid_core.specs.Extent.{Extent, IsExtent};
 ghost use Rattle.grid_core.specs.Planes.{has, IsFurther};
 ghost use Rattle.engine_core.specs.RuleSystem.{Needs, needs_of, FitsIn};
@@ -95,6 +95,8 @@ pub trait PlaneGame: CountGame {
         requires alive { IsAlive (rules_of (Self.counts self.now))
             (has (layers_in planes.old)) }
         requires within { IsWithin ((Self.counts self.now).cells) 2 (has (layers_in planes.old)) }
+        requires inside { IsInside (has (layers_in planes.old))
+            (rules_of (Self.counts self.now)).start }
         requires closed_but { IsClosedBut (rules_of (Self.counts self.now))
             (has (layers_in planes.old)) from }
         ensures taken { IsTaken (rules_of (Self.counts self.now))

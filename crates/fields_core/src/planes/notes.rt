@@ -8,7 +8,7 @@ use crate::planes::waits::Waits;
 use grid_core::Word;
 use std::alloc::{AllocError, Global};
 
-/// The trees of each row, and what waits while a closing goes on.
+/// The trees of each row with a cell beside them that has none, and what waits while a closing goes on.
 #[derive(Drop)]
 pub struct TentNotes<W> {
     pub(crate) trees: Vec<W>,

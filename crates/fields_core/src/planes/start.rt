@@ -6,8 +6,7 @@ ghost use Rattle.grid_core.specs.Planes.{has};
 ghost use Rattle.grid_core.specs.Words.{has_bit};
 ghost use Rattle.gameid_core.specs.Puzzles.{IsTents};
 ghost use Rattle.fields_core.specs.TentHouses.{is_barred, tent_rules};
-ghost use Rattle.fields_core.specs.Tents.{tree};
-ghost use Rattle.fields_core.specs.Trees.{AreRowsOf};
+ghost use Rattle.fields_core.specs.Trees.{AreRowsOf, wants_tent};
 
 use crate::count::game::CountGame;
 use crate::planes::field::Field;
@@ -51,7 +50,7 @@ fn start_tents<W: Word>(planes: &mut Planes<W>, puzzle: &TentsPuzzle)
     }
 }
 
-/// Begins with that board, and writes the trees of each row. It takes no memory.
+/// Begins with that board, and writes the trees that want a tent. It takes no memory.
 pub(crate) fn start_field<W: Word>(field: &mut Field<W, TentNotes<W>>, puzzle: &TentsPuzzle)
     requires narrow { puzzle.now.size.w ≤ W.room }
     requires low { puzzle.now.size.h ≤ W.room }
@@ -61,7 +60,7 @@ pub(crate) fn start_field<W: Word>(field: &mut Field<W, TentNotes<W>>, puzzle: &
     ensures start { has field.new.planes ≡ (tent_rules puzzle.now).start }
     ensures size { field.new.planes.size ≡ puzzle.now.size }
     ensures room { length field.new.planes.takings ≡ length field.old.planes.takings }
-    ensures trees { AreRowsOf puzzle.now.size (tree puzzle.now)
+    ensures trees { AreRowsOf puzzle.now.size (wants_tent puzzle.now)
         (map W.bits field.new.notes.trees.items) }
     ensures rows { length field.new.notes.trees.items ≡ length field.old.notes.trees.items }
 {

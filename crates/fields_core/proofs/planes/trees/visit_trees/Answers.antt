@@ -1,57 +1,54 @@
-use Rattle.fields_core.proofs.Common.{Extent, Tents, and_parts, arith, has_bit, ltb-true, map, not, refl, subst, sym, tree, ◌&&◌, ◌∙◌, ◌≡◌, ◌≤◌}
-use Rattle.grid_core.specs.Planes.{ArePlanes, has}
-use Rattle.fields_core.specs.Trees.{AreRowsOf, IsNear, IsRowOf, is_beside, without_zeros}
+use Rattle.fields_core.proofs.Common.{Bool, Extent, Tents, and_parts, ap, arith, cases_Bool, common_steps, fun_ext, has_bit, ltb-true, map, not, refl, subst, sym, tree, ℕ, ◌&&◌, ◌∙◌, ◌≡◌, ◌≤◌}
+use Rattle.grid_core.specs.Planes.{has}
+use Rattle.fields_core.specs.Trees.{AreBare, AreRowsOf, IsNear, IsRowOf, is_beside, wants_tent, without_zeros}
 use Rattle.fields_core.proofs.TreeBoards.{row-dead, row-visited}
 use Rattle.fields_core.proofs.TreeWords.{row-read}
 use Rattle.fields_core.proofs.planes.trees.visit_trees.Goals as goal
 use Rattle.fields_core.proofs.planes.trees.visit_trees.Goals.{After-index-trees-from}
 
-module _ (g : _) (c : After-index-trees-from g) (p : Tents) (size : c.args.planes.now.size ≡ p.size) (rows : AreRowsOf p.size (tree p) (map g.W.Word.bits c.args.trees.now)) where
+module _ (g : _) (c : After-index-trees-from g) (p : Tents) (size : c.args.planes.now.size ≡ p.size)
+    (rows : AreRowsOf p.size (wants_tent p) (map g.W.Word.bits c.args.trees.now)) (bare : AreBare p (has c.args.planes.now)) where
   pub narrow : p.size.w ≤ g.W.Word.room
-  narrow =
-      let are : ArePlanes g.W.Word.room c.args.planes.now = c.size.ensures.lawful in
-      rw size at are.narrow
+  narrow = rw size at c.ones_near-ones.ensures.narrow
 
-  pub free : IsNear g.W.Word.bits p.size (λ d. not (tree p d)) c.args.y c.others_near-free.result
-  free = rw (c.size.ensures.value, size, c.from.ensures) at (c.others_near-free.ensures (tree p) (rw (c.size.ensures.value, size) rows))
+  -- the cells that can have a tent have no tree
+  same : ◌≡◌ {A = ℕ → Bool} (λ d. has c.args.planes.now d 1) (λ d. not (tree p d) && has c.args.planes.now d 1)
+  same = fun_ext λ d. grind (arith, common_steps, cases_Bool (tree p d), bare d)
 
-  -- the cells that can have a tent
   abbrev CanHave : Extent → Type 0
   CanHave s = IsNear g.W.Word.bits s (λ d. not (tree p d) && has c.args.planes.now d 1) c.args.y c.ones_near-ones.result
 
   pub ones-of : CanHave c.args.planes.now.size
-  ones-of = c.ones_near-ones.ensures (λ d. not (tree p d)) (rw size free)
+  ones-of = subst (λ (t : ℕ → Bool). IsNear g.W.Word.bits c.args.planes.now.size t c.args.y c.ones_near-ones.result) same c.ones_near-ones.ensures.ones
 
   pub ones : CanHave p.size
   ones = subst CanHave size ones-of
 
-  pub trees : IsRowOf p.size.w (tree p) c.args.y (g.W.Word.bits c.index-trees-from.result)
-  trees = rw (row-read g.W.Word.bits c.args.trees.now c.args.y c.index-trees-from.result (omega (arith, c.requires.y_in, c.requires.long)) (rw (c.from-2.ensures) at c.index-trees-from.is)) at (rows.each c.args.y (rw size at c.requires.y_in))
+  pub trees : IsRowOf p.size.w (wants_tent p) c.args.y (g.W.Word.bits c.index-trees-from.result)
+  trees = rw (row-read g.W.Word.bits c.args.trees.now c.args.y c.index-trees-from.result (omega (arith, c.requires.y_in, c.requires.long)) (rw (c.from.ensures) at c.index-trees-from.is)) at (rows.each c.args.y (rw size at c.requires.y_in))
 
 pub returns-then-is_some : goal.returns-then-is_some
-returns-then-is_some g c = λ p lawful size rows.
+returns-then-is_some g c = λ p lawful size rows bare.
     let w = (goal.at.returns-then-is_some g c).After-index-trees-from in
-    let fits = narrow g w p size rows in
-    row-dead p c.args.y c.args.planes.now g.W.Word.room _ _ _ _ lawful size (rw size at c.requires.y_in) c.requires.alive fits
-    (trees g w p size rows)
-    (λ x lt. c.some.ensures p.size _ c.args.y x fits lt (free g w p size rows))
-    (λ x lt. c.some-2.ensures p.size _ c.args.y x fits lt (ones g w p size rows))
-    (λ x. c.but.ensures x ∙ rw (c.both.ensures x) refl)
+    let fits = narrow g w p size rows bare in
+    row-dead p c.args.y c.args.planes.now g.W.Word.room _ _ _ lawful size (rw size at c.requires.y_in) c.requires.alive fits
+    (trees g w p size rows bare)
+    (λ x lt. c.some.ensures p.size _ c.args.y x fits lt (ones g w p size rows bare))
+    c.but.ensures
     (sym c.is_some.ensures ∙ c.if-is_some.true)
 
 pub returns : goal.returns
-returns g c = λ p lawful size rows.
+returns g c = λ p lawful size rows bare.
     let w = (goal.at.returns g c).After-index-trees-from in
-    let fits = narrow g w p size rows in
-    row-visited p c.args.y c.args.planes.now g.W.Word.room _ _ _ _ lawful size (rw size at c.requires.y_in) c.requires.alive fits
-    (trees g w p size rows)
-    (λ x lt. c.some.ensures p.size _ c.args.y x fits lt (free g w p size rows))
-    (λ x lt. c.some-2.ensures p.size _ c.args.y x fits lt (ones g w p size rows))
-    (λ x. c.but.ensures x ∙ rw (c.both.ensures x) refl)
+    let fits = narrow g w p size rows bare in
+    row-visited p c.args.y c.args.planes.now g.W.Word.room _ _ _ lawful size (rw size at c.requires.y_in) c.requires.alive fits
+    (trees g w p size rows bare)
+    (λ x lt. c.some.ensures p.size _ c.args.y x fits lt (ones g w p size rows bare))
+    c.but.ensures
     _ _ (sym c.is_some.ensures ∙ c.if-is_some.false)
-    (λ x lt. c.just_one.ensures p.size _ c.args.y x fits lt (ones g w p size rows))
-    c.both-2.ensures
-    (subst (λ (s : Extent). has c.take_beside.new.planes ≡ without_zeros (λ d. (not (tree p d) && has c.args.planes.now d 1) && is_beside s c.args.y (has_bit (g.W.Word.bits c.both-2.result)) s.w d) (has c.args.planes.now))
-    size (c.take_beside.ensures.left _ (ones-of g w p size rows) (λ x on.
-    rw size (ltb-true _ _ (and_parts _ _ (sym (trees g w p size rows x) ∙ (and_parts _ _ (sym (c.both-2.ensures x) ∙ on)).0)).0))))
+    (λ x lt. c.just_one.ensures p.size _ c.args.y x fits lt (ones g w p size rows bare))
+    c.both.ensures
+    (subst (λ (s : Extent). has c.take_beside.new.planes ≡ without_zeros (λ d. (not (tree p d) && has c.args.planes.now d 1) && is_beside s c.args.y (has_bit (g.W.Word.bits c.both.result)) s.w d) (has c.args.planes.now))
+    size (c.take_beside.ensures.left _ (ones-of g w p size rows bare) (λ x on.
+    rw size (ltb-true _ _ (and_parts _ _ (sym (trees g w p size rows bare x) ∙ (and_parts _ _ (sym (c.both.ensures x) ∙ on)).0)).0))))
     c.take_beside.ensures.further
