@@ -7,7 +7,7 @@ use Rattle.grid_core.specs.Words.{differ}
 use Rattle.grid_core.specs.declared.planes.line.Line.TheVariants.{Row}
 use Rattle.std.proofs.lemmas.List.{map-set}
 use Rattle.fields_core.specs.Trees.{IsNear, IsRowOf, is_beside, without_zeros}
-use Rattle.fields_core.specs.declared.planes.near.Near.{Near}
+use Rattle.fields_core.specs.declared.planes.trees.Near.{Near}
 use Rattle.fields_core.proofs.CellLemmas.{has-append, same-truth}
 use Rattle.fields_core.proofs.PlaceLists.{num}
 

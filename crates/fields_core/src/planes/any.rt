@@ -11,10 +11,9 @@ ghost use Rattle.engine_core.specs.RuleSystem.{needs_of, FitsIn};
 ghost use Rattle.fields_core.specs.CountHouse.{rules_of};
 ghost use Rattle.fields_core.specs.PlanePosition.{IsSpare};
 
-use crate::planes::field::Field;
 use crate::planes::game::PlaneGame;
 use engine_core::Needs;
-use grid_core::{Grid, Planes, Size};
+use grid_core::{Grid, Planes, Size, Word};
 use std::alloc::{AllocError, Global};
 use std::mem::swap;
 
@@ -231,4 +230,11 @@ impl<S, L> AnyPlanes<S, L> {
             AnyPlanes::Long(field) => field.planes.write_grid(grid),
         }
     }
+}
+
+/// Planes, and what the game keeps beside them.
+#[derive(Drop)]
+pub struct Field<W: Word, N> {
+    pub(crate) planes: Planes<W>,
+    pub(crate) notes: N,
 }

@@ -5,8 +5,7 @@ ghost use Rattle.std.specs.Prelude.{◌≤◌, refl};
 
 use crate::planes::any::AnyPlanes;
 use crate::planes::game::PlaneGame;
-use crate::planes::notes::TentNotes;
-use crate::planes::start::start_field;
+use crate::planes::notes::{TentNotes, start_field};
 use engine_core::{Needs, Taken};
 use gameid_core::TentsPuzzle;
 use grid_core::Size;

@@ -3,7 +3,7 @@ use Rattle.grid_core.specs.Planes.{has}
 use Rattle.fields_core.proofs.RuleLemmas.{IsStarted}
 use Rattle.fields_core.specs.TentHouses.{is_barred}
 use Rattle.fields_core.specs.Tents.{tent_cells}
-use Rattle.fields_core.proofs.planes.start.start_tents.Given as goal
+use Rattle.fields_core.proofs.planes.notes.start_tents.Given as goal
 
 abbrev pub invariant-loop-y : goal.invariant-loop-y
 invariant-loop-y g l = record {

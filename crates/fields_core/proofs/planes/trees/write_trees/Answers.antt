@@ -1,7 +1,7 @@
 use Rattle.fields_core.proofs.Common.{arith, length, length-set, ◌<◌, ◌∙◌, ◌≡◌}
 use Rattle.fields_core.specs.Trees.{wants_tent}
 use Rattle.fields_core.proofs.TreeWords.{rows-more}
-use Rattle.fields_core.proofs.planes.rows.write_trees.Goals as goal
+use Rattle.fields_core.proofs.planes.trees.write_trees.Goals as goal
 
 pub loop-y-preserved : goal.loop-y-preserved
 loop-y-preserved g c =

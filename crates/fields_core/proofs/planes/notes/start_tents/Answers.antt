@@ -2,7 +2,7 @@ use Rattle.std.proofs.Common.{◌≡◌, ◌∙◌, ◌*◌, ap, arith}
 use Rattle.grid_core.specs.Extent.{Extent}
 use Rattle.grid_core.specs.Planes.{has}
 use Rattle.fields_core.proofs.RuleLemmas.{start-all, row-blocked}
-use Rattle.fields_core.proofs.planes.start.start_tents.Goals as goal
+use Rattle.fields_core.proofs.planes.notes.start_tents.Goals as goal
 
 pub loop-y-preserved : goal.loop-y-preserved
 loop-y-preserved g c =

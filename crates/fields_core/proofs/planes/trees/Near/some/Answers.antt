@@ -1,6 +1,6 @@
 use Rattle.fields_core.proofs.Common.{◌∙◌}
 use Rattle.fields_core.proofs.TreeWords.{some-beside}
-use Rattle.fields_core.proofs.planes.near.Near.some.Goals as goal
+use Rattle.fields_core.proofs.planes.trees.Near.some.Goals as goal
 
 pub returns : goal.returns
 returns g c = λ size passes y x narrow lt is.

@@ -1,6 +1,6 @@
 use Rattle.fields_core.proofs.Common.{length, map, slice_index, ℕ, ◌<◌, ◌≡◌}
 use Rattle.fields_core.specs.Trees.{IsRowOf, wants_tent}
-use Rattle.fields_core.proofs.planes.rows.write_trees.Given as goal
+use Rattle.fields_core.proofs.planes.trees.write_trees.Given as goal
 
 abbrev pub invariant-loop-y : goal.invariant-loop-y
 invariant-loop-y g l = record {

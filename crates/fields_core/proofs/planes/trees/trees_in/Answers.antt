@@ -2,8 +2,8 @@ use Rattle.std.proofs.Common.{arith, ◌≡◌, ◌∙◌, ◌+◌, ◌*◌, ◌
 use Rattle.grid_core.specs.Candidates.{max_cells}
 use Rattle.grid_core.proofs.LineLemmas.{few_cells}
 use Rattle.grid_core.proofs.PlaneLemmas.{place-in}
-use Rattle.fields_core.proofs.planes.start.barred_in.Goals as goal
-use Rattle.fields_core.proofs.planes.start.barred_in.Goals.{In-loop-x}
+use Rattle.fields_core.proofs.planes.trees.trees_in.Goals as goal
+use Rattle.fields_core.proofs.planes.trees.trees_in.Goals.{In-loop-x}
 
 -- the cell is one of the grid's
 here : (g : _) (c : In-loop-x g) → c.args.y * c.from-w.result + c.loop-x.x < max_cells
