@@ -7,9 +7,10 @@ use crate::planes::any::AnyPlanes;
 use crate::planes::game::PlaneGame;
 use crate::planes::notes::TentNotes;
 use crate::planes::start::start_field;
+use crate::tents::pairs::{PairingScratch, are_paired};
 use engine_core::{Needs, Taken};
 use gameid_core::TentsPuzzle;
-use grid_core::Size;
+use grid_core::{Grid, Size};
 use std::alloc::{AllocError, Global};
 
 /// Planes of Tents.
@@ -58,6 +59,10 @@ impl PlaneGame for TentsPuzzle {
             AnyPlanes::Short(field) => field.notes.close(&mut field.planes, self, from),
             AnyPlanes::Long(field) => field.notes.close(&mut field.planes, self, from),
         }
+    }
+
+    fn completes(&self, scratch: &mut PairingScratch, grid: &Grid) -> bool {
+        are_paired(self, grid, scratch)
     }
 
     ghost cells_are = { λ _. refl };
