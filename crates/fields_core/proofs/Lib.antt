@@ -30,6 +30,7 @@ pub mod TentNext
 pub mod TentPairLemmas
 pub mod TentRuleLemmas
 pub mod PositionSteps
+pub mod ClosedGrids
 pub mod VisitLemmas
 pub mod AtMostLemmas
 pub mod CellLemmas
@@ -58,5 +59,7 @@ mod LightNotes
 pub mod PartIdle
 pub mod PlaneSweeps
 pub mod LightBoards
+pub mod LightCompleting
+pub mod TentCompleting
 mod LightRests
 mod LightSweeps

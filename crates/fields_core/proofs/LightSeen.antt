@@ -75,7 +75,7 @@ column-sees p g c {w} {h} b some e f s = by b s
 swapped : (c d : ℕ) → d ≢ c → not (eqb c d) ≡ true
 swapped c d off = ap not (ne_eqb c d (λ e. off (sym e)))
 
-seen-there : (p : Light) (g : List ℕ) (c d : ℕ) → d < light_cells p → d ≢ c
+pub seen-there : (p : Light) (g : List ℕ) (c d : ℕ) → d < light_cells p → d ≢ c
     → (joined_in_row p c d || joined_in_column p c d) ≡ true → bulb g d ≡ true
     → sees_bulb p g c ≡ true
 unfolding sees_bulb sees

@@ -1,5 +1,5 @@
 -- Lists of different places, and how many of them pass a test.
-use Rattle.fields_core.proofs.Common.{AreDistinct, Bool, List, [], ap, arith, bulb, cases_Bool, cases_eq, cases_lt, common_steps, cond, count_by, count_by-le-length, different-from, distinct-filter, eqb, eqb-false, false, false≢true, filter, has_place, has_place-here, inl, inr, length, length-filter, list_any, lt-ltb, ltb, ltb-false, ltb-true, map, ne_eqb, nonzeros, or_parts, place-filter, refl, slice_index, sum_by-cons, sym, true, ℕ, ◌+◌, ◌<◌, ◌||◌, ◌∙◌, ◌∷◌, ◌≡◌, ◌≤◌}
+use Rattle.fields_core.proofs.Common.{AreDistinct, Bool, List, [], ap, arith, bulb, cases_Bool, cases_eq, cases_lt, common_steps, cond, count_by, count_by-le-length, different-from, distinct-filter, eqb, eqb-false, false, false≢true, filter, has_place, has_place-at, has_place-here, inl, inr, length, length-filter, list_any, lt-ltb, ltb, ltb-false, ltb-true, map, ne_eqb, nonzeros, or_parts, place-filter, place-kept, refl, slice_index, sum_by-cons, sym, true, ℕ, ◌+◌, ◌<◌, ◌||◌, ◌∙◌, ◌∷◌, ◌≡◌, ◌≤◌}
 use Rattle.fields_core.proofs.BelowLemmas.{any-here, any-none}
 
 pub filter-few : (test : ℕ → Bool) (xs : List ℕ) → length (filter test xs) ≤ length xs
@@ -44,6 +44,18 @@ count-one test xs distinct same = elim (cases_lt 1 (length (filter test xs))) [
       absurd (omega arith)
   | inr few ↦ omega (arith, length-filter test xs)
 ]
+
+-- two pass where two different ones do
+pub count-two : (test : ℕ → Bool) (xs : List ℕ) (d e : ℕ) → has_place xs d ≡ true → has_place xs e ≡ true → test d ≡ true → test e ≡ true
+    → (d ≡ e → ⊥) → 2 ≤ count_by test xs
+count-two test xs d e md me on_d on_e apart =
+    let j = has_place-at _ d (place-kept test xs d md on_d) in
+    let k = has_place-at _ e (place-kept test xs e me on_e) in
+    let other = λ (same : j.0 ≡ k.0). apart (sym j.2 ∙ ap (slice_index (filter test xs)) same ∙ k.2) in
+    elim (cases_eq j.0 k.0) [
+      | inl same ↦ absurd (other same)
+      | inr ne ↦ omega (arith, ne, j.1, k.1, length-filter test xs)
+    ]
 
 -- a filter that leaves all that passes leaves the count
 pub count-filter : (test keeps : ℕ → Bool) (xs : List ℕ) → ((d : ℕ) → test d ≡ true → keeps d ≡ true) → count_by test (filter keeps xs) ≡ count_by test xs

@@ -39,7 +39,11 @@ step-walks s p' kept walks further alive words is = record {
   cells = ap (λ (e : Extent). e.w * e.h) further.same_size ∙ walks.cells;
   suited = rw words walks.suited;
   own = is;
-  board = record { alive = alive; within = λ c v on. walks.board.within c v (further.inside c v on) };
+  board = record {
+    alive = alive;
+    within = λ c v on. walks.board.within c v (further.inside c v on);
+    inside = λ c v on. walks.board.inside c v (further.inside c v on);
+  };
   few = walks.few;
   marked = record { within = λ k lt. let le = walks.marked.within k lt in let g = further.grows in omega arith; ascend = walks.marked.ascend };
   backs = λ level lt. rw (further.back (mark_at s.marks level) (walks.marked.within level lt)) (walks.backs level lt);
@@ -131,7 +135,7 @@ module _ (cells : ℕ) (blocked : ℕ → Bool) (houses : List CountHouse) (solv
     cells = ap (λ (e : Extent). e.w * e.h) same ∙ few;
     suited = suited;
     own = is;
-    board = rw start (record { alive = is_dead-each cells 2 _ (λ c lt. count_below-pos _ 2 0 (omega arith) (free c lt)); within = laws.start_within });
+    board = rw start (record { alive = is_dead-each cells 2 _ (λ c lt. count_below-pos _ 2 0 (omega arith) (free c lt)); within = laws.start_within; inside = λ c v on. on });
     few = omega arith;
     marked = record { within = λ k lt. absurd (omega arith); ascend = λ j k le lt. absurd (omega arith) };
     backs = λ k lt. absurd (omega arith);

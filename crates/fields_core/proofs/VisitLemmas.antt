@@ -10,7 +10,7 @@ use Rattle.grid_core.proofs.PlaneLemmas.{further-more, further-none}
 use Rattle.engine_core.specs.RuleSystem.{after}
 use Rattle.engine_core.specs.Closing.{replay}
 use Rattle.engine_core.specs.PlaceLaws.{has_place-here}
-use Rattle.fields_core.specs.CountHouse.{CountHouse, no_count_house, houses_below, after_house, count_house_of, count_puzzle, AreHouses, IsHouse}
+use Rattle.fields_core.specs.CountHouse.{CountHouse, no_count_house, houses_below, after_house, count_house_of, count_puzzle, meets, AreHouses, AreMet, CountPuzzle, IsHouse}
 use Rattle.fields_core.specs.Parts.{IsAlive, IsBroken}
 use Rattle.fields_core.specs.Visits.{after_houses, AreVisited}
 
@@ -206,3 +206,7 @@ among-below house f n m lt among =
 pub among-house : (house : CountHouse) (houses : List CountHouse) (cells : ℕ) → AreHouses cells houses
     → IsAmong house houses → IsHouse cells house
 among-house house houses cells are among = subst (IsHouse cells) among.is (are among.number among.within)
+
+pub among-met : {p : CountPuzzle} {g : List ℕ} (house : CountHouse) → AreMet p g → IsAmong house p.houses → 0 < length house.places → meets house g ≡ true
+among-met {p} {g} house met among =
+    subst (λ (h : CountHouse). 0 < length h.places → meets h g ≡ true) among.is (met.meets_each among.number among.within)

@@ -99,5 +99,11 @@ pub record IsCounting (cells : ℕ) (blocked : ℕ → Bool) (houses : List Coun
   pub meets_each : (g : List ℕ) → IsGrid cells 2 g → is_solution g ≡ true
       → (h : ℕ) → h < length houses → meets (count_house_of houses h) g ≡ true
 
+-- the grid leaves blocked cells at 0 and meets each house that has a cell
+pub record AreMet (p : CountPuzzle) (g : List ℕ) : Type 0 where
+  pub blocked_zero : (c : ℕ) → c < p.cells → p.blocked c ≡ true → slice_index g c ≡ 0
+  pub meets_each : (h : ℕ) → h < length p.houses → 0 < length (count_house_of p.houses h).places
+      → meets (count_house_of p.houses h) g ≡ true
+
 abbrev pub IsCounted : CountPuzzle → Type 0
 IsCounted p = IsCounting p.cells p.blocked p.houses p.is_solution

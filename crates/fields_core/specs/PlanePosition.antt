@@ -1,6 +1,6 @@
 -- Planes with their trail as a position. No public contract uses these words.
 use Rattle.std.specs.Prelude.{◌≡◌, ℕ, Option, Some, None, ◌*◌, ◌<◌, ◌≤◌, ◌⊎◌, List, length}
-use Rattle.grid_core.specs.Candidates.{Candidates, IsWithin}
+use Rattle.grid_core.specs.Candidates.{Candidates, IsInside, IsWithin}
 use Rattle.grid_core.specs.Extent.{Extent}
 use Rattle.grid_core.specs.Planes.{Layers, has, cells_of, back_at}
 use Rattle.engine_core.specs.RuleSystem.{RuleSystem, Needs, needs_of, FitsIn}
@@ -38,10 +38,11 @@ standing_by p marks live =
 abbrev pub standing_of : {S L : Type 0} → PlacedPlanes S L → Standing
 standing_of s = standing_by s.planes s.marks s.marked
 
--- a board of the puzzle that has a value in each cell
+-- a board of the puzzle, inside the one that a search starts from, that has a value in each cell
 pub record IsBoard (p : RuleSystem) (K : Candidates) : Type 0 where
   pub alive : IsAlive p K
   pub within : IsWithin p.cells p.values K
+  pub inside : IsInside K p.start
 
 -- a walk is under way, on planes of that size, and what is kept is the puzzle's own
 pub record IsUnderWay {S L : Type 0} (p : RuleSystem) (size : Extent) (is_own : S ⊎ L → Type 0)

@@ -1,8 +1,9 @@
 //! The check of a grid of Light Up.
 #![tactic(auto, using(crate::proofs::LawSets::light_check_laws))]
 
-ghost use Rattle.std.specs.Prelude.{◌≡◌, ◌<◌, ◌↔◌, None};
+ghost use Rattle.std.specs.Prelude.{◌≡◌, ◌<◌, ◌↔◌, not, None};
 ghost use Rattle.grid_core.specs.Grids.{IsGrid};
+ghost use Rattle.engine_core.specs.RuleSystem.{IsNext};
 ghost use Rattle.gameid_core.specs.Puzzles.{IsLight};
 ghost use Rattle.fields_core.specs.Light.{light_cells, black_right, number_right, bulb_right, lit_right};
 ghost use Rattle.fields_core.specs.LightFaults.{IsLightFault};
@@ -39,6 +40,21 @@ fn is_number_right(puzzle: &LightPuzzle, grid: &Grid, place: usize) -> bool
     }
 }
 
+/// The first cell with a number that is not that of the bulbs beside it.
+pub(crate) fn find_wrong_number(puzzle: &LightPuzzle, grid: &Grid) -> Option<usize>
+    requires { IsGrid (light_cells puzzle.now) 2 grid.now }
+    ensures wrong { IsNext (λ c. not (number_right puzzle.now grid.now c))
+        (light_cells puzzle.now) 0 result }
+    ensures lawful { IsLight puzzle.now }
+{
+    for place in 0..cells(puzzle) {
+        if !is_number_right(puzzle, grid, place) {
+            return Some(place);
+        }
+    }
+    None
+}
+
 /// Whether the cell's bulb, if it has one, sees no other.
 #[tactic(auto, using(crate::proofs::LawSets::light_check_laws), unfolding(crate::specs::Light::bulb_right))]
 fn is_bulb_right(puzzle: &LightPuzzle, grid: &Grid, place: usize) -> bool
@@ -69,10 +85,8 @@ pub(crate) fn find_fault(puzzle: &LightPuzzle, grid: &Grid) -> Option<LightFault
             return Some(LightFault::Black(place));
         }
     }
-    for place in 0..cells(puzzle) {
-        if !is_number_right(puzzle, grid, place) {
-            return Some(LightFault::Number(place));
-        }
+    if let Some(place) = find_wrong_number(puzzle, grid) {
+        return Some(LightFault::Number(place));
     }
     for place in 0..cells(puzzle) {
         if !is_bulb_right(puzzle, grid, place) {

@@ -3,12 +3,13 @@
 
 ghost use Rattle.std.specs.Prelude.{◌≤◌, refl};
 
+use crate::light_up::check::find_wrong_number;
 use crate::planes::any::AnyPlanes;
 use crate::planes::game::PlaneGame;
 use crate::planes::lights::notes::LightNotes;
 use engine_core::{Needs, Taken};
 use gameid_core::LightPuzzle;
-use grid_core::Size;
+use grid_core::{Grid, Size};
 use std::alloc::{AllocError, Global};
 
 /// Planes of Light Up.
@@ -57,6 +58,10 @@ impl PlaneGame for LightPuzzle {
             AnyPlanes::Short(field) => field.notes.close(&mut field.planes, self, from),
             AnyPlanes::Long(field) => field.notes.close(&mut field.planes, self, from),
         }
+    }
+
+    fn completes(&self, _scratch: &mut (), grid: &Grid) -> bool {
+        find_wrong_number(self, grid).is_none()
     }
 
     ghost cells_are = { λ _. refl };

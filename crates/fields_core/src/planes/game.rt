@@ -1,9 +1,10 @@
 //! What only a game knows of the planes that its search stands on.
 
-ghost use Rattle.std.specs.Prelude.{◌≡◌, ◌*◌, ◌≤◌, ◌⊎◌, IfOk, length, true};
+ghost use Rattle.std.specs.Prelude.{◌≡◌, ℕ, ◌*◌, ◌≤◌, ◌⊎◌, IfOk, length, true};
 ghost use Rattle.std.proofs.Common.{inl, inr};
 ghost use Rattle.grid_core.specs.Candidates.{IsInside, IsWithin};
 ghost use Rattle.grid_core.specs.Extent.{Extent, IsExtent};
+ghost use Rattle.grid_core.specs.Grids.{IsGrid};
 ghost use Rattle.grid_core.specs.Planes.{has, IsFurther};
 ghost use Rattle.engine_core.specs.RuleSystem.{Needs, needs_of, FitsIn};
 ghost use Rattle.engine_core.specs.Needs.{needs_in};
@@ -12,13 +13,13 @@ ghost use Rattle.engine_core.specs.Counts.{IsClosedIn};
 ghost use Rattle.engine_core.specs.Position.{IsTaken};
 ghost use Rattle.engine_core.specs.Queue.{IsClosedBut};
 ghost use Rattle.engine_core.specs.Trail.{StillServes};
-ghost use Rattle.fields_core.specs.CountHouse.{rules_of};
+ghost use Rattle.fields_core.specs.CountHouse.{rules_of, AreMet};
 ghost use Rattle.fields_core.specs.AnyPlanes.{kept_in, layers_in, places_of, IsSuited};
 
 use crate::count::game::CountGame;
 use crate::planes::any::AnyPlanes;
 use engine_core::{Needs, Taken};
-use grid_core::Size;
+use grid_core::{Grid, Size};
 use std::alloc::{AllocError, Global};
 
 /// A puzzle of count houses that is closed on planes. Beside them it keeps what it has written of itself, and what waits.
@@ -109,6 +110,14 @@ pub trait PlaneGame: CountGame {
         ensures written { written self.now (kept_in planes.new) }
         ensures words { places_of (kept_in planes.new) ≡ places_of (kept_in planes.old) }
         ensures keeps { StillServes fits (kept_in planes.old) (kept_in planes.new) };
+
+    /// Whether the grid is a solution, where blocked cells hold 0 and each house with a cell is met.
+    fn completes(&self, scratch: &mut Self::Scratch, grid: &Grid) -> bool
+        requires fits { IsGrid ((Self.counts self.now).cells) 2 grid.now }
+        requires served { Self.serves scratch.old ((Self.counts self.now).cells) }
+        requires met { AreMet (Self.counts self.now) grid.now }
+        ensures solution { result ≡ (Self.counts self.now).is_solution grid.now }
+        ensures keeps { (n : ℕ) → Self.serves scratch.old n → Self.serves scratch.new n };
 
     /// The grid has the cells of the board.
     ghost cells_are: { (p : Self) → (extent p).w * (extent p).h ≡ (Self.counts p).cells };

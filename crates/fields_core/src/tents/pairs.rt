@@ -5,6 +5,7 @@ ghost use Rattle.std.specs.Prelude.{◌≡◌, ℕ, ◌<◌, ◌≤◌, IfOk, ta
 ghost use Rattle.std.specs.List.{range_with_len};
 ghost use Rattle.grid_core.specs.Grids.{IsGrid};
 ghost use Rattle.engine_core.specs.RuleSystem.{IsNext};
+ghost use Rattle.gameid_core.specs.Puzzles.{IsTents};
 ghost use Rattle.fields_core.specs.Tents.{tent_cells, tent, can_be_paired};
 ghost use Rattle.fields_core.specs.TentPairs.{tree_beside, tree_count, may_pair, AreNumbered, AreIn};
 ghost use Rattle.fields_core.specs.PairingScratches.{HasRoom};
@@ -112,6 +113,7 @@ fn list_tents(puzzle: &TentsPuzzle, grid: &Grid, tents: &mut [usize]) -> usize
 fn number_trees(puzzle: &TentsPuzzle, numbers: &mut [usize]) -> usize
     requires { tent_cells puzzle.now ≤ length numbers.old }
     ensures count { result ≡ tree_count puzzle.now }
+    ensures lawful { IsTents puzzle.now }
     ensures numbered { AreNumbered puzzle.now numbers.new }
     ensures as_long { length numbers.new ≡ length numbers.old }
     ensures few { result ≤ tent_cells puzzle.now }
@@ -140,6 +142,7 @@ fn pair(
     requires tents_room { tent_cells puzzle.now ≤ length tents.old }
     requires numbers_room { tent_cells puzzle.now ≤ length numbers.old }
     ensures paired { result ≡ can_be_paired puzzle.now grid.now }
+    ensures lawful { IsTents puzzle.now }
     ensures room { pairing.new.room ≡ pairing.old.room }
     ensures tents_room { length tents.new ≡ length tents.old }
     ensures numbers_room { length numbers.new ≡ length numbers.old }
@@ -166,6 +169,7 @@ pub(crate) fn are_paired(puzzle: &TentsPuzzle, grid: &Grid, scratch: &mut Pairin
     requires fits { IsGrid (tent_cells puzzle.now) 2 grid.now }
     requires room { HasRoom scratch.old (tent_cells puzzle.now) }
     ensures paired { result ≡ can_be_paired puzzle.now grid.now }
+    ensures lawful { IsTents puzzle.now }
     ensures room { (n : ℕ) → HasRoom scratch.old n → HasRoom scratch.new n }
 {
     pair(

@@ -8,7 +8,7 @@ use crate::planes::game::PlaneGame;
 use crate::planes::notes::{TentNotes, start_field};
 use engine_core::{Needs, Taken};
 use gameid_core::TentsPuzzle;
-use grid_core::Size;
+use grid_core::{Grid, Size};
 use std::alloc::{AllocError, Global};
 
 /// Planes of Tents.
@@ -57,6 +57,10 @@ impl PlaneGame for TentsPuzzle {
             AnyPlanes::Short(field) => field.notes.close(&mut field.planes, self, from),
             AnyPlanes::Long(field) => field.notes.close(&mut field.planes, self, from),
         }
+    }
+
+    fn completes(&self, scratch: &mut PairingScratch, grid: &Grid) -> bool {
+        are_paired(self, grid, scratch)
     }
 
     ghost cells_are = { λ _. refl };

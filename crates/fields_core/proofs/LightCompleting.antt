@@ -1,0 +1,120 @@
+-- A grid of Light Up that meets each house with a cell is a solution exactly if its numbers are right.
+use Rattle.fields_core.proofs.Common.{Bool, CountHouse, IsGrid, IsLight, IsNext, Light, List, None, Option, Some, all_below-at, all_below-from, and_parts, any_below-some, ap, arith, begins_column_run, begins_row_run, black_right, bulb, bulb_right, cases_Bool, cases_eq, column_house, column_run, eq-eqb, eqb, eqb-true, false_from_ne_true, has_place, has_place-at, houses_below, inl, inr, is_some, leb-true, length, light_cells, map, nonzeros, light_houses, lit_house, lit_right, meets, not, not-false, not-true, number_house, number_right, one_at_least, one_at_most, or_cases, or_left, or_right, place-append, place-filter, place-front, row_house, row_run, seen_from, sees, sees_bulb, slice_index, solves_lights, sym, true, true≢false, white, ℕ, ◌<◌, ◌||◌, ◌∙◌, ◌≡◌, lt-ltb}
+use Rattle.fields_core.specs.CountHouse.{AreMet}
+use Rattle.fields_core.specs.LightHouses.{light_counts}
+use Rattle.fields_core.proofs.BelowLemmas.{any-some}
+use Rattle.fields_core.proofs.PlaceLists.{count-two, ones-bulbs, some-counted}
+use Rattle.fields_core.proofs.LightFaultLemmas.{lit-from, lit-parts, numbers-right}
+use Rattle.fields_core.proofs.VisitLemmas.{among-back, among-below, among-front, among-met, among-one}
+use Rattle.fields_core.proofs.LightSight.{bulb-in}
+use Rattle.fields_core.proofs.LightSeen.{seen-there}
+use Rattle.fields_core.proofs.LightCounting.{IsBoard, light-board, in-row-run, in-column-run, row-run-joined, column-run-joined}
+use Rattle.fields_core.proofs.LightHouseLaws.{row-self, column-self, small-at, white-in}
+use Rattle.fields_core.proofs.RunBegins.{row-begin, column-begin}
+
+module _ (p : Light) (g : List ℕ) (is : IsLight p) (grid : IsGrid (light_cells p) 2 g) (met : AreMet (light_counts p) g) where
+  board : IsBoard p
+  board = light-board is
+
+  -- the house is met, if it has a cell
+  abbrev Meets : CountHouse → Type 0
+  Meets house = 0 < length house.places → meets house g ≡ true
+
+  bulb-white : (c : ℕ) → c < light_cells p → bulb g c ≡ true → white p c ≡ true
+  bulb-white c lt on = elim (cases_Bool (white p c)) [
+    | inl is ↦ is
+    | inr off ↦ let a = met.blocked_zero c lt (ap not off) in let b = eqb-true (slice_index g c) 1 on in absurd (omega arith)
+  ]
+
+  -- ---- runs
+  row-met : (c : ℕ) → white p c ≡ true → Meets (one_at_most (row_run p c))
+  unfolding begins_row_run light_houses
+  row-met c on =
+      let b = row-begin p c board.some on in
+      let lt = white-in p b.0 board.long (and_parts _ _ b.1).0 in
+      rw b.2 at (among-met (one_at_most (row_run p b.0)) met (among-back _ (houses_below (number_house p) (light_cells p)) _
+      (among-front _ (houses_below (row_house p) (light_cells p)) _
+      (among-below _ (row_house p) b.0 (light_cells p) lt (rw b.1 (among-one _))))))
+
+  column-met : (c : ℕ) → white p c ≡ true → Meets (one_at_most (column_run p c))
+  unfolding begins_column_run light_houses
+  column-met c on =
+      let b = column-begin p c board.some on in
+      let lt = white-in p b.0 board.long (and_parts _ _ b.1).0 in
+      rw b.2 at (among-met (one_at_most (column_run p b.0)) met (among-back _ (houses_below (number_house p) (light_cells p)) _
+      (among-back _ (houses_below (row_house p) (light_cells p)) _ (among-front _ (houses_below (column_house p) (light_cells p)) _
+      (among-below _ (column_house p) b.0 (light_cells p) lt (rw b.1 (among-one _)))))))
+
+  -- two bulbs do not stand in one run
+  run-apart : (run : List ℕ) (c d : ℕ) → Meets (one_at_most run) → has_place run c ≡ true → has_place run d ≡ true → bulb g c ≡ true → bulb g d ≡ true
+      → (c ≡ d → ⊥) → ⊥
+  unfolding meets
+  run-apart run c d is_met mc md bc bd apart =
+      let some = has_place-at run c mc in
+      let counts = and_parts _ _ (is_met (omega (arith, some.1))) in
+      let few = leb-true (nonzeros (map (slice_index g) run)) 1 counts.1 in
+      omega (arith, few, ones-bulbs g run (small-at grid), count-two (bulb g) run c d mc md bc bd apart)
+
+  bulbs-right : (c : ℕ) → c < light_cells p → bulb_right p g c ≡ true
+  unfolding bulb_right sees_bulb sees
+  bulbs-right c lt = ap not (false_from_ne_true _ (λ both.
+      let on = and_parts _ _ both in
+      let w = any_below-some _ _ on.1 in
+      let seen = and_parts _ _ w.2 in
+      let parts = and_parts _ _ seen.0 in
+      let is_white = bulb-white c lt on.0 in
+      let apart = λ (e : c ≡ w.0). true≢false (sym (eq-eqb c w.0 e) ∙ not-true (eqb c w.0) parts.0) in
+      elim (or_cases _ _ parts.1) [
+        | inl row ↦ run-apart (row_run p c) c w.0 (row-met c is_white) (in-row-run p c c board.some (row-self p c is_white))
+            (in-row-run p c w.0 board.some row) on.0 seen.1 apart
+        | inr column ↦ run-apart (column_run p c) c w.0 (column-met c is_white) (in-column-run p c c board.some lt (column-self p c is_white))
+            (in-column-run p c w.0 board.some w.1 column) on.0 seen.1 apart
+      ]))
+
+  -- ---- white cells
+  lit-met : (c : ℕ) → c < light_cells p → white p c ≡ true → Meets (one_at_least (seen_from p c))
+  unfolding light_houses
+  lit-met c lt on = among-met (one_at_least (seen_from p c)) met (among-back _ (houses_below (number_house p) (light_cells p)) _
+      (among-back _ (houses_below (row_house p) (light_cells p)) _ (among-back _ (houses_below (column_house p) (light_cells p)) _
+      (among-below _ (lit_house p) c (light_cells p) lt (rw on (among-one _))))))
+
+  bulb-seen : (c : ℕ) → c < light_cells p → white p c ≡ true → (d : ℕ) × (has_place (seen_from p c) d ≡ true) × (bulb g d ≡ true)
+  unfolding meets seen_from
+  bulb-seen c lt on =
+      let own = has_place-at (seen_from p c) c (place-front _ _ c (in-row-run p c c board.some (row-self p c on))) in
+      let some = leb-true 1 (nonzeros (map (slice_index g) (seen_from p c))) (and_parts _ _ (lit-met c lt on (omega (arith, own.1)))).0 in
+      any-some (bulb g) (seen_from p c)
+      (sym (some-counted (bulb g) (seen_from p c)) ∙ lt-ltb 0 _ (omega (arith, some, ones-bulbs g (seen_from p c) (small-at grid))))
+
+  lits-right : (c : ℕ) → c < light_cells p → lit_right p g c ≡ true
+  unfolding lit_right seen_from
+  lits-right c lt = elim (cases_Bool (white p c)) [
+    | inr off ↦ or_left (not (white p c)) (bulb g c || sees_bulb p g c) (ap not off)
+    | inl on ↦
+        let w = bulb-seen c lt on in
+        let lies = bulb-in g (light_cells p) w.0 grid.each_cell w.2 in
+        or_right (not (white p c)) (bulb g c || sees_bulb p g c) (elim (cases_eq w.0 c) [
+          | inl same ↦ or_left (bulb g c) (sees_bulb p g c) (rw same at w.2)
+          | inr other ↦ or_right (bulb g c) (sees_bulb p g c) (seen-there p g c w.0 lies other (elim (place-append (row_run p c) _ w.0 w.1) [
+            | inl row ↦ or_left _ _ (row-run-joined p c w.0 row)
+            | inr column ↦ or_right _ _ (column-run-joined p c w.0 (place-filter _ _ w.0 column).0)
+          ]) w.2)
+        ])
+  ]
+
+  blacks-right : (c : ℕ) → c < light_cells p → black_right p g c ≡ true
+  unfolding black_right
+  blacks-right c lt = elim (cases_Bool (white p c)) [
+    | inl on ↦ or_left _ _ on
+    | inr off ↦ or_right _ _ (eq-eqb _ 0 (met.blocked_zero c lt (ap not off)))
+  ]
+
+  -- what is told of the first wrong number is told of the grid
+  pub completed : (wrong : Option ℕ) {told : Bool} → IsNext (λ c. not (number_right p g c)) (light_cells p) 0 wrong → is_some wrong ≡ not told
+      → told ≡ solves_lights p g
+  completed None next e =
+      not-false _ (sym e) ∙ sym (lit-from p g (all_below-from _ _ blacks-right) (all_below-from _ _ (numbers-right p g next))
+      (all_below-from _ _ bulbs-right) (all_below-from _ _ lits-right))
+  completed (Some c) next e =
+      not-true _ (sym e) ∙ sym (false_from_ne_true _ (λ on.
+      true≢false (sym (all_below-at _ _ c (lit-parts p g on).number next.1) ∙ not-true _ next.2)))
