@@ -6,6 +6,7 @@ ghost use Rattle.std.specs.Prelude.{◌≤◌, refl};
 use crate::planes::any::AnyPlanes;
 use crate::planes::game::PlaneGame;
 use crate::planes::notes::{TentNotes, start_field};
+use crate::tents::pairs::{PairingScratch, are_paired};
 use engine_core::{Needs, Taken};
 use gameid_core::TentsPuzzle;
 use grid_core::{Grid, Size};
