@@ -3,7 +3,6 @@
 
 ghost use Rattle.std.specs.Prelude.{◌≡◌, IfOk, length};
 
-use crate::planes::runs::empty_words;
 use crate::planes::waits::Waits;
 use grid_core::Word;
 use std::alloc::{AllocError, Global};
@@ -25,7 +24,7 @@ impl<W: Word> TentNotes<W> {
         ensures { IfOk result (λ notes. length notes.trees.items ≡ W.room) }
     {
         Ok(TentNotes {
-            trees: empty_words(alloc, W::places())?,
+            trees: vec![in alloc; W::none(); W::places()]?,
             waits: Waits::all(),
         })
     }

@@ -13,9 +13,9 @@ use crate::planes::lights::tables::LightTables;
 use crate::planes::lights::waits::LightKind;
 use crate::planes::lit::visit_lit;
 use crate::planes::numbers::visit_numbers;
-use crate::planes::run_visits::{visit_column_runs, visit_row_runs};
+use crate::planes::run_lines::visit_line;
 use gameid_core::LightPuzzle;
-use grid_core::{Planes, Word};
+use grid_core::{Line, Planes, Word};
 
 impl<W: Word> LightTables<W> {
     /// Visits the houses of a kind at a line, up to one that has no filling. Numbers in other columns than these are idle.
@@ -35,6 +35,9 @@ impl<W: Word> LightTables<W> {
             → AreIdleBut puzzle.now (W.bits columns) y (has planes.old) }
         ensures { AreVisited (light_kind_houses puzzle.now kind line) planes.old planes.new result }
     {
+        let size = planes.size();
+        let w = usize::from(size.w());
+        let h = usize::from(size.h());
         match kind {
             LightKind::Numbers => {
                 visit_numbers(
@@ -47,8 +50,14 @@ impl<W: Word> LightTables<W> {
                     columns,
                 )
             }
-            LightKind::RowRuns => visit_row_runs(planes, puzzle, &self.runs.rows, line),
-            LightKind::ColumnRuns => { visit_column_runs(planes, puzzle, &self.runs.columns, line) }
+            LightKind::RowRuns => {
+                let first = usize::from(line) * w;
+                visit_line(planes, &self.row_runs, Line::Row(line), first, 1, w)
+            }
+            LightKind::ColumnRuns => {
+                let first = usize::from(line);
+                visit_line(planes, &self.column_runs, Line::Column(line), first, w, h)
+            }
         }
     }
 
@@ -68,8 +77,8 @@ impl<W: Word> LightTables<W> {
             planes.old planes.new result }
     {
         let place = usize::from(y) * columns(puzzle) + usize::from(x);
-        let row = self.runs.rows[place];
-        let column = self.runs.columns[place];
+        let row = self.row_runs[place];
+        let column = self.column_runs[place];
         visit_lit(planes, puzzle, y, x, row, column)
     }
 }

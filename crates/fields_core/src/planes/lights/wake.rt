@@ -112,8 +112,8 @@ fn wake_row<W: Word>(
     let mut left = cells;
     while left.is_some() {
         let x = left.lowest();
-        wake_in_row(lit, planes, puzzle, &tables.runs.rows, y, x);
-        wake_in_column(lit, planes, puzzle, &tables.runs.columns, y, x);
+        wake_in_row(lit, planes, puzzle, &tables.row_runs, y, x);
+        wake_in_column(lit, planes, puzzle, &tables.column_runs, y, x);
         left = left.without_lowest();
     }
 }
