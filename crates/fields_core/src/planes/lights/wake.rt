@@ -11,7 +11,7 @@ ghost use Rattle.fields_core.specs.LightWords.{IsColumnRun, IsRowRun};
 
 use crate::light_up::cells::{columns, rows};
 use crate::planes::lights::tables::LightTables;
-use crate::planes::lit::has_two;
+use crate::planes::lights::visits::has_two;
 use gameid_core::LightPuzzle;
 use grid_core::{Planes, Touched, Word};
 

@@ -1,7 +1,7 @@
 use Rattle.fields_core.proofs.Common.{at_line, has_bit, ltb, map, not, refl, slice_index, ℕ, ◌&&◌, ◌*◌, ◌+◌, ◌∙◌, ◌≡◌, ◌≤◌}
 use Rattle.fields_core.proofs.RunLines.{runs-clash, runs-met}
-use Rattle.fields_core.proofs.planes.run_lines.visit_line.Goals as goal
-use Rattle.fields_core.proofs.planes.run_lines.visit_line.Goals.{After-around}
+use Rattle.fields_core.proofs.planes.lights.visits.visit_line.Goals as goal
+use Rattle.fields_core.proofs.planes.lights.visits.visit_line.Goals.{After-around}
 
 must : (g : _) (c : After-around g) (k : ℕ)
     → has_bit (g.W.Word.bits c.but-must.result) k ≡ (ltb k c.args.len && not (at_line c.args.planes.now c.args.line 0 k))

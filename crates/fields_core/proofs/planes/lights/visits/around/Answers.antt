@@ -2,8 +2,8 @@ use Rattle.fields_core.proofs.Common.{arith, eqb, has_bit, length, map, not, sli
 use Rattle.grid_core.proofs.TurnLemmas.{fewer_left}
 use Rattle.fields_core.proofs.RunLines.{around-all, around-clash, around-more, around-none}
 use Rattle.fields_core.proofs.TreeWords.{row-read}
-use Rattle.fields_core.proofs.planes.run_lines.around.Goals as goal
-use Rattle.fields_core.proofs.planes.run_lines.around.Goals.{After-lowest-at, After-without_lowest-rest}
+use Rattle.fields_core.proofs.planes.lights.visits.around.Goals as goal
+use Rattle.fields_core.proofs.planes.lights.visits.around.Goals.{After-lowest-at, After-without_lowest-rest}
 
 pub loop-rest-init : goal.loop-rest-init
 loop-rest-init g c = around-none _ _ _ _ c.none-bits.ensures

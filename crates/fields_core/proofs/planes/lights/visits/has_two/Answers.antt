@@ -1,6 +1,6 @@
 use Rattle.fields_core.proofs.Common.{has_bit, sym, ◌∙◌}
 use Rattle.fields_core.proofs.LitWords.{two-left, two-none}
-use Rattle.fields_core.proofs.planes.lit.has_two.Goals as goal
+use Rattle.fields_core.proofs.planes.lights.visits.has_two.Goals as goal
 
 pub returns-then-is_some : goal.returns-then-is_some
 returns-then-is_some g c =
