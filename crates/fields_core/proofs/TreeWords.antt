@@ -1,5 +1,5 @@
 -- Words of the cells of a row and of those beside them.
-use Rattle.fields_core.proofs.Common.{Bool, Candidates, Extent, Layers, List, None, Some, and_from, and_parts, any_below-here, any_below-some, ap, arith, cases_Bool, cases_eq, cases_lt, common_steps, cond, count_by, covers, crosses, div-add-mod', div-mul-add, eq-eqb, eqb, eqb-true, false, fun_ext, get_or, get_or-map, get_or-set_other, get_or-set_same, has_bit, has_place, if_there, inl, inr, le-ltb, length, length-map, lt-ltb, ltb, ltb-true, map, mod-lt, not, or_cases, or_left, or_right, place-column, refl, set, slice_index, step, steps, suc, sym, true, without_taking, zero, ℕ, ◌%◌, ◌&&◌, ◌*◌, ◌++◌, ◌+◌, ◌-◌, ◌/◌, ◌<◌, ◌||◌, ◌∙◌, ◌≡◌, ◌≤◌, any_below, any_below-none, false_from_ne_true, true≢false}
+use Rattle.fields_core.proofs.Common.{ne_eqb, or-false, and-false, or-true, Bool, Candidates, Extent, Layers, List, None, Some, and_from, and_parts, any_below-here, any_below-some, ap, arith, cases_Bool, cases_eq, cases_lt, common_steps, cond, count_by, covers, crosses, div-add-mod', div-mul-add, eq-eqb, eqb, eqb-true, false, fun_ext, get_or, get_or-map, get_or-set_other, get_or-set_same, has_bit, has_place, if_there, inl, inr, le-ltb, length, length-map, lt-ltb, ltb, ltb-true, map, mod-lt, not, or_cases, or_left, or_right, place-column, refl, set, slice_index, step, steps, suc, sym, true, without_taking, zero, ℕ, ◌%◌, ◌&&◌, ◌*◌, ◌++◌, ◌+◌, ◌-◌, ◌/◌, ◌<◌, ◌||◌, ◌∙◌, ◌≡◌, ◌≤◌, any_below, any_below-none, false_from_ne_true, true≢false}
 use Rattle.std.proofs.lemmas.List.Sums.{sum_by-append}
 use Rattle.grid_core.specs.Planes.{bit_of, has}
 use Rattle.grid_core.specs.Regions.{beside}
@@ -301,6 +301,15 @@ zeros-taken w w₂ w₃ above y below over own under passes K K₁ K₂ K₃ fir
   where
     by : (k z a b d : Bool) → (((k && not (z && a)) && not (z && b)) && not (z && d)) ≡ (k && not (z && ((a || b) || d)))
     by k z a b d = grind (arith, common_steps, cases_Bool k, cases_Bool z, cases_Bool a, cases_Bool b, cases_Bool d)
+
+-- ---- a word of the first places that pass
+pub next-on : (test : ℕ → Bool) (n word next : ℕ) → test n ≡ true → ((k : ℕ) → has_bit word k ≡ (ltb k n && test k))
+    → ((k : ℕ) → has_bit next k ≡ (has_bit word k || eqb k n)) → (k : ℕ) → has_bit next k ≡ (ltb k (n + 1) && test k)
+next-on test n word next on is told k = grind (arith, common_steps, cases_eq k n, eq-eqb, lt-ltb, or-true, ne_eqb, or-false, cases_lt k n, le-ltb)
+
+pub next-off : (test : ℕ → Bool) (n word : ℕ) → test n ≡ false → ((k : ℕ) → has_bit word k ≡ (ltb k n && test k))
+    → (k : ℕ) → has_bit word k ≡ (ltb k (n + 1) && test k)
+next-off test n word off is k = grind (arith, common_steps, cases_eq k n, lt-ltb, and-false, cases_lt k n, le-ltb)
 
 -- ---- a word for each row
 -- one more is written

@@ -1,9 +1,9 @@
 -- Planes of Light Up, and the words of a puzzle beside them.
-use Rattle.std.specs.Prelude.{◌≡◌, ℕ, ◌≤◌, length, map}
+use Rattle.std.specs.Prelude.{◌≡◌, ℕ, ◌<◌, ◌≤◌, length, map, slice_index}
 use Rattle.grid_core.specs.Planes.{Layers}
 use Rattle.gameid_core.specs.Puzzles.{IsLight, Light}
-use Rattle.fields_core.specs.Light.{white}
-use Rattle.fields_core.specs.LightWords.{AreRunWords}
+use Rattle.fields_core.specs.Light.{light_cells, white}
+use Rattle.fields_core.specs.LightWords.{AreRunWords, IsRowRun}
 use Rattle.fields_core.specs.NumberWords.{AreColumnsOf, is_numbered}
 use Rattle.fields_core.specs.Parts.{IsAlive}
 use Rattle.fields_core.specs.Trees.{AreRowsOf}
@@ -12,20 +12,26 @@ use Rattle.fields_core.specs.declared.planes.lights.tables.LightTables.{LightTab
 
 -- there are words for so many cells, and for so many lines
 pub record HasTables {W : Type 0} (cells lines : ℕ) (t : LightTables W) : Type 0 where
-  pub row_runs : cells ≤ length t.runs.rows.items
-  pub column_runs : cells ≤ length t.runs.columns.items
   pub rows : lines ≤ length t.rows.items
   pub columns : lines ≤ length t.columns.items
   pub numbers : lines ≤ length t.numbers.items
+  pub row_runs : cells ≤ length t.row_runs.items
+  pub column_runs : cells ≤ length t.column_runs.items
 
 -- and for what waits of the lines
 pub record HasLightRoom {W : Type 0} (cells lines : ℕ) (notes : LightNotes W) : Type 0 where
   pub tables : HasTables cells lines notes.tables
   pub lit : lines ≤ length notes.waits.lit.items
 
+-- the words of the rows are those of the puzzle
+pub record AreRowTables {W : Type 0} (bits : W → ℕ) (p : Light) (t : LightTables W) : Type 0 where
+  pub rows : AreRowsOf p.size (white p) (map bits t.rows.items)
+  pub numbers : AreRowsOf p.size (is_numbered p) (map bits t.numbers.items)
+  pub runs : (c : ℕ) → c < light_cells p → IsRowRun p c (slice_index (map bits t.row_runs.items) c)
+
 -- the words are those of the puzzle
 pub record AreTables {W : Type 0} (bits : W → ℕ) (p : Light) (t : LightTables W) : Type 0 where
-  pub runs : AreRunWords p (map bits t.runs.rows.items) (map bits t.runs.columns.items)
+  pub runs : AreRunWords p (map bits t.row_runs.items) (map bits t.column_runs.items)
   pub rows : AreRowsOf p.size (white p) (map bits t.rows.items)
   pub columns : AreColumnsOf p.size (white p) (map bits t.columns.items)
   pub numbers : AreRowsOf p.size (is_numbered p) (map bits t.numbers.items)

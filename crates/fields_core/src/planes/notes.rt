@@ -10,7 +10,6 @@ ghost use Rattle.fields_core.specs.Trees.{AreRowsOf, wants_tent};
 
 use crate::count::game::CountGame;
 use crate::planes::any::Field;
-use crate::planes::runs::empty_words;
 use crate::planes::trees::write_trees;
 use crate::planes::waits::Waits;
 use gameid_core::TentsPuzzle;
@@ -34,7 +33,7 @@ impl<W: Word> TentNotes<W> {
         ensures { IfOk result (λ notes. length notes.trees.items ≡ W.room) }
     {
         Ok(TentNotes {
-            trees: empty_words(alloc, W::places())?,
+            trees: vec![in alloc; W::none(); W::places()]?,
             waits: Waits::all(),
         })
     }

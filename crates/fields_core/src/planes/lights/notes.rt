@@ -6,7 +6,6 @@ ghost use Rattle.fields_core.specs.LightPlanes.{HasLightRoom};
 
 use crate::planes::lights::tables::LightTables;
 use crate::planes::lights::waits::{LightWaits, LineWaits};
-use crate::planes::runs::empty_words;
 use grid_core::Word;
 use std::alloc::{AllocError, Global};
 
@@ -30,7 +29,7 @@ impl<W: Word> LightNotes<W> {
             tables: LightTables::new(alloc, cells)?,
             waits: LightWaits {
                 lines: LineWaits::none(),
-                lit: empty_words(alloc, W::places())?,
+                lit: vec![in alloc; W::none(); W::places()]?,
             },
         })
     }

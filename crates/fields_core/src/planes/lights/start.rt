@@ -1,35 +1,61 @@
 //! The board that a search of Light Up starts from, on planes.
 #![tactic(auto)]
 
-ghost use Rattle.std.specs.Prelude.{◌≡◌, ℕ, ◌+◌, ◌*◌, ◌<◌, ◌≤◌, length, map};
+ghost use Rattle.std.specs.Prelude.{◌≡◌, ℕ, ◌*◌, ◌≤◌, length};
 ghost use Rattle.grid_core.specs.Planes.{has};
 ghost use Rattle.gameid_core.specs.Puzzles.{IsLight};
-ghost use Rattle.fields_core.specs.Light.{light_cells, white};
+ghost use Rattle.fields_core.specs.Light.{light_cells};
 ghost use Rattle.fields_core.specs.LightHouses.{light_rules};
-ghost use Rattle.fields_core.specs.LightPlanes.{AreTables, HasLightRoom};
-ghost use Rattle.fields_core.specs.Trees.{AreRowsOf};
+ghost use Rattle.fields_core.specs.LightPlanes.{AreRowTables, AreTables, HasLightRoom, HasTables};
 
+use crate::light_up::cells::{columns, rows};
 use crate::planes::lights::notes::LightNotes;
+use crate::planes::lights::tables::{LightTables, cells_of_row, write_runs};
 use gameid_core::LightPuzzle;
 use grid_core::{Line, Planes, Word};
 
-/// Begins with the board that a search of the puzzle starts from, by the words of the white cells of each row. It takes no
-/// memory.
-fn start_lights<W: Word>(planes: &mut Planes<W>, puzzle: &LightPuzzle, whites: &[W])
-    requires narrow { puzzle.now.size.w ≤ W.room }
-    requires low { puzzle.now.size.h ≤ W.room }
-    requires few { light_cells puzzle.now * 2 ≤ length planes.old.takings }
-    requires whites { AreRowsOf puzzle.now.size (white puzzle.now) (map W.bits whites.now) }
-    ensures lawful { IsLight puzzle.now }
-    ensures start { has planes.new ≡ (light_rules puzzle.now).start }
-    ensures size { planes.new.size ≡ puzzle.now.size }
-    ensures room { length planes.new.takings ≡ length planes.old.takings }
-{
-    let size = puzzle.size();
-    planes.begin(size);
-    let row = W::all(usize::from(size.w()));
-    for y in 0..size.h() {
-        planes.take(Line::Row(y), 1, row.but(whites[usize::from(y)]));
+impl<W: Word> LightTables<W> {
+    /// Begins with the board that a search of the puzzle starts from, and writes the words of the rows.
+    fn start_rows(&mut self, planes: &mut Planes<W>, puzzle: &LightPuzzle)
+        requires narrow { puzzle.now.size.w ≤ W.room }
+        requires low { puzzle.now.size.h ≤ W.room }
+        requires few { light_cells puzzle.now * 2 ≤ length planes.old.takings }
+        requires room { HasTables (light_cells puzzle.now) W.room self.old }
+        ensures lawful { IsLight puzzle.now }
+        ensures start { has planes.new ≡ (light_rules puzzle.now).start }
+        ensures size { planes.new.size ≡ puzzle.now.size }
+        ensures steps { length planes.new.takings ≡ length planes.old.takings }
+        ensures written { AreRowTables W.bits puzzle.now self.new }
+        ensures room { (cells lines : ℕ) → HasTables cells lines self.old
+            → HasTables cells lines self.new }
+    {
+        planes.begin(puzzle.size());
+        let w = columns(puzzle);
+        for y in 0..rows(puzzle) {
+            let (whites, numbers) = cells_of_row(puzzle, y);
+            self.rows[y] = whites;
+            self.numbers[y] = numbers;
+            write_runs(&mut self.row_runs, whites, y * w, 1, w);
+            planes.take(Line::Row(y as u8), 1, W::all(w).but(whites));
+        }
+    }
+
+    /// Writes the words of the columns, by the board that a search of the puzzle starts from.
+    fn write_columns(&mut self, planes: &Planes<W>, puzzle: &LightPuzzle)
+        requires start { has planes.now ≡ (light_rules puzzle.now).start }
+        requires size { planes.now.size ≡ puzzle.now.size }
+        requires rows { AreRowTables W.bits puzzle.now self.old }
+        requires room { HasTables (light_cells puzzle.now) W.room self.old }
+        ensures written { AreTables W.bits puzzle.now self.new }
+        ensures room { (cells lines : ℕ) → HasTables cells lines self.old
+            → HasTables cells lines self.new }
+    {
+        let w = columns(puzzle);
+        for x in 0..w {
+            let whites = planes.column(x as u8, 1);
+            self.columns[x] = whites;
+            write_runs(&mut self.column_runs, whites, x, w, rows(puzzle));
+        }
     }
 }
 
@@ -48,7 +74,7 @@ impl<W: Word> LightNotes<W> {
         ensures room { (cells lines : ℕ) → HasLightRoom cells lines self.old
             → HasLightRoom cells lines self.new }
     {
-        self.tables.write(puzzle);
-        start_lights(planes, puzzle, &self.tables.rows);
+        self.tables.start_rows(planes, puzzle);
+        self.tables.write_columns(planes, puzzle);
     }
 }

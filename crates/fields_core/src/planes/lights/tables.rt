@@ -1,23 +1,28 @@
 //! What planes of Light Up keep of a puzzle.
 #![tactic(auto)]
 
-ghost use Rattle.std.specs.Prelude.{◌≡◌, ℕ, ◌≤◌, IfOk};
-ghost use Rattle.fields_core.specs.Light.{light_cells};
-ghost use Rattle.fields_core.specs.LightPlanes.{AreTables, HasTables};
+ghost use Rattle.std.specs.Prelude.{◌≡◌, ℕ, ◌+◌, ◌*◌, ◌<◌, ◌≤◌, IfOk, length, map};
+ghost use Rattle.grid_core.specs.Words.{has_bit};
+ghost use Rattle.fields_core.specs.Light.{white};
+ghost use Rattle.fields_core.specs.LightPlanes.{HasTables};
+ghost use Rattle.fields_core.specs.NumberWords.{is_numbered};
+ghost use Rattle.fields_core.specs.RunWords.{AreWritten, IsRunAt, IsRunBefore};
+ghost use Rattle.fields_core.specs.Trees.{IsRowOf};
 
-use crate::planes::light_words::{write_numbers, write_white_columns, write_white_rows};
-use crate::planes::runs::{Runs, empty_words};
-use gameid_core::LightPuzzle;
+use crate::light_up::cells::columns;
+use gameid_core::{LightCell, LightPuzzle};
 use grid_core::Word;
 use std::alloc::{AllocError, Global};
 
-/// The runs of each cell, the white cells of each row and of each column, and the numbered cells of each row.
+/// The white cells of each row and of each column, and the numbered cells of each row. By place the run of white cells that
+/// the cell is in, along its row and along its column: the places of its cells along that line. A black cell is in none.
 #[derive(Drop)]
 pub struct LightTables<W: Word> {
-    pub(crate) runs: Runs<W>,
     pub(crate) rows: Vec<W>,
     pub(crate) columns: Vec<W>,
     pub(crate) numbers: Vec<W>,
+    pub(crate) row_runs: Vec<W>,
+    pub(crate) column_runs: Vec<W>,
 }
 
 impl<W: Word> LightTables<W> {
@@ -30,25 +35,72 @@ impl<W: Word> LightTables<W> {
         ensures { IfOk result (λ tables. HasTables cells W.room tables) }
     {
         Ok(LightTables {
-            runs: Runs::new(alloc, cells)?,
-            rows: empty_words(alloc, W::places())?,
-            columns: empty_words(alloc, W::places())?,
-            numbers: empty_words(alloc, W::places())?,
+            rows: vec![in alloc; W::none(); W::places()]?,
+            columns: vec![in alloc; W::none(); W::places()]?,
+            numbers: vec![in alloc; W::none(); W::places()]?,
+            row_runs: vec![in alloc; W::none(); cells]?,
+            column_runs: vec![in alloc; W::none(); cells]?,
         })
     }
+}
 
-    /// Writes what is kept of a puzzle. It takes no memory.
-    pub(crate) fn write(&mut self, puzzle: &LightPuzzle)
-        requires room { HasTables (light_cells puzzle.now) W.room self.old }
-        requires narrow { puzzle.now.size.w ≤ W.room }
-        requires low { puzzle.now.size.h ≤ W.room }
-        ensures written { AreTables W.bits puzzle.now self.new }
-        ensures room { (cells room : ℕ) → HasTables cells room self.old
-            → HasTables cells room self.new }
-    {
-        self.runs.write(puzzle);
-        write_white_rows(&mut self.rows, puzzle);
-        write_white_columns(&mut self.columns, puzzle);
-        write_numbers(&mut self.numbers, puzzle);
+/// The white cells of a row, and the numbered ones.
+pub(crate) fn cells_of_row<W: Word>(puzzle: &LightPuzzle, y: usize) -> (W, W)
+    requires y_in { y < puzzle.now.size.h }
+    requires narrow { puzzle.now.size.w ≤ W.room }
+    ensures whites { IsRowOf puzzle.now.size.w (white puzzle.now) y (W.bits result.0) }
+    ensures numbers { IsRowOf puzzle.now.size.w (is_numbered puzzle.now) y (W.bits result.1) }
+{
+    let w = columns(puzzle);
+    let mut whites = W::none();
+    let mut numbers = W::none();
+    for x in 0..w {
+        match puzzle.cell(y * w + x) {
+            LightCell::White => whites = whites.either(W::one(x)),
+            LightCell::Black => {}
+            LightCell::Numbered(_) => numbers = numbers.either(W::one(x)),
+        }
+    }
+    (whites, numbers)
+}
+
+/// The run of cell `at` of a line of `len` cells with these white ones, where `before` is that of the cell before it.
+fn run_at<W: Word>(white: W, len: usize, at: usize, before: W) -> W
+    requires at_in { at < len }
+    requires fits { len ≤ W.room }
+    requires before { IsRunBefore (has_bit (W.bits white)) len at (W.bits before) }
+    ensures { IsRunAt (has_bit (W.bits white)) len at (W.bits result) }
+{
+    if before.has(at) {
+        return before;
+    }
+    let rest = W::all(len).but(W::all(at));
+    let blacks = rest.but(white);
+    if blacks.is_some() {
+        rest.both(W::all(blacks.lowest()))
+    } else {
+        rest
+    }
+}
+
+/// Writes the runs of the cells of a line with these white ones at their places.
+pub(crate) fn write_runs<W: Word>(
+    runs: &mut Vec<W>,
+    white: W,
+    first: usize,
+    stride: usize,
+    len: usize,
+)
+    requires within { (i : ℕ) → i < len → first + i * stride < length runs.old.items }
+    requires onward { 0 < stride }
+    requires fits { len ≤ W.room }
+    ensures written { AreWritten (has_bit (W.bits white)) len first stride len
+        (map W.bits runs.old.items) (map W.bits runs.new.items) }
+    ensures long { length runs.new.items ≡ length runs.old.items }
+{
+    let mut run = W::none();
+    for at in 0..len {
+        run = run_at(white, len, at, run);
+        runs[first + at * stride] = run;
     }
 }

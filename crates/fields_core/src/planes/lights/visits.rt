@@ -1,21 +1,86 @@
 //! Visits of the houses of Light Up by the words that are kept of a puzzle.
 #![tactic(auto)]
 
-ghost use Rattle.std.specs.Prelude.{ℕ, ◌+◌, ◌*◌, ◌<◌};
-ghost use Rattle.grid_core.specs.Planes.{has};
+ghost use Rattle.std.specs.Prelude.{◌≡◌, ℕ, ◌+◌, ◌*◌, ◌<◌, ◌≤◌, ◌&&◌, Bool, true, IfNone, IfSome, List, length, map, nat_lt, slice_index};
+ghost use Rattle.grid_core.specs.Candidates.{count_below};
+ghost use Rattle.grid_core.specs.Planes.{has, line_len, lines_beside, number_of};
+ghost use Rattle.grid_core.specs.Words.{has_bit};
+ghost use Rattle.fields_core.specs.CountHouse.{CountHouse};
 ghost use Rattle.fields_core.specs.LightHouses.{lit_house};
 ghost use Rattle.fields_core.specs.LightPlanes.{ArePlanesOf, AreTables};
 ghost use Rattle.fields_core.specs.LightWaits.{AreIdleBut, light_kind_houses, light_kind_lines};
+ghost use Rattle.fields_core.specs.Parts.{IsAlive};
+ghost use Rattle.fields_core.specs.RunLines.{AreAround, AreRunsOf, IsClash};
 ghost use Rattle.fields_core.specs.Visits.{AreVisited};
 
 use crate::light_up::cells::columns;
 use crate::planes::lights::tables::LightTables;
 use crate::planes::lights::waits::LightKind;
-use crate::planes::lit::visit_lit;
 use crate::planes::numbers::visit_numbers;
-use crate::planes::run_visits::{visit_column_runs, visit_row_runs};
 use gameid_core::LightPuzzle;
-use grid_core::{Planes, Word};
+use grid_core::{Line, Planes, Word};
+
+/// Whether the word has two places or more.
+pub(crate) fn has_two<W: Word>(word: W) -> bool
+    ensures { result ≡ nat_lt 1 (count_below (has_bit (W.bits word)) W.room) }
+{
+    word.is_some() && word.without_lowest().is_some()
+}
+
+/// The numbers of a line that are in a run with a marked one, or nothing if two marked ones are in one run. The run of
+/// number `k` stands at the place `first + k * stride`.
+fn around<W: Word>(runs: &[W], first: usize, stride: usize, marked: W) -> Option<W>
+    requires marked_in { (k : ℕ) → has_bit (W.bits marked) k ≡ true → k < W.room }
+    requires within { (k : ℕ) → has_bit (W.bits marked) k ≡ true
+        → first + k * stride < length runs.now }
+    ensures around { IfSome result (λ bits. AreAround
+        (λ k. slice_index (map W.bits runs.now) (first + k * stride)) W.room
+        (W.bits marked) (W.bits bits)) }
+    ensures clash { IfNone result (IsClash
+        (λ k. slice_index (map W.bits runs.now) (first + k * stride)) (W.bits marked)) }
+{
+    let mut rest = marked;
+    let mut bits = W::none();
+    while rest.is_some() {
+        let at = rest.lowest();
+        let run = runs[first + at * stride];
+        rest = rest.without_lowest();
+        if rest.both(run).is_some() {
+            return None;
+        }
+        bits = bits.either(run);
+    }
+    Some(bits)
+}
+
+/// Visits the houses of the runs of a line of `len` cells. No other cell of the run of a cell that must be 1 can be 1. Says
+/// whether no run has two such cells: if one has, nothing is taken. The run of cell `k` is at `first + k * stride`.
+fn visit_line<W: Word>(
+    planes: &mut Planes<W>,
+    runs: &[W],
+    line: Line,
+    first: usize,
+    stride: usize,
+    len: usize,
+) -> bool
+    requires line_in { number_of line < lines_beside planes.old.size line }
+    requires len { len ≡ line_len planes.old.size line }
+    requires within { (k : ℕ) → k < len → first + k * stride < length runs.now }
+    requires alive { IsAlive planes.old }
+    ensures { (cell : ℕ → ℕ) (joined : ℕ → ℕ → Bool) (houses : List CountHouse)
+        → AreRunsOf planes.old.size line len cell joined houses
+        → ((j k : ℕ) → j < len → has_bit (slice_index (map W.bits runs.now) (first + j * stride)) k
+        ≡ (nat_lt k len && joined j k))
+        → AreVisited houses planes.old planes.new result }
+{
+    let zeros = planes.line(line, 0);
+    let must = W::all(len).but(zeros);
+    let Some(near) = around(runs, first, stride, must) else {
+        return false;
+    };
+    planes.take(line, 1, near.both(zeros));
+    true
+}
 
 impl<W: Word> LightTables<W> {
     /// Visits the houses of a kind at a line, up to one that has no filling. Numbers in other columns than these are idle.
@@ -35,6 +100,9 @@ impl<W: Word> LightTables<W> {
             → AreIdleBut puzzle.now (W.bits columns) y (has planes.old) }
         ensures { AreVisited (light_kind_houses puzzle.now kind line) planes.old planes.new result }
     {
+        let size = planes.size();
+        let w = usize::from(size.w());
+        let h = usize::from(size.h());
         match kind {
             LightKind::Numbers => {
                 visit_numbers(
@@ -47,12 +115,19 @@ impl<W: Word> LightTables<W> {
                     columns,
                 )
             }
-            LightKind::RowRuns => visit_row_runs(planes, puzzle, &self.runs.rows, line),
-            LightKind::ColumnRuns => { visit_column_runs(planes, puzzle, &self.runs.columns, line) }
+            LightKind::RowRuns => {
+                let first = usize::from(line) * w;
+                visit_line(planes, &self.row_runs, Line::Row(line), first, 1, w)
+            }
+            LightKind::ColumnRuns => {
+                let first = usize::from(line);
+                visit_line(planes, &self.column_runs, Line::Column(line), first, w, h)
+            }
         }
     }
 
-    /// Visits the house of a white cell. Says whether it has a filling, or the cell is black.
+    /// Visits the house of a cell, if it is white: the cells of the runs of its row and of its column. If one of them alone can
+    /// have a bulb, 0 is taken from it. Says whether one can: if none can, nothing is taken.
     pub(crate) fn visit_lit(
         &self,
         planes: &mut Planes<W>,
@@ -68,8 +143,26 @@ impl<W: Word> LightTables<W> {
             planes.old planes.new result }
     {
         let place = usize::from(y) * columns(puzzle) + usize::from(x);
-        let row = self.runs.rows[place];
-        let column = self.runs.columns[place];
-        visit_lit(planes, puzzle, y, x, row, column)
+        let row_run = self.row_runs[place];
+        let column_run = self.column_runs[place];
+        let row = planes.row(y, 1).both(row_run);
+        if !row_run.is_some() {
+            return true;
+        }
+        if has_two(row) {
+            return true;
+        }
+        let others = column_run.but(W::one(usize::from(y)));
+        let column = planes.column(x, 1).both(others);
+        if has_two(column) {
+            return true;
+        }
+        let in_row = row.is_some();
+        if in_row == column.is_some() {
+            return in_row;
+        }
+        planes.take(Line::Row(y), 0, row);
+        planes.take(Line::Column(x), 0, column);
+        true
     }
 }

@@ -11,7 +11,7 @@ ghost use Rattle.fields_core.specs.LightWords.{IsColumnRun, IsRowRun};
 
 use crate::light_up::cells::{columns, rows};
 use crate::planes::lights::tables::LightTables;
-use crate::planes::lit::has_two;
+use crate::planes::lights::visits::has_two;
 use gameid_core::LightPuzzle;
 use grid_core::{Planes, Touched, Word};
 
@@ -112,8 +112,8 @@ fn wake_row<W: Word>(
     let mut left = cells;
     while left.is_some() {
         let x = left.lowest();
-        wake_in_row(lit, planes, puzzle, &tables.runs.rows, y, x);
-        wake_in_column(lit, planes, puzzle, &tables.runs.columns, y, x);
+        wake_in_row(lit, planes, puzzle, &tables.row_runs, y, x);
+        wake_in_column(lit, planes, puzzle, &tables.column_runs, y, x);
         left = left.without_lowest();
     }
 }

@@ -1,6 +1,0 @@
-use Rattle.fields_core.proofs.Common.{ltb, white, ℕ, ◌&&◌, ◌*◌, ◌+◌, ◌≡◌}
-use Rattle.grid_core.specs.Words.{has_bit}
-use Rattle.fields_core.proofs.planes.light_words.whites_of_row.Given as goal
-
-abbrev pub invariant-loop-x : goal.invariant-loop-x
-invariant-loop-x g l = (x : ℕ) → has_bit (g.W.Word.bits l.whites) x ≡ (ltb x l.x && white l.puzzle (l.y * l.puzzle.size.w + x))
