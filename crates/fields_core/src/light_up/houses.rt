@@ -27,10 +27,8 @@ fn push_number(
         (AreAdded houses.old.items houses.new.items (number_house puzzle.now place)) }
 {
     if let LightCell::Numbered(n) = puzzle.cell(place) {
-        houses.push(House::exactly(
-            n,
-            beside(puzzle.size(), place, |other| is_white(puzzle, other)),
-        ))?;
+        let white = beside(puzzle.size(), place, |other| is_white(puzzle, other));
+        houses.push(House::exactly(n, white))?;
     }
     Ok(())
 }

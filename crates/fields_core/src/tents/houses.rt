@@ -1,11 +1,10 @@
 //! The count houses of Tents.
 #![tactic(auto, using(crate::proofs::LawSets::tent_houses_laws))]
 
-ghost use Rattle.std.specs.Prelude.{◌≡◌, ◌+◌, ◌<◌, ◌&&◌, ◌∷◌, [], filter, nat_lt, not, IfOk, OnOk, map};
-ghost use Rattle.grid_core.specs.Regions.{if_there, step as step_to};
-ghost use Rattle.fields_core.specs.Houses.{AreAdded, house_told, places_of, segment_places};
-ghost use Rattle.fields_core.specs.Tents.{tent_cells, tree};
-ghost use Rattle.fields_core.specs.TentHouses.{column_of_tents, row_of_tents, free_beside, tree_house, square_house, tent_houses};
+ghost use Rattle.std.specs.Prelude.{◌≡◌, ◌<◌, IfOk, OnOk, map};
+ghost use Rattle.fields_core.specs.Houses.{AreAdded, house_told};
+ghost use Rattle.fields_core.specs.Tents.{tent_cells};
+ghost use Rattle.fields_core.specs.TentHouses.{square_house, tent_houses, tree_house};
 ghost use Rattle.gameid_core.specs.Puzzles.{IsTents};
 
 use crate::count::house::{House, Segment, beside};
@@ -21,11 +20,8 @@ fn push_tree(houses: &mut Vec<House>, puzzle: &TentsPuzzle, place: usize) -> Res
         (AreAdded houses.old.items houses.new.items (tree_house puzzle.now place)) }
 {
     if is_tree(puzzle, place) {
-        houses.push(House::one_at_least(beside(
-            puzzle.size(),
-            place,
-            |other| !is_tree(puzzle, other),
-        )))?;
+        let free = beside(puzzle.size(), place, |other| !is_tree(puzzle, other));
+        houses.push(House::one_at_least(free))?;
     }
     Ok(())
 }
