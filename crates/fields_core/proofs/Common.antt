@@ -58,14 +58,14 @@ pub use Rattle.fields_core.specs.CountHouse.{AreHouses, CountHouse, IsCounting, 
 pub use Rattle.fields_core.specs.CountHouse.{one_at_most}
 unfoldable pub use Rattle.fields_core.specs.CountHouse.{after_house, houses_below, meets, start_of, strikes_of}
 pub use Rattle.fields_core.specs.CountLaws.{count-lawful}
-pub use Rattle.fields_core.specs.Houses.{AreAdded, bounds_of, house_places, house_told, places_of, segment_places}
+pub use Rattle.fields_core.specs.Houses.{AreAdded, TestsBelow, bounds_of, house_places, house_told, places_of, segment_places}
 pub use Rattle.fields_core.specs.Light.{bulb, bulbs_beside, is_white, light_cells, number_is}
 unfoldable pub use Rattle.fields_core.specs.Light.{black_right, bulb_right, clear, joined_in_column, joined_in_row, lit_right, number_right, sees}
 unfoldable pub use Rattle.fields_core.specs.Light.{sees_bulb, solves_lights, white}
 pub use Rattle.fields_core.specs.LightFaults.{FailsLight, IsLightFault, light_tests}
 pub use Rattle.fields_core.specs.LightHouses.{column_house, light_rules, lit_house, number_house, row_house}
 unfoldable pub use Rattle.fields_core.specs.LightHouses.{begins_column_run, begins_row_run, column_run, light_houses, row_run, seen_from}
-pub use Rattle.fields_core.specs.LightRuns.{AreRunsAbove, IsRunAbove, IsRunBefore, no_segment}
+pub use Rattle.fields_core.specs.LightRuns.{IsAround, run_house}
 pub use Rattle.fields_core.specs.Parts.{ArePieces, IsAlive, IsBroken, IsCount, IsCounted, IsHouseOf, Piece, piece_at}
 unfoldable pub use Rattle.fields_core.specs.Parts.{lies_in, lies_in_first, without_value}
 pub use Rattle.fields_core.specs.Runs.{RunsOn, SeesAlong, Shines, ShinesAlong}

@@ -1,5 +1,5 @@
 -- Houses told by segments.
-use Rattle.fields_core.proofs.Common.{AreAdded, Bool, CountHouse, Extent, List, [], ap, append-nil, append_assoc, arith, common_steps, drop, false, false_from_ne_true, filter, filter-append, get_or, get_or-append_right, get_or-map-range_with_len, get_or_append_left, has_place, has_place-at, has_place-here, house_told, houses_below, if_there, length, length-append, length-map-range_with_len, map, map-append, places_of, range_with_len, segment_places, slice_index, step, steps, sym, true, ℕ, ◌*◌, ◌++◌, ◌+◌, ◌-◌, ◌<◌, ◌∙◌, ◌∷◌, ◌≡◌, ◌≢◌, ◌≤◌}
+use Rattle.fields_core.proofs.Common.{AreAdded, CountHouse, List, [], ap, append-nil, append_assoc, arith, common_steps, drop, false, false_from_ne_true, get_or, get_or-append_right, get_or-map-range_with_len, get_or_append_left, has_place, has_place-at, has_place-here, house_told, houses_below, length, length-append, length-map-range_with_len, map, map-append, places_of, range_with_len, segment_places, slice_index, sym, true, ℕ, ◌*◌, ◌++◌, ◌+◌, ◌-◌, ◌<◌, ◌∙◌, ◌∷◌, ◌≡◌, ◌≢◌, ◌≤◌, refl, set, suc, zero}
 use Rattle.std.proofs.lemmas.List.{at_drop_more}
 use Rattle.fields_core.specs.declared.count.house.House.{House}
 use Rattle.fields_core.specs.declared.count.house.Segment.{Segment}
@@ -48,13 +48,28 @@ has-found xs k c lt e = rw e at (sym (has_place-here xs k lt))
 pub has-none : (xs : List ℕ) (c : ℕ) → ((j : ℕ) → j < length xs → slice_index xs j ≢ c) → false ≡ has_place xs c
 has-none xs c none = sym (false_from_ne_true _ (λ on. let w = has_place-at xs c on in none w.0 w.1 w.2))
 
--- ---- the cells beside a cell that pass a test, direction by direction
-pub beside-cells : (test : ℕ → Bool) (size : Extent) (place : ℕ) (up left right down : Segment)
-    → segment_places up ≡ filter test (if_there (step size place 0)) → segment_places left ≡ filter test (if_there (step size place 1))
-    → segment_places right ≡ filter test (if_there (step size place 2)) → segment_places down ≡ filter test (if_there (step size place 3))
-    → places_of (up ∷ left ∷ right ∷ down ∷ []) ≡ filter test (steps size place 4)
-unfolding steps
-beside-cells test size place up left right down u l r d = grind (arith, common_steps, filter-append, append_assoc, append-nil)
+-- ---- segments of which those from a number on are empty
+none-left : (cells : List Segment) (d : Segment) → ((k : ℕ) → k < length cells → segment_places (get_or cells k d) ≡ []) → places_of cells ≡ []
+none-left [] d none = refl
+none-left (c ∷ cells) d none = rw (none 0 (omega arith)) (none-left cells d (λ k lt. none (suc k) (omega arith)))
+
+pub places-set : (cells : List Segment) (i : ℕ) (s d : Segment) → i < length cells
+    → ((k : ℕ) → i ≤ k → k < length cells → segment_places (get_or cells k d) ≡ []) → places_of (set cells i s) ≡ places_of cells ++ segment_places s
+places-set [] i s d lt none = absurd (omega arith)
+places-set (c ∷ cells) zero s d lt none =
+    rw (none 0 (omega arith) (omega arith), none-left cells d (λ k low. none (suc k) (omega arith) (omega arith))) (append-nil (segment_places s))
+places-set (c ∷ cells) (suc i) s d lt none =
+    ap (λ l. segment_places c ++ l) (places-set cells i s d (omega arith) (λ k from low. none (suc k) (omega arith) (omega arith)))
+    ∙ sym (append_assoc (segment_places c) (places_of cells) (segment_places s))
+
+append-empty : (xs ys : List ℕ) → xs ++ ys ≡ [] → (xs ≡ []) × (ys ≡ [])
+append-empty [] ys e = (refl, e)
+append-empty (x ∷ xs) ys e = absurd (omega (arith, ap length e))
+
+pub each-empty : (cells : List Segment) → places_of cells ≡ [] → (k : ℕ) (d : Segment) → k < length cells → segment_places (get_or cells k d) ≡ []
+each-empty [] e k d lt = absurd (omega arith)
+each-empty (c ∷ cells) e zero d lt = (append-empty (segment_places c) (places_of cells) e).0
+each-empty (c ∷ cells) e (suc k) d lt = each-empty cells (append-empty (segment_places c) (places_of cells) e).1 k d (omega arith)
 
 -- the cells of one line, and of a square
 pub line-cells : (s none : Segment) (places : List ℕ) → segment_places s ≡ places → segment_places none ≡ []

@@ -1,5 +1,5 @@
 -- Lists of houses and of places that a loop makes.
-use Rattle.fields_core.proofs.Common.{Black, Bool, Extent, Light, LightCell, None, Numbered, Some, White, [], add-one, ap, append-nil, arith, begins_column_run, begins_row_run, column_places, common_steps, cond-false, cond-true, div-eq_of_lt, exactly, false, filter, filter-append, length, length-map-range_with_len, lt-div-mul-add, ne_eqb, not, number_house, refl, row_places, slice_get, step, steps, sym, true, white, ℕ, ◌%◌, ◌++◌, ◌+◌, ◌-◌, ◌<◌, ◌∷◌, ◌≡◌}
+use Rattle.fields_core.proofs.Common.{Black, Bool, Extent, Light, LightCell, None, Numbered, Some, White, [], add-one, ap, append-nil, arith, column_places, common_steps, cond-false, cond-true, exactly, false, filter, filter-append, length, length-map-range_with_len, number_house, refl, row_places, slice_get, step, steps, sym, true, white, ℕ, ◌++◌, ◌+◌, ◌∷◌, ◌≡◌}
 use Rattle.fields_core.proofs.LightLines.{cell-at}
 
 pub row-long : (size : Extent) (y : ℕ) → length (row_places size y) ≡ size.w
@@ -24,32 +24,6 @@ pub step-keep : (test : ℕ → Bool) (size : Extent) (place n x : ℕ) → Some
     (steps size place (n + 1))
 unfolding steps
 step-keep test size place n x e on = grind (arith, common_steps, add-one, filter-append, cond-true)
-
--- ---- where a run begins
-pub row-black : (p : Light) (c : ℕ) → false ≡ white p c → false ≡ begins_row_run p c
-unfolding begins_row_run
-row-black p c off = rw (sym off) refl
-
-pub row-edge : (p : Light) (c w : ℕ) → w ≡ p.size.w → true ≡ white p c → c % w ≡ 0 → true ≡ begins_row_run p c
-unfolding begins_row_run
-row-edge p c w e on edge = rw (sym on, rw e at edge) refl
-
-pub row-after : (p : Light) (c w : ℕ) (b : Bool) → w ≡ p.size.w → true ≡ white p c → (c % w ≡ 0 → ⊥) → b ≡ white p (c - 1) → not b ≡ begins_row_run p c
-unfolding begins_row_run
-row-after p c w b e on inner is = rw (sym on, ne_eqb (c % p.size.w) 0 (rw e at inner), is) refl
-
-pub column-black : (p : Light) (c : ℕ) → false ≡ white p c → false ≡ begins_column_run p c
-unfolding begins_column_run
-column-black p c off = rw (sym off) refl
-
-pub column-edge : (p : Light) (c w : ℕ) → w ≡ p.size.w → true ≡ white p c → c < w → true ≡ begins_column_run p c
-unfolding begins_column_run
-column-edge p c w e on edge = grind (arith, common_steps, div-eq_of_lt)
-
-pub column-after : (p : Light) (c w : ℕ) (b : Bool) → 0 < w → w ≡ p.size.w → true ≡ white p c
-    → (c < w → ⊥) → b ≡ white p (c - w) → not b ≡ begins_column_run p c
-unfolding begins_column_run
-column-after p c w b some e on inner is = grind (arith, common_steps, ne_eqb, lt-div-mul-add)
 
 -- ---- the house of a cell's number
 pub number-at : (p : Light) (c n : ℕ) → slice_get p.cells c ≡ Some (Numbered n) → exactly n (filter (white p) (steps p.size c 4)) ∷ [] ≡ number_house p c

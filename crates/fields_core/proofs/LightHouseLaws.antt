@@ -145,7 +145,7 @@ module _ (p : Light) (c d : ℕ) (some : 0 < p.size.w) (next : c + 1 ≡ d) (bef
       same : (e : ℕ) → joined_in_row p c e ≡ joined_in_row p d e
       same e = grind (arith, common_steps, cases_Bool, row-both, row-next, false_from_ne_true, back)
 
-not-false : (t : Bool) → not t ≡ false → t ≡ true
+pub not-false : (t : Bool) → not t ≡ false → t ≡ true
 not-false t e = grind (arith, common_steps, cases_Bool t)
 
 -- a white cell where none begins comes after a white one

@@ -1,5 +1,6 @@
 -- The run around a cell of a line is what has only white cells between it and the cell.
-use Rattle.fields_core.proofs.Common.{Bool, Extent, IsLight, Light, List, RunsOn, [], add-one, and_parts, ap, append-nil, arith, begins_column_run, begins_row_run, cases_Bool, cases_lt, clear, column-at, column_places, column_run, common_steps, cond, div-mul-add, eq-eqb, eqb-true, false, false_from_ne_true, filter, filter-append, inl, inr, joined_in_column, joined_in_row, length, length-map-range_with_len, light_cells, map, max, min, mod-lt, mod-mul-add, mul-le-mul_right, not-true, or_cases, range_with_len, refl, row-at, row_places, row_run, slice_index, suc, sym, true, true≢false, white, zero, ℕ, ◌%◌, ◌*◌, ◌++◌, ◌+◌, ◌-◌, ◌/◌, ◌<◌, ◌^◌, ◌∙◌, ◌∷◌, ◌≡◌, ◌≤◌}
+use Rattle.fields_core.proofs.Common.{Bool, Extent, IsLight, Light, List, IsAround, [], add-one, ap, append-nil, arith, cases_Bool, cases_lt, clear, column-at, column_places, column_run, common_steps, cond, div-mul-add, eq-eqb, false, false_from_ne_true, filter, filter-append, inl, inr, joined_in_column, joined_in_row, length, light_cells, map, min, mod-lt, mod-mul-add, mul-le-mul_right, range_with_len, refl, row-at, row_places, row_run, slice_index, suc, sym, true, true≢false, white, zero, ℕ, ◌%◌, ◌*◌, ◌++◌, ◌+◌, ◌-◌, ◌/◌, ◌<◌, ◌^◌, ◌∙◌, ◌∷◌, ◌≡◌, ◌≤◌}
+use Rattle.grid_core.proofs.PlaneLemmas.{place-column}
 use Rattle.fields_core.proofs.HouseLists.{row-long, column-long}
 use Rattle.fields_core.proofs.LightHouseLaws.{clear-at, clear-from}
 
@@ -40,25 +41,24 @@ passing-range test start end (suc n) low before inside past =
       ]
     ]
 
--- ---- the run that begins at a number
-pub run-white : (test : ℕ → Bool) (len at end : ℕ) → test at ≡ true → ((i : ℕ) → suc i ≡ at → test i ≡ false) → RunsOn test len at end
-    → filter (clear test at) (range_with_len 0 len) ≡ range_with_len at (end - at)
-run-white test len at end here edge on =
+-- ---- the run around a number
+pub around-run : (test : ℕ → Bool) {len at start end : ℕ} → IsAround test len at start end → filter (clear test at) (range_with_len 0 len) ≡ range_with_len start (end - start)
+around-run test {len} {at} {start} {end} on =
+    let low = on.low in
     let past = on.past in
     let high = on.high in
     let z : min len end ≡ end = omega arith in
-    rw z at (passing-range (clear test at) at end len (omega arith)
-    (λ i below. false_from_ne_true (clear test at i) (λ joined. blocked i below joined at refl))
-    (λ i above below. clear-from test at i (λ k a b. inside i k above below a b))
+    rw z at (passing-range (clear test at) start end len (omega arith)
+    (λ i below. false_from_ne_true (clear test at i) (λ joined. blocked i below joined start refl))
+    (λ i above below. clear-from test at i (λ k a b. on.pass k (omega arith) (omega arith)))
     (λ i above below. false_from_ne_true (clear test at i) (λ joined.
-    true≢false (sym (clear-at test at i end joined (omega arith) (omega arith)) ∙ on.edge (omega arith)))))
+    true≢false (sym (clear-at test at i end joined (omega arith) (omega arith)) ∙ on.last (omega arith)))))
   where
-    blocked : (i : ℕ) → i < at → clear test at i ≡ true → (s : ℕ) → s ≡ at → ⊥
+    blocked : (i : ℕ) → i < start → clear test at i ≡ true → (s : ℕ) → s ≡ start → ⊥
     blocked i below joined zero e = omega arith
-    blocked i below joined (suc s) e = true≢false (sym (clear-at test at i s joined (omega arith) (omega arith)) ∙ edge s e)
-
-    inside : (i k : ℕ) → at ≤ i → i < end → min at i ≤ k → k ≤ max at i → test k ≡ true
-    inside i k above below a b = grind (arith, common_steps, cases_lt)
+    blocked i below joined (suc s) e =
+        let low = on.low in
+        true≢false (sym (clear-at test at i s joined (omega arith) (omega arith)) ∙ on.first s e)
 
 -- ---- the same along two ways of numbering one line
 pub filter-map : (f : ℕ → ℕ) (test : ℕ → Bool) (xs : List ℕ) → filter test (map f xs) ≡ map f (filter (λ x. test (f x)) xs)
@@ -98,40 +98,35 @@ pub column-cell-joined : (p : Light) (c y : ℕ) → 0 < p.size.w
 unfolding joined_in_column
 column-cell-joined p c y pos = grind (arith, common_steps, mod-lt, div-mul-add, mod-mul-add, eq-eqb)
 
-pub row-run-is : (p : Light) (c : ℕ) {w : ℕ} (x : ℕ) → w ≡ p.size.w → c % p.size.w ≡ x
-    → map (λ i. c - x + i * 1) (filter (clear (λ i. white p (c - x + i * 1)) x) (range_with_len 0 w)) ≡ row_run p c
+pub row-run-is : (p : Light) (y x : ℕ) → x < p.size.w
+    → map (λ i. y * p.size.w + i * 1) (filter (clear (λ i. white p (y * p.size.w + i * 1)) x) (range_with_len 0 p.size.w)) ≡ row_run p (y * p.size.w + x)
 unfolding row_run
-row-run-is p c x e f = rw (e, sym f)
-    (line-run _ (λ i. white p _) (λ i. white p _) _ p.size.w
-    (λ x. c / p.size.w * p.size.w + x) _ same (λ i. ap (white p) (same i)) (λ i lt. row-cell-joined p c i lt))
+row-run-is p y x lt =
+    rw (div-mul-add y p.size.w x lt)
+    (line-run (joined_in_row p (y * p.size.w + x)) (λ i. white p (y * p.size.w + i)) (λ i. white p (y * p.size.w + i * 1)) x p.size.w
+    (λ i. y * p.size.w + i) (λ i. y * p.size.w + i * 1) same (λ i. ap (white p) (same i)) joined)
   where
-    same : (i : ℕ) → c - c % p.size.w + i * 1 ≡ c / p.size.w * p.size.w + i
-    same i = let whole : c ≡ c / p.size.w * p.size.w + c % p.size.w = omega arith in omega arith
-
-pub column-run-is : (p : Light) (c : ℕ) {w h : ℕ} → 0 < p.size.w → w ≡ p.size.w → h ≡ p.size.h
-    → map (λ i. c % w + i * w) (filter (clear (λ i. white p (c % w + i * w)) (c / w)) (range_with_len 0 h)) ≡ column_run p c
-unfolding column_run
-column-run-is p c pos e f = rw (e, f)
-    (line-run (joined_in_column p c) (λ i. white p (i * p.size.w + c % p.size.w)) (λ i. white p (c % p.size.w + i * p.size.w)) (c / p.size.w) p.size.h
-    (λ y. y * p.size.w + c % p.size.w) (λ i. c % p.size.w + i * p.size.w) same (λ i. ap (white p) (same i)) (λ i lt. column-cell-joined p c i pos))
-  where
-    same : (i : ℕ) → c % p.size.w + i * p.size.w ≡ i * p.size.w + c % p.size.w
+    same : (i : ℕ) → y * p.size.w + i * 1 ≡ y * p.size.w + i
     same i = omega arith
 
--- the cell before the first of a run is black
-pub row-begun : (p : Light) (c : ℕ) {x i : ℕ} → begins_row_run p c ≡ true → c % p.size.w ≡ x → suc i ≡ x → white p (c - x + i * 1) ≡ false
-unfolding begins_row_run
-row-begun p c on e f = grind (arith, common_steps, and_parts, or_cases, eqb-true, not-true)
+    joined : (i : ℕ) → i < p.size.w → joined_in_row p (y * p.size.w + x) (y * p.size.w + i) ≡ clear (λ i. white p (y * p.size.w + i)) x i
+    joined i low = rw (div-mul-add y p.size.w x lt, place-column p.size.w y x lt) at (row-cell-joined p (y * p.size.w + x) i low)
 
-pub column-begun : (p : Light) (c : ℕ) {w : ℕ} (i : ℕ) → w ≡ p.size.w → begins_column_run p c ≡ true → suc i ≡ c / w → white p (c % w + i * w) ≡ false
-unfolding begins_column_run
-column-begun p c i e on f = grind (arith, common_steps, and_parts, or_cases, eqb-true, not-true)
+pub column-run-is : (p : Light) (y x : ℕ) → x < p.size.w
+    → map (λ i. x + i * p.size.w) (filter (clear (λ i. white p (x + i * p.size.w)) y) (range_with_len 0 p.size.h)) ≡ column_run p (y * p.size.w + x)
+unfolding column_run
+column-run-is p y x lt =
+    rw (place-column p.size.w y x lt)
+    (line-run (joined_in_column p (y * p.size.w + x)) (λ i. white p (i * p.size.w + x)) (λ i. white p (x + i * p.size.w)) y p.size.h
+    (λ i. i * p.size.w + x) (λ i. x + i * p.size.w) same (λ i. ap (white p) (same i)) (λ i _. joined i))
+  where
+    same : (i : ℕ) → x + i * p.size.w ≡ i * p.size.w + x
+    same i = omega arith
 
--- ---- the cells of a run
-pub run-long : (f : ℕ → ℕ) (start n : ℕ) (xs : List ℕ) → map f (range_with_len start n) ≡ xs → n ≡ length xs
-run-long f start n xs e = sym (length-map-range_with_len f start n) ∙ ap length e
+    joined : (i : ℕ) → joined_in_column p (y * p.size.w + x) (i * p.size.w + x) ≡ clear (λ i. white p (i * p.size.w + x)) y i
+    joined i = rw (div-mul-add y p.size.w x lt, place-column p.size.w y x lt) at (column-cell-joined p (y * p.size.w + x) i (omega arith))
 
--- the cells of a row and of a column
+-- ---- the cells of a row and of a column
 pub row-made : (size : Extent) (y : ℕ) {w : ℕ} → w ≡ size.w → map (λ i. y * w + i * 1) (range_with_len 0 w) ≡ row_places size y
 row-made size y e = grind (arith, common_steps, map-same)
 

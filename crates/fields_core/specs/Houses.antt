@@ -1,5 +1,5 @@
 -- Count houses as they are told by few numbers.
-use Rattle.std.specs.Prelude.{◌≡◌, ℕ, ◌+◌, ◌*◌, List, ◌++◌, map}
+use Rattle.std.specs.Prelude.{◌≡◌, ℕ, ◌+◌, ◌*◌, ◌<◌, Bool, List, ◌++◌, map}
 use Rattle.std.specs.List.{range_with_len, concat}
 use Rattle.fields_core.specs.CountHouse.{CountHouse}
 use Rattle.fields_core.specs.declared.count.house.Bounds.{Bounds}
@@ -31,3 +31,7 @@ bounds_of house = record { least = house.least; most = house.most }
 -- these houses were added at the end
 abbrev pub AreAdded : List House → List House → List CountHouse → Type 0
 AreAdded old new houses = map house_told new ≡ map house_told old ++ houses
+
+-- calls at numbers below n answer as the test does
+abbrev pub TestsBelow : (ℕ → Bool → Type 0) → (ℕ → Bool) → ℕ → Type 0
+TestsBelow answers test n = (c : ℕ) (answer : Bool) → c < n → answers c answer → answer ≡ test c

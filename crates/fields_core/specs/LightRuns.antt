@@ -1,24 +1,23 @@
--- The runs that cells are in, while they are taken by place. No public contract uses these words.
-use Rattle.std.specs.Prelude.{◌≡◌, ℕ, ◌+◌, ◌%◌, ◌<◌, ◌≤◌, true, List, slice_index_or}
+-- The runs that the cells of a line are in. No public contract uses these words.
+use Rattle.std.specs.Prelude.{◌≡◌, ℕ, suc, ◌+◌, ◌-◌, ◌*◌, ◌<◌, ◌≤◌, Bool, true, false, not, ◌&&◌, ◌||◌, ◌==◌, if◌then◌else◌, List, [], ◌∷◌, map, filter}
+use Rattle.std.specs.List.{range_with_len}
 use Rattle.gameid_core.specs.Puzzles.{Light}
-use Rattle.fields_core.specs.Houses.{segment_places}
-use Rattle.fields_core.specs.Light.{white}
-use Rattle.fields_core.specs.LightHouses.{row_run, column_run}
-use Rattle.fields_core.specs.declared.count.house.Segment.{Segment}
+use Rattle.fields_core.specs.CountHouse.{CountHouse, one_at_most}
+use Rattle.fields_core.specs.Light.{clear, white}
 
--- the run of the row that the cell before is in, if that cell is white; and of the column that the cell above is in
-abbrev pub IsRunBefore : Light → Segment → ℕ → Type 0
-IsRunBefore p run place =
-    (c : ℕ) → c + 1 ≡ place → white p c ≡ true → segment_places run ≡ row_run p c
+-- the numbers of a line around `at` that pass, one after another: from `start` to the one before `end`
+pub record IsAround (test : ℕ → Bool) (len at start end : ℕ) : Type 0 where
+  pub low : start ≤ at
+  pub past : at < end
+  pub high : end ≤ len
+  pub pass : (i : ℕ) → start ≤ i → i < end → test i ≡ true
+  pub first : (i : ℕ) → suc i ≡ start → test i ≡ false
+  pub last : end < len → test end ≡ false
 
-abbrev pub IsRunAbove : Light → Segment → ℕ → Type 0
-IsRunAbove p run place =
-    (c : ℕ) → c + p.size.w ≡ place → white p c ≡ true → segment_places run ≡ column_run p c
-
-abbrev pub no_segment : Segment
-no_segment = record { first = 0; stride = 0; len = 0 }
-
--- for each column the run above the next cell of it, from `place` on
-abbrev pub AreRunsAbove : Light → List Segment → ℕ → Type 0
-AreRunsAbove p runs place = (c : ℕ) → place ≤ c → c < place + p.size.w
-    → IsRunAbove p (slice_index_or runs (c % p.size.w) no_segment) c
+-- the house of the run that begins at the cell of number `at` along a line, if one does
+abbrev pub run_house : Light → ℕ → ℕ → ℕ → ℕ → List CountHouse
+run_house p first stride len at =
+    if white p (first + at * stride) && ((at == 0) || not (white p (first + at * stride - stride)))
+    then one_at_most (map (λ i. first + i * stride)
+    (filter (clear (λ i. white p (first + i * stride)) at) (range_with_len 0 len))) ∷ []
+    else []

@@ -1,14 +1,14 @@
 //! Count houses, each told by few numbers.
 #![tactic(auto, using(crate::proofs::LawSets::house_laws))]
 
-ghost use Rattle.std.specs.Prelude.{◌≡◌, ℕ, ◌+◌, ◌*◌, ◌<◌, ◌^◌, ◌∷◌, [], length, map, slice_index};
+ghost use Rattle.std.specs.Prelude.{◌≡◌, ℕ, ◌+◌, ◌*◌, ◌<◌, ◌^◌, Bool, [], filter, length, map, slice_index};
 ghost use Rattle.std.specs.List.{range_with_len};
 ghost use Rattle.engine_core.specs.RuleSystem.{has_place};
-ghost use Rattle.grid_core.specs.Regions.{row_places, column_places};
+ghost use Rattle.grid_core.specs.Regions.{beside as beside_places, row_places, column_places};
 ghost use Rattle.fields_core.specs.CountHouse.{exactly, one_at_least, one_at_most};
-ghost use Rattle.fields_core.specs.Houses.{bounds_of, house_told, places_of, segment_places};
+ghost use Rattle.fields_core.specs.Houses.{TestsBelow, bounds_of, house_told, places_of, segment_places};
 
-use grid_core::Size;
+use grid_core::{Size, step};
 
 /// Cells one after another along a row or a column: the `k`-th stands at `first + k * stride`.
 #[derive(Clone, Copy)]
@@ -26,11 +26,8 @@ impl Segment {
         requires len { len < 2 ^ 8 }
         ensures { segment_places result ≡ map (λ k. first + k * stride) (range_with_len 0 len) }
     {
-        Segment {
-            first: first as u16,
-            stride: stride as u8,
-            len: len as u8,
-        }
+        let (first, stride, len) = (first as u16, stride as u8, len as u8);
+        Segment { first, stride, len }
     }
 
     /// No cell.
@@ -38,14 +35,6 @@ impl Segment {
         ensures { segment_places result ≡ [] }
     {
         Segment::of(0, 0, 0)
-    }
-
-    /// One cell.
-    pub(crate) fn cell(place: usize) -> Segment
-        requires { place < 2 ^ 16 }
-        ensures { segment_places result ≡ place ∷ [] }
-    {
-        Segment::of(place, 0, 1)
     }
 
     /// The cells of a row, from the left.
@@ -81,7 +70,14 @@ impl Segment {
         requires { k < length (segment_places self) }
         ensures { result ≡ slice_index (segment_places self) k }
     {
-        at(self.first, self.stride, self.len, k)
+        usize::from(self.first) + k * usize::from(self.stride)
+    }
+
+    /// Its cells alone.
+    pub(crate) fn alone(self) -> [Segment; 4]
+        ensures { places_of result ≡ segment_places self }
+    {
+        [self, Segment::none(), Segment::none(), Segment::none()]
     }
 }
 
@@ -104,24 +100,17 @@ impl House {
     pub(crate) fn exactly(ones: u8, cells: [Segment; 4]) -> House
         ensures { house_told result ≡ exactly ones (places_of cells) }
     {
-        let ones = u32::from(ones);
-        House {
-            cells,
-            bounds: Bounds {
-                least: ones,
-                most: ones,
-            },
-        }
+        let most = u32::from(ones);
+        let bounds = Bounds { least: most, most };
+        House { cells, bounds }
     }
 
     /// Cells that hold one 1 at most.
     pub(crate) fn one_at_most(cells: [Segment; 4]) -> House
         ensures { house_told result ≡ one_at_most (places_of cells) }
     {
-        House {
-            cells,
-            bounds: Bounds { least: 0, most: 1 },
-        }
+        let bounds = Bounds { least: 0, most: 1 };
+        House { cells, bounds }
     }
 
     /// Cells that hold one 1 at least.
@@ -129,10 +118,8 @@ impl House {
         ensures { house_told result ≡ one_at_least (places_of cells) }
     {
         let most = count_cells(&cells) as u32;
-        House {
-            cells,
-            bounds: Bounds { least: 1, most },
-        }
+        let bounds = Bounds { least: 1, most };
+        House { cells, bounds }
     }
 
     /// How many cells it has.
@@ -178,26 +165,29 @@ impl House {
     }
 }
 
-/// So many.
-fn long(len: u8) -> usize
-    ensures same { result ≡ len }
-    ensures small { result < 2 ^ 8 }
-{
-    usize::from(len)
-}
-
-/// The place of the `k`-th of so many cells.
-fn at(first: u16, stride: u8, len: u8, k: usize) -> usize
-    requires { k < len }
-    ensures { result ≡ first + k * stride }
-{
-    usize::from(first) + k * usize::from(stride)
-}
-
 /// How many cells segments have together.
 fn count_cells(cells: &[Segment; 4]) -> usize
     ensures long { result ≡ length (places_of cells.now) }
     ensures few { result < 2 ^ 10 }
 {
-    long(cells[0].len) + long(cells[1].len) + long(cells[2].len) + long(cells[3].len)
+    let [a, b, c, d] = *cells;
+    a.len as usize + b.len as usize + c.len as usize + d.len as usize
+}
+
+/// The cells beside the place that pass, in the order up, left, right, down.
+pub(crate) fn beside<F: Fn(usize) -> bool>(size: Size, place: usize, passes: F) -> [Segment; 4]
+    requires place_in { place < size.w * size.h }
+    requires callable { (c : ℕ) → c < size.w * size.h → F.pre passes c }
+    ensures { (test : ℕ → Bool) → TestsBelow (F.post passes) test (size.w * size.h)
+        → places_of result ≡ filter test (beside_places size place) }
+{
+    let mut cells = Segment::none().alone();
+    for direction in 0..4 {
+        if let Some(other) = step(size, place, direction) {
+            if passes(other) {
+                cells[direction] = Segment::of(other, 0, 1);
+            }
+        }
+    }
+    cells
 }

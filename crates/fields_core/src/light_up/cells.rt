@@ -1,7 +1,7 @@
 //! White cells, and the lines of a puzzle of Light Up.
 #![tactic(auto, using(crate::proofs::LawSets::light_cells_laws))]
 
-ghost use Rattle.std.specs.Prelude.{◌≡◌, ℕ, ◌+◌, ◌%◌, ◌<◌};
+ghost use Rattle.std.specs.Prelude.{◌≡◌, ◌<◌};
 ghost use Rattle.gameid_core.specs.Puzzles.{IsLight};
 ghost use Rattle.fields_core.specs.Light.{light_cells, white};
 
@@ -45,13 +45,4 @@ pub(crate) fn cells(puzzle: &LightPuzzle) -> usize
     ensures lawful { IsLight puzzle.now }
 {
     puzzle.size().cells()
-}
-
-/// The column of the next cell by place: that of the cell after one in column `x`.
-pub(crate) fn next_column(puzzle: &LightPuzzle, x: usize) -> usize
-    requires { x < puzzle.now.size.w }
-    ensures { (c : ℕ) → c % puzzle.now.size.w ≡ x → (c + 1) % puzzle.now.size.w ≡ result }
-{
-    let w = columns(puzzle);
-    if x + 1 == w { 0 } else { x + 1 }
 }

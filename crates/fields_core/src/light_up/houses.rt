@@ -1,53 +1,20 @@
 //! The count houses of Light Up.
 #![tactic(auto, using(crate::proofs::LawSets::light_houses_laws))]
 
-ghost use Rattle.std.specs.Prelude.{◌≡◌, ◌%◌, ◌<◌, IfOk, OnOk, filter, map};
-ghost use Rattle.grid_core.specs.Regions.{beside as beside_places, if_there, step as step_to};
-ghost use Rattle.fields_core.specs.CountHouse.{houses_below};
-ghost use Rattle.fields_core.specs.Houses.{AreAdded, house_told, places_of, segment_places};
-ghost use Rattle.fields_core.specs.Light.{light_cells, white};
-ghost use Rattle.fields_core.specs.LightHouses.{number_house, row_house, column_house, light_houses};
+ghost use Rattle.std.specs.Prelude.{◌≡◌, ℕ, ◌+◌, ◌*◌, ◌<◌, ◌^◌, IfOk, OnOk, map};
+ghost use Rattle.fields_core.specs.Houses.{AreAdded, house_told};
+ghost use Rattle.fields_core.specs.Light.{light_cells};
+ghost use Rattle.fields_core.specs.LightHouses.{number_house, light_houses};
+ghost use Rattle.fields_core.specs.LightRuns.{run_house};
 ghost use Rattle.gameid_core.specs.Puzzles.{IsLight};
 
-use crate::count::house::{House, Segment};
-use crate::light_up::cells::{cells, is_white, next_column};
+use crate::count::house::{House, Segment, beside};
+use crate::count::run::along;
+use crate::light_up::cells::{cells, columns, is_white, rows};
 use crate::light_up::lit::push_lits;
-use crate::light_up::run::{begins_in_column, begins_in_row, run_in_column, run_in_row};
+use crate::light_up::run::{begins, run_end};
 use gameid_core::{LightCell, LightPuzzle};
-use grid_core::step;
 use std::alloc::{AllocError, Global};
-
-/// The cell beside the cell in a direction, if it is white.
-fn white_in(puzzle: &LightPuzzle, place: usize, direction: usize) -> Segment
-    requires place_in { place < light_cells puzzle.now }
-    requires direction_in { direction < 4 }
-    ensures { segment_places result ≡ filter (white puzzle.now)
-        (if_there (step_to puzzle.now.size place direction)) }
-{
-    match step(puzzle.size(), place, direction) {
-        None => Segment::none(),
-        Some(other) => {
-            if is_white(puzzle, other) {
-                return Segment::cell(other);
-            }
-            Segment::none()
-        }
-    }
-}
-
-/// The white cells beside the cell.
-fn beside(puzzle: &LightPuzzle, place: usize) -> [Segment; 4]
-    requires { place < light_cells puzzle.now }
-    ensures { places_of result ≡ filter (white puzzle.now) (beside_places puzzle.now.size place) }
-{
-    let (up, left) = (white_in(puzzle, place, 0), white_in(puzzle, place, 1));
-    [
-        up,
-        left,
-        white_in(puzzle, place, 2),
-        white_in(puzzle, place, 3),
-    ]
-}
 
 /// Adds the house of a cell with a number.
 fn push_number(
@@ -60,83 +27,33 @@ fn push_number(
         (AreAdded houses.old.items houses.new.items (number_house puzzle.now place)) }
 {
     if let LightCell::Numbered(n) = puzzle.cell(place) {
-        houses.push(House::exactly(n, beside(puzzle, place)))?;
+        let white = beside(puzzle.size(), place, |other| is_white(puzzle, other));
+        houses.push(House::exactly(n, white))?;
     }
     Ok(())
 }
 
-/// Adds the houses of the numbers, by place.
-#[tactic(auto, using(crate::proofs::LawSets::house_list_laws))]
-fn push_numbers(houses: &mut Vec<House>, puzzle: &LightPuzzle) -> Result<(), AllocError>
-    ensures { OnOk result (AreAdded houses.old.items houses.new.items
-        (houses_below (number_house puzzle.now) (light_cells puzzle.now))) }
-{
-    for place in 0..cells(puzzle) {
-        push_number(houses, puzzle, place)?;
-    }
-    Ok(())
-}
-
-/// Adds the house of the run of a row that begins at the cell, if one does. The cell is in column `x`.
-fn push_row(
+/// Adds the house of the run that begins at the cell of number `at` along a line, if one does.
+fn push_run(
     houses: &mut Vec<House>,
     puzzle: &LightPuzzle,
-    x: usize,
-    place: usize,
+    first: usize,
+    stride: usize,
+    len: usize,
+    at: usize,
 ) -> Result<(), AllocError>
-    requires place_in { place < light_cells puzzle.now }
-    requires column { place % puzzle.now.size.w ≡ x }
+    requires lawful { IsLight puzzle.now }
+    requires within { (i : ℕ) → i < len → first + i * stride < light_cells puzzle.now }
+    requires at_in { at < len }
+    requires near { stride < 2 ^ 8 }
+    requires short { len < 2 ^ 8 }
     ensures { OnOk result
-        (AreAdded houses.old.items houses.new.items (row_house puzzle.now place)) }
+        (AreAdded houses.old.items houses.new.items (run_house puzzle.now first stride len at)) }
 {
-    if begins_in_row(puzzle, x, place) {
-        let none = Segment::none();
-        let run = run_in_row(puzzle, x, place);
-        houses.push(House::one_at_most([run, none, none, none]))?;
-    }
-    Ok(())
-}
-
-/// Adds the houses of the runs of rows, by the places where they begin.
-#[tactic(auto, using(crate::proofs::LawSets::house_list_laws))]
-fn push_rows(houses: &mut Vec<House>, puzzle: &LightPuzzle) -> Result<(), AllocError>
-    ensures { OnOk result (AreAdded houses.old.items houses.new.items
-        (houses_below (row_house puzzle.now) (light_cells puzzle.now))) }
-{
-    let mut x = 0;
-    for place in 0..cells(puzzle) {
-        push_row(houses, puzzle, x, place)?;
-        x = next_column(puzzle, x);
-    }
-    Ok(())
-}
-
-/// Adds the house of the run of a column that begins at the cell, if one does.
-fn push_column(
-    houses: &mut Vec<House>,
-    puzzle: &LightPuzzle,
-    place: usize,
-) -> Result<(), AllocError>
-    requires place_in { place < light_cells puzzle.now }
-    ensures { OnOk result
-        (AreAdded houses.old.items houses.new.items (column_house puzzle.now place)) }
-{
-    if begins_in_column(puzzle, place) {
-        let none = Segment::none();
-        let run = run_in_column(puzzle, place);
-        houses.push(House::one_at_most([run, none, none, none]))?;
-    }
-    Ok(())
-}
-
-/// Adds the houses of the runs of columns, by the places where they begin.
-#[tactic(auto, using(crate::proofs::LawSets::house_list_laws))]
-fn push_columns(houses: &mut Vec<House>, puzzle: &LightPuzzle) -> Result<(), AllocError>
-    ensures { OnOk result (AreAdded houses.old.items houses.new.items
-        (houses_below (column_house puzzle.now) (light_cells puzzle.now))) }
-{
-    for place in 0..cells(puzzle) {
-        push_column(houses, puzzle, place)?;
+    let place = along(first, stride, at);
+    if begins(puzzle, place, stride, at) {
+        let end = run_end(puzzle, first, stride, len, at);
+        houses.push(House::one_at_most(Segment::of(place, stride, end - at).alone()))?;
     }
     Ok(())
 }
@@ -151,9 +68,20 @@ pub(crate) fn houses_of_lights(
     ensures told { IfOk result (λ list. map house_told list.items ≡ light_houses puzzle.now) }
 {
     let mut houses = Vec::with_capacity(alloc, cells(puzzle).saturating_mul(2))?;
-    push_numbers(&mut houses, puzzle)?;
-    push_rows(&mut houses, puzzle)?;
-    push_columns(&mut houses, puzzle)?;
+    let (w, h) = (columns(puzzle), rows(puzzle));
+    for place in 0..cells(puzzle) {
+        push_number(&mut houses, puzzle, place)?;
+    }
+    for y in 0..h {
+        for x in 0..w {
+            push_run(&mut houses, puzzle, y * w, 1, w, x)?;
+        }
+    }
+    for y in 0..h {
+        for x in 0..w {
+            push_run(&mut houses, puzzle, x, w, h, y)?;
+        }
+    }
     push_lits(&mut houses, puzzle)?;
     Ok(houses)
 }

@@ -1,75 +1,17 @@
 //! The count houses of Tents.
 #![tactic(auto, using(crate::proofs::LawSets::tent_houses_laws))]
 
-ghost use Rattle.std.specs.Prelude.{◌≡◌, ◌+◌, ◌<◌, ◌&&◌, ◌∷◌, [], filter, nat_lt, not, IfOk, OnOk, map};
-ghost use Rattle.grid_core.specs.Regions.{if_there, step as step_to};
-ghost use Rattle.fields_core.specs.Houses.{AreAdded, house_told, places_of, segment_places};
-ghost use Rattle.fields_core.specs.Tents.{tent_cells, tree};
-ghost use Rattle.fields_core.specs.TentHouses.{column_of_tents, row_of_tents, free_beside, tree_house, square_house, tent_houses};
+ghost use Rattle.std.specs.Prelude.{◌≡◌, ◌<◌, IfOk, OnOk, map};
+ghost use Rattle.fields_core.specs.Houses.{AreAdded, house_told};
+ghost use Rattle.fields_core.specs.Tents.{tent_cells};
+ghost use Rattle.fields_core.specs.TentHouses.{square_house, tent_houses, tree_house};
 ghost use Rattle.gameid_core.specs.Puzzles.{IsTents};
 
-use crate::count::house::{House, Segment};
+use crate::count::house::{House, Segment, beside};
 use crate::tents::cells::{cells, column_number, columns, is_tree, row_number, rows};
 use crate::tents::touch::{column_in, row_in};
 use gameid_core::TentsPuzzle;
-use grid_core::step;
 use std::alloc::{AllocError, Global};
-
-/// The cell beside the cell in a direction, if it has no tree.
-fn free_in(puzzle: &TentsPuzzle, place: usize, direction: usize) -> Segment
-    requires place_in { place < tent_cells puzzle.now }
-    requires direction_in { direction < 4 }
-    ensures { segment_places result ≡ filter (λ d. not (tree puzzle.now d))
-        (if_there (step_to puzzle.now.size place direction)) }
-{
-    match step(puzzle.size(), place, direction) {
-        None => Segment::none(),
-        Some(other) => {
-            if is_tree(puzzle, other) {
-                return Segment::none();
-            }
-            Segment::cell(other)
-        }
-    }
-}
-
-/// The cells beside the cell that have no tree.
-fn beside(puzzle: &TentsPuzzle, place: usize) -> [Segment; 4]
-    requires { place < tent_cells puzzle.now }
-    ensures { places_of result ≡ free_beside puzzle.now place }
-{
-    let (up, left) = (free_in(puzzle, place, 0), free_in(puzzle, place, 1));
-    [
-        up,
-        left,
-        free_in(puzzle, place, 2),
-        free_in(puzzle, place, 3),
-    ]
-}
-
-/// Adds the house of a column.
-fn push_column(houses: &mut Vec<House>, puzzle: &TentsPuzzle, x: usize) -> Result<(), AllocError>
-    requires x_in { x < puzzle.now.size.w }
-    ensures { OnOk result
-        (AreAdded houses.old.items houses.new.items (column_of_tents puzzle.now x)) }
-{
-    let none = Segment::none();
-    let column = Segment::column(puzzle.size(), x);
-    houses.push(House::exactly(column_number(puzzle, x), [column, none, none, none]))?;
-    Ok(())
-}
-
-/// Adds the house of a row.
-fn push_row(houses: &mut Vec<House>, puzzle: &TentsPuzzle, y: usize) -> Result<(), AllocError>
-    requires y_in { y < puzzle.now.size.h }
-    ensures { OnOk result
-        (AreAdded houses.old.items houses.new.items (row_of_tents puzzle.now y)) }
-{
-    let none = Segment::none();
-    let row = Segment::row(puzzle.size(), y);
-    houses.push(House::exactly(row_number(puzzle, y), [row, none, none, none]))?;
-    Ok(())
-}
 
 /// Adds the house of a tree, if one stands on the cell.
 fn push_tree(houses: &mut Vec<House>, puzzle: &TentsPuzzle, place: usize) -> Result<(), AllocError>
@@ -78,7 +20,8 @@ fn push_tree(houses: &mut Vec<House>, puzzle: &TentsPuzzle, place: usize) -> Res
         (AreAdded houses.old.items houses.new.items (tree_house puzzle.now place)) }
 {
     if is_tree(puzzle, place) {
-        houses.push(House::one_at_least(beside(puzzle, place)))?;
+        let free = beside(puzzle.size(), place, |other| !is_tree(puzzle, other));
+        houses.push(House::one_at_least(free))?;
     }
     Ok(())
 }
@@ -111,10 +54,12 @@ pub(crate) fn houses_of_tents(alloc: Global, puzzle: &TentsPuzzle) -> Result<Vec
 {
     let mut houses = Vec::with_capacity(alloc, cells(puzzle).saturating_mul(2))?;
     for x in 0..columns(puzzle) {
-        push_column(&mut houses, puzzle, x)?;
+        let column = Segment::column(puzzle.size(), x).alone();
+        houses.push(House::exactly(column_number(puzzle, x), column))?;
     }
     for y in 0..rows(puzzle) {
-        push_row(&mut houses, puzzle, y)?;
+        let row = Segment::row(puzzle.size(), y).alone();
+        houses.push(House::exactly(row_number(puzzle, y), row))?;
     }
     for place in 0..cells(puzzle) {
         push_tree(&mut houses, puzzle, place)?;

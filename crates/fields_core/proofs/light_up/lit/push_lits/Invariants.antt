@@ -1,11 +1,18 @@
-use Rattle.fields_core.proofs.Common.{AreAdded, AreRunsAbove, IsRunBefore, houses_below, length, lit_house, ◌%◌, ◌≡◌, ◌≤◌}
+use Rattle.fields_core.proofs.Common.{AreAdded, houses_below, length, lit_house, ◌*◌, ◌+◌, ◌≤◌}
+use Rattle.fields_core.proofs.LightLatest.{AreColumnsKept, IsRowKept}
 use Rattle.fields_core.proofs.light_up.lit.push_lits.Given as goal
 
-abbrev pub invariant-loop-place : goal.invariant-loop-place
-invariant-loop-place l = record {
-  added : AreAdded l.fn.houses.items l.houses.items (houses_below (lit_house l.puzzle) l.place);
-  row : IsRunBefore l.puzzle l.row l.place;
-  columns : AreRunsAbove l.puzzle l.columns l.place;
+abbrev pub invariant-loop-y : goal.invariant-loop-y
+invariant-loop-y l = record {
+  added : AreAdded l.fn.houses.items l.houses.items (houses_below (lit_house l.puzzle) (l.y * l.puzzle.size.w));
+  columns : AreColumnsKept l.puzzle l.columns l.y 0;
   wide : l.puzzle.size.w ≤ length l.columns;
-  x : l.place % l.puzzle.size.w ≡ l.x;
+}
+
+abbrev pub invariant-loop-x : goal.invariant-loop-x
+invariant-loop-x l = record {
+  added : AreAdded l.fn.houses.items l.houses.items (houses_below (lit_house l.puzzle) (l.y * l.puzzle.size.w + l.x));
+  row : IsRowKept l.puzzle l.row l.y l.x;
+  columns : AreColumnsKept l.puzzle l.columns l.y l.x;
+  wide : l.puzzle.size.w ≤ length l.columns;
 }
