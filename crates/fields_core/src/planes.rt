@@ -8,7 +8,6 @@ pub(crate) mod lights;
 pub(crate) mod near;
 pub(crate) mod next;
 pub(crate) mod notes;
-pub(crate) mod numbers;
 pub(crate) mod part;
 pub(crate) mod position;
 pub(crate) mod rows;
