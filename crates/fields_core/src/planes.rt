@@ -5,7 +5,6 @@ pub(crate) mod game;
 pub(crate) mod lights;
 pub(crate) mod next;
 pub(crate) mod notes;
-pub(crate) mod numbers;
 pub(crate) mod part;
 pub(crate) mod position;
 pub(crate) mod squares;

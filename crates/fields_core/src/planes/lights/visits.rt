@@ -1,14 +1,15 @@
 //! Visits of the houses of Light Up by the words that are kept of a puzzle.
 #![tactic(auto)]
 
-ghost use Rattle.std.specs.Prelude.{◌≡◌, ℕ, ◌+◌, ◌*◌, ◌<◌, ◌≤◌, ◌&&◌, Bool, true, IfNone, IfSome, List, length, map, nat_lt, slice_index};
+ghost use Rattle.std.specs.Prelude.{◌≡◌, ℕ, ◌+◌, ◌*◌, ◌<◌, ◌≤◌, ◌&&◌, ◌||◌, ◌==◌, Bool, true, IfNone, IfSome, List, length, map, nat_lt, slice_index};
 ghost use Rattle.grid_core.specs.Candidates.{count_below};
 ghost use Rattle.grid_core.specs.Planes.{has, line_len, lines_beside, number_of};
 ghost use Rattle.grid_core.specs.Words.{has_bit};
 ghost use Rattle.fields_core.specs.CountHouse.{CountHouse};
-ghost use Rattle.fields_core.specs.LightHouses.{lit_house};
+ghost use Rattle.fields_core.specs.LightHouses.{lit_house, number_house};
 ghost use Rattle.fields_core.specs.LightPlanes.{ArePlanesOf, AreTables};
 ghost use Rattle.fields_core.specs.LightWaits.{AreIdleBut, light_kind_houses, light_kind_lines};
+ghost use Rattle.fields_core.specs.LightWords.{numbers_of_row};
 ghost use Rattle.fields_core.specs.Parts.{IsAlive};
 ghost use Rattle.fields_core.specs.RunLines.{AreAround, AreRunsOf, IsClash};
 ghost use Rattle.fields_core.specs.Visits.{AreVisited};
@@ -16,9 +17,11 @@ ghost use Rattle.fields_core.specs.Visits.{AreVisited};
 use crate::light_up::cells::columns;
 use crate::planes::lights::tables::LightTables;
 use crate::planes::lights::waits::LightKind;
-use crate::planes::numbers::visit_numbers;
-use gameid_core::LightPuzzle;
-use grid_core::{Line, Planes, Word};
+use crate::planes::next::next_place;
+use crate::planes::part::Part;
+use crate::planes::visit::visit;
+use gameid_core::{LightCell, LightPuzzle};
+use grid_core::{Line, Planes, Word, row_place};
 
 /// Whether the word has two places or more.
 pub(crate) fn has_two<W: Word>(word: W) -> bool
@@ -82,6 +85,89 @@ fn visit_line<W: Word>(
     true
 }
 
+/// The places beside a place.
+fn beside<W: Word>(place: usize) -> W
+    requires { place < W.room }
+    ensures { (k : ℕ) → k < W.room
+        → has_bit (W.bits result) k ≡ ((k == place + 1) || (place == k + 1)) }
+{
+    let own = W::one(place);
+    own.on().either(own.back())
+}
+
+/// Visits the house of a cell, if it has a number. Says whether the house has a filling, or no white cell beside it: if not,
+/// nothing is taken.
+fn visit_number<W: Word>(
+    planes: &mut Planes<W>,
+    puzzle: &LightPuzzle,
+    tables: &LightTables<W>,
+    y: u8,
+    x: u8,
+) -> bool
+    requires size { planes.old.size ≡ puzzle.now.size }
+    requires tables { AreTables W.bits puzzle.now tables.now }
+    requires y_in { y < puzzle.now.size.h }
+    requires x_in { x < puzzle.now.size.w }
+    requires alive { IsAlive planes.old }
+    ensures { AreVisited (number_house puzzle.now (y * puzzle.now.size.w + x))
+        planes.old planes.new result }
+{
+    let place = row_place(planes.size(), usize::from(y), usize::from(x));
+    match puzzle.cell(place) {
+        LightCell::White => true,
+        LightCell::Black => true,
+        LightCell::Numbered(number) => {
+            let row = beside::<W>(usize::from(x)).both(tables.rows[usize::from(y)]);
+            let column = beside::<W>(usize::from(y)).both(tables.columns[usize::from(x)]);
+            let parts = (
+                Part {
+                    line: Line::Row(y),
+                    cells: row,
+                },
+                Part {
+                    line: Line::Column(x),
+                    cells: column,
+                },
+            );
+            let ones = usize::from(number);
+            visit(planes, &parts, ones, ones) || !row.either(column).is_some()
+        }
+    }
+}
+
+/// Visits the houses of the numbers of a row that stand in the columns `at`, up to one that has no filling: all others are
+/// idle. Once one has taken something, all that follow are visited.
+fn visit_numbers<W: Word>(
+    planes: &mut Planes<W>,
+    puzzle: &LightPuzzle,
+    tables: &LightTables<W>,
+    y: u8,
+    at: W,
+) -> bool
+    requires size { planes.old.size ≡ puzzle.now.size }
+    requires tables { AreTables W.bits puzzle.now tables.now }
+    requires y_in { y < puzzle.now.size.h }
+    requires others { AreIdleBut puzzle.now (W.bits at) y (has planes.old) }
+    requires alive { IsAlive planes.old }
+    ensures { AreVisited (numbers_of_row puzzle.now y) planes.old planes.new result }
+{
+    let w = usize::from(planes.size().w());
+    let own = tables.numbers[usize::from(y)];
+    let mut left = own.both(at);
+    let mut from = 0;
+    while let Some(x) = next_place(left, from, w) {
+        let len = planes.len();
+        if !visit_number(planes, puzzle, tables, y, x as u8) {
+            return false;
+        }
+        if planes.len() != len {
+            left = own;
+        }
+        from = x + 1;
+    }
+    true
+}
+
 impl<W: Word> LightTables<W> {
     /// Visits the houses of a kind at a line, up to one that has no filling. Numbers in other columns than these are idle.
     #[inline(always)]
@@ -104,17 +190,7 @@ impl<W: Word> LightTables<W> {
         let w = usize::from(size.w());
         let h = usize::from(size.h());
         match kind {
-            LightKind::Numbers => {
-                visit_numbers(
-                    planes,
-                    puzzle,
-                    &self.numbers,
-                    &self.rows,
-                    &self.columns,
-                    line,
-                    columns,
-                )
-            }
+            LightKind::Numbers => visit_numbers(planes, puzzle, self, line, columns),
             LightKind::RowRuns => {
                 let first = usize::from(line) * w;
                 visit_line(planes, &self.row_runs, Line::Row(line), first, 1, w)

@@ -4,10 +4,9 @@
 ghost use Rattle.std.specs.Prelude.{◌≡◌, ℕ, ◌+◌, ◌*◌, ◌<◌, ◌≤◌, length, map, slice_index, true};
 ghost use Rattle.grid_core.specs.Planes.{has};
 ghost use Rattle.grid_core.specs.Words.{has_bit};
-ghost use Rattle.fields_core.specs.Light.{light_cells, joined_in_column, joined_in_row};
+ghost use Rattle.fields_core.specs.Light.{joined_in_column, joined_in_row};
 ghost use Rattle.fields_core.specs.LightPlanes.{AreTables};
 ghost use Rattle.fields_core.specs.LightWaits.{AreNoted, AreWider, IsMinded, IsNoted};
-ghost use Rattle.fields_core.specs.LightWords.{IsColumnRun, IsRowRun};
 
 use crate::light_up::cells::{columns, rows};
 use crate::planes::lights::tables::LightTables;
@@ -39,14 +38,12 @@ fn wake_in_row<W: Word>(
     lit: &mut Vec<W>,
     planes: &Planes<W>,
     puzzle: &LightPuzzle,
-    runs: &[W],
+    tables: &LightTables<W>,
     y: usize,
     x: usize,
 )
     requires size { planes.now.size ≡ puzzle.now.size }
-    requires room { light_cells puzzle.now ≤ length (map W.bits runs.now) }
-    requires runs { (c : ℕ) → c < light_cells puzzle.now
-        → IsRowRun puzzle.now c (slice_index (map W.bits runs.now) c) }
+    requires tables { AreTables W.bits puzzle.now tables.now }
     requires long { puzzle.now.size.h ≤ length lit.old.items }
     requires y_in { y < puzzle.now.size.h }
     requires x_in { x < puzzle.now.size.w }
@@ -54,7 +51,7 @@ fn wake_in_row<W: Word>(
     ensures minded { IsMinded (joined_in_row puzzle.now (y * puzzle.now.size.w + x))
         puzzle.now.size.w (map W.bits lit.new.items) (has planes.now) }
 {
-    let run = runs[y * columns(puzzle) + x];
+    let run = tables.row_runs[y * columns(puzzle) + x];
     if has_two(planes.row(y as u8, 1).both(run)) {
         return;
     }
@@ -67,14 +64,12 @@ fn wake_in_column<W: Word>(
     lit: &mut Vec<W>,
     planes: &Planes<W>,
     puzzle: &LightPuzzle,
-    runs: &[W],
+    tables: &LightTables<W>,
     y: usize,
     x: usize,
 )
     requires size { planes.now.size ≡ puzzle.now.size }
-    requires room { light_cells puzzle.now ≤ length (map W.bits runs.now) }
-    requires runs { (c : ℕ) → c < light_cells puzzle.now
-        → IsColumnRun puzzle.now c (slice_index (map W.bits runs.now) c) }
+    requires tables { AreTables W.bits puzzle.now tables.now }
     requires long { puzzle.now.size.h ≤ length lit.old.items }
     requires y_in { y < puzzle.now.size.h }
     requires x_in { x < puzzle.now.size.w }
@@ -82,7 +77,7 @@ fn wake_in_column<W: Word>(
     ensures minded { IsMinded (joined_in_column puzzle.now (y * puzzle.now.size.w + x))
         puzzle.now.size.w (map W.bits lit.new.items) (has planes.now) }
 {
-    let run = runs[y * columns(puzzle) + x];
+    let run = tables.column_runs[y * columns(puzzle) + x];
     if has_two(planes.column(x as u8, 1).both(run)) {
         return;
     }
@@ -112,8 +107,8 @@ fn wake_row<W: Word>(
     let mut left = cells;
     while left.is_some() {
         let x = left.lowest();
-        wake_in_row(lit, planes, puzzle, &tables.row_runs, y, x);
-        wake_in_column(lit, planes, puzzle, &tables.column_runs, y, x);
+        wake_in_row(lit, planes, puzzle, tables, y, x);
+        wake_in_column(lit, planes, puzzle, tables, y, x);
         left = left.without_lowest();
     }
 }

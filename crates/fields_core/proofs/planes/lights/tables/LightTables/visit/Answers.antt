@@ -13,8 +13,8 @@ returns-in-RowRuns g c =
     let first : c.from.result * c.from-w.result ≡ y * p.size.w = rw (c.from.ensures, w_is) refl in
     rw (c.in-RowRuns.is) (c.visit_line.ensures (λ k. y * p.size.w + k) (λ j k. joined_in_row p (y * p.size.w + j) (y * p.size.w + k)) (row_runs_of_row p y)
     (rw (of.size, w_is) (row-runs-of p y of.lawful))
-    (row-words p y (map g.W.Word.bits c.deref-in-RowRuns.result.now) first w_is (rw (c.in-RowRuns.is) at c.requires.line_in)
-    (rw (c.deref-in-RowRuns.ensures.value) c.requires.tables.runs.in_row)))
+    (row-words p y (map g.W.Word.bits c.deref.result.now) first w_is (rw (c.in-RowRuns.is) at c.requires.line_in)
+    (rw (c.deref.ensures.value) c.requires.tables.runs.in_row)))
 
 pub returns-in-ColumnRuns : goal.returns-in-ColumnRuns
 returns-in-ColumnRuns g c =

@@ -2,7 +2,7 @@ use Rattle.fields_core.proofs.Common.{houses_below, number_house, true, ◌*◌,
 use Rattle.grid_core.specs.Planes.{has}
 use Rattle.fields_core.specs.LightWaits.{AreIdleBut}
 use Rattle.fields_core.specs.Visits.{AreVisited}
-use Rattle.fields_core.proofs.planes.numbers.visit_numbers.Given as goal
+use Rattle.fields_core.proofs.planes.lights.visits.visit_numbers.Given as goal
 
 abbrev pub invariant-loop-x : goal.invariant-loop-x
 invariant-loop-x g l = record {

@@ -6,16 +6,16 @@ use Rattle.fields_core.proofs.IdleLemmas.{visited-skip}
 use Rattle.fields_core.proofs.NumberRows.{numbers-all, numbers-both}
 use Rattle.fields_core.proofs.TreeWords.{row-read}
 use Rattle.fields_core.proofs.VisitLemmas.{sweep-broken, sweep-first, sweep-more}
-use Rattle.fields_core.proofs.planes.numbers.visit_numbers.Goals as goal
-use Rattle.fields_core.proofs.planes.numbers.visit_numbers.Goals.{After-both-left, then-len, else-len}
+use Rattle.fields_core.proofs.planes.lights.visits.visit_numbers.Goals as goal
+use Rattle.fields_core.proofs.planes.lights.visits.visit_numbers.Goals.{After-both-left, then-len, else-len}
 
 module _ (g : _) (c : After-both-left g) where
   abbrev houses : ℕ → List CountHouse
   houses x = number_house c.args.puzzle.now (c.args.y * c.args.puzzle.now.size.w + x)
 
-  pub own : IsRowOf c.args.puzzle.now.size.w (is_numbered c.args.puzzle.now) c.args.y (g.W.Word.bits c.index-numbers-from.result)
-  own = rw (row-read g.W.Word.bits c.args.numbers.now c.args.y c.index-numbers-from.result (omega (arith, c.requires.y_in, c.requires.numbers.long, length-map c.args.numbers.now g.W.Word.bits)) (rw (c.from.ensures) at c.index-numbers-from.is))
-      at (c.requires.numbers.each c.args.y c.requires.y_in)
+  pub own : IsRowOf c.args.puzzle.now.size.w (is_numbered c.args.puzzle.now) c.args.y (g.W.Word.bits c.index-own.result.now)
+  own = rw (row-read g.W.Word.bits c.args.tables.now.numbers.items c.args.y c.index-own.result.now (omega (arith, c.requires.y_in, c.requires.tables.numbers.long, length-map c.args.tables.now.numbers.items g.W.Word.bits)) (rw (c.from.ensures) at c.index-own.ensures))
+      at (c.requires.tables.numbers.each c.args.y c.requires.y_in)
 
   pub w_is : c.from-w.result ≡ c.args.puzzle.now.size.w
   w_is = c.from-w.ensures ∙ c.w.ensures.value ∙ ap (λ (e : Extent). e.w) (c.size.ensures.value ∙ c.requires.size)

@@ -3,8 +3,8 @@ use Rattle.grid_core.specs.Planes.{ArePlanes}
 use Rattle.fields_core.proofs.LightLines.{cell-at}
 use Rattle.fields_core.proofs.NumberVisits.{IsBeside, beside-word, black-visited, both_pieces, number-filled, number-house-of, number-short, pieces-apart, white-visited}
 use Rattle.fields_core.proofs.TreeWords.{row-read}
-use Rattle.fields_core.proofs.planes.numbers.visit_number.Goals as goal
-use Rattle.fields_core.proofs.planes.numbers.visit_number.Goals.{After-cell, After-from-ones}
+use Rattle.fields_core.proofs.planes.lights.visits.visit_number.Goals as goal
+use Rattle.fields_core.proofs.planes.lights.visits.visit_number.Goals.{After-cell, After-from-ones}
 
 -- the place of the cell
 place-is : (g : _) (c : After-cell g) → c.row_place-place.result ≡ c.args.y * c.args.puzzle.now.size.w + c.args.x
@@ -31,14 +31,14 @@ module _ (g : _) (c : After-from-ones g) where
   pub row : IsBeside p.size.w (λ k. white p (c.args.y * p.size.w + k)) c.args.x (g.W.Word.bits c.both-row.result)
   row = beside-word p.size.w g.W.Word.room c.args.x _ _ _ (λ k. white p (c.args.y * p.size.w + k)) wide c.both-row.ensures
       (rw (c.from-in-Numbered.ensures) at c.beside.ensures)
-      (rw (row-read g.W.Word.bits c.args.rows.now c.args.y c.index-rows-from.result (omega (arith, c.requires.y_in, c.requires.rows.long, length-map c.args.rows.now g.W.Word.bits)) (rw (c.from-in-Numbered-2.ensures) at c.index-rows-from.is))
-      at (c.requires.rows.each c.args.y c.requires.y_in))
+      (rw (row-read g.W.Word.bits c.args.tables.now.rows.items c.args.y c.index.result.now (omega (arith, c.requires.y_in, c.requires.tables.rows.long, length-map c.args.tables.now.rows.items g.W.Word.bits)) (rw (c.from-in-Numbered-2.ensures) at c.index.ensures))
+      at (c.requires.tables.rows.each c.args.y c.requires.y_in))
 
   pub column : IsBeside p.size.h (λ k. white p (k * p.size.w + c.args.x)) c.args.y (g.W.Word.bits c.both-column.result)
   column = beside-word p.size.h g.W.Word.room c.args.y _ _ _ (λ k. white p (k * p.size.w + c.args.x)) tall c.both-column.ensures
       (rw (c.from-in-Numbered-3.ensures) at c.beside-in-Numbered.ensures)
-      (rw (row-read g.W.Word.bits c.args.columns.now c.args.x c.index-columns-from.result (omega (arith, c.requires.x_in, c.requires.columns.long, length-map c.args.columns.now g.W.Word.bits)) (rw (c.from-in-Numbered-4.ensures) at c.index-columns-from.is))
-      at (c.requires.columns.each c.args.x c.requires.x_in))
+      (rw (row-read g.W.Word.bits c.args.tables.now.columns.items c.args.x c.index-in-Numbered.result.now (omega (arith, c.requires.x_in, c.requires.tables.columns.long, length-map c.args.tables.now.columns.items g.W.Word.bits)) (rw (c.from-in-Numbered-4.ensures) at c.index-in-Numbered.ensures))
+      at (c.requires.tables.columns.each c.args.x c.requires.x_in))
 
   pub numbered : c.row_place-place.result ≡ c.args.y * p.size.w + c.args.x → get_or p.cells (c.args.y * p.size.w + c.args.x) Black ≡ Numbered c.from-ones.result
   numbered place = ap (λ (k : ℕ). get_or p.cells k Black) (sym place) ∙ cell-at p c.row_place-place.result c.in-Numbered.ensures.value ∙ ap Numbered (sym c.from-ones.ensures)
