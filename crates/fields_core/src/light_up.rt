@@ -4,8 +4,6 @@ pub(crate) mod cells;
 pub(crate) mod check;
 pub(crate) mod fault;
 pub(crate) mod houses;
-pub(crate) mod lit;
 pub(crate) mod planes;
 pub(crate) mod rules;
-pub(crate) mod run;
 pub(crate) mod sight;

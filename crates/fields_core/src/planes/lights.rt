@@ -1,10 +1,7 @@
 //! Planes of Light Up: what is kept of a puzzle, which houses wait, and closings by sweeps.
 
-pub(crate) mod close;
-pub(crate) mod next;
 pub(crate) mod notes;
 pub(crate) mod rests;
-pub(crate) mod start;
 pub(crate) mod sweep;
 pub(crate) mod tables;
 pub(crate) mod visits;

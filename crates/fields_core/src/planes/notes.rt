@@ -1,4 +1,4 @@
-//! What Tents keeps beside planes.
+//! What Tents keeps beside planes, and the board that a search starts from.
 #![tactic(auto)]
 
 ghost use Rattle.std.specs.Prelude.{◌≡◌, IfOk, length, ℕ, ◌+◌, ◌*◌, ◌<◌, ◌≤◌, ◌&&◌, nat_lt, map};

@@ -1,4 +1,4 @@
-//! A sweep of the houses of Tents on planes.
+//! Sweeps of the houses of Tents on planes, and how they close a board.
 #![tactic(auto, using(crate::proofs::LawSets::tent_sweep_laws))]
 
 ghost use Rattle.std.specs.Prelude.{◌≡◌, ◌<◌, true, map};

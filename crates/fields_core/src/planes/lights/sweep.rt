@@ -1,18 +1,26 @@
-//! A sweep of the houses of Light Up on planes.
+//! Sweeps of the houses of Light Up on planes, and how they close a board.
 #![tactic(auto, using(crate::proofs::LawSets::tent_sweep_laws))]
 
-ghost use Rattle.std.specs.Prelude.{◌≡◌, ℕ, ◌+◌, ◌*◌, ◌<◌, ◌≤◌, ◌++◌, true};
+ghost use Rattle.std.specs.Prelude.{◌≡◌, ℕ, ◌+◌, ◌*◌, ◌<◌, ◌≤◌, ◌++◌, true, IfNone, IfSome, length};
 ghost use Rattle.fields_core.specs.CountHouse.{houses_below};
 ghost use Rattle.fields_core.specs.Light.{light_cells};
 ghost use Rattle.fields_core.specs.LightHouses.{column_house, light_rules, lit_house, row_house};
-ghost use Rattle.fields_core.specs.LightPlanes.{IsKept};
-ghost use Rattle.fields_core.specs.LightWaits.{AreLightsReady, light_kind_houses, light_kind_lines, lits_of_row, white_houses};
+ghost use Rattle.fields_core.specs.LightPlanes.{IsKept, ArePlanesOf, AreTables, HasLightRoom};
+ghost use Rattle.fields_core.specs.LightWaits.{AreLightsReady, light_kind_houses, light_kind_lines, lits_of_row, white_houses, AreIdleBetween, AreLightsRested};
 ghost use Rattle.fields_core.specs.Sweeps.{IsSweep};
 ghost use Rattle.fields_core.specs.Visits.{AreVisited};
+ghost use Rattle.grid_core.specs.Candidates.{IsWithin, Candidates};
+ghost use Rattle.grid_core.specs.Planes.{has, IsFurther};
+ghost use Rattle.engine_core.specs.ClosingList.{IsAlive};
+ghost use Rattle.engine_core.specs.Counts.{IsClosedIn};
+ghost use Rattle.engine_core.specs.Position.{IsTaken};
+ghost use Rattle.engine_core.specs.Queue.{IsClosedBut};
 
+use crate::light_up::cells::columns;
 use crate::planes::lights::notes::LightNotes;
 use crate::planes::lights::waits::LightKind;
 use crate::planes::next::next_place;
+use engine_core::{Closing, Taken};
 use gameid_core::LightPuzzle;
 use grid_core::{Planes, Word};
 
@@ -162,5 +170,73 @@ impl<W: Word> LightNotes<W> {
         ensures kept { IsKept self.old self.new }
     {
         self.sweep_kind(planes, puzzle, LightKind::Numbers) && self.sweep_white(planes, puzzle)
+    }
+}
+
+impl<W: Word> LightNotes<W> {
+    /// Closes the board by sweeps, until one takes nothing or a cell would be left without a value: what board is left then
+    /// is open. Those sweeps count that took something, and the one that stopped; one at least. Where `from` names a cell,
+    /// the board was closed before that cell lost a value.
+    pub(crate) fn close(
+        &mut self,
+        planes: &mut Planes<W>,
+        puzzle: &LightPuzzle,
+        from: Option<usize>,
+    ) -> Taken
+        requires planes { ArePlanesOf W.room puzzle.now planes.old }
+        requires tables { AreTables W.bits puzzle.now self.old.tables }
+        requires room { HasLightRoom (light_cells puzzle.now) W.room self.old }
+        requires within { IsWithin (light_cells puzzle.now) 2 (has planes.old) }
+        requires closed_but { IsClosedBut (light_rules puzzle.now) (has planes.old) from }
+        ensures taken { IsTaken (light_rules puzzle.now) (has planes.old)
+            (has planes.new) result.closing }
+        ensures turns { IsClosedIn (light_rules puzzle.now) (has planes.old) result.turns }
+        ensures alive { IsAlive (light_rules puzzle.now) (has planes.new) }
+        ensures further { IsFurther planes.old planes.new }
+        ensures tables { self.new.tables ≡ self.old.tables }
+        ensures room { (cells lines : ℕ) → HasLightRoom cells lines self.old
+            → HasLightRoom cells lines self.new }
+    {
+        self.waits.begin(planes, puzzle, &self.tables, from);
+        let mut sweeps = 0;
+        'closing: loop {
+            let before = planes.len();
+            if !self.sweep(planes, puzzle) {
+                return Taken {
+                    closing: Closing::Dead,
+                    turns: sweeps + 1,
+                };
+            }
+            if planes.len() == before {
+                return Taken {
+                    closing: Closing::Open,
+                    turns: sweeps.max(1),
+                };
+            }
+            sweeps += 1;
+        }
+    }
+}
+
+impl<W: Word> LightNotes<W> {
+    /// The lowest white cell of a row that waits, from a place on: those before it are idle.
+    pub(crate) fn next_lit(&self, puzzle: &LightPuzzle, y: u8, from: usize) -> Option<usize>
+        requires narrow { puzzle.now.size.w ≤ W.room }
+        requires tables { AreTables W.bits puzzle.now self.now.tables }
+        requires long { puzzle.now.size.h ≤ length self.now.waits.lit.items }
+        requires y_in { y < puzzle.now.size.h }
+        requires from_in { from ≤ puzzle.now.size.w }
+        ensures onward { IfSome result (λ x. from ≤ x) }
+        ensures within { IfSome result (λ x. x < puzzle.now.size.w) }
+        ensures before { IfSome result (λ x. (K : Candidates)
+            → AreLightsRested W.bits puzzle.now self.now.waits K
+            → AreIdleBetween puzzle.now K y from x) }
+        ensures none { IfNone result ((K : Candidates)
+            → AreLightsRested W.bits puzzle.now self.now.waits K
+            → AreIdleBetween puzzle.now K y from puzzle.now.size.w) }
+    {
+        let whites = self.tables.rows[usize::from(y)];
+        let waiting = self.waits.lit[usize::from(y)].both(whites);
+        next_place(waiting, from, columns(puzzle))
     }
 }

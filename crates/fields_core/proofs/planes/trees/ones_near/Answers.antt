@@ -1,4 +1,4 @@
-use Rattle.fields_core.proofs.Common.{Extent, ap, arith, refl, ◌∙◌, ◌≡◌}
+use Rattle.fields_core.proofs.Common.{Extent, ap, arith, ◌∙◌, ◌≡◌}
 use Rattle.grid_core.specs.Planes.{ArePlanes}
 use Rattle.fields_core.proofs.TreeWords.{near-ones, row-ones}
 use Rattle.fields_core.proofs.planes.trees.ones_near.Goals as goal

@@ -1,4 +1,4 @@
-use Rattle.fields_core.proofs.Common.{Bool, Extent, Tents, and_parts, ap, arith, cases_Bool, common_steps, fun_ext, has_bit, ltb-true, map, not, refl, subst, sym, tree, ℕ, ◌&&◌, ◌∙◌, ◌≡◌, ◌≤◌}
+use Rattle.fields_core.proofs.Common.{Bool, Extent, Tents, and_parts, arith, cases_Bool, common_steps, fun_ext, has_bit, ltb-true, map, not, subst, sym, tree, ℕ, ◌&&◌, ◌∙◌, ◌≡◌, ◌≤◌}
 use Rattle.grid_core.specs.Planes.{has}
 use Rattle.fields_core.specs.Trees.{AreBare, AreRowsOf, IsNear, IsRowOf, is_beside, wants_tent, without_zeros}
 use Rattle.fields_core.proofs.TreeBoards.{row-dead, row-visited}

@@ -1,6 +1,6 @@
 use Rattle.fields_core.proofs.Common.{AreAdded, houses_below, length, lit_house, ◌*◌, ◌+◌, ◌≤◌}
 use Rattle.fields_core.proofs.LightLatest.{AreColumnsKept, IsRowKept}
-use Rattle.fields_core.proofs.light_up.lit.push_lits.Given as goal
+use Rattle.fields_core.proofs.light_up.houses.push_lits.Given as goal
 
 abbrev pub invariant-loop-y : goal.invariant-loop-y
 invariant-loop-y l = record {

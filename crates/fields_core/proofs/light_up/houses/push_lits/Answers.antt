@@ -3,7 +3,7 @@ use Rattle.fields_core.proofs.Common.{IsAround, [], ap, arith, false, length-set
 use Rattle.fields_core.proofs.HouseLemmas.{added-none}
 use Rattle.fields_core.proofs.LightLatest.{columns-black, columns-white, line_white, lit-seen, row-black, row-white}
 use Rattle.fields_core.proofs.SegmentLemmas.{next-added, none-yet, push-added}
-use Rattle.fields_core.proofs.light_up.lit.push_lits.Goals as goal
+use Rattle.fields_core.proofs.light_up.houses.push_lits.Goals as goal
 
 pub loop-y-init : goal.loop-y-init
 loop-y-init c = record {

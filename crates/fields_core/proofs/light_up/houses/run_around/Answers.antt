@@ -1,6 +1,6 @@
 use Rattle.fields_core.proofs.Common.{sym, ◌∙◌}
 use Rattle.fields_core.proofs.LightLatest.{around-begun, around-on}
-use Rattle.fields_core.proofs.light_up.lit.run_around.Goals as goal
+use Rattle.fields_core.proofs.light_up.houses.run_around.Goals as goal
 
 pub returns-then-begins : goal.returns-then-begins
 returns-then-begins c =
