@@ -20,15 +20,11 @@ pub struct Needs {
 pub fn needs_for<R: Rules>(rules: &R) -> Needs
     ensures { needs_in result ≡ needs_of (R.system rules.now) }
 {
-    let mut scope = 0;
-    for house in 0..rules.houses() {
-        scope = scope.max(rules.scope_len(house));
-    }
     Needs {
         cells: rules.cells(),
         values: rules.values(),
         houses: rules.houses(),
         bound: rules.bound(),
-        scope,
+        scope: rules.longest(),
     }
 }

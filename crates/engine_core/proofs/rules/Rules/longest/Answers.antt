@@ -1,5 +1,5 @@
 use Rattle.engine_core.proofs.Common.{add-one, longest, refl, rules}
-use Rattle.engine_core.proofs.needs.needs_for.Goals as goal
+use Rattle.engine_core.proofs.rules.Rules.longest.Goals as goal
 
 pub loop-house-init : goal.loop-house-init
 unfolding longest
