@@ -63,7 +63,7 @@ pub use Rattle.fields_core.specs.Light.{bulb, bulbs_beside, is_white, light_cell
 unfoldable pub use Rattle.fields_core.specs.Light.{black_right, bulb_right, clear, joined_in_column, joined_in_row, lit_right, number_right, sees}
 unfoldable pub use Rattle.fields_core.specs.Light.{sees_bulb, solves_lights, white}
 pub use Rattle.fields_core.specs.LightFaults.{FailsLight, IsLightFault, light_tests}
-pub use Rattle.fields_core.specs.LightHouses.{column_house, light_rules, lit_house, number_house, row_house}
+pub use Rattle.fields_core.specs.LightHouses.{column_house, light_house, light_rules, lit_house, number_house, row_house}
 unfoldable pub use Rattle.fields_core.specs.LightHouses.{begins_column_run, begins_row_run, column_run, light_houses, row_run, seen_from}
 pub use Rattle.fields_core.specs.LightRuns.{IsAround, run_house}
 pub use Rattle.fields_core.specs.Parts.{ArePieces, IsAlive, IsBroken, IsCount, IsCounted, IsHouseOf, Piece, piece_at}

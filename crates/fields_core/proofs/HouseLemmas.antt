@@ -1,7 +1,9 @@
--- Houses told by segments.
-use Rattle.fields_core.proofs.Common.{AreAdded, CountHouse, List, [], ap, append-nil, append_assoc, arith, common_steps, drop, false, false_from_ne_true, get_or, get_or-append_right, get_or-map-range_with_len, get_or_append_left, has_place, has_place-at, has_place-here, house_told, houses_below, length, length-append, length-map-range_with_len, map, map-append, places_of, range_with_len, segment_places, slice_index, sym, true, ℕ, ◌*◌, ◌++◌, ◌+◌, ◌-◌, ◌<◌, ◌∙◌, ◌∷◌, ◌≡◌, ◌≢◌, ◌≤◌, refl, set, suc, zero}
+-- Houses told by segments, and names of houses.
+use Rattle.fields_core.proofs.Common.{AreAdded, CountHouse, List, [], ap, append-nil, append_assoc, arith, common_steps, drop, false, false_from_ne_true, get_or, get_or-append_right, get_or-map, get_or-map-range_with_len, ap₂, no_count_house, count_house_of, length-map, ◌*◌, get_or_append_left, has_place, has_place-at, has_place-here, houses_below, length, length-append, length-map-range_with_len, map, map-append, places_of, segment_places, slice_index, sym, true, ℕ, ◌*◌, ◌++◌, ◌+◌, ◌-◌, ◌<◌, ◌∙◌, ◌∷◌, ◌≡◌, ◌≢◌, ◌≤◌, refl, set, suc, zero}
 use Rattle.std.proofs.lemmas.List.{at_drop_more}
-use Rattle.fields_core.specs.declared.count.house.House.{House}
+use Rattle.fields_core.proofs.CountListLemmas.{below-more, below-none}
+use Rattle.fields_core.specs.Houses.{AreNamed, named, sized}
+use Rattle.fields_core.specs.declared.count.name.HouseName.{HouseName}
 use Rattle.fields_core.specs.declared.count.house.Segment.{Segment}
 
 -- ---- the cells of a segment
@@ -71,29 +73,64 @@ each-empty [] e k d lt = absurd (omega arith)
 each-empty (c ∷ cells) e zero d lt = (append-empty (segment_places c) (places_of cells) e).0
 each-empty (c ∷ cells) e (suc k) d lt = each-empty cells (append-empty (segment_places c) (places_of cells) e).1 k d (omega arith)
 
--- the cells of one line, and of a square
+-- the cells of one line
 pub line-cells : (s none : Segment) (places : List ℕ) → segment_places s ≡ places → segment_places none ≡ []
     → places_of (s ∷ none ∷ none ∷ none ∷ []) ≡ places
 line-cells s none places e n = rw (e, n) (append-nil places)
 
-pub square-cells : (top bottom none : Segment) (c w : ℕ) → segment_places top ≡ map (λ k. c + k * 1) (range_with_len 0 2)
-    → segment_places bottom ≡ map (λ k. c + w + k * 1) (range_with_len 0 2) → segment_places none ≡ []
-    → places_of (top ∷ bottom ∷ none ∷ none ∷ []) ≡ c ∷ (c + 1) ∷ (c + w) ∷ (c + w + 1) ∷ []
-square-cells top bottom none c w t b n = rw (t, b, n) (grind (arith, common_steps))
+-- ---- names that are added one after another
+module _ {K : Type 0} (told : K → ℕ → List CountHouse) where
+  pub added-none : (a : List (HouseName K)) {houses : List CountHouse} → houses ≡ [] → AreAdded told a a houses
+  added-none a e = rw e (sym (append-nil _))
 
--- ---- houses that are added one after another
-pub added-none : (a : List House) {houses : List CountHouse} → houses ≡ [] → AreAdded a a houses
-added-none a e = rw e (sym (append-nil _))
+  pub added-more : (a b c : List (HouseName K)) (xs ys : List CountHouse) → AreAdded told a b xs → AreAdded told b c ys → AreAdded told a c (xs ++ ys)
+  added-more a b c xs ys p q =
+      q ∙ ap (λ l. l ++ map sized ys) p ∙ append_assoc (map (named told) a) (map sized xs) (map sized ys)
+      ∙ ap (λ l. map (named told) a ++ l) (sym (map-append sized xs ys))
 
-pub added-one : (a : List House) (house : House) {told : CountHouse} → house_told house ≡ told → AreAdded a (a ++ house ∷ []) (told ∷ [])
-added-one a house e = map-append _ _ _ ∙ ap (λ h. map house_told a ++ h ∷ []) e
+  -- the name of a house, and no name where there is none
+  pub push-added : (items : List (HouseName K)) (name : HouseName K) {more : List (HouseName K)} {house : CountHouse} {houses : List CountHouse}
+      → more ≡ items ++ name ∷ [] → houses ≡ house ∷ [] → told name.kind name.place ≡ house ∷ [] → name.cells ≡ length house.places
+      → AreAdded told items more houses
+  push-added items name e f g long =
+      rw (e, f) (map-append (named told) items (name ∷ []) ∙ ap₂ (λ h n. map (named told) items ++ (h, n) ∷ []) g long)
 
-pub added-more : (a b c : List House) (xs ys : List CountHouse) → AreAdded a b xs → AreAdded b c ys → AreAdded a c (xs ++ ys)
-added-more a b c xs ys p q = q ∙ ap (λ l. l ++ ys) p ∙ append_assoc (map house_told a) xs ys
+  pub below-added : (f : ℕ → List CountHouse) (old items more : List (HouseName K)) (n : ℕ)
+      → AreAdded told old items (houses_below f n) → AreAdded told items more (f n) → AreAdded told old more (houses_below f (n + 1))
+  below-added f old items more n added one =
+      rw (sym (below-more f n)) at (added-more old items more (houses_below f n) (f n) added one)
 
--- of four kinds, each of the numbers below some number
-pub four-told : (a b c d e : List House) (f g h k : ℕ → List CountHouse) {i j l m i' j' l' m' : ℕ} → a ≡ []
-    → AreAdded a b (houses_below f i) → AreAdded b c (houses_below g j) → AreAdded c d (houses_below h l) → AreAdded d e (houses_below k m)
-    → i ≡ i' → j ≡ j' → l ≡ l' → m ≡ m'
-    → map house_told e ≡ houses_below f i' ++ (houses_below g j' ++ (houses_below h l' ++ houses_below k m'))
-four-told a b c d e f g h k none p q r s same_i same_j same_l same_m = grind (arith, common_steps, append_assoc)
+  -- row by row
+  pub none-yet : (f : ℕ → List CountHouse) (items : List (HouseName K)) (w : ℕ) → AreAdded told items items (houses_below f (0 * w))
+  none-yet f items w = let z : 0 * w ≡ 0 = omega arith in rw z (added-none items (below-none f))
+
+  pub next-added : (f : ℕ → List CountHouse) (old items more : List (HouseName K)) (n x : ℕ)
+      → AreAdded told old items (houses_below f (n + x)) → AreAdded told items more (f (n + x)) → AreAdded told old more (houses_below f (n + (x + 1)))
+  next-added f old items more n x added one = let z : n + (x + 1) ≡ n + x + 1 = omega arith in rw z (below-added f old items more (n + x) added one)
+
+  -- of four kinds, each of the numbers below some number
+  pub four-named : (a b c d e : List (HouseName K)) (f g h k : ℕ → List CountHouse) {i j l m i' j' l' m' : ℕ} → a ≡ []
+      → AreAdded told a b (houses_below f i) → AreAdded told b c (houses_below g j) → AreAdded told c d (houses_below h l) → AreAdded told d e (houses_below k m)
+      → i ≡ i' → j ≡ j' → l ≡ l' → m ≡ m'
+      → AreNamed told e (houses_below f i' ++ (houses_below g j' ++ (houses_below h l' ++ houses_below k m')))
+  four-named a b c d e f g h k none p q r s same_i same_j same_l same_m =
+      rw (same_i, same_j, same_l, same_m, none) at (added-more a b e _ _ p (added-more b c e _ _ q (added-more c d e _ _ r s)))
+
+-- ---- the houses that are named
+pub named-long : {K : Type 0} (told : K → ℕ → List CountHouse) (names : List (HouseName K)) (houses : List CountHouse)
+    → AreNamed told names houses → length names ≡ length houses
+named-long told names houses are = sym (length-map names (named told)) ∙ ap length are ∙ length-map houses sized
+
+named-at : {K : Type 0} (told : K → ℕ → List CountHouse) (names : List (HouseName K)) (houses : List CountHouse) (h : ℕ) (d : HouseName K)
+    → AreNamed told names houses → h < length names → named told (get_or names h d) ≡ sized (count_house_of houses h)
+named-at told names houses h d are lt =
+    sym (get_or-map (named told) names h d (sized no_count_house) lt) ∙ ap (λ l. get_or l h (sized no_count_house)) are
+    ∙ get_or-map sized houses h no_count_house (sized no_count_house) (rw (named-long told names houses are) at lt)
+
+pub named-told : {K : Type 0} (told : K → ℕ → List CountHouse) (names : List (HouseName K)) (houses : List CountHouse) (h : ℕ) (d : HouseName K)
+    → AreNamed told names houses → h < length names → told (get_or names h d).kind (get_or names h d).place ≡ count_house_of houses h ∷ []
+named-told told names houses h d are lt = ap (λ pair. pair.0) (named-at told names houses h d are lt)
+
+pub named-cells : {K : Type 0} (told : K → ℕ → List CountHouse) (names : List (HouseName K)) (houses : List CountHouse) (h : ℕ) (d : HouseName K)
+    → AreNamed told names houses → h < length names → (get_or names h d).cells ≡ length (count_house_of houses h).places
+named-cells told names houses h d are lt = ap (λ pair. pair.1) (named-at told names houses h d are lt)

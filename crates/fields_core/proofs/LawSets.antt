@@ -1,17 +1,20 @@
 -- The lemmas that the proofs of each source file go by.
 use Rattle.fields_core.proofs.CountListLemmas.{below-more, below-none}
 use Rattle.fields_core.proofs.CountTallies.{sets-first, sets-next, sets-all}
-use Rattle.fields_core.proofs.HouseLemmas.{added-more, added-none, added-one, four-long, line-cells, square-cells, has-found, has-none, left-within, place-here, place-later, places-last, segment-at, segment-long}
-use Rattle.fields_core.proofs.HouseVisits.{longest-more, longest-none, same-places, told-at, told-long}
+use Rattle.fields_core.proofs.HouseLemmas.{added-more, added-none, four-long, line-cells, has-found, has-none, left-within, named-cells, named-long, place-here, place-later, places-last, segment-at, segment-long}
+use Rattle.fields_core.proofs.HouseVisits.{longest-more, longest-none, same-places}
 use Rattle.fields_core.proofs.LightCounting.{light-counting, light-lawful}
 use Rattle.fields_core.proofs.LightLines.{cell-at, white-at}
 use Rattle.fields_core.proofs.LightRuleLemmas.{light-tells, rule-from-test, test-from-rule}
 use Rattle.fields_core.proofs.LightSeen.{black-unseen, seen-in-column, seen-in-row}
 use Rattle.fields_core.proofs.LightSight.{count-bulb, count-dark, count-edge, count-start}
+use Rattle.fields_core.proofs.LightLatest.{few-places}
+use Rattle.fields_core.proofs.LightTold.{around-both, column-of-place, place-row, row-of-place, row-within, run-begins}
 use Rattle.fields_core.proofs.RuleLemmas.{same-shape, start-all, start-blocked}
 use Rattle.fields_core.proofs.PositionSteps.{step-onward, step-walks}
 use Rattle.fields_core.proofs.RunLemmas.{few-cells}
 use Rattle.fields_core.proofs.TentCounting.{tent-counting, tent-lawful}
+use Rattle.fields_core.proofs.TentHouseLemmas.{square-none}
 use Rattle.fields_core.proofs.TentLines.{line-all, line-more, line-skip, line-start}
 use Rattle.fields_core.proofs.TentNext.{barred-alone, barred-tree, next-joined, next-none, none-beside, one-beside, passed-bare, passed-early, passed-edge, passed-start}
 use Rattle.fields_core.proofs.TentNumbers.{count-none, listed-all, listed-skip}
@@ -22,9 +25,11 @@ use Rattle.fields_core.proofs.VisitLemmas.{sweep-first, sweep-more}
 use Rattle.fields_core.proofs.Common.{append-nil, append_assoc, eq-eqb, map-append, mul-le-mul_right, ne_eqb}
 use Rattle.std.proofs.lemmas.Nat.{mul-lt}
 
-pub ruleset count_rules_laws = (start-blocked, same-shape, start-all, same-places, told-long, told-at, longest-none, longest-more)
+pub ruleset count_rules_laws = (start-blocked, same-shape, start-all, same-places, named-long, named-cells)
 
 pub ruleset house_laws = (line-cells, segment-at, segment-long, place-here, place-later, places-last, left-within, four-long, has-found, has-none, mul-lt)
+
+pub ruleset house_name_laws = (longest-none, longest-more)
 
 pub ruleset house_list_laws = (below-none, below-more, added-none, added-more)
 
@@ -38,9 +43,7 @@ pub ruleset light_houses_laws = (few-cells)
 
 pub ruleset light_rules_laws = (light-counting, light-tells)
 
-pub ruleset light_run_laws = (few-cells)
-
-pub ruleset lit_house_laws = (few-cells)
+pub ruleset light_told_laws = (few-cells, few-places, around-both, run-begins, place-row, row-within, row-of-place, column-of-place)
 
 pub ruleset light_sight_laws = (count-start, count-edge, count-dark, count-bulb, black-unseen, seen-in-row, seen-in-column)
 
@@ -50,7 +53,7 @@ pub ruleset tally_laws = (sets-first, sets-next, sets-all)
 
 pub ruleset tent_check_laws = (line-start, line-skip, line-more, line-all, ne_eqb, eq-eqb)
 
-pub ruleset tent_houses_laws = (square-cells, added-none, added-one)
+pub ruleset tent_houses_laws = (added-none, square-none)
 
 pub ruleset tent_pairs_laws =
     (next-joined, listed-skip, listed-all, passed-start, passed-edge, passed-bare, passed-early, next-none, count-none, others-unpaired, listed-tents, count-is, whole-pairs, short-unpaired)

@@ -20,11 +20,13 @@ pub mod SegmentLemmas
 pub mod LightCounting
 pub mod LightSeen
 pub mod LightLatest
+pub mod LightTold
 pub mod RuleLemmas
 pub mod TentLines
 pub mod BelowLemmas
 pub mod TentBeside
 pub mod TentCounting
+pub mod TentHouseLemmas
 pub mod TentNumbers
 pub mod TentNext
 pub mod TentPairLemmas
@@ -55,10 +57,12 @@ pub mod LitVisits
 pub mod NumberVisits
 pub mod NumberRows
 pub mod LitRuns
+pub mod LitPairs
 mod LightNotes
 pub mod PartIdle
 pub mod PlaneSweeps
 pub mod LightBoards
+pub mod LightLonely
 pub mod LightCompleting
 pub mod TentCompleting
 mod LightRests

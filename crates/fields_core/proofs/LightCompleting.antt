@@ -1,10 +1,11 @@
--- A grid of Light Up that meets each house with a cell is a solution exactly if its numbers are right.
-use Rattle.fields_core.proofs.Common.{Bool, CountHouse, IsGrid, IsLight, IsNext, Light, List, None, Option, Some, all_below-at, all_below-from, and_parts, any_below-some, ap, arith, begins_column_run, begins_row_run, black_right, bulb, bulb_right, cases_Bool, cases_eq, column_house, column_run, eq-eqb, eqb, eqb-true, false_from_ne_true, has_place, has_place-at, houses_below, inl, inr, is_some, leb-true, length, light_cells, map, nonzeros, light_houses, lit_house, lit_right, meets, not, not-false, not-true, number_house, number_right, one_at_least, one_at_most, or_cases, or_left, or_right, place-append, place-filter, place-front, row_house, row_run, seen_from, sees, sees_bulb, slice_index, solves_lights, sym, true, true≢false, white, ℕ, ◌<◌, ◌||◌, ◌∙◌, ◌≡◌, lt-ltb}
+-- A grid of Light Up that meets each house with a cell is a solution exactly if each number above 0 has a white cell beside it.
+use Rattle.fields_core.proofs.Common.{count_by-le-length, filter, Black, Bool, CountHouse, IsGrid, IsLight, Light, LightCell, List, Numbered, White, all_below-at, all_below-from, and_parts, any_below, any_below-none, any_below-some, ap, arith, begins_column_run, begins_row_run, black_right, bulb, bulb_right, bulbs_beside, cases_Bool, cases_eq, column_house, column_run, common_steps, count_by, eq-eqb, eqb, eqb-true, exactly, false_from_ne_true, filter, get_or, has_place, has_place-at, houses_below, inl, inr, leb-true, length, light_cells, light_houses, lit_house, lit_right, lt-ltb, map, meets, ne_eqb, nonzeros, not, not-true, number_house, number_right, one_at_least, one_at_most, or_cases, or_left, or_right, place-append, place-filter, place-front, refl, row_house, row_run, seen_from, sees, sees_bulb, slice_index, solves_lights, steps, sym, true, true≢false, white, ℕ, ◌<◌, ◌||◌, ◌∙◌, ◌≡◌}
 use Rattle.fields_core.specs.CountHouse.{AreMet}
 use Rattle.fields_core.specs.LightHouses.{light_counts}
+use Rattle.fields_core.specs.LightLonely.{lonely}
 use Rattle.fields_core.proofs.BelowLemmas.{any-some}
-use Rattle.fields_core.proofs.PlaceLists.{count-two, ones-bulbs, some-counted}
-use Rattle.fields_core.proofs.LightFaultLemmas.{lit-from, lit-parts, numbers-right}
+use Rattle.fields_core.proofs.PlaceLists.{count-filter, count-two, ones-bulbs, some-counted}
+use Rattle.fields_core.proofs.LightFaultLemmas.{lit-from, lit-parts}
 use Rattle.fields_core.proofs.VisitLemmas.{among-back, among-below, among-front, among-met, among-one}
 use Rattle.fields_core.proofs.LightSight.{bulb-in}
 use Rattle.fields_core.proofs.LightSeen.{seen-there}
@@ -109,12 +110,48 @@ module _ (p : Light) (g : List ℕ) (is : IsLight p) (grid : IsGrid (light_cells
     | inr off ↦ or_right _ _ (eq-eqb _ 0 (met.blocked_zero c lt (ap not off)))
   ]
 
-  -- what is told of the first wrong number is told of the grid
-  pub completed : (wrong : Option ℕ) {told : Bool} → IsNext (λ c. not (number_right p g c)) (light_cells p) 0 wrong → is_some wrong ≡ not told
-      → told ≡ solves_lights p g
-  completed None next e =
-      not-false _ (sym e) ∙ sym (lit-from p g (all_below-from _ _ blacks-right) (all_below-from _ _ (numbers-right p g next))
-      (all_below-from _ _ bulbs-right) (all_below-from _ _ lits-right))
-  completed (Some c) next e =
-      not-true _ (sym e) ∙ sym (false_from_ne_true _ (λ on.
-      true≢false (sym (all_below-at _ _ c (lit-parts p g on).number next.1) ∙ not-true _ next.2)))
+  -- ---- numbers
+  number-met : (c n : ℕ) → c < light_cells p → get_or p.cells c Black ≡ Numbered n → Meets (exactly n (filter (white p) (steps p.size c 4)))
+  unfolding light_houses
+  number-met c n lt e = among-met (exactly n (filter (white p) (steps p.size c 4))) met (among-front _ (houses_below (number_house p) (light_cells p)) _
+      (among-below _ (number_house p) c (light_cells p) lt (rw e (among-one _))))
+
+  -- bulbs stand on white cells
+  beside-white : (c : ℕ) → count_by (bulb g) (filter (white p) (steps p.size c 4)) ≡ bulbs_beside p g c
+  beside-white c = count-filter (bulb g) (white p) (steps p.size c 4) (λ d on. bulb-white d (bulb-in g (light_cells p) d grid.each_cell on) on)
+
+  abbrev whites : ℕ → List ℕ
+  whites c = filter (white p) (steps p.size c 4)
+
+  beside-met : (c n : ℕ) → c < light_cells p → get_or p.cells c Black ≡ Numbered n → 0 < length (whites c) → bulbs_beside p g c ≡ n
+  unfolding meets
+  beside-met c n lt e some =
+      let counts = and_parts _ _ (number-met c n lt e some) in
+      omega (arith, leb-true n _ counts.0, leb-true (nonzeros (map (slice_index g) (whites c))) n counts.1, ones-bulbs g (whites c) (small-at grid), beside-white c)
+
+  beside-none : (c : ℕ) → length (whites c) ≡ 0 → bulbs_beside p g c ≡ 0
+  beside-none c none = omega (arith, none, beside-white c, count_by-le-length (bulb g) (whites c))
+
+  -- a number is right unless it is above 0 with no white cell beside it
+  number-told : (c : ℕ) → c < light_cells p → number_right p g c ≡ not (lonely p c)
+  unfolding number_right
+  number-told c lt = by _ refl
+    where
+      by : (cell : LightCell) → get_or p.cells c Black ≡ cell → number_right p g c ≡ not (lonely p c)
+      by White e = rw e refl
+      by Black e = rw e refl
+      by (Numbered n) e = elim (cases_eq (length (whites c)) 0) [
+        | inl none ↦ grind (arith, common_steps, beside-none, cases_eq n 0, eq-eqb, ne_eqb, e, none)
+        | inr some ↦ grind (arith, common_steps, beside-met, eq-eqb, ne_eqb, e, some)
+      ]
+
+  pub completed : {told : Bool} → told ≡ not (any_below (lonely p) (light_cells p)) → told ≡ solves_lights p g
+  completed {told} e = e ∙ sym (elim (cases_Bool (any_below (lonely p) (light_cells p))) [
+    | inl some ↦
+        let w = any_below-some (lonely p) (light_cells p) some in
+        rw some (false_from_ne_true _ (λ on.
+        true≢false (sym (all_below-at _ _ w.0 (lit-parts p g on).number w.1) ∙ number-told w.0 w.1 ∙ ap not w.2)))
+    | inr none ↦ rw none (lit-from p g (all_below-from _ _ blacks-right)
+        (all_below-from _ _ (λ c lt. number-told c lt ∙ ap not (any_below-none (lonely p) (light_cells p) none c lt)))
+        (all_below-from _ _ bulbs-right) (all_below-from _ _ lits-right))
+  ])

@@ -129,7 +129,7 @@ module _ (p : Light) (c d : ℕ) (some : 0 < p.size.w) (next : c + 1 ≡ d) (bef
   parts : (c / p.size.w ≡ d / p.size.w) × (c % p.size.w ≡ d % p.size.w - 1)
   parts = grind (arith, common_steps, cell-parts)
 
-  row-next : joined_in_row p c d ≡ true
+  pub row-next : joined_in_row p c d ≡ true
   unfolding joined_in_row
   row-next = grind (arith, common_steps, and_from, eq-eqb, parts, clear-from, cases_eq)
 
@@ -171,7 +171,7 @@ module _ (p : Light) (c d : ℕ) (some : 0 < p.size.w) (next : c + p.size.w ≡ 
   below : (d / p.size.w ≡ c / p.size.w + 1) × (d % p.size.w ≡ c % p.size.w)
   below = rw (sym next) (cell-below c some)
 
-  column-next : joined_in_column p c d ≡ true
+  pub column-next : joined_in_column p c d ≡ true
   unfolding joined_in_column
   column-next = grind (arith, common_steps, and_from, eq-eqb, below, clear-from, cases_eq, whole-cell)
 

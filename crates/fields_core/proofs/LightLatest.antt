@@ -1,9 +1,10 @@
 -- The runs that a walk over the cells keeps.
-use Rattle.fields_core.proofs.Common.{Bool, IsAround, Light, List, RunsOn, Segment, [], and_parts, ap, ap₂, arith, begins_column_run, begins_row_run, cases_eq, cases_lt, clear, column_house, column_run, div-mul-add, eqb, eqb-true, false, filter, get_or, get_or-set_other, get_or-set_same, inl, inr, length, lit_house, map, not, not-true, one_at_least, one_at_most, or_cases, or_parts, places_of, range_with_len, refl, row_house, row_run, run_house, seen_from, segment_places, set, suc, sym, true, true≢false, white, zero, ℕ, ◌&&◌, ◌*◌, ◌++◌, ◌+◌, ◌-◌, ◌<◌, ◌||◌, ◌∙◌, ◌∷◌, ◌≡◌, ◌≤◌, ◌⊎◌}
+use Rattle.fields_core.proofs.Common.{Bool, IsAround, IsLight, Light, List, add-one, common_steps, cond, le-ltb, lt-ltb, ltb, ltb-false, ltb-true, RunsOn, [], and_parts, ap, ap₂, arith, begins_column_run, begins_row_run, cases_eq, cases_lt, clear, column_house, column_run, div-mul-add, eqb, eqb-true, false, filter, get_or, get_or-set_other, get_or-set_same, inl, inr, length, length-append, length-map-range_with_len, light_cells, lit_house, map, mul-le-mul_right, not, not-true, one_at_least, one_at_most, or_cases, or_parts, range_with_len, refl, row_house, row_run, run_house, seen_from, set, suc, sym, true, true≢false, white, zero, ℕ, ◌&&◌, ◌*◌, ◌++◌, ◌+◌, ◌-◌, ◌<◌, ◌^◌, ◌||◌, ◌∙◌, ◌∷◌, ◌≡◌, ◌≤◌, ◌⊎◌}
 use Rattle.grid_core.proofs.PlaneLemmas.{place-column}
 use Rattle.fields_core.proofs.LightHouseLaws.{not-false}
 use Rattle.fields_core.proofs.RunLemmas.{around-run, column-run-is, row-run-is}
-use Rattle.fields_core.proofs.SegmentLemmas.{line, line-cut, line-from, places-three}
+use Rattle.fields_core.proofs.SegmentLemmas.{line, line-cut, line-from}
+use Rattle.fields_core.specs.LightRuns.{IsLatest}
 
 -- ---- the run around a cell of a line
 abbrev pub line_white : Light → ℕ → ℕ → ℕ → Bool
@@ -32,68 +33,97 @@ around-begun p first stride {len} {at} {end} begun on = record {
         let z : first + at * stride - stride ≡ first + i * stride = rw (sym e) (omega arith) in
         rw z at (not-true _ black)
 
-around-next : (test : ℕ → Bool) {len i start end : ℕ} → IsAround test len i start end → suc i < len → test (suc i) ≡ true → IsAround test len (suc i) start end
-around-next test {len} {i} {start} {end} is lt on = record {
+around-next : (test : ℕ → Bool) {len i start end : ℕ} → IsAround test len i start end → suc i < end → IsAround test len (suc i) start end
+around-next test {len} {i} {start} {end} is lt = record {
   low = let low = is.low in omega arith;
-  past = elim (cases_lt (suc i) end) [
-    | inl more ↦ more
-    | inr over ↦
-        let past = is.past in
-        let e : end ≡ suc i = omega arith in
-        absurd (true≢false (sym on ∙ rw e at (is.last (omega arith))))
-  ];
+  past = lt;
   high = is.high;
   pass = is.pass;
   first = is.first;
   last = is.last;
 }
 
-pub around-on : (p : Light) (first stride : ℕ) {len start end : ℕ} (at : ℕ) → at < len → white p (first + at * stride) ≡ true → begins_at p first stride at ≡ false
-    → ((i : ℕ) → suc i ≡ at → line_white p first stride i ≡ true → IsAround (line_white p first stride) len i start end)
-    → IsAround (line_white p first stride) len at start end
-around-on p first stride zero lt on off before = absurd (true≢false (rw on at off))
-around-on p first stride (suc i) lt on off before =
-    around-next (line_white p first stride) (before i refl back) lt on
-  where
-    z : first + suc i * stride - stride ≡ first + i * stride
-    z = omega arith
+-- where no run reaches a white cell, one begins there
+pub latest-begins : (p : Light) (first stride : ℕ) {len at end : ℕ} {run : ℕ × ℕ} → IsLatest (line_white p first stride) len at run → run.1 ≤ at → at < len
+    → white p (first + at * stride) ≡ true → RunsOn (line_white p first stride) len at end → IsAround (line_white p first stride) len at at end
+latest-begins p first stride {len} {at} {end} latest past lt on runs = record {
+  low = omega arith;
+  past = runs.past;
+  high = runs.high;
+  pass = λ i from below. elim (cases_lt at i) [
+    | inl later ↦ runs.pass i later below
+    | inr here ↦ let e : i ≡ at = omega arith in rw e on
+  ];
+  first = latest.1 past lt on;
+  last = runs.edge;
+}
 
-    back : line_white p first stride i ≡ true
-    back = rw z at (not-false (white p (first + suc i * stride - stride)) (or_parts (eqb (suc i) 0) (not (white p (first + suc i * stride - stride))) (rw on at off)).1)
+pub latest-none : (test : ℕ → Bool) (len : ℕ) → IsLatest test len 0 (0, 0)
+latest-none test len = (λ lt. absurd (omega (arith, lt)), λ past lt on i e. absurd (omega (arith, e)))
 
--- ---- the runs that are kept: of the row that the cell before is in, and of each column that the latest cell of it is in
-abbrev pub IsRowKept : Light → ℕ × ℕ → ℕ → ℕ → Type 0
-IsRowKept p run y x = (i : ℕ) → suc i ≡ x → line_white p (y * p.size.w) 1 i ≡ true
-    → IsAround (line_white p (y * p.size.w) 1) p.size.w i run.0 run.1
+pub latest-white : (test : ℕ → Bool) {len at : ℕ} (run : ℕ × ℕ) → IsAround test len at run.0 run.1 → IsLatest test len (at + 1) run
+latest-white test {len} {at} run is =
+    let z = add-one at in (
+      λ lt. rw z (around-next test is (rw z at lt)),
+      λ past lt on i e.
+          let end : run.1 ≡ at + 1 = omega (arith, past, is.past) in
+          absurd (true≢false (sym on ∙ rw end at (is.last (omega (arith, end, lt))))),
+    )
 
+pub latest-black : (test : ℕ → Bool) {len at : ℕ} (run : ℕ × ℕ) → test at ≡ false → IsLatest test len at run → IsLatest test len (at + 1) run
+latest-black test {len} {at} run off latest = (
+  λ lt. let is = latest.0 (omega (arith, lt)) in absurd (true≢false (sym (is.pass at is.low is.past) ∙ off)),
+  λ past lt on i e. let z : i ≡ at = omega (arith, e) in rw z off,
+)
+
+-- a cell, by its number along its row, and along its column
+pub row-at-is : (p : Light) (y x : ℕ) {b : Bool} → white p (y * p.size.w + x) ≡ b → line_white p (y * p.size.w) 1 x ≡ b
+row-at-is p y x e = let z : y * p.size.w + x * 1 ≡ y * p.size.w + x = omega arith in rw z e
+
+pub column-at-is : (p : Light) (y x : ℕ) {b : Bool} → white p (y * p.size.w + x) ≡ b → line_white p x p.size.w y ≡ b
+column-at-is p y x e = let z : x + y * p.size.w ≡ y * p.size.w + x = omega arith in rw z e
+
+-- ---- the latest run of each column: at the row below where the row has been looked at, and else at the row
 abbrev pub AreColumnsKept : Light → List (ℕ × ℕ) → ℕ → ℕ → Type 0
-AreColumnsKept p runs y x = (c i : ℕ) → c < p.size.w → (c < x → i ≡ y) → (x ≤ c → suc i ≡ y) → line_white p c p.size.w i ≡ true
-    → IsAround (line_white p c p.size.w) p.size.h i (get_or runs c (0, 0)).0 (get_or runs c (0, 0)).1
+AreColumnsKept p runs y x = (c : ℕ) → c < p.size.w
+    → IsLatest (line_white p c p.size.w) p.size.h (y + cond (ltb c x) 1 0) (get_or runs c (0, 0))
 
-pub row-black : (p : Light) (run : ℕ × ℕ) (y x : ℕ) → white p (y * p.size.w + x) ≡ false → IsRowKept p run y (x + 1)
-row-black p run y x off = λ i e on.
-    let z : y * p.size.w + i * 1 ≡ y * p.size.w + x = omega arith in
-    absurd (true≢false (sym on ∙ ap (white p) z ∙ off))
+column-same : (p : Light) (y x : ℕ) (run : ℕ × ℕ) (c : ℕ) → (c ≡ x → ⊥) → IsLatest (line_white p c p.size.w) p.size.h (y + cond (ltb c x) 1 0) run
+    → IsLatest (line_white p c p.size.w) p.size.h (y + cond (ltb c (x + 1)) 1 0) run
+column-same p y x run c other is = let e : ltb c (x + 1) ≡ ltb c x = grind (arith, common_steps, cases_lt c x, ltb-true, ltb-false, lt-ltb, le-ltb) in rw e is
 
-pub row-white : (p : Light) (run : ℕ × ℕ) (y x : ℕ) → IsAround (line_white p (y * p.size.w) 1) p.size.w x run.0 run.1 → IsRowKept p run y (x + 1)
-row-white p run y x is = λ i e on. let z : i ≡ x = omega arith in rw z is
-
-pub columns-black : (p : Light) (runs : List (ℕ × ℕ)) (y x : ℕ) → white p (y * p.size.w + x) ≡ false → AreColumnsKept p runs y x → AreColumnsKept p runs y (x + 1)
-columns-black p runs y x off are = λ c i lt early late on. elim (cases_eq c x) [
-  | inl here ↦
-      let z : c + i * p.size.w ≡ y * p.size.w + x = rw (here, early (omega arith)) (omega arith) in
-      absurd (true≢false (sym on ∙ ap (white p) z ∙ off))
-  | inr other ↦ are c i lt (λ low. early (omega arith)) (λ high. late (omega arith)) on
+pub columns-more : (p : Light) (runs more : List (ℕ × ℕ)) (y x : ℕ) → AreColumnsKept p runs y x
+    → ((c : ℕ) → (c ≡ x → ⊥) → get_or more c (0, 0) ≡ get_or runs c (0, 0))
+    → IsLatest (line_white p x p.size.w) p.size.h (y + 1) (get_or more x (0, 0)) → AreColumnsKept p more y (x + 1)
+columns-more p runs more y x are others here = λ c lt. elim (cases_eq c x) [
+  | inl same ↦ let e : ltb x (x + 1) ≡ true = lt-ltb x (x + 1) (omega arith) in rw (same, e) here
+  | inr other ↦ rw (others c other) (column-same p y x (get_or runs c (0, 0)) c other (are c lt))
 ]
 
-pub columns-white : (p : Light) (runs : List (ℕ × ℕ)) (run : ℕ × ℕ) (y x : ℕ) → x < length runs
-    → IsAround (line_white p x p.size.w) p.size.h y run.0 run.1 → AreColumnsKept p runs y x → AreColumnsKept p (set runs x run) y (x + 1)
-columns-white p runs run y x wide is are = λ c i lt early late on. elim (cases_eq c x) [
-  | inl here ↦ rw (here, early (omega arith), get_or-set_same runs x run (0, 0) wide) is
-  | inr other ↦
-      rw (get_or-set_other runs x c run (0, 0) other)
-      (are c i lt (λ low. early (omega arith)) (λ high. late (omega arith)) on)
-]
+pub columns-none : (p : Light) (runs : List (ℕ × ℕ)) → ((c : ℕ) → c < p.size.w → get_or runs c (0, 0) ≡ (0, 0)) → AreColumnsKept p runs 0 0
+columns-none p runs none c lt = let e : ltb c 0 ≡ false = le-ltb c 0 (omega arith) in rw (e, none c lt) (latest-none (line_white p c p.size.w) p.size.h)
+
+pub columns-row : (p : Light) (runs : List (ℕ × ℕ)) (y : ℕ) → AreColumnsKept p runs y p.size.w → AreColumnsKept p runs (y + 1) 0
+columns-row p runs y are c lt =
+    let e : ltb c 0 ≡ false = le-ltb c 0 (omega arith) in
+    let z : y + 1 + 0 ≡ y + 1 = omega arith in
+    rw (e, z) (rw (lt-ltb c p.size.w lt) at (are c lt))
+
+pub column-here : (p : Light) (runs : List (ℕ × ℕ)) (y x : ℕ) → AreColumnsKept p runs y x → x < p.size.w
+    → IsLatest (line_white p x p.size.w) p.size.h y (get_or runs x (0, 0))
+column-here p runs y x are lt = let e : ltb x x ≡ false = le-ltb x x (omega arith) in let z : y + 0 ≡ y = omega arith in rw (e, z) at (are x lt)
+
+-- ---- places are small
+pub small-place : (p : Light) {x y : ℕ} → IsLight p → x < p.size.w → y < p.size.h → y * p.size.w + x < 2 ^ 16
+small-place p {x} {y} is low high =
+    let rows : (y + 1) * p.size.w ≤ p.size.h * p.size.w = mul-le-mul_right p.size.w (omega (arith, high)) in
+    let few : p.size.h * p.size.w ≤ 120 * p.size.w = mul-le-mul_right p.size.w (omega (arith, is.size.extent)) in
+    omega (arith, rows, few, is.size.extent)
+
+pub few-places : {p : Light} → IsLight p → light_cells p < 2 ^ 16
+few-places {p} is =
+    let few : p.size.w * p.size.h ≤ 120 * p.size.h = mul-le-mul_right p.size.h (omega (arith, is.size.extent)) in
+    omega (arith, few, is.size.extent)
 
 -- ---- the house of a white cell
 around-line : (p : Light) (first stride : ℕ) {len at start end : ℕ} → IsAround (line_white p first stride) len at start end
@@ -101,16 +131,13 @@ around-line : (p : Light) (first stride : ℕ) {len at start end : ℕ} → IsAr
 around-line p first stride {len} {at} {start} {end} is =
     ap (map (λ i. first + i * stride)) (around-run (line_white p first stride) is) ∙ sym (line-from first stride start (end - start))
 
-pub lit-seen : (p : Light) (y x : ℕ) (a b c none : Segment) {left right top end : ℕ} → x < p.size.w → white p (y * p.size.w + x) ≡ true
+pub lit-lines : (p : Light) (y x : ℕ) {left right top end : ℕ} → x < p.size.w → white p (y * p.size.w + x) ≡ true
     → IsAround (line_white p (y * p.size.w) 1) p.size.w x left right → IsAround (line_white p x p.size.w) p.size.h y top end
-    → segment_places a ≡ line (y * p.size.w + left) 1 (right - left)
-    → segment_places b ≡ line (x + top * p.size.w) p.size.w (y - top)
-    → segment_places c ≡ line (y * p.size.w + x + p.size.w) p.size.w (end - y - 1)
-    → segment_places none ≡ []
-    → one_at_least (places_of (a ∷ b ∷ c ∷ none ∷ [])) ∷ [] ≡ lit_house p (y * p.size.w + x)
+    → lit_house p (y * p.size.w + x) ≡ one_at_least (line (y * p.size.w + left) 1 (right - left)
+    ++ (line (x + top * p.size.w) p.size.w (y - top) ++ line (y * p.size.w + x + p.size.w) p.size.w (end - y - 1))) ∷ []
 unfolding seen_from
-lit-seen p y x a b c none {left} {right} {top} {end} lt on row column e f g n =
-    rw on (ap (λ l. one_at_least l ∷ []) (places-three a b c none n ∙ ap₂ (λ s t. s ++ t) (e ∙ first) (ap₂ (λ s t. s ++ t) f g ∙ sym others)))
+lit-lines p y x {left} {right} {top} {end} lt on row column =
+    rw on (ap (λ l. one_at_least l ∷ []) (ap₂ (λ s t. s ++ t) (sym first) others))
   where
     z : y * p.size.w + left * 1 ≡ y * p.size.w + left
     z = omega arith
@@ -133,6 +160,24 @@ lit-seen p y x a b c none {left} {right} {top} {end} lt on row column e f g n =
         ap (filter (λ d. not (eqb d (y * p.size.w + x)))) (sym (column-run-is p y x lt) ∙ around-line p x p.size.w column)
         ∙ rw whole at (line-cut (x + top * p.size.w) p.size.w (y - top) (end - y - 1) (y * p.size.w + x) (omega arith) here)
 
+lines-long : (a m i b n j c k l : ℕ) → length (line a m i ++ (line b n j ++ line c k l)) ≡ i + (j + l)
+lines-long a m i b n j c k l =
+    length-append (line a m i) _ ∙ ap₂ (λ s t. s + t) (length-map-range_with_len _ 0 i)
+    (length-append (line b n j) _ ∙ ap₂ (λ s t. s + t) (length-map-range_with_len _ 0 j) (length-map-range_with_len _ 0 l))
+
+-- it is as long as both runs together, but for the cell that they share
+pub lit-long : (p : Light) (y x left right : ℕ) {top end : ℕ} → IsAround (line_white p x p.size.w) p.size.h y top end
+    → right - left + (end - top - 1) ≡ length (line (y * p.size.w + left) 1 (right - left)
+    ++ (line (x + top * p.size.w) p.size.w (y - top) ++ line (y * p.size.w + x + p.size.w) p.size.w (end - y - 1)))
+lit-long p y x left right {top} {end} column =
+    omega (
+      arith,
+      column.low,
+      column.past,
+      lines-long (y * p.size.w + left) 1 (right - left) (x + top * p.size.w) p.size.w (y - top)
+          (y * p.size.w + x + p.size.w) p.size.w (end - y - 1),
+    )
+
 -- ---- the house of a run
 pub run-told : (p : Light) (first stride : ℕ) {len at end : ℕ} {places : List ℕ} → begins_at p first stride at ≡ true
     → RunsOn (line_white p first stride) len at end → places ≡ line (first + at * stride) stride (end - at)
@@ -142,6 +187,9 @@ run-told p first stride begun on e =
 
 pub run-none : (p : Light) (first stride len at : ℕ) → begins_at p first stride at ≡ false → run_house p first stride len at ≡ []
 run-none p first stride len at off = rw off refl
+
+pub run-long : (first stride n : ℕ) → n ≡ length (line first stride n)
+run-long first stride n = sym (length-map-range_with_len _ 0 n)
 
 pub row-house-is : (p : Light) (y x : ℕ) → x < p.size.w → run_house p (y * p.size.w) 1 p.size.w x ≡ row_house p (y * p.size.w + x)
 unfolding begins_row_run
@@ -153,6 +201,19 @@ row-house-is p y x lt = rw (row-run-is p y x lt, place-column p.size.w y x lt, z
 pub column-house-is : (p : Light) (y x : ℕ) → x < p.size.w → run_house p x p.size.w p.size.h y ≡ column_house p (y * p.size.w + x)
 unfolding begins_column_run
 column-house-is p y x lt = rw (column-run-is p y x lt, div-mul-add y p.size.w x lt, z) refl
+  where
+    z : x + y * p.size.w ≡ y * p.size.w + x
+    z = omega arith
+
+-- each is the house that its place tells
+pub row-told : (p : Light) (y x : ℕ) → x < p.size.w → row_house p (y * p.size.w + x * 1) ≡ run_house p (y * p.size.w) 1 p.size.w x
+row-told p y x lt = ap (row_house p) z ∙ sym (row-house-is p y x lt)
+  where
+    z : y * p.size.w + x * 1 ≡ y * p.size.w + x
+    z = omega arith
+
+pub column-told : (p : Light) (y x : ℕ) → x < p.size.w → column_house p (x + y * p.size.w) ≡ run_house p x p.size.w p.size.h y
+column-told p y x lt = ap (column_house p) z ∙ sym (column-house-is p y x lt)
   where
     z : x + y * p.size.w ≡ y * p.size.w + x
     z = omega arith

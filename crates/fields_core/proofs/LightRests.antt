@@ -9,7 +9,7 @@ use Rattle.engine_core.specs.Queue.{IsClosedAround}
 use Rattle.fields_core.specs.Light.{solves_lights}
 use Rattle.fields_core.specs.LightHouses.{row_house, column_house}
 use Rattle.fields_core.specs.LightPlanes.{ArePlanesOf}
-use Rattle.fields_core.specs.LightWaits.{AreIdleBetween, AreIdleBut, AreLightsRested, AreLinesRested, AreLinesWoken, AreLitRested, AreNoted, AreSpread, AreWider, IsNoted, light_kind_houses, light_kind_lines, waiting_lines}
+use Rattle.fields_core.specs.LightWaits.{AreIdleBetween, AreIdleBut, AreLightsRested, AreLinesRested, AreLinesWoken, AreLitRested, AreNoted, AreSpread, AreWhitesIdleBut, AreWider, IsNoted, light_kind_houses, light_kind_lines, waiting_lines}
 unfoldable use Rattle.fields_core.specs.LightWaits.{lit_waits}
 use Rattle.fields_core.specs.LightWords.{numbers_of_row, row_runs_of_row}
 use Rattle.fields_core.specs.Trees.{IsRowOf}
@@ -228,15 +228,14 @@ module _ {W : Type 0} (bits : W → ℕ) {room : ℕ} (p : Light) (zeros ones ce
   }
 
 -- ---- where a closing begins
--- everything waits
-pub lit-all : (p : Light) (words : List ℕ) (K : Candidates) → IsLight p → ((y : ℕ) → y < p.size.h → IsRowOf p.size.w (white p) y (slice_index words y))
+-- what does not wait of each row is idle
+pub lit-rows : (p : Light) (words : List ℕ) (K : Candidates) → IsLight p → ((y : ℕ) → y < p.size.h → AreWhitesIdleBut p (slice_index words y) y K)
     → AreLitRested p words K
-unfolding lit_waits after_houses
-lit-all p words K lawful rows c lt off =
+unfolding lit_waits
+lit-rows p words K lawful rows c lt off =
     let some = (light-board lawful).some in
     let at : c / p.size.w * p.size.w + c % p.size.w ≡ c = sym (whole-cell p.size.w c) in
-    let black : white p c ≡ false = sym (rows (c / p.size.w) (row-in p.size.h c some lt) (c % p.size.w) ∙ rw (lt-ltb (c % p.size.w) p.size.w (mod-lt c some), at) refl) ∙ off in
-    rw black refl
+    rw at at (rows (c / p.size.w) (row-in p.size.h c some lt) (c % p.size.w) (mod-lt c some) off)
 
 -- the houses of the lists below n, where each list is idle
 below-idle : (f : ℕ → List CountHouse) (n : ℕ) (K : Candidates) → ((k : ℕ) → k < n → AreIdle (f k) K) → AreIdle (houses_below f n) K

@@ -1,5 +1,5 @@
 -- Words of runs along a line, as they are written one after another.
-use Rattle.fields_core.proofs.Common.{Bool, Candidates, Extent, Layers, any_below, any_below-none, cases_Bool, common_steps, Light, List, RunsOn, and-false, and_from, and_parts, ap, arith, cases_eq, cases_lt, clear, div-mul-add, false, false_from_ne_true, get_or-set_other, get_or-set_same, has_bit, inl, inr, joined_in_column, joined_in_row, le-ltb, length, length-map, length-set, light_cells, lt-ltb, ltb, ltb-true, map, mul-le-mul_right, not, not-true, place-column, refl, set, slice_index, subst, suc, sym, true, true≢false, white, zero, ℕ, ◌%◌, ◌&&◌, ◌*◌, ◌+◌, ◌-◌, ◌/◌, ◌<◌, ◌∙◌, ◌≡◌, ◌≢◌, ◌≤◌}
+use Rattle.fields_core.proofs.Common.{Bool, Candidates, Extent, Layers, any_below, any_below-none, cases_Bool, common_steps, Light, List, and-false, and_from, and_parts, ap, arith, cases_eq, cases_lt, clear, div-mul-add, eq-eqb, eqb, false, false_from_ne_true, get_or-set_other, get_or-set_same, has_bit, inl, inr, joined_in_column, joined_in_row, le-ltb, length, length-map, length-set, light_cells, lt-ltb, ltb, ltb-true, map, mul-le-mul_right, ne_eqb, not, not-true, place-column, refl, set, slice_index, subst, sym, true, true≢false, white, ℕ, ◌%◌, ◌&&◌, ◌*◌, ◌+◌, ◌-◌, ◌/◌, ◌<◌, ◌∙◌, ◌≡◌, ◌≢◌, ◌≤◌}
 use Rattle.std.proofs.lemmas.List.{map-set}
 unfoldable use Rattle.grid_core.specs.Candidates.{all_of}
 use Rattle.grid_core.specs.Planes.{bit_of, has}
@@ -9,7 +9,7 @@ unfoldable use Rattle.fields_core.specs.CountHouse.{start_of}
 use Rattle.fields_core.specs.LightHouses.{light_rules}
 use Rattle.fields_core.specs.LightWords.{IsRowRun, IsColumnRun}
 use Rattle.fields_core.specs.NumberWords.{IsColumnOf}
-use Rattle.fields_core.specs.RunWords.{IsRunAt, IsRunBefore, AreWritten}
+use Rattle.fields_core.specs.RunWords.{IsRunAt, AreFilled, AreWritten}
 use Rattle.fields_core.specs.Trees.{IsRowOf}
 use Rattle.fields_core.proofs.CellLemmas.{same-truth}
 use Rattle.fields_core.proofs.LitVisits.{has-at}
@@ -17,32 +17,6 @@ use Rattle.fields_core.proofs.LightHouseLaws.{clear-at, clear-from}
 use Rattle.fields_core.proofs.RunLemmas.{column-cell-joined, row-cell-joined}
 
 -- ---- the run of a number
--- the number before passes too
-clear-next : (test : ℕ → Bool) (j k : ℕ) → clear test j (j + 1) ≡ true → clear test j k ≡ clear test (j + 1) k
-clear-next test j k both = same-truth _ _
-    (λ on. clear-from test (j + 1) k (λ i low high. elim (cases_lt i (j + 1)) [
-      | inl before ↦ elim (cases_eq i j) [
-        | inl here ↦ clear-at test j (j + 1) i both (omega arith) (omega arith)
-        | inr other ↦ clear-at test j k i on (omega arith) (omega arith)
-      ]
-      | inr after ↦ elim (cases_eq i (j + 1)) [
-        | inl here ↦ clear-at test j (j + 1) i both (omega arith) (omega arith)
-        | inr other ↦ clear-at test j k i on (omega arith) (omega arith)
-      ]
-    ]))
-    (λ on. clear-from test j k (λ i low high. elim (cases_eq i j) [
-      | inl here ↦ clear-at test j (j + 1) i both (omega arith) (omega arith)
-      | inr other ↦ clear-at test (j + 1) k i on (omega arith) (omega arith)
-    ]))
-
-pub run-stays : (test : ℕ → Bool) (len at bits : ℕ) → IsRunBefore test len at bits → has_bit bits at ≡ true → IsRunAt test len at bits
-run-stays test len zero bits is on k = absurd (true≢false (sym on ∙ is.none refl 0))
-run-stays test len (suc j) bits is on k =
-    let next : j + 1 ≡ suc j = omega arith in
-    let here = is.run j next in
-    let both : clear test j (suc j) ≡ true = (and_parts _ _ (sym (here (suc j)) ∙ on)).1 in
-    here k ∙ ap (λ b. ltb k len && b) (rw next at (clear-next test j k (rw (sym next) at both)))
-
 -- no run where the number does not pass
 pub run-none : (test : ℕ → Bool) (len at bits : ℕ) → test at ≡ false → ((k : ℕ) → has_bit bits k ≡ false) → IsRunAt test len at bits
 run-none test len at bits off none k = none k ∙ sym (rw apart (and-false (ltb k len)))
@@ -50,109 +24,127 @@ run-none test len at bits off none k = none k ∙ sym (rw apart (and-false (ltb 
     apart : clear test at k ≡ false
     apart = false_from_ne_true _ (λ on. true≢false (sym (clear-at test at k at on (omega arith) (omega arith)) ∙ off))
 
--- a run that begins
-pub run-begun : (test : ℕ → Bool) (len at end before bits : ℕ) → at < len → test at ≡ true
-    → IsRunBefore test len at before → has_bit before at ≡ false → RunsOn test len at end
-    → ((k : ℕ) → has_bit bits k ≡ (ltb k end && not (ltb k at))) → IsRunAt test len at bits
-run-begun test len at end before bits lt here is off on told k = told k ∙ same-truth _ _
+-- all from `at` on and before `end` pass, and neither the number before them nor the one after
+pub record IsRunFrom (test : ℕ → Bool) (len at end : ℕ) : Type 0 where
+  pub low : at ≤ end
+  pub high : end ≤ len
+  pub before : (j : ℕ) → j + 1 ≡ at → test j ≡ false
+  pub pass : (i : ℕ) → at ≤ i → i < end → test i ≡ true
+  pub edge : end < len → test end ≡ false
+
+run-whole : (test : ℕ → Bool) (len at end bits : ℕ) → IsRunFrom test len at end
+    → ((k : ℕ) → has_bit bits k ≡ (ltb k end && not (ltb k at))) → (i : ℕ) → at ≤ i → i < end → IsRunAt test len i bits
+run-whole test len at end bits is told i from up k = told k ∙ same-truth _ _
     (λ there.
     let w = and_parts _ _ there in
     let below = ltb-true k end w.0 in
-    let from : at ≤ k = (elim (cases_lt k at) [
+    let late : at ≤ k = (elim (cases_lt k at) [
       | inl less ↦ absurd (true≢false (sym (lt-ltb k at less) ∙ not-true _ w.1))
       | inr more ↦ more
     ]) in
-    let high = on.high in
-    and_from _ _ (lt-ltb k len (omega arith)) (clear-from test at k (λ i low up. elim (cases_eq i at) [
-      | inl e ↦ ap test e ∙ here
-      | inr ne ↦ on.pass i (omega arith) (omega arith)
-    ])))
+    let high = is.high in
+    and_from _ _ (lt-ltb k len (omega arith)) (clear-from test i k (λ n after before. is.pass n (omega arith) (omega arith))))
     (λ there.
     let w = and_parts _ _ there in
     let below = ltb-true k len w.0 in
     elim (cases_lt k at) [
-      | inl less ↦ absurd (edge k w.1 less)
+      | inl less ↦
+          absurd (true≢false (sym (clear-at test i k (at - 1) w.1 (omega arith) (omega arith)) ∙ is.before (at - 1) (omega arith)))
       | inr more ↦ elim (cases_lt k end) [
         | inl inside ↦ and_from _ _ (lt-ltb k end inside) (ap not (le-ltb k at more))
-        | inr past ↦
-            let after = on.past in
-            absurd (true≢false (sym (clear-at test at k end w.1 (omega arith) (omega arith)) ∙ on.edge (omega arith)))
+        | inr past ↦ absurd (true≢false (sym (clear-at test i k end w.1 (omega arith) (omega arith)) ∙ is.edge (omega arith)))
       ]
     ])
+
+-- ---- the numbers that do not pass, one after another
+-- those from `at` on are left, and the one before `at` is one
+pub record AreLeft (test : ℕ → Bool) (len at left : ℕ) : Type 0 where
+  pub before : (j : ℕ) → j + 1 ≡ at → test j ≡ false
+  pub rest : (k : ℕ) → has_bit left k ≡ ((ltb k len && not (ltb k at)) && not (test k))
+
+pub left-all : (test : ℕ → Bool) (len left : ℕ) → ((k : ℕ) → has_bit left k ≡ (ltb k len && not (test k))) → AreLeft test len 0 left
+left-all test len left told = record {
+  before = λ j e. absurd (omega arith);
+  rest = λ k. told k ∙ rw (le-ltb k 0 (omega arith)) (by (ltb k len) (test k));
+}
   where
-    edge : (k : ℕ) → clear test at k ≡ true → k < at → ⊥
-    edge k joined less =
-        let j : ℕ = at - 1 in
-        let next : j + 1 ≡ at = omega arith in
-        let told : has_bit before at ≡ (ltb at len && clear test j at) = is.run j next at in
-        let both : clear test j at ≡ true = clear-from test j at (λ i low up. elim (cases_eq i at) [
-          | inl e ↦ ap test e ∙ here
-          | inr ne ↦ clear-at test at k i joined (omega arith) (omega arith)
-        ]) in
-        true≢false (sym (told ∙ and_from _ _ (lt-ltb at len lt) both) ∙ off)
+    by : (a b : Bool) → (a && not b) ≡ ((a && not false) && not b)
+    by a b = grind (arith, common_steps, cases_Bool a)
 
--- the run of a number that the one before it is in no run with: all from it on that pass
-module _ (test : ℕ → Bool) (len at before : ℕ) (lt : at < len) (is : IsRunBefore test len at before) (off : has_bit before at ≡ false) where
-  run-next : (end bits : ℕ) → at ≤ end → end ≤ len → ((i : ℕ) → at ≤ i → i < end → test i ≡ true) → (end < len → test end ≡ false)
-      → ((k : ℕ) → has_bit bits k ≡ (ltb k end && not (ltb k at))) → IsRunAt test len at bits
-  run-next end bits low high pass edge told = elim (cases_lt at end) [
-    | inl past ↦
-        run-begun test len at end before bits lt (pass at (omega arith) past) is off
-        (record { past = past; high = high; pass = λ i after inside. pass i (omega arith) inside; edge = edge }) told
-    | inr short ↦
-        let same : end ≡ at = omega arith in
-        run-none test len at bits (rw same at (edge (omega arith))) (λ k. told k ∙ rw same (by (ltb k at)))
-  ]
+module _ (test : ℕ → Bool) (len at left room : ℕ) (are : AreLeft test len at left) where
+  left-off : (i : ℕ) → at ≤ i → i < len → has_bit left i ≡ false → test i ≡ true
+  left-off i low high none = by (test i) (sym (are.rest i ∙ rw (lt-ltb i len high, le-ltb i at low) refl) ∙ none)
     where
-      by : (a : Bool) → (a && not a) ≡ false
-      by a = grind (arith, common_steps, cases_Bool a)
+      by : (a : Bool) → ((true && not false) && not a) ≡ false → a ≡ true
+      by a e = grind (arith, common_steps, cases_Bool a)
 
-  module _ (rest blacks room : ℕ) (rest_is : (k : ℕ) → has_bit rest k ≡ (ltb k len && not (ltb k at)))
-      (blacks_is : (k : ℕ) → has_bit blacks k ≡ (has_bit rest k && not (test k))) where
-    passes-on : (i : ℕ) → at ≤ i → i < len → has_bit blacks i ≡ false → test i ≡ true
-    passes-on i low high none = by (test i) (sym (blacks_is i ∙ rw (rest_is i, lt-ltb i len high, le-ltb i at low) refl) ∙ none)
-      where
-        by : (a : Bool) → ((true && not false) && not a) ≡ false → a ≡ true
-        by a e = grind (arith, common_steps, cases_Bool a)
+  pub run-last : at ≤ len → len ≤ room → any_below (has_bit left) room ≡ false → IsRunFrom test len at len
+  run-last low fits none = record {
+    low = low;
+    high = omega arith;
+    before = are.before;
+    pass = λ i low high. left-off i low high (any_below-none (has_bit left) room none i (omega arith));
+    edge = λ less. absurd (omega arith);
+  }
 
-    pub run-rest : len ≤ room → any_below (has_bit blacks) room ≡ false → IsRunAt test len at rest
-    run-rest fits none = run-next len rest (omega (arith, lt)) (omega arith)
-        (λ i low high. passes-on i low high (any_below-none (has_bit blacks) room none i (omega arith))) (λ less. absurd (omega arith)) rest_is
-
-    pub run-edge : (least bits : ℕ) → IsLeast (has_bit blacks) room least → ((k : ℕ) → has_bit bits k ≡ (has_bit rest k && ltb k least)) → IsRunAt test len at bits
-    run-edge least bits is_least told =
-        let there = and_parts _ _ (sym (blacks_is least) ∙ is_least.has) in
-        let inside = and_parts _ _ (sym (rest_is least) ∙ there.0) in
+  module _ (least : ℕ) (is : IsLeast (has_bit left) room least) where
+    pub run-least : (least < len) × (test least ≡ false) × IsRunFrom test len at least
+    run-least =
+        let there = and_parts _ _ (sym (are.rest least) ∙ is.has) in
+        let inside = and_parts _ _ there.0 in
         let high : least < len = ltb-true least len inside.0 in
         let low : at ≤ least = (elim (cases_lt least at) [
           | inl less ↦ absurd (true≢false (sym (lt-ltb least at less) ∙ not-true _ inside.1))
           | inr more ↦ more
         ]) in
-        run-next least bits low (omega arith) (λ i from up. passes-on i from (omega arith) (is_least.before i up)) (λ _. not-true _ there.1)
-        (λ k. told k ∙ rw (rest_is k) (elim (cases_lt k least) [
-          | inl less ↦ rw (lt-ltb k least less, lt-ltb k len (omega arith)) (by (not (ltb k at)))
-          | inr more ↦ rw (le-ltb k least more) (and-false (ltb k len && not (ltb k at)))
-        ]))
+        let off = not-true _ there.1 in (
+          high,
+          off,
+          record {
+            low = low;
+            high = omega arith;
+            before = are.before;
+            pass = λ i from up. left-off i from (omega arith) (is.before i up);
+            edge = λ _. off;
+          },
+        )
+
+    pub left-next : (next : ℕ) → ((k : ℕ) → has_bit next k ≡ (has_bit left k && not (eqb k least))) → AreLeft test len (least + 1) next
+    left-next next told = record {
+      before = λ j e. let same : j ≡ least = omega arith in rw same run-least.1;
+      rest = λ k. told k ∙ elim (cases_lt k least) [
+        | inl less ↦ rw (is.before k less, lt-ltb k (least + 1) (omega arith)) (none (ltb k len) (test k))
+        | inr more ↦ elim (cases_eq k least) [
+          | inl same ↦ rw (eq-eqb k least same, lt-ltb k (least + 1) (omega arith)) (gone (has_bit left k) (ltb k len) (test k))
+          | inr other ↦
+              let low = run-least.2.low in
+              rw (are.rest k, ne_eqb k least other, le-ltb k at (omega arith), le-ltb k (least + 1) (omega arith)) (stays (ltb k len) (test k))
+        ]
+      ];
+    }
       where
-        by : (a : Bool) → ((true && a) && true) ≡ (true && a)
-        by a = grind (arith, common_steps, cases_Bool a)
+        none : (a b : Bool) → false ≡ ((a && not true) && not b)
+        none a b = grind (arith, common_steps, cases_Bool a)
+
+        gone : (l a b : Bool) → (l && not true) ≡ ((a && not true) && not b)
+        gone l a b = grind (arith, common_steps, cases_Bool a, cases_Bool l)
+
+        stays : (a b : Bool) → (((a && not false) && not b) && not false) ≡ ((a && not false) && not b)
+        stays a b = grind (arith, common_steps, cases_Bool a, cases_Bool b)
 
 -- ---- the words of a line
-pub before-none : (test : ℕ → Bool) (len bits : ℕ) → ((k : ℕ) → has_bit bits k ≡ false) → IsRunBefore test len 0 bits
-before-none test len bits none = record { none = λ _. none; run = λ j e. absurd (omega arith) }
-
-pub before-more : (test : ℕ → Bool) (len at bits : ℕ) → IsRunAt test len at bits → IsRunBefore test len (at + 1) bits
-before-more test len at bits is = record {
-  none = λ e. absurd (omega arith);
-  run = λ j e. let same : at ≡ j = omega arith in subst (λ n. IsRunAt test len n bits) same is;
-}
-
 pub written-none : (test : ℕ → Bool) (len first stride : ℕ) (words : List ℕ) → AreWritten test len first stride 0 words words
 written-none test len first stride words = record {
   each = λ i lt. absurd (omega arith);
   others = λ c out. refl;
   long = refl;
 }
+
+places-apart : (first stride i n : ℕ) → 0 < stride → i ≢ n → first + i * stride ≢ first + n * stride
+places-apart first stride i n some ne e = elim (cases_lt i n) [
+  | inl less ↦ let m : (i + 1) * stride ≤ n * stride = mul-le-mul_right stride (omega arith) in omega arith
+  | inr more ↦ let m : (n + 1) * stride ≤ i * stride = mul-le-mul_right stride (omega arith) in omega arith
+]
 
 pub written-more : (test : ℕ → Bool) (len first stride n bits : ℕ) (from to : List ℕ) → 0 < stride
     → first + n * stride < length to → AreWritten test len first stride n from to
@@ -161,17 +153,11 @@ pub written-more : (test : ℕ → Bool) (len first stride n bits : ℕ) (from t
 written-more test len first stride n bits from to some there is run = record {
   each = λ i lt. elim (cases_eq i n) [
     | inl e ↦ rw (e, get_or-set_same to (first + n * stride) bits 0 there) run
-    | inr ne ↦ rw (get_or-set_other to (first + n * stride) (first + i * stride) bits 0 (apart i ne)) (is.each i (omega arith))
+    | inr ne ↦ rw (get_or-set_other to (first + n * stride) (first + i * stride) bits 0 (places-apart first stride i n some ne)) (is.each i (omega arith))
   ];
   others = λ c out. get_or-set_other to (first + n * stride) c bits 0 (λ e. out n (omega arith) (sym e)) ∙ is.others c (λ i lt. out i (omega arith));
   long = length-set _ _ _ ∙ is.long;
 }
-  where
-    apart : (i : ℕ) → i ≢ n → first + i * stride ≢ first + n * stride
-    apart i ne e = elim (cases_lt i n) [
-      | inl less ↦ let m : (i + 1) * stride ≤ n * stride = mul-le-mul_right stride (omega arith) in omega arith
-      | inr more ↦ let m : (n + 1) * stride ≤ i * stride = mul-le-mul_right stride (omega arith) in omega arith
-    ]
 
 pub words-more : {W : Type 0} (bits : W → ℕ) (test : ℕ → Bool) (len first stride n place : ℕ) (from : List ℕ) (words : List W) (word : W)
     → place ≡ first + n * stride → 0 < stride → place < length words
@@ -180,6 +166,42 @@ pub words-more : {W : Type 0} (bits : W → ℕ) (test : ℕ → Bool) (len firs
 words-more bits test len first stride n place from words word e some there is run =
     let inside : first + n * stride < length (map bits words) = omega (arith, there, e, length-map words bits) in
     rw (map-set bits words place word, e) (written-more test len first stride n (bits word) from (map bits words) some inside is run)
+
+-- ---- the word of a run
+pub filled-more : {W : Type 0} (bits : W → ℕ) (first stride start n : ℕ) (from : List ℕ) (words : List W) (word : W)
+    → start ≤ n → first + n * stride < length words → AreFilled first stride start n (bits word) from (map bits words)
+    → AreFilled first stride start (n + 1) (bits word) from (map bits (set words (first + n * stride) word))
+filled-more bits first stride start n from words word low there is = rw (map-set bits words (first + n * stride) word) (record {
+  each = λ i above below. elim (cases_eq (first + i * stride) (first + n * stride)) [
+    | inl e ↦ rw e (get_or-set_same to (first + n * stride) (bits word) 0 inside)
+    | inr ne ↦
+        get_or-set_other to (first + n * stride) (first + i * stride) (bits word) 0 ne
+        ∙ is.each i above (elim (cases_eq i n) [ inl same ↦ absurd (ne (ap (λ k. first + k * stride) same)) | inr other ↦ omega arith ])
+  ];
+  others = λ c out.
+      get_or-set_other to (first + n * stride) c (bits word) 0 (λ e. out n low (omega arith) (sym e))
+      ∙ is.others c (λ i above below. out i above (omega arith));
+})
+  where
+    to : List ℕ
+    to = map bits words
+
+    inside : first + n * stride < length to
+    inside = omega (arith, there, length-map words bits)
+
+pub written-filled : (test : ℕ → Bool) (len first stride start end bits : ℕ) (from mid to : List ℕ) → 0 < stride
+    → IsRunFrom test len start end → ((k : ℕ) → has_bit bits k ≡ (ltb k end && not (ltb k start)))
+    → AreWritten test len first stride start from mid → AreFilled first stride start end bits mid to → length to ≡ length mid
+    → AreWritten test len first stride end from to
+written-filled test len first stride start end bits from mid to some run told is filled long = record {
+  each = λ i lt. elim (cases_lt i start) [
+    | inl early ↦
+        rw (filled.others (first + i * stride) (λ j low up. places-apart first stride j i some (omega arith))) (is.each i early)
+    | inr on ↦ rw (filled.each i on lt) (run-whole test len start end bits run told i on lt)
+  ];
+  others = λ c out. let low = run.low in filled.others c (λ i _ up. out i up) ∙ is.others c (λ i lt. out i (omega arith));
+  long = long ∙ is.long;
+}
 
 -- ---- the words of the rows, one after another
 clear-within : (test other : ℕ → Bool) (n j k : ℕ) → j < n → k < n → ((i : ℕ) → i < n → test i ≡ other i) → clear test j k ≡ clear other j k

@@ -1,27 +1,6 @@
--- Houses that are added, and a segment that is cut at a cell.
-use Rattle.fields_core.proofs.Common.{AreAdded, Bool, CountHouse, House, List, Segment, [], ap, ap₂, append-nil, append_assoc, arith, eq-eqb, eqb, filter, filter-append, house_told, houses_below, map, map-append, mul-le-mul_right, ne_eqb, not, places_of, range_with_len, refl, segment_places, suc, sym, zero, ℕ, ◌*◌, ◌++◌, ◌+◌, ◌<◌, ◌∙◌, ◌∷◌, ◌≡◌, ◌≤◌}
-use Rattle.fields_core.proofs.CountListLemmas.{below-more, below-none}
-use Rattle.fields_core.proofs.HouseLemmas.{added-none}
+-- A segment that is cut at a cell.
+use Rattle.fields_core.proofs.Common.{Bool, List, Segment, [], ap, ap₂, append-nil, arith, eq-eqb, eqb, filter, filter-append, map, map-append, mul-le-mul_right, ne_eqb, not, places_of, range_with_len, refl, segment_places, suc, sym, zero, ℕ, ◌*◌, ◌++◌, ◌+◌, ◌<◌, ◌∙◌, ◌∷◌, ◌≡◌, ◌≤◌}
 use Rattle.fields_core.proofs.RunLemmas.{map-same, range-split}
-
--- ---- houses that are added
-pub push-added : (items : List House) (house : House) {more : List House} {told : List CountHouse}
-    → more ≡ items ++ house ∷ [] → house_told house ∷ [] ≡ told → AreAdded items more told
-push-added items house e f = rw (e, sym f) (map-append house_told items (house ∷ []))
-
-pub below-added : (f : ℕ → List CountHouse) (old items more : List House) (n : ℕ)
-    → AreAdded old items (houses_below f n) → AreAdded items more (f n) → AreAdded old more (houses_below f (n + 1))
-below-added f old items more n added one =
-    one ∙ ap (λ l. l ++ f n) added ∙ append_assoc (map house_told old) (houses_below f n) (f n)
-    ∙ ap (λ l. map house_told old ++ l) (sym (below-more f n))
-
--- row by row
-pub none-yet : (f : ℕ → List CountHouse) (items : List House) (w : ℕ) → AreAdded items items (houses_below f (0 * w))
-none-yet f items w = let z : 0 * w ≡ 0 = omega arith in rw z (added-none items (below-none f))
-
-pub next-added : (f : ℕ → List CountHouse) (old items more : List House) (n x : ℕ)
-    → AreAdded old items (houses_below f (n + x)) → AreAdded items more (f (n + x)) → AreAdded old more (houses_below f (n + (x + 1)))
-next-added f old items more n x added one = let z : n + (x + 1) ≡ n + x + 1 = omega arith in rw z (below-added f old items more (n + x) added one)
 
 -- ---- the cells of some segments and of empty ones
 pub places-three : (a b c none : Segment) → segment_places none ≡ [] → places_of (a ∷ b ∷ c ∷ none ∷ []) ≡ segment_places a ++ (segment_places b ++ segment_places c)

@@ -7,7 +7,7 @@ use Rattle.grid_core.specs.Words.{differ}
 use Rattle.grid_core.specs.declared.planes.line.Line.TheVariants.{Row}
 use Rattle.std.proofs.lemmas.List.{map-set}
 use Rattle.fields_core.specs.Trees.{IsNear, IsRowOf, is_beside, without_zeros}
-use Rattle.fields_core.specs.declared.planes.trees.Near.{Near}
+use Rattle.fields_core.specs.declared.planes.near.Near.{Near}
 use Rattle.fields_core.proofs.CellLemmas.{has-append, same-truth}
 use Rattle.fields_core.proofs.PlaceLists.{num}
 
@@ -313,12 +313,12 @@ next-off test n word off is k = grind (arith, common_steps, cases_eq k n, lt-ltb
 
 -- ---- a word for each row
 -- one more is written
-pub rows-more : {W : Type 0} (bits : W → ℕ) (words : List W) (n w : ℕ) (passes : ℕ → Bool) (word : W) → n < length words
-    → ((y : ℕ) → y < n → IsRowOf w passes y (slice_index (map bits words) y)) → IsRowOf w passes n (bits word)
-    → (y : ℕ) → y < n + 1 → IsRowOf w passes y (slice_index (map bits (set words n word)) y)
-rows-more bits words n w passes word lt written is y less x = rw (map-set bits words n word) (elim (cases_eq y n) [
-  | inl e ↦ rw (e, get_or-set_same (map bits words) n (bits word) 0 (omega (arith, lt, length-map words bits))) (is x)
-  | inr ne ↦ rw (get_or-set_other (map bits words) n y (bits word) 0 ne) (written y (omega arith) x)
+pub rows-more : {W : Type 0} (bits : W → ℕ) (words : List W) (n : ℕ) (P : ℕ → ℕ → Type 0) (word : W) → n < length words
+    → ((y : ℕ) → y < n → P y (slice_index (map bits words) y)) → P n (bits word)
+    → (y : ℕ) → y < n + 1 → P y (slice_index (map bits (set words n word)) y)
+rows-more bits words n P word lt written is y less = rw (map-set bits words n word) (elim (cases_eq y n) [
+  | inl e ↦ rw (e, get_or-set_same (map bits words) n (bits word) 0 (omega (arith, lt, length-map words bits))) is
+  | inr ne ↦ rw (get_or-set_other (map bits words) n y (bits word) 0 ne) (written y (omega arith))
 ])
 
 -- the word that was read

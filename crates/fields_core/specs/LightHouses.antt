@@ -5,6 +5,8 @@ use Rattle.engine_core.specs.RuleSystem.{RuleSystem}
 use Rattle.gameid_core.specs.Puzzles.{Light}
 use Rattle.gameid_core.specs.declared.light_up.cell.LightCell.{LightCell}
 use Rattle.gameid_core.specs.declared.light_up.cell.LightCell.TheVariants.{White, Black, Numbered}
+use Rattle.fields_core.specs.declared.light_up.told.LightHouse.{LightHouse}
+use Rattle.fields_core.specs.declared.light_up.told.LightHouse.TheVariants.{Number, Row, Column, Lit}
 use Rattle.fields_core.specs.CountHouse.{CountHouse, exactly, one_at_most, one_at_least, houses_below, CountPuzzle, rules_of}
 use Rattle.fields_core.specs.Light.{light_cells, white, joined_in_row, joined_in_column, solves_lights}
 
@@ -45,6 +47,13 @@ column_house p c = if begins_column_run p c then one_at_most (column_run p c) �
 -- a white cell and the cells that it sees hold a bulb
 abbrev pub lit_house : Light → ℕ → List CountHouse
 lit_house p c = if white p c then one_at_least (seen_from p c) ∷ [] else []
+
+-- the house of a kind that a place tells, if there is one
+abbrev pub light_house : Light → LightHouse → ℕ → List CountHouse
+light_house p Number c = number_house p c
+light_house p Row c = row_house p c
+light_house p Column c = column_house p c
+light_house p Lit c = lit_house p c
 
 -- the houses of numbers, of runs in rows, of runs in columns and of white cells, each by place
 unfoldable pub light_houses : Light → List CountHouse

@@ -14,6 +14,12 @@ pub record IsAround (test : ℕ → Bool) (len at start end : ℕ) : Type 0 wher
   pub first : (i : ℕ) → suc i ≡ start → test i ≡ false
   pub last : end < len → test end ≡ false
 
+-- the latest run before the number `at`: the one around it, if it reaches it. Else no run goes on there
+abbrev pub IsLatest : (ℕ → Bool) → ℕ → ℕ → ℕ × ℕ → Type 0
+IsLatest test len at run =
+    (at < run.1 → IsAround test len at run.0 run.1)
+    × (run.1 ≤ at → at < len → test at ≡ true → (i : ℕ) → suc i ≡ at → test i ≡ false)
+
 -- the house of the run that begins at the cell of number `at` along a line, if one does
 abbrev pub run_house : Light → ℕ → ℕ → ℕ → ℕ → List CountHouse
 run_house p first stride len at =

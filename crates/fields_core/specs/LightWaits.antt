@@ -75,6 +75,11 @@ abbrev pub AreLitRested : Light → List ℕ → Candidates → Type 0
 AreLitRested p words K = (c : ℕ) → c < light_cells p → lit_waits p.size.w words c ≡ false
     → AreIdle (lit_house p c) K
 
+-- those of the white cells of a row are idle that are none of these
+abbrev pub AreWhitesIdleBut : Light → ℕ → ℕ → Candidates → Type 0
+AreWhitesIdleBut p waiting y K = (x : ℕ) → x < p.size.w → has_bit waiting x ≡ false
+    → AreIdle (lit_house p (y * p.size.w + x)) K
+
 -- the houses of the white cells of a row from one place to another are idle
 abbrev pub AreIdleBetween : Light → Candidates → ℕ → ℕ → ℕ → Type 0
 AreIdleBetween p K y from to = (k : ℕ) → from ≤ k → k < to → AreIdle (lit_house p (y * p.size.w + k)) K

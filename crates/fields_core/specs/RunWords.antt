@@ -1,5 +1,5 @@
 -- Words of runs along a line, as they are written one after another. No public contract uses these words.
-use Rattle.std.specs.Prelude.{◌≡◌, ◌≢◌, ℕ, ◌+◌, ◌*◌, ◌<◌, Bool, false, ◌&&◌, nat_lt, List, length, slice_index}
+use Rattle.std.specs.Prelude.{◌≡◌, ◌≢◌, ℕ, ◌+◌, ◌*◌, ◌<◌, ◌≤◌, Bool, ◌&&◌, nat_lt, List, length, slice_index}
 use Rattle.grid_core.specs.Words.{has_bit}
 use Rattle.fields_core.specs.Light.{clear}
 
@@ -7,10 +7,12 @@ use Rattle.fields_core.specs.Light.{clear}
 abbrev pub IsRunAt : (ℕ → Bool) → ℕ → ℕ → ℕ → Type 0
 IsRunAt test len at bits = (k : ℕ) → has_bit bits k ≡ (nat_lt k len && clear test at k)
 
--- the bits are the run that the number before is in, and none at the first
-pub record IsRunBefore (test : ℕ → Bool) (len at bits : ℕ) : Type 0 where
-  pub none : at ≡ 0 → (k : ℕ) → has_bit bits k ≡ false
-  pub run : (j : ℕ) → j + 1 ≡ at → IsRunAt test len j bits
+-- the bits stand at the places of the numbers of a line from `start` on and before `end`, and other
+-- words are as they were
+pub record AreFilled (first stride start end bits : ℕ) (from to : List ℕ) : Type 0 where
+  pub each : (i : ℕ) → start ≤ i → i < end → slice_index to (first + i * stride) ≡ bits
+  pub others : (c : ℕ) → ((i : ℕ) → start ≤ i → i < end → first + i * stride ≢ c)
+      → slice_index to c ≡ slice_index from c
 
 -- the runs of the first n numbers of a line stand at their cells, and other words are as they were
 pub record AreWritten (test : ℕ → Bool) (len first stride n : ℕ) (from to : List ℕ) : Type 0 where

@@ -1,5 +1,5 @@
 -- Runs of numbers that pass a test, and which of the numbers of a line see others. No public contract uses these words.
-use Rattle.std.specs.Prelude.{◌≡◌, ◌≢◌, ℕ, ◌<◌, ◌≤◌, Bool, true, false, List}
+use Rattle.std.specs.Prelude.{◌≡◌, ◌≢◌, ℕ, suc, ◌<◌, ◌≤◌, Bool, true, false, List}
 use Rattle.fields_core.specs.Light.{bulb, clear}
 
 -- the numbers after `at` pass, up to the one before the end; the end does not, if it is below len
@@ -8,6 +8,12 @@ pub record RunsOn (test : ℕ → Bool) (len at end : ℕ) : Type 0 where
   pub high : end ≤ len
   pub pass : (i : ℕ) → at < i → i < end → test i ≡ true
   pub edge : end < len → test end ≡ false
+
+-- the numbers before `at` pass, from `start` on; the one before `start` does not, if there is one
+pub record RunsBack (test : ℕ → Bool) (at start : ℕ) : Type 0 where
+  pub low : start ≤ at
+  pub pass : (i : ℕ) → start ≤ i → i < at → test i ≡ true
+  pub edge : (i : ℕ) → suc i ≡ start → test i ≡ false
 
 -- whether one of the numbers from low to the one before high has a bulb, and from `at` to it all are white
 abbrev pub Shines : (ℕ → Bool) → (ℕ → Bool) → ℕ → ℕ → ℕ → Bool → Type 0

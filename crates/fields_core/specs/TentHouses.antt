@@ -4,6 +4,8 @@ use Rattle.std.specs.List.{list_any}
 use Rattle.grid_core.specs.Regions.{beside, row_places, column_places}
 use Rattle.engine_core.specs.RuleSystem.{RuleSystem}
 use Rattle.gameid_core.specs.Puzzles.{Tents}
+use Rattle.fields_core.specs.declared.tents.told.TentHouse.{TentHouse}
+use Rattle.fields_core.specs.declared.tents.told.TentHouse.TheVariants.{Column, Row, Tree, Square}
 use Rattle.fields_core.specs.CountHouse.{CountHouse, exactly, one_at_most, one_at_least, houses_below, CountPuzzle, rules_of}
 use Rattle.fields_core.specs.Tents.{tent_cells, tree, solves_tents}
 
@@ -28,6 +30,13 @@ square_house p c =
     if nat_lt (c % p.size.w + 1) p.size.w && nat_lt (c / p.size.w + 1) p.size.h
     then one_at_most (c ∷ (c + 1) ∷ (c + p.size.w) ∷ (c + p.size.w + 1) ∷ []) ∷ []
     else []
+
+-- the house of a kind that a line or a place tells, if there is one
+abbrev pub tent_house : Tents → TentHouse → ℕ → List CountHouse
+tent_house p Column x = if nat_lt x p.size.w then column_of_tents p x else []
+tent_house p Row y = if nat_lt y p.size.h then row_of_tents p y else []
+tent_house p Tree c = tree_house p c
+tent_house p Square c = square_house p c
 
 -- the houses of the columns, of the rows, of the trees by place, and of the squares by place
 unfoldable pub tent_houses : Tents → List CountHouse

@@ -10,7 +10,7 @@ use Rattle.gameid_core.specs.Puzzles.{Tents}
 use Rattle.fields_core.specs.CountHouse.{CountHouse, houses_below}
 use Rattle.fields_core.specs.TentHouses.{tree_house}
 use Rattle.fields_core.specs.Tents.{tree}
-use Rattle.fields_core.specs.declared.planes.trees.Near.{Near}
+use Rattle.fields_core.specs.declared.planes.near.Near.{Near}
 
 -- the houses of the trees of a row
 abbrev pub trees_of_row : Tents → ℕ → List CountHouse

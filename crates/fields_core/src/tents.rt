@@ -7,4 +7,5 @@ pub(crate) mod houses;
 pub(crate) mod pairs;
 pub(crate) mod planes;
 pub(crate) mod rules;
+pub(crate) mod told;
 pub(crate) mod touch;

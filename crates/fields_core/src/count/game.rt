@@ -1,11 +1,12 @@
 //! What only a game knows of rules whose houses count the ones of their cells.
 
-ghost use Rattle.std.specs.Prelude.{◌≡◌, ℕ, ◌<◌, IfOk, map};
+ghost use Rattle.std.specs.Prelude.{◌≡◌, ℕ, ◌<◌, IfOk, List, [], ◌∷◌, length};
 ghost use Rattle.grid_core.specs.Grids.{IsGrid};
-ghost use Rattle.fields_core.specs.CountHouse.{CountPuzzle, IsCounted};
-ghost use Rattle.fields_core.specs.Houses.{house_told};
+ghost use Rattle.fields_core.specs.CountHouse.{CountHouse, CountPuzzle, IsCounted};
+ghost use Rattle.fields_core.specs.Houses.{house_told, AreNamed};
 
 use crate::count::house::House;
+use crate::count::name::HouseName;
 use grid_core::Grid;
 use std::alloc::{AllocError, Global};
 
@@ -14,8 +15,14 @@ pub trait CountGame: Drop + Sized {
     /// What the test of a grid works in.
     type Scratch: Drop;
 
+    /// The kinds of its houses.
+    type Kind: Copy + Drop;
+
     /// What it counts.
     ghost counts: { Self → CountPuzzle };
+
+    /// The house of that kind which a place or a line tells, if there is one.
+    ghost told: { Self → Self.Kind → ℕ → List CountHouse };
 
     /// The scratch serves so many cells.
     ghost serves: { Self.Scratch → ℕ → Type 0 };
@@ -24,14 +31,20 @@ pub trait CountGame: Drop + Sized {
     fn copied(&self, alloc: Global) -> Result<Self, AllocError>
         ensures { IfOk result (λ copy. copy ≡ self.now) };
 
-    /// Its houses.
+    /// The names of its houses.
     ///
     /// # Errors
     ///
     /// When memory was refused.
-    fn houses(&self, alloc: Global) -> Result<Vec<House>, AllocError>
+    fn names(&self, alloc: Global) -> Result<Vec<HouseName<Self::Kind>>, AllocError>
         ensures counting { IsCounted (counts self.now) }
-        ensures told { IfOk result (λ list. map house_told list.items ≡ (counts self.now).houses) };
+        ensures named { IfOk result
+            (λ names. AreNamed (told self.now) names.items ((counts self.now).houses)) };
+
+    /// The house of that kind which the place or the line tells.
+    fn house(&self, kind: Self::Kind, place: usize) -> House
+        requires one { length (told self.now kind place) ≡ 1 }
+        ensures { told self.now kind place ≡ house_told result ∷ [] };
 
     /// How many cells it has.
     fn cells(&self) -> usize

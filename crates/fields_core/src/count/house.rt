@@ -1,7 +1,7 @@
 //! Count houses, each told by few numbers.
 #![tactic(auto, using(crate::proofs::LawSets::house_laws))]
 
-ghost use Rattle.std.specs.Prelude.{◌≡◌, ℕ, ◌+◌, ◌*◌, ◌<◌, ◌^◌, Bool, [], filter, length, map, slice_index};
+ghost use Rattle.std.specs.Prelude.{◌≡◌, ℕ, ◌+◌, ◌*◌, ◌<◌, ◌≤◌, ◌^◌, Bool, true, if◌then◌else◌, [], ◌∷◌, filter, length, map, slice_index};
 ghost use Rattle.std.specs.List.{range_with_len};
 ghost use Rattle.engine_core.specs.RuleSystem.{has_place};
 ghost use Rattle.grid_core.specs.Regions.{beside as beside_places, row_places, column_places};
@@ -190,4 +190,38 @@ pub(crate) fn beside<F: Fn(usize) -> bool>(size: Size, place: usize, passes: F) 
         }
     }
     cells
+}
+
+/// One if the place is there and passes, and else none.
+fn count_if<F: Fn(usize) -> bool>(passes: &F, there: bool, place: usize) -> usize
+    requires { there ≡ true → F.pre passes.now place }
+    ensures count { (test : ℕ → Bool)
+        → (there ≡ true → (answer : Bool) → F.post passes.now place answer → answer ≡ test place)
+        → result ≡ length (filter test (if there then place ∷ [] else [])) }
+    ensures few { result ≤ 1 }
+{
+    usize::from(there && passes(place))
+}
+
+/// How many cells beside the cell of that column and row pass.
+pub(crate) fn count_passing<F: Fn(usize) -> bool>(
+    size: Size,
+    x: usize,
+    y: usize,
+    passes: F,
+) -> usize
+    requires x_in { x < size.w }
+    requires y_in { y < size.h }
+    requires callable { (c : ℕ) → c < size.w * size.h → F.pre passes c }
+    ensures count { (test : ℕ → Bool) → TestsBelow (F.post passes) test (size.w * size.h)
+        → result ≡ length (filter test (beside_places size (y * size.w + x))) }
+    ensures few { result ≤ 4 }
+{
+    let (w, h) = (usize::from(size.w()), usize::from(size.h()));
+    let place = y * w + x;
+    let up = count_if(&passes, y > 0, place.saturating_sub(w));
+    let left = count_if(&passes, x > 0, place.saturating_sub(1));
+    let right = count_if(&passes, x + 1 < w, place + 1);
+    let down = count_if(&passes, y + 1 < h, place + w);
+    up + left + right + down
 }

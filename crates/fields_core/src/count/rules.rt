@@ -7,22 +7,26 @@ ghost use Rattle.engine_core.specs.declared.mode.Mode.TheVariants.{Sweep};
 ghost use Rattle.grid_core.specs.Board.{cells_of, has, SameShape};
 ghost use Rattle.grid_core.specs.Candidates.{max_cells};
 ghost use Rattle.fields_core.specs.CountHouse.{IsCounted, IsHouse, after_house, count_house_of, rules_of, start_of};
-ghost use Rattle.fields_core.specs.Houses.{house_told};
+ghost use Rattle.engine_core.specs.RuleSystem.{needs_of};
+ghost use Rattle.fields_core.specs.Houses.{house_told, AreNamed};
 
 use crate::count::game::CountGame;
 use crate::count::house::House;
+use crate::count::name::{HouseName, longest_of};
 use crate::count::tally::Tally;
 use engine_core::{Mode, Rules, apply, gather};
 use grid_core::{Board, Grid};
 use std::alloc::{AllocError, Global};
 
-/// A copy of the puzzle, and its houses.
+/// A copy of the puzzle, the names of its houses, and how many cells the longest has.
 #[derive(Drop)]
 pub struct CountRules<P: CountGame> {
     puzzle: P,
-    houses: Vec<House>,
+    names: Vec<HouseName<P::Kind>>,
+    longest: usize,
     ghost counting: { IsCounted (P.counts puzzle) },
-    ghost told: { map house_told houses.items ≡ (P.counts puzzle).houses },
+    ghost named: { AreNamed (P.told puzzle) names.items (P.counts puzzle).houses },
+    ghost long: { longest ≡ (needs_of (rules_of (P.counts puzzle))).scope },
 }
 
 /// What a visit works in: the places of a house's cells, their sets and what is kept of these. With it goes what the test of
@@ -47,9 +51,14 @@ impl<P: CountGame> CountRules<P> {
         ensures rules { IfOk result (λ rules. ⟦<CountRules<P> as Rules>⟧.system rules
             ≡ rules_of (P.counts puzzle.now)) }
     {
-        let houses = puzzle.houses(alloc)?;
+        let names = puzzle.names(alloc)?;
         let puzzle = puzzle.copied(alloc)?;
-        Ok(CountRules { puzzle, houses })
+        let longest = longest_of(&names);
+        Ok(CountRules {
+            puzzle,
+            names,
+            longest,
+        })
     }
 
     /// The puzzle.
@@ -59,13 +68,22 @@ impl<P: CountGame> CountRules<P> {
         &self.puzzle
     }
 
+    /// The names of its houses.
+    pub(crate) fn names(&self) -> &[HouseName<P::Kind>]
+        ensures { AreNamed (P.told self.now.puzzle) result.now
+            (P.counts self.now.puzzle).houses }
+    {
+        &self.names
+    }
+
     /// The house of that number.
-    fn house(&self, house: usize) -> &House
+    fn house(&self, house: usize) -> House
         requires { house < length (P.counts self.now.puzzle).houses }
-        ensures { house_told result.now
+        ensures { house_told result
             ≡ count_house_of (P.counts self.now.puzzle).houses house }
     {
-        &self.houses[house]
+        let name = self.names[house];
+        self.puzzle.house(name.kind, usize::from(name.place))
     }
 }
 
@@ -171,7 +189,7 @@ impl<P: CountGame> Rules for CountRules<P> {
     }
 
     fn houses(&self) -> usize {
-        self.houses.len()
+        self.names.len()
     }
 
     fn bound(&self) -> usize {
@@ -179,7 +197,11 @@ impl<P: CountGame> Rules for CountRules<P> {
     }
 
     fn scope_len(&self, house: usize) -> usize {
-        self.house(house).len()
+        usize::from(self.names[house].cells)
+    }
+
+    fn longest(&self) -> usize {
+        self.longest
     }
 
     fn scope(&self, house: usize, k: usize) -> usize {
@@ -188,7 +210,7 @@ impl<P: CountGame> Rules for CountRules<P> {
 
     /// A sweep visits all houses: no closing asks for it.
     fn house_at(&self, place: usize, from: usize) -> Option<usize> {
-        for house in from..self.houses.len() {
+        for house in from..self.names.len() {
             if self.house(house).has(place) {
                 return Some(house);
             }
@@ -201,10 +223,7 @@ impl<P: CountGame> Rules for CountRules<P> {
     }
 
     fn scratch(&self, alloc: Global) -> Result<CountScratch<P::Scratch>, AllocError> {
-        let mut room = 0;
-        for house in 0..self.houses.len() {
-            room = room.max(self.house(house).len());
-        }
+        let room = self.longest;
         Ok(CountScratch {
             places: vec![in alloc; 0; room]?,
             sets: vec![in alloc; 0; room]?,
@@ -220,7 +239,7 @@ impl<P: CountGame> Rules for CountRules<P> {
         scratch: &mut CountScratch<P::Scratch>,
     ) -> bool {
         let (sets, kept) = (&mut scratch.sets, &mut scratch.kept);
-        strike(self.house(house), board, &mut scratch.places, sets, kept)
+        strike(&self.house(house), board, &mut scratch.places, sets, kept)
     }
 
     fn accept(&self, scratch: &mut CountScratch<P::Scratch>, grid: &Grid) -> bool {

@@ -41,11 +41,10 @@ fn is_number_right(puzzle: &LightPuzzle, grid: &Grid, place: usize) -> bool
 }
 
 /// The first cell with a number that is not that of the bulbs beside it.
-pub(crate) fn find_wrong_number(puzzle: &LightPuzzle, grid: &Grid) -> Option<usize>
+fn find_wrong_number(puzzle: &LightPuzzle, grid: &Grid) -> Option<usize>
     requires { IsGrid (light_cells puzzle.now) 2 grid.now }
-    ensures wrong { IsNext (λ c. not (number_right puzzle.now grid.now c))
+    ensures { IsNext (λ c. not (number_right puzzle.now grid.now c))
         (light_cells puzzle.now) 0 result }
-    ensures lawful { IsLight puzzle.now }
 {
     for place in 0..cells(puzzle) {
         if !is_number_right(puzzle, grid, place) {

@@ -3,7 +3,9 @@
 
 ghost use Rattle.std.specs.Prelude.{◌≤◌, refl};
 
-use crate::light_up::check::find_wrong_number;
+use crate::count::name::HouseName;
+use crate::light_up::lonely::has_lonely_number;
+use crate::light_up::told::LightHouse;
 use crate::planes::any::AnyPlanes;
 use crate::planes::game::PlaneGame;
 use crate::planes::lights::notes::LightNotes;
@@ -60,8 +62,8 @@ impl PlaneGame for LightPuzzle {
         }
     }
 
-    fn completes(&self, _scratch: &mut (), grid: &Grid) -> bool {
-        find_wrong_number(self, grid).is_none()
+    fn completes(&self, names: &[HouseName<LightHouse>], _scratch: &mut (), _grid: &Grid) -> bool {
+        !has_lonely_number(self, names)
     }
 
     ghost cells_are = { λ _. refl };

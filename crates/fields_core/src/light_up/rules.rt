@@ -3,10 +3,12 @@
 
 use crate::count::game::CountGame;
 use crate::count::house::House;
+use crate::count::name::HouseName;
 use crate::count::rules::CountRules;
 use crate::light_up::cells::{cells, is_white};
 use crate::light_up::check::find_fault;
-use crate::light_up::houses::houses_of_lights;
+use crate::light_up::houses::names_of_lights;
+use crate::light_up::told::{LightHouse, house_of_light};
 use gameid_core::LightPuzzle;
 use grid_core::Grid;
 use std::alloc::{AllocError, Global};
@@ -15,11 +17,15 @@ use std::alloc::{AllocError, Global};
 pub type LightRules = CountRules<LightPuzzle>;
 
 impl CountGame for LightPuzzle {
-    ghost use Rattle.fields_core.specs.LightHouses.{light_counts};
+    ghost use Rattle.fields_core.specs.LightHouses.{light_counts, light_house};
 
     type Scratch = ();
 
+    type Kind = LightHouse;
+
     ghost counts = { light_counts };
+
+    ghost told = { light_house };
 
     ghost serves = { λ _ _. Unit {0} };
 
@@ -27,8 +33,12 @@ impl CountGame for LightPuzzle {
         self.copy(alloc)
     }
 
-    fn houses(&self, alloc: Global) -> Result<Vec<House>, AllocError> {
-        houses_of_lights(alloc, self)
+    fn names(&self, alloc: Global) -> Result<Vec<HouseName<LightHouse>>, AllocError> {
+        names_of_lights(alloc, self)
+    }
+
+    fn house(&self, kind: LightHouse, place: usize) -> House {
+        house_of_light(self, kind, place)
     }
 
     fn cells(&self) -> usize {

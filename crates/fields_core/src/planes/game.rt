@@ -14,9 +14,11 @@ ghost use Rattle.engine_core.specs.Position.{IsTaken};
 ghost use Rattle.engine_core.specs.Queue.{IsClosedBut};
 ghost use Rattle.engine_core.specs.Trail.{StillServes};
 ghost use Rattle.fields_core.specs.CountHouse.{rules_of, AreMet};
+ghost use Rattle.fields_core.specs.Houses.{AreNamed};
 ghost use Rattle.fields_core.specs.AnyPlanes.{kept_in, layers_in, places_of, IsSuited};
 
 use crate::count::game::CountGame;
+use crate::count::name::HouseName;
 use crate::planes::any::AnyPlanes;
 use engine_core::{Needs, Taken};
 use grid_core::{Grid, Size};
@@ -112,7 +114,14 @@ pub trait PlaneGame: CountGame {
         ensures keeps { StillServes fits (kept_in planes.old) (kept_in planes.new) };
 
     /// Whether the grid is a solution, where blocked cells hold 0 and each house with a cell is met.
-    fn completes(&self, scratch: &mut Self::Scratch, grid: &Grid) -> bool
+    /// The names are those of its houses.
+    fn completes(
+        &self,
+        names: &[HouseName<Self::Kind>],
+        scratch: &mut Self::Scratch,
+        grid: &Grid,
+    ) -> bool
+        requires named { AreNamed (Self.told self.now) names.now ((Self.counts self.now).houses) }
         requires fits { IsGrid ((Self.counts self.now).cells) 2 grid.now }
         requires served { Self.serves scratch.old ((Self.counts self.now).cells) }
         requires met { AreMet (Self.counts self.now) grid.now }

@@ -136,7 +136,9 @@ impl<P: PlaneGame> Position for PlanePosition<P> {
 
     fn accept(&mut self, rules: &CountRules<P>, grid: &mut Grid) -> bool {
         self.planes.write_grid(grid);
-        rules.puzzle().completes(&mut self.scratch, grid)
+        rules
+            .puzzle()
+            .completes(rules.names(), &mut self.scratch, grid)
     }
 
     ghost lawful = { λ rules. count-lawful _ _ _ _ rules.counting };

@@ -1,57 +1,19 @@
 //! The trees of each row of Tents as words, and visits of those of a row, all at once.
 #![tactic(auto)]
 
-ghost use Rattle.std.specs.Prelude.{◌≡◌, ℕ, ◌<◌, ◌≤◌, ◌&&◌, Bool, true, length, map, ◌+◌, ◌*◌, ◌==◌, nat_lt};
+ghost use Rattle.std.specs.Prelude.{◌≡◌, ℕ, ◌<◌, ◌≤◌, ◌&&◌, Bool, true, length, map};
 ghost use Rattle.grid_core.specs.Planes.{has, IsFurther};
 ghost use Rattle.grid_core.specs.Words.{has_bit};
 ghost use Rattle.gameid_core.specs.Puzzles.{IsTents, Tents};
 ghost use Rattle.fields_core.specs.Parts.{IsAlive};
 ghost use Rattle.fields_core.specs.Trees.{trees_of_row, AreBare, AreRowsOf, IsNear, is_beside, wants_tent, without_zeros, IsRowOf};
 ghost use Rattle.fields_core.specs.Visits.{AreVisited};
-ghost use Rattle.std.specs.List.{count_by};
-ghost use Rattle.grid_core.specs.Extent.{Extent};
-ghost use Rattle.grid_core.specs.Regions.{beside};
 ghost use Rattle.fields_core.specs.Tents.{tent_cells};
 
+use crate::planes::near::{Near, ones_near};
 use crate::tents::cells::is_tree;
 use gameid_core::TentsPuzzle;
 use grid_core::{Line, Planes, Word, step};
-
-/// Some cells of a row, of the row above it and of the one below.
-#[derive(Clone, Copy)]
-pub(crate) struct Near<W> {
-    pub(crate) above: W,
-    pub(crate) own: W,
-    pub(crate) below: W,
-}
-
-impl<W: Word> Near<W> {
-    /// The places of the row that one of the cells is beside.
-    pub(crate) fn some(self) -> W
-        ensures { (size : Extent) (passes : ℕ → Bool) (y x : ℕ) → size.w ≤ W.room → x < size.w
-            → IsNear W.bits size passes y self
-            → has_bit (W.bits result) x ≡ nat_lt 0 (count_by passes (beside size (y * size.w + x))) }
-    {
-        let across = self.own.on().either(self.own.back());
-        self.above.either(self.below).either(across)
-    }
-
-    /// The places of the row that just one of the cells is beside.
-    pub(crate) fn just_one(self) -> W
-        ensures { (size : Extent) (passes : ℕ → Bool) (y x : ℕ) → size.w ≤ W.room → x < size.w
-            → IsNear W.bits size passes y self
-            → has_bit (W.bits result) x ≡ (count_by passes (beside size (y * size.w + x)) == 1) }
-    {
-        let left = self.own.on();
-        let right = self.own.back();
-        let along = self.above.either(self.below);
-        let across = left.either(right);
-        along
-            .differ(across)
-            .but(self.above.both(self.below))
-            .but(left.both(right))
-    }
-}
 
 /// Whether the cell has a tree, and a cell beside it has none.
 #[tactic(auto, using(crate::proofs::LawSets::tent_rules_laws), unfolding(crate::specs::Trees::wants_tent))]
@@ -100,24 +62,6 @@ pub(crate) fn write_trees<W: Word>(rows: &mut Vec<W>, puzzle: &TentsPuzzle)
 {
     for y in 0..usize::from(puzzle.size().h()) {
         rows[y] = trees_in(puzzle, y);
-    }
-}
-
-/// The cells of a row, and of the rows above and below it, that can be a one.
-fn ones_near<W: Word>(planes: &Planes<W>, y: u8) -> Near<W>
-    requires y_in { y < planes.now.size.h }
-    ensures ones { IsNear W.bits planes.now.size (λ c. has planes.now c 1) y result }
-    ensures narrow { planes.now.size.w ≤ W.room }
-{
-    let none = W::none();
-    Near {
-        above: if y > 0 { planes.row(y - 1, 1) } else { none },
-        own: planes.row(y, 1),
-        below: if y + 1 < planes.size().h() {
-            planes.row(y + 1, 1)
-        } else {
-            none
-        },
     }
 }
 

@@ -1,71 +1,97 @@
-//! The count houses of Tents.
+//! The names of the houses of Tents.
 #![tactic(auto, using(crate::proofs::LawSets::tent_houses_laws))]
 
-ghost use Rattle.std.specs.Prelude.{◌≡◌, ◌<◌, IfOk, OnOk, map};
-ghost use Rattle.fields_core.specs.Houses.{AreAdded, house_told};
+ghost use Rattle.std.specs.Prelude.{◌≡◌, ◌+◌, ◌*◌, ◌<◌, ◌^◌, IfOk, OnOk};
+ghost use Rattle.fields_core.specs.Houses.{AreAdded, AreNamed};
 ghost use Rattle.fields_core.specs.Tents.{tent_cells};
-ghost use Rattle.fields_core.specs.TentHouses.{square_house, tent_houses, tree_house};
+ghost use Rattle.fields_core.specs.TentHouses.{square_house, tent_house, tent_houses, tree_house};
 ghost use Rattle.gameid_core.specs.Puzzles.{IsTents};
 
-use crate::count::house::{House, Segment, beside};
-use crate::tents::cells::{cells, column_number, columns, is_tree, row_number, rows};
-use crate::tents::touch::{column_in, row_in};
+use crate::count::house::count_passing;
+use crate::count::name::HouseName;
+use crate::tents::cells::{cells, columns, is_tree, rows};
+use crate::tents::told::TentHouse;
 use gameid_core::TentsPuzzle;
 use std::alloc::{AllocError, Global};
 
-/// Adds the house of a tree, if one stands on the cell.
-fn push_tree(houses: &mut Vec<House>, puzzle: &TentsPuzzle, place: usize) -> Result<(), AllocError>
-    requires place_in { place < tent_cells puzzle.now }
-    ensures { OnOk result
-        (AreAdded houses.old.items houses.new.items (tree_house puzzle.now place)) }
-{
-    if is_tree(puzzle, place) {
-        let free = beside(puzzle.size(), place, |other| !is_tree(puzzle, other));
-        houses.push(House::one_at_least(free))?;
-    }
-    Ok(())
-}
-
-/// Adds the house of the square whose top left cell is the place, if there is one.
-fn push_square(
-    houses: &mut Vec<House>,
-    puzzle: &TentsPuzzle,
-    place: usize,
-) -> Result<(), AllocError>
-    requires place_in { place < tent_cells puzzle.now }
-    ensures { OnOk result
-        (AreAdded houses.old.items houses.new.items (square_house puzzle.now place)) }
-{
-    let size = puzzle.size();
-    if column_in(size, place) + 1 < columns(puzzle) && row_in(size, place) + 1 < rows(puzzle) {
-        let none = Segment::none();
-        let top = Segment::of(place, 1, 2);
-        let bottom = Segment::of(place + columns(puzzle), 1, 2);
-        houses.push(House::one_at_most([top, bottom, none, none]))?;
-    }
-    Ok(())
-}
-
-/// The houses of the columns, of the rows, of the trees and of the squares.
-#[tactic(auto, using(crate::proofs::LawSets::house_list_laws))]
-pub(crate) fn houses_of_tents(alloc: Global, puzzle: &TentsPuzzle) -> Result<Vec<House>, AllocError>
+/// The place of the cell of that column and row.
+fn place_of(puzzle: &TentsPuzzle, x: usize, y: usize) -> usize
+    requires x_in { x < puzzle.now.size.w }
+    requires y_in { y < puzzle.now.size.h }
+    ensures value { result ≡ y * puzzle.now.size.w + x }
+    ensures within { result < tent_cells puzzle.now }
+    ensures few { result < 2 ^ 16 }
     ensures lawful { IsTents puzzle.now }
-    ensures told { IfOk result (λ list. map house_told list.items ≡ tent_houses puzzle.now) }
 {
-    let mut houses = Vec::with_capacity(alloc, cells(puzzle).saturating_mul(2))?;
-    for x in 0..columns(puzzle) {
-        let column = Segment::column(puzzle.size(), x).alone();
-        houses.push(House::exactly(column_number(puzzle, x), column))?;
+    y * usize::from(puzzle.size().w()) + x
+}
+
+/// Adds the house of a tree, if one stands on the cell of that column and row.
+fn push_tree(
+    names: &mut Vec<HouseName<TentHouse>>,
+    puzzle: &TentsPuzzle,
+    x: usize,
+    y: usize,
+) -> Result<(), AllocError>
+    requires x_in { x < puzzle.now.size.w }
+    requires y_in { y < puzzle.now.size.h }
+    ensures { OnOk result (AreAdded (tent_house puzzle.now) names.old.items names.new.items
+        (tree_house puzzle.now (y * puzzle.now.size.w + x))) }
+{
+    let place = place_of(puzzle, x, y);
+    if is_tree(puzzle, place) {
+        let free = count_passing(puzzle.size(), x, y, |other| !is_tree(puzzle, other));
+        names.push(HouseName::of(TentHouse::Tree, place, free))?;
     }
-    for y in 0..rows(puzzle) {
-        let row = Segment::row(puzzle.size(), y).alone();
-        houses.push(House::exactly(row_number(puzzle, y), row))?;
+    Ok(())
+}
+
+/// Adds the house of the square that has its top left cell in that column and row, if it fits.
+fn push_square(
+    names: &mut Vec<HouseName<TentHouse>>,
+    puzzle: &TentsPuzzle,
+    x: usize,
+    y: usize,
+) -> Result<(), AllocError>
+    requires x_in { x < puzzle.now.size.w }
+    requires y_in { y < puzzle.now.size.h }
+    ensures { OnOk result (AreAdded (tent_house puzzle.now) names.old.items names.new.items
+        (square_house puzzle.now (y * puzzle.now.size.w + x))) }
+{
+    let place = place_of(puzzle, x, y);
+    if x + 1 < columns(puzzle) && y + 1 < rows(puzzle) {
+        names.push(HouseName::of(TentHouse::Square, place, 4))?;
     }
-    for place in 0..cells(puzzle) {
-        push_tree(&mut houses, puzzle, place)?;
+    Ok(())
+}
+
+/// The names of the houses of the columns, of the rows, of the trees and of the squares.
+#[tactic(auto, using(crate::proofs::LawSets::house_list_laws))]
+pub(crate) fn names_of_tents(
+    alloc: Global,
+    puzzle: &TentsPuzzle,
+) -> Result<Vec<HouseName<TentHouse>>, AllocError>
+    ensures lawful { IsTents puzzle.now }
+    ensures named { IfOk result
+        (λ names. AreNamed (tent_house puzzle.now) names.items (tent_houses puzzle.now)) }
+{
+    let mut names = Vec::with_capacity(alloc, cells(puzzle).saturating_mul(2))?;
+    let (w, h) = (columns(puzzle), rows(puzzle));
+    for x in 0..w {
+        names.push(HouseName::of(TentHouse::Column, x, h))?;
     }
-    for place in 0..cells(puzzle) {
-        push_square(&mut houses, puzzle, place)?;
+    for y in 0..h {
+        names.push(HouseName::of(TentHouse::Row, y, w))?;
     }
-    Ok(houses)
+    for y in 0..h {
+        for x in 0..w {
+            push_tree(&mut names, puzzle, x, y)?;
+        }
+    }
+    for y in 0..h {
+        for x in 0..w {
+            push_square(&mut names, puzzle, x, y)?;
+        }
+    }
+    Ok(names)
 }

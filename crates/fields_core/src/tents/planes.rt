@@ -3,10 +3,12 @@
 
 ghost use Rattle.std.specs.Prelude.{◌≤◌, refl};
 
+use crate::count::name::HouseName;
 use crate::planes::any::AnyPlanes;
 use crate::planes::game::PlaneGame;
 use crate::planes::notes::{TentNotes, start_field};
 use crate::tents::pairs::{PairingScratch, are_paired};
+use crate::tents::told::TentHouse;
 use engine_core::{Needs, Taken};
 use gameid_core::TentsPuzzle;
 use grid_core::{Grid, Size};
@@ -60,7 +62,12 @@ impl PlaneGame for TentsPuzzle {
         }
     }
 
-    fn completes(&self, scratch: &mut PairingScratch, grid: &Grid) -> bool {
+    fn completes(
+        &self,
+        _names: &[HouseName<TentHouse>],
+        scratch: &mut PairingScratch,
+        grid: &Grid,
+    ) -> bool {
         are_paired(self, grid, scratch)
     }
 

@@ -8,11 +8,13 @@ ghost use Rattle.fields_core.specs.Tents.{tent_cells, tree};
 
 use crate::count::game::CountGame;
 use crate::count::house::House;
+use crate::count::name::HouseName;
 use crate::count::rules::CountRules;
 use crate::tents::cells::{cells, is_tree};
 use crate::tents::check::find_fault;
-use crate::tents::houses::houses_of_tents;
+use crate::tents::houses::names_of_tents;
 use crate::tents::pairs::PairingScratch;
+use crate::tents::told::{TentHouse, house_of_tents};
 use gameid_core::TentsPuzzle;
 use grid_core::{Grid, step};
 use std::alloc::{AllocError, Global};
@@ -39,11 +41,15 @@ fn is_beside_a_tree(puzzle: &TentsPuzzle, place: usize) -> bool
 
 impl CountGame for TentsPuzzle {
     ghost use Rattle.fields_core.specs.PairingScratches.{HasRoom};
-    ghost use Rattle.fields_core.specs.TentHouses.{tent_counts};
+    ghost use Rattle.fields_core.specs.TentHouses.{tent_counts, tent_house};
 
     type Scratch = PairingScratch;
 
+    type Kind = TentHouse;
+
     ghost counts = { tent_counts };
+
+    ghost told = { tent_house };
 
     ghost serves = { HasRoom };
 
@@ -51,8 +57,12 @@ impl CountGame for TentsPuzzle {
         self.copy(alloc)
     }
 
-    fn houses(&self, alloc: Global) -> Result<Vec<House>, AllocError> {
-        houses_of_tents(alloc, self)
+    fn names(&self, alloc: Global) -> Result<Vec<HouseName<TentHouse>>, AllocError> {
+        names_of_tents(alloc, self)
+    }
+
+    fn house(&self, kind: TentHouse, place: usize) -> House {
+        house_of_tents(self, kind, place)
     }
 
     fn cells(&self) -> usize {

@@ -9,24 +9,6 @@ ghost use Rattle.fields_core.specs.TentTouching.{IsTentAmong, IsWindow};
 
 use grid_core::{Grid, Size};
 
-/// The row of a cell.
-pub(crate) fn row_in(size: Size, place: usize) -> usize
-    requires { place < size.w * size.h }
-    ensures row { result ≡ place / size.w }
-    ensures small { result < 2 ^ 32 }
-{
-    place / usize::from(size.w())
-}
-
-/// The column of a cell.
-pub(crate) fn column_in(size: Size, place: usize) -> usize
-    requires { place < size.w * size.h }
-    ensures column { result ≡ place % size.w }
-    ensures small { result < 2 ^ 32 }
-{
-    place % usize::from(size.w())
-}
-
 /// Whether a cell other than `place` has a tent, of those from `from` to the one before `end`.
 fn has_tent_among(grid: &Grid, place: usize, from: usize, end: usize) -> bool
     requires { end ≤ length grid.now }

@@ -1,31 +1,37 @@
 //! What waits of Light Up where a closing begins, and once cells have lost values.
 #![tactic(auto)]
 
-ghost use Rattle.std.specs.Prelude.{◌≡◌, ℕ, ◌<◌, ◌≤◌, length, map, slice_index};
+ghost use Rattle.std.specs.Prelude.{◌≡◌, ◌<◌, ◌≤◌, length};
+ghost use Rattle.grid_core.specs.Candidates.{IsInside};
 ghost use Rattle.grid_core.specs.Planes.{Layers, has, IsFurther};
 ghost use Rattle.engine_core.specs.Queue.{IsClosedAround, IsClosedBut};
 ghost use Rattle.fields_core.specs.LightHouses.{light_rules};
 ghost use Rattle.fields_core.specs.LightPlanes.{ArePlanesOf, AreTables};
-ghost use Rattle.fields_core.specs.LightWaits.{AreLightsRested};
+ghost use Rattle.fields_core.specs.LightWaits.{AreLightsRested, AreWhitesIdleBut};
 
 use crate::light_up::cells::{columns, rows};
 use crate::planes::lights::tables::LightTables;
 use crate::planes::lights::waits::{LightWaits, LineWaits};
 use crate::planes::lights::wake::wake_lit;
+use crate::planes::near::ones_near;
 use gameid_core::LightPuzzle;
 use grid_core::{Planes, Touched, Word};
 
-/// Writes the words of the first lines, so many, over the others.
-fn copy_words<W: Word>(words: &mut Vec<W>, others: &[W], lines: usize)
-    requires few { lines ≤ length words.old.items }
-    requires others { lines ≤ length others.now }
-    ensures same { (k : ℕ) → k < lines → slice_index (map W.bits words.new.items) k
-        ≡ slice_index (map W.bits others.now) k }
-    ensures long { length words.new.items ≡ length words.old.items }
+/// The white cells of a row, but not those that can have a bulb beside another that can: they are idle.
+fn waiting_of_row<W: Word>(
+    planes: &Planes<W>,
+    puzzle: &LightPuzzle,
+    tables: &LightTables<W>,
+    y: u8,
+) -> W
+    requires planes { ArePlanesOf W.room puzzle.now planes.now }
+    requires tables { AreTables W.bits puzzle.now tables.now }
+    requires inside { IsInside (has planes.now) (light_rules puzzle.now).start }
+    requires y_in { y < puzzle.now.size.h }
+    ensures { AreWhitesIdleBut puzzle.now (W.bits result) y (has planes.now) }
 {
-    for k in 0..lines {
-        words[k] = others[k];
-    }
+    let ones = ones_near(planes, y);
+    tables.rows[usize::from(y)].but(ones.own.both(ones.some()))
 }
 
 /// Leaves no place in the words of the first lines, so many.
@@ -67,16 +73,19 @@ impl<W: Word> LightWaits<W> {
         wake_lit(&mut self.lit, planes, puzzle, tables, ones);
     }
 
-    /// Begins where all houses may strike something.
+    /// Begins where nothing is known: all wait, but white cells that can have a bulb beside another that can.
     fn begin_all(&mut self, planes: &Planes<W>, puzzle: &LightPuzzle, tables: &LightTables<W>)
         requires planes { ArePlanesOf W.room puzzle.now planes.now }
         requires tables { AreTables W.bits puzzle.now tables.now }
+        requires inside { IsInside (has planes.now) (light_rules puzzle.now).start }
         requires room { W.room ≤ length self.old.lit.items }
         ensures rested { AreLightsRested W.bits puzzle.now self.new (has planes.now) }
         ensures room { length self.new.lit.items ≡ length self.old.lit.items }
     {
         self.lines = LineWaits::all();
-        copy_words(&mut self.lit, &tables.rows, rows(puzzle));
+        for y in 0..puzzle.size().h() {
+            self.lit[usize::from(y)] = waiting_of_row(planes, puzzle, tables, y);
+        }
     }
 
     /// Begins where the board was closed before a cell lost a value.
@@ -104,7 +113,7 @@ impl<W: Word> LightWaits<W> {
         wake_lit(&mut self.lit, planes, puzzle, tables, touched);
     }
 
-    /// What waits where a closing begins: what has the cell `from`, or all where none is named.
+    /// What waits where a closing begins: what has the cell `from`, or all that may strike something where none is named.
     pub(crate) fn begin(
         &mut self,
         planes: &Planes<W>,
@@ -114,6 +123,7 @@ impl<W: Word> LightWaits<W> {
     )
         requires planes { ArePlanesOf W.room puzzle.now planes.now }
         requires tables { AreTables W.bits puzzle.now tables.now }
+        requires inside { IsInside (has planes.now) (light_rules puzzle.now).start }
         requires room { W.room ≤ length self.old.lit.items }
         requires closed_but { IsClosedBut (light_rules puzzle.now) (has planes.now) from }
         ensures rested { AreLightsRested W.bits puzzle.now self.new (has planes.now) }

@@ -9,7 +9,7 @@ ghost use Rattle.fields_core.specs.LightPlanes.{IsKept, ArePlanesOf, AreTables, 
 ghost use Rattle.fields_core.specs.LightWaits.{AreLightsReady, light_kind_houses, light_kind_lines, lits_of_row, white_houses, AreIdleBetween, AreLightsRested};
 ghost use Rattle.fields_core.specs.Sweeps.{IsSweep};
 ghost use Rattle.fields_core.specs.Visits.{AreVisited};
-ghost use Rattle.grid_core.specs.Candidates.{IsWithin, Candidates};
+ghost use Rattle.grid_core.specs.Candidates.{IsInside, IsWithin, Candidates};
 ghost use Rattle.grid_core.specs.Planes.{has, IsFurther};
 ghost use Rattle.engine_core.specs.ClosingList.{IsAlive};
 ghost use Rattle.engine_core.specs.Counts.{IsClosedIn};
@@ -187,6 +187,7 @@ impl<W: Word> LightNotes<W> {
         requires tables { AreTables W.bits puzzle.now self.old.tables }
         requires room { HasLightRoom (light_cells puzzle.now) W.room self.old }
         requires within { IsWithin (light_cells puzzle.now) 2 (has planes.old) }
+        requires inside { IsInside (has planes.old) (light_rules puzzle.now).start }
         requires closed_but { IsClosedBut (light_rules puzzle.now) (has planes.old) from }
         ensures taken { IsTaken (light_rules puzzle.now) (has planes.old)
             (has planes.new) result.closing }

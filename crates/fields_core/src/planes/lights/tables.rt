@@ -6,7 +6,7 @@ ghost use Rattle.grid_core.specs.Words.{has_bit};
 ghost use Rattle.fields_core.specs.Light.{white};
 ghost use Rattle.fields_core.specs.LightPlanes.{HasTables};
 ghost use Rattle.fields_core.specs.NumberWords.{is_numbered};
-ghost use Rattle.fields_core.specs.RunWords.{AreWritten, IsRunAt, IsRunBefore};
+ghost use Rattle.fields_core.specs.RunWords.{AreFilled, AreWritten};
 ghost use Rattle.fields_core.specs.Trees.{IsRowOf};
 
 use crate::light_up::cells::columns;
@@ -64,22 +64,16 @@ pub(crate) fn cells_of_row<W: Word>(puzzle: &LightPuzzle, y: usize) -> (W, W)
     (whites, numbers)
 }
 
-/// The run of cell `at` of a line of `len` cells with these white ones, where `before` is that of the cell before it.
-fn run_at<W: Word>(white: W, len: usize, at: usize, before: W) -> W
-    requires at_in { at < len }
-    requires fits { len ≤ W.room }
-    requires before { IsRunBefore (has_bit (W.bits white)) len at (W.bits before) }
-    ensures { IsRunAt (has_bit (W.bits white)) len at (W.bits result) }
+/// Writes the word at the places of the numbers of a line from `start` on and before `end`.
+fn fill<W: Word>(runs: &mut Vec<W>, word: W, first: usize, stride: usize, start: usize, end: usize)
+    requires within { (i : ℕ) → i < end → first + i * stride < length runs.old.items }
+    requires low { start ≤ end }
+    ensures filled { AreFilled first stride start end (W.bits word)
+        (map W.bits runs.old.items) (map W.bits runs.new.items) }
+    ensures long { length runs.new.items ≡ length runs.old.items }
 {
-    if before.has(at) {
-        return before;
-    }
-    let rest = W::all(len).but(W::all(at));
-    let blacks = rest.but(white);
-    if blacks.is_some() {
-        rest.both(W::all(blacks.lowest()))
-    } else {
-        rest
+    for at in start..end {
+        runs[first + at * stride] = word;
     }
 }
 
@@ -98,9 +92,16 @@ pub(crate) fn write_runs<W: Word>(
         (map W.bits runs.old.items) (map W.bits runs.new.items) }
     ensures long { length runs.new.items ≡ length runs.old.items }
 {
-    let mut run = W::none();
-    for at in 0..len {
-        run = run_at(white, len, at, run);
-        runs[first + at * stride] = run;
+    let mut blacks = W::all(len).but(white);
+    let mut start = 0;
+    while blacks.is_some() {
+        let black = blacks.lowest();
+        let run = W::all(black).but(W::all(start));
+        fill(runs, run, first, stride, start, black);
+        runs[first + black * stride] = W::none();
+        blacks = blacks.without_lowest();
+        start = black + 1;
     }
+    let last = W::all(len).but(W::all(start));
+    fill(runs, last, first, stride, start, len);
 }

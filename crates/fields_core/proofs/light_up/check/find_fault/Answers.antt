@@ -15,7 +15,7 @@ pub returns-in-Some : goal.returns-in-Some
 returns-in-Some c =
     let p = c.args.puzzle.now in
     let g = c.args.grid.now in
-    let next : IsNext (λ k. not (number_right p g k)) (light_cells p) 0 (Some c.in-Some.place) = rw c.in-Some.is at c.find_wrong_number.ensures.wrong in
+    let next : IsNext (λ k. not (number_right p g k)) (light_cells p) 0 (Some c.in-Some.place) = rw c.in-Some.is at c.find_wrong_number.ensures in
     first_in (FailsLight p g) (black p g ∷ []) (number p g) (seen p g ∷ dark p g ∷ []) (light-made p g c.requires)
     ((λ k lt. c.loop-place.invariant k (omega arith)), tt) c.in-Some.place next.1
     (not-true _ next.2) (λ k lt. not-false _ (next.3 k (omega arith) lt))
@@ -25,7 +25,7 @@ returns-then-not-is_bulb_right c =
     let p = c.args.puzzle.now in
     let g = c.args.grid.now in
     first_in (FailsLight p g) (black p g ∷ number p g ∷ []) (seen p g) (dark p g ∷ []) (light-made p g c.requires)
-    ((λ k lt. c.loop-place.invariant k (omega arith)), (numbers-right p g (rw c.in_default.is at c.find_wrong_number.ensures.wrong), tt)) c.loop-place-2.place (omega arith)
+    ((λ k lt. c.loop-place.invariant k (omega arith)), (numbers-right p g (rw c.in_default.is at c.find_wrong_number.ensures), tt)) c.loop-place-2.place (omega arith)
     (sym c.is_bulb_right.ensures ∙ c.if-not-is_bulb_right.true) c.loop-place-2.invariant
 
 pub returns-then-not-is_lit_right : goal.returns-then-not-is_lit_right
@@ -34,7 +34,7 @@ returns-then-not-is_lit_right c =
     let g = c.args.grid.now in
     first_in (FailsLight p g) (black p g ∷ number p g ∷ seen p g ∷ []) (dark p g) [] (light-made p g c.requires) (
       (λ k lt. c.loop-place.invariant k (omega arith)),
-      (numbers-right p g (rw c.in_default.is at c.find_wrong_number.ensures.wrong), ((λ k lt. c.loop-place-2.invariant k (omega arith)), tt)),
+      (numbers-right p g (rw c.in_default.is at c.find_wrong_number.ensures), ((λ k lt. c.loop-place-2.invariant k (omega arith)), tt)),
     ) c.loop-place-3.place (omega arith)
     (sym c.is_lit_right.ensures ∙ c.if-not-is_lit_right.true) c.loop-place-3.invariant
 
@@ -44,5 +44,5 @@ returns c =
     let g = c.args.grid.now in
     light-sound p g c.requires (none_right (FailsLight p g) (kinds p g) (light-made p g c.requires) (
       (λ k lt. c.loop-place.invariant k (omega arith)),
-      (numbers-right p g (rw c.in_default.is at c.find_wrong_number.ensures.wrong), ((λ k lt. c.loop-place-2.invariant k (omega arith)), ((λ k lt. c.loop-place-3.invariant k (omega arith)), tt))),
+      (numbers-right p g (rw c.in_default.is at c.find_wrong_number.ensures), ((λ k lt. c.loop-place-2.invariant k (omega arith)), ((λ k lt. c.loop-place-3.invariant k (omega arith)), tt))),
     ))

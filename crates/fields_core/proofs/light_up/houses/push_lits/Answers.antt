@@ -1,16 +1,41 @@
-use Rattle.std.proofs.Common.{rules}
-use Rattle.fields_core.proofs.Common.{IsAround, [], ap, arith, false, length-set, lit_house, refl, sym, true, white, ◌*◌, ◌+◌, ◌<◌, ◌∙◌, ◌∷◌, ◌≡◌}
-use Rattle.fields_core.proofs.HouseLemmas.{added-none}
-use Rattle.fields_core.proofs.LightLatest.{columns-black, columns-white, line_white, lit-seen, row-black, row-white}
-use Rattle.fields_core.proofs.SegmentLemmas.{next-added, none-yet, push-added}
+use Rattle.std.proofs.Common.{replicate, rules}
+use Rattle.std.proofs.lemmas.List.{get_or-replicate}
+use Rattle.fields_core.proofs.Common.{IsAround, arith, false, get_or-set_other, get_or-set_same, length-set, light_house, lit_house, refl, sym, true, white, ◌*◌, ◌+◌, ◌<◌, ◌∙◌, ◌≡◌}
+use Rattle.fields_core.proofs.HouseLemmas.{added-none, next-added, none-yet, push-added}
+use Rattle.fields_core.proofs.LightLatest.{column-at-is, column-here, columns-more, columns-none, columns-row, latest-black, latest-none, latest-white, line_white, lit-lines, lit-long, row-at-is, small-place}
 use Rattle.fields_core.proofs.light_up.houses.push_lits.Goals as goal
 
 pub loop-y-init : goal.loop-y-init
 loop-y-init c = record {
-  added = none-yet (lit_house c.args.puzzle.now) c.args.houses.now.items c.args.puzzle.now.size.w;
-  columns = λ column i lt early late on. absurd (omega (arith, late (omega arith)));
+  added = none-yet (light_house c.args.puzzle.now) (lit_house c.args.puzzle.now) c.args.names.now.items c.args.puzzle.now.size.w;
+  columns = columns-none c.args.puzzle.now (replicate 120 (0, 0)) (λ x lt. get_or-replicate 120 x (0, 0) (0, 0) (omega (arith, lt, c.columns-w.ensures.lawful.size.extent)));
   wide = search rules;
 }
+
+pub loop-x-init : goal.loop-x-init
+loop-x-init c =
+    let p = c.args.puzzle.now in
+    let i = c.loop-y.invariant in
+    let z : c.loop-y.y * p.size.w + 0 ≡ c.loop-y.y * p.size.w = omega arith in
+    record {
+      added = rw z i.added;
+      row = latest-none (line_white p (c.loop-y.y * p.size.w) 1) p.size.w;
+      columns = i.columns;
+      wide = i.wide;
+    }
+
+pub loop-y-preserved : goal.loop-y-preserved
+loop-y-preserved c =
+    let p = c.args.puzzle.now in
+    let i = c.loop-x.invariant in
+    let wide = c.columns-w.ensures.value in
+    let x : c.loop-x.x ≡ p.size.w = omega arith in
+    let z : (c.loop-y.y + 1) * p.size.w ≡ c.loop-y.y * p.size.w + c.loop-x.x = omega arith in
+    record {
+      added = rw z i.added;
+      columns = columns-row p c.loop-x.columns c.loop-y.y (rw x at i.columns);
+      wide = i.wide;
+    }
 
 pub loop-x-preserved-then-not-is_white : goal.loop-x-preserved-then-not-is_white
 loop-x-preserved-then-not-is_white c =
@@ -18,13 +43,31 @@ loop-x-preserved-then-not-is_white c =
     let l = c.loop-x in
     let i = l.invariant in
     let y = c.loop-y.y in
-    let off : white p (y * p.size.w + l.x) ≡ false = rw c.columns-w.ensures.value at (sym c.is_white.ensures.value ∙ c.if-not-is_white.true) in
+    let wide = c.columns-w.ensures.value in
+    let off : white p (y * p.size.w + l.x) ≡ false = rw wide at (sym c.is_white.ensures.value ∙ c.if-not-is_white.true) in
+    let low : l.x < p.size.w = rw wide at c.loop-x-test.true in
     record {
-      added = next-added (lit_house p) c.args.houses.now.items l.houses.items l.houses.items (y * p.size.w) l.x i.added
-          (rw off (added-none l.houses.items refl));
-      row = row-black p l.row y l.x off;
-      columns = columns-black p l.columns y l.x off i.columns;
+      added = next-added (light_house p) (lit_house p) c.args.names.now.items l.names.items l.names.items (y * p.size.w) l.x i.added
+          (rw off (added-none (light_house p) l.names.items refl));
+      row = latest-black (line_white p (y * p.size.w) 1) l.row (row-at-is p y l.x off) i.row;
+      columns = columns-more p l.columns l.columns y l.x i.columns (λ column other. refl)
+          (latest-black (line_white p l.x p.size.w) _ (column-at-is p y l.x off) (column-here p l.columns y l.x i.columns low));
       wide = i.wide;
+    }
+
+pub run_around-top-requires-clause-latest : goal.run_around-top-requires-clause-latest
+run_around-top-requires-clause-latest c =
+    let wide = c.columns-w.ensures.value in
+    let low = rw wide at c.loop-x-test.true in
+    rw (wide, c.rows-h.ensures) (column-here c.args.puzzle.now c.loop-x.columns c.loop-y.y c.loop-x.x c.loop-x.invariant.columns low)
+
+pub of-requires : goal.of-requires
+of-requires c =
+    let is = c.columns-w.ensures.lawful in
+    let wide = c.columns-w.ensures.value in
+    record {
+      place = rw wide (small-place c.args.puzzle.now is (rw wide at c.loop-x-test.true) (rw c.rows-h.ensures at c.loop-y-test.true));
+      cells = omega (arith, is.size.extent, wide, c.rows-h.ensures, c.run_around-row.ensures.high, c.run_around-top.ensures.high);
     }
 
 pub loop-x-preserved : goal.loop-x-preserved
@@ -39,12 +82,14 @@ loop-x-preserved c =
     let on : white p (y * p.size.w + l.x) ≡ true = rw wide at (sym c.is_white.ensures.value ∙ c.if-not-is_white.false) in
     let row : IsAround (line_white p (y * p.size.w) 1) p.size.w l.x c.run_around-row.result.0 c.run_around-row.result.1 = rw wide at c.run_around-row.ensures in
     let column : IsAround (line_white p l.x p.size.w) p.size.h y run.0 run.1 = rw (wide, c.rows-h.ensures) at c.run_around-top.ensures in
-    let lit = lit-seen p y l.x c.of.result c.of-in-loop-x.result c.of-in-loop-x-2.result c.none.result low on row column
-    (rw wide at c.of.ensures) (rw wide at c.of-in-loop-x.ensures) (rw wide at c.of-in-loop-x-2.ensures) c.none.ensures in
+    let lit = lit-lines p y l.x low on row column in
     record {
-      added = next-added (lit_house p) c.args.houses.now.items l.houses.items c.push.new.self.items (y * p.size.w) l.x i.added
-          (push-added l.houses.items c.one_at_least.result c.in_ok-push.ensures.items (ap (λ h. h ∷ []) c.one_at_least.ensures ∙ lit));
-      row = row-white p c.run_around-row.result y l.x row;
-      columns = columns-white p l.columns run y l.x (omega (arith, low, i.wide)) column i.columns;
+      added = next-added (light_house p) (lit_house p) c.args.names.now.items l.names.items c.push.new.self.items (y * p.size.w) l.x i.added
+          (push-added (light_house p) l.names.items c.of.result c.in_ok-push.ensures.items lit
+          (rw (c.of.ensures.kind, c.of.ensures.place, wide) lit)
+          (c.of.ensures.cells ∙ lit-long p y l.x c.run_around-row.result.0 c.run_around-row.result.1 column));
+      row = latest-white (line_white p (y * p.size.w) 1) c.run_around-row.result row;
+      columns = columns-more p l.columns _ y l.x i.columns (λ other ne. get_or-set_other l.columns l.x other run (0, 0) ne)
+          (rw (get_or-set_same l.columns l.x run (0, 0) (omega (arith, low, i.wide))) (latest-white (line_white p l.x p.size.w) run column));
       wide = omega (arith, i.wide, length-set l.columns l.x run);
     }

@@ -2,6 +2,9 @@ use Rattle.fields_core.proofs.ClosedGrids.{walks-met}
 use Rattle.fields_core.proofs.PositionSteps.{walks-fits, walks-long}
 use Rattle.fields_core.proofs.planes.position.PlanePositionPosition.accept.Goals as goal
 
+pub completes-requires-clause-named : goal.completes-requires-clause-named
+completes-requires-clause-named g c = rw c.puzzle.ensures c.names.ensures
+
 pub completes-requires-clause-fits : goal.completes-requires-clause-fits
 completes-requires-clause-fits g c =
     let r = rw (← c.self.view_is) at c.requires in

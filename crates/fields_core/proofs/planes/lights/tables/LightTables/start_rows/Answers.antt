@@ -1,6 +1,7 @@
 use Rattle.fields_core.proofs.Common.{Bool, Extent, ap, arith, cases_Bool, common_steps, length, length-set, ltb, not, white, ◌&&◌, ◌*◌, ◌+◌, ◌<◌, ◌∙◌, ◌≡◌}
 use Rattle.grid_core.specs.Planes.{has}
 use Rattle.fields_core.specs.NumberWords.{is_numbered}
+use Rattle.fields_core.specs.Trees.{IsRowOf}
 use Rattle.fields_core.proofs.LightCounting.{light-board}
 use Rattle.fields_core.proofs.RuleLemmas.{row-blocked, start-all}
 use Rattle.fields_core.proofs.RunWords.{rows-written}
@@ -27,8 +28,8 @@ loop-y-preserved g c =
           (λ x. c.but.ensures x ∙ rw (c.all.ensures x, told.whites x, w_is) (others (ltb x p.size.w) (white p (y * p.size.w + x))));
       size = c.take.ensures.further.same_size ∙ i.size;
       steps = c.take.ensures.further.same_room ∙ i.steps;
-      rows = rows-more bits c.loop-y.self.rows.items y p.size.w (white p) _ in_rows i.rows told.whites;
-      numbers = rows-more bits c.loop-y.self.numbers.items y p.size.w (is_numbered p) _ in_numbers i.numbers told.numbers;
+      rows = rows-more bits c.loop-y.self.rows.items y (IsRowOf p.size.w (white p)) _ in_rows i.rows told.whites;
+      numbers = rows-more bits c.loop-y.self.numbers.items y (IsRowOf p.size.w (is_numbered p)) _ in_numbers i.numbers told.numbers;
       runs = rows-written p y (bits c.cells_of_row-whites.result.0) _ _ told.whites i.runs (rw w_is at c.write_runs.ensures.written);
       columns = i.columns;
       column_runs = i.column_runs;

@@ -1,0 +1,74 @@
+-- Houses of Light Up by what tells them. A place that tells a house lies in the grid.
+use Rattle.fields_core.proofs.Common.{IsLight, light_cells, light_house, mod-lt, mul-le-mul_right, ◌/◌, ◌%◌, ap₂, one_at_least, places_of, segment_places, Segment, ◌++◌, Bool, IsAround, Light, RunsOn, [], arith, begins_column_run, begins_row_run, cases_lt, column_house, cond, false, get_or_past, inl, inr, length, lit_house, refl, row_house, run_house, true, and_parts, Black, white, ℕ, ◌*◌, ◌+◌, ◌-◌, ◌<◌, ◌≤◌, ◌∷◌, ◌≡◌, ap, sym, ◌∙◌}
+use Rattle.fields_core.proofs.LightHouseLaws.{white-in}
+use Rattle.fields_core.proofs.LightLatest.{begins_at, column-house-is, line_white, lit-lines, row-house-is}
+use Rattle.fields_core.proofs.SegmentLemmas.{line, places-three}
+use Rattle.fields_core.proofs.TentBeside.{row-in, whole-cell}
+use Rattle.fields_core.specs.declared.light_up.told.LightHouse.{LightHouse}
+use Rattle.fields_core.specs.declared.light_up.told.LightHouse.TheVariants.{Column, Lit, Number, Row}
+use Rattle.fields_core.specs.CountHouse.{CountHouse}
+use Rattle.fields_core.specs.Runs.{RunsBack}
+
+-- ---- a house is told
+told-if : (b : Bool) (house : CountHouse) → length (cond b (house ∷ []) []) ≡ 1 → b ≡ true
+told-if true house e = refl
+told-if false house e = absurd (omega arith)
+
+pub run-begins : (p : Light) (first stride len at : ℕ) → length (run_house p first stride len at) ≡ 1 → begins_at p first stride at ≡ true
+run-begins p first stride len at e = told-if (begins_at p first stride at) _ e
+
+-- its place lies in the grid
+pub place-tells : (p : Light) (kind : LightHouse) (c : ℕ) → IsLight p → length (light_house p kind c) ≡ 1 → c < light_cells p
+unfolding begins_row_run begins_column_run
+place-tells p Number c lawful e = elim (cases_lt c (length p.cells)) [
+  | inl lt ↦ let long = lawful.count in omega arith
+  | inr past ↦ absurd (omega (arith, rw (get_or_past p.cells c Black past) at e))
+]
+place-tells p Row c lawful e = white-in p c lawful.count (and_parts (white p c) _ (told-if (begins_row_run p c) _ e)).0
+place-tells p Column c lawful e = white-in p c lawful.count (and_parts (white p c) _ (told-if (begins_column_run p c) _ e)).0
+place-tells p Lit c lawful e = white-in p c lawful.count (told-if (white p c) _ e)
+
+-- ---- the run around a white cell
+pub around-both : (test : ℕ → Bool) {len at start end : ℕ} → test at ≡ true → RunsBack test at start → RunsOn test len at end → IsAround test len at start end
+around-both test {len} {at} {start} {end} here back on = record {
+  low = back.low;
+  past = on.past;
+  high = on.high;
+  pass = λ i low high. elim (cases_lt i at) [
+    | inl before ↦ back.pass i low before
+    | inr from ↦ elim (cases_lt at i) [
+      | inl after ↦ on.pass i after high
+      | inr same ↦ let e : i ≡ at = omega arith in rw e here
+    ]
+  ];
+  first = back.edge;
+  last = on.edge;
+}
+
+-- ---- the house of a white cell is that of three segments
+pub lit-told : (p : Light) (y x : ℕ) (a b c none : Segment) {left right top end : ℕ} → x < p.size.w → white p (y * p.size.w + x) ≡ true
+    → IsAround (line_white p (y * p.size.w) 1) p.size.w x left right → IsAround (line_white p x p.size.w) p.size.h y top end
+    → segment_places a ≡ line (y * p.size.w + left) 1 (right - left) → segment_places b ≡ line (x + top * p.size.w) p.size.w (y - top)
+    → segment_places c ≡ line (y * p.size.w + x + p.size.w) p.size.w (end - y - 1) → segment_places none ≡ []
+    → lit_house p (y * p.size.w + x) ≡ one_at_least (places_of (a ∷ b ∷ c ∷ none ∷ [])) ∷ []
+lit-told p y x a b c none lt on row column is_a is_b is_c is_none =
+    lit-lines p y x lt on row column
+    ∙ ap (λ l. one_at_least l ∷ []) (sym (places-three a b c none is_none ∙ ap₂ (λ s t. s ++ t) is_a (ap₂ (λ s t. s ++ t) is_b is_c)))
+
+-- ---- the line of a place
+pub place-row : (p : Light) (kind : LightHouse) (c : ℕ) → IsLight p → length (light_house p kind c) ≡ 1 → c / p.size.w < p.size.h
+place-row p kind c lawful e = row-in p.size.h c lawful.size.extent.w_low (place-tells p kind c lawful e)
+
+pub row-within : (p : Light) (c i : ℕ) → c / p.size.w < p.size.h → i < p.size.w → c - c % p.size.w + i * 1 < light_cells p
+row-within p c i high low =
+    let rows : (c / p.size.w + 1) * p.size.w ≤ p.size.h * p.size.w = mul-le-mul_right p.size.w (omega arith) in
+    omega (arith, whole-cell p.size.w c)
+
+pub row-of-place : (p : Light) (c : ℕ) → 0 < p.size.w → run_house p (c - c % p.size.w) 1 p.size.w (c % p.size.w) ≡ row_house p c
+row-of-place p c some =
+    let first : c / p.size.w * p.size.w ≡ c - c % p.size.w = omega (arith, whole-cell p.size.w c) in
+    rw (← whole-cell p.size.w c, first) at (row-house-is p (c / p.size.w) (c % p.size.w) (mod-lt c some))
+
+pub column-of-place : (p : Light) (c : ℕ) → 0 < p.size.w → run_house p (c % p.size.w) p.size.w p.size.h (c / p.size.w) ≡ column_house p c
+column-of-place p c some =
+    rw (← whole-cell p.size.w c) at (column-house-is p (c / p.size.w) (c % p.size.w) (mod-lt c some))

@@ -1,0 +1,21 @@
+-- The houses of lines and of squares of Tents.
+use Rattle.std.proofs.lemmas.Nat.{div-mul-add}
+use Rattle.grid_core.proofs.PlaneLemmas.{place-column}
+use Rattle.fields_core.proofs.Common.{Tents, [], arith, column_of_tents, common_steps, one_at_most, row_of_tents, square_house, ℕ, ◌*◌, ◌+◌, ◌<◌, ◌∷◌, ◌≡◌, ◌≤◌}
+use Rattle.fields_core.specs.TentHouses.{tent_house}
+use Rattle.fields_core.specs.declared.tents.told.TentHouse.TheVariants.{Column, Row}
+
+-- the squares, by the column and the row of their top left cells
+pub square-there : (p : Tents) (y x : ℕ) → x + 1 < p.size.w → y + 1 < p.size.h
+    → square_house p (y * p.size.w + x) ≡ one_at_most ((y * p.size.w + x) ∷ (y * p.size.w + x + 1) ∷ (y * p.size.w + x + p.size.w) ∷ (y * p.size.w + x + p.size.w + 1) ∷ []) ∷ []
+square-there p y x right low = grind (arith, common_steps, place-column, div-mul-add)
+
+pub square-none : (p : Tents) (y x : ℕ) → x < p.size.w → ((x + 1 < p.size.w) → p.size.h ≤ y + 1) → square_house p (y * p.size.w + x) ≡ []
+square-none p y x lt edge = grind (arith, common_steps, place-column, div-mul-add)
+
+-- the lines
+pub column-named : (p : Tents) (x : ℕ) → x < p.size.w → tent_house p Column x ≡ column_of_tents p x
+column-named p x lt = grind (arith, common_steps)
+
+pub row-named : (p : Tents) (y : ℕ) → y < p.size.h → tent_house p Row y ≡ row_of_tents p y
+row-named p y lt = grind (arith, common_steps)
