@@ -1,5 +1,4 @@
 -- A lawful rule set has visits that close each of its boards, or sweeps that do: those that its closing would make.
-use Rattle.std.proofs.lemmas.Grind.{common_steps}
 use Rattle.commands.proofs.Common.{Bool, Candidates, IsLawful, IsWithin, List, RuleSystem, [], add-one, after_inside, any_below, any_below-none, any_below-some, arith, cases_Bool, false, inl, inr, is_dead, length, length-append, refl, suc, total, true, true≢false, within_inside, zero, ℕ, ◌++◌, ◌+◌, ◌<◌, ◌∷◌, ◌≡◌, ◌≤◌}
 use Rattle.engine_core.specs.RuleSystem.{after}
 use Rattle.engine_core.specs.ClosingList.{IsClosingList, IsClosingSweeps}

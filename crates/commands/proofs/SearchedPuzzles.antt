@@ -1,5 +1,5 @@
 -- What the searches rest on, for a puzzle of each game, and what follows for their verdicts.
-use Rattle.commands.proofs.Common.{Answer, Bool, HasOneAnswer, HasOneSolution, IsLawful, IsLight, IsLightSolution, IsPattern, IsPatternSolution, IsRight, IsSolo, IsSoloSolution, IsSolved, IsTentSolution, IsTents, IsTrueOf, Light, List, Mark, Mark.Found, Mark.Trial, None, Option, Outcome, Outcome.GaveUp, Outcome.NoSolution, Outcome.OneSolution, Outcome.SeveralSolutions, Pattern, PuzzleFacts, RuleSystem, Solo, Solves, Some, Tents, [], arith, common_steps, crossings_rules, houses_lawful, houses_rules, is_solution-from, is_solution-is, light_rules, line_rules, line_rules-lawful, outcome, outcome-true, printed_by, refl, rule_from_test, rules_of, singles_rules, suc, sym, tent_rules, test_from_rule, trials_in, verdict_answer, verdict_of, walk, zero, ℕ, ◌↔◌, ◌∷◌, ◌≡◌, ◌≤◌}
+use Rattle.commands.proofs.Common.{Bool, HasOneAnswer, HasOneSolution, IsLawful, IsLight, IsLightSolution, IsPattern, IsPatternSolution, IsRight, IsSolo, IsSoloSolution, IsSolved, IsTentSolution, IsTents, IsTrueOf, Light, List, Mark, Mark.Found, Mark.Trial, None, Option, Outcome, Outcome.GaveUp, Outcome.NoSolution, Outcome.OneSolution, Outcome.SeveralSolutions, Pattern, PuzzleFacts, RuleSystem, Solo, Solves, Some, Tents, [], arith, common_steps, crossings_rules, houses_lawful, houses_rules, is_solution-from, is_solution-is, light_rules, line_rules, line_rules-lawful, outcome, outcome-true, printed_by, refl, rule_from_test, rules_of, singles_rules, suc, sym, tent_rules, test_from_rule, trials_in, verdict_answer, verdict_of, walk, zero, ℕ, ◌↔◌, ◌∷◌, ◌≡◌, ◌≤◌}
 use Rattle.solo_core.specs.RuleLaws.{crossings_lawful, singles_lawful}
 use Rattle.engine_core.specs.HouseRules.{House}
 use Rattle.fields_core.proofs.LightCounting.{light-lawful}
@@ -14,12 +14,6 @@ right_of solves (OneSolution g) same h = ((same g).0 h.0, λ k s. h.1 k ((same k
 right_of solves (SeveralSolutions g k) same h = ((same g).0 h.0, (same k).0 h.1, h.2)
 right_of solves (GaveUp None) same h = tt
 right_of solves (GaveUp (Some g)) same h = (same g).0 h
-
--- a search by the rules of a puzzle says what is allowed
-pub solved_of : {P : Type 0} (play : PuzzleFacts P) {budget : ℕ} {p : P} {q : RuleSystem} {a : Answer} → q ≡ play.game.rules p
-    → ((g : List ℕ) → Solves (play.game.rules p) g ↔ play.game.solves p g)
-    → a ≡ verdict_answer (printed_by play p) (verdict_of q budget) → IsTrueOf q (verdict_of q budget) → IsSolved play budget p a
-solved_of play {p} same accepted told right = grind (arith, common_steps, right_of)
 
 -- the rules are lawful, and accept the solutions
 pub record SearchedPuzzle (rules : RuleSystem) (solves : List ℕ → Type 0) : Type 0 where

@@ -15,7 +15,7 @@ use gameid_core::Game;
 use pattern_core::PatternLines;
 use solo_core::SoloHouses;
 
-/// The memory of the last searches of each game, for the next ones that it is enough for.
+/// The memory of an earlier search of each game, for the next ones that it is enough for.
 #[derive(Default)]
 pub struct Stores {
     pub solo: Option<Store<SoloHouses>>,

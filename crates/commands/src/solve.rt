@@ -15,22 +15,21 @@ use engine_core::{Searchable, Store, Verdict};
 use gameid_core::{Game, IdFault, Printed, push_grid};
 use std::alloc::{AllocError, Global};
 
-/// The memory that is kept, if it is enough for the rules; else new memory is kept in its place.
-fn store_for<'a, R: Searchable>(
-    alloc: Global,
-    kept: &'a mut Option<Store<R>>,
-    rules: &R,
-) -> Result<&'a mut Store<R>, AllocError>
-    ensures { IfOk result (λ store. FitsIn (needs_of (R.system rules.now)) store.now.made) }
-{
-    let fits = match kept {
-        Some(store) => store.fits(rules),
+/// Whether the first store has as many cells as the second, and a longer scope.
+fn is_roomier<R: Searchable>(first: &Store<R>, second: &Store<R>) -> bool {
+    let (one, other) = (first.sizes(), second.sizes());
+    one.frames == other.frames && one.scope > other.scope
+}
+
+/// Keeps the store that was made, unless the one that is kept is roomier.
+fn keep_roomier<R: Searchable>(kept: &mut Option<Store<R>>, made: Store<R>) {
+    let stays = match kept {
+        Some(store) => is_roomier(store, &made),
         None => false,
     };
-    if !fits {
-        *kept = Some(Store::new(alloc, rules)?);
+    if !stays {
+        *kept = Some(made);
     }
-    Ok(kept.as_mut().unwrap())
 }
 
 /// The answer that tells the verdict of a search by the rules, in the memory of a text.
@@ -71,6 +70,36 @@ fn verdict_reply<P: Printed, R: Searchable>(
     }
 }
 
+/// The answer that tells the verdict of a search by the rules, in the memory of a text. The search
+/// works in the store that is kept, if that fits. If not, it works in a new one, which is kept then
+/// unless the old one is roomier.
+fn searched_reply<P: Printed, R: Searchable>(
+    alloc: Global,
+    kept: &mut Option<Store<R>>,
+    puzzle: &P,
+    rules: &R,
+    budget: u64,
+    text: String,
+) -> Result<Reply, AllocError>
+    requires cells { (R.system rules.now).cells ≡ (P.extent puzzle.now).w
+        * (P.extent puzzle.now).h }
+    requires values { (R.system rules.now).values ≡ P.value_count puzzle.now }
+    ensures answer { IfOk result
+        (λ r. answer_in r ≡ verdict_said P.Printed puzzle.now (R.system rules.now) budget) }
+    ensures right { IfOk result
+        (λ r. IsTrueOf (R.system rules.now) (verdict_of (R.system rules.now) budget)) }
+{
+    if let Some(store) = kept {
+        if store.fits(rules) {
+            return verdict_reply(store, puzzle, rules, budget, text);
+        }
+    }
+    let mut made = Store::new(alloc, rules)?;
+    let reply = verdict_reply(&mut made, puzzle, rules, budget, text)?;
+    keep_roomier(kept, made);
+    Ok(reply)
+}
+
 /// The answer to an ID that is to be solved, as `solve_id` says.
 fn solve_one<P: Solvable + Drop>(
     alloc: Global,
@@ -87,8 +116,7 @@ where
     match P::read_id(alloc, id) {
         Ok(puzzle) => {
             let rules = puzzle.rules(alloc)?;
-            let store = store_for(alloc, kept, &rules)?;
-            verdict_reply(store, &puzzle, &rules, budget, text)
+            searched_reply(alloc, kept, &puzzle, &rules, budget, text)
         }
         Err(IdFault::Memory) => Err(AllocError),
         Err(fault) => id_refused(text, fault),
@@ -105,7 +133,8 @@ pub struct Task {
 impl Stores {
     /// The answer to an ID that is to be solved: its first fault, or the verdict with its grids, in
     /// the memory of `text`, of which nothing else stays. The search works in the memory of the
-    /// stores where that is enough, and in new memory where not, which is left there for the next.
+    /// stores where that is enough, and in new memory where not. The new memory is left there for
+    /// the next, unless what was there has as many cells and a longer scope.
     pub fn solve_id(
         &mut self,
         alloc: Global,
