@@ -1,6 +1,6 @@
 -- Houses of one at most, visited in any order.
 unfoldable use Rattle.engine_core.specs.RuleSystem.{has_place}
-use Rattle.fields_core.proofs.Common.{AllByRecursion, AreDistinct, Bool, Candidates, CountHouse, IsHouse, Layers, List, [], after_house, and_from, and_parts, ap, arith, cases_Bool, cells_of, common_steps, count_by, distinct-from, eq-eqb, eqb, eqb-true, false, false_from_ne_true, false≢true, fun_ext, inl, inr, list_any, lt-ltb, ltb, ltb-false, ltb-true, not, not-true, or_cases, or_left, or_parts, or_right, refl, sym, true, true≢false, ℕ, ◌&&◌, ◌<◌, ◌||◌, ◌∙◌, ◌∷◌, ◌≡◌, ◌≢◌, ◌⊎◌}
+use Rattle.fields_core.proofs.Common.{AllByRecursion, AreDistinct, Bool, Candidates, CountHouse, IsHouse, Layers, List, [], after_house, and-true, and_from, and_parts, ap, arith, cases_Bool, cells_of, common_steps, count_by, distinct-from, eq-eqb, eqb, eqb-true, false, false_from_ne_true, false≢true, fun_ext, inl, inr, list_any, lt-ltb, ltb, ltb-false, ltb-true, not, not-true, or_cases, or_left, or_parts, or_right, refl, sym, true, true≢false, ℕ, ◌&&◌, ◌<◌, ◌||◌, ◌∙◌, ◌∷◌, ◌≡◌, ◌≢◌, ◌⊎◌}
 use Rattle.grid_core.specs.Candidates.{IsInside}
 use Rattle.grid_core.specs.Planes.{has}
 use Rattle.fields_core.specs.Parts.{IsAlive}
@@ -9,10 +9,12 @@ unfoldable use Rattle.fields_core.specs.Visits.{after_houses}
 use Rattle.fields_core.proofs.AtMostLemmas.{IsFull, IsOneAtMost, visits-met, visits-two, zeros_of}
 unfoldable use Rattle.fields_core.proofs.AtMostLemmas.{is_met, without_met}
 use Rattle.fields_core.proofs.BelowLemmas.{any-here, any-some}
+use Rattle.fields_core.proofs.IdleAfter.{Keeps}
+use Rattle.fields_core.proofs.IdleLemmas.{idle-first}
 use Rattle.fields_core.proofs.PartLemmas.{value-in}
 use Rattle.fields_core.proofs.PlaceLists.{count-cons, num, some-counted}
 use Rattle.fields_core.proofs.RunLines.{each-more}
-use Rattle.fields_core.proofs.VisitLemmas.{after-inside, visits-inside}
+use Rattle.fields_core.proofs.VisitLemmas.{after-inside}
 
 -- a house of one at most
 pub record IsSingle (cells : ℕ) (house : CountHouse) : Type 0 where
@@ -101,15 +103,6 @@ few-of cells K (house ∷ houses) (is, each) none =
       },
       few-of cells K houses each off.1,
     )
-
--- ---- visits that take nothing
--- if all together take nothing, the first takes nothing
-first-idle : (house : CountHouse) (houses : List CountHouse) (K : Candidates) → after_houses (house ∷ houses) K ≡ K → after_house house K ≡ K
-unfolding after_houses
-first-idle house houses K idle = fun_ext λ c. fun_ext λ v. elim (cases_Bool (K c v)) [
-  | inl on ↦ visits-inside houses (after_house house K) c v (ap (λ (L : Candidates). L c v) idle ∙ on) ∙ sym on
-  | inr off ↦ false_from_ne_true _ (λ on. true≢false (sym (after-inside house K c v on) ∙ off)) ∙ sym off
-]
 
 -- ---- visits in another order
 module _ (some all : List CountHouse) (from to : Layers) (fills : Bool) (alive : IsAlive from)
@@ -251,6 +244,29 @@ pub singles-kept : (cells : ℕ) (houses : List CountHouse) (K L : Candidates) �
 unfolding after_houses
 singles-kept cells [] K L each full_K full_L inside zeros idle = refl
 singles-kept cells (house ∷ houses) K L (is, each) full_K full_L inside zeros idle =
-    let first = first-idle house houses K idle in
+    let first = idle-first house houses K idle in
     rw (single-kept cells house K L is full_K full_L inside (λ c on. zeros c (or_left (has_place house.places c) _ on)) first)
     (singles-kept cells houses K L each full_K full_L inside (λ c on. zeros c (or_right (has_place house.places c) _ on)) (rw first at idle))
+
+-- ---- visits of houses of one at most that leave each cell a value
+-- no cell loses 0
+pub singles-zeros : (cells : ℕ) (houses : List CountHouse) (K : Candidates) → AllByRecursion (IsSingle cells) houses → IsFull cells K
+    → IsFull cells (after_houses houses K) → (c : ℕ) → after_houses houses K c 0 ≡ K c 0
+unfolding without_met
+singles-zeros cells houses K each full after c = elim (cases_Bool (list_any (many_in K) houses)) [
+  | inr none ↦ ap (λ (M : Candidates). M c 0) (visits-met houses K full (few-of cells K houses each none)) ∙ and-true (K c 0)
+  | inl many ↦
+      let w = pair-of cells K houses each many in
+      let gone : (v : ℕ) → v < 2 → after_houses houses K w.0 v ≡ false = λ v low. visits-two cells houses K w.0 w.1 v
+      (each-more (IsSingle cells) (λ house. IsHouse cells house × (house.most ≡ 1)) houses (λ house is. (is.is, is.most_is)) each) w.3 w.6 w.4 w.5 low in
+      elim (after.some w.0 w.2) [
+        | inl zero_on ↦ absurd (true≢false (sym zero_on ∙ gone 0 (omega arith)))
+        | inr one_on ↦ absurd (true≢false (sym one_on ∙ gone 1 (omega arith)))
+      ]
+]
+
+-- so others stay idle
+pub single-keeps : (cells : ℕ) (visited house : CountHouse) → IsSingle cells visited → IsSingle cells house → Keeps cells visited house
+unfolding after_houses
+single-keeps cells visited house is other K full still idle = single-kept cells house K (after_house visited K) other full still
+    (after-inside visited K) (λ c _. singles-zeros cells (visited ∷ []) K (is, tt) full still c) idle

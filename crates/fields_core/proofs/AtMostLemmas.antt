@@ -80,7 +80,7 @@ after-met {cells} house K c v full one = elim (cases_Bool (K c v)) [
     by v low must may any few on is some = grind (arith, common_steps, cases_Bool (K c 0), cases_Bool (K c 1), cases_Bool any, cases_eq must 1, cases_eq may 0, cases_eq v 1, eq-eqb, ne_eqb, lt-ltb, le-ltb)
 
 -- no cell loses 0
-zeros-stay : {cells : ℕ} (house : CountHouse) (K : Candidates) → IsFull cells K
+pub zeros-stay : {cells : ℕ} (house : CountHouse) (K : Candidates) → IsFull cells K
     → IsOneAtMost cells (zeros_of K) house → zeros_of (after_house house K) ≡ zeros_of K
 zeros-stay house K full one = fun_ext λ d. after-met house K d 0 full one ∙ by (K d 0)
   where

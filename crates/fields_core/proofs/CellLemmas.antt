@@ -1,5 +1,5 @@
 -- Pieces of lines, and the cells that they have.
-use Rattle.std.proofs.Common.{◌≡◌, ◌∙◌, ℕ, ◌+◌, ◌*◌, ◌/◌, ◌%◌, ◌<◌, Bool, true, ◌||◌, eqb, ltb, List, [], ◌∷◌, ◌++◌, slice_index, refl, sym, arith}
+use Rattle.std.proofs.Common.{◌≡◌, ◌∙◌, ℕ, ◌+◌, ◌*◌, ◌/◌, ◌%◌, ◌<◌, Bool, true, ◌||◌, eqb, ltb, mod-lt, List, [], ◌∷◌, ◌++◌, slice_index, refl, sym, arith}
 use Rattle.std.proofs.lemmas.Bool.{cases_Bool, and_parts, and_from, eq-eqb, eqb-true, lt-ltb, ltb-true}
 use Rattle.std.proofs.lemmas.List.Folds.{list_any-append}
 use Rattle.std.proofs.lemmas.Grind.{common_steps}
@@ -45,7 +45,7 @@ column-has size x bits c lt is = same-truth _ _
     rw at at (has_place-here (column_places size x) (c / size.w)
     (omega (arith, lk, length-map-range_with_len (λ y. y * size.w + x) 0 size.h))))
 
-row-has : (size : Extent) (y bits c : ℕ) → 0 < size.w → ((k : ℕ) → has_bit bits k ≡ ltb k size.w)
+row-has : (size : Extent) (y bits c : ℕ) → 0 < size.w → ((k : ℕ) → k < size.w → has_bit bits k ≡ true)
     → has_place (row_places size y) c ≡ lies_in size.w (record { line = Row y; bits = bits }) c
 unfolding lies_in crosses
 row-has size y bits c pos is = same-truth _ _
@@ -55,11 +55,11 @@ row-has size y bits c pos is = same-truth _ _
     let at : y * size.w + w.0 ≡ c = sym (get_or-map-range_with_len (λ x. y * size.w + x) 0 size.w w.0 w.0 0 lk
     (omega arith)) ∙ w.2 in
     rw (← at, div-mul-add y size.w w.0 lk, place-column size.w y w.0 lk)
-    (and_from _ _ (eq-eqb y y refl) (is w.0 ∙ lt-ltb w.0 size.w lk)))
+    (and_from _ _ (eq-eqb y y refl) (is w.0 lk)))
     (λ on.
     let w = and_parts _ _ on in
     let e : c / size.w ≡ y = eqb-true _ _ w.0 in
-    let lk = ltb-true (c % size.w) size.w (sym (is (c % size.w)) ∙ w.1) in
+    let lk : c % size.w < size.w = mod-lt c pos in
     let at : slice_index (row_places size y) (c % size.w) ≡ c = get_or-map-range_with_len
     (λ x. y * size.w + x) 0 size.w (c % size.w) (c % size.w) 0 lk (omega arith) ∙ rw (← e) (div-add-mod' c size.w) in
     rw at at (has_place-here (row_places size y) (c % size.w)
@@ -75,7 +75,7 @@ column-house size x bits ones lt is house = record {
   cells = λ c. column-has size x bits c lt is ∙ sym (lies-one size.w (record { line = Column x; bits = bits }) c);
 }
 
-pub row-house : (size : Extent) (y bits ones : ℕ) → 0 < size.w → ((k : ℕ) → has_bit bits k ≡ ltb k size.w)
+pub row-house : (size : Extent) (y bits ones : ℕ) → 0 < size.w → ((k : ℕ) → k < size.w → has_bit bits k ≡ true)
     → IsHouse (size.w * size.h) (exactly ones (row_places size y))
     → IsHouseOf size (record { line = Row y; bits = bits } ∷ []) ones ones (exactly ones (row_places size y))
 row-house size y bits ones pos is house = record {

@@ -15,7 +15,6 @@ pub use Rattle.std.proofs.lemmas.List.{map-append, take_all, take_more_set}
 pub use Rattle.std.proofs.lemmas.List.Elements.{All-from_get_or, filter-append, filter_agree}
 pub use Rattle.std.proofs.lemmas.List.FromFn.{get_or-map-range_with_len, get_or-range_with_len, length-map-range_with_len, length-range_with_len}
 pub use Rattle.std.proofs.lemmas.List.Sums.{count_by-le-length, count_by_more_no, count_by_more_yes, length-filter, sum_by-append, sum_by-cons}
-pub use Rattle.std.proofs.lemmas.List.Sums.{sum_by_more}
 pub use Rattle.std.proofs.lemmas.Nat.{div-add-mod', div-mul-add, le-div, mod-mul-add, mul-add-lt}
 pub use Rattle.std.specs.List.{AllByRecursion, count_by, filter, list_any, range_with_len, slice_get}
 pub use Rattle.grid_core.proofs.CandidateLemmas.{all_below-at, all_below-from, any_below-here, any_below-none, any_below-some, count_below-bound}
@@ -52,7 +51,6 @@ pub use Rattle.engine_core.specs.PlaceLaws.{AreDistinct, different-from, distinc
 pub use Rattle.engine_core.specs.PlaceLaws.{has_place-here, place-append, place-back, place-filter, place-front, place-kept}
 pub use Rattle.engine_core.specs.RuleSystem.{IsLawful, IsNext, Needs}
 unfoldable pub use Rattle.engine_core.specs.RuleSystem.{has_place}
-pub use Rattle.engine_core.specs.Sets.{IsBitsOf, IsChange}
 pub use Rattle.fields_core.specs.Count.{counts_between, is_empty, is_open, nonzeros}
 pub use Rattle.fields_core.specs.CountHouse.{AreHouses, CountHouse, IsCounting, IsHouse, count_house_of, exactly, no_count_house, one_at_least}
 pub use Rattle.fields_core.specs.CountHouse.{one_at_most}
@@ -65,12 +63,11 @@ unfoldable pub use Rattle.fields_core.specs.Light.{sees_bulb, solves_lights, whi
 pub use Rattle.fields_core.specs.LightFaults.{FailsLight, IsLightFault, light_tests}
 pub use Rattle.fields_core.specs.LightHouses.{column_house, light_house, light_rules, lit_house, number_house, row_house}
 unfoldable pub use Rattle.fields_core.specs.LightHouses.{begins_column_run, begins_row_run, column_run, light_houses, row_run, seen_from}
-pub use Rattle.fields_core.specs.LightRuns.{IsAround, run_house}
+pub use Rattle.fields_core.specs.LightRuns.{IsAround, begins_at, line_cells, line_white, run_house}
 pub use Rattle.fields_core.specs.Parts.{ArePieces, IsAlive, IsBroken, IsCount, IsCounted, IsHouseOf, Piece, piece_at}
 unfoldable pub use Rattle.fields_core.specs.Parts.{lies_in, lies_in_first, without_value}
-pub use Rattle.fields_core.specs.Runs.{RunsOn, SeesAlong, Shines, ShinesAlong}
-pub use Rattle.fields_core.specs.Tallies.{IsTally, has_strikes, kept_of, lacks_filling, stays}
-pub use Rattle.fields_core.specs.Tallies.{tally_of, tally_of_one}
+pub use Rattle.fields_core.specs.Runs.{RunsOn, SeesAlong, ShinesAlong}
+pub use Rattle.fields_core.specs.Tallies.{IsTally, has_strikes, lacks_filling, stays}
 pub use Rattle.fields_core.specs.TentFaults.{FailsTents, IsTentFault, tent_tests}
 pub use Rattle.fields_core.specs.TentHouses.{column_of_tents, free_beside, row_of_tents, square_house, tent_rules, tree_house}
 unfoldable pub use Rattle.fields_core.specs.TentHouses.{is_barred, tent_houses}
@@ -80,7 +77,6 @@ pub use Rattle.fields_core.specs.TentSolutions.{IsPairedBy, IsTentSolution}
 pub use Rattle.fields_core.specs.Tents.{are_near, leaves_none_out, names_none_twice, tent, tent_cells, tents_in_column, tents_in_row, tree}
 pub use Rattle.fields_core.specs.Tents.{trees_beside}
 unfoldable pub use Rattle.fields_core.specs.Tents.{can_be_paired, column_right, row_right, solves_tents, touch_right, touches, tree_right}
-pub use Rattle.fields_core.specs.declared.count.house.Bounds.{Bounds}
 pub use Rattle.fields_core.specs.declared.count.house.House.{House}
 pub use Rattle.fields_core.specs.declared.count.house.Segment.{Segment}
 pub use Rattle.fields_core.specs.declared.count.tally.Tally.{Tally}

@@ -1,5 +1,5 @@
 -- What a visit of a count house leaves of its cells, by the tally of the house.
-use Rattle.fields_core.proofs.Common.{Bool, Bounds, Candidates, CountHouse, IsBitsOf, IsHouse, IsShown, IsTally, Tally, after_house, and-false, and-true, and_parts, ap, arith, bounds_of, cases_Bool, cases_eq, common_steps, cond, counts_between, eq-eqb, eqb, eqb-true, false, false_from_ne_true, has_bit, has_place, has_place-at, has_place-here, has_strikes, inl, inr, is_empty, is_open, kept_of, lacks_filling, le-ltb, length, ltb, ltb-false, ltb-true, ne_eqb, not, or_cases, or_parts, refl, sets_at, shown_from_test, slice_index, stays, strikes_at-in_scope, strikes_at-place, strikes_by_fillings, strikes_of, suc, sym, test_from_shown, true, true≢false, zero, ℕ, ◌&&◌, ◌*◌, ◌+◌, ◌<◌, ◌||◌, ◌∙◌, ◌≡◌, ◌≤◌, ◌⊎◌}
+use Rattle.fields_core.proofs.Common.{Bool, Candidates, CountHouse, IsHouse, IsShown, IsTally, Tally, after_house, and-true, and_parts, ap, arith, bounds_of, cases_Bool, cases_eq, common_steps, cond, counts_between, eq-eqb, eqb, eqb-true, false, false_from_ne_true, has_bit, has_place, has_place-at, has_place-here, has_strikes, inl, inr, is_empty, is_open, lacks_filling, length, ltb, ltb-false, ltb-true, ne_eqb, not, or_cases, or_parts, refl, sets_at, shown_from_test, slice_index, stays, strikes_at-in_scope, strikes_at-place, strikes_by_fillings, strikes_of, suc, sym, test_from_shown, true, true≢false, zero, ℕ, ◌&&◌, ◌*◌, ◌+◌, ◌<◌, ◌||◌, ◌∙◌, ◌≡◌, ◌≤◌, ◌⊎◌}
 use Rattle.fields_core.proofs.BelowLemmas.{any-some}
 use Rattle.fields_core.proofs.PlaceLists.{num, count-some, some-counted}
 use Rattle.fields_core.proofs.CountBounds.{IsFull, filled-at, shown-bounds, bounds-shown, open-room}
@@ -126,64 +126,24 @@ module _ (cells : ℕ) (house : CountHouse) (K : Candidates) (t : Tally) (is : I
       by : (a b : Bool) → a ≡ true → (a && not b) ≡ a → b ≡ false
       by a b e f = grind (arith, common_steps, cases_Bool a, cases_Bool b)
 
-      full_parts : (ltb 0 t.empty ≡ false)
-          × ((ltb house.most house.least || (ltb t.may
-          (house.least + num (not (eqb t.must t.may))) || ltb house.most
-          (t.must + num (not (eqb t.must t.may))))) ≡ false)
-      full_parts = or_parts _ _ off
-
       stays-all : (k v : ℕ) → k < length house.places → (K (at k) v && stays t (bounds_of house) (is_open K (at k)) v) ≡ K (at k) v
       stays-all k v lt =
-          let order =
-          or_parts (ltb house.most house.least)
-          (ltb t.may (house.least + num (not (eqb t.must t.may))) || ltb house.most
-          (t.must + num (not (eqb t.must t.may)))) full_parts.1 in
-          let ends = or_parts (ltb t.may (house.least + num (not (eqb t.must t.may)))) (ltb house.most (t.must + num (not (eqb t.must t.may)))) order.1 in
-          let few = ltb-false t.may (house.least + num (not (eqb t.must t.may))) ends.0 in
-          let many = ltb-false house.most (t.must + num (not (eqb t.must t.may))) ends.1 in
-          rw (full_parts.0, order.0, le-ltb t.may house.least (omega arith), le-ltb house.most t.must (omega arith)) (elim (cases_Bool (is_open K (at k))) [
+          let reached = eqb t.may house.least || eqb t.must house.most in
+          let p = or_parts (lacks_filling t (bounds_of house)) (not (eqb t.must t.may) && reached) off in
+          rw p.0 (elim (cases_Bool (is_open K (at k))) [
             | inr shut ↦ rw shut (and-true (K (at k) v))
             | inl both ↦
+                let none = ltb-false 0 t.empty (or_parts _ _ p.0).0 in
                 let w = and_parts (K (at k) 0) (K (at k) 1) both in
                 let m = tally.must_is in
                 let n = tally.may_is in
-                let apart : t.must < t.may = let r =
-                open-room K house.places k 0 is.different lt (omega arith) w.0
-                (full (let e = ltb-false 0 t.empty full_parts.0 in omega arith)) both in
-                omega arith in
-                let one : num (not (eqb t.must t.may)) ≡ 1 = rw (ne_eqb t.must t.may (λ e. absurd (omega arith))) refl in
-                rw (both, ne_eqb t.must house.most (λ e. absurd (omega arith)), ne_eqb t.may house.least (λ e. absurd (omega arith))) (neither (eqb v 1) (eqb v 0))
+                let apart = open-room K house.places k 0 is.different lt (omega arith) w.0 (full (omega arith)) both in
+                let q = or_parts (eqb t.may house.least) (eqb t.must house.most) (rw (ne_eqb t.must t.may (λ e. absurd (omega (arith, apart)))) at p.1) in
+                rw (both, q.0, q.1) (neither (eqb v 1) (eqb v 0))
           ])
 
--- ---- the bits of a cell
-all-set : (bits : ℕ) → bits < 4 → eqb bits 3 ≡ (has_bit bits 0 && has_bit bits 1)
-all-set bits lt = grind (arith, common_steps, cases_eq)
-
-kept-table : (none few most : Bool) (bits v : ℕ) → bits < 4 → v < 2
-    → has_bit (cond none 0 (cond (eqb bits 3) (num (not few) + 2 * num (not most)) bits))
-    v ≡ (has_bit bits v && (not none && not
-    (eqb bits 3 && (((eqb v 1) && most) || ((eqb v 0) && few)))))
-kept-table true few most bits zero small low = sym (and-false (has_bit bits 0))
-kept-table true few most bits (suc zero) small low = sym (and-false (has_bit bits 1))
-kept-table false few most zero v small low = sym (and-true _)
-kept-table false few most (suc zero) v small low = sym (and-true _)
-kept-table false few most (suc (suc zero)) v small low = sym (and-true _)
-kept-table false few most (suc (suc (suc zero))) zero small low = grind (arith, common_steps, cases_Bool few, cases_Bool most)
-kept-table false few most (suc (suc (suc zero))) (suc zero) small low = grind (arith, common_steps, cases_Bool few, cases_Bool most)
-kept-table none few most bits (suc (suc v)) small low = absurd (omega arith)
-kept-table none few most (suc (suc (suc (suc bits)))) v small low = absurd (omega arith)
-
-pub kept-bits : (t : Tally) (b : Bounds) (K : Candidates) (c bits v : ℕ) → IsBitsOf (K c) 2 bits
-    → v < 2 → has_bit (kept_of t b bits) v ≡ (K c v && stays t b (is_open K c) v)
-kept-bits t b K c bits v is low = grind (arith, common_steps, kept-table, all-set)
-
--- a value that a cell has stays exactly where its bit is kept
-pub kept-strikes : {cells : ℕ} {house : CountHouse} (K : Candidates) {t : Tally}
-    → IsHouse cells house → IsTally K house.places t → (k v : ℕ) {bits : ℕ} → k < length house.places
-    → v < 2
-    → IsBitsOf (K (slice_index house.places k)) 2 bits → K (slice_index house.places k) v ≡ true
-    → has_bit (kept_of t (bounds_of house) bits) v ≡ not
-    (strikes_of house K (slice_index house.places k) v)
-unfolding after_house
-kept-strikes {cells} {house} K {t} is tally k v {bits} lt low of on =
-    kept-bits t (bounds_of house) K _ bits v of low ∙ sym (after-at cells house K t is tally lt low) ∙ rw on refl
+-- ---- the bits of a set of 0, of 1, or of both
+pub two-bits : (zero_in one_in : Bool) (v : ℕ) → v < 2 → has_bit (num zero_in + 2 * num one_in) v ≡ cond (eqb v 0) zero_in one_in
+two-bits zero_in one_in zero low = grind (arith, common_steps, cases_Bool zero_in, cases_Bool one_in)
+two-bits zero_in one_in (suc zero) low = grind (arith, common_steps, cases_Bool zero_in, cases_Bool one_in)
+two-bits zero_in one_in (suc (suc v)) low = absurd (omega arith)

@@ -1,50 +1,65 @@
 -- What is counted of the cells of count houses.
-use Rattle.fields_core.proofs.Common.{Bool, Bounds, Candidates, CountHouse, IsBitsOf, IsHouse, IsTally, List, Tally, [], arith, bounds_of, cases_eq, common_steps, cond, count_by, eqb, false, has_bit, has_strikes, is_empty, length, not, refl, slice_index, strikes_of, suc, sum_by_more, sym, take, take_all, tally_of, tally_of_one, true, ℕ, ◌&&◌, ◌+◌, ◌<◌, ◌∙◌, ◌∷◌, ◌≡◌, ◌≤◌}
+use Rattle.fields_core.proofs.Common.{ap₂, Bool, Candidates, cases_Bool, CountHouse, IsHouse, IsTally, List, Segment, [], Tally, ap, arith, common_steps, count_by, eq-eqb, or_right, count_by-le-length, drop, get_or, has_place, is_empty, length, not, places_of, refl, segment_places, slice_index, sym, true, ℕ, ◌&&◌, ◌++◌, ◌+◌, ◌<◌, ◌∷◌, ◌≡◌, ◌≤◌}
+use Rattle.std.proofs.lemmas.List.{at_drop_more, drop_all}
+use Rattle.grid_core.proofs.Common.{bool_byte}
+use Rattle.fields_core.proofs.HouseLemmas.{places-more}
 use Rattle.fields_core.proofs.PlaceLists.{num, count-cons}
-use Rattle.fields_core.proofs.CountKept.{idle-at}
 
--- ---- counted by the sets of the cells
-pub sets-first : (sets : List ℕ) → record { must = 0; may = 0; empty = 0 } ≡ tally_of (take 0 sets)
-sets-first sets = refl
+-- what was counted of a house, but for the rest of its cells. These are in the board
+pub record IsTallyBefore (K : Candidates) (cells : ℕ) (house : CountHouse) (rest : List ℕ) (t : Tally) : Type 0 where
+  pub must_is : t.must + count_by (λ c. not (K c 0)) rest ≡ count_by (λ c. not (K c 0)) house.places
+  pub may_is : t.may + count_by (λ c. K c 1) rest ≡ count_by (λ c. K c 1) house.places
+  pub empty_is : t.empty + count_by (is_empty K) rest ≡ count_by (is_empty K) house.places
+  pub within : (c : ℕ) → has_place rest c ≡ true → c < cells
 
-count-next : (test : ℕ → Bool) (xs : List ℕ) (n : ℕ) → n < length xs
-    → count_by test (take (n + 1) xs) ≡ count_by test (take n xs) + cond (test (slice_index xs n)) 1
-    0
-count-next test xs n lt = sum_by_more (λ c. cond (test c) 1 0) xs n 0 lt
+byte-num : (b : Bool) → bool_byte b ≡ num b
+byte-num b = grind (arith, common_steps, cases_Bool b)
 
-pub sets-next : (sets : List ℕ) (n : ℕ) (t one : Tally) → t ≡ tally_of (take n sets) → n < length sets → one ≡ tally_of_one (slice_index sets n)
-    → record { must = t.must + one.must; may = t.may + one.may; empty = t.empty + one.empty } ≡ tally_of (take (n + 1) sets)
-sets-next sets n t one is lt here = grind (arith, common_steps, count-next)
+next : (places rest : List ℕ) (k c : ℕ) → k < length places → c ≡ slice_index places k → drop k places ++ rest ≡ c ∷ (drop (k + 1) places ++ rest)
+next places rest k c lt here = rw here (at_drop_more (λ l. l ++ rest) places k 0 lt)
 
-pub sets-all : (sets : List ℕ) (n : ℕ) (t : Tally) → t ≡ tally_of (take n sets) → length sets ≤ n → t ≡ tally_of sets
-sets-all sets n t is ge = rw (take_all n sets ge) at is
+module _ {K : Candidates} {cells : ℕ} {house : CountHouse} where
+  pub tally-first : IsHouse cells house → IsTallyBefore K cells house house.places (record { must = 0; may = 0; empty = 0 })
+  tally-first is = record { must_is = omega arith; may_is = omega arith; empty_is = omega arith; within = is.within }
 
--- no bit of two is set
-none-set : (bits : ℕ) → bits < 4 → eqb bits 0 ≡ (not (has_bit bits 0) && not (has_bit bits 1))
-none-set bits lt = grind (arith, common_steps, cases_eq)
+  -- the cells of one segment, and those of the later ones
+  pub tally-segment : {t : Tally} (segments : List Segment) (n : ℕ) (s d : Segment) → IsTallyBefore K cells house (places_of (drop n segments)) t
+      → n < length segments → s ≡ get_or segments n d
+      → IsTallyBefore K cells house (drop 0 (segment_places s) ++ places_of (drop (n + 1) segments)) t
+  tally-segment segments n s d is lt e = rw (sym e) at (rw (places-more segments n d lt) at is)
 
--- what the bits of a cell count for
-bits-counted : (K : Candidates) (c : ℕ) {bits : ℕ} → IsBitsOf (K c) 2 bits
-    → (num (not (has_bit bits 0)) ≡ num (not (K c 0))) × (num (has_bit bits 1) ≡ num (K c 1)) × (num (eqb bits 0) ≡ num (is_empty K c))
-bits-counted K c is = grind (arith, common_steps, none-set)
+  module _ {t : Tally} (places rest : List ℕ) (k : ℕ) where
+    pub tally-within : {c : ℕ} → IsTallyBefore K cells house (drop k places ++ rest) t → k < length places → c ≡ slice_index places k → c < cells
+    unfolding has_place
+    tally-within {c} is lt here = (rw (next places rest k c lt here) at is).within c (grind (arith, common_steps, eq-eqb))
 
-pub counts-as : (f g : ℕ → Bool) (xs ys : List ℕ) → length xs ≡ length ys
-    → ((k : ℕ) → k < length xs → num (f (slice_index xs k)) ≡ num (g (slice_index ys k)))
-    → count_by f xs ≡ count_by g ys
-counts-as f g [] [] e same = refl
-counts-as f g [] (y ∷ ys) e same = absurd (omega arith)
-counts-as f g (x ∷ xs) [] e same = absurd (omega arith)
-counts-as f g (x ∷ xs) (y ∷ ys) e same =
-    omega (arith, count-cons f x xs, count-cons g y ys, counts-as f g xs ys (omega arith) (λ k lt. same (suc k) (omega arith)), same 0 (omega arith))
+    pub tally-next : {c : ℕ} {zero one : Bool} → IsTallyBefore K cells house (drop k places ++ rest) t → k < length places → c ≡ slice_index places k
+        → zero ≡ K c 0 → one ≡ K c 1
+        → IsTallyBefore K cells house (drop (k + 1) places ++ rest) (record { must = t.must + bool_byte (not zero); may = t.may + bool_byte one; empty = t.empty + bool_byte (not zero && not one) })
+    unfolding has_place
+    tally-next {c} {zero} {one} is lt here zeros ones =
+        let i = rw (next places rest k c lt here) at is in
+        let later = drop (k + 1) places ++ rest in
+        record {
+          must_is = omega (arith, i.must_is, count-cons (λ c. not (K c 0)) c later, ap (λ b. num (not b)) zeros, byte-num (not zero));
+          may_is = omega (arith, i.may_is, count-cons (λ c. K c 1) c later, ap num ones, byte-num one);
+          empty_is = omega (arith, i.empty_is, count-cons (is_empty K) c later, ap₂ (λ a b. num (not a && not b)) zeros ones, byte-num (not zero && not one));
+          within = λ d on. i.within d (or_right _ _ on);
+        }
 
--- the sets of a house's cells have the house's tally
-pub sets-tally : (K : Candidates) {places : List ℕ} (sets : List ℕ) → length sets ≡ length places
-    → ((k : ℕ) → k < length places → IsBitsOf (K (slice_index places k)) 2 (slice_index sets k))
-    → IsTally K places (tally_of sets)
-sets-tally K {places} sets long bits = grind (arith, common_steps, counts-as, bits-counted)
+    pub tally-past : IsTallyBefore K cells house (drop k places ++ rest) t → length places ≤ k → IsTallyBefore K cells house rest t
+    tally-past is ge = rw (drop_all k places ge) at is
 
--- ---- a house that does not call strikes nothing, by the bounds that a table has for it
-pub idle-by : {cells : ℕ} {house : CountHouse} {t : Tally} {b : Bounds} {calls : Bool}
-    → IsHouse cells house → b ≡ bounds_of house → calls ≡ has_strikes t b → calls ≡ false
-    → (K : Candidates) → IsTally K house.places t → (c v : ℕ) → v < 2 → K c v ≡ true → strikes_of house K c v ≡ false
-idle-by {cells} {house} {t} is e told off K tally = idle-at cells house K t is tally (rw e at (sym told ∙ off))
+  pub tally-few : {t : Tally} {rest : List ℕ} → IsTallyBefore K cells house rest t → IsHouse cells house → (t.must ≤ 512) × (t.may ≤ 512) × (t.empty ≤ 512)
+  tally-few is of = grind (arith, common_steps, count_by-le-length)
+
+  pub tally-all : {t : Tally} (segments : List Segment) (n : ℕ) → IsTallyBefore K cells house (places_of (drop n segments)) t → length segments ≤ n
+      → IsTally K house.places t
+  tally-all segments n is ge = let i = rw (drop_all n segments ge) at is in record { must_is = omega (arith, i.must_is); may_is = omega (arith, i.may_is); empty_is = omega (arith, i.empty_is) }
+
+-- ---- the same count
+pub counts-same : (f g : ℕ → Bool) (xs : List ℕ) → ((c : ℕ) → has_place xs c ≡ true → f c ≡ g c) → count_by f xs ≡ count_by g xs
+unfolding has_place
+counts-same f g [] same = refl
+counts-same f g (x ∷ xs) same =
+    omega (arith, count-cons f x xs, count-cons g x xs, counts-same f g xs (λ c on. same c (or_right _ _ on)), ap num (same x (grind (arith, common_steps, eq-eqb))))

@@ -1,79 +1,62 @@
--- What a visit of a count house leaves, and the houses that rules have.
-use Rattle.fields_core.proofs.Common.{Bounds, Candidates, add-one, max, CountHouse, IsBitsOf, IsHouse, IsLawful, IsTally, IsWithin, List, Tally, [], after_house, ap, arith, bounds_of, count-lawful, count_house_of, false, get_or, get_or-map, has_place-here, has_strikes, house_told, kept_of, length, length-map, map, no_count_house, refl, slice_index, suc, sym, tally_of, true≢false, zero, ℕ, ◌+◌, ◌<◌, ◌^◌, ◌∙◌, ◌∷◌, ◌≡◌, ◌≤◌}
-use Rattle.std.proofs.lemmas.List.{ext_get_or}
-use Rattle.grid_core.specs.Candidates.{max_cells}
-use Rattle.engine_core.proofs.KeepLemmas.{kept-none}
-use Rattle.engine_core.proofs.ListedLemmas.{kept-after}
-use Rattle.engine_core.proofs.StoreLemmas.{scope_le-longest}
-use Rattle.engine_core.specs.HouseSets.{kept_in}
-use Rattle.engine_core.specs.RuleSystem.{RuleSystem, after, longest}
-use Rattle.fields_core.specs.CountHouse.{count_puzzle}
-use Rattle.fields_core.proofs.CountKept.{kept-strikes}
-use Rattle.fields_core.proofs.CountTallies.{idle-by, sets-tally}
-use Rattle.fields_core.specs.declared.count.house.House.{House}
+-- What a visit of a count house leaves, and how long the longest house is.
+use Rattle.fields_core.proofs.Common.{Bool, Candidates, CountHouse, IsHouse, IsTally, IsWithin, Layout, List, Tally, add-one, after_house, and-true, ap, arith, bounds_of, cases_Bool, cases_eq, common_steps, eq-eqb, eqb, false, fun_ext, has, inl, inr, has_bit, has_place, has_place-here, has_strikes, is_open, length, max, ne_eqb, not, refl, slice_index, stays, strikes_of, sym, take, take_all, ℕ, ◌&&◌, ◌+◌, ◌<◌, ◌∙◌, ◌≡◌, ◌≤◌}
+use Rattle.grid_core.proofs.BoardLemmas.{has-within}
+use Rattle.grid_core.specs.Board.{cells_of}
+use Rattle.engine_core.proofs.IndexLemmas.{not_taken, taken-here, taken-other}
+use Rattle.engine_core.specs.RuleSystem.{longest}
+use Rattle.fields_core.proofs.CountKept.{after-at, idle-at, off-scope}
 
--- ---- the places of a house
-pub same-places : (xs ys : List ℕ) → length xs ≡ length ys → ((k : ℕ) → k < length xs → slice_index xs k ≡ slice_index ys k) → xs ≡ ys
-same-places xs ys long same = ext_get_or 0 xs ys long same
+-- ---- the cells of a house are in the board
+pub cell-in : {cells : ℕ} {house : CountHouse} → IsHouse cells house → {k c : ℕ} → c ≡ slice_index house.places k → k < length house.places → c < cells
+cell-in {house = house} is {k} here lt = rw here (is.within _ (has_place-here house.places k lt))
 
-module _ {cells : ℕ} (few : cells ≤ max_cells) {house : CountHouse} (is : IsHouse cells house) where
-  pub place-in : (k : ℕ) → k < length house.places → slice_index house.places k < cells
-  place-in k lt = is.within _ (has_place-here house.places k lt)
+-- ---- the board without what the house strikes from its first n cells
+pub record IsPartly (house : CountHouse) (n : ℕ) (K L : Candidates) : Type 0 where
+  pub left : (c v : ℕ) → L c v ≡ (K c v && not (has_place (take n house.places) c && strikes_of house K c v))
 
-  pub place-small : (k : ℕ) → k < length house.places → slice_index house.places k < 2 ^ 32
-  place-small k lt = omega (arith, place-in k lt)
+pub partly-first : (house : CountHouse) (K : Candidates) → IsPartly house 0 K K
+unfolding has_place
+partly-first house K = record { left = λ c v. sym (and-true (K c v)) }
 
-  -- the rules of the house alone
-  abbrev pub alone : RuleSystem
-  alone = count_puzzle cells (λ c. false) (house ∷ []) (λ g. false)
+module _ {house : CountHouse} (b : Layout) (is : IsHouse (cells_of b) house) (two : b.values ≡ 2) where
+  within : IsWithin (cells_of b) 2 (has b)
+  within c v on = let w = has-within b c v on in (w.0, rw two at w.1)
 
-  each-house : (h : ℕ) → h < 1 → IsHouse cells (count_house_of (house ∷ []) h)
-  each-house zero lt = is
-  each-house (suc h) lt = absurd (omega arith)
+  pub partly-all : {n : ℕ} {L : Candidates} → IsPartly house n (has b) L → length house.places ≤ n → L ≡ after_house house (has b)
+  unfolding after_house
+  partly-all {n} partly ge = fun_ext λ c. fun_ext λ v.
+      rw (take_all n house.places ge) at (partly.left c v) ∙ ap (λ off. has b c v && not off) (grind (arith, common_steps, cases_Bool, off-scope))
 
-  lawful : IsLawful alone
-  lawful = count-lawful cells (λ c. false) (house ∷ []) (λ g. false) (record {
-    few_cells = few;
-    are_houses = each-house;
-    blocked_zero = λ g grid solves. absurd (true≢false (sym solves));
-    meets_each = λ g grid solves. absurd (true≢false (sym solves));
-  })
+  module _ {t : Tally} (tally : IsTally (has b) house.places t) where
+    -- a house that does not call strikes nothing
+    pub idle-stays : has_strikes t (bounds_of house) ≡ false → has b ≡ after_house house (has b)
+    unfolding after_house
+    idle-stays off = fun_ext λ c. fun_ext λ v.
+        grind (arith, common_steps, cases_Bool (has b c v), within c v, idle-at (cells_of b) house (has b) t is tally off c v)
 
-  -- ---- what is left of a board
-  module _ (K : Candidates) (within : IsWithin cells 2 K) {places : List ℕ} (are : places ≡ house.places) (sets : List ℕ)
-      (long : length sets ≡ length places)
-      (bits : (k : ℕ) → k < length places → IsBitsOf (K (slice_index places k)) 2 (slice_index sets k))
-      {t : Tally} (tally : t ≡ tally_of sets) {bounds : Bounds} (bound : bounds ≡ bounds_of house) where
-    each : (k : ℕ) → k < length house.places → IsBitsOf (K (slice_index house.places k)) 2 (slice_index sets k)
-    each = rw are at bits
+    -- the next cell
+    pub partly-more : {n place : ℕ} (kept : ℕ) {both : Bool} {L M : Candidates} → IsPartly house n (has b) L → n < length house.places
+        → place ≡ slice_index house.places n → both ≡ is_open L place
+        → ((v : ℕ) → v < 2 → has_bit kept v ≡ stays t (bounds_of house) both v)
+        → ((c v : ℕ) → M c v ≡ (L c v && not (eqb place c && not (has_bit kept v)))) → IsPartly house (n + 1) (has b) M
+    unfolding after_house
+    partly-more {n} {place} kept {L = L} partly lt here whole keeps left = record {
+      left = λ c v. left c v ∙ elim (cases_eq c place) [
+        | inl e ↦ rw e (own v)
+        | inr ne ↦ rw (ne_eqb place c (λ e. ne (sym e)), taken-other house.places lt (rw here at ne)) (and-true (L c v) ∙ partly.left c v)
+      ];
+    }
+      where
+        same : (v : ℕ) → L place v ≡ has b place v
+        same v = grind (arith, common_steps, partly.left place v, not_taken house.places lt is.different place here, and-true)
 
-    counted : IsTally K house.places t
-    counted = rw tally (sets-tally K sets (rw are at long) each)
+        after : (v : ℕ) → v < 2 → after_house house (has b) place v ≡ (has b place v && stays t (bounds_of house) (is_open (has b) place) v)
+        after v low = rw here (after-at (cells_of b) house (has b) t is tally lt low)
 
-    pub visit-idle : has_strikes t bounds ≡ false → K ≡ after_house house K
-    unfolding after_house after
-    visit-idle off = kept-none lawful {h = 0} {K = K} {kept = []} (omega arith) within (record {
-      none = λ _ k v lt low on. idle-by is bound refl off K counted _ v low on;
-      bits = λ e. absurd (true≢false (sym e));
-    })
+        own : (v : ℕ) → (L place v && not (eqb place place && not (has_bit kept v))) ≡ (has b place v && not (has_place (take (n + 1) house.places) place && strikes_of house (has b) place v))
+        own v = grind (arith, common_steps, cases_Bool (has b place v), same, eq-eqb, taken-here house.places lt place here, within place v, keeps v, whole, after v)
 
-    pub visit-strikes : (kept : List ℕ) → ((k : ℕ) → k < length sets → slice_index kept k ≡ kept_of t bounds (slice_index sets k))
-        → kept_in places kept (length places) K ≡ after_house house K
-    unfolding after_house after
-    visit-strikes kept keeps = rw are (kept-after lawful {h = 0} {K = K} {kept = kept} (omega arith) within (record {
-      none = λ e. absurd (true≢false e);
-      bits = λ _ k v lt low on. rw (keeps k (omega (arith, lt, ap length are, long)), bound) (kept-strikes K is counted k v lt low (each k lt) on);
-    }))
-
--- ---- the houses of rules
-pub told-long : (items : List House) {houses : List CountHouse} → map house_told items ≡ houses → length items ≡ length houses
-told-long items e = sym (length-map items house_told) ∙ ap length e
-
-pub told-at : (items : List House) {houses : List CountHouse} (h : ℕ) (d : House) → map house_told items ≡ houses → h < length items
-    → house_told (get_or items h d) ≡ count_house_of houses h
-told-at items h d e lt = sym (get_or-map house_told items h d no_count_house lt) ∙ ap (λ houses. count_house_of houses h) e
-
--- the longest scope is as long as any
+-- ---- the longest scope is as long as any
 pub longest-none : (scope : ℕ → List ℕ) → 0 ≡ longest scope 0
 unfolding longest
 longest-none scope = refl
@@ -81,8 +64,3 @@ longest-none scope = refl
 pub longest-more : (scope : ℕ → List ℕ) (n : ℕ) → longest scope (n + 1) ≡ max (longest scope n) (length (scope n))
 unfolding longest
 longest-more scope n = rw add-one refl
-
-pub told-few : {told : CountHouse} (houses : List CountHouse) {h : ℕ} → told ≡ count_house_of houses h → h < length houses
-    → length told.places ≤ longest (λ h. (count_house_of houses h).places) (length houses)
-told-few houses {h} e lt =
-    omega (arith, ap (λ (house : CountHouse). length house.places) e, scope_le-longest (λ h. (count_house_of houses h).places) (length houses) h lt)

@@ -11,7 +11,18 @@ use Rattle.fields_core.specs.CountHouse.{strikes_of}
 use Rattle.fields_core.specs.Parts.{IsAlive}
 use Rattle.fields_core.specs.Visits.{AreVisited, after_houses}
 use Rattle.fields_core.specs.Waits.{AreIdle}
+use Rattle.fields_core.proofs.AtMostLemmas.{IsFull}
 use Rattle.fields_core.proofs.VisitLemmas.{after-inside, sweep-more, visits-inside}
+
+-- a board between two that have a value in each cell
+pub full-between : (cells : ℕ) {K L M : Candidates} → IsFull cells K → IsFull cells M → IsInside L K → IsInside M L → IsFull cells L
+full-between cells {K} {L} {M} first last inside within = record {
+  low = λ c v on. first.low c v (inside c v on);
+  some = λ c lt. elim (last.some c lt) [
+    | inl on ↦ inl (within c 0 on)
+    | inr on ↦ inr (within c 1 on)
+  ];
+}
 
 -- ---- one house
 -- the cells that lost a value are none of the places
@@ -21,7 +32,7 @@ IsFar has_it K L = (c v : ℕ) → K c v ≡ true → L c v ≡ false → has_it
 stays : (a b d : Bool) → (a && b) ≡ a → (d ≡ true → a ≡ true) → (a && d) ≡ d → (d && b) ≡ d
 stays a b d e f g = grind (arith, common_steps, cases_Bool a, cases_Bool b, cases_Bool d)
 
-house-far : (house : CountHouse) (K L : Candidates) → IsInside L K → IsFar (has_place house.places) K L
+pub house-far : (house : CountHouse) (K L : Candidates) → IsInside L K → IsFar (has_place house.places) K L
     → after_house house K ≡ K → after_house house L ≡ L
 unfolding after_house strikes_of
 house-far house K L inside far idle = fun_ext λ c. fun_ext λ v. elim (cases_Bool (strikes_of house L c v)) [

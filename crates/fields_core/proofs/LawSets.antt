@@ -1,22 +1,21 @@
 -- The lemmas that the proofs of each source file go by.
 use Rattle.fields_core.proofs.CountListLemmas.{below-more, below-none}
-use Rattle.fields_core.proofs.CountTallies.{sets-first, sets-next, sets-all}
+use Rattle.fields_core.proofs.CountKept.{two-bits}
+use Rattle.fields_core.proofs.CountTallies.{tally-all, tally-few, tally-first, tally-past, tally-segment}
 use Rattle.fields_core.proofs.HouseLemmas.{added-more, added-none, four-long, line-cells, has-found, has-none, left-within, named-cells, named-long, place-here, place-later, places-last, segment-at, segment-long}
-use Rattle.fields_core.proofs.HouseVisits.{longest-more, longest-none, same-places}
+use Rattle.fields_core.proofs.HouseVisits.{longest-more, longest-none, partly-first}
 use Rattle.fields_core.proofs.LightCounting.{light-counting, light-lawful}
 use Rattle.fields_core.proofs.LightLines.{cell-at, white-at}
 use Rattle.fields_core.proofs.LightRuleLemmas.{light-tells, rule-from-test, test-from-rule}
-use Rattle.fields_core.proofs.LightSeen.{black-unseen, seen-in-column, seen-in-row}
-use Rattle.fields_core.proofs.LightSight.{count-bulb, count-dark, count-edge, count-start}
+use Rattle.fields_core.proofs.LightSeen.{black-unseen}
 use Rattle.fields_core.proofs.LightLatest.{few-places}
-use Rattle.fields_core.proofs.LightTold.{around-both, column-of-place, place-row, row-of-place, row-within, run-begins}
+use Rattle.fields_core.proofs.LightTold.{column-of-place, place-row, row-of-place}
 use Rattle.fields_core.proofs.RuleLemmas.{same-shape, start-all, start-blocked}
 use Rattle.fields_core.proofs.PositionSteps.{step-onward, step-walks}
-use Rattle.fields_core.proofs.RunLemmas.{few-cells}
 use Rattle.fields_core.proofs.TentCounting.{tent-counting, tent-lawful}
 use Rattle.fields_core.proofs.TentHouseLemmas.{square-none}
 use Rattle.fields_core.proofs.TentLines.{line-all, line-more, line-skip, line-start}
-use Rattle.fields_core.proofs.TentNext.{barred-alone, barred-tree, next-joined, next-none, none-beside, one-beside, passed-bare, passed-early, passed-edge, passed-start}
+use Rattle.fields_core.proofs.TentNext.{barred-alone, barred-tree, next-joined, next-none, passed-bare, passed-early, passed-edge, passed-start}
 use Rattle.fields_core.proofs.TentNumbers.{count-none, listed-all, listed-skip}
 use Rattle.fields_core.proofs.TentPairLemmas.{count-is, listed-tents, others-unpaired, short-unpaired, whole-pairs}
 use Rattle.fields_core.proofs.TentRuleLemmas.{tents-from-solution, tents-tell, solution-from-tents}
@@ -25,7 +24,7 @@ use Rattle.fields_core.proofs.VisitLemmas.{sweep-first, sweep-more}
 use Rattle.fields_core.proofs.Common.{append-nil, append_assoc, eq-eqb, map-append, mul-le-mul_right, ne_eqb}
 use Rattle.std.proofs.lemmas.Nat.{mul-lt}
 
-pub ruleset count_rules_laws = (start-blocked, same-shape, start-all, same-places, named-long, named-cells)
+pub ruleset count_rules_laws = (start-blocked, same-shape, start-all, named-long, named-cells, partly-first)
 
 pub ruleset house_laws = (line-cells, segment-at, segment-long, place-here, place-later, places-last, left-within, four-long, has-found, has-none, mul-lt)
 
@@ -39,17 +38,17 @@ pub ruleset light_cells_laws = (white-at)
 
 pub ruleset light_check_laws = (ne_eqb, eq-eqb, cell-at)
 
-pub ruleset light_houses_laws = (few-cells)
+pub ruleset light_line_laws = (few-places)
 
 pub ruleset light_rules_laws = (light-counting, light-tells)
 
-pub ruleset light_told_laws = (few-cells, few-places, around-both, run-begins, place-row, row-within, row-of-place, column-of-place)
+pub ruleset light_told_laws = (place-row, row-of-place, column-of-place)
 
-pub ruleset light_sight_laws = (count-start, count-edge, count-dark, count-bulb, black-unseen, seen-in-row, seen-in-column)
+pub ruleset light_sight_laws = (black-unseen)
 
 pub ruleset plane_position_laws = (step-onward, step-walks)
 
-pub ruleset tally_laws = (sets-first, sets-next, sets-all)
+pub ruleset tally_laws = (tally-first, tally-segment, tally-past, tally-few, tally-all, two-bits)
 
 pub ruleset tent_check_laws = (line-start, line-skip, line-more, line-all, ne_eqb, eq-eqb)
 
@@ -58,7 +57,7 @@ pub ruleset tent_houses_laws = (added-none, square-none)
 pub ruleset tent_pairs_laws =
     (next-joined, listed-skip, listed-all, passed-start, passed-edge, passed-bare, passed-early, next-none, count-none, others-unpaired, listed-tents, count-is, whole-pairs, short-unpaired)
 
-pub ruleset tent_rules_laws = (tent-counting, tents-tell, barred-tree, barred-alone, one-beside, none-beside)
+pub ruleset tent_rules_laws = (tent-counting, tents-tell, barred-tree, barred-alone)
 
 pub ruleset tent_touch_laws = (eq-eqb, ne_eqb)
 

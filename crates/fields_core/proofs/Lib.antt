@@ -51,19 +51,21 @@ pub mod AnyOrder
 pub mod RunOrder
 pub mod TentPlanes
 pub mod LawSets
+pub mod IdleAfter
 pub mod LitIdle
 pub mod LitWords
 pub mod LitVisits
 pub mod NumberVisits
 pub mod NumberRows
 pub mod LitRuns
-pub mod LitPairs
 mod LightNotes
 pub mod PartIdle
+pub mod TentIdle
 pub mod PlaneSweeps
 pub mod LightBoards
 pub mod LightLonely
 pub mod LightCompleting
 pub mod TentCompleting
 mod LightRests
+mod QuietVisits
 mod LightSweeps

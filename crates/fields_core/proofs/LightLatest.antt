@@ -1,18 +1,11 @@
 -- The runs that a walk over the cells keeps.
-use Rattle.fields_core.proofs.Common.{Bool, IsAround, IsLight, Light, List, add-one, common_steps, cond, le-ltb, lt-ltb, ltb, ltb-false, ltb-true, RunsOn, [], and_parts, ap, ap₂, arith, begins_column_run, begins_row_run, cases_eq, cases_lt, clear, column_house, column_run, div-mul-add, eqb, eqb-true, false, filter, get_or, get_or-set_other, get_or-set_same, inl, inr, length, length-append, length-map-range_with_len, light_cells, lit_house, map, mul-le-mul_right, not, not-true, one_at_least, one_at_most, or_cases, or_parts, range_with_len, refl, row_house, row_run, run_house, seen_from, set, suc, sym, true, true≢false, white, zero, ℕ, ◌&&◌, ◌*◌, ◌++◌, ◌+◌, ◌-◌, ◌<◌, ◌^◌, ◌||◌, ◌∙◌, ◌∷◌, ◌≡◌, ◌≤◌, ◌⊎◌}
+use Rattle.fields_core.proofs.Common.{Bool, IsAround, IsLight, begins_at, line_white, Light, List, add-one, common_steps, cond, le-ltb, lt-ltb, ltb, ltb-false, ltb-true, RunsOn, [], and_parts, ap, ap₂, arith, begins_column_run, begins_row_run, cases_eq, cases_lt, clear, column_house, column_run, div-mul-add, eqb, eqb-true, false, filter, get_or, inl, inr, length, length-append, length-map-range_with_len, light_cells, lit_house, map, mul-le-mul_right, not, not-true, one_at_least, one_at_most, or_cases, range_with_len, refl, row_house, row_run, run_house, seen_from, suc, sym, true, true≢false, white, ℕ, ◌*◌, ◌++◌, ◌+◌, ◌-◌, ◌<◌, ◌^◌, ◌∙◌, ◌∷◌, ◌≡◌, ◌≤◌, ◌⊎◌}
 use Rattle.grid_core.proofs.PlaneLemmas.{place-column}
-use Rattle.fields_core.proofs.LightHouseLaws.{not-false}
 use Rattle.fields_core.proofs.RunLemmas.{around-run, column-run-is, row-run-is}
 use Rattle.fields_core.proofs.SegmentLemmas.{line, line-cut, line-from}
 use Rattle.fields_core.specs.LightRuns.{IsLatest}
 
 -- ---- the run around a cell of a line
-abbrev pub line_white : Light → ℕ → ℕ → ℕ → Bool
-line_white p first stride i = white p (first + i * stride)
-
-abbrev pub begins_at : Light → ℕ → ℕ → ℕ → Bool
-begins_at p first stride at = white p (first + at * stride) && (eqb at 0 || not (white p (first + at * stride - stride)))
-
 pub around-begun : (p : Light) (first stride : ℕ) {len at end : ℕ} → begins_at p first stride at ≡ true
     → RunsOn (line_white p first stride) len at end → IsAround (line_white p first stride) len at at end
 around-begun p first stride {len} {at} {end} begun on = record {

@@ -1,61 +1,16 @@
--- Which white cells of Light Up wait, and what of the others is idle.
-use Rattle.fields_core.proofs.Common.{Bool, Candidates, Light, Layers, List, ap, and_parts, arith, cases_Bool, cases_eq, common_steps, count_below, div-mul-add, eq-eqb, eqb, false, ne_eqb, not, get_or, get_or-map, get_or-set_other, get_or-set_same, has_bit, inl, inr, joined_in_column, joined_in_row, length, length-map, length-set, light_cells, IsLight, lt-ltb, ltb-true, map, mod-lt, or_left, or_right, place-column, refl, set, slice_index, sym, true, true≢false, white, ℕ, ◌%◌, ◌&&◌, ◌*◌, ◌+◌, ◌/◌, ◌<◌, ◌||◌, ◌∙◌, ◌≡◌, ◌≢◌, ◌≤◌, ◌⊎◌}
+-- Runs of Light Up with two cells that can have a bulb, or with one that must, as words.
+use Rattle.fields_core.proofs.Common.{Bool, or_cases, Candidates, any_below, any_below-some, not-true, Light, Layers, List, and_parts, arith, cases_eq, count_below, div-mul-add, false, not, get_or, get_or-set_other, get_or-set_same, has_bit, inl, inr, joined_in_column, joined_in_row, length, length-map, light_cells, ltb-true, map, refl, set, slice_index, sym, true, white, ℕ, ◌%◌, ◌&&◌, ◌*◌, ◌+◌, ◌/◌, ◌<◌, ◌||◌, ◌∙◌, ◌≡◌, ◌≢◌, ◌≤◌}
 use Rattle.std.proofs.lemmas.List.{map-set}
 use Rattle.grid_core.specs.Planes.{bit_of, has}
 use Rattle.grid_core.proofs.PlaneLemmas.{place-in}
-use Rattle.fields_core.specs.LightWaits.{AreWider, HaveTwo, IsMinded, IsNoted}
-unfoldable use Rattle.fields_core.specs.LightWaits.{lit_waits}
-use Rattle.fields_core.specs.LightWords.{IsRowRun, IsColumnRun}
-use Rattle.fields_core.proofs.LightHouseLaws.{clear-at, column-parts, column-white-end, mul-inj, row-parts, white-in}
-use Rattle.fields_core.proofs.LightCounting.{light-board}
+use Rattle.fields_core.specs.LightWaits.{AreSafe, AreSafeInColumns}
+use Rattle.fields_core.specs.LightWords.{IsRowRun}
+use Rattle.fields_core.specs.Trees.{IsRowOf}
+use Rattle.fields_core.proofs.LightHouseLaws.{clear-at, column-both, column-next, column-parts, column-self, row-both, row-parts}
 use Rattle.fields_core.proofs.LitVisits.{has-at}
 use Rattle.fields_core.proofs.LitWords.{two-places}
-use Rattle.fields_core.proofs.TentBeside.{row-in, whole-cell}
+use Rattle.fields_core.proofs.TentBeside.{whole-cell}
 use Rattle.fields_core.proofs.TreeWords.{row-read}
-
--- ---- words that grow
-pub wider-more : {first second third : List ℕ} → AreWider first second → AreWider second third → AreWider first third
-wider-more a b = record { kept = λ y x on. b.kept y x (a.kept y x on); long = b.long ∙ a.long }
-
-module _ {W : Type 0} (bits : W → ℕ) (words : List W) (i : ℕ) (word next : W) (lt : i < length words) (read : word ≡ get_or words i word)
-    (more : ℕ → Bool) (is : (k : ℕ) → has_bit (bits next) k ≡ (has_bit (bits word) k || more k)) where
-  was : slice_index (map bits words) i ≡ bits word
-  was = get_or-map bits words i word 0 lt ∙ ap bits (sym read)
-
-  now_at : slice_index (map bits (set words i next)) i ≡ bits next
-  now_at = rw (map-set bits words i next) (get_or-set_same (map bits words) i (bits next) 0 (omega (arith, lt, length-map words bits)))
-
-  others : (y : ℕ) → y ≢ i → slice_index (map bits (set words i next)) y ≡ slice_index (map bits words) y
-  others y ne = rw (map-set bits words i next) (get_or-set_other (map bits words) i y (bits next) 0 ne)
-
-  pub wider-set : AreWider (map bits words) (map bits (set words i next))
-  wider-set = record {
-    kept = λ y x on. elim (cases_eq y i) [
-      | inl e ↦ rw (e, now_at) (is x ∙ or_left _ (more x) (ap (λ n. has_bit n x) (sym was) ∙ rw e at on))
-      | inr ne ↦ ap (λ n. has_bit n x) (others y ne) ∙ on
-    ];
-    long = length-map (set words i next) bits ∙ length-set words i next ∙ sym (length-map words bits);
-  }
-
-  pub set-has : (x : ℕ) → more x ≡ true → has_bit (slice_index (map bits (set words i next)) i) x ≡ true
-  set-has x on = rw now_at (is x ∙ or_right (has_bit (bits word) x) (more x) on)
-
--- ---- a run with two cells that can have a bulb, and one whose cells all wait
-pub minded-two : {joined : ℕ → Bool} (w : ℕ) (words : List ℕ) {K : Candidates} → HaveTwo joined K → IsMinded joined w words K
-minded-two w words two = λ c on off. two
-
-pub minded-all : {joined : ℕ → Bool} (w : ℕ) (words : List ℕ) {K : Candidates} → ((c : ℕ) → joined c ≡ true → lit_waits w words c ≡ true) → IsMinded joined w words K
-minded-all w words all = λ c on off. absurd (true≢false (sym (all c on) ∙ off))
-
-pub minded-wider : {joined : ℕ → Bool} (w : ℕ) {before now : List ℕ} {K : Candidates} → AreWider before now → IsMinded joined w before K → IsMinded joined w now K
-unfolding lit_waits
-minded-wider w {before} wider minded = λ c on off. minded c on (elim (cases_Bool (has_bit (slice_index before (c / w)) (c % w))) [
-  | inl there ↦ absurd (true≢false (sym (wider.kept (c / w) (c % w) there) ∙ off))
-  | inr none ↦ none
-])
-
-pub noted-wider : (p : Light) {K : Candidates} {before now : List ℕ} {c : ℕ} → AreWider before now → IsNoted p K before c → IsNoted p K now c
-noted-wider p wider noted = record { in_row = minded-wider p.size.w wider noted.in_row; in_column = minded-wider p.size.w wider noted.in_column }
 
 -- ---- the runs of a cell as words
 module _ (p : Light) (y x : ℕ) (x_in : x < p.size.w) where
@@ -71,8 +26,9 @@ module _ (p : Light) (y x : ℕ) (x_in : x < p.size.w) where
         let parts = and_parts _ _ (sym (is k) ∙ on) in
         (ltb-true k p.size.w parts.0, rw (div-mul-add y p.size.w x x_in) at parts.1)
 
+    -- two of its cells that can have a bulb, or one that must
     pub row-two : (planes : Layers) (bits room : ℕ) → planes.size ≡ p.size → ((k : ℕ) → has_bit bits k ≡ (bit_of planes.rows y 1 k && has_bit run k)) → 1 < count_below (has_bit bits) room
-        → HaveTwo (joined_in_row p cell) (has planes)
+        → AreSafe (joined_in_row p cell) (has planes)
     row-two planes bits room size ones many =
         let w = two-places (has_bit bits) room many in
         let one = and_parts _ _ (sym (ones w.0) ∙ w.4) in
@@ -82,68 +38,48 @@ module _ (p : Light) (y x : ℕ) (x_in : x < p.size.w) where
         record {
           one = y * p.size.w + w.0;
           other = y * p.size.w + w.1;
-          apart = λ e. absurd (omega (arith, e, w.2));
           one_in = a.1;
           other_in = b.1;
           one_on = can_have planes size y w.0 a.0 one.0;
           other_on = can_have planes size y w.1 b.0 other.0;
+          apart = inl (λ e. absurd (omega (arith, e, w.2)));
         }
 
-    pub row-all : (words : List ℕ) → ((k : ℕ) → has_bit run k ≡ true → has_bit (slice_index words y) k ≡ true)
-        → (c : ℕ) → joined_in_row p cell c ≡ true → lit_waits p.size.w words c ≡ true
-    unfolding lit_waits
-    row-all words has_all c on =
-        let same : y ≡ c / p.size.w = sym (div-mul-add y p.size.w x x_in) ∙ (row-parts p cell c on).0 in
-        let at : cell / p.size.w * p.size.w + c % p.size.w ≡ c = rw (div-mul-add y p.size.w x x_in, same) (sym (whole-cell p.size.w c)) in
-        rw (← same) (has_all (c % p.size.w) (is (c % p.size.w) ∙ rw (lt-ltb (c % p.size.w) p.size.w (mod-lt c (omega (arith, x_in))), at, on) refl))
-
-  module _ (run : ℕ) (is : IsColumnRun p cell run) where
-    column-there : (k : ℕ) → has_bit run k ≡ true → (k < p.size.h) × (joined_in_column p cell (k * p.size.w + x) ≡ true)
-    column-there k on =
-        let parts = and_parts _ _ (sym (is k) ∙ on) in
-        (ltb-true k p.size.h parts.0, rw (place-column p.size.w y x x_in) at parts.1)
-
-    pub column-two : (planes : Layers) (bits room : ℕ) → planes.size ≡ p.size → ((k : ℕ) → has_bit bits k ≡ (bit_of planes.rows k 1 x && has_bit run k)) → 1 < count_below (has_bit bits) room
-        → HaveTwo (joined_in_column p cell) (has planes)
-    column-two planes bits room size ones many =
-        let w = two-places (has_bit bits) room many in
-        let one = and_parts _ _ (sym (ones w.0) ∙ w.4) in
-        let other = and_parts _ _ (sym (ones w.1) ∙ w.5) in
-        let a = column-there w.0 one.1 in
-        let b = column-there w.1 other.1 in
+    pub row-must : (planes : Layers) (bits room : ℕ) → planes.size ≡ p.size
+        → ((k : ℕ) → has_bit bits k ≡ ((bit_of planes.rows y 1 k && not (bit_of planes.rows y 0 k)) && has_bit run k)) → any_below (has_bit bits) room ≡ true
+        → AreSafe (joined_in_row p cell) (has planes)
+    row-must planes bits room size must some =
+        let w = any_below-some (has_bit bits) room some in
+        let there = and_parts _ _ (sym (must w.0) ∙ w.2) in
+        let is = and_parts _ _ there.0 in
+        let a = row-there w.0 there.1 in
+        let on = can_have planes size y w.0 a.0 is.0 in
         record {
-          one = w.0 * p.size.w + x;
-          other = w.1 * p.size.w + x;
-          apart = λ e. absurd (omega (arith, mul-inj {j = w.0} {k = w.1} {w = p.size.w} (omega (arith, x_in)) (omega (arith, e)), w.2));
+          one = y * p.size.w + w.0;
+          other = y * p.size.w + w.0;
           one_in = a.1;
-          other_in = b.1;
-          one_on = can_have planes size w.0 x x_in one.0;
-          other_on = can_have planes size w.1 x x_in other.0;
+          other_in = a.1;
+          one_on = on;
+          other_on = on;
+          apart = inr (has-at planes y w.0 0 (rw size refl) a.0 (omega arith) ∙ not-true _ is.1);
         }
 
-    pub column-all : (words : List ℕ) → IsLight p → ((k : ℕ) → has_bit run k ≡ true → has_bit (slice_index words k) x ≡ true)
-        → (c : ℕ) → joined_in_column p cell c ≡ true → lit_waits p.size.w words c ≡ true
-    unfolding lit_waits
-    column-all words lawful has_all c on =
-        let some : 0 < p.size.w = omega (arith, x_in) in
-        let same : x ≡ c % p.size.w = sym (place-column p.size.w y x x_in) ∙ (column-parts p cell c on).0 in
-        let inside = white-in p c (light-board lawful).long (column-white-end p cell c some on) in
-        let at : c / p.size.w * p.size.w + cell % p.size.w ≡ c = rw (place-column p.size.w y x x_in, same) (sym (whole-cell p.size.w c)) in
-        rw (← same) (has_all (c / p.size.w) (is (c / p.size.w) ∙ rw (lt-ltb (c / p.size.w) p.size.h (row-in p.size.h c some inside), at, on) refl))
+-- the same of another cell that is joined to them
+pub safe-moved : {joined other : ℕ → Bool} {K : Candidates} → ((c : ℕ) → joined c ≡ true → other c ≡ true) → AreSafe joined K → AreSafe other K
+safe-moved move safe = record {
+  one = safe.one;
+  other = safe.other;
+  one_in = move safe.one safe.one_in;
+  other_in = move safe.other safe.other_in;
+  one_on = safe.one_on;
+  other_on = safe.other_on;
+  apart = safe.apart;
+}
 
--- ---- places that are gone through, lowest first
--- a place that is not left was not before, or is the one that went
-pub left-off : (left rest : ℕ → Bool) (at k : ℕ) → ((j : ℕ) → rest j ≡ (left j && not (eqb j at))) → rest k ≡ false → (k ≡ at) ⊎ (left k ≡ false)
-left-off left rest at k is off = elim (cases_eq k at) [
-  | inl e ↦ inl e
-  | inr ne ↦ inr (by (left k) (rw (ne_eqb k at ne) at (sym (is k) ∙ off)))
-]
-  where
-    by : (a : Bool) → (a && not false) ≡ false → a ≡ false
-    by a e = grind (arith, common_steps, cases_Bool a)
-
-pub left-on : (left rest : ℕ → Bool) (at k : ℕ) → ((j : ℕ) → rest j ≡ (left j && not (eqb j at))) → rest k ≡ true → left k ≡ true
-left-on left rest at k is on = (and_parts _ _ (sym (is k) ∙ on)).0
+-- of another cell of the run
+pub row-moved : (p : Light) (y x k : ℕ) (x_in : x < p.size.w) (run : ℕ) → IsRowRun p (y * p.size.w + x) run → has_bit run k ≡ true → {K : Candidates}
+    → AreSafe (joined_in_row p (y * p.size.w + x)) K → AreSafe (joined_in_row p (y * p.size.w + k)) K
+row-moved p y x k x_in run is on safe = safe-moved (λ d joined. row-both p (y * p.size.w + x) (y * p.size.w + k) d (row-there p y x x_in run is k on).1 joined) safe
 
 -- ---- a black cell is in no run
 module _ (p : Light) (c d : ℕ) where
@@ -155,11 +91,78 @@ module _ (p : Light) (c d : ℕ) where
   column-white-start on = rw (← whole-cell p.size.w c) at
       (clear-at (λ y. white p (y * p.size.w + c % p.size.w)) (c / p.size.w) (d / p.size.w) (c / p.size.w) (column-parts p c d on).1 (omega arith) (omega arith))
 
-pub black-noted : (p : Light) (K : Candidates) (words : List ℕ) (c : ℕ) → white p c ≡ false → IsNoted p K words c
-black-noted p K words c off = record {
-  in_row = λ d on _. absurd (true≢false (sym (row-white-start p c d on) ∙ off));
-  in_column = λ d on _. absurd (true≢false (sym (column-white-start p c d on) ∙ off));
-}
+-- ---- cells one above the other
+module _ (p : Light) (c : ℕ) (some : 0 < p.size.w) (above : white p c ≡ true) (below : white p (c + p.size.w) ≡ true) where
+  pub joined-down : (d : ℕ) → joined_in_column p c d ≡ true → joined_in_column p (c + p.size.w) d ≡ true
+  joined-down d on = column-both p c (c + p.size.w) d (column-next p c (c + p.size.w) some refl above below) on
+
+  pub joined-up : (d : ℕ) → joined_in_column p (c + p.size.w) d ≡ true → joined_in_column p c d ≡ true
+  joined-up d on = column-both p (c + p.size.w) c d (column-both p c (c + p.size.w) c (column-next p c (c + p.size.w) some refl above below) (column-self p c above)) on
+
+-- ---- rows from below
+-- from each of these cells of a row downwards, a cell of its column run can have a bulb
+abbrev pub HaveOneBelow : Light → ℕ → ℕ → Candidates → Type 0
+HaveOneBelow p y bits K = (x : ℕ) → has_bit bits x ≡ true
+    → (d : ℕ) × (y * p.size.w + x ≤ d) × (joined_in_column p (y * p.size.w + x) d ≡ true) × (K d 1 ≡ true)
+
+module _ (p : Light) (K : Candidates) (j whites : ℕ) (ones zeros : ℕ → Bool) (some : 0 < p.size.w) (row : IsRowOf p.size.w (white p) j whites)
+    (can : (x : ℕ) → x < p.size.w → ones x ≡ true → K (j * p.size.w + x) 1 ≡ true) (must : (x : ℕ) → x < p.size.w → zeros x ≡ false → K (j * p.size.w + x) 0 ≡ false)
+    (one two : ℕ) (one_below : HaveOneBelow p (j + 1) one K) (two_below : AreSafeInColumns p (j + 1) two K) where
+  here : (x : ℕ) → has_bit whites x ≡ true → (x < p.size.w) × (white p (j * p.size.w + x) ≡ true)
+  here x on = let w = and_parts _ _ (sym (row x) ∙ on) in (ltb-true x p.size.w w.0, w.1)
+
+  at : (x : ℕ) → (j + 1) * p.size.w + x ≡ j * p.size.w + x + p.size.w
+  at x = omega arith
+
+  up : (x d : ℕ) → has_bit whites x ≡ true → joined_in_column p ((j + 1) * p.size.w + x) d ≡ true → joined_in_column p (j * p.size.w + x) d ≡ true
+  up x d on joined =
+      let below = rw (at x) at joined in
+      joined-up p (j * p.size.w + x) some (here x on).1 (column-white-start p (j * p.size.w + x + p.size.w) d below) d below
+
+  pub one-up : (now : ℕ) → ((x : ℕ) → has_bit now x ≡ ((has_bit one x || ones x) && has_bit whites x)) → HaveOneBelow p j now K
+  one-up now is x on =
+      let both = and_parts _ _ (sym (is x) ∙ on) in
+      let own = here x both.1 in
+      elim (or_cases _ _ both.0) [
+        | inl there ↦ let v = one_below x there in (v.0, omega (arith, v.1, at x), up x v.0 both.1 v.2, v.3)
+        | inr can_be ↦ (j * p.size.w + x, omega arith, column-self p (j * p.size.w + x) own.1, can x own.0 can_be)
+      ]
+
+  pub two-up : (now : ℕ) → ((x : ℕ) → has_bit now x ≡ (((has_bit two x || (has_bit one x && ones x)) || (ones x && not (zeros x))) && has_bit whites x))
+      → AreSafeInColumns p j now K
+  two-up now is x on =
+      let both = and_parts _ _ (sym (is x) ∙ on) in
+      let own = here x both.1 in
+      let self = column-self p (j * p.size.w + x) own.1 in
+      elim (or_cases (has_bit two x || (has_bit one x && ones x)) (ones x && not (zeros x)) both.0) [
+        | inr sure ↦
+            let w = and_parts _ _ sure in
+            let is_on = can x own.0 w.0 in
+            record { one = j * p.size.w + x; other = j * p.size.w + x; one_in = self; other_in = self; one_on = is_on; other_on = is_on; apart = inr (must x own.0 (not-true _ w.1)) }
+        | inl more ↦ elim (or_cases (has_bit two x) (has_bit one x && ones x) more) [
+          | inl there ↦ safe-moved (λ d joined. up x d both.1 joined) (two_below x there)
+          | inr pair ↦
+              let w = and_parts _ _ pair in
+              let v = one_below x w.0 in
+              record {
+                one = j * p.size.w + x;
+                other = v.0;
+                one_in = self;
+                other_in = up x v.0 both.1 v.2;
+                one_on = can x own.0 w.1;
+                other_on = v.3;
+                apart = inl (λ e. absurd (omega (arith, v.1, at x, e, some)));
+              }
+        ]
+      ]
+
+-- a word that is written among others
+pub words-set : {W : Type 0} (bits : W → ℕ) (words : List W) (n : ℕ) (P : ℕ → ℕ → Type 0) (word : W) → n < length words → P n (bits word)
+    → (y : ℕ) → (y ≢ n → P y (slice_index (map bits words) y)) → P y (slice_index (map bits (set words n word)) y)
+words-set bits words n P word lt is y others = rw (map-set bits words n word) (elim (cases_eq y n) [
+  | inl e ↦ rw (e, get_or-set_same (map bits words) n (bits word) 0 (omega (arith, lt, length-map words bits))) is
+  | inr ne ↦ rw (get_or-set_other (map bits words) n y (bits word) 0 ne) (others ne)
+])
 
 -- ---- the word of a cell in a table of all cells
 pub table-read : {W : Type 0} (bits : W → ℕ) (p : Light) (Is : ℕ → ℕ → Type 0) (words : List W) (y x place : ℕ) (word : W)
@@ -169,15 +172,3 @@ table-read bits p Is words y x place word long each y_in x_in at read =
     let cell : y * p.size.w + x < light_cells p = place-in p.size.w p.size.h y x y_in x_in in
     let inside : y * p.size.w + x < length words = omega (arith, cell, long, length-map words bits) in
     rw (row-read bits words (y * p.size.w + x) word inside (rw at at read)) at (each (y * p.size.w + x) cell)
-
--- a word with one place less
-pub set-but : {W : Type 0} (bits : W → ℕ) (words : List W) (y : ℕ) (word next : W) → y < length words → word ≡ get_or words y word
-    → (x : ℕ) → ((j : ℕ) → has_bit (bits next) j ≡ (has_bit (bits word) j && not (eqb j x))) → (k j : ℕ)
-    → has_bit (slice_index (map bits (set words y next)) k) j ≡ (has_bit (slice_index (map bits words) k) j && not (eqb k y && eqb j x))
-set-but bits words y word next lt read x is k j = rw (map-set bits words y next) (elim (cases_eq k y) [
-  | inl e ↦ rw (e, get_or-set_same (map bits words) y (bits next) 0 (omega (arith, lt, length-map words bits)), row-read bits words y word lt read, eq-eqb y y refl) (is j)
-  | inr ne ↦ rw (get_or-set_other (map bits words) y k (bits next) 0 ne, ne_eqb k y ne) (by (has_bit (slice_index (map bits words) k) j))
-])
-  where
-    by : (a : Bool) → a ≡ (a && not false)
-    by a = grind (arith, common_steps, cases_Bool a)

@@ -1,5 +1,5 @@
--- What waits of Light Up: where its houses lie, what stays idle, and what is idle where a closing begins.
-use Rattle.fields_core.proofs.Common.{[], AllByRecursion, Black, Bool, and_from, and_parts, any_below, any_below-none, any_below-some, cases_eq, mod-lt, not-true, or_left, or_right, Candidates, CountHouse, IsLight, Layers, Light, LightCell, List, Numbered, White, ap, arith, cases_Bool, column_run, common_steps, eq-eqb, eqb, eqb-true, exactly, false, false_from_ne_true, filter, get_or, has_bit, houses_below, inl, inr, joined_in_column, joined_in_row, light_cells, light_houses, light_rules, lit_house, lt-ltb, ltb, map, not, number_house, one_at_least, or_cases, place-filter, refl, row_run, seen_from, slice_index, steps, suc, sym, true, true≢false, white, zero, ℕ, ◌%◌, ◌&&◌, ◌*◌, ◌++◌, ◌+◌, ◌-◌, ◌/◌, ◌<◌, ◌||◌, ◌∙◌, ◌∷◌, ◌≡◌, ◌≤◌, ◌⊎◌}
+-- Numbers and runs of Light Up that wait: where they lie, what stays idle, and what is idle where a closing begins.
+use Rattle.fields_core.proofs.Common.{[], AllByRecursion, Black, Bool, any_below, any_below-none, cases_eq, or_left, or_right, Candidates, CountHouse, IsLight, Layers, Light, LightCell, List, Numbered, White, ap, arith, cases_Bool, common_steps, eq-eqb, eqb, eqb-true, exactly, false, false_from_ne_true, filter, get_or, has_bit, houses_below, inl, inr, light_cells, light_houses, light_rules, lit_house, lt-ltb, ltb, not, number_house, place-filter, refl, steps, suc, sym, true, true≢false, white, zero, ℕ, ◌%◌, ◌&&◌, ◌*◌, ◌++◌, ◌+◌, ◌-◌, ◌/◌, ◌<◌, ◌||◌, ◌∙◌, ◌∷◌, ◌≡◌, ◌≤◌}
 use Rattle.grid_core.specs.Candidates.{IsInside}
 use Rattle.grid_core.specs.Planes.{has, back_at, AreLinesOf, ArePlanes, IsFurther, IsLostIn}
 use Rattle.grid_core.specs.declared.planes.touched.Touched.{Touched}
@@ -9,32 +9,23 @@ use Rattle.engine_core.specs.Queue.{IsClosedAround}
 use Rattle.fields_core.specs.Light.{solves_lights}
 use Rattle.fields_core.specs.LightHouses.{row_house, column_house}
 use Rattle.fields_core.specs.LightPlanes.{ArePlanesOf}
-use Rattle.fields_core.specs.LightWaits.{AreIdleBetween, AreIdleBut, AreLightsRested, AreLinesRested, AreLinesWoken, AreLitRested, AreNoted, AreSpread, AreWhitesIdleBut, AreWider, IsNoted, light_kind_houses, light_kind_lines, waiting_lines}
-unfoldable use Rattle.fields_core.specs.LightWaits.{lit_waits}
+use Rattle.fields_core.specs.LightWaits.{AreIdleBut, AreLinesRested, AreLinesWoken, AreSpread, run_houses, run_lines, waiting_runs}
 use Rattle.fields_core.specs.LightWords.{numbers_of_row, row_runs_of_row}
-use Rattle.fields_core.specs.Trees.{IsRowOf}
 use Rattle.fields_core.specs.Visits.{after_houses}
 use Rattle.fields_core.specs.Waits.{AreIdle}
-use Rattle.fields_core.specs.declared.planes.lights.waits.LightKind.{LightKind}
-use Rattle.fields_core.specs.declared.planes.lights.waits.LightKind.TheVariants.{Numbers, RowRuns, ColumnRuns}
-use Rattle.fields_core.specs.declared.planes.lights.waits.LightWaits.{LightWaits}
 use Rattle.fields_core.specs.declared.planes.lights.waits.LineWaits.{LineWaits}
-use Rattle.fields_core.proofs.AtMostLemmas.{IsFull}
-use Rattle.fields_core.proofs.CellLemmas.{has-append}
+use Rattle.fields_core.specs.declared.planes.lights.waits.RunKind.{RunKind}
+use Rattle.fields_core.specs.declared.planes.lights.waits.RunKind.TheVariants.{Rows, Columns}
 unfoldable use Rattle.fields_core.proofs.IdleLemmas.{any_has}
 use Rattle.fields_core.proofs.IdleLemmas.{any-append, any-below, any-none, any-one, idle-far, idle-first, idle-rest}
-use Rattle.fields_core.proofs.LightCounting.{column-run-joined, light-board, row-run-joined}
-use Rattle.fields_core.proofs.LightHouseLaws.{column-both, column-self, column-white-end, row-both, row-self, row-white-end, white-in}
-use Rattle.fields_core.proofs.LightNotes.{column-white-start, row-white-start}
-use Rattle.fields_core.proofs.LitIdle.{IsAll, alls-kept}
-use Rattle.fields_core.proofs.LitRuns.{column-stays, planes-full, row-stays}
+use Rattle.fields_core.proofs.LitIdle.{IsAll}
 use Rattle.fields_core.proofs.LitVisits.{lit-is}
 use Rattle.fields_core.proofs.NumberRows.{numbers-are}
 use Rattle.fields_core.proofs.PartIdle.{IsPartOf, idle-around, in-back, in-below, in-front}
 use Rattle.fields_core.proofs.PartLemmas.{value-in}
 use Rattle.fields_core.proofs.RunOrder.{column-runs-kept, column-runs-lie, row-runs-are, row-runs-kept, row-runs-lie}
 use Rattle.fields_core.proofs.StepLaws.{steps-some}
-use Rattle.fields_core.proofs.TentBeside.{IsNextTo, cell-parts, row-in, step-across, step-lies, whole-cell}
+use Rattle.fields_core.proofs.TentBeside.{IsNextTo, step-across, step-lies}
 use Rattle.fields_core.proofs.VisitLemmas.{visits-append}
 
 -- ---- where houses lie
@@ -75,50 +66,20 @@ spread-off bits {room} before lines now woken {j} {k} on lt off (inr (inr below)
 module _ {W : Type 0} (bits : W → ℕ) {room : ℕ} (p : Light) {before now : LineWaits W} {cells zeros : Touched W}
     (lawful : IsLight p) (low : p.size.h ≤ room) (woken : AreLinesWoken bits room before cells zeros now) where
   -- where houses do not wait, none of them has a cell of these lines
-  lines-off : (c : ℕ) → has_bit (bits cells.rows) (c / p.size.w) ≡ true → AreLinesOf bits zeros (c / p.size.w) (c % p.size.w)
-      → (kind : LightKind) (k : ℕ) → k < light_kind_lines p kind
-      → has_bit (waiting_lines bits now kind) k ≡ false → any_has (light_kind_houses p kind k) c ≡ false
+  numbers-off : (c : ℕ) → has_bit (bits cells.rows) (c / p.size.w) ≡ true → (k : ℕ) → k < p.size.h → has_bit (bits now.numbers) k ≡ false
+      → any_has (numbers_of_row p k) c ≡ false
+  numbers-off c row k lt off = false_from_ne_true _ (λ has. spread-off bits _ _ _ woken.numbers row (omega (arith, lt, low)) off (numbers-lie p c k has))
+
+  runs-off : (c : ℕ) → AreLinesOf bits zeros (c / p.size.w) (c % p.size.w) → (kind : RunKind) (k : ℕ) → k < run_lines p kind
+      → has_bit (waiting_runs bits now kind) k ≡ false → any_has (run_houses p kind k) c ≡ false
   unfolding any_has
-  lines-off c row on kind k lt off = false_from_ne_true _ (by kind lt off)
-    where
-      by : (kind : LightKind) → k < light_kind_lines p kind → has_bit (waiting_lines bits now kind) k ≡ false → any_has (light_kind_houses p kind k) c ≡ true → ⊥
-      by Numbers lt off has = spread-off bits _ _ _ woken.numbers row (omega (arith, lt, low)) off (numbers-lie p c k has)
-      by RowRuns lt off has =
-          true≢false (sym on.1 ∙ ap (has_bit (bits zeros.rows)) (row-runs-lie p k c lawful has) ∙ (off_both (sym (woken.rows_are k) ∙ off)).1)
-      by ColumnRuns lt off has =
-          true≢false (sym on.0 ∙ ap (has_bit (bits zeros.columns)) (column-runs-lie p k c lawful lt has) ∙ (off_both (sym (woken.columns_are k) ∙ off)).1)
+  runs-off c on Rows k lt off = false_from_ne_true _ (λ has.
+      true≢false (sym on.1 ∙ ap (has_bit (bits zeros.rows)) (row-runs-lie p k c lawful has) ∙ (off_both (sym (woken.rows_are k) ∙ off)).1))
+  runs-off c on Columns k lt off = false_from_ne_true _ (λ has.
+      true≢false (sym on.0 ∙ ap (has_bit (bits zeros.columns)) (column-runs-lie p k c lawful lt has) ∙ (off_both (sym (woken.columns_are k) ∙ off)).1))
 
 -- ---- white cells
--- the house of a cell has those that it is joined to
-lit-lies : (p : Light) (c d : ℕ) → any_has (lit_house p c) d ≡ true → (joined_in_row p c d ≡ true) ⊎ (joined_in_column p c d ≡ true)
-unfolding seen_from
-lit-lies p c d on = elim (cases_Bool (white p c)) [
-  | inr off ↦ absurd (true≢false (sym (rw off at on) ∙ any-none d))
-  | inl is ↦
-      let there = any-one (one_at_least (seen_from p c)) d (rw is at on) in
-      elim (or_cases _ _ (sym (has-append (row_run p c) (filter (λ e. not (eqb e c)) (column_run p c)) d) ∙ there)) [
-        | inl row ↦ inl (row-run-joined p c d row)
-        | inr column ↦ inr (column-run-joined p c d (place-filter _ (column_run p c) d column).0)
-      ]
-]
-
--- a cell that is noted is in no house of a cell that does not wait, or that house is idle
-lit-noted : (p : Light) (K : Candidates) (words : List ℕ) (d c : ℕ) → IsLight p → IsFull (light_cells p) K → IsNoted p K words d
-    → lit_waits p.size.w words c ≡ false → any_has (lit_house p c) d ≡ true → AreIdle (lit_house p c) K
-lit-noted p K words d c lawful full noted off on = elim (lit-lies p c d on) [
-  | inl row ↦
-      let back = row-both p c d c row (row-self p c (row-white-start p c d row)) in
-      let two = noted.in_row c back off in
-      row-stays p c two.one two.other K lawful full two.apart two.one_on two.other_on
-      (row-both p d c two.one back two.one_in) (row-both p d c two.other back two.other_in)
-  | inr column ↦
-      let back = column-both p c d c column (column-self p c (column-white-start p c d column)) in
-      let two = noted.in_column c back off in
-      column-stays p c two.one two.other K lawful full two.apart two.one_on two.other_on
-      (column-both p d c two.one back two.one_in) (column-both p d c two.other back two.other_in)
-]
-
-lits-each : (p : Light) (c : ℕ) → IsLight p → c < light_cells p → AllByRecursion (IsAll (light_cells p)) (lit_house p c)
+pub lits-each : (p : Light) (c : ℕ) → IsLight p → c < light_cells p → AllByRecursion (IsAll (light_cells p)) (lit_house p c)
 lits-each p c lawful lt = elim (cases_Bool (white p c)) [
   | inl on ↦ rw on (record { is = lit-is p lawful lt on; same = refl }, tt)
   | inr off ↦ rw off tt
@@ -133,35 +94,6 @@ value-kept K L c v inside never = elim (cases_Bool (K c v)) [
   ]) ∙ sym on
   | inr off ↦ false_from_ne_true _ (λ on. true≢false (sym (inside c v on) ∙ off)) ∙ sym off
 ]
-
-module _ (p : Light) (lawful : IsLight p) {K L : Candidates} (words : List ℕ) (full_K : IsFull (light_cells p) K) (full_L : IsFull (light_cells p) L)
-    (inside : IsInside L K) (noted : (d : ℕ) → d < light_cells p → K d 1 ≡ true → L d 1 ≡ false → IsNoted p L words d) where
-  -- a cell of the house of c has lost 1
-  abbrev has_lost : ℕ → ℕ → Bool
-  has_lost c d = any_has (lit_house p c) d && (K d 1 && not (L d 1))
-
-  lies-in : (c d : ℕ) → any_has (lit_house p c) d ≡ true → d < light_cells p
-  lies-in c d on = white-in p d (light-board lawful).long (elim (lit-lies p c d on) [
-    | inl row ↦ row-white-end p c d (light-board lawful).some row
-    | inr column ↦ column-white-end p c d (light-board lawful).some column
-  ])
-
-  -- what is idle where each cell that lost 1 is noted
-  pub lit-rested : (before : List ℕ) → AreWider before words → AreLitRested p before K → AreLitRested p words L
-  unfolding lit_waits
-  lit-rested before wider rested c lt off =
-      let was_off : lit_waits p.size.w before c ≡ false = false_from_ne_true _ (λ on. true≢false (sym (wider.kept (c / p.size.w) (c % p.size.w) on) ∙ off)) in
-      elim (cases_Bool (any_below (has_lost c) (light_cells p))) [
-        | inl some ↦
-            let w = any_below-some (has_lost c) (light_cells p) some in
-            let parts = and_parts _ _ w.2 in
-            let lost = and_parts _ _ parts.1 in
-            lit-noted p L words w.0 c lawful full_L (noted w.0 w.1 lost.0 (not-true (L w.0 1) lost.1)) off parts.0
-        | inr none ↦ alls-kept (light_cells p) (lit_house p c) K L (lits-each p c lawful lt) full_K full_L inside
-            (λ d there. value-kept K L d 1 inside (λ on gone.
-            true≢false (sym (and_from _ _ there (and_from _ _ on (ap not gone))) ∙ any_below-none (has_lost c) (light_cells p) none d (lies-in c d there))))
-            (rested c lt was_off)
-      ]
 
 -- ---- once cells have lost values
 module _ {W : Type 0} (bits : W → ℕ) {room : ℕ} (p : Light) (zeros ones cells : Touched W) {from to : Layers} {len : ℕ} (are : ArePlanes room to)
@@ -197,46 +129,35 @@ module _ {W : Type 0} (bits : W → ℕ) {room : ℕ} (p : Light) (zeros ones ce
       spread-off bits _ _ _ woken.number_columns (lost-at c v (value-in from c v on) on gone).0 (omega (arith, lt, of.narrow)) off (number-lies p c y x lt there).1))
       (rested.columns y y_in x lt (off_both (sym (woken.number_columns x) ∙ off)).0)
 
-  kinds-rested : (before now : LineWaits W) → AreLinesWoken bits room before cells zeros now → AreLinesRested bits p before (has from)
-      → (kind : LightKind) (k : ℕ) → k < light_kind_lines p kind → has_bit (waiting_lines bits now kind) k ≡ false → AreIdle (light_kind_houses p kind k) (has to)
-  kinds-rested before now woken rested Numbers k lt off =
+  numbers-rested : (before now : LineWaits W) → AreLinesWoken bits room before cells zeros now → AreLinesRested bits p before (has from)
+      → (k : ℕ) → k < p.size.h → has_bit (bits now.numbers) k ≡ false → AreIdle (numbers_of_row p k) (has to)
+  numbers-rested before now woken rested k lt off =
       idle-far (numbers_of_row p k) (has from) (has to) further.inside
       (λ c v on gone. false_from_ne_true _ (λ there.
       spread-off bits _ _ _ woken.numbers (lost-at c v (value-in from c v on) on gone).1 (omega (arith, lt, of.low)) off (numbers-lie p c k there)))
-      (rested.lines Numbers k lt (off_both (sym (woken.numbers k) ∙ off)).0)
-  kinds-rested before now woken rested RowRuns k lt off =
+      (rested.numbers k lt (off_both (sym (woken.numbers k) ∙ off)).0)
+
+  runs-rested : (before now : LineWaits W) → AreLinesWoken bits room before cells zeros now → AreLinesRested bits p before (has from)
+      → (kind : RunKind) (k : ℕ) → k < run_lines p kind → has_bit (waiting_runs bits now kind) k ≡ false → AreIdle (run_houses p kind k) (has to)
+  runs-rested before now woken rested Rows k lt off =
       let parts = off_both (sym (woken.rows_are k) ∙ off) in
       row-runs-kept p k of.lawful was.size was.alive of.alive further
       (λ c row. value-kept (has from) (has to) c 0 further.inside (λ on gone. true≢false (sym (zeros-at c on gone).1 ∙ ap (has_bit (bits zeros.rows)) row ∙ parts.1)))
-      (rested.lines RowRuns k lt parts.0)
-  kinds-rested before now woken rested ColumnRuns k lt off =
+      (rested.runs Rows k lt parts.0)
+  runs-rested before now woken rested Columns k lt off =
       let parts = off_both (sym (woken.columns_are k) ∙ off) in
       column-runs-kept p k of.lawful lt was.size was.alive of.alive further
       (λ c column. value-kept (has from) (has to) c 0 further.inside (λ on gone. true≢false (sym (zeros-at c on gone).0 ∙ ap (has_bit (bits zeros.columns)) column ∙ parts.1)))
-      (rested.lines ColumnRuns k lt parts.0)
+      (rested.runs Columns k lt parts.0)
 
-  pub lights-woken : (before now : LightWaits W) → AreLinesWoken bits room before.lines cells zeros now.lines
-      → AreWider (map bits before.lit.items) (map bits now.lit.items) → AreNoted bits p (has to) ones (map bits now.lit.items)
-      → AreLightsRested bits p before (has from) → AreLightsRested bits p now (has to)
-  lights-woken before now woken wider noted rested = record {
-    lines = record {
-      lines = kinds-rested before.lines now.lines woken rested.lines;
-      columns = columns-rested before.lines now.lines woken rested.lines;
-    };
-    lit = lit-rested p of.lawful (map bits now.lit.items) (planes-full p from was.size was.alive) (planes-full p to of.size of.alive) further.inside
-        (λ d lt on gone. noted d lt (ones-at d on gone)) (map bits before.lit.items) wider rested.lit;
+  pub lines-woken : (before now : LineWaits W) → AreLinesWoken bits room before cells zeros now → AreLinesRested bits p before (has from) → AreLinesRested bits p now (has to)
+  lines-woken before now woken rested = record {
+    numbers = numbers-rested before now woken rested;
+    runs = runs-rested before now woken rested;
+    columns = columns-rested before now woken rested;
   }
 
 -- ---- where a closing begins
--- what does not wait of each row is idle
-pub lit-rows : (p : Light) (words : List ℕ) (K : Candidates) → IsLight p → ((y : ℕ) → y < p.size.h → AreWhitesIdleBut p (slice_index words y) y K)
-    → AreLitRested p words K
-unfolding lit_waits
-lit-rows p words K lawful rows c lt off =
-    let some = (light-board lawful).some in
-    let at : c / p.size.w * p.size.w + c % p.size.w ≡ c = sym (whole-cell p.size.w c) in
-    rw at at (rows (c / p.size.w) (row-in p.size.h c some lt) (c % p.size.w) (mod-lt c some) off)
-
 -- the houses of the lists below n, where each list is idle
 below-idle : (f : ℕ → List CountHouse) (n : ℕ) (K : Candidates) → ((k : ℕ) → k < n → AreIdle (f k) K) → AreIdle (houses_below f n) K
 unfolding houses_below after_houses
@@ -253,7 +174,7 @@ idle-parts (house ∷ front) back K idle =
     let rest = idle-parts front back K (idle-rest house (front ++ back) K idle) in
     (rw first rest.0, rest.1)
 
-idle-one : (f : ℕ → List CountHouse) (n k : ℕ) (K : Candidates) → k < n → AreIdle (houses_below f n) K → AreIdle (f k) K
+pub idle-one : (f : ℕ → List CountHouse) (n k : ℕ) (K : Candidates) → k < n → AreIdle (houses_below f n) K → AreIdle (f k) K
 idle-one f n k K lt idle =
     let within = in-below f k n lt in
     (idle-parts (f k) within.back K (idle-parts within.front (f k ++ within.back) K (rw (within.is) at idle)).1).0
@@ -276,44 +197,34 @@ module _ (p : Light) (lawful : IsLight p) (K : Candidates) (place : ℕ) (around
       (in-back _ (houses_below (number_house p) (light_cells p)) _ (in-back _ (houses_below (row_house p) (light_cells p)) _
       (in-front _ _ _ (in-below (column_house p) c (light_cells p) lt)))) off
 
-  lit-idle : (c : ℕ) → c < light_cells p → any_has (lit_house p c) place ≡ false → AreIdle (lit_house p c) K
-  unfolding light_houses
-  lit-idle c lt off = part-idle (lit_house p c)
-      (in-back _ (houses_below (number_house p) (light_cells p)) _ (in-back _ (houses_below (row_house p) (light_cells p)) _
-      (in-back _ (houses_below (column_house p) (light_cells p)) _ (in-below (lit_house p) c (light_cells p) lt)))) off
-
   number-idle : (c : ℕ) → c < light_cells p → any_has (number_house p c) place ≡ false → AreIdle (number_house p c) K
   unfolding light_houses
   number-idle c lt off = part-idle (number_house p c) (in-front _ _ _ (in-below (number_house p) c (light_cells p) lt)) off
 
-  kind-idle : (kind : LightKind) (k : ℕ) → k < light_kind_lines p kind → any_has (light_kind_houses p kind k) place ≡ false → AreIdle (light_kind_houses p kind k) K
+  numbers-idle : (k : ℕ) → k < p.size.h → any_has (numbers_of_row p k) place ≡ false → AreIdle (numbers_of_row p k) K
   unfolding light_houses
-  kind-idle Numbers k lt off = part-idle (numbers_of_row p k)
+  numbers-idle k lt off = part-idle (numbers_of_row p k)
       (in-front _ _ _ (rw (numbers-are p) at (in-below (numbers_of_row p) k p.size.h lt))) off
-  kind-idle RowRuns k lt off = part-idle (row_runs_of_row p k)
+
+  runs-idle : (kind : RunKind) (k : ℕ) → k < run_lines p kind → any_has (run_houses p kind k) place ≡ false → AreIdle (run_houses p kind k) K
+  unfolding light_houses
+  runs-idle Rows k lt off = part-idle (row_runs_of_row p k)
       (in-back _ (houses_below (number_house p) (light_cells p)) _ (in-front _ _ _ (rw (row-runs-are p) at (in-below (row_runs_of_row p) k p.size.h lt)))) off
-  kind-idle ColumnRuns k lt off = below-idle (λ y. column_house p (y * p.size.w + k)) p.size.h K
+  runs-idle Columns k lt off = below-idle (λ y. column_house p (y * p.size.w + k)) p.size.h K
       (λ y less. column-idle (y * p.size.w + k) (place-in p.size.w p.size.h y k less lt)
       (false_from_ne_true _ (λ on. true≢false (sym (below-has (λ y. column_house p (y * p.size.w + k)) p.size.h y place less on) ∙ off))))
 
   -- a closing begins at a cell
-  pub lights-at : {W : Type 0} (bits : W → ℕ) {room : ℕ} {planes : Layers} (before : LineWaits W) (now : LightWaits W) {touched : Touched W} → ArePlanesOf room p planes → has planes ≡ K
+  pub lines-at : {W : Type 0} (bits : W → ℕ) {room : ℕ} {planes : Layers} (before now : LineWaits W) {touched : Touched W} → ArePlanesOf room p planes
       → ((k : ℕ) → has_bit (bits touched.columns) k ≡ eqb k (place % p.size.w)) → ((k : ℕ) → has_bit (bits touched.rows) k ≡ eqb k (place / p.size.w))
-      → AreLinesWoken bits room before touched touched now.lines → AreNoted bits p K touched (map bits now.lit.items) → AreLightsRested bits p now K
-  lights-at bits {planes = planes} before now {touched} of is column row woken noted =
+      → AreLinesWoken bits room before touched touched now → AreLinesRested bits p now K
+  lines-at bits before now {touched} of column row woken =
       let lines : AreLinesOf bits touched (place / p.size.w) (place % p.size.w) = (column _ ∙ eq-eqb _ _ refl, row _ ∙ eq-eqb _ _ refl) in
-      let full : IsFull (light_cells p) K = rw is at (planes-full p planes of.size of.alive) in
       record {
-        lines = record {
-          lines = λ kind k lt off. kind-idle kind k lt (lines-off bits p lawful of.low woken place lines.1 lines kind k lt off);
-          columns = λ y y_in x lt off. number-idle (y * p.size.w + x) (place-in p.size.w p.size.h y x y_in lt)
-              (false_from_ne_true _ (λ there. spread-off bits _ _ _ woken.number_columns lines.0 (omega (arith, lt, of.narrow)) off (number-lies p place y x lt there).1));
-        };
-        lit = λ c lt off. elim (cases_Bool (any_has (lit_house p c) place)) [
-          | inr far ↦ lit-idle c lt far
-          | inl on ↦ lit-noted p K (map bits now.lit.items) place c lawful
-              full (noted place around.place_in lines) off on
-        ];
+        numbers = λ k lt off. numbers-idle k lt (numbers-off bits p lawful of.low woken place lines.1 k lt off);
+        runs = λ kind k lt off. runs-idle kind k lt (runs-off bits p lawful of.low woken place lines kind k lt off);
+        columns = λ y y_in x lt off. number-idle (y * p.size.w + x) (place-in p.size.w p.size.h y x y_in lt)
+            (false_from_ne_true _ (λ there. spread-off bits _ _ _ woken.number_columns lines.0 (omega (arith, lt, of.narrow)) off (number-lies p place y x lt there).1));
       }
 
 -- ---- the last row whose numbers wait is settled
@@ -321,12 +232,14 @@ module _ {W : Type 0} (bits : W → ℕ) (p : Light) (before now : LineWaits W) 
     (numbers : (k : ℕ) → has_bit (bits now.numbers) k ≡ (has_bit (bits before.numbers) k && not (eqb k y)))
     (rows : now.rows ≡ before.rows) (columns : now.columns ≡ before.columns)
     (rested : AreLinesRested bits p before K) (idle : AreIdle (numbers_of_row p y) K) where
-  kinds-settled : (kind : LightKind) (k : ℕ) → k < light_kind_lines p kind → has_bit (waiting_lines bits now kind) k ≡ false → AreIdle (light_kind_houses p kind k) K
-  kinds-settled RowRuns k lt off = rested.lines RowRuns k lt (rw rows at off)
-  kinds-settled ColumnRuns k lt off = rested.lines ColumnRuns k lt (rw columns at off)
-  kinds-settled Numbers k lt off = elim (cases_Bool (eqb k y)) [
+  runs-settled : (kind : RunKind) (k : ℕ) → k < run_lines p kind → has_bit (waiting_runs bits now kind) k ≡ false → AreIdle (run_houses p kind k) K
+  runs-settled Rows k lt off = rested.runs Rows k lt (rw rows at off)
+  runs-settled Columns k lt off = rested.runs Columns k lt (rw columns at off)
+
+  numbers-settled : (k : ℕ) → k < p.size.h → has_bit (bits now.numbers) k ≡ false → AreIdle (numbers_of_row p k) K
+  numbers-settled k lt off = elim (cases_Bool (eqb k y)) [
     | inl own ↦ rw (eqb-true k y own) idle
-    | inr other ↦ rested.lines Numbers k lt (by (has_bit (bits before.numbers) k) (sym (numbers k ∙ rw other refl) ∙ off))
+    | inr other ↦ rested.numbers k lt (by (has_bit (bits before.numbers) k) (sym (numbers k ∙ rw other refl) ∙ off))
   ]
     where
       by : (a : Bool) → (a && not false) ≡ false → a ≡ false
@@ -334,43 +247,8 @@ module _ {W : Type 0} (bits : W → ℕ) (p : Light) (before now : LineWaits W) 
 
   pub last-settled : p.size.h ≤ room → any_below (has_bit (bits now.numbers)) room ≡ false → AreLinesRested bits p now K
   last-settled low none = record {
-    lines = kinds-settled;
+    numbers = numbers-settled;
+    runs = runs-settled;
     columns = λ z z_in x lt off. idle-one (λ k. number_house p (z * p.size.w + k)) p.size.w x K lt
-        (kinds-settled Numbers z z_in (any_below-none (has_bit (bits now.numbers)) room none z (omega (arith, z_in, low))));
+        (numbers-settled z z_in (any_below-none (has_bit (bits now.numbers)) room none z (omega (arith, z_in, low))));
   }
-
--- ---- white cells that wait no more, and those of a row from one that does not wait to the next
-pub lit-settled : {W : Type 0} (bits : W → ℕ) (p : Light) (before now : LightWaits W) (K : Candidates) (y x : ℕ) → x < p.size.w
-    → ((k j : ℕ) → has_bit (slice_index (map bits now.lit.items) k) j ≡ (has_bit (slice_index (map bits before.lit.items) k) j && not (eqb k y && eqb j x)))
-    → now.lines ≡ before.lines → AreLightsRested bits p before K → AreIdle (lit_house p (y * p.size.w + x)) K → AreLightsRested bits p now K
-unfolding lit_waits
-lit-settled bits p before now K y x lt words lines rested idle = record {
-  lines = rw lines rested.lines;
-  lit = λ c less off. elim (cases_Bool (eqb (c / p.size.w) y && eqb (c % p.size.w) x)) [
-    | inl here ↦
-        let w = and_parts _ _ here in
-        let at : c ≡ y * p.size.w + x = whole-cell p.size.w c ∙ rw (eqb-true (c / p.size.w) y w.0, eqb-true (c % p.size.w) x w.1) refl in
-        rw at idle
-    | inr other ↦ rested.lit c less (by (has_bit (slice_index (map bits before.lit.items) (c / p.size.w)) (c % p.size.w)) (sym (words (c / p.size.w) (c % p.size.w) ∙ rw other refl) ∙ off))
-  ];
-}
-  where
-    by : (a : Bool) → (a && not false) ≡ false → a ≡ false
-    by a e = grind (arith, common_steps, cases_Bool a)
-
-pub lit-between : (p : Light) (words : List ℕ) (K : Candidates) (y from to : ℕ) (white_bits : ℕ) → y < p.size.h → to ≤ p.size.w → AreLitRested p words K
-    → IsRowOf p.size.w (white p) y white_bits
-    → ((k : ℕ) → from ≤ k → k < to → (has_bit (slice_index words y) k && has_bit white_bits k) ≡ false) → AreIdleBetween p K y from to
-unfolding lit_waits after_houses
-lit-between p words K y from to white_bits y_in to_in rested whites none k low lt =
-    let less : k < p.size.w = omega arith in
-    let own = cell-parts p.size.w y k (y * p.size.w + k) less refl in
-    elim (cases_Bool (white p (y * p.size.w + k))) [
-      | inr off ↦ rw off refl
-      | inl on ↦
-          let there : has_bit white_bits k ≡ true = whites k ∙ rw (lt-ltb k p.size.w less, on) refl in
-          rested (y * p.size.w + k) (place-in p.size.w p.size.h y k y_in less) (rw own.0 (rw own.1 (by (has_bit (slice_index words y) k) (rw there at (none k low lt)))))
-    ]
-  where
-    by : (a : Bool) → (a && true) ≡ false → a ≡ false
-    by a e = grind (arith, common_steps, cases_Bool a)

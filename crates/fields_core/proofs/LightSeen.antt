@@ -1,75 +1,81 @@
 -- A cell sees a bulb exactly if a walk from it along its row or its column comes to one before a black cell.
-use Rattle.fields_core.proofs.Common.{Bool, Light, List, SeesAlong, Shines, ShinesAlong, and_from, and_parts, any_below-here, any_below-some, ap, arith, bulb, cases_lt, clear, common_steps, eq-eqb, eqb, false, false_from_ne_true, inl, inr, joined_in_column, joined_in_row, light_cells, mod-lt, mul-add-lt, ne_eqb, not, not-true, or_cases, or_left, or_right, sees, sees_bulb, slice_index, sym, true, true≢false, white, ℕ, ◌%◌, ◌&&◌, ◌*◌, ◌+◌, ◌-◌, ◌/◌, ◌<◌, ◌||◌, ◌∙◌, ◌≡◌, ◌≢◌, ◌≤◌, ◌⊎◌}
+use Rattle.fields_core.proofs.Common.{Bool, Light, List, IsAround, SeesAlong, ShinesAlong, and_from, and_parts, any_below-here, any_below-some, ap, arith, bulb, clear, common_steps, eq-eqb, eqb, false, false_from_ne_true, inl, inr, joined_in_column, joined_in_row, light_cells, mod-lt, mul-add-lt, ne_eqb, not, not-true, or_cases, or_left, or_right, sees, sees_bulb, slice_index, sym, true, true≢false, white, ℕ, ◌%◌, ◌&&◌, ◌*◌, ◌+◌, ◌/◌, ◌<◌, ◌||◌, ◌∙◌, ◌≡◌, ◌≢◌, ◌≤◌}
 use Rattle.fields_core.proofs.LightHouseLaws.{clear-at, clear-from, mul-inj, row-parts, column-parts}
-use Rattle.fields_core.proofs.RunLemmas.{clear-same, row-cell-joined, column-cell-joined}
+use Rattle.fields_core.proofs.RunLemmas.{around-joined, clear-same, row-cell-joined, column-cell-joined}
 use Rattle.fields_core.proofs.TentBeside.{row-in}
 
--- ---- a walk from the number `at`, down or up, that has passed as many numbers as from low to next, and is at k
-module _ (white bulb : ℕ → Bool) (at : ℕ) {low high next : ℕ} (k : ℕ) (from : low ≤ next)
-    (to : next < high)
-    (side : ((high ≡ at) × (k + next + 1 ≡ low + at)) ⊎ ((low ≡ at + 1) × (k ≡ next))) where
-  pub walk-black : ((i : ℕ) → low ≤ i → i < high → at + low ≤ i + next → i + low ≤ at + next → bulb i ≡ false) → white k ≡ false → Shines white bulb at low high false
-  walk-black dark off = λ i low_in lt joined. grind (arith, common_steps, clear-at white at i k joined, dark i, cases_lt)
+-- ---- the run around a white cell
+module _ (white bulb : ℕ → Bool) {len at start end : ℕ} (run : IsAround white len at start end) where
+  pub run-bulb : {i : ℕ} → start ≤ i → i < end → i ≢ at → bulb i ≡ true → ShinesAlong white bulb at len true
+  run-bulb {i} low high ne on = (
+    i,
+    omega (arith, run.high),
+    ne,
+    clear-from white at i (λ k a b. run.pass k (omega (arith, run.low)) (omega (arith, run.past))),
+    on,
+  )
 
-  pub walk-bulb : ((i : ℕ) → low ≤ i → i < high → at + low ≤ i + next → i + low ≤ at + next → white i ≡ true) → white at ≡ true → white k ≡ true → bulb k ≡ true → Shines white bulb at low high true
-  walk-bulb pass start here on = grind (arith, common_steps, clear-from, white, cases_lt)
+  pub run-dark : ((i : ℕ) → start ≤ i → i < end → i ≢ at → bulb i ≡ false) → ShinesAlong white bulb at len false
+  run-dark dark i lt ne joined = let here = around-joined white run lt joined in dark i here.0 here.1 ne
 
 -- ---- the line of a cell
 whole : (c w : ℕ) → c ≡ c / w * w + c % w
 whole c w = omega arith
 
-pub row-sees : (p : Light) (g : List ℕ) {c w : ℕ} (b : Bool) → 0 < w → w ≡ p.size.w → c < light_cells p
-    → ShinesAlong (λ i. white p (c - c % w + i * 1)) (λ i. bulb g (c - c % w + i * 1)) (c % w) w b → SeesAlong (joined_in_row p) (light_cells p) g c b
-row-sees p g {c} {w} b some e in_grid s = by b s
+pub row-sees : (p : Light) (g : List ℕ) {c : ℕ} (b : Bool) → 0 < p.size.w → c < light_cells p
+    → ShinesAlong (λ i. white p (c / p.size.w * p.size.w + i * 1)) (λ i. bulb g (c / p.size.w * p.size.w + i * 1)) (c % p.size.w) p.size.w b
+    → SeesAlong (joined_in_row p) (light_cells p) g c b
+row-sees p g {c} b some in_grid s = by b s
   where
-    same : (i : ℕ) → c - c % w + i * 1 ≡ c / p.size.w * p.size.w + i
-    same i = rw (sym e) (omega (arith, whole c w))
+    row : ℕ
+    row = c / p.size.w * p.size.w
 
-    test : (i : ℕ) → clear (λ k. white p (c - c % w + k * 1)) (c % w) i ≡ clear (λ k. white p (c / p.size.w * p.size.w + k)) (c % p.size.w) i
+    same : (i : ℕ) → row + i * 1 ≡ row + i
+    same i = omega arith
+
+    test : (i : ℕ) → clear (λ k. white p (row + k * 1)) (c % p.size.w) i ≡ clear (λ k. white p (row + k)) (c % p.size.w) i
     test i = grind (arith, common_steps, clear-same, white, clear)
 
-    by : (b : Bool) → ShinesAlong (λ i. white p (c - c % w + i * 1))
-        (λ i. bulb g (c - c % w + i * 1)) (c % w) w b
+    by : (b : Bool) → ShinesAlong (λ i. white p (row + i * 1)) (λ i. bulb g (row + i * 1)) (c % p.size.w) p.size.w b
         → SeesAlong (joined_in_row p) (light_cells p) g c b
     by true s = (
-      c - c % w + s.0 * 1,
-      rw (same s.0) (let lt : s.0 < p.size.w = rw (sym e) s.1 in
-          omega (arith, mul-add-lt (c / p.size.w) p.size.w s.0 p.size.h (row-in {w = p.size.w} p.size.h c (rw (sym e) some) in_grid) lt)),
-      (λ f. s.2 (omega (arith, whole c w))),
-      ap (joined_in_row p c) (same s.0) ∙ row-cell-joined p c s.0 (rw (sym e) s.1) ∙ sym (test s.0) ∙ s.3,
+      row + s.0 * 1,
+      rw (same s.0) (omega (arith, mul-add-lt (c / p.size.w) p.size.w s.0 p.size.h (row-in {w = p.size.w} p.size.h c some in_grid) s.1)),
+      (λ f. s.2 (omega (arith, whole c p.size.w))),
+      ap (joined_in_row p c) (same s.0) ∙ row-cell-joined p c s.0 s.1 ∙ sym (test s.0) ∙ s.3,
       s.4,
     )
     by false s = λ d lt ne on.
         let v = row-parts p c d on in
-        let here = same (d % w) ∙ rw (v.0, e) (sym (whole d p.size.w)) in
-        ap (bulb g) (sym here) ∙ s (d % w) (mod-lt d some) (λ f. ne (omega (arith, whole c w, here))) (test (d % w) ∙ rw e v.1)
+        let here = same (d % p.size.w) ∙ rw v.0 (sym (whole d p.size.w)) in
+        ap (bulb g) (sym here) ∙ s (d % p.size.w) (mod-lt d some) (λ f. ne (omega (arith, whole c p.size.w, here))) (test (d % p.size.w) ∙ v.1)
 
-pub column-sees : (p : Light) (g : List ℕ) (c : ℕ) {w h : ℕ} (b : Bool) → 0 < w → w ≡ p.size.w → h ≡ p.size.h
-    → ShinesAlong (λ i. white p (c % w + i * w)) (λ i. bulb g (c % w + i * w)) (c / w) h b → SeesAlong (joined_in_column p) (light_cells p) g c b
-column-sees p g c {w} {h} b some e f s = by b s
+pub column-sees : (p : Light) (g : List ℕ) (c : ℕ) (b : Bool) → 0 < p.size.w
+    → ShinesAlong (λ i. white p (c % p.size.w + i * p.size.w)) (λ i. bulb g (c % p.size.w + i * p.size.w)) (c / p.size.w) p.size.h b
+    → SeesAlong (joined_in_column p) (light_cells p) g c b
+column-sees p g c b some s = by b s
   where
-    same : (i : ℕ) → c % w + i * w ≡ i * p.size.w + c % p.size.w
-    same i = rw (sym e) (omega arith)
+    same : (i : ℕ) → c % p.size.w + i * p.size.w ≡ i * p.size.w + c % p.size.w
+    same i = omega arith
 
-    test : (i : ℕ) → clear (λ k. white p (c % w + k * w)) (c / w) i ≡ clear (λ k. white p (k * p.size.w + c % p.size.w)) (c / p.size.w) i
+    test : (i : ℕ) → clear (λ k. white p (c % p.size.w + k * p.size.w)) (c / p.size.w) i ≡ clear (λ k. white p (k * p.size.w + c % p.size.w)) (c / p.size.w) i
     test i = grind (arith, common_steps, clear-same, white, clear)
 
-    by : (b : Bool) → ShinesAlong (λ i. white p (c % w + i * w)) (λ i. bulb g (c % w + i * w))
-        (c / w) h b → SeesAlong (joined_in_column p) (light_cells p) g c b
+    by : (b : Bool) → ShinesAlong (λ i. white p (c % p.size.w + i * p.size.w)) (λ i. bulb g (c % p.size.w + i * p.size.w)) (c / p.size.w) p.size.h b
+        → SeesAlong (joined_in_column p) (light_cells p) g c b
     by true s = (
-      c % w + s.0 * w,
-      rw (same s.0) (let lt : s.0 < p.size.h = rw (sym f) s.1 in
-          omega (arith, mul-add-lt s.0 p.size.w (c % p.size.w) p.size.h lt (mod-lt c (rw (sym e) some)))),
-      (λ t. s.2 (mul-inj some (omega (arith, whole c w)))),
-      ap (joined_in_column p c) (same s.0) ∙ column-cell-joined p c s.0 (rw (sym e) some) ∙ sym (test s.0) ∙ s.3,
+      c % p.size.w + s.0 * p.size.w,
+      rw (same s.0) (omega (arith, mul-add-lt s.0 p.size.w (c % p.size.w) p.size.h s.1 (mod-lt c some))),
+      (λ t. s.2 (mul-inj some (omega (arith, whole c p.size.w)))),
+      ap (joined_in_column p c) (same s.0) ∙ column-cell-joined p c s.0 some ∙ sym (test s.0) ∙ s.3,
       s.4,
     )
     by false s = λ d lt ne on.
         let v = column-parts p c d on in
-        let here = same (d / w) ∙ rw (v.0, e) (sym (whole d p.size.w)) in
-        ap (bulb g) (sym here) ∙ s (d / w) (rw f (row-in p.size.h d some (rw e lt)))
-        (λ t. ne (sym here ∙ ap (λ y. c % w + y * w) t ∙ (omega (arith, whole c w))))
-        (test (d / w) ∙ rw e v.1)
+        let here = same (d / p.size.w) ∙ rw v.0 (sym (whole d p.size.w)) in
+        ap (bulb g) (sym here) ∙ s (d / p.size.w) (row-in p.size.h d some lt)
+        (λ t. ne (sym here ∙ ap (λ y. c % p.size.w + y * p.size.w) t ∙ (omega (arith, whole c p.size.w))))
+        (test (d / p.size.w) ∙ v.1)
 
 -- ---- both lines
 swapped : (c d : ℕ) → d ≢ c → not (eqb c d) ≡ true

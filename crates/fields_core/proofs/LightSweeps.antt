@@ -1,26 +1,61 @@
 -- Sweeps of the houses of Light Up on planes.
-use Rattle.fields_core.proofs.Common.{IsAlive, Layers, Light, append_assoc, ap, arith, column_house, has_bit, houses_below, false, light_cells, light_houses, light_rules, lit_house, not, refl, row_house, true, white, ℕ, Bool, ◌*◌, ◌++◌, ◌<◌, ◌∙◌, ◌≡◌, ◌≤◌}
+use Rattle.fields_core.proofs.Common.{AllByRecursion, IsAlive, IsLight, Layers, Light, append_assoc, ap, arith, column_house, houses_below, length, light_cells, light_houses, light_rules, lit_house, not, refl, row_house, true, white, ℕ, Bool, ◌*◌, ◌++◌, ◌+◌, ◌<◌, ◌∙◌, ◌≡◌, ◌≤◌}
 use Rattle.grid_core.specs.Planes.{IsFurther, has}
+use Rattle.grid_core.proofs.PlaneLemmas.{place-in}
 use Rattle.fields_core.specs.Light.{solves_lights}
 use Rattle.fields_core.specs.LightPlanes.{ArePlanesOf, IsKept}
-use Rattle.fields_core.specs.LightWaits.{AreLinesRested, light_kind_houses, light_kind_lines, lits_of_row, waiting_lines, white_houses}
+use Rattle.fields_core.specs.LightWaits.{AreLightsReady, AreLinesRested, lits_of_row, run_houses, run_lines, white_houses}
 use Rattle.fields_core.specs.LightWords.{numbers_of_row}
 use Rattle.fields_core.specs.Sweeps.{IsSweep}
 use Rattle.fields_core.specs.Visits.{AreVisited}
+use Rattle.fields_core.specs.Waits.{AreIdle}
 use Rattle.fields_core.specs.declared.planes.lights.notes.LightNotes.{LightNotes}
-use Rattle.fields_core.specs.declared.planes.lights.waits.LightKind.{LightKind}
-use Rattle.fields_core.specs.declared.planes.lights.waits.LineWaits.{LineWaits}
-use Rattle.fields_core.proofs.IdleLemmas.{visited-skip}
+use Rattle.fields_core.specs.declared.planes.lights.waits.RunKind.{RunKind}
+use Rattle.fields_core.specs.declared.planes.lights.waits.RunKind.TheVariants.{Rows, Columns}
+use Rattle.fields_core.proofs.AnyOrder.{IsSingle}
+use Rattle.fields_core.proofs.LightRests.{lits-each}
+use Rattle.fields_core.proofs.LitIdle.{IsAll}
 use Rattle.fields_core.proofs.NumberRows.{numbers-are}
 use Rattle.fields_core.proofs.PlaneSweeps.{visits-swept}
+use Rattle.fields_core.proofs.QuietVisits.{alls-quiet, quiet-done, quiet-stays, singles-quiet}
+use Rattle.fields_core.proofs.RunBegins.{all-houses}
+use Rattle.fields_core.proofs.RunOrder.{column-runs-single, row-runs-single}
 use Rattle.fields_core.proofs.VisitLemmas.{below-rows}
 
--- ---- houses that do not wait are passed
-pub lines-skip : {W : Type 0} (bits : W → ℕ) (p : Light) (kind : LightKind) (waits : LineWaits W) {from to : Layers} {n m : ℕ} → n ≤ m → m ≤ light_kind_lines p kind
-    → AreLinesRested bits p waits (has to) → ((k : ℕ) → n ≤ k → k < m → has_bit (waiting_lines bits waits kind) k ≡ false)
-    → AreVisited (houses_below (light_kind_houses p kind) n) from to true → AreVisited (houses_below (light_kind_houses p kind) m) from to true
-lines-skip bits p kind waits le most rested none visited =
-    visited-skip (light_kind_houses p kind) le visited (λ k at lt. rested.lines kind k (omega (arith, lt, most)) (none k at lt))
+-- ---- runs and white cells that are visited leave others idle
+runs-single : (p : Light) (kind : RunKind) (k : ℕ) → IsLight p → k < run_lines p kind → AllByRecursion (IsSingle (light_cells p)) (run_houses p kind k)
+runs-single p Rows k lawful lt = row-runs-single p k lawful
+runs-single p Columns k lawful lt = column-runs-single p k lawful
+
+pub runs-stay : {room : ℕ} (p : Light) (kind : RunKind) {from to : Layers} {n k : ℕ} → ArePlanesOf room p from → n ≤ run_lines p kind → k < run_lines p kind
+    → AreVisited (houses_below (run_houses p kind) n) from to true → AreIdle (run_houses p kind k) (has from) → AreIdle (run_houses p kind k) (has to)
+runs-stay p kind {k = k} of le lt visited idle =
+    quiet-stays p (singles-quiet (light_cells p)) (run_houses p kind) (λ k lt. runs-single p kind k of.lawful lt) of le visited (run_houses p kind k) (runs-single p kind k of.lawful lt) idle
+
+pub runs-done : {room : ℕ} (p : Light) (kind : RunKind) {from to : Layers} → ArePlanesOf room p from
+    → AreVisited (houses_below (run_houses p kind) (run_lines p kind)) from to true → (k : ℕ) → k < run_lines p kind → AreIdle (run_houses p kind k) (has to)
+runs-done p kind of visited = quiet-done p (singles-quiet (light_cells p)) (run_houses p kind) (λ k lt. runs-single p kind k of.lawful lt) of (omega arith) visited
+
+lit-all : (p : Light) (y x : ℕ) → IsLight p → y < p.size.h → x < p.size.w → AllByRecursion (IsAll (light_cells p)) (lit_house p (y * p.size.w + x))
+lit-all p y x lawful y_in x_in = lits-each p (y * p.size.w + x) lawful (place-in p.size.w p.size.h y x y_in x_in)
+
+row-lits : (p : Light) (y : ℕ) → IsLight p → y < p.size.h → AllByRecursion (IsAll (light_cells p)) (lits_of_row p y)
+row-lits p y lawful y_in = all-houses (IsAll (light_cells p)) (λ x. lit_house p (y * p.size.w + x)) p.size.w (λ x lt. lit-all p y x lawful y_in lt)
+
+-- in a row, and row by row
+pub lit-stays : {room : ℕ} (p : Light) (y x : ℕ) {from to : Layers} {m : ℕ} → ArePlanesOf room p from → m ≤ p.size.w → y < p.size.h → x < p.size.w
+    → AreVisited (houses_below (λ x. lit_house p (y * p.size.w + x)) m) from to true
+    → AreIdle (lit_house p (y * p.size.w + x)) (has from) → AreIdle (lit_house p (y * p.size.w + x)) (has to)
+lit-stays p y x of le y_in x_in visited idle =
+    quiet-stays p (alls-quiet (light_cells p)) (λ x. lit_house p (y * p.size.w + x)) (λ x lt. lit-all p y x of.lawful y_in lt) of le visited
+    (lit_house p (y * p.size.w + x)) (lit-all p y x of.lawful y_in x_in) idle
+
+pub lits-stay : {room : ℕ} (p : Light) (y x : ℕ) {from to : Layers} {m : ℕ} → ArePlanesOf room p from → m ≤ p.size.h → y < p.size.h → x < p.size.w
+    → AreVisited (houses_below (lits_of_row p) m) from to true
+    → AreIdle (lit_house p (y * p.size.w + x)) (has from) → AreIdle (lit_house p (y * p.size.w + x)) (has to)
+lits-stay p y x of le y_in x_in visited idle =
+    quiet-stays p (alls-quiet (light_cells p)) (lits_of_row p) (λ y lt. row-lits p y of.lawful lt) of le visited
+    (lit_house p (y * p.size.w + x)) (lit-all p y x of.lawful y_in x_in) idle
 
 -- ---- the houses in order
 pub lits-are : (p : Light) → houses_below (lits_of_row p) p.size.h ≡ houses_below (lit_house p) (light_cells p)
@@ -37,10 +72,10 @@ lights-swept p {from} {to} {fills} size visited =
 
 -- ---- what is kept
 pub kept-none : {W : Type 0} (notes : LightNotes W) → IsKept notes notes
-kept-none notes = record { tables = refl; lit = refl }
+kept-none notes = record { tables = refl; safe = refl }
 
 pub kept-more : {W : Type 0} {first second third : LightNotes W} → IsKept first second → IsKept second third → IsKept first third
-kept-more a b = record { tables = b.tables ∙ a.tables; lit = b.lit ∙ a.lit }
+kept-more a b = record { tables = b.tables ∙ a.tables; safe = b.safe ∙ a.safe }
 
 pub planes-next : {room : ℕ} {p : Light} {from to : Layers} → ArePlanesOf room p from → IsFurther from to → IsAlive to → ArePlanesOf room p to
 planes-next of further alive = record {
@@ -49,4 +84,15 @@ planes-next of further alive = record {
   low = of.low;
   size = further.same_size ∙ of.size;
   alive = alive;
+}
+
+-- what does not wait is idle again
+pub ready-next : {W : Type 0} {bits : W → ℕ} {room : ℕ} {p : Light} {from to : Layers} {notes : LightNotes W} → AreLightsReady bits room p from notes
+    → IsFurther from to → IsAlive to → (now : LightNotes W) → now.tables ≡ notes.tables → length now.safe.items ≡ length notes.safe.items
+    → AreLinesRested bits p now.waits (has to) → AreLightsReady bits room p to now
+ready-next {bits = bits} {room = room} {p = p} ready further alive now tables long rested = record {
+  planes_of = planes-next ready.planes_of further alive;
+  tables = rw tables ready.tables;
+  safe_long = rw long ready.safe_long;
+  rested = rested;
 }

@@ -1,8 +1,8 @@
 -- Houses of Light Up by what tells them. A place that tells a house lies in the grid.
-use Rattle.fields_core.proofs.Common.{IsLight, light_cells, light_house, mod-lt, mul-le-mul_right, ◌/◌, ◌%◌, ap₂, one_at_least, places_of, segment_places, Segment, ◌++◌, Bool, IsAround, Light, RunsOn, [], arith, begins_column_run, begins_row_run, cases_lt, column_house, cond, false, get_or_past, inl, inr, length, lit_house, refl, row_house, run_house, true, and_parts, Black, white, ℕ, ◌*◌, ◌+◌, ◌-◌, ◌<◌, ◌≤◌, ◌∷◌, ◌≡◌, ap, sym, ◌∙◌}
+use Rattle.fields_core.proofs.Common.{line_cells, line_white, IsLight, begins_at, light_cells, light_house, mod-lt, ◌/◌, ◌%◌, ap₂, one_at_least, places_of, segment_places, Segment, ◌++◌, Bool, IsAround, Light, RunsOn, [], arith, begins_column_run, begins_row_run, cases_lt, column_house, cond, false, get_or_past, inl, inr, length, lit_house, refl, row_house, run_house, true, and_parts, Black, white, ℕ, ◌*◌, ◌+◌, ◌-◌, ◌<◌, ◌∷◌, ◌≡◌, ap, sym, ◌∙◌}
 use Rattle.fields_core.proofs.LightHouseLaws.{white-in}
-use Rattle.fields_core.proofs.LightLatest.{begins_at, column-house-is, line_white, lit-lines, row-house-is}
-use Rattle.fields_core.proofs.SegmentLemmas.{line, places-three}
+use Rattle.fields_core.proofs.LightLatest.{column-house-is, lit-lines, row-house-is}
+use Rattle.fields_core.proofs.SegmentLemmas.{places-three}
 use Rattle.fields_core.proofs.TentBeside.{row-in, whole-cell}
 use Rattle.fields_core.specs.declared.light_up.told.LightHouse.{LightHouse}
 use Rattle.fields_core.specs.declared.light_up.told.LightHouse.TheVariants.{Column, Lit, Number, Row}
@@ -48,26 +48,23 @@ around-both test {len} {at} {start} {end} here back on = record {
 -- ---- the house of a white cell is that of three segments
 pub lit-told : (p : Light) (y x : ℕ) (a b c none : Segment) {left right top end : ℕ} → x < p.size.w → white p (y * p.size.w + x) ≡ true
     → IsAround (line_white p (y * p.size.w) 1) p.size.w x left right → IsAround (line_white p x p.size.w) p.size.h y top end
-    → segment_places a ≡ line (y * p.size.w + left) 1 (right - left) → segment_places b ≡ line (x + top * p.size.w) p.size.w (y - top)
-    → segment_places c ≡ line (y * p.size.w + x + p.size.w) p.size.w (end - y - 1) → segment_places none ≡ []
+    → segment_places a ≡ line_cells (y * p.size.w) 1 left right → segment_places b ≡ line_cells x p.size.w top y
+    → segment_places c ≡ line_cells x p.size.w (y + 1) end → segment_places none ≡ []
     → lit_house p (y * p.size.w + x) ≡ one_at_least (places_of (a ∷ b ∷ c ∷ none ∷ [])) ∷ []
-lit-told p y x a b c none lt on row column is_a is_b is_c is_none =
+lit-told p y x a b c none {left} {right} {top} {end} lt on row column is_a is_b is_c is_none =
+    let first : y * p.size.w + left * 1 ≡ y * p.size.w + left = omega arith in
+    let below : x + (y + 1) * p.size.w ≡ y * p.size.w + x + p.size.w = omega arith in
+    let rest : end - (y + 1) ≡ end - y - 1 = omega arith in
     lit-lines p y x lt on row column
-    ∙ ap (λ l. one_at_least l ∷ []) (sym (places-three a b c none is_none ∙ ap₂ (λ s t. s ++ t) is_a (ap₂ (λ s t. s ++ t) is_b is_c)))
+    ∙ ap (λ l. one_at_least l ∷ [])
+    (sym (places-three a b c none is_none ∙ ap₂ (λ s t. s ++ t) (rw first at is_a) (ap₂ (λ s t. s ++ t) is_b (rw (below, rest) at is_c))))
 
 -- ---- the line of a place
 pub place-row : (p : Light) (kind : LightHouse) (c : ℕ) → IsLight p → length (light_house p kind c) ≡ 1 → c / p.size.w < p.size.h
 place-row p kind c lawful e = row-in p.size.h c lawful.size.extent.w_low (place-tells p kind c lawful e)
 
-pub row-within : (p : Light) (c i : ℕ) → c / p.size.w < p.size.h → i < p.size.w → c - c % p.size.w + i * 1 < light_cells p
-row-within p c i high low =
-    let rows : (c / p.size.w + 1) * p.size.w ≤ p.size.h * p.size.w = mul-le-mul_right p.size.w (omega arith) in
-    omega (arith, whole-cell p.size.w c)
-
-pub row-of-place : (p : Light) (c : ℕ) → 0 < p.size.w → run_house p (c - c % p.size.w) 1 p.size.w (c % p.size.w) ≡ row_house p c
-row-of-place p c some =
-    let first : c / p.size.w * p.size.w ≡ c - c % p.size.w = omega (arith, whole-cell p.size.w c) in
-    rw (← whole-cell p.size.w c, first) at (row-house-is p (c / p.size.w) (c % p.size.w) (mod-lt c some))
+pub row-of-place : (p : Light) (c : ℕ) → 0 < p.size.w → run_house p (c / p.size.w * p.size.w) 1 p.size.w (c % p.size.w) ≡ row_house p c
+row-of-place p c some = rw (← whole-cell p.size.w c) at (row-house-is p (c / p.size.w) (c % p.size.w) (mod-lt c some))
 
 pub column-of-place : (p : Light) (c : ℕ) → 0 < p.size.w → run_house p (c % p.size.w) p.size.w p.size.h (c / p.size.w) ≡ column_house p c
 column-of-place p c some =

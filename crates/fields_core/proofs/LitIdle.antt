@@ -1,14 +1,16 @@
 -- Houses of one at least, by the cells of theirs that can be ones.
-use Rattle.fields_core.proofs.Common.{AllByRecursion, Bool, Candidates, CountHouse, IsHouse, List, [], has_place-here, or_left, or_right, slice_index, after_house, arith, cases_Bool, common_steps, count_by, distinct-from, eqb, false, fun_ext, has_place, inl, inr, ne_eqb, not, one_at_least, refl, strikes_of, sym, true, true≢false, ℕ, ◌&&◌, ◌<◌, ◌∙◌, ◌∷◌, ◌≡◌, ◌≢◌, and-true, cases_lt, false_from_ne_true, ◌⊎◌, ◌≤◌, ap}
+use Rattle.fields_core.proofs.Common.{AllByRecursion, and_parts, cases_eq, eqb-true, Bool, Candidates, CountHouse, IsHouse, List, [], or_left, or_right, after_house, arith, cases_Bool, common_steps, count_by, distinct-from, eqb, false, fun_ext, has_place, inl, inr, ne_eqb, not, one_at_least, refl, strikes_of, sym, true, true≢false, ℕ, ◌&&◌, ◌<◌, ◌∙◌, ◌∷◌, ◌≡◌, ◌≢◌, and-true, cases_lt, false_from_ne_true, ◌⊎◌, ◌≤◌, ap}
 use Rattle.grid_core.specs.Candidates.{IsInside}
 use Rattle.fields_core.specs.Trees.{without_zeros}
 use Rattle.fields_core.specs.Visits.{after_houses}
 use Rattle.fields_core.specs.Waits.{AreIdle}
 use Rattle.fields_core.proofs.AtMostLemmas.{IsFull, count-two, others-stay}
-use Rattle.fields_core.proofs.IdleLemmas.{any_has, idle-first, idle-rest}
-use Rattle.fields_core.proofs.PlaceLists.{count-none, count-one, count-some, num}
-use Rattle.fields_core.proofs.CountTallies.{counts-as}
+use Rattle.fields_core.proofs.IdleAfter.{Keeps}
+use Rattle.fields_core.proofs.IdleLemmas.{any_has, full-between, idle-first, idle-rest}
+use Rattle.fields_core.proofs.PlaceLists.{count-none, count-one, count-some}
+use Rattle.fields_core.proofs.CountTallies.{counts-same}
 use Rattle.fields_core.proofs.TreeBoards.{AreFull, is_lone, tree-after, tree-board, tree-broken}
+use Rattle.fields_core.proofs.VisitLemmas.{after-inside, visits-inside}
 
 module _ {cells : ℕ} {places : List ℕ} (K : Candidates) (is : IsHouse cells (one_at_least places)) (full : IsFull cells K) where
   places-full : AreFull places K
@@ -41,6 +43,31 @@ module _ {cells : ℕ} {places : List ℕ} (K : Candidates) (is : IsHouse cells 
       | inr off ↦ rw off refl
     ]
 
+  -- ---- a cell that must be a one: the house is idle
+  module _ (d : ℕ) (in_d : has_place places d ≡ true) (on_d : K d 1 ≡ true) (must : K d 0 ≡ false) where
+    never-lone : (c : ℕ) → c ≢ d → is_lone places K c ≡ false
+    never-lone c ne = false_from_ne_true _ (λ on.
+        let w = and_parts (K c 1) _ on in
+        let v = and_parts (has_place places c) _ w.1 in
+        let one = eqb-true (count_by (λ d. K d 1) places) 1 v.1 in
+        absurd (omega (arith, one, count-two (λ c. K c 1) places c d ne v.0 in_d w.0 on_d)))
+
+    pub must-stay : after_house (one_at_least places) K ≡ K
+    unfolding without_zeros
+    must-stay = tree-board cells places K is places-full (inr (count-some (λ c. K c 1) places d in_d on_d)) full.low
+        ∙ fun_ext λ c. fun_ext λ v. by c v (cases_eq c d) (cases_eq v 0)
+      where
+        by : (c v : ℕ) → (c ≡ d) ⊎ (c ≢ d) → (v ≡ 0) ⊎ (v ≢ 0) → (K c v && not (eqb v 0 && is_lone places K c)) ≡ K c v
+        by c v (inl e) (inl z) = rw (e, z, must) refl
+        by c v (inl e) (inr nz) = rw (ne_eqb v 0 nz) (and-true (K c v))
+        by c v (inr ne) z = rw (never-lone c ne) (grind (arith, common_steps, cases_Bool (K c v), cases_Bool (eqb v 0)))
+
+  -- either of these
+  pub safe-stay : (d e : ℕ) → has_place places d ≡ true → has_place places e ≡ true → K d 1 ≡ true → K e 1 ≡ true → (d ≢ e) ⊎ (K d 0 ≡ false)
+      → after_house (one_at_least places) K ≡ K
+  safe-stay d e in_d in_e on_d on_e (inl ne) = several-stay d e ne in_d in_e on_d on_e
+  safe-stay d e in_d in_e on_d on_e (inr must) = must-stay d in_d on_d must
+
   -- ---- one cell that can be a one: it loses 0
   pub lone-left : (d : ℕ) → has_place places d ≡ true → K d 1 ≡ true
       → ((e : ℕ) → has_place places e ≡ true → K e 1 ≡ true → e ≡ d)
@@ -66,6 +93,17 @@ module _ {cells : ℕ} {places : List ℕ} (K : Candidates) (is : IsHouse cells 
   unfolding without_zeros
   ones-stay some c = ap (λ (L : Candidates). L c 1) (tree-board cells places K is places-full (inr some) full.low) ∙ and-true (K c 1)
 
+  pub ones-left : IsFull cells (after_house (one_at_least places) K) → (c : ℕ) → after_house (one_at_least places) K c 1 ≡ K c 1
+  ones-left after c = elim (cases_lt 0 (count_by (λ c. K c 1) places)) [
+    | inl some ↦ ones-stay (omega arith) c
+    | inr few ↦ others-stay (one_at_least places) K c 1 (false_from_ne_true _ (λ there.
+        let gone : (v : ℕ) → v < 2 → after_house (one_at_least places) K c v ≡ false = λ v low. tree-broken cells places K is (omega arith) c v there low in
+        elim (after.some c (is.within c there)) [
+          | inl on ↦ true≢false (sym on ∙ gone 0 (omega arith))
+          | inr on ↦ true≢false (sym on ∙ gone 1 (omega arith))
+        ]))
+  ]
+
   -- none: the house is idle only if it has no cell
   never-idle : after_house (one_at_least places) K ≡ K → count_by (λ c. K c 1) places ≡ 0 → (c : ℕ) → has_place places c ≡ false
   never-idle idle none c = false_from_ne_true _ (λ there.
@@ -80,7 +118,7 @@ module _ {cells : ℕ} {places : List ℕ} (K : Candidates) (is : IsHouse cells 
 module _ {cells : ℕ} {places : List ℕ} (K L : Candidates) (is : IsHouse cells (one_at_least places)) (full : IsFull cells K) (still : IsFull cells L)
     (inside : IsInside L K) (same : (c : ℕ) → has_place places c ≡ true → L c 1 ≡ K c 1) where
   counts : count_by (λ c. L c 1) places ≡ count_by (λ c. K c 1) places
-  counts = counts-as _ _ places places refl (λ k lt. ap num (same (slice_index places k) (has_place-here places k lt)))
+  counts = counts-same _ _ places same
 
   pub idle-kept : after_house (one_at_least places) K ≡ K → after_house (one_at_least places) L ≡ L
   unfolding without_zeros
@@ -115,3 +153,20 @@ alls-kept cells (house ∷ houses) K L (is, each) full_K full_L inside ones idle
     let kept = rw (← is.same) at (idle-kept K L is.is full_K full_L inside (λ c there. ones c (or_left (has_place house.places c) _ there)) first) in
     rw kept (alls-kept cells houses K L each full_K full_L inside (λ c there. ones c (or_right (has_place house.places c) _ there))
     (idle-rest house houses K idle))
+
+-- visits that leave each cell a value take no 1
+pub alls-ones : (cells : ℕ) (houses : List CountHouse) (K : Candidates) → AllByRecursion (IsAll cells) houses → IsFull cells K
+    → IsFull cells (after_houses houses K) → (c : ℕ) → after_houses houses K c 1 ≡ K c 1
+unfolding after_houses
+alls-ones cells [] K each full after c = refl
+alls-ones cells (house ∷ houses) K (is, each) full after c =
+    let next = full-between cells full after (after-inside house K) (visits-inside houses (after_house house K)) in
+    let first : (c : ℕ) → after_house house K c 1 ≡ K c 1 = rw (← is.same) at (ones-left K is.is full (rw is.same at next)) in
+    alls-ones cells houses (after_house house K) each next after c ∙ first c
+
+-- so others stay idle
+pub all-keeps : (cells : ℕ) (visited house : CountHouse) → IsAll cells visited → IsAll cells house → Keeps cells visited house
+unfolding after_houses
+all-keeps cells visited house is other K full still idle =
+    rw other.same (idle-kept K (after_house visited K) other.is full still (after-inside visited K)
+    (λ c _. alls-ones cells (visited ∷ []) K (is, tt) full still c) (rw other.same at idle))

@@ -1,11 +1,13 @@
 -- Houses of white cells of Light Up that are idle, and stay so while only 0 is taken.
-use Rattle.fields_core.proofs.Common.{Candidates, IsLight, Light, ap, cases_eq, column_run, has_place, inl, inr, joined_in_column, joined_in_row, light_cells, lit_house, ne_eqb, not, place-back, place-front, place-kept, refl, row_run, seen_from, true, white, ℕ, ◌<◌, ◌≡◌, ◌≢◌, cases_Bool, Layers, IsAlive}
+use Rattle.fields_core.proofs.Common.{false, Candidates, IsLight, Light, ap, cases_eq, column_run, has_place, inl, inr, joined_in_column, joined_in_row, light_cells, lit_house, ne_eqb, not, place-back, place-front, place-kept, refl, row_run, seen_from, true, white, ℕ, ◌<◌, ◌≡◌, cases_Bool, Layers, IsAlive}
 use Rattle.grid_core.specs.Planes.{has}
+use Rattle.fields_core.specs.LightWaits.{AreSafe}
 use Rattle.fields_core.specs.Visits.{after_houses}
+use Rattle.fields_core.specs.Waits.{AreIdle}
 use Rattle.fields_core.proofs.AtMostLemmas.{IsFull}
 use Rattle.fields_core.proofs.LightCounting.{in-column-run, in-row-run, light-board}
 use Rattle.fields_core.proofs.LightHouseLaws.{column-white-end, row-self, white-in}
-use Rattle.fields_core.proofs.LitIdle.{several-stay}
+use Rattle.fields_core.proofs.LitIdle.{safe-stay}
 use Rattle.fields_core.proofs.LitVisits.{lit-is}
 use Rattle.fields_core.proofs.PartLemmas.{value-in}
 
@@ -30,22 +32,27 @@ module _ (p : Light) (lawful : IsLight p) (c : ℕ) (is_white : white p c ≡ tr
         place-back (row_run p c) _ d (place-kept _ (column_run p c) d (in-column-run p c d some within joined) (ap not (ne_eqb d c other)))
   ]
 
--- ---- a run with two cells that can have a bulb leaves the houses of its cells idle
-pub row-stays : (p : Light) (c d e : ℕ) (K : Candidates) → IsLight p → IsFull (light_cells p) K → d ≢ e → K d 1 ≡ true → K e 1 ≡ true
-    → joined_in_row p c d ≡ true → joined_in_row p c e ≡ true → after_houses (lit_house p c) K ≡ K
+-- ---- a run with two cells that can have a bulb, or one that must, leaves the houses of its cells idle
+pub row-safe : (p : Light) (c : ℕ) {K : Candidates} → IsLight p → IsFull (light_cells p) K → AreSafe (joined_in_row p c) K → AreIdle (lit_house p c) K
 unfolding after_houses
-row-stays p c d e K lawful full ne on_d on_e in_d in_e = elim (cases_Bool (white p c)) [
-  | inl on ↦ rw on (several-stay K (lit-is p lawful (inside p lawful c on) on) full d e ne (seen-in-row p lawful c on d in_d) (seen-in-row p lawful c on e in_e) on_d on_e)
+row-safe p c {K} lawful full safe = elim (cases_Bool (white p c)) [
+  | inl on ↦ rw on (safe-stay K (lit-is p lawful (inside p lawful c on) on) full safe.one safe.other (seen-in-row p lawful c on safe.one safe.one_in)
+      (seen-in-row p lawful c on safe.other safe.other_in) safe.one_on safe.other_on safe.apart)
   | inr off ↦ rw off refl
 ]
 
-pub column-stays : (p : Light) (c d e : ℕ) (K : Candidates) → IsLight p → IsFull (light_cells p) K → d ≢ e → K d 1 ≡ true → K e 1 ≡ true
-    → joined_in_column p c d ≡ true → joined_in_column p c e ≡ true → after_houses (lit_house p c) K ≡ K
+pub column-safe : (p : Light) (c : ℕ) {K : Candidates} → IsLight p → IsFull (light_cells p) K → AreSafe (joined_in_column p c) K → AreIdle (lit_house p c) K
 unfolding after_houses
-column-stays p c d e K lawful full ne on_d on_e in_d in_e = elim (cases_Bool (white p c)) [
-  | inl on ↦ rw on (several-stay K (lit-is p lawful (inside p lawful c on) on) full d e ne (seen-in-column p lawful c on d in_d) (seen-in-column p lawful c on e in_e) on_d on_e)
+column-safe p c {K} lawful full safe = elim (cases_Bool (white p c)) [
+  | inl on ↦ rw on (safe-stay K (lit-is p lawful (inside p lawful c on) on) full safe.one safe.other (seen-in-column p lawful c on safe.one safe.one_in)
+      (seen-in-column p lawful c on safe.other safe.other_in) safe.one_on safe.other_on safe.apart)
   | inr off ↦ rw off refl
 ]
+
+-- a black cell has no house
+pub black-idle : (p : Light) (c : ℕ) (K : Candidates) → white p c ≡ false → AreIdle (lit_house p c) K
+unfolding after_houses
+black-idle p c K off = rw off refl
 
 -- ---- on planes
 pub planes-full : (p : Light) (from : Layers) → from.size ≡ p.size → IsAlive from → IsFull (light_cells p) (has from)

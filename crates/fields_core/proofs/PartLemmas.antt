@@ -212,11 +212,24 @@ none-undecided {p} {pieces} c at of counted none = false_from_ne_true _ (λ on.
     absurd (omega (arith, counted.undecided_is)))
 
 -- which bound is reached
-pub one-bound : {least most must : ℕ} (may v : ℕ) → must ≡ most → must < may → least ≤ most → v < 2 → at_bound least most must may v ≡ eqb v 1
+one-bound : {least most must : ℕ} (may v : ℕ) → must ≡ most → must < may → least ≤ most → v < 2 → at_bound least most must may v ≡ eqb v 1
 one-bound {least} {most} {must} may v reached room order low = grind (arith, common_steps, eq-eqb, ne_eqb)
 
-pub zero-bound : {least most must may v : ℕ} → (must ≡ most → ⊥) → may ≡ least → v < 2 → at_bound least most must may v ≡ eqb v 0
+zero-bound : {least most must may v : ℕ} → (must ≡ most → ⊥) → may ≡ least → v < 2 → at_bound least most must may v ≡ eqb v 0
 zero-bound {least} {most} {must} {may} ne reached low = grind (arith, common_steps, ne_eqb, eq-eqb)
+
+pub bound-reached : {least most must may value : ℕ} → ((least < may) × (most ≤ must)) ⊎ (may ≤ least) → least ≤ may → must ≤ most → must < may → least ≤ most
+    → (must ≡ most → value ≡ 1) → ((must ≡ most → ⊥) → value ≡ 0)
+    → (value < 2) × ((v : ℕ) → v < 2 → at_bound least most must may v ≡ eqb v value)
+bound-reached {least} {most} {must} {may} {value} reached enough spare room order one none = elim (cases_eq must most) [
+  | inl e ↦ (omega (arith, one e), λ v low. rw (one e) (one-bound may v e room order low))
+  | inr ne ↦
+      let last : may ≡ least = (elim reached [
+        | inl both ↦ absurd (ne (omega (arith, both.1, spare)))
+        | inr few ↦ omega (arith, few, enough)
+      ]) in
+      (omega (arith, none ne), λ v low. rw (none ne) (zero-bound ne last low))
+]
 
 pub no-bound : (a b : Bool) {least most must may : ℕ} (v : ℕ) → (must ≡ most → ⊥) → (may ≡ least → ⊥) → (a && (b && at_bound least most must may v)) ≡ false
 no-bound a b {least} {most} {must} {may} v ne nf = grind (arith, common_steps, ne_eqb)

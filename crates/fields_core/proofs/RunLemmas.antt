@@ -42,6 +42,27 @@ passing-range test start end (suc n) low before inside past =
     ]
 
 -- ---- the run around a number
+-- what is joined to a number lies in its run
+pub around-joined : (test : ℕ → Bool) {len at start end i : ℕ} → IsAround test len at start end → i < len → clear test at i ≡ true → (start ≤ i) × (i < end)
+around-joined test {len} {at} {start} {end} {i} on lt joined = (
+  elim (cases_lt i start) [
+    | inl below ↦ absurd (blocked below start refl)
+    | inr low ↦ low
+  ],
+  elim (cases_lt i end) [
+    | inl high ↦ high
+    | inr past ↦
+        let a = on.past in
+        absurd (true≢false (sym (clear-at test at i end joined (omega arith) (omega arith)) ∙ on.last (omega arith)))
+  ],
+)
+  where
+    blocked : i < start → (s : ℕ) → s ≡ start → ⊥
+    blocked below zero e = omega arith
+    blocked below (suc s) e =
+        let low = on.low in
+        true≢false (sym (clear-at test at i s joined (omega arith) (omega arith)) ∙ on.first s e)
+
 pub around-run : (test : ℕ → Bool) {len at start end : ℕ} → IsAround test len at start end → filter (clear test at) (range_with_len 0 len) ≡ range_with_len start (end - start)
 around-run test {len} {at} {start} {end} on =
     let low = on.low in
@@ -49,16 +70,9 @@ around-run test {len} {at} {start} {end} on =
     let high = on.high in
     let z : min len end ≡ end = omega arith in
     rw z at (passing-range (clear test at) start end len (omega arith)
-    (λ i below. false_from_ne_true (clear test at i) (λ joined. blocked i below joined start refl))
+    (λ i below. false_from_ne_true (clear test at i) (λ joined. omega (arith, (around-joined test on (omega arith) joined).0)))
     (λ i above below. clear-from test at i (λ k a b. on.pass k (omega arith) (omega arith)))
-    (λ i above below. false_from_ne_true (clear test at i) (λ joined.
-    true≢false (sym (clear-at test at i end joined (omega arith) (omega arith)) ∙ on.last (omega arith)))))
-  where
-    blocked : (i : ℕ) → i < start → clear test at i ≡ true → (s : ℕ) → s ≡ start → ⊥
-    blocked i below joined zero e = omega arith
-    blocked i below joined (suc s) e =
-        let low = on.low in
-        true≢false (sym (clear-at test at i s joined (omega arith) (omega arith)) ∙ on.first s e)
+    (λ i above below. false_from_ne_true (clear test at i) (λ joined. omega (arith, (around-joined test on below joined).1))))
 
 -- ---- the same along two ways of numbering one line
 pub filter-map : (f : ℕ → ℕ) (test : ℕ → Bool) (xs : List ℕ) → filter test (map f xs) ≡ map f (filter (λ x. test (f x)) xs)

@@ -1,6 +1,7 @@
 -- Visits of the squares of two rows of Tents.
-use Rattle.fields_core.proofs.Common.{AllByRecursion, ArePieces, Bool, eqb-true, lines_beside, number_of, piece_at, Extent, IsAlive, IsFurther, IsHouse, IsTents, Layers, Tents, [], and-false, and_from, and_parts, any_below, any_below-none, any_below-some, ap, arith, cases_Bool, cases_lt, common_steps, crosses, div-mul-add, eq-eqb, eqb, false, false≢true, fun_ext, further-none, has_bit, has_place, houses_below, inl, inr, le-ltb, lies_in, lies_in_first, list_any, lt-ltb, ltb, ltb-true, not, or_left, or_right, place-column, refl, square_house, suc, sym, tent_cells, true, true≢false, without_value, zero, ℕ, ◌%◌, ◌&&◌, ◌*◌, ◌+◌, ◌-◌, ◌/◌, ◌<◌, ◌||◌, ◌∙◌, ◌≡◌, ◌≢◌, ◌≤◌, ◌⊎◌, Candidates, mod-lt}
+use Rattle.fields_core.proofs.Common.{AllByRecursion, Bool, eqb-true, Extent, IsAlive, IsFurther, IsHouse, IsTents, Layers, Tents, [], and-false, and_from, and_parts, any_below, any_below-none, any_below-some, ap, arith, cases_Bool, cases_lt, common_steps, crosses, div-mul-add, eq-eqb, eqb, false, false≢true, fun_ext, further-none, has_bit, has_place, houses_below, inl, inr, le-ltb, lies_in, lies_in_first, list_any, lt-ltb, ltb, ltb-true, not, or_left, or_right, place-column, refl, square_house, suc, sym, covers, without_taking, tent_cells, true, true≢false, without_value, zero, ℕ, ◌%◌, ◌&&◌, ◌*◌, ◌+◌, ◌-◌, ◌/◌, ◌<◌, ◌||◌, ◌∙◌, ◌≡◌, ◌≢◌, ◌≤◌, ◌⊎◌, Candidates}
 unfoldable use Rattle.grid_core.specs.Planes.{bit_of, has}
+use Rattle.grid_core.specs.declared.planes.line.Line.TheVariants.{Row}
 use Rattle.fields_core.specs.Squares.{squares_of_row, two_rows}
 use Rattle.fields_core.specs.Visits.{AreVisited}
 use Rattle.fields_core.proofs.AtMostLemmas.{IsFull, IsOneAtMost, visits-met, visits-two, zeros_of}
@@ -21,29 +22,28 @@ lies-two w y near c = by (eqb (c / w) y) (eqb (c / w) (y + 1)) (has_bit near (c 
     by : (a b n : Bool) → ((false || (a && n)) || (b && n)) ≡ ((a || b) && n)
     by a b n = grind (arith, common_steps, cases_Bool a, cases_Bool b, cases_Bool n)
 
-pub rows-none : (w y room near : ℕ) (K : Candidates) → 0 < w → w ≤ room → any_below (has_bit near) room ≡ false
-    → K ≡ without_value w (two_rows y near) 2 1 K
-unfolding without_value
-rows-none w y room near K some narrow none = fun_ext λ c. fun_ext λ v.
-    rw (lies-two w y near c, any_below-none (has_bit near) room none (c % w) (omega (arith, mod-lt c some, narrow)))
-    (by (K c v) (eqb v 1) (K c 0) (in_rows w y c))
-  where
-    by : (k z o r : Bool) → k ≡ (k && not (z && (o && (r && false))))
-    by k z o r = grind (arith, common_steps, cases_Bool k, cases_Bool z, cases_Bool o, cases_Bool r)
+zero-here : (q : Layers) (c : ℕ) → has q c 0 ≡ bit_of q.rows (c / q.size.w) 0 (c % q.size.w)
+unfolding has
+zero-here q c = refl
 
-pub rows-apart : (size : Extent) (y near : ℕ) → y + 1 < size.h → ArePieces size (two_rows y near)
-unfolding lies_in crosses
-rows-apart size y near lt = record { lines_in = lines; apart = λ j k c lj lk on_j on_k. omega (arith, row j c lj on_j, row k c lk on_k) }
+-- ones taken from the cells of two rows at these places that have 0
+pub rows-struck : (from : Layers) (middle last : Candidates) (y near upper lower width : ℕ) → width ≡ from.size.w
+    → ((u : ℕ) → has_bit upper u ≡ (has_bit near u && bit_of from.rows y 0 u))
+    → ((u : ℕ) → has_bit lower u ≡ (has_bit near u && bit_of from.rows (y + 1) 0 u))
+    → middle ≡ without_taking from.size.w (has from) (record { line = Row y; value = 1; bits = upper })
+    → last ≡ without_taking width middle (record { line = Row (y + 1); value = 1; bits = lower })
+    → last ≡ without_value from.size.w (two_rows y near) 2 1 (has from)
+unfolding without_taking covers crosses without_value
+rows-struck from middle last y near upper lower width same upper_is lower_is first second = second ∙ fun_ext λ c. fun_ext λ v.
+    let w = from.size.w in
+    rw (same, first, lies-two w y near c, zero-here from c)
+    (by (has from c v) (eqb v 1) (eqb (c / w) y) (eqb (c / w) (y + 1)) (has_bit near (c % w)) (bit_of from.rows (c / w) 0 (c % w)) (has_bit upper (c % w)) (has_bit lower (c % w))
+    (λ on. upper_is (c % w) ∙ rw (eqb-true (c / w) y on) refl)
+    (λ on. lower_is (c % w) ∙ rw (eqb-true (c / w) (y + 1) on) refl))
   where
-    lines : (k : ℕ) → k < 2 → number_of (piece_at (two_rows y near) k).line < lines_beside size (piece_at (two_rows y near) k).line
-    lines zero less = omega arith
-    lines (suc zero) less = omega arith
-    lines (suc (suc k)) less = absurd (omega arith)
-
-    row : (k c : ℕ) → k < 2 → lies_in size.w (piece_at (two_rows y near) k) c ≡ true → c / size.w ≡ y + k
-    row zero c less on = omega (arith, eqb-true (c / size.w) y (and_parts _ _ on).0)
-    row (suc zero) c less on = omega (arith, eqb-true (c / size.w) (y + 1) (and_parts _ _ on).0)
-    row (suc (suc k)) c less on = absurd (omega arith)
+    by : (k z a b n o s t : Bool) → (a ≡ true → s ≡ (n && o)) → (b ≡ true → t ≡ (n && o))
+        → ((k && not (z && (a && s))) && not (z && (b && t))) ≡ (k && not (z && (o && ((a || b) && n))))
+    by k z a b n o s t e f = grind (arith, common_steps, cases_Bool k, cases_Bool z, cases_Bool a, cases_Bool b, cases_Bool n, cases_Bool o)
 
 -- words of the columns in which both cells of two rows have no 0, and of those in which one has none
 pub record AreMust (from : Layers) (w y room twice must : ℕ) : Type 0 where

@@ -1,8 +1,7 @@
 -- The next cell that a cell is joined to, and whether a tree is beside a cell: the cells beside a cell ascend by direction.
-use Rattle.fields_core.proofs.Common.{Bool, Extent, IsNext, List, None, Option, Some, Tents, ap, arith, cases_eq, cases_lt, common_steps, count_below, counted, false, false_from_ne_true, inl, inr, is_barred, list_any, may_pair, not, refl, slice_index, step, steps, sym, tent_cells, tree, tree_beside, tree_count, trees_of, true, true≢false, ℕ, ◌+◌, ◌<◌, ◌∙◌, ◌≡◌, ◌≤◌}
+use Rattle.fields_core.proofs.Common.{Bool, IsNext, List, None, Option, Some, Tents, ap, arith, cases_eq, cases_lt, common_steps, count_below, counted, false, false_from_ne_true, inl, inr, is_barred, list_any, may_pair, not, refl, slice_index, step, steps, sym, tent_cells, tree, tree_beside, tree_count, trees_of, true, true≢false, ℕ, ◌+◌, ◌<◌, ◌∙◌, ◌≡◌, ◌≤◌}
 use Rattle.std.specs.Prelude.{MatchOption}
 use Rattle.fields_core.proofs.StepLaws.{some-inj, ascends, steps-some}
-use Rattle.fields_core.proofs.BelowLemmas.{any-here, any-none}
 use Rattle.fields_core.proofs.TentBeside.{steps-has}
 use Rattle.fields_core.proofs.TentNumbers.{passing-long, passing-at, at-passing}
 
@@ -65,20 +64,7 @@ unfolding may_pair
 next-joined p tents l from c None e next = λ r ge lt on. true≢false (sym (rw (sym e) at on) ∙ next r ge lt)
 next-joined p tents l from c (Some d) e next = (next.0, next.1, rw (sym e) next.2, λ q ge lt on. true≢false (sym (rw (sym e) at on) ∙ next.3 q ge lt))
 
--- ---- whether a cell that passes is beside a cell
--- none in the first n directions does
-pub record AreNoneOf (test : ℕ → Bool) (size : Extent) (c n : ℕ) : Type 0 where
-  pub none : (k d : ℕ) → k < n → step size c k ≡ Some d → test d ≡ false
-
-pub none-beside : (test : ℕ → Bool) (size : Extent) (c n : ℕ) → AreNoneOf test size c n → 4 ≤ n → false ≡ list_any test (steps size c 4)
-none-beside test size c n passed ge =
-    sym (any-none test _
-    (λ d on. let s = steps-some size c 4 d on in let lt = s.1 in
-    passed.none s.0 d (omega arith) s.2))
-
-pub one-beside : (test : ℕ → Bool) (size : Extent) (c n other : ℕ) → n < 4 → Some other ≡ step size c n → test other ≡ true → true ≡ list_any test (steps size c 4)
-one-beside test size c n other lt at on = sym (any-here test _ other (steps-has size c 4 n lt (sym at)) on)
-
+-- ---- whether a cell can have no tent
 pub barred-tree : (p : Tents) (c : ℕ) → tree p c ≡ true → true ≡ is_barred p c
 unfolding is_barred
 barred-tree p c on = rw on refl

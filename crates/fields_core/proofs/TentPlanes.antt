@@ -1,5 +1,5 @@
 -- Tents on planes: the sides that the memory is for, and what a closing asks of planes.
-use Rattle.std.proofs.Common.{◌≡◌, ◌∙◌, ℕ, zero, suc, ◌+◌, ◌-◌, ◌<◌, ◌≤◌, ◌⊎◌, List, [], ◌∷◌, ◌++◌, length, get_or, slice_index, refl, ap, arith}
+use Rattle.std.proofs.Common.{◌≡◌, ◌∙◌, ℕ, zero, suc, ◌+◌, ◌-◌, ◌<◌, ◌≤◌, List, [], ◌∷◌, ◌++◌, length, map, get_or, slice_index, refl, ap, arith}
 use Rattle.std.proofs.Common.{sym}
 use Rattle.std.proofs.lemmas.Bool.{cases_Bool, false_from_ne_true, true≢false}
 use Rattle.std.proofs.lemmas.Grind.{common_steps}
@@ -8,14 +8,13 @@ use Rattle.grid_core.specs.Candidates.{Candidates, IsInside, all_of}
 use Rattle.grid_core.specs.Regions.{row_places, column_places}
 use Rattle.grid_core.specs.Planes.{Layers, has}
 use Rattle.engine_core.specs.RuleSystem.{needs_of}
-use Rattle.engine_core.specs.ClosingList.{IsAlive}
 use Rattle.engine_core.proofs.StoreLemmas.{scope_le-longest}
 use Rattle.gameid_core.specs.Puzzles.{Tents, IsTents}
 use Rattle.fields_core.proofs.HouseLists.{row-long, column-long}
-use Rattle.fields_core.specs.AnyPlanes.{IsSuited, places_of}
+use Rattle.fields_core.specs.AnyPlanes.{HasBoard}
 use Rattle.fields_core.specs.CountHouse.{CountHouse, exactly, no_count_house, houses_below, start_of}
 use Rattle.fields_core.specs.TentHouses.{is_barred, tent_rules, tent_houses, column_of_tents, row_of_tents, tree_house, square_house}
-use Rattle.fields_core.specs.TentNotes.{AreWritten, trees_in}
+use Rattle.fields_core.specs.TentNotes.{AreTentsWritten}
 use Rattle.fields_core.specs.Tents.{tent_cells}
 use Rattle.fields_core.specs.Trees.{AreBare}
 use Rattle.fields_core.specs.Visits.{IsFieldOf}
@@ -69,14 +68,14 @@ unfolding start_of is_barred
 bare-inside p K inside c is = false_from_ne_true (K c 1) (λ on. true≢false (sym (inside c 1 on) ∙ rw is (grind (arith, common_steps, cases_Bool (all_of (tent_cells p) 2 c 1)))))
 
 -- what a closing asks of planes
-pub field-of : (p : Tents) (kept : TentNotes ℕ ⊎ TentNotes ℕ) (planes : Layers) → IsSuited p.size (places_of kept) → AreWritten p kept
-    → planes.size ≡ p.size → IsAlive (tent_rules p) (has planes) → IsInside (has planes) (tent_rules p).start → IsFieldOf (places_of kept) p planes (trees_in kept)
-field-of p kept planes suited is size alive inside = record {
-  lawful = is.lawful;
-  narrow = suited.0;
-  low = suited.1;
-  size = size;
-  trees = is.trees;
-  bare = bare-inside p (has planes) inside;
-  alive = alive-each p planes size alive;
+pub field-of : {W : Type 0} {bits : W → ℕ} {room : ℕ} {p : Tents} {notes : TentNotes W} {planes : Layers} → AreTentsWritten bits p notes
+    → HasBoard (tent_rules p) p.size room planes → IsFieldOf room p planes (map bits notes.trees.items)
+field-of {p = p} {planes = planes} written has_board = record {
+  lawful = written.lawful;
+  narrow = has_board.suited.0;
+  low = has_board.suited.1;
+  size = has_board.same_size;
+  trees = written.trees;
+  bare = bare-inside p (has planes) has_board.board.inside;
+  alive = alive-each p planes has_board.same_size has_board.board.alive;
 }

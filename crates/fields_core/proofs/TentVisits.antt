@@ -18,7 +18,7 @@ use Rattle.fields_core.proofs.VisitLemmas.{among-one, among-front, among-back, a
 
 -- ---- the houses of Tents are houses
 module _ (p : Tents) (lawful : IsTents p) where
-  column-is : {x : ℕ} → x < p.size.w → IsHouse (tent_cells p)
+  pub column-is : {x : ℕ} → x < p.size.w → IsHouse (tent_cells p)
       (exactly (slice_index p.counts x) (column_places p.size x))
   unfolding tent_houses
   column-is {x} lt =
@@ -26,7 +26,7 @@ module _ (p : Tents) (lawful : IsTents p) where
       (among-front _ (houses_below (column_of_tents p) p.size.w) _
       (among-below _ (column_of_tents p) x p.size.w lt (among-one _)))
 
-  row-is : {y : ℕ} → y < p.size.h → IsHouse (tent_cells p)
+  pub row-is : {y : ℕ} → y < p.size.h → IsHouse (tent_cells p)
       (exactly (slice_index p.counts (p.size.w + y)) (row_places p.size y))
   unfolding tent_houses
   row-is {y} lt =
@@ -71,7 +71,7 @@ column-visited p x bits ones from to fills lawful size lt is count visit alive f
     (let tall = lawful.size.extent.h_low in omega (arith, column-long p.size x)) told.0 told.1 alive further
 
 pub row-visited : (p : Tents) (y bits ones : ℕ) (from to : Layers) (fills : Bool) → IsTents p
-    → from.size ≡ p.size → y < p.size.h → ((k : ℕ) → has_bit bits k ≡ ltb k p.size.w)
+    → from.size ≡ p.size → y < p.size.h → ((k : ℕ) → k < p.size.w → has_bit bits k ≡ true)
     → ones ≡ slice_index p.counts (p.size.w + y)
     → IsVisitOf (record { line = Row y; bits = bits } ∷ []) ones ones from to fills → IsAlive to
     → IsFurther from to → AreVisited (row_of_tents p y) from to fills

@@ -15,14 +15,13 @@ use Rattle.fields_core.specs.Squares.{squares_of_row}
 use Rattle.fields_core.specs.TentHouses.{is_barred, column_of_tents, row_of_tents, square_house, tent_houses, tent_rules}
 use Rattle.fields_core.specs.Tents.{solves_tents}
 use Rattle.fields_core.specs.Trees.{trees_of_row}
-use Rattle.fields_core.specs.Visits.{AreVisited}
 use Rattle.fields_core.specs.Waits.{AreIdle, AreRested, AreWoken, kind_houses, kind_lines, waiting}
 use Rattle.fields_core.specs.declared.planes.waits.Kind.{Kind}
 use Rattle.fields_core.specs.declared.planes.waits.Kind.TheVariants.{Columns, Rows, Trees, Squares}
 use Rattle.fields_core.specs.declared.planes.waits.Waits.{Waits}
 use Rattle.fields_core.proofs.AnyOrder.{IsSingle, singles-kept}
 use Rattle.fields_core.proofs.AtMostLemmas.{IsFull}
-use Rattle.fields_core.proofs.IdleLemmas.{any_has, any-below, any-none, any-one, idle-far, visited-skip}
+use Rattle.fields_core.proofs.IdleLemmas.{any_has, any-below, any-none, any-one, idle-far}
 use Rattle.fields_core.proofs.LitIdle.{IsAll, alls-kept}
 use Rattle.fields_core.proofs.PartLemmas.{value-in}
 use Rattle.fields_core.proofs.RunBegins.{all-houses}
@@ -36,14 +35,14 @@ use Rattle.fields_core.proofs.TreeBoards.{trees-are}
 
 -- ---- where houses lie
 module _ (p : Tents) (c : ℕ) (pos : 0 < p.size.w) where
-  column-lies : {x : ℕ} → x < p.size.w → any_has (column_of_tents p x) c ≡ true → c % p.size.w ≡ x
+  pub column-lies : {x : ℕ} → x < p.size.w → any_has (column_of_tents p x) c ≡ true → c % p.size.w ≡ x
   column-lies {x} lt on =
       let w = has_place-at (column_places p.size x) c (any-one _ c on) in
       let lk : w.0 < p.size.h = omega (arith, w.1, length-map-range_with_len (λ y. y * p.size.w + x) 0 p.size.h) in
       let at : w.0 * p.size.w + x ≡ c = sym (get_or-map-range_with_len (λ y. y * p.size.w + x) 0 p.size.h w.0 w.0 0 lk (omega arith)) ∙ w.2 in
       (cell-parts p.size.w w.0 x c lt (sym at)).1
 
-  row-lies : {y : ℕ} → any_has (row_of_tents p y) c ≡ true → c / p.size.w ≡ y
+  pub row-lies : {y : ℕ} → any_has (row_of_tents p y) c ≡ true → c / p.size.w ≡ y
   row-lies {y} on =
       let w = has_place-at (row_places p.size y) c (any-one _ c on) in
       let lk : w.0 < p.size.w = omega (arith, w.1, length-map-range_with_len (λ x. y * p.size.w + x) 0 p.size.w) in
@@ -148,7 +147,7 @@ module _ {W : Type 0} (bits : W → ℕ) {room : ℕ} (p : Tents) {before now : 
   waited Squares k off = (both_off (sym (woken.squares k) ∙ off)).0
 
 -- ---- the houses of trees and squares
-trees-each : (p : Tents) (y : ℕ) → IsTents p → y < p.size.h → AllByRecursion (IsAll (tent_cells p)) (trees_of_row p y)
+pub trees-each : (p : Tents) (y : ℕ) → IsTents p → y < p.size.h → AllByRecursion (IsAll (tent_cells p)) (trees_of_row p y)
 trees-each p y lawful lt = all-houses (IsAll (tent_cells p)) (λ x. tree_house p (y * p.size.w + x)) p.size.w (λ x less. by x less (cases_Bool (tree p (y * p.size.w + x))))
   where
     by : (x : ℕ) → x < p.size.w → (tree p (y * p.size.w + x) ≡ true) ⊎ (tree p (y * p.size.w + x) ≡ false)
@@ -156,7 +155,7 @@ trees-each p y lawful lt = all-houses (IsAll (tent_cells p)) (λ x. tree_house p
     by x less (inr off) = rw off tt
     by x less (inl is) = rw is (record { is = tree-is p lawful (place-in p.size.w p.size.h y x lt less) is; same = refl }, tt)
 
-squares-each : (p : Tents) (y : ℕ) → IsTents p → y < p.size.h → AllByRecursion (IsSingle (tent_cells p)) (squares_of_row p y)
+pub squares-each : (p : Tents) (y : ℕ) → IsTents p → y < p.size.h → AllByRecursion (IsSingle (tent_cells p)) (squares_of_row p y)
 squares-each p y lawful lt = all-houses (IsSingle (tent_cells p)) (λ x. square_house p (y * p.size.w + x)) p.size.w (λ x less. by x less (cases_Bool _))
   where
     by : (x : ℕ) → x < p.size.w → ((ltb ((y * p.size.w + x) % p.size.w + 1) p.size.w && ltb ((y * p.size.w + x) / p.size.w + 1) p.size.h) ≡ true)
@@ -272,10 +271,3 @@ place-room {room} p {planes} {from} {place} are size is closed =
     let pos : 0 < p.size.w = rw (← size) (omega (arith, are.lawful.w_low)) in
     let low : p.size.h ≤ room = rw (← size) are.low in
     omega (arith, low, row-in p.size.h place pos around.place_in)
-
--- houses that do not wait are passed
-pub waits-skip : {W : Type 0} (bits : W → ℕ) (p : Tents) (kind : Kind) (waits : Waits W) {from to : Layers} {n m : ℕ} → n ≤ m → m ≤ kind_lines p kind
-    → AreRested bits p waits (has to) → ((k : ℕ) → n ≤ k → k < m → has_bit (waiting bits waits kind) k ≡ false)
-    → AreVisited (houses_below (kind_houses p kind) n) from to true → AreVisited (houses_below (kind_houses p kind) m) from to true
-waits-skip bits p kind waits le most rested none visited =
-    visited-skip (kind_houses p kind) le visited (λ k at lt. rested kind k (omega (arith, lt, most)) (none k at lt))

@@ -1,5 +1,5 @@
 -- Words of the cells of a row and of those beside them.
-use Rattle.fields_core.proofs.Common.{ne_eqb, or-false, and-false, or-true, Bool, Candidates, Extent, Layers, List, None, Some, and_from, and_parts, any_below-here, any_below-some, ap, arith, cases_Bool, cases_eq, cases_lt, common_steps, cond, count_by, covers, crosses, div-add-mod', div-mul-add, eq-eqb, eqb, eqb-true, false, fun_ext, get_or, get_or-map, get_or-set_other, get_or-set_same, has_bit, has_place, if_there, inl, inr, le-ltb, length, length-map, lt-ltb, ltb, ltb-true, map, mod-lt, not, or_cases, or_left, or_right, place-column, refl, set, slice_index, step, steps, suc, sym, true, without_taking, zero, ℕ, ◌%◌, ◌&&◌, ◌*◌, ◌++◌, ◌+◌, ◌-◌, ◌/◌, ◌<◌, ◌||◌, ◌∙◌, ◌≡◌, ◌≤◌, any_below, any_below-none, false_from_ne_true, true≢false}
+use Rattle.fields_core.proofs.Common.{ne_eqb, or-false, and-false, or-true, Bool, Candidates, Extent, Layers, List, None, Some, and_from, and_parts, any_below-here, any_below-some, ap, arith, cases_Bool, cases_eq, cases_lt, common_steps, cond, count_by, covers, crosses, div-add-mod', div-mul-add, eq-eqb, eqb, eqb-true, false, fun_ext, get_or, get_or-map, get_or-set_other, get_or-set_same, has_bit, has_place, if_there, inl, inr, le-ltb, length, length-map, lt-ltb, ltb, ltb-true, map, mod-lt, not, or_cases, or_left, or_right, place-column, refl, set, slice_index, step, steps, suc, sym, true, without_taking, zero, ℕ, ◌%◌, ◌&&◌, ◌*◌, ◌++◌, ◌+◌, ◌-◌, ◌/◌, ◌<◌, ◌||◌, ◌∙◌, ◌≡◌, ◌≤◌, false_from_ne_true}
 use Rattle.std.proofs.lemmas.List.Sums.{sum_by-append}
 use Rattle.grid_core.specs.Planes.{bit_of, has}
 use Rattle.grid_core.specs.Regions.{beside}
@@ -273,21 +273,6 @@ module _ {W : Type 0} (bits : W → ℕ) (room : ℕ) (size : Extent) (passes : 
       let w = any_below-some _ size.w parts.1 in
       let both = and_parts _ _ w.2 in
       to-taken w.0 w.1 both.0 parts.0 both.1)
-
--- no place, and no cell beside one
-pub zeros-kept : (size : Extent) (y room : ℕ) (places passes : ℕ → Bool) (K : Candidates) → size.w ≤ room
-    → any_below places room ≡ false → K ≡ without_zeros (λ c. passes c && is_beside size y places size.w c) K
-unfolding without_zeros is_beside
-zeros-kept size y room places passes K narrow none = fun_ext λ c. fun_ext λ v.
-    rw (apart c) (by (K c v) (eqb v 0) (passes c))
-  where
-    apart : (c : ℕ) → any_below (λ x. places x && has_place (beside size (y * size.w + x)) c) size.w ≡ false
-    apart c = false_from_ne_true _ (λ on.
-        let w = any_below-some _ size.w on in
-        true≢false (sym (and_parts _ _ w.2).0 ∙ any_below-none places room none w.0 (omega (arith, w.1, narrow))))
-
-    by : (k z p : Bool) → k ≡ (k && not (z && (p && false)))
-    by k z p = grind (arith, common_steps, cases_Bool k, cases_Bool z, cases_Bool p)
 
 pub zeros-taken : (w w₂ w₃ above y below over own under : ℕ) (passes : ℕ → Bool) (K K₁ K₂ K₃ : Candidates)
     → K₁ ≡ without_taking w K (record { line = Row above; value = 0; bits = over })

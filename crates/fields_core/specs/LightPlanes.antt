@@ -18,10 +18,10 @@ pub record HasTables {W : Type 0} (cells lines : ℕ) (t : LightTables W) : Type
   pub row_runs : cells ≤ length t.row_runs.items
   pub column_runs : cells ≤ length t.column_runs.items
 
--- and for what waits of the lines
+-- and words of the lines beside them
 pub record HasLightRoom {W : Type 0} (cells lines : ℕ) (notes : LightNotes W) : Type 0 where
   pub tables : HasTables cells lines notes.tables
-  pub lit : lines ≤ length notes.waits.lit.items
+  pub safe : lines ≤ length notes.safe.items
 
 -- the words of the rows are those of the puzzle
 pub record AreRowTables {W : Type 0} (bits : W → ℕ) (p : Light) (t : LightTables W) : Type 0 where
@@ -36,6 +36,11 @@ pub record AreTables {W : Type 0} (bits : W → ℕ) (p : Light) (t : LightTable
   pub columns : AreColumnsOf p.size (white p) (map bits t.columns.items)
   pub numbers : AreRowsOf p.size (is_numbered p) (map bits t.numbers.items)
 
+-- and the puzzle is lawful
+pub record AreLightsWritten {W : Type 0} (bits : W → ℕ) (p : Light) (notes : LightNotes W) : Type 0 where
+  pub lawful : IsLight p
+  pub tables : AreTables bits p notes.tables
+
 -- planes of the puzzle on words of so many places, in which each cell has a value
 pub record ArePlanesOf (room : ℕ) (p : Light) (planes : Layers) : Type 0 where
   pub lawful : IsLight p
@@ -47,4 +52,4 @@ pub record ArePlanesOf (room : ℕ) (p : Light) (planes : Layers) : Type 0 where
 -- the words of the puzzle are the same, and there is as much room
 pub record IsKept {W : Type 0} (before now : LightNotes W) : Type 0 where
   pub tables : now.tables ≡ before.tables
-  pub lit : length now.waits.lit.items ≡ length before.waits.lit.items
+  pub safe : length now.safe.items ≡ length before.safe.items

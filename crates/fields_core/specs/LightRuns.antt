@@ -20,10 +20,24 @@ IsLatest test len at run =
     (at < run.1 → IsAround test len at run.0 run.1)
     × (run.1 ≤ at → at < len → test at ≡ true → (i : ℕ) → suc i ≡ at → test i ≡ false)
 
--- the house of the run that begins at the cell of number `at` along a line, if one does
+-- which cells of a line are white, by number
+abbrev pub line_white : Light → ℕ → ℕ → ℕ → Bool
+line_white p first stride i = white p (first + i * stride)
+
+-- its cells from one number to the one before another
+abbrev pub line_cells : ℕ → ℕ → ℕ → ℕ → List ℕ
+line_cells first stride from to =
+    map (λ k. first + from * stride + k * stride) (range_with_len 0 (to - from))
+
+-- a run begins at a cell of a line: it is white, and the cell before it is black or past the edge
+abbrev pub begins_at : Light → ℕ → ℕ → ℕ → Bool
+begins_at p first stride at =
+    white p (first + at * stride) && ((at == 0) || not (white p (first + at * stride - stride)))
+
+-- the house of that run, if one begins there
 abbrev pub run_house : Light → ℕ → ℕ → ℕ → ℕ → List CountHouse
 run_house p first stride len at =
-    if white p (first + at * stride) && ((at == 0) || not (white p (first + at * stride - stride)))
+    if begins_at p first stride at
     then one_at_most (map (λ i. first + i * stride)
-    (filter (clear (λ i. white p (first + i * stride)) at) (range_with_len 0 len))) ∷ []
+    (filter (clear (line_white p first stride) at) (range_with_len 0 len))) ∷ []
     else []

@@ -1,13 +1,11 @@
 -- Planes with their trail as a position. No public contract uses these words.
 use Rattle.std.specs.Prelude.{◌≡◌, ℕ, Option, Some, None, ◌*◌, ◌<◌, ◌≤◌, ◌⊎◌, List, length}
-use Rattle.grid_core.specs.Candidates.{Candidates, IsInside, IsWithin}
 use Rattle.grid_core.specs.Extent.{Extent}
 use Rattle.grid_core.specs.Planes.{Layers, has, cells_of, back_at}
 use Rattle.engine_core.specs.RuleSystem.{RuleSystem, Needs, needs_of, FitsIn}
-use Rattle.engine_core.specs.ClosingList.{IsAlive}
 use Rattle.engine_core.specs.Position.{Standing}
 use Rattle.engine_core.specs.TrailPosition.{mark_at, AreMarks}
-use Rattle.fields_core.specs.AnyPlanes.{kept_in, layers_in, places_of, IsSuited}
+use Rattle.fields_core.specs.AnyPlanes.{kept_in, layers_in, places_of, AreEnough, IsBoard, IsSuited}
 use Rattle.fields_core.specs.declared.planes.any.AnyPlanes.{AnyPlanes}
 
 -- what the memory was taken for, the planes with their trail, what is kept beside them, and the mark of each level: so many
@@ -19,16 +17,22 @@ pub record PlacedPlanes (S L : Type 0) : Type 0 where
   pub marks : List ℕ
   pub marked : ℕ
 
--- there is room for each step of a board of so many cells and values, and for a mark at each cell
-pub record ArePlaced (made : Needs) (planes : Layers) (marks : List ℕ) : Type 0 where
-  pub steps : length planes.takings ≡ made.cells * made.values
-  pub marks_long : length marks ≡ made.cells
+-- planes with room for each step of a board of so many cells and values
+abbrev pub HasRoom : {S L : Type 0} → (S ⊎ L → Needs → Type 0) → Needs → AnyPlanes S L → Type 0
+HasRoom fits made planes =
+    (length (layers_in planes).takings ≡ made.cells * made.values) × fits (kept_in planes) made
 
 -- planes to change for have the same room
 abbrev pub IsSpare : {S L : Type 0} → (S ⊎ L → Needs → Type 0) → Needs → Option (AnyPlanes S L) → Type 0
 IsSpare fits made None = Unit {0}
-IsSpare fits made (Some planes) =
-    (length (layers_in planes).takings ≡ made.cells * made.values) × fits (kept_in planes) made
+IsSpare fits made (Some planes) = HasRoom fits made planes
+
+-- planes, and those to change for
+pub record ArePlanes {S L : Type 0} (fits : S ⊎ L → Needs → Type 0) (all_short : Needs → Type 0)
+    (made : Needs) (planes : AnyPlanes S L) (spare : Option (AnyPlanes S L)) : Type 0 where
+  pub room : HasRoom fits made planes
+  pub spare_room : IsSpare fits made spare
+  pub enough : AreEnough all_short made planes spare
 
 -- what a walk sees of it
 abbrev pub standing_by : Layers → List ℕ → ℕ → Standing
@@ -37,12 +41,6 @@ standing_by p marks live =
 
 abbrev pub standing_of : {S L : Type 0} → PlacedPlanes S L → Standing
 standing_of s = standing_by s.planes s.marks s.marked
-
--- a board of the puzzle, inside the one that a search starts from, that has a value in each cell
-pub record IsBoard (p : RuleSystem) (K : Candidates) : Type 0 where
-  pub alive : IsAlive p K
-  pub within : IsWithin p.cells p.values K
-  pub inside : IsInside K p.start
 
 -- a walk is under way, on planes of that size, and what is kept is the puzzle's own
 pub record IsUnderWay {S L : Type 0} (p : RuleSystem) (size : Extent) (is_own : S ⊎ L → Type 0)

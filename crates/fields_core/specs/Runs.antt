@@ -1,4 +1,4 @@
--- Runs of numbers that pass a test, and which of the numbers of a line see others. No public contract uses these words.
+-- Runs of numbers that pass a test, and whether a number of a line sees a bulb. No public contract uses these words.
 use Rattle.std.specs.Prelude.{◌≡◌, ◌≢◌, ℕ, suc, ◌<◌, ◌≤◌, Bool, true, false, List}
 use Rattle.fields_core.specs.Light.{bulb, clear}
 
@@ -15,14 +15,7 @@ pub record RunsBack (test : ℕ → Bool) (at start : ℕ) : Type 0 where
   pub pass : (i : ℕ) → start ≤ i → i < at → test i ≡ true
   pub edge : (i : ℕ) → suc i ≡ start → test i ≡ false
 
--- whether one of the numbers from low to the one before high has a bulb, and from `at` to it all are white
-abbrev pub Shines : (ℕ → Bool) → (ℕ → Bool) → ℕ → ℕ → ℕ → Bool → Type 0
-Shines white bulb at low high true =
-    (i : ℕ) × (low ≤ i) × (i < high) × (clear white at i ≡ true) × (bulb i ≡ true)
-Shines white bulb at low high false =
-    (i : ℕ) → low ≤ i → i < high → clear white at i ≡ true → bulb i ≡ false
-
--- the same of all other numbers below len
+-- whether one of the other numbers below len has a bulb, and from `at` to it all are white
 abbrev pub ShinesAlong : (ℕ → Bool) → (ℕ → Bool) → ℕ → ℕ → Bool → Type 0
 ShinesAlong white bulb at len true =
     (i : ℕ) × (i < len) × (i ≢ at) × (clear white at i ≡ true) × (bulb i ≡ true)

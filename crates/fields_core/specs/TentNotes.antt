@@ -1,22 +1,18 @@
 -- What Tents keeps beside planes. No public contract uses these words.
-use Rattle.std.specs.Prelude.{ℕ, ◌≤◌, ◌⊎◌, List, length, map}
-use Rattle.std.proofs.Common.{inl, inr}
-use Rattle.engine_core.specs.RuleSystem.{Needs}
+use Rattle.std.specs.Prelude.{ℕ, map}
+use Rattle.grid_core.specs.Planes.{Layers, has}
 use Rattle.gameid_core.specs.Puzzles.{Tents, IsTents}
-use Rattle.fields_core.specs.AnyPlanes.{places_of}
 use Rattle.fields_core.specs.Trees.{AreRowsOf, wants_tent}
+use Rattle.fields_core.specs.Visits.{IsFieldOf}
+use Rattle.fields_core.specs.Waits.{AreRested}
 use Rattle.fields_core.specs.declared.planes.notes.TentNotes.{TentNotes}
 
--- the trees of each row, as bits
-abbrev pub trees_in : TentNotes ℕ ⊎ TentNotes ℕ → List ℕ
-trees_in (inl notes) = map (λ word. word) notes.trees.items
-trees_in (inr notes) = map (λ word. word) notes.trees.items
-
--- each row of such words has one for its trees
-abbrev pub HaveRoom : TentNotes ℕ ⊎ TentNotes ℕ → Needs → Type 0
-HaveRoom kept needs = places_of kept ≤ length (trees_in kept)
-
--- they are the trees of the puzzle that want a tent
-pub record AreWritten (p : Tents) (kept : TentNotes ℕ ⊎ TentNotes ℕ) : Type 0 where
+-- the words are the trees of the puzzle that want a tent
+pub record AreTentsWritten {W : Type 0} (bits : W → ℕ) (p : Tents) (notes : TentNotes W) : Type 0 where
   pub lawful : IsTents p
-  pub trees : AreRowsOf p.size (wants_tent p) (trees_in kept)
+  pub trees : AreRowsOf p.size (wants_tent p) (map bits notes.trees.items)
+
+-- planes of a puzzle, with its trees; what does not wait is idle
+pub record AreTentsReady {W : Type 0} (bits : W → ℕ) (room : ℕ) (p : Tents) (planes : Layers) (notes : TentNotes W) : Type 0 where
+  pub field : IsFieldOf room p planes (map bits notes.trees.items)
+  pub rested : AreRested bits p notes.waits (has planes)

@@ -4,5 +4,4 @@ pub(crate) mod game;
 pub(crate) mod house;
 pub(crate) mod name;
 pub(crate) mod rules;
-pub(crate) mod run;
 pub(crate) mod tally;

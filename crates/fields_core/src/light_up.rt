@@ -4,6 +4,7 @@ pub(crate) mod cells;
 pub(crate) mod check;
 pub(crate) mod fault;
 pub(crate) mod houses;
+pub(crate) mod line;
 pub(crate) mod lonely;
 pub(crate) mod planes;
 pub(crate) mod rules;

@@ -1,6 +1,7 @@
 //! What only a game knows of rules whose houses count the ones of their cells.
 
 ghost use Rattle.std.specs.Prelude.{◌≡◌, ℕ, ◌<◌, IfOk, List, [], ◌∷◌, length};
+ghost use Rattle.grid_core.specs.Extent.{Extent};
 ghost use Rattle.grid_core.specs.Grids.{IsGrid};
 ghost use Rattle.fields_core.specs.CountHouse.{CountHouse, CountPuzzle, IsCounted};
 ghost use Rattle.fields_core.specs.Houses.{house_told, AreNamed};
@@ -20,6 +21,9 @@ pub trait CountGame: Drop + Sized {
 
     /// What it counts.
     ghost counts: { Self → CountPuzzle };
+
+    /// The size of its grid.
+    ghost extent: { Self → Extent };
 
     /// The house of that kind which a place or a line tells, if there is one.
     ghost told: { Self → Self.Kind → ℕ → List CountHouse };

@@ -6,7 +6,7 @@ ghost use Rattle.std.specs.List.{range_with_len};
 ghost use Rattle.engine_core.specs.RuleSystem.{has_place};
 ghost use Rattle.grid_core.specs.Regions.{beside as beside_places, row_places, column_places};
 ghost use Rattle.fields_core.specs.CountHouse.{exactly, one_at_least, one_at_most};
-ghost use Rattle.fields_core.specs.Houses.{TestsBelow, bounds_of, house_told, places_of, segment_places};
+ghost use Rattle.fields_core.specs.Houses.{TestsBelow, house_told, places_of, segment_places};
 
 use grid_core::{Size, step};
 
@@ -91,8 +91,8 @@ pub struct Bounds {
 /// The cells of four segments, one segment after another, and the bounds of the ones among them.
 #[derive(Clone, Copy)]
 pub struct House {
-    cells: [Segment; 4],
-    bounds: Bounds,
+    pub(crate) cells: [Segment; 4],
+    pub(crate) bounds: Bounds,
 }
 
 impl House {
@@ -155,13 +155,6 @@ impl House {
             }
         }
         false
-    }
-
-    /// Its bounds.
-    pub(crate) fn bounds(&self) -> Bounds
-        ensures { result ≡ bounds_of (house_told self.now) }
-    {
-        self.bounds
     }
 }
 

@@ -1,11 +1,10 @@
 //! The rules of a puzzle of count houses.
 #![tactic(auto, using(crate::proofs::LawSets::count_rules_laws))]
 
-ghost use Rattle.std.specs.Prelude.{◌≡◌, ℕ, ◌<◌, ◌≤◌, ◌^◌, IfOk, true, false, refl, length, map, slice_index};
+ghost use Rattle.std.specs.Prelude.{◌≡◌, ◌<◌, IfOk, true, false, refl, length};
 ghost use Rattle.engine_core.specs.Closing.{HasStruck};
 ghost use Rattle.engine_core.specs.declared.mode.Mode.TheVariants.{Sweep};
 ghost use Rattle.grid_core.specs.Board.{cells_of, has, SameShape};
-ghost use Rattle.grid_core.specs.Candidates.{max_cells};
 ghost use Rattle.fields_core.specs.CountHouse.{IsCounted, IsHouse, after_house, count_house_of, rules_of, start_of};
 ghost use Rattle.engine_core.specs.RuleSystem.{needs_of};
 ghost use Rattle.fields_core.specs.Houses.{house_told, AreNamed};
@@ -14,7 +13,7 @@ use crate::count::game::CountGame;
 use crate::count::house::House;
 use crate::count::name::{HouseName, longest_of};
 use crate::count::tally::Tally;
-use engine_core::{Mode, Rules, apply, gather};
+use engine_core::{Mode, Rules};
 use grid_core::{Board, Grid};
 use std::alloc::{AllocError, Global};
 
@@ -27,16 +26,6 @@ pub struct CountRules<P: CountGame> {
     ghost counting: { IsCounted (P.counts puzzle) },
     ghost named: { AreNamed (P.told puzzle) names.items (P.counts puzzle).houses },
     ghost long: { longest ≡ (needs_of (rules_of (P.counts puzzle))).scope },
-}
-
-/// What a visit works in: the places of a house's cells, their sets and what is kept of these. With it goes what the test of
-/// a grid works in.
-#[derive(Drop)]
-pub struct CountScratch<W: Drop> {
-    places: Vec<u32>,
-    sets: Vec<u32>,
-    kept: Vec<u32>,
-    work: W,
 }
 
 impl<P: CountGame> CountRules<P> {
@@ -104,55 +93,33 @@ fn write_start<P: CountGame>(puzzle: &P, board: &mut Board)
     }
 }
 
-/// Writes the places of the house's cells.
-fn list_places(house: &House, places: &mut [u32])
-    requires small { (k : ℕ) → k < length places.old
-        → slice_index (house_told house.now).places k < 2 ^ 32 }
-    requires room { length places.old ≡ length (house_told house.now).places }
-    ensures { places.new ≡ (house_told house.now).places }
-{
-    for k in 0..places.len() {
-        places[k] = house.place(k) as u32;
-    }
-}
-
-/// Strikes from the house's cells what it strikes. The last three are room.
-fn strike(
-    house: &House,
-    board: &mut Board,
-    places: &mut [u32],
-    sets: &mut [u32],
-    kept: &mut [u32],
-) -> bool
-    requires few { cells_of board.old ≤ max_cells }
+/// Strikes from the house's cells what it strikes, and says whether that was anything.
+fn strike(house: &House, board: &mut Board) -> bool
     requires lawful { IsHouse (cells_of board.old) (house_told house.now) }
     requires values { board.old.values ≡ 2 }
-    requires places_room { length (house_told house.now).places ≤ length places.old }
-    requires sets_room { length (house_told house.now).places ≤ length sets.old }
-    requires kept_room { length (house_told house.now).places ≤ length kept.old }
     ensures left { has board.new ≡ after_house (house_told house.now) (has board.old) }
     ensures shape { SameShape board.old board.new }
     ensures unchanged { result ≡ false → has board.new ≡ has board.old }
     ensures changed { result ≡ true → HasStruck (has board.old) (has board.new) }
 {
-    let cells = house.len();
-    let (places, sets, kept) = (&mut places[..cells], &mut sets[..cells], &mut kept[..cells]);
-    list_places(house, places);
-    gather(board, places, sets);
-    let tally = Tally::of_sets(sets);
-    if !tally.calls(house.bounds()) {
+    let tally = Tally::of(house, board);
+    if !tally.calls(house.bounds) {
         return false;
     }
-    tally.keep(house.bounds(), sets, kept);
-    apply(board, places, kept)
+    let mut struck = false;
+    for k in 0..house.len() {
+        let place = house.place(k);
+        let both = board.has(place, 0) & board.has(place, 1);
+        struck |= board.retain(place, tally.kept(house.bounds, both));
+    }
+    struck
 }
 
 impl<P: CountGame> Rules for CountRules<P> {
-    ghost use Rattle.std.specs.Prelude.{vec_len};
-    ghost use Rattle.std.proofs.Common.{le_trans, subst, sym};
+    ghost use Rattle.std.proofs.Common.{subst, sym};
     ghost use Rattle.fields_core.specs.CountLaws.{count-lawful};
 
-    type Scratch = CountScratch<P::Scratch>;
+    type Scratch = P::Scratch;
 
     const SETTLED: bool = true;
 
@@ -164,8 +131,7 @@ impl<P: CountGame> Rules for CountRules<P> {
 
     ghost MODE = { Sweep };
 
-    ghost serves = { λ w needs. (needs.scope ≤ vec_len w.places) × (needs.scope ≤ vec_len w.sets)
-        × (needs.scope ≤ vec_len w.kept) × P.serves w.work needs.cells };
+    ghost serves = { λ w needs. P.serves w needs.cells };
 
     ghost lawful = { λ r. count-lawful _ _ _ _ r.counting };
 
@@ -173,12 +139,7 @@ impl<P: CountGame> Rules for CountRules<P> {
 
     ghost mode_is = { λ _. refl };
 
-    ghost serves_smaller = { λ w need had f s. (
-      le_trans f.scope_in s.0,
-      le_trans f.scope_in s.1,
-      le_trans f.scope_in s.2,
-      subst (P.serves w.work) (sym f.same_cells) s.3,
-    ) };
+    ghost serves_smaller = { λ w need had f s. subst (P.serves w) (sym f.same_cells) s };
 
     fn cells(&self) -> usize {
         self.puzzle.cells()
@@ -222,27 +183,15 @@ impl<P: CountGame> Rules for CountRules<P> {
         write_start(&self.puzzle, board);
     }
 
-    fn scratch(&self, alloc: Global) -> Result<CountScratch<P::Scratch>, AllocError> {
-        let room = self.longest;
-        Ok(CountScratch {
-            places: vec![in alloc; 0; room]?,
-            sets: vec![in alloc; 0; room]?,
-            kept: vec![in alloc; 0; room]?,
-            work: self.puzzle.scratch(alloc)?,
-        })
+    fn scratch(&self, alloc: Global) -> Result<P::Scratch, AllocError> {
+        self.puzzle.scratch(alloc)
     }
 
-    fn visit(
-        &self,
-        house: usize,
-        board: &mut Board,
-        scratch: &mut CountScratch<P::Scratch>,
-    ) -> bool {
-        let (sets, kept) = (&mut scratch.sets, &mut scratch.kept);
-        strike(&self.house(house), board, &mut scratch.places, sets, kept)
+    fn visit(&self, house: usize, board: &mut Board, _scratch: &mut P::Scratch) -> bool {
+        strike(&self.house(house), board)
     }
 
-    fn accept(&self, scratch: &mut CountScratch<P::Scratch>, grid: &Grid) -> bool {
-        self.puzzle.accepts(&mut scratch.work, grid)
+    fn accept(&self, scratch: &mut P::Scratch, grid: &Grid) -> bool {
+        self.puzzle.accepts(scratch, grid)
     }
 }

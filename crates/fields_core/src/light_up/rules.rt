@@ -25,6 +25,8 @@ impl CountGame for LightPuzzle {
 
     ghost counts = { light_counts };
 
+    ghost extent = { λ p. p.size };
+
     ghost told = { light_house };
 
     ghost serves = { λ _ _. Unit {0} };

@@ -1,17 +1,17 @@
 //! Planes of words of either length.
 #![tactic(auto)]
 
-ghost use Rattle.std.specs.Prelude.{◌≡◌, ◌*◌, ◌<◌, ◌≤◌, ◌↔◌, IfOk, IfSome, length, true, None, Some};
+ghost use Rattle.std.specs.Prelude.{◌≡◌, ◌*◌, ◌<◌, ◌≤◌, IfOk, length, true, None};
 ghost use Rattle.grid_core.specs.Candidates.{count_below, grid_of, is_full, only, pick};
 ghost use Rattle.grid_core.specs.Extent.{IsExtent};
 ghost use Rattle.grid_core.specs.Planes.{has, cells_of, back_at, IsBack, IsFurther};
-ghost use Rattle.fields_core.specs.AnyPlanes.{kept_in, layers_in, places_of, AreEnough, IsSuited};
+ghost use Rattle.fields_core.specs.AnyPlanes.{kept_in, layers_in, of_either, places_of, IsSuited};
 ghost use Rattle.engine_core.specs.Needs.{needs_in};
 ghost use Rattle.engine_core.specs.RuleSystem.{needs_of, FitsIn};
 ghost use Rattle.fields_core.specs.CountHouse.{rules_of};
-ghost use Rattle.fields_core.specs.PlanePosition.{IsSpare};
+ghost use Rattle.fields_core.specs.PlanePosition.{ArePlanes};
 
-use crate::planes::game::PlaneGame;
+use crate::planes::game::{PlaneGame, PlaneNotes};
 use engine_core::Needs;
 use grid_core::{Grid, Planes, Size, Word};
 use std::alloc::{AllocError, Global};
@@ -24,6 +24,21 @@ pub enum AnyPlanes<S, L> {
     Long(Field<u128, L>),
 }
 
+/// The planes of a game, with what it keeps beside them.
+pub(crate) type PlanesOf<G> = AnyPlanes<<G as PlaneGame>::Short, <G as PlaneGame>::Long>;
+
+/// A call at planes of either length, and what is kept beside them.
+macro_rules! at_field {
+    ($planes:expr, $field:ident => $call:expr) => {
+        match $planes {
+            crate::planes::any::AnyPlanes::Short($field) => $call,
+            crate::planes::any::AnyPlanes::Long($field) => $call,
+        }
+    };
+}
+
+pub(crate) use at_field;
+
 /// Planes of words of 128 places, with what the puzzle keeps beside them.
 ///
 /// # Errors
@@ -33,19 +48,19 @@ fn long<G: PlaneGame>(
     alloc: Global,
     puzzle: &G,
     made: Needs,
-) -> Result<AnyPlanes<G::Short, G::Long>, AllocError>
-    ensures room { IfOk result (λ planes.
-        length (layers_in planes).takings ≡ (G.counts puzzle.now).cells * 2) }
-    ensures fits { IfOk result (λ planes. G.fits (kept_in planes) (needs_in made)) }
-    ensures words { IfOk result (λ planes. places_of (kept_in planes) ≡ 128) }
+) -> Result<Field<u128, G::Long>, AllocError>
+    ensures { IfOk result (λ field.
+        (length field.planes.takings ≡ (G.counts puzzle.now).cells * 2)
+        × G.Long.fits field.notes (needs_in made)) }
 {
-    Ok(AnyPlanes::Long(Field {
+    Ok(Field {
         planes: Planes::new(alloc, puzzle.size())?,
-        notes: puzzle.long(alloc, made)?,
-    }))
+        notes: G::Long::new(alloc, made)?,
+    })
 }
 
-/// Planes of words as long as the sides of the puzzle ask for, with what it keeps beside them.
+/// Planes of words as long as the sides of the puzzle ask for, with what it keeps beside them. Where these words may be too
+/// short for a puzzle of these sizes, also planes of long words to change for.
 ///
 /// # Errors
 ///
@@ -54,94 +69,54 @@ pub(crate) fn planes_for<G: PlaneGame>(
     alloc: Global,
     puzzle: &G,
     made: Needs,
-) -> Result<AnyPlanes<G::Short, G::Long>, AllocError>
-    ensures room { IfOk result (λ planes.
-        length (layers_in planes).takings ≡ (G.counts puzzle.now).cells * 2) }
-    ensures fits { IfOk result (λ planes. G.fits (kept_in planes) (needs_in made)) }
+) -> Result<(PlanesOf<G>, Option<PlanesOf<G>>), AllocError>
+    requires { needs_in made ≡ needs_of (rules_of (G.counts puzzle.now)) }
+    ensures { IfOk result (λ both. ArePlanes (of_either G.Short.fits G.Long.fits) G.all_short
+        (needs_in made) both.0 both.1) }
 {
     let size = puzzle.size();
     if size.w() > 64 || size.h() > 64 {
-        return long(alloc, puzzle, made);
+        return Ok((AnyPlanes::Long(long(alloc, puzzle, made)?), None));
     }
-    Ok(AnyPlanes::Short(Field {
+    let short = AnyPlanes::Short(Field {
         planes: Planes::new(alloc, size)?,
-        notes: puzzle.short(alloc, made)?,
-    }))
-}
-
-/// Planes of long words to change for, where the words of these may be too short for a puzzle of these sizes.
-///
-/// # Errors
-///
-/// When memory was refused.
-pub(crate) fn spare_for<G: PlaneGame>(
-    alloc: Global,
-    puzzle: &G,
-    made: Needs,
-    planes: &AnyPlanes<G::Short, G::Long>,
-) -> Result<Option<AnyPlanes<G::Short, G::Long>>, AllocError>
-    ensures room { IfOk result (λ spare. IfSome spare (λ planes.
-        length (layers_in planes).takings ≡ (G.counts puzzle.now).cells * 2)) }
-    ensures fits { IfOk result (λ spare. IfSome spare (λ planes.
-        G.fits (kept_in planes) (needs_in made))) }
-    ensures enough { IfOk result (AreEnough G.all_short (needs_in made) planes.now) }
-{
-    match planes {
-        AnyPlanes::Long(_field) => Ok(None),
-        AnyPlanes::Short(_field) => {
-            if puzzle.are_short(made) {
-                return Ok(None);
-            }
-            Ok(Some(long(alloc, puzzle, made)?))
-        }
+        notes: G::Short::new(alloc, made)?,
+    });
+    if puzzle.are_short(made) {
+        return Ok((short, None));
     }
+    Ok((short, Some(AnyPlanes::Long(long(alloc, puzzle, made)?))))
 }
 
 /// Changes for the spare planes if the words of these are too short for the puzzle.
 pub(crate) fn choose<G: PlaneGame>(
-    planes: &mut AnyPlanes<G::Short, G::Long>,
-    spare: &mut Option<AnyPlanes<G::Short, G::Long>>,
+    planes: &mut PlanesOf<G>,
+    spare: &mut Option<PlanesOf<G>>,
     puzzle: &G,
     made: Needs,
 )
-    requires fits { FitsIn (needs_of (rules_of (G.counts puzzle.now)))
-        (needs_in made) }
-    requires planes { IsSpare G.fits (needs_in made) (Some planes.old) }
-    requires spare { IsSpare G.fits (needs_in made) spare.old }
-    requires enough { AreEnough G.all_short (needs_in made) planes.old spare.old }
+    requires fits { FitsIn (needs_of (rules_of (G.counts puzzle.now))) (needs_in made) }
+    requires planes { ArePlanes (of_either G.Short.fits G.Long.fits) G.all_short (needs_in made)
+        planes.old spare.old }
     ensures suited { IsSuited (G.extent puzzle.now) (places_of (kept_in planes.new)) }
-    ensures planes { IsSpare G.fits (needs_in made) (Some planes.new) }
-    ensures spare { IsSpare G.fits (needs_in made) spare.new }
-    ensures enough { AreEnough G.all_short (needs_in made) planes.new spare.new }
+    ensures planes { ArePlanes (of_either G.Short.fits G.Long.fits) G.all_short (needs_in made)
+        planes.new spare.new }
 {
-    if planes.suits(puzzle.size()) {
-        return;
-    }
-    if let Some(other) = spare {
+    let size = puzzle.size();
+    if let AnyPlanes::Short(_field) = &*planes
+        && (size.w() > 64 || size.h() > 64)
+        && let Some(other) = spare
+    {
         swap(planes, other);
     }
 }
 
 impl<S, L> AnyPlanes<S, L> {
-    /// Whether no side of that size is longer than the words.
-    pub(crate) fn suits(&self, size: Size) -> bool
-        requires { IsExtent size }
-        ensures { (result ≡ true) ↔ IsSuited size (places_of (kept_in self.now)) }
-    {
-        match self {
-            AnyPlanes::Short(_field) => size.w() <= 64 && size.h() <= 64,
-            AnyPlanes::Long(_field) => true,
-        }
-    }
-
     /// How many steps can be taken back.
     pub(crate) fn room(&self) -> usize
         ensures { result ≡ length (layers_in self.now).takings }
     {
-        match self {
-            AnyPlanes::Short(field) => field.planes.room(),
-            AnyPlanes::Long(field) => field.planes.room(),
-        }
+        at_field!(self, field => field.planes.room())
     }
 
     /// The size of the grid.
@@ -149,10 +124,7 @@ impl<S, L> AnyPlanes<S, L> {
         ensures value { result ≡ (layers_in self.now).size }
         ensures lawful { IsExtent result }
     {
-        match self {
-            AnyPlanes::Short(field) => field.planes.size(),
-            AnyPlanes::Long(field) => field.planes.size(),
-        }
+        at_field!(self, field => field.planes.size())
     }
 
     /// Whether the cell can have the value.
@@ -161,10 +133,7 @@ impl<S, L> AnyPlanes<S, L> {
         requires value_in { value < 2 }
         ensures { result ≡ has (layers_in self.now) place value }
     {
-        match self {
-            AnyPlanes::Short(field) => field.planes.has(place, value),
-            AnyPlanes::Long(field) => field.planes.has(place, value),
-        }
+        at_field!(self, field => field.planes.has(place, value))
     }
 
     /// The cell to branch on, where no cell above the row `from` is one.
@@ -174,10 +143,7 @@ impl<S, L> AnyPlanes<S, L> {
             ≡ None }
         ensures { result ≡ pick (cells_of (layers_in self.now)) 2 (has (layers_in self.now)) }
     {
-        match self {
-            AnyPlanes::Short(field) => field.planes.pick(from),
-            AnyPlanes::Long(field) => field.planes.pick(from),
-        }
+        at_field!(self, field => field.planes.pick(from))
     }
 
     /// Leaves that value alone in a cell that can have both.
@@ -189,10 +155,7 @@ impl<S, L> AnyPlanes<S, L> {
         ensures further { IsFurther (layers_in self.old) (layers_in self.new) }
         ensures kept { kept_in self.new ≡ kept_in self.old }
     {
-        match self {
-            AnyPlanes::Short(field) => field.planes.assign(place, value),
-            AnyPlanes::Long(field) => field.planes.assign(place, value),
-        }
+        at_field!(self, field => field.planes.assign(place, value))
     }
 
     /// How long the trail is.
@@ -200,10 +163,7 @@ impl<S, L> AnyPlanes<S, L> {
         ensures len { result ≡ (layers_in self.now).len }
         ensures here { back_at (layers_in self.now) result ≡ has (layers_in self.now) }
     {
-        match self {
-            AnyPlanes::Short(field) => field.planes.len(),
-            AnyPlanes::Long(field) => field.planes.len(),
-        }
+        at_field!(self, field => field.planes.len())
     }
 
     /// Takes the board back to when the trail had that length.
@@ -212,10 +172,7 @@ impl<S, L> AnyPlanes<S, L> {
         ensures back { IsBack (layers_in self.old) (layers_in self.new) len }
         ensures kept { kept_in self.new ≡ kept_in self.old }
     {
-        match self {
-            AnyPlanes::Short(field) => field.planes.undo(len),
-            AnyPlanes::Long(field) => field.planes.undo(len),
-        }
+        at_field!(self, field => field.planes.undo(len))
     }
 
     /// Writes each cell's only value.
@@ -225,10 +182,7 @@ impl<S, L> AnyPlanes<S, L> {
         requires long { length grid.old ≡ cells_of (layers_in self.now) }
         ensures { grid.new ≡ grid_of (cells_of (layers_in self.now)) 2 (has (layers_in self.now)) }
     {
-        match self {
-            AnyPlanes::Short(field) => field.planes.write_grid(grid),
-            AnyPlanes::Long(field) => field.planes.write_grid(grid),
-        }
+        at_field!(self, field => field.planes.write_grid(grid))
     }
 }
 

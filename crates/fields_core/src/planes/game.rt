@@ -1,11 +1,10 @@
 //! What only a game knows of the planes that its search stands on.
+#![tactic(auto)]
 
-ghost use Rattle.std.specs.Prelude.{◌≡◌, ℕ, ◌*◌, ◌≤◌, ◌⊎◌, IfOk, length, true};
-ghost use Rattle.std.proofs.Common.{inl, inr};
-ghost use Rattle.grid_core.specs.Candidates.{IsInside, IsWithin};
-ghost use Rattle.grid_core.specs.Extent.{Extent, IsExtent};
+ghost use Rattle.std.specs.Prelude.{◌≡◌, ℕ, ◌*◌, ◌≤◌, IfOk, length, true};
+ghost use Rattle.grid_core.specs.Extent.{IsExtent};
 ghost use Rattle.grid_core.specs.Grids.{IsGrid};
-ghost use Rattle.grid_core.specs.Planes.{has, IsFurther};
+ghost use Rattle.grid_core.specs.Planes.{has, IsFurther, Layers};
 ghost use Rattle.engine_core.specs.RuleSystem.{Needs, needs_of, FitsIn};
 ghost use Rattle.engine_core.specs.Needs.{needs_in};
 ghost use Rattle.engine_core.specs.ClosingList.{IsAlive};
@@ -13,40 +12,31 @@ ghost use Rattle.engine_core.specs.Counts.{IsClosedIn};
 ghost use Rattle.engine_core.specs.Position.{IsTaken};
 ghost use Rattle.engine_core.specs.Queue.{IsClosedBut};
 ghost use Rattle.engine_core.specs.Trail.{StillServes};
-ghost use Rattle.fields_core.specs.CountHouse.{rules_of, AreMet};
+ghost use Rattle.fields_core.specs.CountHouse.{rules_of, AreMet, IsCounted};
 ghost use Rattle.fields_core.specs.Houses.{AreNamed};
-ghost use Rattle.fields_core.specs.AnyPlanes.{kept_in, layers_in, places_of, IsSuited};
+ghost use Rattle.fields_core.specs.AnyPlanes.{AreKept, HasBoard, IsSuited};
+ghost use Rattle.fields_core.specs.Sweeps.{IsSweep};
 
 use crate::count::game::CountGame;
 use crate::count::name::HouseName;
-use crate::planes::any::AnyPlanes;
-use engine_core::{Needs, Taken};
-use grid_core::{Grid, Size};
+use engine_core::{Closing, Needs, Taken};
+use grid_core::{Grid, Planes, Size, Word};
 use std::alloc::{AllocError, Global};
 
-/// A puzzle of count houses that is closed on planes. Beside them it keeps what it has written of itself, and what waits.
+/// A puzzle of count houses that is closed on planes.
 pub trait PlaneGame: CountGame {
     /// What it keeps beside planes of words of 64 places.
-    type Short: Drop;
+    type Short: PlaneNotes<u64, Self>;
 
     /// What it keeps beside planes of words of 128 places.
-    type Long: Drop;
-
-    /// The size of its grid.
-    ghost extent: { Self → Extent };
-
-    /// What is kept serves puzzles of these sizes.
-    ghost fits: { Self.Short ⊎ Self.Long → Needs → Type 0 };
-
-    /// What is kept is of this puzzle.
-    ghost written: { Self → Self.Short ⊎ Self.Long → Type 0 };
+    type Long: PlaneNotes<u128, Self>;
 
     /// Words of 64 places are long enough for all puzzles of these sizes.
     ghost all_short: { Needs → Type 0 };
 
     /// The size of its grid.
     fn size(&self) -> Size
-        ensures value { result ≡ extent self.now }
+        ensures value { result ≡ Self.extent self.now }
         ensures lawful { IsExtent result }
         ensures short { (had : Needs)
             → FitsIn (needs_of (rules_of (Self.counts self.now))) (needs_in had)
@@ -55,63 +45,6 @@ pub trait PlaneGame: CountGame {
     /// Whether words of 64 places are known to be long enough for all puzzles of these sizes.
     fn are_short(&self, made: Needs) -> bool
         ensures { result ≡ true → all_short (needs_in made) };
-
-    /// Takes the memory of what is kept beside planes of words of 64 places.
-    ///
-    /// # Errors
-    ///
-    /// When memory was refused.
-    fn short(&self, alloc: Global, made: Needs) -> Result<Self::Short, AllocError>
-        ensures { IfOk result (λ kept. fits (inl kept) (needs_in made)) };
-
-    /// Takes the memory of what is kept beside planes of words of 128 places.
-    ///
-    /// # Errors
-    ///
-    /// When memory was refused.
-    fn long(&self, alloc: Global, made: Needs) -> Result<Self::Long, AllocError>
-        ensures { IfOk result (λ kept. fits (inr kept) (needs_in made)) };
-
-    /// Begins with the board that a search of the puzzle starts from. It takes no memory.
-    fn start(&self, planes: &mut AnyPlanes<Self::Short, Self::Long>)
-        requires fits { fits (kept_in planes.old)
-            (needs_of (rules_of (Self.counts self.now))) }
-        requires suited { IsSuited (extent self.now) (places_of (kept_in planes.old)) }
-        requires few { (Self.counts self.now).cells * 2 ≤ length (layers_in planes.old).takings }
-        ensures start { has (layers_in planes.new)
-            ≡ (rules_of (Self.counts self.now)).start }
-        ensures size { (layers_in planes.new).size ≡ extent self.now }
-        ensures room { length (layers_in planes.new).takings
-            ≡ length (layers_in planes.old).takings }
-        ensures written { written self.now (kept_in planes.new) }
-        ensures words { places_of (kept_in planes.new) ≡ places_of (kept_in planes.old) }
-        ensures keeps { StillServes fits (kept_in planes.old) (kept_in planes.new) };
-
-    /// Closes the board by the puzzle's houses, or finds that its closure is dead. Where `from` names a cell, the board was
-    /// closed before that cell lost a value.
-    fn close(&self, planes: &mut AnyPlanes<Self::Short, Self::Long>, from: Option<usize>) -> Taken
-        requires fits { fits (kept_in planes.old)
-            (needs_of (rules_of (Self.counts self.now))) }
-        requires written { written self.now (kept_in planes.old) }
-        requires suited { IsSuited (extent self.now) (places_of (kept_in planes.old)) }
-        requires size { (layers_in planes.old).size ≡ extent self.now }
-        requires alive { IsAlive (rules_of (Self.counts self.now))
-            (has (layers_in planes.old)) }
-        requires within { IsWithin ((Self.counts self.now).cells) 2 (has (layers_in planes.old)) }
-        requires inside { IsInside (has (layers_in planes.old))
-            (rules_of (Self.counts self.now)).start }
-        requires closed_but { IsClosedBut (rules_of (Self.counts self.now))
-            (has (layers_in planes.old)) from }
-        ensures taken { IsTaken (rules_of (Self.counts self.now))
-            (has (layers_in planes.old)) (has (layers_in planes.new)) result.closing }
-        ensures turns { IsClosedIn (rules_of (Self.counts self.now))
-            (has (layers_in planes.old)) result.turns }
-        ensures alive { IsAlive (rules_of (Self.counts self.now))
-            (has (layers_in planes.new)) }
-        ensures further { IsFurther (layers_in planes.old) (layers_in planes.new) }
-        ensures written { written self.now (kept_in planes.new) }
-        ensures words { places_of (kept_in planes.new) ≡ places_of (kept_in planes.old) }
-        ensures keeps { StillServes fits (kept_in planes.old) (kept_in planes.new) };
 
     /// Whether the grid is a solution, where blocked cells hold 0 and each house with a cell is met.
     /// The names are those of its houses.
@@ -129,9 +62,94 @@ pub trait PlaneGame: CountGame {
         ensures keeps { (n : ℕ) → Self.serves scratch.old n → Self.serves scratch.new n };
 
     /// The grid has the cells of the board.
-    ghost cells_are: { (p : Self) → (extent p).w * (extent p).h ≡ (Self.counts p).cells };
+    ghost cells_are: { (p : Self) → (Self.extent p).w * (Self.extent p).h ≡ (Self.counts p).cells };
+}
+
+/// What is kept of a puzzle beside planes of such words, and which houses wait while a closing goes on.
+pub trait PlaneNotes<W: Word, P: CountGame>: Drop + Sized {
+    /// They serve puzzles of these sizes.
+    ghost fits: { Self → Needs → Type 0 };
+
+    /// They are of this puzzle.
+    ghost written: { P → Self → Type 0 };
+
+    /// They are, and each house that does not wait strikes nothing from these planes.
+    ghost ready: { P → Layers → Self → Type 0 };
+
+    /// Takes their memory.
+    ///
+    /// # Errors
+    ///
+    /// When memory was refused.
+    fn new(alloc: Global, made: Needs) -> Result<Self, AllocError>
+        ensures { IfOk result (λ notes. fits notes (needs_in made)) };
+
+    /// Begins with the board that a search of the puzzle starts from. It takes no memory.
+    fn start(&mut self, planes: &mut Planes<W>, puzzle: &P)
+        requires fits { fits self.old (needs_of (rules_of (P.counts puzzle.now))) }
+        requires suited { IsSuited (P.extent puzzle.now) W.room }
+        requires few { (P.counts puzzle.now).cells * 2 ≤ length planes.old.takings }
+        ensures start { has planes.new ≡ (rules_of (P.counts puzzle.now)).start }
+        ensures size { planes.new.size ≡ P.extent puzzle.now }
+        ensures room { length planes.new.takings ≡ length planes.old.takings }
+        ensures written { written puzzle.now self.new }
+        ensures keeps { StillServes fits self.old self.new };
+
+    /// Begins a closing. Where `from` names a cell, the board was closed before that cell lost a value.
+    fn begin(&mut self, planes: &Planes<W>, puzzle: &P, from: Option<usize>)
+        requires fits { fits self.old (needs_of (rules_of (P.counts puzzle.now))) }
+        requires written { written puzzle.now self.old }
+        requires board { HasBoard (rules_of (P.counts puzzle.now)) (P.extent puzzle.now) W.room
+            planes.now }
+        requires closed_but { IsClosedBut (rules_of (P.counts puzzle.now)) (has planes.now) from }
+        ensures ready { ready puzzle.now planes.now self.new }
+        ensures kept { AreKept fits written self.old self.new };
+
+    /// Visits each house once that waits, in ascending order, up to one that has no filling. Says whether there is none such.
+    fn sweep(&mut self, planes: &mut Planes<W>, puzzle: &P) -> bool
+        requires { ready puzzle.now planes.old self.old }
+        ensures swept { IsSweep (rules_of (P.counts puzzle.now)) planes.old planes.new result }
+        ensures ready { result ≡ true → ready puzzle.now planes.new self.new }
+        ensures kept { AreKept fits written self.old self.new };
+
+    /// Closes the board by sweeps, until one takes nothing or a cell would be left without a value: what board is left then
+    /// is open. Those sweeps count that took something, and the one that stopped; one at least. Where `from` names a cell,
+    /// the board was closed before that cell lost a value.
+    final fn close(&mut self, planes: &mut Planes<W>, puzzle: &P, from: Option<usize>) -> Taken
+        requires counted { IsCounted (P.counts puzzle.now) }
+        requires fits { fits self.old (needs_of (rules_of (P.counts puzzle.now))) }
+        requires written { written puzzle.now self.old }
+        requires board { HasBoard (rules_of (P.counts puzzle.now)) (P.extent puzzle.now) W.room
+            planes.old }
+        requires closed_but { IsClosedBut (rules_of (P.counts puzzle.now)) (has planes.old) from }
+        ensures taken { IsTaken (rules_of (P.counts puzzle.now)) (has planes.old) (has planes.new)
+            result.closing }
+        ensures turns { IsClosedIn (rules_of (P.counts puzzle.now)) (has planes.old) result.turns }
+        ensures alive { IsAlive (rules_of (P.counts puzzle.now)) (has planes.new) }
+        ensures further { IsFurther planes.old planes.new }
+        ensures kept { AreKept fits written self.old self.new }
+    {
+        self.begin(planes, puzzle, from);
+        let mut sweeps = 0;
+        'closing: loop {
+            let before = planes.len();
+            if !self.sweep(planes, puzzle) {
+                return Taken {
+                    closing: Closing::Dead,
+                    turns: sweeps + 1,
+                };
+            }
+            if planes.len() == before {
+                return Taken {
+                    closing: Closing::Open,
+                    turns: sweeps.max(1),
+                };
+            }
+            sweeps += 1;
+        }
+    }
 
     /// Memory that serves puzzles serves smaller ones.
-    ghost fits_smaller: { (kept : Self.Short ⊎ Self.Long) (need had : Needs) → FitsIn need had
-        → fits kept had → fits kept need };
+    ghost fits_smaller: { (notes : Self) (need had : Needs) → FitsIn need had
+        → fits notes had → fits notes need };
 }

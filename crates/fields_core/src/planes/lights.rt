@@ -1,9 +1,7 @@
 //! Planes of Light Up: what is kept of a puzzle, which houses wait, and closings by sweeps.
 
 pub(crate) mod notes;
-pub(crate) mod rests;
 pub(crate) mod sweep;
 pub(crate) mod tables;
 pub(crate) mod visits;
 pub(crate) mod waits;
-pub(crate) mod wake;

@@ -1,17 +1,17 @@
 //! What Tents keeps beside planes, and the board that a search starts from.
 #![tactic(auto)]
 
-ghost use Rattle.std.specs.Prelude.{◌≡◌, IfOk, length, ℕ, ◌+◌, ◌*◌, ◌<◌, ◌≤◌, ◌&&◌, nat_lt, map};
+ghost use Rattle.std.specs.Prelude.{◌≡◌, length, ℕ, ◌+◌, ◌*◌, ◌<◌, ◌≤◌, ◌&&◌, nat_lt};
 ghost use Rattle.grid_core.specs.Planes.{has};
 ghost use Rattle.grid_core.specs.Words.{has_bit};
 ghost use Rattle.gameid_core.specs.Puzzles.{IsTents};
 ghost use Rattle.fields_core.specs.TentHouses.{is_barred, tent_rules};
-ghost use Rattle.fields_core.specs.Trees.{AreRowsOf, wants_tent};
 
 use crate::count::game::CountGame;
-use crate::planes::any::Field;
+use crate::planes::game::PlaneNotes;
 use crate::planes::trees::write_trees;
 use crate::planes::waits::Waits;
+use engine_core::Needs;
 use gameid_core::TentsPuzzle;
 use grid_core::{Line, Planes, Word};
 use std::alloc::{AllocError, Global};
@@ -21,22 +21,6 @@ use std::alloc::{AllocError, Global};
 pub struct TentNotes<W> {
     pub(crate) trees: Vec<W>,
     pub(crate) waits: Waits<W>,
-}
-
-impl<W: Word> TentNotes<W> {
-    /// A word for each row that planes of such words can have.
-    ///
-    /// # Errors
-    ///
-    /// When memory was refused.
-    pub(crate) fn new(alloc: Global) -> Result<TentNotes<W>, AllocError>
-        ensures { IfOk result (λ notes. length notes.trees.items ≡ W.room) }
-    {
-        Ok(TentNotes {
-            trees: vec![in alloc; W::none(); W::places()]?,
-            waits: Waits::all(),
-        })
-    }
 }
 
 /// The cells of a row that can have no tent.
@@ -74,20 +58,34 @@ fn start_tents<W: Word>(planes: &mut Planes<W>, puzzle: &TentsPuzzle)
     }
 }
 
-/// Begins with that board, and writes the trees that want a tent. It takes no memory.
-pub(crate) fn start_field<W: Word>(field: &mut Field<W, TentNotes<W>>, puzzle: &TentsPuzzle)
-    requires narrow { puzzle.now.size.w ≤ W.room }
-    requires low { puzzle.now.size.h ≤ W.room }
-    requires few { puzzle.now.size.w * puzzle.now.size.h * 2 ≤ length field.old.planes.takings }
-    requires rows { W.room ≤ length field.old.notes.trees.items }
-    ensures lawful { IsTents puzzle.now }
-    ensures start { has field.new.planes ≡ (tent_rules puzzle.now).start }
-    ensures size { field.new.planes.size ≡ puzzle.now.size }
-    ensures room { length field.new.planes.takings ≡ length field.old.planes.takings }
-    ensures trees { AreRowsOf puzzle.now.size (wants_tent puzzle.now)
-        (map W.bits field.new.notes.trees.items) }
-    ensures rows { length field.new.notes.trees.items ≡ length field.old.notes.trees.items }
-{
-    start_tents(&mut field.planes, puzzle);
-    write_trees(&mut field.notes.trees, puzzle);
+impl<W: Word> PlaneNotes<W, TentsPuzzle> for TentNotes<W> {
+    ghost use Rattle.fields_core.specs.TentNotes.{AreTentsReady, AreTentsWritten};
+
+    ghost fits = { λ notes _. W.room ≤ length notes.trees.items };
+
+    ghost written = { λ p notes. AreTentsWritten W.bits p notes };
+
+    ghost ready = { λ p planes notes. AreTentsReady W.bits W.room p planes notes };
+
+    fn new(alloc: Global, _made: Needs) -> Result<TentNotes<W>, AllocError> {
+        Ok(TentNotes {
+            trees: vec![in alloc; W::none(); W::places()]?,
+            waits: Waits::all(),
+        })
+    }
+
+    fn start(&mut self, planes: &mut Planes<W>, puzzle: &TentsPuzzle) {
+        start_tents(planes, puzzle);
+        write_trees(&mut self.trees, puzzle);
+    }
+
+    fn begin(&mut self, planes: &Planes<W>, puzzle: &TentsPuzzle, from: Option<usize>) {
+        self.waits = Waits::new(planes, puzzle, from);
+    }
+
+    fn sweep(&mut self, planes: &mut Planes<W>, puzzle: &TentsPuzzle) -> bool {
+        self.sweep_lines(planes, puzzle) && self.sweep_cells(planes, puzzle)
+    }
+
+    ghost fits_smaller = { λ _ _ _ _ room. room };
 }

@@ -5,8 +5,8 @@ ghost use Rattle.std.specs.Prelude.{◌≡◌, ◌≤◌, refl};
 ghost use Rattle.fields_core.specs.PlanePosition.{IsUnderWay, standing_of};
 
 use crate::count::rules::CountRules;
-use crate::planes::any::{AnyPlanes, choose, planes_for, spare_for};
-use crate::planes::game::PlaneGame;
+use crate::planes::any::{PlanesOf, at_field, choose, planes_for};
+use crate::planes::game::{PlaneGame, PlaneNotes};
 use engine_core::{Needs, Position, Searchable, Taken, needs_for};
 use grid_core::Grid;
 use std::alloc::{AllocError, Global};
@@ -17,8 +17,8 @@ use std::marker::Model;
 pub struct PlanePosition<P: PlaneGame> {
     made: Needs,
     scratch: P::Scratch,
-    planes: AnyPlanes<P::Short, P::Long>,
-    spare: Option<AnyPlanes<P::Short, P::Long>>,
+    planes: PlanesOf<P>,
+    spare: Option<PlanesOf<P>>,
     marks: Vec<usize>,
     marked: usize,
 }
@@ -37,9 +37,10 @@ impl<P: PlaneGame> Drop for PlanePosition<P> {
 }
 
 impl<P: PlaneGame> Model for PlanePosition<P> {
+    ghost use Rattle.std.specs.Prelude.{◌≡◌, length};
     ghost use Rattle.engine_core.specs.Needs.{needs_in};
-    ghost use Rattle.fields_core.specs.AnyPlanes.{kept_in, layers_in, AreEnough};
-    ghost use Rattle.fields_core.specs.PlanePosition.{PlacedPlanes, ArePlaced, IsSpare};
+    ghost use Rattle.fields_core.specs.AnyPlanes.{kept_in, layers_in, of_either};
+    ghost use Rattle.fields_core.specs.PlanePosition.{ArePlanes, PlacedPlanes};
 
     ghost Value = { PlacedPlanes P.Short P.Long };
 
@@ -51,14 +52,13 @@ impl<P: PlaneGame> Model for PlanePosition<P> {
       marked = s.marked;
     } };
 
-    ghost invariant = { λ s. ArePlaced (needs_in s.made) (layers_in s.planes) s.marks.items
-        × P.fits (kept_in s.planes) (needs_in s.made)
-        × IsSpare (P.fits) (needs_in s.made) s.spare
-        × AreEnough P.all_short (needs_in s.made) s.planes s.spare
+    ghost invariant = { λ s. (length s.marks.items ≡ (needs_in s.made).cells)
+        × ArePlanes (of_either P.Short.fits P.Long.fits) P.all_short (needs_in s.made) s.planes s.spare
         × P.serves s.scratch (needs_in s.made).cells };
 }
 
 impl<P: PlaneGame> Position for PlanePosition<P> {
+    ghost use Rattle.fields_core.specs.AnyPlanes.{of_either};
     ghost use Rattle.fields_core.specs.CountLaws.{count-lawful};
     ghost use Rattle.fields_core.specs.CountHouse.{rules_of};
 
@@ -71,13 +71,13 @@ impl<P: PlaneGame> Position for PlanePosition<P> {
     ghost room = { λ s. s.made };
 
     ghost walks = { λ rules s. IsUnderWay (rules_of (P.counts rules.puzzle))
-        (P.extent rules.puzzle) (P.written rules.puzzle) s };
+        (P.extent rules.puzzle)
+        (of_either (P.Short.written rules.puzzle) (P.Long.written rules.puzzle)) s };
 
     fn new(alloc: Global, rules: &CountRules<P>) -> Result<PlanePosition<P>, AllocError> {
         let made = needs_for(rules);
         let scratch = rules.puzzle().scratch(alloc)?;
-        let planes = planes_for(alloc, rules.puzzle(), made)?;
-        let spare = spare_for(alloc, rules.puzzle(), made, &planes)?;
+        let (planes, spare) = planes_for(alloc, rules.puzzle(), made)?;
         Ok(PlanePosition {
             made,
             scratch,
@@ -98,12 +98,14 @@ impl<P: PlaneGame> Position for PlanePosition<P> {
 
     fn begin(&mut self, rules: &CountRules<P>) {
         choose(&mut self.planes, &mut self.spare, rules.puzzle(), self.made);
-        rules.puzzle().start(&mut self.planes);
+        let puzzle = rules.puzzle();
+        at_field!(&mut self.planes, field => field.notes.start(&mut field.planes, puzzle));
         self.marked = 0;
     }
 
     fn close(&mut self, rules: &CountRules<P>, from: Option<usize>) -> Taken {
-        rules.puzzle().close(&mut self.planes, from)
+        let puzzle = rules.puzzle();
+        at_field!(&mut self.planes, field => field.notes.close(&mut field.planes, puzzle, from))
     }
 
     fn pick(&self, _rules: &CountRules<P>, from: usize) -> Option<usize> {

@@ -1,40 +1,13 @@
 //! Visits of the squares of two rows of Tents, all at once.
 #![tactic(auto)]
 
-ghost use Rattle.std.specs.Prelude.{◌≡◌, ◌+◌, ◌<◌, ◌≤◌};
-ghost use Rattle.grid_core.specs.Planes.{has, IsFurther};
-ghost use Rattle.fields_core.specs.Parts.{IsAlive, without_value};
-ghost use Rattle.fields_core.specs.Squares.{squares_of_row, two_rows};
+ghost use Rattle.std.specs.Prelude.{◌≡◌, ◌<◌};
+ghost use Rattle.fields_core.specs.Parts.{IsAlive};
+ghost use Rattle.fields_core.specs.Squares.{squares_of_row};
 ghost use Rattle.fields_core.specs.Visits.{AreVisited};
 
-use crate::planes::part::Part;
-use crate::planes::visit::strike;
 use gameid_core::TentsPuzzle;
 use grid_core::{Line, Planes, Word};
-
-/// Takes 1 from the undecided cells of two rows at these places.
-fn strike_rows<W: Word>(planes: &mut Planes<W>, y: u8, cells: W)
-    requires low { y < 255 }
-    requires below { y + 1 < planes.old.size.h }
-    requires some { 0 < planes.old.size.w }
-    requires narrow { planes.old.size.w ≤ W.room }
-    ensures left { has planes.new ≡ without_value planes.old.size.w
-        (two_rows y (W.bits cells)) 2 1 (has planes.old) }
-    ensures further { IsFurther planes.old planes.new }
-{
-    if !cells.is_some() {
-        return;
-    }
-    let top = Part {
-        line: Line::Row(y),
-        cells,
-    };
-    let bottom = Part {
-        line: Line::Row(y + 1),
-        cells,
-    };
-    strike(planes, &(top, bottom), 1);
-}
 
 /// Visits the houses of the squares whose upper row is `y`. Beside a cell that must have a tent, or above or below one, no
 /// undecided cell of the two rows can have one. Says whether no two such cells are in a square: if two are, nothing is taken.
@@ -56,6 +29,8 @@ pub(crate) fn visit_squares<W: Word>(planes: &mut Planes<W>, puzzle: &TentsPuzzl
     if twice.is_some() || must.both(after).is_some() {
         return false;
     }
-    strike_rows(planes, y, must.either(after).either(must.back()));
+    let near = must.either(after).either(must.back());
+    planes.take(Line::Row(y), 1, near.both(upper));
+    planes.take(Line::Row(y + 1), 1, near.both(lower));
     true
 }

@@ -1,7 +1,7 @@
 //! Visits of the lines of Tents on planes, one by one.
 #![tactic(auto)]
 
-ghost use Rattle.std.specs.Prelude.{◌≡◌, ◌<◌};
+ghost use Rattle.std.specs.Prelude.{◌≡◌, ◌<◌, ◌≤◌};
 ghost use Rattle.fields_core.specs.Parts.{IsAlive};
 ghost use Rattle.fields_core.specs.TentHouses.{column_of_tents, row_of_tents};
 ghost use Rattle.fields_core.specs.Visits.{AreVisited};
@@ -31,14 +31,14 @@ pub(crate) fn visit_column<W: Word>(planes: &mut Planes<W>, puzzle: &TentsPuzzle
 /// Visits the house of a row.
 pub(crate) fn visit_row<W: Word>(planes: &mut Planes<W>, puzzle: &TentsPuzzle, y: u8) -> bool
     requires size { planes.old.size ≡ puzzle.now.size }
+    requires narrow { puzzle.now.size.w ≤ W.room }
     requires y_in { y < puzzle.now.size.h }
     requires alive { IsAlive planes.old }
     ensures { AreVisited (row_of_tents puzzle.now y) planes.old planes.new result }
 {
-    let size = planes.size();
     let part = Part {
         line: Line::Row(y),
-        cells: W::all(usize::from(size.w())),
+        cells: W::all(W::places()),
     };
     let tents = usize::from(row_number(puzzle, usize::from(y)));
     visit(planes, &part, tents, tents)

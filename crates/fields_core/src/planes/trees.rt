@@ -1,39 +1,28 @@
 //! The trees of each row of Tents as words, and visits of those of a row, all at once.
 #![tactic(auto)]
 
-ghost use Rattle.std.specs.Prelude.{◌≡◌, ℕ, ◌<◌, ◌≤◌, ◌&&◌, Bool, true, length, map};
+ghost use Rattle.std.specs.Prelude.{◌≡◌, ℕ, ◌+◌, ◌*◌, ◌<◌, ◌≤◌, ◌&&◌, Bool, true, length, map};
 ghost use Rattle.grid_core.specs.Planes.{has, IsFurther};
 ghost use Rattle.grid_core.specs.Words.{has_bit};
 ghost use Rattle.gameid_core.specs.Puzzles.{IsTents, Tents};
 ghost use Rattle.fields_core.specs.Parts.{IsAlive};
 ghost use Rattle.fields_core.specs.Trees.{trees_of_row, AreBare, AreRowsOf, IsNear, is_beside, wants_tent, without_zeros, IsRowOf};
 ghost use Rattle.fields_core.specs.Visits.{AreVisited};
-ghost use Rattle.fields_core.specs.Tents.{tent_cells};
 
+use crate::count::house::count_passing;
 use crate::planes::near::{Near, ones_near};
-use crate::tents::cells::is_tree;
+use crate::tents::cells::{is_tree, place_of};
 use gameid_core::TentsPuzzle;
-use grid_core::{Line, Planes, Word, step};
+use grid_core::{Line, Planes, Word};
 
-/// Whether the cell has a tree, and a cell beside it has none.
-#[tactic(auto, using(crate::proofs::LawSets::tent_rules_laws), unfolding(crate::specs::Trees::wants_tent))]
-fn wants_a_tent(puzzle: &TentsPuzzle, place: usize) -> bool
-    requires { place < tent_cells puzzle.now }
-    ensures { result ≡ wants_tent puzzle.now place }
+/// Whether the cell of that column and row has a tree, and a cell beside it has none.
+fn wants_a_tent(puzzle: &TentsPuzzle, x: usize, y: usize) -> bool
+    requires x_in { x < puzzle.now.size.w }
+    requires y_in { y < puzzle.now.size.h }
+    ensures { result ≡ wants_tent puzzle.now (y * puzzle.now.size.w + x) }
 {
-    if !is_tree(puzzle, place) {
-        return false;
-    }
-    let size = puzzle.size();
-    for direction in 0..4 {
-        let Some(other) = step(size, place, direction) else {
-            continue;
-        };
-        if !is_tree(puzzle, other) {
-            return true;
-        }
-    }
-    false
+    let is_free = |other| !is_tree(puzzle, other);
+    is_tree(puzzle, place_of(puzzle, x, y)) && count_passing(puzzle.size(), x, y, is_free) > 0
 }
 
 /// The trees of a row that have a cell without a tree beside them.
@@ -45,7 +34,7 @@ fn trees_in<W: Word>(puzzle: &TentsPuzzle, y: usize) -> W
     let w = usize::from(puzzle.size().w());
     let mut trees = W::none();
     for x in 0..w {
-        if wants_a_tent(puzzle, y * w + x) {
+        if wants_a_tent(puzzle, x, y) {
             trees = trees.either(W::one(x));
         }
     }
@@ -75,9 +64,6 @@ fn take_beside<W: Word>(planes: &mut Planes<W>, near: Near<W>, places: W, y: u8)
     ensures further { IsFurther planes.old planes.new }
 {
     let last = planes.size().h() - 1;
-    if !places.is_some() {
-        return;
-    }
     let across = places.on().either(places.back());
     planes.take(Line::Row(y.saturating_sub(1)), 0, near.above.both(places));
     planes.take(Line::Row(y), 0, near.own.both(across));

@@ -67,15 +67,14 @@ pub fn visit<W: Word, P: Parts<W>>(
 {
     let (may, undecided) = count(planes, parts);
     let must = may - undecided;
+    if least < may && must < most {
+        return true;
+    }
     if may < least || most < must {
         return false;
     }
     if undecided > 0 {
-        if must == most {
-            strike(planes, parts, 1);
-        } else if may == least {
-            strike(planes, parts, 0);
-        }
+        strike(planes, parts, u8::from(must == most));
     }
     true
 }

@@ -1,7 +1,7 @@
 //! Which houses of Tents wait to be visited.
 #![tactic(auto, using(crate::proofs::LawSets::wait_laws))]
 
-ghost use Rattle.std.specs.Prelude.{◌≡◌, ◌<◌, ◌≤◌};
+ghost use Rattle.std.specs.Prelude.{◌≡◌, ℕ, ◌<◌, ◌≤◌};
 ghost use Rattle.grid_core.specs.Candidates.{Candidates};
 ghost use Rattle.grid_core.specs.Planes.{Layers, has, IsFurther};
 ghost use Rattle.engine_core.specs.Queue.{IsClosedBut};
@@ -114,22 +114,22 @@ impl<W: Word> Waits<W> {
         }
     }
 
-    /// The houses of this kind at the line wait no more: they are idle.
-    pub(crate) fn settle(&mut self, kind: Kind, line: u8)
-        requires { line < W.room }
+    /// The houses of this kind wait no more: they are idle.
+    pub(crate) fn settle(&mut self, kind: Kind)
         ensures { (p : Tents) (K : Candidates) → AreRested W.bits p self.old K
-            → AreIdle (kind_houses p kind line) K → AreRested W.bits p self.new K }
+            → ((k : ℕ) → k < kind_lines p kind → AreIdle (kind_houses p kind k) K)
+            → AreRested W.bits p self.new K }
     {
-        let own = W::one(usize::from(line));
         match kind {
-            Kind::Columns => self.columns = self.columns.but(own),
-            Kind::Rows => self.rows = self.rows.but(own),
-            Kind::Trees => self.trees = self.trees.but(own),
-            Kind::Squares => self.squares = self.squares.but(own),
+            Kind::Columns => self.columns = W::none(),
+            Kind::Rows => self.rows = W::none(),
+            Kind::Trees => self.trees = W::none(),
+            Kind::Squares => self.squares = W::none(),
         }
     }
 
     /// Wakes what has a cell that lost a value since the trail had that length.
+    #[inline(always)]
     pub(crate) fn wake(&mut self, planes: &Planes<W>, len: usize)
         requires { len ≤ planes.now.len }
         ensures { (p : Tents) (from : Layers) → IsTents p → from.size ≡ p.size → from.len ≡ len

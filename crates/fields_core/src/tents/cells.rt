@@ -1,6 +1,6 @@
 //! Trees and lines of a puzzle of Tents.
 
-ghost use Rattle.std.specs.Prelude.{◌≡◌, ◌+◌, ◌<◌, slice_index};
+ghost use Rattle.std.specs.Prelude.{◌≡◌, ◌+◌, ◌*◌, ◌<◌, ◌^◌, slice_index};
 ghost use Rattle.gameid_core.specs.Puzzles.{IsTents};
 ghost use Rattle.fields_core.specs.Tents.{tent_cells, tree};
 
@@ -53,4 +53,16 @@ pub(crate) fn row_number(puzzle: &TentsPuzzle, y: usize) -> u8
 {
     let w = usize::from(puzzle.size().w());
     puzzle.count(w + y)
+}
+
+/// The place of the cell of that column and row.
+pub(crate) fn place_of(puzzle: &TentsPuzzle, x: usize, y: usize) -> usize
+    requires x_in { x < puzzle.now.size.w }
+    requires y_in { y < puzzle.now.size.h }
+    ensures value { result ≡ y * puzzle.now.size.w + x }
+    ensures within { result < tent_cells puzzle.now }
+    ensures few { result < 2 ^ 16 }
+    ensures lawful { IsTents puzzle.now }
+{
+    y * usize::from(puzzle.size().w()) + x
 }

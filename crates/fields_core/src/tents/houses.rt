@@ -3,28 +3,15 @@
 
 ghost use Rattle.std.specs.Prelude.{◌≡◌, ◌+◌, ◌*◌, ◌<◌, ◌^◌, IfOk, OnOk};
 ghost use Rattle.fields_core.specs.Houses.{AreAdded, AreNamed};
-ghost use Rattle.fields_core.specs.Tents.{tent_cells};
 ghost use Rattle.fields_core.specs.TentHouses.{square_house, tent_house, tent_houses, tree_house};
 ghost use Rattle.gameid_core.specs.Puzzles.{IsTents};
 
 use crate::count::house::count_passing;
 use crate::count::name::HouseName;
-use crate::tents::cells::{cells, columns, is_tree, rows};
+use crate::tents::cells::{cells, columns, is_tree, place_of, rows};
 use crate::tents::told::TentHouse;
 use gameid_core::TentsPuzzle;
 use std::alloc::{AllocError, Global};
-
-/// The place of the cell of that column and row.
-fn place_of(puzzle: &TentsPuzzle, x: usize, y: usize) -> usize
-    requires x_in { x < puzzle.now.size.w }
-    requires y_in { y < puzzle.now.size.h }
-    ensures value { result ≡ y * puzzle.now.size.w + x }
-    ensures within { result < tent_cells puzzle.now }
-    ensures few { result < 2 ^ 16 }
-    ensures lawful { IsTents puzzle.now }
-{
-    y * usize::from(puzzle.size().w()) + x
-}
 
 /// Adds the house of a tree, if one stands on the cell of that column and row.
 fn push_tree(

@@ -7,16 +7,16 @@ ghost use Rattle.grid_core.specs.Regions.{beside};
 ghost use Rattle.fields_core.specs.Tents.{tent_cells, tree};
 
 use crate::count::game::CountGame;
-use crate::count::house::House;
+use crate::count::house::{House, count_passing};
 use crate::count::name::HouseName;
 use crate::count::rules::CountRules;
-use crate::tents::cells::{cells, is_tree};
+use crate::tents::cells::{cells, columns, is_tree};
 use crate::tents::check::find_fault;
 use crate::tents::houses::names_of_tents;
 use crate::tents::pairs::PairingScratch;
 use crate::tents::told::{TentHouse, house_of_tents};
 use gameid_core::TentsPuzzle;
-use grid_core::{Grid, step};
+use grid_core::Grid;
 use std::alloc::{AllocError, Global};
 
 /// The rules of a puzzle of Tents.
@@ -27,16 +27,9 @@ fn is_beside_a_tree(puzzle: &TentsPuzzle, place: usize) -> bool
     requires { place < tent_cells puzzle.now }
     ensures { result ≡ list_any (tree puzzle.now) (beside puzzle.now.size place) }
 {
-    let size = puzzle.size();
-    for direction in 0..4 {
-        let Some(other) = step(size, place, direction) else {
-            continue;
-        };
-        if is_tree(puzzle, other) {
-            return true;
-        }
-    }
-    false
+    let w = columns(puzzle);
+    let has_tree = |other| is_tree(puzzle, other);
+    count_passing(puzzle.size(), place % w, place / w, has_tree) > 0
 }
 
 impl CountGame for TentsPuzzle {
@@ -48,6 +41,8 @@ impl CountGame for TentsPuzzle {
     type Kind = TentHouse;
 
     ghost counts = { tent_counts };
+
+    ghost extent = { λ p. p.size };
 
     ghost told = { tent_house };
 

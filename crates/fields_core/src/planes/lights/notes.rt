@@ -1,44 +1,28 @@
 //! What Light Up keeps beside planes, and the board that a search starts from.
 #![tactic(auto)]
 
-ghost use Rattle.std.specs.Prelude.{IfOk, ◌≡◌, ℕ, ◌*◌, ◌≤◌, length};
-ghost use Rattle.fields_core.specs.LightPlanes.{HasLightRoom, AreRowTables, AreTables, HasTables};
+ghost use Rattle.std.specs.Prelude.{◌≡◌, ℕ, ◌*◌, ◌≤◌, length};
+ghost use Rattle.fields_core.specs.LightPlanes.{AreRowTables, AreTables, HasTables};
 ghost use Rattle.grid_core.specs.Planes.{has};
 ghost use Rattle.gameid_core.specs.Puzzles.{IsLight};
 ghost use Rattle.fields_core.specs.Light.{light_cells};
 ghost use Rattle.fields_core.specs.LightHouses.{light_rules};
 
 use crate::light_up::cells::{columns, rows};
+use crate::planes::game::PlaneNotes;
 use crate::planes::lights::tables::{LightTables, cells_of_row, write_runs};
-use crate::planes::lights::waits::{LightWaits, LineWaits};
+use crate::planes::lights::waits::LineWaits;
+use engine_core::Needs;
 use gameid_core::LightPuzzle;
 use grid_core::{Line, Planes, Word};
 use std::alloc::{AllocError, Global};
 
-/// What is kept of a puzzle, and what waits while a closing goes on.
+/// What is kept of a puzzle. While a closing goes on, also what waits, and a word for each row (`LightTables::write_safe`).
 #[derive(Drop)]
 pub struct LightNotes<W: Word> {
     pub(crate) tables: LightTables<W>,
-    pub(crate) waits: LightWaits<W>,
-}
-
-impl<W: Word> LightNotes<W> {
-    /// Words for so many cells, and for as many lines as words have places.
-    ///
-    /// # Errors
-    ///
-    /// When memory was refused.
-    pub(crate) fn new(alloc: Global, cells: usize) -> Result<LightNotes<W>, AllocError>
-        ensures { IfOk result (λ notes. HasLightRoom cells W.room notes) }
-    {
-        Ok(LightNotes {
-            tables: LightTables::new(alloc, cells)?,
-            waits: LightWaits {
-                lines: LineWaits::none(),
-                lit: vec![in alloc; W::none(); W::places()]?,
-            },
-        })
-    }
+    pub(crate) waits: LineWaits<W>,
+    pub(crate) safe: Vec<W>,
 }
 
 impl<W: Word> LightTables<W> {
@@ -86,22 +70,38 @@ impl<W: Word> LightTables<W> {
     }
 }
 
-impl<W: Word> LightNotes<W> {
-    /// Begins with the board that a search of the puzzle starts from, and writes what is kept of it. It takes no memory.
-    pub(crate) fn start(&mut self, planes: &mut Planes<W>, puzzle: &LightPuzzle)
-        requires narrow { puzzle.now.size.w ≤ W.room }
-        requires low { puzzle.now.size.h ≤ W.room }
-        requires few { light_cells puzzle.now * 2 ≤ length planes.old.takings }
-        requires room { HasLightRoom (light_cells puzzle.now) W.room self.old }
-        ensures lawful { IsLight puzzle.now }
-        ensures start { has planes.new ≡ (light_rules puzzle.now).start }
-        ensures size { planes.new.size ≡ puzzle.now.size }
-        ensures steps { length planes.new.takings ≡ length planes.old.takings }
-        ensures written { AreTables W.bits puzzle.now self.new.tables }
-        ensures room { (cells lines : ℕ) → HasLightRoom cells lines self.old
-            → HasLightRoom cells lines self.new }
-    {
+impl<W: Word> PlaneNotes<W, LightPuzzle> for LightNotes<W> {
+    ghost use Rattle.std.proofs.Common.{subst, sym};
+    ghost use Rattle.fields_core.specs.LightPlanes.{AreLightsWritten, HasLightRoom};
+    ghost use Rattle.fields_core.specs.LightWaits.{AreLightsReady};
+
+    ghost fits = { λ notes needs. HasLightRoom needs.cells W.room notes };
+
+    ghost written = { λ p notes. AreLightsWritten W.bits p notes };
+
+    ghost ready = { λ p planes notes. AreLightsReady W.bits W.room p planes notes };
+
+    fn new(alloc: Global, made: Needs) -> Result<LightNotes<W>, AllocError> {
+        Ok(LightNotes {
+            tables: LightTables::new(alloc, made.cells)?,
+            waits: LineWaits::none(),
+            safe: vec![in alloc; W::none(); W::places()]?,
+        })
+    }
+
+    fn start(&mut self, planes: &mut Planes<W>, puzzle: &LightPuzzle) {
         self.tables.start_rows(planes, puzzle);
         self.tables.write_columns(planes, puzzle);
     }
+
+    fn begin(&mut self, planes: &Planes<W>, puzzle: &LightPuzzle, from: Option<usize>) {
+        self.waits = LineWaits::begin(planes, puzzle, from);
+    }
+
+    fn sweep(&mut self, planes: &mut Planes<W>, puzzle: &LightPuzzle) -> bool {
+        self.sweep_numbers(planes, puzzle) && self.sweep_white(planes, puzzle)
+    }
+
+    ghost fits_smaller = { λ notes need had fits room.
+        subst (λ n. HasLightRoom n W.room notes) (sym fits.same_cells) room };
 }

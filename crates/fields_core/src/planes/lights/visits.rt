@@ -8,7 +8,7 @@ ghost use Rattle.grid_core.specs.Words.{has_bit};
 ghost use Rattle.fields_core.specs.CountHouse.{CountHouse};
 ghost use Rattle.fields_core.specs.LightHouses.{lit_house, number_house};
 ghost use Rattle.fields_core.specs.LightPlanes.{ArePlanesOf, AreTables};
-ghost use Rattle.fields_core.specs.LightWaits.{AreIdleBut, light_kind_houses, light_kind_lines};
+ghost use Rattle.fields_core.specs.LightWaits.{AreIdleBut, AreSafeInColumns, AreWhitesIdleBut, lits_of_row, run_houses, run_lines};
 ghost use Rattle.fields_core.specs.LightWords.{numbers_of_row};
 ghost use Rattle.fields_core.specs.Parts.{IsAlive};
 ghost use Rattle.fields_core.specs.RunLines.{AreAround, AreRunsOf, IsClash};
@@ -16,7 +16,7 @@ ghost use Rattle.fields_core.specs.Visits.{AreVisited};
 
 use crate::light_up::cells::columns;
 use crate::planes::lights::tables::LightTables;
-use crate::planes::lights::waits::LightKind;
+use crate::planes::lights::waits::RunKind;
 use crate::planes::next::next_place;
 use crate::planes::part::Part;
 use crate::planes::visit::visit;
@@ -24,7 +24,7 @@ use gameid_core::{LightCell, LightPuzzle};
 use grid_core::{Line, Planes, Word, row_place};
 
 /// Whether the word has two places or more.
-pub(crate) fn has_two<W: Word>(word: W) -> bool
+fn has_two<W: Word>(word: W) -> bool
     ensures { result ≡ nat_lt 1 (count_below (has_bit (W.bits word)) W.room) }
 {
     word.is_some() && word.without_lowest().is_some()
@@ -137,7 +137,7 @@ fn visit_number<W: Word>(
 
 /// Visits the houses of the numbers of a row that stand in the columns `at`, up to one that has no filling: all others are
 /// idle. Once one has taken something, all that follow are visited.
-fn visit_numbers<W: Word>(
+pub(crate) fn visit_numbers<W: Word>(
     planes: &mut Planes<W>,
     puzzle: &LightPuzzle,
     tables: &LightTables<W>,
@@ -169,36 +169,27 @@ fn visit_numbers<W: Word>(
 }
 
 impl<W: Word> LightTables<W> {
-    /// Visits the houses of a kind at a line, up to one that has no filling. Numbers in other columns than these are idle.
+    /// Visits the runs of a kind at a line, up to one that has no filling.
     #[inline(always)]
-    pub(crate) fn visit(
+    pub(crate) fn visit_runs(
         &self,
         planes: &mut Planes<W>,
         puzzle: &LightPuzzle,
-        kind: LightKind,
+        kind: RunKind,
         line: u8,
-        columns: W,
     ) -> bool
         requires planes { ArePlanesOf W.room puzzle.now planes.old }
         requires tables { AreTables W.bits puzzle.now self.now }
-        requires line_in { line < light_kind_lines puzzle.now kind }
-        requires others { (y : ℕ) → y < puzzle.now.size.h
-            → AreIdleBut puzzle.now (W.bits columns) y (has planes.old) }
-        ensures { AreVisited (light_kind_houses puzzle.now kind line) planes.old planes.new result }
+        requires line_in { line < run_lines puzzle.now kind }
+        ensures { AreVisited (run_houses puzzle.now kind line) planes.old planes.new result }
     {
         let size = planes.size();
         let w = usize::from(size.w());
         let h = usize::from(size.h());
+        let at = usize::from(line);
         match kind {
-            LightKind::Numbers => visit_numbers(planes, puzzle, self, line, columns),
-            LightKind::RowRuns => {
-                let first = usize::from(line) * w;
-                visit_line(planes, &self.row_runs, Line::Row(line), first, 1, w)
-            }
-            LightKind::ColumnRuns => {
-                let first = usize::from(line);
-                visit_line(planes, &self.column_runs, Line::Column(line), first, w, h)
-            }
+            RunKind::Rows => visit_line(planes, &self.row_runs, Line::Row(line), at * w, 1, w),
+            RunKind::Columns => visit_line(planes, &self.column_runs, Line::Column(line), at, w, h),
         }
     }
 
@@ -240,5 +231,61 @@ impl<W: Word> LightTables<W> {
         planes.take(Line::Row(y), 0, row);
         planes.take(Line::Column(x), 0, column);
         true
+    }
+
+    /// Visits the houses of some white cells of a row, up to one that has no filling: all others are idle. Those of a run are
+    /// passed where two of its cells can have a bulb, or one must.
+    pub(crate) fn visit_lits(
+        &self,
+        planes: &mut Planes<W>,
+        puzzle: &LightPuzzle,
+        y: u8,
+        some: W,
+    ) -> bool
+        requires planes { ArePlanesOf W.room puzzle.now planes.old }
+        requires tables { AreTables W.bits puzzle.now self.now }
+        requires y_in { y < puzzle.now.size.h }
+        requires others { AreWhitesIdleBut puzzle.now (W.bits some) y (has planes.old) }
+        ensures { AreVisited (lits_of_row puzzle.now y) planes.old planes.new result }
+    {
+        let w = columns(puzzle);
+        let ones = planes.row(y, 1);
+        let must = ones.but(planes.row(y, 0));
+        let mut left = some;
+        let mut from = 0;
+        while let Some(x) = next_place(left, from, w) {
+            let run = self.row_runs[usize::from(y) * w + x];
+            if has_two(ones.both(run)) || must.both(run).is_some() {
+                left = left.but(run);
+            } else if !self.visit_lit(planes, puzzle, y, x as u8) {
+                return false;
+            }
+            from = x + 1;
+        }
+        true
+    }
+
+    /// Writes for each row those white cells of it for which two cells of their column run, none of them above, can have a
+    /// bulb, or one must.
+    pub(crate) fn write_safe(&self, safe: &mut Vec<W>, planes: &Planes<W>, puzzle: &LightPuzzle)
+        requires planes { ArePlanesOf W.room puzzle.now planes.now }
+        requires tables { AreTables W.bits puzzle.now self.now }
+        requires long { puzzle.now.size.h ≤ length safe.old.items }
+        ensures safe { (y : ℕ) → y < puzzle.now.size.h → AreSafeInColumns puzzle.now y
+            (slice_index (map W.bits safe.new.items) y) (has planes.now) }
+        ensures long { length safe.new.items ≡ length safe.old.items }
+    {
+        let mut one = W::none();
+        let mut two = W::none();
+        let mut y = puzzle.size().h();
+        while y > 0 {
+            y -= 1;
+            let whites = self.rows[usize::from(y)];
+            let ones = planes.row(y, 1);
+            let must = ones.but(planes.row(y, 0));
+            two = two.either(one.both(ones)).either(must).both(whites);
+            one = one.either(ones).both(whites);
+            safe[usize::from(y)] = two;
+        }
     }
 }

@@ -1,44 +1,47 @@
-//! Which houses of Light Up wait to be visited.
+//! Which numbers and runs of Light Up wait to be visited.
 #![tactic(auto)]
 
-ghost use Rattle.std.specs.Prelude.{◌≡◌, ◌+◌, ◌*◌, ◌<◌, ◌≤◌, length};
+ghost use Rattle.std.specs.Prelude.{◌≡◌, ℕ, ◌<◌, ◌≤◌};
 ghost use Rattle.grid_core.specs.Candidates.{Candidates};
+ghost use Rattle.grid_core.specs.Planes.{Layers, has, IsFurther};
+ghost use Rattle.engine_core.specs.Queue.{IsClosedBut};
 ghost use Rattle.gameid_core.specs.Puzzles.{Light};
-ghost use Rattle.fields_core.specs.LightHouses.{lit_house};
-ghost use Rattle.fields_core.specs.LightWaits.{AreLightsRested, AreLinesRested, AreLinesWoken, AreSpread, light_kind_houses, light_kind_lines, waiting_lines};
+ghost use Rattle.fields_core.specs.LightHouses.{light_rules};
+ghost use Rattle.fields_core.specs.LightPlanes.{ArePlanesOf};
+ghost use Rattle.fields_core.specs.LightWaits.{AreLinesRested, AreLinesWoken, AreSpread, run_houses, run_lines, waiting_runs};
 ghost use Rattle.fields_core.specs.LightWords.{numbers_of_row};
 ghost use Rattle.fields_core.specs.Waits.{AreIdle};
 
+use crate::light_up::cells::columns;
 use gameid_core::LightPuzzle;
-use grid_core::{Touched, Word};
+use grid_core::{Planes, Touched, Word};
 
-/// Kinds of houses that are visited line by line, in the order of a sweep. The white cells follow.
+/// Kinds of runs, in the order of a sweep.
 #[derive(Clone, Copy)]
-pub(crate) enum LightKind {
-    /// The numbers of a row.
-    Numbers,
-    /// The runs of a row.
-    RowRuns,
-    /// The runs of a column.
-    ColumnRuns,
+pub(crate) enum RunKind {
+    /// Runs along rows.
+    Rows,
+    /// Runs along columns.
+    Columns,
 }
 
-impl LightKind {
+impl RunKind {
     /// How many lines there are.
     pub(crate) fn lines(self, puzzle: &LightPuzzle) -> u8
-        ensures { result ≡ light_kind_lines puzzle.now self }
+        ensures { result ≡ run_lines puzzle.now self }
     {
         match self {
-            LightKind::ColumnRuns => puzzle.size().w(),
-            _ => puzzle.size().h(),
+            RunKind::Rows => puzzle.size().h(),
+            RunKind::Columns => puzzle.size().w(),
         }
     }
 }
 
-/// The lines of each kind that wait. Of the numbers of a row those wait that stand in one of the columns of numbers.
+/// The rows and columns whose runs wait. Of the numbers of a row that waits those wait that stand in one of the columns of
+/// numbers.
 #[derive(Clone, Copy)]
 pub struct LineWaits<W> {
-    numbers: W,
+    pub(crate) numbers: W,
     pub(crate) number_columns: W,
     rows: W,
     columns: W,
@@ -91,19 +94,18 @@ impl<W: Word> LineWaits<W> {
         }
     }
 
-    /// The lines at which houses of this kind wait.
-    pub(crate) fn lines(&self, kind: LightKind) -> W
-        ensures { W.bits result ≡ waiting_lines W.bits self.now kind }
+    /// The lines whose runs of this kind wait.
+    pub(crate) fn runs(&self, kind: RunKind) -> W
+        ensures { W.bits result ≡ waiting_runs W.bits self.now kind }
     {
         match kind {
-            LightKind::Numbers => self.numbers,
-            LightKind::RowRuns => self.rows,
-            LightKind::ColumnRuns => self.columns,
+            RunKind::Rows => self.rows,
+            RunKind::Columns => self.columns,
         }
     }
 
     /// The numbers of the row wait no more: they are idle. Once no row waits, no column does.
-    fn settle_numbers(&mut self, y: u8)
+    pub(crate) fn settle_numbers(&mut self, y: u8)
         requires { y < W.room }
         ensures { (p : Light) (K : Candidates) → p.size.h ≤ W.room
             → AreLinesRested W.bits p self.old K
@@ -115,40 +117,56 @@ impl<W: Word> LineWaits<W> {
         }
     }
 
-    /// The houses of this kind at the line wait no more: they are idle.
-    pub(crate) fn settle(&mut self, kind: LightKind, line: u8)
-        requires { line < W.room }
-        ensures { (p : Light) (K : Candidates) → p.size.h ≤ W.room
-            → AreLinesRested W.bits p self.old K
-            → AreIdle (light_kind_houses p kind line) K → AreLinesRested W.bits p self.new K }
+    /// The runs of this kind wait no more: they are idle.
+    pub(crate) fn settle_runs(&mut self, kind: RunKind)
+        ensures { (p : Light) (K : Candidates) → AreLinesRested W.bits p self.old K
+            → ((k : ℕ) → k < run_lines p kind → AreIdle (run_houses p kind k) K)
+            → AreLinesRested W.bits p self.new K }
     {
-        let own = W::one(usize::from(line));
         match kind {
-            LightKind::Numbers => self.settle_numbers(line),
-            LightKind::RowRuns => self.rows = self.rows.but(own),
-            LightKind::ColumnRuns => self.columns = self.columns.but(own),
+            RunKind::Rows => self.rows = W::none(),
+            RunKind::Columns => self.columns = W::none(),
         }
     }
-}
 
-/// What waits: the lines of each kind, and white cells, as a word for each row.
-#[derive(Drop)]
-pub struct LightWaits<W: Word> {
-    pub(crate) lines: LineWaits<W>,
-    pub(crate) lit: Vec<W>,
-}
-
-impl<W: Word> LightWaits<W> {
-    /// The white cell waits no more: its house is idle.
-    pub(crate) fn settle_lit(&mut self, y: u8, x: u8)
-        requires y_in { y < length self.old.lit.items }
-        requires x_in { x < W.room }
-        ensures rested { (p : Light) (K : Candidates) → x < p.size.w
-            → AreLightsRested W.bits p self.old K → AreIdle (lit_house p (y * p.size.w + x)) K
-            → AreLightsRested W.bits p self.new K }
-        ensures room { length self.new.lit.items ≡ length self.old.lit.items }
+    /// Wakes what may be idle no more since the trail had that length.
+    pub(crate) fn wake(&mut self, planes: &Planes<W>, len: usize)
+        requires { len ≤ planes.now.len }
+        ensures { (p : Light) (from : Layers) → ArePlanesOf W.room p planes.now
+            → ArePlanesOf W.room p from → from.len ≡ len → IsFurther from planes.now
+            → AreLinesRested W.bits p self.old (has from)
+            → AreLinesRested W.bits p self.new (has planes.now) }
     {
-        let word = self.lit[usize::from(y)];
-        self.lit[usize::from(y)] = word.but(W::one(usize::from(x)));
+        if planes.len() == len {
+            return;
+        }
+        let zeros = planes.lost(len, 0);
+        let ones = planes.lost(len, 1);
+        let both = Touched {
+            columns: zeros.columns.either(ones.columns),
+            rows: zeros.rows.either(ones.rows),
+        };
+        *self = self.woken(both, zeros);
+    }
+
+    /// What waits where a closing begins: what has the cell `from`, or all where none is named.
+    pub(crate) fn begin(
+        planes: &Planes<W>,
+        puzzle: &LightPuzzle,
+        from: Option<usize>,
+    ) -> LineWaits<W>
+        requires planes { ArePlanesOf W.room puzzle.now planes.now }
+        requires closed_but { IsClosedBut (light_rules puzzle.now) (has planes.now) from }
+        ensures { AreLinesRested W.bits puzzle.now result (has planes.now) }
+    {
+        let Some(place) = from else {
+            return LineWaits::all();
+        };
+        let w = columns(puzzle);
+        let touched = Touched {
+            columns: W::one(place % w),
+            rows: W::one(place / w),
+        };
+        LineWaits::none().woken(touched, touched)
     }
 }

@@ -1,41 +1,41 @@
-use Rattle.fields_core.proofs.Common.{IsBitsOf, IsWithin, ap, arith, has, length, length-take, refl, slice_index, sym, ℕ, ◌<◌, ◌∙◌, ◌≡◌}
+use Rattle.fields_core.proofs.Common.{ap₂, arith, has, sym, ◌&&◌, ◌∙◌, ◌<◌}
 use Rattle.grid_core.specs.Board.{cells_of}
-use Rattle.engine_core.specs.HouseSetsLaws.{bits-of_values}
-use Rattle.engine_core.specs.PositionLaws.{within_of}
-use Rattle.fields_core.proofs.HouseVisits.{alone, place-in, place-small, visit-idle, visit-strikes}
+use Rattle.engine_core.proofs.HouseLemmas.{kept-inside, striking-more}
+use Rattle.fields_core.proofs.HouseVisits.{cell-in, idle-stays, partly-all, partly-more}
+use Rattle.fields_core.proofs.RuleLemmas.{same-shape}
 use Rattle.fields_core.proofs.count.rules.strike.Goals as goal
-use Rattle.fields_core.proofs.count.rules.strike.Goals.{After-gather}
+use Rattle.fields_core.proofs.count.rules.strike.Goals.{After-place-place}
 
-pub list_places-requires-clause-small : goal.list_places-requires-clause-small
-list_places-requires-clause-small c =
-    λ k lt. place-small c.requires.few c.requires.lawful k (omega (arith, lt, length-take c.len-cells.result c.args.places.now, c.len-cells.ensures, c.requires.places_room))
+-- the place is in the board
+inside : (c : After-place-place) → c.place-place.result < cells_of c.loop-k.board
+inside c =
+    rw (sym c.loop-k.invariant.shape.same_cells) at (cell-in c.requires.lawful c.place-place.ensures (omega (arith, c.loop-k-test.true, c.len-k-end.ensures)))
 
-pub gather-requires-clause-places_in : goal.gather-requires-clause-places_in
-gather-requires-clause-places_in c = rw c.list_places.ensures (place-in c.requires.few c.requires.lawful)
+pub has-requires-clause-place_in : goal.has-requires-clause-place_in
+has-requires-clause-place_in c = inside (goal.at.has-requires-clause-place_in c).After-place-place
 
-pub apply-requires-clause-places_in : goal.apply-requires-clause-places_in
-apply-requires-clause-places_in c = rw c.list_places.ensures (place-in c.requires.few c.requires.lawful)
+pub has-requires-in-loop-k-clause-place_in : goal.has-requires-in-loop-k-clause-place_in
+has-requires-in-loop-k-clause-place_in c = inside (goal.at.has-requires-in-loop-k-clause-place_in c).After-place-place
 
--- what was read
-within : (c : After-gather) → IsWithin (cells_of c.args.board.now) 2 (has c.args.board.now)
-within c = within_of (alone c.requires.few c.requires.lawful) c.args.board.now (record { same_cells = refl; same_values = c.requires.values })
-
-long : (c : After-gather) → length c.gather.new.sets ≡ length c.list_places.new.places
-long c =
-    omega (arith, c.gather.auto.sets, length-take c.len-cells.result c.args.sets.now, c.len-cells.ensures, c.requires.sets_room, ap length c.list_places.ensures)
-
-bits : (c : After-gather) (k : ℕ) → k < length c.list_places.new.places
-    → IsBitsOf (has c.args.board.now (slice_index c.list_places.new.places k)) 2 (slice_index c.gather.new.sets k)
-bits c = bits-of_values c.args.board.now 2 c.list_places.new.places c.gather.new.sets c.requires.values c.gather.ensures.bits
+pub retain-struck-requires : goal.retain-struck-requires
+retain-struck-requires c = inside (goal.at.retain-struck-requires c).After-place-place
 
 pub returns-then-not-calls-clause-left : goal.returns-then-not-calls-clause-left
 returns-then-not-calls-clause-left c =
-    let g = (goal.at.returns-then-not-calls-clause-left c).After-gather in
-    visit-idle c.requires.few c.requires.lawful _ (within g) c.list_places.ensures _ (long g) (bits g) c.of_sets-tally.ensures c.bounds.ensures
-    (sym c.calls.ensures ∙ c.if-not-calls.true)
+    idle-stays c.args.board.now c.requires.lawful c.requires.values c.of-tally.ensures (sym c.calls.ensures ∙ c.if-not-calls.true)
+
+pub loop-k-preserved : goal.loop-k-preserved
+loop-k-preserved c =
+    let i = c.loop-k.invariant in
+    let e = c.retain-struck.ensures in
+    record {
+      left = partly-more c.args.board.now c.requires.lawful c.requires.values c.of-tally.ensures c.kept.result i.left (omega (arith, c.loop-k-test.true, c.len-k-end.ensures))
+          c.place-place.ensures (ap₂ (λ a b. a && b) c.has.ensures c.has-in-loop-k.ensures) c.kept.ensures e.left;
+      striking = striking-more i.striking (kept-inside (has c.loop-k.board) (has c.retain-struck.new.self) _ _ e.left) e.same
+          (λ on. let w = e.lost on in (_, w.0, w.1, w.2));
+      shape = same-shape _ _ _ i.shape e.shape;
+    }
 
 pub returns-clause-left : goal.returns-clause-left
 returns-clause-left c =
-    let g = (goal.at.returns-clause-left c).After-gather in
-    c.apply.ensures.left ∙ visit-strikes c.requires.few c.requires.lawful _ (within g) c.list_places.ensures _ (long g) (bits g) c.of_sets-tally.ensures
-    c.bounds-2.ensures _ c.keep.ensures
+    partly-all c.args.board.now c.requires.lawful c.requires.values c.loop-k.invariant.left (omega (arith, c.loop-k-test.false, c.len-k-end.ensures))

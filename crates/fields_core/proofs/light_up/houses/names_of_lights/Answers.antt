@@ -24,20 +24,18 @@ loop-y-2-init c = none-yet (light_house c.args.puzzle.now) (row_house c.args.puz
 
 pub push_run-requires-clause-told : goal.push_run-requires-clause-told
 push_run-requires-clause-told c =
-    let p = c.args.puzzle.now in
-    let y = c.loop-y-2.y in
-    let x = c.loop-x-2.x in
-    let wide = c.columns-w.ensures.value in
-    rw wide (row-told p y x (rw wide at c.loop-x-2-test.true))
+    let row = c.row-row.ensures in
+    rw (row.puzzle, row.first, row.stride, row.len)
+    (row-told c.args.puzzle.now c.loop-y-2.y c.loop-x-2.x (rw c.columns-w.ensures.value at c.loop-x-2-test.true))
 
 pub loop-x-2-preserved : goal.loop-x-2-preserved
 loop-x-2-preserved c =
     let p = c.args.puzzle.now in
     let y = c.loop-y-2.y in
     let x = c.loop-x-2.x in
-    let wide = c.columns-w.ensures.value in
+    let row = c.row-row.ensures in
     λ old before. next-added (light_house p) (row_house p) old c.loop-x-2.names.items c.push_run.new.names.items (y * p.size.w) x (c.loop-x-2.invariant old before)
-    (rw (wide, row-house-is p y x (rw wide at c.loop-x-2-test.true)) at c.in_ok-push_run.ensures)
+    (rw (row.puzzle, row.first, row.stride, row.len, row-house-is p y x (rw c.columns-w.ensures.value at c.loop-x-2-test.true)) at c.in_ok-push_run.ensures)
 
 pub loop-y-2-preserved : goal.loop-y-2-preserved
 loop-y-2-preserved c =
@@ -51,21 +49,19 @@ loop-y-3-init c = none-yet (light_house c.args.puzzle.now) (column_house c.args.
 
 pub push_run-requires-in-loop-x-3-clause-told : goal.push_run-requires-in-loop-x-3-clause-told
 push_run-requires-in-loop-x-3-clause-told c =
-    let p = c.args.puzzle.now in
-    let y = c.loop-y-3.y in
-    let x = c.loop-x-3.x in
-    let wide = c.columns-w.ensures.value in
-    rw (wide, c.rows-h.ensures) (column-told p y x (rw wide at c.loop-x-3-test.true))
+    let column = c.column-column.ensures in
+    rw (column.puzzle, column.first, column.stride, column.len)
+    (column-told c.args.puzzle.now c.loop-y-3.y c.loop-x-3.x (rw c.columns-w.ensures.value at c.loop-x-3-test.true))
 
 pub loop-x-3-preserved : goal.loop-x-3-preserved
 loop-x-3-preserved c =
     let p = c.args.puzzle.now in
     let y = c.loop-y-3.y in
     let x = c.loop-x-3.x in
-    let wide = c.columns-w.ensures.value in
+    let column = c.column-column.ensures in
     λ old before. next-added (light_house p) (column_house p) old c.loop-x-3.names.items c.push_run-in-loop-x-3.new.names.items (y * p.size.w) x
     (c.loop-x-3.invariant old before)
-    (rw (wide, c.rows-h.ensures, column-house-is p y x (rw wide at c.loop-x-3-test.true)) at c.in_ok-push_run-2.ensures)
+    (rw (column.puzzle, column.first, column.stride, column.len, column-house-is p y x (rw c.columns-w.ensures.value at c.loop-x-3-test.true)) at c.in_ok-push_run-2.ensures)
 
 pub loop-y-3-preserved : goal.loop-y-3-preserved
 loop-y-3-preserved c =

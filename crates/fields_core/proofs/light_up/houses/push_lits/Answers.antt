@@ -1,8 +1,8 @@
 use Rattle.std.proofs.Common.{replicate, rules}
 use Rattle.std.proofs.lemmas.List.{get_or-replicate}
-use Rattle.fields_core.proofs.Common.{IsAround, arith, false, get_or-set_other, get_or-set_same, length-set, light_house, lit_house, refl, sym, true, white, ◌*◌, ◌+◌, ◌<◌, ◌∙◌, ◌≡◌}
+use Rattle.fields_core.proofs.Common.{line_white, arith, false, get_or-set_other, get_or-set_same, length-set, light_house, lit_house, refl, sym, true, white, ◌*◌, ◌+◌, ◌<◌, ◌∙◌, ◌≡◌}
 use Rattle.fields_core.proofs.HouseLemmas.{added-none, next-added, none-yet, push-added}
-use Rattle.fields_core.proofs.LightLatest.{column-at-is, column-here, columns-more, columns-none, columns-row, latest-black, latest-none, latest-white, line_white, lit-lines, lit-long, row-at-is, small-place}
+use Rattle.fields_core.proofs.LightLatest.{column-at-is, column-here, columns-more, columns-none, columns-row, latest-black, latest-none, latest-white, lit-lines, lit-long, row-at-is, small-place}
 use Rattle.fields_core.proofs.light_up.houses.push_lits.Goals as goal
 
 pub loop-y-init : goal.loop-y-init
@@ -55,19 +55,21 @@ loop-x-preserved-then-not-is_white c =
       wide = i.wide;
     }
 
-pub run_around-top-requires-clause-latest : goal.run_around-top-requires-clause-latest
-run_around-top-requires-clause-latest c =
-    let wide = c.columns-w.ensures.value in
-    let low = rw wide at c.loop-x-test.true in
-    rw (wide, c.rows-h.ensures) (column-here c.args.puzzle.now c.loop-x.columns c.loop-y.y c.loop-x.x c.loop-x.invariant.columns low)
+pub run_after-top-requires-clause-latest : goal.run_after-top-requires-clause-latest
+run_after-top-requires-clause-latest c =
+    let column = c.column.ensures in
+    rw (column.puzzle, column.first, column.stride, column.len)
+    (column-here c.args.puzzle.now c.loop-x.columns c.loop-y.y c.loop-x.x c.loop-x.invariant.columns (rw c.columns-w.ensures.value at c.loop-x-test.true))
 
 pub of-requires : goal.of-requires
 of-requires c =
     let is = c.columns-w.ensures.lawful in
     let wide = c.columns-w.ensures.value in
+    let row = rw c.row-line.ensures.len at c.run_after-row.ensures in
+    let column = rw c.column.ensures.len at c.run_after-top.ensures in
     record {
       place = rw wide (small-place c.args.puzzle.now is (rw wide at c.loop-x-test.true) (rw c.rows-h.ensures at c.loop-y-test.true));
-      cells = omega (arith, is.size.extent, wide, c.rows-h.ensures, c.run_around-row.ensures.high, c.run_around-top.ensures.high);
+      cells = omega (arith, is.size.extent, wide, c.rows-h.ensures, row.high, column.high);
     }
 
 pub loop-x-preserved : goal.loop-x-preserved
@@ -78,17 +80,19 @@ loop-x-preserved c =
     let y = c.loop-y.y in
     let wide = c.columns-w.ensures.value in
     let low : l.x < p.size.w = rw wide at c.loop-x-test.true in
-    let run = c.run_around-top.result in
+    let run = c.run_after-top.result in
     let on : white p (y * p.size.w + l.x) ≡ true = rw wide at (sym c.is_white.ensures.value ∙ c.if-not-is_white.false) in
-    let row : IsAround (line_white p (y * p.size.w) 1) p.size.w l.x c.run_around-row.result.0 c.run_around-row.result.1 = rw wide at c.run_around-row.ensures in
-    let column : IsAround (line_white p l.x p.size.w) p.size.h y run.0 run.1 = rw (wide, c.rows-h.ensures) at c.run_around-top.ensures in
+    let a = c.row-line.ensures in
+    let b = c.column.ensures in
+    let row = rw (a.puzzle, a.first, a.stride, a.len) at c.run_after-row.ensures in
+    let column = rw (b.puzzle, b.first, b.stride, b.len) at c.run_after-top.ensures in
     let lit = lit-lines p y l.x low on row column in
     record {
       added = next-added (light_house p) (lit_house p) c.args.names.now.items l.names.items c.push.new.self.items (y * p.size.w) l.x i.added
           (push-added (light_house p) l.names.items c.of.result c.in_ok-push.ensures.items lit
           (rw (c.of.ensures.kind, c.of.ensures.place, wide) lit)
-          (c.of.ensures.cells ∙ lit-long p y l.x c.run_around-row.result.0 c.run_around-row.result.1 column));
-      row = latest-white (line_white p (y * p.size.w) 1) c.run_around-row.result row;
+          (c.of.ensures.cells ∙ lit-long p y l.x c.run_after-row.result.0 c.run_after-row.result.1 column));
+      row = latest-white (line_white p (y * p.size.w) 1) c.run_after-row.result row;
       columns = columns-more p l.columns _ y l.x i.columns (λ other ne. get_or-set_other l.columns l.x other run (0, 0) ne)
           (rw (get_or-set_same l.columns l.x run (0, 0) (omega (arith, low, i.wide))) (latest-white (line_white p l.x p.size.w) run column));
       wide = omega (arith, i.wide, length-set l.columns l.x run);

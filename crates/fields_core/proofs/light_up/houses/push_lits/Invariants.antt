@@ -1,5 +1,5 @@
-use Rattle.fields_core.proofs.Common.{AreAdded, houses_below, length, light_house, lit_house, ◌*◌, ◌+◌, ◌≤◌}
-use Rattle.fields_core.proofs.LightLatest.{AreColumnsKept, line_white}
+use Rattle.fields_core.proofs.Common.{line_white, AreAdded, houses_below, length, light_house, lit_house, ◌*◌, ◌+◌, ◌≤◌}
+use Rattle.fields_core.proofs.LightLatest.{AreColumnsKept}
 use Rattle.fields_core.specs.LightRuns.{IsLatest}
 use Rattle.fields_core.proofs.light_up.houses.push_lits.Given as goal
 

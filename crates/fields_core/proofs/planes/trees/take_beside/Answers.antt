@@ -1,13 +1,7 @@
-use Rattle.fields_core.proofs.Common.{Extent, ap, arith, further-more, refl, sym, ◌∙◌, ◌≡◌}
+use Rattle.fields_core.proofs.Common.{Extent, ap, arith, further-more, refl, ◌∙◌, ◌≡◌}
 use Rattle.grid_core.specs.Planes.{ArePlanes}
-use Rattle.fields_core.proofs.TreeWords.{taken-is, zeros-kept, zeros-taken}
+use Rattle.fields_core.proofs.TreeWords.{taken-is, zeros-taken}
 use Rattle.fields_core.proofs.planes.trees.take_beside.Goals as goal
-
-pub returns-then-not-is_some-clause-left : goal.returns-then-not-is_some-clause-left
-returns-then-not-is_some-clause-left g c = λ passes is places_in.
-    let are : ArePlanes g.W.Word.room c.args.planes.now = c.size.ensures.lawful in
-    zeros-kept c.args.planes.now.size c.args.y g.W.Word.room _ passes _ are.narrow
-    (sym c.is_some.ensures ∙ c.if-not-is_some.true)
 
 pub returns-clause-left : goal.returns-clause-left
 returns-clause-left g c = λ passes is places_in.

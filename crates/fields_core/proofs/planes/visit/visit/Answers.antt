@@ -1,11 +1,20 @@
-use Rattle.fields_core.proofs.Common.{arith, inl, inr, ◌∙◌}
-use Rattle.fields_core.proofs.PartLemmas.{broken, counted-fewer, no-bound, none-undecided, one-bound, struck-alive, visited-idle, visited-struck, zero-bound}
+use Rattle.fields_core.proofs.Common.{arith, eq-eqb, eqb, inl, inr, ne_eqb, refl, ℕ, ◌-◌, ◌<◌, ◌≡◌, ◌∙◌}
+use Rattle.fields_core.proofs.PartLemmas.{at_bound, bound-reached, broken, counted-fewer, no-bound, none-undecided, struck-alive, visited-idle, visited-struck}
 use Rattle.fields_core.proofs.planes.visit.visit.Goals as goal
-use Rattle.fields_core.proofs.planes.visit.visit.Goals.{then-may-least-via-then-may-least, then-may-least-via-else-may-least+then-most-must}
+use Rattle.fields_core.proofs.planes.visit.visit.Goals.{After-strike, then-may-least-via-then-may-least, then-may-least-via-else-may-least+then-most-must}
 
 pub overflow_sub-must : goal.overflow_sub-must
 overflow_sub-must g c =
     counted-fewer c.requires.alive c.count-may.ensures
+
+pub returns-then-must-most-clause-left : goal.returns-then-must-most-clause-left
+returns-then-must-most-clause-left g c = λ _ house of.
+    let some = c.if-least-may.true in
+    let spare = c.if-must-most.true in
+    visited-idle c.args.planes.now (g.P.Parts.pieces c.args.parts.now) c.count-may.result.0
+    c.count-may.result.1 c.args.least c.args.most c.requires.alive c.count-may.ensures
+    c.requires.order house of (omega (arith, some)) (omega (arith, spare))
+    (λ d v low. no-bound _ _ v (λ e. absurd (omega (arith, e, spare))) (λ e. absurd (omega (arith, e, some))))
 
 pub returns-then-may-least-clause-broken : goal.returns-then-may-least-clause-broken
 returns-then-may-least-clause-broken g c = λ _ house of.
@@ -19,46 +28,26 @@ returns-then-may-least-clause-broken g c = λ _ house of.
           inr w.if-most-must.true
     ])
 
-pub returns-then-must-most-clause-left : goal.returns-then-must-most-clause-left
-returns-then-must-most-clause-left g c = λ _ house of.
+-- the value that is struck is that of the bound that is reached
+struck : (g : _) (c : After-strike g) → (c.from.result < 2) × ((v : ℕ) → v < 2
+    → at_bound c.args.least c.args.most (c.count-may.result.0 - c.count-may.result.1) c.count-may.result.0 v ≡ eqb v c.from.result)
+struck g c =
+    let fewer = counted-fewer c.requires.alive c.count-may.ensures in
+    bound-reached c.else-least-may.either c.if-may-least.false c.if-most-must.false (omega (arith, fewer, c.if-undecided-gt0.true)) c.requires.order
+    (λ e. c.from.ensures ∙ rw (eq-eqb _ _ e) refl) (λ ne. c.from.ensures ∙ rw (ne_eqb _ _ ne) refl)
+
+pub returns-then-undecided-gt0-clause-left : goal.returns-then-undecided-gt0-clause-left
+returns-then-undecided-gt0-clause-left g c = λ _ house of.
+    let value = struck g (goal.at.returns-then-undecided-gt0-clause-left g c).After-strike in
     c.strike.ensures.left
     ∙ visited-struck c.args.planes.now (g.P.Parts.pieces c.args.parts.now) c.count-may.result.0
     c.count-may.result.1 c.args.least c.args.most c.requires.alive c.count-may.ensures
-    c.requires.order house of
-    1 (omega arith) c.if-may-least.false c.if-most-must.false
-    (λ v low. one-bound c.count-may.result.0 v c.if-must-most.true
-    (let some = c.if-undecided-gt0.true in let fewer =
-    counted-fewer c.requires.alive c.count-may.ensures in omega (arith, some, fewer))
-    c.requires.order low)
+    c.requires.order house of c.from.result value.0 c.if-may-least.false c.if-most-must.false value.1
 
-pub returns-then-must-most-clause-alive : goal.returns-then-must-most-clause-alive
-returns-then-must-most-clause-alive g c =
-    struck-alive c.args.planes.now c.strike.new.planes _ _ 1
-    c.strike.ensures.further.same_size (omega arith) c.requires.alive c.strike.ensures.left
-
-pub returns-then-may-least-2-clause-left : goal.returns-then-may-least-2-clause-left
-returns-then-may-least-2-clause-left g c = λ _ house of.
-    c.strike-then-may-least-2.ensures.left
-    ∙ visited-struck c.args.planes.now _ c.count-may.result.0
-    c.count-may.result.1 c.args.least c.args.most c.requires.alive c.count-may.ensures
-    c.requires.order house of
-    0 (omega arith) c.if-may-least.false c.if-most-must.false
-    (λ v low. zero-bound c.if-must-most.false c.if-may-least-2.true low)
-
-pub returns-then-may-least-2-clause-alive : goal.returns-then-may-least-2-clause-alive
-returns-then-may-least-2-clause-alive g c =
-    struck-alive c.args.planes.now c.strike-then-may-least-2.new.planes
-    _ _ 0 c.strike-then-may-least-2.ensures.further.same_size
-    (omega arith) c.requires.alive
-    c.strike-then-may-least-2.ensures.left
-
-pub returns-else-may-least-2-clause-left : goal.returns-else-may-least-2-clause-left
-returns-else-may-least-2-clause-left g c = λ _ house of.
-    visited-idle c.args.planes.now (g.P.Parts.pieces c.args.parts.now) c.count-may.result.0
-    c.count-may.result.1 c.args.least c.args.most c.requires.alive c.count-may.ensures
-    c.requires.order house of
-    c.if-may-least.false c.if-most-must.false
-    (λ d v low. no-bound _ _ v c.if-must-most.false c.if-may-least-2.false)
+pub returns-then-undecided-gt0-clause-alive : goal.returns-then-undecided-gt0-clause-alive
+returns-then-undecided-gt0-clause-alive g c =
+    struck-alive c.args.planes.now c.strike.new.planes _ _ c.from.result c.strike.ensures.further.same_size
+    (struck g (goal.at.returns-then-undecided-gt0-clause-alive g c).After-strike).0 c.requires.alive c.strike.ensures.left
 
 pub returns-else-undecided-gt0-clause-left : goal.returns-else-undecided-gt0-clause-left
 returns-else-undecided-gt0-clause-left g c = λ _ house of.

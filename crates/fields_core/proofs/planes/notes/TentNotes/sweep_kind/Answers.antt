@@ -1,35 +1,67 @@
-use Rattle.fields_core.proofs.Common.{arith, houses_below, true, ◌∙◌}
-use Rattle.fields_core.specs.Visits.{AreVisited}
-use Rattle.fields_core.specs.Waits.{kind_houses}
-use Rattle.fields_core.proofs.TentWaits.{waits-skip}
-use Rattle.fields_core.proofs.VisitLemmas.{sweep-broken, sweep-more}
+use Rattle.fields_core.proofs.Common.{arith, has_bit, refl, sym, ℕ, ◌∙◌, ◌≡◌, ◌≤◌}
+use Rattle.grid_core.proofs.TurnLemmas.{fewer_left}
+use Rattle.gameid_core.specs.Puzzles.{Tents}
+use Rattle.grid_core.specs.Planes.{has}
+use Rattle.fields_core.specs.Waits.{AreRested, kind_lines}
+use Rattle.fields_core.specs.declared.planes.waits.Kind.{Kind}
+use Rattle.fields_core.specs.declared.planes.waits.Kind.TheVariants.{Columns, Rows, Trees, Squares}
+use Rattle.fields_core.proofs.TentIdle.{passed-all, passed-broken, passed-first, passed-idle, passed-next}
 use Rattle.fields_core.proofs.planes.notes.TentNotes.sweep_kind.Goals as goal
-use Rattle.fields_core.proofs.planes.notes.TentNotes.sweep_kind.Goals.{In-Some}
+use Rattle.fields_core.proofs.planes.notes.TentNotes.sweep_kind.Goals.{else-len, then-len}
 
--- the houses below the next line that waits
-passed : (g : _) (c : In-Some g) → AreVisited (houses_below (kind_houses c.args.puzzle.now c.args.kind) c.in-Some.line)
-    c.args.planes.now c.loop-line.planes true
-passed g c =
-    let next = c.in-Some.ensures in
-    let most = next.1 in
-    waits-skip g.W.Word.bits c.args.puzzle.now c.args.kind c.loop-line.self.waits next.0 (omega (arith, most, c.lines.ensures, c.from-lines.ensures)) c.loop-line.invariant.rested
-    (λ k at lt. rw c.lines-in-loop-line.ensures at (next.3 k at lt)) c.loop-line.invariant.visited
+few-lines : (p : Tents) (kind : Kind) {room : ℕ} → p.size.w ≤ room → p.size.h ≤ room → kind_lines p kind ≤ room
+few-lines p Columns narrow low = narrow
+few-lines p Rows narrow low = low
+few-lines p Trees narrow low = low
+few-lines p Squares narrow low = low
 
-pub returns-then-not-turn-clause-visited : goal.returns-then-not-turn-clause-visited
-returns-then-not-turn-clause-visited g c =
-    sweep-broken (kind_houses c.args.puzzle.now c.args.kind) (passed g (goal.at.returns-then-not-turn-clause-visited g c).In-Some)
-    c.turn.ensures.visited c.if-not-turn.true (let most = c.in-Some.ensures.1 in omega (arith, most, c.lines.ensures, c.from-lines.ensures))
+pub loop-left-init : goal.loop-left-init
+loop-left-init g c = record {
+  passed = passed-first g.W.Word.bits c.args.puzzle.now c.args.kind c.args.self.now.waits (has_bit (g.W.Word.bits c.both-left.result)) c.requires.field.alive
+      c.requires.rested
+      (λ k. c.both-left.ensures k ∙ rw (c.lines-2.ensures, c.all-lines.ensures k, c.from.ensures, c.lines.ensures) refl);
+  trees = refl;
+  waits = refl;
+}
 
-pub loop-line-preserved : goal.loop-line-preserved
-loop-line-preserved g c = record {
-  from_in = (let most = c.in-Some.ensures.1 in omega (arith, most, c.lines.ensures, c.from-lines.ensures));
-  visited = sweep-more (kind_houses c.args.puzzle.now c.args.kind) (passed g (goal.at.loop-line-preserved g c).In-Some)
-      c.turn.ensures.visited c.if-not-turn.false;
-  rested = c.turn.ensures.rested c.if-not-turn.false;
-  trees = c.turn.ensures.trees ∙ c.loop-line.invariant.trees;
+pub loop-left-smaller : goal.loop-left-smaller
+loop-left-smaller g c =
+    fewer_left (has_bit (g.W.Word.bits c.loop-left.left)) (has_bit (g.W.Word.bits c.without_lowest-left.result)) g.W.Word.room c.lowest.result
+    c.lowest.ensures.within c.lowest.ensures.has (λ k. c.without_lowest-left.ensures c.lowest.result k c.lowest.ensures)
+
+pub returns-then-not-visit-clause-visited : goal.returns-then-not-visit-clause-visited
+returns-then-not-visit-clause-visited g c =
+    passed-broken c.args.puzzle.now c.args.kind c.loop-left.invariant.passed c.lowest.ensures c.visit.ensures.visited c.if-not-visit.true
+
+pub loop-left-preserved : goal.loop-left-preserved
+loop-left-preserved g c = record {
+  passed = passed-next c.args.puzzle.now c.args.kind c.loop-left.invariant.passed c.lowest.ensures c.visit.ensures.visited c.requires.field.lawful
+      c.requires.field.size c.if-not-visit.false (has_bit (g.W.Word.bits c.without_lowest-left.result))
+      (λ k. c.without_lowest-left.ensures c.lowest.result k c.lowest.ensures);
+  trees = c.visit.ensures.trees ∙ c.loop-left.invariant.trees;
+  waits = c.visit.ensures.waits ∙ c.loop-left.invariant.waits;
 }
 
 pub returns-clause-visited : goal.returns-clause-visited
 returns-clause-visited g c =
-    waits-skip g.W.Word.bits c.args.puzzle.now c.args.kind c.loop-line.self.waits c.loop-line.invariant.from_in (omega arith) c.loop-line.invariant.rested
-    (λ k at lt. rw c.lines-in-loop-line.ensures at (c.in_default.ensures k at (omega (arith, lt, c.lines.ensures, c.from-lines.ensures)))) c.loop-line.invariant.visited
+    passed-all c.args.puzzle.now c.args.kind c.loop-left.invariant.passed
+    (few-lines c.args.puzzle.now c.args.kind c.requires.field.narrow c.requires.field.low) (sym c.is_some.ensures ∙ c.loop-left-test.false)
+
+pub returns-clause-rested : goal.returns-clause-rested
+returns-clause-rested g c = λ _.
+    let bits = g.W.Word.bits in
+    let p = c.args.puzzle.now in
+    let now = c.loop-left.planes in
+    let passed = c.loop-left.invariant.passed in
+    let further = passed.visited.further in
+    let before : AreRested bits p c.loop-left.self.waits (has c.args.planes.now) = rw c.loop-left.invariant.waits c.requires.rested in
+    c.settle.ensures p (has now)
+    (elim c.if-len.branch [
+      | then-len w ↦ rw w.self-is (w.wake.ensures p c.args.planes.now c.requires.field.lawful c.requires.field.size (sym c.len-len.ensures.len)
+          c.requires.field.alive passed.visited.alive further before)
+      | else-len w ↦
+          let still : now.len ≡ c.args.planes.now.len = omega (arith, further.grows, w.if-len.false, c.len.ensures.len, c.len-len.ensures.len) in
+          rw (w.self-is, further.same still) before
+    ])
+    (passed-idle p c.args.kind passed
+    (few-lines p c.args.kind c.requires.field.narrow c.requires.field.low) (sym c.is_some.ensures ∙ c.loop-left-test.false))

@@ -1,18 +1,49 @@
-use Rattle.std.proofs.Common.{refl}
+use Rattle.std.proofs.Common.{◌∙◌, refl}
 use Rattle.fields_core.proofs.PositionSteps.{start-walks}
 use Rattle.fields_core.specs.CountLaws.{count-lawful}
 use Rattle.fields_core.proofs.planes.position.PlanePositionPosition.begin.Goals as goal
+use Rattle.fields_core.proofs.planes.position.PlanePositionPosition.begin.Goals.{in-Short, in-Long}
 
 pub start-requires-clause-fits : goal.start-requires-clause-fits
 start-requires-clause-fits g c =
     let r = rw (← c.self.view_is) at c.requires in
-    rw c.puzzle-2.ensures (g.met.P.PlaneGame.fits_smaller _ _ _ r c.choose.ensures.planes.1)
+    rw c.puzzle-puzzle.ensures (g.met.P.Short.PlaneNotes.fits_smaller _ _ _ r (rw c.in-Short.is at c.choose.ensures.planes.room.1))
+
+pub start-requires-in-Long-clause-fits : goal.start-requires-in-Long-clause-fits
+start-requires-in-Long-clause-fits g c =
+    let r = rw (← c.self.view_is) at c.requires in
+    rw c.puzzle-puzzle.ensures (g.met.P.Long.PlaneNotes.fits_smaller _ _ _ r (rw c.in-Long.is at c.choose.ensures.planes.room.1))
+
+pub invariant_of-self : goal.invariant_of-self
+invariant_of-self g c = elim c.match-self.branch [
+  | in-Short w ↦
+      let are = rw w.in-Short.is at c.choose.ensures.planes in
+      rw w.self-inside-is (
+        c.self.invariant.0,
+        record { room = (w.start.ensures.room ∙ are.room.0, w.start.ensures.keeps _ are.room.1); spare_room = are.spare_room; enough = are.enough },
+        c.self.invariant.2,
+      )
+  | in-Long w ↦
+      let are = rw w.in-Long.is at c.choose.ensures.planes in
+      rw w.self-inside-is (
+        c.self.invariant.0,
+        record { room = (w.start-in-Long.ensures.room ∙ are.room.0, w.start-in-Long.ensures.keeps _ are.room.1); spare_room = are.spare_room; enough = are.enough },
+        c.self.invariant.2,
+      )
+]
 
 pub returns-clause-walks : goal.returns-clause-walks
 returns-clause-walks g c =
     let r = rw (← c.self.view_is) at c.requires in
     let rules = c.args.rules.now in
-    start-walks _ _ _ _ _ (count-lawful _ _ _ _ rules.counting) r
-    (rw c.puzzle-2.ensures at c.start.ensures.size) (g.met.P.PlaneGame.cells_are rules.puzzle)
-    (rw c.start.ensures.words (rw c.puzzle.ensures at c.choose.ensures.suited)) (rw c.puzzle-2.ensures at c.start.ensures.written)
-    (rw c.puzzle-2.ensures at c.start.ensures.start) refl
+    let suited = rw c.puzzle.ensures at c.choose.ensures.suited in
+    elim c.match-self.branch [
+      | in-Short w ↦
+          let start = rw c.puzzle-puzzle.ensures at w.start.ensures in
+          rw w.self-inside-is (start-walks _ _ _ _ _ (count-lawful _ _ _ _ rules.counting) r start.size
+          (g.met.P.PlaneGame.cells_are rules.puzzle) (rw w.in-Short.is at suited) start.written start.start refl)
+      | in-Long w ↦
+          let start = rw c.puzzle-puzzle.ensures at w.start-in-Long.ensures in
+          rw w.self-inside-is (start-walks _ _ _ _ _ (count-lawful _ _ _ _ rules.counting) r start.size
+          (g.met.P.PlaneGame.cells_are rules.puzzle) (rw w.in-Long.is at suited) start.written start.start refl)
+    ]

@@ -5,4 +5,4 @@ use Rattle.fields_core.proofs.planes.position.PlanePositionPosition.checkpoint.G
 pub returns-clause-walks : goal.returns-clause-walks
 returns-clause-walks g c =
     let r = rw (← c.self.view_is) at c.requires in
-    rw c.len.ensures.len (mark-walks _ c.args.level r.walks r.level_in r.outer (omega (arith, r.level_in, r.walks.fits.same_cells, c.self.invariant.0.marks_long)))
+    rw c.len.ensures.len (mark-walks _ c.args.level r.walks r.level_in r.outer (omega (arith, r.level_in, r.walks.fits.same_cells, c.self.invariant.0)))

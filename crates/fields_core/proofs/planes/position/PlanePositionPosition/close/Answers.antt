@@ -1,13 +1,31 @@
-use Rattle.fields_core.proofs.PositionSteps.{step-walks}
+use Rattle.std.proofs.Common.{◌∙◌}
 use Rattle.fields_core.proofs.planes.position.PlanePositionPosition.close.Goals as goal
+use Rattle.fields_core.proofs.planes.position.PlanePositionPosition.close.Goals.{in-Short, in-Long}
 
 pub close-requires-clause-fits : goal.close-requires-clause-fits
 close-requires-clause-fits g c =
     let r = rw (← c.self.view_is) at c.requires in
-    rw c.puzzle.ensures (g.met.P.PlaneGame.fits_smaller _ _ _ r.walks.fits c.self.invariant.1)
+    rw c.puzzle-puzzle.ensures (g.met.P.Short.PlaneNotes.fits_smaller _ _ _ r.walks.fits (rw c.in-Short.is at c.self.invariant.1.room.1))
 
-pub returns-clause-walks : goal.returns-clause-walks
-returns-clause-walks g c =
+pub close-requires-in-Long-clause-fits : goal.close-requires-in-Long-clause-fits
+close-requires-in-Long-clause-fits g c =
     let r = rw (← c.self.view_is) at c.requires in
-    step-walks _ _ _ r.walks c.close.ensures.further (rw c.puzzle.ensures at c.close.ensures.alive)
-    c.close.ensures.words (rw c.puzzle.ensures at c.close.ensures.written)
+    rw c.puzzle-puzzle.ensures (g.met.P.Long.PlaneNotes.fits_smaller _ _ _ r.walks.fits (rw c.in-Long.is at c.self.invariant.1.room.1))
+
+pub invariant_of-self : goal.invariant_of-self
+invariant_of-self g c = elim c.match-self.branch [
+  | in-Short w ↦
+      let are = rw w.in-Short.is at c.self.invariant.1 in
+      rw w.self-inside-is (
+        c.self.invariant.0,
+        record { room = (w.close.ensures.further.same_room ∙ are.room.0, w.close.ensures.kept.serves _ are.room.1); spare_room = are.spare_room; enough = are.enough },
+        c.self.invariant.2,
+      )
+  | in-Long w ↦
+      let are = rw w.in-Long.is at c.self.invariant.1 in
+      rw w.self-inside-is (
+        c.self.invariant.0,
+        record { room = (w.close-in-Long.ensures.further.same_room ∙ are.room.0, w.close-in-Long.ensures.kept.serves _ are.room.1); spare_room = are.spare_room; enough = are.enough },
+        c.self.invariant.2,
+      )
+]

@@ -11,7 +11,7 @@ read g c =
     let r = rw (← c.self.view_is) at c.requires in
     let m = c.self.inside.marks in
     get_or_read_under m.items c.args.level m.len _ 0 c.index.ensures
-    (omega (arith, r.marked, r.walks.few, r.walks.fits.same_cells, c.self.invariant.0.marks_long, m.ok.0)) m.ok.0
+    (omega (arith, r.marked, r.walks.few, r.walks.fits.same_cells, c.self.invariant.0, m.ok.0)) m.ok.0
 
 pub returns-clause-walks : goal.returns-clause-walks
 returns-clause-walks g c =

@@ -1,0 +1,11 @@
+use Rattle.fields_core.proofs.Common.{SameShape, has, house_told}
+use Rattle.engine_core.proofs.HouseLemmas.{IsStriking}
+use Rattle.fields_core.proofs.HouseVisits.{IsPartly}
+use Rattle.fields_core.proofs.count.rules.strike.Given as goal
+
+abbrev pub invariant-loop-k : goal.invariant-loop-k
+invariant-loop-k l = record {
+  left : IsPartly (house_told l.house) l.k (has l.fn.board) (has l.board);
+  striking : IsStriking (has l.fn.board) (has l.board) l.struck;
+  shape : SameShape l.fn.board l.board;
+}

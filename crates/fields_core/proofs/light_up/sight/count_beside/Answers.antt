@@ -1,0 +1,12 @@
+use Rattle.std.proofs.Common.{rules}
+use Rattle.std.proofs.lemmas.List.Sums.{length-filter}
+use Rattle.fields_core.proofs.Common.{bulb, sym, ◌∙◌}
+use Rattle.fields_core.proofs.TentBeside.{whole-cell}
+use Rattle.fields_core.proofs.light_up.sight.count_beside.Goals as goal
+
+pub returns : goal.returns
+returns c =
+    let p = c.args.puzzle.now in
+    let passing = c.count_passing.ensures.count (bulb c.args.grid.now) (λ d answer lt met. search rules) in
+    rw (c.size.ensures.value, c.columns-w.ensures.value, sym (whole-cell p.size.w c.args.place)) at passing
+    ∙ length-filter (bulb c.args.grid.now) _
