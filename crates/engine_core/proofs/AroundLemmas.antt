@@ -1,10 +1,12 @@
 -- Closings that go around over the houses that wait.
-use Rattle.engine_core.proofs.Common.{Bool, Candidates, Dead, HasStruck, IsAround, IsAlive, IsClosedIn, IsClosing, IsDead, IsLawful, IsRested, IsTaken, IsWithin, IsWoken, List, Open, RuleSystem, Some, None, [], after, arith, but, cases_Bool, cases_lt, common_steps, false, if◌then◌else◌, inl, inr, is_dead, length, length-append, lt-ltb, ltb, le-ltb, max, not, refl, suc, sym, take, true, true≢false, within_inside, ℕ, ◌&&◌, ◌*◌, ◌++◌, ◌+◌, ◌-◌, ◌<◌, ◌∙◌, ◌∷◌, ◌||◌, ◌≡◌, ◌≤◌, ◌⊎◌}
+use Rattle.engine_core.specs.Closer.{IsClosedBy}
+use Rattle.engine_core.specs.declared.search.position.Taken.{Taken}
+use Rattle.engine_core.proofs.Common.{BoardAndMarks, Bool, has, Candidates, Dead, HasStruck, IsAround, IsAlive, IsClosedIn, IsClosing, IsDead, IsLawful, IsRested, IsTaken, IsWithin, IsWoken, List, Open, RuleSystem, Some, None, [], after, arith, but, cases_Bool, cases_lt, common_steps, false, if◌then◌else◌, inl, inr, is_dead, length, length-append, lt-ltb, ltb, le-ltb, max, not, refl, suc, sym, take, true, true≢false, within_inside, ℕ, ◌&&◌, ◌*◌, ◌++◌, ◌+◌, ◌-◌, ◌<◌, ◌∙◌, ◌∷◌, ◌||◌, ◌≡◌, ◌≤◌, ◌⊎◌}
 use Rattle.std.specs.Int.{from_bool}
 use Rattle.engine_core.proofs.ClosingLemmas.{replay_inside}
 use Rattle.engine_core.proofs.EndLemmas.{closed-in, taken-dead, taken-open}
 use Rattle.engine_core.proofs.QueueLemmas.{closed_from_rested}
-use Rattle.engine_core.proofs.ListLemmas.{IsRunning, closing-dead, closing-open, room, running-first, running-turn}
+use Rattle.engine_core.proofs.ListLemmas.{IsRunning, closing-dead, closing-open, room, running-first, running-turn, closing-none}
 use Rattle.engine_core.proofs.SweepLemmas.{IsMarked, IsSwept, IsSweeping, all-marked, few_sweeps, struck-more, struck-none, sweep-idle, swept-alive, swept-dead, swept-first, swept-idle, swept-shut, swept-turn, sweeping-inside, sweeping-first, sweeping-passed, sweeping-dead, sweeping-turn, woken-marked}
 
 -- the board K was left in the n-th sweep of K0, which began with the board `first`, before the house `from`; each sweep
@@ -257,15 +259,26 @@ module _ (p : RuleSystem) (laws : IsLawful p) (K0 : Candidates) (within : IsWith
       rw e (swept-idle laws s.amid.whole sweeps within s.amid.swept all.left (s.same refl) (sweep-idle all (s.same refl)))
 
   -- the answer of a closing whose turns are visits of a queue, or else sweeps
-  pub exact-end : {turns from : ℕ} {K : Candidates} {waits : ℕ → Bool} (queue struck dead : Bool) (trace : List ℕ) → p.by_queue ≡ queue
-      → (p.by_queue ≡ true → IsQueued p K0 (take turns trace) K waits dead) → (p.by_queue ≡ false → IsStriking p K0 turns from K waits struck)
-      → from ≤ p.houses → is_dead p.cells p.values K ≡ dead
+  pub exact-end : {turns from : ℕ} {waits : ℕ → Bool} (queue struck dead : Bool) (closer : BoardAndMarks) (taken : Taken) → p.by_queue ≡ queue
+      → (p.by_queue ≡ true → (turns ≤ length closer.trace) × IsQueued p K0 (take turns closer.trace) (has closer.board) waits dead)
+      → (p.by_queue ≡ false → IsStriking p K0 turns from (has closer.board) waits struck)
+      → from ≤ p.houses → is_dead p.cells p.values (has closer.board) ≡ dead
       → (dead ≡ true → p.by_queue ≡ false → (h : ℕ) → from ≤ h → h < p.houses → waits h ≡ false)
       → (dead ≡ false → (h : ℕ) → h < p.houses → waits h ≡ false)
-      → IsClosing p K0 K (if dead then Dead else Open) (take (if queue then turns else 0) trace)
-      (if queue then 0 else max (turns - from_bool (not struck)) 1)
-  exact-end true struck true trace e queued striking past is rest none = (queued e).ended refl
-  exact-end {K} {waits} true struck false trace e queued striking past is rest none =
-      closing-open p laws K0 _ K waits e within ((queued e).running refl) (none refl)
-  exact-end false struck dead trace e queued striking past is rest none =
-      striking-end struck dead (striking e) past e is (λ on. rest on e) none
+      → taken.closing ≡ (if dead then Dead else Open)
+      → taken.turns ≡ (if queue then turns else max (turns - from_bool (not struck)) 1)
+      → IsClosedBy p queue K0 taken closer
+  exact-end true struck true closer taken e queued striking past is rest none answer told =
+      record { closing = rw (answer, told) ((queued e).1.ended refl); visits = rw told (queued e).0 }
+  exact-end {waits = waits} true struck false closer taken e queued striking past is rest none answer told = record {
+    closing = rw (answer, told) (closing-open p laws K0 _ (has closer.board) waits e within ((queued e).1.running refl) (none refl));
+    visits = rw told (queued e).0;
+  }
+  exact-end false struck dead closer taken e queued striking past is rest none answer told =
+      record { closing = rw (answer, told) (striking-end struck dead (striking e) past e is (λ on. rest on e) none); visits = omega arith }
+
+-- a board that is dead already
+pub closed-none : {p : RuleSystem} (laws : IsLawful p) (queue : Bool) (closer : BoardAndMarks) → IsWithin p.cells p.values (has closer.board)
+    → IsDead p (has closer.board) → IsClosedBy p queue (has closer.board) (record { closing = Dead; turns = 0 }) closer
+closed-none {p} laws true closer within dead = record { closing = closing-none p laws (has closer.board) within dead; visits = omega arith }
+closed-none {p} laws false closer within dead = record { closing = closing-none p laws (has closer.board) within dead; visits = omega arith }

@@ -1,14 +1,7 @@
 -- Boards that differ in one cell alone.
-use Rattle.engine_core.proofs.Common.{Bool, Candidates, IsBitsOf, IsBoardOf, IsChange, IsInside, Layout, RuleSystem, SameShape, arith, cases_eq, common_steps, count_below, count_below-few, eq-eqb, eqb, eqb-true, fun_ext, has, has-within, has_bit, left_by, ne_eqb, not, only, pow_below, true, ℕ, ◌&&◌, ◌<◌, ◌^◌, ◌≡◌, ◌≤◌}
+use Rattle.engine_core.proofs.Common.{Bool, Candidates, IsBitsOf, IsBoardOf, IsChange, IsInside, Layout, RuleSystem, arith, cases_eq, common_steps, count_below, count_below-few, eq-eqb, eqb, eqb-true, fun_ext, has, has_bit, left_by, ne_eqb, not, only, pow_below, true, ℕ, ◌&&◌, ◌<◌, ◌^◌, ◌≡◌, ◌≤◌}
 use Rattle.grid_core.proofs.WordLemmas.{power-bits}
 use Rattle.engine_core.proofs.QueueLemmas.{within_of}
-
--- by the bits that boards give for a cell
-pub change-of : {p : RuleSystem} {b b' : Layout} (place before after : ℕ) → IsBoardOf p b
-    → SameShape b b' → place < p.cells → IsBitsOf (has b place) b.values before
-    → IsBitsOf (has b' place) b'.values after
-    → ((c v : ℕ) → (c ≡ place → ⊥) → has b' c v ≡ has b c v) → IsChange p.cells p.values (has b) (has b') place before after
-change-of place before after of shape lt was is others = grind (arith, common_steps, has-within)
 
 -- ---- a cell of which less is left
 pub left-inside : (K : Candidates) (place bits : ℕ) → IsInside (left_by K place bits) K

@@ -1,5 +1,5 @@
 -- What a closing came to, for a walk that goes on from it.
-use Rattle.engine_core.proofs.Common.{Candidates, CountsClosing, Dead, IsClosedIn, IsClosing, IsTaken, List, Open, RuleSystem, arith, common_steps, false, length, true, ℕ, ◌+◌, ◌≡◌, ◌≤◌}
+use Rattle.engine_core.proofs.Common.{Candidates, Dead, IsClosedIn, IsClosing, IsTaken, List, Open, RuleSystem, arith, common_steps, false, length, true, ℕ, ◌≡◌}
 use Rattle.engine_core.specs.declared.mode.Closing.{Closing}
 
 -- where the closure is dead, any board may be left
@@ -13,6 +13,3 @@ taken-open c = grind (arith, common_steps)
 pub closed-in : {p : RuleSystem} {K E : Candidates} {answer : Closing} {trace : List ℕ} {sweeps m : ℕ} → IsClosing p K E answer trace sweeps
     → (p.by_queue ≡ true → length trace ≡ m) → (p.by_queue ≡ false → sweeps ≡ m) → IsClosedIn p K m
 closed-in c visits turns = grind (arith, common_steps)
-
-pub turns-counted : (p : RuleSystem) (K : Candidates) (m before : ℕ) → IsClosedIn p K m → m ≤ 18446744073709551615 → CountsClosing p K before (before + m)
-turns-counted p K m before c few = grind (arith, common_steps)

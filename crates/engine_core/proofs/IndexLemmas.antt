@@ -1,5 +1,5 @@
 -- Laws of the list of houses place by place.
-use Rattle.engine_core.proofs.Common.{AreDifferent, AreHousesAt, AreScopes, Bool, IsFirstFrom, IsIndex, IsNext, IsPut, IsRoom, List, None, Option, Some, [], add-one, ap, arith, between, cases_Bool, cases_eq, cases_lt, common_steps, cond, count_below, counted_twice, eq-eqb, eqb, false, from_first, get_or-between, get_or-set_at, get_or-set_other, get_or-take, has_place, has_place-at, has_place-here, inl, inr, length, length-between, length-set, length-take-le, longest, max, ne_eqb, number_at, places, refl, scope_of, set, slice_index, start_at, suc, sum_below, sum_by, sum_by-cons, sym, take, true, true≢false, zero, ℕ, ◌++◌, ◌+◌, ◌-◌, ◌<◌, ◌||◌, ◌∙◌, ◌∷◌, ◌≡◌, ◌≤◌}
+use Rattle.engine_core.proofs.Common.{AreDifferent, AreHousesAt, AreScopes, Bool, IsFirstFrom, IsIndex, IsNext, IsPut, IsRoom, List, None, Option, Some, [], add-one, ap, arith, between, cases_Bool, cases_eq, cases_lt, common_steps, cond, count_below, counted_twice, eq-eqb, eqb, false, from_first, get_or-between, get_or-set_at, get_or-set_other, get_or-take, has_place, has_place-at, has_place-here, inl, inr, length, length-between, length-set, length-take-le, ne_eqb, number_at, places, refl, scope_of, set, slice_index, start_at, suc, sum_below, sum_by, sum_by-cons, sym, take, true, true≢false, zero, ℕ, ◌++◌, ◌+◌, ◌-◌, ◌<◌, ◌||◌, ◌∙◌, ◌∷◌, ◌≡◌, ◌≤◌}
 
 -- ---- sums and counts as they go on
 pub sum_below-more : (f : ℕ → ℕ) (m n : ℕ) → m ≤ n → sum_below f m ≤ sum_below f n
@@ -256,12 +256,3 @@ has_place-none c = refl
 pub number_at-none : (scopes : List (List ℕ)) (c : ℕ) → number_at scopes 0 c ≡ 0
 unfolding count_below
 number_at-none scopes c = refl
-
--- the longest of one scope more
-pub longest-none : (scope : ℕ → List ℕ) → longest scope 0 ≡ 0
-unfolding longest
-longest-none scope = refl
-
-pub longest-more : (scope : ℕ → List ℕ) (n : ℕ) → longest scope (n + 1) ≡ max (longest scope n) (length (scope n))
-unfolding longest
-longest-more scope n = rw add-one refl

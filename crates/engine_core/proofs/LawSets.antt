@@ -1,17 +1,15 @@
 -- The laws that the goals of a file use, by the file's name.
 use Rattle.engine_core.proofs.Common.{bound_enough, by_houses-lawful, ends-close, ends-more, last-le, length-pieces, length-set, piece-at, piece-ends, sets-bits, shown_from_test, test_from_shown}
 use Rattle.engine_core.proofs.ClosingLemmas.{closure_inside, closure_closed, closure_largest}
-use Rattle.engine_core.proofs.IndexLemmas.{has_place-none, number_at-none, longest-none, longest-more, not_taken, summed-none, summed-sum, summed-more, sum_below-more, ascends, ends_in, houses-at, next-at, nth-at, scopes-wider, index-none, counts_same, houses_of_places, index-room, index-turn, put-none, put-room, put-more, number_at-more}
+use Rattle.engine_core.proofs.IndexLemmas.{has_place-none, number_at-none, not_taken, summed-none, summed-sum, summed-more, sum_below-more, ascends, ends_in, houses-at, next-at, nth-at, scopes-wider, index-none, counts_same, houses_of_places, index-room, index-turn, put-none, put-room, put-more, number_at-more}
 use Rattle.engine_core.proofs.CallLemmas.{upto-first}
-use Rattle.engine_core.proofs.ListedLemmas.{scopes-fit, table-houses, table-longest}
+use Rattle.engine_core.proofs.ListedLemmas.{scopes-fit, table-houses}
 use Rattle.engine_core.proofs.PickLemmas.{pick-is}
 use Rattle.engine_core.proofs.PieceLemmas.{pieces-joined, closed-in, listed-close, total-closed, listed-more, last-at, few-listed}
 use Rattle.engine_core.proofs.PlaceCounts.{counted-few, counted-place}
 use Rattle.engine_core.proofs.TrialLemmas.{tried-first, trials-counted}
-use Rattle.engine_core.proofs.VerdictLemmas.{spent-le, outcome-true, outcome-counts, spent-counts, found_iff}
+use Rattle.engine_core.proofs.VerdictLemmas.{outcome-true, outcome-counts, spent-counts, found_iff}
 use Rattle.engine_core.proofs.WalkLemmas.{walk-once, walk-unfold}
-use Rattle.engine_core.proofs.CountLemmas.{search-few, spent-tried}
-use Rattle.engine_core.proofs.EndLemmas.{turns-counted}
 use Rattle.engine_core.proofs.HouseLemmas.{kept-first, kept-inside, kept-more, striking-first, striking-more}
 use Rattle.engine_core.proofs.JudgeLemmas.{grid-fits, grid-long, pick-ends, pick-more}
 use Rattle.engine_core.proofs.StoreLemmas.{settled-dead}
@@ -24,8 +22,6 @@ pub ruleset house_index_laws = (
   counted-place,
   has_place-none,
   number_at-none,
-  longest-none,
-  longest-more,
   not_taken,
   summed-none,
   summed-sum,
@@ -50,7 +46,7 @@ pub ruleset house_index_laws = (
   length-set,
 )
 
-pub ruleset house_rules_laws = (scopes-fit, table-houses, table-longest, upto-first)
+pub ruleset house_rules_laws = (scopes-fit, table-houses, upto-first)
 
 pub ruleset house_list_laws =
     (last-le, pieces-joined, closed-in, ends-close, listed-close, length-pieces, total-closed, ends-more, listed-more, piece-at, piece-ends, last-at)
@@ -82,8 +78,6 @@ pub ruleset trail_laws = (trail-none, total-bound, put_back-none)
 
 pub ruleset judge_laws = (grid-fits, grid-long)
 
-pub ruleset walk_laws = (turns-counted)
-
 pub ruleset position_laws = (grid-fits, grid-long, pick-more, pick-ends)
 
-pub ruleset store_laws = (outcome-true, spent-tried, spent-le, search-few, settled-dead)
+pub ruleset store_laws = (settled-dead)

@@ -1,5 +1,5 @@
 -- The levels of a search: what its frames and its marks say of the boards that are open.
-use Rattle.engine_core.proofs.Common.{Candidates, Frame, IsCheckpoint, IsFewest, IsLawful, IsNext, IsOnward, IsOpen, IsReady, IsReturned, IsTrial, Level, Levels, List, Mark.Trial, None, RuleSystem, Some, Standing, add-one, ap, arith, cases_eq, common_steps, frame_at, get_or-set_other, get_or-set_same, length, length-set, level_at, levels_of, only, only-inside, pending, pending_in, refl, set, subst, suc, sym, walk, zero, ℕ, ◌++◌, ◌+◌, ◌-◌, ◌<◌, ◌∙◌, ◌∷◌, ◌≡◌, ◌≢◌}
+use Rattle.engine_core.proofs.Common.{Candidates, Frame, IsCheckpoint, IsFewest, IsWithin, IsNext, IsOnward, IsOpen, IsReady, IsReturned, IsTrial, Level, Levels, List, Mark.Trial, None, RuleSystem, Some, Standing, add-one, ap, arith, cases_eq, common_steps, frame_at, get_or-set_other, get_or-set_same, length, length-set, level_at, levels_of, only, only-inside, pending, pending_in, refl, set, subst, suc, sym, walk, zero, ℕ, ◌++◌, ◌+◌, ◌-◌, ◌<◌, ◌∙◌, ◌∷◌, ◌≡◌, ◌≢◌}
 use Rattle.engine_core.proofs.QueueLemmas.{closed-but_only}
 use Rattle.engine_core.proofs.SearchLemmas.{pending-pop, pending-trial}
 use Rattle.engine_core.proofs.RoomLemmas.{singles-only, open-cell, open-room}
@@ -127,10 +127,10 @@ module _ {p : RuleSystem} {s s1 : Standing} {frames : List Frame} {n : ℕ} (rea
         let trial = pending-trial p (record { board = s1.board; cell = top.cell; next = top.next }) outside v next.0 next.1 next.2 next.3 in
         pending-back ∙ cc
 
-    pub turn-trial : IsLawful p → {now : Levels} → now.frames.items ≡ moved → now.depth ≡ n → IsTrial p (pending_in p s frames n) s2 now top.cell
-    turn-trial laws f d = record {
+    pub turn-trial : IsWithin p.cells p.values s1.board → {now : Levels} → now.frames.items ≡ moved → now.depth ≡ n → IsTrial p (pending_in p s frames n) s2 now top.cell
+    turn-trial within f d = record {
       marks_are = let m = marks in cc;
-      closed_but = rw left (closed-but_only p laws s1.board top.cell v best.within next.1 next.2 open-back.closed open-back.alive);
+      closed_but = rw left (closed-but_only p s1.board top.cell v next.2 within open-back.closed open-back.alive);
       none_before =
           λ two. rw left (pick-inside top.cell p.values _ s1.board (only-inside s1.board top.cell v)
           (pick-before p.cells p.values s1.board two open-back.picked));

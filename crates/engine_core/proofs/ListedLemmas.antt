@@ -1,9 +1,8 @@
 -- Rules whose houses are listed: what their table says, and what a visit leaves.
-use Rattle.engine_core.proofs.Common.{AreHousesAt, AreScopes, AreSetsOf, Bool, Candidates, Decision, IsBitsOf, IsBoardOf, IsKept, IsLawful, IsScope, IsWithin, Layout, List, RuleSystem, Table, after, ap, arith, bits-of_values, cases_Bool, cells_of, common_steps, count_below, false_from_ne_true, fun_ext, has, has_bit, has_place, has_place-at, has_place-here, inl, inr, kept_in, length, length-take, longest, not, refl, scope_of, slice_index, strikes_at, strikes_at-in_scope, strikes_at-place, sym, take, true, true≢false, ℕ, ◌&&◌, ◌<◌, ◌∙◌, ◌≡◌, ◌≤◌}
+use Rattle.engine_core.proofs.Common.{AreHousesAt, AreScopes, AreSetsOf, Bool, Candidates, Decision, IsBitsOf, IsBoardOf, IsKept, IsLawful, IsScope, IsWithin, Layout, List, RuleSystem, Table, after, ap, arith, bits-of_values, cases_Bool, cells_of, common_steps, count_below, false_from_ne_true, fun_ext, has, has_bit, has_place, has_place-at, has_place-here, inl, inr, kept_in, length, length-take, not, refl, scope_of, slice_index, strikes_at, strikes_at-in_scope, strikes_at-place, sym, take, true, true≢false, ℕ, ◌&&◌, ◌<◌, ◌∙◌, ◌≡◌, ◌≤◌}
 use Rattle.engine_core.specs.ListedHouses.{AreScopesOf, table_of}
 use Rattle.engine_core.proofs.IndexLemmas.{nth-at}
 use Rattle.engine_core.proofs.QueueLemmas.{scope-in}
-use Rattle.engine_core.proofs.StoreLemmas.{scope_le-longest}
 
 -- the lists are of different places of the board
 pub scopes-fit : {p : RuleSystem} {scopes : List (List ℕ)} → IsLawful p → AreScopesOf p scopes → AreScopes p.cells scopes
@@ -28,9 +27,6 @@ module _ {p : RuleSystem} {scopes : List (List ℕ)} {table : Table} (listed : t
       → says (λ h. has_place (p.scope h) place) p.houses
   table-says place says said = rw (fun_ext (λ h. ap (λ xs. has_place xs place) (table-scope h)), table-houses) at said
 
-  pub table-longest : longest (scope_of table.scopes) (length table.scopes) ≡ longest p.scope p.houses
-  table-longest = rw (fun_ext table-scope, table-houses) refl
-
   -- what it lists as the houses of a place are those that have it, ascending
   pub housed-at : (place : ℕ) {k : ℕ} (at : List ℕ) → AreHousesAt table.scopes place at → k < length at
       → (slice_index at k < p.houses) × (has_place (p.scope (slice_index at k)) place ≡ true)
@@ -49,9 +45,6 @@ module _ {p : RuleSystem} {scopes : List (List ℕ)} {table : Table} (listed : t
 
     pub places-in : IsLawful p → {b : Layout} → IsBoardOf p b → (k : ℕ) → k < length places → slice_index places k < cells_of b
     places-in laws board k lk = rw (places-are, board.same_cells) (scope-in laws k lt (rw places-are at lk))
-
-    pub places-fit : {room : ℕ} → longest p.scope p.houses ≤ room → length places ≤ room
-    places-fit most = rw places-are (omega (arith, scope_le-longest p.scope p.houses h lt))
 
     -- what was read of a board, at the head of a longer list
     pub places-read : {b : Layout} (all sets : List ℕ) → IsBoardOf p b → length (p.scope h) ≤ length all → length sets ≡ length (take (length places) all)

@@ -1,4 +1,4 @@
-use Rattle.engine_core.proofs.Common.{AreWoken, IsBitsOf, Bool, Candidates, IsBoardOf, IsClosed, IsClosedAround, IsClosedBut, IsIdle, IsInsideAt, IsLawful, IsRested, IsWithin, IsWoken, Layout, List, RuleSystem, SameShape, Some, [], add-one, after, and_from, and_left, and_parts, any_below, any_below-here, any_below-none, any_below-some, arith, but, called_for, cases_Bool, cases_eq, cells_of, common_steps, count_below, count_below-any, count_below-bound, count_below-kept, count_below-le, count_below-lt, count_below-none, count_below-pos, counts_of, is_dead_in, eq-eqb, eqb, eqb-true, false, false_from_ne_true, has, has_place, has_place-at, has_place-here, inl, inr, is_dead, is_dead-each, is_dead-here, is_dead-inside, is_dead-not, length, mul-le-mul_right, not, not-true, not_from_false, not_from_true, only, only-here, only-inside, only-other, or_cases, or_left, or_right, refl, set, share, slice_index, sum_below-add, sum_below-le, sym, take, take-suc-set, true, true≢false, visits_left, woken, ℕ, ◌&&◌, ◌*◌, ◌++◌, ◌+◌, ◌-◌, ◌<◌, ◌||◌, ◌∙◌, ◌∷◌, ◌≡◌, ◌≤◌}
+use Rattle.engine_core.proofs.Common.{AreWoken, IsBitsOf, Bool, Candidates, IsBoardOf, IsClosed, IsClosedAround, IsClosedBut, IsIdle, IsInsideAt, IsLawful, IsRested, IsWithin, IsWoken, Layout, List, RuleSystem, SameShape, None, Option, Some, is_some, [], add-one, after, and_from, and_left, and_parts, any_below, any_below-here, any_below-none, any_below-some, ap, arith, but, called_for, cases_Bool, cases_eq, cells_of, common_steps, count_below, count_below-any, count_below-bound, count_below-kept, count_below-le, count_below-lt, count_below-none, count_below-pos, counts_of, is_dead_in, eq-eqb, eqb, eqb-true, false, false_from_ne_true, has, has_place, has_place-at, has_place-here, inl, inr, is_dead, is_dead-each, is_dead-here, is_dead-inside, is_dead-not, length, mul-le-mul_right, not, not-true, not_from_false, not_from_true, only, only-here, only-inside, only-other, or_cases, or_left, or_right, refl, set, share, slice_index, sum_below-add, sum_below-le, sym, take, take-suc-set, true, true≢false, visits_left, woken, ℕ, ◌&&◌, ◌*◌, ◌++◌, ◌+◌, ◌-◌, ◌<◌, ◌||◌, ◌∙◌, ◌∷◌, ◌≡◌, ◌≤◌}
 use Rattle.engine_core.proofs.ClosingLemmas.{after_inside}
 use Rattle.engine_core.proofs.SetLemmas.{bits-empty}
 pub use Rattle.engine_core.specs.PositionLaws.{within_of}
@@ -43,21 +43,57 @@ pub rested_start : (p : RuleSystem) (K : Candidates) {waits : ℕ → Bool} → 
     → K ≡ p.start → IsRested p K waits
 rested_start p K idle e = rw e (λ h c v lt asleep on. idle h lt asleep c v on)
 
-pub rested_around : {p : RuleSystem} {K : Candidates} (place : ℕ) {none waits : ℕ → Bool} → ((j : ℕ) → j < p.houses → none j ≡ false)
-    → AreWoken p (λ j. has_place (p.scope j) place) none waits → IsClosedAround p K place → IsRested p K waits
-rested_around place none woken around = λ h c v lt asleep on.
-    around.closed h c v lt (rw (none h lt) at (sym (woken.marks h lt) ∙ asleep)) on
+-- of a board that was closed before the cell lost values, the houses without the cell strike nothing
+closed_around : {p : RuleSystem} (laws : IsLawful p) {K : Candidates} {place : ℕ} → IsClosedAround p K place → (h c v : ℕ) → h < p.houses
+    → has_place (p.scope h) place ≡ false → K c v ≡ true → p.strikes h K c v ≡ false
+closed_around {p} laws {K} {place} around h c v lt out on =
+    let L = around.before in
+    let w = around.value in
+    let still : only L place w c v ≡ true = sym (ap (λ (M : Candidates). M c v) around.is) ∙ on in
+    rw (around.is) (grind (
+      arith,
+      common_steps,
+      only-inside L place w c v still,
+      around.closed h c v lt,
+      laws.strikes_inside h L (only L place w) lt (λ d u member has. grind (arith, common_steps, only-other L place w d)) c v,
+    ))
 
--- a closed board whose cell lost all values but one is closed around it
-pub closed-but_only : (p : RuleSystem) (laws : IsLawful p) (K : Candidates) (cell v : ℕ)
-    → cell < p.cells → v < p.values → K cell v ≡ true → IsClosed p K
+-- and each cell of it has a value still
+pub alive_around : {p : RuleSystem} {K : Candidates} {place : ℕ} → IsClosedAround p K place → is_dead p.cells p.values K ≡ false
+alive_around {p} {K} {place} around =
+    let L = around.before in
+    let v = around.value in
+    rw (around.is) (is_dead-each p.cells p.values (only L place v) (λ c lt.
+    grind (
+      arith,
+      common_steps,
+      cases_eq c place,
+      only-other L place v c,
+      is_dead-not p.cells p.values L c around.alive lt,
+      count_below-pos (only L place v place) p.values v (around.within place v around.had).1 (only-here L place v around.had),
+    )))
+
+pub alive_but : (p : RuleSystem) (K : Candidates) (from : Option ℕ) → is_some from ≡ true → IsClosedBut p K from → is_dead p.cells p.values K ≡ false
+alive_but p K None some closed = absurd (true≢false (sym some))
+alive_but p K (Some place) some closed = alive_around closed
+
+pub rested_around : {p : RuleSystem} (laws : IsLawful p) {K : Candidates} (place : ℕ) {none waits : ℕ → Bool} → ((j : ℕ) → j < p.houses → none j ≡ false)
+    → AreWoken p (λ j. has_place (p.scope j) place) none waits → IsClosedAround p K place → IsRested p K waits
+rested_around laws place none woken around = λ h c v lt asleep on.
+    closed_around laws around h c v lt (rw (none h lt) at (sym (woken.marks h lt) ∙ asleep)) on
+
+-- a closed board whose cell loses all values but one
+pub closed-but_only : (p : RuleSystem) (K : Candidates) (cell v : ℕ)
+    → K cell v ≡ true → IsWithin p.cells p.values K → IsClosed p K
     → is_dead p.cells p.values K ≡ false → IsClosedBut p (only K cell v) (Some cell)
-closed-but_only p laws K cell v lt ltv on closed alive = record {
-  place_in = lt;
-  closed = λ h c w lth out still.
-      grind (arith, common_steps, only-inside K cell v c w still, closed h c w lth, laws.strikes_inside h K (only K cell v) lth (λ d u member has. grind (arith, common_steps, only-other K cell v d)) c w);
-  alive = is_dead-each p.cells p.values (only K cell v) (λ c ltc.
-      grind (arith, common_steps, cases_eq c cell, only-other K cell v c, is_dead-not p.cells p.values K c alive ltc, count_below-pos (only K cell v cell) p.values v ltv (only-here K cell v on)));
+closed-but_only p K cell v on within closed alive = record {
+  before = K;
+  value = v;
+  had = on;
+  within = within;
+  closed = closed;
+  alive = alive;
+  is = refl;
 }
 
 pub dead_of : (p : RuleSystem) {b : Layout} → IsBoardOf p b → is_dead (cells_of b) b.values (has b) ≡ is_dead p.cells p.values (has b)
@@ -215,10 +251,6 @@ emptied-dead p laws {h} K K' lt e = elim (cases_Bool (is_dead p.cells p.values K
   | inl dead ↦ rw dead (is_dead-inside p.cells p.values K' K (rw e (after_inside p h K)) dead)
   | inr alive ↦ rw alive (emptied-alive p laws h K K' lt alive e)
 ]
-
--- where the board was alive before a visit, the visit tells whether it is dead
-pub dead_by : {now was told : Bool} → now ≡ (was || told) → was ≡ false → now ≡ told
-dead_by e alive = rw alive at e
 
 -- where nothing was struck, no house is called for
 pub woken-none : (p : RuleSystem) (h : ℕ) (K K' : Candidates) (waits : ℕ → Bool) (j : ℕ) → K' ≡ K → waits j ≡ woken p h (counts_of p h K) K' waits j

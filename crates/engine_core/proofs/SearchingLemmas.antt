@@ -1,100 +1,111 @@
 -- A search that is under way: which marks are left, and what was counted of those before.
-use Rattle.engine_core.proofs.Common.{Bool, Candidates, CountsClosing, IsSearched, IsTrial, IsTurns, IsWalked, Levels, List, Mark, Mark.Trial, None, Outcome.GaveUp, RuleSystem, Says, Standing, [], ap, append_assoc, arith, boards_of, common_steps, deepest_of, false, found_marks, found_of, length, length_push, levels_of, marks_from, marks_of, max, outcome, pending, pending_of, refl, searched_at, suc, sym, tried, true, true≢false, walk, walk_of, ℕ, ◌++◌, ◌+◌, ◌-◌, ◌<◌, ◌∙◌, ◌∷◌, ◌≡◌, ◌≤◌}
-use Rattle.engine_core.specs.declared.search.judge.Grids.{Grids}
-use Rattle.engine_core.specs.declared.search.walk.Progress.{Progress}
-use Rattle.engine_core.specs.declared.search.walk.Searched.{Searched}
+use Rattle.engine_core.proofs.Common.{Candidates, IsClosedIn, IsSearched, IsTrial, IsTurns, Levels, List, Mark, Mark.Found, Mark.Trial, None, Outcome.GaveUp, RuleSystem, SameMarks, Standing, [], ap, append_assoc, arith, boards_of, common_steps, deepest_of, first_of, found_marks, length, length_push, levels_of, marks_of, max, outcome, pending, pending_of, append-nil, is_some, cases_Bool, le-ltb, lt-ltb, take_all, second_of, refl, suc, sym, tried, walk, walk_of, ℕ, ◌++◌, ◌+◌, ◌-◌, ◌<◌, ◌∙◌, ◌∷◌, ◌≡◌, ◌≤◌}
+use Rattle.std.specs.Prelude.{nat_lt}
+use Rattle.engine_core.specs.Stored.{IsAnswer}
+use Rattle.engine_core.specs.Verdict.{tried_of, verdict_of}
+use Rattle.engine_core.specs.declared.search.grids.Grids.{Grids}
+use Rattle.engine_core.specs.declared.search.walk.Search.{Search}
 use Rattle.engine_core.specs.declared.search.walk.Verdict.{Verdict}
 use Rattle.engine_core.specs.declared.search.walk.Verdict.TheVariants as verdict
-use Rattle.engine_core.proofs.CountLemmas.{turns-push, boards-push, deepest-push}
+use Rattle.engine_core.proofs.CountLemmas.{spent-tried, turns-push, boards-push, deepest-push}
 
--- the marks that came and those that are still to come, after so many trials from one progress to another
-pub record IsSearching (p : RuleSystem) (from : Progress) (all : List Mark) (trials : ℕ) (rest : List Mark) (at : Progress) : Type 0 where
-  pub answer : outcome from.budget None all ≡ outcome (from.budget - trials) None rest
+-- the marks that came and those that are still to come
+pub record IsSearching (p : RuleSystem) (budget : ℕ) (st : Standing) (s : Search) : Type 0 where
+  pub answer : verdict_of p budget ≡ outcome (budget - s.trials) None (marks_of p st s.levels)
   pub sofar : List (ℕ × Candidates)
-  pub split : tried from.budget None all ≡ sofar ++ tried (from.budget - trials) None rest
-  pub count : length sofar ≡ trials
-  pub closed : IsTurns p (boards_of sofar) (at.turns - from.turns)
-  pub grows : from.turns ≤ at.turns
-  pub deep : at.deepest ≡ max from.deepest (deepest_of sofar)
+  pub split : tried_of p budget ≡ sofar ++ tried (budget - s.trials) None (marks_of p st s.levels)
+  pub count : length sofar ≡ s.trials
+  pub turned : IsTurns p (p.start ∷ boards_of sofar) s.turns
+  pub deep : s.deepest ≡ deepest_of sofar
 
-pub searching-first : (p : RuleSystem) (from : Progress) (all : List Mark) → IsSearching p from all 0 all from
+-- the start board was walked as far as its pick
+pub searching-first : {p : RuleSystem} (budget : ℕ) {st : Standing} (s : Search) → walk p 0 p.start ≡ marks_of p st s.levels
+    → IsClosedIn p p.start s.turns → s.trials ≡ 0 → s.deepest ≡ 0 → IsSearching p budget st s
 unfolding deepest_of
-searching-first p from all = grind (arith, common_steps)
+searching-first budget {st} s same closed none shallow =
+    let all : budget - s.trials ≡ budget = omega arith in
+    record {
+      answer = rw (all, same) refl;
+      sofar = [];
+      split = rw (all, same) refl;
+      count = sym none;
+      turned = (s.turns, 0, closed, refl, omega arith);
+      deep = shallow;
+    }
 
 -- a trial after the grids found, with budget left and with none
-after_grids : {two : Bool} (one : Bool) (f g : List ℕ) (n : ℕ) (K : Candidates) (ms : List Mark) → two ≡ false
-    → ((b : ℕ) → outcome (suc b) None (found_marks two one f g ++ Trial n K ∷ ms) ≡ outcome b None (found_marks two one f g ++ ms))
-    × ((b : ℕ) → tried (suc b) None (found_marks two one f g ++ Trial n K ∷ ms) ≡ (n, K) ∷ tried b None (found_marks two one f g ++ ms))
-    × (outcome 0 None (found_marks two one f g ++ Trial n K ∷ ms) ≡ GaveUp (found_of one f))
-    × (tried 0 None (found_marks two one f g ++ Trial n K ∷ ms) ≡ [])
+after_grids : (grids : Grids) (n : ℕ) (K : Candidates) (ms : List Mark) → grids.found < 2
+    → ((b : ℕ) → outcome (suc b) None (found_marks grids ++ Trial n K ∷ ms) ≡ outcome b None (found_marks grids ++ ms))
+    × ((b : ℕ) → tried (suc b) None (found_marks grids ++ Trial n K ∷ ms) ≡ (n, K) ∷ tried b None (found_marks grids ++ ms))
+    × (outcome 0 None (found_marks grids ++ Trial n K ∷ ms) ≡ GaveUp (first_of grids))
+    × (tried 0 None (found_marks grids ++ Trial n K ∷ ms) ≡ [])
 unfolding outcome tried
-after_grids x1 f g n x5 ms going = grind (arith, common_steps, true≢false)
+after_grids grids n K ms going = grind (arith, common_steps)
 
-module _ {p : RuleSystem} {from at : Progress} {all : List Mark} {trials : ℕ} (st : Standing)
-    (levels : Levels) (grids : Grids)
-    (s : IsSearching p from all trials (marks_of p st levels at grids) at) where
+found_given : (grids : Grids) → nat_lt 0 grids.found ≡ is_some (first_of grids)
+found_given grids = grind (arith, common_steps, cases_Bool (nat_lt 0 grids.found))
+
+found_few : (grids : Grids) → grids.found < 2 → second_of grids ≡ None
+found_few grids going = rw (le-ltb 1 grids.found (omega arith)) refl
+
+module _ {p : RuleSystem} {budget : ℕ} {st : Standing} {s : Search} (i : IsSearching p budget st s) where
   -- a trial is made
-  pub searching-trial : {mid : Standing} {now : Levels} {cell : ℕ} {at' : Progress} (st' : Standing)
-      (to : Levels) (grids' : Grids) → IsTrial p (pending_of p st levels) mid now cell
-      → at.has_second ≡ false
-      → trials < from.budget → CountsClosing p mid.board at.turns at'.turns → at'.deepest ≡ max at.deepest now.depth
-      → marks_from p mid now at grids ≡ marks_of p st' to at' grids' → IsSearching p from all (trials + 1) (marks_of p st' to at' grids') at'
-  searching-trial {mid = mid} {now = now} {at' = at'} st' to grids' t going less turned deeper after =
-      let b = from.budget - (trials + 1) in
-      let left : from.budget - trials ≡ suc b = omega arith in
-      let here = ap (λ ms. found_marks at.has_second at.found grids.first grids.second ++ ms) t.marks_are in
-      let next = after_grids at.found grids.first grids.second now.depth mid.board (walk_of p mid now) going in
+  pub searching-trial : {mid st' : Standing} {now : Levels} {cell : ℕ} (m : ℕ) (s' : Search)
+      → IsTrial p (pending_of p st s.levels) mid now cell → now.grids ≡ s.levels.grids
+      → s.levels.grids.found < 2 → s.trials < budget → IsClosedIn p mid.board m
+      → SameMarks p mid now st' s'.levels → s'.trials ≡ s.trials + 1 → s'.turns ≡ s.turns + m
+      → s'.deepest ≡ max s.deepest now.depth → IsSearching p budget st' s'
+  searching-trial {mid = mid} {st' = st'} {now = now} m s' t same going less closed after more sum deeper =
+      let b = budget - s'.trials in
+      let left : budget - s.trials ≡ suc b = omega arith in
+      let here = ap (λ ms. found_marks s.levels.grids ++ ms) t.marks_are in
+      let walked : found_marks s.levels.grids ++ walk_of p mid now ≡ marks_of p st' s'.levels = rw same at after in
+      let next = after_grids s.levels.grids now.depth mid.board (walk_of p mid now) going in
       let answer = next.0 b in
       let trial = next.1 b in
-      let rest : tried (from.budget - trials) None
-      (marks_of p st levels at grids) ≡ (now.depth, mid.board) ∷ tried b None
-      (marks_of p st' to at' grids') = cc in
-      let sum : at'.turns - from.turns ≡ at.turns - from.turns + (at'.turns - at.turns) = (omega arith) in
+      let rest : tried (budget - s.trials) None (marks_of p st s.levels) ≡ (now.depth, mid.board) ∷ tried b None (marks_of p st' s'.levels) = cc in
       record {
-        answer = s.answer ∙ cc;
-        sofar = s.sofar ++ (now.depth, mid.board) ∷ [];
-        split = s.split ∙ ap (λ ts. s.sofar ++ ts) rest ∙ sym (append_assoc s.sofar ((now.depth, mid.board) ∷ []) _);
-        count = length_push s.sofar (now.depth, mid.board) ∙ ap (λ n. n + 1) s.count;
-        closed = rw (boards-push s.sofar now.depth mid.board, sum) (turns-push _ _ s.closed turned.closed);
-        grows = omega arith;
-        deep = omega (arith, deepest-push s.sofar now.depth mid.board);
+        answer = i.answer ∙ cc;
+        sofar = i.sofar ++ (now.depth, mid.board) ∷ [];
+        split = i.split ∙ ap (λ ts. i.sofar ++ ts) rest ∙ sym (append_assoc i.sofar ((now.depth, mid.board) ∷ []) _);
+        count = length_push i.sofar (now.depth, mid.board) ∙ ap (λ n. n + 1) i.count ∙ sym more;
+        turned = rw (boards-push i.sofar now.depth mid.board, sum) (turns-push (p.start ∷ boards_of i.sofar) s.turns i.turned closed);
+        deep = omega (arith, deeper, i.deep, deepest-push i.sofar now.depth mid.board);
       }
 
   -- ---- how a search ends
-  ended : (v : Verdict) → Says v grids.first grids.second (outcome (from.budget - trials) None (marks_of p st levels at grids))
-      → tried (from.budget - trials) None (marks_of p st levels at grids) ≡ []
-      → IsSearched p from.budget all from (searched_at at v trials) grids.first grids.second
-  ended v says none = grind (arith, common_steps)
+  ended : (v : Verdict) → IsAnswer v (first_of s.levels.grids) (second_of s.levels.grids) (outcome (budget - s.trials) None (marks_of p st s.levels))
+      → tried (budget - s.trials) None (marks_of p st s.levels) ≡ [] → IsSearched p budget v s
+  ended v says none = record {
+    says = rw i.answer says;
+    exact = rw (spent-tried budget None (walk p 0 p.start), i.split, none, append-nil i.sofar) (sym i.count);
+    turned = rw (i.split, none, append-nil i.sofar) i.turned;
+    deep = rw (i.split, none, append-nil i.sofar) i.deep;
+  }
 
   -- a trial more than the budget allows
-  pub ended-out : {mid : Standing} {now : Levels} {cell : ℕ} → IsTrial p (pending_of p st levels) mid now cell → at.has_second ≡ false → trials ≡ from.budget
-      → IsSearched p from.budget all from (searched_at at (verdict.GaveUp at.found) trials) grids.first grids.second
-  ended-out {mid = mid} {now = now} t going spent =
-      let left : from.budget - trials ≡ 0 = omega arith in
-      let here = ap (λ ms. found_marks at.has_second at.found grids.first grids.second ++ ms) t.marks_are in
-      let next = after_grids at.found grids.first grids.second now.depth mid.board (walk_of p mid now) going in
-      ended (verdict.GaveUp at.found) (let e = next.2 in cc) (let e = next.3 in cc)
+  pub ended-out : {mid : Standing} {now : Levels} {cell : ℕ} → IsTrial p (pending_of p st s.levels) mid now cell
+      → now.grids ≡ s.levels.grids → s.levels.grids.found < 2 → s.trials ≡ budget
+      → IsSearched p budget (verdict.GaveUp (nat_lt 0 now.grids.found)) (record s { levels = now })
+  ended-out {mid = mid} {now = now} t same going spent =
+      let left : budget - s.trials ≡ 0 = omega arith in
+      let next = after_grids s.levels.grids now.depth mid.board (walk_of p mid now) going in
+      let e = ended (verdict.GaveUp (nat_lt 0 s.levels.grids.found))
+      (rw (left, t.marks_are) (next.2, found_given s.levels.grids, found_few s.levels.grids going)) (rw (left, t.marks_are) next.3) in
+      rw same (record { says = e.says; exact = e.exact; turned = e.turned; deep = e.deep })
 
-  -- a second grid was found
-  pub ended-two : at.has_second ≡ true → IsSearched p from.budget all from (searched_at at verdict.Several trials) grids.first grids.second
+  -- no level is left, or two grids were found
+  pub ended-none : s.levels.depth ≡ 0 → s.levels.grids.found ≡ 0 → IsSearched p budget verdict.None s
+  unfolding outcome tried levels_of pending
+  ended-none done none = ended verdict.None (rw (done, none) (refl, refl, refl)) (rw (done, none) refl)
+
+  pub ended-one : s.levels.depth ≡ 0 → s.levels.grids.found ≡ 1 → IsSearched p budget verdict.One s
+  unfolding outcome tried levels_of pending
+  ended-one done one = ended verdict.One (rw (done, one) (s.levels.grids.first, refl, refl, refl)) (rw (done, one) refl)
+
+  pub ended-two : 2 ≤ s.levels.grids.found → IsSearched p budget verdict.Several s
   unfolding outcome tried
-  ended-two both = ended verdict.Several (rw both refl) (rw both refl)
-
-  -- no level is left
-  pub ended-one : levels.depth ≡ 0 → at.has_second ≡ false → at.found ≡ true
-      → IsSearched p from.budget all from (searched_at at verdict.One trials) grids.first
-      grids.second
-  unfolding outcome tried levels_of pending
-  ended-one none going old = ended verdict.One (rw (none, going, old) refl) (rw (none, going, old) refl)
-
-  pub ended-none : levels.depth ≡ 0 → at.has_second ≡ false → at.found ≡ false
-      → IsSearched p from.budget all from (searched_at at verdict.None trials) grids.first
-      grids.second
-  unfolding outcome tried levels_of pending
-  ended-none none going new = ended verdict.None (rw (none, going, new) refl) (rw (none, going, new) refl)
-
--- the search of a whole board, which was closed first
-pub walked : {p : RuleSystem} {K : Candidates} {marks : List Mark} {result : Searched} {grids : Grids} {budget : ℕ} {from : Progress} → from.budget ≡ budget
-    → walk p 0 K ≡ marks → CountsClosing p K 0 from.turns → from.deepest ≡ 0
-    → IsSearched p from.budget marks from result grids.first grids.second → IsWalked p budget K result grids
-walked is same turned none s = grind (arith, common_steps)
+  ended-two two =
+      let all = take_all s.levels.grids.found (Found s.levels.grids.first ∷ Found s.levels.grids.second ∷ []) (omega arith) in
+      ended verdict.Several
+      (rw (all, lt-ltb 0 s.levels.grids.found (omega arith), lt-ltb 1 s.levels.grids.found (omega arith)) (s.levels.grids.first, s.levels.grids.second, refl, refl, refl)) (rw all refl)

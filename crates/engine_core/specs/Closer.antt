@@ -1,12 +1,14 @@
 -- What closings by plain visits work in. No public contract uses these words.
-use Rattle.std.specs.Prelude.{◌≡◌, ℕ, ◌<◌, Bool, true, false, ◌||◌, List, length, if◌then◌else◌}
+use Rattle.std.specs.Prelude.{◌≡◌, ℕ, ◌<◌, ◌≤◌, Bool, true, false, ◌||◌, List, length, take, if◌then◌else◌}
 use Rattle.grid_core.specs.Board.{Layout, has, cells_of, SameShape}
-use Rattle.grid_core.specs.Candidates.{is_dead}
+use Rattle.grid_core.specs.Candidates.{Candidates, is_dead}
 use Rattle.engine_core.specs.RuleSystem.{RuleSystem, Needs, after}
 use Rattle.engine_core.specs.Closing.{HasStruck}
+use Rattle.engine_core.specs.ClosingList.{IsClosing}
 use Rattle.engine_core.specs.Queue.{IsWoken, but}
 use Rattle.engine_core.specs.Waiting.{words_of, is_waiting}
 use Rattle.engine_core.specs.declared.closing.closer.Effect.{Effect}
+use Rattle.engine_core.specs.declared.search.position.Taken.{Taken}
 
 -- what the memory was taken for, the board, which houses wait, and the room for the houses that a closing visits
 pub record BoardAndMarks : Type 0 where
@@ -23,6 +25,20 @@ pub record IsCloserOf (by_queue : Bool) (made : Needs) (board : Layout)
   pub sets_long : length sets ≡ made.scope
   pub waits_long : length waits ≡ words_of made.houses
   pub trace_long : length trace ≡ (if by_queue then made.bound else 0)
+
+-- of so many turns of a closing, those that are visits of a queue, and those that are sweeps
+abbrev pub visits_in : Bool → ℕ → ℕ
+visits_in by_queue turns = if by_queue then turns else 0
+
+abbrev pub sweeps_in : Bool → ℕ → ℕ
+sweeps_in by_queue turns = if by_queue then 0 else turns
+
+-- what a closing of the board K came to, after so many turns
+pub record IsClosedBy (p : RuleSystem) (by_queue : Bool) (K : Candidates) (taken : Taken)
+    (closer : BoardAndMarks) : Type 0 where
+  pub closing : IsClosing p K (has closer.board) taken.closing
+      (take (visits_in by_queue taken.turns) closer.trace) (sweeps_in by_queue taken.turns)
+  pub visits : visits_in by_queue taken.turns ≤ length closer.trace
 
 -- the room is the same
 pub record SameRoom (from to : BoardAndMarks) : Type 0 where

@@ -1,6 +1,5 @@
 -- Tables of houses: which places each house has, and which houses have a place.
 use Rattle.std.specs.Prelude.{◌≡◌, ℕ, suc, ◌+◌, ◌<◌, ◌≤◌, true, false, Option, Some, None, List, [], length, slice_index, slice_index_or}
-use Rattle.std.specs.List.{between}
 use Rattle.grid_core.specs.Candidates.{count_below, sum_below}
 use Rattle.engine_core.specs.RuleSystem.{has_place}
 use Rattle.engine_core.specs.HouseSets.{AreDifferent}
@@ -83,11 +82,6 @@ number_in scopes place = number_at scopes (length scopes) place
 -- no house is put yet
 abbrev pub IsUnfilled : List (List ℕ) → List ℕ → List ℕ → Type 0
 IsUnfilled scopes starts houses = IsIndex (length starts) scopes (length scopes) starts houses
-
--- the houses from where those of the place start
-abbrev pub houses_from : List ℕ → List ℕ → ℕ → List ℕ
-houses_from starts houses place =
-    between (slice_index starts place) (slice_index starts (place + 1)) houses
 
 -- the sum of each number with those before it
 abbrev pub sum_to : List ℕ → ℕ → ℕ

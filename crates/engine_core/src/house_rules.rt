@@ -145,7 +145,7 @@ impl<S: RuleSet> Rules for HouseRules<S> {
     }
 
     fn scratch(&self, alloc: Global) -> Result<HouseScratch<S::Scratch>, AllocError> {
-        let room = self.table.longest();
+        let room = self.longest();
         Ok(HouseScratch {
             sets: vec![in alloc; 0; room]?,
             kept: vec![in alloc; 0; room]?,

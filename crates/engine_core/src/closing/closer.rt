@@ -1,20 +1,20 @@
 //! A board that is closed by plain visits.
 #![tactic(auto, using(crate::proofs::LawSets::position_laws))]
 
-ghost use Rattle.std.specs.Prelude.{◌≡◌, ◌<◌, ◌≤◌, IfOk, length, true, false, take, if◌then◌else◌};
+ghost use Rattle.std.specs.Prelude.{◌≡◌, ◌<◌, ◌≤◌, IfOk, length, true, false, if◌then◌else◌};
 ghost use Rattle.grid_core.specs.Board.{has, SameShape, cells_of};
 ghost use Rattle.grid_core.specs.Candidates.{is_full, grid_of};
-ghost use Rattle.engine_core.specs.ClosingList.{IsClosing};
 ghost use Rattle.engine_core.specs.Mode.{is_queue};
 ghost use Rattle.engine_core.specs.Needs.{needs_in};
 ghost use Rattle.engine_core.specs.RuleSystem.{needs_of, FitsIn, IsBoardOf};
-ghost use Rattle.engine_core.specs.Closer.{IsVisited, SameRoom};
+ghost use Rattle.engine_core.specs.Closer.{IsClosedBy, IsVisited, SameRoom};
 
 use crate::closing::marking::{is_house_dead, mark_after};
 use crate::houses::visit::read_head;
 use crate::mode::Closing;
 use crate::needs::{Needs, needs_for};
 use crate::rules::{Rules, by_queue};
+use crate::search::position::Taken;
 use crate::trail::cells::write_grid;
 use crate::waits::dequeue;
 use grid_core::{Board, Grid};
@@ -26,14 +26,6 @@ use std::marker::Model;
 pub(crate) struct Effect {
     pub struck: bool,
     pub dead: bool,
-}
-
-/// What a closing came to, and how many visits or sweeps it made.
-#[derive(Clone, Copy)]
-pub(crate) struct ClosingReport {
-    pub closing: Closing,
-    pub visits: usize,
-    pub sweeps: usize,
 }
 
 /// A board, and what it takes to close it: what the rules work in, room for the sets that a house's cells had before its
@@ -160,18 +152,16 @@ impl<R: Rules> Closer<R> {
     }
 
     /// Closes the board: at first each house waits.
-    pub(crate) fn close(&mut self, rules: &R) -> ClosingReport
+    pub(crate) fn close(&mut self, rules: &R) -> Taken
         requires fits { FitsIn (needs_of (R.system rules.now)) self.old.made }
-        ensures closing { IsClosing (R.system rules.now) (has self.old.board) (has self.new.board)
-            result.closing (take result.visits self.new.trace) result.sweeps }
-        ensures visits { result.visits ≤ length self.new.trace }
+        ensures closing { IsClosedBy (R.system rules.now) (is_queue R.MODE) (has self.old.board)
+            result self.new }
         ensures room { SameRoom self.old self.new }
     {
         if self.board.has_empty_cell() {
-            return ClosingReport {
+            return Taken {
                 closing: Closing::Dead,
-                visits: 0,
-                sweeps: 0,
+                turns: 0,
             };
         }
         self.waits.fill(u64::MAX);

@@ -3,9 +3,9 @@
 
 ghost use Rattle.std.specs.Prelude.{◌≡◌, ℕ, suc, ◌+◌, ◌<◌, ◌≤◌, ◌^◌, ◌==◌, IfOk, count_by, length, sum_by, slice_index};
 ghost use Rattle.grid_core.specs.Candidates.{sum_below};
-ghost use Rattle.engine_core.specs.RuleSystem.{has_place, IsNext, longest};
+ghost use Rattle.engine_core.specs.RuleSystem.{has_place, IsNext};
 ghost use Rattle.engine_core.specs.HouseSets.{AreDifferent};
-ghost use Rattle.engine_core.specs.HouseIndex.{AreScopes, scope_of, start_at, AreHousesAt, IsIndex, IsRoom, IsPut, IsFirstFrom, AreAt, number_in, IsUnfilled, houses_from, sum_to};
+ghost use Rattle.engine_core.specs.HouseIndex.{AreScopes, scope_of, start_at, AreHousesAt, IsIndex, IsRoom, IsPut, IsFirstFrom, AreAt, number_in, IsUnfilled, sum_to};
 
 use crate::houses::list::HouseList;
 use std::alloc::{AllocError, Global};
@@ -169,16 +169,5 @@ impl HouseTable {
         ensures few { result < 2 ^ 32 }
     {
         self.list.total()
-    }
-
-    /// The cells of the longest house.
-    pub(crate) fn longest(&self) -> usize
-        ensures { result ≡ longest (scope_of self.now.scopes) (length self.now.scopes) }
-    {
-        let mut most = 0;
-        for house in 0..self.len() {
-            most = most.max(self.places(house).len());
-        }
-        most
     }
 }

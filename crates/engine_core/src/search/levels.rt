@@ -1,8 +1,13 @@
 //! The levels of a search: a frame for each cell whose values are being tried.
 
-ghost use Rattle.std.specs.Prelude.{◌≡◌, ◌<◌, length};
-ghost use Rattle.engine_core.specs.Frames.{AreReady, IsTurn};
+ghost use Rattle.std.specs.Prelude.{◌≡◌, ◌+◌, ◌<◌, ◌≤◌, None};
+ghost use Rattle.grid_core.specs.Candidates.{pick};
+ghost use Rattle.engine_core.specs.Counts.{IsClosedIn};
+ghost use Rattle.engine_core.specs.Queue.{IsClosedBut};
+ghost use Rattle.engine_core.specs.Frames.{AreGrids, AreReady, IsTurn, SameMarks, singles};
 
+use crate::mode::Closing;
+use crate::search::grids::Grids;
 use crate::search::position::Position;
 
 /// A cell whose values are being tried, and the next of them.
@@ -12,11 +17,12 @@ pub(crate) struct Frame {
     pub next: u8,
 }
 
-/// The frames of the trials that are open.
+/// The frames of the trials that are open, and the grids found so far.
 #[derive(Drop)]
 pub(crate) struct Levels {
     pub frames: Vec<Frame>,
     pub depth: usize,
+    pub grids: Grids,
 }
 
 impl Levels {
@@ -34,7 +40,7 @@ impl Levels {
             (P.stands position.new) self.new result }
         ensures ready { AreReady (P.system rules.now) (P.stands position.new) self.new }
         ensures depth { self.new.depth ≡ self.old.depth }
-        ensures frames { length self.new.frames.items ≡ length self.old.frames.items }
+        ensures grids { self.new.grids ≡ self.old.grids }
         ensures walks { P.walks rules.now position.new }
         ensures room { P.room position.new ≡ P.room position.old }
     {
@@ -52,5 +58,50 @@ impl Levels {
                 Some(top.cell)
             }
         }
+    }
+
+    /// Closes the board and judges it: a grid is noted, and a board that must be split gets a frame. Of the board is known
+    /// which cell lost values since it was closed, if any, and that no cell before `from` is one to branch on. Says how many
+    /// visits or sweeps the closing made.
+    pub(crate) fn descend<P: Position>(
+        &mut self,
+        rules: &P::Game,
+        position: &mut P,
+        changed: Option<usize>,
+        from: usize,
+    ) -> usize
+        requires walks { P.walks rules.now position.old }
+        requires closed_but { IsClosedBut (P.system rules.now) (P.stands position.old).board
+            changed }
+        requires from_in { from ≤ (P.system rules.now).cells }
+        requires none { pick from (P.system rules.now).values (P.stands position.old).board
+            ≡ None }
+        requires ready { AreReady (P.system rules.now) (P.stands position.old) self.old }
+        requires single { self.old.depth
+            ≤ singles (P.system rules.now) (P.stands position.old).board }
+        requires long { AreGrids (P.system rules.now).cells self.old.grids }
+        requires going { self.old.grids.found < 2 }
+        ensures turns { IsClosedIn (P.system rules.now) (P.stands position.old).board result }
+        ensures marks { SameMarks (P.system rules.now) (P.stands position.old) self.old
+            (P.stands position.new) self.new }
+        ensures ready { AreReady (P.system rules.now) (P.stands position.new) self.new }
+        ensures long { AreGrids (P.system rules.now).cells self.new.grids }
+        ensures deeper { self.new.depth ≤ self.old.depth + 1 }
+        ensures walks { P.walks rules.now position.new }
+        ensures room { P.room position.new ≡ P.room position.old }
+    {
+        let taken = position.close(rules, changed);
+        if let Closing::Dead = taken.closing {
+            return taken.turns;
+        }
+        match position.pick(rules, from) {
+            None => self.grids.note(rules, position),
+            Some(cell) => {
+                position.checkpoint(rules, self.depth);
+                self.frames[self.depth] = Frame { cell, next: 0 };
+                self.depth += 1;
+            }
+        }
+        taken.turns
     }
 }

@@ -5,7 +5,6 @@ ghost use Rattle.std.specs.Prelude.{◌≡◌, ◌<◌, ◌≤◌, length, true,
 ghost use Rattle.grid_core.specs.Board.{has, cells_of};
 ghost use Rattle.grid_core.specs.Candidates.{count_below, is_full, grid_of, pick, better};
 ghost use Rattle.engine_core.specs.RuleSystem.{IsNext};
-ghost use Rattle.engine_core.specs.Queue.{is_board_dead};
 
 use grid_core::{Board, Grid};
 
@@ -30,18 +29,8 @@ pub(crate) fn better_cell(board: &Board, best: Option<usize>, cell: usize) -> Op
 {
     let count = board.count(cell);
     match best {
-        None => {
-            if count >= 2 {
-                return Some(cell);
-            }
-            None
-        }
-        Some(old) => {
-            let other = board.count(old);
-            if count >= 2 && count < other {
-                return Some(cell);
-            }
-            Some(old)
-        }
+        Some(old) if count < 2 || count >= board.count(old) => Some(old),
+        None if count < 2 => None,
+        _ => Some(cell),
     }
 }

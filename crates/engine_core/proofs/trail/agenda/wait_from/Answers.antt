@@ -20,4 +20,4 @@ returns-after-loop-house g c = λ K.
 
 pub returns-in-Some : goal.returns-in-Some
 returns-in-Some g c = λ K.
-    rw c.in-Some.is (rested_around c.in-Some.place (none g (goal.at.returns-in-Some g c).After-fill) c.wake.ensures)
+    rw c.in-Some.is (rested_around (g.met.R.Rules.lawful c.args.rules.now) c.in-Some.place (none g (goal.at.returns-in-Some g c).After-fill) c.wake.ensures)

@@ -1,5 +1,5 @@
 use Rattle.engine_core.proofs.Common.{IsBoardOf, IsRested, arith, has, is_waiting, length, replicate, rules, sym, true≢false, ◌∙◌, ◌≡◌}
-use Rattle.engine_core.proofs.ListLemmas.{closing-none}
+use Rattle.engine_core.proofs.AroundLemmas.{closed-none}
 use Rattle.engine_core.proofs.QueueLemmas.{dead_of, within_of}
 use Rattle.engine_core.proofs.WaitLemmas.{waiting-all}
 use Rattle.engine_core.proofs.closing.closer.Closer.close.Goals as goal
@@ -23,8 +23,7 @@ returns-then-has_empty_cell-clause-closing g c =
       same_cells = c.self.invariant.0.board_cells ∙ sym fits.same_cells;
       same_values = c.self.invariant.0.board_values ∙ sym fits.same_values;
     } in
-    rw (← c.self.view_is) (closing-none p (g.met.R.Rules.lawful c.args.rules.now)
-    (has c.self.inside.board) (within_of p _ of)
+    rw (← c.self.view_is) (closed-none (g.met.R.Rules.lawful c.args.rules.now) _ _ (within_of p _ of)
     (sym (dead_of p of) ∙ (sym c.has_empty_cell.ensures ∙ c.if-has_empty_cell.true)))
 
 pub run-requires-clause-rested : goal.run-requires-clause-rested

@@ -133,23 +133,19 @@ loop-house-preserved g c =
 pub returns-then-dead-begins-clause-closing : goal.returns-then-dead-begins-clause-closing
 returns-then-dead-begins-clause-closing g c =
     let i = c.loop-house.invariant in
-    let r = c.report.ensures in
     let at = (goal.at.returns-then-dead-begins-clause-closing g c).In-Some in
     let mode = c.by_queue-by_queue.ensures ∙ sym (g.met.R.Rules.mode_is c.args.rules.now) in
     let parts = and_parts _ _ c.if-dead-begins.true in
-    rw (r.closing, r.visits, r.sweeps)
-    (exact-end _ (g.met.R.Rules.lawful c.args.rules.now) _ (within_of _ _ c.requires.board_of) _ c.loop-house.struck c.loop-house.dead c.loop-house.self.trace
-    (g.met.R.Rules.mode_is c.args.rules.now) (λ queue. (i.queued queue).1) i.striking i.past i.dead
+    exact-end _ (g.met.R.Rules.lawful c.args.rules.now) _ (within_of _ _ c.requires.board_of) _ c.loop-house.struck c.loop-house.dead c.loop-house.self _
+    (g.met.R.Rules.mode_is c.args.rules.now) i.queued i.striking i.past i.dead
     (λ _ sweeps. rest-around (around g at) (rw (mode, sweeps) at parts.1))
-    (λ off. absurd (true≢false (sym parts.0 ∙ off))))
+    (λ off. absurd (true≢false (sym parts.0 ∙ off))) c.report.ensures.closing c.report.ensures.turns
 
 pub returns-clause-closing : goal.returns-clause-closing
 returns-clause-closing g c =
     let i = c.loop-house.invariant in
-    let r = c.report-2.ensures in
     let none = rw (c.in_default.is, c.houses.ensures, c.deref.ensures.value) at c.next_around.ensures in
-    rw (r.closing, r.visits, r.sweeps)
-    (exact-end _ (g.met.R.Rules.lawful c.args.rules.now) _ (within_of _ _ c.requires.board_of) _ c.loop-house.struck c.loop-house.dead c.loop-house.self.trace
-    (g.met.R.Rules.mode_is c.args.rules.now) (λ queue. (i.queued queue).1) i.striking i.past i.dead
+    exact-end _ (g.met.R.Rules.lawful c.args.rules.now) _ (within_of _ _ c.requires.board_of) _ c.loop-house.struck c.loop-house.dead c.loop-house.self _
+    (g.met.R.Rules.mode_is c.args.rules.now) i.queued i.striking i.past i.dead
     (λ _ _ h _ lt. rw (← c.self.view_is) (none h lt))
-    (λ _ h lt. rw (← c.self.view_is) (none h lt)))
+    (λ _ h lt. rw (← c.self.view_is) (none h lt)) c.report-2.ensures.closing c.report-2.ensures.turns

@@ -36,7 +36,8 @@ pub returns-in-Some-clause-turn : goal.returns-in-Some-clause-turn
 returns-in-Some-clause-turn g c =
     let e = c.deref-frames.ensures.value in
     rw e (turn-trial c.requires.ready c.requires.deep c.undo.ensures.returned c.in-Some.value (rw e at c.in-Some.ensures)
-    (rw e at c.leave.ensures.left) c.leave.ensures.onward (g.met.P.Position.lawful c.args.rules.now) refl refl)
+    (rw e at c.leave.ensures.left) c.leave.ensures.onward
+    (g.met.P.Position.within c.args.rules.now c.undo.new.self c.undo.ensures.walks) refl refl)
 
 pub returns-in-Some-clause-ready : goal.returns-in-Some-clause-ready
 returns-in-Some-clause-ready g c =

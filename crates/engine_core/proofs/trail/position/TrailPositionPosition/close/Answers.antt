@@ -1,10 +1,10 @@
 use Rattle.engine_core.proofs.Common.{Dead, IsClosing, [], arith, board_in, drop, has, length, refl, sym, ◌∙◌}
 use Rattle.engine_core.proofs.WaitLemmas.{written-back}
-use Rattle.engine_core.proofs.QueueLemmas.{dead_of, within_of}
+use Rattle.engine_core.proofs.QueueLemmas.{alive_but, dead_of, within_of}
 use Rattle.engine_core.proofs.ListLemmas.{closing-none}
 use Rattle.engine_core.proofs.EndLemmas.{closed-in, taken-dead}
 use Rattle.engine_core.proofs.trail.position.TrailPositionPosition.close.Goals as goal
-use Rattle.engine_core.proofs.trail.position.TrailPositionPosition.close.Goals.{Then-has_empty_cell}
+use Rattle.engine_core.proofs.trail.position.TrailPositionPosition.close.Goals.{Then-has_empty_cell, else-is_none-via-then-is_none+else-has_empty_cell, else-is_none-via-else-is_none}
 
 -- a board that is dead already
 dead : (g : _) (c : Then-has_empty_cell g) → IsClosing (g.R.Rules.system c.args.rules.now) (board_in c.args.self.now) (board_in c.args.self.now) Dead [] 0
@@ -21,6 +21,15 @@ pub returns-then-has_empty_cell-clause-turns : goal.returns-then-has_empty_cell-
 returns-then-has_empty_cell-clause-turns g c =
     closed-in (dead g (goal.at.returns-then-has_empty_cell-clause-turns g c).Then-has_empty_cell)
     (λ _. refl) (λ _. refl)
+
+pub run-requires-clause-alive : goal.run-requires-clause-alive
+run-requires-clause-alive g c =
+    let r = rw (← c.self.view_is) at c.requires in
+    elim c.else-is_none.branch [
+      | else-is_none-via-then-is_none+else-has_empty_cell w ↦
+          sym (dead_of (g.R.Rules.system c.args.rules.now) r.walks.along.board_of) ∙ (sym (rw w.board.ensures at w.has_empty_cell.ensures) ∙ w.if-has_empty_cell.false)
+      | else-is_none-via-else-is_none w ↦ alive_but _ _ c.args.from (c.is_none.ensures ∙ rw (w.if-is_none.false) refl) r.closed_but
+    ]
 
 -- the houses that wait at first
 pub run-requires-clause-rested : goal.run-requires-clause-rested
