@@ -40,9 +40,6 @@ pub listed-all : {list : Listed} (closed all : List (List ℕ)) (k : ℕ) → le
     → list ≡ record { closed = closed ++ all; begun = [] }
 listed-all closed all k long was = was ∙ rw (← long, take-length all) refl
 
-pub places-length : (p : Solo) → length (house_places p) ≡ length (houses_of p)
-places-length p = length-map _ _
-
 pub places-at : (p : Solo) (k : ℕ) {house : NamedHouse} → k < length (houses_of p)
     → house ≡ get_or (houses_of p) k house → places_of p house ≡ get_or (house_places p) k []
 places-at p k {house} lt is = ap (places_of p) is ∙ sym (get_or-map _ _ k house [] lt)
@@ -111,6 +108,3 @@ module _ (p : Solo) where
 
 pub few_crossings : (n lines : ℕ) → n ≤ 31 → lines ≤ 510 → n * lines ≤ 16000
 few_crossings n lines high few = omega (arith, mul-le n lines 31 510 high few)
-
-pub crossings-count : (p : Solo) → solo_n p * (p.c + p.r) ≡ length (crossings_of p)
-crossings-count p = omega (arith, crossings-length p)

@@ -66,11 +66,6 @@ abbrev pub KeepMates : List ℕ → List ℕ → List ℕ → Type 0
 KeepMates rest old new = (k : ℕ) → ((i : ℕ) → i < length rest → slice_index rest i ≡ k → ⊥)
     → slice_index new k ≡ slice_index old k
 
--- each value has the set of the cell whose mate it is
-abbrev pub HasSetOfCell : List ℕ → List ℕ → List ℕ → Type 0
-HasSetOfCell sets mates reach = (k : ℕ) → k < length sets
-    → slice_index reach (slice_index mates k) ≡ slice_index sets k
-
 -- each cell keeps the values that reach its mate
 abbrev pub KeepsReaching : ℕ → List ℕ → List ℕ → List ℕ → List ℕ → Type 0
 KeepsReaching n mates reach old new = (k v : ℕ) → k < length old → v < n
@@ -107,7 +102,3 @@ AddsSingle old set new =
 abbrev pub AddsShared : ℕ → ℕ → ℕ → ℕ → Type 0
 AddsShared old some set new =
     (v : ℕ) → has_bit new v ≡ (has_bit old v || (has_bit some v && has_bit set v))
-
--- the first so many of both lists are the same
-abbrev pub AgreeBelow : ℕ → List ℕ → List ℕ → Type 0
-AgreeBelow n mates others = (i : ℕ) → i < n → slice_index mates i ≡ slice_index others i
