@@ -1,7 +1,7 @@
 -- Visits of houses of one at most, one after another, by the cells that can have 0.
 use Rattle.fields_core.proofs.Common.{AllByRecursion, Bool, Candidates, CountHouse, IsHouse, IsTally, List, Tally, [], after_house, and-false, and-true, and_parts, ap, arith, cases_Bool, cases_eq, common_steps, count_by, eq-eqb, eqb, eqb-true, false, false≢true, fun_ext, has_place, has_place-at, inl, inr, is_empty, is_open, le-ltb, list_any, lt-ltb, ltb, ne_eqb, not, or_cases, refl, subst, sym, true, ℕ, ◌&&◌, ◌<◌, ◌||◌, ◌∙◌, ◌∷◌, ◌≡◌, ◌≢◌, ◌≤◌, ◌⊎◌}
 unfoldable use Rattle.fields_core.specs.Visits.{after_houses}
-use Rattle.fields_core.proofs.CountKept.{after-at, off-scope}
+use Rattle.fields_core.proofs.CountKept.{after-at, off-scope, has-value}
 use Rattle.fields_core.proofs.PlaceLists.{num, count-cons, count-none, count-some, some-counted}
 use Rattle.fields_core.proofs.VisitLemmas.{visits-inside}
 
@@ -68,10 +68,7 @@ after-met {cells} house K c v full one = elim (cases_Bool (K c v)) [
 ]
   where
     none : count_by (is_empty K) house.places ≡ 0
-    none = count-none (is_empty K) house.places (λ d there. not-empty d (full.some d (one.is.within d there)))
-      where
-        not-empty : (d : ℕ) → (K d 0 ≡ true) ⊎ (K d 1 ≡ true) → is_empty K d ≡ false
-        not-empty d some = grind (arith, common_steps, cases_Bool)
+    none = count-none (is_empty K) house.places (λ d there. has-value K d (full.some d (one.is.within d there)))
 
     by : (v : ℕ) → v < 2 → (must may : ℕ) (any : Bool) → must ≤ 1 → K c v ≡ true → ltb 0 must ≡ any
         → (K c 1 ≡ true → 1 ≤ may)

@@ -1,5 +1,5 @@
 -- Pieces of lines, and the cells that they have.
-use Rattle.std.proofs.Common.{◌≡◌, ◌∙◌, ℕ, ◌+◌, ◌*◌, ◌/◌, ◌%◌, ◌<◌, Bool, true, ◌||◌, eqb, ltb, mod-lt, List, [], ◌∷◌, ◌++◌, slice_index, refl, sym, arith}
+use Rattle.std.proofs.Common.{◌≡◌, ◌∙◌, ℕ, ◌+◌, ◌*◌, ◌/◌, ◌%◌, ◌<◌, Bool, true, ◌&&◌, ◌||◌, eqb, ltb, mod-lt, List, [], ◌∷◌, ◌++◌, slice_index, refl, sym, arith}
 use Rattle.std.proofs.lemmas.Bool.{cases_Bool, and_parts, and_from, eq-eqb, eqb-true, lt-ltb, ltb-true}
 use Rattle.std.proofs.lemmas.List.Folds.{list_any-append}
 use Rattle.std.proofs.lemmas.Grind.{common_steps}
@@ -20,6 +20,17 @@ use Rattle.fields_core.specs.Parts.{Piece, lies_in, lies_in_first, IsHouseOf}
 -- ---- one piece
 pub same-truth : (a b : Bool) → (a ≡ true → b ≡ true) → (b ≡ true → a ≡ true) → a ≡ b
 same-truth a b to from = grind (arith, common_steps, cases_Bool a, cases_Bool b)
+
+pub cell-is : (w y x c : ℕ) → x < w → eqb (y * w + x) c ≡ (eqb (c / w) y && eqb (c % w) x)
+cell-is w y x c lt = same-truth _ _
+    (λ on.
+    let e = eqb-true (y * w + x) c on in
+    rw (← e, div-mul-add y w x lt, place-column w y x lt) (and_from _ _ (eq-eqb y y refl) (eq-eqb x x refl)))
+    (λ on.
+    let parts = and_parts _ _ on in
+    let q = eqb-true (c / w) y parts.0 in
+    let r = eqb-true (c % w) x parts.1 in
+    eq-eqb _ _ (rw (← q, ← r) (div-add-mod' c w)))
 
 lies-one : (w : ℕ) (piece : Piece) (c : ℕ) → lies_in_first w (piece ∷ []) 1 c ≡ lies_in w piece c
 unfolding lies_in_first any_below

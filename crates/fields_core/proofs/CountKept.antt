@@ -1,18 +1,18 @@
 -- What a visit of a count house leaves of its cells, by the tally of the house.
-use Rattle.fields_core.proofs.Common.{Bool, Candidates, CountHouse, IsHouse, IsShown, IsTally, Tally, after_house, and-true, and_parts, ap, arith, bounds_of, cases_Bool, cases_eq, common_steps, cond, counts_between, eq-eqb, eqb, eqb-true, false, false_from_ne_true, has_bit, has_place, has_place-at, has_place-here, has_strikes, inl, inr, is_empty, is_open, lacks_filling, length, ltb, ltb-false, ltb-true, ne_eqb, not, or_cases, or_parts, refl, sets_at, shown_from_test, slice_index, stays, strikes_at-in_scope, strikes_at-place, strikes_by_fillings, strikes_of, suc, sym, test_from_shown, true, true≢false, zero, ℕ, ◌&&◌, ◌*◌, ◌+◌, ◌<◌, ◌||◌, ◌∙◌, ◌≡◌, ◌≤◌, ◌⊎◌}
-use Rattle.fields_core.proofs.BelowLemmas.{any-some}
-use Rattle.fields_core.proofs.PlaceLists.{num, count-some, some-counted}
+use Rattle.fields_core.proofs.Common.{Bool, Candidates, CountHouse, IsHouse, IsShown, IsTally, Tally, after_house, and_parts, ap, arith, bounds_of, cases_Bool, cases_eq, common_steps, cond, counts_between, eq-eqb, eqb, false, false_from_ne_true, has_bit, has_place, has_place-at, has_place-here, inl, inr, is_empty, is_open, le-ltb, length, ltb-false, ne_eqb, not, not-true, or_parts, refl, sets_at, shown_from_test, slice_index, stays, strikes_at-in_scope, strikes_at-place, strikes_by_fillings, strikes_of, suc, sym, test_from_shown, true, true≢false, zero, ℕ, ◌&&◌, ◌*◌, ◌+◌, ◌<◌, ◌||◌, ◌∙◌, ◌≡◌, ◌≤◌, ◌⊎◌}
+use Rattle.fields_core.proofs.CellLemmas.{same-truth}
+use Rattle.fields_core.proofs.PlaceLists.{num, count-none, count-some}
 use Rattle.fields_core.proofs.CountBounds.{IsFull, filled-at, shown-bounds, bounds-shown, open-room}
 
 -- ---- a cell that is empty
 not-empty : (K : Candidates) (c : ℕ) {v : ℕ} → v < 2 → K c v ≡ true → is_empty K c ≡ true → ⊥
 not-empty K c {v} low on none = grind (arith, common_steps, cases_eq v 0, and_parts)
 
+pub has-value : (K : Candidates) (c : ℕ) → (K c 0 ≡ true) ⊎ (K c 1 ≡ true) → is_empty K c ≡ false
+has-value K c some = grind (arith, common_steps, cases_Bool)
+
 by-value : (K : Candidates) (c v : ℕ) → v < 2 → K c v ≡ true → cond (eqb v 0) (K c 0) (K c 1) ≡ true
 by-value K c v low on = grind (arith, common_steps, cases_eq v 0, ne_eqb)
-
-within-values : (v : ℕ) (zero_on one_on : Bool) → v < 2 → cond (eqb v 0) zero_on one_on ≡ true → (v ≤ num one_on) × (num (not zero_on) ≤ v)
-within-values v zero_on one_on low on = grind (arith, common_steps, cases_eq, ne_eqb)
 
 -- there is room for a value that a cell has, unless it has both and the value's bound is reached
 room : {least most must may : ℕ} (v : ℕ) (zero_on one_on : Bool) → v < 2 → cond (eqb v 0) zero_on one_on ≡ true → least ≤ may → must ≤ most
@@ -20,8 +20,11 @@ room : {least most must may : ℕ} (v : ℕ) (zero_on one_on : Bool) → v < 2 �
     → (least + num one_on ≤ may + v) × (must + v ≤ most + num (not zero_on))
 room v zero_on one_on low on few many off = grind (arith, common_steps, cases_eq, eq-eqb, ne_eqb)
 
-neither : {k : Bool} (a b : Bool) → (k && not ((a && false) || (b && false))) ≡ k
-neither a b = grind (arith, common_steps)
+-- and where there is, the bounds leave room for all, and the value's is not reached
+reached : {least most must may : ℕ} (v : ℕ) (zero_on one_on : Bool) → v < 2 → cond (eqb v 0) zero_on one_on ≡ true
+    → least + num one_on ≤ may + v → must + v ≤ most + num (not zero_on)
+    → (least ≤ may) × (must ≤ most) × (((zero_on && one_on) && (((eqb v 1) && (eqb must most)) || ((eqb v 0) && (eqb may least)))) ≡ false)
+reached v zero_on one_on low on few many = grind (arith, common_steps, cases_eq, eq-eqb, ne_eqb)
 
 -- nothing is struck outside a house
 pub off-scope : (house : CountHouse) (K : Candidates) (c v : ℕ) → has_place house.places c ≡ false → strikes_of house K c v ≡ false
@@ -38,72 +41,39 @@ module _ (cells : ℕ) (house : CountHouse) (K : Candidates) (t : Tally) (is : I
   full : t.empty ≡ 0 → IsFull K house.places
   full none k lt = grind (arith, common_steps, cases_Bool, count-some, has_place-here)
 
-  -- where there is no filling, no value is shown
-  none-shown : (k v : ℕ) → k < length house.places → v < 2 → K (at k) v ≡ true → lacks_filling t (bounds_of house) ≡ true
-      → IsShown (counts_between house.least house.most) (sets_at 2 house.places K) k v → ⊥
-  none-shown k v lt low on lacks (f, s) =
+  abbrev Shown : ℕ → ℕ → Type 0
+  Shown k v = IsShown (counts_between house.least house.most) (sets_at 2 house.places K) k v
+
+  -- a value that a filling has stays, and the other way round
+  shown-stays : (k v : ℕ) → k < length house.places → v < 2 → K (at k) v ≡ true → Shown k v → stays t (bounds_of house) (is_open K (at k)) v ≡ true
+  shown-stays k v lt low on (f, s) =
       let b = shown-bounds K house.places k v is.different lt low on house.least house.most (f, s) in
-      let m = tally.must_is in
-      let n = tally.may_is in
-      let u = within-values v (K (at k) 0) (K (at k) 1) low (by-value K (at k) v low on) in
-      elim (or_cases _ _ lacks) [
-        | inl some ↦
-            let d = any-some _ house.places (sym (some-counted _ house.places) ∙ ap (ltb 0) (sym tally.empty_is) ∙ some) in
-            let j = has_place-at house.places d.0 d.1 in
-            let w = filled-at K house.places s.fills j.1 in
-            not-empty K (at j.0) w.0 w.1 (rw j.2 d.2)
-        | inr rest ↦ elim (or_cases _ _ rest) [
-          | inl none ↦ let e = ltb-true house.most house.least none in absurd (omega arith)
-          | inr more ↦ elim (or_cases _ _ more) [
-            | inl few ↦ let e = ltb-true t.may house.least few in absurd (omega (arith, b.1, u.0))
-            | inr many ↦ let e = ltb-true house.most t.must many in absurd (omega (arith, b.2, u.1))
-          ]
-        ]
-      ]
+      let w = reached {least = house.least} {most = house.most} {must = t.must} {may = t.may} v (K (at k) 0) (K (at k) 1) low (by-value K (at k) v low on) (omega (arith, b.1, tally.may_is)) (omega (arith, b.2, tally.must_is)) in
+      let none : t.empty ≡ 0 = tally.empty_is ∙ count-none (is_empty K) house.places (λ c there. false_from_ne_true _ (λ gone.
+      let j = has_place-at house.places c there in
+      let u = filled-at K house.places s.fills j.1 in
+      not-empty K (at j.0) u.0 u.1 (rw j.2 gone))) in
+      rw (none, le-ltb house.most house.least b.0, le-ltb t.may house.least w.0, le-ltb house.most t.must w.1, w.2) refl
+
+  stays-shown : (k v : ℕ) → k < length house.places → v < 2 → K (at k) v ≡ true → stays t (bounds_of house) (is_open K (at k)) v ≡ true → Shown k v
+  stays-shown k v lt low on stay =
+      let both = and_parts _ _ stay in
+      let a = or_parts _ _ (not-true _ both.0) in
+      let order = or_parts _ _ a.1 in
+      let ends = or_parts _ _ order.1 in
+      let none : t.empty ≡ 0 = let e = ltb-false 0 t.empty a.0 in omega arith in
+      let w = room v (K (at k) 0) (K (at k) 1) low (by-value K (at k) v low on)
+      (ltb-false t.may house.least ends.0) (ltb-false house.most t.must ends.1) (not-true _ both.1) in
+      bounds-shown K house.places k v is.different lt low on (full none) (ltb-false house.most house.least order.0)
+      (omega (arith, w.0, tally.may_is)) (omega (arith, w.1, tally.must_is))
 
   pub stays-at : (k v : ℕ) → k < length house.places → v < 2 → (K (at k) v && not (struck k v)) ≡ (K (at k) v && stays t (bounds_of house) (is_open K (at k)) v)
   stays-at k v lt low = elim (cases_Bool (K (at k) v)) [
+    | inl on ↦ ap (λ b. K (at k) v && b) (same-truth _ _
+        (λ off. shown-stays k v lt low on (shown_from_test _ _ k v (not-true _ off)))
+        (λ stay. ap not (test_from_shown _ _ k v (stays-shown k v lt low on stay))))
     | inr off ↦ rw off refl
-    | inl on ↦ ap (λ b. K (at k) v && b) (elim (cases_Bool (lacks_filling t (bounds_of house))) [
-      | inl lacks ↦ rw lacks (ap not (true-by (struck k v) (λ off. none-shown k v lt low on lacks (shown_from_test _ _ k v off))))
-      | inr fills ↦ rw fills (by on fills (cases_Bool (is_open K (at k) && at_bound v)))
-    ])
   ]
-    where
-      at_bound : ℕ → Bool
-      at_bound u = ((eqb u 1) && (eqb t.must house.most)) || ((eqb u 0) && (eqb t.may house.least))
-
-      true-by : (b : Bool) → (b ≡ false → ⊥) → b ≡ true
-      true-by b never = grind (arith, common_steps, cases_Bool b)
-
-      by : K (at k) v ≡ true → lacks_filling t (bounds_of house) ≡ false
-          → ((is_open K (at k) && at_bound v) ≡ true) ⊎ ((is_open K (at k) && at_bound v) ≡ false)
-          → not (struck k v) ≡ not (is_open K (at k) && at_bound v)
-      by on fills (inl reached) = ap not (true-by (struck k v) (λ off. gone (shown_from_test _ _ k v off)) ∙ sym reached)
-        where
-          gone : IsShown (counts_between house.least house.most) (sets_at 2 house.places K) k v → ⊥
-          gone shown =
-              let b = shown-bounds K house.places k v is.different lt low on house.least house.most shown in
-              let m = tally.must_is in
-              let n = tally.may_is in
-              let w = and_parts (is_open K (at k)) _ reached in
-              let both = and_parts (K (at k) 0) (K (at k) 1) w.0 in
-              let z : num (not (K (at k) 0)) ≡ 0 = rw both.0 refl in
-              let o : num (K (at k) 1) ≡ 1 = rw both.1 refl in
-              elim (or_cases _ _ w.1) [
-                | inl one ↦ let e = and_parts (eqb v 1) _ one in omega (arith, b.2, eqb-true v 1 e.0, eqb-true t.must house.most e.1)
-                | inr none ↦ let e = and_parts (eqb v 0) _ none in omega (arith, b.1, eqb-true v 0 e.0, eqb-true t.may house.least e.1)
-              ]
-      by on fills (inr free) =
-          let a = or_parts _ _ fills in
-          let order = or_parts _ _ a.1 in
-          let ends = or_parts _ _ order.1 in
-          let none : t.empty ≡ 0 = let e = ltb-false 0 t.empty a.0 in omega arith in
-          let w =
-          room v (K (at k) 0) (K (at k) 1) low (by-value K (at k) v low on)
-          (ltb-false t.may house.least ends.0) (ltb-false house.most t.must ends.1) free in
-          ap not (test_from_shown _ _ k v (bounds-shown K house.places k v is.different lt low on (full none) (ltb-false house.most house.least order.0)
-          (omega (arith, w.0)) (omega (arith, w.1))) ∙ sym free)
 
   -- ---- the board after a visit
   pub after-at : {k v : ℕ} → k < length house.places → v < 2 → after_house house K (at k) v ≡ (K (at k) v && stays t (bounds_of house) (is_open K (at k)) v)
@@ -113,34 +83,31 @@ module _ (cells : ℕ) (house : CountHouse) (K : Candidates) (t : Tally) (is : I
       (strikes_at-place 2 house.places (strikes_by_fillings (counts_between house.least house.most))
       K k v is.different lt) ∙ stays-at k v lt low
 
-  -- a house that does not call strikes nothing
-  pub idle-at : has_strikes t (bounds_of house) ≡ false → (c v : ℕ) → v < 2 → K c v ≡ true → strikes_of house K c v ≡ false
+  -- a house strikes nothing where both values of a cell with both would stay, if there may be such a cell
+  pub idle-at : ((v : ℕ) → v < 2 → stays t (bounds_of house) (not (eqb t.must t.may)) v ≡ true) → (c v : ℕ) → v < 2 → K c v ≡ true
+      → strikes_of house K c v ≡ false
   unfolding after_house
-  idle-at off c v low on = elim (cases_Bool _) [
+  idle-at all c v low on = elim (cases_Bool _) [
     | inr out ↦ off-scope house K c v out
     | inl here ↦ let w = has_place-at house.places c here in
         rw (sym w.2) (by (K (at w.0) v) _ (rw (sym w.2) at on)
-        (after-at w.1 low ∙ stays-all w.0 v w.1))
+        (after-at w.1 low ∙ ap (λ b. K (at w.0) v && b) (stays-all w.0 w.1)))
   ]
     where
-      by : (a b : Bool) → a ≡ true → (a && not b) ≡ a → b ≡ false
+      by : (a b : Bool) → a ≡ true → (a && not b) ≡ (a && true) → b ≡ false
       by a b e f = grind (arith, common_steps, cases_Bool a, cases_Bool b)
 
-      stays-all : (k v : ℕ) → k < length house.places → (K (at k) v && stays t (bounds_of house) (is_open K (at k)) v) ≡ K (at k) v
-      stays-all k v lt =
-          let reached = eqb t.may house.least || eqb t.must house.most in
-          let p = or_parts (lacks_filling t (bounds_of house)) (not (eqb t.must t.may) && reached) off in
-          rw p.0 (elim (cases_Bool (is_open K (at k))) [
-            | inr shut ↦ rw shut (and-true (K (at k) v))
-            | inl both ↦
-                let none = ltb-false 0 t.empty (or_parts _ _ p.0).0 in
-                let w = and_parts (K (at k) 0) (K (at k) 1) both in
-                let m = tally.must_is in
-                let n = tally.may_is in
-                let apart = open-room K house.places k 0 is.different lt (omega arith) w.0 (full (omega arith)) both in
-                let q = or_parts (eqb t.may house.least) (eqb t.must house.most) (rw (ne_eqb t.must t.may (λ e. absurd (omega (arith, apart)))) at p.1) in
-                rw (both, q.0, q.1) (neither (eqb v 1) (eqb v 0))
-          ])
+      apart : (k : ℕ) → k < length house.places → is_open K (at k) ≡ true → not (eqb t.must t.may) ≡ true
+      apart k lt both =
+          let none = ltb-false 0 t.empty (or_parts _ _ (not-true _ (and_parts _ _ (all v low)).0)).0 in
+          let more = open-room K house.places k 0 is.different lt (omega arith) (and_parts (K (at k) 0) (K (at k) 1) both).0 (full (omega arith)) both in
+          ap not (ne_eqb t.must t.may (λ e. absurd (omega (arith, more, tally.must_is, tally.may_is))))
+
+      stays-all : (k : ℕ) → k < length house.places → stays t (bounds_of house) (is_open K (at k)) v ≡ true
+      stays-all k lt = elim (cases_Bool (is_open K (at k))) [
+        | inl both ↦ rw both (rw (apart k lt both) at (all v low))
+        | inr shut ↦ rw shut (ap (λ b. b && true) (and_parts _ _ (all v low)).0)
+      ]
 
 -- ---- the bits of a set of 0, of 1, or of both
 pub two-bits : (zero_in one_in : Bool) (v : ℕ) → v < 2 → has_bit (num zero_in + 2 * num one_in) v ≡ cond (eqb v 0) zero_in one_in

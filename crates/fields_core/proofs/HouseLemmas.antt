@@ -1,5 +1,5 @@
 -- Houses told by segments, and names of houses.
-use Rattle.fields_core.proofs.Common.{AreAdded, CountHouse, List, [], ap, append-nil, append_assoc, arith, common_steps, drop, false, false_from_ne_true, get_or, get_or-append_right, get_or-map, get_or-map-range_with_len, ap₂, no_count_house, count_house_of, length-map, ◌*◌, get_or_append_left, has_place, has_place-at, has_place-here, houses_below, length, length-append, length-map-range_with_len, map, map-append, places_of, segment_places, slice_index, sym, true, ℕ, ◌*◌, ◌++◌, ◌+◌, ◌-◌, ◌<◌, ◌∙◌, ◌∷◌, ◌≡◌, ◌≢◌, ◌≤◌, refl, set, suc, zero}
+use Rattle.fields_core.proofs.Common.{AreAdded, CountHouse, List, [], ap, append-nil, append_assoc, arith, common_steps, drop, false_from_ne_true, get_or, get_or-append_right, get_or-map, get_or-map-range_with_len, ap₂, no_count_house, count_house_of, length-map, ◌*◌, get_or_append_left, has_place, has_place-at, has_place-here, houses_below, length, length-append, length-map-range_with_len, map, map-append, places_of, segment_places, slice_index, sym, ℕ, ◌*◌, ◌++◌, ◌+◌, ◌-◌, ◌<◌, ◌∙◌, ◌∷◌, ◌≡◌, ◌≤◌, refl, set, suc, zero, IsNext, Option, Some, None, is_some, eqb, eqb-true, eq-eqb, true≢false}
 use Rattle.std.proofs.lemmas.List.{at_drop_more}
 use Rattle.fields_core.proofs.CountListLemmas.{below-more, below-none}
 use Rattle.fields_core.specs.Houses.{AreNamed, named, sized}
@@ -44,11 +44,10 @@ four-long cells d four =
     rest i lt = ap length (places-more cells i d lt) ∙ length-append _ _ ∙ ap (λ n. n + length (places_of (drop (i + 1) cells))) (sym (segment-long (get_or cells i d)))
 
 -- ---- whether a cell is among some
-pub has-found : (xs : List ℕ) (k c : ℕ) → k < length xs → slice_index xs k ≡ c → true ≡ has_place xs c
-has-found xs k c lt e = rw e at (sym (has_place-here xs k lt))
-
-pub has-none : (xs : List ℕ) (c : ℕ) → ((j : ℕ) → j < length xs → slice_index xs j ≢ c) → false ≡ has_place xs c
-has-none xs c none = sym (false_from_ne_true _ (λ on. let w = has_place-at xs c on in none w.0 w.1 w.2))
+pub has-next : (xs : List ℕ) (c : ℕ) (found : Option ℕ) → IsNext (λ k. eqb (slice_index xs k) c) (length xs) 0 found → is_some found ≡ has_place xs c
+has-next xs c (Some k) next = sym (rw (eqb-true (slice_index xs k) c next.2) at (has_place-here xs k next.1))
+has-next xs c None none = sym (false_from_ne_true _ (λ on.
+    let w = has_place-at xs c on in true≢false (sym (eq-eqb (slice_index xs w.0) c w.2) ∙ none w.0 (omega arith) w.1)))
 
 -- ---- segments of which those from a number on are empty
 none-left : (cells : List Segment) (d : Segment) → ((k : ℕ) → k < length cells → segment_places (get_or cells k d) ≡ []) → places_of cells ≡ []
@@ -107,6 +106,12 @@ module _ {K : Type 0} (told : K → ℕ → List CountHouse) where
   pub next-added : (f : ℕ → List CountHouse) (old items more : List (HouseName K)) (n x : ℕ)
       → AreAdded told old items (houses_below f (n + x)) → AreAdded told items more (f (n + x)) → AreAdded told old more (houses_below f (n + (x + 1)))
   next-added f old items more n x added one = let z : n + (x + 1) ≡ n + x + 1 = omega arith in rw z (below-added f old items more (n + x) added one)
+
+  -- names that were made apart, after others
+  pub joined-added : (a b more none : List (HouseName K)) (houses : List CountHouse) → none ≡ [] → more ≡ a ++ b → AreAdded told none b houses
+      → AreAdded told a more houses
+  joined-added a b more none houses e f added =
+      rw f (map-append (named told) a b ∙ ap (λ l. map (named told) a ++ l) (rw e at added))
 
   -- of four kinds, each of the numbers below some number
   pub four-named : (a b c d e : List (HouseName K)) (f g h k : ℕ → List CountHouse) {i j l m i' j' l' m' : ℕ} → a ≡ []

@@ -1,10 +1,10 @@
 -- What a visit of a count house leaves, and how long the longest house is.
-use Rattle.fields_core.proofs.Common.{Bool, Candidates, CountHouse, IsHouse, IsTally, IsWithin, Layout, List, Tally, add-one, after_house, and-true, ap, arith, bounds_of, cases_Bool, cases_eq, common_steps, eq-eqb, eqb, false, fun_ext, has, inl, inr, has_bit, has_place, has_place-here, has_strikes, is_open, length, max, ne_eqb, not, refl, slice_index, stays, strikes_of, sym, take, take_all, ℕ, ◌&&◌, ◌+◌, ◌<◌, ◌∙◌, ◌≡◌, ◌≤◌}
+use Rattle.fields_core.proofs.Common.{Bool, Candidates, CountHouse, IsHouse, IsTally, IsWithin, Layout, List, Tally, add-one, after_house, and-true, ap, arith, bounds_of, cases_Bool, cases_eq, common_steps, cond, eq-eqb, eqb, fun_ext, has, inl, inr, has_bit, has_place, has_place-here, is_open, length, max, ne_eqb, not, refl, slice_index, stays, strikes_of, sym, take, take_all, true, ℕ, ◌&&◌, ◌+◌, ◌<◌, ◌∙◌, ◌≡◌, ◌≤◌}
 use Rattle.grid_core.proofs.BoardLemmas.{has-within}
 use Rattle.grid_core.specs.Board.{cells_of}
 use Rattle.engine_core.proofs.IndexLemmas.{not_taken, taken-here, taken-other}
 use Rattle.engine_core.specs.RuleSystem.{longest}
-use Rattle.fields_core.proofs.CountKept.{after-at, idle-at, off-scope}
+use Rattle.fields_core.proofs.CountKept.{after-at, idle-at, off-scope, two-bits}
 
 -- ---- the cells of a house are in the board
 pub cell-in : {cells : ℕ} {house : CountHouse} → IsHouse cells house → {k c : ℕ} → c ≡ slice_index house.places k → k < length house.places → c < cells
@@ -28,11 +28,21 @@ module _ {house : CountHouse} (b : Layout) (is : IsHouse (cells_of b) house) (tw
       rw (take_all n house.places ge) at (partly.left c v) ∙ ap (λ off. has b c v && not off) (grind (arith, common_steps, cases_Bool, off-scope))
 
   module _ {t : Tally} (tally : IsTally (has b) house.places t) where
-    -- a house that does not call strikes nothing
-    pub idle-stays : has_strikes t (bounds_of house) ≡ false → has b ≡ after_house house (has b)
+    -- a house strikes nothing where all would be kept of a cell with both values, if there may be one
+    pub idle-stays : (kept : ℕ) → ((v : ℕ) → v < 2 → has_bit kept v ≡ stays t (bounds_of house) (not (eqb t.must t.may)) v)
+        → kept ≡ 3 → has b ≡ after_house house (has b)
     unfolding after_house
-    idle-stays off = fun_ext λ c. fun_ext λ v.
-        grind (arith, common_steps, cases_Bool (has b c v), within c v, idle-at (cells_of b) house (has b) t is tally off c v)
+    idle-stays kept keeps all = fun_ext λ c. fun_ext λ v.
+        grind (
+          arith,
+          common_steps,
+          cases_Bool (has b c v),
+          within c v,
+          idle-at (cells_of b) house (has b) t is tally (λ u low. sym (keeps u low) ∙ rw all (two-bits true true u low ∙ always (eqb u 0))) c v,
+        )
+      where
+        always : (a : Bool) → cond a true true ≡ true
+        always a = grind (arith, common_steps, cases_Bool a)
 
     -- the next cell
     pub partly-more : {n place : ℕ} (kept : ℕ) {both : Bool} {L M : Candidates} → IsPartly house n (has b) L → n < length house.places

@@ -1,5 +1,5 @@
 -- Houses that stay idle while others of their kind are visited.
-use Rattle.fields_core.proofs.Common.{AllByRecursion, Candidates, CountHouse, IsHouse, List, [], after_house, ap, cases_Bool, counts_between, false, fun_ext, has_place, inl, inr, refl, sym, true, true≢false, ℕ, ◌∙◌, ◌∷◌, ◌≡◌}
+use Rattle.fields_core.proofs.Common.{AllByRecursion, AreDifferent, Candidates, CountHouse, List, [], after_house, ap, cases_Bool, counts_between, false, fun_ext, has_place, inl, inr, refl, sym, true, true≢false, ℕ, ◌∙◌, ◌∷◌, ◌≡◌}
 use Rattle.engine_core.specs.HouseSetsLaws.{by_fillings-settled}
 use Rattle.fields_core.specs.CountHouse.{strikes_of}
 use Rattle.fields_core.specs.Visits.{after_houses}
@@ -9,10 +9,10 @@ use Rattle.fields_core.proofs.IdleLemmas.{full-between, house-far, idle-first, i
 use Rattle.fields_core.proofs.VisitLemmas.{after-inside, visits-inside}
 
 -- a second visit of a house takes nothing
-house-settled : {cells : ℕ} (house : CountHouse) (K : Candidates) → IsHouse cells house → after_house house (after_house house K) ≡ after_house house K
+house-settled : (house : CountHouse) (K : Candidates) → AreDifferent house.places → after_house house (after_house house K) ≡ after_house house K
 unfolding after_house strikes_of
-house-settled house K is = fun_ext λ c. fun_ext λ v. elim (cases_Bool (after_house house K c v)) [
-  | inl on ↦ rw (on, by_fillings-settled 2 house.places (counts_between house.least house.most) K (after_house house K) is.different (λ d u. refl) c v on) refl
+house-settled house K different = fun_ext λ c. fun_ext λ v. elim (cases_Bool (after_house house K c v)) [
+  | inl on ↦ rw (on, by_fillings-settled 2 house.places (counts_between house.least house.most) K (after_house house K) different (λ d u. refl) c v on) refl
   | inr off ↦ rw off refl
 ]
 
@@ -33,15 +33,18 @@ keeps-apart cells visited house apart K full still idle = house-far house K (aft
     ]) idle
 
 -- ---- lists of houses of a kind, each of which keeps each
-module _ (cells : ℕ) (Is : CountHouse → Type 0) (is_house : (house : CountHouse) → Is house → IsHouse cells house)
-    (keeps : (visited house : CountHouse) → Is visited → Is house → Keeps cells visited house) where
+pub record AreQuiet (cells : ℕ) (Is : CountHouse → Type 0) : Type 0 where
+  pub different : (house : CountHouse) → Is house → AreDifferent house.places
+  pub keeps : (visited house : CountHouse) → Is visited → Is house → Keeps cells visited house
+
+module _ {cells : ℕ} {Is : CountHouse → Type 0} (quiet : AreQuiet cells Is) where
   one-kept : (house : CountHouse) (visited : List CountHouse) (K : Candidates) → Is house → AllByRecursion Is visited → IsFull cells K
       → IsFull cells (after_houses visited K) → after_house house K ≡ K → after_house house (after_houses visited K) ≡ after_houses visited K
   unfolding after_houses
   one-kept house [] K is each full still idle = idle
   one-kept house (first ∷ visited) K is (one, each) full still idle =
       let between = full-between cells full still (after-inside first K) (visits-inside visited (after_house first K)) in
-      one-kept house visited (after_house first K) is each between still (keeps first house one is K full between idle)
+      one-kept house visited (after_house first K) is each between still (quiet.keeps first house one is K full between idle)
 
   -- visits leave houses idle that were
   pub list-kept : (houses visited : List CountHouse) (K : Candidates) → AllByRecursion Is houses → AllByRecursion Is visited → IsFull cells K
@@ -59,5 +62,5 @@ module _ (cells : ℕ) (Is : CountHouse → Type 0) (is_house : (house : CountHo
   list-settled [] K each full still = refl
   list-settled (house ∷ houses) K (is, each) full still =
       let between = full-between cells full still (after-inside house K) (visits-inside houses (after_house house K)) in
-      rw (one-kept house houses (after_house house K) is each between still (house-settled house K (is_house house is)))
+      rw (one-kept house houses (after_house house K) is each between still (house-settled house K (quiet.different house is)))
       (list-settled houses (after_house house K) each between still)

@@ -2,7 +2,7 @@
 use Rattle.fields_core.proofs.CountListLemmas.{below-more, below-none}
 use Rattle.fields_core.proofs.CountKept.{two-bits}
 use Rattle.fields_core.proofs.CountTallies.{tally-all, tally-few, tally-first, tally-past, tally-segment}
-use Rattle.fields_core.proofs.HouseLemmas.{added-more, added-none, four-long, line-cells, has-found, has-none, left-within, named-cells, named-long, place-here, place-later, places-last, segment-at, segment-long}
+use Rattle.fields_core.proofs.HouseLemmas.{added-more, added-none, four-long, line-cells, left-within, named-cells, named-long, place-here, place-later, places-last, segment-at, segment-long}
 use Rattle.fields_core.proofs.HouseVisits.{longest-more, longest-none, partly-first}
 use Rattle.fields_core.proofs.LightCounting.{light-counting, light-lawful}
 use Rattle.fields_core.proofs.LightLines.{cell-at, white-at}
@@ -26,7 +26,7 @@ use Rattle.std.proofs.lemmas.Nat.{mul-lt}
 
 pub ruleset count_rules_laws = (start-blocked, same-shape, start-all, named-long, named-cells, partly-first)
 
-pub ruleset house_laws = (line-cells, segment-at, segment-long, place-here, place-later, places-last, left-within, four-long, has-found, has-none, mul-lt)
+pub ruleset house_laws = (line-cells, segment-at, segment-long, place-here, place-later, places-last, left-within, four-long, mul-lt)
 
 pub ruleset house_name_laws = (longest-none, longest-more)
 

@@ -69,3 +69,4 @@ pub mod TentCompleting
 mod LightRests
 mod QuietVisits
 mod LightSweeps
+mod FirstWrong

@@ -1,5 +1,5 @@
 -- The four parts of the test of a grid of Light Up.
-use Rattle.fields_core.proofs.Common.{IsNext, Light, List, None, all_below, and_from, and_parts, arith, black_right, bulb_right, common_steps, light_cells, lit_right, not, not-false, number_right, solves_lights, true, ℕ, ◌<◌, ◌≡◌}
+use Rattle.fields_core.proofs.Common.{Light, List, all_below, and_from, and_parts, arith, black_right, bulb_right, common_steps, light_cells, lit_right, number_right, solves_lights, true, ℕ, ◌≡◌}
 
 pub lit-from : (p : Light) (g : List ℕ) → all_below (black_right p g) (light_cells p) ≡ true → all_below (number_right p g) (light_cells p) ≡ true
     → all_below (bulb_right p g) (light_cells p) ≡ true → all_below (lit_right p g) (light_cells p) ≡ true → solves_lights p g ≡ true
@@ -15,8 +15,3 @@ pub record LitParts (p : Light) (g : List ℕ) : Type 0 where
 pub lit-parts : (p : Light) (g : List ℕ) → solves_lights p g ≡ true → LitParts p g
 unfolding solves_lights
 lit-parts p g on = grind (arith, common_steps, and_parts)
-
--- where none is the first wrong number, each is right
-pub numbers-right : (p : Light) (g : List ℕ) → IsNext (λ c. not (number_right p g c)) (light_cells p) 0 None
-    → (c : ℕ) → c < light_cells p → number_right p g c ≡ true
-numbers-right p g none c lt = not-false _ (none c (omega arith) lt)

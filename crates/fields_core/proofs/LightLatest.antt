@@ -1,5 +1,5 @@
 -- The runs that a walk over the cells keeps.
-use Rattle.fields_core.proofs.Common.{Bool, IsAround, IsLight, begins_at, line_white, Light, List, add-one, common_steps, cond, le-ltb, lt-ltb, ltb, ltb-false, ltb-true, RunsOn, [], and_parts, ap, ap₂, arith, begins_column_run, begins_row_run, cases_eq, cases_lt, clear, column_house, column_run, div-mul-add, eqb, eqb-true, false, filter, get_or, inl, inr, length, length-append, length-map-range_with_len, light_cells, lit_house, map, mul-le-mul_right, not, not-true, one_at_least, one_at_most, or_cases, range_with_len, refl, row_house, row_run, run_house, seen_from, suc, sym, true, true≢false, white, ℕ, ◌*◌, ◌++◌, ◌+◌, ◌-◌, ◌<◌, ◌^◌, ◌∙◌, ◌∷◌, ◌≡◌, ◌≤◌, ◌⊎◌}
+use Rattle.fields_core.proofs.Common.{Bool, IsAround, IsLight, begins_at, line_white, Light, List, add-one, common_steps, cond, le-ltb, lt-ltb, ltb, ltb-false, ltb-true, RunsOn, [], and_parts, ap, ap₂, arith, begins_column_run, begins_row_run, cases_eq, cases_lt, clear, column_house, column_run, div-mul-add, eqb, eqb-true, false, filter, get_or, inl, inr, length, length-append, length-map-range_with_len, light_cells, lit_house, map, mul-le-mul_right, ne_eqb, not, not-true, one_at_least, one_at_most, or_cases, range_with_len, refl, row_house, row_run, run_house, seen_from, suc, sym, true, true≢false, white, zero, ℕ, ◌*◌, ◌++◌, ◌+◌, ◌-◌, ◌<◌, ◌^◌, ◌∙◌, ◌∷◌, ◌≡◌, ◌≤◌, ◌⊎◌}
 use Rattle.grid_core.proofs.PlaneLemmas.{place-column}
 use Rattle.fields_core.proofs.RunLemmas.{around-run, column-run-is, row-run-is}
 use Rattle.fields_core.proofs.SegmentLemmas.{line, line-cut, line-from}
@@ -36,20 +36,27 @@ around-next test {len} {i} {start} {end} is lt = record {
   last = is.last;
 }
 
--- where no run reaches a white cell, one begins there
-pub latest-begins : (p : Light) (first stride : ℕ) {len at end : ℕ} {run : ℕ × ℕ} → IsLatest (line_white p first stride) len at run → run.1 ≤ at → at < len
-    → white p (first + at * stride) ≡ true → RunsOn (line_white p first stride) len at end → IsAround (line_white p first stride) len at at end
-latest-begins p first stride {len} {at} {end} latest past lt on runs = record {
-  low = omega arith;
-  past = runs.past;
-  high = runs.high;
-  pass = λ i from below. elim (cases_lt at i) [
-    | inl later ↦ runs.pass i later below
-    | inr here ↦ let e : i ≡ at = omega arith in rw e on
-  ];
-  first = latest.1 past lt on;
-  last = runs.edge;
-}
+later : (i : ℕ) → eqb (suc i) 0 ≡ false
+later i = ne_eqb (suc i) 0 (λ e. omega (arith, e))
+
+-- where no run reaches a white cell, one begins there; and else none does
+pub latest-begins : (p : Light) (first stride : ℕ) {len at : ℕ} {run : ℕ × ℕ} → IsLatest (line_white p first stride) len at run → run.1 ≤ at → at < len
+    → white p (first + at * stride) ≡ true → begins_at p first stride at ≡ true
+latest-begins p first stride {at = zero} latest past lt on = rw on refl
+latest-begins p first stride {at = suc i} latest past lt on =
+    let z : first + suc i * stride - stride ≡ first + i * stride = omega arith in
+    let off : white p (first + i * stride) ≡ false = latest.1 past lt on i refl in
+    rw (on, z, off, later i) refl
+
+pub latest-reaches : (p : Light) (first stride : ℕ) {len at : ℕ} {run : ℕ × ℕ} → IsLatest (line_white p first stride) len at run → at < run.1
+    → begins_at p first stride at ≡ false
+latest-reaches p first stride {at = zero} latest lt = absurd (omega (arith, (latest.0 lt).0))
+latest-reaches p first stride {at = suc i} latest lt =
+    let is = latest.0 lt in
+    let z : first + suc i * stride - stride ≡ first + i * stride = omega arith in
+    let here : white p (first + suc i * stride) ≡ true = is.1.pass (suc i) is.1.low is.1.past in
+    let before : white p (first + i * stride) ≡ true = is.1.pass i (omega (arith, is.0)) (omega (arith, is.1.past)) in
+    rw (here, z, before, later i) refl
 
 pub latest-none : (test : ℕ → Bool) (len : ℕ) → IsLatest test len 0 (0, 0)
 latest-none test len = (λ lt. absurd (omega (arith, lt)), λ past lt on i e. absurd (omega (arith, e)))
@@ -57,7 +64,7 @@ latest-none test len = (λ lt. absurd (omega (arith, lt)), λ past lt on i e. ab
 pub latest-white : (test : ℕ → Bool) {len at : ℕ} (run : ℕ × ℕ) → IsAround test len at run.0 run.1 → IsLatest test len (at + 1) run
 latest-white test {len} {at} run is =
     let z = add-one at in (
-      λ lt. rw z (around-next test is (rw z at lt)),
+      λ lt. (omega (arith, is.low), rw z (around-next test is (rw z at lt))),
       λ past lt on i e.
           let end : run.1 ≡ at + 1 = omega (arith, past, is.past) in
           absurd (true≢false (sym on ∙ rw end at (is.last (omega (arith, end, lt))))),
@@ -65,7 +72,7 @@ latest-white test {len} {at} run is =
 
 pub latest-black : (test : ℕ → Bool) {len at : ℕ} (run : ℕ × ℕ) → test at ≡ false → IsLatest test len at run → IsLatest test len (at + 1) run
 latest-black test {len} {at} run off latest = (
-  λ lt. let is = latest.0 (omega (arith, lt)) in absurd (true≢false (sym (is.pass at is.low is.past) ∙ off)),
+  λ lt. let is = (latest.0 (omega (arith, lt))).1 in absurd (true≢false (sym (is.pass at is.low is.past) ∙ off)),
   λ past lt on i e. let z : i ≡ at = omega (arith, e) in rw z off,
 )
 
@@ -197,6 +204,15 @@ column-house-is p y x lt = rw (column-run-is p y x lt, div-mul-add y p.size.w x 
   where
     z : x + y * p.size.w ≡ y * p.size.w + x
     z = omega arith
+
+-- a black cell begins none
+pub row-black : (p : Light) (c : ℕ) → white p c ≡ false → row_house p c ≡ []
+unfolding begins_row_run
+row-black p c off = rw off refl
+
+pub column-black : (p : Light) (c : ℕ) → white p c ≡ false → column_house p c ≡ []
+unfolding begins_column_run
+column-black p c off = rw off refl
 
 -- each is the house that its place tells
 pub row-told : (p : Light) (y x : ℕ) → x < p.size.w → row_house p (y * p.size.w + x * 1) ≡ run_house p (y * p.size.w) 1 p.size.w x

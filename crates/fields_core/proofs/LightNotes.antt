@@ -1,15 +1,15 @@
 -- Runs of Light Up with two cells that can have a bulb, or with one that must, as words.
-use Rattle.fields_core.proofs.Common.{Bool, or_cases, Candidates, any_below, any_below-some, not-true, Light, Layers, List, and_parts, arith, cases_eq, count_below, div-mul-add, false, not, get_or, get_or-set_other, get_or-set_same, has_bit, inl, inr, joined_in_column, joined_in_row, length, length-map, light_cells, ltb-true, map, refl, set, slice_index, sym, true, white, ℕ, ◌%◌, ◌&&◌, ◌*◌, ◌+◌, ◌/◌, ◌<◌, ◌||◌, ◌∙◌, ◌≡◌, ◌≢◌, ◌≤◌}
+use Rattle.fields_core.proofs.Common.{Bool, or_cases, Candidates, any_below, any_below-some, not-true, Light, Layers, List, and_parts, arith, cases_eq, count_below, div-mul-add, false, not, get_or, get_or-set_other, get_or-set_same, has_bit, inl, inr, joined_in_column, joined_in_row, length, length-map, light_cells, ltb-true, map, refl, set, slice_index, sym, true, white, ℕ, ◌&&◌, ◌*◌, ◌+◌, ◌<◌, ◌||◌, ◌∙◌, ◌≡◌, ◌≢◌, ◌≤◌}
 use Rattle.std.proofs.lemmas.List.{map-set}
 use Rattle.grid_core.specs.Planes.{bit_of, has}
 use Rattle.grid_core.proofs.PlaneLemmas.{place-in}
 use Rattle.fields_core.specs.LightWaits.{AreSafe, AreSafeInColumns}
 use Rattle.fields_core.specs.LightWords.{IsRowRun}
 use Rattle.fields_core.specs.Trees.{IsRowOf}
-use Rattle.fields_core.proofs.LightHouseLaws.{clear-at, column-both, column-next, column-parts, column-self, row-both, row-parts}
+use Rattle.fields_core.proofs.LightHouseLaws.{column-both, column-next, column-self, row-both}
 use Rattle.fields_core.proofs.LitVisits.{has-at}
 use Rattle.fields_core.proofs.LitWords.{two-places}
-use Rattle.fields_core.proofs.TentBeside.{whole-cell}
+use Rattle.fields_core.proofs.RunBegins.{column-white-start}
 use Rattle.fields_core.proofs.TreeWords.{row-read}
 
 -- ---- the runs of a cell as words
@@ -80,16 +80,6 @@ safe-moved move safe = record {
 pub row-moved : (p : Light) (y x k : ℕ) (x_in : x < p.size.w) (run : ℕ) → IsRowRun p (y * p.size.w + x) run → has_bit run k ≡ true → {K : Candidates}
     → AreSafe (joined_in_row p (y * p.size.w + x)) K → AreSafe (joined_in_row p (y * p.size.w + k)) K
 row-moved p y x k x_in run is on safe = safe-moved (λ d joined. row-both p (y * p.size.w + x) (y * p.size.w + k) d (row-there p y x x_in run is k on).1 joined) safe
-
--- ---- a black cell is in no run
-module _ (p : Light) (c d : ℕ) where
-  pub row-white-start : joined_in_row p c d ≡ true → white p c ≡ true
-  row-white-start on = rw (← whole-cell p.size.w c) at
-      (clear-at (λ x. white p (c / p.size.w * p.size.w + x)) (c % p.size.w) (d % p.size.w) (c % p.size.w) (row-parts p c d on).1 (omega arith) (omega arith))
-
-  pub column-white-start : joined_in_column p c d ≡ true → white p c ≡ true
-  column-white-start on = rw (← whole-cell p.size.w c) at
-      (clear-at (λ y. white p (y * p.size.w + c % p.size.w)) (c / p.size.w) (d / p.size.w) (c / p.size.w) (column-parts p c d on).1 (omega arith) (omega arith))
 
 -- ---- cells one above the other
 module _ (p : Light) (c : ℕ) (some : 0 < p.size.w) (above : white p c ≡ true) (below : white p (c + p.size.w) ≡ true) where

@@ -1,11 +1,14 @@
 -- Numbers and runs of Light Up that wait: where they lie, what stays idle, and what is idle where a closing begins.
-use Rattle.fields_core.proofs.Common.{[], AllByRecursion, Black, Bool, any_below, any_below-none, cases_eq, or_left, or_right, Candidates, CountHouse, IsLight, Layers, Light, LightCell, List, Numbered, White, ap, arith, cases_Bool, common_steps, eq-eqb, eqb, eqb-true, exactly, false, false_from_ne_true, filter, get_or, has_bit, houses_below, inl, inr, light_cells, light_houses, light_rules, lit_house, lt-ltb, ltb, not, number_house, place-filter, refl, steps, suc, sym, true, true≢false, white, zero, ℕ, ◌%◌, ◌&&◌, ◌*◌, ◌++◌, ◌+◌, ◌-◌, ◌/◌, ◌<◌, ◌||◌, ◌∙◌, ◌∷◌, ◌≡◌, ◌≤◌}
+use Rattle.fields_core.proofs.Common.{[], AllByRecursion, Black, Bool, any_below, any_below-none, cases_eq, or_left, or_right, Candidates, CountHouse, IsLight, Layers, Light, LightCell, List, Numbered, White, ap, arith, cases_Bool, common_steps, eqb, eqb-true, exactly, false, false_from_ne_true, filter, get_or, has_bit, houses_below, inl, inr, light_cells, light_houses, light_rules, lit_house, lt-ltb, ltb, not, number_house, place-filter, refl, steps, suc, sym, true, true≢false, white, zero, ℕ, ◌%◌, ◌&&◌, ◌*◌, ◌++◌, ◌+◌, ◌-◌, ◌/◌, ◌<◌, ◌||◌, ◌∙◌, ◌∷◌, ◌≡◌, ◌≤◌, or_parts}
 use Rattle.grid_core.specs.Candidates.{IsInside}
-use Rattle.grid_core.specs.Planes.{has, back_at, AreLinesOf, ArePlanes, IsFurther, IsLostIn}
+use Rattle.grid_core.specs.Planes.{has, back_at, AreLinesOf, IsFurther, IsLostIn}
 use Rattle.grid_core.specs.declared.planes.touched.Touched.{Touched}
+use Rattle.grid_core.proofs.CandidateLemmas.{is_dead-not}
+use Rattle.grid_core.proofs.GridLemmas.{only-inside, only-other}
 use Rattle.grid_core.proofs.PlaneLemmas.{place-in}
 use Rattle.grid_core.proofs.TakingLemmas.{put_back-none}
 use Rattle.engine_core.specs.Queue.{IsClosedAround}
+use Rattle.engine_core.specs.RuleSystem.{IsClosed}
 use Rattle.fields_core.specs.Light.{solves_lights}
 use Rattle.fields_core.specs.LightHouses.{row_house, column_house}
 use Rattle.fields_core.specs.LightPlanes.{ArePlanesOf}
@@ -17,13 +20,15 @@ use Rattle.fields_core.specs.declared.planes.lights.waits.LineWaits.{LineWaits}
 use Rattle.fields_core.specs.declared.planes.lights.waits.RunKind.{RunKind}
 use Rattle.fields_core.specs.declared.planes.lights.waits.RunKind.TheVariants.{Rows, Columns}
 unfoldable use Rattle.fields_core.proofs.IdleLemmas.{any_has}
-use Rattle.fields_core.proofs.IdleLemmas.{any-append, any-below, any-none, any-one, idle-far, idle-first, idle-rest}
+use Rattle.fields_core.proofs.IdleLemmas.{any-below, any-none, any-one, idle-far, idle-first, idle-rest}
+use Rattle.fields_core.proofs.AtMostLemmas.{IsFull}
 use Rattle.fields_core.proofs.LitIdle.{IsAll}
+use Rattle.fields_core.proofs.LitRuns.{planes-full}
+use Rattle.fields_core.proofs.PlaneSweeps.{counted-some}
 use Rattle.fields_core.proofs.LitVisits.{lit-is}
 use Rattle.fields_core.proofs.NumberRows.{numbers-are}
-use Rattle.fields_core.proofs.PartIdle.{IsPartOf, idle-around, in-back, in-below, in-front}
-use Rattle.fields_core.proofs.PartLemmas.{value-in}
-use Rattle.fields_core.proofs.RunOrder.{column-runs-kept, column-runs-lie, row-runs-are, row-runs-kept, row-runs-lie}
+use Rattle.fields_core.proofs.PartIdle.{IsPartOf, closed-idle, in-back, in-below, in-front}
+use Rattle.fields_core.proofs.RunOrder.{column-runs-kept, row-runs-are, row-runs-kept}
 use Rattle.fields_core.proofs.StepLaws.{steps-some}
 use Rattle.fields_core.proofs.TentBeside.{IsNextTo, step-across, step-lies}
 use Rattle.fields_core.proofs.VisitLemmas.{visits-append}
@@ -47,36 +52,18 @@ numbers-lie p c y on =
     (number-lies p c y w.0 w.1 w.2).0
 
 -- ---- lines that have changed
-off_both : {a b : Bool} → (a || b) ≡ false → (a ≡ false) × (b ≡ false)
-off_both {a} {b} e = (grind (arith, common_steps, cases_Bool a), grind (arith, common_steps, cases_Bool a))
-
 -- a line that does not wait is none of these, nor beside one
 spread-off : {W : Type 0} (bits : W → ℕ) {room : ℕ} (before lines now : W) → AreSpread bits room before lines now
     → {j k : ℕ} → has_bit (bits lines) j ≡ true → k < room → has_bit (bits now) k ≡ false → IsNextTo j k → ⊥
 spread-off bits {room} before lines now woken {j} {k} on lt off (inl own) =
-    true≢false (sym (rw own at on) ∙ (off_both (off_both (off_both (sym (woken k) ∙ off)).1).0).1)
+    true≢false (sym (rw own at on) ∙ (or_parts _ _ (or_parts _ _ (or_parts _ _ (sym (woken k) ∙ off)).1).0).1)
 spread-off bits {room} before lines now woken {j} {k} on lt off (inr (inl above)) =
     let at : j ≡ k - 1 = omega (arith, above) in
     let f : (ltb k room && (ltb 0 k && has_bit (bits lines) (k - 1))) ≡ false =
-    (off_both (off_both (off_both (sym (woken k) ∙ off)).1).0).0 in
+    (or_parts _ _ (or_parts _ _ (or_parts _ _ (sym (woken k) ∙ off)).1).0).0 in
     true≢false (rw (lt-ltb k room lt, lt-ltb 0 k (omega (arith, above)), rw at at on) at f)
 spread-off bits {room} before lines now woken {j} {k} on lt off (inr (inr below)) =
-    true≢false (sym (rw below at on) ∙ (off_both (off_both (sym (woken k) ∙ off)).1).1)
-
-module _ {W : Type 0} (bits : W → ℕ) {room : ℕ} (p : Light) {before now : LineWaits W} {cells zeros : Touched W}
-    (lawful : IsLight p) (low : p.size.h ≤ room) (woken : AreLinesWoken bits room before cells zeros now) where
-  -- where houses do not wait, none of them has a cell of these lines
-  numbers-off : (c : ℕ) → has_bit (bits cells.rows) (c / p.size.w) ≡ true → (k : ℕ) → k < p.size.h → has_bit (bits now.numbers) k ≡ false
-      → any_has (numbers_of_row p k) c ≡ false
-  numbers-off c row k lt off = false_from_ne_true _ (λ has. spread-off bits _ _ _ woken.numbers row (omega (arith, lt, low)) off (numbers-lie p c k has))
-
-  runs-off : (c : ℕ) → AreLinesOf bits zeros (c / p.size.w) (c % p.size.w) → (kind : RunKind) (k : ℕ) → k < run_lines p kind
-      → has_bit (waiting_runs bits now kind) k ≡ false → any_has (run_houses p kind k) c ≡ false
-  unfolding any_has
-  runs-off c on Rows k lt off = false_from_ne_true _ (λ has.
-      true≢false (sym on.1 ∙ ap (has_bit (bits zeros.rows)) (row-runs-lie p k c lawful has) ∙ (off_both (sym (woken.rows_are k) ∙ off)).1))
-  runs-off c on Columns k lt off = false_from_ne_true _ (λ has.
-      true≢false (sym on.0 ∙ ap (has_bit (bits zeros.columns)) (column-runs-lie p k c lawful lt has) ∙ (off_both (sym (woken.columns_are k) ∙ off)).1))
+    true≢false (sym (rw below at on) ∙ (or_parts _ _ (or_parts _ _ (sym (woken k) ∙ off)).1).1)
 
 -- ---- white cells
 pub lits-each : (p : Light) (c : ℕ) → IsLight p → c < light_cells p → AllByRecursion (IsAll (light_cells p)) (lit_house p c)
@@ -95,67 +82,66 @@ value-kept K L c v inside never = elim (cases_Bool (K c v)) [
   | inr off ↦ false_from_ne_true _ (λ on. true≢false (sym (inside c v on) ∙ off)) ∙ sym off
 ]
 
--- ---- once cells have lost values
-module _ {W : Type 0} (bits : W → ℕ) {room : ℕ} (p : Light) (zeros ones cells : Touched W) {from to : Layers} {len : ℕ} (are : ArePlanes room to)
-    (lost_zeros : IsLostIn bits to.size.w 0 (back_at to len) (has to) zeros) (lost_ones : IsLostIn bits to.size.w 1 (back_at to len) (has to) ones)
-    (all_rows : (k : ℕ) → has_bit (bits cells.rows) k ≡ (has_bit (bits zeros.rows) k || has_bit (bits ones.rows) k))
-    (all_columns : (k : ℕ) → has_bit (bits cells.columns) k ≡ (has_bit (bits zeros.columns) k || has_bit (bits ones.columns) k))
-    (of : ArePlanesOf room p to) (was : ArePlanesOf room p from) (is : from.len ≡ len) (further : IsFurther from to) where
-  back : (c v : ℕ) → back_at to len c v ≡ has from c v
-  back c v =
-      let whole : back_at to len ≡ has from = rw (← is) (further.back from.len (omega arith)
-      ∙ put_back-none from.size.w (has from) from.takings from.len from.len (omega arith)) in
-      ap (λ (M : Candidates). M c v) whole
-
-  zeros-at : IsLostIn bits p.size.w 0 (has from) (has to) zeros
-  zeros-at c on gone = rw (of.size) at (lost_zeros c (back c 0 ∙ on) gone)
-
-  ones-at : IsLostIn bits p.size.w 1 (has from) (has to) ones
-  ones-at c on gone = rw (of.size) at (lost_ones c (back c 1 ∙ on) gone)
-
-  lost-at : (c v : ℕ) → v < 2 → has from c v ≡ true → has to c v ≡ false → AreLinesOf bits cells (c / p.size.w) (c % p.size.w)
-  lost-at c zero small on gone = let at = zeros-at c on gone in
-      (all_columns _ ∙ or_left _ (has_bit (bits ones.columns) _) at.0, all_rows _ ∙ or_left _ (has_bit (bits ones.rows) _) at.1)
-  lost-at c (suc zero) small on gone = let at = ones-at c on gone in
-      (all_columns _ ∙ or_right (has_bit (bits zeros.columns) _) _ at.0, all_rows _ ∙ or_right (has_bit (bits zeros.rows) _) _ at.1)
-  lost-at c (suc (suc v)) small on gone = absurd (omega (arith, small))
-
+-- ---- once cells of these lines have lost values, or 0
+module _ {W : Type 0} (bits : W → ℕ) {room : ℕ} (p : Light) {before now : LineWaits W} {cells zeros : Touched W} (K L : Candidates)
+    (lawful : IsLight p) (narrow : p.size.w ≤ room) (low : p.size.h ≤ room) (full : IsFull (light_cells p) K) (still : IsFull (light_cells p) L) (inside : IsInside L K)
+    (lost : (c v : ℕ) → v < 2 → K c v ≡ true → L c v ≡ false → AreLinesOf bits cells (c / p.size.w) (c % p.size.w))
+    (lost_zero : (c : ℕ) → K c 0 ≡ true → L c 0 ≡ false → AreLinesOf bits zeros (c / p.size.w) (c % p.size.w))
+    (woken : AreLinesWoken bits room before cells zeros now) (rested : AreLinesRested bits p before K) where
   -- numbers in a column that does not wait
-  columns-rested : (before now : LineWaits W) → AreLinesWoken bits room before cells zeros now → AreLinesRested bits p before (has from)
-      → (y : ℕ) → y < p.size.h → AreIdleBut p (bits now.number_columns) y (has to)
-  columns-rested before now woken rested y y_in x lt off =
-      idle-far (number_house p (y * p.size.w + x)) (has from) (has to) further.inside
+  columns-rested : (y : ℕ) → y < p.size.h → AreIdleBut p (bits now.number_columns) y L
+  columns-rested y y_in x lt off =
+      idle-far (number_house p (y * p.size.w + x)) K L inside
       (λ c v on gone. false_from_ne_true _ (λ there.
-      spread-off bits _ _ _ woken.number_columns (lost-at c v (value-in from c v on) on gone).0 (omega (arith, lt, of.narrow)) off (number-lies p c y x lt there).1))
-      (rested.columns y y_in x lt (off_both (sym (woken.number_columns x) ∙ off)).0)
+      spread-off bits _ _ _ woken.number_columns (lost c v (full.low c v on) on gone).0 (omega (arith, lt, narrow)) off (number-lies p c y x lt there).1))
+      (rested.columns y y_in x lt (or_parts _ _ (sym (woken.number_columns x) ∙ off)).0)
 
-  numbers-rested : (before now : LineWaits W) → AreLinesWoken bits room before cells zeros now → AreLinesRested bits p before (has from)
-      → (k : ℕ) → k < p.size.h → has_bit (bits now.numbers) k ≡ false → AreIdle (numbers_of_row p k) (has to)
-  numbers-rested before now woken rested k lt off =
-      idle-far (numbers_of_row p k) (has from) (has to) further.inside
+  numbers-rested : (k : ℕ) → k < p.size.h → has_bit (bits now.numbers) k ≡ false → AreIdle (numbers_of_row p k) L
+  numbers-rested k lt off =
+      idle-far (numbers_of_row p k) K L inside
       (λ c v on gone. false_from_ne_true _ (λ there.
-      spread-off bits _ _ _ woken.numbers (lost-at c v (value-in from c v on) on gone).1 (omega (arith, lt, of.low)) off (numbers-lie p c k there)))
-      (rested.numbers k lt (off_both (sym (woken.numbers k) ∙ off)).0)
+      spread-off bits _ _ _ woken.numbers (lost c v (full.low c v on) on gone).1 (omega (arith, lt, low)) off (numbers-lie p c k there)))
+      (rested.numbers k lt (or_parts _ _ (sym (woken.numbers k) ∙ off)).0)
 
-  runs-rested : (before now : LineWaits W) → AreLinesWoken bits room before cells zeros now → AreLinesRested bits p before (has from)
-      → (kind : RunKind) (k : ℕ) → k < run_lines p kind → has_bit (waiting_runs bits now kind) k ≡ false → AreIdle (run_houses p kind k) (has to)
-  runs-rested before now woken rested Rows k lt off =
-      let parts = off_both (sym (woken.rows_are k) ∙ off) in
-      row-runs-kept p k of.lawful was.size was.alive of.alive further
-      (λ c row. value-kept (has from) (has to) c 0 further.inside (λ on gone. true≢false (sym (zeros-at c on gone).1 ∙ ap (has_bit (bits zeros.rows)) row ∙ parts.1)))
+  runs-rested : (kind : RunKind) (k : ℕ) → k < run_lines p kind → has_bit (waiting_runs bits now kind) k ≡ false → AreIdle (run_houses p kind k) L
+  runs-rested Rows k lt off =
+      let parts = or_parts _ _ (sym (woken.rows_are k) ∙ off) in
+      row-runs-kept p K L lawful full still inside k
+      (λ c row. value-kept K L c 0 inside (λ on gone. true≢false (sym (lost_zero c on gone).1 ∙ ap (has_bit (bits zeros.rows)) row ∙ parts.1)))
       (rested.runs Rows k lt parts.0)
-  runs-rested before now woken rested Columns k lt off =
-      let parts = off_both (sym (woken.columns_are k) ∙ off) in
-      column-runs-kept p k of.lawful lt was.size was.alive of.alive further
-      (λ c column. value-kept (has from) (has to) c 0 further.inside (λ on gone. true≢false (sym (zeros-at c on gone).0 ∙ ap (has_bit (bits zeros.columns)) column ∙ parts.1)))
+  runs-rested Columns k lt off =
+      let parts = or_parts _ _ (sym (woken.columns_are k) ∙ off) in
+      column-runs-kept p K L lawful full still inside k lt
+      (λ c column. value-kept K L c 0 inside (λ on gone. true≢false (sym (lost_zero c on gone).0 ∙ ap (has_bit (bits zeros.columns)) column ∙ parts.1)))
       (rested.runs Columns k lt parts.0)
 
-  pub lines-woken : (before now : LineWaits W) → AreLinesWoken bits room before cells zeros now → AreLinesRested bits p before (has from) → AreLinesRested bits p now (has to)
-  lines-woken before now woken rested = record {
-    numbers = numbers-rested before now woken rested;
-    runs = runs-rested before now woken rested;
-    columns = columns-rested before now woken rested;
-  }
+  pub lines-board : AreLinesRested bits p now L
+  lines-board = record { numbers = numbers-rested; runs = runs-rested; columns = columns-rested }
+
+pub lines-woken : {W : Type 0} (bits : W → ℕ) {room : ℕ} (p : Light) (zeros ones cells : Touched W) {from to : Layers} {len : ℕ} (before now : LineWaits W)
+    → IsLostIn bits to.size.w 0 (back_at to len) (has to) zeros → IsLostIn bits to.size.w 1 (back_at to len) (has to) ones
+    → ((k : ℕ) → has_bit (bits cells.rows) k ≡ (has_bit (bits zeros.rows) k || has_bit (bits ones.rows) k))
+    → ((k : ℕ) → has_bit (bits cells.columns) k ≡ (has_bit (bits zeros.columns) k || has_bit (bits ones.columns) k))
+    → ArePlanesOf room p to → ArePlanesOf room p from → from.len ≡ len → IsFurther from to
+    → AreLinesWoken bits room before cells zeros now → AreLinesRested bits p before (has from) → AreLinesRested bits p now (has to)
+lines-woken bits p zeros ones cells {from} {to} {len} before now lost_zeros lost_ones all_rows all_columns of was is further =
+    lines-board bits p (has from) (has to) of.lawful of.narrow of.low (planes-full p from was.size was.alive) (planes-full p to of.size of.alive) further.inside lost zeros-at
+  where
+    whole : back_at to len ≡ has from
+    whole = rw (← is) (further.back from.len (omega arith) ∙ put_back-none from.size.w (has from) from.takings from.len from.len (omega arith))
+
+    zeros-at : IsLostIn bits p.size.w 0 (has from) (has to) zeros
+    zeros-at c on gone = rw (of.size) at (lost_zeros c (rw whole on) gone)
+
+    ones-at : IsLostIn bits p.size.w 1 (has from) (has to) ones
+    ones-at c on gone = rw (of.size) at (lost_ones c (rw whole on) gone)
+
+    lost : (c v : ℕ) → v < 2 → has from c v ≡ true → has to c v ≡ false → AreLinesOf bits cells (c / p.size.w) (c % p.size.w)
+    lost c zero small on gone = let at = zeros-at c on gone in
+        (all_columns _ ∙ or_left _ (has_bit (bits ones.columns) _) at.0, all_rows _ ∙ or_left _ (has_bit (bits ones.rows) _) at.1)
+    lost c (suc zero) small on gone = let at = ones-at c on gone in
+        (all_columns _ ∙ or_right (has_bit (bits zeros.columns) _) _ at.0, all_rows _ ∙ or_right (has_bit (bits zeros.rows) _) _ at.1)
+    lost c (suc (suc v)) small on gone = absurd (omega (arith, small))
 
 -- ---- where a closing begins
 -- the houses of the lists below n, where each list is idle
@@ -179,53 +165,49 @@ idle-one f n k K lt idle =
     let within = in-below f k n lt in
     (idle-parts (f k) within.back K (idle-parts within.front (f k ++ within.back) K (rw (within.is) at idle)).1).0
 
-below-has : (f : ℕ → List CountHouse) (n k c : ℕ) → k < n → any_has (f k) c ≡ true → any_has (houses_below f n) c ≡ true
-unfolding houses_below
-below-has f zero k c lt on = absurd (omega arith)
-below-has f (suc n) k c lt on = any-append (houses_below f n) (f n) c ∙ elim (cases_eq k n) [
-  | inl e ↦ or_right (any_has (houses_below f n) c) _ (rw e at on)
-  | inr ne ↦ or_left _ (any_has (f n) c) (below-has f n k c (omega arith) on)
-]
+-- all houses of a closed board are idle
+module _ (p : Light) (K : Candidates) (closed : IsClosed (light_rules p) K) where
+  part-idle : (part : List CountHouse) → IsPartOf part (light_houses p) → AreIdle part K
+  part-idle part within = closed-idle (light_cells p) (λ c. not (white p c)) (light_houses p) (solves_lights p) K closed within
 
-module _ (p : Light) (lawful : IsLight p) (K : Candidates) (place : ℕ) (around : IsClosedAround (light_rules p) K place) where
-  part-idle : (part : List CountHouse) → IsPartOf part (light_houses p) → any_has part place ≡ false → AreIdle part K
-  part-idle part within off = idle-around (light_cells p) (λ c. not (white p c)) (light_houses p) (solves_lights p) K place around within off
-
-  column-idle : (c : ℕ) → c < light_cells p → any_has (column_house p c) place ≡ false → AreIdle (column_house p c) K
+  numbers-part : (part : List CountHouse) → IsPartOf part (houses_below (number_house p) (light_cells p)) → AreIdle part K
   unfolding light_houses
-  column-idle c lt off = part-idle (column_house p c)
+  numbers-part part within = part-idle part (in-front _ _ _ within)
+
+  runs-idle : (kind : RunKind) (k : ℕ) → k < run_lines p kind → AreIdle (run_houses p kind k) K
+  unfolding light_houses
+  runs-idle Rows k lt = part-idle (row_runs_of_row p k)
+      (in-back _ (houses_below (number_house p) (light_cells p)) _ (in-front _ _ _ (rw (row-runs-are p) at (in-below (row_runs_of_row p) k p.size.h lt))))
+  runs-idle Columns k lt = below-idle (λ y. column_house p (y * p.size.w + k)) p.size.h K
+      (λ y less. part-idle (column_house p (y * p.size.w + k))
       (in-back _ (houses_below (number_house p) (light_cells p)) _ (in-back _ (houses_below (row_house p) (light_cells p)) _
-      (in-front _ _ _ (in-below (column_house p) c (light_cells p) lt)))) off
+      (in-front _ _ _ (in-below (column_house p) (y * p.size.w + k) (light_cells p) (place-in p.size.w p.size.h y k less lt))))))
 
-  number-idle : (c : ℕ) → c < light_cells p → any_has (number_house p c) place ≡ false → AreIdle (number_house p c) K
-  unfolding light_houses
-  number-idle c lt off = part-idle (number_house p c) (in-front _ _ _ (in-below (number_house p) c (light_cells p) lt)) off
+  closed-rested : {W : Type 0} (bits : W → ℕ) (none : LineWaits W) → AreLinesRested bits p none K
+  closed-rested bits none = record {
+    numbers = λ k lt off. numbers-part (numbers_of_row p k) (rw (numbers-are p) at (in-below (numbers_of_row p) k p.size.h lt));
+    runs = λ kind k lt off. runs-idle kind k lt;
+    columns = λ y y_in x lt off. numbers-part (number_house p (y * p.size.w + x))
+        (in-below (number_house p) (y * p.size.w + x) (light_cells p) (place-in p.size.w p.size.h y x y_in lt));
+  }
 
-  numbers-idle : (k : ℕ) → k < p.size.h → any_has (numbers_of_row p k) place ≡ false → AreIdle (numbers_of_row p k) K
-  unfolding light_houses
-  numbers-idle k lt off = part-idle (numbers_of_row p k)
-      (in-front _ _ _ (rw (numbers-are p) at (in-below (numbers_of_row p) k p.size.h lt))) off
+-- a closing begins at a cell
+pub lines-at : {W : Type 0} (bits : W → ℕ) {room : ℕ} (p : Light) {planes : Layers} {place : ℕ} (none now : LineWaits W) {cell : Touched W}
+    → ArePlanesOf room p planes → IsClosedAround (light_rules p) (has planes) place
+    → AreLinesOf bits cell (place / p.size.w) (place % p.size.w) → AreLinesWoken bits room none cell cell now → AreLinesRested bits p now (has planes)
+lines-at bits p {planes} {place} none now {cell} of around own woken =
+    lines-board bits p around.before (has planes) of.lawful of.narrow of.low full (planes-full p planes of.size of.alive)
+    (rw (around.is) (only-inside around.before place around.value)) (λ c v small. at c v) (λ c. at c 0) woken
+    (closed-rested p around.before around.closed bits none)
+  where
+    full : IsFull (light_cells p) around.before
+    full = record { low = λ c v on. (around.within c v on).1; some = λ c lt. counted-some around.before c (is_dead-not (light_cells p) 2 around.before c around.alive lt) }
 
-  runs-idle : (kind : RunKind) (k : ℕ) → k < run_lines p kind → any_has (run_houses p kind k) place ≡ false → AreIdle (run_houses p kind k) K
-  unfolding light_houses
-  runs-idle Rows k lt off = part-idle (row_runs_of_row p k)
-      (in-back _ (houses_below (number_house p) (light_cells p)) _ (in-front _ _ _ (rw (row-runs-are p) at (in-below (row_runs_of_row p) k p.size.h lt)))) off
-  runs-idle Columns k lt off = below-idle (λ y. column_house p (y * p.size.w + k)) p.size.h K
-      (λ y less. column-idle (y * p.size.w + k) (place-in p.size.w p.size.h y k less lt)
-      (false_from_ne_true _ (λ on. true≢false (sym (below-has (λ y. column_house p (y * p.size.w + k)) p.size.h y place less on) ∙ off))))
-
-  -- a closing begins at a cell
-  pub lines-at : {W : Type 0} (bits : W → ℕ) {room : ℕ} {planes : Layers} (before now : LineWaits W) {touched : Touched W} → ArePlanesOf room p planes
-      → ((k : ℕ) → has_bit (bits touched.columns) k ≡ eqb k (place % p.size.w)) → ((k : ℕ) → has_bit (bits touched.rows) k ≡ eqb k (place / p.size.w))
-      → AreLinesWoken bits room before touched touched now → AreLinesRested bits p now K
-  lines-at bits before now {touched} of column row woken =
-      let lines : AreLinesOf bits touched (place / p.size.w) (place % p.size.w) = (column _ ∙ eq-eqb _ _ refl, row _ ∙ eq-eqb _ _ refl) in
-      record {
-        numbers = λ k lt off. numbers-idle k lt (numbers-off bits p lawful of.low woken place lines.1 k lt off);
-        runs = λ kind k lt off. runs-idle kind k lt (runs-off bits p lawful of.low woken place lines kind k lt off);
-        columns = λ y y_in x lt off. number-idle (y * p.size.w + x) (place-in p.size.w p.size.h y x y_in lt)
-            (false_from_ne_true _ (λ there. spread-off bits _ _ _ woken.number_columns lines.0 (omega (arith, lt, of.narrow)) off (number-lies p place y x lt there).1));
-      }
+    at : (c v : ℕ) → around.before c v ≡ true → has planes c v ≡ false → AreLinesOf bits cell (c / p.size.w) (c % p.size.w)
+    at c v on gone = elim (cases_eq c place) [
+      | inl e ↦ rw e own
+      | inr ne ↦ absurd (true≢false (sym on ∙ sym (ap (λ (f : ℕ → Bool). f v) (only-other around.before place around.value c ne)) ∙ rw (around.is) at gone))
+    ]
 
 -- ---- the last row whose numbers wait is settled
 module _ {W : Type 0} (bits : W → ℕ) (p : Light) (before now : LineWaits W) (room y : ℕ) (K : Candidates)

@@ -3,7 +3,7 @@ use Rattle.fields_core.proofs.Common.{AllByRecursion, IsAlive, IsLight, Layers, 
 use Rattle.grid_core.specs.Planes.{IsFurther, has}
 use Rattle.grid_core.proofs.PlaneLemmas.{place-in}
 use Rattle.fields_core.specs.Light.{solves_lights}
-use Rattle.fields_core.specs.LightPlanes.{ArePlanesOf, IsKept}
+use Rattle.fields_core.specs.LightPlanes.{ArePlanesOf}
 use Rattle.fields_core.specs.LightWaits.{AreLightsReady, AreLinesRested, lits_of_row, run_houses, run_lines, white_houses}
 use Rattle.fields_core.specs.LightWords.{numbers_of_row}
 use Rattle.fields_core.specs.Sweeps.{IsSweep}
@@ -18,9 +18,9 @@ use Rattle.fields_core.proofs.LitIdle.{IsAll}
 use Rattle.fields_core.proofs.NumberRows.{numbers-are}
 use Rattle.fields_core.proofs.PlaneSweeps.{visits-swept}
 use Rattle.fields_core.proofs.QuietVisits.{alls-quiet, quiet-done, quiet-stays, singles-quiet}
-use Rattle.fields_core.proofs.RunBegins.{all-houses}
 use Rattle.fields_core.proofs.RunOrder.{column-runs-single, row-runs-single}
 use Rattle.fields_core.proofs.VisitLemmas.{below-rows}
+use Rattle.fields_core.proofs.CountListLemmas.{all-houses}
 
 -- ---- runs and white cells that are visited leave others idle
 runs-single : (p : Light) (kind : RunKind) (k : ℕ) → IsLight p → k < run_lines p kind → AllByRecursion (IsSingle (light_cells p)) (run_houses p kind k)
@@ -71,12 +71,6 @@ lights-swept p {from} {to} {fills} size visited =
     visits-swept (light_cells p) (λ c. not (white p c)) (light_houses p) (solves_lights p) (rw size refl) all
 
 -- ---- what is kept
-pub kept-none : {W : Type 0} (notes : LightNotes W) → IsKept notes notes
-kept-none notes = record { tables = refl; safe = refl }
-
-pub kept-more : {W : Type 0} {first second third : LightNotes W} → IsKept first second → IsKept second third → IsKept first third
-kept-more a b = record { tables = b.tables ∙ a.tables; safe = b.safe ∙ a.safe }
-
 pub planes-next : {room : ℕ} {p : Light} {from to : Layers} → ArePlanesOf room p from → IsFurther from to → IsAlive to → ArePlanesOf room p to
 planes-next of further alive = record {
   lawful = of.lawful;

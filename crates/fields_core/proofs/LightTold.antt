@@ -1,5 +1,5 @@
 -- Houses of Light Up by what tells them. A place that tells a house lies in the grid.
-use Rattle.fields_core.proofs.Common.{line_cells, line_white, IsLight, begins_at, light_cells, light_house, mod-lt, ◌/◌, ◌%◌, ap₂, one_at_least, places_of, segment_places, Segment, ◌++◌, Bool, IsAround, Light, RunsOn, [], arith, begins_column_run, begins_row_run, cases_lt, column_house, cond, false, get_or_past, inl, inr, length, lit_house, refl, row_house, run_house, true, and_parts, Black, white, ℕ, ◌*◌, ◌+◌, ◌-◌, ◌<◌, ◌∷◌, ◌≡◌, ap, sym, ◌∙◌}
+use Rattle.fields_core.proofs.Common.{line_cells, line_white, IsLight, begins_at, light_cells, light_house, mod-lt, ◌/◌, ◌%◌, ap₂, one_at_least, places_of, segment_places, Segment, ◌++◌, Bool, IsAround, Light, [], arith, begins_column_run, begins_row_run, cases_lt, column_house, cond, false, get_or_past, inl, inr, length, lit_house, refl, row_house, run_house, true, and_parts, Black, white, ℕ, ◌*◌, ◌+◌, ◌-◌, ◌<◌, ◌∷◌, ◌≡◌, ap, sym, ◌∙◌}
 use Rattle.fields_core.proofs.LightHouseLaws.{white-in}
 use Rattle.fields_core.proofs.LightLatest.{column-house-is, lit-lines, row-house-is}
 use Rattle.fields_core.proofs.SegmentLemmas.{places-three}
@@ -7,7 +7,6 @@ use Rattle.fields_core.proofs.TentBeside.{row-in, whole-cell}
 use Rattle.fields_core.specs.declared.light_up.told.LightHouse.{LightHouse}
 use Rattle.fields_core.specs.declared.light_up.told.LightHouse.TheVariants.{Column, Lit, Number, Row}
 use Rattle.fields_core.specs.CountHouse.{CountHouse}
-use Rattle.fields_core.specs.Runs.{RunsBack}
 
 -- ---- a house is told
 told-if : (b : Bool) (house : CountHouse) → length (cond b (house ∷ []) []) ≡ 1 → b ≡ true
@@ -27,23 +26,6 @@ place-tells p Number c lawful e = elim (cases_lt c (length p.cells)) [
 place-tells p Row c lawful e = white-in p c lawful.count (and_parts (white p c) _ (told-if (begins_row_run p c) _ e)).0
 place-tells p Column c lawful e = white-in p c lawful.count (and_parts (white p c) _ (told-if (begins_column_run p c) _ e)).0
 place-tells p Lit c lawful e = white-in p c lawful.count (told-if (white p c) _ e)
-
--- ---- the run around a white cell
-pub around-both : (test : ℕ → Bool) {len at start end : ℕ} → test at ≡ true → RunsBack test at start → RunsOn test len at end → IsAround test len at start end
-around-both test {len} {at} {start} {end} here back on = record {
-  low = back.low;
-  past = on.past;
-  high = on.high;
-  pass = λ i low high. elim (cases_lt i at) [
-    | inl before ↦ back.pass i low before
-    | inr from ↦ elim (cases_lt at i) [
-      | inl after ↦ on.pass i after high
-      | inr same ↦ let e : i ≡ at = omega arith in rw e here
-    ]
-  ];
-  first = back.edge;
-  last = on.edge;
-}
 
 -- ---- the house of a white cell is that of three segments
 pub lit-told : (p : Light) (y x : ℕ) (a b c none : Segment) {left right top end : ℕ} → x < p.size.w → white p (y * p.size.w + x) ≡ true

@@ -1,5 +1,5 @@
 -- Houses of one at least, by the cells of theirs that can be ones.
-use Rattle.fields_core.proofs.Common.{AllByRecursion, and_parts, cases_eq, eqb-true, Bool, Candidates, CountHouse, IsHouse, List, [], or_left, or_right, after_house, arith, cases_Bool, common_steps, count_by, distinct-from, eqb, false, fun_ext, has_place, inl, inr, ne_eqb, not, one_at_least, refl, strikes_of, sym, true, true≢false, ℕ, ◌&&◌, ◌<◌, ◌∙◌, ◌∷◌, ◌≡◌, ◌≢◌, and-true, cases_lt, false_from_ne_true, ◌⊎◌, ◌≤◌, ap}
+use Rattle.fields_core.proofs.Common.{AllByRecursion, and_parts, cases_eq, eqb-true, Bool, Candidates, CountHouse, IsHouse, List, [], or_left, or_right, after_house, arith, cases_Bool, common_steps, count_by, eqb, false, fun_ext, has_place, inl, inr, ne_eqb, not, one_at_least, refl, strikes_of, sym, true, true≢false, ℕ, ◌&&◌, ◌<◌, ◌∙◌, ◌∷◌, ◌≡◌, ◌≢◌, and-true, cases_lt, false_from_ne_true, ◌⊎◌, ◌≤◌, ap}
 use Rattle.grid_core.specs.Candidates.{IsInside}
 use Rattle.fields_core.specs.Trees.{without_zeros}
 use Rattle.fields_core.specs.Visits.{after_houses}
@@ -7,7 +7,7 @@ use Rattle.fields_core.specs.Waits.{AreIdle}
 use Rattle.fields_core.proofs.AtMostLemmas.{IsFull, count-two, others-stay}
 use Rattle.fields_core.proofs.IdleAfter.{Keeps}
 use Rattle.fields_core.proofs.IdleLemmas.{any_has, full-between, idle-first, idle-rest}
-use Rattle.fields_core.proofs.PlaceLists.{count-none, count-one, count-some}
+use Rattle.fields_core.proofs.PlaceLists.{count-some}
 use Rattle.fields_core.proofs.CountTallies.{counts-same}
 use Rattle.fields_core.proofs.TreeBoards.{AreFull, is_lone, tree-after, tree-board, tree-broken}
 use Rattle.fields_core.proofs.VisitLemmas.{after-inside, visits-inside}
@@ -27,7 +27,7 @@ module _ {cells : ℕ} {places : List ℕ} (K : Candidates) (is : IsHouse cells 
         by : (a b : Bool) → (a && (b && false)) ≡ false
         by a b = grind (arith, common_steps, cases_Bool a, cases_Bool b)
 
-    pub several-idle : (c v : ℕ) → K c v ≡ true → strikes_of (one_at_least places) K c v ≡ false
+    several-idle : (c v : ℕ) → K c v ≡ true → strikes_of (one_at_least places) K c v ≡ false
     unfolding after_house
     several-idle c v on =
         let left = tree-after cells places K is places-full (inr (omega (arith, several))) c v (full.low c v on) on in
@@ -67,26 +67,6 @@ module _ {cells : ℕ} {places : List ℕ} (K : Candidates) (is : IsHouse cells 
       → after_house (one_at_least places) K ≡ K
   safe-stay d e in_d in_e on_d on_e (inl ne) = several-stay d e ne in_d in_e on_d on_e
   safe-stay d e in_d in_e on_d on_e (inr must) = must-stay d in_d on_d must
-
-  -- ---- one cell that can be a one: it loses 0
-  pub lone-left : (d : ℕ) → has_place places d ≡ true → K d 1 ≡ true
-      → ((e : ℕ) → has_place places e ≡ true → K e 1 ≡ true → e ≡ d)
-      → after_house (one_at_least places) K ≡ without_zeros (λ c. K c 1 && has_place places c) K
-  unfolding without_zeros
-  lone-left d there on alone =
-      let some = count-some (λ c. K c 1) places d there on in
-      let few = count-one (λ c. K c 1) places (distinct-from places is.different) (λ a b in_a in_b on_a on_b. alone a in_a on_a ∙ sym (alone b in_b on_b)) in
-      let one : count_by (λ c. K c 1) places ≡ 1 = omega arith in
-      tree-board cells places K is places-full (inr some) full.low
-      ∙ fun_ext λ c. fun_ext λ v. rw one (by (K c v) (eqb v 0) (K c 1) (has_place places c))
-    where
-      by : (k z a b : Bool) → (k && not (z && (a && (b && true)))) ≡ (k && not (z && (a && b)))
-      by k z a b = grind (arith, common_steps, cases_Bool b)
-
-  -- ---- no cell that can be a one: no value is left
-  pub none-broken : ((d : ℕ) → has_place places d ≡ true → K d 1 ≡ false) → (c v : ℕ) → has_place places c ≡ true → v < 2
-      → after_house (one_at_least places) K c v ≡ false
-  none-broken none c v there low = tree-broken cells places K is (count-none (λ d. K d 1) places none) c v there low
 
   -- ---- some cell that can be a one: no cell loses 1
   pub ones-stay : 1 ≤ count_by (λ c. K c 1) places → (c : ℕ) → after_house (one_at_least places) K c 1 ≡ K c 1

@@ -8,7 +8,7 @@ use Rattle.grid_core.specs.declared.planes.line.Line.TheVariants.{Row, Column}
 use Rattle.grid_core.proofs.PlaneLemmas.{place-in}
 use Rattle.fields_core.specs.Visits.{AreVisited, after_houses}
 use Rattle.fields_core.proofs.AtMostLemmas.{others-stay}
-use Rattle.fields_core.proofs.CellLemmas.{same-truth}
+use Rattle.fields_core.proofs.CellLemmas.{cell-is, same-truth}
 use Rattle.fields_core.proofs.LightCounting.{light-counting}
 use Rattle.fields_core.proofs.TentBeside.{whole-cell}
 use Rattle.fields_core.proofs.TreeBoards.{filter-has}
@@ -64,15 +64,6 @@ next-is n a k lt = same-truth _ _
           or_left (ltb 0 a && eqb k (a - 1)) _ (and_from _ _ (lt-ltb 0 a (omega arith)) (eq-eqb k (a - 1) (omega arith)))
     ])
 
-cell-is : (w j k d : ℕ) → k < w → eqb (j * w + k) d ≡ (eqb (d / w) j && eqb (d % w) k)
-cell-is w j k d lt = same-truth _ _
-    (λ on. let e = eqb-true (j * w + k) d on in rw (← e, div-mul-add j w k lt, place-column w j k lt) (and_from _ _ (eq-eqb j j refl) (eq-eqb k k refl)))
-    (λ on.
-    let parts = and_parts _ _ on in
-    let a = eqb-true (d / w) j parts.0 in
-    let b = eqb-true (d % w) k parts.1 in
-    eq-eqb (j * w + k) d (rw (← a, ← b) (sym (whole-cell w d))))
-
 beside-cell : (size : Extent) (y x d : ℕ) → x < size.w → has_place (beside size (y * size.w + x)) d
     ≡ ((eqb (d / size.w) y && next_to size.w x (d % size.w)) || (eqb (d % size.w) x && next_to size.h y (d / size.w)))
 beside-cell size y x d lt =
@@ -120,13 +111,41 @@ beside-word n room a both near word passes fits both_is near_is word_is k = both
 ]
 
 -- not the number itself
-beside-other : (n : ℕ) (passes : ℕ → Bool) (a bits : ℕ) → IsBeside n passes a bits → has_bit bits a ≡ false
+pub beside-other : (n : ℕ) (passes : ℕ → Bool) (a bits : ℕ) → IsBeside n passes a bits → has_bit bits a ≡ false
 beside-other n passes a bits is = is a ∙ rw (ne_eqb a (a + 1) (λ e. absurd (omega arith))) refl
 
-lies-both : (w y x row column d : ℕ) → lies_in_first w (both_pieces y x row column) 2 d
+pub lies-both : (w y x row column d : ℕ) → lies_in_first w (both_pieces y x row column) 2 d
     ≡ ((eqb (d / w) y && has_bit row (d % w)) || (eqb (d % w) x && has_bit column (d / w)))
 unfolding lies_in_first any_below lies_in crosses
 lies-both w y x row column d = refl
+
+-- the pieces have no cell together unless both have the cell where the lines cross
+pub pieces-apart : (size : Extent) (y x row column : ℕ) → y < size.h → x < size.w → (has_bit row x ≡ true → has_bit column y ≡ true → ⊥)
+    → ArePieces size (both_pieces y x row column)
+unfolding lies_in crosses
+pieces-apart size y x row column y_in x_in off = record { lines_in = lines; apart = apart }
+  where
+    pieces : List Piece
+    pieces = both_pieces y x row column
+
+    lines : (k : ℕ) → k < 2 → number_of (piece_at pieces k).line < lines_beside size (piece_at pieces k).line
+    lines zero less = y_in
+    lines (suc zero) less = x_in
+    lines (suc (suc k)) less = absurd (omega arith)
+
+    never : (c : ℕ) → lies_in size.w (piece_at pieces 0) c ≡ true → lies_in size.w (piece_at pieces 1) c ≡ true → ⊥
+    never c on_row on_column =
+        let in_row = and_parts (eqb (c / size.w) y) (has_bit row (c % size.w)) on_row in
+        let in_column = and_parts (eqb (c % size.w) x) (has_bit column (c / size.w)) on_column in
+        off (rw (eqb-true (c % size.w) x in_column.0) at in_row.1) (rw (eqb-true (c / size.w) y in_row.0) at in_column.1)
+
+    apart : (j k c : ℕ) → j < 2 → k < 2 → lies_in size.w (piece_at pieces j) c ≡ true → lies_in size.w (piece_at pieces k) c ≡ true → j ≡ k
+    apart zero zero c lj lk on_j on_k = refl
+    apart zero (suc zero) c lj lk on_j on_k = absurd (never c on_j on_k)
+    apart (suc zero) zero c lj lk on_j on_k = absurd (never c on_k on_j)
+    apart (suc zero) (suc zero) c lj lk on_j on_k = refl
+    apart (suc (suc j)) k c lj lk on_j on_k = absurd (omega arith)
+    apart j (suc (suc k)) c lj lk on_j on_k = absurd (omega arith)
 
 module _ (p : Light) (lawful : IsLight p) (y x row column : ℕ) (y_in : y < p.size.h) (x_in : x < p.size.w)
     (row_is : IsBeside p.size.w (λ k. white p (y * p.size.w + k)) x row) (column_is : IsBeside p.size.h (λ k. white p (k * p.size.w + x)) y column) where
@@ -144,29 +163,6 @@ module _ (p : Light) (lawful : IsLight p) (y x row column : ℕ) (y_in : y < p.s
 
   cell_in : cell < light_cells p
   cell_in = place-in p.size.w p.size.h y x y_in x_in
-
-  pub pieces-apart : ArePieces p.size pieces
-  unfolding lies_in crosses
-  pieces-apart = record { lines_in = lines; apart = apart }
-    where
-      lines : (k : ℕ) → k < 2 → number_of (piece_at pieces k).line < lines_beside p.size (piece_at pieces k).line
-      lines zero less = y_in
-      lines (suc zero) less = x_in
-      lines (suc (suc k)) less = absurd (omega arith)
-
-      never : (c : ℕ) → lies_in p.size.w (piece_at pieces 0) c ≡ true → lies_in p.size.w (piece_at pieces 1) c ≡ true → ⊥
-      never c on_row on_column =
-          let in_row = and_parts (eqb (c / p.size.w) y) (has_bit row (c % p.size.w)) on_row in
-          let in_column = and_parts (eqb (c % p.size.w) x) (has_bit column (c / p.size.w)) on_column in
-          true≢false (sym (rw (eqb-true (c % p.size.w) x in_column.0) at in_row.1) ∙ beside-other p.size.w (λ k. white p (y * p.size.w + k)) x row row_is)
-
-      apart : (j k c : ℕ) → j < 2 → k < 2 → lies_in p.size.w (piece_at pieces j) c ≡ true → lies_in p.size.w (piece_at pieces k) c ≡ true → j ≡ k
-      apart zero zero c lj lk on_j on_k = refl
-      apart zero (suc zero) c lj lk on_j on_k = absurd (never c on_j on_k)
-      apart (suc zero) zero c lj lk on_j on_k = absurd (never c on_k on_j)
-      apart (suc zero) (suc zero) c lj lk on_j on_k = refl
-      apart (suc (suc j)) k c lj lk on_j on_k = absurd (omega arith)
-      apart j (suc (suc k)) c lj lk on_j on_k = absurd (omega arith)
 
   row-part : (d : ℕ) → ((eqb (d / p.size.w) y && next_to p.size.w x (d % p.size.w)) && white p d) ≡ (eqb (d / p.size.w) y && has_bit row (d % p.size.w))
   row-part d = elim (cases_eq (d / p.size.w) y) [

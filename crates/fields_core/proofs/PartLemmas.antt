@@ -1,7 +1,7 @@
 -- Visits of count houses by pieces of lines.
-use Rattle.fields_core.proofs.Common.{ArePieces, Bool, Candidates, CountHouse, Extent, IsAlive, IsBroken, IsCount, IsCounted, IsHouseOf, IsTally, Layers, List, Piece, add-one, after_house, and-false, and-true, and_comm, and_from, and_parts, any_below, any_below-some, ap, arith, at_line, cases_Bool, cases_eq, cells_of, common_steps, count_below, count_below-bound, count_below-none, count_below-pos, count_below-same, count_by, covers, crosses, distinct-from, eq-eqb, eqb, false, false_from_ne_true, fun_ext, has_bit, has_place, has_place-at, inl, inr, is_empty, is_open, le-ltb, length, lies_in, lies_in_first, line_len, lines_beside, lt-ltb, ltb, ltb-true, ne_eqb, not, number_of, piece_at, refl, slice_index, strikes_at-in_scope, strikes_of, suc, sym, true, true≢false, without_taking, without_value, zero, ℕ, ◌%◌, ◌&&◌, ◌+◌, ◌-◌, ◌/◌, ◌<◌, ◌||◌, ◌∙◌, ◌≡◌, ◌≢◌, ◌≤◌, ◌⊎◌}
+use Rattle.fields_core.proofs.Common.{ArePieces, Bool, Candidates, CountHouse, Extent, IsAlive, IsBroken, IsCount, IsCounted, IsHouseOf, IsTally, Layers, List, Piece, add-one, after_house, and-false, and-true, and_comm, and_from, and_parts, any_below, any_below-some, ap, arith, at_line, cases_Bool, cases_eq, cells_of, common_steps, count_below, count_below-bound, count_below-none, count_below-pos, count_below-same, count_by, covers, crosses, distinct-from, eq-eqb, eqb, false, false_from_ne_true, fun_ext, has_bit, has_place, has_place-at, inl, inr, is_empty, is_open, le-ltb, length, lies_in, lies_in_first, line_len, lines_beside, lt-ltb, ltb, ltb-true, ne_eqb, not, number_of, piece_at, refl, slice_index, suc, sym, true, without_taking, without_value, zero, ℕ, ◌%◌, ◌&&◌, ◌+◌, ◌-◌, ◌/◌, ◌<◌, ◌||◌, ◌∙◌, ◌≡◌, ◌≢◌, ◌≤◌, ◌⊎◌}
 use Rattle.grid_core.specs.Planes.{has}
-use Rattle.fields_core.proofs.CountKept.{after-at}
+use Rattle.fields_core.proofs.CountKept.{after-at, off-scope}
 use Rattle.fields_core.proofs.PartCounts.{count-apart, line-count, crosses-both, place-count}
 
 -- ---- the cells of the first pieces
@@ -26,7 +26,7 @@ pub line_in : {size : Extent} {pieces : List Piece} {n : ℕ} {piece : Piece} �
 line_in {size} {n} are lt e = grind (arith, common_steps, number_of)
 
 -- of a word of the next piece's cells that pass a test, as many pass more
-counted-more : (p : Layers) {pieces : List Piece} (n there room : ℕ) {piece : Piece}
+pub counted-more : (p : Layers) {pieces : List Piece} (n there room : ℕ) {piece : Piece}
     (test : ℕ → Bool) → piece_at pieces n ≡ piece → ArePieces p.size pieces → n < length pieces
     → line_len p.size piece.line ≤ room
     → ((k : ℕ) → has_bit there k ≡ true → k < line_len p.size piece.line)
@@ -120,10 +120,6 @@ tally-of p {pieces} {house} alive counted of =
     none c some = grind (arith, common_steps, cases_Bool)
 
 -- ---- a visit
-off-scope : (house : CountHouse) (K : Candidates) (c v : ℕ) → has_place house.places c ≡ false → strikes_of house K c v ≡ false
-unfolding strikes_of
-off-scope house K c v off = false_from_ne_true _ (λ on. true≢false (sym (strikes_at-in_scope 2 house.places _ K c v on) ∙ off))
-
 pub value-in : (p : Layers) (c v : ℕ) → has p c v ≡ true → v < 2
 unfolding has
 value-in p c v on = ltb-true v 2 (and_parts _ _ on).0

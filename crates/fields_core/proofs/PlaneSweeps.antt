@@ -26,7 +26,7 @@ some-counted : (K : Candidates) (c : ℕ) → (K c 0 ≡ true) ⊎ (K c 1 ≡ tr
 some-counted K c (inl zero) = count_below-pos (K c) 2 0 (omega arith) zero
 some-counted K c (inr one) = count_below-pos (K c) 2 1 (omega arith) one
 
-counted-some : (K : Candidates) (c : ℕ) → 0 < count_below (K c) 2 → (K c 0 ≡ true) ⊎ (K c 1 ≡ true)
+pub counted-some : (K : Candidates) (c : ℕ) → 0 < count_below (K c) 2 → (K c 0 ≡ true) ⊎ (K c 1 ≡ true)
 unfolding count_below
 counted-some K c some = grind (arith, common_steps, cases_Bool (K c 0), cases_Bool (K c 1))
 

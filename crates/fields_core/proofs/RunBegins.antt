@@ -1,29 +1,13 @@
 -- The houses of the runs of a row and of a column of Light Up, as runs of a line.
-use Rattle.fields_core.proofs.Common.{AllByRecursion, Bool, CountHouse, IsLight, Light, List, [], and_from, and_parts, any_below, any_below-here, ap, arith, begins_column_run, begins_row_run, cases_Bool, column_house, column_run, crosses, div-lt_iff_lt-mul, div-mul-add, eq-eqb, eqb-true, false, has_bit, has_place, houses_below, inl, inr, joined_in_column, joined_in_row, light_cells, list_any, lt-ltb, ltb, mod-lt, or_left, place-column, refl, row_house, row_run, slice_index, suc, sym, true, white, zero, ℕ, ◌%◌, ◌&&◌, ◌*◌, ◌++◌, ◌+◌, ◌/◌, ◌<◌, ◌||◌, ◌∙◌, ◌∷◌, ◌≡◌}
+use Rattle.fields_core.proofs.Common.{AllByRecursion, Bool, IsLight, Light, List, and_from, and_parts, any_below-here, arith, begins_column_run, begins_row_run, cases_Bool, column_house, column_run, crosses, div-lt_iff_lt-mul, div-mul-add, eq-eqb, eqb-true, false, has_bit, has_place, inl, inr, joined_in_column, joined_in_row, light_cells, list_any, lt-ltb, ltb, mod-lt, or_left, place-column, refl, row_house, row_run, slice_index, suc, sym, true, white, zero, ℕ, ◌%◌, ◌&&◌, ◌*◌, ◌+◌, ◌/◌, ◌<◌, ◌∙◌, ◌≡◌}
 unfoldable use Rattle.grid_core.specs.Planes.{has}
-use Rattle.std.proofs.lemmas.List.Folds.{list_any-append}
 use Rattle.grid_core.specs.declared.planes.line.Line.TheVariants.{Row, Column}
 use Rattle.grid_core.proofs.PlaneLemmas.{place-in}
 use Rattle.fields_core.specs.LightWords.{IsColumnRun, IsRowRun, row_runs_of_row}
 use Rattle.fields_core.specs.RunLines.{AreRunsOf, IsRunOf, column_runs_of_column}
 use Rattle.fields_core.proofs.LightCounting.{IsBoard, column-kind, column-run-joined, in-column-run, in-row-run, light-board, row-kind, row-run-joined}
 use Rattle.fields_core.proofs.LightHouseLaws.{clear-at, column-both, column-parts, column-run-on, column-self, column-white-end, mul-inj, row-both, row-parts, row-run-on, row-self, white-in}
-
--- ---- houses below a number
-pub any-houses : (test : CountHouse → Bool) (f : ℕ → List CountHouse) (n : ℕ)
-    → list_any test (houses_below f n) ≡ any_below (λ k. list_any test (f k)) n
-unfolding houses_below any_below
-any-houses test f zero = refl
-any-houses test f (suc n) = list_any-append test (houses_below f n) (f n) ∙ ap (λ b. b || list_any test (f n)) (any-houses test f n)
-
-pub all-append : (P : CountHouse → Type 0) (xs ys : List CountHouse) → AllByRecursion P xs → AllByRecursion P ys → AllByRecursion P (xs ++ ys)
-all-append P [] ys first next = next
-all-append P (x ∷ xs) ys (is, first) next = (is, all-append P xs ys first next)
-
-pub all-houses : (P : CountHouse → Type 0) (f : ℕ → List CountHouse) (n : ℕ) → ((k : ℕ) → k < n → AllByRecursion P (f k)) → AllByRecursion P (houses_below f n)
-unfolding houses_below
-all-houses P f zero each = tt
-all-houses P f (suc n) each = all-append P (houses_below f n) (f n) (all-houses P f n (λ k lt. each k (omega arith))) (each n (omega arith))
+use Rattle.fields_core.proofs.CountListLemmas.{all-houses, any-houses}
 
 -- ---- where a run begins
 run-begin : (begins passes : ℕ → Bool) (run : ℕ → List ℕ)
@@ -48,13 +32,13 @@ column-begin p c some on = run-begin (begins_column_run p) (white p) (column_run
     (λ d off passes. let v = column-run-on p d some off passes in (v.0, omega (arith, v.1), v.2, v.3)) (c + 1) c (omega arith) on
 
 -- the first of two joined cells is white
-row-white-start : (p : Light) (c d : ℕ) → joined_in_row p c d ≡ true → white p c ≡ true
+pub row-white-start : (p : Light) (c d : ℕ) → joined_in_row p c d ≡ true → white p c ≡ true
 row-white-start p c d on =
     let v = row-parts p c d on in
     let e : c / p.size.w * p.size.w + c % p.size.w ≡ c = omega arith in
     rw e at (clear-at (λ x. white p (c / p.size.w * p.size.w + x)) (c % p.size.w) (d % p.size.w) (c % p.size.w) v.1 (omega arith) (omega arith))
 
-column-white-start : (p : Light) (c d : ℕ) → joined_in_column p c d ≡ true → white p c ≡ true
+pub column-white-start : (p : Light) (c d : ℕ) → joined_in_column p c d ≡ true → white p c ≡ true
 column-white-start p c d on =
     let v = column-parts p c d on in
     let e : c / p.size.w * p.size.w + c % p.size.w ≡ c = omega arith in

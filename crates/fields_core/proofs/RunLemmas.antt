@@ -1,5 +1,5 @@
 -- The run around a cell of a line is what has only white cells between it and the cell.
-use Rattle.fields_core.proofs.Common.{Bool, Extent, IsLight, Light, List, IsAround, [], add-one, ap, append-nil, arith, cases_Bool, cases_lt, clear, column-at, column_places, column_run, common_steps, cond, div-mul-add, eq-eqb, false, false_from_ne_true, filter, filter-append, inl, inr, joined_in_column, joined_in_row, length, light_cells, map, min, mod-lt, mod-mul-add, mul-le-mul_right, range_with_len, refl, row-at, row_places, row_run, slice_index, suc, sym, true, true≢false, white, zero, ℕ, ◌%◌, ◌*◌, ◌++◌, ◌+◌, ◌-◌, ◌/◌, ◌<◌, ◌^◌, ◌∙◌, ◌∷◌, ◌≡◌, ◌≤◌}
+use Rattle.fields_core.proofs.Common.{Bool, Extent, Light, List, IsAround, [], add-one, ap, append-nil, arith, cases_Bool, cases_lt, clear, column-at, column_places, column_run, common_steps, cond, div-mul-add, eq-eqb, false, false_from_ne_true, filter, filter-append, inl, inr, joined_in_column, joined_in_row, length, map, min, mod-lt, mod-mul-add, mul-le-mul_right, range_with_len, refl, row-at, row_places, row_run, slice_index, suc, sym, true, true≢false, white, zero, ℕ, ◌%◌, ◌*◌, ◌++◌, ◌+◌, ◌-◌, ◌/◌, ◌<◌, ◌∙◌, ◌∷◌, ◌≡◌, ◌≤◌}
 use Rattle.grid_core.proofs.PlaneLemmas.{place-column}
 use Rattle.fields_core.proofs.HouseLists.{row-long, column-long}
 use Rattle.fields_core.proofs.LightHouseLaws.{clear-at, clear-from}
@@ -152,6 +152,3 @@ row-cell size lt low = grind (arith, common_steps, row-long, row-at, mul-le-mul_
 
 pub column-cell : (size : Extent) {x k : ℕ} → x < size.w → k < length (column_places size x) → slice_index (column_places size x) k < size.w * size.h
 column-cell size lt low = grind (arith, common_steps, column-long, column-at, mul-le-mul_right)
-
-pub few-cells : {p : Light} → IsLight p → light_cells p < 2 ^ 32
-few-cells is = grind (arith, common_steps, mul-le-mul_right)

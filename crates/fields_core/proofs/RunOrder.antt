@@ -1,17 +1,19 @@
 -- The runs of Light Up line by line are all its runs.
-use Rattle.fields_core.proofs.Common.{AllByRecursion, Bool, IsAlive, IsFurther, IsLight, Layers, Light, any_below, any_below-here, any_below-some, ap, arith, begins_column_run, column_house, div-lt_iff_lt-mul, div-mul-add, false, has_place, houses_below, joined_in_column, joined_in_row, light_cells, list_any, mod-lt, place-column, refl, row_house, sym, true, ℕ, ◌%◌, ◌*◌, ◌+◌, ◌/◌, ◌<◌, ◌∙◌, ◌≡◌}
-use Rattle.grid_core.specs.Planes.{has}
+use Rattle.fields_core.proofs.Common.{AllByRecursion, Bool, Candidates, IsAlive, IsLight, Layers, Light, any_below, any_below-here, any_below-some, ap, arith, begins_column_run, column_house, div-lt_iff_lt-mul, div-mul-add, false, has_place, houses_below, joined_in_column, joined_in_row, light_cells, list_any, mod-lt, place-column, refl, row_house, sym, true, ℕ, ◌%◌, ◌*◌, ◌+◌, ◌/◌, ◌<◌, ◌∙◌, ◌≡◌}
+use Rattle.grid_core.specs.Candidates.{IsInside}
 use Rattle.grid_core.proofs.PlaneLemmas.{place-in}
 use Rattle.fields_core.specs.LightWords.{row_runs_of_row}
 use Rattle.fields_core.specs.RunLines.{IsRunOf, column_runs_of_column}
-use Rattle.fields_core.specs.Visits.{AreVisited, after_houses}
+use Rattle.fields_core.specs.Visits.{AreVisited}
+use Rattle.fields_core.specs.Waits.{AreIdle}
 use Rattle.fields_core.proofs.AnyOrder.{AreSame, IsSingle, singles-kept, visited-any-order}
+use Rattle.fields_core.proofs.AtMostLemmas.{IsFull}
 use Rattle.fields_core.proofs.CellLemmas.{same-truth}
 use Rattle.fields_core.proofs.LightCounting.{IsBoard, column-kind, light-board}
-use Rattle.fields_core.proofs.PartLemmas.{value-in}
-use Rattle.fields_core.proofs.RunBegins.{all-houses, any-houses, column-runs-of, row-runs-of}
+use Rattle.fields_core.proofs.RunBegins.{column-runs-of, row-runs-of}
 use Rattle.fields_core.proofs.RunLines.{each-more, some-of}
 use Rattle.fields_core.proofs.VisitLemmas.{below-rows}
+use Rattle.fields_core.proofs.CountListLemmas.{all-houses, any-houses}
 
 -- ---- row by row
 pub row-runs-are : (p : Light) → houses_below (row_runs_of_row p) p.size.h ≡ houses_below (row_house p) (light_cells p)
@@ -89,18 +91,12 @@ pub column-runs-single : (p : Light) (x : ℕ) → IsLight p → AllByRecursion 
 column-runs-single p x lawful =
     all-houses (IsSingle (light_cells p)) (λ y. column_house p (y * p.size.w + x)) p.size.h (λ y _. column-single p (y * p.size.w + x) (light-board lawful))
 
-pub row-runs-kept : (p : Light) (y : ℕ) {from to : Layers} → IsLight p → from.size ≡ p.size → IsAlive from → IsAlive to → IsFurther from to
-    → ((c : ℕ) → c / p.size.w ≡ y → has to c 0 ≡ has from c 0)
-    → after_houses (row_runs_of_row p y) (has from) ≡ has from → after_houses (row_runs_of_row p y) (has to) ≡ has to
-row-runs-kept p y {from} {to} lawful size alive after further zeros =
-    singles-kept (light_cells p) (row_runs_of_row p y) (has from) (has to) (row-runs-single p y lawful)
-    (record { low = value-in from; some = λ c lt. alive c (rw size lt) }) (record { low = value-in to; some = λ c lt. after c (rw (further.same_size, size) lt) })
-    further.inside (λ c on. zeros c (row-runs-lie p y c lawful on))
+module _ (p : Light) (K L : Candidates) (lawful : IsLight p) (full : IsFull (light_cells p) K) (still : IsFull (light_cells p) L) (inside : IsInside L K) where
+  pub row-runs-kept : (y : ℕ) → ((c : ℕ) → c / p.size.w ≡ y → L c 0 ≡ K c 0) → AreIdle (row_runs_of_row p y) K → AreIdle (row_runs_of_row p y) L
+  row-runs-kept y zeros = singles-kept (light_cells p) (row_runs_of_row p y) K L (row-runs-single p y lawful) full still inside
+      (λ c on. zeros c (row-runs-lie p y c lawful on))
 
-pub column-runs-kept : (p : Light) (x : ℕ) {from to : Layers} → IsLight p → x < p.size.w → from.size ≡ p.size → IsAlive from → IsAlive to
-    → IsFurther from to → ((c : ℕ) → c % p.size.w ≡ x → has to c 0 ≡ has from c 0)
-    → after_houses (column_runs_of_column p x) (has from) ≡ has from → after_houses (column_runs_of_column p x) (has to) ≡ has to
-column-runs-kept p x {from} {to} lawful lt size alive after further zeros =
-    singles-kept (light_cells p) (column_runs_of_column p x) (has from) (has to) (column-runs-single p x lawful)
-    (record { low = value-in from; some = λ c lt. alive c (rw size lt) }) (record { low = value-in to; some = λ c lt. after c (rw (further.same_size, size) lt) })
-    further.inside (λ c on. zeros c (column-runs-lie p x c lawful lt on))
+  pub column-runs-kept : (x : ℕ) → x < p.size.w → ((c : ℕ) → c % p.size.w ≡ x → L c 0 ≡ K c 0)
+      → AreIdle (column_runs_of_column p x) K → AreIdle (column_runs_of_column p x) L
+  column-runs-kept x lt zeros = singles-kept (light_cells p) (column_runs_of_column p x) K L (column-runs-single p x lawful) full still inside
+      (λ c on. zeros c (column-runs-lie p x c lawful lt on))

@@ -1,25 +1,14 @@
 -- The squares of two rows of Tents, by words of the columns with a cell that has no 0.
-use Rattle.fields_core.proofs.Common.{AllByRecursion, Bool, CountHouse, IsHouse, IsTents, mul-le-mul_right, List, Tents, [], and_from, and_parts, any_below, any_below-here, any_below-some, ap, arith, cases_Bool, cases_lt, common_steps, cond, count_by, div-add-mod', div-mul-add, eq-eqb, eqb, eqb-true, false, false≢true, has_place, houses_below, inl, inr, le-ltb, list_any, lt-ltb, ltb, ltb-true, mod-lt, not, one_at_most, or_cases, or_left, or_right, place-column, refl, square_house, subst, suc, sym, tent_cells, true, zero, ℕ, ◌%◌, ◌&&◌, ◌*◌, ◌++◌, ◌+◌, ◌-◌, ◌/◌, ◌<◌, ◌||◌, ◌∙◌, ◌∷◌, ◌≡◌, ◌≤◌, ◌⊎◌}
+use Rattle.fields_core.proofs.Common.{AllByRecursion, Bool, CountHouse, IsHouse, IsTents, mul-le-mul_right, Tents, [], and_from, and_parts, any_below-here, any_below-some, ap, arith, cases_Bool, cases_lt, common_steps, cond, count_by, div-mul-add, eq-eqb, eqb, eqb-true, false, false≢true, has_place, inl, inr, le-ltb, list_any, lt-ltb, ltb, ltb-true, mod-lt, not, one_at_most, or_cases, or_left, or_right, place-column, refl, square_house, subst, sym, tent_cells, true, ℕ, ◌%◌, ◌&&◌, ◌*◌, ◌+◌, ◌-◌, ◌/◌, ◌<◌, ◌||◌, ◌∙◌, ◌∷◌, ◌≡◌, ◌≤◌, ◌⊎◌}
 unfoldable use Rattle.grid_core.specs.Planes.{bit_of, crosses, has}
-use Rattle.std.proofs.lemmas.List.Folds.{list_any-append}
 use Rattle.fields_core.specs.Squares.{squares_of_row}
 unfoldable use Rattle.fields_core.proofs.AtMostLemmas.{is_met, without_met}
-use Rattle.fields_core.proofs.CellLemmas.{same-truth}
+use Rattle.fields_core.proofs.CellLemmas.{cell-is, same-truth}
 use Rattle.fields_core.proofs.PlaceLists.{count-cons}
 use Rattle.fields_core.proofs.TentVisits.{square-is, square_places}
+use Rattle.fields_core.proofs.CountListLemmas.{all-houses, any-houses}
 
 -- ---- the cells of a square
-cell-is : (w y x c : ℕ) → x < w → eqb (y * w + x) c ≡ (eqb (c / w) y && eqb (c % w) x)
-cell-is w y x c lt = same-truth _ _
-    (λ on.
-    let e = eqb-true (y * w + x) c on in
-    rw (← e, div-mul-add y w x lt, place-column w y x lt) (and_from _ _ (eq-eqb y y refl) (eq-eqb x x refl)))
-    (λ on.
-    let parts = and_parts _ _ on in
-    let q = eqb-true (c / w) y parts.0 in
-    let r = eqb-true (c % w) x parts.1 in
-    eq-eqb _ _ (rw (← q, ← r) (div-add-mod' c w)))
-
 -- whether the cell is in one of two rows, and in one of two columns
 abbrev pub in_rows : ℕ → ℕ → ℕ → Bool
 in_rows w y c = eqb (c / w) y || eqb (c / w) (y + 1)
@@ -78,21 +67,6 @@ square-few zeros w y x first next apart =
     by a b d e f g h i j k l = grind (arith, common_steps, cases_Bool a, cases_Bool b, cases_Bool d, cases_Bool e)
 
 -- ---- the houses of two rows
-any-below : (test : CountHouse → Bool) (f : ℕ → List CountHouse) (n : ℕ)
-    → list_any test (houses_below f n) ≡ any_below (λ k. list_any test (f k)) n
-unfolding houses_below any_below
-any-below test f zero = refl
-any-below test f (suc n) = list_any-append test (houses_below f n) (f n) ∙ ap (λ b. b || list_any test (f n)) (any-below test f n)
-
-each-append : (P : CountHouse → Type 0) (xs ys : List CountHouse) → AllByRecursion P xs → AllByRecursion P ys → AllByRecursion P (xs ++ ys)
-each-append P [] ys first next = next
-each-append P (x ∷ xs) ys (is, first) next = (is, each-append P xs ys first next)
-
-each-below : (P : CountHouse → Type 0) (f : ℕ → List CountHouse) (n : ℕ) → ((k : ℕ) → k < n → AllByRecursion P (f k)) → AllByRecursion P (houses_below f n)
-unfolding houses_below
-each-below P f zero each = tt
-each-below P f (suc n) each = each-append P (houses_below f n) (f n) (each-below P f n (λ k lt. each k (omega arith))) (each n (omega arith))
-
 module _ (p : Tents) (y : ℕ) (lawful : IsTents p) (low : y + 1 < p.size.h) where
   abbrev w : ℕ
   w = p.size.w
@@ -106,7 +80,7 @@ module _ (p : Tents) (y : ℕ) (lawful : IsTents p) (low : y + 1 < p.size.h) whe
 
   -- the house of each square
   pub each-square : (P : CountHouse → Type 0) → ((x : ℕ) → x + 1 < w → P (one_at_most (square_places w (y * w + x)))) → AllByRecursion P (squares_of_row p y)
-  each-square P is = each-below P (λ x. square_house p (y * w + x)) w (λ x lt. one x lt (cases_lt (x + 1) w))
+  each-square P is = all-houses P (λ x. square_house p (y * w + x)) w (λ x lt. one x lt (cases_lt (x + 1) w))
     where
       one : (x : ℕ) → x < w → (x + 1 < w) ⊎ (w ≤ x + 1) → AllByRecursion P (square_house p (y * w + x))
       one x lt (inl wide) = rw (there x wide) (is x wide, tt)
@@ -123,13 +97,13 @@ module _ (p : Tents) (y : ℕ) (lawful : IsTents p) (low : y + 1 < p.size.h) whe
   pub some-square : (test : CountHouse → Bool) (x : ℕ) → x + 1 < w → test (one_at_most (square_places w (y * w + x))) ≡ true
       → list_any test (squares_of_row p y) ≡ true
   some-square test x lt on =
-      any-below test (λ k. square_house p (y * w + k)) w
+      any-houses test (λ k. square_house p (y * w + k)) w
       ∙ any_below-here (λ k. list_any test (square_house p (y * w + k))) w x (omega arith) (rw (there x lt) (or_left _ false on))
 
   square-some : (test : CountHouse → Bool) → list_any test (squares_of_row p y) ≡ true
       → (x : ℕ) × (x + 1 < w) × (test (one_at_most (square_places w (y * w + x))) ≡ true)
   square-some test on =
-      let k = any_below-some (λ k. list_any test (square_house p (y * w + k))) w (sym (any-below test (λ k. square_house p (y * w + k)) w) ∙ on) in
+      let k = any_below-some (λ k. list_any test (square_house p (y * w + k))) w (sym (any-houses test (λ k. square_house p (y * w + k)) w) ∙ on) in
       by k.0 k.1 k.2 (cases_lt (k.0 + 1) w)
     where
       by : (x : ℕ) → x < w → list_any test (square_house p (y * w + x)) ≡ true → (x + 1 < w) ⊎ (w ≤ x + 1)

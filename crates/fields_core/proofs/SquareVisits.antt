@@ -1,5 +1,5 @@
 -- Visits of the squares of two rows of Tents.
-use Rattle.fields_core.proofs.Common.{AllByRecursion, Bool, eqb-true, Extent, IsAlive, IsFurther, IsHouse, IsTents, Layers, Tents, [], and-false, and_from, and_parts, any_below, any_below-none, any_below-some, ap, arith, cases_Bool, cases_lt, common_steps, crosses, div-mul-add, eq-eqb, eqb, false, false≢true, fun_ext, further-none, has_bit, has_place, houses_below, inl, inr, le-ltb, lies_in, lies_in_first, list_any, lt-ltb, ltb, ltb-true, not, or_left, or_right, place-column, refl, square_house, suc, sym, covers, without_taking, tent_cells, true, true≢false, without_value, zero, ℕ, ◌%◌, ◌&&◌, ◌*◌, ◌+◌, ◌-◌, ◌/◌, ◌<◌, ◌||◌, ◌∙◌, ◌≡◌, ◌≢◌, ◌≤◌, ◌⊎◌, Candidates}
+use Rattle.fields_core.proofs.Common.{AllByRecursion, Bool, eqb-true, Extent, IsAlive, IsFurther, IsHouse, IsTents, Layers, Tents, [], and-false, and_from, and_parts, any_below, any_below-none, any_below-some, ap, arith, cases_Bool, cases_lt, common_steps, crosses, div-mul-add, eq-eqb, eqb, false, false≢true, fun_ext, further-none, has_bit, has_place, houses_below, inl, inr, le-ltb, lies_in, lies_in_first, list_any, lt-ltb, ltb, ltb-true, not, or_left, or_right, place-column, refl, square_house, suc, sym, covers, without_taking, tent_cells, true, true≢false, without_value, zero, ℕ, ◌%◌, ◌&&◌, ◌*◌, ◌+◌, ◌-◌, ◌/◌, ◌<◌, ◌||◌, ◌∙◌, ◌≡◌, ◌≢◌, ◌≤◌, ◌⊎◌, Candidates, not-false}
 unfoldable use Rattle.grid_core.specs.Planes.{bit_of, has}
 use Rattle.grid_core.specs.declared.planes.line.Line.TheVariants.{Row}
 use Rattle.fields_core.specs.Squares.{squares_of_row, two_rows}
@@ -175,10 +175,7 @@ module _ (p : Tents) (y : ℕ) (from : Layers) (room twice must : ℕ) (lawful :
       full = record { low = value-in from; some = λ c lt. alive c (rw size lt) }
 
       once-at : (u : ℕ) → u < w → (zeros (y * w + u) || zeros ((y + 1) * w + u)) ≡ true
-      once-at u lt = turn _ (sym (twice-at u lt) ∙ any_below-none (has_bit twice) room once u (omega (arith, are.fits)))
-        where
-          turn : (a : Bool) → not a ≡ false → a ≡ true
-          turn a e = grind (arith, common_steps, cases_Bool a)
+      once-at u lt = not-false _ (sym (twice-at u lt) ∙ any_below-none (has_bit twice) room once u (omega (arith, are.fits)))
 
       apart-at : (x : ℕ) → x + 1 < w → (must_in zeros w y x && must_in zeros w y (x + 1)) ≡ false
       apart-at x lt =

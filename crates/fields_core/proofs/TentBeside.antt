@@ -16,10 +16,6 @@ cell-below {w} c pos = cell-parts w (c / w + 1) (c % w) (c + w) (mod-lt c pos) (
 pub cell-after : (w c : ℕ) → c % w + 1 < w → ((c + 1) / w ≡ c / w) × ((c + 1) % w ≡ c % w + 1)
 cell-after w c lt = cell-parts w (c / w) (c % w + 1) (c + 1) lt (omega (arith, whole-cell w c))
 
--- the first cell of the next row
-pub cell-turn : (w c : ℕ) → c % w + 1 ≡ w → (c + 1) % w ≡ 0
-cell-turn w c e = grind (arith, common_steps, cell-parts, whole-cell)
-
 pub row-in : {w : ℕ} (h c : ℕ) → 0 < w → c < w * h → c / w < h
 row-in h c pos lt = (div-lt_iff_lt-mul pos).1 (omega arith)
 

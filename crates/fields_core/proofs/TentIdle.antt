@@ -12,7 +12,7 @@ use Rattle.fields_core.specs.declared.planes.waits.Kind.TheVariants.{Columns, Ro
 use Rattle.fields_core.specs.declared.planes.waits.Waits.{Waits}
 use Rattle.fields_core.proofs.AnyOrder.{IsSingle, single-keeps}
 use Rattle.fields_core.proofs.AtMostLemmas.{IsFull}
-use Rattle.fields_core.proofs.IdleAfter.{Keeps, keeps-apart, keeps-itself, list-kept, list-settled}
+use Rattle.fields_core.proofs.IdleAfter.{AreQuiet, Keeps, keeps-apart, keeps-itself, list-kept, list-settled}
 unfoldable use Rattle.fields_core.proofs.IdleLemmas.{any_has}
 use Rattle.fields_core.proofs.IdleLemmas.{visited-skip}
 use Rattle.fields_core.proofs.LitIdle.{IsAll, all-keeps}
@@ -78,6 +78,9 @@ module _ (p : Tents) (lawful : IsTents p) where
   ])
   kind-keeps Trees visited house is other = all-keeps (tent_cells p) visited house is other
   kind-keeps Squares visited house is other = single-keeps (tent_cells p) visited house is other
+
+  kind-quiet : (kind : Kind) → AreQuiet (tent_cells p) (IsOfKind p kind)
+  kind-quiet kind = record { different = λ house is. (kind-is kind house is).different; keeps = kind-keeps kind }
 
 -- ---- visits of the lines of a kind that wait
 -- the houses of the lines so far are visited, and those of the lines that are not left are idle
@@ -148,10 +151,8 @@ module _ (p : Tents) (kind : Kind) {left : ℕ → Bool} {from to : Layers} (pas
       line_in = omega (arith, line-in);
       visited = sweep-more (kind_houses p kind) below visited fill;
       idle = λ k lt off. rw (visited.left fill) (elim (left-off left rest line k is off) [
-        | inl own ↦ rw own (list-settled (tent_cells p) (IsOfKind p kind) (kind-is p lawful kind) (kind-keeps p lawful kind)
-            (kind_houses p kind line) (has to) (kind-each p lawful kind line line-in) full still)
-        | inr gone ↦ list-kept (tent_cells p) (IsOfKind p kind) (kind-is p lawful kind) (kind-keeps p lawful kind)
-            (kind_houses p kind k) (kind_houses p kind line) (has to) (kind-each p lawful kind k lt) (kind-each p lawful kind line line-in) full still
+        | inl own ↦ rw own (list-settled (kind-quiet p lawful kind) (kind_houses p kind line) (has to) (kind-each p lawful kind line line-in) full still)
+        | inr gone ↦ list-kept (kind-quiet p lawful kind) (kind_houses p kind k) (kind_houses p kind line) (has to) (kind-each p lawful kind k lt) (kind-each p lawful kind line line-in) full still
             (passed.idle k lt gone)
       ]);
     }

@@ -19,7 +19,7 @@ use Rattle.fields_core.specs.Tents.{tent_cells}
 use Rattle.fields_core.specs.Trees.{AreBare}
 use Rattle.fields_core.specs.Visits.{IsFieldOf}
 use Rattle.fields_core.specs.declared.planes.notes.TentNotes.{TentNotes}
-use Rattle.fields_core.proofs.TentSweeps.{alive-each}
+use Rattle.fields_core.proofs.PlaneSweeps.{cells-alive}
 
 -- ---- the sides that the memory is for
 abbrev singles : (ℕ → CountHouse) → ℕ → List CountHouse
@@ -77,5 +77,5 @@ field-of {p = p} {planes = planes} written has_board = record {
   size = has_board.same_size;
   trees = written.trees;
   bare = bare-inside p (has planes) has_board.board.inside;
-  alive = alive-each p planes has_board.same_size has_board.board.alive;
+  alive = cells-alive planes has_board.cells has_board.board.alive;
 }

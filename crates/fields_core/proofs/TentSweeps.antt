@@ -1,13 +1,8 @@
 -- Sweeps of the houses of Tents on planes.
-use Rattle.std.proofs.Common.{◌≡◌, ℕ, ◌<◌, Bool, true, false, ◌++◌, append_assoc, refl, ◌⊎◌, arith}
-use Rattle.std.proofs.lemmas.Bool.{cases_Bool}
-use Rattle.std.proofs.lemmas.Grind.{common_steps}
-use Rattle.grid_core.specs.Candidates.{Candidates, count_below, is_dead}
-use Rattle.grid_core.specs.Planes.{Layers, has}
-use Rattle.grid_core.proofs.CandidateLemmas.{is_dead-not}
+use Rattle.std.proofs.Common.{◌≡◌, Bool, ◌++◌, append_assoc, refl}
+use Rattle.grid_core.specs.Planes.{Layers}
 use Rattle.gameid_core.specs.Puzzles.{Tents}
 use Rattle.fields_core.specs.CountHouse.{houses_below}
-use Rattle.fields_core.specs.Parts.{IsAlive}
 use Rattle.fields_core.specs.Sweeps.{IsSweep}
 use Rattle.fields_core.specs.TentHouses.{column_of_tents, row_of_tents, tent_houses, is_barred, tent_rules}
 use Rattle.fields_core.specs.Tents.{tent_cells, solves_tents}
@@ -15,14 +10,6 @@ use Rattle.fields_core.specs.Visits.{AreVisited, cell_houses, line_houses}
 use Rattle.fields_core.proofs.PlaneSweeps.{visits-swept}
 use Rattle.fields_core.proofs.SquareVisits.{squares-are}
 use Rattle.fields_core.proofs.TreeBoards.{trees-are}
-
-counted-some : (K : Candidates) (c : ℕ) → 0 < count_below (K c) 2 → (K c 0 ≡ true) ⊎ (K c 1 ≡ true)
-unfolding count_below
-counted-some K c some = grind (arith, common_steps, cases_Bool (K c 0), cases_Bool (K c 1))
-
-pub alive-each : (p : Tents) (s : Layers) → s.size ≡ p.size → is_dead (tent_cells p) 2 (has s) ≡ false → IsAlive s
-alive-each p s size alive = λ c lt. counted-some (has s) c
-    (is_dead-not (tent_cells p) 2 (has s) c alive (rw size at lt))
 
 pub houses-swept : (p : Tents) {from to : Layers} {fills : Bool} → from.size ≡ p.size
     → AreVisited (line_houses p ++ cell_houses p) from to fills → IsSweep (tent_rules p) from to fills

@@ -1,13 +1,18 @@
 -- What waits of Tents: where its houses lie, what stays idle, and what is idle where a closing begins.
-use Rattle.fields_core.proofs.Common.{AllByRecursion, Bool, Candidates, Option, eq-eqb, free_beside, one_at_least, Layers, Some, eqb-true, and_parts, ap, arith, cases_Bool, common_steps, eqb, false, false_from_ne_true, has_bit, has_place-at, houses_below, inl, inr, ltb, ltb-true, lt-ltb, not, or_cases, place-filter, refl, suc, sym, tree, tree_house, tent_cells, true, true≢false, zero, ℕ, ◌%◌, ◌&&◌, ◌*◌, ◌+◌, ◌-◌, ◌/◌, ◌<◌, ◌||◌, ◌∙◌, ◌≡◌, ◌≤◌, ◌⊎◌}
+use Rattle.fields_core.proofs.Common.{AllByRecursion, cells_of, cases_eq, Bool, Candidates, Option, free_beside, one_at_least, Layers, Some, eqb-true, and_parts, ap, arith, cases_Bool, eqb, false, false_from_ne_true, has_bit, has_place-at, houses_below, inl, inr, ltb, ltb-true, lt-ltb, not, or_cases, place-filter, refl, suc, sym, tree, tree_house, tent_cells, true, true≢false, zero, ℕ, ◌%◌, ◌&&◌, ◌*◌, ◌+◌, ◌-◌, ◌/◌, ◌<◌, ◌∙◌, ◌≡◌, ◌≢◌, ◌≤◌, ◌⊎◌, or_parts}
 use Rattle.std.proofs.lemmas.Bool.{true_from_ne_false}
 use Rattle.std.proofs.lemmas.List.FromFn.{length-map-range_with_len, get_or-map-range_with_len}
 use Rattle.grid_core.specs.Planes.{has, back_at, AreLinesOf, ArePlanes, IsFurther, IsLostIn}
 use Rattle.grid_core.specs.Regions.{row_places, column_places}
 use Rattle.grid_core.specs.declared.planes.touched.Touched.{Touched}
+use Rattle.grid_core.specs.Candidates.{IsInside}
+use Rattle.grid_core.proofs.CandidateLemmas.{is_dead-not}
+use Rattle.grid_core.proofs.GridLemmas.{only-inside, only-other}
 use Rattle.grid_core.proofs.PlaneLemmas.{place-in}
 use Rattle.grid_core.proofs.TakingLemmas.{put_back-none}
 use Rattle.engine_core.specs.Queue.{IsClosedAround, IsClosedBut}
+use Rattle.engine_core.specs.RuleSystem.{IsClosed}
+use Rattle.engine_core.proofs.QueueLemmas.{alive_around}
 use Rattle.gameid_core.specs.Puzzles.{Tents, IsTents}
 use Rattle.fields_core.specs.CountHouse.{one_at_most}
 use Rattle.fields_core.specs.Parts.{IsAlive}
@@ -24,14 +29,16 @@ use Rattle.fields_core.proofs.AtMostLemmas.{IsFull}
 use Rattle.fields_core.proofs.IdleLemmas.{any_has, any-below, any-none, any-one, idle-far}
 use Rattle.fields_core.proofs.LitIdle.{IsAll, alls-kept}
 use Rattle.fields_core.proofs.PartLemmas.{value-in}
-use Rattle.fields_core.proofs.RunBegins.{all-houses}
+use Rattle.fields_core.proofs.PlaneSweeps.{counted-some}
+use Rattle.fields_core.proofs.TentCounting.{tent-field}
 use Rattle.fields_core.proofs.SquareLemmas.{square-has}
 use Rattle.fields_core.proofs.SquareVisits.{squares-are}
 use Rattle.fields_core.proofs.StepLaws.{steps-some}
-use Rattle.fields_core.proofs.PartIdle.{IsPartOf, idle-around, in-back, in-below, in-front}
+use Rattle.fields_core.proofs.PartIdle.{IsPartOf, closed-idle, in-back, in-below, in-front}
 use Rattle.fields_core.proofs.TentBeside.{cell-parts, row-in, step-lies}
 use Rattle.fields_core.proofs.TentVisits.{square-is, square_places, tree-is}
 use Rattle.fields_core.proofs.TreeBoards.{trees-are}
+use Rattle.fields_core.proofs.CountListLemmas.{all-houses}
 
 -- ---- where houses lie
 module _ (p : Tents) (c : ℕ) (pos : 0 < p.size.w) where
@@ -83,9 +90,6 @@ module _ (p : Tents) (c : ℕ) (pos : 0 < p.size.w) where
             | inr lower ↦ inr (eqb-true _ _ lower)
           ]
 
-both_off : {a b : Bool} → (a || b) ≡ false → (a ≡ false) × (b ≡ false)
-both_off {a} {b} e = (grind (arith, common_steps, cases_Bool a), grind (arith, common_steps, cases_Bool a))
-
 -- ---- a cell in lines that have changed, and what does not wait
 -- a loss of the value can bind houses of the kind
 abbrev pub minds : Kind → ℕ → Bool
@@ -111,40 +115,40 @@ module _ {W : Type 0} (bits : W → ℕ) {room : ℕ} (p : Tents) {before now : 
       tree : AreLinesOf bits ones (c / p.size.w) (c % p.size.w) → k < p.size.h → has_bit (bits now.trees) k ≡ false
           → (c / p.size.w ≡ k) ⊎ ((c / p.size.w + 1 ≡ k) ⊎ (c / p.size.w ≡ k + 1)) → ⊥
       tree on lt off (inl own) =
-          true≢false (rw own at (sym on.1) ∙ (both_off (both_off (both_off (sym (woken.trees k) ∙ off)).1).0).1)
+          true≢false (rw own at (sym on.1) ∙ (or_parts _ _ (or_parts _ _ (or_parts _ _ (sym (woken.trees k) ∙ off)).1).0).1)
       tree on lt off (inr (inl above)) =
           let e : has_bit (bits ones.rows) (k - 1) ≡ true = (let r : c / p.size.w ≡ k - 1 = omega (arith, above) in rw r at on.1) in
           let f : (ltb k room && (ltb 0 k && has_bit (bits ones.rows) (k - 1))) ≡ false =
-          (both_off (both_off (both_off (sym (woken.trees k) ∙ off)).1).0).0 in
+          (or_parts _ _ (or_parts _ _ (or_parts _ _ (sym (woken.trees k) ∙ off)).1).0).0 in
           true≢false (rw (lt-ltb k room (omega (arith, lt, low)), lt-ltb 0 k (omega (arith, above)), e) at f)
       tree on lt off (inr (inr below)) =
-          true≢false (rw below at (sym on.1) ∙ (both_off (both_off (sym (woken.trees k) ∙ off)).1).1)
+          true≢false (rw below at (sym on.1) ∙ (or_parts _ _ (or_parts _ _ (sym (woken.trees k) ∙ off)).1).1)
 
       square : AreLinesOf bits zeros (c / p.size.w) (c % p.size.w) → has_bit (bits now.squares) k ≡ false
           → (c / p.size.w ≡ k) ⊎ (c / p.size.w ≡ k + 1) → ⊥
-      square on off (inl own) = true≢false (rw own at (sym on.1) ∙ (both_off (both_off (sym (woken.squares k) ∙ off)).1).0)
-      square on off (inr below) = true≢false (rw below at (sym on.1) ∙ (both_off (both_off (sym (woken.squares k) ∙ off)).1).1)
+      square on off (inl own) = true≢false (rw own at (sym on.1) ∙ (or_parts _ _ (or_parts _ _ (sym (woken.squares k) ∙ off)).1).0)
+      square on off (inr below) = true≢false (rw below at (sym on.1) ∙ (or_parts _ _ (or_parts _ _ (sym (woken.squares k) ∙ off)).1).1)
 
       by : (v : ℕ) → v < 2 → (kind : Kind) → AreLinesOf bits (lines_of zeros ones v) (c / p.size.w) (c % p.size.w) → k < kind_lines p kind
           → has_bit (waiting bits now kind) k ≡ false → minds kind v ≡ true → any_has (kind_houses p kind k) c ≡ true → ⊥
       by zero small Columns on lt off mind has =
-          true≢false (rw (column-lies p c pos lt has) at (sym on.0) ∙ (both_off (both_off (sym (woken.columns k) ∙ off)).1).0)
-      by zero small Rows on lt off mind has = true≢false (rw (row-lies p c pos has) at (sym on.1) ∙ (both_off (both_off (sym (woken.rows k) ∙ off)).1).0)
+          true≢false (rw (column-lies p c pos lt has) at (sym on.0) ∙ (or_parts _ _ (or_parts _ _ (sym (woken.columns k) ∙ off)).1).0)
+      by zero small Rows on lt off mind has = true≢false (rw (row-lies p c pos has) at (sym on.1) ∙ (or_parts _ _ (or_parts _ _ (sym (woken.rows k) ∙ off)).1).0)
       by zero small Trees on lt off mind has = true≢false (sym mind)
       by zero small Squares on lt off mind has = square on off (squares-lie p c pos has)
       by (suc zero) small Columns on lt off mind has =
-          true≢false (rw (column-lies p c pos lt has) at (sym on.0) ∙ (both_off (both_off (sym (woken.columns k) ∙ off)).1).1)
-      by (suc zero) small Rows on lt off mind has = true≢false (rw (row-lies p c pos has) at (sym on.1) ∙ (both_off (both_off (sym (woken.rows k) ∙ off)).1).1)
+          true≢false (rw (column-lies p c pos lt has) at (sym on.0) ∙ (or_parts _ _ (or_parts _ _ (sym (woken.columns k) ∙ off)).1).1)
+      by (suc zero) small Rows on lt off mind has = true≢false (rw (row-lies p c pos has) at (sym on.1) ∙ (or_parts _ _ (or_parts _ _ (sym (woken.rows k) ∙ off)).1).1)
       by (suc zero) small Trees on lt off mind has = tree on lt off (trees-lie p c pos has)
       by (suc zero) small Squares on lt off mind has = true≢false (sym mind)
       by (suc (suc v)) small kind on lt off mind has = absurd (omega arith)
 
   -- what does not wait did not wait before
   waited : (kind : Kind) (k : ℕ) → has_bit (waiting bits now kind) k ≡ false → has_bit (waiting bits before kind) k ≡ false
-  waited Columns k off = (both_off (sym (woken.columns k) ∙ off)).0
-  waited Rows k off = (both_off (sym (woken.rows k) ∙ off)).0
-  waited Trees k off = (both_off (sym (woken.trees k) ∙ off)).0
-  waited Squares k off = (both_off (sym (woken.squares k) ∙ off)).0
+  waited Columns k off = (or_parts _ _ (sym (woken.columns k) ∙ off)).0
+  waited Rows k off = (or_parts _ _ (sym (woken.rows k) ∙ off)).0
+  waited Trees k off = (or_parts _ _ (sym (woken.trees k) ∙ off)).0
+  waited Squares k off = (or_parts _ _ (sym (woken.squares k) ∙ off)).0
 
 -- ---- the houses of trees and squares
 pub trees-each : (p : Tents) (y : ℕ) → IsTents p → y < p.size.h → AllByRecursion (IsAll (tent_cells p)) (trees_of_row p y)
@@ -173,60 +177,55 @@ squares-each p y lawful lt = all-houses (IsSingle (tent_cells p)) (λ x. square_
           tt,
         )
 
+-- what does not wait on a board stays idle once cells of these lines have lost values
+pub rested-board : {W : Type 0} (bits : W → ℕ) {room : ℕ} (p : Tents) {before now : Waits W} {zeros ones : Touched W} (K L : Candidates)
+    → IsTents p → p.size.h ≤ room → AreWoken bits room before zeros ones now → IsFull (tent_cells p) K → IsFull (tent_cells p) L → IsInside L K
+    → ((v c : ℕ) → v < 2 → K c v ≡ true → L c v ≡ false → AreLinesOf bits (lines_of zeros ones v) (c / p.size.w) (c % p.size.w))
+    → AreRested bits p before K → AreRested bits p now L
+unfolding any_has
+rested-board bits {room} p {before} {now} K L lawful low woken full still inside lines rested kind k lt off =
+    by kind lt off (rested kind k lt (waited bits p pos low woken kind k off))
+  where
+    pos : 0 < p.size.w
+    pos = (tent-field lawful).some
+
+    far : (kind : Kind) (c v : ℕ) → k < kind_lines p kind → has_bit (waiting bits now kind) k ≡ false → minds kind v ≡ true
+        → K c v ≡ true → L c v ≡ false → any_has (kind_houses p kind k) c ≡ false
+    far kind c v lt off mind on gone =
+        let small = full.low c v on in
+        woken-off bits p pos low woken v c small (lines v c small on gone) kind k lt off mind
+
+    kept : (kind : Kind) (v c : ℕ) → k < kind_lines p kind → has_bit (waiting bits now kind) k ≡ false → minds kind v ≡ true
+        → any_has (kind_houses p kind k) c ≡ true → L c v ≡ K c v
+    kept kind v c lt off mind there = elim (cases_Bool (K c v)) [
+      | inl on ↦ true_from_ne_false _ (λ gone. true≢false (sym there ∙ far kind c v lt off mind on gone)) ∙ sym on
+      | inr out ↦ false_from_ne_true _ (λ on. true≢false (sym (inside c v on) ∙ out)) ∙ sym out
+    ]
+
+    by : (kind : Kind) → k < kind_lines p kind → has_bit (waiting bits now kind) k ≡ false → AreIdle (kind_houses p kind k) K → AreIdle (kind_houses p kind k) L
+    by Columns lt off idle = idle-far (column_of_tents p k) K L inside (λ c v. far Columns c v lt off refl) idle
+    by Rows lt off idle = idle-far (row_of_tents p k) K L inside (λ c v. far Rows c v lt off refl) idle
+    by Trees lt off idle = alls-kept (tent_cells p) (trees_of_row p k) K L (trees-each p k lawful lt) full still inside (λ c. kept Trees 1 c lt off refl) idle
+    by Squares lt off idle = singles-kept (tent_cells p) (squares_of_row p k) K L (squares-each p k lawful lt) full still inside (λ c. kept Squares 0 c lt off refl) idle
+
 pub rested-woken : {W : Type 0} (bits : W → ℕ) {room : ℕ} (p : Tents) (before now : Waits W) {zeros ones : Touched W} {from to : Layers} {len : ℕ}
     → ArePlanes room to → IsLostIn bits to.size.w 0 (back_at to len) (has to) zeros → IsLostIn bits to.size.w 1 (back_at to len) (has to) ones
     → AreWoken bits room before zeros ones now → IsTents p → from.size ≡ p.size → from.len ≡ len → IsAlive from → IsAlive to → IsFurther from to
     → AreRested bits p before (has from) → AreRested bits p now (has to)
-unfolding any_has
-rested-woken bits {room} p before now {zeros} {ones} {from} {to} {len} are lost_zeros lost_ones woken lawful size is alive after further rested kind k lt off =
-    by kind lt off (rested kind k lt (waited bits p pos low woken kind k off))
+rested-woken bits {room} p before now {zeros} {ones} {from} {to} {len} are lost_zeros lost_ones woken lawful size is alive after further =
+    rested-board bits p (has from) (has to) lawful (rw (← same) are.low) woken
+    (record { low = value-in from; some = λ c lt. alive c (rw size lt) }) (record { low = value-in to; some = λ c lt. after c (rw same lt) }) further.inside lines
   where
     same : to.size ≡ p.size
     same = further.same_size ∙ size
 
-    pos : 0 < p.size.w
-    pos = rw (← same) (omega (arith, are.lawful.w_low))
-
-    low : p.size.h ≤ room
-    low = rw (← same) are.low
-
     whole : back_at to len ≡ has from
     whole = rw (← is) (further.back from.len (omega arith) ∙ put_back-none from.size.w (has from) from.takings from.len from.len (omega arith))
 
-    back : (c v : ℕ) → back_at to len c v ≡ has from c v
-    back c v = ap (λ (M : Candidates). M c v) whole
-
-    full : IsFull (tent_cells p) (has from)
-    full = record { low = value-in from; some = λ c lt. alive c (rw size lt) }
-
-    still : IsFull (tent_cells p) (has to)
-    still = record { low = value-in to; some = λ c lt. after c (rw same lt) }
-
     lines : (v c : ℕ) → v < 2 → has from c v ≡ true → has to c v ≡ false → AreLinesOf bits (lines_of zeros ones v) (c / p.size.w) (c % p.size.w)
-    lines zero c small on gone = rw same at (lost_zeros c (back c 0 ∙ on) gone)
-    lines (suc zero) c small on gone = rw same at (lost_ones c (back c 1 ∙ on) gone)
+    lines zero c small on gone = rw same at (lost_zeros c (rw whole on) gone)
+    lines (suc zero) c small on gone = rw same at (lost_ones c (rw whole on) gone)
     lines (suc (suc v)) c small on gone = absurd (omega arith)
-
-    far : (kind : Kind) (c v : ℕ) → k < kind_lines p kind → has_bit (waiting bits now kind) k ≡ false → minds kind v ≡ true
-        → has from c v ≡ true → has to c v ≡ false → any_has (kind_houses p kind k) c ≡ false
-    far kind c v lt off mind on gone =
-        let small = value-in from c v on in
-        woken-off bits p pos low woken v c small (lines v c small on gone) kind k lt off mind
-
-    kept : (kind : Kind) (v c : ℕ) → k < kind_lines p kind → has_bit (waiting bits now kind) k ≡ false → minds kind v ≡ true
-        → any_has (kind_houses p kind k) c ≡ true → has to c v ≡ has from c v
-    kept kind v c lt off mind there = elim (cases_Bool (has from c v)) [
-      | inl on ↦ true_from_ne_false _ (λ gone. true≢false (sym there ∙ far kind c v lt off mind on gone)) ∙ sym on
-      | inr out ↦ false_from_ne_true _ (λ on. true≢false (sym (further.inside c v on) ∙ out)) ∙ sym out
-    ]
-
-    by : (kind : Kind) → k < kind_lines p kind → has_bit (waiting bits now kind) k ≡ false → AreIdle (kind_houses p kind k) (has from) → AreIdle (kind_houses p kind k) (has to)
-    by Columns lt off idle = idle-far (column_of_tents p k) (has from) (has to) further.inside (λ c v. far Columns c v lt off refl) idle
-    by Rows lt off idle = idle-far (row_of_tents p k) (has from) (has to) further.inside (λ c v. far Rows c v lt off refl) idle
-    by Trees lt off idle = alls-kept (tent_cells p) (trees_of_row p k) (has from) (has to) (trees-each p k lawful lt) full still further.inside
-        (λ c. kept Trees 1 c lt off refl) idle
-    by Squares lt off idle = singles-kept (tent_cells p) (squares_of_row p k) (has from) (has to) (squares-each p k lawful lt) full still further.inside
-        (λ c. kept Squares 0 c lt off refl) idle
 
 -- ---- a board that is closed but around a cell
 -- the houses of a kind at a line are among all
@@ -239,29 +238,62 @@ part-kind p Trees k lt = in-back _ (houses_below (column_of_tents p) p.size.w) _
 part-kind p Squares k lt = in-back _ (houses_below (column_of_tents p) p.size.w) _ (in-back _ (houses_below (row_of_tents p) p.size.h) _
     (in-back _ (houses_below (tree_house p) (tent_cells p)) _ (rw (squares-are p) at (in-below (squares_of_row p) k p.size.h lt))))
 
--- houses of a closed board that do not have the cell are idle
-module _ (p : Tents) (K : Candidates) (place : ℕ) (around : IsClosedAround (tent_rules p) K place) where
-  pub rested-around : {W : Type 0} (bits : W → ℕ) (now : Waits W) → ((v : ℕ) → v < 2 → AreOff bits p now v place) → AreRested bits p now K
-  rested-around bits now off kind k lt none =
-      idle-around (tent_cells p) (is_barred p) (tent_houses p) (solves_tents p) K place around (part-kind p kind k lt) (by kind lt none)
-    where
-      by : (kind : Kind) → k < kind_lines p kind → has_bit (waiting bits now kind) k ≡ false → any_has (kind_houses p kind k) place ≡ false
-      by Columns lt none = off 0 (omega arith) Columns k lt none refl
-      by Rows lt none = off 0 (omega arith) Rows k lt none refl
-      by Trees lt none = off 1 (omega arith) Trees k lt none refl
-      by Squares lt none = off 0 (omega arith) Squares k lt none refl
+-- all houses of a closed board are idle
+closed-rested : {W : Type 0} (bits : W → ℕ) (p : Tents) (none : Waits W) (K : Candidates) → IsClosed (tent_rules p) K → AreRested bits p none K
+closed-rested bits p none K closed kind k lt off =
+    closed-idle (tent_cells p) (is_barred p) (tent_houses p) (solves_tents p) K closed (part-kind p kind k lt)
 
-pub rested-from : {W : Type 0} (bits : W → ℕ) {room : ℕ} (p : Tents) {planes : Layers} {from : Option ℕ} {place : ℕ} (before now : Waits W) {own : Touched W}
-    → ArePlanes room planes → planes.size ≡ p.size → from ≡ Some place → IsClosedBut (tent_rules p) (has planes) from
-    → ((k : ℕ) → has_bit (bits own.columns) k ≡ eqb k (place % p.size.w)) → ((k : ℕ) → has_bit (bits own.rows) k ≡ eqb k (place / p.size.w))
-    → AreWoken bits room before own own now → AreRested bits p now (has planes)
-rested-from bits {room} p {planes} {from} {place} before now {own} are size is closed column row woken =
-    rested-around p (has planes) place (rw is at closed) bits now
-    (λ v small. woken-off bits p (rw (← size) (omega (arith, are.lawful.w_low))) (rw (← size) are.low) woken v place small (lines v))
+-- the lines of a cell that lost 0, or 1
+module _ {W : Type 0} (bits : W → ℕ) (K : Candidates) (place w : ℕ) (zeros ones : Touched W) where
+  pub lost-zero : K place 1 ≡ true → AreLinesOf bits zeros (place / w) (place % w)
+      → (v : ℕ) → v < 2 → K place (1 - v) ≡ true → K place v ≡ false → AreLinesOf bits (lines_of zeros ones v) (place / w) (place % w)
+  lost-zero kept own zero small other gone = own
+  lost-zero kept own (suc zero) small other gone = absurd (true≢false (sym kept ∙ gone))
+  lost-zero kept own (suc (suc v)) small other gone = absurd (omega arith)
+
+  pub lost-one : K place 1 ≡ false → AreLinesOf bits ones (place / w) (place % w)
+      → (v : ℕ) → v < 2 → K place (1 - v) ≡ true → K place v ≡ false → AreLinesOf bits (lines_of zeros ones v) (place / w) (place % w)
+  lost-one off own zero small other gone = absurd (true≢false (sym other ∙ off))
+  lost-one off own (suc zero) small other gone = own
+  lost-one off own (suc (suc v)) small other gone = absurd (omega arith)
+
+-- a closing begins with the houses that a value counts for that the cell has lost
+pub rested-from : {W : Type 0} (bits : W → ℕ) {room : ℕ} (p : Tents) {planes : Layers} {from : Option ℕ} {place : ℕ} {none now : Waits W} {zeros ones : Touched W}
+    → IsTents p → ArePlanes room planes → planes.size ≡ p.size → from ≡ Some place → IsClosedBut (tent_rules p) (has planes) from
+    → ((v : ℕ) → v < 2 → has planes place (1 - v) ≡ true → has planes place v ≡ false → AreLinesOf bits (lines_of zeros ones v) (place / p.size.w) (place % p.size.w))
+    → AreWoken bits room none zeros ones now → AreRested bits p now (has planes)
+rested-from bits {room} p {planes} {from} {place} {none} {now} {zeros} {ones} lawful are size is closed lines woken =
+    rested-board bits p around.before (has planes) lawful (rw (← size) are.low) woken
+    full still (rw (around.is) (only-inside around.before place around.value))
+    (λ v c small on gone. at v c small on gone (cases_eq c place))
+    (closed-rested bits p none around.before around.closed)
   where
-    lines : (v : ℕ) → AreLinesOf bits (lines_of own own v) (place / p.size.w) (place % p.size.w)
-    lines zero = (column _ ∙ eq-eqb _ _ refl, row _ ∙ eq-eqb _ _ refl)
-    lines (suc v) = (column _ ∙ eq-eqb _ _ refl, row _ ∙ eq-eqb _ _ refl)
+    around : IsClosedAround (tent_rules p) (has planes) place
+    around = rw is at closed
+
+    full : IsFull (tent_cells p) around.before
+    full = record { low = λ c v on. (around.within c v on).1; some = λ c lt. counted-some around.before c (is_dead-not (tent_cells p) 2 around.before c around.alive lt) }
+
+    still : IsFull (tent_cells p) (has planes)
+    still = record { low = value-in planes; some = λ c lt. counted-some (has planes) c (is_dead-not (tent_cells p) 2 (has planes) c (alive_around around) lt) }
+
+    other : (v : ℕ) → v < 2 → (has planes place 0 ≡ true) ⊎ (has planes place 1 ≡ true) → has planes place v ≡ false → has planes place (1 - v) ≡ true
+    other zero small (inl on) gone = absurd (true≢false (sym on ∙ gone))
+    other zero small (inr on) gone = on
+    other (suc zero) small (inl on) gone = on
+    other (suc zero) small (inr on) gone = absurd (true≢false (sym on ∙ gone))
+    other (suc (suc v)) small some gone = absurd (omega arith)
+
+    at : (v c : ℕ) → v < 2 → around.before c v ≡ true → has planes c v ≡ false → (c ≡ place) ⊎ (c ≢ place)
+        → AreLinesOf bits (lines_of zeros ones v) (c / p.size.w) (c % p.size.w)
+    at v c small on gone (inl e) = rw e (lines v small (other v small (still.some place (around.within place around.value around.had).0) (rw e at gone)) (rw e at gone))
+    at v c small on gone (inr ne) = absurd (true≢false (sym on ∙ sym (ap (λ (f : ℕ → Bool). f v) (only-other around.before place around.value c ne)) ∙ rw (around.is) at gone))
+
+pub place-in_planes : (p : Tents) (planes : Layers) {from : Option ℕ} {place : ℕ}
+    → planes.size ≡ p.size → from ≡ Some place → IsClosedBut (tent_rules p) (has planes) from → place < cells_of planes
+place-in_planes p planes {from} {place} size is closed =
+    let around : IsClosedAround (tent_rules p) (has planes) place = rw is at closed in
+    rw size (around.within place around.value around.had).0
 
 pub place-room : {room : ℕ} (p : Tents) {planes : Layers} {from : Option ℕ} {place : ℕ}
     → ArePlanes room planes → planes.size ≡ p.size → from ≡ Some place → IsClosedBut (tent_rules p) (has planes) from
@@ -270,4 +302,4 @@ place-room {room} p {planes} {from} {place} are size is closed =
     let around : IsClosedAround (tent_rules p) (has planes) place = rw is at closed in
     let pos : 0 < p.size.w = rw (← size) (omega (arith, are.lawful.w_low)) in
     let low : p.size.h ≤ room = rw (← size) are.low in
-    omega (arith, low, row-in p.size.h place pos around.place_in)
+    omega (arith, low, row-in p.size.h place pos (around.within place around.value around.had).0)

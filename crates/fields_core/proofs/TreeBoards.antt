@@ -8,12 +8,13 @@ use Rattle.grid_core.proofs.PlaneLemmas.{further-none, place-in}
 use Rattle.fields_core.specs.Parts.{IsAlive}
 use Rattle.fields_core.specs.Trees.{IsRowOf, is_beside, trees_of_row, wants_tent, without_zeros}
 use Rattle.fields_core.specs.Visits.{AreVisited, after_houses}
-use Rattle.fields_core.proofs.CountKept.{after-at, off-scope}
+use Rattle.fields_core.proofs.CountKept.{after-at, off-scope, has-value}
 use Rattle.grid_core.proofs.CandidateLemmas.{any_below-none, any_below-same, any_below-some}
 use Rattle.fields_core.proofs.PartLemmas.{value-in}
 use Rattle.fields_core.proofs.PlaceLists.{count-cons, count-none, count-some, num, num-most}
 use Rattle.fields_core.proofs.TentVisits.{tree-is}
-use Rattle.fields_core.proofs.VisitLemmas.{below-next, below-rest, below-rows, visits-append, visits-inside}
+use Rattle.fields_core.proofs.VisitLemmas.{below-rest, below-rows, visits-append, visits-inside}
+use Rattle.fields_core.proofs.CountListLemmas.{below-more}
 
 -- ---- one tree
 -- where a place does not pass, not all do
@@ -56,14 +57,11 @@ tree-after cells places K is full filled c v low on = elim (cases_Bool (has_plac
   | inl there ↦
       let w = has_place-at places c there in
       let tally : Tally = record { must = count_by (λ d. not (K d 0)) places; may = count_by (λ d. K d 1) places; empty = 0 } in
-      let counted : IsTally K places tally = record { must_is = refl; may_is = refl; empty_is = sym (count-none (is_empty K) places (λ d at. not-empty d (full d at))) } in
+      let counted : IsTally K places tally = record { must_is = refl; may_is = refl; empty_is = sym (count-none (is_empty K) places (λ d at. has-value K d (full d at))) } in
       let left = rw w.2 at (after-at cells (one_at_least places) K tally is counted w.1 low) in
       left ∙ rw (on, there) (stays-is _ _ _ v (K c 0) (K c 1) low (some w.1 filled) (omega (arith, w.1)) (count_by-le-length _ places) (λ e. count-less _ places c there (rw e refl)) (by v low on))
 ]
   where
-    not-empty : (d : ℕ) → (K d 0 ≡ true) ⊎ (K d 1 ≡ true) → is_empty K d ≡ false
-    not-empty d one = grind (arith, common_steps, cases_Bool)
-
     some : {k : ℕ} → k < length places → IsFilled places K → 1 ≤ count_by (λ d. K d 1) places
     some lt (inl none) = absurd (omega arith)
     some lt (inr one) = one
@@ -193,7 +191,7 @@ module _ (p : Tents) (lawful : IsTents p) (K : Candidates) (y : ℕ) (y_in : y <
       let J = after_houses (houses_below f x) K in
       let w = below-rest f (x + 1) (p.size.w - (x + 1)) in
       let e : x + 1 + (p.size.w - (x + 1)) ≡ p.size.w = omega arith in
-      let split : trees_of_row p y ≡ (houses_below f x ++ f x) ++ w.0 = ap (houses_below f) (sym e) ∙ w.1 ∙ ap (λ (hs : List CountHouse). hs ++ w.0) (below-next f x) in
+      let split : trees_of_row p y ≡ (houses_below f x ++ f x) ++ w.0 = ap (houses_below f) (sym e) ∙ w.1 ∙ ap (λ (hs : List CountHouse). hs ++ w.0) (below-more f x) in
       let fewer : count_by (λ c. J c 1) (free_beside p (cell x)) ≡ 0 = count-none (λ c. J c 1) (free_beside p (cell x)) (λ c at. false_from_ne_true _ (λ on. absurd (omega (arith, none, count-some (λ c. K c 1) (free_beside p (cell x)) c at (visits-inside (houses_below f x) K c 1 on))))) in
       false_from_ne_true _ (λ on. true≢false (sym (visits-inside w.0 (after_houses (f x) J) d v (rw (split, visits-append (houses_below f x ++ f x) w.0 K, visits-append (houses_below f x) (f x) K) at on))
       ∙ rw is (tree-broken (tent_cells p) (free_beside p (cell x)) J (house-in lt is) fewer d v there low)))

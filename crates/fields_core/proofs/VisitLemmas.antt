@@ -1,5 +1,5 @@
 -- Visits of count houses, one after another, and which houses are among those of a puzzle.
-use Rattle.std.proofs.Common.{◌≡◌, ◌∙◌, ℕ, zero, suc, ◌+◌, ◌*◌, ◌-◌, ◌<◌, Bool, true, false, List, [], ◌∷◌, ◌++◌, length, slice_index, refl, sym, ap, add-one, append_assoc, length-append, subst, arith}
+use Rattle.std.proofs.Common.{◌≡◌, ◌∙◌, ℕ, zero, suc, ◌+◌, ◌*◌, ◌-◌, ◌<◌, Bool, true, false, List, [], ◌∷◌, ◌++◌, length, slice_index, refl, sym, ap, append_assoc, length-append, subst, arith}
 use Rattle.std.specs.List.{range_with_len}
 use Rattle.std.proofs.Math.Seq.{get_or-append_seam}
 use Rattle.std.proofs.lemmas.Bool.{and_parts, true≢false, false_from_ne_true}
@@ -13,6 +13,7 @@ use Rattle.engine_core.specs.PlaceLaws.{has_place-here}
 use Rattle.fields_core.specs.CountHouse.{CountHouse, no_count_house, houses_below, after_house, count_house_of, count_puzzle, meets, AreHouses, AreMet, CountPuzzle, IsHouse}
 use Rattle.fields_core.specs.Parts.{IsAlive, IsBroken}
 use Rattle.fields_core.specs.Visits.{after_houses, AreVisited}
+use Rattle.fields_core.proofs.CountListLemmas.{below-more}
 
 -- ---- the board after visits
 pub after-inside : (house : CountHouse) (K : Candidates) → IsInside (after_house house K) K
@@ -132,10 +133,6 @@ below-rest f n (suc d) =
     let w = below-rest f n d in
     (w.0 ++ f (n + d), rw (e, w.1) (append_assoc (houses_below f n) w.0 (f (n + d))))
 
-pub below-next : (f : ℕ → List CountHouse) (n : ℕ) → houses_below f (n + 1) ≡ houses_below f n ++ f n
-unfolding houses_below
-below-next f n = rw add-one refl
-
 pub sweep-first : (f : ℕ → List CountHouse) {p : Layers} → IsAlive p → AreVisited (houses_below f 0) p p true
 unfolding houses_below
 sweep-first f alive = visited-none alive
@@ -143,7 +140,7 @@ sweep-first f alive = visited-none alive
 pub sweep-more : (f : ℕ → List CountHouse) {n : ℕ} {p q r : Layers} {fills : Bool}
     → AreVisited (houses_below f n) p q true → AreVisited (f n) q r fills → fills ≡ true
     → AreVisited (houses_below f (n + 1)) p r true
-sweep-more f {n} first next full = rw (below-next f n) (visited-more first refl (rw full at next))
+sweep-more f {n} first next full = rw (below-more f n) (visited-more first refl (rw full at next))
 
 pub sweep-broken : (f : ℕ → List CountHouse) {n m : ℕ} {p q r : Layers} {fills : Bool}
     → AreVisited (houses_below f n) p q true → AreVisited (f n) q r fills → fills ≡ false → n < m
@@ -151,7 +148,7 @@ pub sweep-broken : (f : ℕ → List CountHouse) {n m : ℕ} {p q r : Layers} {f
 sweep-broken f {n} {m} first next none lt =
     let w = below-rest f (n + 1) (m - (n + 1)) in
     let e : n + 1 + (m - (n + 1)) ≡ m = omega arith in
-    rw (← e, w.1) (visited-dead w.0 (rw (below-next f n) (visited-more first refl (rw none at next))) refl)
+    rw (← e, w.1) (visited-dead w.0 (rw (below-more f n) (visited-more first refl (rw none at next))) refl)
 
 -- the houses of rows of so many numbers, row by row
 below-add : (f : ℕ → List CountHouse) (m n : ℕ) → houses_below f (m + n) ≡ houses_below f m ++ houses_below (λ k. f (m + k)) n
@@ -201,7 +198,7 @@ among-below house f n m lt among =
     let w = below-rest f (n + 1) (m - (n + 1)) in
     let e : n + 1 + (m - (n + 1)) ≡ m = omega arith in
     rw (← e, w.1) (among-front house (houses_below f (n + 1)) w.0
-    (rw (below-next f n) (among-back house (houses_below f n) (f n) among)))
+    (rw (below-more f n) (among-back house (houses_below f n) (f n) among)))
 
 pub among-house : (house : CountHouse) (houses : List CountHouse) (cells : ℕ) → AreHouses cells houses
     → IsAmong house houses → IsHouse cells house

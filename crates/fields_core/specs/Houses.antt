@@ -22,10 +22,7 @@ house_told house = record {
   most = house.bounds.most;
 }
 
--- the cells of a house, and its bounds
-abbrev pub house_places : CountHouse → List ℕ
-house_places house = house.places
-
+-- the bounds of a house
 abbrev pub bounds_of : CountHouse → Bounds
 bounds_of house = record { least = house.least; most = house.most }
 

@@ -4,6 +4,7 @@ use Rattle.std.specs.List.{range_with_len}
 use Rattle.gameid_core.specs.Puzzles.{Light}
 use Rattle.fields_core.specs.CountHouse.{CountHouse, one_at_most}
 use Rattle.fields_core.specs.Light.{clear, white}
+use Rattle.fields_core.specs.declared.light_up.line.WhiteLine.{WhiteLine}
 
 -- the numbers of a line around `at` that pass, one after another: from `start` to the one before `end`
 pub record IsAround (test : ℕ → Bool) (len at start end : ℕ) : Type 0 where
@@ -17,12 +18,23 @@ pub record IsAround (test : ℕ → Bool) (len at start end : ℕ) : Type 0 wher
 -- the latest run before the number `at`: the one around it, if it reaches it. Else no run goes on there
 abbrev pub IsLatest : (ℕ → Bool) → ℕ → ℕ → ℕ × ℕ → Type 0
 IsLatest test len at run =
-    (at < run.1 → IsAround test len at run.0 run.1)
+    (at < run.1 → (run.0 < at) × IsAround test len at run.0 run.1)
     × (run.1 ≤ at → at < len → test at ≡ true → (i : ℕ) → suc i ≡ at → test i ≡ false)
 
 -- which cells of a line are white, by number
 abbrev pub line_white : Light → ℕ → ℕ → ℕ → Bool
 line_white p first stride i = white p (first + i * stride)
+
+-- the line of that puzzle which begins at the place, with the cells that far apart, and so many of them
+pub record IsLine (p : Light) (start step cells : ℕ) (line : WhiteLine) : Type 0 where
+  pub puzzle : line.puzzle.now ≡ p
+  pub first : line.first ≡ start
+  pub stride : line.stride ≡ step
+  pub len : line.len ≡ cells
+
+-- which of its cells are white, by number
+abbrev pub whites_of : WhiteLine → ℕ → Bool
+whites_of line = line_white line.puzzle.now line.first line.stride
 
 -- its cells from one number to the one before another
 abbrev pub line_cells : ℕ → ℕ → ℕ → ℕ → List ℕ
@@ -41,3 +53,6 @@ run_house p first stride len at =
     then one_at_most (map (λ i. first + i * stride)
     (filter (clear (line_white p first stride) at) (range_with_len 0 len))) ∷ []
     else []
+
+abbrev pub house_along : WhiteLine → ℕ → List CountHouse
+house_along line at = run_house line.puzzle.now line.first line.stride line.len at

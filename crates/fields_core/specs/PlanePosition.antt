@@ -2,10 +2,12 @@
 use Rattle.std.specs.Prelude.{◌≡◌, ℕ, Option, Some, None, ◌*◌, ◌<◌, ◌≤◌, ◌⊎◌, List, length}
 use Rattle.grid_core.specs.Extent.{Extent}
 use Rattle.grid_core.specs.Planes.{Layers, has, cells_of, back_at}
+use Rattle.engine_core.specs.Needs.{needs_in}
+use Rattle.engine_core.specs.declared.needs.Needs.{Needs as Counted}
 use Rattle.engine_core.specs.RuleSystem.{RuleSystem, Needs, needs_of, FitsIn}
 use Rattle.engine_core.specs.Position.{Standing}
 use Rattle.engine_core.specs.TrailPosition.{mark_at, AreMarks}
-use Rattle.fields_core.specs.AnyPlanes.{kept_in, layers_in, places_of, AreEnough, IsBoard, IsSuited}
+use Rattle.fields_core.specs.AnyPlanes.{kept_in, layers_in, of_either, places_of, AreEnough, IsBoard, IsSuited}
 use Rattle.fields_core.specs.declared.planes.any.AnyPlanes.{AnyPlanes}
 
 -- what the memory was taken for, the planes with their trail, what is kept beside them, and the mark of each level: so many
@@ -28,11 +30,12 @@ IsSpare fits made None = Unit {0}
 IsSpare fits made (Some planes) = HasRoom fits made planes
 
 -- planes, and those to change for
-pub record ArePlanes {S L : Type 0} (fits : S ⊎ L → Needs → Type 0) (all_short : Needs → Type 0)
-    (made : Needs) (planes : AnyPlanes S L) (spare : Option (AnyPlanes S L)) : Type 0 where
-  pub room : HasRoom fits made planes
-  pub spare_room : IsSpare fits made spare
-  pub enough : AreEnough all_short made planes spare
+pub record ArePlanes {S L : Type 0} (short : S → Needs → Type 0) (long : L → Needs → Type 0)
+    (all_short : Needs → Type 0) (made : Counted) (planes : AnyPlanes S L)
+    (spare : Option (AnyPlanes S L)) : Type 0 where
+  pub room : HasRoom (of_either short long) (needs_in made) planes
+  pub spare_room : IsSpare (of_either short long) (needs_in made) spare
+  pub enough : AreEnough all_short (needs_in made) planes spare
 
 -- what a walk sees of it
 abbrev pub standing_by : Layers → List ℕ → ℕ → Standing

@@ -18,11 +18,6 @@ lacks_filling t b =
     nat_lt 0 t.empty
     || (nat_lt b.most b.least || (nat_lt t.may b.least || nat_lt b.most t.must))
 
--- something may be struck: there is no filling, or a bound is reached while some cell has both values
-abbrev pub has_strikes : Tally → Bounds → Bool
-has_strikes t b =
-    lacks_filling t b || (not (t.must == t.may) && ((t.may == b.least) || (t.must == b.most)))
-
 -- a value of a cell stays, unless there is no filling, or the cell has both values and the value's bound is reached
 abbrev pub stays : Tally → Bounds → Bool → ℕ → Bool
 stays t b both v =

@@ -3,7 +3,7 @@
 
 ghost use Rattle.std.specs.Prelude.{◌≡◌, ℕ, ◌+◌, ◌*◌, ◌<◌, ◌≤◌, ◌^◌, Bool, true, if◌then◌else◌, [], ◌∷◌, filter, length, map, slice_index};
 ghost use Rattle.std.specs.List.{range_with_len};
-ghost use Rattle.engine_core.specs.RuleSystem.{has_place};
+ghost use Rattle.engine_core.specs.RuleSystem.{has_place, IsNext};
 ghost use Rattle.grid_core.specs.Regions.{beside as beside_places, row_places, column_places};
 ghost use Rattle.fields_core.specs.CountHouse.{exactly, one_at_least, one_at_most};
 ghost use Rattle.fields_core.specs.Houses.{TestsBelow, house_told, places_of, segment_places};
@@ -149,12 +149,7 @@ impl House {
     pub(crate) fn has(&self, place: usize) -> bool
         ensures { result ≡ has_place (house_told self.now).places place }
     {
-        for k in 0..self.len() {
-            if self.place(k) == place {
-                return true;
-            }
-        }
-        false
+        next_passing(0, self.len(), |k| self.place(k) == place).is_some()
     }
 }
 
@@ -183,6 +178,24 @@ pub(crate) fn beside<F: Fn(usize) -> bool>(size: Size, place: usize, passes: F) 
         }
     }
     cells
+}
+
+/// The first number from `from` to the one before `end` that passes.
+pub(crate) fn next_passing<F: Fn(usize) -> bool>(
+    from: usize,
+    end: usize,
+    passes: F,
+) -> Option<usize>
+    requires { (n : ℕ) → n < end → F.pre passes n }
+    ensures { (test : ℕ → Bool) → TestsBelow (F.post passes) test end
+        → IsNext test end from result }
+{
+    for number in from..end {
+        if passes(number) {
+            return Some(number);
+        }
+    }
+    None
 }
 
 /// One if the place is there and passes, and else none.

@@ -36,7 +36,7 @@ pub(crate) fn longest_of<K: Copy>(names: &[HouseName<K>]) -> usize
 {
     let mut cells = 0;
     for k in 0..names.len() {
-        cells = cells.max(usize::from(names[k].cells));
+        cells = cells.max(names[k].cells);
     }
-    cells
+    usize::from(cells)
 }

@@ -10,7 +10,7 @@ ghost use Rattle.engine_core.specs.RuleSystem.{needs_of};
 ghost use Rattle.fields_core.specs.Houses.{house_told, AreNamed};
 
 use crate::count::game::CountGame;
-use crate::count::house::House;
+use crate::count::house::{House, next_passing};
 use crate::count::name::{HouseName, longest_of};
 use crate::count::tally::Tally;
 use engine_core::{Mode, Rules};
@@ -86,10 +86,9 @@ fn write_start<P: CountGame>(puzzle: &P, board: &mut Board)
 {
     board.fill();
     for place in 0..puzzle.cells() {
-        if !puzzle.is_blocked(place) {
-            continue;
+        if puzzle.is_blocked(place) {
+            board.strike(place, 1);
         }
-        board.strike(place, 1);
     }
 }
 
@@ -103,7 +102,7 @@ fn strike(house: &House, board: &mut Board) -> bool
     ensures changed { result ≡ true → HasStruck (has board.old) (has board.new) }
 {
     let tally = Tally::of(house, board);
-    if !tally.calls(house.bounds) {
+    if tally.kept(house.bounds, tally.must != tally.may) == 3 {
         return false;
     }
     let mut struck = false;
@@ -171,12 +170,7 @@ impl<P: CountGame> Rules for CountRules<P> {
 
     /// A sweep visits all houses: no closing asks for it.
     fn house_at(&self, place: usize, from: usize) -> Option<usize> {
-        for house in from..self.names.len() {
-            if self.house(house).has(place) {
-                return Some(house);
-            }
-        }
-        None
+        next_passing(from, self.names.len(), |house| self.house(house).has(place))
     }
 
     fn start(&self, board: &mut Board) {

@@ -6,7 +6,7 @@ ghost use Rattle.grid_core.specs.Board.{cells_of, has};
 ghost use Rattle.grid_core.specs.Words.{has_bit};
 ghost use Rattle.fields_core.specs.CountHouse.{IsHouse};
 ghost use Rattle.fields_core.specs.Houses.{house_told};
-ghost use Rattle.fields_core.specs.Tallies.{IsTally, lacks_filling, stays, has_strikes};
+ghost use Rattle.fields_core.specs.Tallies.{IsTally, stays};
 
 use crate::count::house::{Bounds, House};
 use grid_core::Board;
@@ -40,33 +40,17 @@ impl Tally {
         Tally { must, may, empty }
     }
 
-    /// Whether the cells have no filling within the bounds. No test is left out: which of them holds
-    /// can't be foreseen.
-    fn has_no_filling(self, bounds: Bounds) -> bool
-        ensures { result ≡ lacks_filling self bounds }
-    {
-        (self.empty > 0)
-            | (bounds.most < bounds.least)
-            | (self.may < bounds.least)
-            | (bounds.most < self.must)
-    }
-
     /// What a visit of a house with these bounds keeps of the set of a cell, as bits. Of a cell with both values a
     /// value goes whose bound is reached.
     pub(crate) fn kept(self, bounds: Bounds, both: bool) -> u32
         ensures { (v : ℕ) → v < 2 → has_bit result v ≡ stays self bounds both v }
     {
-        let fills = !self.has_no_filling(bounds);
-        let zero = fills & !(both & (self.may == bounds.least));
-        let one = fills & !(both & (self.must == bounds.most));
+        let lacks = (self.empty > 0)
+            | (bounds.most < bounds.least)
+            | (self.may < bounds.least)
+            | (bounds.most < self.must);
+        let zero = !lacks & !(both & (self.may == bounds.least));
+        let one = !lacks & !(both & (self.must == bounds.most));
         u32::from(zero) + 2 * u32::from(one)
-    }
-
-    /// Whether a visit of a house with these bounds may strike anything.
-    pub(crate) fn calls(self, bounds: Bounds) -> bool
-        ensures { result ≡ has_strikes self bounds }
-    {
-        self.has_no_filling(bounds)
-            | ((self.must != self.may) & ((self.may == bounds.least) | (self.must == bounds.most)))
     }
 }

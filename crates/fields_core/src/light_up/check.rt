@@ -1,14 +1,14 @@
 //! The check of a grid of Light Up.
 #![tactic(auto, using(crate::proofs::LawSets::light_check_laws))]
 
-ghost use Rattle.std.specs.Prelude.{◌≡◌, ◌<◌, ◌↔◌, not, None};
+ghost use Rattle.std.specs.Prelude.{◌≡◌, ◌<◌, ◌↔◌, None};
 ghost use Rattle.grid_core.specs.Grids.{IsGrid};
-ghost use Rattle.engine_core.specs.RuleSystem.{IsNext};
 ghost use Rattle.gameid_core.specs.Puzzles.{IsLight};
 ghost use Rattle.fields_core.specs.Light.{light_cells, black_right, number_right, bulb_right, lit_right};
 ghost use Rattle.fields_core.specs.LightFaults.{IsLightFault};
 ghost use Rattle.fields_core.specs.LightSolutions.{IsLightSolution};
 
+use crate::count::house::next_passing;
 use crate::light_up::cells::{cells, is_white};
 use crate::light_up::fault::LightFault;
 use crate::light_up::sight::{count_beside, sees_a_bulb};
@@ -40,20 +40,6 @@ fn is_number_right(puzzle: &LightPuzzle, grid: &Grid, place: usize) -> bool
     }
 }
 
-/// The first cell with a number that is not that of the bulbs beside it.
-fn find_wrong_number(puzzle: &LightPuzzle, grid: &Grid) -> Option<usize>
-    requires { IsGrid (light_cells puzzle.now) 2 grid.now }
-    ensures { IsNext (λ c. not (number_right puzzle.now grid.now c))
-        (light_cells puzzle.now) 0 result }
-{
-    for place in 0..cells(puzzle) {
-        if !is_number_right(puzzle, grid, place) {
-            return Some(place);
-        }
-    }
-    None
-}
-
 /// Whether the cell's bulb, if it has one, sees no other.
 #[tactic(auto, using(crate::proofs::LawSets::light_check_laws), unfolding(crate::specs::Light::bulb_right))]
 fn is_bulb_right(puzzle: &LightPuzzle, grid: &Grid, place: usize) -> bool
@@ -79,23 +65,18 @@ pub(crate) fn find_fault(puzzle: &LightPuzzle, grid: &Grid) -> Option<LightFault
     requires { IsGrid (light_cells puzzle.now) 2 grid.now }
     ensures { IsLightFault puzzle.now grid.now result }
 {
-    for place in 0..cells(puzzle) {
-        if !is_black_right(puzzle, grid, place) {
-            return Some(LightFault::Black(place));
-        }
+    let end = cells(puzzle);
+    if let Some(place) = next_passing(0, end, |place| !is_black_right(puzzle, grid, place)) {
+        return Some(LightFault::Black(place));
     }
-    if let Some(place) = find_wrong_number(puzzle, grid) {
+    if let Some(place) = next_passing(0, end, |place| !is_number_right(puzzle, grid, place)) {
         return Some(LightFault::Number(place));
     }
-    for place in 0..cells(puzzle) {
-        if !is_bulb_right(puzzle, grid, place) {
-            return Some(LightFault::Seen(place));
-        }
+    if let Some(place) = next_passing(0, end, |place| !is_bulb_right(puzzle, grid, place)) {
+        return Some(LightFault::Seen(place));
     }
-    for place in 0..cells(puzzle) {
-        if !is_lit_right(puzzle, grid, place) {
-            return Some(LightFault::Dark(place));
-        }
+    if let Some(place) = next_passing(0, end, |place| !is_lit_right(puzzle, grid, place)) {
+        return Some(LightFault::Dark(place));
     }
     None
 }

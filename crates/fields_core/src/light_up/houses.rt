@@ -1,12 +1,12 @@
 //! The names of the houses of Light Up.
 #![tactic(auto)]
 
-ghost use Rattle.std.specs.Prelude.{◌≡◌, ◌+◌, ◌*◌, ◌<◌, IfOk, OnOk};
+ghost use Rattle.std.specs.Prelude.{◌≡◌, ◌+◌, ◌*◌, ◌<◌, true, IfOk, OnOk};
 ghost use Rattle.fields_core.specs.CountHouse.{houses_below};
 ghost use Rattle.fields_core.specs.Houses.{AreAdded, AreNamed};
 ghost use Rattle.fields_core.specs.Light.{light_cells};
-ghost use Rattle.fields_core.specs.LightHouses.{light_house, light_houses, lit_house, number_house};
-ghost use Rattle.fields_core.specs.LightRuns.{run_house};
+ghost use Rattle.fields_core.specs.LightHouses.{column_house, light_house, light_houses, lit_house, number_house, row_house};
+ghost use Rattle.fields_core.specs.LightRuns.{house_along, whites_of, IsAround, IsLatest};
 ghost use Rattle.gameid_core.specs.Puzzles.{IsLight};
 
 use crate::count::house::count_passing;
@@ -17,50 +17,65 @@ use crate::light_up::told::LightHouse;
 use gameid_core::{LightCell, LightPuzzle};
 use std::alloc::{AllocError, Global};
 
+/// Names of houses, one after another.
+type LightNames = Vec<HouseName<LightHouse>>;
+
 /// Adds the house of a cell with a number.
-fn push_number(
-    names: &mut Vec<HouseName<LightHouse>>,
-    puzzle: &LightPuzzle,
-    x: usize,
-    y: usize,
-) -> Result<(), AllocError>
-    requires x_in { x < puzzle.now.size.w }
-    requires y_in { y < puzzle.now.size.h }
+fn push_number(names: &mut LightNames, puzzle: &LightPuzzle, place: usize) -> Result<(), AllocError>
+    requires { place < light_cells puzzle.now }
     ensures { OnOk result (AreAdded (light_house puzzle.now) names.old.items names.new.items
-        (number_house puzzle.now (y * puzzle.now.size.w + x))) }
+        (number_house puzzle.now place)) }
 {
-    let place = y * columns(puzzle) + x;
     if let LightCell::Numbered(_) = puzzle.cell(place) {
-        let cells = count_passing(puzzle.size(), x, y, |other| is_white(puzzle, other));
+        let w = columns(puzzle);
+        let passes = |other| is_white(puzzle, other);
+        let cells = count_passing(puzzle.size(), place % w, place / w, passes);
         names.push(HouseName::of(LightHouse::Number, place, cells))?;
     }
     Ok(())
 }
 
-/// Adds the house of the run that begins at the cell of number `at` along a line, if one does.
+/// Adds the house of the run that begins at the white cell of number `at` along a line, unless the latest run reaches it.
+/// Gives the run that the cell is in.
 fn push_run(
-    names: &mut Vec<HouseName<LightHouse>>,
+    names: &mut LightNames,
     line: &WhiteLine<'_>,
     kind: LightHouse,
+    latest: (usize, usize),
     at: usize,
-) -> Result<(), AllocError>
+) -> Result<(usize, usize), AllocError>
     requires at_in { at < line.now.len }
+    requires white { whites_of line.now at ≡ true }
+    requires latest { IsLatest (whites_of line.now) line.now.len at latest }
     requires told { light_house line.now.puzzle.now kind (line.now.first + at * line.now.stride)
-        ≡ run_house line.now.puzzle.now line.now.first line.now.stride line.now.len at }
-    ensures { OnOk result (AreAdded (light_house line.now.puzzle.now)
-        names.old.items names.new.items
-        (run_house line.now.puzzle.now line.now.first line.now.stride line.now.len at)) }
+        ≡ house_along line.now at }
+    ensures run { IfOk result
+        (λ run. IsAround (whites_of line.now) line.now.len at run.0 run.1) }
+    ensures added { OnOk result (AreAdded (light_house line.now.puzzle.now)
+        names.old.items names.new.items (house_along line.now at)) }
 {
-    if line.begins(at) {
-        let end = line.run_end(at);
-        names.push(HouseName::of(kind, line.place(at), end - at))?;
+    if at < latest.1 {
+        return Ok(latest);
     }
-    Ok(())
+    let end = line.run_end(at);
+    names.push(HouseName::of(kind, line.place(at), end - at))?;
+    Ok((at, end))
 }
 
-/// Adds the houses of the white cells, by place: of each the cell and the cells that it sees.
-fn push_lits(names: &mut Vec<HouseName<LightHouse>>, puzzle: &LightPuzzle) -> Result<(), AllocError>
-    ensures { OnOk result (AreAdded (light_house puzzle.now) names.old.items names.new.items
+/// Adds the houses of runs along rows and along columns, and of each white cell that cell and the cells that it sees, all by
+/// place.
+fn push_whites(
+    along_rows: &mut LightNames,
+    along_columns: &mut LightNames,
+    lits: &mut LightNames,
+    puzzle: &LightPuzzle,
+) -> Result<(), AllocError>
+    ensures rows { OnOk result (AreAdded (light_house puzzle.now) along_rows.old.items
+        along_rows.new.items (houses_below (row_house puzzle.now) (light_cells puzzle.now))) }
+    ensures columns { OnOk result (AreAdded (light_house puzzle.now) along_columns.old.items
+        along_columns.new.items
+        (houses_below (column_house puzzle.now) (light_cells puzzle.now))) }
+    ensures lits { OnOk result (AreAdded (light_house puzzle.now) lits.old.items lits.new.items
         (houses_below (lit_house puzzle.now) (light_cells puzzle.now))) }
 {
     let (w, h) = (columns(puzzle), rows(puzzle));
@@ -73,11 +88,13 @@ fn push_lits(names: &mut Vec<HouseName<LightHouse>>, puzzle: &LightPuzzle) -> Re
             if !is_white(puzzle, place) {
                 continue;
             }
-            row = line.run_after(row, x);
-            let (top, end) = WhiteLine::column(puzzle, x).run_after(columns[x], y);
+            row = push_run(along_rows, &line, LightHouse::Row, row, x)?;
+            let column = WhiteLine::column(puzzle, x);
+            let kind = LightHouse::Column;
+            let (top, end) = push_run(along_columns, &column, kind, columns[x], y)?;
             columns[x] = (top, end);
             let cells = row.1 - row.0 + (end - top - 1);
-            names.push(HouseName::of(LightHouse::Lit, place, cells))?;
+            lits.push(HouseName::of(LightHouse::Lit, place, cells))?;
         }
     }
     Ok(())
@@ -85,33 +102,19 @@ fn push_lits(names: &mut Vec<HouseName<LightHouse>>, puzzle: &LightPuzzle) -> Re
 
 /// The names of the houses of numbers, of runs in rows, of runs in columns and of white cells, each by place.
 #[tactic(auto, using(crate::proofs::LawSets::house_list_laws))]
-pub(crate) fn names_of_lights(
-    alloc: Global,
-    puzzle: &LightPuzzle,
-) -> Result<Vec<HouseName<LightHouse>>, AllocError>
+pub(crate) fn names_of_lights(alloc: Global, puzzle: &LightPuzzle) -> Result<LightNames, AllocError>
     ensures lawful { IsLight puzzle.now }
     ensures named { IfOk result
         (λ names. AreNamed (light_house puzzle.now) names.items (light_houses puzzle.now)) }
 {
     let mut names = Vec::with_capacity(alloc, cells(puzzle).saturating_mul(2))?;
-    let (w, h) = (columns(puzzle), rows(puzzle));
-    for y in 0..h {
-        for x in 0..w {
-            push_number(&mut names, puzzle, x, y)?;
-        }
+    let mut columns = Vec::with_capacity(alloc, cells(puzzle))?;
+    let mut lits = Vec::with_capacity(alloc, cells(puzzle))?;
+    for place in 0..cells(puzzle) {
+        push_number(&mut names, puzzle, place)?;
     }
-    for y in 0..h {
-        let row = WhiteLine::row(puzzle, y);
-        for x in 0..w {
-            push_run(&mut names, &row, LightHouse::Row, x)?;
-        }
-    }
-    for y in 0..h {
-        for x in 0..w {
-            let column = WhiteLine::column(puzzle, x);
-            push_run(&mut names, &column, LightHouse::Column, y)?;
-        }
-    }
-    push_lits(&mut names, puzzle)?;
+    push_whites(&mut names, &mut columns, &mut lits, puzzle)?;
+    names.extend_from_slice(&columns)?;
+    names.extend_from_slice(&lits)?;
     Ok(names)
 }

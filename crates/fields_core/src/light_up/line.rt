@@ -2,10 +2,7 @@
 #![tactic(auto, using(crate::proofs::LawSets::light_line_laws))]
 
 ghost use Rattle.std.specs.Prelude.{◌≡◌, ℕ, ◌+◌, ◌*◌, ◌<◌, ◌≤◌, ◌^◌, true};
-ghost use Rattle.fields_core.specs.Houses.{segment_places};
 ghost use Rattle.fields_core.specs.Light.{light_cells};
-ghost use Rattle.fields_core.specs.LightRuns.{begins_at, line_cells, line_white, IsAround, IsLatest};
-ghost use Rattle.fields_core.specs.Runs.{RunsBack, RunsOn};
 
 use crate::count::house::Segment;
 use crate::light_up::cells::{columns, is_white, rows};
@@ -25,13 +22,14 @@ pub(crate) struct WhiteLine<'a> {
 }
 
 impl<'a> WhiteLine<'a> {
+    ghost use Rattle.fields_core.specs.Houses.{segment_places};
+    ghost use Rattle.fields_core.specs.LightRuns.{line_cells, whites_of, IsAround, IsLine};
+    ghost use Rattle.fields_core.specs.Runs.{RunsBack, RunsOn};
+
     /// The row of that number.
     pub(crate) fn row(puzzle: &'a LightPuzzle, y: usize) -> WhiteLine<'a>
         requires { y < puzzle.now.size.h }
-        ensures puzzle { result.puzzle.now ≡ puzzle.now }
-        ensures first { result.first ≡ y * puzzle.now.size.w }
-        ensures stride { result.stride ≡ 1 }
-        ensures len { result.len ≡ puzzle.now.size.w }
+        ensures { IsLine puzzle.now (y * puzzle.now.size.w) 1 puzzle.now.size.w result }
     {
         let len = columns(puzzle);
         WhiteLine {
@@ -45,10 +43,7 @@ impl<'a> WhiteLine<'a> {
     /// The column of that number.
     pub(crate) fn column(puzzle: &'a LightPuzzle, x: usize) -> WhiteLine<'a>
         requires { x < puzzle.now.size.w }
-        ensures puzzle { result.puzzle.now ≡ puzzle.now }
-        ensures first { result.first ≡ x }
-        ensures stride { result.stride ≡ puzzle.now.size.w }
-        ensures len { result.len ≡ puzzle.now.size.h }
+        ensures { IsLine puzzle.now x puzzle.now.size.w puzzle.now.size.h result }
     {
         WhiteLine {
             puzzle,
@@ -70,26 +65,15 @@ impl<'a> WhiteLine<'a> {
     /// Whether that cell is white.
     pub(crate) fn is_white(&self, at: usize) -> bool
         requires { at < self.now.len }
-        ensures { result ≡ line_white self.now.puzzle.now self.now.first self.now.stride at }
+        ensures { result ≡ whites_of self.now at }
     {
         is_white(self.puzzle, self.place(at))
-    }
-
-    /// Whether a run of white cells begins there.
-    pub(crate) fn begins(&self, at: usize) -> bool
-        requires { at < self.now.len }
-        ensures { result ≡ begins_at self.now.puzzle.now self.now.first self.now.stride at }
-    {
-        let place = self.place(at);
-        let before = place.saturating_sub(self.stride);
-        is_white(self.puzzle, place) && (at == 0 || !is_white(self.puzzle, before))
     }
 
     /// Where the run of white cells begins that a white cell is in.
     fn run_begin(&self, at: usize) -> usize
         requires { at < self.now.len }
-        ensures { RunsBack (line_white self.now.puzzle.now self.now.first self.now.stride)
-            at result }
+        ensures { RunsBack (whites_of self.now) at result }
     {
         for back in 0..at {
             if !self.is_white(at - back - 1) {
@@ -102,8 +86,7 @@ impl<'a> WhiteLine<'a> {
     /// Where it ends: the number after that of its last cell.
     pub(crate) fn run_end(&self, at: usize) -> usize
         requires { at < self.now.len }
-        ensures { RunsOn (line_white self.now.puzzle.now self.now.first self.now.stride)
-            self.now.len at result }
+        ensures { RunsOn (whites_of self.now) self.now.len at result }
     {
         for after in at + 1..self.len {
             if !self.is_white(after) {
@@ -116,26 +99,10 @@ impl<'a> WhiteLine<'a> {
     /// Where it begins and where it ends.
     pub(crate) fn run(&self, at: usize) -> (usize, usize)
         requires at_in { at < self.now.len }
-        requires white { line_white self.now.puzzle.now self.now.first self.now.stride at ≡ true }
-        ensures { IsAround (line_white self.now.puzzle.now self.now.first self.now.stride)
-            self.now.len at result.0 result.1 }
+        requires white { whites_of self.now at ≡ true }
+        ensures { IsAround (whites_of self.now) self.now.len at result.0 result.1 }
     {
         (self.run_begin(at), self.run_end(at))
-    }
-
-    /// The same, if the latest run before that cell is known: it is that one, if that reaches the cell.
-    pub(crate) fn run_after(&self, latest: (usize, usize), at: usize) -> (usize, usize)
-        requires at_in { at < self.now.len }
-        requires white { line_white self.now.puzzle.now self.now.first self.now.stride at ≡ true }
-        requires latest { IsLatest (line_white self.now.puzzle.now self.now.first self.now.stride)
-            self.now.len at latest }
-        ensures { IsAround (line_white self.now.puzzle.now self.now.first self.now.stride)
-            self.now.len at result.0 result.1 }
-    {
-        if at < latest.1 {
-            return latest;
-        }
-        (at, self.run_end(at))
     }
 
     /// Its cells from one number to the one before another.

@@ -4,7 +4,7 @@
 ghost use Rattle.std.specs.Prelude.{◌≡◌, ◌+◌, ◌*◌, ◌<◌, true};
 ghost use Rattle.grid_core.specs.Grids.{IsGrid};
 ghost use Rattle.fields_core.specs.Light.{bulb, bulbs_beside, light_cells, sees_bulb};
-ghost use Rattle.fields_core.specs.LightRuns.{line_white};
+ghost use Rattle.fields_core.specs.LightRuns.{whites_of};
 ghost use Rattle.fields_core.specs.Runs.{ShinesAlong};
 
 use crate::count::house::count_passing;
@@ -17,8 +17,8 @@ use grid_core::Grid;
 fn sees_along(line: &WhiteLine<'_>, grid: &Grid, at: usize) -> bool
     requires fits { IsGrid (light_cells line.now.puzzle.now) 2 grid.now }
     requires at_in { at < line.now.len }
-    requires white { line_white line.now.puzzle.now line.now.first line.now.stride at ≡ true }
-    ensures { ShinesAlong (line_white line.now.puzzle.now line.now.first line.now.stride)
+    requires white { whites_of line.now at ≡ true }
+    ensures { ShinesAlong (whites_of line.now)
         (λ i. bulb grid.now (line.now.first + i * line.now.stride)) at line.now.len result }
 {
     let (start, end) = line.run(at);

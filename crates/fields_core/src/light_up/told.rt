@@ -5,7 +5,7 @@ ghost use Rattle.std.specs.Prelude.{◌≡◌, ◌+◌, ◌*◌, ◌<◌, [], �
 ghost use Rattle.fields_core.specs.Houses.{house_told};
 ghost use Rattle.fields_core.specs.Light.{white};
 ghost use Rattle.fields_core.specs.LightHouses.{light_house, lit_house, number_house};
-ghost use Rattle.fields_core.specs.LightRuns.{run_house};
+ghost use Rattle.fields_core.specs.LightRuns.{house_along};
 
 use crate::count::house::{House, Segment, beside};
 use crate::light_up::cells::{columns, is_white};
@@ -44,10 +44,8 @@ fn number_told(puzzle: &LightPuzzle, place: usize) -> House
 /// The house of the run that begins at the cell of number `at` along a line.
 fn run_told(line: &WhiteLine<'_>, at: usize) -> House
     requires at_in { at < line.now.len }
-    requires begins { length (run_house line.now.puzzle.now line.now.first line.now.stride
-        line.now.len at) ≡ 1 }
-    ensures { run_house line.now.puzzle.now line.now.first line.now.stride line.now.len at
-        ≡ house_told result ∷ [] }
+    requires begins { length (house_along line.now at) ≡ 1 }
+    ensures { house_along line.now at ≡ house_told result ∷ [] }
 {
     House::one_at_most(line.segment(at, line.run_end(at)).alone())
 }

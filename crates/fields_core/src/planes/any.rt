@@ -1,11 +1,8 @@
 //! Planes of words of either length.
 #![tactic(auto)]
 
-ghost use Rattle.std.specs.Prelude.{◌≡◌, ◌*◌, ◌<◌, ◌≤◌, IfOk, length, true, None};
-ghost use Rattle.grid_core.specs.Candidates.{count_below, grid_of, is_full, only, pick};
-ghost use Rattle.grid_core.specs.Extent.{IsExtent};
-ghost use Rattle.grid_core.specs.Planes.{has, cells_of, back_at, IsBack, IsFurther};
-ghost use Rattle.fields_core.specs.AnyPlanes.{kept_in, layers_in, of_either, places_of, IsSuited};
+ghost use Rattle.std.specs.Prelude.{◌≡◌, ◌*◌, IfOk, length};
+ghost use Rattle.fields_core.specs.AnyPlanes.{kept_in, places_of, IsSuited};
 ghost use Rattle.engine_core.specs.Needs.{needs_in};
 ghost use Rattle.engine_core.specs.RuleSystem.{needs_of, FitsIn};
 ghost use Rattle.fields_core.specs.CountHouse.{rules_of};
@@ -13,7 +10,7 @@ ghost use Rattle.fields_core.specs.PlanePosition.{ArePlanes};
 
 use crate::planes::game::{PlaneGame, PlaneNotes};
 use engine_core::Needs;
-use grid_core::{Grid, Planes, Size, Word};
+use grid_core::{Planes, Word};
 use std::alloc::{AllocError, Global};
 use std::mem::swap;
 
@@ -71,8 +68,8 @@ pub(crate) fn planes_for<G: PlaneGame>(
     made: Needs,
 ) -> Result<(PlanesOf<G>, Option<PlanesOf<G>>), AllocError>
     requires { needs_in made ≡ needs_of (rules_of (G.counts puzzle.now)) }
-    ensures { IfOk result (λ both. ArePlanes (of_either G.Short.fits G.Long.fits) G.all_short
-        (needs_in made) both.0 both.1) }
+    ensures { IfOk result (λ both.
+        ArePlanes G.Short.fits G.Long.fits G.all_short made both.0 both.1) }
 {
     let size = puzzle.size();
     if size.w() > 64 || size.h() > 64 {
@@ -96,11 +93,9 @@ pub(crate) fn choose<G: PlaneGame>(
     made: Needs,
 )
     requires fits { FitsIn (needs_of (rules_of (G.counts puzzle.now))) (needs_in made) }
-    requires planes { ArePlanes (of_either G.Short.fits G.Long.fits) G.all_short (needs_in made)
-        planes.old spare.old }
+    requires planes { ArePlanes G.Short.fits G.Long.fits G.all_short made planes.old spare.old }
     ensures suited { IsSuited (G.extent puzzle.now) (places_of (kept_in planes.new)) }
-    ensures planes { ArePlanes (of_either G.Short.fits G.Long.fits) G.all_short (needs_in made)
-        planes.new spare.new }
+    ensures planes { ArePlanes G.Short.fits G.Long.fits G.all_short made planes.new spare.new }
 {
     let size = puzzle.size();
     if let AnyPlanes::Short(_field) = &*planes
@@ -108,81 +103,6 @@ pub(crate) fn choose<G: PlaneGame>(
         && let Some(other) = spare
     {
         swap(planes, other);
-    }
-}
-
-impl<S, L> AnyPlanes<S, L> {
-    /// How many steps can be taken back.
-    pub(crate) fn room(&self) -> usize
-        ensures { result ≡ length (layers_in self.now).takings }
-    {
-        at_field!(self, field => field.planes.room())
-    }
-
-    /// The size of the grid.
-    pub(crate) fn size(&self) -> Size
-        ensures value { result ≡ (layers_in self.now).size }
-        ensures lawful { IsExtent result }
-    {
-        at_field!(self, field => field.planes.size())
-    }
-
-    /// Whether the cell can have the value.
-    pub(crate) fn has(&self, place: usize, value: u8) -> bool
-        requires place_in { place < cells_of (layers_in self.now) }
-        requires value_in { value < 2 }
-        ensures { result ≡ has (layers_in self.now) place value }
-    {
-        at_field!(self, field => field.planes.has(place, value))
-    }
-
-    /// The cell to branch on, where no cell above the row `from` is one.
-    pub(crate) fn pick(&self, from: u8) -> Option<usize>
-        requires from_in { from ≤ (layers_in self.now).size.h }
-        requires none { pick (from * (layers_in self.now).size.w) 2 (has (layers_in self.now))
-            ≡ None }
-        ensures { result ≡ pick (cells_of (layers_in self.now)) 2 (has (layers_in self.now)) }
-    {
-        at_field!(self, field => field.planes.pick(from))
-    }
-
-    /// Leaves that value alone in a cell that can have both.
-    pub(crate) fn assign(&mut self, place: usize, value: u8)
-        requires place_in { place < cells_of (layers_in self.old) }
-        requires value_in { value < 2 }
-        requires several { 2 ≤ count_below (has (layers_in self.old) place) 2 }
-        ensures left { has (layers_in self.new) ≡ only (has (layers_in self.old)) place value }
-        ensures further { IsFurther (layers_in self.old) (layers_in self.new) }
-        ensures kept { kept_in self.new ≡ kept_in self.old }
-    {
-        at_field!(self, field => field.planes.assign(place, value))
-    }
-
-    /// How long the trail is.
-    pub(crate) fn len(&self) -> usize
-        ensures len { result ≡ (layers_in self.now).len }
-        ensures here { back_at (layers_in self.now) result ≡ has (layers_in self.now) }
-    {
-        at_field!(self, field => field.planes.len())
-    }
-
-    /// Takes the board back to when the trail had that length.
-    pub(crate) fn undo(&mut self, len: usize)
-        requires { len ≤ (layers_in self.old).len }
-        ensures back { IsBack (layers_in self.old) (layers_in self.new) len }
-        ensures kept { kept_in self.new ≡ kept_in self.old }
-    {
-        at_field!(self, field => field.planes.undo(len))
-    }
-
-    /// Writes each cell's only value.
-    pub(crate) fn write_grid(&self, grid: &mut Grid)
-        requires full { is_full (cells_of (layers_in self.now)) 2 (has (layers_in self.now))
-            ≡ true }
-        requires long { length grid.old ≡ cells_of (layers_in self.now) }
-        ensures { grid.new ≡ grid_of (cells_of (layers_in self.now)) 2 (has (layers_in self.now)) }
-    {
-        at_field!(self, field => field.planes.write_grid(grid))
     }
 }
 

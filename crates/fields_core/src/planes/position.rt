@@ -39,7 +39,7 @@ impl<P: PlaneGame> Drop for PlanePosition<P> {
 impl<P: PlaneGame> Model for PlanePosition<P> {
     ghost use Rattle.std.specs.Prelude.{◌≡◌, length};
     ghost use Rattle.engine_core.specs.Needs.{needs_in};
-    ghost use Rattle.fields_core.specs.AnyPlanes.{kept_in, layers_in, of_either};
+    ghost use Rattle.fields_core.specs.AnyPlanes.{kept_in, layers_in};
     ghost use Rattle.fields_core.specs.PlanePosition.{ArePlanes, PlacedPlanes};
 
     ghost Value = { PlacedPlanes P.Short P.Long };
@@ -53,7 +53,7 @@ impl<P: PlaneGame> Model for PlanePosition<P> {
     } };
 
     ghost invariant = { λ s. (length s.marks.items ≡ (needs_in s.made).cells)
-        × ArePlanes (of_either P.Short.fits P.Long.fits) P.all_short (needs_in s.made) s.planes s.spare
+        × ArePlanes P.Short.fits P.Long.fits P.all_short s.made s.planes s.spare
         × P.serves s.scratch (needs_in s.made).cells };
 }
 
@@ -89,7 +89,7 @@ impl<P: PlaneGame> Position for PlanePosition<P> {
     }
 
     fn changes(&self) -> usize {
-        self.planes.room()
+        at_field!(&self.planes, field => field.planes.room())
     }
 
     fn values(&self, _rules: &CountRules<P>) -> u8 {
@@ -109,13 +109,15 @@ impl<P: PlaneGame> Position for PlanePosition<P> {
     }
 
     fn pick(&self, _rules: &CountRules<P>, from: usize) -> Option<usize> {
-        let w = usize::from(self.planes.size().w());
-        self.planes.pick((from / w) as u8)
+        at_field!(&self.planes, field => {
+            let w = usize::from(field.planes.size().w());
+            field.planes.pick((from / w) as u8)
+        })
     }
 
     fn next_value(&self, _rules: &CountRules<P>, cell: usize, from: u8) -> Option<u8> {
         for value in from..2 {
-            if self.planes.has(cell, value) {
+            if at_field!(&self.planes, field => field.planes.has(cell, value)) {
                 return Some(value);
             }
         }
@@ -123,21 +125,22 @@ impl<P: PlaneGame> Position for PlanePosition<P> {
     }
 
     fn leave(&mut self, _rules: &CountRules<P>, cell: usize, value: u8) {
-        self.planes.assign(cell, value);
+        at_field!(&mut self.planes, field => field.planes.assign(cell, value));
     }
 
     fn checkpoint(&mut self, _rules: &CountRules<P>, level: usize) {
-        self.marks[level] = self.planes.len();
+        self.marks[level] = at_field!(&self.planes, field => field.planes.len());
         self.marked = level + 1;
     }
 
     fn undo(&mut self, _rules: &CountRules<P>, level: usize) {
-        self.planes.undo(self.marks[level]);
+        let mark = self.marks[level];
+        at_field!(&mut self.planes, field => field.planes.undo(mark));
         self.marked = level + 1;
     }
 
     fn accept(&mut self, rules: &CountRules<P>, grid: &mut Grid) -> bool {
-        self.planes.write_grid(grid);
+        at_field!(&self.planes, field => field.planes.write_grid(grid));
         rules
             .puzzle()
             .completes(rules.names(), &mut self.scratch, grid)

@@ -48,43 +48,50 @@ pub struct Waits<W> {
 }
 
 impl<W: Word> Waits<W> {
+    /// At these lines all kinds wait.
+    fn at(lines: W) -> Waits<W>
+        ensures { (kind : Kind) → waiting W.bits result kind ≡ W.bits lines }
+    {
+        Waits {
+            columns: lines,
+            rows: lines,
+            trees: lines,
+            squares: lines,
+        }
+    }
+
     /// Everything waits.
     pub(crate) fn all() -> Waits<W>
         ensures { (p : Tents) (K : Candidates) → p.size.w ≤ W.room → p.size.h ≤ W.room
             → AreRested W.bits p result K }
     {
-        let all = W::all(W::places());
-        Waits {
-            columns: all,
-            rows: all,
-            trees: all,
-            squares: all,
-        }
+        Waits::at(W::all(W::places()))
     }
 
-    /// What waits where a closing begins: what has the cell `from`, or all where none is named.
+    /// What waits where a closing begins: what a value counts for that the cell `from` has lost, or all where none is named.
     pub(crate) fn new(planes: &Planes<W>, puzzle: &TentsPuzzle, from: Option<usize>) -> Waits<W>
+        requires lawful { IsTents puzzle.now }
         requires size { planes.now.size ≡ puzzle.now.size }
         requires closed_but { IsClosedBut (tent_rules puzzle.now) (has planes.now) from }
         ensures { AreRested W.bits puzzle.now result (has planes.now) }
     {
         let w = usize::from(planes.size().w());
-        match from {
-            None => Waits::all(),
-            Some(place) => {
-                let none = Waits {
-                    columns: W::none(),
-                    rows: W::none(),
-                    trees: W::none(),
-                    squares: W::none(),
-                };
-                let own = Touched {
-                    columns: W::one(place % w),
-                    rows: W::one(place / w),
-                };
-                none.woken(own, own)
-            }
+        let Some(place) = from else {
+            return Waits::all();
+        };
+        let none = W::none();
+        let no_lines = Touched {
+            columns: none,
+            rows: none,
+        };
+        let lines = Touched {
+            columns: W::one(place % w),
+            rows: W::one(place / w),
+        };
+        if planes.has(place, 1) {
+            return Waits::at(none).woken(lines, no_lines);
         }
+        Waits::at(none).woken(no_lines, lines)
     }
 
     /// What waits too once cells of these lines have lost 0, and cells of those 1: each line that has one, trees beside which

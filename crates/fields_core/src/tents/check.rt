@@ -1,15 +1,15 @@
 //! The check of a grid of Tents.
 #![tactic(auto, using(crate::proofs::LawSets::tent_check_laws))]
 
-ghost use Rattle.std.specs.Prelude.{◌≡◌, ℕ, ◌<◌, ◌==◌, ◌↔◌, IfOk, None, count_by, length, slice_index};
+ghost use Rattle.std.specs.Prelude.{◌≡◌, ℕ, ◌<◌, ◌↔◌, IfOk, None, count_by, length, slice_index};
 ghost use Rattle.grid_core.specs.Grids.{IsGrid};
 ghost use Rattle.fields_core.specs.Houses.{segment_places};
 ghost use Rattle.fields_core.specs.TentFaults.{IsTentFault};
 ghost use Rattle.fields_core.specs.PairingScratches.{HasRoom};
 ghost use Rattle.fields_core.specs.TentSolutions.{IsTentSolution};
-ghost use Rattle.fields_core.specs.Tents.{tent_cells, tent, tree_right, touch_right};
+ghost use Rattle.fields_core.specs.Tents.{tent_cells, tent, tree_right, touch_right, column_right, row_right};
 
-use crate::count::house::Segment;
+use crate::count::house::{Segment, next_passing};
 use crate::tents::cells::{cells, column_number, columns, is_tree, row_number, rows};
 use crate::tents::fault::TentFault;
 use crate::tents::pairs::{PairingScratch, are_paired};
@@ -54,17 +54,27 @@ fn count_tents(grid: &Grid, run: Segment) -> usize
     tents
 }
 
-/// Whether as many tents stand in the run as the number says.
-fn has_tents(grid: &Grid, run: Segment, number: u8) -> bool
-    requires { (k : ℕ) → k < length (segment_places run)
-        → slice_index (segment_places run) k < length grid.now }
-    ensures { result ≡ (count_by (tent grid.now) (segment_places run) == number) }
+/// Whether the column has as many tents as its number says.
+#[tactic(auto, using(crate::proofs::LawSets::tent_check_laws), unfolding(crate::specs::Tents::column_right))]
+fn is_column_right(puzzle: &TentsPuzzle, grid: &Grid, x: usize) -> bool
+    requires fits { IsGrid (tent_cells puzzle.now) 2 grid.now }
+    requires x_in { x < puzzle.now.size.w }
+    ensures { result ≡ column_right puzzle.now grid.now x }
 {
-    count_tents(grid, run) == usize::from(number)
+    count_tents(grid, Segment::column(puzzle.size(), x)) == usize::from(column_number(puzzle, x))
+}
+
+/// Whether the row has as many tents as its number says.
+#[tactic(auto, using(crate::proofs::LawSets::tent_check_laws), unfolding(crate::specs::Tents::row_right))]
+fn is_row_right(puzzle: &TentsPuzzle, grid: &Grid, y: usize) -> bool
+    requires fits { IsGrid (tent_cells puzzle.now) 2 grid.now }
+    requires y_in { y < puzzle.now.size.h }
+    ensures { result ≡ row_right puzzle.now grid.now y }
+{
+    count_tents(grid, Segment::row(puzzle.size(), y)) == usize::from(row_number(puzzle, y))
 }
 
 /// What is wrong with a grid of Tents.
-#[tactic(auto, using(crate::proofs::LawSets::tent_check_laws), unfolding(crate::specs::Tents::column_right, crate::specs::Tents::row_right))]
 pub(crate) fn find_fault(
     puzzle: &TentsPuzzle,
     grid: &Grid,
@@ -75,26 +85,18 @@ pub(crate) fn find_fault(
     ensures fault { IsTentFault puzzle.now grid.now result }
     ensures room { (n : ℕ) → HasRoom scratch.old n → HasRoom scratch.new n }
 {
-    let size = puzzle.size();
-    for place in 0..cells(puzzle) {
-        if !is_tree_right(puzzle, grid, place) {
-            return Some(TentFault::Tree(place));
-        }
+    let end = cells(puzzle);
+    if let Some(place) = next_passing(0, end, |place| !is_tree_right(puzzle, grid, place)) {
+        return Some(TentFault::Tree(place));
     }
-    for place in 0..cells(puzzle) {
-        if !is_touch_right(puzzle, grid, place) {
-            return Some(TentFault::Touch(place));
-        }
+    if let Some(place) = next_passing(0, end, |place| !is_touch_right(puzzle, grid, place)) {
+        return Some(TentFault::Touch(place));
     }
-    for x in 0..columns(puzzle) {
-        if !has_tents(grid, Segment::column(size, x), column_number(puzzle, x)) {
-            return Some(TentFault::Column(x));
-        }
+    if let Some(x) = next_passing(0, columns(puzzle), |x| !is_column_right(puzzle, grid, x)) {
+        return Some(TentFault::Column(x));
     }
-    for y in 0..rows(puzzle) {
-        if !has_tents(grid, Segment::row(size, y), row_number(puzzle, y)) {
-            return Some(TentFault::Row(y));
-        }
+    if let Some(y) = next_passing(0, rows(puzzle), |y| !is_row_right(puzzle, grid, y)) {
+        return Some(TentFault::Row(y));
     }
     if are_paired(puzzle, grid, scratch) {
         return None;

@@ -193,8 +193,8 @@ impl<W: Word> LightTables<W> {
         }
     }
 
-    /// Visits the house of a cell, if it is white: the cells of the runs of its row and of its column. If one of them alone can
-    /// have a bulb, 0 is taken from it. Says whether one can: if none can, nothing is taken.
+    /// Visits the house of a cell, if it is white: the cells of the run of its row, and the others of the run of its column.
+    /// Says whether the house has a filling: if not, nothing is taken.
     pub(crate) fn visit_lit(
         &self,
         planes: &mut Planes<W>,
@@ -210,27 +210,19 @@ impl<W: Word> LightTables<W> {
             planes.old planes.new result }
     {
         let place = usize::from(y) * columns(puzzle) + usize::from(x);
-        let row_run = self.row_runs[place];
-        let column_run = self.column_runs[place];
-        let row = planes.row(y, 1).both(row_run);
-        if !row_run.is_some() {
-            return true;
-        }
-        if has_two(row) {
-            return true;
-        }
-        let others = column_run.but(W::one(usize::from(y)));
-        let column = planes.column(x, 1).both(others);
-        if has_two(column) {
-            return true;
-        }
-        let in_row = row.is_some();
-        if in_row == column.is_some() {
-            return in_row;
-        }
-        planes.take(Line::Row(y), 0, row);
-        planes.take(Line::Column(x), 0, column);
-        true
+        let row = self.row_runs[place];
+        let others = self.column_runs[place].but(W::one(usize::from(y)));
+        let parts = (
+            Part {
+                line: Line::Row(y),
+                cells: row,
+            },
+            Part {
+                line: Line::Column(x),
+                cells: others,
+            },
+        );
+        !row.is_some() || visit(planes, &parts, 1, row.count() + others.count())
     }
 
     /// Visits the houses of some white cells of a row, up to one that has no filling: all others are idle. Those of a run are

@@ -1,4 +1,4 @@
-use Rattle.fields_core.proofs.Common.{ap₂, arith, has, sym, ◌&&◌, ◌∙◌, ◌<◌}
+use Rattle.fields_core.proofs.Common.{ap₂, arith, has, sym, ◌&&◌, ◌<◌}
 use Rattle.grid_core.specs.Board.{cells_of}
 use Rattle.engine_core.proofs.HouseLemmas.{kept-inside, striking-more}
 use Rattle.fields_core.proofs.HouseVisits.{cell-in, idle-stays, partly-all, partly-more}
@@ -20,17 +20,17 @@ has-requires-in-loop-k-clause-place_in c = inside (goal.at.has-requires-in-loop-
 pub retain-struck-requires : goal.retain-struck-requires
 retain-struck-requires c = inside (goal.at.retain-struck-requires c).After-place-place
 
-pub returns-then-not-calls-clause-left : goal.returns-then-not-calls-clause-left
-returns-then-not-calls-clause-left c =
-    idle-stays c.args.board.now c.requires.lawful c.requires.values c.of-tally.ensures (sym c.calls.ensures ∙ c.if-not-calls.true)
+pub returns-then-kept-eq3-clause-left : goal.returns-then-kept-eq3-clause-left
+returns-then-kept-eq3-clause-left c =
+    idle-stays c.args.board.now c.requires.lawful c.requires.values c.of-tally.ensures c.kept.result c.kept.ensures c.if-kept-eq3.true
 
 pub loop-k-preserved : goal.loop-k-preserved
 loop-k-preserved c =
     let i = c.loop-k.invariant in
     let e = c.retain-struck.ensures in
     record {
-      left = partly-more c.args.board.now c.requires.lawful c.requires.values c.of-tally.ensures c.kept.result i.left (omega (arith, c.loop-k-test.true, c.len-k-end.ensures))
-          c.place-place.ensures (ap₂ (λ a b. a && b) c.has.ensures c.has-in-loop-k.ensures) c.kept.ensures e.left;
+      left = partly-more c.args.board.now c.requires.lawful c.requires.values c.of-tally.ensures c.kept-in-loop-k.result i.left (omega (arith, c.loop-k-test.true, c.len-k-end.ensures))
+          c.place-place.ensures (ap₂ (λ a b. a && b) c.has.ensures c.has-in-loop-k.ensures) c.kept-in-loop-k.ensures e.left;
       striking = striking-more i.striking (kept-inside (has c.loop-k.board) (has c.retain-struck.new.self) _ _ e.left) e.same
           (λ on. let w = e.lost on in (_, w.0, w.1, w.2));
       shape = same-shape _ _ _ i.shape e.shape;

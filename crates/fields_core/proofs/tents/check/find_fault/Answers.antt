@@ -1,59 +1,65 @@
-use Rattle.fields_core.proofs.Common.{FailsTents, [], arith, column_right, first_in, none_right, row_right, sym, ◌∙◌, ◌∷◌}
+use Rattle.std.proofs.Common.{rules}
+use Rattle.fields_core.proofs.Common.{FailsTents, [], arith, column_right, first_in, none_right, not, row_right, sym, touch_right, tree_right, ◌∙◌, ◌∷◌}
+use Rattle.fields_core.proofs.FirstWrong.{IsSearched, all-right, first-wrong}
 use Rattle.fields_core.proofs.TentRuleLemmas.{columns, kinds, match, rows, tents-made, tents-sound, touch, trees}
 use Rattle.fields_core.proofs.tents.check.find_fault.Goals as goal
+use Rattle.fields_core.proofs.tents.check.find_fault.Goals.{After-next_passing, After-next_passing-2, After-next_passing-3, After-next_passing-4}
 
-pub returns-then-not-is_tree_right-clause-fault : goal.returns-then-not-is_tree_right-clause-fault
-returns-then-not-is_tree_right-clause-fault c =
+found-trees : (c : After-next_passing) → IsSearched (trees c.args.puzzle.now c.args.grid.now) c.next_passing.result
+found-trees c = rw c.cells-end.ensures.value at (c.next_passing.ensures (λ k. not (tree_right c.args.puzzle.now c.args.grid.now k)) (λ d answer lt met. search rules))
+
+found-touch : (c : After-next_passing-2) → IsSearched (touch c.args.puzzle.now c.args.grid.now) c.next_passing-2.result
+found-touch c = rw c.cells-end.ensures.value at (c.next_passing-2.ensures (λ k. not (touch_right c.args.puzzle.now c.args.grid.now k)) (λ d answer lt met. search rules))
+
+found-columns : (c : After-next_passing-3) → IsSearched (columns c.args.puzzle.now c.args.grid.now) c.next_passing-3.result
+found-columns c = rw c.columns.ensures at (c.next_passing-3.ensures (λ k. not (column_right c.args.puzzle.now c.args.grid.now k)) (λ d answer lt met. search rules))
+
+found-rows : (c : After-next_passing-4) → IsSearched (rows c.args.puzzle.now c.args.grid.now) c.next_passing-4.result
+found-rows c = rw c.rows.ensures at (c.next_passing-4.ensures (λ k. not (row_right c.args.puzzle.now c.args.grid.now k)) (λ d answer lt met. search rules))
+
+pub returns-in-Some-clause-fault : goal.returns-in-Some-clause-fault
+returns-in-Some-clause-fault c =
     let p = c.args.puzzle.now in
     let g = c.args.grid.now in
-    first_in (FailsTents p g) [] (trees p g) (touch p g ∷ columns p g ∷ rows p g ∷ match p g ∷ []) (tents-made p g c.requires.fits)
-    tt c.loop-place.place (omega arith)
-    (sym c.is_tree_right.ensures ∙ c.if-not-is_tree_right.true) c.loop-place.invariant
+    first-wrong (FailsTents p g) [] (trees p g) (touch p g ∷ columns p g ∷ rows p g ∷ match p g ∷ []) (tents-made p g c.requires.fits)
+    tt
+    (rw c.in-Some.is at (found-trees (goal.at.returns-in-Some-clause-fault c).After-next_passing))
 
-pub returns-then-not-is_touch_right-clause-fault : goal.returns-then-not-is_touch_right-clause-fault
-returns-then-not-is_touch_right-clause-fault c =
+pub returns-in-Some-next_passing-clause-fault : goal.returns-in-Some-next_passing-clause-fault
+returns-in-Some-next_passing-clause-fault c =
     let p = c.args.puzzle.now in
     let g = c.args.grid.now in
-    first_in _ (trees p g ∷ []) (touch p g) (columns p g ∷ rows p g ∷ match p g ∷ []) (tents-made p g c.requires.fits)
-    ((λ k lt. c.loop-place.invariant k (omega arith)), tt) c.loop-place-2.place (omega arith)
-    (sym c.is_touch_right.ensures ∙ c.if-not-is_touch_right.true) c.loop-place-2.invariant
+    first-wrong (FailsTents p g) (trees p g ∷ []) (touch p g) (columns p g ∷ rows p g ∷ match p g ∷ []) (tents-made p g c.requires.fits)
+    (all-right (FailsTents p g) (trees p g) (rw c.in_default.is at (found-trees (goal.at.returns-in-Some-next_passing-clause-fault c).After-next_passing)), tt)
+    (rw c.in-Some-next_passing.is at (found-touch (goal.at.returns-in-Some-next_passing-clause-fault c).After-next_passing-2))
 
-pub returns-then-not-has_tents-clause-fault : goal.returns-then-not-has_tents-clause-fault
-unfolding column_right
-returns-then-not-has_tents-clause-fault c =
+pub returns-in-Some-next_passing-2-clause-fault : goal.returns-in-Some-next_passing-2-clause-fault
+returns-in-Some-next_passing-2-clause-fault c =
     let p = c.args.puzzle.now in
     let g = c.args.grid.now in
-    first_in _ (trees p g ∷ touch p g ∷ []) (columns p g) (rows p g ∷ match p g ∷ []) (tents-made p g c.requires.fits)
-    ((λ k lt. c.loop-place.invariant k (omega arith)), ((λ k lt. c.loop-place-2.invariant k (omega arith)), tt)) c.loop-x.x (omega arith)
-    (grind arith) c.loop-x.invariant
+    first-wrong (FailsTents p g) (trees p g ∷ touch p g ∷ []) (columns p g) (rows p g ∷ match p g ∷ []) (tents-made p g c.requires.fits)
+    (all-right (FailsTents p g) (trees p g) (rw c.in_default.is at (found-trees (goal.at.returns-in-Some-next_passing-2-clause-fault c).After-next_passing)), (all-right (FailsTents p g) (touch p g) (rw c.in_default-next_passing.is at (found-touch (goal.at.returns-in-Some-next_passing-2-clause-fault c).After-next_passing-2)), tt))
+    (rw c.in-Some-next_passing-2.is at (found-columns (goal.at.returns-in-Some-next_passing-2-clause-fault c).After-next_passing-3))
 
-pub returns-then-not-has_tents-2-clause-fault : goal.returns-then-not-has_tents-2-clause-fault
-unfolding row_right
-returns-then-not-has_tents-2-clause-fault c =
+pub returns-in-Some-next_passing-3-clause-fault : goal.returns-in-Some-next_passing-3-clause-fault
+returns-in-Some-next_passing-3-clause-fault c =
     let p = c.args.puzzle.now in
     let g = c.args.grid.now in
-    first_in (FailsTents p g) (trees p g ∷ touch p g ∷ columns p g ∷ []) (rows p g) (match p g ∷ []) (tents-made p g c.requires.fits)
-    ((λ k lt. c.loop-place.invariant k (omega arith)), ((λ k lt. c.loop-place-2.invariant k (omega arith)), ((λ k lt. c.loop-x.invariant k (omega arith)), tt))) c.loop-y.y (omega arith)
-    (grind arith) c.loop-y.invariant
+    first-wrong (FailsTents p g) (trees p g ∷ touch p g ∷ columns p g ∷ []) (rows p g) (match p g ∷ []) (tents-made p g c.requires.fits)
+    (all-right (FailsTents p g) (trees p g) (rw c.in_default.is at (found-trees (goal.at.returns-in-Some-next_passing-3-clause-fault c).After-next_passing)), (all-right (FailsTents p g) (touch p g) (rw c.in_default-next_passing.is at (found-touch (goal.at.returns-in-Some-next_passing-3-clause-fault c).After-next_passing-2)), (all-right (FailsTents p g) (columns p g) (rw c.in_default-next_passing-2.is at (found-columns (goal.at.returns-in-Some-next_passing-3-clause-fault c).After-next_passing-3)), tt)))
+    (rw c.in-Some-next_passing-3.is at (found-rows (goal.at.returns-in-Some-next_passing-3-clause-fault c).After-next_passing-4))
 
 pub returns-clause-fault : goal.returns-clause-fault
 returns-clause-fault c =
     let p = c.args.puzzle.now in
     let g = c.args.grid.now in
-    first_in _ (trees p g ∷ touch p g ∷ columns p g ∷ rows p g ∷ []) (match p g) [] (tents-made p g c.requires.fits) (
-      (λ k lt. c.loop-place.invariant k (omega arith)),
-      ((λ k lt. c.loop-place-2.invariant k (omega arith)), ((λ k lt. c.loop-x.invariant k (omega arith)), ((λ k lt. c.loop-y.invariant k (omega arith)), tt))),
-    ) 0 (omega arith)
-    (sym c.are_paired.ensures.paired ∙ c.if-are_paired.false) (λ d low. absurd (omega arith))
+    first_in (FailsTents p g) (trees p g ∷ touch p g ∷ columns p g ∷ rows p g ∷ []) (match p g) [] (tents-made p g c.requires.fits)
+    (all-right (FailsTents p g) (trees p g) (rw c.in_default.is at (found-trees (goal.at.returns-clause-fault c).After-next_passing)), (all-right (FailsTents p g) (touch p g) (rw c.in_default-next_passing.is at (found-touch (goal.at.returns-clause-fault c).After-next_passing-2)), (all-right (FailsTents p g) (columns p g) (rw c.in_default-next_passing-2.is at (found-columns (goal.at.returns-clause-fault c).After-next_passing-3)), (all-right (FailsTents p g) (rows p g) (rw c.in_default-next_passing-3.is at (found-rows (goal.at.returns-clause-fault c).After-next_passing-4)), tt))))
+    0 (omega arith) (sym c.are_paired.ensures.paired ∙ c.if-are_paired.false) (λ d low. absurd (omega arith))
 
 pub returns-then-are_paired-clause-fault : goal.returns-then-are_paired-clause-fault
 returns-then-are_paired-clause-fault c =
     let p = c.args.puzzle.now in
     let g = c.args.grid.now in
-    tents-sound p g c.requires.fits (none_right (FailsTents p g) (kinds p g) (tents-made p g c.requires.fits) (
-      (λ k lt. c.loop-place.invariant k (omega arith)),
-      (
-        (λ k lt. c.loop-place-2.invariant k (omega arith)),
-        ((λ k lt. c.loop-x.invariant k (omega arith)), ((λ k lt. c.loop-y.invariant k (omega arith)), ((λ k lt. sym c.are_paired.ensures.paired ∙ c.if-are_paired.true), tt))),
-      ),
-    ))
+    tents-sound p g c.requires.fits (none_right (FailsTents p g) (kinds p g) (tents-made p g c.requires.fits)
+    (all-right (FailsTents p g) (trees p g) (rw c.in_default.is at (found-trees (goal.at.returns-then-are_paired-clause-fault c).After-next_passing)), (all-right (FailsTents p g) (touch p g) (rw c.in_default-next_passing.is at (found-touch (goal.at.returns-then-are_paired-clause-fault c).After-next_passing-2)), (all-right (FailsTents p g) (columns p g) (rw c.in_default-next_passing-2.is at (found-columns (goal.at.returns-then-are_paired-clause-fault c).After-next_passing-3)), (all-right (FailsTents p g) (rows p g) (rw c.in_default-next_passing-3.is at (found-rows (goal.at.returns-then-are_paired-clause-fault c).After-next_passing-4)), ((λ k lt. sym c.are_paired.ensures.paired ∙ c.if-are_paired.true), tt))))))

@@ -1,7 +1,7 @@
-use Rattle.fields_core.proofs.Common.{length-map, Black, Extent, Light, Numbered, ap, arith, get_or, row-at, subst, sym, white, ℕ, ◌*◌, ◌+◌, ◌∙◌, ◌≡◌, ◌≤◌, ArePieces}
+use Rattle.fields_core.proofs.Common.{length-map, Black, Extent, Light, Numbered, ap, arith, get_or, row-at, subst, sym, white, ℕ, ◌*◌, ◌+◌, ◌∙◌, ◌≡◌, ◌≤◌, ArePieces, true≢false}
 use Rattle.grid_core.specs.Planes.{ArePlanes}
 use Rattle.fields_core.proofs.LightLines.{cell-at}
-use Rattle.fields_core.proofs.NumberVisits.{IsBeside, beside-word, black-visited, both_pieces, number-filled, number-house-of, number-short, pieces-apart, white-visited}
+use Rattle.fields_core.proofs.NumberVisits.{IsBeside, beside-other, beside-word, black-visited, both_pieces, number-filled, number-house-of, number-short, pieces-apart, white-visited}
 use Rattle.fields_core.proofs.TreeWords.{row-read}
 use Rattle.fields_core.proofs.planes.lights.visits.visit_number.Goals as goal
 use Rattle.fields_core.proofs.planes.lights.visits.visit_number.Goals.{After-cell, After-from-ones}
@@ -48,7 +48,7 @@ visit-requires-clause-pieces g c =
     let h = (goal.at.visit-requires-clause-pieces g c).After-from-ones in
     let p = c.args.puzzle.now in
     subst (λ (e : Extent). ArePieces e (both_pieces c.args.y c.args.x (g.W.Word.bits c.both-row.result) (g.W.Word.bits c.both-column.result))) (sym c.requires.size)
-    (pieces-apart p c.cell.ensures.lawful c.args.y c.args.x _ _ c.requires.y_in c.requires.x_in (row g h) (column g h))
+    (pieces-apart p.size c.args.y c.args.x _ _ c.requires.y_in c.requires.x_in (λ on _. true≢false (sym on ∙ beside-other p.size.w _ c.args.x _ (row g h))))
 
 pub returns-in-White : goal.returns-in-White
 returns-in-White g c =

@@ -1,7 +1,15 @@
 use Rattle.fields_core.proofs.PositionSteps.{leave-walks}
 use Rattle.fields_core.proofs.planes.position.PlanePositionPosition.leave.Goals as goal
+use Rattle.fields_core.proofs.planes.position.PlanePositionPosition.leave.Goals.{in-Short, in-Long}
 
 pub returns-clause-walks : goal.returns-clause-walks
 returns-clause-walks g c =
     let r = rw (← c.self.view_is) at c.requires in
-    rw c.assign.ensures.kept (leave-walks _ _ c.args.cell c.args.value r.walks c.assign.ensures.further r.value_in r.there c.assign.ensures.left)
+    elim c.match-self.branch [
+      | in-Short w ↦
+          let r = rw w.in-Short.is at r in
+          rw w.self-inside-is (leave-walks _ _ c.args.cell c.args.value r.walks w.assign.ensures.further r.value_in r.there w.assign.ensures.left)
+      | in-Long w ↦
+          let r = rw w.in-Long.is at r in
+          rw w.self-inside-is (leave-walks _ _ c.args.cell c.args.value r.walks w.assign-in-Long.ensures.further r.value_in r.there w.assign-in-Long.ensures.left)
+    ]

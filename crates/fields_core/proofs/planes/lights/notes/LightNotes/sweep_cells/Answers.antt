@@ -3,7 +3,8 @@ use Rattle.grid_core.specs.Planes.{has}
 use Rattle.fields_core.specs.LightWaits.{AreSafeInColumns, lits_of_row}
 use Rattle.fields_core.specs.Trees.{IsRowOf}
 use Rattle.fields_core.proofs.LightCounting.{light-board}
-use Rattle.fields_core.proofs.LightNotes.{column-white-start, joined-down, safe-moved}
+use Rattle.fields_core.proofs.LightNotes.{joined-down, safe-moved}
+use Rattle.fields_core.proofs.RunBegins.{column-white-start}
 use Rattle.fields_core.proofs.LightSweeps.{lits-are, lits-stay, planes-next}
 use Rattle.fields_core.proofs.LitRuns.{black-idle, column-safe, planes-full}
 use Rattle.fields_core.proofs.TreeWords.{row-read}
