@@ -4,8 +4,13 @@ use Rattle.commands.proofs.Common.{Answer, Begins, Bool, ByRules, BySearch, Cand
 use Rattle.grid_core.proofs.GridLemmas.{is_full-count, grid_of-at}
 use Rattle.engine_core.specs.Closing.{closure}
 use Rattle.engine_core.proofs.JudgeLemmas.{grid-fits}
-use Rattle.engine_core.proofs.WalkLemmas.{walk-unfold, walk_closed-dead, walk_closed-wrong}
+use Rattle.engine_core.proofs.WalkLemmas.{walk-unfold, walk_closed-dead, walk_closed-full}
 use Rattle.maker_core.proofs.FoundAtOnce.{found_at_once, found_one}
+
+-- a full board whose grid is no solution has no marks
+walk_closed-wrong : (p : RuleSystem) (walk_of : Candidates → List Mark) (d : ℕ) (E : Candidates) → is_dead p.cells p.values E ≡ false
+    → is_full p.cells p.values E ≡ true → p.is_solution (grid_of p.cells p.values E) ≡ false → walk_closed p walk_of d E ≡ []
+walk_closed-wrong p walk_of d E alive full bad = walk_closed-full p walk_of d E alive full ∙ rw bad refl
 
 -- the branches of a cell begin with a trial, or there are none
 begins_with_trial : (walk_of : Candidates → List Mark) (d : ℕ) (E : Candidates) (cell n : ℕ)
