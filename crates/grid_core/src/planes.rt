@@ -1,7 +1,7 @@
 //! A board of two values as planes of bits, with the trail of what was taken from it.
 #![tactic(auto, using(crate::proofs::TakingLemmas::taking_laws))]
 
-ghost use Rattle.std.specs.Prelude.{◌≡◌, ℕ, ◌+◌, ◌*◌, ◌<◌, ◌≤◌, length, true, IfOk};
+ghost use Rattle.std.specs.Prelude.{◌≡◌, ℕ, ◌+◌, ◌*◌, ◌/◌, ◌%◌, ◌<◌, ◌≤◌, length, nat_lt, true, IfOk};
 ghost use Rattle.grid_core.specs.Candidates.{all_of};
 ghost use Rattle.grid_core.specs.Words.{has_bit};
 ghost use Rattle.grid_core.specs.Planes.{bit_of, has, cells_of, back_at, without_taking, ArePlanes, IsThere, IsFresh, IsFurther, IsBack, at_line, lines_beside, line_len, number_of};
@@ -9,6 +9,7 @@ ghost use Rattle.grid_core.specs.Planes.{bit_of, has, cells_of, back_at, without
 pub(crate) mod copies;
 pub(crate) mod judge;
 pub(crate) mod line;
+pub(crate) mod outline;
 pub(crate) mod touched;
 pub(crate) mod turn;
 pub(crate) mod word;
@@ -16,6 +17,7 @@ pub(crate) mod word;
 use crate::size::Size;
 use copies::copies;
 use line::{Change, Line};
+use outline::Outline;
 use std::alloc::{AllocError, Global};
 use std::marker::Model;
 use turn::{turn_line, write_lines};
@@ -25,7 +27,7 @@ use word::Word;
 /// for each column: those of line `k` for the values 0 and 1 are the words `2 * k` and `2 * k + 1`.
 #[derive(Drop)]
 pub struct Planes<W: Word> {
-    size: Size,
+    size: Outline<W>,
     rows: Vec<W>,
     columns: Vec<W>,
     changes: Vec<Change<W>>,
@@ -56,19 +58,18 @@ impl<W: Word> Planes<W> {
         ensures fresh { IfOk result (λ p. IsFresh size (all_of (size.w * size.h) 2) p) }
         ensures room { IfOk result (λ p. length p.takings ≡ size.w * size.h * 2) }
     {
-        let w = usize::from(size.w());
-        let h = usize::from(size.h());
+        let outline = Outline::new(size);
         let mut rows = copies(alloc, W::none(), 2 * W::places())?;
         let mut columns = copies(alloc, W::none(), 2 * W::places())?;
-        write_lines(&mut rows, 0, h, W::all(w));
-        write_lines(&mut columns, 0, w, W::all(h));
+        write_lines(&mut rows, 0, usize::from(size.h()), outline.columns());
+        write_lines(&mut columns, 0, usize::from(size.w()), outline.rows());
         let nothing = Change {
             line: Line::Row(0),
             value: 0,
             bits: W::none(),
         };
         Ok(Planes {
-            size,
+            size: outline,
             rows,
             columns,
             changes: copies(alloc, nothing, size.cells() * 2)?,
@@ -84,11 +85,21 @@ impl<W: Word> Planes<W> {
         ensures fresh { IsFresh size (all_of (size.w * size.h) 2) self.new }
         ensures room { length self.new.takings ≡ length self.old.takings }
     {
-        let w = usize::from(size.w());
-        let h = usize::from(size.h());
-        write_lines(&mut self.rows, usize::from(self.size.h()), h, W::all(w));
-        write_lines(&mut self.columns, usize::from(self.size.w()), w, W::all(h));
-        self.size = size;
+        let outline = Outline::new(size);
+        let had = self.size();
+        write_lines(
+            &mut self.rows,
+            usize::from(had.h()),
+            usize::from(size.h()),
+            outline.columns(),
+        );
+        write_lines(
+            &mut self.columns,
+            usize::from(had.w()),
+            usize::from(size.w()),
+            outline.rows(),
+        );
+        self.size = outline;
         self.len = 0;
     }
 
@@ -104,7 +115,33 @@ impl<W: Word> Planes<W> {
         ensures value { result ≡ self.now.size }
         ensures lawful { ArePlanes W.room self.now }
     {
-        self.size
+        self.size.size()
+    }
+
+    /// All columns: the places of a row.
+    pub fn columns(&self) -> W
+        ensures { (x : ℕ) → has_bit (W.bits result) x ≡ nat_lt x self.now.size.w }
+    {
+        self.size.columns()
+    }
+
+    /// All rows: the places of a column.
+    pub fn rows(&self) -> W
+        ensures { (y : ℕ) → has_bit (W.bits result) y ≡ nat_lt y self.now.size.h }
+    {
+        self.size.rows()
+    }
+
+    /// The row and the column of a cell. Behind the last cell a row begins.
+    pub fn split(&self, place: usize) -> (usize, usize)
+        requires { place ≤ cells_of self.now }
+        ensures row { result.0 ≡ place / self.now.size.w }
+        ensures column { result.1 ≡ place % self.now.size.w }
+        ensures row_in { place < cells_of self.now → result.0 < self.now.size.h }
+        ensures column_in { result.1 < self.now.size.w }
+        ensures lawful { ArePlanes W.room self.now }
+    {
+        self.size.split(place)
     }
 
     /// The cells of a row that can have the value.
@@ -151,9 +188,8 @@ impl<W: Word> Planes<W> {
         requires value_in { value < 2 }
         ensures { result ≡ has self.now place value }
     {
-        let w = usize::from(self.size.w());
-        let word = self.rows[2 * (place / w) + usize::from(value)];
-        word.has(place % w)
+        let (y, x) = self.split(place);
+        self.rows[2 * y + usize::from(value)].has(x)
     }
 
     /// How long the trail is: what `undo` takes to come back to the board as it is now.

@@ -35,8 +35,8 @@ impl<W: Word> Planes<W> {
         ensures left { has self.new ≡ only (has self.old) place value }
         ensures further { IsFurther self.old self.new }
     {
-        let w = usize::from(self.size().w());
-        self.take(Line::Row((place / w) as u8), 1 - value, W::one(place % w));
+        let (y, x) = self.split(place);
+        self.take(Line::Row(y as u8), 1 - value, W::one(x));
     }
 
     /// Whether each cell has exactly one value.
@@ -46,7 +46,7 @@ impl<W: Word> Planes<W> {
         let size = self.size();
         for y in 0..size.h() {
             let one = self.row(y, 0).differ(self.row(y, 1));
-            if W::all(usize::from(size.w())).but(one).is_some() {
+            if self.columns().but(one).is_some() {
                 return false;
             }
         }

@@ -16,46 +16,62 @@ pub struct Touched<W> {
 }
 
 impl<W: Word> Touched<W> {
-    /// With the lines of these cells of a line.
+    /// The lines of these cells of a line.
     #[tactic(auto, unfolding(crate::specs::Planes::crosses))]
-    pub fn with(self, line: Line, cells: W) -> Touched<W>
+    fn of(line: Line, cells: W) -> Touched<W>
         requires { number_of line < W.room }
-        ensures more { (y x : ℕ) → AreLinesOf W.bits self y x → AreLinesOf W.bits result y x }
-        ensures cells { (y x : ℕ) → crosses line (W.bits cells) y x ≡ true
+        ensures { (y x : ℕ) → crosses line (W.bits cells) y x ≡ true
             → AreLinesOf W.bits result y x }
     {
         match line {
             Line::Row(y) => Touched {
-                columns: self.columns.either(cells),
-                rows: self.rows.either(W::one(usize::from(y))),
+                columns: cells,
+                rows: W::one(usize::from(y)),
             },
             Line::Column(x) => Touched {
-                columns: self.columns.either(W::one(usize::from(x))),
-                rows: self.rows.either(cells),
+                columns: W::one(usize::from(x)),
+                rows: cells,
             },
+        }
+    }
+
+    /// The lines of both.
+    fn either(self, other: Touched<W>) -> Touched<W>
+        ensures own { (y x : ℕ) → AreLinesOf W.bits self y x → AreLinesOf W.bits result y x }
+        ensures other { (y x : ℕ) → AreLinesOf W.bits other y x → AreLinesOf W.bits result y x }
+    {
+        Touched {
+            columns: self.columns.either(other.columns),
+            rows: self.rows.either(other.rows),
         }
     }
 }
 
 impl<W: Word> Planes<W> {
-    /// The lines of the cells that lost this value since the trail had that length.
-    pub fn lost(&self, len: usize, value: u8) -> Touched<W>
+    /// The lines of the cells that lost 0 since the trail had that length, and of those that lost 1.
+    pub fn lost(&self, len: usize) -> (Touched<W>, Touched<W>)
         requires { len ≤ self.now.len }
-        ensures lost { IsLostIn W.bits self.now.size.w value (back_at self.now len) (has self.now)
-            result }
+        ensures zeros { IsLostIn W.bits self.now.size.w 0 (back_at self.now len) (has self.now)
+            result.0 }
+        ensures ones { IsLostIn W.bits self.now.size.w 1 (back_at self.now len) (has self.now)
+            result.1 }
         ensures lawful { ArePlanes W.room self.now }
     {
-        let mut lines = Touched {
+        let none = Touched {
             columns: W::none(),
             rows: W::none(),
         };
+        let mut zeros = none;
+        let mut ones = none;
         for k in len..self.len {
             let change = self.changes[k];
-            if change.value != value {
-                continue;
+            let lines = Touched::of(change.line, change.bits);
+            if change.value == 0 {
+                zeros = zeros.either(lines);
+            } else {
+                ones = ones.either(lines);
             }
-            lines = lines.with(change.line, change.bits);
         }
-        lines
+        (zeros, ones)
     }
 }

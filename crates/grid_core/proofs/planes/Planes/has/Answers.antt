@@ -1,4 +1,4 @@
-use Rattle.grid_core.proofs.Common.{arith, div-lt_iff_lt-mul, layers_of, length-map, ◌%◌, ◌*◌, ◌/◌, ◌<◌, ◌∙◌, ◌≡◌}
+use Rattle.grid_core.proofs.Common.{arith, div-lt_iff_lt-mul, layers_of, length-map, ◌%◌, ◌*◌, ◌/◌, ◌<◌, ◌∙◌}
 use Rattle.grid_core.proofs.PlaneSteps.{word_read, has_read}
 use Rattle.grid_core.proofs.planes.Planes.has.Goals as goal
 
@@ -8,11 +8,12 @@ returns g c =
     let bits = g.W.Word.bits in
     let r = rw (← c.self.view_is) at c.requires in
     let i = c.self.invariant in
-    let w_is : c.from-w.result ≡ p.size.w = c.from-w.ensures ∙ c.w.ensures.value in
+    let row = rw (← c.self.view_is) at c.split-y.ensures.row in
+    let column = rw (← c.self.view_is) at c.split-y.ensures.column in
     let place_in : c.args.place < p.size.h * p.size.w = omega (arith, r.place_in) in
     let y_in : c.args.place / p.size.w < p.size.h = (div-lt_iff_lt-mul i.lawful.w_low).1 place_in in
-    let read = word_read bits p.rows.items (c.args.place / p.size.w) c.args.value c.index-word.result.now
+    let read = word_read bits p.rows.items (c.args.place / p.size.w) c.args.value c.index.result.now
     (omega (arith, y_in, r.value_in, i.tall, length-map p.rows.items bits))
-    (rw (w_is, c.from.ensures) at c.index-word.ensures) (c.args.place % p.size.w) in
+    (rw (c.from.ensures, row) at c.index.ensures) (c.args.place % p.size.w) in
     rw (← c.self.view_is)
-    (rw w_is at c.has.ensures ∙ read ∙ has_read (layers_of bits p.size p.rows.items p.columns.items p.changes.items p.len) c.args.place c.args.value r.value_in)
+    (rw column at c.has.ensures ∙ read ∙ has_read (layers_of bits p.size p.rows.items p.columns.items p.changes.items p.len) c.args.place c.args.value r.value_in)

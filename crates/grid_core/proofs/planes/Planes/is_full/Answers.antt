@@ -8,7 +8,7 @@ unfilled : (g : _) (c : After-is_some g) → IsUnfilledRow c.args.self.now c.loo
 unfilled g c = record {
   is = λ x.
       c.but.ensures x
-      ∙ rw (c.differ-one.ensures x, c.row.ensures.cells x, c.row-in-loop-y.ensures.cells x, rw (c.size-size.ensures.value) at (rw (c.from.ensures, c.w.ensures.value) at (c.all.ensures x))) refl;
+      ∙ rw (c.differ-one.ensures x, c.row.ensures.cells x, c.row-in-loop-y.ensures.cells x, c.columns.ensures x) refl;
 }
 
 pub loop-y-preserved : goal.loop-y-preserved
