@@ -65,10 +65,10 @@ pub ruleset laws_laws = (
   found_iff,
   outcome-counts,
   spent-counts,
+  tried-first,
+  trials-counted,
   walk-unfold,
 )
-
-pub ruleset trials_laws = (tried-first, trials-counted)
 
 pub ruleset wait_laws = (waiting-enqueue, waiting-dequeue, none_left, lowest_left)
 

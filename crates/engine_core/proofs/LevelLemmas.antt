@@ -116,9 +116,6 @@ module _ {p : RuleSystem} {s s1 : Standing} {frames : List Frame} {n : ℕ} (rea
     retried : IsReady p s1 moved n
     retried = grind (arith, common_steps, ready-back, room)
 
-    pub turn-ready : IsReady p s2 moved n
-    turn-ready = ready-onward retried onward
-
     marks : pending_in p s frames n ≡ Trial n s2.board ∷ (walk p n s2.board ++ pending_in p s2 moved n)
     marks =
         let long : suc (length outside) ≡ n = omega (arith, length-levels s1 frames (n - 1)) in

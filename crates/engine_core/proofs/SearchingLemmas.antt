@@ -3,7 +3,7 @@ use Rattle.engine_core.proofs.Common.{Candidates, IsClosedIn, IsSearched, IsTria
 use Rattle.std.specs.Prelude.{nat_lt}
 use Rattle.engine_core.specs.Stored.{IsAnswer}
 use Rattle.engine_core.specs.Verdict.{tried_of, verdict_of}
-use Rattle.engine_core.specs.declared.search.grids.Grids.{Grids}
+use Rattle.engine_core.specs.declared.search.levels.Grids.{Grids}
 use Rattle.engine_core.specs.declared.search.walk.Search.{Search}
 use Rattle.engine_core.specs.declared.search.walk.Verdict.{Verdict}
 use Rattle.engine_core.specs.declared.search.walk.Verdict.TheVariants as verdict

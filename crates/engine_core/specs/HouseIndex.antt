@@ -2,7 +2,7 @@
 use Rattle.std.specs.Prelude.{◌≡◌, ℕ, suc, ◌+◌, ◌<◌, ◌≤◌, true, false, Option, Some, None, List, [], length, slice_index, slice_index_or}
 use Rattle.grid_core.specs.Candidates.{count_below, sum_below}
 use Rattle.engine_core.specs.RuleSystem.{has_place}
-use Rattle.engine_core.specs.HouseSets.{AreDifferent}
+use Rattle.engine_core.specs.HouseSets.{AreBelow, AreDifferent}
 
 -- what callers see of a table of houses: how many cells the board has, and each house's places
 pub record Table : Type 0 where
@@ -14,7 +14,7 @@ scope_of scopes h = slice_index_or scopes h []
 
 -- different places of the board
 pub record IsScope (cells : ℕ) (places : List ℕ) : Type 0 where
-  pub within : (k : ℕ) → k < length places → slice_index places k < cells
+  pub within : AreBelow cells places
   pub different : AreDifferent places
 
 abbrev pub AreScopes : ℕ → List (List ℕ) → Type 0

@@ -1,3 +1,4 @@
+pub mod Common
 pub mod Mode
 pub mod RuleSystem
 pub mod PlaceLaws

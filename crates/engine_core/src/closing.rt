@@ -2,4 +2,3 @@
 
 pub(crate) mod closer;
 pub(crate) mod marking;
-mod run;

@@ -1,18 +1,16 @@
 //! Rules made of listed houses: what they do along the lists, for whatever game.
 #![tactic(auto, using(crate::proofs::LawSets::house_rules_laws))]
 
-ghost use Rattle.std.specs.Prelude.{◌≡◌, ◌<◌, ◌≤◌, IfOk, length, true, false};
-ghost use Rattle.grid_core.specs.Board.{has, SameShape};
-ghost use Rattle.engine_core.specs.Closing.{HasStruck};
-ghost use Rattle.engine_core.specs.RuleSystem.{IsBoardOf, after, needs_of};
-ghost use Rattle.engine_core.specs.Trail.{StillServes};
-ghost use Rattle.engine_core.specs.ListedHouses.{table_of};
+ghost use Rattle.std.specs.Prelude.{◌<◌, ◌≡◌, ◌≤◌, IfOk, false, length, refl, true};
+ghost use Rattle.engine_core.specs.Common.{has, SameShape, HasStruck, HasRoom, IsBoardOf, after, needs_of, StillServes, table_of};
 
 use crate::houses::table::HouseTable;
 use crate::houses::visit::{apply, gather};
 use crate::mode::Mode;
 use crate::rule_set::RuleSet;
 use crate::rules::Rules;
+use crate::search::position::Searchable;
+use crate::trail::position::TrailPosition;
 use crate::trail::propagators::Propagators;
 use crate::waits::enqueue;
 use grid_core::{Board, Grid};
@@ -58,10 +56,8 @@ impl<S: RuleSet> HouseRules<S> {
     ) -> bool
         requires house_in { house < (S.system (S.puzzle_of self.now.set)).houses }
         requires board_of { IsBoardOf (S.system (S.puzzle_of self.now.set)) board.old }
-        requires sets_room { length ((S.system (S.puzzle_of self.now.set)).scope house)
-            ≤ length sets.old }
-        requires kept_room { length ((S.system (S.puzzle_of self.now.set)).scope house)
-            ≤ length kept.old }
+        requires sets_room { HasRoom (S.system (S.puzzle_of self.now.set)) house sets.old }
+        requires kept_room { HasRoom (S.system (S.puzzle_of self.now.set)) house kept.old }
         requires served { S.serves work.old (needs_of (S.system (S.puzzle_of self.now.set))) }
         ensures left { has board.new
             ≡ after (S.system (S.puzzle_of self.now.set)) house (has board.old) }
@@ -70,7 +66,7 @@ impl<S: RuleSet> HouseRules<S> {
         ensures changed { result ≡ true → HasStruck (has board.old) (has board.new) }
         ensures keeps { StillServes S.serves work.old work.new }
     {
-        let places = self.table.places(house);
+        let places = self.table.list.places(house);
         let (sets, kept) = (&mut sets[..places.len()], &mut kept[..places.len()]);
         gather(board, places, sets);
         self.set.filter(house, sets, kept, work) && apply(board, places, kept)
@@ -117,23 +113,23 @@ impl<S: RuleSet> Rules for HouseRules<S> {
     }
 
     fn houses(&self) -> usize {
-        self.table.len()
+        self.table.list.len()
     }
 
     fn bound(&self) -> usize {
         let values = usize::from(self.set.values());
         match S::MODE {
-            Mode::Queue => self.table.total() * values + self.table.len(),
+            Mode::Queue => self.table.list.total() * values + self.table.list.len(),
             Mode::Sweep => self.set.cells() * (values - 1) + 1,
         }
     }
 
     fn scope_len(&self, house: usize) -> usize {
-        self.table.places(house).len()
+        self.table.list.places(house).len()
     }
 
     fn scope(&self, house: usize, k: usize) -> usize {
-        self.table.places(house)[k] as usize
+        self.table.list.places(house)[k] as usize
     }
 
     fn house_at(&self, place: usize, from: usize) -> Option<usize> {
@@ -172,7 +168,7 @@ impl<S: RuleSet> Propagators for HouseRules<S> {
     type Noted = ();
 
     fn read(&self, house: usize, board: &Board, sets: &mut [u32]) {
-        gather(board, self.table.places(house), sets);
+        gather(board, self.table.list.places(house), sets);
     }
 
     fn filter(
@@ -191,4 +187,10 @@ impl<S: RuleSet> Propagators for HouseRules<S> {
             enqueue(waits, houses[k] as usize);
         }
     }
+}
+
+impl<S: RuleSet> Searchable for HouseRules<S> {
+    type Position = TrailPosition<HouseRules<S>>;
+
+    ghost position_of = { λ _. refl };
 }

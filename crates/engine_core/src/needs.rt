@@ -1,8 +1,7 @@
 //! What rules need memory for.
 
 ghost use Rattle.std.specs.Prelude.{◌≡◌};
-ghost use Rattle.engine_core.specs.RuleSystem.{needs_of};
-ghost use Rattle.engine_core.specs.Needs.{needs_in};
+ghost use Rattle.engine_core.specs.Common.{needs_of, needs_in};
 
 use crate::rules::Rules;
 

@@ -1,13 +1,7 @@
 //! What only a game knows of rules that are made of listed houses.
 
-ghost use Rattle.std.specs.Prelude.{◌≡◌, ℕ, Bool, List, ◌<◌, IfOk, length};
-ghost use Rattle.grid_core.specs.Board.{has, SameShape};
-ghost use Rattle.grid_core.specs.Candidates.{Candidates};
-ghost use Rattle.engine_core.specs.RuleSystem.{RuleSystem, IsLawful, IsGridOf, Needs, needs_of, FitsIn, IsBoardOf};
-ghost use Rattle.engine_core.specs.declared.mode.Mode.{Mode};
-ghost use Rattle.engine_core.specs.Keeping.{AreSetsOf, AreSets, IsKept};
-ghost use Rattle.engine_core.specs.ListedHouses.{AreScopesOf, most_turns};
-ghost use Rattle.engine_core.specs.Mode.{is_queue};
+ghost use Rattle.std.specs.Prelude.{◌<◌, ◌≡◌, Bool, IfOk, List, ℕ, length};
+ghost use Rattle.engine_core.specs.Common.{has, SameShape, Candidates, RuleSystem, IsLawful, IsGridOf, Needs, needs_of, FitsIn, IsBoardOf, Mode, AreSetsOf, AreSets, IsKept, AreScopesOf, most_turns, is_queue};
 
 use crate::houses::list::HouseList;
 use crate::mode::Mode;

@@ -1,11 +1,8 @@
 //! Which houses wait: a bit for each, in words of 64.
 #![tactic(auto, using(crate::proofs::LawSets::wait_laws))]
 
-ghost use Rattle.std.specs.Prelude.{◌≡◌, ℕ, ◌/◌, ◌<◌, ◌≤◌, ◌&&◌, ◌||◌, ◌==◌, not, length};
-ghost use Rattle.engine_core.specs.RuleSystem.{IsNext};
-ghost use Rattle.engine_core.specs.Queue.{but, IsAround};
-ghost use Rattle.engine_core.specs.Waiting.{words_of, is_waiting};
-ghost use Rattle.engine_core.specs.Sets.{has_bit as is_set};
+ghost use Rattle.std.specs.Prelude.{◌&&◌, ◌/◌, ◌<◌, ◌==◌, ◌||◌, ◌≡◌, ◌≤◌, ℕ, length, not};
+ghost use Rattle.engine_core.specs.Common.{IsNext, but, IsAround, words_of, is_waiting, has_bit as is_set};
 
 /// Marks the house in the bits of those that wait.
 pub fn enqueue(waits: &mut [u64], house: usize)

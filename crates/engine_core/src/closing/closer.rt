@@ -1,13 +1,8 @@
 //! A board that is closed by plain visits.
 #![tactic(auto, using(crate::proofs::LawSets::position_laws))]
 
-ghost use Rattle.std.specs.Prelude.{◌≡◌, ◌<◌, ◌≤◌, IfOk, length, true, false, if◌then◌else◌};
-ghost use Rattle.grid_core.specs.Board.{has, SameShape, cells_of};
-ghost use Rattle.grid_core.specs.Candidates.{is_full, grid_of};
-ghost use Rattle.engine_core.specs.Mode.{is_queue};
-ghost use Rattle.engine_core.specs.Needs.{needs_in};
-ghost use Rattle.engine_core.specs.RuleSystem.{needs_of, FitsIn, IsBoardOf};
-ghost use Rattle.engine_core.specs.Closer.{IsClosedBy, IsVisited, SameRoom};
+ghost use Rattle.std.specs.Prelude.{◌-◌, ◌<◌, ◌≡◌, ◌≤◌, IfOk, false, if◌then◌else◌, length, max, not, slice_set, true};
+ghost use Rattle.engine_core.specs.Common.{from_bool, has, SameShape, cells_of, is_full, grid_of, is_queue, needs_in, needs_of, FitsIn, IsBoardOf, IsClosedBy, IsVisited, SameRoom, IsAlive, IsRested, is_waiting, Dead, Open};
 
 use crate::closing::marking::{is_house_dead, mark_after};
 use crate::houses::visit::read_head;
@@ -16,7 +11,7 @@ use crate::needs::{Needs, needs_for};
 use crate::rules::{Rules, by_queue};
 use crate::search::position::Taken;
 use crate::trail::cells::write_grid;
-use crate::waits::dequeue;
+use crate::waits::{dequeue, next_around};
 use grid_core::{Board, Grid};
 use std::alloc::{AllocError, Global};
 use std::marker::Model;
@@ -28,34 +23,35 @@ pub(crate) struct Effect {
     pub dead: bool,
 }
 
+/// What a closing came to that made so many turns: visits of a queue, or sweeps. A last sweep counts only where it struck
+/// something, or where it is the only one.
+fn report<R: Rules>(dead: bool, turns: usize, struck: bool) -> Taken
+    ensures closing { result.closing ≡ (if dead then Dead else Open) }
+    ensures turns { result.turns ≡ (if is_queue R.MODE then turns
+        else max (turns - from_bool (not struck)) 1) }
+{
+    let closing = if dead { Closing::Dead } else { Closing::Open };
+    if by_queue::<R>() {
+        return Taken { closing, turns };
+    }
+    let turns = turns.saturating_sub(usize::from(!struck)).max(1);
+    Taken { closing, turns }
+}
+
 /// A board, and what it takes to close it: what the rules work in, room for the sets that a house's cells had before its
 /// visit, a mark for each house that waits, and in a queue room for the houses visited.
+#[derive(Drop)]
 pub(crate) struct Closer<R: Rules> {
     pub(crate) made: Needs,
     scratch: R::Scratch,
     sets: Vec<u32>,
     pub(crate) waits: Vec<u64>,
     pub(crate) trace: Vec<usize>,
-    board: Board,
-}
-
-impl<R: Rules> Drop for Closer<R> {
-    fn drop(self) {
-        let Closer {
-            made,
-            scratch,
-            sets,
-            waits,
-            trace,
-            board,
-        } = self;
-    }
+    pub(crate) board: Board,
 }
 
 impl<R: Rules> Model for Closer<R> {
-    ghost use Rattle.engine_core.specs.Mode.{is_queue};
-    ghost use Rattle.engine_core.specs.Needs.{needs_in};
-    ghost use Rattle.engine_core.specs.Closer.{BoardAndMarks, IsCloserOf};
+    ghost use Rattle.engine_core.specs.Common.{is_queue, needs_in, BoardAndMarks, IsCloserOf};
 
     ghost Value = { BoardAndMarks };
 
@@ -89,23 +85,6 @@ impl<R: Rules> Closer<R> {
             trace: vec![in alloc; 0usize; trace]?,
             board: Board::new(alloc, made.cells, made.values)?,
         })
-    }
-
-    /// The board.
-    pub(crate) fn board(&self) -> &Board
-        ensures board { result.now ≡ self.now.board }
-        ensures cells { cells_of result.now ≡ self.now.made.cells }
-        ensures values { result.now.values ≡ self.now.made.values }
-    {
-        &self.board
-    }
-
-    /// The room for the houses that a closing visits.
-    pub(crate) fn trace(&self) -> &[usize]
-        ensures trace { result.now ≡ self.now.trace }
-        ensures long { length result.now ≡ (if is_queue R.MODE then self.now.made.bound else 0) }
-    {
-        &self.trace
     }
 
     /// Begins with the board that a search starts from.
@@ -166,6 +145,53 @@ impl<R: Rules> Closer<R> {
         }
         self.waits.fill(u64::MAX);
         self.run(rules)
+    }
+
+    /// Writes down a visit of a queue, by its number.
+    fn note(&mut self, number: usize, house: usize)
+        requires room { is_queue R.MODE ≡ true → number < length self.old.trace }
+        ensures board { self.new.board ≡ self.old.board }
+        ensures waits { self.new.waits ≡ self.old.waits }
+        ensures noted { is_queue R.MODE ≡ true
+            → self.new.trace ≡ slice_set self.old.trace number house }
+        ensures room { SameRoom self.old self.new }
+    {
+        if by_queue::<R>() {
+            self.trace[number] = house;
+        }
+    }
+
+    /// Closes the board: goes around over the houses that wait and visits each, until none waits, or a cell has no value. A
+    /// queue ends there, and writes down each house that it visits. A sweep goes on to its end: each visits the houses in
+    /// ascending order, and passes over those that do not wait, since they strike nothing. A visit of a sweep that struck
+    /// anything makes all houses wait.
+    pub(crate) fn run(&mut self, rules: &R) -> Taken
+        requires fits { FitsIn (needs_of (R.system rules.now)) self.old.made }
+        requires board_of { IsBoardOf (R.system rules.now) self.old.board }
+        requires alive { IsAlive (R.system rules.now) (has self.old.board) }
+        requires rested { IsRested (R.system rules.now) (has self.old.board)
+            (is_waiting self.old.waits) }
+        ensures closing { IsClosedBy (R.system rules.now) (is_queue R.MODE) (has self.old.board)
+            result self.new }
+        ensures room { SameRoom self.old self.new }
+    {
+        let by_queue = by_queue::<R>();
+        let mut turns = usize::from(!by_queue);
+        let (mut struck, mut dead) = (false, false);
+        let mut from = 0;
+        while let Some(house) = next_around(&self.waits, from, rules.houses()) {
+            let begins = by_queue | (house < from);
+            if dead & begins {
+                return report::<R>(dead, turns, struck);
+            }
+            self.note(turns, house);
+            turns += usize::from(begins);
+            from = house + 1;
+            let effect = self.step(rules, house);
+            struck = (struck & !begins) | effect.struck;
+            dead |= effect.dead;
+        }
+        report::<R>(dead, turns, struck)
     }
 
     /// Whether the grid of the full board is a solution. It is written to `grid`.

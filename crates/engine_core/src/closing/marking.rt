@@ -1,13 +1,7 @@
 //! What is looked for after a plain visit: the houses of each cell that lost a value, and a cell without any.
 
-ghost use Rattle.std.specs.Prelude.{◌≡◌, ℕ, ◌<◌, ◌≤◌, Bool, true, false, length, take};
-ghost use Rattle.grid_core.specs.Board.{has};
-ghost use Rattle.grid_core.specs.Candidates.{Candidates, IsInside};
-ghost use Rattle.engine_core.specs.Keeping.{AreSetsOf};
-ghost use Rattle.engine_core.specs.RuleSystem.{has_place, IsBoardOf};
-ghost use Rattle.engine_core.specs.Mode.{is_queue};
-ghost use Rattle.engine_core.specs.Queue.{IsWoken, but, called_for, is_dead_in};
-ghost use Rattle.engine_core.specs.Waiting.{words_of, is_waiting, AreWoken};
+ghost use Rattle.std.specs.Prelude.{◌<◌, ◌≡◌, ◌≤◌, Bool, ℕ, false, length, take, true};
+ghost use Rattle.engine_core.specs.Common.{has, Candidates, IsInside, AreSetsOf, HasRoom, has_place, IsBoardOf, is_queue, IsWoken, but, called_for, is_dead_in, words_of, is_waiting, AreWoken, AreWokenAt};
 
 use crate::rules::{Rules, by_queue};
 use crate::waits::{dequeue_if, enqueue};
@@ -17,8 +11,7 @@ use grid_core::Board;
 pub(crate) fn mark_at<R: Rules>(rules: &R, place: usize, waits: &mut [u64])
     requires place_in { place < (R.system rules.now).cells }
     requires room { words_of (R.system rules.now).houses ≤ length waits.old }
-    ensures { AreWoken (R.system rules.now) (λ j. has_place ((R.system rules.now).scope j) place)
-        (is_waiting waits.old) (is_waiting waits.new) }
+    ensures { AreWokenAt (R.system rules.now) place waits.old waits.new }
 {
     let mut from = 0;
     for _other in 0..rules.houses() {
@@ -67,7 +60,7 @@ pub(crate) fn mark_after<R: Rules>(
 )
     requires house_in { house < (R.system rules.now).houses }
     requires board_of { IsBoardOf (R.system rules.now) board.now }
-    requires long { length ((R.system rules.now).scope house) ≤ length sets.now }
+    requires long { HasRoom (R.system rules.now) house sets.now }
     requires room { words_of (R.system rules.now).houses ≤ length waits.old }
     ensures queue { is_queue R.MODE ≡ true → (K : Candidates) (before : ℕ → Bool)
         → AreSetsOf (R.system rules.now) house K

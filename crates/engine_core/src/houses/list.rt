@@ -1,9 +1,8 @@
 //! Houses as lists of places, one after another.
 #![tactic(auto, using(crate::proofs::LawSets::house_list_laws))]
 
-ghost use Rattle.std.specs.Prelude.{◌≡◌, ◌<◌, ◌^◌, ◌++◌, ◌∷◌, [], IfOk, OnOk, length, slice_index, slice_index_or, sum_by};
-ghost use Rattle.std.specs.List.{concat};
-ghost use Rattle.grid_core.specs.Pieces.{last_end};
+ghost use Rattle.std.specs.Prelude.{◌++◌, ◌<◌, ◌^◌, ◌∷◌, ◌≡◌, IfOk, OnOk, [], length, slice_index, slice_index_or, sum_by};
+ghost use Rattle.engine_core.specs.Common.{concat, last_end};
 ghost use Rattle.engine_core.specs.HouseList.{FitsPlaces, FitsLists};
 
 use std::alloc::{AllocError, Global};

@@ -1,10 +1,8 @@
 //! Houses, and which of them have a place.
 #![tactic(auto, using(crate::proofs::LawSets::house_index_laws))]
 
-ghost use Rattle.std.specs.Prelude.{◌≡◌, ℕ, suc, ◌+◌, ◌<◌, ◌≤◌, ◌^◌, ◌==◌, IfOk, count_by, length, sum_by, slice_index};
-ghost use Rattle.grid_core.specs.Candidates.{sum_below};
-ghost use Rattle.engine_core.specs.RuleSystem.{has_place, IsNext};
-ghost use Rattle.engine_core.specs.HouseSets.{AreDifferent};
+ghost use Rattle.std.specs.Prelude.{◌+◌, ◌<◌, ◌==◌, ◌^◌, ◌≡◌, ◌≤◌, IfOk, ℕ, count_by, length, slice_index, suc};
+ghost use Rattle.engine_core.specs.Common.{sum_below, has_place, IsNext, AreBelow, AreDifferent};
 ghost use Rattle.engine_core.specs.HouseIndex.{AreScopes, scope_of, start_at, AreHousesAt, IsIndex, IsRoom, IsPut, IsFirstFrom, AreAt, number_in, IsUnfilled, sum_to};
 
 use crate::houses::list::HouseList;
@@ -13,8 +11,7 @@ use std::marker::Model;
 
 /// Counts how often each place is one of these.
 fn count_places(counts: &mut [u32], places: &[u32])
-    requires within { (k : ℕ) → k < length places.now
-        → slice_index places.now k < length counts.old }
+    requires within { AreBelow (length counts.old) places.now }
     requires few { length places.now < 2 ^ 32 }
     requires none { (c : ℕ) → c < length counts.old → slice_index counts.old c ≡ 0 }
     ensures as_many { length counts.new ≡ length counts.old }
@@ -43,8 +40,7 @@ fn sum_up(counts: &mut [u32]) -> u32
 
 /// Puts the house before those that stand already at each of its places.
 fn put_house(starts: &mut [u32], houses: &mut [u32], house: u32, places: &[u32])
-    requires within { (k : ℕ) → k < length places.now
-        → slice_index places.now k < length starts.old }
+    requires within { AreBelow (length starts.old) places.now }
     requires different { AreDifferent places.now }
     requires room { IsRoom starts.old (length houses.old) places.now }
     ensures { IsPut house places.now starts.old houses.old starts.new houses.new }
@@ -87,7 +83,7 @@ fn first_from(houses: &[u32], from: usize) -> Option<usize>
 #[derive(Drop)]
 pub(crate) struct HouseTable {
     cells: usize,
-    list: HouseList,
+    pub(crate) list: HouseList,
     starts: Vec<u32>,
     houses: Vec<u32>,
 }
@@ -128,22 +124,6 @@ impl HouseTable {
         })
     }
 
-    /// How many houses there are: fewer than 2^32.
-    pub(crate) fn len(&self) -> usize
-        ensures len { result ≡ length self.now.scopes }
-        ensures few { result < 2 ^ 32 }
-    {
-        self.list.len()
-    }
-
-    /// The places of a house.
-    pub(crate) fn places(&self, house: usize) -> &[u32]
-        requires { house < length self.now.scopes }
-        ensures { result.now ≡ scope_of self.now.scopes house }
-    {
-        self.list.places(house)
-    }
-
     /// The houses that have the place, ascending.
     pub(crate) fn houses_at(&self, place: usize) -> &[u32]
         requires { place < self.now.cells }
@@ -161,13 +141,5 @@ impl HouseTable {
             (length self.now.scopes) from result }
     {
         first_from(self.houses_at(place), from)
-    }
-
-    /// The cells of all houses together: fewer than 2^32.
-    pub(crate) fn total(&self) -> usize
-        ensures total { result ≡ sum_by length self.now.scopes }
-        ensures few { result < 2 ^ 32 }
-    {
-        self.list.total()
     }
 }

@@ -1,15 +1,9 @@
-//! A visit of a house in three steps: `gather`, or `read_sets`, reads the sets of its cells, the rules decide what is kept of them, and
-//! `apply` strikes the rest. All strikes of a visit are decided before the first is made.
+//! A visit of a house in three steps: `gather`, or `read_sets`, reads the sets of its cells, the rules decide what is kept of
+//! them, and `apply` strikes the rest. All strikes of a visit are decided before the first is made.
 #![tactic(auto, using(crate::proofs::LawSets::visit_laws))]
 
-ghost use Rattle.std.specs.Prelude.{◌≡◌, ℕ, ◌<◌, ◌≤◌, ◌==◌, true, false, map, length, slice_index, take};
-ghost use Rattle.grid_core.specs.Board.{has, cells_of, SameShape};
-ghost use Rattle.engine_core.specs.Closing.{HasStruck};
-ghost use Rattle.engine_core.specs.Keeping.{AreSetsOf};
-ghost use Rattle.engine_core.specs.Mode.{is_queue};
-ghost use Rattle.engine_core.specs.RuleSystem.{IsBoardOf};
-ghost use Rattle.engine_core.specs.Sets.{has_bit as is_set, set_of_bits, IsBitsOf};
-ghost use Rattle.engine_core.specs.HouseSets.{sets_at, kept_in};
+ghost use Rattle.std.specs.Prelude.{◌<◌, ◌==◌, ◌≡◌, ◌≤◌, ℕ, false, length, map, slice_index, take, true};
+ghost use Rattle.engine_core.specs.Common.{has, cells_of, SameShape, HasStruck, AreSetsOf, HasRoom, is_queue, IsBoardOf, has_bit as is_set, set_of_bits, IsBitsOf, AreBelow, sets_at, kept_in};
 
 use crate::rules::{Rules, by_queue};
 use grid_core::Board;
@@ -30,7 +24,7 @@ pub(crate) fn read_sets<R: Rules>(rules: &R, house: usize, board: &Board, sets: 
 pub(crate) fn read_head<R: Rules>(rules: &R, house: usize, board: &Board, sets: &mut [u32])
     requires house_in { house < (R.system rules.now).houses }
     requires board_of { IsBoardOf (R.system rules.now) board.now }
-    requires room { length ((R.system rules.now).scope house) ≤ length sets.old }
+    requires room { HasRoom (R.system rules.now) house sets.old }
     ensures { is_queue R.MODE ≡ true → AreSetsOf (R.system rules.now) house (has board.now)
         (take (length ((R.system rules.now).scope house)) sets.new) }
 {
@@ -42,8 +36,7 @@ pub(crate) fn read_head<R: Rules>(rules: &R, house: usize, board: &Board, sets: 
 /// Reads the set of each of the places into `sets`: bit `v` of the `k`-th says whether the `k`-th place has the value
 /// `v`.
 pub fn gather(board: &Board, places: &[u32], sets: &mut [u32])
-    requires places_in { (k : ℕ) → k < length places.now
-        → slice_index places.now k < cells_of board.now }
+    requires places_in { AreBelow (cells_of board.now) places.now }
     requires as_many { length sets.old ≡ length places.now }
     ensures bits { (k : ℕ) → k < length places.now
         → IsBitsOf (has board.now (slice_index places.now k)) board.now.values
@@ -58,8 +51,7 @@ pub fn gather(board: &Board, places: &[u32], sets: &mut [u32])
 
 /// Strikes from each of the places the values whose bit isn't set in `kept`, and says whether that was anything.
 pub fn apply(board: &mut Board, places: &[u32], kept: &[u32]) -> bool
-    requires places_in { (k : ℕ) → k < length places.now
-        → slice_index places.now k < cells_of board.old }
+    requires places_in { AreBelow (cells_of board.old) places.now }
     requires as_many { length kept.now ≡ length places.now }
     ensures left { has board.new ≡ kept_in places.now kept.now (length places.now) (has board.old) }
     ensures shape { SameShape board.old board.new }

@@ -1,20 +1,49 @@
-//! The levels of a search: a frame for each cell whose values are being tried.
+//! The levels of a search: a frame for each cell whose values are being tried, and the grids found.
 
-ghost use Rattle.std.specs.Prelude.{◌≡◌, ◌+◌, ◌<◌, ◌≤◌, None};
-ghost use Rattle.grid_core.specs.Candidates.{pick};
-ghost use Rattle.engine_core.specs.Counts.{IsClosedIn};
-ghost use Rattle.engine_core.specs.Queue.{IsClosedBut};
-ghost use Rattle.engine_core.specs.Frames.{AreGrids, AreReady, IsTurn, SameMarks, singles};
+ghost use Rattle.std.specs.Prelude.{◌+◌, ◌<◌, ◌≡◌, ◌≤◌, None};
+ghost use Rattle.engine_core.specs.Common.{pick, IsClosedIn, IsClosedBut, AreGrids, AreReady, IsTurn, SameMarks, singles, IsClosed, IsFull, IsNoted};
 
 use crate::mode::Closing;
-use crate::search::grids::Grids;
 use crate::search::position::Position;
+use grid_core::Grid;
 
 /// A cell whose values are being tried, and the next of them.
 #[derive(Clone, Copy)]
 pub(crate) struct Frame {
     pub cell: usize,
     pub next: u8,
+}
+
+/// The grids that a search found: so many of the two.
+#[derive(Drop)]
+pub(crate) struct Grids {
+    pub first: Grid,
+    pub second: Grid,
+    pub found: usize,
+}
+
+impl Grids {
+    /// Writes down the grid of the full board, as the second where one was found. It counts if it is a solution.
+    pub(crate) fn note<P: Position>(&mut self, rules: &P::Game, position: &mut P)
+        requires walks { P.walks rules.now position.old }
+        requires closed { IsClosed (P.system rules.now) (P.stands position.old).board }
+        requires full { IsFull (P.system rules.now) (P.stands position.old).board }
+        requires long { AreGrids (P.system rules.now).cells self.old }
+        requires going { self.old.found < 2 }
+        ensures noted { IsNoted (P.system rules.now) (P.stands position.old).board self.old
+            self.new }
+        ensures long { AreGrids (P.system rules.now).cells self.new }
+        ensures same { P.stands position.new ≡ P.stands position.old }
+        ensures walks { P.walks rules.now position.new }
+        ensures room { P.room position.new ≡ P.room position.old }
+    {
+        let solved = if self.found == 0 {
+            position.accept(rules, &mut self.first)
+        } else {
+            position.accept(rules, &mut self.second)
+        };
+        self.found += usize::from(solved);
+    }
 }
 
 /// The frames of the trials that are open, and the grids found so far.
@@ -47,17 +76,10 @@ impl Levels {
         let frames: &[Frame] = &self.frames;
         let top = frames[self.depth - 1];
         position.undo(rules, self.depth - 1);
-        match position.next_value(rules, top.cell, top.next) {
-            None => None,
-            Some(value) => {
-                self.frames[self.depth - 1] = Frame {
-                    cell: top.cell,
-                    next: value + 1,
-                };
-                position.leave(rules, top.cell, value);
-                Some(top.cell)
-            }
-        }
+        let value = position.next_value(rules, top.cell, top.next)?;
+        self.frames[self.depth - 1].next = value + 1;
+        position.leave(rules, top.cell, value);
+        Some(top.cell)
     }
 
     /// Closes the board and judges it: a grid is noted, and a board that must be split gets a frame. Of the board is known

@@ -1,13 +1,10 @@
 //! What a walk stands on: a board that is closed, tried and put back.
 
 ghost use Rattle.std.specs.Prelude.{◌≡◌, ℕ, ◌*◌, ◌<◌, ◌≤◌, IfOk, true, None, length};
-ghost use Rattle.grid_core.specs.Candidates.{IsWithin, count_below, grid_of, is_full, only, pick};
-ghost use Rattle.engine_core.specs.RuleSystem.{RuleSystem, IsClosed, IsLawful, IsNext, Needs, needs_of, FitsIn};
-ghost use Rattle.engine_core.specs.Queue.{IsClosedBut};
-ghost use Rattle.engine_core.specs.Counts.{IsClosedIn};
-ghost use Rattle.engine_core.specs.Position.{Standing, IsOnward, IsCheckpoint, IsReturned, IsTaken};
+ghost use Rattle.engine_core.specs.Common.{IsWithin, count_below, grid_of, is_full, only, pick, RuleSystem, IsClosed, IsLawful, IsNext, Needs, needs_of, FitsIn, IsClosedBut, IsClosedIn, Standing, IsOnward, IsCheckpoint, IsReturned, IsTaken};
 
 use crate::mode::Closing;
+use crate::rules::Rules;
 use grid_core::Grid;
 use std::alloc::{AllocError, Global};
 
@@ -137,4 +134,13 @@ pub trait Position: Drop + Sized {
     /// The board has no more cells and values than the game.
     ghost within: { (rules : Self.Game) (position : Self) → walks rules position
         → IsWithin (system rules).cells (system rules).values (stands position).board };
+}
+
+/// Rules whose boards a store can search.
+pub trait Searchable: Rules {
+    /// What a search of a board stands on.
+    type Position: Position<Game = Self>;
+
+    /// The position means by the rules what they mean.
+    ghost position_of: { (rules : Self) → Self.Position.system rules ≡ Self.system rules };
 }

@@ -1,8 +1,7 @@
 //! The walk over trials, level by level.
 
 ghost use Rattle.std.specs.Prelude.{◌≡◌, ◌≤◌};
-ghost use Rattle.engine_core.specs.RuleSystem.{needs_of, FitsIn};
-ghost use Rattle.engine_core.specs.Frames.{AreLong, IsSearched};
+ghost use Rattle.engine_core.specs.Common.{needs_of, FitsIn, AreLong, IsSearched};
 
 use crate::search::levels::Levels;
 use crate::search::position::Position;

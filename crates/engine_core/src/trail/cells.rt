@@ -1,10 +1,8 @@
 //! What is read off the cells of a board: the better of two to branch on, and the grid of a full one.
 #![tactic(auto, using(crate::proofs::LawSets::judge_laws))]
 
-ghost use Rattle.std.specs.Prelude.{◌≡◌, ◌<◌, ◌≤◌, length, true, false, None, IfSome};
-ghost use Rattle.grid_core.specs.Board.{has, cells_of};
-ghost use Rattle.grid_core.specs.Candidates.{count_below, is_full, grid_of, pick, better};
-ghost use Rattle.engine_core.specs.RuleSystem.{IsNext};
+ghost use Rattle.std.specs.Prelude.{◌<◌, ◌≡◌, ◌≤◌, IfSome, None, false, length, true};
+ghost use Rattle.engine_core.specs.Common.{has, cells_of, count_below, is_full, grid_of, pick, better, IsNext};
 
 use grid_core::{Board, Grid};
 

@@ -1,56 +1,97 @@
 //! A board of sets with its trail, as a position.
 #![tactic(auto, using(crate::proofs::LawSets::position_laws))]
 
-ghost use Rattle.std.specs.Prelude.{◌≡◌, ◌≤◌, IfOk, length};
-ghost use Rattle.grid_core.specs.Board.{cells_of};
-ghost use Rattle.grid_core.specs.Candidates.{max_cells, max_values};
+ghost use Rattle.std.specs.Prelude.{◌<◌, ◌≡◌, ◌≤◌, IfOk, IfSome, length};
+ghost use Rattle.engine_core.specs.Common.{cells_of, max_cells, max_values, IsUnderWay, standing_of, words_of, has, IsAlive, IsClosedIn, HasRoom, IsFiltered, IsTaken, needs_of, IsBoardOf, StillServes, IsAlong, AreRested, GoesOn, IsStep, board_in, is_since, is_waiting, AreWoken, Candidates, IsClosedBut, IsRested};
 ghost use Rattle.engine_core.specs.PositionLaws.{within_of};
-ghost use Rattle.engine_core.specs.TrailPosition.{IsUnderWay, standing_of};
-ghost use Rattle.engine_core.specs.Waiting.{words_of};
 
 use crate::mode::Closing;
 use crate::needs::{Needs, needs_for};
+use crate::rules::by_queue;
 use crate::search::position::{Position, Taken};
-use crate::trail::agenda::wait_from;
 use crate::trail::cells::{better_cell, write_grid};
 use crate::trail::propagators::Propagators;
 use crate::trail::trailed::TrailedBoard;
-use grid_core::Grid;
+use crate::waits::{dequeue, dequeue_if, enqueue_if, next_around};
+use grid_core::{Board, Grid};
 use std::alloc::{AllocError, Global};
 use std::marker::Model;
+
+/// Marks the houses that a closing begins with: those that have the place, or where none is named those that may strike at
+/// the start.
+fn wait_from<R: Propagators>(rules: &R, from: Option<usize>, waits: &mut [u64])
+    requires place_in { IfSome from (λ place. place < (R.system rules.now).cells) }
+    requires room { words_of (R.system rules.now).houses ≤ length waits.old }
+    ensures { (K : Candidates) → IsClosedBut (R.system rules.now) K from
+        → IsRested (R.system rules.now) K (is_waiting waits.new) }
+{
+    waits.fill(0);
+    match from {
+        None => {
+            for house in 0..rules.houses() {
+                enqueue_if(waits, house, rules.may_strike(house));
+            }
+        }
+        Some(place) => rules.wake(place, waits),
+    }
+}
+
+/// Marks the houses of each cell that the trail names from the number `from` on.
+fn wake_since<R: Propagators>(rules: &R, trailed: &TrailedBoard, from: usize, waits: &mut [u64])
+    requires board_of { IsBoardOf (R.system rules.now) trailed.now.board }
+    requires from_in { from ≤ trailed.now.len }
+    requires room { words_of (R.system rules.now).houses ≤ length waits.old }
+    ensures { AreWoken (R.system rules.now)
+        (is_since (R.system rules.now) trailed.now from trailed.now.len)
+        (is_waiting waits.old) (is_waiting waits.new) }
+{
+    for number in from..trailed.len() {
+        rules.wake(trailed.changed(number), waits);
+    }
+}
+
+/// Reads the sets of the house's cells, and decides what a visit keeps of them, at the head of the two slices. Says whether
+/// anything may be struck.
+fn filter_house<R: Propagators>(
+    rules: &R,
+    house: usize,
+    board: &Board,
+    scratch: &mut R::Scratch,
+    sets: &mut [u32],
+    kept: &mut [u32],
+) -> bool
+    requires house_in { house < (R.system rules.now).houses }
+    requires board_of { IsBoardOf (R.system rules.now) board.now }
+    requires served { R.serves scratch.old (needs_of (R.system rules.now)) }
+    requires sets_room { HasRoom (R.system rules.now) house sets.old }
+    requires kept_room { HasRoom (R.system rules.now) house kept.old }
+    ensures filtered { IsFiltered (R.system rules.now) house (has board.now) result
+        sets.new kept.new }
+    ensures keeps { StillServes R.serves scratch.old scratch.new }
+{
+    let cells = rules.scope_len(house);
+    let (sets, kept) = (&mut sets[..cells], &mut kept[..cells]);
+    rules.read(house, board, sets);
+    rules.filter(house, sets, kept, scratch)
+}
 
 /// A board with its trail, and the length of the trail at the mark of each level: so many levels have one. With it go what
 /// the rules work in, room for the sets of a house's cells and for what is kept of them, and a mark for
 /// each house that waits.
+#[derive(Drop)]
 pub struct TrailPosition<R: Propagators> {
-    pub(crate) made: Needs,
-    pub(crate) scratch: R::Scratch,
-    pub(crate) sets: Vec<u32>,
-    pub(crate) kept: Vec<u32>,
-    pub(crate) waits: Vec<u64>,
-    pub(crate) trailed: TrailedBoard,
+    made: Needs,
+    scratch: R::Scratch,
+    sets: Vec<u32>,
+    kept: Vec<u32>,
+    waits: Vec<u64>,
+    trailed: TrailedBoard,
     marks: Vec<usize>,
     marked: usize,
 }
 
-impl<R: Propagators> Drop for TrailPosition<R> {
-    fn drop(self) {
-        let TrailPosition {
-            made,
-            scratch,
-            sets,
-            kept,
-            waits,
-            trailed,
-            marks,
-            marked,
-        } = self;
-    }
-}
-
 impl<R: Propagators> Model for TrailPosition<R> {
-    ghost use Rattle.engine_core.specs.Needs.{needs_in};
-    ghost use Rattle.engine_core.specs.TrailPosition.{Placed, IsPlaced};
+    ghost use Rattle.engine_core.specs.Common.{needs_in, Placed, IsPlaced};
 
     ghost Value = { Placed };
 
@@ -64,6 +105,68 @@ impl<R: Propagators> Model for TrailPosition<R> {
 
     ghost invariant = { λ s. IsPlaced (needs_in s.made) s.trailed.board s.sets.items s.kept.items
         s.waits.items s.marks.items × R.serves s.scratch (needs_in s.made) };
+}
+
+impl<R: Propagators> TrailPosition<R> {
+    /// Visits the house, and marks the houses of each cell that lost a value in place of the house. Says whether the visit
+    /// would leave a cell without a value: then what it left is open.
+    fn step(&mut self, rules: &R, house: usize) -> bool
+        requires along { IsAlong (R.system rules.now) self.old }
+        requires alive { IsAlive (R.system rules.now) (board_in self.old) }
+        requires house_in { house < (R.system rules.now).houses }
+        ensures step { IsStep (R.system rules.now) house self.old self.new result }
+        ensures along { IsAlong (R.system rules.now) self.new }
+        ensures onward { GoesOn self.old self.new }
+    {
+        dequeue(&mut self.waits, house);
+        let board = self.trailed.board();
+        let (sets, kept) = (&mut self.sets, &mut self.kept);
+        if !filter_house(rules, house, board, &mut self.scratch, sets, kept) {
+            return false;
+        }
+        let before = self.trailed.len();
+        let cells = rules.scope_len(house);
+        let (sets, kept) = (&self.sets[..cells], &self.kept[..cells]);
+        if self.trailed.strike(rules, house, sets, kept) {
+            return true;
+        }
+        let waits: &mut [u64] = &mut self.waits;
+        wake_since(rules, &self.trailed, before, waits);
+        dequeue_if(waits, house, R::SETTLED);
+        false
+    }
+
+    /// Closes the board: goes around over the houses that wait and visits each, until none waits or a cell has no value. After
+    /// the last house it begins again. Of a queue each visit counts, and else each sweep, also one that stops. At first each
+    /// house waits that strikes anything; it may be more.
+    fn run(&mut self, rules: &R) -> Taken
+        requires along { IsAlong (R.system rules.now) self.old }
+        requires alive { IsAlive (R.system rules.now) (board_in self.old) }
+        requires rested { AreRested (R.system rules.now) self.old }
+        ensures taken { IsTaken (R.system rules.now) (board_in self.old) (board_in self.new)
+            result.closing }
+        ensures turns { IsClosedIn (R.system rules.now) (board_in self.old) result.turns }
+        ensures along { IsAlong (R.system rules.now) self.new }
+        ensures onward { GoesOn self.old self.new }
+    {
+        let by_queue = by_queue::<R>();
+        let mut turns = usize::from(!by_queue);
+        let mut from = 0;
+        while let Some(house) = next_around(&self.waits, from, rules.houses()) {
+            turns += usize::from(by_queue | (house < from));
+            from = house + 1;
+            if self.step(rules, house) {
+                return Taken {
+                    closing: Closing::Dead,
+                    turns,
+                };
+            }
+        }
+        Taken {
+            closing: Closing::Open,
+            turns,
+        }
+    }
 }
 
 impl<R: Propagators> Position for TrailPosition<R> {
@@ -92,7 +195,7 @@ impl<R: Propagators> Position for TrailPosition<R> {
     }
 
     fn changes(&self) -> usize {
-        self.trailed.room()
+        self.trailed.changes.len()
     }
 
     fn values(&self, rules: &R) -> u8 {

@@ -1,12 +1,8 @@
 //! What a board with a trail asks of rules, beside what they are: to filter the sets of a house's cells, and to mark the
 //! houses that a change of a cell calls for.
 
-ghost use Rattle.std.specs.Prelude.{◌≡◌, ◌<◌, ◌≤◌, length, false};
-ghost use Rattle.grid_core.specs.Board.{has};
-ghost use Rattle.grid_core.specs.Candidates.{Candidates};
-ghost use Rattle.engine_core.specs.RuleSystem.{Needs, needs_of, has_place, IsBoardOf, IsIdle};
-ghost use Rattle.engine_core.specs.Keeping.{AreSetsOf, AreSets, IsKept};
-ghost use Rattle.engine_core.specs.Waiting.{words_of, is_waiting, AreWoken};
+ghost use Rattle.std.specs.Prelude.{◌<◌, ◌≡◌, ◌≤◌, false, length};
+ghost use Rattle.engine_core.specs.Common.{has, Candidates, needs_of, IsBoardOf, IsIdle, AreSetsOf, AreSets, IsKept, words_of, StillServes, AreWokenAt};
 
 use crate::houses::visit::read_sets;
 use crate::rules::Rules;
@@ -45,8 +41,7 @@ pub trait Propagators: Rules {
         requires sets { AreSets (Self.system self.now) house sets.now }
         ensures kept { (K : Candidates) → AreSetsOf (Self.system self.now) house K sets.now
             → IsKept (Self.system self.now) house K result kept.new }
-        ensures keeps { (needs : Needs) → Self.serves scratch.old needs
-            → Self.serves scratch.new needs };
+        ensures keeps { StillServes Self.serves scratch.old scratch.new };
 
     /// Whether the house may strike anything from the board that a search starts from. Where not, it need not wait then.
     fn may_strike(&self, house: usize) -> bool
@@ -61,7 +56,5 @@ pub trait Propagators: Rules {
     fn wake(&self, place: usize, waits: &mut [u64])
         requires place_in { place < (Self.system self.now).cells }
         requires room { words_of (Self.system self.now).houses ≤ length waits.old }
-        ensures { AreWoken (Self.system self.now)
-            (λ j. has_place ((Self.system self.now).scope j) place)
-            (is_waiting waits.old) (is_waiting waits.new) };
+        ensures { AreWokenAt (Self.system self.now) place waits.old waits.new };
 }

@@ -2,13 +2,7 @@
 #![tactic(auto, using(crate::proofs::LawSets::trail_laws))]
 
 ghost use Rattle.std.specs.Prelude.{◌≡◌, ◌≢◌, ℕ, ◌+◌, ◌*◌, ◌<◌, ◌≤◌, IfOk, bit_and, length, true, false};
-ghost use Rattle.grid_core.specs.Board.{has, cells_of, SameShape};
-ghost use Rattle.grid_core.specs.Candidates.{count_below, only, max_cells, max_values};
-ghost use Rattle.engine_core.specs.ClosingList.{IsAlive, IsDead};
-ghost use Rattle.engine_core.specs.Keeping.{AreSetsOf, IsKept};
-ghost use Rattle.engine_core.specs.RuleSystem.{IsBoardOf, after};
-ghost use Rattle.engine_core.specs.Sets.{IsBitsOf};
-ghost use Rattle.engine_core.specs.Trail.{back_at, change_at, left_by, IsFurther, IsBack, IsStruck};
+ghost use Rattle.engine_core.specs.Common.{has, cells_of, SameShape, count_below, only, max_cells, max_values, IsAlive, IsDead, AreSetsOf, IsKept, IsBoardOf, after, IsBitsOf, back_at, change_at, left_by, IsFurther, IsBack, IsStruck};
 
 use crate::trail::propagators::Propagators;
 use grid_core::Board;
@@ -19,13 +13,12 @@ use std::marker::Model;
 #[derive(Drop)]
 pub(crate) struct TrailedBoard {
     board: Board,
-    changes: Vec<(u32, u32)>,
+    pub(crate) changes: Vec<(u32, u32)>,
     len: usize,
 }
 
 impl Model for TrailedBoard {
-    ghost use Rattle.grid_core.specs.Board.{has, cells_of};
-    ghost use Rattle.engine_core.specs.Trail.{Trail, IsTrail};
+    ghost use Rattle.engine_core.specs.Common.{has, cells_of, Trail, IsTrail};
 
     ghost Value = { Trail };
 
@@ -60,13 +53,6 @@ impl TrailedBoard {
         ensures { result.now ≡ self.now.board }
     {
         &self.board
-    }
-
-    /// How many changes there is room for.
-    pub(crate) fn room(&self) -> usize
-        ensures { result ≡ cells_of self.now.board * self.now.board.values }
-    {
-        self.changes.len()
     }
 
     /// How many changes were noted: to go back to this many is to go back to the board as it is now.

@@ -1,5 +1,5 @@
-use Rattle.engine_core.proofs.Common.{arith, refl}
-use Rattle.engine_core.proofs.LevelLemmas.{top-open, open-back, ready-back, turn-done, turn-ready, turn-trial}
+use Rattle.engine_core.proofs.Common.{arith, get_or_read, refl, ◌-◌}
+use Rattle.engine_core.proofs.LevelLemmas.{top-open, open-back, turn-done, turn-trial}
 use Rattle.engine_core.proofs.RoomLemmas.{open-cell}
 use Rattle.engine_core.proofs.search.levels.Levels.next_trial.Goals as goal
 
@@ -25,22 +25,16 @@ pub leave-requires-clause-several : goal.leave-requires-clause-several
 leave-requires-clause-several g c =
     rw c.deref-frames.ensures.value (open-cell (open-back c.requires.ready c.requires.deep c.undo.ensures.returned)).two
 
-pub returns-in-None-clause-turn : goal.returns-in-None-clause-turn
-returns-in-None-clause-turn g c =
-    turn-done c.requires.ready c.requires.deep c.undo.ensures.returned (rw c.deref-frames.ensures.value at c.in-None.ensures)
+pub returns-in_err-value-clause-turn : goal.returns-in_err-value-clause-turn
+returns-in_err-value-clause-turn g c =
+    rw c.from_residual.ensures (turn-done c.requires.ready c.requires.deep c.undo.ensures.returned (rw c.deref-frames.ensures.value at c.in_err-value.ensures))
 
-pub returns-in-None-clause-ready : goal.returns-in-None-clause-ready
-returns-in-None-clause-ready g c = ready-back c.requires.ready c.requires.deep c.undo.ensures.returned
-
-pub returns-in-Some-clause-turn : goal.returns-in-Some-clause-turn
-returns-in-Some-clause-turn g c =
+pub returns-clause-turn : goal.returns-clause-turn
+returns-clause-turn g c =
     let e = c.deref-frames.ensures.value in
-    rw e (turn-trial c.requires.ready c.requires.deep c.undo.ensures.returned c.in-Some.value (rw e at c.in-Some.ensures)
+    let same =
+    get_or_read c.args.self.now.frames.items (c.args.self.now.depth - 1) c.index_mut.result.now
+    (omega (arith, (top-open c.requires.ready c.requires.deep).1, c.requires.ready.room)) c.index_mut.ensures.value (record { cell = 0; next = 0 }) in
+    rw e (turn-trial c.requires.ready c.requires.deep c.undo.ensures.returned c.in_ok-value.value (rw e at c.in_ok-value.ensures)
     (rw e at c.leave.ensures.left) c.leave.ensures.onward
-    (g.met.P.Position.within c.args.rules.now c.undo.new.self c.undo.ensures.walks) refl refl)
-
-pub returns-in-Some-clause-ready : goal.returns-in-Some-clause-ready
-returns-in-Some-clause-ready g c =
-    let e = c.deref-frames.ensures.value in
-    rw e (turn-ready c.requires.ready c.requires.deep c.undo.ensures.returned c.in-Some.value (rw e at c.in-Some.ensures)
-    (rw e at c.leave.ensures.left) c.leave.ensures.onward)
+    (g.met.P.Position.within c.args.rules.now c.undo.new.self c.undo.ensures.walks) (rw same refl) refl)

@@ -1,5 +1,5 @@
 use Rattle.engine_core.proofs.Common.{AreWoken, is_since, is_waiting}
-use Rattle.engine_core.proofs.trail.agenda.wake_since.Given as goal
+use Rattle.engine_core.proofs.trail.position.wake_since.Given as goal
 
 abbrev pub invariant-loop-number : goal.invariant-loop-number
 invariant-loop-number g l =

@@ -1,8 +1,8 @@
 use Rattle.engine_core.proofs.Common.{arith, cases_eq, common_steps, eq-eqb, false, is_waiting, length, replicate, rules, ℕ, ◌<◌, ◌≡◌}
 use Rattle.engine_core.proofs.QueueLemmas.{rested_around, rested_start}
 use Rattle.engine_core.proofs.WaitLemmas.{waiting-none}
-use Rattle.engine_core.proofs.trail.agenda.wait_from.Goals as goal
-use Rattle.engine_core.proofs.trail.agenda.wait_from.Goals.{After-fill}
+use Rattle.engine_core.proofs.trail.position.wait_from.Goals as goal
+use Rattle.engine_core.proofs.trail.position.wait_from.Goals.{After-fill}
 
 -- no house waited
 none : (g : _) (c : After-fill g) (j : ℕ) → j < (g.R.Rules.system c.args.rules.now).houses → is_waiting c.fill.new.self j ≡ false

@@ -1,7 +1,7 @@
 use Rattle.engine_core.proofs.Common.{arith, change_at, has_place, ◌≡◌, ◌≤◌}
 use Rattle.engine_core.proofs.CallLemmas.{woken-by_none}
 use Rattle.engine_core.proofs.LostLemmas.{since-woken, since-first}
-use Rattle.engine_core.proofs.trail.agenda.wake_since.Goals as goal
+use Rattle.engine_core.proofs.trail.position.wake_since.Goals as goal
 
 pub loop-number-init : goal.loop-number-init
 loop-number-init g c =

@@ -1,5 +1,5 @@
 use Rattle.engine_core.proofs.Common.{IsIdle, false, is_waiting, ℕ, ◌<◌, ◌≡◌}
-use Rattle.engine_core.proofs.trail.agenda.wait_from.Given as goal
+use Rattle.engine_core.proofs.trail.position.wait_from.Given as goal
 
 abbrev pub invariant-loop-house : goal.invariant-loop-house
 invariant-loop-house g l =

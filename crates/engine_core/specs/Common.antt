@@ -1,0 +1,41 @@
+-- Words of std, of grid_core and of this crate, as its code uses them. Declares nothing.
+pub use Rattle.std.specs.Int.{from_bool}
+pub use Rattle.std.specs.List.{concat}
+pub use Rattle.grid_core.specs.Board.{SameShape, cells_of}
+unfoldable pub use Rattle.grid_core.specs.Board.{has}
+pub use Rattle.grid_core.specs.Candidates.{Candidates, IsInside, IsWithin, max_cells, max_values}
+unfoldable pub use Rattle.grid_core.specs.Candidates.{better, count_below, grid_of, is_full, only, pick, sum_below}
+pub use Rattle.grid_core.specs.Pieces.{last_end}
+pub use Rattle.engine_core.specs.Closer.{BoardAndMarks, IsClosedBy, IsCloserOf, IsVisited, SameRoom, sweeps_in, visits_in}
+pub use Rattle.engine_core.specs.Closing.{HasStruck, IsLargestClosed}
+unfoldable pub use Rattle.engine_core.specs.Closing.{closure}
+pub use Rattle.engine_core.specs.ClosingList.{IsAlive, IsClosing, IsDead}
+pub use Rattle.engine_core.specs.Counts.{IsClosedIn, IsTurns, boards_of}
+unfoldable pub use Rattle.engine_core.specs.Counts.{deepest_of}
+pub use Rattle.engine_core.specs.Frames.{AreGrids, AreLong, AreReady, IsFull, IsNoted, IsSearched, IsTurn, SameMarks, first_of, second_of}
+unfoldable pub use Rattle.engine_core.specs.Frames.{singles}
+pub use Rattle.engine_core.specs.HouseSets.{AreBelow, AreDifferent}
+unfoldable pub use Rattle.engine_core.specs.HouseSets.{kept_in, sets_at}
+pub use Rattle.engine_core.specs.Keeping.{AreSets, AreSetsOf, HasRoom, IsFiltered, IsKept}
+pub use Rattle.engine_core.specs.ListedHouses.{AreScopesOf, most_turns, table_of}
+pub use Rattle.engine_core.specs.Mode.{is_queue}
+pub use Rattle.engine_core.specs.Needs.{needs_in}
+pub use Rattle.engine_core.specs.Position.{IsCheckpoint, IsOnward, IsReturned, IsTaken, Standing}
+pub use Rattle.engine_core.specs.Queue.{IsAround, IsClosedBut, IsRested, IsWoken, called_for, is_dead_in}
+unfoldable pub use Rattle.engine_core.specs.Queue.{but}
+pub use Rattle.engine_core.specs.RuleSystem.{FitsIn, IsBoardOf, IsClosed, IsGridOf, IsIdle, IsLawful, IsNext, Needs, RuleSystem, needs_of}
+unfoldable pub use Rattle.engine_core.specs.RuleSystem.{after, has_place, longest, share}
+pub use Rattle.engine_core.specs.Sets.{IsBitsOf, has_bit}
+unfoldable pub use Rattle.engine_core.specs.Sets.{set_of_bits}
+pub use Rattle.engine_core.specs.Stored.{IsAnswer, IsUnsearched, Stored, is_settled, sizes_of}
+pub use Rattle.engine_core.specs.Trail.{IsBack, IsFurther, IsStruck, IsTrail, StillServes, Trail, back_at, change_at, is_since}
+unfoldable pub use Rattle.engine_core.specs.Trail.{left_by}
+pub use Rattle.engine_core.specs.TrailPosition.{AreRested, GoesOn, IsAlong, IsPlaced, IsStep, IsUnderWay, Placed, board_in, standing_of}
+pub use Rattle.engine_core.specs.Verdict.{IsTrueOf, Solves, says_counts, spent_of, tried_of, verdict_of}
+unfoldable pub use Rattle.engine_core.specs.Verdict.{before_second, grids_in, outcome, spent, trials_in, tried, within_budget}
+pub use Rattle.engine_core.specs.Waiting.{AreWoken, AreWokenAt, words_of}
+unfoldable pub use Rattle.engine_core.specs.Waiting.{is_waiting}
+pub use Rattle.engine_core.specs.Walk.{AreFoundOnce, IsFound, IsPick, Mark}
+unfoldable pub use Rattle.engine_core.specs.Walk.{walk, walk_closed}
+pub use Rattle.engine_core.specs.declared.mode.Closing.TheVariants.{Dead, Open}
+pub use Rattle.engine_core.specs.declared.mode.Mode.{Mode}
