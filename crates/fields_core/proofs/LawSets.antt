@@ -40,9 +40,7 @@ pub ruleset light_check_laws = (ne_eqb, eq-eqb, cell-at)
 
 pub ruleset light_line_laws = (few-places)
 
-pub ruleset light_rules_laws = (light-counting, light-tells)
-
-pub ruleset light_told_laws = (place-row, row-of-place, column-of-place)
+pub ruleset light_rules_laws = (light-counting, light-tells, place-row, row-of-place, column-of-place)
 
 pub ruleset light_sight_laws = (black-unseen)
 

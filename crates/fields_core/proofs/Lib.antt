@@ -66,7 +66,10 @@ pub mod LightBoards
 pub mod LightLonely
 pub mod LightCompleting
 pub mod TentCompleting
+mod LightPassed
+mod LightReach
 mod LightRests
 mod QuietVisits
 mod LightSweeps
 mod FirstWrong
+pub mod NextLemmas

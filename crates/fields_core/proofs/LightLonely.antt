@@ -1,5 +1,5 @@
 -- Numbers of Light Up that no grid meets, by the names of the houses.
-use Rattle.fields_core.proofs.Common.{Black, Bool, CountHouse, IsLight, Light, LightCell, List, Numbered, White, [], and_parts, any_below, any_below-here, any_below-some, ap, arith, begins_column_run, begins_row_run, cond, count_house_of, eq-eqb, eqb, eqb-true, exactly, false, false_from_ne_true, filter, get_or, get_or_append_left, houses_below, is_white, length, length-append, light_cells, light_house, light_houses, lt-ltb, ltb-true, no_count_house, number_house, refl, steps, suc, sym, true, true≢false, white, zero, ℕ, ◌&&◌, ◌++◌, ◌<◌, ◌∙◌, ◌∷◌, ◌≡◌, ◌≤◌}
+use Rattle.fields_core.proofs.Common.{Black, Bool, CountHouse, IsLight, Light, LightCell, List, Numbered, White, [], and_parts, any_below, any_below-here, any_below-some, ap, arith, begins_column_run, begins_row_run, cond, count_house_of, eq-eqb, eqb, eqb-true, exactly, false, false_from_ne_true, filter, get_or, get_or_append_left, houses_below, is_white, length, length-append, light_cells, light_house, light_houses, lt-ltb, ltb-true, no_count_house, number_house, refl, steps, suc, sym, true, true≢false, white, zero, ℕ, ◌&&◌, ◌++◌, ◌<◌, ◌∙◌, ◌∷◌, ◌≡◌, ◌≤◌, Option, None, Some, IsNext, is_some, min}
 use Rattle.fields_core.specs.Houses.{AreNamed}
 use Rattle.fields_core.specs.LightHouses.{numbered}
 use Rattle.fields_core.specs.LightLonely.{asks, lonely}
@@ -113,3 +113,8 @@ module _ (p : Light) (names : List (HouseName LightHouse)) (are : AreNamed (ligh
       let none = sym (named-cells (light_house p) names (light_houses p) k no_name are lt) ∙ eqb-true name.cells 0 parts.1 in
       any_below-here (lonely p) (light_cells p) name.place (place-tells p name.kind name.place lawful (ap length told))
       (calls-lonely p name.kind name.place _ told none parts.0)
+
+  pub lonely-told : (n : ℕ) (found : Option ℕ) → IsLight p → n ≡ min (length names) (light_cells p)
+      → IsNext (λ k. calls p (get_or names k no_name)) n 0 found → is_some found ≡ any_below (lonely p) (light_cells p)
+  lonely-told n None lawful e next = sym (none-lonely (λ k named cell. next k (omega arith) (omega arith)))
+  lonely-told n (Some k) lawful e next = sym (some-lonely k lawful (omega (arith, next.1)) next.2)

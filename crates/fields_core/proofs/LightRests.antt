@@ -1,5 +1,5 @@
 -- Numbers and runs of Light Up that wait: where they lie, what stays idle, and what is idle where a closing begins.
-use Rattle.fields_core.proofs.Common.{[], AllByRecursion, Black, Bool, any_below, any_below-none, cases_eq, or_left, or_right, Candidates, CountHouse, IsLight, Layers, Light, LightCell, List, Numbered, White, ap, arith, cases_Bool, common_steps, eqb, eqb-true, exactly, false, false_from_ne_true, filter, get_or, has_bit, houses_below, inl, inr, light_cells, light_houses, light_rules, lit_house, lt-ltb, ltb, not, number_house, place-filter, refl, steps, suc, sym, true, true≢false, white, zero, ℕ, ◌%◌, ◌&&◌, ◌*◌, ◌++◌, ◌+◌, ◌-◌, ◌/◌, ◌<◌, ◌||◌, ◌∙◌, ◌∷◌, ◌≡◌, ◌≤◌, or_parts}
+use Rattle.fields_core.proofs.Common.{[], mod-lt, has_place, one_at_least, seen_from, AllByRecursion, Black, Bool, any_below, any_below-none, cases_eq, or_left, or_right, Candidates, CountHouse, IsLight, Layers, Light, LightCell, List, Numbered, White, ap, arith, cases_Bool, common_steps, eqb, eqb-true, exactly, false, false_from_ne_true, filter, get_or, has_bit, houses_below, inl, inr, light_cells, light_houses, light_rules, lit_house, lt-ltb, ltb, not, number_house, place-filter, refl, steps, suc, sym, true, true≢false, white, zero, ℕ, ◌%◌, ◌&&◌, ◌*◌, ◌++◌, ◌+◌, ◌-◌, ◌/◌, ◌<◌, ◌||◌, ◌∙◌, ◌∷◌, ◌≡◌, ◌≤◌, or_parts}
 use Rattle.grid_core.specs.Candidates.{IsInside}
 use Rattle.grid_core.specs.Planes.{has, back_at, AreLinesOf, IsFurther, IsLostIn}
 use Rattle.grid_core.specs.declared.planes.touched.Touched.{Touched}
@@ -12,7 +12,7 @@ use Rattle.engine_core.specs.RuleSystem.{IsClosed}
 use Rattle.fields_core.specs.Light.{solves_lights}
 use Rattle.fields_core.specs.LightHouses.{row_house, column_house}
 use Rattle.fields_core.specs.LightPlanes.{ArePlanesOf}
-use Rattle.fields_core.specs.LightWaits.{AreIdleBut, AreLinesRested, AreLinesWoken, AreSpread, run_houses, run_lines, waiting_runs}
+use Rattle.fields_core.specs.LightWaits.{AreIdleBut, AreLinesRested, IsAway, AreLinesWoken, AreSpread, run_houses, run_lines, waiting_runs}
 use Rattle.fields_core.specs.LightWords.{numbers_of_row, row_runs_of_row}
 use Rattle.fields_core.specs.Visits.{after_houses}
 use Rattle.fields_core.specs.Waits.{AreIdle}
@@ -22,15 +22,17 @@ use Rattle.fields_core.specs.declared.planes.lights.waits.RunKind.TheVariants.{R
 unfoldable use Rattle.fields_core.proofs.IdleLemmas.{any_has}
 use Rattle.fields_core.proofs.IdleLemmas.{any-below, any-none, any-one, idle-far, idle-first, idle-rest}
 use Rattle.fields_core.proofs.AtMostLemmas.{IsFull}
-use Rattle.fields_core.proofs.LitIdle.{IsAll}
-use Rattle.fields_core.proofs.LitRuns.{planes-full}
+use Rattle.fields_core.proofs.LitIdle.{IsAll, alls-kept}
+use Rattle.fields_core.proofs.LightCounting.{light-board}
+use Rattle.fields_core.proofs.LightHouseLaws.{row-self}
+use Rattle.fields_core.proofs.LitRuns.{black-idle, planes-full, seen-in-row}
 use Rattle.fields_core.proofs.PlaneSweeps.{counted-some}
 use Rattle.fields_core.proofs.LitVisits.{lit-is}
 use Rattle.fields_core.proofs.NumberRows.{numbers-are}
 use Rattle.fields_core.proofs.PartIdle.{IsPartOf, closed-idle, in-back, in-below, in-front}
 use Rattle.fields_core.proofs.RunOrder.{column-runs-kept, row-runs-are, row-runs-kept}
 use Rattle.fields_core.proofs.StepLaws.{steps-some}
-use Rattle.fields_core.proofs.TentBeside.{IsNextTo, step-across, step-lies}
+use Rattle.fields_core.proofs.TentBeside.{IsNextTo, row-in, step-across, step-lies}
 use Rattle.fields_core.proofs.VisitLemmas.{visits-append}
 
 -- ---- where houses lie
@@ -53,19 +55,26 @@ numbers-lie p c y on =
 
 -- ---- lines that have changed
 -- a line that does not wait is none of these, nor beside one
-spread-off : {W : Type 0} (bits : W → ℕ) {room : ℕ} (before lines now : W) → AreSpread bits room before lines now
-    → {j k : ℕ} → has_bit (bits lines) j ≡ true → k < room → has_bit (bits now) k ≡ false → IsNextTo j k → ⊥
+spread-off : {W : Type 0} (bits : W → ℕ) {room : ℕ} (before : W) (lines : ℕ → Bool) (now : W) → AreSpread bits room before lines now
+    → {j k : ℕ} → lines j ≡ true → k < room → has_bit (bits now) k ≡ false → IsNextTo j k → ⊥
 spread-off bits {room} before lines now woken {j} {k} on lt off (inl own) =
     true≢false (sym (rw own at on) ∙ (or_parts _ _ (or_parts _ _ (or_parts _ _ (sym (woken k) ∙ off)).1).0).1)
 spread-off bits {room} before lines now woken {j} {k} on lt off (inr (inl above)) =
     let at : j ≡ k - 1 = omega (arith, above) in
-    let f : (ltb k room && (ltb 0 k && has_bit (bits lines) (k - 1))) ≡ false =
+    let f : (ltb k room && (ltb 0 k && lines (k - 1))) ≡ false =
     (or_parts _ _ (or_parts _ _ (or_parts _ _ (sym (woken k) ∙ off)).1).0).0 in
     true≢false (rw (lt-ltb k room lt, lt-ltb 0 k (omega (arith, above)), rw at at on) at f)
 spread-off bits {room} before lines now woken {j} {k} on lt off (inr (inr below)) =
     true≢false (sym (rw below at on) ∙ (or_parts _ _ (or_parts _ _ (sym (woken k) ∙ off)).1).1)
 
 -- ---- white cells
+-- a white cell has a house of the cells that it sees, and a black one has none
+lit-lies : (p : Light) (c d : ℕ) → any_has (lit_house p c) d ≡ true → has_place (seen_from p c) d ≡ true
+lit-lies p c d on = elim (cases_Bool (white p c)) [
+  | inl is ↦ any-one (one_at_least (seen_from p c)) d (rw is at on)
+  | inr off ↦ absurd (true≢false (sym (rw off at on) ∙ any-none d))
+]
+
 pub lits-each : (p : Light) (c : ℕ) → IsLight p → c < light_cells p → AllByRecursion (IsAll (light_cells p)) (lit_house p c)
 lits-each p c lawful lt = elim (cases_Bool (white p c)) [
   | inl on ↦ rw on (record { is = lit-is p lawful lt on; same = refl }, tt)
@@ -82,25 +91,31 @@ value-kept K L c v inside never = elim (cases_Bool (K c v)) [
   | inr off ↦ false_from_ne_true _ (λ on. true≢false (sym (inside c v on) ∙ off)) ∙ sym off
 ]
 
--- ---- once cells of these lines have lost values, or 0
-module _ {W : Type 0} (bits : W → ℕ) {room : ℕ} (p : Light) {before now : LineWaits W} {cells zeros : Touched W} (K L : Candidates)
+-- ---- once cells of these lines have lost 0, and cells of those 1
+module _ {W : Type 0} (bits : W → ℕ) {room : ℕ} (p : Light) {before now : LineWaits W} {zeros ones : Touched W} (K L : Candidates)
     (lawful : IsLight p) (narrow : p.size.w ≤ room) (low : p.size.h ≤ room) (full : IsFull (light_cells p) K) (still : IsFull (light_cells p) L) (inside : IsInside L K)
-    (lost : (c v : ℕ) → v < 2 → K c v ≡ true → L c v ≡ false → AreLinesOf bits cells (c / p.size.w) (c % p.size.w))
-    (lost_zero : (c : ℕ) → K c 0 ≡ true → L c 0 ≡ false → AreLinesOf bits zeros (c / p.size.w) (c % p.size.w))
-    (woken : AreLinesWoken bits room before cells zeros now) (rested : AreLinesRested bits p before K) where
+    (lost_zero : IsLostIn bits p.size.w 0 K L zeros) (lost_one : IsLostIn bits p.size.w 1 K L ones)
+    (woken : AreLinesWoken bits room before zeros ones now) (rested : AreLinesRested bits p before K) where
+  lost : (c v : ℕ) → v < 2 → K c v ≡ true → L c v ≡ false
+      → ((has_bit (bits zeros.columns) (c % p.size.w) || has_bit (bits ones.columns) (c % p.size.w)) ≡ true)
+      × ((has_bit (bits zeros.rows) (c / p.size.w) || has_bit (bits ones.rows) (c / p.size.w)) ≡ true)
+  lost c zero small on gone = let at = lost_zero c on gone in (or_left _ _ at.0, or_left _ _ at.1)
+  lost c (suc zero) small on gone = let at = lost_one c on gone in (or_right _ _ at.0, or_right _ _ at.1)
+  lost c (suc (suc v)) small on gone = absurd (omega (arith, small))
+
   -- numbers in a column that does not wait
   columns-rested : (y : ℕ) → y < p.size.h → AreIdleBut p (bits now.number_columns) y L
   columns-rested y y_in x lt off =
       idle-far (number_house p (y * p.size.w + x)) K L inside
       (λ c v on gone. false_from_ne_true _ (λ there.
-      spread-off bits _ _ _ woken.number_columns (lost c v (full.low c v on) on gone).0 (omega (arith, lt, narrow)) off (number-lies p c y x lt there).1))
+      spread-off bits _ (λ k. has_bit (bits zeros.columns) k || has_bit (bits ones.columns) k) _ woken.number_columns (lost c v (full.low c v on) on gone).0 (omega (arith, lt, narrow)) off (number-lies p c y x lt there).1))
       (rested.columns y y_in x lt (or_parts _ _ (sym (woken.number_columns x) ∙ off)).0)
 
   numbers-rested : (k : ℕ) → k < p.size.h → has_bit (bits now.numbers) k ≡ false → AreIdle (numbers_of_row p k) L
   numbers-rested k lt off =
       idle-far (numbers_of_row p k) K L inside
       (λ c v on gone. false_from_ne_true _ (λ there.
-      spread-off bits _ _ _ woken.numbers (lost c v (full.low c v on) on gone).1 (omega (arith, lt, low)) off (numbers-lie p c k there)))
+      spread-off bits _ (λ k. has_bit (bits zeros.rows) k || has_bit (bits ones.rows) k) _ woken.numbers (lost c v (full.low c v on) on gone).1 (omega (arith, lt, low)) off (numbers-lie p c k there)))
       (rested.numbers k lt (or_parts _ _ (sym (woken.numbers k) ∙ off)).0)
 
   runs-rested : (kind : RunKind) (k : ℕ) → k < run_lines p kind → has_bit (waiting_runs bits now kind) k ≡ false → AreIdle (run_houses p kind k) L
@@ -115,37 +130,50 @@ module _ {W : Type 0} (bits : W → ℕ) {room : ℕ} (p : Light) {before now : 
       (λ c column. value-kept K L c 0 inside (λ on gone. true≢false (sym (lost_zero c on gone).0 ∙ ap (has_bit (bits zeros.columns)) column ∙ parts.1)))
       (rested.runs Columns k lt parts.0)
 
-  pub lines-board : AreLinesRested bits p now L
-  lines-board = record { numbers = numbers-rested; runs = runs-rested; columns = columns-rested }
+  whites-rested : (c : ℕ) → c < light_cells p → IsAway bits p now.ones c → AreIdle (lit_house p c) L
+  whites-rested c lt away =
+      alls-kept (light_cells p) (lit_house p c) K L (lits-each p c lawful lt) full still inside
+      (λ d there. value-kept K L d 1 inside (λ on gone.
+      let at = lost_one d on gone in
+      away d (lit-lies p c d there) (woken.one_columns _ ∙ or_right _ _ at.0, woken.one_rows _ ∙ or_right _ _ at.1)))
+      (rested.whites c lt (λ d there at. away d there (woken.one_columns _ ∙ or_left _ _ at.0, woken.one_rows _ ∙ or_left _ _ at.1)))
 
-pub lines-woken : {W : Type 0} (bits : W → ℕ) {room : ℕ} (p : Light) (zeros ones cells : Touched W) {from to : Layers} {len : ℕ} (before now : LineWaits W)
+  pub lines-board : AreLinesRested bits p now L
+  lines-board = record { numbers = numbers-rested; runs = runs-rested; columns = columns-rested; whites = whites-rested }
+
+pub lines-woken : {W : Type 0} (bits : W → ℕ) {room : ℕ} (p : Light) (zeros ones : Touched W) {from to : Layers} {len : ℕ} (before now : LineWaits W)
     → IsLostIn bits to.size.w 0 (back_at to len) (has to) zeros → IsLostIn bits to.size.w 1 (back_at to len) (has to) ones
-    → ((k : ℕ) → has_bit (bits cells.rows) k ≡ (has_bit (bits zeros.rows) k || has_bit (bits ones.rows) k))
-    → ((k : ℕ) → has_bit (bits cells.columns) k ≡ (has_bit (bits zeros.columns) k || has_bit (bits ones.columns) k))
     → ArePlanesOf room p to → ArePlanesOf room p from → from.len ≡ len → IsFurther from to
-    → AreLinesWoken bits room before cells zeros now → AreLinesRested bits p before (has from) → AreLinesRested bits p now (has to)
-lines-woken bits p zeros ones cells {from} {to} {len} before now lost_zeros lost_ones all_rows all_columns of was is further =
-    lines-board bits p (has from) (has to) of.lawful of.narrow of.low (planes-full p from was.size was.alive) (planes-full p to of.size of.alive) further.inside lost zeros-at
+    → AreLinesWoken bits room before zeros ones now → AreLinesRested bits p before (has from) → AreLinesRested bits p now (has to)
+lines-woken bits p zeros ones {from} {to} {len} before now lost_zeros lost_ones of was is further =
+    lines-board bits p (has from) (has to) of.lawful of.narrow of.low (planes-full p from was.size was.alive) (planes-full p to of.size of.alive) further.inside
+    (λ c on gone. rw (of.size) at (lost_zeros c (rw whole on) gone)) (λ c on gone. rw (of.size) at (lost_ones c (rw whole on) gone))
   where
     whole : back_at to len ≡ has from
     whole = rw (← is) (further.back from.len (omega arith) ∙ put_back-none from.size.w (has from) from.takings from.len from.len (omega arith))
 
-    zeros-at : IsLostIn bits p.size.w 0 (has from) (has to) zeros
-    zeros-at c on gone = rw (of.size) at (lost_zeros c (rw whole on) gone)
-
-    ones-at : IsLostIn bits p.size.w 1 (has from) (has to) ones
-    ones-at c on gone = rw (of.size) at (lost_ones c (rw whole on) gone)
-
-    lost : (c v : ℕ) → v < 2 → has from c v ≡ true → has to c v ≡ false → AreLinesOf bits cells (c / p.size.w) (c % p.size.w)
-    lost c zero small on gone = let at = zeros-at c on gone in
-        (all_columns _ ∙ or_left _ (has_bit (bits ones.columns) _) at.0, all_rows _ ∙ or_left _ (has_bit (bits ones.rows) _) at.1)
-    lost c (suc zero) small on gone = let at = ones-at c on gone in
-        (all_columns _ ∙ or_right (has_bit (bits zeros.columns) _) _ at.0, all_rows _ ∙ or_right (has_bit (bits zeros.rows) _) _ at.1)
-    lost c (suc (suc v)) small on gone = absurd (omega (arith, small))
+-- ---- where all cells may have lost values
+pub lines-all : {W : Type 0} (bits : W → ℕ) {room : ℕ} (p : Light) (waits : LineWaits W) (K : Candidates) → IsLight p → p.size.w ≤ room → p.size.h ≤ room
+    → ((k : ℕ) → k < room → has_bit (bits waits.numbers) k ≡ true) → ((k : ℕ) → k < room → has_bit (bits waits.number_columns) k ≡ true)
+    → ((k : ℕ) → k < room → has_bit (bits waits.rows) k ≡ true) → ((k : ℕ) → k < room → has_bit (bits waits.columns) k ≡ true)
+    → ((y x : ℕ) → y < room → x < room → AreLinesOf bits waits.ones y x) → AreLinesRested bits p waits K
+lines-all bits p waits K lawful narrow low numbers number_columns rows columns ones = record {
+  numbers = λ y lt off. absurd (true≢false (sym (numbers y (omega (arith, lt, low))) ∙ off));
+  runs = by;
+  columns = λ y y_in x lt off. absurd (true≢false (sym (number_columns x (omega (arith, lt, narrow))) ∙ off));
+  whites = λ c lt away. elim (cases_Bool (white p c)) [
+    | inl on ↦ absurd (away c (seen-in-row p lawful c on c (row-self p c on)) (ones _ _ (omega (arith, row-in p.size.h c (light-board lawful).some lt, low)) (omega (arith, mod-lt c (light-board lawful).some, narrow))))
+    | inr off ↦ black-idle p c K off
+  ];
+}
+  where
+    by : (kind : RunKind) (k : ℕ) → k < run_lines p kind → has_bit (waiting_runs bits waits kind) k ≡ false → AreIdle (run_houses p kind k) K
+    by Rows k lt off = absurd (true≢false (sym (rows k (omega (arith, lt, low))) ∙ off))
+    by Columns k lt off = absurd (true≢false (sym (columns k (omega (arith, lt, narrow))) ∙ off))
 
 -- ---- where a closing begins
 -- the houses of the lists below n, where each list is idle
-below-idle : (f : ℕ → List CountHouse) (n : ℕ) (K : Candidates) → ((k : ℕ) → k < n → AreIdle (f k) K) → AreIdle (houses_below f n) K
+pub below-idle : (f : ℕ → List CountHouse) (n : ℕ) (K : Candidates) → ((k : ℕ) → k < n → AreIdle (f k) K) → AreIdle (houses_below f n) K
 unfolding houses_below after_houses
 below-idle f zero K each = refl
 below-idle f (suc n) K each =
@@ -183,36 +211,55 @@ module _ (p : Light) (K : Candidates) (closed : IsClosed (light_rules p) K) wher
       (in-back _ (houses_below (number_house p) (light_cells p)) _ (in-back _ (houses_below (row_house p) (light_cells p)) _
       (in-front _ _ _ (in-below (column_house p) (y * p.size.w + k) (light_cells p) (place-in p.size.w p.size.h y k less lt))))))
 
+  white-idle : (c : ℕ) → c < light_cells p → AreIdle (lit_house p c) K
+  unfolding light_houses
+  white-idle c lt = part-idle (lit_house p c)
+      (in-back _ (houses_below (number_house p) (light_cells p)) _ (in-back _ (houses_below (row_house p) (light_cells p)) _
+      (in-back _ (houses_below (column_house p) (light_cells p)) _ (in-below (lit_house p) c (light_cells p) lt))))
+
   closed-rested : {W : Type 0} (bits : W → ℕ) (none : LineWaits W) → AreLinesRested bits p none K
   closed-rested bits none = record {
     numbers = λ k lt off. numbers-part (numbers_of_row p k) (rw (numbers-are p) at (in-below (numbers_of_row p) k p.size.h lt));
     runs = λ kind k lt off. runs-idle kind k lt;
     columns = λ y y_in x lt off. numbers-part (number_house p (y * p.size.w + x))
         (in-below (number_house p) (y * p.size.w + x) (light_cells p) (place-in p.size.w p.size.h y x y_in lt));
+    whites = λ c lt away. white-idle c lt;
   }
 
--- a closing begins at a cell
-pub lines-at : {W : Type 0} (bits : W → ℕ) {room : ℕ} (p : Light) {planes : Layers} {place : ℕ} (none now : LineWaits W) {cell : Touched W}
+-- the cell at which a closing begins has a value
+pub has-one : {room : ℕ} {p : Light} {planes : Layers} {place : ℕ} → ArePlanesOf room p planes → IsClosedAround (light_rules p) (has planes) place
+    → has planes place 1 ≡ false → has planes place 0 ≡ false → ⊥
+has-one {p = p} {place = place} of around no_one no_zero =
+    elim (of.alive place (rw (of.size) (around.within place around.value around.had).0)) [
+      | inl on ↦ true≢false (sym on ∙ no_zero)
+      | inr on ↦ true≢false (sym on ∙ no_one)
+    ]
+
+-- a closing begins at a cell, which has lost a value
+pub lines-at : {W : Type 0} (bits : W → ℕ) {room : ℕ} (p : Light) {planes : Layers} {place : ℕ} (none now : LineWaits W) {zeros ones : Touched W}
     → ArePlanesOf room p planes → IsClosedAround (light_rules p) (has planes) place
-    → AreLinesOf bits cell (place / p.size.w) (place % p.size.w) → AreLinesWoken bits room none cell cell now → AreLinesRested bits p now (has planes)
-lines-at bits p {planes} {place} none now {cell} of around own woken =
+    → (has planes place 0 ≡ false → AreLinesOf bits zeros (place / p.size.w) (place % p.size.w))
+    → (has planes place 1 ≡ false → AreLinesOf bits ones (place / p.size.w) (place % p.size.w))
+    → AreLinesWoken bits room none zeros ones now → AreLinesRested bits p now (has planes)
+lines-at {W = W} bits p {planes} {place} none now {zeros} {ones} of around no_zero no_one woken =
     lines-board bits p around.before (has planes) of.lawful of.narrow of.low full (planes-full p planes of.size of.alive)
-    (rw (around.is) (only-inside around.before place around.value)) (λ c v small. at c v) (λ c. at c 0) woken
+    (rw (around.is) (only-inside around.before place around.value)) (at 0 zeros no_zero) (at 1 ones no_one) woken
     (closed-rested p around.before around.closed bits none)
   where
     full : IsFull (light_cells p) around.before
     full = record { low = λ c v on. (around.within c v on).1; some = λ c lt. counted-some around.before c (is_dead-not (light_cells p) 2 around.before c around.alive lt) }
 
-    at : (c v : ℕ) → around.before c v ≡ true → has planes c v ≡ false → AreLinesOf bits cell (c / p.size.w) (c % p.size.w)
-    at c v on gone = elim (cases_eq c place) [
-      | inl e ↦ rw e own
+    at : (v : ℕ) (lines : Touched W) → (has planes place v ≡ false → AreLinesOf bits lines (place / p.size.w) (place % p.size.w))
+        → IsLostIn bits p.size.w v around.before (has planes) lines
+    at v lines own c on gone = elim (cases_eq c place) [
+      | inl e ↦ rw e (own (rw e at gone))
       | inr ne ↦ absurd (true≢false (sym on ∙ sym (ap (λ (f : ℕ → Bool). f v) (only-other around.before place around.value c ne)) ∙ rw (around.is) at gone))
     ]
 
 -- ---- the last row whose numbers wait is settled
 module _ {W : Type 0} (bits : W → ℕ) (p : Light) (before now : LineWaits W) (room y : ℕ) (K : Candidates)
     (numbers : (k : ℕ) → has_bit (bits now.numbers) k ≡ (has_bit (bits before.numbers) k && not (eqb k y)))
-    (rows : now.rows ≡ before.rows) (columns : now.columns ≡ before.columns)
+    (rows : now.rows ≡ before.rows) (columns : now.columns ≡ before.columns) (ones : now.ones ≡ before.ones)
     (rested : AreLinesRested bits p before K) (idle : AreIdle (numbers_of_row p y) K) where
   runs-settled : (kind : RunKind) (k : ℕ) → k < run_lines p kind → has_bit (waiting_runs bits now kind) k ≡ false → AreIdle (run_houses p kind k) K
   runs-settled Rows k lt off = rested.runs Rows k lt (rw rows at off)
@@ -233,4 +280,5 @@ module _ {W : Type 0} (bits : W → ℕ) (p : Light) (before now : LineWaits W) 
     runs = runs-settled;
     columns = λ z z_in x lt off. idle-one (λ k. number_house p (z * p.size.w + k)) p.size.w x K lt
         (numbers-settled z z_in (any_below-none (has_bit (bits now.numbers)) room none z (omega (arith, z_in, low))));
+    whites = λ c lt away. rested.whites c lt (rw ones at away);
   }

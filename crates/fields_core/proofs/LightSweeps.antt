@@ -1,10 +1,10 @@
 -- Sweeps of the houses of Light Up on planes.
-use Rattle.fields_core.proofs.Common.{AllByRecursion, IsAlive, IsLight, Layers, Light, append_assoc, ap, arith, column_house, houses_below, length, light_cells, light_houses, light_rules, lit_house, not, refl, row_house, true, white, ℕ, Bool, ◌*◌, ◌++◌, ◌+◌, ◌<◌, ◌∙◌, ◌≡◌, ◌≤◌}
+use Rattle.fields_core.proofs.Common.{AllByRecursion, IsAlive, IsLight, Layers, Light, append_assoc, ap, arith, column_house, houses_below, length, light_cells, light_houses, light_rules, lit_house, not, refl, row_house, true, white, ℕ, Bool, ◌*◌, ◌++◌, ◌+◌, ◌<◌, ◌∙◌, ◌≡◌, ◌≤◌, ◌⊎◌}
 use Rattle.grid_core.specs.Planes.{IsFurther, has}
 use Rattle.grid_core.proofs.PlaneLemmas.{place-in}
 use Rattle.fields_core.specs.Light.{solves_lights}
 use Rattle.fields_core.specs.LightPlanes.{ArePlanesOf}
-use Rattle.fields_core.specs.LightWaits.{AreLightsReady, AreLinesRested, lits_of_row, run_houses, run_lines, white_houses}
+use Rattle.fields_core.specs.LightWaits.{AreLightsReady, AreLinesRested, IsReach, lits_of_row, run_houses, run_lines, white_houses}
 use Rattle.fields_core.specs.LightWords.{numbers_of_row}
 use Rattle.fields_core.specs.Sweeps.{IsSweep}
 use Rattle.fields_core.specs.Visits.{AreVisited}
@@ -13,11 +13,11 @@ use Rattle.fields_core.specs.declared.planes.lights.notes.LightNotes.{LightNotes
 use Rattle.fields_core.specs.declared.planes.lights.waits.RunKind.{RunKind}
 use Rattle.fields_core.specs.declared.planes.lights.waits.RunKind.TheVariants.{Rows, Columns}
 use Rattle.fields_core.proofs.AnyOrder.{IsSingle}
-use Rattle.fields_core.proofs.LightRests.{lits-each}
+use Rattle.fields_core.proofs.LightRests.{below-idle, lits-each}
 use Rattle.fields_core.proofs.LitIdle.{IsAll}
 use Rattle.fields_core.proofs.NumberRows.{numbers-are}
 use Rattle.fields_core.proofs.PlaneSweeps.{visits-swept}
-use Rattle.fields_core.proofs.QuietVisits.{alls-quiet, quiet-done, quiet-stays, singles-quiet}
+use Rattle.fields_core.proofs.QuietVisits.{alls-quiet, quiet-done, quiet-one, quiet-stays, singles-quiet}
 use Rattle.fields_core.proofs.RunOrder.{column-runs-single, row-runs-single}
 use Rattle.fields_core.proofs.VisitLemmas.{below-rows}
 use Rattle.fields_core.proofs.CountListLemmas.{all-houses}
@@ -26,11 +26,6 @@ use Rattle.fields_core.proofs.CountListLemmas.{all-houses}
 runs-single : (p : Light) (kind : RunKind) (k : ℕ) → IsLight p → k < run_lines p kind → AllByRecursion (IsSingle (light_cells p)) (run_houses p kind k)
 runs-single p Rows k lawful lt = row-runs-single p k lawful
 runs-single p Columns k lawful lt = column-runs-single p k lawful
-
-pub runs-stay : {room : ℕ} (p : Light) (kind : RunKind) {from to : Layers} {n k : ℕ} → ArePlanesOf room p from → n ≤ run_lines p kind → k < run_lines p kind
-    → AreVisited (houses_below (run_houses p kind) n) from to true → AreIdle (run_houses p kind k) (has from) → AreIdle (run_houses p kind k) (has to)
-runs-stay p kind {k = k} of le lt visited idle =
-    quiet-stays p (singles-quiet (light_cells p)) (run_houses p kind) (λ k lt. runs-single p kind k of.lawful lt) of le visited (run_houses p kind k) (runs-single p kind k of.lawful lt) idle
 
 pub runs-done : {room : ℕ} (p : Light) (kind : RunKind) {from to : Layers} → ArePlanesOf room p from
     → AreVisited (houses_below (run_houses p kind) (run_lines p kind)) from to true → (k : ℕ) → k < run_lines p kind → AreIdle (run_houses p kind k) (has to)
@@ -56,6 +51,36 @@ pub lits-stay : {room : ℕ} (p : Light) (y x : ℕ) {from to : Layers} {m : ℕ
 lits-stay p y x of le y_in x_in visited idle =
     quiet-stays p (alls-quiet (light_cells p)) (lits_of_row p) (λ y lt. row-lits p y of.lawful lt) of le visited
     (lit_house p (y * p.size.w + x)) (lit-all p y x of.lawful y_in x_in) idle
+
+-- and another, after a visit of one
+pub lit-kept : {room : ℕ} (p : Light) (y j k : ℕ) {from to : Layers} → ArePlanesOf room p from → y < p.size.h → j < p.size.w → k < p.size.w
+    → AreVisited (lit_house p (y * p.size.w + j)) from to true → AreIdle (lit_house p (y * p.size.w + k)) (has from) → AreIdle (lit_house p (y * p.size.w + k)) (has to)
+lit-kept p y j k of y_in j_in k_in visited idle =
+    quiet-one p (alls-quiet (light_cells p)) (lit_house p (y * p.size.w + j)) (lit-all p y j of.lawful y_in j_in) of visited
+    (lit_house p (y * p.size.w + k)) (lit-all p y k of.lawful y_in k_in) idle
+
+pub runs-kept : {room : ℕ} (p : Light) (kind : RunKind) (j k : ℕ) {from to : Layers} → ArePlanesOf room p from → j < run_lines p kind → k < run_lines p kind
+    → AreVisited (run_houses p kind j) from to true → AreIdle (run_houses p kind k) (has from) → AreIdle (run_houses p kind k) (has to)
+runs-kept p kind j k of j_in k_in visited idle =
+    quiet-one p (singles-quiet (light_cells p)) (run_houses p kind j) (runs-single p kind j of.lawful j_in) of visited
+    (run_houses p kind k) (runs-single p kind k of.lawful k_in) idle
+
+-- rows that no cell that waits is in
+pub out-idle : {W : Type 0} {bits : W → ℕ} {room : ℕ} {p : Light} {from : Layers} {notes : LightNotes W} {first end : ℕ} → AreLightsReady bits room p from notes
+    → IsReach bits p notes.waits.ones first end → (y : ℕ) → y < p.size.h → (y < first) ⊎ (end ≤ y) → AreIdle (lits_of_row p y) (has from)
+out-idle {p = p} {from = from} ready reach y y_in out =
+    below-idle (λ x. lit_house p (y * p.size.w + x)) p.size.w (has from)
+    (λ x lt. ready.rested.whites (y * p.size.w + x) (place-in p.size.w p.size.h y x y_in lt) (reach.away y x y_in lt out))
+
+pub row-stays : {room : ℕ} (p : Light) (y : ℕ) {from to : Layers} {m : ℕ} → ArePlanesOf room p from → m ≤ p.size.h → y < p.size.h
+    → AreVisited (houses_below (lits_of_row p) m) from to true → AreIdle (lits_of_row p y) (has from) → AreIdle (lits_of_row p y) (has to)
+row-stays p y of le y_in visited idle =
+    quiet-stays p (alls-quiet (light_cells p)) (lits_of_row p) (λ y lt. row-lits p y of.lawful lt) of le visited
+    (lits_of_row p y) (row-lits p y of.lawful y_in) idle
+
+pub lits-done : {room : ℕ} (p : Light) {from to : Layers} → ArePlanesOf room p from → AreVisited (houses_below (lit_house p) (light_cells p)) from to true
+    → (c : ℕ) → c < light_cells p → AreIdle (lit_house p c) (has to)
+lits-done p of visited = quiet-done p (alls-quiet (light_cells p)) (lit_house p) (λ c lt. lits-each p c of.lawful lt) of (omega arith) visited
 
 -- ---- the houses in order
 pub lits-are : (p : Light) → houses_below (lits_of_row p) p.size.h ≡ houses_below (lit_house p) (light_cells p)

@@ -1,5 +1,5 @@
 -- Lists of different places, and how many of them pass a test.
-use Rattle.fields_core.proofs.Common.{AreDistinct, Bool, List, [], ap, arith, bulb, cases_Bool, cases_eq, cases_lt, common_steps, cond, count_by, count_by-le-length, different-from, distinct-filter, eqb, eqb-false, false, false≢true, filter, has_place, has_place-at, has_place-here, inl, inr, length, length-filter, list_any, lt-ltb, ltb, ltb-false, ltb-true, map, ne_eqb, nonzeros, or_parts, place-filter, place-kept, refl, slice_index, sum_by-cons, sym, true, ℕ, ◌+◌, ◌<◌, ◌||◌, ◌∙◌, ◌∷◌, ◌≡◌, ◌≤◌}
+use Rattle.fields_core.proofs.Common.{AreDistinct, Bool, List, [], ap, arith, bulb, cases_Bool, cases_eq, cases_lt, common_steps, cond, count_by, count_by-le-length, different-from, distinct-filter, eqb, eqb-false, false, false≢true, filter, has_place, has_place-at, has_place-here, inl, inr, length, length-filter, list_any, lt-ltb, ltb, ltb-false, ltb-true, map, ne_eqb, nonzeros, or_parts, place-filter, place-kept, refl, slice_index, sum_by-cons, sym, true, ℕ, ◌+◌, ◌<◌, ◌||◌, ◌∙◌, ◌∷◌, ◌≡◌, ◌≤◌, eq-eqb, le-ltb, not}
 use Rattle.fields_core.proofs.BelowLemmas.{any-here, any-none}
 
 pub filter-few : (test : ℕ → Bool) (xs : List ℕ) → length (filter test xs) ≤ length xs
@@ -19,6 +19,9 @@ count-cons test x xs = sum_by-cons (λ c. cond (test c) 1 0) x xs
 pub some-counted : (test : ℕ → Bool) (xs : List ℕ) → ltb 0 (count_by test xs) ≡ list_any test xs
 some-counted test [] = refl
 some-counted test (x ∷ xs) = grind (arith, common_steps, cases_Bool, count-cons test x xs, lt-ltb, some-counted test xs)
+
+pub none-counted : (test : ℕ → Bool) (xs : List ℕ) → eqb (count_by test xs) 0 ≡ not (list_any test xs)
+none-counted test xs = grind (arith, common_steps, some-counted test xs, cases_eq, eq-eqb, ne_eqb, lt-ltb, le-ltb)
 
 pub count-some : (test : ℕ → Bool) (xs : List ℕ) (d : ℕ) → has_place xs d ≡ true → test d ≡ true → 1 ≤ count_by test xs
 count-some test xs d on passes = omega (arith, ltb-true 0 (count_by test xs) (some-counted test xs ∙ any-here test xs d on passes))

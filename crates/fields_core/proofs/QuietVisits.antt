@@ -11,6 +11,7 @@ use Rattle.fields_core.proofs.LightRests.{idle-one}
 use Rattle.fields_core.proofs.LitIdle.{IsAll, all-keeps}
 use Rattle.fields_core.proofs.LitRuns.{planes-full}
 use Rattle.fields_core.proofs.CountListLemmas.{all-houses}
+use Rattle.fields_core.proofs.VisitLemmas.{sweep-first, sweep-more}
 
 pub singles-quiet : (cells : ℕ) → AreQuiet cells (IsSingle cells)
 singles-quiet cells = record { different = λ house is. is.is.different; keeps = single-keeps cells }
@@ -36,3 +37,10 @@ module _ {room : ℕ} (p : Light) {Is : CountHouse → Type 0} (quiet : AreQuiet
 
   pub quiet-done : (k : ℕ) → k < m → AreIdle (f k) (has to)
   quiet-done k lt = idle-one f m k (has to) lt (rw (visited.left refl) (list-settled quiet (houses_below f m) (has from) those full after))
+
+-- one list
+pub quiet-one : {room : ℕ} (p : Light) {Is : CountHouse → Type 0} → AreQuiet (light_cells p) Is → (houses : List CountHouse) → AllByRecursion Is houses
+    → {from to : Layers} → ArePlanesOf room p from → AreVisited houses from to true
+    → (others : List CountHouse) → AllByRecursion Is others → AreIdle others (has from) → AreIdle others (has to)
+quiet-one p quiet houses each of visited others each_other idle =
+    quiet-stays p quiet (λ _. houses) {n = 1} (λ k lt. each) of (omega arith) (sweep-more (λ _. houses) (sweep-first (λ _. houses) of.alive) visited refl) others each_other idle

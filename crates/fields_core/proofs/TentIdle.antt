@@ -1,11 +1,11 @@
 -- Houses of Tents that stay idle while others of their kind are visited, and visits of those of a kind that wait.
-use Rattle.fields_core.proofs.Common.{AllByRecursion, Bool, CountHouse, IsHouse, arith, and-false, and_parts, cases_Bool, cases_eq, cases_lt, common_steps, eq-eqb, eqb, lt-ltb, ltb, ltb-true, true≢false, exactly, false, false_from_ne_true, has_bit, houses_below, ne_eqb, inl, inr, not, or_left, refl, slice_index, sym, tent_cells, true, ℕ, ◌&&◌, ◌+◌, ◌<◌, ◌∙◌, ◌≡◌, ◌≤◌, ◌⊎◌, any_below, any_below-none, Layers}
+use Rattle.fields_core.proofs.Common.{AllByRecursion, Bool, CountHouse, IsFurther, IsHouse, List, arith, and-false, and_parts, cases_Bool, cases_eq, cases_lt, common_steps, eq-eqb, eqb, lt-ltb, ltb, ltb-true, true≢false, exactly, false, false_from_ne_true, has_bit, houses_below, ne_eqb, inl, inr, not, or_left, refl, slice_index, sym, tent_cells, true, ℕ, ◌&&◌, ◌+◌, ◌<◌, ◌∙◌, ◌≡◌, ◌≤◌, ◌⊎◌, any_below, any_below-none, Layers}
 use Rattle.grid_core.specs.Planes.{has}
 use Rattle.grid_core.specs.Regions.{row_places, column_places}
 use Rattle.grid_core.specs.Words.{IsLeast}
 use Rattle.gameid_core.specs.Puzzles.{Tents, IsTents}
 use Rattle.fields_core.specs.Parts.{IsAlive}
-use Rattle.fields_core.specs.Visits.{AreVisited, after_houses}
+use Rattle.fields_core.specs.Visits.{AreVisited, IsFieldOf, after_houses}
 use Rattle.fields_core.specs.Waits.{AreIdle, AreRested, kind_houses, kind_lines, waiting}
 use Rattle.fields_core.specs.declared.planes.waits.Kind.{Kind}
 use Rattle.fields_core.specs.declared.planes.waits.Kind.TheVariants.{Columns, Rows, Trees, Squares}
@@ -81,6 +81,19 @@ module _ (p : Tents) (lawful : IsTents p) where
 
   kind-quiet : (kind : Kind) → AreQuiet (tent_cells p) (IsOfKind p kind)
   kind-quiet kind = record { different = λ house is. (kind-is kind house is).different; keeps = kind-keeps kind }
+
+-- planes stay those of a puzzle while they lose values
+pub field-further : {room : ℕ} {p : Tents} {from to : Layers} {words : List ℕ} → IsFieldOf room p from words → IsFurther from to → IsAlive to
+    → IsFieldOf room p to words
+field-further field further alive = record {
+  lawful = field.lawful;
+  narrow = field.narrow;
+  low = field.low;
+  size = further.same_size ∙ field.size;
+  trees = field.trees;
+  bare = λ c on. false_from_ne_true _ (λ has. true≢false (sym (further.inside c 1 has) ∙ field.bare c on));
+  alive = alive;
+}
 
 -- ---- visits of the lines of a kind that wait
 -- the houses of the lines so far are visited, and those of the lines that are not left are idle

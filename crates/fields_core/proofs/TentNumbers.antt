@@ -1,5 +1,6 @@
 -- Numbers below n that pass a test, by how many pass before them.
-use Rattle.fields_core.proofs.Common.{Bool, List, [], add-one, ap, append-nil, arith, cases_Bool, cases_eq, cases_lt, common_steps, cond, count_below, counted, eq-eqb, false, get_or, get_or-append_right, get_or-set_other, get_or-set_same, get_or_append_left, inl, inr, length, length-append, ne_eqb, numbered, refl, set, slice_index, suc, take, tent, true, zero, ℕ, ◌+◌, ◌-◌, ◌<◌, ◌∙◌, ◌∷◌, ◌≡◌}
+use Rattle.grid_core.proofs.Common.{bool_byte}
+use Rattle.fields_core.proofs.Common.{Bool, List, [], add-one, ap, append-nil, arith, cases_Bool, cases_eq, cases_lt, common_steps, cond, count_below, counted, eq-eqb, false, get_or, get_or-append_right, get_or-set_other, get_or-set_same, get_or_append_left, inl, inr, length, length-append, ne_eqb, numbered, refl, set, slice_index, suc, take, tent, true, zero, ℕ, ◌+◌, ◌-◌, ◌<◌, ◌∙◌, ◌∷◌, ◌≡◌, sym, ◌≤◌}
 use Rattle.fields_core.proofs.RunLemmas.{passing, passing-more, passing-suc}
 
 pub passing-long : (test : ℕ → Bool) (n : ℕ) → length (passing test n) ≡ count_below test n
@@ -48,13 +49,14 @@ pub count-none : (test : ℕ → Bool) → 0 ≡ count_below test 0
 unfolding count_below
 count-none test = refl
 
-pub count-skip : (test : ℕ → Bool) (n k : ℕ) → k ≡ count_below test n → test n ≡ false → k ≡ count_below test (n + 1)
+pub count-more : (test : ℕ → Bool) (n k : ℕ) (on : Bool) → k ≡ count_below test n → on ≡ test n → k + bool_byte on ≡ count_below test (n + 1)
 unfolding count_below
-count-skip test n k e off = rw (add-one n, off) (omega arith)
+count-more test n k true e is = rw (add-one n, sym is) (omega arith)
+count-more test n k false e is = rw (add-one n, sym is) (omega arith)
 
-pub count-keep : (test : ℕ → Bool) (n k : ℕ) → k ≡ count_below test n → test n ≡ true → k + 1 ≡ count_below test (n + 1)
-unfolding count_below
-count-keep test n k e on = rw (add-one n, on) (omega arith)
+pub byte-few : (on : Bool) → bool_byte on ≤ 1
+byte-few true = omega arith
+byte-few false = omega arith
 
 pub numbers-more : (test : ℕ → Bool) (numbers : List ℕ) (n k : ℕ)
     → ((c : ℕ) → c < n → get_or numbers c 0 ≡ count_below test c) → k ≡ count_below test n

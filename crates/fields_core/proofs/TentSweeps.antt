@@ -1,23 +1,31 @@
 -- Sweeps of the houses of Tents on planes.
-use Rattle.std.proofs.Common.{◌≡◌, Bool, ◌++◌, append_assoc, refl}
+use Rattle.std.proofs.Common.{◌≡◌, Bool, List, ◌++◌, append_assoc, refl}
 use Rattle.grid_core.specs.Planes.{Layers}
 use Rattle.gameid_core.specs.Puzzles.{Tents}
-use Rattle.fields_core.specs.CountHouse.{houses_below}
+use Rattle.fields_core.specs.CountHouse.{CountHouse, houses_below}
 use Rattle.fields_core.specs.Sweeps.{IsSweep}
-use Rattle.fields_core.specs.TentHouses.{column_of_tents, row_of_tents, tent_houses, is_barred, tent_rules}
+use Rattle.fields_core.specs.TentHouses.{tent_houses, is_barred, tent_rules}
 use Rattle.fields_core.specs.Tents.{tent_cells, solves_tents}
-use Rattle.fields_core.specs.Visits.{AreVisited, cell_houses, line_houses}
+use Rattle.fields_core.specs.Visits.{AreVisited}
+use Rattle.fields_core.specs.Waits.{kind_houses, kind_lines}
+use Rattle.fields_core.specs.declared.planes.waits.Kind.{Kind}
+use Rattle.fields_core.specs.declared.planes.waits.Kind.TheVariants.{Columns, Rows, Squares, Trees}
 use Rattle.fields_core.proofs.PlaneSweeps.{visits-swept}
 use Rattle.fields_core.proofs.SquareVisits.{squares-are}
 use Rattle.fields_core.proofs.TreeBoards.{trees-are}
 
+-- the houses of a kind
+abbrev pub all_of_kind : Tents → Kind → List CountHouse
+all_of_kind p kind = houses_below (kind_houses p kind) (kind_lines p kind)
+
 pub houses-swept : (p : Tents) {from to : Layers} {fills : Bool} → from.size ≡ p.size
-    → AreVisited (line_houses p ++ cell_houses p) from to fills → IsSweep (tent_rules p) from to fills
+    → AreVisited (((all_of_kind p Columns ++ all_of_kind p Rows) ++ all_of_kind p Trees) ++ all_of_kind p Squares) from to fills
+    → IsSweep (tent_rules p) from to fills
 unfolding tent_houses
 houses-swept p {from} {to} {fills} size visited =
     let all : AreVisited (tent_houses p) from to fills = rw (
-      append_assoc (houses_below (column_of_tents p) p.size.w) (houses_below (row_of_tents p) p.size.h)
-          (cell_houses p),
+      append_assoc (all_of_kind p Columns ++ all_of_kind p Rows) (all_of_kind p Trees) (all_of_kind p Squares),
+      append_assoc (all_of_kind p Columns) (all_of_kind p Rows) (all_of_kind p Trees ++ all_of_kind p Squares),
       trees-are p,
       squares-are p,
     ) at visited in

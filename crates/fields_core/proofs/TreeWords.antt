@@ -6,7 +6,7 @@ use Rattle.grid_core.specs.Regions.{beside}
 use Rattle.grid_core.specs.Words.{differ}
 use Rattle.grid_core.specs.declared.planes.line.Line.TheVariants.{Row}
 use Rattle.std.proofs.lemmas.List.{map-set}
-use Rattle.fields_core.specs.Trees.{IsNear, IsRowOf, is_beside, without_zeros}
+use Rattle.fields_core.specs.Trees.{AreRowsOf, IsNear, IsRowOf, is_beside, without_zeros}
 use Rattle.fields_core.specs.declared.planes.near.Near.{Near}
 use Rattle.fields_core.proofs.CellLemmas.{has-append, same-truth}
 use Rattle.fields_core.proofs.PlaceLists.{num}
@@ -309,3 +309,9 @@ rows-more bits words n P word lt written is y less = rw (map-set bits words n wo
 -- the word that was read
 pub row-read : {W : Type 0} (bits : W → ℕ) (words : List W) (y : ℕ) (word : W) → y < length words → word ≡ get_or words y word → slice_index (map bits words) y ≡ bits word
 row-read bits words y word lt read = get_or-map bits words y word 0 lt ∙ ap bits (sym read)
+
+-- where each row has a word
+pub rows-read : {W : Type 0} (bits : W → ℕ) (words : List W) {size : Extent} {passes : ℕ → Bool} (y : ℕ) {word : W} → y < size.h → AreRowsOf size passes (map bits words)
+    → word ≡ get_or words y word → IsRowOf size.w passes y (bits word)
+rows-read bits words y {word} lt are read =
+    rw (row-read bits words y word (omega (arith, lt, are.long, length-map words bits)) read) at (are.each y lt)

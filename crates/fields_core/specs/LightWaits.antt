@@ -1,13 +1,14 @@
 -- Which houses of Light Up wait on planes. No public contract uses these words.
-use Rattle.std.specs.Prelude.{◌≡◌, ◌≢◌, ℕ, ◌+◌, ◌-◌, ◌*◌, ◌<◌, ◌≤◌, Bool, true, false, ◌&&◌, ◌||◌, nat_lt, ◌⊎◌, List, ◌++◌, length}
+use Rattle.std.specs.Prelude.{◌≡◌, ◌≢◌, ℕ, ◌+◌, ◌-◌, ◌*◌, ◌/◌, ◌%◌, ◌<◌, ◌≤◌, Bool, true, false, ◌&&◌, ◌||◌, nat_lt, ◌⊎◌, List, ◌++◌, length}
 use Rattle.grid_core.specs.Candidates.{Candidates}
 use Rattle.grid_core.specs.Words.{has_bit}
-use Rattle.grid_core.specs.Planes.{Layers, has}
+use Rattle.grid_core.specs.Planes.{AreLinesOf, Layers, has}
 use Rattle.grid_core.specs.declared.planes.touched.Touched.{Touched}
+use Rattle.engine_core.specs.RuleSystem.{has_place}
 use Rattle.gameid_core.specs.Puzzles.{Light}
 use Rattle.fields_core.specs.CountHouse.{CountHouse, houses_below}
-use Rattle.fields_core.specs.Light.{light_cells, joined_in_column}
-use Rattle.fields_core.specs.LightHouses.{column_house, lit_house, number_house, row_house}
+use Rattle.fields_core.specs.Light.{clear, light_cells, joined_in_column, white}
+use Rattle.fields_core.specs.LightHouses.{column_house, lit_house, number_house, row_house, seen_from}
 use Rattle.fields_core.specs.LightPlanes.{ArePlanesOf, AreTables}
 use Rattle.fields_core.specs.LightWords.{numbers_of_row, row_runs_of_row}
 use Rattle.fields_core.specs.RunLines.{column_runs_of_column}
@@ -36,6 +37,23 @@ abbrev pub AreIdleBut : Light → ℕ → ℕ → Candidates → Type 0
 AreIdleBut p columns y K = (x : ℕ) → x < p.size.w → has_bit columns x ≡ false
     → AreIdle (number_house p (y * p.size.w + x)) K
 
+-- none of the cells that the house of a white cell has is at both a column and a row of these lines
+abbrev pub IsAway : {W : Type 0} → (W → ℕ) → Light → Touched W → ℕ → Type 0
+IsAway bits p lines c = (d : ℕ) → has_place (seen_from p c) d ≡ true
+    → AreLinesOf bits lines (d / p.size.w) (d % p.size.w) → ⊥
+
+-- the cells of a column from one row to another are not all white
+abbrev pub AreParted : Light → ℕ → ℕ → ℕ → Type 0
+AreParted p x y k = clear (λ j. white p (j * p.size.w + x)) y k ≡ false
+
+-- that is so of each cell of the rows that are none of those from the first on and before the end
+pub record IsReach {W : Type 0} (bits : W → ℕ) (p : Light) (lines : Touched W) (first end : ℕ)
+    : Type 0 where
+  pub order : first ≤ end
+  pub within : end ≤ p.size.h
+  pub away : (y x : ℕ) → y < p.size.h → x < p.size.w → (y < first) ⊎ (end ≤ y)
+      → IsAway bits p lines (y * p.size.w + x)
+
 -- all of these houses that do not wait are idle
 pub record AreLinesRested {W : Type 0} (bits : W → ℕ) (p : Light) (waits : LineWaits W)
     (K : Candidates)
@@ -45,24 +63,32 @@ pub record AreLinesRested {W : Type 0} (bits : W → ℕ) (p : Light) (waits : L
   pub runs : (kind : RunKind) (k : ℕ) → k < run_lines p kind
       → has_bit (waiting_runs bits waits kind) k ≡ false → AreIdle (run_houses p kind k) K
   pub columns : (y : ℕ) → y < p.size.h → AreIdleBut p (bits waits.number_columns) y K
+  pub whites : (c : ℕ) → c < light_cells p → IsAway bits p waits.ones c
+      → AreIdle (lit_house p c) K
 
 -- what waited, and these lines with those beside them
-abbrev pub AreSpread : {W : Type 0} → (W → ℕ) → ℕ → W → W → W → Type 0
+abbrev pub AreSpread : {W : Type 0} → (W → ℕ) → ℕ → W → (ℕ → Bool) → W → Type 0
 AreSpread bits room before lines now = (k : ℕ) → has_bit (bits now) k
-    ≡ (has_bit (bits before) k || (((nat_lt k room && (nat_lt 0 k && has_bit (bits lines) (k - 1)))
-    || has_bit (bits lines) k) || has_bit (bits lines) (k + 1)))
+    ≡ (has_bit (bits before) k || (((nat_lt k room && (nat_lt 0 k && lines (k - 1)))
+    || lines k) || lines (k + 1)))
 
--- what waits once these cells have lost values, and those 0: numbers of their lines and of the lines beside them, and runs
--- of the columns and rows in which cells have lost 0
+-- what waits once cells of these lines have lost 0, and cells of those 1: numbers of these lines and of the lines beside
+-- them, runs of the columns and rows in which cells have lost 0, and white cells of those in which cells have lost 1
 pub record AreLinesWoken {W : Type 0} (bits : W → ℕ) (room : ℕ) (before : LineWaits W)
-    (cells zeros : Touched W) (now : LineWaits W)
+    (zeros ones : Touched W) (now : LineWaits W)
     : Type 0 where
-  pub numbers : AreSpread bits room before.numbers cells.rows now.numbers
-  pub number_columns : AreSpread bits room before.number_columns cells.columns now.number_columns
+  pub numbers : AreSpread bits room before.numbers
+      (λ k. has_bit (bits zeros.rows) k || has_bit (bits ones.rows) k) now.numbers
+  pub number_columns : AreSpread bits room before.number_columns
+      (λ k. has_bit (bits zeros.columns) k || has_bit (bits ones.columns) k) now.number_columns
   pub rows_are : (k : ℕ) → has_bit (bits now.rows) k
       ≡ (has_bit (bits before.rows) k || has_bit (bits zeros.rows) k)
   pub columns_are : (k : ℕ) → has_bit (bits now.columns) k
       ≡ (has_bit (bits before.columns) k || has_bit (bits zeros.columns) k)
+  pub one_rows : (k : ℕ) → has_bit (bits now.ones.rows) k
+      ≡ (has_bit (bits before.ones.rows) k || has_bit (bits ones.rows) k)
+  pub one_columns : (k : ℕ) → has_bit (bits now.ones.columns) k
+      ≡ (has_bit (bits before.ones.columns) k || has_bit (bits ones.columns) k)
 
 -- planes of a puzzle, with its words and room for more; what does not wait is idle
 pub record AreLightsReady {W : Type 0} (bits : W → ℕ) (room : ℕ) (p : Light) (planes : Layers)

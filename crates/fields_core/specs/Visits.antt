@@ -1,13 +1,11 @@
 -- Visits of count houses on planes, one after another, and sweeps of all houses of Tents.
-use Rattle.std.specs.Prelude.{◌≡◌, ℕ, ◌<◌, ◌≤◌, Bool, true, false, List, [], ◌∷◌, ◌++◌}
+use Rattle.std.specs.Prelude.{◌≡◌, ℕ, ◌<◌, ◌≤◌, Bool, true, false, List, [], ◌∷◌}
 use Rattle.grid_core.specs.Candidates.{Candidates}
 use Rattle.grid_core.specs.Planes.{Layers, has, cells_of, IsFurther}
 use Rattle.gameid_core.specs.Puzzles.{Tents, IsTents}
-use Rattle.fields_core.specs.CountHouse.{CountHouse, after_house, houses_below}
+use Rattle.fields_core.specs.CountHouse.{CountHouse, after_house}
 use Rattle.fields_core.specs.Parts.{IsAlive}
-use Rattle.fields_core.specs.TentHouses.{column_of_tents, row_of_tents}
-use Rattle.fields_core.specs.Trees.{AreBare, AreRowsOf, trees_of_row, wants_tent}
-use Rattle.fields_core.specs.Squares.{squares_of_row}
+use Rattle.fields_core.specs.Trees.{AreBare, AreRowsOf, wants_tent}
 
 -- the board after visits of the houses, one after another
 unfoldable pub after_houses : List CountHouse → Candidates → Candidates
@@ -32,12 +30,3 @@ pub record IsFieldOf (room : ℕ) (p : Tents) (planes : Layers) (words : List �
   pub trees : AreRowsOf p.size (wants_tent p) words
   pub bare : AreBare p (has planes)
   pub alive : IsAlive planes
-
--- the houses of the columns and of the rows, and those of the trees and of the squares
-abbrev pub line_houses : Tents → List CountHouse
-line_houses p =
-    houses_below (column_of_tents p) p.size.w ++ houses_below (row_of_tents p) p.size.h
-
-abbrev pub cell_houses : Tents → List CountHouse
-cell_houses p =
-    houses_below (trees_of_row p) p.size.h ++ houses_below (squares_of_row p) p.size.h

@@ -2,12 +2,7 @@
 #![tactic(auto, using(crate::proofs::LawSets::laws_laws))]
 
 ghost use Rattle.std.specs.Prelude.{◌↔◌, IsTrue, List, ℕ};
-ghost use Rattle.engine_core.specs.RuleSystem.{IsGridOf, IsLawful};
-ghost use Rattle.fields_core.specs.LightHouses.{light_rules};
-ghost use Rattle.fields_core.specs.LightSolutions.{IsLightSolution};
-ghost use Rattle.fields_core.specs.TentHouses.{tent_rules};
-ghost use Rattle.fields_core.specs.TentSolutions.{IsTentSolution};
-ghost use Rattle.gameid_core.specs.Puzzles.{Light, IsLight, Tents, IsTents};
+ghost use Rattle.fields_core.specs.Common.{IsGridOf, IsLawful, IsLight, IsLightSolution, IsTentSolution, IsTents, Light, Tents, light_rules, tent_rules};
 
 /// The grids that the rules of Tents accept are the solutions of the puzzle.
 pub fn accepted_tents_are_solutions()

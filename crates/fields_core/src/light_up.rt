@@ -6,7 +6,6 @@ pub(crate) mod fault;
 pub(crate) mod houses;
 pub(crate) mod line;
 pub(crate) mod lonely;
-pub(crate) mod planes;
 pub(crate) mod rules;
 pub(crate) mod sight;
 pub(crate) mod told;

@@ -4,7 +4,6 @@ pub(crate) mod any;
 pub(crate) mod game;
 pub(crate) mod lights;
 pub(crate) mod near;
-pub(crate) mod next;
 pub(crate) mod notes;
 pub(crate) mod part;
 pub(crate) mod position;

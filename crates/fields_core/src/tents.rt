@@ -5,7 +5,6 @@ pub(crate) mod check;
 pub(crate) mod fault;
 pub(crate) mod houses;
 pub(crate) mod pairs;
-pub(crate) mod planes;
 pub(crate) mod rules;
 pub(crate) mod told;
 pub(crate) mod touch;

@@ -1,10 +1,7 @@
 //! What only a game knows of rules whose houses count the ones of their cells.
 
-ghost use Rattle.std.specs.Prelude.{◌≡◌, ℕ, ◌<◌, IfOk, List, [], ◌∷◌, length};
-ghost use Rattle.grid_core.specs.Extent.{Extent};
-ghost use Rattle.grid_core.specs.Grids.{IsGrid};
-ghost use Rattle.fields_core.specs.CountHouse.{CountHouse, CountPuzzle, IsCounted};
-ghost use Rattle.fields_core.specs.Houses.{house_told, AreNamed};
+ghost use Rattle.std.specs.Prelude.{◌<◌, ◌∷◌, ◌≡◌, IfOk, List, ℕ, [], length};
+ghost use Rattle.fields_core.specs.Common.{AreNamed, CountHouse, CountPuzzle, Extent, IsCounted, IsGrid, house_told};
 
 use crate::count::house::House;
 use crate::count::name::HouseName;

@@ -1,12 +1,8 @@
 //! Count houses, each told by few numbers.
 #![tactic(auto, using(crate::proofs::LawSets::house_laws))]
 
-ghost use Rattle.std.specs.Prelude.{◌≡◌, ℕ, ◌+◌, ◌*◌, ◌<◌, ◌≤◌, ◌^◌, Bool, true, if◌then◌else◌, [], ◌∷◌, filter, length, map, slice_index};
-ghost use Rattle.std.specs.List.{range_with_len};
-ghost use Rattle.engine_core.specs.RuleSystem.{has_place, IsNext};
-ghost use Rattle.grid_core.specs.Regions.{beside as beside_places, row_places, column_places};
-ghost use Rattle.fields_core.specs.CountHouse.{exactly, one_at_least, one_at_most};
-ghost use Rattle.fields_core.specs.Houses.{TestsBelow, house_told, places_of, segment_places};
+ghost use Rattle.std.specs.Prelude.{◌*◌, ◌+◌, ◌<◌, ◌^◌, ◌∷◌, ◌≡◌, ◌≤◌, Bool, ℕ, [], filter, if◌then◌else◌, length, map, slice_index, true};
+ghost use Rattle.fields_core.specs.Common.{IsNext, TestsBelow, beside as beside_places, column_places, exactly, has_place, house_told, one_at_least, one_at_most, places_of, range_with_len, row_places, segment_places};
 
 use grid_core::{Size, step};
 

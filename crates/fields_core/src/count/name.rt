@@ -1,10 +1,8 @@
 //! Names of count houses.
 #![tactic(auto, using(crate::proofs::LawSets::house_name_laws))]
 
-ghost use Rattle.std.specs.Prelude.{◌≡◌, ℕ, ◌<◌, ◌^◌, List, length};
-ghost use Rattle.engine_core.specs.RuleSystem.{longest};
-ghost use Rattle.fields_core.specs.CountHouse.{CountHouse, count_house_of};
-ghost use Rattle.fields_core.specs.Houses.{AreNamed};
+ghost use Rattle.std.specs.Prelude.{◌<◌, ◌^◌, ◌≡◌, List, ℕ, length};
+ghost use Rattle.fields_core.specs.Common.{AreNamed, CountHouse, count_house_of, longest};
 
 /// A house: the place or the line that tells it, of which kind it is, and how many cells it has.
 #[derive(Clone, Copy)]

@@ -1,13 +1,9 @@
 //! The rules of a puzzle of count houses.
 #![tactic(auto, using(crate::proofs::LawSets::count_rules_laws))]
 
-ghost use Rattle.std.specs.Prelude.{◌≡◌, ◌<◌, IfOk, true, false, refl, length};
-ghost use Rattle.engine_core.specs.Closing.{HasStruck};
-ghost use Rattle.engine_core.specs.declared.mode.Mode.TheVariants.{Sweep};
-ghost use Rattle.grid_core.specs.Board.{cells_of, has, SameShape};
-ghost use Rattle.fields_core.specs.CountHouse.{IsCounted, IsHouse, after_house, count_house_of, rules_of, start_of};
-ghost use Rattle.engine_core.specs.RuleSystem.{needs_of};
-ghost use Rattle.fields_core.specs.Houses.{house_told, AreNamed};
+ghost use Rattle.std.specs.Prelude.{◌<◌, ◌≡◌, IfOk, false, length, refl, true};
+ghost use Rattle.grid_core.specs.Board.{cells_of, has};
+ghost use Rattle.fields_core.specs.Common.{AreNamed, HasStruck, IsCounted, IsHouse, SameShape, Sweep, after_house, count_house_of, house_told, needs_of, rules_of};
 
 use crate::count::game::CountGame;
 use crate::count::house::{House, next_passing};
@@ -76,22 +72,6 @@ impl<P: CountGame> CountRules<P> {
     }
 }
 
-/// Writes the board that a search starts from: a blocked cell has only 0, and all other sets are full.
-fn write_start<P: CountGame>(puzzle: &P, board: &mut Board)
-    requires cells { length board.old.sets ≡ (P.counts puzzle.now).cells }
-    requires values { board.old.values ≡ 2 }
-    ensures start { has board.new
-        ≡ start_of (P.counts puzzle.now).cells (P.counts puzzle.now).blocked }
-    ensures shape { SameShape board.old board.new }
-{
-    board.fill();
-    for place in 0..puzzle.cells() {
-        if puzzle.is_blocked(place) {
-            board.strike(place, 1);
-        }
-    }
-}
-
 /// Strikes from the house's cells what it strikes, and says whether that was anything.
 fn strike(house: &House, board: &mut Board) -> bool
     requires lawful { IsHouse (cells_of board.old) (house_told house.now) }
@@ -115,8 +95,7 @@ fn strike(house: &House, board: &mut Board) -> bool
 }
 
 impl<P: CountGame> Rules for CountRules<P> {
-    ghost use Rattle.std.proofs.Common.{subst, sym};
-    ghost use Rattle.fields_core.specs.CountLaws.{count-lawful};
+    ghost use Rattle.fields_core.specs.Common.{count-lawful, subst, sym};
 
     type Scratch = P::Scratch;
 
@@ -173,8 +152,14 @@ impl<P: CountGame> Rules for CountRules<P> {
         next_passing(from, self.names.len(), |house| self.house(house).has(place))
     }
 
+    /// A blocked cell has only 0, and all other sets are full.
     fn start(&self, board: &mut Board) {
-        write_start(&self.puzzle, board);
+        board.fill();
+        for place in 0..self.puzzle.cells() {
+            if self.puzzle.is_blocked(place) {
+                board.strike(place, 1);
+            }
+        }
     }
 
     fn scratch(&self, alloc: Global) -> Result<P::Scratch, AllocError> {

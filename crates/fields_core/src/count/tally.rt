@@ -1,12 +1,9 @@
 //! How many cells of a count house have no 0, have a 1, or have neither, and what a visit keeps by that.
 #![tactic(auto, using(crate::proofs::LawSets::tally_laws))]
 
-ghost use Rattle.std.specs.Prelude.{◌≡◌, ℕ, ◌<◌};
+ghost use Rattle.std.specs.Prelude.{◌<◌, ◌≡◌, ℕ};
 ghost use Rattle.grid_core.specs.Board.{cells_of, has};
-ghost use Rattle.grid_core.specs.Words.{has_bit};
-ghost use Rattle.fields_core.specs.CountHouse.{IsHouse};
-ghost use Rattle.fields_core.specs.Houses.{house_told};
-ghost use Rattle.fields_core.specs.Tallies.{IsTally, stays};
+ghost use Rattle.fields_core.specs.Common.{IsHouse, IsTally, has_bit, house_told, stays};
 
 use crate::count::house::{Bounds, House};
 use grid_core::Board;

@@ -1,9 +1,8 @@
 //! White cells, and the lines of a puzzle of Light Up.
 #![tactic(auto, using(crate::proofs::LawSets::light_cells_laws))]
 
-ghost use Rattle.std.specs.Prelude.{◌≡◌, ◌<◌};
-ghost use Rattle.gameid_core.specs.Puzzles.{IsLight};
-ghost use Rattle.fields_core.specs.Light.{light_cells, white};
+ghost use Rattle.std.specs.Prelude.{◌<◌, ◌≡◌};
+ghost use Rattle.fields_core.specs.Common.{IsLight, light_cells, white};
 
 use gameid_core::{LightCell, LightPuzzle};
 use grid_core::MAX_SIDE;
@@ -17,11 +16,7 @@ pub fn is_white(puzzle: &LightPuzzle, place: usize) -> bool
     ensures value { result ≡ white puzzle.now place }
     ensures lawful { IsLight puzzle.now }
 {
-    match puzzle.cell(place) {
-        LightCell::White => true,
-        LightCell::Black => false,
-        LightCell::Numbered(_) => false,
-    }
+    matches!(puzzle.cell(place), LightCell::White)
 }
 
 /// The number of columns.
@@ -37,12 +32,4 @@ pub(crate) fn rows(puzzle: &LightPuzzle) -> usize
     ensures { result ≡ puzzle.now.size.h }
 {
     usize::from(puzzle.size().h())
-}
-
-/// The number of cells.
-pub(crate) fn cells(puzzle: &LightPuzzle) -> usize
-    ensures value { result ≡ light_cells puzzle.now }
-    ensures lawful { IsLight puzzle.now }
-{
-    puzzle.size().cells()
 }

@@ -1,17 +1,11 @@
 //! The names of the houses of Light Up.
-#![tactic(auto)]
 
-ghost use Rattle.std.specs.Prelude.{◌≡◌, ◌+◌, ◌*◌, ◌<◌, true, IfOk, OnOk};
-ghost use Rattle.fields_core.specs.CountHouse.{houses_below};
-ghost use Rattle.fields_core.specs.Houses.{AreAdded, AreNamed};
-ghost use Rattle.fields_core.specs.Light.{light_cells};
-ghost use Rattle.fields_core.specs.LightHouses.{column_house, light_house, light_houses, lit_house, number_house, row_house};
-ghost use Rattle.fields_core.specs.LightRuns.{house_along, whites_of, IsAround, IsLatest};
-ghost use Rattle.gameid_core.specs.Puzzles.{IsLight};
+ghost use Rattle.std.specs.Prelude.{◌*◌, ◌+◌, ◌<◌, ◌≡◌, IfOk, OnOk, true};
+ghost use Rattle.fields_core.specs.Common.{AreAdded, AreNamed, IsAround, IsLatest, IsLight, column_house, house_along, houses_below, light_cells, light_house, light_houses, lit_house, number_house, row_house, whites_of};
 
 use crate::count::house::count_passing;
 use crate::count::name::HouseName;
-use crate::light_up::cells::{LONGEST, cells, columns, is_white, rows};
+use crate::light_up::cells::{LONGEST, columns, is_white, rows};
 use crate::light_up::line::WhiteLine;
 use crate::light_up::told::LightHouse;
 use gameid_core::{LightCell, LightPuzzle};
@@ -107,10 +101,11 @@ pub(crate) fn names_of_lights(alloc: Global, puzzle: &LightPuzzle) -> Result<Lig
     ensures named { IfOk result
         (λ names. AreNamed (light_house puzzle.now) names.items (light_houses puzzle.now)) }
 {
-    let mut names = Vec::with_capacity(alloc, cells(puzzle).saturating_mul(2))?;
-    let mut columns = Vec::with_capacity(alloc, cells(puzzle))?;
-    let mut lits = Vec::with_capacity(alloc, cells(puzzle))?;
-    for place in 0..cells(puzzle) {
+    let cells = puzzle.size().cells();
+    let mut names = Vec::with_capacity(alloc, 2 * cells)?;
+    let mut columns = Vec::with_capacity(alloc, cells)?;
+    let mut lits = Vec::with_capacity(alloc, cells)?;
+    for place in 0..cells {
         push_number(&mut names, puzzle, place)?;
     }
     push_whites(&mut names, &mut columns, &mut lits, puzzle)?;

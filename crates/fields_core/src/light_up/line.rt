@@ -4,7 +4,7 @@
 ghost use Rattle.std.specs.Prelude.{◌≡◌, ℕ, ◌+◌, ◌*◌, ◌<◌, ◌≤◌, ◌^◌, true};
 ghost use Rattle.fields_core.specs.Light.{light_cells};
 
-use crate::count::house::Segment;
+use crate::count::house::{Segment, next_passing};
 use crate::light_up::cells::{columns, is_white, rows};
 use gameid_core::LightPuzzle;
 
@@ -22,9 +22,7 @@ pub(crate) struct WhiteLine<'a> {
 }
 
 impl<'a> WhiteLine<'a> {
-    ghost use Rattle.fields_core.specs.Houses.{segment_places};
-    ghost use Rattle.fields_core.specs.LightRuns.{line_cells, whites_of, IsAround, IsLine};
-    ghost use Rattle.fields_core.specs.Runs.{RunsBack, RunsOn};
+    ghost use Rattle.fields_core.specs.Common.{IsAround, IsLine, RunsOn, line_cells, segment_places, whites_of};
 
     /// The row of that number.
     pub(crate) fn row(puzzle: &'a LightPuzzle, y: usize) -> WhiteLine<'a>
@@ -70,39 +68,22 @@ impl<'a> WhiteLine<'a> {
         is_white(self.puzzle, self.place(at))
     }
 
-    /// Where the run of white cells begins that a white cell is in.
-    fn run_begin(&self, at: usize) -> usize
-        requires { at < self.now.len }
-        ensures { RunsBack (whites_of self.now) at result }
-    {
-        for back in 0..at {
-            if !self.is_white(at - back - 1) {
-                return at - back;
-            }
-        }
-        0
-    }
-
-    /// Where it ends: the number after that of its last cell.
+    /// Where the run of white cells ends that a white cell is in: the number after that of its last cell.
     pub(crate) fn run_end(&self, at: usize) -> usize
         requires { at < self.now.len }
         ensures { RunsOn (whites_of self.now) self.now.len at result }
     {
-        for after in at + 1..self.len {
-            if !self.is_white(after) {
-                return after;
-            }
-        }
-        self.len
+        next_passing(at + 1, self.len, |after| !self.is_white(after)).unwrap_or(self.len)
     }
 
-    /// Where it begins and where it ends.
+    /// Where that run begins and where it ends.
     pub(crate) fn run(&self, at: usize) -> (usize, usize)
         requires at_in { at < self.now.len }
         requires white { whites_of self.now at ≡ true }
         ensures { IsAround (whites_of self.now) self.now.len at result.0 result.1 }
     {
-        (self.run_begin(at), self.run_end(at))
+        let before = next_passing(0, at, |back| !self.is_white(at - back - 1)).unwrap_or(at);
+        (at - before, self.run_end(at))
     }
 
     /// Its cells from one number to the one before another.

@@ -1,17 +1,10 @@
 //! Numbers of Light Up that no grid meets.
-#![tactic(auto)]
 
-ghost use Rattle.std.specs.Prelude.{◌≡◌, ◌==◌, ◌&&◌, length, slice_index_or};
-ghost use Rattle.grid_core.specs.Candidates.{any_below};
-ghost use Rattle.gameid_core.specs.Puzzles.{IsLight};
-ghost use Rattle.gameid_core.specs.declared.light_up.cell.LightCell.TheVariants.{Black};
-ghost use Rattle.fields_core.specs.Houses.{AreNamed};
-ghost use Rattle.fields_core.specs.Light.{light_cells};
-ghost use Rattle.fields_core.specs.LightHouses.{light_house, light_houses};
-ghost use Rattle.fields_core.specs.LightLonely.{asks, lonely};
+ghost use Rattle.std.specs.Prelude.{◌&&◌, ◌==◌, ◌≡◌, length, slice_index_or};
+ghost use Rattle.fields_core.specs.Common.{AreNamed, Black, IsLight, any_below, asks, light_cells, light_house, light_houses, lonely};
 
+use crate::count::house::next_passing;
 use crate::count::name::HouseName;
-use crate::light_up::cells::cells;
 use crate::light_up::told::LightHouse;
 use gameid_core::{LightCell, LightPuzzle};
 
@@ -37,10 +30,6 @@ pub(crate) fn has_lonely_number(puzzle: &LightPuzzle, names: &[HouseName<LightHo
     ensures value { result ≡ any_below (lonely puzzle.now) (light_cells puzzle.now) }
     ensures lawful { IsLight puzzle.now }
 {
-    for k in 0..names.len().min(cells(puzzle)) {
-        if is_lonely(puzzle, names[k]) {
-            return true;
-        }
-    }
-    false
+    let numbers = names.len().min(puzzle.size().cells());
+    next_passing(0, numbers, |k| is_lonely(puzzle, names[k])).is_some()
 }

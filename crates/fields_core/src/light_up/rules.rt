@@ -1,23 +1,30 @@
 //! What the rules of Light Up are to a search.
 #![tactic(auto, using(crate::proofs::LawSets::light_rules_laws))]
 
+ghost use Rattle.std.specs.Prelude.{◌≤◌, refl};
+
 use crate::count::game::CountGame;
 use crate::count::house::House;
 use crate::count::name::HouseName;
 use crate::count::rules::CountRules;
-use crate::light_up::cells::{cells, is_white};
-use crate::light_up::check::find_fault;
+use crate::light_up::cells::{columns, is_white};
+use crate::light_up::check::check_lights;
 use crate::light_up::houses::names_of_lights;
-use crate::light_up::told::{LightHouse, house_of_light};
+use crate::light_up::line::WhiteLine;
+use crate::light_up::lonely::has_lonely_number;
+use crate::light_up::told::{LightHouse, lit_told, number_told, run_told};
+use crate::planes::game::PlaneGame;
+use crate::planes::lights::notes::LightNotes;
+use engine_core::Needs;
 use gameid_core::LightPuzzle;
-use grid_core::Grid;
+use grid_core::{Grid, Size};
 use std::alloc::{AllocError, Global};
 
 /// The rules of a puzzle of Light Up.
 pub type LightRules = CountRules<LightPuzzle>;
 
 impl CountGame for LightPuzzle {
-    ghost use Rattle.fields_core.specs.LightHouses.{light_counts, light_house};
+    ghost use Rattle.fields_core.specs.Common.{light_counts, light_house};
 
     type Scratch = ();
 
@@ -40,11 +47,18 @@ impl CountGame for LightPuzzle {
     }
 
     fn house(&self, kind: LightHouse, place: usize) -> House {
-        house_of_light(self, kind, place)
+        let w = columns(self);
+        let (x, y) = (place % w, place / w);
+        match kind {
+            LightHouse::Number => number_told(self, place),
+            LightHouse::Row => run_told(&WhiteLine::row(self, y), x),
+            LightHouse::Column => run_told(&WhiteLine::column(self, x), y),
+            LightHouse::Lit => lit_told(self, x, y),
+        }
     }
 
     fn cells(&self) -> usize {
-        cells(self)
+        self.size().cells()
     }
 
     fn is_blocked(&self, place: usize) -> bool {
@@ -56,6 +70,28 @@ impl CountGame for LightPuzzle {
     }
 
     fn accepts(&self, _scratch: &mut (), grid: &Grid) -> bool {
-        find_fault(self, grid).is_none()
+        check_lights(self, grid).is_none()
     }
+}
+
+impl PlaneGame for LightPuzzle {
+    type Short = LightNotes<u64>;
+
+    type Long = LightNotes<u128>;
+
+    ghost all_short = { λ needs. needs.cells ≤ 128 };
+
+    fn size(&self) -> Size {
+        LightPuzzle::size(self)
+    }
+
+    fn are_short(&self, made: Needs) -> bool {
+        made.cells <= 128 // each side is 2 at least
+    }
+
+    fn completes(&self, names: &[HouseName<LightHouse>], _scratch: &mut (), _grid: &Grid) -> bool {
+        !has_lonely_number(self, names)
+    }
+
+    ghost cells_are = { λ _. refl };
 }

@@ -1,13 +1,10 @@
 //! Which bulbs a cell sees, and how many stand beside it.
 #![tactic(auto, using(crate::proofs::LawSets::light_sight_laws))]
 
-ghost use Rattle.std.specs.Prelude.{◌≡◌, ◌+◌, ◌*◌, ◌<◌, true};
-ghost use Rattle.grid_core.specs.Grids.{IsGrid};
-ghost use Rattle.fields_core.specs.Light.{bulb, bulbs_beside, light_cells, sees_bulb};
-ghost use Rattle.fields_core.specs.LightRuns.{whites_of};
-ghost use Rattle.fields_core.specs.Runs.{ShinesAlong};
+ghost use Rattle.std.specs.Prelude.{◌*◌, ◌+◌, ◌<◌, ◌≡◌, true};
+ghost use Rattle.fields_core.specs.Common.{IsGrid, ShinesAlong, bulb, bulbs_beside, light_cells, sees_bulb, whites_of};
 
-use crate::count::house::count_passing;
+use crate::count::house::{count_passing, next_passing};
 use crate::light_up::cells::{columns, is_white};
 use crate::light_up::line::WhiteLine;
 use gameid_core::LightPuzzle;
@@ -22,12 +19,8 @@ fn sees_along(line: &WhiteLine<'_>, grid: &Grid, at: usize) -> bool
         (λ i. bulb grid.now (line.now.first + i * line.now.stride)) at line.now.len result }
 {
     let (start, end) = line.run(at);
-    for other in start..end {
-        if other != at && grid.get(line.place(other)) == 1 {
-            return true;
-        }
-    }
-    false
+    let is_seen = |other| other != at && grid.get(line.place(other)) == 1;
+    next_passing(start, end, is_seen).is_some()
 }
 
 /// Whether the cell sees a bulb: one in another white cell of its row or column, with only white cells between. The grid has

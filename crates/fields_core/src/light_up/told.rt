@@ -1,14 +1,10 @@
 //! The houses of Light Up, by what tells them.
-#![tactic(auto, using(crate::proofs::LawSets::light_told_laws))]
 
-ghost use Rattle.std.specs.Prelude.{◌≡◌, ◌+◌, ◌*◌, ◌<◌, [], ◌∷◌, length, true};
-ghost use Rattle.fields_core.specs.Houses.{house_told};
-ghost use Rattle.fields_core.specs.Light.{white};
-ghost use Rattle.fields_core.specs.LightHouses.{light_house, lit_house, number_house};
-ghost use Rattle.fields_core.specs.LightRuns.{house_along};
+ghost use Rattle.std.specs.Prelude.{◌*◌, ◌+◌, ◌<◌, ◌∷◌, ◌≡◌, [], length, true};
+ghost use Rattle.fields_core.specs.Common.{house_along, house_told, lit_house, number_house, white};
 
 use crate::count::house::{House, Segment, beside};
-use crate::light_up::cells::{columns, is_white};
+use crate::light_up::cells::is_white;
 use crate::light_up::line::WhiteLine;
 use gameid_core::{LightCell, LightPuzzle};
 
@@ -27,7 +23,7 @@ pub enum LightHouse {
 }
 
 /// The house of the cell's number.
-fn number_told(puzzle: &LightPuzzle, place: usize) -> House
+pub(crate) fn number_told(puzzle: &LightPuzzle, place: usize) -> House
     requires { length (number_house puzzle.now place) ≡ 1 }
     ensures { number_house puzzle.now place ≡ house_told result ∷ [] }
 {
@@ -35,14 +31,12 @@ fn number_told(puzzle: &LightPuzzle, place: usize) -> House
         LightCell::Numbered(n) => n,
         _ => 0,
     };
-    House::exactly(
-        ones,
-        beside(puzzle.size(), place, |other| is_white(puzzle, other)),
-    )
+    let cells = beside(puzzle.size(), place, |other| is_white(puzzle, other));
+    House::exactly(ones, cells)
 }
 
 /// The house of the run that begins at the cell of number `at` along a line.
-fn run_told(line: &WhiteLine<'_>, at: usize) -> House
+pub(crate) fn run_told(line: &WhiteLine<'_>, at: usize) -> House
     requires at_in { at < line.now.len }
     requires begins { length (house_along line.now at) ≡ 1 }
     ensures { house_along line.now at ≡ house_told result ∷ [] }
@@ -51,7 +45,7 @@ fn run_told(line: &WhiteLine<'_>, at: usize) -> House
 }
 
 /// The house of a white cell: the cell and the cells that it sees.
-fn lit_told(puzzle: &LightPuzzle, x: usize, y: usize) -> House
+pub(crate) fn lit_told(puzzle: &LightPuzzle, x: usize, y: usize) -> House
     requires x_in { x < puzzle.now.size.w }
     requires y_in { y < puzzle.now.size.h }
     requires white { white puzzle.now (y * puzzle.now.size.w + x) ≡ true }
@@ -66,19 +60,4 @@ fn lit_told(puzzle: &LightPuzzle, x: usize, y: usize) -> House
         column.segment(y + 1, end),
         Segment::none(),
     ])
-}
-
-/// The house of that kind which the place tells.
-pub(crate) fn house_of_light(puzzle: &LightPuzzle, kind: LightHouse, place: usize) -> House
-    requires { length (light_house puzzle.now kind place) ≡ 1 }
-    ensures { light_house puzzle.now kind place ≡ house_told result ∷ [] }
-{
-    let w = columns(puzzle);
-    let (x, y) = (place % w, place / w);
-    match kind {
-        LightHouse::Number => number_told(puzzle, place),
-        LightHouse::Row => run_told(&WhiteLine::row(puzzle, y), x),
-        LightHouse::Column => run_told(&WhiteLine::column(puzzle, x), y),
-        LightHouse::Lit => lit_told(puzzle, x, y),
-    }
 }

@@ -1,12 +1,9 @@
 //! Planes of words of either length.
-#![tactic(auto)]
 
-ghost use Rattle.std.specs.Prelude.{◌≡◌, ◌*◌, IfOk, length};
-ghost use Rattle.fields_core.specs.AnyPlanes.{kept_in, places_of, IsSuited};
-ghost use Rattle.engine_core.specs.Needs.{needs_in};
-ghost use Rattle.engine_core.specs.RuleSystem.{needs_of, FitsIn};
-ghost use Rattle.fields_core.specs.CountHouse.{rules_of};
+ghost use Rattle.std.specs.Prelude.{◌*◌, ◌≡◌, IfOk, length};
+ghost use Rattle.fields_core.specs.AnyPlanes.{places_of};
 ghost use Rattle.fields_core.specs.PlanePosition.{ArePlanes};
+ghost use Rattle.fields_core.specs.Common.{FitsIn, IsSuited, kept_in, needs_in, needs_of, rules_of};
 
 use crate::planes::game::{PlaneGame, PlaneNotes};
 use engine_core::Needs;

@@ -1,21 +1,8 @@
 //! What only a game knows of the planes that its search stands on.
-#![tactic(auto)]
 
-ghost use Rattle.std.specs.Prelude.{◌≡◌, ℕ, ◌*◌, ◌≤◌, IfOk, length, true};
-ghost use Rattle.grid_core.specs.Extent.{IsExtent};
-ghost use Rattle.grid_core.specs.Grids.{IsGrid};
-ghost use Rattle.grid_core.specs.Planes.{has, IsFurther, Layers};
-ghost use Rattle.engine_core.specs.RuleSystem.{Needs, needs_of, FitsIn};
-ghost use Rattle.engine_core.specs.Needs.{needs_in};
+ghost use Rattle.std.specs.Prelude.{◌*◌, ◌≡◌, ◌≤◌, IfOk, ℕ, length, true};
 ghost use Rattle.engine_core.specs.ClosingList.{IsAlive};
-ghost use Rattle.engine_core.specs.Counts.{IsClosedIn};
-ghost use Rattle.engine_core.specs.Position.{IsTaken};
-ghost use Rattle.engine_core.specs.Queue.{IsClosedBut};
-ghost use Rattle.engine_core.specs.Trail.{StillServes};
-ghost use Rattle.fields_core.specs.CountHouse.{rules_of, AreMet, IsCounted};
-ghost use Rattle.fields_core.specs.Houses.{AreNamed};
-ghost use Rattle.fields_core.specs.AnyPlanes.{AreKept, HasBoard, IsSuited};
-ghost use Rattle.fields_core.specs.Sweeps.{IsSweep};
+ghost use Rattle.fields_core.specs.Common.{AreKept, AreMet, AreNamed, FitsIn, HasBoard, IsClosedBut, IsClosedIn, IsCounted, IsExtent, IsFurther, IsGrid, IsSuited, IsSweep, IsTaken, Layers, Needs, StillServes, has, needs_in, needs_of, rules_of};
 
 use crate::count::game::CountGame;
 use crate::count::name::HouseName;

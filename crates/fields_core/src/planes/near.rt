@@ -1,13 +1,8 @@
 //! Cells of a row and of the rows beside it as words, and the places that they are beside.
-#![tactic(auto)]
 
-ghost use Rattle.std.specs.Prelude.{◌≡◌, ℕ, ◌+◌, ◌*◌, ◌<◌, ◌≤◌, ◌==◌, Bool, nat_lt};
+ghost use Rattle.std.specs.Prelude.{◌*◌, ◌+◌, ◌<◌, ◌==◌, ◌≡◌, ◌≤◌, Bool, ℕ, nat_lt};
 ghost use Rattle.std.specs.List.{count_by};
-ghost use Rattle.grid_core.specs.Extent.{Extent};
-ghost use Rattle.grid_core.specs.Planes.{has};
-ghost use Rattle.grid_core.specs.Regions.{beside};
-ghost use Rattle.grid_core.specs.Words.{has_bit};
-ghost use Rattle.fields_core.specs.Trees.{IsNear};
+ghost use Rattle.fields_core.specs.Common.{Extent, IsNear, beside, has, has_bit};
 
 use grid_core::{Planes, Word};
 

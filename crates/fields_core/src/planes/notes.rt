@@ -1,16 +1,12 @@
 //! What Tents keeps beside planes, and the board that a search starts from.
-#![tactic(auto)]
 
-ghost use Rattle.std.specs.Prelude.{◌≡◌, length, ℕ, ◌+◌, ◌*◌, ◌<◌, ◌≤◌, ◌&&◌, nat_lt};
-ghost use Rattle.grid_core.specs.Planes.{has};
-ghost use Rattle.grid_core.specs.Words.{has_bit};
-ghost use Rattle.gameid_core.specs.Puzzles.{IsTents};
-ghost use Rattle.fields_core.specs.TentHouses.{is_barred, tent_rules};
+ghost use Rattle.std.specs.Prelude.{◌&&◌, ◌*◌, ◌+◌, ◌<◌, ◌≡◌, ◌≤◌, ℕ, length, nat_lt};
+ghost use Rattle.fields_core.specs.Common.{IsTents, has, has_bit, is_barred, tent_rules};
 
 use crate::count::game::CountGame;
 use crate::planes::game::PlaneNotes;
 use crate::planes::trees::write_trees;
-use crate::planes::waits::Waits;
+use crate::planes::waits::{Kind, Waits};
 use engine_core::Needs;
 use gameid_core::TentsPuzzle;
 use grid_core::{Line, Planes, Word};
@@ -84,7 +80,10 @@ impl<W: Word> PlaneNotes<W, TentsPuzzle> for TentNotes<W> {
     }
 
     fn sweep(&mut self, planes: &mut Planes<W>, puzzle: &TentsPuzzle) -> bool {
-        self.sweep_lines(planes, puzzle) && self.sweep_cells(planes, puzzle)
+        self.sweep_kind(planes, puzzle, Kind::Columns)
+            && self.sweep_kind(planes, puzzle, Kind::Rows)
+            && self.sweep_kind(planes, puzzle, Kind::Trees)
+            && self.sweep_kind(planes, puzzle, Kind::Squares)
     }
 
     ghost fits_smaller = { λ _ _ _ _ room. room };

@@ -1,7 +1,7 @@
 //! Parts of lines.
 
-ghost use Rattle.std.specs.Prelude.{◌≡◌, ◌<◌, List, [], ◌∷◌, length};
-ghost use Rattle.fields_core.specs.Parts.{Piece, piece_of, piece_at};
+ghost use Rattle.std.specs.Prelude.{◌<◌, ◌∷◌, ◌≡◌, List, [], length};
+ghost use Rattle.fields_core.specs.Common.{Piece, piece_at, piece_of};
 
 use grid_core::{Line, Word};
 

@@ -14,6 +14,7 @@ use std::marker::Model;
 
 /// Planes with their trail, and the length of the trail at the mark of each level: so many levels have one. With it go what
 /// the game keeps beside planes, spare planes of longer words, and what the test of a grid works in.
+#[derive(Drop)]
 pub struct PlanePosition<P: PlaneGame> {
     made: Needs,
     scratch: P::Scratch,
@@ -21,19 +22,6 @@ pub struct PlanePosition<P: PlaneGame> {
     spare: Option<PlanesOf<P>>,
     marks: Vec<usize>,
     marked: usize,
-}
-
-impl<P: PlaneGame> Drop for PlanePosition<P> {
-    fn drop(self) {
-        let PlanePosition {
-            made,
-            scratch,
-            planes,
-            spare,
-            marks,
-            marked,
-        } = self;
-    }
 }
 
 impl<P: PlaneGame> Model for PlanePosition<P> {
@@ -110,8 +98,8 @@ impl<P: PlaneGame> Position for PlanePosition<P> {
 
     fn pick(&self, _rules: &CountRules<P>, from: usize) -> Option<usize> {
         at_field!(&self.planes, field => {
-            let w = usize::from(field.planes.size().w());
-            field.planes.pick((from / w) as u8)
+            let (row, _) = field.planes.split(from);
+            field.planes.pick(row as u8)
         })
     }
 

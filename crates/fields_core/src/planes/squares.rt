@@ -1,10 +1,7 @@
 //! Visits of the squares of two rows of Tents, all at once.
-#![tactic(auto)]
 
-ghost use Rattle.std.specs.Prelude.{◌≡◌, ◌<◌};
-ghost use Rattle.fields_core.specs.Parts.{IsAlive};
-ghost use Rattle.fields_core.specs.Squares.{squares_of_row};
-ghost use Rattle.fields_core.specs.Visits.{AreVisited};
+ghost use Rattle.std.specs.Prelude.{◌<◌, ◌≡◌};
+ghost use Rattle.fields_core.specs.Common.{AreVisited, IsAlive, squares_of_row};
 
 use gameid_core::TentsPuzzle;
 use grid_core::{Line, Planes, Word};
@@ -22,7 +19,7 @@ pub(crate) fn visit_squares<W: Word>(planes: &mut Planes<W>, puzzle: &TentsPuzzl
         return true;
     }
     let (upper, lower) = (planes.row(y, 0), planes.row(y + 1, 0));
-    let all = W::all(usize::from(size.w()));
+    let all = planes.columns();
     let twice = all.but(upper.either(lower));
     let must = all.but(upper.both(lower));
     let after = must.on();

@@ -1,11 +1,8 @@
 //! Sweeps of the houses of Tents on planes.
 #![tactic(auto, using(crate::proofs::LawSets::tent_sweep_laws))]
 
-ghost use Rattle.std.specs.Prelude.{◌≡◌, ◌<◌, true, map};
-ghost use Rattle.grid_core.specs.Planes.{has};
-ghost use Rattle.fields_core.specs.CountHouse.{houses_below};
-ghost use Rattle.fields_core.specs.Visits.{AreVisited, IsFieldOf, cell_houses, line_houses};
-ghost use Rattle.fields_core.specs.Waits.{AreRested, kind_houses, kind_lines};
+ghost use Rattle.std.specs.Prelude.{◌<◌, ◌≡◌, map, true};
+ghost use Rattle.fields_core.specs.Common.{AreTentsReady, AreVisited, IsFieldOf, houses_below, kind_houses, kind_lines};
 
 use crate::planes::notes::TentNotes;
 use crate::planes::squares::visit_squares;
@@ -37,20 +34,22 @@ impl<W: Word> TentNotes<W> {
 
     /// Visits the houses of a kind that wait, up to one that has no filling: all others are idle.
     #[inline(always)]
-    fn sweep_kind(&mut self, planes: &mut Planes<W>, puzzle: &TentsPuzzle, kind: Kind) -> bool
-        requires field { IsFieldOf W.room puzzle.now planes.old
-            (map W.bits self.old.trees.items) }
-        requires rested { AreRested W.bits puzzle.now self.old.waits (has planes.old) }
+    pub(crate) fn sweep_kind(
+        &mut self,
+        planes: &mut Planes<W>,
+        puzzle: &TentsPuzzle,
+        kind: Kind,
+    ) -> bool
+        requires ready { AreTentsReady W.bits W.room puzzle.now planes.old self.old }
         ensures visited { AreVisited
             (houses_below (kind_houses puzzle.now kind) (kind_lines puzzle.now kind))
             planes.old planes.new result }
-        ensures rested { result ≡ true
-            → AreRested W.bits puzzle.now self.new.waits (has planes.new) }
+        ensures ready { result ≡ true
+            → AreTentsReady W.bits W.room puzzle.now planes.new self.new }
         ensures trees { self.new.trees ≡ self.old.trees }
     {
         let len = planes.len();
-        let lines = W::all(usize::from(kind.lines(puzzle)));
-        let mut left = self.waits.lines(kind).both(lines);
+        let mut left = self.waits.lines(planes, kind);
         while left.is_some() {
             if !self.visit(planes, puzzle, kind, left.lowest() as u8) {
                 return false;
@@ -62,35 +61,5 @@ impl<W: Word> TentNotes<W> {
         }
         self.waits.settle(kind);
         true
-    }
-
-    /// Visits the houses of the lines, up to one that has no filling.
-    pub(crate) fn sweep_lines(&mut self, planes: &mut Planes<W>, puzzle: &TentsPuzzle) -> bool
-        requires field { IsFieldOf W.room puzzle.now planes.old
-            (map W.bits self.old.trees.items) }
-        requires rested { AreRested W.bits puzzle.now self.old.waits (has planes.old) }
-        ensures visited { AreVisited (line_houses puzzle.now) planes.old planes.new
-            result }
-        ensures rested { result ≡ true
-            → AreRested W.bits puzzle.now self.new.waits (has planes.new) }
-        ensures trees { self.new.trees ≡ self.old.trees }
-    {
-        self.sweep_kind(planes, puzzle, Kind::Columns)
-            && self.sweep_kind(planes, puzzle, Kind::Rows)
-    }
-
-    /// Visits the houses of the cells, up to one that has no filling.
-    pub(crate) fn sweep_cells(&mut self, planes: &mut Planes<W>, puzzle: &TentsPuzzle) -> bool
-        requires field { IsFieldOf W.room puzzle.now planes.old
-            (map W.bits self.old.trees.items) }
-        requires rested { AreRested W.bits puzzle.now self.old.waits (has planes.old) }
-        ensures visited { AreVisited (cell_houses puzzle.now) planes.old planes.new
-            result }
-        ensures rested { result ≡ true
-            → AreRested W.bits puzzle.now self.new.waits (has planes.new) }
-        ensures trees { self.new.trees ≡ self.old.trees }
-    {
-        self.sweep_kind(planes, puzzle, Kind::Trees)
-            && self.sweep_kind(planes, puzzle, Kind::Squares)
     }
 }

@@ -1,10 +1,7 @@
 //! Visits of the lines of Tents on planes, one by one.
-#![tactic(auto)]
 
-ghost use Rattle.std.specs.Prelude.{◌≡◌, ◌<◌, ◌≤◌};
-ghost use Rattle.fields_core.specs.Parts.{IsAlive};
-ghost use Rattle.fields_core.specs.TentHouses.{column_of_tents, row_of_tents};
-ghost use Rattle.fields_core.specs.Visits.{AreVisited};
+ghost use Rattle.std.specs.Prelude.{◌<◌, ◌≡◌, ◌≤◌};
+ghost use Rattle.fields_core.specs.Common.{AreVisited, IsAlive, column_of_tents, row_of_tents};
 
 use crate::planes::part::Part;
 use crate::planes::visit::visit;
@@ -19,10 +16,9 @@ pub(crate) fn visit_column<W: Word>(planes: &mut Planes<W>, puzzle: &TentsPuzzle
     requires alive { IsAlive planes.old }
     ensures { AreVisited (column_of_tents puzzle.now x) planes.old planes.new result }
 {
-    let size = planes.size();
     let part = Part {
         line: Line::Column(x),
-        cells: W::all(usize::from(size.h())),
+        cells: planes.rows(),
     };
     let tents = usize::from(column_number(puzzle, usize::from(x)));
     visit(planes, &part, tents, tents)

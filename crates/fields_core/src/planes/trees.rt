@@ -1,13 +1,7 @@
 //! The trees of each row of Tents as words, and visits of those of a row, all at once.
-#![tactic(auto)]
 
-ghost use Rattle.std.specs.Prelude.{◌≡◌, ℕ, ◌+◌, ◌*◌, ◌<◌, ◌≤◌, ◌&&◌, Bool, true, length, map};
-ghost use Rattle.grid_core.specs.Planes.{has, IsFurther};
-ghost use Rattle.grid_core.specs.Words.{has_bit};
-ghost use Rattle.gameid_core.specs.Puzzles.{IsTents, Tents};
-ghost use Rattle.fields_core.specs.Parts.{IsAlive};
-ghost use Rattle.fields_core.specs.Trees.{trees_of_row, AreBare, AreRowsOf, IsNear, is_beside, wants_tent, without_zeros, IsRowOf};
-ghost use Rattle.fields_core.specs.Visits.{AreVisited};
+ghost use Rattle.std.specs.Prelude.{◌&&◌, ◌*◌, ◌+◌, ◌<◌, ◌≡◌, ◌≤◌, Bool, ℕ, length, map, true};
+ghost use Rattle.fields_core.specs.Common.{AreBare, AreRowsOf, AreVisited, IsAlive, IsFurther, IsNear, IsRowOf, IsTents, Tents, has, has_bit, is_beside, trees_of_row, wants_tent, without_zeros};
 
 use crate::count::house::count_passing;
 use crate::planes::near::{Near, ones_near};

@@ -1,10 +1,8 @@
 //! A visit of a count house on planes: its ones are counted by words.
-#![tactic(auto)]
 
-ghost use Rattle.std.specs.Prelude.{◌≡◌, ◌<◌, ◌≤◌, true, false, length};
-ghost use Rattle.grid_core.specs.Planes.{has, IsFurther};
-ghost use Rattle.fields_core.specs.CountHouse.{CountHouse, after_house};
-ghost use Rattle.fields_core.specs.Parts.{without_value, ArePieces, IsCounted, IsHouseOf, IsAlive, IsBroken};
+ghost use Rattle.std.specs.Prelude.{◌<◌, ◌≡◌, ◌≤◌, false, length, true};
+ghost use Rattle.fields_core.specs.Parts.{IsCounted};
+ghost use Rattle.fields_core.specs.Common.{ArePieces, CountHouse, IsAlive, IsBroken, IsFurther, IsHouseOf, after_house, has, without_value};
 
 use crate::planes::part::Parts;
 use grid_core::{Planes, Word};

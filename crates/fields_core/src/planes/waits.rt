@@ -1,14 +1,8 @@
 //! Which houses of Tents wait to be visited.
 #![tactic(auto, using(crate::proofs::LawSets::wait_laws))]
 
-ghost use Rattle.std.specs.Prelude.{◌≡◌, ℕ, ◌<◌, ◌≤◌};
-ghost use Rattle.grid_core.specs.Candidates.{Candidates};
-ghost use Rattle.grid_core.specs.Planes.{Layers, has, IsFurther};
-ghost use Rattle.engine_core.specs.Queue.{IsClosedBut};
-ghost use Rattle.gameid_core.specs.Puzzles.{IsTents, Tents};
-ghost use Rattle.fields_core.specs.Parts.{IsAlive};
-ghost use Rattle.fields_core.specs.TentHouses.{tent_rules};
-ghost use Rattle.fields_core.specs.Waits.{AreIdle, AreRested, AreWoken, kind_houses, kind_lines, waiting};
+ghost use Rattle.std.specs.Prelude.{◌&&◌, ◌<◌, ◌≡◌, ◌≤◌, ℕ, nat_lt};
+ghost use Rattle.fields_core.specs.Common.{AreIdle, AreRested, AreWoken, Candidates, HasBoard, IsAlive, IsClosedBut, IsFurther, IsTents, Layers, Tents, has, has_bit, kind_houses, kind_lines, tent_rules, waiting};
 
 use gameid_core::TentsPuzzle;
 use grid_core::{Planes, Touched, Word};
@@ -24,18 +18,6 @@ pub(crate) enum Kind {
     Trees,
     /// The squares of a row and the row below.
     Squares,
-}
-
-impl Kind {
-    /// How many lines there are.
-    pub(crate) fn lines(self, puzzle: &TentsPuzzle) -> u8
-        ensures { result ≡ kind_lines puzzle.now self }
-    {
-        match self {
-            Kind::Columns => puzzle.size().w(),
-            _ => puzzle.size().h(),
-        }
-    }
 }
 
 /// The lines of each kind that wait.
@@ -71,22 +53,22 @@ impl<W: Word> Waits<W> {
     /// What waits where a closing begins: what a value counts for that the cell `from` has lost, or all where none is named.
     pub(crate) fn new(planes: &Planes<W>, puzzle: &TentsPuzzle, from: Option<usize>) -> Waits<W>
         requires lawful { IsTents puzzle.now }
-        requires size { planes.now.size ≡ puzzle.now.size }
+        requires board { HasBoard (tent_rules puzzle.now) puzzle.now.size W.room planes.now }
         requires closed_but { IsClosedBut (tent_rules puzzle.now) (has planes.now) from }
         ensures { AreRested W.bits puzzle.now result (has planes.now) }
     {
-        let w = usize::from(planes.size().w());
         let Some(place) = from else {
             return Waits::all();
         };
+        let (y, x) = planes.split(place);
         let none = W::none();
         let no_lines = Touched {
             columns: none,
             rows: none,
         };
         let lines = Touched {
-            columns: W::one(place % w),
-            rows: W::one(place / w),
+            columns: W::one(x),
+            rows: W::one(y),
         };
         if planes.has(place, 1) {
             return Waits::at(none).woken(lines, no_lines);
@@ -110,14 +92,15 @@ impl<W: Word> Waits<W> {
     }
 
     /// The lines at which houses of this kind wait.
-    pub(crate) fn lines(&self, kind: Kind) -> W
-        ensures { W.bits result ≡ waiting W.bits self.now kind }
+    pub(crate) fn lines(&self, planes: &Planes<W>, kind: Kind) -> W
+        ensures { (p : Tents) → planes.now.size ≡ p.size → (k : ℕ) → has_bit (W.bits result) k
+            ≡ (has_bit (waiting W.bits self.now kind) k && nat_lt k (kind_lines p kind)) }
     {
         match kind {
-            Kind::Columns => self.columns,
-            Kind::Rows => self.rows,
-            Kind::Trees => self.trees,
-            Kind::Squares => self.squares,
+            Kind::Columns => self.columns.both(planes.columns()),
+            Kind::Rows => self.rows.both(planes.rows()),
+            Kind::Trees => self.trees.both(planes.rows()),
+            Kind::Squares => self.squares.both(planes.rows()),
         }
     }
 
@@ -143,6 +126,7 @@ impl<W: Word> Waits<W> {
             → IsAlive from → IsAlive planes.now → IsFurther from planes.now
             → AreRested W.bits p self.old (has from) → AreRested W.bits p self.new (has planes.now) }
     {
-        *self = self.woken(planes.lost(len, 0), planes.lost(len, 1));
+        let (zeros, ones) = planes.lost(len);
+        *self = self.woken(zeros, ones);
     }
 }

@@ -1,32 +1,9 @@
 //! Trees and lines of a puzzle of Tents.
 
-ghost use Rattle.std.specs.Prelude.{◌≡◌, ◌+◌, ◌*◌, ◌<◌, ◌^◌, slice_index};
-ghost use Rattle.gameid_core.specs.Puzzles.{IsTents};
-ghost use Rattle.fields_core.specs.Tents.{tent_cells, tree};
+ghost use Rattle.std.specs.Prelude.{◌*◌, ◌+◌, ◌<◌, ◌^◌, ◌≡◌, slice_index};
+ghost use Rattle.fields_core.specs.Common.{IsTents, tent_cells, tree};
 
 use gameid_core::TentsPuzzle;
-
-/// The number of columns.
-pub(crate) fn columns(puzzle: &TentsPuzzle) -> usize
-    ensures { result ≡ puzzle.now.size.w }
-{
-    usize::from(puzzle.size().w())
-}
-
-/// The number of rows.
-pub(crate) fn rows(puzzle: &TentsPuzzle) -> usize
-    ensures { result ≡ puzzle.now.size.h }
-{
-    usize::from(puzzle.size().h())
-}
-
-/// The number of cells.
-pub(crate) fn cells(puzzle: &TentsPuzzle) -> usize
-    ensures value { result ≡ tent_cells puzzle.now }
-    ensures lawful { IsTents puzzle.now }
-{
-    puzzle.size().cells()
-}
 
 /// Whether a tree stands on the cell.
 pub(crate) fn is_tree(puzzle: &TentsPuzzle, place: usize) -> bool

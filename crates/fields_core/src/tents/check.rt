@@ -1,16 +1,11 @@
 //! The check of a grid of Tents.
 #![tactic(auto, using(crate::proofs::LawSets::tent_check_laws))]
 
-ghost use Rattle.std.specs.Prelude.{◌≡◌, ℕ, ◌<◌, ◌↔◌, IfOk, None, count_by, length, slice_index};
-ghost use Rattle.grid_core.specs.Grids.{IsGrid};
-ghost use Rattle.fields_core.specs.Houses.{segment_places};
-ghost use Rattle.fields_core.specs.TentFaults.{IsTentFault};
-ghost use Rattle.fields_core.specs.PairingScratches.{HasRoom};
-ghost use Rattle.fields_core.specs.TentSolutions.{IsTentSolution};
-ghost use Rattle.fields_core.specs.Tents.{tent_cells, tent, tree_right, touch_right, column_right, row_right};
+ghost use Rattle.std.specs.Prelude.{◌<◌, ◌==◌, ◌↔◌, ◌≡◌, IfOk, None, ℕ, count_by, length, slice_index};
+ghost use Rattle.fields_core.specs.Common.{HasRoom, IsGrid, IsTentFault, IsTentSolution, segment_places, tent, tent_cells};
 
 use crate::count::house::{Segment, next_passing};
-use crate::tents::cells::{cells, column_number, columns, is_tree, row_number, rows};
+use crate::tents::cells::{column_number, is_tree, row_number};
 use crate::tents::fault::TentFault;
 use crate::tents::pairs::{PairingScratch, are_paired};
 use crate::tents::touch::touches_tent;
@@ -18,60 +13,17 @@ use gameid_core::TentsPuzzle;
 use grid_core::Grid;
 use std::alloc::{AllocError, Global};
 
-/// Whether no tent stands on the cell if it has a tree.
-#[tactic(auto, using(crate::proofs::LawSets::tent_check_laws), unfolding(crate::specs::Tents::tree_right))]
-fn is_tree_right(puzzle: &TentsPuzzle, grid: &Grid, place: usize) -> bool
-    requires fits { IsGrid (tent_cells puzzle.now) 2 grid.now }
-    requires place_in { place < tent_cells puzzle.now }
-    ensures { result ≡ tree_right puzzle.now grid.now place }
-{
-    !is_tree(puzzle, place) || grid.get(place) == 0
-}
-
-/// Whether the cell's tent, if it has one, touches no other.
-#[tactic(auto, using(crate::proofs::LawSets::tent_check_laws), unfolding(crate::specs::Tents::touch_right))]
-fn is_touch_right(puzzle: &TentsPuzzle, grid: &Grid, place: usize) -> bool
-    requires fits { IsGrid (tent_cells puzzle.now) 2 grid.now }
-    requires place_in { place < tent_cells puzzle.now }
-    ensures { result ≡ touch_right puzzle.now grid.now place }
-{
-    grid.get(place) != 1 || !touches_tent(puzzle.size(), grid, place)
-}
-
-/// How many tents stand in the run.
-fn count_tents(grid: &Grid, run: Segment) -> usize
+/// Whether so many tents stand in the run.
+fn has_tents(grid: &Grid, run: Segment, number: u8) -> bool
     requires { (k : ℕ) → k < length (segment_places run)
         → slice_index (segment_places run) k < length grid.now }
-    ensures { result ≡ count_by (tent grid.now) (segment_places run) }
+    ensures { result ≡ (count_by (tent grid.now) (segment_places run) == number) }
 {
     let mut tents = 0;
     for k in 0..run.len() {
-        if grid.get(run.place(k)) != 1 {
-            continue;
-        }
-        tents += 1;
+        tents += usize::from(grid.get(run.place(k)) == 1);
     }
-    tents
-}
-
-/// Whether the column has as many tents as its number says.
-#[tactic(auto, using(crate::proofs::LawSets::tent_check_laws), unfolding(crate::specs::Tents::column_right))]
-fn is_column_right(puzzle: &TentsPuzzle, grid: &Grid, x: usize) -> bool
-    requires fits { IsGrid (tent_cells puzzle.now) 2 grid.now }
-    requires x_in { x < puzzle.now.size.w }
-    ensures { result ≡ column_right puzzle.now grid.now x }
-{
-    count_tents(grid, Segment::column(puzzle.size(), x)) == usize::from(column_number(puzzle, x))
-}
-
-/// Whether the row has as many tents as its number says.
-#[tactic(auto, using(crate::proofs::LawSets::tent_check_laws), unfolding(crate::specs::Tents::row_right))]
-fn is_row_right(puzzle: &TentsPuzzle, grid: &Grid, y: usize) -> bool
-    requires fits { IsGrid (tent_cells puzzle.now) 2 grid.now }
-    requires y_in { y < puzzle.now.size.h }
-    ensures { result ≡ row_right puzzle.now grid.now y }
-{
-    count_tents(grid, Segment::row(puzzle.size(), y)) == usize::from(row_number(puzzle, y))
+    tents == usize::from(number)
 }
 
 /// What is wrong with a grid of Tents.
@@ -85,17 +37,20 @@ pub(crate) fn find_fault(
     ensures fault { IsTentFault puzzle.now grid.now result }
     ensures room { (n : ℕ) → HasRoom scratch.old n → HasRoom scratch.new n }
 {
-    let end = cells(puzzle);
-    if let Some(place) = next_passing(0, end, |place| !is_tree_right(puzzle, grid, place)) {
+    let size = puzzle.size();
+    let end = size.cells();
+    if let Some(place) = next_passing(0, end, |c| grid.get(c) != 0 && is_tree(puzzle, c)) {
         return Some(TentFault::Tree(place));
     }
-    if let Some(place) = next_passing(0, end, |place| !is_touch_right(puzzle, grid, place)) {
+    if let Some(place) = next_passing(0, end, |c| grid.get(c) == 1 && touches_tent(size, grid, c)) {
         return Some(TentFault::Touch(place));
     }
-    if let Some(x) = next_passing(0, columns(puzzle), |x| !is_column_right(puzzle, grid, x)) {
+    let is_column_wrong = |x| !has_tents(grid, Segment::column(size, x), column_number(puzzle, x));
+    if let Some(x) = next_passing(0, usize::from(size.w()), is_column_wrong) {
         return Some(TentFault::Column(x));
     }
-    if let Some(y) = next_passing(0, rows(puzzle), |y| !is_row_right(puzzle, grid, y)) {
+    let is_row_wrong = |y| !has_tents(grid, Segment::row(size, y), row_number(puzzle, y));
+    if let Some(y) = next_passing(0, usize::from(size.h()), is_row_wrong) {
         return Some(TentFault::Row(y));
     }
     if are_paired(puzzle, grid, scratch) {
@@ -118,7 +73,7 @@ pub fn check_tents(
     ensures fault { IfOk result (λ fault. IsTentFault puzzle.now grid.now fault) }
     ensures solution { IfOk result (λ fault. (fault ≡ None) ↔ IsTentSolution puzzle.now grid.now) }
 {
-    let mut scratch = PairingScratch::new(alloc, cells(puzzle))?;
+    let mut scratch = PairingScratch::new(alloc, puzzle.size().cells())?;
     let fault = find_fault(puzzle, grid, &mut scratch);
     Ok(fault)
 }

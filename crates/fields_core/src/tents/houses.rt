@@ -1,14 +1,12 @@
 //! The names of the houses of Tents.
 #![tactic(auto, using(crate::proofs::LawSets::tent_houses_laws))]
 
-ghost use Rattle.std.specs.Prelude.{◌≡◌, ◌+◌, ◌*◌, ◌<◌, ◌^◌, IfOk, OnOk};
-ghost use Rattle.fields_core.specs.Houses.{AreAdded, AreNamed};
-ghost use Rattle.fields_core.specs.TentHouses.{square_house, tent_house, tent_houses, tree_house};
-ghost use Rattle.gameid_core.specs.Puzzles.{IsTents};
+ghost use Rattle.std.specs.Prelude.{◌*◌, ◌+◌, ◌<◌, IfOk, OnOk};
+ghost use Rattle.fields_core.specs.Common.{AreAdded, AreNamed, IsTents, tent_house, tent_houses, tree_house};
 
 use crate::count::house::count_passing;
 use crate::count::name::HouseName;
-use crate::tents::cells::{cells, columns, is_tree, place_of, rows};
+use crate::tents::cells::{is_tree, place_of};
 use crate::tents::told::TentHouse;
 use gameid_core::TentsPuzzle;
 use std::alloc::{AllocError, Global};
@@ -33,25 +31,6 @@ fn push_tree(
     Ok(())
 }
 
-/// Adds the house of the square that has its top left cell in that column and row, if it fits.
-fn push_square(
-    names: &mut Vec<HouseName<TentHouse>>,
-    puzzle: &TentsPuzzle,
-    x: usize,
-    y: usize,
-) -> Result<(), AllocError>
-    requires x_in { x < puzzle.now.size.w }
-    requires y_in { y < puzzle.now.size.h }
-    ensures { OnOk result (AreAdded (tent_house puzzle.now) names.old.items names.new.items
-        (square_house puzzle.now (y * puzzle.now.size.w + x))) }
-{
-    let place = place_of(puzzle, x, y);
-    if x + 1 < columns(puzzle) && y + 1 < rows(puzzle) {
-        names.push(HouseName::of(TentHouse::Square, place, 4))?;
-    }
-    Ok(())
-}
-
 /// The names of the houses of the columns, of the rows, of the trees and of the squares.
 #[tactic(auto, using(crate::proofs::LawSets::house_list_laws))]
 pub(crate) fn names_of_tents(
@@ -62,8 +41,9 @@ pub(crate) fn names_of_tents(
     ensures named { IfOk result
         (λ names. AreNamed (tent_house puzzle.now) names.items (tent_houses puzzle.now)) }
 {
-    let mut names = Vec::with_capacity(alloc, cells(puzzle).saturating_mul(2))?;
-    let (w, h) = (columns(puzzle), rows(puzzle));
+    let size = puzzle.size();
+    let (w, h) = (usize::from(size.w()), usize::from(size.h()));
+    let mut names = Vec::with_capacity(alloc, 2 * size.cells())?;
     for x in 0..w {
         names.push(HouseName::of(TentHouse::Column, x, h))?;
     }
@@ -77,7 +57,9 @@ pub(crate) fn names_of_tents(
     }
     for y in 0..h {
         for x in 0..w {
-            push_square(&mut names, puzzle, x, y)?;
+            if x + 1 < w && y + 1 < h {
+                names.push(HouseName::of(TentHouse::Square, place_of(puzzle, x, y), 4))?;
+            }
         }
     }
     Ok(names)

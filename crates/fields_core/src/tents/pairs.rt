@@ -1,16 +1,10 @@
 //! Whether the tents of a grid can be paired with the trees.
 #![tactic(auto, using(crate::proofs::LawSets::tent_pairs_laws))]
 
-ghost use Rattle.std.specs.Prelude.{◌≡◌, ℕ, ◌<◌, ◌≤◌, IfOk, take, filter, length};
-ghost use Rattle.std.specs.List.{range_with_len};
-ghost use Rattle.grid_core.specs.Grids.{IsGrid};
-ghost use Rattle.engine_core.specs.RuleSystem.{IsNext};
-ghost use Rattle.gameid_core.specs.Puzzles.{IsTents};
-ghost use Rattle.fields_core.specs.Tents.{tent_cells, tent, can_be_paired};
-ghost use Rattle.fields_core.specs.TentPairs.{tree_beside, tree_count, may_pair, AreNumbered, AreIn};
-ghost use Rattle.fields_core.specs.PairingScratches.{HasRoom};
+ghost use Rattle.std.specs.Prelude.{◌<◌, ◌≡◌, ◌≤◌, IfOk, ℕ, filter, length, take};
+ghost use Rattle.fields_core.specs.Common.{AreIn, AreNumbered, HasRoom, IsGrid, IsNext, IsTents, can_be_paired, may_pair, range_with_len, tent, tent_cells, tree_beside, tree_count};
 
-use crate::tents::cells::{cells, is_tree};
+use crate::tents::cells::is_tree;
 use gameid_core::TentsPuzzle;
 use grid_core::{Edges, Grid, Paired, Pairing, step};
 use std::alloc::{AllocError, Global};
@@ -76,14 +70,10 @@ fn next_tree(puzzle: &TentsPuzzle, numbers: &[usize], place: usize, from: usize)
 {
     let size = puzzle.size();
     for direction in 0..4 {
-        let Some(other) = step(size, place, direction) else {
-            continue;
-        };
-        if !is_tree(puzzle, other) {
-            continue;
-        }
-        if numbers[other] >= from {
-            return Some(numbers[other]);
+        if let Some(other) = step(size, place, direction) {
+            if is_tree(puzzle, other) && numbers[other] >= from {
+                return Some(numbers[other]);
+            }
         }
     }
     None
@@ -99,12 +89,11 @@ fn list_tents(puzzle: &TentsPuzzle, grid: &Grid, tents: &mut [usize]) -> usize
     ensures as_long { length tents.new ≡ length tents.old }
 {
     let mut count = 0;
-    for place in 0..cells(puzzle) {
-        if grid.get(place) != 1 {
-            continue;
+    for place in 0..puzzle.size().cells() {
+        if grid.get(place) == 1 {
+            tents[count] = place;
+            count += 1;
         }
-        tents[count] = place;
-        count += 1;
     }
     count
 }
@@ -119,49 +108,11 @@ fn number_trees(puzzle: &TentsPuzzle, numbers: &mut [usize]) -> usize
     ensures few { result ≤ tent_cells puzzle.now }
 {
     let mut trees = 0;
-    for place in 0..cells(puzzle) {
+    for place in 0..puzzle.size().cells() {
         numbers[place] = trees;
-        if !is_tree(puzzle, place) {
-            continue;
-        }
-        trees += 1;
+        trees += usize::from(is_tree(puzzle, place));
     }
     trees
-}
-
-/// Whether the tents can be paired one to one with the trees, each beside its own. The last three are room.
-fn pair(
-    puzzle: &TentsPuzzle,
-    grid: &Grid,
-    pairing: &mut Pairing,
-    tents: &mut [usize],
-    numbers: &mut [usize],
-) -> bool
-    requires fits { IsGrid (tent_cells puzzle.now) 2 grid.now }
-    requires room { tent_cells puzzle.now ≤ pairing.old.room }
-    requires tents_room { tent_cells puzzle.now ≤ length tents.old }
-    requires numbers_room { tent_cells puzzle.now ≤ length numbers.old }
-    ensures paired { result ≡ can_be_paired puzzle.now grid.now }
-    ensures lawful { IsTents puzzle.now }
-    ensures room { pairing.new.room ≡ pairing.old.room }
-    ensures tents_room { length tents.new ≡ length tents.old }
-    ensures numbers_room { length numbers.new ≡ length numbers.old }
-{
-    let count = list_tents(puzzle, grid, tents);
-    let trees = number_trees(puzzle, numbers);
-    if count != trees {
-        return false;
-    }
-    let edges = TentEdges {
-        puzzle,
-        tents: &tents[..count],
-        numbers,
-        trees,
-    };
-    match pairing.run(&edges) {
-        Paired::All => true,
-        Paired::Short => false,
-    }
 }
 
 /// Whether the tents can be paired one to one with the trees so that each tent is beside its own tree.
@@ -172,11 +123,16 @@ pub(crate) fn are_paired(puzzle: &TentsPuzzle, grid: &Grid, scratch: &mut Pairin
     ensures lawful { IsTents puzzle.now }
     ensures room { (n : ℕ) → HasRoom scratch.old n → HasRoom scratch.new n }
 {
-    pair(
+    let count = list_tents(puzzle, grid, &mut scratch.tents);
+    let trees = number_trees(puzzle, &mut scratch.numbers);
+    if count != trees {
+        return false;
+    }
+    let edges = TentEdges {
         puzzle,
-        grid,
-        &mut scratch.pairing,
-        &mut scratch.tents,
-        &mut scratch.numbers,
-    )
+        tents: &scratch.tents[..count],
+        numbers: &scratch.numbers,
+        trees,
+    };
+    matches!(scratch.pairing.run(&edges), Paired::All)
 }

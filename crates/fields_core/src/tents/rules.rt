@@ -1,40 +1,29 @@
 //! What the rules of Tents are to a search.
 #![tactic(auto, using(crate::proofs::LawSets::tent_rules_laws))]
 
-ghost use Rattle.std.specs.Prelude.{◌≡◌, ◌<◌};
-ghost use Rattle.std.specs.List.{list_any};
-ghost use Rattle.grid_core.specs.Regions.{beside};
-ghost use Rattle.fields_core.specs.Tents.{tent_cells, tree};
+ghost use Rattle.std.specs.Prelude.{◌≤◌, refl};
 
 use crate::count::game::CountGame;
-use crate::count::house::{House, count_passing};
+use crate::count::house::{House, Segment, beside, count_passing};
 use crate::count::name::HouseName;
 use crate::count::rules::CountRules;
-use crate::tents::cells::{cells, columns, is_tree};
+use crate::planes::game::PlaneGame;
+use crate::planes::notes::TentNotes;
+use crate::tents::cells::{column_number, is_tree, row_number};
 use crate::tents::check::find_fault;
 use crate::tents::houses::names_of_tents;
-use crate::tents::pairs::PairingScratch;
-use crate::tents::told::{TentHouse, house_of_tents};
+use crate::tents::pairs::{PairingScratch, are_paired};
+use crate::tents::told::TentHouse;
+use engine_core::Needs;
 use gameid_core::TentsPuzzle;
-use grid_core::Grid;
+use grid_core::{Grid, Size};
 use std::alloc::{AllocError, Global};
 
 /// The rules of a puzzle of Tents.
 pub type TentRules = CountRules<TentsPuzzle>;
 
-/// Whether a tree is beside the cell.
-fn is_beside_a_tree(puzzle: &TentsPuzzle, place: usize) -> bool
-    requires { place < tent_cells puzzle.now }
-    ensures { result ≡ list_any (tree puzzle.now) (beside puzzle.now.size place) }
-{
-    let w = columns(puzzle);
-    let has_tree = |other| is_tree(puzzle, other);
-    count_passing(puzzle.size(), place % w, place / w, has_tree) > 0
-}
-
 impl CountGame for TentsPuzzle {
-    ghost use Rattle.fields_core.specs.PairingScratches.{HasRoom};
-    ghost use Rattle.fields_core.specs.TentHouses.{tent_counts, tent_house};
+    ghost use Rattle.fields_core.specs.Common.{HasRoom, tent_counts, tent_house};
 
     type Scratch = PairingScratch;
 
@@ -57,23 +46,72 @@ impl CountGame for TentsPuzzle {
     }
 
     fn house(&self, kind: TentHouse, place: usize) -> House {
-        house_of_tents(self, kind, place)
+        let size = self.size();
+        match kind {
+            TentHouse::Column => {
+                let column = Segment::column(size, place).alone();
+                House::exactly(column_number(self, place), column)
+            }
+            TentHouse::Row => {
+                let row = Segment::row(size, place).alone();
+                House::exactly(row_number(self, place), row)
+            }
+            TentHouse::Tree => {
+                House::one_at_least(beside(size, place, |other| !is_tree(self, other)))
+            }
+            TentHouse::Square => {
+                let none = Segment::none();
+                let top = Segment::of(place, 1, 2);
+                let bottom = Segment::of(place + usize::from(size.w()), 1, 2);
+                House::one_at_most([top, bottom, none, none])
+            }
+        }
     }
 
     fn cells(&self) -> usize {
-        cells(self)
+        self.size().cells()
     }
 
     /// A tree, and a cell with no tree beside it, can have no tent.
     fn is_blocked(&self, place: usize) -> bool {
-        is_tree(self, place) || !is_beside_a_tree(self, place)
+        let size = self.size();
+        let w = usize::from(size.w());
+        let has_tree = |other| is_tree(self, other);
+        has_tree(place) || count_passing(size, place % w, place / w, has_tree) == 0
     }
 
     fn scratch(&self, alloc: Global) -> Result<PairingScratch, AllocError> {
-        PairingScratch::new(alloc, cells(self))
+        PairingScratch::new(alloc, self.size().cells())
     }
 
     fn accepts(&self, scratch: &mut PairingScratch, grid: &Grid) -> bool {
         find_fault(self, grid, scratch).is_none()
     }
+}
+
+impl PlaneGame for TentsPuzzle {
+    type Short = TentNotes<u64>;
+
+    type Long = TentNotes<u128>;
+
+    ghost all_short = { λ needs. needs.scope ≤ 64 };
+
+    fn size(&self) -> Size {
+        TentsPuzzle::size(self)
+    }
+
+    fn are_short(&self, made: Needs) -> bool {
+        made.scope <= 64
+    }
+
+    fn completes(
+        &self,
+        _names: &[HouseName<TentHouse>],
+        scratch: &mut PairingScratch,
+        grid: &Grid,
+    ) -> bool {
+        are_paired(self, grid, scratch)
+    }
+
+    ghost cells_are = { λ _. refl };
 }

@@ -1,12 +1,10 @@
 //! Cells that share a side or a corner.
 #![tactic(auto, using(crate::proofs::LawSets::tent_touch_laws))]
 
-ghost use Rattle.std.specs.Prelude.{◌≡◌, ◌*◌, ◌/◌, ◌%◌, ◌<◌, ◌≤◌, ◌^◌, ◌&&◌, length};
-ghost use Rattle.grid_core.specs.Candidates.{any_below};
-ghost use Rattle.grid_core.specs.Grids.{IsGrid};
-ghost use Rattle.fields_core.specs.Tents.{tent, touches};
-ghost use Rattle.fields_core.specs.TentTouching.{IsTentAmong, IsWindow};
+ghost use Rattle.std.specs.Prelude.{◌%◌, ◌&&◌, ◌*◌, ◌/◌, ◌<◌, ◌≡◌, ◌≤◌, length};
+ghost use Rattle.fields_core.specs.Common.{IsGrid, IsTentAmong, IsWindow, any_below, tent, touches};
 
+use crate::count::house::next_passing;
 use grid_core::{Grid, Size};
 
 /// Whether a cell other than `place` has a tent, of those from `from` to the one before `end`.
@@ -14,12 +12,7 @@ fn has_tent_among(grid: &Grid, place: usize, from: usize, end: usize) -> bool
     requires { end ≤ length grid.now }
     ensures { IsTentAmong grid.now place from end result }
 {
-    for other in from..end {
-        if other != place && grid.get(other) == 1 {
-            return true;
-        }
-    }
-    false
+    next_passing(from, end, |other| other != place && grid.get(other) == 1).is_some()
 }
 
 /// The cells of the place's row that are at most one column from it: the first, and the one after the last.

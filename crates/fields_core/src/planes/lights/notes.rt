@@ -1,12 +1,7 @@
 //! What Light Up keeps beside planes, and the board that a search starts from.
-#![tactic(auto)]
 
 ghost use Rattle.std.specs.Prelude.{◌≡◌, ℕ, ◌*◌, ◌≤◌, length};
-ghost use Rattle.fields_core.specs.LightPlanes.{AreRowTables, AreTables, HasTables};
-ghost use Rattle.grid_core.specs.Planes.{has};
-ghost use Rattle.gameid_core.specs.Puzzles.{IsLight};
-ghost use Rattle.fields_core.specs.Light.{light_cells};
-ghost use Rattle.fields_core.specs.LightHouses.{light_rules};
+ghost use Rattle.fields_core.specs.Common.{AreRowTables, AreTables, HasTables, IsLight, has, light_cells, light_rules};
 
 use crate::light_up::cells::{columns, rows};
 use crate::planes::game::PlaneNotes;
@@ -47,7 +42,7 @@ impl<W: Word> LightTables<W> {
             self.rows[y] = whites;
             self.numbers[y] = numbers;
             write_runs(&mut self.row_runs, whites, y * w, 1, w);
-            planes.take(Line::Row(y as u8), 1, W::all(w).but(whites));
+            planes.take(Line::Row(y as u8), 1, planes.columns().but(whites));
         }
     }
 

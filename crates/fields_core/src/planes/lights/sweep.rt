@@ -2,19 +2,11 @@
 #![tactic(auto, using(crate::proofs::LawSets::tent_sweep_laws))]
 
 ghost use Rattle.std.specs.Prelude.{◌≡◌, true};
-ghost use Rattle.fields_core.specs.CountHouse.{houses_below};
-ghost use Rattle.fields_core.specs.Light.{light_cells};
-ghost use Rattle.fields_core.specs.LightHouses.{lit_house};
-ghost use Rattle.fields_core.specs.LightPlanes.{IsKept};
-ghost use Rattle.fields_core.specs.LightWaits.{AreLightsReady, run_houses, run_lines, white_houses};
-ghost use Rattle.fields_core.specs.LightWords.{numbers_of_row};
-ghost use Rattle.fields_core.specs.Visits.{AreVisited};
+ghost use Rattle.fields_core.specs.Common.{AreLightsReady, AreVisited, IsKept, houses_below, light_cells, lit_house, numbers_of_row, run_houses, run_lines, white_houses};
 
-use crate::light_up::cells::rows;
 use crate::planes::lights::notes::LightNotes;
 use crate::planes::lights::visits::visit_numbers;
 use crate::planes::lights::waits::RunKind;
-use crate::planes::next::next_place;
 use gameid_core::LightPuzzle;
 use grid_core::{Planes, Word};
 
@@ -28,20 +20,21 @@ impl<W: Word> LightNotes<W> {
             → AreLightsReady W.bits W.room puzzle.now planes.new self.new }
         ensures kept { IsKept self.old self.new }
     {
-        let h = rows(puzzle);
-        let mut from = 0;
-        while let Some(y) = next_place(self.waits.numbers, from, h) {
+        let mut left = self.waits.numbers.both(planes.rows());
+        while left.is_some() {
+            let y = left.lowest();
             let len = planes.len();
             let at = self.waits.number_columns;
             if !visit_numbers(planes, puzzle, &self.tables, y as u8, at) {
                 return false;
             }
+            left = left.without_lowest();
             if planes.len() == len {
                 self.waits.settle_numbers(y as u8);
             } else {
                 self.waits.wake(planes, len);
+                left = self.waits.numbers.both(planes.rows()).but(W::all(y + 1));
             }
-            from = y + 1;
         }
         true
     }
@@ -58,14 +51,15 @@ impl<W: Word> LightNotes<W> {
         ensures kept { IsKept self.old self.new }
     {
         let len = planes.len();
-        let lines = usize::from(kind.lines(puzzle));
-        let waiting = self.waits.runs(kind);
-        let mut from = 0;
-        while let Some(line) = next_place(waiting, from, lines) {
-            if !self.tables.visit_runs(planes, puzzle, kind, line as u8) {
+        let mut left = self.waits.runs(kind).both(kind.lines(planes));
+        while left.is_some() {
+            if !self
+                .tables
+                .visit_runs(planes, puzzle, kind, left.lowest() as u8)
+            {
                 return false;
             }
-            from = line + 1;
+            left = left.without_lowest();
         }
         self.waits.wake(planes, len);
         self.waits.settle_runs(kind);
@@ -83,16 +77,19 @@ impl<W: Word> LightNotes<W> {
         ensures kept { IsKept self.old self.new }
     {
         let len = planes.len();
-        self.tables.write_safe(&mut self.safe, planes, puzzle);
+        let rows = self.tables.reach(planes, puzzle, self.waits.ones);
+        self.tables.write_safe(&mut self.safe, planes, puzzle, rows);
         let mut above = W::none();
-        for y in 0..puzzle.size().h() {
-            let whites = self.tables.rows[usize::from(y)];
-            above = self.safe[usize::from(y)].either(above.both(whites));
-            if !self.tables.visit_lits(planes, puzzle, y, whites.but(above)) {
+        for y in rows.0..rows.1 {
+            let whites = self.tables.rows[y];
+            above = self.safe[y].either(above.both(whites));
+            let some = self.waits.whites(y, whites.but(above));
+            if !self.tables.visit_lits(planes, puzzle, y as u8, some) {
                 return false;
             }
         }
         self.waits.wake(planes, len);
+        self.waits.settle_whites();
         true
     }
 

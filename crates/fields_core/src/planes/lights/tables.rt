@@ -1,13 +1,7 @@
 //! What planes of Light Up keep of a puzzle.
-#![tactic(auto)]
 
 ghost use Rattle.std.specs.Prelude.{◌≡◌, ℕ, ◌+◌, ◌*◌, ◌<◌, ◌≤◌, IfOk, length, map};
-ghost use Rattle.grid_core.specs.Words.{has_bit};
-ghost use Rattle.fields_core.specs.Light.{white};
-ghost use Rattle.fields_core.specs.LightPlanes.{HasTables};
-ghost use Rattle.fields_core.specs.NumberWords.{is_numbered};
-ghost use Rattle.fields_core.specs.RunWords.{AreFilled, AreWritten};
-ghost use Rattle.fields_core.specs.Trees.{IsRowOf};
+ghost use Rattle.fields_core.specs.Common.{AreFilled, AreWritten, HasTables, IsRowOf, has_bit, is_numbered, white};
 
 use crate::light_up::cells::columns;
 use gameid_core::{LightCell, LightPuzzle};

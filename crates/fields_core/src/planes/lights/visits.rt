@@ -1,23 +1,11 @@
 //! Visits of the houses of Light Up by the words that are kept of a puzzle.
-#![tactic(auto)]
 
 ghost use Rattle.std.specs.Prelude.{◌≡◌, ℕ, ◌+◌, ◌*◌, ◌<◌, ◌≤◌, ◌&&◌, ◌||◌, ◌==◌, Bool, true, IfNone, IfSome, List, length, map, nat_lt, slice_index};
-ghost use Rattle.grid_core.specs.Candidates.{count_below};
-ghost use Rattle.grid_core.specs.Planes.{has, line_len, lines_beside, number_of};
-ghost use Rattle.grid_core.specs.Words.{has_bit};
-ghost use Rattle.fields_core.specs.CountHouse.{CountHouse};
-ghost use Rattle.fields_core.specs.LightHouses.{lit_house, number_house};
-ghost use Rattle.fields_core.specs.LightPlanes.{ArePlanesOf, AreTables};
-ghost use Rattle.fields_core.specs.LightWaits.{AreIdleBut, AreSafeInColumns, AreWhitesIdleBut, lits_of_row, run_houses, run_lines};
-ghost use Rattle.fields_core.specs.LightWords.{numbers_of_row};
-ghost use Rattle.fields_core.specs.Parts.{IsAlive};
-ghost use Rattle.fields_core.specs.RunLines.{AreAround, AreRunsOf, IsClash};
-ghost use Rattle.fields_core.specs.Visits.{AreVisited};
+ghost use Rattle.fields_core.specs.Common.{AreAround, AreIdleBut, ArePlanesOf, AreRunsOf, AreSafeInColumns, AreTables, AreVisited, AreWhitesIdleBut, CountHouse, IsAlive, IsClash, count_below, has, has_bit, line_len, lines_beside, lit_house, lits_of_row, number_house, number_of, numbers_of_row, run_houses, run_lines};
 
 use crate::light_up::cells::columns;
 use crate::planes::lights::tables::LightTables;
 use crate::planes::lights::waits::RunKind;
-use crate::planes::next::next_place;
 use crate::planes::part::Part;
 use crate::planes::visit::visit;
 use gameid_core::{LightCell, LightPuzzle};
@@ -56,7 +44,7 @@ fn around<W: Word>(runs: &[W], first: usize, stride: usize, marked: W) -> Option
     Some(bits)
 }
 
-/// Visits the houses of the runs of a line of `len` cells. No other cell of the run of a cell that must be 1 can be 1. Says
+/// Visits the houses of the runs of a line. No other cell of the run of a cell that must be 1 can be 1. Says
 /// whether no run has two such cells: if one has, nothing is taken. The run of cell `k` is at `first + k * stride`.
 fn visit_line<W: Word>(
     planes: &mut Planes<W>,
@@ -64,20 +52,20 @@ fn visit_line<W: Word>(
     line: Line,
     first: usize,
     stride: usize,
-    len: usize,
 ) -> bool
     requires line_in { number_of line < lines_beside planes.old.size line }
-    requires len { len ≡ line_len planes.old.size line }
-    requires within { (k : ℕ) → k < len → first + k * stride < length runs.now }
+    requires within { (k : ℕ) → k < line_len planes.old.size line
+        → first + k * stride < length runs.now }
     requires alive { IsAlive planes.old }
-    ensures { (cell : ℕ → ℕ) (joined : ℕ → ℕ → Bool) (houses : List CountHouse)
+    ensures { (len : ℕ) (cell : ℕ → ℕ) (joined : ℕ → ℕ → Bool) (houses : List CountHouse)
+        → line_len planes.old.size line ≡ len
         → AreRunsOf planes.old.size line len cell joined houses
         → ((j k : ℕ) → j < len → has_bit (slice_index (map W.bits runs.now) (first + j * stride)) k
         ≡ (nat_lt k len && joined j k))
         → AreVisited houses planes.old planes.new result }
 {
     let zeros = planes.line(line, 0);
-    let must = W::all(len).but(zeros);
+    let must = planes.line(line, 1).but(zeros);
     let Some(near) = around(runs, first, stride, must) else {
         return false;
     };
@@ -144,26 +132,24 @@ pub(crate) fn visit_numbers<W: Word>(
     y: u8,
     at: W,
 ) -> bool
-    requires size { planes.old.size ≡ puzzle.now.size }
+    requires planes { ArePlanesOf W.room puzzle.now planes.old }
     requires tables { AreTables W.bits puzzle.now tables.now }
     requires y_in { y < puzzle.now.size.h }
     requires others { AreIdleBut puzzle.now (W.bits at) y (has planes.old) }
-    requires alive { IsAlive planes.old }
     ensures { AreVisited (numbers_of_row puzzle.now y) planes.old planes.new result }
 {
-    let w = usize::from(planes.size().w());
     let own = tables.numbers[usize::from(y)];
     let mut left = own.both(at);
-    let mut from = 0;
-    while let Some(x) = next_place(left, from, w) {
+    while left.is_some() {
+        let x = left.lowest();
         let len = planes.len();
         if !visit_number(planes, puzzle, tables, y, x as u8) {
             return false;
         }
+        left = left.without_lowest();
         if planes.len() != len {
-            left = own;
+            left = own.but(W::all(x + 1));
         }
-        from = x + 1;
     }
     true
 }
@@ -183,13 +169,11 @@ impl<W: Word> LightTables<W> {
         requires line_in { line < run_lines puzzle.now kind }
         ensures { AreVisited (run_houses puzzle.now kind line) planes.old planes.new result }
     {
-        let size = planes.size();
-        let w = usize::from(size.w());
-        let h = usize::from(size.h());
+        let w = columns(puzzle);
         let at = usize::from(line);
         match kind {
-            RunKind::Rows => visit_line(planes, &self.row_runs, Line::Row(line), at * w, 1, w),
-            RunKind::Columns => visit_line(planes, &self.column_runs, Line::Column(line), at, w, h),
+            RunKind::Rows => visit_line(planes, &self.row_runs, Line::Row(line), at * w, 1),
+            RunKind::Columns => visit_line(planes, &self.column_runs, Line::Column(line), at, w),
         }
     }
 
@@ -237,6 +221,7 @@ impl<W: Word> LightTables<W> {
         requires planes { ArePlanesOf W.room puzzle.now planes.old }
         requires tables { AreTables W.bits puzzle.now self.now }
         requires y_in { y < puzzle.now.size.h }
+        requires some_in { (x : ℕ) → has_bit (W.bits some) x ≡ true → x < puzzle.now.size.w }
         requires others { AreWhitesIdleBut puzzle.now (W.bits some) y (has planes.old) }
         ensures { AreVisited (lits_of_row puzzle.now y) planes.old planes.new result }
     {
@@ -244,40 +229,49 @@ impl<W: Word> LightTables<W> {
         let ones = planes.row(y, 1);
         let must = ones.but(planes.row(y, 0));
         let mut left = some;
-        let mut from = 0;
-        while let Some(x) = next_place(left, from, w) {
+        while left.is_some() {
+            let x = left.lowest();
             let run = self.row_runs[usize::from(y) * w + x];
+            left = left.without_lowest();
             if has_two(ones.both(run)) || must.both(run).is_some() {
                 left = left.but(run);
             } else if !self.visit_lit(planes, puzzle, y, x as u8) {
                 return false;
             }
-            from = x + 1;
         }
         true
     }
 
-    /// Writes for each row those white cells of it for which two cells of their column run, none of them above, can have a
-    /// bulb, or one must.
-    pub(crate) fn write_safe(&self, safe: &mut Vec<W>, planes: &Planes<W>, puzzle: &LightPuzzle)
+    /// Writes for each of these rows those white cells of it for which two cells of their column run, none of them above, can
+    /// have a bulb, or one must. Only cells of these rows count.
+    pub(crate) fn write_safe(
+        &self,
+        safe: &mut Vec<W>,
+        planes: &Planes<W>,
+        puzzle: &LightPuzzle,
+        rows: (usize, usize),
+    )
         requires planes { ArePlanesOf W.room puzzle.now planes.now }
         requires tables { AreTables W.bits puzzle.now self.now }
         requires long { puzzle.now.size.h ≤ length safe.old.items }
-        ensures safe { (y : ℕ) → y < puzzle.now.size.h → AreSafeInColumns puzzle.now y
+        requires order { rows.0 ≤ rows.1 }
+        requires low { rows.1 ≤ puzzle.now.size.h }
+        ensures safe { (y : ℕ) → rows.0 ≤ y → y < rows.1 → AreSafeInColumns puzzle.now y
             (slice_index (map W.bits safe.new.items) y) (has planes.now) }
         ensures long { length safe.new.items ≡ length safe.old.items }
     {
         let mut one = W::none();
         let mut two = W::none();
-        let mut y = puzzle.size().h();
-        while y > 0 {
+        let (first, end) = rows;
+        let mut y = end;
+        while y > first {
             y -= 1;
-            let whites = self.rows[usize::from(y)];
-            let ones = planes.row(y, 1);
-            let must = ones.but(planes.row(y, 0));
+            let whites = self.rows[y];
+            let ones = planes.row(y as u8, 1);
+            let must = ones.but(planes.row(y as u8, 0));
             two = two.either(one.both(ones)).either(must).both(whites);
             one = one.either(ones).both(whites);
-            safe[usize::from(y)] = two;
+            safe[y] = two;
         }
     }
 }

@@ -1,18 +1,8 @@
-//! Which numbers and runs of Light Up wait to be visited.
-#![tactic(auto)]
+//! Which numbers, runs and white cells of Light Up wait to be visited.
 
-ghost use Rattle.std.specs.Prelude.{◌≡◌, ℕ, ◌<◌, ◌≤◌};
-ghost use Rattle.grid_core.specs.Candidates.{Candidates};
-ghost use Rattle.grid_core.specs.Planes.{Layers, has, IsFurther};
-ghost use Rattle.engine_core.specs.Queue.{IsClosedBut};
-ghost use Rattle.gameid_core.specs.Puzzles.{Light};
-ghost use Rattle.fields_core.specs.LightHouses.{light_rules};
-ghost use Rattle.fields_core.specs.LightPlanes.{ArePlanesOf};
-ghost use Rattle.fields_core.specs.LightWaits.{AreLinesRested, AreLinesWoken, AreSpread, run_houses, run_lines, waiting_runs};
-ghost use Rattle.fields_core.specs.LightWords.{numbers_of_row};
-ghost use Rattle.fields_core.specs.Waits.{AreIdle};
+ghost use Rattle.std.specs.Prelude.{◌≡◌, ℕ, ◌<◌, ◌≤◌, ◌&&◌, ◌||◌, nat_lt};
+ghost use Rattle.fields_core.specs.Common.{AreIdle, AreLinesRested, AreLinesWoken, ArePlanesOf, AreSpread, Candidates, IsClosedBut, IsFurther, IsLight, Layers, Light, has, has_bit, light_cells, light_rules, lit_house, numbers_of_row, run_houses, run_lines, waiting_runs};
 
-use crate::light_up::cells::columns;
 use gameid_core::LightPuzzle;
 use grid_core::{Planes, Touched, Word};
 
@@ -26,31 +16,44 @@ pub(crate) enum RunKind {
 }
 
 impl RunKind {
-    /// How many lines there are.
-    pub(crate) fn lines(self, puzzle: &LightPuzzle) -> u8
-        ensures { result ≡ run_lines puzzle.now self }
+    /// The lines that there are.
+    pub(crate) fn lines<W: Word>(self, planes: &Planes<W>) -> W
+        ensures { (p : Light) → planes.now.size ≡ p.size
+            → (k : ℕ) → has_bit (W.bits result) k ≡ nat_lt k (run_lines p self) }
     {
         match self {
-            RunKind::Rows => puzzle.size().h(),
-            RunKind::Columns => puzzle.size().w(),
+            RunKind::Rows => planes.rows(),
+            RunKind::Columns => planes.columns(),
         }
     }
 }
 
 /// The rows and columns whose runs wait. Of the numbers of a row that waits those wait that stand in one of the columns of
-/// numbers.
+/// numbers. A white cell waits if its house has a cell of both a column and a row of `ones`, in which 1 was lost.
 #[derive(Clone, Copy)]
 pub struct LineWaits<W> {
     pub(crate) numbers: W,
     pub(crate) number_columns: W,
     rows: W,
     columns: W,
+    pub(crate) ones: Touched<W>,
+}
+
+/// The columns and the rows at these places.
+fn lines<W: Word>(at: W) -> Touched<W>
+    ensures columns { result.columns ≡ at }
+    ensures rows { result.rows ≡ at }
+{
+    Touched {
+        columns: at,
+        rows: at,
+    }
 }
 
 /// Places of the first word, and those of these lines and beside them.
 #[inline(always)]
 fn spread<W: Word>(before: W, lines: W) -> W
-    ensures { AreSpread W.bits W.room before lines result }
+    ensures { AreSpread W.bits W.room before (has_bit (W.bits lines)) result }
 {
     before.either(lines.on().either(lines).either(lines.back()))
 }
@@ -58,7 +61,7 @@ fn spread<W: Word>(before: W, lines: W) -> W
 impl<W: Word> LineWaits<W> {
     /// Everything waits.
     pub(crate) fn all() -> LineWaits<W>
-        ensures { (p : Light) (K : Candidates) → p.size.w ≤ W.room → p.size.h ≤ W.room
+        ensures { (p : Light) (K : Candidates) → IsLight p → p.size.w ≤ W.room → p.size.h ≤ W.room
             → AreLinesRested W.bits p result K }
     {
         let all = W::all(W::places());
@@ -67,6 +70,7 @@ impl<W: Word> LineWaits<W> {
             number_columns: all,
             rows: all,
             columns: all,
+            ones: lines(all),
         }
     }
 
@@ -78,19 +82,24 @@ impl<W: Word> LineWaits<W> {
             number_columns: none,
             rows: none,
             columns: none,
+            ones: lines(none),
         }
     }
 
-    /// What waits too once cells of both a column and a row of these have lost values, and those of the others 0. While no
-    /// cell of theirs loses 0, runs stay idle.
-    pub(crate) fn woken(self, cells: Touched<W>, zeros: Touched<W>) -> LineWaits<W>
-        ensures { AreLinesWoken W.bits W.room self cells zeros result }
+    /// What waits too once cells of both a column and a row of these have lost 0, and cells of those 1. While no cell of
+    /// theirs loses 0, runs stay idle, and while none loses 1, white cells do.
+    pub(crate) fn woken(self, zeros: Touched<W>, ones: Touched<W>) -> LineWaits<W>
+        ensures { AreLinesWoken W.bits W.room self zeros ones result }
     {
         LineWaits {
-            numbers: spread(self.numbers, cells.rows),
-            number_columns: spread(self.number_columns, cells.columns),
+            numbers: spread(self.numbers, zeros.rows.either(ones.rows)),
+            number_columns: spread(self.number_columns, zeros.columns.either(ones.columns)),
             rows: self.rows.either(zeros.rows),
             columns: self.columns.either(zeros.columns),
+            ones: Touched {
+                columns: self.ones.columns.either(ones.columns),
+                rows: self.ones.rows.either(ones.rows),
+            },
         }
     }
 
@@ -129,6 +138,28 @@ impl<W: Word> LineWaits<W> {
         }
     }
 
+    /// The white cells wait no more: they are idle.
+    pub(crate) fn settle_whites(&mut self)
+        ensures { (p : Light) (K : Candidates) → AreLinesRested W.bits p self.old K
+            → ((c : ℕ) → c < light_cells p → AreIdle (lit_house p c) K)
+            → AreLinesRested W.bits p self.new K }
+    {
+        self.ones = lines(W::none());
+    }
+
+    /// Of these cells of a row those that may wait.
+    pub(crate) fn whites(&self, y: usize, cells: W) -> W
+        requires { y < W.room }
+        ensures { (x : ℕ) → has_bit (W.bits result) x ≡ (has_bit (W.bits cells) x
+            && (has_bit (W.bits self.now.ones.rows) y
+            || has_bit (W.bits self.now.ones.columns) x)) }
+    {
+        if self.ones.rows.has(y) {
+            return cells;
+        }
+        cells.both(self.ones.columns)
+    }
+
     /// Wakes what may be idle no more since the trail had that length.
     pub(crate) fn wake(&mut self, planes: &Planes<W>, len: usize)
         requires { len ≤ planes.now.len }
@@ -140,33 +171,32 @@ impl<W: Word> LineWaits<W> {
         if planes.len() == len {
             return;
         }
-        let zeros = planes.lost(len, 0);
-        let ones = planes.lost(len, 1);
-        let both = Touched {
-            columns: zeros.columns.either(ones.columns),
-            rows: zeros.rows.either(ones.rows),
-        };
-        *self = self.woken(both, zeros);
+        let (zeros, ones) = planes.lost(len);
+        *self = self.woken(zeros, ones);
     }
 
-    /// What waits where a closing begins: what has the cell `from`, or all where none is named.
+    /// What waits where a closing begins: what the value counts for that the cell `from` has lost, or all where none is named.
     pub(crate) fn begin(
         planes: &Planes<W>,
-        puzzle: &LightPuzzle,
+        _puzzle: &LightPuzzle,
         from: Option<usize>,
     ) -> LineWaits<W>
-        requires planes { ArePlanesOf W.room puzzle.now planes.now }
-        requires closed_but { IsClosedBut (light_rules puzzle.now) (has planes.now) from }
-        ensures { AreLinesRested W.bits puzzle.now result (has planes.now) }
+        requires planes { ArePlanesOf W.room _puzzle.now planes.now }
+        requires closed_but { IsClosedBut (light_rules _puzzle.now) (has planes.now) from }
+        ensures { AreLinesRested W.bits _puzzle.now result (has planes.now) }
     {
         let Some(place) = from else {
             return LineWaits::all();
         };
-        let w = columns(puzzle);
-        let touched = Touched {
-            columns: W::one(place % w),
-            rows: W::one(place / w),
+        let (y, x) = planes.split(place);
+        let cell = Touched {
+            columns: W::one(x),
+            rows: W::one(y),
         };
-        LineWaits::none().woken(touched, touched)
+        let no_lines = lines(W::none());
+        if planes.row(y as u8, 1).has(x) {
+            return LineWaits::none().woken(cell, no_lines);
+        }
+        LineWaits::none().woken(no_lines, cell)
     }
 }

@@ -1,9 +1,72 @@
-use Rattle.fields_core.proofs.Common.{FailsLight, light_tests, none_exactly}
-use Rattle.fields_core.proofs.LightRuleLemmas.{light-none}
+use Rattle.std.proofs.Common.{rules, ◌↔◌}
+use Rattle.fields_core.proofs.Common.{FailsLight, IsGrid, IsLightFault, Light, List, None, Option, [], arith, black_right, bulb_right, common_steps, light_cells, light_tests, lit_right, none_exactly, none_right, not, number_right, ℕ, ◌∷◌, ◌≡◌}
+use Rattle.fields_core.specs.LightSolutions.{IsLightSolution}
+use Rattle.fields_core.specs.declared.light_up.fault.LightFault.{LightFault}
+use Rattle.fields_core.proofs.FirstWrong.{IsSearched, all-right, first-wrong}
+use Rattle.fields_core.proofs.LightRuleLemmas.{black, dark, kinds, light-made, light-none, light-sound, number, seen}
 use Rattle.fields_core.proofs.light_up.check.check_lights.Goals as goal
+use Rattle.fields_core.proofs.light_up.check.check_lights.Goals.{After-next_passing, After-next_passing-2, After-next_passing-3, After-next_passing-4}
 
-pub returns-clause-solution : goal.returns-clause-solution
-returns-clause-solution c =
-    none_exactly (FailsLight c.args.puzzle.now c.args.grid.now) (light_tests c.args.puzzle.now)
-    (light-none c.args.puzzle.now c.args.grid.now c.requires.fits) c.find_fault.result
-    c.find_fault.ensures
+-- what an answer says of the grid
+told : (p : Light) (g : List ℕ) → IsGrid (light_cells p) 2 g → {fault : Option LightFault} → IsLightFault p g fault
+    → IsLightFault p g fault × ((fault ≡ None) ↔ IsLightSolution p g)
+told p g fits {fault} is = (is, none_exactly (FailsLight p g) (light_tests p) (light-none p g fits) fault is)
+
+found-black : (c : After-next_passing) → IsSearched (black c.args.puzzle.now c.args.grid.now) c.next_passing.result
+unfolding black_right
+found-black c = rw (c.cells-end.ensures.value, c.size.ensures.value) at (c.next_passing.ensures (λ k. not (black_right c.args.puzzle.now c.args.grid.now k)) (λ d answer lt met. grind (arith, common_steps)))
+
+found-number : (c : After-next_passing-2) → IsSearched (number c.args.puzzle.now c.args.grid.now) c.next_passing-2.result
+found-number c = rw (c.cells-end.ensures.value, c.size.ensures.value) at (c.next_passing-2.ensures (λ k. not (number_right c.args.puzzle.now c.args.grid.now k)) (λ d answer lt met. search rules))
+
+found-seen : (c : After-next_passing-3) → IsSearched (seen c.args.puzzle.now c.args.grid.now) c.next_passing-3.result
+unfolding bulb_right
+found-seen c = rw (c.cells-end.ensures.value, c.size.ensures.value) at (c.next_passing-3.ensures (λ k. not (bulb_right c.args.puzzle.now c.args.grid.now k)) (λ d answer lt met. grind (arith, common_steps)))
+
+found-dark : (c : After-next_passing-4) → IsSearched (dark c.args.puzzle.now c.args.grid.now) c.next_passing-4.result
+unfolding lit_right
+found-dark c = rw (c.cells-end.ensures.value, c.size.ensures.value) at (c.next_passing-4.ensures (λ k. not (lit_right c.args.puzzle.now c.args.grid.now k)) (λ d answer lt met. grind (arith, common_steps)))
+
+pub returns-in-Some : goal.returns-in-Some
+returns-in-Some c =
+    let p = c.args.puzzle.now in
+    let g = c.args.grid.now in
+    let w = told p g c.requires.fits (first-wrong (FailsLight p g) ([]) (black p g) (number p g ∷ seen p g ∷ dark p g ∷ []) (light-made p g c.requires.fits)
+    tt
+    (rw c.in-Some.is at (found-black (goal.at.returns-in-Some c).After-next_passing))) in
+    record { fault = w.0; solution = w.1 }
+
+pub returns-in-Some-next_passing : goal.returns-in-Some-next_passing
+returns-in-Some-next_passing c =
+    let p = c.args.puzzle.now in
+    let g = c.args.grid.now in
+    let w = told p g c.requires.fits (first-wrong (FailsLight p g) (black p g ∷ []) (number p g) (seen p g ∷ dark p g ∷ []) (light-made p g c.requires.fits)
+    (all-right (FailsLight p g) (black p g) (rw c.in_default.is at (found-black (goal.at.returns-in-Some-next_passing c).After-next_passing)), tt)
+    (rw c.in-Some-next_passing.is at (found-number (goal.at.returns-in-Some-next_passing c).After-next_passing-2))) in
+    record { fault = w.0; solution = w.1 }
+
+pub returns-in-Some-next_passing-2 : goal.returns-in-Some-next_passing-2
+returns-in-Some-next_passing-2 c =
+    let p = c.args.puzzle.now in
+    let g = c.args.grid.now in
+    let w = told p g c.requires.fits (first-wrong (FailsLight p g) (black p g ∷ number p g ∷ []) (seen p g) (dark p g ∷ []) (light-made p g c.requires.fits)
+    (all-right (FailsLight p g) (black p g) (rw c.in_default.is at (found-black (goal.at.returns-in-Some-next_passing-2 c).After-next_passing)), (all-right (FailsLight p g) (number p g) (rw c.in_default-next_passing.is at (found-number (goal.at.returns-in-Some-next_passing-2 c).After-next_passing-2)), tt))
+    (rw c.in-Some-next_passing-2.is at (found-seen (goal.at.returns-in-Some-next_passing-2 c).After-next_passing-3))) in
+    record { fault = w.0; solution = w.1 }
+
+pub returns-in-Some-next_passing-3 : goal.returns-in-Some-next_passing-3
+returns-in-Some-next_passing-3 c =
+    let p = c.args.puzzle.now in
+    let g = c.args.grid.now in
+    let w = told p g c.requires.fits (first-wrong (FailsLight p g) (black p g ∷ number p g ∷ seen p g ∷ []) (dark p g) ([]) (light-made p g c.requires.fits)
+    (all-right (FailsLight p g) (black p g) (rw c.in_default.is at (found-black (goal.at.returns-in-Some-next_passing-3 c).After-next_passing)), (all-right (FailsLight p g) (number p g) (rw c.in_default-next_passing.is at (found-number (goal.at.returns-in-Some-next_passing-3 c).After-next_passing-2)), (all-right (FailsLight p g) (seen p g) (rw c.in_default-next_passing-2.is at (found-seen (goal.at.returns-in-Some-next_passing-3 c).After-next_passing-3)), tt)))
+    (rw c.in-Some-next_passing-3.is at (found-dark (goal.at.returns-in-Some-next_passing-3 c).After-next_passing-4))) in
+    record { fault = w.0; solution = w.1 }
+
+pub returns : goal.returns
+returns c =
+    let p = c.args.puzzle.now in
+    let g = c.args.grid.now in
+    let w = told p g c.requires.fits {fault = None} (light-sound p g c.requires.fits (none_right (FailsLight p g) (kinds p g) (light-made p g c.requires.fits)
+    (all-right (FailsLight p g) (black p g) (rw c.in_default.is at (found-black (goal.at.returns c).After-next_passing)), (all-right (FailsLight p g) (number p g) (rw c.in_default-next_passing.is at (found-number (goal.at.returns c).After-next_passing-2)), (all-right (FailsLight p g) (seen p g) (rw c.in_default-next_passing-2.is at (found-seen (goal.at.returns c).After-next_passing-3)), (all-right (FailsLight p g) (dark p g) (rw c.in_default-next_passing-3.is at (found-dark (goal.at.returns c).After-next_passing-4)), tt)))))) in
+    record { fault = w.0; solution = w.1 }

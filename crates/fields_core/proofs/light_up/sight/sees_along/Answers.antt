@@ -1,16 +1,11 @@
-use Rattle.fields_core.proofs.Common.{arith, ap, bulb, eq-eqb, line_white, slice_index, sym, ◌*◌, ◌+◌, ◌∙◌}
-use Rattle.fields_core.proofs.LightSeen.{run-bulb, run-dark}
+use Rattle.fields_core.proofs.Common.{arith, bulb, common_steps, line_white, not, ◌&&◌, ◌*◌, ◌+◌, ℕ}
+use Rattle.std.specs.Prelude.{◌==◌}
+use Rattle.fields_core.proofs.NextLemmas.{shines-along}
 use Rattle.fields_core.proofs.light_up.sight.sees_along.Goals as goal
-
-pub returns-then-get-eq1 : goal.returns-then-get-eq1
-returns-then-get-eq1 c =
-    let line = c.args.line.now in
-    run-bulb (line_white line.puzzle.now line.first line.stride) (λ i. bulb c.args.grid.now (line.first + i * line.stride)) c.run-start.ensures
-    c.loop-other.auto.other (omega (arith, c.loop-other-test.true)) c.if-other-at.true
-    (eq-eqb _ 1 (ap (slice_index c.args.grid.now) (sym c.place.ensures.place) ∙ sym c.get.ensures ∙ c.if-get-eq1.true))
 
 pub returns : goal.returns
 returns c =
     let line = c.args.line.now in
-    run-dark (line_white line.puzzle.now line.first line.stride) (λ i. bulb c.args.grid.now (line.first + i * line.stride)) c.run-start.ensures
-    (λ i low high ne. c.loop-other.invariant i low (omega (arith, high, c.loop-other-test.false)) ne)
+    let shines = λ (i : ℕ). bulb c.args.grid.now (line.first + i * line.stride) in
+    rw c.is_some.ensures (shines-along (line_white line.puzzle.now line.first line.stride) shines c.next_passing.result c.run-start.ensures
+    (c.next_passing.ensures (λ i. not (i == c.args.at) && shines i) (λ d answer lt met. grind (arith, common_steps))))

@@ -19,8 +19,8 @@ must g c =
     let narrow = c.row-upper.ensures.lawful.narrow in
     record {
       fits = rw c.requires.size at narrow;
-      twice_is = λ u. c.but-twice.ensures u ∙ rw (c.all-all.ensures u, c.either.ensures u, c.row-upper.ensures.cells u, c.row-lower.ensures.cells u, c.from.ensures, c.w-2.ensures.value, c.size-size.ensures.value) refl;
-      must_is = λ u. c.but-must.ensures u ∙ rw (c.all-all.ensures u, c.both.ensures u, c.row-upper.ensures.cells u, c.row-lower.ensures.cells u, c.from.ensures, c.w-2.ensures.value, c.size-size.ensures.value) refl;
+      twice_is = λ u. c.but-twice.ensures u ∙ rw (c.columns-all.ensures u, c.either.ensures u, c.row-upper.ensures.cells u, c.row-lower.ensures.cells u, c.requires.size) refl;
+      must_is = λ u. c.but-must.ensures u ∙ rw (c.columns-all.ensures u, c.both.ensures u, c.row-upper.ensures.cells u, c.row-lower.ensures.cells u, c.requires.size) refl;
     }
 
 low : (g : _) (c : After-on-after g) → c.args.y + 1 < c.args.puzzle.now.size.h

@@ -6,5 +6,5 @@ pub returns-then-numbers-other : goal.returns-then-numbers-other
 returns-then-numbers-other c = next-found c.size-size.ensures.lawful.size.w_two c.loop-direction.invariant c.loop-direction-test.true
     (c.in-Some.ensures.cell ∙ ap (λ s. step s c.args.place c.loop-direction.direction)
     c.size-size.ensures.value) (rw c.size-size.ensures.value at c.in-Some.ensures.within)
-    (sym c.is_tree.ensures ∙ c.if-not-is_tree.false)
+    (sym c.is_tree.ensures ∙ c.if-is_tree.true)
     (c.requires.numbered.each c.in-Some.other (rw c.size-size.ensures.value at c.in-Some.ensures.within)) c.if-numbers-other.true

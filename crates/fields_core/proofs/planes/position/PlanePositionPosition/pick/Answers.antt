@@ -1,5 +1,4 @@
-use Rattle.std.proofs.Common.{◌∙◌, ap, arith}
-use Rattle.grid_core.specs.Extent.{Extent}
+use Rattle.std.proofs.Common.{arith}
 use Rattle.std.proofs.lemmas.Nat.{div-add-mod'}
 use Rattle.fields_core.proofs.PositionSteps.{none-above}
 use Rattle.fields_core.proofs.planes.position.PlanePositionPosition.pick.Goals as goal
@@ -7,11 +6,9 @@ use Rattle.fields_core.proofs.planes.position.PlanePositionPosition.pick.Goals a
 pub pick-requires-clause-none : goal.pick-requires-clause-none
 pick-requires-clause-none g c =
     let r = rw c.in-Short.is at (rw (← c.self.view_is) at c.requires) in
-    let w_is = c.from-w.ensures ∙ c.w.ensures.value ∙ ap (λ (s : Extent). s.w) c.size.ensures.value in
-    none-above c.args.from _ _ (rw w_is (omega (arith, div-add-mod' c.args.from c.in-Short.field.planes.size.w))) r.none
+    none-above c.args.from _ _ (rw c.split-row.ensures.row (omega (arith, div-add-mod' c.args.from c.in-Short.field.planes.size.w))) r.none
 
 pub pick-requires-in-Long-clause-none : goal.pick-requires-in-Long-clause-none
 pick-requires-in-Long-clause-none g c =
     let r = rw c.in-Long.is at (rw (← c.self.view_is) at c.requires) in
-    let w_is = c.from-w-in-Long.ensures ∙ c.w-in-Long.ensures.value ∙ ap (λ (s : Extent). s.w) c.size-in-Long.ensures.value in
-    none-above c.args.from _ _ (rw w_is (omega (arith, div-add-mod' c.args.from c.in-Long.field.planes.size.w))) r.none
+    none-above c.args.from _ _ (rw c.split-row-in-Long.ensures.row (omega (arith, div-add-mod' c.args.from c.in-Long.field.planes.size.w))) r.none

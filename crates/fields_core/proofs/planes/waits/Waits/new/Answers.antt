@@ -1,30 +1,27 @@
 use Rattle.fields_core.proofs.Common.{eq-eqb, refl, sym, ◌%◌, ◌/◌, ◌∙◌}
 use Rattle.grid_core.specs.Planes.{AreLinesOf, has}
-use Rattle.fields_core.proofs.TentWaits.{lost-one, lost-zero, place-in_planes, place-room, rested-from}
+use Rattle.fields_core.proofs.TentWaits.{lost-one, lost-zero, place-in_planes, rested-from}
 use Rattle.fields_core.proofs.planes.waits.Waits.new.Goals as goal
 use Rattle.fields_core.proofs.planes.waits.Waits.new.Goals.{After-one-2}
 
-pub one-requires-2 : goal.one-requires-2
-one-requires-2 g c =
-    rw (c.from-w.ensures, c.w.ensures.value, c.size.ensures.value, c.requires.size)
-    (place-room c.args.puzzle.now c.size.ensures.lawful c.requires.size c.in-Some.is c.requires.closed_but)
-
 pub has-requires-clause-place_in : goal.has-requires-clause-place_in
-has-requires-clause-place_in g c = place-in_planes c.args.puzzle.now c.args.planes.now c.requires.size c.in-Some.is c.requires.closed_but
+has-requires-clause-place_in g c = place-in_planes c.args.puzzle.now c.args.planes.now c.requires.board.same_size c.in-Some.is c.requires.closed_but
 
 -- the lines of the cell
 lines : (g : _) (c : After-one-2 g) → AreLinesOf g.W.Word.bits (record { columns = c.one.result; rows = c.one-2.result })
     (c.in-Some.place / c.args.puzzle.now.size.w) (c.in-Some.place % c.args.puzzle.now.size.w)
 lines g c =
-    let w_is = c.from-w.ensures ∙ rw (c.size.ensures.value, c.requires.size) at c.w.ensures.value in
-    (c.one.ensures _ ∙ rw w_is (eq-eqb _ _ refl), c.one-2.ensures _ ∙ rw w_is (eq-eqb _ _ refl))
+    (c.one.ensures _ ∙ rw (c.split-y.ensures.column, c.requires.board.same_size) (eq-eqb _ _ refl), c.one-2.ensures _ ∙ rw (c.split-y.ensures.row, c.requires.board.same_size) (eq-eqb _ _ refl))
 
 pub returns-then-has : goal.returns-then-has
 returns-then-has g c =
-    rested-from g.W.Word.bits c.args.puzzle.now c.requires.lawful c.size.ensures.lawful c.requires.size c.in-Some.is c.requires.closed_but
+    rested-from g.W.Word.bits c.args.puzzle.now c.requires.lawful c.split-y.ensures.lawful c.requires.board.same_size c.in-Some.is c.requires.closed_but
     (lost-zero g.W.Word.bits (has c.args.planes.now) _ _ _ _ (sym c.has.ensures ∙ c.if-has.true) (lines g (goal.at.returns-then-has g c).After-one-2)) c.woken.ensures
 
 pub returns : goal.returns
 returns g c =
-    rested-from g.W.Word.bits c.args.puzzle.now c.requires.lawful c.size.ensures.lawful c.requires.size c.in-Some.is c.requires.closed_but
+    rested-from g.W.Word.bits c.args.puzzle.now c.requires.lawful c.split-y.ensures.lawful c.requires.board.same_size c.in-Some.is c.requires.closed_but
     (lost-one g.W.Word.bits (has c.args.planes.now) _ _ _ _ (sym c.has.ensures ∙ c.if-has.false) (lines g (goal.at.returns g c).After-one-2)) c.woken-2.ensures
+
+pub returns-in_default : goal.returns-in_default
+returns-in_default g c = c.all.ensures c.args.puzzle.now (has c.args.planes.now) c.requires.board.suited.0 c.requires.board.suited.1

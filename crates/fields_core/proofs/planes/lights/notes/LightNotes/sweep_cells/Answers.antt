@@ -1,29 +1,28 @@
-use Rattle.fields_core.proofs.Common.{and_parts, arith, cases_Bool, has_bit, inl, inr, length-map, lt-ltb, map, not, or_cases, refl, slice_index, sym, true, true≢false, false, white, Bool, common_steps, ◌&&◌, ◌*◌, ◌+◌, ◌<◌, ◌∙◌, ◌≡◌}
+use Rattle.fields_core.proofs.Common.{and_parts, arith, cases_Bool, has_bit, houses_below, inl, inr, light_cells, lit_house, lt-ltb, ltb-true, map, not, or_cases, or_parts, refl, slice_index, sym, true, true≢false, false, white, Bool, common_steps, ◌&&◌, ◌*◌, ◌+◌, ◌<◌, ◌∙◌, ◌≡◌, ◌≤◌, ℕ}
 use Rattle.grid_core.specs.Planes.{has}
+use Rattle.grid_core.proofs.PlaneLemmas.{place-in}
 use Rattle.fields_core.specs.LightWaits.{AreSafeInColumns, lits_of_row}
 use Rattle.fields_core.specs.Trees.{IsRowOf}
+use Rattle.fields_core.specs.Visits.{AreVisited}
+use Rattle.fields_core.specs.Waits.{AreIdle}
+use Rattle.fields_core.proofs.IdleLemmas.{visited-skip}
 use Rattle.fields_core.proofs.LightCounting.{light-board}
 use Rattle.fields_core.proofs.LightNotes.{joined-down, safe-moved}
+use Rattle.fields_core.proofs.LightReach.{away-from}
 use Rattle.fields_core.proofs.RunBegins.{column-white-start}
-use Rattle.fields_core.proofs.LightSweeps.{lits-are, lits-stay, planes-next}
+use Rattle.fields_core.proofs.LightSweeps.{lits-are, lits-done, lits-stay, out-idle, planes-next, ready-next, row-stays}
 use Rattle.fields_core.proofs.LitRuns.{black-idle, column-safe, planes-full}
-use Rattle.fields_core.proofs.TreeWords.{row-read}
+use Rattle.fields_core.proofs.TreeWords.{row-read, rows-read}
 use Rattle.fields_core.proofs.VisitLemmas.{sweep-broken, sweep-first, sweep-more}
 use Rattle.fields_core.proofs.planes.lights.notes.LightNotes.sweep_cells.Goals as goal
-use Rattle.fields_core.proofs.planes.lights.notes.LightNotes.sweep_cells.Goals.{After-either-above}
+use Rattle.fields_core.proofs.planes.lights.notes.LightNotes.sweep_cells.Goals.{After-whites-some, After-settle_whites}
 
-module _ (g : _) (c : After-either-above g) where
+module _ (g : _) (c : After-whites-some g) where
   pub y-in : c.loop-y.y < c.args.puzzle.now.size.h
-  y-in =
-      let h_is : c.h-y-end.result ≡ c.args.puzzle.now.size.h = rw c.size.ensures.value at c.h-y-end.ensures.value in
-      let lt = c.loop-y-test.true in omega (arith, h_is)
+  y-in = omega (arith, c.loop-y-test.true, c.reach-rows.ensures.within)
 
   pub whites : IsRowOf c.args.puzzle.now.size.w (white c.args.puzzle.now) c.loop-y.y (g.W.Word.bits c.index-whites.result.now)
-  whites =
-      let rows = c.args.self.now.tables.rows.items in
-      let tables = c.requires.ready.tables in
-      rw (row-read g.W.Word.bits rows c.loop-y.y c.index-whites.result.now (omega (arith, y-in, tables.rows.long, length-map rows g.W.Word.bits)) (rw (c.from.ensures) at c.index-whites.ensures))
-      at (tables.rows.each c.loop-y.y y-in)
+  whites = rows-read g.W.Word.bits c.args.self.now.tables.rows.items c.loop-y.y y-in c.requires.ready.tables.rows c.index-whites.ensures
 
   -- the cells of the row that are passed
   pub safe : AreSafeInColumns c.args.puzzle.now c.loop-y.y (g.W.Word.bits c.either-above.result) (has c.args.planes.now)
@@ -35,8 +34,8 @@ module _ (g : _) (c : After-either-above g) where
       elim (or_cases _ _ (sym (c.either-above.ensures x) ∙ on)) [
         | inl below ↦
             let read : slice_index (map bits words) c.loop-y.y ≡ bits c.index.result.now = row-read bits words c.loop-y.y c.index.result.now
-            (omega (arith, y-in, of.low, c.requires.ready.safe_long, c.write_safe.ensures.long)) (rw (c.from-in-loop-y.ensures) at c.index.ensures) in
-            c.write_safe.ensures.safe c.loop-y.y y-in x (rw read below)
+            (omega (arith, y-in, of.low, c.requires.ready.safe_long, c.write_safe.ensures.long)) c.index.ensures in
+            c.write_safe.ensures.safe c.loop-y.y c.loop-y.invariant.first c.loop-y-test.true x (rw read below)
         | inr both ↦
             let w = and_parts _ _ (sym (c.both.ensures x) ∙ both) in
             let own = and_parts _ _ (sym (whites x) ∙ w.1) in
@@ -46,46 +45,87 @@ module _ (g : _) (c : After-either-above g) where
             rw at (safe-moved (joined-down p (v.0 * p.size.w + x) (light-board of.lawful).some (column-white-start p (v.0 * p.size.w + x) v.2.one v.2.one_in) (rw at at is_white)) v.2)
       ]
 
+  -- a cell of the row that is not looked at
+  pub idle : (x : ℕ) → x < c.args.puzzle.now.size.w → has_bit (g.W.Word.bits c.whites-some.result) x ≡ false
+      → AreIdle (lit_house c.args.puzzle.now (c.loop-y.y * c.args.puzzle.now.size.w + x)) (has c.args.planes.now)
+  idle x lt off = elim (cases_Bool (has_bit (g.W.Word.bits c.but.result) x)) [
+    | inl left ↦
+        let p = c.args.puzzle.now in
+        let lines = or_parts _ _ (apart left (sym (c.whites-some.ensures x) ∙ off)) in
+        c.requires.ready.rested.whites (c.loop-y.y * p.size.w + x) (place-in p.size.w p.size.h c.loop-y.y x y-in lt)
+        (away-from g.W.Word.bits p _ c.requires.ready.planes_of.lawful c.loop-y.y x y-in lt (λ on. true≢false (sym on ∙ lines.0)) (λ k k_in on column joined. true≢false (sym column ∙ lines.1)))
+    | inr gone ↦ elim (cases_Bool (has_bit (g.W.Word.bits c.either-above.result) x)) [
+      | inl passed ↦
+          let of = c.requires.ready.planes_of in
+          column-safe c.args.puzzle.now _ of.lawful (planes-full c.args.puzzle.now c.args.planes.now of.size of.alive) (safe x passed)
+      | inr out ↦ black-idle c.args.puzzle.now _ (has c.args.planes.now) (sym (whites x ∙ rw (lt-ltb x c.args.puzzle.now.size.w lt) refl)
+          ∙ none (has_bit (g.W.Word.bits c.index-whites.result.now) x) (sym (c.but.ensures x ∙ rw out refl) ∙ gone))
+    ]
+  ]
+    where
+      none : (a : Bool) → (a && not false) ≡ false → a ≡ false
+      none a e = grind (arith, common_steps, cases_Bool a)
+
+      apart : {a b : Bool} → a ≡ true → (a && b) ≡ false → b ≡ false
+      apart {a} {b} on e = grind (arith, common_steps, cases_Bool a, cases_Bool b)
+
 pub loop-y-init : goal.loop-y-init
 loop-y-init g c = record {
-  visited = sweep-first (lits_of_row c.args.puzzle.now) c.requires.ready.planes_of.alive;
+  first = omega arith;
+  visited = visited-skip (lits_of_row c.args.puzzle.now) (omega arith) (sweep-first (lits_of_row c.args.puzzle.now) c.requires.ready.planes_of.alive)
+      (λ k at lt. out-idle c.requires.ready c.reach-rows.ensures k (omega (arith, lt, c.reach-rows.ensures.order, c.reach-rows.ensures.within)) (inl lt));
   above = λ x on. absurd (true≢false (sym on ∙ c.none-above.ensures x));
 }
 
 pub visit_lits-requires-clause-planes : goal.visit_lits-requires-clause-planes
 visit_lits-requires-clause-planes g c = planes-next c.requires.ready.planes_of c.loop-y.invariant.visited.further c.loop-y.invariant.visited.alive
 
+pub visit_lits-requires-clause-some_in : goal.visit_lits-requires-clause-some_in
+visit_lits-requires-clause-some_in g c = λ x on.
+    let left = and_parts _ _ (sym (c.whites-some.ensures x) ∙ on) in
+    let own = and_parts _ _ (sym (c.but.ensures x) ∙ left.0) in
+    ltb-true x _ (and_parts _ _ (sym (whites g (goal.at.visit_lits-requires-clause-some_in g c).After-whites-some x) ∙ own.0)).0
+
 pub visit_lits-requires-clause-others : goal.visit_lits-requires-clause-others
 visit_lits-requires-clause-others g c = λ x lt off.
-    let h = (goal.at.visit_lits-requires-clause-others g c).After-either-above in
-    let p = c.args.puzzle.now in
-    let of = c.requires.ready.planes_of in
-    let lt_y = y-in g h in
-    let cell = c.loop-y.y * p.size.w + x in
-    lits-stay p c.loop-y.y x of (omega arith) lt_y lt c.loop-y.invariant.visited (elim (cases_Bool (has_bit (g.W.Word.bits c.either-above.result) x)) [
-      | inl passed ↦ column-safe p cell of.lawful (planes-full p c.args.planes.now of.size of.alive) (safe g h x passed)
-      | inr out ↦ black-idle p cell (has c.args.planes.now) (sym (whites g h x ∙ rw (lt-ltb x p.size.w lt) refl) ∙ none (has_bit (g.W.Word.bits c.index-whites.result.now) x)
-          (sym (c.but.ensures x ∙ rw out refl) ∙ off))
-    ])
-  where
-    none : (a : Bool) → (a && not false) ≡ false → a ≡ false
-    none a e = grind (arith, common_steps, cases_Bool a)
+    let h = (goal.at.visit_lits-requires-clause-others g c).After-whites-some in
+    let y_in = y-in g h in
+    lits-stay c.args.puzzle.now c.loop-y.y x c.requires.ready.planes_of (omega (arith, y_in)) y_in lt c.loop-y.invariant.visited (idle g h x lt off)
 
 pub loop-y-preserved : goal.loop-y-preserved
 loop-y-preserved g c = record {
+  first = omega (arith, c.loop-y.invariant.first);
   visited = sweep-more (lits_of_row c.args.puzzle.now) c.loop-y.invariant.visited c.visit_lits.ensures c.if-not-visit_lits.false;
-  above = λ x on. (c.loop-y.y, refl, safe g (goal.at.loop-y-preserved g c).After-either-above x on);
+  above = λ x on. (c.loop-y.y, refl, safe g (goal.at.loop-y-preserved g c).After-whites-some x on);
 }
 
 pub returns-then-not-visit_lits-clause-visited : goal.returns-then-not-visit_lits-clause-visited
 returns-then-not-visit_lits-clause-visited g c =
     let p = c.args.puzzle.now in
     rw (lits-are p) at (sweep-broken (lits_of_row p) c.loop-y.invariant.visited c.visit_lits.ensures c.if-not-visit_lits.true
-    (y-in g (goal.at.returns-then-not-visit_lits-clause-visited g c).After-either-above))
+    (y-in g (goal.at.returns-then-not-visit_lits-clause-visited g c).After-whites-some))
+
+-- all white cells are passed
+whole : (g : _) (c : After-settle_whites g)
+    → AreVisited (houses_below (lit_house c.args.puzzle.now) (light_cells c.args.puzzle.now)) c.args.planes.now c.loop-y.planes true
+whole g c =
+    let p = c.args.puzzle.now in
+    let r = c.requires.ready in
+    let i = c.loop-y.invariant in
+    let reach = c.reach-rows.ensures in
+    let last : c.loop-y.y ≡ c.reach-rows.result.1 = (let b = c.loop-y.auto.y-end in let e = c.loop-y-test.false in omega (arith, reach.order)) in
+    let within : c.loop-y.y ≤ p.size.h = omega (arith, last, reach.within) in
+    rw (lits-are p) at (visited-skip (lits_of_row p) within i.visited
+    (λ k at lt. row-stays p k r.planes_of within lt i.visited (out-idle r reach k lt (inr (rw last at at)))))
 
 pub returns-clause-visited : goal.returns-clause-visited
-returns-clause-visited g c =
+returns-clause-visited g c = whole g (goal.at.returns-clause-visited g c).After-settle_whites
+
+pub returns-clause-ready : goal.returns-clause-ready
+returns-clause-ready g c = λ _.
+    let visited = whole g (goal.at.returns-clause-ready g c).After-settle_whites in
     let p = c.args.puzzle.now in
-    let h_is : c.h-y-end.result ≡ p.size.h = rw c.size.ensures.value at c.h-y-end.ensures.value in
-    let last : c.loop-y.y ≡ p.size.h = (let b = c.loop-y.auto.y-end in let e = c.loop-y-test.false in omega (arith, h_is)) in
-    rw (lits-are p) at (rw last at c.loop-y.invariant.visited)
+    let r = c.requires.ready in
+    let of = planes-next r.planes_of visited.further visited.alive in
+    let rested = c.wake.ensures p c.args.planes.now of r.planes_of (sym c.len-len.ensures.len) visited.further r.rested in
+    ready-next r visited.further visited.alive _ refl c.write_safe.ensures.long (c.settle_whites.ensures p (has c.loop-y.planes) rested (lits-done p r.planes_of visited))

@@ -1,17 +1,16 @@
-use Rattle.fields_core.proofs.Common.{houses_below, true, ◌-◌, ◌≤◌}
+use Rattle.fields_core.proofs.Common.{has_bit}
 use Rattle.fields_core.specs.LightPlanes.{IsKept}
 use Rattle.fields_core.specs.LightWaits.{AreLightsReady}
 use Rattle.fields_core.specs.LightWords.{numbers_of_row}
-use Rattle.fields_core.specs.Visits.{AreVisited}
+use Rattle.fields_core.proofs.LightPassed.{ArePassed, places_on}
 use Rattle.fields_core.proofs.planes.lights.notes.LightNotes.sweep_numbers.Given as goal
 
-abbrev pub invariant-loop-y : goal.invariant-loop-y
-invariant-loop-y g l = record {
-  from_in : l.from ≤ l.puzzle.size.h;
-  visited : AreVisited (houses_below (numbers_of_row l.puzzle) l.from) l.fn.planes l.planes true;
+abbrev pub invariant-loop-left : goal.invariant-loop-left
+invariant-loop-left g l = record {
+  passed : ArePassed (numbers_of_row l.puzzle) l.puzzle.size.h (has_bit (g.W.Word.bits l.left)) l.fn.planes l.planes;
   ready : AreLightsReady g.W.Word.bits g.W.Word.room l.puzzle l.planes l.self;
   kept : IsKept l.fn.self l.self;
 }
 
-abbrev pub decreases-loop-y : goal.decreases-loop-y
-decreases-loop-y g l = l.puzzle.size.h - l.from
+abbrev pub decreases-loop-left : goal.decreases-loop-left
+decreases-loop-left g l = places_on (has_bit (g.W.Word.bits l.left)) g.W.Word.room

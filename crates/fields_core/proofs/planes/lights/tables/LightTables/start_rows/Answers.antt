@@ -25,7 +25,7 @@ loop-y-preserved g c =
     record {
       started = row-blocked p.size.w c.loop-y.planes.size.w y (bits c.but.result) (has c.loop-y.planes) _ (light-board c.columns-w.ensures.lawful).some (ap (λ (s : Extent). s.w) i.size) i.started
           c.take.ensures.left
-          (λ x. c.but.ensures x ∙ rw (c.all.ensures x, told.whites x, w_is) (others (ltb x p.size.w) (white p (y * p.size.w + x))));
+          (λ x. c.but.ensures x ∙ rw (c.columns.ensures x, told.whites x, i.size) (others (ltb x p.size.w) (white p (y * p.size.w + x))));
       size = c.take.ensures.further.same_size ∙ i.size;
       steps = c.take.ensures.further.same_room ∙ i.steps;
       rows = rows-more bits c.loop-y.self.rows.items y (IsRowOf p.size.w (white p)) _ in_rows i.rows told.whites;

@@ -1,51 +1,61 @@
-use Rattle.fields_core.proofs.Common.{CountHouse, List, and-true, arith, cases_Bool, has_bit, houses_below, inl, inr, joined_in_row, lit_house, ltb-true, refl, sym, true, ℕ, ◌*◌, ◌+◌, ◌<◌, ◌≤◌, ◌∙◌, ◌≡◌}
+use Rattle.fields_core.proofs.Common.{CountHouse, List, and-true, and_parts, arith, cases_Bool, eqb, false, has_bit, inl, inr, joined_in_row, lit_house, ltb-true, not, refl, sym, true, ℕ, ◌&&◌, ◌*◌, ◌+◌, ◌<◌, ◌∙◌, ◌≡◌}
 use Rattle.grid_core.specs.Planes.{has}
+use Rattle.fields_core.specs.LightPlanes.{ArePlanesOf}
 use Rattle.fields_core.specs.LightWaits.{AreSafe}
 use Rattle.fields_core.specs.LightWords.{IsRowRun}
-use Rattle.fields_core.specs.Visits.{AreVisited}
 use Rattle.fields_core.specs.Waits.{AreIdle}
-use Rattle.fields_core.proofs.IdleLemmas.{visited-idle, visited-skip}
+use Rattle.fields_core.proofs.IdleLemmas.{visited-idle}
 use Rattle.fields_core.proofs.LightNotes.{row-moved, row-must, row-two, table-read}
-use Rattle.fields_core.proofs.LightSweeps.{lit-stays, planes-next}
+use Rattle.fields_core.proofs.LightPassed.{fewer-on, passed-all, passed-broken, passed-first, passed-next, rest-off, rest-on}
+use Rattle.fields_core.proofs.LightSweeps.{lit-kept, lit-stays, planes-next}
 use Rattle.fields_core.proofs.LitRuns.{planes-full, row-safe}
-use Rattle.fields_core.proofs.VisitLemmas.{sweep-broken, sweep-first, sweep-more}
 use Rattle.fields_core.proofs.planes.lights.tables.LightTables.visit_lits.Goals as goal
-use Rattle.fields_core.proofs.planes.lights.tables.LightTables.visit_lits.Goals.{In-Some, Joined-has_two, then-has_two, else-has_two, then-is_some, else-is_some+else-not-visit_lit}
+use Rattle.fields_core.proofs.planes.lights.tables.LightTables.visit_lits.Goals.{After-without_lowest-left, Joined-has_two, then-has_two, else-has_two}
 
-module _ (g : _) (c : In-Some g) where
-  pub x-in : c.in-Some.x < c.args.puzzle.now.size.w
-  x-in = let most = c.in-Some.ensures.1 in omega (arith, most, c.columns-w.ensures.value)
-
+module _ (g : _) (c : After-without_lowest-left g) where
   abbrev houses : ℕ → List CountHouse
   houses x = lit_house c.args.puzzle.now (c.args.y * c.args.puzzle.now.size.w + x)
 
-  -- the cells before the next are idle, and passed
-  pub before : (k : ℕ) → c.loop-x.from ≤ k → k < c.in-Some.x → AreIdle (houses k) (has c.args.planes.now)
-  before k at lt = c.loop-x.invariant.others k (omega (arith, lt, x-in)) (c.in-Some.ensures.3 k at lt)
+  pub x-in : c.lowest-x.result < c.args.puzzle.now.size.w
+  x-in = c.loop-ones.invariant.passed.inside c.lowest-x.result c.lowest-x.ensures.has
 
-  pub still : (k : ℕ) → k < c.args.puzzle.now.size.w → AreIdle (houses k) (has c.args.planes.now) → AreIdle (houses k) (has c.loop-x.planes)
-  still k lt idle = lit-stays c.args.puzzle.now c.args.y k c.requires.planes c.loop-x.invariant.within c.requires.y_in lt c.loop-x.invariant.visited idle
+  pub without : (k : ℕ) → has_bit (g.W.Word.bits c.without_lowest-left.result) k ≡ (has_bit (g.W.Word.bits c.loop-ones.left) k && not (eqb k c.lowest-x.result))
+  without k = c.without_lowest-left.ensures c.lowest-x.result k c.lowest-x.ensures
 
-  pub passed : AreVisited (houses_below houses c.in-Some.x) c.args.planes.now c.loop-x.planes true
-  passed = visited-skip houses c.in-Some.ensures.0 c.loop-x.invariant.visited (λ k at lt. still k (omega (arith, lt, x-in)) (before k at lt))
+  -- those that are left then come after the lowest; others do not wait
+  pub on : (k : ℕ) → has_bit (g.W.Word.bits c.without_lowest-left.result) k ≡ true → (c.lowest-x.result < k) × (k < c.args.puzzle.now.size.w)
+  on k there = let w = rest-on c.lowest-x.ensures without k there in (w.0, c.loop-ones.invariant.passed.inside k w.1)
 
-module _ (g : _) (c : Joined-has_two g) (x_in : c.in-Some.x < c.args.puzzle.now.size.w) where
-  run-is : IsRowRun c.args.puzzle.now (c.args.y * c.args.puzzle.now.size.w + c.in-Some.x) (g.W.Word.bits c.index-run.result.now)
+  pub off : (k : ℕ) → c.lowest-x.result < k → k < c.args.puzzle.now.size.w → has_bit (g.W.Word.bits c.without_lowest-left.result) k ≡ false → AreIdle (houses k) (has c.loop-ones.planes)
+  off k high lt gone =
+      let passed = c.loop-ones.invariant.passed in
+      passed.idle k (omega (arith, high, passed.behind c.lowest-x.result c.lowest-x.ensures.has)) lt (rest-off c.lowest-x.ensures without k high gone)
+
+  pub of : ArePlanesOf g.W.Word.room c.args.puzzle.now c.loop-ones.planes
+  of = let v = c.loop-ones.invariant.passed.visited in planes-next c.requires.planes v.further v.alive
+
+  pub still : (k : ℕ) → k < c.args.puzzle.now.size.w → AreIdle (houses k) (has c.args.planes.now) → AreIdle (houses k) (has c.loop-ones.planes)
+  still k lt idle =
+      let passed = c.loop-ones.invariant.passed in
+      lit-stays c.args.puzzle.now c.args.y k c.requires.planes passed.line_in c.requires.y_in lt passed.visited idle
+
+module _ (g : _) (c : Joined-has_two g) (x_in : c.lowest-x.result < c.args.puzzle.now.size.w) where
+  run-is : IsRowRun c.args.puzzle.now (c.args.y * c.args.puzzle.now.size.w + c.lowest-x.result) (g.W.Word.bits c.index-run.result.now)
   run-is =
       let p = c.args.puzzle.now in
-      table-read g.W.Word.bits p (IsRowRun p) c.args.self.now.row_runs.items c.args.y c.in-Some.x _ c.index-run.result.now c.requires.tables.runs.long_rows c.requires.tables.runs.in_row
+      table-read g.W.Word.bits p (IsRowRun p) c.args.self.now.row_runs.items c.args.y c.lowest-x.result _ c.index-run.result.now c.requires.tables.runs.long_rows c.requires.tables.runs.in_row
       c.requires.y_in x_in (rw (c.from.ensures, c.columns-w.ensures.value) refl) c.index-run.ensures
 
   -- where the run is passed, the houses of its cells are idle
-  safe : c.if-has_two.value ≡ true → AreSafe (joined_in_row c.args.puzzle.now (c.args.y * c.args.puzzle.now.size.w + c.in-Some.x)) (has c.args.planes.now)
+  safe : c.if-has_two.value ≡ true → AreSafe (joined_in_row c.args.puzzle.now (c.args.y * c.args.puzzle.now.size.w + c.lowest-x.result)) (has c.args.planes.now)
   safe on =
       let p = c.args.puzzle.now in
       let run = g.W.Word.bits c.index-run.result.now in
       elim c.if-has_two.branch [
-        | then-has_two w ↦ row-two p c.args.y c.in-Some.x x_in run run-is c.args.planes.now (g.W.Word.bits c.both.result) g.W.Word.room c.requires.planes.size
+        | then-has_two w ↦ row-two p c.args.y c.lowest-x.result x_in run run-is c.args.planes.now (g.W.Word.bits c.both.result) g.W.Word.room c.requires.planes.size
             (λ k. c.both.ensures k ∙ rw (c.row-ones.ensures.cells k) refl) (ltb-true 1 _ (sym c.has_two.ensures ∙ w.if-has_two.true))
-        | else-has_two w ↦ row-must p c.args.y c.in-Some.x x_in run run-is c.args.planes.now (g.W.Word.bits w.both-else-has_two.result) g.W.Word.room c.requires.planes.size
-            (λ k. w.both-else-has_two.ensures k ∙ rw (c.but-must.ensures k, c.row-ones.ensures.cells k, c.row.ensures.cells k) refl) (sym w.is_some.ensures ∙ sym w.value-is ∙ on)
+        | else-has_two w ↦ row-must p c.args.y c.lowest-x.result x_in run run-is c.args.planes.now (g.W.Word.bits w.both-else-has_two.result) g.W.Word.room c.requires.planes.size
+            (λ k. w.both-else-has_two.ensures k ∙ rw (c.but-must.ensures k, c.row-ones.ensures.cells k, c.row.ensures.cells k) refl) (sym w.is_some-else-has_two.ensures ∙ sym w.value-is ∙ on)
       ]
 
   pub run-idle : c.if-has_two.value ≡ true → (k : ℕ) → k < c.args.puzzle.now.size.w → has_bit (g.W.Word.bits c.index-run.result.now) k ≡ true
@@ -53,53 +63,59 @@ module _ (g : _) (c : Joined-has_two g) (x_in : c.in-Some.x < c.args.puzzle.now.
   run-idle on k lt there =
       let p = c.args.puzzle.now in
       row-safe p (c.args.y * p.size.w + k) c.requires.planes.lawful (planes-full p c.args.planes.now c.requires.planes.size c.requires.planes.alive)
-      (row-moved p c.args.y c.in-Some.x k x_in (g.W.Word.bits c.index-run.result.now) run-is there (safe on))
+      (row-moved p c.args.y c.lowest-x.result k x_in (g.W.Word.bits c.index-run.result.now) run-is there (safe on))
 
-  pub own-idle : c.if-has_two.value ≡ true → AreIdle (lit_house c.args.puzzle.now (c.args.y * c.args.puzzle.now.size.w + c.in-Some.x)) (has c.args.planes.now)
+  pub own-idle : c.if-has_two.value ≡ true → AreIdle (lit_house c.args.puzzle.now (c.args.y * c.args.puzzle.now.size.w + c.lowest-x.result)) (has c.args.planes.now)
   own-idle on =
       let p = c.args.puzzle.now in
-      row-safe p (c.args.y * p.size.w + c.in-Some.x) c.requires.planes.lawful (planes-full p c.args.planes.now c.requires.planes.size c.requires.planes.alive) (safe on)
+      row-safe p (c.args.y * p.size.w + c.lowest-x.result) c.requires.planes.lawful (planes-full p c.args.planes.now c.requires.planes.size c.requires.planes.alive) (safe on)
 
-pub loop-x-init : goal.loop-x-init
-loop-x-init g c = record {
-  within = omega arith;
-  visited = sweep-first (λ x. lit_house c.args.puzzle.now (c.args.y * c.args.puzzle.now.size.w + x)) c.requires.planes.alive;
-  others = c.requires.others;
-}
+pub loop-ones-init : goal.loop-ones-init
+loop-ones-init g c = record { passed = passed-first (λ x. lit_house c.args.puzzle.now (c.args.y * c.args.puzzle.now.size.w + x)) c.requires.planes.alive c.requires.some_in c.requires.others }
 
 pub visit_lit-requires-clause-planes : goal.visit_lit-requires-clause-planes
-visit_lit-requires-clause-planes g c = planes-next c.requires.planes c.loop-x.invariant.visited.further c.loop-x.invariant.visited.alive
+visit_lit-requires-clause-planes g c = let v = c.loop-ones.invariant.passed.visited in planes-next c.requires.planes v.further v.alive
 
-pub loop-x-preserved : goal.loop-x-preserved
-loop-x-preserved g c =
-    let h = (goal.at.loop-x-preserved g c).In-Some in
-    let j = (goal.at.loop-x-preserved g c).Joined-has_two in
-    let i = c.loop-x.invariant in
+pub loop-ones-smaller-then-is_some : goal.loop-ones-smaller-then-is_some
+loop-ones-smaller-then-is_some g c =
+    let h = (goal.at.loop-ones-smaller-then-is_some g c).After-without_lowest-left in
+    fewer-on c.lowest-x.ensures (λ k there. (on g h k (and_parts _ _ (sym (c.but-left.ensures k) ∙ there)).0).0)
+
+pub loop-ones-preserved-then-is_some : goal.loop-ones-preserved-then-is_some
+loop-ones-preserved-then-is_some g c =
+    let h = (goal.at.loop-ones-preserved-then-is_some g c).After-without_lowest-left in
+    let j = (goal.at.loop-ones-preserved-then-is_some g c).Joined-has_two in
     let lt = x-in g h in
+    let passed = c.loop-ones.invariant.passed in
     record {
-      within = omega arith;
-      visited = elim c.if-is_some.branch [
-        | then-is_some w ↦ rw (w.planes-is) (sweep-more (houses g h) (passed g h)
-            (visited-idle (houses g h c.in-Some.x) i.visited.alive (still g h c.in-Some.x lt (own-idle g j lt w.if-is_some.true))) refl)
-        | else-is_some+else-not-visit_lit w ↦ rw (w.planes-is) (sweep-more (houses g h) (passed g h) w.visit_lit.ensures w.if-not-visit_lit.false)
-      ];
-      others = elim c.if-is_some.branch [
-        | then-is_some w ↦ rw (w.left-is) (λ k less off. elim (cases_Bool (has_bit (g.W.Word.bits c.index-run.result.now) k)) [
-          | inl there ↦ run-idle g j lt w.if-is_some.true k less there
-          | inr out ↦ i.others k less (sym (w.but-left.ensures k ∙ rw out (and-true _)) ∙ off)
-        ])
-        | else-is_some+else-not-visit_lit w ↦ rw (w.left-is) i.others
-      ];
+      passed = passed-next (houses g h) passed c.lowest-x.ensures
+          (visited-idle (houses g h c.lowest-x.result) passed.visited.alive (still g h c.lowest-x.result lt (own-idle g j lt c.if-is_some.true))) refl _
+          (λ k there. on g h k (and_parts _ _ (sym (c.but-left.ensures k) ∙ there)).0)
+          (λ k high less gone. elim (cases_Bool (has_bit (g.W.Word.bits c.index-run.result.now) k)) [
+            | inl there ↦ still g h k less (run-idle g j lt c.if-is_some.true k less there)
+            | inr out ↦ off g h k high less (sym (c.but-left.ensures k ∙ rw out (and-true _)) ∙ gone)
+          ]);
+    }
+
+pub loop-ones-smaller : goal.loop-ones-smaller
+loop-ones-smaller g c =
+    let h = (goal.at.loop-ones-smaller g c).After-without_lowest-left in
+    fewer-on c.lowest-x.ensures (λ k there. (on g h k there).0)
+
+pub loop-ones-preserved : goal.loop-ones-preserved
+loop-ones-preserved g c =
+    let h = (goal.at.loop-ones-preserved g c).After-without_lowest-left in
+    record {
+      passed = passed-next (houses g h) c.loop-ones.invariant.passed c.lowest-x.ensures c.visit_lit.ensures c.if-not-visit_lit.false _ (on g h)
+          (λ k high less gone. lit-kept c.args.puzzle.now c.args.y c.lowest-x.result k (of g h) c.requires.y_in (x-in g h) less
+          (rw c.if-not-visit_lit.false at c.visit_lit.ensures) (off g h k high less gone));
     }
 
 pub returns-then-not-visit_lit : goal.returns-then-not-visit_lit
 returns-then-not-visit_lit g c =
-    let h = (goal.at.returns-then-not-visit_lit g c).In-Some in
-    sweep-broken (houses g h) (passed g h) c.visit_lit.ensures c.if-not-visit_lit.true (x-in g h)
+    let h = (goal.at.returns-then-not-visit_lit g c).After-without_lowest-left in
+    passed-broken (houses g h) c.loop-ones.invariant.passed c.lowest-x.ensures c.visit_lit.ensures c.if-not-visit_lit.true
 
 pub returns : goal.returns
 returns g c =
-    let i = c.loop-x.invariant in
-    visited-skip (λ x. lit_house c.args.puzzle.now (c.args.y * c.args.puzzle.now.size.w + x)) i.within i.visited
-    (λ k at lt. lit-stays c.args.puzzle.now c.args.y k c.requires.planes i.within c.requires.y_in lt i.visited
-    (i.others k lt (c.in_default.ensures k at (omega (arith, lt, c.columns-w.ensures.value)))))
+    passed-all (λ x. lit_house c.args.puzzle.now (c.args.y * c.args.puzzle.now.size.w + x)) c.loop-ones.invariant.passed c.requires.planes.narrow (sym c.is_some.ensures ∙ c.loop-ones-test.false)

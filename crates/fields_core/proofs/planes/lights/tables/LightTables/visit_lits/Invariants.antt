@@ -1,15 +1,11 @@
-use Rattle.fields_core.proofs.Common.{houses_below, lit_house, true, ◌*◌, ◌+◌, ◌-◌, ◌≤◌}
-use Rattle.grid_core.specs.Planes.{has}
-use Rattle.fields_core.specs.LightWaits.{AreWhitesIdleBut}
-use Rattle.fields_core.specs.Visits.{AreVisited}
+use Rattle.fields_core.proofs.Common.{has_bit, lit_house, ◌*◌, ◌+◌}
+use Rattle.fields_core.proofs.LightPassed.{ArePassed, places_on}
 use Rattle.fields_core.proofs.planes.lights.tables.LightTables.visit_lits.Given as goal
 
-abbrev pub invariant-loop-x : goal.invariant-loop-x
-invariant-loop-x g l = record {
-  within : l.from ≤ l.puzzle.size.w;
-  visited : AreVisited (houses_below (λ x. lit_house l.puzzle (l.y * l.puzzle.size.w + x)) l.from) l.fn.planes l.planes true;
-  others : AreWhitesIdleBut l.puzzle (g.W.Word.bits l.left) l.y (has l.fn.planes);
+abbrev pub invariant-loop-ones : goal.invariant-loop-ones
+invariant-loop-ones g l = record {
+  passed : ArePassed (λ x. lit_house l.puzzle (l.y * l.puzzle.size.w + x)) l.puzzle.size.w (has_bit (g.W.Word.bits l.left)) l.fn.planes l.planes;
 }
 
-abbrev pub decreases-loop-x : goal.decreases-loop-x
-decreases-loop-x g l = l.puzzle.size.w - l.from
+abbrev pub decreases-loop-ones : goal.decreases-loop-ones
+decreases-loop-ones g l = places_on (has_bit (g.W.Word.bits l.left)) g.W.Word.room

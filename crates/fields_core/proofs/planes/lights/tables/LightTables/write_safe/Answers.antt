@@ -1,11 +1,11 @@
-use Rattle.fields_core.proofs.Common.{Extent, ap, arith, length-map, length-set, refl, true, false, white, ℕ, ◌*◌, ◌+◌, ◌-◌, ◌<◌, ◌∙◌, ◌≡◌}
+use Rattle.fields_core.proofs.Common.{Extent, ap, arith, length-set, refl, true, false, white, ℕ, ◌*◌, ◌+◌, ◌-◌, ◌<◌, ◌∙◌, ◌≡◌}
 use Rattle.grid_core.specs.Planes.{bit_of, has}
 use Rattle.fields_core.specs.LightWaits.{AreSafeInColumns}
 use Rattle.fields_core.specs.Trees.{IsRowOf}
 use Rattle.fields_core.proofs.LightCounting.{light-board}
 use Rattle.fields_core.proofs.LightNotes.{HaveOneBelow, one-up, two-up, words-set}
 use Rattle.fields_core.proofs.LitVisits.{has-at}
-use Rattle.fields_core.proofs.TreeWords.{row-read}
+use Rattle.fields_core.proofs.TreeWords.{rows-read}
 use Rattle.fields_core.proofs.planes.lights.tables.LightTables.write_safe.Goals as goal
 
 pub loop-y-preserved : goal.loop-y-preserved
@@ -18,11 +18,8 @@ loop-y-preserved g c =
     let more = c.loop-y-test.true in
     let j : ℕ = c.loop-y.y - 1 in
     let next : c.loop-y.y ≡ j + 1 = omega arith in
-    let j_in : j < p.size.h = omega arith in
-    let rows = c.args.self.now.rows.items in
-    let whites : IsRowOf p.size.w (white p) j (bits c.index-whites.result.now) =
-    rw (row-read bits rows j c.index-whites.result.now (omega (arith, j_in, c.requires.tables.rows.long, length-map rows bits)) (rw (c.from.ensures) at c.index-whites.ensures))
-    at (c.requires.tables.rows.each j j_in) in
+    let j_in : j < p.size.h = omega (arith, c.requires.low) in
+    let whites : IsRowOf p.size.w (white p) j (bits c.index-whites.result.now) = rows-read bits _ j j_in c.requires.tables.rows c.index-whites.ensures in
     let some = (light-board c.requires.planes.lawful).some in
     let w_is = ap (λ (s : Extent). s.w) c.requires.planes.size in
     let can : (x : ℕ) → x < p.size.w → bit_of c.args.planes.now.rows j 1 x ≡ true → K (j * p.size.w + x) 1 ≡ true =
@@ -39,7 +36,7 @@ loop-y-preserved g c =
       one = one-up p K j (bits c.index-whites.result.now) (bit_of c.args.planes.now.rows j 1) (bit_of c.args.planes.now.rows j 0) some whites can must _ _ one two (bits c.both-one.result)
           (λ x. c.both-one.ensures x ∙ rw (c.either-in-loop-y-2.ensures x, c.row-ones.ensures.cells x) refl);
       two = safe;
-      safe = λ y at lt. rw (c.from-in-loop-y.ensures) (words-set bits c.loop-y.safe.items j (λ y word. AreSafeInColumns p y word K) c.both-two.result
-          (omega (arith, j_in, i.long, c.requires.long)) safe y (λ ne. i.safe y (omega (arith, at, ne)) lt));
+      safe = λ y at lt. words-set bits c.loop-y.safe.items j (λ y word. AreSafeInColumns p y word K) c.both-two.result
+          (omega (arith, j_in, i.long, c.requires.long)) safe y (λ ne. i.safe y (omega (arith, at, ne)) lt);
       long = length-set _ _ _ ∙ i.long;
     }

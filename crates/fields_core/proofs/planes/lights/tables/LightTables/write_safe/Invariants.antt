@@ -6,10 +6,10 @@ use Rattle.fields_core.proofs.planes.lights.tables.LightTables.write_safe.Given 
 
 abbrev pub invariant-loop-y : goal.invariant-loop-y
 invariant-loop-y g l = let bits = g.W.Word.bits in record {
-  low : l.y ≤ l.puzzle.size.h;
+  low : l.y ≤ l.end;
   one : HaveOneBelow l.puzzle l.y (bits l.one) (has l.planes);
   two : AreSafeInColumns l.puzzle l.y (bits l.two) (has l.planes);
-  safe : (y : ℕ) → l.y ≤ y → y < l.puzzle.size.h → AreSafeInColumns l.puzzle y (slice_index (map bits l.safe.items) y) (has l.planes);
+  safe : (y : ℕ) → l.y ≤ y → y < l.end → AreSafeInColumns l.puzzle y (slice_index (map bits l.safe.items) y) (has l.planes);
   long : length l.safe.items ≡ length l.fn.safe.items;
 }
 

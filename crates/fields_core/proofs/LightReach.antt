@@ -1,0 +1,180 @@
+-- The rows of the white cells of Light Up that wait.
+use Rattle.fields_core.proofs.Common.{at_line, IsAlive, Layers, le-ltb, ltb, IsLight, Light, any_below, any_below-none, and_from, arith, clear, common_steps, cases_Bool, cases_lt, div-mul-add, eqb, false, false_from_ne_true, has_bit, has_place, inl, inr, joined_in_column, joined_in_row, lt-ltb, max, min, not, place-append, place-column, place-filter, refl, row_run, column_run, seen_from, sym, true, true≢false, white, Bool, ℕ, ◌%◌, ◌&&◌, ◌*◌, ◌+◌, ◌/◌, ◌<◌, ◌∙◌, ◌≡◌, ◌≤◌, ◌⊎◌}
+use Rattle.grid_core.specs.Planes.{line_len, lines_beside, number_of}
+use Rattle.grid_core.specs.declared.planes.line.Line.{Line}
+use Rattle.grid_core.specs.declared.planes.line.Line.TheVariants.{Row, Column}
+use Rattle.grid_core.proofs.PlaneLemmas.{place-in}
+use Rattle.fields_core.proofs.LitVisits.{has-at}
+use Rattle.grid_core.specs.Words.{IsLeast}
+use Rattle.grid_core.specs.declared.planes.touched.Touched.{Touched}
+use Rattle.fields_core.specs.LightWaits.{AreParted, IsAway, IsReach}
+use Rattle.fields_core.specs.Trees.{IsRowOf}
+use Rattle.fields_core.proofs.LightCounting.{column-run-joined, light-board, row-run-joined}
+use Rattle.fields_core.proofs.LightPassed.{rest-off, rest-on}
+use Rattle.fields_core.proofs.LightHouseLaws.{clear-at, clear-from, column-parts, column-white-end, row-parts, white-in}
+use Rattle.fields_core.proofs.TentBeside.{row-in}
+
+-- ---- the highest place
+-- of the places the last is above none but those that are left
+pub record IsLast (places rest : ℕ → Bool) (room last : ℕ) : Type 0 where
+  pub has : places last ≡ true
+  pub below : (k : ℕ) → k < room → places k ≡ true → (k ≤ last) ⊎ (rest k ≡ true)
+  pub above : (k : ℕ) → rest k ≡ true → (last < k) × (places k ≡ true)
+
+pub last-next : {places rest left : ℕ → Bool} {room next : ℕ} → IsLeast rest room next → ((k : ℕ) → rest k ≡ true → places k ≡ true)
+    → ((k : ℕ) → k < room → places k ≡ true → (k < next) ⊎ (rest k ≡ true)) → ((k : ℕ) → left k ≡ (rest k && not (eqb k next)))
+    → IsLast places left room next
+last-next {places} {rest} {left} {room} {next} least within others is = record {
+  has = within next least.has;
+  below = λ k lt on. elim (cases_lt next k) [
+    | inr low ↦ inl low
+    | inl high ↦ elim (cases_Bool (left k)) [
+      | inl there ↦ inr there
+      | inr gone ↦ elim (others k lt on) [
+        | inl less ↦ inl (omega arith)
+        | inr there ↦ absurd (true≢false (sym there ∙ rest-off least is k high gone))
+      ]
+    ]
+  ];
+  above = λ k on. let w = rest-on least is k on in (w.0, within k w.1);
+}
+
+pub last-more : {places rest left : ℕ → Bool} {room last next : ℕ} → IsLast places rest room last → IsLeast rest room next
+    → ((k : ℕ) → left k ≡ (rest k && not (eqb k next))) → IsLast places left room next
+last-more {next = next} is least without =
+    last-next least (λ k on. (is.above k on).1)
+    (λ k lt on. elim (is.below k lt on) [
+      | inl low ↦ inl (omega (arith, low, (is.above next least.has).0))
+      | inr there ↦ inr there
+    ]) without
+
+pub last-done : {places rest : ℕ → Bool} {room last : ℕ} → IsLast places rest room last → any_below rest room ≡ false
+    → (k : ℕ) → k < room → places k ≡ true → k ≤ last
+last-done {rest = rest} {room = room} is none k lt on = elim (is.below k lt on) [
+  | inl low ↦ low
+  | inr there ↦ absurd (true≢false (sym there ∙ any_below-none rest room none k lt))
+]
+
+-- none is below the least
+pub between : {places : ℕ → Bool} {room least : ℕ} → IsLeast places room least → (k : ℕ) → places k ≡ true → least ≤ k
+between {least = least} is k on = elim (cases_lt k least) [
+  | inl less ↦ absurd (true≢false (sym on ∙ is.before k less))
+  | inr more ↦ more
+]
+
+-- ---- columns that are white from one row on and before another
+abbrev pub AreWhite : Light → ℕ → ℕ → ℕ → Type 0
+AreWhite p x from end = (i : ℕ) → from ≤ i → i < end → white p (i * p.size.w + x) ≡ true
+
+-- these are among them, of those columns
+abbrev pub IsLive : Light → ℕ → ℕ → ℕ → ℕ → Type 0
+IsLive p columns from end live = (x : ℕ) → x < p.size.w → has_bit columns x ≡ true → AreWhite p x from end → has_bit live x ≡ true
+
+pub live-first : (p : Light) (columns y whites live : ℕ) → IsRowOf p.size.w (white p) y whites → ((x : ℕ) → has_bit live x ≡ (has_bit columns x && has_bit whites x))
+    → IsLive p columns y (y + 1) live
+live-first p columns y whites live row is x lt on all = is x ∙ and_from _ _ on (row x ∙ and_from _ _ (lt-ltb x p.size.w lt) (all y (omega arith) (omega arith)))
+
+pub live-more : (p : Light) (columns from end y first last whites before live : ℕ) → IsRowOf p.size.w (white p) y whites
+    → ((x : ℕ) → has_bit live x ≡ (has_bit before x && has_bit whites x)) → first ≤ from → end ≤ last → first ≤ y → y < last
+    → IsLive p columns from end before → IsLive p columns first last live
+live-more p columns from end y first last whites before live row is low high at below live_before x lt on all =
+    is x ∙ and_from _ _ (live_before x lt on (λ i le less. all i (omega (arith, low, le)) (omega (arith, high, less))))
+    (row x ∙ and_from _ _ (lt-ltb x p.size.w lt) (all y at below))
+
+-- where none is, a row at or before the first is parted from one at or behind the last
+pub live-parted : (p : Light) (columns from end live room x y k : ℕ) → IsLive p columns from end live → any_below (has_bit live) room ≡ false
+    → p.size.w ≤ room → x < p.size.w → has_bit columns x ≡ true → min y k ≤ from → end ≤ max y k + 1 → AreParted p x y k
+live-parted p columns from end live room x y k alive none narrow lt on low high = false_from_ne_true _ (λ joined.
+    true≢false (sym (alive x lt on (λ i le less. clear-at (λ j. white p (j * p.size.w + x)) y k i joined (omega (arith, low, le)) (omega (arith, high, less))))
+    ∙ any_below-none (has_bit live) room none x (omega (arith, lt, narrow))))
+
+-- ---- cells that are away from lines
+-- those that a white cell sees are of its row, or joined to it in its column
+seen-parts : (p : Light) (c d : ℕ) → has_place (seen_from p c) d ≡ true → (joined_in_row p c d ≡ true) ⊎ (joined_in_column p c d ≡ true)
+unfolding seen_from
+seen-parts p c d on = elim (place-append (row_run p c) _ d on) [
+  | inl row ↦ inl (row-run-joined p c d row)
+  | inr column ↦ inr (column-run-joined p c d (place-filter _ (column_run p c) d column).0)
+]
+
+module _ {W : Type 0} (bits : W → ℕ) (p : Light) (lines : Touched W) (lawful : IsLight p) where
+  pub away-from : (y x : ℕ) → y < p.size.h → x < p.size.w → (has_bit (bits lines.rows) y ≡ true → ⊥)
+      → ((k : ℕ) → k < p.size.h → has_bit (bits lines.rows) k ≡ true → has_bit (bits lines.columns) x ≡ true
+      → clear (λ j. white p (j * p.size.w + x)) y k ≡ true → ⊥)
+      → IsAway bits p lines (y * p.size.w + x)
+  away-from y x y_in lt no_row no_column d there at = elim (seen-parts p (y * p.size.w + x) d there) [
+    | inl row ↦
+        let e : y ≡ d / p.size.w = sym (div-mul-add y p.size.w x lt) ∙ (row-parts p (y * p.size.w + x) d row).0 in
+        no_row (rw e at.1)
+    | inr column ↦
+        let parts = column-parts p (y * p.size.w + x) d column in
+        let board = light-board lawful in
+        let e : x ≡ d % p.size.w = sym (place-column p.size.w y x lt) ∙ parts.0 in
+        let inside = white-in p d board.long (column-white-end p (y * p.size.w + x) d board.some column) in
+        no_column (d / p.size.w) (row-in p.size.h d board.some inside) at.1 (rw e at.0)
+        (rw (div-mul-add y p.size.w x lt, place-column p.size.w y x lt) at parts.1)
+  ]
+
+  -- no row of the grid is one of them
+  pub reach-none : (rows : ℕ → Bool) (room : ℕ) → p.size.h ≤ room → ((k : ℕ) → k < p.size.h → has_bit (bits lines.rows) k ≡ true → rows k ≡ true)
+      → any_below rows room ≡ false → IsReach bits p lines 0 0
+  reach-none rows room low is none = record {
+    order = omega arith;
+    within = omega arith;
+    away = λ y x y_in lt out. away-from y x y_in lt (never y y_in) (λ k k_in on _ _. never k k_in on);
+  }
+    where
+      never : (k : ℕ) → k < p.size.h → has_bit (bits lines.rows) k ≡ true → ⊥
+      never k k_in on = true≢false (sym (is k k_in on) ∙ any_below-none rows room none k (omega (arith, k_in, low)))
+
+  -- from the lowest of them to the highest, and further as far as columns are not parted
+  pub reach-from : (first low high end : ℕ) → first ≤ low → high < end → end ≤ p.size.h → low ≤ high
+      → ((k : ℕ) → k < p.size.h → has_bit (bits lines.rows) k ≡ true → (low ≤ k) × (k ≤ high))
+      → ((y x : ℕ) → y < first → x < p.size.w → has_bit (bits lines.columns) x ≡ true → AreParted p x y low)
+      → ((y x : ℕ) → end ≤ y → y < p.size.h → x < p.size.w → has_bit (bits lines.columns) x ≡ true → AreParted p x y high)
+      → IsReach bits p lines first end
+  reach-from first low high end up down within order between above below = record {
+    order = omega arith;
+    within = within;
+    away = λ y x y_in lt out. away-from y x y_in lt (λ on. off y out (between y y_in on)) (λ k k_in on column joined. parted y x y_in lt k out (between k k_in on) column joined);
+  }
+    where
+      off : (y : ℕ) → (y < first) ⊎ (end ≤ y) → (low ≤ y) × (y ≤ high) → ⊥
+      off y (inl less) at = absurd (omega (arith, less, at, up))
+      off y (inr more) at = absurd (omega (arith, more, at, down))
+
+      part : (x y k i : ℕ) → clear (λ j. white p (j * p.size.w + x)) y k ≡ true → min y k ≤ i → i ≤ max y k → clear (λ j. white p (j * p.size.w + x)) y i ≡ true
+      part x y k i joined le less = clear-from _ y i (λ m a b. clear-at _ y k m joined (omega arith) (omega arith))
+
+      parted : (y x : ℕ) → y < p.size.h → x < p.size.w → (k : ℕ) → (y < first) ⊎ (end ≤ y) → (low ≤ k) × (k ≤ high) → has_bit (bits lines.columns) x ≡ true
+          → clear (λ j. white p (j * p.size.w + x)) y k ≡ true → ⊥
+      parted y x y_in lt k (inl less) at column joined =
+          true≢false (sym (part x y k low joined (omega (arith, less, up)) (omega (arith, at))) ∙ above y x less lt column)
+      parted y x y_in lt k (inr more) at column joined =
+          true≢false (sym (part x y k high joined (omega (arith, at)) (omega (arith, more, down))) ∙ below y x more y_in lt column)
+
+-- ---- where each cell has a value, those of a line that must be 1 are those that can not be 0
+line-one : (planes : Layers) (line : Line) (k : ℕ) → number_of line < lines_beside planes.size line → k < line_len planes.size line → IsAlive planes
+    → at_line planes line 0 k ≡ false → at_line planes line 1 k ≡ true
+line-one planes (Row y) k y_in lt alive off = elim (alive (y * planes.size.w + k) (place-in planes.size.w planes.size.h y k y_in lt)) [
+  | inl on ↦ absurd (true≢false (sym on ∙ has-at planes y k 0 refl lt (omega arith) ∙ off))
+  | inr on ↦ sym (has-at planes y k 1 refl lt (omega arith)) ∙ on
+]
+line-one planes (Column x) k x_in lt alive off = elim (alive (k * planes.size.w + x) (place-in planes.size.w planes.size.h k x lt x_in)) [
+  | inl on ↦ absurd (true≢false (sym on ∙ has-at planes k x 0 refl x_in (omega arith) ∙ off))
+  | inr on ↦ sym (has-at planes k x 1 refl x_in (omega arith)) ∙ on
+]
+
+pub line-must : (planes : Layers) (line : Line) (k : ℕ) → number_of line < lines_beside planes.size line → IsAlive planes
+    → (at_line planes line 1 k ≡ true → k < line_len planes.size line)
+    → (at_line planes line 1 k && not (at_line planes line 0 k)) ≡ (ltb k (line_len planes.size line) && not (at_line planes line 0 k))
+line-must planes line k line_in alive within = elim (cases_Bool (at_line planes line 0 k)) [
+  | inl zero ↦ rw zero (by (at_line planes line 1 k) (ltb k (line_len planes.size line)))
+  | inr none ↦ rw none (elim (cases_lt k (line_len planes.size line)) [
+    | inl lt ↦ rw (line-one planes line k line_in lt alive none, lt-ltb k (line_len planes.size line) lt) refl
+    | inr out ↦ rw (false_from_ne_true (at_line planes line 1 k) (λ on. absurd (omega (arith, out, within on))), le-ltb k (line_len planes.size line) out) refl
+  ])
+]
+  where
+    by : (a b : Bool) → (a && not true) ≡ (b && not true)
+    by a b = grind (arith, common_steps, cases_Bool a, cases_Bool b)

@@ -1,9 +1,0 @@
-use Rattle.fields_core.proofs.Common.{SameShape, has}
-use Rattle.fields_core.proofs.RuleLemmas.{IsStarted}
-use Rattle.fields_core.proofs.count.rules.write_start.Given as goal
-
-abbrev pub invariant-loop-place : goal.invariant-loop-place
-invariant-loop-place g l = record {
-  started : IsStarted (g.P.CountGame.counts l.puzzle).cells (g.P.CountGame.counts l.puzzle).blocked l.place (has l.board);
-  shape : SameShape l.fn.board l.board;
-}

@@ -1,0 +1,65 @@
+-- Words of std, of the crates below and of this crate, as its code uses them. Declares nothing.
+pub use Rattle.std.proofs.Common.{subst, sym}
+pub use Rattle.std.specs.List.{range_with_len}
+pub use Rattle.grid_core.specs.Board.{SameShape}
+pub use Rattle.grid_core.specs.Candidates.{Candidates}
+unfoldable pub use Rattle.grid_core.specs.Candidates.{any_below, count_below}
+pub use Rattle.grid_core.specs.Extent.{Extent, IsExtent}
+pub use Rattle.grid_core.specs.Grids.{IsGrid}
+pub use Rattle.grid_core.specs.Planes.{IsFurther, Layers, line_len, lines_beside, number_of}
+unfoldable pub use Rattle.grid_core.specs.Planes.{has}
+pub use Rattle.grid_core.specs.Regions.{beside, column_places, row_places}
+pub use Rattle.grid_core.specs.Words.{has_bit}
+pub use Rattle.gameid_core.specs.Puzzles.{IsLight, IsTents, Light, Tents}
+pub use Rattle.gameid_core.specs.declared.light_up.cell.LightCell.TheVariants.{Black}
+pub use Rattle.engine_core.specs.Closing.{HasStruck}
+pub use Rattle.engine_core.specs.Counts.{IsClosedIn}
+pub use Rattle.engine_core.specs.Needs.{needs_in}
+pub use Rattle.engine_core.specs.Position.{IsTaken}
+pub use Rattle.engine_core.specs.Queue.{IsClosedBut}
+pub use Rattle.engine_core.specs.RuleSystem.{FitsIn, IsGridOf, IsLawful, IsNext, Needs, needs_of}
+unfoldable pub use Rattle.engine_core.specs.RuleSystem.{has_place, longest}
+pub use Rattle.engine_core.specs.Trail.{StillServes}
+pub use Rattle.engine_core.specs.declared.mode.Mode.TheVariants.{Sweep}
+pub use Rattle.fields_core.specs.AnyPlanes.{AreKept, HasBoard, IsSuited, kept_in, layers_in, of_either}
+pub use Rattle.fields_core.specs.CountHouse.{AreMet, CountHouse, CountPuzzle, IsCounted, IsHouse, count_house_of, exactly, one_at_least, one_at_most}
+pub use Rattle.fields_core.specs.CountHouse.{rules_of}
+unfoldable pub use Rattle.fields_core.specs.CountHouse.{after_house, houses_below}
+pub use Rattle.fields_core.specs.CountLaws.{count-lawful}
+pub use Rattle.fields_core.specs.Houses.{AreAdded, AreNamed, TestsBelow, house_told, places_of, segment_places}
+pub use Rattle.fields_core.specs.Light.{bulb, bulbs_beside, light_cells}
+unfoldable pub use Rattle.fields_core.specs.Light.{number_right, sees_bulb, white}
+pub use Rattle.fields_core.specs.LightFaults.{IsLightFault}
+pub use Rattle.fields_core.specs.LightHouses.{column_house, light_counts, light_house, light_rules, lit_house, number_house, row_house}
+unfoldable pub use Rattle.fields_core.specs.LightHouses.{light_houses}
+pub use Rattle.fields_core.specs.LightLonely.{asks, lonely}
+pub use Rattle.fields_core.specs.LightPlanes.{AreLightsWritten, ArePlanesOf, AreRowTables, AreTables, HasLightRoom, HasTables, IsKept}
+pub use Rattle.fields_core.specs.LightRuns.{IsAround, IsLatest, IsLine, house_along, line_cells, whites_of}
+pub use Rattle.fields_core.specs.LightSolutions.{IsLightSolution}
+pub use Rattle.fields_core.specs.LightWaits.{AreIdleBut, AreLightsReady, AreLinesRested, AreLinesWoken, AreSafeInColumns, AreSpread, AreWhitesIdleBut}
+pub use Rattle.fields_core.specs.LightWaits.{lits_of_row, run_houses, run_lines, waiting_runs, white_houses}
+pub use Rattle.fields_core.specs.LightWords.{numbers_of_row}
+unfoldable pub use Rattle.fields_core.specs.NumberWords.{is_numbered}
+pub use Rattle.fields_core.specs.PairingScratches.{HasRoom}
+pub use Rattle.fields_core.specs.Parts.{ArePieces, IsAlive, IsBroken, IsHouseOf, Piece, piece_at, piece_of}
+unfoldable pub use Rattle.fields_core.specs.Parts.{without_value}
+pub use Rattle.fields_core.specs.RunLines.{AreAround, AreRunsOf, IsClash}
+pub use Rattle.fields_core.specs.RunWords.{AreFilled, AreWritten}
+pub use Rattle.fields_core.specs.Runs.{RunsOn, ShinesAlong}
+pub use Rattle.fields_core.specs.Squares.{squares_of_row}
+pub use Rattle.fields_core.specs.Sweeps.{IsSweep}
+pub use Rattle.fields_core.specs.Tallies.{IsTally, stays}
+pub use Rattle.fields_core.specs.TentFaults.{IsTentFault}
+pub use Rattle.fields_core.specs.TentHouses.{column_of_tents, row_of_tents, tent_counts, tent_house, tent_rules, tree_house}
+unfoldable pub use Rattle.fields_core.specs.TentHouses.{is_barred, tent_houses}
+pub use Rattle.fields_core.specs.TentNotes.{AreTentsReady, AreTentsWritten}
+pub use Rattle.fields_core.specs.TentPairs.{AreIn, AreNumbered, tree_beside, tree_count}
+unfoldable pub use Rattle.fields_core.specs.TentPairs.{may_pair}
+pub use Rattle.fields_core.specs.TentSolutions.{IsTentSolution}
+pub use Rattle.fields_core.specs.TentTouching.{IsTentAmong, IsWindow}
+pub use Rattle.fields_core.specs.Tents.{tent, tent_cells, tree}
+unfoldable pub use Rattle.fields_core.specs.Tents.{can_be_paired, touches}
+pub use Rattle.fields_core.specs.Trees.{AreBare, AreRowsOf, IsNear, IsRowOf, trees_of_row}
+unfoldable pub use Rattle.fields_core.specs.Trees.{is_beside, wants_tent, without_zeros}
+pub use Rattle.fields_core.specs.Visits.{AreVisited, IsFieldOf}
+pub use Rattle.fields_core.specs.Waits.{AreIdle, AreRested, AreWoken, kind_houses, kind_lines, waiting}
