@@ -14,7 +14,6 @@ use std::marker::Model;
 
 /// Planes with their trail, and the length of the trail at the mark of each level: so many levels have one. With it go what
 /// the game keeps beside planes, spare planes of longer words, and what the test of a grid works in.
-#[derive(Drop)]
 pub struct PlanePosition<P: PlaneGame> {
     made: Needs,
     scratch: P::Scratch,
@@ -22,6 +21,19 @@ pub struct PlanePosition<P: PlaneGame> {
     spare: Option<PlanesOf<P>>,
     marks: Vec<usize>,
     marked: usize,
+}
+
+impl<P: PlaneGame> Drop for PlanePosition<P> {
+    fn drop(self) {
+        let PlanePosition {
+            made,
+            scratch,
+            planes,
+            spare,
+            marks,
+            marked,
+        } = self;
+    }
 }
 
 impl<P: PlaneGame> Model for PlanePosition<P> {
