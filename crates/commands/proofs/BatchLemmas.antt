@@ -1,5 +1,5 @@
 -- The steps of a batch, and the chunks of its input.
-use Rattle.commands.proofs.Common.{All, All-nil, All-push, AllowsEach, Answer, Answered, Batched, Begins, Begun, Bool, Err, Given, HasAnswers, Holds, IfErr, IsInput, List, Ok, PutBegun, Ran, Result, Stopped, Text, [], answer_with, ap, append-nil, append_assoc, arith, both, code_of, common_steps, drop, false, get_or, if◌then◌else◌, inl, inr, length, lines, lines_of_parts, max, refl, silence, slice_split, strip_carriage_return, subst, sym, take, take-append-drop, true, true≢false, ℕ, ◌++◌, ◌+◌, ◌<◌, ◌==◌, ◌∙◌, ◌∷◌, ◌≡◌, ◌≤◌, ◌⊎◌}
+use Rattle.commands.proofs.Common.{All, All-nil, All-push, AllowsEach, Answer, Answered, Batched, Begins, BeginsLines, Begun, Bool, Err, Gathered, Given, HasAnswers, Holds, IfErr, IsInput, List, Ok, PutBegun, Ran, Result, Stopped, Text, [], answer_with, ap, append-nil, append_assoc, arith, both, code_of, common_steps, drop, false, get_or, if◌then◌else◌, inl, inr, length, lines, lines_of_parts, max, refl, silence, slice_split, strip_carriage_return, subst, sym, take, take-append-drop, true, true≢false, ℕ, ◌++◌, ◌+◌, ◌<◌, ◌==◌, ◌∙◌, ◌∷◌, ◌≡◌, ◌≤◌, ◌⊎◌}
 use Rattle.std.proofs.lemmas.List.Splits.{slice_split_at, slice_split_none, length-slice_split}
 use Rattle.commands.specs.declared.batch.Batch.{Batch}
 use Rattle.commands.specs.declared.ends.Sink as sinks
@@ -25,108 +25,123 @@ each_has allows answers (l ∷ ls) =
     let others = each_has allows answers ls in
     (both first.0 others.0, (first.0, others.0, first.1, others.1, refl))
 
-module _ {S : Type 0} {takes : S → Text → S → Type 0} {allows : Text → Answer → Type 0} where
+module _ {allows : Text → Answer → Type 0} where
   -- with the answer to a line that ends here, which the lines after it follow
-  after_line : {start now : S} {batch : Batch} {seen : Text} (x : Answer) (b : Batched takes allows start batch seen now)
-      → allows (strip_carriage_return b.piece) x → (rest : Text) (z : Answer) → AllowsEach allows (lines rest) z
-      → AllowsEach allows (lines ((seen ++ 10 ∷ []) ++ rest)) (both (record { text = b.written; status = code_of batch.status }) (both x z))
-  after_line {seen} x b allowed rest z h =
-      let whole : AllowsEach allows (lines (b.piece ++ 10 ∷ rest)) (both x z) = rw (lines_at b.piece rest b.in_line) (x, z, allowed, h, refl) in
-      rw (append_assoc seen (10 ∷ []) rest) (b.goes_on (10 ∷ rest) (both x z) whole)
+  after_line : {batch : Batch} {seen written : Text} (x : Answer) (g : Gathered allows batch seen written)
+      → allows (strip_carriage_return g.piece) x → (rest : Text) (z : Answer) → AllowsEach allows (lines rest) z
+      → AllowsEach allows (lines ((seen ++ 10 ∷ []) ++ rest)) (both (answer_with (written ++ batch.answers.items) (code_of batch.status)) (both x z))
+  after_line {seen} x g allowed rest z h =
+      let whole : AllowsEach allows (lines (g.piece ++ 10 ∷ rest)) (both x z) = rw (lines_at g.piece rest g.in_line) (x, z, allowed, h, refl) in
+      rw (append_assoc seen (10 ∷ []) rest) (g.goes_on (10 ∷ rest) (both x z) whole)
 
-  pub step_answered : TakesBoth takes → (start now new : S) (batch next : Batch) (seen : Text) (x : Answer) → Batched takes allows start batch seen now
-      → ((piece : Text) → Holds batch.line piece → allows (strip_carriage_return piece) x) → takes now x.text new
-      → Holds next.line [] → code_of next.status ≡ max (code_of batch.status) x.status → Batched takes allows start next (seen ++ 10 ∷ []) new
-  step_answered both_times start now new batch next seen x b allowed took holds status = record {
+  pub gathers_line : (batch next : Batch) (seen written : Text) (x : Answer) → Gathered allows batch seen written
+      → ((piece : Text) → Holds batch.line piece → allows (strip_carriage_return piece) x)
+      → next.answers.items ≡ batch.answers.items ++ x.text
+      → Holds next.line [] → code_of next.status ≡ max (code_of batch.status) x.status → Gathered allows next (seen ++ 10 ∷ []) written
+  gathers_line batch next seen written x g allowed added holds status = record {
     piece = [];
-    written = b.written ++ x.text;
     holds = holds;
     in_line = All-nil (λ b. (b == 10) ≡ false);
-    took = both_times start now new b.written x.text b.took took;
     goes_on = λ rest z h.
         let same : max (code_of next.status) z.status ≡ max (code_of batch.status) (max x.status z.status) = omega arith in
-        rw (append_assoc b.written x.text z.text, same) (after_line x b (allowed b.piece b.holds) rest z h);
+        let text_is : (written ++ next.answers.items) ++ z.text ≡ (written ++ batch.answers.items) ++ (x.text ++ z.text) = rw added (simp append_assoc) in
+        rw (text_is, same) (after_line x g (allowed g.piece g.holds) rest z h);
   }
 
-  pub step_broken : TakesBoth takes → HasAnswers allows → (start now new : S) (batch : Batch) (seen : Text) (x : Answer) → Batched takes allows start batch seen now
-      → ((piece : Text) → Holds batch.line piece → allows (strip_carriage_return piece) x) → PutBegun takes now x.text new
-      → Stopped takes allows start (seen ++ 10 ∷ []) new
-  step_broken both_times answers start now new batch seen x b allowed w = record {
-    written = b.written ++ w.done;
-    took = both_times start now new b.written w.done b.took w.took;
+  pub gathers_byte : {batch next : Batch} {written : Text} (seen : Text) (byte : ℕ) → (byte == 10) ≡ false → Gathered allows batch seen written
+      → ((piece : Text) → Holds batch.line piece → Holds next.line (piece ++ byte ∷ [])) → code_of next.status ≡ code_of batch.status
+      → next.answers.items ≡ batch.answers.items → Gathered allows next (seen ++ byte ∷ []) written
+  gathers_byte seen byte other g holds status same = record {
+    piece = g.piece ++ byte ∷ [];
+    holds = holds g.piece g.holds;
+    in_line = All-push (λ x. (x == 10) ≡ false) g.piece byte g.in_line other;
+    goes_on = λ rest z h.
+        rw (status, same, append_assoc seen (byte ∷ []) rest) (g.goes_on (byte ∷ rest) z (rw (append_assoc g.piece (byte ∷ []) rest) at h));
+  }
+
+  -- what was written and what is held begin an answer, when more of the input is known
+  pub gathers_up_to : HasAnswers allows → {batch : Batch} {seen written : Text} (more : Text) → Gathered allows batch seen written
+      → BeginsLines allows (seen ++ more) (written ++ batch.answers.items)
+  gathers_up_to answers {batch} {seen} {written} more g = λ rest.
+      let z = each_has allows answers (lines (g.piece ++ (more ++ rest))) in
+      (both (answer_with (written ++ batch.answers.items) (code_of batch.status)) z.0, rw (append_assoc seen more rest) (g.goes_on (more ++ rest) z.0 z.1), (z.0.text, refl))
+
+  -- the end of the input, after a newline
+  pub gathers_none : {batch : Batch} {seen written : Text} → Gathered allows batch seen written
+      → ((piece : Text) → Holds batch.line piece → true ≡ (length piece == 0))
+      → AllowsEach allows (lines seen) (answer_with (written ++ batch.answers.items) (code_of batch.status))
+  gathers_none {batch} g empty =
+      let same : max (code_of batch.status) 0 ≡ code_of batch.status = omega arith in
+      let all = g.goes_on [] silence (rw (append-nil g.piece, lines_last g.piece g.in_line, ← empty g.piece g.holds) refl) in
+      simp (append-nil, same) at all
+
+  -- with the answer to a last line that the end of the input ends
+  pub gathers_last : {batch : Batch} {seen written : Text} (next : Batch) (x : Answer) → Gathered allows batch seen written
+      → ((piece : Text) → Holds batch.line piece → false ≡ (length piece == 0)) → ((piece : Text) → Holds batch.line piece → allows piece x)
+      → next.answers.items ≡ batch.answers.items ++ x.text → code_of next.status ≡ max (code_of batch.status) x.status
+      → AllowsEach allows (lines seen) (answer_with (written ++ next.answers.items) (code_of next.status))
+  gathers_last {batch} {written} next x g some allowed added status =
+      let same : max (code_of batch.status) (max x.status 0) ≡ max (code_of batch.status) x.status = omega arith in
+      let all = g.goes_on [] (both x silence) (rw (append-nil g.piece, lines_last g.piece g.in_line, ← some g.piece g.holds) (x, silence, allowed g.piece g.holds, refl, refl)) in
+      let text_is : written ++ next.answers.items ≡ (written ++ batch.answers.items) ++ x.text = rw added (simp append_assoc) in
+      rw (text_is, status) (simp (append-nil, same) at all)
+
+module _ {S : Type 0} {takes : S → Text → S → Type 0} {allows : Text → Answer → Type 0} where
+  -- what is held was put
+  pub step_put : TakesBoth takes → {start now new : S} {batch next : Batch} {seen written : Text} → takes start written now → Gathered allows batch seen written
+      → takes now batch.answers.items new → next.answers.items ≡ [] → next.line ≡ batch.line → next.status ≡ batch.status
+      → Batched takes allows start next seen new
+  step_put both_times {start} {now} {new} {batch} {next} {seen} {written} took g put none line status = record {
+    written = written ++ batch.answers.items;
+    took = both_times start now new written batch.answers.items took put;
+    gathered = record {
+      piece = g.piece;
+      holds = rw line g.holds;
+      in_line = g.in_line;
+      goes_on = λ rest z h. rw (none, status, append-nil (written ++ batch.answers.items)) (g.goes_on rest z h);
+    };
+  }
+
+  -- a beginning of what is held was put
+  pub step_begun : TakesBoth takes → {start now new : S} {seen written held : Text} → takes start written now → BeginsLines allows seen (written ++ held)
+      → PutBegun takes now held new → Stopped takes allows start seen new
+  step_begun both_times {start} {now} {new} {written} took begins w = record {
+    written = written ++ w.done;
+    took = both_times start now new written w.done took w.took;
     begun = λ rest.
-        let z = each_has allows answers (lines rest) in
-        let text_is : b.written ++ (x.text ++ z.0.text) ≡ (b.written ++ w.done) ++ (w.begun.0 ++ z.0.text) = rw w.begun.1 (simp append_assoc) in
-        (_, after_line x b (allowed b.piece b.holds) rest z.0 z.1, (w.begun.0 ++ z.0.text, text_is));
+        let a = begins rest in
+        let text_is : a.0.text ≡ (written ++ w.done) ++ (w.begun.0 ++ a.2.0) = rw (a.2.1, w.begun.1) (simp append_assoc) in
+        (a.0, a.1, (w.begun.0 ++ a.2.0, text_is));
   }
 
   -- no more was written
   pub step_stopped : HasAnswers allows → {start now : S} {batch : Batch} {seen : Text} (more : Text) → Batched takes allows start batch seen now
       → Stopped takes allows start (seen ++ more) now
-  step_stopped answers {batch} {seen} more b = record {
+  step_stopped answers {batch} more b = record {
     written = b.written;
     took = b.took;
     begun = λ rest.
-        let z = each_has allows answers (lines (b.piece ++ (more ++ rest))) in
-        (both (answer_with b.written (code_of batch.status)) z.0, rw (append_assoc seen more rest) (b.goes_on (more ++ rest) z.0 z.1), (z.0.text, refl));
+        let a = gathers_up_to answers more b.gathered rest in
+        (a.0, a.1, (batch.answers.items ++ a.2.0, rw a.2.1 (append_assoc b.written batch.answers.items a.2.0)));
   }
 
-  pub step_in_line : {start now : S} {batch next : Batch} (seen : Text) (byte : ℕ) → (byte == 10) ≡ false → Batched takes allows start batch seen now
-      → ((piece : Text) → Holds batch.line piece → Holds next.line (piece ++ byte ∷ [])) → code_of next.status ≡ code_of batch.status
-      → Batched takes allows start next (seen ++ byte ∷ []) now
-  step_in_line seen byte other b holds status = record {
-    piece = b.piece ++ byte ∷ [];
-    written = b.written;
-    holds = holds b.piece b.holds;
-    in_line = All-push (λ x. (x == 10) ≡ false) b.piece byte b.in_line other;
-    took = b.took;
-    goes_on = λ rest z h.
-        rw (status, append_assoc seen (byte ∷ []) rest) (b.goes_on (byte ∷ rest) z (rw (append_assoc b.piece (byte ∷ []) rest) at h));
-  }
+  pub last_answered : TakesBoth takes → {start now new : S} {seen written held : Text} {status : ℕ} → takes start written now
+      → AllowsEach allows (lines seen) (answer_with (written ++ held) status) → takes now held new → Answered takes allows start status seen new
+  last_answered both_times {start} {now} {new} {written} {held} took whole put =
+      record { written = written ++ held; took = both_times start now new written held took put; whole = whole }
 
-  -- the end of the input, after a newline
-  pub last_none : {start now : S} {batch : Batch} {seen : Text} → Batched takes allows start batch seen now
-      → ((piece : Text) → Holds batch.line piece → true ≡ (length piece == 0)) → Answered takes allows start (code_of batch.status) seen now
-  last_none {batch} b empty = record {
-    written = b.written;
-    took = b.took;
-    whole =
-        let same : max (code_of batch.status) 0 ≡ code_of batch.status = omega arith in
-        let all = b.goes_on [] silence (rw (append-nil b.piece, lines_last b.piece b.in_line, ← empty b.piece b.holds) refl) in
-        simp (append-nil, same) at all;
-  }
-
-  -- with the answer to a last line that the end of the input ends
-  after_last : {start now : S} {batch : Batch} {seen : Text} (x : Answer) (b : Batched takes allows start batch seen now)
-      → false ≡ (length b.piece == 0) → allows b.piece x
-      → AllowsEach allows (lines seen) (record { text = b.written ++ x.text; status = max (code_of batch.status) x.status })
-  after_last {batch} x b some allowed =
-      let same : max (code_of batch.status) (max x.status 0) ≡ max (code_of batch.status) x.status = omega arith in
-      let all = b.goes_on [] (both x silence) (rw (append-nil b.piece, lines_last b.piece b.in_line, ← some) (x, silence, allowed, refl, refl)) in
-      simp (append-nil, same) at all
-
-  pub last_answered : TakesBoth takes → (start now new : S) {batch : Batch} (seen : Text) (x : Answer) {status : ℕ} → Batched takes allows start batch seen now
-      → ((piece : Text) → Holds batch.line piece → false ≡ (length piece == 0)) → ((piece : Text) → Holds batch.line piece → allows piece x)
-      → takes now x.text new → status ≡ max (code_of batch.status) x.status → Answered takes allows start status seen new
-  last_answered both_times start now new seen x b some allowed took is = record {
-    written = b.written ++ x.text;
-    took = both_times start now new b.written x.text b.took took;
-    whole = rw is (after_last x b (some b.piece b.holds) (allowed b.piece b.holds));
-  }
-
-  pub last_broken : TakesBoth takes → (start now new : S) {batch : Batch} (seen : Text) (x : Answer) → Batched takes allows start batch seen now
-      → ((piece : Text) → Holds batch.line piece → false ≡ (length piece == 0)) → ((piece : Text) → Holds batch.line piece → allows piece x)
-      → PutBegun takes now x.text new → Begun takes allows start seen new
-  last_broken both_times start now new seen x b some allowed w = record {
-    written = b.written ++ w.done;
-    took = both_times start now new b.written w.done b.took w.took;
-    begun = (_, after_last x b (some b.piece b.holds) (allowed b.piece b.holds), (w.begun.0, rw w.begun.1 (simp append_assoc)));
+  pub last_begun : TakesBoth takes → {start now new : S} {seen written held : Text} (status : ℕ) → takes start written now
+      → AllowsEach allows (lines seen) (answer_with (written ++ held) status) → PutBegun takes now held new → Begun takes allows start seen new
+  last_begun both_times {start} {now} {new} {written} {held} status took whole w = record {
+    written = written ++ w.done;
+    took = both_times start now new written w.done took w.took;
+    begun = (answer_with (written ++ held) status, whole, (w.begun.0, rw w.begun.1 (simp append_assoc)));
   }
 
   -- no more was written
-  pub last_stopped : HasAnswers allows → (start now : S) {batch : Batch} (seen : Text)
+  pub last_stopped : HasAnswers allows → {start now : S} {batch : Batch} {seen : Text}
       → Batched takes allows start batch seen now → Begun takes allows start seen now
-  last_stopped answers start now seen b =
+  last_stopped answers b =
       let s = step_stopped answers [] b in
       record { written = s.written; took = s.took; begun = simp append-nil at (s.begun []) }
 
@@ -135,18 +150,12 @@ pub on_any_err : {T E : Type 0} (r : Result T E) {P : Type 0} → P → IfErr r 
 on_any_err (Ok x) p = tt
 on_any_err (Err e) p = p
 
--- what was written still begins an answer, when more of the input is known
-pub stopped_further : {S : Type 0} {takes : S → Text → S → Type 0} {allows : Text → Answer → Type 0} {start now : S} {seen : Text} (more : Text)
-    → Stopped takes allows start seen now → Stopped takes allows start (seen ++ more) now
-stopped_further {seen} more s =
-    record { written = s.written; took = s.took; begun = λ rest. rw (append_assoc seen more rest) (s.begun (more ++ rest)) }
-
 -- the bytes up to one more
 pub one_further : (seen chunk : Text) (i : ℕ) → i < length chunk → (seen ++ take i chunk) ++ get_or chunk i 0 ∷ [] ≡ seen ++ take (i + 1) chunk
 one_further seen chunk i h = grind (arith, common_steps, append_assoc)
 
-pub to_the_end : (seen chunk : Text) (i : ℕ) → i < length chunk → ((seen ++ take i chunk) ++ get_or chunk i 0 ∷ []) ++ drop (i + 1) chunk ≡ seen ++ chunk
-to_the_end seen chunk i h = grind (arith, common_steps, one_further, append_assoc, take-append-drop)
+pub to_the_end : (seen chunk : Text) (i : ℕ) → (seen ++ take i chunk) ++ drop i chunk ≡ seen ++ chunk
+to_the_end seen chunk i = grind (arith, common_steps, append_assoc, take-append-drop)
 
 module _ {I : Type 0} {gives : I → Text → I → Type 0} (gives_both : TakesBoth gives) where
   pub given_more : {from i j : I} {given chunk : Text} {P Q : Text → Type 0} → given ≡ chunk → Given gives from i P

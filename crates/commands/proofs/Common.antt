@@ -66,7 +66,7 @@ pub use Rattle.commands.specs.Allowed.{Allows, AllowsCheck, AllowsGrade, AllowsI
 pub use Rattle.commands.specs.Allowed.{IsSolved, handed_out, wanted}
 pub use Rattle.commands.specs.Answers.{Answer, Begins, BeginsAnswer, Delivers, IsInput, PutBegun, PutUpTo, Text, answer_with, code_of, status_of}
 pub use Rattle.commands.specs.Asked.{Asked, check, generate, grade, solve}
-pub use Rattle.commands.specs.Batches.{AllowsTask, Batched, Holds, IsLine, TakesTask}
+pub use Rattle.commands.specs.Batches.{AllowsTask, Batched, Gathered, Holds, IsLine, TakesTask}
 pub use Rattle.commands.specs.CheckAnswers.{AllowsGrid, IsInputOf, SaysFault, begins_with_line_end, checked}
 unfoldable pub use Rattle.commands.specs.CheckAnswers.{without_returns}
 pub use Rattle.commands.specs.Common.{Extent, Game, HasOneReading, IdFault, IsAsShown, IsClosed, IsExtent, IsGrid, IsInside, IsLawful}
@@ -76,7 +76,7 @@ pub use Rattle.commands.specs.Common.{crossings_rules, extent_of, grid_of, hides
 pub use Rattle.commands.specs.Common.{is_solution-is, light_cell, light_hides, light_rules, line_rules, line_rules-lawful, max_id, only, pattern_cell}
 pub use Rattle.commands.specs.Common.{rule_from_test, rules_of, scopes_of, singles_rules, size_of, solo_cell, solo_extent, tent_hides, tent_rules}
 pub use Rattle.commands.specs.Common.{tents_cell, test_from_rule, verdict_of, walk}
-pub use Rattle.commands.specs.Each.{AllowsEach, Answered, Begun, HasAnswers, Stopped, both, silence}
+pub use Rattle.commands.specs.Each.{AllowsEach, Answered, BeginsLines, Begun, HasAnswers, Stopped, both, silence}
 pub use Rattle.commands.specs.Games.{game_of, puzzle_of}
 pub use Rattle.commands.specs.Grades.{HasOneSolution, IsRightGrade, NamedRules, SaysGrade, first_settled, grade_by, grade_status, grade_text}
 pub use Rattle.commands.specs.Grades.{last_tried, listed_grade, only_set, rule_set_text}

@@ -6,8 +6,8 @@ use Rattle.std.specs.List.{All}
 use Rattle.std.specs.Str.Lines.{lines}
 use Rattle.gameid_core.specs.Head.{max_id}
 use Rattle.commands.specs.declared.batch.lines.InputLine.{InputLine}
-use Rattle.commands.specs.Answers.{Answer, Text, code_of}
-use Rattle.commands.specs.Each.{AllowsEach, Answered, Begun, HasAnswers, Stopped, both}
+use Rattle.commands.specs.Answers.{Answer, Text, answer_with, code_of}
+use Rattle.commands.specs.Each.{AllowsEach, Answered, BeginsLines, Begun, HasAnswers, Stopped, both}
 use Rattle.commands.specs.Games.{game_of}
 use Rattle.commands.specs.Texts.{Given}
 use Rattle.commands.specs.Allowed.{AllowsSolve}
@@ -35,18 +35,42 @@ AllowsTask task id = AllowsSolve (game_of task.game) id task.budget
 abbrev pub AllowsLines : Task → Text → Answer → Type 0
 AllowsLines task input = AllowsEach (AllowsTask task) (lines input)
 
--- After these bytes of the input, the answers to all lines that ended are written, and what came
--- since is held: whatever follows, the rest of the answer is that to what is held and what follows.
-pub record Batched {S : Type 0} (takes : S → Text → S → Type 0) (allows : Text → Answer → Type 0)
-    (start : S) (batch : Batch) (seen : Text) (now : S) : Type 0 where
+-- After these bytes of the input so much was written: with the answers that the batch holds, those to
+-- all lines that ended. What came since is held: whatever follows, the rest of the answer is that to
+-- what is held and what follows.
+pub record Gathered (allows : Text → Answer → Type 0) (batch : Batch) (seen written : Text)
+    : Type 0 where
   pub piece : Text
-  pub written : Text
   pub holds : Holds batch.line piece
   pub in_line : All (λ b. (b == 10) ≡ false) piece
-  pub took : takes start written now
   pub goes_on : (rest : Text) (z : Answer) → AllowsEach allows (lines (piece ++ rest)) z
       → AllowsEach allows (lines (seen ++ rest))
-      (both (record { text = written; status = code_of batch.status }) z)
+      (both (answer_with (written ++ batch.answers.items) (code_of batch.status)) z)
+
+-- the same of what the sink took since it stood so
+pub record Batched {S : Type 0} (takes : S → Text → S → Type 0) (allows : Text → Answer → Type 0)
+    (start : S) (batch : Batch) (seen : Text) (now : S) : Type 0 where
+  pub written : Text
+  pub took : takes start written now
+  pub gathered : Gathered allows batch seen written
+
+module _ (task : Task) where
+  -- Whatever came before, with more bytes the batch is the next one, and no more was written.
+  abbrev pub GathersOn : Batch → Batch → Text → Type 0
+  GathersOn batch next more = (seen written : Text) → Gathered (AllowsTask task) batch seen written
+      → Gathered (AllowsTask task) next (seen ++ more) written
+
+  -- Whatever came before, with more bytes what was written and what is held begin an answer.
+  abbrev pub GathersUpTo : Batch → Batch → Text → Type 0
+  GathersUpTo batch next more = HasAnswers (AllowsTask task) → (seen written : Text)
+      → Gathered (AllowsTask task) batch seen written
+      → BeginsLines (AllowsTask task) (seen ++ more) (written ++ next.answers.items)
+
+  -- Whatever came before, what was written and what is held are an answer to it.
+  abbrev pub GathersAll : Batch → Batch → Type 0
+  GathersAll batch next = (seen written : Text) → Gathered (AllowsTask task) batch seen written
+      → AllowsEach (AllowsTask task) (lines seen)
+      (answer_with (written ++ next.answers.items) (code_of next.status))
 
 module _ {S : Type 0} (takes : S → Text → S → Type 0) (task : Task) where
   -- Whatever came before, with more bytes the batch is the next one.

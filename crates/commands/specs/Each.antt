@@ -22,12 +22,17 @@ AllowsEach allows (line ∷ rest) a = (x : Answer) × (y : Answer) × allows lin
 abbrev pub HasAnswers : (Text → Answer → Type 0) → Type 0
 HasAnswers allows = (text : Text) → (a : Answer) × allows text a
 
--- What was written begins an answer to the lines, however the input goes on.
+-- the text begins an answer to the lines, however the input goes on
+abbrev pub BeginsLines : (Text → Answer → Type 0) → Text → Text → Type 0
+BeginsLines allows seen text =
+    (rest : Text) → BeginsAnswer (AllowsEach allows (lines (seen ++ rest))) text
+
+-- the same of what was written
 pub record Stopped {S : Type 0} (takes : S → Text → S → Type 0) (allows : Text → Answer → Type 0)
     (start : S) (seen : Text) (now : S) : Type 0 where
   pub written : Text
   pub took : takes start written now
-  pub begun : (rest : Text) → BeginsAnswer (AllowsEach allows (lines (seen ++ rest))) written
+  pub begun : BeginsLines allows seen written
 
 -- What was written begins an answer to the lines of these bytes alone.
 pub record Begun {S : Type 0} (takes : S → Text → S → Type 0) (allows : Text → Answer → Type 0)

@@ -1,7 +1,7 @@
 //! Many IDs, one a line.
-ghost use Rattle.std.specs.Prelude.{◌≡◌, ◌∷◌, [], max, true, false, IfOk, IfErr, OnErr, OnOk};
+ghost use Rattle.std.specs.Prelude.{◌≡◌, ◌∷◌, ◌++◌, [], max, true, false, IfOk, IfErr, OnErr, OnOk};
 ghost use Rattle.commands.specs.Answers.{PutBegun, Text, code_of};
-ghost use Rattle.commands.specs.Batches.{AllowsLines, EndsIn, EndsWith, GoesOn, StopsIn, StopsReading, TakesTask, AllowsTask, Holds, IsLine};
+ghost use Rattle.commands.specs.Batches.{AllowsLines, EndsIn, EndsWith, GathersAll, GathersOn, GathersUpTo, GoesOn, StopsIn, StopsReading, TakesTask, AllowsTask, Holds, IsLine};
 ghost use Rattle.commands.specs.Replies.{answer_in};
 ghost use Rattle.commands.specs.Runs.{AreNew, Ran};
 ghost use Rattle.commands.specs.Stops.{LeavesEnds, StopsWith, is_broken, status_in};
@@ -20,13 +20,14 @@ use gameid_core::IdFault;
 use std::alloc::{AllocError, Global};
 use std::mem::replace;
 
-/// The line that is being read, the memory of the searches and of the answers' texts, and the
-/// greatest status so far.
+/// The line that is being read, the memory of the searches and of an answer's text, the answers that
+/// are still to be put, and the greatest status so far.
 #[derive(Drop)]
 pub struct Batch {
     line: InputLine,
     stores: Stores,
     text: String,
+    answers: Vec<u8>,
     status: Status,
 }
 
@@ -51,81 +52,88 @@ impl Batch {
     /// A batch that has taken nothing.
     fn new(alloc: Global) -> Batch
         ensures line { Holds result.line [] }
+        ensures answers { result.answers.items ≡ [] }
         ensures status { result.status ≡ Fine }
     {
         Batch {
             line: InputLine::new(alloc),
             stores: Stores::default(),
             text: String::new(alloc),
+            answers: Vec::new(alloc),
             status: Status::Fine,
         }
     }
 
-    /// Puts the text of a reply, and keeps the greater status.
-    fn put_reply<O: Sink>(&mut self, reply: &Reply, output: &mut O) -> Result<(), Stop>
-        requires { O.has_failed output.old ≡ false }
-        ensures put { OnOk result (O.takes output.old (answer_in reply.now).text output.new) }
-        ensures fine { OnOk result (O.has_failed output.new ≡ false) }
+    /// Adds the text of a reply to the answers, and keeps the greater status.
+    fn add_reply(&mut self, reply: &Reply) -> Result<(), AllocError>
+        ensures added { OnOk result
+            (self.new.answers.items ≡ self.old.answers.items ++ (answer_in reply.now).text) }
         ensures status { OnOk result
             (code_of self.new.status ≡ max (code_of self.old.status) (code_of reply.now.status)) }
-        ensures begun { OnErr result
-            (PutBegun O.takes output.old (answer_in reply.now).text output.new) }
-        ensures cause { IfErr result (λ e. (O.has_failed output.new ≡ true)
-            × (is_broken e ≡ true)) }
+        ensures stays { OnErr result (self.new.answers.items ≡ self.old.answers.items) }
     {
-        put_all(output, reply.text.as_bytes())?;
+        self.answers.extend_from_slice(reply.text.as_bytes())?;
         self.status = self.status.greater(reply.status);
         Ok(())
     }
 
-    /// Puts the answer to a line that ended, and keeps the memory of its text for the next one.
-    fn answer_line<O: Sink>(
-        &mut self,
-        alloc: Global,
-        task: Task,
-        output: &mut O,
-    ) -> Result<(), Stop>
+    /// Puts the answers, in one piece if the sink takes them so.
+    fn put_answers<O: Sink>(&mut self, output: &mut O) -> Result<(), Stop>
         requires { O.has_failed output.old ≡ false }
+        ensures put { OnOk result (O.takes output.old self.old.answers.items output.new) }
         ensures fine { OnOk result (O.has_failed output.new ≡ false) }
-        ensures goes_on { OnOk result
-            (GoesOn O.takes task self.old self.new (10 ∷ []) output.old output.new) }
-        ensures stopped { OnErr result
-            (StopsIn O.takes task self.old (10 ∷ []) output.old output.new) }
-        ensures cause { IfErr result (λ e. O.has_failed output.new ≡ is_broken e) }
+        ensures none { OnOk result (self.new.answers.items ≡ []) }
+        ensures line { self.new.line ≡ self.old.line }
+        ensures status { self.new.status ≡ self.old.status }
+        ensures begun { OnErr result
+            (PutBegun O.takes output.old self.old.answers.items output.new) }
+        ensures cause { IfErr result (λ e. (O.has_failed output.new ≡ true)
+            × (is_broken e ≡ true)) }
+    {
+        put_all(output, &self.answers)?;
+        self.answers.clear();
+        Ok(())
+    }
+
+    /// Answers a line that ended, and keeps the memory of its text for the next one.
+    fn answer_line(&mut self, alloc: Global, task: Task) -> Result<(), AllocError>
+        ensures goes_on { OnOk result (GathersOn task self.old self.new (10 ∷ [])) }
+        ensures stays { OnErr result (self.new.answers.items ≡ self.old.answers.items) }
     {
         let text = replace(&mut self.text, String::new(alloc));
         let line = self.line.before_newline();
         let reply = line_reply(alloc, &mut self.stores, task, line, text)?;
-        self.put_reply(&reply, output)?;
+        self.add_reply(&reply)?;
         self.text = reply.text;
         self.line.clear();
         Ok(())
     }
 
     /// Takes one byte of the input.
-    fn take_byte<O: Sink>(
-        &mut self,
-        alloc: Global,
-        task: Task,
-        byte: u8,
-        output: &mut O,
-    ) -> Result<(), Stop>
-        requires { O.has_failed output.old ≡ false }
-        ensures fine { OnOk result (O.has_failed output.new ≡ false) }
-        ensures goes_on { OnOk result
-            (GoesOn O.takes task self.old self.new (byte ∷ []) output.old output.new) }
-        ensures stopped { OnErr result
-            (StopsIn O.takes task self.old (byte ∷ []) output.old output.new) }
-        ensures cause { IfErr result (λ e. O.has_failed output.new ≡ is_broken e) }
+    fn take_byte(&mut self, alloc: Global, task: Task, byte: u8) -> Result<(), AllocError>
+        ensures goes_on { OnOk result (GathersOn task self.old self.new (byte ∷ [])) }
+        ensures stays { OnErr result (self.new.answers.items ≡ self.old.answers.items) }
     {
         if byte == b'\n' {
-            return self.answer_line(alloc, task, output);
+            return self.answer_line(alloc, task);
         }
         self.line.push(byte)?;
         Ok(())
     }
 
-    /// Takes a chunk of the input.
+    /// Takes bytes of the input.
+    fn take_bytes(&mut self, alloc: Global, task: Task, bytes: &[u8]) -> Result<(), AllocError>
+        ensures goes_on { OnOk result (GathersOn task self.old self.new bytes.now) }
+        ensures up_to { GathersUpTo task self.old self.new bytes.now }
+    {
+        for byte in bytes {
+            self.take_byte(alloc, task, *byte)?;
+        }
+        Ok(())
+    }
+
+    /// Takes a chunk of the input, and puts the answers to the lines that ended in it: also those
+    /// before a line that wants memory.
     fn take_chunk<O: Sink>(
         &mut self,
         alloc: Global,
@@ -137,13 +145,28 @@ impl Batch {
         ensures fine { OnOk result (O.has_failed output.new ≡ false) }
         ensures goes_on { OnOk result
             (GoesOn O.takes task self.old self.new chunk.now output.old output.new) }
+        ensures none { OnOk result (self.new.answers.items ≡ []) }
         ensures stopped { OnErr result
             (StopsIn O.takes task self.old chunk.now output.old output.new) }
         ensures cause { IfErr result (λ e. O.has_failed output.new ≡ is_broken e) }
     {
-        for byte in chunk {
-            self.take_byte(alloc, task, *byte, output)?;
+        let taken = self.take_bytes(alloc, task, chunk);
+        self.put_answers(output)?;
+        taken?;
+        Ok(())
+    }
+
+    /// Answers a last line that the end of the input ended.
+    fn answer_rest(&mut self, alloc: Global, task: Task) -> Result<(), AllocError>
+        ensures { OnOk result (GathersAll task self.old self.new) }
+    {
+        if self.line.is_empty() {
+            return Ok(());
         }
+        let text = replace(&mut self.text, String::new(alloc));
+        let line = self.line.before_end();
+        let reply = line_reply(alloc, &mut self.stores, task, line, text)?;
+        self.add_reply(&reply)?;
         Ok(())
     }
 
@@ -161,14 +184,8 @@ impl Batch {
         ensures begun { OnErr result (EndsIn O.takes task self.old output.old output.new) }
         ensures cause { IfErr result (λ e. O.has_failed output.new ≡ is_broken e) }
     {
-        if self.line.is_empty() {
-            return Ok(());
-        }
-        let text = replace(&mut self.text, String::new(alloc));
-        let line = self.line.before_end();
-        let reply = line_reply(alloc, &mut self.stores, task, line, text)?;
-        self.put_reply(&reply, output)?;
-        Ok(())
+        self.answer_rest(alloc, task)?;
+        self.put_answers(output)
     }
 }
 
@@ -182,6 +199,7 @@ fn take_input<I: Source, O: Sink>(
 ) -> Result<(), Stop>
     requires new { AreNew I.Source O.Sink input.old output.old }
     requires no_line { Holds batch.old.line [] }
+    requires no_answers { batch.old.answers.items ≡ [] }
     requires no_status { batch.old.status ≡ Fine }
     ensures input { OnOk result (I.has_failed input.new ≡ false) }
     ensures ended { OnOk result (I.has_ended input.new ≡ true) }
@@ -215,6 +233,7 @@ fn answer_lines<I: Source, O: Sink>(
 ) -> RunResult
     requires new { AreNew I.Source O.Sink input.old output.old }
     requires no_line { Holds batch.old.line [] }
+    requires no_answers { batch.old.answers.items ≡ [] }
     requires no_status { batch.old.status ≡ Fine }
     ensures ran { Ran I.Source O.Sink (AllowsLines task)
         input.old input.new output.old output.new (status_in result) }
@@ -232,8 +251,8 @@ fn answer_lines<I: Source, O: Sink>(
 /// Answers the lines of the input in order, each as an ID of the game, and gives the greatest of
 /// the answers' statuses, or `Fine` if there is no line. A line ends at `\n`, and the last one also
 /// at the end of the input if it isn't empty; one `\r` before the `\n` is no part of it. A line of
-/// more than `MAX_ID` bytes is refused as too long. One line is held at a time, and each answer is
-/// put at once.
+/// more than `MAX_ID` bytes is refused as too long. One line is held at a time. The answers to the
+/// lines that ended are put before the input is asked for more.
 pub fn solve_lines<I: Source, O: Sink>(
     alloc: Global,
     task: Task,

@@ -54,7 +54,7 @@ fn told_by(alloc: Global, line: &str, reads: usize) -> Result<(Did, bool), Fail>
 fn inputs_are_read_to_their_ends(rt: HostRuntime) -> Result<(), Fail> {
     for (line, most, reads, writes) in [
         (LINES, 1, 17, 3),
-        (LINES, 4_096, 2, 3),
+        (LINES, 4_096, 2, 2),
         (RIGHT, 1, 73, 1),
         (RIGHT, 2, 37, 1),
         (RIGHT, 3, 25, 1),
@@ -74,15 +74,30 @@ fn inputs_are_read_to_their_ends(rt: HostRuntime) -> Result<(), Fail> {
     Ok(())
 }
 
+/// A text, the bytes of its pieces, and how many pieces end a line. The end of the input is one if it ends a line.
+const CUT: [(usize, usize, u32); 12] = [
+    (0, 1, 3),
+    (0, 5, 2),
+    (0, 6, 3),
+    (0, 4_096, 2),
+    (1, 1, 3),
+    (1, 4_096, 1),
+    (2, 2, 3),
+    (2, 3, 2),
+    (2, 4_096, 2),
+    (3, 1, 3),
+    (3, 3, 2),
+    (3, 4_096, 1),
+];
+
 #[test]
-fn each_answer_goes_out_in_one_piece(rt: HostRuntime) -> Result<(), Fail> {
-    for line in ENDED {
-        for most in [1, 2, 3, 4_096] {
-            let (did, is_told) = told_by(rt.alloc(), line, most)?;
-            assert!(rt; is_told, "{line} by {most}");
-            assert_eq!(rt; (did.status, did.flushes), (2, 1), "{line}");
-            assert_eq!(rt; did.writes, 3, "{line} by {most}");
-        }
+fn answers_go_out_before_more_is_read(rt: HostRuntime) -> Result<(), Fail> {
+    for (ended, most, writes) in CUT {
+        let line = ENDED[ended];
+        let (did, is_told) = told_by(rt.alloc(), line, most)?;
+        assert!(rt; is_told, "{line} by {most}");
+        assert_eq!(rt; (did.status, did.flushes), (2, 1), "{line}");
+        assert_eq!(rt; did.writes, writes, "{line} by {most}");
     }
     Ok(())
 }

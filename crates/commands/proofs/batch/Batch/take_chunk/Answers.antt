@@ -1,22 +1,18 @@
-use Rattle.commands.proofs.Common.{AllowsTask, Batched, List, Stopped, drop, subst, take, ℕ, ◌++◌, ◌+◌}
-use Rattle.commands.proofs.BatchLemmas.{on_any_err, one_further, stopped_further, to_the_end}
+use Rattle.commands.proofs.Common.{[], append-nil, sym}
+use Rattle.commands.proofs.BatchLemmas.{on_any_err, step_begun, step_put}
 use Rattle.commands.proofs.batch.Batch.take_chunk.Goals as goal
 
-pub returns-in_err-take_byte-clause-stopped : goal.returns-in_err-take_byte-clause-stopped
-returns-in_err-take_byte-clause-stopped g c = on_any_err c.from_residual.result (λ answers start seen b.
-    let i = c.loop-byte.byte-index in
-    let chunk = c.args.chunk.now in
-    let here = c.in_err-take_byte.ensures.stopped answers start (seen ++ take i chunk) (c.loop-byte.invariant.goes_on start seen b) in
-    subst (λ (t : List ℕ). Stopped g.O.Sink.takes (AllowsTask c.args.task) start t c.take_byte.new.output) (to_the_end seen chunk i c.loop-byte-test.true)
-    (stopped_further (drop (i + 1) chunk) here))
+pub returns-in_err-put_answers-clause-stopped : goal.returns-in_err-put_answers-clause-stopped
+returns-in_err-put_answers-clause-stopped g c = on_any_err c.from_residual.result (λ answers start seen b.
+    step_begun g.met.O.Sink.takes_both b.took (c.take_bytes-taken.ensures.up_to answers seen b.written b.gathered)
+    c.in_err-put_answers.ensures.begun)
 
-pub loop-byte-preserved : goal.loop-byte-preserved
-loop-byte-preserved g c = record {
-  goes_on = λ start seen b.
-      let i = c.loop-byte.byte-index in
-      let chunk = c.args.chunk.now in
-      subst (λ (t : List ℕ). Batched g.O.Sink.takes (AllowsTask c.args.task) start c.take_byte.new.self t c.take_byte.new.output)
-      (one_further seen chunk i c.loop-byte-test.true)
-      (c.in_ok-take_byte.ensures.goes_on start (seen ++ take i chunk) (c.loop-byte.invariant.goes_on start seen b));
-  fine = c.in_ok-take_byte.ensures.fine;
-}
+pub returns-in_err-taken-clause-stopped : goal.returns-in_err-taken-clause-stopped
+returns-in_err-taken-clause-stopped g c = on_any_err c.from_residual-in_err-taken.result (λ answers start seen b.
+    step_begun g.met.O.Sink.takes_both b.took (c.take_bytes-taken.ensures.up_to answers seen b.written b.gathered)
+    (record { done = c.take_bytes-taken.new.self.answers.items; took = c.in_ok-put_answers.ensures.put; begun = ([], sym (append-nil _)) }))
+
+pub returns-clause-goes_on : goal.returns-clause-goes_on
+returns-clause-goes_on g c = λ start seen b.
+    step_put g.met.O.Sink.takes_both b.took (c.in_ok-taken.ensures.goes_on seen b.written b.gathered)
+    c.in_ok-put_answers.ensures.put c.in_ok-put_answers.ensures.none c.put_answers.ensures.line c.put_answers.ensures.status
