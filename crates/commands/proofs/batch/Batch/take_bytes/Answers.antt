@@ -1,4 +1,4 @@
-use Rattle.commands.proofs.Common.{AllowsTask, Gathered, Text, drop, subst, take, ◌++◌, ◌+◌}
+use Rattle.commands.proofs.Common.{AllowsTask, Gathered, Text, drop, subst, take, ◌++◌}
 use Rattle.commands.proofs.BatchLemmas.{gathers_up_to, one_further, to_the_end}
 use Rattle.commands.proofs.batch.Batch.take_bytes.Goals as goal
 
