@@ -74,26 +74,23 @@ fn inputs_are_read_to_their_ends(rt: HostRuntime) -> Result<(), Fail> {
     Ok(())
 }
 
-/// A text, the bytes of its pieces, and how many pieces end a line. The end of the input is one if it ends a line.
-const CUT: [(usize, usize, u32); 12] = [
-    (0, 1, 3),
-    (0, 5, 2),
-    (0, 6, 3),
-    (0, 4_096, 2),
-    (1, 1, 3),
-    (1, 4_096, 1),
-    (2, 2, 3),
-    (2, 3, 2),
-    (2, 4_096, 2),
-    (3, 1, 3),
-    (3, 3, 2),
-    (3, 4_096, 1),
-];
-
 #[test]
 fn answers_go_out_before_more_is_read(rt: HostRuntime) -> Result<(), Fail> {
-    for (ended, most, writes) in CUT {
-        let line = ENDED[ended];
+    // The bytes of a piece, and how many pieces end a line. The end of the input is one if it ends a line.
+    for (line, most, writes) in [
+        (ENDED[0], 1, 3),
+        (ENDED[0], 5, 2),
+        (ENDED[0], 6, 3),
+        (ENDED[0], 4_096, 2),
+        (ENDED[1], 1, 3),
+        (ENDED[1], 4_096, 1),
+        (ENDED[2], 2, 3),
+        (ENDED[2], 3, 2),
+        (ENDED[2], 4_096, 2),
+        (ENDED[3], 1, 3),
+        (ENDED[3], 3, 2),
+        (ENDED[3], 4_096, 1),
+    ] {
         let (did, is_told) = told_by(rt.alloc(), line, most)?;
         assert!(rt; is_told, "{line} by {most}");
         assert_eq!(rt; (did.status, did.flushes), (2, 1), "{line}");
