@@ -1,6 +1,5 @@
 -- Which houses wait after others were called for.
-use Rattle.engine_core.proofs.Common.{AreWoken, Bool, Candidates, IsBitsOf, IsInside, IsNext, IsWoken, None, RuleSystem, Some, and_from, and_left, and_right, any_below, arith, but, called_for, calls, cases_eq, cases_lt, common_steps, count_below, counts_of, eq-eqb, eqb, false, has_place, le-ltb, lt-ltb, ltb, ne_eqb, not, not_from_false, not_from_true, or_right, refl, slice_index, true, woken, ℕ, ◌&&◌, ◌+◌, ◌<◌, ◌||◌, ◌≡◌, ◌≤◌}
-use Rattle.engine_core.proofs.IndexLemmas.{counted}
+use Rattle.engine_core.proofs.Common.{AreWoken, Bool, Candidates, IsBitsOf, IsInside, IsNext, IsWoken, None, RuleSystem, Some, and_from, and_left, and_right, any_below, arith, but, called_for, calls, cases_eq, cases_lt, common_steps, counts_of, eq-eqb, eqb, false, has_place, le-ltb, lt-ltb, ltb, ne_eqb, not, not_from_false, not_from_true, refl, slice_index, woken, ℕ, ◌&&◌, ◌+◌, ◌<◌, ◌||◌, ◌≡◌}
 use Rattle.engine_core.proofs.QueueLemmas.{any_below-more, unwoken, woken-none}
 use Rattle.engine_core.proofs.SetLemmas.{counts-differ, counts-same}
 
@@ -16,28 +15,6 @@ woken-same same a = record { marks = λ j lt. rw (same j lt) at (a.marks j lt) }
 pub woken-more : {p : RuleSystem} {first more before now after : ℕ → Bool} → AreWoken p first before now → AreWoken p more now after
     → AreWoken p (λ j. first j || more j) before after
 woken-more a b = record { marks = λ j lt. grind (arith, common_steps, a.marks j lt, b.marks j lt) }
-
--- ---- the houses that pass a test, by their number among these
--- those before the number k
-abbrev pub asked_upto : (ℕ → Bool) → ℕ → ℕ → Bool
-asked_upto test k j = test j && ltb (count_below test j) k
-
-pub upto-first : (p : RuleSystem) (test waits : ℕ → Bool) → AreWoken p (asked_upto test 0) waits waits
-upto-first p test waits = woken-by_none (λ j lt. and_right (test j) _ (le-ltb (count_below test j) 0 (omega arith)))
-
-upto-next : (test : ℕ → Bool) (n k j : ℕ) → test n ≡ true → count_below test n ≡ k → (asked_upto test k j || eqb j n) ≡ asked_upto test (k + 1) j
-upto-next test n k j on number = grind (arith, common_steps, and_from, and_left, cases_eq, cases_lt, counted, eq-eqb, le-ltb, lt-ltb, ne_eqb, or_right)
-
--- the next one is marked
-pub upto-marked : {p : RuleSystem} (test : ℕ → Bool) {before now after : ℕ → Bool} (n k : ℕ)
-    → test n ≡ true → count_below test n ≡ k → ((j : ℕ) → after j ≡ (now j || eqb j n))
-    → AreWoken p (asked_upto test k) before now → AreWoken p (asked_upto test (k + 1)) before after
-upto-marked test n k on number marks a =
-    woken-same (λ j lt. upto-next test n k j on number) (woken-more a (record { marks = λ j lt. marks j }))
-
-pub upto-all : {p : RuleSystem} {test before now : ℕ → Bool} (k : ℕ)
-    → count_below test p.houses ≤ k → AreWoken p (asked_upto test k) before now → AreWoken p test before now
-upto-all k le a = woken-same (λ j lt. grind (arith, common_steps, and_from, and_left, counted, lt-ltb)) a
 
 -- ---- the cells of a house one after another
 pub woken-first : {p : RuleSystem} (h : ℕ) (K K' : Candidates) {waits : ℕ → Bool}

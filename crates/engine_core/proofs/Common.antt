@@ -10,21 +10,21 @@ pub use Rattle.std.proofs.lemmas.Bool.{and_from, and_left, and_parts, and_right,
 pub use Rattle.std.proofs.lemmas.Bool.{eqb-true, false_from_ne_true, le-leb, le-ltb, leb-true, lt-leb, lt-ltb, ne_eqb, not-true, not_from_false}
 pub use Rattle.std.proofs.lemmas.Bool.{not_from_true, or_cases, or_left, or_right, true≢false}
 pub use Rattle.std.proofs.lemmas.Cmp.{upto}
-pub use Rattle.std.proofs.lemmas.Grind.{common_steps, get_or-set_at}
-pub use Rattle.std.proofs.lemmas.List.{append-nil, drop-append-le, get_or-append_right, get_or-replicate, get_or-set_other, get_or-set_same}
-pub use Rattle.std.proofs.lemmas.List.{get_or-take, get_or_append_left, get_or_read, get_or_read_under, length-drop, length-take-le, length_push}
-pub use Rattle.std.proofs.lemmas.List.{map-id, places, take-append-le, take_all, take_at, take_more}
+pub use Rattle.std.proofs.lemmas.Grind.{common_steps}
+pub use Rattle.std.proofs.lemmas.List.{append-nil, drop-append-le, get_or-replicate, get_or-set_other, get_or-set_same}
+pub use Rattle.std.proofs.lemmas.List.{get_or_append_left, get_or_read, get_or_read_under, length-drop, length-take-le, length_push}
+pub use Rattle.std.proofs.lemmas.List.{map-id, places, take-append-le, take_all, take_more}
 pub use Rattle.std.proofs.lemmas.List.Edits.{between_more, between_none, get_or-between, length-between}
 pub use Rattle.std.proofs.lemmas.List.Elements.{All-from_get_or, filter-append}
 pub use Rattle.std.proofs.lemmas.List.FromFn.{map-range_with_len_more}
-pub use Rattle.std.proofs.lemmas.List.Sums.{count_by-le-length, count_by_more_no, count_by_more_yes, length-filter, sum_by-append, sum_by-cons}
+pub use Rattle.std.proofs.lemmas.List.Sums.{count_by_more_no, count_by_more_yes, length-filter, sum_by-cons}
 pub use Rattle.std.proofs.lemmas.Nat.{and_le_l, one_shl, or_lt, pow-add, pow_below, pow_pos}
 pub use Rattle.std.proofs.lemmas.Nat.Bits.{bit_at-lt, bit_at-pow_other, bit_at-pow_same, bit_at-trailing_zeros, bit_at-zero, bit_at_above}
 pub use Rattle.std.proofs.lemmas.Nat.Bits.{bit_at_clear_other, bit_at_clear_same, bit_at_ones, bit_at_set_other, bit_at_set_same}
 pub use Rattle.std.proofs.lemmas.Nat.Bits.{same_from_bits_below}
 pub use Rattle.std.proofs.lemmas.Slice.{between_to_end}
 pub use Rattle.std.specs.Int.{bit_at, trailing_zeros}
-pub use Rattle.std.specs.List.{AllByRecursion, between, concat, count_by, filter, range_with_len}
+pub use Rattle.std.specs.List.{AllByRecursion, between, concat, filter, range_with_len}
 pub use Rattle.std.specs.Prelude.{bit_or, nat_le, sum_by}
 pub use Rattle.grid_core.proofs.BoardLemmas.{bits_both, bits_either, count_ones-bits, has-within}
 pub use Rattle.grid_core.proofs.CandidateLemmas.{all_below-from, any_below-here, any_below-none, any_below-some, count_below-any, count_below-bound}
@@ -53,8 +53,8 @@ pub use Rattle.engine_core.specs.FillingLaws.{shown_from_test, test_from_shown}
 pub use Rattle.engine_core.specs.Frames.{AreGrids, AreReady, IsFull, IsNoted, IsOpen, IsReady, IsSearched, IsTrial, SameMarks, first_of, found_marks, frame_at}
 pub use Rattle.engine_core.specs.Frames.{level_at, marks_at, marks_of, own_grid, pending_in, pending_of, second_of, walk_of}
 unfoldable pub use Rattle.engine_core.specs.Frames.{levels_of, singles}
-pub use Rattle.engine_core.specs.HouseIndex.{AreAt, AreHousesAt, AreScopes, IsFirstFrom, IsIndex, IsPut, IsRoom, IsScope, Table, number_at, number_in}
-pub use Rattle.engine_core.specs.HouseIndex.{scope_of, start_at}
+pub use Rattle.engine_core.specs.HouseIndex.{AreMarked, AreMarksAt, AreScopes, HasMarked, IsScope, Table, place_bit}
+pub use Rattle.engine_core.specs.HouseIndex.{scope_of}
 pub use Rattle.engine_core.specs.HouseList.{FitsPlaces, IsListed, Listed, listed}
 pub use Rattle.engine_core.specs.HouseRulesLaws.{bound_enough, by_houses-lawful, counted_twice, from_first}
 pub use Rattle.engine_core.specs.HouseSets.{AreDifferent, Decision}
@@ -65,7 +65,7 @@ pub use Rattle.engine_core.specs.PlaceLaws.{AreDistinct, distinct-from, has_plac
 pub use Rattle.engine_core.specs.Position.{IsCheckpoint, IsOnward, IsReturned, IsTaken, Standing}
 pub use Rattle.engine_core.specs.Queue.{IsAround, IsClosedAround, IsClosedBut, IsRested, IsWoken, called_for, calls, is_dead_in}
 unfoldable pub use Rattle.engine_core.specs.Queue.{but, counts_of, visits_left, woken}
-pub use Rattle.engine_core.specs.RuleSystem.{IsBoardOf, IsClosed, IsGridOf, IsIdle, IsInsideAt, IsLawful, IsNext, Needs, RuleSystem}
+pub use Rattle.engine_core.specs.RuleSystem.{IsBoardOf, IsClosed, IsClosedGrid, IsGridOf, IsIdle, IsInsideAt, IsLawful, IsNext, Needs, RuleSystem}
 unfoldable pub use Rattle.engine_core.specs.RuleSystem.{after, has_place, longest, share}
 pub use Rattle.engine_core.specs.Search.{Level}
 unfoldable pub use Rattle.engine_core.specs.Search.{branches_from, pending}

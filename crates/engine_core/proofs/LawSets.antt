@@ -1,12 +1,10 @@
 -- The laws that the goals of a file use, by the file's name.
 use Rattle.engine_core.proofs.Common.{bound_enough, by_houses-lawful, ends-close, ends-more, last-le, length-pieces, length-set, piece-at, piece-ends, sets-bits, shown_from_test, test_from_shown}
 use Rattle.engine_core.proofs.ClosingLemmas.{closure_inside, closure_closed, closure_largest}
-use Rattle.engine_core.proofs.IndexLemmas.{has_place-none, number_at-none, not_taken, summed-none, summed-sum, summed-more, sum_below-more, ascends, ends_in, houses-at, next-at, nth-at, scopes-wider, index-none, counts_same, houses_of_places, index-room, index-turn, put-none, put-room, put-more, number_at-more}
-use Rattle.engine_core.proofs.CallLemmas.{upto-first}
+use Rattle.engine_core.proofs.IndexLemmas.{mark-first, mark-more, marked-first, marked-more, marks-at, next-marked, joined-first, joined-more}
 use Rattle.engine_core.proofs.ListedLemmas.{scopes-fit, table-houses}
 use Rattle.engine_core.proofs.PickLemmas.{pick-is}
-use Rattle.engine_core.proofs.PieceLemmas.{pieces-joined, closed-in, listed-close, total-closed, listed-more, last-at, few-listed}
-use Rattle.engine_core.proofs.PlaceCounts.{counted-few, counted-place}
+use Rattle.engine_core.proofs.PieceLemmas.{closed-in, listed-close, total-closed, listed-more, last-at}
 use Rattle.engine_core.proofs.TrialLemmas.{tried-first, trials-counted}
 use Rattle.engine_core.proofs.VerdictLemmas.{outcome-true, outcome-counts, spent-counts, found_iff}
 use Rattle.engine_core.proofs.WalkLemmas.{walk-once, walk-unfold}
@@ -17,39 +15,12 @@ use Rattle.engine_core.proofs.SweepLemmas.{total-bound}
 use Rattle.engine_core.proofs.TrailLemmas.{put_back-none, trail-none}
 use Rattle.engine_core.proofs.WaitLemmas.{lowest_left, none_left, waiting-enqueue, waiting-dequeue}
 
-pub ruleset house_index_laws = (
-  counted-few,
-  counted-place,
-  has_place-none,
-  number_at-none,
-  not_taken,
-  summed-none,
-  summed-sum,
-  summed-more,
-  sum_below-more,
-  ascends,
-  ends_in,
-  houses-at,
-  next-at,
-  nth-at,
-  scopes-wider,
-  index-none,
-  counts_same,
-  houses_of_places,
-  index-room,
-  index-turn,
-  put-none,
-  put-room,
-  put-more,
-  number_at-more,
-  few-listed,
-  length-set,
-)
+pub ruleset house_index_laws = (mark-first, mark-more, marked-first, marked-more, marks-at, next-marked, joined-first, joined-more, length-set)
 
-pub ruleset house_rules_laws = (scopes-fit, table-houses, upto-first)
+pub ruleset house_rules_laws = (scopes-fit, table-houses)
 
 pub ruleset house_list_laws =
-    (last-le, pieces-joined, closed-in, ends-close, listed-close, length-pieces, total-closed, ends-more, listed-more, piece-at, piece-ends, last-at)
+    (last-le, closed-in, ends-close, listed-close, length-pieces, total-closed, ends-more, listed-more, piece-at, piece-ends, last-at)
 
 pub ruleset laws_laws = (
   by_houses-lawful,

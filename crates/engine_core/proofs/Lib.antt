@@ -27,8 +27,8 @@ pub mod CountLemmas
 pub mod EndLemmas
 pub mod SearchingLemmas
 pub mod PieceLemmas
-pub mod PlaceCounts
 pub mod IndexLemmas
 pub mod ListedLemmas
 pub mod PositionLemmas
+pub mod PlaneMarks
 pub mod LawSets

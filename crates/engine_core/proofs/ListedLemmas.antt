@@ -1,7 +1,7 @@
 -- Rules whose houses are listed: what their table says, and what a visit leaves.
-use Rattle.engine_core.proofs.Common.{AreHousesAt, AreScopes, AreSetsOf, Bool, Candidates, Decision, IsBitsOf, IsBoardOf, IsKept, IsLawful, IsScope, IsWithin, Layout, List, RuleSystem, Table, after, ap, arith, bits-of_values, cases_Bool, cells_of, common_steps, count_below, false_from_ne_true, fun_ext, has, has_bit, has_place, has_place-at, has_place-here, inl, inr, kept_in, length, length-take, not, refl, scope_of, slice_index, strikes_at, strikes_at-in_scope, strikes_at-place, sym, take, true, true≢false, ℕ, ◌&&◌, ◌<◌, ◌∙◌, ◌≡◌, ◌≤◌}
+use Rattle.engine_core.proofs.Common.{AreMarksAt, AreScopes, AreSetsOf, Bool, Candidates, Decision, IsBitsOf, IsBoardOf, IsKept, IsLawful, IsScope, IsWithin, Layout, List, RuleSystem, Table, after, ap, arith, bits-of_values, cases_Bool, cells_of, common_steps, false_from_ne_true, fun_ext, has, has_bit, has_place, has_place-at, has_place-here, inl, inr, is_waiting, kept_in, length, length-take, not, refl, scope_of, slice_index, strikes_at, strikes_at-in_scope, strikes_at-place, sym, take, true, true≢false, ℕ, ◌&&◌, ◌/◌, ◌||◌, ◌<◌, ◌∙◌, ◌≡◌, ◌≤◌}
+use Rattle.engine_core.specs.Waiting.{AreWokenAt}
 use Rattle.engine_core.specs.ListedHouses.{AreScopesOf, table_of}
-use Rattle.engine_core.proofs.IndexLemmas.{nth-at}
 use Rattle.engine_core.proofs.QueueLemmas.{scope-in}
 
 -- the lists are of different places of the board
@@ -21,22 +21,15 @@ module _ {p : RuleSystem} {scopes : List (List ℕ)} {table : Table} (listed : t
   pub table-houses : length table.scopes ≡ p.houses
   table-houses = rw listed (sym are.as_many)
 
-  -- what the table says of a place, the rules say of it
-  pub table-says : (place : ℕ) (says : (ℕ → Bool) → ℕ → Type 0)
-      → says (λ h. has_place (scope_of table.scopes h) place) (length table.scopes)
-      → says (λ h. has_place (p.scope h) place) p.houses
-  table-says place says said = rw (fun_ext (λ h. ap (λ xs. has_place xs place) (table-scope h)), table-houses) at said
-
-  -- what it lists as the houses of a place are those that have it, ascending
-  pub housed-at : (place : ℕ) {k : ℕ} (at : List ℕ) → AreHousesAt table.scopes place at → k < length at
-      → (slice_index at k < p.houses) × (has_place (p.scope (slice_index at k)) place ≡ true)
-      × (count_below (λ h. has_place (p.scope h) place) (slice_index at k) ≡ k)
-  housed-at place {k} at houses lt = table-says place
-      (λ test n. (slice_index at k < n) × (test (slice_index at k) ≡ true)
-      × (count_below test (slice_index at k) ≡ k)) (nth-at table.scopes place k at houses lt)
-
-  pub housed-all : (place : ℕ) (at : List ℕ) → AreHousesAt table.scopes place at → count_below (λ h. has_place (p.scope h) place) p.houses ≡ length at
-  housed-all place at houses = grind (arith, common_steps, table-says)
+  -- where its marks of a place are joined to others, the houses that have the place are woken
+  pub marks-wake : (place : ℕ) {marks : List ℕ} (before now : List ℕ) → AreMarksAt table.scopes place marks
+      → ((j : ℕ) → j / 64 < length marks → is_waiting now j ≡ (is_waiting before j || is_waiting marks j))
+      → AreWokenAt p place before now
+  marks-wake place before now a joined = record {
+    marks = λ j lt.
+        let inside : j < length table.scopes = omega (arith, table-houses) in
+        joined j (omega (arith, a.as_many)) ∙ ap (λ b. is_waiting before j || b) (a.each j inside ∙ ap (λ xs. has_place xs place) (table-scope j));
+  }
 
   -- ---- the places of a house
   module _ {h : ℕ} (lt : h < p.houses) {places : List ℕ} (is : places ≡ scope_of table.scopes h) where

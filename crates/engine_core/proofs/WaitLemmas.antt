@@ -1,6 +1,5 @@
 -- Marks of houses as the bits of words.
 use Rattle.engine_core.proofs.Common.{Bool, IsNext, List, Some, ap, arith, bit_and, bit_at, bit_at-trailing_zeros, bit_at-zero, bit_at_above, bit_at_clear_other, bit_at_clear_same, bit_at_ones, bit_at_set_other, bit_at_set_same, bit_or, but, cases_eq, cases_lt, common_steps, div-div-eq-div-mul, div-le_self, eq-eqb, eqb, eqb-true, false, get_or, get_or-replicate, get_or-set_other, get_or-set_same, has_bit, inl, inr, is_waiting, length, ne_eqb, not, pow-add, refl, replicate, set, sym, take, take-append_seam, trailing_zeros, true, w64, ℕ, ◌%◌, ◌&&◌, ◌*◌, ◌++◌, ◌+◌, ◌-◌, ◌/◌, ◌<◌, ◌^◌, ◌||◌, ◌∙◌, ◌≡◌, ◌≢◌, ◌≤◌}
-use Rattle.grid_core.proofs.WordLemmas.{either-bits, zero-bits}
 
 -- words that are written back whole
 pub written-back : (n : ℕ) (words rest : List ℕ) → n ≡ length words → take n (words ++ rest) ≡ words
@@ -52,14 +51,6 @@ waiting-enqueue waits h j lt = waiting-word ◌||◌ (λ x. grind (arith, common
     grind (arith, common_steps, cases_eq b (h % 64), bit_at_set_same w64 (get_or waits (h / 64) 0) (h % 64), eq-eqb, ne_eqb))
 
 -- a house is marked where it is called for
-pub waiting-enqueue_if : (waits : List ℕ) (h j bit : ℕ) (called : Bool) → (called ≡ true → bit ≡ 1) → (called ≡ false → bit ≡ 0) → h / 64 < length waits
-    → is_waiting (set waits (h / 64)
-    (bit_or (get_or waits (h / 64) 0) (bit * 2 ^ (h % 64) % 18446744073709551616)))
-    j ≡ (is_waiting waits j || (called && eqb j h))
-waiting-enqueue_if waits h j bit true is off lt = rw (is refl) (waiting-enqueue waits h j lt)
-waiting-enqueue_if waits h j bit false on is lt =
-    rw (is refl) (waiting-word (λ x here. x || false) (λ x. sym or_false) waits h _ j lt (λ b small. grind (arith, common_steps, either-bits, zero-bits)))
-
 pub waiting-dequeue : (waits : List ℕ) (h j : ℕ) → h / 64 < length waits
     → is_waiting (set waits (h / 64)
     (bit_and (get_or waits (h / 64) 0)

@@ -23,7 +23,7 @@ pub use Rattle.engine_core.specs.Needs.{needs_in}
 pub use Rattle.engine_core.specs.Position.{IsCheckpoint, IsOnward, IsReturned, IsTaken, Standing}
 pub use Rattle.engine_core.specs.Queue.{IsAround, IsClosedBut, IsRested, IsWoken, called_for, is_dead_in}
 unfoldable pub use Rattle.engine_core.specs.Queue.{but}
-pub use Rattle.engine_core.specs.RuleSystem.{FitsIn, IsBoardOf, IsClosed, IsGridOf, IsIdle, IsLawful, IsNext, Needs, RuleSystem, needs_of}
+pub use Rattle.engine_core.specs.RuleSystem.{FitsIn, IsBoardOf, IsClosed, IsClosedGrid, IsGridOf, IsIdle, IsLawful, IsNext, Needs, RuleSystem, needs_of}
 unfoldable pub use Rattle.engine_core.specs.RuleSystem.{after, has_place, longest, share}
 pub use Rattle.engine_core.specs.Sets.{IsBitsOf, has_bit}
 unfoldable pub use Rattle.engine_core.specs.Sets.{set_of_bits}

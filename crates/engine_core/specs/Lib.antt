@@ -28,6 +28,7 @@ pub mod Trail
 pub mod Needs
 pub mod Position
 pub mod PositionLaws
+pub mod PlaneStanding
 pub mod Frames
 pub mod Stored
 pub mod TrailPosition

@@ -37,6 +37,12 @@ after p h K c v = K c v && not (p.strikes h K c v)
 abbrev pub IsClosed : RuleSystem → Candidates → Type 0
 IsClosed p K = (h c v : ℕ) → h < p.houses → K c v ≡ true → p.strikes h K c v ≡ false
 
+-- a grid inside the start from which no house strikes anything
+pub record IsClosedGrid (p : RuleSystem) (g : List ℕ) : Type 0 where
+  pub fits : IsGridOf p g
+  pub inside : IsInside (single g) p.start
+  pub closed : IsClosed p (single g)
+
 -- the house strikes no value that its cells still have
 abbrev pub IsIdle : RuleSystem → ℕ → Candidates → Type 0
 IsIdle p h K = (c v : ℕ) → K c v ≡ true → p.strikes h K c v ≡ false

@@ -1,7 +1,7 @@
 -- A board with its trail as a position, and which houses wait. No public contract uses these words.
 use Rattle.std.specs.Prelude.{◌≡◌, ℕ, ◌<◌, ◌≤◌, Bool, true, false, List, length, slice_index_or}
 use Rattle.grid_core.specs.Board.{Layout, has, cells_of}
-use Rattle.grid_core.specs.Candidates.{Candidates}
+use Rattle.grid_core.specs.Candidates.{Candidates, IsInside}
 use Rattle.engine_core.specs.RuleSystem.{RuleSystem, Needs, needs_of, FitsIn, IsBoardOf, after}
 use Rattle.engine_core.specs.ClosingList.{IsDead, IsAlive}
 use Rattle.engine_core.specs.Position.{Standing}
@@ -74,8 +74,9 @@ pub record AreMarks (marks : List ℕ) (live len : ℕ) : Type 0 where
   pub within : (k : ℕ) → k < live → mark_at marks k ≤ len
   pub ascend : (j k : ℕ) → j ≤ k → k < live → mark_at marks j ≤ mark_at marks k
 
--- a walk is under way
+-- a walk is under way, which began inside the start
 pub record IsUnderWay (p : RuleSystem) (s : Placed) : Type 0 where
   pub along : IsAlong p s
+  pub begun : IsInside (back_at s.trail 0) p.start
   pub few : s.marked ≤ p.cells
   pub marked : AreMarks s.marks s.marked s.trail.len

@@ -4,7 +4,7 @@
 ghost use Rattle.std.specs.Prelude.{◌<◌, ◌≡◌, ◌≤◌, IfOk, false, length, refl, true};
 ghost use Rattle.engine_core.specs.Common.{has, SameShape, HasStruck, HasRoom, IsBoardOf, after, needs_of, StillServes, table_of};
 
-use crate::houses::table::HouseTable;
+use crate::houses::table::{HouseTable, join_marks};
 use crate::houses::visit::{apply, gather};
 use crate::mode::Mode;
 use crate::rule_set::RuleSet;
@@ -12,7 +12,6 @@ use crate::rules::Rules;
 use crate::search::position::Searchable;
 use crate::trail::position::TrailPosition;
 use crate::trail::propagators::Propagators;
-use crate::waits::enqueue;
 use grid_core::{Board, Grid};
 use std::alloc::{AllocError, Global};
 
@@ -181,11 +180,12 @@ impl<S: RuleSet> Propagators for HouseRules<S> {
         self.set.filter(house, sets, kept, &mut scratch.work)
     }
 
+    fn completes(&self, scratch: &mut HouseScratch<S::Scratch>, grid: &Grid) -> bool {
+        self.set.completes(&mut scratch.work, grid)
+    }
+
     fn wake(&self, place: usize, waits: &mut [u64]) {
-        let houses = self.table.houses_at(place);
-        for k in 0..houses.len() {
-            enqueue(waits, houses[k] as usize);
-        }
+        join_marks(waits, self.table.marks_at(place));
     }
 }
 

@@ -27,4 +27,4 @@ pub use search::walk::Verdict;
 pub use store::{Sizes, Store};
 pub use trail::position::TrailPosition;
 pub use trail::propagators::Propagators;
-pub use waits::{enqueue, enqueue_if};
+pub use waits::enqueue;

@@ -1,7 +1,7 @@
 //! What only a game knows of rules that are made of listed houses.
 
 ghost use Rattle.std.specs.Prelude.{◌<◌, ◌≡◌, Bool, IfOk, List, ℕ, length};
-ghost use Rattle.engine_core.specs.Common.{has, SameShape, Candidates, RuleSystem, IsLawful, IsGridOf, Needs, needs_of, FitsIn, IsBoardOf, Mode, AreSetsOf, AreSets, IsKept, AreScopesOf, most_turns, is_queue};
+ghost use Rattle.engine_core.specs.Common.{has, SameShape, Candidates, RuleSystem, IsLawful, IsClosedGrid, IsGridOf, Needs, needs_of, FitsIn, IsBoardOf, Mode, AreSetsOf, AreSets, IsKept, AreScopesOf, most_turns, is_queue};
 
 use crate::houses::list::HouseList;
 use crate::mode::Mode;
@@ -89,6 +89,17 @@ pub trait RuleSet: Drop + Sized {
         requires served { serves scratch.old (needs_of (system (puzzle_of self.now))) }
         ensures solution { result ≡ (system (puzzle_of self.now)).is_solution grid.now }
         ensures keeps { (needs : Needs) → serves scratch.old needs → serves scratch.new needs };
+
+    /// Whether the grid, from which no house strikes anything, is a solution. Rules whose houses say all of a solution need
+    /// not look at it.
+    fn completes(&self, scratch: &mut Self::Scratch, grid: &Grid) -> bool
+        requires closed { IsClosedGrid (system (puzzle_of self.now)) grid.now }
+        requires served { serves scratch.old (needs_of (system (puzzle_of self.now))) }
+        ensures solution { result ≡ (system (puzzle_of self.now)).is_solution grid.now }
+        ensures keeps { (needs : Needs) → serves scratch.old needs → serves scratch.new needs }
+    {
+        self.accept(scratch, grid)
+    }
 
     ghost knows: { (set : Self) → known (puzzle_of set) };
 

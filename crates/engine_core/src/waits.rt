@@ -13,16 +13,6 @@ pub fn enqueue(waits: &mut [u64], house: usize)
     waits[word] |= 1 << (house % 64);
 }
 
-/// Marks the house if it may strike. There is no branch on that: it can't be foreseen.
-pub fn enqueue_if(waits: &mut [u64], house: usize, may_strike: bool)
-    requires { house / 64 < length waits.old }
-    ensures { (j : ℕ) → is_waiting waits.new j
-        ≡ (is_waiting waits.old j || (may_strike && (j == house))) }
-{
-    let word = house / 64;
-    waits[word] |= u64::from(may_strike) << (house % 64);
-}
-
 /// Takes the house's mark away.
 pub(crate) fn dequeue(waits: &mut [u64], house: usize)
     requires { house / 64 < length waits.old }

@@ -2,7 +2,7 @@
 #![tactic(auto, using(crate::proofs::LawSets::house_list_laws))]
 
 ghost use Rattle.std.specs.Prelude.{◌++◌, ◌<◌, ◌^◌, ◌∷◌, ◌≡◌, IfOk, OnOk, [], length, slice_index, slice_index_or, sum_by};
-ghost use Rattle.engine_core.specs.Common.{concat, last_end};
+ghost use Rattle.engine_core.specs.Common.{last_end};
 ghost use Rattle.engine_core.specs.HouseList.{FitsPlaces, FitsLists};
 
 use std::alloc::{AllocError, Global};
@@ -87,14 +87,6 @@ impl HouseList {
         ensures few { result < 2 ^ 32 }
     {
         last(&self.ends)
-    }
-
-    /// The places of all closed lists, one list after another.
-    pub(crate) fn all(&self) -> &[u32]
-        ensures { result.now ≡ concat self.now.closed }
-    {
-        let places: &[u32] = &self.places;
-        &places[0..last(&self.ends)]
     }
 
     /// The places of a closed list.

@@ -1,102 +1,58 @@
 //! Houses, and which of them have a place.
 #![tactic(auto, using(crate::proofs::LawSets::house_index_laws))]
 
-ghost use Rattle.std.specs.Prelude.{◌+◌, ◌<◌, ◌==◌, ◌^◌, ◌≡◌, ◌≤◌, IfOk, ℕ, count_by, length, slice_index, suc};
-ghost use Rattle.engine_core.specs.Common.{sum_below, has_place, IsNext, AreBelow, AreDifferent};
-ghost use Rattle.engine_core.specs.HouseIndex.{AreScopes, scope_of, start_at, AreHousesAt, IsIndex, IsRoom, IsPut, IsFirstFrom, AreAt, number_in, IsUnfilled, sum_to};
+ghost use Rattle.std.specs.Prelude.{◌*◌, ◌+◌, ◌/◌, ◌<◌, ◌^◌, ◌||◌, ◌≡◌, ◌≤◌, IfOk, ℕ, length, slice_index};
+ghost use Rattle.engine_core.specs.Common.{has_place, IsNext, is_waiting};
+ghost use Rattle.engine_core.specs.HouseIndex.{AreScopes, scope_of, AreMarksAt, HasMarked};
 
 use crate::houses::list::HouseList;
+use crate::waits::next_waiting;
 use std::alloc::{AllocError, Global};
 use std::marker::Model;
 
-/// Counts how often each place is one of these.
-fn count_places(counts: &mut [u32], places: &[u32])
-    requires within { AreBelow (length counts.old) places.now }
-    requires few { length places.now < 2 ^ 32 }
-    requires none { (c : ℕ) → c < length counts.old → slice_index counts.old c ≡ 0 }
-    ensures as_many { length counts.new ≡ length counts.old }
-    ensures counted { AreAt (length counts.old) (λ c. count_by (λ d. d == c) places.now)
-        counts.new }
+/// Marks the house at each of these places: each place has so many words.
+fn mark_house(marks: &mut [u64], words: usize, house: usize, places: &[u32])
+    requires house_in { house / 64 < words }
+    requires within { (k : ℕ) → k < length places.now
+        → slice_index places.now k * words + words ≤ length marks.old }
+    ensures as_many { length marks.new ≡ length marks.old }
+    ensures marked { HasMarked words house places.now marks.old marks.new }
 {
     for k in 0..places.len() {
-        counts[places[k] as usize] += 1;
+        let word = places[k] as usize * words + house / 64;
+        marks[word] |= 1 << (house % 64);
     }
 }
 
-/// Writes in place of each number its sum with those before it, and gives the sum of all.
-fn sum_up(counts: &mut [u32]) -> u32
-    requires { sum_below (slice_index counts.old) (length counts.old) < 2 ^ 32 }
-    ensures as_many { length counts.new ≡ length counts.old }
-    ensures sums { AreAt (length counts.old) (sum_to counts.old) counts.new }
-    ensures all { result ≡ sum_below (slice_index counts.old) (length counts.old) }
+/// Marks each house that is marked in the second words.
+pub(crate) fn join_marks(waits: &mut [u64], marks: &[u64])
+    requires { length marks.now ≤ length waits.old }
+    ensures { (j : ℕ) → j / 64 < length marks.now
+        → is_waiting waits.new j ≡ (is_waiting waits.old j || is_waiting marks.now j) }
 {
-    let mut sum = 0u32;
-    for place in 0..counts.len() {
-        sum += counts[place];
-        counts[place] = sum;
-    }
-    sum
-}
-
-/// Puts the house before those that stand already at each of its places.
-fn put_house(starts: &mut [u32], houses: &mut [u32], house: u32, places: &[u32])
-    requires within { AreBelow (length starts.old) places.now }
-    requires different { AreDifferent places.now }
-    requires room { IsRoom starts.old (length houses.old) places.now }
-    ensures { IsPut house places.now starts.old houses.old starts.new houses.new }
-{
-    for k in 0..places.len() {
-        let place = places[k] as usize;
-        let start = starts[place] - 1;
-        starts[place] = start;
-        houses[start as usize] = house;
+    for word in 0..marks.len() {
+        waits[word] |= marks[word];
     }
 }
 
-/// Puts all houses, from the last on, each before those that stand already at its places.
-fn put_houses(starts: &mut [u32], houses: &mut [u32], list: &HouseList)
-    requires scopes { AreScopes (length starts.old) list.now.closed }
-    requires none { IsUnfilled list.now.closed starts.old houses.old }
-    ensures { IsIndex (length starts.old) list.now.closed 0 starts.new houses.new }
-{
-    for after in 0..list.len() {
-        let house = list.len() - 1 - after;
-        put_house(starts, houses, house as u32, list.places(house));
-    }
-}
-
-/// The first of the houses that is `from` or later.
-fn first_from(houses: &[u32], from: usize) -> Option<usize>
-    ensures { IsFirstFrom houses.now from result }
-{
-    for k in 0..houses.len() {
-        let house = houses[k] as usize;
-        if house >= from {
-            return Some(house);
-        }
-    }
-    None
-}
-
-/// The houses of a board of `cells` cells, and for each place those that have it: these stand in one list, place by
-/// place, in four bytes each. `starts` says for each place where its houses start.
+/// The houses of a board of `cells` cells, and for each place which houses have it: a bit for each, in words of 64. The
+/// words stand in one list, place by place.
 #[derive(Drop)]
 pub(crate) struct HouseTable {
     cells: usize,
     pub(crate) list: HouseList,
-    starts: Vec<u32>,
-    houses: Vec<u32>,
+    marks: Vec<u64>,
 }
 
 impl Model for HouseTable {
-    ghost use Rattle.std.specs.Prelude.{◌+◌};
-    ghost use Rattle.engine_core.specs.HouseIndex.{Table, IsIndex};
+    ghost use Rattle.std.specs.Prelude.{length};
+    ghost use Rattle.engine_core.specs.HouseIndex.{Table, AreMarked};
 
     ghost Value = { Table };
 
     ghost view = { λ t. record { cells = t.cells; scopes = t.list.closed } };
 
-    ghost invariant = { λ t. IsIndex (t.cells + 1) t.list.closed 0 t.starts.items t.houses.items };
+    ghost invariant = { λ t. AreMarked t.cells t.list.closed (length t.list.closed) t.marks.items };
 }
 
 impl HouseTable {
@@ -110,28 +66,24 @@ impl HouseTable {
         requires scopes { AreScopes cells list.closed }
         ensures { IfOk result (λ table. table ≡ record { cells = cells; scopes = list.closed }) }
     {
-        let mut starts = vec![in alloc; 0u32; cells + 1]?;
-        let ends: &mut [u32] = &mut starts;
-        count_places(ends, list.all());
-        let all = sum_up(ends);
-        let mut houses = vec![in alloc; 0u32; all as usize]?;
-        put_houses(&mut starts, &mut houses, &list);
-        Ok(HouseTable {
-            cells,
-            list,
-            starts,
-            houses,
-        })
+        let words = list.len() / 64 + 1;
+        let mut marks = vec![in alloc; 0u64; cells * words]?;
+        let all: &mut [u64] = &mut marks;
+        for house in 0..list.len() {
+            mark_house(all, words, house, list.places(house));
+        }
+        Ok(HouseTable { cells, list, marks })
     }
 
-    /// The houses that have the place, ascending.
-    pub(crate) fn houses_at(&self, place: usize) -> &[u32]
+    /// The marks of the houses that have the place.
+    pub(crate) fn marks_at(&self, place: usize) -> &[u64]
         requires { place < self.now.cells }
-        ensures { AreHousesAt self.now.scopes place result.now }
+        ensures { AreMarksAt self.now.scopes place result.now }
     {
-        let (starts, houses): (&[u32], &[u32]) = (&self.starts, &self.houses);
-        let from = starts[place] as usize;
-        &houses[from..starts[place + 1] as usize]
+        let words = self.list.len() / 64 + 1;
+        let marks: &[u64] = &self.marks;
+        let from = place * words;
+        &marks[from..from + words]
     }
 
     /// The least house at or after `from` that has the place.
@@ -140,6 +92,6 @@ impl HouseTable {
         ensures { IsNext (λ h. has_place (scope_of self.now.scopes h) place)
             (length self.now.scopes) from result }
     {
-        first_from(self.houses_at(place), from)
+        next_waiting(self.marks_at(place), from, self.list.len())
     }
 }

@@ -12,27 +12,24 @@ use crate::search::position::{Position, Taken};
 use crate::trail::cells::{better_cell, write_grid};
 use crate::trail::propagators::Propagators;
 use crate::trail::trailed::TrailedBoard;
-use crate::waits::{dequeue, dequeue_if, enqueue_if, next_around};
+use crate::waits::{dequeue, dequeue_if, next_around};
 use grid_core::{Board, Grid};
 use std::alloc::{AllocError, Global};
 use std::marker::Model;
 
-/// Marks the houses that a closing begins with: those that have the place, or where none is named those that may strike at
-/// the start.
+/// Marks the houses that a closing begins with: those that have the place, or where none is named all.
 fn wait_from<R: Propagators>(rules: &R, from: Option<usize>, waits: &mut [u64])
     requires place_in { IfSome from (λ place. place < (R.system rules.now).cells) }
     requires room { words_of (R.system rules.now).houses ≤ length waits.old }
     ensures { (K : Candidates) → IsClosedBut (R.system rules.now) K from
         → IsRested (R.system rules.now) K (is_waiting waits.new) }
 {
-    waits.fill(0);
     match from {
-        None => {
-            for house in 0..rules.houses() {
-                enqueue_if(waits, house, rules.may_strike(house));
-            }
+        None => waits.fill(u64::MAX),
+        Some(place) => {
+            waits.fill(0);
+            rules.wake(place, waits);
         }
-        Some(place) => rules.wake(place, waits),
     }
 }
 
@@ -257,7 +254,7 @@ impl<R: Propagators> Position for TrailPosition<R> {
 
     fn accept(&mut self, rules: &R, grid: &mut Grid) -> bool {
         write_grid(self.trailed.board(), rules.cells(), grid);
-        rules.accept(&mut self.scratch, grid)
+        rules.completes(&mut self.scratch, grid)
     }
 
     ghost lawful = { R.lawful };

@@ -1,12 +1,12 @@
 //! What a board with a trail asks of rules, beside what they are: to filter the sets of a house's cells, and to mark the
 //! houses that a change of a cell calls for.
 
-ghost use Rattle.std.specs.Prelude.{◌<◌, ◌≡◌, ◌≤◌, false, length};
-ghost use Rattle.engine_core.specs.Common.{has, Candidates, needs_of, IsBoardOf, IsIdle, AreSetsOf, AreSets, IsKept, words_of, StillServes, AreWokenAt};
+ghost use Rattle.std.specs.Prelude.{◌<◌, ◌≡◌, ◌≤◌, length};
+ghost use Rattle.engine_core.specs.Common.{has, Candidates, needs_of, IsBoardOf, IsClosedGrid, AreSetsOf, AreSets, IsKept, words_of, StillServes, AreWokenAt};
 
 use crate::houses::visit::read_sets;
 use crate::rules::Rules;
-use grid_core::Board;
+use grid_core::{Board, Grid};
 
 /// Rules that filter a house by the sets of its cells.
 pub trait Propagators: Rules {
@@ -43,13 +43,15 @@ pub trait Propagators: Rules {
             → IsKept (Self.system self.now) house K result kept.new }
         ensures keeps { StillServes Self.serves scratch.old scratch.new };
 
-    /// Whether the house may strike anything from the board that a search starts from. Where not, it need not wait then.
-    fn may_strike(&self, house: usize) -> bool
-        requires { house < (Self.system self.now).houses }
-        ensures { result ≡ false
-            → IsIdle (Self.system self.now) house (Self.system self.now).start }
+    /// Whether the grid, from which no house strikes anything, is a solution. Rules whose houses say all of a solution need
+    /// not look at it.
+    fn completes(&self, scratch: &mut Self::Scratch, grid: &Grid) -> bool
+        requires closed { IsClosedGrid (Self.system self.now) grid.now }
+        requires served { Self.serves scratch.old (needs_of (Self.system self.now)) }
+        ensures solution { result ≡ (Self.system self.now).is_solution grid.now }
+        ensures keeps { StillServes Self.serves scratch.old scratch.new }
     {
-        true
+        self.accept(scratch, grid)
     }
 
     /// Marks the houses that have the place.

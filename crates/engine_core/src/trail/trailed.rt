@@ -76,6 +76,7 @@ impl TrailedBoard {
     pub(crate) fn start<R: Propagators>(&mut self, rules: &R)
         requires board_of { IsBoardOf (R.system rules.now) self.old.board }
         ensures start { has self.new.board ≡ (R.system rules.now).start }
+        ensures here { back_at self.new 0 ≡ has self.new.board }
         ensures shape { SameShape self.old.board self.new.board }
     {
         rules.start(&mut self.board); // whatever it held

@@ -40,6 +40,7 @@ returns-clause-walks g c =
             fits = r.walks.along.fits;
             board_of = IsBoardOf-same r.walks.along.board_of c.undo.ensures.shape;
           };
+      begun = rw (c.undo.ensures.back 0 (omega arith)) r.walks.begun;
       few = omega (arith, r.walks.few, r.marked);
       marked = rw c.undo.ensures.len (marks-returned r.walks.marked r.marked (read g (goal.at.returns-clause-walks g c).After-index));
     }
