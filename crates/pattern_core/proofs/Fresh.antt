@@ -24,7 +24,7 @@ roomy {clue} cells longest n positive some each long from = record {
     all (m ∷ clue) each = (each 0 (omega arith), all clue (λ k lt. each (suc k) (omega arith)))
 
 -- each cell of the start has both values, and no other
-has_both : {cells c v : ℕ} → c < cells → v < 2 → all_of cells 2 c v ≡ true
+pub has_both : {cells c v : ℕ} → c < cells → v < 2 → all_of cells 2 c v ≡ true
 unfolding all_of
 has_both lt small = grind (arith, common_steps, lt-ltb)
 

@@ -11,3 +11,8 @@ pub mod TableSteps
 pub mod MeetLemmas
 pub mod Roomy
 pub mod Fresh
+pub mod LineWords
+pub mod LineTakings
+pub mod WaitingLines
+pub mod ClosingLines
+pub mod PositionSteps

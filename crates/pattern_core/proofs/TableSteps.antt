@@ -89,7 +89,7 @@ kept_none = record { as_many = refl; bits = λ k v lt small. absurd (omega arith
 module _ (n : ℕ) (t : Track) (sets : List ℕ) (reached : ℕ → Bool) (at : ℕ) (r : AreReached n t sets reached at) (lt : at < length sets)
     (next : ℕ → Bool) (after : some_leads t (drop (at + 1) (sets_of sets)) any_cells ≡ next) where
   -- whether a cell of this set leads on
-  abbrev leads_by : ℕ → Bool
+  abbrev pub leads_by : ℕ → Bool
   leads_by set = any_below (λ p. reached p && ahead t set next p) n
 
   -- a test of the set stands before or behind
@@ -98,7 +98,7 @@ module _ (n : ℕ) (t : Track) (sets : List ℕ) (reached : ℕ → Bool) (at : 
   pulled false way = false_from_ne_true (any_below (λ p. reached p && false) n) (λ on.
       let w = any_below-some (λ p. reached p && false) n on in true≢false (sym (and_parts _ false w.2).1))
 
-  shown_at : (v : ℕ) → v < 2 → some_leads t (sets_of sets) (cell_is at v) 0 ≡ (has_bit (get_or sets at 0) v && leads_by (set_for v))
+  pub shown_at : (v : ℕ) → v < 2 → some_leads t (sets_of sets) (cell_is at v) 0 ≡ (has_bit (get_or sets at 0) v && leads_by (set_for v))
   unfolding cell_is
   shown_at v small =
       ap (λ h. some_leads t (sets_of sets) h 0)
@@ -126,6 +126,13 @@ module _ (n : ℕ) (t : Track) (sets : List ℕ) (reached : ℕ → Bool) (at : 
       twice true y = refl
       twice false y = refl
 
+  -- whether it leads on where it is white, and where it is black
+  pub leads_white : (white : ℕ → Bool) → IsBelow n t → ((p : ℕ) → p < n → white p ≡ led t 1 reached p) → any_below (λ p. white p && next p) n ≡ leads_by 1
+  leads_white white below is = ways_on 1 n below reached white (ahead t 1 next) next is (λ p. refl)
+
+  pub leads_black : (black : ℕ → Bool) → IsBelow n t → ((p : ℕ) → p < n → black p ≡ led t 2 reached p) → any_below (λ p. black p && next p) n ≡ leads_by 2
+  leads_black black below is = ways_on 2 n below reached black (ahead t 2 next) next is (λ p. refl)
+
   -- the cell keeps those of its values by which a way leads from what it reaches
   pub kept_cell : (white black : ℕ → Bool) (kept : List ℕ) (shown : ℕ) → IsBelow n t
       → ((p : ℕ) → p < n → white p ≡ led t 1 reached p)
@@ -138,8 +145,8 @@ module _ (n : ℕ) (t : Track) (sets : List ℕ) (reached : ℕ → Bool) (at : 
       ∙ ap₂ (λ x y. has_bit x v && y) same (by v small))
     where
       by : (v : ℕ) → v < 2 → has_bit shown v ≡ leads_by (set_for v)
-      by zero small = shows_white ∙ ways_on 1 n below reached white (ahead t 1 next) next is_white (λ p. refl)
-      by (suc zero) small = shows_black ∙ ways_on 2 n below reached black (ahead t 2 next) next is_black (λ p. refl)
+      by zero small = shows_white ∙ leads_white white below is_white
+      by (suc zero) small = shows_black ∙ leads_black black below is_black
       by (suc (suc v)) small = absurd (omega arith)
 
 -- ---- all cells

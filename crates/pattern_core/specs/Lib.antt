@@ -5,3 +5,5 @@ pub mod LineLaws
 pub mod Faults
 pub mod Track
 pub mod LineClues
+pub mod LinePlanes
+pub mod PatternPosition

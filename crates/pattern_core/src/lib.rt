@@ -8,6 +8,7 @@ mod line_cells;
 mod line_clue;
 mod lines;
 mod meets;
+mod planes;
 mod slots;
 mod table;
 mod track;

@@ -20,8 +20,8 @@ pub(crate) const LONGEST: usize = 120;
 /// The rows of a table for a line, in words of either width.
 #[derive(Drop)]
 pub(crate) struct Rows {
-    short: [u64; LONGEST + 1],
-    long: [u128; LONGEST + 1],
+    pub(crate) short: [u64; LONGEST + 1],
+    pub(crate) long: [u128; LONGEST + 1],
 }
 
 impl Rows {

@@ -1,11 +1,11 @@
 //! The lines of a puzzle as the houses of a search: the columns from the left, and then the rows from the top.
 
-ghost use Rattle.std.specs.Prelude.{◌≡◌, ◌<◌, ◌≤◌, IfOk, true, length, refl};
+ghost use Rattle.std.specs.Prelude.{◌≡◌, ◌<◌, ◌≤◌, IfOk, false, true, length, refl};
 ghost use Rattle.grid_core.specs.Extent.{IsExtent, max_side};
 ghost use Rattle.grid_core.specs.Board.{has, SameShape};
 ghost use Rattle.grid_core.specs.Lines.{lines_of};
 ghost use Rattle.engine_core.specs.Closing.{HasStruck};
-ghost use Rattle.engine_core.specs.RuleSystem.{IsBoardOf, after};
+ghost use Rattle.engine_core.specs.RuleSystem.{IsBoardOf, IsIdle, after};
 ghost use Rattle.engine_core.specs.declared.mode.Mode.TheVariants.{Queue};
 ghost use Rattle.pattern_core.specs.Lines.{clue_of};
 ghost use Rattle.pattern_core.specs.LineClues.{numbers_in};
@@ -13,7 +13,8 @@ ghost use Rattle.pattern_core.specs.LineRules.{line_rules};
 
 use crate::line_cells::write_places;
 use crate::line_clue::{LONGEST, LineClue, Rows};
-use engine_core::{Mode, Propagators, Rules, Searchable, TrailPosition, apply, enqueue, gather};
+use crate::planes::position::PatternPosition;
+use engine_core::{Mode, Rules, Searchable, apply, gather};
 use gameid_core::PatternPuzzle;
 use grid_core::{Board, Grid, Size, line_count, line_len, line_place};
 use std::alloc::{AllocError, Global};
@@ -47,7 +48,7 @@ impl Model for PatternLines {
 /// What a visit of a line works in.
 #[derive(Drop)]
 pub struct LineScratch {
-    rows: Box<Rows>,
+    pub(crate) rows: Box<Rows>,
 }
 
 impl PatternLines {
@@ -65,7 +66,7 @@ impl PatternLines {
     }
 
     /// The size of the grid.
-    fn size(&self) -> Size
+    pub(crate) fn size(&self) -> Size
         ensures { result ≡ self.now.pattern.size }
     {
         self.size
@@ -79,11 +80,20 @@ impl PatternLines {
     }
 
     /// The clue of a line.
-    fn clue(&self, line: usize) -> &LineClue
+    pub(crate) fn clue(&self, line: usize) -> &LineClue
         requires { line < lines_of self.now.pattern.size }
         ensures { numbers_in result.now ≡ clue_of self.now.pattern line }
     {
         &self.clues[line]
+    }
+
+    /// Whether the line may strike anything from the board that a search starts from.
+    pub(crate) fn may_strike(&self, line: usize) -> bool
+        requires { line < lines_of self.now.pattern.size }
+        ensures { result ≡ false → IsIdle (line_rules self.now.pattern) line
+            (line_rules self.now.pattern).start }
+    {
+        !self.clue(line).is_roomy(line_len(self.size(), line))
     }
 }
 
@@ -183,42 +193,8 @@ impl Rules for PatternLines {
     }
 }
 
-impl Propagators for PatternLines {
-    type Noted = ();
-
-    #[tactic(auto, using(grid_core::proofs::LineLemmas::line_laws))]
-    fn read(&self, house: usize, board: &Board, sets: &mut [u32]) {
-        let size = self.size();
-        for k in 0..sets.len() {
-            sets[k] = board.bits(line_place(size, house, k));
-        }
-    }
-
-    #[tactic(auto, using(grid_core::proofs::LineLemmas::line_laws))]
-    fn filter(
-        &self,
-        house: usize,
-        sets: &[u32],
-        kept: &mut [u32],
-        scratch: &mut LineScratch,
-    ) -> bool {
-        kept.copy_from_slice(sets);
-        self.clue(house).filter(kept, &mut scratch.rows)
-    }
-
-    fn may_strike(&self, house: usize) -> bool {
-        !self.clue(house).is_roomy(line_len(self.size(), house))
-    }
-
-    fn wake(&self, place: usize, waits: &mut [u64]) {
-        let w = self.columns();
-        enqueue(waits, place % w);
-        enqueue(waits, w + place / w);
-    }
-}
-
 impl Searchable for PatternLines {
-    type Position = TrailPosition<PatternLines>;
+    type Position = PatternPosition;
 
     ghost position_of = { λ _. refl };
 }

@@ -6,7 +6,8 @@
 //! The rows are filled from the last cell backwards; then one word, the slots that can be reached, goes forwards, and a
 //! value of a cell stays where the two meet. What a cell's set lets a line do is looked up by the set.
 
-ghost use Rattle.std.specs.Prelude.{◌≡◌, ◌<◌, false, length};
+ghost use Rattle.std.specs.Prelude.{◌≡◌, ◌*◌, ◌+◌, ◌<◌, false, length};
+ghost use Rattle.std.specs.Int.{from_bool};
 ghost use Rattle.engine_core.specs.Sets.{has_bit};
 ghost use Rattle.pattern_core.specs.Lines.{IsDecidedBy, ArePositive};
 ghost use Rattle.pattern_core.specs.Track.{along, spelled, track_of, AreMoves, AreAhead, AreLed, IsBelow, AreRows, AreKept};
@@ -20,15 +21,15 @@ pub(crate) const BOTH: u32 = 3;
 /// The steps of a line along a clue, and what a cell lets it do, looked up by the cell's set: from which slots the line
 /// goes on, and at which it may stay.
 #[derive(Drop)]
-struct Moves<P: Slots> {
-    steps: TrackSlots<P>,
+pub(crate) struct Moves<P: Slots> {
+    pub(crate) steps: TrackSlots<P>,
     on: P::Masks,
     stays: P::Masks,
     ghost are: { AreMoves (along P.has steps) (P.has_by on) (P.has_by stays) },
 }
 
 /// What a cell lets a line do along a clue.
-fn moves_of<P: Slots>(clue: &SpelledClue<P>) -> Moves<P>
+pub(crate) fn moves_of<P: Slots>(clue: &SpelledClue<P>) -> Moves<P>
     ensures track { along P.has result.steps ≡ track_of (spelled clue.now) }
     ensures positive { ArePositive clue.now }
     ensures below { IsBelow P.room (along P.has result.steps) }
@@ -43,7 +44,7 @@ fn moves_of<P: Slots>(clue: &SpelledClue<P>) -> Moves<P>
 
 /// From which slots there is a way to the end by a cell of this set, by those from which there is one after it.
 #[tactic(auto, unfolding(crate::specs::Track::ahead))]
-fn ahead_of<P: Slots>(moves: &Moves<P>, set: u32, after: P) -> P
+pub(crate) fn ahead_of<P: Slots>(moves: &Moves<P>, set: u32, after: P) -> P
     ensures { AreAhead P.has moves.now.steps set after result }
 {
     let next = P::mask(&moves.on, set).both(after.back());
@@ -51,7 +52,7 @@ fn ahead_of<P: Slots>(moves: &Moves<P>, set: u32, after: P) -> P
 }
 
 /// Which slots are reached by a cell of this set, by those that are reached before it.
-fn led_by<P: Slots>(moves: &Moves<P>, set: u32, reached: P) -> P
+pub(crate) fn led_by<P: Slots>(moves: &Moves<P>, set: u32, reached: P) -> P
     ensures { AreLed P.room P.has moves.now.steps set reached result }
 {
     let next = P::mask(&moves.on, set).both(reached).on();
@@ -78,9 +79,10 @@ pub(crate) fn ways_of<P: Slots>(steps: TrackSlots<P>, reached: P) -> Ways<P>
 }
 
 /// The set of the values that are shown.
-fn set_of(white: bool, black: bool) -> u32
+pub(crate) fn set_of(white: bool, black: bool) -> u32
     ensures white { has_bit result 0 ≡ white }
     ensures black { has_bit result 1 ≡ black }
+    ensures value { result ≡ from_bool white + 2 * from_bool black }
 {
     u32::from(white) + 2 * u32::from(black)
 }

@@ -1,0 +1,272 @@
+-- What is taken from a line of planes, and what its house strikes.
+use Rattle.pattern_core.proofs.Common.{Bool, Candidates, Extent, List, Pattern, after, and-true, and_parts, any_below, any_below-here, any_below-none, any_below-some, ap, ap₂, arith, cases_Bool, cases_eq, clue_of, cond, eq-eqb, eqb, eqb-true, false, false_from_ne_true, fun_ext, has_bit, has_place, has_runs, in_grid, kept_in, length, length-line_places, line_cells, line_places, line_rules, lines_of, lt-ltb, not, or_cases, refl, slice_index, strikes_by_fillings, sym, true, true≢false, visited-after, ℕ, ◌%◌, ◌&&◌, ◌*◌, ◌+◌, ◌-◌, ◌/◌, ◌<◌, ◌||◌, ◌∙◌, ◌≡◌}
+use Rattle.std.proofs.Common.{inl, inr}
+use Rattle.std.proofs.lemmas.Bool.{and_from, and_right, cases_lt, le-ltb}
+use Rattle.std.proofs.lemmas.Grind.{common_steps}
+use Rattle.std.proofs.lemmas.Nat.{div-mul-add, mod-mul-add, div-add-mod', div_below, mod_below}
+use Rattle.grid_core.specs.Candidates.{IsWithin as HasCells}
+unfoldable use Rattle.grid_core.specs.Candidates.{count_below}
+use Rattle.grid_core.proofs.CandidateLemmas.{count_below-none, count_below-pos, count_below-same, is_dead-each, is_dead-here, is_dead-not}
+use Rattle.grid_core.specs.Planes.{ArePlanes, Layers, Taking, at_line, line_len, lines_beside, number_of}
+unfoldable use Rattle.grid_core.specs.Planes.{covers, crosses, has, without_taking}
+use Rattle.grid_core.specs.declared.planes.line.Line.{Line}
+use Rattle.grid_core.specs.declared.planes.line.Line.TheVariants.{Row, Column}
+use Rattle.grid_core.proofs.LineLemmas.{place_in_column, place_in_row}
+use Rattle.grid_core.proofs.PlaneLemmas.{has-within}
+use Rattle.grid_core.proofs.RowLemmas.{has-at}
+use Rattle.engine_core.specs.HouseSetsLaws.{sets-bits}
+use Rattle.engine_core.specs.ClosingList.{IsAlive, IsDead}
+use Rattle.engine_core.specs.PlaceLaws.{has_place-at, has_place-here}
+unfoldable use Rattle.engine_core.specs.Queue.{counts_of}
+use Rattle.engine_core.specs.Sets.{IsBitsOf}
+use Rattle.pattern_core.specs.LinePlanes.{AreDecided, house_of}
+unfoldable use Rattle.pattern_core.specs.LinePlanes.{has_lost}
+
+-- ---- the cells of a line
+abbrev pub cell_of : Extent → Line → ℕ → ℕ
+cell_of size (Row y) k = y * size.w + k
+cell_of size (Column x) k = k * size.w + x
+
+pub house-in : (size : Extent) (line : Line) → number_of line < lines_beside size line → house_of size line < lines_of size
+house-in size (Row y) lt = omega arith
+house-in size (Column x) lt = omega arith
+
+pub line-long : (size : Extent) (line : Line) → number_of line < lines_beside size line → line_cells size (house_of size line) ≡ line_len size line
+line-long size (Row y) lt = grind (arith, common_steps, cases_Bool)
+line-long size (Column x) lt = grind (arith, common_steps, cases_Bool, lt-ltb)
+
+pub cell-at : (size : Extent) (line : Line) (k : ℕ) → number_of line < lines_beside size line → k < line_len size line
+    → slice_index (line_places size (house_of size line)) k ≡ cell_of size line k
+cell-at size (Row y) k lt less = let e : (size.w + y) - size.w ≡ y = omega arith in place_in_row size (size.w + y) k (omega arith) less ∙ ap (λ n. n * size.w + k) e
+cell-at size (Column x) k lt less = place_in_column size x k lt less
+
+pub read-at : (p : Layers) (line : Line) (k v : ℕ) → number_of line < lines_beside p.size line → k < line_len p.size line → v < 2
+    → has p (cell_of p.size line k) v ≡ at_line p line v k
+read-at p (Row y) k v lt less low = has-at p y k v less low
+read-at p (Column x) k v lt less low = has-at p k x v lt low
+
+-- a cell of a line among these places, and the place of one
+pub crossed-at : (size : Extent) (line : Line) (bits k : ℕ) → number_of line < lines_beside size line → k < line_len size line
+    → crosses line bits (cell_of size line k / size.w) (cell_of size line k % size.w) ≡ has_bit bits k
+unfolding crosses
+crossed-at size (Row y) bits k lt less = rw (div-mul-add y size.w k less, mod-mul-add y size.w k less, eq-eqb y y refl) refl
+crossed-at size (Column x) bits k lt less = rw (div-mul-add k size.w x lt, mod-mul-add k size.w x lt, eq-eqb x x refl) refl
+
+pub crossed-some : (size : Extent) (line : Line) (bits c : ℕ) → 0 < size.w → c < size.w * size.h → crosses line bits (c / size.w) (c % size.w) ≡ true
+    → (k : ℕ) × (k < line_len size line) × (has_bit bits k ≡ true) × (cell_of size line k ≡ c)
+unfolding crosses
+crossed-some size (Row y) bits c some lt on =
+    let w = and_parts (eqb (c / size.w) y) (has_bit bits (c % size.w)) on in
+    (c % size.w, mod_below c size.w some, w.1, rw (← eqb-true _ _ w.0) (div-add-mod' c size.w))
+crossed-some size (Column x) bits c some lt on =
+    let w = and_parts (eqb (c % size.w) x) (has_bit bits (c / size.w)) on in
+    (c / size.w, div_below c size.w size.h some (omega arith), w.1, rw (← eqb-true _ _ w.0) (div-add-mod' c size.w))
+
+-- a cell has fewer values exactly where it lost one
+lost-two : (a b x y : Bool) → (x ≡ true → a ≡ true) → (y ≡ true → b ≡ true)
+    → (x || y) ≡ not (eqb (cond a 1 0 + cond b 1 0) (cond (a && not x) 1 0 + cond (b && not y) 1 0))
+lost-two true true true true w b = refl
+lost-two true true true false w b = refl
+lost-two true true false true w b = refl
+lost-two true true false false w b = refl
+lost-two true false true y w b = grind (arith, common_steps, cases_Bool y, b)
+lost-two true false false y w b = grind (arith, common_steps, cases_Bool y, b)
+lost-two false true x true w b = grind (arith, common_steps, cases_Bool x, w)
+lost-two false true x false w b = grind (arith, common_steps, cases_Bool x, w)
+lost-two false false x y w b = grind (arith, common_steps, cases_Bool x, cases_Bool y, w, b)
+
+two-counted : (f : ℕ → Bool) → count_below f 2 ≡ cond (f 0) 1 0 + cond (f 1) 1 0
+unfolding count_below
+two-counted f = omega arith
+
+-- ---- what is kept of a line
+module _ (pat : Pattern) (p : Layers) (line : Line) (same : p.size ≡ pat.size) (lt : number_of line < lines_beside pat.size line)
+    (some : 0 < pat.size.w) (within : HasCells (pat.size.w * pat.size.h) 2 (has p)) {white black white' black' : ℕ}
+    (white_is : (k : ℕ) → has_bit white k ≡ at_line p line 0 k) (black_is : (k : ℕ) → has_bit black k ≡ at_line p line 1 k)
+    (d : AreDecided (clue_of pat (house_of pat.size line)) (line_len pat.size line) white black white' black') where
+  abbrev size : Extent
+  size = pat.size
+
+  abbrev house : ℕ
+  house = house_of size line
+
+  abbrev places : List ℕ
+  places = line_places size house
+
+  abbrev K : Candidates
+  K = has p
+
+  long : length places ≡ line_len size line
+  long = length-line_places size house ∙ line-long size line lt
+
+  at : {k : ℕ} → k < line_len size line → slice_index places k ≡ cell_of size line k
+  at {k} less = cell-at size line k lt less
+
+  reads : {k : ℕ} (v : ℕ) → k < line_len size line → v < 2 → K (cell_of size line k) v ≡ at_line p line v k
+  reads {k} v less low = rw (← same) (read-at p line k v (rw (← same) at lt) (rw (← same) at less) low)
+
+  -- the bits of the sets that were read, and of those that are kept
+  set-bit : {k : ℕ} (v : ℕ) → k < line_len size line → v < 2 → has_bit (slice_index d.sets k) v ≡ K (cell_of size line k) v
+  set-bit {k} v less low = elim (cases_eq v 0) [
+    | inl e ↦ rw e (d.sets_are.white_is k (omega (arith, d.long)) ∙ white_is k ∙ sym (reads 0 less (omega arith)))
+    | inr ne ↦ (
+        let e : v ≡ 1 = omega arith in
+        rw e (d.sets_are.black_is k (omega (arith, d.long)) ∙ black_is k ∙ sym (reads 1 less (omega arith))))
+  ]
+
+  -- the board after a visit goes by the sets
+  pub after-is : kept_in places d.kept (length places) K ≡ after (line_rules pat) house K
+  after-is =
+      let bits : (k : ℕ) → k < length places → IsBitsOf (K (slice_index places k)) 2 (slice_index d.sets k) =
+      λ k less. let lk : k < line_len size line = omega (arith, long) in
+      record { small = d.small k (omega (arith, d.long)); same = λ v low. rw (at lk) (set-bit v lk low) } in
+      let sized : length d.sets ≡ length places = d.long ∙ sym long in
+      visited-after (line_rules pat) house (strikes_by_fillings (has_runs (clue_of pat house))) K _ d.sets d.kept (λ L c v. refl) within sized bits
+      (sets-bits 2 places K d.sets sized bits) d.decided refl
+
+  -- where a value is kept, as words
+  abbrev kept_by : ℕ → ℕ
+  kept_by v = cond (eqb v 0) white' black'
+
+  kept-bit : {k : ℕ} (v : ℕ) → k < line_len size line → v < 2 → has_bit (slice_index d.kept k) v ≡ has_bit (kept_by v) k
+  kept-bit {k} v less low =
+      let lk : k < length d.kept = omega (arith, d.long, d.decided.as_many) in
+      elim (cases_eq v 0) [
+        | inl e ↦ rw e (d.kept_are.white_is k lk)
+        | inr ne ↦ (let e : v ≡ 1 = omega arith in rw e (d.kept_are.black_is k lk))
+      ]
+
+  -- what is lost of a value in the line
+  struck-at : (v bits c : ℕ) → v < 2 → ((k : ℕ) → has_bit bits k ≡ (at_line p line v k && not (has_bit (kept_by v) k))) → K c v ≡ true
+      → crosses line bits (c / size.w) (c % size.w) ≡ any_below (λ k. eqb (slice_index places k) c && not (has_bit (slice_index d.kept k) v)) (length places)
+  struck-at v bits c low is on = elim (cases_Bool (any_below (λ k. eqb (slice_index places k) c && not (has_bit (slice_index d.kept k) v)) (length places))) [
+    | inl one ↦ (
+        let w = any_below-some (λ k. eqb (slice_index places k) c && not (has_bit (slice_index d.kept k) v)) (length places) one in
+        let u = and_parts (eqb (slice_index places w.0) c) (not (has_bit (slice_index d.kept w.0) v)) w.2 in
+        let lk : w.0 < line_len size line = omega (arith, long, w.1) in
+        let here : cell_of size line w.0 ≡ c = sym (at lk) ∙ eqb-true _ _ u.0 in
+        let there : at_line p line v w.0 ≡ true = sym (reads v lk low) ∙ rw (← here) at on in
+        let gone : not (has_bit (kept_by v) w.0) ≡ true = ap not (sym (kept-bit v lk low)) ∙ u.1 in
+        rw one (rw (← here) (crossed-at size line bits w.0 lt lk ∙ is w.0 ∙ and_from _ _ there gone)))
+    | inr none ↦ rw none (false_from_ne_true _ (λ crossed.
+        let w = crossed-some size line bits c some (within c v on).0 crossed in
+        let lk = w.1 in
+        let u = and_parts (at_line p line v w.0) (not (has_bit (kept_by v) w.0)) (sym (is w.0) ∙ w.2) in
+        let off = any_below-none (λ k. eqb (slice_index places k) c && not (has_bit (slice_index d.kept k) v)) (length places) none w.0 (omega (arith, long)) in
+        true≢false (sym (and_from _ _ (eq-eqb _ _ (at lk ∙ w.3)) (ap not (kept-bit v lk low) ∙ u.1)) ∙ off)))
+  ]
+
+  kept-had : {k : ℕ} (v : ℕ) → k < line_len size line → v < 2 → has_bit (kept_by v) k ≡ true → K (cell_of size line k) v ≡ true
+  kept-had {k} v less low on =
+      sym (set-bit v less low) ∙ (and_parts _ _ (sym (d.decided.bits k v (omega (arith, d.long)) low) ∙ (kept-bit v less low ∙ on))).0
+
+  -- a cell of the line of which no value is kept
+  pub kept-dead : (k : ℕ) → k < line_len size line → has_bit white' k ≡ false → has_bit black' k ≡ false → IsDead (line_rules pat) (after (line_rules pat) house K)
+  unfolding kept_in
+  kept-dead k less none0 none1 =
+      let lk : k < length places = omega (arith, long) in
+      let c = slice_index places k in
+      let off : (v : ℕ) → v < 2 → kept_in places d.kept (length places) K c v ≡ false = λ v low.
+      let gone : has_bit (slice_index d.kept k) v ≡ false = kept-bit v less low ∙ elim (cases_eq v 0) [
+        | inl e ↦ rw e none0
+        | inr ne ↦ (let e : v ≡ 1 = omega arith in rw e none1)
+      ] in
+      and_right (K c v) _ (ap not (any_below-here (λ j. eqb (slice_index places j) c && not (has_bit (slice_index d.kept j) v)) (length places) k lk
+      (and_from _ _ (eq-eqb c c refl) (ap not gone)))) in
+      rw (← after-is) (is_dead-here (size.w * size.h) 2 _ c (in_grid size (house-in size line lt) (has_place-here places k lk)) (count_below-none _ 2 off))
+
+  -- both values are taken from the cells where they are not kept
+  module _ (inside : (k v : ℕ) → at_line p line v k ≡ true → v < 2 → k < line_len size line) (lw lb : ℕ)
+      (lw_is : (k : ℕ) → has_bit lw k ≡ (at_line p line 0 k && not (has_bit white' k))) (lb_is : (k : ℕ) → has_bit lb k ≡ (at_line p line 1 k && not (has_bit black' k))) where
+    abbrev left : Candidates
+    left = without_taking size.w (without_taking size.w K (record { line = line; value = 0; bits = lw })) (record { line = line; value = 1; bits = lb })
+
+    each : (c v : ℕ) → left c v ≡ kept_in places d.kept (length places) K c v
+    unfolding without_taking covers kept_in
+    each c v = elim (cases_Bool (K c v)) [
+      | inl on ↦ (
+          let low = (within c v on).1 in
+          elim (cases_eq v 0) [
+            | inl e ↦ (let s = struck-at 0 lw c (omega arith) lw_is (rw e at on) in rw e (grind (arith, common_steps, cases_Bool, s)))
+            | inr ne ↦ (
+                let e : v ≡ 1 = omega arith in
+                let s = struck-at 1 lb c (omega arith) lb_is (rw e at on) in rw e (grind (arith, common_steps, cases_Bool, s)))
+          ])
+      | inr off ↦ rw off refl
+    ]
+
+    stays : (c v : ℕ) → has_place places c ≡ false → left c v ≡ K c v
+    unfolding kept_in
+    stays c v off =
+        let none = false_from_ne_true (any_below (λ k. eqb (slice_index places k) c && not (has_bit (slice_index d.kept k) v)) (length places)) (λ on.
+        let w = any_below-some (λ k. eqb (slice_index places k) c && not (has_bit (slice_index d.kept k) v)) (length places) on in
+        let e = eqb-true (slice_index places w.0) c (and_parts (eqb (slice_index places w.0) c) (not (has_bit (slice_index d.kept w.0) v)) w.2).0 in
+        true≢false (sym (rw e at (has_place-here places w.0 w.1)) ∙ off)) in
+        each c v ∙ rw none (and-true (K c v))
+
+    pub taken-is : left ≡ after (line_rules pat) house K
+    taken-is = fun_ext (λ c. fun_ext (λ v. each c v)) ∙ after-is
+
+    -- what is left of a cell of the line
+    left-at : {k : ℕ} → k < line_len size line → (left (cell_of size line k) 0 ≡ (K (cell_of size line k) 0 && not (has_bit lw k)))
+        × (left (cell_of size line k) 1 ≡ (K (cell_of size line k) 1 && not (has_bit lb k)))
+    unfolding without_taking covers
+    left-at {k} less =
+        let w = crossed-at size line lw k lt less in
+        let b = crossed-at size line lb k lt less in
+        (grind (arith, common_steps, cases_Bool, w, b), grind (arith, common_steps, cases_Bool, w, b))
+
+    pub lost-at : (bits : ℕ) → ((k : ℕ) → has_bit bits k ≡ (has_bit lw k || has_bit lb k)) → (k : ℕ) → has_bit bits k ≡ has_lost (line_rules pat) house K left k
+    unfolding has_lost counts_of
+    lost-at bits is k = elim (cases_lt k (length places)) [
+      | inl lk ↦ (
+          let less : k < line_len size line = omega (arith, long) in
+          let w : (has_bit lw k ≡ true → K (cell_of size line k) 0 ≡ true) = λ on. reads 0 less (omega arith) ∙ (and_parts _ _ (sym (lw_is k) ∙ on)).0 in
+          let b : (has_bit lb k ≡ true → K (cell_of size line k) 1 ≡ true) = λ on. reads 1 less (omega arith) ∙ (and_parts _ _ (sym (lb_is k) ∙ on)).0 in
+          is k ∙ lost-two (K (cell_of size line k) 0) (K (cell_of size line k) 1) (has_bit lw k) (has_bit lb k) w b
+          ∙ rw (lt-ltb k (length places) lk, at less, two-counted (K (cell_of size line k)), two-counted (left (cell_of size line k)), (left-at less).0, (left-at less).1) refl)
+      | inr ge ↦ (
+          let w : has_bit lw k ≡ false = false_from_ne_true _ (λ on. let z = inside k 0 (and_parts _ _ (sym (lw_is k) ∙ on)).0 (omega arith) in absurd (omega (arith, long))) in
+          let b : has_bit lb k ≡ false = false_from_ne_true _ (λ on. let z = inside k 1 (and_parts _ _ (sym (lb_is k) ∙ on)).0 (omega arith) in absurd (omega (arith, long))) in
+          is k ∙ rw (w, b, le-ltb k (length places) ge) refl)
+    ]
+
+    -- where each cell of the line keeps a value, no cell loses its last
+    pub left-alive : IsAlive (line_rules pat) K → ((k : ℕ) → k < line_len size line → (has_bit white' k || has_bit black' k) ≡ true) → IsAlive (line_rules pat) left
+    left-alive alive some-kept = is_dead-each (size.w * size.h) 2 left (λ c lc. elim (cases_Bool (has_place places c)) [
+      | inl there ↦ (
+          let w = has_place-at places c there in
+          let less : w.0 < line_len size line = omega (arith, long, w.1) in
+          let here : cell_of size line w.0 ≡ c = sym (at less) ∙ w.2 in
+          rw (← here) (elim (or_cases (has_bit white' w.0) (has_bit black' w.0) (some-kept w.0 less)) [
+            | inl on ↦ (
+                let off : has_bit lw w.0 ≡ false = grind (arith, common_steps, cases_Bool, lw_is w.0, on) in
+                count_below-pos _ 2 0 (omega arith) ((left-at less).0 ∙ and_from _ _ (kept-had 0 less (omega arith) on) (ap not off)))
+            | inr on ↦ (
+                let off : has_bit lb w.0 ≡ false = grind (arith, common_steps, cases_Bool, lb_is w.0, on) in
+                count_below-pos _ 2 1 (omega arith) ((left-at less).1 ∙ and_from _ _ (kept-had 1 less (omega arith) on) (ap not off)))
+          ]))
+      | inr off ↦ rw (count_below-same (left c) (K c) 2 (λ v low. stays c v off)) (is_dead-not (size.w * size.h) 2 K c alive lc)
+    ])
+
+-- ---- what is read of planes
+pub cells-in : (room : ℕ) (p : Layers) {size : Extent} → ArePlanes room p → p.size ≡ size → HasCells (size.w * size.h) 2 (has p)
+cells-in room p are same = rw (← same) (has-within p room are)
+
+pub wide-in : (room : ℕ) (p : Layers) {size : Extent} → ArePlanes room p → p.size ≡ size → 0 < size.w
+wide-in room p are same = rw (← same) (omega (arith, are.lawful.w_low))
+
+line-room : (room : ℕ) (p : Layers) (line : Line) (k v : ℕ) → ArePlanes room p → at_line p line v k ≡ true → v < 2 → k < line_len p.size line
+line-room room p (Row y) k v are on low = (are.words.within y k v low on).1
+line-room room p (Column x) k v are on low = (are.words.within k x v low on).0
+
+pub line-within : (room : ℕ) (p : Layers) (line : Line) {size : Extent} → ArePlanes room p → p.size ≡ size
+    → (k v : ℕ) → at_line p line v k ≡ true → v < 2 → k < line_len size line
+line-within room p line are same k v on low = rw (← same) (line-room room p line k v are on low)
+
+-- two takings, one after the other
+pub both-taken : (p0 p1 p2 : Layers) {size : Extent} (t0 t1 : Taking) → p0.size ≡ size → p1.size ≡ p0.size → has p1 ≡ without_taking p0.size.w (has p0) t0
+    → has p2 ≡ without_taking p1.size.w (has p1) t1 → has p2 ≡ without_taking size.w (without_taking size.w (has p0) t0) t1
+both-taken p0 p1 p2 t0 t1 f0 f1 e1 e2 =
+    e2
+    ∙ ap₂ (λ w K. without_taking w K t1) (ap (λ (s : Extent). s.w) (f1 ∙ f0)) (e1 ∙ ap (λ w. without_taking w (has p0) t0) (ap (λ (s : Extent). s.w) f0))

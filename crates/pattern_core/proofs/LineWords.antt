@@ -1,0 +1,88 @@
+-- The cells of a line as words, and as sets.
+use Rattle.pattern_core.proofs.Common.{ArePositive, Bool, List, Track, and-false, and-true, ap, arith, cases_Bool, cases_eq, common_steps, eq-eqb, eqb, false, get_or, has_bit, inl, inr, length, ne_eqb, or-false, refl, some_leads, spelled, sym, track_of, true, ℕ, ◌&&◌, ◌*◌, ◌+◌, ◌<◌, ◌||◌, ◌∙◌, ◌≡◌, ◌≤◌}
+use Rattle.std.specs.Int.{from_bool}
+use Rattle.std.proofs.lemmas.List.FromFn.{get_or-map-range_with_len, length-map-range_with_len}
+use Rattle.pattern_core.proofs.TableSteps.{decided_by_track}
+use Rattle.pattern_core.specs.LinePlanes.{AreDecided, AreShown, AreSetsBy, set_at, sets_by}
+use Rattle.pattern_core.specs.Track.{cell_is, sets_of}
+
+-- ---- the sets of so many cells
+pub length-sets : (white black count : ℕ) → length (sets_by white black count) ≡ count
+length-sets white black count = length-map-range_with_len (set_at white black) 0 count
+
+pub sets-at : (white black count k : ℕ) → k < count → get_or (sets_by white black count) k 0 ≡ set_at white black k
+sets-at white black count k lt = get_or-map-range_with_len (set_at white black) 0 count k k 0 lt (omega arith)
+
+set-small : (white black k : ℕ) → set_at white black k < 4
+set-small white black k = grind (arith, common_steps, cases_Bool (has_bit white k), cases_Bool (has_bit black k))
+
+bit-white : (a b : Bool) → has_bit (from_bool a + 2 * from_bool b) 0 ≡ a
+bit-white true true = refl
+bit-white true false = refl
+bit-white false true = refl
+bit-white false false = refl
+
+bit-black : (a b : Bool) → has_bit (from_bool a + 2 * from_bool b) 1 ≡ b
+bit-black true true = refl
+bit-black true false = refl
+bit-black false true = refl
+bit-black false false = refl
+
+pub sets-are : (white black count : ℕ) → AreSetsBy white black (sets_by white black count)
+sets-are white black count = record {
+  white_is = λ k lt. rw (sets-at white black count k (omega (arith, length-sets white black count))) (bit-white (has_bit white k) (has_bit black k));
+  black_is = λ k lt. rw (sets-at white black count k (omega (arith, length-sets white black count))) (bit-black (has_bit white k) (has_bit black k));
+}
+
+-- ---- what is shown of the cells below `at`
+pub both-ways : (a b c d : Bool) → a ≡ d → b ≡ c → (a && b) ≡ (c && d)
+both-ways a b c d e f = grind (arith, common_steps, cases_Bool c, cases_Bool d, e, f)
+
+pub record IsShownTo (word now : ℕ) (shown : ℕ → Bool) (at : ℕ) : Type 0 where
+  pub below : (k : ℕ) → k < at → (has_bit word k && has_bit now k) ≡ shown k
+  pub beyond : (k : ℕ) → at ≤ k → has_bit word k ≡ false
+
+pub shown-none : (word now : ℕ) (shown : ℕ → Bool) → ((k : ℕ) → has_bit word k ≡ false) → IsShownTo word now shown 0
+shown-none word now shown none = record { below = λ k lt. absurd (omega arith); beyond = λ k le. none k }
+
+pub shown-more : (word next now : ℕ) (shown : ℕ → Bool) (on : Bool) (at : ℕ) → IsShownTo word now shown at
+    → ((k : ℕ) → has_bit next k ≡ (has_bit word k || (on && eqb k at))) → (on && has_bit now at) ≡ shown at → IsShownTo next now shown (at + 1)
+shown-more word next now shown on at are is here = record {
+  below = λ k lt. elim (cases_eq k at) [
+    | inl e ↦ rw e (ap (λ b. b && has_bit now at) (is at ∙ rw (are.beyond at (omega arith), eq-eqb at at refl) (and-true on)) ∙ here)
+    | inr ne ↦ ap (λ b. b && has_bit now k) (is k ∙ rw (ne_eqb k at ne) (ap (λ b. has_bit word k || b) (and-false on) ∙ or-false (has_bit word k))) ∙ are.below k (omega arith)
+  ];
+  beyond = λ k le. is k ∙ rw (are.beyond k (omega arith), ne_eqb k at (λ e. omega arith)) (and-false on);
+}
+
+-- ---- what is kept is what is shown
+kept-bits : (x w s : Bool) → x ≡ s → (x ≡ true → w ≡ true) → x ≡ (w && s)
+kept-bits x w s e inside = grind (arith, common_steps, cases_Bool x, e, inside)
+
+pub shown-decided : (clue : List ℕ) (t : Track) (count white black white' black' : ℕ) → t ≡ track_of (spelled clue) → ArePositive clue
+    → AreShown t count white black white' black' → AreDecided clue count white black white' black'
+shown-decided clue t count white black white' black' is positive shown =
+    let sets = sets_by white black count in
+    let kept = sets_by white' black' count in
+    let long = length-sets white black count in
+    let kept_long = length-sets white' black' count in
+    let old = sets-are white black count in
+    let new = sets-are white' black' count in
+    let bits : (k v : ℕ) → k < length sets → v < 2 → has_bit (get_or kept k 0) v ≡ (has_bit (get_or sets k 0) v && some_leads t (sets_of sets) (cell_is k v) 0) =
+    λ k v lt low. elim (cases_eq v 0) [
+      | inl e ↦ rw (e, new.white_is k (omega (arith, long, kept_long)), old.white_is k lt)
+          (kept-bits (has_bit white' k) (has_bit white k) (some_leads t (sets_of sets) (cell_is k 0) 0) (shown.white_is k (omega (arith, long))) (shown.white_in k))
+      | inr ne ↦ (
+          let e : v ≡ 1 = omega arith in
+          rw (e, new.black_is k (omega (arith, long, kept_long)), old.black_is k lt)
+          (kept-bits (has_bit black' k) (has_bit black k) (some_leads t (sets_of sets) (cell_is k 1) 0) (shown.black_is k (omega (arith, long))) (shown.black_in k)))
+    ] in
+    record {
+      sets = sets;
+      kept = kept;
+      long = long;
+      small = λ k lt. rw (sets-at white black count k (omega (arith, long))) (set-small white black k);
+      sets_are = old;
+      decided = decided_by_track clue is positive (record { as_many = kept_long ∙ sym long; bits = bits });
+      kept_are = new;
+    }

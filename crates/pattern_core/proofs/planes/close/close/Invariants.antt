@@ -1,0 +1,19 @@
+use Rattle.pattern_core.proofs.Common.{List, length, line_rules, ℕ, ◌-◌, ◌≡◌}
+use Rattle.grid_core.specs.Planes.{IsFurther, has}
+use Rattle.engine_core.proofs.ListLemmas.{IsRunning}
+use Rattle.pattern_core.specs.LinePlanes.{AreLinesOf, waiting}
+use Rattle.pattern_core.proofs.planes.close.close.Given as goal
+
+abbrev pub invariant-loop-line : goal.invariant-loop-line
+invariant-loop-line g l =
+    let pat = l.rules.pattern in
+    record {
+      visits : List ℕ;
+      counted : length visits ≡ l.turns;
+      running : IsRunning (line_rules pat) (has l.fn.planes) visits (has l.planes) (waiting g.W.Word.bits pat.size l.waits);
+      within : AreLinesOf g.W.Word.bits pat.size l.waits;
+      further : IsFurther l.fn.planes l.planes;
+    }
+
+abbrev pub decreases-loop-line : goal.decreases-loop-line
+decreases-loop-line g l = (line_rules l.rules.pattern).bound - l.turns

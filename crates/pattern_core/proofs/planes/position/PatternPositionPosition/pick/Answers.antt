@@ -1,0 +1,14 @@
+use Rattle.pattern_core.proofs.Common.{arith}
+use Rattle.std.proofs.lemmas.Nat.{div-add-mod'}
+use Rattle.engine_core.proofs.PlaneMarks.{none-above}
+use Rattle.pattern_core.proofs.planes.position.PatternPositionPosition.pick.Goals as goal
+
+pub pick-requires-clause-none : goal.pick-requires-clause-none
+pick-requires-clause-none c =
+    let r = rw c.in-Short.is at (rw (← c.self.view_is) at c.requires) in
+    none-above c.args.from _ _ (rw c.split-row.ensures.row (omega (arith, div-add-mod' c.args.from c.in-Short.planes.size.w))) r.none
+
+pub pick-requires-in-Long-clause-none : goal.pick-requires-in-Long-clause-none
+pick-requires-in-Long-clause-none c =
+    let r = rw c.in-Long.is at (rw (← c.self.view_is) at c.requires) in
+    none-above c.args.from _ _ (rw c.split-row-in-Long.ensures.row (omega (arith, div-add-mod' c.args.from c.in-Long.planes.size.w))) r.none

@@ -1,0 +1,117 @@
+-- Lines of a board on planes: what a visit of one reads and leaves, and which lines wait. No public contract uses these words.
+use Rattle.std.specs.Int.{from_bool}
+use Rattle.std.specs.List.{range_with_len}
+use Rattle.std.specs.Prelude.{◌≡◌, ℕ, map, ◌+◌, ◌-◌, ◌*◌, ◌<◌, ◌≤◌, Bool, true, false, not, ◌&&◌, ◌==◌, nat_lt, if◌then◌else◌, List, length, slice_index, Option, Some, None}
+use Rattle.grid_core.specs.Candidates.{Candidates, IsWithin as HasCells}
+use Rattle.grid_core.specs.Extent.{Extent}
+use Rattle.grid_core.specs.Planes.{lines_beside, number_of}
+use Rattle.grid_core.specs.Words.{has_bit}
+use Rattle.grid_core.specs.declared.planes.line.Line.{Line}
+use Rattle.grid_core.specs.declared.planes.line.Line.TheVariants.{Row, Column}
+use Rattle.engine_core.specs.ClosingList.{IsAlive, IsDead}
+use Rattle.gameid_core.specs.Puzzles.{Pattern}
+use Rattle.engine_core.specs.Queue.{IsRested, counts_of}
+use Rattle.engine_core.specs.RuleSystem.{RuleSystem, after}
+use Rattle.pattern_core.specs.LineRules.{line_rules}
+use Rattle.pattern_core.specs.Lines.{IsDecidedBy}
+use Rattle.pattern_core.specs.Track.{Track, cell_is, sets_of, some_leads}
+use Rattle.pattern_core.specs.declared.planes.waits.Waits.{Waits}
+
+-- ---- lines
+-- the number of a line as a house: the columns come first
+abbrev pub house_of : Extent → Line → ℕ
+house_of size (Column x) = x
+house_of size (Row y) = size.w + y
+
+abbrev pub is_same : Line → Line → Bool
+is_same (Column x) (Column z) = z == x
+is_same (Column x) (Row y) = false
+is_same (Row y) (Column x) = false
+is_same (Row y) (Row z) = z == y
+
+-- whether the second line crosses the first at one of these cells
+abbrev pub crossed_by : Line → ℕ → Line → Bool
+crossed_by (Column x) cells (Column z) = false
+crossed_by (Column x) cells (Row y) = has_bit cells y
+crossed_by (Row y) cells (Column x) = has_bit cells x
+crossed_by (Row y) cells (Row z) = false
+
+-- ---- which lines wait
+abbrev pub is_marked : {W : Type 0} → (W → ℕ) → Waits W → Line → Bool
+is_marked bits waits (Column x) = has_bit (bits waits.columns) x
+is_marked bits waits (Row y) = has_bit (bits waits.rows) y
+
+-- the line with that number as a house
+abbrev pub line_of : Extent → ℕ → Line
+line_of size j = if nat_lt j size.w then Column j else Row (j - size.w)
+
+unfoldable pub waiting : {W : Type 0} → (W → ℕ) → Extent → Waits W → ℕ → Bool
+waiting bits size waits j = is_marked bits waits (line_of size j)
+
+-- the line waits, or no line does
+abbrev pub IsNextLine : {W : Type 0} → ℕ → (W → ℕ) → Waits W → Option Line → Type 0
+IsNextLine room bits waits None = (line : Line) → number_of line < room → is_marked bits waits line ≡ false
+IsNextLine room bits waits (Some line) = (is_marked bits waits line ≡ true) × (number_of line < room)
+
+-- ---- the cells of a line, by the words of those that can be white and of those that can be black
+-- the set of a cell, and those of so many cells
+abbrev pub set_at : ℕ → ℕ → ℕ → ℕ
+set_at white black k = from_bool (has_bit white k) + 2 * from_bool (has_bit black k)
+
+abbrev pub sets_by : ℕ → ℕ → ℕ → List ℕ
+sets_by white black count = map (set_at white black) (range_with_len 0 count)
+
+-- of so many cells the second words keep what some filling that leads along the track shows
+pub record AreShown (t : Track) (count white black white' black' : ℕ) : Type 0 where
+  pub white_is : (k : ℕ) → k < count
+      → has_bit white' k ≡ some_leads t (sets_of (sets_by white black count)) (cell_is k 0) 0
+  pub black_is : (k : ℕ) → k < count
+      → has_bit black' k ≡ some_leads t (sets_of (sets_by white black count)) (cell_is k 1) 0
+  pub white_in : (k : ℕ) → has_bit white' k ≡ true → has_bit white k ≡ true
+  pub black_in : (k : ℕ) → has_bit black' k ≡ true → has_bit black k ≡ true
+
+-- the sets of cells
+pub record AreSetsBy (white black : ℕ) (sets : List ℕ) : Type 0 where
+  pub white_is : (k : ℕ) → k < length sets → has_bit (slice_index sets k) 0 ≡ has_bit white k
+  pub black_is : (k : ℕ) → k < length sets → has_bit (slice_index sets k) 1 ≡ has_bit black k
+
+-- of so many cells the second words keep what some filling with the clue's runs has
+pub record AreDecided (clue : List ℕ) (count white black white' black' : ℕ) : Type 0 where
+  pub sets : List ℕ
+  pub kept : List ℕ
+  pub long : length sets ≡ count
+  pub small : (k : ℕ) → k < length sets → slice_index sets k < 4
+  pub sets_are : AreSetsBy white black sets
+  pub decided : IsDecidedBy clue sets kept
+  pub kept_are : AreSetsBy white' black' kept
+
+-- ---- a visit of a line
+-- the k-th cell of the house has another number of values than before
+unfoldable pub has_lost : RuleSystem → ℕ → Candidates → Candidates → ℕ → Bool
+has_lost p h K K' k =
+    nat_lt k (length (p.scope h)) && not (counts_of p h K k == counts_of p h K' k)
+
+-- these cells of the house lost a value, and each cell has one still; or one would lose its last
+abbrev pub IsVisited : {W : Type 0} → (W → ℕ) → RuleSystem → ℕ → Candidates → Candidates → Option W → Type 0
+IsVisited bits p h K K' None = IsDead p (after p h K)
+IsVisited bits p h K K' (Some lost) = (K' ≡ after p h K) × IsAlive p K'
+    × ((k : ℕ) → has_bit (bits lost) k ≡ has_lost p h K K' k)
+
+-- ---- where a closing begins
+-- a line that does not wait strikes nothing from the board
+abbrev pub AreRested : {W : Type 0} → (W → ℕ) → Pattern → Candidates → Waits W → Type 0
+AreRested bits p K waits = IsRested (line_rules p) K (waiting bits p.size waits)
+
+-- only lines of the grid wait
+abbrev pub AreLinesOf : {W : Type 0} → (W → ℕ) → Extent → Waits W → Type 0
+AreLinesOf bits size waits = (line : Line) → is_marked bits waits line ≡ true → number_of line < lines_beside size line
+
+-- both, at the board that a search starts from
+abbrev pub IsStart : {W : Type 0} → (W → ℕ) → Pattern → Waits W → Type 0
+IsStart bits p waits = AreRested bits p (line_rules p).start waits × AreLinesOf bits p.size waits
+
+-- no side is longer than a word, and the board has no other cells and values than the puzzle's
+pub record HasRoom (room : ℕ) (p : Pattern) (K : Candidates) : Type 0 where
+  pub narrow : p.size.w ≤ room
+  pub low : p.size.h ≤ room
+  pub cells : HasCells (p.size.w * p.size.h) 2 K

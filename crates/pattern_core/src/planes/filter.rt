@@ -1,0 +1,111 @@
+//! What is kept of a line's cells, as words.
+
+ghost use Rattle.std.specs.Prelude.{◌&&◌, ◌<◌, ◌==◌, ◌||◌, ◌≡◌, ◌≤◌, ℕ, length};
+ghost use Rattle.grid_core.specs.Extent.{max_side};
+ghost use Rattle.grid_core.specs.Words.{has_bit};
+ghost use Rattle.pattern_core.specs.LineClues.{numbers_in};
+ghost use Rattle.pattern_core.specs.LinePlanes.{AreDecided, AreShown, set_at, sets_by};
+ghost use Rattle.pattern_core.specs.Track.{AreRows, IsBelow, along};
+
+use crate::line_clue::{LineClue, Rows};
+use crate::slots::Slots;
+use crate::table::{Moves, ahead_of, led_by, moves_of, set_of, ways_of};
+use crate::track::SpelledClue;
+use grid_core::Word;
+
+/// The places with that one too, where `on`.
+fn with_if<W: Word>(places: W, place: usize, on: bool) -> W
+    requires { place < W.room }
+    ensures { (p : ℕ) → has_bit (W.bits result) p
+        ≡ (has_bit (W.bits places) p || (on && (p == place))) }
+{
+    if on {
+        places.either(W::one(place))
+    } else {
+        places
+    }
+}
+
+/// The cells of a line that can be white, and those that can be black.
+#[derive(Clone, Copy)]
+pub(crate) struct Cells<W> {
+    pub(crate) white: W,
+    pub(crate) black: W,
+}
+
+impl<W: Word> Cells<W> {
+    /// The set of a cell.
+    fn set(self, k: usize) -> u32
+        requires { k < W.room }
+        ensures { result ≡ set_at (W.bits self.white) (W.bits self.black) k }
+    {
+        set_of(self.white.has(k), self.black.has(k))
+    }
+
+    /// Fills the table for so many cells, from the last one backwards.
+    fn fill_rows<P: Slots>(self, count: usize, moves: &Moves<P>, rows: &mut [P])
+        requires room { count < length rows.old }
+        requires fits { count ≤ W.room }
+        ensures { AreRows P.has (along P.has moves.now.steps)
+            (sets_by (W.bits self.white) (W.bits self.black) count) rows.new 0 }
+    {
+        let mut at = count;
+        rows[at] = moves.steps.ends;
+        while at > 0 {
+            at -= 1;
+            rows[at] = ahead_of(moves, self.set(at), rows[at + 1]);
+        }
+    }
+
+    /// Keeps of so many cells what a way from the first slot to the end shows there. It asks of no cell what it has, since
+    /// that can't be foreseen.
+    fn keep<P: Slots>(self, count: usize, moves: &Moves<P>, rows: &[P]) -> Cells<W>
+        requires room { count < length rows.now }
+        requires fits { count ≤ W.room }
+        requires rows { AreRows P.has (along P.has moves.now.steps)
+            (sets_by (W.bits self.white) (W.bits self.black) count) rows.now 0 }
+        requires below { IsBelow P.room (along P.has moves.now.steps) }
+        ensures { AreShown (along P.has moves.now.steps) count (W.bits self.white)
+            (W.bits self.black) (W.bits result.white) (W.bits result.black) }
+    {
+        let (mut white, mut black) = (W::none(), W::none());
+        let mut reached = P::first();
+        for at in 0..count {
+            let ways = ways_of(moves.steps, reached);
+            let after = rows[at + 1];
+            white = with_if(white, at, ways.white.both(after).is_some());
+            black = with_if(black, at, ways.black.both(after).is_some());
+            reached = led_by(moves, self.set(at), reached);
+        }
+        Cells {
+            white: white.both(self.white),
+            black: black.both(self.black),
+        }
+    }
+
+    /// Keeps of a line of so many cells the values that some filling with the clue's runs has, by a table like that of a
+    /// visit.
+    fn filter_by<P: Slots>(self, count: usize, clue: &SpelledClue<P>, rows: &mut [P]) -> Cells<W>
+        requires room { count < length rows.old }
+        requires fits { count ≤ W.room }
+        ensures { AreDecided clue.now count (W.bits self.white) (W.bits self.black)
+            (W.bits result.white) (W.bits result.black) }
+    {
+        let moves = moves_of(clue);
+        self.fill_rows(count, &moves, rows);
+        self.keep(count, &moves, rows)
+    }
+
+    /// The same for a clue spelled in words of either length.
+    pub(crate) fn filter(self, count: usize, clue: &LineClue, rows: &mut Rows) -> Cells<W>
+        requires few { count ≤ max_side }
+        requires fits { count ≤ W.room }
+        ensures { AreDecided (numbers_in clue.now) count (W.bits self.white) (W.bits self.black)
+            (W.bits result.white) (W.bits result.black) }
+    {
+        match clue {
+            LineClue::Short(clue) => self.filter_by(count, clue, &mut rows.short),
+            LineClue::Long(clue) => self.filter_by(count, clue, &mut rows.long),
+        }
+    }
+}

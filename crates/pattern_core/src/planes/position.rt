@@ -1,0 +1,173 @@
+//! Planes with their trail, as what a search of Pattern stands on.
+#![tactic(auto, using(crate::proofs::PositionSteps::position_laws))]
+
+ghost use Rattle.std.specs.Prelude.{◌*◌, ◌≡◌, ◌≤◌, IfOk, length};
+ghost use Rattle.engine_core.specs.Needs.{needs_in};
+ghost use Rattle.grid_core.specs.Extent.{IsExtent};
+ghost use Rattle.pattern_core.specs.LineRules.{line_rules};
+ghost use Rattle.pattern_core.specs.PatternPosition.{AreLong, IsUnderWay, layers_in, standing_of};
+
+use crate::lines::{LineScratch, PatternLines};
+use crate::planes::close::close;
+use engine_core::{Needs, Position, Rules, Taken, needs_for};
+use grid_core::{Grid, Planes, Size};
+use std::alloc::{AllocError, Global};
+use std::marker::Model;
+
+/// Planes of words of 64 places, or of 128.
+#[derive(Drop)]
+pub(crate) enum AnyPlanes {
+    Short(Planes<u64>),
+    Long(Planes<u128>),
+}
+
+/// A call at planes of either length.
+macro_rules! at_planes {
+    ($any:expr, $planes:ident => $call:expr) => {
+        match $any {
+            AnyPlanes::Short($planes) => $call,
+            AnyPlanes::Long($planes) => $call,
+        }
+    };
+}
+
+/// Planes of words that hold a line of so many cells.
+///
+/// # Errors
+///
+/// When memory was refused.
+fn planes_for(alloc: Global, size: Size, longest: usize) -> Result<AnyPlanes, AllocError>
+    requires narrow { size.w ≤ longest }
+    requires low { size.h ≤ longest }
+    requires lawful { IsExtent size }
+    ensures { IfOk result (λ planes. AreLong longest planes
+        × (length (layers_in planes).takings ≡ size.w * size.h * 2)) }
+{
+    if longest <= 64 {
+        return Ok(AnyPlanes::Short(Planes::new(alloc, size)?));
+    }
+    Ok(AnyPlanes::Long(Planes::new(alloc, size)?))
+}
+
+/// Planes with their trail, and the length of the trail at the mark of each level: so many levels have one. With it goes what
+/// a visit works in.
+pub struct PatternPosition {
+    made: Needs,
+    scratch: LineScratch,
+    planes: AnyPlanes,
+    marks: Vec<usize>,
+    marked: usize,
+}
+
+impl Drop for PatternPosition {
+    fn drop(self) {
+        let PatternPosition {
+            made,
+            scratch,
+            planes,
+            marks,
+            marked,
+        } = self;
+    }
+}
+
+impl Model for PatternPosition {
+    ghost use Rattle.std.specs.Prelude.{◌*◌, ◌≡◌, length};
+    ghost use Rattle.engine_core.specs.Needs.{needs_in};
+    ghost use Rattle.pattern_core.specs.PatternPosition.{AreLong, Placed, layers_in};
+
+    ghost Value = { Placed };
+
+    ghost view = { λ s. record {
+      made = needs_in s.made;
+      planes = layers_in s.planes;
+      marks = s.marks.items;
+      marked = s.marked;
+    } };
+
+    ghost invariant = { λ s. (length s.marks.items ≡ (needs_in s.made).cells)
+        × (length (layers_in s.planes).takings ≡ (needs_in s.made).cells * (needs_in s.made).values)
+        × AreLong (needs_in s.made).scope s.planes };
+}
+
+impl Position for PatternPosition {
+    ghost use Rattle.pattern_core.specs.LineLaws.{line_rules-lawful};
+
+    type Game = PatternLines;
+
+    ghost system = { λ rules. line_rules rules.pattern };
+
+    ghost stands = { λ s. standing_of s };
+
+    ghost room = { λ s. s.made };
+
+    ghost walks = { λ rules s. IsUnderWay rules.pattern s };
+
+    fn new(alloc: Global, rules: &PatternLines) -> Result<PatternPosition, AllocError> {
+        let made = needs_for(rules);
+        Ok(PatternPosition {
+            made,
+            scratch: rules.scratch(alloc)?,
+            planes: planes_for(alloc, rules.size(), made.scope)?,
+            marks: vec![in alloc; 0usize; made.cells]?,
+            marked: 0,
+        })
+    }
+
+    fn changes(&self) -> usize {
+        at_planes!(&self.planes, planes => planes.room())
+    }
+
+    fn values(&self, rules: &PatternLines) -> u8 {
+        rules.values()
+    }
+
+    fn begin(&mut self, rules: &PatternLines) {
+        at_planes!(&mut self.planes, planes => planes.begin(rules.size()));
+        self.marked = 0;
+    }
+
+    fn close(&mut self, rules: &PatternLines, from: Option<usize>) -> Taken {
+        at_planes!(&mut self.planes, planes => close(planes, rules, from, &mut self.scratch))
+    }
+
+    fn pick(&self, _rules: &PatternLines, from: usize) -> Option<usize> {
+        at_planes!(&self.planes, planes => {
+            let (row, _) = planes.split(from);
+            planes.pick(row as u8)
+        })
+    }
+
+    fn next_value(&self, _rules: &PatternLines, cell: usize, from: u8) -> Option<u8> {
+        for value in from..2 {
+            if at_planes!(&self.planes, planes => planes.has(cell, value)) {
+                return Some(value);
+            }
+        }
+        None
+    }
+
+    fn leave(&mut self, _rules: &PatternLines, cell: usize, value: u8) {
+        at_planes!(&mut self.planes, planes => planes.assign(cell, value));
+    }
+
+    fn checkpoint(&mut self, _rules: &PatternLines, level: usize) {
+        self.marks[level] = at_planes!(&self.planes, planes => planes.len());
+        self.marked = level + 1;
+    }
+
+    fn undo(&mut self, _rules: &PatternLines, level: usize) {
+        let mark = self.marks[level];
+        at_planes!(&mut self.planes, planes => planes.undo(mark));
+        self.marked = level + 1;
+    }
+
+    fn accept(&mut self, _rules: &PatternLines, grid: &mut Grid) -> bool {
+        at_planes!(&self.planes, planes => planes.write_grid(grid));
+        true
+    }
+
+    ghost lawful = { λ rules. line_rules-lawful rules.pattern rules.extent };
+
+    ghost within = { λ rules s walks. walks.cells };
+}

@@ -1,0 +1,54 @@
+//! A visit of a line on planes.
+
+ghost use Rattle.std.specs.Prelude.{◌*◌, ◌<◌, ◌≡◌};
+ghost use Rattle.grid_core.specs.Planes.{IsFurther, has, lines_beside, number_of};
+ghost use Rattle.engine_core.specs.ClosingList.{IsAlive};
+ghost use Rattle.pattern_core.specs.LinePlanes.{IsVisited, house_of};
+ghost use Rattle.pattern_core.specs.LineRules.{line_rules};
+
+use crate::lines::{LineScratch, PatternLines};
+use crate::planes::filter::Cells;
+use grid_core::{Line, Planes, Size, Word, line_len};
+
+/// The number of a line as a house: the columns come first.
+fn house_of(size: Size, line: Line) -> usize
+    ensures { result ≡ house_of size line }
+{
+    match line {
+        Line::Column(x) => usize::from(x),
+        Line::Row(y) => usize::from(size.w()) + usize::from(y),
+    }
+}
+
+/// Visits a line: takes from its cells what no filling with its clue's runs has. Says which of its cells lost a value, or
+/// nothing where one would lose its last: then nothing is taken.
+pub(crate) fn visit<W: Word>(
+    planes: &mut Planes<W>,
+    rules: &PatternLines,
+    line: Line,
+    scratch: &mut LineScratch,
+) -> Option<W>
+    requires size { planes.old.size ≡ rules.now.pattern.size }
+    requires line_in { number_of line < lines_beside rules.now.pattern.size line }
+    requires alive { IsAlive (line_rules rules.now.pattern) (has planes.old) }
+    ensures visited { IsVisited W.bits (line_rules rules.now.pattern)
+        (house_of rules.now.pattern.size line) (has planes.old) (has planes.new) result }
+    ensures further { IsFurther planes.old planes.new }
+{
+    let size = rules.size();
+    let house = house_of(size, line);
+    let count = line_len(size, house);
+    let now = Cells {
+        white: planes.line(line, 0),
+        black: planes.line(line, 1),
+    };
+    let kept = now.filter(count, rules.clue(house), &mut scratch.rows);
+    if W::all(count).but(kept.white.either(kept.black)).is_some() {
+        return None;
+    }
+    let white = now.white.but(kept.white);
+    let black = now.black.but(kept.black);
+    planes.take(line, 0, white);
+    planes.take(line, 1, black);
+    Some(white.either(black))
+}
