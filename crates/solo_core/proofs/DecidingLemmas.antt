@@ -1,6 +1,6 @@
 -- Houses that decide alike.
 use Rattle.std.proofs.lemmas.Grind.{common_steps}
-use Rattle.std.proofs.Common.{◌≡◌, ℕ, ◌<◌, List, [], map, length, get_or, refl, sym, ap, ◌∙◌, arith, ◌++◌, All, Bool, true}
+use Rattle.std.proofs.Common.{◌≡◌, ℕ, ◌<◌, List, [], map, length, get_or, refl, sym, ap, ◌∙◌, arith, ◌++◌, All, Bool, true, false}
 use Rattle.std.proofs.lemmas.Bool.{true≢false}
 use Rattle.std.proofs.lemmas.Simd.{map-map}
 use Rattle.engine_core.specs.HouseList.{Listed}
@@ -27,24 +27,31 @@ module _ (decides : Decision) (p : Solo) {h : ℕ} (lt : h < length (deciding de
   pub long-at : IsSolo p → length (house_of (deciding decides p) h).places ≡ solo_n p
   long-at ok = ap (λ (house : House). length house.places) deciding-at ∙ (lists_house ok (get_or (houses_of p) h (Row 0)) (all_houses p h (Row 0) inside)).len
 
--- what is kept of the sets of a house, where it is decided
+-- what is kept of the sets of a house, where it is decided, or all of them are kept where nothing may be struck
 pub kept-houses : (settled : Bool) (p : Solo) (houses : List House)
     → All (IsSound (setting_of settled p houses)) houses → {h : ℕ} → h < length houses
     → {K : Candidates} {sets kept : List ℕ}
-    → AreSetsOf (rules_of settled p houses) h K sets
-    → IsDecided (solo_n p) (house_of houses h).decides sets kept
-    → IsKept (rules_of settled p houses) h K true kept
-kept-houses settled p houses sound {h} lt {K} {sets} {kept} are decided =
-    kept-decided (rules_of settled p houses) h (house_of houses h).decides K true sets kept
-    (λ L d v. refl)
-    (sound h no_house lt).different are decided (λ e. absurd (true≢false e))
+    → AreSetsOf (rules_of settled p houses) h K sets → (struck : Bool)
+    → (struck ≡ true → IsDecided (solo_n p) (house_of houses h).decides sets kept)
+    → (struck ≡ false → IsDecided (solo_n p) (house_of houses h).decides sets sets)
+    → IsKept (rules_of settled p houses) h K struck kept
+kept-houses settled p houses sound {h} lt {K} {sets} {kept} are struck decided none = record {
+  none = λ off. (is sets (none off) (λ _. refl)).none off;
+  bits = λ on. (is kept (decided on) (λ off. absurd (true≢false (sym on ∙ off)))).bits on;
+}
+  where
+    is : (left : List ℕ) → IsDecided (solo_n p) (house_of houses h).decides sets left → (struck ≡ false → left ≡ sets)
+        → IsKept (rules_of settled p houses) h K struck left
+    is left = kept-decided (rules_of settled p houses) h (house_of houses h).decides K struck sets left (λ L d v. refl) (sound h no_house lt).different are
 
 pub kept-deciding : (settled : Bool) (p : Solo) {decides : Decision} → All (IsSound (setting_of settled p (deciding decides p))) (deciding decides p)
     → {h : ℕ} → h < length (deciding decides p) → (K : Candidates) {sets kept : List ℕ}
-    → AreSetsOf (rules_of settled p (deciding decides p)) h K sets
-    → IsDecided (solo_n p) decides sets kept
-    → IsKept (rules_of settled p (deciding decides p)) h K true kept
-kept-deciding settled p {decides} sound lt K are decided = kept-houses settled p (deciding decides p) sound lt are (rw (decides-at decides p lt) at decided)
+    → AreSetsOf (rules_of settled p (deciding decides p)) h K sets → (struck : Bool)
+    → (struck ≡ true → IsDecided (solo_n p) decides sets kept)
+    → (struck ≡ false → IsDecided (solo_n p) decides sets sets)
+    → IsKept (rules_of settled p (deciding decides p)) h K struck kept
+kept-deciding settled p {decides} sound lt K are struck decided none =
+    kept-houses settled p (deciding decides p) sound lt are struck (rw (decides-at decides p lt) at decided) (rw (decides-at decides p lt) at none)
 
 -- ---- crossings after the houses
 pub listed-deciding : (decides : Decision) (p : Solo) {first second : Listed} → first ≡ record { closed = []; begun = [] }

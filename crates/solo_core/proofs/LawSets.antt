@@ -12,7 +12,7 @@ use Rattle.solo_core.proofs.SinglesLemmas.{singles_in_houses}
 use Rattle.solo_core.specs.RuleLaws.{houses_lawful, singles_lawful, crossings_lawful}
 use Rattle.solo_core.proofs.DecidingLemmas.{length-deciding, decides-at, kept-houses, long-at, listed-crossings, listed-deciding}
 use Rattle.solo_core.proofs.MateLemmas.{rest-more, rest-same, rest-apart}
-use Rattle.solo_core.proofs.PeelLemmas.{alone-none, alone-lone, alone-more, counts-none, counts-more, peeled-step, counts-same, peeled-none, peeled-more}
+use Rattle.solo_core.proofs.PeelLemmas.{lone-counts, counts-none, counts-more, peeled-step, counts-same, peeled-none, peeled-more}
 use Rattle.solo_core.proofs.QuickLemmas.{goes_on_free, begun-none, goes_on_swapped}
 use Rattle.solo_core.proofs.WayLemmas.{over_none, over_next, over_all}
 use Rattle.solo_core.proofs.Marks.{bits_joined, single_bit}
@@ -53,7 +53,7 @@ pub ruleset lists_laws = (append-nil, length-map-range_with_len, line-low, line-
 pub ruleset mates_laws = (rest-more, rest-same, rest-apart)
 
 pub ruleset peel_laws =
-    (both-bits, either-bits, alone-none, alone-lone, alone-more, counts-none, counts-more, peeled-step, counts-same, peeled-none, peeled-more)
+    (both-bits, either-bits, lone-counts, counts-none, counts-more, peeled-step, counts-same, peeled-none, peeled-more)
 
 pub ruleset quick_laws = (both-bits, goes_on_free, begun-none, goes_on_swapped)
 

@@ -8,8 +8,10 @@ pub mod SinglesLemmas
 mod PeelLemmas
 mod QuickLemmas
 mod MateLemmas
+mod WholeLemmas
 mod HouseLemmas
 mod HouseLists
 mod DecidingLemmas
+mod ClosedGrids
 mod CrossingLemmas
 pub mod LawSets

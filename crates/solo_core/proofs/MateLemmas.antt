@@ -68,30 +68,30 @@ struck_from_none sets n place value none = true_from_ne_false (is_struck n sets 
     none w.0 (pairing_of_filling sets n w.1) w.1.has_it)
 
 -- ---- the rest, cell by cell
-rest-next : (k cells : ℕ) → rest_of (k + 1) cells ≡ rest_of k cells ++ cond (not (has_bit cells k)) (k ∷ []) []
-rest-next k cells = simp map-id at (filter_of_map_range_with_len_more (λ j. not (has_bit cells j)) (λ j. j) 0 k k (omega arith))
+rest-next : (k : ℕ) (cells : ℕ → Bool) → rest_of (k + 1) cells ≡ rest_of k cells ++ cond (not (cells k)) (k ∷ []) []
+rest-next k cells = simp map-id at (filter_of_map_range_with_len_more (λ j. not (cells j)) (λ j. j) 0 k k (omega arith))
 
-pub rest-more : (k cells : ℕ) {rest : List ℕ} → rest ≡ rest_of k cells → has_bit cells k ≡ false → rest ++ k ∷ [] ≡ rest_of (k + 1) cells
+pub rest-more : (k : ℕ) (cells : ℕ → Bool) {rest : List ℕ} → rest ≡ rest_of k cells → cells k ≡ false → rest ++ k ∷ [] ≡ rest_of (k + 1) cells
 rest-more k cells e off = rw e (sym (rest-next k cells ∙ ap (λ b. rest_of k cells ++ cond (not b) (k ∷ []) []) off))
 
-pub rest-same : (k cells : ℕ) {rest : List ℕ} → rest ≡ rest_of k cells → has_bit cells k ≡ true → rest ≡ rest_of (k + 1) cells
+pub rest-same : (k : ℕ) (cells : ℕ → Bool) {rest : List ℕ} → rest ≡ rest_of k cells → cells k ≡ true → rest ≡ rest_of (k + 1) cells
 rest-same k cells e on = e ∙ sym (rest-next k cells ∙ ap (λ b. rest_of k cells ++ cond (not b) (k ∷ []) []) on ∙ append-nil (rest_of k cells))
 
 -- ---- which cells are in the rest
-module _ (n cells : ℕ) where
+module _ (n : ℕ) (cells : ℕ → Bool) where
   abbrev rest : List ℕ
   rest = rest_of n cells
 
-  pub rest-in : {i : ℕ} → i < length rest → (slice_index rest i < n) × (has_bit cells (slice_index rest i) ≡ false)
+  pub rest-in : {i : ℕ} → i < length rest → (slice_index rest i < n) × (cells (slice_index rest i) ≡ false)
   rest-in {i} lt =
-      let w = place-filter (λ k. not (has_bit cells k)) _ (slice_index rest i) (has_place-here rest i lt) in
+      let w = place-filter (λ k. not (cells k)) _ (slice_index rest i) (has_place-here rest i lt) in
       let at = has_place-at _ (slice_index rest i) w.0 in
       let low : at.0 < n = omega (arith, at.1, length-range_with_len 0 n) in
       let is = get_or-range_with_len 0 n at.0 0 low in
-      (omega (arith, at.2, is), not-true (has_bit cells (slice_index rest i)) w.1)
+      (omega (arith, at.2, is), not-true (cells (slice_index rest i)) w.1)
 
-  pub rest-has : {k : ℕ} → k < n → has_bit cells k ≡ false → (i : ℕ) × (i < length rest) × (slice_index rest i ≡ k)
-  rest-has {k} lt off = has_place-at rest k (place-kept (λ j. not (has_bit cells j)) _ k in_range (not_from_false (has_bit cells k) off))
+  pub rest-has : {k : ℕ} → k < n → cells k ≡ false → (i : ℕ) × (i < length rest) × (slice_index rest i ≡ k)
+  rest-has {k} lt off = has_place-at rest k (place-kept (λ j. not (cells j)) _ k in_range (not_from_false (cells k) off))
     where
       in_range : has_place (range_with_len 0 n) k ≡ true
       in_range =
@@ -101,14 +101,14 @@ module _ (n cells : ℕ) where
   pub rest-different : AreDifferent rest
   rest-different = grind (arith, common_steps, different-filter, length-range_with_len, get_or-range_with_len)
 
-pub rest-within : (n cells : ℕ) {rest : List ℕ} → rest ≡ rest_of n cells → (i : ℕ) → i < length rest → slice_index rest i < n
+pub rest-within : (n : ℕ) (cells : ℕ → Bool) {rest : List ℕ} → rest ≡ rest_of n cells → (i : ℕ) → i < length rest → slice_index rest i < n
 rest-within n cells e i lt = rw e ((rest-in n cells (rw e at lt)).0)
 
-pub rest-apart : (n cells : ℕ) {rest : List ℕ} → rest ≡ rest_of n cells → AreDifferent rest
+pub rest-apart : (n : ℕ) (cells : ℕ → Bool) {rest : List ℕ} → rest ≡ rest_of n cells → AreDifferent rest
 rest-apart n cells e = rw e (rest-different n cells)
 
 -- ---- the pairing of the house
-module _ (n : ℕ) (sets : List ℕ) (cells : ℕ) (alone : AreAlone n sets cells) where
+module _ (n : ℕ) (sets : List ℕ) (cells : ℕ → Bool) (alone : AreAlone n sets cells) where
   abbrev others : List ℕ
   others = rest_of (length sets) cells
 
@@ -130,7 +130,7 @@ module _ (n : ℕ) (sets : List ℕ) (cells : ℕ) (alone : AreAlone n sets cell
       (as_many : length mates ≡ length sets)
       (at_rest : (i : ℕ) → i < length others → slice_index mates (slice_index others i) ≡ slice_index paired i)
       (at_other : (k : ℕ) → ((i : ℕ) → i < length others → slice_index others i ≡ k → ⊥) → slice_index mates k ≡ slice_index first k) where
-    alone-mate : (k : ℕ) (lk : k < length sets) (on : has_bit cells k ≡ true) → slice_index mates k ≡ (alone k lk on).value
+    alone-mate : (k : ℕ) (lk : k < length sets) (on : cells k ≡ true) → slice_index mates k ≡ (alone k lk on).value
     alone-mate k lk on =
         let a = alone k lk on in
         at_other k (λ i li e. true≢false (sym on ∙ (rw e at (rest-in (length sets) cells li).1)))
@@ -138,7 +138,7 @@ module _ (n : ℕ) (sets : List ℕ) (cells : ℕ) (alone : AreAlone n sets cell
 
     -- in range and joined
     fits : {k : ℕ} → k < length sets → (slice_index mates k < n) × (has_in sets k (slice_index mates k) ≡ true)
-    fits {k} lk = elim (cases_Bool (has_bit cells k)) [
+    fits {k} lk = elim (cases_Bool (cells k)) [
       | inl on ↦ let a = alone k lk on in rw (alone-mate k lk on) (a.value_in, a.has)
       | inr off ↦ by (rest-has (length sets) cells lk off)
     ]
@@ -147,7 +147,7 @@ module _ (n : ℕ) (sets : List ℕ) (cells : ℕ) (alone : AreAlone n sets cell
         by (i, li, is) = rw (sym (ap (slice_index mates) is) ∙ at_rest i li) (p.in_range i li, rw is at (p.joined i li))
 
     -- a cell that is alone has no value of another
-    apart : (k m : ℕ) → k < length sets → m < length sets → has_bit cells k ≡ true → (m ≡ k → ⊥) → slice_index mates k ≡ slice_index mates m → ⊥
+    apart : (k m : ℕ) → k < length sets → m < length sets → cells k ≡ true → (m ≡ k → ⊥) → slice_index mates k ≡ slice_index mates m → ⊥
     apart k m lk lm on ne same = true≢false (sym (fits lm).1 ∙ ap (has_in sets m) (sym same ∙ alone-mate k lk on) ∙ (alone k lk on).apart m lm ne)
 
     different : {k m : ℕ} → (i : ℕ) × (i < length others) × (slice_index others i ≡ k) → (j : ℕ) × (j < length others) × (slice_index others j ≡ m)
@@ -163,7 +163,7 @@ module _ (n : ℕ) (sets : List ℕ) (cells : ℕ) (alone : AreAlone n sets cell
         own_mate k m lk lm same =
             let a = apart k m lk lm in
             let b = apart m k lm lk in
-            let d : has_bit cells k ≡ false → has_bit cells m ≡ false → k ≡ m =
+            let d : cells k ≡ false → cells m ≡ false → k ≡ m =
             λ off off_m. different (rest-has (length sets) cells lk off) (rest-has (length sets) cells lm off_m) same in
             grind arith
 
@@ -184,7 +184,7 @@ last-below (suc zero) passes some = grind (arith, nat_tests)
 last-below (suc (suc n)) passes some = grind (arith, nat_tests, last-below (suc n) passes (omega arith))
 
 -- ---- where the rest is paired, some pairing of the house pairs it so
-module _ (n : ℕ) (sets : List ℕ) (cells : ℕ) (alone : AreAlone n sets cells) (paired : List ℕ) (p : IsPaired n sets (rest_of (length sets) cells) paired) where
+module _ (n : ℕ) (sets : List ℕ) (cells : ℕ → Bool) (alone : AreAlone n sets cells) (paired : List ℕ) (p : IsPaired n sets (rest_of (length sets) cells) paired) where
   abbrev left : List ℕ
   left = rest_of (length sets) cells
 
@@ -193,7 +193,7 @@ module _ (n : ℕ) (sets : List ℕ) (cells : ℕ) (alone : AreAlone n sets cell
   at k = last (length left) (λ i. eqb (slice_index left i) k)
 
   mate : ℕ → ℕ
-  mate k = cond (has_bit cells k) (last n (has_in sets k)) (slice_index paired (at k))
+  mate k = cond (cells k) (last n (has_in sets k)) (slice_index paired (at k))
 
   pub house_mates : List ℕ
   house_mates = map mate (range_with_len 0 (length sets))
@@ -219,14 +219,14 @@ module _ (n : ℕ) (sets : List ℕ) (cells : ℕ) (alone : AreAlone n sets cell
       (λ k out. refl)
     where
       own : (k v : ℕ) → k < length sets → v < n → has_in sets k v ≡ true → has_in sets k (slice_index house_mates k) ≡ true
-      own k v lk lv has = elim (cases_Bool (has_bit cells k)) [
+      own k v lk lv has = elim (cases_Bool (cells k)) [
         | inl on ↦ rw (mates-at k lk, on) (last-passes n (has_in sets k) v lv has)
         | inr off ↦ let w = rest-has (length sets) cells lk off in
             rw (sym (ap (slice_index house_mates) w.2) ∙ mates-rest w.0 w.1) (rw w.2 at (p.joined w.0 w.1))
       ]
 
   -- it shows the value of a cell that is alone
-  pub shown_alone : (k v : ℕ) → k < length sets → has_bit cells k ≡ true → has_in sets k v ≡ true → is_struck n sets k v ≡ false
+  pub shown_alone : (k v : ℕ) → k < length sets → cells k ≡ true → has_in sets k v ≡ true → is_struck n sets k v ≡ false
   shown_alone k v lk on has =
       let a = alone k lk on in
       rw (a.only (slice_index house_mates k) (house_pairing.joined k lk) ∙ sym (a.only v has)) at (shown_by_pairing sets house_pairing k)
@@ -235,15 +235,3 @@ module _ (n : ℕ) (sets : List ℕ) (cells : ℕ) (alone : AreAlone n sets cell
 pub decided_by_all : {n : ℕ} {sets : List ℕ} → ((k v : ℕ) → k < length sets → v < n → has_in sets k v ≡ true → is_struck n sets k v ≡ false)
     → KeepsFillings n sets sets
 decided_by_all all = grind (arith, common_steps)
-
--- where all are alone, nothing more is struck
-pub decided_alone : {n : ℕ} {sets : List ℕ} (cells : ℕ) → AreAlone n sets cells → ((k : ℕ) → k < length sets → has_bit cells k ≡ true)
-    → KeepsFillings n sets sets
-decided_alone {n} {sets} cells alone all = decided_by_all
-    (λ k v lk lv has. shown_alone n sets cells alone (rest_of (length sets) cells) paired k v lk (all k lk) has)
-  where
-    none : (i : ℕ) → i < length (rest_of (length sets) cells) → ⊥
-    none i li = let r = rest-in (length sets) cells li in true≢false (sym (all (slice_index (rest_of (length sets) cells) i) r.0) ∙ r.1)
-
-    paired : IsPaired n sets (rest_of (length sets) cells) (rest_of (length sets) cells)
-    paired = record { len = refl; in_range = λ i li. absurd (none i li); joined = λ i li. absurd (none i li); own = λ i j li lj same. absurd (none i li) }

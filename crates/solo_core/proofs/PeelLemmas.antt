@@ -1,12 +1,13 @@
 -- Striking the value of a cell that has one alone from the other cells takes no filling away.
 use Rattle.std.proofs.lemmas.Grind.{common_steps}
-use Rattle.std.proofs.Common.{◌≡◌, ℕ, ◌+◌, ◌<◌, ◌⊎◌, Bool, true, false, ◌&&◌, ◌||◌, eqb, List, map, length, slice_index, refl, sym, ap, ◌∙◌, inl, inr, arith}
-use Rattle.solo_core.specs.Common.{cases_Bool, cases_eq, eq-eqb, eqb-true, true≢false, false_from_ne_true, true_from_ne_false, nat_tests, has_bit, set_of_bits, zero-bits, has_in, is_struck, no_repeat}
+use Rattle.std.proofs.Common.{◌≡◌, ℕ, ◌+◌, ◌<◌, ◌⊎◌, true, false, not, ◌&&◌, ◌||◌, ◌^◌, bit_and, ltb, List, map, length, slice_index, refl, sym, ap, ◌∙◌, inl, inr, arith}
+use Rattle.solo_core.specs.Common.{cases_eq, eq-eqb, eqb-true, true≢false, false_from_ne_true, true_from_ne_false, nat_tests, has_bit, set_of_bits, zero-bits, both-bits, has_in, is_struck, no_repeat}
 use Rattle.engine_core.specs.FillingLaws.{shown_from_test}
-use Rattle.solo_core.specs.Peeled.{IsPeeled, IsAlone, AreAlone, AreCounts, IsSingleSet, IsDropped, PairsCells, KeepsFillings}
+use Rattle.solo_core.specs.Peeled.{IsPeeled, IsAlone, AreLone, AreCounts, meets, IsSingleSet, IsDropped, PairsCells, KeepsFillings}
 use Rattle.solo_core.proofs.MateLemmas.{shown_by_pairing, pairing_of_filling}
 use Rattle.solo_core.specs.NoRepeatLaws.{none_missed}
-use Rattle.solo_core.proofs.Marks.{none_in_zero}
+use Rattle.solo_core.proofs.Marks.{none_in_zero, some_set}
+use Rattle.std.proofs.lemmas.Nat.{and_le_r}
 
 -- ---- what is peeled
 -- a pairing is one of other sets where they have its values too
@@ -28,9 +29,6 @@ peeled-more {n} a b = record {
   inside = λ k v lk on. a.inside k v lk (b.inside k v (omega (arith, a.as_many)) on);
   keeps = λ mates p k lk. b.keeps mates (pairing_peeled n a p) k (omega (arith, a.as_many));
 }
-
-pub alone-none : (n : ℕ) {sets : List ℕ} → AreAlone n sets 0
-alone-none n k lk on = absurd (true≢false (sym on ∙ zero-bits k))
 
 -- ---- counts
 pub counts-none : {sets : List ℕ} {some single shared : ℕ} → (some ≡ 0) × (single ≡ 0) × (shared ≡ 0) → AreCounts sets 0 some single shared
@@ -60,6 +58,12 @@ counts-more first c a b d = record {
   ];
   shares = λ j k v lt lk on_j on_k. grind (arith, nat_tests, d v, c.has j v, c.shares j k v lt);
 }
+
+-- a cell with one of the values meets them
+pub meets-here : (sets : List ℕ) (values k v : ℕ) → has_in sets k v ≡ true → has_bit values v ≡ true → meets sets values k ≡ true
+meets-here sets values k v has on = true_from_ne_false (meets sets values k)
+    (λ off. let z : bit_and (slice_index sets k) values ≡ 0 = grind (arith, nat_tests) in
+    true≢false (sym (both-bits (slice_index sets k) values v ∙ grind arith) ∙ ap (λ b. has_bit b v) z ∙ zero-bits v))
 
 -- what is dropped, no pairing has: each value has a cell, and a cell with one value alone has it
 module _ {n : ℕ} {old : List ℕ} (square : length old ≡ n) {some single shared : ℕ} (c : AreCounts old (length old) some single shared) where
@@ -106,12 +110,20 @@ module _ {n : ℕ} {old : List ℕ} (square : length old ≡ n) {some single sha
         apart = λ m lm ne. false_from_ne_true _ (λ there. true≢false (sym (shares m k v lm lk ne there has) ∙ off));
       }
 
-pub alone-more : {n : ℕ} {sets : List ℕ} (cells more cell : ℕ) (on : Bool) → AreAlone n sets cells → (on ≡ true → IsAlone n sets cell)
-    → ((k : ℕ) → has_bit more k ≡ (has_bit cells k || (on && eqb k cell))) → AreAlone n sets more
-alone-more cells more cell on alone a bit k lk set = elim (cases_Bool (has_bit cells k)) [
-  | inl was ↦ alone k lk was
-  | inr off ↦ let b = bit k in let both : (k ≡ cell) × (on ≡ true) = (grind (arith, nat_tests), grind (arith, nat_tests)) in rw both.0 (a both.1)
-]
+  -- the values that some cell has alone and no two have
+  pub lone-counts : {lone : ℕ} → lone < 2 ^ 32 → ((v : ℕ) → has_bit lone v ≡ (has_bit single v && (ltb v n && not (has_bit shared v)))) → AreLone n old lone
+  lone-counts {lone} low is = record {
+    alone = λ k lk on.
+        let at = some_set (bit_and (slice_index old k) lone) (omega (arith, and_le_r (slice_index old k) lone)) on in
+        let both = both-bits (slice_index old k) lone at.0 in
+        let i = is at.0 in
+        alone-lone k at.0 lk (grind (arith, nat_tests)) (grind arith) (grind arith) (grind arith);
+    held = λ v on.
+        let i = is v in
+        let j = c.singles v (grind arith) in
+        let has = j.2 v ∙ eq-eqb v v refl in
+        (j.0, j.1, meets-here old lone j.0 v has on, has);
+  }
 
 -- ---- what is decided of the peeled sets is decided of the sets
 -- what is shown by a pairing is shown where each pairing of the sets is one of the others

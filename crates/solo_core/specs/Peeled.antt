@@ -1,6 +1,6 @@
 -- What may be struck from a house before its cells are paired with values: the value of a cell that has one alone, from
 -- the other cells; and the other values of a cell that is the only one with some value.
-use Rattle.std.specs.Prelude.{◌≡◌, ℕ, ◌<◌, ◌&&◌, ◌||◌, ◌==◌, ◌⊎◌, Bool, true, false, not, List, length, slice_index}
+use Rattle.std.specs.Prelude.{◌≡◌, ℕ, ◌<◌, ◌&&◌, ◌||◌, ◌==◌, ◌⊎◌, bit_and, Bool, true, false, not, List, length, slice_index}
 use Rattle.solo_core.specs.Common.{range_with_len, filter, IsPairing, IsShortSet, has_bit, has_in, strikes_by_fillings, IsDecided, no_repeat}
 
 -- each cell has a value of its own, which its set has
@@ -30,17 +30,33 @@ pub record IsAlone (n : ℕ) (sets : List ℕ) (cell : ℕ) : Type 0 where
 abbrev pub AreCellsOf : List ℕ → List ℕ → Type 0
 AreCellsOf sets rest = (i : ℕ) → i < length rest → slice_index rest i < length sets
 
--- each cell whose bit is set is
-abbrev pub AreAlone : ℕ → List ℕ → ℕ → Type 0
-AreAlone n sets cells = (k : ℕ) → k < length sets → has_bit cells k ≡ true → IsAlone n sets k
+-- each of these cells is
+abbrev pub AreAlone : ℕ → List ℕ → (ℕ → Bool) → Type 0
+AreAlone n sets cells = (k : ℕ) → k < length sets → cells k ≡ true → IsAlone n sets k
 
--- the cells whose bit is not set
-abbrev pub rest_of : ℕ → ℕ → List ℕ
-rest_of n cells = filter (λ k. not (has_bit cells k)) (range_with_len 0 n)
+-- whether the cell has one of the values whose bit is set
+abbrev pub meets : List ℕ → ℕ → ℕ → Bool
+meets sets values cell = not (bit_and (slice_index sets cell) values == 0)
+
+-- the other cells
+abbrev pub rest_of : ℕ → (ℕ → Bool) → List ℕ
+rest_of n cells = filter (λ k. not (cells k)) (range_with_len 0 n)
 
 -- the rest: the cells of a house but some that are alone
 abbrev pub IsRest : ℕ → List ℕ → List ℕ → Type 0
-IsRest n sets rest = (cells : ℕ) × (rest ≡ rest_of (length sets) cells) × AreAlone n sets cells
+IsRest n sets rest =
+    (cells : ℕ → Bool) × (rest ≡ rest_of (length sets) cells) × AreAlone n sets cells
+
+-- the values whose bit is set are those of cells that are alone: the cells that meet them are, and each is one's
+pub record AreLone (n : ℕ) (sets : List ℕ) (lone : ℕ) : Type 0 where
+  pub alone : AreAlone n sets (meets sets lone)
+  pub held : (v : ℕ) → has_bit lone v ≡ true
+      → (k : ℕ) × (k < length sets) × (meets sets lone k ≡ true) × (has_in sets k v ≡ true)
+
+-- each cell that meets none of these values has all others
+abbrev pub AreWhole : ℕ → List ℕ → ℕ → Type 0
+AreWhole n sets lone = (k v : ℕ) → k < length sets → v < n → meets sets lone k ≡ false
+    → has_bit lone v ≡ false → has_in sets k v ≡ true
 
 -- whether a cell of the rest has a value; each has a value of its own; and some have fewer values than they are
 abbrev pub has_in_rest : List ℕ → List ℕ → ℕ → ℕ → Bool

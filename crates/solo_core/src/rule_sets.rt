@@ -185,12 +185,15 @@ impl RuleSet for Fillings {
     }
 
     fn filter(&self, _house: usize, sets: &[u32], kept: &mut [u32], work: &mut Pairing) -> bool {
-        keep_houses(self.puzzle.n(), sets, kept, work);
-        true
+        keep_houses(self.puzzle.n(), sets, kept, work)
     }
 
     fn accept(&self, _pairing: &mut Pairing, grid: &Grid) -> bool {
         check_solo(&self.puzzle, grid).is_none()
+    }
+
+    fn completes(&self, _pairing: &mut Pairing, _grid: &Grid) -> bool {
+        true
     }
 }
 
@@ -258,10 +261,9 @@ impl RuleSet for Crossings {
     fn filter(&self, house: usize, sets: &[u32], kept: &mut [u32], pairing: &mut Pairing) -> bool {
         let count = houses(&self.puzzle);
         if house < count {
-            keep_houses(self.puzzle.n(), sets, kept, pairing);
-        } else {
-            keep_crossed(&self.puzzle, house - count, sets, kept);
+            return keep_houses(self.puzzle.n(), sets, kept, pairing);
         }
+        keep_crossed(&self.puzzle, house - count, sets, kept);
         true
     }
 

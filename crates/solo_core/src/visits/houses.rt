@@ -1,45 +1,62 @@
 //! What a visit of a house keeps: the values that fillings without repeat have.
 
-ghost use Rattle.std.specs.Prelude.{◌≡◌, ℕ, ◌<◌, ◌≤◌, ◌&&◌, length};
+ghost use Rattle.std.specs.Prelude.{◌≡◌, ℕ, ◌<◌, ◌≤◌, ◌&&◌, false, length, true};
 ghost use Rattle.grid_core.specs.Candidates.{max_values};
 ghost use Rattle.solo_core.specs.Common.{has_bit as is_set, has_in};
-ghost use Rattle.solo_core.specs.Peeled.{IsRest, IsPaired, KeepsReaching, PairsCells, KeepsFillings};
+ghost use Rattle.solo_core.specs.Peeled.{AreLone, IsRest, IsPaired, KeepsReaching, PairsCells, KeepsFillings};
 
-use crate::visits::bits::{all_below, next_bit, with_bit_if};
+use crate::visits::bits::{next_bit, others_below, with_bit_if};
 use crate::visits::mates::{MANY, pair_rest, rest_of, write_own, write_rest};
-use crate::visits::peel::peel;
+use crate::visits::peel::{are_whole, copy_counted, peel};
 use crate::visits::reach::close_under_steps;
 use crate::visits::turning::lie_on_rounds;
 use engine_core::has_bit;
 use grid_core::{Paired, Pairing};
 
 /// Decides what is kept of the sets of a house: bit `v` of the `k`-th stays exactly where some filling without repeat
-/// has the value `v` in the `k`-th cell.
+/// has the value `v` in the `k`-th cell. Says whether anything may be struck; else nothing is, whatever is in `kept`.
 ///
-/// The values of cells that have one alone are struck from the others first. One filling of the rest is found by a
-/// pairing. Another one has the value `v` in a cell exactly where one can go from `v` back to the cell's value in the
-/// first filling, each time to a value that the cell of the last could have instead: the cells on the way change their
-/// values in turn.
-pub(crate) fn keep_houses(values: u8, sets: &[u32], kept: &mut [u32], pairing: &mut Pairing)
+/// The values of cells that have one alone are struck from the others first. If the others have all other values each,
+/// nothing more is struck. Else one filling of the rest is found by a pairing. Another one has the value `v` in a cell
+/// exactly where one can go from `v` back to the cell's value in the first filling, each time to a value that the cell
+/// of the last could have instead: the cells on the way change their values in turn.
+pub(crate) fn keep_houses(values: u8, sets: &[u32], kept: &mut [u32], pairing: &mut Pairing) -> bool
     requires few { values ≤ max_values }
     requires square { length sets.now ≡ values }
     requires as_many { length kept.old ≡ length sets.now }
     requires room { values ≤ pairing.old.room }
-    ensures decided { KeepsFillings values sets.now kept.new }
+    ensures decided { result ≡ true → KeepsFillings values sets.now kept.new }
+    ensures none { result ≡ false → KeepsFillings values sets.now sets.now }
     ensures room { pairing.new.room ≡ pairing.old.room }
 {
-    kept.copy_from_slice(sets);
-    let alone = peel(values, kept);
-    if alone == all_below(values) {
-        return;
+    let counts = copy_counted(sets, kept);
+    if !counts.are_open() && are_whole(values, counts.lone(values), sets) {
+        return false;
     }
-    let others = rest_of(kept.len(), alone);
+    let lone = peel(values, counts, kept);
+    if !are_whole(values, lone, kept) {
+        keep_others(values, lone, kept, pairing);
+    }
+    true
+}
+
+/// Decides what is kept of a house in which these values are those of cells that are alone.
+fn keep_others(values: u8, lone: u32, kept: &mut [u32], pairing: &mut Pairing)
+    requires few { values ≤ max_values }
+    requires square { length kept.old ≡ values }
+    requires lone { AreLone values kept.old lone }
+    requires room { values ≤ pairing.old.room }
+    ensures decided { KeepsFillings values kept.old kept.new }
+    ensures room { pairing.new.room ≡ pairing.old.room }
+{
+    let others = rest_of(kept, lone);
     let rest: &[u8] = &others;
+    let all = others_below(values, lone);
     let mut paired_space = [0u8; MANY];
     let paired = &mut paired_space[..rest.len()];
     match pair_rest(values, kept, rest, pairing, paired) {
         Paired::Short => kept.fill(0),
-        Paired::All if lie_on_rounds(values, kept, rest, paired) => {}
+        Paired::All if lie_on_rounds(values, all, kept, rest, paired) => {}
         Paired::All => keep_paired(values, rest, paired, kept),
     }
 }

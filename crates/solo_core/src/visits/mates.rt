@@ -4,27 +4,26 @@
 ghost use Rattle.std.specs.Prelude.{◌≡◌, ℕ, ◌<◌, ◌≤◌, true, length, slice_index};
 ghost use Rattle.grid_core.specs.Candidates.{max_values};
 ghost use Rattle.solo_core.specs.Common.{AreDifferent, has_bit as is_set};
-ghost use Rattle.solo_core.specs.Peeled.{IsRest, IsPaired, IsShort, HasMate, GotMates, KeepMates, rest_of as rest_cells, PairsCells, AreCellsOf};
+ghost use Rattle.solo_core.specs.Peeled.{IsRest, IsPaired, IsShort, HasMate, GotMates, KeepMates, meets, rest_of as rest_cells, PairsCells, AreCellsOf};
 
 use crate::visits::bits::next_bit;
 use crate::visits::graph::CellValueGraph;
 use crate::visits::quick::pair_quickly;
 use arrayvec::ArrayVec;
-use engine_core::has_bit;
 use grid_core::{Paired, Pairing};
 
 /// More cells than a house has.
 pub(crate) const MANY: usize = 32;
 
-/// The cells whose bit is not set.
-pub(crate) fn rest_of(len: usize, alone: u32) -> ArrayVec<u8, MANY>
-    requires { len ≤ max_values }
-    ensures rest { result.items ≡ rest_cells len alone }
-    ensures few { length result.items ≤ len }
+/// The cells that have none of these values.
+pub(crate) fn rest_of(sets: &[u32], lone: u32) -> ArrayVec<u8, MANY>
+    requires { length sets.now ≤ max_values }
+    ensures rest { result.items ≡ rest_cells (length sets.now) (meets sets.now lone) }
+    ensures few { length result.items ≤ length sets.now }
 {
     let mut rest = ArrayVec::new();
-    for cell in 0..len {
-        if has_bit(alone, cell as u8) {
+    for cell in 0..sets.len() {
+        if sets[cell] & lone != 0 {
             continue;
         }
         rest.push(cell as u8);

@@ -3,6 +3,7 @@
 
 ghost use Rattle.std.specs.Prelude.{◌≡◌, ℕ, ◌<◌, ◌≤◌, true, length, slice_index};
 ghost use Rattle.grid_core.specs.Candidates.{max_values};
+ghost use Rattle.solo_core.specs.Common.{has_bit as is_set, has_in};
 ghost use Rattle.solo_core.specs.Ways.{StaysAfter, StaysBefore, LiesOnRounds};
 ghost use Rattle.solo_core.specs.Peeled.{AreCellsOf};
 
@@ -16,8 +17,11 @@ struct Ends {
 }
 
 /// Whether each value of these cells, paired so, leads to the first one's mate and back, as far as that is found soon.
-pub(crate) fn lie_on_rounds(values: u8, sets: &[u32], rest: &[u8], mates: &[u8]) -> bool
+/// `all` has these values.
+pub(crate) fn lie_on_rounds(values: u8, all: u32, sets: &[u32], rest: &[u8], mates: &[u8]) -> bool
     requires few { values ≤ max_values }
+    requires all { (i v : ℕ) → i < length rest.now → v < values
+        → has_in sets.now (slice_index rest.now i) v ≡ true → is_set all v ≡ true }
     requires rest_in { AreCellsOf sets.now rest.now }
     requires as_many { length mates.now ≡ length rest.now }
     requires small { (i : ℕ) → i < length rest.now → slice_index mates.now i < values }
@@ -25,10 +29,6 @@ pub(crate) fn lie_on_rounds(values: u8, sets: &[u32], rest: &[u8], mates: &[u8])
 {
     if rest.is_empty() {
         return false;
-    }
-    let mut all = 0u32;
-    for i in 0..rest.len() {
-        all |= sets[usize::from(rest[i])];
     }
     let root = with_bit(0, usize::from(mates[0]));
     let mut ends = Ends {

@@ -1,4 +1,4 @@
-use Rattle.std.proofs.Common.{◌++◌, ap, arith, length, sym, true, ◌<◌, ◌≤◌, ◌∙◌}
+use Rattle.std.proofs.Common.{◌++◌, ap, arith, length, sym, true, true≢false, ◌<◌, ◌≤◌, ◌∙◌}
 use Rattle.solo_core.specs.Common.{House, no_repeat, strikes_by_fillings}
 use Rattle.solo_core.specs.RuleLaws.{crossings_sound}
 use Rattle.solo_core.specs.RuleSets.{crossings_of, filled_houses}
@@ -12,13 +12,13 @@ returns-then-house-count-clause-kept c = λ K are.
     let lt : c.args.house < length (filled_houses p) = omega (arith, filled-length p, c.houses-count.ensures.value) in
     let decides = decides-at (strikes_by_fillings no_repeat) p lt ∙ ap (λ (house : House). house.decides) (first_at (filled_houses p) (crossings_of p) lt) in
     kept-houses true p (filled_houses p ++ crossings_of p)
-    (crossings_sound p c.args.self.now.is_solo) c.requires.house_in are
-    (rw (c.n.ensures.value, decides) at c.keep_houses.ensures.decided)
+    (crossings_sound p c.args.self.now.is_solo) c.requires.house_in are c.keep_houses.result
+    (rw (c.n.ensures.value, decides) at c.keep_houses.ensures.decided) (rw (c.n.ensures.value, decides) at c.keep_houses.ensures.none)
 
-pub returns-else-house-count-clause-kept : goal.returns-else-house-count-clause-kept
-returns-else-house-count-clause-kept c = λ K are.
+pub returns-clause-kept : goal.returns-clause-kept
+returns-clause-kept c = λ K are.
     let p = c.args.self.now.puzzle in
     let le : length (filled_houses p) ≤ c.args.house = omega (arith, filled-length p, c.houses-count.ensures.value) in
     let decides = ap (λ (house : House). house.decides) (later_at (filled_houses p) (crossings_of p) le) in
-    kept-houses true p (filled_houses p ++ crossings_of p) (crossings_sound p c.args.self.now.is_solo) c.requires.house_in are
-    (rw (c.houses-count.ensures.value ∙ sym (filled-length p), decides) at c.keep_crossed.ensures)
+    kept-houses true p (filled_houses p ++ crossings_of p) (crossings_sound p c.args.self.now.is_solo) c.requires.house_in are true
+    (λ _. rw (c.houses-count.ensures.value ∙ sym (filled-length p), decides) at c.keep_crossed.ensures) (λ e. absurd (true≢false e))

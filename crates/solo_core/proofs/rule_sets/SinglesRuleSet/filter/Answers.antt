@@ -1,4 +1,4 @@
-use Rattle.std.proofs.Common.{false}
+use Rattle.std.proofs.Common.{false, true, true≢false}
 use Rattle.solo_core.specs.RuleLaws.{singles_sound}
 use Rattle.solo_core.proofs.DecidingLemmas.{kept-deciding}
 use Rattle.solo_core.proofs.rule_sets.SinglesRuleSet.filter.Goals as goal
@@ -6,4 +6,5 @@ use Rattle.solo_core.proofs.rule_sets.SinglesRuleSet.filter.Goals as goal
 pub returns-clause-kept : goal.returns-clause-kept
 returns-clause-kept c = λ K are.
     let p = c.args.self.now.puzzle in
-    kept-deciding false p (singles_sound p c.args.self.now.is_solo) c.requires.house_in K are (rw c.n.ensures.value at c.keep_singles.ensures)
+    kept-deciding false p (singles_sound p c.args.self.now.is_solo) c.requires.house_in K are true
+    (λ _. rw c.n.ensures.value at c.keep_singles.ensures) (λ e. absurd (true≢false e))

@@ -1,4 +1,5 @@
-use Rattle.solo_core.proofs.PeelLemmas.{peeled-more}
+use Rattle.std.proofs.Common.{◌∙◌, arith}
+use Rattle.solo_core.proofs.PeelLemmas.{peeled-more, lone-counts}
 use Rattle.solo_core.proofs.visits.peel.peel.Goals as goal
 
 pub loop-turn-preserved : goal.loop-turn-preserved
@@ -9,3 +10,11 @@ loop-turn-preserved c = record {
 
 pub returns-then-narrowed-counts-2-clause-peeled : goal.returns-then-narrowed-counts-2-clause-peeled
 returns-then-narrowed-counts-2-clause-peeled c = peeled-more c.loop-turn.invariant.peeled c.narrow_all-narrowed.ensures.peeled
+
+pub returns-then-narrowed-counts-2-clause-lone : goal.returns-then-narrowed-counts-2-clause-lone
+returns-then-narrowed-counts-2-clause-lone c =
+    lone-counts (c.narrow_all-narrowed.ensures.peeled.as_many ∙ c.loop-turn.invariant.peeled.as_many ∙ c.requires.square)
+    c.narrow_all-narrowed.ensures.counts (omega arith) c.lone.ensures
+
+pub returns-clause-lone : goal.returns-clause-lone
+returns-clause-lone c = lone-counts (c.loop-turn.invariant.peeled.as_many ∙ c.requires.square) c.loop-turn.invariant.counts (omega arith) c.lone-2.ensures
