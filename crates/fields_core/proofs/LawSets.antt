@@ -11,7 +11,8 @@ use Rattle.fields_core.proofs.LightSeen.{black-unseen}
 use Rattle.fields_core.proofs.LightLatest.{few-places}
 use Rattle.fields_core.proofs.LightTold.{column-of-place, place-row, row-of-place}
 use Rattle.fields_core.proofs.RuleLemmas.{same-shape, start-all, start-blocked}
-use Rattle.fields_core.proofs.PositionSteps.{step-onward, step-walks}
+use Rattle.engine_core.proofs.PlaneMarks.{step-onward}
+use Rattle.fields_core.proofs.PositionSteps.{step-walks}
 use Rattle.fields_core.proofs.TentCounting.{tent-counting, tent-lawful}
 use Rattle.fields_core.proofs.TentHouseLemmas.{square-none}
 use Rattle.fields_core.proofs.TentLines.{line-all, line-more, line-skip, line-start}

@@ -1,35 +1,24 @@
 -- Planes as a position: what a step leaves.
-use Rattle.std.proofs.Common.{◌≡◌, ◌∙◌, ℕ, ◌+◌, ◌*◌, ◌<◌, ◌≤◌, ◌⊎◌, Bool, List, length, set, true, None, refl, ap, inl, inr, arith}
+use Rattle.std.proofs.Common.{◌≡◌, ◌∙◌, ℕ, ◌+◌, ◌*◌, ◌<◌, ◌≤◌, ◌⊎◌, Bool, List, length, set, true, refl, ap, arith}
 use Rattle.std.proofs.lemmas.Bool.{cases_Bool, cases_eq, lt-ltb}
-use Rattle.std.proofs.lemmas.List.{get_or-set_same, get_or-set_other}
 use Rattle.std.proofs.lemmas.Grind.{common_steps}
-use Rattle.grid_core.specs.Candidates.{Candidates, all_of, grid_of, is_full, only, pick}
+use Rattle.grid_core.specs.Candidates.{Candidates, all_of, grid_of, is_full, only}
 use Rattle.grid_core.specs.Extent.{Extent}
 use Rattle.grid_core.proofs.CandidateLemmas.{count_below-pos, is_dead-each, is_dead-not}
 use Rattle.grid_core.proofs.GridLemmas.{only-here, only-other}
-use Rattle.grid_core.proofs.RowLemmas.{pick-few, pick-none}
-use Rattle.grid_core.proofs.TakingLemmas.{put_back-none}
 use Rattle.grid_core.specs.Planes.{Layers, has, cells_of, IsFurther, IsBack}
 use Rattle.engine_core.specs.RuleSystem.{RuleSystem, IsGridOf, IsLawful, needs_of, FitsIn}
 use Rattle.engine_core.specs.ClosingList.{IsAlive}
-use Rattle.engine_core.specs.Position.{IsOnward}
-use Rattle.engine_core.specs.TrailPosition.{mark_at, AreMarks}
+use Rattle.engine_core.specs.TrailPosition.{mark_at}
 use Rattle.engine_core.proofs.JudgeLemmas.{grid-fits, grid-long}
+use Rattle.engine_core.proofs.PlaneMarks.{marks-further, marks-noted, noted-each}
 use Rattle.engine_core.proofs.PositionLemmas.{marks-returned}
 use Rattle.fields_core.specs.CountHouse.{CountHouse, count_puzzle, start_of}
-use Rattle.fields_core.specs.AnyPlanes.{places_of, IsSuited}
-use Rattle.fields_core.specs.PlanePosition.{PlacedPlanes, IsUnderWay, standing_by}
+use Rattle.fields_core.specs.AnyPlanes.{places_of, IsBoard, IsSuited}
+use Rattle.fields_core.specs.PlanePosition.{PlacedPlanes, IsUnderWay}
 
 -- ---- a step of the board, and its marks
 -- values were struck, and each cell has one
-pub step-onward : (p p' : Layers) (marks : List ℕ) (live : ℕ) → AreMarks marks live p.len → IsFurther p p'
-    → IsOnward (standing_by p marks live) (standing_by p' marks live)
-step-onward p p' marks live are further = record {
-  inside = further.inside;
-  marks = refl;
-  back = λ level lt. further.back (mark_at marks level) (are.within level lt);
-}
-
 pub step-walks : {S L : Type 0} {p : RuleSystem} {size : Extent} {is_own : S ⊎ L → Type 0} (s : PlacedPlanes S L) (p' : Layers) (kept : S ⊎ L)
     → IsUnderWay p size is_own s → IsFurther s.planes p' → IsAlive p (has p') → places_of kept ≡ places_of s.kept → is_own kept
     → IsUnderWay p size is_own (record s { planes = p'; kept = kept })
@@ -45,7 +34,7 @@ step-walks s p' kept walks further alive words is = record {
     inside = λ c v on. walks.board.inside c v (further.inside c v on);
   };
   few = walks.few;
-  marked = record { within = λ k lt. let le = walks.marked.within k lt in let g = further.grows in omega arith; ascend = walks.marked.ascend };
+  marked = marks-further s.planes p' s.marks s.marked walks.marked further;
   backs = λ level lt. rw (further.back (mark_at s.marks level) (walks.marked.within level lt)) (walks.backs level lt);
 }
 
@@ -65,7 +54,7 @@ leave-walks {S} {L} {p} s p' cell v walks further lt on left =
 pub mark-walks : {S L : Type 0} {p : RuleSystem} {size : Extent} {is_own : S ⊎ L → Type 0} (s : PlacedPlanes S L) (level : ℕ)
     → IsUnderWay p size is_own s → level < p.cells → level ≤ s.marked → level < length s.marks
     → IsUnderWay p size is_own (record s { marks = set s.marks level s.planes.len; marked = level + 1 })
-mark-walks s level walks lt outer room = record {
+mark-walks {p = p} s level walks lt outer room = record {
   fits = walks.fits;
   same_size = walks.same_size;
   cells = walks.cells;
@@ -73,33 +62,9 @@ mark-walks s level walks lt outer room = record {
   own = walks.own;
   board = walks.board;
   few = omega arith;
-  marked = record { within = within; ascend = ascend };
-  backs = λ k less. elim (cases_eq k level) [
-    | inl e ↦ rw (e, here) (rw (put_back-none s.planes.size.w (has s.planes) s.planes.takings s.planes.len s.planes.len (omega arith)) walks.board)
-    | inr ne ↦ rw (other k ne) (walks.backs k (omega arith))
-  ];
+  marked = marks-noted s.marks s.planes.len level walks.marked outer room;
+  backs = noted-each s.marks s.planes.len level walks.marked outer room s.planes (IsBoard p) refl walks.backs walks.board;
 }
-  where
-    marks : List ℕ
-    marks = set s.marks level s.planes.len
-
-    here : mark_at marks level ≡ s.planes.len
-    here = get_or-set_same s.marks level s.planes.len 0 room
-
-    other : (k : ℕ) → (k ≡ level → ⊥) → mark_at marks k ≡ mark_at s.marks k
-    other k ne = get_or-set_other s.marks level k s.planes.len 0 ne
-
-    within : (k : ℕ) → k < level + 1 → mark_at marks k ≤ s.planes.len
-    within k less = elim (cases_eq k level) [
-      | inl e ↦ rw (e, here) (omega arith)
-      | inr ne ↦ rw (other k ne) (walks.marked.within k (omega arith))
-    ]
-
-    ascend : (j k : ℕ) → j ≤ k → k < level + 1 → mark_at marks j ≤ mark_at marks k
-    ascend j k le less = elim (cases_eq k level) [
-      | inl e ↦ rw (e, here) (within j (omega arith))
-      | inr ne ↦ rw (other k ne, other j (λ e. ne (omega arith))) (walks.marked.ascend j k le (omega arith))
-    ]
 
 -- the board was taken back to the mark of this level
 pub undo-walks : {S L : Type 0} {p : RuleSystem} {size : Extent} {is_own : S ⊎ L → Type 0} (s : PlacedPlanes S L) (p' : Layers) (level m : ℕ)
@@ -149,7 +114,3 @@ module _ {S L : Type 0} {p : RuleSystem} {size : Extent} {is_own : S ⊎ L → T
 
   pub walks-long : length grid ≡ p.cells
   walks-long = grid-long p (has s.planes) grid (cells_of s.planes) p.values walks.cells written
-
--- ---- the cell to branch on
-pub none-above : (n m : ℕ) (K : Candidates) → m ≤ n → pick n 2 K ≡ None → pick m 2 K ≡ None
-none-above n m K le none = pick-none m K (λ c lt. pick-few n K none c (omega arith))

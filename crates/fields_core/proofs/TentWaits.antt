@@ -35,7 +35,7 @@ use Rattle.fields_core.proofs.SquareLemmas.{square-has}
 use Rattle.fields_core.proofs.SquareVisits.{squares-are}
 use Rattle.fields_core.proofs.StepLaws.{steps-some}
 use Rattle.fields_core.proofs.PartIdle.{IsPartOf, closed-idle, in-back, in-below, in-front}
-use Rattle.fields_core.proofs.TentBeside.{cell-parts, row-in, step-lies}
+use Rattle.fields_core.proofs.TentBeside.{cell-parts, step-lies}
 use Rattle.fields_core.proofs.TentVisits.{square-is, square_places, tree-is}
 use Rattle.fields_core.proofs.TreeBoards.{trees-are}
 use Rattle.fields_core.proofs.CountListLemmas.{all-houses}
@@ -294,12 +294,3 @@ pub place-in_planes : (p : Tents) (planes : Layers) {from : Option ℕ} {place :
 place-in_planes p planes {from} {place} size is closed =
     let around : IsClosedAround (tent_rules p) (has planes) place = rw is at closed in
     rw size (around.within place around.value around.had).0
-
-pub place-room : {room : ℕ} (p : Tents) {planes : Layers} {from : Option ℕ} {place : ℕ}
-    → ArePlanes room planes → planes.size ≡ p.size → from ≡ Some place → IsClosedBut (tent_rules p) (has planes) from
-    → place / p.size.w < room
-place-room {room} p {planes} {from} {place} are size is closed =
-    let around : IsClosedAround (tent_rules p) (has planes) place = rw is at closed in
-    let pos : 0 < p.size.w = rw (← size) (omega (arith, are.lawful.w_low)) in
-    let low : p.size.h ≤ room = rw (← size) are.low in
-    omega (arith, low, row-in p.size.h place pos (around.within place around.value around.had).0)

@@ -5,6 +5,7 @@ use Rattle.grid_core.specs.Planes.{Layers, has, cells_of, back_at}
 use Rattle.engine_core.specs.Needs.{needs_in}
 use Rattle.engine_core.specs.declared.needs.Needs.{Needs as Counted}
 use Rattle.engine_core.specs.RuleSystem.{RuleSystem, Needs, needs_of, FitsIn}
+use Rattle.engine_core.specs.PlaneStanding.{standing_by}
 use Rattle.engine_core.specs.Position.{Standing}
 use Rattle.engine_core.specs.TrailPosition.{mark_at, AreMarks}
 use Rattle.fields_core.specs.AnyPlanes.{kept_in, layers_in, of_either, places_of, AreEnough, IsBoard, IsSuited}
@@ -38,10 +39,6 @@ pub record ArePlanes {S L : Type 0} (short : S → Needs → Type 0) (long : L �
   pub enough : AreEnough all_short (needs_in made) planes spare
 
 -- what a walk sees of it
-abbrev pub standing_by : Layers → List ℕ → ℕ → Standing
-standing_by p marks live =
-    record { board = has p; back = λ level. back_at p (mark_at marks level); marks = live }
-
 abbrev pub standing_of : {S L : Type 0} → PlacedPlanes S L → Standing
 standing_of s = standing_by s.planes s.marks s.marked
 

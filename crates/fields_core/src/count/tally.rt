@@ -37,8 +37,7 @@ impl Tally {
         Tally { must, may, empty }
     }
 
-    /// What a visit of a house with these bounds keeps of the set of a cell, as bits. Of a cell with both values a
-    /// value goes whose bound is reached.
+    /// What a visit of a house with these bounds keeps of a cell's set: of both values none whose bound is reached.
     pub(crate) fn kept(self, bounds: Bounds, both: bool) -> u32
         ensures { (v : ℕ) → v < 2 → has_bit result v ≡ stays self bounds both v }
     {

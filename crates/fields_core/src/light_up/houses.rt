@@ -29,8 +29,7 @@ fn push_number(names: &mut LightNames, puzzle: &LightPuzzle, place: usize) -> Re
     Ok(())
 }
 
-/// Adds the house of the run that begins at the white cell of number `at` along a line, unless the latest run reaches it.
-/// Gives the run that the cell is in.
+/// The run of the white cell of number `at` along a line. Its house is added, unless the latest run reaches the cell.
 fn push_run(
     names: &mut LightNames,
     line: &WhiteLine<'_>,
@@ -56,8 +55,7 @@ fn push_run(
     Ok((at, end))
 }
 
-/// Adds the houses of runs along rows and along columns, and of each white cell that cell and the cells that it sees, all by
-/// place.
+/// Adds by place the houses of runs along rows and along columns, and of each white cell with the cells that it sees.
 fn push_whites(
     along_rows: &mut LightNames,
     along_columns: &mut LightNames,

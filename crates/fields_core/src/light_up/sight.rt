@@ -23,8 +23,7 @@ fn sees_along(line: &WhiteLine<'_>, grid: &Grid, at: usize) -> bool
     next_passing(start, end, is_seen).is_some()
 }
 
-/// Whether the cell sees a bulb: one in another white cell of its row or column, with only white cells between. The grid has
-/// 1 at a bulb and 0 elsewhere.
+/// Whether the cell is white and sees a bulb, a 1 in another cell of its row or column with only white cells between.
 pub fn sees_a_bulb(puzzle: &LightPuzzle, grid: &Grid, place: usize) -> bool
     requires fits { IsGrid (light_cells puzzle.now) 2 grid.now }
     requires place_in { place < light_cells puzzle.now }

@@ -8,8 +8,7 @@ use crate::light_up::cells::is_white;
 use crate::light_up::line::WhiteLine;
 use gameid_core::{LightCell, LightPuzzle};
 
-/// The kinds of houses of Light Up. Each is told by a place: that of the number, of the first cell of the run, or of the
-/// white cell.
+/// The kinds of houses of Light Up, told by the place of the number, of the run's first cell, or of the white cell.
 #[derive(Clone, Copy)]
 pub enum LightHouse {
     /// The white cells beside a number.

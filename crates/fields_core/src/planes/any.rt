@@ -34,10 +34,6 @@ macro_rules! at_field {
 pub(crate) use at_field;
 
 /// Planes of words of 128 places, with what the puzzle keeps beside them.
-///
-/// # Errors
-///
-/// When memory was refused.
 fn long<G: PlaneGame>(
     alloc: Global,
     puzzle: &G,
@@ -55,10 +51,6 @@ fn long<G: PlaneGame>(
 
 /// Planes of words as long as the sides of the puzzle ask for, with what it keeps beside them. Where these words may be too
 /// short for a puzzle of these sizes, also planes of long words to change for.
-///
-/// # Errors
-///
-/// When memory was refused.
 pub(crate) fn planes_for<G: PlaneGame>(
     alloc: Global,
     puzzle: &G,

@@ -33,8 +33,7 @@ pub trait PlaneGame: CountGame {
     fn are_short(&self, made: Needs) -> bool
         ensures { result ≡ true → all_short (needs_in made) };
 
-    /// Whether the grid is a solution, where blocked cells hold 0 and each house with a cell is met.
-    /// The names are those of its houses.
+    /// Whether the grid is a solution, where blocked cells hold 0 and each house with a cell is met, by these names.
     fn completes(
         &self,
         names: &[HouseName<Self::Kind>],

@@ -79,10 +79,15 @@ impl<W: Word> PlaneNotes<W, TentsPuzzle> for TentNotes<W> {
         self.waits = Waits::new(planes, puzzle, from);
     }
 
+    #[inline(always)]
     fn sweep(&mut self, planes: &mut Planes<W>, puzzle: &TentsPuzzle) -> bool {
-        self.sweep_kind(planes, puzzle, Kind::Columns)
-            && self.sweep_kind(planes, puzzle, Kind::Rows)
-            && self.sweep_kind(planes, puzzle, Kind::Trees)
+        if !self.sweep_kind(planes, puzzle, Kind::Columns) {
+            return false;
+        }
+        if !self.sweep_kind(planes, puzzle, Kind::Rows) {
+            return false;
+        }
+        self.sweep_kind(planes, puzzle, Kind::Trees)
             && self.sweep_kind(planes, puzzle, Kind::Squares)
     }
 

@@ -76,8 +76,7 @@ impl<W: Word> Waits<W> {
         Waits::at(none).woken(no_lines, lines)
     }
 
-    /// What waits too once cells of these lines have lost 0, and cells of those 1: each line that has one, trees beside which
-    /// 1 is lost, and squares that have lost 0.
+    /// Lets lines wait that have lost a value, trees beside which 1 is lost, and squares that have lost 0.
     fn woken(self, zeros: Touched<W>, ones: Touched<W>) -> Waits<W>
         ensures { AreWoken W.bits W.room self zeros ones result }
     {

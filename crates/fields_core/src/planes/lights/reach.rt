@@ -68,8 +68,7 @@ impl<W: Word> LightTables<W> {
         h
     }
 
-    /// The first of some rows that follow each other, and the row behind the last. The house of no cell of another row has a
-    /// cell of both a column and a row of these lines.
+    /// From which row to before which one houses of cells may have a cell in both a row and a column of these lines.
     pub(crate) fn reach(
         &self,
         planes: &Planes<W>,

@@ -39,8 +39,7 @@ impl<W: Word> LightNotes<W> {
         true
     }
 
-    /// Visits the runs of a kind that wait, up to one that has no filling. They take 1 alone, which binds no run: then all of
-    /// the kind are idle.
+    /// Visits the runs of a kind that wait, up to one that has no filling. They take 1 alone: then all of them are idle.
     fn sweep_runs(&mut self, planes: &mut Planes<W>, puzzle: &LightPuzzle, kind: RunKind) -> bool
         requires ready { AreLightsReady W.bits W.room puzzle.now planes.old self.old }
         ensures visited { AreVisited
@@ -66,8 +65,7 @@ impl<W: Word> LightNotes<W> {
         true
     }
 
-    /// Visits the white cells that may strike, up to one whose house has no filling. They take 0 alone, which binds no white
-    /// cell.
+    /// Visits the white cells that may strike, up to one without a filling. They take 0 alone, which binds none of them.
     fn sweep_cells(&mut self, planes: &mut Planes<W>, puzzle: &LightPuzzle) -> bool
         requires ready { AreLightsReady W.bits W.room puzzle.now planes.old self.old }
         ensures visited { AreVisited (houses_below (lit_house puzzle.now) (light_cells puzzle.now))

@@ -21,10 +21,6 @@ pub struct LightTables<W: Word> {
 
 impl<W: Word> LightTables<W> {
     /// Words for so many cells, and for as many lines as words have places.
-    ///
-    /// # Errors
-    ///
-    /// When memory was refused.
     pub(crate) fn new(alloc: Global, cells: usize) -> Result<LightTables<W>, AllocError>
         ensures { IfOk result (λ tables. HasTables cells W.room tables) }
     {

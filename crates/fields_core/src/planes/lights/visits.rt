@@ -18,8 +18,7 @@ fn has_two<W: Word>(word: W) -> bool
     word.is_some() && word.without_lowest().is_some()
 }
 
-/// The numbers of a line that are in a run with a marked one, or nothing if two marked ones are in one run. The run of
-/// number `k` stands at the place `first + k * stride`.
+/// The numbers of a line in a run with a marked one, or nothing if a run has two. That of `k` is at `first + k * stride`.
 fn around<W: Word>(runs: &[W], first: usize, stride: usize, marked: W) -> Option<W>
     requires marked_in { (k : ℕ) → has_bit (W.bits marked) k ≡ true → k < W.room }
     requires within { (k : ℕ) → has_bit (W.bits marked) k ≡ true
@@ -83,8 +82,7 @@ fn beside<W: Word>(place: usize) -> W
     own.on().either(own.back())
 }
 
-/// Visits the house of a cell, if it has a number. Says whether the house has a filling, or no white cell beside it: if not,
-/// nothing is taken.
+/// Visits the house of a cell's number, if any. Says whether it has a filling or no cell: if not, nothing is taken.
 fn visit_number<W: Word>(
     planes: &mut Planes<W>,
     puzzle: &LightPuzzle,

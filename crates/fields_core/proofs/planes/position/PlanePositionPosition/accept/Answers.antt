@@ -2,6 +2,7 @@ use Rattle.std.proofs.Common.{◌≡◌}
 use Rattle.grid_core.specs.Candidates.{grid_of}
 use Rattle.grid_core.specs.Planes.{cells_of, has}
 use Rattle.fields_core.specs.AnyPlanes.{layers_in}
+use Rattle.fields_core.specs.CountLaws.{count-lawful}
 use Rattle.fields_core.proofs.ClosedGrids.{walks-met}
 use Rattle.fields_core.proofs.PositionSteps.{walks-fits, walks-long}
 use Rattle.fields_core.proofs.planes.position.PlanePositionPosition.accept.Goals as goal
@@ -31,7 +32,7 @@ pub completes-requires-clause-met : goal.completes-requires-clause-met
 completes-requires-clause-met g c =
     let r = rw (← c.self.view_is) at c.requires in
     let rules = c.args.rules.now in
-    rw c.puzzle.ensures (walks-met (g.P.CountGame.counts rules.puzzle) _ r.walks (written g (goal.at.completes-requires-clause-met g c).Joined-self) r.full rules.counting.are_houses r.closed)
+    rw c.puzzle.ensures (walks-met (g.P.CountGame.counts rules.puzzle) _ r.walks (written g (goal.at.completes-requires-clause-met g c).Joined-self) r.full (count-lawful _ _ _ _ rules.counting) rules.counting.are_houses r.closed)
 
 pub returns-clause-long : goal.returns-clause-long
 returns-clause-long g c =

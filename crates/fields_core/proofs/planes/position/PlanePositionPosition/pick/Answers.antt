@@ -1,6 +1,6 @@
 use Rattle.std.proofs.Common.{arith}
 use Rattle.std.proofs.lemmas.Nat.{div-add-mod'}
-use Rattle.fields_core.proofs.PositionSteps.{none-above}
+use Rattle.engine_core.proofs.PlaneMarks.{none-above}
 use Rattle.fields_core.proofs.planes.position.PlanePositionPosition.pick.Goals as goal
 
 pub pick-requires-clause-none : goal.pick-requires-clause-none
