@@ -1,15 +1,16 @@
 //! A small rule set for the tests: cells in a row, the first and the last of them given, and no two neighbours equal.
 
-ghost use Rattle.std.specs.Prelude.{◌≡◌, ◌+◌, ◌<◌, ◌≤◌, ◌&&◌, ◌==◌, not, true, false, length, refl};
+ghost use Rattle.std.specs.Prelude.{◌≡◌, ℕ, ◌+◌, ◌/◌, ◌<◌, ◌≤◌, ◌&&◌, ◌||◌, ◌==◌, not, true, false, length, refl};
 ghost use Rattle.grid_core.specs.Candidates.{any_below};
 ghost use Rattle.engine_core.specs.Filling.{strikes_by_fillings};
 ghost use Rattle.engine_core.specs.Sets.{has_bit as is_set, IsBitsOf};
 ghost use Rattle.engine_core.specs.HouseSets.{IsDecided};
+ghost use Rattle.engine_core.specs.Waiting.{is_waiting};
 ghost use Rattle.core_tests.specs.Neighbours.{neighbours, differ};
 ghost use Rattle.engine_core.specs.declared.mode.Mode.TheVariants.{Queue};
 
 use engine_core::{
-    Mode, Propagators, Rules, Searchable, TrailPosition, apply, enqueue_if, gather, has_bit,
+    Mode, Propagators, Rules, Searchable, TrailPosition, apply, enqueue, gather, has_bit,
 };
 use grid_core::{Board, Grid};
 use std::alloc::{AllocError, Global};
@@ -160,6 +161,17 @@ impl Rules for Neighbours {
             }
         }
         true
+    }
+}
+
+/// Marks the house where `on`.
+fn enqueue_if(waits: &mut [u64], house: usize, on: bool)
+    requires { house / 64 < length waits.old }
+    ensures { (j : ℕ) → is_waiting waits.new j
+        ≡ (is_waiting waits.old j || (on && (j == house))) }
+{
+    if on {
+        enqueue(waits, house);
     }
 }
 
