@@ -1,11 +1,11 @@
 //! Planes of two values, beside a plain board.
 
-ghost use Rattle.std.specs.Prelude.{◌≡◌, ◌<◌, ◌≤◌, length};
+ghost use Rattle.std.specs.Prelude.{◌≡◌, ◌<◌, ◌≤◌};
 ghost use Rattle.grid_core.specs.Board as plain;
 ghost use Rattle.grid_core.specs.Planes.{cells_of};
 
 use fields_core::{Part, visit};
-use grid_core::{Board, Grid, Line, Planes, Size, Word};
+use grid_core::{Board, Line, Planes, Size, Word};
 use std::alloc::{AllocError, Global};
 use std::test::Fail;
 
@@ -83,24 +83,12 @@ fn leave_one<W: Word>(planes: &mut Planes<W>, place: usize) -> bool
     both
 }
 
-/// The numbers of a grid of six cells.
-fn numbers_of(grid: &Grid) -> [u8; 6]
-    requires { length grid.now ≡ 6 }
-{
-    let mut numbers = [0; 6];
-    for place in 0..6 {
-        numbers[place] = grid.get(place);
-    }
-    numbers
-}
-
-/// Planes of 3 by 2 cells whose first two have only 0: the cell to branch on, the one after 1 is left in that, and the grid
+/// Planes of 3 by 2 cells whose first two have only 0: the cell to branch on, the one after 1 is left in that, and the sets
 /// once the row below has only 1.
-fn branches<W: Word>(alloc: Global) -> Result<Option<([Option<usize>; 3], [u8; 6])>, AllocError>
+fn branches<W: Word>(alloc: Global) -> Result<Option<([Option<usize>; 3], [u32; 6])>, AllocError>
     requires { 3 ≤ W.room }
 {
     let mut planes = Planes::<W>::new(alloc, Size::new(3, 2).unwrap())?;
-    let mut grid = Grid::new(alloc, 6)?;
     planes.take(Line::Row(0), 1, W::all(2));
     let first = first_open(&planes);
     if !leave_one(&mut planes, 2) {
@@ -109,19 +97,12 @@ fn branches<W: Word>(alloc: Global) -> Result<Option<([Option<usize>; 3], [u8; 6
     let second = first_open(&planes);
     planes.take(Line::Row(1), 0, W::all(3));
     let last = first_open(&planes);
-    if !planes.is_full() {
-        return Ok(None);
-    }
-    planes.write_grid(&mut grid);
-    if grid.len() != 6 {
-        return Ok(None);
-    }
-    Ok(Some(([first, second, last], numbers_of(&grid))))
+    Ok(Some(([first, second, last], sets_of(&planes))))
 }
 
 #[test]
-fn planes_are_branched_on_and_written(rt: HostRuntime) -> Result<(), Fail> {
-    let told = Some(([Some(2), Some(3), None], [0, 0, 1, 1, 1, 1]));
+fn planes_are_branched_on(rt: HostRuntime) -> Result<(), Fail> {
+    let told = Some(([Some(2), Some(3), None], [1, 1, 2, 2, 2, 2]));
     assert_eq!(rt; branches::<u64>(rt.alloc())?, told);
     assert_eq!(rt; branches::<u128>(rt.alloc())?, told);
     Ok(())

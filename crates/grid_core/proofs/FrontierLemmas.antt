@@ -1,5 +1,5 @@
 -- What is done to the lefts that a search has reached.
-use Rattle.grid_core.proofs.Common.{All-from_get_or, All-get_or, All-permutation, AreReached, Bool, Contains, Contains-permutation, FrontierView, IsDistinct, IsDistinct-from_AllPairs, IsNonDecreasingBy-from_sort, IsPermutation, IsSorted, IsStrictlyIncreasing, List, [], ap, arith, cases_eq, common_steps, eqb, eqb-false, false, get_or, get_or-set_at, get_or-take, get_or_default, get_or_past, inl, inr, length, length-append, length-set, length-take, nat_cmp, nat_eq_equiv, set, sym, take, take_more_set, true, true≢false, unsigned_Decides, with_left, ℕ, ◌++◌, ◌+◌, ◌<◌, ◌∙◌, ◌∷◌, ◌≡◌, ◌≤◌}
+use Rattle.grid_core.proofs.Common.{All-from_get_or, All-get_or, All-permutation, AreReached, Bool, Contains, Contains-permutation, FrontierView, IsDistinct, IsDistinct-from_AllPairs, IsNonDecreasingBy-from_sort, IsPermutation, IsSorted, IsStrictlyIncreasing, List, [], ap, arith, cases_eq, common_steps, eqb, eqb-false, false, get_or, get_or_default, get_or_past, inl, inr, length, length-append, length-set, length-take, nat_cmp, nat_eq_equiv, set, take, take_more_set, true, unsigned_Decides, with_left, ℕ, ◌++◌, ◌+◌, ◌<◌, ◌∙◌, ◌∷◌, ◌≡◌, ◌≤◌}
 use Rattle.std.proofs.lemmas.Map.Keys.{IsDistinct-IsPermutation, apart_from_distinct, IsStrictlyIncreasing-from_distinct}
 use Rattle.grid_core.proofs.DifferentNumbers.{apart-le}
 
@@ -50,30 +50,6 @@ pub view-write : (queue parents : List ℕ) (room count left parent : ℕ) {v : 
     (record { room = room; lefts = take (count + 1) (set queue count left); parents = take (count + 1) (set parents count parent) })
     (with_left v left parent)
 view-write queue parents room count left parent is queue_room parents_room = grind (arith, common_steps, take_more_set)
-
--- the last left is forgotten
-module _ {seen : List Bool} (queue : List ℕ) (count last left : ℕ) (left_is : left ≡ get_or queue last left)
-    (r : AreReached seen (take count queue)) (next : last + 1 ≡ count) (fits : count ≤ length queue) where
-  last_is : get_or (take count queue) last 0 ≡ left
-  last_is = get_or-take count queue last 0 (omega arith) ∙ sym (left_is ∙ get_or_default queue last left 0 (omega arith))
-
-  pub last_in : left < length seen
-  last_in = rw (sym last_is) (marked_in seen (r.seen_each last (omega (arith, length-take count queue))))
-
-  pub AreReached-pop : AreReached (set seen left false) (take last queue)
-  AreReached-pop = record {
-    apart = record { differ = λ i j a b e. let c = r.apart.differ i j a in grind (arith, common_steps) };
-    seen_each = λ j h. let c = r.seen_each j in let d = r.apart.differ j last in let e = last_is in grind (arith, common_steps);
-    seen_only = λ l h. elim (cases_eq l left) [
-      | inl e ↦ let i = last_in in absurd (true≢false (sym h ∙ get_or-set_at seen left l false false e i))
-      | inr ne ↦
-          let w = r.seen_only l (grind (arith, common_steps)) in
-          elim (cases_eq w.0 last) [
-            | inl z ↦ absurd (ne (sym w.2 ∙ get_or_default (take count queue) w.0 l 0 w.1 ∙ ap (λ k. get_or (take count queue) k 0) z ∙ last_is))
-            | inr nz ↦ (w.0, grind (arith, common_steps), grind (arith, common_steps))
-          ]
-    ];
-  }
 
 -- lefts that were put in order ascend, stay different, and stay those that are seen
 module _ {seen : List Bool} {lefts : List ℕ} (sorted : List ℕ) (r : AreReached seen lefts)

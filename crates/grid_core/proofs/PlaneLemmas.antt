@@ -145,6 +145,7 @@ taken room p t rows columns are there turned tall wide =
     let fewer = rw (← left) at (taken-fewer room p t are there) in
     let back : turned_by p.size.w (has p') t ≡ has p = ap (λ (K : Candidates). turned_by p.size.w K t) turn ∙ turned_twice p.size.w (has p) t in
     let lt = takings-room p.size (has p) (has p') p.takings p.len are.takings fewer in
+    let inside : IsInside (has p') (has p) = rw left (without-inside p.size.w (has p) t) in
     record {
       are = record {
         lawful = are.lawful;
@@ -153,13 +154,13 @@ taken room p t rows columns are there turned tall wide =
         tall = tall ∙ are.tall;
         wide = wide ∙ are.wide;
         words = words-turned p.size p.rows p.columns rows columns t are.words turned within.line_in;
-        takings = takings-noted p.size (has p) (has p') p.takings p.len t are.takings fewer within back;
+        takings = takings-noted p.size (has p) (has p') p.takings p.len t are.takings fewer inside within back;
       };
       left = left;
       further = record {
         same_size = refl;
         same_room = length-set p.takings p.len t;
-        inside = rw left (without-inside p.size.w (has p) t);
+        inside = inside;
         grows = omega arith;
         same = λ e. absurd (omega arith);
         lost = λ _. rw left (taken-lost room p t are there);

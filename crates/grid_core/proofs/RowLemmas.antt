@@ -1,6 +1,6 @@
 -- Rows of planes as cells by place: which can have both values, and which have just one.
-use Rattle.grid_core.proofs.Common.{Bool, Candidates, IsLeast, Layers, List, None, Option, Row, Some, and_parts, any_below, ap, arith, better, bit_of, bool_byte, cases_Bool, cases_eq, cases_lt, cells_of, common_steps, cond, count_below, covers, crosses, differ, div-add-mod', div-mul-add, eq-eqb, eqb, eqb-true, false, false_from_ne_true, fun_ext, get_or-set_other, get_or-set_same, grid_of, has, has_bit, inl, inr, is_full, length, length-set, lt-ltb, ltb, ltb-true, ne_eqb, not, only, pick, refl, set, slice_index, suc, sym, true, without_taking, zero, ℕ, ◌%◌, ◌&&◌, ◌*◌, ◌+◌, ◌-◌, ◌/◌, ◌<◌, ◌||◌, ◌∙◌, ◌≡◌, ◌≤◌}
-use Rattle.grid_core.proofs.CandidateLemmas.{any_below-none, any_below-some}
+use Rattle.grid_core.proofs.Common.{Bool, Candidates, IsLeast, Layers, List, None, Option, Row, Some, and_parts, any_below, ap, arith, better, bit_of, bool_byte, cases_Bool, cases_eq, cases_lt, cells_of, common_steps, cond, count_below, covers, crosses, div-add-mod', div-mul-add, eq-eqb, eqb, eqb-true, false, false_from_ne_true, fun_ext, get_or-set_other, get_or-set_same, grid_of, has, has_bit, inl, inr, is_full, length, length-set, lt-ltb, ltb-true, ne_eqb, not, only, pick, refl, set, slice_index, suc, sym, true, without_taking, zero, ℕ, ◌%◌, ◌&&◌, ◌*◌, ◌+◌, ◌-◌, ◌/◌, ◌<◌, ◌||◌, ◌∙◌, ◌≡◌, ◌≤◌}
+use Rattle.grid_core.proofs.CandidateLemmas.{any_below-none}
 use Rattle.grid_core.proofs.GridLemmas.{grid_of-full, is_full-count, single-is}
 use Rattle.grid_core.proofs.PlaneLemmas.{place-in, place-column}
 
@@ -83,31 +83,6 @@ pick-row_some p room y both x ly lx none row least =
           rw (e, values-at p y (c - y * p.size.w) (omega arith))
           (few (c - y * p.size.w) (omega arith))
     ]
-
--- ---- full rows
--- a row's cells that have no value or both
-pub record IsUnfilledRow (p : Layers) (y lacks : ℕ) : Type 0 where
-  pub is : (x : ℕ) → has_bit lacks x ≡ (ltb x p.size.w && not (differ (bit_of p.rows y 0 x) (bit_of p.rows y 1 x)))
-
-pub full-row : (p : Layers) (room y lacks : ℕ) → p.size.w ≤ room → ((c : ℕ) → c < y * p.size.w → count_below (has p c) 2 ≡ 1)
-    → IsUnfilledRow p y lacks → any_below (has_bit lacks) room ≡ false → (c : ℕ) → c < (y + 1) * p.size.w → count_below (has p c) 2 ≡ 1
-unfolding differ
-full-row p room y lacks narrow above row off = rows-more p (λ n. n ≡ 1) y above each
-  where
-    each : (x : ℕ) → x < p.size.w → cond (bit_of p.rows y 0 x) 1 0 + cond (bit_of p.rows y 1 x) 1 0 ≡ 1
-    each x lt = grind (arith, common_steps, cases_Bool, lt-ltb, any_below-none (has_bit lacks) room off x, row.is x)
-
-pub not_full-row : (p : Layers) (room y lacks : ℕ) → y < p.size.h → IsUnfilledRow p y lacks
-    → any_below (has_bit lacks) room ≡ true → is_full (cells_of p) 2 (has p) ≡ false
-unfolding differ
-not_full-row p room y lacks ly row some =
-    let w = any_below-some (has_bit lacks) room some in
-    let parts = and_parts (ltb w.0 p.size.w) (not (differ (bit_of p.rows y 0 w.0) (bit_of p.rows y 1 w.0))) (sym (row.is w.0) ∙ w.2) in
-    let lx = ltb-true w.0 p.size.w parts.0 in
-    false_from_ne_true _ (λ full.
-    let e = is_full-count (cells_of p) 2 (has p) (y * p.size.w + w.0) full (place-in p.size.w p.size.h y w.0 ly lx) in
-    let one = sym (values-at p y w.0 lx) ∙ e in
-    grind (arith, common_steps, cases_Bool, parts.1))
 
 -- ---- the grid of a full board
 -- the first n numbers are values of their cells

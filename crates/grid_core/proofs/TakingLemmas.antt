@@ -1,5 +1,5 @@
 -- What a m gives back, and what was taken, noted at the end of a trail and put back from its end.
-use Rattle.grid_core.proofs.Common.{AreTakings, Candidates, Extent, IsTakingIn, List, Taking, add-one, and_parts, any_below, ap, arith, cases_Bool, cases_eq, covers, crosses, differ, eqb-true, false, common_steps, get_or-set_other, get_or-set_same, inl, inr, le-leb, length, length-set, lt-leb, put_back, refl, set, suc, sym, taking_at, total, true, true≢false, turned_by, zero, ℕ, ◌%◌, ◌&&◌, ◌*◌, ◌+◌, ◌-◌, ◌/◌, ◌<◌, ◌∙◌, ◌≡◌, ◌≤◌}
+use Rattle.grid_core.proofs.Common.{AreTakings, Candidates, Extent, IsInside, IsTakingIn, List, Taking, add-one, and_parts, any_below, ap, arith, cases_Bool, cases_eq, covers, crosses, differ, eqb-true, false, common_steps, get_or-set_other, get_or-set_same, inl, inr, le-leb, length, length-set, lt-leb, put_back, refl, set, suc, sym, taking_at, total, true, true≢false, turned_by, zero, ℕ, ◌%◌, ◌&&◌, ◌*◌, ◌+◌, ◌-◌, ◌/◌, ◌<◌, ◌∙◌, ◌≡◌, ◌≤◌}
 use Rattle.std.proofs.lemmas.Bool.{leb-true}
 use Rattle.std.proofs.Math.Dec.{leb}
 use Rattle.grid_core.proofs.CandidateLemmas.{any_below-none, any_below-some}
@@ -44,6 +44,7 @@ takings-none size K takings long few = record {
   long = long;
   takings_in = λ k lt. absurd (omega arith);
   room = λ m le. rw (put_back-none size.w K takings m 0 (omega arith)) (omega arith);
+  falls = λ m n le lt. rw (put_back-none size.w K takings m 0 (omega arith), put_back-none size.w K takings n 0 (omega arith)) (λ c v on. on);
 }
 
 pub takings-len : (size : Extent) (K : Candidates) (takings : List Taking) (n : ℕ) → AreTakings size K takings n → n ≤ length takings
@@ -55,9 +56,9 @@ pub takings-room : (size : Extent) (K L : Candidates) (takings : List Taking) (n
 takings-room size K L takings n t fewer = let room = rw (put_back-none size.w K takings n n (omega arith)) at (t.room n (omega arith)) in omega arith
 
 pub takings-noted : (size : Extent) (K L : Candidates) (takings : List Taking) (n : ℕ) (t : Taking)
-    → AreTakings size K takings n → total (size.w * size.h) 2 L < total (size.w * size.h) 2 K
+    → AreTakings size K takings n → total (size.w * size.h) 2 L < total (size.w * size.h) 2 K → IsInside L K
     → IsTakingIn size t → turned_by size.w L t ≡ K → AreTakings size L (set takings n t) (n + 1)
-takings-noted size K L takings n t are fewer within back =
+takings-noted size K L takings n t are fewer inside within back =
     let lt = takings-room size K L takings n are fewer in
     record {
       long = rw (length-set takings n t) are.long;
@@ -67,6 +68,14 @@ takings-noted size K L takings n t are fewer within back =
             (let room = rw (put_back-none size.w K takings n n (omega arith)) at (are.room n (omega arith)) in omega arith)
         | inr ne ↦ rw (put_back-noted size.w K L takings m n t (omega arith) lt back, length-set takings n t) (are.room m (omega arith))
       ];
+      falls = λ m k le least. elim (cases_eq m (n + 1)) [
+        | inl e ↦ let same : k ≡ m = omega arith in rw same (λ c v on. on)
+        | inr ne ↦ rw (put_back-noted size.w K L takings m n t (omega arith) lt back) (elim (cases_eq k (n + 1)) [
+          | inl e ↦ rw (put_back-none size.w L (set takings n t) k (n + 1) (omega arith)) (λ c v on.
+              are.falls m n (omega arith) (omega arith) c v (rw (put_back-none size.w K takings n n (omega arith)) (inside c v on)))
+          | inr other ↦ rw (put_back-noted size.w K L takings k n t (omega arith) lt back) (are.falls m k le (omega arith))
+        ])
+      ];
     }
 
 pub takings-undone : (size : Extent) (K : Candidates) (takings : List Taking) (n : ℕ) → 0 < n → AreTakings size K takings n
@@ -75,6 +84,7 @@ takings-undone size K takings n pos are = record {
   long = are.long;
   takings_in = λ k lt. are.takings_in k (omega arith);
   room = λ m le. rw (put_back-undone size.w K takings m n (omega arith)) (are.room m (omega arith));
+  falls = λ m k le lt. rw (put_back-undone size.w K takings m n (omega arith), put_back-undone size.w K takings k n (omega arith)) (are.falls m k le (omega arith));
 }
 
 -- a cell that none of the takings from m on covers gets nothing back

@@ -84,12 +84,14 @@ pub record AreWords (size : Extent) (rows columns : List ℕ) : Type 0 where
   pub within : (y x v : ℕ) → v < 2 → bit_of rows y v x ≡ true → (y < size.h) × (x < size.w)
   pub agree : (y x v : ℕ) → v < 2 → bit_of rows y v x ≡ bit_of columns x v y
 
--- what is taken is of the grid, and there is room for as much as can be
+-- what is taken is of the grid, was there, and there is room for as much as can be
 pub record AreTakings (size : Extent) (K : Candidates) (takings : List Taking) (len : ℕ) : Type 0 where
   pub long : size.w * size.h * 2 ≤ length takings
   pub takings_in : (k : ℕ) → k < len → IsTakingIn size (taking_at takings k)
   pub room : (n : ℕ) → n ≤ len
       → total (size.w * size.h) 2 (put_back size.w K takings n len) + n ≤ length takings
+  pub falls : (m n : ℕ) → m ≤ n → n ≤ len
+      → IsInside (put_back size.w K takings n len) (put_back size.w K takings m len)
 
 -- words that hold a line, of a grid of a lawful size, with their trail: two for each line that such words can have
 pub record ArePlanes (room : ℕ) (p : Layers) : Type 0 where
@@ -121,12 +123,15 @@ pub record IsFurther (from to : Layers) : Type 0 where
   pub lost : from.len < to.len → HasLost (has from) (has to)
   pub back : (n : ℕ) → n ≤ from.len → back_at to n ≡ back_at from n
 
--- the board was taken back to when the trail had length n: each shorter one gives back the same
+-- the board was taken back to when the trail had length n, and lies between those before and after; each shorter one gives
+-- back the same
 pub record IsBack (from to : Layers) (n : ℕ) : Type 0 where
   pub same_size : to.size ≡ from.size
   pub same_room : length to.takings ≡ length from.takings
   pub here : has to ≡ back_at from n
   pub len : to.len ≡ n
+  pub regained : IsInside (has from) (has to)
+  pub falls : (m : ℕ) → m ≤ n → IsInside (has to) (back_at from m)
   pub back : (m : ℕ) → m ≤ n → back_at to m ≡ back_at from m
 
 -- the words of which a taking was turned over

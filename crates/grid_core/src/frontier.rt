@@ -51,10 +51,8 @@ impl Frontier {
     pub(crate) fn clear(&mut self)
         ensures { self.new ≡ record self.old { lefts = []; parents = [] } }
     {
-        while self.count > 0 {
-            self.count -= 1;
-            self.seen[self.queue[self.count]] = false;
-        }
+        self.seen.fill(false);
+        self.count = 0;
     }
 
     /// How many lefts were reached.

@@ -39,20 +39,6 @@ impl<W: Word> Planes<W> {
         self.take(Line::Row(y as u8), 1 - value, W::one(x));
     }
 
-    /// Whether each cell has exactly one value.
-    pub fn is_full(&self) -> bool
-        ensures { result ≡ is_full (cells_of self.now) 2 (has self.now) }
-    {
-        let size = self.size();
-        for y in 0..size.h() {
-            let one = self.row(y, 0).differ(self.row(y, 1));
-            if self.columns().but(one).is_some() {
-                return false;
-            }
-        }
-        true
-    }
-
     /// Writes each cell's only value.
     pub fn write_grid(&self, grid: &mut Grid)
         requires full { is_full (cells_of self.now) 2 (has self.now) ≡ true }

@@ -1,6 +1,7 @@
-use Rattle.grid_core.proofs.Common.{arith, layers_of, ◌-◌, ◌∙◌}
+use Rattle.grid_core.proofs.Common.{ArePlanes, arith, has, layers_of, sym, ◌-◌, ◌∙◌}
 use Rattle.grid_core.proofs.PlaneLemmas.{IsPutBack}
 use Rattle.grid_core.proofs.PlaneSteps.{undo_step, room_at, last_read}
+use Rattle.grid_core.proofs.TakingLemmas.{put_back-none}
 use Rattle.grid_core.proofs.planes.Planes.undo.Goals as goal
 use Rattle.grid_core.proofs.planes.Planes.undo.Goals.{After-turn_line}
 
@@ -44,4 +45,24 @@ loop-self-preserved g c =
       back = λ m le. s.back m (omega arith) ∙ i.back m le;
       same_size = i.same_size;
       same_room = i.same_room;
+    }
+
+pub returns : goal.returns
+returns g c =
+    let i = c.loop-self.invariant in
+    let p = c.loop-self.self-inside in
+    let to = layers_of g.W.Word.bits p.size p.rows.items p.columns.items p.changes.items p.len in
+    let from = c.args.self.now in
+    let are : ArePlanes g.W.Word.room from = rw (← c.self.view_is) c.self.invariant in
+    let falls = are.takings.falls in
+    let here = sym (put_back-none to.size.w (has to) to.takings c.args.len to.len (omega arith)) ∙ i.back c.args.len (omega arith) in
+    record {
+      same_size = i.same_size;
+      same_room = i.same_room;
+      here = here;
+      len = omega (arith, i.low);
+      regained = rw here (λ k v on. falls c.args.len from.len c.requires (omega arith) k v
+          (rw (put_back-none from.size.w (has from) from.takings from.len from.len (omega arith)) on));
+      falls = λ m le. rw here (falls m c.args.len le c.requires);
+      back = λ m le. i.back m le;
     }
