@@ -62,7 +62,7 @@ unfoldable pub use Rattle.engine_core.specs.HouseSets.{kept_in, strikes_at}
 pub use Rattle.engine_core.specs.HouseSetsLaws.{bits-of_values, sets-bits, strikes_at-in_scope, strikes_at-place}
 pub use Rattle.engine_core.specs.Keeping.{AreSetsOf, IsKept}
 pub use Rattle.engine_core.specs.PlaceLaws.{AreDistinct, distinct-from, has_place-at, has_place-here}
-pub use Rattle.engine_core.specs.Position.{IsCheckpoint, IsOnward, IsReturned, IsTaken, Standing}
+pub use Rattle.engine_core.specs.Position.{IsOnward, IsReturned, IsTaken, Room, Standing}
 pub use Rattle.engine_core.specs.Queue.{IsAround, IsClosedAround, IsClosedBut, IsRested, IsWoken, called_for, calls, is_dead_in}
 unfoldable pub use Rattle.engine_core.specs.Queue.{but, counts_of, visits_left, woken}
 pub use Rattle.engine_core.specs.RuleSystem.{IsBoardOf, IsClosed, IsClosedGrid, IsGridOf, IsIdle, IsInsideAt, IsLawful, IsNext, Needs, RuleSystem}
@@ -73,7 +73,7 @@ pub use Rattle.engine_core.specs.Sets.{IsBitsOf, IsChange, has_bit}
 pub use Rattle.engine_core.specs.Stored.{is_settled}
 pub use Rattle.engine_core.specs.Trail.{AreLost, IsBack, IsFurther, IsTrail, StillServes, Trail, back_at, change_at, given_back, is_since}
 unfoldable pub use Rattle.engine_core.specs.Trail.{left_by, put_back}
-pub use Rattle.engine_core.specs.TrailPosition.{AreMarks, GoesOn, IsAlong, Placed, board_in, mark_at, standing_by}
+pub use Rattle.engine_core.specs.TrailPosition.{GoesOn, IsAlong, Placed, board_in}
 unfoldable pub use Rattle.engine_core.specs.Trials.{trials_of}
 pub use Rattle.engine_core.specs.Verdict.{IsTrueOf, Outcome, Outcome.GaveUp, Outcome.NoSolution, Outcome.OneSolution, Outcome.SeveralSolutions}
 pub use Rattle.engine_core.specs.Verdict.{Solves, says_counts}

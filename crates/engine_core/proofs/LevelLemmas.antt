@@ -1,5 +1,5 @@
 -- The levels of a search: what its frames and its marks say of the boards that are open.
-use Rattle.engine_core.proofs.Common.{Candidates, Frame, IsCheckpoint, IsFewest, IsWithin, IsNext, IsOnward, IsOpen, IsReady, IsReturned, IsTrial, Level, Levels, List, Mark.Trial, None, RuleSystem, Some, Standing, add-one, ap, arith, cases_eq, common_steps, frame_at, get_or-set_other, get_or-set_same, length, length-set, level_at, levels_of, only, only-inside, pending, pending_in, refl, set, subst, suc, sym, walk, zero, ℕ, ◌++◌, ◌+◌, ◌-◌, ◌<◌, ◌∙◌, ◌∷◌, ◌≡◌, ◌≢◌}
+use Rattle.engine_core.proofs.Common.{Candidates, Frame, IsFewest, IsWithin, IsNext, IsOnward, IsOpen, IsReady, IsReturned, IsTrial, Level, Levels, List, Mark.Trial, None, RuleSystem, Some, Standing, add-one, ap, arith, cases_eq, common_steps, frame_at, get_or-set_other, get_or-set_same, inl, inr, length, length-set, level_at, levels_of, only, only-inside, pending, pending_in, refl, set, subst, suc, sym, walk, zero, ℕ, ◌++◌, ◌+◌, ◌-◌, ◌<◌, ◌∙◌, ◌∷◌, ◌≡◌, ◌≢◌}
 use Rattle.engine_core.proofs.QueueLemmas.{closed-but_only}
 use Rattle.engine_core.proofs.SearchLemmas.{pending-pop, pending-trial}
 use Rattle.engine_core.proofs.RoomLemmas.{singles-only, open-cell, open-room}
@@ -7,13 +7,13 @@ use Rattle.engine_core.proofs.PickLemmas.{pick-inside, pick-before}
 
 -- ---- the levels of frames
 frame_at-here : (frames : List Frame) (n : ℕ) (f : Frame) → n < length frames → frame_at (set frames n f) n ≡ f
-frame_at-here frames n f lt = get_or-set_same frames n f (record { cell = 0; next = 0 }) lt
+frame_at-here frames n f lt = get_or-set_same frames n f (record { cell = 0; next = 0; mark = 0 }) lt
 
 frame_at-other : (frames : List Frame) (n k : ℕ) (f : Frame) → k ≢ n → frame_at (set frames n f) k ≡ frame_at frames k
-frame_at-other frames n k f ne = get_or-set_other frames n k f (record { cell = 0; next = 0 }) ne
+frame_at-other frames n k f ne = get_or-set_other frames n k f (record { cell = 0; next = 0; mark = 0 }) ne
 
 levels-same : (s s' : Standing) (frames frames' : List Frame) (n : ℕ)
-    → ((k : ℕ) → k < n → level_at s k (frame_at frames k) ≡ level_at s' k (frame_at frames' k))
+    → ((k : ℕ) → k < n → level_at s (frame_at frames k) ≡ level_at s' (frame_at frames' k))
     → levels_of s frames n ≡ levels_of s' frames' n
 unfolding levels_of
 levels-same s s' frames frames' zero same = refl
@@ -25,44 +25,89 @@ length-levels s frames zero = refl
 length-levels s frames (suc n) = ap suc (length-levels s frames n)
 
 -- a level whose mark gives back that board
-level-with : (s : Standing) (k : ℕ) (f : Frame) {K : Candidates} → s.back k ≡ K → level_at s k f ≡ record { board = K; cell = f.cell; next = f.next }
-level-with s k f e = λ i. record { board = e i; cell = f.cell; next = f.next }
+level-with : (s : Standing) (f : Frame) {K : Candidates} → s.back f.mark ≡ K → level_at s f ≡ record { board = K; cell = f.cell; next = f.next }
+level-with s f e = λ i. record { board = e i; cell = f.cell; next = f.next }
 
 -- where the marks give back the same, the levels are the same
-levels-back : (s s' : Standing) (frames : List Frame) (n : ℕ) → ((k : ℕ) → k < n → s'.back k ≡ s.back k) → levels_of s' frames n ≡ levels_of s frames n
-levels-back s s' frames n back = levels-same s' s frames frames n (λ k lt. level-with s' k (frame_at frames k) (back k lt))
+levels-back : (s s' : Standing) (frames : List Frame) (n : ℕ)
+    → ((k : ℕ) → k < n → s'.back (frame_at frames k).mark ≡ s.back (frame_at frames k).mark) → levels_of s' frames n ≡ levels_of s frames n
+levels-back s s' frames n back = levels-same s' s frames frames n (λ k lt. level-with s' (frame_at frames k) (back k lt))
 
 -- ---- values are struck
 pub levels-onward : {p : RuleSystem} (s s' : Standing) {frames : List Frame} (n : ℕ)
     → IsReady p s frames n → IsOnward s s' → levels_of s' frames n ≡ levels_of s frames n
-levels-onward s s' {frames} n ready onward = levels-back s s' frames n (λ k lt. onward.back k (omega arith))
+levels-onward s s' {frames} n ready onward = levels-back s s' frames n (λ k lt. onward.back (frame_at frames k).mark (ready.marked k lt))
 
 pub ready-onward : {p : RuleSystem} {s s' : Standing} {frames : List Frame} {n : ℕ} → IsReady p s frames n → IsOnward s s' → IsReady p s' frames n
-ready-onward ready onward = grind (arith, common_steps)
+ready-onward {p} {s} {s'} {frames} {n} ready onward = record {
+  room = ready.room;
+  marked = λ k lt. omega (arith, ready.marked k lt, onward.grows);
+  ascend = ready.ascend;
+  open_levels = λ k lt.
+      let f = frame_at frames k in
+      subst (λ l. IsOpen p l k) (sym (level-with s' f (onward.back f.mark (ready.marked k lt)))) (ready.open_levels k lt);
+}
 
--- ---- a frame is pushed, and its level marked: it is the innermost level, and the others stay
-pub levels-push : {s s' : Standing} (frames : List Frame) {n cell : ℕ} → n < length frames → IsCheckpoint s s' n
-    → levels_of s' (set frames n (record { cell = cell; next = 0 })) (n + 1) ≡ record { board = s.board; cell = cell; next = 0 } ∷ levels_of s frames n
+-- ---- a frame is pushed, which marks the board as it is: it is the innermost level, and the others stay
+abbrev pub frame_of : ℕ → ℕ → Frame
+frame_of cell mark = record { cell = cell; next = 0; mark = mark }
+
+pushed-before : (frames : List Frame) (n k : ℕ) (f : Frame) → k < n → frame_at (set frames n f) k ≡ frame_at frames k
+pushed-before frames n k f less = frame_at-other frames n k f (λ e. absurd (omega arith))
+
+pub levels-push : (s : Standing) (frames : List Frame) {n : ℕ} (cell : ℕ) → n < length frames → s.back s.len ≡ s.board
+    → levels_of s (set frames n (frame_of cell s.len)) (n + 1) ≡ record { board = s.board; cell = cell; next = 0 } ∷ levels_of s frames n
 unfolding levels_of
-levels-push frames lt m = grind (arith, common_steps, add-one, frame_at-here, frame_at-other, level-with, levels-same)
+levels-push s frames cell lt here = grind (arith, common_steps, add-one, frame_at-here, pushed-before, level-with, levels-same)
 
-pub ready-push : {p : RuleSystem} {s s' : Standing} {frames : List Frame} {n cell : ℕ}
-    → IsReady p s frames n → n < length frames → IsCheckpoint s s' n
-    → IsOpen p (record { board = s.board; cell = cell; next = 0 }) n
-    → IsReady p s' (set frames n (record { cell = cell; next = 0 })) (n + 1)
-ready-push ready lt m opened = grind (arith, common_steps, cases_eq, frame_at-here, frame_at-other, length-set, level-with)
+pub ready-push : {p : RuleSystem} {s : Standing} (frames : List Frame) {n : ℕ} (cell : ℕ) → n < length frames → s.back s.len ≡ s.board
+    → IsReady p s frames n → IsOpen p (record { board = s.board; cell = cell; next = 0 }) n → IsReady p s (set frames n (frame_of cell s.len)) (n + 1)
+ready-push {p} {s} frames {n} cell lt here ready opened = record {
+  room = omega (arith, ready.room, length-set frames n last);
+  marked = λ k less. elim (cases_eq k n) [
+    | inl e ↦ rw (e, last_is) (omega arith)
+    | inr ne ↦ rw (before k (omega arith)) (ready.marked k (omega arith))
+  ];
+  ascend = λ j k le less. elim (cases_eq k n) [
+    | inl e ↦ elim (cases_eq j n) [
+      | inl f ↦ rw (e, f) (omega arith)
+      | inr ne ↦ rw (e, last_is, before j (omega arith)) (ready.marked j (omega arith))
+    ]
+    | inr ne ↦ rw (before j (omega arith), before k (omega arith)) (ready.ascend j k le (omega arith))
+  ];
+  open_levels = λ k less. elim (cases_eq k n) [
+    | inl e ↦ rw (e, last_is) (subst (λ l. IsOpen p l n) (sym (level-with s last here)) opened)
+    | inr ne ↦ rw (before k (omega arith)) (ready.open_levels k (omega arith))
+  ];
+}
+  where
+    last : Frame
+    last = frame_of cell s.len
+
+    last_is : frame_at (set frames n last) n ≡ last
+    last_is = frame_at-here frames n last lt
+
+    before : (k : ℕ) → k < n → frame_at (set frames n last) k ≡ frame_at frames k
+    before k less = pushed-before frames n k last less
 
 -- ---- the innermost frame
 levels-top : (s : Standing) (frames : List Frame) {n : ℕ} → 0 < n
-    → levels_of s frames n ≡ level_at s (n - 1) (frame_at frames (n - 1)) ∷ levels_of s frames
+    → levels_of s frames n ≡ level_at s (frame_at frames (n - 1)) ∷ levels_of s frames
     (n - 1)
 unfolding levels_of
 levels-top s frames lt = grind (arith, common_steps)
 
-levels-retried : (s : Standing) (frames : List Frame) (n next : ℕ) → 0 < n → n - 1 < length frames → s.back (n - 1) ≡ s.board
-    → levels_of s (set frames (n - 1) (record { cell = (frame_at frames (n - 1)).cell; next = next })) n
+-- its next value is moved on
+abbrev retried_at : List Frame → ℕ → ℕ → List Frame
+retried_at frames n next = set frames (n - 1) (record { cell = (frame_at frames (n - 1)).cell; next = next; mark = (frame_at frames (n - 1)).mark })
+
+levels-retried : (s : Standing) (frames : List Frame) (n next : ℕ) → 0 < n → n - 1 < length frames → s.back (frame_at frames (n - 1)).mark ≡ s.board
+    → levels_of s (retried_at frames n next) n
     ≡ record { board = s.board; cell = (frame_at frames (n - 1)).cell; next = next } ∷ levels_of s frames (n - 1)
 levels-retried s frames n next pos lt e = grind (arith, common_steps, frame_at-here, frame_at-other, level-with, levels-same, levels-top)
+
+mark-retried : (frames : List Frame) (n next k : ℕ) → n - 1 < length frames → (frame_at (retried_at frames n next) k).mark ≡ (frame_at frames k).mark
+mark-retried frames n next k lt = grind (arith, common_steps, cases_eq k (n - 1), frame_at-here, frame_at-other)
 
 -- the innermost level is open
 pub top-open : {p : RuleSystem} {s : Standing} {frames : List Frame} {n : ℕ} → IsReady p s frames n
@@ -70,7 +115,8 @@ pub top-open : {p : RuleSystem} {s : Standing} {frames : List Frame} {n : ℕ} �
 top-open {p = p} {n = n} ready pos = let o = ready.open_levels (n - 1) (omega arith) in ((open-cell o).within, open-room o)
 
 -- ---- one turn of the search: the position s was taken back to s1
-module _ {p : RuleSystem} {s s1 : Standing} {frames : List Frame} {n : ℕ} (ready : IsReady p s frames n) (pos : 0 < n) (back : IsReturned s s1 (n - 1)) where
+module _ {p : RuleSystem} {s s1 : Standing} {frames : List Frame} {n : ℕ} (ready : IsReady p s frames n) (pos : 0 < n)
+    (back : IsReturned s s1 (frame_at frames (n - 1)).mark) where
   -- the innermost frame, and the levels outside it
   abbrev top : Frame
   top = frame_at frames (n - 1)
@@ -79,25 +125,30 @@ module _ {p : RuleSystem} {s s1 : Standing} {frames : List Frame} {n : ℕ} (rea
   outside = levels_of s1 frames (n - 1)
 
   -- its mark gives back the board
-  here : s1.back (n - 1) ≡ s1.board
-  here = back.back (n - 1) (omega arith) ∙ sym back.here
+  here : s1.back top.mark ≡ s1.board
+  here = back.back top.mark (omega arith) ∙ sym back.here
+
+  -- each level gives back the same
+  same_back : (k : ℕ) → k < n → s1.back (frame_at frames k).mark ≡ s.back (frame_at frames k).mark
+  same_back k lt = back.back (frame_at frames k).mark (ready.ascend k (n - 1) (omega arith) (omega arith))
 
   pub ready-back : IsReady p s1 frames n
   ready-back = record {
     room = ready.room;
-    marked = omega arith;
-    open_levels = λ k lt. subst (λ l. IsOpen p l k) (sym (level-with s1 k (frame_at frames k) (back.back k (omega arith)))) (ready.open_levels k lt);
+    marked = λ k lt. rw back.len (ready.ascend k (n - 1) (omega arith) (omega arith));
+    ascend = ready.ascend;
+    open_levels = λ k lt. subst (λ l. IsOpen p l k) (sym (level-with s1 (frame_at frames k) (same_back k lt))) (ready.open_levels k lt);
   }
 
   -- the innermost level is open
   pub open-back : IsOpen p (record { board = s1.board; cell = top.cell; next = top.next }) (n - 1)
-  open-back = subst (λ l. IsOpen p l (n - 1)) (level-with s1 (n - 1) top here) (ready-back.open_levels (n - 1) (omega arith))
+  open-back = subst (λ l. IsOpen p l (n - 1)) (level-with s1 top here) (ready-back.open_levels (n - 1) (omega arith))
 
   -- what it still has to give
   pending-back : pending_in p s frames n ≡ pending p (record { board = s1.board; cell = top.cell; next = top.next } ∷ outside)
   pending-back =
-      let same = levels-back s s1 frames n (λ k lt. back.back k (omega arith)) in
-      ap (pending p) (sym same ∙ levels-top s1 frames pos ∙ ap (λ (l : Level). l ∷ outside) (level-with s1 (n - 1) top here))
+      let same = levels-back s s1 frames n same_back in
+      ap (pending p) (sym same ∙ levels-top s1 frames pos ∙ ap (λ (l : Level). l ∷ outside) (level-with s1 top here))
 
   -- where its cell has no value left, it is done
   pub turn-done : IsNext (s1.board top.cell) p.values top.next None → pending_in p s frames n ≡ pending_in p s1 frames (n - 1)
@@ -108,13 +159,27 @@ module _ {p : RuleSystem} {s s1 : Standing} {frames : List Frame} {n : ℕ} (rea
       (left : s2.board ≡ only s1.board top.cell v) (onward : IsOnward s1 s2) where
     -- with its next value moved on
     abbrev moved : List Frame
-    moved = set frames (n - 1) (record { cell = top.cell; next = v + 1 })
+    moved = retried_at frames n (v + 1)
 
     room : n - 1 < length frames
     room = omega (arith, open-room open-back, ready.room)
 
     retried : IsReady p s1 moved n
-    retried = grind (arith, common_steps, ready-back, room)
+    retried = record {
+      room = omega (arith, ready.room, length-set frames (n - 1) (record { cell = top.cell; next = v + 1; mark = top.mark }));
+      marked = λ k lt. rw (mark-retried frames n (v + 1) k room) (ready-back.marked k lt);
+      ascend = λ j k le lt. rw (mark-retried frames n (v + 1) j room, mark-retried frames n (v + 1) k room) (ready.ascend j k le lt);
+      open_levels = λ k lt. elim (cases_eq k (n - 1)) [
+        | inl e ↦ rw (e, frame_at-here frames (n - 1) (record { cell = top.cell; next = v + 1; mark = top.mark }) room) moved_on
+        | inr ne ↦ rw (frame_at-other frames (n - 1) k (record { cell = top.cell; next = v + 1; mark = top.mark }) ne) (ready-back.open_levels k lt)
+      ];
+    }
+      where
+        moved_on : IsOpen p (level_at s1 (record { cell = top.cell; next = v + 1; mark = top.mark })) (n - 1)
+        moved_on = let o = ready-back.open_levels (n - 1) (omega arith) in record { single = o.single; picked = o.picked; closed = o.closed; alive = o.alive }
+
+    pub turn-ready : {now : List Frame} → now ≡ moved → IsReady p s2 now n
+    turn-ready e = rw e (ready-onward retried onward)
 
     marks : pending_in p s frames n ≡ Trial n s2.board ∷ (walk p n s2.board ++ pending_in p s2 moved n)
     marks =

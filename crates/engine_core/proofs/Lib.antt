@@ -29,6 +29,5 @@ pub mod SearchingLemmas
 pub mod PieceLemmas
 pub mod IndexLemmas
 pub mod ListedLemmas
-pub mod PositionLemmas
 pub mod PlaneMarks
 pub mod LawSets

@@ -20,7 +20,7 @@ pub use Rattle.engine_core.specs.Keeping.{AreSets, AreSetsOf, HasRoom, IsFiltere
 pub use Rattle.engine_core.specs.ListedHouses.{AreScopesOf, most_turns, table_of}
 pub use Rattle.engine_core.specs.Mode.{is_queue}
 pub use Rattle.engine_core.specs.Needs.{needs_in}
-pub use Rattle.engine_core.specs.Position.{IsCheckpoint, IsOnward, IsReturned, IsTaken, Standing}
+pub use Rattle.engine_core.specs.Position.{IsOnward, IsReturned, IsTaken, Room, Standing}
 pub use Rattle.engine_core.specs.Queue.{IsAround, IsClosedBut, IsRested, IsWoken, called_for, is_dead_in}
 unfoldable pub use Rattle.engine_core.specs.Queue.{but}
 pub use Rattle.engine_core.specs.RuleSystem.{FitsIn, IsBoardOf, IsClosed, IsClosedGrid, IsGridOf, IsIdle, IsLawful, IsNext, Needs, RuleSystem, needs_of}

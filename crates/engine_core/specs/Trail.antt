@@ -47,6 +47,7 @@ pub record IsTrail (cells values : ℕ) (K : Candidates) (changes : List (ℕ ×
 -- values were struck, and are noted: each earlier mark gives back the same
 pub record IsFurther (from to : Trail) : Type 0 where
   pub shape : SameShape from.board to.board
+  pub same_room : length to.changes ≡ length from.changes
   pub inside : IsInside (has to.board) (has from.board)
   pub grows : from.len ≤ to.len
   pub back : (mark : ℕ) → mark ≤ from.len → back_at to mark ≡ back_at from mark
@@ -54,6 +55,7 @@ pub record IsFurther (from to : Trail) : Type 0 where
 -- the trail was taken back to the mark: each earlier mark gives back the same
 pub record IsBack (from to : Trail) (mark : ℕ) : Type 0 where
   pub shape : SameShape from.board to.board
+  pub same_room : length to.changes ≡ length from.changes
   pub here : has to.board ≡ back_at from mark
   pub len : to.len ≡ mark
   pub back : (earlier : ℕ) → earlier ≤ mark → back_at to earlier ≡ back_at from earlier

@@ -9,24 +9,20 @@ use Rattle.engine_core.specs.Queue.{IsRested, IsWoken}
 use Rattle.engine_core.specs.Trail.{Trail, IsFurther, back_at}
 use Rattle.engine_core.specs.Waiting.{words_of, is_waiting}
 
--- what the memory was taken for, the board with its trail, which houses wait, and the mark of each level: so many levels
--- have one
+-- what the memory was taken for, the board with its trail, and which houses wait
 pub record Placed : Type 0 where
   pub made : Needs
   pub trail : Trail
   pub waits : List ℕ
-  pub marks : List ℕ
-  pub marked : ℕ
 
 -- the lists are as long as that wants, and the board is as large
-pub record IsPlaced (made : Needs) (board : Layout) (sets kept waits marks : List ℕ)
+pub record IsPlaced (made : Needs) (board : Layout) (sets kept waits : List ℕ)
     : Type 0 where
   pub board_cells : cells_of board ≡ made.cells
   pub board_values : board.values ≡ made.values
   pub sets_long : length sets ≡ made.scope
   pub kept_long : length kept ≡ made.scope
   pub waits_long : length waits ≡ words_of made.houses
-  pub marks_long : length marks ≡ made.cells
   pub few_turns : made.bound < 18446744073709551616
 
 abbrev pub board_in : Placed → Candidates
@@ -43,11 +39,9 @@ abbrev pub AreRested : RuleSystem → Placed → Type 0
 AreRested p s = IsRested p (board_in s) (is_waiting s.waits)
 
 -- ---- from one place to a later one
--- values were struck and noted: the marks are the same, and give back the same
+-- values were struck and noted
 pub record GoesOn (from to : Placed) : Type 0 where
   pub made : to.made ≡ from.made
-  pub marks : to.marks ≡ from.marks
-  pub marked : to.marked ≡ from.marked
   pub further : IsFurther from.trail to.trail
 
 -- a visit of h that leaves each cell a value was made, and its houses wait; or it would leave a cell without one
@@ -58,25 +52,10 @@ IsStep p h from to false =
     × IsWoken p h (board_in from) (board_in to) (is_waiting from.waits) (is_waiting to.waits)
 
 -- ---- what a walk sees of it
--- the mark of this level
-abbrev pub mark_at : List ℕ → ℕ → ℕ
-mark_at marks level = slice_index_or marks level 0
-
-abbrev pub standing_by : Trail → List ℕ → ℕ → Standing
-standing_by t marks live =
-    record { board = has t.board; back = λ level. back_at t (mark_at marks level); marks = live }
-
 abbrev pub standing_of : Placed → Standing
-standing_of s = standing_by s.trail s.marks s.marked
-
--- the first so many marks ascend along the trail
-pub record AreMarks (marks : List ℕ) (live len : ℕ) : Type 0 where
-  pub within : (k : ℕ) → k < live → mark_at marks k ≤ len
-  pub ascend : (j k : ℕ) → j ≤ k → k < live → mark_at marks j ≤ mark_at marks k
+standing_of s = record { board = board_in s; len = s.trail.len; back = back_at s.trail }
 
 -- a walk is under way, which began inside the start
 pub record IsUnderWay (p : RuleSystem) (s : Placed) : Type 0 where
   pub along : IsAlong p s
   pub begun : IsInside (back_at s.trail 0) p.start
-  pub few : s.marked ≤ p.cells
-  pub marked : AreMarks s.marks s.marked s.trail.len

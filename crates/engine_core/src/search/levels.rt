@@ -1,17 +1,18 @@
 //! The levels of a search: a frame for each cell whose values are being tried, and the grids found.
 
-ghost use Rattle.std.specs.Prelude.{◌+◌, ◌<◌, ◌≡◌, ◌≤◌, None};
+ghost use Rattle.std.specs.Prelude.{◌+◌, ◌<◌, ◌≡◌, ◌≤◌, None, length};
 ghost use Rattle.engine_core.specs.Common.{pick, IsClosedIn, IsClosedBut, AreGrids, AreReady, IsTurn, SameMarks, singles, IsClosed, IsFull, IsNoted};
 
 use crate::mode::Closing;
 use crate::search::position::Position;
 use grid_core::Grid;
 
-/// A cell whose values are being tried, and the next of them.
+/// A cell whose values are being tried, the next of them, and how long the trail was before the first.
 #[derive(Clone, Copy)]
 pub(crate) struct Frame {
     pub cell: usize,
     pub next: u8,
+    pub mark: usize,
 }
 
 /// The grids that a search found: so many of the two.
@@ -70,12 +71,13 @@ impl Levels {
         ensures ready { AreReady (P.system rules.now) (P.stands position.new) self.new }
         ensures depth { self.new.depth ≡ self.old.depth }
         ensures grids { self.new.grids ≡ self.old.grids }
+        ensures frames { length self.new.frames.items ≡ length self.old.frames.items }
         ensures walks { P.walks rules.now position.new }
         ensures room { P.room position.new ≡ P.room position.old }
     {
         let frames: &[Frame] = &self.frames;
         let top = frames[self.depth - 1];
-        position.undo(rules, self.depth - 1);
+        position.undo(rules, top.mark);
         let value = position.next_value(rules, top.cell, top.next)?;
         self.frames[self.depth - 1].next = value + 1;
         position.leave(rules, top.cell, value);
@@ -109,6 +111,7 @@ impl Levels {
         ensures ready { AreReady (P.system rules.now) (P.stands position.new) self.new }
         ensures long { AreGrids (P.system rules.now).cells self.new.grids }
         ensures deeper { self.new.depth ≤ self.old.depth + 1 }
+        ensures frames { length self.new.frames.items ≡ length self.old.frames.items }
         ensures walks { P.walks rules.now position.new }
         ensures room { P.room position.new ≡ P.room position.old }
     {
@@ -119,8 +122,12 @@ impl Levels {
         match position.pick(rules, from) {
             None => self.grids.note(rules, position),
             Some(cell) => {
-                position.checkpoint(rules, self.depth);
-                self.frames[self.depth] = Frame { cell, next: 0 };
+                let mark = position.len();
+                self.frames[self.depth] = Frame {
+                    cell,
+                    next: 0,
+                    mark,
+                };
                 self.depth += 1;
             }
         }

@@ -1,7 +1,7 @@
 //! What a walk stands on: a board that is closed, tried and put back.
 
 ghost use Rattle.std.specs.Prelude.{◌≡◌, ℕ, ◌*◌, ◌<◌, ◌≤◌, IfOk, true, None, length};
-ghost use Rattle.engine_core.specs.Common.{IsWithin, count_below, grid_of, is_full, only, pick, RuleSystem, IsClosed, IsLawful, IsNext, Needs, needs_of, FitsIn, IsClosedBut, IsClosedIn, Standing, IsOnward, IsCheckpoint, IsReturned, IsTaken};
+ghost use Rattle.engine_core.specs.Common.{IsWithin, count_below, grid_of, is_full, only, pick, RuleSystem, IsClosed, IsLawful, IsNext, Needs, needs_of, FitsIn, IsClosedBut, IsClosedIn, Standing, IsOnward, IsReturned, IsTaken, Room};
 
 use crate::mode::Closing;
 use crate::rules::Rules;
@@ -15,8 +15,8 @@ pub struct Taken {
     pub turns: usize,
 }
 
-/// A board under a walk. Values are struck from it, and each open level of the walk has a mark that it can be taken back
-/// to.
+/// A board under a walk. Values are struck from it, and a trail notes them: to go back to a length that it had is to go back
+/// to the board of then.
 pub trait Position: Drop + Sized {
     /// What is walked: the rules of a puzzle, in whatever form the position has them.
     type Game;
@@ -24,11 +24,11 @@ pub trait Position: Drop + Sized {
     /// What the game means.
     ghost system: { Self.Game → RuleSystem };
 
-    /// The board, and the boards that the marks give back.
+    /// The board, and the boards that it can be taken back to.
     ghost stands: { Self → Standing };
 
-    /// What the memory was taken for.
-    ghost room: { Self → Needs };
+    /// What the memory was taken for, and how long the trail can be.
+    ghost room: { Self → Room };
 
     /// A walk of the game is under way.
     ghost walks: { Self.Game → Self → Type 0 };
@@ -39,19 +39,26 @@ pub trait Position: Drop + Sized {
     ///
     /// When memory was refused.
     fn new(alloc: Global, rules: &Self::Game) -> Result<Self, AllocError>
-        ensures { IfOk result (λ position. room position ≡ needs_of (system rules.now)) };
+        ensures needs { IfOk result (λ position. (room position).needs ≡ needs_of (system rules.now)) }
+        ensures trail { IfOk result (λ position. (room position).trail
+            ≡ (system rules.now).cells * (system rules.now).values) };
 
-    /// How many changes of cells can be taken back.
+    /// How many changes of cells can be taken back: the length of the list that holds them.
     fn changes(&self) -> usize
-        ensures { result ≡ (room self.now).cells * (room self.now).values };
+        ensures { result ≡ (room self.now).trail };
+
+    /// How long the trail is: to go back to this length is to go back to the board as it is now.
+    fn len(&self) -> usize
+        ensures len { result ≡ (stands self.now).len }
+        ensures here { (stands self.now).back result ≡ (stands self.now).board };
 
     /// How many values a full set has.
     fn values(&self, rules: &Self::Game) -> u8
         ensures { result ≡ (system rules.now).values };
 
-    /// Begins with the board that a search starts from. No level has a mark.
+    /// Begins with the board that a search starts from.
     fn begin(&mut self, rules: &Self::Game)
-        requires { FitsIn (needs_of (system rules.now)) (room self.old) }
+        requires { FitsIn (needs_of (system rules.now)) (room self.old).needs }
         ensures start { (stands self.new).board ≡ (system rules.now).start }
         ensures walks { walks rules.now self.new }
         ensures room { room self.new ≡ room self.old };
@@ -95,20 +102,11 @@ pub trait Position: Drop + Sized {
         ensures walks { walks rules.now self.new }
         ensures room { room self.new ≡ room self.old };
 
-    /// Marks the board for this level. The levels outside it have marks; those inside lose theirs.
-    fn checkpoint(&mut self, rules: &Self::Game, level: usize)
+    /// Takes the board back to when the trail had this length.
+    fn undo(&mut self, rules: &Self::Game, mark: usize)
         requires walks { walks rules.now self.old }
-        requires level_in { level < (system rules.now).cells }
-        requires outer { level ≤ (stands self.old).marks }
-        ensures marked { IsCheckpoint (stands self.old) (stands self.new) level }
-        ensures walks { walks rules.now self.new }
-        ensures room { room self.new ≡ room self.old };
-
-    /// Takes the board back to the mark of this level.
-    fn undo(&mut self, rules: &Self::Game, level: usize)
-        requires walks { walks rules.now self.old }
-        requires marked { level < (stands self.old).marks }
-        ensures returned { IsReturned (stands self.old) (stands self.new) level }
+        requires marked { mark ≤ (stands self.old).len }
+        ensures returned { IsReturned (stands self.old) (stands self.new) mark }
         ensures walks { walks rules.now self.new }
         ensures room { room self.new ≡ room self.old };
 

@@ -1,6 +1,6 @@
 //! The walk over trials, level by level.
 
-ghost use Rattle.std.specs.Prelude.{◌≡◌, ◌≤◌};
+ghost use Rattle.std.specs.Prelude.{◌≡◌, ◌≤◌, length};
 ghost use Rattle.engine_core.specs.Common.{needs_of, FitsIn, AreLong, IsSearched};
 
 use crate::search::levels::Levels;
@@ -40,11 +40,13 @@ impl Search {
         position: &mut P,
         budget: u64,
     ) -> Verdict
-        requires fits { FitsIn (needs_of (P.system rules.now)) (P.room position.old) }
+        requires fits { FitsIn (needs_of (P.system rules.now)) (P.room position.old).needs }
         requires long { AreLong (P.system rules.now).cells self.old.levels }
         ensures searched { IsSearched (P.system rules.now) budget result self.new }
         ensures few { self.new.deepest ≤ (P.system rules.now).cells }
         ensures long { AreLong (P.system rules.now).cells self.new.levels }
+        ensures frames { length self.new.levels.frames.items
+            ≡ length self.old.levels.frames.items }
         ensures room { P.room position.new ≡ P.room position.old }
     {
         position.begin(rules);

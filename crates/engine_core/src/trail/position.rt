@@ -72,9 +72,8 @@ fn filter_house<R: Propagators>(
     rules.filter(house, sets, kept, scratch)
 }
 
-/// A board with its trail, and the length of the trail at the mark of each level: so many levels have one. With it go what
-/// the rules work in, room for the sets of a house's cells and for what is kept of them, and a mark for
-/// each house that waits.
+/// A board with its trail. With it go what the rules work in, room for the sets of a house's cells and for what is kept of
+/// them, and a mark for each house that waits.
 #[derive(Drop)]
 pub struct TrailPosition<R: Propagators> {
     made: Needs,
@@ -83,8 +82,6 @@ pub struct TrailPosition<R: Propagators> {
     kept: Vec<u32>,
     waits: Vec<u64>,
     trailed: TrailedBoard,
-    marks: Vec<usize>,
-    marked: usize,
 }
 
 impl<R: Propagators> Model for TrailPosition<R> {
@@ -96,12 +93,10 @@ impl<R: Propagators> Model for TrailPosition<R> {
       made = needs_in s.made;
       trail = s.trailed;
       waits = s.waits.items;
-      marks = s.marks.items;
-      marked = s.marked;
     } };
 
     ghost invariant = { λ s. IsPlaced (needs_in s.made) s.trailed.board s.sets.items s.kept.items
-        s.waits.items s.marks.items × R.serves s.scratch (needs_in s.made) };
+        s.waits.items × R.serves s.scratch (needs_in s.made) };
 }
 
 impl<R: Propagators> TrailPosition<R> {
@@ -173,7 +168,7 @@ impl<R: Propagators> Position for TrailPosition<R> {
 
     ghost stands = { λ s. standing_of s };
 
-    ghost room = { λ s. s.made };
+    ghost room = { λ s. record { needs = s.made; trail = length s.trail.changes } };
 
     ghost walks = { λ rules s. IsUnderWay (R.system rules) s };
 
@@ -186,13 +181,15 @@ impl<R: Propagators> Position for TrailPosition<R> {
             kept: vec![in alloc; 0u32; made.scope]?,
             waits: vec![in alloc; 0u64; made.houses / 64 + 1]?,
             trailed: TrailedBoard::new(alloc, made.cells, made.values)?,
-            marks: vec![in alloc; 0usize; made.cells]?,
-            marked: 0,
         })
     }
 
     fn changes(&self) -> usize {
         self.trailed.changes.len()
+    }
+
+    fn len(&self) -> usize {
+        self.trailed.len()
     }
 
     fn values(&self, rules: &R) -> u8 {
@@ -201,7 +198,6 @@ impl<R: Propagators> Position for TrailPosition<R> {
 
     fn begin(&mut self, rules: &R) {
         self.trailed.start(rules);
-        self.marked = 0;
     }
 
     fn close(&mut self, rules: &R, from: Option<usize>) -> Taken {
@@ -242,14 +238,8 @@ impl<R: Propagators> Position for TrailPosition<R> {
         self.trailed.leave(rules, cell, before, 1 << value);
     }
 
-    fn checkpoint(&mut self, _rules: &R, level: usize) {
-        self.marks[level] = self.trailed.len();
-        self.marked = level + 1;
-    }
-
-    fn undo(&mut self, _rules: &R, level: usize) {
-        self.trailed.undo(self.marks[level]);
-        self.marked = level + 1;
+    fn undo(&mut self, _rules: &R, mark: usize) {
+        self.trailed.undo(mark);
     }
 
     fn accept(&mut self, rules: &R, grid: &mut Grid) -> bool {

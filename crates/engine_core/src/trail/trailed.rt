@@ -78,6 +78,7 @@ impl TrailedBoard {
         ensures start { has self.new.board ≡ (R.system rules.now).start }
         ensures here { back_at self.new 0 ≡ has self.new.board }
         ensures shape { SameShape self.old.board self.new.board }
+        ensures room { length self.new.changes ≡ length self.old.changes }
     {
         rules.start(&mut self.board); // whatever it held
         self.len = 0;

@@ -34,9 +34,6 @@ opened g c =
     (g.met.P.Position.within c.args.rules.now c.args.position.now c.requires.walks)
     (t.left c.in_default.is)
 
-pub checkpoint-requires-clause-level_in : goal.checkpoint-requires-clause-level_in
-checkpoint-requires-clause-level_in g c = open-room (opened g (goal.at.checkpoint-requires-clause-level_in g c).In-Some)
-
 pub index_mut-requires : goal.index_mut-requires
 index_mut-requires g c =
     let room = open-room (opened g (goal.at.index_mut-requires g c).In-Some) in
@@ -82,14 +79,15 @@ returns-in-Some-clause-marks g c =
     let at = goal.at.returns-in-Some-clause-marks g c in
     let room = open-room (opened g at.In-Some) in
     let t = c.close-taken.ensures.taken in
-    ap (λ ms. found_marks c.args.self.now.grids ++ ms)
+    let here = rw c.len-mark.ensures.len at c.len-mark.ensures.here in
+    rw c.len-mark.ensures.len (ap (λ ms. found_marks c.args.self.now.grids ++ ms)
     (descend-split (descent g at.After-close-taken) (t.left c.in_default.is)
     (t.alive c.in_default.is) c.in-Some.cell (sym c.pick.ensures ∙ c.in-Some.is)
-    (omega (arith, c.requires.ready.room)) c.checkpoint.ensures.marked)
+    (omega (arith, c.requires.ready.room)) here))
 
 pub returns-in-Some-clause-ready : goal.returns-in-Some-clause-ready
 returns-in-Some-clause-ready g c =
     let o = opened g (goal.at.returns-in-Some-clause-ready g c).In-Some in
     let room = open-room o in
-    ready-push (ready-onward c.requires.ready c.close-taken.ensures.onward)
-    (omega (arith, c.requires.ready.room)) c.checkpoint.ensures.marked o
+    rw c.len-mark.ensures.len (ready-push c.args.self.now.frames.items c.in-Some.cell (omega (arith, c.requires.ready.room))
+    (rw c.len-mark.ensures.len at c.len-mark.ensures.here) (ready-onward c.requires.ready c.close-taken.ensures.onward) o)

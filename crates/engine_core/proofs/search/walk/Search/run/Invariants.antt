@@ -1,4 +1,4 @@
-use Rattle.engine_core.proofs.Common.{AreGrids, AreReady, ◌*◌, ◌+◌, ◌-◌, ◌≡◌, ◌≤◌}
+use Rattle.engine_core.proofs.Common.{AreGrids, AreReady, length, ◌*◌, ◌+◌, ◌-◌, ◌≡◌, ◌≤◌}
 use Rattle.engine_core.proofs.SearchingLemmas.{IsSearching}
 use Rattle.engine_core.proofs.search.walk.Search.run.Given as goal
 
@@ -14,6 +14,7 @@ invariant-loop-self g l =
       ready : AreReady p st l.self.levels;
       long : AreGrids p.cells l.self.levels.grids;
       walks : g.P.Position.walks l.rules l.position;
+      frames : length l.self.levels.frames.items ≡ length l.fn.self.levels.frames.items;
       room : g.P.Position.room l.position ≡ g.P.Position.room l.fn.position;
     }
 

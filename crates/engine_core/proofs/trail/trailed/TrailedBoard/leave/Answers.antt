@@ -1,4 +1,4 @@
-use Rattle.engine_core.proofs.Common.{arith, get_or-set_other, get_or-set_same, ◌<◌}
+use Rattle.engine_core.proofs.Common.{arith, get_or-set_other, get_or-set_same, length-set, ◌<◌}
 use Rattle.engine_core.proofs.ChangeLemmas.{left-is}
 use Rattle.engine_core.proofs.TrailLemmas.{IsLeft, left-noted, trail-len}
 use Rattle.engine_core.proofs.trail.trailed.TrailedBoard.leave.Goals as goal
@@ -30,7 +30,13 @@ returns-clause-left g c = rw (← c.self.view_is) (left-is _ _ _ c.retain.ensure
 pub returns-clause-further : goal.returns-clause-further
 returns-clause-further g c =
     let left = noted g (goal.at.returns-clause-further g c).After-retain in
-    rw (← c.self.view_is) (record { shape = c.retain.ensures.shape; inside = left.inside; grows = omega arith; back = λ m le. left.back m le })
+    rw (← c.self.view_is) (record {
+      shape = c.retain.ensures.shape;
+      same_room = length-set c.self.inside.changes.items c.self.inside.len (c.args.place, c.args.before);
+      inside = left.inside;
+      grows = omega arith;
+      back = λ m le. left.back m le;
+    })
 
 pub returns-clause-noted : goal.returns-clause-noted
 returns-clause-noted g c =

@@ -23,6 +23,7 @@ loop-self-preserved c =
       trail = u.trail;
       back = λ m le. u.back m (omega arith) ∙ i.back m le;
       shape = u.shape;
+      same_room = i.same_room;
     }
 
 pub returns : goal.returns
@@ -31,6 +32,7 @@ returns c =
     let t = c.loop-self.self-inside in
     record {
       shape = i.shape;
+      same_room = i.same_room;
       here = sym (put_back-none t.changes.items c.args.mark t.len (omega arith)) ∙ i.back c.args.mark (omega arith);
       len = (omega (arith, i.low));
       back = λ m le. i.back m le;
