@@ -176,7 +176,7 @@ module _ {p : RuleSystem} {s s1 : Standing} {frames : List Frame} {n : ℕ} (rea
     }
       where
         moved_on : IsOpen p (level_at s1 (record { cell = top.cell; next = v + 1; mark = top.mark })) (n - 1)
-        moved_on = let o = ready-back.open_levels (n - 1) (omega arith) in record { single = o.single; picked = o.picked; closed = o.closed; alive = o.alive }
+        moved_on = let o = ready-back.open_levels (n - 1) (omega arith) in record { single = o.single; picked = o.picked; closed = o.closed; alive = o.alive; inside = o.inside }
 
     pub turn-ready : {now : List Frame} → now ≡ moved → IsReady p s2 now n
     turn-ready e = rw e (ready-onward retried onward)

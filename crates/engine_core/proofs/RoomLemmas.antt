@@ -24,8 +24,8 @@ singles-room p K {cell} lt two =
 
 pub split-room : {p : RuleSystem} {K K' : Candidates} {n cell : ℕ} → IsInside K' K → n ≤ singles p K
     → is_dead p.cells p.values K' ≡ false → pick p.cells p.values K' ≡ Some cell
-    → IsWithin p.cells p.values K → K' ≡ closure p K → IsOpen p (record { board = K'; cell = cell; next = 0 }) n
-split-room inside single alive picked within reached = grind (arith, common_steps, closure_closed, singles-inside)
+    → IsWithin p.cells p.values K → K' ≡ closure p K → IsInside K' p.start → IsOpen p (record { board = K'; cell = cell; next = 0 }) n
+split-room inside single alive picked within reached start = grind (arith, common_steps, closure_closed, singles-inside)
 
 -- its cell is one with fewest values
 pub open-cell : {p : RuleSystem} {level : Level} {n : ℕ} → IsOpen p level n → IsFewest p.cells p.values level.board level.cell

@@ -55,7 +55,7 @@ IsStep p h from to false =
 abbrev pub standing_of : Placed → Standing
 standing_of s = record { board = board_in s; len = s.trail.len; back = back_at s.trail }
 
--- a walk is under way, which began inside the start
+-- a walk is under way, inside the start
 pub record IsUnderWay (p : RuleSystem) (s : Placed) : Type 0 where
   pub along : IsAlong p s
-  pub begun : IsInside (back_at s.trail 0) p.start
+  pub inside : IsInside (board_in s) p.start

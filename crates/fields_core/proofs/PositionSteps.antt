@@ -1,18 +1,15 @@
 -- Planes as a position: what a step leaves.
-use Rattle.std.proofs.Common.{◌≡◌, ◌∙◌, ℕ, ◌+◌, ◌*◌, ◌<◌, ◌≤◌, ◌⊎◌, Bool, List, length, set, true, refl, ap, arith}
-use Rattle.std.proofs.lemmas.Bool.{cases_Bool, cases_eq, lt-ltb}
+use Rattle.std.proofs.Common.{◌≡◌, ◌∙◌, ℕ, ◌+◌, ◌*◌, ◌<◌, ◌≤◌, ◌⊎◌, Bool, List, length, true, refl, ap, arith, sym}
+use Rattle.std.proofs.lemmas.Bool.{cases_Bool, cases_eq, false_from_ne_true, lt-ltb, true≢false}
 use Rattle.std.proofs.lemmas.Grind.{common_steps}
-use Rattle.grid_core.specs.Candidates.{Candidates, all_of, grid_of, is_full, only}
+use Rattle.grid_core.specs.Candidates.{Candidates, IsInside, all_of, grid_of, is_full, only}
 use Rattle.grid_core.specs.Extent.{Extent}
-use Rattle.grid_core.proofs.CandidateLemmas.{count_below-pos, is_dead-each, is_dead-not}
+use Rattle.grid_core.proofs.CandidateLemmas.{count_below-pos, is_dead-each, is_dead-inside, is_dead-not, within_inside}
 use Rattle.grid_core.proofs.GridLemmas.{only-here, only-other}
-use Rattle.grid_core.specs.Planes.{Layers, has, cells_of, IsFurther, IsBack}
+use Rattle.grid_core.specs.Planes.{Layers, back_at, has, cells_of, IsFurther, IsBack}
 use Rattle.engine_core.specs.RuleSystem.{RuleSystem, IsGridOf, IsLawful, needs_of, FitsIn}
 use Rattle.engine_core.specs.ClosingList.{IsAlive}
-use Rattle.engine_core.specs.TrailPosition.{mark_at}
 use Rattle.engine_core.proofs.JudgeLemmas.{grid-fits, grid-long}
-use Rattle.engine_core.proofs.PlaneMarks.{marks-further, marks-noted, noted-each}
-use Rattle.engine_core.proofs.PositionLemmas.{marks-returned}
 use Rattle.fields_core.specs.CountHouse.{CountHouse, count_puzzle, start_of}
 use Rattle.fields_core.specs.AnyPlanes.{places_of, IsBoard, IsSuited}
 use Rattle.fields_core.specs.PlanePosition.{PlacedPlanes, IsUnderWay}
@@ -33,9 +30,6 @@ step-walks s p' kept walks further alive words is = record {
     within = λ c v on. walks.board.within c v (further.inside c v on);
     inside = λ c v on. walks.board.inside c v (further.inside c v on);
   };
-  few = walks.few;
-  marked = marks-further s.planes p' s.marks s.marked walks.marked further;
-  backs = λ level lt. rw (further.back (mark_at s.marks level) (walks.marked.within level lt)) (walks.backs level lt);
 }
 
 -- of a cell with that value no other is left
@@ -50,37 +44,19 @@ pub leave-walks : {S L : Type 0} {p : RuleSystem} {size : Extent} {is_own : S �
 leave-walks {S} {L} {p} s p' cell v walks further lt on left =
     step-walks s p' s.kept walks further (rw left (leave-alive p (has s.planes) cell v walks.board.alive lt on)) refl walks.own
 
--- the board as it is has the mark of this level
-pub mark-walks : {S L : Type 0} {p : RuleSystem} {size : Extent} {is_own : S ⊎ L → Type 0} (s : PlacedPlanes S L) (level : ℕ)
-    → IsUnderWay p size is_own s → level < p.cells → level ≤ s.marked → level < length s.marks
-    → IsUnderWay p size is_own (record s { marks = set s.marks level s.planes.len; marked = level + 1 })
-mark-walks {p = p} s level walks lt outer room = record {
-  fits = walks.fits;
-  same_size = walks.same_size;
-  cells = walks.cells;
-  suited = walks.suited;
-  own = walks.own;
-  board = walks.board;
-  few = omega arith;
-  marked = marks-noted s.marks s.planes.len level walks.marked outer room;
-  backs = noted-each s.marks s.planes.len level walks.marked outer room s.planes (IsBoard p) refl walks.backs walks.board;
-}
-
--- the board was taken back to the mark of this level
-pub undo-walks : {S L : Type 0} {p : RuleSystem} {size : Extent} {is_own : S ⊎ L → Type 0} (s : PlacedPlanes S L) (p' : Layers) (level m : ℕ)
-    → IsUnderWay p size is_own s → level < s.marked → m ≡ mark_at s.marks level → IsBack s.planes p' m
-    → IsUnderWay p size is_own (record s { planes = p'; marked = level + 1 })
-undo-walks s p' level m walks lt e back = record {
-  fits = walks.fits;
-  same_size = back.same_size ∙ walks.same_size;
-  cells = ap (λ (e : Extent). e.w * e.h) back.same_size ∙ walks.cells;
-  suited = walks.suited;
-  own = walks.own;
-  board = rw (back.here, e) (walks.backs level lt);
-  few = omega (arith, walks.few);
-  marked = rw back.len (marks-returned walks.marked lt e);
-  backs = λ k less. rw (back.back (mark_at s.marks k) (rw e (walks.marked.ascend k level (omega arith) lt))) (walks.backs k (omega arith));
-}
+-- the board was taken back, inside the start
+pub undo-walks : {S L : Type 0} {p : RuleSystem} {size : Extent} {is_own : S ⊎ L → Type 0} (s : PlacedPlanes S L) (p' : Layers) (m : ℕ) → IsLawful p
+    → IsUnderWay p size is_own s → IsInside (back_at s.planes m) p.start → IsBack s.planes p' m → IsUnderWay p size is_own (record s { planes = p' })
+undo-walks {p = p} s p' m laws walks start back =
+    let inside : IsInside (has p') p.start = rw back.here start in
+    record {
+      fits = walks.fits;
+      same_size = back.same_size ∙ walks.same_size;
+      cells = ap (λ (e : Extent). e.w * e.h) back.same_size ∙ walks.cells;
+      suited = walks.suited;
+      own = walks.own;
+      board = record { alive = false_from_ne_true _ (λ dead. true≢false (sym (is_dead-inside p.cells p.values (has s.planes) (has p') back.regained dead) ∙ walks.board.alive)); within = within_inside _ _ _ _ laws.start_within inside; inside = inside };
+    }
 
 -- ---- a board to begin with
 module _ (cells : ℕ) (blocked : ℕ → Bool) (houses : List CountHouse) (solves : List ℕ → Bool) where
@@ -92,18 +68,15 @@ module _ (cells : ℕ) (blocked : ℕ → Bool) (houses : List CountHouse) (solv
   free c lt = rw (lt-ltb c cells lt) (grind (arith, common_steps, cases_Bool (blocked c)))
 
   pub start-walks : {S L : Type 0} {size : Extent} {is_own : S ⊎ L → Type 0} (s : PlacedPlanes S L) → IsLawful rules → FitsIn (needs_of rules) s.made
-      → s.planes.size ≡ size → size.w * size.h ≡ cells → IsSuited size (places_of s.kept) → is_own s.kept → has s.planes ≡ start_of cells blocked → s.marked ≡ 0
+      → s.planes.size ≡ size → size.w * size.h ≡ cells → IsSuited size (places_of s.kept) → is_own s.kept → has s.planes ≡ start_of cells blocked
       → IsUnderWay rules size is_own s
-  start-walks s laws fits same few suited is start none = record {
+  start-walks s laws fits same few suited is start = record {
     fits = fits;
     same_size = same;
     cells = ap (λ (e : Extent). e.w * e.h) same ∙ few;
     suited = suited;
     own = is;
     board = rw start (record { alive = is_dead-each cells 2 _ (λ c lt. count_below-pos _ 2 0 (omega arith) (free c lt)); within = laws.start_within; inside = λ c v on. on });
-    few = omega arith;
-    marked = record { within = λ k lt. absurd (omega arith); ascend = λ j k le lt. absurd (omega arith) };
-    backs = λ k lt. absurd (omega arith);
   }
 
 -- ---- the grid of a full board

@@ -1,24 +1,20 @@
 -- Planes with their trail as a position. No public contract uses these words.
-use Rattle.std.specs.Prelude.{◌≡◌, ℕ, Option, Some, None, ◌*◌, ◌<◌, ◌≤◌, ◌⊎◌, List, length}
+use Rattle.std.specs.Prelude.{◌≡◌, Option, Some, None, ◌*◌, ◌⊎◌, length}
 use Rattle.grid_core.specs.Extent.{Extent}
-use Rattle.grid_core.specs.Planes.{Layers, has, cells_of, back_at}
+use Rattle.grid_core.specs.Planes.{Layers, has, cells_of}
 use Rattle.engine_core.specs.Needs.{needs_in}
 use Rattle.engine_core.specs.declared.needs.Needs.{Needs as Counted}
 use Rattle.engine_core.specs.RuleSystem.{RuleSystem, Needs, needs_of, FitsIn}
 use Rattle.engine_core.specs.PlaneStanding.{standing_by}
 use Rattle.engine_core.specs.Position.{Standing}
-use Rattle.engine_core.specs.TrailPosition.{mark_at, AreMarks}
 use Rattle.fields_core.specs.AnyPlanes.{kept_in, layers_in, of_either, places_of, AreEnough, IsBoard, IsSuited}
 use Rattle.fields_core.specs.declared.planes.any.AnyPlanes.{AnyPlanes}
 
--- what the memory was taken for, the planes with their trail, what is kept beside them, and the mark of each level: so many
--- levels have one
+-- what the memory was taken for, the planes with their trail, and what is kept beside them
 pub record PlacedPlanes (S L : Type 0) : Type 0 where
   pub made : Needs
   pub planes : Layers
   pub kept : S ⊎ L
-  pub marks : List ℕ
-  pub marked : ℕ
 
 -- planes with room for each step of a board of so many cells and values
 abbrev pub HasRoom : {S L : Type 0} → (S ⊎ L → Needs → Type 0) → Needs → AnyPlanes S L → Type 0
@@ -40,7 +36,7 @@ pub record ArePlanes {S L : Type 0} (short : S → Needs → Type 0) (long : L �
 
 -- what a walk sees of it
 abbrev pub standing_of : {S L : Type 0} → PlacedPlanes S L → Standing
-standing_of s = standing_by s.planes s.marks s.marked
+standing_of s = standing_by s.planes
 
 -- a walk is under way, on planes of that size, and what is kept is the puzzle's own
 pub record IsUnderWay {S L : Type 0} (p : RuleSystem) (size : Extent) (is_own : S ⊎ L → Type 0)
@@ -51,7 +47,3 @@ pub record IsUnderWay {S L : Type 0} (p : RuleSystem) (size : Extent) (is_own : 
   pub suited : IsSuited size (places_of s.kept)
   pub own : is_own s.kept
   pub board : IsBoard p (has s.planes)
-  pub few : s.marked ≤ p.cells
-  pub marked : AreMarks s.marks s.marked s.planes.len
-  pub backs : (level : ℕ) → level < s.marked
-      → IsBoard p (back_at s.planes (mark_at s.marks level))

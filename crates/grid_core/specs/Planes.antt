@@ -123,15 +123,13 @@ pub record IsFurther (from to : Layers) : Type 0 where
   pub lost : from.len < to.len → HasLost (has from) (has to)
   pub back : (n : ℕ) → n ≤ from.len → back_at to n ≡ back_at from n
 
--- the board was taken back to when the trail had length n, and lies between those before and after; each shorter one gives
--- back the same
+-- the board was taken back to when the trail had length n, and has each value that it had: each shorter one gives back the same
 pub record IsBack (from to : Layers) (n : ℕ) : Type 0 where
   pub same_size : to.size ≡ from.size
   pub same_room : length to.takings ≡ length from.takings
   pub here : has to ≡ back_at from n
   pub len : to.len ≡ n
   pub regained : IsInside (has from) (has to)
-  pub falls : (m : ℕ) → m ≤ n → IsInside (has to) (back_at from m)
   pub back : (m : ℕ) → m ≤ n → back_at to m ≡ back_at from m
 
 -- the words of which a taking was turned over

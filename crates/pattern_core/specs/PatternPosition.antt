@@ -1,12 +1,11 @@
 -- Planes with their trail as a position of a search of Pattern. No public contract uses these words.
-use Rattle.std.specs.Prelude.{◌≡◌, ℕ, ◌*◌, ◌<◌, ◌≤◌, List}
-use Rattle.grid_core.specs.Candidates.{IsWithin}
-use Rattle.grid_core.specs.Planes.{Layers, back_at, has}
+use Rattle.std.specs.Prelude.{◌≡◌, ℕ, ◌*◌, ◌≤◌}
+use Rattle.grid_core.specs.Candidates.{IsInside, IsWithin}
+use Rattle.grid_core.specs.Planes.{Layers, has}
 use Rattle.gameid_core.specs.Puzzles.{Pattern}
 use Rattle.engine_core.specs.PlaneStanding.{standing_by}
 use Rattle.engine_core.specs.Position.{Standing}
 use Rattle.engine_core.specs.RuleSystem.{FitsIn, Needs, needs_of}
-use Rattle.engine_core.specs.TrailPosition.{AreMarks, mark_at}
 use Rattle.pattern_core.specs.LineRules.{line_rules}
 use Rattle.pattern_core.specs.declared.planes.position.AnyPlanes.{AnyPlanes}
 use Rattle.pattern_core.specs.declared.planes.position.AnyPlanes.TheVariants.{Short, Long}
@@ -20,22 +19,18 @@ abbrev pub AreLong : ℕ → AnyPlanes → Type 0
 AreLong longest (Short planes) = longest ≤ 64
 AreLong longest (Long planes) = Unit {0}
 
--- what the memory was taken for, the planes with their trail, and the mark of each level: so many levels have one
+-- what the memory was taken for, and the planes with their trail
 pub record Placed : Type 0 where
   pub made : Needs
   pub planes : Layers
-  pub marks : List ℕ
-  pub marked : ℕ
 
 -- what a walk sees of it
 abbrev pub standing_of : Placed → Standing
-standing_of s = standing_by s.planes s.marks s.marked
+standing_of s = standing_by s.planes
 
 -- a walk is under way, on planes of the puzzle's size
 pub record IsUnderWay (p : Pattern) (s : Placed) : Type 0 where
   pub fits : FitsIn (needs_of (line_rules p)) s.made
   pub same_size : s.planes.size ≡ p.size
   pub cells : IsWithin (p.size.w * p.size.h) 2 (has s.planes)
-  pub few : s.marked ≤ p.size.w * p.size.h
-  pub marked : AreMarks s.marks s.marked s.planes.len
-  pub backs : (level : ℕ) → level < s.marked → IsWithin (p.size.w * p.size.h) 2 (back_at s.planes (mark_at s.marks level))
+  pub inside : IsInside (has s.planes) (line_rules p).start

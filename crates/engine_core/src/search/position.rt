@@ -1,7 +1,7 @@
 //! What a walk stands on: a board that is closed, tried and put back.
 
 ghost use Rattle.std.specs.Prelude.{◌≡◌, ℕ, ◌*◌, ◌<◌, ◌≤◌, IfOk, true, None, length};
-ghost use Rattle.engine_core.specs.Common.{IsWithin, count_below, grid_of, is_full, only, pick, RuleSystem, IsClosed, IsLawful, IsNext, Needs, needs_of, FitsIn, IsClosedBut, IsClosedIn, Standing, IsOnward, IsReturned, IsTaken, Room};
+ghost use Rattle.engine_core.specs.Common.{IsInside, count_below, grid_of, is_full, only, pick, RuleSystem, IsClosed, IsLawful, IsNext, Needs, needs_of, FitsIn, IsClosedBut, IsClosedIn, Standing, IsOnward, IsReturned, IsTaken, Room};
 
 use crate::mode::Closing;
 use crate::rules::Rules;
@@ -106,6 +106,7 @@ pub trait Position: Drop + Sized {
     fn undo(&mut self, rules: &Self::Game, mark: usize)
         requires walks { walks rules.now self.old }
         requires marked { mark ≤ (stands self.old).len }
+        requires inside { IsInside ((stands self.old).back mark) (system rules.now).start }
         ensures returned { IsReturned (stands self.old) (stands self.new) mark }
         ensures walks { walks rules.now self.new }
         ensures room { room self.new ≡ room self.old };
@@ -129,9 +130,9 @@ pub trait Position: Drop + Sized {
     /// The game keeps to what every search relies on.
     ghost lawful: { (rules : Self.Game) → IsLawful (system rules) };
 
-    /// The board has no more cells and values than the game.
-    ghost within: { (rules : Self.Game) (position : Self) → walks rules position
-        → IsWithin (system rules).cells (system rules).values (stands position).board };
+    /// The board has no values that the start lacks.
+    ghost inside: { (rules : Self.Game) (position : Self) → walks rules position
+        → IsInside (stands position).board (system rules).start };
 }
 
 /// Rules whose boards a store can search.

@@ -3,7 +3,6 @@
 
 ghost use Rattle.std.specs.Prelude.{◌<◌, ◌≡◌, ◌≤◌, IfOk, IfSome, length};
 ghost use Rattle.engine_core.specs.Common.{cells_of, max_cells, max_values, IsUnderWay, standing_of, words_of, has, IsAlive, IsClosedIn, HasRoom, IsFiltered, IsTaken, needs_of, IsBoardOf, StillServes, IsAlong, AreRested, GoesOn, IsStep, board_in, is_since, is_waiting, AreWoken, Candidates, IsClosedBut, IsRested};
-ghost use Rattle.engine_core.specs.PositionLaws.{within_of};
 
 use crate::mode::Closing;
 use crate::needs::{Needs, needs_for};
@@ -249,6 +248,5 @@ impl<R: Propagators> Position for TrailPosition<R> {
 
     ghost lawful = { R.lawful };
 
-    ghost within = { λ rules s walks. within_of (R.system rules) s.trail.board
-        walks.along.board_of };
+    ghost inside = { λ rules s walks. walks.inside };
 }

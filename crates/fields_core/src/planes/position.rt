@@ -1,7 +1,7 @@
 //! Planes with their trail, as what a search of a puzzle of count houses stands on.
 #![tactic(auto, using(crate::proofs::LawSets::plane_position_laws))]
 
-ghost use Rattle.std.specs.Prelude.{◌≡◌, ◌≤◌, refl};
+ghost use Rattle.std.specs.Prelude.{◌≡◌, ◌≤◌, length, refl};
 ghost use Rattle.fields_core.specs.PlanePosition.{IsUnderWay, standing_of};
 
 use crate::count::rules::CountRules;
@@ -12,15 +12,13 @@ use grid_core::Grid;
 use std::alloc::{AllocError, Global};
 use std::marker::Model;
 
-/// Planes with their trail, and the length of the trail at the mark of each level: so many levels have one. With it go what
-/// the game keeps beside planes, spare planes of longer words, and what the test of a grid works in.
+/// Planes with their trail. With it go what the game keeps beside planes, spare planes of longer words, and what the test of a
+/// grid works in.
 pub struct PlanePosition<P: PlaneGame> {
     made: Needs,
     scratch: P::Scratch,
     planes: PlanesOf<P>,
     spare: Option<PlanesOf<P>>,
-    marks: Vec<usize>,
-    marked: usize,
 }
 
 impl<P: PlaneGame> Drop for PlanePosition<P> {
@@ -30,14 +28,11 @@ impl<P: PlaneGame> Drop for PlanePosition<P> {
             scratch,
             planes,
             spare,
-            marks,
-            marked,
         } = self;
     }
 }
 
 impl<P: PlaneGame> Model for PlanePosition<P> {
-    ghost use Rattle.std.specs.Prelude.{◌≡◌, length};
     ghost use Rattle.engine_core.specs.Needs.{needs_in};
     ghost use Rattle.fields_core.specs.AnyPlanes.{kept_in, layers_in};
     ghost use Rattle.fields_core.specs.PlanePosition.{ArePlanes, PlacedPlanes};
@@ -48,12 +43,9 @@ impl<P: PlaneGame> Model for PlanePosition<P> {
       made = needs_in s.made;
       planes = layers_in s.planes;
       kept = kept_in s.planes;
-      marks = s.marks.items;
-      marked = s.marked;
     } };
 
-    ghost invariant = { λ s. (length s.marks.items ≡ (needs_in s.made).cells)
-        × ArePlanes P.Short.fits P.Long.fits P.all_short s.made s.planes s.spare
+    ghost invariant = { λ s. ArePlanes P.Short.fits P.Long.fits P.all_short s.made s.planes s.spare
         × P.serves s.scratch (needs_in s.made).cells };
 }
 
@@ -68,7 +60,7 @@ impl<P: PlaneGame> Position for PlanePosition<P> {
 
     ghost stands = { λ s. standing_of s };
 
-    ghost room = { λ s. s.made };
+    ghost room = { λ s. record { needs = s.made; trail = length s.planes.takings } };
 
     ghost walks = { λ rules s. IsUnderWay (rules_of (P.counts rules.puzzle))
         (P.extent rules.puzzle)
@@ -83,13 +75,15 @@ impl<P: PlaneGame> Position for PlanePosition<P> {
             scratch,
             planes,
             spare,
-            marks: vec![in alloc; 0usize; made.cells]?,
-            marked: 0,
         })
     }
 
     fn changes(&self) -> usize {
         at_field!(&self.planes, field => field.planes.room())
+    }
+
+    fn len(&self) -> usize {
+        at_field!(&self.planes, field => field.planes.len())
     }
 
     fn values(&self, _rules: &CountRules<P>) -> u8 {
@@ -100,7 +94,6 @@ impl<P: PlaneGame> Position for PlanePosition<P> {
         choose(&mut self.planes, &mut self.spare, rules.puzzle(), self.made);
         let puzzle = rules.puzzle();
         at_field!(&mut self.planes, field => field.notes.start(&mut field.planes, puzzle));
-        self.marked = 0;
     }
 
     fn close(&mut self, rules: &CountRules<P>, from: Option<usize>) -> Taken {
@@ -128,15 +121,8 @@ impl<P: PlaneGame> Position for PlanePosition<P> {
         at_field!(&mut self.planes, field => field.planes.assign(cell, value));
     }
 
-    fn checkpoint(&mut self, _rules: &CountRules<P>, level: usize) {
-        self.marks[level] = at_field!(&self.planes, field => field.planes.len());
-        self.marked = level + 1;
-    }
-
-    fn undo(&mut self, _rules: &CountRules<P>, level: usize) {
-        let mark = self.marks[level];
+    fn undo(&mut self, _rules: &CountRules<P>, mark: usize) {
         at_field!(&mut self.planes, field => field.planes.undo(mark));
-        self.marked = level + 1;
     }
 
     fn accept(&mut self, rules: &CountRules<P>, grid: &mut Grid) -> bool {
@@ -148,7 +134,7 @@ impl<P: PlaneGame> Position for PlanePosition<P> {
 
     ghost lawful = { λ rules. count-lawful _ _ _ _ rules.counting };
 
-    ghost within = { λ rules s walks. walks.board.within };
+    ghost inside = { λ rules s walks. walks.board.inside };
 }
 
 impl<P: PlaneGame> Searchable for CountRules<P> {

@@ -49,14 +49,11 @@ fn planes_for(alloc: Global, size: Size, longest: usize) -> Result<AnyPlanes, Al
     Ok(AnyPlanes::Long(Planes::new(alloc, size)?))
 }
 
-/// Planes with their trail, and the length of the trail at the mark of each level: so many levels have one. With it goes what
-/// a visit works in.
+/// Planes with their trail. With it goes what a visit works in.
 pub struct PatternPosition {
     made: Needs,
     scratch: LineScratch,
     planes: AnyPlanes,
-    marks: Vec<usize>,
-    marked: usize,
 }
 
 impl Drop for PatternPosition {
@@ -65,8 +62,6 @@ impl Drop for PatternPosition {
             made,
             scratch,
             planes,
-            marks,
-            marked,
         } = self;
     }
 }
@@ -81,12 +76,9 @@ impl Model for PatternPosition {
     ghost view = { λ s. record {
       made = needs_in s.made;
       planes = layers_in s.planes;
-      marks = s.marks.items;
-      marked = s.marked;
     } };
 
-    ghost invariant = { λ s. (length s.marks.items ≡ (needs_in s.made).cells)
-        × (length (layers_in s.planes).takings ≡ (needs_in s.made).cells * (needs_in s.made).values)
+    ghost invariant = { λ s. (length (layers_in s.planes).takings ≡ (needs_in s.made).cells * (needs_in s.made).values)
         × AreLong (needs_in s.made).scope s.planes };
 }
 
@@ -99,7 +91,7 @@ impl Position for PatternPosition {
 
     ghost stands = { λ s. standing_of s };
 
-    ghost room = { λ s. s.made };
+    ghost room = { λ s. record { needs = s.made; trail = length s.planes.takings } };
 
     ghost walks = { λ rules s. IsUnderWay rules.pattern s };
 
@@ -109,13 +101,15 @@ impl Position for PatternPosition {
             made,
             scratch: rules.scratch(alloc)?,
             planes: planes_for(alloc, rules.size(), made.scope)?,
-            marks: vec![in alloc; 0usize; made.cells]?,
-            marked: 0,
         })
     }
 
     fn changes(&self) -> usize {
         at_planes!(&self.planes, planes => planes.room())
+    }
+
+    fn len(&self) -> usize {
+        at_planes!(&self.planes, planes => planes.len())
     }
 
     fn values(&self, rules: &PatternLines) -> u8 {
@@ -124,7 +118,6 @@ impl Position for PatternPosition {
 
     fn begin(&mut self, rules: &PatternLines) {
         at_planes!(&mut self.planes, planes => planes.begin(rules.size()));
-        self.marked = 0;
     }
 
     fn close(&mut self, rules: &PatternLines, from: Option<usize>) -> Taken {
@@ -151,15 +144,8 @@ impl Position for PatternPosition {
         at_planes!(&mut self.planes, planes => planes.assign(cell, value));
     }
 
-    fn checkpoint(&mut self, _rules: &PatternLines, level: usize) {
-        self.marks[level] = at_planes!(&self.planes, planes => planes.len());
-        self.marked = level + 1;
-    }
-
-    fn undo(&mut self, _rules: &PatternLines, level: usize) {
-        let mark = self.marks[level];
+    fn undo(&mut self, _rules: &PatternLines, mark: usize) {
         at_planes!(&mut self.planes, planes => planes.undo(mark));
-        self.marked = level + 1;
     }
 
     fn accept(&mut self, _rules: &PatternLines, grid: &mut Grid) -> bool {
@@ -169,5 +155,5 @@ impl Position for PatternPosition {
 
     ghost lawful = { λ rules. line_rules-lawful rules.pattern rules.extent };
 
-    ghost within = { λ rules s walks. walks.cells };
+    ghost inside = { λ rules s walks. walks.inside };
 }

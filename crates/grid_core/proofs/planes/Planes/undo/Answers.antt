@@ -63,6 +63,5 @@ returns g c =
       len = omega (arith, i.low);
       regained = rw here (λ k v on. falls c.args.len from.len c.requires (omega arith) k v
           (rw (put_back-none from.size.w (has from) from.takings from.len from.len (omega arith)) on));
-      falls = λ m le. rw here (falls m c.args.len le c.requires);
       back = λ m le. i.back m le;
     }

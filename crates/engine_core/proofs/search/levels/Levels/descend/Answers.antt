@@ -1,4 +1,4 @@
-use Rattle.engine_core.proofs.Common.{IsOpen, ap, append_assoc, arith, found_marks, sym, ◌++◌, ◌∙◌}
+use Rattle.engine_core.proofs.Common.{IsOpen, within_inside, ap, append_assoc, arith, found_marks, sym, ◌++◌, ◌∙◌}
 use Rattle.engine_core.proofs.ClosingLemmas.{closure_closed}
 use Rattle.engine_core.proofs.JudgeLemmas.{full_unpicked}
 use Rattle.engine_core.proofs.PickLemmas.{pick-inside}
@@ -16,7 +16,7 @@ descent : (g : _) (c : After-close-taken g)
 descent g c = record {
   ready = c.requires.ready;
   onward = c.close-taken.ensures.onward;
-  within = g.met.P.Position.within c.args.rules.now c.args.position.now c.requires.walks;
+  within = within_inside _ _ _ _ (g.met.P.Position.lawful c.args.rules.now).start_within (g.met.P.Position.inside c.args.rules.now c.args.position.now c.requires.walks);
 }
 
 -- the level that is opened
@@ -31,8 +31,9 @@ opened g c =
     let t = c.close-taken.ensures.taken in
     split-room c.close-taken.ensures.onward.inside c.requires.single (t.alive c.in_default.is)
     (sym c.pick.ensures ∙ c.in-Some.is)
-    (g.met.P.Position.within c.args.rules.now c.args.position.now c.requires.walks)
+    (within_inside _ _ _ _ (g.met.P.Position.lawful c.args.rules.now).start_within (g.met.P.Position.inside c.args.rules.now c.args.position.now c.requires.walks))
     (t.left c.in_default.is)
+    (g.met.P.Position.inside c.args.rules.now c.close-taken.new.self c.close-taken.ensures.walks)
 
 pub index_mut-requires : goal.index_mut-requires
 index_mut-requires g c =
@@ -52,7 +53,7 @@ note-requires-clause-closed g c =
     rw (c.close-taken.ensures.taken.left c.in_default.is)
     (closure_closed (g.P.Position.system c.args.rules.now)
     (g.P.Position.stands c.args.position.now).board
-    (g.met.P.Position.within c.args.rules.now c.args.position.now c.requires.walks))
+    (descent g (goal.at.note-requires-clause-closed g c).After-close-taken).within)
 
 pub note-requires-clause-full : goal.note-requires-clause-full
 note-requires-clause-full g c =

@@ -1,4 +1,4 @@
-use Rattle.engine_core.proofs.Common.{arith, frame_at, get_or_read, refl, ◌-◌, ◌≡◌}
+use Rattle.engine_core.proofs.Common.{arith, frame_at, get_or_read, refl, within_inside, ◌-◌, ◌≡◌}
 use Rattle.engine_core.proofs.LevelLemmas.{top-open, open-back, turn-done, turn-ready, turn-trial}
 use Rattle.engine_core.proofs.RoomLemmas.{open-cell}
 use Rattle.engine_core.proofs.search.levels.Levels.next_trial.Goals as goal
@@ -12,6 +12,10 @@ bounds-frames-self g c = rw c.deref-frames.ensures.value (omega (arith, (top-ope
 
 pub undo-requires-clause-marked : goal.undo-requires-clause-marked
 undo-requires-clause-marked g c = rw c.deref-frames.ensures.value (c.requires.ready.marked (c.args.self.now.depth - 1) (omega (arith, c.requires.deep)))
+
+pub undo-requires-clause-inside : goal.undo-requires-clause-inside
+undo-requires-clause-inside g c =
+    rw c.deref-frames.ensures.value (c.requires.ready.open_levels (c.args.self.now.depth - 1) (omega (arith, c.requires.deep))).inside
 
 pub next_value-requires-clause-cell_in : goal.next_value-requires-clause-cell_in
 next_value-requires-clause-cell_in g c = rw c.deref-frames.ensures.value (top-open c.requires.ready c.requires.deep).0
@@ -48,5 +52,5 @@ returns-clause-turn g c =
     let e = c.deref-frames.ensures.value in
     rw e (turn-trial c.requires.ready c.requires.deep (rw c.deref-frames.ensures.value at c.undo.ensures.returned) c.in_ok-value.value (rw e at c.in_ok-value.ensures)
     (rw e at c.leave.ensures.left) c.leave.ensures.onward
-    (g.met.P.Position.within c.args.rules.now c.undo.new.self c.undo.ensures.walks)
+    (within_inside _ _ _ _ (g.met.P.Position.lawful c.args.rules.now).start_within (g.met.P.Position.inside c.args.rules.now c.undo.new.self c.undo.ensures.walks))
     (rw (written g (goal.at.returns-clause-turn g c).After-leave) refl) refl)

@@ -1,7 +1,5 @@
-use Rattle.engine_core.proofs.Common.{has}
 use Rattle.engine_core.proofs.JudgeLemmas.{closed-grid}
 use Rattle.engine_core.proofs.QueueLemmas.{within_of}
-use Rattle.engine_core.proofs.TrailLemmas.{put_back-inside}
 use Rattle.engine_core.proofs.trail.position.TrailPositionPosition.accept.Goals as goal
 
 pub completes-requires-clause-closed : goal.completes-requires-clause-closed
@@ -9,5 +7,5 @@ completes-requires-clause-closed g c =
     let r = rw (← c.self.view_is) at c.requires in
     let of = r.walks.along.board_of in
     let t = c.self.inside.trailed in
-    closed-grid (g.met.R.Rules.lawful c.args.rules.now) (within_of _ t.board of) (λ d v on. r.walks.begun d v (put_back-inside (has t.board) t.changes 0 t.len d v on))
+    closed-grid (g.met.R.Rules.lawful c.args.rules.now) (within_of _ t.board of) r.walks.inside
     r.closed r.full c.cells.ensures of.same_values (rw c.board.ensures at c.write_grid.ensures)

@@ -1,4 +1,3 @@
-use Rattle.engine_core.proofs.Common.{arith}
 use Rattle.engine_core.proofs.QueueLemmas.{IsBoardOf-same}
 use Rattle.engine_core.proofs.trail.position.TrailPositionPosition.undo.Goals as goal
 
@@ -11,5 +10,5 @@ returns-clause-walks g c =
             fits = r.walks.along.fits;
             board_of = IsBoardOf-same r.walks.along.board_of c.undo.ensures.shape;
           };
-      begun = rw (c.undo.ensures.back 0 (omega arith)) r.walks.begun;
+      inside = rw c.undo.ensures.here r.inside;
     }

@@ -26,7 +26,7 @@ completes-requires-clause-fits g c =
 pub completes-requires-clause-served : goal.completes-requires-clause-served
 completes-requires-clause-served g c =
     let r = rw (← c.self.view_is) at c.requires in
-    rw (c.puzzle.ensures, r.walks.fits.same_cells) c.self.invariant.2
+    rw (c.puzzle.ensures, r.walks.fits.same_cells) c.self.invariant.1
 
 pub completes-requires-clause-met : goal.completes-requires-clause-met
 completes-requires-clause-met g c =

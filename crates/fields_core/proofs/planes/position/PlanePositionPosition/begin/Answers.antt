@@ -19,16 +19,14 @@ invariant_of-self g c = elim c.match-self.branch [
   | in-Short w ↦
       let are = rw w.in-Short.is at c.choose.ensures.planes in
       rw w.self-inside-is (
-        c.self.invariant.0,
         record { room = (w.start.ensures.room ∙ are.room.0, w.start.ensures.keeps _ are.room.1); spare_room = are.spare_room; enough = are.enough },
-        c.self.invariant.2,
+        c.self.invariant.1,
       )
   | in-Long w ↦
       let are = rw w.in-Long.is at c.choose.ensures.planes in
       rw w.self-inside-is (
-        c.self.invariant.0,
         record { room = (w.start-in-Long.ensures.room ∙ are.room.0, w.start-in-Long.ensures.keeps _ are.room.1); spare_room = are.spare_room; enough = are.enough },
-        c.self.invariant.2,
+        c.self.invariant.1,
       )
 ]
 
@@ -41,9 +39,9 @@ returns-clause-walks g c =
       | in-Short w ↦
           let start = rw c.puzzle-puzzle.ensures at w.start.ensures in
           rw w.self-inside-is (start-walks _ _ _ _ _ (count-lawful _ _ _ _ rules.counting) r start.size
-          (g.met.P.PlaneGame.cells_are rules.puzzle) (rw w.in-Short.is at suited) start.written start.start refl)
+          (g.met.P.PlaneGame.cells_are rules.puzzle) (rw w.in-Short.is at suited) start.written start.start)
       | in-Long w ↦
           let start = rw c.puzzle-puzzle.ensures at w.start-in-Long.ensures in
           rw w.self-inside-is (start-walks _ _ _ _ _ (count-lawful _ _ _ _ rules.counting) r start.size
-          (g.met.P.PlaneGame.cells_are rules.puzzle) (rw w.in-Long.is at suited) start.written start.start refl)
+          (g.met.P.PlaneGame.cells_are rules.puzzle) (rw w.in-Long.is at suited) start.written start.start)
     ]

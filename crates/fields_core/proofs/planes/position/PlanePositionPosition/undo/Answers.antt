@@ -1,23 +1,13 @@
-use Rattle.std.proofs.Common.{◌≡◌, arith}
+use Rattle.fields_core.specs.CountLaws.{count-lawful}
 use Rattle.fields_core.proofs.PositionSteps.{undo-walks}
 use Rattle.fields_core.proofs.planes.position.PlanePositionPosition.undo.Goals as goal
-use Rattle.engine_core.specs.TrailPosition.{mark_at}
-use Rattle.engine_core.proofs.Common.{get_or_read_under}
-use Rattle.fields_core.proofs.planes.position.PlanePositionPosition.undo.Goals.{After-index-mark, in-Short, in-Long}
-
--- the mark that was read
-read : (g : _) (c : After-index-mark g) → c.index-mark.result.now ≡ mark_at c.self.inside.marks.items c.args.level
-read g c =
-    let r = rw (← c.self.view_is) at c.requires in
-    let m = c.self.inside.marks in
-    get_or_read_under m.items c.args.level m.len _ 0 c.index-mark.ensures
-    (omega (arith, r.marked, r.walks.few, r.walks.fits.same_cells, c.self.invariant.0, m.ok.0)) m.ok.0
+use Rattle.fields_core.proofs.planes.position.PlanePositionPosition.undo.Goals.{in-Short, in-Long}
 
 pub returns-clause-walks : goal.returns-clause-walks
 returns-clause-walks g c =
     let r = rw (← c.self.view_is) at c.requires in
-    let mark = read g (goal.at.returns-clause-walks g c).After-index-mark in
+    let laws = count-lawful _ _ _ _ c.args._rules.now.counting in
     elim c.match-self.branch [
-      | in-Short w ↦ rw w.self-inside-is (undo-walks _ _ c.args.level _ (rw w.in-Short.is at r.walks) r.marked mark w.undo.ensures)
-      | in-Long w ↦ rw w.self-inside-is (undo-walks _ _ c.args.level _ (rw w.in-Long.is at r.walks) r.marked mark w.undo-in-Long.ensures)
+      | in-Short w ↦ rw w.self-inside-is (let r = rw w.in-Short.is at r in undo-walks _ _ c.args.mark laws r.walks r.inside w.undo.ensures)
+      | in-Long w ↦ rw w.self-inside-is (let r = rw w.in-Long.is at r in undo-walks _ _ c.args.mark laws r.walks r.inside w.undo-in-Long.ensures)
     ]

@@ -6,12 +6,12 @@ use Rattle.pattern_core.proofs.planes.position.PatternPositionPosition.begin.Goa
 pub begin-requires-clause-narrow : goal.begin-requires-clause-narrow
 begin-requires-clause-narrow c =
     let r = rw (← c.self.view_is) at c.requires in
-    rw c.size.ensures (omega (arith, (sides-in c.args.rules.now.pattern c.args.rules.now.extent).0, r.scope_in, rw c.in-Short.is at c.self.invariant.2))
+    rw c.size.ensures (omega (arith, (sides-in c.args.rules.now.pattern c.args.rules.now.extent).0, r.scope_in, rw c.in-Short.is at c.self.invariant.1))
 
 pub begin-requires-clause-low : goal.begin-requires-clause-low
 begin-requires-clause-low c =
     let r = rw (← c.self.view_is) at c.requires in
-    rw c.size.ensures (omega (arith, (sides-in c.args.rules.now.pattern c.args.rules.now.extent).1, r.scope_in, rw c.in-Short.is at c.self.invariant.2))
+    rw c.size.ensures (omega (arith, (sides-in c.args.rules.now.pattern c.args.rules.now.extent).1, r.scope_in, rw c.in-Short.is at c.self.invariant.1))
 
 pub returns-clause-walks : goal.returns-clause-walks
 returns-clause-walks c =
@@ -20,8 +20,8 @@ returns-clause-walks c =
     elim c.match-self.branch [
       | in-Short w ↦ (
           let fresh = rw w.size.ensures at w.begin.ensures.fresh in
-          rw w.self-inside-is (start-walks pat _ r fresh.same_size fresh.holds refl))
+          rw w.self-inside-is (start-walks pat _ r fresh.same_size fresh.holds))
       | in-Long w ↦ (
           let fresh = rw w.size-in-Long.ensures at w.begin-in-Long.ensures.fresh in
-          rw w.self-inside-is (start-walks pat _ r fresh.same_size fresh.holds refl))
+          rw w.self-inside-is (start-walks pat _ r fresh.same_size fresh.holds))
     ]
