@@ -1,9 +1,9 @@
 -- A puzzle is settled exactly where its verdict without a trial is one, and its grade goes along with its verdict; and so what is
 -- told of the two.
-use Rattle.commands.proofs.Common.{Answer, Begins, Bool, ByRules, BySearch, Candidates, Crossings, Found, Grade, HasOneSolution, IsClosed, IsInside, IsLawful, IsRight, IsRightGrade, List, Mark, Mark.Trial, NamedRules, NamesSetNoStrongerThanSearch, None, Option, Outcome, Outcome.GaveUp, Outcome.NoSolution, Outcome.OneSolution, Outcome.SeveralSolutions, RuleSet, RuleSystem, SaysGrade, Solves, StatusesAgree, Text, [], all_below, and_from, and_parts, any_below, ap, arith, at_cell, branch_at, branches, cases_eq, closure_closed, closure_inside, closure_largest, codes, common_steps, cond_both, count_below, count_below-one, eqb-true, false, first_settled, grade_by, grade_status, grade_text, grid_of, inl, inr, is_dead, is_full, is_settled, is_within_search, least_below-passes, listed_grade, ne_eqb, only, outcome, refl, refused, rule_set_text, searched_grade, slice_index, subst, suc, sym, trials_in, true, true≢false, verdict_answer, verdict_of, walk, walk_closed, zero, ℕ, ◌*◌, ◌++◌, ◌+◌, ◌<◌, ◌==◌, ◌↔◌, ◌∙◌, ◌∷◌, ◌≡◌, ◌≢◌, ◌⊎◌}
+use Rattle.commands.proofs.Common.{Answer, Begins, Bool, ByRules, BySearch, Candidates, Crossings, Found, Grade, HasOneSolution, IsClosed, IsInside, IsLawful, IsRight, IsRightGrade, List, Mark, Mark.Trial, NamedRules, NamesSetNoStrongerThanSearch, None, Option, Outcome, Outcome.GaveUp, Outcome.NoSolution, Outcome.OneSolution, Outcome.SeveralSolutions, RuleSet, RuleSystem, SaysGrade, Solves, StatusesAgree, Text, [], and_from, and_parts, ap, arith, at_cell, branch_at, branches, cases_eq, closure_closed, closure_inside, closure_largest, codes, common_steps, cond_both, count_below-one, false, false_from_ne_true, first_settled, grade_by, grade_status, grade_text, grid_of, inl, inr, is_dead, is_full, is_settled, is_within_search, least_below-passes, listed_grade, only, outcome, refl, refused, rule_set_text, searched_grade, slice_index, subst, suc, sym, trials_in, true, true≢false, verdict_answer, verdict_of, walk, walk_closed, zero, ℕ, ◌*◌, ◌++◌, ◌+◌, ◌<◌, ◌↔◌, ◌∙◌, ◌∷◌, ◌≡◌, ◌≢◌, ◌⊎◌}
 use Rattle.grid_core.proofs.GridLemmas.{is_full-count, grid_of-at}
 use Rattle.engine_core.specs.Closing.{closure}
-use Rattle.engine_core.proofs.JudgeLemmas.{grid-fits}
+use Rattle.engine_core.proofs.JudgeLemmas.{dead_not_full, grid-fits}
 use Rattle.engine_core.proofs.WalkLemmas.{walk-unfold, walk_closed-dead, walk_closed-full}
 use Rattle.maker_core.proofs.FoundAtOnce.{found_at_once, found_one}
 
@@ -34,21 +34,9 @@ none_below : (p : RuleSystem) (walk_of : Candidates → List Mark) (d : ℕ) (E 
 unfolding at_cell outcome
 none_below p walk_of d E o g same = grind (arith, common_steps, begins_with_trial)
 
--- numbers that are 1 are not 0
-none_zero : (f : ℕ → ℕ) (n : ℕ) → all_below (λ c. f c == 1) n ≡ true → any_below (λ c. f c == 0) n ≡ false
-unfolding all_below any_below
-none_zero f zero e = refl
-none_zero f (suc n) e =
-    let parts = and_parts _ (f n == 1) e in
-    rw (none_zero f n parts.0) (one (f n) parts.1)
-  where
-    one : (k : ℕ) → (k == 1) ≡ true → (k == 0) ≡ false
-    one k h = let is = eqb-true k 1 h in ne_eqb k 0 (λ z. absurd (omega arith))
-
 -- a full board is not dead
 full_alive : (cells values : ℕ) (K : Candidates) → is_full cells values K ≡ true → is_dead cells values K ≡ false
-unfolding is_full is_dead
-full_alive cells values K e = none_zero (λ c. count_below (K c) values) cells e
+full_alive cells values K full = false_from_ne_true _ (λ dead. true≢false (sym full ∙ dead_not_full cells values K dead))
 
 -- the walk from a full board whose grid is a solution finds that grid
 full_walk : (p : RuleSystem) (walk_of : Candidates → List Mark) (E : Candidates) → is_full p.cells p.values E ≡ true

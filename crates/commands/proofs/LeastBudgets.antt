@@ -1,7 +1,9 @@
 -- A grade names a search by the trials of the whole walk, which are the least budget with which the verdict is one.
 use Rattle.std.proofs.lemmas.Grind.{common_steps}
-use Rattle.commands.proofs.Common.{AllowsSolve, Answer, Bool, ByRules, BySearch, Crossings, Game, Grade, HasOneSolution, Houses, IsLeastBudget, IsRight, IsSolved, Lines, List, Local, Mark, Mark.Found, Mark.Trial, NamesSearch, NamesSet, None, Option, Outcome, Outcome.GaveUp, Outcome.NoSolution, Outcome.OneSolution, Outcome.SeveralSolutions, RuleSystem, SaysGrade, SearchesNameLeastBudgets, Singles, Some, Text, [], ap, arith, codes, eq-or-lt_of_le, game_of, grade_by, grade_text, inl, inr, listed_grade, outcome, printed_by, puzzle_of, refl, refused, searched_grade, slice_index, subst, suc, sym, trials_in, verdict_of, walk, zero, ℕ, ◌++◌, ◌<◌, ◌∙◌, ◌∷◌, ◌≡◌, ◌≢◌, ◌≤◌, ◌⊎◌}
+use Rattle.commands.proofs.Common.{AllowsSolve, Answer, Bool, ByRules, BySearch, Crossings, Game, Grade, HasOneSolution, Houses, IsLeastBudget, IsRight, IsSolved, Lines, List, Local, Mark, NamesSearch, NamesSet, None, Option, Outcome, Outcome.GaveUp, Outcome.NoSolution, Outcome.OneSolution, Outcome.SeveralSolutions, RuleSystem, SaysGrade, SearchesNameLeastBudgets, Singles, Text, ap, arith, codes, eq-or-lt_of_le, game_of, grade_by, grade_text, inl, inr, listed_grade, outcome, printed_by, puzzle_of, refl, refused, searched_grade, slice_index, subst, sym, trials_in, verdict_of, walk, ℕ, ◌++◌, ◌<◌, ◌∙◌, ◌≡◌, ◌≢◌, ◌≤◌, ◌⊎◌}
 use Rattle.commands.proofs.GameLaws.{laws_of, found_alone, solving}
+use Rattle.engine_core.proofs.VerdictLemmas.{spent-le}
+use Rattle.commands.proofs.GradeLemmas.{spent_whole}
 use Rattle.commands.proofs.GradedAlike.{named_or_searched, status_one, told_status}
 use Rattle.commands.proofs.SearchedPuzzles.{found_with_enough, verdict_right}
 use Rattle.commands.proofs.Readings.{answer_to}
@@ -38,12 +40,7 @@ by_one trials (GaveUp found) n e = absurd cc
 
 -- one grid is told only where the budget is enough for all trials
 room_for : (marks : List Mark) (budget : ℕ) (found : Option (List ℕ)) (g : List ℕ) → outcome budget found marks ≡ OneSolution g → trials_in marks ≤ budget
-unfolding outcome trials_in
-room_for [] budget found g e = omega arith
-room_for (Found h ∷ marks) budget None g e = room_for marks budget (Some h) g e
-room_for (Found h ∷ marks) budget (Some first) g e = absurd cc
-room_for (Trial depth board ∷ marks) zero found g e = absurd cc
-room_for (Trial depth board ∷ marks) (suc budget) found g e = let room = room_for marks budget found g e in omega (arith, room)
+room_for marks budget found g e = omega (arith, spent_whole budget found marks g e, spent-le budget found marks)
 
 trials_of : RuleSystem → ℕ
 trials_of rules = trials_in (walk rules 0 rules.start)

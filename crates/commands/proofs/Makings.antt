@@ -2,7 +2,7 @@
 use Rattle.commands.proofs.LightFillings.{light_thinned}
 use Rattle.commands.proofs.SearchedPuzzles.{tents_searched}
 use Rattle.commands.proofs.SoloFillings.{solo_missing, solo_thinned}
-use Rattle.commands.proofs.Common.{AllowsMade, AllowsOfSize, Answer, Bool, DifferInClues, Err, Extent, Game, HandOutAlike, HasOneAnswer, HasWords, IsExtent, IsFirstPassing, IsGrid, IsHandedOut, IsSoloSize, IsTentSolution, IsTents, IsWide, Light, List, MadePuzzle, Making, None, NonePasses, Ok, Option, PuzzleFacts, SameLight, SameSolo, SizeRange, SizeRead, Some, Stream, Text, Wanted, [], all_given, and_parts, ap, arith, black_cells-grid, cases_eq, common_steps, exhausted_answer, extent_of, false, filling_at, game_of, handed_out, if◌then◌else◌, in_range, inl, inr, is_solution-from, is_solution-is, leb-true, light_facts, light_filling, light_is_game, light_is_written, light_passes, light_puzzle_of, line_rules-lawful, nat_le, pattern_facts, pattern_is_written, puzzle_of, refl, size_of, size_take, solo_facts, solo_filling, solo_is_game, solo_is_written, solo_passes, stream_after, subst, suc, sym, tents_facts, tents_is_written, tents_sizes, true, true≢false, zero, ℕ, ◌&&◌, ◌*◌, ◌↔◌, ◌∙◌, ◌≡◌, ◌≢◌, ◌≤◌}
+use Rattle.commands.proofs.Common.{AllowsMade, AllowsOfSize, Answer, Bool, DifferInClues, Err, Extent, Game, HandOutAlike, HasOneAnswer, HasWords, IsExtent, IsFirstPassing, IsGrid, IsHandedOut, IsSoloSize, IsTents, IsWide, Light, List, MadePuzzle, Making, None, NonePasses, Ok, Option, PuzzleFacts, SameLight, SameSolo, SizeRange, SizeRead, Some, Text, Wanted, [], all_given, and_parts, ap, arith, black_cells-grid, cases_eq, common_steps, exhausted_answer, extent_of, false, filling_at, game_of, handed_out, if◌then◌else◌, in_range, inl, inr, is_solution-from, is_solution-is, leb-true, light_facts, light_filling, light_is_game, light_is_written, light_passes, light_puzzle_of, line_rules-lawful, nat_le, pattern_facts, pattern_is_written, puzzle_of, refl, size_of, size_take, solo_facts, solo_filling, solo_is_game, solo_is_written, solo_passes, stream_after, subst, suc, sym, tents_facts, tents_is_written, tents_sizes, true, true≢false, zero, ℕ, ◌&&◌, ◌*◌, ◌↔◌, ◌∙◌, ◌≡◌, ◌≢◌, ◌≤◌}
 use Rattle.fields_core.proofs.TentRuleLemmas as tents
 use Rattle.gameid_core.proofs.LineLaws.{at_column, at_row}
 use Rattle.gameid_core.proofs.OnesFit.{ones_lawful}
@@ -14,6 +14,7 @@ use Rattle.gameid_core.specs.declared.id.game.Game.TheVariants as game
 use Rattle.maker_core.proofs.OnlySolutions.{one_is}
 use Rattle.maker_core.proofs.PatternMakings.{pattern_solved}
 use Rattle.maker_core.proofs.TentMakings.{tents_size}
+use Rattle.maker_core.proofs.TentsFilled.{filling_at_solves}
 use Rattle.maker_core.specs.PatternMaking.{clued_by, pattern_filling, pattern_passes}
 use Rattle.maker_core.specs.TentFilling.{tent_filling, tents_pass, tents_puzzle_of}
 use Rattle.commands.proofs.Readings.{both_answers, id_some, one_of_same, size_reading}
@@ -148,12 +149,6 @@ MadeBy {A = A} make = A
 abbrev TentFilling : Type 0
 TentFilling = MadeBy tent_filling
 
--- what `fillings_of_tents_are_solutions` says
-pub record AreFilled : Type 0 where
-  pub trees : (size : Extent) (s : Stream) (k : ℕ) → IsExtent size → HasWords s → IsGrid (size.w * size.h) 2 (filling_at (tent_filling size) k s).trees
-  pub solved : (size : Extent) (s : Stream) (k : ℕ) → IsExtent size → HasWords s
-      → IsTentSolution (tents_puzzle_of size (filling_at (tent_filling size) k s)) (filling_at (tent_filling size) k s).tents
-
 tents_lawful : (size : Extent) (filling : TentFilling) → IsTentsExtent size → IsGrid (size.w * size.h) 2 filling.trees → IsTents (tents_puzzle_of size filling)
 unfolding tents_puzzle_of
 tents_lawful size filling large trees =
@@ -161,9 +156,9 @@ tents_lawful size filling large trees =
     let h = large.h_four in
     ones_lawful size filling.trees filling.tents (lines_ones size filling.tents) filling.trees large.extent (omega arith) (omega arith) trees refl refl
 
-tents_making : AreFilled → (w : Wanted) → HasWords w.stream → (text : Text) (read : SizeRead) → tents_sizes text ≡ Ok read
+tents_making : (w : Wanted) → HasWords w.stream → (text : Text) (read : SizeRead) → tents_sizes text ≡ Ok read
     → IsMaking tents_facts (λ p q. p ≡ q) w read
-tents_making filled w words text read is = record {
+tents_making w words text read is = record {
   filling = TentFilling;
   make = tent_filling size;
   passes = tents_pass size w.budget;
@@ -189,10 +184,11 @@ tents_making filled w words text read is = record {
         → IsHandedOut tents_facts w read (handed_out tents_facts (tents_puzzle_of size (filling k)) (filling k).tents)
     handed k first =
         let p = tents_puzzle_of size (filling k) in
-        let ok = tents_lawful size (filling k) large (filled.trees size w.stream k large.extent words) in
+        let solved = filling_at_solves large.extent words k in
+        let ok = tents_lawful size (filling k) large solved.trees in
         let only = one_is _ _ (λ h s. s.grid)
         (λ h cells. (tents.solution-from-tents p h cells, tents.tents-from-solution p h cells))
-        (has_one _ (tents_searched ok).lawful w.budget first.passing) (filled.solved size w.stream k large.extent words) in
+        (has_one _ (tents_searched ok).lawful w.budget first.passing) solved.solves in
         record {
           made = record { puzzle = p; solution = (filling k).tents; kept = [] };
           is_made = record {
@@ -301,12 +297,12 @@ alike_of game.Solo p q = SameSolo p q
 alike_of game.LightUp p q = SameLight p q
 alike_of game.Tents p q = p ≡ q
 
-module _ (filled : AreFilled) (w : Wanted) (words : HasWords w.stream) where
+module _ (w : Wanted) (words : HasWords w.stream) where
   making : (g : Game) (text : Text) (read : SizeRead) → (game_of g).game.sizes text ≡ Ok read → IsMaking (game_of g) (alike_of g) w read
   making game.Pattern = pattern_making w
   making game.Solo = solo_making w words
   making game.LightUp = light_making w words
-  making game.Tents = tents_making filled w words
+  making game.Tents = tents_making w words
 
   pub made_some : (g : Game) (text : Text) → (a : Answer) × AllowsMade (game_of g) w text a
   made_some g text = id_some (size_reading (game_of g).game.sizes) text _ (λ read is. making_some (making g text read is))

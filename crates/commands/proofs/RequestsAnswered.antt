@@ -5,7 +5,7 @@ use Rattle.commands.proofs.CheckedPuzzles.{check_some}
 use Rattle.commands.proofs.ClosingExists.{sweeps_close, visits_close}
 use Rattle.commands.proofs.GameLaws.{EachSearched, answers, laws_of, listed_right}
 use Rattle.commands.proofs.MadeOnce.{seed_words}
-use Rattle.commands.proofs.Makings.{AreFilled, made_some}
+use Rattle.commands.proofs.Makings.{made_some}
 use Rattle.commands.proofs.Readings.{id_some}
 
 -- ---- traces
@@ -52,10 +52,10 @@ graded g id budget trace =
 pub checked : (g : Game) (id input : Text) → (a : Answer) × AllowsCheck (game_of g) id input a
 checked g id input = id_some (laws_of g).reading id _ (λ p s. check_some (game_of g) p ((laws_of g).checked id p s) input)
 
-pub answered : AreFilled → (asked : Option Asked) (input : Text) → (a : Answer) × Allows asked input a
-answered filled None input = (refused_words, refl)
-answered filled (Some (solve g (Some id) budget)) input = answers g budget id
-answered filled (Some (solve g None budget)) input = each_has (λ id. AllowsSolve (game_of g) id budget) (answers g budget) (lines input)
-answered filled (Some (check g id)) input = checked g id input
-answered filled (Some (grade g id budget trace)) input = graded g id budget trace
-answered filled (Some (generate g size seed budget tries black)) input = made_some filled (wanted seed budget tries black) (seed_words seed) g size
+pub answered : (asked : Option Asked) (input : Text) → (a : Answer) × Allows asked input a
+answered None input = (refused_words, refl)
+answered (Some (solve g (Some id) budget)) input = answers g budget id
+answered (Some (solve g None budget)) input = each_has (λ id. AllowsSolve (game_of g) id budget) (answers g budget) (lines input)
+answered (Some (check g id)) input = checked g id input
+answered (Some (grade g id budget trace)) input = graded g id budget trace
+answered (Some (generate g size seed budget tries black)) input = made_some (wanted seed budget tries black) (seed_words seed) g size

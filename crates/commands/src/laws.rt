@@ -17,9 +17,7 @@ pub fn each_text_has_an_answer()
 /// puzzle can be made, or it can be told that none is.
 pub fn each_request_has_an_answer()
     ensures { EachRequestHasAnAnswer }
-{
-    maker_core::laws::fillings_of_tents_are_solutions();
-}
+{}
 
 /// A `solve`, a `check`, a `grade` without a trace, a `generate` of Pattern or Tents and words that
 /// are refused have exactly one answer that is allowed, on each input. Two answers to one
@@ -29,9 +27,7 @@ pub fn one_answer()
     ensures fixed { FixedRequestsHaveOneAnswer }
     ensures solo { SoloDiffersAtMostInGivens }
     ensures lights { LightsDifferInNumbers }
-{
-    maker_core::laws::fillings_of_tents_are_solutions();
-}
+{}
 
 /// Where `solve` tells one grid or two, or gives up with one, `check` of the ID finds each of them
 /// correct, as it was printed, and nothing else is allowed. Where `check` finds an input correct, `solve` never tells

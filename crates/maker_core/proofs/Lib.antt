@@ -12,7 +12,7 @@ pub mod TentFillings
 pub mod TentMakings
 pub mod TentsSolved
 pub mod Shuffles
-mod TentsFilled
+pub mod TentsFilled
 pub mod FirstTries
 pub mod SoloNumbers
 pub mod SoloOrderLemmas

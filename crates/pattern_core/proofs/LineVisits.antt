@@ -1,31 +1,31 @@
 -- A visit of a line, from its three steps, and the clues that it reads.
-use Rattle.pattern_core.proofs.Common.{AreClues, ArePositive, Bool, Candidates, Extent, IsBitsOf, IsBoardOf, IsClue, IsDecidedBy, IsPattern, Layout, List, Pattern, [], after, ap, arith, bits-of_values, clue_of, different_places, false, get_or, has, has_runs, kept-decided, kept_in, length, line_cells, line_places, line_rules, line_short, lines_of, map, refl, set_of_bits, sets-of_values, sets_at, slice_index, strikes_by_fillings, subst, suc, sym, used, visited-after, zero, ℕ, ◌+◌, ◌<◌, ◌∙◌, ◌∷◌, ◌≡◌, ◌≤◌}
-use Rattle.engine_core.specs.Keeping.{AreSetsOf, IsKept}
+use Rattle.pattern_core.proofs.Common.{AreClues, ArePositive, Candidates, Extent, IsBitsOf, IsBoardOf, IsClue, IsDecided, IsDecidedBy, IsPattern, Layout, List, Pattern, [], after, ap, arith, bits-of_values, clue_of, get_or, has, has_runs, kept-decided, kept_in, length, line_cells, line_places, line_rules, line_rules-lawful, line_short, lines_of, refl, slice_index, strikes_at, strikes_by_fillings, subst, suc, sym, true, true≢false, used, zero, ℕ, ◌+◌, ◌<◌, ◌∙◌, ◌∷◌, ◌≡◌, ◌≤◌}
+use Rattle.grid_core.specs.Candidates.{IsWithin}
+use Rattle.grid_core.specs.Extent.{IsExtent}
+use Rattle.engine_core.proofs.ListedLemmas.{kept-after}
+use Rattle.engine_core.specs.HouseSets.{Decision}
+use Rattle.engine_core.specs.RuleSystem.{IsLawful, RuleSystem}
+use Rattle.engine_core.specs.Keeping.{AreSetsOf}
 use Rattle.engine_core.specs.PositionLaws.{within_of}
 
--- a visit that strikes what is not kept
-pub line_visited : (p : Pattern) (line : ℕ) {b : Layout} {size : Extent} (K : Candidates)
-    {clue places sets kept : List ℕ} → IsBoardOf (line_rules p) b → size ≡ p.size
-    → clue ≡ clue_of p line → places ≡ line_places size line → length sets ≡ length places
-    → ((k : ℕ) → k < length places → IsBitsOf (has b (slice_index places k)) b.values (slice_index sets k))
-    → map (set_of_bits b.values) sets ≡ sets_at b.values places (has b) → IsDecidedBy clue sets kept
-    → K ≡ kept_in places kept (length places) (has b) → K ≡ after (line_rules p) line (has b)
-line_visited p line {b} K {clue} {places} {sets} {kept} is sized same written long bits read decided left =
-    let at : places ≡ line_places p.size line = rw sized at written in
-    let two = is.same_values in
-    visited-after (line_rules p) line (strikes_by_fillings (has_runs (clue_of p line))) (has b) K sets kept (λ L c v. refl)
-    (within_of _ b is) (rw at at long) (rw at at (bits-of_values b 2 places sets two bits)) (rw at at (sets-of_values b 2 places sets two read))
-    (rw same at decided) (rw at at left)
+-- a visit that strikes what is not kept of decided sets leaves the board that the rules say
+pub decided-after : {p : RuleSystem} → IsLawful p → {h : ℕ} (decides : Decision) {K : Candidates} {sets kept : List ℕ} → h < p.houses
+    → ((L : Candidates) (c v : ℕ) → p.strikes h L c v ≡ strikes_at p.values (p.scope h) decides L c v)
+    → IsWithin p.cells p.values K → AreSetsOf p h K sets → IsDecided p.values decides sets kept
+    → kept_in (p.scope h) kept (length (p.scope h)) K ≡ after p h K
+decided-after {p} laws {h} decides {K} {sets} {kept} lt is within are decided =
+    kept-after laws lt within (kept-decided p h decides K true sets kept is (λ j k lj lk e. laws.scope_distinct h j k lt lj lk e) are decided
+    (λ e. absurd (true≢false e)))
 
--- what is kept of a line's sets, where its clue was read
-pub line_kept : (p : Pattern) {line : ℕ} {clue : List ℕ} (K : Candidates) {struck : Bool}
-    (sets copied kept : List ℕ) → clue ≡ clue_of p line → AreSetsOf (line_rules p) line K sets
-    → copied ≡ sets
-    → IsDecidedBy clue copied kept → (struck ≡ false → kept ≡ copied) → IsKept (line_rules p) line K struck kept
-line_kept p {line} K {struck} sets copied kept is are same decided unchanged =
-    kept-decided (line_rules p) line (strikes_by_fillings (has_runs (clue_of p line))) K struck sets
-    kept (λ L c v. refl) (different_places p.size line) are (rw is at (rw same at decided))
-    (λ none. unchanged none ∙ same)
+pub line_visited : (p : Pattern) (line : ℕ) {b : Layout} {size : Extent} (K : Candidates) {clue places sets kept : List ℕ} → IsExtent p.size
+    → line < lines_of p.size → IsBoardOf (line_rules p) b → size ≡ p.size → clue ≡ clue_of p line → places ≡ line_places size line → length sets ≡ length places
+    → ((k : ℕ) → k < length places → IsBitsOf (has b (slice_index places k)) b.values (slice_index sets k))
+    → IsDecidedBy clue sets kept → K ≡ kept_in places kept (length places) (has b) → K ≡ after (line_rules p) line (has b)
+line_visited p line {b} K {places = places} {sets = sets} extent lt is sized same written long bits decided left =
+    let at : places ≡ line_places p.size line = rw sized at written in
+    (rw at at left)
+    ∙ decided-after (line_rules-lawful p extent) (strikes_by_fillings (has_runs (clue_of p line))) lt (λ L c v. refl) (within_of _ b is)
+    (record { as_many = rw at at long; bits = rw at at (bits-of_values b 2 places sets is.same_values bits) }) (rw same at decided)
 
 -- a clue of a puzzle fits its line, and a spelled clue fits a word
 clue_from : (size : Extent) (clues : List (List ℕ)) (from k : ℕ) → AreClues size from clues

@@ -54,12 +54,6 @@ pub record AreWeighed {W : Type 0} (bits : W → ℕ) (p : Pattern) (waits : Wai
       → IsIdle (line_rules p) (house_of p.size line) (line_rules p).start
   pub within : (line : Line) → is_marked bits waits line ≡ true → (number_of line < lines_beside p.size line) × (house_of p.size line < n)
 
-pub weighed-none : {W : Type 0} (bits : W → ℕ) (p : Pattern) (waits : Waits W) → ((line : Line) → is_marked bits waits line ≡ false) → AreWeighed bits p waits 0
-weighed-none bits p waits none = record {
-  idle = λ line lt less off. absurd (omega arith);
-  within = λ line on. absurd (false≢true (sym (none line) ∙ on));
-}
-
 pub weighed-more : {W : Type 0} (bits : W → ℕ) (p : Pattern) (waits waits' : Waits W) (line : Line) (on : Bool) (n : ℕ) → number_of line < lines_beside p.size line
     → house_of p.size line ≡ n → ((other : Line) → is_marked bits waits' other ≡ (is_marked bits waits other || (on && is_same line other)))
     → (on ≡ false → IsIdle (line_rules p) n (line_rules p).start) → AreWeighed bits p waits n → AreWeighed bits p waits' (n + 1)

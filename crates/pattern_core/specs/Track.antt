@@ -35,6 +35,10 @@ track_of cells = record {
   ends = λ p. (p == length cells) || (suc p == length cells);
 }
 
+-- the places of a set, as the bits of a number
+abbrev pub slots_of : {A : Type 0} → (A → ℕ) → A → ℕ → Bool
+slots_of bits set = has_bit (bits set)
+
 -- the steps along a clue, as sets of places, of which `has` tells what they have
 abbrev pub along : {A : Type 0} → (A → ℕ → Bool) → TrackSlots A → Track
 along has steps =

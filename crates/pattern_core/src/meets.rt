@@ -4,7 +4,7 @@ ghost use Rattle.std.specs.Prelude.{◌≡◌, ◌<◌, ◌*◌};
 ghost use Rattle.grid_core.specs.Grids.{IsGrid};
 ghost use Rattle.grid_core.specs.Lines.{lines_of, line_numbers};
 ghost use Rattle.pattern_core.specs.Lines.{has_runs};
-ghost use Rattle.pattern_core.specs.Track.{AreLed, set_for};
+ghost use Rattle.pattern_core.specs.Track.{AreLed, set_for, slots_of};
 
 use crate::slots::Slots;
 use crate::table::ways_of;
@@ -13,7 +13,7 @@ use grid_core::{Grid, Size, line_len, line_value};
 
 /// Which slots are reached by a cell with this number, by those that are reached before it.
 fn led_on<P: Slots>(steps: TrackSlots<P>, number: u8, reached: P) -> P
-    ensures { AreLed P.room P.has steps (set_for number) reached result }
+    ensures { AreLed P.room (slots_of P.bits) steps (set_for number) reached result }
 {
     let ways = ways_of(steps, reached);
     if number == 0 { ways.white } else { ways.black }

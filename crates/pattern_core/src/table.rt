@@ -10,7 +10,7 @@ ghost use Rattle.std.specs.Prelude.{◌≡◌, ◌*◌, ◌+◌, ◌<◌, false,
 ghost use Rattle.std.specs.Int.{from_bool};
 ghost use Rattle.engine_core.specs.Sets.{has_bit};
 ghost use Rattle.pattern_core.specs.Lines.{IsDecidedBy, ArePositive};
-ghost use Rattle.pattern_core.specs.Track.{along, spelled, track_of, AreMoves, AreAhead, AreLed, IsBelow, AreRows, AreKept};
+ghost use Rattle.pattern_core.specs.Track.{along, slots_of, spelled, track_of, AreMoves, AreAhead, AreLed, IsBelow, AreRows, AreKept};
 
 use crate::slots::Slots;
 use crate::track::{SpelledClue, TrackSlots};
@@ -25,14 +25,14 @@ pub(crate) struct Moves<P: Slots> {
     pub(crate) steps: TrackSlots<P>,
     on: P::Masks,
     stays: P::Masks,
-    ghost are: { AreMoves (along P.has steps) (P.has_by on) (P.has_by stays) },
+    ghost are: { AreMoves (along (slots_of P.bits) steps) (P.has_by on) (P.has_by stays) },
 }
 
 /// What a cell lets a line do along a clue.
 pub(crate) fn moves_of<P: Slots>(clue: &SpelledClue<P>) -> Moves<P>
-    ensures track { along P.has result.steps ≡ track_of (spelled clue.now) }
+    ensures track { along (slots_of P.bits) result.steps ≡ track_of (spelled clue.now) }
     ensures positive { ArePositive clue.now }
-    ensures below { IsBelow P.room (along P.has result.steps) }
+    ensures below { IsBelow P.room (along (slots_of P.bits) result.steps) }
 {
     let steps = clue.steps();
     Moves {
@@ -45,7 +45,7 @@ pub(crate) fn moves_of<P: Slots>(clue: &SpelledClue<P>) -> Moves<P>
 /// From which slots there is a way to the end by a cell of this set, by those from which there is one after it.
 #[tactic(auto, unfolding(crate::specs::Track::ahead))]
 pub(crate) fn ahead_of<P: Slots>(moves: &Moves<P>, set: u32, after: P) -> P
-    ensures { AreAhead P.has moves.now.steps set after result }
+    ensures { AreAhead (slots_of P.bits) moves.now.steps set after result }
 {
     let next = P::mask(&moves.on, set).both(after.back());
     P::mask(&moves.stays, set).both(after).either(next)
@@ -53,7 +53,7 @@ pub(crate) fn ahead_of<P: Slots>(moves: &Moves<P>, set: u32, after: P) -> P
 
 /// Which slots are reached by a cell of this set, by those that are reached before it.
 pub(crate) fn led_by<P: Slots>(moves: &Moves<P>, set: u32, reached: P) -> P
-    ensures { AreLed P.room P.has moves.now.steps set reached result }
+    ensures { AreLed P.room (slots_of P.bits) moves.now.steps set reached result }
 {
     let next = P::mask(&moves.on, set).both(reached).on();
     P::mask(&moves.stays, set).both(reached).either(next)
@@ -68,8 +68,8 @@ pub(crate) struct Ways<P> {
 
 /// Where a cell with both values leads from the slots that are reached before it.
 pub(crate) fn ways_of<P: Slots>(steps: TrackSlots<P>, reached: P) -> Ways<P>
-    ensures white { AreLed P.room P.has steps 1 reached result.white }
-    ensures black { AreLed P.room P.has steps 2 reached result.black }
+    ensures white { AreLed P.room (slots_of P.bits) steps 1 reached result.white }
+    ensures black { AreLed P.room (slots_of P.bits) steps 2 reached result.black }
 {
     let next = steps.white.both(reached).on();
     Ways {
@@ -90,7 +90,7 @@ pub(crate) fn set_of(white: bool, black: bool) -> u32
 /// Fills the table, from the last cell backwards.
 fn fill_rows<P: Slots>(moves: &Moves<P>, sets: &[u32], rows: &mut [P])
     requires { length sets.now < length rows.old }
-    ensures { AreRows P.has (along P.has moves.now.steps) sets.now rows.new 0 }
+    ensures { AreRows (slots_of P.bits) (along (slots_of P.bits) moves.now.steps) sets.now rows.new 0 }
 {
     let mut at = sets.len();
     rows[at] = moves.steps.ends;
@@ -103,9 +103,9 @@ fn fill_rows<P: Slots>(moves: &Moves<P>, sets: &[u32], rows: &mut [P])
 /// Keeps of each cell what a way from the first slot to the end shows there, and says whether one of them lost any. It asks
 /// of no cell what it has, since that can't be foreseen.
 fn filter_cells<P: Slots>(moves: &Moves<P>, sets: &mut [u32], rows: &[P]) -> bool
-    requires rows { AreRows P.has (along P.has moves.now.steps) sets.old rows.now 0 }
-    requires below { IsBelow P.room (along P.has moves.now.steps) }
-    ensures kept { AreKept (along P.has moves.now.steps) sets.old sets.new (length sets.old) }
+    requires rows { AreRows (slots_of P.bits) (along (slots_of P.bits) moves.now.steps) sets.old rows.now 0 }
+    requires below { IsBelow P.room (along (slots_of P.bits) moves.now.steps) }
+    ensures kept { AreKept (along (slots_of P.bits) moves.now.steps) sets.old sets.new (length sets.old) }
     ensures unchanged { result ≡ false → sets.new ≡ sets.old }
 {
     let mut reached = P::first();

@@ -5,7 +5,7 @@
 ghost use Rattle.std.specs.Prelude.{◌≡◌, ℕ, ◌<◌, true, ◌++◌, [], ◌∷◌, replicate};
 ghost use Rattle.gameid_core.specs.Puzzles.{used};
 ghost use Rattle.pattern_core.specs.Lines.{IsRoomy, IsRoomyFrom, ArePositive};
-ghost use Rattle.pattern_core.specs.Track.{spelled, track_of, along, AddsCells, IsBelow};
+ghost use Rattle.pattern_core.specs.Track.{spelled, slots_of, track_of, along, AddsCells, IsBelow};
 
 use crate::slots::Slots;
 use std::marker::Model;
@@ -30,7 +30,7 @@ struct Spelling<P> {
 
 /// Adds a black cell.
 fn push_black<P: Slots>(spelling: Spelling<P>) -> Spelling<P>
-    ensures { AddsCells P.has P.room 0 (1 ∷ []) spelling result }
+    ensures { AddsCells (slots_of P.bits) P.room 0 (1 ∷ []) spelling result }
 {
     Spelling {
         white: spelling.white,
@@ -41,7 +41,7 @@ fn push_black<P: Slots>(spelling: Spelling<P>) -> Spelling<P>
 
 /// Adds a white cell.
 fn push_white<P: Slots>(spelling: Spelling<P>) -> Spelling<P>
-    ensures { AddsCells P.has P.room 0 (0 ∷ []) spelling result }
+    ensures { AddsCells (slots_of P.bits) P.room 0 (0 ∷ []) spelling result }
 {
     Spelling {
         white: spelling.white.either(spelling.next),
@@ -52,7 +52,7 @@ fn push_white<P: Slots>(spelling: Spelling<P>) -> Spelling<P>
 
 /// Adds the black cells of a run and the white cell after it.
 fn push_run<P: Slots>(spelling: Spelling<P>, number: u8) -> Spelling<P>
-    ensures { AddsCells P.has P.room number (replicate number 1 ++ 0 ∷ []) spelling result }
+    ensures { AddsCells (slots_of P.bits) P.room number (replicate number 1 ++ 0 ∷ []) spelling result }
 {
     let mut longer = spelling;
     for _k in 0..number {
@@ -64,7 +64,7 @@ fn push_run<P: Slots>(spelling: Spelling<P>, number: u8) -> Spelling<P>
 /// Spells a clue.
 fn spell<P: Slots>(clue: &[u8]) -> TrackSlots<P>
     requires { used clue.now < P.room }
-    ensures { along P.has result ≡ track_of (spelled clue.now) }
+    ensures { along (slots_of P.bits) result ≡ track_of (spelled clue.now) }
 {
     let mut cells = Spelling {
         white: P::none(),
@@ -118,14 +118,14 @@ pub(crate) struct SpelledClue<P: Slots> {
 impl<P: Slots> Model for SpelledClue<P> {
     ghost use Rattle.std.specs.Prelude.{◌≡◌, ℕ, List};
     ghost use Rattle.pattern_core.specs.Lines.{IsRoomyFrom};
-    ghost use Rattle.pattern_core.specs.Track.{along, clue_along, IsTrack};
+    ghost use Rattle.pattern_core.specs.Track.{along, clue_along, slots_of, IsTrack};
 
     ghost Value = { List ℕ };
 
-    ghost view = { λ c. clue_along P.room (along P.has c.steps) };
+    ghost view = { λ c. clue_along P.room (along (slots_of P.bits) c.steps) };
 
-    ghost invariant = { λ c. (IsTrack P.room (along P.has c.steps))
-        × IsRoomyFrom (clue_along P.room (along P.has c.steps)) c.roomy_from };
+    ghost invariant = { λ c. (IsTrack P.room (along (slots_of P.bits) c.steps))
+        × IsRoomyFrom (clue_along P.room (along (slots_of P.bits) c.steps)) c.roomy_from };
 }
 
 impl<P: Slots> SpelledClue<P> {
@@ -153,9 +153,9 @@ impl<P: Slots> SpelledClue<P> {
     /// How a line goes along the clue.
     #[tactic(auto, using(crate::proofs::Spellings::track_under))]
     pub(crate) fn steps(&self) -> TrackSlots<P>
-        ensures track { along P.has result ≡ track_of (spelled self.now) }
+        ensures track { along (slots_of P.bits) result ≡ track_of (spelled self.now) }
         ensures positive { ArePositive self.now }
-        ensures below { IsBelow P.room (along P.has result) }
+        ensures below { IsBelow P.room (along (slots_of P.bits) result) }
     {
         self.steps
     }

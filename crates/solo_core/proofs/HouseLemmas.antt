@@ -1,7 +1,7 @@
 -- Houses and crossings by their numbers, and lists of their places.
 use Rattle.std.proofs.lemmas.Grind.{common_steps}
 use Rattle.std.proofs.Common.{◌≡◌, ℕ, zero, suc, ◌+◌, ◌-◌, ◌<◌, ◌≤◌, Bool, true, false, List, [], ◌∷◌, ◌++◌, map, length, get_or, take, if◌then◌else◌, refl, sym, ap, ◌∙◌, arith, append-nil, append_assoc, ◌*◌, length-append}
-use Rattle.solo_core.specs.Common.{range_with_len, get_or_append_left, get_or-append_right, get_or-map, length-map, take_more, map-append, get_or-map-range_with_len, length-map-range_with_len, Solo, solo_n, NamedHouse, Diagonal, houses_of, house_places, places_of, mul-le, House, house_of, no_house}
+use Rattle.solo_core.specs.Common.{range_with_len, get_or_append_left, get_or-append_right, get_or-map, length-map, take_more, map-append, get_or-map-range_with_len, length-map-range_with_len, Solo, solo_n, NamedHouse, Diagonal, houses_of, House, house_of, no_house}
 use Rattle.std.proofs.Math.Seq.{take-length}
 use Rattle.engine_core.specs.HouseList.{Listed}
 use Rattle.solo_core.specs.BoundLaws.{house_count, count_x, count_plain}
@@ -39,10 +39,6 @@ pub listed-all : {list : Listed} (closed all : List (List ℕ)) (k : ℕ) → le
     → list ≡ record { closed = closed ++ take k all; begun = [] }
     → list ≡ record { closed = closed ++ all; begun = [] }
 listed-all closed all k long was = was ∙ rw (← long, take-length all) refl
-
-pub places-at : (p : Solo) (k : ℕ) {house : NamedHouse} → k < length (houses_of p)
-    → house ≡ get_or (houses_of p) k house → places_of p house ≡ get_or (house_places p) k []
-places-at p k {house} lt is = ap (places_of p) is ∙ sym (get_or-map _ _ k house [] lt)
 
 -- the houses by their numbers
 pub ruleset house_laws =
@@ -105,6 +101,3 @@ module _ (p : Solo) where
 
   pub scope-named : (h : ℕ) (d : VisitName) → h < length (scopes_of p) → house_of (filled_houses p ++ crossings_of p) h ≡ house_at p (get_or (scopes_of p) h d)
   scope-named h d lt = ap (λ xs. house_of xs h) (sym all-named) ∙ get_or-map _ _ h d no_house lt
-
-pub few_crossings : (n lines : ℕ) → n ≤ 31 → lines ≤ 510 → n * lines ≤ 16000
-few_crossings n lines high few = omega (arith, mul-le n lines 31 510 high few)

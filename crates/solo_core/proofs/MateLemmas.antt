@@ -1,12 +1,12 @@
 -- A pairing of the cells with values is a filling without repeat, and a short set rules out every one. The values of the cells that
 -- are alone and a pairing of the rest make a pairing of the house.
 use Rattle.std.proofs.lemmas.Grind.{common_steps}
-use Rattle.std.proofs.Common.{◌≡◌, ℕ, ◌<◌, true, false, true≢false, List, [], length, get_or, slice_index, map, refl, sym, ◌∙◌, ap, arith, inl, inr, zero, suc, ◌+◌, Bool, not, eqb, ◌∷◌, ◌++◌, cond, append-nil}
-use Rattle.solo_core.specs.Common.{range_with_len, cases_lt, true_from_ne_false, get_or-map, length-map, get_or_past, get_or-map-range_with_len, length-map-range_with_len, has_value, IsShownBy, IsPairing, has_bit, set_of_bits, no_repeat, has_in, is_struck, cases_Bool, true≢false, not-true, not_from_false, eqb-true, eq-eqb, map-id, filter_of_map_range_with_len_more, length-range_with_len, get_or-range_with_len, AreDifferent, has_place-at, has_place-here, place-filter, place-kept, different-filter, has_place, nat_tests}
+use Rattle.std.proofs.Common.{◌≡◌, ℕ, ◌<◌, true, false, true≢false, List, [], length, get_or, slice_index, map, refl, sym, ◌∙◌, ap, arith, inl, inr, zero, suc, ◌+◌, Bool, not, ◌∷◌, ◌++◌, cond, append-nil}
+use Rattle.solo_core.specs.Common.{range_with_len, cases_lt, true_from_ne_false, get_or-map, length-map, get_or_past, get_or-map-range_with_len, length-map-range_with_len, has_value, IsShownBy, IsPairing, has_bit, set_of_bits, no_repeat, has_in, is_struck, cases_Bool, true≢false, not-true, not_from_false, map-id, filter_of_map_range_with_len_more, length-range_with_len, get_or-range_with_len, AreDifferent, has_place-at, has_place-here, place-filter, place-kept, different-filter, has_place, nat_tests}
 use Rattle.engine_core.specs.FillingLaws.{shown_from_test, test_from_shown}
 use Rattle.solo_core.specs.NoRepeatLaws.{own_from_no_repeat, no_repeat_from_different}
 use Rattle.grid_core.proofs.ShortSets.{no_choice}
-use Rattle.solo_core.specs.Peeled.{AreAlone, IsPaired, IsShort, rest_of, PairsCells, KeepsFillings}
+use Rattle.solo_core.specs.Peeled.{AreAlone, IsShort, rest_of, PairsCells, KeepsFillings}
 
 -- a set of bits has the values below n whose bit is set
 pub has_set_of_bits : {n : ℕ} (bits : ℕ) {v : ℕ} → v < n → has_value (set_of_bits n bits) v ≡ has_bit bits v
@@ -182,54 +182,6 @@ unfolding last
 last-below zero passes some = absurd (omega arith)
 last-below (suc zero) passes some = grind (arith, nat_tests)
 last-below (suc (suc n)) passes some = grind (arith, nat_tests, last-below (suc n) passes (omega arith))
-
--- ---- where the rest is paired, some pairing of the house pairs it so
-module _ (n : ℕ) (sets : List ℕ) (cells : ℕ → Bool) (alone : AreAlone n sets cells) (paired : List ℕ) (p : IsPaired n sets (rest_of (length sets) cells) paired) where
-  abbrev left : List ℕ
-  left = rest_of (length sets) cells
-
-  -- the place of a cell in the rest
-  at : ℕ → ℕ
-  at k = last (length left) (λ i. eqb (slice_index left i) k)
-
-  mate : ℕ → ℕ
-  mate k = cond (cells k) (last n (has_in sets k)) (slice_index paired (at k))
-
-  pub house_mates : List ℕ
-  house_mates = map mate (range_with_len 0 (length sets))
-
-  mates-at : (k : ℕ) → k < length sets → slice_index house_mates k ≡ mate k
-  unfolding house_mates
-  mates-at k lk = get_or-map-range_with_len mate 0 (length sets) k k 0 lk (omega arith)
-
-  pub mates-rest : (i : ℕ) → i < length left
-      → slice_index house_mates (slice_index left i) ≡ slice_index paired i
-  unfolding mate at
-  mates-rest i li =
-      let k = slice_index left i in
-      let r = rest-in (length sets) cells li in
-      let passes : ℕ → Bool = λ j. eqb (slice_index left j) k in
-      let low = last-below (length left) passes (omega arith) in
-      let same = eqb-true _ k (last-passes (length left) passes i li (eq-eqb k k refl)) in
-      mates-at k r.0 ∙ rw r.1 (ap (slice_index paired) (rest-different (length sets) cells (at k) i low li same))
-
-  pub house_pairing : PairsCells n sets house_mates
-  unfolding house_mates mate
-  house_pairing = whole_pairing n sets cells alone house_mates house_mates p own (length-map-range_with_len mate 0 (length sets)) mates-rest
-      (λ k out. refl)
-    where
-      own : (k v : ℕ) → k < length sets → v < n → has_in sets k v ≡ true → has_in sets k (slice_index house_mates k) ≡ true
-      own k v lk lv has = elim (cases_Bool (cells k)) [
-        | inl on ↦ rw (mates-at k lk, on) (last-passes n (has_in sets k) v lv has)
-        | inr off ↦ let w = rest-has (length sets) cells lk off in
-            rw (sym (ap (slice_index house_mates) w.2) ∙ mates-rest w.0 w.1) (rw w.2 at (p.joined w.0 w.1))
-      ]
-
-  -- it shows the value of a cell that is alone
-  pub shown_alone : (k v : ℕ) → k < length sets → cells k ≡ true → has_in sets k v ≡ true → is_struck n sets k v ≡ false
-  shown_alone k v lk on has =
-      let a = alone k lk on in
-      rw (a.only (slice_index house_mates k) (house_pairing.joined k lk) ∙ sym (a.only v has)) at (shown_by_pairing sets house_pairing k)
 
 -- where no value is struck, the sets are kept
 pub decided_by_all : {n : ℕ} {sets : List ℕ} → ((k v : ℕ) → k < length sets → v < n → has_in sets k v ≡ true → is_struck n sets k v ≡ false)

@@ -1,7 +1,7 @@
 -- The bounds of closings as numbers: 3n + 3n^3 in plain Solo, with two houses more in Solo X, and with crossings what these add.
 use Rattle.std.proofs.lemmas.Grind.{common_steps}
-use Rattle.std.proofs.Common.{◌≡◌, ℕ, zero, suc, ◌+◌, ◌-◌, ◌*◌, ◌/◌, ◌%◌, ◌^◌, ◌<◌, ◌≤◌, Bool, true, false, not, cond, eqb, List, [], ◌∷◌, ◌++◌, map, length, get_or, if◌then◌else◌, refl, sym, ap, ◌∙◌, min, inl, inr, add-one, arith, length-append, All, sum_by}
-use Rattle.solo_core.specs.Common.{cases_Bool, range_with_len, filter, cases_order, eq-eqb, ne_eqb, nat_tests, div-mul-add, mod-mul-add, div_below, mod_below, mul-le, mul-add-lt, div-add-mod', length-map, map-append, All-map, length-map-range_with_len, filter_of_map_range_with_len_more, count_below, count_below-same, Solo, IsSolo, solo_n, has_place, strikes_by_fillings, Decision, visits_of, Row, Column, Block, solo_cells, block_of, houses_of, places_of, no_repeat}
+use Rattle.std.proofs.Common.{◌≡◌, ℕ, zero, suc, ◌+◌, ◌-◌, ◌*◌, ◌/◌, ◌%◌, ◌^◌, ◌<◌, ◌≤◌, Bool, true, false, not, cond, eqb, List, [], ◌∷◌, map, length, get_or, if◌then◌else◌, refl, sym, ap, ◌∙◌, min, inl, inr, add-one, arith, length-append, All, sum_by}
+use Rattle.solo_core.specs.Common.{range_with_len, filter, cases_order, eq-eqb, ne_eqb, nat_tests, div-mul-add, mod-mul-add, div_below, mod_below, mul-le, mul-add-lt, div-add-mod', length-map, map-append, All-map, length-map-range_with_len, filter_of_map_range_with_len_more, count_below, count_below-same, Solo, IsSolo, solo_n, has_place, strikes_by_fillings, Decision, visits_of, Row, Column, Block, solo_cells, block_of, houses_of, places_of, no_repeat}
 use Rattle.std.proofs.lemmas.List.Sums.{sum_by-cons, sum_by-append}
 use Rattle.solo_core.specs.Crossing.{crossing_places}
 use Rattle.solo_core.specs.Meanings.{house_visits, crossing_visits, all_visits}
@@ -27,16 +27,6 @@ bound_is decides p ok =
     (All-map (λ house. visits_of (solo_n p) house ≡ 1 + solo_n p * solo_n p) (house_by decides p) (houses_of p)
     (λ k d lt. ap (λ n. 1 + n * solo_n p) ((lists_house ok (get_or (houses_of p) k d) (all_houses p k d lt)).len))) in
     same ∙ rw (length-map (houses_of p) (house_by decides p)) (omega arith)
-
-pub few_lines : (decides : Decision) (p : Solo) → IsSolo p → sum_by (visits_of (solo_n p)) (deciding decides p) ≤ 95 + 95 * 961
-few_lines decides p ok =
-    let e = bound_is decides p ok in
-    let count = house_count p in
-    let high = ok.n_high in
-    let two : (if p.x then 2 else 0) ≤ 2 = elim (cases_Bool p.x) [ inl on ↦ rw on (omega arith) | inr off ↦ rw off (omega arith) ] in
-    let square = mul-le (solo_n p) (solo_n p) 31 31 high high in
-    let all = mul-le (length (houses_of p)) (solo_n p * solo_n p) 95 961 (omega arith) square in
-    omega arith
 
 pub count_x : (p : Solo) → p.x ≡ true → length (houses_of p) ≡ 3 * solo_n p + 2
 count_x p is = house_count p ∙ ap (λ b. 3 * solo_n p + (if b then 2 else 0)) is
@@ -144,21 +134,3 @@ pub crossings_rules-bound : (p : Solo) → IsSolo p → (crossings_rules p).boun
 crossings_rules-bound p ok =
     sum_by-append (visits_of (solo_n p)) (filled_houses p) (crossings_of p)
     ∙ rw (bound_is (strikes_by_fillings no_repeat) p ok, crossings_bound p ok) refl
-
-pub few_crossings : (p : Solo) → IsSolo p → sum_by (visits_of (solo_n p)) (filled_houses p ++ crossings_of p) < 2 ^ 32
-few_crossings p ok =
-    let all = sum_by-append (visits_of (solo_n p)) (filled_houses p) (crossings_of p) in
-    let lines = few_lines (strikes_by_fillings no_repeat) p ok in
-    let crossed = crossings_bound p ok in
-    let high = ok.n_high in
-    let c_low = ok.c_low in
-    let r_low = ok.r_low in
-    let c_in = mul-le p.c 1 p.c p.r (omega arith) (omega arith) in
-    let r_in = mul-le 1 p.r p.c p.r (omega arith) (omega arith) in
-    let many_c = mul-le (solo_n p) p.c 31 31 high (omega arith) in
-    let many_r = mul-le (solo_n p) p.r 31 31 high (omega arith) in
-    let long_r = mul-le (2 * solo_n p - p.r) (solo_n p) 62 31 (omega arith) high in
-    let long_c = mul-le (2 * solo_n p - p.c) (solo_n p) 62 31 (omega arith) high in
-    let rows = mul-le (solo_n p * p.c) (1 + (2 * solo_n p - p.r) * solo_n p) 961 1923 (omega arith) (omega arith) in
-    let columns = mul-le (solo_n p * p.r) (1 + (2 * solo_n p - p.c) * solo_n p) 961 1923 (omega arith) (omega arith) in
-    omega arith

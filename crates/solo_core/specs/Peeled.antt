@@ -42,11 +42,6 @@ meets sets values cell = not (bit_and (slice_index sets cell) values == 0)
 abbrev pub rest_of : ℕ → (ℕ → Bool) → List ℕ
 rest_of n cells = filter (λ k. not (cells k)) (range_with_len 0 n)
 
--- the rest: the cells of a house but some that are alone
-abbrev pub IsRest : ℕ → List ℕ → List ℕ → Type 0
-IsRest n sets rest =
-    (cells : ℕ → Bool) × (rest ≡ rest_of (length sets) cells) × AreAlone n sets cells
-
 -- the values whose bit is set are those of cells that are alone: the cells that meet them are, and each is one's
 pub record AreLone (n : ℕ) (sets : List ℕ) (lone : ℕ) : Type 0 where
   pub alone : AreAlone n sets (meets sets lone)

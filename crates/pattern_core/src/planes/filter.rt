@@ -5,7 +5,7 @@ ghost use Rattle.grid_core.specs.Extent.{max_side};
 ghost use Rattle.grid_core.specs.Words.{has_bit};
 ghost use Rattle.pattern_core.specs.LineClues.{numbers_in};
 ghost use Rattle.pattern_core.specs.LinePlanes.{AreDecided, AreShown, set_at, sets_by};
-ghost use Rattle.pattern_core.specs.Track.{AreRows, IsBelow, along};
+ghost use Rattle.pattern_core.specs.Track.{AreRows, IsBelow, along, slots_of};
 
 use crate::line_clue::{LineClue, Rows};
 use crate::slots::Slots;
@@ -46,7 +46,7 @@ impl<W: Word> Cells<W> {
     fn fill_rows<P: Slots>(self, count: usize, moves: &Moves<P>, rows: &mut [P])
         requires room { count < length rows.old }
         requires fits { count ≤ W.room }
-        ensures { AreRows P.has (along P.has moves.now.steps)
+        ensures { AreRows (slots_of P.bits) (along (slots_of P.bits) moves.now.steps)
             (sets_by (W.bits self.white) (W.bits self.black) count) rows.new 0 }
     {
         let mut at = count;
@@ -62,10 +62,10 @@ impl<W: Word> Cells<W> {
     fn keep<P: Slots>(self, count: usize, moves: &Moves<P>, rows: &[P]) -> Cells<W>
         requires room { count < length rows.now }
         requires fits { count ≤ W.room }
-        requires rows { AreRows P.has (along P.has moves.now.steps)
+        requires rows { AreRows (slots_of P.bits) (along (slots_of P.bits) moves.now.steps)
             (sets_by (W.bits self.white) (W.bits self.black) count) rows.now 0 }
-        requires below { IsBelow P.room (along P.has moves.now.steps) }
-        ensures { AreShown (along P.has moves.now.steps) count (W.bits self.white)
+        requires below { IsBelow P.room (along (slots_of P.bits) moves.now.steps) }
+        ensures { AreShown (along (slots_of P.bits) moves.now.steps) count (W.bits self.white)
             (W.bits self.black) (W.bits result.white) (W.bits result.black) }
     {
         let (mut white, mut black) = (W::none(), W::none());

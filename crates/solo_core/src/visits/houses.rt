@@ -3,7 +3,7 @@
 ghost use Rattle.std.specs.Prelude.{◌≡◌, ℕ, ◌<◌, ◌≤◌, ◌&&◌, false, length, true};
 ghost use Rattle.grid_core.specs.Candidates.{max_values};
 ghost use Rattle.solo_core.specs.Common.{has_bit as is_set, has_in};
-ghost use Rattle.solo_core.specs.Peeled.{AreLone, IsRest, IsPaired, KeepsReaching, PairsCells, KeepsFillings};
+ghost use Rattle.solo_core.specs.Peeled.{AreLone, IsPaired, KeepsReaching, PairsCells, KeepsFillings, meets, rest_of as rest_cells};
 
 use crate::visits::bits::{next_bit, others_below, with_bit_if};
 use crate::visits::mates::{MANY, pair_rest, rest_of, write_own, write_rest};
@@ -51,22 +51,21 @@ fn keep_others(values: u8, lone: u32, kept: &mut [u32], pairing: &mut Pairing)
 {
     let others = rest_of(kept, lone);
     let rest: &[u8] = &others;
-    let all = others_below(values, lone);
     let mut paired_space = [0u8; MANY];
     let paired = &mut paired_space[..rest.len()];
     match pair_rest(values, kept, rest, pairing, paired) {
         Paired::Short => kept.fill(0),
-        Paired::All if lie_on_rounds(values, all, kept, rest, paired) => {}
-        Paired::All => keep_paired(values, rest, paired, kept),
+        Paired::All => keep_paired(values, lone, rest, paired, kept),
     }
 }
 
-/// Decides what is kept of a house in which these cells are paired, and the others are alone.
+/// Decides what is kept of a house in which these values are those of cells that are alone, and the rest is paired.
 #[tactic(auto, using(crate::proofs::LawSets::mates_laws))]
-fn keep_paired(values: u8, rest: &[u8], paired: &[u8], kept: &mut [u32])
+fn keep_paired(values: u8, lone: u32, rest: &[u8], paired: &[u8], kept: &mut [u32])
     requires few { values ≤ max_values }
     requires square { length kept.old ≡ values }
-    requires alone { IsRest values kept.old rest.now }
+    requires lone { AreLone values kept.old lone }
+    requires rest { rest.now ≡ rest_cells (length kept.old) (meets kept.old lone) }
     requires paired { IsPaired values kept.old rest.now paired.now }
     ensures decided { KeepsFillings values kept.old kept.new }
 {
@@ -79,6 +78,10 @@ fn keep_paired(values: u8, rest: &[u8], paired: &[u8], kept: &mut [u32])
     // a value leads to those of the cell that has it
     for cell in 0..kept.len() {
         reach[usize::from(mates[cell])] = kept[cell];
+    }
+    let all = others_below(values, lone);
+    if lie_on_rounds(reach, all) {
+        return;
     }
     close_under_steps(reach);
     keep_reached(values, mates, reach, kept);

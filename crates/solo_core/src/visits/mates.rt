@@ -4,7 +4,7 @@
 ghost use Rattle.std.specs.Prelude.{◌≡◌, ℕ, ◌<◌, ◌≤◌, true, length, slice_index};
 ghost use Rattle.grid_core.specs.Candidates.{max_values};
 ghost use Rattle.solo_core.specs.Common.{AreDifferent, has_bit as is_set};
-ghost use Rattle.solo_core.specs.Peeled.{IsRest, IsPaired, IsShort, HasMate, GotMates, KeepMates, meets, rest_of as rest_cells, PairsCells, AreCellsOf};
+ghost use Rattle.solo_core.specs.Peeled.{IsPaired, IsShort, HasMate, GotMates, KeepMates, meets, rest_of as rest_cells, PairsCells, AreCellsOf};
 
 use crate::visits::bits::next_bit;
 use crate::visits::graph::CellValueGraph;

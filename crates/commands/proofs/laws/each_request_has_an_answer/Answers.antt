@@ -2,4 +2,4 @@ use Rattle.commands.proofs.RequestsAnswered.{answered}
 use Rattle.commands.proofs.laws.each_request_has_an_answer.Goals as goal
 
 pub returns : goal.returns
-returns c = answered (record { trees = c.fillings_of_tents_are_solutions.ensures.trees; solved = c.fillings_of_tents_are_solutions.ensures.solved })
+returns c = answered

@@ -3,7 +3,7 @@ use Rattle.gameid_core.specs.declared.id.game.Game.TheVariants.{Solo, Pattern, T
 use Rattle.commands.proofs.CheckedPuzzles.{check_same, check_some}
 use Rattle.commands.proofs.GameLaws.{laws_of, solving, listed_right}
 use Rattle.commands.proofs.MadeOnce.{seed_words}
-use Rattle.commands.proofs.Makings.{AreFilled, made_differ, made_pattern, made_tents}
+use Rattle.commands.proofs.Makings.{made_differ, made_pattern, made_tents}
 use Rattle.commands.proofs.Readings.{each_once, grade_once, id_once, one_of_same, told_once}
 use Rattle.commands.proofs.laws.one_answer.Goals as goal
 
@@ -22,13 +22,10 @@ grading game id budget =
 pub returns : goal.returns
 returns c = record {
   fixed = by;
-  solo = λ text seed budget tries black. made_differ filled (wanted seed budget tries black) (seed_words seed) Solo text;
-  lights = λ text seed budget tries black. made_differ filled (wanted seed budget tries black) (seed_words seed) LightUp text;
+  solo = λ text seed budget tries black. made_differ (wanted seed budget tries black) (seed_words seed) Solo text;
+  lights = λ text seed budget tries black. made_differ (wanted seed budget tries black) (seed_words seed) LightUp text;
 }
   where
-    filled : AreFilled
-    filled = record { trees = c.fillings_of_tents_are_solutions.ensures.trees; solved = c.fillings_of_tents_are_solutions.ensures.solved }
-
     by : (asked : Option Asked) (input : Text) → is_fixed asked ≡ true → HasOneAnswer (Allows asked input)
     by None input fixed = told_once refused_words
     by (Some (solve game (Some id) budget)) input fixed = solving game budget id
@@ -36,7 +33,7 @@ returns c = record {
     by (Some (check game id)) input fixed = checking game id input
     by (Some (grade game id budget false)) input fixed = grading game id budget
     by (Some (grade game id budget true)) input fixed = absurd (true≢false (sym fixed))
-    by (Some (generate Pattern size seed budget tries black)) input fixed = made_pattern filled (wanted seed budget tries black) (seed_words seed) size
+    by (Some (generate Pattern size seed budget tries black)) input fixed = made_pattern (wanted seed budget tries black) (seed_words seed) size
     by (Some (generate Solo size seed budget tries black)) input fixed = absurd (true≢false (sym fixed))
     by (Some (generate LightUp size seed budget tries black)) input fixed = absurd (true≢false (sym fixed))
-    by (Some (generate Tents size seed budget tries black)) input fixed = made_tents filled (wanted seed budget tries black) (seed_words seed) size
+    by (Some (generate Tents size seed budget tries black)) input fixed = made_tents (wanted seed budget tries black) (seed_words seed) size

@@ -1,4 +1,4 @@
-use Rattle.pattern_core.proofs.Common.{along, any_below-same, ap, arith, eqb-true, get_or-set_other, led, not-false, or_parts, refl, set, set-get_or, ◌&&◌, ◌∙◌}
+use Rattle.pattern_core.proofs.Common.{along, any_below-same, ap, arith, eqb-true, get_or-set_other, led, not-false, or_parts, refl, set, set-get_or, ◌&&◌, ◌∙◌, slots_of}
 use Rattle.pattern_core.proofs.TableSteps.{kept_cell, kept_none, reached_first, reached_next, row_next}
 use Rattle.pattern_core.proofs.table.filter_cells.Goals as goal
 
@@ -12,8 +12,8 @@ loop-at-init g c = (
 
 pub loop-at-preserved : goal.loop-at-preserved
 loop-at-preserved g c =
-    let has = g.P.Slots.has in
-    let room = g.P.Slots.room in
+    let has = slots_of g.P.Word.bits in
+    let room = g.P.Word.room in
     let t = along has c.args.moves.now.steps in
     let sets = c.args.sets.now in
     let at = c.loop-at.at in

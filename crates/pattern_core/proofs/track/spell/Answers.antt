@@ -1,6 +1,8 @@
-use Rattle.pattern_core.proofs.Common.{Spells, [], ap, append-nil, arith, drop_all, refl, spelled, subst, sym, ◌++◌, ◌∙◌}
+use Rattle.pattern_core.proofs.Common.{Spells, [], ap, append-nil, arith, drop_all, refl, spelled, subst, sym, ◌++◌, ◌∙◌, slots_of}
+use Rattle.std.proofs.Common.{add-one}
 use Rattle.pattern_core.proofs.SpelledRuns.{length-spelled}
 use Rattle.pattern_core.proofs.Spellings.{spelling_none, next_run, run_fits, track_spelled}
+use Rattle.pattern_core.proofs.Words.{on_past, on_within}
 use Rattle.pattern_core.proofs.track.spell.Goals as goal
 
 pub loop-k-init : goal.loop-k-init
@@ -16,8 +18,10 @@ loop-k-preserved g c =
 pub returns : goal.returns
 unfolding spelled
 returns g c =
+    let has = slots_of g.P.Word.bits in
     let (front, so_far, spells) = c.loop-k.invariant in
     let all = sym (append-nil front) ∙ ap (λ l. front ++ spelled l) (sym (drop_all c.loop-k.k c.args.clue.now c.loop-k-test.false)) ∙ so_far in
     track_spelled (omega (arith, c.requires, length-spelled c.args.clue.now))
-    (subst (λ l. Spells g.P.Slots.has l c.loop-k.cells) all spells) c.on.ensures.within c.on.ensures.past c.first-2.ensures c.either.ensures c.back.ensures
+    (subst (λ l. Spells (slots_of g.P.Word.bits) l c.loop-k.cells) all spells) (on_within g.P.Word.room (has c.loop-k.cells.white) (has c.on.result) c.on.ensures)
+    (on_past g.P.Word.room (has c.loop-k.cells.white) (has c.on.result) c.on.ensures) c.first-2.ensures c.either.ensures (λ p. c.back.ensures p ∙ ap (has c.loop-k.cells.next) (add-one _))
     c.either-2.ensures

@@ -1,9 +1,10 @@
-use Rattle.std.proofs.Common.{ℕ}
-use Rattle.solo_core.specs.Ways.{ComesAfter, ComesBefore}
+use Rattle.solo_core.specs.Common.{has_in}
+use Rattle.std.proofs.Common.{length}
+use Rattle.solo_core.specs.Ways.{StaysAfter, StaysBefore}
 use Rattle.solo_core.proofs.visits.turning.spread.Given as goal
 
-abbrev pub invariant-loop-i : goal.invariant-loop-i
-invariant-loop-i l = record {
-  after : (root : ℕ) → ComesAfter l.values l.sets l.rest l.mates root l.fn.ends.after → ComesAfter l.values l.sets l.rest l.mates root l.more.after;
-  before : (root : ℕ) → ComesBefore l.values l.sets l.rest l.mates root l.fn.ends.before → ComesBefore l.values l.sets l.rest l.mates root l.more.before;
+abbrev pub invariant-loop-value : goal.invariant-loop-value
+invariant-loop-value l = record {
+  after : StaysAfter (length l.leads) (has_in l.leads) l.fn.ends.after l.more.after;
+  before : StaysBefore (length l.leads) (has_in l.leads) l.fn.ends.before l.more.before;
 }

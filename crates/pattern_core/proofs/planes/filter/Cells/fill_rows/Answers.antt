@@ -1,4 +1,4 @@
-use Rattle.pattern_core.proofs.Common.{AreRows, along, arith, refl, subst, sym, ◌+◌, ◌-◌, ◌∙◌, ◌≡◌}
+use Rattle.pattern_core.proofs.Common.{AreRows, along, arith, refl, subst, sym, ◌+◌, ◌-◌, ◌∙◌, ◌≡◌, slots_of}
 use Rattle.pattern_core.specs.LinePlanes.{sets_by}
 use Rattle.pattern_core.proofs.LineWords.{length-sets, sets-at}
 use Rattle.pattern_core.proofs.TableSteps.{last_row, one_row}
@@ -10,7 +10,7 @@ loop-at-init g c =
     let black = g.W.Word.bits c.args.self.black in
     let long = length-sets white black c.args.count in (
       omega arith,
-      rw long at (last_row g.P.Slots.has (along g.P.Slots.has c.args.moves.now.steps) (sets_by white black c.args.count) c.args.rows.now c.args.moves.now.steps.ends (λ p. refl)
+      rw long at (last_row (slots_of g.P.Word.bits) (along (slots_of g.P.Word.bits) c.args.moves.now.steps) (sets_by white black c.args.count) c.args.rows.now c.args.moves.now.steps.ends (λ p. refl)
           (omega (arith, c.requires.room, long))),
     )
 
@@ -22,10 +22,10 @@ loop-at-preserved g c =
     let pos = c.loop-at-test.true in
     let low = c.loop-at.invariant.0 in
     let next : c.loop-at.at ≡ c.loop-at.at - 1 + 1 = omega arith in
-    let t = along g.P.Slots.has c.args.moves.now.steps in
+    let t = along (slots_of g.P.Word.bits) c.args.moves.now.steps in
     let set = c.set.ensures ∙ sym (sets-at white black c.args.count (c.loop-at.at - 1) (omega arith)) in (
       omega arith,
-      one_row g.P.Slots.has t sets c.loop-at.rows (c.loop-at.at - 1) c.ahead_of.result
-          (subst (AreRows g.P.Slots.has t sets c.loop-at.rows) next c.loop-at.invariant.1) (omega (arith, length-sets white black c.args.count)) c.index-rows-at.is
+      one_row (slots_of g.P.Word.bits) t sets c.loop-at.rows (c.loop-at.at - 1) c.ahead_of.result
+          (subst (AreRows (slots_of g.P.Word.bits) t sets c.loop-at.rows) next c.loop-at.invariant.1) (omega (arith, length-sets white black c.args.count)) c.index-rows-at.is
           (rw set at c.ahead_of.ensures),
     )

@@ -1,4 +1,4 @@
-use Rattle.pattern_core.proofs.Common.{along, and_parts, any_below-same, ap, arith, led, length, sym, ◌&&◌, ◌<◌, ◌∙◌}
+use Rattle.pattern_core.proofs.Common.{along, and_parts, any_below-same, ap, arith, led, length, sym, ◌&&◌, ◌<◌, ◌∙◌, slots_of}
 use Rattle.pattern_core.specs.LinePlanes.{sets_by}
 use Rattle.pattern_core.proofs.LineWords.{both-ways, length-sets, sets-are, sets-at, shown-more, shown-none}
 use Rattle.pattern_core.proofs.TableSteps.{leads_black, leads_white, reached_first, reached_next, row_next, shown_at}
@@ -13,9 +13,9 @@ loop-at-init g c = (
 
 pub loop-at-preserved : goal.loop-at-preserved
 loop-at-preserved g c =
-    let has = g.P.Slots.has in
+    let has = slots_of g.P.Word.bits in
     let bits = g.W.Word.bits in
-    let room = g.P.Slots.room in
+    let room = g.P.Word.room in
     let t = along has c.args.moves.now.steps in
     let white = bits c.args.self.white in
     let black = bits c.args.self.black in
