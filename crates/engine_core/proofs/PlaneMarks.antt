@@ -1,5 +1,5 @@
 -- Planes with their trail as a position.
-use Rattle.engine_core.proofs.Common.{Candidates, IsOnward, None, arith, pick, ℕ, ◌<◌, ◌≡◌, ◌≤◌}
+use Rattle.engine_core.proofs.Common.{Candidates, IsOnward, None, arith, pick, ℕ, ◌≡◌, ◌≤◌}
 use Rattle.grid_core.specs.Planes.{IsFurther, Layers}
 use Rattle.grid_core.proofs.RowLemmas.{pick-few, pick-none}
 use Rattle.engine_core.specs.PlaneStanding.{standing_by}

@@ -1,5 +1,5 @@
 -- A board with its trail as a position, and which houses wait. No public contract uses these words.
-use Rattle.std.specs.Prelude.{◌≡◌, ℕ, ◌<◌, ◌≤◌, Bool, true, false, List, length, slice_index_or}
+use Rattle.std.specs.Prelude.{◌≡◌, ℕ, ◌<◌, Bool, true, false, List, length}
 use Rattle.grid_core.specs.Board.{Layout, has, cells_of}
 use Rattle.grid_core.specs.Candidates.{Candidates, IsInside}
 use Rattle.engine_core.specs.RuleSystem.{RuleSystem, Needs, needs_of, FitsIn, IsBoardOf, after}
