@@ -2,7 +2,7 @@
 -- words.
 use Rattle.std.specs.Prelude.{◌≡◌, ◌<◌, ◌≤◌, ◌⊎◌, ℕ, Bool, true, false, [], Result, Ok, Err}
 use Rattle.commands.specs.Answers.{Answer, BeginsAnswer, IsInput, Text, code_of, status_of}
-use Rattle.commands.specs.Runs.{IsBroken}
+use Rattle.commands.specs.Runs.{IsBroken, call_limit}
 use Rattle.commands.specs.declared.answers.status.Status.{Status}
 use Rattle.commands.specs.declared.answers.status.Stop.{Stop}
 use Rattle.commands.specs.declared.answers.status.Stop.TheVariants.{Memory, Broken}
@@ -75,7 +75,7 @@ LeavesSink sink new result =
 
 -- How a step that reads its input, or not, leaves the ends with a result. With the status of a
 -- failing end one is broken, and else neither failed. With that of an answer the output was sent on
--- whole, and the input read to its end, or not at all.
+-- whole, and the input read to its end, or not at all. No more is read than the limit.
 pub record LeavesEnds {I O : Type 0} (source : sources.Ghosts I) (sink : sinks.Ghosts O)
     (reads : Bool) (input : I) (output : O) (result : Result Status Stop) : Type 0 where
   pub within : status_in result ≤ status_of Broken
@@ -84,6 +84,7 @@ pub record LeavesEnds {I O : Type 0} (source : sources.Ghosts I) (sink : sinks.G
   pub sent : status_in result < status_of Memory → sink.is_flushed output ≡ true
   pub broken : status_in result ≡ status_of Broken
       → IsBroken source input (sink.has_failed output)
+  pub few : source.call_count input ≤ call_limit
   pub unread : reads ≡ false → source.call_count input ≡ 0
   pub ended : reads ≡ true → status_in result < status_of Memory
       → source.has_ended input ≡ true

@@ -1,9 +1,9 @@
 //! Many IDs, one a line.
-ghost use Rattle.std.specs.Prelude.{◌≡◌, ◌∷◌, ◌++◌, [], max, true, false, IfOk, IfErr, OnErr, OnOk};
+ghost use Rattle.std.specs.Prelude.{◌≡◌, ◌≤◌, ◌∷◌, ◌++◌, [], max, true, false, IfOk, IfErr, OnErr, OnOk};
 ghost use Rattle.commands.specs.Answers.{PutBegun, Text, code_of};
 ghost use Rattle.commands.specs.Batches.{AllowsLines, EndsIn, EndsWith, GathersAll, GathersOn, GathersUpTo, GoesOn, StopsIn, StopsReading, TakesTask, AllowsTask, Holds, IsLine};
 ghost use Rattle.commands.specs.Replies.{answer_in};
-ghost use Rattle.commands.specs.Runs.{AreNew, Ran};
+ghost use Rattle.commands.specs.Runs.{AreNew, Ran, call_limit};
 ghost use Rattle.commands.specs.Stops.{LeavesEnds, StopsWith, is_broken, status_in};
 ghost use Rattle.commands.specs.declared.answers.status.Status.TheVariants.{Fine};
 
@@ -208,6 +208,7 @@ fn take_input<I: Source, O: Sink>(
         input.old output.old batch.new input.new output.new) }
     ensures stopped { OnErr result (StopsReading I.gives O.takes task
         input.old output.old input.new output.new) }
+    ensures few { I.call_count input.new ≤ call_limit }
     ensures left { IfErr result
         (λ e. StopsWith I.Source e input.new (O.has_failed output.new)) }
 {

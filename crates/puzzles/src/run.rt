@@ -4,7 +4,7 @@ ghost use Rattle.commands.specs.Answers.{BeginsAnswer, Delivers, answer_with};
 ghost use Rattle.commands.specs.Allowed.{Allows, reads_input};
 ghost use Rattle.commands.specs.Replies.{answer_in};
 ghost use Rattle.puzzles.specs.Requests.{request_of};
-ghost use Rattle.commands.specs.Runs.{AreNew, IsBroken, Ran};
+ghost use Rattle.commands.specs.Runs.{AreNew, IsBroken, Ran, call_limit};
 ghost use Rattle.commands.specs.Stops.{LeavesEnds, LeavesSink, status_in};
 
 use crate::ends::read_end::ReadEnd;
@@ -69,7 +69,8 @@ fn answer<I: Source, O: Sink>(
 /// Does what the words after the program's name ask for, and gives the status: 0 to 4 where the
 /// whole answer was written, 5 where memory was wanted, and 6 where an end failed, and always where
 /// one did. After 5 and 6 what was written is the beginning of an answer that is allowed. An input
-/// that is read at all is read to its end, unless memory was wanted or an end failed.
+/// that is read at all is read to its end, unless memory was wanted or an end failed. It is asked for
+/// at most `CALL_LIMIT` times.
 pub fn run<I: Source, O: Sink>(alloc: Global, words: &[String], input: &mut I, output: &mut O) -> u8
     requires no_calls { I.call_count input.old ≡ 0 }
     requires input_fine { I.has_failed input.old ≡ false }
@@ -82,6 +83,7 @@ pub fn run<I: Source, O: Sink>(alloc: Global, words: &[String], input: &mut I, o
         → (I.has_failed input.new ≡ false) × (O.has_failed output.new ≡ false) }
     ensures sent { result < NO_MEMORY → O.is_flushed output.new ≡ true }
     ensures broken { result ≡ BROKEN → IsBroken I.Source input.new (O.has_failed output.new) }
+    ensures few { I.call_count input.new ≤ call_limit }
     ensures unread { reads_input (request_of words.now) ≡ false → I.call_count input.new ≡ 0 }
     ensures ended { reads_input (request_of words.now) ≡ true → result < NO_MEMORY
         → I.has_ended input.new ≡ true }

@@ -1,9 +1,9 @@
 //! An input that is read whole.
-ghost use Rattle.std.specs.Prelude.{◌≡◌, ◌++◌, ◌==◌, ◌&&◌, [], List, ℕ, true, false, IfOk, IfErr, OnOk};
+ghost use Rattle.std.specs.Prelude.{◌≡◌, ◌≤◌, ◌++◌, ◌==◌, ◌&&◌, [], List, ℕ, true, false, IfOk, IfErr, OnOk};
 ghost use Rattle.commands.specs.CheckAnswers.{begins_with_line_end, without_returns};
 ghost use Rattle.commands.specs.Texts.{Given, IsKept, IsText};
 ghost use Rattle.commands.specs.Stops.{StopsWith};
-ghost use Rattle.commands.specs.Runs.{IsUnread};
+ghost use Rattle.commands.specs.Runs.{IsUnread, call_limit};
 
 use crate::answers::status::Stop;
 use crate::ends::{CALL_LIMIT, CHUNK, Source};
@@ -47,6 +47,7 @@ fn take_whole<I: Source>(kept: &mut Kept, input: &mut I) -> Result<(), Stop>
     ensures fine { OnOk result ((I.has_failed input.new ≡ false) × (I.has_ended input.new ≡ true)) }
     ensures taken { OnOk result (Given I.gives input.old input.new (IsKept kept.new)) }
     ensures read { (seen : List ℕ) × I.gives input.old seen input.new }
+    ensures few { I.call_count input.new ≤ call_limit }
     ensures left { IfErr result (λ e. StopsWith I.Source e input.new false) }
 {
     let mut buffer = [0u8; CHUNK];
@@ -67,6 +68,7 @@ pub fn read_whole<I: Source>(alloc: Global, input: &mut I) -> Result<Option<Vec<
     ensures fine { OnOk result ((I.has_failed input.new ≡ false) × (I.has_ended input.new ≡ true)) }
     ensures whole { IfOk result (λ text. Given I.gives input.old input.new (IsText text)) }
     ensures read { (seen : List ℕ) × I.gives input.old seen input.new }
+    ensures few { I.call_count input.new ≤ call_limit }
     ensures left { IfErr result (λ e. StopsWith I.Source e input.new false) }
 {
     let mut kept = Kept {
