@@ -65,7 +65,8 @@ impl<W: Word> LightNotes<W> {
         true
     }
 
-    /// Visits the white cells that may strike, up to one without a filling. They take 0 alone, which binds none of them.
+    /// Visits the white cells that may strike, up to one without a filling. They take 0 alone, which binds none of them. Below
+    /// a cell in whose column run a cell must have a bulb, none of that run is looked at.
     fn sweep_cells(&mut self, planes: &mut Planes<W>, puzzle: &LightPuzzle) -> bool
         requires ready { AreLightsReady W.bits W.room puzzle.now planes.old self.old }
         ensures visited { AreVisited (houses_below (lit_house puzzle.now) (light_cells puzzle.now))
@@ -82,7 +83,12 @@ impl<W: Word> LightNotes<W> {
             let whites = self.tables.rows[y];
             above = self.safe[y].either(above.both(whites));
             let some = self.waits.whites(y, whites.but(above));
-            if !self.tables.visit_lits(planes, puzzle, y as u8, some) {
+            let met = self.tables.met(planes, puzzle, y as u8, some);
+            above = above.either(met);
+            if !self
+                .tables
+                .visit_lits(planes, puzzle, y as u8, some.but(met))
+            {
                 return false;
             }
         }

@@ -1,7 +1,7 @@
 //! Visits of the houses of Light Up by the words that are kept of a puzzle.
 
 ghost use Rattle.std.specs.Prelude.{◌≡◌, ℕ, ◌+◌, ◌*◌, ◌<◌, ◌≤◌, ◌&&◌, ◌||◌, ◌==◌, Bool, true, IfNone, IfSome, List, length, map, nat_lt, slice_index};
-ghost use Rattle.fields_core.specs.Common.{AreAround, AreIdleBut, ArePlanesOf, AreRunsOf, AreSafeInColumns, AreTables, AreVisited, AreWhitesIdleBut, CountHouse, IsAlive, IsClash, count_below, has, has_bit, line_len, lines_beside, lit_house, lits_of_row, number_house, number_of, numbers_of_row, run_houses, run_lines};
+ghost use Rattle.fields_core.specs.Common.{AreAround, AreIdleBut, AreMetInColumns, ArePlanesOf, AreRunsOf, AreSafeInColumns, AreTables, AreVisited, AreWhitesIdleBut, CountHouse, IsAlive, IsClash, count_below, has, has_bit, line_len, lines_beside, lit_house, lits_of_row, number_house, number_of, numbers_of_row, run_houses, run_lines};
 
 use crate::light_up::cells::columns;
 use crate::planes::lights::tables::LightTables;
@@ -238,6 +238,27 @@ impl<W: Word> LightTables<W> {
             }
         }
         true
+    }
+
+    /// Those of some white cells of a row in whose column run a cell must have a bulb.
+    pub(crate) fn met(&self, planes: &Planes<W>, puzzle: &LightPuzzle, y: u8, some: W) -> W
+        requires planes { ArePlanesOf W.room puzzle.now planes.now }
+        requires tables { AreTables W.bits puzzle.now self.now }
+        requires y_in { y < puzzle.now.size.h }
+        requires some_in { (x : ℕ) → has_bit (W.bits some) x ≡ true → x < puzzle.now.size.w }
+        ensures { AreMetInColumns puzzle.now y (W.bits result) (has planes.now) }
+    {
+        let w = columns(puzzle);
+        let (mut left, mut met) = (some, W::none());
+        while left.is_some() {
+            let x = left.lowest();
+            left = left.without_lowest();
+            let run = self.column_runs[usize::from(y) * w + x];
+            if run.but(planes.column(x as u8, 0)).is_some() {
+                met = met.either(W::one(x));
+            }
+        }
+        met
     }
 
     /// Writes for each of these rows those white cells of it for which two cells of their column run, none of them above, can

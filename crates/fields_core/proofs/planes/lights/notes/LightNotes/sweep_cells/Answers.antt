@@ -1,15 +1,15 @@
-use Rattle.fields_core.proofs.Common.{and_parts, arith, cases_Bool, has_bit, houses_below, inl, inr, light_cells, lit_house, lt-ltb, ltb-true, map, not, or_cases, or_parts, refl, slice_index, sym, true, true≢false, false, white, Bool, common_steps, ◌&&◌, ◌*◌, ◌+◌, ◌<◌, ◌∙◌, ◌≡◌, ◌≤◌, ℕ}
+use Rattle.fields_core.proofs.Common.{CountHouse, List, and_parts, arith, cases_Bool, has_bit, joined_in_column, houses_below, inl, inr, light_cells, lit_house, lt-ltb, ltb-true, map, not, or_cases, or_parts, refl, slice_index, sym, true, true≢false, false, white, Bool, common_steps, ◌&&◌, ◌*◌, ◌+◌, ◌<◌, ◌∙◌, ◌≡◌, ◌≤◌, ℕ}
 use Rattle.grid_core.specs.Planes.{has}
 use Rattle.grid_core.proofs.PlaneLemmas.{place-in}
-use Rattle.fields_core.specs.LightWaits.{AreSafeInColumns, lits_of_row}
+use Rattle.fields_core.specs.LightPlanes.{ArePlanesOf}
+use Rattle.fields_core.specs.LightWaits.{HasBulb, lits_of_row}
 use Rattle.fields_core.specs.Trees.{IsRowOf}
 use Rattle.fields_core.specs.Visits.{AreVisited}
 use Rattle.fields_core.specs.Waits.{AreIdle}
 use Rattle.fields_core.proofs.IdleLemmas.{visited-skip}
 use Rattle.fields_core.proofs.LightCounting.{light-board}
-use Rattle.fields_core.proofs.LightNotes.{joined-down, safe-moved}
+use Rattle.fields_core.proofs.LightNotes.{IsPassed, bulb-safe, joined-down, passed-later, passed-moved, passed-white}
 use Rattle.fields_core.proofs.LightReach.{away-from}
-use Rattle.fields_core.proofs.RunBegins.{column-white-start}
 use Rattle.fields_core.proofs.LightSweeps.{lits-are, lits-done, lits-stay, out-idle, planes-next, ready-next, row-stays}
 use Rattle.fields_core.proofs.LitRuns.{black-idle, column-safe, planes-full}
 use Rattle.fields_core.proofs.TreeWords.{row-read, rows-read}
@@ -24,9 +24,17 @@ module _ (g : _) (c : After-whites-some g) where
   pub whites : IsRowOf c.args.puzzle.now.size.w (white c.args.puzzle.now) c.loop-y.y (g.W.Word.bits c.index-whites.result.now)
   whites = rows-read g.W.Word.bits c.args.self.now.tables.rows.items c.loop-y.y y-in c.requires.ready.tables.rows c.index-whites.ensures
 
+  -- the cells that are looked at are of the row
+  pub some-in : (x : ℕ) → has_bit (g.W.Word.bits c.whites-some.result) x ≡ true → x < c.args.puzzle.now.size.w
+  some-in x on =
+      let left = and_parts _ _ (sym (c.whites-some.ensures x) ∙ on) in
+      let own = and_parts _ _ (sym (c.but.ensures x) ∙ left.0) in
+      ltb-true x _ (and_parts _ _ (sym (whites x) ∙ own.0)).0
+
   -- the cells of the row that are passed
-  pub safe : AreSafeInColumns c.args.puzzle.now c.loop-y.y (g.W.Word.bits c.either-above.result) (has c.args.planes.now)
-  safe x on =
+  pub passed : (x : ℕ) → has_bit (g.W.Word.bits c.either-above.result) x ≡ true
+      → IsPassed c.args.puzzle.now (c.loop-y.y * c.args.puzzle.now.size.w + x) (has c.args.planes.now) (has c.loop-y.planes)
+  passed x on =
       let p = c.args.puzzle.now in
       let bits = g.W.Word.bits in
       let words = c.write_safe.new.safe.items in
@@ -35,30 +43,47 @@ module _ (g : _) (c : After-whites-some g) where
         | inl below ↦
             let read : slice_index (map bits words) c.loop-y.y ≡ bits c.index.result.now = row-read bits words c.loop-y.y c.index.result.now
             (omega (arith, y-in, of.low, c.requires.ready.safe_long, c.write_safe.ensures.long)) c.index.ensures in
-            c.write_safe.ensures.safe c.loop-y.y c.loop-y.invariant.first c.loop-y-test.true x (rw read below)
+            inl (c.write_safe.ensures.safe c.loop-y.y c.loop-y.invariant.first c.loop-y-test.true x (rw read below))
         | inr both ↦
             let w = and_parts _ _ (sym (c.both.ensures x) ∙ both) in
             let own = and_parts _ _ (sym (whites x) ∙ w.1) in
             let v = c.loop-y.invariant.above x w.0 in
             let at : c.loop-y.y * p.size.w + x ≡ v.0 * p.size.w + x + p.size.w = rw (sym v.1) (omega arith) in
             let is_white : white p (c.loop-y.y * p.size.w + x) ≡ true = own.1 in
-            rw at (safe-moved (joined-down p (v.0 * p.size.w + x) (light-board of.lawful).some (column-white-start p (v.0 * p.size.w + x) v.2.one v.2.one_in) (rw at at is_white)) v.2)
+            rw at (passed-moved p _ _ (has c.args.planes.now) (has c.loop-y.planes) (joined-down p (v.0 * p.size.w + x) (light-board of.lawful).some (passed-white p _ (has c.args.planes.now) (has c.loop-y.planes) v.2) (rw at at is_white)) v.2)
       ]
 
+  abbrev house : ℕ → List CountHouse
+  house x = lit_house c.args.puzzle.now (c.loop-y.y * c.args.puzzle.now.size.w + x)
+
+  pub of-now : ArePlanesOf g.W.Word.room c.args.puzzle.now c.loop-y.planes
+  of-now = planes-next c.requires.ready.planes_of c.loop-y.invariant.visited.further c.loop-y.invariant.visited.alive
+
+  -- a cell in whose column run a cell must have a bulb
+  pub met-idle : (x : ℕ) → HasBulb c.args.puzzle.now (joined_in_column c.args.puzzle.now (c.loop-y.y * c.args.puzzle.now.size.w + x)) (has c.loop-y.planes) → AreIdle (house x) (has c.loop-y.planes)
+  met-idle x bulb =
+      let full = planes-full c.args.puzzle.now c.loop-y.planes of-now.size of-now.alive in
+      column-safe c.args.puzzle.now _ of-now.lawful full (bulb-safe c.args.puzzle.now full bulb)
+
+  stays : (x : ℕ) → x < c.args.puzzle.now.size.w → AreIdle (house x) (has c.args.planes.now) → AreIdle (house x) (has c.loop-y.planes)
+  stays x lt still = lits-stay c.args.puzzle.now c.loop-y.y x c.requires.ready.planes_of (omega (arith, y-in)) y-in lt c.loop-y.invariant.visited still
+
   -- a cell of the row that is not looked at
-  pub idle : (x : ℕ) → x < c.args.puzzle.now.size.w → has_bit (g.W.Word.bits c.whites-some.result) x ≡ false
-      → AreIdle (lit_house c.args.puzzle.now (c.loop-y.y * c.args.puzzle.now.size.w + x)) (has c.args.planes.now)
+  pub idle : (x : ℕ) → x < c.args.puzzle.now.size.w → has_bit (g.W.Word.bits c.whites-some.result) x ≡ false → AreIdle (house x) (has c.loop-y.planes)
   idle x lt off = elim (cases_Bool (has_bit (g.W.Word.bits c.but.result) x)) [
     | inl left ↦
         let p = c.args.puzzle.now in
         let lines = or_parts _ _ (apart left (sym (c.whites-some.ensures x) ∙ off)) in
-        c.requires.ready.rested.whites (c.loop-y.y * p.size.w + x) (place-in p.size.w p.size.h c.loop-y.y x y-in lt)
-        (away-from g.W.Word.bits p _ c.requires.ready.planes_of.lawful c.loop-y.y x y-in lt (λ on. true≢false (sym on ∙ lines.0)) (λ k k_in on column joined. true≢false (sym column ∙ lines.1)))
+        stays x lt (c.requires.ready.rested.whites (c.loop-y.y * p.size.w + x) (place-in p.size.w p.size.h c.loop-y.y x y-in lt)
+        (away-from g.W.Word.bits p _ c.requires.ready.planes_of.lawful c.loop-y.y x y-in lt (λ on. true≢false (sym on ∙ lines.0)) (λ k k_in on column joined. true≢false (sym column ∙ lines.1))))
     | inr gone ↦ elim (cases_Bool (has_bit (g.W.Word.bits c.either-above.result) x)) [
-      | inl passed ↦
-          let of = c.requires.ready.planes_of in
-          column-safe c.args.puzzle.now _ of.lawful (planes-full c.args.puzzle.now c.args.planes.now of.size of.alive) (safe x passed)
-      | inr out ↦ black-idle c.args.puzzle.now _ (has c.args.planes.now) (sym (whites x ∙ rw (lt-ltb x c.args.puzzle.now.size.w lt) refl)
+      | inl on ↦ elim (passed x on) [
+        | inl safe ↦
+            let of = c.requires.ready.planes_of in
+            stays x lt (column-safe c.args.puzzle.now _ of.lawful (planes-full c.args.puzzle.now c.args.planes.now of.size of.alive) safe)
+        | inr bulb ↦ met-idle x bulb
+      ]
+      | inr out ↦ black-idle c.args.puzzle.now _ (has c.loop-y.planes) (sym (whites x ∙ rw (lt-ltb x c.args.puzzle.now.size.w lt) refl)
           ∙ none (has_bit (g.W.Word.bits c.index-whites.result.now) x) (sym (c.but.ensures x ∙ rw out refl) ∙ gone))
     ]
   ]
@@ -77,26 +102,38 @@ loop-y-init g c = record {
   above = λ x on. absurd (true≢false (sym on ∙ c.none-above.ensures x));
 }
 
+pub met-met-requires-clause-planes : goal.met-met-requires-clause-planes
+met-met-requires-clause-planes g c = of-now g (goal.at.met-met-requires-clause-planes g c).After-whites-some
+
+pub met-met-requires-clause-some_in : goal.met-met-requires-clause-some_in
+met-met-requires-clause-some_in g c = some-in g (goal.at.met-met-requires-clause-some_in g c).After-whites-some
+
 pub visit_lits-requires-clause-planes : goal.visit_lits-requires-clause-planes
-visit_lits-requires-clause-planes g c = planes-next c.requires.ready.planes_of c.loop-y.invariant.visited.further c.loop-y.invariant.visited.alive
+visit_lits-requires-clause-planes g c = of-now g (goal.at.visit_lits-requires-clause-planes g c).After-whites-some
 
 pub visit_lits-requires-clause-some_in : goal.visit_lits-requires-clause-some_in
 visit_lits-requires-clause-some_in g c = λ x on.
-    let left = and_parts _ _ (sym (c.whites-some.ensures x) ∙ on) in
-    let own = and_parts _ _ (sym (c.but.ensures x) ∙ left.0) in
-    ltb-true x _ (and_parts _ _ (sym (whites g (goal.at.visit_lits-requires-clause-some_in g c).After-whites-some x) ∙ own.0)).0
+    some-in g (goal.at.visit_lits-requires-clause-some_in g c).After-whites-some x (and_parts _ _ (sym (c.but-in-loop-y.ensures x) ∙ on)).0
 
 pub visit_lits-requires-clause-others : goal.visit_lits-requires-clause-others
 visit_lits-requires-clause-others g c = λ x lt off.
     let h = (goal.at.visit_lits-requires-clause-others g c).After-whites-some in
-    let y_in = y-in g h in
-    lits-stay c.args.puzzle.now c.loop-y.y x c.requires.ready.planes_of (omega (arith, y_in)) y_in lt c.loop-y.invariant.visited (idle g h x lt off)
+    elim (cases_Bool (has_bit (g.W.Word.bits c.met-met.result) x)) [
+      | inl met ↦ met-idle g h x (c.met-met.ensures x met)
+      | inr out ↦ idle g h x lt (unmet out (sym (c.but-in-loop-y.ensures x) ∙ off))
+    ]
+      where
+        unmet : {a b : Bool} → b ≡ false → (a && not b) ≡ false → a ≡ false
+        unmet {a} {b} out e = grind (arith, common_steps, cases_Bool a, cases_Bool b)
 
 pub loop-y-preserved : goal.loop-y-preserved
 loop-y-preserved g c = record {
   first = omega (arith, c.loop-y.invariant.first);
   visited = sweep-more (lits_of_row c.args.puzzle.now) c.loop-y.invariant.visited c.visit_lits.ensures c.if-not-visit_lits.false;
-  above = λ x on. (c.loop-y.y, refl, safe g (goal.at.loop-y-preserved g c).After-whites-some x on);
+  above = λ x on. (c.loop-y.y, refl, passed-later c.args.puzzle.now _ (has c.args.planes.now) (has c.loop-y.planes) _ c.visit_lits.ensures.further.inside (elim (or_cases _ _ (sym (c.either-above-in-loop-y.ensures x) ∙ on)) [
+    | inl before ↦ passed g (goal.at.loop-y-preserved g c).After-whites-some x before
+    | inr met ↦ inr (c.met-met.ensures x met)
+  ]));
 }
 
 pub returns-then-not-visit_lits-clause-visited : goal.returns-then-not-visit_lits-clause-visited
