@@ -60,10 +60,10 @@ pub use Rattle.engine_core.specs.HouseRulesLaws.{bound_enough, by_houses-lawful,
 pub use Rattle.engine_core.specs.HouseSets.{AreDifferent, Decision}
 unfoldable pub use Rattle.engine_core.specs.HouseSets.{kept_in, strikes_at}
 pub use Rattle.engine_core.specs.HouseSetsLaws.{bits-of_values, sets-bits, strikes_at-in_scope, strikes_at-place}
-pub use Rattle.engine_core.specs.Keeping.{AreSetsOf, IsKept}
+pub use Rattle.engine_core.specs.Keeping.{AreSetsOf, IsKept, StillServes}
 pub use Rattle.engine_core.specs.PlaceLaws.{AreDistinct, distinct-from, has_place-at, has_place-here}
-pub use Rattle.engine_core.specs.Position.{IsOnward, IsReturned, IsTaken, Room, Standing}
-pub use Rattle.engine_core.specs.Queue.{IsAround, IsClosedAround, IsClosedBut, IsRested, IsWoken, called_for, calls, is_dead_in}
+pub use Rattle.engine_core.specs.Position.{IsClosedAround, IsClosedBut, IsOnward, IsReturned, IsTaken, Room, Standing}
+pub use Rattle.engine_core.specs.Queue.{IsAround, IsRested, IsWoken, called_for, calls, is_dead_in}
 unfoldable pub use Rattle.engine_core.specs.Queue.{but, counts_of, visits_left, woken}
 pub use Rattle.engine_core.specs.RuleSystem.{IsBoardOf, IsClosed, IsClosedGrid, IsGridOf, IsIdle, IsInsideAt, IsLawful, IsNext, Needs, RuleSystem}
 unfoldable pub use Rattle.engine_core.specs.RuleSystem.{after, has_place, longest, share}
@@ -71,7 +71,7 @@ pub use Rattle.engine_core.specs.Search.{Level}
 unfoldable pub use Rattle.engine_core.specs.Search.{branches_from, pending}
 pub use Rattle.engine_core.specs.Sets.{IsBitsOf, IsChange, has_bit}
 pub use Rattle.engine_core.specs.Stored.{is_settled}
-pub use Rattle.engine_core.specs.Trail.{AreLost, IsBack, IsFurther, IsTrail, StillServes, Trail, back_at, change_at, given_back, is_since}
+pub use Rattle.engine_core.specs.Trail.{AreLost, IsBack, IsFurther, IsTrail, Trail, back_at, change_at, given_back, is_since}
 unfoldable pub use Rattle.engine_core.specs.Trail.{left_by, put_back}
 pub use Rattle.engine_core.specs.TrailPosition.{GoesOn, IsAlong, Placed, board_in}
 unfoldable pub use Rattle.engine_core.specs.Trials.{trials_of}

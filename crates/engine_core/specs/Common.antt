@@ -16,19 +16,19 @@ pub use Rattle.engine_core.specs.Frames.{AreGrids, AreLong, AreReady, IsFull, Is
 unfoldable pub use Rattle.engine_core.specs.Frames.{singles}
 pub use Rattle.engine_core.specs.HouseSets.{AreBelow, AreDifferent}
 unfoldable pub use Rattle.engine_core.specs.HouseSets.{kept_in, sets_at}
-pub use Rattle.engine_core.specs.Keeping.{AreSets, AreSetsOf, HasRoom, IsFiltered, IsKept}
+pub use Rattle.engine_core.specs.Keeping.{AreSets, AreSetsOf, HasRoom, IsFiltered, IsKept, StillServes}
 pub use Rattle.engine_core.specs.ListedHouses.{AreScopesOf, most_turns, table_of}
 pub use Rattle.engine_core.specs.Mode.{is_queue}
 pub use Rattle.engine_core.specs.Needs.{needs_in}
-pub use Rattle.engine_core.specs.Position.{IsOnward, IsReturned, IsTaken, Room, Standing}
-pub use Rattle.engine_core.specs.Queue.{IsAround, IsClosedBut, IsRested, IsWoken, called_for, is_dead_in}
+pub use Rattle.engine_core.specs.Position.{IsClosedBut, IsOnward, IsReturned, IsTaken, Room, Standing}
+pub use Rattle.engine_core.specs.Queue.{IsAround, IsRested, IsWoken, called_for, is_dead_in}
 unfoldable pub use Rattle.engine_core.specs.Queue.{but}
 pub use Rattle.engine_core.specs.RuleSystem.{FitsIn, IsBoardOf, IsClosed, IsClosedGrid, IsGridOf, IsIdle, IsLawful, IsNext, Needs, RuleSystem, needs_of}
 unfoldable pub use Rattle.engine_core.specs.RuleSystem.{after, has_place, longest, share}
 pub use Rattle.engine_core.specs.Sets.{IsBitsOf, has_bit}
 unfoldable pub use Rattle.engine_core.specs.Sets.{set_of_bits}
 pub use Rattle.engine_core.specs.Stored.{IsAnswer, IsUnsearched, Stored, is_settled, sizes_of}
-pub use Rattle.engine_core.specs.Trail.{IsBack, IsFurther, IsStruck, IsTrail, StillServes, Trail, back_at, change_at, is_since}
+pub use Rattle.engine_core.specs.Trail.{IsBack, IsFurther, IsStruck, IsTrail, Trail, back_at, change_at, is_since}
 unfoldable pub use Rattle.engine_core.specs.Trail.{left_by}
 pub use Rattle.engine_core.specs.TrailPosition.{AreRested, GoesOn, IsAlong, IsPlaced, IsStep, IsUnderWay, Placed, board_in, standing_of}
 pub use Rattle.engine_core.specs.Verdict.{IsTrueOf, Solves, says_counts, spent_of, tried_of, verdict_of}

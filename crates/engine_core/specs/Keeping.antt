@@ -1,7 +1,7 @@
--- What a visit keeps of the sets of a house's cells, as bits.
+-- What a visit keeps of the sets of a house's cells, as bits, and of the scratch that it works in.
 use Rattle.std.specs.Prelude.{◌≡◌, ℕ, ◌<◌, ◌≤◌, Bool, true, false, not, List, length, slice_index, take}
 use Rattle.grid_core.specs.Candidates.{Candidates}
-use Rattle.engine_core.specs.RuleSystem.{RuleSystem}
+use Rattle.engine_core.specs.RuleSystem.{Needs, RuleSystem}
 use Rattle.engine_core.specs.Sets.{has_bit, IsBitsOf}
 
 -- the bits of each are those of the set of the house's cell at its number
@@ -36,3 +36,7 @@ pub record IsFiltered (p : RuleSystem) (h : ℕ) (K : Candidates) (may_strike : 
   pub kept_long : HasRoom p h kept
   pub sets_are : AreSetsOf p h K (take (length (p.scope h)) sets)
   pub kept_are : IsKept p h K may_strike (take (length (p.scope h)) kept)
+
+-- what serves each need that the first served
+abbrev pub StillServes : {S : Type 0} → (S → Needs → Type 0) → S → S → Type 0
+StillServes serves from to = (needs : Needs) → serves from needs → serves to needs

@@ -1,7 +1,7 @@
 -- What a walk sees of a position: its board, and the boards that it can be taken back to.
-use Rattle.std.specs.Prelude.{◌≡◌, ℕ, ◌≤◌}
-use Rattle.grid_core.specs.Candidates.{Candidates, IsInside}
-use Rattle.engine_core.specs.RuleSystem.{Needs, RuleSystem}
+use Rattle.std.specs.Prelude.{◌≡◌, ℕ, ◌≤◌, Option, Some, None, false, true}
+use Rattle.grid_core.specs.Candidates.{Candidates, IsInside, IsWithin, is_dead, only}
+use Rattle.engine_core.specs.RuleSystem.{IsClosed, Needs, RuleSystem}
 use Rattle.engine_core.specs.Closing.{closure}
 use Rattle.engine_core.specs.ClosingList.{IsDead, IsAlive}
 use Rattle.engine_core.specs.declared.mode.Closing.{Closing}
@@ -29,6 +29,21 @@ pub record IsReturned (from to : Standing) (mark : ℕ) : Type 0 where
   pub here : to.board ≡ from.back mark
   pub len : to.len ≡ mark
   pub back : (earlier : ℕ) → earlier ≤ mark → to.back earlier ≡ from.back earlier
+
+-- before the cell of the place lost all values but one, the board was closed, and each cell had a value
+pub record IsClosedAround (p : RuleSystem) (K : Candidates) (place : ℕ) : Type 0 where
+  pub before : Candidates
+  pub value : ℕ
+  pub had : before place value ≡ true
+  pub within : IsWithin p.cells p.values before
+  pub closed : IsClosed p before
+  pub alive : is_dead p.cells p.values before ≡ false
+  pub is : K ≡ only before place value
+
+-- where a place is named, the board was closed before its cell lost values; else a search starts from it
+abbrev pub IsClosedBut : RuleSystem → Candidates → Option ℕ → Type 0
+IsClosedBut p K None = K ≡ p.start
+IsClosedBut p K (Some place) = IsClosedAround p K place
 
 -- a closing of the board K left the board E: its closure, with a value in each cell, or else the closure is dead
 pub record IsTaken (p : RuleSystem) (K E : Candidates) (answer : Closing) : Type 0 where

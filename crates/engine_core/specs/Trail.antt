@@ -2,7 +2,7 @@
 use Rattle.std.specs.Prelude.{◌≡◌, ◌≢◌, ℕ, Bool, zero, suc, ◌+◌, ◌*◌, ◌^◌, ◌<◌, ◌≤◌, ◌==◌, ◌&&◌, not, nat_le, List, slice_index, length, slice_index_or, if◌then◌else◌}
 use Rattle.grid_core.specs.Board.{Layout, has, SameShape}
 use Rattle.grid_core.specs.Candidates.{Candidates, IsInside, any_below, total, with_set}
-use Rattle.engine_core.specs.RuleSystem.{RuleSystem, Needs, after, has_place}
+use Rattle.engine_core.specs.RuleSystem.{RuleSystem, after, has_place}
 use Rattle.engine_core.specs.ClosingList.{IsAlive}
 use Rattle.engine_core.specs.Queue.{counts_of}
 use Rattle.engine_core.specs.Sets.{has_bit}
@@ -79,7 +79,3 @@ pub record IsStruck (p : RuleSystem) (h : ℕ) (from to : Trail) : Type 0 where
   pub left : has to.board ≡ after p h (has from.board)
   pub alive : IsAlive p (has to.board)
   pub lost : AreLost p h (length (p.scope h)) from to
-
--- what serves each need that the first served
-abbrev pub StillServes : {S : Type 0} → (S → Needs → Type 0) → S → S → Type 0
-StillServes serves from to = (needs : Needs) → serves from needs → serves to needs

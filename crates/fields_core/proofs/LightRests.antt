@@ -7,7 +7,7 @@ use Rattle.grid_core.proofs.CandidateLemmas.{is_dead-not}
 use Rattle.grid_core.proofs.GridLemmas.{only-inside, only-other}
 use Rattle.grid_core.proofs.PlaneLemmas.{place-in}
 use Rattle.grid_core.proofs.TakingLemmas.{put_back-none}
-use Rattle.engine_core.specs.Queue.{IsClosedAround}
+use Rattle.engine_core.specs.Position.{IsClosedAround}
 use Rattle.engine_core.specs.RuleSystem.{IsClosed}
 use Rattle.fields_core.specs.Light.{solves_lights}
 use Rattle.fields_core.specs.LightHouses.{row_house, column_house}

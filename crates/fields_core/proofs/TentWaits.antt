@@ -10,7 +10,7 @@ use Rattle.grid_core.proofs.CandidateLemmas.{is_dead-not}
 use Rattle.grid_core.proofs.GridLemmas.{only-inside, only-other}
 use Rattle.grid_core.proofs.PlaneLemmas.{place-in}
 use Rattle.grid_core.proofs.TakingLemmas.{put_back-none}
-use Rattle.engine_core.specs.Queue.{IsClosedAround, IsClosedBut}
+use Rattle.engine_core.specs.Position.{IsClosedAround, IsClosedBut}
 use Rattle.engine_core.specs.RuleSystem.{IsClosed}
 use Rattle.engine_core.proofs.QueueLemmas.{alive_around}
 use Rattle.gameid_core.specs.Puzzles.{Tents, IsTents}

@@ -6,7 +6,7 @@ use Rattle.grid_core.specs.Extent.{Extent}
 use Rattle.grid_core.specs.Planes.{Layers, cells_of, has}
 use Rattle.engine_core.specs.RuleSystem.{RuleSystem, Needs}
 use Rattle.engine_core.specs.ClosingList.{IsAlive}
-use Rattle.engine_core.specs.Trail.{StillServes}
+use Rattle.engine_core.specs.Keeping.{StillServes}
 use Rattle.fields_core.specs.declared.planes.any.AnyPlanes.{AnyPlanes}
 use Rattle.fields_core.specs.declared.planes.any.AnyPlanes.TheVariants.{Short, Long}
 

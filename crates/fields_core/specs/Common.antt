@@ -15,11 +15,10 @@ pub use Rattle.gameid_core.specs.declared.light_up.cell.LightCell.TheVariants.{B
 pub use Rattle.engine_core.specs.Closing.{HasStruck}
 pub use Rattle.engine_core.specs.Counts.{IsClosedIn}
 pub use Rattle.engine_core.specs.Needs.{needs_in}
-pub use Rattle.engine_core.specs.Position.{IsTaken}
-pub use Rattle.engine_core.specs.Queue.{IsClosedBut}
+pub use Rattle.engine_core.specs.Position.{IsClosedBut, IsTaken}
 pub use Rattle.engine_core.specs.RuleSystem.{FitsIn, IsGridOf, IsLawful, IsNext, Needs, needs_of}
 unfoldable pub use Rattle.engine_core.specs.RuleSystem.{has_place, longest}
-pub use Rattle.engine_core.specs.Trail.{StillServes}
+pub use Rattle.engine_core.specs.Keeping.{StillServes}
 pub use Rattle.engine_core.specs.declared.mode.Mode.TheVariants.{Sweep}
 pub use Rattle.fields_core.specs.AnyPlanes.{AreKept, HasBoard, IsSuited, kept_in, layers_in, of_either}
 pub use Rattle.fields_core.specs.CountHouse.{AreMet, CountHouse, CountPuzzle, IsCounted, IsHouse, count_house_of, exactly, one_at_least, one_at_most}

@@ -9,7 +9,8 @@ use Rattle.grid_core.specs.declared.planes.line.Line.TheVariants.{Row, Column}
 use Rattle.grid_core.proofs.PlaneLemmas.{place-in}
 use Rattle.grid_core.proofs.CandidateLemmas.{count_below-pos, is_dead-each}
 use Rattle.engine_core.specs.ClosingList.{IsAlive}
-use Rattle.engine_core.specs.Queue.{IsClosedBut, IsWoken, calls}
+use Rattle.engine_core.specs.Position.{IsClosedBut}
+use Rattle.engine_core.specs.Queue.{IsWoken, calls}
 unfoldable use Rattle.engine_core.specs.Queue.{but, counts_of, woken}
 use Rattle.engine_core.proofs.QueueLemmas.{alive_but}
 use Rattle.pattern_core.proofs.Fresh.{has_both}

@@ -5,7 +5,7 @@ use Rattle.grid_core.specs.Planes.{lines_beside, number_of}
 use Rattle.grid_core.specs.Extent.{IsExtent}
 use Rattle.grid_core.specs.declared.planes.line.Line.{Line}
 use Rattle.grid_core.specs.declared.planes.line.Line.TheVariants.{Row, Column}
-use Rattle.engine_core.specs.Queue.{IsClosedBut}
+use Rattle.engine_core.specs.Position.{IsClosedBut}
 use Rattle.engine_core.proofs.QueueLemmas.{rested_around}
 use Rattle.pattern_core.proofs.NextLine.{its_lines}
 use Rattle.pattern_core.specs.LinePlanes.{AreRested, IsStart, house_of, is_marked, is_same, line_of}

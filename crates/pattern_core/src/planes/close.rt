@@ -3,8 +3,7 @@
 ghost use Rattle.std.specs.Prelude.{◌&&◌, ◌<◌, ◌||◌, ◌≡◌, ◌≤◌};
 ghost use Rattle.grid_core.specs.Planes.{IsFurther, has, lines_beside, number_of};
 ghost use Rattle.engine_core.specs.Counts.{IsClosedIn};
-ghost use Rattle.engine_core.specs.Position.{IsTaken};
-ghost use Rattle.engine_core.specs.Queue.{IsClosedBut};
+ghost use Rattle.engine_core.specs.Position.{IsClosedBut, IsTaken};
 ghost use Rattle.pattern_core.specs.LinePlanes.{AreLinesOf, AreRested, HasRoom, IsStart, is_marked, is_same};
 ghost use Rattle.pattern_core.specs.LineRules.{line_rules};
 
