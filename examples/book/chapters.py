@@ -1,0 +1,135 @@
+"""The chapters of a book: what they ask for, and the puzzles that seeds make for them."""
+import argparse
+import concurrent.futures
+import dataclasses
+import itertools
+import os
+
+from lib.reader import GAMES, Refused, empty, read
+from lib.work import Fault
+from lib.writer import grid, written
+from symmetric import thinned
+
+SEEDS_FOR_ONE = 1000  # that are tried for each puzzle, at most
+AT_ONCE = 16
+MOST_TRIALS = 20  # of a hard puzzle
+RULE_SETS = {"solo": ("singles", "houses", "crossings"), "pattern": ("lines",), "lightup": ("local",), "tents": ("local",)}
+# Visits for each line, or sweeps, up to which a puzzle of one rule set is easy; in between none is taken, so that levels differ.
+EASY = {"pattern": 2.0, "lightup": 3, "tents": 3}
+MEDIUM = {"pattern": 2.5, "lightup": 5, "tents": 5}
+LEVELS = ("easy", "medium", "hard", "any")
+
+
+@dataclasses.dataclass(frozen=True)
+class Chapter:
+    game: str
+    size: str
+    level: str
+    count: int
+
+    def budget(self):
+        """Trials for a test whether a clue may go: without any the puzzle needs none either."""
+        return 0 if self.level in ("easy", "medium") else MOST_TRIALS
+
+    def takes(self, grade, effort):
+        """Whether a puzzle of this grade is of the chapter's level."""
+        word, _, trials = grade.partition(" ")
+        if word == "search":
+            return self.level == "any" or self.level == "hard" and 1 < int(trials) <= MOST_TRIALS
+        if word not in RULE_SETS[self.game] or self.level in ("hard", "any"):
+            return word in RULE_SETS[self.game] and self.level == "any"
+        is_easy = word == "singles" if self.game == "solo" else effort <= EASY[self.game]
+        is_medium = word != "singles" if self.game == "solo" else effort >= MEDIUM[self.game]
+        return is_easy if self.level == "easy" else is_medium
+
+
+@dataclasses.dataclass(frozen=True)
+class Made:
+    seed: int
+    id: str
+    answer: list
+    grade: str
+    effort: float
+
+    def puzzle(self, game):
+        """The puzzle, and the signs of its solution."""
+        puzzle = read(game, self.id)
+        return puzzle, grid(puzzle, self.answer)
+
+
+def chapter(word):
+    """GAME:SIZE:LEVEL:COUNT, as a word of the command line."""
+    game, size, level, count, *more = [*word.split(":"), "", "", "", ""][:max(4, word.count(":") + 1)]
+    if game not in GAMES or level not in LEVELS or not count.isdecimal() or not count.isascii() or not 1 <= int(count[:5]) <= 5000 or more:
+        raise argparse.ArgumentTypeError(f"{word} isn't GAME:SIZE:LEVEL:COUNT as solo:3x3:easy:20. The games are {', '.join(GAMES)}, the "
+                                         f"levels {', '.join(LEVELS)}, and a chapter has at most 5000 puzzles")
+    try:
+        puzzle = empty(game, size)
+    except Refused as fault:
+        raise argparse.ArgumentTypeError(f"{word}: the size {size} is refused: {fault}") from None
+    if game == "tents" and min(puzzle.width, puzzle.height) < 4:
+        raise argparse.ArgumentTypeError(f"{word}: Tents are made of 4x4 at least")
+    return Chapter(game, puzzle.size, level, int(count))
+
+
+class Maker:
+    """Makes puzzles of seeds. The journal keeps what was made."""
+
+    def __init__(self, program, is_symmetric, journal):
+        self.program, self.is_symmetric, self.journal = program, is_symmetric, journal
+
+    def make(self, asked, seed):
+        """The puzzle that a seed gives to a chapter; None if it gives none."""
+        key = f"{asked.game} {asked.size} {asked.budget()} {seed}"
+        if key not in self.journal:
+            self.journal.keep(key, self.made(asked, seed))
+        found = self.journal.get(key)
+        return found and Made(seed, *found)
+
+    def made(self, asked, seed):
+        budget, ask = f"--budget={asked.budget()}", self.program.ask
+        lines = ask("generate", budget, f"--seed={seed}", "--", asked.game, asked.size)
+        if lines[0] == "exhausted":
+            return None
+        if lines[0].startswith("refused"):
+            raise Fault(f"no puzzle of {asked.game} {asked.size}: {lines[0]}")
+        text, *answer = lines
+        if asked.game == "solo" and self.is_symmetric:
+            text = written(thinned(self.program, read("solo", text), answer, seed, budget))
+        grade, *trace = ask("grade", "--trace", "--", asked.game, text)
+        return text, answer, grade, effort(asked.game, read(asked.game, text), trace)
+
+
+def effort(game, puzzle, trace):
+    """How long deduction is: visits for each line of Solo and Pattern, sweeps of the others."""
+    if game in ("solo", "pattern"):
+        return round(len(trace) / (puzzle.width + puzzle.height), 2)
+    return int(trace[0].split()[1]) if trace else 0
+
+
+def fill(maker, chapters, first, bar):
+    """The puzzles of each chapter, by ascending seeds. Chapters take turns at the seeds, so no grid is there twice."""
+    found, done, most = [], 0, sum(asked.count for asked in chapters)
+    with concurrent.futures.ThreadPoolExecutor(os.cpu_count()) as pool:
+        try:
+            for number, asked in enumerate(chapters):
+                taken, seeds = [], itertools.count(first + number, len(chapters))
+                for tried in range(0, SEEDS_FOR_ONE * asked.count, AT_ONCE):
+                    some = [*itertools.islice(seeds, AT_ONCE)]
+                    made = pool.map(maker.make, itertools.repeat(asked), some)
+                    taken += [one for one in made if one and asked.takes(one.grade, one.effort)]
+                    bar.tell(min(done + len(taken), most), f", seed {some[-1]}")
+                    if len(taken) >= asked.count:
+                        break
+                else:
+                    raise Fault(f"only {len(taken)} of {tried + AT_ONCE} seeds make a {asked.level} puzzle of {asked.game} {asked.size}: "
+                                "ask for fewer, for another level or for a larger size")
+                found.append(taken[:asked.count])
+                done += asked.count
+        except BaseException:
+            maker.program.stop()
+            pool.shutdown(cancel_futures=True)
+            raise
+        finally:
+            bar.end()
+    return found
