@@ -1,6 +1,7 @@
 """Cases of outside/examples.py: books of puzzles, looked at by poppler's programs."""
 import csv
 import html
+import math
 import re
 import time
 
@@ -88,7 +89,9 @@ def solutions(bench):
         found = [word for word in words_of(bench, path, last) if word[0].isdigit()]
         label, foot = found.pop(0), found.pop()
         expect(label[0] == "1" and foot[0] == str(last), f"{label} {foot}")
-        found.sort(key=lambda word: (round((word[2] + word[4]) / 2), word[1]))
+        middles = [word[2] + word[4] for word in found]
+        pitch = (max(middles) - min(middles)) / (math.isqrt(len(found)) - 1)
+        found.sort(key=lambda word: (round((word[2] + word[4] - min(middles)) / pitch), word[1]))
         answer = bench.good([bench.program, "solve", "--", "solo", rows[0]["id"]]).split()[1:]
         expect("".join(word[0] for word in found) == "".join(answer), f"{size}: the grid is another one: {found[:20]}")
         height = min(heights(bench, path, last, found))
@@ -182,7 +185,7 @@ def faults(bench):
     (folder / "chromium").write_text("#!/bin/sh\nexit 3\n")
     (folder / "chromium").chmod(0o755)
     bench.told([BOOK, "--program", bench.program, book, one], 7, "chromium ended with status 3", PATH=f"{folder}:/usr/bin")
-    bench.told([BOOK, book, "tents:4x4:hard:50"], 7, "seeds make a hard puzzle")
+    bench.told([BOOK, book, "lightup:2x2:hard:1"], 7, "seeds make a hard puzzle")
     expect(book.read_bytes() == b"an older book", "the older book is lost")
     return full_disk(bench)
 
