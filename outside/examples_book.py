@@ -3,6 +3,7 @@ import csv
 import html
 import math
 import re
+import runpy
 import time
 
 from examples_bench import EXAMPLES, SECONDS, children, expect, wait_until
@@ -19,7 +20,7 @@ DOTS = 288  # to an inch, so 4 to a point
 
 def pages(bench, path):
     """The text of each page."""
-    return bench.good(["pdftotext", "-layout", path, "-"]).split("\f")[:-1]
+    return bench.good(["pdftotext", "-raw", path, "-"]).split("\f")[:-1]
 
 
 def information(bench, path):
@@ -49,7 +50,10 @@ def whole(bench):
     expect(said == f"{path}: {len(rows)} puzzles, {len(text)} pages\n" and known["Pages"] == str(len(text)), f"{said}{known}")
     expect(known["Title"] == "Sunday <&> ünd" and "A4" in known["Page size"], str(known))
     expect("Sunday <&> ünd" in text[0] and "19 puzzles" in text[0] and "Contents" in text[1], text[0] + text[1])
+    examples = runpy.run_path(str(BOOK.parent / "rules.py"))["EXAMPLES"]
     for game, words in RULES.items():
+        answer = bench.good([bench.program, "solve", "--", game, examples[game]])
+        expect(answer.startswith("one\n"), f"the example of {game} hasn't one solution")
         expect(sum(squeezed(words) in squeezed(page) for page in text) == 1, f"rules of {game}")
     wanted = [(game, size, level) for game, size, level, count in map(parts, sorted(CHAPTERS, key=place)) for _ in range(count)]
     expect([(row["game"], row["size"], row["level"]) for row in rows] == wanted, f"{rows}")

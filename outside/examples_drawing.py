@@ -80,7 +80,7 @@ def faults(bench):
     heart = png(HEART, (b"\xff\xff\xff", b"\0\0\0"))
     three = b"P2\n3 1\n255\n0 128 255\n"
     cases = [(heart[:40], 2, "no PBM or PNG"), (heart[:-30], 2, "no PBM or PNG"), (b"", 2, "no PBM or PNG"), (b"GIF89a" + bytes(99), 2, "no PBM or PNG"),
-             (b"P4\n99999999 99999999\n", 2, "at most 120"), (plain(["#" * 121]), 2, "at most 120"), (three, 2, "more than two colours"),
+             (b"P4\n99999999 99999999\n", 2, "no PBM or PNG"), (b"P4\n4000 4000\n", 2, "at most 120"), (plain(["#" * 121]), 2, "at most 120"), (three, 2, "more than two colours"),
              (b"P1\n2 2\n1 0 x 1\n", 2, "no PBM or PNG"), (b"P4\n-1 5\n", 2, "no PBM or PNG")]
     for content, wanted, sentence in cases:
         status, _, errors = looked_at(bench, content)

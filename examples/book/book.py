@@ -83,7 +83,8 @@ def build(asked, entries, solve, solved_on=None, contents=()):
             some = [entry for entry in entries if entry.chapter is one]
             if one.game == game:
                 pages.add_chapter(book, one, some, solved_on or {})
-                listed.append((pages.heading(one), f"{some[0].number} to {some[-1].number}", some[0].page))
+                last = f" to {some[-1].number}" if len(some) > 1 else ""
+                listed.append((pages.heading(one), f"{some[0].number}{last}", some[0].page))
     listed.append(("Solutions", "", len(book.pages) + 1))
     return book, pages.add_solutions(book, entries), listed
 

@@ -1,7 +1,8 @@
 """The page of rules of each game, for the reader of a book: an example, the rules, how to begin, and what the grades mean."""
 NAMES = {"solo": "Solo", "pattern": "Pattern", "lightup": "Light Up", "tents": "Tents"}
 OTHER_NAMES = {"solo": "also known as sudoku", "pattern": "also known as nonograms", "lightup": "also known as Akari", "tents": ""}
-EXAMPLES = {"solo": "2x2:1b4i3_2a", "pattern": "5x5:2/4/4/4/2/1.1/5/5/3/1", "lightup": "3x3:aBBa1aBb", "tents": "3x3:aaaaa,2,0,2,2,0,2"}
+EXAMPLES = {"solo": "2x2:1b4i3_2a", "pattern": "5x5:2/4/4/4/2/1.1/5/5/3/1", "lightup": "5x5:2c0cBfB01c2a1B",
+            "tents": "5x5:ca_bgdb,1,2,1,1,1,3,0,1,1,1"}
 RULES = {
     "solo": [
         "Write a number into each empty cell. A grid of 9 by 9 cells takes the numbers 1 to 9, and a grid of another size takes "
