@@ -14,9 +14,6 @@ SEEDS_FOR_ONE = 1000  # that are tried for each puzzle, at most
 AT_ONCE = 16
 MOST_TRIALS = 20  # of a hard puzzle
 RULE_SETS = {"solo": ("singles", "houses", "crossings"), "pattern": ("lines",), "lightup": ("local",), "tents": ("local",)}
-# Visits for each line, or sweeps, up to which a puzzle of one rule set is easy; in between none is taken, so that levels differ.
-EASY = {"pattern": 2.0, "lightup": 3, "tents": 3}
-MEDIUM = {"pattern": 2.5, "lightup": 5, "tents": 5}
 LEVELS = ("easy", "medium", "hard", "any")
 
 
@@ -31,16 +28,24 @@ class Chapter:
         """Trials for a test whether a clue may go: without any the puzzle needs none either."""
         return 0 if self.level in ("easy", "medium") else MOST_TRIALS
 
-    def takes(self, grade, effort):
-        """Whether a puzzle of this grade is of the chapter's level."""
+    def takes(self, grade):
+        """Whether a puzzle of this grade may be of the chapter's level."""
         word, _, trials = grade.partition(" ")
         if word == "search":
             return self.level == "any" or self.level == "hard" and 1 < int(trials) <= MOST_TRIALS
-        if word not in RULE_SETS[self.game] or self.level in ("hard", "any"):
-            return word in RULE_SETS[self.game] and self.level == "any"
-        is_easy = word == "singles" if self.game == "solo" else effort <= EASY[self.game]
-        is_medium = word != "singles" if self.game == "solo" else effort >= MEDIUM[self.game]
-        return is_easy if self.level == "easy" else is_medium
+        levels = ("easy", "any") if word == "singles" else ("medium", "any") if self.game == "solo" else ("easy", "medium", "any")
+        return word in RULE_SETS[self.game] and self.level in levels
+
+    def is_by_effort(self):
+        """Whether the level is a half of more puzzles: games with one rule set have no other measure."""
+        return self.game != "solo" and self.level in ("easy", "medium")
+
+    def chosen(self, made):
+        """The puzzles of the chapter, of as many as were asked for, or of twice as many."""
+        if self.is_by_effort():
+            sign = 1 if self.level == "easy" else -1
+            made = sorted(sorted(made, key=lambda one: (sign * one.effort, one.seed))[:self.count], key=lambda one: one.seed)
+        return made[:self.count]
 
 
 @dataclasses.dataclass(frozen=True)
@@ -113,18 +118,18 @@ def fill(maker, chapters, first, bar):
     with concurrent.futures.ThreadPoolExecutor(os.cpu_count()) as pool:
         try:
             for number, asked in enumerate(chapters):
-                taken, seeds = [], itertools.count(first + number, len(chapters))
+                taken, seeds, wanted = [], itertools.count(first + number, len(chapters)), asked.count * (1 + asked.is_by_effort())
                 for tried in range(0, SEEDS_FOR_ONE * asked.count, AT_ONCE):
                     some = [*itertools.islice(seeds, AT_ONCE)]
                     made = pool.map(maker.make, itertools.repeat(asked), some)
-                    taken += [one for one in made if one and asked.takes(one.grade, one.effort)]
+                    taken += [one for one in made if one and asked.takes(one.grade)]
                     bar.tell(min(done + len(taken), most), f", seed {some[-1]}")
-                    if len(taken) >= asked.count:
+                    if len(taken) >= wanted:
                         break
                 else:
                     raise Fault(f"only {len(taken)} of {tried + AT_ONCE} seeds make a {asked.level} puzzle of {asked.game} {asked.size}: "
                                 "ask for fewer, for another level or for a larger size")
-                found.append(taken[:asked.count])
+                found.append(asked.chosen(taken[:wanted]))
                 done += asked.count
         except BaseException:
             maker.program.stop()
