@@ -22,8 +22,8 @@ sys.path.append(str(pathlib.Path(__file__).resolve().parent.parent))
 import pages  # noqa: E402
 from chapters import Maker, chapter, fill  # noqa: E402
 from journal import Journal  # noqa: E402
-from layout import PAPERS  # noqa: E402
-from lib.reader import Puzzle  # noqa: E402
+from layout import PAPERS, check, sheet  # noqa: E402
+from lib.reader import Puzzle, empty  # noqa: E402
 from lib.work import Bar, Program, begin  # noqa: E402
 from pdf import print_pdf  # noqa: E402
 
@@ -108,6 +108,8 @@ def table(entries):
 
 def main():
     asked = words()
+    for one in asked.chapters:
+        check(sheet(asked.paper), empty(one.game, one.size))
     program = Program(asked.program, asked.seconds)
     journal = Journal(asked.book.with_name(f"{asked.book.name}.part"), program.path, {"symmetric": asked.symmetric})
     found = fill(Maker(program, asked.symmetric, journal), asked.chapters, asked.seed,

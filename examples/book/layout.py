@@ -27,6 +27,13 @@ def sheet(paper):
     return Sheet(width - 2 * SIDE, height - TOP - BOTTOM - HEADING)
 
 
+def check(room, puzzle):
+    """Tells before anything is made that grids of a size are too large, whatever their clues."""
+    cell = max(LEAST_CELL, solved_cell(puzzle))
+    if puzzle.width * cell > room.width or puzzle.height * cell + LABEL > room.height:
+        raise Fault(f"a puzzle of {puzzle.game} {puzzle.size} doesn't fit the paper with cells of {cell:.1f} mm", REFUSED)
+
+
 def places(room, puzzles, ids):
     """How many puzzles stand across and down a page, and the millimetres of a cell: the most puzzles with cells to write in."""
     widest, tallest = (max(getattr(Room(puzzle, False), side) for puzzle in puzzles) for side in ("width", "height"))
@@ -41,7 +48,7 @@ def places(room, puzzles, ids):
 
 def solved_cell(puzzle):
     """The millimetres of a cell of a solution: numbers in it are 6 points high at least."""
-    if puzzle.game not in ("solo", "lightup"):
+    if puzzle.game in LEAST_SOLVED_CELL:
         return max(LEAST_SOLVED_CELL[puzzle.game], 34 / max(puzzle.width, puzzle.height, 12))
     size = NUMBER_SIZE * (.88 if puzzle.game == "solo" and puzzle.width > 9 else 1)
     return LEAST_DIGIT / (size * DIGIT_HEIGHT) * 1.01
