@@ -43,6 +43,25 @@ def edited(draws, text):
     return bytes(text).replace(b"\n", b"").rstrip(b"\r")
 
 
+def respelled(draws, game, text):
+    """An ID of the same puzzle, with runs of blanks cut in two, a `_` put in, or zeros before numbers."""
+    head, colon, description = text.partition(":")
+    if game in ("solo", "lightup"):
+        description = re.sub("[b-z]", lambda letter: cut(draws, letter[0]) if draws.random() < .3 else letter[0], description)
+    if game == "solo":
+        ends = [0, *(at for at in range(len(description)) if not description[at - 1:at + 1].isdigit())]
+        at = draws.choice(ends)
+        description = f"{description[:at]}_{description[at:]}"
+    if game in ("pattern", "tents"):
+        description = re.sub("(?<![0-9])[0-9]", lambda digit: "0" * draws.choice((0, 0, 1, 9)) + digit[0], description)
+    return f"{head}{colon}{description}".encode()
+
+
+def cut(draws, letter):
+    first = draws.randint(1, ord(letter) - 97)
+    return chr(96 + first) + chr(ord(letter) - first)
+
+
 def documented(bench):
     """IDs of docs/FORMATS.md are written, or refused, as it says"""
     for game in SIZES:
@@ -57,13 +76,15 @@ def beside_the_program(bench):
     draws = random.Random(1)
     for game, texts in made(bench).items():
         expect(bench.written(game, [text.encode() for text in texts]) == texts, f"{game}: a made ID is written otherwise")
-        lines = [edited(draws, draws.choice(texts)) for _ in range(EDITS)]
+        lines = [respelled(draws, game, draws.choice(texts)) for _ in range(EDITS // 4)]
+        lines += [edited(draws, draws.choice(texts)) for _ in range(EDITS)]
         forms, answers = bench.written(game, lines), bench.answers(game, lines)
         expect(len(forms) == len(answers) == len(lines), f"{game}: {len(forms)} forms and {len(answers)} answers to {len(lines)} lines")
         for line, form, answer in zip(lines, forms, answers):
             expect(form == answer[0] if answer[0].startswith("refused") else not form.startswith("refused"), f"{game} {line}: {form}, {answer[0]}")
         good = [number for number, form in enumerate(forms) if not form.startswith("refused")]
-        expect(len(good) > EDITS // 50 and len(good) < EDITS * 9 // 10, f"{game}: {len(good)} of {EDITS} edited IDs are good")
+        expect(EDITS // 4 < len(good) < EDITS, f"{game}: {len(good)} of {len(lines)} IDs are good")
+        expect(good[:EDITS // 4] == list(range(EDITS // 4)), f"{game}: a respelled ID is refused")
         again = bench.answers(game, [forms[number].encode() for number in good])
         expect(again == [answers[number] for number in good], f"{game}: a written ID has another answer")
         expect(bench.written(game, [forms[number].encode() for number in good]) == [forms[number] for number in good],
