@@ -25,7 +25,7 @@ NUMBER = re.compile(r"\d[\d,]*")
 
 
 def documents():
-    return sorted(path for path in [*TOP.glob("*.md"), *TOP.glob("docs/*.md"), *TOP.glob("*/README.md"), *TOP.glob("examples/*/README.md")])
+    return sorted(path for places in ("*.md", "docs/*.md", "*/README.md", "examples/*/README.md") for path in TOP.glob(places))
 
 
 def plain_lines(text):
@@ -122,7 +122,8 @@ def by_manual():
     synopsis = dict(unmarked(call).partition(" ")[::2] for call in page.partition(".Sh DESCRIPTION")[0].split("\n.Nm\n")[1:])
     for name in ("solve", "check", "grade", "generate"):
         yield name, re.findall(r"`([^`]+)`", words[f"`{name}`"][0])[0], synopsis.get(name)
-    lists = [item.partition("\n") for text in re.findall(r"\n\.Bl.*?\n(.*?)\n\.El", page, re.S) for item in f"\n{text}".split("\n.It ")[1:]]
+    lists = re.findall(r"\n\.Bl.*?\n(.*?)\n\.El", page, re.S)
+    lists = [item.partition("\n") for text in lists for item in f"\n{text}".split("\n.It ")[1:]]
     items = {unmarked(head): text for head, _, text in reversed(lists)}  # of two with one head the first
     for name, cells in words.items():
         told, meant = unmarked(items.get(name.strip("`"), "no item")), " ".join(cells)

@@ -101,7 +101,8 @@ def replace(path, content):
 
 def table(entries):
     out = io.StringIO(newline="")
-    rows = [[one.number, one.page, one.chapter.game, one.puzzle.size, one.chapter.level, one.seed, one.grade, one.id] for one in entries]
+    rows = [[one.number, one.page, one.chapter.game, one.puzzle.size, one.chapter.level, one.seed, one.grade, one.id]
+            for one in entries]
     csv.writer(out, lineterminator="\n").writerows([["number", "page", "game", "size", "level", "seed", "grade", "id"], *rows])
     return out.getvalue().encode()
 

@@ -12,6 +12,7 @@ from symmetric import thinned
 
 SEEDS_FOR_ONE = 1000  # that are tried for each puzzle, at most
 AT_ONCE = 16
+MOST_PUZZLES = 5000
 MOST_TRIALS = 20  # of a hard puzzle
 RULE_SETS = {"solo": ("singles", "houses", "crossings"), "pattern": ("lines",), "lightup": ("local",), "tents": ("local",)}
 LEVELS = ("easy", "medium", "hard", "any")
@@ -65,9 +66,10 @@ class Made:
 def chapter(word):
     """GAME:SIZE:LEVEL:COUNT, as a word of the command line."""
     game, size, level, count, *more = [*word.split(":"), "", "", "", ""][:max(4, word.count(":") + 1)]
-    if game not in GAMES or level not in LEVELS or not count.isdecimal() or not count.isascii() or not 1 <= int(count[:5]) <= 5000 or more:
-        raise argparse.ArgumentTypeError(f"{word} isn't GAME:SIZE:LEVEL:COUNT as solo:3x3:easy:20. The games are {', '.join(GAMES)}, the "
-                                         f"levels {', '.join(LEVELS)}, and a chapter has at most 5000 puzzles")
+    is_count = count.isdecimal() and count.isascii() and 1 <= int(count[:5]) <= MOST_PUZZLES
+    if game not in GAMES or level not in LEVELS or not is_count or more:
+        raise argparse.ArgumentTypeError(f"{word} isn't GAME:SIZE:LEVEL:COUNT as solo:3x3:easy:20. The games are {', '.join(GAMES)}, "
+                                         f"the levels {', '.join(LEVELS)}, and a chapter has at most {MOST_PUZZLES} puzzles")
     try:
         puzzle = empty(game, size)
     except Refused as fault:
@@ -118,7 +120,8 @@ def fill(maker, chapters, first, bar):
     with concurrent.futures.ThreadPoolExecutor(os.cpu_count()) as pool:
         try:
             for number, asked in enumerate(chapters):
-                taken, seeds, wanted = [], itertools.count(first + number, len(chapters)), asked.count * (1 + asked.is_by_effort())
+                taken, seeds = [], itertools.count(first + number, len(chapters))
+                wanted = asked.count * (1 + asked.is_by_effort())
                 for tried in range(0, SEEDS_FOR_ONE * asked.count, AT_ONCE):
                     some = [*itertools.islice(seeds, AT_ONCE)]
                     made = pool.map(maker.make, itertools.repeat(asked), some)
@@ -127,8 +130,8 @@ def fill(maker, chapters, first, bar):
                     if len(taken) >= wanted:
                         break
                 else:
-                    raise Fault(f"only {len(taken)} of {tried + AT_ONCE} seeds make a {asked.level} puzzle of {asked.game} {asked.size}: "
-                                "ask for fewer, for another level or for a larger size")
+                    raise Fault(f"only {len(taken)} of {tried + AT_ONCE} seeds make a {asked.level} puzzle of {asked.game} "
+                                f"{asked.size}: ask for fewer, for another level or for a larger size")
                 found.append(asked.chosen(taken[:wanted]))
                 done += asked.count
         except BaseException:

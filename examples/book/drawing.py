@@ -18,7 +18,7 @@ import sys
 sys.path.append(str(pathlib.Path(__file__).resolve().parent.parent))
 from lib.reader import MOST_SIDE, Puzzle  # noqa: E402
 from lib.svg import svg  # noqa: E402
-from lib.work import FAILED, REFUSED, Fault, Program, begin  # noqa: E402
+from lib.work import REFUSED, Fault, Program, begin  # noqa: E402
 from lib.writer import written  # noqa: E402
 
 SEVERAL, GAVE_UP = 3, 4
@@ -29,7 +29,7 @@ def pixels(path):
     try:
         from PIL import Image
     except ImportError:
-        raise Fault(f"{sys.executable} has no module PIL: it comes with Debian's python3-pil, for /usr/bin/python3", FAILED) from None
+        raise Fault(f"{sys.executable} has no module PIL: it comes with Debian's python3-pil, for /usr/bin/python3") from None
     with open(path, "rb") as file:  # a file that isn't there is told by the system's own words
         try:
             image = Image.open(file, formats=("PNG", "PPM"))

@@ -1,4 +1,4 @@
-"""Keeps what was made in a file beside the book, so that a run that was stopped goes on. It goes away with the end of the book."""
+"""Keeps what was made in a file beside the book, so that a run that was stopped goes on. The end of the book removes it."""
 import errno
 import hashlib
 import json

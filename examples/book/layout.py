@@ -43,7 +43,8 @@ def places(room, puzzles, ids):
         cell = min(LARGEST_CELL, column / widest, (room.height / down - caption) / tallest)
         if cell >= COMFORT[puzzles[0].game] or across == down == 1 and cell >= LEAST_CELL:
             return across, down, cell
-    raise Fault(f"a puzzle of {puzzles[0].game} {puzzles[0].size} doesn't fit the paper: its cells would be {cell:.1f} mm wide", REFUSED)
+    raise Fault(f"a puzzle of {puzzles[0].game} {puzzles[0].size} doesn't fit the paper: its cells would be {cell:.1f} mm wide",
+                REFUSED)
 
 
 def solved_cell(puzzle):

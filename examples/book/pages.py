@@ -18,7 +18,8 @@ h1 {{ font-size: 34pt; line-height: 1.2; text-align: center; padding-top: 62mm; 
 h1 + p {{ text-align: center; margin: 6mm 0 22mm; font-size: 11pt }}
 h2 {{ height: {heading}mm; font-size: 15pt; white-space: nowrap }} h2 small {{ font-weight: normal; font-size: 10pt }}
 h3 {{ font-size: 11pt; margin: 6mm 0 1.5mm }} table {{ border-spacing: 0 }} td, th {{ padding: .8mm 6mm .8mm 0; text-align: left;
-  vertical-align: top }} th {{ white-space: nowrap }} .contents {{ margin: 0 auto }} .contents td:last-child {{ text-align: right; padding-right: 0 }}
+  vertical-align: top }} th {{ white-space: nowrap }} .contents {{ margin: 0 auto }}
+.contents td:last-child {{ text-align: right; padding-right: 0 }}
 ol {{ padding-left: 6mm }} li {{ margin-bottom: 2mm }} .example {{ display: flex; gap: 14mm; margin: 2mm 0 6mm; font-size: 9pt }}
 .foot {{ position: absolute; bottom: 8mm; left: {side}mm; right: {side}mm; font-size: 8.5pt; display: flex;
   justify-content: space-between; color: #333 }}
@@ -63,8 +64,8 @@ def add_rules(book, game, solve):
     return book.add(
         f"<h2>How {NAMES[game]} goes{other}</h2><ol>{''.join(f'<li>{rule}</li>' for rule in RULES[game])}</ol><h3>An example</h3>"
         f"<div class=example>{drawing(puzzle, None, cell, 'The puzzle')}{drawing(puzzle, solved, cell, 'Its solution')}</div>"
-        f"<h3>How to begin</h3><p>{BEGIN[game]}</p><h3>What the grades mean</h3><p>Each puzzle has exactly one solution. The word "
-        f"beside its number is its grade: what it takes to find that.</p><table>{rows}</table><p>{LEVELS[game]}</p>")
+        f"<h3>How to begin</h3><p>{BEGIN[game]}</p><h3>What the grades mean</h3><p>Each puzzle has exactly one solution. "
+        f"The word beside its number is its grade: what it takes to find that.</p><table>{rows}</table><p>{LEVELS[game]}</p>")
 
 
 def add_contents(book, listed, count):
@@ -112,8 +113,7 @@ def add_solutions(book, entries):
              for room, cell in ((Room(entry.puzzle, True), cell) for entry, cell in zip(entries, cells))]
     found = {}
     for rows in shelves(book.room, sizes):
-        drawn = "".join("<div class=row>" + "".join(drawing(entries[at].puzzle, entries[at].cells, cells[at], f"<b>{entries[at].number}</b>")
-                                                   for at in row) + "</div>" for row in rows)
-        number = book.add(f"<h2>Solutions</h2>{drawn}")
+        drawn = [[drawing(entries[at].puzzle, entries[at].cells, cells[at], f"<b>{entries[at].number}</b>") for at in row] for row in rows]
+        number = book.add("<h2>Solutions</h2>" + "".join(f"<div class=row>{''.join(row)}</div>" for row in drawn))
         found.update((entries[at].number, number) for at in itertools.chain(*rows))
     return found

@@ -1,6 +1,7 @@
 """The page of rules of each game, for the reader of a book: an example, the rules, how to begin, and what the grades mean."""
 NAMES = {"solo": "Solo", "pattern": "Pattern", "lightup": "Light Up", "tents": "Tents"}
-OTHER_NAMES = {"solo": "also known as sudoku", "pattern": "also known as nonograms", "lightup": "also known as Akari", "tents": ""}
+OTHER_NAMES = {"solo": "also known as sudoku", "pattern": "also known as nonograms", "lightup": "also known as Akari",
+               "tents": ""}
 EXAMPLES = {"solo": "2x2:1b4i3_2a", "pattern": "5x5:2/4/4/4/2/1.1/5/5/3/1", "lightup": "5x5:2c0cBfB01c2a1B",
             "tents": "5x5:ca_bgdb,1,2,1,1,1,3,0,1,1,1"}
 RULES = {

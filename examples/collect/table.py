@@ -53,8 +53,8 @@ class Table:
         for _, line in zip(range(taken), lines):
             self.digest.update(line + b"\n")
         if self.digest.hexdigest() != digest:
-            raise Fault(f"{source} isn't the file that was taken by this name: its first {taken} lines differ, so give another by "
-                        "--source", REFUSED)
+            raise Fault(f"{source} isn't the file that was taken by this name: its first {taken} lines differ, so give another "
+                        "by --source", REFUSED)
         return taken
 
     def take(self, source, game, first, lines, met):
@@ -66,8 +66,10 @@ class Table:
         self.change(
             ("INSERT INTO puzzle (id, game, size, clues, source, times) VALUES (?, ?, ?, ?, ?, 1) "
              "ON CONFLICT DO UPDATE SET times = times + 1", rows),
-            ("INSERT INTO refusal VALUES (?, ?, ?, ?)", [(source, number, game, fault) for number, (_, fault) in numbered if fault]),
-            ("INSERT OR REPLACE INTO source VALUES (?, ?, ?, ?)", [(source, game, first + len(lines) - 1, self.digest.hexdigest())]))
+            ("INSERT INTO refusal VALUES (?, ?, ?, ?)",
+             [(source, number, game, fault) for number, (_, fault) in numbered if fault]),
+            ("INSERT OR REPLACE INTO source VALUES (?, ?, ?, ?)",
+             [(source, game, first + len(lines) - 1, self.digest.hexdigest())]))
 
     def count_open(self, game):
         return self.base.execute("SELECT count(*) FROM puzzle WHERE game = ? AND verdict IS NULL", (game,)).fetchone()[0]
@@ -75,8 +77,8 @@ class Table:
     def open_ids(self, game):
         """The IDs without a verdict, some at a time, so that verdicts may be written meanwhile."""
         last = ""
-        while found := self.base.execute("SELECT id FROM puzzle WHERE game = ? AND verdict IS NULL AND id > ? ORDER BY id LIMIT 1000",
-                                         (game, last)).fetchall():
+        some = "SELECT id FROM puzzle WHERE game = ? AND verdict IS NULL AND id > ? ORDER BY id LIMIT 1000"
+        while found := self.base.execute(some, (game, last)).fetchall():
             yield from (text for text, in found)
             last = found[-1][0]
 
@@ -89,8 +91,8 @@ class Table:
 
     def summary(self, game):
         """A line for each grade or verdict, and the doubles."""
-        rows = self.base.execute("SELECT coalesce(grade, verdict, 'open'), count(*), sum(times), coalesce(max(trials), 0) FROM puzzle "
-                                 "WHERE game = ? GROUP BY 1 ORDER BY 2 DESC, 1", (game,)).fetchall()
+        rows = self.base.execute("SELECT coalesce(grade, verdict, 'open'), count(*), sum(times), coalesce(max(trials), 0) "
+                                 "FROM puzzle WHERE game = ? GROUP BY 1 ORDER BY 2 DESC, 1", (game,)).fetchall()
         total = f"{sum(row[1] for row in rows):,} puzzles of {game}, met {sum(row[2] for row in rows):,} times"
         return "\n".join([total, *(f"{name:10} {count:10,}" + (f"   up to {trials:,} trials" if trials else "")
                                    for name, count, _, trials in rows)])
