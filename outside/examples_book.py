@@ -148,7 +148,7 @@ def same(bench):
     expect(not children(run.pid), "something runs on after Ctrl-C")
     expect(second.read_bytes() == b"an older book" and part.exists(), "Ctrl-C left another book, or lost what was made")
     with open(part, "ab") as torn:
-        torn.write(b'{"solo 3x3 20 1": ["3x')  # as a run that was killed may leave it
+        torn.write(b'\0\0no JSON\n{"solo 3x3 20 1": ["3x')  # as a crash may leave it
     make(bench, "second.pdf", "--symmetric", chapters)
     expect(not part.exists(), "the journal is still there")
     for suffix in (".pdf", ".csv"):

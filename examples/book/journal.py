@@ -17,12 +17,17 @@ class Journal:
         self.file.seek(0)
         first, *lines = self.file.read().split(b"\n")[:-1] or [b""]  # what has no end was cut off
         if first != head:
-            lines = []
             self.file.truncate(0)
             self.write(head)
+            return
+        end = len(head) + 1
         for line in lines:
-            self.kept.update(json.loads(line))
-        self.file.truncate(sum(len(line) + 1 for line in [head, *lines]))
+            try:
+                self.kept.update(json.loads(line))
+            except ValueError:  # a disk that lost a part of the file
+                break
+            end += len(line) + 1
+        self.file.truncate(end)
 
     def write(self, line):
         if self.file.write(line + b"\n") != len(line) + 1:
