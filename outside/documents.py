@@ -3,8 +3,8 @@
 
 - Each link leads to a file, and to a heading in it. Each place of the repository that is named in code marks is there. A link by
   a label, as [engine_core/Walk], has its line at the end, and each such line is used.
-- Tables that stand in two documents agree: words, limits, commands and statuses of README.md and docs/FORMATS.md. README.md has
-  the number of wrong bodies.
+- Tables that stand in two documents agree: words, limits, commands and statuses of README.md and docs/FORMATS.md, and those of
+  README.md and the manual page, docs/puzzles.1. README.md has the number of wrong bodies.
 - A line has at most 130 columns and a sentence at most 25 words, outside of tables, code and the theorem that is quoted.
 - Each script that a document names can be run, prints a text of its own by --help, and meets a wrong word without a traceback.
 
@@ -20,12 +20,12 @@ import sys
 TOP = pathlib.Path(__file__).resolve().parent.parent
 COLUMNS, WORDS = 130, 25
 HELP_SECONDS = 60
-PLACE = re.compile(r"(?:docs|bench|outside|examples|page|crates|\.ci)/[\w./-]*\w")
+PLACE = re.compile(r"(?:docs|bench|outside|examples|completions|page|crates|\.ci)/[\w./-]*\w")
 NUMBER = re.compile(r"\d[\d,]*")
 
 
 def documents():
-    return sorted(path for path in [*TOP.glob("*.md"), *TOP.glob("docs/*.md"), *TOP.glob("*/README.md")])
+    return sorted(path for places in ("*.md", "docs/*.md", "*/README.md", "examples/*/README.md") for path in TOP.glob(places))
 
 
 def plain_lines(text):
@@ -109,6 +109,34 @@ def twice():
         yield f"status {name}", sorted(told & meant), sorted(meant)
 
 
+def unmarked(text):
+    """Lines of a manual page as one, without macros."""
+    for macro, sign in ((r"\&", ""), ("Fl -", "--"), ("Oo ", "["), (" Oc", "]"), (" Ns ", "")):
+        text = text.replace(macro, sign)
+    return re.sub(r"^\.|\b(?:Cm|Ar|Ql|Pp)\b ?", "", text, flags=re.M).strip().replace("\n.", " ").replace("\n", " ")
+
+
+def by_manual():
+    """What README.md and the manual page say, by a name."""
+    page, words = (TOP / "docs" / "puzzles.1").read_text(), rows("README.md", "## Commands")
+    synopsis = dict(unmarked(call).partition(" ")[::2] for call in page.partition(".Sh DESCRIPTION")[0].split("\n.Nm\n")[1:])
+    for name in ("solve", "check", "grade", "generate"):
+        yield name, re.findall(r"`([^`]+)`", words[f"`{name}`"][0])[0], synopsis.get(name)
+    lists = re.findall(r"\n\.Bl.*?\n(.*?)\n\.El", page, re.S)
+    lists = [item.partition("\n") for text in lists for item in f"\n{text}".split("\n.It ")[1:]]
+    items = {unmarked(head): text for head, _, text in reversed(lists)}  # of two with one head the first
+    for name, cells in words.items():
+        told, meant = unmarked(items.get(name.strip("`"), "no item")), " ".join(cells)
+        if name.startswith(("`--", "`ID")):
+            yield name, NUMBER.findall(meant), NUMBER.findall(told)
+        if name in ("Solo", "Pattern", "Light Up, Tents"):
+            yield name, cells[-1].lower(), cells[-1].lower() if cells[-1].lower() in told.lower() else told
+    for name, cells in rows("README.md", "## Answers and statuses").items():
+        if name.isdigit():
+            told = re.findall(r"^\.(?:Ql|Cm) (?:\( )?(.*?)[ ;:,.)]*$", items.get(name, "").replace(r"\&", ""), re.M)
+            yield f"status {name}", sorted({span.strip(": ") for span in re.findall("`([^`]+)`", cells[0])}), sorted(set(told))
+
+
 def bodies():
     """What is wrong with the number of wrong bodies that README.md tells."""
     told = re.findall(r"(\d+) wrong bodies", (TOP / "README.md").read_text())
@@ -141,6 +169,7 @@ def main():
     argparse.ArgumentParser(description=__doc__, formatter_class=argparse.RawDescriptionHelpFormatter).parse_args()
     faults = [fault for path in documents() for look in (links, lengths) for fault in look(path)]
     faults += [f"{name}: README.md has {here}, docs/FORMATS.md {there}" for name, here, there in twice() if here != there]
+    faults += [f"{name}: README.md has {here}, docs/puzzles.1 {there}" for name, here, there in by_manual() if here != there]
     faults += [*bodies(), *scripts()]
     print("\n".join([*faults, f"{len(documents())} documents, {len(faults)} faults"]))
     return 1 if faults else 0

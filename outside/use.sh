@@ -3,8 +3,8 @@
 #
 # usage: outside/use.sh PROGRAM     PROGRAM as `rt run` leaves it: crates/puzzles/out/puzzles
 #
-# It needs bash, tar, python3, node, curl, GNU parallel and xargs (of Debian: nodejs, curl, parallel, findutils), and installs
-# nothing. The port 8018 must be free.
+# It needs bash, tar, python3, node, curl, GNU parallel, xargs, man, chromium and, for /usr/bin/python3, PIL (of Debian: nodejs,
+# curl, parallel, findutils, man-db, chromium, python3-pil), and installs nothing. The port 8018 must be free.
 # Code stands in fenced blocks of three kinds, and nowhere else:
 #   console       a session: `$ ` begins a command line, `> ` goes on with it, and all other lines are what it writes, to
 #                 standard output and standard error together
@@ -36,7 +36,7 @@ not_run=(
     "$dask seeds.txt generate tents 8x8 --seed {} > made.txt"
 )
 documents=(README.md docs/USE.md docs/CONTRIBUTING.md)
-tools=(python3 node curl parallel xargs tar)
+tools=(python3 node curl parallel xargs tar man chromium)
 
 help() {
     sed -n '2,/^set/{s/^# \{0,1\}//p}' "$0"

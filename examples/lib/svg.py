@@ -1,0 +1,107 @@
+"""Draws puzzles and their grids as SVG, black on white, with lengths in cells."""
+import html
+
+TREE = "M.5 .1 .84 .64H.56V.9H.44V.64H.16Z"
+TENT = "M.5 .2 .86 .8H.14Z"
+NUMBER_SIZE, CLUE_SIZE, CLUE_STEP = .6, .5, .62
+DIGIT_WIDTH, DIGIT_HEIGHT = .64, .73  # of a font's size, for DejaVu Sans
+MARGIN = .06
+
+
+class Room:
+    """How many cells a drawing takes on each side of its grid."""
+
+    def __init__(self, puzzle, is_solution):
+        self.left = self.top = self.right = self.below = MARGIN
+        columns, rows = puzzle.clues[:puzzle.width], puzzle.clues[puzzle.width:]
+        if puzzle.game == "pattern" and not is_solution:
+            self.left += max(clue_width(clue) for clue in rows) + .1
+            self.top += max(len(clue) for clue in columns) * CLUE_STEP + .1
+        if puzzle.game == "tents" and not is_solution:
+            self.right, self.below = .8, .8
+        self.width, self.height = self.left + puzzle.width + self.right, self.top + puzzle.height + self.below
+
+
+def clue_width(clue):
+    return sum(len(str(number)) * CLUE_SIZE * DIGIT_WIDTH + .3 for number in clue)
+
+
+def svg(puzzle, cells=None, cell=10.0, marked=(), name=""):
+    """The puzzle, or one of its grids where the signs of all cells are given. A cell has so many millimetres. What the places
+    in `marked` have is hatched."""
+    room, is_solution = Room(puzzle, cells is not None), cells is not None
+    box = f"{-room.left:.2f} {-room.top:.2f} {room.width:.2f} {room.height:.2f}"
+    parts = [*ground(puzzle, cells or puzzle.cells), *lines(puzzle), *signs(puzzle, cells or puzzle.cells),
+             *([] if is_solution else clues(puzzle)), *crosses(puzzle, marked)]
+    return (f'<svg xmlns="http://www.w3.org/2000/svg" width="{room.width * cell:.2f}mm" height="{room.height * cell:.2f}mm" '
+            f'viewBox="{box}" role="img" aria-label="{html.escape(name)}" font-family="DejaVu Sans, sans-serif" '
+            f'text-anchor="middle">{"".join(parts)}</svg>')
+
+
+def squares(puzzle, places):
+    return "".join(f"M{place % puzzle.width} {place // puzzle.width}h1v1h-1z" for place in places)
+
+
+def ground(puzzle, cells):
+    """Black cells, and the grey diagonals of Solo X."""
+    black = [place for place, sign in enumerate(cells) if sign == "#" or puzzle.game == "lightup" and sign.isdigit()]
+    last = puzzle.width - 1
+    grey = [place for place in range(len(cells)) if place % puzzle.width in (place // puzzle.width, last - place // puzzle.width)]
+    for places, colour in ((grey if puzzle.is_crossed else [], "#ddd"), (black, "#000")):
+        if places:
+            yield f'<path d="{squares(puzzle, places)}" fill="{colour}"/>'
+
+
+def lines(puzzle):
+    """The thin lines of the grid, and the thick ones of blocks, of each fifth line of Pattern, and around."""
+    across, down = puzzle.block or ((5, 5) if puzzle.game == "pattern" else (puzzle.width, puzzle.height))
+    for is_thick, width in ((False, .03), (True, .08)):
+        upright = [x for x in range(puzzle.width + 1) if (x % across == 0 or x == puzzle.width) == is_thick]
+        level = [y for y in range(puzzle.height + 1) if (y % down == 0 or y == puzzle.height) == is_thick]
+        path = "".join([f"M{x} 0V{puzzle.height}" for x in upright] + [f"M0 {y}H{puzzle.width}" for y in level])
+        if path:
+            yield f'<path d="{path}" stroke="#000" stroke-width="{width}" stroke-linecap="square" fill="none"/>'
+
+
+def signs(puzzle, cells):
+    """What stands in the cells: numbers, trees, tents and bulbs."""
+    for place, sign in enumerate(cells):
+        x, y = place % puzzle.width, place // puzzle.width
+        if sign.isdigit():
+            is_given = puzzle.game == "solo" and puzzle.cells[place]
+            more = ' fill="#fff"' if puzzle.game == "lightup" else ' font-weight="bold"' if is_given else ""
+            yield number(x + .5, y + .5, sign, NUMBER_SIZE if len(sign) == 1 else NUMBER_SIZE * .88, more)
+        elif sign == "O":
+            yield f'<circle cx="{x + .5}" cy="{y + .5}" r=".28" fill="none" stroke="#000" stroke-width=".09"/>'
+        elif sign in ("T", "^"):
+            look = 'fill="#777"' if sign == "T" else 'fill="none" stroke="#000" stroke-width=".08" stroke-linejoin="round"'
+            yield f'<path transform="translate({x} {y})" d="{TREE if sign == "T" else TENT}" {look}/>'
+
+
+def number(x, y, value, size, more=""):
+    return f'<text x="{x:.2f}" y="{y + size * DIGIT_HEIGHT / 2:.2f}" font-size="{size:.2f}"{more}>{value}</text>'
+
+
+def clues(puzzle):
+    """The numbers beside the grid: of Pattern above it and to its left, of Tents below it and to its right."""
+    for line, clue in enumerate(puzzle.clues):
+        is_column = line < puzzle.width
+        middle = (line if is_column else line - puzzle.width) + .5
+        if puzzle.game == "tents":
+            x, y = (middle, puzzle.height + .45) if is_column else (puzzle.width + .45, middle)
+            yield number(x, y, clue[0], CLUE_SIZE)
+            continue
+        away = .1  # from the grid
+        for value in reversed(clue):
+            step = CLUE_STEP if is_column else clue_width([value])
+            x, y = (middle, -away - step / 2) if is_column else (-away - step / 2, middle)
+            yield number(x, y, value, CLUE_SIZE)
+            away += step
+
+
+def crosses(puzzle, marked):
+    """A sign over each open cell."""
+    for place in marked:
+        x, y = place % puzzle.width, place // puzzle.width
+        yield (f'<rect x="{x}" y="{y}" width="1" height="1" fill="#fff"/><path d="M{x + .15} {y + .15}l.7 .7m0 -.7l-.7 .7" '
+               'stroke="#c00" stroke-width=".14"/>')

@@ -1,0 +1,125 @@
+"""What the examples share: calls of the program, a bar of progress, and an end in words.
+
+Statuses: 2 words or an ID refused, 6 a fault of reading or writing, 7 a program that isn't there or fails, 130 stopped.
+"""
+import os
+import shutil
+import signal
+import sqlite3
+import subprocess
+import sys
+import threading
+import time
+
+REFUSED, DISK, FAILED, STOPPED = 2, 6, 7, 130
+EXAMPLE = ("solve", "pattern", "--", "5x1:1/1//1/1/2.2"), ["one", "##.##"]
+
+
+class Fault(Exception):
+    """One sentence, and the status of the script."""
+
+    def __init__(self, sentence, status=FAILED):
+        super().__init__(sentence)
+        self.status = status
+
+
+class Late(Fault):
+    """A call that took longer than its clock."""
+
+
+class Program:
+    """The program `puzzles`. Calls may come from many threads, and `stop` ends those that run."""
+
+    def __init__(self, name, seconds=300):
+        self.path, self.seconds = shutil.which(name), seconds
+        self.running, self.lock, self.is_stopped = set(), threading.Lock(), False
+        if not self.path:
+            raise Fault(f"no program {name} that can be run: say where `puzzles` is by --program")
+        if self.ask(*EXAMPLE[0]) != EXAMPLE[1]:
+            raise Fault(f"{name} is not the program `puzzles`: it doesn't solve a Pattern of 5x1")
+
+    def run(self, words, given="", seconds=None):
+        """The lines of a process, and its status."""
+        with self.lock:
+            if self.is_stopped:
+                raise Fault("stopped", STOPPED)
+            child = subprocess.Popen(words, stdin=subprocess.PIPE, stdout=subprocess.PIPE, stderr=subprocess.DEVNULL,
+                                     encoding="utf-8", errors="replace", start_new_session=True)
+            self.running.add(child)
+        try:
+            output, _ = child.communicate(given, timeout=seconds or self.seconds)
+        except subprocess.TimeoutExpired:
+            raise Late(f"no answer within {seconds or self.seconds:g} seconds: {' '.join(words[:3])}") from None
+        finally:
+            end(child)
+            self.running.discard(child)
+        return output.splitlines(), child.returncode
+
+    def ask(self, *words, given=""):
+        """The lines that the program answers."""
+        lines, status = self.run([self.path, *words], given)
+        if status not in range(5):
+            raise Fault(f"{self.path} {words[0]} ended " + (f"with status {status}" if status > 0 else f"by signal {-status}"))
+        return lines
+
+    def stop(self):
+        with self.lock:
+            self.is_stopped = True
+            for child in [*self.running]:
+                end(child)
+
+
+def end(child):
+    """Ends a process with all that it began."""
+    if child.returncode is None:
+        try:
+            os.killpg(child.pid, signal.SIGKILL)
+        except ProcessLookupError:
+            pass
+        child.wait()
+
+
+class Bar:
+    """Progress on standard error: a bar on a terminal, else a line each ten seconds."""
+
+    def __init__(self, what, most):
+        self.what, self.most, self.is_terminal = what, most, sys.stderr.isatty()
+        self.told = time.monotonic()
+
+    def tell(self, done, more=""):
+        now, is_end = time.monotonic(), done >= self.most
+        if now - self.told < (.1 if self.is_terminal else 10) and not (is_end and self.is_terminal):
+            return
+        self.told, filled = now, 30 * done // max(self.most, 1)
+        text = f"{self.what} [{'#' * filled}{'.' * (30 - filled)}] {done:,} of {self.most:,}{more}"
+        print(f"\r{text}\x1b[K" if self.is_terminal else text, end="" if self.is_terminal else "\n", file=sys.stderr, flush=True)
+
+    def end(self):
+        if self.is_terminal:
+            print("\r\x1b[K", end="", file=sys.stderr, flush=True)
+
+
+def begin(main):
+    """Runs a script, and ends it with its status, or with one sentence and a status."""
+    def stop(*_):
+        raise KeyboardInterrupt
+    signal.signal(signal.SIGTERM, stop)
+    try:
+        status = main()
+        sys.stdout.flush()
+    except KeyboardInterrupt:
+        status = told("stopped", STOPPED)
+    except Fault as fault:
+        status = told(fault, fault.status)
+    except sqlite3.Error as fault:
+        status = told(f"the table: {fault}", DISK)
+    except OSError as fault:
+        status = told(": ".join(filter(None, [fault.strerror or str(fault), fault.filename and str(fault.filename)])), DISK)
+    if status:
+        os.dup2(os.open(os.devnull, os.O_WRONLY), 1)  # what is left for a full disk or a closed pipe
+    sys.exit(status)
+
+
+def told(sentence, status):
+    print(f"{os.path.basename(sys.argv[0])}: {sentence}", file=sys.stderr)
+    return status

@@ -1,0 +1,245 @@
+"""Cases of outside/examples.py: the table of a collection."""
+import csv
+import io
+import os
+import random
+import re
+import shutil
+import sqlite3
+import time
+
+import dask_job
+from examples_bench import DEBIAN, EXAMPLES, SECONDS, TOP, ended, expect, wait_until
+
+COLLECT = EXAMPLES / "collect" / "collect.py"
+KILLS = 12
+FAST_LINES, FAST_SECONDS = 10_000, 10
+ROWS = "SELECT game, id, size, verdict, grade, trials, clues, times, source FROM puzzle ORDER BY 1, 2"
+
+
+def relabelled(draws, text):
+    """A Solo of 3x3 as another puzzle that is as hard: other numbers, and rows and bands in another order."""
+    cells = "".join(sign if sign.isdigit() else "." * (ord(sign) - 96) for sign in text.partition(":")[2].replace("_", ""))
+    rows = [cells[at:at + 9] for at in range(0, 81, 9)]
+    rows = [rows[3 * band + row] for band in draws.sample(range(3), 3) for row in draws.sample(range(3), 3)]
+    flat = "".join(rows).translate(str.maketrans("123456789", "".join(draws.sample("123456789", 9))))
+    tokens = re.findall(r"\.{1,26}|\d", flat)
+    found = [chr(96 + len(token)) if token[0] == "." else token for token in tokens]
+    return "3x3:" + "".join(("_" if at and found[at - 1].isdigit() and token.isdigit() else "") + token for at, token in enumerate(found))
+
+
+def solos(bench, count):
+    """So many different IDs of Solo, all written."""
+    draws, found = random.Random(5), {}
+    made = [bench.generate("solo", "3x3", seed)[0] for seed in range(1, 101)]
+    while len(found) < count:
+        found.setdefault(relabelled(draws, made[len(found) % 100]))
+    return list(found)
+
+
+def rows(table):
+    with sqlite3.connect(table) as base:
+        return base.execute(ROWS).fetchall()
+
+
+def add(bench, table, game, path, *more):
+    return bench.good([COLLECT, "add", *more, table, game, path])
+
+
+def by_hand(bench):
+    """verdict, grade, trials, clues, times and source are those of the program and of the lines; doubles are one row"""
+    path, table = bench.folder / "ids.txt", bench.folder / "hand.db"
+    path.write_bytes(b"3x3:aBBa1aBb\n2x2:Bc\r\n2x2:Bac\n\nnonsense\n2:Bc\n2x2:1c\n3x3:aBBa1aBb\n2x2:Bab\n")
+    done = bench.run([COLLECT, "add", table, "lightup", path])
+    wanted = [("lightup", "2x2:1c", "2x2", "none", None, None, 1, 1, f"{path}:7"),
+              ("lightup", "2x2:Bc", "2x2", "several", None, None, 0, 3, f"{path}:2"),
+              ("lightup", "3x3:aBBa1aBb", "3x3", "one", "search", 4, 1, 2, f"{path}:1")]
+    expect(done.returncode == 2 and rows(table) == wanted, f"status {done.returncode}: {done.stderr}{rows(table)}")
+    told = [f"{path}:3: no ID of lightup: too many", f"{path}:4: no ID of lightup: no colon", f"{path}:5: no ID of lightup: no colon"]
+    expect(done.stderr.splitlines() == told, done.stderr)
+    with sqlite3.connect(table) as base:
+        found = base.execute("SELECT line, fault FROM refusal ORDER BY 1").fetchall()
+    expect(found == [(3, "too many"), (4, "no colon"), (5, "no colon")], str(found))
+    for game, size in (("solo", "2x3"), ("pattern", "8x8"), ("tents", "8x8")):
+        texts = [bench.generate(game, size, seed)[0] for seed in range(1, 31)]
+        path.write_text("".join(f"{text}\n" for text in texts))
+        add(bench, table, game, path, "--source", game)
+        for row in rows(table):
+            if row[0] == game:
+                grade = bench.grade(game, row[1])
+                expect((row[4] if row[4] != "search" else f"search {row[5]}") == grade, f"{row}: {grade}")
+
+
+def again(bench):
+    """the same file adds nothing, a longer one its new lines alone, and another one by the same name is refused"""
+    path, table, texts = bench.folder / "ids.txt", bench.folder / "again.db", solos(bench, 60)
+    path.write_text("".join(f"{text}\n" for text in texts[:40]))
+    add(bench, table, "solo", path)
+    first = rows(table)
+    add(bench, table, "solo", path)
+    expect(rows(table) == first and len(first) == 40, "the same file twice is another table")
+    path.write_text("".join(f"{text}\n" for text in texts))
+    add(bench, table, "solo", path)
+    expect(len(rows(table)) == 60 and all(row[7] == 1 for row in rows(table)), "a longer file")
+    path.write_text("".join(f"{text}\n" for text in texts[::-1]))
+    bench.told([COLLECT, "add", table, "solo", path], 2, "isn't the file that was taken by this name")
+    expect(len(rows(table)) == 60, "a refused file changed the table")
+
+
+def killed(bench):
+    """killed by -9 at random points and begun anew, it comes to the table of a run that nobody stopped"""
+    path, whole, table = bench.folder / "ids.txt", bench.folder / "whole.db", bench.folder / "killed.db"
+    texts = solos(bench, 3000)
+    lines = [*texts, *texts[:500], *(f"bad {number}" for number in range(50))]
+    random.Random(7).shuffle(lines)
+    path.write_text("".join(f"{line}\n" for line in lines))
+    words = [COLLECT, "add", "--source", "ids", table, "solo", path]
+    start = time.monotonic()
+    bench.run([COLLECT, "add", "--source", "ids", whole, "solo", path])
+    taken, draws, kills = time.monotonic() - start, random.Random(9), 0
+    for _ in range(KILLS):
+        run = bench.start(words)
+        time.sleep(draws.uniform(.05, taken * .6))
+        kills += run.poll() is None
+        ended(run)
+        run.communicate()
+    done = bench.run(words)
+    expect(kills >= KILLS // 3, f"only {kills} of {KILLS} runs were killed before their end")
+    expect(done.returncode in (0, 2) and rows(table) == rows(whole) and len(rows(whole)) == 3000, f"status {done.returncode}: {done.stderr}")
+    for other in ("source", "refusal"):
+        found = [sqlite3.connect(base).execute(f"SELECT * FROM {other} ORDER BY 1, 2").fetchall() for base in (whole, table)]
+        expect(found[0] == found[1] and found[0], f"the tables {other} differ")
+    return f"{kills} kills"
+
+
+def stopped(bench):
+    """Ctrl-C ends it with one sentence, nothing runs on, and the same words go on"""
+    path, table = bench.folder / "ids.txt", bench.folder / "stopped.db"
+    path.write_text("".join(f"{text}\n" for text in solos(bench, 3000)))
+    run = bench.start([COLLECT, "add", table, "solo", path])
+    wait_until(lambda: table.exists() and any(row[3] for row in rows_or_none(table)), SECONDS, "no puzzle was graded")
+    run.send_signal(2)
+    _, errors = run.communicate(timeout=SECONDS)
+    expect(run.returncode == 130 and errors == "collect.py: stopped\n", f"status {run.returncode}: {errors}")
+    graded = sum(bool(row[3]) for row in rows(table))
+    expect(0 < graded < 3000, f"{graded} graded at its end")
+    add(bench, table, "solo", path)
+    expect(sum(bool(row[3]) for row in rows(table)) == 3000, "it didn't go on")
+
+
+def rows_or_none(table):
+    try:
+        return rows(table)
+    except sqlite3.Error:
+        return []
+
+
+def faults(bench):
+    """a full disk, a folder that can't be written, a missing file or program are one sentence and a status, and nothing is lost"""
+    path, table = bench.folder / "ids.txt", bench.folder / "faults.db"
+    texts = solos(bench, 4000)
+    path.write_text("".join(f"{text}\n" for text in texts))
+    bench.told([COLLECT, "add", table, "solo", bench.folder / "nowhere"], 6, "No such file")
+    bench.told([COLLECT, "add", "/proc/none.db", "solo", path], 6, "/proc/none.db: unable to open")
+    bench.told([COLLECT, "add", "--program", "nowhere", table, "solo", path], 7, "no program nowhere")
+    bench.told([COLLECT, "add", "--program", "/bin/true", table, "solo", path], 7, "is not the program")
+    expect(len(rows(table)) == 4000 and not any(row[3] for row in rows(table)), "what was taken in is lost")
+    failing = bench.folder / "failing"
+    failing.write_text('#!/bin/sh\n[ "$1" = solve ] && exec puzzles "$@"\nexit 6\n')
+    failing.chmod(0o755)
+    bench.told([COLLECT, "grade", "--program", failing, table, "solo"], 7, "ended with status 6")
+    bench.told([COLLECT, "add", "--budget", "-1", table, "solo", path], 2, "a budget is")
+    path.write_text("x\n" * 30)
+    done = bench.run([COLLECT, "add", "--later", "--source", "x", table, "solo", path])
+    expect(done.returncode == 2 and len(done.stderr.splitlines()) == 11, done.stderr)
+    with open("/dev/full", "w") as full:
+        bench.told([COLLECT, "open", table, "solo"], 6, "No space left", stdout=full)
+    (bench.folder / "text.db").write_text("no table " * 1000)
+    bench.told([COLLECT, "open", bench.folder / "text.db", "solo"], 6, "not a database")
+    return full_disk(bench, texts)
+
+
+def full_disk(bench, texts):
+    """A table on a disk of 300 KB keeps what it has, and goes on where there is room."""
+    disk = bench.small_disk("disk", "size=300k")
+    if not disk:
+        return "NOT TRIED, since this user may not mount: a full disk"
+    path, table, whole = bench.folder / "ids.txt", bench.folder / "moved.db", bench.folder / "whole.db"
+    path.write_text("".join(f"{text}\n" for text in texts))
+    words = [COLLECT, "add", "--source", "ids"]
+    try:
+        bench.told([*words, disk / "small.db", "solo", path], 6, "disk")
+        kept = rows(disk / "small.db")
+        expect(0 < len(kept) < 4000, f"{len(kept)} rows on the full disk")
+        for name in ("small.db", "small.db-journal"):
+            if (disk / name).exists():
+                shutil.copy(disk / name, table.with_name(name.replace("small", "moved")))
+    finally:
+        bench.unmount(disk)
+    bench.good([*words, table, "solo", path])
+    whole.unlink(missing_ok=True)
+    bench.good([*words, whole, "solo", path])
+    expect(rows(table) == rows(whole), "the table that was full is another one")
+    return ""
+
+
+def fast(bench):
+    """10,000 Solo are taken in and graded in under 10 seconds on 4 cores, if nothing else runs"""
+    path, table = bench.folder / "ids.txt", bench.folder / "fast.db"
+    path.write_text("".join(f"{text}\n" for text in solos(bench, FAST_LINES)))
+    busy, start = os.getloadavg()[0], time.monotonic()
+    add(bench, table, "solo", path)
+    taken = time.monotonic() - start
+    expect(sum(row[3] == "one" for row in rows(table)) == FAST_LINES, "not all have one solution")
+    is_idle = busy < 1 and (os.cpu_count() or 1) >= 4
+    expect(taken < FAST_SECONDS or not is_idle, f"{taken:.1f} s")
+    return f"{taken:.1f} s, with a load of {busy:.1f} at its beginning"
+
+
+def queries(bench):
+    """the lines of the README answer: by grade, hardest first, as CSV"""
+    path, table = bench.folder / "ids.txt", bench.folder / "puzzles.db"
+    texts = solos(bench, 300)
+    path.write_text("".join(f"{text}\n" for text in [*texts, *texts[:7]]))
+    add(bench, table, "solo", path)
+    lines = re.findall(r"^\$ (sqlite3 .*SELECT.*(?:\n> .*)*)", (EXAMPLES / "collect" / "README.md").read_text(), re.M)
+    expect(len(lines) == 4, f"{len(lines)} queries")
+    outputs = [bench.good(["bash", "-c", line.replace("\n> ", "\n")]) for line in lines]
+    expect(all(outputs) and len(outputs[2].splitlines()) == 8, f"{outputs}")
+    hardest = [row for row in csv.DictReader(io.StringIO(outputs[0]))]
+    ranks = [(["singles", "houses", "crossings", "search"].index(row["grade"]), int(row["trials"])) for row in hardest]
+    expect(len(ranks) > 5 and ranks == sorted(ranks, reverse=True), f"not hardest first: {ranks}")
+    counts = {row["grade"]: int(row["count"]) for row in csv.DictReader(io.StringIO(outputs[1]))}
+    expect(sum(counts.values()) == 300 and len(counts) == 4, str(counts))
+
+
+def on_many_machines(bench, count):
+    """the Dask job grades what is open, and its answers are taken in: the table is that of a run on one machine"""
+    if not dask_job.has_dask(DEBIAN):
+        return "NOT TRIED: /usr/bin/python3 has no Dask"
+    path, table, new, grades = (bench.folder / name for name in ("ids.txt", "many.db", "new.txt", "grades.txt"))
+    texts = solos(bench, count)
+    path.write_text("".join(f"{text}\n" for text in texts))
+    add(bench, table, "solo", path, "--later")
+    new.write_text(bench.good([COLLECT, "open", table, "solo"]))
+    (bench.folder / "dask").mkdir()
+    cluster = dask_job.Bench(bench.program, DEBIAN, bench.folder / "dask")
+    start = time.monotonic()
+    with dask_job.cluster(cluster, 4) as (address, _, _):
+        with open(grades, "wb") as out:
+            done = bench.run([DEBIAN, TOP / "examples" / "dask" / "job.py", "--lines", "500", address, new, "grade", "solo", "--", "{}"],
+                             stdout=out, seconds=3600)
+    taken = time.monotonic() - start
+    expect(done.returncode == 0, f"the job's status {done.returncode}: {done.stderr[-300:]}")
+    words = [COLLECT, "grades", table, "solo", new, grades]
+    bench.good(words)
+    found = {row[1]: row[4] if row[4] != "search" else f"search {row[5]}" for row in rows(table)}
+    expect(len(found) == count and None not in found.values(), f"{len(found)} rows of {count}, some open")
+    for text in random.Random(3).sample(texts, 100):
+        expect(found[text] == bench.grade("solo", text), f"{text}: {found[text]}")
+    grades.write_text(grades.read_text().rpartition("\n")[0].rpartition("\n")[0] + "\n")
+    bench.told(words, 2, f"no answer to line {count}")
+    return f"{count:,} lines in {taken:.0f} s"
+
+
+CASES = [by_hand, again, killed, stopped, faults, fast, queries]

@@ -1,0 +1,96 @@
+"""Cases of outside/examples.py: a drawing as a Pattern."""
+import itertools
+import struct
+import zlib
+
+from examples_bench import DEBIAN, EXAMPLES, expect
+
+DRAWING = EXAMPLES / "book" / "drawing.py"
+HEART = [".##.##.", "#######", "#######", ".#####.", "..###..", "...#..."]
+CROSSED = ["#.", ".#"]
+
+
+def plain(rows):
+    """A PBM in text."""
+    return f"P1\n# a drawing\n{len(rows[0])} {len(rows)}\n".encode() + "\n".join(" ".join("01"[sign == "#"] for sign in row) for row in rows).encode()
+
+
+def packed(rows):
+    """A PBM in bits."""
+    bits = [row.replace("#", "1").replace(".", "0").ljust(-len(row) % 8 + len(row), "0") for row in rows]
+    return f"P4\n{len(rows[0])} {len(rows)}\n".encode() + b"".join(int(row, 2).to_bytes(len(row) // 8, "big") for row in bits)
+
+
+def chunk(kind, content):
+    return struct.pack(">I", len(content)) + kind + content + struct.pack(">I", zlib.crc32(kind + content))
+
+
+def png(rows, colours, kind=2, palette=b""):
+    """A PNG with these bytes for white and black."""
+    lines = b"".join(b"\0" + b"".join(colours[sign == "#"] for sign in row) for row in rows)
+    head = struct.pack(">IIBBBBB", len(rows[0]), len(rows), 8, kind, 0, 0, 0)
+    more = chunk(b"PLTE", palette) if palette else b""
+    return b"\x89PNG\r\n\x1a\n" + chunk(b"IHDR", head) + more + chunk(b"IDAT", zlib.compress(lines)) + chunk(b"IEND", b"")
+
+
+def runs(cells):
+    return ".".join(str(len(run)) for run in cells.split(".") if run)
+
+
+def id_of(rows):
+    return f"{len(rows[0])}x{len(rows)}:" + "/".join(runs("".join(cells)) for cells in [*zip(*rows), *rows])
+
+
+def looked_at(bench, content, *words):
+    path = bench.folder / "drawing"
+    path.write_bytes(content)
+    done = bench.run([DEBIAN, DRAWING, *words, path])
+    return done.returncode, done.stdout.splitlines(), done.stderr
+
+
+def one(bench):
+    """the same drawing as text, bits and three kinds of PNG has one ID, by its own clues, and one solution"""
+    files = [plain(HEART), packed(HEART), png(HEART, (b"\xff\xff\xff", b"\0\0\0")), png(HEART, (b"\xee\xdd\x99", b"\x60\0\x20")),
+             png(HEART, (b"\1", b"\0"), 3, b"\x20\0\0\xff\xf0\xf0"), png(HEART, (b"\0\0\0\0", b"\0\0\0\xff"), 6)]
+    for number, content in enumerate(files):
+        status, lines, errors = looked_at(bench, content)
+        expect(status == 0 and lines[0] == id_of(HEART) and lines[1].startswith("one: "), f"file {number}: {status} {lines} {errors}")
+        expect(lines[1].endswith(bench.grade("pattern", lines[0])), lines[1])
+
+
+def several(bench):
+    """the open cells are marked: in small drawings they are cells that differ between solutions found by trying all grids"""
+    for number in range(1, 2**9, 7):
+        sign = f"{number:09b}".replace("1", "#").replace("0", ".")
+        rows = [sign[:3], sign[3:6], sign[6:]]
+        grids = [grid for grid in ("".join(signs) for signs in itertools.product("#.", repeat=9))
+                 if id_of([grid[:3], grid[3:6], grid[6:]]) == id_of(rows)]
+        status, lines, errors = looked_at(bench, plain(rows))
+        expect(status == (0 if len(grids) == 1 else 3) and not errors, f"{rows}: status {status}, {len(grids)} solutions: {errors}")
+        marked = {place for place, sign in enumerate("".join(lines[2:])) if sign == "?"}
+        may_differ = {place for place in range(9) if len({grid[place] for grid in grids}) > 1}
+        expect(marked <= may_differ and bool(marked) == bool(may_differ), f"{rows}: {lines}")
+    path = bench.folder / "open.svg"
+    status, lines, _ = looked_at(bench, plain(CROSSED), "--svg", str(path))
+    expect(status == 3 and lines[2:] == ["??", "??"] and path.read_text().count("#c00") == 4, f"{status} {lines}")
+
+
+def faults(bench):
+    """what is no drawing of two colours, or too large, is told in one sentence"""
+    heart = png(HEART, (b"\xff\xff\xff", b"\0\0\0"))
+    three = b"P2\n3 1\n255\n0 128 255\n"
+    cases = [(heart[:40], 2, "no PBM or PNG"), (heart[:-30], 2, "no PBM or PNG"), (b"", 2, "no PBM or PNG"), (b"GIF89a" + bytes(99), 2, "no PBM or PNG"),
+             (b"P4\n99999999 99999999\n", 2, "no PBM or PNG"), (b"P4\n4000 4000\n", 2, "at most 120"), (plain(["#" * 121]), 2, "at most 120"), (three, 2, "more than two colours"),
+             (b"P1\n2 2\n1 0 x 1\n", 2, "no PBM or PNG"), (b"P4\n-1 5\n", 2, "no PBM or PNG")]
+    for content, wanted, sentence in cases:
+        status, _, errors = looked_at(bench, content)
+        expect(status == wanted and sentence in errors and errors.count("\n") == 1, f"{content[:20]}: status {status}: {errors}")
+    (bench.folder / "drawing").write_bytes(plain(HEART))
+    bench.told([DEBIAN, DRAWING, bench.folder / "nowhere.png"], 6, "No such file")
+    bench.told([DEBIAN, DRAWING, "--program", "nowhere", "drawing"], 7, "no program nowhere")
+    bench.told([DEBIAN, DRAWING, "--svg", "/proc/none.svg", "drawing"], 6, "/proc/none.svg")
+    with open("/dev/full", "w") as full:
+        bench.told([DEBIAN, DRAWING, "drawing"], 6, "No space left", stdout=full)
+
+
+CASES = [one, several, faults]
