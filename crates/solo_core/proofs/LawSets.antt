@@ -11,13 +11,12 @@ use Rattle.solo_core.specs.BoundLaws.{house_count, bound_is, crossings_rules-bou
 use Rattle.solo_core.proofs.SinglesLemmas.{singles_in_houses}
 use Rattle.solo_core.specs.RuleLaws.{houses_lawful, singles_lawful, crossings_lawful}
 use Rattle.solo_core.proofs.DecidingLemmas.{length-deciding, decides-at, kept-houses, long-at, listed-crossings, listed-deciding}
-use Rattle.solo_core.proofs.MateLemmas.{rest-more, rest-same, rest-apart}
-use Rattle.solo_core.proofs.PeelLemmas.{lone-counts, counts-none, counts-more, peeled-step, counts-same, peeled-none, peeled-more}
+use Rattle.solo_core.proofs.PeelLemmas.{lone-counts, counts-none, counts-more, peeled-step, counts-same, peeled-none, peeled-more, rest-peeled, settled-peeled}
 use Rattle.solo_core.proofs.QuickLemmas.{goes_on_free, begun-none, goes_on_swapped}
 use Rattle.solo_core.proofs.WayLemmas.{over_none, over_next, over_all}
 use Rattle.solo_core.proofs.Marks.{bits_joined, single_bit}
 use Rattle.solo_core.proofs.StartLemmas.{started, started-none, started-all, started-blank, started-given, started-there}
-use Rattle.solo_core.proofs.Turned.{after-root, before-root, in_ends, after-step, before-step}
+use Rattle.solo_core.proofs.Turned.{after-root, before-root, all_inside, after-step, before-step}
 
 pub ruleset check_laws = (given_first, len_of, number_at, seen_none, seen_more, seen_again, seen_all, fine_more)
 
@@ -50,10 +49,8 @@ pub ruleset laws_laws = (
 
 pub ruleset lists_laws = (append-nil, length-map-range_with_len, line-low, line-more)
 
-pub ruleset mates_laws = (rest-more, rest-same, rest-apart)
-
 pub ruleset peel_laws =
-    (both-bits, either-bits, lone-counts, counts-none, counts-more, peeled-step, counts-same, peeled-none, peeled-more)
+    (both-bits, either-bits, lone-counts, counts-none, counts-more, peeled-step, counts-same, peeled-none, peeled-more, rest-peeled, settled-peeled)
 
 pub ruleset quick_laws = (both-bits, goes_on_free, begun-none, goes_on_swapped)
 
@@ -65,4 +62,4 @@ pub ruleset start_laws = (started, started-none, started-all, started-blank, sta
 
 pub ruleset rule_sets_laws = (decides-at, long-at, first_at, filled-length, listed-crossings, listed-deciding, kept-houses)
 
-pub ruleset turning_laws = (after-root, before-root, in_ends, after-step, before-step, either-bits, both-bits)
+pub ruleset turning_laws = (after-root, before-root, all_inside, after-step, before-step, either-bits, both-bits)

@@ -8,6 +8,7 @@ pub mod SinglesLemmas
 mod PeelLemmas
 mod QuickLemmas
 mod MateLemmas
+mod RestLemmas
 mod WholeLemmas
 mod HouseLemmas
 mod HouseLists

@@ -1,12 +1,15 @@
 -- A pairing of the cells with values is a filling without repeat, and a short set rules out every one. The values of the cells that
 -- are alone and a pairing of the rest make a pairing of the house.
 use Rattle.std.proofs.lemmas.Grind.{common_steps}
-use Rattle.std.proofs.Common.{◌≡◌, ℕ, ◌<◌, true, false, true≢false, List, [], length, get_or, slice_index, map, refl, sym, ◌∙◌, ap, arith, inl, inr, zero, suc, ◌+◌, Bool, not, ◌∷◌, ◌++◌, cond, append-nil}
-use Rattle.solo_core.specs.Common.{range_with_len, cases_lt, true_from_ne_false, get_or-map, length-map, get_or_past, get_or-map-range_with_len, length-map-range_with_len, has_value, IsShownBy, IsPairing, has_bit, set_of_bits, no_repeat, has_in, is_struck, cases_Bool, true≢false, not-true, not_from_false, map-id, filter_of_map_range_with_len_more, length-range_with_len, get_or-range_with_len, AreDifferent, has_place-at, has_place-here, place-filter, place-kept, different-filter, has_place, nat_tests}
+use Rattle.std.proofs.Common.{◌≡◌, ℕ, ◌<◌, ◌≤◌, true, false, true≢false, List, [], length, get_or, slice_index, take, map, refl, sym, ◌∙◌, ap, arith, inl, inr, zero, suc, ◌+◌, ◌⊎◌, Bool, not, eqb, ◌∷◌, ◌++◌, cond, append-nil}
+use Rattle.solo_core.specs.Common.{range_with_len, cases_lt, true_from_ne_false, get_or-map, length-map, get_or_past, get_or-map-range_with_len, length-map-range_with_len, has_value, IsShownBy, has_bit, set_of_bits, no_repeat, has_in, is_struck, cases_Bool, cases_eq, eq-eqb, eqb-true, false_from_ne_true, not-true, not_from_false, map-id, filter_of_map_range_with_len_more, length-range_with_len, get_or-range_with_len, AreDifferent, has_place-at, has_place-here, place-filter, place-kept, different-filter, has_place, nat_tests}
+use mir.Val.{bool_byte}
+use Rattle.std.proofs.lemmas.List.{take-set, take_more_set}
+use Rattle.std.proofs.Math.ListN.{set}
 use Rattle.engine_core.specs.FillingLaws.{shown_from_test, test_from_shown}
 use Rattle.solo_core.specs.NoRepeatLaws.{own_from_no_repeat, no_repeat_from_different}
 use Rattle.grid_core.proofs.ShortSets.{no_choice}
-use Rattle.solo_core.specs.Peeled.{AreAlone, IsShort, rest_of, PairsCells, KeepsFillings}
+use Rattle.solo_core.specs.Peeled.{IsOutside, IsPaired, IsRest, IsShort, KeepsFillings, PairsCells, rest_of}
 
 -- a set of bits has the values below n whose bit is set
 pub has_set_of_bits : {n : ℕ} (bits : ℕ) {v : ℕ} → v < n → has_value (set_of_bits n bits) v ≡ has_bit bits v
@@ -77,6 +80,15 @@ rest-more k cells e off = rw e (sym (rest-next k cells ∙ ap (λ b. rest_of k c
 pub rest-same : (k : ℕ) (cells : ℕ → Bool) {rest : List ℕ} → rest ≡ rest_of k cells → cells k ≡ true → rest ≡ rest_of (k + 1) cells
 rest-same k cells e on = e ∙ sym (rest-next k cells ∙ ap (λ b. rest_of k cells ++ cond (not b) (k ∷ []) []) on ∙ append-nil (rest_of k cells))
 
+pub byte-most : (on : Bool) → bool_byte on ≤ 1
+byte-most true = omega arith
+byte-most false = omega arith
+
+pub rest-written : (xs : List ℕ) (count k : ℕ) (cells : ℕ → Bool) (on : Bool) → take count xs ≡ rest_of k cells → count < length xs → cells k ≡ not on
+    → take (count + bool_byte on) (set xs count k) ≡ rest_of (k + 1) cells
+rest-written xs count k cells true e lt is = take_more_set xs count k lt ∙ rest-more k cells e is
+rest-written xs count k cells false e lt is = ap (λ n. take n (set xs count k)) (omega arith) ∙ take-set xs count k ∙ rest-same k cells e is
+
 -- ---- which cells are in the rest
 module _ (n : ℕ) (cells : ℕ → Bool) where
   abbrev rest : List ℕ
@@ -107,66 +119,6 @@ rest-within n cells e i lt = rw e ((rest-in n cells (rw e at lt)).0)
 pub rest-apart : (n : ℕ) (cells : ℕ → Bool) {rest : List ℕ} → rest ≡ rest_of n cells → AreDifferent rest
 rest-apart n cells e = rw e (rest-different n cells)
 
--- ---- the pairing of the house
-module _ (n : ℕ) (sets : List ℕ) (cells : ℕ → Bool) (alone : AreAlone n sets cells) where
-  abbrev others : List ℕ
-  others = rest_of (length sets) cells
-
-  abbrev joins : ℕ → ℕ → Bool
-  joins l r = has_in sets (slice_index others l) r
-
-  -- where the rest has no pairing, the house has none
-  pub no_pairing : (xs mates : List ℕ) → IsShort n sets others xs → PairsCells n sets mates → ⊥
-  no_pairing xs mates short p = no_choice joins (length others) n xs short (λ l. slice_index mates (slice_index others l))
-      (λ l lt. p.in_range (slice_index others l) (inside l lt))
-      (λ l lt. p.joined (slice_index others l) (inside l lt))
-      (λ l m ll lm same. rest-different (length sets) cells l m ll lm (p.own (slice_index others l) (slice_index others m) (inside l ll) (inside m lm) same))
-    where
-      inside : (l : ℕ) → l < length others → slice_index others l < length sets
-      inside l lt = (rest-in (length sets) cells lt).0
-
-  module _ {paired : List ℕ} (first mates : List ℕ) (p : IsPairing joins (length others) n paired)
-      (own : (k v : ℕ) → k < length sets → v < n → has_in sets k v ≡ true → has_in sets k (slice_index first k) ≡ true)
-      (as_many : length mates ≡ length sets)
-      (at_rest : (i : ℕ) → i < length others → slice_index mates (slice_index others i) ≡ slice_index paired i)
-      (at_other : (k : ℕ) → ((i : ℕ) → i < length others → slice_index others i ≡ k → ⊥) → slice_index mates k ≡ slice_index first k) where
-    alone-mate : (k : ℕ) (lk : k < length sets) (on : cells k ≡ true) → slice_index mates k ≡ (alone k lk on).value
-    alone-mate k lk on =
-        let a = alone k lk on in
-        at_other k (λ i li e. true≢false (sym on ∙ (rw e at (rest-in (length sets) cells li).1)))
-        ∙ a.only (slice_index first k) (own k a.value lk a.value_in a.has)
-
-    -- in range and joined
-    fits : {k : ℕ} → k < length sets → (slice_index mates k < n) × (has_in sets k (slice_index mates k) ≡ true)
-    fits {k} lk = elim (cases_Bool (cells k)) [
-      | inl on ↦ let a = alone k lk on in rw (alone-mate k lk on) (a.value_in, a.has)
-      | inr off ↦ by (rest-has (length sets) cells lk off)
-    ]
-      where
-        by : (i : ℕ) × (i < length others) × (slice_index others i ≡ k) → (slice_index mates k < n) × (has_in sets k (slice_index mates k) ≡ true)
-        by (i, li, is) = rw (sym (ap (slice_index mates) is) ∙ at_rest i li) (p.in_range i li, rw is at (p.joined i li))
-
-    -- a cell that is alone has no value of another
-    apart : (k m : ℕ) → k < length sets → m < length sets → cells k ≡ true → (m ≡ k → ⊥) → slice_index mates k ≡ slice_index mates m → ⊥
-    apart k m lk lm on ne same = true≢false (sym (fits lm).1 ∙ ap (has_in sets m) (sym same ∙ alone-mate k lk on) ∙ (alone k lk on).apart m lm ne)
-
-    different : {k m : ℕ} → (i : ℕ) × (i < length others) × (slice_index others i ≡ k) → (j : ℕ) × (j < length others) × (slice_index others j ≡ m)
-        → slice_index mates k ≡ slice_index mates m → k ≡ m
-    different (i, li, is) (j, lj, is_m) same =
-        let e = p.own i j li lj (sym (at_rest i li) ∙ ap (slice_index mates) is ∙ same ∙ sym (ap (slice_index mates) is_m) ∙ at_rest j lj) in
-        sym is ∙ ap (slice_index others) e ∙ is_m
-
-    pub whole_pairing : PairsCells n sets mates
-    whole_pairing = record { len = as_many; in_range = λ k lk. (fits lk).0; joined = λ k lk. (fits lk).1; own = own_mate }
-      where
-        own_mate : (k m : ℕ) → k < length sets → m < length sets → slice_index mates k ≡ slice_index mates m → k ≡ m
-        own_mate k m lk lm same =
-            let a = apart k m lk lm in
-            let b = apart m k lm lk in
-            let d : cells k ≡ false → cells m ≡ false → k ≡ m =
-            λ off off_m. different (rest-has (length sets) cells lk off) (rest-has (length sets) cells lm off_m) same in
-            grind arith
-
 -- the last number below n that passes
 pub last : ℕ → (ℕ → Bool) → ℕ
 last zero passes = 0
@@ -182,6 +134,87 @@ unfolding last
 last-below zero passes some = absurd (omega arith)
 last-below (suc zero) passes some = grind (arith, nat_tests)
 last-below (suc (suc n)) passes some = grind (arith, nat_tests, last-below (suc n) passes (omega arith))
+
+-- a cell is in a list, or outside
+pub in_or_out : (rest : List ℕ) (k : ℕ) → ((i : ℕ) × (i < length rest) × (slice_index rest i ≡ k)) ⊎ IsOutside rest k
+in_or_out rest k = elim (cases_Bool (has_place rest k)) [
+  | inl on ↦ inl (has_place-at rest k on)
+  | inr off ↦ inr (λ t lt is. true≢false (sym (has_place-here rest t lt) ∙ ap (has_place rest) is ∙ off))
+]
+
+-- ---- the pairing of the house
+module _ (n : ℕ) (sets rest : List ℕ) (r : IsRest n sets rest) where
+  abbrev joins : ℕ → ℕ → Bool
+  joins l v = has_in sets (slice_index rest l) v
+
+  -- where the rest has no pairing, the house has none
+  pub no_pairing : (xs mates : List ℕ) → IsShort n sets rest xs → PairsCells n sets mates → ⊥
+  no_pairing xs mates short p = no_choice joins (length rest) n xs short (λ l. slice_index mates (slice_index rest l))
+      (λ l lt. p.in_range (slice_index rest l) (r.within l lt))
+      (λ l lt. p.joined (slice_index rest l) (r.within l lt))
+      (λ l m ll lm same. r.different l m ll lm (p.own (slice_index rest l) (slice_index rest m) (r.within l ll) (r.within m lm) same))
+
+  module _ {paired : List ℕ} (p : IsPaired n sets rest paired) where
+    -- the place of a cell in the rest
+    at : ℕ → ℕ
+    at k = last (length rest) (λ i. eqb (slice_index rest i) k)
+
+    mate : ℕ → ℕ
+    mate k = cond (has_place rest k) (slice_index paired (at k)) (last n (has_in sets k))
+
+    pub house_mates : List ℕ
+    house_mates = map mate (range_with_len 0 (length sets))
+
+    mates-at : (k : ℕ) → k < length sets → slice_index house_mates k ≡ mate k
+    unfolding house_mates
+    mates-at k lk = get_or-map-range_with_len mate 0 (length sets) k k 0 lk (omega arith)
+
+    pub mates-rest : (i : ℕ) → i < length rest → slice_index house_mates (slice_index rest i) ≡ slice_index paired i
+    unfolding mate at
+    mates-rest i li =
+        let k = slice_index rest i in
+        let passes : ℕ → Bool = λ j. eqb (slice_index rest j) k in
+        let low = last-below (length rest) passes (omega arith) in
+        let same = eqb-true _ k (last-passes (length rest) passes i li (eq-eqb k k refl)) in
+        mates-at k (r.within i li) ∙ rw (has_place-here rest i li) (ap (slice_index paired) (r.different (at k) i low li same))
+
+    pub mates-alone : (k : ℕ) (lk : k < length sets) (out : IsOutside rest k) → slice_index house_mates k ≡ (r.alone k lk out).value
+    unfolding mate
+    mates-alone k lk out =
+        let a = r.alone k lk out in
+        let off = false_from_ne_true (has_place rest k) (λ on. let w = has_place-at rest k on in out w.0 w.1 w.2) in
+        mates-at k lk ∙ rw off (a.only (last n (has_in sets k)) (last-passes n (has_in sets k) a.value a.value_in a.has))
+
+    -- in range and joined
+    fits : {k : ℕ} → k < length sets → (slice_index house_mates k < n) × (has_in sets k (slice_index house_mates k) ≡ true)
+    fits {k} lk = elim (in_or_out rest k) [
+      | inl w ↦ rw (sym (ap (slice_index house_mates) w.2) ∙ mates-rest w.0 w.1) (p.in_range w.0 w.1, rw w.2 at (p.joined w.0 w.1))
+      | inr out ↦ let a = r.alone k lk out in rw (mates-alone k lk out) (a.value_in, a.has)
+    ]
+
+    -- a cell that is alone has no value of another
+    apart : (k m : ℕ) (lk : k < length sets) → m < length sets → IsOutside rest k → slice_index house_mates k ≡ slice_index house_mates m → k ≡ m
+    apart k m lk lm out same = elim (cases_eq m k) [
+      | inl e ↦ sym e
+      | inr ne ↦ absurd (true≢false (sym (fits lm).1 ∙ ap (has_in sets m) (sym same ∙ mates-alone k lk out) ∙ (r.alone k lk out).apart m lm ne))
+    ]
+
+    pub house_pairing : PairsCells n sets house_mates
+    unfolding house_mates
+    house_pairing = record {
+      len = length-map-range_with_len mate 0 (length sets);
+      in_range = λ k lk. (fits lk).0;
+      joined = λ k lk. (fits lk).1;
+      own = λ k m lk lm same. elim (in_or_out rest k) [
+        | inr out ↦ apart k m lk lm out same
+        | inl w ↦ elim (in_or_out rest m) [
+          | inr out ↦ sym (apart m k lm lk out (sym same))
+          | inl x ↦
+              let e = p.own w.0 x.0 w.1 x.1 (sym (mates-rest w.0 w.1) ∙ ap (slice_index house_mates) w.2 ∙ same ∙ sym (ap (slice_index house_mates) x.2) ∙ mates-rest x.0 x.1) in
+              sym w.2 ∙ ap (slice_index rest) e ∙ x.2
+        ]
+      ];
+    }
 
 -- where no value is struck, the sets are kept
 pub decided_by_all : {n : ℕ} {sets : List ℕ} → ((k v : ℕ) → k < length sets → v < n → has_in sets k v ≡ true → is_struck n sets k v ≡ false)

@@ -1,10 +1,10 @@
 -- Striking the value of a cell that has one alone from the other cells takes no filling away.
 use Rattle.std.proofs.lemmas.Grind.{common_steps}
-use Rattle.std.proofs.Common.{◌≡◌, ℕ, ◌+◌, ◌<◌, ◌⊎◌, true, false, not, ◌&&◌, ◌||◌, ◌^◌, bit_and, ltb, List, map, length, slice_index, refl, sym, ap, ◌∙◌, inl, inr, arith}
-use Rattle.solo_core.specs.Common.{cases_eq, eq-eqb, eqb-true, true≢false, false_from_ne_true, true_from_ne_false, nat_tests, has_bit, set_of_bits, zero-bits, both-bits, has_in, is_struck, no_repeat}
+use Rattle.std.proofs.Common.{◌≡◌, ℕ, ◌<◌, ◌≤◌, ◌⊎◌, true, false, not, ◌&&◌, ◌||◌, ◌^◌, bit_and, ltb, List, map, length, slice_index, refl, sym, ap, ◌∙◌, inl, inr, arith}
+use Rattle.solo_core.specs.Common.{cases_eq, eq-eqb, eqb-true, ne_eqb, true≢false, false_from_ne_true, true_from_ne_false, nat_tests, has_bit, set_of_bits, zero-bits, both-bits, has_in, is_struck, no_repeat}
 use Rattle.engine_core.specs.FillingLaws.{shown_from_test}
-use Rattle.solo_core.specs.Peeled.{IsPeeled, IsAlone, AreLone, AreCounts, meets, IsSingleSet, IsDropped, PairsCells, KeepsFillings}
-use Rattle.solo_core.proofs.MateLemmas.{shown_by_pairing, pairing_of_filling}
+use Rattle.solo_core.specs.Peeled.{AreAllCounts, AreCounts, AreLone, AreSettled, IsAlone, IsDropped, IsOutside, IsPeeled, IsRest, IsSingleSet, KeepsFillings, KeepsOthers, PairsCells, meets, rest_of}
+use Rattle.solo_core.proofs.MateLemmas.{pairing_of_filling, rest-apart, rest-has, rest-in, rest-within, shown_by_pairing}
 use Rattle.solo_core.specs.NoRepeatLaws.{none_missed}
 use Rattle.solo_core.proofs.Marks.{none_in_zero, some_set}
 use Rattle.std.proofs.lemmas.Nat.{and_le_r}
@@ -31,32 +31,53 @@ peeled-more {n} a b = record {
 }
 
 -- ---- counts
-pub counts-none : {sets : List ℕ} {some single shared : ℕ} → (some ≡ 0) × (single ≡ 0) × (shared ≡ 0) → AreCounts sets 0 some single shared
-counts-none (a, b, c) = record {
-  has = λ j v lj on. absurd (omega arith);
+pub counts-none : {sets : List ℕ} {cells : ℕ → Type 0} {some single shared : ℕ} → ((j : ℕ) → cells j → ⊥)
+    → (some ≡ 0) × (single ≡ 0) × (shared ≡ 0) → AreCounts sets cells some single shared
+counts-none none (a, b, c) = record {
+  has = λ j v on has. absurd (none j on);
   singles = λ v on. absurd (none_in_zero v (rw b at on));
-  shares = λ j k v lt lk on_j on_k. absurd (omega arith);
+  shares = λ j k v on_j on_k ne has_j has_k. absurd (none j on_j);
 }
 
--- the counts of the first cells are the same in a list with the same first cells
-pub counts-same : {sets new : List ℕ} {first some single shared : ℕ}
-    → AreCounts sets first some single shared
-    → ((j : ℕ) → j < first → slice_index new j ≡ slice_index sets j)
-    → AreCounts new first some single shared
-counts-same c same = grind (arith, common_steps)
+-- the counts are those of the same cells of another list that has the same sets there
+pub counts-same : {sets new : List ℕ} {cells same : ℕ → Type 0} {some single shared : ℕ} → AreCounts sets cells some single shared
+    → ((j : ℕ) → cells j → slice_index new j ≡ slice_index sets j) → ((j : ℕ) → same j → cells j) → ((j : ℕ) → cells j → same j)
+    → AreCounts new same some single shared
+counts-same {sets} {new} {cells} {same} c is from to =
+    let back = λ (j v : ℕ) (on : same j) (has : has_in new j v ≡ true). sym (ap (λ b. has_bit b v) (is j (from j on))) ∙ has in
+    record {
+      has = λ j v on has. c.has j v (from j on) (back j v on has);
+      singles = λ v on. let w = c.singles v on in (w.0, to w.0 w.1, rw (is w.0 w.1) w.2);
+      shares = λ j k v on_j on_k ne has_j has_k. c.shares j k v (from j on_j) (from k on_k) ne (back j v on_j has_j) (back k v on_k has_k);
+    }
 
-pub counts-more : {sets : List ℕ} (first : ℕ) {some single shared some' single' shared' : ℕ} → AreCounts sets first some single shared
-    → ((v : ℕ) → has_bit some' v ≡ (has_bit some v || has_in sets first v))
-    → ((v : ℕ) → has_bit single' v ≡ true → (has_bit single v ≡ true) ⊎ IsSingleSet (slice_index sets first) v)
-    → ((v : ℕ) → has_bit shared' v ≡ (has_bit shared v || (has_bit some v && has_in sets first v)))
-    → AreCounts sets (first + 1) some' single' shared'
-counts-more first c a b d = record {
-  has = λ j v lj on. grind (arith, nat_tests, a v, c.has j v);
-  singles = λ v on. elim (b v on) [
-    | inl was ↦ let w = c.singles v was in (w.0, omega (arith, w.1), w.2)
-    | inr new ↦ (first, omega arith, new)
+-- the counts of one more cell
+pub counts-more : {sets : List ℕ} {cells more : ℕ → Type 0} (cell : ℕ) {some single shared some' single' shared' : ℕ}
+    → AreCounts sets cells some single shared
+    → ((j : ℕ) → more j → (j ≡ cell) ⊎ cells j) → ((j : ℕ) → cells j → more j) → more cell
+    → ((v : ℕ) → has_bit some' v ≡ (has_bit some v || has_in sets cell v))
+    → ((v : ℕ) → has_bit single' v ≡ true → (has_bit single v ≡ true) ⊎ IsSingleSet (slice_index sets cell) v)
+    → ((v : ℕ) → has_bit shared' v ≡ (has_bit shared v || (has_bit some v && has_in sets cell v)))
+    → AreCounts sets more some' single' shared'
+counts-more {sets} cell c split to here a b d = record {
+  has = λ j v on has. elim (split j on) [
+    | inl e ↦ let z = a v in let there = ap (λ i. has_in sets i v) (sym e) ∙ has in grind arith
+    | inr was ↦ let z = a v in let y = c.has j v was has in grind arith
   ];
-  shares = λ j k v lt lk on_j on_k. grind (arith, nat_tests, d v, c.has j v, c.shares j k v lt);
+  singles = λ v on. elim (b v on) [
+    | inl was ↦ let w = c.singles v was in (w.0, to w.0 w.1, w.2)
+    | inr new ↦ (cell, here, new)
+  ];
+  shares = λ j k v on_j on_k ne has_j has_k. elim (split j on_j) [
+    | inl e ↦ elim (split k on_k) [
+      | inl e_k ↦ absurd (ne (e ∙ sym e_k))
+      | inr was ↦ let z = d v in let y = c.has k v was has_k in let there = ap (λ i. has_in sets i v) (sym e) ∙ has_j in grind arith
+    ]
+    | inr was ↦ elim (split k on_k) [
+      | inl e ↦ let z = d v in let y = c.has j v was has_j in let there = ap (λ i. has_in sets i v) (sym e) ∙ has_k in grind arith
+      | inr was_k ↦ let z = d v in let y = c.shares j k v was was_k ne has_j has_k in grind arith
+    ]
+  ];
 }
 
 -- a cell with one of the values meets them
@@ -66,15 +87,12 @@ meets-here sets values k v has on = true_from_ne_false (meets sets values k)
     true≢false (sym (both-bits (slice_index sets k) values v ∙ grind arith) ∙ ap (λ b. has_bit b v) z ∙ zero-bits v))
 
 -- what is dropped, no pairing has: each value has a cell, and a cell with one value alone has it
-module _ {n : ℕ} {old : List ℕ} (square : length old ≡ n) {some single shared : ℕ} (c : AreCounts old (length old) some single shared) where
-  shares : (j k v : ℕ) → j < length old → k < length old → (j ≡ k → ⊥) → has_in old j v ≡ true → has_in old k v ≡ true → has_bit shared v ≡ true
-  shares j k v lj lk ne on_j on_k = grind (arith, c.shares j k v, c.shares k j v)
-
+module _ {n : ℕ} {old : List ℕ} (square : length old ≡ n) {some single shared : ℕ} (c : AreAllCounts old some single shared) where
   not_dropped : (mates : List ℕ) → PairsCells n old mates → (k : ℕ) → k < length old
       → IsDropped n single shared (slice_index old k) (slice_index mates k) → ⊥
   not_dropped mates p k lk (w, lw, has, ne, inl lone) =
       none_missed (slice_index mates) (λ x lx. p.in_range x (omega arith)) (λ x y lx ly same. p.own x y (omega arith) (omega arith) same) lw
-      (λ x lx is. let s = shares x k w (omega arith) lk in let j = p.joined x (omega arith) in grind arith)
+      (λ x lx is. let s = c.shares x k w (omega arith) lk in let j = p.joined x (omega arith) in grind arith)
   not_dropped mates p k lk (w, lw, has, ne, inr on) =
       let j = c.singles (slice_index mates k) on in
       let own = p.own j.0 k j.1 lk in
@@ -105,9 +123,9 @@ module _ {n : ℕ} {old : List ℕ} (square : length old ≡ n) {some single sha
         has = has;
         only = λ w there. elim (cases_eq j.0 k) [
           | inl e ↦ eqb-true w v (sym (j.2 w) ∙ ap (λ i. has_in old i w) e ∙ there)
-          | inr nj ↦ absurd (true≢false (sym (shares j.0 k v j.1 lk nj (j.2 v ∙ eq-eqb v v refl) has) ∙ off))
+          | inr nj ↦ absurd (true≢false (sym (c.shares j.0 k v j.1 lk nj (j.2 v ∙ eq-eqb v v refl) has) ∙ off))
         ];
-        apart = λ m lm ne. false_from_ne_true _ (λ there. true≢false (sym (shares m k v lm lk ne there has) ∙ off));
+        apart = λ m lm ne. false_from_ne_true _ (λ there. true≢false (sym (c.shares m k v lm lk ne there has) ∙ off));
       }
 
   -- the values that some cell has alone and no two have
@@ -124,6 +142,75 @@ module _ {n : ℕ} {old : List ℕ} (square : length old ≡ n) {some single sha
         let has = j.2 v ∙ eq-eqb v v refl in
         (j.0, j.1, meets-here old lone j.0 v has on, has);
   }
+
+-- ---- the cells that do not have the values that are alone
+module _ {n : ℕ} {sets rest : List ℕ} {lone : ℕ} (l : AreLone n sets lone) (e : rest ≡ rest_of (length sets) (meets sets lone)) where
+  outside-meets : (k : ℕ) → k < length sets → IsOutside rest k → meets sets lone k ≡ true
+  outside-meets k lk out = true_from_ne_false (meets sets lone k)
+      (λ off. let w = rest-has (length sets) (meets sets lone) lk off in out w.0 (rw e w.1) (rw e w.2))
+
+  pub rest-is : length rest ≤ length sets → IsRest n sets rest
+  rest-is few = record {
+    few = few;
+    within = rest-within (length sets) (meets sets lone) e;
+    different = rest-apart (length sets) (meets sets lone) e;
+    alone = λ k lk out. l.alone k lk (outside-meets k lk out);
+  }
+
+  -- such a cell is not in the rest
+  meets-outside : (k : ℕ) → meets sets lone k ≡ true → IsOutside rest k
+  meets-outside k on t lt is =
+      let off = (rest-in (length sets) (meets sets lone) (rw e at lt)).1 in
+      true≢false (sym on ∙ ap (meets sets lone) (sym is ∙ ap (λ xs. slice_index xs t) e) ∙ off)
+
+  pub rest-settled : lone < 2 ^ 32 → AreSettled sets rest lone
+  rest-settled low = record {
+    has = λ j v on has.
+        let m = outside-meets j on.0 (λ t lt. on.1 t (omega arith) lt) in
+        let a = l.alone j on.0 m in
+        let at = some_set (bit_and (slice_index sets j) lone) (omega (arith, and_le_r (slice_index sets j) lone)) m in
+        let both = both-bits (slice_index sets j) lone at.0 in
+        let first : has_in sets j at.0 ≡ true = grind arith in
+        let same : at.0 ≡ v = a.only at.0 first ∙ sym (a.only v has) in
+        ap (has_bit lone) (sym same) ∙ grind arith;
+    singles = λ v on.
+        let h = l.held v on in
+        let a = l.alone h.0 h.1 h.2 in
+        let own = a.only v h.3 in (
+          h.0,
+          (h.1, λ t le lt is. meets-outside h.0 h.2 t lt is),
+          λ w. elim (cases_eq w v) [
+            | inl same ↦ ap (has_in sets h.0) same ∙ h.3 ∙ sym (eq-eqb w v same)
+            | inr ne ↦ false_from_ne_true (has_in sets h.0 w) (λ has. ne (a.only w has ∙ sym own)) ∙ sym (ne_eqb w v ne)
+          ],
+        );
+    shares = λ j k v on_j on_k ne has_j has_k.
+        let a = l.alone j on_j.0 (outside-meets j on_j.0 (λ t lt. on_j.1 t (omega arith) lt)) in
+        absurd (true≢false (sym has_k ∙ ap (has_in sets k) (a.only v has_j) ∙ a.apart k on_k.0 (λ same. ne (sym same))));
+  }
+
+-- what stays of the rest is the rest
+pub rest-peeled : {n : ℕ} {old new rest : List ℕ} → IsPeeled n old new → KeepsOthers rest old new → IsRest n old rest → IsRest n new rest
+rest-peeled {n} {old} {new} {rest} p keeps r = record {
+  few = omega (arith, p.as_many, r.few);
+  within = λ t lt. omega (arith, p.as_many, r.within t lt);
+  different = r.different;
+  alone = λ k lk out.
+      let a = r.alone k (omega (arith, p.as_many)) out in
+      let same = keeps k out in
+      record {
+        value = a.value;
+        value_in = a.value_in;
+        has = ap (λ b. has_bit b a.value) same ∙ a.has;
+        only = λ v has. a.only v (sym (ap (λ b. has_bit b v) same) ∙ has);
+        apart = λ m lm ne. false_from_ne_true (has_in new m a.value)
+            (λ on. true≢false (sym (p.inside m a.value (omega (arith, p.as_many)) on) ∙ a.apart m (omega (arith, p.as_many)) ne));
+      };
+}
+
+pub settled-peeled : {n settled : ℕ} {old new : List ℕ} (rest : List ℕ) → IsPeeled n old new → KeepsOthers rest old new → AreSettled old rest settled → AreSettled new rest settled
+settled-peeled rest p keeps c = counts-same c (λ j on. keeps j (λ t lt. on.1 t (omega arith) lt)) (λ j on. (omega (arith, p.as_many, on.0), on.1))
+    (λ j on. (omega (arith, p.as_many, on.0), on.1))
 
 -- ---- what is decided of the peeled sets is decided of the sets
 -- what is shown by a pairing is shown where each pairing of the sets is one of the others

@@ -1,6 +1,6 @@
 -- The bounds of closings as numbers: 3n + 3n^3 in plain Solo, with two houses more in Solo X, and with crossings what these add.
 use Rattle.std.proofs.lemmas.Grind.{common_steps}
-use Rattle.std.proofs.Common.{◌≡◌, ℕ, zero, suc, ◌+◌, ◌-◌, ◌*◌, ◌/◌, ◌%◌, ◌^◌, ◌<◌, ◌≤◌, Bool, true, false, not, cond, eqb, List, [], ◌∷◌, map, length, get_or, if◌then◌else◌, refl, sym, ap, ◌∙◌, min, inl, inr, add-one, arith, length-append, All, sum_by}
+use Rattle.std.proofs.Common.{◌≡◌, ℕ, zero, suc, ◌+◌, ◌-◌, ◌*◌, ◌/◌, ◌%◌, ◌<◌, ◌≤◌, Bool, true, false, not, cond, eqb, List, [], ◌∷◌, map, length, get_or, if◌then◌else◌, refl, sym, ap, ◌∙◌, min, inl, inr, add-one, arith, length-append, All, sum_by}
 use Rattle.solo_core.specs.Common.{range_with_len, filter, cases_order, eq-eqb, ne_eqb, nat_tests, div-mul-add, mod-mul-add, div_below, mod_below, mul-le, mul-add-lt, div-add-mod', length-map, map-append, All-map, length-map-range_with_len, filter_of_map_range_with_len_more, count_below, count_below-same, Solo, IsSolo, solo_n, has_place, strikes_by_fillings, Decision, visits_of, Row, Column, Block, solo_cells, block_of, houses_of, places_of, no_repeat}
 use Rattle.std.proofs.lemmas.List.Sums.{sum_by-cons, sum_by-append}
 use Rattle.solo_core.specs.Crossing.{crossing_places}

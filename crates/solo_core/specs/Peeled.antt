@@ -1,7 +1,7 @@
 -- What may be struck from a house before its cells are paired with values: the value of a cell that has one alone, from
 -- the other cells; and the other values of a cell that is the only one with some value.
-use Rattle.std.specs.Prelude.{◌≡◌, ℕ, ◌<◌, ◌&&◌, ◌||◌, ◌==◌, ◌⊎◌, bit_and, Bool, true, false, not, List, length, slice_index}
-use Rattle.solo_core.specs.Common.{range_with_len, filter, IsPairing, IsShortSet, has_bit, has_in, strikes_by_fillings, IsDecided, no_repeat}
+use Rattle.std.specs.Prelude.{◌≡◌, ℕ, ◌<◌, ◌≤◌, ◌&&◌, ◌||◌, ◌==◌, ◌⊎◌, bit_and, Bool, true, false, not, List, length, slice_index}
+use Rattle.solo_core.specs.Common.{range_with_len, filter, AreDifferent, IsPairing, IsShortSet, has_bit, has_in, strikes_by_fillings, IsDecided, no_repeat}
 
 -- each cell has a value of its own, which its set has
 abbrev pub PairsCells : ℕ → List ℕ → List ℕ → Type 0
@@ -42,6 +42,24 @@ meets sets values cell = not (bit_and (slice_index sets cell) values == 0)
 abbrev pub rest_of : ℕ → (ℕ → Bool) → List ℕ
 rest_of n cells = filter (λ k. not (cells k)) (range_with_len 0 n)
 
+-- the cell is none of these from the i-th on, or none at all
+abbrev pub IsPassed : List ℕ → ℕ → ℕ → Type 0
+IsPassed rest i cell = (t : ℕ) → i ≤ t → t < length rest → slice_index rest t ≡ cell → ⊥
+
+abbrev pub IsOutside : List ℕ → ℕ → Type 0
+IsOutside rest cell = (t : ℕ) → t < length rest → slice_index rest t ≡ cell → ⊥
+
+-- the rest: different cells of a house, outside which each is alone
+pub record IsRest (n : ℕ) (sets rest : List ℕ) : Type 0 where
+  pub few : length rest ≤ length sets
+  pub within : AreCellsOf sets rest
+  pub different : AreDifferent rest
+  pub alone : (k : ℕ) → k < length sets → IsOutside rest k → IsAlone n sets k
+
+-- cells outside the rest keep their sets
+abbrev pub KeepsOthers : List ℕ → List ℕ → List ℕ → Type 0
+KeepsOthers rest old new = (k : ℕ) → IsOutside rest k → slice_index new k ≡ slice_index old k
+
 -- the values whose bit is set are those of cells that are alone: the cells that meet them are, and each is one's
 pub record AreLone (n : ℕ) (sets : List ℕ) (lone : ℕ) : Type 0 where
   pub alone : AreAlone n sets (meets sets lone)
@@ -63,36 +81,36 @@ IsPaired n sets rest mates = IsPairing (has_in_rest sets rest) (length rest) n m
 abbrev pub IsShort : ℕ → List ℕ → List ℕ → List ℕ → Type 0
 IsShort n sets rest short = IsShortSet (has_in_rest sets rest) (length rest) n short
 
--- each cell that has a value has its mate
-abbrev pub HasMate : ℕ → List ℕ → List ℕ → Type 0
-HasMate n sets mates = (k v : ℕ) → k < length sets → v < n → has_in sets k v ≡ true
-    → has_in sets k (slice_index mates k) ≡ true
+-- the mate of each cell of the rest leads to the cell's values
+abbrev pub LeadByMates : List ℕ → List ℕ → List ℕ → List ℕ → Type 0
+LeadByMates sets rest mates leads = (i : ℕ) → i < length rest
+    → slice_index leads (slice_index mates i) ≡ slice_index sets (slice_index rest i)
 
--- the cells of the rest got these mates, and other cells keep theirs
-abbrev pub GotMates : List ℕ → List ℕ → List ℕ → Type 0
-GotMates rest mates new = (i : ℕ) → i < length rest
-    → slice_index new (slice_index rest i) ≡ slice_index mates i
-
-abbrev pub KeepMates : List ℕ → List ℕ → List ℕ → Type 0
-KeepMates rest old new = (k : ℕ) → ((i : ℕ) → i < length rest → slice_index rest i ≡ k → ⊥)
-    → slice_index new k ≡ slice_index old k
-
--- each cell keeps the values that reach its mate
-abbrev pub KeepsReaching : ℕ → List ℕ → List ℕ → List ℕ → List ℕ → Type 0
-KeepsReaching n mates reach old new = (k v : ℕ) → k < length old → v < n
-    → has_in new k v ≡ (has_in old k v && has_in reach v (slice_index mates k))
+-- each cell of the rest keeps the values that reach its mate
+abbrev pub KeepsReaching : ℕ → List ℕ → List ℕ → List ℕ → List ℕ → List ℕ → Type 0
+KeepsReaching n rest mates reach old new = (i v : ℕ) → i < length rest → v < n
+    → has_in new (slice_index rest i) v
+    ≡ (has_in old (slice_index rest i) v && has_in reach v (slice_index mates i))
 
 -- the set has the value and no other
 abbrev pub IsSingleSet : ℕ → ℕ → Type 0
 IsSingleSet set value = (w : ℕ) → has_bit set w ≡ (w == value)
 
--- of the first cells: the values that some have, only such that some have alone, and all that two have
-pub record AreCounts (sets : List ℕ) (first some single shared : ℕ) : Type 0 where
-  pub has : (j v : ℕ) → j < first → has_in sets j v ≡ true → has_bit some v ≡ true
+-- of these cells: the values that some have, only such that some have alone, and all that two have
+pub record AreCounts (sets : List ℕ) (cells : ℕ → Type 0) (some single shared : ℕ) : Type 0 where
+  pub has : (j v : ℕ) → cells j → has_in sets j v ≡ true → has_bit some v ≡ true
   pub singles : (v : ℕ) → has_bit single v ≡ true
-      → (k : ℕ) × (k < first) × IsSingleSet (slice_index sets k) v
-  pub shares : (j k v : ℕ) → j < k → k < first → has_in sets j v ≡ true → has_in sets k v ≡ true
-      → has_bit shared v ≡ true
+      → (k : ℕ) × cells k × IsSingleSet (slice_index sets k) v
+  pub shares : (j k v : ℕ) → cells j → cells k → (j ≡ k → ⊥) → has_in sets j v ≡ true
+      → has_in sets k v ≡ true → has_bit shared v ≡ true
+
+-- of all cells; and of those outside the rest, none of which has a value of another
+abbrev pub AreAllCounts : List ℕ → ℕ → ℕ → ℕ → Type 0
+AreAllCounts sets = AreCounts sets (λ k. k < length sets)
+
+abbrev pub AreSettled : List ℕ → List ℕ → ℕ → Type 0
+AreSettled sets rest values =
+    AreCounts sets (λ k. (k < length sets) × IsPassed rest 0 k) values values 0
 
 -- the set has another value, and no other set has that one, or some set has this one alone
 abbrev pub IsDropped : ℕ → ℕ → ℕ → ℕ → ℕ → Type 0

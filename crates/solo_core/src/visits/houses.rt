@@ -3,12 +3,12 @@
 ghost use Rattle.std.specs.Prelude.{◌≡◌, ℕ, ◌<◌, ◌≤◌, ◌&&◌, false, length, true};
 ghost use Rattle.grid_core.specs.Candidates.{max_values};
 ghost use Rattle.solo_core.specs.Common.{has_bit as is_set, has_in};
-ghost use Rattle.solo_core.specs.Peeled.{AreLone, IsPaired, KeepsReaching, PairsCells, KeepsFillings, meets, rest_of as rest_cells};
+ghost use Rattle.solo_core.specs.Peeled.{AreLone, IsPaired, IsRest, KeepsFillings, KeepsOthers, KeepsReaching};
 
 use crate::visits::bits::{next_bit, others_below, with_bit_if};
-use crate::visits::mates::{MANY, pair_rest, rest_of, write_own, write_rest};
+use crate::visits::mates::{MANY, pair_rest, write_rest};
 use crate::visits::peel::{are_whole, copy_counted, peel};
-use crate::visits::reach::close_under_steps;
+use crate::visits::reach::{close_under_steps, write_leads};
 use crate::visits::turning::lie_on_rounds;
 use engine_core::has_bit;
 use grid_core::{Paired, Pairing};
@@ -16,8 +16,9 @@ use grid_core::{Paired, Pairing};
 /// Decides what is kept of the sets of a house: bit `v` of the `k`-th stays exactly where some filling without repeat
 /// has the value `v` in the `k`-th cell. Says whether anything may be struck; else nothing is, whatever is in `kept`.
 ///
-/// The values of cells that have one alone are struck from the others first. If the others have all other values each,
-/// nothing more is struck. Else one filling of the rest is found by a pairing. Another one has the value `v` in a cell
+/// A cell that has alone what no other has is settled, and only the rest is looked at. There the values of cells that
+/// have one alone are struck from the others first. If the others have all other values each, nothing more is struck.
+/// Else one filling of the rest is found by a pairing. Another one has the value `v` in a cell
 /// exactly where one can go from `v` back to the cell's value in the first filling, each time to a value that the cell
 /// of the last could have instead: the cells on the way change their values in turn.
 pub(crate) fn keep_houses(values: u8, sets: &[u32], kept: &mut [u32], pairing: &mut Pairing) -> bool
@@ -30,27 +31,30 @@ pub(crate) fn keep_houses(values: u8, sets: &[u32], kept: &mut [u32], pairing: &
     ensures room { pairing.new.room ≡ pairing.old.room }
 {
     let counts = copy_counted(sets, kept);
-    if !counts.are_open() && are_whole(values, counts.lone(values), sets) {
+    let settled = counts.lone(values);
+    if !counts.are_open() && are_whole(values, settled, sets) {
         return false;
     }
-    let lone = peel(values, counts, kept);
+    let mut rest_space = [0u8; MANY];
+    let count = write_rest(sets, settled, &mut rest_space);
+    let rest = &rest_space[..count];
+    let lone = peel(values, counts, settled, rest, kept);
     if !are_whole(values, lone, kept) {
-        keep_others(values, lone, kept, pairing);
+        keep_others(values, lone, rest, kept, pairing);
     }
     true
 }
 
 /// Decides what is kept of a house in which these values are those of cells that are alone.
-fn keep_others(values: u8, lone: u32, kept: &mut [u32], pairing: &mut Pairing)
+fn keep_others(values: u8, lone: u32, rest: &[u8], kept: &mut [u32], pairing: &mut Pairing)
     requires few { values ≤ max_values }
     requires square { length kept.old ≡ values }
     requires lone { AreLone values kept.old lone }
+    requires rest { IsRest values kept.old rest.now }
     requires room { values ≤ pairing.old.room }
     ensures decided { KeepsFillings values kept.old kept.new }
     ensures room { pairing.new.room ≡ pairing.old.room }
 {
-    let others = rest_of(kept, lone);
-    let rest: &[u8] = &others;
     let mut paired_space = [0u8; MANY];
     let paired = &mut paired_space[..rest.len()];
     match pair_rest(values, kept, rest, pairing, paired) {
@@ -60,44 +64,37 @@ fn keep_others(values: u8, lone: u32, kept: &mut [u32], pairing: &mut Pairing)
 }
 
 /// Decides what is kept of a house in which these values are those of cells that are alone, and the rest is paired.
-#[tactic(auto, using(crate::proofs::LawSets::mates_laws))]
 fn keep_paired(values: u8, lone: u32, rest: &[u8], paired: &[u8], kept: &mut [u32])
     requires few { values ≤ max_values }
     requires square { length kept.old ≡ values }
     requires lone { AreLone values kept.old lone }
-    requires rest { rest.now ≡ rest_cells (length kept.old) (meets kept.old lone) }
+    requires rest { IsRest values kept.old rest.now }
     requires paired { IsPaired values kept.old rest.now paired.now }
     ensures decided { KeepsFillings values kept.old kept.new }
 {
-    let mut mate_space = [0u8; MANY];
-    let mates = &mut mate_space[..kept.len()];
-    write_own(values, kept, mates);
-    write_rest(rest, paired, mates);
     let mut reach_space = [0u32; MANY];
-    let reach = &mut reach_space[..kept.len()];
-    // a value leads to those of the cell that has it
-    for cell in 0..kept.len() {
-        reach[usize::from(mates[cell])] = kept[cell];
-    }
-    let all = others_below(values, lone);
-    if lie_on_rounds(reach, all) {
+    let reach = &mut reach_space[..usize::from(values)];
+    write_leads(kept, rest, paired, reach);
+    if lie_on_rounds(reach, paired, others_below(values, lone)) {
         return;
     }
     close_under_steps(reach);
-    keep_reached(values, mates, reach, kept);
+    keep_reached(values, rest, paired, reach, kept);
 }
 
-/// Keeps of each set the values that reach the cell's own.
-fn keep_reached(values: u8, mates: &[u8], reach: &[u32], kept: &mut [u32])
+/// Keeps of each set of the rest the values that reach the cell's own.
+fn keep_reached(values: u8, rest: &[u8], mates: &[u8], reach: &[u32], kept: &mut [u32])
     requires few { values ≤ max_values }
-    requires square { length kept.old ≡ values }
     requires reached { length reach.now ≡ values }
-    requires paired { PairsCells (length kept.old) kept.old mates.now }
+    requires rest { IsRest values kept.old rest.now }
+    requires paired { IsPaired values kept.old rest.now mates.now }
     ensures as_many { length kept.new ≡ length kept.old }
-    ensures bits { KeepsReaching values mates.now reach.now kept.old kept.new }
+    ensures bits { KeepsReaching values rest.now mates.now reach.now kept.old kept.new }
+    ensures others { KeepsOthers rest.now kept.old kept.new }
 {
-    for cell in 0..kept.len() {
-        kept[cell] = reaching(values, kept[cell], usize::from(mates[cell]), reach);
+    for i in 0..rest.len() {
+        let cell = usize::from(rest[i]);
+        kept[cell] = reaching(values, kept[cell], usize::from(mates[i]), reach);
     }
 }
 

@@ -4,7 +4,7 @@
 ghost use Rattle.std.specs.Prelude.{◌≡◌, ℕ, ◌≤◌, ◌&&◌, ◌||◌, nat_lt, not, true, length};
 ghost use Rattle.grid_core.specs.Candidates.{max_values};
 ghost use Rattle.engine_core.specs.Sets.{has_bit as is_set};
-ghost use Rattle.solo_core.specs.Peeled.{IsPeeled, AreLone, AreWhole, AreCounts, AddsSingle, AddsShared, AreDropped};
+ghost use Rattle.solo_core.specs.Peeled.{IsPeeled, AreLone, AreWhole, AreAllCounts, AreSettled, IsRest, KeepsOthers, AddsSingle, AddsShared, AreDropped};
 
 use crate::visits::bits::others_below;
 
@@ -20,7 +20,7 @@ pub(crate) struct Counts {
 pub(crate) fn copy_counted(sets: &[u32], copy: &mut [u32]) -> Counts
     requires as_many { length copy.old ≡ length sets.now }
     ensures copied { copy.new ≡ sets.now }
-    ensures counts { AreCounts sets.now (length sets.now) result.some result.single result.shared }
+    ensures counts { AreAllCounts sets.now result.some result.single result.shared }
 {
     let mut counts = NO_COUNTS;
     for k in 0..sets.len() {
@@ -32,21 +32,23 @@ pub(crate) fn copy_counted(sets: &[u32], copy: &mut [u32]) -> Counts
 
 /// Strikes the value of a cell that has one alone from the other cells, and the other values of a cell that is the only
 /// one with some value, until there is no such cell. Tells the values that a cell then has alone, and no other cell
-/// has. Every filling without repeat stays.
-pub(crate) fn peel(values: u8, counted: Counts, sets: &mut [u32]) -> u32
+/// has. Every filling without repeat stays. Cells outside the rest have one value each, which is settled.
+pub(crate) fn peel(values: u8, counted: Counts, settled: u32, rest: &[u8], sets: &mut [u32]) -> u32
     requires few { values ≤ max_values }
     requires square { length sets.old ≡ values }
-    requires counts { AreCounts sets.old (length sets.old) counted.some counted.single
-        counted.shared }
+    requires counts { AreAllCounts sets.old counted.some counted.single counted.shared }
+    requires settled { AreSettled sets.old rest.now settled }
+    requires rest { IsRest values sets.old rest.now }
     ensures peeled { IsPeeled values sets.old sets.new }
     ensures lone { AreLone values sets.new result }
+    ensures rest { IsRest values sets.new rest.now }
 {
     let mut counts = counted;
     for _turn in 0..sets.len() {
         if !counts.are_open() {
             break;
         }
-        let narrowed = narrow_all(values, counts, sets);
+        let narrowed = narrow_all(values, counts, settled, rest, sets);
         if narrowed.single == counts.single && narrowed.shared == counts.shared {
             return narrowed.lone(values);
         }
@@ -70,9 +72,14 @@ impl Counts {
         ensures single { AddsSingle self.single set result.single }
         ensures shared { AddsShared self.shared self.some set result.shared }
     {
+        let alone = if set & set.wrapping_sub(1) == 0 {
+            set
+        } else {
+            0
+        };
         Counts {
             some: self.some | set,
-            single: self.single | if set.is_power_of_two() { set } else { 0 },
+            single: self.single | alone,
             shared: self.shared | (self.some & set),
         }
     }
@@ -92,18 +99,26 @@ impl Counts {
     }
 }
 
-/// Strikes from each set what the counts say, and counts again.
-fn narrow_all(values: u8, counts: Counts, sets: &mut [u32]) -> Counts
+/// Strikes from each set of the rest what the counts say, and counts again.
+fn narrow_all(values: u8, counts: Counts, settled: u32, rest: &[u8], sets: &mut [u32]) -> Counts
     requires few { values ≤ max_values }
     requires square { length sets.old ≡ values }
-    requires counts { AreCounts sets.old (length sets.old) counts.some counts.single counts.shared }
+    requires counts { AreAllCounts sets.old counts.some counts.single counts.shared }
+    requires settled { AreSettled sets.old rest.now settled }
+    requires rest { IsRest values sets.old rest.now }
     ensures peeled { IsPeeled values sets.old sets.new }
-    ensures counts { AreCounts sets.new (length sets.new) result.some result.single result.shared }
+    ensures counts { AreAllCounts sets.new result.some result.single result.shared }
+    ensures others { KeepsOthers rest.now sets.old sets.new }
 {
-    let mut narrowed = NO_COUNTS;
-    for k in 0..sets.len() {
-        let set = narrow(values, counts, sets[k]);
-        sets[k] = set;
+    let mut narrowed = Counts {
+        some: settled,
+        single: settled,
+        shared: 0,
+    };
+    for i in 0..rest.len() {
+        let cell = usize::from(rest[i]);
+        let set = narrow(values, counts, sets[cell]);
+        sets[cell] = set;
         narrowed = narrowed.with(set);
     }
     narrowed

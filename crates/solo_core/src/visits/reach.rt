@@ -2,10 +2,26 @@
 #![tactic(auto, using(crate::proofs::LawSets::reach_laws))]
 
 ghost use Rattle.std.specs.Prelude.{◌≡◌, ◌<◌, ◌≤◌, length};
-ghost use Rattle.solo_core.specs.Common.{has_bit as is_set, has_in};
+ghost use Rattle.solo_core.specs.Common.{AreDifferent, has_bit as is_set, has_in};
+ghost use Rattle.solo_core.specs.Peeled.{AreCellsOf, KeepsOthers, LeadByMates};
 ghost use Rattle.solo_core.specs.Ways.{IsTransitiveClosure, LeadsOver};
 
 use crate::visits::bits::with_more;
+
+/// Writes that the mate of each of these cells leads to the cell's values.
+pub(crate) fn write_leads(sets: &[u32], rest: &[u8], mates: &[u8], leads: &mut [u32])
+    requires rest_in { AreCellsOf sets.now rest.now }
+    requires as_many { length mates.now ≡ length rest.now }
+    requires mates_in { AreCellsOf leads.old mates.now }
+    requires different { AreDifferent mates.now }
+    ensures as_many { length leads.new ≡ length leads.old }
+    ensures leads { LeadByMates sets.now rest.now mates.now leads.new }
+    ensures others { KeepsOthers mates.now leads.old leads.new }
+{
+    for i in 0..rest.len() {
+        leads[usize::from(mates[i])] = sets[usize::from(rest[i])];
+    }
+}
 
 /// Adds to what each value leads to all that it leads to over others.
 pub(crate) fn close_under_steps(reach: &mut [u32])
@@ -26,6 +42,9 @@ fn reach_over(reach: &mut [u32], over: u8)
     ensures bits { LeadsOver (has_in reach.old over) over reach.old reach.new }
 {
     let more = reach[usize::from(over)];
+    if more == 0 {
+        return;
+    }
     if more == 1 << over {
         return;
     }

@@ -1,12 +1,28 @@
-use Rattle.std.proofs.Common.{arith, ◌∙◌}
-use Rattle.solo_core.proofs.PeelLemmas.{decided_by_peeled, lone-counts}
+use Rattle.std.proofs.Common.{arith, ◌∙◌, length-take}
+use Rattle.solo_core.specs.Peeled.{AreLone}
+use Rattle.solo_core.proofs.PeelLemmas.{decided_by_peeled, lone-counts, rest-is, rest-settled}
 use Rattle.solo_core.proofs.WholeLemmas.{decided_whole}
 use Rattle.solo_core.proofs.visits.houses.keep_houses.Goals as goal
+use Rattle.solo_core.proofs.visits.houses.keep_houses.Goals.{After-write_rest-count}
 
 pub returns-then-are_whole-clause-none : goal.returns-then-are_whole-clause-none
 returns-then-are_whole-clause-none c = λ _.
-    decided_whole c.requires.square (lone-counts c.requires.square c.copy_counted-counts.ensures.counts (omega arith) c.lone.ensures)
+    decided_whole c.requires.square (lone-counts c.requires.square c.copy_counted-counts.ensures.counts (omega arith) c.lone-settled.ensures)
     (c.are_whole.ensures c.if-are_whole.true)
+
+-- the values that are alone, and the cells that have none of them
+are_lone : (c : After-write_rest-count) → AreLone c.args.values c.args.sets.now c.lone-settled.result
+are_lone c = lone-counts c.requires.square c.copy_counted-counts.ensures.counts (omega arith) c.lone-settled.ensures
+
+pub peel-lone-requires-clause-settled : goal.peel-lone-requires-clause-settled
+peel-lone-requires-clause-settled c =
+    let d = (goal.at.peel-lone-requires-clause-settled c).After-write_rest-count in
+    rw c.copy_counted-counts.ensures.copied (rest-settled (are_lone d) c.write_rest-count.ensures.rest (omega arith))
+
+pub peel-lone-requires-clause-rest : goal.peel-lone-requires-clause-rest
+peel-lone-requires-clause-rest c =
+    let d = (goal.at.peel-lone-requires-clause-rest c).After-write_rest-count in
+    rw c.copy_counted-counts.ensures.copied (rest-is (are_lone d) c.write_rest-count.ensures.rest (grind (arith, length-take)))
 
 pub returns-then-not-are_whole-clause-decided : goal.returns-then-not-are_whole-clause-decided
 returns-then-not-are_whole-clause-decided c = λ _.

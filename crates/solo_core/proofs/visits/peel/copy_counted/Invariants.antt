@@ -6,5 +6,5 @@ abbrev pub invariant-loop-k : goal.invariant-loop-k
 invariant-loop-k l = record {
   as_many : length l.copy ≡ length l.sets;
   copied : (j : ℕ) → j < l.k → slice_index l.copy j ≡ slice_index l.sets j;
-  counts : AreCounts l.sets l.k l.counts.some l.counts.single l.counts.shared;
+  counts : AreCounts l.sets (λ j. j < l.k) l.counts.some l.counts.single l.counts.shared;
 }

@@ -1,39 +1,73 @@
-use Rattle.std.proofs.Common.{◌≡◌, ℕ, ◌&&◌, ◌||◌, sym, ap, ◌∙◌, refl, slice_index, slice_set, arith, inl, inr}
+use Rattle.std.proofs.Common.{◌≡◌, ℕ, ◌+◌, ◌<◌, ◌&&◌, ◌||◌, sym, ap, ◌∙◌, refl, slice_index, slice_set, arith, inl, inr, length}
 use Rattle.solo_core.specs.Common.{cases_eq, get_or-set_other, length-set, get_or-set_at, has_bit}
-use Rattle.solo_core.proofs.PeelLemmas.{peeled-step, counts-same, counts-more}
+use Rattle.solo_core.specs.Peeled.{IsPassed}
+use Rattle.solo_core.proofs.PeelLemmas.{counts-more, counts-same, peeled-step}
 use Rattle.solo_core.proofs.visits.peel.narrow_all.Goals as goal
 
-pub loop-k-preserved : goal.loop-k-preserved
-loop-k-preserved c =
-    let k = c.loop-k.k in
-    let i = c.loop-k.invariant in
+pub loop-i-preserved : goal.loop-i-preserved
+loop-i-preserved c =
+    let rest = c.args.rest.now in
+    let at = c.loop-i.i in
+    let cell = c.from-cell.result in
+    let here_is : cell ≡ slice_index rest at = c.from-cell.ensures in
+    let i = c.loop-i.invariant in
     let set = c.narrow-set.result in
-    let old = slice_index c.args.sets.now in
-    let new = slice_set c.loop-k.sets k set in
-    let here = get_or-set_at c.loop-k.sets k k set 0 refl (omega arith) in
-    let there : (j : ℕ) → (j ≡ k → ⊥) → slice_index new j ≡ slice_index c.loop-k.sets j = λ j ne. get_or-set_other c.loop-k.sets k j set 0 ne in
-    let was = i.rest k (omega arith) in
+    let sets = c.loop-i.sets in
+    let new = slice_set sets cell set in
+    let here = get_or-set_at sets cell cell set 0 refl (omega (arith, i.as_many, c.requires.rest.within at)) in
+    let there : (j : ℕ) → (j ≡ cell → ⊥) → slice_index new j ≡ slice_index sets j = λ j ne. get_or-set_other sets cell j set 0 ne in
+    let was : slice_index sets cell ≡ slice_index c.args.sets.now cell =
+    ap (slice_index sets) here_is ∙ i.ahead at (omega arith) (omega arith) ∙ ap (slice_index c.args.sets.now) (sym here_is) in
     record {
-      as_many = length-set c.loop-k.sets k set ∙ i.as_many;
-      counts = counts-more k (counts-same i.counts (λ j lj. there j (λ e. absurd (omega arith))))
-          (λ v. c.with-narrowed.ensures.some v ∙ ap (λ b. has_bit c.loop-k.narrowed.some v || has_bit b v) (sym here))
+      as_many = length-set sets cell set ∙ i.as_many;
+      counts = counts-more {more = λ (k : ℕ). (k < length c.args.sets.now) × IsPassed rest (at + 1) k} cell
+          (counts-same i.counts (λ j on. there j (λ e. on.1 at (omega arith) (omega arith) (sym (e ∙ here_is)))) (λ j on. on) (λ j on. on))
+          (λ j on. elim (cases_eq j cell) [
+            | inl e ↦ inl e
+            | inr ne ↦ inr (
+              on.0,
+              λ t le lt is. elim (cases_eq t at) [
+                | inl e ↦ ne (sym is ∙ ap (slice_index rest) e ∙ sym here_is)
+                | inr later ↦ on.1 t (omega arith) lt is
+              ],
+            )
+          ])
+          (λ j on. (on.0, λ t le lt is. on.1 t (omega arith) lt is)) (
+            omega (arith, c.requires.rest.within at),
+            λ t le lt is.
+                absurd (omega (arith, c.requires.rest.different t at lt (omega arith) (is ∙ here_is))),
+          )
+          (λ v. c.with-narrowed.ensures.some v ∙ ap (λ b. has_bit c.loop-i.narrowed.some v || has_bit b v) (sym here))
           (λ v on. rw here (c.with-narrowed.ensures.single v on))
           (λ v. c.with-narrowed.ensures.shared v
-          ∙ ap (λ b. has_bit c.loop-k.narrowed.shared
-          v || (has_bit c.loop-k.narrowed.some v && has_bit b v)) (sym here));
-      inside = λ j v lj on. grind (arith, there j, i.inside j v, c.narrow-set.ensures.inside v);
-      dropped = λ j v lj lv on off. elim (cases_eq j k) [
+          ∙ ap (λ b. has_bit c.loop-i.narrowed.shared
+          v || (has_bit c.loop-i.narrowed.some v && has_bit b v)) (sym here));
+      inside = λ j v on. elim (cases_eq j cell) [
+        | inl e ↦
+            ap (λ k. has_bit (slice_index c.args.sets.now k) v) e ∙ ap (λ b. has_bit b v) (sym was)
+            ∙ c.narrow-set.ensures.inside v (ap (λ b. has_bit b v) (sym here ∙ ap (slice_index new) (sym e)) ∙ on)
+        | inr ne ↦ i.inside j v (ap (λ b. has_bit b v) (sym (there j ne)) ∙ on)
+      ];
+      dropped = λ j v lv on off. elim (cases_eq j cell) [
         | inl e ↦ rw (e, sym was)
             (c.narrow-set.ensures.dropped v lv
-            (ap (λ b. has_bit b v) (was ∙ ap old (sym e)) ∙ on)
+            (ap (λ b. has_bit b v) (was ∙ ap (slice_index c.args.sets.now) (sym e)) ∙ on)
             (ap (λ b. has_bit b v) (sym here ∙ ap (slice_index new) (sym e)) ∙ off))
-        | inr ne ↦ i.dropped j v (omega arith) lv on (ap (λ b. has_bit b v) (sym (there j ne)) ∙ off)
+        | inr ne ↦ i.dropped j v lv on (ap (λ b. has_bit b v) (sym (there j ne)) ∙ off)
       ];
-      rest = λ j le. there j (λ e. absurd (omega arith)) ∙ i.rest j (omega arith);
+      ahead = λ t le lt. there (slice_index rest t)
+          (λ e. absurd (omega (arith, c.requires.rest.different t at lt (omega arith) (e ∙ here_is)))) ∙ i.ahead t (omega arith) lt;
+      others = λ k out. there k (λ e. out at (omega arith) (sym (e ∙ here_is))) ∙ i.others k out;
     }
 
 pub returns-clause-peeled : goal.returns-clause-peeled
 returns-clause-peeled c =
-    let i = c.loop-k.invariant in
+    let i = c.loop-i.invariant in
     peeled-step c.requires.square c.requires.counts i.as_many
-    (λ k v lk on. i.inside k v (omega arith) on) (λ k v lk lv on off. i.dropped k v (omega arith) lv on off)
+    (λ k v lk on. i.inside k v on) (λ k v lk lv on off. i.dropped k v lv on off)
+
+pub returns-clause-counts : goal.returns-clause-counts
+returns-clause-counts c =
+    let i = c.loop-i.invariant in
+    counts-same i.counts (λ j on. refl) (λ j lt. (omega (arith, i.as_many), λ t le lr is. absurd (omega arith)))
+    (λ j on. omega (arith, i.as_many, on.0))

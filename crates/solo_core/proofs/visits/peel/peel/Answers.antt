@@ -1,12 +1,17 @@
 use Rattle.std.proofs.Common.{◌∙◌, arith}
-use Rattle.solo_core.proofs.PeelLemmas.{peeled-more, lone-counts}
+use Rattle.solo_core.proofs.PeelLemmas.{lone-counts, peeled-more, rest-peeled, settled-peeled}
 use Rattle.solo_core.proofs.visits.peel.peel.Goals as goal
 
 pub loop-turn-preserved : goal.loop-turn-preserved
-loop-turn-preserved c = record {
-  peeled = peeled-more c.loop-turn.invariant.peeled c.narrow_all-narrowed.ensures.peeled;
-  counts = c.narrow_all-narrowed.ensures.counts;
-}
+loop-turn-preserved c =
+    let i = c.loop-turn.invariant in
+    let n = c.narrow_all-narrowed.ensures in
+    record {
+      peeled = peeled-more i.peeled n.peeled;
+      counts = n.counts;
+      settled = settled-peeled c.args.rest.now n.peeled n.others i.settled;
+      rest = rest-peeled n.peeled n.others i.rest;
+    }
 
 pub returns-then-narrowed-counts-2-clause-peeled : goal.returns-then-narrowed-counts-2-clause-peeled
 returns-then-narrowed-counts-2-clause-peeled c = peeled-more c.loop-turn.invariant.peeled c.narrow_all-narrowed.ensures.peeled
@@ -15,6 +20,10 @@ pub returns-then-narrowed-counts-2-clause-lone : goal.returns-then-narrowed-coun
 returns-then-narrowed-counts-2-clause-lone c =
     lone-counts (c.narrow_all-narrowed.ensures.peeled.as_many ∙ c.loop-turn.invariant.peeled.as_many ∙ c.requires.square)
     c.narrow_all-narrowed.ensures.counts (omega arith) c.lone.ensures
+
+pub returns-then-narrowed-counts-2-clause-rest : goal.returns-then-narrowed-counts-2-clause-rest
+returns-then-narrowed-counts-2-clause-rest c =
+    rest-peeled c.narrow_all-narrowed.ensures.peeled c.narrow_all-narrowed.ensures.others c.loop-turn.invariant.rest
 
 pub returns-clause-lone : goal.returns-clause-lone
 returns-clause-lone c = lone-counts (c.loop-turn.invariant.peeled.as_many ∙ c.requires.square) c.loop-turn.invariant.counts (omega arith) c.lone-2.ensures

@@ -1,0 +1,7 @@
+use Rattle.std.proofs.Common.{length}
+use Rattle.solo_core.specs.Common.{has_in}
+use Rattle.solo_core.specs.Ways.{ComesAfter}
+use Rattle.solo_core.proofs.visits.turning.come_after.Given as goal
+
+abbrev pub invariant-loop-step : goal.invariant-loop-step
+invariant-loop-step l = ComesAfter (length l.leads) (has_in l.leads) l.root l.after
