@@ -2,6 +2,7 @@
 
 mod light_up;
 mod tents;
+mod walks;
 
 use engine_core::{Rules, Searchable, Store};
 use grid_core::Grid;

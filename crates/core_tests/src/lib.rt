@@ -8,6 +8,8 @@ mod engine;
 #[cfg(test)]
 mod fields;
 #[cfg(test)]
+mod fillings;
+#[cfg(test)]
 mod game_ids;
 #[cfg(test)]
 mod grid;
@@ -19,3 +21,5 @@ mod pattern;
 mod planes;
 #[cfg(test)]
 mod solo;
+#[cfg(test)]
+mod walks;

@@ -3,3 +3,4 @@
 mod checks;
 mod closings;
 mod scopes;
+mod walks;
