@@ -31,7 +31,8 @@ class Process:
             if self.is_over:
                 raise Failed("program")
             try:
-                self.child = subprocess.Popen(words, stdin=subprocess.PIPE, stdout=subprocess.PIPE, bufsize=0, start_new_session=True)
+                self.child = subprocess.Popen(words, stdin=subprocess.PIPE, stdout=subprocess.PIPE, bufsize=0,
+                                              start_new_session=True)
             except (OSError, ValueError):
                 raise Failed("program") from None
             self.alive.add(self)
@@ -112,6 +113,10 @@ def run(*words, given="", end=None):
         process.stop()
 
 
+def is_ended(answer):
+    return answer.endswith(b"\n" + END)
+
+
 class Worker:
     """A `solve` of one game that is kept. It is fed an ID and an empty line, whose own answer marks the end."""
 
@@ -136,8 +141,8 @@ class Worker:
         try:
             self.begin()
             self.asked += 1
-            answer = self.process.exchange(f"{text}\n\n".encode(), end, is_last=False, is_whole=lambda got: got.endswith(b"\n" + END))
-            if not answer.endswith(b"\n" + END):
+            answer = self.process.exchange(f"{text}\n\n".encode(), end, is_last=False, is_whole=is_ended)
+            if not is_ended(answer):
                 raise Failed("program")
             return answer.removesuffix(END).decode()
         except (OSError, UnicodeDecodeError):

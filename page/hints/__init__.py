@@ -23,7 +23,8 @@ def hint(game, text, marks, solution):
     values = [value_of(puzzle, sign) for sign in right]
     wrong = [place for place, sign in enumerate(signs) if sign != "." and value_of(puzzle, sign) != values[place]]
     if wrong:
-        return told("wrong", puzzle, [f"{puzzle.where(wrong[0]).capitalize()} is wrong.", *more_wrong(len(wrong) - 1)], wrong[:1], [])
+        words = [f"{puzzle.where(wrong[0]).capitalize()} is wrong.", *more_wrong(len(wrong) - 1)]
+        return told("wrong", puzzle, words, wrong[:1], [])
     blank = {place for place, sign in enumerate(signs) if sign == "."}
     if not any(values[place] for place in blank):
         return told("done", puzzle, ["All of the solution is there."], [], [])
@@ -44,7 +45,7 @@ def is_right(steps, cans, values):
 
 
 def more_wrong(count):
-    return [f"So {'is' if count == 1 else 'are'} {count} more."] if count else []
+    return [f"{count} more {'is' if count == 1 else 'are'} wrong."] if count else []
 
 
 def may_stand(puzzle, place, sign):
@@ -78,8 +79,10 @@ def next_steps(rules, cans, blank):
 
 
 def reasoned(puzzle, steps, cells, values):
-    kinds = [[cell for cell in cells if values[cell] == value] for value in sorted({values[cell] for cell in cells}, reverse=True)]
-    words = [said(puzzle, kind, values) for kind in kinds]
+    kinds = {}
+    for cell in sorted(cells, key=lambda cell: (-values[cell], cell)):
+        kinds.setdefault(values[cell], []).append(cell)
+    words = [said(puzzle, kind, values) for kind in kinds.values()]
     return told("house", puzzle, [*words, *(step.why for step in steps)], cells, steps[-1].house, values)
 
 
@@ -91,8 +94,6 @@ def said(puzzle, cells, values):
 
 
 def told(kind, puzzle, words, cells, house, values=None):
-    place = lambda cell: [cell % puzzle.w, cell // puzzle.w]
-    signs = ["."] * len(cells)
-    if values:
-        signs = [str(values[cell]) if puzzle.block else puzzle.sign if values[cell] else "x" for cell in cells]
-    return {"kind": kind, "words": words, "cells": [place(cell) for cell in cells], "signs": signs, "house": [place(c) for c in house]}
+    signs = [str(values[cell]) if puzzle.block else puzzle.sign if values[cell] else "x" for cell in cells] if values else []
+    at = [[[cell % puzzle.w, cell // puzzle.w] for cell in some] for some in (cells, house)]
+    return {"kind": kind, "words": words, "cells": at[0], "signs": signs, "house": at[1]}

@@ -62,7 +62,8 @@ class LightUp(Counts):
             if sign.isdigit():
                 cells = [cell for cell in p.beside(place) if not p.fixed[cell]]
                 name = f"The {sign} at {p.where(place)}"
-                yield House([place, *cells], int(sign), int(sign), f"{name} has its bulbs.", f"{name} needs a bulb in each cell left.")
+                short = f"{name} needs a bulb in each cell left."
+                yield House([place, *cells], int(sign), int(sign), f"{name} has its bulbs.", short)
         seen = {}
         for line in p.columns() + p.rows():
             for run in runs(p, line):

@@ -11,7 +11,7 @@ class Pattern:
         return [{0, 1} if sign == "." else {int(sign == self.puzzle.sign)} for sign in signs]
 
     def deciding(self, cans):
-        """The lines that decide something, those with the fewest ways first."""
+        """The lines that decide something, those with the fewest ways first, and of these the one that says most."""
         found = []
         for name, cells, clue in self.houses:
             if all(len(cans[cell]) == 1 for cell in cells):
@@ -20,7 +20,8 @@ class Pattern:
             strikes = frozenset((cell, value) for cell, values in zip(cells, left) for value in cans[cell] - values)
             if strikes:
                 found.append((ways, Step(cells, self.why(name, clue, ways), strikes)))
-        return [(step, {cell for cell, _ in step.strikes}) for _, step in sorted(found, key=lambda pair: pair[0])]
+        found.sort(key=lambda pair: (pair[0], -len(pair[1].strikes)))
+        return [(step, {cell for cell, _ in step.strikes}) for _, step in found]
 
     def further(self, cans):
         return []
