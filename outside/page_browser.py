@@ -87,9 +87,15 @@ class Page:
     def select(self, box, choice):
         Select(self.one(box)).select_by_value(choice)
 
-    def keys(self, *pressed):
-        """Keys to whatever has the focus."""
-        ActionChains(self.driver).send_keys(*pressed).perform()
+    def keys(self, *pressed, held=()):
+        """Keys to whatever has the focus, while some are held down."""
+        chain = ActionChains(self.driver)
+        for key in held:
+            chain.key_down(key)
+        chain.send_keys(*pressed)
+        for key in held:
+            chain.key_up(key)
+        chain.perform()
 
     def signs(self, within="#stage"):
         """What a screen reader reads of each cell, without its place."""

@@ -37,7 +37,8 @@ export function watch() {
 
 async function tryEnd() {
   const { puzzle, state } = table.play;
-  if (isBusy() || !mayBeWhole(puzzle, state)) return;
+  if (!mayBeWhole(puzzle, state)) return;
+  if (isBusy()) return void watch(); // once that is answered
   const told = await ask("check", { ...named(), grid: print(puzzle, state) }, { ofBoard: true });
   if (told?.verdict === "correct") finish();
   else if (told && puzzle.block) say("Each cell is filled, but something is wrong. Mistakes? shows where.", "bad");
@@ -61,6 +62,7 @@ export async function hint() {
   const told = await ask("hint", fields, { ofBoard: true });
   if (!told) return;
   if (told.verdict !== "one") return say(`${SAID[told.verdict]} So there is no hint.`, "bad");
+  if (told.kind === "done") return check();
   const place = ([x, y]) => y * puzzle.w + x, cells = told.cells.map(place), isWrong = told.kind === "wrong";
   if (cells.length) choose(cells[0], false);
   point({ marked: marks(cells, isWrong ? "wrong" : "hint"), house: new Set(told.house.map(place)) });

@@ -23,7 +23,8 @@ export function lay(puzzle, id) {
   $("stage").replaceChildren(table.board.grid);
   const numbers = puzzle.block ? rowsOf(puzzle)[0] : [];
   $("pad").replaceChildren(...numbers.map((k) => element("button", { value: k + 1 }, k + 1, element("small", {}))));
-  $("keys").textContent = keyWords(puzzle);
+  $("pad").style.setProperty("--numbers", puzzle.w > 9 ? puzzle.w / 2 : puzzle.w);
+  $("keys").textContent = keyWords(puzzle, matchMedia("(pointer: coarse)").matches);
   $("notes").hidden = !puzzle.block;
   $("more").replaceChildren();
   point();
