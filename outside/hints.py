@@ -1,8 +1,8 @@
 #!/usr/bin/env python3
 """Plays made puzzles by the page's hints alone, and compares what they need with the grade that the program tells.
 
-The rules of the hints (page/hints/) are a program of its own. For each game it takes the puzzles of seeds from 1 on, until 50 have
-a rule set as their grade. Of each puzzle these have to be so:
+The rules of the hints (page/hints/) are a program of its own. For each game it takes the puzzles of seeds from 1 on, until 50
+have a rule set as their grade. Of each puzzle these have to be so:
 - each hint is right: what it says of a cell stands in the only solution;
 - hints come to the end without a guess if the grade is a rule set, and need one if it is `search n`;
 - the weakest rule set that settles the puzzle by these rules is the grade.
@@ -21,7 +21,8 @@ sys.path.insert(0, str(Path(__file__).resolve().parent.parent / "page"))
 from hints import RULES, hint  # noqa: E402
 from hints.puzzle import Puzzle  # noqa: E402
 
-SIZES = {"solo": ["3x3", "3x3x", "3x3", "3x4"], "pattern": ["10x10", "15x15"], "lightup": ["7x7", "10x10"], "tents": ["8x8", "10x10"]}
+SIZES = {"solo": ["3x3", "3x3x", "3x3", "3x4"], "pattern": ["10x10", "15x15"], "lightup": ["7x7", "10x10"],
+         "tents": ["8x8", "10x10"]}
 RULE_SETS = {"solo": ["singles", "houses", "crossings"], "pattern": ["lines"], "lightup": ["local"], "tents": ["local"]}
 WAIT = 30  # seconds of a run of the program
 WHOLE = 1200  # seconds of all

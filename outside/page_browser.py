@@ -172,7 +172,8 @@ def play(page, server, tally, game, size, seed, black):
     page.open()
     page.choose(game)
     page.until(f"shows {game}", lambda: page.all(f"#stage .{game}"))
-    tally.same(f"{game}: size and difficulty", [page.one(box).get_property("value") for box in ("#size", "#difficulty")], [size, "easy"])
+    chosen = [page.one(box).get_property("value") for box in ("#size", "#difficulty")]
+    tally.same(f"{game}: size and difficulty", chosen, [size, "easy"])
     page.put("#seed", seed)
     page.select("#size", size)
     page.select("#difficulty", "")
@@ -290,7 +291,8 @@ def hostile(page, tally):
             page.click(button)
             page.until(f"answers {text[:30]} in {field}", lambda said=said: page.text(said))
             tally.same(f"{text[:30]} in {field}: new elements", page.driver.execute_script(parts) - before in range(4), True)
-            tally.same(f"{text[:30]} in {field}: images, title", (len(page.all("img")), page.driver.title.endswith("– puzzles")), (0, True))
+            seen = len(page.all("img")), page.driver.title.endswith("– puzzles")
+            tally.same(f"{text[:30]} in {field}: images, title", seen, (0, True))
 
 
 def leave(page, server, folder):

@@ -7,13 +7,19 @@ from page_browser import Keys
 PHONE, DESK = (390, 844), (1280, 900)
 LEAST = 24  # pixels of a cell
 CONTRAST = 4.5  # of text, as WCAG asks for
+TEXTS = "h1, p, button:enabled:not(.met), select, label, .cell:not(.met), .clue:not(.met), footer, small"
 GAMES = [("solo", "3x3"), ("pattern", "15x15"), ("lightup", "10x10"), ("tents", "8x8")]
 LIGHT = """
     const parts = (color) => (color.match(/[\\d.]+/g) || []).map(Number);
     const shade = ([r, g, b]) => [r, g, b].map((c) => (c / 255 <= .03928 ? c / 255 / 12.92 : ((c / 255 + .055) / 1.055) ** 2.4))
       .reduce((sum, c, k) => sum + c * [.2126, .7152, .0722][k], 0);
-    const ground = (found) => { for (let at = found; at; at = at.parentElement) {
-      const color = parts(getComputedStyle(at).backgroundColor); if (color.length === 3 || color[3] > 0) return color; } return [255, 255, 255]; };
+    const ground = (found) => {
+      for (let at = found; at; at = at.parentElement) {
+        const color = parts(getComputedStyle(at).backgroundColor);
+        if (color.length === 3 || color[3] > 0) return color;
+      }
+      return [255, 255, 255];
+    };
     const contrast = (found) => { const [a, b] = [shade(parts(getComputedStyle(found).color)), shade(ground(found))];
       return (Math.max(a, b) + .05) / (Math.min(a, b) + .05); };
 """
@@ -22,8 +28,7 @@ LIGHT = """
 def try_looks(page, server, tally):
     made = {}
     for game, size in GAMES:
-        _, _, told = server.ask("generate", {"game": game, "size": size, "seed": "4", **({"black": "25"} if game == "lightup" else {})})
-        made[game] = told["id"]
+        made[game] = made_by(server, game, size, "25")
     phone(page, server, tally, made)
     dark(page, tally, made)
     forced(page, tally, made)
@@ -32,9 +37,15 @@ def try_looks(page, server, tally):
     names(page, tally)
 
 
-def media(page, **features):
-    page.driver.execute_cdp_cmd("Emulation.setEmulatedMedia", {
-        "media": features.pop("media", ""), "features": [{"name": name.replace("_", "-"), "value": value} for name, value in features.items()]})
+def made_by(server, game, size, black):
+    more = {"black": black} if game == "lightup" else {}
+    _, _, told = server.ask("generate", {"game": game, "size": size, "seed": "4", "level": "easy", **more})
+    return told["id"]
+
+
+def media(page, kind="", **features):
+    wished = [{"name": name.replace("_", "-"), "value": value} for name, value in features.items()]
+    page.driver.execute_cdp_cmd("Emulation.setEmulatedMedia", {"media": kind, "features": wished})
 
 
 def phone(page, server, tally, made):
@@ -42,18 +53,20 @@ def phone(page, server, tally, made):
     page.size(*PHONE)
     large = {"pattern": "30x30", "lightup": "20x20", "tents": "20x20", "solo": "4x4"}
     for game, size in large.items():
-        _, _, told = server.ask("generate", {"game": game, "size": size, "seed": "5", "level": "easy",
-                                             **({"black": "30"} if game == "lightup" else {})})
-        for text in (made[game], told["id"]):
+        for text in (made[game], made_by(server, game, size, "30")):
             page.open(game, text)
-            box = page.script("const box = document.querySelector('#stage [role=gridcell]').getBoundingClientRect(); return [box.width, box.height]")
+            box = sides(page, "#stage [role=gridcell]")
             tally.true(f"a cell of {game} {text[:8]} on a phone: {box}", min(box) >= LEAST)
             wide = page.script("return document.documentElement.scrollWidth")
             tally.true(f"the page with {game} {text[:8]} on a phone: {wide}", wide <= PHONE[0])
-    taps = page.script("return [...document.querySelectorAll('.cell, #pad button')].map((found) => getComputedStyle(found).touchAction)"
-                       ".concat(getComputedStyle(document.querySelector('.board')).touchAction)")
-    tally.true("no zoom by two taps", set(taps) <= {"auto", "manipulation"} and taps[-1] == "manipulation")
+    action = page.script("return getComputedStyle(document.querySelector('.board')).touchAction")
+    tally.same("no zoom by two taps", action, "manipulation")
     page.size(*DESK)
+
+
+def sides(page, selector):
+    return page.script("const { width, height } = document.querySelector(arguments[0]).getBoundingClientRect();"
+                       "return [width, height]", selector)
 
 
 def dark(page, tally, made):
@@ -65,10 +78,10 @@ def dark(page, tally, made):
             page.answer("#hint")
             shade = page.script(LIGHT + "return shade(ground(document.body))")
             tally.true(f"the ground of {game}, {scheme}", shade < 0.1 if scheme == "dark" else shade > 0.7)
-            poor = page.script(LIGHT + "return [...document.querySelectorAll('h1, p, button:enabled, select, label, .cell, .clue:not(.met), footer, small')]"
-                               ".filter((found) => found.innerText && contrast(found) < arguments[0])"
-                               ".map((found) => `${found.tagName} ${found.className} ${found.innerText.slice(0, 20)} ${contrast(found).toFixed(1)}`)",
-                               CONTRAST)
+            poor = page.script(LIGHT + "return [...document.querySelectorAll(arguments[0])]"
+                               ".filter((found) => found.innerText && contrast(found) < arguments[1])"
+                               ".map((found) => `${found.tagName} ${found.className} ${found.innerText} ${contrast(found)}`)",
+                               TEXTS, CONTRAST)
             tally.same(f"texts of {game} that are hard to read, {scheme}", poor, [])
     media(page)
 
@@ -79,12 +92,13 @@ def forced(page, tally, made):
     for game, text in made.items():
         page.open(game, text)
         if game != "solo":
-            page.script("document.querySelector('#stage .cell:not(.fixed)').dispatchEvent(new MouseEvent('click', { bubbles: true }))")
-        looks = page.script("return [...document.querySelectorAll('#stage .cell')].map((cell) => { const look = getComputedStyle(cell);"
-                            " return [look.backgroundColor, look.boxShadow !== 'none', look.backgroundImage !== 'none', look.color] })")
+            page.script("document.querySelector('#stage .cell:not(.fixed)').click()")
+        looks = page.script("return [...document.querySelectorAll('#stage .cell')].map((cell) => getComputedStyle(cell)).map((look) =>"
+                            " [look.backgroundColor, look.boxShadow !== 'none', look.backgroundImage !== 'none', look.color])")
+        grounds = {look[0] for look in looks}
         tally.true(f"lines of {game} with forced colours", all(look[1] for look in looks))
         if game in ("pattern", "lightup"):
-            tally.true(f"black and white of {game} with forced colours", {"rgb(0, 0, 0)", "rgb(255, 255, 255)"} <= {look[0] for look in looks})
+            tally.true(f"black and white of {game} with forced colours", {"rgb(0, 0, 0)", "rgb(255, 255, 255)"} <= grounds)
         if game in ("lightup", "tents"):
             tally.true(f"pictures of {game} with forced colours", any(look[2] for look in looks))
         clash = [look for look in looks if look[0] == look[3]]
@@ -97,15 +111,16 @@ def paper(page, server, tally, made):
     _, _, large = server.ask("generate", {"game": "pattern", "size": "60x60", "seed": "2"})
     for game, text in [*made.items(), ("pattern", large["id"])]:
         page.open(game, text)
-        pdf = base64.b64decode(page.driver.execute_cdp_cmd("Page.printToPDF", {"paperWidth": 8.27, "paperHeight": 11.69})["data"])
+        made_pdf = page.driver.execute_cdp_cmd("Page.printToPDF", {"paperWidth": 8.27, "paperHeight": 11.69})
+        pdf = base64.b64decode(made_pdf["data"])
         tally.same(f"pages of {game} {text[:6]}", len(re.findall(rb"/Type\s*/Page\b", pdf)), 1)
-        media(page, media="print")
+        media(page, "print")
         page.size(718, 1047)  # A4 at 96 dots an inch, less its margins
-        seen = page.script("return [...document.querySelectorAll('body *')].filter((found) => found.innerText && found.getClientRects().length"
-                           " && !found.closest('.board')).map((found) => found.id || found.tagName)")
+        seen = page.script("return [...document.querySelectorAll('body *')].filter((found) => !found.closest('.board')"
+                           " && found.innerText && found.getClientRects().length).map((found) => found.id || found.tagName)")
         tally.true(f"parts of {game} on paper: {seen}", set(seen) <= {"MAIN", "SECTION", "name", "rule", "level", "stage"})
         tally.true(f"name of {game} on paper", page.text("#name").endswith(text))
-        box = page.script("const box = document.querySelector('#stage .board').getBoundingClientRect(); return [box.width, box.height]")
+        box = sides(page, "#stage .board")
         tally.true(f"{game} {text[:6]} on paper: {box}", box[0] <= 718 and (box[0] > 540 or box[1] > 700))
         page.size(*DESK)
         media(page)
@@ -118,13 +133,15 @@ def keyboard(page, tally, made):
     page.keys(Keys.DELETE)
     page.script("document.activeElement.blur()")
     reached = []
-    for _ in range(40):
+    for _ in range(70):
         page.keys(Keys.TAB)
-        reached.append(page.script("const at = document.activeElement; return at.id || at.value || at.role"))
-    wanted = {"game", "gridcell", "notes", "check", "mistakes", "hint", "solve", "grade", "size", "difficulty", "seed", "generate", "id", "enter",
-              *map(str, range(1, 10))}
-    tally.same("what Tab doesn't reach", sorted(wanted - set(map(str, reached))), [])
-    tally.same("the board is one stop", reached[:reached.index("enter")].count("gridcell"), 1)
+        reached.append(page.script("const at = document.activeElement; return String(at.id || at.value || at.role)"))
+    wanted = {"game", "gridcell", "notes", "check", "mistakes", "hint", "solve", "grade", "size", "difficulty", "seed",
+              "generate", "id", "enter", *map(str, range(1, 10))}
+    begin = reached.index("game")
+    once = reached[begin:reached.index("game", begin + 1)]
+    tally.same("what Tab doesn't reach", sorted(wanted - set(once)), [])
+    tally.same("the board is one stop", once.count("gridcell"), 1)
 
 
 def names(page, tally):

@@ -13,7 +13,7 @@ ROW = "5x1:1/1//1/1/2.2"
 
 
 def try_player(page, server, tally):
-    for part in (steps, kept, bounded, links, refused_links, boxes, notes, long_numbers, drawing, touching, crossed_off, mistakes,
+    for part in (steps, kept, bounded, links, quickly, refused_links, boxes, notes, long_numbers, drawing, touching, crossed_off, mistakes,
                  late_answers, focus, levels, hints, painting):
         part(page, server, tally)
 
@@ -26,13 +26,15 @@ def steps(page, _, tally):
         cells[place].click()
     black = lambda: [place for place, sign in enumerate(page.signs()) if sign == "black"]
     seen = [black()]
-    for act in (lambda: page.click("#undo"), lambda: page.keys("z", held=[Keys.CONTROL]), lambda: page.click("#redo"),
-                lambda: page.keys("z", held=[Keys.CONTROL, Keys.SHIFT]), lambda: page.click("#clear"), lambda: page.keys("z", held=[Keys.CONTROL]),
-                lambda: page.keys("y", held=[Keys.CONTROL])):
+    control, both = [Keys.CONTROL], [Keys.CONTROL, Keys.SHIFT]
+    for act in (lambda: page.click("#undo"), lambda: page.keys("z", held=control), lambda: page.click("#redo"),
+                lambda: page.keys("z", held=both), lambda: page.click("#clear"), lambda: page.keys("z", held=control),
+                lambda: page.keys("y", held=control)):
         act()
         seen.append(black())
     tally.same("steps", seen, [[0, 6, 12], [0, 6], [0], [0, 6], [0, 6, 12], [], [0, 6, 12], []])
-    tally.same("the ends of the steps", [page.one(name).is_enabled() for name in ("#undo", "#redo", "#clear")], [True, False, False])
+    enabled = [page.one(name).is_enabled() for name in ("#undo", "#redo", "#clear")]
+    tally.same("the ends of the steps", enabled, [True, False, False])
 
 
 def kept(page, server, tally):
@@ -69,7 +71,7 @@ def bounded(page, _, tally):
     page.cells()[1].click()
     page.keys("2")
     names = page.script("return JSON.parse(localStorage.getItem('puzzles'))")
-    there = page.script("return Object.keys(localStorage).filter((name) => /^puzzles .*[0-9]/.test(name) && !/last/.test(name)).length")
+    there = page.script("return Object.keys(localStorage).filter((name) => /^puzzles (old|solo)/.test(name)).length")
     tally.same("puzzles kept", (len(names), names[-1], names[0], there), (50, f"solo/{SOLO}", "old11", 50))
     page.script("let text = 'x'.repeat(1 << 20); for (let k = 0; text; k += 1) { try { localStorage.setItem(`junk${k}`, text) } "
                 "catch { text = text.slice(0, text.length >> 1) } }")
@@ -98,10 +100,32 @@ def links(page, server, tally):
     tally.same("back from another address", page.one("#game").get_property("value"), "tents")
 
 
+def quickly(page, _, tally):
+    """Steps through the history that come before the answers to those before them."""
+    page.open("solo", SOLO)
+    for text in (TENTS, "2x2:d,0,0,0,0", "3x3:aaaaa,2,0,2,2,0,2"):
+        page.script("location.hash = arguments[0]", f"#tents/{text}")
+        time.sleep(0.3)
+    before = page.script("return history.length")
+    page.script("history.go(-1); setTimeout(() => history.go(-1), 20)")
+    time.sleep(1)
+    shown = page.one("#id").get_property("value")
+    tally.same("address and board", page.script("return decodeURIComponent(location.hash)"), f"#tents/{shown}")
+    tally.same("the history's length", page.script("return history.length"), before)
+    page.choose("solo")
+    page.script("const box = document.getElementById('game'); for (const game of ['pattern', 'tents', 'solo'])"
+                " { box.value = game; box.dispatchEvent(new Event('change')) }")
+    time.sleep(1)
+    tally.same("a game that was chosen in haste", (page.one("#id").get_property("value"), len(page.all("#stage .solo"))), (SOLO, 1))
+
+
 def refused_links(page, _, tally):
     """A refused link says why, and there is a board."""
-    for link, said in [("solo/2x2:5o", "This ID is refused: number range at 4."), ("sudoku/3x3:a", "This link names no game that is here."),
-                       ("tents/2x2#12", "it is a seed of another program"), ("solo/%zz", "This ID is refused: it isn’t like 3x3:aBBa1aBb.")]:
+    for link, said in [("solo/2x2:5o", "This ID is refused: number range at 4."),
+                       ("sudoku/3x3:a", "This link names no game that is here."),
+                       ("constructor/3x3:a", "This link names no game that is here."),
+                       ("tents/2x2#12", "it is a seed of another program"),
+                       ("solo/%zz", "This ID is refused: it isn’t like 3x3:aBBa1aBb.")]:
         page.open(*link.split("/"))
         page.until(f"refuses {link}", lambda: page.text("#fault"))
         tally.true(f"{link}: why", said in page.text("#fault"))
@@ -167,7 +191,7 @@ def long_numbers(page, _, tally):
     tally.same("numbers of two digits", [*seen, page.signs()[5]], ["12", "3", "16", "notes 14"])
 
 
-def drag(page, places, button=0, pause=0.0):
+def drag(page, places, button=0):
     """A mouse that goes over cells with its button down."""
     cells = page.cells()
     chain = ActionChains(page.driver, duration=50).move_to_element(cells[places[0]])
@@ -290,7 +314,8 @@ def mistakes(page, _, tally):
 
 def late_answers(page, _, tally):
     """An answer about a board that has changed is not told."""
-    slow = "const real = window.fetch; window.fetch = (...words) => new Promise((done) => setTimeout(() => done(real(...words)), arguments[0]))"
+    slow = ("const real = window.fetch, late = arguments[0];"
+            "window.fetch = (...words) => new Promise((done) => setTimeout(() => done(real(...words)), late))")
     for button in ("#check", "#mistakes", "#hint"):
         page.open("pattern", ROW)
         page.script(slow, LATE)
@@ -380,7 +405,8 @@ def fill(page, game, place, sign):
 def painting(page, _, tally):
     """Of a large board only what changes is touched."""
     page.open("lightup", "120x120:" + "z" * 553 + "v")
-    page.script("window.touched = 0; new MutationObserver((list) => { window.touched += new Set(list.map(({ target }) => target)).size })"
+    page.script("window.touched = 0;"
+                "new MutationObserver((list) => { window.touched += new Set(list.map(({ target }) => target)).size })"
                 ".observe(document.querySelector('#stage'), { attributes: true, childList: true, subtree: true })")
     page.driver.find_element(By.CSS_SELECTOR, "#stage [role=gridcell]").click()
     page.until("lights", lambda: page.script("return window.touched") > 0)

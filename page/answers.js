@@ -7,8 +7,11 @@ import { SAID, brokenWords, gradeWords } from "./words.js";
 
 const PAUSE = 300; // milliseconds after a step, before what may be the end is checked
 const PROVED = "Proved by the program: ";
-const HINTED = { wrong: `${PROVED}the only solution has something else there.`, guess: `${PROVED}the only solution has this there.`,
-  house: `${PROVED}the only solution has this there. The page’s own: the reason.` };
+const HINTED = {
+  wrong: `${PROVED}the only solution has something else there.`,
+  guess: `${PROVED}the only solution has this there.`,
+  house: `${PROVED}the only solution has this there. The page’s own: the reason.`,
+};
 let waiting;
 
 const named = () => ({ game: table.play.puzzle.game, id: table.play.id });
@@ -53,7 +56,7 @@ export async function mistakes() {
   const wrong = state.flatMap((sign, place) => (isFilled(sign) && sign.replace("•", ".") !== right[place] ? place : []));
   point({ marked: marks(wrong, "wrong") });
   const said = wrong.length === 1 ? "One cell is wrong." : `${wrong.length} cells are wrong.`;
-  if (wrong.length) say(said, "bad", `${PROVED}the only solution has something else there.`);
+  if (wrong.length) say(said, "bad", HINTED.wrong);
   else say(blank ? "No mistake so far." : "No mistake.", "good", `${PROVED}what is filled in stands so in the only solution.`);
 }
 

@@ -7,6 +7,12 @@ let asked = 0;
 
 export const isBusy = () => document.body.ariaBusy === "true";
 
+// Nothing comes of what was asked before.
+export function forget() {
+  asked += 1;
+  document.body.ariaBusy = "false";
+}
+
 // The answer in parts. It is undefined if there is none, which is said then, if a later call has been made, or if it would be
 // about a board that isn't there any more.
 export async function ask(call, fields, { ofBoard = false, refused = () => say("The program refused this.", "bad") } = {}) {

@@ -14,8 +14,9 @@ const clueWords = (clue) => (clue ? ` (clue ${clue.join(" ") || 0})` : "");
 // The notes of a cell of Solo, each at its own place; if numbers have two digits there is no room for that.
 function noteText(p, notes) {
   if (p.w > 9) return notes.join(" ");
-  const { w, h } = p.block, number = (k) => (notes.includes(String(k)) ? k : "\u2007"), list = (count, of) => Array.from({ length: count }, of);
-  return list(h, (_, y) => list(w, (_, x) => number(y * w + x + 1)).join(" ")).join("\n");
+  const { w, h } = p.block, number = (k) => (notes.includes(String(k)) ? k : "\u2007");
+  const list = (count, of) => Array.from({ length: count }, (_, k) => of(k));
+  return list(h, (y) => list(w, (x) => number(y * w + x + 1)).join(" ")).join("\n");
 }
 
 export class Board {
@@ -59,7 +60,8 @@ export class Board {
     this.cells.forEach((cell, place) => {
       const sign = state[place], x = place % p.w, y = Math.floor(place / p.w);
       const is = { crossed: p.crossed && (x === y || x === p.w - 1 - y), fixed: p.fixed[place] !== "", note: sign[0] === "'",
-        lit: lit.has(place), met: clues.cells.has(place), same: sign === same, house: house.has(place), marked: marked.has(place) };
+        lit: lit.has(place), met: clues.cells.has(place), same: sign === same, house: house.has(place),
+        marked: marked.has(place) };
       const names = Object.keys(is).filter((name) => is[name]).join(" "), look = `${sign} ${names} ${marked.get(place)}`;
       if (look === this.shown[place]) return;
       this.shown[place] = look;

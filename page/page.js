@@ -1,6 +1,6 @@
 // The page: puzzles that are made, opened by an ID, or named by the address; and what each button does.
 import * as answers from "./answers.js";
-import { ask } from "./ask.js";
+import { ask, forget } from "./ask.js";
 import { element } from "./board.js";
 import { listen } from "./hands.js";
 import { last } from "./kept.js";
@@ -8,8 +8,8 @@ import { read } from "./puzzle.js";
 import { $, clear, lay, redo, say, setNoting, table, undo } from "./table.js";
 import { GAMES, SAID, gradeWords, refusal, sizeWords } from "./words.js";
 
-// A puzzle comes into play, and into the address: as a new entry of the history, but in place of one that named no puzzle.
-function show(game, text, { grade = "", isStep = true } = {}) {
+// A puzzle comes into play, and into the address. That is a new entry of the history, if not the address named the puzzle.
+function show(game, text, { grade = "", isNamed = !table.play } = {}) {
   const puzzle = read(game, text), address = `#${game}/${text}`;
   lay(puzzle, text);
   setNoting(false);
@@ -20,8 +20,8 @@ function show(game, text, { grade = "", isStep = true } = {}) {
   $("level").textContent = grade ? gradeWords(game, grade) : "";
   $("name").textContent = `${GAMES[game].name} ${text}`;
   document.title = `${GAMES[game].name} ${sizeWords(game, puzzle.size)} – puzzles`;
-  if (location.hash === address) return;
-  history[isStep && table.isShown ? "pushState" : "replaceState"]({ grade }, "", address);
+  table.grade = grade;
+  if (location.hash !== address) history[isNamed ? "replaceState" : "pushState"]({ grade }, "", address);
 }
 
 // The boxes of game and size, the size of the board among its choices.
@@ -38,19 +38,18 @@ function keptWords() {
 }
 
 async function generate() {
-  const game = $("game").value, size = $("size").value, side = parseInt(size), level = $("difficulty").value, before = keptWords();
+  const [game, size, level] = ["game", "size", "difficulty"].map((box) => $(box).value), side = parseInt(size), before = keptWords();
   const seed = $("seed").value.trim() || String(Math.floor(Math.random() * 1000000));
   const black = side < 10 ? "20" : side < 14 ? "25" : side < 30 ? "30" : "35"; // with fewer a large one has several solutions
   const fields = { game, size, seed, ...(game === "lightup" ? { black } : {}), ...(level ? { level } : {}) };
   const told = await ask("generate", fields, { refused: () => say(SAID.seed, "bad") });
-  if (!told) return false;
+  if (!told) return;
   if (!told.id) {
     say(level ? SAID.level : `No puzzle came of seed ${seed}. Try another.`, "bad");
-    return false;
+    return;
   }
   show(game, told.id, { grade: told.grade });
   say(`This is the puzzle of seed ${told.seed}.`, "", before);
-  return true;
 }
 
 // Says why an ID was refused, and marks the place that is named.
@@ -60,9 +59,10 @@ function refuse(why, text = "") {
   if (marked !== undefined) $("fault").append(element("code", {}, before, element("mark", {}, marked), behind));
 }
 
-// An ID is tried by a check of no grid, which searches nothing: if that grid is what is refused, the ID is good.
+// An ID is tried by a check of no grid, which searches nothing: if that grid is what is refused, the ID is good. Gives whether
+// it is, and nothing if there was no answer.
 async function open(game, text, options) {
-  let isGood = false;
+  let isGood;
   const refused = (why) => {
     isGood = why === "grid";
     if (isGood) show(game, text, options);
@@ -72,31 +72,40 @@ async function open(game, text, options) {
   return isGood;
 }
 
+const isGame = (name) => Object.hasOwn(GAMES, name);
+const parts = (name) => name.match(/^(\w*)\/(.*)$/s) || [name, "", name];
+
 // A game that is chosen goes on where it was left; else a new puzzle of it is made.
 async function change() {
-  const game = $("game").value, [, text] = last(game).match(/^\w+\/(.+)$/) || [], before = keptWords();
+  const game = $("game").value, [, , text] = parts(last(game)), before = keptWords();
   setGame(game);
-  if (text && await open(game, text)) say("", "", before);
-  else await generate();
+  const isGood = text ? await open(game, text) : false;
+  if (isGood) say("", "", before);
+  if (isGood === false) await generate();
 }
 
 // What the address names. If it can't be opened that is said, and there is a board all the same.
 async function go() {
   let hash = location.hash.slice(1);
+  forget();
   try { hash = decodeURIComponent(hash); } catch { /* as it is */ }
-  const [, game, text] = hash.match(/^(\w*)\/(.*)$/s) || [undefined, "", hash], isGame = game in GAMES;
-  if (isGame && table.play?.name === `${game}/${text}`) return;
-  if (isGame && await open(game, text.trim(), { grade: history.state?.grade })) return;
-  const fault = [...$("fault").childNodes], [, usual, old] = last().match(/^(\w+)\/(.+)$/) || [];
-  if (!table.play && !hash && usual in GAMES && await open(usual, old)) return;
-  if (!table.play) setGame(isGame ? game : "solo");
-  table.isShown = false; // what comes now takes the place of this address
-  if (!table.play) await generate();
-  else history.replaceState(null, "", `#${table.play.name}`);
-  table.isShown = true;
-  if (isGame) $("fault").replaceChildren(...fault);
-  else if (hash) $("fault").replaceChildren(SAID.link);
-  $("id").value = isGame ? text : $("id").value;
+  const [, game, text] = parts(hash);
+  if (table.play?.name === `${game}/${text.trim()}`) return;
+  const isGood = isGame(game) ? await open(game, text.trim(), { grade: history.state?.grade, isNamed: true }) : false;
+  if (isGood || (isGood === undefined && table.play)) return;
+  const fault = isGame(game) ? [...$("fault").childNodes] : [hash && SAID.link];
+  if (table.play) history.replaceState({ grade: table.grade }, "", `#${table.play.name}`);
+  else await begin(hash, game);
+  $("fault").replaceChildren(...fault);
+  if (hash) $("id").value = text;
+}
+
+// The first board: of what was played last, if the address names nothing, or a new one.
+async function begin(hash, game) {
+  const [, before, text] = parts(hash ? "" : last());
+  if (isGame(before) && await open(before, text)) return;
+  setGame(isGame(game) ? game : "solo");
+  await generate();
 }
 
 const enter = () => open($("game").value, $("id").value.trim());
@@ -109,4 +118,3 @@ $("game").addEventListener("change", change);
 $("seed").addEventListener("keydown", (event) => event.key === "Enter" && generate());
 addEventListener("popstate", go);
 await go();
-table.isShown = true;

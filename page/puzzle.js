@@ -55,13 +55,15 @@ function beside(p, place) {
 // Which clues are met as the grid stands: of lines by their number, and of Light Up the numbered cells.
 export function met(p, state) {
   const runs = (cells) => cells.map((place) => (state[place] === "#" ? "#" : " ")).join("").match(/#+/g) || [];
-  const told = (cells) => (p.game === "tents" ? [cells.filter((place) => state[place] === "^").length] : runs(cells).map((run) => run.length));
+  const tents = (cells) => cells.filter((place) => state[place] === "^").length;
+  const told = (cells) => (p.game === "tents" ? [tents(cells)] : runs(cells).map((run) => run.length));
   const isMet = (clue, cells) => told(cells).join() === clue.join();
   const bulbs = (place) => beside(p, place).filter((next) => state[next] === "O").length;
+  const isNumber = (sign) => p.game === "lightup" && /\d/.test(sign);
   return {
     columns: p.columns.length ? columnsOf(p).map((cells, k) => isMet(p.columns[k], cells)) : [],
     rows: p.rows.length ? rowsOf(p).map((cells, k) => isMet(p.rows[k], cells)) : [],
-    cells: new Set(p.fixed.flatMap((sign, place) => (p.game === "lightup" && /\d/.test(sign) && bulbs(place) === Number(sign) ? place : []))),
+    cells: new Set(p.fixed.flatMap((sign, place) => (isNumber(sign) && bulbs(place) === Number(sign) ? place : []))),
   };
 }
 

@@ -63,7 +63,8 @@ export function sizeWords(game, size) {
 // How a player fills cells, by hand and keys or by a finger.
 export function keyWords(puzzle, isTouched) {
   const sign = SIGNS[GAMES[puzzle.game].sign];
-  if (puzzle.block) return `Choose a cell and a number.${isTouched ? "" : " Keys: arrows, digits, Shift and a digit for a note, Delete."}`;
+  const keys = isTouched ? "" : " Keys: arrows, digits, Shift and a digit for a note, Delete.";
+  if (puzzle.block) return `Choose a cell and a number.${keys}`;
   if (isTouched) return `Tap for ${sign}, dot, blank. Hold a cell for a moment, then draw from it.`;
   return `Click for ${sign}, dot, blank; right click for a dot; drag to draw. ` +
     "Keys: arrows, with Shift to draw, Space, X for a dot, Delete.";
