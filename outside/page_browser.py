@@ -171,14 +171,10 @@ def play(page, server, tally, game, size, seed, black):
     _, _, made = server.ask("generate", {"game": game, "size": size, "seed": seed, **({"black": black} if black else {})})
     page.open()
     page.choose(game)
-    page.until(f"shows {game}", lambda: page.all(f"#stage .{game}"))
+    page.until(f"shows {game}", lambda: page.all(f"#stage .{game}") and page.is_ready())
     chosen = [page.one(box).get_property("value") for box in ("#size", "#difficulty")]
     tally.same(f"{game}: size and difficulty", chosen, [size, "easy"])
-    page.put("#seed", seed)
-    page.select("#size", size)
-    page.select("#difficulty", "")
-    page.click("#generate")
-    page.until(f"makes {game} {size} of {seed}", lambda: page.one("#id").get_property("value") == made["id"])
+    make(page, game, size, seed, "", made["id"])
     signs = [sign for row in made["grids"][0] for sign in (row.split() if game == "solo" else row)]
     asked = write(page, game, signs, len(made["grids"][0]))
     page.until_said("Correct. The puzzle is solved.")  # without being asked
@@ -199,11 +195,23 @@ def play(page, server, tally, game, size, seed, black):
     tally.same(f"{game}: grade", page.answer("#grade").partition(":")[0], wanted)
 
 
+def make(page, game, size, seed, level, text):
+    """Has the page make the puzzle of a seed."""
+    page.open()
+    page.choose(game)
+    page.until(f"shows {game}", lambda: page.all(f"#stage .{game}") and page.is_ready())
+    page.put("#seed", seed)
+    page.select("#size", size)
+    page.select("#difficulty", level)
+    page.click("#generate")
+    page.until(f"makes {game} {size} of {seed}", lambda: page.one("#id").get_property("value") == text)
+
+
 def write(page, game, signs, rows):
-    """Fills in a solution: Solo by clicks and digits, Tents by keys alone, the others by clicks. Gives the filled cells."""
+    """Fills in a solution, or a part of it: Solo by clicks and digits, Tents by keys alone, the others by clicks. Gives the filled cells."""
     cells, wide = page.cells(), len(signs) // rows
     places = [place for place, sign in enumerate(signs)
-              if (game == "solo" and not cells[place].text) or sign == SIGNS.get(game)]
+              if (game == "solo" and sign != "." and not cells[place].text) or sign == SIGNS.get(game)]
     if game == "tents":
         at = next(place for place, cell in enumerate(cells) if cell.get_attribute("tabindex") == "0")
         keys = []
@@ -296,17 +304,18 @@ def hostile(page, tally):
 
 
 def leave(page, server, folder):
-    """A picture of each game, half filled and checked, at both widths."""
+    """A picture of each game, half filled and with a hint, at both widths."""
     folder.mkdir(parents=True, exist_ok=True)
     for game, size, seed, black in GAMES:
-        _, _, made = server.ask("generate", {"game": game, "size": size, "seed": seed, **({"black": black} if black else {})})
+        asked = {"game": game, "size": size, "seed": seed, "level": "easy", **({"black": black} if black else {})}
+        _, _, made = server.ask("generate", asked)
         signs = [sign for row in made["grids"][0] for sign in (row.split() if game == "solo" else row)]
         for width, height in WIDTHS:
             page.size(width, height)
-            page.open(game, made["id"])
-            places = write(page, game, signs, len(made["grids"][0]))
-            spoil(page, game, signs, places)
-            page.answer("#check")
+            make(page, game, size, seed, "easy", made["id"])
+            half = len(signs) // 2 // len(made["grids"][0]) * len(made["grids"][0])
+            write(page, game, signs[:half] + ["."] * (len(signs) - half), len(made["grids"][0]))
+            page.answer("#hint")
             tall = page.driver.execute_script("scrollTo(0, 0); return document.documentElement.scrollHeight")
             page.size(width, max(tall, height))
             page.driver.save_screenshot(str(folder / f"{game}-{width}.png"))

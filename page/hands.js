@@ -60,7 +60,7 @@ function touchStart(event) {
   hold = setTimeout(() => {
     choose(place);
     begin(place, false);
-    navigator.vibrate?.(15);
+    if (navigator.userActivation?.hasBeenActive) navigator.vibrate?.(15);
   }, HOLD);
 }
 

@@ -85,7 +85,7 @@ class Solo:
         """The same step is seen by these cells or by the others: the fewer are told."""
         every = range(1, self.puzzle.w + 1)
         if len(closed) <= len(outside):
-            why = f"In {name}, {self.places(name, closed)} have {listed(sorted(numbers))} alone, so no other cell there has them."
+            why = f"In {name}, {self.places(name, closed)} can only be {listed(sorted(numbers))}, so no other cell there is."
             return len(closed), Step(cells, why, strikes, frozenset((c, n) for c in closed for n in every if n not in numbers))
         left = [number for number in every if number not in numbers]
         why = f"In {name}, {listed(left)} fit only at {self.places(name, outside)}, so nothing else stands there."
