@@ -1,7 +1,6 @@
 """The server of the page over programs that don't do as they should, and under loads that are too much for it."""
 import concurrent.futures
 import contextlib
-import resource
 import shutil
 import socket
 import subprocess
@@ -151,9 +150,8 @@ def many(program, tally):
 
 
 def silent(program, tally):
-    """More connections that say nothing than the server may have files: it pauses, and others are answered."""
-    server = Server(program)
-    resource.prlimit(server.child.pid, resource.RLIMIT_NOFILE, (FILES, FILES))
+    """More connections that say nothing than the server may have files: they cost nothing, and others are answered."""
+    server = Server(program, before=["sh", "-c", f"ulimit -n {FILES}; exec \"$@\"", "sh"])
 
     def spent():
         times = Path(f"/proc/{server.child.pid}/stat").read_text().rpartition(") ")[2].split()[11:13]
@@ -165,5 +163,6 @@ def silent(program, tally):
         before = spent()
         time.sleep(SECONDS)
         tally.true("silent connections cost nothing", spent() - before < SECONDS / 4)
-        tally.same("solve beside them", server.ask("solve", GOOD)[2], {"verdict": "one", "grids": [["."]]})
+        for call, wanted in [("solve", {"verdict": "one", "grids": [["."]]}), ("grade", {"verdict": "one", "grade": "lines"})]:
+            tally.same(f"{call} beside them", server.ask(call, GOOD)[2], wanted)
     server.stop()

@@ -117,7 +117,7 @@ HINT = [  # game, ID, marks, what comes: the kind, the cells with their signs, t
     ("lightup", "2x2:2c", "2.\nxO\n", ("wrong", [[0, 1]], [], [])),
     ("lightup", "3x3:aBBa1aBb", ".##\n.1.\n#..\n", ("guess", [[0, 1]], ["O"], [])),
     ("pattern", "5x1:1/1//1/1/2.2", ".....\n",
-     ("house", [[0, 0], [1, 0], [3, 0], [4, 0], [2, 0]], list("####x"), [[x, 0] for x in range(5)])),
+     ("house", [[x, 0] for x in range(5)], list("##x##"), [[x, 0] for x in range(5)])),
     ("pattern", "5x1:1/1//1/1/2.2", "##x#.\n", ("house", [[4, 0]], ["#"], [[4, 0]])),
     ("solo", SOLO, "1 . . 4\n. . . .\n. . . .\n. 3 2 .\n", ("house", [[0, 1]], ["3"], [[0, 0], [1, 0], [0, 1], [1, 1]])),
     ("solo", SOLO, "1 2 3 4\n3 4 1 2\n2 1 . 3\n4 3 2 1\n", ("house", [[2, 2]], ["4"], [[2, 2], [3, 2], [2, 3], [3, 3]])),

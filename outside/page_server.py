@@ -31,8 +31,8 @@ class Tally:
 class Server:
     """page/serve.py as a process of its own, on a free port."""
 
-    def __init__(self, program, *more):
-        words = [sys.executable, PAGE / "serve.py", "--port", "0", *more, program]
+    def __init__(self, program, *more, before=()):
+        words = [*before, sys.executable, PAGE / "serve.py", "--port", "0", *more, program]
         self.child = subprocess.Popen(words, stdin=subprocess.DEVNULL, stdout=subprocess.PIPE, text=True)
         self.url = self.child.stdout.readline().strip()
         if not self.url:

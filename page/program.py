@@ -137,11 +137,17 @@ class Worker:
         self.stop()
         self.process, self.asked, self.file = Process(self.words), 0, file
 
+    def exchange(self, text, end):
+        self.begin()
+        self.asked += 1
+        return self.process.exchange(f"{text}\n\n".encode(), end, is_last=False, is_whole=is_ended)
+
     def solve(self, text, end):
         try:
-            self.begin()
-            self.asked += 1
-            answer = self.process.exchange(f"{text}\n\n".encode(), end, is_last=False, is_whole=is_ended)
+            answer = self.exchange(text, end)
+            if not answer and self.asked > 1:  # it had ended since the answer before
+                self.stop()
+                answer = self.exchange(text, end)
             if not is_ended(answer):
                 raise Failed("program")
             return answer.removesuffix(END).decode()

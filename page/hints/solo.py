@@ -31,21 +31,20 @@ class Solo:
 
     def deciding(self, cans):
         """Steps with the cells that they decide: first a number with one place in a house, then a cell with one number."""
-        for step in self.hidden(cans):
-            yield step, {cell for cell, _ in step.strikes}
+        yield from self.hidden(cans)
         for cell, can in enumerate(cans):
             if len(can) == 1:
                 yield Step([cell], "No other number is left for it.", frozenset(), self.others(cell, can)), [cell]
 
     def hidden(self, cans):
-        """A number with one place in a house."""
+        """A number with one place in a house, and that place."""
         for name, cells in self.houses:
             for number in range(1, self.puzzle.w + 1):
                 places = [cell for cell in cells if number in cans[cell]]
-                if len(places) == 1 and len(cans[places[0]]) > 1:
+                if len(places) == 1:
                     strikes = frozenset((places[0], other) for other in cans[places[0]] - {number})
                     rests = frozenset((cell, number) for cell in cells if cell != places[0])
-                    yield Step(cells, f"In {name}, {number} fits in no other cell.", strikes, rests)
+                    yield Step(cells, f"In {name}, {number} fits in no other cell.", strikes, rests), places
 
     def naked(self, cans):
         """A cell with one number takes it away from its houses."""
@@ -108,9 +107,13 @@ class Solo:
 
     def close(self, cans, rule_set):
         """Takes away all that a rule set takes away. The rule sets are those that a grade names."""
-        while steps := [*self.hidden(cans), *self.naked(cans)] or self.of(rule_set, cans):
+        while steps := [*self.single(cans)] or self.of(rule_set, cans):
             for step in steps:
                 without(cans, step.strikes)
+
+    def single(self, cans):
+        yield from (step for step, _ in self.hidden(cans) if step.strikes)
+        yield from self.naked(cans)
 
     def of(self, rule_set, cans):
         """The steps of a rule set beyond single numbers and places."""
