@@ -9,6 +9,7 @@ LEAST = 24  # pixels of a cell
 CONTRAST = 4.5  # of text, as WCAG asks for
 TEXTS = "h1, p, button:enabled:not(.met), select, label, .cell:not(.met), .clue:not(.met), footer, small"
 GAMES = [("solo", "3x3"), ("pattern", "15x15"), ("lightup", "10x10"), ("tents", "8x8")]
+NAMES = {"solo": "Solo 9 × 9", "pattern": "Pattern ", "lightup": "Light Up 10 × 10", "tents": "Tents 8 × 8"}
 LIGHT = """
     const parts = (color) => (color.match(/[\\d.]+/g) || []).map(Number);
     const shade = ([r, g, b]) => [r, g, b].map((c) => (c / 255 <= .03928 ? c / 255 / 12.92 : ((c / 255 + .055) / 1.055) ** 2.4))
@@ -118,8 +119,9 @@ def paper(page, server, tally, made):
         page.size(718, 1047)  # A4 at 96 dots an inch, less its margins
         seen = page.script("return [...document.querySelectorAll('body *')].filter((found) => !found.closest('.board')"
                            " && found.innerText && found.getClientRects().length).map((found) => found.id || found.tagName)")
-        tally.true(f"parts of {game} on paper: {seen}", set(seen) <= {"MAIN", "SECTION", "name", "rule", "level", "stage"})
-        tally.true(f"name of {game} on paper", page.text("#name").endswith(text))
+        tally.true(f"parts of {game} on paper: {seen}", set(seen) <= {"MAIN", "SECTION", "name", "rule", "level", "stage", "written"})
+        tally.true(f"name of {game} on paper", page.text("#name").startswith(NAMES[game]))
+        tally.same(f"ID of {game} on paper", page.text("#written"), text)
         box = sides(page, "#stage .board")
         tally.true(f"{game} {text[:6]} on paper: {box}", box[0] <= 718 and (box[0] > 540 or box[1] > 700))
         page.size(*DESK)

@@ -18,8 +18,9 @@ function show(game, text, { grade = "", isNamed = !table.play } = {}) {
   refuse("");
   $("act").inert = $("tools").inert = false;
   $("level").textContent = grade ? gradeWords(game, grade) : "";
-  $("name").textContent = `${GAMES[game].name} ${text}`;
-  document.title = `${GAMES[game].name} ${sizeWords(game, puzzle.size)} – puzzles`;
+  $("written").textContent = text;
+  $("name").textContent = `${GAMES[game].name} ${sizeWords(game, puzzle.size)}`;
+  document.title = `${$("name").textContent} – puzzles`;
   table.grade = grade;
   if (location.hash !== address) history[isNamed ? "replaceState" : "pushState"]({ grade }, "", address);
 }
