@@ -208,7 +208,8 @@ def make(page, game, size, seed, level, text):
 
 
 def write(page, game, signs, rows):
-    """Fills in a solution, or a part of it: Solo by clicks and digits, Tents by keys alone, the others by clicks. Gives the filled cells."""
+    """Fills in a solution, or a part of it: Solo by clicks and digits, Tents by keys alone, the others by clicks.
+    Gives the filled cells."""
     cells, wide = page.cells(), len(signs) // rows
     places = [place for place, sign in enumerate(signs)
               if (game == "solo" and sign != "." and not cells[place].text) or sign == SIGNS.get(game)]

@@ -94,8 +94,9 @@ def forced(page, tally, made):
         page.open(game, text)
         if game != "solo":
             page.script("document.querySelector('#stage .cell:not(.fixed)').click()")
-        looks = page.script("return [...document.querySelectorAll('#stage .cell')].map((cell) => getComputedStyle(cell)).map((look) =>"
-                            " [look.backgroundColor, look.boxShadow !== 'none', look.backgroundImage !== 'none', look.color])")
+        looks = page.script("return [...document.querySelectorAll('#stage .cell')].map((cell) => getComputedStyle(cell))"
+                            ".map((look) => [look.backgroundColor, look.boxShadow !== 'none', look.backgroundImage !== 'none',"
+                            " look.color])")
         grounds = {look[0] for look in looks}
         tally.true(f"lines of {game} with forced colours", all(look[1] for look in looks))
         if game in ("pattern", "lightup"):
@@ -119,7 +120,8 @@ def paper(page, server, tally, made):
         page.size(718, 1047)  # A4 at 96 dots an inch, less its margins
         seen = page.script("return [...document.querySelectorAll('body *')].filter((found) => !found.closest('.board')"
                            " && found.innerText && found.getClientRects().length).map((found) => found.id || found.tagName)")
-        tally.true(f"parts of {game} on paper: {seen}", set(seen) <= {"MAIN", "SECTION", "name", "rule", "level", "stage", "written"})
+        wanted = {"MAIN", "SECTION", "name", "rule", "level", "stage", "written"}
+        tally.true(f"parts of {game} on paper: {seen}", set(seen) <= wanted)
         tally.true(f"name of {game} on paper", page.text("#name").startswith(NAMES[game]))
         tally.same(f"ID of {game} on paper", page.text("#written"), text)
         box = sides(page, "#stage .board")

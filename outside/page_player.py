@@ -13,8 +13,8 @@ ROW = "5x1:1/1//1/1/2.2"
 
 
 def try_player(page, server, tally):
-    for part in (steps, kept, bounded, links, quickly, refused_links, boxes, notes, long_numbers, drawing, touching, crossed_off, mistakes,
-                 late_answers, focus, levels, hints, painting):
+    for part in (steps, kept, bounded, links, cut_off, quickly, refused_links, boxes, notes, long_numbers, drawing, touching,
+                 crossed_off, mistakes, late_answers, focus, levels, hints, painting):
         part(page, server, tally)
 
 
@@ -100,6 +100,18 @@ def links(page, server, tally):
     tally.same("back from another address", page.one("#game").get_property("value"), "tents")
 
 
+def cut_off(page, _, tally):
+    """If the server doesn't answer there is a board all the same, and words."""
+    page.driver.execute_cdp_cmd("Network.enable", {})
+    for game, text, blocked, said in (("", "", "*/generate", "The page’s server didn’t answer."),
+                                      ("tents", TENTS, "*/check", "This link couldn’t be opened now.")):
+        page.driver.execute_cdp_cmd("Network.setBlockedURLs", {"urls": [blocked]})
+        page.open(game, text)
+        page.until(f"says {said}", lambda said=said: said in page.text("#answer") + page.text("#fault"))
+        tally.true(f"a board without {blocked}", page.is_ready())
+    page.driver.execute_cdp_cmd("Network.setBlockedURLs", {"urls": []})
+
+
 def quickly(page, _, tally):
     """Steps through the history that come before the answers to those before them."""
     page.open("solo", SOLO)
@@ -116,7 +128,8 @@ def quickly(page, _, tally):
     page.script("const box = document.getElementById('game'); for (const game of ['pattern', 'tents', 'solo'])"
                 " { box.value = game; box.dispatchEvent(new Event('change')) }")
     time.sleep(1)
-    tally.same("a game that was chosen in haste", (page.one("#id").get_property("value"), len(page.all("#stage .solo"))), (SOLO, 1))
+    seen = page.one("#id").get_property("value"), len(page.all("#stage .solo"))
+    tally.same("a game that was chosen in haste", seen, (SOLO, 1))
 
 
 def refused_links(page, _, tally):

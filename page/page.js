@@ -39,7 +39,8 @@ function keptWords() {
 }
 
 async function generate() {
-  const [game, size, level] = ["game", "size", "difficulty"].map((box) => $(box).value), side = parseInt(size), before = keptWords();
+  const [game, size, level] = ["game", "size", "difficulty"].map((box) => $(box).value);
+  const side = parseInt(size), before = keptWords();
   const seed = $("seed").value.trim() || String(Math.floor(Math.random() * 1000000));
   const black = side < 10 ? "20" : side < 14 ? "25" : side < 30 ? "30" : "35"; // with fewer a large one has several solutions
   const fields = { game, size, seed, ...(game === "lightup" ? { black } : {}), ...(level ? { level } : {}) };
@@ -94,19 +95,21 @@ async function go() {
   if (table.play?.name === `${game}/${text.trim()}`) return;
   const isGood = isGame(game) ? await open(game, text.trim(), { grade: history.state?.grade, isNamed: true }) : false;
   if (isGood || (isGood === undefined && table.play)) return;
-  const fault = isGame(game) ? [...$("fault").childNodes] : [hash && SAID.link];
+  const why = isGame(game) ? [...$("fault").childNodes] : [hash && SAID.link];
+  const fault = isGood === undefined ? [SAID.unopened] : why;
   if (table.play) history.replaceState({ grade: table.grade }, "", `#${table.play.name}`);
   else await begin(hash, game);
   $("fault").replaceChildren(...fault);
   if (hash) $("id").value = text;
 }
 
-// The first board: of what was played last, if the address names nothing, or a new one.
-async function begin(hash, game) {
-  const [, before, text] = parts(hash ? "" : last());
+// The first board: of what was played last, if the address names nothing, or a new one. If none can be made there is an example.
+async function begin(hash, named) {
+  const [, before, text] = parts(hash ? "" : last()), game = isGame(named) ? named : "solo";
   if (isGame(before) && await open(before, text)) return;
-  setGame(isGame(game) ? game : "solo");
+  setGame(game);
   await generate();
+  if (!table.play) show(game, GAMES[game].example);
 }
 
 const enter = () => open($("game").value, $("id").value.trim());

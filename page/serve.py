@@ -24,7 +24,7 @@ from program import Failed, Process, is_puzzles
 CALLS = 8  # at a time
 PATIENCE = 0.5  # seconds that a call waits for its turn
 LIFE = 10.0  # seconds in which a request has to be there
-WAITING = min(256, resource.getrlimit(resource.RLIMIT_NOFILE)[0] // 4)  # connections that have no request; of more the oldest is cut
+WAITING = min(256, resource.getrlimit(resource.RLIMIT_NOFILE)[0] // 4)  # connections without a request; of more the oldest is cut
 BODY = 70_000  # bytes
 
 KINDS = {".html": "text/html; charset=utf-8", ".css": "text/css", ".js": "text/javascript", ".svg": "image/svg+xml"}

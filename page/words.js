@@ -1,13 +1,13 @@
 // What the page says: the games, their signs, and the words for what the program and the server answer.
 
 export const GAMES = {
-  solo: { name: "Solo", sizes: "2x2 2x3 3x3 3x3x 3x4 4x4", usual: "3x3",
+  solo: { name: "Solo", sizes: "2x2 2x3 3x3 3x3x 3x4 4x4", usual: "3x3", example: "2x2:1b4i3_2a",
     rule: "Each row, column, block and shaded diagonal has each number once." },
-  pattern: { name: "Pattern", sizes: "5x5 10x10 15x15 20x20 30x30", usual: "10x10", sign: "#",
+  pattern: { name: "Pattern", sizes: "5x5 10x10 15x15 20x20 30x30", usual: "10x10", example: "3x3:2/2/2/1.1/3/1", sign: "#",
     rule: "The numbers are the lengths of the black runs of a row or column, in order." },
-  lightup: { name: "Light Up", sizes: "5x5 7x7 10x10 14x14 20x20 30x30", usual: "7x7", sign: "O",
+  lightup: { name: "Light Up", sizes: "5x5 7x7 10x10 14x14 20x20 30x30", usual: "7x7", example: "3x3:aBBa1aBb", sign: "O",
     rule: "Light each white cell. No bulb lights another. A number counts the bulbs beside it." },
-  tents: { name: "Tents", sizes: "5x5 8x8 10x10 15x15 20x20", usual: "8x8", sign: "^",
+  tents: { name: "Tents", sizes: "5x5 8x8 10x10 15x15 20x20", usual: "8x8", example: "3x3:aaaaa,2,0,2,2,0,2", sign: "^",
     rule: "Each tree has a tent of its own beside it. No two tents touch. The numbers count the tents." },
 };
 export const SIGNS = { ".": "blank", "•": "dot", "#": "black", O: "bulb", "^": "tent", T: "tree" };
@@ -18,6 +18,7 @@ export const SAID = {
   several: "This puzzle has several solutions.", "gave up": "Too hard to tell within the page’s limit.",
   level: "No puzzle of this difficulty came in time. Try another size or difficulty.",
   link: "This link names no game that is here. The games are solo, pattern, lightup and tents.",
+  unopened: "This link couldn’t be opened now. Open its ID once more.",
   seed: "A seed is a whole number from 0 to 18,446,744,073,709,551,615.",
 };
 const GRADES = {
