@@ -150,7 +150,9 @@ def refused_links(page, _, tally):
 
 
 def boxes(page, _, tally):
-    """No choice in a box throws work away."""
+    """No choice in a box throws work away, and a size that isn't made is told."""
+    page.open("tents", TENTS)
+    tally.same("a size that isn't made", page.answer("#generate"), "Puzzles of this size aren’t made.")
     page.open("solo", SOLO)
     page.cells()[1].click()
     page.keys("2")
@@ -309,6 +311,7 @@ def mistakes(page, _, tally):
     page.cells()[1].click()
     page.keys("4", Keys.ARROW_RIGHT, "3", Keys.ARROW_DOWN)
     page.keys("2", held=[Keys.SHIFT])
+    page.answer("#hint")
     tally.true("a wrong number", page.answer("#mistakes").startswith("One cell is wrong."))
     tally.same("a wrong number: the cell", page.marked(), [1])
     page.click("#undo")
@@ -398,6 +401,7 @@ def hints(page, server, tally):
     page.cells()[2].click()
     tally.true("hint at a wrong cell", page.answer("#hint").startswith("Row 2, column 1 is wrong."))
     tally.same("hint at a wrong cell: the cell", page.marked(), [2])
+    tally.same("its colour", page.script("return document.querySelector('.board').classList.contains('hinted')"), False)
     page.open("lightup", "3x3:aBBa1aBb")
     tally.true("no house leads on", "it is found by trying" in page.answer("#hint"))
     page.open("lightup", "2x2:Bc")

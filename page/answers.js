@@ -68,8 +68,7 @@ export async function hint() {
   if (told.kind === "done") return check();
   const place = ([x, y]) => y * puzzle.w + x, cells = told.cells.map(place), isWrong = told.kind === "wrong";
   if (cells.length) choose(cells[0], false);
-  point({ marked: marks(cells, isWrong ? "wrong" : "hint"), house: new Set(told.house.map(place)) });
-  table.board.grid.classList.toggle("hinted", !isWrong);
+  point({ marked: marks(cells, isWrong ? "wrong" : "hint"), house: new Set(told.house.map(place)), isHint: !isWrong });
   say(told.words.join(" "), isWrong ? "bad" : "", HINTED[told.kind]);
 }
 

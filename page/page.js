@@ -44,7 +44,7 @@ async function generate() {
   const seed = $("seed").value.trim() || String(Math.floor(Math.random() * 1000000));
   const black = side < 10 ? "20" : side < 14 ? "25" : side < 30 ? "30" : "35"; // with fewer a large one has several solutions
   const fields = { game, size, seed, ...(game === "lightup" ? { black } : {}), ...(level ? { level } : {}) };
-  const told = await ask("generate", fields, { refused: () => say(SAID.seed, "bad") });
+  const told = await ask("generate", fields, { refused: (why) => say(SAID[why] || SAID.seed, "bad") });
   if (!told) return;
   if (!told.id) {
     say(level ? SAID.level : `No puzzle came of seed ${seed}. Try another.`, "bad");

@@ -34,6 +34,7 @@ export function lay(puzzle, id) {
 export function point(marks = {}) {
   const { play, board, at } = table, sign = play.state[at];
   table.marks = marks;
+  board.grid.classList.toggle("hinted", Boolean(marks.isHint));
   board.paint(play.state, { ...marks, same: play.puzzle.block && /^\d/.test(sign) ? sign : undefined });
   $("undo").disabled = !play.done.length;
   $("redo").disabled = !play.undone.length;

@@ -19,6 +19,7 @@ export const SAID = {
   level: "No puzzle of this difficulty came in time. Try another size or difficulty.",
   link: "This link names no game that is here. The games are solo, pattern, lightup and tents.",
   unopened: "This link couldn’t be opened now. Open its ID once more.",
+  "size range": "Puzzles of this size aren’t made.",
   seed: "A seed is a whole number from 0 to 18,446,744,073,709,551,615.",
 };
 const GRADES = {
