@@ -20,7 +20,9 @@ import time
 from pathlib import Path
 
 import page_browser
+import page_driver
 import page_faults
+import page_kept
 import page_levels
 import page_looks
 import page_player
@@ -37,12 +39,10 @@ def try_calls(server, tally):
     """The tables of calls and refusals."""
     def same(call, asked, status, wanted):
         got, headers, told = server.ask(call, asked)
-        tally.same(f"{call} {asked}", (got, told), (status, wanted if wanted is not None else told))
+        tally.same(f"{call} {asked}", (got, told), (status, wanted))
         tally.same(f"{call} {asked}: headers", guarded(headers), True)
 
     for game, text, verdict, grids in SOLVE:
-        _, _, told = server.ask("solve", {"game": game, "id": text})
-        grids = told.get("grids") if grids is None else grids
         same("solve", {"game": game, "id": text}, 200, {"verdict": verdict, "grids": grids})
     for game, text, grid, fault in CHECK:
         wanted = {"verdict": "wrong", "fault": fault} if fault else {"verdict": "correct"}
@@ -57,7 +57,7 @@ def try_calls(server, tally):
         status, _, told = server.ask("hint", {"game": game, "id": text, "marks": marks})
         got = (told["kind"], told["cells"], told["signs"], told["house"]) if told.get("verdict") == "one" else told.get("verdict")
         tally.same(f"hint {game} {text} {marks}", (status, got), (200, wanted))
-        tally.true(f"hint {game} {text} {marks}: words", isinstance(wanted, str) or all(told["words"]))
+        tally.true(f"hint {game} {text} {marks}: words", isinstance(wanted, str) or (told["words"] and all(told["words"])))
     for game, text, why in REFUSED:
         for call, more in [("solve", {}), ("check", {"grid": ""}), ("grade", {}), ("hint", {"marks": ""})]:
             same(call, {"game": game, "id": text, **more}, 400, {"refused": why})
@@ -188,7 +188,7 @@ def main():
     parser.add_argument("--count", type=int, default=100, help="puzzles of each game and level (default 100)")
     parser.add_argument("--pictures", metavar="FOLDER", help="leave a picture of each game there, of a phone and of a desk")
     words = parser.parse_args()
-    missing = [] if words.no_browser else page_browser.missing()
+    missing = [] if words.no_browser else page_driver.missing()
     if missing:
         print(f"needed and not found: {', '.join(missing)} (--no-browser does without)", file=sys.stderr)
         sys.exit(2)
@@ -199,7 +199,8 @@ def main():
              lambda: try_hard(server, tally), lambda: page_levels.try_levels(server, tally, program, words.count),
              lambda: page_faults.try_faults(program, tally)]
     if not words.no_browser:
-        parts.append(lambda: page_browser.try_page(server, tally, words.pictures, [page_player.try_player, page_looks.try_looks]))
+        more = [page_kept.try_kept, page_player.try_player, page_looks.try_looks]
+        parts.append(lambda: page_browser.try_page(server, tally, words.pictures, more))
     try:
         for number, part in enumerate(parts, 1):
             part()

@@ -2,7 +2,7 @@
 import base64
 import re
 
-from page_browser import Keys
+from page_driver import Keys
 
 PHONE, DESK = (390, 844), (1280, 900)
 LEAST = 24  # pixels of a cell

@@ -17,7 +17,7 @@ SOLVE = [  # game, ID, verdict, grids
     ("pattern", HARD, "gave up", []),
     ("solo", SOLO, "one", [SOLVED]),
     ("solo", "2x2x:1_2_3_4_3k", "one", [["1 2 3 4", "3 4 1 2", "4 3 2 1", "2 1 4 3"]]),
-    ("solo", "2x2:" + "_" * 65531 + "p", "several", None),
+    ("solo", "2x2:" + "_" * 65531 + "p", "several", [SOLVED, [*SOLVED[:2], "2 3 4 1", "4 1 2 3"]]),
     ("lightup", "2x2:2c", "one", [["2O", "O."]]),
     ("lightup", "2x2:Bc", "several", [["#.", ".O"], ["#O", "O."]]),
     ("tents", "2x2:_c,0,1,1,0", "one", [["T^", ".."]]),
