@@ -79,7 +79,8 @@ export class Board {
     const p = this.puzzle, notes = is.note ? sign.slice(1).split(" ") : [];
     cell.className = `cell ${names}`;
     cell.dataset.sign = is.note ? "." : sign;
-    cell.textContent = is.note ? noteText(p, notes) : /[\d•]/.test(sign) ? sign : "";
+    const text = is.note ? noteText(p, notes) : /\d/.test(sign) ? sign : "";
+    if (cell.textContent !== text) cell.textContent = text;
     const black = p.game === "lightup" && isFilled(sign) ? `black ${sign}` : "";
     const what = is.note ? `notes ${notes.join(" ")}` : SIGNS[sign] || black || sign + (is.fixed ? ", given" : "");
     cell.ariaLabel = `${cell.dataset.where}: ${what}${is.met ? ", met" : ""}${is.lit ? ", lit" : ""}${why ? `, ${why}` : ""}`;
