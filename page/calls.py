@@ -5,13 +5,13 @@ import sys
 import time
 from pathlib import Path
 
+from levels import eased, is_deduced, level_of
 from program import SECONDS, Failed, Workers, run
 
 BUDGET = 20_000  # trials of a search; nine of ten real puzzles of each kind need fewer
 MAKING_BUDGET = 1_000  # of each search of `generate`
 SEEDS = 2_000  # tried for a level, if the clock allows
 PAST_SEEDS = 1 << 64
-FEW = 4  # trials: up to so many are a guess or two
 
 NEEDED = {"solve": {"game", "id"}, "check": {"game", "id", "grid"}, "grade": {"game", "id"}, "generate": {"game", "size", "seed"},
           "hint": {"game", "id", "marks"}}
@@ -55,15 +55,6 @@ def parted(call, answer):
     return first, [grid.splitlines() for grid in rest.split("\n\n") if grid]
 
 
-def level_of(game, grade):
-    """How hard a puzzle of a grade is for a player."""
-    if grade in ("singles", "lines", "local"):
-        return "easy"
-    if grade in ("houses", "crossings"):
-        return "medium"
-    return "medium" if game != "solo" and int(grade.split()[1]) <= FEW else "hard"
-
-
 class Calls:
     """What each call answers."""
 
@@ -89,24 +80,29 @@ class Calls:
 
     def generate(self, end, game, size, seed, black=None, level=None):
         """The puzzle of a seed. With a level, the first of that level from this seed on."""
-        crossed = game == "solo" and size.endswith("x")  # whose filling is a search, so it can't do without trials
-        is_deduced = level == "easy" or (level == "medium" and game == "solo")
-        budget = 0 if is_deduced and not crossed else MAKING_BUDGET
-        more = [f"--budget={budget}", *([f"--black={black}"] if black else []), game, "--", size]
         begin = int(seed)
         for tried in range(begin, min(begin + (SEEDS if level else 1), max(begin + 1, PAST_SEEDS))):
             if tried > begin and time.monotonic() > end - SECONDS / 4:
                 break
-            first, grids = parted("generate", run(self.program, "generate", f"--seed={tried}", *more, end=end))
-            made = {"verdict": "made", "id": first, "grids": grids, "seed": str(tried)}
-            if first == "exhausted":
-                continue
-            if not level:
-                return made
-            grade = self.grade(end, game, first).get("grade")
-            if grade and level_of(game, grade) == level:
-                return {**made, "grade": grade}
+            made = self.made(end, game, size, tried, black, level)
+            if made:
+                return {"verdict": "made", **made, "seed": str(tried)}
         return {"verdict": "exhausted", "grids": []}
+
+    def made(self, end, game, size, seed, black, level):
+        """The puzzle of one seed, if there is one and it has the level."""
+        crossed = game == "solo" and size.endswith("x")  # whose filling is a search, so it can't do without trials
+        budget = 0 if is_deduced(game, level) and not crossed else MAKING_BUDGET
+        more = [f"--seed={seed}", f"--budget={budget}", *([f"--black={black}"] if black else [])]
+        text, grids = parted("generate", run(self.program, "generate", *more, game, "--", size, end=end))
+        if text == "exhausted":
+            return None
+        if not level:
+            return {"id": text, "grids": grids}
+        grade = self.grade(end, game, text).get("grade")
+        if crossed and is_deduced(game, level):
+            text, grade = eased(text, grids[0], seed, level, lambda text: self.grade(end, game, text).get("grade"))
+        return {"id": text, "grids": grids, "grade": grade} if grade and level_of(game, grade) == level else None
 
     def hint(self, end, game, id, marks):
         """The next step of a player, whose grid has `.` for blank and `x` for "none here"."""
