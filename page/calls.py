@@ -5,7 +5,7 @@ import sys
 import time
 from pathlib import Path
 
-from levels import eased, is_deduced, level_of
+from levels import eased, is_deduced, is_harder, level_of
 from program import SECONDS, Failed, Workers, run
 
 BUDGET = 20_000  # trials of a search; nine of ten real puzzles of each kind need fewer
@@ -100,7 +100,7 @@ class Calls:
         if not level:
             return {"id": text, "grids": grids}
         grade = self.grade(end, game, text).get("grade")
-        if crossed and is_deduced(game, level):
+        if game == "solo" and is_deduced(game, level) and is_harder(game, grade, level):
             text, grade = eased(text, grids[0], seed, level, lambda text: self.grade(end, game, text).get("grade"))
         return {"id": text, "grids": grids, "grade": grade} if grade and level_of(game, grade) == level else None
 

@@ -16,6 +16,11 @@ def level_of(game, grade):
     return "medium" if game != "solo" and int(grade.split()[1]) <= FEW else "hard"
 
 
+def is_harder(game, grade, level):
+    """Whether a puzzle is harder than a level. One that was too hard to grade is."""
+    return not grade or LEVELS.index(level_of(game, grade)) > LEVELS.index(level)
+
+
 def is_deduced(game, level):
     """Whether the puzzles of a level need no guess."""
     return level == "easy" or (level == "medium" and game == "solo")
@@ -50,7 +55,7 @@ def eased(text, solution, seed, level, grade):
         put = set(blank[:middle])
         eased_text = written(puzzle, [right[place] if place in put else sign for place, sign in enumerate(puzzle.fixed)])
         found = grade(eased_text)
-        if found and LEVELS.index(level_of("solo", found)) <= LEVELS.index(level):
+        if not is_harder("solo", found, level):
             best, high = (eased_text, found), middle - 1
         else:
             low = middle + 1
