@@ -69,7 +69,8 @@ def play(page, server, tally, game, size, seed, black):
     tally.same(f"{game}: what solve shows", printed(page, game, made["grids"][0], "#more"), solution)
     tally.same(f"{game}: what solve leaves", printed(page, game, made["grids"][0]) == solution, False)
     _, _, told = server.ask("grade", {"game": game, "id": made["id"]})
-    wanted = GRADES.get(told["grade"], "Guesses are needed")
+    few = game != "solo" and told["grade"] in ("search 2", "search 3", "search 4")
+    wanted = GRADES.get(told["grade"], "Medium, a guess or two" if few else "Hard, with guesses")
     tally.same(f"{game}: grade", page.answer("#grade").partition(":")[0], wanted)
 
 

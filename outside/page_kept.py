@@ -2,6 +2,7 @@
 import time
 
 from page_driver import Keys
+from page_requests import LONG
 
 TENTS = "2x2:_c,0,1,1,0"
 SOLO = "2x2:1b4i3_2a"  # the rows 1 2 3 4, 3 4 1 2, 2 1 4 3, 4 3 2 1
@@ -56,15 +57,14 @@ def bounded(page, _, tally):
                (f"solo/{SOLO}", "1,2,3,4,.,.,.,.,.,.,.,.,.,3,2,."))
 
 
-def links(page, server, tally):
+def links(page, _, tally):
     """Links of any length, as mail programs write them, and a changed address."""
-    _, _, made = server.ask("generate", {"game": "pattern", "size": "60x60", "seed": "2"})
-    page.open("pattern", made["id"])
-    tally.true("a long link", len(made["id"]) > 2000 and len(page.script("return location.hash")) > 2000)
+    page.open("pattern", LONG)
+    tally.true("a long link", len(page.script("return location.hash")) > 2000)
     page.cells()[0].click()
     page.driver.refresh()
     page.until("reloads a long link", page.is_ready)
-    tally.same("a long link again", (page.one("#id").get_property("value"), page.signs()[0]), (made["id"], "black"))
+    tally.same("a long link again", (page.one("#id").get_property("value"), page.signs()[0]), (LONG, "black"))
     tally.same("its size in the box", page.one("#size").get_property("value"), "60x60")
     page.open("tents", "2x2%3A_c%2C0%2C1%2C1%2C0")
     tally.same("a percent-encoded link", (page.one("#id").get_property("value"), len(page.cells())), (TENTS, 4))

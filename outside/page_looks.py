@@ -3,6 +3,7 @@ import base64
 import re
 
 from page_driver import Keys
+from page_requests import LONG
 
 PHONE, DESK = (390, 844), (1280, 900)
 LEAST = 24  # pixels of a cell
@@ -33,14 +34,14 @@ def try_looks(page, server, tally):
     phone(page, server, tally, made)
     dark(page, tally, made)
     forced(page, tally, made)
-    paper(page, server, tally, made)
+    paper(page, tally, made)
     keyboard(page, tally, made)
     names(page, tally)
 
 
 def made_by(server, game, size, black):
     more = {"black": black} if game == "lightup" else {}
-    _, _, told = server.ask("generate", {"game": game, "size": size, "seed": "4", "level": "easy", **more})
+    _, _, told = server.ask("generate", {"game": game, "size": size, "seed": "4", **more})
     return told["id"]
 
 
@@ -108,10 +109,9 @@ def forced(page, tally, made):
     media(page)
 
 
-def paper(page, server, tally, made):
+def paper(page, tally, made):
     """On paper: name and ID, a board as wide as the paper, one page also of 60 by 60, and nothing but the puzzle."""
-    _, _, large = server.ask("generate", {"game": "pattern", "size": "60x60", "seed": "2"})
-    for game, text in [*made.items(), ("pattern", large["id"])]:
+    for game, text in [*made.items(), ("pattern", LONG)]:
         page.open(game, text)
         made_pdf = page.driver.execute_cdp_cmd("Page.printToPDF", {"paperWidth": 8.27, "paperHeight": 11.69})
         pdf = base64.b64decode(made_pdf["data"])

@@ -6,6 +6,7 @@ WHITE = "120x120:" + "z" * 553 + "v"  # all cells white: longer than the clock
 SOLO = "2x2:1b4i3_2a"
 SOLVED = ["1 2 3 4", "3 4 1 2", "2 1 4 3", "4 3 2 1"]
 UNPAIRED = "5x3:aiaa,1,0,2,0,0,2,0,1"
+LONG = "60x60:" + "/".join(["1.2.1.3.1.2.1.3.1.2.1.2"] * 120)  # Pattern, an ID of 2,885 bytes
 CANARY = "<b>canary</b>"
 
 SOLVE = [  # game, ID, verdict, grids
