@@ -196,6 +196,7 @@ def leave(page, server, folder):
             half = len(signs) // 2 // len(made["grids"][0]) * len(made["grids"][0])
             write(page, game, signs[:half] + ["."] * (len(signs) - half), len(made["grids"][0]))
             page.answer("#hint")
-            tall = page.driver.execute_script("scrollTo(0, 0); return document.documentElement.scrollHeight")
+            page.size(width, 4 * height)  # so that the board is as large as it gets
+            tall = page.driver.execute_script("scrollTo(0, 0); return Math.ceil(document.body.getBoundingClientRect().height)")
             page.size(width, max(tall, height))
             page.driver.save_screenshot(str(folder / f"{game}-{width}.png"))
