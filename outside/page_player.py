@@ -12,7 +12,8 @@ LATE = 700  # milliseconds
 
 
 def try_player(page, server, tally):
-    for part in (steps, notes, long_numbers, drawing, touching, crossed_off, mistakes, late_answers, focus, levels, hints, painting):
+    for part in (steps, notes, long_numbers, drawing, touching, crossed_off, mistakes, late_answers, focus, levels, hints,
+                 painting):
         part(page, server, tally)
 
 
