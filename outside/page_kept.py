@@ -90,9 +90,10 @@ def cut_off(page, _, tally):
 def quickly(page, _, tally):
     """Steps through the history that come before the answers to those before them."""
     page.open("solo", SOLO)
+    page.cells()[1].click()  # a browser may take an address that no visitor's act led to in place of the one before
     for text in (TENTS, "2x2:d,0,0,0,0", "3x3:aaaaa,2,0,2,2,0,2"):
         page.script("location.hash = arguments[0]", f"#tents/{text}")
-        time.sleep(0.3)
+        page.until(f"shows {text}", lambda text=text: page.one("#id").get_property("value") == text)
     before = page.script("return history.length")
     page.script("history.go(-1); setTimeout(() => history.go(-1), 20)")
     time.sleep(1)
