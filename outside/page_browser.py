@@ -1,26 +1,15 @@
-"""The page of the folder page/ in a real browser: what `outside/page.py` does with it as a person would."""
-import os
-import shutil
-import sys
+"""Each game as a person plays it in a browser, and texts of any kind in any field. For `outside/page.py`."""
 import tempfile
 from pathlib import Path
 
-sys.path.append("/usr/lib/python3/dist-packages")  # Debian's packages, for a Python that isn't Debian's
-try:
-    from selenium import webdriver
-    from selenium.common.exceptions import WebDriverException
-    from selenium.webdriver.chrome.service import Service
-    from selenium.webdriver.common.by import By
-    from selenium.webdriver.common.keys import Keys
-    from selenium.webdriver.support.ui import Select, WebDriverWait
-except ImportError:
-    webdriver = None
+from page_driver import By, Keys, Page, WebDriverException
 
-WAIT = 30  # seconds of any wait
 WIDTHS = [(390, 844), (1280, 800)]
 GAMES = [  # game, size, seed, black cells as the page asks for
     ("solo", "3x3", "7", None), ("pattern", "10x10", "3", None), ("lightup", "7x7", "5", "20"), ("tents", "8x8", "2", None)]
-GRADES = {"singles": "Easy", "houses": "Medium", "crossings": "Hard", "lines": "No guesses", "local": "No guesses"}
+GRADES = {"singles": "No guesses", "houses": "Medium, no guesses", "crossings": "Medium, no guesses", "lines": "No guesses",
+          "local": "No guesses"}
+HARD = "10x10:1/1/1/1/1/1/1/1/1//1/1/1/1/1/1/1/1/1/1"  # 725,758 trials
 SIGNS = {"pattern": "#", "lightup": "O", "tents": "^"}
 BROKEN = [  # game, ID, the text that is marked
     ("solo", "3x3:a8_4a!7d", "!"), ("pattern", "2x2:1/é/1/1", "é"), ("solo", "2x2:1_5n", "5"),
@@ -29,80 +18,8 @@ HOSTILE = ["--budget=5", "--", "<img src=x onerror=document.title='hurt'>", "';\
            "3x3#1", " ", "2x2:\r\n\0"]
 
 
-def missing():
-    """What the browser part needs and this machine hasn't."""
-    needed = {"chromium": shutil.which("chromium"), "chromium-driver": shutil.which("chromedriver"),
-              "python3-selenium": webdriver}
-    return [name for name, there in needed.items() if not there]
-
-
-class Page:
-    """The page in a browser."""
-
-    def __init__(self, url, profile):
-        options = webdriver.ChromeOptions()
-        options.binary_location = shutil.which("chromium")
-        for word in ["--headless=new", "--disable-gpu", "--disable-dev-shm-usage", f"--user-data-dir={profile}"]:
-            options.add_argument(word)
-        if os.geteuid() == 0:
-            options.add_argument("--no-sandbox")  # which Chromium's sandbox asks of root
-        options.set_capability("goog:loggingPrefs", {"browser": "ALL"})
-        service = Service(shutil.which("chromedriver"), env={**os.environ, "TMPDIR": profile})
-        self.driver, self.url = webdriver.Chrome(options=options, service=service), url
-        self.driver.set_page_load_timeout(WAIT)
-        self.driver.set_script_timeout(WAIT)
-
-    def all(self, selector):
-        return self.driver.find_elements(By.CSS_SELECTOR, selector)
-
-    def one(self, selector):
-        return self.driver.find_element(By.CSS_SELECTOR, selector)
-
-    def text(self, selector):
-        return self.one(selector).text
-
-    def cells(self, within="#stage"):
-        return self.all(f"{within} [role=gridcell]")
-
-    def marked(self):
-        """The places of the cells of the board that are marked."""
-        return self.driver.execute_script("return [...document.querySelectorAll('#stage [role=gridcell]')].flatMap("
-                                          "(cell, place) => cell.classList.contains('marked') ? place : [])")
-
-    def click(self, selector):
-        button = self.one(selector)
-        self.driver.execute_script("arguments[0].scrollIntoView({ block: 'center' })", button)
-        button.click()
-
-    def choose(self, game):
-        Select(self.one("#game")).select_by_value(game)
-
-    def until(self, what, seen):
-        WebDriverWait(self.driver, WAIT, poll_frequency=0.05).until(lambda _: seen(), what)
-
-    def put(self, selector, text):
-        """As one that pastes."""
-        self.driver.execute_script("arguments[0].value = arguments[1]", self.one(selector), text)
-
-    def size(self, width, height):
-        self.driver.execute_cdp_cmd("Emulation.setDeviceMetricsOverride",
-                                    {"width": width, "height": height, "deviceScaleFactor": 1, "mobile": width < 600})
-
-    def open(self, game="", text=""):
-        self.driver.get("about:blank")
-        self.driver.get(f"{self.url}#{game}/{text}" if text else self.url)
-        self.until(f"opens {game} {text}", self.cells)
-
-    def answer(self, button):
-        """What is said after a button, which takes away what was said before."""
-        self.driver.execute_script("document.getElementById('answer').textContent = ''")
-        self.click(button)
-        self.until(f"answers {button}", lambda: self.text("#answer"))
-        return self.text("#answer")
-
-
-def try_page(server, tally, pictures):
-    """Each game as a person plays it; broken IDs; texts of any kind in any field."""
+def try_page(server, tally, pictures, parts):
+    """Each game as a person plays it; broken IDs; texts of any kind in any field; and further parts, each over the same page."""
     with tempfile.TemporaryDirectory(ignore_cleanup_errors=True) as profile:
         page = None
         try:
@@ -114,6 +31,8 @@ def try_page(server, tally, pictures):
             for game, text, mark in BROKEN:
                 broken(page, tally, game, text, mark)
             hostile(page, tally)
+            for part in parts:
+                part(page, server, tally)
             said = [line["message"] for line in page.driver.get_log("browser")]
             tally.same("the browser's complaints", [line for line in said if "Failed to load resource" not in line], [])
             if pictures:
@@ -130,14 +49,14 @@ def play(page, server, tally, game, size, seed, black):
     _, _, made = server.ask("generate", {"game": game, "size": size, "seed": seed, **({"black": black} if black else {})})
     page.open()
     page.choose(game)
-    page.until(f"shows {game}", lambda: page.all(f"#stage .{game}"))
-    tally.same(f"{game}: the size", page.one("#size").get_property("value"), size)
-    page.put("#seed", seed)
-    page.click("#generate")
-    page.until(f"makes {game} {size} of {seed}", lambda: page.one("#id").get_property("value") == made["id"])
+    page.until(f"shows {game}", lambda: page.all(f"#stage .{game}") and page.is_ready())
+    chosen = [page.one(box).get_property("value") for box in ("#size", "#difficulty")]
+    tally.same(f"{game}: size and difficulty", chosen, [size, "easy"])
+    make(page, game, size, seed, "", made["id"])
     signs = [sign for row in made["grids"][0] for sign in (row.split() if game == "solo" else row)]
     asked = write(page, game, signs, len(made["grids"][0]))
-    tally.same(f"{game}: check of the solution", page.answer("#check"), "Correct.")
+    page.until_said("Correct. The puzzle is solved.")  # without being asked
+    tally.same(f"{game}: check of the solution", page.answer("#check"), "Correct. The puzzle is solved.")
     spoil(page, game, signs, asked)
     said = page.answer("#check")
     tally.same(f"{game}: check of a wrong cell", said.startswith("Not yet: "), True)
@@ -150,15 +69,29 @@ def play(page, server, tally, game, size, seed, black):
     tally.same(f"{game}: what solve shows", printed(page, game, made["grids"][0], "#more"), solution)
     tally.same(f"{game}: what solve leaves", printed(page, game, made["grids"][0]) == solution, False)
     _, _, told = server.ask("grade", {"game": game, "id": made["id"]})
-    wanted = GRADES.get(told["grade"], "Guesses are needed")
+    few = game != "solo" and told["grade"] in ("search 2", "search 3", "search 4")
+    wanted = GRADES.get(told["grade"], "Medium, a guess or two" if few else "Hard, with guesses")
     tally.same(f"{game}: grade", page.answer("#grade").partition(":")[0], wanted)
 
 
+def make(page, game, size, seed, level, text):
+    """Has the page make the puzzle of a seed."""
+    page.open()
+    page.choose(game)
+    page.until(f"shows {game}", lambda: page.all(f"#stage .{game}") and page.is_ready())
+    page.put("#seed", seed)
+    page.select("#size", size)
+    page.select("#difficulty", level)
+    page.click("#generate")
+    page.until(f"makes {game} {size} of {seed}", lambda: page.one("#id").get_property("value") == text)
+
+
 def write(page, game, signs, rows):
-    """Fills in a solution: Solo by clicks and digits, Tents by keys alone, the others by clicks. Gives the filled cells."""
+    """Fills in a solution, or a part of it: Solo by clicks and digits, Tents by keys alone, the others by clicks.
+    Gives the filled cells."""
     cells, wide = page.cells(), len(signs) // rows
     places = [place for place, sign in enumerate(signs)
-              if (game == "solo" and not cells[place].text) or sign == SIGNS.get(game)]
+              if (game == "solo" and sign != "." and not cells[place].text) or sign == SIGNS.get(game)]
     if game == "tents":
         at = next(place for place, cell in enumerate(cells) if cell.get_attribute("tabindex") == "0")
         keys = []
@@ -187,7 +120,7 @@ def spoil(page, game, signs, places):
 
 def printed(page, game, grid, within="#stage"):
     """A board as a grid is printed, from what a screen reader reads of each cell."""
-    said = [cell.get_attribute("aria-label").partition(": ")[2].split(",")[0] for cell in page.cells(within)]
+    said = [sign.split(",")[0] for sign in page.signs(within)]
     if game == "solo":
         wide = len(grid)
         return "".join(" ".join(said[k:k + wide]) + "\n" for k in range(0, len(said), wide))
@@ -216,9 +149,8 @@ def several(page, tally):
     tally.same("several: the grids and their marks", marks, [3, 3])
     page.open("pattern", "2x1:1/1/1")
     tally.same("none", page.answer("#solve"), "This puzzle has no solution.")
-    page.open("lightup", "60x60:" + "z" * 138 + "l")
-    tally.same("a long search", page.answer("#solve") in (
-        "This takes longer than the page allows.", "Too hard to tell within the page’s limit."), True)
+    page.open("pattern", HARD)
+    tally.same("a long search", page.answer("#solve"), "Too hard to tell within the page’s limit.")
     page.open("solo", "2x2:1b4i3_2a")
     tally.same("a search after it", page.answer("#solve"), "The only solution is below.")
 
@@ -229,7 +161,7 @@ def broken(page, tally, game, text, mark):
     page.choose(game)
     page.until(f"shows {game}", lambda: page.all(f"#stage .{game}"))
     page.put("#id", text)
-    page.click("#open button")
+    page.click("#enter")
     page.until(f"refuses {text}", lambda: page.text("#fault"))
     tally.same(f"{game} {text}", [found.text for found in page.all("#fault mark")], [mark])
     tally.same(f"{game} {text}: the board", len(page.all("#stage .board")), 1)
@@ -240,28 +172,31 @@ def hostile(page, tally):
     page.open()
     parts = "return document.querySelectorAll('*').length"
     for text in HOSTILE:
-        for field, button, said in [("#id", "#open button", "#fault"), ("#seed", "#generate", "#answer")]:
+        for field, button, said in [("#id", "#enter", "#fault"), ("#seed", "#generate", "#answer")]:
             page.driver.execute_script("for (const id of ['fault', 'answer']) document.getElementById(id).textContent = ''")
             before = page.driver.execute_script(parts)
             page.put(field, text)
             page.click(button)
             page.until(f"answers {text[:30]} in {field}", lambda said=said: page.text(said))
             tally.same(f"{text[:30]} in {field}: new elements", page.driver.execute_script(parts) - before in range(4), True)
-            tally.same(f"{text[:30]} in {field}: images, title", (len(page.all("img")), page.driver.title), (0, "puzzles"))
+            seen = len(page.all("img")), page.driver.title.endswith("– puzzles")
+            tally.same(f"{text[:30]} in {field}: images, title", seen, (0, True))
 
 
 def leave(page, server, folder):
-    """A picture of each game, half filled and checked, at both widths."""
+    """A picture of each game, half filled and with a hint, at both widths."""
     folder.mkdir(parents=True, exist_ok=True)
     for game, size, seed, black in GAMES:
-        _, _, made = server.ask("generate", {"game": game, "size": size, "seed": seed, **({"black": black} if black else {})})
+        asked = {"game": game, "size": size, "seed": seed, "level": "easy", **({"black": black} if black else {})}
+        _, _, made = server.ask("generate", asked)
         signs = [sign for row in made["grids"][0] for sign in (row.split() if game == "solo" else row)]
         for width, height in WIDTHS:
             page.size(width, height)
-            page.open(game, made["id"])
-            places = write(page, game, signs, len(made["grids"][0]))
-            spoil(page, game, signs, places)
-            page.answer("#check")
-            tall = page.driver.execute_script("scrollTo(0, 0); return document.documentElement.scrollHeight")
+            make(page, game, size, seed, "easy", made["id"])
+            half = len(signs) // 2 // len(made["grids"][0]) * len(made["grids"][0])
+            write(page, game, signs[:half] + ["."] * (len(signs) - half), len(made["grids"][0]))
+            page.answer("#hint")
+            page.size(width, 4 * height)  # so that the board is as large as it gets
+            tall = page.driver.execute_script("scrollTo(0, 0); return Math.ceil(document.body.getBoundingClientRect().height)")
             page.size(width, max(tall, height))
             page.driver.save_screenshot(str(folder / f"{game}-{width}.png"))

@@ -6,6 +6,7 @@ WHITE = "120x120:" + "z" * 553 + "v"  # all cells white: longer than the clock
 SOLO = "2x2:1b4i3_2a"
 SOLVED = ["1 2 3 4", "3 4 1 2", "2 1 4 3", "4 3 2 1"]
 UNPAIRED = "5x3:aiaa,1,0,2,0,0,2,0,1"
+LONG = "60x60:" + "/".join(["1.2.1.3.1.2.1.3.1.2.1.2"] * 120)  # Pattern, an ID of 2,885 bytes
 CANARY = "<b>canary</b>"
 
 SOLVE = [  # game, ID, verdict, grids
@@ -17,7 +18,7 @@ SOLVE = [  # game, ID, verdict, grids
     ("pattern", HARD, "gave up", []),
     ("solo", SOLO, "one", [SOLVED]),
     ("solo", "2x2x:1_2_3_4_3k", "one", [["1 2 3 4", "3 4 1 2", "4 3 2 1", "2 1 4 3"]]),
-    ("solo", "2x2:" + "_" * 65531 + "p", "several", None),
+    ("solo", "2x2:" + "_" * 65531 + "p", "several", [SOLVED, [*SOLVED[:2], "2 3 4 1", "4 1 2 3"]]),
     ("lightup", "2x2:2c", "one", [["2O", "O."]]),
     ("lightup", "2x2:Bc", "several", [["#.", ".O"], ["#O", "O."]]),
     ("tents", "2x2:_c,0,1,1,0", "one", [["T^", ".."]]),
@@ -96,8 +97,43 @@ REFUSED_MORE = [  # call, the rest of the fields, why
     ("generate", {"game": "tents", "size": "6x6", "seed": "1", "black": "20"}, "words"),
     ("generate", {"game": "pattern", "size": "6x6", "seed": "1", "black": "101"}, "words"),
     ("generate", {"game": "pattern", "size": "6x6", "seed": "1", "black": "1e1"}, "field black"),
+    ("generate", {"game": "pattern", "size": "6x6", "seed": "1", "level": "lines"}, "field level"),
+    ("generate", {"game": "tents", "size": "3x3", "seed": "1", "level": "easy"}, "size range"),
+    ("generate", {"game": "tents", "size": "6x6", "seed": "18446744073709551616", "level": "easy"}, "words"),
+    ("solve", {"game": "pattern", "id": "1x1:/", "level": "easy"}, "fields"),
+    ("hint", {"game": "pattern", "id": "1x1:/", "grid": "."}, "fields"),
+    ("hint", {"game": "pattern", "id": "1x1:/", "marks": "?"}, "field marks"),
+    ("hint", {"game": "pattern", "id": "1x1:/", "marks": ".."}, "marks"),
+    ("hint", {"game": "pattern", "id": "1x1:/", "marks": "O"}, "marks"),
+    ("hint", {"game": "lightup", "id": "2x2:2c", "marks": "..\n..\n"}, "marks"),
+    ("hint", {"game": "solo", "id": SOLO, "marks": "1 . . 4\n. . . .\n. . 5 .\n. 3 2 .\n"}, "marks"),
+    ("hint", {"game": "solo", "id": SOLO, "marks": ""}, "marks"),
+    ("hint", {"game": "solo", "id": "2x2:5o", "marks": ""}, "number range at 4"),
 ]
-JSON = b"Content-Type: application/json\r\n"
+HINT = [  # game, ID, marks, what comes: the kind, the cells with their signs, the house; or the verdict
+    ("tents", "2x2:_c,0,1,1,0", "T.\n..\n", ("house", [[1, 0]], ["^"], [[1, 0], [1, 1]])),
+    ("tents", "2x2:_c,0,1,1,0", "T^\n..\n", ("done", [], [], [])),
+    ("tents", "2x2:_c,0,1,1,0", "Tx\n..\n", ("wrong", [[1, 0]], [], [])),
+    ("lightup", "2x2:2c", "2.\n..", ("house", [[1, 0], [0, 1]], ["O", "O"], [[0, 0], [1, 0], [0, 1]])),
+    ("lightup", "2x2:2c", "2.\nxO\n", ("wrong", [[0, 1]], [], [])),
+    ("lightup", "3x3:aBBa1aBb", ".##\n.1.\n#..\n", ("guess", [[0, 1]], ["O"], [])),
+    ("pattern", "5x1:1/1//1/1/2.2", ".....\n",
+     ("house", [[x, 0] for x in range(5)], list("##x##"), [[x, 0] for x in range(5)])),
+    ("pattern", "5x1:1/1//1/1/2.2", "##x#.\n", ("house", [[4, 0]], ["#"], [[4, 0]])),
+    ("solo", SOLO, "1 . . 4\n. . . .\n. . . .\n. 3 2 .\n", ("house", [[0, 1]], ["3"], [[0, 0], [1, 0], [0, 1], [1, 1]])),
+    ("solo", SOLO, "1 2 3 4\n3 4 1 2\n2 1 . 3\n4 3 2 1\n", ("house", [[2, 2]], ["4"], [[2, 2], [3, 2], [2, 3], [3, 3]])),
+    ("solo", SOLO, "1 2 3 4\n3 4 1 2\n2 1 3 3\n4 3 2 1\n", ("wrong", [[2, 2]], [], [])),
+    ("solo", SOLO, "\n".join(SOLVED), ("done", [], [], [])),
+    ("lightup", "2x2:Bc", "#.\n..\n", "several"),
+    ("pattern", "2x1:1/1/1", "..\n", "none"),
+    ("pattern", HARD, ("." * 10 + "\n") * 10, "gave up"),
+]
+LEVELS = {"solo": {"easy": ["singles"], "medium": ["houses", "crossings"], "hard": ["search"]},
+          "pattern": {"easy": ["lines"], "medium": ["search to 4"], "hard": ["search"]},
+          "lightup": {"easy": ["local"], "medium": ["search to 4"], "hard": ["search"]},
+          "tents": {"easy": ["local"], "medium": ["search to 4"], "hard": ["search"]}}
+HOST = b"Host: 127.0.0.1\r\n"
+JSON = HOST + b"Content-Type: application/json\r\n"
 RAW = [  # what is sent, whether the sender then closes its side, the status, why
     (b"POST /solve HTTP/1.1\r\n" + JSON + b"Content-Length: 200000\r\n\r\n" + b"1" * 200000, False, 413, "too long"),
     (b"POST /solve HTTP/1.1\r\n" + JSON + b"Content-Length: 9\r\n\r\nnonsense!", False, 400, "not JSON"),
@@ -110,14 +146,19 @@ RAW = [  # what is sent, whether the sender then closes its side, the status, wh
     (b"POST /solve HTTP/1.1\r\n" + JSON + b"Content-Length: -1\r\n\r\n{}", False, 411, "length"),
     (b"POST /solve HTTP/1.1\r\n" + JSON + b"\r\n{}", False, 411, "length"),
     (b"POST /solve HTTP/1.1\r\n" + JSON + b"Transfer-Encoding: chunked\r\n\r\n0\r\n\r\n", False, 411, "length"),
-    (b"POST /solve HTTP/1.1\r\nContent-Length: 2\r\n\r\n{}", False, 415, "not JSON"),
+    (b"POST /solve HTTP/1.1\r\n" + HOST + b"Content-Length: 2\r\n\r\n{}", False, 415, "not JSON"),
     (b"POST /canary HTTP/1.1\r\n" + JSON + b"Content-Length: 2\r\n\r\n{}", False, 404, "path"),
     (b"POST /../solve HTTP/1.1\r\n" + JSON + b"Content-Length: 2\r\n\r\n{}", False, 404, "path"),
-    (b"GET /canary HTTP/1.1\r\n\r\n", False, 404, "Not Found"),
-    (b"GET /serve.py HTTP/1.1\r\n\r\n", False, 404, "Not Found"),
-    (b"GET /../README.md HTTP/1.1\r\n\r\n", False, 404, "Not Found"),
-    (b"GET //etc/passwd HTTP/1.1\r\n\r\n", False, 404, "Not Found"),
-    (b"GET /%2e%2e/README.md HTTP/1.1\r\n\r\n", False, 404, "Not Found"),
+    (b"GET /canary HTTP/1.1\r\n" + HOST + b"\r\n", False, 404, "Not Found"),
+    (b"GET /serve.py HTTP/1.1\r\n" + HOST + b"\r\n", False, 404, "Not Found"),
+    (b"GET /../README.md HTTP/1.1\r\n" + HOST + b"\r\n", False, 404, "Not Found"),
+    (b"GET //etc/passwd HTTP/1.1\r\n" + HOST + b"\r\n", False, 404, "Not Found"),
+    (b"GET /%2e%2e/README.md HTTP/1.1\r\n" + HOST + b"\r\n", False, 404, "Not Found"),
+    (b"GET / HTTP/1.1\r\n\r\n", False, 421, "Misdirected Request"),
+    (b"GET / HTTP/1.1\r\nHost: canary.example\r\n\r\n", False, 421, "Misdirected Request"),
+    (b"GET / HTTP/1.1\r\nHost: 127.0.0.1.canary.example:8017\r\n\r\n", False, 421, "Misdirected Request"),
+    (b"POST /solve HTTP/1.1\r\nHost: canary.example\r\nOrigin: http://canary.example\r\nContent-Type: application/json\r\n"
+     b"Content-Length: 2\r\n\r\n{}", False, 421, "host"),
     (b"CANARY / HTTP/1.1\r\n\r\n", False, 501, "Not Implemented"),
     (b"OPTIONS /solve HTTP/1.1\r\nOrigin: https://canary.example\r\n\r\n", False, 501, "Not Implemented"),
     (b"canary canary\r\n\r\n", False, 400, "Bad Request"),
