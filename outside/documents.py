@@ -6,6 +6,8 @@
 - Tables that stand in two documents agree: words, limits, commands and statuses of README.md and docs/FORMATS.md, and those of
   README.md and the manual page, docs/puzzles.1. README.md has the number of wrong bodies.
 - A line has at most 130 columns and a sentence at most 25 words, outside of tables, code and the theorem that is quoted.
+- What docs/DECISIONS.md names in code marks is in the crates, or a place, a word or a game of the program, but behind *Tried* and
+  *Weighed*.
 - Each script that a document names can be run, prints a text of its own by --help, and meets a wrong word without a traceback.
 
 Prints what is not so; the exit status is 1 if anything is.
@@ -22,6 +24,7 @@ COLUMNS, WORDS = 130, 25
 HELP_SECONDS = 60
 PLACE = re.compile(r"(?:docs|bench|outside|examples|completions|page|crates|\.ci)/[\w./-]*\w")
 NUMBER = re.compile(r"\d[\d,]*")
+NAME = re.compile(r"[A-Za-z_][\w-]*\w")
 
 
 def documents():
@@ -145,6 +148,22 @@ def bodies():
         yield f"README.md: {' and '.join(told) or 'no number of'} wrong bodies; there are {there}"
 
 
+def stale():
+    """The names in docs/DECISIONS.md that are nowhere, but for those that are told of other ways."""
+    code = [path for place in ("crates/*/src/**/*.rt", "crates/*/specs/*.antt", "crates/*/proofs/*.antt") for path in TOP.glob(place)]
+    places = [*code, *(path for place in ("*", "*/*", "crates/*/*") for path in TOP.glob(place))]
+    known = {name for path in places for part in path.relative_to(TOP).parts for name in (part, pathlib.Path(part).stem)}
+    known.update(word for path in [*code, TOP / "README.md", TOP / "docs" / "FORMATS.md"] for word in NAME.findall(path.read_text()))
+    tells = True
+    for number, line in plain_lines((TOP / "docs" / "DECISIONS.md").read_text()):
+        tells |= line.startswith(("- ", "#"))
+        for part in re.split(r"(\*(?:Tried|Weighed)\*)", line):
+            tells &= part not in ("*Tried*", "*Weighed*")
+            for span in re.findall(r"`([^`]+)`", part) if tells else []:
+                yield from (f"docs/DECISIONS.md:{number}: nothing is named {name}, in {span}"
+                            for name in NAME.findall(span) if name not in known)
+
+
 def scripts():
     """What is wrong with the scripts that a document names."""
     text = "".join(path.read_text() for path in documents())
@@ -165,12 +184,19 @@ def scripts():
                 yield f"{name} {word}: status {done.returncode}: {(done.stderr or done.stdout).strip()[-100:]}"
 
 
+def all_faults():
+    yield from (fault for path in documents() for look in (links, lengths) for fault in look(path))
+    yield from (f"{name}: README.md has {here}, docs/FORMATS.md {there}" for name, here, there in twice() if here != there)
+    yield from (f"{name}: README.md has {here}, docs/puzzles.1 {there}" for name, here, there in by_manual() if here != there)
+    yield from (fault for look in (bodies, stale, scripts) for fault in look())
+
+
 def main():
     argparse.ArgumentParser(description=__doc__, formatter_class=argparse.RawDescriptionHelpFormatter).parse_args()
-    faults = [fault for path in documents() for look in (links, lengths) for fault in look(path)]
-    faults += [f"{name}: README.md has {here}, docs/FORMATS.md {there}" for name, here, there in twice() if here != there]
-    faults += [f"{name}: README.md has {here}, docs/puzzles.1 {there}" for name, here, there in by_manual() if here != there]
-    faults += [*bodies(), *scripts()]
+    try:
+        faults = [*all_faults()]
+    except (OSError, UnicodeDecodeError) as fault:
+        sys.exit(f"documents.py: can't read the tree: {fault}")
     print("\n".join([*faults, f"{len(documents())} documents, {len(faults)} faults"]))
     return 1 if faults else 0
 
