@@ -4,10 +4,11 @@
 - Each link leads to a file, and to a heading in it. Each place of the repository that is named in code marks is there. A link by
   a label, as [engine_core/Walk], has its line at the end, and each such line is used.
 - Tables that stand in two documents agree: words, limits, commands and statuses of README.md and docs/FORMATS.md, and those of
-  README.md and the manual page, docs/puzzles.1. README.md has the number of wrong bodies.
+  README.md and the manual page, docs/puzzles.1. README.md has the number of wrong bodies. The minutes of docs/CONTRIBUTING.md
+  are the sums of the gate's table in bench/README.md.
 - A line has at most 130 columns and a sentence at most 25 words, outside of tables, code and the theorem that is quoted.
-- What docs/DECISIONS.md names in code marks is in the crates, or a place, a word or a game of the program, but behind *Tried* and
-  *Weighed*.
+- What docs/DECISIONS.md and docs/PROOF.md name in code marks is in the crates, or a place, a word or a game of the program, but
+  behind *Tried* and *Weighed*.
 - Each script that a document names can be run, prints a text of its own by --help, and meets a wrong word without a traceback.
 
 Prints what is not so; the exit status is 1 if anything is.
@@ -18,6 +19,10 @@ import pathlib
 import re
 import subprocess
 import sys
+
+sys.dont_write_bytecode = True
+sys.path.append(str(pathlib.Path(__file__).resolve().parent.parent / "bench"))
+import tables  # noqa: E402
 
 TOP = pathlib.Path(__file__).resolve().parent.parent
 COLUMNS, WORDS = 130, 25
@@ -42,9 +47,11 @@ def plain_lines(text):
 
 
 def anchors(path):
-    """The headings of a document, as links name them."""
-    heads = (line.lstrip("#").strip() for _, line in plain_lines(path.read_text()) if line.startswith("#"))
-    return {re.sub(r"[^\w\- ]", "", head.lower()).replace(" ", "-") for head in heads}
+    """The headings of a document, as links name them, and what it names itself by `<a id="..">`."""
+    lines = [line for _, line in plain_lines(path.read_text())]
+    heads = (line.lstrip("#").strip().lower() for line in lines if line.startswith("#"))
+    own = re.findall(r'<a id="([\w-]+)">', "\n".join(lines))
+    return {re.sub(r"[^\w\- ]", "", head).replace(" ", "-") for head in heads}.union(own)
 
 
 def links(path):
@@ -140,27 +147,31 @@ def by_manual():
             yield f"status {name}", sorted({span.strip(": ") for span in re.findall("`([^`]+)`", cells[0])}), sorted(set(told))
 
 
-def bodies():
-    """What is wrong with the number of wrong bodies that README.md tells."""
+def numbers():
+    """What is wrong with the number of wrong bodies in README.md, and with the minutes in docs/CONTRIBUTING.md."""
     told = re.findall(r"(\d+) wrong bodies", (TOP / "README.md").read_text())
     there = len([*TOP.glob("crates/*/must-fail/*.edit")])
     if told != [str(there)]:
         yield f"README.md: {' and '.join(told) or 'no number of'} wrong bodies; there are {there}"
+    changes = tables.CHANGES.read_text()
+    if changes != tables.with_minutes(changes, tables.FIGURES.read_text()):
+        yield "docs/CONTRIBUTING.md: minutes that aren't the sums of the gate's table: bench/tables.py --gate LOG writes them"
 
 
-def stale():
-    """The names in docs/DECISIONS.md that are nowhere, but for those that are told of other ways."""
-    code = [path for place in ("crates/*/src/**/*.rt", "crates/*/specs/*.antt", "crates/*/proofs/*.antt") for path in TOP.glob(place)]
-    places = [*code, *(path for place in ("*", "*/*", "crates/*/*") for path in TOP.glob(place))]
-    known = {name for path in places for part in path.relative_to(TOP).parts for name in (part, pathlib.Path(part).stem)}
-    known.update(word for path in [*code, TOP / "README.md", TOP / "docs" / "FORMATS.md"] for word in NAME.findall(path.read_text()))
+def stale(path):
+    """The names in a document that are nowhere, but for those that are told of other ways."""
+    code = [file for place in ("src/**/*.rt", "specs/*.antt", "proofs/*.antt") for file in TOP.glob(f"crates/*/{place}")]
+    places = [*code, *(place for depth in ("*", "*/*", "crates/*/*") for place in TOP.glob(depth))]
+    texts = [file.read_text() for file in [*code, TOP / "README.md", TOP / "docs" / "FORMATS.md"]]
+    known = {name for place in places for part in place.relative_to(TOP).parts for name in (part, pathlib.Path(part).stem)}
+    known.update(word for text in texts for word in NAME.findall(text))
     tells = True
-    for number, line in plain_lines((TOP / "docs" / "DECISIONS.md").read_text()):
+    for number, line in plain_lines(path.read_text()):
         tells |= line.startswith(("- ", "#"))
         for part in re.split(r"(\*(?:Tried|Weighed)\*)", line):
             tells &= part not in ("*Tried*", "*Weighed*")
             for span in re.findall(r"`([^`]+)`", part) if tells else []:
-                yield from (f"docs/DECISIONS.md:{number}: nothing is named {name}, in {span}"
+                yield from (f"{path.relative_to(TOP)}:{number}: nothing is named {name}, in {span}"
                             for name in NAME.findall(span) if name not in known)
 
 
@@ -188,7 +199,8 @@ def all_faults():
     yield from (fault for path in documents() for look in (links, lengths) for fault in look(path))
     yield from (f"{name}: README.md has {here}, docs/FORMATS.md {there}" for name, here, there in twice() if here != there)
     yield from (f"{name}: README.md has {here}, docs/puzzles.1 {there}" for name, here, there in by_manual() if here != there)
-    yield from (fault for look in (bodies, stale, scripts) for fault in look())
+    yield from (fault for name in ("DECISIONS.md", "PROOF.md") for fault in stale(TOP / "docs" / name))
+    yield from (fault for look in (numbers, scripts) for fault in look())
 
 
 def main():

@@ -19,9 +19,9 @@ FUNCTION is `f`, `T::f`, or `T::f of U` for U's own f of the trait T. CLAUSE is 
 trait's f, or of a `requires` that the wrong body does not meet. FUNCTION alone stands for the `ensures` that has no name.
 `invariant` is the one of the function's type, and `from_gives` what an `impl` of `From` says that it gives.
 
-In a second column `T::f`, or `T::f.clause`, names the call f of T. Behind it a bare `g` names T's call g, or the function g. "of" or
-"at" a type after a trait's call means that type's own. "the calls of `T`", or of `T`, `U` and `V`, are all calls of each. "the
-same" are the calls of the row above too. Families that a row names by a phrase are in FAMILIES.
+In a second column `T::f`, or `T::f.clause`, names the call f of T. Behind it a bare `g` names T's call g, or the function g.
+"of" or "at" a type after a trait's call means that type's own. "the calls of `T`", or of `T`, `U` and `V`, are all calls of each.
+"the same" are the calls of the row above too. Families that a row names by a phrase are in FAMILIES.
 Prints what is missing; the exit status is 1 where anything is.
 """
 import collections
@@ -85,7 +85,8 @@ def is_clause(crate, code, text):
     owner, name, kind, clause = form[1], form[2], form[3], form[4] or ""
     calls = code.by_owner[owner, name] if owner else code.by_name[name]
     calls = [call for call in calls if call.crate == crate.name and kind in (None, call.kind)]
-    of_type = {name for call in calls for (_, kind), members in ghosts(crate).items() if kind == call.kind for _, name, _ in members}
+    kinds = {call.kind for call in calls}
+    of_type = {name for (_, kind), members in ghosts(crate).items() if kind in kinds for _, name, _ in members}
     there = {clause for call in calls for each in code.whole(call) for clause in each.clauses}
     return clause in there | of_type & {"invariant", "from_gives"}
 
@@ -99,7 +100,8 @@ def body_faults(code, table, named_by):
             if named_by[file.stem] != 1:
                 yield f"{where} named by {named_by[file.stem]} promises, and not by one"
             elif crate.name not in (there := {call.crate for call, _ in rows_of[file.stem].calls}):
-                yield f"{where} the calls of its row (line {rows_of[file.stem].number}) stand in {', '.join(sorted(there)) or 'no crate'}"
+                row = rows_of[file.stem].number
+                yield f"{where} the calls of its row (line {row}) stand in {', '.join(sorted(there)) or 'no crate'}"
             lines = [line for line in file.read_text().splitlines() if line.startswith(REFUSED_BY)]
             if len(lines) != 1:
                 yield f"{where} {len(lines)} lines '{REFUSED_BY}', and not one"
@@ -131,6 +133,12 @@ def families(code, segment):
         yield from (call for name in re.findall(r"\w+(?=`)", several) for call in code.of_owner[name])
 
 
+def own_calls(calls, kinds):
+    """The calls without those of other types, if a trait's call is named that one of these types has."""
+    owned = {(call.trait, call.name) for call, _ in calls if call.trait and call.kind in kinds}
+    return [(call, clause) for call, clause in calls if call.kind in kinds or (call.trait, call.name) not in owned]
+
+
 def resolved(code, cell):
     """The calls that a second column names, each with a clause or nothing, and what it names that isn't there."""
     found, missing, owner = [], [], None
@@ -144,11 +152,7 @@ def resolved(code, cell):
                 calls += [(call, clause) for call in there]
             if not there or clause and not any(clause in each.clauses for call in there for each in code.whole(call)):
                 others.append(span)
-        kinds = [span for span in others if span in code.types]
-        if kept := {call.kind for call, _ in calls} & set(kinds):
-            calls = [(call, clause) for call, clause in calls if not call.trait or call.kind in kept or (call.trait, call.name) not in
-                     {(other.trait, other.name) for other, _ in calls if other.kind in kept}]
-        found += calls
+        found += own_calls(calls, {span for span in others if span in code.types})
         missing += [span for span in others if span not in code.types and not (TOP / "crates" / span).exists()]
     clauses = {clause for call, _ in found for each in code.whole(call) for clause in each.clauses}
     return found, [span for span in missing if span not in clauses and span != "From"]
@@ -221,7 +225,8 @@ def definition_faults(code, text, table):
                 yield f"line {row.number}: no {word} in {file.relative_to(TOP)}"
         there = [(word, file) for word, file in words if file.exists()]
         texts = [said for call, clause in row.calls for said in clause_texts(code, call, clause)]
-        yield from (f"line {row.number}: {word} is named by no call of the row and no other word" for word in unreached(there, texts))
+        yield from (f"line {row.number}: {word} is named by no call of the row and no other word"
+                    for word in unreached(there, texts))
 
 
 def handed_faults():

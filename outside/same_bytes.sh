@@ -1,0 +1,68 @@
+#!/usr/bin/env bash
+# Shows that two clones of one commit, at different paths, build the same program.
+#
+# usage: outside/same_bytes.sh                clones this repository twice, proves and builds both, and compares
+#        outside/same_bytes.sh ONE OTHER      compares what is there: each is a program, or a clone that was built
+#
+# The first form takes what two first builds take (bench/README.md), or less if `rt` finds what another checkout kept. It needs
+# the kit on the path, and builds the last commit. In the second form two clones have to be of one commit and without changes.
+# It prints the sha256 of both. The status is 0 if the bytes are the same, 1 if they differ, and 2 if there is nothing to compare.
+set -u
+
+build_hours=3
+
+help() {
+    sed -n '2,/^set/{s/^# \{0,1\}//p}' "$0"
+}
+
+stop() {
+    echo "same_bytes.sh: $1" >&2
+    exit 2
+}
+
+# The program of a clone, or the program itself.
+program_of() {
+    local program=$1
+    [ -d "$1" ] && program=$1/crates/puzzles/out/puzzles
+    [ -f "$program" ] && [ -x "$program" ] || stop "no program that was built: $program"
+    echo "$program"
+}
+
+# The commit of a clone that has no changes.
+commit_of() {
+    [ -z "$(git -C "$1" status --porcelain)" ] || stop "a clone with changes: $1"
+    git -C "$1" rev-parse HEAD || stop "no clone: $1"
+}
+
+# Clones this repository to a path, and proves and builds the program there.
+build() {
+    git clone --quiet "$top" "$1" || stop "can't clone to $1"
+    echo "building $1: minutes, and its notes in $1.log" >&2
+    cd "$1/crates/puzzles" || stop "no crate of the program in $1"
+    timeout --foreground "${build_hours}h" rt run -- solve pattern 5x1:1/1//1/1/2.2 > /dev/null 2> "$1.log" ||
+        { tail -n 3 "$1.log" >&2; stop "the build of $1 failed"; }
+    cd "$top" || exit 2
+}
+
+case ${1-} in -h | --help) help; exit 0 ;; esac
+[ $# -eq 0 ] || [ $# -eq 2 ] || { help >&2; exit 2; }
+if [ $# -eq 0 ]; then
+    command -v rt > /dev/null || stop 'needed and not found: rt'
+    top=$(realpath "$(dirname "$0")/..")
+    folder=$(mktemp -d)
+    trap 'rm -rf "$folder"' EXIT
+    trap 'exit 130' INT TERM
+    set -- "$folder/one" "$folder/another/with-a-longer-path"
+    mkdir "$folder/another"
+    build "$1"
+    build "$2"
+fi
+one=$(program_of "$1") && other=$(program_of "$2") || exit 2
+[ "$(realpath "$one")" != "$(realpath "$other")" ] || stop "one and the same file: $one"
+if [ -d "$1" ] && [ -d "$2" ]; then
+    first=$(commit_of "$1") && second=$(commit_of "$2") || exit 2
+    [ "$first" = "$second" ] || stop "two commits: $first, $second"
+    echo "commit $first"
+fi
+sha256sum -- "$one" "$other"
+cmp -- "$one" "$other" && echo 'the same bytes'
