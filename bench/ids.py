@@ -9,13 +9,14 @@ SLOW_SIZES = ("4x5", "5x5", "5x6")  # of Solo: minutes for a puzzle
 
 
 def collected(game, size, more, count, seconds):
-    """At most `count` IDs, as many as come in time; `more` stands behind the size. None where the program isn't installed."""
+    """The IDs of the seeds from 1 to `count`, as many as come in time; `more` stands behind the size. None where the program isn't
+    installed."""
     maker = shutil.which(f"sgt-{game}", path=os.environ["PATH"] + ":/usr/games")
     if not maker:
         return []
     ids, end = [], time.monotonic() + seconds
     while len(ids) < count:
-        words = [maker, "--generate", "1", size + more]
+        words = [maker, "--generate", "1", f"{size}{more}#{len(ids) + 1}"]
         try:
             done = subprocess.run(words, capture_output=True, check=True, timeout=max(end - time.monotonic(), 0))
         except subprocess.TimeoutExpired:

@@ -3,13 +3,11 @@
 
 Each kind is made for the seeds from 1 to SEEDS (3 if left out), one run of the program each, so the time to start
 it is in the number. A run of more than LIMIT seconds (60 if left out) is stopped. A cell is the middle one of the
-times in seconds; `exhausted` stands before it where that run made no puzzle, and `over LIMIT` where it was stopped. Of runs that
-differ in that the number that made a puzzle is added. `-` is not tried: no smaller size made one. Nothing is asserted.
+times, in seconds of processor time; `exhausted` stands before it where that run made no puzzle, and `over LIMIT` where
+it was stopped. Of runs that differ in that the number that made a puzzle is added. `-` is not tried: no smaller size
+made one. Nothing is asserted.
 """
-import os
-import subprocess
 import sys
-import time
 
 sys.dont_write_bytecode = True
 import words  # noqa: E402
@@ -25,15 +23,11 @@ KINDS = [
 
 
 def made(line, limit):
-    """The seconds of a run, and how it ended: 0 made, 1 exhausted, 2 stopped."""
-    start = time.perf_counter()
-    try:
-        done = subprocess.run(line, capture_output=True, check=False, timeout=limit)
-    except subprocess.TimeoutExpired:
-        return 2, limit
-    if done.returncode not in (0, 4):
+    """How a run ended: 0 made, 1 exhausted, 2 stopped; and its seconds."""
+    done, taken = words.timed(line, limit)
+    if done and done.returncode not in (0, 4):
         sys.exit(f"{' '.join(line)}: status {done.returncode}")
-    return (1 if done.returncode else 0), time.perf_counter() - start
+    return (2 if not done else 1 if done.returncode else 0), taken
 
 
 def cell(runs, limit):
@@ -61,7 +55,6 @@ def main():
     form.add_argument("game", metavar="GAME", nargs="?", choices=sorted({kind[0] for kind in KINDS}), help="this game alone")
     asked = form.parse_args()
     program, seeds, limit = asked.program, asked.seeds, asked.limit
-    print(f"load of the machine at the start: {os.getloadavg()[0]:.1f} on {os.cpu_count()} cores\n")
     for game, sizes, shares in KINDS:
         if asked.game not in (None, game):
             continue

@@ -131,7 +131,7 @@ def main():
 
 def measure(bench, address, jobs):
     """Prints both tables; the exit status."""
-    print(f"load of the machine at the start: {os.getloadavg()[0]:.1f} on {os.cpu_count()} cores, {jobs} processes at a time\n")
+    print(f"load of the machine at the start: {os.getloadavg()[0]:.1f} on {os.cpu_count()} cores", file=sys.stderr)
     print("| Batch | Lines | One process | GNU parallel | split and xargs | Dask | Lines a part | Bytes |")
     print("|---|---|---|---|---|---|---|---|", flush=True)
     same, paths = True, {}

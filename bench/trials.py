@@ -49,7 +49,7 @@ def main():
         counts = sorted(trials(program, game, text, budget) for text in found)
         middle, high = counts[len(counts) // 2], counts[(len(counts) * 9 - 1) // 10]
         print(f"| {game} {size}{more} | {len(counts)} | {counts.count(0)} | {middle:,} | {high:,} | {counts[-1]:,} |", flush=True)
-    print(f"kinds by maker: {dict(makers)}")
+    print(f"kinds by maker: {dict(makers)}", file=sys.stderr)
 
 
 if __name__ == "__main__":

@@ -1,6 +1,7 @@
 """What the words of the other scripts have in common."""
 import argparse
 import os
+import resource
 import subprocess
 import sys
 
@@ -24,6 +25,22 @@ def form(text):
     made = argparse.ArgumentParser(description=text, formatter_class=argparse.RawDescriptionHelpFormatter)
     made.add_argument("program", metavar="PROGRAM", type=program, help="as `rt run` leaves it: crates/puzzles/out/puzzles")
     return made
+
+
+def processor_seconds():
+    """The seconds of processor time of all processes that were begun here and have ended."""
+    used = resource.getrusage(resource.RUSAGE_CHILDREN)
+    return used.ru_utime + used.ru_stime
+
+
+def timed(line, limit):
+    """What a run wrote, with its status, and its seconds of processor time; nothing for one that was stopped after the limit."""
+    before = processor_seconds()
+    try:
+        done = subprocess.run(line, stdin=subprocess.DEVNULL, capture_output=True, text=True, check=False, timeout=limit)
+    except subprocess.TimeoutExpired:
+        return None, limit
+    return done, processor_seconds() - before
 
 
 def begin(main):
