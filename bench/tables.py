@@ -118,13 +118,12 @@ def main():
     asked = form.parse_args()
     if not (asked.program or asked.gate):
         form.error("neither a program nor what gate.py wrote")
-    figures = FIGURES.read_text()
-    for command, _ in PART.findall(figures):
+    for command, _ in PART.findall(FIGURES.read_text()):
         if asked.gate if command == "gate.py" else asked.program:
             new = gate_table(asked.gate.read()) if command == "gate.py" else printed(command, asked.program)
-            figures = PART.sub(lambda part: f"<!-- {command} -->\n{new}<!-- end -->" if part[1] == command else part[0], figures)
-            FIGURES.write_text(figures)
-    CHANGES.write_text(with_minutes(CHANGES.read_text(), figures))
+            part = f"<!-- {command} -->\n{new}<!-- end -->"
+            FIGURES.write_text(PART.sub(lambda old: part if old[1] == command else old[0], FIGURES.read_text()))
+    CHANGES.write_text(with_minutes(CHANGES.read_text(), FIGURES.read_text()))
 
 
 if __name__ == "__main__":
