@@ -123,6 +123,7 @@ def handed_on(crate):
     return inside | {name for several, one in names for name in re.findall(r"\w+", several or one)}
 
 
+@functools.cache
 def public_calls(crate):
     """The public functions of a crate, without the members of traits."""
     return [call for call in functions(crate) if call.is_public and (call.kind or call.name) in handed_on(crate)]
