@@ -27,7 +27,8 @@ import examples_words  # noqa: E402
 from examples_bench import Bench, Wrong  # noqa: E402
 
 TOOLS = ("chromium", "pdftotext", "pdftoppm", "pdfinfo", "sqlite3", "mandoc", "man", "zsh", "fish", "ps", "/usr/bin/python3")
-PARTS = {"ids": examples_ids, "drawing": examples_drawing, "book": examples_book, "collect": examples_collect, "words": examples_words}
+PARTS = {"ids": examples_ids, "drawing": examples_drawing, "book": examples_book, "collect": examples_collect,
+         "words": examples_words}
 
 
 def tried(program, case, *more):

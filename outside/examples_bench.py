@@ -35,12 +35,14 @@ class Bench:
         self.program = self.folder / "bin" / "puzzles"
         self.program.parent.mkdir()
         shutil.copy(program, self.program)
-        self.environment = {**os.environ, "PATH": f"{self.program.parent}:{os.environ['PATH']}", "HOME": str(self.folder), "LC_ALL": "C.UTF-8"}
+        self.environment = {**os.environ, "PATH": f"{self.program.parent}:{os.environ['PATH']}", "HOME": str(self.folder),
+                            "LC_ALL": "C.UTF-8"}
 
     def run(self, words, given="", stdout=subprocess.PIPE, seconds=SECONDS, **more):
         try:
-            return subprocess.run(words, input=given, stdout=stdout, stderr=subprocess.PIPE, encoding="utf-8", errors="surrogateescape",
-                                  cwd=self.folder, env={**self.environment, **more}, timeout=seconds, check=False)
+            return subprocess.run(words, input=given, stdout=stdout, stderr=subprocess.PIPE, encoding="utf-8",
+                                  errors="surrogateescape", cwd=self.folder, env={**self.environment, **more}, timeout=seconds,
+                                  check=False)
         except subprocess.TimeoutExpired:
             raise Wrong(f"no end within {seconds} seconds: {' '.join(map(str, words))[:200]}") from None
 
@@ -92,7 +94,8 @@ class Bench:
         """A folder on a disk of its own, or None if this user may not mount one."""
         folder = self.folder / name
         folder.mkdir(exist_ok=True)
-        done = subprocess.run(["mount", "-t", "tmpfs", "-o", words, "tmpfs", folder], capture_output=True, check=False, timeout=SECONDS)
+        done = subprocess.run(["mount", "-t", "tmpfs", "-o", words, "tmpfs", folder], capture_output=True, check=False,
+                              timeout=SECONDS)
         return folder if done.returncode == 0 else None
 
     def unmount(self, folder):
@@ -110,7 +113,8 @@ def ended(process):
 
 def children(pid):
     """The processes of a session that still run."""
-    found = subprocess.run(["ps", "-o", "pid=,stat=", "-s", str(pid)], capture_output=True, text=True, check=False, timeout=SECONDS)
+    found = subprocess.run(["ps", "-o", "pid=,stat=", "-s", str(pid)], capture_output=True, text=True, check=False,
+                           timeout=SECONDS)
     return [line for line in found.stdout.splitlines() if " Z" not in line]
 
 

@@ -9,8 +9,8 @@ import time
 from examples_bench import EXAMPLES, SECONDS, children, expect, wait_until
 
 BOOK = EXAMPLES / "book" / "book.py"
-CHAPTERS = ["solo:3x3:easy:3", "solo:2x3x:any:2", "pattern:10x10:easy:3", "lightup:7x7:easy:2", "tents:8x8:medium:2", "tents:8x8:hard:1",
-            "solo:3x3:hard:2", "lightup:7x7:hard:1", "solo:3x3:medium:2", "pattern:10x10:medium:1"]
+CHAPTERS = ["solo:3x3:easy:3", "solo:2x3x:any:2", "pattern:10x10:easy:3", "lightup:7x7:easy:2", "tents:8x8:medium:2",
+            "tents:8x8:hard:1", "solo:3x3:hard:2", "lightup:7x7:hard:1", "solo:3x3:medium:2", "pattern:10x10:medium:1"]
 GRADES = {"easy": ("singles", "lines", "local"), "medium": ("houses", "crossings", "lines", "local"), "hard": ("search",),
           "any": ("singles", "houses", "crossings", "lines", "local", "search")}
 RULES = {"solo": "each block", "pattern": "Between two runs", "lightup": "No bulb may stand", "tents": "No two tents touch"}
@@ -44,7 +44,7 @@ def make(bench, name, *words):
 
 
 def whole(bench):
-    """a book of all four games: pages, title, rules, and each puzzle's number, grade and ID; each has one solution and its level"""
+    """a book of all games: pages, title, rules, and each puzzle's number, grade and ID; each has one solution and its level"""
     path, said, rows = make(bench, "book.pdf", "--title", "Sunday <&> ünd", CHAPTERS)
     known, text = information(bench, path), pages(bench, path)
     expect(said == f"{path}: {len(rows)} puzzles, {len(text)} pages\n" and known["Pages"] == str(len(text)), f"{said}{known}")
@@ -159,7 +159,8 @@ def same(bench):
 
 def papers(bench):
     """on letter each puzzle is inside its page, and so are large ones; what doesn't fit is told"""
-    path, _, rows = make(bench, "letter.pdf", "--paper", "letter", ["pattern:25x25:any:1", "tents:20x20:any:1", "lightup:14x14:any:1"])
+    chapters = ["pattern:25x25:any:1", "tents:20x20:any:1", "lightup:14x14:any:1"]
+    path, _, rows = make(bench, "letter.pdf", "--paper", "letter", chapters)
     known = information(bench, path)
     expect("letter" in known["Page size"] and len(rows) == 3, str(known))
     for page in range(1, int(known["Pages"]) + 1):
@@ -171,8 +172,8 @@ def papers(bench):
 def faults(bench):
     """bad words, a folder that can't be written, a full disk, a missing program or browser: one sentence, and nothing is lost"""
     book, one = bench.folder / "fault.pdf", "solo:2x2:any:1"
-    for word in ("solo", "solo:3x3:easy:0", "solo:3x3:easy:x", "chess:3x3:easy:1", "solo:3:easy:1:2", "tents:3x3:any:1", "solo:9x9:any:1",
-                 "solo:3x3:\udcff:1", "solo:3x3:any:" + "9" * 5000):
+    for word in ("solo", "solo:3x3:easy:0", "solo:3x3:easy:x", "chess:3x3:easy:1", "solo:3:easy:1:2", "tents:3x3:any:1",
+                 "solo:9x9:any:1", "solo:3x3:\udcff:1", "solo:3x3:any:" + "9" * 5000):
         bench.told([BOOK, book, word], 2, "GAME:SIZE:LEVEL:COUNT" if "tents" not in word else "4x4 at least")
     bench.told([BOOK, "--paper", "A3", book, one], 2, "invalid choice")
     bench.told([BOOK, "--seed", "-1", book, one], 2, "a seed is")
@@ -189,7 +190,7 @@ def faults(bench):
     (folder / "chromium").write_text("#!/bin/sh\nexit 3\n")
     (folder / "chromium").chmod(0o755)
     bench.told([BOOK, "--program", bench.program, book, one], 7, "chromium ended with status 3", PATH=f"{folder}:/usr/bin")
-    bench.told([BOOK, book, "lightup:2x2:hard:1"], 7, "seeds make a hard puzzle")
+    bench.told([BOOK, book, "lightup:2x2:hard:1"], 7, "1,000 seeds make 0 puzzles of lightup 2x2, hard")
     expect(book.read_bytes() == b"an older book", "the older book is lost")
     return full_disk(bench)
 
@@ -201,7 +202,8 @@ def full_disk(bench):
     try:
         (disk / "book.pdf").write_bytes(b"old")
         bench.told([BOOK, disk / "book.pdf", "solo:3x3:any:6"], 6, "No space left")
-        expect((disk / "book.pdf").read_bytes() == b"old" and (disk / "book.pdf.part").stat().st_size > 0, "the older book or the puzzles")
+        expect((disk / "book.pdf").read_bytes() == b"old", "the older book is lost")
+        expect((disk / "book.pdf.part").stat().st_size > 0, "what was made is lost")
         expect({path.name for path in disk.iterdir()} == {"book.pdf", "book.pdf.part"}, "something is left")
     finally:
         bench.unmount(disk)

@@ -9,9 +9,10 @@ import sqlite3
 import time
 
 import dask_job
-from examples_bench import DEBIAN, EXAMPLES, SECONDS, TOP, ended, expect, wait_until
+from examples_bench import DEBIAN, EXAMPLES, SECONDS, ended, expect, wait_until
 
 COLLECT = EXAMPLES / "collect" / "collect.py"
+JOB = EXAMPLES / "dask" / "job.py"
 KILLS = 12
 FAST_LINES, FAST_SECONDS = 10_000, 10
 ROWS = "SELECT game, id, size, verdict, grade, trials, clues, times, source FROM puzzle ORDER BY 1, 2"
@@ -24,8 +25,8 @@ def relabelled(draws, text):
     rows = [rows[3 * band + row] for band in draws.sample(range(3), 3) for row in draws.sample(range(3), 3)]
     flat = "".join(rows).translate(str.maketrans("123456789", "".join(draws.sample("123456789", 9))))
     tokens = re.findall(r"\.{1,26}|\d", flat)
-    found = [chr(96 + len(token)) if token[0] == "." else token for token in tokens]
-    return "3x3:" + "".join(("_" if at and found[at - 1].isdigit() and token.isdigit() else "") + token for at, token in enumerate(found))
+    found = "".join(chr(96 + len(token)) if token[0] == "." else token for token in tokens)
+    return "3x3:" + re.sub(r"(?<=\d)(?=\d)", "_", found)
 
 
 def solos(bench, count):
@@ -55,7 +56,7 @@ def by_hand(bench):
               ("lightup", "2x2:Bc", "2x2", "several", None, None, 0, 3, f"{path}:2"),
               ("lightup", "3x3:aBBa1aBb", "3x3", "one", "search", 4, 1, 2, f"{path}:1")]
     expect(done.returncode == 2 and rows(table) == wanted, f"status {done.returncode}: {done.stderr}{rows(table)}")
-    told = [f"{path}:3: no ID of lightup: too many", f"{path}:4: no ID of lightup: no colon", f"{path}:5: no ID of lightup: no colon"]
+    told = [f"{path}:{line}: no ID of lightup: {fault}" for line, fault in ((3, "too many"), (4, "no colon"), (5, "no colon"))]
     expect(done.stderr.splitlines() == told, done.stderr)
     with sqlite3.connect(table) as base:
         found = base.execute("SELECT line, fault FROM refusal ORDER BY 1").fetchall()
@@ -105,7 +106,8 @@ def killed(bench):
         run.communicate()
     done = bench.run(words)
     expect(kills >= KILLS // 3, f"only {kills} of {KILLS} runs were killed before their end")
-    expect(done.returncode in (0, 2) and rows(table) == rows(whole) and len(rows(whole)) == 3000, f"status {done.returncode}: {done.stderr}")
+    expect(done.returncode in (0, 2), f"status {done.returncode}: {done.stderr}")
+    expect(rows(table) == rows(whole) and len(rows(whole)) == 3000, f"{len(rows(table))} rows, or other ones")
     for other in ("source", "refusal"):
         found = [sqlite3.connect(base).execute(f"SELECT * FROM {other} ORDER BY 1, 2").fetchall() for base in (whole, table)]
         expect(found[0] == found[1] and found[0], f"the tables {other} differ")
@@ -135,7 +137,7 @@ def rows_or_none(table):
 
 
 def faults(bench):
-    """a full disk, a folder that can't be written, a missing file or program are one sentence and a status, and nothing is lost"""
+    """a full disk, a folder that can't be written, a missing file or program: one sentence and a status, and nothing is lost"""
     path, table = bench.folder / "ids.txt", bench.folder / "faults.db"
     texts = solos(bench, 4000)
     path.write_text("".join(f"{text}\n" for text in texts))
@@ -227,8 +229,7 @@ def on_many_machines(bench, count):
     start = time.monotonic()
     with dask_job.cluster(cluster, 4) as (address, _, _):
         with open(grades, "wb") as out:
-            done = bench.run([DEBIAN, TOP / "examples" / "dask" / "job.py", "--lines", "500", address, new, "grade", "solo", "--", "{}"],
-                             stdout=out, seconds=3600)
+            done = bench.run([DEBIAN, JOB, "--lines", "500", address, new, "grade", "solo", "--", "{}"], stdout=out, seconds=3600)
     taken = time.monotonic() - start
     expect(done.returncode == 0, f"the job's status {done.returncode}: {done.stderr[-300:]}")
     words = [COLLECT, "grades", table, "solo", new, grades]

@@ -10,13 +10,14 @@ SIZES = {"solo": ("2x2", "2x3", "3x3", "2x2x", "3x4"), "pattern": ("1x1", "5x5",
 EDITS = 6000
 # The texts of docs/FORMATS.md: game, ID, and what is wrong with it, or how it is written.
 TOLD = [
-    ("solo", "2:p", "2x2:p"), ("solo", "2x2:__p_", "2x2:p"), ("solo", "2x2:hh", "2x2:p"), ("solo", "2x2:5o", "number range at 4"),
-    ("solo", "2x2:0o", "bad byte at 4"), ("solo", "2x2:o", "too few"), ("solo", "2x2:q", "too many"), ("solo", "3x3#12", "seed id"),
-    ("solo", "9x:p", "bad size"), ("solo", "2xx2:p", "bad size"), ("solo", "02x2:p", "bad size"), ("solo", "2x2xx:p", "variant"),
-    ("solo", "9j:p", "variant"), ("solo", "6x6:p", "size range"), ("solo", "9" * 16000 + "x2:p", "size range"), ("solo", "", "no colon"),
-    ("solo", "2x2:" + "_" * 65531 + "p", "2x2:p"), ("solo", "2x2:" + "_" * 65532 + "p", "too long"),
-    ("pattern", "1x1:" + "0" * 16000 + "1/1", "1x1:1/1"), ("pattern", "2x2:1/1/1", "too few"), ("pattern", "2x2:1./1/1/1", "bad byte at 5"),
-    ("pattern", "2x2:1/1/1/1/", "too many"), ("pattern", "1x1:0/", "number range at 4"), ("pattern", "2x2:1/1/1/1,#", "bad byte at 11"),
+    ("solo", "2:p", "2x2:p"), ("solo", "2x2:__p_", "2x2:p"), ("solo", "2x2:hh", "2x2:p"), ("solo", "", "no colon"),
+    ("solo", "2x2:5o", "number range at 4"), ("solo", "2x2:0o", "bad byte at 4"), ("solo", "2x2:o", "too few"),
+    ("solo", "2x2:q", "too many"), ("solo", "3x3#12", "seed id"), ("solo", "9x:p", "bad size"), ("solo", "2xx2:p", "bad size"),
+    ("solo", "02x2:p", "bad size"), ("solo", "2x2xx:p", "variant"), ("solo", "9j:p", "variant"), ("solo", "6x6:p", "size range"),
+    ("solo", "9" * 16000 + "x2:p", "size range"), ("solo", "2x2:" + "_" * 65531 + "p", "2x2:p"),
+    ("solo", "2x2:" + "_" * 65532 + "p", "too long"), ("pattern", "1x1:" + "0" * 16000 + "1/1", "1x1:1/1"),
+    ("pattern", "2x2:1/1/1", "too few"), ("pattern", "2x2:1./1/1/1", "bad byte at 5"), ("pattern", "2x2:1/1/1/1/", "too many"),
+    ("pattern", "1x1:0/", "number range at 4"), ("pattern", "2x2:1/1/1/1,#", "bad byte at 11"),
     ("pattern", "3x1:1/1/1/2.1", "line 3 too full"), ("pattern", "1x1:" + "9" * 16000 + "/1", "line 0 too full"),
     ("pattern", "2x2x:///", "variant"), ("pattern", "121x1:", "size range"), ("pattern", "2x1:1/1/1.1/", "line 2 too full"),
     ("lightup", "2x2:aac", "too many"), ("lightup", "2x2:aab", "2x2:d"), ("lightup", "3x3:aBBa1aBb", "3x3:aBBa1aBb"),
@@ -27,7 +28,8 @@ TOLD = [
 
 def made(bench):
     """IDs that the program made, some for each size, by game."""
-    return {game: [bench.generate(game, size, seed)[0] for size in sizes for seed in range(1, 7)] for game, sizes in SIZES.items()}
+    return {game: [bench.generate(game, size, seed)[0] for size in sizes for seed in range(1, 7)]
+            for game, sizes in SIZES.items()}
 
 
 def edited(draws, text):
@@ -79,9 +81,11 @@ def beside_the_program(bench):
         lines = [respelled(draws, game, draws.choice(texts)) for _ in range(EDITS // 4)]
         lines += [edited(draws, draws.choice(texts)) for _ in range(EDITS)]
         forms, answers = bench.written(game, lines), bench.answers(game, lines)
-        expect(len(forms) == len(answers) == len(lines), f"{game}: {len(forms)} forms and {len(answers)} answers to {len(lines)} lines")
-        for line, form, answer in zip(lines, forms, answers):
-            expect(form == answer[0] if answer[0].startswith("refused") else not form.startswith("refused"), f"{game} {line}: {form}, {answer[0]}")
+        counts = [len(lines), len(forms), len(answers)]
+        expect(len({*counts}) == 1, f"{game}: {counts} lines, forms and answers")
+        for line, form, (answer, *_) in zip(lines, forms, answers):
+            is_refused = form.startswith("refused") or answer.startswith("refused")
+            expect(not is_refused or form == answer, f"{game} {line}: {form}, {answer}")
         good = [number for number, form in enumerate(forms) if not form.startswith("refused")]
         expect(EDITS // 4 < len(good) < EDITS, f"{game}: {len(good)} of {len(lines)} IDs are good")
         expect(good[:EDITS // 4] == list(range(EDITS // 4)), f"{game}: a respelled ID is refused")
@@ -121,13 +125,13 @@ def wanted_numbers(game, text, grid):
 def refusals(bench):
     """a refused ID, a grid that is none, and a full disk are told in one sentence, with a status"""
     script, solo = EXAMPLES / "ids.py", "2x2:1b4i3_2a"
-    cases = [(["solo", "2x2:5o"], "", 2, "refused: number range at 4"), (["tents", "\udcff\0".replace("\0", "")], "", 2, "refused: no colon"),
-             (["--svg", "pattern", "9" * 5000], "", 2, "refused: no colon"), (["--grid", "solo", solo], "1 2\n", 2, "no grid of this puzzle"),
-             (["--grid", "solo", solo], "2 2 3 4\n3 4 1 2\n2 1 4 3\n4 3 2 1\n", 2, "2 can't stand at column 0, row 0"),
-             (["--grid", "solo", solo], "\0" * 99, 2, "no grid"), (["chess", "1x1:/"], "", 2, "invalid choice"), (["--svg", "solo"], "", 2, "needs an ID"),
-             (["--cell", "nan", "--svg", "solo", solo], "", 2, "a cell has")]
-    for words, given, status, sentence in cases:
-        bench.told([script, *words], status, sentence, given)
+    cases = [(["solo", "2x2:5o"], "", "refused: number range at 4"), (["tents", "\udcff"], "", "refused: no colon"),
+             (["--svg", "pattern", "9" * 5000], "", "refused: no colon"), (["chess", "1x1:/"], "", "invalid choice"),
+             (["--grid", "solo", solo], "1 2\n", "no grid of this puzzle"), (["--grid", "solo", solo], "\0" * 99, "no grid"),
+             (["--grid", "solo", solo], "2 2 3 4\n3 4 1 2\n2 1 4 3\n4 3 2 1\n", "2 can't stand at column 0, row 0"),
+             (["--svg", "solo"], "", "needs an ID"), (["--cell", "nan", "--svg", "solo", solo], "", "a cell has")]
+    for words, given, sentence in cases:
+        bench.told([script, *words], 2, sentence, given)
     for words in (["solo", solo], ["--svg", "solo", solo]):
         with open("/dev/full", "w") as full:
             bench.told([script, *words], 6, "No space left", stdout=full)

@@ -50,7 +50,8 @@ def manual(bench):
     source = (TOP / "docs" / "puzzles.1").read_text().replace(r"\e", "\\")
     lines = [line for line in re.findall(r"^\.Dl \$ (.*)$", source, re.M) if "ids.txt" not in line]
     answers = [bench.run(["bash", "-c", line]).stdout.splitlines()[0] for line in lines]
-    expect(len(answers) == 4 and answers[:3] == ["one", "wrong: touch 1,0", "search 4"] and answers[3].startswith("3x3:"), f"{answers}")
+    expect(len(answers) == 4 and answers[:3] == ["one", "wrong: touch 1,0", "search 4"], f"{answers}")
+    expect(answers[3].startswith("3x3:"), answers[3])
 
 
 def offered_by(bench, shell, line, path):
@@ -70,11 +71,13 @@ def completions(bench):
     expect(sorted(commands) == sorted(OPTIONS) and len(games) == 4, f"README: {commands} {games}")
     cases = [("puzzles ", commands), ("puzzles so", ["solve"]), ("puzzles generate pat", ["pattern"])]
     for command, options in OPTIONS.items():
-        expect(set(options.split()) <= set(re.findall(r"--\w+", words[f"`{command}`"][0])), f"README: {command} has not {options}")
+        named = re.findall(r"--\w+", words[f"`{command}`"][0])
+        expect(set(options.split()) <= set(named), f"README: {command} has {named}, and not {options}")
         cases += [(f"puzzles {command} {start}", [game for game in games if game.startswith(start)]) for start in ("l", "t")]
         cases.append((f"puzzles {command} solo 3x3 --", options.split()))
-    cases += [("puzzles generate lightup 7x7 --", OPTIONS["generate"].split() + ["--black"]), ("puzzles grade solo --budget 5 --", ["--trace"]),
-              ("puzzles solve solo --budget=5 --", []), ("puzzles grade solo -- --", []), ("puzzles nonsense ", [])]
+    cases += [("puzzles generate lightup 7x7 --", OPTIONS["generate"].split() + ["--black"]),
+              ("puzzles grade solo --budget 5 --", ["--trace"]), ("puzzles solve solo --budget=5 --", []),
+              ("puzzles grade solo -- --", []), ("puzzles nonsense ", [])]
     for shell in ("bash", "zsh", "fish"):
         for line, wanted in cases:
             if shell == "bash" and "=" in line:

@@ -20,11 +20,12 @@ import sys
 
 sys.path.append(str(pathlib.Path(__file__).resolve().parent.parent))
 import pages  # noqa: E402
-from chapters import Maker, chapter, fill  # noqa: E402
+from chapters import chapter  # noqa: E402
 from journal import Journal  # noqa: E402
 from layout import PAPERS, check, sheet  # noqa: E402
 from lib.reader import Puzzle, empty  # noqa: E402
 from lib.work import Bar, Program, begin  # noqa: E402
+from making import Maker, fill  # noqa: E402
 from pdf import print_pdf  # noqa: E402
 
 DEFAULT = ["solo:3x3:easy:18", "solo:3x3:medium:12", "solo:3x3:hard:12", "pattern:10x10:easy:8", "pattern:15x15:medium:6",

@@ -99,7 +99,7 @@ def add_chapter(book, asked, entries, page_of_solution):
         style = f"grid-template:repeat({down},{book.room.height / down:.2f}mm)/repeat({across},1fr)"
         pages = sorted({page_of_solution.get(entry.number, 0) for entry in some})
         book.add(f"<h2>{heading(asked)}{cells_of(puzzles[0])}</h2><div class=puzzles style='{style}'>{''.join(figures)}</div>",
-                 "Solutions: page " + " and ".join(map(str, pages)))
+                 f"Solutions: page{'s' * (len(pages) > 1)} {' and '.join(map(str, pages))}")
 
 
 def width(entry, cell):
@@ -113,7 +113,8 @@ def add_solutions(book, entries):
              for room, cell in ((Room(entry.puzzle, True), cell) for entry, cell in zip(entries, cells))]
     found = {}
     for rows in shelves(book.room, sizes):
-        drawn = [[drawing(entries[at].puzzle, entries[at].cells, cells[at], f"<b>{entries[at].number}</b>") for at in row] for row in rows]
+        drawn = [[drawing(entries[at].puzzle, entries[at].cells, cells[at], f"<b>{entries[at].number}</b>") for at in row]
+                 for row in rows]
         number = book.add("<h2>Solutions</h2>" + "".join(f"<div class=row>{''.join(row)}</div>" for row in drawn))
         found.update((entries[at].number, number) for at in itertools.chain(*rows))
     return found

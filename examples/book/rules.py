@@ -17,8 +17,8 @@ RULES = {
         "lengths of its runs, from top to bottom.",
         "Between two runs there is at least one white cell. A row or column without a number has no black cell."],
     "lightup": [
-        "Put bulbs into white cells until each white cell is lit. A bulb lights its own cell. It shines to the left, to the right, "
-        "upwards and downwards, as far as the next black cell or the edge.",
+        "Put bulbs into white cells until each white cell is lit. A bulb lights its own cell. It shines to the left, to the "
+        "right, upwards and downwards, as far as the next black cell or the edge.",
         "No bulb may stand in the light of another bulb.",
         "A number in a black cell tells how many bulbs stand in the four cells beside it. Cells that only share a corner don't "
         "count. Beside a black cell without a number there may be any number of bulbs."],
@@ -29,10 +29,10 @@ RULES = {
         "The number beside a row or below a column tells how many tents stand in it."],
 }
 BEGIN = {
-    "solo": "Look at one number, and at one block: in which of its cells may the number still stand? If only one is left, write it "
-            "there. Or look at one cell: which numbers are in its row, column and block already?",
-    "pattern": "Look at a long run. If it is longer than half of its line, some cells in the middle are black wherever it begins. "
-               "Mark cells that must stay white with a dot.",
+    "solo": "Look at one number, and at one block: in which of its cells may the number still stand? If only one is left, "
+            "write it there. Or look at one cell: which numbers are in its row, column and block already?",
+    "pattern": "Look at a long run. If it is longer than half of its line, some cells in the middle are black wherever it "
+               "begins. Mark cells that must stay white with a dot.",
     "lightup": "Look at a black cell with as many free cells beside it as its number says: each of them has a bulb. Mark cells "
                "beside a 0, and lit cells, with a dot: no bulb stands there.",
     "tents": "Look at a tree with one free cell beside it: its tent stands there. Mark cells that touch a tent with a dot, and "

@@ -85,8 +85,8 @@ def take_grades(asked, table):
             table.grade(asked.game, whole)
             taken += len(whole)
             if len(whole) < len(part):
-                raise Fault(f"{asked.answers} has no answer to line {taken + 1} of {asked.ids}, or one too many; the lines before "
-                            "are taken", REFUSED)
+                raise Fault(f"{asked.answers} has no answer to line {taken + 1} of {asked.ids}, or one too many; the lines "
+                            "before are taken", REFUSED)
 
 
 def words():

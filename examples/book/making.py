@@ -1,0 +1,101 @@
+"""Makes the puzzles of a book from seeds."""
+import collections
+import concurrent.futures
+import contextlib
+import itertools
+import os
+
+from chapters import Made
+from lib.reader import read
+from lib.work import Fault
+from lib.writer import written
+from symmetric import thinned
+
+SEEDS_FOR_ONE = 1000  # that are tried for each puzzle, at most
+BARREN_SEEDS = 64  # after which a chapter is given up, if none of them made a puzzle of any grade
+AHEAD = 16  # seeds
+
+
+class Maker:
+    """Makes puzzles of seeds. The journal keeps what was made."""
+
+    def __init__(self, program, is_symmetric, journal):
+        self.program, self.is_symmetric, self.journal = program, is_symmetric, journal
+
+    def make(self, asked, seed):
+        """The puzzle that a seed gives to a chapter; None if it gives none."""
+        key = f"{asked.game} {asked.size} {asked.budget()} {seed}"
+        if key not in self.journal:
+            self.journal.keep(key, self.made(asked, seed))
+        found = self.journal.get(key)
+        return found and Made(seed, *found)
+
+    def made(self, asked, seed):
+        budget, ask = f"--budget={asked.budget()}", self.program.ask
+        lines = ask("generate", budget, f"--seed={seed}", "--", asked.game, asked.size)
+        if lines[0] == "exhausted":
+            return None
+        if lines[0].startswith("refused"):
+            raise Fault(f"no puzzle of {asked.game} {asked.size}: {lines[0]}")
+        text, *answer = lines
+        if asked.game == "solo" and self.is_symmetric:
+            text = written(thinned(self.program, read("solo", text), answer, seed, budget))
+        grade, *trace = ask("grade", "--trace", "--", asked.game, text)
+        return text, answer, grade, effort(asked.game, read(asked.game, text), trace)
+
+
+def effort(game, puzzle, trace):
+    """How long deduction is: visits for each line of Solo and Pattern, sweeps of the others."""
+    if game in ("solo", "pattern"):
+        return round(len(trace) / (puzzle.width + puzzle.height), 2)
+    return int(trace[0].split()[1]) if trace else 0
+
+
+def fill(maker, chapters, first, bar):
+    """The puzzles of each chapter, by ascending seeds. Chapters take turns at the seeds, so no grid is there twice."""
+    found, done = [], 0
+    with concurrent.futures.ThreadPoolExecutor(os.cpu_count()) as pool:
+        try:
+            for number, asked in enumerate(chapters):
+                start, step = first + number, len(chapters)
+                made = in_order(maker, pool, asked, range(start, start + SEEDS_FOR_ONE * asked.count * step, step))
+                found.append(fill_one(asked, made, lambda count, seed: bar.tell(done + count, f", seed {seed}")))
+                done += asked.count
+        except BaseException:
+            maker.program.stop()
+            pool.shutdown(cancel_futures=True)
+            raise
+        finally:
+            bar.end()
+    return found
+
+
+def in_order(maker, pool, asked, seeds):
+    """Each seed with its puzzle. Some are made ahead, so that all cores work."""
+    seeds, ahead = iter(seeds), collections.deque()
+    try:
+        while True:
+            ahead.extend((seed, pool.submit(maker.make, asked, seed)) for seed in itertools.islice(seeds, AHEAD - len(ahead)))
+            if not ahead:
+                return
+            seed, future = ahead.popleft()
+            yield seed, future.result()
+    finally:
+        for _, future in ahead:
+            future.cancel()
+
+
+def fill_one(asked, made, tell):
+    """The puzzles of a chapter, of the seeds in `made`."""
+    taken, is_barren, wanted = [], True, asked.needed()
+    with contextlib.closing(made):
+        for tried, (seed, one) in enumerate(made, 1):
+            is_barren = is_barren and not one
+            taken += [one] if one and asked.takes(one.grade) else []
+            tell(asked.count * len(taken) // wanted, seed)
+            if len(taken) == wanted:
+                return asked.chosen(taken)
+            if is_barren and tried == BARREN_SEEDS:
+                break
+    raise Fault(f"{tried:,} seeds make {len(taken)} puzzles of {asked.game} {asked.size}, {asked.level}, and {wanted} are "
+                "needed: ask for fewer, for another level or for another size")
