@@ -10,7 +10,8 @@ from examples_bench import EXAMPLES, SECONDS, children, expect, wait_until
 
 BOOK = EXAMPLES / "book" / "book.py"
 CHAPTERS = ["solo:3x3:easy:3", "solo:2x3x:any:2", "pattern:10x10:easy:3", "lightup:7x7:easy:2", "tents:8x8:medium:2",
-            "tents:8x8:hard:1", "solo:3x3:hard:2", "lightup:7x7:hard:1", "solo:3x3:medium:2", "pattern:10x10:medium:1"]
+            "tents:8x8:hard:1", "solo:3x3:hard:2", "lightup:7x7:hard:1", "solo:3x3:medium:2", "pattern:10x10:medium:1",
+            "solo:3x3x:easy:1", "pattern:10x10:hard:1"]
 GRADES = {"easy": ("singles", "lines", "local"), "medium": ("houses", "crossings", "lines", "local"), "hard": ("search",),
           "any": ("singles", "houses", "crossings", "lines", "local", "search")}
 RULES = {"solo": "each block", "pattern": "Between two runs", "lightup": "No bulb may stand", "tents": "No two tents touch"}
@@ -49,7 +50,7 @@ def whole(bench):
     known, text = information(bench, path), pages(bench, path)
     expect(said == f"{path}: {len(rows)} puzzles, {len(text)} pages\n" and known["Pages"] == str(len(text)), f"{said}{known}")
     expect(known["Title"] == "Sunday <&> ünd" and "A4" in known["Page size"], str(known))
-    expect("Sunday <&> ünd" in text[0] and "19 puzzles" in text[0] and "Contents" in text[1], text[0] + text[1])
+    expect("Sunday <&> ünd" in text[0] and "21 puzzles" in text[0] and "Contents" in text[1], text[0] + text[1])
     examples = runpy.run_path(str(BOOK.parent / "rules.py"))["EXAMPLES"]
     for game, words in RULES.items():
         answer = bench.good([bench.program, "solve", "--", game, examples[game]])
@@ -57,7 +58,7 @@ def whole(bench):
         expect(sum(squeezed(words) in squeezed(page) for page in text) == 1, f"rules of {game}")
     wanted = [(game, size, level) for game, size, level, count in map(parts, sorted(CHAPTERS, key=place)) for _ in range(count)]
     expect([(row["game"], row["size"], row["level"]) for row in rows] == wanted, f"{rows}")
-    expect(len({row["id"] for row in rows}) == len(rows) == 19, "a puzzle twice")
+    expect(len({row["id"] for row in rows}) == len(rows) == 21, "a puzzle twice")
     for row in rows:
         page = squeezed(text[int(row["page"]) - 1])
         expect(squeezed(f"{row['number']} · {row['grade']}") in page and row["id"] in page, f"not on its page: {row}")
@@ -118,7 +119,8 @@ def heights(bench, path, page, boxes):
 
 def symmetric(bench):
     """symmetric givens look the same upside down, and no pair of them may go"""
-    _, _, rows = make(bench, "symmetric.pdf", "--symmetric", "--seed", "40", ["solo:3x3:easy:2", "solo:2x3:hard:1"])
+    chapters = ["solo:3x3:easy:2", "solo:2x3:hard:1", "solo:2x3x:easy:1"]
+    _, _, rows = make(bench, "symmetric.pdf", "--symmetric", "--seed", "40", chapters)
     for row in rows:
         cells = [sign for token in re.findall(r"[a-z]|\d+", row["id"].partition(":")[2])
                  for sign in ([token] if token.isdigit() else [""] * (ord(token) - 96))]
@@ -134,7 +136,7 @@ def symmetric(bench):
 
 def same(bench):
     """the same words make the same bytes, later too, and after a run that was stopped; another seed makes another book"""
-    chapters = ["solo:3x3:hard:30", "tents:8x8:easy:4", "pattern:10x10:any:4", "lightup:7x7:any:4"]
+    chapters = ["solo:3x3:hard:12", "tents:8x8:easy:4", "pattern:10x10:any:4", "lightup:7x7:any:4"]
     first, _, _ = make(bench, "first.pdf", "--symmetric", chapters)
     time.sleep(1.1)
     second = bench.folder / "second.pdf"
@@ -176,7 +178,8 @@ def faults(bench):
                  "solo:9x9:any:1", "solo:3x3:\udcff:1", "solo:3x3:any:" + "9" * 5000):
         bench.told([BOOK, book, word], 2, "GAME:SIZE:LEVEL:COUNT" if "tents" not in word else "4x4 at least")
     bench.told([BOOK, "--paper", "A3", book, one], 2, "invalid choice")
-    bench.told([BOOK, "--seed", "-1", book, one], 2, "a seed is")
+    for words in (["--seed", "-1"], ["--seconds", "0"], ["--seconds", "nan"], ["--seconds", "inf"]):
+        bench.told([BOOK, *words, book, one], 2, "a seed is")
     bench.told([BOOK, bench.folder / "book.txt", one], 2, "ends in .pdf")
     bench.told([BOOK, "--program", "nowhere", book, one], 7, "no program nowhere")
     bench.told([BOOK, "--program", "/bin/true", book, one], 7, "is not the program")
@@ -191,6 +194,7 @@ def faults(bench):
     (folder / "chromium").chmod(0o755)
     bench.told([BOOK, "--program", bench.program, book, one], 7, "chromium ended with status 3", PATH=f"{folder}:/usr/bin")
     bench.told([BOOK, book, "lightup:2x2:hard:1"], 7, "1,000 seeds make 0 puzzles of lightup 2x2, hard")
+    bench.told([BOOK, book, "lightup:30x30:any:1"], 7, "64 seeds make 0 puzzles of lightup 30x30, any")
     expect(book.read_bytes() == b"an older book", "the older book is lost")
     return full_disk(bench)
 

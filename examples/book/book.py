@@ -56,9 +56,9 @@ def words():
     form.add_argument("--seconds", type=float, default=300, help="the most that one call may take (300)")
     form.add_argument("book", type=pathlib.Path, help="the PDF to be written")
     form.add_argument("chapters", nargs="*", type=chapter, metavar="GAME:SIZE:LEVEL:COUNT")
-    asked = form.parse_args()
-    if not 0 <= asked.seed < 2**63 or asked.seconds <= 0 or asked.book.suffix != ".pdf":
-        form.error("a seed is 0 to 9223372036854775807, a clock more than 0, and the book's name ends in .pdf")
+    asked = form.parse_intermixed_args()
+    if not 0 <= asked.seed < 2**63 or not 0 < asked.seconds <= 86400 or asked.book.suffix != ".pdf":
+        form.error("a seed is 0 to 9223372036854775807, a clock at most 86400 seconds, and the book's name ends in .pdf")
     chapters = asked.chapters or [*map(chapter, DEFAULT)]
     asked.games = list(dict.fromkeys(one.game for one in chapters))
     asked.chapters = sorted(chapters, key=lambda one: asked.games.index(one.game))
@@ -73,10 +73,14 @@ def entries_of(chapters, found):
             yield Entry(number, asked, one.seed, one.grade, one.id, *one.puzzle(asked.game))
 
 
+def counted(entries):
+    return f"{len(entries)} puzzle{'s' * (len(entries) > 1)}"
+
+
 def build(asked, entries, solve, solved_on=None, contents=()):
     """The book; its contents and the pages of solutions are known after a first time."""
     book, listed = pages.Book(asked.title, asked.paper), []
-    book.add(f"<h1>{pages.html.escape(asked.title)}</h1><p>{len(entries)} puzzles, each with exactly one solution</p>")
+    book.add(f"<h1>{pages.html.escape(asked.title)}</h1><p>{counted(entries)}, each with exactly one solution</p>")
     pages.add_contents(book, contents, len(asked.games) + len(asked.chapters) + 1)
     for game in asked.games:
         listed.append((f"How {pages.NAMES[game]} goes", "", pages.add_rules(book, game, solve)))
@@ -126,7 +130,7 @@ def main():
     replace(asked.book, print_pdf(book.html(), program))
     replace(asked.book.with_suffix(".csv"), table(entries))
     journal.remove()
-    print(f"{asked.book}: {len(entries)} puzzles, {len(book.pages)} pages")
+    print(f"{asked.book}: {counted(entries)}, {len(book.pages)} pages")
     return 0
 
 

@@ -7,6 +7,7 @@ from lib.writer import grid
 
 MOST_PUZZLES = 5000
 MOST_TRIALS = 20  # of a hard puzzle
+MOST_EASY_BY_SEED = 9  # cells a side
 RULE_SETS = {"solo": ("singles", "houses", "crossings"), "pattern": ("lines",), "lightup": ("local",), "tents": ("local",)}
 LEVELS = ("easy", "medium", "hard", "any")
 
@@ -21,6 +22,10 @@ class Chapter:
     def budget(self):
         """Trials for a test whether a clue may go: without any the puzzle needs none either."""
         return 0 if self.level in ("easy", "medium") else MOST_TRIALS
+
+    def is_large_and_easy(self):
+        """Whether seeds seldom give a Solo of this level, since `generate` takes clues away as long as sets do for the rest."""
+        return self.game == "solo" and self.level == "easy" and empty(self.game, self.size).width > MOST_EASY_BY_SEED
 
     def takes(self, grade):
         """Whether a puzzle of this grade may be of the chapter's level."""

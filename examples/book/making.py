@@ -9,11 +9,12 @@ from chapters import Made
 from lib.reader import read
 from lib.work import Fault
 from lib.writer import written
-from symmetric import thinned
+from thinning import thinned
 
 SEEDS_FOR_ONE = 1000  # that are tried for each puzzle, at most
 BARREN_SEEDS = 64  # after which a chapter is given up, if none of them made a puzzle of any grade
 AHEAD = 16  # seeds
+CROSSED_TRIALS = 1000  # with which the solved grid of a Solo X is made
 
 
 class Maker:
@@ -24,24 +25,32 @@ class Maker:
 
     def make(self, asked, seed):
         """The puzzle that a seed gives to a chapter; None if it gives none."""
-        key = f"{asked.game} {asked.size} {asked.budget()} {seed}"
+        key = f"{asked.game} {asked.size} {asked.level} {seed}"
         if key not in self.journal:
             self.journal.keep(key, self.made(asked, seed))
         found = self.journal.get(key)
         return found and Made(seed, *found)
 
     def made(self, asked, seed):
-        budget, ask = f"--budget={asked.budget()}", self.program.ask
-        lines = ask("generate", budget, f"--seed={seed}", "--", asked.game, asked.size)
+        ask, is_crossed = self.program.ask, asked.size.endswith("x")
+        budget = CROSSED_TRIALS if is_crossed else asked.budget()
+        lines = ask("generate", f"--budget={budget}", f"--seed={seed}", "--", asked.game, asked.size)
         if lines[0] == "exhausted":
             return None
         if lines[0].startswith("refused"):
             raise Fault(f"no puzzle of {asked.game} {asked.size}: {lines[0]}")
         text, *answer = lines
-        if asked.game == "solo" and self.is_symmetric:
-            text = written(thinned(self.program, read("solo", text), answer, seed, budget))
+        if is_crossed or asked.is_large_and_easy() or asked.game == "solo" and self.is_symmetric:
+            text = written(thinned(read("solo", text), answer, seed, self.test(asked), self.is_symmetric))
         grade, *trace = ask("grade", "--trace", "--", asked.game, text)
         return text, answer, grade, effort(asked.game, read(asked.game, text), trace)
+
+    def test(self, asked):
+        """Tells of an ID of Solo, from which clues were taken, whether they may go."""
+        words, wanted = ("solve", f"--budget={asked.budget()}"), "one"
+        if asked.is_large_and_easy():
+            words, wanted = ("grade", "--budget=0"), "singles"
+        return lambda text: self.program.ask(*words, "--", "solo", text)[0] == wanted
 
 
 def effort(game, puzzle, trace):
