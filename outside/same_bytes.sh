@@ -30,7 +30,7 @@ program_of() {
 
 # The commit of a clone that has no changes.
 commit_of() {
-    [ -z "$(git -C "$1" status --porcelain)" ] || stop "a clone with changes: $1"
+    [ -z "$(git --no-optional-locks -C "$1" status --porcelain)" ] || stop "a clone with changes: $1"
     git -C "$1" rev-parse HEAD || stop "no clone: $1"
 }
 
