@@ -7,7 +7,7 @@ measured on. With --gate LOG, what gate.py wrote to standard error, the table of
 alone.
 docs/CONTRIBUTING.md has the sums of that table: a change is proved with all crates that stand on it (crates.txt).
 
-With 4 cores and nothing else to do it takes some 12 minutes, most of them of one core. Nothing is asserted.
+It takes some 12 minutes, most of them of one core. Nothing is asserted.
 """
 import argparse
 import datetime
@@ -115,11 +115,13 @@ def main():
     form.add_argument("--gate", metavar="LOG", type=argparse.FileType(), help="what gate.py wrote to standard error")
     form.add_argument("program", metavar="PROGRAM", nargs="?", type=words.program,
                       help="as `rt run` leaves it: crates/puzzles/out/puzzles")
+    form.add_argument("parts", metavar="SCRIPT", nargs="*", help="the tables of these alone, as made.py; `machine` is one too")
     asked = form.parse_args()
     if not (asked.program or asked.gate):
         form.error("neither a program nor what gate.py wrote")
     for command, _ in PART.findall(FIGURES.read_text()):
-        if asked.gate if command == "gate.py" else asked.program:
+        is_asked = not asked.parts or command.split()[0] in asked.parts
+        if asked.gate if command == "gate.py" else asked.program and is_asked:
             new = gate_table(asked.gate.read()) if command == "gate.py" else printed(command, asked.program)
             part = f"<!-- {command} -->\n{new}<!-- end -->"
             FIGURES.write_text(PART.sub(lambda old: part if old[1] == command else old[0], FIGURES.read_text()))
