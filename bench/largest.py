@@ -3,7 +3,7 @@
 
 One run of `solve` is made for each puzzle, so the time to start the program is in the number. A puzzle whose search would be
 long is solved with `--budget 0`, so that only the first closing counts. A peak below this script's own is what was last seen of
-the process while it ran (Linux). Nothing is asserted.
+the process while it ran (Linux); a run that ended unseen is made again. Nothing is asserted.
 """
 import os
 import resource
@@ -19,6 +19,7 @@ SIDE = 120
 CELLS = SIDE * SIDE
 POLL_SECONDS = 0.0005
 RUN_SECONDS = 600
+TRIES = 50  # a run of a millisecond may end unseen
 
 
 def run_of_letters(count):
@@ -94,7 +95,8 @@ def main():
     print("| Game | Puzzle | Bytes of the ID | Answer | Status | Seconds | Peak, MB |")
     print("|---|---|---|---|---|---|---|", flush=True)
     for name, game, text, more in puzzles():
-        answer, status, seconds, peak = measured([program, "solve", game, text, *more])
+        runs = (measured([program, "solve", game, text, *more]) for _ in range(TRIES))
+        answer, status, seconds, peak = next((run for run in runs if run[3]), None) or sys.exit(f"{game} {name}: too short to see")
         size, called = text.split(":", 1)[0], " ".join([name, *more])
         print(f"| {game} {size} | {called} | {len(text):,} | {answer} | {status} | {seconds:.3f} | {peak / 1024:.1f} |",
               flush=True)
