@@ -7,6 +7,7 @@ second, but each of the JOBS has four parts at least. The least of three times c
 Dask's scheduler and workers run before the time begins. A second table has the time by Dask for parts of other sizes.
 It needs GNU parallel, xargs and Debian's python3-distributed for /usr/bin/python3. Nothing is asserted but the bytes.
 """
+import functools
 import os
 import pathlib
 import shutil
@@ -80,11 +81,17 @@ def by_dask(bench, address, path, line, lines):
     return bench.command(address, path, more, ["--lines", lines, "--seconds", RUN_SECONDS])
 
 
+@functools.cache
+def made(program, source, count):
+    """Puzzles of a kind, made once for all its batches, and who made them."""
+    return ids.some(program, *source, count, MAKING_SECONDS)
+
+
 def lines_of(program, source, count, times):
     """The lines of a kind, and who made them."""
     if source is None:
         return [str(seed) for seed in range(1, count + 1)], "seeds"
-    found, maker = ids.some(program, *source, count, MAKING_SECONDS)
+    found, maker = made(program, source, count)
     return found * times, maker
 
 
