@@ -122,18 +122,22 @@ visit_lits-requires-clause-others g c = λ x lt off.
       | inl met ↦ met-idle g h x (c.met-met.ensures x met)
       | inr out ↦ idle g h x lt (unmet out (sym (c.but-in-loop-y.ensures x) ∙ off))
     ]
-      where
-        unmet : {a b : Bool} → b ≡ false → (a && not b) ≡ false → a ≡ false
-        unmet {a} {b} out e = grind (arith, common_steps, cases_Bool a, cases_Bool b)
+  where
+    unmet : {a b : Bool} → b ≡ false → (a && not b) ≡ false → a ≡ false
+    unmet {a} {b} out e = grind (arith, common_steps, cases_Bool a, cases_Bool b)
 
 pub loop-y-preserved : goal.loop-y-preserved
 loop-y-preserved g c = record {
   first = omega (arith, c.loop-y.invariant.first);
   visited = sweep-more (lits_of_row c.args.puzzle.now) c.loop-y.invariant.visited c.visit_lits.ensures c.if-not-visit_lits.false;
-  above = λ x on. (c.loop-y.y, refl, passed-later c.args.puzzle.now _ (has c.args.planes.now) (has c.loop-y.planes) _ c.visit_lits.ensures.further.inside (elim (or_cases _ _ (sym (c.either-above-in-loop-y.ensures x) ∙ on)) [
-    | inl before ↦ passed g (goal.at.loop-y-preserved g c).After-whites-some x before
-    | inr met ↦ inr (c.met-met.ensures x met)
-  ]));
+  above = λ x on. (
+    c.loop-y.y,
+    refl,
+    passed-later c.args.puzzle.now _ (has c.args.planes.now) (has c.loop-y.planes) _ c.visit_lits.ensures.further.inside (elim (or_cases _ _ (sym (c.either-above-in-loop-y.ensures x) ∙ on)) [
+      | inl before ↦ passed g (goal.at.loop-y-preserved g c).After-whites-some x before
+      | inr met ↦ inr (c.met-met.ensures x met)
+    ]),
+  );
 }
 
 pub returns-then-not-visit_lits-clause-visited : goal.returns-then-not-visit_lits-clause-visited

@@ -32,9 +32,12 @@ bulb g c =
     let w = any_below-some (has_bit (g.W.Word.bits c.but.result)) g.W.Word.room (sym c.is_some-in-loop-left.ensures ∙ c.if-is_some.true) in
     let there = and_parts _ _ (sym (c.but.ensures w.0) ∙ w.2) in
     let cell = c.args.y * p.size.w + x in
-    let joined = and_parts (ltb w.0 p.size.h) (joined_in_column p cell (w.0 * p.size.w + cell % p.size.w)) (sym (run w.0) ∙ there.0) in
-    (w.0 * p.size.w + x, place-in p.size.w p.size.h w.0 x (ltb-true w.0 p.size.h joined.0) x_in, rw (mod-mul-add c.args.y p.size.w x x_in) at joined.1,
-        has-at c.args.planes.now w.0 x 0 (rw c.requires.planes.size refl) x_in (omega arith) ∙ sym (c.column.ensures.cells w.0) ∙ not-true _ there.1)
+    let joined = and_parts (ltb w.0 p.size.h) (joined_in_column p cell (w.0 * p.size.w + cell % p.size.w)) (sym (run w.0) ∙ there.0) in (
+      w.0 * p.size.w + x,
+      place-in p.size.w p.size.h w.0 x (ltb-true w.0 p.size.h joined.0) x_in,
+      rw (mod-mul-add c.args.y p.size.w x x_in) at joined.1,
+      has-at c.args.planes.now w.0 x 0 (rw c.requires.planes.size refl) x_in (omega arith) ∙ sym (c.column.ensures.cells w.0) ∙ not-true _ there.1,
+    )
 
 pub loop-left-smaller-then-is_some : goal.loop-left-smaller-then-is_some
 loop-left-smaller-then-is_some g c = fewer-on c.lowest-x.ensures (after g (goal.at.loop-left-smaller-then-is_some g c).After-without_lowest-left)
