@@ -90,7 +90,8 @@ pub(crate) fn set_of(white: bool, black: bool) -> u32
 /// Fills the table, from the last cell backwards.
 fn fill_rows<P: Slots>(moves: &Moves<P>, sets: &[u32], rows: &mut [P])
     requires { length sets.now < length rows.old }
-    ensures { AreRows (slots_of P.bits) (along (slots_of P.bits) moves.now.steps) sets.now rows.new 0 }
+    ensures { AreRows (slots_of P.bits) (along (slots_of P.bits) moves.now.steps)
+        sets.now rows.new 0 }
 {
     let mut at = sets.len();
     rows[at] = moves.steps.ends;
@@ -103,9 +104,11 @@ fn fill_rows<P: Slots>(moves: &Moves<P>, sets: &[u32], rows: &mut [P])
 /// Keeps of each cell what a way from the first slot to the end shows there, and says whether one of them lost any. It asks
 /// of no cell what it has, since that can't be foreseen.
 fn filter_cells<P: Slots>(moves: &Moves<P>, sets: &mut [u32], rows: &[P]) -> bool
-    requires rows { AreRows (slots_of P.bits) (along (slots_of P.bits) moves.now.steps) sets.old rows.now 0 }
+    requires rows { AreRows (slots_of P.bits) (along (slots_of P.bits) moves.now.steps)
+        sets.old rows.now 0 }
     requires below { IsBelow P.room (along (slots_of P.bits) moves.now.steps) }
-    ensures kept { AreKept (along (slots_of P.bits) moves.now.steps) sets.old sets.new (length sets.old) }
+    ensures kept { AreKept (along (slots_of P.bits) moves.now.steps) sets.old sets.new
+        (length sets.old) }
     ensures unchanged { result ≡ false → sets.new ≡ sets.old }
 {
     let mut reached = P::first();

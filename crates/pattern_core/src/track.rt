@@ -52,7 +52,8 @@ fn push_white<P: Slots>(spelling: Spelling<P>) -> Spelling<P>
 
 /// Adds the black cells of a run and the white cell after it.
 fn push_run<P: Slots>(spelling: Spelling<P>, number: u8) -> Spelling<P>
-    ensures { AddsCells (slots_of P.bits) P.room number (replicate number 1 ++ 0 ∷ []) spelling result }
+    ensures { AddsCells (slots_of P.bits) P.room number (replicate number 1 ++ 0 ∷ [])
+        spelling result }
 {
     let mut longer = spelling;
     for _k in 0..number {

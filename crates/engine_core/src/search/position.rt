@@ -39,7 +39,8 @@ pub trait Position: Drop + Sized {
     ///
     /// When memory was refused.
     fn new(alloc: Global, rules: &Self::Game) -> Result<Self, AllocError>
-        ensures needs { IfOk result (λ position. (room position).needs ≡ needs_of (system rules.now)) }
+        ensures needs { IfOk result (λ position. (room position).needs
+            ≡ needs_of (system rules.now)) }
         ensures trail { IfOk result (λ position. (room position).trail
             ≡ (system rules.now).cells * (system rules.now).values) };
 

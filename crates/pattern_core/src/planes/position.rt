@@ -78,7 +78,8 @@ impl Model for PatternPosition {
       planes = layers_in s.planes;
     } };
 
-    ghost invariant = { λ s. (length (layers_in s.planes).takings ≡ (needs_in s.made).cells * (needs_in s.made).values)
+    ghost invariant = { λ s. (length (layers_in s.planes).takings
+        ≡ (needs_in s.made).cells * (needs_in s.made).values)
         × AreLong (needs_in s.made).scope s.planes };
 }
 
