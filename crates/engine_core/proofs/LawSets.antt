@@ -10,6 +10,7 @@ use Rattle.engine_core.proofs.VerdictLemmas.{outcome-true, outcome-counts, spent
 use Rattle.engine_core.proofs.WalkLemmas.{walk-once, walk-unfold}
 use Rattle.engine_core.proofs.HouseLemmas.{kept-first, kept-inside, kept-more, striking-first, striking-more}
 use Rattle.engine_core.proofs.JudgeLemmas.{grid-fits, grid-long, pick-ends, pick-more}
+use Rattle.engine_core.proofs.PlaneSteps.{step-onward, step-walks}
 use Rattle.engine_core.proofs.StoreLemmas.{settled-dead}
 use Rattle.engine_core.proofs.SweepLemmas.{total-bound}
 use Rattle.engine_core.proofs.TrailLemmas.{put_back-none, trail-none}
@@ -48,6 +49,8 @@ pub ruleset visit_laws = (kept-first, kept-inside, kept-more, striking-first, st
 pub ruleset trail_laws = (trail-none, total-bound, put_back-none)
 
 pub ruleset judge_laws = (grid-fits, grid-long)
+
+pub ruleset plane_position_laws = (step-onward, step-walks)
 
 pub ruleset position_laws = (grid-fits, grid-long, pick-more, pick-ends)
 

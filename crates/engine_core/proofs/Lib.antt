@@ -29,5 +29,5 @@ pub mod SearchingLemmas
 pub mod PieceLemmas
 pub mod IndexLemmas
 pub mod ListedLemmas
-pub mod PlaneMarks
+pub mod PlaneSteps
 pub mod LawSets

@@ -28,7 +28,8 @@ pub mod Trail
 pub mod Needs
 pub mod Position
 pub mod PositionLaws
-pub mod PlaneStanding
+pub mod PlaneNotes
+pub mod PlanePosition
 pub mod Frames
 pub mod Stored
 pub mod TrailPosition

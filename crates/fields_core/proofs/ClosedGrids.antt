@@ -1,17 +1,11 @@
 -- A grid from which no house strikes anything meets each house with a cell.
-use Rattle.fields_core.proofs.Common.{AreHouses, List, and_parts, arith, common_steps, count_house_of, counts_between, has_place-here, meets, refl, slice_index, start_of, strikes_of, true, ℕ, ◌≡◌, ◌⊎◌}
-use Rattle.grid_core.specs.Candidates.{grid_of, is_full}
+use Rattle.fields_core.proofs.Common.{AreHouses, List, and_parts, arith, common_steps, count_house_of, counts_between, has_place-here, meets, slice_index, start_of, strikes_of, ℕ}
 use Rattle.grid_core.proofs.GridLemmas.{single-at}
-unfoldable use Rattle.grid_core.specs.Planes.{has}
-use Rattle.grid_core.specs.Planes.{cells_of}
-use Rattle.grid_core.specs.Extent.{Extent}
-use Rattle.engine_core.proofs.JudgeLemmas.{closed-grid}
 use Rattle.engine_core.specs.HouseSetsLaws.{by_fillings-met}
-use Rattle.engine_core.specs.RuleSystem.{IsClosed, IsClosedGrid, IsLawful}
+use Rattle.engine_core.specs.RuleSystem.{IsClosedGrid}
 use Rattle.fields_core.specs.CountHouse.{AreMet, CountPuzzle, rules_of}
-use Rattle.fields_core.specs.PlanePosition.{PlacedPlanes, IsUnderWay}
 
-closed-met : (p : CountPuzzle) {g : List ℕ} → AreHouses p.cells p.houses → IsClosedGrid (rules_of p) g → AreMet p g
+pub closed-met : (p : CountPuzzle) {g : List ℕ} → AreHouses p.cells p.houses → IsClosedGrid (rules_of p) g → AreMet p g
 unfolding start_of meets strikes_of
 closed-met p {g} houses grid = record {
   blocked_zero = λ c lt blocked.
@@ -23,10 +17,3 @@ closed-met p {g} houses grid = record {
       (λ k less. omega (arith, grid.fits.each_cell, is.within (slice_index house.places k) (has_place-here house.places k less)))
       (λ c less. grid.fits.each_value c 0 less) (λ c v. grid.closed h c v lt);
 }
-
--- the grid that is written down of such a board, under a walk
-pub walks-met : {S L : Type 0} (p : CountPuzzle) {size : Extent} {is_own : S ⊎ L → Type 0} (s : PlacedPlanes S L) {g : List ℕ}
-    → IsUnderWay (rules_of p) size is_own s → g ≡ grid_of (cells_of s.planes) 2 (has s.planes) → is_full p.cells 2 (has s.planes) ≡ true
-    → IsLawful (rules_of p) → AreHouses p.cells p.houses → IsClosed (rules_of p) (has s.planes) → AreMet p g
-walks-met p s walks written full lawful houses closed =
-    closed-met p houses (closed-grid lawful walks.board.within walks.board.inside closed full walks.cells refl written)

@@ -11,8 +11,6 @@ use Rattle.fields_core.proofs.LightSeen.{black-unseen}
 use Rattle.fields_core.proofs.LightLatest.{few-places}
 use Rattle.fields_core.proofs.LightTold.{column-of-place, place-row, row-of-place}
 use Rattle.fields_core.proofs.RuleLemmas.{same-shape, start-all, start-blocked}
-use Rattle.engine_core.proofs.PlaneMarks.{step-onward}
-use Rattle.fields_core.proofs.PositionSteps.{step-walks}
 use Rattle.fields_core.proofs.TentCounting.{tent-counting, tent-lawful}
 use Rattle.fields_core.proofs.TentHouseLemmas.{square-none}
 use Rattle.fields_core.proofs.TentLines.{line-all, line-more, line-skip, line-start}
@@ -44,8 +42,6 @@ pub ruleset light_line_laws = (few-places)
 pub ruleset light_rules_laws = (light-counting, light-tells, place-row, row-of-place, column-of-place)
 
 pub ruleset light_sight_laws = (black-unseen)
-
-pub ruleset plane_position_laws = (step-onward, step-walks)
 
 pub ruleset tally_laws = (tally-first, tally-segment, tally-past, tally-few, tally-all, two-bits)
 

@@ -31,7 +31,6 @@ pub mod TentNumbers
 pub mod TentNext
 pub mod TentPairLemmas
 pub mod TentRuleLemmas
-pub mod PositionSteps
 pub mod ClosedGrids
 pub mod VisitLemmas
 pub mod AtMostLemmas

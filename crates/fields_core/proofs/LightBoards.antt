@@ -2,7 +2,7 @@
 use Rattle.std.proofs.Common.{ℕ}
 use Rattle.grid_core.specs.Planes.{Layers}
 use Rattle.gameid_core.specs.Puzzles.{IsLight, Light}
-use Rattle.fields_core.specs.AnyPlanes.{HasBoard}
+use Rattle.engine_core.specs.PlaneNotes.{HasBoard}
 use Rattle.fields_core.specs.LightHouses.{light_rules}
 use Rattle.fields_core.specs.LightPlanes.{ArePlanesOf}
 use Rattle.fields_core.proofs.PlaneSweeps.{cells-alive}

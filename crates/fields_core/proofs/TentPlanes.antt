@@ -11,7 +11,7 @@ use Rattle.engine_core.specs.RuleSystem.{needs_of}
 use Rattle.engine_core.proofs.StoreLemmas.{scope_le-longest}
 use Rattle.gameid_core.specs.Puzzles.{Tents, IsTents}
 use Rattle.fields_core.proofs.HouseLists.{row-long, column-long}
-use Rattle.fields_core.specs.AnyPlanes.{HasBoard}
+use Rattle.engine_core.specs.PlaneNotes.{HasBoard}
 use Rattle.fields_core.specs.CountHouse.{CountHouse, exactly, no_count_house, houses_below, start_of}
 use Rattle.fields_core.specs.TentHouses.{is_barred, tent_rules, tent_houses, column_of_tents, row_of_tents, tree_house, square_house}
 use Rattle.fields_core.specs.TentNotes.{AreTentsWritten}

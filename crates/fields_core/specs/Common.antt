@@ -20,7 +20,7 @@ pub use Rattle.engine_core.specs.RuleSystem.{FitsIn, IsGridOf, IsLawful, IsNext,
 unfoldable pub use Rattle.engine_core.specs.RuleSystem.{has_place, longest}
 pub use Rattle.engine_core.specs.Keeping.{StillServes}
 pub use Rattle.engine_core.specs.declared.mode.Mode.TheVariants.{Sweep}
-pub use Rattle.fields_core.specs.AnyPlanes.{AreKept, HasBoard, IsSuited, kept_in, layers_in, of_either}
+pub use Rattle.engine_core.specs.PlaneNotes.{AreKept, HasBoard, IsSuited}
 pub use Rattle.fields_core.specs.CountHouse.{AreMet, CountHouse, CountPuzzle, IsCounted, IsHouse, count_house_of, exactly, one_at_least, one_at_most}
 pub use Rattle.fields_core.specs.CountHouse.{rules_of}
 unfoldable pub use Rattle.fields_core.specs.CountHouse.{after_house, houses_below}

@@ -1,10 +1,12 @@
--- A rule set of count houses is lawful, by the laws of fillings.
+-- A rule set of count houses is lawful, by the laws of fillings, and begins alive.
 use Rattle.std.proofs.lemmas.Grind.{common_steps}
 use Rattle.std.proofs.Common.{◌≡◌, ℕ, ◌<◌, Bool, true, not, ◌&&◌, List, slice_index, refl, sym, arith}
-use Rattle.std.proofs.lemmas.Bool.{true≢false, and_parts, and_from, lt-ltb, ltb-true}
+use Rattle.std.proofs.lemmas.Bool.{cases_Bool, true≢false, and_parts, and_from, lt-ltb, ltb-true}
 use Rattle.grid_core.specs.Candidates.{IsInside, IsWithin, all_of, single}
 use Rattle.grid_core.specs.Grids.{IsGrid}
+use Rattle.grid_core.proofs.CandidateLemmas.{count_below-pos, is_dead-each}
 use Rattle.grid_core.proofs.GridLemmas.{single-is}
+use Rattle.engine_core.specs.ClosingList.{IsAlive}
 use Rattle.engine_core.specs.RuleSystem.{IsLawful, after}
 use Rattle.engine_core.specs.PlaceLaws.{has_place-here}
 use Rattle.engine_core.specs.Filling.{strikes_by_fillings}
@@ -23,6 +25,13 @@ start-single : {cells : ℕ} (blocked : ℕ → Bool) (g : List ℕ) → IsGrid 
     → IsInside (single g) (start_of cells blocked)
 unfolding start_of all_of
 start-single {cells} blocked g grid zero_at c v on = grind (arith, common_steps, single-is, and_from, lt-ltb)
+
+-- each cell can be 0
+pub count-alive : (cells : ℕ) (blocked : ℕ → Bool) (houses : List CountHouse) (is_solution : List ℕ → Bool)
+    → IsAlive (count_puzzle cells blocked houses is_solution) (start_of cells blocked)
+unfolding start_of all_of
+count-alive cells blocked houses is_solution = is_dead-each cells 2 (start_of cells blocked) (λ c lt.
+    count_below-pos (start_of cells blocked c) 2 0 (omega arith) (rw (lt-ltb c cells lt) (grind (arith, common_steps, cases_Bool (blocked c)))))
 
 pub count-lawful : (cells : ℕ) (blocked : ℕ → Bool) (houses : List CountHouse)
     (is_solution : List ℕ → Bool) → IsCounting cells blocked houses is_solution

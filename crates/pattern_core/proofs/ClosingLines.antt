@@ -1,5 +1,5 @@
 -- A closing of lines on planes: which lines wait after a visit.
-use Rattle.pattern_core.proofs.Common.{Bool, Candidates, Extent, None, Pattern, Some, and_parts, any_below, any_below-here, any_below-some, ap, arith, cases_Bool, cases_lt, common_steps, eq-eqb, eqb, eqb-true, false, false_from_ne_true, false≢true, has_bit, has_place, inl, inr, List, length, length-line_places, line_places, line_rules, lt-ltb, ltb-true, ne_eqb, not, or_cases, or_right, refl, sym, true, true≢false, ℕ, ◌&&◌, ◌*◌, ◌+◌, ◌-◌, ◌<◌, ◌||◌, ◌∙◌, ◌≡◌, ◌≤◌, ◌⊎◌}
+use Rattle.pattern_core.proofs.Common.{Bool, Candidates, Extent, None, Pattern, Some, and_parts, any_below, any_below-here, any_below-some, ap, arith, cases_Bool, cases_lt, common_steps, eq-eqb, eqb, eqb-true, false, false_from_ne_true, false≢true, has_bit, has_place, inl, inr, List, length, length-line_places, line_places, line_rules, line_rules-alive, lt-ltb, ltb-true, ne_eqb, not, or_cases, or_right, refl, sym, true, true≢false, ℕ, ◌&&◌, ◌*◌, ◌+◌, ◌-◌, ◌<◌, ◌||◌, ◌∙◌, ◌≡◌, ◌≤◌, ◌⊎◌}
 use Rattle.std.proofs.Common.{Option}
 use Rattle.std.proofs.lemmas.Bool.{and_from, le-ltb}
 use Rattle.std.proofs.lemmas.Nat.{div-mul-add, mod-mul-add}
@@ -137,5 +137,5 @@ module _ (p : Pattern) (line : Line) (lt : number_of line < lines_beside p.size 
 
 -- ---- where a closing begins
 pub begins-alive : (p : Pattern) (K : Candidates) (from : Option ℕ) → IsClosedBut (line_rules p) K from → IsAlive (line_rules p) K
-begins-alive p K None closed = rw closed (is_dead-each (p.size.w * p.size.h) 2 _ (λ c lt. count_below-pos _ 2 0 (omega arith) (has_both lt (omega arith))))
+begins-alive p K None closed = rw closed (line_rules-alive p)
 begins-alive p K (Some place) closed = alive_but (line_rules p) K (Some place) refl closed

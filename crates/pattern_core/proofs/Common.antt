@@ -39,7 +39,7 @@ pub use Rattle.engine_core.specs.Sets.{IsBitsOf, has_bit}
 unfoldable pub use Rattle.engine_core.specs.Sets.{set_of_bits}
 pub use Rattle.pattern_core.specs.LineClues.{numbers_in}
 pub use Rattle.pattern_core.specs.LineLaws.{column_has, different_places, has_runs-from, has_runs-is, in_grid, is_solution-from, is_solution-is}
-pub use Rattle.pattern_core.specs.LineLaws.{is_solution-line, line_of_solution, line_rules-lawful, lines_with, row_has, solution_from_lines}
+pub use Rattle.pattern_core.specs.LineLaws.{is_solution-line, line_of_solution, line_rules-alive, line_rules-lawful, lines_with, row_has, solution_from_lines}
 pub use Rattle.pattern_core.specs.LineRules.{line_rules}
 pub use Rattle.pattern_core.specs.Lines.{ArePositive, HasClue, IsDecidedBy, IsRoomy, clue_of}
 unfoldable pub use Rattle.pattern_core.specs.Lines.{has_runs}

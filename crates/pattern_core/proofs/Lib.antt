@@ -15,4 +15,4 @@ pub mod LineWords
 pub mod LineTakings
 pub mod WaitingLines
 pub mod ClosingLines
-pub mod PositionSteps
+pub mod LongestLine

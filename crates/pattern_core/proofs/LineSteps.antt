@@ -10,9 +10,9 @@ use Rattle.pattern_core.specs.LineRules.{LawfulPattern, is_pattern_solution}
 pub ruleset line_tests = (is_solution-line, all_below-from, has_runs-is, has_runs-from, solution_from_lines)
 
 -- a grid from which no line strikes anything
-pub closed-solution : (r : LawfulPattern) {g : List ℕ} → IsClosedGrid (line_rules r.pattern) g → is_pattern_solution r.pattern g ≡ true
+pub closed_solution : (r : LawfulPattern) {g : List ℕ} → IsClosedGrid (line_rules r.pattern) g → is_pattern_solution r.pattern g ≡ true
 unfolding is_pattern_solution
-closed-solution r {g} grid =
+closed_solution r {g} grid =
     let p = r.pattern in
     all_below-from _ (lines_of p.size) (λ line lt.
     let places = line_places p.size line in

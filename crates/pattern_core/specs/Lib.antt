@@ -6,4 +6,3 @@ pub mod Faults
 pub mod Track
 pub mod LineClues
 pub mod LinePlanes
-pub mod PatternPosition

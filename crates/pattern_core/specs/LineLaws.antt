@@ -1,5 +1,5 @@
 -- The rules of lines are lawful, by the laws of fillings and the places of lines.
-use Rattle.std.proofs.lemmas.Bool.{cases_Bool, cases_lt, true≢false, true_from_ne_false, eqb-true, eq-eqb}
+use Rattle.std.proofs.lemmas.Bool.{cases_Bool, cases_lt, true≢false, true_from_ne_false, eqb-true, eq-eqb, lt-ltb}
 use Rattle.std.proofs.lemmas.Grind.{common_steps}
 use Rattle.std.proofs.Common.{◌≡◌, ℕ, zero, suc, ◌+◌, ◌-◌, ◌*◌, ◌/◌, ◌%◌, ◌<◌, ◌≤◌, true, not, ◌&&◌, eqb, List, slice_index, refl, sym, ap, ◌∙◌, arith, inl, inr, ◌⊎◌}
 use Rattle.std.specs.Cmp.Lexicographic.{same_text, other_text}
@@ -7,14 +7,15 @@ use Rattle.std.proofs.lemmas.Nat.{mod-mul-add, div-mul-add}
 use Rattle.std.proofs.lemmas.List.FromFn.{length-map-range_with_len}
 use Rattle.std.proofs.Math.Nat.{mul-le-mul_right}
 use Rattle.grid_core.specs.Extent.{Extent, IsExtent}
-use Rattle.grid_core.specs.Candidates.{sum_below, count_below}
+use Rattle.grid_core.specs.Candidates.{all_of, sum_below, count_below}
 use Rattle.grid_core.specs.Grids.{IsGrid}
-use Rattle.grid_core.proofs.CandidateLemmas.{all_below-at, all_below-from, count_below-few, count_below-or}
+use Rattle.grid_core.proofs.CandidateLemmas.{all_below-at, all_below-from, count_below-few, count_below-or, count_below-pos, is_dead-each}
 use Rattle.grid_core.proofs.GridLemmas.{single-all, all-within}
 use Rattle.grid_core.proofs.LineLemmas.{column-places, row-places, length-line_places, place_in_column, place_in_row, line_numbers-column, line_numbers-row, line_numbers-places, few_cells}
 use Rattle.grid_core.specs.Lines.{lines_of, line_places, line_numbers}
 use Rattle.gameid_core.specs.Puzzles.{Pattern}
 use Rattle.gameid_core.specs.BlackRuns.{runs}
+use Rattle.engine_core.specs.ClosingList.{IsAlive}
 use Rattle.engine_core.specs.RuleSystem.{IsLawful, after, has_place, share}
 use Rattle.engine_core.specs.PlaceLaws.{has_place-at, has_place-here}
 use Rattle.engine_core.specs.Filling.{strikes_by_fillings}
@@ -113,6 +114,11 @@ pub is_solution-from : (p : Pattern) (g : List ℕ) → IsPatternSolution p g �
 is_solution-from p g s = is_solution-each p g (λ line lt. line_of_solution line lt s)
 
 -- ---- the laws
+pub line_rules-alive : (p : Pattern) → IsAlive (line_rules p) (line_rules p).start
+unfolding all_of
+line_rules-alive p = is_dead-each (p.size.w * p.size.h) 2 (line_rules p).start (λ c lt.
+    count_below-pos ((line_rules p).start c) 2 0 (omega arith) (grind (arith, common_steps, lt-ltb)))
+
 pub line_rules-lawful : (p : Pattern) → IsExtent p.size → IsLawful (line_rules p)
 unfolding after
 line_rules-lawful p extent = record {

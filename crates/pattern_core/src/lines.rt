@@ -13,8 +13,7 @@ ghost use Rattle.pattern_core.specs.LineRules.{line_rules};
 
 use crate::line_cells::write_places;
 use crate::line_clue::{LONGEST, LineClue, Rows};
-use crate::planes::position::PatternPosition;
-use engine_core::{Mode, Rules, Searchable, apply, gather};
+use engine_core::{Mode, Rules, apply, gather};
 use gameid_core::PatternPuzzle;
 use grid_core::{Board, Grid, Size, line_count, line_len, line_place};
 use std::alloc::{AllocError, Global};
@@ -191,10 +190,4 @@ impl Rules for PatternLines {
         }
         true
     }
-}
-
-impl Searchable for PatternLines {
-    type Position = PatternPosition;
-
-    ghost position_of = { λ _. refl };
 }

@@ -13,10 +13,10 @@ use std::alloc::{AllocError, Global};
 /// A puzzle of count houses that is closed on planes.
 pub trait PlaneGame: CountGame {
     /// What it keeps beside planes of words of 64 places.
-    type Short: PlaneNotes<u64, Self>;
+    type Short: SweepNotes<u64, Self>;
 
     /// What it keeps beside planes of words of 128 places.
-    type Long: PlaneNotes<u128, Self>;
+    type Long: SweepNotes<u128, Self>;
 
     /// Words of 64 places are long enough for all puzzles of these sizes.
     ghost all_short: { Needs → Type 0 };
@@ -52,7 +52,7 @@ pub trait PlaneGame: CountGame {
 }
 
 /// What is kept of a puzzle beside planes of such words, and which houses wait while a closing goes on.
-pub trait PlaneNotes<W: Word, P: CountGame>: Drop + Sized {
+pub trait SweepNotes<W: Word, P: CountGame>: Drop + Sized {
     /// They serve puzzles of these sizes.
     ghost fits: { Self → Needs → Type 0 };
 

@@ -4,7 +4,7 @@ ghost use Rattle.std.specs.Prelude.{◌&&◌, ◌*◌, ◌+◌, ◌<◌, ◌≡�
 ghost use Rattle.fields_core.specs.Common.{IsTents, has, has_bit, is_barred, tent_rules};
 
 use crate::count::game::CountGame;
-use crate::planes::game::PlaneNotes;
+use crate::planes::game::SweepNotes;
 use crate::planes::trees::write_trees;
 use crate::planes::waits::{Kind, Waits};
 use engine_core::Needs;
@@ -54,7 +54,7 @@ fn start_tents<W: Word>(planes: &mut Planes<W>, puzzle: &TentsPuzzle)
     }
 }
 
-impl<W: Word> PlaneNotes<W, TentsPuzzle> for TentNotes<W> {
+impl<W: Word> SweepNotes<W, TentsPuzzle> for TentNotes<W> {
     ghost use Rattle.fields_core.specs.TentNotes.{AreTentsReady, AreTentsWritten};
 
     ghost fits = { λ notes _. W.room ≤ length notes.trees.items };

@@ -2,6 +2,7 @@
 
 ghost use Rattle.std.specs.Prelude.{◌&&◌, ◌<◌, ◌||◌, ◌≡◌, ◌≤◌};
 ghost use Rattle.grid_core.specs.Planes.{IsFurther, has, lines_beside, number_of};
+ghost use Rattle.engine_core.specs.ClosingList.{IsAlive};
 ghost use Rattle.engine_core.specs.Counts.{IsClosedIn};
 ghost use Rattle.engine_core.specs.Position.{IsClosedBut, IsTaken};
 ghost use Rattle.pattern_core.specs.LinePlanes.{AreLinesOf, AreRested, HasRoom, IsStart, is_marked, is_same};
@@ -70,6 +71,7 @@ pub(crate) fn close<W: Word>(
     ensures taken { IsTaken (line_rules rules.now.pattern) (has planes.old) (has planes.new)
         result.closing }
     ensures turns { IsClosedIn (line_rules rules.now.pattern) (has planes.old) result.turns }
+    ensures alive { IsAlive (line_rules rules.now.pattern) (has planes.new) }
     ensures further { IsFurther planes.old planes.new }
 {
     let mut waits = first(planes, rules, from);

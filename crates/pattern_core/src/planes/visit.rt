@@ -1,6 +1,6 @@
 //! A visit of a line on planes.
 
-ghost use Rattle.std.specs.Prelude.{◌*◌, ◌<◌, ◌≡◌};
+ghost use Rattle.std.specs.Prelude.{◌*◌, ◌<◌, ◌≡◌, None};
 ghost use Rattle.grid_core.specs.Planes.{IsFurther, has, lines_beside, number_of};
 ghost use Rattle.engine_core.specs.ClosingList.{IsAlive};
 ghost use Rattle.pattern_core.specs.LinePlanes.{IsVisited, house_of};
@@ -33,6 +33,7 @@ pub(crate) fn visit<W: Word>(
     requires alive { IsAlive (line_rules rules.now.pattern) (has planes.old) }
     ensures visited { IsVisited W.bits (line_rules rules.now.pattern)
         (house_of rules.now.pattern.size line) (has planes.old) (has planes.new) result }
+    ensures unchanged { result ≡ None → planes.new ≡ planes.old }
     ensures further { IsFurther planes.old planes.new }
 {
     let size = rules.size();

@@ -4,7 +4,7 @@ ghost use Rattle.std.specs.Prelude.{◌≡◌, ℕ, ◌*◌, ◌≤◌, length};
 ghost use Rattle.fields_core.specs.Common.{AreRowTables, AreTables, HasTables, IsLight, has, light_cells, light_rules};
 
 use crate::light_up::cells::{columns, rows};
-use crate::planes::game::PlaneNotes;
+use crate::planes::game::SweepNotes;
 use crate::planes::lights::tables::{LightTables, cells_of_row, write_runs};
 use crate::planes::lights::waits::LineWaits;
 use engine_core::Needs;
@@ -65,7 +65,7 @@ impl<W: Word> LightTables<W> {
     }
 }
 
-impl<W: Word> PlaneNotes<W, LightPuzzle> for LightNotes<W> {
+impl<W: Word> SweepNotes<W, LightPuzzle> for LightNotes<W> {
     ghost use Rattle.std.proofs.Common.{subst, sym};
     ghost use Rattle.fields_core.specs.LightPlanes.{AreLightsWritten, HasLightRoom};
     ghost use Rattle.fields_core.specs.LightWaits.{AreLightsReady};

@@ -112,3 +112,11 @@ returns-clause-taken g c = taken-open (shut g (goal.at.returns-clause-taken g c)
 
 pub returns-clause-turns : goal.returns-clause-turns
 returns-clause-turns g c = closed-in (shut g (goal.at.returns-clause-turns g c).In_default) (λ _. c.loop-line.invariant.counted) (λ e. absurd (true≢false e))
+
+pub returns-in_default-visit-clause-alive : goal.returns-in_default-visit-clause-alive
+returns-in_default-visit-clause-alive g c =
+    let same = c.visit.ensures.unchanged c.in_default-visit.is in
+    rw same (running-alive c.loop-line.invariant.running)
+
+pub returns-clause-alive : goal.returns-clause-alive
+returns-clause-alive g c = running-alive c.loop-line.invariant.running
