@@ -4,11 +4,9 @@ use Rattle.commands.proofs.SearchedPuzzles.{tents_searched}
 use Rattle.commands.proofs.SoloFillings.{solo_missing, solo_thinned}
 use Rattle.commands.proofs.Common.{AllowsMade, AllowsOfSize, Answer, Bool, DifferInClues, Err, Extent, Game, HandOutAlike, HasOneAnswer, HasWords, IsExtent, IsFirstPassing, IsGrid, IsHandedOut, IsSoloSize, IsTents, IsWide, Light, List, MadePuzzle, Making, None, NonePasses, Ok, Option, PuzzleFacts, SameLight, SameSolo, SizeRange, SizeRead, Some, Text, Wanted, [], all_given, and_parts, ap, arith, black_cells-grid, cases_eq, common_steps, exhausted_answer, extent_of, false, filling_at, game_of, handed_out, if◌then◌else◌, in_range, inl, inr, is_solution-from, is_solution-is, leb-true, light_facts, light_filling, light_is_game, light_is_written, light_passes, light_puzzle_of, line_rules-lawful, nat_le, pattern_facts, pattern_is_written, puzzle_of, refl, size_of, size_take, solo_facts, solo_filling, solo_is_game, solo_is_written, solo_passes, stream_after, subst, suc, sym, tents_facts, tents_is_written, tents_sizes, true, true≢false, zero, ℕ, ◌&&◌, ◌*◌, ◌↔◌, ◌∙◌, ◌≡◌, ◌≢◌, ◌≤◌}
 use Rattle.fields_core.proofs.TentRuleLemmas as tents
-use Rattle.gameid_core.proofs.LineLaws.{at_column, at_row}
 use Rattle.gameid_core.proofs.OnesFit.{ones_lawful}
 use Rattle.gameid_core.proofs.Results.{bind_ok, chosen, ok_is, taken}
 use Rattle.gameid_core.proofs.RunsFit.{runs_lawful}
-use Rattle.gameid_core.specs.BlackRuns.{runs}
 use Rattle.gameid_core.specs.Lines.{lines_ones, lines_runs}
 use Rattle.gameid_core.specs.declared.id.game.Game.TheVariants as game
 use Rattle.maker_core.proofs.OnlySolutions.{one_is}
@@ -111,8 +109,7 @@ pattern_making w text read is = record {
         → IsHandedOut pattern_facts w read (handed_out pattern_facts (clued_by size (grid k)) (grid k))
     handed k first =
         let p = clued_by size (grid k) in
-        let solved = pattern_solved size (grid k) p
-        (record { sized = refl; columns = λ x lt. at_column runs [] size (grid k) x lt; rows = λ y lt. at_row runs [] size (grid k) y lt })
+        let solved = pattern_solved size (grid k) p refl
         (black_cells-grid w.black (size.w * size.h) (stream_after (pattern_filling size w.black) k w.stream)) in
         let only = one_is _ _ (λ h s. s.grid) (λ h cells. (is_solution-is p h cells, is_solution-from p h))
         (has_one _ (line_rules-lawful p extent) w.budget first.passing) solved in

@@ -3,10 +3,12 @@
 use Rattle.commands.proofs.Common.{AllByRecursion, Black, Bool, Extent, IsAsShown, IsLight, IsLightCell, IsPrinted, IsSolo, Light, LightCell, List, None, Numbered, Option, Pattern, Solo, Some, Tents, Text, White, [], ap, arith, begins_with_form, cases_lt, codes, common_steps, decimal, drop, drop-drop, drop_all, each_below, eqb-true, false, grid_text, hides_nothing, if◌then◌else◌, inl, inr, length, length-append, light_cell, light_hides, mul-le-mul_left, mul-le-mul_right, ne_eqb, number_fits, pattern_cell, refl, row_text, slice_get, slice_index, solo_cell, solo_extent, solo_n, subst, suc, suc-mul, sym, take, take-append-drop, tent_hides, tents_cell, text_limit, true, without_returns, zero, ℕ, ◌%◌, ◌*◌, ◌++◌, ◌+◌, ◌-◌, ◌/◌, ◌<◌, ◌==◌, ◌∙◌, ◌∷◌, ◌≡◌, ◌≢◌, ◌≤◌}
 use Rattle.std.proofs.Math.Seq.{drop-append_seam, drop-cons}
 use Rattle.std.proofs.lemmas.Fmt.{decimal_digit, decimal_step}
-use Rattle.gameid_core.specs.GridReading.{Follows, first_digit}
+use Rattle.std.specs.Char.{is_ascii_digit}
+use Rattle.gameid_core.specs.GridReading.{Follows}
+use Rattle.gameid_core.specs.Words.{begins, digits_front, value}
 use Rattle.gameid_core.specs.LightText.{light_symbol}
 use Rattle.gameid_core.proofs.PrintedRows.{Left, LeftOf, after_cell, all_left, all_rows_left, cell_follows, in_grid, next_row, none_left, row_first}
-use Rattle.gameid_core.proofs.PrintedNumbers.{not_empty, number_of}
+use Rattle.gameid_core.proofs.Numerals.{front_decimal}
 
 -- the number at a place and how many bytes are printed of it are read of each text that begins with that, where what may stand after
 -- it follows
@@ -130,26 +132,9 @@ light_reads p ok g place after shown lt follows = by _ refl
         let low = cell_at p.cells place ok.each is in
         rw (decimal_digit n (omega arith)) (ap (λ v. (v, 1)) (none is (λ white. cc)))
 
--- the number that these digits write, less one, and how many there are
-number_by : Option ℕ → Option ℕ → ℕ × ℕ
-number_by None second = (0, 0)
-number_by (Some first) None = (first - 1, 1)
-number_by (Some first) (Some second) = (10 * first + second - 1, 2)
-
+-- the number that the digits in front write, less one, and how many they are
 number_in : Text → ℕ × ℕ
-number_in text = number_by (first_digit text) (first_digit (drop 1 text))
-
--- below 100, where no digit follows
-is_number : (v : ℕ) (after : Text) → v + 1 < 100 → first_digit after ≡ None → number_in (decimal (v + 1) ++ after) ≡ (v, length (decimal (v + 1)))
-unfolding number_in number_by
-is_number v after small ends = by (decimal (v + 1) ++ after) refl
-  where
-    by : (text : Text) → decimal (v + 1) ++ after ≡ text → number_in text ≡ (v, length (decimal (v + 1)))
-    by [] is = absurd (not_empty (v + 1) [] after small (sym is) refl)
-    by (byte ∷ rest) is = elim (number_of (v + 1) (byte ∷ rest) after rest byte small ends (sym is) refl).digits [
-      | inl one ↦ rw (one.0, one.1, one.2) (ap (λ n. (n, 1)) (omega arith))
-      | inr two ↦ rw (two.0, two.1, two.2) (ap (λ n. (n, 2)) (omega arith))
-    ]
+number_in text = (value (digits_front text) - 1, length (digits_front text))
 
 -- one space stands before a number that isn't the first of its row
 spaced : Bool → Text → ℕ × ℕ
@@ -160,18 +145,19 @@ pub solo_in : Solo → ℕ → Text → ℕ × ℕ
 solo_in p place = spaced (place % solo_n p == 0)
 
 -- what follows a number of Solo begins with no digit
-no_digit_follows : (p : Solo) (g : List ℕ) (place : ℕ) {after : Text} → Follows (solo_cell p g) (solo_extent p) place after → first_digit after ≡ None
+no_digit_follows : (p : Solo) (g : List ℕ) (place : ℕ) {after : Text} → Follows (solo_cell p g) (solo_extent p) place after → begins is_ascii_digit after ≡ false
 no_digit_follows p g place follows = grind (arith, common_steps, ne_eqb)
 
 pub solo_reads : (p : Solo) → IsSolo p → ReadsCells hides_nothing (solo_n p) (solo_extent p) (solo_cell p) (solo_in p)
-unfolding solo_in spaced
+unfolding number_in solo_in spaced
 solo_reads p ok g place after shown lt follows = by (place % solo_n p == 0)
   where
     is : number_in (decimal (slice_index g place + 1) ++ after) ≡ (slice_index g place, length (decimal (slice_index g place + 1)))
     is =
         let low = number_fits hides_nothing (solo_n p) (solo_extent p) g place shown lt in
         let few = ok.n_high in
-        is_number (slice_index g place) after (omega arith) (no_digit_follows p g place follows)
+        let front = front_decimal (slice_index g place + 1) after (omega arith) (no_digit_follows p g place follows) in
+        rw (front.0, front.2) (ap (λ v. (v, length (decimal (slice_index g place + 1)))) (omega arith))
 
     by : (b : Bool) → spaced b (((if b then [] else codes " ") ++ decimal (slice_index g place + 1)) ++ after)
         ≡ (slice_index g place, length ((if b then [] else codes " ") ++ decimal (slice_index g place + 1)))

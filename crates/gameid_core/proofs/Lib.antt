@@ -15,7 +15,6 @@ pub mod PatternTexts
 pub mod PatternWritten
 pub mod PrintedCells
 pub mod PrintedGrids
-pub mod PrintedNumbers
 pub mod PrintedRows
 pub mod Reading
 pub mod Results

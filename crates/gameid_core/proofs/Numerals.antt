@@ -1,5 +1,5 @@
 -- Numbers as texts: the digits in front, and the written digits of a number.
-use Rattle.gameid_core.specs.Common.{Bool, Cuts, IsNumeral, IsNumeralModel, IsPlain, List, [], after_digits, all_ascii_digits, and_parts, arith, begins, common_steps, decimal, decimal-digits_value, decimal_by_steps, digits_decimal, digits_front, false, is_ascii_digit, is_lead, joins, length, length-append, length-decimal-le, nat_tests, numerals_by_fold, refl, rules, suc, true, value, value_after, zero, ℕ, ◌%◌, ◌++◌, ◌+◌, ◌<◌, ◌^◌, ◌∷◌, ◌≡◌, ◌≤◌}
+use Rattle.gameid_core.specs.Common.{Bool, Cuts, IsNumeral, IsNumeralModel, IsPlain, List, [], after_digits, all_ascii_digits, and_parts, arith, begins, common_steps, decimal, decimal-digits_value, decimal_by_steps, digits_decimal, digits_front, digits_value-decimal, false, is_ascii_digit, is_lead, joins, length, length-append, length-decimal-le, nat_tests, numerals_by_fold, refl, rules, suc, true, value, value_after, zero, ℕ, ◌%◌, ◌++◌, ◌+◌, ◌<◌, ◌^◌, ◌∷◌, ◌≡◌, ◌≤◌}
 use Rattle.gameid_core.proofs.Tokens.{value_after_ge, front_stop, front_end, cuts_joined, cuts_number}
 
 pub own : IsNumeralModel (λ ds. all_ascii_digits ds ≡ true) value
@@ -66,3 +66,9 @@ lead_plain ds e = grind arith
 pub decimal_plain : (n : ℕ) → n < 2 ^ 64 → IsPlain (decimal n)
 decimal_plain zero small = grind (arith, length-decimal-le 1 0)
 decimal_plain (suc n) small = grind (arith, common_steps, lead_plain, decimal_leads)
+
+-- what is read of a written number that no digit follows
+pub front_decimal : (n : ℕ) (after : List ℕ) → n < 100 → begins is_ascii_digit after ≡ false
+    → (digits_front (decimal n ++ after) ≡ decimal n) × (after_digits (decimal n ++ after) ≡ after) × (value (decimal n) ≡ n)
+front_decimal n after few other =
+    let front = front_numeral (decimal n) after (numeral n (omega arith)).digits other in (front.0, front.1, digits_value-decimal own n (omega arith))

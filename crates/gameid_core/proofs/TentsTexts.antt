@@ -109,9 +109,6 @@ token_tree only_blanks = false
 cells_of_token : (token : TentsToken) → run_cells (token_blanks token) (token_tree token) ≡ tents_token_cells token
 cells_of_token token = grind arith
 
-abbrev run_of : ℕ → Bool → Result (ℕ × Bool) IdFault
-run_of k tree = Ok (k, tree)
-
 token_run : (at : ℕ) (token : TentsToken) → IsTentsToken token → tents_run at (tents_token_byte token) ≡ Ok (token_blanks token, token_tree token)
 unfolding tents_run
 token_run at token h = grind arith

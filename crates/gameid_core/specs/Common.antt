@@ -34,7 +34,7 @@ pub use Rattle.gameid_core.specs.Cells.{fill_end, fill_step, is_letter, letter}
 pub use Rattle.gameid_core.specs.FirstFailed.{IsAnswerOfCheck, IsFirstFailed, NoneFails}
 pub use Rattle.gameid_core.specs.FirstFault.{FirstFault, stop}
 pub use Rattle.gameid_core.specs.FirstTokens.{GivesRun, TakesNumber, TakesRun}
-pub use Rattle.gameid_core.specs.GridReading.{AgreeUpTo, FitUpTo, Follows, IsAsShown, IsPrinted, IsReadOf, digit_of, first_digit, hides_nothing}
+pub use Rattle.gameid_core.specs.GridReading.{AgreeUpTo, FitUpTo, Follows, IsAsShown, IsPrinted, IsReadOf, hides_nothing}
 unfoldable pub use Rattle.gameid_core.specs.GridTexts.{each_below}
 pub use Rattle.gameid_core.specs.GridTexts.{grid_text, row_text}
 pub use Rattle.gameid_core.specs.Head.{HeadRead, Sides, SizeRead, extent_of, has_hash, has_x, head_read, in_range, max_id, max_numbers, size_read, two_sides}

@@ -1,6 +1,5 @@
 -- Grids read from what is printed of them.
-use Rattle.std.specs.Prelude.{◌-◌, [], ◌∷◌, if◌then◌else◌, ◌≡◌, ◌<◌, ◌+◌, ◌*◌, ◌%◌, ◌++◌, ◌⊎◌, ℕ, List, Option, Some, None, codes, slice_index}
-use Rattle.std.specs.Char.{is_ascii_digit}
+use Rattle.std.specs.Prelude.{◌≡◌, ◌<◌, ◌+◌, ◌*◌, ◌%◌, ◌++◌, ◌⊎◌, ℕ, List, Option, Some, None, codes, slice_index}
 use Rattle.grid_core.specs.Extent.{Extent}
 use Rattle.grid_core.specs.Grids.{IsGrid}
 
@@ -38,12 +37,3 @@ FitUpTo hides values g n =
 -- the first n numbers of the grids are the same
 abbrev pub AgreeUpTo : List ℕ → List ℕ → ℕ → Type 0
 AgreeUpTo g h n = (place : ℕ) → place < n → slice_index g place ≡ slice_index h place
-
--- the digit that a byte is
-abbrev pub digit_of : ℕ → Option ℕ
-digit_of byte = if is_ascii_digit byte then Some (byte - 48) else None
-
--- the digit that a text begins with
-abbrev pub first_digit : List ℕ → Option ℕ
-first_digit [] = None
-first_digit (byte ∷ rest) = digit_of byte

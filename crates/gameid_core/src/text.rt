@@ -1,6 +1,5 @@
 //! Pieces of text that readers and writers share.
 
-pub(crate) mod digits;
 pub(crate) mod number;
 pub(crate) mod runs;
 pub(crate) mod writing;

@@ -1,5 +1,5 @@
 -- Planes: their words and the board that they are.
-use Rattle.grid_core.proofs.Common.{ArePlanes, AreTurned, AreWords, Bool, Candidates, Column, Extent, HasLine, HasLost, HasRoomFor, IsFurther, IsInside, IsLineIn, IsTakingIn, IsThere, IsWithin, Layers, List, Row, Taking, and_from, and_parts, any_below, ap, arith, at_line, back_at, bit_of, cases_Bool, cases_eq, cases_lt, cells_of, common_steps, covers, crosses, differ, div-add-mod', div-mul-add, eq-eqb, eqb, eqb-true, false, false_from_ne_true, fun_ext, has, has_bit, inl, inr, le-ltb, length, length-set, line_len, lt-ltb, ltb, ltb-true, mul-le-mul_right, ne_eqb, not, refl, set, sym, taking_at, total, true, true≢false, turned_by, without_taking, ℕ, ◌%◌, ◌&&◌, ◌*◌, ◌+◌, ◌-◌, ◌/◌, ◌<◌, ◌∙◌, ◌≡◌, ◌≤◌}
+use Rattle.grid_core.proofs.Common.{ArePlanes, AreTurned, AreWords, Bool, Candidates, Column, Extent, HasLine, HasLost, HasRoomFor, IsFurther, IsInside, IsLineIn, IsTakingIn, IsThere, IsWithin, Layers, List, Row, Taking, and_from, and_parts, any_below, ap, arith, at_line, back_at, bit_of, cases_Bool, cases_eq, cases_lt, cells_of, common_steps, covers, crosses, differ, div-add-mod', div-mul-add, eq-eqb, eqb, eqb-true, false, false_from_ne_true, fun_ext, has, has_bit, inl, inr, le-ltb, length, length-set, line_len, lt-ltb, ltb, ltb-true, mod-mul-add, mul-le-mul_right, ne_eqb, not, refl, set, sym, taking_at, total, true, true≢false, turned_by, without_taking, ℕ, ◌%◌, ◌&&◌, ◌*◌, ◌+◌, ◌-◌, ◌/◌, ◌<◌, ◌∙◌, ◌≡◌, ◌≤◌}
 use Rattle.grid_core.proofs.CandidateLemmas.{any_below-none, any_below-some, total-lt}
 use Rattle.grid_core.specs.declared.planes.line.Line.{Line}
 use Rattle.grid_core.proofs.TakingLemmas.{put_back-noted, put_back-undone, takings-noted, takings-room, takings-undone}
@@ -83,8 +83,7 @@ pub place-in : (w h y x : ℕ) → y < h → x < w → y * w + x < w * h
 place-in w h y x ly lx = let e : (y + 1) * w ≤ h * w = mul-le-mul_right w (omega arith) in omega arith
 
 pub place-column : (w y x : ℕ) → x < w → (y * w + x) % w ≡ x
-place-column w y x lt = let e = div-mul-add y w x lt in let d = div-add-mod' (y * w + x) w in
-    let r : (y * w + x) / w * w ≡ y * w = ap (λ n. n * w) e in omega arith
+place-column w y x lt = mod-mul-add y w x lt
 
 without-inside : (w : ℕ) (K : Candidates) (t : Taking) → IsInside (without_taking w K t) K
 unfolding without_taking

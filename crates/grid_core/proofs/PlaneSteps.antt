@@ -121,36 +121,6 @@ pub has_read : (p : Layers) (c v : ℕ) → v < 2 → bit_of p.rows (c / p.size.
 unfolding has
 has_read p c v lt = rw (lt-ltb v 2 lt) refl
 
--- ---- a step taken, and put back
-pub take_step : {W : Type 0} (bits : W → ℕ) (room : ℕ) (size : Extent)
-    (rows columns rows' columns' : List W) (changes : List (Change W)) (len : ℕ) (change : Change W)
-    → ArePlanes room (layers_of bits size rows columns changes len) → IsThere (layers_of bits size rows columns changes len) (taking_of bits change)
-    → AreTurned (map bits rows) (map bits columns) (map bits rows') (map bits columns')
-    (taking_of bits change) → length rows' ≡ length rows → length columns' ≡ length columns
-    → IsTaken room (layers_of bits size rows columns changes len)
-    (layers_of bits size rows' columns' (set changes len change) (len + 1))
-    (taking_of bits change)
-take_step bits room size rows columns rows' columns' changes len change are there turned tall wide =
-    rw (map-set (taking_of bits) changes len change)
-    (taken room (layers_of bits size rows columns changes len) (taking_of bits change) (map bits rows') (map bits columns') are there turned
-    (length-map rows' bits ∙ tall ∙ sym (length-map rows bits)) (length-map columns' bits ∙ wide ∙ sym (length-map columns bits)))
-
-pub undo_step : {W : Type 0} (bits : W → ℕ) (room : ℕ) (size : Extent)
-    (rows columns rows' columns' : List W) (changes : List (Change W)) (n len : ℕ) (t : Taking)
-    → ArePlanes room (layers_of bits size rows columns changes len) → n + 1 ≡ len → taking_at (map (taking_of bits) changes) n ≡ t
-    → AreTurned (map bits rows) (map bits columns) (map bits rows') (map bits columns') t → length rows' ≡ length rows → length columns' ≡ length columns
-    → IsPutBack room (layers_of bits size rows columns changes len) (layers_of bits size rows' columns' changes n)
-undo_step bits room size rows columns rows' columns' changes n len t are e last turned tall wide =
-    given_back room (layers_of bits size rows columns changes len) (map bits rows') (map bits columns') n are e (rw last turned)
-    (length-map rows' bits ∙ tall ∙ sym (length-map rows bits)) (length-map columns' bits ∙ wide ∙ sym (length-map columns bits))
-
-pub room_at : {W : Type 0} (bits : W → ℕ) (room : ℕ) (size : Extent) (rows columns : List W)
-    (changes : List (Change W)) (len : ℕ) (t : Taking)
-    → ArePlanes room (layers_of bits size rows columns changes len)
-    → IsTakingIn size t → HasRoomFor room (length rows) (length columns) t
-room_at bits room size rows columns changes len t are within =
-    rw (length-map rows bits, length-map columns bits) at (room_for room (layers_of bits size rows columns changes len) t are within)
-
 -- a line of the trail is among those that there is room for
 pub line_room : (room : ℕ) (p : Layers) (k : ℕ) → ArePlanes room p → k < p.len → number_of (taking_at p.takings k).line < room
 line_room room p k are lt = by (taking_at p.takings k).line (taking_at p.takings k).bits (are.takings.takings_in k lt).line_in
@@ -159,11 +129,29 @@ line_room room p k are lt = by (taking_at p.takings k).line (taking_at p.takings
     by (Row y) bits within = let low = are.low in omega (arith, low, within.0)
     by (Column x) bits within = let narrow = are.narrow in omega (arith, narrow, within.0)
 
--- what was taken last
-pub last_read : {W : Type 0} (bits : W → ℕ) (room : ℕ) (size : Extent) (rows columns : List W)
-    (changes : List (Change W)) (len : ℕ) (change : Change W)
-    → ArePlanes room (layers_of bits size rows columns changes len)
-    → 0 < len → change ≡ get_or changes (len - 1) change → taking_at (map (taking_of bits) changes) (len - 1) ≡ taking_of bits change
-last_read bits room size rows columns changes len change are pos read =
-    let long = takings-len _ _ _ _ are.takings in
-    taking_read bits changes (len - 1) change (omega (arith, long, length-map changes (taking_of bits))) read
+-- ---- a step taken, and put back
+module _ {W : Type 0} (bits : W → ℕ) (room : ℕ) (size : Extent) (rows columns : List W) (changes : List (Change W)) (len : ℕ)
+    (are : ArePlanes room (layers_of bits size rows columns changes len)) where
+  pub take_step : (rows' columns' : List W) (change : Change W) → IsThere (layers_of bits size rows columns changes len) (taking_of bits change)
+      → AreTurned (map bits rows) (map bits columns) (map bits rows') (map bits columns') (taking_of bits change)
+      → length rows' ≡ length rows → length columns' ≡ length columns
+      → IsTaken room (layers_of bits size rows columns changes len) (layers_of bits size rows' columns' (set changes len change) (len + 1)) (taking_of bits change)
+  take_step rows' columns' change there turned tall wide =
+      rw (map-set (taking_of bits) changes len change) (taken room _ _ (map bits rows') (map bits columns') are there turned
+      (length-map rows' bits ∙ tall ∙ sym (length-map rows bits)) (length-map columns' bits ∙ wide ∙ sym (length-map columns bits)))
+
+  pub undo_step : (rows' columns' : List W) (n : ℕ) (t : Taking) → n + 1 ≡ len → taking_at (map (taking_of bits) changes) n ≡ t
+      → AreTurned (map bits rows) (map bits columns) (map bits rows') (map bits columns') t → length rows' ≡ length rows → length columns' ≡ length columns
+      → IsPutBack room (layers_of bits size rows columns changes len) (layers_of bits size rows' columns' changes n)
+  undo_step rows' columns' n t e last turned tall wide =
+      given_back room _ (map bits rows') (map bits columns') n are e (rw last turned)
+      (length-map rows' bits ∙ tall ∙ sym (length-map rows bits)) (length-map columns' bits ∙ wide ∙ sym (length-map columns bits))
+
+  pub room_at : (t : Taking) → IsTakingIn size t → HasRoomFor room (length rows) (length columns) t
+  room_at t within = rw (length-map rows bits, length-map columns bits) at (room_for room _ t are within)
+
+  -- what was taken last
+  pub last_read : (change : Change W) → 0 < len → change ≡ get_or changes (len - 1) change → taking_at (map (taking_of bits) changes) (len - 1) ≡ taking_of bits change
+  last_read change pos read =
+      let long = takings-len _ _ _ _ are.takings in
+      taking_read bits changes (len - 1) change (omega (arith, long, length-map changes (taking_of bits))) read

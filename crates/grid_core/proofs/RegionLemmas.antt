@@ -17,9 +17,6 @@ pub step_cases : (size : Extent) (place d : ℕ) → (step size place d ≡ step
 unfolding step
 step_cases size place d = (refl, λ e. rw e refl, λ e. rw e refl, λ e. rw e refl, λ e. rw e refl)
 
--- what the places of cells are
-pub ruleset place_laws = (line_at, step_cases)
-
 -- ---- the steps that stay in the grid
 pub steps-none : (size : Extent) (place n : ℕ) → None ≡ step size place n → length (steps size place (n + 1)) ≡ length (steps size place n)
 unfolding steps
@@ -61,3 +58,6 @@ block-within c r b k lb lk =
     both_pos zero b lt = absurd (omega arith)
     both_pos (suc a) zero lt = absurd (omega arith)
     both_pos (suc a) (suc b) lt = (omega arith, omega arith)
+
+-- what the places of cells are
+pub ruleset place_laws = (line_at, step_cases, block-within)

@@ -1,5 +1,6 @@
 -- What the operations of words say of their bits.
-use Rattle.grid_core.proofs.Common.{IsLeast, add-one, any_below, ap, arith, bit_and, bit_at, bit_at-lt, bit_at_above, bit_at_cat_low, div-add-mod', inl, inr, mod-lt, ◌+◌, bit_at-pow_other, bit_at-pow_same, bit_at-suc, bit_at-zero, bit_at_lowest, bit_at_ones, bit_at_ones_above, bit_at_xor, bit_or, bit_xor, cases_Bool, cases_eq, cases_lt, common_steps, differ, eq-eqb, eqb, eqb-false, false, false_from_ne_true, has_bit, le-ltb, lt-ltb, ltb, ne_eqb, not, one_shl, pow_pos, refl, same_from_bits_below, shr_and_one, suc, sym, true, true≢false, zero, ℕ, ◌%◌, ◌&&◌, ◌*◌, ◌-◌, ◌/◌, ◌<◌, ◌^◌, ◌||◌, ◌∙◌, ◌≡◌}
+use Rattle.grid_core.proofs.Common.{IsLeast, add-one, any_below, count_below, ap, arith, bit_and, bit_at, bit_at-lt, bit_at_above, bit_at_cat_low, div-add-mod', inl, inr, mod-lt, ◌+◌, bit_at-pow_other, bit_at-pow_same, bit_at-suc, bit_at-zero, bit_at_lowest, bit_at_ones, bit_at_ones_above, bit_at_xor, bit_or, bit_xor, cases_Bool, cases_eq, cases_lt, common_steps, differ, eq-eqb, eqb, eqb-false, false, false_from_ne_true, has_bit, le-ltb, lt-ltb, ltb, ne_eqb, not, one_shl, pow_pos, refl, same_from_bits_below, shr_and_one, suc, sym, true, true≢false, zero, ℕ, ◌%◌, ◌&&◌, ◌*◌, ◌-◌, ◌/◌, ◌<◌, ◌^◌, ◌||◌, ◌∙◌, ◌≡◌}
+use Rattle.std.specs.Int.RustNames.{count_ones}
 use Rattle.grid_core.proofs.BoardLemmas.{bits_both, bits_either, count_ones-bits}
 use Rattle.grid_core.proofs.CandidateLemmas.{any_below-none, any_below-some}
 
@@ -99,5 +100,8 @@ some-bit_is w bits fits = grind (arith, common_steps, cases_Bool, none-below, ca
 pub some-bit : (w bits : ℕ) → any_below (has_bit bits) w ≡ true → 0 < bits
 some-bit w bits some = grind (arith, common_steps, cases_eq bits 0, none-below)
 
+pub counted-bits : (w a : ℕ) → a < 2 ^ w → count_ones a ≡ count_below (has_bit a) w
+counted-bits = count_ones-bits
+
 pub ruleset word_laws =
-    (zero-bits, on-bits, back-bits, both-bits, either-bits, differ-bits, but-bits, one-bits, all-bits, full-bits, shifted-bit, some-bit_is, some-bit, count_ones-bits)
+    (zero-bits, on-bits, back-bits, both-bits, either-bits, differ-bits, but-bits, one-bits, all-bits, full-bits, shifted-bit, some-bit_is, some-bit, counted-bits)

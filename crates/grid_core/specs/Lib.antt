@@ -8,5 +8,4 @@ pub mod Lines
 pub mod Pairings
 pub mod Augmenting
 pub mod Words
-pub mod Outline
 pub mod Planes

@@ -9,7 +9,6 @@ ghost use Rattle.grid_core.specs.Planes.{bit_of, has, cells_of, back_at, without
 pub(crate) mod copies;
 pub(crate) mod judge;
 pub(crate) mod line;
-pub(crate) mod outline;
 pub(crate) mod touched;
 pub(crate) mod turn;
 pub(crate) mod word;
@@ -17,7 +16,6 @@ pub(crate) mod word;
 use crate::size::Size;
 use copies::copies;
 use line::{Change, Line};
-use outline::Outline;
 use std::alloc::{AllocError, Global};
 use std::marker::Model;
 use turn::{turn_line, write_lines};
@@ -27,7 +25,7 @@ use word::Word;
 /// for each column: those of line `k` for the values 0 and 1 are the words `2 * k` and `2 * k + 1`.
 #[derive(Drop)]
 pub struct Planes<W: Word> {
-    size: Outline<W>,
+    size: Size,
     rows: Vec<W>,
     columns: Vec<W>,
     changes: Vec<Change<W>>,
@@ -58,18 +56,19 @@ impl<W: Word> Planes<W> {
         ensures fresh { IfOk result (λ p. IsFresh size (all_of (size.w * size.h) 2) p) }
         ensures room { IfOk result (λ p. length p.takings ≡ size.w * size.h * 2) }
     {
-        let outline = Outline::new(size);
+        let w = usize::from(size.w());
+        let h = usize::from(size.h());
         let mut rows = copies(alloc, W::none(), 2 * W::places())?;
         let mut columns = copies(alloc, W::none(), 2 * W::places())?;
-        write_lines(&mut rows, 0, usize::from(size.h()), outline.columns());
-        write_lines(&mut columns, 0, usize::from(size.w()), outline.rows());
+        write_lines(&mut rows, 0, h, W::all(w));
+        write_lines(&mut columns, 0, w, W::all(h));
         let nothing = Change {
             line: Line::Row(0),
             value: 0,
             bits: W::none(),
         };
         Ok(Planes {
-            size: outline,
+            size,
             rows,
             columns,
             changes: copies(alloc, nothing, size.cells() * 2)?,
@@ -85,21 +84,11 @@ impl<W: Word> Planes<W> {
         ensures fresh { IsFresh size (all_of (size.w * size.h) 2) self.new }
         ensures room { length self.new.takings ≡ length self.old.takings }
     {
-        let outline = Outline::new(size);
-        let had = self.size();
-        write_lines(
-            &mut self.rows,
-            usize::from(had.h()),
-            usize::from(size.h()),
-            outline.columns(),
-        );
-        write_lines(
-            &mut self.columns,
-            usize::from(had.w()),
-            usize::from(size.w()),
-            outline.rows(),
-        );
-        self.size = outline;
+        let w = usize::from(size.w());
+        let h = usize::from(size.h());
+        write_lines(&mut self.rows, usize::from(self.size.h()), h, W::all(w));
+        write_lines(&mut self.columns, usize::from(self.size.w()), w, W::all(h));
+        self.size = size;
         self.len = 0;
     }
 
@@ -115,21 +104,21 @@ impl<W: Word> Planes<W> {
         ensures value { result ≡ self.now.size }
         ensures lawful { ArePlanes W.room self.now }
     {
-        self.size.size()
+        self.size
     }
 
     /// All columns: the places of a row.
     pub fn columns(&self) -> W
         ensures { (x : ℕ) → has_bit (W.bits result) x ≡ nat_lt x self.now.size.w }
     {
-        self.size.columns()
+        W::all(usize::from(self.size.w()))
     }
 
     /// All rows: the places of a column.
     pub fn rows(&self) -> W
         ensures { (y : ℕ) → has_bit (W.bits result) y ≡ nat_lt y self.now.size.h }
     {
-        self.size.rows()
+        W::all(usize::from(self.size.h()))
     }
 
     /// The row and the column of a cell. Behind the last cell a row begins.
@@ -141,7 +130,8 @@ impl<W: Word> Planes<W> {
         ensures column_in { result.1 < self.now.size.w }
         ensures lawful { ArePlanes W.room self.now }
     {
-        self.size.split(place)
+        let w = usize::from(self.size.w());
+        (place / w, place % w)
     }
 
     /// The cells of a row that can have the value.

@@ -1,7 +1,7 @@
 //! The puzzles of Pattern.
 
 ghost use Rattle.std.specs.Prelude.{◌≡◌, ◌<◌, ◌+◌, ◌*◌, ℕ, length, [], slice_index, slice_index_or, IfOk};
-ghost use Rattle.gameid_core.specs.Common.{IsGrid, IsPattern, Pattern, column_cells, lines_of, pattern_puzzle, row_cells, runs};
+ghost use Rattle.gameid_core.specs.Common.{IsGrid, IsPattern, Pattern, column_cells, lines_of, lines_runs, pattern_puzzle, row_cells, runs};
 
 use crate::pattern::black_runs::runs_of_lines;
 use crate::pattern::clues::Clues;
@@ -33,6 +33,7 @@ impl PatternPuzzle {
     pub fn of_grid(alloc: Global, size: Size, grid: &Grid) -> Result<PatternPuzzle, AllocError>
         requires { IsGrid (size.w * size.h) 2 grid.now }
         ensures lawful { IfOk result (λ p. IsPattern p) }
+        ensures exact { IfOk result (λ p. p ≡ pattern_puzzle size (lines_runs size grid.now)) }
         ensures size { IfOk result (λ p. p.size ≡ size) }
         ensures columns { IfOk result (λ p. (x : ℕ) → x < size.w
             → slice_index_or p.clues x [] ≡ runs (column_cells size grid.now x)) }

@@ -1,13 +1,15 @@
 //! How grids of Solo are printed and read. A number is one less than what is printed of it, in
 //! decimal, with one space between two cells.
 
-ghost use Rattle.gameid_core.specs.Common.{hides_nothing, solo_n};
+ghost use Rattle.std.specs.Prelude.{◌≡◌, ◌<◌, ◌≤◌, ◌++◌, ℕ, List, false, length, decimal};
+ghost use Rattle.std.specs.Char.{is_ascii_digit};
+ghost use Rattle.gameid_core.specs.Common.{begins, hides_nothing, solo_n};
 ghost use Rattle.gameid_core.specs.SoloText.{solo_cell, solo_extent};
 
 use crate::grids::printed::Printed;
 use crate::grids::readable::Readable;
 use crate::solo::puzzle::SoloPuzzle;
-use crate::text::digits::read_number;
+use crate::text::number::leading_number;
 use crate::text::writing::push_number;
 use grid_core::{Grid, Size};
 use std::alloc::AllocError;
@@ -39,10 +41,20 @@ impl Readable for SoloPuzzle {
         if spaces > text.len() {
             return None;
         }
-        let (number, digits) = read_number(&text[spaces..])?;
-        if number == 0 || number > self.n() {
+        let (number, digits) = number_at(&text[spaces..]);
+        if number == 0 || number > u32::from(self.n()) {
             return None;
         }
-        Some((number - 1, spaces + digits))
+        Some(((number - 1) as u8, spaces + digits))
     }
+}
+
+/// The number that the text begins with, or 0, and how many digits it has. No number above 1000 is told from 1000.
+fn number_at(text: &[u8]) -> (u32, usize)
+    ensures within { result.1 ≤ length text.now }
+    ensures read { (n : ℕ) (after : List ℕ) → n < 100 → begins is_ascii_digit after ≡ false
+        → text.now ≡ decimal n ++ after → result ≡ (n, length (decimal n)) }
+{
+    let (number, rest) = leading_number(text);
+    (number, text.len() - rest.len())
 }

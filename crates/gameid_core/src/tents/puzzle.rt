@@ -1,7 +1,7 @@
 //! The puzzles of Tents.
 
 ghost use Rattle.std.specs.Prelude.{◌≡◌, ◌<◌, ◌≤◌, ◌+◌, ◌*◌, ℕ, IsTrue, IfOk, length, slice_index, ◌↔◌};
-ghost use Rattle.gameid_core.specs.Common.{IsGrid, IsTents, Tents, column_cells, lines_of, ones, row_cells, tents_puzzle};
+ghost use Rattle.gameid_core.specs.Common.{IsGrid, IsTents, Tents, column_cells, lines_of, lines_ones, ones, row_cells, tents_puzzle};
 
 use crate::lines::ones::{numbers_of, ones_of_lines};
 use grid_core::{Grid, Size};
@@ -42,6 +42,8 @@ impl TentsPuzzle {
         requires trees { IsGrid (size.w * size.h) 2 trees.now }
         requires tents { IsGrid (size.w * size.h) 2 tents.now }
         ensures lawful { IfOk result (λ p. IsTents p) }
+        ensures exact { IfOk result
+            (λ p. p ≡ tents_puzzle size trees.now (lines_ones size tents.now)) }
         ensures size { IfOk result (λ p. p.size ≡ size) }
         ensures trees { IfOk result (λ p. p.trees ≡ trees.now) }
         ensures columns { IfOk result (λ p. (x : ℕ) → x < size.w

@@ -1,5 +1,5 @@
 use Rattle.gameid_core.specs.Common.{ap, arith, length, length-set, refl, ◌*◌, ◌+◌, ◌<◌, ◌∙◌}
-use Rattle.gameid_core.proofs.PrintedRows.{all_left, known_cell, cell_read, cell_not_missed, fit_more, agree_more, none_left, in_grid}
+use Rattle.gameid_core.proofs.PrintedRows.{all_left, known_cell, cell_read, cell_not_missed, fit_more, agree_more, in_grid}
 use Rattle.gameid_core.proofs.grids.reader.read_row.Goals as goal
 
 pub loop-x-init : goal.loop-x-init
@@ -44,12 +44,3 @@ returns-in_err-value-clause-read g c grid more shown is agree =
     c.loop-x-test.true so_far.0
     (λ after follows split. c.in_err-value.ensures.read grid after shown follows split) in
     absurd (cell_not_missed known refl)
-
-pub returns-in_err-byte-clause-read : goal.returns-in_err-byte-clause-read
-returns-in_err-byte-clause-read g c grid more shown is agree = grind (arith, none_left)
-
-pub returns-then-byte-eq10-clause-read : goal.returns-then-byte-eq10-clause-read
-returns-then-byte-eq10-clause-read g c grid more shown is agree = grind (arith, none_left)
-
-pub returns-else-byte-eq10-clause-read : goal.returns-else-byte-eq10-clause-read
-returns-else-byte-eq10-clause-read g c grid more shown is agree = grind (arith, none_left)

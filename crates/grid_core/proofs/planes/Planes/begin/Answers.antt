@@ -13,24 +13,22 @@ filled g c =
     let r = rw (← c.self.view_is) at c.requires in
     let places : length p.rows.items ≡ 2 * g.W.Word.room = sym (length-map p.rows.items bits) ∙ i.tall in
     let places' : length p.columns.items ≡ 2 * g.W.Word.room = sym (length-map p.columns.items bits) ∙ i.wide in
-    begun bits g.W.Word.room c.args.size c.columns.result c.rows.result p.changes.items c.w-2.ensures.lawful r.narrow r.low
-    (rw c.new-outline.ensures at c.columns.ensures) (rw c.new-outline.ensures at c.rows.ensures)
+    begun bits g.W.Word.room c.args.size c.all.result c.all-2.result p.changes.items c.w.ensures.lawful r.narrow r.low
+    (rw (c.from-w.ensures, c.w.ensures.value) at c.all.ensures) (rw (c.from-h.ensures, c.h.ensures.value) at c.all-2.ensures)
     (omega (arith, length-map p.changes.items (taking_of bits), r.few)) _ _
-    (record { is = rw (c.from-2.ensures, c.h-2.ensures.value) at c.write_lines.ensures.written; long = c.write_lines.ensures.long ∙ places })
-    (record { is = rw (c.from-4.ensures, c.w-2.ensures.value) at c.write_lines-2.ensures.written; long = c.write_lines-2.ensures.long ∙ places' })
+    (record { is = rw (c.from-h.ensures, c.h.ensures.value) at c.write_lines.ensures.written; long = c.write_lines.ensures.long ∙ places })
+    (record { is = rw (c.from-w.ensures, c.w.ensures.value) at c.write_lines-2.ensures.written; long = c.write_lines-2.ensures.long ∙ places' })
 
 pub invariant_of-self : goal.invariant_of-self
-invariant_of-self g c = rw c.new-outline.ensures ((filled g (goal.at.invariant_of-self g c).After-write_lines-2).are)
+invariant_of-self g c = (filled g (goal.at.invariant_of-self g c).After-write_lines-2).are
 
 pub returns-clause-fresh : goal.returns-clause-fresh
-returns-clause-fresh g c = rw c.new-outline.ensures ((filled g (goal.at.returns-clause-fresh g c).After-write_lines-2).fresh)
+returns-clause-fresh g c = (filled g (goal.at.returns-clause-fresh g c).After-write_lines-2).fresh
 
 pub write_lines-requires-clause-others : goal.write_lines-requires-clause-others
 write_lines-requires-clause-others g c =
-    let had = rw (← c.self.view_is) at c.size-had.ensures.value in
-    rw (c.from.ensures, c.h.ensures.value, had) (none-beyond _ _ (λ line place v lt on. (c.self.invariant.words.within line place v lt on).0))
+    rw (c.from.ensures, c.h-2.ensures.value) (none-beyond _ _ (λ line place v lt on. (c.self.invariant.words.within line place v lt on).0))
 
 pub write_lines-requires-2-clause-others : goal.write_lines-requires-2-clause-others
 write_lines-requires-2-clause-others g c =
-    let had = rw (← c.self.view_is) at c.size-had.ensures.value in
-    rw (c.from-3.ensures, c.w.ensures.value, had) (none-beyond _ _ (λ line place v lt on. (c.self.invariant.words.within place line v lt (c.self.invariant.words.agree place line v lt ∙ on)).1))
+    rw (c.from-2.ensures, c.w-2.ensures.value) (none-beyond _ _ (λ line place v lt on. (c.self.invariant.words.within place line v lt (c.self.invariant.words.agree place line v lt ∙ on)).1))

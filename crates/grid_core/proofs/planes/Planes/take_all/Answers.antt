@@ -19,10 +19,7 @@ overflow_add-self g c =
 
 pub turn_line-requires : goal.turn_line-requires
 turn_line-requires g c =
-    let p = c.self.inside in
-    let r = rw (← c.self.view_is) at c.requires in
-    room_at g.W.Word.bits g.W.Word.room p.size p.rows.items p.columns.items p.changes.items p.len _
-    c.self.invariant (taking_in g.W.Word.room _ _ c.self.invariant r)
+    room_at _ _ _ _ _ _ _ c.self.invariant _ (taking_in _ _ _ c.self.invariant (rw (← c.self.view_is) at c.requires))
 
 step : (g : _) (c : After-turn_line g)
     → IsTaken g.W.Word.room
@@ -31,12 +28,8 @@ step : (g : _) (c : After-turn_line g)
     (set c.self.inside.changes.items c.self.inside.len (record { line = c.args.line; value = c.args.value; bits = c.args.bits })) (c.self.inside.len + 1))
     (record { line = c.args.line; value = c.args.value; bits = g.W.Word.bits c.args.bits })
 step g c =
-    let p = c.self.inside in
-    let r = rw (← c.self.view_is) at c.requires in
     let t = c.turn_line.ensures in
-    take_step g.W.Word.bits g.W.Word.room p.size p.rows.items p.columns.items _ _ p.changes.items
-    p.len (record { line = c.args.line; value = c.args.value; bits = c.args.bits })
-    c.self.invariant r t.turned t.tall t.wide
+    take_step _ _ _ _ _ _ _ c.self.invariant _ _ _ (rw (← c.self.view_is) at c.requires) t.turned t.tall t.wide
 
 pub invariant_of-self : goal.invariant_of-self
 invariant_of-self g c = (step g (goal.at.invariant_of-self g c).After-turn_line).are

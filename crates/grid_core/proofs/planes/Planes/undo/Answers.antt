@@ -7,15 +7,10 @@ use Rattle.grid_core.proofs.planes.Planes.undo.Goals.{After-turn_line}
 
 pub turn_line-requires : goal.turn_line-requires
 turn_line-requires g c =
-    let p = c.loop-self.self-inside in
     let i = c.loop-self.invariant in
-    let within =
-    rw (last_read g.W.Word.bits g.W.Word.room p.size p.rows.items p.columns.items
-    p.changes.items p.len c.index-change.result.now i.are
-    (let lt = c.loop-self-test.true in omega arith)
-    c.index-change.ensures) at (i.are.takings.takings_in (p.len - 1)
-    (let lt = c.loop-self-test.true in omega arith)) in
-    room_at g.W.Word.bits g.W.Word.room p.size p.rows.items p.columns.items p.changes.items p.len _ i.are within
+    let lt = c.loop-self-test.true in
+    let last = last_read _ _ _ _ _ _ _ i.are c.index-change.result.now (omega arith) c.index-change.ensures in
+    room_at _ _ _ _ _ _ _ i.are _ (rw last at (i.are.takings.takings_in (c.loop-self.self-inside.len - 1) (omega arith)))
 
 step : (g : _) (c : After-turn_line g)
     → IsPutBack g.W.Word.room
@@ -25,14 +20,11 @@ step : (g : _) (c : After-turn_line g)
     (layers_of g.W.Word.bits c.loop-self.self-inside.size c.turn_line.new.rows.items c.turn_line.new.columns.items
     c.loop-self.self-inside.changes.items (c.loop-self.self-inside.len - 1))
 step g c =
-    let p = c.loop-self.self-inside in
+    let are = c.loop-self.invariant.are in
     let lt = c.loop-self-test.true in
     let t = c.turn_line.ensures in
-    undo_step g.W.Word.bits g.W.Word.room p.size p.rows.items p.columns.items _ _ p.changes.items
-    (p.len - 1) p.len _ c.loop-self.invariant.are (omega arith)
-    (last_read g.W.Word.bits g.W.Word.room p.size p.rows.items p.columns.items p.changes.items
-    p.len c.index-change.result.now c.loop-self.invariant.are (omega arith)
-    c.index-change.ensures) t.turned t.tall t.wide
+    let last = last_read _ _ _ _ _ _ _ are c.index-change.result.now (omega arith) c.index-change.ensures in
+    undo_step _ _ _ _ _ _ _ are _ _ _ _ (omega arith) last t.turned t.tall t.wide
 
 pub loop-self-preserved : goal.loop-self-preserved
 loop-self-preserved g c =
