@@ -59,10 +59,14 @@ not-before : (queue : Bool) (h from : ℕ) → (queue || ltb h from) ≡ false �
 not-before true h from off = absurd (true≢false off)
 not-before false h from off = grind (arith, common_steps, cases_lt h from, lt-ltb h from, true≢false)
 
-pub steps-fall : (bound houses turns more from h : ℕ) (queue : Bool) → turns + more ≤ bound → from ≤ houses → h < houses
-    → more ≡ from_bool (queue || ltb h from)
-    → (bound - (turns + more)) * (houses + 1) + (houses - (h + 1)) < (bound - turns) * (houses + 1) + (houses - from)
-steps-fall bound houses turns more from h queue le past lt counts = elim (cases_Bool (queue || ltb h from)) [
+no-queue : (queue more : Bool) → (queue || more) ≡ false → queue ≡ false
+no-queue true more off = off
+no-queue false more off = refl
+
+pub steps-fall : (bound houses turns more from h next : ℕ) (queue : Bool) → turns + more ≤ bound → from ≤ houses → h < houses
+    → (queue ≡ false → next ≡ h + 1) → more ≡ from_bool (queue || ltb h from)
+    → (bound - (turns + more)) * (houses + 1) + (houses - next) < (bound - turns) * (houses + 1) + (houses - from)
+steps-fall bound houses turns more from h next queue le past lt order counts = elim (cases_Bool (queue || ltb h from)) [
   | inl on ↦ (
       let one : more ≡ 1 = rw on at counts in
       let k : bound - turns ≡ suc (bound - (turns + more)) = omega arith in
@@ -71,7 +75,7 @@ steps-fall bound houses turns more from h queue le past lt counts = elim (cases_
   | inr off ↦ (
       let none : more ≡ 0 = rw off at counts in
       let k : turns + more ≡ turns = omega arith in
-      rw k (omega (arith, not-before queue h from off)))
+      rw (k, order (no-queue queue _ off)) (omega (arith, not-before queue h from off)))
 ]
 
 -- ---- exact closings
@@ -188,6 +192,14 @@ module _ (p : RuleSystem) (laws : IsLawful p) (K0 : Candidates) (within : IsWith
       )
       | inr s ↦ inr (s.0, s.1, amid-turn s.2 v.house_in e (woken-marked p laws h K v.house_in fits e woke))
     ];
+  }
+
+  -- of a queue any house may come next
+  pub underway-on : {turns from next : ℕ} {K : Candidates} {waits : ℕ → Bool} → IsUnderway p K0 turns from K waits → next ≤ p.houses
+      → (p.by_queue ≡ false → next ≡ from) → IsUnderway p K0 turns next K waits
+  underway-on {next} u past order = record {
+    past = past;
+    made = elim u.made [ inl r ↦ inl r | inr s ↦ inr (s.0, s.1, rw (order s.0) s.2) ];
   }
 
   -- a visit that would leave a cell without a value ends the closing, whatever the sweep still visits

@@ -16,13 +16,14 @@ pub record Placed : Type 0 where
   pub waits : List ℕ
 
 -- the lists are as long as that wants, and the board is as large
-pub record IsPlaced (made : Needs) (board : Layout) (sets kept waits : List ℕ)
+pub record IsPlaced (made : Needs) (board : Layout) (sets kept waits first : List ℕ)
     : Type 0 where
   pub board_cells : cells_of board ≡ made.cells
   pub board_values : board.values ≡ made.values
   pub sets_long : length sets ≡ made.scope
   pub kept_long : length kept ≡ made.scope
   pub waits_long : length waits ≡ words_of made.houses
+  pub first_long : length first ≡ words_of made.houses
   pub few_turns : made.bound < 18446744073709551616
 
 abbrev pub board_in : Placed → Candidates

@@ -1,7 +1,7 @@
 //! A board of sets with its trail, as a position.
 #![tactic(auto, using(crate::proofs::LawSets::position_laws))]
 
-ghost use Rattle.std.specs.Prelude.{◌<◌, ◌≡◌, ◌≤◌, IfOk, IfSome, length};
+ghost use Rattle.std.specs.Prelude.{◌<◌, ◌≡◌, ◌≤◌, ◌+◌, IfOk, IfSome, false, length};
 ghost use Rattle.engine_core.specs.Common.{cells_of, max_cells, max_values, IsUnderWay, standing_of, words_of, has, IsAlive, IsClosedIn, HasRoom, IsFiltered, IsTaken, needs_of, IsBoardOf, StillServes, IsAlong, AreRested, GoesOn, IsStep, board_in, is_since, is_waiting, AreWoken, Candidates, IsClosedBut, IsRested};
 
 use crate::mode::Closing;
@@ -72,7 +72,7 @@ fn filter_house<R: Propagators>(
 }
 
 /// A board with its trail. With it go what the rules work in, room for the sets of a house's cells and for what is kept of
-/// them, and a mark for each house that waits.
+/// them, a mark for each house that waits, and one for each that is to come first.
 #[derive(Drop)]
 pub struct TrailPosition<R: Propagators> {
     made: Needs,
@@ -80,6 +80,7 @@ pub struct TrailPosition<R: Propagators> {
     sets: Vec<u32>,
     kept: Vec<u32>,
     waits: Vec<u64>,
+    first: Vec<u64>,
     trailed: TrailedBoard,
 }
 
@@ -95,7 +96,7 @@ impl<R: Propagators> Model for TrailPosition<R> {
     } };
 
     ghost invariant = { λ s. IsPlaced (needs_in s.made) s.trailed.board s.sets.items s.kept.items
-        s.waits.items × R.serves s.scratch (needs_in s.made) };
+        s.waits.items s.first.items × R.serves s.scratch (needs_in s.made) };
 }
 
 impl<R: Propagators> TrailPosition<R> {
@@ -127,13 +128,40 @@ impl<R: Propagators> TrailPosition<R> {
         false
     }
 
+    /// Where to go on after a visit of the house: at the house after it, or at one in which a cell has got its last value, if
+    /// these come first. Marks those of this visit, which noted its changes from the number `before` on.
+    fn next_from(&mut self, rules: &R, house: usize, before: usize, singles_first: bool) -> usize
+        requires along { IsAlong (R.system rules.now) self.old }
+        requires house_in { house < (R.system rules.now).houses }
+        requires before_in { before ≤ self.old.trail.len }
+        ensures same { self.new ≡ self.old }
+        ensures within { result ≤ (R.system rules.now).houses }
+        ensures in_turn { singles_first ≡ false → result ≡ house + 1 }
+    {
+        let houses = rules.houses();
+        if !singles_first {
+            return house + 1;
+        }
+        let board = self.trailed.board();
+        let first: &mut [u64] = &mut self.first;
+        for number in before..self.trailed.len() {
+            let place = self.trailed.changed(number);
+            if board.count(place) == 1 {
+                rules.wake(place, first);
+            }
+        }
+        dequeue(first, house);
+        next_around(first, house + 1, houses).unwrap_or(house + 1)
+    }
+
     /// Closes the board: goes around over the houses that wait and visits each, until none waits or a cell has no value. After
     /// the last house it begins again. Of a queue each visit counts, and else each sweep, also one that stops. At first each
-    /// house waits that strikes anything; it may be more.
-    fn run(&mut self, rules: &R) -> Taken
+    /// house waits that strikes anything; it may be more. Of a queue houses in which a cell gets its last value can come first.
+    fn run(&mut self, rules: &R, singles_first: bool) -> Taken
         requires along { IsAlong (R.system rules.now) self.old }
         requires alive { IsAlive (R.system rules.now) (board_in self.old) }
         requires rested { AreRested (R.system rules.now) self.old }
+        requires queue { (R.system rules.now).by_queue ≡ false → singles_first ≡ false }
         ensures taken { IsTaken (R.system rules.now) (board_in self.old) (board_in self.new)
             result.closing }
         ensures turns { IsClosedIn (R.system rules.now) (board_in self.old) result.turns }
@@ -145,13 +173,14 @@ impl<R: Propagators> TrailPosition<R> {
         let mut from = 0;
         while let Some(house) = next_around(&self.waits, from, rules.houses()) {
             turns += usize::from(by_queue | (house < from));
-            from = house + 1;
+            let before = self.trailed.len();
             if self.step(rules, house) {
                 return Taken {
                     closing: Closing::Dead,
                     turns,
                 };
             }
+            from = self.next_from(rules, house, before, singles_first);
         }
         Taken {
             closing: Closing::Open,
@@ -179,6 +208,7 @@ impl<R: Propagators> Position for TrailPosition<R> {
             sets: vec![in alloc; 0u32; made.scope]?,
             kept: vec![in alloc; 0u32; made.scope]?,
             waits: vec![in alloc; 0u64; made.houses / 64 + 1]?,
+            first: vec![in alloc; 0u64; made.houses / 64 + 1]?,
             trailed: TrailedBoard::new(alloc, made.cells, made.values)?,
         })
     }
@@ -206,8 +236,9 @@ impl<R: Propagators> Position for TrailPosition<R> {
                 turns: 0,
             };
         }
+        self.first.fill(0);
         wait_from(rules, from, &mut self.waits);
-        self.run(rules)
+        self.run(rules, by_queue::<R>() & from.is_some())
     }
 
     fn pick(&self, rules: &R, from: usize) -> Option<usize> {

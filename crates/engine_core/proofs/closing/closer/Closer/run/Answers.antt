@@ -95,7 +95,7 @@ loop-house-smaller g c =
           omega (arith, more g at queue (alive g at on queue), one))
       | inr sweeps ↦ amid-few p (g.met.R.Rules.lawful c.args.rules.now) _ (within_of _ _ c.requires.board_of) (here g at on counts sweeps).amid sweeps
     ] in
-    steps-fall _ _ _ _ _ _ _ few c.loop-house.invariant.past (around-in _ _ _ _ (around g at)).0 counts
+    steps-fall _ _ _ _ _ _ _ _ few c.loop-house.invariant.past (around-in _ _ _ _ (around g at)).0 (λ _. refl) counts
 
 pub loop-house-preserved : goal.loop-house-preserved
 loop-house-preserved g c =

@@ -1,6 +1,6 @@
 use Rattle.std.specs.Int.{from_bool}
 use Rattle.engine_core.proofs.Common.{IsClosedIn, IsTaken, Open, arith, board_in, is_waiting, ltb, sym, ℕ, ◌+◌, ◌||◌, ◌∙◌, ◌≡◌}
-use Rattle.engine_core.proofs.AroundLemmas.{IsAtHouse, steps-fall, underway-dead, underway-first, underway-next, underway-open, underway-turn}
+use Rattle.engine_core.proofs.AroundLemmas.{IsAtHouse, steps-fall, underway-dead, underway-first, underway-next, underway-on, underway-open, underway-turn}
 use Rattle.engine_core.proofs.QueueLemmas.{within_of}
 use Rattle.engine_core.proofs.TrailLemmas.{on-none, on-more}
 use Rattle.engine_core.proofs.trail.position.TrailPosition.run.Goals as goal
@@ -34,7 +34,9 @@ overflow_add-turns g c =
 pub loop-house-smaller : goal.loop-house-smaller
 loop-house-smaller g c =
     let v = next g (goal.at.loop-house-smaller g c).In-Some c.from-turns-in-Some.ensures in
-    steps-fall _ _ _ _ _ _ _ v.few c.loop-house.invariant.underway.past v.house_in c.from-turns-in-Some.ensures
+    let mode = c.by_queue-by_queue.ensures ∙ sym (g.met.R.Rules.mode_is c.args.rules.now) in
+    steps-fall _ _ _ _ _ _ _ _ v.few c.loop-house.invariant.underway.past v.house_in
+    (λ sweeps. c.next_from-from.ensures.in_turn (c.requires.queue (sym mode ∙ sweeps))) c.from-turns-in-Some.ensures
 
 pub loop-house-preserved : goal.loop-house-preserved
 loop-house-preserved g c =
@@ -42,12 +44,16 @@ loop-house-preserved g c =
     let e = c.step.ensures in
     let s = rw c.if-step.false at e.step in
     let v = next g (goal.at.loop-house-preserved g c).In-Some c.from-turns-in-Some.ensures in
-    record {
-      underway = underway-turn _ (g.met.R.Rules.lawful c.args.rules.now) _ (within_of _ _ c.requires.along.board_of) v _ _ (within_of _ _ i.along.board_of) s.0 s.2 s.1;
+    let to = c.next_from-from.ensures in
+    rw to.same (record {
+      underway =
+          underway-on _ (g.met.R.Rules.lawful c.args.rules.now) _ (within_of _ _ c.requires.along.board_of)
+          (underway-turn _ (g.met.R.Rules.lawful c.args.rules.now) _ (within_of _ _ c.requires.along.board_of) v _ _ (within_of _ _ i.along.board_of) s.0 s.2 s.1)
+          to.within (λ sweeps. to.in_turn (c.requires.queue sweeps));
       alive = s.1;
       along = e.along;
       onward = on-more i.onward e.onward;
-    }
+    })
 
 -- a visit that would leave a cell without a value ends the closing
 pub returns-then-step-clause-taken : goal.returns-then-step-clause-taken
