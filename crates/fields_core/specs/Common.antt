@@ -60,5 +60,5 @@ pub use Rattle.fields_core.specs.Tents.{tent, tent_cells, tree}
 unfoldable pub use Rattle.fields_core.specs.Tents.{can_be_paired, touches}
 pub use Rattle.fields_core.specs.Trees.{AreBare, AreRowsOf, IsNear, IsRowOf, trees_of_row}
 unfoldable pub use Rattle.fields_core.specs.Trees.{is_beside, wants_tent, without_zeros}
-pub use Rattle.fields_core.specs.Visits.{AreVisited, HasBrokenSquare, IsFieldOf}
-pub use Rattle.fields_core.specs.Waits.{DiesIn, IsTouched, AreIdle, AreRested, AreWoken, kind_houses, kind_lines, waiting}
+pub use Rattle.fields_core.specs.Visits.{AreVisited, IsFieldOf}
+pub use Rattle.fields_core.specs.Waits.{AreIdle, AreRested, AreWoken, kind_houses, kind_lines, waiting}
