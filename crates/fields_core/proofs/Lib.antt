@@ -40,7 +40,6 @@ pub mod TreeBoards
 pub mod TreeWords
 pub mod SquareLemmas
 pub mod SquareVisits
-pub mod ColumnSquares
 pub mod IdleLemmas
 pub mod TentWaits
 pub mod TentSweeps

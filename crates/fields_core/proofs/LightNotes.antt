@@ -1,12 +1,12 @@
 -- Runs of Light Up with two cells that can have a bulb, or with one that must, as words.
-use Rattle.fields_core.proofs.Common.{Bool, or_cases, Candidates, any_below, any_below-some, not-true, Light, Layers, List, and_parts, arith, cases_eq, count_below, div-mul-add, false, false_from_ne_true, true≢false, ◌⊎◌, not, get_or, get_or-set_other, get_or-set_same, has_bit, inl, inr, joined_in_column, joined_in_row, length, length-map, light_cells, ltb-true, map, refl, set, slice_index, sym, true, white, ℕ, ◌&&◌, ◌*◌, ◌+◌, ◌<◌, ◌||◌, ◌∙◌, ◌≡◌, ◌≢◌, ◌≤◌}
+use Rattle.fields_core.proofs.Common.{Bool, or_cases, Candidates, any_below, any_below-some, not-true, Light, Layers, List, and_parts, arith, cases_eq, count_below, div-mul-add, false, true≢false, not, get_or, get_or-set_other, get_or-set_same, has_bit, inl, inr, joined_in_column, joined_in_row, length, length-map, light_cells, ltb, ltb-true, map, refl, set, slice_index, sym, true, white, ℕ, ◌&&◌, ◌*◌, ◌+◌, ◌%◌, ◌<◌, ◌||◌, ◌∙◌, ◌≡◌, ◌≢◌, ◌≤◌}
 use Rattle.std.proofs.lemmas.List.{map-set}
-use Rattle.grid_core.specs.Candidates.{IsInside}
+use Rattle.std.proofs.lemmas.Nat.{mod-mul-add}
 use Rattle.grid_core.specs.Planes.{bit_of, has}
 use Rattle.fields_core.proofs.AtMostLemmas.{IsFull}
 use Rattle.grid_core.proofs.PlaneLemmas.{place-in}
-use Rattle.fields_core.specs.LightWaits.{AreSafe, AreSafeInColumns, HasBulb}
-use Rattle.fields_core.specs.LightWords.{IsRowRun}
+use Rattle.fields_core.specs.LightWaits.{AreSafe, AreSafeInColumns}
+use Rattle.fields_core.specs.LightWords.{IsColumnRun, IsRowRun}
 use Rattle.fields_core.specs.Trees.{IsRowOf}
 use Rattle.fields_core.proofs.LightHouseLaws.{column-both, column-next, column-self, row-both}
 use Rattle.fields_core.proofs.LitVisits.{has-at}
@@ -66,6 +66,21 @@ module _ (p : Light) (y x : ℕ) (x_in : x < p.size.w) where
           apart = inr (has-at planes y w.0 0 (rw size refl) a.0 (omega arith) ∙ not-true _ is.1);
         }
 
+  -- one of its column run that must
+  pub column-must : (run : ℕ) → IsColumnRun p cell run → (planes : Layers) (bits room : ℕ) → planes.size ≡ p.size → IsFull (light_cells p) (has planes)
+      → ((k : ℕ) → has_bit bits k ≡ (has_bit run k && not (bit_of planes.rows k 0 x))) → any_below (has_bit bits) room ≡ true
+      → AreSafe (joined_in_column p cell) (has planes)
+  column-must run is planes bits room size full must some =
+      let w = any_below-some (has_bit bits) room some in
+      let there = and_parts _ _ (sym (must w.0) ∙ w.2) in
+      let joined = and_parts (ltb w.0 p.size.h) (joined_in_column p cell (w.0 * p.size.w + cell % p.size.w)) (sym (is w.0) ∙ there.0) in
+      let off = has-at planes w.0 x 0 (rw size refl) x_in (omega arith) ∙ not-true _ there.1 in
+      let in_run = rw (mod-mul-add y p.size.w x x_in) at joined.1 in
+      elim (full.some (w.0 * p.size.w + x) (place-in p.size.w p.size.h w.0 x (ltb-true w.0 p.size.h joined.0) x_in)) [
+        | inl zero ↦ absurd (true≢false (sym zero ∙ off))
+        | inr on ↦ record { one = w.0 * p.size.w + x; other = w.0 * p.size.w + x; one_in = in_run; other_in = in_run; one_on = on; other_on = on; apart = inr off }
+      ]
+
 -- the same of another cell that is joined to them
 pub safe-moved : {joined other : ℕ → Bool} {K : Candidates} → ((c : ℕ) → joined c ≡ true → other c ≡ true) → AreSafe joined K → AreSafe other K
 safe-moved move safe = record {
@@ -77,29 +92,6 @@ safe-moved move safe = record {
   other_on = safe.other_on;
   apart = safe.apart;
 }
-
--- of its column run two cells can have a bulb at first, or one must now
-abbrev pub IsPassed : Light → ℕ → Candidates → Candidates → Type 0
-IsPassed p c K now = AreSafe (joined_in_column p c) K ⊎ HasBulb p (joined_in_column p c) now
-
-pub passed-white : (p : Light) (c : ℕ) (K now : Candidates) → IsPassed p c K now → white p c ≡ true
-passed-white p c K now (inl safe) = column-white-start p c safe.one safe.one_in
-passed-white p c K now (inr bulb) = column-white-start p c bulb.0 bulb.2
-
-pub passed-moved : (p : Light) (c d : ℕ) (K now : Candidates) → ((e : ℕ) → joined_in_column p c e ≡ true → joined_in_column p d e ≡ true)
-    → IsPassed p c K now → IsPassed p d K now
-passed-moved p c d K now move (inl safe) = inl (safe-moved move safe)
-passed-moved p c d K now move (inr bulb) = inr (bulb.0, bulb.1, move bulb.0 bulb.2, bulb.3)
-
-pub passed-later : (p : Light) (c : ℕ) (K now later : Candidates) → IsInside later now → IsPassed p c K now → IsPassed p c K later
-passed-later p c K now later inside (inl safe) = inl safe
-passed-later p c K now later inside (inr bulb) = inr (bulb.0, bulb.1, bulb.2, false_from_ne_true _ (λ on. true≢false (sym (inside bulb.0 0 on) ∙ bulb.3)))
-
-pub bulb-safe : (p : Light) {cells : ℕ → Bool} {K : Candidates} → IsFull (light_cells p) K → HasBulb p cells K → AreSafe cells K
-bulb-safe p full bulb = elim (full.some bulb.0 bulb.1) [
-  | inl zero ↦ absurd (true≢false (sym zero ∙ bulb.3))
-  | inr on ↦ record { one = bulb.0; other = bulb.0; one_in = bulb.2; other_in = bulb.2; one_on = on; other_on = on; apart = inr bulb.3 }
-]
 
 -- of another cell of the run
 pub row-moved : (p : Light) (y x k : ℕ) (x_in : x < p.size.w) (run : ℕ) → IsRowRun p (y * p.size.w + x) run → has_bit run k ≡ true → {K : Candidates}

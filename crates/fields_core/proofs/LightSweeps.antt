@@ -1,10 +1,10 @@
 -- Sweeps of the houses of Light Up on planes.
-use Rattle.fields_core.proofs.Common.{AllByRecursion, IsAlive, IsLight, Layers, Light, append_assoc, ap, arith, column_house, houses_below, length, light_cells, light_houses, light_rules, lit_house, not, refl, row_house, true, white, ℕ, Bool, ◌*◌, ◌++◌, ◌+◌, ◌<◌, ◌∙◌, ◌≡◌, ◌≤◌, ◌⊎◌}
+use Rattle.fields_core.proofs.Common.{AllByRecursion, CountHouse, List, IsAlive, IsLight, Layers, Light, append_assoc, ap, arith, column_house, false_from_ne_true, houses_below, inl, inr, length, light_cells, light_houses, light_rules, lit_house, not, refl, row_house, sym, true, true≢false, white, ℕ, Bool, ◌*◌, ◌++◌, ◌+◌, ◌<◌, ◌∙◌, ◌≡◌, ◌≤◌, ◌⊎◌}
 use Rattle.grid_core.specs.Planes.{IsFurther, has}
 use Rattle.grid_core.proofs.PlaneLemmas.{place-in}
 use Rattle.fields_core.specs.Light.{solves_lights}
 use Rattle.fields_core.specs.LightPlanes.{ArePlanesOf}
-use Rattle.fields_core.specs.LightWaits.{AreLightsReady, AreLinesRested, IsReach, lits_of_row, run_houses, run_lines, white_houses}
+use Rattle.fields_core.specs.LightWaits.{AreLightsReady, AreLinesRested, AreSafe, IsReach, lits_of_row, run_houses, run_lines, white_houses}
 use Rattle.fields_core.specs.LightWords.{numbers_of_row}
 use Rattle.fields_core.specs.Sweeps.{IsSweep}
 use Rattle.fields_core.specs.Visits.{AreVisited}
@@ -14,7 +14,8 @@ use Rattle.fields_core.specs.declared.planes.lights.waits.RunKind.{RunKind}
 use Rattle.fields_core.specs.declared.planes.lights.waits.RunKind.TheVariants.{Rows, Columns}
 use Rattle.fields_core.proofs.AnyOrder.{IsSingle}
 use Rattle.fields_core.proofs.LightRests.{below-idle, lits-each}
-use Rattle.fields_core.proofs.LitIdle.{IsAll}
+use Rattle.fields_core.proofs.LitIdle.{IsAll, alls-ones}
+use Rattle.fields_core.proofs.LitRuns.{planes-full}
 use Rattle.fields_core.proofs.NumberRows.{numbers-are}
 use Rattle.fields_core.proofs.PlaneSweeps.{visits-swept}
 use Rattle.fields_core.proofs.QuietVisits.{alls-quiet, quiet-done, quiet-one, quiet-stays, singles-quiet}
@@ -31,10 +32,10 @@ pub runs-done : {room : ℕ} (p : Light) (kind : RunKind) {from to : Layers} →
     → AreVisited (houses_below (run_houses p kind) (run_lines p kind)) from to true → (k : ℕ) → k < run_lines p kind → AreIdle (run_houses p kind k) (has to)
 runs-done p kind of visited = quiet-done p (singles-quiet (light_cells p)) (run_houses p kind) (λ k lt. runs-single p kind k of.lawful lt) of (omega arith) visited
 
-lit-all : (p : Light) (y x : ℕ) → IsLight p → y < p.size.h → x < p.size.w → AllByRecursion (IsAll (light_cells p)) (lit_house p (y * p.size.w + x))
+pub lit-all : (p : Light) (y x : ℕ) → IsLight p → y < p.size.h → x < p.size.w → AllByRecursion (IsAll (light_cells p)) (lit_house p (y * p.size.w + x))
 lit-all p y x lawful y_in x_in = lits-each p (y * p.size.w + x) lawful (place-in p.size.w p.size.h y x y_in x_in)
 
-row-lits : (p : Light) (y : ℕ) → IsLight p → y < p.size.h → AllByRecursion (IsAll (light_cells p)) (lits_of_row p y)
+pub row-lits : (p : Light) (y : ℕ) → IsLight p → y < p.size.h → AllByRecursion (IsAll (light_cells p)) (lits_of_row p y)
 row-lits p y lawful y_in = all-houses (IsAll (light_cells p)) (λ x. lit_house p (y * p.size.w + x)) p.size.w (λ x lt. lit-all p y x lawful y_in lt)
 
 -- in a row, and row by row
@@ -64,6 +65,31 @@ pub runs-kept : {room : ℕ} (p : Light) (kind : RunKind) (j k : ℕ) {from to :
 runs-kept p kind j k of j_in k_in visited idle =
     quiet-one p (singles-quiet (light_cells p)) (run_houses p kind j) (runs-single p kind j of.lawful j_in) of visited
     (run_houses p kind k) (runs-single p kind k of.lawful k_in) idle
+
+-- two cells that can have a bulb still can, and one that must still must: visits of white cells take no 1
+pub lits-safe : {room : ℕ} (p : Light) (houses : List CountHouse) {from to : Layers} {cells : ℕ → Bool} → AllByRecursion (IsAll (light_cells p)) houses
+    → ArePlanesOf room p from → AreVisited houses from to true → AreSafe cells (has from) → AreSafe cells (has to)
+lits-safe p houses {from} {to} each of visited safe =
+    let after = rw (visited.left refl) at (planes-full p to (visited.further.same_size ∙ of.size) visited.alive) in
+    let ones : (c : ℕ) → has to c 1 ≡ has from c 1 =
+    λ c. rw (visited.left refl) (alls-ones (light_cells p) houses (has from) each (planes-full p from of.size of.alive) after c) in
+    record {
+      one = safe.one;
+      other = safe.other;
+      one_in = safe.one_in;
+      other_in = safe.other_in;
+      one_on = ones safe.one ∙ safe.one_on;
+      other_on = ones safe.other ∙ safe.other_on;
+      apart = elim safe.apart [
+        | inl ne ↦ inl ne
+        | inr must ↦ inr (false_from_ne_true _ (λ on. true≢false (sym (visited.further.inside safe.one 0 on) ∙ must)))
+      ];
+    }
+
+pub rows-safe : {room : ℕ} (p : Light) (m : ℕ) {from to : Layers} {cells : ℕ → Bool} → ArePlanesOf room p from → m ≤ p.size.h
+    → AreVisited (houses_below (lits_of_row p) m) from to true → AreSafe cells (has from) → AreSafe cells (has to)
+rows-safe p m of le visited safe =
+    lits-safe p (houses_below (lits_of_row p) m) (all-houses (IsAll (light_cells p)) (lits_of_row p) m (λ y lt. row-lits p y of.lawful (omega arith))) of visited safe
 
 -- rows that no cell that waits is in
 pub out-idle : {W : Type 0} {bits : W → ℕ} {room : ℕ} {p : Light} {from : Layers} {notes : LightNotes W} {first end : ℕ} → AreLightsReady bits room p from notes

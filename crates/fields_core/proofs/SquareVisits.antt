@@ -11,7 +11,7 @@ use Rattle.fields_core.proofs.SquareLemmas.{each-square, house-is, in_columns, i
 use Rattle.fields_core.proofs.VisitLemmas.{below-rows, visited-none}
 
 -- ---- visits of the squares of two rows
-pub zero-at : (q : Layers) (y u : ℕ) {w : ℕ} → q.size.w ≡ w → u < w → has q (y * w + u) 0 ≡ bit_of q.rows y 0 u
+zero-at : (q : Layers) (y u : ℕ) {w : ℕ} → q.size.w ≡ w → u < w → has q (y * w + u) 0 ≡ bit_of q.rows y 0 u
 unfolding has
 zero-at q y u same lt = rw (same, div-mul-add y _ u lt, place-column _ y u lt) refl
 
@@ -45,28 +45,6 @@ rows-struck from middle last y near upper lower width same upper_is lower_is fir
         → ((k && not (z && (a && s))) && not (z && (b && t))) ≡ (k && not (z && (o && ((a || b) && n))))
     by k z a b n o s t e f = grind (arith, common_steps, cases_Bool k, cases_Bool z, cases_Bool a, cases_Bool b, cases_Bool n, cases_Bool o)
 
--- two cells without 0 in a square
-pub touching-die : (p : Tents) (y : ℕ) (from : Layers) → IsTents p → y + 1 < p.size.h → from.size ≡ p.size → IsAlive from → (x d e : ℕ) → x + 1 < p.size.w → d ≢ e
-    → in_rows p.size.w y d ≡ true → in_columns p.size.w x d ≡ true → in_rows p.size.w y e ≡ true → in_columns p.size.w x e ≡ true
-    → zeros_of (has from) d ≡ false → zeros_of (has from) e ≡ false → AreVisited (squares_of_row p y) from from false
-touching-die p y from lawful low size alive x d e lt ne row_d column_d row_e column_e off_d off_e =
-    let in_d = square-has p.size.w y x d lt ∙ and_from _ _ row_d column_d in
-    let in_e = square-has p.size.w y x e lt ∙ and_from _ _ row_e column_e in
-    record {
-      left = λ on. absurd (false≢true on);
-      dies = λ _. (
-        d,
-        rw size ((house-is p y lawful low x lt).within d in_d),
-        λ v small.
-            visits-two (tent_cells p) (squares_of_row p y) (has from) d e v
-            (each-square p y lawful low (λ house. IsHouse (tent_cells p) house × (house.most ≡ 1)) (λ k less. (house-is p y lawful low k less, refl)))
-            ne (some-square p y lawful low (λ house. has_place house.places d && has_place house.places e) x lt (and_from _ _ in_d in_e))
-            off_d off_e small,
-      );
-      alive = alive;
-      further = further-none from;
-    }
-
 -- words of the columns in which both cells of two rows have no 0, and of those in which one has none
 pub record AreMust (from : Layers) (w y room twice must : ℕ) : Type 0 where
   pub fits : w ≤ room
@@ -97,10 +75,26 @@ module _ (p : Tents) (y : ℕ) (from : Layers) (room twice must : ℕ) (lawful :
   twice-at : (u : ℕ) → u < w → has_bit twice u ≡ not (zeros (y * w + u) || zeros ((y + 1) * w + u))
   twice-at u lt = are.twice_is u ∙ rw (lt-ltb u w lt, upper-at u lt, lower-at u lt) refl
 
+  -- two cells without 0 in a square
   two-die : (x d e : ℕ) → x + 1 < w → d ≢ e → in_rows w y d ≡ true → in_columns w x d ≡ true → in_rows w y e ≡ true
       → in_columns w x e ≡ true → zeros d ≡ false → zeros e ≡ false → AreVisited (squares_of_row p y) from from false
   two-die x d e lt ne row_d column_d row_e column_e off_d off_e =
-      touching-die p y from lawful low size alive x d e lt ne row_d column_d row_e column_e off_d off_e
+      let in_d = square-has w y x d lt ∙ and_from _ _ row_d column_d in
+      let in_e = square-has w y x e lt ∙ and_from _ _ row_e column_e in
+      record {
+        left = λ on. absurd (false≢true on);
+        dies = λ _. (
+          d,
+          rw size ((house-is p y lawful low x lt).within d in_d),
+          λ v small.
+              visits-two (tent_cells p) (squares_of_row p y) (has from) d e v
+              (each-square p y lawful low (λ house. IsHouse (tent_cells p) house × (house.most ≡ 1)) (λ k less. (house-is p y lawful low k less, refl)))
+              ne (some-square p y lawful low (λ house. has_place house.places d && has_place house.places e) x lt (and_from _ _ in_d in_e))
+              off_d off_e small,
+        );
+        alive = alive;
+        further = further-none from;
+      }
 
   must-cell : (u : ℕ) → u < w → must_in zeros w y u ≡ true
       → (d : ℕ) × (in_rows w y d ≡ true) × (d % w ≡ u) × (zeros d ≡ false)

@@ -1,20 +1,16 @@
 -- Visits of count houses, one after another, and which houses are among those of a puzzle.
-use Rattle.std.proofs.Common.{◌≡◌, ◌∙◌, ℕ, zero, suc, ◌+◌, ◌*◌, ◌-◌, ◌<◌, Bool, true, false, not, List, [], ◌∷◌, ◌++◌, length, slice_index, refl, sym, ap, append_assoc, length-append, subst, arith}
+use Rattle.std.proofs.Common.{◌≡◌, ◌∙◌, ℕ, zero, suc, ◌+◌, ◌*◌, ◌-◌, ◌<◌, Bool, true, false, List, [], ◌∷◌, ◌++◌, length, slice_index, refl, sym, ap, append_assoc, length-append, subst, arith}
 use Rattle.std.specs.List.{range_with_len}
 use Rattle.std.proofs.Math.Seq.{get_or-append_seam}
-use Rattle.std.proofs.lemmas.Bool.{and_from, and_parts, cases_Bool, true≢false, false_from_ne_true}
-use Rattle.std.proofs.lemmas.Grind.{common_steps}
+use Rattle.std.proofs.lemmas.Bool.{and_parts, true≢false, false_from_ne_true}
 use Rattle.std.proofs.lemmas.List.{append-nil, get_or_append_left, get_or-append_right}
 use Rattle.grid_core.specs.Candidates.{Candidates, IsInside}
 use Rattle.grid_core.specs.Planes.{Layers, has, cells_of, IsFurther}
 use Rattle.grid_core.proofs.PlaneLemmas.{further-more, further-none}
 use Rattle.engine_core.specs.RuleSystem.{after}
 use Rattle.engine_core.specs.Closing.{replay}
-use Rattle.engine_core.specs.Filling.{strikes_by_fillings}
-use Rattle.engine_core.specs.HouseSetsLaws.{strikes_at-inside, by_fillings-monotone}
 use Rattle.engine_core.specs.PlaceLaws.{has_place-here}
-use Rattle.fields_core.specs.Count.{counts_between}
-use Rattle.fields_core.specs.CountHouse.{CountHouse, no_count_house, houses_below, after_house, strikes_of, count_house_of, count_puzzle, meets, AreHouses, AreMet, CountPuzzle, IsHouse}
+use Rattle.fields_core.specs.CountHouse.{CountHouse, no_count_house, houses_below, after_house, count_house_of, count_puzzle, meets, AreHouses, AreMet, CountPuzzle, IsHouse}
 use Rattle.fields_core.specs.Parts.{IsAlive, IsBroken}
 use Rattle.fields_core.specs.Visits.{after_houses, AreVisited}
 use Rattle.fields_core.proofs.CountListLemmas.{below-more}
@@ -35,24 +31,6 @@ pub visits-append : (front back : List CountHouse) (K : Candidates)
 unfolding after_houses
 visits-append [] back K = refl
 visits-append (house ∷ front) back K = visits-append front back (after_house house K)
-
--- boards that have no more keep no more
-after-narrower : (house : CountHouse) (K L : Candidates) → IsInside K L → IsInside (after_house house K) (after_house house L)
-unfolding after_house strikes_of
-after-narrower house K L inside c v on =
-    let parts = and_parts (K c v) _ on in
-    and_from _ _ (inside c v parts.0) (spared _ _ (λ struck. strikes_at-inside 2 house.places (strikes_by_fillings holds) (by_fillings-monotone holds) K L (λ d u _. inside d u) c v struck) parts.1)
-  where
-    holds : List ℕ → Bool
-    holds = counts_between house.least house.most
-
-    spared : (a b : Bool) → (b ≡ true → a ≡ true) → not a ≡ true → not b ≡ true
-    spared a b struck off = grind (arith, common_steps, cases_Bool a, cases_Bool b)
-
-visits-narrower : (houses : List CountHouse) (K L : Candidates) → IsInside K L → IsInside (after_houses houses K) (after_houses houses L)
-unfolding after_houses
-visits-narrower [] K L inside = inside
-visits-narrower (house ∷ houses) K L inside = visits-narrower houses (after_house house K) (after_house house L) (after-narrower house K L inside)
 
 -- ---- the replay over the numbers of a puzzle's houses is the visits of them
 visit-is : (cells : ℕ) (blocked : ℕ → Bool) (houses : List CountHouse) (is_solution : List ℕ → Bool) (h : ℕ)
@@ -145,26 +123,6 @@ visited-dead {front} back {p} first is = record {
   further = first.further;
 }
 
-pub visited-either : {houses : List CountHouse} {p q : Layers} (fills : Bool) → (fills ≡ true → AreVisited houses p q true)
-    → (fills ≡ false → AreVisited houses p q false) → AreVisited houses p q fills
-visited-either true full none = full refl
-visited-either false full none = none refl
-
--- or others first, and more then: what has no value after some of them has none after all
-visited-later : {front houses : List CountHouse} (others back : List CountHouse) {p q r : Layers}
-    → AreVisited front p q true → AreVisited houses q r false → AreVisited (front ++ (others ++ (houses ++ back))) p r false
-visited-later {front} {houses} others back {p} {q} {r} first next = record {
-  left = λ e. absurd (true≢false (sym e));
-  dies = λ _. let w = next.dies refl in
-      let narrow = visits-narrower houses (after_houses others (has q)) (has q) (visits-inside others (has q)) in (
-        w.0,
-        rw (cells-same p q first.further) at w.1,
-        λ v low. false_from_ne_true _ (λ on. true≢false (sym (narrow w.0 v (visits-inside back _ w.0 v (rw (visits-append front (others ++ (houses ++ back)) (has p), ← first.left refl, visits-append others (houses ++ back) (has q), visits-append houses back (after_houses others (has q))) at on))) ∙ w.2 v low)),
-      );
-  alive = next.alive;
-  further = further-more p q r first.further next.further;
-}
-
 -- ---- the houses of the numbers below n
 pub below-rest : (f : ℕ → List CountHouse) (n d : ℕ)
     → (rest : List CountHouse) × (houses_below f (n + d) ≡ houses_below f n ++ rest)
@@ -191,15 +149,6 @@ sweep-broken f {n} {m} first next none lt =
     let w = below-rest f (n + 1) (m - (n + 1)) in
     let e : n + 1 + (m - (n + 1)) ≡ m = omega arith in
     rw (← e, w.1) (visited-dead w.0 (rw (below-more f n) (visited-more first refl (rw none at next))) refl)
-
--- of one number, before them others
-pub later-broken : (f : ℕ → List CountHouse) {n m : ℕ} {front : List CountHouse} (others : List CountHouse) {p q r : Layers}
-    → AreVisited front p q true → AreVisited (f n) q r false → n < m → AreVisited (front ++ (others ++ houses_below f m)) p r false
-later-broken f {n} {m} {front} others first next lt =
-    let w = below-rest f (n + 1) (m - (n + 1)) in
-    let e : n + 1 + (m - (n + 1)) ≡ m = omega arith in
-    rw (← e, w.1, below-more f n, append_assoc (houses_below f n) (f n) w.0, ← append_assoc others (houses_below f n) (f n ++ w.0))
-    (visited-later (others ++ houses_below f n) w.0 first next)
 
 -- the houses of rows of so many numbers, row by row
 below-add : (f : ℕ → List CountHouse) (m n : ℕ) → houses_below f (m + n) ≡ houses_below f m ++ houses_below (λ k. f (m + k)) n

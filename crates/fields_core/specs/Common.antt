@@ -35,7 +35,7 @@ pub use Rattle.fields_core.specs.LightLonely.{asks, lonely}
 pub use Rattle.fields_core.specs.LightPlanes.{AreLightsWritten, ArePlanesOf, AreRowTables, AreTables, HasLightRoom, HasTables, IsKept}
 pub use Rattle.fields_core.specs.LightRuns.{IsAround, IsLatest, IsLine, house_along, line_cells, whites_of}
 pub use Rattle.fields_core.specs.LightSolutions.{IsLightSolution}
-pub use Rattle.fields_core.specs.LightWaits.{AreIdleBut, AreLightsReady, AreLinesRested, AreLinesWoken, AreMetInColumns, AreSafeInColumns, AreSpread, AreWhitesIdleBut}
+pub use Rattle.fields_core.specs.LightWaits.{AreIdleBut, AreLightsReady, AreLinesRested, AreLinesWoken, AreSafeInColumns, AreSpread, AreWhitesIdleBut}
 pub use Rattle.fields_core.specs.LightWaits.{lits_of_row, run_houses, run_lines, waiting_runs, white_houses}
 pub use Rattle.fields_core.specs.LightWords.{numbers_of_row}
 unfoldable pub use Rattle.fields_core.specs.NumberWords.{is_numbered}
@@ -60,5 +60,5 @@ pub use Rattle.fields_core.specs.Tents.{tent, tent_cells, tree}
 unfoldable pub use Rattle.fields_core.specs.Tents.{can_be_paired, touches}
 pub use Rattle.fields_core.specs.Trees.{AreBare, AreRowsOf, IsNear, IsRowOf, trees_of_row}
 unfoldable pub use Rattle.fields_core.specs.Trees.{is_beside, wants_tent, without_zeros}
-pub use Rattle.fields_core.specs.Visits.{AreVisited, HasBrokenSquare, IsFieldOf}
-pub use Rattle.fields_core.specs.Waits.{DiesIn, IsTouched, AreIdle, AreRested, AreWoken, kind_houses, kind_lines, waiting}
+pub use Rattle.fields_core.specs.Visits.{AreVisited, IsFieldOf}
+pub use Rattle.fields_core.specs.Waits.{AreIdle, AreRested, AreWoken, kind_houses, kind_lines, waiting}

@@ -120,15 +120,6 @@ abbrev pub AreSafeInColumns : Light → ℕ → ℕ → Candidates → Type 0
 AreSafeInColumns p y bits K = (x : ℕ) → has_bit bits x ≡ true
     → AreSafe (joined_in_column p (y * p.size.w + x)) K
 
--- one of these cells must have a bulb
-abbrev pub HasBulb : Light → (ℕ → Bool) → Candidates → Type 0
-HasBulb p cells K = (c : ℕ) × (c < light_cells p) × (cells c ≡ true) × (K c 0 ≡ false)
-
--- that is so of the column runs of these cells of a row
-abbrev pub AreMetInColumns : Light → ℕ → ℕ → Candidates → Type 0
-AreMetInColumns p y bits K = (x : ℕ) → has_bit bits x ≡ true
-    → HasBulb p (joined_in_column p (y * p.size.w + x)) K
-
 -- the houses of the white cells of a row
 abbrev pub lits_of_row : Light → ℕ → List CountHouse
 lits_of_row p y = houses_below (λ x. lit_house p (y * p.size.w + x)) p.size.w

@@ -1,11 +1,10 @@
 -- Visits of count houses on planes, one after another, and sweeps of all houses of Tents.
-use Rattle.std.specs.Prelude.{◌≡◌, ℕ, ◌<◌, ◌≤◌, Bool, true, false, List, [], ◌∷◌, ◌++◌}
+use Rattle.std.specs.Prelude.{◌≡◌, ℕ, ◌<◌, ◌≤◌, Bool, true, false, List, [], ◌∷◌}
 use Rattle.grid_core.specs.Candidates.{Candidates}
 use Rattle.grid_core.specs.Planes.{Layers, has, cells_of, IsFurther}
 use Rattle.gameid_core.specs.Puzzles.{Tents, IsTents}
-use Rattle.fields_core.specs.CountHouse.{CountHouse, after_house, houses_below}
+use Rattle.fields_core.specs.CountHouse.{CountHouse, after_house}
 use Rattle.fields_core.specs.Parts.{IsAlive}
-use Rattle.fields_core.specs.Squares.{squares_of_row}
 use Rattle.fields_core.specs.Trees.{AreBare, AreRowsOf, wants_tent}
 
 -- the board after visits of the houses, one after another
@@ -31,14 +30,3 @@ pub record IsFieldOf (room : ℕ) (p : Tents) (planes : Layers) (words : List �
   pub trees : AreRowsOf p.size (wants_tent p) words
   pub bare : AreBare p (has planes)
   pub alive : IsAlive planes
-
--- two tents must touch: on these planes the squares of a row leave a cell without a value
-pub record HasBrokenSquare (p : Tents) (planes : Layers) : Type 0 where
-  pub row : ℕ
-  pub within : row < p.size.h
-  pub dies : AreVisited (squares_of_row p row) planes planes false
-
--- visits of the houses, of whatever others then, and of all squares leave a cell without a value
-abbrev pub DiesBySquares : Tents → List CountHouse → Layers → Layers → Type 0
-DiesBySquares p houses from to = (others : List CountHouse)
-    → AreVisited (houses ++ (others ++ houses_below (squares_of_row p) p.size.h)) from to false

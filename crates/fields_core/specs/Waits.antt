@@ -1,15 +1,14 @@
 -- Which houses of Tents wait on planes. No public contract uses these words.
 use Rattle.std.specs.Prelude.{◌≡◌, ℕ, ◌+◌, ◌-◌, ◌<◌, false, ◌&&◌, ◌||◌, nat_lt, List}
 use Rattle.grid_core.specs.Candidates.{Candidates}
-use Rattle.grid_core.specs.Planes.{Layers}
 use Rattle.grid_core.specs.Words.{has_bit}
 use Rattle.grid_core.specs.declared.planes.touched.Touched.{Touched}
 use Rattle.gameid_core.specs.Puzzles.{Tents}
-use Rattle.fields_core.specs.CountHouse.{CountHouse, houses_below}
+use Rattle.fields_core.specs.CountHouse.{CountHouse}
 use Rattle.fields_core.specs.TentHouses.{column_of_tents, row_of_tents}
 use Rattle.fields_core.specs.Squares.{squares_of_row}
 use Rattle.fields_core.specs.Trees.{trees_of_row}
-use Rattle.fields_core.specs.Visits.{AreVisited, DiesBySquares, HasBrokenSquare, after_houses}
+use Rattle.fields_core.specs.Visits.{after_houses}
 use Rattle.fields_core.specs.declared.planes.waits.Kind.{Kind}
 use Rattle.fields_core.specs.declared.planes.waits.Kind.TheVariants.{Columns, Rows, Trees, Squares}
 use Rattle.fields_core.specs.declared.planes.waits.Waits.{Waits}
@@ -60,17 +59,3 @@ pub record AreWoken {W : Type 0} (bits : W → ℕ) (room : ℕ) (before : Waits
   pub squares : (k : ℕ) → has_bit (bits now.squares) k
       ≡ (has_bit (bits before.squares) k
       || (has_bit (bits zeros.rows) k || has_bit (bits zeros.rows) (k + 1)))
-
--- planes on which two tents must touch, at the kinds where that is looked at
-abbrev pub IsTouched : Tents → Kind → Layers → Type 0
-IsTouched p Columns planes = HasBrokenSquare p planes
-IsTouched p Rows planes = HasBrokenSquare p planes
-IsTouched p Trees planes = ⊥
-IsTouched p Squares planes = ⊥
-
--- visits of a kind ended where the sweep leaves a cell without a value: these houses do, or the squares do later
-abbrev pub DiesIn : Tents → Kind → Layers → Layers → Type 0
-DiesIn p Columns from to = DiesBySquares p (houses_below (kind_houses p Columns) (kind_lines p Columns)) from to
-DiesIn p Rows from to = DiesBySquares p (houses_below (kind_houses p Rows) (kind_lines p Rows)) from to
-DiesIn p Trees from to = AreVisited (houses_below (kind_houses p Trees) (kind_lines p Trees)) from to false
-DiesIn p Squares from to = AreVisited (houses_below (kind_houses p Squares) (kind_lines p Squares)) from to false

@@ -1,7 +1,7 @@
 //! Visits of the squares of two rows of Tents, all at once.
 
-ghost use Rattle.std.specs.Prelude.{◌<◌, ◌≡◌, false};
-ghost use Rattle.fields_core.specs.Common.{AreVisited, HasBrokenSquare, IsAlive, squares_of_row};
+ghost use Rattle.std.specs.Prelude.{◌<◌, ◌≡◌};
+ghost use Rattle.fields_core.specs.Common.{AreVisited, IsAlive, squares_of_row};
 
 use gameid_core::TentsPuzzle;
 use grid_core::{Line, Planes, Word};
@@ -30,46 +30,4 @@ pub(crate) fn visit_squares<W: Word>(planes: &mut Planes<W>, puzzle: &TentsPuzzl
     planes.take(Line::Row(y), 1, near.both(upper));
     planes.take(Line::Row(y + 1), 1, near.both(lower));
     true
-}
-
-/// Whether no two cells that must have a tent are in a square whose upper row is `y`.
-pub(crate) fn rows_apart<W: Word>(planes: &Planes<W>, puzzle: &TentsPuzzle, y: u8) -> bool
-    requires size { planes.now.size ≡ puzzle.now.size }
-    requires y_in { y < puzzle.now.size.h }
-    requires alive { IsAlive planes.now }
-    ensures { result ≡ false → HasBrokenSquare puzzle.now planes.now }
-{
-    let size = puzzle.size();
-    if size.w() < 2 || y + 1 >= size.h() {
-        return true;
-    }
-    let (upper, lower) = (planes.row(y, 0), planes.row(y + 1, 0));
-    let all = planes.columns();
-    let twice = all.but(upper.either(lower));
-    let must = all.but(upper.both(lower));
-    if twice.is_some() {
-        return false;
-    }
-    !must.both(must.on()).is_some()
-}
-
-/// Whether no two cells that must have a tent are in a square whose left column is `x`.
-pub(crate) fn columns_apart<W: Word>(planes: &Planes<W>, puzzle: &TentsPuzzle, x: u8) -> bool
-    requires size { planes.now.size ≡ puzzle.now.size }
-    requires x_in { x < puzzle.now.size.w }
-    requires alive { IsAlive planes.now }
-    ensures { result ≡ false → HasBrokenSquare puzzle.now planes.now }
-{
-    let size = puzzle.size();
-    if size.h() < 2 || x + 1 >= size.w() {
-        return true;
-    }
-    let (left, right) = (planes.column(x, 0), planes.column(x + 1, 0));
-    let all = planes.rows();
-    let twice = all.but(left.either(right));
-    let must = all.but(left.both(right));
-    if twice.is_some() {
-        return false;
-    }
-    !must.both(must.on()).is_some()
 }

@@ -79,7 +79,7 @@ impl<W: Word> SweepNotes<W, LightPuzzle> for LightNotes<W> {
     fn new(alloc: Global, made: Needs) -> Result<LightNotes<W>, AllocError> {
         Ok(LightNotes {
             tables: LightTables::new(alloc, made.cells)?,
-            waits: LineWaits::none(),
+            waits: LineWaits::all(),
             safe: vec![in alloc; W::none(); W::places()]?,
         })
     }

@@ -83,14 +83,10 @@ impl<W: Word> LightNotes<W> {
             let whites = self.tables.rows[y];
             above = self.safe[y].either(above.both(whites));
             let some = self.waits.whites(y, whites.but(above));
-            let met = self.tables.met(planes, puzzle, y as u8, some);
-            above = above.either(met);
-            if !self
-                .tables
-                .visit_lits(planes, puzzle, y as u8, some.but(met))
-            {
+            let Some(met) = self.tables.visit_lits(planes, puzzle, y as u8, some) else {
                 return false;
-            }
+            };
+            above = above.either(met);
         }
         self.waits.wake(planes, len);
         self.waits.settle_whites();

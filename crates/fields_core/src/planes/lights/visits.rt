@@ -1,7 +1,7 @@
 //! Visits of the houses of Light Up by the words that are kept of a puzzle.
 
-ghost use Rattle.std.specs.Prelude.{◌≡◌, ℕ, ◌+◌, ◌*◌, ◌<◌, ◌≤◌, ◌&&◌, ◌||◌, ◌==◌, Bool, true, IfNone, IfSome, List, length, map, nat_lt, slice_index};
-ghost use Rattle.fields_core.specs.Common.{AreAround, AreIdleBut, AreMetInColumns, ArePlanesOf, AreRunsOf, AreSafeInColumns, AreTables, AreVisited, AreWhitesIdleBut, CountHouse, IsAlive, IsClash, count_below, has, has_bit, line_len, lines_beside, lit_house, lits_of_row, number_house, number_of, numbers_of_row, run_houses, run_lines};
+ghost use Rattle.std.specs.Prelude.{◌≡◌, ℕ, ◌+◌, ◌*◌, ◌<◌, ◌≤◌, ◌&&◌, ◌||◌, ◌==◌, Bool, true, IfNone, IfSome, is_some, List, length, map, nat_lt, slice_index};
+ghost use Rattle.fields_core.specs.Common.{AreAround, AreIdleBut, ArePlanesOf, AreRunsOf, AreSafeInColumns, AreTables, AreVisited, AreWhitesIdleBut, CountHouse, IsAlive, IsClash, count_below, has, has_bit, line_len, lines_beside, lit_house, lits_of_row, number_house, number_of, numbers_of_row, run_houses, run_lines};
 
 use crate::light_up::cells::columns;
 use crate::planes::lights::tables::LightTables;
@@ -208,57 +208,46 @@ impl<W: Word> LightTables<W> {
     }
 
     /// Visits the houses of some white cells of a row, up to one that has no filling: all others are idle. Those of a run are
-    /// passed where two of its cells can have a bulb, or one must.
+    /// passed where two of its cells can have a bulb, or one must. So is a cell where one of its column run must: gives those,
+    /// or nothing where a house has no filling.
     pub(crate) fn visit_lits(
         &self,
         planes: &mut Planes<W>,
         puzzle: &LightPuzzle,
         y: u8,
         some: W,
-    ) -> bool
+    ) -> Option<W>
         requires planes { ArePlanesOf W.room puzzle.now planes.old }
         requires tables { AreTables W.bits puzzle.now self.now }
         requires y_in { y < puzzle.now.size.h }
         requires some_in { (x : ℕ) → has_bit (W.bits some) x ≡ true → x < puzzle.now.size.w }
         requires others { AreWhitesIdleBut puzzle.now (W.bits some) y (has planes.old) }
-        ensures { AreVisited (lits_of_row puzzle.now y) planes.old planes.new result }
+        ensures visited { AreVisited (lits_of_row puzzle.now y) planes.old planes.new
+            (is_some result) }
+        ensures met { IfSome result (λ met.
+            AreSafeInColumns puzzle.now y (W.bits met) (has planes.new)) }
     {
         let w = columns(puzzle);
         let ones = planes.row(y, 1);
         let must = ones.but(planes.row(y, 0));
-        let mut left = some;
-        while left.is_some() {
-            let x = left.lowest();
-            let run = self.row_runs[usize::from(y) * w + x];
-            left = left.without_lowest();
-            if has_two(ones.both(run)) || must.both(run).is_some() {
-                left = left.but(run);
-            } else if !self.visit_lit(planes, puzzle, y, x as u8) {
-                return false;
-            }
-        }
-        true
-    }
-
-    /// Those of some white cells of a row in whose column run a cell must have a bulb.
-    pub(crate) fn met(&self, planes: &Planes<W>, puzzle: &LightPuzzle, y: u8, some: W) -> W
-        requires planes { ArePlanesOf W.room puzzle.now planes.now }
-        requires tables { AreTables W.bits puzzle.now self.now }
-        requires y_in { y < puzzle.now.size.h }
-        requires some_in { (x : ℕ) → has_bit (W.bits some) x ≡ true → x < puzzle.now.size.w }
-        ensures { AreMetInColumns puzzle.now y (W.bits result) (has planes.now) }
-    {
-        let w = columns(puzzle);
         let (mut left, mut met) = (some, W::none());
         while left.is_some() {
             let x = left.lowest();
+            let place = usize::from(y) * w + x;
+            let run = self.row_runs[place];
             left = left.without_lowest();
-            let run = self.column_runs[usize::from(y) * w + x];
-            if run.but(planes.column(x as u8, 0)).is_some() {
+            if has_two(ones.both(run)) || must.both(run).is_some() {
+                left = left.but(run);
+            } else if self.column_runs[place]
+                .but(planes.column(x as u8, 0))
+                .is_some()
+            {
                 met = met.either(W::one(x));
+            } else if !self.visit_lit(planes, puzzle, y, x as u8) {
+                return None;
             }
         }
-        met
+        Some(met)
     }
 
     /// Writes for each of these rows those white cells of it for which two cells of their column run, none of them above, can

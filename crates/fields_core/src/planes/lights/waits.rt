@@ -59,31 +59,30 @@ fn spread<W: Word>(before: W, lines: W) -> W
 }
 
 impl<W: Word> LineWaits<W> {
+    /// At these columns and rows everything waits.
+    fn at(places: W) -> LineWaits<W>
+        ensures numbers { result.numbers ≡ places }
+        ensures number_columns { result.number_columns ≡ places }
+        ensures rows { result.rows ≡ places }
+        ensures columns { result.columns ≡ places }
+        ensures one_rows { result.ones.rows ≡ places }
+        ensures one_columns { result.ones.columns ≡ places }
+    {
+        LineWaits {
+            numbers: places,
+            number_columns: places,
+            rows: places,
+            columns: places,
+            ones: lines(places),
+        }
+    }
+
     /// Everything waits.
     pub(crate) fn all() -> LineWaits<W>
         ensures { (p : Light) (K : Candidates) → IsLight p → p.size.w ≤ W.room → p.size.h ≤ W.room
             → AreLinesRested W.bits p result K }
     {
-        let all = W::all(W::places());
-        LineWaits {
-            numbers: all,
-            number_columns: all,
-            rows: all,
-            columns: all,
-            ones: lines(all),
-        }
-    }
-
-    /// Nothing waits.
-    pub(crate) fn none() -> LineWaits<W> {
-        let none = W::none();
-        LineWaits {
-            numbers: none,
-            number_columns: none,
-            rows: none,
-            columns: none,
-            ones: lines(none),
-        }
+        LineWaits::at(W::all(W::places()))
     }
 
     /// What waits too once cells of both a column and a row of these have lost 0, and cells of those 1. While no cell of
@@ -193,10 +192,11 @@ impl<W: Word> LineWaits<W> {
             columns: W::one(x),
             rows: W::one(y),
         };
+        let none = LineWaits::at(W::none());
         let no_lines = lines(W::none());
         if planes.row(y as u8, 1).has(x) {
-            return LineWaits::none().woken(cell, no_lines);
+            return none.woken(cell, no_lines);
         }
-        LineWaits::none().woken(no_lines, cell)
+        none.woken(no_lines, cell)
     }
 }

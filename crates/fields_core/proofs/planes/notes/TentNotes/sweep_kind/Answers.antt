@@ -1,11 +1,10 @@
-use Rattle.fields_core.proofs.Common.{arith, eqb, has_bit, not, refl, sym, ℕ, ◌&&◌, ◌∙◌, ◌≡◌, ◌≤◌}
+use Rattle.fields_core.proofs.Common.{arith, has_bit, refl, sym, ℕ, ◌∙◌, ◌≡◌, ◌≤◌}
 use Rattle.grid_core.proofs.TurnLemmas.{fewer_left}
 use Rattle.gameid_core.specs.Puzzles.{Tents}
 use Rattle.grid_core.specs.Planes.{has}
 use Rattle.fields_core.specs.Waits.{AreRested, kind_lines}
 use Rattle.fields_core.specs.declared.planes.waits.Kind.{Kind}
 use Rattle.fields_core.specs.declared.planes.waits.Kind.TheVariants.{Columns, Rows, Trees, Squares}
-use Rattle.fields_core.proofs.TentSweeps.{dies-broken, dies-touched}
 use Rattle.fields_core.proofs.TentIdle.{field-further, passed-all, passed-broken, passed-first, passed-idle, passed-next}
 use Rattle.fields_core.proofs.planes.notes.TentNotes.sweep_kind.Goals as goal
 use Rattle.fields_core.proofs.planes.notes.TentNotes.sweep_kind.Goals.{else-len, then-len}
@@ -27,30 +26,24 @@ loop-left-init g c = record {
 
 pub loop-left-smaller : goal.loop-left-smaller
 loop-left-smaller g c =
-    fewer_left (has_bit (g.W.Word.bits c.loop-left.left)) (has_bit (g.W.Word.bits c.without_lowest-left.result)) g.W.Word.room c.lowest-line.result
-    c.lowest-line.ensures.within c.lowest-line.ensures.has (λ k. c.without_lowest-left.ensures c.lowest-line.result k c.lowest-line.ensures)
+    fewer_left (has_bit (g.W.Word.bits c.loop-left.left)) (has_bit (g.W.Word.bits c.without_lowest-left.result)) g.W.Word.room c.lowest.result
+    c.lowest.ensures.within c.lowest.ensures.has (λ k. c.without_lowest-left.ensures c.lowest.result k c.lowest.ensures)
 
-pub returns-then-not-visit-clause-dies : goal.returns-then-not-visit-clause-dies
-returns-then-not-visit-clause-dies g c = λ _. dies-broken c.args.puzzle.now c.args.kind
-    (passed-broken c.args.puzzle.now c.args.kind c.loop-left.invariant.passed c.lowest-line.ensures c.visit.ensures.visited c.if-not-visit.true)
-
-pub returns-then-not-is_clear-clause-dies : goal.returns-then-not-is_clear-clause-dies
-returns-then-not-is_clear-clause-dies g c = λ _. dies-touched c.args.puzzle.now c.args.kind
-    (passed-next c.args.puzzle.now c.args.kind c.loop-left.invariant.passed c.lowest-line.ensures c.visit.ensures.visited c.requires.ready.field.lawful
-    c.requires.ready.field.size c.if-not-visit.false (λ k. has_bit (g.W.Word.bits c.loop-left.left) k && not (eqb k c.lowest-line.result)) (λ k. refl))
-    (c.is_clear.ensures c.if-not-is_clear.true)
+pub returns-then-not-visit-clause-visited : goal.returns-then-not-visit-clause-visited
+returns-then-not-visit-clause-visited g c =
+    passed-broken c.args.puzzle.now c.args.kind c.loop-left.invariant.passed c.lowest.ensures c.visit.ensures.visited c.if-not-visit.true
 
 pub loop-left-preserved : goal.loop-left-preserved
 loop-left-preserved g c = record {
-  passed = passed-next c.args.puzzle.now c.args.kind c.loop-left.invariant.passed c.lowest-line.ensures c.visit.ensures.visited c.requires.ready.field.lawful
+  passed = passed-next c.args.puzzle.now c.args.kind c.loop-left.invariant.passed c.lowest.ensures c.visit.ensures.visited c.requires.ready.field.lawful
       c.requires.ready.field.size c.if-not-visit.false (has_bit (g.W.Word.bits c.without_lowest-left.result))
-      (λ k. c.without_lowest-left.ensures c.lowest-line.result k c.lowest-line.ensures);
+      (λ k. c.without_lowest-left.ensures c.lowest.result k c.lowest.ensures);
   trees = c.visit.ensures.trees ∙ c.loop-left.invariant.trees;
   waits = c.visit.ensures.waits ∙ c.loop-left.invariant.waits;
 }
 
 pub returns-clause-visited : goal.returns-clause-visited
-returns-clause-visited g c = λ _.
+returns-clause-visited g c =
     passed-all c.args.puzzle.now c.args.kind c.loop-left.invariant.passed
     (few-lines c.args.puzzle.now c.args.kind c.requires.ready.field.narrow c.requires.ready.field.low) (sym c.is_some.ensures ∙ c.loop-left-test.false)
 

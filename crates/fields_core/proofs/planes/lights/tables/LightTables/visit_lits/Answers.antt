@@ -1,16 +1,16 @@
-use Rattle.fields_core.proofs.Common.{CountHouse, List, and-true, and_parts, arith, cases_Bool, eqb, false, has_bit, inl, inr, joined_in_row, lit_house, ltb-true, not, refl, sym, true, ℕ, ◌&&◌, ◌*◌, ◌+◌, ◌<◌, ◌∙◌, ◌≡◌}
+use Rattle.fields_core.proofs.Common.{CountHouse, List, and-true, and_parts, arith, cases_Bool, eqb, eqb-true, false, has_bit, inl, inr, joined_in_column, joined_in_row, lit_house, ltb-true, not, or_cases, refl, sym, true, true≢false, ℕ, ◌&&◌, ◌*◌, ◌+◌, ◌<◌, ◌∙◌, ◌≡◌}
 use Rattle.grid_core.specs.Planes.{has}
 use Rattle.fields_core.specs.LightPlanes.{ArePlanesOf}
 use Rattle.fields_core.specs.LightWaits.{AreSafe}
-use Rattle.fields_core.specs.LightWords.{IsRowRun}
+use Rattle.fields_core.specs.LightWords.{IsColumnRun, IsRowRun}
 use Rattle.fields_core.specs.Waits.{AreIdle}
 use Rattle.fields_core.proofs.IdleLemmas.{visited-idle}
-use Rattle.fields_core.proofs.LightNotes.{row-moved, row-must, row-two, table-read}
+use Rattle.fields_core.proofs.LightNotes.{column-must, row-moved, row-must, row-two, table-read}
 use Rattle.fields_core.proofs.LightPassed.{fewer-on, passed-all, passed-broken, passed-first, passed-next, rest-off, rest-on}
-use Rattle.fields_core.proofs.LightSweeps.{lit-kept, lit-stays, planes-next}
-use Rattle.fields_core.proofs.LitRuns.{planes-full, row-safe}
+use Rattle.fields_core.proofs.LightSweeps.{lit-all, lit-kept, lit-stays, lits-safe, planes-next}
+use Rattle.fields_core.proofs.LitRuns.{column-safe, planes-full, row-safe}
 use Rattle.fields_core.proofs.planes.lights.tables.LightTables.visit_lits.Goals as goal
-use Rattle.fields_core.proofs.planes.lights.tables.LightTables.visit_lits.Goals.{After-without_lowest-left, Joined-has_two, then-has_two, else-has_two}
+use Rattle.fields_core.proofs.planes.lights.tables.LightTables.visit_lits.Goals.{After-either-met, After-without_lowest-left, Joined-has_two, then-has_two, else-has_two}
 
 module _ (g : _) (c : After-without_lowest-left g) where
   abbrev houses : ℕ → List CountHouse
@@ -71,7 +71,10 @@ module _ (g : _) (c : Joined-has_two g) (x_in : c.lowest-x.result < c.args.puzzl
       row-safe p (c.args.y * p.size.w + c.lowest-x.result) c.requires.planes.lawful (planes-full p c.args.planes.now c.requires.planes.size c.requires.planes.alive) (safe on)
 
 pub loop-ones-init : goal.loop-ones-init
-loop-ones-init g c = record { passed = passed-first (λ x. lit_house c.args.puzzle.now (c.args.y * c.args.puzzle.now.size.w + x)) c.requires.planes.alive c.requires.some_in c.requires.others }
+loop-ones-init g c = record {
+  passed = passed-first (λ x. lit_house c.args.puzzle.now (c.args.y * c.args.puzzle.now.size.w + x)) c.requires.planes.alive c.requires.some_in c.requires.others;
+  met = λ x on. absurd (true≢false (sym on ∙ c.none-met.ensures x));
+}
 
 pub visit_lit-requires-clause-planes : goal.visit_lit-requires-clause-planes
 visit_lit-requires-clause-planes g c = let v = c.loop-ones.invariant.passed.visited in planes-next c.requires.planes v.further v.alive
@@ -95,12 +98,45 @@ loop-ones-preserved-then-is_some g c =
             | inl there ↦ still g h k less (run-idle g j lt c.if-is_some.true k less there)
             | inr out ↦ off g h k high less (sym (c.but-left.ensures k ∙ rw out (and-true _)) ∙ gone)
           ]);
+      met = c.loop-ones.invariant.met;
     }
+
+pub loop-ones-smaller-then-is_some-2 : goal.loop-ones-smaller-then-is_some-2
+loop-ones-smaller-then-is_some-2 g c =
+    let h = (goal.at.loop-ones-smaller-then-is_some-2 g c).After-without_lowest-left in
+    fewer-on c.lowest-x.ensures (λ k there. (on g h k there).0)
 
 pub loop-ones-smaller : goal.loop-ones-smaller
 loop-ones-smaller g c =
     let h = (goal.at.loop-ones-smaller g c).After-without_lowest-left in
     fewer-on c.lowest-x.ensures (λ k there. (on g h k there).0)
+
+-- its column run has a cell that must have a bulb
+column : (g : _) (c : After-either-met g) → c.lowest-x.result < c.args.puzzle.now.size.w → ArePlanesOf g.W.Word.room c.args.puzzle.now c.loop-ones.planes
+    → AreSafe (joined_in_column c.args.puzzle.now (c.args.y * c.args.puzzle.now.size.w + c.lowest-x.result)) (has c.loop-ones.planes)
+column g c lt planes =
+    let p = c.args.puzzle.now in
+    let x = c.lowest-x.result in
+    let bits = g.W.Word.bits in
+    column-must p c.args.y x lt _ (table-read bits p (IsColumnRun p) c.args.self.now.column_runs.items c.args.y x _ c.index.result.now c.requires.tables.runs.long_columns c.requires.tables.runs.in_column
+    c.requires.y_in lt (rw (c.from.ensures, c.columns-w.ensures.value) refl) c.index.ensures) c.loop-ones.planes (bits c.but.result) g.W.Word.room planes.size
+    (planes-full p c.loop-ones.planes planes.size planes.alive) (λ k. c.but.ensures k ∙ rw (c.column.ensures.cells k) refl) (sym c.is_some-else-is_some.ensures ∙ c.if-is_some-2.true)
+
+pub loop-ones-preserved-then-is_some-2 : goal.loop-ones-preserved-then-is_some-2
+loop-ones-preserved-then-is_some-2 g c =
+    let at = goal.at.loop-ones-preserved-then-is_some-2 g c in
+    let h = at.After-without_lowest-left in
+    let p = c.args.puzzle.now in
+    let safe = column g at.After-either-met (x-in g h) (of g h) in
+    let passed = c.loop-ones.invariant.passed in
+    record {
+      passed = passed-next (houses g h) passed c.lowest-x.ensures (visited-idle (houses g h c.lowest-x.result) passed.visited.alive
+          (column-safe p _ c.requires.planes.lawful (planes-full p c.loop-ones.planes (of g h).size (of g h).alive) safe)) refl _ (on g h) (off g h);
+      met = λ x there. elim (or_cases _ _ (sym (c.either-met.ensures x) ∙ there)) [
+        | inl before ↦ c.loop-ones.invariant.met x before
+        | inr own ↦ rw (eqb-true x _ (sym (c.one.ensures x) ∙ own)) safe
+      ];
+    }
 
 pub loop-ones-preserved : goal.loop-ones-preserved
 loop-ones-preserved g c =
@@ -109,13 +145,15 @@ loop-ones-preserved g c =
       passed = passed-next (houses g h) c.loop-ones.invariant.passed c.lowest-x.ensures c.visit_lit.ensures c.if-not-visit_lit.false _ (on g h)
           (λ k high less gone. lit-kept c.args.puzzle.now c.args.y c.lowest-x.result k (of g h) c.requires.y_in (x-in g h) less
           (rw c.if-not-visit_lit.false at c.visit_lit.ensures) (off g h k high less gone));
+      met = λ x there. lits-safe c.args.puzzle.now _ (lit-all c.args.puzzle.now c.args.y c.lowest-x.result (of g h).lawful c.requires.y_in (x-in g h)) (of g h)
+          (rw c.if-not-visit_lit.false at c.visit_lit.ensures) (c.loop-ones.invariant.met x there);
     }
 
-pub returns-then-not-visit_lit : goal.returns-then-not-visit_lit
-returns-then-not-visit_lit g c =
-    let h = (goal.at.returns-then-not-visit_lit g c).After-without_lowest-left in
+pub returns-then-not-visit_lit-clause-visited : goal.returns-then-not-visit_lit-clause-visited
+returns-then-not-visit_lit-clause-visited g c =
+    let h = (goal.at.returns-then-not-visit_lit-clause-visited g c).After-without_lowest-left in
     passed-broken (houses g h) c.loop-ones.invariant.passed c.lowest-x.ensures c.visit_lit.ensures c.if-not-visit_lit.true
 
-pub returns : goal.returns
-returns g c =
+pub returns-clause-visited : goal.returns-clause-visited
+returns-clause-visited g c =
     passed-all (λ x. lit_house c.args.puzzle.now (c.args.y * c.args.puzzle.now.size.w + x)) c.loop-ones.invariant.passed c.requires.planes.narrow (sym c.is_some.ensures ∙ c.loop-ones-test.false)
