@@ -93,7 +93,7 @@ pub use Rattle.commands.specs.Runs.{Ran}
 pub use Rattle.commands.specs.SoloFacts.{after_houses, after_singles, solo_facts, solo_fault, solo_sets}
 pub use Rattle.commands.specs.Stops.{BeginsIfAny, RanIfAny, Says, SaysIfAny, status_in}
 pub use Rattle.commands.specs.TentsFacts.{tent_fault, tents_facts, tents_sizes}
-pub use Rattle.commands.specs.Texts.{Given, IsKept, text_limit}
+pub use Rattle.commands.specs.Texts.{Given, IsTextKept, text_limit}
 pub use Rattle.commands.specs.TracePieces.{BeginsTrace, KeptOrPut, PutInPieces, PutsTrace, TakesPieces, joined}
 pub use Rattle.commands.specs.Traces.{IsTrace, SaysClosing, line_of, sweeps_text, visits_text}
 pub use Rattle.commands.specs.declared.answers.reply.Reply.{Reply}

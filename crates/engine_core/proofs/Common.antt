@@ -46,7 +46,7 @@ unfoldable pub use Rattle.grid_core.specs.Regions.{step}
 pub use Rattle.engine_core.specs.Closer.{BoardAndMarks, SameRoom}
 pub use Rattle.engine_core.specs.Closing.{HasStruck}
 unfoldable pub use Rattle.engine_core.specs.Closing.{closure, replay, round, rounds, sweeps_of}
-pub use Rattle.engine_core.specs.ClosingList.{HasLost, IsAlive, IsCalledFor, IsCalledNext, IsClosing, IsClosingList, IsClosingSweeps, IsDead, Reaches}
+pub use Rattle.engine_core.specs.ClosingList.{HasHouseLost, IsAlive, IsCalledFor, IsCalledNext, IsClosing, IsClosingList, IsClosingSweeps, IsDead, Reaches}
 pub use Rattle.engine_core.specs.Counts.{IsClosedIn, IsTurns, boards_of}
 unfoldable pub use Rattle.engine_core.specs.Counts.{deepest_of}
 pub use Rattle.engine_core.specs.FillingLaws.{shown_from_test, test_from_shown}
@@ -63,7 +63,7 @@ pub use Rattle.engine_core.specs.HouseSetsLaws.{bits-of_values, sets-bits, strik
 pub use Rattle.engine_core.specs.Keeping.{AreSetsOf, IsKept, StillServes}
 pub use Rattle.engine_core.specs.PlaceLaws.{AreDistinct, distinct-from, has_place-at, has_place-here}
 pub use Rattle.engine_core.specs.Position.{IsClosedAround, IsClosedBut, IsOnward, IsReturned, IsTaken, Room, Standing}
-pub use Rattle.engine_core.specs.Queue.{IsAround, IsRested, IsWoken, called_for, calls, is_dead_in}
+pub use Rattle.engine_core.specs.Queue.{IsQueuedAround, IsRested, IsWoken, called_for, calls, is_dead_in}
 unfoldable pub use Rattle.engine_core.specs.Queue.{but, counts_of, visits_left, woken}
 pub use Rattle.engine_core.specs.RuleSystem.{IsBoardOf, IsClosed, IsClosedGrid, IsGridOf, IsIdle, IsInsideAt, IsLawful, IsNext, Needs, RuleSystem}
 unfoldable pub use Rattle.engine_core.specs.RuleSystem.{after, has_place, longest, share}
@@ -71,7 +71,7 @@ pub use Rattle.engine_core.specs.Search.{Level}
 unfoldable pub use Rattle.engine_core.specs.Search.{branches_from, pending}
 pub use Rattle.engine_core.specs.Sets.{IsBitsOf, IsChange, has_bit}
 pub use Rattle.engine_core.specs.Stored.{is_settled}
-pub use Rattle.engine_core.specs.Trail.{AreLost, IsBack, IsFurther, IsTrail, Trail, back_at, change_at, given_back, is_since}
+pub use Rattle.engine_core.specs.Trail.{AreLost, IsTrailBack, IsTrailLonger, IsTrail, Trail, back_at, change_at, given_back, is_since}
 unfoldable pub use Rattle.engine_core.specs.Trail.{left_by, put_back}
 pub use Rattle.engine_core.specs.TrailPosition.{GoesOn, IsAlong, Placed, board_in}
 unfoldable pub use Rattle.engine_core.specs.Trials.{trials_of}

@@ -8,7 +8,7 @@ use Rattle.grid_core.proofs.CandidateLemmas.{count_below-pos, is_dead-inside, wi
 use Rattle.grid_core.proofs.GridLemmas.{only-here, only-other}
 use Rattle.grid_core.proofs.RowLemmas.{pick-few, pick-none}
 use Rattle.engine_core.specs.ClosingList.{IsAlive}
-use Rattle.engine_core.specs.PlaneNotes.{HasBoard, IsBoard, IsSuited}
+use Rattle.engine_core.specs.PlaneNotes.{HasBoard, IsLiveBoard, IsSuited}
 use Rattle.engine_core.specs.PlanePosition.{AreUnderWay, PlacedPlanes, places_of, standing_of}
 use Rattle.engine_core.specs.RuleSystem.{FitsIn, IsClosed, IsClosedGrid, needs_of}
 use Rattle.engine_core.proofs.JudgeLemmas.{closed-grid, grid-long}
@@ -31,7 +31,7 @@ step-onward s p' kept further = record { inside = further.inside; grows = furthe
 module _ {S L : Type 0} {p : RuleSystem} {size : Extent} {is_own : S ⊎ L → Type 0} (s : PlacedPlanes S L) where
   -- the planes have another board inside the start, and it has a value in each cell
   walks : (p' : Layers) (kept : S ⊎ L) → AreUnderWay p size is_own s → p'.size ≡ s.planes.size → places_of kept ≡ places_of s.kept → is_own kept
-      → IsBoard p (has p') → AreUnderWay p size is_own (record s { planes = p'; kept = kept })
+      → IsLiveBoard p (has p') → AreUnderWay p size is_own (record s { planes = p'; kept = kept })
   walks p' kept under same words is board = record {
     fits = under.fits;
     own = is;

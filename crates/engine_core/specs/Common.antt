@@ -16,21 +16,21 @@ pub use Rattle.engine_core.specs.Frames.{AreGrids, AreLong, AreReady, AreSolutio
 unfoldable pub use Rattle.engine_core.specs.Frames.{singles}
 pub use Rattle.engine_core.specs.HouseSets.{AreBelow, AreDifferent}
 unfoldable pub use Rattle.engine_core.specs.HouseSets.{kept_in, sets_at}
-pub use Rattle.engine_core.specs.Keeping.{AreSets, AreSetsOf, HasRoom, IsFiltered, IsKept, StillServes}
+pub use Rattle.engine_core.specs.Keeping.{AreSets, AreSetsOf, HasSetRoom, IsFiltered, IsKept, StillServes}
 pub use Rattle.engine_core.specs.ListedHouses.{AreScopesOf, most_turns, table_of}
 pub use Rattle.engine_core.specs.Mode.{is_queue}
 pub use Rattle.engine_core.specs.Needs.{needs_in}
 pub use Rattle.engine_core.specs.Position.{IsClosedBut, IsOnward, IsReturned, IsTaken, Room, Standing}
-pub use Rattle.engine_core.specs.Queue.{IsAround, IsRested, IsWoken, called_for, is_dead_in}
+pub use Rattle.engine_core.specs.Queue.{IsQueuedAround, IsRested, IsWoken, called_for, is_dead_in}
 unfoldable pub use Rattle.engine_core.specs.Queue.{but}
 pub use Rattle.engine_core.specs.RuleSystem.{FitsIn, IsBoardOf, IsClosed, IsClosedGrid, IsGridOf, IsIdle, IsLawful, IsNext, Needs, RuleSystem, needs_of}
 unfoldable pub use Rattle.engine_core.specs.RuleSystem.{after, has_place, longest, share}
 pub use Rattle.engine_core.specs.Sets.{IsBitsOf, has_bit}
 unfoldable pub use Rattle.engine_core.specs.Sets.{set_of_bits}
 pub use Rattle.engine_core.specs.Stored.{IsAnswer, IsUnsearched, Stored, is_settled, sizes_of}
-pub use Rattle.engine_core.specs.Trail.{IsBack, IsFurther, IsStruck, IsTrail, Trail, back_at, change_at, is_since}
+pub use Rattle.engine_core.specs.Trail.{IsTrailBack, IsTrailLonger, IsStruck, IsTrail, Trail, back_at, change_at, is_since}
 unfoldable pub use Rattle.engine_core.specs.Trail.{left_by}
-pub use Rattle.engine_core.specs.TrailPosition.{AreRested, GoesOn, IsAlong, IsPlaced, IsStep, IsUnderWay, Placed, board_in, standing_of}
+pub use Rattle.engine_core.specs.TrailPosition.{AreHousesRested, GoesOn, IsAlong, IsPlaced, IsStep, IsTrailUnderWay, Placed, board_in, standing_of}
 pub use Rattle.engine_core.specs.Verdict.{HasTwo, IsTrueOf, Solves, says_counts, spent_of, tried_of, verdict_of}
 unfoldable pub use Rattle.engine_core.specs.Verdict.{before_second, grids_in, outcome, spent, trials_in, tried, within_budget}
 pub use Rattle.engine_core.specs.Waiting.{AreWoken, AreWokenAt, words_of}

@@ -26,14 +26,14 @@ pub record IsKept (p : RuleSystem) (h : ℕ) (K : Candidates) (may_strike : Bool
       → has_bit (slice_index kept k) v ≡ not (p.strikes h K (slice_index (p.scope h) k) v)
 
 -- there is room for the sets of the house's cells
-abbrev pub HasRoom : RuleSystem → ℕ → List ℕ → Type 0
-HasRoom p h sets = length (p.scope h) ≤ length sets
+abbrev pub HasSetRoom : RuleSystem → ℕ → List ℕ → Type 0
+HasSetRoom p h sets = length (p.scope h) ≤ length sets
 
 -- at the head of the lists: the sets of the house's cells, and what is kept of them
 pub record IsFiltered (p : RuleSystem) (h : ℕ) (K : Candidates) (may_strike : Bool)
     (sets kept : List ℕ) : Type 0 where
-  pub sets_long : HasRoom p h sets
-  pub kept_long : HasRoom p h kept
+  pub sets_long : HasSetRoom p h sets
+  pub kept_long : HasSetRoom p h kept
   pub sets_are : AreSetsOf p h K (take (length (p.scope h)) sets)
   pub kept_are : IsKept p h K may_strike (take (length (p.scope h)) kept)
 

@@ -17,7 +17,7 @@ pub record AreKept {R N : Type 0} (fits : N → Needs → Type 0) (written : R �
   pub own : (r : R) → written r from → written r to
 
 -- a board of the rules, inside the one that a search starts from, that has a value in each cell
-pub record IsBoard (p : RuleSystem) (K : Candidates) : Type 0 where
+pub record IsLiveBoard (p : RuleSystem) (K : Candidates) : Type 0 where
   pub alive : IsAlive p K
   pub within : IsWithin p.cells p.values K
   pub inside : IsInside K p.start
@@ -27,4 +27,4 @@ pub record HasBoard (p : RuleSystem) (size : Extent) (places : ℕ) (planes : La
   pub suited : IsSuited size places
   pub same_size : planes.size ≡ size
   pub cells : cells_of planes ≡ p.cells
-  pub board : IsBoard p (has planes)
+  pub board : IsLiveBoard p (has planes)

@@ -45,7 +45,7 @@ pub record IsTrail (cells values : ℕ) (K : Candidates) (changes : List (ℕ ×
       → total cells values (put_back K changes mark len) + mark ≤ length changes
 
 -- values were struck, and are noted: each earlier mark gives back the same
-pub record IsFurther (from to : Trail) : Type 0 where
+pub record IsTrailLonger (from to : Trail) : Type 0 where
   pub shape : SameShape from.board to.board
   pub same_room : length to.changes ≡ length from.changes
   pub inside : IsInside (has to.board) (has from.board)
@@ -53,7 +53,7 @@ pub record IsFurther (from to : Trail) : Type 0 where
   pub back : (mark : ℕ) → mark ≤ from.len → back_at to mark ≡ back_at from mark
 
 -- the trail was taken back to the mark: each earlier mark gives back the same
-pub record IsBack (from to : Trail) (mark : ℕ) : Type 0 where
+pub record IsTrailBack (from to : Trail) (mark : ℕ) : Type 0 where
   pub shape : SameShape from.board to.board
   pub same_room : length to.changes ≡ length from.changes
   pub here : has to.board ≡ back_at from mark

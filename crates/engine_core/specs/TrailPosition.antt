@@ -6,7 +6,7 @@ use Rattle.engine_core.specs.RuleSystem.{RuleSystem, Needs, needs_of, FitsIn, Is
 use Rattle.engine_core.specs.ClosingList.{IsDead, IsAlive}
 use Rattle.engine_core.specs.Position.{Standing}
 use Rattle.engine_core.specs.Queue.{IsRested, IsWoken}
-use Rattle.engine_core.specs.Trail.{Trail, IsFurther, back_at}
+use Rattle.engine_core.specs.Trail.{Trail, IsTrailLonger, back_at}
 use Rattle.engine_core.specs.Waiting.{words_of, is_waiting}
 
 -- what the memory was taken for, the board with its trail, and which houses wait
@@ -36,14 +36,14 @@ pub record IsAlong (p : RuleSystem) (s : Placed) : Type 0 where
 
 -- ---- which houses wait
 -- a house that does not wait strikes nothing
-abbrev pub AreRested : RuleSystem → Placed → Type 0
-AreRested p s = IsRested p (board_in s) (is_waiting s.waits)
+abbrev pub AreHousesRested : RuleSystem → Placed → Type 0
+AreHousesRested p s = IsRested p (board_in s) (is_waiting s.waits)
 
 -- ---- from one place to a later one
 -- values were struck and noted
 pub record GoesOn (from to : Placed) : Type 0 where
   pub made : to.made ≡ from.made
-  pub further : IsFurther from.trail to.trail
+  pub further : IsTrailLonger from.trail to.trail
 
 -- a visit of h that leaves each cell a value was made, and its houses wait; or it would leave a cell without one
 abbrev pub IsStep : RuleSystem → ℕ → Placed → Placed → Bool → Type 0
@@ -57,6 +57,6 @@ abbrev pub standing_of : Placed → Standing
 standing_of s = record { board = board_in s; len = s.trail.len; back = back_at s.trail }
 
 -- a walk is under way, inside the start
-pub record IsUnderWay (p : RuleSystem) (s : Placed) : Type 0 where
+pub record IsTrailUnderWay (p : RuleSystem) (s : Placed) : Type 0 where
   pub along : IsAlong p s
   pub inside : IsInside (board_in s) p.start

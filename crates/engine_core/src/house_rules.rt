@@ -2,7 +2,7 @@
 #![tactic(auto, using(crate::proofs::LawSets::house_rules_laws))]
 
 ghost use Rattle.std.specs.Prelude.{◌<◌, ◌≡◌, ◌≤◌, IfOk, false, length, refl, true};
-ghost use Rattle.engine_core.specs.Common.{has, SameShape, HasStruck, HasRoom, IsBoardOf, after, needs_of, StillServes, table_of};
+ghost use Rattle.engine_core.specs.Common.{has, SameShape, HasStruck, HasSetRoom, IsBoardOf, after, needs_of, StillServes, table_of};
 
 use crate::houses::table::{HouseTable, join_marks};
 use crate::houses::visit::{apply, gather};
@@ -55,8 +55,8 @@ impl<S: RuleSet> HouseRules<S> {
     ) -> bool
         requires house_in { house < (S.system (S.puzzle_of self.now.set)).houses }
         requires board_of { IsBoardOf (S.system (S.puzzle_of self.now.set)) board.old }
-        requires sets_room { HasRoom (S.system (S.puzzle_of self.now.set)) house sets.old }
-        requires kept_room { HasRoom (S.system (S.puzzle_of self.now.set)) house kept.old }
+        requires sets_room { HasSetRoom (S.system (S.puzzle_of self.now.set)) house sets.old }
+        requires kept_room { HasSetRoom (S.system (S.puzzle_of self.now.set)) house kept.old }
         requires served { S.serves work.old (needs_of (S.system (S.puzzle_of self.now.set))) }
         ensures left { has board.new
             ≡ after (S.system (S.puzzle_of self.now.set)) house (has board.old) }

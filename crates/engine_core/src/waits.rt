@@ -2,7 +2,7 @@
 #![tactic(auto, using(crate::proofs::LawSets::wait_laws))]
 
 ghost use Rattle.std.specs.Prelude.{◌&&◌, ◌/◌, ◌<◌, ◌==◌, ◌||◌, ◌≡◌, ◌≤◌, ℕ, length, not};
-ghost use Rattle.engine_core.specs.Common.{IsNext, but, IsAround, words_of, is_waiting, has_bit as is_set};
+ghost use Rattle.engine_core.specs.Common.{IsNext, but, IsQueuedAround, words_of, is_waiting, has_bit as is_set};
 
 /// Marks the house in the bits of those that wait.
 pub fn enqueue(waits: &mut [u64], house: usize)
@@ -53,7 +53,7 @@ pub(crate) fn next_waiting(waits: &[u64], from: usize, houses: usize) -> Option<
 /// A house that waits: the least at or after `from`, or else the least of all.
 pub(crate) fn next_around(waits: &[u64], from: usize, houses: usize) -> Option<usize>
     requires { words_of houses ≤ length waits.now }
-    ensures { IsAround (is_waiting waits.now) houses from result }
+    ensures { IsQueuedAround (is_waiting waits.now) houses from result }
 {
     match next_waiting(waits, from, houses) {
         Some(house) => Some(house),

@@ -3,7 +3,7 @@ unfoldable use Rattle.engine_core.specs.RuleSystem.{has_place}
 use Rattle.fields_core.proofs.Common.{AllByRecursion, AreDistinct, Bool, Candidates, CountHouse, IsHouse, Layers, List, [], after_house, and-true, and_from, and_parts, ap, arith, cases_Bool, cells_of, common_steps, count_by, distinct-from, eq-eqb, eqb, eqb-true, false, false_from_ne_true, false≢true, fun_ext, inl, inr, list_any, lt-ltb, ltb, ltb-false, ltb-true, not, not-true, or_cases, or_left, or_parts, or_right, refl, sym, true, true≢false, ℕ, ◌&&◌, ◌<◌, ◌||◌, ◌∙◌, ◌∷◌, ◌≡◌, ◌≢◌, ◌⊎◌}
 use Rattle.grid_core.specs.Candidates.{IsInside}
 use Rattle.grid_core.specs.Planes.{has}
-use Rattle.fields_core.specs.Parts.{IsAlive}
+use Rattle.fields_core.specs.Parts.{ArePlanesAlive}
 use Rattle.fields_core.specs.Visits.{AreVisited}
 unfoldable use Rattle.fields_core.specs.Visits.{after_houses}
 use Rattle.fields_core.proofs.AtMostLemmas.{IsFull, IsOneAtMost, visits-met, visits-two, zeros_of}
@@ -105,7 +105,7 @@ few-of cells K (house ∷ houses) (is, each) none =
     )
 
 -- ---- visits in another order
-module _ (some all : List CountHouse) (from to : Layers) (fills : Bool) (alive : IsAlive from)
+module _ (some all : List CountHouse) (from to : Layers) (fills : Bool) (alive : ArePlanesAlive from)
     (each_some : AllByRecursion (IsSingle (cells_of from)) some) (each_all : AllByRecursion (IsSingle (cells_of from)) all)
     (same : AreSame some all) (visited : AreVisited some from to fills) where
   abbrev cells : ℕ

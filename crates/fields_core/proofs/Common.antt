@@ -62,7 +62,7 @@ pub use Rattle.fields_core.specs.LightFaults.{FailsLight, IsLightFault, light_te
 pub use Rattle.fields_core.specs.LightHouses.{column_house, light_house, light_rules, lit_house, number_house, row_house}
 unfoldable pub use Rattle.fields_core.specs.LightHouses.{begins_column_run, begins_row_run, column_run, light_houses, row_run, seen_from}
 pub use Rattle.fields_core.specs.LightRuns.{IsAround, begins_at, line_cells, line_white, run_house}
-pub use Rattle.fields_core.specs.Parts.{ArePieces, IsAlive, IsBroken, IsCount, IsCounted, IsHouseOf, Piece, piece_at}
+pub use Rattle.fields_core.specs.Parts.{ArePieces, ArePlanesAlive, IsBroken, IsCount, ArePartsCounted, IsHouseOf, Piece, piece_at}
 unfoldable pub use Rattle.fields_core.specs.Parts.{lies_in, lies_in_first, without_value}
 pub use Rattle.fields_core.specs.Runs.{RunsOn, SeesAlong, ShinesAlong}
 pub use Rattle.fields_core.specs.Tallies.{IsTally, lacks_filling, stays}

@@ -8,7 +8,7 @@ use Rattle.grid_core.specs.Planes.{has}
 use Rattle.grid_core.proofs.PlaneLemmas.{further-none}
 use Rattle.engine_core.specs.HouseSetsLaws.{strikes_at-inside, by_fillings-monotone}
 use Rattle.fields_core.specs.CountHouse.{strikes_of}
-use Rattle.fields_core.specs.Parts.{IsAlive}
+use Rattle.fields_core.specs.Parts.{ArePlanesAlive}
 use Rattle.fields_core.specs.Visits.{AreVisited, after_houses}
 use Rattle.fields_core.specs.Waits.{AreIdle}
 use Rattle.fields_core.proofs.AtMostLemmas.{IsFull}
@@ -79,7 +79,7 @@ idle-far (house ∷ houses) K L inside far idle =
         (grind (arith, common_steps, cases_Bool (has_place house.places c)), grind (arith, common_steps, cases_Bool (any_has houses c)))
 
 -- a visit of idle houses takes nothing
-pub visited-idle : (houses : List CountHouse) {p : Layers} → IsAlive p → AreIdle houses (has p) → AreVisited houses p p true
+pub visited-idle : (houses : List CountHouse) {p : Layers} → ArePlanesAlive p → AreIdle houses (has p) → AreVisited houses p p true
 visited-idle houses {p} alive idle = record {
   left = λ _. sym idle;
   dies = λ e. absurd (true≢false e);

@@ -1,5 +1,5 @@
 -- The rows of the white cells of Light Up that wait.
-use Rattle.fields_core.proofs.Common.{at_line, IsAlive, Layers, le-ltb, ltb, IsLight, Light, any_below, any_below-none, and_from, arith, clear, common_steps, cases_Bool, cases_lt, div-mul-add, eqb, false, false_from_ne_true, has_bit, has_place, inl, inr, joined_in_column, joined_in_row, lt-ltb, max, min, not, place-append, place-column, place-filter, refl, row_run, column_run, seen_from, sym, true, true≢false, white, Bool, ℕ, ◌%◌, ◌&&◌, ◌*◌, ◌+◌, ◌/◌, ◌<◌, ◌∙◌, ◌≡◌, ◌≤◌, ◌⊎◌}
+use Rattle.fields_core.proofs.Common.{at_line, ArePlanesAlive, Layers, le-ltb, ltb, IsLight, Light, any_below, any_below-none, and_from, arith, clear, common_steps, cases_Bool, cases_lt, div-mul-add, eqb, false, false_from_ne_true, has_bit, has_place, inl, inr, joined_in_column, joined_in_row, lt-ltb, max, min, not, place-append, place-column, place-filter, refl, row_run, column_run, seen_from, sym, true, true≢false, white, Bool, ℕ, ◌%◌, ◌&&◌, ◌*◌, ◌+◌, ◌/◌, ◌<◌, ◌∙◌, ◌≡◌, ◌≤◌, ◌⊎◌}
 use Rattle.grid_core.specs.Planes.{line_len, lines_beside, number_of}
 use Rattle.grid_core.specs.declared.planes.line.Line.{Line}
 use Rattle.grid_core.specs.declared.planes.line.Line.TheVariants.{Row, Column}
@@ -154,7 +154,7 @@ module _ {W : Type 0} (bits : W → ℕ) (p : Light) (lines : Touched W) (lawful
           true≢false (sym (part x y k high joined (omega (arith, at)) (omega (arith, more, down))) ∙ below y x more y_in lt column)
 
 -- ---- where each cell has a value, those of a line that must be 1 are those that can not be 0
-line-one : (planes : Layers) (line : Line) (k : ℕ) → number_of line < lines_beside planes.size line → k < line_len planes.size line → IsAlive planes
+line-one : (planes : Layers) (line : Line) (k : ℕ) → number_of line < lines_beside planes.size line → k < line_len planes.size line → ArePlanesAlive planes
     → at_line planes line 0 k ≡ false → at_line planes line 1 k ≡ true
 line-one planes (Row y) k y_in lt alive off = elim (alive (y * planes.size.w + k) (place-in planes.size.w planes.size.h y k y_in lt)) [
   | inl on ↦ absurd (true≢false (sym on ∙ has-at planes y k 0 refl lt (omega arith) ∙ off))
@@ -165,7 +165,7 @@ line-one planes (Column x) k x_in lt alive off = elim (alive (k * planes.size.w 
   | inr on ↦ sym (has-at planes k x 1 refl x_in (omega arith)) ∙ on
 ]
 
-pub line-must : (planes : Layers) (line : Line) (k : ℕ) → number_of line < lines_beside planes.size line → IsAlive planes
+pub line-must : (planes : Layers) (line : Line) (k : ℕ) → number_of line < lines_beside planes.size line → ArePlanesAlive planes
     → (at_line planes line 1 k ≡ true → k < line_len planes.size line)
     → (at_line planes line 1 k && not (at_line planes line 0 k)) ≡ (ltb k (line_len planes.size line) && not (at_line planes line 0 k))
 line-must planes line k line_in alive within = elim (cases_Bool (at_line planes line 0 k)) [

@@ -1,5 +1,5 @@
 -- Sweeps of the houses of Light Up on planes.
-use Rattle.fields_core.proofs.Common.{AllByRecursion, CountHouse, List, IsAlive, IsLight, Layers, Light, append_assoc, ap, arith, column_house, false_from_ne_true, houses_below, inl, inr, length, light_cells, light_houses, light_rules, lit_house, not, refl, row_house, sym, true, true≢false, white, ℕ, Bool, ◌*◌, ◌++◌, ◌+◌, ◌<◌, ◌∙◌, ◌≡◌, ◌≤◌, ◌⊎◌}
+use Rattle.fields_core.proofs.Common.{AllByRecursion, CountHouse, List, ArePlanesAlive, IsLight, Layers, Light, append_assoc, ap, arith, column_house, false_from_ne_true, houses_below, inl, inr, length, light_cells, light_houses, light_rules, lit_house, not, refl, row_house, sym, true, true≢false, white, ℕ, Bool, ◌*◌, ◌++◌, ◌+◌, ◌<◌, ◌∙◌, ◌≡◌, ◌≤◌, ◌⊎◌}
 use Rattle.grid_core.specs.Planes.{IsFurther, has}
 use Rattle.grid_core.proofs.PlaneLemmas.{place-in}
 use Rattle.fields_core.specs.Light.{solves_lights}
@@ -122,7 +122,7 @@ lights-swept p {from} {to} {fills} size visited =
     visits-swept (light_cells p) (λ c. not (white p c)) (light_houses p) (solves_lights p) (rw size refl) all
 
 -- ---- what is kept
-pub planes-next : {room : ℕ} {p : Light} {from to : Layers} → ArePlanesOf room p from → IsFurther from to → IsAlive to → ArePlanesOf room p to
+pub planes-next : {room : ℕ} {p : Light} {from to : Layers} → ArePlanesOf room p from → IsFurther from to → ArePlanesAlive to → ArePlanesOf room p to
 planes-next of further alive = record {
   lawful = of.lawful;
   narrow = of.narrow;
@@ -133,7 +133,7 @@ planes-next of further alive = record {
 
 -- what does not wait is idle again
 pub ready-next : {W : Type 0} {bits : W → ℕ} {room : ℕ} {p : Light} {from to : Layers} {notes : LightNotes W} → AreLightsReady bits room p from notes
-    → IsFurther from to → IsAlive to → (now : LightNotes W) → now.tables ≡ notes.tables → length now.safe.items ≡ length notes.safe.items
+    → IsFurther from to → ArePlanesAlive to → (now : LightNotes W) → now.tables ≡ notes.tables → length now.safe.items ≡ length notes.safe.items
     → AreLinesRested bits p now.waits (has to) → AreLightsReady bits room p to now
 ready-next {bits = bits} {room = room} {p = p} ready further alive now tables long rested = record {
   planes_of = planes-next ready.planes_of further alive;

@@ -1,5 +1,5 @@
 -- Visits of the white cells of Light Up on planes.
-use Rattle.fields_core.proofs.Common.{and-false, and-true, ArePieces, Bool, Extent, IsAlive, IsFurther, IsHouse, IsHouseOf, IsLight, Layers, Light, List, Piece, and_from, and_parts, any_below, any_below-none, any_below-some, ap, arith, cases_Bool, cases_eq, column_run, common_steps, count_below, count_below-pos, count_below-same, crosses, distinct-from, div-mul-add, eq-eqb, eqb, eqb-true, false, false_from_ne_true, has_bit, has_place, houses_below, inl, inr, joined_in_column, joined_in_row, length, lies_in, lies_in_first, light_cells, light_houses, lit_house, lt-ltb, ltb-true, mod-lt, ne_eqb, not, one_at_least, place-column, refl, row_run, seen_from, subst, sym, true, true≢false, white, ℕ, ◌%◌, ◌&&◌, ◌*◌, ◌+◌, ◌/◌, ◌<◌, ◌||◌, ◌∙◌, ◌≡◌, ◌≤◌}
+use Rattle.fields_core.proofs.Common.{and-false, and-true, ArePieces, Bool, Extent, ArePlanesAlive, IsFurther, IsHouse, IsHouseOf, IsLight, Layers, Light, List, Piece, and_from, and_parts, any_below, any_below-none, any_below-some, ap, arith, cases_Bool, cases_eq, column_run, common_steps, count_below, count_below-pos, count_below-same, crosses, distinct-from, div-mul-add, eq-eqb, eqb, eqb-true, false, false_from_ne_true, has_bit, has_place, houses_below, inl, inr, joined_in_column, joined_in_row, length, lies_in, lies_in_first, light_cells, light_houses, lit_house, lt-ltb, ltb-true, mod-lt, ne_eqb, not, one_at_least, place-column, refl, row_run, seen_from, subst, sym, true, true≢false, white, ℕ, ◌%◌, ◌&&◌, ◌*◌, ◌+◌, ◌/◌, ◌<◌, ◌||◌, ◌∙◌, ◌≡◌, ◌≤◌}
 use Rattle.grid_core.specs.Planes.{bit_of, has}
 use Rattle.grid_core.specs.declared.planes.line.Line.TheVariants.{Row, Column}
 use Rattle.grid_core.proofs.PlaneLemmas.{place-in}
@@ -44,7 +44,7 @@ pub record AreRunsAt (p : Light) (y x row_bits column_bits others : ℕ) (from :
   pub column_is : IsColumnRun p (y * p.size.w + x) column_bits
   pub others_is : (k : ℕ) → has_bit others k ≡ (has_bit column_bits k && not (eqb k y))
   pub size : from.size ≡ p.size
-  pub alive : IsAlive from
+  pub alive : ArePlanesAlive from
   pub wide : p.size.w ≤ room
   pub tall : p.size.h ≤ room
 
@@ -169,7 +169,7 @@ module _ {p : Light} {y x row_bits column_bits others : ℕ} {from : Layers} {ro
     house-of = subst (λ (e : Extent). IsHouseOf e pieces 1 most (one_at_least (seen_from p cell))) (sym s.size)
         (record { is = house_is; least_is = refl; most_is = house-long; cells = seen-has })
 
-    pub lit-visited : {to : Layers} {fills : Bool} → IsVisitOf pieces 1 most from to fills → IsAlive to → IsFurther from to → AreVisited (lit_house p cell) from to fills
+    pub lit-visited : {to : Layers} {fills : Bool} → IsVisitOf pieces 1 most from to fills → ArePlanesAlive to → IsFurther from to → AreVisited (lit_house p cell) from to fills
     lit-visited visit alive further =
         let told = visit _ house-of in
         rw (white-run on) (visited-one house-of.is (omega (arith, house-long, some-cell)) told.0 told.1 alive further)

@@ -1,5 +1,5 @@
 -- Visits of count houses by pieces of lines.
-use Rattle.fields_core.proofs.Common.{ArePieces, Bool, Candidates, CountHouse, Extent, IsAlive, IsBroken, IsCount, IsCounted, IsHouseOf, IsTally, Layers, List, Piece, add-one, after_house, and-false, and-true, and_comm, and_from, and_parts, any_below, any_below-some, ap, arith, at_line, cases_Bool, cases_eq, cells_of, common_steps, count_below, count_below-bound, count_below-none, count_below-pos, count_below-same, count_by, covers, crosses, distinct-from, eq-eqb, eqb, false, false_from_ne_true, fun_ext, has_bit, has_place, has_place-at, inl, inr, is_empty, is_open, le-ltb, length, lies_in, lies_in_first, line_len, lines_beside, lt-ltb, ltb, ltb-true, ne_eqb, not, number_of, piece_at, refl, slice_index, suc, sym, true, without_taking, without_value, zero, ℕ, ◌%◌, ◌&&◌, ◌+◌, ◌-◌, ◌/◌, ◌<◌, ◌||◌, ◌∙◌, ◌≡◌, ◌≢◌, ◌≤◌, ◌⊎◌}
+use Rattle.fields_core.proofs.Common.{ArePieces, Bool, Candidates, CountHouse, Extent, ArePlanesAlive, IsBroken, IsCount, ArePartsCounted, IsHouseOf, IsTally, Layers, List, Piece, add-one, after_house, and-false, and-true, and_comm, and_from, and_parts, any_below, any_below-some, ap, arith, at_line, cases_Bool, cases_eq, cells_of, common_steps, count_below, count_below-bound, count_below-none, count_below-pos, count_below-same, count_by, covers, crosses, distinct-from, eq-eqb, eqb, false, false_from_ne_true, fun_ext, has_bit, has_place, has_place-at, inl, inr, is_empty, is_open, le-ltb, length, lies_in, lies_in_first, line_len, lines_beside, lt-ltb, ltb, ltb-true, ne_eqb, not, number_of, piece_at, refl, slice_index, suc, sym, true, without_taking, without_value, zero, ℕ, ◌%◌, ◌&&◌, ◌+◌, ◌-◌, ◌/◌, ◌<◌, ◌||◌, ◌∙◌, ◌≡◌, ◌≢◌, ◌≤◌, ◌⊎◌}
 use Rattle.grid_core.specs.Planes.{has}
 use Rattle.fields_core.proofs.CountKept.{after-at, off-scope}
 use Rattle.fields_core.proofs.PartCounts.{count-apart, line-count, crosses-both, place-count}
@@ -96,12 +96,12 @@ counted-small {p} {pieces} {n} counted = grind (arith, common_steps, count_below
 
 -- ---- the house of all pieces
 
-pub counted-fewer : {p : Layers} {pieces : List Piece} {may undecided : ℕ} → IsAlive p → IsCounted p pieces may undecided → undecided ≤ may
+pub counted-fewer : {p : Layers} {pieces : List Piece} {may undecided : ℕ} → ArePlanesAlive p → ArePartsCounted p pieces may undecided → undecided ≤ may
 counted-fewer {p} {pieces} alive counted =
     omega (arith, counted.may_is, counted.undecided_is, count-split (lies_in_first p.size.w pieces (length pieces)) (λ c. has p c 0) (λ c. has p c 1) (cells_of p) alive)
 
 tally-of : (p : Layers) {pieces : List Piece} {may undecided least most : ℕ} {house : CountHouse}
-    → IsAlive p → IsCounted p pieces may undecided → IsHouseOf p.size pieces least most house
+    → ArePlanesAlive p → ArePartsCounted p pieces may undecided → IsHouseOf p.size pieces least most house
     → IsTally (has p) house.places (record { must = may - undecided; may = may; empty = 0 })
 tally-of p {pieces} {house} alive counted of =
     let inside = lies_in_first p.size.w pieces (length pieces) in
@@ -128,8 +128,8 @@ value-in p c v on = ltb-true v 2 (and_parts _ _ on).0
 abbrev pub at_bound : ℕ → ℕ → ℕ → ℕ → ℕ → Bool
 at_bound least most must may v = (eqb v 1 && eqb must most) || (eqb v 0 && eqb may least)
 
-module _ (p : Layers) (pieces : List Piece) (may undecided least most : ℕ) (alive : IsAlive p)
-    (counted : IsCounted p pieces may undecided) (order : least ≤ most)
+module _ (p : Layers) (pieces : List Piece) (may undecided least most : ℕ) (alive : ArePlanesAlive p)
+    (counted : ArePartsCounted p pieces may undecided) (order : least ≤ most)
     (house : CountHouse) (of : IsHouseOf p.size pieces least most house) where
   abbrev inside : ℕ → Bool
   inside = lies_in_first p.size.w pieces (length pieces)
@@ -196,7 +196,7 @@ module _ (p : Layers) (pieces : List Piece) (may undecided least most : ℕ) (al
 -- where nothing is undecided, no cell is
 pub none-undecided : {p : Layers} {pieces : List Piece} {may undecided : ℕ} (c : ℕ) {least most : ℕ} (at : Bool)
     {house : CountHouse} → IsHouseOf p.size pieces least most house
-    → IsCounted p pieces may undecided → undecided ≡ 0
+    → ArePartsCounted p pieces may undecided → undecided ≡ 0
     → (lies_in_first p.size.w pieces (length pieces) c && (is_open (has p) c && at)) ≡ false
 none-undecided {p} {pieces} c at of counted none = false_from_ne_true _ (λ on.
     let parts = and_parts _ _ on in
@@ -264,7 +264,7 @@ struck-none w pieces value = grind (arith, common_steps)
 
 -- each cell still has a value
 pub struck-alive : (p q : Layers) (pieces : List Piece) (n value : ℕ) → q.size ≡ p.size → value < 2
-    → IsAlive p → has q ≡ without_value p.size.w pieces n value (has p) → IsAlive q
+    → ArePlanesAlive p → has q ≡ without_value p.size.w pieces n value (has p) → ArePlanesAlive q
 unfolding without_value
 struck-alive p q pieces n value size lt alive left c lc = by value lt (λ v. ap (λ L. L c v) left) (alive c (rw size at lc))
   where

@@ -12,7 +12,7 @@ use Rattle.engine_core.proofs.SweepLemmas.{IsSwept, fewer, sweep-shut, swept-dea
 use Rattle.engine_core.specs.declared.mode.Closing.TheVariants.{Dead, Open}
 use Rattle.fields_core.specs.CountHouse.{CountHouse, IsCounting, count_puzzle}
 use Rattle.fields_core.specs.CountLaws.{count-lawful}
-use Rattle.fields_core.specs.Parts.{IsAlive}
+use Rattle.fields_core.specs.Parts.{ArePlanesAlive}
 use Rattle.fields_core.specs.Sweeps.{IsSweep, swept_by}
 use Rattle.fields_core.specs.Visits.{AreVisited, after_houses}
 use Rattle.fields_core.proofs.VisitLemmas.{replay-visits}
@@ -30,16 +30,16 @@ pub counted-some : (K : Candidates) (c : ℕ) → 0 < count_below (K c) 2 → (K
 unfolding count_below
 counted-some K c some = grind (arith, common_steps, cases_Bool (K c 0), cases_Bool (K c 1))
 
-pub cells-alive : {cells : ℕ} (s : Layers) → cells_of s ≡ cells → is_dead cells 2 (has s) ≡ false → IsAlive s
+pub cells-alive : {cells : ℕ} (s : Layers) → cells_of s ≡ cells → is_dead cells 2 (has s) ≡ false → ArePlanesAlive s
 cells-alive {cells} s size alive = λ c lt. counted-some (has s) c (is_dead-not cells 2 (has s) c alive (rw size at lt))
 
-pub alive-cells : {cells : ℕ} (s : Layers) → cells_of s ≡ cells → IsAlive s → is_dead cells 2 (has s) ≡ false
+pub alive-cells : {cells : ℕ} (s : Layers) → cells_of s ≡ cells → ArePlanesAlive s → is_dead cells 2 (has s) ≡ false
 alive-cells {cells} s size alive = is_dead-each cells 2 (has s)
     (λ c lt. some-counted (has s) c (alive c (rw size lt)))
 
 -- so many sweeps took the planes from the first to the second, and each took something
 pub record AreSweepsOf (p : RuleSystem) (from : Layers) (sweeps : ℕ) (to : Layers) : Type 0 where
-  pub alive : IsAlive to
+  pub alive : ArePlanesAlive to
   pub swept : IsSwept p (has from) sweeps (has to)
   pub further : IsFurther from to
 
@@ -61,7 +61,7 @@ module _ (cells : ℕ) (blocked : ℕ → Bool) (houses : List CountHouse) (is_s
       }
 
   -- ---- sweeps up to the last
-  pub sweeps-none : {from : Layers} → cells_of from ≡ cells → IsAlive from → AreSweepsOf rules from 0 from
+  pub sweeps-none : {from : Layers} → cells_of from ≡ cells → ArePlanesAlive from → AreSweepsOf rules from 0 from
   sweeps-none {from} size alive = record {
     alive = alive;
     swept = swept-first rules (has from) (alive-cells from size alive);

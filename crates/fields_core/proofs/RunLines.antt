@@ -1,5 +1,5 @@
 -- The runs of one line, visited at once.
-use Rattle.fields_core.proofs.Common.{AllByRecursion, Bool, CountHouse, Extent, IsAlive, IsFurther, IsHouse, Layers, List, [], and-false, and-true, and_from, and_parts, any_below, any_below-here, any_below-none, any_below-some, ap, arith, at_line, cases_Bool, cases_eq, cases_lt, common_steps, covers, crosses, distinct-from, eq-eqb, eqb, false, false_from_ne_true, false≢true, fun_ext, has_bit, has_place, inl, inr, list_any, lt-ltb, ltb, ltb-true, ne_eqb, not, not-true, or_cases, or_left, or_right, refl, sym, true, true≢false, without_taking, ℕ, ◌%◌, ◌&&◌, ◌*◌, ◌/◌, ◌<◌, ◌||◌, ◌∙◌, ◌∷◌, ◌≡◌, ◌≢◌, ◌≤◌, ◌⊎◌}
+use Rattle.fields_core.proofs.Common.{AllByRecursion, Bool, CountHouse, Extent, ArePlanesAlive, IsFurther, IsHouse, Layers, List, [], and-false, and-true, and_from, and_parts, any_below, any_below-here, any_below-none, any_below-some, ap, arith, at_line, cases_Bool, cases_eq, cases_lt, common_steps, covers, crosses, distinct-from, eq-eqb, eqb, false, false_from_ne_true, false≢true, fun_ext, has_bit, has_place, inl, inr, list_any, lt-ltb, ltb, ltb-true, ne_eqb, not, not-true, or_cases, or_left, or_right, refl, sym, true, true≢false, without_taking, ℕ, ◌%◌, ◌&&◌, ◌*◌, ◌/◌, ◌<◌, ◌||◌, ◌∙◌, ◌∷◌, ◌≡◌, ◌≢◌, ◌≤◌, ◌⊎◌}
 use Rattle.grid_core.specs.Planes.{has}
 use Rattle.grid_core.specs.Words.{IsLeast}
 use Rattle.grid_core.specs.declared.planes.line.Line.{Line}
@@ -175,7 +175,7 @@ each-more P Q [] more all = tt
 each-more P Q (house ∷ houses) more (is, all) = (more house is, each-more P Q houses more all)
 
 module _ (size : Extent) (line : Line) (n room : ℕ) (cell : ℕ → ℕ) (joined : ℕ → ℕ → Bool) (houses : List CountHouse)
-    (are : AreRunsOf size line n cell joined houses) (from : Layers) (same_size : from.size ≡ size) (alive : IsAlive from)
+    (are : AreRunsOf size line n cell joined houses) (from : Layers) (same_size : from.size ≡ size) (alive : ArePlanesAlive from)
     (must : ℕ) (run : ℕ → ℕ) (fits : n ≤ room)
     (must_is : (k : ℕ) → has_bit must k ≡ (ltb k n && not (at_line from line 0 k)))
     (run_is : (j k : ℕ) → j < n → has_bit (run j) k ≡ (ltb k n && joined j k)) where

@@ -4,9 +4,9 @@ use Rattle.grid_core.specs.Planes.{has}
 use Rattle.grid_core.specs.Regions.{row_places, column_places}
 use Rattle.grid_core.specs.Words.{IsLeast}
 use Rattle.gameid_core.specs.Puzzles.{Tents, IsTents}
-use Rattle.fields_core.specs.Parts.{IsAlive}
+use Rattle.fields_core.specs.Parts.{ArePlanesAlive}
 use Rattle.fields_core.specs.Visits.{AreVisited, IsFieldOf, after_houses}
-use Rattle.fields_core.specs.Waits.{AreIdle, AreRested, kind_houses, kind_lines, waiting}
+use Rattle.fields_core.specs.Waits.{AreIdle, AreTentsRested, kind_houses, kind_lines, waiting}
 use Rattle.fields_core.specs.declared.planes.waits.Kind.{Kind}
 use Rattle.fields_core.specs.declared.planes.waits.Kind.TheVariants.{Columns, Rows, Trees, Squares}
 use Rattle.fields_core.specs.declared.planes.waits.Waits.{Waits}
@@ -83,7 +83,7 @@ module _ (p : Tents) (lawful : IsTents p) where
   kind-quiet kind = record { different = λ house is. (kind-is kind house is).different; keeps = kind-keeps kind }
 
 -- planes stay those of a puzzle while they lose values
-pub field-further : {room : ℕ} {p : Tents} {from to : Layers} {words : List ℕ} → IsFieldOf room p from words → IsFurther from to → IsAlive to
+pub field-further : {room : ℕ} {p : Tents} {from to : Layers} {words : List ℕ} → IsFieldOf room p from words → IsFurther from to → ArePlanesAlive to
     → IsFieldOf room p to words
 field-further field further alive = record {
   lawful = field.lawful;
@@ -105,8 +105,8 @@ pub record ArePassed (p : Tents) (kind : Kind) (left : ℕ → Bool) (from to : 
   pub visited : AreVisited (houses_below (kind_houses p kind) line) from to true
   pub idle : (k : ℕ) → k < kind_lines p kind → left k ≡ false → AreIdle (kind_houses p kind k) (has to)
 
-pub passed-first : {W : Type 0} (bits : W → ℕ) (p : Tents) (kind : Kind) (waits : Waits W) (left : ℕ → Bool) {from : Layers} → IsAlive from
-    → AreRested bits p waits (has from) → ((k : ℕ) → left k ≡ (has_bit (waiting bits waits kind) k && ltb k (kind_lines p kind)))
+pub passed-first : {W : Type 0} (bits : W → ℕ) (p : Tents) (kind : Kind) (waits : Waits W) (left : ℕ → Bool) {from : Layers} → ArePlanesAlive from
+    → AreTentsRested bits p waits (has from) → ((k : ℕ) → left k ≡ (has_bit (waiting bits waits kind) k && ltb k (kind_lines p kind)))
     → ArePassed p kind left from from
 passed-first bits p kind waits left alive rested is = record {
   line = 0;

@@ -7,7 +7,7 @@ use Rattle.grid_core.specs.Words.{has_bit}
 use Rattle.grid_core.specs.declared.planes.line.Line.TheVariants.{Row, Column}
 use Rattle.gameid_core.specs.Puzzles.{Tents, IsTents}
 use Rattle.fields_core.specs.CountHouse.{CountHouse, IsHouse, after_house, exactly, one_at_most, one_at_least, houses_below}
-use Rattle.fields_core.specs.Parts.{Piece, IsHouseOf, IsAlive, IsBroken}
+use Rattle.fields_core.specs.Parts.{Piece, IsHouseOf, ArePlanesAlive, IsBroken}
 use Rattle.fields_core.specs.TentHouses.{column_of_tents, row_of_tents, free_beside, tree_house, square_house, tent_houses}
 use Rattle.fields_core.specs.Tents.{tent_cells, tree}
 use Rattle.fields_core.specs.Visits.{AreVisited}
@@ -62,7 +62,7 @@ IsVisitOf pieces least most from to fills = (house : CountHouse) → IsHouseOf f
 -- ---- lines
 pub column-visited : (p : Tents) (x bits ones : ℕ) (from to : Layers) (fills : Bool) → IsTents p
     → from.size ≡ p.size → x < p.size.w → ((k : ℕ) → has_bit bits k ≡ ltb k p.size.h) → ones ≡ slice_index p.counts x
-    → IsVisitOf (record { line = Column x; bits = bits } ∷ []) ones ones from to fills → IsAlive to
+    → IsVisitOf (record { line = Column x; bits = bits } ∷ []) ones ones from to fills → ArePlanesAlive to
     → IsFurther from to → AreVisited (column_of_tents p x) from to fills
 column-visited p x bits ones from to fills lawful size lt is count visit alive further =
     let told = visit (exactly (slice_index p.counts x) (column_places p.size x))
@@ -73,7 +73,7 @@ column-visited p x bits ones from to fills lawful size lt is count visit alive f
 pub row-visited : (p : Tents) (y bits ones : ℕ) (from to : Layers) (fills : Bool) → IsTents p
     → from.size ≡ p.size → y < p.size.h → ((k : ℕ) → k < p.size.w → has_bit bits k ≡ true)
     → ones ≡ slice_index p.counts (p.size.w + y)
-    → IsVisitOf (record { line = Row y; bits = bits } ∷ []) ones ones from to fills → IsAlive to
+    → IsVisitOf (record { line = Row y; bits = bits } ∷ []) ones ones from to fills → ArePlanesAlive to
     → IsFurther from to → AreVisited (row_of_tents p y) from to fills
 row-visited p y bits ones from to fills lawful size lt is count visit alive further =
     let pos = (tent-field lawful).some in

@@ -15,12 +15,12 @@ use Rattle.engine_core.specs.RuleSystem.{IsClosed}
 use Rattle.engine_core.proofs.QueueLemmas.{alive_around}
 use Rattle.gameid_core.specs.Puzzles.{Tents, IsTents}
 use Rattle.fields_core.specs.CountHouse.{one_at_most}
-use Rattle.fields_core.specs.Parts.{IsAlive}
+use Rattle.fields_core.specs.Parts.{ArePlanesAlive}
 use Rattle.fields_core.specs.Squares.{squares_of_row}
 use Rattle.fields_core.specs.TentHouses.{is_barred, column_of_tents, row_of_tents, square_house, tent_houses, tent_rules}
 use Rattle.fields_core.specs.Tents.{solves_tents}
 use Rattle.fields_core.specs.Trees.{trees_of_row}
-use Rattle.fields_core.specs.Waits.{AreIdle, AreRested, AreWoken, kind_houses, kind_lines, waiting}
+use Rattle.fields_core.specs.Waits.{AreIdle, AreTentsRested, AreTentsWoken, kind_houses, kind_lines, waiting}
 use Rattle.fields_core.specs.declared.planes.waits.Kind.{Kind}
 use Rattle.fields_core.specs.declared.planes.waits.Kind.TheVariants.{Columns, Rows, Trees, Squares}
 use Rattle.fields_core.specs.declared.planes.waits.Waits.{Waits}
@@ -108,7 +108,7 @@ lines_of zeros ones zero = zeros
 lines_of zeros ones (suc v) = ones
 
 module _ {W : Type 0} (bits : W → ℕ) {room : ℕ} (p : Tents) {before now : Waits W} {zeros ones : Touched W}
-    (pos : 0 < p.size.w) (low : p.size.h ≤ room) (woken : AreWoken bits room before zeros ones now) where
+    (pos : 0 < p.size.w) (low : p.size.h ≤ room) (woken : AreTentsWoken bits room before zeros ones now) where
   pub woken-off : (v c : ℕ) → v < 2 → AreLinesOf bits (lines_of zeros ones v) (c / p.size.w) (c % p.size.w) → AreOff bits p now v c
   woken-off v c small on kind k lt off mind = false_from_ne_true _ (by v small kind on lt off mind)
     where
@@ -179,9 +179,9 @@ squares-each p y lawful lt = all-houses (IsSingle (tent_cells p)) (λ x. square_
 
 -- what does not wait on a board stays idle once cells of these lines have lost values
 pub rested-board : {W : Type 0} (bits : W → ℕ) {room : ℕ} (p : Tents) {before now : Waits W} {zeros ones : Touched W} (K L : Candidates)
-    → IsTents p → p.size.h ≤ room → AreWoken bits room before zeros ones now → IsFull (tent_cells p) K → IsFull (tent_cells p) L → IsInside L K
+    → IsTents p → p.size.h ≤ room → AreTentsWoken bits room before zeros ones now → IsFull (tent_cells p) K → IsFull (tent_cells p) L → IsInside L K
     → ((v c : ℕ) → v < 2 → K c v ≡ true → L c v ≡ false → AreLinesOf bits (lines_of zeros ones v) (c / p.size.w) (c % p.size.w))
-    → AreRested bits p before K → AreRested bits p now L
+    → AreTentsRested bits p before K → AreTentsRested bits p now L
 unfolding any_has
 rested-board bits {room} p {before} {now} K L lawful low woken full still inside lines rested kind k lt off =
     by kind lt off (rested kind k lt (waited bits p pos low woken kind k off))
@@ -210,8 +210,8 @@ rested-board bits {room} p {before} {now} K L lawful low woken full still inside
 
 pub rested-woken : {W : Type 0} (bits : W → ℕ) {room : ℕ} (p : Tents) (before now : Waits W) {zeros ones : Touched W} {from to : Layers} {len : ℕ}
     → ArePlanes room to → IsLostIn bits to.size.w 0 (back_at to len) (has to) zeros → IsLostIn bits to.size.w 1 (back_at to len) (has to) ones
-    → AreWoken bits room before zeros ones now → IsTents p → from.size ≡ p.size → from.len ≡ len → IsAlive from → IsAlive to → IsFurther from to
-    → AreRested bits p before (has from) → AreRested bits p now (has to)
+    → AreTentsWoken bits room before zeros ones now → IsTents p → from.size ≡ p.size → from.len ≡ len → ArePlanesAlive from → ArePlanesAlive to → IsFurther from to
+    → AreTentsRested bits p before (has from) → AreTentsRested bits p now (has to)
 rested-woken bits {room} p before now {zeros} {ones} {from} {to} {len} are lost_zeros lost_ones woken lawful size is alive after further =
     rested-board bits p (has from) (has to) lawful (rw (← same) are.low) woken
     (record { low = value-in from; some = λ c lt. alive c (rw size lt) }) (record { low = value-in to; some = λ c lt. after c (rw same lt) }) further.inside lines
@@ -239,7 +239,7 @@ part-kind p Squares k lt = in-back _ (houses_below (column_of_tents p) p.size.w)
     (in-back _ (houses_below (tree_house p) (tent_cells p)) _ (rw (squares-are p) at (in-below (squares_of_row p) k p.size.h lt))))
 
 -- all houses of a closed board are idle
-closed-rested : {W : Type 0} (bits : W → ℕ) (p : Tents) (none : Waits W) (K : Candidates) → IsClosed (tent_rules p) K → AreRested bits p none K
+closed-rested : {W : Type 0} (bits : W → ℕ) (p : Tents) (none : Waits W) (K : Candidates) → IsClosed (tent_rules p) K → AreTentsRested bits p none K
 closed-rested bits p none K closed kind k lt off =
     closed-idle (tent_cells p) (is_barred p) (tent_houses p) (solves_tents p) K closed (part-kind p kind k lt)
 
@@ -261,7 +261,7 @@ module _ {W : Type 0} (bits : W → ℕ) (K : Candidates) (place w : ℕ) (zeros
 pub rested-from : {W : Type 0} (bits : W → ℕ) {room : ℕ} (p : Tents) {planes : Layers} {from : Option ℕ} {place : ℕ} {none now : Waits W} {zeros ones : Touched W}
     → IsTents p → ArePlanes room planes → planes.size ≡ p.size → from ≡ Some place → IsClosedBut (tent_rules p) (has planes) from
     → ((v : ℕ) → v < 2 → has planes place (1 - v) ≡ true → has planes place v ≡ false → AreLinesOf bits (lines_of zeros ones v) (place / p.size.w) (place % p.size.w))
-    → AreWoken bits room none zeros ones now → AreRested bits p now (has planes)
+    → AreTentsWoken bits room none zeros ones now → AreTentsRested bits p now (has planes)
 rested-from bits {room} p {planes} {from} {place} {none} {now} {zeros} {ones} lawful are size is closed lines woken =
     rested-board bits p around.before (has planes) lawful (rw (← size) are.low) woken
     full still (rw (around.is) (only-inside around.before place around.value))

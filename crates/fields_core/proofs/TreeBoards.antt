@@ -5,7 +5,7 @@ use Rattle.grid_core.specs.Candidates.{IsInside}
 use Rattle.grid_core.specs.Planes.{has}
 use Rattle.grid_core.specs.Regions.{beside}
 use Rattle.grid_core.proofs.PlaneLemmas.{further-none, place-in}
-use Rattle.fields_core.specs.Parts.{IsAlive}
+use Rattle.fields_core.specs.Parts.{ArePlanesAlive}
 use Rattle.fields_core.specs.Trees.{IsRowOf, is_beside, trees_of_row, wants_tent, without_zeros}
 use Rattle.fields_core.specs.Visits.{AreVisited, after_houses}
 use Rattle.fields_core.proofs.CountKept.{after-at, off-scope, has-value}
@@ -207,7 +207,7 @@ any-count : (test : ℕ → Bool) (xs : List ℕ) → list_any test xs ≡ ltb 0
 any-count test [] = refl
 any-count test (x ∷ xs) = grind (arith, common_steps, cases_Bool (test x), count-cons, any-count test xs)
 
-module _ (p : Tents) (y : ℕ) (from : Layers) (room : ℕ) (wants some broken : ℕ) (lawful : IsTents p) (size : from.size ≡ p.size) (y_in : y < p.size.h) (alive : IsAlive from)
+module _ (p : Tents) (y : ℕ) (from : Layers) (room : ℕ) (wants some broken : ℕ) (lawful : IsTents p) (size : from.size ≡ p.size) (y_in : y < p.size.h) (alive : ArePlanesAlive from)
     (narrow : p.size.w ≤ room)
     (wants_is : IsRowOf p.size.w (wants_tent p) y wants)
     (some_is : (x : ℕ) → x < p.size.w → has_bit some x ≡ ltb 0 (count_by (λ c. not (tree p c) && has from c 1) (beside p.size (y * p.size.w + x))))

@@ -11,7 +11,7 @@ use Rattle.engine_core.specs.RuleSystem.{after}
 use Rattle.engine_core.specs.Closing.{replay}
 use Rattle.engine_core.specs.PlaceLaws.{has_place-here}
 use Rattle.fields_core.specs.CountHouse.{CountHouse, no_count_house, houses_below, after_house, count_house_of, count_puzzle, meets, AreHouses, AreMet, CountPuzzle, IsHouse}
-use Rattle.fields_core.specs.Parts.{IsAlive, IsBroken}
+use Rattle.fields_core.specs.Parts.{ArePlanesAlive, IsBroken}
 use Rattle.fields_core.specs.Visits.{after_houses, AreVisited}
 use Rattle.fields_core.proofs.CountListLemmas.{below-more}
 
@@ -66,7 +66,7 @@ pub replay-visits : (cells : ℕ) (blocked : ℕ → Bool) (houses : List CountH
 replay-visits cells blocked houses is_solution K = replay-on [] houses cells blocked is_solution K
 
 -- ---- visits on planes
-pub visited-none : {p : Layers} → IsAlive p → AreVisited [] p p true
+pub visited-none : {p : Layers} → ArePlanesAlive p → AreVisited [] p p true
 unfolding after_houses
 visited-none {p} alive = record {
   left = λ _. refl;
@@ -79,7 +79,7 @@ visited-none {p} alive = record {
 -- of one house, which has a cell
 pub visited-one : {house : CountHouse} {p q : Layers} {fills : Bool} → IsHouse (cells_of p) house
     → 0 < length house.places → (fills ≡ true → has q ≡ after_house house (has p))
-    → (fills ≡ false → IsBroken house (has p)) → IsAlive q → IsFurther p q → AreVisited (house ∷ []) p q fills
+    → (fills ≡ false → IsBroken house (has p)) → ArePlanesAlive q → IsFurther p q → AreVisited (house ∷ []) p q fills
 unfolding after_houses
 visited-one {house} is some left broken alive further = record {
   left = left;
@@ -133,7 +133,7 @@ below-rest f n (suc d) =
     let w = below-rest f n d in
     (w.0 ++ f (n + d), rw (e, w.1) (append_assoc (houses_below f n) w.0 (f (n + d))))
 
-pub sweep-first : (f : ℕ → List CountHouse) {p : Layers} → IsAlive p → AreVisited (houses_below f 0) p p true
+pub sweep-first : (f : ℕ → List CountHouse) {p : Layers} → ArePlanesAlive p → AreVisited (houses_below f 0) p p true
 unfolding houses_below
 sweep-first f alive = visited-none alive
 

@@ -32,15 +32,15 @@ pub use Rattle.fields_core.specs.LightFaults.{IsLightFault}
 pub use Rattle.fields_core.specs.LightHouses.{column_house, light_counts, light_house, light_rules, lit_house, number_house, row_house}
 unfoldable pub use Rattle.fields_core.specs.LightHouses.{light_houses}
 pub use Rattle.fields_core.specs.LightLonely.{asks, lonely}
-pub use Rattle.fields_core.specs.LightPlanes.{AreLightsWritten, ArePlanesOf, AreRowTables, AreTables, HasLightRoom, HasTables, IsKept}
+pub use Rattle.fields_core.specs.LightPlanes.{AreLightsWritten, ArePlanesOf, AreRowTables, AreTables, HasLightRoom, HasTables, AreTablesKept}
 pub use Rattle.fields_core.specs.LightRuns.{IsAround, IsLatest, IsLine, house_along, line_cells, whites_of}
 pub use Rattle.fields_core.specs.LightSolutions.{IsLightSolution}
 pub use Rattle.fields_core.specs.LightWaits.{AreIdleBut, AreLightsReady, AreLinesRested, AreLinesWoken, AreSafeInColumns, AreSpread, AreWhitesIdleBut}
 pub use Rattle.fields_core.specs.LightWaits.{lits_of_row, run_houses, run_lines, waiting_runs, white_houses}
 pub use Rattle.fields_core.specs.LightWords.{numbers_of_row}
 unfoldable pub use Rattle.fields_core.specs.NumberWords.{is_numbered}
-pub use Rattle.fields_core.specs.PairingScratches.{HasRoom}
-pub use Rattle.fields_core.specs.Parts.{ArePieces, IsAlive, IsBroken, IsHouseOf, Piece, piece_at, piece_of}
+pub use Rattle.fields_core.specs.PairingScratches.{HasPairingRoom}
+pub use Rattle.fields_core.specs.Parts.{ArePieces, ArePlanesAlive, IsBroken, IsHouseOf, Piece, piece_at, piece_of}
 unfoldable pub use Rattle.fields_core.specs.Parts.{without_value}
 pub use Rattle.fields_core.specs.RunLines.{AreAround, AreRunsOf, IsClash}
 pub use Rattle.fields_core.specs.RunWords.{AreFilled, AreWritten}
@@ -61,4 +61,4 @@ unfoldable pub use Rattle.fields_core.specs.Tents.{can_be_paired, touches}
 pub use Rattle.fields_core.specs.Trees.{AreBare, AreRowsOf, IsNear, IsRowOf, trees_of_row}
 unfoldable pub use Rattle.fields_core.specs.Trees.{is_beside, wants_tent, without_zeros}
 pub use Rattle.fields_core.specs.Visits.{AreVisited, IsFieldOf}
-pub use Rattle.fields_core.specs.Waits.{AreIdle, AreRested, AreWoken, kind_houses, kind_lines, waiting}
+pub use Rattle.fields_core.specs.Waits.{AreIdle, AreTentsRested, AreTentsWoken, kind_houses, kind_lines, waiting}

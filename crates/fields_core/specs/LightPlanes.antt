@@ -5,7 +5,7 @@ use Rattle.gameid_core.specs.Puzzles.{IsLight, Light}
 use Rattle.fields_core.specs.Light.{light_cells, white}
 use Rattle.fields_core.specs.LightWords.{AreRunWords, IsRowRun}
 use Rattle.fields_core.specs.NumberWords.{AreColumnsOf, is_numbered}
-use Rattle.fields_core.specs.Parts.{IsAlive}
+use Rattle.fields_core.specs.Parts.{ArePlanesAlive}
 use Rattle.fields_core.specs.Trees.{AreRowsOf}
 use Rattle.fields_core.specs.declared.planes.lights.notes.LightNotes.{LightNotes}
 use Rattle.fields_core.specs.declared.planes.lights.tables.LightTables.{LightTables}
@@ -47,9 +47,9 @@ pub record ArePlanesOf (room : ℕ) (p : Light) (planes : Layers) : Type 0 where
   pub narrow : p.size.w ≤ room
   pub low : p.size.h ≤ room
   pub size : planes.size ≡ p.size
-  pub alive : IsAlive planes
+  pub alive : ArePlanesAlive planes
 
 -- the words of the puzzle are the same, and there is as much room
-pub record IsKept {W : Type 0} (before now : LightNotes W) : Type 0 where
+pub record AreTablesKept {W : Type 0} (before now : LightNotes W) : Type 0 where
   pub tables : now.tables ≡ before.tables
   pub safe : length now.safe.items ≡ length before.safe.items

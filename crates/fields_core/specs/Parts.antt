@@ -44,8 +44,8 @@ pub record IsCount (p : Layers) (pieces : List Piece) (n may undecided : ℕ) : 
   pub undecided_is : undecided
       ≡ count_below (λ c. lies_in_first p.size.w pieces n c && is_open (has p) c) (cells_of p)
 
-abbrev pub IsCounted : Layers → List Piece → ℕ → ℕ → Type 0
-IsCounted p pieces may undecided = IsCount p pieces (length pieces) may undecided
+abbrev pub ArePartsCounted : Layers → List Piece → ℕ → ℕ → Type 0
+ArePartsCounted p pieces may undecided = IsCount p pieces (length pieces) may undecided
 
 -- a count house of the cells of these pieces
 pub record IsHouseOf (size : Extent) (pieces : List Piece) (least most : ℕ) (house : CountHouse)
@@ -56,8 +56,8 @@ pub record IsHouseOf (size : Extent) (pieces : List Piece) (least most : ℕ) (h
   pub cells : (c : ℕ) → has_place house.places c ≡ lies_in_first size.w pieces (length pieces) c
 
 -- each cell has a value
-abbrev pub IsAlive : Layers → Type 0
-IsAlive p = (c : ℕ) → c < cells_of p → (has p c 0 ≡ true) ⊎ (has p c 1 ≡ true)
+abbrev pub ArePlanesAlive : Layers → Type 0
+ArePlanesAlive p = (c : ℕ) → c < cells_of p → (has p c 0 ≡ true) ⊎ (has p c 1 ≡ true)
 
 -- a visit leaves no value in the house's cells
 abbrev pub IsBroken : CountHouse → Candidates → Type 0

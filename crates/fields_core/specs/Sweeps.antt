@@ -6,7 +6,7 @@ use Rattle.grid_core.specs.Planes.{Layers, has, IsFurther}
 use Rattle.engine_core.specs.Closing.{replay}
 use Rattle.engine_core.specs.ClosingList.{IsDead}
 use Rattle.engine_core.specs.RuleSystem.{RuleSystem}
-use Rattle.fields_core.specs.Parts.{IsAlive}
+use Rattle.fields_core.specs.Parts.{ArePlanesAlive}
 
 -- the board after a sweep: each house is visited once, in ascending order
 abbrev pub swept_by : RuleSystem → Candidates → Candidates
@@ -16,5 +16,5 @@ swept_by p K = replay p K (range_with_len 0 p.houses)
 pub record IsSweep (p : RuleSystem) (from to : Layers) (fills : Bool) : Type 0 where
   pub left : fills ≡ true → has to ≡ swept_by p (has from)
   pub dies : fills ≡ false → IsDead p (swept_by p (has from))
-  pub alive : IsAlive to
+  pub alive : ArePlanesAlive to
   pub further : IsFurther from to

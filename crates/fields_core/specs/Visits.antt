@@ -4,7 +4,7 @@ use Rattle.grid_core.specs.Candidates.{Candidates}
 use Rattle.grid_core.specs.Planes.{Layers, has, cells_of, IsFurther}
 use Rattle.gameid_core.specs.Puzzles.{Tents, IsTents}
 use Rattle.fields_core.specs.CountHouse.{CountHouse, after_house}
-use Rattle.fields_core.specs.Parts.{IsAlive}
+use Rattle.fields_core.specs.Parts.{ArePlanesAlive}
 use Rattle.fields_core.specs.Trees.{AreBare, AreRowsOf, wants_tent}
 
 -- the board after visits of the houses, one after another
@@ -18,7 +18,7 @@ pub record AreVisited (houses : List CountHouse) (from to : Layers) (fills : Boo
   pub left : fills ≡ true → has to ≡ after_houses houses (has from)
   pub dies : fills ≡ false → (c : ℕ) × (c < cells_of from)
       × ((v : ℕ) → v < 2 → after_houses houses (has from) c v ≡ false)
-  pub alive : IsAlive to
+  pub alive : ArePlanesAlive to
   pub further : IsFurther from to
 
 -- planes of the puzzle on words of so many places, in which each cell has a value, and the trees of each row that want a tent
@@ -29,4 +29,4 @@ pub record IsFieldOf (room : ℕ) (p : Tents) (planes : Layers) (words : List �
   pub size : planes.size ≡ p.size
   pub trees : AreRowsOf p.size (wants_tent p) words
   pub bare : AreBare p (has planes)
-  pub alive : IsAlive planes
+  pub alive : ArePlanesAlive planes

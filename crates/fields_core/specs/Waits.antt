@@ -37,13 +37,13 @@ waiting bits waits Trees = bits waits.trees
 waiting bits waits Squares = bits waits.squares
 
 -- all houses that do not wait are idle
-abbrev pub AreRested : {W : Type 0} → (W → ℕ) → Tents → Waits W → Candidates → Type 0
-AreRested bits p waits K = (kind : Kind) (k : ℕ) → k < kind_lines p kind
+abbrev pub AreTentsRested : {W : Type 0} → (W → ℕ) → Tents → Waits W → Candidates → Type 0
+AreTentsRested bits p waits K = (kind : Kind) (k : ℕ) → k < kind_lines p kind
     → has_bit (waiting bits waits kind) k ≡ false → AreIdle (kind_houses p kind k) K
 
 -- what waits once cells of these lines have lost 0, and cells of those 1: the lines of both, the trees of the rows that
 -- have lost 1 and of the rows beside these, and the squares of the rows that have lost 0
-pub record AreWoken {W : Type 0} (bits : W → ℕ) (room : ℕ) (before : Waits W)
+pub record AreTentsWoken {W : Type 0} (bits : W → ℕ) (room : ℕ) (before : Waits W)
     (zeros ones : Touched W) (now : Waits W)
     : Type 0 where
   pub columns : (k : ℕ) → has_bit (bits now.columns) k

@@ -124,7 +124,7 @@ pub use Rattle.maker_core.specs.Switch.{HasOther, IsSwitch, RunHasSwitch, cell_o
 unfoldable pub use Rattle.maker_core.specs.Switch.{run_begins}
 pub use Rattle.maker_core.specs.TentFilling.{is_free, may_have_tent, place_tent, take_cell}
 unfoldable pub use Rattle.maker_core.specs.TentFilling.{free_cells_beside, no_tents, tent_filling, tents_after, tents_puzzle_of}
-pub use Rattle.maker_core.specs.TentSteps.{IsPlaced, IsTaken}
+pub use Rattle.maker_core.specs.TentSteps.{IsTentPlaced, IsTentTaken}
 pub use Rattle.maker_core.specs.Thinning.{AreReasons, CluedGame, HasTwo, IsGame, IsOnly, IsReason, IsThinnedFrom, LeavesNoIdleClue, clue_places}
 pub use Rattle.maker_core.specs.Thinning.{has_clue, stream_after_clues}
 pub use Rattle.maker_core.specs.ThinningSteps.{IsAsked, IsLeft, IsThinning, IsTold, IsVerdict}

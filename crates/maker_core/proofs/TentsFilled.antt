@@ -1,12 +1,12 @@
 -- Each filling of Tents over a stream of words solves its puzzle.
-use Rattle.maker_core.proofs.Common.{Extent, HasWords, IsExtent, IsGrid, IsOrder, IsTaken, IsTentSolution, List, Stream, TentFilling, add-one, arith, cond_both, free_cells_beside, inl, inr, length, may_have_tent, mul-le, place_tent, refl, shuffled_order, slice_index, stream_after, subst, suc, take_cell, tent_filling, tents_after, tents_puzzle_of, true, zero, ℕ, ◌*◌, ◌≡◌, ◌≤◌}
+use Rattle.maker_core.proofs.Common.{Extent, HasWords, IsExtent, IsGrid, IsOrder, IsTentTaken, IsTentSolution, List, Stream, TentFilling, add-one, arith, cond_both, free_cells_beside, inl, inr, length, may_have_tent, mul-le, place_tent, refl, shuffled_order, slice_index, stream_after, subst, suc, take_cell, tent_filling, tents_after, tents_puzzle_of, true, zero, ℕ, ◌*◌, ◌≡◌, ◌≤◌}
 use Rattle.maker_core.proofs.TentFillings.{free_few, placed_is}
 use Rattle.maker_core.proofs.TentsSolved.{IsFillingAfter, filling_none, filling_step}
 use Rattle.maker_core.proofs.Shuffles.{draw_is, IsShuffledOrder, order_is}
 
 -- a filling, and words after it
 record IsTakenBy (size : Extent) (old : TentFilling) (c : ℕ) (q : TentFilling × Stream) : Type 0 where
-  taken : IsTaken size old c q.0
+  taken : IsTentTaken size old c q.0
   words : HasWords q.1
 
 place_takes : (size : Extent) {filling : TentFilling} (c : ℕ) (s : Stream) → may_have_tent size filling c ≡ true → HasWords s

@@ -6,7 +6,7 @@ use Rattle.maker_core.specs.declared.tents.filling.TentFilling.{TentFilling}
 use Rattle.maker_core.specs.TentFilling.{may_have_tent, free_cells_beside}
 
 -- a tent in the cell and a tree in a free cell beside it
-pub record IsPlaced (size : Extent) (old : TentFilling) (c : ℕ) (new : TentFilling) : Type 0 where
+pub record IsTentPlaced (size : Extent) (old : TentFilling) (c : ℕ) (new : TentFilling) : Type 0 where
   pub may : may_have_tent size old c ≡ true
   pub tree : ℕ
   pub free : has_place (free_cells_beside size old c) tree ≡ true
@@ -14,5 +14,5 @@ pub record IsPlaced (size : Extent) (old : TentFilling) (c : ℕ) (new : TentFil
   pub tents : new.tents ≡ slice_set old.tents c 1
 
 -- the filling is as it was, or has a tent more
-abbrev pub IsTaken : Extent → TentFilling → ℕ → TentFilling → Type 0
-IsTaken size old c new = (new ≡ old) ⊎ IsPlaced size old c new
+abbrev pub IsTentTaken : Extent → TentFilling → ℕ → TentFilling → Type 0
+IsTentTaken size old c new = (new ≡ old) ⊎ IsTentPlaced size old c new

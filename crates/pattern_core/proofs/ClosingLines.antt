@@ -17,7 +17,7 @@ use Rattle.pattern_core.proofs.Fresh.{has_both}
 use Rattle.pattern_core.proofs.LineTakings.{cell-at, cell_of, line-long}
 use Rattle.pattern_core.proofs.NextLine.{its_lines}
 use Rattle.pattern_core.proofs.WaitingLines.{same-house}
-use Rattle.pattern_core.specs.LinePlanes.{AreLinesOf, crossed_by, house_of, is_marked, is_same, line_of}
+use Rattle.pattern_core.specs.LinePlanes.{AreLinesWithin, crossed_by, house_of, is_marked, is_same, line_of}
 unfoldable use Rattle.pattern_core.specs.LinePlanes.{has_lost, waiting}
 use Rattle.pattern_core.specs.declared.planes.waits.Waits.{Waits}
 
@@ -122,7 +122,7 @@ module _ (p : Pattern) (line : Line) (lt : number_of line < lines_beside p.size 
           second l ∙ rw (first l, same-house p.size line j lt, crossed-called j) refl;
     }
 
-    pub lines-within : AreLinesOf bits p.size waits → AreLinesOf bits p.size now
+    pub lines-within : AreLinesWithin bits p.size waits → AreLinesWithin bits p.size now
     lines-within within other on = elim (or_cases (is_marked bits gone other) (crossed_by line lost other) (sym (second other) ∙ on)) [
       | inl old ↦ within other (and_parts (is_marked bits waits other) (not (is_same line other)) (sym (first other) ∙ old)).0
       | inr new ↦ go line other long lost-in new

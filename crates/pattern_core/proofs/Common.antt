@@ -43,6 +43,6 @@ pub use Rattle.pattern_core.specs.LineLaws.{is_solution-line, line_of_solution, 
 pub use Rattle.pattern_core.specs.LineRules.{line_rules}
 pub use Rattle.pattern_core.specs.Lines.{ArePositive, HasClue, IsDecidedBy, IsRoomy, clue_of}
 unfoldable pub use Rattle.pattern_core.specs.Lines.{has_runs}
-pub use Rattle.pattern_core.specs.Track.{AreKept, AreRows, IsBelow, IsSpelling, IsTrack, Spells, Track, along, set_for, sets_of, slots_of}
+pub use Rattle.pattern_core.specs.Track.{AreRowsKept, AreRows, IsBelow, IsSpelling, IsTrack, Spells, Track, along, set_for, sets_of, slots_of}
 unfoldable pub use Rattle.pattern_core.specs.Track.{ahead, any_cells, cell_is, cells_from, clue_along, goes_on, leads, led, may_stay, one_on}
 unfoldable pub use Rattle.pattern_core.specs.Track.{some_leads, spelled, stays, track_of}

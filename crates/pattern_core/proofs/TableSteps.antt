@@ -1,5 +1,5 @@
 -- The steps of the table, at a place of the line.
-use Rattle.pattern_core.proofs.Common.{AreKept, ArePositive, AreRows, Bool, IsBelow, IsDecided, List, Track, [], ahead, and-true, and_from, and_parts, any_below, any_below-here, any_below-same, any_below-some, any_cells, ap, ap₂, arith, bit_and, cases_Bool, cases_eq, cell_is, common_steps, drop, drop-drop, drop_all, drop_more, eqb, eqb-true, false, false_from_ne_true, fun_ext, get_or, get_or-drop, get_or-map, get_or-set_other, get_or-set_same, has_bit, has_runs, inl, inr, leads, led, length, length-map, length-set, refl, set, set_for, set_of_bits, sets_of, some_filling, some_leads, spelled, strikes_by_fillings, suc, sym, track_of, true, true≢false, zero, ℕ, ◌&&◌, ◌+◌, ◌<◌, ◌∙◌, ◌∷◌, ◌≡◌, ◌≤◌}
+use Rattle.pattern_core.proofs.Common.{AreRowsKept, ArePositive, AreRows, Bool, IsBelow, IsDecided, List, Track, [], ahead, and-true, and_from, and_parts, any_below, any_below-here, any_below-same, any_below-some, any_cells, ap, ap₂, arith, bit_and, cases_Bool, cases_eq, cell_is, common_steps, drop, drop-drop, drop_all, drop_more, eqb, eqb-true, false, false_from_ne_true, fun_ext, get_or, get_or-drop, get_or-map, get_or-set_other, get_or-set_same, has_bit, has_runs, inl, inr, leads, led, length, length-map, length-set, refl, set, set_for, set_of_bits, sets_of, some_filling, some_leads, spelled, strikes_by_fillings, suc, sym, track_of, true, true≢false, zero, ℕ, ◌&&◌, ◌+◌, ◌<◌, ◌∙◌, ◌∷◌, ◌≡◌, ◌≤◌}
 use Rattle.grid_core.proofs.BoardLemmas.{bits_both}
 use Rattle.pattern_core.proofs.Leads.{same_tests, leads_next, leads_here, ways_on}
 use Rattle.pattern_core.proofs.SpelledRuns.{strikes_by_track}
@@ -83,7 +83,7 @@ reached_next n t sets reached new at below lt is r = record {
 
 -- ---- what is kept of a cell
 -- nothing is kept yet
-pub kept_none : {t : Track} {sets : List ℕ} → AreKept t sets sets 0
+pub kept_none : {t : Track} {sets : List ℕ} → AreRowsKept t sets sets 0
 kept_none = record { as_many = refl; bits = λ k v lt small. absurd (omega arith) }
 
 module _ (n : ℕ) (t : Track) (sets : List ℕ) (reached : ℕ → Bool) (at : ℕ) (r : AreReached n t sets reached at) (lt : at < length sets)
@@ -110,8 +110,8 @@ module _ (n : ℕ) (t : Track) (sets : List ℕ) (reached : ℕ → Bool) (at : 
       ∙ pulled (has_bit (get_or sets at 0) v) (λ p. ahead t (set_for v) next p)
 
   -- the bits of the cell are what is shown, and those of the cells before were
-  kept_step : (kept new : List ℕ) → AreKept t sets kept at → length new ≡ length kept → ((i : ℕ) → (i ≡ at → ⊥) → get_or new i 0 ≡ get_or kept i 0)
-      → ((v : ℕ) → v < 2 → has_bit (get_or new at 0) v ≡ (has_bit (get_or sets at 0) v && leads_by (set_for v))) → AreKept t sets new (at + 1)
+  kept_step : (kept new : List ℕ) → AreRowsKept t sets kept at → length new ≡ length kept → ((i : ℕ) → (i ≡ at → ⊥) → get_or new i 0 ≡ get_or kept i 0)
+      → ((v : ℕ) → v < 2 → has_bit (get_or new at 0) v ≡ (has_bit (get_or sets at 0) v && leads_by (set_for v))) → AreRowsKept t sets new (at + 1)
   kept_step kept new k long others is = record {
     as_many = long ∙ k.as_many;
     bits = λ i v below small. elim (cases_eq i at) [
@@ -138,7 +138,7 @@ module _ (n : ℕ) (t : Track) (sets : List ℕ) (reached : ℕ → Bool) (at : 
       → ((p : ℕ) → p < n → white p ≡ led t 1 reached p)
       → ((p : ℕ) → p < n → black p ≡ led t 2 reached p)
       → has_bit shown 0 ≡ any_below (λ p. white p && next p) n → has_bit shown 1 ≡ any_below (λ p. black p && next p) n
-      → get_or kept at 0 ≡ get_or sets at 0 → AreKept t sets kept at → AreKept t sets (set kept at (bit_and (get_or kept at 0) shown)) (at + 1)
+      → get_or kept at 0 ≡ get_or sets at 0 → AreRowsKept t sets kept at → AreRowsKept t sets (set kept at (bit_and (get_or kept at 0) shown)) (at + 1)
   kept_cell white black kept shown below is_white is_black shows_white shows_black same k =
       kept_step kept _ k (length-set kept at _) (λ i other. get_or-set_other kept at i _ 0 other) (λ v small.
       ap (λ s. has_bit s v) (get_or-set_same kept at _ 0 (omega (arith, k.as_many))) ∙ bits_both (get_or kept at 0) shown v
@@ -152,6 +152,6 @@ module _ (n : ℕ) (t : Track) (sets : List ℕ) (reached : ℕ → Bool) (at : 
 -- ---- all cells
 pub decided_by_track : (clue : List ℕ) {sets kept : List ℕ} {t : Track}
     → t ≡ track_of (spelled clue) → ArePositive clue
-    → AreKept t sets kept (length sets)
+    → AreRowsKept t sets kept (length sets)
     → IsDecided 2 (strikes_by_fillings (has_runs clue)) sets kept
 decided_by_track clue is positive k = grind (arith, common_steps, cases_Bool, strikes_by_track)

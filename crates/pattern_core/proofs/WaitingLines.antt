@@ -8,7 +8,7 @@ use Rattle.grid_core.specs.declared.planes.line.Line.TheVariants.{Row, Column}
 use Rattle.engine_core.specs.Position.{IsClosedBut}
 use Rattle.engine_core.proofs.QueueLemmas.{rested_around}
 use Rattle.pattern_core.proofs.NextLine.{its_lines}
-use Rattle.pattern_core.specs.LinePlanes.{AreRested, IsStart, house_of, is_marked, is_same, line_of}
+use Rattle.pattern_core.specs.LinePlanes.{AreLinesRested, IsStart, house_of, is_marked, is_same, line_of}
 unfoldable use Rattle.pattern_core.specs.LinePlanes.{waiting}
 use Rattle.pattern_core.specs.declared.planes.waits.Waits.{Waits}
 
@@ -95,7 +95,7 @@ place-at bits size waits w place j same marks low = elim (cases_lt j size.w) [
 
 pub place-rested : {W : Type 0} (bits : W → ℕ) (p : Pattern) (K : Candidates) (waits : Waits W) (w place : ℕ) → IsExtent p.size → w ≡ p.size.w
     → ((line : Line) → is_marked bits waits line ≡ (is_same (Column (place % w)) line || is_same (Row (place / w)) line))
-    → place < p.size.w * p.size.h → place % w < p.size.w → IsClosedBut (line_rules p) K (Some place) → AreRested bits p K waits
+    → place < p.size.w * p.size.h → place % w < p.size.w → IsClosedBut (line_rules p) K (Some place) → AreLinesRested bits p K waits
 place-rested bits p K waits w place extent same marks within low closed =
     rested_around (line_rules-lawful p extent) place {none = λ j. false} (λ j lt. refl)
     (record { marks = λ j lt. place-at bits p.size waits w place j same marks low ∙ its_lines p.size 0 same within j }) closed
@@ -104,7 +104,7 @@ pub place-first : {W : Type 0} (bits : W → ℕ) (p : Pattern) (K : Candidates)
     → x ≡ place % w → y ≡ place / w → ((line : Line) → is_marked bits none line ≡ false)
     → ((line : Line) → is_marked bits one line ≡ (is_marked bits none line || is_same (Column x) line))
     → ((line : Line) → is_marked bits both line ≡ (is_marked bits one line || is_same (Row y) line))
-    → x < w → IsClosedBut (line_rules p) K (Some place) → AreRested bits p K both
+    → x < w → IsClosedBut (line_rules p) K (Some place) → AreLinesRested bits p K both
 place-first bits p K none one both w place x y extent same ex ey off first second low closed =
     place-rested bits p K both w place extent same (λ line.
     rw (← ex, ← ey) (second line ∙ ap (λ b. b || is_same (Row y) line) (first line ∙ ap (λ b. b || is_same (Column x) line) (off line))))

@@ -92,26 +92,26 @@ has_lost p h K K' k =
     nat_lt k (length (p.scope h)) && not (counts_of p h K k == counts_of p h K' k)
 
 -- these cells of the house lost a value, and each cell has one still; or one would lose its last
-abbrev pub IsVisited : {W : Type 0} → (W → ℕ) → RuleSystem → ℕ → Candidates → Candidates → Option W → Type 0
-IsVisited bits p h K K' None = IsDead p (after p h K)
-IsVisited bits p h K K' (Some lost) = (K' ≡ after p h K) × IsAlive p K'
+abbrev pub IsLineVisited : {W : Type 0} → (W → ℕ) → RuleSystem → ℕ → Candidates → Candidates → Option W → Type 0
+IsLineVisited bits p h K K' None = IsDead p (after p h K)
+IsLineVisited bits p h K K' (Some lost) = (K' ≡ after p h K) × IsAlive p K'
     × ((k : ℕ) → has_bit (bits lost) k ≡ has_lost p h K K' k)
 
 -- ---- where a closing begins
 -- a line that does not wait strikes nothing from the board
-abbrev pub AreRested : {W : Type 0} → (W → ℕ) → Pattern → Candidates → Waits W → Type 0
-AreRested bits p K waits = IsRested (line_rules p) K (waiting bits p.size waits)
+abbrev pub AreLinesRested : {W : Type 0} → (W → ℕ) → Pattern → Candidates → Waits W → Type 0
+AreLinesRested bits p K waits = IsRested (line_rules p) K (waiting bits p.size waits)
 
 -- only lines of the grid wait
-abbrev pub AreLinesOf : {W : Type 0} → (W → ℕ) → Extent → Waits W → Type 0
-AreLinesOf bits size waits = (line : Line) → is_marked bits waits line ≡ true → number_of line < lines_beside size line
+abbrev pub AreLinesWithin : {W : Type 0} → (W → ℕ) → Extent → Waits W → Type 0
+AreLinesWithin bits size waits = (line : Line) → is_marked bits waits line ≡ true → number_of line < lines_beside size line
 
 -- both, at the board that a search starts from
 abbrev pub IsStart : {W : Type 0} → (W → ℕ) → Pattern → Waits W → Type 0
-IsStart bits p waits = AreRested bits p (line_rules p).start waits × AreLinesOf bits p.size waits
+IsStart bits p waits = AreLinesRested bits p (line_rules p).start waits × AreLinesWithin bits p.size waits
 
 -- no side is longer than a word, and the board has no other cells and values than the puzzle's
-pub record HasRoom (room : ℕ) (p : Pattern) (K : Candidates) : Type 0 where
+pub record HasLineRoom (room : ℕ) (p : Pattern) (K : Candidates) : Type 0 where
   pub narrow : p.size.w ≤ room
   pub low : p.size.h ≤ room
   pub cells : HasCells (p.size.w * p.size.h) 2 K

@@ -129,7 +129,7 @@ pub record AreRows {A : Type 0} (has : A → ℕ → Bool) (t : Track) (sets : L
       → has (get_or rows i row) p ≡ some_leads t (drop i (sets_of sets)) any_cells p
 
 -- the bits kept of the cells before `upto` are those that some filling shows
-pub record AreKept (t : Track) (sets kept : List ℕ) (upto : ℕ) : Type 0 where
+pub record AreRowsKept (t : Track) (sets kept : List ℕ) (upto : ℕ) : Type 0 where
   pub as_many : length kept ≡ length sets
   pub bits : (k v : ℕ) → k < upto → v < 2 → has_bit (get_or kept k 0) v
       ≡ (has_bit (get_or sets k 0) v && some_leads t (sets_of sets) (cell_is k v) 0)

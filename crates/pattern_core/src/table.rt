@@ -10,7 +10,7 @@ ghost use Rattle.std.specs.Prelude.{◌≡◌, ◌*◌, ◌+◌, ◌<◌, false,
 ghost use Rattle.std.specs.Int.{from_bool};
 ghost use Rattle.engine_core.specs.Sets.{has_bit};
 ghost use Rattle.pattern_core.specs.Lines.{IsDecidedBy, ArePositive};
-ghost use Rattle.pattern_core.specs.Track.{along, slots_of, spelled, track_of, AreMoves, AreAhead, AreLed, IsBelow, AreRows, AreKept};
+ghost use Rattle.pattern_core.specs.Track.{along, slots_of, spelled, track_of, AreMoves, AreAhead, AreLed, IsBelow, AreRows, AreRowsKept};
 
 use crate::slots::Slots;
 use crate::track::{SpelledClue, TrackSlots};
@@ -107,7 +107,7 @@ fn filter_cells<P: Slots>(moves: &Moves<P>, sets: &mut [u32], rows: &[P]) -> boo
     requires rows { AreRows (slots_of P.bits) (along (slots_of P.bits) moves.now.steps)
         sets.old rows.now 0 }
     requires below { IsBelow P.room (along (slots_of P.bits) moves.now.steps) }
-    ensures kept { AreKept (along (slots_of P.bits) moves.now.steps) sets.old sets.new
+    ensures kept { AreRowsKept (along (slots_of P.bits) moves.now.steps) sets.old sets.new
         (length sets.old) }
     ensures unchanged { result ≡ false → sets.new ≡ sets.old }
 {

@@ -3,7 +3,7 @@ use Rattle.std.proofs.lemmas.Grind.{common_steps}
 use Rattle.std.proofs.Common.{◌≡◌, ℕ, ◌<◌, ◌≤◌, ◌⊎◌, true, false, not, ◌&&◌, ◌||◌, ◌^◌, bit_and, ltb, List, map, length, slice_index, refl, sym, ap, ◌∙◌, inl, inr, arith}
 use Rattle.solo_core.specs.Common.{cases_eq, eq-eqb, eqb-true, ne_eqb, true≢false, false_from_ne_true, true_from_ne_false, nat_tests, has_bit, set_of_bits, zero-bits, both-bits, has_in, is_struck, no_repeat}
 use Rattle.engine_core.specs.FillingLaws.{shown_from_test}
-use Rattle.solo_core.specs.Peeled.{AreAllCounts, AreCounts, AreLone, AreSettled, IsAlone, IsDropped, IsOutside, IsPeeled, IsRest, IsSingleSet, KeepsFillings, KeepsOthers, PairsCells, meets, rest_of}
+use Rattle.solo_core.specs.Peeled.{AreAllCounts, AreValueCounts, AreLone, AreSettled, IsAlone, IsDropped, IsOutside, IsPeeled, IsRest, IsSingleSet, KeepsFillings, KeepsOthers, PairsCells, meets, rest_of}
 use Rattle.solo_core.proofs.MateLemmas.{pairing_of_filling, rest-apart, rest-has, rest-in, rest-within, shown_by_pairing}
 use Rattle.solo_core.specs.NoRepeatLaws.{none_missed}
 use Rattle.solo_core.proofs.Marks.{none_in_zero, some_set}
@@ -32,7 +32,7 @@ peeled-more {n} a b = record {
 
 -- ---- counts
 pub counts-none : {sets : List ℕ} {cells : ℕ → Type 0} {some single shared : ℕ} → ((j : ℕ) → cells j → ⊥)
-    → (some ≡ 0) × (single ≡ 0) × (shared ≡ 0) → AreCounts sets cells some single shared
+    → (some ≡ 0) × (single ≡ 0) × (shared ≡ 0) → AreValueCounts sets cells some single shared
 counts-none none (a, b, c) = record {
   has = λ j v on has. absurd (none j on);
   singles = λ v on. absurd (none_in_zero v (rw b at on));
@@ -40,9 +40,9 @@ counts-none none (a, b, c) = record {
 }
 
 -- the counts are those of the same cells of another list that has the same sets there
-pub counts-same : {sets new : List ℕ} {cells same : ℕ → Type 0} {some single shared : ℕ} → AreCounts sets cells some single shared
+pub counts-same : {sets new : List ℕ} {cells same : ℕ → Type 0} {some single shared : ℕ} → AreValueCounts sets cells some single shared
     → ((j : ℕ) → cells j → slice_index new j ≡ slice_index sets j) → ((j : ℕ) → same j → cells j) → ((j : ℕ) → cells j → same j)
-    → AreCounts new same some single shared
+    → AreValueCounts new same some single shared
 counts-same {sets} {new} {cells} {same} c is from to =
     let back = λ (j v : ℕ) (on : same j) (has : has_in new j v ≡ true). sym (ap (λ b. has_bit b v) (is j (from j on))) ∙ has in
     record {
@@ -53,12 +53,12 @@ counts-same {sets} {new} {cells} {same} c is from to =
 
 -- the counts of one more cell
 pub counts-more : {sets : List ℕ} {cells more : ℕ → Type 0} (cell : ℕ) {some single shared some' single' shared' : ℕ}
-    → AreCounts sets cells some single shared
+    → AreValueCounts sets cells some single shared
     → ((j : ℕ) → more j → (j ≡ cell) ⊎ cells j) → ((j : ℕ) → cells j → more j) → more cell
     → ((v : ℕ) → has_bit some' v ≡ (has_bit some v || has_in sets cell v))
     → ((v : ℕ) → has_bit single' v ≡ true → (has_bit single v ≡ true) ⊎ IsSingleSet (slice_index sets cell) v)
     → ((v : ℕ) → has_bit shared' v ≡ (has_bit shared v || (has_bit some v && has_in sets cell v)))
-    → AreCounts sets more some' single' shared'
+    → AreValueCounts sets more some' single' shared'
 counts-more {sets} cell c split to here a b d = record {
   has = λ j v on has. elim (split j on) [
     | inl e ↦ let z = a v in let there = ap (λ i. has_in sets i v) (sym e) ∙ has in grind arith

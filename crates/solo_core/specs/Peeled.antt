@@ -97,7 +97,7 @@ abbrev pub IsSingleSet : ℕ → ℕ → Type 0
 IsSingleSet set value = (w : ℕ) → has_bit set w ≡ (w == value)
 
 -- of these cells: the values that some have, only such that some have alone, and all that two have
-pub record AreCounts (sets : List ℕ) (cells : ℕ → Type 0) (some single shared : ℕ) : Type 0 where
+pub record AreValueCounts (sets : List ℕ) (cells : ℕ → Type 0) (some single shared : ℕ) : Type 0 where
   pub has : (j v : ℕ) → cells j → has_in sets j v ≡ true → has_bit some v ≡ true
   pub singles : (v : ℕ) → has_bit single v ≡ true
       → (k : ℕ) × cells k × IsSingleSet (slice_index sets k) v
@@ -106,11 +106,11 @@ pub record AreCounts (sets : List ℕ) (cells : ℕ → Type 0) (some single sha
 
 -- of all cells; and of those outside the rest, none of which has a value of another
 abbrev pub AreAllCounts : List ℕ → ℕ → ℕ → ℕ → Type 0
-AreAllCounts sets = AreCounts sets (λ k. k < length sets)
+AreAllCounts sets = AreValueCounts sets (λ k. k < length sets)
 
 abbrev pub AreSettled : List ℕ → List ℕ → ℕ → Type 0
 AreSettled sets rest values =
-    AreCounts sets (λ k. (k < length sets) × IsPassed rest 0 k) values values 0
+    AreValueCounts sets (λ k. (k < length sets) × IsPassed rest 0 k) values values 0
 
 -- the set has another value, and no other set has that one, or some set has this one alone
 abbrev pub IsDropped : ℕ → ℕ → ℕ → ℕ → ℕ → Type 0

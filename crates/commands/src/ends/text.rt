@@ -1,7 +1,7 @@
 //! An input that is read whole.
 ghost use Rattle.std.specs.Prelude.{◌≡◌, ◌≤◌, ◌++◌, ◌==◌, ◌&&◌, [], List, ℕ, true, false, IfOk, IfErr, OnOk};
 ghost use Rattle.commands.specs.CheckAnswers.{begins_with_line_end, without_returns};
-ghost use Rattle.commands.specs.Texts.{Given, IsKept, IsText};
+ghost use Rattle.commands.specs.Texts.{Given, IsTextKept, IsText};
 ghost use Rattle.commands.specs.Stops.{StopsWith};
 ghost use Rattle.commands.specs.Runs.{IsUnread, call_limit};
 
@@ -22,8 +22,8 @@ struct Kept {
 impl Kept {
     /// Takes more bytes.
     fn take(&mut self, chunk: &[u8]) -> Result<(), AllocError>
-        ensures { OnOk result ((seen : List ℕ) → IsKept self.old seen
-            → IsKept self.new (seen ++ chunk.now)) }
+        ensures { OnOk result ((seen : List ℕ) → IsTextKept self.old seen
+            → IsTextKept self.new (seen ++ chunk.now)) }
     {
         if self.is_over || chunk.len() > TEXT_LIMIT - self.bytes.len().min(TEXT_LIMIT) {
             self.is_over = true;
@@ -34,7 +34,7 @@ impl Kept {
 
     /// All of the bytes, or nothing where they are too many.
     fn text(self) -> Option<Vec<u8>>
-        ensures { (seen : List ℕ) → IsKept self seen → IsText result seen }
+        ensures { (seen : List ℕ) → IsTextKept self seen → IsText result seen }
     {
         if self.is_over { None } else { Some(self.bytes) }
     }
@@ -43,9 +43,9 @@ impl Kept {
 /// Takes the input to its end.
 fn take_whole<I: Source>(kept: &mut Kept, input: &mut I) -> Result<(), Stop>
     requires unread { IsUnread I.Source input.old }
-    requires empty { IsKept kept.old [] }
+    requires empty { IsTextKept kept.old [] }
     ensures fine { OnOk result ((I.has_failed input.new ≡ false) × (I.has_ended input.new ≡ true)) }
-    ensures taken { OnOk result (Given I.gives input.old input.new (IsKept kept.new)) }
+    ensures taken { OnOk result (Given I.gives input.old input.new (IsTextKept kept.new)) }
     ensures read { (seen : List ℕ) × I.gives input.old seen input.new }
     ensures few { I.call_count input.new ≤ call_limit }
     ensures left { IfErr result (λ e. StopsWith I.Source e input.new false) }

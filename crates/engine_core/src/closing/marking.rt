@@ -1,7 +1,7 @@
 //! What is looked for after a plain visit: the houses of each cell that lost a value, and a cell without any.
 
 ghost use Rattle.std.specs.Prelude.{◌<◌, ◌≡◌, ◌≤◌, Bool, ℕ, false, length, take, true};
-ghost use Rattle.engine_core.specs.Common.{has, Candidates, IsInside, AreSetsOf, HasRoom, has_place, IsBoardOf, is_queue, IsWoken, but, called_for, is_dead_in, words_of, is_waiting, AreWoken, AreWokenAt};
+ghost use Rattle.engine_core.specs.Common.{has, Candidates, IsInside, AreSetsOf, HasSetRoom, has_place, IsBoardOf, is_queue, IsWoken, but, called_for, is_dead_in, words_of, is_waiting, AreWoken, AreWokenAt};
 
 use crate::rules::{Rules, by_queue};
 use crate::waits::{dequeue_if, enqueue};
@@ -60,7 +60,7 @@ pub(crate) fn mark_after<R: Rules>(
 )
     requires house_in { house < (R.system rules.now).houses }
     requires board_of { IsBoardOf (R.system rules.now) board.now }
-    requires long { HasRoom (R.system rules.now) house sets.now }
+    requires long { HasSetRoom (R.system rules.now) house sets.now }
     requires room { words_of (R.system rules.now).houses ≤ length waits.old }
     ensures queue { is_queue R.MODE ≡ true → (K : Candidates) (before : ℕ → Bool)
         → AreSetsOf (R.system rules.now) house K

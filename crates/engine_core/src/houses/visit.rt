@@ -3,7 +3,7 @@
 #![tactic(auto, using(crate::proofs::LawSets::visit_laws))]
 
 ghost use Rattle.std.specs.Prelude.{◌<◌, ◌==◌, ◌≡◌, ◌≤◌, ℕ, false, length, map, slice_index, take, true};
-ghost use Rattle.engine_core.specs.Common.{has, cells_of, SameShape, HasStruck, AreSetsOf, HasRoom, is_queue, IsBoardOf, has_bit as is_set, set_of_bits, IsBitsOf, AreBelow, sets_at, kept_in};
+ghost use Rattle.engine_core.specs.Common.{has, cells_of, SameShape, HasStruck, AreSetsOf, HasSetRoom, is_queue, IsBoardOf, has_bit as is_set, set_of_bits, IsBitsOf, AreBelow, sets_at, kept_in};
 
 use crate::rules::{Rules, by_queue};
 use grid_core::Board;
@@ -24,7 +24,7 @@ pub(crate) fn read_sets<R: Rules>(rules: &R, house: usize, board: &Board, sets: 
 pub(crate) fn read_head<R: Rules>(rules: &R, house: usize, board: &Board, sets: &mut [u32])
     requires house_in { house < (R.system rules.now).houses }
     requires board_of { IsBoardOf (R.system rules.now) board.now }
-    requires room { HasRoom (R.system rules.now) house sets.old }
+    requires room { HasSetRoom (R.system rules.now) house sets.old }
     ensures { is_queue R.MODE ≡ true → AreSetsOf (R.system rules.now) house (has board.now)
         (take (length ((R.system rules.now).scope house)) sets.new) }
 {

@@ -2,7 +2,7 @@
 #![tactic(auto, using(crate::proofs::LawSets::position_laws))]
 
 ghost use Rattle.std.specs.Prelude.{◌<◌, ◌≡◌, ◌≤◌, ◌+◌, IfOk, IfSome, false, length};
-ghost use Rattle.engine_core.specs.Common.{cells_of, max_cells, max_values, IsUnderWay, standing_of, words_of, has, IsAlive, IsClosedIn, HasRoom, IsFiltered, IsTaken, needs_of, IsBoardOf, StillServes, IsAlong, AreRested, GoesOn, IsStep, board_in, is_since, is_waiting, AreWoken, Candidates, IsClosedBut, IsRested};
+ghost use Rattle.engine_core.specs.Common.{cells_of, max_cells, max_values, IsTrailUnderWay, standing_of, words_of, has, IsAlive, IsClosedIn, HasSetRoom, IsFiltered, IsTaken, needs_of, IsBoardOf, StillServes, IsAlong, AreHousesRested, GoesOn, IsStep, board_in, is_since, is_waiting, AreWoken, Candidates, IsClosedBut, IsRested};
 
 use crate::mode::Closing;
 use crate::needs::{Needs, needs_for};
@@ -59,8 +59,8 @@ fn filter_house<R: Propagators>(
     requires house_in { house < (R.system rules.now).houses }
     requires board_of { IsBoardOf (R.system rules.now) board.now }
     requires served { R.serves scratch.old (needs_of (R.system rules.now)) }
-    requires sets_room { HasRoom (R.system rules.now) house sets.old }
-    requires kept_room { HasRoom (R.system rules.now) house kept.old }
+    requires sets_room { HasSetRoom (R.system rules.now) house sets.old }
+    requires kept_room { HasSetRoom (R.system rules.now) house kept.old }
     ensures filtered { IsFiltered (R.system rules.now) house (has board.now) result
         sets.new kept.new }
     ensures keeps { StillServes R.serves scratch.old scratch.new }
@@ -160,7 +160,7 @@ impl<R: Propagators> TrailPosition<R> {
     fn run(&mut self, rules: &R, singles_first: bool) -> Taken
         requires along { IsAlong (R.system rules.now) self.old }
         requires alive { IsAlive (R.system rules.now) (board_in self.old) }
-        requires rested { AreRested (R.system rules.now) self.old }
+        requires rested { AreHousesRested (R.system rules.now) self.old }
         requires queue { (R.system rules.now).by_queue ≡ false → singles_first ≡ false }
         ensures taken { IsTaken (R.system rules.now) (board_in self.old) (board_in self.new)
             result.closing }
@@ -198,7 +198,7 @@ impl<R: Propagators> Position for TrailPosition<R> {
 
     ghost room = { λ s. record { needs = s.made; trail = length s.trail.changes } };
 
-    ghost walks = { λ rules s. IsUnderWay (R.system rules) s };
+    ghost walks = { λ rules s. IsTrailUnderWay (R.system rules) s };
 
     fn new(alloc: Global, rules: &R) -> Result<TrailPosition<R>, AllocError> {
         let made = needs_for(rules);

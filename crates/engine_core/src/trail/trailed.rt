@@ -2,7 +2,7 @@
 #![tactic(auto, using(crate::proofs::LawSets::trail_laws))]
 
 ghost use Rattle.std.specs.Prelude.{◌≡◌, ◌≢◌, ℕ, ◌+◌, ◌*◌, ◌<◌, ◌≤◌, IfOk, bit_and, length, true, false};
-ghost use Rattle.engine_core.specs.Common.{has, cells_of, SameShape, count_below, only, max_cells, max_values, IsAlive, IsDead, AreSetsOf, IsKept, IsBoardOf, after, IsBitsOf, back_at, change_at, left_by, IsFurther, IsBack, IsStruck};
+ghost use Rattle.engine_core.specs.Common.{has, cells_of, SameShape, count_below, only, max_cells, max_values, IsAlive, IsDead, AreSetsOf, IsKept, IsBoardOf, after, IsBitsOf, back_at, change_at, left_by, IsTrailLonger, IsTrailBack, IsStruck};
 
 use crate::trail::propagators::Propagators;
 use grid_core::Board;
@@ -102,7 +102,7 @@ impl TrailedBoard {
         ensures dead { result ≡ true
             → IsDead (R.system rules.now) (after (R.system rules.now) house (has self.old.board)) }
         ensures struck { result ≡ false → IsStruck (R.system rules.now) house self.old self.new }
-        ensures further { IsFurther self.old self.new }
+        ensures further { IsTrailLonger self.old self.new }
     {
         for k in 0..sets.len() {
             let left = sets[k] & kept[k];
@@ -125,7 +125,7 @@ impl TrailedBoard {
             (R.system rules.now).values left }
         requires other { left ≢ before }
         ensures left { has self.new.board ≡ left_by (has self.old.board) place left }
-        ensures further { IsFurther self.old self.new }
+        ensures further { IsTrailLonger self.old self.new }
         ensures longer { self.new.len ≡ self.old.len + 1 }
         ensures noted { change_at self.new.changes self.old.len ≡ (place, before) }
         ensures earlier { (m : ℕ) → m < self.old.len
@@ -139,7 +139,7 @@ impl TrailedBoard {
     /// Takes the board back to the mark: each cell changed since gets its values back.
     pub(crate) fn undo(&mut self, mark: usize)
         requires { mark ≤ self.old.len }
-        ensures { IsBack self.old self.new mark }
+        ensures { IsTrailBack self.old self.new mark }
     {
         while self.len > mark {
             self.len -= 1;

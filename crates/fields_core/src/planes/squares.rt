@@ -1,7 +1,7 @@
 //! Visits of the squares of two rows of Tents, all at once.
 
 ghost use Rattle.std.specs.Prelude.{◌<◌, ◌≡◌};
-ghost use Rattle.fields_core.specs.Common.{AreVisited, IsAlive, squares_of_row};
+ghost use Rattle.fields_core.specs.Common.{AreVisited, ArePlanesAlive, squares_of_row};
 
 use gameid_core::TentsPuzzle;
 use grid_core::{Line, Planes, Word};
@@ -11,7 +11,7 @@ use grid_core::{Line, Planes, Word};
 pub(crate) fn visit_squares<W: Word>(planes: &mut Planes<W>, puzzle: &TentsPuzzle, y: u8) -> bool
     requires size { planes.old.size ≡ puzzle.now.size }
     requires y_in { y < puzzle.now.size.h }
-    requires alive { IsAlive planes.old }
+    requires alive { ArePlanesAlive planes.old }
     ensures { AreVisited (squares_of_row puzzle.now y) planes.old planes.new result }
 {
     let size = puzzle.size();

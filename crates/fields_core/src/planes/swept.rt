@@ -10,7 +10,7 @@ use std::alloc::{AllocError, Global};
 
 /// What a game keeps beside planes.
 #[derive(Drop)]
-pub struct Swept<N> {
+pub struct SweptNotes<N> {
     notes: N,
 }
 
@@ -36,13 +36,13 @@ impl<P: PlaneGame> BinaryRules for CountRules<P> {
     ghost alive = { λ r. count-alive _ _ _ _ };
 }
 
-impl<W: Word, P: PlaneGame, N: SweepNotes<W, P>> PlaneNotes<W, CountRules<P>> for Swept<N> {
+impl<W: Word, P: PlaneGame, N: SweepNotes<W, P>> PlaneNotes<W, CountRules<P>> for SweptNotes<N> {
     ghost fits = { λ s needs. N.fits s.notes needs };
 
     ghost written = { λ rules s. N.written rules.puzzle s.notes };
 
-    fn new(alloc: Global, made: Needs) -> Result<Swept<N>, AllocError> {
-        Ok(Swept {
+    fn new(alloc: Global, made: Needs) -> Result<SweptNotes<N>, AllocError> {
+        Ok(SweptNotes {
             notes: N::new(alloc, made)?,
         })
     }
@@ -65,9 +65,9 @@ impl<W: Word, P: PlaneGame, N: SweepNotes<W, P>> PlaneNotes<W, CountRules<P>> fo
 }
 
 impl<P: PlaneGame> PlaneRules for CountRules<P> {
-    type Short = Swept<P::Short>;
+    type Short = SweptNotes<P::Short>;
 
-    type Long = Swept<P::Long>;
+    type Long = SweptNotes<P::Long>;
 
     fn completes(&self, scratch: &mut P::Scratch, grid: &Grid) -> bool {
         self.puzzle().completes(self.names(), scratch, grid)

@@ -1,7 +1,7 @@
 //! Visits of the lines of Tents on planes, one by one.
 
 ghost use Rattle.std.specs.Prelude.{◌<◌, ◌≡◌, ◌≤◌};
-ghost use Rattle.fields_core.specs.Common.{AreVisited, IsAlive, column_of_tents, row_of_tents};
+ghost use Rattle.fields_core.specs.Common.{AreVisited, ArePlanesAlive, column_of_tents, row_of_tents};
 
 use crate::planes::part::Part;
 use crate::planes::visit::visit;
@@ -13,7 +13,7 @@ use grid_core::{Line, Planes, Word};
 pub(crate) fn visit_column<W: Word>(planes: &mut Planes<W>, puzzle: &TentsPuzzle, x: u8) -> bool
     requires size { planes.old.size ≡ puzzle.now.size }
     requires x_in { x < puzzle.now.size.w }
-    requires alive { IsAlive planes.old }
+    requires alive { ArePlanesAlive planes.old }
     ensures { AreVisited (column_of_tents puzzle.now x) planes.old planes.new result }
 {
     let part = Part {
@@ -29,7 +29,7 @@ pub(crate) fn visit_row<W: Word>(planes: &mut Planes<W>, puzzle: &TentsPuzzle, y
     requires size { planes.old.size ≡ puzzle.now.size }
     requires narrow { puzzle.now.size.w ≤ W.room }
     requires y_in { y < puzzle.now.size.h }
-    requires alive { IsAlive planes.old }
+    requires alive { ArePlanesAlive planes.old }
     ensures { AreVisited (row_of_tents puzzle.now y) planes.old planes.new result }
 {
     let part = Part {

@@ -1,7 +1,7 @@
 //! The trees of each row of Tents as words, and visits of those of a row, all at once.
 
 ghost use Rattle.std.specs.Prelude.{◌&&◌, ◌*◌, ◌+◌, ◌<◌, ◌≡◌, ◌≤◌, Bool, ℕ, length, map, true};
-ghost use Rattle.fields_core.specs.Common.{AreBare, AreRowsOf, AreVisited, IsAlive, IsFurther, IsNear, IsRowOf, IsTents, Tents, has, has_bit, is_beside, trees_of_row, wants_tent, without_zeros};
+ghost use Rattle.fields_core.specs.Common.{AreBare, AreRowsOf, AreVisited, ArePlanesAlive, IsFurther, IsNear, IsRowOf, IsTents, Tents, has, has_bit, is_beside, trees_of_row, wants_tent, without_zeros};
 
 use crate::count::house::count_passing;
 use crate::planes::near::{Near, ones_near};
@@ -74,7 +74,7 @@ fn take_beside<W: Word>(planes: &mut Planes<W>, near: Near<W>, places: W, y: u8)
 pub(crate) fn visit_trees<W: Word>(planes: &mut Planes<W>, trees: &[W], y: u8) -> bool
     requires y_in { y < planes.old.size.h }
     requires long { planes.old.size.h ≤ length trees.now }
-    requires alive { IsAlive planes.old }
+    requires alive { ArePlanesAlive planes.old }
     ensures { (p : Tents) → IsTents p → planes.old.size ≡ p.size
         → AreRowsOf p.size (wants_tent p) (map W.bits trees.now) → AreBare p (has planes.old)
         → AreVisited (trees_of_row p y) planes.old planes.new result }

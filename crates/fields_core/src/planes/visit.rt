@@ -1,8 +1,8 @@
 //! A visit of a count house on planes: its ones are counted by words.
 
 ghost use Rattle.std.specs.Prelude.{◌<◌, ◌≡◌, ◌≤◌, false, length, true};
-ghost use Rattle.fields_core.specs.Parts.{IsCounted};
-ghost use Rattle.fields_core.specs.Common.{ArePieces, CountHouse, IsAlive, IsBroken, IsFurther, IsHouseOf, after_house, has, without_value};
+ghost use Rattle.fields_core.specs.Parts.{ArePartsCounted};
+ghost use Rattle.fields_core.specs.Common.{ArePieces, CountHouse, ArePlanesAlive, IsBroken, IsFurther, IsHouseOf, after_house, has, without_value};
 
 use crate::planes::part::Parts;
 use grid_core::{Planes, Word};
@@ -11,7 +11,7 @@ use grid_core::{Planes, Word};
 #[inline(always)]
 fn count<W: Word, P: Parts<W>>(planes: &Planes<W>, parts: &P) -> (usize, usize)
     requires { ArePieces planes.now.size (P.pieces parts.now) }
-    ensures { IsCounted planes.now (P.pieces parts.now) result.0 result.1 }
+    ensures { ArePartsCounted planes.now (P.pieces parts.now) result.0 result.1 }
 {
     let mut may = 0;
     let mut undecided = 0;
@@ -52,7 +52,7 @@ pub fn visit<W: Word, P: Parts<W>>(
 ) -> bool
     requires pieces { ArePieces planes.old.size (P.pieces parts.now) }
     requires order { least ≤ most }
-    requires alive { IsAlive planes.old }
+    requires alive { ArePlanesAlive planes.old }
     ensures left { result ≡ true → (house : CountHouse)
         → IsHouseOf planes.old.size (P.pieces parts.now) least most house
         → has planes.new ≡ after_house house (has planes.old) }
@@ -60,7 +60,7 @@ pub fn visit<W: Word, P: Parts<W>>(
         → IsHouseOf planes.old.size (P.pieces parts.now) least most house
         → IsBroken house (has planes.old) }
     ensures unchanged { result ≡ false → planes.new ≡ planes.old }
-    ensures alive { IsAlive planes.new }
+    ensures alive { ArePlanesAlive planes.new }
     ensures further { IsFurther planes.old planes.new }
 {
     let (may, undecided) = count(planes, parts);

@@ -2,7 +2,7 @@
 #![tactic(auto, using(crate::proofs::LawSets::wait_laws))]
 
 ghost use Rattle.std.specs.Prelude.{◌&&◌, ◌<◌, ◌≡◌, ◌≤◌, ℕ, nat_lt};
-ghost use Rattle.fields_core.specs.Common.{AreIdle, AreRested, AreWoken, Candidates, HasBoard, IsAlive, IsClosedBut, IsFurther, IsTents, Layers, Tents, has, has_bit, kind_houses, kind_lines, tent_rules, waiting};
+ghost use Rattle.fields_core.specs.Common.{AreIdle, AreTentsRested, AreTentsWoken, Candidates, HasBoard, ArePlanesAlive, IsClosedBut, IsFurther, IsTents, Layers, Tents, has, has_bit, kind_houses, kind_lines, tent_rules, waiting};
 
 use gameid_core::TentsPuzzle;
 use grid_core::{Planes, Touched, Word};
@@ -45,7 +45,7 @@ impl<W: Word> Waits<W> {
     /// Everything waits.
     pub(crate) fn all() -> Waits<W>
         ensures { (p : Tents) (K : Candidates) → p.size.w ≤ W.room → p.size.h ≤ W.room
-            → AreRested W.bits p result K }
+            → AreTentsRested W.bits p result K }
     {
         Waits::at(W::all(W::places()))
     }
@@ -55,7 +55,7 @@ impl<W: Word> Waits<W> {
         requires lawful { IsTents puzzle.now }
         requires board { HasBoard (tent_rules puzzle.now) puzzle.now.size W.room planes.now }
         requires closed_but { IsClosedBut (tent_rules puzzle.now) (has planes.now) from }
-        ensures { AreRested W.bits puzzle.now result (has planes.now) }
+        ensures { AreTentsRested W.bits puzzle.now result (has planes.now) }
     {
         let Some(place) = from else {
             return Waits::all();
@@ -78,7 +78,7 @@ impl<W: Word> Waits<W> {
 
     /// Lets lines wait that have lost a value, trees beside which 1 is lost, and squares that have lost 0.
     fn woken(self, zeros: Touched<W>, ones: Touched<W>) -> Waits<W>
-        ensures { AreWoken W.bits W.room self zeros ones result }
+        ensures { AreTentsWoken W.bits W.room self zeros ones result }
     {
         Waits {
             columns: self.columns.either(zeros.columns.either(ones.columns)),
@@ -105,9 +105,9 @@ impl<W: Word> Waits<W> {
 
     /// The houses of this kind wait no more: they are idle.
     pub(crate) fn settle(&mut self, kind: Kind)
-        ensures { (p : Tents) (K : Candidates) → AreRested W.bits p self.old K
+        ensures { (p : Tents) (K : Candidates) → AreTentsRested W.bits p self.old K
             → ((k : ℕ) → k < kind_lines p kind → AreIdle (kind_houses p kind k) K)
-            → AreRested W.bits p self.new K }
+            → AreTentsRested W.bits p self.new K }
     {
         match kind {
             Kind::Columns => self.columns = W::none(),
@@ -122,8 +122,8 @@ impl<W: Word> Waits<W> {
     pub(crate) fn wake(&mut self, planes: &Planes<W>, len: usize)
         requires { len ≤ planes.now.len }
         ensures { (p : Tents) (from : Layers) → IsTents p → from.size ≡ p.size → from.len ≡ len
-            → IsAlive from → IsAlive planes.now → IsFurther from planes.now
-            → AreRested W.bits p self.old (has from) → AreRested W.bits p self.new (has planes.now) }
+            → ArePlanesAlive from → ArePlanesAlive planes.now → IsFurther from planes.now
+            → AreTentsRested W.bits p self.old (has from) → AreTentsRested W.bits p self.new (has planes.now) }
     {
         let (zeros, ones) = planes.lost(len);
         *self = self.woken(zeros, ones);

@@ -2,7 +2,7 @@
 #![tactic(auto, using(crate::proofs::LawSets::tent_check_laws))]
 
 ghost use Rattle.std.specs.Prelude.{◌<◌, ◌==◌, ◌↔◌, ◌≡◌, IfOk, None, ℕ, count_by, length, slice_index};
-ghost use Rattle.fields_core.specs.Common.{HasRoom, IsGrid, IsTentFault, IsTentSolution, segment_places, tent, tent_cells};
+ghost use Rattle.fields_core.specs.Common.{HasPairingRoom, IsGrid, IsTentFault, IsTentSolution, segment_places, tent, tent_cells};
 
 use crate::count::house::{Segment, next_passing};
 use crate::tents::cells::{column_number, is_tree, row_number};
@@ -33,9 +33,9 @@ pub(crate) fn find_fault(
     scratch: &mut PairingScratch,
 ) -> Option<TentFault>
     requires fits { IsGrid (tent_cells puzzle.now) 2 grid.now }
-    requires room { HasRoom scratch.old (tent_cells puzzle.now) }
+    requires room { HasPairingRoom scratch.old (tent_cells puzzle.now) }
     ensures fault { IsTentFault puzzle.now grid.now result }
-    ensures room { (n : ℕ) → HasRoom scratch.old n → HasRoom scratch.new n }
+    ensures room { (n : ℕ) → HasPairingRoom scratch.old n → HasPairingRoom scratch.new n }
 {
     let size = puzzle.size();
     let end = size.cells();

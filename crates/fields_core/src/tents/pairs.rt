@@ -2,7 +2,7 @@
 #![tactic(auto, using(crate::proofs::LawSets::tent_pairs_laws))]
 
 ghost use Rattle.std.specs.Prelude.{◌<◌, ◌≡◌, ◌≤◌, IfOk, ℕ, filter, length, take};
-ghost use Rattle.fields_core.specs.Common.{AreIn, AreNumbered, HasRoom, IsGrid, IsNext, IsTents, can_be_paired, may_pair, range_with_len, tent, tent_cells, tree_beside, tree_count};
+ghost use Rattle.fields_core.specs.Common.{AreIn, AreNumbered, HasPairingRoom, IsGrid, IsNext, IsTents, can_be_paired, may_pair, range_with_len, tent, tent_cells, tree_beside, tree_count};
 
 use crate::tents::cells::is_tree;
 use gameid_core::TentsPuzzle;
@@ -20,7 +20,7 @@ pub struct PairingScratch {
 impl PairingScratch {
     /// Room for grids of so many cells.
     pub(crate) fn new(alloc: Global, cells: usize) -> Result<PairingScratch, AllocError>
-        ensures { IfOk result (λ scratch. HasRoom scratch cells) }
+        ensures { IfOk result (λ scratch. HasPairingRoom scratch cells) }
     {
         Ok(PairingScratch {
             pairing: Pairing::new(alloc, cells)?,
@@ -118,10 +118,10 @@ fn number_trees(puzzle: &TentsPuzzle, numbers: &mut [usize]) -> usize
 /// Whether the tents can be paired one to one with the trees so that each tent is beside its own tree.
 pub(crate) fn are_paired(puzzle: &TentsPuzzle, grid: &Grid, scratch: &mut PairingScratch) -> bool
     requires fits { IsGrid (tent_cells puzzle.now) 2 grid.now }
-    requires room { HasRoom scratch.old (tent_cells puzzle.now) }
+    requires room { HasPairingRoom scratch.old (tent_cells puzzle.now) }
     ensures paired { result ≡ can_be_paired puzzle.now grid.now }
     ensures lawful { IsTents puzzle.now }
-    ensures room { (n : ℕ) → HasRoom scratch.old n → HasRoom scratch.new n }
+    ensures room { (n : ℕ) → HasPairingRoom scratch.old n → HasPairingRoom scratch.new n }
 {
     let count = list_tents(puzzle, grid, &mut scratch.tents);
     let trees = number_trees(puzzle, &mut scratch.numbers);

@@ -23,7 +23,7 @@ use std::alloc::{AllocError, Global};
 pub type TentRules = CountRules<TentsPuzzle>;
 
 impl CountGame for TentsPuzzle {
-    ghost use Rattle.fields_core.specs.Common.{HasRoom, tent_counts, tent_house};
+    ghost use Rattle.fields_core.specs.Common.{HasPairingRoom, tent_counts, tent_house};
 
     type Scratch = PairingScratch;
 
@@ -35,7 +35,7 @@ impl CountGame for TentsPuzzle {
 
     ghost told = { tent_house };
 
-    ghost serves = { HasRoom };
+    ghost serves = { HasPairingRoom };
 
     fn copied(&self, alloc: Global) -> Result<TentsPuzzle, AllocError> {
         self.copy(alloc)

@@ -5,7 +5,7 @@ ghost use Rattle.grid_core.specs.Grids.{IsGrid};
 ghost use Rattle.maker_core.specs.Draws.{IsDrawnBy};
 ghost use Rattle.maker_core.specs.SoloOrders.{IsOrder};
 ghost use Rattle.maker_core.specs.TentFilling.{IsSolvedFilling, no_tents, tents_of_order, is_free, free_cells_beside, may_have_tent, place_tent as tent_placed, take_cell as cell_taken, tent_filling};
-ghost use Rattle.maker_core.specs.TentSteps.{IsPlaced, IsTaken};
+ghost use Rattle.maker_core.specs.TentSteps.{IsTentPlaced, IsTentTaken};
 
 use crate::draws::{draw, order};
 use fields_core::touches_tent;
@@ -74,7 +74,7 @@ fn place_tent<G: Rng>(
     requires may { may_have_tent size filling.old place ≡ true }
     ensures drawn { IsDrawnBy (tent_placed size filling.old place)
         G.stream rng.old rng.new filling.new }
-    ensures placed { IsPlaced size filling.old place filling.new }
+    ensures placed { IsTentPlaced size filling.old place filling.new }
 {
     let k = draw(rng, free.len() as u32);
     filling.trees.set(free[k as usize], 1);
@@ -96,7 +96,7 @@ fn take_cell<G: Rng>(
     requires place { place < size.w * size.h }
     ensures drawn { OnOk result
         (IsDrawnBy (cell_taken size filling.old place) G.stream rng.old rng.new filling.new) }
-    ensures taken { OnOk result (IsTaken size filling.old place filling.new) }
+    ensures taken { OnOk result (IsTentTaken size filling.old place filling.new) }
 {
     if filling.placed >= size.cells() / 5 {
         return Ok(());

@@ -5,7 +5,7 @@ ghost use Rattle.grid_core.specs.Planes.{IsFurther, has, lines_beside, number_of
 ghost use Rattle.engine_core.specs.ClosingList.{IsAlive};
 ghost use Rattle.engine_core.specs.Counts.{IsClosedIn};
 ghost use Rattle.engine_core.specs.Position.{IsClosedBut, IsTaken};
-ghost use Rattle.pattern_core.specs.LinePlanes.{AreLinesOf, AreRested, HasRoom, IsStart, is_marked, is_same};
+ghost use Rattle.pattern_core.specs.LinePlanes.{AreLinesWithin, AreLinesRested, HasLineRoom, IsStart, is_marked, is_same};
 ghost use Rattle.pattern_core.specs.LineRules.{line_rules};
 
 use crate::lines::{LineScratch, PatternLines};
@@ -45,9 +45,9 @@ fn at_start<W: Word>(rules: &PatternLines) -> Waits<W>
 fn first<W: Word>(planes: &Planes<W>, rules: &PatternLines, from: Option<usize>) -> Waits<W>
     requires size { planes.now.size ≡ rules.now.pattern.size }
     requires closed_but { IsClosedBut (line_rules rules.now.pattern) (has planes.now) from }
-    ensures rested { AreRested W.bits rules.now.pattern (has planes.now) result }
-    ensures within { AreLinesOf W.bits rules.now.pattern.size result }
-    ensures fits { HasRoom W.room rules.now.pattern (has planes.now) }
+    ensures rested { AreLinesRested W.bits rules.now.pattern (has planes.now) result }
+    ensures within { AreLinesWithin W.bits rules.now.pattern.size result }
+    ensures fits { HasLineRoom W.room rules.now.pattern (has planes.now) }
 {
     let _size = planes.size(); // no side is longer than a word
     let Some(place) = from else {

@@ -2,7 +2,7 @@
 #![tactic(auto, using(crate::proofs::LawSets::tent_sweep_laws))]
 
 ghost use Rattle.std.specs.Prelude.{◌≡◌, true};
-ghost use Rattle.fields_core.specs.Common.{AreLightsReady, AreVisited, IsKept, houses_below, light_cells, lit_house, numbers_of_row, run_houses, run_lines, white_houses};
+ghost use Rattle.fields_core.specs.Common.{AreLightsReady, AreVisited, AreTablesKept, houses_below, light_cells, lit_house, numbers_of_row, run_houses, run_lines, white_houses};
 
 use crate::planes::lights::notes::LightNotes;
 use crate::planes::lights::visits::visit_numbers;
@@ -18,7 +18,7 @@ impl<W: Word> LightNotes<W> {
             planes.old planes.new result }
         ensures ready { result ≡ true
             → AreLightsReady W.bits W.room puzzle.now planes.new self.new }
-        ensures kept { IsKept self.old self.new }
+        ensures kept { AreTablesKept self.old self.new }
     {
         let mut left = self.waits.numbers.both(planes.rows());
         while left.is_some() {
@@ -47,7 +47,7 @@ impl<W: Word> LightNotes<W> {
             planes.old planes.new result }
         ensures ready { result ≡ true
             → AreLightsReady W.bits W.room puzzle.now planes.new self.new }
-        ensures kept { IsKept self.old self.new }
+        ensures kept { AreTablesKept self.old self.new }
     {
         let len = planes.len();
         let mut left = self.waits.runs(kind).both(kind.lines(planes));
@@ -73,7 +73,7 @@ impl<W: Word> LightNotes<W> {
             planes.old planes.new result }
         ensures ready { result ≡ true
             → AreLightsReady W.bits W.room puzzle.now planes.new self.new }
-        ensures kept { IsKept self.old self.new }
+        ensures kept { AreTablesKept self.old self.new }
     {
         let len = planes.len();
         let rows = self.tables.reach(planes, puzzle, self.waits.ones);
@@ -99,7 +99,7 @@ impl<W: Word> LightNotes<W> {
         ensures visited { AreVisited (white_houses puzzle.now) planes.old planes.new result }
         ensures ready { result ≡ true
             → AreLightsReady W.bits W.room puzzle.now planes.new self.new }
-        ensures kept { IsKept self.old self.new }
+        ensures kept { AreTablesKept self.old self.new }
     {
         self.sweep_runs(planes, puzzle, RunKind::Rows)
             && self.sweep_runs(planes, puzzle, RunKind::Columns)

@@ -1,7 +1,7 @@
 //! Visits of the houses of Light Up by the words that are kept of a puzzle.
 
 ghost use Rattle.std.specs.Prelude.{◌≡◌, ℕ, ◌+◌, ◌*◌, ◌<◌, ◌≤◌, ◌&&◌, ◌||◌, ◌==◌, Bool, true, IfNone, IfSome, is_some, List, length, map, nat_lt, slice_index};
-ghost use Rattle.fields_core.specs.Common.{AreAround, AreIdleBut, ArePlanesOf, AreRunsOf, AreSafeInColumns, AreTables, AreVisited, AreWhitesIdleBut, CountHouse, IsAlive, IsClash, count_below, has, has_bit, line_len, lines_beside, lit_house, lits_of_row, number_house, number_of, numbers_of_row, run_houses, run_lines};
+ghost use Rattle.fields_core.specs.Common.{AreAround, AreIdleBut, ArePlanesOf, AreRunsOf, AreSafeInColumns, AreTables, AreVisited, AreWhitesIdleBut, CountHouse, ArePlanesAlive, IsClash, count_below, has, has_bit, line_len, lines_beside, lit_house, lits_of_row, number_house, number_of, numbers_of_row, run_houses, run_lines};
 
 use crate::light_up::cells::columns;
 use crate::planes::lights::tables::LightTables;
@@ -55,7 +55,7 @@ fn visit_line<W: Word>(
     requires line_in { number_of line < lines_beside planes.old.size line }
     requires within { (k : ℕ) → k < line_len planes.old.size line
         → first + k * stride < length runs.now }
-    requires alive { IsAlive planes.old }
+    requires alive { ArePlanesAlive planes.old }
     ensures { (len : ℕ) (cell : ℕ → ℕ) (joined : ℕ → ℕ → Bool) (houses : List CountHouse)
         → line_len planes.old.size line ≡ len
         → AreRunsOf planes.old.size line len cell joined houses
@@ -94,7 +94,7 @@ fn visit_number<W: Word>(
     requires tables { AreTables W.bits puzzle.now tables.now }
     requires y_in { y < puzzle.now.size.h }
     requires x_in { x < puzzle.now.size.w }
-    requires alive { IsAlive planes.old }
+    requires alive { ArePlanesAlive planes.old }
     ensures { AreVisited (number_house puzzle.now (y * puzzle.now.size.w + x))
         planes.old planes.new result }
 {

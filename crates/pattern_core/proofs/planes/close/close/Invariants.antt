@@ -1,7 +1,7 @@
 use Rattle.pattern_core.proofs.Common.{List, length, line_rules, ℕ, ◌-◌, ◌≡◌}
 use Rattle.grid_core.specs.Planes.{IsFurther, has}
 use Rattle.engine_core.proofs.ListLemmas.{IsRunning}
-use Rattle.pattern_core.specs.LinePlanes.{AreLinesOf, waiting}
+use Rattle.pattern_core.specs.LinePlanes.{AreLinesWithin, waiting}
 use Rattle.pattern_core.proofs.planes.close.close.Given as goal
 
 abbrev pub invariant-loop-line : goal.invariant-loop-line
@@ -11,7 +11,7 @@ invariant-loop-line g l =
       visits : List ℕ;
       counted : length visits ≡ l.turns;
       running : IsRunning (line_rules pat) (has l.fn.planes) visits (has l.planes) (waiting g.W.Word.bits pat.size l.waits);
-      within : AreLinesOf g.W.Word.bits pat.size l.waits;
+      within : AreLinesWithin g.W.Word.bits pat.size l.waits;
       further : IsFurther l.fn.planes l.planes;
     }
 

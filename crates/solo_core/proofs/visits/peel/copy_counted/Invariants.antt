@@ -1,10 +1,10 @@
 use Rattle.std.proofs.Common.{◌≡◌, ℕ, ◌<◌, length, slice_index}
-use Rattle.solo_core.specs.Peeled.{AreCounts}
+use Rattle.solo_core.specs.Peeled.{AreValueCounts}
 use Rattle.solo_core.proofs.visits.peel.copy_counted.Given as goal
 
 abbrev pub invariant-loop-k : goal.invariant-loop-k
 invariant-loop-k l = record {
   as_many : length l.copy ≡ length l.sets;
   copied : (j : ℕ) → j < l.k → slice_index l.copy j ≡ slice_index l.sets j;
-  counts : AreCounts l.sets (λ j. j < l.k) l.counts.some l.counts.single l.counts.shared;
+  counts : AreValueCounts l.sets (λ j. j < l.k) l.counts.some l.counts.single l.counts.shared;
 }

@@ -1,12 +1,12 @@
 use Rattle.std.proofs.Common.{◌≡◌, ℕ, ◌<◌, ◌≤◌, true, false, length, slice_index}
 use Rattle.solo_core.specs.Common.{has_in}
-use Rattle.solo_core.specs.Peeled.{AreCounts, IsDropped, IsPassed, KeepsOthers}
+use Rattle.solo_core.specs.Peeled.{AreValueCounts, IsDropped, IsPassed, KeepsOthers}
 use Rattle.solo_core.proofs.visits.peel.narrow_all.Given as goal
 
 abbrev pub invariant-loop-i : goal.invariant-loop-i
 invariant-loop-i l = record {
   as_many : length l.sets ≡ length l.fn.sets;
-  counts : AreCounts l.sets (λ k. (k < length l.fn.sets) × IsPassed l.rest l.i k) l.narrowed.some l.narrowed.single l.narrowed.shared;
+  counts : AreValueCounts l.sets (λ k. (k < length l.fn.sets) × IsPassed l.rest l.i k) l.narrowed.some l.narrowed.single l.narrowed.shared;
   inside : (j v : ℕ) → has_in l.sets j v ≡ true → has_in l.fn.sets j v ≡ true;
   dropped : (j v : ℕ) → v < l.values → has_in l.fn.sets j v ≡ true → has_in l.sets j v ≡ false
       → IsDropped l.values l.counts.single l.counts.shared (slice_index l.fn.sets j) v;

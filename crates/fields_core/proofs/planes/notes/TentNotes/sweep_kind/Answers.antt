@@ -2,7 +2,7 @@ use Rattle.fields_core.proofs.Common.{arith, has_bit, refl, sym, ℕ, ◌∙◌,
 use Rattle.grid_core.proofs.TurnLemmas.{fewer_left}
 use Rattle.gameid_core.specs.Puzzles.{Tents}
 use Rattle.grid_core.specs.Planes.{has}
-use Rattle.fields_core.specs.Waits.{AreRested, kind_lines}
+use Rattle.fields_core.specs.Waits.{AreTentsRested, kind_lines}
 use Rattle.fields_core.specs.declared.planes.waits.Kind.{Kind}
 use Rattle.fields_core.specs.declared.planes.waits.Kind.TheVariants.{Columns, Rows, Trees, Squares}
 use Rattle.fields_core.proofs.TentIdle.{field-further, passed-all, passed-broken, passed-first, passed-idle, passed-next}
@@ -54,7 +54,7 @@ returns-clause-ready g c = λ _.
     let now = c.loop-left.planes in
     let passed = c.loop-left.invariant.passed in
     let further = passed.visited.further in
-    let before : AreRested bits p c.loop-left.self.waits (has c.args.planes.now) = rw c.loop-left.invariant.waits c.requires.ready.rested in
+    let before : AreTentsRested bits p c.loop-left.self.waits (has c.args.planes.now) = rw c.loop-left.invariant.waits c.requires.ready.rested in
     let size = c.requires.ready.field.size in
     let still : c.if-len.self.trees ≡ c.args.self.now.trees = elim c.if-len.branch [
       | then-len w ↦ rw w.self-is c.loop-left.invariant.trees
