@@ -1,5 +1,6 @@
 -- A filter of a range grows by its end, and keeps each number that passes.
-use Rattle.maker_core.proofs.Common.{All-contains, All-from_recursion, AllByRecursion, Bool, Contains, Contains-append_left, Contains-append_right, List, [], add-one, ap, append-nil, arith, cases_eq, common_steps, cond, eqb, false, filter, filter-append, inl, inr, map-id, map-range_with_len_more, range_with_len, subst, suc, sym, true, zero, ℕ, ◌++◌, ◌+◌, ◌<◌, ◌∙◌, ◌∷◌, ◌≡◌, ◌≢◌}
+use Rattle.grid_core.proofs.ShortSets.{contains_from_member, member_of_filter}
+use Rattle.maker_core.proofs.Common.{All-contains, All-from_recursion, AllByRecursion, Bool, Contains, List, [], append-nil, arith, common_steps, cond, eqb, false, filter, filter-append, lt-ltb, map-id, map-range_with_len_more, range_with_len, refl, true, ℕ, ◌++◌, ◌+◌, ◌<◌, ◌∙◌, ◌∷◌, ◌≡◌, ◌≢◌}
 
 -- one more number of a range
 pub range_more : (k : ℕ) → range_with_len 0 (k + 1) ≡ range_with_len 0 k ++ k ∷ []
@@ -17,12 +18,7 @@ filter_skipped p k xs fails before = grind (arith, filter_more p k, append-nil (
 
 -- a number of the range that passes is kept
 pub passes_kept : (p : ℕ → Bool) (n q : ℕ) → q < n → p q ≡ true → Contains (filter p (range_with_len 0 n)) q
-passes_kept p zero q lt on = absurd (omega arith)
-passes_kept p (suc n) q lt on =
-    subst (λ xs. Contains xs q) (sym (ap (λ k. filter p (range_with_len 0 k)) (sym (add-one n)) ∙ filter_more p n)) (elim (cases_eq q n) [
-      | inl e ↦ Contains-append_right (filter p (range_with_len 0 n)) (cond (p n) (n ∷ []) []) q (grind arith)
-      | inr ne ↦ Contains-append_left _ _ q (passes_kept p n q (omega arith) on)
-    ])
+passes_kept p n q lt on = contains_from_member _ q (member_of_filter p n q ∙ rw (lt-ltb q n lt, on) refl)
 
 -- no number after the head is the head
 pub head_apart : (xs : List ℕ) {x q : ℕ} → AllByRecursion (λ y. eqb x y ≡ false) xs → Contains xs q → q ≢ x
