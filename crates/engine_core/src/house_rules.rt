@@ -164,8 +164,6 @@ impl<S: RuleSet> Rules for HouseRules<S> {
 }
 
 impl<S: RuleSet> Propagators for HouseRules<S> {
-    type Noted = ();
-
     fn read(&self, house: usize, board: &Board, sets: &mut [u32]) {
         gather(board, self.table.list.places(house), sets);
     }

@@ -176,8 +176,6 @@ fn enqueue_if(waits: &mut [u64], house: usize, on: bool)
 }
 
 impl Propagators for Neighbours {
-    type Noted = ();
-
     fn filter(&self, _house: usize, sets: &[u32], kept: &mut [u32], _scratch: &mut ()) -> bool {
         keep(self.values, sets, kept);
         true

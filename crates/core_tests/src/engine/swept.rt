@@ -87,8 +87,6 @@ impl Rules for Swept {
 }
 
 impl Propagators for Swept {
-    type Noted = ();
-
     fn filter(&self, house: usize, sets: &[u32], kept: &mut [u32], scratch: &mut ()) -> bool {
         self.row.filter(house, sets, kept, scratch)
     }

@@ -10,10 +10,6 @@ use grid_core::{Board, Grid};
 
 /// Rules that filter a house by the sets of its cells.
 pub trait Propagators: Rules {
-    /// Nothing uses it. Without a type of the trait's own, the kit's prover refuses an `impl Searchable` by a
-    /// `TrailPosition`.
-    type Noted: Drop;
-
     /// Writes down the sets of the house's cells as bits, in the order of its scope. Rules with lists of their own may read
     /// along them.
     fn read(&self, house: usize, board: &Board, sets: &mut [u32])
