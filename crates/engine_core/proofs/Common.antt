@@ -50,8 +50,8 @@ pub use Rattle.engine_core.specs.ClosingList.{HasLost, IsAlive, IsCalledFor, IsC
 pub use Rattle.engine_core.specs.Counts.{IsClosedIn, IsTurns, boards_of}
 unfoldable pub use Rattle.engine_core.specs.Counts.{deepest_of}
 pub use Rattle.engine_core.specs.FillingLaws.{shown_from_test, test_from_shown}
-pub use Rattle.engine_core.specs.Frames.{AreGrids, AreReady, IsFull, IsNoted, IsOpen, IsReady, IsSearched, IsTrial, SameMarks, first_of, found_marks, frame_at}
-pub use Rattle.engine_core.specs.Frames.{level_at, marks_at, marks_of, own_grid, pending_in, pending_of, second_of, walk_of}
+pub use Rattle.engine_core.specs.Frames.{AreGrids, AreReady, AreSolutions, IsFull, IsNoted, IsOpen, IsReady, IsRetried, IsSearched, IsTrial, SameMarks, first_of, found_marks, frame_at}
+pub use Rattle.engine_core.specs.Frames.{level_at, marks_at, marks_of, own_grid, pending_in, pending_of, retried_at, second_of, walk_of}
 unfoldable pub use Rattle.engine_core.specs.Frames.{levels_of, singles}
 pub use Rattle.engine_core.specs.HouseIndex.{AreMarked, AreMarksAt, AreScopes, HasMarked, IsScope, Table, place_bit}
 pub use Rattle.engine_core.specs.HouseIndex.{scope_of}

@@ -1,5 +1,5 @@
 -- The levels of a search: what its frames and its marks say of the boards that are open.
-use Rattle.engine_core.proofs.Common.{Candidates, Frame, IsFewest, IsWithin, IsNext, IsOnward, IsOpen, IsReady, IsReturned, IsTrial, Level, Levels, List, Mark.Trial, None, RuleSystem, Some, Standing, add-one, ap, arith, cases_eq, common_steps, frame_at, get_or-set_other, get_or-set_same, inl, inr, length, length-set, level_at, levels_of, only, only-inside, pending, pending_in, refl, set, subst, suc, sym, walk, zero, ℕ, ◌++◌, ◌+◌, ◌-◌, ◌<◌, ◌∙◌, ◌∷◌, ◌≡◌, ◌≢◌}
+use Rattle.engine_core.proofs.Common.{Candidates, Frame, IsFewest, IsWithin, IsNext, IsOnward, IsOpen, IsReady, IsReturned, IsTrial, Level, Levels, List, Mark.Trial, None, RuleSystem, Some, Standing, add-one, ap, arith, cases_eq, common_steps, frame_at, get_or-set_other, get_or-set_same, inl, inr, length, length-set, level_at, levels_of, only, only-inside, pending, pending_in, refl, retried_at, set, subst, suc, sym, walk, zero, ℕ, ◌++◌, ◌+◌, ◌-◌, ◌<◌, ◌∙◌, ◌∷◌, ◌≡◌, ◌≢◌}
 use Rattle.engine_core.proofs.QueueLemmas.{closed-but_only}
 use Rattle.engine_core.proofs.SearchLemmas.{pending-pop, pending-trial}
 use Rattle.engine_core.proofs.RoomLemmas.{singles-only, open-cell, open-room}
@@ -97,10 +97,7 @@ levels-top : (s : Standing) (frames : List Frame) {n : ℕ} → 0 < n
 unfolding levels_of
 levels-top s frames lt = grind (arith, common_steps)
 
--- its next value is moved on
-abbrev retried_at : List Frame → ℕ → ℕ → List Frame
-retried_at frames n next = set frames (n - 1) (record { cell = (frame_at frames (n - 1)).cell; next = next; mark = (frame_at frames (n - 1)).mark })
-
+-- its next value is another
 levels-retried : (s : Standing) (frames : List Frame) (n next : ℕ) → 0 < n → n - 1 < length frames → s.back (frame_at frames (n - 1)).mark ≡ s.board
     → levels_of s (retried_at frames n next) n
     ≡ record { board = s.board; cell = (frame_at frames (n - 1)).cell; next = next } ∷ levels_of s frames (n - 1)
@@ -113,6 +110,27 @@ mark-retried frames n next k lt = grind (arith, common_steps, cases_eq k (n - 1)
 pub top-open : {p : RuleSystem} {s : Standing} {frames : List Frame} {n : ℕ} → IsReady p s frames n
     → 0 < n → ((frame_at frames (n - 1)).cell < p.cells) × (n - 1 < p.cells)
 top-open {p = p} {n = n} ready pos = let o = ready.open_levels (n - 1) (omega arith) in ((open-cell o).within, open-room o)
+
+pub ready-retried : {p : RuleSystem} {s : Standing} {frames : List Frame} {n : ℕ} → IsReady p s frames n → 0 < n
+    → (next : ℕ) → IsReady p s (retried_at frames n next) n
+ready-retried {p} {s} {frames} {n} ready pos next = record {
+  room = omega (arith, ready.room, length-set frames (n - 1) again);
+  marked = λ k lt. rw (mark-retried frames n next k room) (ready.marked k lt);
+  ascend = λ j k le lt. rw (mark-retried frames n next j room, mark-retried frames n next k room) (ready.ascend j k le lt);
+  open_levels = λ k lt. elim (cases_eq k (n - 1)) [
+    | inl e ↦ rw (e, frame_at-here frames (n - 1) again room) moved_on
+    | inr ne ↦ rw (frame_at-other frames (n - 1) k again ne) (ready.open_levels k lt)
+  ];
+}
+  where
+    again : Frame
+    again = record { cell = (frame_at frames (n - 1)).cell; next = next; mark = (frame_at frames (n - 1)).mark }
+
+    room : n - 1 < length frames
+    room = let few = (top-open ready pos).1 in omega (arith, few, ready.room)
+
+    moved_on : IsOpen p (level_at s again) (n - 1)
+    moved_on = let o = ready.open_levels (n - 1) (omega arith) in record { single = o.single; picked = o.picked; closed = o.closed; alive = o.alive; inside = o.inside }
 
 -- ---- one turn of the search: the position s was taken back to s1
 module _ {p : RuleSystem} {s s1 : Standing} {frames : List Frame} {n : ℕ} (ready : IsReady p s frames n) (pos : 0 < n)
@@ -165,18 +183,7 @@ module _ {p : RuleSystem} {s s1 : Standing} {frames : List Frame} {n : ℕ} (rea
     room = omega (arith, open-room open-back, ready.room)
 
     retried : IsReady p s1 moved n
-    retried = record {
-      room = omega (arith, ready.room, length-set frames (n - 1) (record { cell = top.cell; next = v + 1; mark = top.mark }));
-      marked = λ k lt. rw (mark-retried frames n (v + 1) k room) (ready-back.marked k lt);
-      ascend = λ j k le lt. rw (mark-retried frames n (v + 1) j room, mark-retried frames n (v + 1) k room) (ready.ascend j k le lt);
-      open_levels = λ k lt. elim (cases_eq k (n - 1)) [
-        | inl e ↦ rw (e, frame_at-here frames (n - 1) (record { cell = top.cell; next = v + 1; mark = top.mark }) room) moved_on
-        | inr ne ↦ rw (frame_at-other frames (n - 1) k (record { cell = top.cell; next = v + 1; mark = top.mark }) ne) (ready-back.open_levels k lt)
-      ];
-    }
-      where
-        moved_on : IsOpen p (level_at s1 (record { cell = top.cell; next = v + 1; mark = top.mark })) (n - 1)
-        moved_on = let o = ready-back.open_levels (n - 1) (omega arith) in record { single = o.single; picked = o.picked; closed = o.closed; alive = o.alive; inside = o.inside }
+    retried = ready-retried ready-back pos (v + 1)
 
     pub turn-ready : {now : List Frame} → now ≡ moved → IsReady p s2 now n
     turn-ready e = rw e (ready-onward retried onward)

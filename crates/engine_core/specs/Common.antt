@@ -12,7 +12,7 @@ unfoldable pub use Rattle.engine_core.specs.Closing.{closure}
 pub use Rattle.engine_core.specs.ClosingList.{IsAlive, IsClosing, IsDead}
 pub use Rattle.engine_core.specs.Counts.{IsClosedIn, IsTurns, boards_of}
 unfoldable pub use Rattle.engine_core.specs.Counts.{deepest_of}
-pub use Rattle.engine_core.specs.Frames.{AreGrids, AreLong, AreReady, IsFull, IsNoted, IsSearched, IsTurn, SameMarks, first_of, second_of}
+pub use Rattle.engine_core.specs.Frames.{AreGrids, AreLong, AreReady, AreSolutions, IsFull, IsNoted, IsRetried, IsSearched, IsTurn, SameMarks, first_of, frame_at, second_of}
 unfoldable pub use Rattle.engine_core.specs.Frames.{singles}
 pub use Rattle.engine_core.specs.HouseSets.{AreBelow, AreDifferent}
 unfoldable pub use Rattle.engine_core.specs.HouseSets.{kept_in, sets_at}
@@ -31,7 +31,7 @@ pub use Rattle.engine_core.specs.Stored.{IsAnswer, IsUnsearched, Stored, is_sett
 pub use Rattle.engine_core.specs.Trail.{IsBack, IsFurther, IsStruck, IsTrail, Trail, back_at, change_at, is_since}
 unfoldable pub use Rattle.engine_core.specs.Trail.{left_by}
 pub use Rattle.engine_core.specs.TrailPosition.{AreRested, GoesOn, IsAlong, IsPlaced, IsStep, IsUnderWay, Placed, board_in, standing_of}
-pub use Rattle.engine_core.specs.Verdict.{IsTrueOf, Solves, says_counts, spent_of, tried_of, verdict_of}
+pub use Rattle.engine_core.specs.Verdict.{HasTwo, IsTrueOf, Solves, says_counts, spent_of, tried_of, verdict_of}
 unfoldable pub use Rattle.engine_core.specs.Verdict.{before_second, grids_in, outcome, spent, trials_in, tried, within_budget}
 pub use Rattle.engine_core.specs.Waiting.{AreWoken, AreWokenAt, words_of}
 unfoldable pub use Rattle.engine_core.specs.Waiting.{is_waiting}
