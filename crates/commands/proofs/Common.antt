@@ -36,7 +36,7 @@ pub use Rattle.gameid_core.specs.declared.id.game.Game.TheVariants.{LightUp}
 pub use Rattle.gameid_core.specs.declared.light_up.cell.LightCell.{LightCell}
 pub use Rattle.gameid_core.specs.declared.light_up.cell.LightCell.TheVariants.{Black, Numbered, White}
 pub use Rattle.engine_core.proofs.ClosingLemmas.{after_inside, closure_closed, closure_inside, closure_largest}
-pub use Rattle.engine_core.specs.Verdict.{Outcome.GaveUp, Outcome.NoSolution, Outcome.OneSolution, Outcome.SeveralSolutions}
+pub use Rattle.engine_core.specs.Verdict.{HasTwo, Outcome.GaveUp, Outcome.NoSolution, Outcome.OneSolution, Outcome.SeveralSolutions}
 unfoldable pub use Rattle.engine_core.specs.Verdict.{outcome, spent, trials_in}
 pub use Rattle.engine_core.specs.Walk.{Found, Mark.Found, Mark.Trial}
 unfoldable pub use Rattle.engine_core.specs.Walk.{at_cell, branch_at, branches, walk_closed}
@@ -60,7 +60,7 @@ pub use Rattle.maker_core.specs.Made.{HasOne, IsOnlySolution, is_one}
 pub use Rattle.maker_core.specs.SoloClues.{SameSolo, solo_game}
 pub use Rattle.maker_core.specs.SoloFilling.{all_given, line_order, plain_filling}
 pub use Rattle.maker_core.specs.SoloMaking.{IsSoloMade, IsSoloSize, IsSoloUnmade, solo_filling, solo_passes}
-pub use Rattle.maker_core.specs.Thinning.{HasTwo, IsReason}
+pub use Rattle.maker_core.specs.Thinning.{IsReason}
 pub use Rattle.maker_core.specs.declared.made.Kept.{Kept}
 pub use Rattle.commands.specs.Allowed.{Allows, AllowsCheck, AllowsGrade, AllowsId, AllowsMade, AllowsOfSize, AllowsSolve, IsGraded, IsHandedOut}
 pub use Rattle.commands.specs.Allowed.{IsSolved, handed_out, wanted}

@@ -2,7 +2,6 @@
 
 mod games;
 mod solo;
-mod switch;
 mod thinning;
 
 use maker_core::{Limits, Made, MakeFault};

@@ -60,7 +60,7 @@ pub use Rattle.engine_core.specs.RuleSystem.{FitsIn, IsClosed, IsGridOf, IsLawfu
 unfoldable pub use Rattle.engine_core.specs.RuleSystem.{has_place}
 pub use Rattle.engine_core.specs.Stored.{IsAnswer}
 pub use Rattle.engine_core.specs.Verdict.{IsTrueOf, Outcome, Outcome.GaveUp, Outcome.NoSolution, Outcome.OneSolution, Outcome.SeveralSolutions}
-pub use Rattle.engine_core.specs.Verdict.{Solves, verdict_of}
+pub use Rattle.engine_core.specs.Verdict.{HasTwo, Solves, verdict_of}
 unfoldable pub use Rattle.engine_core.specs.Verdict.{outcome}
 pub use Rattle.engine_core.specs.Walk.{Mark, Mark.Found}
 unfoldable pub use Rattle.engine_core.specs.Walk.{walk}
@@ -120,12 +120,10 @@ unfoldable pub use Rattle.maker_core.specs.SoloFilling.{lines_of_groups, rearran
 pub use Rattle.maker_core.specs.SoloMaking.{IsSoloSize, solo_passes, solo_tries}
 pub use Rattle.maker_core.specs.SoloOrders.{AreOrders, IsLineOrder, IsOrder}
 pub use Rattle.maker_core.specs.SoloXFilling.{first_grid, flipped_by_draw, top_row_given, x_filling}
-pub use Rattle.maker_core.specs.Switch.{HasOther, IsSwitch, RunHasSwitch, cell_of}
-unfoldable pub use Rattle.maker_core.specs.Switch.{run_begins}
-pub use Rattle.maker_core.specs.TentFilling.{is_free, may_have_tent, place_tent, take_cell}
+unfoldable pub use Rattle.maker_core.specs.TentFilling.{is_free, may_have_tent, place_tent, take_cell}
 unfoldable pub use Rattle.maker_core.specs.TentFilling.{free_cells_beside, no_tents, tent_filling, tents_after, tents_puzzle_of}
 pub use Rattle.maker_core.specs.TentSteps.{IsTentPlaced, IsTentTaken}
-pub use Rattle.maker_core.specs.Thinning.{AreReasons, CluedGame, HasTwo, IsGame, IsOnly, IsReason, IsThinnedFrom, LeavesNoIdleClue, clue_places}
+pub use Rattle.maker_core.specs.Thinning.{AreReasons, CluedGame, IsGame, IsOnly, IsReason, IsThinnedFrom, LeavesNoIdleClue, clue_places}
 pub use Rattle.maker_core.specs.Thinning.{has_clue, stream_after_clues}
 pub use Rattle.maker_core.specs.ThinningSteps.{IsAsked, IsLeft, IsThinning, IsTold, IsVerdict}
 unfoldable pub use Rattle.maker_core.specs.ThinningSteps.{reasons_from}

@@ -25,6 +25,5 @@ pub mod FilteredRanges
 pub mod ThinningTurns
 pub mod ThinningReasons
 pub mod IdleClues
-pub mod Switches
 pub mod WrittenGrids
 pub mod OnlySolutions

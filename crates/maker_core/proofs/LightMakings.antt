@@ -40,4 +40,4 @@ all_black size f budget p is laws lit black =
     (λ c v lt few here. start_black p c v (none c) few (closure_inside _ (light_rules p).start c v here)
     ∙ sym (no_bulb_on p f.bulbs c good lt (none c))) budget)
 
-pub ruleset black_laws = (all_black, light-lawful)
+pub ruleset black_laws = (all_black, light-lawful, size_is)

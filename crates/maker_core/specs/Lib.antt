@@ -18,4 +18,3 @@ pub mod SoloCluesLaws
 pub mod LightClues
 pub mod FewerHouseLaws
 pub mod LightCluesLaws
-pub mod Switch

@@ -2,7 +2,7 @@
 use Rattle.std.specs.Prelude.{◌≡◌, ◌≢◌, ℕ, Bool, true, false, is_some, Option, Some, None, List, ◌<◌, map, filter, All}
 use Rattle.std.specs.List.{range_with_len}
 use Rattle.engine_core.specs.RuleSystem.{RuleSystem, FitsIn, needs_of}
-use Rattle.engine_core.specs.Verdict.{Outcome.OneSolution, Outcome.GaveUp, verdict_of, Solves, IsTrueOf}
+use Rattle.engine_core.specs.Verdict.{Outcome.OneSolution, Outcome.GaveUp, verdict_of, HasTwo, Solves, IsTrueOf}
 use Rattle.rand_core.specs.Stream.{Stream}
 use Rattle.maker_core.specs.Draws.{Making, shuffled_list}
 use Rattle.maker_core.specs.declared.made.Why.{Why}
@@ -52,14 +52,6 @@ KeepsSolutions {A} game solves = (p q : A) (g : List ℕ)
 -- the grid is a solution, and no other grid is
 abbrev pub IsOnly : RuleSystem → List ℕ → Type 0
 IsOnly rules answer = IsTrueOf rules (OneSolution answer)
-
--- two different grids are solutions
-pub record HasTwo (rules : RuleSystem) : Type 0 where
-  pub first : List ℕ
-  pub second : List ℕ
-  pub first_solves : Solves rules first
-  pub second_solves : Solves rules second
-  pub differ : first ≢ second
 
 -- the verdict with the budget is that the search gives up
 pub record GivesUp (rules : RuleSystem) (budget : ℕ) : Type 0 where

@@ -2,8 +2,9 @@
 use Rattle.std.specs.Prelude.{◌≡◌, ℕ, suc, true, Option, Some, None, List, [], ◌∷◌, length, get_or, eqb, Contains, ◌⊎◌}
 use Rattle.std.specs.List.{IsDistinct}
 use Rattle.engine_core.specs.RuleSystem.{RuleSystem}
+use Rattle.engine_core.specs.Verdict.{HasTwo}
 use Rattle.maker_core.specs.Made.{HasOne}
-use Rattle.maker_core.specs.Thinning.{CluedGame, has_clue, IsThinnedFrom, HasTwo, GivesUp, IsReason}
+use Rattle.maker_core.specs.Thinning.{CluedGame, has_clue, IsThinnedFrom, GivesUp, IsReason}
 use Rattle.maker_core.specs.declared.made.Why.{Why}
 use Rattle.maker_core.specs.declared.made.Why.TheVariants.{Needed, Budget}
 use Rattle.maker_core.specs.declared.made.Kept.{Kept}

@@ -15,7 +15,6 @@ mod tries;
 pub use light_up::maker::make_lights;
 pub use made::{Kept, Limits, Made, MakeFault, Why};
 pub use pattern::maker::make_pattern;
-pub use pattern::switch::has_switch;
 pub use solo::maker::make_solo;
 pub use tents::maker::make_tents;
 pub use thinning::clued::Clued;

@@ -1,4 +1,3 @@
 //! Making puzzles of Pattern.
 
 pub(crate) mod maker;
-pub(crate) mod switch;

@@ -165,3 +165,44 @@ fn two_grids_are_lent(rt: HostRuntime) -> Result<(), Fail> {
     assert_eq!(rt; closed_after(rt.alloc())?, ([false; 4], (0, 0, 0)));
     Ok(())
 }
+
+/// Whether a walk near the numbers finds two rows of five cells with so many values whose ends are 0.
+fn finds_two(
+    alloc: Global,
+    values: u8,
+    numbers: &[u8; 5],
+    turns: u64,
+) -> Result<Option<bool>, AllocError> {
+    let rules = Neighbours {
+        cells: 5,
+        values,
+        first: 0,
+        last: 0,
+    };
+    let mut grid = Grid::new(alloc, 5)?;
+    for place in 0..5 {
+        if place < grid.len() {
+            grid.set(place, numbers[place]);
+        }
+    }
+    let mut store = Store::new(alloc, &rules)?;
+    if !store.fits(&rules) || grid.len() != 5 {
+        return Ok(None);
+    }
+    Ok(Some(store.finds_two(&rules, &grid, turns)))
+}
+
+#[test]
+fn a_second_row_is_found_near_the_first(rt: HostRuntime) -> Result<(), Fail> {
+    for (values, numbers, turns, found) in [
+        (3, [0, 1, 2, 1, 0], 20, true),
+        (3, [0, 2, 0, 2, 0], 20, true),
+        (3, [0, 1, 2, 1, 0], 0, false),
+        // one row alone keeps to the rules
+        (2, [0, 1, 0, 1, 0], 20, false),
+    ] {
+        let told = finds_two(rt.alloc(), values, &numbers, turns)?;
+        assert_eq!(rt; told, Some(found), "{values} {numbers:?} {turns}");
+    }
+    Ok(())
+}

@@ -8,7 +8,7 @@ use crate::search::position::Position;
 use grid_core::Grid;
 
 /// How many turns a walk near a grid has from one level of the grid's own way to the level outside it.
-const LEVEL_TURNS: u64 = 32;
+const LEVEL_TURNS: u64 = 64;
 
 /// Whether the grids, which are as long, differ in a cell.
 fn differ(one: &Grid, other: &Grid) -> bool

@@ -69,7 +69,7 @@ fn is_alone(
 {
     let puzzle = puzzle_of(alloc, size, filling)?;
     let rules = LightRules::new(alloc, &puzzle)?;
-    is_unique(alloc, &rules, budget)
+    is_unique(alloc, &rules, &filling.bulbs, budget)
 }
 
 /// A puzzle of Light Up with exactly one solution, which is `answer`: 1 at a bulb and 0 elsewhere.

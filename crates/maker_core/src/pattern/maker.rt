@@ -10,7 +10,6 @@ ghost use Rattle.maker_core.specs.PatternMaking.{IsPatternUnmade, MakesPattern, 
 
 use crate::black::draw_black;
 use crate::made::{Limits, Made, MakeFault};
-use crate::pattern::switch::has_switch;
 use crate::thinning::unique::is_unique;
 use crate::tries::{Fillings, first_passing};
 use gameid_core::PatternPuzzle;
@@ -46,15 +45,11 @@ impl Fillings for Bitmaps {
         × (passes ≡ true → HasOne (line_rules (clued_by t.size g)) t.limits.budget)
         × ((t.black ≡ 0) ⊎ (t.black ≡ 100) → passes ≡ true) };
 
-    /// A puzzle in which a second solution is found close by isn't searched.
     fn draw<G: Rng>(&self, alloc: Global, rng: &mut G) -> Result<(Grid, bool), AllocError> {
-        let mut grid = draw_black(alloc, rng, self.size.cells(), self.black)?;
+        let grid = draw_black(alloc, rng, self.size.cells(), self.black)?;
         let puzzle = puzzle_of(alloc, self.size, &grid)?;
-        if has_switch(&puzzle, &mut grid) {
-            return Ok((grid, false));
-        }
         let rules = PatternLines::new(alloc, &puzzle)?;
-        let passes = is_unique(alloc, &rules, self.limits.budget)?;
+        let passes = is_unique(alloc, &rules, &grid, self.limits.budget)?;
         Ok((grid, passes))
     }
 }

@@ -61,6 +61,7 @@ impl Fillings for TentFillings {
 }
 
 /// Whether the verdict of the filling's puzzle is one.
+#[tactic(auto, using(crate::proofs::TentMakings::tents_size))]
 fn is_alone(
     alloc: Global,
     size: Size,
@@ -77,7 +78,7 @@ fn is_alone(
 {
     let puzzle = puzzle_of(alloc, size, filling)?;
     let rules = TentRules::new(alloc, &puzzle)?;
-    is_unique(alloc, &rules, budget)
+    is_unique(alloc, &rules, &filling.tents, budget)
 }
 
 /// A puzzle of Tents with exactly one solution, which is `answer`: 1 at a tent and 0 elsewhere.
