@@ -1,7 +1,7 @@
 -- Closings that go around over the houses that wait.
 use Rattle.engine_core.specs.Closer.{IsClosedBy}
 use Rattle.engine_core.specs.declared.search.position.Taken.{Taken}
-use Rattle.engine_core.proofs.Common.{BoardAndMarks, Bool, has, Candidates, Dead, HasStruck, IsAround, IsAlive, IsClosedIn, IsClosing, IsDead, IsLawful, IsRested, IsTaken, IsWithin, IsWoken, List, Open, RuleSystem, Some, None, [], after, arith, but, cases_Bool, cases_lt, common_steps, false, if◌then◌else◌, inl, inr, is_dead, length, length-append, lt-ltb, ltb, le-ltb, max, not, refl, suc, sym, take, true, true≢false, within_inside, ℕ, ◌&&◌, ◌*◌, ◌++◌, ◌+◌, ◌-◌, ◌<◌, ◌∙◌, ◌∷◌, ◌||◌, ◌≡◌, ◌≤◌, ◌⊎◌}
+use Rattle.engine_core.proofs.Common.{BoardAndMarks, Bool, has, Candidates, Dead, HasStruck, IsQueuedAround, IsAlive, IsClosedIn, IsClosing, IsDead, IsLawful, IsRested, IsTaken, IsWithin, IsWoken, List, Open, RuleSystem, Some, None, [], after, arith, but, cases_Bool, cases_lt, common_steps, false, if◌then◌else◌, inl, inr, is_dead, length, length-append, lt-ltb, ltb, le-ltb, max, not, refl, suc, sym, take, true, true≢false, within_inside, ℕ, ◌&&◌, ◌*◌, ◌++◌, ◌+◌, ◌-◌, ◌<◌, ◌∙◌, ◌∷◌, ◌||◌, ◌≡◌, ◌≤◌, ◌⊎◌}
 use Rattle.std.specs.Int.{from_bool}
 use Rattle.engine_core.proofs.ClosingLemmas.{replay_inside}
 use Rattle.engine_core.proofs.EndLemmas.{closed-in, taken-dead, taken-open}
@@ -44,11 +44,11 @@ pub record IsAtHouse (p : RuleSystem) (K0 : Candidates) (turns h : ℕ) (K : Can
   pub made : ((p.by_queue ≡ true) × (t : List ℕ) × (length t + 1 ≡ turns) × (waits h ≡ true) × IsRunning p K0 t K waits)
       ⊎ ((p.by_queue ≡ false) × (first : Candidates) × IsAmid p K0 turns h first K waits)
 
-pub around-in : (waits : ℕ → Bool) (n from h : ℕ) → IsAround waits n from (Some h) → (h < n) × (waits h ≡ true)
+pub around-in : (waits : ℕ → Bool) (n from h : ℕ) → IsQueuedAround waits n from (Some h) → (h < n) × (waits h ≡ true)
 around-in waits n from h around = grind (arith, common_steps)
 
 -- where the next house that waits stands before, none waits from here on
-pub rest-around : {waits : ℕ → Bool} {n from h : ℕ} → IsAround waits n from (Some h) → ltb h from ≡ true → (j : ℕ) → from ≤ j → j < n → waits j ≡ false
+pub rest-around : {waits : ℕ → Bool} {n from h : ℕ} → IsQueuedAround waits n from (Some h) → ltb h from ≡ true → (j : ℕ) → from ≤ j → j < n → waits j ≡ false
 rest-around {waits} {n} {from} {h} around lt = elim around [
   | inl next ↦ absurd (true≢false (sym lt ∙ le-ltb h from next.0))
   | inr none ↦ none.0
@@ -110,7 +110,7 @@ module _ (p : RuleSystem) (laws : IsLawful p) (K0 : Candidates) (within : IsWith
 
   -- the next house that waits is in this sweep, or in a new one
   amid-next : {n from h : ℕ} {first K : Candidates} {waits : ℕ → Bool} → IsAmid p K0 n from first K waits → from ≤ p.houses
-      → (more : ℕ) → (h < from → IsAlive p K) → IsAround waits p.houses from (Some h) → more ≡ from_bool (ltb h from)
+      → (more : ℕ) → (h < from → IsAlive p K) → IsQueuedAround waits p.houses from (Some h) → more ≡ from_bool (ltb h from)
       → (from ≤ h) × IsAmid p K0 (n + more) h first K waits ⊎ (h < from) × IsAmid p K0 (n + more) h K K waits
   amid-next {n} {from} {h} {first} {K} {waits} s past more alive around counts = elim around [
     | inl next ↦ (
@@ -161,7 +161,7 @@ module _ (p : RuleSystem) (laws : IsLawful p) (K0 : Candidates) (within : IsWith
       rw s.told (swept-shut p laws s.whole first K sweeps within s.swept all.left alive (closed_from_rested p K waits none all.rested))
 
   pub underway-next : {turns from h : ℕ} {K : Candidates} {waits : ℕ → Bool} → IsUnderway p K0 turns from K waits
-      → (more : ℕ) → IsAlive p K → IsAround waits p.houses from (Some h) → more ≡ from_bool (p.by_queue || ltb h from)
+      → (more : ℕ) → IsAlive p K → IsQueuedAround waits p.houses from (Some h) → more ≡ from_bool (p.by_queue || ltb h from)
       → IsAtHouse p K0 (turns + more) h K waits
   underway-next {from} {h} {waits} u more alive around counts =
       let w = around-in waits p.houses from h around in
@@ -215,7 +215,7 @@ module _ (p : RuleSystem) (laws : IsLawful p) (K0 : Candidates) (within : IsWith
   ]
 
   pub underway-open : {turns from : ℕ} {K : Candidates} {waits : ℕ → Bool} → IsUnderway p K0 turns from K waits → IsAlive p K
-      → IsAround waits p.houses from None → IsTaken p K0 K Open × IsClosedIn p K0 turns
+      → IsQueuedAround waits p.houses from None → IsTaken p K0 K Open × IsClosedIn p K0 turns
   underway-open {K} {waits} u alive none = elim u.made [
     | inl r ↦ (
         let c = closing-open p laws K0 r.1 K waits r.0 within r.3 none in
@@ -234,7 +234,7 @@ module _ (p : RuleSystem) (laws : IsLawful p) (K0 : Candidates) (within : IsWith
   }
 
   pub striking-next : {n from h : ℕ} {K : Candidates} {waits : ℕ → Bool} {struck : Bool} → IsStriking p K0 n from K waits struck → from ≤ p.houses
-      → (more : ℕ) → (h < from → IsAlive p K) → IsAround waits p.houses from (Some h) → more ≡ from_bool (ltb h from)
+      → (more : ℕ) → (h < from → IsAlive p K) → IsQueuedAround waits p.houses from (Some h) → more ≡ from_bool (ltb h from)
       → IsStriking p K0 (n + more) h K waits (struck && not (ltb h from))
   striking-next {from} {h} {K} {struck} s past more alive around counts = elim (amid-next s.amid past more alive around counts) [
     | inl here ↦ rw (le-ltb h from here.0, kept-on struck) (record { first = s.first; amid = here.1; lost = s.lost; same = s.same })

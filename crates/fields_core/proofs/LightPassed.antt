@@ -1,5 +1,5 @@
 -- Visits of the houses of some lines, one after another: those that are left of a word.
-use Rattle.fields_core.proofs.Common.{CountHouse, IsAlive, Layers, List, any_below, any_below-here, any_below-none, any_below-some, arith, cases_lt, count_below, false, false_from_ne_true, houses_below, inl, inr, suc, sym, and_parts, cases_Bool, cases_eq, common_steps, eqb, eq-eqb, le-ltb, lt-ltb, ltb, ne_eqb, not, not-true, refl, ◌&&◌, true, true≢false, Bool, ℕ, ◌+◌, ◌<◌, ◌∙◌, ◌≡◌, ◌≤◌}
+use Rattle.fields_core.proofs.Common.{CountHouse, ArePlanesAlive, Layers, List, any_below, any_below-here, any_below-none, any_below-some, arith, cases_lt, count_below, false, false_from_ne_true, houses_below, inl, inr, suc, sym, and_parts, cases_Bool, cases_eq, common_steps, eqb, eq-eqb, le-ltb, lt-ltb, ltb, ne_eqb, not, not-true, refl, ◌&&◌, true, true≢false, Bool, ℕ, ◌+◌, ◌<◌, ◌∙◌, ◌≡◌, ◌≤◌}
 use Rattle.grid_core.specs.Planes.{has}
 use Rattle.grid_core.specs.Words.{IsLeast}
 use Rattle.grid_core.proofs.CandidateLemmas.{count_below-lt}
@@ -30,7 +30,7 @@ pub record ArePassed (f : ℕ → List CountHouse) (n : ℕ) (left : ℕ → Boo
   pub visited : AreVisited (houses_below f line) from to true
   pub idle : (k : ℕ) → line ≤ k → k < n → left k ≡ false → AreIdle (f k) (has to)
 
-pub passed-first : (f : ℕ → List CountHouse) {n : ℕ} {left : ℕ → Bool} {from : Layers} → IsAlive from → ((k : ℕ) → left k ≡ true → k < n)
+pub passed-first : (f : ℕ → List CountHouse) {n : ℕ} {left : ℕ → Bool} {from : Layers} → ArePlanesAlive from → ((k : ℕ) → left k ≡ true → k < n)
     → ((k : ℕ) → k < n → left k ≡ false → AreIdle (f k) (has from)) → ArePassed f n left from from
 passed-first f alive inside idle = record {
   line = 0;

@@ -1,5 +1,5 @@
 -- Houses of white cells of Light Up that are idle, and stay so while only 0 is taken.
-use Rattle.fields_core.proofs.Common.{false, Candidates, IsLight, Light, ap, cases_eq, column_run, has_place, inl, inr, joined_in_column, joined_in_row, light_cells, lit_house, ne_eqb, not, place-back, place-front, place-kept, refl, row_run, seen_from, true, white, ℕ, ◌<◌, ◌≡◌, cases_Bool, Layers, IsAlive}
+use Rattle.fields_core.proofs.Common.{false, Candidates, IsLight, Light, ap, cases_eq, column_run, has_place, inl, inr, joined_in_column, joined_in_row, light_cells, lit_house, ne_eqb, not, place-back, place-front, place-kept, refl, row_run, seen_from, true, white, ℕ, ◌<◌, ◌≡◌, cases_Bool, Layers, ArePlanesAlive}
 use Rattle.grid_core.specs.Planes.{has}
 use Rattle.fields_core.specs.LightWaits.{AreSafe}
 use Rattle.fields_core.specs.Visits.{after_houses}
@@ -55,5 +55,5 @@ unfolding after_houses
 black-idle p c K off = rw off refl
 
 -- ---- on planes
-pub planes-full : (p : Light) (from : Layers) → from.size ≡ p.size → IsAlive from → IsFull (light_cells p) (has from)
+pub planes-full : (p : Light) (from : Layers) → from.size ≡ p.size → ArePlanesAlive from → IsFull (light_cells p) (has from)
 planes-full p from size alive = record { low = value-in from; some = λ c lt. alive c (rw size lt) }

@@ -1,5 +1,5 @@
 -- Visits of the numbers of Light Up on planes.
-use Rattle.fields_core.proofs.Common.{ArePieces, Black, Bool, Extent, IsAlive, IsBroken, IsFurther, IsHouse, IsHouseOf, IsLight, Layers, Light, List, Numbered, Piece, White, [], after_house, and-false, and_from, and_parts, any_below, any_below-none, any_below-some, arith, cases_Bool, cases_eq, cases_lt, common_steps, crosses, div-mul-add, eq-eqb, eqb, eqb-true, exactly, false, filter, fun_ext, further-none, get_or, get_or-set_other, get_or-set_same, has_bit, has_place, houses_below, inl, inr, le-ltb, length, length-map, lies_in, lies_in_first, light_cells, light_houses, lines_beside, lt-ltb, ltb, ltb-true, map, ne_eqb, not, number_house, number_of, or_cases, or_left, or_parts, or_right, piece_at, place-column, refl, set, slice_index, subst, suc, sym, true, true≢false, white, zero, ℕ, ◌%◌, ◌&&◌, ◌*◌, ◌+◌, ◌-◌, ◌/◌, ◌<◌, ◌||◌, ◌∙◌, ◌∷◌, ◌≡◌, ◌≤◌}
+use Rattle.fields_core.proofs.Common.{ArePieces, Black, Bool, Extent, ArePlanesAlive, IsBroken, IsFurther, IsHouse, IsHouseOf, IsLight, Layers, Light, List, Numbered, Piece, White, [], after_house, and-false, and_from, and_parts, any_below, any_below-none, any_below-some, arith, cases_Bool, cases_eq, cases_lt, common_steps, crosses, div-mul-add, eq-eqb, eqb, eqb-true, exactly, false, filter, fun_ext, further-none, get_or, get_or-set_other, get_or-set_same, has_bit, has_place, houses_below, inl, inr, le-ltb, length, length-map, lies_in, lies_in_first, light_cells, light_houses, lines_beside, lt-ltb, ltb, ltb-true, map, ne_eqb, not, number_house, number_of, or_cases, or_left, or_parts, or_right, piece_at, place-column, refl, set, slice_index, subst, suc, sym, true, true≢false, white, zero, ℕ, ◌%◌, ◌&&◌, ◌*◌, ◌+◌, ◌-◌, ◌/◌, ◌<◌, ◌||◌, ◌∙◌, ◌∷◌, ◌≡◌, ◌≤◌}
 use Rattle.std.proofs.lemmas.List.{map-set}
 use Rattle.fields_core.specs.NumberWords.{IsColumnOf}
 use Rattle.grid_core.specs.Planes.{has}
@@ -201,7 +201,7 @@ module _ (p : Light) (lawful : IsLight p) (y x row column : ℕ) (y_in : y < p.s
     pub number-house-of : IsHouseOf from.size pieces n n (exactly n places)
     number-house-of = subst (λ (e : Extent). IsHouseOf e pieces n n (exactly n places)) (sym size) (record { is = house_is; least_is = refl; most_is = refl; cells = places-are })
 
-    pub number-filled : {to : Layers} → has to ≡ after_house (exactly n places) (has from) → IsAlive to → IsFurther from to
+    pub number-filled : {to : Layers} → has to ≡ after_house (exactly n places) (has from) → ArePlanesAlive to → IsFurther from to
         → AreVisited (number_house p cell) from to true
     unfolding after_houses
     number-filled {to} left alive further = rw numbered (record {
@@ -214,7 +214,7 @@ module _ (p : Light) (lawful : IsLight p) (y x row column : ℕ) (y_in : y < p.s
     -- a house that has no filling, if it has a cell
     pub number-short : (room both : ℕ) {to : Layers} {any : Bool} → p.size.w ≤ room → p.size.h ≤ room
         → ((k : ℕ) → has_bit both k ≡ (has_bit row k || has_bit column k)) → any ≡ any_below (has_bit both) room
-        → IsBroken (exactly n places) (has from) → to ≡ from → IsAlive from → AreVisited (number_house p cell) from to (not any)
+        → IsBroken (exactly n places) (has from) → to ≡ from → ArePlanesAlive from → AreVisited (number_house p cell) from to (not any)
     unfolding after_houses
     number-short room both {to} {any} wide tall both_is any_is broken same alive = rw (same, numbered) (elim (cases_Bool any) [
       | inl on ↦
@@ -253,8 +253,8 @@ module _ (p : Light) (lawful : IsLight p) (y x row column : ℕ) (y_in : y < p.s
         bare c none = rw ((none-at none (c % p.size.w)).0, (none-at none (c / p.size.w)).1, and-false (eqb (c / p.size.w) y), and-false (eqb (c % p.size.w) x)) refl
 
 -- ---- a cell without a number
-pub white-visited : (p : Light) (c : ℕ) {from : Layers} → get_or p.cells c Black ≡ White → IsAlive from → AreVisited (number_house p c) from from true
+pub white-visited : (p : Light) (c : ℕ) {from : Layers} → get_or p.cells c Black ≡ White → ArePlanesAlive from → AreVisited (number_house p c) from from true
 white-visited p c e alive = rw e (visited-none alive)
 
-pub black-visited : (p : Light) (c : ℕ) {from : Layers} → get_or p.cells c Black ≡ Black → IsAlive from → AreVisited (number_house p c) from from true
+pub black-visited : (p : Light) (c : ℕ) {from : Layers} → get_or p.cells c Black ≡ Black → ArePlanesAlive from → AreVisited (number_house p c) from from true
 black-visited p c e alive = rw e (visited-none alive)

@@ -1,5 +1,5 @@
 -- The runs of Light Up line by line are all its runs.
-use Rattle.fields_core.proofs.Common.{AllByRecursion, Bool, Candidates, IsAlive, IsLight, Layers, Light, any_below, any_below-here, any_below-some, ap, arith, begins_column_run, column_house, div-lt_iff_lt-mul, div-mul-add, false, has_place, houses_below, joined_in_column, joined_in_row, light_cells, list_any, mod-lt, place-column, refl, row_house, sym, true, ℕ, ◌%◌, ◌*◌, ◌+◌, ◌/◌, ◌<◌, ◌∙◌, ◌≡◌}
+use Rattle.fields_core.proofs.Common.{AllByRecursion, Bool, Candidates, ArePlanesAlive, IsLight, Layers, Light, any_below, any_below-here, any_below-some, ap, arith, begins_column_run, column_house, div-lt_iff_lt-mul, div-mul-add, false, has_place, houses_below, joined_in_column, joined_in_row, light_cells, list_any, mod-lt, place-column, refl, row_house, sym, true, ℕ, ◌%◌, ◌*◌, ◌+◌, ◌/◌, ◌<◌, ◌∙◌, ◌≡◌}
 use Rattle.grid_core.specs.Candidates.{IsInside}
 use Rattle.grid_core.proofs.PlaneLemmas.{place-in}
 use Rattle.fields_core.specs.LightWords.{row_runs_of_row}
@@ -55,7 +55,7 @@ column-single p c board = by (begins_column_run p c) refl
     by true on = rw on (record { is = (column-kind p c board).is_house; least_is = refl; most_is = refl }, tt)
 
 -- visits of the runs of each column are visits of all runs of columns
-pub column-runs-visited : (p : Light) {from to : Layers} {fills : Bool} → IsLight p → from.size ≡ p.size → IsAlive from
+pub column-runs-visited : (p : Light) {from to : Layers} {fills : Bool} → IsLight p → from.size ≡ p.size → ArePlanesAlive from
     → AreVisited (houses_below (column_runs_of_column p) p.size.w) from to fills
     → AreVisited (houses_below (column_house p) (light_cells p)) from to fills
 column-runs-visited p {from} {to} {fills} lawful size alive visited =

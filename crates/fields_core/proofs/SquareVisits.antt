@@ -1,5 +1,5 @@
 -- Visits of the squares of two rows of Tents.
-use Rattle.fields_core.proofs.Common.{AllByRecursion, Bool, eqb-true, Extent, IsAlive, IsFurther, IsHouse, IsTents, Layers, Tents, [], and-false, and_from, and_parts, any_below, any_below-none, any_below-some, ap, arith, cases_Bool, cases_lt, common_steps, crosses, div-mul-add, eq-eqb, eqb, false, false≢true, fun_ext, further-none, has_bit, has_place, houses_below, inl, inr, le-ltb, lies_in, lies_in_first, list_any, lt-ltb, ltb, ltb-true, not, or_left, or_right, place-column, refl, square_house, suc, sym, covers, without_taking, tent_cells, true, true≢false, without_value, zero, ℕ, ◌%◌, ◌&&◌, ◌*◌, ◌+◌, ◌-◌, ◌/◌, ◌<◌, ◌||◌, ◌∙◌, ◌≡◌, ◌≢◌, ◌≤◌, ◌⊎◌, Candidates, not-false}
+use Rattle.fields_core.proofs.Common.{AllByRecursion, Bool, eqb-true, Extent, ArePlanesAlive, IsFurther, IsHouse, IsTents, Layers, Tents, [], and-false, and_from, and_parts, any_below, any_below-none, any_below-some, ap, arith, cases_Bool, cases_lt, common_steps, crosses, div-mul-add, eq-eqb, eqb, false, false≢true, fun_ext, further-none, has_bit, has_place, houses_below, inl, inr, le-ltb, lies_in, lies_in_first, list_any, lt-ltb, ltb, ltb-true, not, or_left, or_right, place-column, refl, square_house, suc, sym, covers, without_taking, tent_cells, true, true≢false, without_value, zero, ℕ, ◌%◌, ◌&&◌, ◌*◌, ◌+◌, ◌-◌, ◌/◌, ◌<◌, ◌||◌, ◌∙◌, ◌≡◌, ◌≢◌, ◌≤◌, ◌⊎◌, Candidates, not-false}
 unfoldable use Rattle.grid_core.specs.Planes.{bit_of, has}
 use Rattle.grid_core.specs.declared.planes.line.Line.TheVariants.{Row}
 use Rattle.fields_core.specs.Squares.{squares_of_row, two_rows}
@@ -52,7 +52,7 @@ pub record AreMust (from : Layers) (w y room twice must : ℕ) : Type 0 where
   pub must_is : (u : ℕ) → has_bit must u ≡ (ltb u w && not (bit_of from.rows y 0 u && bit_of from.rows (y + 1) 0 u))
 
 module _ (p : Tents) (y : ℕ) (from : Layers) (room twice must : ℕ) (lawful : IsTents p) (low : y + 1 < p.size.h)
-    (wide : 1 < p.size.w) (size : from.size ≡ p.size) (alive : IsAlive from)
+    (wide : 1 < p.size.w) (size : from.size ≡ p.size) (alive : ArePlanesAlive from)
     (are : AreMust from p.size.w y room twice must) where
   abbrev w : ℕ
   w = p.size.w
@@ -205,7 +205,7 @@ module _ (p : Tents) (y : ℕ) (from : Layers) (room twice must : ℕ) (lawful :
       met = left ∙ fun_ext λ c. fun_ext λ v. ap (λ b. has from c v && not (eqb v 1 && (has from c 0 && b))) (hits c)
 
 -- ---- where there is no square
-pub none-below : (p : Tents) (y : ℕ) (from : Layers) → 0 < p.size.w → (p.size.w < 2) ⊎ (p.size.h ≤ y + 1) → IsAlive from
+pub none-below : (p : Tents) (y : ℕ) (from : Layers) → 0 < p.size.w → (p.size.w < 2) ⊎ (p.size.h ≤ y + 1) → ArePlanesAlive from
     → AreVisited (squares_of_row p y) from from true
 unfolding houses_below
 none-below p y from pos small alive = rw (empty p.size.w (λ k lt. none k lt small)) (visited-none alive)

@@ -1,5 +1,5 @@
 -- What taking a cell does, as the definitions say it.
-use Rattle.maker_core.proofs.Common.{Extent, IsPlaced, List, Stream, TentFilling, add-one, ap, arith, beside-in, cases_eq, common_steps, filter, filter-few, free_cells_beside, has_place, has_place-here, is_free, length, may_have_tent, no_tents, place-filter, refl, replicate, shuffled_order, slice_index, slice_set, step-keep, step-none, step-skip, steps, steps-few, subst, sym, take_cell, tent_filling, tents_after, true, ℕ, ◌*◌, ◌+◌, ◌<◌, ◌≡◌, ◌≤◌}
+use Rattle.maker_core.proofs.Common.{Extent, IsTentPlaced, List, Stream, TentFilling, add-one, ap, arith, beside-in, cases_eq, common_steps, filter, filter-few, free_cells_beside, has_place, has_place-here, is_free, length, may_have_tent, no_tents, place-filter, refl, replicate, shuffled_order, slice_index, slice_set, step-keep, step-none, step-skip, steps, steps-few, subst, sym, take_cell, tent_filling, tents_after, true, ℕ, ◌*◌, ◌+◌, ◌<◌, ◌≡◌, ◌≤◌}
 
 pub wide : (size : Extent) {c : ℕ} → c < size.w * size.h → 1 ≤ size.w
 wide size lt = grind (arith, cases_eq size.w 0)
@@ -21,7 +21,7 @@ free_place size filling c t on = place-filter (is_free filling) (steps size c 4)
 -- ---- a tent more
 pub placed_is : {size : Extent} {filling new : TentFilling} {c k : ℕ} (free : List ℕ) → free ≡ free_cells_beside size filling c
     → k < length free → may_have_tent size filling c ≡ true
-    → new.trees ≡ slice_set filling.trees (slice_index free k) 1 → new.tents ≡ slice_set filling.tents c 1 → IsPlaced size filling c new
+    → new.trees ≡ slice_set filling.trees (slice_index free k) 1 → new.tents ≡ slice_set filling.tents c 1 → IsTentPlaced size filling c new
 placed_is {k} free is below may trees tents = grind (arith, common_steps, has_place-here)
 
 -- a free cell beside a cell lies in the grid

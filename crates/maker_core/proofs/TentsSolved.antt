@@ -1,5 +1,5 @@
 -- Cells that were taken in turn: each tent has a tree of its own beside it, none stands on a tree, and no two touch.
-use Rattle.maker_core.proofs.Common.{Extent, IsGrid, IsOrder, IsPlaced, IsTaken, IsTentSolution, List, TentFilling, [], any_below-none, ap, arith, at_column, at_row, beside-in, column_places, cond, elements, false, filter, has_place, inl, inr, length, length-filter, lines_ones, map, map-map, no_tents, ones, range_with_len, refl, replicate, row_places, slice_index, step-down, step-left, step-right, step-up, steps, steps-some, subst, sym, tent, tent-in, tents_in_column, tents_in_row, tents_puzzle_of, touches, true, ℕ, ◌&&◌, ◌*◌, ◌+◌, ◌<◌, ◌==◌, ◌∙◌, ◌∷◌, ◌≡◌, ◌≤◌}
+use Rattle.maker_core.proofs.Common.{Extent, IsGrid, IsOrder, IsTentPlaced, IsTentTaken, IsTentSolution, List, TentFilling, [], any_below-none, ap, arith, at_column, at_row, beside-in, column_places, cond, elements, false, filter, has_place, inl, inr, length, length-filter, lines_ones, map, map-map, no_tents, ones, range_with_len, refl, replicate, row_places, slice_index, step-down, step-left, step-right, step-up, steps, steps-some, subst, sym, tent, tent-in, tents_in_column, tents_in_row, tents_puzzle_of, touches, true, ℕ, ◌&&◌, ◌*◌, ◌+◌, ◌<◌, ◌==◌, ◌∙◌, ◌∷◌, ◌≡◌, ◌≤◌}
 use Rattle.maker_core.proofs.WrittenGrids.{grid_with, new_or_old, no_one, zeros-grid}
 use Rattle.maker_core.proofs.TentFillings.{free_place}
 
@@ -78,7 +78,7 @@ record IsNew (size : Extent) (old : TentFilling) (c t : ℕ) : Type 0 where
 
 new_from : (size : Extent) {order : List ℕ} (k c : ℕ) (old new : TentFilling) → 1 ≤ size.w → IsOrder (size.w * size.h) order
     → k < size.w * size.h → c ≡ slice_index order k
-    → IsFillingAfter size order k old → (p : IsPlaced size old c new) → IsNew size old c p.tree
+    → IsFillingAfter size order k old → (p : IsTentPlaced size old c new) → IsNew size old c p.tree
 new_from size k c old new w ordered lt at before p =
     let free = free_place size old c p.tree p.free in
     let may = p.may in
@@ -97,7 +97,7 @@ new_from size k c old new w ordered lt at before p =
     }
 
 filling_more : (size : Extent) {order : List ℕ} (k c : ℕ) (old new : TentFilling) → IsFillingAfter size order k old
-    → (p : IsPlaced size old c new) → IsNew size old c p.tree
+    → (p : IsTentPlaced size old c new) → IsNew size old c p.tree
     → c ≡ slice_index order k → IsFillingAfter size order (k + 1) new
 unfolding tents_puzzle_of
 filling_more size k c old new w p n at =
@@ -137,7 +137,7 @@ filling_more size k c old new w p n at =
 
 pub filling_step : {size : Extent} {order : List ℕ} {k c : ℕ} {old new : TentFilling} → 1 ≤ size.w
     → IsOrder (size.w * size.h) order → k < size.w * size.h → c ≡ slice_index order k
-    → IsFillingAfter size order k old → IsTaken size old c new → IsFillingAfter size order (k + 1) new
+    → IsFillingAfter size order k old → IsTentTaken size old c new → IsFillingAfter size order (k + 1) new
 filling_step w ordered lt at before (inl same) = rw same (record {
   trees_grid = before.trees_grid;
   tents_grid = before.tents_grid;

@@ -1,5 +1,5 @@
 use Rattle.std.specs.Int.{from_bool}
-use Rattle.engine_core.proofs.Common.{IsAround, Some, and_parts, ap, arith, cases_Bool, false, has, inl, inr, is_waiting, length, length-set, length-take-le, lt-ltb, ltb, not, refl, sym, true, true≢false, ℕ, ◌&&◌, ◌+◌, ◌<◌, ◌||◌, ◌∙◌, ◌≡◌, ◌≤◌}
+use Rattle.engine_core.proofs.Common.{IsQueuedAround, Some, and_parts, ap, arith, cases_Bool, false, has, inl, inr, is_waiting, length, length-set, length-take-le, lt-ltb, ltb, not, refl, sym, true, true≢false, ℕ, ◌&&◌, ◌+◌, ◌<◌, ◌||◌, ◌∙◌, ◌≡◌, ◌≤◌}
 use Rattle.engine_core.proofs.AroundLemmas.{IsStriking, amid-few, amid-first, around-in, exact-end, queued-turn, rest-around, steps-fall, still-alive, striking-next, striking-turn}
 use Rattle.engine_core.proofs.ListLemmas.{room, room-more, room-same, running-first}
 use Rattle.engine_core.proofs.QueueLemmas.{IsBoardOf-same, pushed, within_of}
@@ -36,7 +36,7 @@ loop-house-init g c =
 
 -- the next house that waits
 around : (g : _) (c : In-Some g)
-    → IsAround (is_waiting c.loop-house.self.waits) (g.R.Rules.system c.args.rules.now).houses c.loop-house.from (Some c.in-Some.house)
+    → IsQueuedAround (is_waiting c.loop-house.self.waits) (g.R.Rules.system c.args.rules.now).houses c.loop-house.from (Some c.in-Some.house)
 around g c = rw (← c.self.view_is, ← c.houses.ensures, ← c.deref.ensures.value) c.in-Some.ensures
 
 -- where the closing goes on, there is room for the visit of a queue

@@ -1,4 +1,4 @@
-use Rattle.engine_core.proofs.Common.{AreLost, IsFurther, after, counts_of, has, ℕ, ◌<◌}
+use Rattle.engine_core.proofs.Common.{AreLost, IsTrailLonger, after, counts_of, has, ℕ, ◌<◌}
 use Rattle.engine_core.proofs.ScopeLemmas.{IsUpto}
 use Rattle.engine_core.proofs.trail.trailed.TrailedBoard.strike.Given as goal
 
@@ -9,5 +9,5 @@ invariant-loop-k g l =
       upto : IsUpto p l.house l.k (has l.fn.self.board) (has l.self.board);
       some : (j : ℕ) → j < l.k → 0 < counts_of p l.house (after p l.house (has l.fn.self.board)) j;
       lost : AreLost p l.house l.k l.fn.self l.self;
-      further : IsFurther l.fn.self l.self;
+      further : IsTrailLonger l.fn.self l.self;
     }
