@@ -13,7 +13,7 @@ use Rattle.engine_core.specs.Filling.{strikes_by_fillings}
 use Rattle.engine_core.specs.HouseSets.{strikes_at, Decision}
 use Rattle.engine_core.specs.HouseSetsLaws.{strikes_at-inside, strikes_at-in_scope, by_fillings-monotone, by_fillings-settled, by_fillings-closed}
 use Rattle.fields_core.specs.Count.{counts_between}
-use Rattle.fields_core.specs.CountHouse.{CountHouse, count_house_of, meets, strikes_of, start_of, count_puzzle, IsCounting}
+use Rattle.fields_core.specs.CountHouse.{CountHouse, CountPuzzle, count_house_of, meets, rules_of, strikes_of, start_of, count_puzzle, IsCounting}
 
 start-within : {cells : ℕ} (blocked : ℕ → Bool) → IsWithin cells 2 (start_of cells blocked)
 unfolding start_of all_of
@@ -27,11 +27,10 @@ unfolding start_of all_of
 start-single {cells} blocked g grid zero_at c v on = grind (arith, common_steps, single-is, and_from, lt-ltb)
 
 -- each cell can be 0
-pub count-alive : (cells : ℕ) (blocked : ℕ → Bool) (houses : List CountHouse) (is_solution : List ℕ → Bool)
-    → IsAlive (count_puzzle cells blocked houses is_solution) (start_of cells blocked)
+pub count-alive : (p : CountPuzzle) → IsAlive (rules_of p) (rules_of p).start
 unfolding start_of all_of
-count-alive cells blocked houses is_solution = is_dead-each cells 2 (start_of cells blocked) (λ c lt.
-    count_below-pos (start_of cells blocked c) 2 0 (omega arith) (rw (lt-ltb c cells lt) (grind (arith, common_steps, cases_Bool (blocked c)))))
+count-alive p = is_dead-each p.cells 2 (rules_of p).start (λ c lt.
+    count_below-pos ((rules_of p).start c) 2 0 (omega arith) (rw (lt-ltb c p.cells lt) (grind (arith, common_steps, cases_Bool (p.blocked c)))))
 
 pub count-lawful : (cells : ℕ) (blocked : ℕ → Bool) (houses : List CountHouse)
     (is_solution : List ℕ → Bool) → IsCounting cells blocked houses is_solution

@@ -33,7 +33,7 @@ impl<P: PlaneGame> BinaryRules for CountRules<P> {
 
     ghost cells_are = { λ r. P.cells_are r.puzzle };
 
-    ghost alive = { λ r. count-alive _ _ _ _ };
+    ghost alive = { λ r. count-alive (P.counts r.puzzle) };
 }
 
 impl<W: Word, P: PlaneGame, N: SweepNotes<W, P>> PlaneNotes<W, CountRules<P>> for SweptNotes<N> {
