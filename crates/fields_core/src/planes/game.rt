@@ -6,17 +6,18 @@ ghost use Rattle.fields_core.specs.Common.{AreKept, AreMet, AreNamed, FitsIn, Ha
 
 use crate::count::game::CountGame;
 use crate::count::name::HouseName;
-use engine_core::{Closing, Needs, Taken};
+use crate::count::rules::CountRules;
+use engine_core::{Closing, Needs, PlaneNotes, Taken};
 use grid_core::{Grid, Planes, Size, Word};
 use std::alloc::{AllocError, Global};
 
 /// A puzzle of count houses that is closed on planes.
 pub trait PlaneGame: CountGame {
-    /// What it keeps beside planes of words of 64 places.
-    type Short: SweepNotes<u64, Self>;
+    /// What its rules keep beside planes of words of 64 places.
+    type Short: PlaneNotes<u64, CountRules<Self>>;
 
-    /// What it keeps beside planes of words of 128 places.
-    type Long: SweepNotes<u128, Self>;
+    /// What its rules keep beside planes of words of 128 places.
+    type Long: PlaneNotes<u128, CountRules<Self>>;
 
     /// Words of 64 places are long enough for all puzzles of these sizes.
     ghost all_short: { Needs → Type 0 };
@@ -134,8 +135,4 @@ pub trait SweepNotes<W: Word, P: CountGame>: Drop + Sized {
             sweeps += 1;
         }
     }
-
-    /// Memory that serves puzzles serves smaller ones.
-    ghost fits_smaller: { (notes : Self) (need had : Needs) → FitsIn need had
-        → fits notes had → fits notes need };
 }

@@ -90,6 +90,4 @@ impl<W: Word> SweepNotes<W, TentsPuzzle> for TentNotes<W> {
         self.sweep_kind(planes, puzzle, Kind::Trees)
             && self.sweep_kind(planes, puzzle, Kind::Squares)
     }
-
-    ghost fits_smaller = { λ _ _ _ _ room. room };
 }

@@ -4,15 +4,13 @@ ghost use Rattle.std.specs.Prelude.{◌≡◌, refl};
 
 use crate::count::rules::CountRules;
 use crate::planes::game::{PlaneGame, SweepNotes};
+use crate::planes::lights::notes::LightNotes;
+use crate::planes::notes::TentNotes;
+use crate::tents::pairs::PairingScratch;
 use engine_core::{BinaryRules, Needs, PlaneNotes, PlanePosition, PlaneRules, Searchable, Taken};
+use gameid_core::{LightPuzzle, TentsPuzzle};
 use grid_core::{Grid, Planes, Size, Word};
 use std::alloc::{AllocError, Global};
-
-/// What a game keeps beside planes.
-#[derive(Drop)]
-pub struct SweptNotes<N> {
-    notes: N,
-}
 
 impl<P: PlaneGame> BinaryRules for CountRules<P> {
     ghost use Rattle.fields_core.specs.CountLaws.{count-alive};
@@ -36,38 +34,66 @@ impl<P: PlaneGame> BinaryRules for CountRules<P> {
     ghost alive = { λ r. count-alive (P.counts r.puzzle) };
 }
 
-impl<W: Word, P: PlaneGame, N: SweepNotes<W, P>> PlaneNotes<W, CountRules<P>> for SweptNotes<N> {
-    ghost fits = { λ s needs. N.fits s.notes needs };
+impl<W: Word> PlaneNotes<W, CountRules<LightPuzzle>> for LightNotes<W> {
+    ghost use Rattle.std.proofs.Common.{subst, sym};
+    ghost use Rattle.fields_core.specs.LightPlanes.{HasLightRoom};
 
-    ghost written = { λ rules s. N.written rules.puzzle s.notes };
+    ghost fits = { λ s needs. ⟦<LightNotes<W> as SweepNotes<W, LightPuzzle>>⟧.fits s needs };
 
-    fn new(alloc: Global, made: Needs) -> Result<SweptNotes<N>, AllocError> {
-        Ok(SweptNotes {
-            notes: N::new(alloc, made)?,
-        })
+    ghost written = { λ rules s. ⟦<LightNotes<W> as SweepNotes<W, LightPuzzle>>⟧.written rules.puzzle s };
+
+    fn new(alloc: Global, made: Needs) -> Result<LightNotes<W>, AllocError> {
+        <LightNotes<W> as SweepNotes<W, LightPuzzle>>::new(alloc, made)
     }
 
-    fn start(&mut self, planes: &mut Planes<W>, rules: &CountRules<P>) {
-        self.notes.start(planes, rules.puzzle());
+    fn start(&mut self, planes: &mut Planes<W>, rules: &CountRules<LightPuzzle>) {
+        SweepNotes::start(self, planes, rules.puzzle());
     }
 
     fn close(
         &mut self,
         planes: &mut Planes<W>,
-        rules: &CountRules<P>,
-        _scratch: &mut P::Scratch,
+        rules: &CountRules<LightPuzzle>,
+        _scratch: &mut (),
         from: Option<usize>,
     ) -> Taken {
-        self.notes.close(planes, rules.puzzle(), from)
+        SweepNotes::close(self, planes, rules.puzzle(), from)
     }
 
-    ghost fits_smaller = { λ s need had less fits. N.fits_smaller s.notes need had less fits };
+    ghost fits_smaller = { λ notes need had fits room.
+        subst (λ n. HasLightRoom n W.room notes) (sym fits.same_cells) room };
+}
+
+impl<W: Word> PlaneNotes<W, CountRules<TentsPuzzle>> for TentNotes<W> {
+    ghost fits = { λ s needs. ⟦<TentNotes<W> as SweepNotes<W, TentsPuzzle>>⟧.fits s needs };
+
+    ghost written = { λ rules s. ⟦<TentNotes<W> as SweepNotes<W, TentsPuzzle>>⟧.written rules.puzzle s };
+
+    fn new(alloc: Global, made: Needs) -> Result<TentNotes<W>, AllocError> {
+        <TentNotes<W> as SweepNotes<W, TentsPuzzle>>::new(alloc, made)
+    }
+
+    fn start(&mut self, planes: &mut Planes<W>, rules: &CountRules<TentsPuzzle>) {
+        SweepNotes::start(self, planes, rules.puzzle());
+    }
+
+    fn close(
+        &mut self,
+        planes: &mut Planes<W>,
+        rules: &CountRules<TentsPuzzle>,
+        _scratch: &mut PairingScratch,
+        from: Option<usize>,
+    ) -> Taken {
+        SweepNotes::close(self, planes, rules.puzzle(), from)
+    }
+
+    ghost fits_smaller = { λ _ _ _ _ room. room };
 }
 
 impl<P: PlaneGame> PlaneRules for CountRules<P> {
-    type Short = SweptNotes<P::Short>;
+    type Short = P::Short;
 
-    type Long = SweptNotes<P::Long>;
+    type Long = P::Long;
 
     fn completes(&self, scratch: &mut P::Scratch, grid: &Grid) -> bool {
         self.puzzle().completes(self.names(), scratch, grid)

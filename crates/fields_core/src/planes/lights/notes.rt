@@ -66,7 +66,6 @@ impl<W: Word> LightTables<W> {
 }
 
 impl<W: Word> SweepNotes<W, LightPuzzle> for LightNotes<W> {
-    ghost use Rattle.std.proofs.Common.{subst, sym};
     ghost use Rattle.fields_core.specs.LightPlanes.{AreLightsWritten, HasLightRoom};
     ghost use Rattle.fields_core.specs.LightWaits.{AreLightsReady};
 
@@ -96,7 +95,4 @@ impl<W: Word> SweepNotes<W, LightPuzzle> for LightNotes<W> {
     fn sweep(&mut self, planes: &mut Planes<W>, puzzle: &LightPuzzle) -> bool {
         self.sweep_numbers(planes, puzzle) && self.sweep_white(planes, puzzle)
     }
-
-    ghost fits_smaller = { λ notes need had fits room.
-        subst (λ n. HasLightRoom n W.room notes) (sym fits.same_cells) room };
 }
