@@ -173,6 +173,9 @@ fn finds_two(
     numbers: &[u8; 5],
     turns: u64,
 ) -> Result<Option<bool>, AllocError> {
+    if !(1..=31).contains(&values) {
+        return Ok(None);
+    }
     let rules = Neighbours {
         cells: 5,
         values,
