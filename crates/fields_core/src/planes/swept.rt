@@ -40,7 +40,8 @@ impl<W: Word> PlaneNotes<W, CountRules<LightPuzzle>> for LightNotes<W> {
 
     ghost fits = { λ s needs. ⟦<LightNotes<W> as SweepNotes<W, LightPuzzle>>⟧.fits s needs };
 
-    ghost written = { λ rules s. ⟦<LightNotes<W> as SweepNotes<W, LightPuzzle>>⟧.written rules.puzzle s };
+    ghost written = { λ rules s.
+        ⟦<LightNotes<W> as SweepNotes<W, LightPuzzle>>⟧.written rules.puzzle s };
 
     fn new(alloc: Global, made: Needs) -> Result<LightNotes<W>, AllocError> {
         <LightNotes<W> as SweepNotes<W, LightPuzzle>>::new(alloc, made)
@@ -67,7 +68,8 @@ impl<W: Word> PlaneNotes<W, CountRules<LightPuzzle>> for LightNotes<W> {
 impl<W: Word> PlaneNotes<W, CountRules<TentsPuzzle>> for TentNotes<W> {
     ghost fits = { λ s needs. ⟦<TentNotes<W> as SweepNotes<W, TentsPuzzle>>⟧.fits s needs };
 
-    ghost written = { λ rules s. ⟦<TentNotes<W> as SweepNotes<W, TentsPuzzle>>⟧.written rules.puzzle s };
+    ghost written = { λ rules s.
+        ⟦<TentNotes<W> as SweepNotes<W, TentsPuzzle>>⟧.written rules.puzzle s };
 
     fn new(alloc: Global, made: Needs) -> Result<TentNotes<W>, AllocError> {
         <TentNotes<W> as SweepNotes<W, TentsPuzzle>>::new(alloc, made)
