@@ -12,7 +12,7 @@ use crate::rules::Rules;
 use crate::search::position::Searchable;
 use crate::trail::position::TrailPosition;
 use crate::trail::propagators::Propagators;
-use grid_core::{Board, Grid};
+use grid_core::{Board, Fixed, Grid};
 use std::alloc::{AllocError, Global};
 
 /// The rules of a puzzle, with the table of its houses.
@@ -26,8 +26,8 @@ pub struct HouseRules<S: RuleSet> {
 /// What a visit works in: the sets of a house's cells, what is kept of them, and what decides it.
 #[derive(Drop)]
 pub struct HouseScratch<W: Drop> {
-    sets: Vec<u32>,
-    kept: Vec<u32>,
+    sets: Fixed<u32>,
+    kept: Fixed<u32>,
     work: W,
 }
 
@@ -142,8 +142,8 @@ impl<S: RuleSet> Rules for HouseRules<S> {
     fn scratch(&self, alloc: Global) -> Result<HouseScratch<S::Scratch>, AllocError> {
         let room = self.longest();
         Ok(HouseScratch {
-            sets: vec![in alloc; 0; room]?,
-            kept: vec![in alloc; 0; room]?,
+            sets: Fixed::copies(alloc, 0, room)?,
+            kept: Fixed::copies(alloc, 0, room)?,
             work: self.set.scratch(alloc)?,
         })
     }

@@ -1,3 +1,4 @@
+pub mod Fixed
 pub mod Extent
 pub mod Grids
 pub mod Pieces

@@ -5,15 +5,16 @@ ghost use Rattle.std.specs.Ordering.{nat_cmp};
 ghost use Rattle.std.specs.List.Sorted.{IsStrictlyIncreasing};
 ghost use Rattle.grid_core.specs.Augmenting.{with_left};
 
+use crate::fixed::Fixed;
 use std::alloc::{AllocError, Global};
 use std::marker::Model;
 
 /// The lefts that a search has reached, in this order, and for each the place of its parent.
 #[derive(Drop)]
 pub(crate) struct Frontier {
-    seen: Vec<bool>,
-    queue: Vec<usize>,
-    parents: Vec<usize>,
+    seen: Fixed<bool>,
+    queue: Fixed<usize>,
+    parents: Fixed<usize>,
     count: usize,
 }
 
@@ -40,9 +41,9 @@ impl Frontier {
         ensures { IfOk result (λ r. (r.room ≡ n) × (r.lefts ≡ [])) }
     {
         Ok(Frontier {
-            seen: vec![in alloc; false; n]?,
-            queue: vec![in alloc; 0; n]?,
-            parents: vec![in alloc; 0; n]?,
+            seen: Fixed::copies(alloc, false, n)?,
+            queue: Fixed::copies(alloc, 0, n)?,
+            parents: Fixed::copies(alloc, 0, n)?,
             count: 0,
         })
     }

@@ -3,13 +3,14 @@
 ghost use Rattle.std.specs.Prelude.{◌≡◌, ◌<◌, ◌↔◌, IsTrue, IfOk, length, slice_index, slice_set, replicate};
 ghost use Rattle.grid_core.specs.Grids.{IsGrid};
 
+use crate::fixed::Fixed;
 use std::alloc::{AllocError, Global};
 use std::marker::Model;
 
 /// A number for each cell, by place: row by row from the top left.
 #[derive(Debug, Drop)]
 pub struct Grid {
-    cells: Vec<u8>,
+    cells: Fixed<u8>,
 }
 
 impl Model for Grid {
@@ -26,7 +27,7 @@ impl Grid {
         ensures { IfOk result (λ g. g ≡ replicate cells 0) }
     {
         Ok(Grid {
-            cells: vec![in alloc; 0; cells]?,
+            cells: Fixed::copies(alloc, 0, cells)?,
         })
     }
 

@@ -3,6 +3,7 @@
 
 mod augmenting;
 mod board;
+mod fixed;
 mod frontier;
 mod grid;
 mod lines;
@@ -13,6 +14,7 @@ mod regions;
 mod size;
 
 pub use board::Board;
+pub use fixed::Fixed;
 pub use grid::Grid;
 pub use lines::{line_count, line_len, line_place, line_value};
 pub use pairing::{Edges, Paired, Pairing};

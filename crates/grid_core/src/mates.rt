@@ -3,14 +3,15 @@
 ghost use Rattle.std.specs.Prelude.{◌≡◌, ◌+◌, ◌^◌, ◌<◌, IfOk, [], ◌∷◌, ◌++◌, length, slice_index, slice_set};
 ghost use Rattle.grid_core.specs.Augmenting.{IsFree, AreOwn, IsOwner};
 
+use crate::fixed::Fixed;
 use std::alloc::{AllocError, Global};
 use std::marker::Model;
 
 /// The right that each of the first lefts has for its mate, and the left that owns each right.
 #[derive(Drop)]
 pub(crate) struct Mates {
-    mates: Vec<usize>,
-    owners: Vec<Option<usize>>,
+    mates: Fixed<usize>,
+    owners: Fixed<Option<usize>>,
     count: usize,
 }
 
@@ -33,8 +34,8 @@ impl Mates {
         ensures { IfOk result (λ m. (m.room ≡ n) × (m.mates ≡ [])) }
     {
         Ok(Mates {
-            mates: vec![in alloc; 0; n]?,
-            owners: vec![in alloc; None; n]?,
+            mates: Fixed::copies(alloc, 0, n)?,
+            owners: Fixed::copies(alloc, None, n)?,
             count: 0,
         })
     }

@@ -6,15 +6,14 @@ ghost use Rattle.grid_core.specs.Candidates.{all_of};
 ghost use Rattle.grid_core.specs.Words.{has_bit};
 ghost use Rattle.grid_core.specs.Planes.{bit_of, has, cells_of, back_at, without_taking, ArePlanes, IsThere, IsFresh, IsFurther, IsBack, at_line, lines_beside, line_len, number_of};
 
-pub(crate) mod copies;
 pub(crate) mod judge;
 pub(crate) mod line;
 pub(crate) mod touched;
 pub(crate) mod turn;
 pub(crate) mod word;
 
+use crate::fixed::Fixed;
 use crate::size::Size;
-use copies::copies;
 use line::{Change, Line};
 use std::alloc::{AllocError, Global};
 use std::marker::Model;
@@ -26,9 +25,9 @@ use word::Word;
 #[derive(Drop)]
 pub struct Planes<W: Word> {
     size: Size,
-    rows: Vec<W>,
-    columns: Vec<W>,
-    changes: Vec<Change<W>>,
+    rows: Fixed<W>,
+    columns: Fixed<W>,
+    changes: Fixed<Change<W>>,
     len: usize,
 }
 
@@ -58,8 +57,8 @@ impl<W: Word> Planes<W> {
     {
         let w = usize::from(size.w());
         let h = usize::from(size.h());
-        let mut rows = copies(alloc, W::none(), 2 * W::places())?;
-        let mut columns = copies(alloc, W::none(), 2 * W::places())?;
+        let mut rows = Fixed::copies(alloc, W::none(), 2 * W::places())?;
+        let mut columns = Fixed::copies(alloc, W::none(), 2 * W::places())?;
         write_lines(&mut rows, 0, h, W::all(w));
         write_lines(&mut columns, 0, w, W::all(h));
         let nothing = Change {
@@ -71,7 +70,7 @@ impl<W: Word> Planes<W> {
             size,
             rows,
             columns,
-            changes: copies(alloc, nothing, size.cells() * 2)?,
+            changes: Fixed::copies(alloc, nothing, size.cells() * 2)?,
             len: 0,
         })
     }

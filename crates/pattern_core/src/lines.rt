@@ -15,7 +15,7 @@ use crate::line_cells::write_places;
 use crate::line_clue::{LONGEST, LineClue, Rows};
 use engine_core::{Mode, Rules, apply, gather};
 use gameid_core::PatternPuzzle;
-use grid_core::{Board, Grid, Size, line_count, line_len, line_place};
+use grid_core::{Board, Fixed, Grid, Size, line_count, line_len, line_place};
 use std::alloc::{AllocError, Global};
 use std::marker::Model;
 
@@ -28,7 +28,7 @@ const VALUES: u8 = 2;
 #[derive(Drop)]
 pub struct PatternLines {
     size: Size,
-    clues: Vec<LineClue>,
+    clues: Fixed<LineClue>,
     ghost extent: { IsExtent size },
 }
 
@@ -61,7 +61,10 @@ impl PatternLines {
         for line in 0..count {
             clues.push(LineClue::new(puzzle, line))?;
         }
-        Ok(PatternLines { size, clues })
+        Ok(PatternLines {
+            size,
+            clues: Fixed::of(clues),
+        })
     }
 
     /// The size of the grid.

@@ -12,7 +12,7 @@ use crate::rules::{Rules, by_queue};
 use crate::search::position::Taken;
 use crate::trail::cells::write_grid;
 use crate::waits::{dequeue, next_around};
-use grid_core::{Board, Grid};
+use grid_core::{Board, Fixed, Grid};
 use std::alloc::{AllocError, Global};
 use std::marker::Model;
 
@@ -44,9 +44,9 @@ fn report<R: Rules>(dead: bool, turns: usize, struck: bool) -> Taken
 pub(crate) struct Closer<R: Rules> {
     pub(crate) made: Needs,
     scratch: R::Scratch,
-    sets: Vec<u32>,
-    pub(crate) waits: Vec<u64>,
-    pub(crate) trace: Vec<usize>,
+    sets: Fixed<u32>,
+    pub(crate) waits: Fixed<u64>,
+    pub(crate) trace: Fixed<usize>,
     pub(crate) board: Board,
 }
 
@@ -80,9 +80,9 @@ impl<R: Rules> Closer<R> {
         Ok(Closer {
             made,
             scratch: rules.scratch(alloc)?,
-            sets: vec![in alloc; 0u32; made.scope]?,
-            waits: vec![in alloc; 0u64; made.houses / 64 + 1]?,
-            trace: vec![in alloc; 0usize; trace]?,
+            sets: Fixed::copies(alloc, 0u32, made.scope)?,
+            waits: Fixed::copies(alloc, 0u64, made.houses / 64 + 1)?,
+            trace: Fixed::copies(alloc, 0usize, trace)?,
             board: Board::new(alloc, made.cells, made.values)?,
         })
     }

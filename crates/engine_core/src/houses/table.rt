@@ -7,6 +7,7 @@ ghost use Rattle.engine_core.specs.HouseIndex.{AreScopes, scope_of, AreMarksAt, 
 
 use crate::houses::list::HouseList;
 use crate::waits::next_waiting;
+use grid_core::Fixed;
 use std::alloc::{AllocError, Global};
 use std::marker::Model;
 
@@ -41,7 +42,7 @@ pub(crate) fn join_marks(waits: &mut [u64], marks: &[u64])
 pub(crate) struct HouseTable {
     cells: usize,
     pub(crate) list: HouseList,
-    marks: Vec<u64>,
+    marks: Fixed<u64>,
 }
 
 impl Model for HouseTable {
@@ -67,7 +68,7 @@ impl HouseTable {
         ensures { IfOk result (λ table. table ≡ record { cells = cells; scopes = list.closed }) }
     {
         let words = list.len() / 64 + 1;
-        let mut marks = vec![in alloc; 0u64; cells * words]?;
+        let mut marks = Fixed::copies(alloc, 0u64, cells * words)?;
         let all: &mut [u64] = &mut marks;
         for house in 0..list.len() {
             mark_house(all, words, house, list.places(house));

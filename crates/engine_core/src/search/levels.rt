@@ -5,7 +5,7 @@ ghost use Rattle.engine_core.specs.Common.{pick, IsClosedIn, IsClosedBut, AreGri
 
 use crate::mode::Closing;
 use crate::search::position::Position;
-use grid_core::Grid;
+use grid_core::{Fixed, Grid};
 
 /// A cell whose values are being tried, the next of them, and how long the trail was before the first.
 #[derive(Clone, Copy)]
@@ -52,7 +52,7 @@ impl Grids {
 /// The frames of the trials that are open, and the grids found so far.
 #[derive(Drop)]
 pub(crate) struct Levels {
-    pub frames: Vec<Frame>,
+    pub frames: Fixed<Frame>,
     pub depth: usize,
     pub grids: Grids,
 }

@@ -12,7 +12,7 @@ use crate::trail::cells::{better_cell, write_grid};
 use crate::trail::propagators::Propagators;
 use crate::trail::trailed::TrailedBoard;
 use crate::waits::{dequeue, dequeue_if, next_around};
-use grid_core::{Board, Grid};
+use grid_core::{Board, Fixed, Grid};
 use std::alloc::{AllocError, Global};
 use std::marker::Model;
 
@@ -77,10 +77,10 @@ fn filter_house<R: Propagators>(
 pub struct TrailPosition<R: Propagators> {
     made: Needs,
     scratch: R::Scratch,
-    sets: Vec<u32>,
-    kept: Vec<u32>,
-    waits: Vec<u64>,
-    first: Vec<u64>,
+    sets: Fixed<u32>,
+    kept: Fixed<u32>,
+    waits: Fixed<u64>,
+    first: Fixed<u64>,
     trailed: TrailedBoard,
 }
 
@@ -205,10 +205,10 @@ impl<R: Propagators> Position for TrailPosition<R> {
         Ok(TrailPosition {
             made,
             scratch: rules.scratch(alloc)?,
-            sets: vec![in alloc; 0u32; made.scope]?,
-            kept: vec![in alloc; 0u32; made.scope]?,
-            waits: vec![in alloc; 0u64; made.houses / 64 + 1]?,
-            first: vec![in alloc; 0u64; made.houses / 64 + 1]?,
+            sets: Fixed::copies(alloc, 0u32, made.scope)?,
+            kept: Fixed::copies(alloc, 0u32, made.scope)?,
+            waits: Fixed::copies(alloc, 0u64, made.houses / 64 + 1)?,
+            first: Fixed::copies(alloc, 0u64, made.houses / 64 + 1)?,
             trailed: TrailedBoard::new(alloc, made.cells, made.values)?,
         })
     }

@@ -5,7 +5,7 @@ ghost use Rattle.std.specs.Prelude.{◌≡◌, ◌≢◌, ℕ, ◌+◌, ◌*◌,
 ghost use Rattle.engine_core.specs.Common.{has, cells_of, SameShape, count_below, only, max_cells, max_values, IsAlive, IsDead, AreSetsOf, IsKept, IsBoardOf, after, IsBitsOf, back_at, change_at, left_by, IsTrailLonger, IsTrailBack, IsStruck};
 
 use crate::trail::propagators::Propagators;
-use grid_core::Board;
+use grid_core::{Board, Fixed};
 use std::alloc::{AllocError, Global};
 use std::marker::Model;
 
@@ -13,7 +13,7 @@ use std::marker::Model;
 #[derive(Drop)]
 pub(crate) struct TrailedBoard {
     board: Board,
-    pub(crate) changes: Vec<(u32, u32)>,
+    pub(crate) changes: Fixed<(u32, u32)>,
     len: usize,
 }
 
@@ -43,7 +43,7 @@ impl TrailedBoard {
     {
         Ok(TrailedBoard {
             board: Board::new(alloc, cells, values)?,
-            changes: vec![in alloc; (0u32, 0u32); cells * usize::from(values)]?,
+            changes: Fixed::copies(alloc, (0u32, 0u32), cells * usize::from(values))?,
             len: 0,
         })
     }

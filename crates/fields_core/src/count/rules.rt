@@ -10,14 +10,14 @@ use crate::count::house::{House, next_passing};
 use crate::count::name::{HouseName, longest_of};
 use crate::count::tally::Tally;
 use engine_core::{Mode, Rules};
-use grid_core::{Board, Grid};
+use grid_core::{Board, Fixed, Grid};
 use std::alloc::{AllocError, Global};
 
 /// A copy of the puzzle, the names of its houses, and how many cells the longest has.
 #[derive(Drop)]
 pub struct CountRules<P: CountGame> {
     puzzle: P,
-    names: Vec<HouseName<P::Kind>>,
+    names: Fixed<HouseName<P::Kind>>,
     longest: usize,
     ghost counting: { IsCounted (P.counts puzzle) },
     ghost named: { AreNamed (P.told puzzle) names.items (P.counts puzzle).houses },
@@ -36,7 +36,7 @@ impl<P: CountGame> CountRules<P> {
         ensures rules { IfOk result (λ rules. ⟦<CountRules<P> as Rules>⟧.system rules
             ≡ rules_of (P.counts puzzle.now)) }
     {
-        let names = puzzle.names(alloc)?;
+        let names = Fixed::of(puzzle.names(alloc)?);
         let puzzle = puzzle.copied(alloc)?;
         let longest = longest_of(&names);
         Ok(CountRules {

@@ -5,12 +5,13 @@ ghost use Rattle.std.specs.Prelude.{◌≡◌, ℕ, ◌+◌, ◌*◌, ◌<◌, �
 ghost use Rattle.grid_core.specs.Words.{has_bit, differ};
 ghost use Rattle.grid_core.specs.Planes.{bit_of, AreTurned, HasRoomFor};
 
+use crate::fixed::Fixed;
 use crate::planes::line::Line;
 use crate::planes::word::Word;
 
 /// Writes the word for both values of the first lines, so many, and no place for all others: of these the words of the first
 /// `had` lines alone may have some.
-pub(crate) fn write_lines<W: Word>(words: &mut Vec<W>, had: usize, lines: usize, word: W)
+pub(crate) fn write_lines<W: Word>(words: &mut Fixed<W>, had: usize, lines: usize, word: W)
     requires few { 2 * lines ≤ length words.old.items }
     requires had_few { 2 * had ≤ length words.old.items }
     requires others { (k place : ℕ) → 2 * had ≤ k
@@ -28,7 +29,7 @@ pub(crate) fn write_lines<W: Word>(words: &mut Vec<W>, had: usize, lines: usize,
 
 /// Turns over the bits in the line's word of the value. In the words of the lines that cross it there it turns over the
 /// bit of the line.
-fn turn<W: Word>(along: &mut Vec<W>, across: &mut Vec<W>, line: usize, value: usize, bits: W)
+fn turn<W: Word>(along: &mut Fixed<W>, across: &mut Fixed<W>, line: usize, value: usize, bits: W)
     requires value_in { value < 2 }
     requires line_in { 2 * line + value < length along.old.items }
     requires line_room { line < W.room }
@@ -58,8 +59,8 @@ fn turn<W: Word>(along: &mut Vec<W>, across: &mut Vec<W>, line: usize, value: us
 /// Turns over the bits of a line, in the words of the rows and of the columns.
 #[tactic(auto, unfolding(crate::specs::Planes::crosses))]
 pub(crate) fn turn_line<W: Word>(
-    rows: &mut Vec<W>,
-    columns: &mut Vec<W>,
+    rows: &mut Fixed<W>,
+    columns: &mut Fixed<W>,
     line: Line,
     value: u8,
     bits: W,

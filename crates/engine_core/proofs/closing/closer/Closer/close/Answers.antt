@@ -1,4 +1,6 @@
-use Rattle.engine_core.proofs.Common.{IsBoardOf, IsRested, arith, has, is_waiting, length, replicate, rules, sym, true≢false, ◌∙◌, ◌≡◌}
+use Rattle.engine_core.proofs.Common.{IsBoardOf, IsRested, arith, common_steps, drop, has, is_waiting, length, replicate, sym, take, true≢false, ◌++◌, ◌∙◌, ◌≡◌}
+use Rattle.std.proofs.lemmas.List.{length-replicate}
+use Rattle.std.specs.Prelude.{vec_len}
 use Rattle.engine_core.proofs.AroundLemmas.{closed-none}
 use Rattle.engine_core.proofs.QueueLemmas.{dead_of, within_of}
 use Rattle.engine_core.proofs.WaitLemmas.{waiting-all}
@@ -6,10 +8,16 @@ use Rattle.engine_core.proofs.closing.closer.Closer.close.Goals as goal
 use Rattle.engine_core.proofs.closing.closer.Closer.close.Goals.{After-fill}
 
 -- each house waits at first
-rested : (g : _) (c : After-fill g) → IsRested (g.R.Rules.system c.args.rules.now) (has c.self.inside.board) (is_waiting c.fill.new.self.items)
+rested : (g : _) (c : After-fill g) → IsRested (g.R.Rules.system c.args.rules.now) (has c.self.inside.board) (is_waiting
+    (take (vec_len c.self.inside.waits) (c.fill.new.self ++ drop (length c.fill.new.self) c.self.inside.waits.items)))
 rested g c = λ h d v lt asleep on.
     let fits = rw (← c.self.view_is) at c.requires.fits in
-    let made : c.fill.new.self.items ≡ replicate (length c.self.inside.waits.items) 18446744073709551615 = search rules in
+    let long = c.fill.ensures.len ∙ c.deref_mut.ensures.len in
+    let made : take (vec_len c.self.inside.waits) (c.fill.new.self ++ drop (length c.fill.new.self) c.self.inside.waits.items)
+        ≡ replicate (length c.self.inside.waits.items) 18446744073709551615 =
+    let all = c.fill.ensures.after (λ y same. same) in
+    let value = c.deref_mut.ensures.value in
+    grind (arith, common_steps, length-replicate) in
     absurd (true≢false (sym (rw made
     (waiting-all (length c.self.inside.waits.items) h
     (omega (arith, c.self.invariant.0.waits_long, fits.houses_in)))) ∙ asleep))

@@ -7,7 +7,7 @@ use Rattle.engine_core.proofs.houses.table.HouseTable.of.Goals as goal
 pub loop-house-init : goal.loop-house-init
 loop-house-init c = marked-first c.args.list.closed
     (rw c.len.ensures.len at (c.deref_mut-all.ensures.len ∙ c.in_ok-marks.ensures.len)) (λ w lw.
-    let all = c.deref_mut-all.ensures.value ∙ c.in_ok-marks.ensures.items_if_clones_equal (λ y same. same) in
+    let all = c.deref_mut-all.ensures.value ∙ c.in_ok-marks.ensures.items in
     ap (λ xs. slice_index xs w) all ∙ get_or-replicate (c.args.cells * (c.len.result / 64 + 1)) w 0 0 (omega (arith, c.deref_mut-all.ensures.len, c.in_ok-marks.ensures.len)))
 
 pub mark_house-requires-clause-within : goal.mark_house-requires-clause-within
