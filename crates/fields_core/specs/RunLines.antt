@@ -1,15 +1,23 @@
 -- The runs of one line, visited at once. No public contract uses these words.
-use Rattle.std.specs.Prelude.{◌≡◌, ℕ, ◌+◌, ◌*◌, ◌/◌, ◌%◌, ◌<◌, Bool, true, false, ◌&&◌, List}
+use Rattle.std.specs.Prelude.{◌≡◌, ℕ, ◌+◌, ◌*◌, ◌/◌, ◌%◌, ◌<◌, Bool, true, false, ◌&&◌, nat_lt, List, map, slice_index}
 use Rattle.std.specs.List.{AllByRecursion, list_any}
 use Rattle.grid_core.specs.Candidates.{any_below}
 use Rattle.grid_core.specs.Extent.{Extent}
-use Rattle.grid_core.specs.Planes.{crosses, at_line, has, Layers}
+use Rattle.grid_core.specs.Planes.{crosses, at_line, has, Layers, line_len}
 use Rattle.grid_core.specs.Words.{has_bit}
 use Rattle.grid_core.specs.declared.planes.line.Line.{Line}
 use Rattle.engine_core.specs.RuleSystem.{has_place}
 use Rattle.gameid_core.specs.Puzzles.{Light}
 use Rattle.fields_core.specs.CountHouse.{CountHouse, IsHouse, houses_below}
 use Rattle.fields_core.specs.LightHouses.{column_house}
+use Rattle.fields_core.specs.Visits.{AreVisited}
+
+-- the word of each number of a line whose words are that far apart, and whether they have one
+abbrev pub along : {W : Type 0} → (W → ℕ) → List W → ℕ → ℕ → ℕ → ℕ
+along bits words first stride k = slice_index (map bits words) (first + k * stride)
+
+abbrev pub ReachesAlong : ℕ → ℕ → ℕ → ℕ → Type 0
+ReachesAlong long first stride len = (k : ℕ) → k < len → first + k * stride < long
 
 -- the bits are the numbers that are in a run with a marked one, and no two marked ones are in one run
 pub record AreAround (run : ℕ → ℕ) (room marked bits : ℕ) : Type 0 where
@@ -50,6 +58,14 @@ pub record AreRunsOf (size : Extent) (line : Line) (n : ℕ) (cell : ℕ → ℕ
   pub some : (j k : ℕ) → j < n → k < n → joined j k ≡ true
       → list_any (λ house. has_place house.places (cell j) && has_place house.places (cell k))
       houses ≡ true
+
+-- visits of the houses of a line's runs, by the word of the run that each of its numbers is in
+abbrev pub AreRunsVisited : Line → (ℕ → ℕ) → Layers → Layers → Bool → Type 0
+AreRunsVisited line run from to fills =
+    (len : ℕ) (cell : ℕ → ℕ) (joined : ℕ → ℕ → Bool) (houses : List CountHouse)
+    → line_len from.size line ≡ len → AreRunsOf from.size line len cell joined houses
+    → ((j k : ℕ) → j < len → has_bit (run j) k ≡ (nat_lt k len && joined j k))
+    → AreVisited houses from to fills
 
 -- the houses of the runs of a column, from the top
 abbrev pub column_runs_of_column : Light → ℕ → List CountHouse

@@ -3,6 +3,7 @@ use Rattle.std.specs.Prelude.{◌≡◌, ℕ, ◌<◌, ◌≤◌, Bool, List, fi
 use Rattle.std.specs.List.{range_with_len}
 use Rattle.grid_core.specs.Candidates.{count_below}
 use Rattle.grid_core.specs.Regions.{beside}
+use Rattle.engine_core.specs.HouseSets.{AreBelow}
 use Rattle.engine_core.specs.RuleSystem.{has_place}
 use Rattle.gameid_core.specs.Puzzles.{Tents}
 use Rattle.fields_core.specs.Tents.{tent_cells, tree}
@@ -24,7 +25,7 @@ may_pair p tents l r = tree_beside p (slice_index tents l) r
 
 -- cells of the puzzle
 abbrev pub AreIn : Tents → List ℕ → Type 0
-AreIn p places = (l : ℕ) → l < length places → slice_index places l < tent_cells p
+AreIn p = AreBelow (tent_cells p)
 
 -- for each cell, how many trees stand before it
 pub record AreNumbered (p : Tents) (numbers : List ℕ) : Type 0 where

@@ -1,9 +1,10 @@
 -- The trees of a row of Tents, and words of the cells beside them.
-use Rattle.std.specs.Prelude.{◌≡◌, ℕ, ◌+◌, ◌-◌, ◌*◌, ◌<◌, ◌≤◌, Bool, true, false, not, ◌&&◌, ◌==◌, nat_lt, List, length, slice_index}
+use Rattle.std.specs.Prelude.{◌≡◌, ℕ, ◌+◌, ◌-◌, ◌*◌, ◌<◌, ◌≤◌, Bool, true, false, not, ◌&&◌, ◌==◌, nat_lt, List, count_by, length, slice_index}
 use Rattle.std.specs.List.{list_any}
 use Rattle.grid_core.specs.Candidates.{Candidates, any_below}
 use Rattle.grid_core.specs.Extent.{Extent}
 use Rattle.grid_core.specs.Regions.{beside}
+use Rattle.grid_core.specs.Planes.{Layers, has}
 use Rattle.grid_core.specs.Words.{has_bit}
 use Rattle.engine_core.specs.RuleSystem.{has_place}
 use Rattle.gameid_core.specs.Puzzles.{Tents}
@@ -43,6 +44,12 @@ pub record IsNear {W : Type 0} (bits : W → ℕ) (size : Extent) (passes : ℕ 
   pub below : (x : ℕ) → has_bit (bits near.below) x
       ≡ (nat_lt x size.w && (nat_lt (y + 1) size.h && passes ((y + 1) * size.w + x)))
 
+-- the word has the places that as many such cells are beside as fit, in whatever row these words have
+abbrev pub AreBeside : {W : Type 0} → (W → ℕ) → ℕ → Near W → (ℕ → Bool) → W → Type 0
+AreBeside bits room near fits word = (size : Extent) (passes : ℕ → Bool) (y x : ℕ)
+    → size.w ≤ room → x < size.w → IsNear bits size passes y near
+    → has_bit (bits word) x ≡ fits (count_by passes (beside size (y * size.w + x)))
+
 -- whether the cell is beside one of the first n cells of a row, of those at these places
 unfoldable pub is_beside : Extent → ℕ → (ℕ → Bool) → ℕ → ℕ → Bool
 is_beside size y places n c =
@@ -51,3 +58,11 @@ is_beside size y places n c =
 -- the board without 0 in the cells that pass
 unfoldable pub without_zeros : (ℕ → Bool) → Candidates → Candidates
 without_zeros passes K c v = K c v && not ((v == 0) && passes c)
+
+-- 0 was taken from the cells that pass beside these places of the row
+abbrev pub AreTakenBeside : {W : Type 0} → (W → ℕ) → Near W → W → ℕ → Layers → Layers → Type 0
+AreTakenBeside bits near places y from to = (passes : ℕ → Bool)
+    → IsNear bits from.size passes y near
+    → ((x : ℕ) → has_bit (bits places) x ≡ true → x < from.size.w)
+    → has to ≡ without_zeros (λ c. passes c
+    && is_beside from.size y (has_bit (bits places)) from.size.w c) (has from)

@@ -1,10 +1,12 @@
 -- Which houses of Tents wait on planes. No public contract uses these words.
 use Rattle.std.specs.Prelude.{◌≡◌, ℕ, ◌+◌, ◌-◌, ◌<◌, false, ◌&&◌, ◌||◌, nat_lt, List}
 use Rattle.grid_core.specs.Candidates.{Candidates}
+use Rattle.grid_core.specs.Planes.{IsFurther, Layers, has}
 use Rattle.grid_core.specs.Words.{has_bit}
 use Rattle.grid_core.specs.declared.planes.touched.Touched.{Touched}
-use Rattle.gameid_core.specs.Puzzles.{Tents}
-use Rattle.fields_core.specs.CountHouse.{CountHouse}
+use Rattle.gameid_core.specs.Puzzles.{IsTents, Tents}
+use Rattle.fields_core.specs.CountHouse.{CountHouse, houses_below}
+use Rattle.fields_core.specs.Parts.{ArePlanesAlive}
 use Rattle.fields_core.specs.TentHouses.{column_of_tents, row_of_tents}
 use Rattle.fields_core.specs.Squares.{squares_of_row}
 use Rattle.fields_core.specs.Trees.{trees_of_row}
@@ -17,7 +19,7 @@ use Rattle.fields_core.specs.declared.planes.waits.Waits.{Waits}
 abbrev pub AreIdle : List CountHouse → Candidates → Type 0
 AreIdle houses K = after_houses houses K ≡ K
 
--- the houses of a kind at a line, how many lines there are, and which of them wait
+-- the houses of a kind at a line, how many lines there are, all of them, and which wait
 abbrev pub kind_houses : Tents → Kind → ℕ → List CountHouse
 kind_houses p Columns k = column_of_tents p k
 kind_houses p Rows k = row_of_tents p k
@@ -30,6 +32,9 @@ kind_lines p Rows = p.size.h
 kind_lines p Trees = p.size.h
 kind_lines p Squares = p.size.h
 
+abbrev pub all_of_kind : Tents → Kind → List CountHouse
+all_of_kind p kind = houses_below (kind_houses p kind) (kind_lines p kind)
+
 abbrev pub waiting : {W : Type 0} → (W → ℕ) → Waits W → Kind → ℕ
 waiting bits waits Columns = bits waits.columns
 waiting bits waits Rows = bits waits.rows
@@ -40,6 +45,20 @@ waiting bits waits Squares = bits waits.squares
 abbrev pub AreTentsRested : {W : Type 0} → (W → ℕ) → Tents → Waits W → Candidates → Type 0
 AreTentsRested bits p waits K = (kind : Kind) (k : ℕ) → k < kind_lines p kind
     → has_bit (waiting bits waits kind) k ≡ false → AreIdle (kind_houses p kind k) K
+
+-- where the houses of the kind are idle, they need not wait
+abbrev pub AreTentsSettled : {W : Type 0} → (W → ℕ) → Kind → Waits W → Waits W → Type 0
+AreTentsSettled bits kind before now = (p : Tents) (K : Candidates)
+    → AreTentsRested bits p before K
+    → ((k : ℕ) → k < kind_lines p kind → AreIdle (kind_houses p kind k) K)
+    → AreTentsRested bits p now K
+
+-- what waits once values were taken since the trail had that length
+abbrev pub AreTentsWokenSince : {W : Type 0} → (W → ℕ) → ℕ → Layers → Waits W → Waits W → Type 0
+AreTentsWokenSince bits len planes before now = (p : Tents) (from : Layers)
+    → IsTents p → from.size ≡ p.size → from.len ≡ len
+    → ArePlanesAlive from → ArePlanesAlive planes → IsFurther from planes
+    → AreTentsRested bits p before (has from) → AreTentsRested bits p now (has planes)
 
 -- what waits once cells of these lines have lost 0, and cells of those 1: the lines of both, the trees of the rows that
 -- have lost 1 and of the rows beside these, and the squares of the rows that have lost 0

@@ -1,8 +1,8 @@
 //! Cells of a row and of the rows beside it as words, and the places that they are beside.
 
-ghost use Rattle.std.specs.Prelude.{◌*◌, ◌+◌, ◌<◌, ◌==◌, ◌≡◌, ◌≤◌, Bool, ℕ, nat_lt};
+ghost use Rattle.std.specs.Prelude.{◌+◌, ◌<◌, ◌==◌, ◌≤◌, nat_lt};
 ghost use Rattle.std.specs.List.{count_by};
-ghost use Rattle.fields_core.specs.Common.{Extent, IsNear, beside, has, has_bit};
+ghost use Rattle.fields_core.specs.Common.{AreBeside, IsNear, has};
 
 use grid_core::{Planes, Word};
 
@@ -17,9 +17,7 @@ pub(crate) struct Near<W> {
 impl<W: Word> Near<W> {
     /// The places of the row that one of the cells is beside.
     pub(crate) fn some(self) -> W
-        ensures { (size : Extent) (passes : ℕ → Bool) (y x : ℕ) → size.w ≤ W.room → x < size.w
-            → IsNear W.bits size passes y self
-            → has_bit (W.bits result) x ≡ nat_lt 0 (count_by passes (beside size (y * size.w + x))) }
+        ensures { AreBeside W.bits W.room self (nat_lt 0) result }
     {
         let across = self.own.on().either(self.own.back());
         self.above.either(self.below).either(across)
@@ -27,9 +25,7 @@ impl<W: Word> Near<W> {
 
     /// The places of the row that just one of the cells is beside.
     pub(crate) fn just_one(self) -> W
-        ensures { (size : Extent) (passes : ℕ → Bool) (y x : ℕ) → size.w ≤ W.room → x < size.w
-            → IsNear W.bits size passes y self
-            → has_bit (W.bits result) x ≡ (count_by passes (beside size (y * size.w + x)) == 1) }
+        ensures { AreBeside W.bits W.room self (λ number. number == 1) result }
     {
         let left = self.own.on();
         let right = self.own.back();

@@ -1,7 +1,7 @@
 //! What Tents keeps beside planes, and the board that a search starts from.
 
-ghost use Rattle.std.specs.Prelude.{◌&&◌, ◌*◌, ◌+◌, ◌<◌, ◌≡◌, ◌≤◌, ℕ, length, nat_lt};
-ghost use Rattle.fields_core.specs.Common.{IsTents, has, has_bit, is_barred, tent_rules};
+ghost use Rattle.std.specs.Prelude.{◌*◌, ◌+◌, ◌<◌, ◌≡◌, ◌≤◌, length};
+ghost use Rattle.fields_core.specs.Common.{IsRowOf, IsTents, has, is_barred, tent_rules};
 
 use crate::count::game::CountGame;
 use crate::planes::game::SweepNotes;
@@ -23,8 +23,7 @@ pub struct TentNotes<W> {
 fn barred_in<W: Word>(puzzle: &TentsPuzzle, y: usize) -> W
     requires y_in { y < puzzle.now.size.h }
     requires narrow { puzzle.now.size.w ≤ W.room }
-    ensures { (x : ℕ) → has_bit (W.bits result) x
-        ≡ (nat_lt x puzzle.now.size.w && is_barred puzzle.now (y * puzzle.now.size.w + x)) }
+    ensures { IsRowOf puzzle.now.size.w (is_barred puzzle.now) y (W.bits result) }
 {
     let w = usize::from(puzzle.size().w());
     let mut barred = W::none();

@@ -1,7 +1,7 @@
 //! Visits of the squares of two rows of Tents, all at once.
 
 ghost use Rattle.std.specs.Prelude.{◌<◌, ◌≡◌};
-ghost use Rattle.fields_core.specs.Common.{AreVisited, ArePlanesAlive, squares_of_row};
+ghost use Rattle.fields_core.specs.Common.{ArePlanesAlive, AreVisited, squares_of_row};
 
 use gameid_core::TentsPuzzle;
 use grid_core::{Line, Planes, Word};

@@ -2,7 +2,7 @@
 #![tactic(auto, using(crate::proofs::LawSets::tent_sweep_laws))]
 
 ghost use Rattle.std.specs.Prelude.{◌<◌, ◌≡◌, map, true};
-ghost use Rattle.fields_core.specs.Common.{AreTentsReady, AreVisited, IsFieldOf, houses_below, kind_houses, kind_lines};
+ghost use Rattle.fields_core.specs.Common.{AreTentsReady, AreVisited, IsFieldOf, all_of_kind, kind_houses, kind_lines};
 
 use crate::planes::notes::TentNotes;
 use crate::planes::squares::visit_squares;
@@ -41,9 +41,7 @@ impl<W: Word> TentNotes<W> {
         kind: Kind,
     ) -> bool
         requires ready { AreTentsReady W.bits W.room puzzle.now planes.old self.old }
-        ensures visited { AreVisited
-            (houses_below (kind_houses puzzle.now kind) (kind_lines puzzle.now kind))
-            planes.old planes.new result }
+        ensures visited { AreVisited (all_of_kind puzzle.now kind) planes.old planes.new result }
         ensures ready { result ≡ true
             → AreTentsReady W.bits W.room puzzle.now planes.new self.new }
         ensures trees { self.new.trees ≡ self.old.trees }

@@ -1,6 +1,6 @@
 //! Count rules, as rules that are searched on planes: by sweeps.
 
-ghost use Rattle.std.specs.Prelude.{◌≡◌, refl};
+ghost use Rattle.std.specs.Prelude.{refl};
 
 use crate::count::rules::CountRules;
 use crate::planes::game::{PlaneGame, SweepNotes};

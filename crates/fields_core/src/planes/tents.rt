@@ -1,7 +1,7 @@
 //! Visits of the lines of Tents on planes, one by one.
 
 ghost use Rattle.std.specs.Prelude.{◌<◌, ◌≡◌, ◌≤◌};
-ghost use Rattle.fields_core.specs.Common.{AreVisited, ArePlanesAlive, column_of_tents, row_of_tents};
+ghost use Rattle.fields_core.specs.Common.{ArePlanesAlive, AreVisited, column_of_tents, row_of_tents};
 
 use crate::planes::part::Part;
 use crate::planes::visit::visit;

@@ -1,7 +1,7 @@
 //! The trees of each row of Tents as words, and visits of those of a row, all at once.
 
-ghost use Rattle.std.specs.Prelude.{◌&&◌, ◌*◌, ◌+◌, ◌<◌, ◌≡◌, ◌≤◌, Bool, ℕ, length, map, true};
-ghost use Rattle.fields_core.specs.Common.{AreBare, AreRowsOf, AreVisited, ArePlanesAlive, IsFurther, IsNear, IsRowOf, IsTents, Tents, has, has_bit, is_beside, trees_of_row, wants_tent, without_zeros};
+ghost use Rattle.std.specs.Prelude.{◌&&◌, ◌*◌, ◌+◌, ◌<◌, ◌≡◌, ◌≤◌, length, map};
+ghost use Rattle.fields_core.specs.Common.{ArePlanesAlive, AreRowsOf, AreTakenBeside, AreVisited, IsFieldOf, IsFurther, IsRowOf, Tents, trees_of_row, wants_tent};
 
 use crate::count::house::count_passing;
 use crate::planes::near::{Near, ones_near};
@@ -51,10 +51,7 @@ pub(crate) fn write_trees<W: Word>(rows: &mut Vec<W>, puzzle: &TentsPuzzle)
 /// Takes 0 from those of the cells that are beside one of these places of the row.
 fn take_beside<W: Word>(planes: &mut Planes<W>, near: Near<W>, places: W, y: u8)
     requires y_in { y < planes.old.size.h }
-    ensures left { (passes : ℕ → Bool) → IsNear W.bits planes.old.size passes y near
-        → ((x : ℕ) → has_bit (W.bits places) x ≡ true → x < planes.old.size.w)
-        → has planes.new ≡ without_zeros (λ c. passes c
-        && is_beside planes.old.size y (has_bit (W.bits places)) planes.old.size.w c) (has planes.old) }
+    ensures left { AreTakenBeside W.bits near places y planes.old planes.new }
     ensures further { IsFurther planes.old planes.new }
 {
     let last = planes.size().h() - 1;
@@ -75,8 +72,7 @@ pub(crate) fn visit_trees<W: Word>(planes: &mut Planes<W>, trees: &[W], y: u8) -
     requires y_in { y < planes.old.size.h }
     requires long { planes.old.size.h ≤ length trees.now }
     requires alive { ArePlanesAlive planes.old }
-    ensures { (p : Tents) → IsTents p → planes.old.size ≡ p.size
-        → AreRowsOf p.size (wants_tent p) (map W.bits trees.now) → AreBare p (has planes.old)
+    ensures { (p : Tents) → IsFieldOf W.room p planes.old (map W.bits trees.now)
         → AreVisited (trees_of_row p y) planes.old planes.new result }
 {
     let ones = ones_near(planes, y);

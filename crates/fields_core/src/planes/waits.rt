@@ -1,8 +1,8 @@
 //! Which houses of Tents wait to be visited.
 #![tactic(auto, using(crate::proofs::LawSets::wait_laws))]
 
-ghost use Rattle.std.specs.Prelude.{◌&&◌, ◌<◌, ◌≡◌, ◌≤◌, ℕ, nat_lt};
-ghost use Rattle.fields_core.specs.Common.{AreIdle, AreTentsRested, AreTentsWoken, Candidates, HasBoard, ArePlanesAlive, IsClosedBut, IsFurther, IsTents, Layers, Tents, has, has_bit, kind_houses, kind_lines, tent_rules, waiting};
+ghost use Rattle.std.specs.Prelude.{◌&&◌, ◌≡◌, ◌≤◌, ℕ, nat_lt};
+ghost use Rattle.fields_core.specs.Common.{AreTentsRested, AreTentsSettled, AreTentsWoken, AreTentsWokenSince, Candidates, HasBoard, IsClosedBut, IsSuited, IsTents, Tents, has, has_bit, kind_lines, tent_rules, waiting};
 
 use gameid_core::TentsPuzzle;
 use grid_core::{Planes, Touched, Word};
@@ -44,7 +44,7 @@ impl<W: Word> Waits<W> {
 
     /// Everything waits.
     pub(crate) fn all() -> Waits<W>
-        ensures { (p : Tents) (K : Candidates) → p.size.w ≤ W.room → p.size.h ≤ W.room
+        ensures { (p : Tents) (K : Candidates) → IsSuited p.size W.room
             → AreTentsRested W.bits p result K }
     {
         Waits::at(W::all(W::places()))
@@ -105,9 +105,7 @@ impl<W: Word> Waits<W> {
 
     /// The houses of this kind wait no more: they are idle.
     pub(crate) fn settle(&mut self, kind: Kind)
-        ensures { (p : Tents) (K : Candidates) → AreTentsRested W.bits p self.old K
-            → ((k : ℕ) → k < kind_lines p kind → AreIdle (kind_houses p kind k) K)
-            → AreTentsRested W.bits p self.new K }
+        ensures { AreTentsSettled W.bits kind self.old self.new }
     {
         match kind {
             Kind::Columns => self.columns = W::none(),
@@ -121,9 +119,7 @@ impl<W: Word> Waits<W> {
     #[inline(always)]
     pub(crate) fn wake(&mut self, planes: &Planes<W>, len: usize)
         requires { len ≤ planes.now.len }
-        ensures { (p : Tents) (from : Layers) → IsTents p → from.size ≡ p.size → from.len ≡ len
-            → ArePlanesAlive from → ArePlanesAlive planes.now → IsFurther from planes.now
-            → AreTentsRested W.bits p self.old (has from) → AreTentsRested W.bits p self.new (has planes.now) }
+        ensures { AreTentsWokenSince W.bits len planes.now self.old self.new }
     {
         let (zeros, ones) = planes.lost(len);
         *self = self.woken(zeros, ones);

@@ -1,7 +1,7 @@
 //! The rows of the white cells of Light Up that wait.
 
-ghost use Rattle.std.specs.Prelude.{◌≡◌, ℕ, ◌+◌, ◌*◌, ◌<◌, ◌≤◌, true, false};
-ghost use Rattle.fields_core.specs.LightWaits.{AreParted, IsReach};
+ghost use Rattle.std.specs.Prelude.{◌≡◌, ℕ, ◌+◌, ◌<◌, ◌≤◌, true};
+ghost use Rattle.fields_core.specs.LightWaits.{AreColumnsParted, IsReach};
 ghost use Rattle.fields_core.specs.Common.{ArePlanesOf, AreTables, any_below, has_bit};
 
 use crate::planes::lights::tables::LightTables;
@@ -30,8 +30,8 @@ impl<W: Word> LightTables<W> {
         requires narrow { puzzle.now.size.w ≤ W.room }
         requires low_in { low < puzzle.now.size.h }
         ensures up { result ≤ low }
-        ensures apart { (y x : ℕ) → y < result → x < puzzle.now.size.w
-            → has_bit (W.bits columns) x ≡ true → AreParted puzzle.now x y low }
+        ensures apart { (y : ℕ) → y < result
+            → AreColumnsParted puzzle.now (W.bits columns) y low }
     {
         let mut first = low;
         let mut live = columns.both(self.rows[low]);
@@ -52,8 +52,8 @@ impl<W: Word> LightTables<W> {
         requires high_in { high < puzzle.now.size.h }
         ensures down { high < result }
         ensures within { result ≤ puzzle.now.size.h }
-        ensures apart { (y x : ℕ) → result ≤ y → y < puzzle.now.size.h → x < puzzle.now.size.w
-            → has_bit (W.bits columns) x ≡ true → AreParted puzzle.now x y high }
+        ensures apart { (y : ℕ) → result ≤ y → y < puzzle.now.size.h
+            → AreColumnsParted puzzle.now (W.bits columns) y high }
     {
         let h = usize::from(puzzle.size().h());
         let mut end = high + 1;

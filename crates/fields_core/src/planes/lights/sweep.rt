@@ -2,7 +2,7 @@
 #![tactic(auto, using(crate::proofs::LawSets::tent_sweep_laws))]
 
 ghost use Rattle.std.specs.Prelude.{◌≡◌, true};
-ghost use Rattle.fields_core.specs.Common.{AreLightsReady, AreVisited, AreTablesKept, houses_below, light_cells, lit_house, numbers_of_row, run_houses, run_lines, white_houses};
+ghost use Rattle.fields_core.specs.Common.{AreLightsReady, AreTablesKept, AreVisited, all_runs, in_grid, in_rows, lit_house, numbers_of_row, white_houses};
 
 use crate::planes::lights::notes::LightNotes;
 use crate::planes::lights::visits::visit_numbers;
@@ -14,8 +14,7 @@ impl<W: Word> LightNotes<W> {
     /// Visits the numbers that wait, up to one whose house has no filling, and wakes what lost values may bind.
     pub(crate) fn sweep_numbers(&mut self, planes: &mut Planes<W>, puzzle: &LightPuzzle) -> bool
         requires ready { AreLightsReady W.bits W.room puzzle.now planes.old self.old }
-        ensures visited { AreVisited (houses_below (numbers_of_row puzzle.now) puzzle.now.size.h)
-            planes.old planes.new result }
+        ensures visited { AreVisited (in_rows puzzle.now numbers_of_row) planes.old planes.new result }
         ensures ready { result ≡ true
             → AreLightsReady W.bits W.room puzzle.now planes.new self.new }
         ensures kept { AreTablesKept self.old self.new }
@@ -42,9 +41,7 @@ impl<W: Word> LightNotes<W> {
     /// Visits the runs of a kind that wait, up to one that has no filling. They take 1 alone: then all of them are idle.
     fn sweep_runs(&mut self, planes: &mut Planes<W>, puzzle: &LightPuzzle, kind: RunKind) -> bool
         requires ready { AreLightsReady W.bits W.room puzzle.now planes.old self.old }
-        ensures visited { AreVisited
-            (houses_below (run_houses puzzle.now kind) (run_lines puzzle.now kind))
-            planes.old planes.new result }
+        ensures visited { AreVisited (all_runs puzzle.now kind) planes.old planes.new result }
         ensures ready { result ≡ true
             → AreLightsReady W.bits W.room puzzle.now planes.new self.new }
         ensures kept { AreTablesKept self.old self.new }
@@ -69,8 +66,7 @@ impl<W: Word> LightNotes<W> {
     /// a cell in whose column run a cell must have a bulb, none of that run is looked at.
     fn sweep_cells(&mut self, planes: &mut Planes<W>, puzzle: &LightPuzzle) -> bool
         requires ready { AreLightsReady W.bits W.room puzzle.now planes.old self.old }
-        ensures visited { AreVisited (houses_below (lit_house puzzle.now) (light_cells puzzle.now))
-            planes.old planes.new result }
+        ensures visited { AreVisited (in_grid puzzle.now lit_house) planes.old planes.new result }
         ensures ready { result ≡ true
             → AreLightsReady W.bits W.room puzzle.now planes.new self.new }
         ensures kept { AreTablesKept self.old self.new }

@@ -1,7 +1,7 @@
 //! What planes of Light Up keep of a puzzle.
 
-ghost use Rattle.std.specs.Prelude.{◌≡◌, ℕ, ◌+◌, ◌*◌, ◌<◌, ◌≤◌, IfOk, length, map};
-ghost use Rattle.fields_core.specs.Common.{AreFilled, AreWritten, HasTables, IsRowOf, has_bit, is_numbered, white};
+ghost use Rattle.std.specs.Prelude.{◌≡◌, ◌+◌, ◌*◌, ◌<◌, ◌≤◌, IfOk, length, map};
+ghost use Rattle.fields_core.specs.Common.{AreFilled, AreWritten, HasTables, IsRowOf, ReachesAlong, has_bit, is_numbered, white};
 
 use crate::light_up::cells::columns;
 use gameid_core::{LightCell, LightPuzzle};
@@ -56,7 +56,7 @@ pub(crate) fn cells_of_row<W: Word>(puzzle: &LightPuzzle, y: usize) -> (W, W)
 
 /// Writes the word at the places of the numbers of a line from `start` on and before `end`.
 fn fill<W: Word>(runs: &mut Vec<W>, word: W, first: usize, stride: usize, start: usize, end: usize)
-    requires within { (i : ℕ) → i < end → first + i * stride < length runs.old.items }
+    requires within { ReachesAlong (length runs.old.items) first stride end }
     requires low { start ≤ end }
     ensures filled { AreFilled first stride start end (W.bits word)
         (map W.bits runs.old.items) (map W.bits runs.new.items) }
@@ -75,7 +75,7 @@ pub(crate) fn write_runs<W: Word>(
     stride: usize,
     len: usize,
 )
-    requires within { (i : ℕ) → i < len → first + i * stride < length runs.old.items }
+    requires within { ReachesAlong (length runs.old.items) first stride len }
     requires onward { 0 < stride }
     requires fits { len ≤ W.room }
     ensures written { AreWritten (has_bit (W.bits white)) len first stride len

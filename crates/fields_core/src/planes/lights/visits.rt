@@ -1,7 +1,7 @@
 //! Visits of the houses of Light Up by the words that are kept of a puzzle.
 
-ghost use Rattle.std.specs.Prelude.{◌≡◌, ℕ, ◌+◌, ◌*◌, ◌<◌, ◌≤◌, ◌&&◌, ◌||◌, ◌==◌, Bool, true, IfNone, IfSome, is_some, List, length, map, nat_lt, slice_index};
-ghost use Rattle.fields_core.specs.Common.{AreAround, AreIdleBut, ArePlanesOf, AreRunsOf, AreSafeInColumns, AreTables, AreVisited, AreWhitesIdleBut, CountHouse, ArePlanesAlive, IsClash, count_below, has, has_bit, line_len, lines_beside, lit_house, lits_of_row, number_house, number_of, numbers_of_row, run_houses, run_lines};
+ghost use Rattle.std.specs.Prelude.{◌≡◌, ℕ, ◌+◌, ◌*◌, ◌<◌, ◌≤◌, ◌&&◌, ◌||◌, ◌==◌, true, IfNone, IfSome, is_some, length, map, nat_lt};
+ghost use Rattle.fields_core.specs.Common.{AreAround, AreIdleBut, ArePlanesAlive, ArePlanesOf, AreRowsSafe, AreRunsVisited, AreSafeInColumns, AreTables, AreVisited, AreWhitesIdleBut, IsClash, ReachesAlong, along, count_below, has, has_bit, house_at, line_len, lines_beside, lit_house, lits_of_row, number_house, number_of, numbers_of_row, run_houses, run_lines};
 
 use crate::light_up::cells::columns;
 use crate::planes::lights::tables::LightTables;
@@ -24,10 +24,9 @@ fn around<W: Word>(runs: &[W], first: usize, stride: usize, marked: W) -> Option
     requires within { (k : ℕ) → has_bit (W.bits marked) k ≡ true
         → first + k * stride < length runs.now }
     ensures around { IfSome result (λ bits. AreAround
-        (λ k. slice_index (map W.bits runs.now) (first + k * stride)) W.room
-        (W.bits marked) (W.bits bits)) }
+        (along W.bits runs.now first stride) W.room (W.bits marked) (W.bits bits)) }
     ensures clash { IfNone result (IsClash
-        (λ k. slice_index (map W.bits runs.now) (first + k * stride)) (W.bits marked)) }
+        (along W.bits runs.now first stride) (W.bits marked)) }
 {
     let mut rest = marked;
     let mut bits = W::none();
@@ -53,15 +52,10 @@ fn visit_line<W: Word>(
     stride: usize,
 ) -> bool
     requires line_in { number_of line < lines_beside planes.old.size line }
-    requires within { (k : ℕ) → k < line_len planes.old.size line
-        → first + k * stride < length runs.now }
+    requires within { ReachesAlong (length runs.now) first stride (line_len planes.old.size line) }
     requires alive { ArePlanesAlive planes.old }
-    ensures { (len : ℕ) (cell : ℕ → ℕ) (joined : ℕ → ℕ → Bool) (houses : List CountHouse)
-        → line_len planes.old.size line ≡ len
-        → AreRunsOf planes.old.size line len cell joined houses
-        → ((j k : ℕ) → j < len → has_bit (slice_index (map W.bits runs.now) (first + j * stride)) k
-        ≡ (nat_lt k len && joined j k))
-        → AreVisited houses planes.old planes.new result }
+    ensures { AreRunsVisited line (along W.bits runs.now first stride)
+        planes.old planes.new result }
 {
     let zeros = planes.line(line, 0);
     let must = planes.line(line, 1).but(zeros);
@@ -73,12 +67,12 @@ fn visit_line<W: Word>(
 }
 
 /// The places beside a place.
-fn beside<W: Word>(place: usize) -> W
-    requires { place < W.room }
+fn beside<W: Word>(at: usize) -> W
+    requires { at < W.room }
     ensures { (k : ℕ) → k < W.room
-        → has_bit (W.bits result) k ≡ ((k == place + 1) || (place == k + 1)) }
+        → has_bit (W.bits result) k ≡ ((k == at + 1) || (at == k + 1)) }
 {
-    let own = W::one(place);
+    let own = W::one(at);
     own.on().either(own.back())
 }
 
@@ -95,8 +89,7 @@ fn visit_number<W: Word>(
     requires y_in { y < puzzle.now.size.h }
     requires x_in { x < puzzle.now.size.w }
     requires alive { ArePlanesAlive planes.old }
-    ensures { AreVisited (number_house puzzle.now (y * puzzle.now.size.w + x))
-        planes.old planes.new result }
+    ensures { AreVisited (house_at puzzle.now number_house y x) planes.old planes.new result }
 {
     let place = row_place(planes.size(), usize::from(y), usize::from(x));
     match puzzle.cell(place) {
@@ -188,8 +181,7 @@ impl<W: Word> LightTables<W> {
         requires tables { AreTables W.bits puzzle.now self.now }
         requires y_in { y < puzzle.now.size.h }
         requires x_in { x < puzzle.now.size.w }
-        ensures { AreVisited (lit_house puzzle.now (y * puzzle.now.size.w + x))
-            planes.old planes.new result }
+        ensures { AreVisited (house_at puzzle.now lit_house y x) planes.old planes.new result }
     {
         let place = usize::from(y) * columns(puzzle) + usize::from(x);
         let row = self.row_runs[place];
@@ -264,8 +256,8 @@ impl<W: Word> LightTables<W> {
         requires long { puzzle.now.size.h ≤ length safe.old.items }
         requires order { rows.0 ≤ rows.1 }
         requires low { rows.1 ≤ puzzle.now.size.h }
-        ensures safe { (y : ℕ) → rows.0 ≤ y → y < rows.1 → AreSafeInColumns puzzle.now y
-            (slice_index (map W.bits safe.new.items) y) (has planes.now) }
+        ensures safe { AreRowsSafe puzzle.now rows.0 rows.1 (map W.bits safe.new.items)
+            (has planes.now) }
         ensures long { length safe.new.items ≡ length safe.old.items }
     {
         let mut one = W::none();

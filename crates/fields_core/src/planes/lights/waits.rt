@@ -1,7 +1,7 @@
 //! Which numbers, runs and white cells of Light Up wait to be visited.
 
-ghost use Rattle.std.specs.Prelude.{◌≡◌, ℕ, ◌<◌, ◌≤◌, ◌&&◌, ◌||◌, nat_lt};
-ghost use Rattle.fields_core.specs.Common.{AreIdle, AreLinesRested, AreLinesWoken, ArePlanesOf, AreSpread, Candidates, IsClosedBut, IsFurther, IsLight, Layers, Light, has, has_bit, light_cells, light_rules, lit_house, numbers_of_row, run_houses, run_lines, waiting_runs};
+ghost use Rattle.std.specs.Prelude.{◌≡◌, ℕ, ◌<◌, ◌≤◌, ◌&&◌, nat_lt};
+ghost use Rattle.fields_core.specs.Common.{AreIdle, AreLinesRested, AreLinesWoken, AreLinesWokenSince, ArePlanesOf, AreSettled, AreSpread, Candidates, IsClosedBut, IsLight, Light, has, has_bit, light_cells, light_rules, lit_house, meets_line, numbers_of_row, run_houses, run_lines, waiting_runs};
 
 use gameid_core::LightPuzzle;
 use grid_core::{Planes, Touched, Word};
@@ -127,9 +127,8 @@ impl<W: Word> LineWaits<W> {
 
     /// The runs of this kind wait no more: they are idle.
     pub(crate) fn settle_runs(&mut self, kind: RunKind)
-        ensures { (p : Light) (K : Candidates) → AreLinesRested W.bits p self.old K
-            → ((k : ℕ) → k < run_lines p kind → AreIdle (run_houses p kind k) K)
-            → AreLinesRested W.bits p self.new K }
+        ensures { AreSettled W.bits (λ p. run_houses p kind) (λ p. run_lines p kind)
+            self.old self.new }
     {
         match kind {
             RunKind::Rows => self.rows = W::none(),
@@ -139,9 +138,7 @@ impl<W: Word> LineWaits<W> {
 
     /// The white cells wait no more: they are idle.
     pub(crate) fn settle_whites(&mut self)
-        ensures { (p : Light) (K : Candidates) → AreLinesRested W.bits p self.old K
-            → ((c : ℕ) → c < light_cells p → AreIdle (lit_house p c) K)
-            → AreLinesRested W.bits p self.new K }
+        ensures { AreSettled W.bits lit_house light_cells self.old self.new }
     {
         self.ones = lines(W::none());
     }
@@ -149,9 +146,8 @@ impl<W: Word> LineWaits<W> {
     /// Of these cells of a row those that may wait.
     pub(crate) fn whites(&self, y: usize, cells: W) -> W
         requires { y < W.room }
-        ensures { (x : ℕ) → has_bit (W.bits result) x ≡ (has_bit (W.bits cells) x
-            && (has_bit (W.bits self.now.ones.rows) y
-            || has_bit (W.bits self.now.ones.columns) x)) }
+        ensures { (x : ℕ) → has_bit (W.bits result) x
+            ≡ (has_bit (W.bits cells) x && meets_line W.bits self.now.ones y x) }
     {
         if self.ones.rows.has(y) {
             return cells;
@@ -162,10 +158,7 @@ impl<W: Word> LineWaits<W> {
     /// Wakes what may be idle no more since the trail had that length.
     pub(crate) fn wake(&mut self, planes: &Planes<W>, len: usize)
         requires { len ≤ planes.now.len }
-        ensures { (p : Light) (from : Layers) → ArePlanesOf W.room p planes.now
-            → ArePlanesOf W.room p from → from.len ≡ len → IsFurther from planes.now
-            → AreLinesRested W.bits p self.old (has from)
-            → AreLinesRested W.bits p self.new (has planes.now) }
+        ensures { AreLinesWokenSince W.bits W.room len planes.now self.old self.new }
     {
         if planes.len() == len {
             return;

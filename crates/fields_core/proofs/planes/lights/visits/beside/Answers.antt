@@ -9,4 +9,4 @@ shifted room place (suc k) lt = rw (lt-ltb (suc k) room lt, lt-ltb 0 (suc k) (om
 pub returns : goal.returns
 returns g c = λ k lt.
     c.either.ensures k
-    ∙ rw (c.on.ensures k, c.back.ensures k, c.one-own.ensures (k - 1), c.one-own.ensures (k + 1)) (shifted g.W.Word.room c.args.place k lt)
+    ∙ rw (c.on.ensures k, c.back.ensures k, c.one-own.ensures (k - 1), c.one-own.ensures (k + 1)) (shifted g.W.Word.room c.args.at k lt)

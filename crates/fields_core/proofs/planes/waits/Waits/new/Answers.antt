@@ -24,4 +24,4 @@ returns g c =
     (lost-one g.W.Word.bits (has c.args.planes.now) _ _ _ _ (sym c.has.ensures ∙ c.if-has.false) (lines g (goal.at.returns g c).After-one-2)) c.woken-2.ensures
 
 pub returns-in_default : goal.returns-in_default
-returns-in_default g c = c.all.ensures c.args.puzzle.now (has c.args.planes.now) c.requires.board.suited.0 c.requires.board.suited.1
+returns-in_default g c = c.all.ensures c.args.puzzle.now (has c.args.planes.now) c.requires.board.suited

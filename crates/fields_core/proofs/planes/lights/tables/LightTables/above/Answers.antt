@@ -19,7 +19,7 @@ next g c =
     (omega arith) (omega arith) (omega arith) (omega arith) c.loop-first.invariant.live
 
 pub returns-then-not-is_some-clause-apart : goal.returns-then-not-is_some-clause-apart
-returns-then-not-is_some-clause-apart g c = λ y x less lt on.
+returns-then-not-is_some-clause-apart g c = λ y less x lt on.
     let up = c.loop-first.invariant.up in
     live-parted c.args.puzzle.now _ (c.loop-first.first - 1) (c.args.low + 1) _ g.W.Word.room x y c.args.low
     (next g (goal.at.returns-then-not-is_some-clause-apart g c).After-is_some) (sym c.is_some.ensures ∙ c.if-not-is_some.true) c.requires.narrow lt on (omega arith) (omega arith)

@@ -23,7 +23,7 @@ next g c h_is =
     (omega arith) (omega arith) (omega arith) (omega arith) c.loop-end.invariant.live
 
 pub returns-then-not-is_some-clause-apart : goal.returns-then-not-is_some-clause-apart
-returns-then-not-is_some-clause-apart g c = λ y x more y_in lt on.
+returns-then-not-is_some-clause-apart g c = λ y more y_in x lt on.
     let down = c.loop-end.invariant.down in
     live-parted c.args.puzzle.now _ c.args.high (c.loop-end.end + 1) _ g.W.Word.room x y c.args.high
     (next g (goal.at.returns-then-not-is_some-clause-apart g c).After-is_some (h-is g (goal.at.returns-then-not-is_some-clause-apart g c).After-from-h)) (sym c.is_some.ensures ∙ c.if-not-is_some.true) c.requires.narrow lt on (omega arith) (omega arith)
