@@ -64,7 +64,7 @@ unfoldable pub use Rattle.fields_core.specs.LightHouses.{begins_column_run, begi
 pub use Rattle.fields_core.specs.LightRuns.{IsAround, begins_at, line_cells, line_white, run_house}
 pub use Rattle.fields_core.specs.Parts.{ArePieces, ArePlanesAlive, IsBroken, IsCount, ArePartsCounted, IsHouseOf, Piece, piece_at}
 unfoldable pub use Rattle.fields_core.specs.Parts.{lies_in, lies_in_first, without_value}
-pub use Rattle.fields_core.specs.Runs.{RunsOn, SeesAlong, ShinesAlong}
+pub use Rattle.fields_core.specs.LightSight.{RunsOn, SeesAlong, ShinesAlong}
 pub use Rattle.fields_core.specs.Tallies.{IsTally, lacks_filling, stays}
 pub use Rattle.fields_core.specs.TentFaults.{FailsTents, IsTentFault, tent_tests}
 pub use Rattle.fields_core.specs.TentHouses.{column_of_tents, free_beside, row_of_tents, square_house, tent_rules, tree_house}

@@ -2,8 +2,7 @@
 use Rattle.fields_core.proofs.Common.{AllByRecursion, AreDifferent, Candidates, CountHouse, List, [], after_house, ap, cases_Bool, counts_between, false, fun_ext, has_place, inl, inr, refl, sym, true, true≢false, ℕ, ◌∙◌, ◌∷◌, ◌≡◌}
 use Rattle.engine_core.specs.HouseSetsLaws.{by_fillings-settled}
 use Rattle.fields_core.specs.CountHouse.{strikes_of}
-use Rattle.fields_core.specs.Visits.{after_houses}
-use Rattle.fields_core.specs.Waits.{AreIdle}
+use Rattle.fields_core.specs.Visits.{after_houses, AreIdle}
 use Rattle.fields_core.proofs.AtMostLemmas.{IsFull, others-stay}
 use Rattle.fields_core.proofs.IdleLemmas.{full-between, house-far, idle-first, idle-rest}
 use Rattle.fields_core.proofs.VisitLemmas.{after-inside, visits-inside}

@@ -9,8 +9,7 @@ use Rattle.grid_core.proofs.PlaneLemmas.{further-none}
 use Rattle.engine_core.specs.HouseSetsLaws.{strikes_at-inside, by_fillings-monotone}
 use Rattle.fields_core.specs.CountHouse.{strikes_of}
 use Rattle.fields_core.specs.Parts.{ArePlanesAlive}
-use Rattle.fields_core.specs.Visits.{AreVisited, after_houses}
-use Rattle.fields_core.specs.Waits.{AreIdle}
+use Rattle.fields_core.specs.Visits.{AreVisited, after_houses, AreIdle}
 use Rattle.fields_core.proofs.AtMostLemmas.{IsFull}
 use Rattle.fields_core.proofs.VisitLemmas.{after-inside, sweep-more, visits-inside}
 

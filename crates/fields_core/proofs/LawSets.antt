@@ -9,7 +9,7 @@ use Rattle.fields_core.proofs.LightLines.{cell-at, white-at}
 use Rattle.fields_core.proofs.LightRuleLemmas.{light-tells, rule-from-test, test-from-rule}
 use Rattle.fields_core.proofs.LightSeen.{black-unseen}
 use Rattle.fields_core.proofs.LightLatest.{few-places}
-use Rattle.fields_core.proofs.LightTold.{column-of-place, place-row, row-of-place}
+use Rattle.fields_core.proofs.LightHouseNames.{column-of-place, place-row, row-of-place}
 use Rattle.fields_core.proofs.RuleLemmas.{same-shape, start-all, start-blocked}
 use Rattle.fields_core.proofs.TentCounting.{tent-counting, tent-lawful}
 use Rattle.fields_core.proofs.TentHouseLemmas.{square-none}

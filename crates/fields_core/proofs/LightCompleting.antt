@@ -11,7 +11,7 @@ use Rattle.fields_core.proofs.LightSight.{bulb-in}
 use Rattle.fields_core.proofs.LightSeen.{seen-there}
 use Rattle.fields_core.proofs.LightCounting.{IsBoard, light-board, in-row-run, in-column-run, row-run-joined, column-run-joined}
 use Rattle.fields_core.proofs.LightHouseLaws.{row-self, column-self, small-at, white-in}
-use Rattle.fields_core.proofs.RunBegins.{row-begin, column-begin}
+use Rattle.fields_core.proofs.LightRunBegins.{row-begin, column-begin}
 
 module _ (p : Light) (g : List ℕ) (is : IsLight p) (grid : IsGrid (light_cells p) 2 g) (met : AreMet (light_counts p) g) where
   board : IsBoard p

@@ -4,10 +4,10 @@ use Rattle.fields_core.specs.Houses.{AreNamed}
 use Rattle.fields_core.specs.LightHouses.{numbered}
 use Rattle.fields_core.specs.LightLonely.{asks, lonely}
 use Rattle.fields_core.specs.declared.count.name.HouseName.{HouseName}
-use Rattle.fields_core.specs.declared.light_up.told.LightHouse.{LightHouse}
-use Rattle.fields_core.specs.declared.light_up.told.LightHouse.TheVariants.{Column, Lit, Number, Row}
+use Rattle.fields_core.specs.declared.light_up.light_house.LightHouse.{LightHouse}
+use Rattle.fields_core.specs.declared.light_up.light_house.LightHouse.TheVariants.{Column, Lit, Number, Row}
 use Rattle.fields_core.proofs.HouseLemmas.{named-cells, named-long, named-told}
-use Rattle.fields_core.proofs.LightTold.{place-tells}
+use Rattle.fields_core.proofs.LightHouseNames.{place-tells}
 use Rattle.fields_core.proofs.VisitLemmas.{IsAmong, among-below, among-one}
 
 -- ---- a house that is told

@@ -3,8 +3,7 @@ use Rattle.fields_core.proofs.Common.{CountHouse, ArePlanesAlive, Layers, List, 
 use Rattle.grid_core.specs.Planes.{has}
 use Rattle.grid_core.specs.Words.{IsLeast}
 use Rattle.grid_core.proofs.CandidateLemmas.{count_below-lt}
-use Rattle.fields_core.specs.Visits.{AreVisited}
-use Rattle.fields_core.specs.Waits.{AreIdle}
+use Rattle.fields_core.specs.Visits.{AreVisited, AreIdle}
 use Rattle.fields_core.proofs.IdleLemmas.{visited-skip}
 use Rattle.fields_core.proofs.VisitLemmas.{sweep-broken, sweep-first, sweep-more}
 

@@ -4,11 +4,11 @@ use Rattle.grid_core.specs.Planes.{line_len, lines_beside, number_of}
 use Rattle.grid_core.specs.declared.planes.line.Line.{Line}
 use Rattle.grid_core.specs.declared.planes.line.Line.TheVariants.{Row, Column}
 use Rattle.grid_core.proofs.PlaneLemmas.{place-in}
-use Rattle.fields_core.proofs.LitVisits.{has-at}
+use Rattle.fields_core.proofs.LightLitVisits.{has-at}
 use Rattle.grid_core.specs.Words.{IsLeast}
 use Rattle.grid_core.specs.declared.planes.touched.Touched.{Touched}
 use Rattle.fields_core.specs.LightWaits.{AreColumnsParted, AreParted, IsAway, IsReach}
-use Rattle.fields_core.specs.Trees.{IsRowOf}
+use Rattle.fields_core.specs.LineWords.{IsRowOf}
 use Rattle.fields_core.proofs.LightCounting.{column-run-joined, light-board, row-run-joined}
 use Rattle.fields_core.proofs.LightPassed.{rest-off, rest-on}
 use Rattle.fields_core.proofs.LightHouseLaws.{clear-at, clear-from, column-parts, column-white-end, row-parts, white-in}

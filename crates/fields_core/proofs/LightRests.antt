@@ -14,23 +14,22 @@ use Rattle.fields_core.specs.LightHouses.{row_house, column_house}
 use Rattle.fields_core.specs.LightPlanes.{ArePlanesOf}
 use Rattle.fields_core.specs.LightWaits.{AreIdleBut, AreLinesRested, IsAway, AreLinesWoken, AreSpread, run_houses, run_lines, waiting_runs}
 use Rattle.fields_core.specs.LightWords.{numbers_of_row, row_runs_of_row}
-use Rattle.fields_core.specs.Visits.{after_houses}
-use Rattle.fields_core.specs.Waits.{AreIdle}
-use Rattle.fields_core.specs.declared.planes.lights.waits.LineWaits.{LineWaits}
-use Rattle.fields_core.specs.declared.planes.lights.waits.RunKind.{RunKind}
-use Rattle.fields_core.specs.declared.planes.lights.waits.RunKind.TheVariants.{Rows, Columns}
+use Rattle.fields_core.specs.Visits.{after_houses, AreIdle}
+use Rattle.fields_core.specs.declared.planes.light_up.waits.LineWaits.{LineWaits}
+use Rattle.fields_core.specs.declared.planes.light_up.waits.RunKind.{RunKind}
+use Rattle.fields_core.specs.declared.planes.light_up.waits.RunKind.TheVariants.{Rows, Columns}
 unfoldable use Rattle.fields_core.proofs.IdleLemmas.{any_has}
 use Rattle.fields_core.proofs.IdleLemmas.{any-below, any-none, any-one, idle-far, idle-first, idle-rest}
 use Rattle.fields_core.proofs.AtMostLemmas.{IsFull}
-use Rattle.fields_core.proofs.LitIdle.{IsAll, alls-kept}
+use Rattle.fields_core.proofs.AtLeastLemmas.{IsAll, alls-kept}
 use Rattle.fields_core.proofs.LightCounting.{light-board}
 use Rattle.fields_core.proofs.LightHouseLaws.{row-self}
-use Rattle.fields_core.proofs.LitRuns.{black-idle, planes-full, seen-in-row}
+use Rattle.fields_core.proofs.LightLitRuns.{black-idle, planes-full, seen-in-row}
 use Rattle.fields_core.proofs.PlaneSweeps.{counted-some}
-use Rattle.fields_core.proofs.LitVisits.{lit-is}
-use Rattle.fields_core.proofs.NumberRows.{numbers-are}
+use Rattle.fields_core.proofs.LightLitVisits.{lit-is}
+use Rattle.fields_core.proofs.LightNumberRows.{numbers-are}
 use Rattle.fields_core.proofs.PartIdle.{IsPartOf, closed-idle, in-back, in-below, in-front}
-use Rattle.fields_core.proofs.RunOrder.{column-runs-kept, row-runs-are, row-runs-kept}
+use Rattle.fields_core.proofs.LightRunOrder.{column-runs-kept, row-runs-are, row-runs-kept}
 use Rattle.fields_core.proofs.StepLaws.{steps-some}
 use Rattle.fields_core.proofs.TentBeside.{IsNextTo, row-in, step-across, step-lies}
 use Rattle.fields_core.proofs.VisitLemmas.{visits-append}

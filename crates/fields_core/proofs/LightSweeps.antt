@@ -7,19 +7,18 @@ use Rattle.fields_core.specs.LightPlanes.{ArePlanesOf}
 use Rattle.fields_core.specs.LightWaits.{AreLightsReady, AreLinesRested, AreSafe, IsReach, lits_of_row, run_houses, run_lines, white_houses}
 use Rattle.fields_core.specs.LightWords.{numbers_of_row}
 use Rattle.fields_core.specs.Sweeps.{IsSweep}
-use Rattle.fields_core.specs.Visits.{AreVisited}
-use Rattle.fields_core.specs.Waits.{AreIdle}
-use Rattle.fields_core.specs.declared.planes.lights.notes.LightNotes.{LightNotes}
-use Rattle.fields_core.specs.declared.planes.lights.waits.RunKind.{RunKind}
-use Rattle.fields_core.specs.declared.planes.lights.waits.RunKind.TheVariants.{Rows, Columns}
-use Rattle.fields_core.proofs.AnyOrder.{IsSingle}
+use Rattle.fields_core.specs.Visits.{AreVisited, AreIdle}
+use Rattle.fields_core.specs.declared.planes.light_up.light_notes.LightNotes.{LightNotes}
+use Rattle.fields_core.specs.declared.planes.light_up.waits.RunKind.{RunKind}
+use Rattle.fields_core.specs.declared.planes.light_up.waits.RunKind.TheVariants.{Rows, Columns}
+use Rattle.fields_core.proofs.HouseOrder.{IsSingle}
 use Rattle.fields_core.proofs.LightRests.{below-idle, lits-each}
-use Rattle.fields_core.proofs.LitIdle.{IsAll, alls-ones}
-use Rattle.fields_core.proofs.LitRuns.{planes-full}
-use Rattle.fields_core.proofs.NumberRows.{numbers-are}
+use Rattle.fields_core.proofs.AtLeastLemmas.{IsAll, alls-ones}
+use Rattle.fields_core.proofs.LightLitRuns.{planes-full}
+use Rattle.fields_core.proofs.LightNumberRows.{numbers-are}
 use Rattle.fields_core.proofs.PlaneSweeps.{visits-swept}
 use Rattle.fields_core.proofs.QuietVisits.{alls-quiet, quiet-done, quiet-one, quiet-stays, singles-quiet}
-use Rattle.fields_core.proofs.RunOrder.{column-runs-single, row-runs-single}
+use Rattle.fields_core.proofs.LightRunOrder.{column-runs-single, row-runs-single}
 use Rattle.fields_core.proofs.VisitLemmas.{below-rows}
 use Rattle.fields_core.proofs.CountListLemmas.{all-houses}
 

@@ -2,7 +2,7 @@
 use Rattle.fields_core.proofs.Common.{Bool, IsAround, IsNext, cases_eq, cases_lt, inl, inr, true, List, None, Option, RunsOn, ShinesAlong, Some, and_parts, arith, eqb-false, false≢true, is_some, ne_eqb, not, not-false, not-true, tent, true≢false, ℕ, ◌&&◌, ◌+◌, ◌-◌, ◌<◌, ◌≡◌, ◌≤◌}
 use Rattle.std.specs.Option.{unwrap_or}
 use Rattle.std.specs.Prelude.{◌==◌}
-use Rattle.fields_core.specs.Runs.{RunsBack}
+use Rattle.fields_core.specs.LightSight.{RunsBack}
 use Rattle.fields_core.specs.TentTouching.{IsTentAmong}
 use Rattle.fields_core.proofs.LightSeen.{run-bulb, run-dark}
 

@@ -2,8 +2,7 @@
 use Rattle.fields_core.proofs.Common.{Bool, Candidates, CountHouse, List, [], after_house, append_assoc, arith, cases_Bool, false, fun_ext, houses_below, inl, inr, length, length-append, not, refl, sym, true, ℕ, ◌&&◌, ◌++◌, ◌+◌, ◌-◌, ◌<◌, ◌∙◌, ◌∷◌, ◌≡◌, ◌⊎◌}
 use Rattle.engine_core.specs.RuleSystem.{IsClosed}
 use Rattle.fields_core.specs.CountHouse.{count_house_of, count_puzzle, strikes_of}
-use Rattle.fields_core.specs.Visits.{after_houses}
-use Rattle.fields_core.specs.Waits.{AreIdle}
+use Rattle.fields_core.specs.Visits.{after_houses, AreIdle}
 use Rattle.fields_core.proofs.VisitLemmas.{below-rest, house-at}
 use Rattle.fields_core.proofs.CountListLemmas.{below-more}
 

@@ -2,14 +2,13 @@
 use Rattle.fields_core.proofs.Common.{AllByRecursion, CountHouse, Layers, Light, List, arith, houses_below, light_cells, refl, true, ℕ, ◌<◌, ◌∙◌, ◌≤◌}
 use Rattle.grid_core.specs.Planes.{has}
 use Rattle.fields_core.specs.LightPlanes.{ArePlanesOf}
-use Rattle.fields_core.specs.Visits.{AreVisited, after_houses}
-use Rattle.fields_core.specs.Waits.{AreIdle}
-use Rattle.fields_core.proofs.AnyOrder.{IsSingle, single-keeps}
+use Rattle.fields_core.specs.Visits.{AreVisited, after_houses, AreIdle}
+use Rattle.fields_core.proofs.HouseOrder.{IsSingle, single-keeps}
 use Rattle.fields_core.proofs.AtMostLemmas.{IsFull}
 use Rattle.fields_core.proofs.IdleAfter.{AreQuiet, list-kept, list-settled}
 use Rattle.fields_core.proofs.LightRests.{idle-one}
-use Rattle.fields_core.proofs.LitIdle.{IsAll, all-keeps}
-use Rattle.fields_core.proofs.LitRuns.{planes-full}
+use Rattle.fields_core.proofs.AtLeastLemmas.{IsAll, all-keeps}
+use Rattle.fields_core.proofs.LightLitRuns.{planes-full}
 use Rattle.fields_core.proofs.CountListLemmas.{all-houses}
 use Rattle.fields_core.proofs.VisitLemmas.{sweep-first, sweep-more}
 

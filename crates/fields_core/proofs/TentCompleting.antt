@@ -5,7 +5,7 @@ use Rattle.fields_core.specs.TentHouses.{tent_counts}
 use Rattle.fields_core.proofs.HouseLists.{row-long, column-long}
 use Rattle.fields_core.proofs.LightHouseLaws.{small-at}
 use Rattle.fields_core.proofs.PlaceLists.{count-two, ones-bulbs}
-use Rattle.fields_core.proofs.SquareLemmas.{square-has}
+use Rattle.fields_core.proofs.TentSquareLemmas.{square-has}
 use Rattle.fields_core.proofs.TentBeside.{cell-in, cell-parts, row-in}
 use Rattle.fields_core.proofs.TentCounting.{tents-parts}
 use Rattle.fields_core.proofs.TentRuleLemmas.{tents-from}

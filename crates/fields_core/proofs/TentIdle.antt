@@ -5,17 +5,18 @@ use Rattle.grid_core.specs.Regions.{row_places, column_places}
 use Rattle.grid_core.specs.Words.{IsLeast}
 use Rattle.gameid_core.specs.Puzzles.{Tents, IsTents}
 use Rattle.fields_core.specs.Parts.{ArePlanesAlive}
-use Rattle.fields_core.specs.Visits.{AreVisited, IsFieldOf, after_houses}
-use Rattle.fields_core.specs.Waits.{AreIdle, AreTentsRested, kind_houses, kind_lines, waiting}
-use Rattle.fields_core.specs.declared.planes.waits.Kind.{Kind}
-use Rattle.fields_core.specs.declared.planes.waits.Kind.TheVariants.{Columns, Rows, Trees, Squares}
-use Rattle.fields_core.specs.declared.planes.waits.Waits.{Waits}
-use Rattle.fields_core.proofs.AnyOrder.{IsSingle, single-keeps}
+use Rattle.fields_core.specs.Visits.{AreVisited, after_houses, AreIdle}
+use Rattle.fields_core.specs.TentNotes.{IsFieldOf}
+use Rattle.fields_core.specs.TentWaits.{AreTentsRested, kind_houses, kind_lines, waiting}
+use Rattle.fields_core.specs.declared.planes.tents.waits.Kind.{Kind}
+use Rattle.fields_core.specs.declared.planes.tents.waits.Kind.TheVariants.{Columns, Rows, Trees, Squares}
+use Rattle.fields_core.specs.declared.planes.tents.waits.Waits.{Waits}
+use Rattle.fields_core.proofs.HouseOrder.{IsSingle, single-keeps}
 use Rattle.fields_core.proofs.AtMostLemmas.{IsFull}
 use Rattle.fields_core.proofs.IdleAfter.{AreQuiet, Keeps, keeps-apart, keeps-itself, list-kept, list-settled}
 unfoldable use Rattle.fields_core.proofs.IdleLemmas.{any_has}
 use Rattle.fields_core.proofs.IdleLemmas.{visited-skip}
-use Rattle.fields_core.proofs.LitIdle.{IsAll, all-keeps}
+use Rattle.fields_core.proofs.AtLeastLemmas.{IsAll, all-keeps}
 use Rattle.fields_core.proofs.PartLemmas.{value-in}
 use Rattle.fields_core.proofs.TentCounting.{tent-field}
 use Rattle.fields_core.proofs.TentVisits.{column-is, row-is}

@@ -14,11 +14,10 @@ use Rattle.fields_core.proofs.HouseLists.{row-long, column-long}
 use Rattle.engine_core.specs.PlaneNotes.{HasBoard}
 use Rattle.fields_core.specs.CountHouse.{CountHouse, exactly, no_count_house, houses_below, start_of}
 use Rattle.fields_core.specs.TentHouses.{is_barred, tent_rules, tent_houses, column_of_tents, row_of_tents, tree_house, square_house}
-use Rattle.fields_core.specs.TentNotes.{AreTentsWritten}
+use Rattle.fields_core.specs.TentNotes.{AreTentsWritten, IsFieldOf}
 use Rattle.fields_core.specs.Tents.{tent_cells}
-use Rattle.fields_core.specs.Trees.{AreBare}
-use Rattle.fields_core.specs.Visits.{IsFieldOf}
-use Rattle.fields_core.specs.declared.planes.notes.TentNotes.{TentNotes}
+use Rattle.fields_core.specs.TentTrees.{AreBare}
+use Rattle.fields_core.specs.declared.planes.tents.tent_notes.TentNotes.{TentNotes}
 use Rattle.fields_core.proofs.PlaneSweeps.{cells-alive}
 
 -- ---- the sides that the memory is for

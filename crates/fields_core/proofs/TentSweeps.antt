@@ -7,12 +7,12 @@ use Rattle.fields_core.specs.Sweeps.{IsSweep}
 use Rattle.fields_core.specs.TentHouses.{tent_houses, is_barred, tent_rules}
 use Rattle.fields_core.specs.Tents.{tent_cells, solves_tents}
 use Rattle.fields_core.specs.Visits.{AreVisited}
-use Rattle.fields_core.specs.Waits.{kind_houses, kind_lines}
-use Rattle.fields_core.specs.declared.planes.waits.Kind.{Kind}
-use Rattle.fields_core.specs.declared.planes.waits.Kind.TheVariants.{Columns, Rows, Squares, Trees}
+use Rattle.fields_core.specs.TentWaits.{kind_houses, kind_lines}
+use Rattle.fields_core.specs.declared.planes.tents.waits.Kind.{Kind}
+use Rattle.fields_core.specs.declared.planes.tents.waits.Kind.TheVariants.{Columns, Rows, Squares, Trees}
 use Rattle.fields_core.proofs.PlaneSweeps.{visits-swept}
-use Rattle.fields_core.proofs.SquareVisits.{squares-are}
-use Rattle.fields_core.proofs.TreeBoards.{trees-are}
+use Rattle.fields_core.proofs.TentSquareVisits.{squares-are}
+use Rattle.fields_core.proofs.TentTreeBoards.{trees-are}
 
 -- the houses of a kind
 abbrev pub all_of_kind : Tents → Kind → List CountHouse

@@ -16,28 +16,29 @@ use Rattle.engine_core.proofs.QueueLemmas.{alive_around}
 use Rattle.gameid_core.specs.Puzzles.{Tents, IsTents}
 use Rattle.fields_core.specs.CountHouse.{one_at_most}
 use Rattle.fields_core.specs.Parts.{ArePlanesAlive}
-use Rattle.fields_core.specs.Squares.{squares_of_row}
+use Rattle.fields_core.specs.TentSquares.{squares_of_row}
 use Rattle.fields_core.specs.TentHouses.{is_barred, column_of_tents, row_of_tents, square_house, tent_houses, tent_rules}
 use Rattle.fields_core.specs.Tents.{solves_tents}
-use Rattle.fields_core.specs.Trees.{trees_of_row}
-use Rattle.fields_core.specs.Waits.{AreIdle, AreTentsRested, AreTentsWoken, kind_houses, kind_lines, waiting}
-use Rattle.fields_core.specs.declared.planes.waits.Kind.{Kind}
-use Rattle.fields_core.specs.declared.planes.waits.Kind.TheVariants.{Columns, Rows, Trees, Squares}
-use Rattle.fields_core.specs.declared.planes.waits.Waits.{Waits}
-use Rattle.fields_core.proofs.AnyOrder.{IsSingle, singles-kept}
+use Rattle.fields_core.specs.TentTrees.{trees_of_row}
+use Rattle.fields_core.specs.TentWaits.{AreTentsRested, AreTentsWoken, kind_houses, kind_lines, waiting}
+use Rattle.fields_core.specs.Visits.{AreIdle}
+use Rattle.fields_core.specs.declared.planes.tents.waits.Kind.{Kind}
+use Rattle.fields_core.specs.declared.planes.tents.waits.Kind.TheVariants.{Columns, Rows, Trees, Squares}
+use Rattle.fields_core.specs.declared.planes.tents.waits.Waits.{Waits}
+use Rattle.fields_core.proofs.HouseOrder.{IsSingle, singles-kept}
 use Rattle.fields_core.proofs.AtMostLemmas.{IsFull}
 use Rattle.fields_core.proofs.IdleLemmas.{any_has, any-below, any-none, any-one, idle-far}
-use Rattle.fields_core.proofs.LitIdle.{IsAll, alls-kept}
+use Rattle.fields_core.proofs.AtLeastLemmas.{IsAll, alls-kept}
 use Rattle.fields_core.proofs.PartLemmas.{value-in}
 use Rattle.fields_core.proofs.PlaneSweeps.{counted-some}
 use Rattle.fields_core.proofs.TentCounting.{tent-field}
-use Rattle.fields_core.proofs.SquareLemmas.{square-has}
-use Rattle.fields_core.proofs.SquareVisits.{squares-are}
+use Rattle.fields_core.proofs.TentSquareLemmas.{square-has}
+use Rattle.fields_core.proofs.TentSquareVisits.{squares-are}
 use Rattle.fields_core.proofs.StepLaws.{steps-some}
 use Rattle.fields_core.proofs.PartIdle.{IsPartOf, closed-idle, in-back, in-below, in-front}
 use Rattle.fields_core.proofs.TentBeside.{cell-parts, step-lies}
 use Rattle.fields_core.proofs.TentVisits.{square-is, square_places, tree-is}
-use Rattle.fields_core.proofs.TreeBoards.{trees-are}
+use Rattle.fields_core.proofs.TentTreeBoards.{trees-are}
 use Rattle.fields_core.proofs.CountListLemmas.{all-houses}
 
 -- ---- where houses lie

@@ -40,14 +40,14 @@ pub use Rattle.fields_core.specs.LightWaits.{AreIdleBut, AreLightsReady, AreLine
 pub use Rattle.fields_core.specs.LightWaits.{AreSafeInColumns, AreSettled, AreSpread, AreWhitesIdleBut}
 pub use Rattle.fields_core.specs.LightWaits.{all_runs, lits_of_row, meets_line, run_houses, run_lines, waiting_runs, white_houses}
 pub use Rattle.fields_core.specs.LightWords.{numbers_of_row}
-unfoldable pub use Rattle.fields_core.specs.NumberWords.{is_numbered}
-pub use Rattle.fields_core.specs.PairingScratches.{HasPairingRoom}
+unfoldable pub use Rattle.fields_core.specs.LightNumbers.{is_numbered}
+pub use Rattle.fields_core.specs.TentScratches.{HasPairingRoom}
 pub use Rattle.fields_core.specs.Parts.{ArePieces, ArePlanesAlive, IsBroken, IsHouseBroken, IsHouseLeft, IsHouseOf, IsStruck, Piece, piece_at, piece_of}
 unfoldable pub use Rattle.fields_core.specs.Parts.{without_value}
-pub use Rattle.fields_core.specs.RunLines.{AreAround, AreRunsOf, AreRunsVisited, IsClash, ReachesAlong, along}
-pub use Rattle.fields_core.specs.RunWords.{AreFilled, AreWritten}
-pub use Rattle.fields_core.specs.Runs.{RunsOn, ShinesAlong}
-pub use Rattle.fields_core.specs.Squares.{squares_of_row}
+pub use Rattle.fields_core.specs.LightRunLines.{AreAround, AreRunsOf, AreRunsVisited, IsClash, ReachesAlong, along}
+pub use Rattle.fields_core.specs.LightRunWords.{AreFilled, AreWritten}
+pub use Rattle.fields_core.specs.LightSight.{RunsOn, ShinesAlong}
+pub use Rattle.fields_core.specs.TentSquares.{squares_of_row}
 pub use Rattle.fields_core.specs.Sweeps.{IsSweep}
 pub use Rattle.fields_core.specs.Tallies.{IsTally, stays}
 pub use Rattle.fields_core.specs.TentFaults.{IsTentFault}
@@ -60,7 +60,10 @@ pub use Rattle.fields_core.specs.TentSolutions.{IsTentSolution}
 pub use Rattle.fields_core.specs.TentTouching.{IsTentAmong, IsWindow}
 pub use Rattle.fields_core.specs.Tents.{tent, tent_cells, tree}
 unfoldable pub use Rattle.fields_core.specs.Tents.{can_be_paired, touches}
-pub use Rattle.fields_core.specs.Trees.{AreBare, AreBeside, AreRowsOf, AreTakenBeside, IsNear, IsRowOf, trees_of_row}
-unfoldable pub use Rattle.fields_core.specs.Trees.{is_beside, wants_tent, without_zeros}
-pub use Rattle.fields_core.specs.Visits.{AreVisited, IsFieldOf}
-pub use Rattle.fields_core.specs.Waits.{AreIdle, AreTentsRested, AreTentsSettled, AreTentsWoken, AreTentsWokenSince, all_of_kind, kind_houses, kind_lines, waiting}
+pub use Rattle.fields_core.specs.TentTrees.{AreBare, AreBeside, AreTakenBeside, IsNear, trees_of_row}
+pub use Rattle.fields_core.specs.LineWords.{AreRowsOf, IsRowOf}
+unfoldable pub use Rattle.fields_core.specs.TentTrees.{is_beside, wants_tent, without_zeros}
+pub use Rattle.fields_core.specs.Visits.{AreVisited}
+pub use Rattle.fields_core.specs.TentNotes.{IsFieldOf}
+pub use Rattle.fields_core.specs.TentWaits.{AreTentsRested, AreTentsSettled, AreTentsWoken, AreTentsWokenSince, all_of_kind, kind_houses, kind_lines, waiting}
+pub use Rattle.fields_core.specs.Visits.{AreIdle}

@@ -5,8 +5,8 @@ use Rattle.engine_core.specs.RuleSystem.{RuleSystem}
 use Rattle.gameid_core.specs.Puzzles.{Light}
 use Rattle.gameid_core.specs.declared.light_up.cell.LightCell.{LightCell}
 use Rattle.gameid_core.specs.declared.light_up.cell.LightCell.TheVariants.{White, Black, Numbered}
-use Rattle.fields_core.specs.declared.light_up.told.LightHouse.{LightHouse}
-use Rattle.fields_core.specs.declared.light_up.told.LightHouse.TheVariants.{Number, Row, Column, Lit}
+use Rattle.fields_core.specs.declared.light_up.light_house.LightHouse.{LightHouse}
+use Rattle.fields_core.specs.declared.light_up.light_house.LightHouse.TheVariants.{Number, Row, Column, Lit}
 use Rattle.fields_core.specs.CountHouse.{CountHouse, exactly, one_at_most, one_at_least, houses_below, CountPuzzle, rules_of}
 use Rattle.fields_core.specs.Light.{light_cells, white, joined_in_row, joined_in_column, solves_lights}
 

@@ -11,12 +11,12 @@ use Rattle.fields_core.specs.Light.{clear, light_cells, joined_in_column, white}
 use Rattle.fields_core.specs.LightHouses.{column_house, house_at, in_grid, in_row, lit_house, number_house, row_house, seen_from}
 use Rattle.fields_core.specs.LightPlanes.{ArePlanesOf, AreTables}
 use Rattle.fields_core.specs.LightWords.{numbers_of_row, row_runs_of_row}
-use Rattle.fields_core.specs.RunLines.{column_runs_of_column}
-use Rattle.fields_core.specs.Waits.{AreIdle}
-use Rattle.fields_core.specs.declared.planes.lights.notes.LightNotes.{LightNotes}
-use Rattle.fields_core.specs.declared.planes.lights.waits.LineWaits.{LineWaits}
-use Rattle.fields_core.specs.declared.planes.lights.waits.RunKind.{RunKind}
-use Rattle.fields_core.specs.declared.planes.lights.waits.RunKind.TheVariants.{Rows, Columns}
+use Rattle.fields_core.specs.LightRunLines.{column_runs_of_column}
+use Rattle.fields_core.specs.Visits.{AreIdle}
+use Rattle.fields_core.specs.declared.planes.light_up.light_notes.LightNotes.{LightNotes}
+use Rattle.fields_core.specs.declared.planes.light_up.waits.LineWaits.{LineWaits}
+use Rattle.fields_core.specs.declared.planes.light_up.waits.RunKind.{RunKind}
+use Rattle.fields_core.specs.declared.planes.light_up.waits.RunKind.TheVariants.{Rows, Columns}
 
 -- ---- houses that wait by line
 -- the runs of a kind at a line, how many lines there are, all of them, and which of them wait

@@ -8,7 +8,7 @@ use Rattle.grid_core.specs.declared.planes.line.Line.TheVariants.{Row}
 use Rattle.engine_core.specs.RuleSystem.{has_place}
 use Rattle.fields_core.specs.Count.{is_open}
 use Rattle.fields_core.specs.CountHouse.{CountHouse, IsHouse, after_house}
-use Rattle.fields_core.specs.declared.planes.part.Part.{Part}
+use Rattle.fields_core.specs.declared.planes.line_parts.Part.{Part}
 
 -- some places of a line, as bits
 pub record Piece : Type 0 where

@@ -6,8 +6,8 @@ ghost use Rattle.fields_core.specs.Common.{AreAdded, AreNamed, IsAround, IsLates
 use crate::count::house::count_passing;
 use crate::count::name::HouseName;
 use crate::light_up::cells::{LONGEST, columns, is_white, rows};
+use crate::light_up::light_house::LightHouse;
 use crate::light_up::line::WhiteLine;
-use crate::light_up::told::LightHouse;
 use gameid_core::{LightCell, LightPuzzle};
 use std::alloc::{AllocError, Global};
 

@@ -4,7 +4,7 @@ ghost use Rattle.std.specs.Prelude.{◌<◌, ◌≡◌, ◌≤◌, false, true};
 ghost use Rattle.fields_core.specs.Parts.{ArePartsCounted};
 ghost use Rattle.fields_core.specs.Common.{ArePieces, ArePlanesAlive, IsFurther, IsHouseBroken, IsHouseLeft, IsStruck};
 
-use crate::planes::part::Parts;
+use crate::planes::line_parts::Parts;
 use grid_core::{Planes, Word};
 
 /// How many cells of the parts can be a one, and how many of these are undecided: can be a zero too.

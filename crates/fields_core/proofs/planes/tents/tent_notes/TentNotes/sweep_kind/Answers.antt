@@ -1,0 +1,75 @@
+use Rattle.fields_core.proofs.Common.{arith, has_bit, refl, sym, ℕ, ◌∙◌, ◌≡◌, ◌≤◌}
+use Rattle.grid_core.proofs.TurnLemmas.{fewer_left}
+use Rattle.gameid_core.specs.Puzzles.{Tents}
+use Rattle.grid_core.specs.Planes.{has}
+use Rattle.fields_core.specs.TentWaits.{AreTentsRested, kind_lines}
+use Rattle.fields_core.specs.declared.planes.tents.waits.Kind.{Kind}
+use Rattle.fields_core.specs.declared.planes.tents.waits.Kind.TheVariants.{Columns, Rows, Trees, Squares}
+use Rattle.fields_core.proofs.TentIdle.{field-further, passed-all, passed-broken, passed-first, passed-idle, passed-next}
+use Rattle.fields_core.proofs.planes.tents.tent_notes.TentNotes.sweep_kind.Goals as goal
+use Rattle.fields_core.proofs.planes.tents.tent_notes.TentNotes.sweep_kind.Goals.{else-len, then-len}
+
+few-lines : (p : Tents) (kind : Kind) {room : ℕ} → p.size.w ≤ room → p.size.h ≤ room → kind_lines p kind ≤ room
+few-lines p Columns narrow low = narrow
+few-lines p Rows narrow low = low
+few-lines p Trees narrow low = low
+few-lines p Squares narrow low = low
+
+pub loop-left-init : goal.loop-left-init
+loop-left-init g c = record {
+  passed = passed-first g.W.Word.bits c.args.puzzle.now c.args.kind c.args.self.now.waits (has_bit (g.W.Word.bits c.lines-left.result)) c.requires.ready.field.alive
+      c.requires.ready.rested
+      (c.lines-left.ensures c.args.puzzle.now c.requires.ready.field.size);
+  trees = refl;
+  waits = refl;
+}
+
+pub loop-left-smaller : goal.loop-left-smaller
+loop-left-smaller g c =
+    fewer_left (has_bit (g.W.Word.bits c.loop-left.left)) (has_bit (g.W.Word.bits c.without_lowest-left.result)) g.W.Word.room c.lowest.result
+    c.lowest.ensures.within c.lowest.ensures.has (λ k. c.without_lowest-left.ensures c.lowest.result k c.lowest.ensures)
+
+pub returns-then-not-visit-clause-visited : goal.returns-then-not-visit-clause-visited
+returns-then-not-visit-clause-visited g c =
+    passed-broken c.args.puzzle.now c.args.kind c.loop-left.invariant.passed c.lowest.ensures c.visit.ensures.visited c.if-not-visit.true
+
+pub loop-left-preserved : goal.loop-left-preserved
+loop-left-preserved g c = record {
+  passed = passed-next c.args.puzzle.now c.args.kind c.loop-left.invariant.passed c.lowest.ensures c.visit.ensures.visited c.requires.ready.field.lawful
+      c.requires.ready.field.size c.if-not-visit.false (has_bit (g.W.Word.bits c.without_lowest-left.result))
+      (λ k. c.without_lowest-left.ensures c.lowest.result k c.lowest.ensures);
+  trees = c.visit.ensures.trees ∙ c.loop-left.invariant.trees;
+  waits = c.visit.ensures.waits ∙ c.loop-left.invariant.waits;
+}
+
+pub returns-clause-visited : goal.returns-clause-visited
+returns-clause-visited g c =
+    passed-all c.args.puzzle.now c.args.kind c.loop-left.invariant.passed
+    (few-lines c.args.puzzle.now c.args.kind c.requires.ready.field.narrow c.requires.ready.field.low) (sym c.is_some.ensures ∙ c.loop-left-test.false)
+
+pub returns-clause-ready : goal.returns-clause-ready
+returns-clause-ready g c = λ _.
+    let bits = g.W.Word.bits in
+    let p = c.args.puzzle.now in
+    let now = c.loop-left.planes in
+    let passed = c.loop-left.invariant.passed in
+    let further = passed.visited.further in
+    let before : AreTentsRested bits p c.loop-left.self.waits (has c.args.planes.now) = rw c.loop-left.invariant.waits c.requires.ready.rested in
+    let size = c.requires.ready.field.size in
+    let still : c.if-len.self.trees ≡ c.args.self.now.trees = elim c.if-len.branch [
+      | then-len w ↦ rw w.self-is c.loop-left.invariant.trees
+      | else-len w ↦ rw w.self-is c.loop-left.invariant.trees
+    ] in
+    record {
+      field = rw still (field-further c.requires.ready.field further passed.visited.alive);
+      rested = c.settle.ensures p (has now)
+          (elim c.if-len.branch [
+            | then-len w ↦ rw w.self-is (w.wake.ensures p c.args.planes.now c.requires.ready.field.lawful size (sym c.len-len.ensures.len)
+                c.requires.ready.field.alive passed.visited.alive further before)
+            | else-len w ↦
+                let same : now.len ≡ c.args.planes.now.len = omega (arith, further.grows, w.if-len.false, c.len.ensures.len, c.len-len.ensures.len) in
+                rw (w.self-is, further.same same) before
+          ])
+          (passed-idle p c.args.kind passed
+          (few-lines p c.args.kind c.requires.ready.field.narrow c.requires.ready.field.low) (sym c.is_some.ensures ∙ c.loop-left-test.false));
+    }

@@ -1,0 +1,27 @@
+use Rattle.fields_core.proofs.Common.{eq-eqb, refl, sym, ◌%◌, ◌/◌, ◌∙◌}
+use Rattle.grid_core.specs.Planes.{AreLinesOf, has}
+use Rattle.fields_core.proofs.TentWaits.{lost-one, lost-zero, place-in_planes, rested-from}
+use Rattle.fields_core.proofs.planes.tents.waits.Waits.new.Goals as goal
+use Rattle.fields_core.proofs.planes.tents.waits.Waits.new.Goals.{After-one-2}
+
+pub has-requires-clause-place_in : goal.has-requires-clause-place_in
+has-requires-clause-place_in g c = place-in_planes c.args.puzzle.now c.args.planes.now c.requires.board.same_size c.in-Some.is c.requires.closed_but
+
+-- the lines of the cell
+lines : (g : _) (c : After-one-2 g) → AreLinesOf g.W.Word.bits (record { columns = c.one.result; rows = c.one-2.result })
+    (c.in-Some.place / c.args.puzzle.now.size.w) (c.in-Some.place % c.args.puzzle.now.size.w)
+lines g c =
+    (c.one.ensures _ ∙ rw (c.split-y.ensures.column, c.requires.board.same_size) (eq-eqb _ _ refl), c.one-2.ensures _ ∙ rw (c.split-y.ensures.row, c.requires.board.same_size) (eq-eqb _ _ refl))
+
+pub returns-then-has : goal.returns-then-has
+returns-then-has g c =
+    rested-from g.W.Word.bits c.args.puzzle.now c.requires.lawful c.split-y.ensures.lawful c.requires.board.same_size c.in-Some.is c.requires.closed_but
+    (lost-zero g.W.Word.bits (has c.args.planes.now) _ _ _ _ (sym c.has.ensures ∙ c.if-has.true) (lines g (goal.at.returns-then-has g c).After-one-2)) c.woken.ensures
+
+pub returns : goal.returns
+returns g c =
+    rested-from g.W.Word.bits c.args.puzzle.now c.requires.lawful c.split-y.ensures.lawful c.requires.board.same_size c.in-Some.is c.requires.closed_but
+    (lost-one g.W.Word.bits (has c.args.planes.now) _ _ _ _ (sym c.has.ensures ∙ c.if-has.false) (lines g (goal.at.returns g c).After-one-2)) c.woken-2.ensures
+
+pub returns-in_default : goal.returns-in_default
+returns-in_default g c = c.all.ensures c.args.puzzle.now (has c.args.planes.now) c.requires.board.suited

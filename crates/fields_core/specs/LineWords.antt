@@ -1,0 +1,23 @@
+-- Cells of rows and of columns as words of bits.
+use Rattle.std.specs.Prelude.{◌≡◌, ℕ, ◌+◌, ◌*◌, ◌<◌, ◌≤◌, Bool, ◌&&◌, nat_lt, List, length, slice_index}
+use Rattle.grid_core.specs.Extent.{Extent}
+use Rattle.grid_core.specs.Words.{has_bit}
+
+-- the word has those cells of the row that pass
+abbrev pub IsRowOf : ℕ → (ℕ → Bool) → ℕ → ℕ → Type 0
+IsRowOf w passes y bits = (x : ℕ) → has_bit bits x ≡ (nat_lt x w && passes (y * w + x))
+
+-- of these words each row has one
+pub record AreRowsOf (size : Extent) (passes : ℕ → Bool) (words : List ℕ) : Type 0 where
+  pub long : size.h ≤ length words
+  pub each : (y : ℕ) → y < size.h → IsRowOf size.w passes y (slice_index words y)
+
+-- the word has those cells of the column that pass
+abbrev pub IsColumnOf : Extent → (ℕ → Bool) → ℕ → ℕ → Type 0
+IsColumnOf size passes x bits =
+    (y : ℕ) → has_bit bits y ≡ (nat_lt y size.h && passes (y * size.w + x))
+
+-- of these words each column has one
+pub record AreColumnsOf (size : Extent) (passes : ℕ → Bool) (words : List ℕ) : Type 0 where
+  pub long : size.w ≤ length words
+  pub each : (x : ℕ) → x < size.w → IsColumnOf size passes x (slice_index words x)
