@@ -1,10 +1,6 @@
 -- Houses of one at most, visited in any order.
 unfoldable use Rattle.engine_core.specs.RuleSystem.{has_place}
-use Rattle.fields_core.proofs.Common.{AllByRecursion, AreDistinct, Bool, Candidates, CountHouse, IsHouse, Layers, List, [], after_house, and-true, and_from, and_parts, ap, arith, cases_Bool, cells_of, common_steps, count_by, distinct-from, eq-eqb, eqb, eqb-true, false, false_from_ne_true, false≢true, fun_ext, inl, inr, list_any, lt-ltb, ltb, ltb-false, ltb-true, not, not-true, or_cases, or_left, or_parts, or_right, refl, sym, true, true≢false, ℕ, ◌&&◌, ◌<◌, ◌||◌, ◌∙◌, ◌∷◌, ◌≡◌, ◌≢◌, ◌⊎◌}
-use Rattle.grid_core.specs.Candidates.{IsInside}
-use Rattle.grid_core.specs.Planes.{has}
-use Rattle.fields_core.specs.Parts.{ArePlanesAlive}
-use Rattle.fields_core.specs.Visits.{AreVisited}
+use Rattle.fields_core.proofs.Common.{AllByRecursion, AreDistinct, ArePlanesAlive, AreVisited, Bool, Candidates, CountHouse, IsHouse, IsInside, Layers, List, [], after_house, and-true, and_from, and_parts, ap, arith, cases_Bool, cells_of, common_steps, count_by, distinct-from, eq-eqb, eqb, eqb-true, false, false_from_ne_true, false≢true, fun_ext, has, inl, inr, list_any, lt-ltb, ltb, ltb-false, ltb-true, not, not-true, or_cases, or_left, or_parts, or_right, refl, sym, true, true≢false, ℕ, ◌&&◌, ◌<◌, ◌||◌, ◌∙◌, ◌∷◌, ◌≡◌, ◌≢◌, ◌⊎◌}
 unfoldable use Rattle.fields_core.specs.Visits.{after_houses}
 use Rattle.fields_core.proofs.AtMostLemmas.{IsFull, IsOneAtMost, visits-met, visits-two, zeros_of}
 unfoldable use Rattle.fields_core.proofs.AtMostLemmas.{is_met, without_met}

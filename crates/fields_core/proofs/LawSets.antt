@@ -20,8 +20,7 @@ use Rattle.fields_core.proofs.TentPairLemmas.{count-is, listed-tents, others-unp
 use Rattle.fields_core.proofs.TentRuleLemmas.{tents-from-solution, tents-tell, solution-from-tents}
 use Rattle.fields_core.proofs.TentWaits.{rested-woken}
 use Rattle.fields_core.proofs.VisitLemmas.{sweep-first, sweep-more}
-use Rattle.fields_core.proofs.Common.{append-nil, append_assoc, eq-eqb, map-append, mul-le-mul_right, ne_eqb}
-use Rattle.std.proofs.lemmas.Nat.{mul-lt}
+use Rattle.fields_core.proofs.Common.{append-nil, append_assoc, eq-eqb, map-append, mul-le-mul_right, mul-lt, ne_eqb}
 
 pub ruleset count_rules_laws = (start-blocked, same-shape, start-all, named-long, named-cells, partly-first)
 

@@ -31,18 +31,18 @@ pub mod TentNumbers
 pub mod TentNext
 pub mod TentPairLemmas
 pub mod TentRuleLemmas
-pub mod ClosedGrids
 pub mod VisitLemmas
 pub mod AtMostLemmas
 pub mod CellLemmas
 pub mod TentVisits
 pub mod TentTreeBoards
+pub mod RowWords
 pub mod TentTreeWords
 pub mod TentSquareLemmas
 pub mod TentSquareVisits
 pub mod IdleLemmas
+mod WaitLemmas
 pub mod TentWaits
-pub mod TentSweeps
 pub mod LightRunWords
 pub mod LightRunLines
 pub mod LightRunBegins
@@ -61,11 +61,10 @@ mod LightSafeCells
 pub mod PartIdle
 pub mod TentIdle
 pub mod PlaneSweeps
-pub mod LightBoards
 pub mod LightLonely
 pub mod LightCompleting
 pub mod TentCompleting
-mod LightPassed
+mod PassedLines
 mod LightReach
 mod LightRests
 mod QuietVisits

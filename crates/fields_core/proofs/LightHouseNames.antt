@@ -1,12 +1,11 @@
 -- Houses of Light Up by what tells them. A place that tells a house lies in the grid.
-use Rattle.fields_core.proofs.Common.{line_cells, line_white, IsLight, begins_at, light_cells, light_house, mod-lt, ◌/◌, ◌%◌, ap₂, one_at_least, places_of, segment_places, Segment, ◌++◌, Bool, IsAround, Light, [], arith, begins_column_run, begins_row_run, cases_lt, column_house, cond, false, get_or_past, inl, inr, length, lit_house, refl, row_house, run_house, true, and_parts, Black, white, ℕ, ◌*◌, ◌+◌, ◌-◌, ◌<◌, ◌∷◌, ◌≡◌, ap, sym, ◌∙◌}
+use Rattle.fields_core.proofs.Common.{Black, Bool, CountHouse, IsAround, IsLight, Light, Segment, [], and_parts, ap, ap₂, arith, begins_at, begins_column_run, begins_row_run, cases_lt, column_house, cond, false, get_or_past, inl, inr, length, light_cells, light_house, line_cells, line_white, lit_house, mod-lt, one_at_least, places_of, refl, row_house, run_house, segment_places, sym, true, white, ℕ, ◌%◌, ◌*◌, ◌++◌, ◌+◌, ◌-◌, ◌/◌, ◌<◌, ◌∙◌, ◌∷◌, ◌≡◌}
 use Rattle.fields_core.proofs.LightHouseLaws.{white-in}
 use Rattle.fields_core.proofs.LightLatest.{column-house-is, lit-lines, row-house-is}
 use Rattle.fields_core.proofs.SegmentLemmas.{places-three}
 use Rattle.fields_core.proofs.TentBeside.{row-in, whole-cell}
 use Rattle.fields_core.specs.declared.light_up.light_house.LightHouse.{LightHouse}
 use Rattle.fields_core.specs.declared.light_up.light_house.LightHouse.TheVariants.{Column, Lit, Number, Row}
-use Rattle.fields_core.specs.CountHouse.{CountHouse}
 
 -- ---- a house is told
 told-if : (b : Bool) (house : CountHouse) → length (cond b (house ∷ []) []) ≡ 1 → b ≡ true

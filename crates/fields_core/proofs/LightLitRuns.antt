@@ -1,8 +1,5 @@
 -- Houses of white cells of Light Up that are idle, and stay so while only 0 is taken.
-use Rattle.fields_core.proofs.Common.{false, Candidates, IsLight, Light, ap, cases_eq, column_run, has_place, inl, inr, joined_in_column, joined_in_row, light_cells, lit_house, ne_eqb, not, place-back, place-front, place-kept, refl, row_run, seen_from, true, white, ℕ, ◌<◌, ◌≡◌, cases_Bool, Layers, ArePlanesAlive}
-use Rattle.grid_core.specs.Planes.{has}
-use Rattle.fields_core.specs.LightWaits.{AreSafe}
-use Rattle.fields_core.specs.Visits.{after_houses, AreIdle}
+use Rattle.fields_core.proofs.Common.{AreIdle, ArePlanesAlive, AreSafe, Candidates, IsLight, Layers, Light, after_houses, ap, cases_Bool, cases_eq, column_run, false, has, has_place, inl, inr, joined_in_column, joined_in_row, light_cells, lit_house, ne_eqb, not, place-back, place-front, place-kept, refl, row_run, seen_from, true, white, ℕ, ◌<◌, ◌≡◌}
 use Rattle.fields_core.proofs.AtMostLemmas.{IsFull}
 use Rattle.fields_core.proofs.LightCounting.{in-column-run, in-row-run, light-board}
 use Rattle.fields_core.proofs.LightHouseLaws.{column-white-end, row-self, white-in}

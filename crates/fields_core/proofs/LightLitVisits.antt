@@ -1,11 +1,5 @@
 -- Visits of the white cells of Light Up on planes.
-use Rattle.fields_core.proofs.Common.{and-false, and-true, ArePieces, Bool, Extent, ArePlanesAlive, IsFurther, IsHouse, IsHouseOf, IsLight, Layers, Light, List, Piece, and_from, and_parts, any_below, any_below-none, any_below-some, ap, arith, cases_Bool, cases_eq, column_run, common_steps, count_below, count_below-pos, count_below-same, crosses, distinct-from, div-mul-add, eq-eqb, eqb, eqb-true, false, false_from_ne_true, has_bit, has_place, houses_below, inl, inr, joined_in_column, joined_in_row, length, lies_in, lies_in_first, light_cells, light_houses, lit_house, lt-ltb, ltb-true, mod-lt, ne_eqb, not, one_at_least, place-column, refl, row_run, seen_from, subst, sym, true, true≢false, white, ℕ, ◌%◌, ◌&&◌, ◌*◌, ◌+◌, ◌/◌, ◌<◌, ◌||◌, ◌∙◌, ◌≡◌, ◌≤◌}
-use Rattle.grid_core.specs.Planes.{bit_of, has}
-use Rattle.grid_core.specs.declared.planes.line.Line.TheVariants.{Row, Column}
-use Rattle.grid_core.proofs.PlaneLemmas.{place-in}
-use Rattle.fields_core.specs.LightHouses.{number_house, row_house, column_house}
-use Rattle.fields_core.specs.LightWords.{IsRowRun, IsColumnRun}
-use Rattle.fields_core.specs.Visits.{AreVisited}
+use Rattle.fields_core.proofs.Common.{ArePieces, ArePlanesAlive, AreVisited, Bool, Column, Extent, IsColumnRun, IsFurther, IsHouse, IsHouseOf, IsLight, IsRowRun, Layers, Light, List, Piece, Row, and-false, and-true, and_from, and_parts, any_below, any_below-none, any_below-some, ap, arith, cases_Bool, cases_eq, column_house, column_run, common_steps, count_below, count_below-pos, count_below-same, crosses, distinct-from, div-mul-add, eq-eqb, eqb, eqb-true, false, false_from_ne_true, has_bit, has_place, houses_below, inl, inr, joined_in_column, joined_in_row, length, lies_in, lies_in_first, light_cells, light_houses, lit_house, lt-ltb, ltb-true, mod-lt, ne_eqb, not, number_house, one_at_least, place-column, place-in, refl, row_house, row_run, seen_from, subst, sym, true, true≢false, white, ℕ, ◌%◌, ◌&&◌, ◌*◌, ◌+◌, ◌/◌, ◌<◌, ◌||◌, ◌∙◌, ◌≡◌, ◌≤◌}
 use Rattle.fields_core.proofs.CellLemmas.{has-append, same-truth}
 use Rattle.fields_core.proofs.LightCounting.{column-run-joined, in-column-run, in-row-run, light-board, light-counting, row-run-joined}
 use Rattle.fields_core.proofs.LightHouseLaws.{column-parts, column-white-end, row-parts, row-self, white-in}
@@ -13,10 +7,9 @@ use Rattle.fields_core.proofs.LightNumberVisits.{both_pieces, lies-both, pieces-
 use Rattle.fields_core.proofs.LightRunBegins.{row-white-start}
 use Rattle.fields_core.proofs.PartCounts.{place-count}
 use Rattle.fields_core.proofs.PartLemmas.{counted-more, counted-none}
-use Rattle.fields_core.proofs.PlaceLists.{count-every}
+use Rattle.fields_core.proofs.PlaceLists.{count-every, filter-has}
 use Rattle.fields_core.proofs.TentBeside.{cell-in, row-in, whole-cell}
 use Rattle.fields_core.proofs.TentVisits.{IsVisitOf}
-use Rattle.fields_core.proofs.TentTreeBoards.{filter-has}
 use Rattle.fields_core.proofs.VisitLemmas.{among-back, among-below, among-house, among-one, visited-none, visited-one}
 
 -- ---- the house of a white cell is a house
@@ -28,11 +21,6 @@ lit-is p {c} lawful lt on =
     (among-back _ (houses_below (row_house p) (light_cells p)) _
     (among-back _ (houses_below (column_house p) (light_cells p)) _
     (among-below _ (lit_house p) c (light_cells p) lt (rw on (among-one _))))))
-
--- ---- the cell at a place of a row
-pub has-at : (q : Layers) (y u v : ℕ) {w : ℕ} → q.size.w ≡ w → u < w → v < 2 → has q (y * w + u) v ≡ bit_of q.rows y v u
-unfolding has
-has-at q y u v same lt low = rw (same, div-mul-add y _ u lt, place-column _ y u lt, lt-ltb v 2 low) refl
 
 -- ---- the cells that a cell sees, by the words of its runs
 -- the runs of a cell as words, and planes of words that hold a line

@@ -1,8 +1,6 @@
 -- Words of the cells that a cell of Light Up sees.
-use Rattle.fields_core.proofs.Common.{Bool, and_parts, any_below, any_below-none, any_below-some, ap, arith, cases_Bool, common_steps, cond, count_below, count_below-none, count_below-pos, eq-eqb, eqb, eqb-true, false, inl, inr, le-ltb, least_below, least_below-passes, lt-ltb, ltb, not, refl, suc, sym, true, true≢false, zero, ℕ, ◌&&◌, ◌+◌, ◌<◌, ◌∙◌, ◌≡◌}
-use Rattle.grid_core.specs.Words.{IsLeast}
+use Rattle.fields_core.proofs.Common.{Bool, IsLeast, and_parts, any_below, any_below-none, any_below-some, ap, arith, cases_Bool, common_steps, cond, count_below, count_below-few, count_below-lt, count_below-none, count_below-pos, eq-eqb, eqb, eqb-true, false, inl, inr, le-ltb, least_below, least_below-passes, lt-ltb, ltb, not, refl, suc, sym, true, true≢false, zero, ℕ, ◌&&◌, ◌+◌, ◌<◌, ◌∙◌, ◌≡◌}
 use Rattle.fields_core.proofs.PlaceLists.{num}
-use Rattle.grid_core.proofs.CandidateLemmas.{count_below-few, count_below-lt}
 
 -- ---- the least place
 pub some-least : (passes : ℕ → Bool) (n : ℕ) → any_below passes n ≡ true → (least : ℕ) × IsLeast passes n least

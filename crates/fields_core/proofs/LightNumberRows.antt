@@ -1,10 +1,5 @@
 -- The numbers of a row of Light Up: those that wait, by a word of its numbered cells.
-use Rattle.fields_core.proofs.Common.{Black, Candidates, Light, LightCell, Numbered, White, [], ap, arith, cases_Bool, false, get_or, has_bit, houses_below, inl, inr, light_cells, lt-ltb, number_house, refl, sym, true≢false, ℕ, ◌&&◌, ◌*◌, ◌+◌, ◌∙◌, ◌≡◌}
-use Rattle.fields_core.specs.LightWaits.{AreIdleBut}
-use Rattle.fields_core.specs.LightWords.{numbers_of_row}
-use Rattle.fields_core.specs.LightNumbers.{is_numbered}
-use Rattle.fields_core.specs.LineWords.{IsRowOf}
-use Rattle.fields_core.specs.Visits.{after_houses}
+use Rattle.fields_core.proofs.Common.{AreIdleBut, Black, Candidates, IsRowOf, Light, LightCell, Numbered, White, [], after_houses, ap, arith, cases_Bool, false, get_or, has_bit, houses_below, inl, inr, is_numbered, light_cells, lt-ltb, number_house, numbers_of_row, refl, sym, true≢false, ℕ, ◌&&◌, ◌*◌, ◌+◌, ◌∙◌, ◌≡◌}
 use Rattle.fields_core.proofs.VisitLemmas.{below-rows}
 
 -- ---- numbers that have no house

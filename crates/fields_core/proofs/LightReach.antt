@@ -1,16 +1,8 @@
 -- The rows of the white cells of Light Up that wait.
-use Rattle.fields_core.proofs.Common.{at_line, ArePlanesAlive, Layers, le-ltb, ltb, IsLight, Light, any_below, any_below-none, and_from, arith, clear, common_steps, cases_Bool, cases_lt, div-mul-add, eqb, false, false_from_ne_true, has_bit, has_place, inl, inr, joined_in_column, joined_in_row, lt-ltb, max, min, not, place-append, place-column, place-filter, refl, row_run, column_run, seen_from, sym, true, true≢false, white, Bool, ℕ, ◌%◌, ◌&&◌, ◌*◌, ◌+◌, ◌/◌, ◌<◌, ◌∙◌, ◌≡◌, ◌≤◌, ◌⊎◌}
-use Rattle.grid_core.specs.Planes.{line_len, lines_beside, number_of}
-use Rattle.grid_core.specs.declared.planes.line.Line.{Line}
-use Rattle.grid_core.specs.declared.planes.line.Line.TheVariants.{Row, Column}
-use Rattle.grid_core.proofs.PlaneLemmas.{place-in}
-use Rattle.fields_core.proofs.LightLitVisits.{has-at}
-use Rattle.grid_core.specs.Words.{IsLeast}
-use Rattle.grid_core.specs.declared.planes.touched.Touched.{Touched}
-use Rattle.fields_core.specs.LightWaits.{AreColumnsParted, AreParted, IsAway, IsReach}
-use Rattle.fields_core.specs.LineWords.{IsRowOf}
+use Rattle.fields_core.proofs.Common.{AreColumnsParted, AreParted, ArePlanesAlive, Bool, Column, IsAway, IsLeast, IsLight, IsReach, IsRowOf, Layers, Light, Line, Row, Touched, and_from, any_below, any_below-none, arith, at_line, cases_Bool, cases_lt, clear, column_run, common_steps, div-mul-add, eqb, false, false_from_ne_true, has_bit, has_place, inl, inr, joined_in_column, joined_in_row, le-ltb, line_len, lines_beside, lt-ltb, ltb, max, min, not, number_of, place-append, place-column, place-filter, place-in, refl, row_run, seen_from, sym, true, true≢false, white, ℕ, ◌%◌, ◌&&◌, ◌*◌, ◌+◌, ◌/◌, ◌<◌, ◌∙◌, ◌≡◌, ◌≤◌, ◌⊎◌}
+use Rattle.fields_core.proofs.RowWords.{has-at}
 use Rattle.fields_core.proofs.LightCounting.{column-run-joined, light-board, row-run-joined}
-use Rattle.fields_core.proofs.LightPassed.{rest-off, rest-on}
+use Rattle.fields_core.proofs.PassedLines.{rest-off, rest-on}
 use Rattle.fields_core.proofs.LightHouseLaws.{clear-at, clear-from, column-parts, column-white-end, row-parts, white-in}
 use Rattle.fields_core.proofs.TentBeside.{row-in}
 

@@ -1,10 +1,6 @@
 -- The houses of the runs of a row and of a column of Light Up, as runs of a line.
-use Rattle.fields_core.proofs.Common.{AllByRecursion, Bool, IsLight, Light, List, and_from, and_parts, any_below-here, arith, begins_column_run, begins_row_run, cases_Bool, column_house, column_run, crosses, div-lt_iff_lt-mul, div-mul-add, eq-eqb, eqb-true, false, has_bit, has_place, inl, inr, joined_in_column, joined_in_row, light_cells, list_any, lt-ltb, ltb, mod-lt, or_left, place-column, refl, row_house, row_run, slice_index, suc, sym, true, white, zero, ℕ, ◌%◌, ◌&&◌, ◌*◌, ◌+◌, ◌/◌, ◌<◌, ◌∙◌, ◌≡◌}
+use Rattle.fields_core.proofs.Common.{AllByRecursion, AreRunsOf, Bool, Column, IsColumnRun, IsLight, IsRowRun, IsRunOf, Light, List, Row, and_from, and_parts, any_below-here, arith, begins_column_run, begins_row_run, cases_Bool, column_house, column_run, column_runs_of_column, crosses, div-lt_iff_lt-mul, div-mul-add, eq-eqb, eqb-true, false, has_bit, has_place, inl, inr, joined_in_column, joined_in_row, light_cells, list_any, lt-ltb, ltb, mod-lt, or_left, place-column, place-in, refl, row_house, row_run, row_runs_of_row, slice_index, suc, sym, true, white, zero, ℕ, ◌%◌, ◌&&◌, ◌*◌, ◌+◌, ◌/◌, ◌<◌, ◌∙◌, ◌≡◌}
 unfoldable use Rattle.grid_core.specs.Planes.{has}
-use Rattle.grid_core.specs.declared.planes.line.Line.TheVariants.{Row, Column}
-use Rattle.grid_core.proofs.PlaneLemmas.{place-in}
-use Rattle.fields_core.specs.LightWords.{IsColumnRun, IsRowRun, row_runs_of_row}
-use Rattle.fields_core.specs.LightRunLines.{AreRunsOf, IsRunOf, column_runs_of_column}
 use Rattle.fields_core.proofs.LightCounting.{IsBoard, column-kind, column-run-joined, in-column-run, in-row-run, light-board, row-kind, row-run-joined}
 use Rattle.fields_core.proofs.LightHouseLaws.{clear-at, column-both, column-parts, column-run-on, column-self, column-white-end, mul-inj, row-both, row-parts, row-run-on, row-self, white-in}
 use Rattle.fields_core.proofs.CountListLemmas.{all-houses, any-houses}

@@ -1,10 +1,5 @@
 -- The runs of Light Up line by line are all its runs.
-use Rattle.fields_core.proofs.Common.{AllByRecursion, Bool, Candidates, ArePlanesAlive, IsLight, Layers, Light, any_below, any_below-here, any_below-some, ap, arith, begins_column_run, column_house, div-lt_iff_lt-mul, div-mul-add, false, has_place, houses_below, joined_in_column, joined_in_row, light_cells, list_any, mod-lt, place-column, refl, row_house, sym, true, ℕ, ◌%◌, ◌*◌, ◌+◌, ◌/◌, ◌<◌, ◌∙◌, ◌≡◌}
-use Rattle.grid_core.specs.Candidates.{IsInside}
-use Rattle.grid_core.proofs.PlaneLemmas.{place-in}
-use Rattle.fields_core.specs.LightWords.{row_runs_of_row}
-use Rattle.fields_core.specs.LightRunLines.{IsRunOf, column_runs_of_column}
-use Rattle.fields_core.specs.Visits.{AreVisited, AreIdle}
+use Rattle.fields_core.proofs.Common.{AllByRecursion, AreIdle, ArePlanesAlive, AreVisited, Bool, Candidates, IsInside, IsLight, IsRunOf, Layers, Light, any_below, any_below-here, any_below-some, ap, arith, begins_column_run, column_house, column_runs_of_column, div-lt_iff_lt-mul, div-mul-add, false, has_place, houses_below, joined_in_column, joined_in_row, light_cells, list_any, mod-lt, place-column, place-in, refl, row_house, row_runs_of_row, sym, true, ℕ, ◌%◌, ◌*◌, ◌+◌, ◌/◌, ◌<◌, ◌∙◌, ◌≡◌}
 use Rattle.fields_core.proofs.HouseOrder.{AreSame, IsSingle, singles-kept, visited-any-order}
 use Rattle.fields_core.proofs.AtMostLemmas.{IsFull}
 use Rattle.fields_core.proofs.CellLemmas.{same-truth}

@@ -1,17 +1,9 @@
 -- Words of runs along a line, as they are written one after another.
-use Rattle.fields_core.proofs.Common.{Bool, Candidates, Extent, Layers, any_below, any_below-none, cases_Bool, common_steps, Light, List, and-false, and_from, and_parts, ap, arith, cases_eq, cases_lt, clear, div-mul-add, eq-eqb, eqb, false, false_from_ne_true, get_or-set_other, get_or-set_same, has_bit, inl, inr, joined_in_column, joined_in_row, le-ltb, length, length-map, length-set, light_cells, lt-ltb, ltb, ltb-true, map, mul-le-mul_right, ne_eqb, not, not-true, place-column, refl, set, slice_index, subst, sym, true, true≢false, white, ℕ, ◌%◌, ◌&&◌, ◌*◌, ◌+◌, ◌-◌, ◌/◌, ◌<◌, ◌∙◌, ◌≡◌, ◌≢◌, ◌≤◌}
-use Rattle.std.proofs.lemmas.List.{map-set}
+use Rattle.fields_core.proofs.Common.{AreFilled, AreWritten, Bool, Candidates, Extent, IsColumnOf, IsColumnRun, IsLeast, IsRowOf, IsRowRun, IsRunAt, Layers, Light, List, and-false, and_from, and_parts, any_below, any_below-none, ap, arith, bit_of, cases_Bool, cases_eq, cases_lt, clear, common_steps, div-mul-add, eq-eqb, eqb, false, false_from_ne_true, get_or-set_other, get_or-set_same, has, has_bit, inl, inr, joined_in_column, joined_in_row, le-ltb, length, length-map, length-set, light_cells, light_rules, lt-ltb, ltb, ltb-true, map, map-set, mul-le-mul_right, ne_eqb, not, not-true, place-column, place-in, refl, set, slice_index, subst, sym, true, true≢false, white, ℕ, ◌%◌, ◌&&◌, ◌*◌, ◌+◌, ◌-◌, ◌/◌, ◌<◌, ◌∙◌, ◌≡◌, ◌≢◌, ◌≤◌}
 unfoldable use Rattle.grid_core.specs.Candidates.{all_of}
-use Rattle.grid_core.specs.Planes.{bit_of, has}
-use Rattle.grid_core.specs.Words.{IsLeast}
-use Rattle.grid_core.proofs.PlaneLemmas.{place-in}
 unfoldable use Rattle.fields_core.specs.CountHouse.{start_of}
-use Rattle.fields_core.specs.LightHouses.{light_rules}
-use Rattle.fields_core.specs.LightWords.{IsRowRun, IsColumnRun}
-use Rattle.fields_core.specs.LineWords.{IsColumnOf, IsRowOf}
-use Rattle.fields_core.specs.LightRunWords.{IsRunAt, AreFilled, AreWritten}
 use Rattle.fields_core.proofs.CellLemmas.{same-truth}
-use Rattle.fields_core.proofs.LightLitVisits.{has-at}
+use Rattle.fields_core.proofs.RowWords.{has-at}
 use Rattle.fields_core.proofs.LightHouseLaws.{clear-at, clear-from}
 use Rattle.fields_core.proofs.RunLemmas.{column-cell-joined, row-cell-joined}
 

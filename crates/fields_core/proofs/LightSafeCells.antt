@@ -1,18 +1,10 @@
 -- Runs of Light Up with two cells that can have a bulb, or with one that must, as words.
-use Rattle.fields_core.proofs.Common.{Bool, or_cases, Candidates, any_below, any_below-some, not-true, Light, Layers, List, and_parts, arith, cases_eq, count_below, div-mul-add, false, true≢false, not, get_or, get_or-set_other, get_or-set_same, has_bit, inl, inr, joined_in_column, joined_in_row, length, length-map, light_cells, ltb, ltb-true, map, refl, set, slice_index, sym, true, white, ℕ, ◌&&◌, ◌*◌, ◌+◌, ◌%◌, ◌<◌, ◌||◌, ◌∙◌, ◌≡◌, ◌≢◌, ◌≤◌}
-use Rattle.std.proofs.lemmas.List.{map-set}
-use Rattle.std.proofs.lemmas.Nat.{mod-mul-add}
-use Rattle.grid_core.specs.Planes.{bit_of, has}
+use Rattle.fields_core.proofs.Common.{AreSafe, AreSafeInColumns, Bool, Candidates, IsColumnRun, IsRowOf, IsRowRun, Layers, Light, List, and_parts, any_below, any_below-some, arith, bit_of, cases_eq, count_below, div-mul-add, false, get_or, get_or-set_other, get_or-set_same, has, has_bit, inl, inr, joined_in_column, joined_in_row, length, length-map, light_cells, ltb, ltb-true, map, map-set, mod-mul-add, not, not-true, or_cases, place-in, refl, set, slice_index, sym, true, true≢false, white, ℕ, ◌%◌, ◌&&◌, ◌*◌, ◌+◌, ◌<◌, ◌||◌, ◌∙◌, ◌≡◌, ◌≢◌, ◌≤◌}
 use Rattle.fields_core.proofs.AtMostLemmas.{IsFull}
-use Rattle.grid_core.proofs.PlaneLemmas.{place-in}
-use Rattle.fields_core.specs.LightWaits.{AreSafe, AreSafeInColumns}
-use Rattle.fields_core.specs.LightWords.{IsColumnRun, IsRowRun}
-use Rattle.fields_core.specs.LineWords.{IsRowOf}
 use Rattle.fields_core.proofs.LightHouseLaws.{column-both, column-next, column-self, row-both}
-use Rattle.fields_core.proofs.LightLitVisits.{has-at}
+use Rattle.fields_core.proofs.RowWords.{has-at, row-read}
 use Rattle.fields_core.proofs.LightLitWords.{two-places}
 use Rattle.fields_core.proofs.LightRunBegins.{column-white-start}
-use Rattle.fields_core.proofs.TentTreeWords.{row-read}
 
 -- ---- the runs of a cell as words
 module _ (p : Light) (y x : ℕ) (x_in : x < p.size.w) where

@@ -1,7 +1,6 @@
 -- The squares of two rows of Tents, by words of the columns with a cell that has no 0.
-use Rattle.fields_core.proofs.Common.{AllByRecursion, Bool, CountHouse, IsHouse, IsTents, mul-le-mul_right, Tents, [], and_from, and_parts, any_below-here, any_below-some, ap, arith, cases_Bool, cases_lt, common_steps, cond, count_by, div-mul-add, eq-eqb, eqb, eqb-true, false, false≢true, has_place, inl, inr, le-ltb, list_any, lt-ltb, ltb, ltb-true, mod-lt, not, one_at_most, or_cases, or_left, or_right, place-column, refl, square_house, subst, sym, tent_cells, true, ℕ, ◌%◌, ◌&&◌, ◌*◌, ◌+◌, ◌-◌, ◌/◌, ◌<◌, ◌||◌, ◌∙◌, ◌∷◌, ◌≡◌, ◌≤◌, ◌⊎◌}
+use Rattle.fields_core.proofs.Common.{AllByRecursion, Bool, CountHouse, IsHouse, IsTents, Tents, [], and_from, and_parts, any_below-here, any_below-some, ap, arith, cases_Bool, cases_lt, common_steps, cond, count_by, div-mul-add, eq-eqb, eqb, eqb-true, false, false≢true, has_place, inl, inr, le-ltb, list_any, lt-ltb, ltb, ltb-true, mod-lt, mul-le-mul_right, not, one_at_most, or_cases, or_left, or_right, place-column, refl, square_house, squares_of_row, subst, sym, tent_cells, true, ℕ, ◌%◌, ◌&&◌, ◌*◌, ◌+◌, ◌-◌, ◌/◌, ◌<◌, ◌||◌, ◌∙◌, ◌∷◌, ◌≡◌, ◌≤◌, ◌⊎◌}
 unfoldable use Rattle.grid_core.specs.Planes.{bit_of, crosses, has}
-use Rattle.fields_core.specs.TentSquares.{squares_of_row}
 unfoldable use Rattle.fields_core.proofs.AtMostLemmas.{is_met, without_met}
 use Rattle.fields_core.proofs.CellLemmas.{cell-is, same-truth}
 use Rattle.fields_core.proofs.PlaceLists.{count-cons}

@@ -1,9 +1,6 @@
 -- Visits of the squares of two rows of Tents.
-use Rattle.fields_core.proofs.Common.{AllByRecursion, Bool, eqb-true, Extent, ArePlanesAlive, IsFurther, IsHouse, IsTents, Layers, Tents, [], and-false, and_from, and_parts, any_below, any_below-none, any_below-some, ap, arith, cases_Bool, cases_lt, common_steps, crosses, div-mul-add, eq-eqb, eqb, false, false≢true, fun_ext, further-none, has_bit, has_place, houses_below, inl, inr, le-ltb, lies_in, lies_in_first, list_any, lt-ltb, ltb, ltb-true, not, or_left, or_right, place-column, refl, square_house, suc, sym, covers, without_taking, tent_cells, true, true≢false, without_value, zero, ℕ, ◌%◌, ◌&&◌, ◌*◌, ◌+◌, ◌-◌, ◌/◌, ◌<◌, ◌||◌, ◌∙◌, ◌≡◌, ◌≢◌, ◌≤◌, ◌⊎◌, Candidates, not-false}
+use Rattle.fields_core.proofs.Common.{AllByRecursion, ArePlanesAlive, AreVisited, Bool, Candidates, Extent, IsFurther, IsHouse, IsTents, Layers, Row, Tents, [], and-false, and_from, and_parts, any_below, any_below-none, any_below-some, ap, arith, cases_Bool, cases_lt, common_steps, covers, crosses, div-mul-add, eq-eqb, eqb, eqb-true, false, false≢true, fun_ext, further-none, has_bit, has_place, houses_below, inl, inr, le-ltb, lies_in, lies_in_first, list_any, lt-ltb, ltb, ltb-true, not, not-false, or_left, or_right, place-column, refl, square_house, squares_of_row, suc, sym, tent_cells, true, true≢false, two_rows, without_taking, without_value, zero, ℕ, ◌%◌, ◌&&◌, ◌*◌, ◌+◌, ◌-◌, ◌/◌, ◌<◌, ◌||◌, ◌∙◌, ◌≡◌, ◌≢◌, ◌≤◌, ◌⊎◌}
 unfoldable use Rattle.grid_core.specs.Planes.{bit_of, has}
-use Rattle.grid_core.specs.declared.planes.line.Line.TheVariants.{Row}
-use Rattle.fields_core.specs.TentSquares.{squares_of_row, two_rows}
-use Rattle.fields_core.specs.Visits.{AreVisited}
 use Rattle.fields_core.proofs.AtMostLemmas.{IsFull, IsOneAtMost, visits-met, visits-two, zeros_of}
 unfoldable use Rattle.fields_core.proofs.AtMostLemmas.{is_met, without_met}
 use Rattle.fields_core.proofs.PartLemmas.{struck-alive, value-in}

@@ -1,100 +1,11 @@
 -- What visits of the trees of a row take from a board.
-use Rattle.fields_core.proofs.Common.{Bool, Candidates, CountHouse, IsFurther, IsHouse, IsTally, IsTents, Layers, List, Tally, Tents, [], after_house, and-true, and_parts, any_below, ap, arith, cases_Bool, common_steps, cond, count_by, count_by-le-length, eqb, eqb-true, false, filter, free_beside, fun_ext, has_place, has_place-at, has_bit, has_place-here, houses_below, length-filter, lt-ltb, ltb-false, ltb-true, not-false, not-true, inl, inr, is_empty, le-ltb, length, list_any, ltb, not, one_at_least, or_cases, place-filter, place-kept, refl, slice_index, suc, sym, tent_cells, tree, tree_house, true, true≢false, zero, ℕ, ◌&&◌, ◌*◌, ◌++◌, ◌+◌, ◌-◌, ◌<◌, ◌||◌, ◌∙◌, ◌∷◌, ◌≡◌, ◌≤◌, ◌⊎◌}
-use Rattle.std.proofs.lemmas.Bool.{false_from_ne_true}
-use Rattle.grid_core.specs.Candidates.{IsInside}
-use Rattle.grid_core.specs.Planes.{has}
-use Rattle.grid_core.specs.Regions.{beside}
-use Rattle.grid_core.proofs.PlaneLemmas.{further-none, place-in}
-use Rattle.fields_core.specs.Parts.{ArePlanesAlive}
-use Rattle.fields_core.specs.TentTrees.{is_beside, trees_of_row, wants_tent, without_zeros}
-use Rattle.fields_core.specs.LineWords.{IsRowOf}
-use Rattle.fields_core.specs.Visits.{AreVisited, after_houses}
-use Rattle.fields_core.proofs.CountKept.{after-at, off-scope, has-value}
-use Rattle.grid_core.proofs.CandidateLemmas.{any_below-none, any_below-same, any_below-some}
+use Rattle.fields_core.proofs.Common.{ArePlanesAlive, AreVisited, Bool, Candidates, CountHouse, IsFurther, IsHouse, IsInside, IsRowOf, IsTents, Layers, List, Tents, [], after_house, after_houses, and-true, and_parts, any_below, any_below-none, any_below-same, any_below-some, ap, arith, beside, cases_Bool, common_steps, count_by, count_by-le-length, eqb, false, false_from_ne_true, filter, free_beside, fun_ext, further-none, has, has_bit, has_place, has_place-here, houses_below, inl, inr, is_beside, length, length-filter, list_any, lt-ltb, ltb, ltb-false, ltb-true, not, not-false, not-true, one_at_least, place-in, refl, slice_index, suc, sym, tent_cells, tree, tree_house, trees_of_row, true, true≢false, wants_tent, without_zeros, zero, ℕ, ◌&&◌, ◌*◌, ◌++◌, ◌+◌, ◌-◌, ◌<◌, ◌||◌, ◌∙◌, ◌∷◌, ◌≡◌, ◌≤◌, ◌⊎◌}
 use Rattle.fields_core.proofs.PartLemmas.{value-in}
-use Rattle.fields_core.proofs.PlaceLists.{count-cons, count-none, count-some, num, num-most}
+use Rattle.fields_core.proofs.PlaceLists.{count-cons, count-none, count-some, filter-has}
 use Rattle.fields_core.proofs.TentVisits.{tree-is}
 use Rattle.fields_core.proofs.VisitLemmas.{below-rest, below-rows, visits-append, visits-inside}
 use Rattle.fields_core.proofs.CountListLemmas.{below-more}
-
--- ---- one tree
--- where a place does not pass, not all do
-count-less : (test : ℕ → Bool) (xs : List ℕ) (d : ℕ) → has_place xs d ≡ true → test d ≡ false → count_by test xs < length xs
-unfolding has_place
-count-less test [] d on off = absurd (true≢false (sym on))
-count-less test (x ∷ xs) d on off = elim (or_cases (eqb x d) (has_place xs d) on) [
-  | inl here ↦ omega (arith, count-cons test x xs, count_by-le-length test xs, ap num (ap test (eqb-true x d here) ∙ off))
-  | inr more ↦ omega (arith, count-cons test x xs, num-most (test x), count-less test xs d more off)
-]
-
--- the cells of a house each have a value
-abbrev pub AreFull : List ℕ → Candidates → Type 0
-AreFull places K = (c : ℕ) → has_place places c ≡ true → (K c 0 ≡ true) ⊎ (K c 1 ≡ true)
-
--- a tree's cells can have a tent, or there are none
-abbrev pub IsFilled : List ℕ → Candidates → Type 0
-IsFilled places K = (length places ≡ 0) ⊎ (1 ≤ count_by (λ d. K d 1) places)
-
--- the cell that loses 0 by a visit of a tree
-abbrev pub is_lone : List ℕ → Candidates → ℕ → Bool
-is_lone places K c = K c 1 && (has_place places c && eqb (count_by (λ d. K d 1) places) 1)
-
-stays-is : (must may long v : ℕ) (none one : Bool) → v < 2 → 1 ≤ may → 1 ≤ long → must ≤ long → (none ≡ true → must < long) → cond (eqb v 0) none one ≡ true
-    → (not (ltb 0 0 || (ltb long 1 || (ltb may 1 || ltb long must))) && not ((none && one) && (((eqb v 1) && (eqb must long)) || ((eqb v 0) && (eqb may 1)))))
-    ≡ not (eqb v 0 && (one && eqb may 1))
-stays-is must may long zero none one low some pos few less on = rw (le-ltb long 1 pos, le-ltb may 1 some, le-ltb long must few) (grind (arith, common_steps, cases_Bool none, cases_Bool one, cases_Bool (eqb may 1)))
-stays-is must may long (suc zero) none one low some pos few less on = rw (le-ltb long 1 pos, le-ltb may 1 some, le-ltb long must few) (by (cases_Bool none))
-  where
-    by : (none ≡ true) ⊎ (none ≡ false) → not ((none && one) && ((true && eqb must long) || (false && eqb may 1))) ≡ true
-    by (inr off) = rw off refl
-    by (inl is) = let lt = less is in grind (arith, common_steps, cases_Bool one, eqb-true must long)
-stays-is must may long (suc (suc v)) none one low some pos few less on = absurd (omega arith)
-
-pub tree-after : (cells : ℕ) (places : List ℕ) (K : Candidates) → IsHouse cells (one_at_least places) → AreFull places K → IsFilled places K → (c v : ℕ) → v < 2 → K c v ≡ true
-    → after_house (one_at_least places) K c v ≡ not (eqb v 0 && is_lone places K c)
-unfolding after_house
-tree-after cells places K is full filled c v low on = elim (cases_Bool (has_place places c)) [
-  | inr out ↦ rw (on, off-scope (one_at_least places) K c v out, out) (grind (arith, common_steps, cases_Bool))
-  | inl there ↦
-      let w = has_place-at places c there in
-      let tally : Tally = record { must = count_by (λ d. not (K d 0)) places; may = count_by (λ d. K d 1) places; empty = 0 } in
-      let counted : IsTally K places tally = record { must_is = refl; may_is = refl; empty_is = sym (count-none (is_empty K) places (λ d at. has-value K d (full d at))) } in
-      let left = rw w.2 at (after-at cells (one_at_least places) K tally is counted w.1 low) in
-      left ∙ rw (on, there) (stays-is _ _ _ v (K c 0) (K c 1) low (some w.1 filled) (omega (arith, w.1)) (count_by-le-length _ places) (λ e. count-less _ places c there (rw e refl)) (by v low on))
-]
-  where
-    some : {k : ℕ} → k < length places → IsFilled places K → 1 ≤ count_by (λ d. K d 1) places
-    some lt (inl none) = absurd (omega arith)
-    some lt (inr one) = one
-
-    by : (u : ℕ) → u < 2 → K c u ≡ true → cond (eqb u 0) (K c 0) (K c 1) ≡ true
-    by zero less is = is
-    by (suc zero) less is = is
-    by (suc (suc u)) less is = absurd (omega arith)
-
--- the board has the values 0 and 1 alone
-abbrev pub IsOfTwo : Candidates → Type 0
-IsOfTwo K = (c v : ℕ) → K c v ≡ true → v < 2
-
-pub tree-board : (cells : ℕ) (places : List ℕ) (K : Candidates) → IsHouse cells (one_at_least places) → AreFull places K → IsFilled places K → IsOfTwo K
-    → after_house (one_at_least places) K ≡ without_zeros (is_lone places K) K
-unfolding after_house without_zeros
-tree-board cells places K is full filled two = fun_ext λ c. fun_ext λ v. elim (cases_Bool (K c v)) [
-  | inr off ↦ rw off refl
-  | inl on ↦ tree-after cells places K is full filled c v (two c v on) on ∙ rw on refl
-]
-
--- a visit of a tree whose cells can have no tent leaves no value in them
-pub tree-broken : (cells : ℕ) (places : List ℕ) (K : Candidates) → IsHouse cells (one_at_least places) → count_by (λ d. K d 1) places ≡ 0 → (c v : ℕ) → has_place places c ≡ true → v < 2
-    → after_house (one_at_least places) K c v ≡ false
-tree-broken cells places K is none c v there low =
-    let w = has_place-at places c there in
-    let tally : Tally = record { must = count_by (λ d. not (K d 0)) places; may = count_by (λ d. K d 1) places; empty = count_by (is_empty K) places } in
-    let counted : IsTally K places tally = record { must_is = refl; may_is = refl; empty_is = refl } in
-    (rw w.2 at (after-at cells (one_at_least places) K tally is counted w.1 low)) ∙ rw none (by (K c v) (ltb 0 tally.empty) (ltb (length places) 1) _)
-  where
-    by : (a b d f : Bool) → (a && (not (b || (d || true)) && f)) ≡ false
-    by a b d f = grind (arith, common_steps, cases_Bool a, cases_Bool b, cases_Bool d)
+use Rattle.fields_core.proofs.AtLeastLemmas.{IsFilled, IsOfTwo, least-board, least-broken}
 
 -- ---- boards without zeros
 count-stays : (passes : ℕ → Bool) (K : Candidates) (places : List ℕ) → count_by (λ d. without_zeros passes K d 1) places ≡ count_by (λ d. K d 1) places
@@ -114,9 +25,6 @@ pub zeros-full : (passes : ℕ → Bool) (K : Candidates) (c : ℕ) → (passes 
     → (without_zeros passes K c 0 ≡ true) ⊎ (without_zeros passes K c 1 ≡ true)
 unfolding without_zeros
 zeros-full passes K c ones some = grind (arith, common_steps, cases_Bool (K c 0), cases_Bool (K c 1), cases_Bool (passes c))
-
-pub filter-has : (keeps : ℕ → Bool) (xs : List ℕ) (c : ℕ) → has_place (filter keeps xs) c ≡ (has_place xs c && keeps c)
-filter-has keeps xs c = grind (arith, common_steps, cases_Bool (has_place (filter keeps xs) c), cases_Bool (has_place xs c), cases_Bool (keeps c), place-filter keeps xs c, place-kept keeps xs c)
 
 -- ---- the trees of a row
 -- how many of the free cells beside a cell of the row can have a tent
@@ -152,7 +60,7 @@ module _ (p : Tents) (lawful : IsTents p) (K : Candidates) (y : ℕ) (y_in : y <
   next-tree n lt is filled =
       let house = house-in lt is in
       let J = without_zeros (struck p K y n) K in
-      tree-board (tent_cells p) (free_beside p (cell n)) J house
+      least-board (tent_cells p) (free_beside p (cell n)) J house
       (λ c there. zeros-full (struck p K y n) K c (struck-one p K y n c) (alive c (house.within c there)))
       (filled-stays (struck p K y n) K (free_beside p (cell n)) filled)
       (λ c v on. two c v (zeros-inside (struck p K y n) K c v on))
@@ -195,7 +103,7 @@ module _ (p : Tents) (lawful : IsTents p) (K : Candidates) (y : ℕ) (y_in : y <
       let split : trees_of_row p y ≡ (houses_below f x ++ f x) ++ w.0 = ap (houses_below f) (sym e) ∙ w.1 ∙ ap (λ (hs : List CountHouse). hs ++ w.0) (below-more f x) in
       let fewer : count_by (λ c. J c 1) (free_beside p (cell x)) ≡ 0 = count-none (λ c. J c 1) (free_beside p (cell x)) (λ c at. false_from_ne_true _ (λ on. absurd (omega (arith, none, count-some (λ c. K c 1) (free_beside p (cell x)) c at (visits-inside (houses_below f x) K c 1 on))))) in
       false_from_ne_true _ (λ on. true≢false (sym (visits-inside w.0 (after_houses (f x) J) d v (rw (split, visits-append (houses_below f x ++ f x) w.0 K, visits-append (houses_below f x) (f x) K) at on))
-      ∙ rw is (tree-broken (tent_cells p) (free_beside p (cell x)) J (house-in lt is) fewer d v there low)))
+      ∙ rw is (least-broken (tent_cells p) (free_beside p (cell x)) J (house-in lt is) fewer d v there low)))
 
 -- ---- the planes
 -- of the elements that a filter keeps, those that pass

@@ -1,16 +1,9 @@
 -- Words of the cells of a row and of those beside them.
-use Rattle.fields_core.proofs.Common.{ne_eqb, or-false, and-false, or-true, Bool, Candidates, Extent, Layers, List, None, Some, and_from, and_parts, any_below-here, any_below-some, ap, arith, cases_Bool, cases_eq, cases_lt, common_steps, cond, count_by, covers, crosses, div-add-mod', div-mul-add, eq-eqb, eqb, eqb-true, false, fun_ext, get_or, get_or-map, get_or-set_other, get_or-set_same, has_bit, has_place, if_there, inl, inr, le-ltb, length, length-map, lt-ltb, ltb, ltb-true, map, mod-lt, not, or_cases, or_left, or_right, place-column, refl, set, slice_index, step, steps, suc, sym, true, without_taking, zero, ℕ, ◌%◌, ◌&&◌, ◌*◌, ◌++◌, ◌+◌, ◌-◌, ◌/◌, ◌<◌, ◌||◌, ◌∙◌, ◌≡◌, ◌≤◌, false_from_ne_true}
-use Rattle.std.proofs.lemmas.List.Sums.{sum_by-append}
-use Rattle.grid_core.specs.Planes.{bit_of, has}
-use Rattle.grid_core.specs.Regions.{beside}
-use Rattle.grid_core.specs.Words.{differ}
-use Rattle.grid_core.specs.declared.planes.line.Line.TheVariants.{Row}
-use Rattle.std.proofs.lemmas.List.{map-set}
-use Rattle.fields_core.specs.TentTrees.{IsNear, is_beside, without_zeros}
-use Rattle.fields_core.specs.LineWords.{AreRowsOf, IsRowOf}
+use Rattle.fields_core.proofs.Common.{Bool, Candidates, Extent, IsNear, IsRowOf, Layers, List, None, Row, Some, and_from, and_parts, any_below-here, any_below-some, ap, arith, beside, bit_of, cases_Bool, cases_lt, common_steps, cond, count_by, covers, crosses, differ, div-add-mod', div-mul-add, eq-eqb, eqb, eqb-true, false, false_from_ne_true, fun_ext, has, has_bit, has_place, if_there, inl, inr, is_beside, le-ltb, lt-ltb, ltb, ltb-true, mod-lt, not, or_cases, or_left, or_right, place-column, refl, step, steps, suc, sum_by-append, sym, true, without_taking, without_zeros, zero, ℕ, ◌%◌, ◌&&◌, ◌*◌, ◌++◌, ◌+◌, ◌-◌, ◌/◌, ◌<◌, ◌||◌, ◌∙◌, ◌≡◌, ◌≤◌}
 use Rattle.fields_core.specs.declared.planes.tents.three_rows.ThreeRows.{ThreeRows}
 use Rattle.fields_core.proofs.CellLemmas.{has-append, same-truth}
 use Rattle.fields_core.proofs.PlaceLists.{num}
+use Rattle.fields_core.proofs.RowWords.{has-at}
 
 -- ---- the cells beside a cell of a row
 -- the cell, where it is there
@@ -123,13 +116,10 @@ module _ {W : Type 0} (bits : W → ℕ) (room : ℕ) (size : Extent) (passes : 
       by u l r d = grind (arith, common_steps, cases_Bool u, cases_Bool l, cases_Bool r, cases_Bool d)
 
 -- ---- those of the cells that can be a one
-has-row : (p : Layers) (y x v : ℕ) → x < p.size.w → v < 2 → has p (y * p.size.w + x) v ≡ bit_of p.rows y v x
-unfolding has
-has-row p y x v lt low = rw (div-mul-add y p.size.w x lt, place-column p.size.w y x lt, lt-ltb v 2 low) refl
 
 pub row-ones : (p : Layers) (y word : ℕ) → ((x : ℕ) → has_bit word x ≡ bit_of p.rows y 1 x) → ((x : ℕ) → has_bit word x ≡ true → x < p.size.w) → IsRowOf p.size.w (λ c. has p c 1) y word
 row-ones p y word is within x = elim (cases_lt x p.size.w) [
-  | inl lt ↦ is x ∙ rw (lt-ltb x p.size.w lt) (sym (has-row p y x 1 lt (omega arith)))
+  | inl lt ↦ is x ∙ rw (lt-ltb x p.size.w lt) (sym (has-at p y x 1 refl lt (omega arith)))
   | inr ge ↦ rw (le-ltb x p.size.w ge) (false_from_ne_true (has_bit word x) (λ on. let lt = within x on in absurd (omega arith)))
 ]
 
@@ -287,32 +277,3 @@ zeros-taken w w₂ w₃ above y below over own under passes K K₁ K₂ K₃ fir
   where
     by : (k z a b d : Bool) → (((k && not (z && a)) && not (z && b)) && not (z && d)) ≡ (k && not (z && ((a || b) || d)))
     by k z a b d = grind (arith, common_steps, cases_Bool k, cases_Bool z, cases_Bool a, cases_Bool b, cases_Bool d)
-
--- ---- a word of the first places that pass
-pub next-on : (test : ℕ → Bool) (n word next : ℕ) → test n ≡ true → ((k : ℕ) → has_bit word k ≡ (ltb k n && test k))
-    → ((k : ℕ) → has_bit next k ≡ (has_bit word k || eqb k n)) → (k : ℕ) → has_bit next k ≡ (ltb k (n + 1) && test k)
-next-on test n word next on is told k = grind (arith, common_steps, cases_eq k n, eq-eqb, lt-ltb, or-true, ne_eqb, or-false, cases_lt k n, le-ltb)
-
-pub next-off : (test : ℕ → Bool) (n word : ℕ) → test n ≡ false → ((k : ℕ) → has_bit word k ≡ (ltb k n && test k))
-    → (k : ℕ) → has_bit word k ≡ (ltb k (n + 1) && test k)
-next-off test n word off is k = grind (arith, common_steps, cases_eq k n, lt-ltb, and-false, cases_lt k n, le-ltb)
-
--- ---- a word for each row
--- one more is written
-pub rows-more : {W : Type 0} (bits : W → ℕ) (words : List W) (n : ℕ) (P : ℕ → ℕ → Type 0) (word : W) → n < length words
-    → ((y : ℕ) → y < n → P y (slice_index (map bits words) y)) → P n (bits word)
-    → (y : ℕ) → y < n + 1 → P y (slice_index (map bits (set words n word)) y)
-rows-more bits words n P word lt written is y less = rw (map-set bits words n word) (elim (cases_eq y n) [
-  | inl e ↦ rw (e, get_or-set_same (map bits words) n (bits word) 0 (omega (arith, lt, length-map words bits))) is
-  | inr ne ↦ rw (get_or-set_other (map bits words) n y (bits word) 0 ne) (written y (omega arith))
-])
-
--- the word that was read
-pub row-read : {W : Type 0} (bits : W → ℕ) (words : List W) (y : ℕ) (word : W) → y < length words → word ≡ get_or words y word → slice_index (map bits words) y ≡ bits word
-row-read bits words y word lt read = get_or-map bits words y word 0 lt ∙ ap bits (sym read)
-
--- where each row has a word
-pub rows-read : {W : Type 0} (bits : W → ℕ) (words : List W) {size : Extent} {passes : ℕ → Bool} (y : ℕ) {word : W} → y < size.h → AreRowsOf size passes (map bits words)
-    → word ≡ get_or words y word → IsRowOf size.w passes y (bits word)
-rows-read bits words y {word} lt are read =
-    rw (row-read bits words y word (omega (arith, lt, are.long, length-map words bits)) read) at (are.each y lt)

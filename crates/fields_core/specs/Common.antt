@@ -37,7 +37,8 @@ pub use Rattle.fields_core.specs.LightPlanes.{AreLightsWritten, ArePlanesOf, Are
 pub use Rattle.fields_core.specs.LightRuns.{IsAround, IsLatest, IsLine, house_along, line_cells, whites_of}
 pub use Rattle.fields_core.specs.LightSolutions.{IsLightSolution}
 pub use Rattle.fields_core.specs.LightWaits.{AreIdleBut, AreLightsReady, AreLinesRested, AreLinesWoken, AreLinesWokenSince, AreRowsSafe}
-pub use Rattle.fields_core.specs.LightWaits.{AreSafeInColumns, AreSettled, AreSpread, AreWhitesIdleBut}
+pub use Rattle.fields_core.specs.LightWaits.{AreSafeInColumns, AreSettled, AreWhitesIdleBut}
+pub use Rattle.fields_core.specs.LineWords.{AreRowsOf, AreSpread, IsRowOf}
 pub use Rattle.fields_core.specs.LightWaits.{all_runs, lits_of_row, meets_line, run_houses, run_lines, waiting_runs, white_houses}
 pub use Rattle.fields_core.specs.LightWords.{numbers_of_row}
 unfoldable pub use Rattle.fields_core.specs.LightNumbers.{is_numbered}
@@ -61,8 +62,8 @@ pub use Rattle.fields_core.specs.TentTouching.{IsTentAmong, IsWindow}
 pub use Rattle.fields_core.specs.Tents.{tent, tent_cells, tree}
 unfoldable pub use Rattle.fields_core.specs.Tents.{can_be_paired, touches}
 pub use Rattle.fields_core.specs.TentTrees.{AreBare, AreBeside, AreTakenBeside, IsNear, trees_of_row}
-pub use Rattle.fields_core.specs.LineWords.{AreRowsOf, IsRowOf}
-unfoldable pub use Rattle.fields_core.specs.TentTrees.{is_beside, wants_tent, without_zeros}
+unfoldable pub use Rattle.fields_core.specs.TentTrees.{is_beside, wants_tent}
+unfoldable pub use Rattle.fields_core.specs.Visits.{without_zeros}
 pub use Rattle.fields_core.specs.Visits.{AreVisited}
 pub use Rattle.fields_core.specs.TentNotes.{IsFieldOf}
 pub use Rattle.fields_core.specs.TentWaits.{AreTentsRested, AreTentsSettled, AreTentsWoken, AreTentsWokenSince, all_of_kind, kind_houses, kind_lines, waiting}

@@ -1,5 +1,5 @@
 -- Which houses of Light Up wait on planes. No public contract uses these words.
-use Rattle.std.specs.Prelude.{◌≡◌, ◌≢◌, ℕ, ◌+◌, ◌-◌, ◌*◌, ◌/◌, ◌%◌, ◌<◌, ◌≤◌, Bool, true, false, ◌&&◌, ◌||◌, nat_lt, ◌⊎◌, List, ◌++◌, length, slice_index}
+use Rattle.std.specs.Prelude.{◌≡◌, ◌≢◌, ℕ, ◌+◌, ◌*◌, ◌/◌, ◌%◌, ◌<◌, ◌≤◌, Bool, true, false, ◌||◌, ◌⊎◌, List, ◌++◌, length, slice_index}
 use Rattle.grid_core.specs.Candidates.{Candidates}
 use Rattle.grid_core.specs.Words.{has_bit}
 use Rattle.grid_core.specs.Planes.{AreLinesOf, IsFurther, Layers, has}
@@ -17,6 +17,7 @@ use Rattle.fields_core.specs.declared.planes.light_up.light_notes.LightNotes.{Li
 use Rattle.fields_core.specs.declared.planes.light_up.waits.LineWaits.{LineWaits}
 use Rattle.fields_core.specs.declared.planes.light_up.waits.RunKind.{RunKind}
 use Rattle.fields_core.specs.declared.planes.light_up.waits.RunKind.TheVariants.{Rows, Columns}
+use Rattle.fields_core.specs.LineWords.{AreSpread}
 
 -- ---- houses that wait by line
 -- the runs of a kind at a line, how many lines there are, all of them, and which of them wait
@@ -79,12 +80,6 @@ abbrev pub AreSettled : {W : Type 0} → (W → ℕ) → (Light → ℕ → List
 AreSettled bits houses number before now = (p : Light) (K : Candidates)
     → AreLinesRested bits p before K → ((k : ℕ) → k < number p → AreIdle (houses p k) K)
     → AreLinesRested bits p now K
-
--- what waited, and these lines with those beside them
-abbrev pub AreSpread : {W : Type 0} → (W → ℕ) → ℕ → W → (ℕ → Bool) → W → Type 0
-AreSpread bits room before lines now = (k : ℕ) → has_bit (bits now) k
-    ≡ (has_bit (bits before) k || (((nat_lt k room && (nat_lt 0 k && lines (k - 1)))
-    || lines k) || lines (k + 1)))
 
 -- whether one of the lines has the cell of a row and a column
 abbrev pub meets_line : {W : Type 0} → (W → ℕ) → Touched W → ℕ → ℕ → Bool

@@ -1,5 +1,5 @@
 -- Cells of rows and of columns as words of bits.
-use Rattle.std.specs.Prelude.{◌≡◌, ℕ, ◌+◌, ◌*◌, ◌<◌, ◌≤◌, Bool, ◌&&◌, nat_lt, List, length, slice_index}
+use Rattle.std.specs.Prelude.{◌≡◌, ℕ, ◌+◌, ◌-◌, ◌*◌, ◌<◌, ◌≤◌, Bool, ◌&&◌, ◌||◌, nat_lt, List, length, slice_index}
 use Rattle.grid_core.specs.Extent.{Extent}
 use Rattle.grid_core.specs.Words.{has_bit}
 
@@ -21,3 +21,9 @@ IsColumnOf size passes x bits =
 pub record AreColumnsOf (size : Extent) (passes : ℕ → Bool) (words : List ℕ) : Type 0 where
   pub long : size.w ≤ length words
   pub each : (x : ℕ) → x < size.w → IsColumnOf size passes x (slice_index words x)
+
+-- what waited, and these lines with those beside them
+abbrev pub AreSpread : {W : Type 0} → (W → ℕ) → ℕ → W → (ℕ → Bool) → W → Type 0
+AreSpread bits room before lines now = (k : ℕ) → has_bit (bits now) k
+    ≡ (has_bit (bits before) k || (((nat_lt k room && (nat_lt 0 k && lines (k - 1)))
+    || lines k) || lines (k + 1)))

@@ -1,5 +1,5 @@
 -- The trees of a row of Tents, and words of the cells beside them.
-use Rattle.std.specs.Prelude.{◌≡◌, ℕ, ◌+◌, ◌-◌, ◌*◌, ◌<◌, ◌≤◌, Bool, true, false, not, ◌&&◌, ◌==◌, nat_lt, List, count_by}
+use Rattle.std.specs.Prelude.{◌≡◌, ℕ, ◌+◌, ◌-◌, ◌*◌, ◌<◌, ◌≤◌, Bool, true, false, not, ◌&&◌, nat_lt, List, count_by}
 use Rattle.std.specs.List.{list_any}
 use Rattle.grid_core.specs.Candidates.{Candidates, any_below}
 use Rattle.grid_core.specs.Extent.{Extent}
@@ -13,6 +13,7 @@ use Rattle.fields_core.specs.LineWords.{IsRowOf}
 use Rattle.fields_core.specs.TentHouses.{tree_house}
 use Rattle.fields_core.specs.Tents.{tree}
 use Rattle.fields_core.specs.declared.planes.tents.three_rows.ThreeRows.{ThreeRows}
+use Rattle.fields_core.specs.Visits.{without_zeros}
 
 -- the houses of the trees of a row
 abbrev pub trees_of_row : Tents → ℕ → List CountHouse
@@ -46,10 +47,6 @@ AreBeside bits room near fits word = (size : Extent) (passes : ℕ → Bool) (y 
 unfoldable pub is_beside : Extent → ℕ → (ℕ → Bool) → ℕ → ℕ → Bool
 is_beside size y places n c =
     any_below (λ x. places x && has_place (beside size (y * size.w + x)) c) n
-
--- the board without 0 in the cells that pass
-unfoldable pub without_zeros : (ℕ → Bool) → Candidates → Candidates
-without_zeros passes K c v = K c v && not ((v == 0) && passes c)
 
 -- 0 was taken from the cells that pass beside these places of the row
 abbrev pub AreTakenBeside : {W : Type 0} → (W → ℕ) → ThreeRows W → W → ℕ → Layers → Layers → Type 0

@@ -1,5 +1,5 @@
 -- Which houses of Tents wait on planes. No public contract uses these words.
-use Rattle.std.specs.Prelude.{◌≡◌, ℕ, ◌+◌, ◌-◌, ◌<◌, false, ◌&&◌, ◌||◌, nat_lt, List}
+use Rattle.std.specs.Prelude.{◌≡◌, ℕ, ◌+◌, ◌<◌, false, ◌||◌, List}
 use Rattle.grid_core.specs.Candidates.{Candidates}
 use Rattle.grid_core.specs.Planes.{IsFurther, Layers, has}
 use Rattle.grid_core.specs.Words.{has_bit}
@@ -14,6 +14,7 @@ use Rattle.fields_core.specs.Visits.{AreIdle}
 use Rattle.fields_core.specs.declared.planes.tents.waits.Kind.{Kind}
 use Rattle.fields_core.specs.declared.planes.tents.waits.Kind.TheVariants.{Columns, Rows, Trees, Squares}
 use Rattle.fields_core.specs.declared.planes.tents.waits.Waits.{Waits}
+use Rattle.fields_core.specs.LineWords.{AreSpread}
 
 -- the houses of a kind at a line, how many lines there are, all of them, and which wait
 abbrev pub kind_houses : Tents → Kind → ℕ → List CountHouse
@@ -67,10 +68,7 @@ pub record AreTentsWoken {W : Type 0} (bits : W → ℕ) (room : ℕ) (before : 
   pub rows : (k : ℕ) → has_bit (bits now.rows) k
       ≡ (has_bit (bits before.rows) k
       || (has_bit (bits zeros.rows) k || has_bit (bits ones.rows) k))
-  pub trees : (k : ℕ) → has_bit (bits now.trees) k
-      ≡ (has_bit (bits before.trees) k
-      || (((nat_lt k room && (nat_lt 0 k && has_bit (bits ones.rows) (k - 1)))
-      || has_bit (bits ones.rows) k) || has_bit (bits ones.rows) (k + 1)))
+  pub trees : AreSpread bits room before.trees (has_bit (bits ones.rows)) now.trees
   pub squares : (k : ℕ) → has_bit (bits now.squares) k
       ≡ (has_bit (bits before.squares) k
       || (has_bit (bits zeros.rows) k || has_bit (bits zeros.rows) (k + 1)))

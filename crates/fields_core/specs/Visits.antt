@@ -1,5 +1,5 @@
 -- Visits of count houses on planes, one after another.
-use Rattle.std.specs.Prelude.{◌≡◌, ℕ, ◌<◌, Bool, true, false, List, [], ◌∷◌}
+use Rattle.std.specs.Prelude.{◌≡◌, ℕ, ◌<◌, Bool, true, false, not, ◌&&◌, ◌==◌, List, [], ◌∷◌}
 use Rattle.grid_core.specs.Candidates.{Candidates}
 use Rattle.grid_core.specs.Planes.{Layers, has, cells_of, IsFurther}
 use Rattle.fields_core.specs.CountHouse.{CountHouse, after_house}
@@ -22,3 +22,7 @@ pub record AreVisited (houses : List CountHouse) (from to : Layers) (fills : Boo
 -- visits of the houses take nothing
 abbrev pub AreIdle : List CountHouse → Candidates → Type 0
 AreIdle houses K = after_houses houses K ≡ K
+
+-- the board without 0 in the cells that pass
+unfoldable pub without_zeros : (ℕ → Bool) → Candidates → Candidates
+without_zeros passes K c v = K c v && not ((v == 0) && passes c)

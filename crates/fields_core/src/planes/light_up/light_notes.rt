@@ -3,11 +3,12 @@
 ghost use Rattle.std.specs.Prelude.{◌≡◌, ℕ, ◌*◌, ◌≤◌, length};
 ghost use Rattle.fields_core.specs.Common.{AreRowTables, AreTables, HasTables, IsLight, has, light_cells, light_rules};
 
+use crate::count::rules::CountRules;
 use crate::light_up::cells::{columns, rows};
 use crate::planes::game::SweepNotes;
 use crate::planes::light_up::tables::{LightTables, cells_of_row, write_runs};
 use crate::planes::light_up::waits::LineWaits;
-use engine_core::Needs;
+use engine_core::{Needs, PlaneNotes, Taken};
 use gameid_core::LightPuzzle;
 use grid_core::{Line, Planes, Word};
 use std::alloc::{AllocError, Global};
@@ -65,15 +66,13 @@ impl<W: Word> LightTables<W> {
     }
 }
 
-impl<W: Word> SweepNotes<W, LightPuzzle> for LightNotes<W> {
+impl<W: Word> PlaneNotes<W, CountRules<LightPuzzle>> for LightNotes<W> {
+    ghost use Rattle.std.proofs.Common.{subst, sym};
     ghost use Rattle.fields_core.specs.LightPlanes.{AreLightsWritten, HasLightRoom};
-    ghost use Rattle.fields_core.specs.LightWaits.{AreLightsReady};
 
     ghost fits = { λ notes needs. HasLightRoom needs.cells W.room notes };
 
-    ghost written = { λ p notes. AreLightsWritten W.bits p notes };
-
-    ghost ready = { λ p planes notes. AreLightsReady W.bits W.room p planes notes };
+    ghost written = { λ rules notes. AreLightsWritten W.bits rules.puzzle notes };
 
     fn new(alloc: Global, made: Needs) -> Result<LightNotes<W>, AllocError> {
         Ok(LightNotes {
@@ -83,10 +82,34 @@ impl<W: Word> SweepNotes<W, LightPuzzle> for LightNotes<W> {
         })
     }
 
-    fn start(&mut self, planes: &mut Planes<W>, puzzle: &LightPuzzle) {
-        self.tables.start_rows(planes, puzzle);
-        self.tables.write_columns(planes, puzzle);
+    fn start(&mut self, planes: &mut Planes<W>, rules: &CountRules<LightPuzzle>) {
+        self.tables.start_rows(planes, rules.puzzle());
+        self.tables.write_columns(planes, rules.puzzle());
     }
+
+    fn close(
+        &mut self,
+        planes: &mut Planes<W>,
+        rules: &CountRules<LightPuzzle>,
+        _scratch: &mut (),
+        from: Option<usize>,
+    ) -> Taken {
+        SweepNotes::close(self, planes, rules.puzzle(), from)
+    }
+
+    ghost fits_smaller = { λ notes need had fits room.
+        subst (λ n. HasLightRoom n W.room notes) (sym fits.same_cells) room };
+}
+
+impl<W: Word> SweepNotes<W, LightPuzzle> for LightNotes<W> {
+    ghost use Rattle.fields_core.specs.LightPlanes.{AreLightsWritten, HasLightRoom};
+    ghost use Rattle.fields_core.specs.LightWaits.{AreLightsReady};
+
+    ghost fits = { λ notes needs. HasLightRoom needs.cells W.room notes };
+
+    ghost written = { λ p notes. AreLightsWritten W.bits p notes };
+
+    ghost ready = { λ p planes notes. AreLightsReady W.bits W.room p planes notes };
 
     fn begin(&mut self, planes: &Planes<W>, puzzle: &LightPuzzle, from: Option<usize>) {
         self.waits = LineWaits::begin(planes, puzzle, from);

@@ -4,10 +4,12 @@ ghost use Rattle.std.specs.Prelude.{◌*◌, ◌+◌, ◌<◌, ◌≡◌, ◌≤
 ghost use Rattle.fields_core.specs.Common.{IsRowOf, IsTents, has, is_barred, tent_rules};
 
 use crate::count::game::CountGame;
+use crate::count::rules::CountRules;
 use crate::planes::game::SweepNotes;
 use crate::planes::tents::trees::write_trees;
 use crate::planes::tents::waits::{Kind, Waits};
-use engine_core::Needs;
+use crate::tents::pairs::PairingScratch;
+use engine_core::{Needs, PlaneNotes, Taken};
 use gameid_core::TentsPuzzle;
 use grid_core::{Line, Planes, Word};
 use std::alloc::{AllocError, Global};
@@ -53,14 +55,12 @@ fn start_tents<W: Word>(planes: &mut Planes<W>, puzzle: &TentsPuzzle)
     }
 }
 
-impl<W: Word> SweepNotes<W, TentsPuzzle> for TentNotes<W> {
-    ghost use Rattle.fields_core.specs.TentNotes.{AreTentsReady, AreTentsWritten};
+impl<W: Word> PlaneNotes<W, CountRules<TentsPuzzle>> for TentNotes<W> {
+    ghost use Rattle.fields_core.specs.TentNotes.{AreTentsWritten};
 
     ghost fits = { λ notes _. W.room ≤ length notes.trees.items };
 
-    ghost written = { λ p notes. AreTentsWritten W.bits p notes };
-
-    ghost ready = { λ p planes notes. AreTentsReady W.bits W.room p planes notes };
+    ghost written = { λ rules notes. AreTentsWritten W.bits rules.puzzle notes };
 
     fn new(alloc: Global, _made: Needs) -> Result<TentNotes<W>, AllocError> {
         Ok(TentNotes {
@@ -69,10 +69,32 @@ impl<W: Word> SweepNotes<W, TentsPuzzle> for TentNotes<W> {
         })
     }
 
-    fn start(&mut self, planes: &mut Planes<W>, puzzle: &TentsPuzzle) {
-        start_tents(planes, puzzle);
-        write_trees(&mut self.trees, puzzle);
+    fn start(&mut self, planes: &mut Planes<W>, rules: &CountRules<TentsPuzzle>) {
+        start_tents(planes, rules.puzzle());
+        write_trees(&mut self.trees, rules.puzzle());
     }
+
+    fn close(
+        &mut self,
+        planes: &mut Planes<W>,
+        rules: &CountRules<TentsPuzzle>,
+        _scratch: &mut PairingScratch,
+        from: Option<usize>,
+    ) -> Taken {
+        SweepNotes::close(self, planes, rules.puzzle(), from)
+    }
+
+    ghost fits_smaller = { λ _ _ _ _ room. room };
+}
+
+impl<W: Word> SweepNotes<W, TentsPuzzle> for TentNotes<W> {
+    ghost use Rattle.fields_core.specs.TentNotes.{AreTentsReady, AreTentsWritten};
+
+    ghost fits = { λ notes _. W.room ≤ length notes.trees.items };
+
+    ghost written = { λ p notes. AreTentsWritten W.bits p notes };
+
+    ghost ready = { λ p planes notes. AreTentsReady W.bits W.room p planes notes };
 
     fn begin(&mut self, planes: &Planes<W>, puzzle: &TentsPuzzle, from: Option<usize>) {
         self.waits = Waits::new(planes, puzzle, from);

@@ -1,4 +1,4 @@
-use Rattle.fields_core.proofs.Common.{ap, sym, ◌∙◌, ◌∷◌, []}
+use Rattle.fields_core.proofs.Common.{[], ap, sym, ◌∙◌, ◌∷◌}
 use Rattle.fields_core.proofs.LightLatest.{run-told}
 use Rattle.fields_core.proofs.LightHouseNames.{run-begins}
 use Rattle.fields_core.proofs.light_up.light_house.run_told.Goals as goal

@@ -1,5 +1,4 @@
-use Rattle.fields_core.proofs.Common.{has_bit, inr, sym, ◌∙◌}
-use Rattle.grid_core.proofs.TurnLemmas.{fewer_left}
+use Rattle.fields_core.proofs.Common.{fewer_left, has_bit, inr, sym, ◌∙◌}
 use Rattle.fields_core.proofs.LightReach.{last-done, last-more, last-next}
 use Rattle.fields_core.proofs.planes.light_up.reach.highest.Goals as goal
 

@@ -1,8 +1,7 @@
-use Rattle.fields_core.proofs.Common.{Light, LightCell, Some, ap, refl, slice_get, white, ℕ, ◌*◌, ◌+◌, ◌∙◌, ◌≡◌}
-use Rattle.fields_core.specs.LightNumbers.{has_number}
+use Rattle.fields_core.proofs.Common.{Light, LightCell, Some, ap, has_number, refl, slice_get, white, ℕ, ◌*◌, ◌+◌, ◌∙◌, ◌≡◌}
 unfoldable use Rattle.fields_core.specs.LightNumbers.{is_numbered}
 use Rattle.fields_core.proofs.LightLines.{cell-at, white-at}
-use Rattle.fields_core.proofs.TentTreeWords.{next-off, next-on}
+use Rattle.fields_core.proofs.RowWords.{next-off, next-on}
 use Rattle.fields_core.proofs.planes.light_up.tables.cells_of_row.Goals as goal
 use Rattle.fields_core.proofs.planes.light_up.tables.cells_of_row.Goals.{in-White, in-Black, in-Numbered}
 

@@ -1,6 +1,4 @@
-use Rattle.fields_core.proofs.Common.{ltb, white, ℕ, ◌&&◌, ◌*◌, ◌+◌, ◌≡◌}
-use Rattle.grid_core.specs.Words.{has_bit}
-use Rattle.fields_core.specs.LightNumbers.{is_numbered}
+use Rattle.fields_core.proofs.Common.{has_bit, is_numbered, ltb, white, ℕ, ◌&&◌, ◌*◌, ◌+◌, ◌≡◌}
 use Rattle.fields_core.proofs.planes.light_up.tables.cells_of_row.Given as goal
 
 abbrev pub invariant-loop-x : goal.invariant-loop-x

@@ -1,5 +1,4 @@
-use Rattle.fields_core.proofs.Common.{length, map, ◌≡◌}
-use Rattle.fields_core.specs.LightRunWords.{AreFilled}
+use Rattle.fields_core.proofs.Common.{AreFilled, length, map, ◌≡◌}
 use Rattle.fields_core.proofs.planes.light_up.tables.fill.Given as goal
 
 abbrev pub invariant-loop-at : goal.invariant-loop-at

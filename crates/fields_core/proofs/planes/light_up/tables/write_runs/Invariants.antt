@@ -1,5 +1,4 @@
-use Rattle.fields_core.proofs.Common.{has_bit, length, map, ◌-◌, ◌≡◌, ◌≤◌}
-use Rattle.fields_core.specs.LightRunWords.{AreWritten}
+use Rattle.fields_core.proofs.Common.{AreWritten, has_bit, length, map, ◌-◌, ◌≡◌, ◌≤◌}
 use Rattle.fields_core.proofs.LightRunWords.{AreLeft}
 use Rattle.fields_core.proofs.planes.light_up.tables.write_runs.Given as goal
 

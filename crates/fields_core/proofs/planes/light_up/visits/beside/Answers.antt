@@ -1,4 +1,4 @@
-use Rattle.fields_core.proofs.Common.{arith, cases_eq, common_steps, eq-eqb, eqb, lt-ltb, ltb, ne_eqb, zero, suc, ℕ, ◌&&◌, ◌+◌, ◌-◌, ◌<◌, ◌||◌, ◌∙◌, ◌≡◌}
+use Rattle.fields_core.proofs.Common.{arith, cases_eq, common_steps, eq-eqb, eqb, lt-ltb, ltb, ne_eqb, suc, zero, ℕ, ◌&&◌, ◌+◌, ◌-◌, ◌<◌, ◌||◌, ◌∙◌, ◌≡◌}
 use Rattle.fields_core.proofs.planes.light_up.visits.beside.Goals as goal
 
 -- one place further on, and one further back

@@ -1,5 +1,4 @@
-use Rattle.fields_core.proofs.Common.{at_line, has_bit, ltb, map, not, slice_index, ℕ, ◌&&◌, ◌*◌, ◌+◌, ◌≡◌, ◌≤◌, refl, ◌∙◌}
-use Rattle.grid_core.specs.Planes.{line_len}
+use Rattle.fields_core.proofs.Common.{at_line, has_bit, line_len, ltb, map, not, refl, slice_index, ℕ, ◌&&◌, ◌*◌, ◌+◌, ◌∙◌, ◌≡◌, ◌≤◌}
 use Rattle.fields_core.proofs.LightRunLines.{runs-clash, runs-met}
 use Rattle.fields_core.proofs.LightReach.{line-must}
 use Rattle.fields_core.proofs.planes.light_up.visits.visit_line.Goals as goal

@@ -1,8 +1,7 @@
-use Rattle.fields_core.proofs.Common.{length-map, Black, Extent, Light, Numbered, ap, arith, get_or, row-at, subst, sym, white, ℕ, ◌*◌, ◌+◌, ◌∙◌, ◌≡◌, ◌≤◌, ArePieces, true≢false}
-use Rattle.grid_core.specs.Planes.{ArePlanes}
+use Rattle.fields_core.proofs.Common.{ArePieces, ArePlanes, Black, Extent, Light, Numbered, ap, arith, get_or, length-map, row-at, subst, sym, true≢false, white, ℕ, ◌*◌, ◌+◌, ◌∙◌, ◌≡◌, ◌≤◌}
 use Rattle.fields_core.proofs.LightLines.{cell-at}
 use Rattle.fields_core.proofs.LightNumberVisits.{IsBeside, beside-other, beside-word, black-visited, both_pieces, number-filled, number-house-of, number-short, pieces-apart, white-visited}
-use Rattle.fields_core.proofs.TentTreeWords.{row-read}
+use Rattle.fields_core.proofs.RowWords.{row-read}
 use Rattle.fields_core.proofs.planes.light_up.visits.visit_number.Goals as goal
 use Rattle.fields_core.proofs.planes.light_up.visits.visit_number.Goals.{After-cell, After-from-ones}
 

@@ -1,4 +1,4 @@
-use Rattle.fields_core.proofs.ClosedGrids.{closed-met}
+use Rattle.fields_core.proofs.PlaneSweeps.{closed-met}
 use Rattle.fields_core.proofs.planes.rules.CountRulesPlaneRules.completes.Goals as goal
 
 pub completes-requires-clause-met : goal.completes-requires-clause-met

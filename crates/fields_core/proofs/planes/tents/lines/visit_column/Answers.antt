@@ -1,4 +1,4 @@
-use Rattle.std.proofs.Common.{◌∙◌}
+use Rattle.fields_core.proofs.Common.{◌∙◌}
 use Rattle.fields_core.proofs.TentVisits.{column-visited}
 use Rattle.fields_core.proofs.planes.tents.lines.visit_column.Goals as goal
 

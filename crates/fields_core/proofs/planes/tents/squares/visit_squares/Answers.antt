@@ -1,5 +1,4 @@
-use Rattle.fields_core.proofs.Common.{Extent, ap, arith, further-more, inl, inr, refl, sym, ◌+◌, ◌<◌, ◌∙◌}
-use Rattle.grid_core.specs.Planes.{has}
+use Rattle.fields_core.proofs.Common.{Extent, ap, arith, further-more, has, inl, inr, refl, sym, ◌+◌, ◌<◌, ◌∙◌}
 use Rattle.fields_core.proofs.TentSquareVisits.{AreMust, beside-die, none-below, rows-struck, squares-met, twice-die}
 use Rattle.fields_core.proofs.planes.tents.squares.visit_squares.Goals as goal
 use Rattle.fields_core.proofs.planes.tents.squares.visit_squares.Goals.{After-on-after, then-w-lt2-via-then-w-lt2, then-w-lt2-via-else-w-lt2+then-y-h, then-is_some-via-then-is_some, then-is_some-via-else-is_some+then-is_some-2}

@@ -1,7 +1,5 @@
-use Rattle.std.proofs.Common.{arith, ◌≡◌, ◌∙◌, ◌+◌, ◌*◌, ◌<◌}
-use Rattle.grid_core.specs.Candidates.{max_cells}
+use Rattle.fields_core.proofs.Common.{arith, max_cells, place-in, ◌*◌, ◌+◌, ◌<◌, ◌∙◌, ◌≡◌}
 use Rattle.grid_core.proofs.LineLemmas.{few_cells}
-use Rattle.grid_core.proofs.PlaneLemmas.{place-in}
 use Rattle.fields_core.proofs.planes.tents.tent_notes.barred_in.Goals as goal
 use Rattle.fields_core.proofs.planes.tents.tent_notes.barred_in.Goals.{In-loop-x}
 

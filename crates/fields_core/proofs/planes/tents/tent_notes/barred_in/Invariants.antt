@@ -1,6 +1,4 @@
-use Rattle.std.proofs.Common.{◌≡◌, ℕ, ◌+◌, ◌*◌, ◌&&◌, ltb}
-use Rattle.grid_core.specs.Words.{has_bit}
-use Rattle.fields_core.specs.TentHouses.{is_barred}
+use Rattle.fields_core.proofs.Common.{has_bit, is_barred, ltb, ℕ, ◌&&◌, ◌*◌, ◌+◌, ◌≡◌}
 use Rattle.fields_core.proofs.planes.tents.tent_notes.barred_in.Given as goal
 
 abbrev pub invariant-loop-x : goal.invariant-loop-x

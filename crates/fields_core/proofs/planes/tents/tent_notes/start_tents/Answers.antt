@@ -1,6 +1,4 @@
-use Rattle.std.proofs.Common.{◌≡◌, ◌∙◌, ◌*◌, ap, arith}
-use Rattle.grid_core.specs.Extent.{Extent}
-use Rattle.grid_core.specs.Planes.{has}
+use Rattle.fields_core.proofs.Common.{Extent, ap, arith, has, ◌*◌, ◌∙◌, ◌≡◌}
 use Rattle.fields_core.proofs.RuleLemmas.{start-all, row-blocked}
 use Rattle.fields_core.proofs.planes.tents.tent_notes.start_tents.Goals as goal
 

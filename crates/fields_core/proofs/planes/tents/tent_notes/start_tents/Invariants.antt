@@ -1,8 +1,5 @@
-use Rattle.std.proofs.Common.{◌≡◌, ◌*◌, length}
-use Rattle.grid_core.specs.Planes.{has}
+use Rattle.fields_core.proofs.Common.{has, is_barred, length, tent_cells, ◌*◌, ◌≡◌}
 use Rattle.fields_core.proofs.RuleLemmas.{IsStarted}
-use Rattle.fields_core.specs.TentHouses.{is_barred}
-use Rattle.fields_core.specs.Tents.{tent_cells}
 use Rattle.fields_core.proofs.planes.tents.tent_notes.start_tents.Given as goal
 
 abbrev pub invariant-loop-y : goal.invariant-loop-y

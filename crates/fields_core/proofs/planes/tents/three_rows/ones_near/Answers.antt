@@ -1,5 +1,4 @@
-use Rattle.fields_core.proofs.Common.{Extent, ap, arith, ◌∙◌, ◌≡◌}
-use Rattle.grid_core.specs.Planes.{ArePlanes}
+use Rattle.fields_core.proofs.Common.{ArePlanes, Extent, ap, arith, ◌∙◌, ◌≡◌}
 use Rattle.fields_core.proofs.TentTreeWords.{near-ones, row-ones}
 use Rattle.fields_core.proofs.planes.tents.three_rows.ones_near.Goals as goal
 use Rattle.fields_core.proofs.planes.tents.three_rows.ones_near.Goals.{then-y-gt0, else-y-gt0, then-y-h, else-y-h}

@@ -1,5 +1,4 @@
-use Rattle.fields_core.proofs.Common.{Extent, ap, arith, further-more, refl, ◌∙◌, ◌≡◌}
-use Rattle.grid_core.specs.Planes.{ArePlanes}
+use Rattle.fields_core.proofs.Common.{ArePlanes, Extent, ap, arith, further-more, refl, ◌∙◌, ◌≡◌}
 use Rattle.fields_core.proofs.TentTreeWords.{taken-is, zeros-taken}
 use Rattle.fields_core.proofs.planes.tents.trees.take_beside.Goals as goal
 

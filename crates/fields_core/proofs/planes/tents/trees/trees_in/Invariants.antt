@@ -1,6 +1,4 @@
-use Rattle.fields_core.proofs.Common.{ltb, ℕ, ◌&&◌, ◌*◌, ◌+◌, ◌≡◌}
-use Rattle.grid_core.specs.Words.{has_bit}
-use Rattle.fields_core.specs.TentTrees.{wants_tent}
+use Rattle.fields_core.proofs.Common.{has_bit, ltb, wants_tent, ℕ, ◌&&◌, ◌*◌, ◌+◌, ◌≡◌}
 use Rattle.fields_core.proofs.planes.tents.trees.trees_in.Given as goal
 
 abbrev pub invariant-loop-x : goal.invariant-loop-x

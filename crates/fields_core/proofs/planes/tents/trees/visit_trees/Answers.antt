@@ -1,10 +1,7 @@
-use Rattle.fields_core.proofs.Common.{Bool, Extent, Tents, and_parts, arith, cases_Bool, common_steps, fun_ext, has_bit, ltb-true, map, not, subst, sym, tree, ℕ, ◌&&◌, ◌∙◌, ◌≡◌, ◌≤◌}
-use Rattle.grid_core.specs.Planes.{has}
+use Rattle.fields_core.proofs.Common.{Bool, Extent, IsNear, IsRowOf, Tents, and_parts, arith, cases_Bool, common_steps, fun_ext, has, has_bit, is_beside, ltb-true, map, not, subst, sym, tree, wants_tent, without_zeros, ℕ, ◌&&◌, ◌∙◌, ◌≡◌}
 use Rattle.fields_core.specs.TentNotes.{IsFieldOf}
-use Rattle.fields_core.specs.TentTrees.{IsNear, is_beside, wants_tent, without_zeros}
-use Rattle.fields_core.specs.LineWords.{AreRowsOf, IsRowOf}
 use Rattle.fields_core.proofs.TentTreeBoards.{row-dead, row-visited}
-use Rattle.fields_core.proofs.TentTreeWords.{row-read}
+use Rattle.fields_core.proofs.RowWords.{row-read}
 use Rattle.fields_core.proofs.planes.tents.trees.visit_trees.Goals as goal
 use Rattle.fields_core.proofs.planes.tents.trees.visit_trees.Goals.{After-index-trees-from}
 

@@ -1,6 +1,4 @@
-use Rattle.std.proofs.Common.{rules}
-use Rattle.std.proofs.lemmas.List.Sums.{length-filter}
-use Rattle.fields_core.proofs.Common.{ap, ltb, not, sym, tree, ◌∙◌}
+use Rattle.fields_core.proofs.Common.{ap, length-filter, ltb, not, rules, sym, tree, ◌∙◌}
 use Rattle.fields_core.proofs.PlaceLists.{some-counted}
 unfoldable use Rattle.fields_core.specs.TentTrees.{wants_tent}
 use Rattle.fields_core.proofs.planes.tents.trees.wants_a_tent.Goals as goal

@@ -1,7 +1,5 @@
-use Rattle.fields_core.proofs.Common.{arith, length, length-set, ◌<◌, ◌∙◌, ◌≡◌}
-use Rattle.fields_core.specs.TentTrees.{wants_tent}
-use Rattle.fields_core.specs.LineWords.{IsRowOf}
-use Rattle.fields_core.proofs.TentTreeWords.{rows-more}
+use Rattle.fields_core.proofs.Common.{IsRowOf, arith, length, length-set, wants_tent, ◌<◌, ◌∙◌, ◌≡◌}
+use Rattle.fields_core.proofs.RowWords.{rows-more}
 use Rattle.fields_core.proofs.planes.tents.trees.write_trees.Goals as goal
 
 pub loop-y-preserved : goal.loop-y-preserved

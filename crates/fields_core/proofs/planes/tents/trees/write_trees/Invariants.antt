@@ -1,6 +1,4 @@
-use Rattle.fields_core.proofs.Common.{length, map, slice_index, ℕ, ◌<◌, ◌≡◌}
-use Rattle.fields_core.specs.TentTrees.{wants_tent}
-use Rattle.fields_core.specs.LineWords.{IsRowOf}
+use Rattle.fields_core.proofs.Common.{IsRowOf, length, map, slice_index, wants_tent, ℕ, ◌<◌, ◌≡◌}
 use Rattle.fields_core.proofs.planes.tents.trees.write_trees.Given as goal
 
 abbrev pub invariant-loop-y : goal.invariant-loop-y

@@ -1,10 +1,4 @@
-use Rattle.fields_core.proofs.Common.{and_parts, arith, cases_Bool, has_bit, houses_below, inl, inr, light_cells, lit_house, lt-ltb, ltb-true, map, not, or_cases, or_parts, refl, slice_index, sym, true, true≢false, false, white, Bool, common_steps, ◌&&◌, ◌*◌, ◌+◌, ◌<◌, ◌∙◌, ◌≡◌, ◌≤◌, ℕ}
-use Rattle.grid_core.specs.Planes.{has}
-use Rattle.grid_core.proofs.PlaneLemmas.{place-in}
-use Rattle.fields_core.specs.LightPlanes.{ArePlanesOf}
-use Rattle.fields_core.specs.LightWaits.{AreSafeInColumns, AreWhitesIdleBut, lits_of_row}
-use Rattle.fields_core.specs.LineWords.{IsRowOf}
-use Rattle.fields_core.specs.Visits.{AreVisited}
+use Rattle.fields_core.proofs.Common.{ArePlanesOf, AreSafeInColumns, AreVisited, AreWhitesIdleBut, Bool, IsRowOf, and_parts, arith, cases_Bool, common_steps, false, has, has_bit, houses_below, inl, inr, light_cells, lit_house, lits_of_row, lt-ltb, ltb-true, map, not, or_cases, or_parts, place-in, refl, slice_index, sym, true, true≢false, white, ℕ, ◌&&◌, ◌*◌, ◌+◌, ◌<◌, ◌∙◌, ◌≡◌, ◌≤◌}
 use Rattle.fields_core.proofs.IdleLemmas.{visited-skip}
 use Rattle.fields_core.proofs.LightCounting.{light-board}
 use Rattle.fields_core.proofs.LightSafeCells.{joined-down, safe-moved}
@@ -12,7 +6,7 @@ use Rattle.fields_core.proofs.LightReach.{away-from}
 use Rattle.fields_core.proofs.LightRunBegins.{column-white-start}
 use Rattle.fields_core.proofs.LightSweeps.{lits-are, lits-done, lits-safe, lits-stay, out-idle, planes-next, ready-next, row-lits, row-stays, rows-safe}
 use Rattle.fields_core.proofs.LightLitRuns.{black-idle, column-safe, planes-full}
-use Rattle.fields_core.proofs.TentTreeWords.{row-read, rows-read}
+use Rattle.fields_core.proofs.RowWords.{row-read, rows-read}
 use Rattle.fields_core.proofs.VisitLemmas.{sweep-broken, sweep-first, sweep-more}
 use Rattle.fields_core.proofs.planes.light_up.light_notes.LightNotes.sweep_cells.Goals as goal
 use Rattle.fields_core.proofs.planes.light_up.light_notes.LightNotes.sweep_cells.Goals.{After-whites-some, After-settle_whites}

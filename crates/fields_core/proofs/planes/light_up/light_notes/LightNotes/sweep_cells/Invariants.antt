@@ -1,7 +1,4 @@
-use Rattle.fields_core.proofs.Common.{has_bit, houses_below, joined_in_column, true, ℕ, ◌*◌, ◌+◌, ◌≡◌, ◌≤◌}
-use Rattle.grid_core.specs.Planes.{has}
-use Rattle.fields_core.specs.LightWaits.{AreSafe, lits_of_row}
-use Rattle.fields_core.specs.Visits.{AreVisited}
+use Rattle.fields_core.proofs.Common.{AreSafe, AreVisited, has, has_bit, houses_below, joined_in_column, lits_of_row, true, ℕ, ◌*◌, ◌+◌, ◌≡◌, ◌≤◌}
 use Rattle.fields_core.proofs.planes.light_up.light_notes.LightNotes.sweep_cells.Given as goal
 
 abbrev pub invariant-loop-y : goal.invariant-loop-y

@@ -1,8 +1,5 @@
-use Rattle.fields_core.proofs.Common.{has_bit}
-use Rattle.fields_core.specs.LightPlanes.{AreTablesKept}
-use Rattle.fields_core.specs.LightWaits.{AreLightsReady}
-use Rattle.fields_core.specs.LightWords.{numbers_of_row}
-use Rattle.fields_core.proofs.LightPassed.{ArePassed, places_on}
+use Rattle.fields_core.proofs.Common.{AreLightsReady, AreTablesKept, has_bit, numbers_of_row}
+use Rattle.fields_core.proofs.PassedLines.{ArePassed, places_on}
 use Rattle.fields_core.proofs.planes.light_up.light_notes.LightNotes.sweep_numbers.Given as goal
 
 abbrev pub invariant-loop-left : goal.invariant-loop-left

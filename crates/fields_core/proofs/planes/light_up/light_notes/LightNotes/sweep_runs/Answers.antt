@@ -1,11 +1,8 @@
-use Rattle.fields_core.proofs.Common.{and_parts, arith, houses_below, ltb-true, lt-ltb, refl, sym, true, false, cases_Bool, common_steps, Bool, ◌&&◌, ◌∙◌, ◌≡◌, ◌≤◌, ℕ, Light}
-use Rattle.grid_core.specs.Planes.{has}
-use Rattle.fields_core.specs.LightWaits.{run_houses, run_lines}
-use Rattle.fields_core.specs.Visits.{AreVisited}
-use Rattle.fields_core.specs.declared.planes.light_up.waits.RunKind.{RunKind}
+use Rattle.fields_core.proofs.Common.{AreVisited, Bool, Light, RunKind, and_parts, arith, cases_Bool, common_steps, false, has, houses_below, light_cells, lt-ltb, ltb-true, refl, run_houses, run_lines, sym, true, ℕ, ◌&&◌, ◌∙◌, ◌≡◌, ◌≤◌}
 use Rattle.fields_core.specs.declared.planes.light_up.waits.RunKind.TheVariants.{Rows, Columns}
-use Rattle.fields_core.proofs.LightPassed.{fewer-on, passed-all, passed-broken, passed-first, passed-next, rest-off, rest-on}
-use Rattle.fields_core.proofs.LightSweeps.{planes-next, ready-next, runs-done, runs-kept}
+use Rattle.fields_core.proofs.PassedLines.{fewer-on, passed-all, passed-broken, passed-first, rest-on}
+use Rattle.fields_core.proofs.QuietVisits.{quiet-next, singles-quiet}
+use Rattle.fields_core.proofs.LightSweeps.{planes-next, ready-next, runs-done, runs-single}
 use Rattle.fields_core.proofs.planes.light_up.light_notes.LightNotes.sweep_runs.Goals as goal
 use Rattle.fields_core.proofs.planes.light_up.light_notes.LightNotes.sweep_runs.Goals.{After-settle_runs}
 
@@ -42,12 +39,10 @@ loop-left-preserved g c =
     let passed = c.loop-left.invariant.passed in
     let least = c.lowest.ensures in
     let without = λ (k : ℕ). c.without_lowest-left.ensures c.lowest.result k least in
-    let of = planes-next c.requires.ready.planes_of passed.visited.further passed.visited.alive in
+    let of = c.requires.ready.planes_of in
     record {
-      passed = passed-next (run_houses p kind) passed least c.visit_runs.ensures c.if-not-visit_runs.false _
-          (λ k on. let w = rest-on least without k on in (w.0, passed.inside k w.1))
-          (λ k high lt off. runs-kept p kind c.lowest.result k of (passed.inside c.lowest.result least.has) lt (rw c.if-not-visit_runs.false at c.visit_runs.ensures)
-          (passed.idle k (omega (arith, high, passed.behind c.lowest.result least.has)) lt (rest-off least without k high off)));
+      passed = quiet-next (singles-quiet (light_cells p)) (run_houses p kind) (λ k lt. runs-single p kind k of.lawful lt) (rw of.size refl)
+          passed least c.visit_runs.ensures c.if-not-visit_runs.false _ without;
     }
 
 -- all of the kind are passed

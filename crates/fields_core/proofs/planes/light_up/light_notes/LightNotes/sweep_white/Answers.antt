@@ -1,5 +1,4 @@
-use Rattle.fields_core.proofs.Common.{column_house, houses_below, light_cells, lit_house, row_house, ◌++◌, ◌∙◌}
-use Rattle.fields_core.specs.Visits.{AreVisited}
+use Rattle.fields_core.proofs.Common.{AreVisited, column_house, houses_below, light_cells, lit_house, row_house, ◌++◌, ◌∙◌}
 use Rattle.fields_core.proofs.LightRunOrder.{column-runs-visited, row-runs-are}
 use Rattle.fields_core.proofs.VisitLemmas.{visited-dead, visited-more}
 use Rattle.fields_core.proofs.planes.light_up.light_notes.LightNotes.sweep_white.Goals as goal

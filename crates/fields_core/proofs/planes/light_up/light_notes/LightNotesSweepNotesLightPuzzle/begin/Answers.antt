@@ -1,4 +1,4 @@
-use Rattle.fields_core.proofs.LightBoards.{planes-of}
+use Rattle.fields_core.proofs.LightSweeps.{planes-of}
 use Rattle.fields_core.proofs.planes.light_up.light_notes.LightNotesSweepNotesLightPuzzle.begin.Goals as goal
 
 pub begin-self-requires-clause-planes : goal.begin-self-requires-clause-planes

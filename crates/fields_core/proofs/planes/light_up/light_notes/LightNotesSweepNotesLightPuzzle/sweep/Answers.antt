@@ -1,4 +1,4 @@
-use Rattle.fields_core.specs.LightWaits.{white_houses}
+use Rattle.fields_core.proofs.Common.{white_houses}
 use Rattle.fields_core.proofs.LightSweeps.{lights-swept}
 use Rattle.fields_core.proofs.VisitLemmas.{visited-dead, visited-more}
 use Rattle.fields_core.proofs.planes.light_up.light_notes.LightNotesSweepNotesLightPuzzle.sweep.Goals as goal

@@ -1,11 +1,8 @@
-use Rattle.fields_core.proofs.Common.{Bool, Extent, ap, arith, cases_Bool, common_steps, length, length-set, ltb, not, white, ◌&&◌, ◌*◌, ◌+◌, ◌<◌, ◌∙◌, ◌≡◌}
-use Rattle.grid_core.specs.Planes.{has}
-use Rattle.fields_core.specs.LightNumbers.{is_numbered}
-use Rattle.fields_core.specs.LineWords.{IsRowOf}
+use Rattle.fields_core.proofs.Common.{Bool, Extent, IsRowOf, ap, arith, cases_Bool, common_steps, has, is_numbered, length, length-set, ltb, not, white, ◌&&◌, ◌*◌, ◌+◌, ◌<◌, ◌∙◌, ◌≡◌}
 use Rattle.fields_core.proofs.LightCounting.{light-board}
 use Rattle.fields_core.proofs.RuleLemmas.{row-blocked, start-all}
 use Rattle.fields_core.proofs.LightRunWords.{rows-written}
-use Rattle.fields_core.proofs.TentTreeWords.{rows-more}
+use Rattle.fields_core.proofs.RowWords.{rows-more}
 use Rattle.fields_core.proofs.planes.light_up.tables.LightTables.start_rows.Goals as goal
 
 others : (a b : Bool) → (a && not (a && b)) ≡ (a && not b)

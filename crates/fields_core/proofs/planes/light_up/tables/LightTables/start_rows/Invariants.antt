@@ -1,8 +1,4 @@
-use Rattle.fields_core.proofs.Common.{length, light_cells, map, not, slice_index, white, ℕ, ◌*◌, ◌<◌, ◌≡◌}
-use Rattle.grid_core.specs.Planes.{has}
-use Rattle.fields_core.specs.LightWords.{IsRowRun}
-use Rattle.fields_core.specs.LightNumbers.{is_numbered}
-use Rattle.fields_core.specs.LineWords.{IsRowOf}
+use Rattle.fields_core.proofs.Common.{IsRowOf, IsRowRun, has, is_numbered, length, light_cells, map, not, slice_index, white, ℕ, ◌*◌, ◌<◌, ◌≡◌}
 use Rattle.fields_core.proofs.RuleLemmas.{IsStarted}
 use Rattle.fields_core.proofs.planes.light_up.tables.LightTables.start_rows.Given as goal
 

@@ -1,5 +1,4 @@
-use Rattle.fields_core.proofs.Common.{arith, refl, sym, ◌∙◌}
-use Rattle.fields_core.specs.LightWords.{IsColumnRun, IsRowRun}
+use Rattle.fields_core.proofs.Common.{IsColumnRun, IsRowRun, arith, refl, sym, ◌∙◌}
 use Rattle.fields_core.proofs.LightSafeCells.{table-read}
 use Rattle.fields_core.proofs.LightLitVisits.{AreRunsAt, black-visited, house-of, lit-visited, pieces-in, some-cell}
 use Rattle.fields_core.proofs.planes.light_up.tables.LightTables.visit_lit.Goals as goal

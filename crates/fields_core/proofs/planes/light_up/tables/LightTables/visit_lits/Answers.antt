@@ -1,12 +1,7 @@
-use Rattle.fields_core.proofs.Common.{CountHouse, List, and-true, and_parts, arith, cases_Bool, eqb, eqb-true, false, has_bit, inl, inr, joined_in_column, joined_in_row, lit_house, ltb-true, not, or_cases, refl, sym, true, true≢false, ℕ, ◌&&◌, ◌*◌, ◌+◌, ◌<◌, ◌∙◌, ◌≡◌}
-use Rattle.grid_core.specs.Planes.{has}
-use Rattle.fields_core.specs.LightPlanes.{ArePlanesOf}
-use Rattle.fields_core.specs.LightWaits.{AreSafe}
-use Rattle.fields_core.specs.LightWords.{IsColumnRun, IsRowRun}
-use Rattle.fields_core.specs.Visits.{AreIdle}
+use Rattle.fields_core.proofs.Common.{AreIdle, ArePlanesOf, AreSafe, CountHouse, IsColumnRun, IsRowRun, List, and-true, and_parts, arith, cases_Bool, eqb, eqb-true, false, has, has_bit, inl, inr, joined_in_column, joined_in_row, lit_house, ltb-true, not, or_cases, refl, sym, true, true≢false, ℕ, ◌&&◌, ◌*◌, ◌+◌, ◌<◌, ◌∙◌, ◌≡◌}
 use Rattle.fields_core.proofs.IdleLemmas.{visited-idle}
 use Rattle.fields_core.proofs.LightSafeCells.{column-must, row-moved, row-must, row-two, table-read}
-use Rattle.fields_core.proofs.LightPassed.{fewer-on, passed-all, passed-broken, passed-first, passed-next, rest-off, rest-on}
+use Rattle.fields_core.proofs.PassedLines.{fewer-on, passed-all, passed-broken, passed-first, passed-next, rest-off, rest-on}
 use Rattle.fields_core.proofs.LightSweeps.{lit-all, lit-kept, lit-stays, lits-safe, planes-next}
 use Rattle.fields_core.proofs.LightLitRuns.{column-safe, planes-full, row-safe}
 use Rattle.fields_core.proofs.planes.light_up.tables.LightTables.visit_lits.Goals as goal

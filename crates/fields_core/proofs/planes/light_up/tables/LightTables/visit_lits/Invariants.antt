@@ -1,7 +1,5 @@
-use Rattle.fields_core.proofs.Common.{has_bit, lit_house, ◌*◌, ◌+◌}
-use Rattle.grid_core.specs.Planes.{has}
-use Rattle.fields_core.specs.LightWaits.{AreSafeInColumns}
-use Rattle.fields_core.proofs.LightPassed.{ArePassed, places_on}
+use Rattle.fields_core.proofs.Common.{AreSafeInColumns, has, has_bit, lit_house, ◌*◌, ◌+◌}
+use Rattle.fields_core.proofs.PassedLines.{ArePassed, places_on}
 use Rattle.fields_core.proofs.planes.light_up.tables.LightTables.visit_lits.Given as goal
 
 abbrev pub invariant-loop-ones : goal.invariant-loop-ones

@@ -1,6 +1,4 @@
-use Rattle.fields_core.proofs.Common.{joined_in_column, joined_in_row, map, refl, ◌*◌, ◌+◌, ◌≡◌}
-use Rattle.fields_core.specs.LightWords.{row_runs_of_row}
-use Rattle.fields_core.specs.LightRunLines.{column_runs_of_column}
+use Rattle.fields_core.proofs.Common.{column_runs_of_column, joined_in_column, joined_in_row, map, refl, row_runs_of_row, ◌*◌, ◌+◌, ◌≡◌}
 use Rattle.fields_core.proofs.LightRunBegins.{column-runs-of, column-words, row-runs-of, row-words}
 use Rattle.fields_core.proofs.planes.light_up.tables.LightTables.visit_runs.Goals as goal
 

@@ -1,5 +1,4 @@
-use Rattle.fields_core.proofs.Common.{arith, length, length-map, length-set, mod-lt, white, ◌<◌, ◌∙◌, ◌≡◌}
-use Rattle.fields_core.specs.LineWords.{IsColumnOf}
+use Rattle.fields_core.proofs.Common.{IsColumnOf, arith, length, length-map, length-set, mod-lt, white, ◌<◌, ◌∙◌, ◌≡◌}
 use Rattle.fields_core.proofs.LightCounting.{light-board}
 use Rattle.fields_core.proofs.LightNumberVisits.{columns-more}
 use Rattle.fields_core.proofs.LightRunWords.{column-whites, columns-written}

@@ -1,6 +1,4 @@
-use Rattle.fields_core.proofs.Common.{length, light_cells, map, slice_index, white, ℕ, ◌%◌, ◌<◌, ◌≡◌, ◌≤◌}
-use Rattle.fields_core.specs.LightWords.{IsColumnRun}
-use Rattle.fields_core.specs.LineWords.{IsColumnOf}
+use Rattle.fields_core.proofs.Common.{IsColumnOf, IsColumnRun, length, light_cells, map, slice_index, white, ℕ, ◌%◌, ◌<◌, ◌≡◌, ◌≤◌}
 use Rattle.fields_core.proofs.planes.light_up.tables.LightTables.write_columns.Given as goal
 
 abbrev pub invariant-loop-x : goal.invariant-loop-x

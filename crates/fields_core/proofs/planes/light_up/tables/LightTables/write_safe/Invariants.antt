@@ -1,6 +1,4 @@
-use Rattle.fields_core.proofs.Common.{length, map, slice_index, ℕ, ◌<◌, ◌≡◌, ◌≤◌}
-use Rattle.grid_core.specs.Planes.{has}
-use Rattle.fields_core.specs.LightWaits.{AreSafeInColumns}
+use Rattle.fields_core.proofs.Common.{AreSafeInColumns, has, length, map, slice_index, ℕ, ◌<◌, ◌≡◌, ◌≤◌}
 use Rattle.fields_core.proofs.LightSafeCells.{HaveOneBelow}
 use Rattle.fields_core.proofs.planes.light_up.tables.LightTables.write_safe.Given as goal
 

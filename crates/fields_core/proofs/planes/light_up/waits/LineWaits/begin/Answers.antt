@@ -1,6 +1,6 @@
-use Rattle.fields_core.proofs.Common.{eq-eqb, refl, sym, true≢false, ◌%◌, ◌/◌, ◌∙◌, ◌≡◌}
-use Rattle.grid_core.specs.Planes.{AreLinesOf, has}
-use Rattle.fields_core.proofs.LightRests.{has-one, lines-at}
+use Rattle.fields_core.proofs.Common.{AreLinesOf, eq-eqb, has, light_counts, refl, sym, true≢false, ◌%◌, ◌/◌, ◌∙◌, ◌≡◌}
+use Rattle.fields_core.proofs.LightRests.{lines-at}
+use Rattle.fields_core.proofs.WaitLemmas.{around-some}
 use Rattle.fields_core.proofs.planes.light_up.waits.LineWaits.begin.Goals as goal
 use Rattle.fields_core.proofs.planes.light_up.waits.LineWaits.begin.Goals.{After-has}
 
@@ -24,4 +24,4 @@ pub returns : goal.returns
 returns g c =
     let a = (goal.at.returns g c).After-has in
     lines-at g.W.Word.bits c.args._puzzle.now _ _ c.requires.planes (rw (c.in-Some.is) at c.requires.closed_but)
-    (λ off. absurd (has-one c.requires.planes (rw (c.in-Some.is) at c.requires.closed_but) (sym (one-is g a) ∙ c.if-has.false) off)) (λ _. own g a) c.woken-2.ensures
+    (λ off. absurd (around-some (light_counts c.args._puzzle.now) (rw (c.in-Some.is) at c.requires.closed_but) (sym (one-is g a) ∙ c.if-has.false) off)) (λ _. own g a) c.woken-2.ensures

@@ -1,6 +1,6 @@
-use Rattle.fields_core.proofs.Common.{eq-eqb, refl, sym, ◌%◌, ◌/◌, ◌∙◌}
-use Rattle.grid_core.specs.Planes.{AreLinesOf, has}
-use Rattle.fields_core.proofs.TentWaits.{lost-one, lost-zero, place-in_planes, rested-from}
+use Rattle.fields_core.proofs.Common.{AreLinesOf, eq-eqb, has, refl, sym, tent_counts, true≢false, ◌%◌, ◌/◌, ◌∙◌}
+use Rattle.fields_core.proofs.TentWaits.{place-in_planes, rested-at}
+use Rattle.fields_core.proofs.WaitLemmas.{around-some}
 use Rattle.fields_core.proofs.planes.tents.waits.Waits.new.Goals as goal
 use Rattle.fields_core.proofs.planes.tents.waits.Waits.new.Goals.{After-one-2}
 
@@ -15,13 +15,14 @@ lines g c =
 
 pub returns-then-has : goal.returns-then-has
 returns-then-has g c =
-    rested-from g.W.Word.bits c.args.puzzle.now c.requires.lawful c.split-y.ensures.lawful c.requires.board.same_size c.in-Some.is c.requires.closed_but
-    (lost-zero g.W.Word.bits (has c.args.planes.now) _ _ _ _ (sym c.has.ensures ∙ c.if-has.true) (lines g (goal.at.returns-then-has g c).After-one-2)) c.woken.ensures
+    rested-at g.W.Word.bits c.args.puzzle.now c.requires.lawful c.split-y.ensures.lawful c.requires.board.same_size (rw (c.in-Some.is) at c.requires.closed_but)
+    (λ _. lines g (goal.at.returns-then-has g c).After-one-2) (λ off. absurd (true≢false (sym c.if-has.true ∙ c.has.ensures ∙ off))) c.woken.ensures
 
 pub returns : goal.returns
 returns g c =
-    rested-from g.W.Word.bits c.args.puzzle.now c.requires.lawful c.split-y.ensures.lawful c.requires.board.same_size c.in-Some.is c.requires.closed_but
-    (lost-one g.W.Word.bits (has c.args.planes.now) _ _ _ _ (sym c.has.ensures ∙ c.if-has.false) (lines g (goal.at.returns g c).After-one-2)) c.woken-2.ensures
+    let around = rw (c.in-Some.is) at c.requires.closed_but in
+    rested-at g.W.Word.bits c.args.puzzle.now c.requires.lawful c.split-y.ensures.lawful c.requires.board.same_size around
+    (λ off. absurd (around-some (tent_counts c.args.puzzle.now) around (sym c.has.ensures ∙ c.if-has.false) off)) (λ _. lines g (goal.at.returns g c).After-one-2) c.woken-2.ensures
 
 pub returns-in_default : goal.returns-in_default
 returns-in_default g c = c.all.ensures c.args.puzzle.now (has c.args.planes.now) c.requires.board.suited

@@ -1,4 +1,4 @@
-use Rattle.fields_core.proofs.planes.light_up.light_notes.LightNotesSweepNotesLightPuzzle.start.Goals as goal
+use Rattle.fields_core.proofs.planes.light_up.light_notes.LightNotesPlaneNotesCountRulesLightPuzzle.start.Goals as goal
 
 pub returns-clause-keeps : goal.returns-clause-keeps
 returns-clause-keeps g c = λ needs room. record {

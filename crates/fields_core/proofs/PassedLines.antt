@@ -1,9 +1,5 @@
 -- Visits of the houses of some lines, one after another: those that are left of a word.
-use Rattle.fields_core.proofs.Common.{CountHouse, ArePlanesAlive, Layers, List, any_below, any_below-here, any_below-none, any_below-some, arith, cases_lt, count_below, false, false_from_ne_true, houses_below, inl, inr, suc, sym, and_parts, cases_Bool, cases_eq, common_steps, eqb, eq-eqb, le-ltb, lt-ltb, ltb, ne_eqb, not, not-true, refl, ◌&&◌, true, true≢false, Bool, ℕ, ◌+◌, ◌<◌, ◌∙◌, ◌≡◌, ◌≤◌}
-use Rattle.grid_core.specs.Planes.{has}
-use Rattle.grid_core.specs.Words.{IsLeast}
-use Rattle.grid_core.proofs.CandidateLemmas.{count_below-lt}
-use Rattle.fields_core.specs.Visits.{AreVisited, AreIdle}
+use Rattle.fields_core.proofs.Common.{AreIdle, ArePlanesAlive, AreVisited, Bool, CountHouse, IsLeast, Layers, List, and_parts, any_below, any_below-here, any_below-none, any_below-some, arith, cases_Bool, cases_eq, cases_lt, common_steps, count_below, count_below-lt, eq-eqb, eqb, false, false_from_ne_true, has, houses_below, inl, inr, le-ltb, lt-ltb, ltb, ne_eqb, not, not-true, refl, suc, sym, true, true≢false, ℕ, ◌&&◌, ◌+◌, ◌<◌, ◌∙◌, ◌≡◌, ◌≤◌}
 use Rattle.fields_core.proofs.IdleLemmas.{visited-skip}
 use Rattle.fields_core.proofs.VisitLemmas.{sweep-broken, sweep-first, sweep-more}
 
