@@ -71,8 +71,8 @@ unfoldable pub use Rattle.fields_core.specs.Light.{solves_lights, white}
 pub use Rattle.fields_core.specs.LightFaults.{FailsLight, IsLightFault, light_tests}
 pub use Rattle.fields_core.specs.LightHouses.{column_house, light_counts, light_house, light_rules, lit_house, number_house, row_house}
 unfoldable pub use Rattle.fields_core.specs.LightHouses.{begins_column_run, begins_row_run, column_run, light_houses, row_run, seen_from}
-pub use Rattle.fields_core.specs.LightNumbers.{has_number}
-unfoldable pub use Rattle.fields_core.specs.LightNumbers.{is_numbered}
+pub use Rattle.fields_core.specs.LightWords.{IsColumnRun, IsRowRun, has_number, numbers_of_row, row_runs_of_row}
+unfoldable pub use Rattle.fields_core.specs.LightWords.{is_numbered}
 pub use Rattle.fields_core.specs.LightPlanes.{ArePlanesOf, AreTablesKept}
 pub use Rattle.fields_core.specs.LightRunLines.{AreAround, AreRunsOf, IsClash, IsRunOf, column_runs_of_column}
 pub use Rattle.fields_core.specs.LightRunWords.{AreFilled, AreWritten, IsRunAt}
@@ -81,7 +81,6 @@ pub use Rattle.fields_core.specs.LightSight.{RunsOn, SeesAlong, ShinesAlong}
 pub use Rattle.fields_core.specs.LightWaits.{AreIdleBut, AreLightsReady, AreLinesRested, AreLinesWoken, AreParted, AreSafe, AreSafeInColumns}
 pub use Rattle.fields_core.specs.LineWords.{AreRowsOf, AreSpread, IsColumnOf, IsRowOf}
 pub use Rattle.fields_core.specs.LightWaits.{AreWhitesIdleBut, IsAway, IsReach, lits_of_row, run_houses, run_lines, waiting_runs, white_houses, AreColumnsParted}
-pub use Rattle.fields_core.specs.LightWords.{IsColumnRun, IsRowRun, numbers_of_row, row_runs_of_row}
 pub use Rattle.fields_core.specs.Parts.{ArePartsCounted, ArePieces, ArePlanesAlive, IsBroken, IsCount, IsHouseOf, Piece, piece_at}
 unfoldable pub use Rattle.fields_core.specs.Parts.{lies_in, lies_in_first, without_value}
 pub use Rattle.fields_core.specs.Sweeps.{IsSweep, swept_by}

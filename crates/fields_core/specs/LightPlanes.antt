@@ -3,8 +3,7 @@ use Rattle.std.specs.Prelude.{◌≡◌, ℕ, ◌<◌, ◌≤◌, length, map, s
 use Rattle.grid_core.specs.Planes.{Layers}
 use Rattle.gameid_core.specs.Puzzles.{IsLight, Light}
 use Rattle.fields_core.specs.Light.{light_cells, white}
-use Rattle.fields_core.specs.LightWords.{AreRunWords, IsRowRun}
-use Rattle.fields_core.specs.LightNumbers.{is_numbered}
+use Rattle.fields_core.specs.LightWords.{AreRunWords, IsRowRun, is_numbered}
 use Rattle.fields_core.specs.LineWords.{AreColumnsOf, AreRowsOf}
 use Rattle.fields_core.specs.Parts.{ArePlanesAlive}
 use Rattle.fields_core.specs.declared.planes.light_up.light_notes.LightNotes.{LightNotes}

@@ -7,6 +7,7 @@ use Rattle.engine_core.specs.HouseSets.{AreBelow}
 use Rattle.engine_core.specs.RuleSystem.{has_place}
 use Rattle.gameid_core.specs.Puzzles.{Tents}
 use Rattle.fields_core.specs.Tents.{tent_cells, tree}
+use Rattle.fields_core.specs.declared.tents.pairs.PairingScratch.{PairingScratch}
 
 -- the places of the trees, ascending, and how many there are
 abbrev pub trees_of : Tents → List ℕ
@@ -31,3 +32,9 @@ AreIn p = AreBelow (tent_cells p)
 pub record AreNumbered (p : Tents) (numbers : List ℕ) : Type 0 where
   pub long : tent_cells p ≤ length numbers
   pub each : (c : ℕ) → c < tent_cells p → slice_index numbers c ≡ count_below (tree p) c
+
+-- there is room for so many tents, trees and cells
+pub record HasPairingRoom (scratch : PairingScratch) (n : ℕ) : Type 0 where
+  pub pairing : n ≤ scratch.pairing.room
+  pub tents : n ≤ length scratch.tents.items
+  pub numbers : n ≤ length scratch.numbers.items

@@ -1,5 +1,5 @@
 use Rattle.fields_core.proofs.Common.{Light, LightCell, Some, ap, has_number, refl, slice_get, white, ℕ, ◌*◌, ◌+◌, ◌∙◌, ◌≡◌}
-unfoldable use Rattle.fields_core.specs.LightNumbers.{is_numbered}
+unfoldable use Rattle.fields_core.specs.LightWords.{is_numbered}
 use Rattle.fields_core.proofs.LightLines.{cell-at, white-at}
 use Rattle.fields_core.proofs.RowWords.{next-off, next-on}
 use Rattle.fields_core.proofs.planes.light_up.tables.cells_of_row.Goals as goal
