@@ -1,6 +1,5 @@
 -- Lists of different numbers: a number's place in one, and a choice of different numbers below n names each of them.
-use Rattle.fields_core.proofs.Common.{All-from_get_or, AreDifferent, AreDistinct, Bool, List, [], and_from, and_parts, any_below-none, any_below-some, ap, arith, cases_Bool, cases_lt, common_steps, cond, count_below-pos, distinct-from, eq-eqb, eqb, eqb-true, false, get_or, get_or-map, get_or-map-range_with_len, get_or-range_with_len, has_place, has_place-at, has_place-here, inl, inr, le-ltb, least_below, least_below-passes, length, length-map, length-map-range_with_len, length-range_with_len, list_any, lt-ltb, ltb, map, names_none_twice, not, not-true, or_cases, or_left, or_right, range_with_len, refl, slice_index, sym, true, true≢false, ℕ, ◌+◌, ◌<◌, ◌∙◌, ◌∷◌, ◌≡◌, ◌≤◌}
-use Rattle.std.proofs.lemmas.List.Folds.{list_any_none}
+use Rattle.fields_core.proofs.Common.{All-from_get_or, AreDifferent, AreDistinct, Bool, List, [], and_from, and_parts, any_below-none, any_below-some, ap, arith, cases_Bool, cases_lt, common_steps, cond, count_below-pos, distinct-from, eq-eqb, eqb, eqb-true, false, get_or, get_or-map, get_or-map-range_with_len, get_or-range_with_len, has_place, has_place-at, has_place-here, inl, inr, le-ltb, least_below, least_below-passes, length, length-map, length-map-range_with_len, length-range_with_len, list_any, list_any_none, lt-ltb, ltb, map, names_none_twice, not, not-true, or_cases, or_left, or_right, range_with_len, refl, slice_index, sym, true, true≢false, ℕ, ◌+◌, ◌<◌, ◌∙◌, ◌∷◌, ◌≡◌, ◌≤◌}
 use Rattle.grid_core.proofs.DifferentNumbers.{apart-le}
 
 -- where a number stands in a list

@@ -1,21 +1,5 @@
 -- Pieces of lines, and the cells that they have.
-use Rattle.std.proofs.Common.{◌≡◌, ◌∙◌, ℕ, ◌+◌, ◌*◌, ◌/◌, ◌%◌, ◌<◌, Bool, true, ◌&&◌, ◌||◌, eqb, ltb, mod-lt, List, [], ◌∷◌, ◌++◌, slice_index, refl, sym, arith}
-use Rattle.std.proofs.lemmas.Bool.{cases_Bool, and_parts, and_from, eq-eqb, eqb-true, lt-ltb, ltb-true}
-use Rattle.std.proofs.lemmas.List.Folds.{list_any-append}
-use Rattle.std.proofs.lemmas.Grind.{common_steps}
-use Rattle.std.proofs.lemmas.List.FromFn.{length-map-range_with_len, get_or-map-range_with_len}
-use Rattle.std.proofs.lemmas.Nat.{div-mul-add, div-add-mod'}
-use Rattle.grid_core.specs.Candidates.{any_below}
-use Rattle.grid_core.specs.Extent.{Extent}
-use Rattle.grid_core.specs.Planes.{crosses}
-use Rattle.grid_core.specs.Regions.{row_places, column_places}
-use Rattle.grid_core.specs.Words.{has_bit}
-use Rattle.grid_core.specs.declared.planes.line.Line.TheVariants.{Row, Column}
-use Rattle.grid_core.proofs.PlaneLemmas.{place-column}
-use Rattle.engine_core.specs.RuleSystem.{has_place}
-use Rattle.engine_core.specs.PlaceLaws.{has_place-at, has_place-here}
-use Rattle.fields_core.specs.CountHouse.{IsHouse, exactly}
-use Rattle.fields_core.specs.Parts.{Piece, lies_in, lies_in_first, IsHouseOf}
+use Rattle.fields_core.proofs.Common.{Bool, Column, Extent, IsHouse, IsHouseOf, List, Piece, Row, [], and_from, and_parts, any_below, arith, cases_Bool, column_places, common_steps, crosses, div-add-mod', div-mul-add, eq-eqb, eqb, eqb-true, exactly, get_or-map-range_with_len, has_bit, has_place, has_place-at, has_place-here, length-map-range_with_len, lies_in, lies_in_first, list_any-append, lt-ltb, ltb, ltb-true, mod-lt, place-column, refl, row_places, slice_index, sym, true, ℕ, ◌%◌, ◌&&◌, ◌*◌, ◌++◌, ◌+◌, ◌/◌, ◌<◌, ◌||◌, ◌∙◌, ◌∷◌, ◌≡◌}
 
 -- ---- one piece
 pub same-truth : (a b : Bool) → (a ≡ true → b ≡ true) → (b ≡ true → a ≡ true) → a ≡ b

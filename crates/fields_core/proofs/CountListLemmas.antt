@@ -1,6 +1,5 @@
 -- Lists of count houses, as they are made.
-use Rattle.fields_core.proofs.Common.{AllByRecursion, Bool, CountHouse, List, [], add-one, any_below, ap, arith, houses_below, list_any, refl, suc, zero, ℕ, ◌++◌, ◌+◌, ◌<◌, ◌||◌, ◌∙◌, ◌∷◌, ◌≡◌}
-use Rattle.std.proofs.lemmas.List.Folds.{list_any-append}
+use Rattle.fields_core.proofs.Common.{AllByRecursion, Bool, CountHouse, List, [], add-one, any_below, ap, arith, houses_below, list_any, list_any-append, refl, suc, zero, ℕ, ◌++◌, ◌+◌, ◌<◌, ◌||◌, ◌∙◌, ◌∷◌, ◌≡◌}
 
 pub below-none : (f : ℕ → List CountHouse) → houses_below f 0 ≡ []
 unfolding houses_below

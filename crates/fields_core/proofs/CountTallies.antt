@@ -1,6 +1,5 @@
 -- What is counted of the cells of count houses.
-use Rattle.fields_core.proofs.Common.{ap₂, Bool, Candidates, cases_Bool, CountHouse, IsHouse, IsTally, List, Segment, [], Tally, ap, arith, common_steps, count_by, eq-eqb, or_right, count_by-le-length, drop, get_or, has_place, is_empty, length, not, places_of, refl, segment_places, slice_index, sym, true, ℕ, ◌&&◌, ◌++◌, ◌+◌, ◌<◌, ◌∷◌, ◌≡◌, ◌≤◌}
-use Rattle.std.proofs.lemmas.List.{at_drop_more, drop_all}
+use Rattle.fields_core.proofs.Common.{Bool, Candidates, CountHouse, IsHouse, IsTally, List, Segment, Tally, [], ap, ap₂, arith, at_drop_more, cases_Bool, common_steps, count_by, count_by-le-length, drop, drop_all, eq-eqb, get_or, has_place, is_empty, length, not, or_right, places_of, refl, segment_places, slice_index, sym, true, ℕ, ◌&&◌, ◌++◌, ◌+◌, ◌<◌, ◌∷◌, ◌≡◌, ◌≤◌}
 use Rattle.grid_core.proofs.Common.{bool_byte}
 use Rattle.fields_core.proofs.HouseLemmas.{places-more}
 use Rattle.fields_core.proofs.PlaceLists.{num, count-cons}

@@ -1,10 +1,6 @@
 -- Houses told by segments, and names of houses.
-use Rattle.fields_core.proofs.Common.{AreAdded, CountHouse, List, [], ap, append-nil, append_assoc, arith, common_steps, drop, false_from_ne_true, get_or, get_or-append_right, get_or-map, get_or-map-range_with_len, ap₂, no_count_house, count_house_of, length-map, ◌*◌, get_or_append_left, has_place, has_place-at, has_place-here, houses_below, length, length-append, length-map-range_with_len, map, map-append, places_of, segment_places, slice_index, sym, ℕ, ◌*◌, ◌++◌, ◌+◌, ◌-◌, ◌<◌, ◌∙◌, ◌∷◌, ◌≡◌, ◌≤◌, refl, set, suc, zero, IsNext, Option, Some, None, is_some, eqb, eqb-true, eq-eqb, true≢false}
-use Rattle.std.proofs.lemmas.List.{at_drop_more}
+use Rattle.fields_core.proofs.Common.{AreAdded, AreNamed, CountHouse, HouseName, IsNext, List, None, Option, Segment, Some, [], ap, append-nil, append_assoc, ap₂, arith, at_drop_more, common_steps, count_house_of, drop, eq-eqb, eqb, eqb-true, false_from_ne_true, get_or, get_or-append_right, get_or-map, get_or-map-range_with_len, get_or_append_left, has_place, has_place-at, has_place-here, houses_below, is_some, length, length-append, length-map, length-map-range_with_len, map, map-append, named, no_count_house, places_of, refl, segment_places, set, sized, slice_index, suc, sym, true≢false, zero, ℕ, ◌*◌, ◌++◌, ◌+◌, ◌-◌, ◌<◌, ◌∙◌, ◌∷◌, ◌≡◌, ◌≤◌}
 use Rattle.fields_core.proofs.CountListLemmas.{below-more, below-none}
-use Rattle.fields_core.specs.Houses.{AreNamed, named, sized}
-use Rattle.fields_core.specs.declared.count.name.HouseName.{HouseName}
-use Rattle.fields_core.specs.declared.count.house.Segment.{Segment}
 
 -- ---- the cells of a segment
 pub segment-long : (s : Segment) → s.len ≡ length (segment_places s)

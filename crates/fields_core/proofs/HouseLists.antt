@@ -1,5 +1,5 @@
 -- Lists of houses and of places that a loop makes.
-use Rattle.fields_core.proofs.Common.{Black, Bool, Extent, Light, LightCell, None, Numbered, Some, White, [], add-one, ap, append-nil, arith, column_places, common_steps, cond-false, cond, cond-true, div-mul-add, exactly, false, filter, filter-append, length, if_there, length-append, length-map-range_with_len, ltb, place-column, suc, number_house, refl, row_places, slice_get, step, steps, sym, true, white, ℕ, ◌*◌, ◌++◌, ◌+◌, ◌-◌, ◌<◌, ◌∙◌, ◌∷◌, ◌≡◌}
+use Rattle.fields_core.proofs.Common.{Black, Bool, Extent, Light, LightCell, None, Numbered, Some, White, [], add-one, ap, append-nil, arith, column_places, common_steps, cond, cond-false, cond-true, div-mul-add, exactly, false, filter, filter-append, if_there, length, length-append, length-map-range_with_len, ltb, number_house, place-column, refl, row_places, slice_get, step, steps, suc, sym, true, white, ℕ, ◌*◌, ◌++◌, ◌+◌, ◌-◌, ◌<◌, ◌∙◌, ◌∷◌, ◌≡◌}
 use Rattle.fields_core.proofs.LightLines.{cell-at}
 
 pub row-long : (size : Extent) (y : ℕ) → length (row_places size y) ≡ size.w

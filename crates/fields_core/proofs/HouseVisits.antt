@@ -1,9 +1,8 @@
 -- What a visit of a count house leaves, and how long the longest house is.
-use Rattle.fields_core.proofs.Common.{Bool, Candidates, CountHouse, IsHouse, IsTally, IsWithin, Layout, List, Tally, add-one, after_house, and-true, ap, arith, bounds_of, cases_Bool, cases_eq, common_steps, cond, eq-eqb, eqb, fun_ext, has, inl, inr, has_bit, has_place, has_place-here, is_open, length, max, ne_eqb, not, refl, slice_index, stays, strikes_of, sym, take, take_all, true, ℕ, ◌&&◌, ◌+◌, ◌<◌, ◌∙◌, ◌≡◌, ◌≤◌}
+use Rattle.fields_core.proofs.Common.{Bool, Candidates, CountHouse, IsHouse, IsTally, IsWithin, Layout, List, Tally, add-one, after_house, and-true, ap, arith, bounds_of, cases_Bool, cases_eq, common_steps, cond, eq-eqb, eqb, fun_ext, has_bit, has_place, has_place-here, inl, inr, is_open, length, longest, max, ne_eqb, not, refl, slice_index, stays, strikes_of, sym, take, take_all, true, ℕ, ◌&&◌, ◌+◌, ◌<◌, ◌∙◌, ◌≡◌, ◌≤◌}
+use Rattle.grid_core.specs.Board.{has, cells_of}
 use Rattle.grid_core.proofs.BoardLemmas.{has-within}
-use Rattle.grid_core.specs.Board.{cells_of}
 use Rattle.engine_core.proofs.IndexLemmas.{not_taken, taken-here, taken-other}
-use Rattle.engine_core.specs.RuleSystem.{longest}
 use Rattle.fields_core.proofs.CountKept.{after-at, idle-at, off-scope, two-bits}
 
 -- ---- the cells of a house are in the board

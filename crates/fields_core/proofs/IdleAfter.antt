@@ -1,9 +1,5 @@
 -- Houses that stay idle while others of their kind are visited.
-use Rattle.fields_core.proofs.Common.{AllByRecursion, AreDifferent, Candidates, CountHouse, List, [], after_house, ap, cases_Bool, counts_between, false, fun_ext, has_place, inl, inr, refl, sym, true, true≢false, ℕ, ◌∙◌, ◌∷◌, ◌≡◌}
-use Rattle.engine_core.specs.HouseSetsLaws.{by_fillings-settled}
-use Rattle.fields_core.specs.CountHouse.{strikes_of}
-use Rattle.fields_core.specs.Visits.{after_houses}
-use Rattle.fields_core.specs.Waits.{AreIdle}
+use Rattle.fields_core.proofs.Common.{AllByRecursion, AreDifferent, AreIdle, Candidates, CountHouse, List, [], after_house, after_houses, ap, by_fillings-settled, cases_Bool, counts_between, false, fun_ext, has_place, inl, inr, refl, strikes_of, sym, true, true≢false, ℕ, ◌∙◌, ◌∷◌, ◌≡◌}
 use Rattle.fields_core.proofs.AtMostLemmas.{IsFull, others-stay}
 use Rattle.fields_core.proofs.IdleLemmas.{full-between, house-far, idle-first, idle-rest}
 use Rattle.fields_core.proofs.VisitLemmas.{after-inside, visits-inside}

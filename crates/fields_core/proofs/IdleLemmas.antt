@@ -1,16 +1,6 @@
 -- Houses whose visits take nothing, and what is left of a board that has changed far from them.
-use Rattle.fields_core.proofs.Common.{Bool, Candidates, CountHouse, Layers, List, [], after_house, ap, arith, cases_Bool, common_steps, false, fun_ext, has_place, houses_below, inl, inr, or_cases, refl, suc, sym, true, true≢false, zero, ℕ, ◌&&◌, ◌++◌, ◌+◌, ◌-◌, ◌<◌, ◌||◌, ◌∙◌, ◌∷◌, ◌≡◌, ◌≤◌}
+use Rattle.fields_core.proofs.Common.{AreIdle, ArePlanesAlive, AreVisited, Bool, Candidates, CountHouse, IsInside, Layers, List, [], after_house, after_houses, ap, arith, by_fillings-monotone, cases_Bool, common_steps, false, false_from_ne_true, fun_ext, further-none, has, has_place, houses_below, inl, inr, list_any-append, or_cases, refl, strikes_at-inside, strikes_of, suc, sym, true, true≢false, zero, ℕ, ◌&&◌, ◌++◌, ◌+◌, ◌-◌, ◌<◌, ◌||◌, ◌∙◌, ◌∷◌, ◌≡◌, ◌≤◌}
 use Rattle.std.specs.List.{list_any}
-use Rattle.std.proofs.lemmas.List.Folds.{list_any-append}
-use Rattle.std.proofs.lemmas.Bool.{false_from_ne_true}
-use Rattle.grid_core.specs.Candidates.{IsInside}
-use Rattle.grid_core.specs.Planes.{has}
-use Rattle.grid_core.proofs.PlaneLemmas.{further-none}
-use Rattle.engine_core.specs.HouseSetsLaws.{strikes_at-inside, by_fillings-monotone}
-use Rattle.fields_core.specs.CountHouse.{strikes_of}
-use Rattle.fields_core.specs.Parts.{ArePlanesAlive}
-use Rattle.fields_core.specs.Visits.{AreVisited, after_houses}
-use Rattle.fields_core.specs.Waits.{AreIdle}
 use Rattle.fields_core.proofs.AtMostLemmas.{IsFull}
 use Rattle.fields_core.proofs.VisitLemmas.{after-inside, sweep-more, visits-inside}
 

@@ -9,7 +9,7 @@ use Rattle.fields_core.proofs.LightLines.{cell-at, white-at}
 use Rattle.fields_core.proofs.LightRuleLemmas.{light-tells, rule-from-test, test-from-rule}
 use Rattle.fields_core.proofs.LightSeen.{black-unseen}
 use Rattle.fields_core.proofs.LightLatest.{few-places}
-use Rattle.fields_core.proofs.LightTold.{column-of-place, place-row, row-of-place}
+use Rattle.fields_core.proofs.LightHouseNames.{column-of-place, place-row, row-of-place}
 use Rattle.fields_core.proofs.RuleLemmas.{same-shape, start-all, start-blocked}
 use Rattle.fields_core.proofs.TentCounting.{tent-counting, tent-lawful}
 use Rattle.fields_core.proofs.TentHouseLemmas.{square-none}
@@ -20,8 +20,7 @@ use Rattle.fields_core.proofs.TentPairLemmas.{count-is, listed-tents, others-unp
 use Rattle.fields_core.proofs.TentRuleLemmas.{tents-from-solution, tents-tell, solution-from-tents}
 use Rattle.fields_core.proofs.TentWaits.{rested-woken}
 use Rattle.fields_core.proofs.VisitLemmas.{sweep-first, sweep-more}
-use Rattle.fields_core.proofs.Common.{append-nil, append_assoc, eq-eqb, map-append, mul-le-mul_right, ne_eqb}
-use Rattle.std.proofs.lemmas.Nat.{mul-lt}
+use Rattle.fields_core.proofs.Common.{append-nil, append_assoc, eq-eqb, map-append, mul-le-mul_right, mul-lt, ne_eqb}
 
 pub ruleset count_rules_laws = (start-blocked, same-shape, start-all, named-long, named-cells, partly-first)
 

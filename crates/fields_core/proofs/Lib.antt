@@ -20,7 +20,7 @@ pub mod SegmentLemmas
 pub mod LightCounting
 pub mod LightSeen
 pub mod LightLatest
-pub mod LightTold
+pub mod LightHouseNames
 pub mod RuleLemmas
 pub mod TentLines
 pub mod BelowLemmas
@@ -31,41 +31,40 @@ pub mod TentNumbers
 pub mod TentNext
 pub mod TentPairLemmas
 pub mod TentRuleLemmas
-pub mod ClosedGrids
 pub mod VisitLemmas
 pub mod AtMostLemmas
 pub mod CellLemmas
 pub mod TentVisits
-pub mod TreeBoards
-pub mod TreeWords
-pub mod SquareLemmas
-pub mod SquareVisits
+pub mod TentTreeBoards
+pub mod RowWords
+pub mod TentTreeWords
+pub mod TentSquareLemmas
+pub mod TentSquareVisits
 pub mod IdleLemmas
+mod WaitLemmas
 pub mod TentWaits
-pub mod TentSweeps
-pub mod RunWords
-pub mod RunLines
-pub mod RunBegins
-pub mod AnyOrder
-pub mod RunOrder
+pub mod LightRunWords
+pub mod LightRunLines
+pub mod LightRunBegins
+pub mod HouseOrder
+pub mod LightRunOrder
 pub mod TentPlanes
 pub mod LawSets
 pub mod IdleAfter
-pub mod LitIdle
-pub mod LitWords
-pub mod LitVisits
-pub mod NumberVisits
-pub mod NumberRows
-pub mod LitRuns
-mod LightNotes
+pub mod AtLeastLemmas
+pub mod LightLitWords
+pub mod LightLitVisits
+pub mod LightNumberVisits
+pub mod LightNumberRows
+pub mod LightLitRuns
+mod LightSafeCells
 pub mod PartIdle
 pub mod TentIdle
 pub mod PlaneSweeps
-pub mod LightBoards
 pub mod LightLonely
 pub mod LightCompleting
 pub mod TentCompleting
-mod LightPassed
+mod PassedLines
 mod LightReach
 mod LightRests
 mod QuietVisits

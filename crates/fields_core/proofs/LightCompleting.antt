@@ -1,7 +1,5 @@
 -- A grid of Light Up that meets each house with a cell is a solution exactly if each number above 0 has a white cell beside it.
-use Rattle.fields_core.proofs.Common.{count_by-le-length, filter, Black, Bool, CountHouse, IsGrid, IsLight, Light, LightCell, List, Numbered, White, all_below-at, all_below-from, and_parts, any_below, any_below-none, any_below-some, ap, arith, begins_column_run, begins_row_run, black_right, bulb, bulb_right, bulbs_beside, cases_Bool, cases_eq, column_house, column_run, common_steps, count_by, eq-eqb, eqb, eqb-true, exactly, false_from_ne_true, filter, get_or, has_place, has_place-at, houses_below, inl, inr, leb-true, length, light_cells, light_houses, lit_house, lit_right, lt-ltb, map, meets, ne_eqb, nonzeros, not, not-true, number_house, number_right, one_at_least, one_at_most, or_cases, or_left, or_right, place-append, place-filter, place-front, refl, row_house, row_run, seen_from, sees, sees_bulb, slice_index, solves_lights, steps, sym, true, true≢false, white, ℕ, ◌<◌, ◌||◌, ◌∙◌, ◌≡◌}
-use Rattle.fields_core.specs.CountHouse.{AreMet}
-use Rattle.fields_core.specs.LightHouses.{light_counts}
+use Rattle.fields_core.proofs.Common.{AreMet, Black, Bool, CountHouse, IsGrid, IsLight, Light, LightCell, List, Numbered, White, all_below-at, all_below-from, and_parts, any_below, any_below-none, any_below-some, ap, arith, begins_column_run, begins_row_run, black_right, bulb, bulb_right, bulbs_beside, cases_Bool, cases_eq, column_house, column_run, common_steps, count_by, count_by-le-length, eq-eqb, eqb, eqb-true, exactly, false_from_ne_true, filter, get_or, has_place, has_place-at, houses_below, inl, inr, leb-true, length, light_cells, light_counts, light_houses, lit_house, lit_right, lt-ltb, map, meets, ne_eqb, nonzeros, not, not-true, number_house, number_right, one_at_least, one_at_most, or_cases, or_left, or_right, place-append, place-filter, place-front, refl, row_house, row_run, seen_from, sees, sees_bulb, slice_index, solves_lights, steps, sym, true, true≢false, white, ℕ, ◌<◌, ◌||◌, ◌∙◌, ◌≡◌}
 use Rattle.fields_core.specs.LightLonely.{lonely}
 use Rattle.fields_core.proofs.BelowLemmas.{any-some}
 use Rattle.fields_core.proofs.PlaceLists.{count-filter, count-two, ones-bulbs, some-counted}
@@ -11,7 +9,7 @@ use Rattle.fields_core.proofs.LightSight.{bulb-in}
 use Rattle.fields_core.proofs.LightSeen.{seen-there}
 use Rattle.fields_core.proofs.LightCounting.{IsBoard, light-board, in-row-run, in-column-run, row-run-joined, column-run-joined}
 use Rattle.fields_core.proofs.LightHouseLaws.{row-self, column-self, small-at, white-in}
-use Rattle.fields_core.proofs.RunBegins.{row-begin, column-begin}
+use Rattle.fields_core.proofs.LightRunBegins.{row-begin, column-begin}
 
 module _ (p : Light) (g : List ℕ) (is : IsLight p) (grid : IsGrid (light_cells p) 2 g) (met : AreMet (light_counts p) g) where
   board : IsBoard p

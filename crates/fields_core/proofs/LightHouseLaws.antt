@@ -1,5 +1,5 @@
 -- The houses of Light Up are houses, and each solution meets them.
-use Rattle.fields_core.proofs.Common.{AreDistinct, Bool, CountHouse, Extent, IsGrid, IsHouse, Light, List, [], all_below-at, all_below-from, and_from, and_parts, ap, arith, begins_column_run, begins_row_run, bulb, cases_Bool, cases_eq, cases_lt, clear, column-at, column_places, column_run, common_steps, cond, count_by, count_house_of, different-from, distinct-from, div-eq_of_lt, eq-eqb, eqb, eqb-true, false, false_from_ne_true, filter, filter_agree, get_or_past, has_place, houses_below, inl, inr, joined_in_column, joined_in_row, le-leb, length, light_cells, lt-ltb, ltb, ltb-true, max, meets, min, mul-le-mul_right, not, or_cases, or_left, or_parts, or_right, refl, row-at, row_places, row_run, slice_index, suc, sym, true, true≢false, white, zero, ℕ, ◌%◌, ◌*◌, ◌++◌, ◌+◌, ◌-◌, ◌/◌, ◌<◌, ◌||◌, ◌∙◌, ◌∷◌, ◌≡◌, ◌≤◌, not-false}
+use Rattle.fields_core.proofs.Common.{AreDistinct, Bool, CountHouse, Extent, IsGrid, IsHouse, Light, List, [], all_below-at, all_below-from, and_from, and_parts, ap, arith, begins_column_run, begins_row_run, bulb, cases_Bool, cases_eq, cases_lt, clear, column-at, column_places, column_run, common_steps, cond, count_by, count_house_of, different-from, distinct-from, div-eq_of_lt, eq-eqb, eqb, eqb-true, false, false_from_ne_true, filter, filter_agree, get_or_past, has_place, houses_below, inl, inr, joined_in_column, joined_in_row, le-leb, length, light_cells, lt-ltb, ltb, ltb-true, max, meets, min, mul-le-mul_right, not, not-false, or_cases, or_left, or_parts, or_right, refl, row-at, row_places, row_run, slice_index, suc, sym, true, true≢false, white, zero, ℕ, ◌%◌, ◌*◌, ◌++◌, ◌+◌, ◌-◌, ◌/◌, ◌<◌, ◌||◌, ◌∙◌, ◌∷◌, ◌≡◌, ◌≤◌}
 use Rattle.fields_core.proofs.HouseLists.{row-long, column-long}
 use Rattle.fields_core.proofs.TentBeside.{cell-below, cell-parts, whole-cell}
 use Rattle.fields_core.proofs.PlaceLists.{ones-bulbs}

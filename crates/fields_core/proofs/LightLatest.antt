@@ -1,6 +1,5 @@
 -- The runs that a walk over the cells keeps.
-use Rattle.fields_core.proofs.Common.{Bool, IsAround, IsLight, begins_at, line_white, Light, List, add-one, common_steps, cond, le-ltb, lt-ltb, ltb, ltb-false, ltb-true, RunsOn, [], and_parts, ap, ap₂, arith, begins_column_run, begins_row_run, cases_eq, cases_lt, clear, column_house, column_run, div-mul-add, eqb, eqb-true, false, filter, get_or, inl, inr, length, length-append, length-map-range_with_len, light_cells, lit_house, map, mul-le-mul_right, ne_eqb, not, not-true, one_at_least, one_at_most, or_cases, range_with_len, refl, row_house, row_run, run_house, seen_from, suc, sym, true, true≢false, white, zero, ℕ, ◌*◌, ◌++◌, ◌+◌, ◌-◌, ◌<◌, ◌^◌, ◌∙◌, ◌∷◌, ◌≡◌, ◌≤◌, ◌⊎◌}
-use Rattle.grid_core.proofs.PlaneLemmas.{place-column}
+use Rattle.fields_core.proofs.Common.{Bool, IsAround, IsLight, Light, List, RunsOn, [], add-one, and_parts, ap, ap₂, arith, begins_at, begins_column_run, begins_row_run, cases_eq, cases_lt, clear, column_house, column_run, common_steps, cond, div-mul-add, eqb, eqb-true, false, filter, get_or, inl, inr, le-ltb, length, length-append, length-map-range_with_len, light_cells, line_white, lit_house, lt-ltb, ltb, ltb-false, ltb-true, map, mul-le-mul_right, ne_eqb, not, not-true, one_at_least, one_at_most, or_cases, place-column, range_with_len, refl, row_house, row_run, run_house, seen_from, suc, sym, true, true≢false, white, zero, ℕ, ◌*◌, ◌++◌, ◌+◌, ◌-◌, ◌<◌, ◌^◌, ◌∙◌, ◌∷◌, ◌≡◌, ◌≤◌, ◌⊎◌}
 use Rattle.fields_core.proofs.RunLemmas.{around-run, column-run-is, row-run-is}
 use Rattle.fields_core.proofs.SegmentLemmas.{line, line-cut, line-from}
 use Rattle.fields_core.specs.LightRuns.{IsLatest}

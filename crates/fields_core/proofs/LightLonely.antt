@@ -1,13 +1,11 @@
 -- Numbers of Light Up that no grid meets, by the names of the houses.
-use Rattle.fields_core.proofs.Common.{Black, Bool, CountHouse, IsLight, Light, LightCell, List, Numbered, White, [], and_parts, any_below, any_below-here, any_below-some, ap, arith, begins_column_run, begins_row_run, cond, count_house_of, eq-eqb, eqb, eqb-true, exactly, false, false_from_ne_true, filter, get_or, get_or_append_left, houses_below, is_white, length, length-append, light_cells, light_house, light_houses, lt-ltb, ltb-true, no_count_house, number_house, refl, steps, suc, sym, true, true≢false, white, zero, ℕ, ◌&&◌, ◌++◌, ◌<◌, ◌∙◌, ◌∷◌, ◌≡◌, ◌≤◌, Option, None, Some, IsNext, is_some, min}
-use Rattle.fields_core.specs.Houses.{AreNamed}
+use Rattle.fields_core.proofs.Common.{AreNamed, Black, Bool, CountHouse, HouseName, IsLight, IsNext, Light, LightCell, List, None, Numbered, Option, Some, White, [], and_parts, any_below, any_below-here, any_below-some, ap, arith, begins_column_run, begins_row_run, cond, count_house_of, eq-eqb, eqb, eqb-true, exactly, false, false_from_ne_true, filter, get_or, get_or_append_left, houses_below, is_some, is_white, length, length-append, light_cells, light_house, light_houses, lt-ltb, ltb-true, min, no_count_house, number_house, refl, steps, suc, sym, true, true≢false, white, zero, ℕ, ◌&&◌, ◌++◌, ◌<◌, ◌∙◌, ◌∷◌, ◌≡◌, ◌≤◌}
 use Rattle.fields_core.specs.LightHouses.{numbered}
 use Rattle.fields_core.specs.LightLonely.{asks, lonely}
-use Rattle.fields_core.specs.declared.count.name.HouseName.{HouseName}
-use Rattle.fields_core.specs.declared.light_up.told.LightHouse.{LightHouse}
-use Rattle.fields_core.specs.declared.light_up.told.LightHouse.TheVariants.{Column, Lit, Number, Row}
+use Rattle.fields_core.specs.declared.light_up.light_house.LightHouse.{LightHouse}
+use Rattle.fields_core.specs.declared.light_up.light_house.LightHouse.TheVariants.{Column, Lit, Number, Row}
 use Rattle.fields_core.proofs.HouseLemmas.{named-cells, named-long, named-told}
-use Rattle.fields_core.proofs.LightTold.{place-tells}
+use Rattle.fields_core.proofs.LightHouseNames.{place-tells}
 use Rattle.fields_core.proofs.VisitLemmas.{IsAmong, among-below, among-one}
 
 -- ---- a house that is told

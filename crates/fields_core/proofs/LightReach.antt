@@ -1,16 +1,8 @@
 -- The rows of the white cells of Light Up that wait.
-use Rattle.fields_core.proofs.Common.{at_line, ArePlanesAlive, Layers, le-ltb, ltb, IsLight, Light, any_below, any_below-none, and_from, arith, clear, common_steps, cases_Bool, cases_lt, div-mul-add, eqb, false, false_from_ne_true, has_bit, has_place, inl, inr, joined_in_column, joined_in_row, lt-ltb, max, min, not, place-append, place-column, place-filter, refl, row_run, column_run, seen_from, sym, true, true≢false, white, Bool, ℕ, ◌%◌, ◌&&◌, ◌*◌, ◌+◌, ◌/◌, ◌<◌, ◌∙◌, ◌≡◌, ◌≤◌, ◌⊎◌}
-use Rattle.grid_core.specs.Planes.{line_len, lines_beside, number_of}
-use Rattle.grid_core.specs.declared.planes.line.Line.{Line}
-use Rattle.grid_core.specs.declared.planes.line.Line.TheVariants.{Row, Column}
-use Rattle.grid_core.proofs.PlaneLemmas.{place-in}
-use Rattle.fields_core.proofs.LitVisits.{has-at}
-use Rattle.grid_core.specs.Words.{IsLeast}
-use Rattle.grid_core.specs.declared.planes.touched.Touched.{Touched}
-use Rattle.fields_core.specs.LightWaits.{AreParted, IsAway, IsReach}
-use Rattle.fields_core.specs.Trees.{IsRowOf}
+use Rattle.fields_core.proofs.Common.{AreColumnsParted, AreParted, ArePlanesAlive, Bool, Column, IsAway, IsLeast, IsLight, IsReach, IsRowOf, Layers, Light, Line, Row, Touched, and_from, any_below, any_below-none, arith, at_line, cases_Bool, cases_lt, clear, column_run, common_steps, div-mul-add, eqb, false, false_from_ne_true, has_bit, has_place, inl, inr, joined_in_column, joined_in_row, le-ltb, line_len, lines_beside, lt-ltb, ltb, max, min, not, number_of, place-append, place-column, place-filter, place-in, refl, row_run, seen_from, sym, true, true≢false, white, ℕ, ◌%◌, ◌&&◌, ◌*◌, ◌+◌, ◌/◌, ◌<◌, ◌∙◌, ◌≡◌, ◌≤◌, ◌⊎◌}
+use Rattle.fields_core.proofs.RowWords.{has-at}
 use Rattle.fields_core.proofs.LightCounting.{column-run-joined, light-board, row-run-joined}
-use Rattle.fields_core.proofs.LightPassed.{rest-off, rest-on}
+use Rattle.fields_core.proofs.PassedLines.{rest-off, rest-on}
 use Rattle.fields_core.proofs.LightHouseLaws.{clear-at, clear-from, column-parts, column-white-end, row-parts, white-in}
 use Rattle.fields_core.proofs.TentBeside.{row-in}
 
@@ -130,8 +122,8 @@ module _ {W : Type 0} (bits : W → ℕ) (p : Light) (lines : Touched W) (lawful
   -- from the lowest of them to the highest, and further as far as columns are not parted
   pub reach-from : (first low high end : ℕ) → first ≤ low → high < end → end ≤ p.size.h → low ≤ high
       → ((k : ℕ) → k < p.size.h → has_bit (bits lines.rows) k ≡ true → (low ≤ k) × (k ≤ high))
-      → ((y x : ℕ) → y < first → x < p.size.w → has_bit (bits lines.columns) x ≡ true → AreParted p x y low)
-      → ((y x : ℕ) → end ≤ y → y < p.size.h → x < p.size.w → has_bit (bits lines.columns) x ≡ true → AreParted p x y high)
+      → ((y : ℕ) → y < first → AreColumnsParted p (bits lines.columns) y low)
+      → ((y : ℕ) → end ≤ y → y < p.size.h → AreColumnsParted p (bits lines.columns) y high)
       → IsReach bits p lines first end
   reach-from first low high end up down within order between above below = record {
     order = omega arith;
@@ -149,9 +141,9 @@ module _ {W : Type 0} (bits : W → ℕ) (p : Light) (lines : Touched W) (lawful
       parted : (y x : ℕ) → y < p.size.h → x < p.size.w → (k : ℕ) → (y < first) ⊎ (end ≤ y) → (low ≤ k) × (k ≤ high) → has_bit (bits lines.columns) x ≡ true
           → clear (λ j. white p (j * p.size.w + x)) y k ≡ true → ⊥
       parted y x y_in lt k (inl less) at column joined =
-          true≢false (sym (part x y k low joined (omega (arith, less, up)) (omega (arith, at))) ∙ above y x less lt column)
+          true≢false (sym (part x y k low joined (omega (arith, less, up)) (omega (arith, at))) ∙ above y less x lt column)
       parted y x y_in lt k (inr more) at column joined =
-          true≢false (sym (part x y k high joined (omega (arith, at)) (omega (arith, more, down))) ∙ below y x more y_in lt column)
+          true≢false (sym (part x y k high joined (omega (arith, at)) (omega (arith, more, down))) ∙ below y more y_in x lt column)
 
 -- ---- where each cell has a value, those of a line that must be 1 are those that can not be 0
 line-one : (planes : Layers) (line : Line) (k : ℕ) → number_of line < lines_beside planes.size line → k < line_len planes.size line → ArePlanesAlive planes

@@ -1,39 +1,22 @@
 -- Numbers and runs of Light Up that wait: where they lie, what stays idle, and what is idle where a closing begins.
-use Rattle.fields_core.proofs.Common.{[], mod-lt, has_place, one_at_least, seen_from, AllByRecursion, Black, Bool, any_below, any_below-none, cases_eq, or_left, or_right, Candidates, CountHouse, IsLight, Layers, Light, LightCell, List, Numbered, White, ap, arith, cases_Bool, common_steps, eqb, eqb-true, exactly, false, false_from_ne_true, filter, get_or, has_bit, houses_below, inl, inr, light_cells, light_houses, light_rules, lit_house, lt-ltb, ltb, not, number_house, place-filter, refl, steps, suc, sym, true, true≢false, white, zero, ℕ, ◌%◌, ◌&&◌, ◌*◌, ◌++◌, ◌+◌, ◌-◌, ◌/◌, ◌<◌, ◌||◌, ◌∙◌, ◌∷◌, ◌≡◌, ◌≤◌, or_parts}
-use Rattle.grid_core.specs.Candidates.{IsInside}
-use Rattle.grid_core.specs.Planes.{has, back_at, AreLinesOf, IsFurther, IsLostIn}
-use Rattle.grid_core.specs.declared.planes.touched.Touched.{Touched}
-use Rattle.grid_core.proofs.CandidateLemmas.{is_dead-not}
-use Rattle.grid_core.proofs.GridLemmas.{only-inside, only-other}
-use Rattle.grid_core.proofs.PlaneLemmas.{place-in}
-use Rattle.grid_core.proofs.TakingLemmas.{put_back-none}
+use Rattle.fields_core.proofs.Common.{AllByRecursion, AreIdle, AreIdleBut, AreLinesOf, AreLinesRested, AreLinesWoken, ArePlanesOf, Black, Bool, Candidates, CountHouse, IsAway, IsClosed, IsFurther, IsInside, IsLight, IsLostIn, Layers, Light, LightCell, List, Numbered, RunKind, Touched, White, any_below, any_below-none, ap, arith, back_at, cases_Bool, column_house, common_steps, eqb, eqb-true, exactly, false, false_from_ne_true, filter, get_or, has, has_bit, has_place, houses_below, inl, inr, light_cells, light_counts, light_houses, light_rules, lit_house, mod-lt, not, number_house, numbers_of_row, one_at_least, or_left, or_parts, or_right, place-filter, place-in, refl, row_house, row_runs_of_row, run_houses, run_lines, seen_from, solves_lights, steps, suc, sym, true, true≢false, waiting_runs, white, zero, ℕ, ◌%◌, ◌&&◌, ◌*◌, ◌+◌, ◌-◌, ◌/◌, ◌<◌, ◌||◌, ◌∙◌, ◌≡◌, ◌≤◌}
 use Rattle.engine_core.specs.Position.{IsClosedAround}
-use Rattle.engine_core.specs.RuleSystem.{IsClosed}
-use Rattle.fields_core.specs.Light.{solves_lights}
-use Rattle.fields_core.specs.LightHouses.{row_house, column_house}
-use Rattle.fields_core.specs.LightPlanes.{ArePlanesOf}
-use Rattle.fields_core.specs.LightWaits.{AreIdleBut, AreLinesRested, IsAway, AreLinesWoken, AreSpread, run_houses, run_lines, waiting_runs}
-use Rattle.fields_core.specs.LightWords.{numbers_of_row, row_runs_of_row}
-use Rattle.fields_core.specs.Visits.{after_houses}
-use Rattle.fields_core.specs.Waits.{AreIdle}
-use Rattle.fields_core.specs.declared.planes.lights.waits.LineWaits.{LineWaits}
-use Rattle.fields_core.specs.declared.planes.lights.waits.RunKind.{RunKind}
-use Rattle.fields_core.specs.declared.planes.lights.waits.RunKind.TheVariants.{Rows, Columns}
+use Rattle.fields_core.specs.declared.planes.light_up.waits.LineWaits.{LineWaits}
+use Rattle.fields_core.specs.declared.planes.light_up.waits.RunKind.TheVariants.{Rows, Columns}
 unfoldable use Rattle.fields_core.proofs.IdleLemmas.{any_has}
-use Rattle.fields_core.proofs.IdleLemmas.{any-below, any-none, any-one, idle-far, idle-first, idle-rest}
+use Rattle.fields_core.proofs.IdleLemmas.{any-below, any-none, any-one, idle-far}
 use Rattle.fields_core.proofs.AtMostLemmas.{IsFull}
-use Rattle.fields_core.proofs.LitIdle.{IsAll, alls-kept}
+use Rattle.fields_core.proofs.AtLeastLemmas.{IsAll, alls-kept}
 use Rattle.fields_core.proofs.LightCounting.{light-board}
 use Rattle.fields_core.proofs.LightHouseLaws.{row-self}
-use Rattle.fields_core.proofs.LitRuns.{black-idle, planes-full, seen-in-row}
-use Rattle.fields_core.proofs.PlaneSweeps.{counted-some}
-use Rattle.fields_core.proofs.LitVisits.{lit-is}
-use Rattle.fields_core.proofs.NumberRows.{numbers-are}
-use Rattle.fields_core.proofs.PartIdle.{IsPartOf, closed-idle, in-back, in-below, in-front}
-use Rattle.fields_core.proofs.RunOrder.{column-runs-kept, row-runs-are, row-runs-kept}
+use Rattle.fields_core.proofs.LightLitRuns.{black-idle, planes-full, seen-in-row}
+use Rattle.fields_core.proofs.LightLitVisits.{lit-is}
+use Rattle.fields_core.proofs.LightNumberRows.{numbers-are}
+use Rattle.fields_core.proofs.PartIdle.{IsPartOf, below-idle, closed-idle, idle-one, in-back, in-below, in-front}
+use Rattle.fields_core.proofs.LightRunOrder.{column-runs-kept, row-runs-are, row-runs-kept}
 use Rattle.fields_core.proofs.StepLaws.{steps-some}
 use Rattle.fields_core.proofs.TentBeside.{IsNextTo, row-in, step-across, step-lies}
-use Rattle.fields_core.proofs.VisitLemmas.{visits-append}
+use Rattle.fields_core.proofs.WaitLemmas.{around-inside, around-lost, back-whole, full-before, spread-off, value-kept}
 
 -- ---- where houses lie
 number-lies : (p : Light) (c y x : ℕ) → x < p.size.w → any_has (number_house p (y * p.size.w + x)) c ≡ true
@@ -53,20 +36,6 @@ numbers-lie p c y on =
     let w = any-below (λ x. number_house p (y * p.size.w + x)) p.size.w c on in
     (number-lies p c y w.0 w.1 w.2).0
 
--- ---- lines that have changed
--- a line that does not wait is none of these, nor beside one
-spread-off : {W : Type 0} (bits : W → ℕ) {room : ℕ} (before : W) (lines : ℕ → Bool) (now : W) → AreSpread bits room before lines now
-    → {j k : ℕ} → lines j ≡ true → k < room → has_bit (bits now) k ≡ false → IsNextTo j k → ⊥
-spread-off bits {room} before lines now woken {j} {k} on lt off (inl own) =
-    true≢false (sym (rw own at on) ∙ (or_parts _ _ (or_parts _ _ (or_parts _ _ (sym (woken k) ∙ off)).1).0).1)
-spread-off bits {room} before lines now woken {j} {k} on lt off (inr (inl above)) =
-    let at : j ≡ k - 1 = omega (arith, above) in
-    let f : (ltb k room && (ltb 0 k && lines (k - 1))) ≡ false =
-    (or_parts _ _ (or_parts _ _ (or_parts _ _ (sym (woken k) ∙ off)).1).0).0 in
-    true≢false (rw (lt-ltb k room lt, lt-ltb 0 k (omega (arith, above)), rw at at on) at f)
-spread-off bits {room} before lines now woken {j} {k} on lt off (inr (inr below)) =
-    true≢false (sym (rw below at on) ∙ (or_parts _ _ (or_parts _ _ (sym (woken k) ∙ off)).1).1)
-
 -- ---- white cells
 -- a white cell has a house of the cells that it sees, and a black one has none
 lit-lies : (p : Light) (c d : ℕ) → any_has (lit_house p c) d ≡ true → has_place (seen_from p c) d ≡ true
@@ -79,16 +48,6 @@ pub lits-each : (p : Light) (c : ℕ) → IsLight p → c < light_cells p → Al
 lits-each p c lawful lt = elim (cases_Bool (white p c)) [
   | inl on ↦ rw on (record { is = lit-is p lawful lt on; same = refl }, tt)
   | inr off ↦ rw off tt
-]
-
--- what keeps a value that it had, unless it is lost
-value-kept : (K L : Candidates) (c v : ℕ) → IsInside L K → (K c v ≡ true → L c v ≡ false → ⊥) → L c v ≡ K c v
-value-kept K L c v inside never = elim (cases_Bool (K c v)) [
-  | inl on ↦ (elim (cases_Bool (L c v)) [
-    | inl still ↦ still
-    | inr gone ↦ absurd (never on gone)
-  ]) ∙ sym on
-  | inr off ↦ false_from_ne_true _ (λ on. true≢false (sym (inside c v on) ∙ off)) ∙ sym off
 ]
 
 -- ---- once cells of these lines have lost 0, and cells of those 1
@@ -147,10 +106,7 @@ pub lines-woken : {W : Type 0} (bits : W → ℕ) {room : ℕ} (p : Light) (zero
     → AreLinesWoken bits room before zeros ones now → AreLinesRested bits p before (has from) → AreLinesRested bits p now (has to)
 lines-woken bits p zeros ones {from} {to} {len} before now lost_zeros lost_ones of was is further =
     lines-board bits p (has from) (has to) of.lawful of.narrow of.low (planes-full p from was.size was.alive) (planes-full p to of.size of.alive) further.inside
-    (λ c on gone. rw (of.size) at (lost_zeros c (rw whole on) gone)) (λ c on gone. rw (of.size) at (lost_ones c (rw whole on) gone))
-  where
-    whole : back_at to len ≡ has from
-    whole = rw (← is) (further.back from.len (omega arith) ∙ put_back-none from.size.w (has from) from.takings from.len from.len (omega arith))
+    (λ c on gone. rw (of.size) at (lost_zeros c (rw (back-whole is further) on) gone)) (λ c on gone. rw (of.size) at (lost_ones c (rw (back-whole is further) on) gone))
 
 -- ---- where all cells may have lost values
 pub lines-all : {W : Type 0} (bits : W → ℕ) {room : ℕ} (p : Light) (waits : LineWaits W) (K : Candidates) → IsLight p → p.size.w ≤ room → p.size.h ≤ room
@@ -172,27 +128,6 @@ lines-all bits p waits K lawful narrow low numbers number_columns rows columns o
     by Columns k lt off = absurd (true≢false (sym (columns k (omega (arith, lt, narrow))) ∙ off))
 
 -- ---- where a closing begins
--- the houses of the lists below n, where each list is idle
-pub below-idle : (f : ℕ → List CountHouse) (n : ℕ) (K : Candidates) → ((k : ℕ) → k < n → AreIdle (f k) K) → AreIdle (houses_below f n) K
-unfolding houses_below after_houses
-below-idle f zero K each = refl
-below-idle f (suc n) K each =
-    visits-append (houses_below f n) (f n) K ∙ rw (below-idle f n K (λ k lt. each k (omega arith))) (each n (omega arith))
-
--- each list of idle houses is idle
-idle-parts : (front back : List CountHouse) (K : Candidates) → AreIdle (front ++ back) K → AreIdle front K × AreIdle back K
-unfolding after_houses
-idle-parts [] back K idle = (refl, idle)
-idle-parts (house ∷ front) back K idle =
-    let first = idle-first house (front ++ back) K idle in
-    let rest = idle-parts front back K (idle-rest house (front ++ back) K idle) in
-    (rw first rest.0, rest.1)
-
-pub idle-one : (f : ℕ → List CountHouse) (n k : ℕ) (K : Candidates) → k < n → AreIdle (houses_below f n) K → AreIdle (f k) K
-idle-one f n k K lt idle =
-    let within = in-below f k n lt in
-    (idle-parts (f k) within.back K (idle-parts within.front (f k ++ within.back) K (rw (within.is) at idle)).1).0
-
 -- all houses of a closed board are idle
 module _ (p : Light) (K : Candidates) (closed : IsClosed (light_rules p) K) where
   part-idle : (part : List CountHouse) → IsPartOf part (light_houses p) → AreIdle part K
@@ -226,15 +161,6 @@ module _ (p : Light) (K : Candidates) (closed : IsClosed (light_rules p) K) wher
     whites = λ c lt away. white-idle c lt;
   }
 
--- the cell at which a closing begins has a value
-pub has-one : {room : ℕ} {p : Light} {planes : Layers} {place : ℕ} → ArePlanesOf room p planes → IsClosedAround (light_rules p) (has planes) place
-    → has planes place 1 ≡ false → has planes place 0 ≡ false → ⊥
-has-one {p = p} {place = place} of around no_one no_zero =
-    elim (of.alive place (rw (of.size) (around.within place around.value around.had).0)) [
-      | inl on ↦ true≢false (sym on ∙ no_zero)
-      | inr on ↦ true≢false (sym on ∙ no_one)
-    ]
-
 -- a closing begins at a cell, which has lost a value
 pub lines-at : {W : Type 0} (bits : W → ℕ) {room : ℕ} (p : Light) {planes : Layers} {place : ℕ} (none now : LineWaits W) {zeros ones : Touched W}
     → ArePlanesOf room p planes → IsClosedAround (light_rules p) (has planes) place
@@ -242,19 +168,9 @@ pub lines-at : {W : Type 0} (bits : W → ℕ) {room : ℕ} (p : Light) {planes 
     → (has planes place 1 ≡ false → AreLinesOf bits ones (place / p.size.w) (place % p.size.w))
     → AreLinesWoken bits room none zeros ones now → AreLinesRested bits p now (has planes)
 lines-at {W = W} bits p {planes} {place} none now {zeros} {ones} of around no_zero no_one woken =
-    lines-board bits p around.before (has planes) of.lawful of.narrow of.low full (planes-full p planes of.size of.alive)
-    (rw (around.is) (only-inside around.before place around.value)) (at 0 zeros no_zero) (at 1 ones no_one) woken
+    lines-board bits p around.before (has planes) of.lawful of.narrow of.low (full-before (light_counts p) around) (planes-full p planes of.size of.alive)
+    (around-inside (light_counts p) around) (around-lost (light_counts p) around bits p.size.w 0 zeros no_zero) (around-lost (light_counts p) around bits p.size.w 1 ones no_one) woken
     (closed-rested p around.before around.closed bits none)
-  where
-    full : IsFull (light_cells p) around.before
-    full = record { low = λ c v on. (around.within c v on).1; some = λ c lt. counted-some around.before c (is_dead-not (light_cells p) 2 around.before c around.alive lt) }
-
-    at : (v : ℕ) (lines : Touched W) → (has planes place v ≡ false → AreLinesOf bits lines (place / p.size.w) (place % p.size.w))
-        → IsLostIn bits p.size.w v around.before (has planes) lines
-    at v lines own c on gone = elim (cases_eq c place) [
-      | inl e ↦ rw e (own (rw e at gone))
-      | inr ne ↦ absurd (true≢false (sym on ∙ sym (ap (λ (f : ℕ → Bool). f v) (only-other around.before place around.value c ne)) ∙ rw (around.is) at gone))
-    ]
 
 -- ---- the last row whose numbers wait is settled
 module _ {W : Type 0} (bits : W → ℕ) (p : Light) (before now : LineWaits W) (room y : ℕ) (K : Candidates)

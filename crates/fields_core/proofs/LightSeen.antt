@@ -1,5 +1,5 @@
 -- A cell sees a bulb exactly if a walk from it along its row or its column comes to one before a black cell.
-use Rattle.fields_core.proofs.Common.{Bool, Light, List, IsAround, SeesAlong, ShinesAlong, and_from, and_parts, any_below-here, any_below-some, ap, arith, bulb, clear, common_steps, eq-eqb, eqb, false, false_from_ne_true, inl, inr, joined_in_column, joined_in_row, light_cells, mod-lt, mul-add-lt, ne_eqb, not, not-true, or_cases, or_left, or_right, sees, sees_bulb, slice_index, sym, true, true≢false, white, ℕ, ◌%◌, ◌&&◌, ◌*◌, ◌+◌, ◌/◌, ◌<◌, ◌||◌, ◌∙◌, ◌≡◌, ◌≢◌, ◌≤◌}
+use Rattle.fields_core.proofs.Common.{Bool, IsAround, Light, List, SeesAlong, ShinesAlong, and_from, and_parts, any_below-here, any_below-some, ap, arith, bulb, clear, common_steps, eq-eqb, eqb, false, false_from_ne_true, inl, inr, joined_in_column, joined_in_row, light_cells, mod-lt, mul-add-lt, ne_eqb, not, not-true, or_cases, or_left, or_right, sees, sees_bulb, slice_index, sym, true, true≢false, white, ℕ, ◌%◌, ◌&&◌, ◌*◌, ◌+◌, ◌/◌, ◌<◌, ◌||◌, ◌∙◌, ◌≡◌, ◌≢◌, ◌≤◌}
 use Rattle.fields_core.proofs.LightHouseLaws.{clear-at, clear-from, mul-inj, row-parts, column-parts}
 use Rattle.fields_core.proofs.RunLemmas.{around-joined, clear-same, row-cell-joined, column-cell-joined}
 use Rattle.fields_core.proofs.TentBeside.{row-in}

@@ -1,36 +1,27 @@
 -- Sweeps of the houses of Light Up on planes.
-use Rattle.fields_core.proofs.Common.{AllByRecursion, CountHouse, List, ArePlanesAlive, IsLight, Layers, Light, append_assoc, ap, arith, column_house, false_from_ne_true, houses_below, inl, inr, length, light_cells, light_houses, light_rules, lit_house, not, refl, row_house, sym, true, true≢false, white, ℕ, Bool, ◌*◌, ◌++◌, ◌+◌, ◌<◌, ◌∙◌, ◌≡◌, ◌≤◌, ◌⊎◌}
-use Rattle.grid_core.specs.Planes.{IsFurther, has}
-use Rattle.grid_core.proofs.PlaneLemmas.{place-in}
-use Rattle.fields_core.specs.Light.{solves_lights}
-use Rattle.fields_core.specs.LightPlanes.{ArePlanesOf}
-use Rattle.fields_core.specs.LightWaits.{AreLightsReady, AreLinesRested, AreSafe, IsReach, lits_of_row, run_houses, run_lines, white_houses}
-use Rattle.fields_core.specs.LightWords.{numbers_of_row}
-use Rattle.fields_core.specs.Sweeps.{IsSweep}
-use Rattle.fields_core.specs.Visits.{AreVisited}
-use Rattle.fields_core.specs.Waits.{AreIdle}
-use Rattle.fields_core.specs.declared.planes.lights.notes.LightNotes.{LightNotes}
-use Rattle.fields_core.specs.declared.planes.lights.waits.RunKind.{RunKind}
-use Rattle.fields_core.specs.declared.planes.lights.waits.RunKind.TheVariants.{Rows, Columns}
-use Rattle.fields_core.proofs.AnyOrder.{IsSingle}
-use Rattle.fields_core.proofs.LightRests.{below-idle, lits-each}
-use Rattle.fields_core.proofs.LitIdle.{IsAll, alls-ones}
-use Rattle.fields_core.proofs.LitRuns.{planes-full}
-use Rattle.fields_core.proofs.NumberRows.{numbers-are}
-use Rattle.fields_core.proofs.PlaneSweeps.{visits-swept}
+use Rattle.fields_core.proofs.Common.{AllByRecursion, AreIdle, AreLightsReady, AreLinesRested, ArePlanesAlive, ArePlanesOf, AreSafe, AreVisited, Bool, CountHouse, HasBoard, IsFurther, IsLight, IsReach, IsSweep, Layers, Light, List, RunKind, ap, append_assoc, arith, column_house, false_from_ne_true, has, houses_below, inl, inr, length, light_cells, light_houses, light_rules, lit_house, lits_of_row, not, numbers_of_row, place-in, refl, row_house, run_houses, run_lines, solves_lights, sym, true, true≢false, white, white_houses, ℕ, ◌*◌, ◌++◌, ◌+◌, ◌<◌, ◌∙◌, ◌≡◌, ◌≤◌, ◌⊎◌}
+use Rattle.fields_core.specs.declared.planes.light_up.light_notes.LightNotes.{LightNotes}
+use Rattle.fields_core.specs.declared.planes.light_up.waits.RunKind.TheVariants.{Rows, Columns}
+use Rattle.fields_core.proofs.HouseOrder.{IsSingle}
+use Rattle.fields_core.proofs.LightRests.{lits-each}
+use Rattle.fields_core.proofs.PartIdle.{below-idle}
+use Rattle.fields_core.proofs.AtLeastLemmas.{IsAll, alls-ones}
+use Rattle.fields_core.proofs.LightLitRuns.{planes-full}
+use Rattle.fields_core.proofs.LightNumberRows.{numbers-are}
+use Rattle.fields_core.proofs.PlaneSweeps.{cells-alive, visits-swept}
 use Rattle.fields_core.proofs.QuietVisits.{alls-quiet, quiet-done, quiet-one, quiet-stays, singles-quiet}
-use Rattle.fields_core.proofs.RunOrder.{column-runs-single, row-runs-single}
+use Rattle.fields_core.proofs.LightRunOrder.{column-runs-single, row-runs-single}
 use Rattle.fields_core.proofs.VisitLemmas.{below-rows}
 use Rattle.fields_core.proofs.CountListLemmas.{all-houses}
 
 -- ---- runs and white cells that are visited leave others idle
-runs-single : (p : Light) (kind : RunKind) (k : ℕ) → IsLight p → k < run_lines p kind → AllByRecursion (IsSingle (light_cells p)) (run_houses p kind k)
+pub runs-single : (p : Light) (kind : RunKind) (k : ℕ) → IsLight p → k < run_lines p kind → AllByRecursion (IsSingle (light_cells p)) (run_houses p kind k)
 runs-single p Rows k lawful lt = row-runs-single p k lawful
 runs-single p Columns k lawful lt = column-runs-single p k lawful
 
 pub runs-done : {room : ℕ} (p : Light) (kind : RunKind) {from to : Layers} → ArePlanesOf room p from
     → AreVisited (houses_below (run_houses p kind) (run_lines p kind)) from to true → (k : ℕ) → k < run_lines p kind → AreIdle (run_houses p kind k) (has to)
-runs-done p kind of visited = quiet-done p (singles-quiet (light_cells p)) (run_houses p kind) (λ k lt. runs-single p kind k of.lawful lt) of (omega arith) visited
+runs-done p kind of visited = quiet-done (singles-quiet (light_cells p)) (run_houses p kind) (λ k lt. runs-single p kind k of.lawful lt) (rw of.size refl) of.alive (omega arith) visited
 
 pub lit-all : (p : Light) (y x : ℕ) → IsLight p → y < p.size.h → x < p.size.w → AllByRecursion (IsAll (light_cells p)) (lit_house p (y * p.size.w + x))
 lit-all p y x lawful y_in x_in = lits-each p (y * p.size.w + x) lawful (place-in p.size.w p.size.h y x y_in x_in)
@@ -43,28 +34,22 @@ pub lit-stays : {room : ℕ} (p : Light) (y x : ℕ) {from to : Layers} {m : ℕ
     → AreVisited (houses_below (λ x. lit_house p (y * p.size.w + x)) m) from to true
     → AreIdle (lit_house p (y * p.size.w + x)) (has from) → AreIdle (lit_house p (y * p.size.w + x)) (has to)
 lit-stays p y x of le y_in x_in visited idle =
-    quiet-stays p (alls-quiet (light_cells p)) (λ x. lit_house p (y * p.size.w + x)) (λ x lt. lit-all p y x of.lawful y_in lt) of le visited
+    quiet-stays (alls-quiet (light_cells p)) (λ x. lit_house p (y * p.size.w + x)) (λ x lt. lit-all p y x of.lawful y_in lt) (rw of.size refl) of.alive le visited
     (lit_house p (y * p.size.w + x)) (lit-all p y x of.lawful y_in x_in) idle
 
 pub lits-stay : {room : ℕ} (p : Light) (y x : ℕ) {from to : Layers} {m : ℕ} → ArePlanesOf room p from → m ≤ p.size.h → y < p.size.h → x < p.size.w
     → AreVisited (houses_below (lits_of_row p) m) from to true
     → AreIdle (lit_house p (y * p.size.w + x)) (has from) → AreIdle (lit_house p (y * p.size.w + x)) (has to)
 lits-stay p y x of le y_in x_in visited idle =
-    quiet-stays p (alls-quiet (light_cells p)) (lits_of_row p) (λ y lt. row-lits p y of.lawful lt) of le visited
+    quiet-stays (alls-quiet (light_cells p)) (lits_of_row p) (λ y lt. row-lits p y of.lawful lt) (rw of.size refl) of.alive le visited
     (lit_house p (y * p.size.w + x)) (lit-all p y x of.lawful y_in x_in) idle
 
 -- and another, after a visit of one
 pub lit-kept : {room : ℕ} (p : Light) (y j k : ℕ) {from to : Layers} → ArePlanesOf room p from → y < p.size.h → j < p.size.w → k < p.size.w
     → AreVisited (lit_house p (y * p.size.w + j)) from to true → AreIdle (lit_house p (y * p.size.w + k)) (has from) → AreIdle (lit_house p (y * p.size.w + k)) (has to)
 lit-kept p y j k of y_in j_in k_in visited idle =
-    quiet-one p (alls-quiet (light_cells p)) (lit_house p (y * p.size.w + j)) (lit-all p y j of.lawful y_in j_in) of visited
+    quiet-one (alls-quiet (light_cells p)) (lit_house p (y * p.size.w + j)) (lit-all p y j of.lawful y_in j_in) (rw of.size refl) of.alive visited
     (lit_house p (y * p.size.w + k)) (lit-all p y k of.lawful y_in k_in) idle
-
-pub runs-kept : {room : ℕ} (p : Light) (kind : RunKind) (j k : ℕ) {from to : Layers} → ArePlanesOf room p from → j < run_lines p kind → k < run_lines p kind
-    → AreVisited (run_houses p kind j) from to true → AreIdle (run_houses p kind k) (has from) → AreIdle (run_houses p kind k) (has to)
-runs-kept p kind j k of j_in k_in visited idle =
-    quiet-one p (singles-quiet (light_cells p)) (run_houses p kind j) (runs-single p kind j of.lawful j_in) of visited
-    (run_houses p kind k) (runs-single p kind k of.lawful k_in) idle
 
 -- two cells that can have a bulb still can, and one that must still must: visits of white cells take no 1
 pub lits-safe : {room : ℕ} (p : Light) (houses : List CountHouse) {from to : Layers} {cells : ℕ → Bool} → AllByRecursion (IsAll (light_cells p)) houses
@@ -101,12 +86,12 @@ out-idle {p = p} {from = from} ready reach y y_in out =
 pub row-stays : {room : ℕ} (p : Light) (y : ℕ) {from to : Layers} {m : ℕ} → ArePlanesOf room p from → m ≤ p.size.h → y < p.size.h
     → AreVisited (houses_below (lits_of_row p) m) from to true → AreIdle (lits_of_row p y) (has from) → AreIdle (lits_of_row p y) (has to)
 row-stays p y of le y_in visited idle =
-    quiet-stays p (alls-quiet (light_cells p)) (lits_of_row p) (λ y lt. row-lits p y of.lawful lt) of le visited
+    quiet-stays (alls-quiet (light_cells p)) (lits_of_row p) (λ y lt. row-lits p y of.lawful lt) (rw of.size refl) of.alive le visited
     (lits_of_row p y) (row-lits p y of.lawful y_in) idle
 
 pub lits-done : {room : ℕ} (p : Light) {from to : Layers} → ArePlanesOf room p from → AreVisited (houses_below (lit_house p) (light_cells p)) from to true
     → (c : ℕ) → c < light_cells p → AreIdle (lit_house p c) (has to)
-lits-done p of visited = quiet-done p (alls-quiet (light_cells p)) (lit_house p) (λ c lt. lits-each p c of.lawful lt) of (omega arith) visited
+lits-done p of visited = quiet-done (alls-quiet (light_cells p)) (lit_house p) (λ c lt. lits-each p c of.lawful lt) (rw of.size refl) of.alive (omega arith) visited
 
 -- ---- the houses in order
 pub lits-are : (p : Light) → houses_below (lits_of_row p) p.size.h ≡ houses_below (lit_house p) (light_cells p)
@@ -140,4 +125,14 @@ ready-next {bits = bits} {room = room} {p = p} ready further alive now tables lo
   tables = rw tables ready.tables;
   safe_long = rw long ready.safe_long;
   rested = rested;
+}
+
+-- ---- what a closing asks of planes
+pub planes-of : {room : ℕ} {p : Light} {planes : Layers} → IsLight p → HasBoard (light_rules p) p.size room planes → ArePlanesOf room p planes
+planes-of {planes = planes} lawful has_board = record {
+  lawful = lawful;
+  narrow = has_board.suited.0;
+  low = has_board.suited.1;
+  size = has_board.same_size;
+  alive = cells-alive planes has_board.cells has_board.board.alive;
 }

@@ -1,8 +1,7 @@
 -- What the next number that passes a test tells of a line.
-use Rattle.fields_core.proofs.Common.{Bool, IsAround, IsNext, cases_eq, cases_lt, inl, inr, true, List, None, Option, RunsOn, ShinesAlong, Some, and_parts, arith, eqb-false, false≢true, is_some, ne_eqb, not, not-false, not-true, tent, true≢false, ℕ, ◌&&◌, ◌+◌, ◌-◌, ◌<◌, ◌≡◌, ◌≤◌}
+use Rattle.fields_core.proofs.Common.{Bool, IsAround, IsNext, List, None, Option, RunsOn, ShinesAlong, Some, and_parts, arith, cases_eq, cases_lt, eqb-false, false≢true, inl, inr, is_some, ne_eqb, not, not-false, not-true, tent, true, true≢false, ℕ, ◌&&◌, ◌+◌, ◌-◌, ◌<◌, ◌==◌, ◌≡◌, ◌≤◌}
 use Rattle.std.specs.Option.{unwrap_or}
-use Rattle.std.specs.Prelude.{◌==◌}
-use Rattle.fields_core.specs.Runs.{RunsBack}
+use Rattle.fields_core.specs.LightSight.{RunsBack}
 use Rattle.fields_core.specs.TentTouching.{IsTentAmong}
 use Rattle.fields_core.proofs.LightSeen.{run-bulb, run-dark}
 

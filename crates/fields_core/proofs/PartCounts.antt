@@ -1,8 +1,5 @@
 -- How many cells of a grid lie in pieces of lines.
-use Rattle.fields_core.proofs.Common.{AreDistinct, Bool, Extent, Layers, List, [], ap, arith, at_line, cases_Bool, cases_eq, cases_lt, common_steps, cond, count_below, count_below-none, count_below-same, count_by, crosses, div-mul-add, eq-eqb, eqb, eqb-true, false, false_from_ne_true, has_bit, has_place, inl, inr, le-ltb, line_len, lines_beside, lt-ltb, ltb, ne_eqb, number_of, place-column, refl, suc, sum_by-cons, sym, true, true≢false, zero, ℕ, ◌%◌, ◌&&◌, ◌*◌, ◌+◌, ◌/◌, ◌<◌, ◌||◌, ◌∙◌, ◌∷◌, ◌≡◌, ◌≢◌, ◌≤◌, ◌⊎◌}
-use Rattle.grid_core.specs.Planes.{has}
-use Rattle.grid_core.specs.declared.planes.line.Line.{Line}
-use Rattle.grid_core.specs.declared.planes.line.Line.TheVariants.{Row, Column}
+use Rattle.fields_core.proofs.Common.{AreDistinct, Bool, Column, Extent, Layers, Line, List, Row, [], ap, arith, at_line, cases_Bool, cases_eq, cases_lt, common_steps, cond, count_below, count_below-none, count_below-same, count_by, crosses, div-mul-add, eq-eqb, eqb, eqb-true, false, false_from_ne_true, has, has_bit, has_place, inl, inr, le-ltb, line_len, lines_beside, lt-ltb, ltb, ne_eqb, number_of, place-column, refl, suc, sum_by-cons, sym, true, true≢false, zero, ℕ, ◌%◌, ◌&&◌, ◌*◌, ◌+◌, ◌/◌, ◌<◌, ◌||◌, ◌∙◌, ◌∷◌, ◌≡◌, ◌≢◌, ◌≤◌, ◌⊎◌}
 
 -- ---- counts in two steps
 count-add : (p : ℕ → Bool) (m n : ℕ) → count_below p (m + n) ≡ count_below p m + count_below (λ k. p (m + k)) n

@@ -1,10 +1,7 @@
 -- Houses that stand one after another among others. Of a closed board all are idle.
-use Rattle.fields_core.proofs.Common.{Bool, Candidates, CountHouse, List, [], after_house, append_assoc, arith, cases_Bool, false, fun_ext, houses_below, inl, inr, length, length-append, not, refl, sym, true, ℕ, ◌&&◌, ◌++◌, ◌+◌, ◌-◌, ◌<◌, ◌∙◌, ◌∷◌, ◌≡◌, ◌⊎◌}
-use Rattle.engine_core.specs.RuleSystem.{IsClosed}
-use Rattle.fields_core.specs.CountHouse.{count_house_of, count_puzzle, strikes_of}
-use Rattle.fields_core.specs.Visits.{after_houses}
-use Rattle.fields_core.specs.Waits.{AreIdle}
-use Rattle.fields_core.proofs.VisitLemmas.{below-rest, house-at}
+use Rattle.fields_core.proofs.Common.{AreIdle, Bool, Candidates, CountHouse, IsClosed, List, [], after_house, after_houses, append_assoc, arith, cases_Bool, count_house_of, count_puzzle, false, fun_ext, houses_below, inl, inr, length, length-append, not, refl, strikes_of, suc, sym, true, zero, ℕ, ◌&&◌, ◌++◌, ◌+◌, ◌-◌, ◌<◌, ◌∙◌, ◌∷◌, ◌≡◌, ◌⊎◌}
+use Rattle.fields_core.proofs.IdleLemmas.{idle-first, idle-rest}
+use Rattle.fields_core.proofs.VisitLemmas.{below-rest, house-at, visits-append}
 use Rattle.fields_core.proofs.CountListLemmas.{below-more}
 
 -- ---- a part of a list
@@ -40,6 +37,28 @@ in-below f k n lt =
           back = w.0;
           is = w.1 ∙ rw (below-more f k) (append_assoc (houses_below f k) (f k) w.0);
         }
+
+-- ---- lists of idle houses
+-- the houses of the lists below n, where each list is idle
+pub below-idle : (f : ℕ → List CountHouse) (n : ℕ) (K : Candidates) → ((k : ℕ) → k < n → AreIdle (f k) K) → AreIdle (houses_below f n) K
+unfolding houses_below after_houses
+below-idle f zero K each = refl
+below-idle f (suc n) K each =
+    visits-append (houses_below f n) (f n) K ∙ rw (below-idle f n K (λ k lt. each k (omega arith))) (each n (omega arith))
+
+-- each list of idle houses is idle
+idle-parts : (front back : List CountHouse) (K : Candidates) → AreIdle (front ++ back) K → AreIdle front K × AreIdle back K
+unfolding after_houses
+idle-parts [] back K idle = (refl, idle)
+idle-parts (house ∷ front) back K idle =
+    let first = idle-first house (front ++ back) K idle in
+    let rest = idle-parts front back K (idle-rest house (front ++ back) K idle) in
+    (rw first rest.0, rest.1)
+
+pub idle-one : (f : ℕ → List CountHouse) (n k : ℕ) (K : Candidates) → k < n → AreIdle (houses_below f n) K → AreIdle (f k) K
+idle-one f n k K lt idle =
+    let within = in-below f k n lt in
+    (idle-parts (f k) within.back K (idle-parts within.front (f k ++ within.back) K (rw (within.is) at idle)).1).0
 
 -- ---- houses of a closed board
 module _ (cells : ℕ) (blocked : ℕ → Bool) (houses : List CountHouse) (is_solution : List ℕ → Bool) (K : Candidates)

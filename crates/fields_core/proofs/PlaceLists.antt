@@ -1,5 +1,5 @@
 -- Lists of different places, and how many of them pass a test.
-use Rattle.fields_core.proofs.Common.{AreDistinct, Bool, List, [], ap, arith, bulb, cases_Bool, cases_eq, cases_lt, common_steps, cond, count_by, count_by-le-length, different-from, distinct-filter, eqb, eqb-false, false, false≢true, filter, has_place, has_place-at, has_place-here, inl, inr, length, length-filter, list_any, lt-ltb, ltb, ltb-false, ltb-true, map, ne_eqb, nonzeros, or_parts, place-filter, place-kept, refl, slice_index, sum_by-cons, sym, true, ℕ, ◌+◌, ◌<◌, ◌||◌, ◌∙◌, ◌∷◌, ◌≡◌, ◌≤◌, eq-eqb, le-ltb, not}
+use Rattle.fields_core.proofs.Common.{AreDistinct, Bool, List, [], ap, arith, bulb, cases_Bool, cases_eq, cases_lt, common_steps, cond, count_by, count_by-le-length, different-from, distinct-filter, eq-eqb, eqb, eqb-false, false, false≢true, filter, has_place, has_place-at, has_place-here, inl, inr, le-ltb, length, length-filter, list_any, lt-ltb, ltb, ltb-false, ltb-true, map, ne_eqb, nonzeros, not, or_parts, place-filter, place-kept, refl, slice_index, sum_by-cons, sym, true, ℕ, ◌&&◌, ◌+◌, ◌<◌, ◌||◌, ◌∙◌, ◌∷◌, ◌≡◌, ◌≤◌}
 use Rattle.fields_core.proofs.BelowLemmas.{any-here, any-none}
 
 pub filter-few : (test : ℕ → Bool) (xs : List ℕ) → length (filter test xs) ≤ length xs
@@ -86,3 +86,6 @@ module _ (p q : ℕ → Bool) (place : ℕ) (others : (c : ℕ) → (c ≡ place
 pub ones-bulbs : (g : List ℕ) (xs : List ℕ) → ((c : ℕ) → slice_index g c < 2) → nonzeros (map (slice_index g) xs) ≡ count_by (bulb g) xs
 ones-bulbs g [] small = refl
 ones-bulbs g (x ∷ xs) small = grind (arith, common_steps, count-cons, ones-bulbs g xs small)
+
+pub filter-has : (keeps : ℕ → Bool) (xs : List ℕ) (c : ℕ) → has_place (filter keeps xs) c ≡ (has_place xs c && keeps c)
+filter-has keeps xs c = grind (arith, common_steps, cases_Bool (has_place (filter keeps xs) c), cases_Bool (has_place xs c), cases_Bool (keeps c), place-filter keeps xs c, place-kept keeps xs c)

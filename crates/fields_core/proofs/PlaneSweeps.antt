@@ -1,20 +1,8 @@
 -- Sweeps of the count houses of a puzzle on planes, and closings by them.
-use Rattle.std.proofs.Common.{◌≡◌, ◌∙◌, ℕ, ◌+◌, ◌*◌, ◌<◌, ◌≤◌, Bool, true, false, List, [], max, refl, sym, inl, inr, ◌⊎◌, arith}
-use Rattle.std.proofs.lemmas.Bool.{cases_Bool}
-use Rattle.std.proofs.lemmas.Grind.{common_steps}
-use Rattle.grid_core.specs.Candidates.{Candidates, IsWithin, count_below, is_dead, max_cells, total}
-use Rattle.grid_core.specs.Planes.{Layers, cells_of, has, IsFurther}
-use Rattle.grid_core.proofs.CandidateLemmas.{count_below-pos, is_dead-each, is_dead-here, is_dead-not, within_inside}
-use Rattle.grid_core.proofs.PlaneLemmas.{further-more, further-none}
+use Rattle.fields_core.proofs.Common.{AreHouses, AreMet, ArePlanesAlive, AreVisited, Bool, Candidates, CountHouse, CountPuzzle, IsClosedGrid, IsCounting, IsFurther, IsSweep, IsWithin, Layers, List, RuleSystem, [], after_houses, and_parts, arith, by_fillings-met, cases_Bool, cells_of, common_steps, count-lawful, count_below, count_below-pos, count_house_of, count_puzzle, counts_between, false, further-more, further-none, has, has_place-here, inl, inr, is_dead, is_dead-each, is_dead-here, is_dead-not, max, max_cells, meets, refl, rules_of, single-at, slice_index, start_of, strikes_of, swept_by, sym, total, true, within_inside, ℕ, ◌*◌, ◌+◌, ◌<◌, ◌∙◌, ◌≡◌, ◌≤◌, ◌⊎◌}
 use Rattle.engine_core.specs.ClosingList.{IsClosing}
-use Rattle.engine_core.specs.RuleSystem.{RuleSystem}
 use Rattle.engine_core.proofs.SweepLemmas.{IsSwept, fewer, sweep-shut, swept-dead, swept-first, swept-idle, swept-turn}
 use Rattle.engine_core.specs.declared.mode.Closing.TheVariants.{Dead, Open}
-use Rattle.fields_core.specs.CountHouse.{CountHouse, IsCounting, count_puzzle}
-use Rattle.fields_core.specs.CountLaws.{count-lawful}
-use Rattle.fields_core.specs.Parts.{ArePlanesAlive}
-use Rattle.fields_core.specs.Sweeps.{IsSweep, swept_by}
-use Rattle.fields_core.specs.Visits.{AreVisited, after_houses}
 use Rattle.fields_core.proofs.VisitLemmas.{replay-visits}
 
 -- ---- each cell has a value
@@ -102,3 +90,18 @@ module _ (cells : ℕ) (blocked : ℕ → Bool) (houses : List CountHouse) (is_s
         let idle = sweep.further.same same in
         swept-idle (count-lawful _ _ _ _ counting) sweeps refl within s.swept (sweep.left full) idle
         (sweep-shut rules (has to) (sym (sweep.left full) ∙ idle))
+
+-- ---- closed grids
+-- a grid from which no house strikes anything meets each house with a cell
+pub closed-met : (p : CountPuzzle) {g : List ℕ} → AreHouses p.cells p.houses → IsClosedGrid (rules_of p) g → AreMet p g
+unfolding start_of meets strikes_of
+closed-met p {g} houses grid = record {
+  blocked_zero = λ c lt blocked.
+      grind (arith, common_steps, grid.inside c (slice_index g c) (single-at g c (omega (arith, grid.fits.each_cell))), and_parts, grid.fits.each_value c 0);
+  meets_each = λ h lt some.
+      let house = count_house_of p.houses h in
+      let is = houses h lt in
+      by_fillings-met 2 house.places (counts_between house.least house.most) g is.different some
+      (λ k less. omega (arith, grid.fits.each_cell, is.within (slice_index house.places k) (has_place-here house.places k less)))
+      (λ c less. grid.fits.each_value c 0 less) (λ c v. grid.closed h c v lt);
+}

@@ -1,12 +1,5 @@
 -- The board that a search of count houses starts from.
-use Rattle.fields_core.proofs.Common.{Bool, Candidates, Layout, SameShape, all_of, and-true, ap, arith, cases_eq, cases_lt, common_steps, eq-eqb, eqb, fun_ext, le-ltb, lt-ltb, ltb, ne_eqb, not, or-false, or-true, start_of, true, without, ℕ, ◌&&◌, ◌+◌, ◌∙◌, ◌≡◌, ◌≤◌}
-use Rattle.std.proofs.Common.{◌*◌, ◌/◌, ◌%◌, ◌<◌, ◌↔◌, ◌||◌, refl, inl, inr}
-use Rattle.std.proofs.Math.Nat.{mod-lt, div-lt_iff_lt-mul}
-use Rattle.std.proofs.lemmas.Nat.{div-add-mod'}
-use Rattle.std.proofs.lemmas.Bool.{cases_Bool}
-use Rattle.grid_core.specs.Planes.{covers, crosses, without_taking}
-use Rattle.grid_core.specs.Words.{has_bit}
-use Rattle.grid_core.specs.declared.planes.line.Line.TheVariants.{Row}
+use Rattle.fields_core.proofs.Common.{Bool, Candidates, Layout, Row, SameShape, all_of, and-true, ap, arith, cases_Bool, cases_eq, cases_lt, common_steps, covers, crosses, div-add-mod', div-lt_iff_lt-mul, eq-eqb, eqb, fun_ext, has_bit, inl, inr, le-ltb, lt-ltb, ltb, mod-lt, ne_eqb, not, or-false, or-true, refl, start_of, true, without, without_taking, ℕ, ◌%◌, ◌&&◌, ◌*◌, ◌+◌, ◌/◌, ◌<◌, ◌||◌, ◌↔◌, ◌∙◌, ◌≡◌, ◌≤◌}
 
 -- ---- the start, with the cells below a place blocked
 pub record IsStarted (cells : ℕ) (blocked : ℕ → Bool) (n : ℕ) (K : Candidates) : Type 0 where

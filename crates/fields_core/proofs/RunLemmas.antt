@@ -1,6 +1,5 @@
 -- The run around a cell of a line is what has only white cells between it and the cell.
-use Rattle.fields_core.proofs.Common.{Bool, Extent, Light, List, IsAround, [], add-one, ap, append-nil, arith, cases_Bool, cases_lt, clear, column-at, column_places, column_run, common_steps, cond, div-mul-add, eq-eqb, false, false_from_ne_true, filter, filter-append, inl, inr, joined_in_column, joined_in_row, length, map, min, mod-lt, mod-mul-add, mul-le-mul_right, range_with_len, refl, row-at, row_places, row_run, slice_index, suc, sym, true, true≢false, white, zero, ℕ, ◌%◌, ◌*◌, ◌++◌, ◌+◌, ◌-◌, ◌/◌, ◌<◌, ◌∙◌, ◌∷◌, ◌≡◌, ◌≤◌}
-use Rattle.grid_core.proofs.PlaneLemmas.{place-column}
+use Rattle.fields_core.proofs.Common.{Bool, Extent, IsAround, Light, List, [], add-one, ap, append-nil, arith, cases_Bool, cases_lt, clear, column-at, column_places, column_run, common_steps, cond, div-mul-add, eq-eqb, false, false_from_ne_true, filter, filter-append, inl, inr, joined_in_column, joined_in_row, length, map, min, mod-lt, mod-mul-add, mul-le-mul_right, place-column, range_with_len, refl, row-at, row_places, row_run, slice_index, suc, sym, true, true≢false, white, zero, ℕ, ◌%◌, ◌*◌, ◌++◌, ◌+◌, ◌-◌, ◌/◌, ◌<◌, ◌∙◌, ◌∷◌, ◌≡◌, ◌≤◌}
 use Rattle.fields_core.proofs.HouseLists.{row-long, column-long}
 use Rattle.fields_core.proofs.LightHouseLaws.{clear-at, clear-from}
 

@@ -1,5 +1,5 @@
 -- A segment that is cut at a cell.
-use Rattle.fields_core.proofs.Common.{Bool, List, Segment, [], ap, ap₂, append-nil, arith, eq-eqb, eqb, filter, filter-append, map, map-append, mul-le-mul_right, ne_eqb, not, places_of, range_with_len, refl, segment_places, suc, sym, zero, ℕ, ◌*◌, ◌++◌, ◌+◌, ◌<◌, ◌∙◌, ◌∷◌, ◌≡◌, ◌≤◌}
+use Rattle.fields_core.proofs.Common.{Bool, List, Segment, [], ap, append-nil, ap₂, arith, eq-eqb, eqb, filter, filter-append, map, map-append, mul-le-mul_right, ne_eqb, not, places_of, range_with_len, refl, segment_places, suc, sym, zero, ℕ, ◌*◌, ◌++◌, ◌+◌, ◌<◌, ◌∙◌, ◌∷◌, ◌≡◌, ◌≤◌}
 use Rattle.fields_core.proofs.RunLemmas.{map-same, range-split}
 
 -- ---- the cells of some segments and of empty ones

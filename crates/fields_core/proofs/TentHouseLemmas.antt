@@ -1,9 +1,6 @@
 -- The houses of lines and of squares of Tents.
-use Rattle.std.proofs.lemmas.Nat.{div-mul-add}
-use Rattle.grid_core.proofs.PlaneLemmas.{place-column}
-use Rattle.fields_core.proofs.Common.{Tents, [], arith, column_of_tents, common_steps, one_at_most, row_of_tents, square_house, ℕ, ◌*◌, ◌+◌, ◌<◌, ◌∷◌, ◌≡◌, ◌≤◌}
-use Rattle.fields_core.specs.TentHouses.{tent_house}
-use Rattle.fields_core.specs.declared.tents.told.TentHouse.TheVariants.{Column, Row}
+use Rattle.fields_core.proofs.Common.{Tents, [], arith, column_of_tents, common_steps, div-mul-add, one_at_most, place-column, row_of_tents, square_house, tent_house, ℕ, ◌*◌, ◌+◌, ◌<◌, ◌∷◌, ◌≡◌, ◌≤◌}
+use Rattle.fields_core.specs.declared.tents.tent_house.TentHouse.TheVariants.{Column, Row}
 
 -- the squares, by the column and the row of their top left cells
 pub square-there : (p : Tents) (y x : ℕ) → x + 1 < p.size.w → y + 1 < p.size.h

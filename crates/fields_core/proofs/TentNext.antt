@@ -1,6 +1,5 @@
 -- The next cell that a cell is joined to, and whether a tree is beside a cell: the cells beside a cell ascend by direction.
-use Rattle.fields_core.proofs.Common.{Bool, IsNext, List, None, Option, Some, Tents, ap, arith, cases_eq, cases_lt, common_steps, count_below, counted, false, false_from_ne_true, inl, inr, is_barred, list_any, may_pair, not, refl, slice_index, step, steps, sym, tent_cells, tree, tree_beside, tree_count, trees_of, true, true≢false, ℕ, ◌+◌, ◌<◌, ◌∙◌, ◌≡◌, ◌≤◌}
-use Rattle.std.specs.Prelude.{MatchOption}
+use Rattle.fields_core.proofs.Common.{Bool, IsNext, List, MatchOption, None, Option, Some, Tents, ap, arith, cases_eq, cases_lt, common_steps, count_below, counted, false, false_from_ne_true, inl, inr, is_barred, list_any, may_pair, not, refl, slice_index, step, steps, sym, tent_cells, tree, tree_beside, tree_count, trees_of, true, true≢false, ℕ, ◌+◌, ◌<◌, ◌∙◌, ◌≡◌, ◌≤◌}
 use Rattle.fields_core.proofs.StepLaws.{some-inj, ascends, steps-some}
 use Rattle.fields_core.proofs.TentBeside.{steps-has}
 use Rattle.fields_core.proofs.TentNumbers.{passing-long, passing-at, at-passing}

@@ -1,6 +1,6 @@
 -- Numbers below n that pass a test, by how many pass before them.
 use Rattle.grid_core.proofs.Common.{bool_byte}
-use Rattle.fields_core.proofs.Common.{Bool, List, [], add-one, ap, append-nil, arith, cases_Bool, cases_eq, cases_lt, common_steps, cond, count_below, counted, eq-eqb, false, get_or, get_or-append_right, get_or-set_other, get_or-set_same, get_or_append_left, inl, inr, length, length-append, ne_eqb, numbered, refl, set, slice_index, suc, take, tent, true, zero, ℕ, ◌+◌, ◌-◌, ◌<◌, ◌∙◌, ◌∷◌, ◌≡◌, sym, ◌≤◌}
+use Rattle.fields_core.proofs.Common.{Bool, List, [], add-one, ap, append-nil, arith, cases_Bool, cases_eq, cases_lt, common_steps, cond, count_below, counted, eq-eqb, false, get_or, get_or-append_right, get_or-set_other, get_or-set_same, get_or_append_left, inl, inr, length, length-append, ne_eqb, numbered, refl, set, slice_index, suc, sym, take, tent, true, zero, ℕ, ◌+◌, ◌-◌, ◌<◌, ◌∙◌, ◌∷◌, ◌≡◌, ◌≤◌}
 use Rattle.fields_core.proofs.RunLemmas.{passing, passing-more, passing-suc}
 
 pub passing-long : (test : ℕ → Bool) (n : ℕ) → length (passing test n) ≡ count_below test n

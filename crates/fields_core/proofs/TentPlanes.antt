@@ -1,25 +1,12 @@
 -- Tents on planes: the sides that the memory is for, and what a closing asks of planes.
-use Rattle.std.proofs.Common.{◌≡◌, ◌∙◌, ℕ, zero, suc, ◌+◌, ◌-◌, ◌<◌, ◌≤◌, List, [], ◌∷◌, ◌++◌, length, map, get_or, slice_index, refl, ap, arith}
-use Rattle.std.proofs.Common.{sym}
-use Rattle.std.proofs.lemmas.Bool.{cases_Bool, false_from_ne_true, true≢false}
-use Rattle.std.proofs.lemmas.Grind.{common_steps}
-use Rattle.std.proofs.lemmas.List.{append_assoc, length-append, get_or-append_right}
-use Rattle.grid_core.specs.Candidates.{Candidates, IsInside, all_of}
-use Rattle.grid_core.specs.Regions.{row_places, column_places}
-use Rattle.grid_core.specs.Planes.{Layers, has}
-use Rattle.engine_core.specs.RuleSystem.{needs_of}
+use Rattle.fields_core.proofs.Common.{AreBare, AreVisited, Bool, Candidates, Columns, CountHouse, HasBoard, IsInside, IsSweep, IsTents, Layers, List, Rows, Squares, Tents, Trees, [], all_of, all_of_kind, ap, append_assoc, arith, cases_Bool, column_of_tents, column_places, common_steps, exactly, false_from_ne_true, get_or, get_or-append_right, has, houses_below, is_barred, length, length-append, map, needs_of, no_count_house, refl, row_of_tents, row_places, slice_index, solves_tents, square_house, start_of, suc, sym, tent_cells, tent_houses, tent_rules, tree_house, true≢false, zero, ℕ, ◌++◌, ◌+◌, ◌-◌, ◌<◌, ◌∙◌, ◌∷◌, ◌≡◌, ◌≤◌}
 use Rattle.engine_core.proofs.StoreLemmas.{scope_le-longest}
-use Rattle.gameid_core.specs.Puzzles.{Tents, IsTents}
 use Rattle.fields_core.proofs.HouseLists.{row-long, column-long}
-use Rattle.engine_core.specs.PlaneNotes.{HasBoard}
-use Rattle.fields_core.specs.CountHouse.{CountHouse, exactly, no_count_house, houses_below, start_of}
-use Rattle.fields_core.specs.TentHouses.{is_barred, tent_rules, tent_houses, column_of_tents, row_of_tents, tree_house, square_house}
-use Rattle.fields_core.specs.TentNotes.{AreTentsWritten}
-use Rattle.fields_core.specs.Tents.{tent_cells}
-use Rattle.fields_core.specs.Trees.{AreBare}
-use Rattle.fields_core.specs.Visits.{IsFieldOf}
-use Rattle.fields_core.specs.declared.planes.notes.TentNotes.{TentNotes}
-use Rattle.fields_core.proofs.PlaneSweeps.{cells-alive}
+use Rattle.fields_core.specs.TentNotes.{AreTentsWritten, IsFieldOf}
+use Rattle.fields_core.specs.declared.planes.tents.tent_notes.TentNotes.{TentNotes}
+use Rattle.fields_core.proofs.PlaneSweeps.{cells-alive, visits-swept}
+use Rattle.fields_core.proofs.TentSquareVisits.{squares-are}
+use Rattle.fields_core.proofs.TentTreeBoards.{trees-are}
 
 -- ---- the sides that the memory is for
 abbrev singles : (ℕ → CountHouse) → ℕ → List CountHouse
@@ -79,3 +66,12 @@ field-of {p = p} {planes = planes} written has_board = record {
   bare = bare-inside p (has planes) has_board.board.inside;
   alive = cells-alive planes has_board.cells has_board.board.alive;
 }
+
+-- ---- sweeps of the houses
+pub houses-swept : (p : Tents) {from to : Layers} {fills : Bool} → from.size ≡ p.size
+    → AreVisited (all_of_kind p Columns ++ (all_of_kind p Rows ++ (all_of_kind p Trees ++ all_of_kind p Squares))) from to fills
+    → IsSweep (tent_rules p) from to fills
+unfolding tent_houses
+houses-swept p {from} {to} {fills} size visited =
+    let all : AreVisited (tent_houses p) from to fills = rw (trees-are p, squares-are p) at visited in
+    visits-swept (tent_cells p) (is_barred p) (tent_houses p) (solves_tents p) (rw size refl) all

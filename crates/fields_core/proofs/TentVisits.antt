@@ -1,16 +1,5 @@
 -- Visits of the houses of Tents on planes.
-use Rattle.std.proofs.Common.{◌≡◌, ℕ, ◌+◌, ◌/◌, ◌%◌, ◌<◌, Bool, true, false, ltb, List, [], ◌∷◌, slice_index, arith}
-use Rattle.std.proofs.lemmas.Bool.{lt-ltb}
-use Rattle.grid_core.specs.Planes.{Layers, has, IsFurther}
-use Rattle.grid_core.specs.Regions.{row_places, column_places}
-use Rattle.grid_core.specs.Words.{has_bit}
-use Rattle.grid_core.specs.declared.planes.line.Line.TheVariants.{Row, Column}
-use Rattle.gameid_core.specs.Puzzles.{Tents, IsTents}
-use Rattle.fields_core.specs.CountHouse.{CountHouse, IsHouse, after_house, exactly, one_at_most, one_at_least, houses_below}
-use Rattle.fields_core.specs.Parts.{Piece, IsHouseOf, ArePlanesAlive, IsBroken}
-use Rattle.fields_core.specs.TentHouses.{column_of_tents, row_of_tents, free_beside, tree_house, square_house, tent_houses}
-use Rattle.fields_core.specs.Tents.{tent_cells, tree}
-use Rattle.fields_core.specs.Visits.{AreVisited}
+use Rattle.fields_core.proofs.Common.{ArePlanesAlive, AreVisited, Bool, Column, CountHouse, IsBroken, IsFurther, IsHouse, IsHouseOf, IsTents, Layers, List, Piece, Row, Tents, [], after_house, arith, column_of_tents, column_places, exactly, false, free_beside, has, has_bit, houses_below, lt-ltb, ltb, one_at_least, one_at_most, row_of_tents, row_places, slice_index, square_house, tent_cells, tent_houses, tree, tree_house, true, ℕ, ◌%◌, ◌+◌, ◌/◌, ◌<◌, ◌∷◌, ◌≡◌}
 use Rattle.fields_core.proofs.CellLemmas.{column-house, row-house}
 use Rattle.fields_core.proofs.HouseLists.{row-long, column-long}
 use Rattle.fields_core.proofs.TentCounting.{tent-counting, tent-field}

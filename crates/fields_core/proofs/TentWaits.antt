@@ -1,44 +1,23 @@
 -- What waits of Tents: where its houses lie, what stays idle, and what is idle where a closing begins.
-use Rattle.fields_core.proofs.Common.{AllByRecursion, cells_of, cases_eq, Bool, Candidates, Option, free_beside, one_at_least, Layers, Some, eqb-true, and_parts, ap, arith, cases_Bool, eqb, false, false_from_ne_true, has_bit, has_place-at, houses_below, inl, inr, ltb, ltb-true, lt-ltb, not, or_cases, place-filter, refl, suc, sym, tree, tree_house, tent_cells, true, true≢false, zero, ℕ, ◌%◌, ◌&&◌, ◌*◌, ◌+◌, ◌-◌, ◌/◌, ◌<◌, ◌∙◌, ◌≡◌, ◌≢◌, ◌≤◌, ◌⊎◌, or_parts}
-use Rattle.std.proofs.lemmas.Bool.{true_from_ne_false}
-use Rattle.std.proofs.lemmas.List.FromFn.{length-map-range_with_len, get_or-map-range_with_len}
-use Rattle.grid_core.specs.Planes.{has, back_at, AreLinesOf, ArePlanes, IsFurther, IsLostIn}
-use Rattle.grid_core.specs.Regions.{row_places, column_places}
-use Rattle.grid_core.specs.declared.planes.touched.Touched.{Touched}
-use Rattle.grid_core.specs.Candidates.{IsInside}
-use Rattle.grid_core.proofs.CandidateLemmas.{is_dead-not}
-use Rattle.grid_core.proofs.GridLemmas.{only-inside, only-other}
-use Rattle.grid_core.proofs.PlaneLemmas.{place-in}
-use Rattle.grid_core.proofs.TakingLemmas.{put_back-none}
+use Rattle.fields_core.proofs.Common.{AllByRecursion, AreIdle, AreLinesOf, ArePlanes, ArePlanesAlive, AreTentsRested, AreTentsWoken, Bool, Candidates, Columns, IsClosed, IsFurther, IsInside, IsLostIn, IsTents, Layers, Option, Rows, Some, Squares, Tents, Touched, Trees, and_parts, arith, back_at, cases_Bool, cells_of, column_of_tents, column_places, eqb, eqb-true, false, false_from_ne_true, free_beside, get_or-map-range_with_len, has, has_bit, has_place-at, houses_below, inl, inr, is_barred, kind_houses, kind_lines, length-map-range_with_len, ltb, ltb-true, not, one_at_least, one_at_most, or_cases, or_parts, place-filter, place-in, refl, row_of_tents, row_places, solves_tents, square_house, squares_of_row, suc, sym, tent_cells, tent_counts, tent_houses, tent_rules, tree, tree_house, trees_of_row, true, true≢false, waiting, zero, ℕ, ◌%◌, ◌&&◌, ◌*◌, ◌+◌, ◌-◌, ◌/◌, ◌<◌, ◌∙◌, ◌≡◌, ◌≢◌, ◌≤◌, ◌⊎◌}
 use Rattle.engine_core.specs.Position.{IsClosedAround, IsClosedBut}
-use Rattle.engine_core.specs.RuleSystem.{IsClosed}
-use Rattle.engine_core.proofs.QueueLemmas.{alive_around}
-use Rattle.gameid_core.specs.Puzzles.{Tents, IsTents}
-use Rattle.fields_core.specs.CountHouse.{one_at_most}
-use Rattle.fields_core.specs.Parts.{ArePlanesAlive}
-use Rattle.fields_core.specs.Squares.{squares_of_row}
-use Rattle.fields_core.specs.TentHouses.{is_barred, column_of_tents, row_of_tents, square_house, tent_houses, tent_rules}
-use Rattle.fields_core.specs.Tents.{solves_tents}
-use Rattle.fields_core.specs.Trees.{trees_of_row}
-use Rattle.fields_core.specs.Waits.{AreIdle, AreTentsRested, AreTentsWoken, kind_houses, kind_lines, waiting}
-use Rattle.fields_core.specs.declared.planes.waits.Kind.{Kind}
-use Rattle.fields_core.specs.declared.planes.waits.Kind.TheVariants.{Columns, Rows, Trees, Squares}
-use Rattle.fields_core.specs.declared.planes.waits.Waits.{Waits}
-use Rattle.fields_core.proofs.AnyOrder.{IsSingle, singles-kept}
+use Rattle.fields_core.specs.declared.planes.tents.waits.Kind.{Kind}
+use Rattle.fields_core.specs.declared.planes.tents.waits.Waits.{Waits}
+use Rattle.fields_core.proofs.HouseOrder.{IsSingle, singles-kept}
 use Rattle.fields_core.proofs.AtMostLemmas.{IsFull}
 use Rattle.fields_core.proofs.IdleLemmas.{any_has, any-below, any-none, any-one, idle-far}
-use Rattle.fields_core.proofs.LitIdle.{IsAll, alls-kept}
+use Rattle.fields_core.proofs.AtLeastLemmas.{IsAll, alls-kept}
 use Rattle.fields_core.proofs.PartLemmas.{value-in}
-use Rattle.fields_core.proofs.PlaneSweeps.{counted-some}
 use Rattle.fields_core.proofs.TentCounting.{tent-field}
-use Rattle.fields_core.proofs.SquareLemmas.{square-has}
-use Rattle.fields_core.proofs.SquareVisits.{squares-are}
+use Rattle.fields_core.proofs.TentSquareLemmas.{square-has}
+use Rattle.fields_core.proofs.TentSquareVisits.{squares-are}
 use Rattle.fields_core.proofs.StepLaws.{steps-some}
 use Rattle.fields_core.proofs.PartIdle.{IsPartOf, closed-idle, in-back, in-below, in-front}
 use Rattle.fields_core.proofs.TentBeside.{cell-parts, step-lies}
 use Rattle.fields_core.proofs.TentVisits.{square-is, square_places, tree-is}
-use Rattle.fields_core.proofs.TreeBoards.{trees-are}
+use Rattle.fields_core.proofs.TentTreeBoards.{trees-are}
 use Rattle.fields_core.proofs.CountListLemmas.{all-houses}
+use Rattle.fields_core.proofs.WaitLemmas.{around-inside, around-lost, back-whole, full-around, full-before, spread-off, value-kept}
 
 -- ---- where houses lie
 module _ (p : Tents) (c : ℕ) (pos : 0 < p.size.w) where
@@ -112,18 +91,6 @@ module _ {W : Type 0} (bits : W → ℕ) {room : ℕ} (p : Tents) {before now : 
   pub woken-off : (v c : ℕ) → v < 2 → AreLinesOf bits (lines_of zeros ones v) (c / p.size.w) (c % p.size.w) → AreOff bits p now v c
   woken-off v c small on kind k lt off mind = false_from_ne_true _ (by v small kind on lt off mind)
     where
-      tree : AreLinesOf bits ones (c / p.size.w) (c % p.size.w) → k < p.size.h → has_bit (bits now.trees) k ≡ false
-          → (c / p.size.w ≡ k) ⊎ ((c / p.size.w + 1 ≡ k) ⊎ (c / p.size.w ≡ k + 1)) → ⊥
-      tree on lt off (inl own) =
-          true≢false (rw own at (sym on.1) ∙ (or_parts _ _ (or_parts _ _ (or_parts _ _ (sym (woken.trees k) ∙ off)).1).0).1)
-      tree on lt off (inr (inl above)) =
-          let e : has_bit (bits ones.rows) (k - 1) ≡ true = (let r : c / p.size.w ≡ k - 1 = omega (arith, above) in rw r at on.1) in
-          let f : (ltb k room && (ltb 0 k && has_bit (bits ones.rows) (k - 1))) ≡ false =
-          (or_parts _ _ (or_parts _ _ (or_parts _ _ (sym (woken.trees k) ∙ off)).1).0).0 in
-          true≢false (rw (lt-ltb k room (omega (arith, lt, low)), lt-ltb 0 k (omega (arith, above)), e) at f)
-      tree on lt off (inr (inr below)) =
-          true≢false (rw below at (sym on.1) ∙ (or_parts _ _ (or_parts _ _ (sym (woken.trees k) ∙ off)).1).1)
-
       square : AreLinesOf bits zeros (c / p.size.w) (c % p.size.w) → has_bit (bits now.squares) k ≡ false
           → (c / p.size.w ≡ k) ⊎ (c / p.size.w ≡ k + 1) → ⊥
       square on off (inl own) = true≢false (rw own at (sym on.1) ∙ (or_parts _ _ (or_parts _ _ (sym (woken.squares k) ∙ off)).1).0)
@@ -139,7 +106,7 @@ module _ {W : Type 0} (bits : W → ℕ) {room : ℕ} (p : Tents) {before now : 
       by (suc zero) small Columns on lt off mind has =
           true≢false (rw (column-lies p c pos lt has) at (sym on.0) ∙ (or_parts _ _ (or_parts _ _ (sym (woken.columns k) ∙ off)).1).1)
       by (suc zero) small Rows on lt off mind has = true≢false (rw (row-lies p c pos has) at (sym on.1) ∙ (or_parts _ _ (or_parts _ _ (sym (woken.rows k) ∙ off)).1).1)
-      by (suc zero) small Trees on lt off mind has = tree on lt off (trees-lie p c pos has)
+      by (suc zero) small Trees on lt off mind has = spread-off bits before.trees (has_bit (bits ones.rows)) now.trees woken.trees on.1 (omega (arith, lt, low)) off (trees-lie p c pos has)
       by (suc zero) small Squares on lt off mind has = true≢false (sym mind)
       by (suc (suc v)) small kind on lt off mind has = absurd (omega arith)
 
@@ -180,14 +147,18 @@ squares-each p y lawful lt = all-houses (IsSingle (tent_cells p)) (λ x. square_
 -- what does not wait on a board stays idle once cells of these lines have lost values
 pub rested-board : {W : Type 0} (bits : W → ℕ) {room : ℕ} (p : Tents) {before now : Waits W} {zeros ones : Touched W} (K L : Candidates)
     → IsTents p → p.size.h ≤ room → AreTentsWoken bits room before zeros ones now → IsFull (tent_cells p) K → IsFull (tent_cells p) L → IsInside L K
-    → ((v c : ℕ) → v < 2 → K c v ≡ true → L c v ≡ false → AreLinesOf bits (lines_of zeros ones v) (c / p.size.w) (c % p.size.w))
-    → AreTentsRested bits p before K → AreTentsRested bits p now L
+    → IsLostIn bits p.size.w 0 K L zeros → IsLostIn bits p.size.w 1 K L ones → AreTentsRested bits p before K → AreTentsRested bits p now L
 unfolding any_has
-rested-board bits {room} p {before} {now} K L lawful low woken full still inside lines rested kind k lt off =
+rested-board bits {room} p {before} {now} {zeros} {ones} K L lawful low woken full still inside lost_zero lost_one rested kind k lt off =
     by kind lt off (rested kind k lt (waited bits p pos low woken kind k off))
   where
     pos : 0 < p.size.w
     pos = (tent-field lawful).some
+
+    lines : (v c : ℕ) → v < 2 → K c v ≡ true → L c v ≡ false → AreLinesOf bits (lines_of zeros ones v) (c / p.size.w) (c % p.size.w)
+    lines zero c small on gone = lost_zero c on gone
+    lines (suc zero) c small on gone = lost_one c on gone
+    lines (suc (suc v)) c small on gone = absurd (omega arith)
 
     far : (kind : Kind) (c v : ℕ) → k < kind_lines p kind → has_bit (waiting bits now kind) k ≡ false → minds kind v ≡ true
         → K c v ≡ true → L c v ≡ false → any_has (kind_houses p kind k) c ≡ false
@@ -197,10 +168,7 @@ rested-board bits {room} p {before} {now} K L lawful low woken full still inside
 
     kept : (kind : Kind) (v c : ℕ) → k < kind_lines p kind → has_bit (waiting bits now kind) k ≡ false → minds kind v ≡ true
         → any_has (kind_houses p kind k) c ≡ true → L c v ≡ K c v
-    kept kind v c lt off mind there = elim (cases_Bool (K c v)) [
-      | inl on ↦ true_from_ne_false _ (λ gone. true≢false (sym there ∙ far kind c v lt off mind on gone)) ∙ sym on
-      | inr out ↦ false_from_ne_true _ (λ on. true≢false (sym (inside c v on) ∙ out)) ∙ sym out
-    ]
+    kept kind v c lt off mind there = value-kept K L c v inside (λ on gone. true≢false (sym there ∙ far kind c v lt off mind on gone))
 
     by : (kind : Kind) → k < kind_lines p kind → has_bit (waiting bits now kind) k ≡ false → AreIdle (kind_houses p kind k) K → AreIdle (kind_houses p kind k) L
     by Columns lt off idle = idle-far (column_of_tents p k) K L inside (λ c v. far Columns c v lt off refl) idle
@@ -214,18 +182,11 @@ pub rested-woken : {W : Type 0} (bits : W → ℕ) {room : ℕ} (p : Tents) (bef
     → AreTentsRested bits p before (has from) → AreTentsRested bits p now (has to)
 rested-woken bits {room} p before now {zeros} {ones} {from} {to} {len} are lost_zeros lost_ones woken lawful size is alive after further =
     rested-board bits p (has from) (has to) lawful (rw (← same) are.low) woken
-    (record { low = value-in from; some = λ c lt. alive c (rw size lt) }) (record { low = value-in to; some = λ c lt. after c (rw same lt) }) further.inside lines
+    (record { low = value-in from; some = λ c lt. alive c (rw size lt) }) (record { low = value-in to; some = λ c lt. after c (rw same lt) }) further.inside
+    (λ c on gone. rw same at (lost_zeros c (rw (back-whole is further) on) gone)) (λ c on gone. rw same at (lost_ones c (rw (back-whole is further) on) gone))
   where
     same : to.size ≡ p.size
     same = further.same_size ∙ size
-
-    whole : back_at to len ≡ has from
-    whole = rw (← is) (further.back from.len (omega arith) ∙ put_back-none from.size.w (has from) from.takings from.len from.len (omega arith))
-
-    lines : (v c : ℕ) → v < 2 → has from c v ≡ true → has to c v ≡ false → AreLinesOf bits (lines_of zeros ones v) (c / p.size.w) (c % p.size.w)
-    lines zero c small on gone = rw same at (lost_zeros c (rw whole on) gone)
-    lines (suc zero) c small on gone = rw same at (lost_ones c (rw whole on) gone)
-    lines (suc (suc v)) c small on gone = absurd (omega arith)
 
 -- ---- a board that is closed but around a cell
 -- the houses of a kind at a line are among all
@@ -243,51 +204,16 @@ closed-rested : {W : Type 0} (bits : W → ℕ) (p : Tents) (none : Waits W) (K 
 closed-rested bits p none K closed kind k lt off =
     closed-idle (tent_cells p) (is_barred p) (tent_houses p) (solves_tents p) K closed (part-kind p kind k lt)
 
--- the lines of a cell that lost 0, or 1
-module _ {W : Type 0} (bits : W → ℕ) (K : Candidates) (place w : ℕ) (zeros ones : Touched W) where
-  pub lost-zero : K place 1 ≡ true → AreLinesOf bits zeros (place / w) (place % w)
-      → (v : ℕ) → v < 2 → K place (1 - v) ≡ true → K place v ≡ false → AreLinesOf bits (lines_of zeros ones v) (place / w) (place % w)
-  lost-zero kept own zero small other gone = own
-  lost-zero kept own (suc zero) small other gone = absurd (true≢false (sym kept ∙ gone))
-  lost-zero kept own (suc (suc v)) small other gone = absurd (omega arith)
-
-  pub lost-one : K place 1 ≡ false → AreLinesOf bits ones (place / w) (place % w)
-      → (v : ℕ) → v < 2 → K place (1 - v) ≡ true → K place v ≡ false → AreLinesOf bits (lines_of zeros ones v) (place / w) (place % w)
-  lost-one off own zero small other gone = absurd (true≢false (sym other ∙ off))
-  lost-one off own (suc zero) small other gone = own
-  lost-one off own (suc (suc v)) small other gone = absurd (omega arith)
-
--- a closing begins with the houses that a value counts for that the cell has lost
-pub rested-from : {W : Type 0} (bits : W → ℕ) {room : ℕ} (p : Tents) {planes : Layers} {from : Option ℕ} {place : ℕ} {none now : Waits W} {zeros ones : Touched W}
-    → IsTents p → ArePlanes room planes → planes.size ≡ p.size → from ≡ Some place → IsClosedBut (tent_rules p) (has planes) from
-    → ((v : ℕ) → v < 2 → has planes place (1 - v) ≡ true → has planes place v ≡ false → AreLinesOf bits (lines_of zeros ones v) (place / p.size.w) (place % p.size.w))
+-- a closing begins at a cell, which has lost a value
+pub rested-at : {W : Type 0} (bits : W → ℕ) {room : ℕ} (p : Tents) {planes : Layers} {place : ℕ} {none now : Waits W} {zeros ones : Touched W}
+    → IsTents p → ArePlanes room planes → planes.size ≡ p.size → IsClosedAround (tent_rules p) (has planes) place
+    → (has planes place 0 ≡ false → AreLinesOf bits zeros (place / p.size.w) (place % p.size.w))
+    → (has planes place 1 ≡ false → AreLinesOf bits ones (place / p.size.w) (place % p.size.w))
     → AreTentsWoken bits room none zeros ones now → AreTentsRested bits p now (has planes)
-rested-from bits {room} p {planes} {from} {place} {none} {now} {zeros} {ones} lawful are size is closed lines woken =
-    rested-board bits p around.before (has planes) lawful (rw (← size) are.low) woken
-    full still (rw (around.is) (only-inside around.before place around.value))
-    (λ v c small on gone. at v c small on gone (cases_eq c place))
+rested-at bits p {planes} {place} {none} {now} {zeros} {ones} lawful are size around no_zero no_one woken =
+    rested-board bits p around.before (has planes) lawful (rw (← size) are.low) woken (full-before (tent_counts p) around) (full-around (tent_counts p) around)
+    (around-inside (tent_counts p) around) (around-lost (tent_counts p) around bits p.size.w 0 zeros no_zero) (around-lost (tent_counts p) around bits p.size.w 1 ones no_one)
     (closed-rested bits p none around.before around.closed)
-  where
-    around : IsClosedAround (tent_rules p) (has planes) place
-    around = rw is at closed
-
-    full : IsFull (tent_cells p) around.before
-    full = record { low = λ c v on. (around.within c v on).1; some = λ c lt. counted-some around.before c (is_dead-not (tent_cells p) 2 around.before c around.alive lt) }
-
-    still : IsFull (tent_cells p) (has planes)
-    still = record { low = value-in planes; some = λ c lt. counted-some (has planes) c (is_dead-not (tent_cells p) 2 (has planes) c (alive_around around) lt) }
-
-    other : (v : ℕ) → v < 2 → (has planes place 0 ≡ true) ⊎ (has planes place 1 ≡ true) → has planes place v ≡ false → has planes place (1 - v) ≡ true
-    other zero small (inl on) gone = absurd (true≢false (sym on ∙ gone))
-    other zero small (inr on) gone = on
-    other (suc zero) small (inl on) gone = on
-    other (suc zero) small (inr on) gone = absurd (true≢false (sym on ∙ gone))
-    other (suc (suc v)) small some gone = absurd (omega arith)
-
-    at : (v c : ℕ) → v < 2 → around.before c v ≡ true → has planes c v ≡ false → (c ≡ place) ⊎ (c ≢ place)
-        → AreLinesOf bits (lines_of zeros ones v) (c / p.size.w) (c % p.size.w)
-    at v c small on gone (inl e) = rw e (lines v small (other v small (still.some place (around.within place around.value around.had).0) (rw e at gone)) (rw e at gone))
-    at v c small on gone (inr ne) = absurd (true≢false (sym on ∙ sym (ap (λ (f : ℕ → Bool). f v) (only-other around.before place around.value c ne)) ∙ rw (around.is) at gone))
 
 pub place-in_planes : (p : Tents) (planes : Layers) {from : Option ℕ} {place : ℕ}
     → planes.size ≡ p.size → from ≡ Some place → IsClosedBut (tent_rules p) (has planes) from → place < cells_of planes

@@ -1,18 +1,7 @@
 -- Visits of count houses, one after another, and which houses are among those of a puzzle.
-use Rattle.std.proofs.Common.{◌≡◌, ◌∙◌, ℕ, zero, suc, ◌+◌, ◌*◌, ◌-◌, ◌<◌, Bool, true, false, List, [], ◌∷◌, ◌++◌, length, slice_index, refl, sym, ap, append_assoc, length-append, subst, arith}
+use Rattle.fields_core.proofs.Common.{AreHouses, AreMet, ArePlanesAlive, AreVisited, Bool, Candidates, CountHouse, CountPuzzle, IsBroken, IsFurther, IsHouse, IsInside, Layers, List, [], after, after_house, after_houses, and_parts, ap, append-nil, append_assoc, arith, cells_of, count_house_of, count_puzzle, false, false_from_ne_true, further-more, further-none, get_or-append_right, get_or-append_seam, get_or_append_left, has, has_place-here, houses_below, length, length-append, meets, no_count_house, refl, slice_index, subst, suc, sym, true, true≢false, zero, ℕ, ◌*◌, ◌++◌, ◌+◌, ◌-◌, ◌<◌, ◌∙◌, ◌∷◌, ◌≡◌}
 use Rattle.std.specs.List.{range_with_len}
-use Rattle.std.proofs.Math.Seq.{get_or-append_seam}
-use Rattle.std.proofs.lemmas.Bool.{and_parts, true≢false, false_from_ne_true}
-use Rattle.std.proofs.lemmas.List.{append-nil, get_or_append_left, get_or-append_right}
-use Rattle.grid_core.specs.Candidates.{Candidates, IsInside}
-use Rattle.grid_core.specs.Planes.{Layers, has, cells_of, IsFurther}
-use Rattle.grid_core.proofs.PlaneLemmas.{further-more, further-none}
-use Rattle.engine_core.specs.RuleSystem.{after}
 use Rattle.engine_core.specs.Closing.{replay}
-use Rattle.engine_core.specs.PlaceLaws.{has_place-here}
-use Rattle.fields_core.specs.CountHouse.{CountHouse, no_count_house, houses_below, after_house, count_house_of, count_puzzle, meets, AreHouses, AreMet, CountPuzzle, IsHouse}
-use Rattle.fields_core.specs.Parts.{ArePlanesAlive, IsBroken}
-use Rattle.fields_core.specs.Visits.{after_houses, AreVisited}
 use Rattle.fields_core.proofs.CountListLemmas.{below-more}
 
 -- ---- the board after visits

@@ -1,8 +1,8 @@
 -- Tables of count houses, and the rule sets that they make.
-use Rattle.std.specs.Prelude.{◌≡◌, ℕ, zero, suc, ◌+◌, ◌<◌, ◌≤◌, ◌^◌, Bool, true, false, not, ◌&&◌, ◌==◌, List, [], ◌++◌, length, map, slice_index, slice_index_or}
+use Rattle.std.specs.Prelude.{◌↔◌, ◌≡◌, IsTrue, ℕ, zero, suc, ◌+◌, ◌<◌, ◌≤◌, ◌^◌, Bool, true, false, not, ◌&&◌, ◌==◌, List, [], ◌++◌, length, map, slice_index, slice_index_or}
 use Rattle.grid_core.specs.Candidates.{Candidates, all_of, max_cells}
 use Rattle.grid_core.specs.Grids.{IsGrid}
-use Rattle.engine_core.specs.RuleSystem.{RuleSystem, has_place}
+use Rattle.engine_core.specs.RuleSystem.{IsGridOf, RuleSystem, has_place}
 use Rattle.engine_core.specs.Filling.{strikes_by_fillings}
 use Rattle.engine_core.specs.HouseSets.{strikes_at, AreDifferent}
 use Rattle.fields_core.specs.Count.{counts_between}
@@ -87,6 +87,10 @@ pub record CountPuzzle : Type 0 where
 -- its rules
 abbrev pub rules_of : CountPuzzle → RuleSystem
 rules_of p = count_puzzle p.cells p.blocked p.houses p.is_solution
+
+-- the grids that rules accept are those that solve a puzzle
+abbrev pub AcceptsJust : RuleSystem → (List ℕ → Type 0) → Type 0
+AcceptsJust p solves = (g : List ℕ) → IsGridOf p g → (IsTrue (p.is_solution g)) ↔ solves g
 
 -- the game's solutions leave blocked cells at 0 and meet each house
 pub record IsCounting (cells : ℕ) (blocked : ℕ → Bool) (houses : List CountHouse)

@@ -1,12 +1,12 @@
 -- The count houses of Light Up.
-use Rattle.std.specs.Prelude.{ℕ, ◌-◌, ◌/◌, ◌%◌, Bool, not, ◌&&◌, ◌||◌, ◌==◌, if◌then◌else◌, List, [], ◌∷◌, ◌++◌, filter, slice_index_or}
+use Rattle.std.specs.Prelude.{ℕ, ◌+◌, ◌*◌, ◌-◌, ◌/◌, ◌%◌, Bool, not, ◌&&◌, ◌||◌, ◌==◌, if◌then◌else◌, List, [], ◌∷◌, ◌++◌, filter, slice_index_or}
 use Rattle.grid_core.specs.Regions.{beside, row_places, column_places}
 use Rattle.engine_core.specs.RuleSystem.{RuleSystem}
 use Rattle.gameid_core.specs.Puzzles.{Light}
 use Rattle.gameid_core.specs.declared.light_up.cell.LightCell.{LightCell}
 use Rattle.gameid_core.specs.declared.light_up.cell.LightCell.TheVariants.{White, Black, Numbered}
-use Rattle.fields_core.specs.declared.light_up.told.LightHouse.{LightHouse}
-use Rattle.fields_core.specs.declared.light_up.told.LightHouse.TheVariants.{Number, Row, Column, Lit}
+use Rattle.fields_core.specs.declared.light_up.light_house.LightHouse.{LightHouse}
+use Rattle.fields_core.specs.declared.light_up.light_house.LightHouse.TheVariants.{Number, Row, Column, Lit}
 use Rattle.fields_core.specs.CountHouse.{CountHouse, exactly, one_at_most, one_at_least, houses_below, CountPuzzle, rules_of}
 use Rattle.fields_core.specs.Light.{light_cells, white, joined_in_row, joined_in_column, solves_lights}
 
@@ -55,13 +55,23 @@ light_house p Row c = row_house p c
 light_house p Column c = column_house p c
 light_house p Lit c = lit_house p c
 
--- the houses of numbers, of runs in rows, of runs in columns and of white cells, each by place
+-- the houses of one sort: that of a cell, those of a row, all by row, and all by place
+abbrev pub house_at : Light → (Light → ℕ → List CountHouse) → ℕ → ℕ → List CountHouse
+house_at p house y x = house p (y * p.size.w + x)
+
+abbrev pub in_row : Light → (Light → ℕ → List CountHouse) → ℕ → List CountHouse
+in_row p house y = houses_below (house_at p house y) p.size.w
+
+abbrev pub in_rows : Light → (Light → ℕ → List CountHouse) → List CountHouse
+in_rows p houses = houses_below (houses p) p.size.h
+
+abbrev pub in_grid : Light → (Light → ℕ → List CountHouse) → List CountHouse
+in_grid p house = houses_below (house p) (light_cells p)
+
+-- the houses of numbers, of runs in rows, of runs in columns and of white cells
 unfoldable pub light_houses : Light → List CountHouse
 light_houses p =
-    houses_below (number_house p) (light_cells p)
-    ++ (houses_below (row_house p) (light_cells p)
-    ++ (houses_below (column_house p) (light_cells p)
-    ++ houses_below (lit_house p) (light_cells p)))
+    in_grid p number_house ++ (in_grid p row_house ++ (in_grid p column_house ++ in_grid p lit_house))
 
 -- what Light Up counts
 abbrev pub light_counts : Light → CountPuzzle

@@ -3,12 +3,11 @@ use Rattle.std.specs.Prelude.{◌≡◌, ℕ, ◌<◌, ◌≤◌, length, map, s
 use Rattle.grid_core.specs.Planes.{Layers}
 use Rattle.gameid_core.specs.Puzzles.{IsLight, Light}
 use Rattle.fields_core.specs.Light.{light_cells, white}
-use Rattle.fields_core.specs.LightWords.{AreRunWords, IsRowRun}
-use Rattle.fields_core.specs.NumberWords.{AreColumnsOf, is_numbered}
+use Rattle.fields_core.specs.LightWords.{AreRunWords, IsRowRun, is_numbered}
+use Rattle.fields_core.specs.LineWords.{AreColumnsOf, AreRowsOf}
 use Rattle.fields_core.specs.Parts.{ArePlanesAlive}
-use Rattle.fields_core.specs.Trees.{AreRowsOf}
-use Rattle.fields_core.specs.declared.planes.lights.notes.LightNotes.{LightNotes}
-use Rattle.fields_core.specs.declared.planes.lights.tables.LightTables.{LightTables}
+use Rattle.fields_core.specs.declared.planes.light_up.light_notes.LightNotes.{LightNotes}
+use Rattle.fields_core.specs.declared.planes.light_up.tables.LightTables.{LightTables}
 
 -- there are words for so many cells, and for so many lines
 pub record HasTables {W : Type 0} (cells lines : ℕ) (t : LightTables W) : Type 0 where

@@ -1,25 +1,26 @@
 -- Which houses of Light Up wait on planes. No public contract uses these words.
-use Rattle.std.specs.Prelude.{◌≡◌, ◌≢◌, ℕ, ◌+◌, ◌-◌, ◌*◌, ◌/◌, ◌%◌, ◌<◌, ◌≤◌, Bool, true, false, ◌&&◌, ◌||◌, nat_lt, ◌⊎◌, List, ◌++◌, length}
+use Rattle.std.specs.Prelude.{◌≡◌, ◌≢◌, ℕ, ◌+◌, ◌*◌, ◌/◌, ◌%◌, ◌<◌, ◌≤◌, Bool, true, false, ◌||◌, ◌⊎◌, List, ◌++◌, length, slice_index}
 use Rattle.grid_core.specs.Candidates.{Candidates}
 use Rattle.grid_core.specs.Words.{has_bit}
-use Rattle.grid_core.specs.Planes.{AreLinesOf, Layers, has}
+use Rattle.grid_core.specs.Planes.{AreLinesOf, IsFurther, Layers, has}
 use Rattle.grid_core.specs.declared.planes.touched.Touched.{Touched}
 use Rattle.engine_core.specs.RuleSystem.{has_place}
 use Rattle.gameid_core.specs.Puzzles.{Light}
 use Rattle.fields_core.specs.CountHouse.{CountHouse, houses_below}
 use Rattle.fields_core.specs.Light.{clear, light_cells, joined_in_column, white}
-use Rattle.fields_core.specs.LightHouses.{column_house, lit_house, number_house, row_house, seen_from}
+use Rattle.fields_core.specs.LightHouses.{column_house, house_at, in_grid, in_row, lit_house, number_house, row_house, seen_from}
 use Rattle.fields_core.specs.LightPlanes.{ArePlanesOf, AreTables}
 use Rattle.fields_core.specs.LightWords.{numbers_of_row, row_runs_of_row}
-use Rattle.fields_core.specs.RunLines.{column_runs_of_column}
-use Rattle.fields_core.specs.Waits.{AreIdle}
-use Rattle.fields_core.specs.declared.planes.lights.notes.LightNotes.{LightNotes}
-use Rattle.fields_core.specs.declared.planes.lights.waits.LineWaits.{LineWaits}
-use Rattle.fields_core.specs.declared.planes.lights.waits.RunKind.{RunKind}
-use Rattle.fields_core.specs.declared.planes.lights.waits.RunKind.TheVariants.{Rows, Columns}
+use Rattle.fields_core.specs.LightRunLines.{column_runs_of_column}
+use Rattle.fields_core.specs.Visits.{AreIdle}
+use Rattle.fields_core.specs.declared.planes.light_up.light_notes.LightNotes.{LightNotes}
+use Rattle.fields_core.specs.declared.planes.light_up.waits.LineWaits.{LineWaits}
+use Rattle.fields_core.specs.declared.planes.light_up.waits.RunKind.{RunKind}
+use Rattle.fields_core.specs.declared.planes.light_up.waits.RunKind.TheVariants.{Rows, Columns}
+use Rattle.fields_core.specs.LineWords.{AreSpread}
 
 -- ---- houses that wait by line
--- the runs of a kind at a line, how many lines there are, and which of them wait
+-- the runs of a kind at a line, how many lines there are, all of them, and which of them wait
 abbrev pub run_houses : Light → RunKind → ℕ → List CountHouse
 run_houses p Rows k = row_runs_of_row p k
 run_houses p Columns k = column_runs_of_column p k
@@ -28,6 +29,9 @@ abbrev pub run_lines : Light → RunKind → ℕ
 run_lines p Rows = p.size.h
 run_lines p Columns = p.size.w
 
+abbrev pub all_runs : Light → RunKind → List CountHouse
+all_runs p kind = houses_below (run_houses p kind) (run_lines p kind)
+
 abbrev pub waiting_runs : {W : Type 0} → (W → ℕ) → LineWaits W → RunKind → ℕ
 waiting_runs bits waits Rows = bits waits.rows
 waiting_runs bits waits Columns = bits waits.columns
@@ -35,18 +39,22 @@ waiting_runs bits waits Columns = bits waits.columns
 -- the numbers of a row in columns that are none of these are idle
 abbrev pub AreIdleBut : Light → ℕ → ℕ → Candidates → Type 0
 AreIdleBut p columns y K = (x : ℕ) → x < p.size.w → has_bit columns x ≡ false
-    → AreIdle (number_house p (y * p.size.w + x)) K
+    → AreIdle (house_at p number_house y x) K
 
 -- none of the cells that the house of a white cell has is at both a column and a row of these lines
 abbrev pub IsAway : {W : Type 0} → (W → ℕ) → Light → Touched W → ℕ → Type 0
 IsAway bits p lines c = (d : ℕ) → has_place (seen_from p c) d ≡ true
     → AreLinesOf bits lines (d / p.size.w) (d % p.size.w) → ⊥
 
--- the cells of a column from one row to another are not all white
+-- the cells of a column from one row to another are not all white; and those of each of some columns
 abbrev pub AreParted : Light → ℕ → ℕ → ℕ → Type 0
 AreParted p x y k = clear (λ j. white p (j * p.size.w + x)) y k ≡ false
 
--- that is so of each cell of the rows that are none of those from the first on and before the end
+abbrev pub AreColumnsParted : Light → ℕ → ℕ → ℕ → Type 0
+AreColumnsParted p columns y k = (x : ℕ) → x < p.size.w → has_bit columns x ≡ true
+    → AreParted p x y k
+
+-- away are the cells of the rows that are none of those from the first on and before the end
 pub record IsReach {W : Type 0} (bits : W → ℕ) (p : Light) (lines : Touched W) (first end : ℕ)
     : Type 0 where
   pub order : first ≤ end
@@ -66,11 +74,16 @@ pub record AreLinesRested {W : Type 0} (bits : W → ℕ) (p : Light) (waits : L
   pub whites : (c : ℕ) → c < light_cells p → IsAway bits p waits.ones c
       → AreIdle (lit_house p c) K
 
--- what waited, and these lines with those beside them
-abbrev pub AreSpread : {W : Type 0} → (W → ℕ) → ℕ → W → (ℕ → Bool) → W → Type 0
-AreSpread bits room before lines now = (k : ℕ) → has_bit (bits now) k
-    ≡ (has_bit (bits before) k || (((nat_lt k room && (nat_lt 0 k && lines (k - 1)))
-    || lines k) || lines (k + 1)))
+-- where these houses are idle, they need not wait
+abbrev pub AreSettled : {W : Type 0} → (W → ℕ) → (Light → ℕ → List CountHouse) → (Light → ℕ)
+    → LineWaits W → LineWaits W → Type 0
+AreSettled bits houses number before now = (p : Light) (K : Candidates)
+    → AreLinesRested bits p before K → ((k : ℕ) → k < number p → AreIdle (houses p k) K)
+    → AreLinesRested bits p now K
+
+-- whether one of the lines has the cell of a row and a column
+abbrev pub meets_line : {W : Type 0} → (W → ℕ) → Touched W → ℕ → ℕ → Bool
+meets_line bits lines y x = has_bit (bits lines.rows) y || has_bit (bits lines.columns) x
 
 -- what waits once cells of these lines have lost 0, and cells of those 1: numbers of these lines and of the lines beside
 -- them, runs of the columns and rows in which cells have lost 0, and white cells of those in which cells have lost 1
@@ -90,6 +103,14 @@ pub record AreLinesWoken {W : Type 0} (bits : W → ℕ) (room : ℕ) (before : 
   pub one_columns : (k : ℕ) → has_bit (bits now.ones.columns) k
       ≡ (has_bit (bits before.ones.columns) k || has_bit (bits ones.columns) k)
 
+-- what waits once values were taken since the trail had that length
+abbrev pub AreLinesWokenSince : {W : Type 0} → (W → ℕ) → ℕ → ℕ → Layers → LineWaits W
+    → LineWaits W → Type 0
+AreLinesWokenSince bits room len planes before now = (p : Light) (from : Layers)
+    → ArePlanesOf room p planes → ArePlanesOf room p from → from.len ≡ len
+    → IsFurther from planes → AreLinesRested bits p before (has from)
+    → AreLinesRested bits p now (has planes)
+
 -- planes of a puzzle, with its words and room for more; what does not wait is idle
 pub record AreLightsReady {W : Type 0} (bits : W → ℕ) (room : ℕ) (p : Light) (planes : Layers)
     (notes : LightNotes W)
@@ -103,7 +124,7 @@ pub record AreLightsReady {W : Type 0} (bits : W → ℕ) (room : ℕ) (p : Ligh
 -- those of the white cells of a row are idle that are none of these
 abbrev pub AreWhitesIdleBut : Light → ℕ → ℕ → Candidates → Type 0
 AreWhitesIdleBut p some y K = (x : ℕ) → x < p.size.w → has_bit some x ≡ false
-    → AreIdle (lit_house p (y * p.size.w + x)) K
+    → AreIdle (house_at p lit_house y x) K
 
 -- two of these cells can have a bulb, or one of them must
 pub record AreSafe (cells : ℕ → Bool) (K : Candidates) : Type 0 where
@@ -120,11 +141,15 @@ abbrev pub AreSafeInColumns : Light → ℕ → ℕ → Candidates → Type 0
 AreSafeInColumns p y bits K = (x : ℕ) → has_bit bits x ≡ true
     → AreSafe (joined_in_column p (y * p.size.w + x)) K
 
+-- and of the rows from one on and before another
+abbrev pub AreRowsSafe : Light → ℕ → ℕ → List ℕ → Candidates → Type 0
+AreRowsSafe p first end words K = (y : ℕ) → first ≤ y → y < end
+    → AreSafeInColumns p y (slice_index words y) K
+
 -- the houses of the white cells of a row
 abbrev pub lits_of_row : Light → ℕ → List CountHouse
-lits_of_row p y = houses_below (λ x. lit_house p (y * p.size.w + x)) p.size.w
+lits_of_row p = in_row p lit_house
 
 -- the houses of runs and of white cells
 abbrev pub white_houses : Light → List CountHouse
-white_houses p = (houses_below (row_house p) (light_cells p) ++ houses_below (column_house p) (light_cells p))
-    ++ houses_below (lit_house p) (light_cells p)
+white_houses p = (in_grid p row_house ++ in_grid p column_house) ++ in_grid p lit_house

@@ -1,10 +1,12 @@
 -- Runs of white cells of Light Up as words of bits.
-use Rattle.std.specs.Prelude.{◌≡◌, ℕ, ◌+◌, ◌*◌, ◌/◌, ◌%◌, ◌<◌, ◌≤◌, ◌&&◌, nat_lt, List, length, slice_index}
+use Rattle.std.specs.Prelude.{◌≡◌, ℕ, ◌+◌, ◌*◌, ◌/◌, ◌%◌, ◌<◌, ◌≤◌, ◌&&◌, nat_lt, List, length, slice_index, Bool, true, false, slice_index_or}
 use Rattle.grid_core.specs.Words.{has_bit}
 use Rattle.gameid_core.specs.Puzzles.{Light}
-use Rattle.fields_core.specs.CountHouse.{CountHouse, houses_below}
+use Rattle.fields_core.specs.CountHouse.{CountHouse}
 use Rattle.fields_core.specs.Light.{light_cells, joined_in_row, joined_in_column}
-use Rattle.fields_core.specs.LightHouses.{number_house, row_house}
+use Rattle.fields_core.specs.LightHouses.{in_row, number_house, row_house}
+use Rattle.gameid_core.specs.declared.light_up.cell.LightCell.{LightCell}
+use Rattle.gameid_core.specs.declared.light_up.cell.LightCell.TheVariants.{White, Black, Numbered}
 
 -- the bits are the places along its row of the run that the cell is in: none where the cell is black; and along its column
 abbrev pub IsRowRun : Light → ℕ → ℕ → Type 0
@@ -24,7 +26,16 @@ pub record AreRunWords (p : Light) (rows columns : List ℕ) : Type 0 where
 
 -- the houses of the numbers of a row, and of its runs
 abbrev pub numbers_of_row : Light → ℕ → List CountHouse
-numbers_of_row p y = houses_below (λ x. number_house p (y * p.size.w + x)) p.size.w
+numbers_of_row p = in_row p number_house
 
 abbrev pub row_runs_of_row : Light → ℕ → List CountHouse
-row_runs_of_row p y = houses_below (λ x. row_house p (y * p.size.w + x)) p.size.w
+row_runs_of_row p = in_row p row_house
+
+abbrev pub has_number : LightCell → Bool
+has_number White = false
+has_number Black = false
+has_number (Numbered n) = true
+
+-- the cell is black and has a number
+unfoldable pub is_numbered : Light → ℕ → Bool
+is_numbered p c = has_number (slice_index_or p.cells c Black)

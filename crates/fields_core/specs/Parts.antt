@@ -8,7 +8,7 @@ use Rattle.grid_core.specs.declared.planes.line.Line.TheVariants.{Row}
 use Rattle.engine_core.specs.RuleSystem.{has_place}
 use Rattle.fields_core.specs.Count.{is_open}
 use Rattle.fields_core.specs.CountHouse.{CountHouse, IsHouse, after_house}
-use Rattle.fields_core.specs.declared.planes.part.Part.{Part}
+use Rattle.fields_core.specs.declared.planes.line_parts.Part.{Part}
 
 -- some places of a line, as bits
 pub record Piece : Type 0 where
@@ -64,7 +64,21 @@ abbrev pub IsBroken : CountHouse → Candidates → Type 0
 IsBroken house K = (c v : ℕ) → has_place house.places c ≡ true → v < 2
     → after_house house K c v ≡ false
 
+-- of any house of these cells and bounds: a visit leaves that board, or no value in its cells
+abbrev pub IsHouseLeft : List Piece → ℕ → ℕ → Layers → Layers → Type 0
+IsHouseLeft pieces least most from to = (house : CountHouse)
+    → IsHouseOf from.size pieces least most house → has to ≡ after_house house (has from)
+
+abbrev pub IsHouseBroken : List Piece → ℕ → ℕ → Layers → Type 0
+IsHouseBroken pieces least most from = (house : CountHouse)
+    → IsHouseOf from.size pieces least most house → IsBroken house (has from)
+
 -- the board without the value in the cells of the first n pieces that have the other value
 unfoldable pub without_value : ℕ → List Piece → ℕ → ℕ → Candidates → Candidates
 without_value w pieces n value K c v =
     K c v && not ((v == value) && (K c (1 - value) && lies_in_first w pieces n c))
+
+-- it was taken from the cells of all of the pieces that have the other value
+abbrev pub IsStruck : List Piece → ℕ → Layers → Layers → Type 0
+IsStruck pieces value from to =
+    has to ≡ without_value from.size.w pieces (length pieces) value (has from)

@@ -4,8 +4,8 @@ use Rattle.std.specs.List.{list_any}
 use Rattle.grid_core.specs.Regions.{beside, row_places, column_places}
 use Rattle.engine_core.specs.RuleSystem.{RuleSystem}
 use Rattle.gameid_core.specs.Puzzles.{Tents}
-use Rattle.fields_core.specs.declared.tents.told.TentHouse.{TentHouse}
-use Rattle.fields_core.specs.declared.tents.told.TentHouse.TheVariants.{Column, Row, Tree, Square}
+use Rattle.fields_core.specs.declared.tents.tent_house.TentHouse.{TentHouse}
+use Rattle.fields_core.specs.declared.tents.tent_house.TentHouse.TheVariants.{Column, Row, Tree, Square}
 use Rattle.fields_core.specs.CountHouse.{CountHouse, exactly, one_at_most, one_at_least, houses_below, CountPuzzle, rules_of}
 use Rattle.fields_core.specs.Tents.{tent_cells, tree, solves_tents}
 

@@ -1,11 +1,22 @@
 -- What Tents keeps beside planes. No public contract uses these words.
-use Rattle.std.specs.Prelude.{ℕ, map}
+use Rattle.std.specs.Prelude.{◌≡◌, ℕ, ◌≤◌, List, map}
 use Rattle.grid_core.specs.Planes.{Layers, has}
 use Rattle.gameid_core.specs.Puzzles.{Tents, IsTents}
-use Rattle.fields_core.specs.Trees.{AreRowsOf, wants_tent}
-use Rattle.fields_core.specs.Visits.{IsFieldOf}
-use Rattle.fields_core.specs.Waits.{AreTentsRested}
-use Rattle.fields_core.specs.declared.planes.notes.TentNotes.{TentNotes}
+use Rattle.fields_core.specs.LineWords.{AreRowsOf}
+use Rattle.fields_core.specs.Parts.{ArePlanesAlive}
+use Rattle.fields_core.specs.TentTrees.{AreBare, wants_tent}
+use Rattle.fields_core.specs.TentWaits.{AreTentsRested}
+use Rattle.fields_core.specs.declared.planes.tents.tent_notes.TentNotes.{TentNotes}
+
+-- planes of the puzzle on words of so many places, in which each cell has a value, and the trees of each row that want a tent
+pub record IsFieldOf (room : ℕ) (p : Tents) (planes : Layers) (words : List ℕ) : Type 0 where
+  pub lawful : IsTents p
+  pub narrow : p.size.w ≤ room
+  pub low : p.size.h ≤ room
+  pub size : planes.size ≡ p.size
+  pub trees : AreRowsOf p.size (wants_tent p) words
+  pub bare : AreBare p (has planes)
+  pub alive : ArePlanesAlive planes
 
 -- the words are the trees of the puzzle that want a tent
 pub record AreTentsWritten {W : Type 0} (bits : W → ℕ) (p : Tents) (notes : TentNotes W) : Type 0 where

@@ -3,9 +3,11 @@ use Rattle.std.specs.Prelude.{◌≡◌, ℕ, ◌<◌, ◌≤◌, Bool, List, fi
 use Rattle.std.specs.List.{range_with_len}
 use Rattle.grid_core.specs.Candidates.{count_below}
 use Rattle.grid_core.specs.Regions.{beside}
+use Rattle.engine_core.specs.HouseSets.{AreBelow}
 use Rattle.engine_core.specs.RuleSystem.{has_place}
 use Rattle.gameid_core.specs.Puzzles.{Tents}
 use Rattle.fields_core.specs.Tents.{tent_cells, tree}
+use Rattle.fields_core.specs.declared.tents.pairs.PairingScratch.{PairingScratch}
 
 -- the places of the trees, ascending, and how many there are
 abbrev pub trees_of : Tents → List ℕ
@@ -24,9 +26,15 @@ may_pair p tents l r = tree_beside p (slice_index tents l) r
 
 -- cells of the puzzle
 abbrev pub AreIn : Tents → List ℕ → Type 0
-AreIn p places = (l : ℕ) → l < length places → slice_index places l < tent_cells p
+AreIn p = AreBelow (tent_cells p)
 
 -- for each cell, how many trees stand before it
 pub record AreNumbered (p : Tents) (numbers : List ℕ) : Type 0 where
   pub long : tent_cells p ≤ length numbers
   pub each : (c : ℕ) → c < tent_cells p → slice_index numbers c ≡ count_below (tree p) c
+
+-- there is room for so many tents, trees and cells
+pub record HasPairingRoom (scratch : PairingScratch) (n : ℕ) : Type 0 where
+  pub pairing : n ≤ scratch.pairing.room
+  pub tents : n ≤ length scratch.tents.items
+  pub numbers : n ≤ length scratch.numbers.items

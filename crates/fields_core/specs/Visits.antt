@@ -1,11 +1,9 @@
--- Visits of count houses on planes, one after another, and sweeps of all houses of Tents.
-use Rattle.std.specs.Prelude.{◌≡◌, ℕ, ◌<◌, ◌≤◌, Bool, true, false, List, [], ◌∷◌}
+-- Visits of count houses on planes, one after another.
+use Rattle.std.specs.Prelude.{◌≡◌, ℕ, ◌<◌, Bool, true, false, not, ◌&&◌, ◌==◌, List, [], ◌∷◌}
 use Rattle.grid_core.specs.Candidates.{Candidates}
 use Rattle.grid_core.specs.Planes.{Layers, has, cells_of, IsFurther}
-use Rattle.gameid_core.specs.Puzzles.{Tents, IsTents}
 use Rattle.fields_core.specs.CountHouse.{CountHouse, after_house}
 use Rattle.fields_core.specs.Parts.{ArePlanesAlive}
-use Rattle.fields_core.specs.Trees.{AreBare, AreRowsOf, wants_tent}
 
 -- the board after visits of the houses, one after another
 unfoldable pub after_houses : List CountHouse → Candidates → Candidates
@@ -21,12 +19,10 @@ pub record AreVisited (houses : List CountHouse) (from to : Layers) (fills : Boo
   pub alive : ArePlanesAlive to
   pub further : IsFurther from to
 
--- planes of the puzzle on words of so many places, in which each cell has a value, and the trees of each row that want a tent
-pub record IsFieldOf (room : ℕ) (p : Tents) (planes : Layers) (words : List ℕ) : Type 0 where
-  pub lawful : IsTents p
-  pub narrow : p.size.w ≤ room
-  pub low : p.size.h ≤ room
-  pub size : planes.size ≡ p.size
-  pub trees : AreRowsOf p.size (wants_tent p) words
-  pub bare : AreBare p (has planes)
-  pub alive : ArePlanesAlive planes
+-- visits of the houses take nothing
+abbrev pub AreIdle : List CountHouse → Candidates → Type 0
+AreIdle houses K = after_houses houses K ≡ K
+
+-- the board without 0 in the cells that pass
+unfoldable pub without_zeros : (ℕ → Bool) → Candidates → Candidates
+without_zeros passes K c v = K c v && not ((v == 0) && passes c)

@@ -1,19 +1,16 @@
 //! What the rules of a search mean and keep to. These calls do nothing: their contracts are the laws.
 #![tactic(auto, using(crate::proofs::LawSets::laws_laws))]
 
-ghost use Rattle.std.specs.Prelude.{◌↔◌, IsTrue, List, ℕ};
-ghost use Rattle.fields_core.specs.Common.{IsGridOf, IsLawful, IsLight, IsLightSolution, IsTentSolution, IsTents, Light, Tents, light_rules, tent_rules};
+ghost use Rattle.fields_core.specs.Common.{AcceptsJust, IsLawful, IsLight, IsLightSolution, IsTentSolution, IsTents, Light, Tents, light_rules, tent_rules};
 
 /// The grids that the rules of Tents accept are the solutions of the puzzle.
 pub fn accepted_tents_are_solutions()
-    ensures { (p : Tents) (g : List ℕ) → IsGridOf (tent_rules p) g
-        → (IsTrue ((tent_rules p).is_solution g)) ↔ IsTentSolution p g }
+    ensures { (p : Tents) → AcceptsJust (tent_rules p) (IsTentSolution p) }
 {}
 
 /// The grids that the rules of Light Up accept are the solutions of the puzzle.
 pub fn accepted_lights_are_solutions()
-    ensures { (p : Light) (g : List ℕ) → IsGridOf (light_rules p) g
-        → (IsTrue ((light_rules p).is_solution g)) ↔ IsLightSolution p g }
+    ensures { (p : Light) → AcceptsJust (light_rules p) (IsLightSolution p) }
 {}
 
 /// The rules of Light Up keep to what every search relies on, for each puzzle.

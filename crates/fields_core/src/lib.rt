@@ -15,7 +15,7 @@ pub use light_up::check::check_lights;
 pub use light_up::fault::LightFault;
 pub use light_up::rules::LightRules;
 pub use light_up::sight::{count_beside, sees_a_bulb};
-pub use planes::part::{Part, Parts};
+pub use planes::line_parts::{Part, Parts};
 pub use planes::visit::visit;
 pub use tents::check::check_tents;
 pub use tents::fault::TentFault;

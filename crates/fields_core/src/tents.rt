@@ -6,5 +6,5 @@ pub(crate) mod fault;
 pub(crate) mod houses;
 pub(crate) mod pairs;
 pub(crate) mod rules;
-pub(crate) mod told;
+pub(crate) mod tent_house;
 pub(crate) mod touch;

@@ -2,7 +2,7 @@
 #![tactic(auto, using(crate::proofs::LawSets::house_laws))]
 
 ghost use Rattle.std.specs.Prelude.{◌*◌, ◌+◌, ◌<◌, ◌^◌, ◌∷◌, ◌≡◌, ◌≤◌, Bool, ℕ, [], filter, if◌then◌else◌, length, map, slice_index, true};
-ghost use Rattle.fields_core.specs.Common.{IsNext, TestsBelow, beside as beside_places, column_places, exactly, has_place, house_told, one_at_least, one_at_most, places_of, range_with_len, row_places, segment_places};
+ghost use Rattle.fields_core.specs.Common.{AreBelow, IsNext, TestsBelow, beside as beside_places, column_places, exactly, has_place, house_told, one_at_least, one_at_most, places_of, range_with_len, row_places, segment_places};
 
 use grid_core::{Size, step};
 
@@ -37,8 +37,7 @@ impl Segment {
     pub(crate) fn row(size: Size, y: usize) -> Segment
         requires { y < size.h }
         ensures places { segment_places result ≡ row_places size y }
-        ensures within { (k : ℕ) → k < length (segment_places result)
-            → slice_index (segment_places result) k < size.w * size.h }
+        ensures within { AreBelow (size.w * size.h) (segment_places result) }
     {
         let w = usize::from(size.w());
         Segment::of(y * w, 1, w)
@@ -48,8 +47,7 @@ impl Segment {
     pub(crate) fn column(size: Size, x: usize) -> Segment
         requires { x < size.w }
         ensures places { segment_places result ≡ column_places size x }
-        ensures within { (k : ℕ) → k < length (segment_places result)
-            → slice_index (segment_places result) k < size.w * size.h }
+        ensures within { AreBelow (size.w * size.h) (segment_places result) }
     {
         Segment::of(x, usize::from(size.w()), usize::from(size.h()))
     }

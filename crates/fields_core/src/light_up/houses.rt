@@ -1,13 +1,13 @@
 //! The names of the houses of Light Up.
 
 ghost use Rattle.std.specs.Prelude.{◌*◌, ◌+◌, ◌<◌, ◌≡◌, IfOk, OnOk, true};
-ghost use Rattle.fields_core.specs.Common.{AreAdded, AreNamed, IsAround, IsLatest, IsLight, column_house, house_along, houses_below, light_cells, light_house, light_houses, lit_house, number_house, row_house, whites_of};
+ghost use Rattle.fields_core.specs.Common.{AreAdded, AreNamed, IsAround, IsLatest, IsLight, column_house, house_along, in_grid, light_cells, light_house, light_houses, lit_house, number_house, row_house, whites_of};
 
 use crate::count::house::count_passing;
 use crate::count::name::HouseName;
 use crate::light_up::cells::{LONGEST, columns, is_white, rows};
+use crate::light_up::light_house::LightHouse;
 use crate::light_up::line::WhiteLine;
-use crate::light_up::told::LightHouse;
 use gameid_core::{LightCell, LightPuzzle};
 use std::alloc::{AllocError, Global};
 
@@ -63,12 +63,12 @@ fn push_whites(
     puzzle: &LightPuzzle,
 ) -> Result<(), AllocError>
     ensures rows { OnOk result (AreAdded (light_house puzzle.now) along_rows.old.items
-        along_rows.new.items (houses_below (row_house puzzle.now) (light_cells puzzle.now))) }
+        along_rows.new.items (in_grid puzzle.now row_house)) }
     ensures columns { OnOk result (AreAdded (light_house puzzle.now) along_columns.old.items
         along_columns.new.items
-        (houses_below (column_house puzzle.now) (light_cells puzzle.now))) }
+        (in_grid puzzle.now column_house)) }
     ensures lits { OnOk result (AreAdded (light_house puzzle.now) lits.old.items lits.new.items
-        (houses_below (lit_house puzzle.now) (light_cells puzzle.now))) }
+        (in_grid puzzle.now lit_house)) }
 {
     let (w, h) = (columns(puzzle), rows(puzzle));
     let mut columns = [(0, 0); LONGEST];

@@ -5,7 +5,7 @@ ghost use Rattle.fields_core.specs.Common.{AreNamed, Black, IsLight, any_below, 
 
 use crate::count::house::next_passing;
 use crate::count::name::HouseName;
-use crate::light_up::told::LightHouse;
+use crate::light_up::light_house::LightHouse;
 use gameid_core::{LightCell, LightPuzzle};
 
 /// Whether the house has no cell, and a number other than 0 tells it.

@@ -1,15 +1,14 @@
 //! What only a game knows of the planes that its search stands on.
 
-ghost use Rattle.std.specs.Prelude.{◌*◌, ◌≡◌, ◌≤◌, IfOk, ℕ, length, true};
+ghost use Rattle.std.specs.Prelude.{◌*◌, ◌≡◌, ℕ, true};
 ghost use Rattle.engine_core.specs.ClosingList.{IsAlive};
-ghost use Rattle.fields_core.specs.Common.{AreKept, AreMet, AreNamed, FitsIn, HasBoard, IsClosedBut, IsClosedIn, IsCounted, IsExtent, IsFurther, IsGrid, IsSuited, IsSweep, IsTaken, Layers, Needs, StillServes, has, needs_in, needs_of, rules_of};
+ghost use Rattle.fields_core.specs.Common.{AreKept, AreMet, AreNamed, FitsIn, HasBoard, IsClosedBut, IsClosedIn, IsCounted, IsExtent, IsFurther, IsGrid, IsSuited, IsSweep, IsTaken, Layers, Needs, has, needs_in, needs_of, rules_of};
 
 use crate::count::game::CountGame;
 use crate::count::name::HouseName;
 use crate::count::rules::CountRules;
 use engine_core::{Closing, Needs, PlaneNotes, Taken};
 use grid_core::{Grid, Planes, Size, Word};
-use std::alloc::{AllocError, Global};
 
 /// A puzzle of count houses that is closed on planes.
 pub trait PlaneGame: CountGame {
@@ -52,8 +51,8 @@ pub trait PlaneGame: CountGame {
     ghost cells_are: { (p : Self) → (Self.extent p).w * (Self.extent p).h ≡ (Self.counts p).cells };
 }
 
-/// What is kept of a puzzle beside planes of such words, and which houses wait while a closing goes on.
-pub trait SweepNotes<W: Word, P: CountGame>: Drop + Sized {
+/// What is kept of a puzzle beside planes of such words, and which houses wait while a board is closed by sweeps.
+pub trait SweepNotes<W: Word, P: CountGame>: Sized {
     /// They serve puzzles of these sizes.
     ghost fits: { Self → Needs → Type 0 };
 
@@ -62,25 +61,6 @@ pub trait SweepNotes<W: Word, P: CountGame>: Drop + Sized {
 
     /// They are, and each house that does not wait strikes nothing from these planes.
     ghost ready: { P → Layers → Self → Type 0 };
-
-    /// Takes their memory.
-    ///
-    /// # Errors
-    ///
-    /// When memory was refused.
-    fn new(alloc: Global, made: Needs) -> Result<Self, AllocError>
-        ensures { IfOk result (λ notes. fits notes (needs_in made)) };
-
-    /// Begins with the board that a search of the puzzle starts from. It takes no memory.
-    fn start(&mut self, planes: &mut Planes<W>, puzzle: &P)
-        requires fits { fits self.old (needs_of (rules_of (P.counts puzzle.now))) }
-        requires suited { IsSuited (P.extent puzzle.now) W.room }
-        requires few { (P.counts puzzle.now).cells * 2 ≤ length planes.old.takings }
-        ensures start { has planes.new ≡ (rules_of (P.counts puzzle.now)).start }
-        ensures size { planes.new.size ≡ P.extent puzzle.now }
-        ensures room { length planes.new.takings ≡ length planes.old.takings }
-        ensures written { written puzzle.now self.new }
-        ensures keeps { StillServes fits self.old self.new };
 
     /// Begins a closing. Where `from` names a cell, the board was closed before that cell lost a value.
     fn begin(&mut self, planes: &Planes<W>, puzzle: &P, from: Option<usize>)

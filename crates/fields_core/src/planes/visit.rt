@@ -1,10 +1,10 @@
 //! A visit of a count house on planes: its ones are counted by words.
 
-ghost use Rattle.std.specs.Prelude.{◌<◌, ◌≡◌, ◌≤◌, false, length, true};
+ghost use Rattle.std.specs.Prelude.{◌<◌, ◌≡◌, ◌≤◌, false, true};
 ghost use Rattle.fields_core.specs.Parts.{ArePartsCounted};
-ghost use Rattle.fields_core.specs.Common.{ArePieces, CountHouse, ArePlanesAlive, IsBroken, IsFurther, IsHouseOf, after_house, has, without_value};
+ghost use Rattle.fields_core.specs.Common.{ArePieces, ArePlanesAlive, IsFurther, IsHouseBroken, IsHouseLeft, IsStruck};
 
-use crate::planes::part::Parts;
+use crate::planes::line_parts::Parts;
 use grid_core::{Planes, Word};
 
 /// How many cells of the parts can be a one, and how many of these are undecided: can be a zero too.
@@ -29,8 +29,7 @@ fn count<W: Word, P: Parts<W>>(planes: &Planes<W>, parts: &P) -> (usize, usize)
 pub(crate) fn strike<W: Word, P: Parts<W>>(planes: &mut Planes<W>, parts: &P, value: u8)
     requires pieces { ArePieces planes.old.size (P.pieces parts.now) }
     requires value_in { value < 2 }
-    ensures left { has planes.new ≡ without_value planes.old.size.w (P.pieces parts.now)
-        (length (P.pieces parts.now)) value (has planes.old) }
+    ensures left { IsStruck (P.pieces parts.now) value planes.old planes.new }
     ensures further { IsFurther planes.old planes.new }
 {
     for number in 0..parts.len() {
@@ -53,12 +52,9 @@ pub fn visit<W: Word, P: Parts<W>>(
     requires pieces { ArePieces planes.old.size (P.pieces parts.now) }
     requires order { least ≤ most }
     requires alive { ArePlanesAlive planes.old }
-    ensures left { result ≡ true → (house : CountHouse)
-        → IsHouseOf planes.old.size (P.pieces parts.now) least most house
-        → has planes.new ≡ after_house house (has planes.old) }
-    ensures broken { result ≡ false → (house : CountHouse)
-        → IsHouseOf planes.old.size (P.pieces parts.now) least most house
-        → IsBroken house (has planes.old) }
+    ensures left { result ≡ true
+        → IsHouseLeft (P.pieces parts.now) least most planes.old planes.new }
+    ensures broken { result ≡ false → IsHouseBroken (P.pieces parts.now) least most planes.old }
     ensures unchanged { result ≡ false → planes.new ≡ planes.old }
     ensures alive { ArePlanesAlive planes.new }
     ensures further { IsFurther planes.old planes.new }

@@ -1,8 +1,8 @@
 //! The check of a grid of Tents.
 #![tactic(auto, using(crate::proofs::LawSets::tent_check_laws))]
 
-ghost use Rattle.std.specs.Prelude.{◌<◌, ◌==◌, ◌↔◌, ◌≡◌, IfOk, None, ℕ, count_by, length, slice_index};
-ghost use Rattle.fields_core.specs.Common.{HasPairingRoom, IsGrid, IsTentFault, IsTentSolution, segment_places, tent, tent_cells};
+ghost use Rattle.std.specs.Prelude.{◌==◌, ◌↔◌, ◌≡◌, IfOk, None, ℕ, count_by, length};
+ghost use Rattle.fields_core.specs.Common.{AreBelow, HasPairingRoom, IsGrid, IsTentFault, IsTentSolution, segment_places, tent, tent_cells};
 
 use crate::count::house::{Segment, next_passing};
 use crate::tents::cells::{column_number, is_tree, row_number};
@@ -15,8 +15,7 @@ use std::alloc::{AllocError, Global};
 
 /// Whether so many tents stand in the run.
 fn has_tents(grid: &Grid, run: Segment, number: u8) -> bool
-    requires { (k : ℕ) → k < length (segment_places run)
-        → slice_index (segment_places run) k < length grid.now }
+    requires { AreBelow (length grid.now) (segment_places run) }
     ensures { result ≡ (count_by (tent grid.now) (segment_places run) == number) }
 {
     let mut tents = 0;

@@ -7,7 +7,7 @@ ghost use Rattle.fields_core.specs.Common.{AreAdded, AreNamed, IsTents, tent_hou
 use crate::count::house::count_passing;
 use crate::count::name::HouseName;
 use crate::tents::cells::{is_tree, place_of};
-use crate::tents::told::TentHouse;
+use crate::tents::tent_house::TentHouse;
 use gameid_core::TentsPuzzle;
 use std::alloc::{AllocError, Global};
 

@@ -1,7 +1,7 @@
 //! Cells that share a side or a corner.
 #![tactic(auto, using(crate::proofs::LawSets::tent_touch_laws))]
 
-ghost use Rattle.std.specs.Prelude.{◌%◌, ◌&&◌, ◌*◌, ◌/◌, ◌<◌, ◌≡◌, ◌≤◌, length};
+ghost use Rattle.std.specs.Prelude.{◌%◌, ◌&&◌, ◌*◌, ◌<◌, ◌≡◌, ◌≤◌, length};
 ghost use Rattle.fields_core.specs.Common.{IsGrid, IsTentAmong, IsWindow, any_below, tent, touches};
 
 use crate::count::house::next_passing;

@@ -1,5 +1,4 @@
-use Rattle.std.proofs.Common.{rules}
-use Rattle.fields_core.proofs.Common.{[], ap, ap₂, arith, get_or-set_other, length-set, map, range_with_len, refl, segment_places, sym, ℕ, ◌*◌, ◌++◌, ◌+◌, ◌∙◌, ◌∷◌, ◌≡◌}
+use Rattle.fields_core.proofs.Common.{[], ap, ap₂, arith, get_or-set_other, length-set, map, range_with_len, refl, rules, segment_places, sym, ℕ, ◌*◌, ◌++◌, ◌+◌, ◌∙◌, ◌∷◌, ◌≡◌}
 use Rattle.fields_core.proofs.HouseLemmas.{each-empty, places-set}
 use Rattle.fields_core.proofs.HouseLists.{step-keep, step-none, step-skip}
 unfoldable use Rattle.grid_core.specs.Regions.{steps}

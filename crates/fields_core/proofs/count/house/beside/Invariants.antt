@@ -1,5 +1,4 @@
-use Rattle.fields_core.proofs.Common.{Bool, Segment, TestsBelow, [], filter, length, places_of, segment_places, get_or, ℕ, ◌*◌, ◌<◌, ◌≡◌, ◌≤◌}
-use Rattle.grid_core.specs.Regions.{steps}
+use Rattle.fields_core.proofs.Common.{Bool, Segment, TestsBelow, [], filter, get_or, length, places_of, segment_places, steps, ℕ, ◌*◌, ◌<◌, ◌≡◌, ◌≤◌}
 use Rattle.fields_core.proofs.count.house.beside.Given as goal
 
 abbrev pub invariant-loop-direction : goal.invariant-loop-direction

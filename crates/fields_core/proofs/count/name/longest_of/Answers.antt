@@ -1,5 +1,4 @@
-use Rattle.std.proofs.Common.{rules}
-use Rattle.fields_core.proofs.Common.{arith, count_house_of, sym, ◌∙◌, ◌≡◌, length}
+use Rattle.fields_core.proofs.Common.{arith, count_house_of, length, rules, sym, ◌∙◌, ◌≡◌}
 use Rattle.fields_core.proofs.HouseLemmas.{named-cells, named-long}
 use Rattle.fields_core.proofs.HouseVisits.{longest-more}
 use Rattle.fields_core.proofs.count.name.longest_of.Goals as goal

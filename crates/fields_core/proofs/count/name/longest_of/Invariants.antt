@@ -1,6 +1,4 @@
-use Rattle.fields_core.proofs.Common.{CountHouse, List, count_house_of, ℕ, ◌≡◌}
-use Rattle.engine_core.specs.RuleSystem.{longest}
-use Rattle.fields_core.specs.Houses.{AreNamed}
+use Rattle.fields_core.proofs.Common.{AreNamed, CountHouse, List, count_house_of, longest, ℕ, ◌≡◌}
 use Rattle.fields_core.proofs.count.name.longest_of.Given as goal
 
 abbrev pub invariant-loop-k : goal.invariant-loop-k

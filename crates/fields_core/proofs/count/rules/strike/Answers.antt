@@ -1,5 +1,5 @@
-use Rattle.fields_core.proofs.Common.{ap₂, arith, has, sym, ◌&&◌, ◌<◌}
-use Rattle.grid_core.specs.Board.{cells_of}
+use Rattle.fields_core.proofs.Common.{ap₂, arith, sym, ◌&&◌, ◌<◌}
+use Rattle.grid_core.specs.Board.{has, cells_of}
 use Rattle.engine_core.proofs.HouseLemmas.{kept-inside, striking-more}
 use Rattle.fields_core.proofs.HouseVisits.{cell-in, idle-stays, partly-all, partly-more}
 use Rattle.fields_core.proofs.RuleLemmas.{same-shape}

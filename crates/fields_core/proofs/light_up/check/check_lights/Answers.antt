@@ -1,5 +1,4 @@
-use Rattle.std.proofs.Common.{rules, ◌↔◌}
-use Rattle.fields_core.proofs.Common.{FailsLight, IsGrid, IsLightFault, Light, List, None, Option, [], arith, black_right, bulb_right, common_steps, light_cells, light_tests, lit_right, none_exactly, none_right, not, number_right, ℕ, ◌∷◌, ◌≡◌}
+use Rattle.fields_core.proofs.Common.{FailsLight, IsGrid, IsLightFault, Light, List, None, Option, [], arith, black_right, bulb_right, common_steps, light_cells, light_tests, lit_right, none_exactly, none_right, not, number_right, rules, ℕ, ◌↔◌, ◌∷◌, ◌≡◌}
 use Rattle.fields_core.specs.LightSolutions.{IsLightSolution}
 use Rattle.fields_core.specs.declared.light_up.fault.LightFault.{LightFault}
 use Rattle.fields_core.proofs.FirstWrong.{IsSearched, all-right, first-wrong}

@@ -1,5 +1,4 @@
-use Rattle.std.proofs.Common.{rules}
-use Rattle.fields_core.proofs.Common.{arith, light_house, sym, white, ◌∙◌}
+use Rattle.fields_core.proofs.Common.{arith, light_house, rules, sym, white, ◌∙◌}
 use Rattle.fields_core.proofs.HouseLists.{number-at, number-none}
 use Rattle.fields_core.proofs.HouseLemmas.{added-none, push-added}
 use Rattle.fields_core.proofs.LightLatest.{few-places}

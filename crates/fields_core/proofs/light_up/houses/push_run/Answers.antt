@@ -1,4 +1,4 @@
-use Rattle.fields_core.proofs.Common.{light_house, sym, refl, ◌*◌, ◌+◌, ◌-◌, ◌∙◌}
+use Rattle.fields_core.proofs.Common.{light_house, refl, sym, ◌*◌, ◌+◌, ◌-◌, ◌∙◌}
 use Rattle.fields_core.proofs.HouseLemmas.{added-none, push-added}
 use Rattle.fields_core.proofs.LightLatest.{latest-begins, latest-reaches, run-long, run-none, run-told}
 use Rattle.fields_core.proofs.light_up.houses.push_run.Goals as goal

@@ -1,4 +1,4 @@
-use Rattle.fields_core.proofs.Common.{line_white, AreAdded, houses_below, length, column_house, light_house, lit_house, row_house, ◌*◌, ◌+◌, ◌≤◌}
+use Rattle.fields_core.proofs.Common.{AreAdded, column_house, houses_below, length, light_house, line_white, lit_house, row_house, ◌*◌, ◌+◌, ◌≤◌}
 use Rattle.fields_core.proofs.LightLatest.{AreColumnsKept}
 use Rattle.fields_core.specs.LightRuns.{IsLatest}
 use Rattle.fields_core.proofs.light_up.houses.push_whites.Given as goal

@@ -1,6 +1,4 @@
-use Rattle.std.proofs.Common.{rules}
-use Rattle.std.proofs.lemmas.List.Sums.{length-filter}
-use Rattle.fields_core.proofs.Common.{bulb, sym, ◌∙◌}
+use Rattle.fields_core.proofs.Common.{bulb, length-filter, rules, sym, ◌∙◌}
 use Rattle.fields_core.proofs.TentBeside.{whole-cell}
 use Rattle.fields_core.proofs.light_up.sight.count_beside.Goals as goal
 

@@ -1,5 +1,4 @@
-use Rattle.fields_core.proofs.Common.{arith, bulb, common_steps, line_white, not, ◌&&◌, ◌*◌, ◌+◌, ℕ}
-use Rattle.std.specs.Prelude.{◌==◌}
+use Rattle.fields_core.proofs.Common.{arith, bulb, common_steps, line_white, not, ℕ, ◌&&◌, ◌*◌, ◌+◌, ◌==◌}
 use Rattle.fields_core.proofs.NextLemmas.{shines-along}
 use Rattle.fields_core.proofs.light_up.sight.sees_along.Goals as goal
 

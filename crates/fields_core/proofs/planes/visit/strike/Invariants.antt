@@ -1,5 +1,4 @@
-use Rattle.fields_core.proofs.Common.{IsFurther, without_value, ◌≡◌}
-use Rattle.grid_core.specs.Planes.{has}
+use Rattle.fields_core.proofs.Common.{IsFurther, has, without_value, ◌≡◌}
 use Rattle.fields_core.proofs.planes.visit.strike.Given as goal
 
 abbrev pub invariant-loop-number : goal.invariant-loop-number

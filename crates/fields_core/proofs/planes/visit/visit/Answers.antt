@@ -1,4 +1,4 @@
-use Rattle.fields_core.proofs.Common.{arith, eq-eqb, eqb, inl, inr, ne_eqb, refl, ℕ, ◌-◌, ◌<◌, ◌≡◌, ◌∙◌}
+use Rattle.fields_core.proofs.Common.{arith, eq-eqb, eqb, inl, inr, ne_eqb, refl, ℕ, ◌-◌, ◌<◌, ◌∙◌, ◌≡◌}
 use Rattle.fields_core.proofs.PartLemmas.{at_bound, bound-reached, broken, counted-fewer, no-bound, none-undecided, struck-alive, visited-idle, visited-struck}
 use Rattle.fields_core.proofs.planes.visit.visit.Goals as goal
 use Rattle.fields_core.proofs.planes.visit.visit.Goals.{After-strike, then-may-least-via-then-may-least, then-may-least-via-else-may-least+then-most-must}

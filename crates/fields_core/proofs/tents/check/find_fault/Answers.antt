@@ -1,4 +1,4 @@
-use Rattle.fields_core.proofs.Common.{FailsTents, common_steps, [], arith, column_right, first_in, none_right, not, row_right, sym, touch_right, tree_right, ◌∙◌, ◌∷◌}
+use Rattle.fields_core.proofs.Common.{FailsTents, [], arith, column_right, common_steps, first_in, none_right, not, row_right, sym, touch_right, tree_right, ◌∙◌, ◌∷◌}
 use Rattle.fields_core.proofs.FirstWrong.{IsSearched, all-right, first-wrong}
 use Rattle.fields_core.proofs.TentRuleLemmas.{columns, kinds, match, rows, tents-made, tents-sound, touch, trees}
 use Rattle.fields_core.proofs.tents.check.find_fault.Goals as goal

@@ -1,7 +1,5 @@
-use Rattle.fields_core.proofs.Common.{AreAdded, List, column_of_tents, houses_below, row_of_tents, square_house, tree_house, ◌*◌, ◌+◌}
-use Rattle.fields_core.specs.TentHouses.{tent_house}
-use Rattle.fields_core.specs.declared.tents.told.TentHouse.{TentHouse}
-use Rattle.fields_core.specs.declared.count.name.HouseName.{HouseName}
+use Rattle.fields_core.proofs.Common.{AreAdded, HouseName, List, column_of_tents, houses_below, row_of_tents, square_house, tent_house, tree_house, ◌*◌, ◌+◌}
+use Rattle.fields_core.specs.declared.tents.tent_house.TentHouse.{TentHouse}
 use Rattle.fields_core.proofs.tents.houses.names_of_tents.Given as goal
 
 abbrev pub invariant-loop-x : goal.invariant-loop-x

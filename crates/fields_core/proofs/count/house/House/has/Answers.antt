@@ -1,5 +1,4 @@
-use Rattle.std.proofs.Common.{rules}
-use Rattle.fields_core.proofs.Common.{eqb, house_told, slice_index, ◌∙◌}
+use Rattle.fields_core.proofs.Common.{eqb, house_told, rules, slice_index, ◌∙◌}
 use Rattle.fields_core.proofs.HouseLemmas.{has-next}
 use Rattle.fields_core.proofs.count.house.House.has.Goals as goal
 

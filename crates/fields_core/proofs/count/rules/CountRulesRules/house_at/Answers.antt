@@ -1,5 +1,4 @@
-use Rattle.std.proofs.Common.{arith, length, rules, vec_len, ◌≡◌}
-use Rattle.fields_core.proofs.Common.{count_house_of, has_place}
+use Rattle.fields_core.proofs.Common.{arith, count_house_of, has_place, length, rules, vec_len, ◌≡◌}
 use Rattle.fields_core.proofs.HouseLemmas.{named-long}
 use Rattle.fields_core.proofs.count.rules.CountRulesRules.house_at.Goals as goal
 

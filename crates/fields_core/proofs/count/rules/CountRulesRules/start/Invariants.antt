@@ -1,4 +1,5 @@
-use Rattle.fields_core.proofs.Common.{SameShape, has}
+use Rattle.fields_core.proofs.Common.{SameShape}
+use Rattle.grid_core.specs.Board.{has}
 use Rattle.fields_core.proofs.RuleLemmas.{IsStarted}
 use Rattle.fields_core.proofs.count.rules.CountRulesRules.start.Given as goal
 

@@ -1,5 +1,4 @@
-use Rattle.fields_core.proofs.Common.{after_house}
-use Rattle.engine_core.specs.RuleSystem.{after}
+use Rattle.fields_core.proofs.Common.{after, after_house}
 use Rattle.fields_core.proofs.count.rules.CountRulesRules.visit.Goals as goal
 
 pub returns-clause-left : goal.returns-clause-left

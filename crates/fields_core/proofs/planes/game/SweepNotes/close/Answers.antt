@@ -1,11 +1,7 @@
-use Rattle.std.proofs.Common.{◌∙◌, ◌+◌, ◌<◌, [], max, refl, sym, arith}
-use Rattle.std.proofs.lemmas.Bool.{true≢false}
-use Rattle.grid_core.specs.Planes.{has}
+use Rattle.fields_core.proofs.Common.{[], arith, has, max, refl, rules_of, swept_by, sym, true≢false, ◌+◌, ◌<◌, ◌∙◌}
 use Rattle.engine_core.specs.ClosingList.{IsClosing}
 use Rattle.engine_core.specs.declared.mode.Closing.TheVariants.{Dead, Open}
 use Rattle.engine_core.proofs.EndLemmas.{closed-in, taken-dead, taken-open}
-use Rattle.fields_core.specs.CountHouse.{rules_of}
-use Rattle.fields_core.specs.Sweeps.{swept_by}
 use Rattle.fields_core.proofs.PlaneSweeps.{alive-cells, cells-alive, closed-dead, closed-open, sweeps-few, sweeps-fewer, sweeps-none, sweeps-turn}
 use Rattle.fields_core.proofs.planes.game.SweepNotes.close.Goals as goal
 use Rattle.fields_core.proofs.planes.game.SweepNotes.close.Goals.{Else-len-before, Then-len-before, Then-not-sweep}

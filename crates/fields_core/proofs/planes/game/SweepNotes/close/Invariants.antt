@@ -1,7 +1,4 @@
-use Rattle.grid_core.specs.Candidates.{total}
-use Rattle.grid_core.specs.Planes.{has}
-use Rattle.engine_core.specs.PlaneNotes.{AreKept}
-use Rattle.fields_core.specs.CountHouse.{rules_of}
+use Rattle.fields_core.proofs.Common.{AreKept, has, rules_of, total}
 use Rattle.fields_core.proofs.PlaneSweeps.{AreSweepsOf}
 use Rattle.fields_core.proofs.planes.game.SweepNotes.close.Given as goal
 

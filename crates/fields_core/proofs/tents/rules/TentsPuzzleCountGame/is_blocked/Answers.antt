@@ -1,6 +1,4 @@
-use Rattle.std.proofs.Common.{rules}
-use Rattle.std.proofs.lemmas.List.Sums.{length-filter}
-use Rattle.fields_core.proofs.Common.{ap, eqb, refl, sym, tree, ◌∙◌}
+use Rattle.fields_core.proofs.Common.{ap, eqb, length-filter, refl, rules, sym, tree, ◌∙◌}
 use Rattle.fields_core.proofs.PlaceLists.{none-counted}
 use Rattle.fields_core.proofs.TentBeside.{whole-cell}
 use Rattle.fields_core.proofs.TentNext.{barred-alone}

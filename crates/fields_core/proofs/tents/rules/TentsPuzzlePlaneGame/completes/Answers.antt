@@ -1,4 +1,4 @@
-use Rattle.std.proofs.Common.{◌∙◌}
+use Rattle.fields_core.proofs.Common.{◌∙◌}
 use Rattle.fields_core.proofs.TentCompleting.{completed}
 use Rattle.fields_core.proofs.tents.rules.TentsPuzzlePlaneGame.completes.Goals as goal
 

@@ -1,4 +1,4 @@
-use Rattle.std.proofs.Common.{arith}
+use Rattle.fields_core.proofs.Common.{arith}
 use Rattle.fields_core.proofs.TentPlanes.{high-fits, wide-fits}
 use Rattle.fields_core.proofs.tents.rules.TentsPuzzlePlaneGame.size.Goals as goal
 

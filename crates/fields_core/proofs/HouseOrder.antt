@@ -1,0 +1,268 @@
+-- Houses of one at most, visited in any order.
+unfoldable use Rattle.engine_core.specs.RuleSystem.{has_place}
+use Rattle.fields_core.proofs.Common.{AllByRecursion, AreDistinct, ArePlanesAlive, AreVisited, Bool, Candidates, CountHouse, IsHouse, IsInside, Layers, List, [], after_house, and-true, and_from, and_parts, ap, arith, cases_Bool, cells_of, common_steps, count_by, distinct-from, eq-eqb, eqb, eqb-true, false, false_from_ne_true, false≢true, fun_ext, has, inl, inr, list_any, lt-ltb, ltb, ltb-false, ltb-true, not, not-true, or_cases, or_left, or_parts, or_right, refl, sym, true, true≢false, ℕ, ◌&&◌, ◌<◌, ◌||◌, ◌∙◌, ◌∷◌, ◌≡◌, ◌≢◌, ◌⊎◌}
+unfoldable use Rattle.fields_core.specs.Visits.{after_houses}
+use Rattle.fields_core.proofs.AtMostLemmas.{IsFull, IsOneAtMost, visits-met, visits-two, zeros_of}
+unfoldable use Rattle.fields_core.proofs.AtMostLemmas.{is_met, without_met}
+use Rattle.fields_core.proofs.BelowLemmas.{any-here, any-some}
+use Rattle.fields_core.proofs.IdleAfter.{Keeps}
+use Rattle.fields_core.proofs.IdleLemmas.{idle-first}
+use Rattle.fields_core.proofs.PartLemmas.{value-in}
+use Rattle.fields_core.proofs.PlaceLists.{count-cons, num, some-counted}
+use Rattle.fields_core.proofs.LightRunLines.{each-more}
+use Rattle.fields_core.proofs.VisitLemmas.{after-inside}
+
+-- a house of one at most
+pub record IsSingle (cells : ℕ) (house : CountHouse) : Type 0 where
+  pub is : IsHouse cells house
+  pub least_is : house.least ≡ 0
+  pub most_is : house.most ≡ 1
+
+-- the same houses, in whatever order
+abbrev pub AreSame : List CountHouse → List CountHouse → Type 0
+AreSame some all = (test : CountHouse → Bool) → list_any test some ≡ list_any test all
+
+-- ---- two cells without 0
+-- of different places two pass, where more than one does
+count-pair : (test : ℕ → Bool) (xs : List ℕ) → AreDistinct xs → 1 < count_by test xs
+    → (d : ℕ) × (e : ℕ) × (d ≢ e) × (has_place xs d ≡ true) × (has_place xs e ≡ true) × (test d ≡ true) × (test e ≡ true)
+unfolding has_place
+count-pair test [] distinct many = absurd (omega (arith, many))
+count-pair test (x ∷ xs) distinct many = by (λ more. count-pair test xs distinct.1 more) (test x) refl
+  where
+    by : (1 < count_by test xs → (d : ℕ) × (e : ℕ) × (d ≢ e) × (has_place xs d ≡ true) × (has_place xs e ≡ true) × (test d ≡ true) × (test e ≡ true))
+        → (b : Bool) → test x ≡ b
+        → (d : ℕ) × (e : ℕ) × (d ≢ e) × (has_place (x ∷ xs) d ≡ true) × (has_place (x ∷ xs) e ≡ true) × (test d ≡ true) × (test e ≡ true)
+    by rest true on =
+        let one : num (test x) ≡ 1 = rw on refl in
+        let more : 0 < count_by test xs = omega (arith, many, count-cons test x xs, one) in
+        let w = any-some test xs (sym (some-counted test xs) ∙ lt-ltb 0 (count_by test xs) more) in (
+          x,
+          w.0,
+          λ same. true≢false (sym (rw same w.1) ∙ distinct.0),
+          or_left (eqb x x) (has_place xs x) (eq-eqb x x refl),
+          or_right (eqb x w.0) (has_place xs w.0) w.1,
+          on,
+          w.2,
+        )
+    by rest false off =
+        let none : num (test x) ≡ 0 = rw off refl in
+        let more : 1 < count_by test xs = omega (arith, many, count-cons test x xs, none) in
+        let w = rest more in
+        (w.0, w.1, w.2, or_right (eqb x w.0) (has_place xs w.0) w.3, or_right (eqb x w.1) (has_place xs w.1) w.4, w.5, w.6)
+
+-- more than one cell of the house has no 0
+abbrev many_in : Candidates → CountHouse → Bool
+many_in K house = ltb 1 (count_by (λ d. not (K d 0)) house.places)
+
+pair-of : (cells : ℕ) (K : Candidates) (houses : List CountHouse) → AllByRecursion (IsSingle cells) houses
+    → list_any (many_in K) houses ≡ true
+    → (d : ℕ) × (e : ℕ) × (d < cells) × (d ≢ e) × (K d 0 ≡ false) × (K e 0 ≡ false)
+    × (list_any (λ house. has_place house.places d && has_place house.places e) houses ≡ true)
+pair-of cells K [] each some = absurd (false≢true some)
+pair-of cells K (house ∷ houses) (is, each) some = elim (or_cases (many_in K house) (list_any (many_in K) houses) some) [
+  | inl here ↦
+      let w = count-pair (λ d. not (K d 0)) house.places (distinct-from house.places is.is.different)
+      (ltb-true 1 (count_by (λ d. not (K d 0)) house.places) here) in (
+        w.0,
+        w.1,
+        is.is.within w.0 w.3,
+        w.2,
+        not-true (K w.0 0) w.5,
+        not-true (K w.1 0) w.6,
+        or_left (has_place house.places w.0 && has_place house.places w.1)
+            (list_any (λ house. has_place house.places w.0 && has_place house.places w.1) houses) (and_from _ _ w.3 w.4),
+      )
+  | inr more ↦
+      let w = pair-of cells K houses each more in (
+        w.0,
+        w.1,
+        w.2,
+        w.3,
+        w.4,
+        w.5,
+        or_right (has_place house.places w.0 && has_place house.places w.1)
+            (list_any (λ house. has_place house.places w.0 && has_place house.places w.1) houses) w.6,
+      )
+]
+
+few-of : (cells : ℕ) (K : Candidates) (houses : List CountHouse) → AllByRecursion (IsSingle cells) houses
+    → list_any (many_in K) houses ≡ false → AllByRecursion (IsOneAtMost cells (zeros_of K)) houses
+few-of cells K [] each none = tt
+few-of cells K (house ∷ houses) (is, each) none =
+    let off = or_parts (many_in K house) (list_any (many_in K) houses) none in (
+      record {
+        is = is.is;
+        least_is = is.least_is;
+        most_is = is.most_is;
+        few = ltb-false 1 (count_by (λ d. not (K d 0)) house.places) off.0;
+      },
+      few-of cells K houses each off.1,
+    )
+
+-- ---- visits in another order
+module _ (some all : List CountHouse) (from to : Layers) (fills : Bool) (alive : ArePlanesAlive from)
+    (each_some : AllByRecursion (IsSingle (cells_of from)) some) (each_all : AllByRecursion (IsSingle (cells_of from)) all)
+    (same : AreSame some all) (visited : AreVisited some from to fills) where
+  abbrev cells : ℕ
+  cells = cells_of from
+
+  full : IsFull cells (has from)
+  full = record { low = value-in from; some = alive }
+
+  two : (houses : List CountHouse) → AllByRecursion (IsSingle cells) houses → (d e v : ℕ) → d ≢ e
+      → list_any (λ house. has_place house.places d && has_place house.places e) houses ≡ true
+      → has from d 0 ≡ false → has from e 0 ≡ false → v < 2 → after_houses houses (has from) d v ≡ false
+  two houses each d e v ne on off_d off_e low =
+      visits-two cells houses (has from) d e v
+      (each-more (IsSingle cells) (λ house. IsHouse cells house × (house.most ≡ 1)) houses (λ house is. (is.is, is.most_is)) each)
+      ne on off_d off_e low
+
+  dead : (c : ℕ) → c < cells → ((v : ℕ) → v < 2 → has to c v ≡ false) → ⊥
+  dead c lt none = elim (visited.alive c (rw (visited.further.same_size) lt)) [
+    | inl zero_on ↦ true≢false (sym zero_on ∙ none 0 (omega arith))
+    | inr one_on ↦ true≢false (sym one_on ∙ none 1 (omega arith))
+  ]
+
+  -- a house has two cells that must be ones
+  broken : list_any (many_in (has from)) some ≡ true → AreVisited all from to fills
+  broken many =
+      let w = pair-of cells (has from) some each_some many in
+      record {
+        left = λ e. absurd (dead w.0 w.2 (λ v low. ap (λ (L : Candidates). L w.0 v) (visited.left e) ∙ two some each_some w.0 w.1 v w.3 w.6 w.4 w.5 low));
+        dies = λ e. (
+          w.0,
+          w.2,
+          λ v low. two all each_all w.0 w.1 v w.3
+              (sym (same (λ house. has_place house.places w.0 && has_place house.places w.1)) ∙ w.6) w.4 w.5 low,
+        );
+        alive = visited.alive;
+        further = visited.further;
+      }
+
+  met : (houses : List CountHouse) → AllByRecursion (IsSingle cells) houses → list_any (many_in (has from)) houses ≡ false
+      → after_houses houses (has from) ≡ without_met houses (has from)
+  met houses each none = visits-met houses (has from) full (few-of cells (has from) houses each none)
+
+  -- no house has two
+  whole : list_any (many_in (has from)) some ≡ false → AreVisited all from to fills
+  unfolding without_met
+  whole none =
+      let as_some = met some each_some none in
+      let as_all = met all each_all (sym (same (many_in (has from))) ∙ none) in
+      record {
+        left = λ e. visited.left e ∙ as_some ∙ moved ∙ sym as_all;
+        dies = λ e. let w = visited.dies e in absurd (living w.0 (alive w.0 w.1)
+            (λ v low. ap (λ (L : Candidates). L w.0 v) (sym as_some) ∙ w.2 v low));
+        alive = visited.alive;
+        further = visited.further;
+      }
+    where
+      moved : without_met some (has from) ≡ without_met all (has from)
+      moved = fun_ext λ c. fun_ext λ v. ap (λ (b : Bool). has from c v && not (eqb v 1 && (has from c 0 && b)))
+          (same (λ house. is_met (zeros_of (has from)) house c))
+
+      living : (c : ℕ) → (has from c 0 ≡ true) ⊎ (has from c 1 ≡ true) → ((v : ℕ) → v < 2 → without_met some (has from) c v ≡ false) → ⊥
+      living c value off = by (list_any (λ house. is_met (zeros_of (has from)) house c) some) (off 0 (omega arith)) (off 1 (omega arith)) value
+        where
+          by : (any : Bool) → (has from c 0 && not (false && (has from c 0 && any))) ≡ false
+              → (has from c 1 && not (true && (has from c 0 && any))) ≡ false
+              → (has from c 0 ≡ true) ⊎ (has from c 1 ≡ true) → ⊥
+          by any zero one value = grind (arith, common_steps, cases_Bool (has from c 0), cases_Bool (has from c 1), cases_Bool any)
+
+  pub visited-any-order : AreVisited all from to fills
+  visited-any-order = elim (cases_Bool (list_any (many_in (has from)) some)) [
+    | inl many ↦ broken many
+    | inr none ↦ whole none
+  ]
+
+-- ---- visits that take nothing
+-- the cells of a house have 0 in both boards, or in neither
+abbrev pub AreZerosKept : (ℕ → Bool) → Candidates → Candidates → Type 0
+AreZerosKept has_it K L = (c : ℕ) → has_it c ≡ true → L c 0 ≡ K c 0
+
+module _ (cells : ℕ) (house : CountHouse) (K L : Candidates) (is : IsSingle cells house) (full_K : IsFull cells K) (full_L : IsFull cells L)
+    (inside : IsInside L K) (zeros : AreZerosKept (has_place house.places) K L) (idle : after_house house K ≡ K) where
+  -- not two of its cells must be ones
+  not-two : (d e : ℕ) → d ≢ e → has_place house.places d ≡ true → has_place house.places e ≡ true → K d 0 ≡ false → K e 0 ≡ false → ⊥
+  unfolding after_houses
+  not-two d e ne in_d in_e off_d off_e = elim (full_K.some d (is.is.within d in_d)) [
+    | inl zero_on ↦ true≢false (sym zero_on ∙ off_d)
+    | inr one_on ↦ true≢false (sym one_on ∙ ap (λ (M : Candidates). M d 1) (sym idle)
+        ∙ visits-two cells (house ∷ []) K d e 1 ((is.is, is.most_is), tt) ne (or_left _ false (and_from _ _ in_d in_e)) off_d off_e (omega arith))
+  ]
+
+  none-many : (M : Candidates) → ((c : ℕ) → has_place house.places c ≡ true → M c 0 ≡ K c 0) → list_any (many_in M) (house ∷ []) ≡ false
+  none-many M same = false_from_ne_true _ (λ on. elim (or_cases (many_in M house) false on) [
+    | inr never ↦ false≢true never
+    | inl many ↦
+        let w = count-pair (λ d. not (M d 0)) house.places (distinct-from house.places is.is.different) (ltb-true 1 (count_by (λ d. not (M d 0)) house.places) many) in
+        not-two w.0 w.1 w.2 w.3 w.4 (sym (same w.0 w.3) ∙ not-true (M w.0 0) w.5) (sym (same w.1 w.4) ∙ not-true (M w.1 0) w.6)
+  ])
+
+  left-by : (M : Candidates) → IsFull cells M → ((c : ℕ) → has_place house.places c ≡ true → M c 0 ≡ K c 0)
+      → after_house house M ≡ without_met (house ∷ []) M
+  unfolding after_houses
+  left-by M full same = visits-met (house ∷ []) M full (few-of cells M (house ∷ []) (is, tt) (none-many M same))
+
+  pub single-kept : after_house house L ≡ L
+  unfolding without_met is_met
+  single-kept = left-by L full_L zeros ∙ fun_ext λ c. fun_ext λ v. by c v (cases_Bool (L c v && (eqb v 1 && (L c 0 && is_met (zeros_of L) house c))))
+    where
+      struck : (c v : ℕ) → L c v ≡ true → v ≡ 1 → L c 0 ≡ true → has_place house.places c ≡ true
+          → list_any (λ d. not (L d 0)) house.places ≡ true → ⊥
+      struck c v on one zero_on there some =
+          let w = any-some (λ d. not (L d 0)) house.places some in
+          let off : K w.0 0 ≡ false = sym (zeros w.0 w.1) ∙ not-true (L w.0 0) w.2 in
+          let met : is_met (zeros_of K) house c ≡ true = and_from _ _ there (any-here (λ d. not (K d 0)) house.places w.0 w.1 (ap not off)) in
+          let here : K c 1 ≡ true = rw one at (inside c v on) in
+          let gone : without_met (house ∷ []) K c 1 ≡ true = ap (λ (M : Candidates). M c 1) (sym (left-by K full_K (λ c _. refl)) ∙ idle) ∙ here in
+          true≢false (sym gone ∙ rw (here, inside c 0 zero_on, met) refl)
+
+      by : (c v : ℕ) → ((L c v && (eqb v 1 && (L c 0 && is_met (zeros_of L) house c))) ≡ true)
+          ⊎ ((L c v && (eqb v 1 && (L c 0 && is_met (zeros_of L) house c))) ≡ false)
+          → (L c v && not (eqb v 1 && (L c 0 && (is_met (zeros_of L) house c || false)))) ≡ L c v
+      by c v (inr off) = same (L c v) (eqb v 1) (L c 0) (is_met (zeros_of L) house c) off
+        where
+          same : (a e z i : Bool) → (a && (e && (z && i))) ≡ false → (a && not (e && (z && (i || false)))) ≡ a
+          same a e z i off = grind (arith, common_steps, cases_Bool a, cases_Bool e, cases_Bool z, cases_Bool i)
+      by c v (inl on) =
+          let w = and_parts (L c v) _ on in
+          let u = and_parts (eqb v 1) _ w.1 in
+          let x = and_parts (L c 0) _ u.1 in
+          let y = and_parts (has_place house.places c) _ x.1 in
+          absurd (struck c v w.0 (eqb-true v 1 u.0) x.0 y.0 y.1)
+
+-- houses of one at most whose visits take nothing: nor do they where only ones of their cells were lost since
+pub singles-kept : (cells : ℕ) (houses : List CountHouse) (K L : Candidates) → AllByRecursion (IsSingle cells) houses
+    → IsFull cells K → IsFull cells L → IsInside L K
+    → AreZerosKept (λ c. list_any (λ house. has_place house.places c) houses) K L → after_houses houses K ≡ K → after_houses houses L ≡ L
+unfolding after_houses
+singles-kept cells [] K L each full_K full_L inside zeros idle = refl
+singles-kept cells (house ∷ houses) K L (is, each) full_K full_L inside zeros idle =
+    let first = idle-first house houses K idle in
+    rw (single-kept cells house K L is full_K full_L inside (λ c on. zeros c (or_left (has_place house.places c) _ on)) first)
+    (singles-kept cells houses K L each full_K full_L inside (λ c on. zeros c (or_right (has_place house.places c) _ on)) (rw first at idle))
+
+-- ---- visits of houses of one at most that leave each cell a value
+-- no cell loses 0
+pub singles-zeros : (cells : ℕ) (houses : List CountHouse) (K : Candidates) → AllByRecursion (IsSingle cells) houses → IsFull cells K
+    → IsFull cells (after_houses houses K) → (c : ℕ) → after_houses houses K c 0 ≡ K c 0
+unfolding without_met
+singles-zeros cells houses K each full after c = elim (cases_Bool (list_any (many_in K) houses)) [
+  | inr none ↦ ap (λ (M : Candidates). M c 0) (visits-met houses K full (few-of cells K houses each none)) ∙ and-true (K c 0)
+  | inl many ↦
+      let w = pair-of cells K houses each many in
+      let gone : (v : ℕ) → v < 2 → after_houses houses K w.0 v ≡ false = λ v low. visits-two cells houses K w.0 w.1 v
+      (each-more (IsSingle cells) (λ house. IsHouse cells house × (house.most ≡ 1)) houses (λ house is. (is.is, is.most_is)) each) w.3 w.6 w.4 w.5 low in
+      elim (after.some w.0 w.2) [
+        | inl zero_on ↦ absurd (true≢false (sym zero_on ∙ gone 0 (omega arith)))
+        | inr one_on ↦ absurd (true≢false (sym one_on ∙ gone 1 (omega arith)))
+      ]
+]
+
+-- so others stay idle
+pub single-keeps : (cells : ℕ) (visited house : CountHouse) → IsSingle cells visited → IsSingle cells house → Keeps cells visited house
+unfolding after_houses
+single-keeps cells visited house is other K full still idle = single-kept cells house K (after_house visited K) other full still
+    (after-inside visited K) (λ c _. singles-zeros cells (visited ∷ []) K (is, tt) full still c) idle

@@ -1,0 +1,163 @@
+-- Visits of the white cells of Light Up on planes.
+use Rattle.fields_core.proofs.Common.{ArePieces, ArePlanesAlive, AreVisited, Bool, Column, Extent, IsColumnRun, IsFurther, IsHouse, IsHouseOf, IsLight, IsRowRun, Layers, Light, List, Piece, Row, and-false, and-true, and_from, and_parts, any_below, any_below-none, any_below-some, ap, arith, cases_Bool, cases_eq, column_house, column_run, common_steps, count_below, count_below-pos, count_below-same, crosses, distinct-from, div-mul-add, eq-eqb, eqb, eqb-true, false, false_from_ne_true, has_bit, has_place, houses_below, inl, inr, joined_in_column, joined_in_row, length, lies_in, lies_in_first, light_cells, light_houses, lit_house, lt-ltb, ltb-true, mod-lt, ne_eqb, not, number_house, one_at_least, place-column, place-in, refl, row_house, row_run, seen_from, subst, sym, true, true≢false, white, ℕ, ◌%◌, ◌&&◌, ◌*◌, ◌+◌, ◌/◌, ◌<◌, ◌||◌, ◌∙◌, ◌≡◌, ◌≤◌}
+use Rattle.fields_core.proofs.CellLemmas.{has-append, same-truth}
+use Rattle.fields_core.proofs.LightCounting.{column-run-joined, in-column-run, in-row-run, light-board, light-counting, row-run-joined}
+use Rattle.fields_core.proofs.LightHouseLaws.{column-parts, column-white-end, row-parts, row-self, white-in}
+use Rattle.fields_core.proofs.LightNumberVisits.{both_pieces, lies-both, pieces-apart}
+use Rattle.fields_core.proofs.LightRunBegins.{row-white-start}
+use Rattle.fields_core.proofs.PartCounts.{place-count}
+use Rattle.fields_core.proofs.PartLemmas.{counted-more, counted-none}
+use Rattle.fields_core.proofs.PlaceLists.{count-every, filter-has}
+use Rattle.fields_core.proofs.TentBeside.{cell-in, row-in, whole-cell}
+use Rattle.fields_core.proofs.TentVisits.{IsVisitOf}
+use Rattle.fields_core.proofs.VisitLemmas.{among-back, among-below, among-house, among-one, visited-none, visited-one}
+
+-- ---- the house of a white cell is a house
+pub lit-is : (p : Light) {c : ℕ} → IsLight p → c < light_cells p → white p c ≡ true → IsHouse (light_cells p) (one_at_least (seen_from p c))
+unfolding light_houses
+lit-is p {c} lawful lt on =
+    among-house _ (light_houses p) (light_cells p) (light-counting lawful).are_houses
+    (among-back _ (houses_below (number_house p) (light_cells p)) _
+    (among-back _ (houses_below (row_house p) (light_cells p)) _
+    (among-back _ (houses_below (column_house p) (light_cells p)) _
+    (among-below _ (lit_house p) c (light_cells p) lt (rw on (among-one _))))))
+
+-- ---- the cells that a cell sees, by the words of its runs
+-- the runs of a cell as words, and planes of words that hold a line
+pub record AreRunsAt (p : Light) (y x row_bits column_bits others : ℕ) (from : Layers) (room : ℕ) : Type 0 where
+  pub lawful : IsLight p
+  pub y_in : y < p.size.h
+  pub x_in : x < p.size.w
+  pub row_is : IsRowRun p (y * p.size.w + x) row_bits
+  pub column_is : IsColumnRun p (y * p.size.w + x) column_bits
+  pub others_is : (k : ℕ) → has_bit others k ≡ (has_bit column_bits k && not (eqb k y))
+  pub size : from.size ≡ p.size
+  pub alive : ArePlanesAlive from
+  pub wide : p.size.w ≤ room
+  pub tall : p.size.h ≤ room
+
+module _ {p : Light} {y x row_bits column_bits others : ℕ} {from : Layers} {room : ℕ} (s : AreRunsAt p y x row_bits column_bits others from room) where
+  abbrev cell : ℕ
+  cell = y * p.size.w + x
+
+  y_in : y < p.size.h
+  y_in = s.y_in
+
+  x_in : x < p.size.w
+  x_in = s.x_in
+
+  some : 0 < p.size.w
+  some = omega (arith, x_in)
+
+  cell_in : cell < light_cells p
+  cell_in = place-in p.size.w p.size.h y x y_in x_in
+
+  at_row : (c : ℕ) → c / p.size.w ≡ y → cell / p.size.w * p.size.w + c % p.size.w ≡ c
+  at_row c same = rw (div-mul-add y p.size.w x x_in, ← same) (sym (whole-cell p.size.w c))
+
+  at_column : (c : ℕ) → c % p.size.w ≡ x → c / p.size.w * p.size.w + cell % p.size.w ≡ c
+  at_column c same = rw (place-column p.size.w y x x_in, ← same) (sym (whole-cell p.size.w c))
+
+  row-run-has : (c : ℕ) → has_place (row_run p cell) c ≡ crosses (Row y) row_bits (c / p.size.w) (c % p.size.w)
+  unfolding crosses
+  row-run-has c = same-truth _ _
+      (λ there.
+      let joined = row-run-joined p cell c there in
+      let same : c / p.size.w ≡ y = sym (row-parts p cell c joined).0 ∙ div-mul-add y p.size.w x x_in in
+      and_from _ _ (eq-eqb (c / p.size.w) y same)
+      (s.row_is (c % p.size.w) ∙ and_from _ _ (lt-ltb (c % p.size.w) p.size.w (mod-lt c some)) (ap (joined_in_row p cell) (at_row c same) ∙ joined)))
+      (λ on.
+      let parts = and_parts _ _ on in
+      let same = eqb-true (c / p.size.w) y parts.0 in
+      let joined = (and_parts _ _ (sym (s.row_is (c % p.size.w)) ∙ parts.1)).1 in
+      in-row-run p cell c some (ap (joined_in_row p cell) (sym (at_row c same)) ∙ joined))
+
+  column-run-has : (c : ℕ) → has_place (column_run p cell) c ≡ crosses (Column x) column_bits (c / p.size.w) (c % p.size.w)
+  unfolding crosses
+  column-run-has c = same-truth _ _
+      (λ there.
+      let joined = column-run-joined p cell c there in
+      let same : c % p.size.w ≡ x = sym (column-parts p cell c joined).0 ∙ place-column p.size.w y x x_in in
+      let inside = white-in p c (light-board s.lawful).long (column-white-end p cell c some joined) in
+      and_from _ _ (eq-eqb (c % p.size.w) x same)
+      (s.column_is (c / p.size.w) ∙ and_from _ _ (lt-ltb (c / p.size.w) p.size.h (row-in p.size.h c some inside)) (ap (joined_in_column p cell) (at_column c same) ∙ joined)))
+      (λ on.
+      let parts = and_parts _ _ on in
+      let same = eqb-true (c % p.size.w) x parts.0 in
+      let both = and_parts _ _ (sym (s.column_is (c / p.size.w)) ∙ parts.1) in
+      let inside = cell-in p.size.h some (ltb-true (c / p.size.w) p.size.h both.0) in
+      in-column-run p cell c some inside (ap (joined_in_column p cell) (sym (at_column c same)) ∙ both.1))
+
+  -- the others of the column are those at other places
+  other-at : (c : ℕ) → c % p.size.w ≡ x → eqb c cell ≡ eqb (c / p.size.w) y
+  other-at c same = same-truth _ _
+      (λ on. eq-eqb (c / p.size.w) y (rw (eqb-true c cell on) (div-mul-add y p.size.w x x_in)))
+      (λ on. eq-eqb c cell (whole-cell p.size.w c ∙ rw (eqb-true (c / p.size.w) y on, same) refl))
+
+  seen-has : (c : ℕ) → has_place (seen_from p cell) c ≡ lies_in_first p.size.w (both_pieces y x row_bits others) 2 c
+  unfolding seen_from crosses
+  seen-has c =
+      has-append (row_run p cell) _ c
+      ∙ rw (row-run-has c, filter-has (λ d. not (eqb d cell)) (column_run p cell) c, column-run-has c, lies-both p.size.w y x row_bits others c, s.others_is (c / p.size.w))
+      (ap (λ b. (eqb (c / p.size.w) y && has_bit row_bits (c % p.size.w)) || b) (elim (cases_eq (c % p.size.w) x) [
+        | inl same ↦ rw (other-at c same, eq-eqb (c % p.size.w) x same) (by (has_bit column_bits (c / p.size.w)) (eqb (c / p.size.w) y))
+        | inr ne ↦ rw (ne_eqb (c % p.size.w) x ne) refl
+      ]))
+    where
+      by : (a b : Bool) → ((true && a) && not b) ≡ (true && (a && not b))
+      by a b = grind (arith, common_steps, cases_Bool a, cases_Bool b)
+
+  -- a white cell has itself in its run, a black one has no run
+  white-run : any_below (has_bit row_bits) room ≡ true → white p cell ≡ true
+  white-run on =
+      let k = any_below-some (has_bit row_bits) room on in
+      row-white-start p cell _ (and_parts _ _ (sym (s.row_is k.0) ∙ k.2)).1
+
+  pub black-visited : any_below (has_bit row_bits) room ≡ false → AreVisited (lit_house p cell) from from true
+  black-visited none = rw black (visited-none s.alive)
+    where
+      black : white p cell ≡ false
+      black = false_from_ne_true _ (λ on.
+          let here : cell / p.size.w * p.size.w + x ≡ cell = rw (div-mul-add y p.size.w x x_in) refl in
+          let own = ap (joined_in_row p cell) here ∙ row-self p cell on in
+          true≢false (sym (s.row_is x ∙ and_from _ _ (lt-ltb x p.size.w x_in) own) ∙ any_below-none (has_bit row_bits) room none x (omega (arith, s.wide))))
+
+  -- ---- the house as pieces of the two lines
+  abbrev pieces : List Piece
+  pieces = both_pieces y x row_bits others
+
+  abbrev most : ℕ
+  most = count_below (has_bit row_bits) room + count_below (has_bit others) room
+
+  apart : ArePieces p.size pieces
+  apart = pieces-apart p.size y x row_bits others y_in x_in (λ _ on. true≢false (sym on ∙ s.others_is y ∙ rw (eq-eqb y y refl) (and-false (has_bit column_bits y))))
+
+  pub pieces-in : ArePieces from.size pieces
+  pieces-in = subst (λ (e : Extent). ArePieces e pieces) (sym s.size) apart
+
+  module _ (on : any_below (has_bit row_bits) room ≡ true) where
+    pub some-cell : 1 ≤ most
+    some-cell = let k = any_below-some (has_bit row_bits) room on in omega (arith, count_below-pos (has_bit row_bits) room k.0 k.1 k.2)
+
+    house_is : IsHouse (light_cells p) (one_at_least (seen_from p cell))
+    house_is = lit-is p s.lawful cell_in (white-run on)
+
+    house-long : length (seen_from p cell) ≡ most
+    unfolding lies_in
+    house-long =
+        let board = record from { size = p.size } in
+        let row = counted-more board 0 row_bits room (λ _. true) refl apart (omega arith) s.wide (λ k on. ltb-true k _ (and_parts _ _ (sym (s.row_is k) ∙ on)).0) (λ c. sym (and-true _)) in
+        let column = counted-more board 1 others room (λ _. true) refl apart (omega arith) s.tall
+        (λ k on. ltb-true k _ (and_parts _ _ (sym (s.column_is k) ∙ (and_parts _ _ (sym (s.others_is k) ∙ on)).0)).0) (λ c. sym (and-true _)) in
+        let all = place-count (λ _. true) (seen_from p cell) (light_cells p) (distinct-from _ house_is.different) house_is.within
+        ∙ count_below-same _ (λ c. lies_in_first p.size.w pieces 2 c && true) (light_cells p) (λ c _. ap (λ b. b && true) (seen-has c)) in
+        omega (arith, count-every (λ _. true) (seen_from p cell) (λ _ _. refl), all, row, column, counted-none p.size.w pieces (light_cells p) (λ _. true))
+
+    pub house-of : IsHouseOf from.size pieces 1 most (one_at_least (seen_from p cell))
+    house-of = subst (λ (e : Extent). IsHouseOf e pieces 1 most (one_at_least (seen_from p cell))) (sym s.size)
+        (record { is = house_is; least_is = refl; most_is = house-long; cells = seen-has })
+
+    pub lit-visited : {to : Layers} {fills : Bool} → IsVisitOf pieces 1 most from to fills → ArePlanesAlive to → IsFurther from to → AreVisited (lit_house p cell) from to fills
+    lit-visited visit alive further =
+        let told = visit _ house-of in
+        rw (white-run on) (visited-one house-of.is (omega (arith, house-long, some-cell)) told.0 told.1 alive further)

@@ -1,0 +1,253 @@
+-- Visits of the numbers of Light Up on planes.
+use Rattle.fields_core.proofs.Common.{ArePieces, ArePlanesAlive, AreVisited, Black, Bool, Column, Extent, IsBroken, IsColumnOf, IsFurther, IsHouse, IsHouseOf, IsLight, Layers, Light, List, Numbered, Piece, Row, White, [], after_house, after_houses, and-false, and_from, and_parts, any_below, any_below-none, any_below-some, arith, beside, cases_Bool, cases_eq, cases_lt, common_steps, crosses, div-mul-add, eq-eqb, eqb, eqb-true, exactly, false, filter, fun_ext, further-none, get_or, get_or-set_other, get_or-set_same, has, has_bit, has_place, houses_below, inl, inr, le-ltb, length, length-map, lies_in, lies_in_first, light_cells, light_houses, lines_beside, lt-ltb, ltb, ltb-true, map, map-set, ne_eqb, not, number_house, number_of, or_cases, or_left, or_parts, or_right, piece_at, place-column, place-in, refl, set, slice_index, subst, suc, sym, true, true≢false, white, zero, ℕ, ◌%◌, ◌&&◌, ◌*◌, ◌+◌, ◌-◌, ◌/◌, ◌<◌, ◌||◌, ◌∙◌, ◌∷◌, ◌≡◌, ◌≤◌}
+use Rattle.fields_core.proofs.AtMostLemmas.{others-stay}
+use Rattle.fields_core.proofs.CellLemmas.{cell-is, same-truth}
+use Rattle.fields_core.proofs.LightCounting.{light-counting}
+use Rattle.fields_core.proofs.TentBeside.{whole-cell}
+use Rattle.fields_core.proofs.PlaceLists.{filter-has}
+use Rattle.fields_core.proofs.TentTreeWords.{beside-has}
+use Rattle.fields_core.proofs.VisitLemmas.{among-below, among-front, among-house, among-one, visited-none}
+
+-- ---- the house of a number is a house
+pub number-is : (p : Light) {c n : ℕ} → IsLight p → c < light_cells p → get_or p.cells c Black ≡ Numbered n
+    → IsHouse (light_cells p) (exactly n (filter (white p) (beside p.size c)))
+unfolding light_houses
+number-is p {c} {n} lawful lt e =
+    among-house _ (light_houses p) (light_cells p) (light-counting lawful).are_houses
+    (among-front _ (houses_below (number_house p) (light_cells p)) _
+    (among-below _ (number_house p) c (light_cells p) lt (rw e (among-one _))))
+
+-- ---- a word for each column: one more is written
+pub columns-more : {W : Type 0} (bits : W → ℕ) (words : List W) (n : ℕ) (size : Extent) (passes : ℕ → Bool) (word : W) → n < length words
+    → ((x : ℕ) → x < n → IsColumnOf size passes x (slice_index (map bits words) x)) → IsColumnOf size passes n (bits word)
+    → (x : ℕ) → x < n + 1 → IsColumnOf size passes x (slice_index (map bits (set words n word)) x)
+columns-more bits words n size passes word lt written is x less y = rw (map-set bits words n word) (elim (cases_eq x n) [
+  | inl e ↦ rw (e, get_or-set_same (map bits words) n (bits word) 0 (omega (arith, lt, length-map words bits))) (is y)
+  | inr ne ↦ rw (get_or-set_other (map bits words) n x (bits word) 0 ne) (written x (omega arith) y)
+])
+
+-- ---- the cells beside a cell, by row and column
+-- the number before one and the number after it
+abbrev next_to : ℕ → ℕ → ℕ → Bool
+next_to n a k = (ltb 0 a && eqb k (a - 1)) || (ltb (a + 1) n && eqb k (a + 1))
+
+next-is : (n a k : ℕ) → a < n → next_to n a k ≡ ((eqb k (a + 1) || eqb a (k + 1)) && ltb k n)
+next-is n a k lt = same-truth _ _
+    (λ on. elim (or_cases (ltb 0 a && eqb k (a - 1)) (ltb (a + 1) n && eqb k (a + 1)) on) [
+      | inl before ↦
+          let parts = and_parts (ltb 0 a) (eqb k (a - 1)) before in
+          let pos = ltb-true 0 a parts.0 in
+          let e = eqb-true k (a - 1) parts.1 in
+          and_from _ _ (or_right (eqb k (a + 1)) (eqb a (k + 1)) (eq-eqb a (k + 1) (omega arith))) (lt-ltb k n (omega arith))
+      | inr after ↦
+          let parts = and_parts (ltb (a + 1) n) (eqb k (a + 1)) after in
+          let less = ltb-true (a + 1) n parts.0 in
+          let e = eqb-true k (a + 1) parts.1 in
+          and_from _ _ (or_left (eqb k (a + 1)) (eqb a (k + 1)) parts.1) (lt-ltb k n (omega arith))
+    ])
+    (λ on.
+    let parts = and_parts (eqb k (a + 1) || eqb a (k + 1)) (ltb k n) on in
+    let less = ltb-true k n parts.1 in
+    elim (or_cases (eqb k (a + 1)) (eqb a (k + 1)) parts.0) [
+      | inl after ↦
+          let e = eqb-true k (a + 1) after in
+          or_right (ltb 0 a && eqb k (a - 1)) _ (and_from _ _ (lt-ltb (a + 1) n (omega arith)) after)
+      | inr before ↦
+          let e = eqb-true a (k + 1) before in
+          or_left (ltb 0 a && eqb k (a - 1)) _ (and_from _ _ (lt-ltb 0 a (omega arith)) (eq-eqb k (a - 1) (omega arith)))
+    ])
+
+beside-cell : (size : Extent) (y x d : ℕ) → x < size.w → has_place (beside size (y * size.w + x)) d
+    ≡ ((eqb (d / size.w) y && next_to size.w x (d % size.w)) || (eqb (d % size.w) x && next_to size.h y (d / size.w)))
+beside-cell size y x d lt =
+    beside-has size y x d lt
+    ∙ rw (cell-is size.w (y - 1) x d lt, cell-is size.w (y + 1) x d lt, left, right)
+    (four (ltb 0 y) (eqb (d / size.w) (y - 1)) (ltb 0 x) (eqb (d % size.w) (x - 1)) (ltb (x + 1) size.w) (eqb (d % size.w) (x + 1)) (ltb (y + 1) size.h) (eqb (d / size.w) (y + 1)) (eqb (d / size.w) y) (eqb (d % size.w) x))
+  where
+    left : (ltb 0 x && eqb (y * size.w + (x - 1)) d) ≡ (ltb 0 x && (eqb (d / size.w) y && eqb (d % size.w) (x - 1)))
+    left = rw (cell-is size.w y (x - 1) d (omega arith)) refl
+
+    right : (ltb (x + 1) size.w && eqb (y * size.w + (x + 1)) d) ≡ (ltb (x + 1) size.w && (eqb (d / size.w) y && eqb (d % size.w) (x + 1)))
+    right = elim (cases_lt (x + 1) size.w) [
+      | inl less ↦ rw (cell-is size.w y (x + 1) d less) refl
+      | inr high ↦ rw (le-ltb (x + 1) size.w high) refl
+    ]
+
+    two : (a b c d e : Bool) → ((a && (e && b)) || (c && (e && d))) ≡ (e && ((a && b) || (c && d)))
+    two a b c d e = grind (arith, common_steps, cases_Bool a, cases_Bool b, cases_Bool c, cases_Bool e)
+
+    ends : (a b c d f : Bool) → ((a && (b && f)) || (c && (d && f))) ≡ (f && ((a && b) || (c && d)))
+    ends a b c d f = grind (arith, common_steps, cases_Bool a, cases_Bool b, cases_Bool c, cases_Bool d, cases_Bool f)
+
+    turn : (u l r d : Bool) → (((u || l) || r) || d) ≡ ((l || r) || (u || d))
+    turn u l r d = grind (arith, common_steps, cases_Bool u, cases_Bool l, cases_Bool r, cases_Bool d)
+
+    four : (a b g h i j k l e f : Bool) → ((((a && (b && f)) || (g && (e && h))) || (i && (e && j))) || (k && (l && f)))
+        ≡ ((e && ((g && h) || (i && j))) || (f && ((a && b) || (k && l))))
+    four a b g h i j k l e f = turn (a && (b && f)) (g && (e && h)) (i && (e && j)) (k && (l && f)) ∙ rw (two g h i j e, ends a b k l f) refl
+
+-- ---- the white cells beside a cell, as words of its row and of its column
+abbrev pub both_pieces : ℕ → ℕ → ℕ → ℕ → List Piece
+both_pieces y x row column = record { line = Row y; bits = row } ∷ record { line = Column x; bits = column } ∷ []
+
+-- the word has those of the numbers beside one that pass
+abbrev pub IsBeside : ℕ → (ℕ → Bool) → ℕ → ℕ → Type 0
+IsBeside n passes a bits = (k : ℕ) → has_bit bits k ≡ ((eqb k (a + 1) || eqb a (k + 1)) && (ltb k n && passes k))
+
+pub beside-word : (n room a both near word : ℕ) (passes : ℕ → Bool) → n ≤ room
+    → ((k : ℕ) → has_bit both k ≡ (has_bit near k && has_bit word k))
+    → ((k : ℕ) → k < room → has_bit near k ≡ (eqb k (a + 1) || eqb a (k + 1)))
+    → ((k : ℕ) → has_bit word k ≡ (ltb k n && passes k)) → IsBeside n passes a both
+beside-word n room a both near word passes fits both_is near_is word_is k = both_is k ∙ elim (cases_lt k room) [
+  | inl less ↦ rw (near_is k less, word_is k) refl
+  | inr high ↦ rw (word_is k, le-ltb k n (omega arith), and-false (has_bit near k), and-false (eqb k (a + 1) || eqb a (k + 1))) refl
+]
+
+-- not the number itself
+pub beside-other : (n : ℕ) (passes : ℕ → Bool) (a bits : ℕ) → IsBeside n passes a bits → has_bit bits a ≡ false
+beside-other n passes a bits is = is a ∙ rw (ne_eqb a (a + 1) (λ e. absurd (omega arith))) refl
+
+pub lies-both : (w y x row column d : ℕ) → lies_in_first w (both_pieces y x row column) 2 d
+    ≡ ((eqb (d / w) y && has_bit row (d % w)) || (eqb (d % w) x && has_bit column (d / w)))
+unfolding lies_in_first any_below lies_in crosses
+lies-both w y x row column d = refl
+
+-- the pieces have no cell together unless both have the cell where the lines cross
+pub pieces-apart : (size : Extent) (y x row column : ℕ) → y < size.h → x < size.w → (has_bit row x ≡ true → has_bit column y ≡ true → ⊥)
+    → ArePieces size (both_pieces y x row column)
+unfolding lies_in crosses
+pieces-apart size y x row column y_in x_in off = record { lines_in = lines; apart = apart }
+  where
+    pieces : List Piece
+    pieces = both_pieces y x row column
+
+    lines : (k : ℕ) → k < 2 → number_of (piece_at pieces k).line < lines_beside size (piece_at pieces k).line
+    lines zero less = y_in
+    lines (suc zero) less = x_in
+    lines (suc (suc k)) less = absurd (omega arith)
+
+    never : (c : ℕ) → lies_in size.w (piece_at pieces 0) c ≡ true → lies_in size.w (piece_at pieces 1) c ≡ true → ⊥
+    never c on_row on_column =
+        let in_row = and_parts (eqb (c / size.w) y) (has_bit row (c % size.w)) on_row in
+        let in_column = and_parts (eqb (c % size.w) x) (has_bit column (c / size.w)) on_column in
+        off (rw (eqb-true (c % size.w) x in_column.0) at in_row.1) (rw (eqb-true (c / size.w) y in_row.0) at in_column.1)
+
+    apart : (j k c : ℕ) → j < 2 → k < 2 → lies_in size.w (piece_at pieces j) c ≡ true → lies_in size.w (piece_at pieces k) c ≡ true → j ≡ k
+    apart zero zero c lj lk on_j on_k = refl
+    apart zero (suc zero) c lj lk on_j on_k = absurd (never c on_j on_k)
+    apart (suc zero) zero c lj lk on_j on_k = absurd (never c on_k on_j)
+    apart (suc zero) (suc zero) c lj lk on_j on_k = refl
+    apart (suc (suc j)) k c lj lk on_j on_k = absurd (omega arith)
+    apart j (suc (suc k)) c lj lk on_j on_k = absurd (omega arith)
+
+module _ (p : Light) (lawful : IsLight p) (y x row column : ℕ) (y_in : y < p.size.h) (x_in : x < p.size.w)
+    (row_is : IsBeside p.size.w (λ k. white p (y * p.size.w + k)) x row) (column_is : IsBeside p.size.h (λ k. white p (k * p.size.w + x)) y column) where
+  abbrev cell : ℕ
+  cell = y * p.size.w + x
+
+  abbrev pieces : List Piece
+  pieces = both_pieces y x row column
+
+  abbrev places : List ℕ
+  places = filter (white p) (beside p.size cell)
+
+  some : 0 < p.size.w
+  some = omega (arith, x_in)
+
+  cell_in : cell < light_cells p
+  cell_in = place-in p.size.w p.size.h y x y_in x_in
+
+  row-part : (d : ℕ) → ((eqb (d / p.size.w) y && next_to p.size.w x (d % p.size.w)) && white p d) ≡ (eqb (d / p.size.w) y && has_bit row (d % p.size.w))
+  row-part d = elim (cases_eq (d / p.size.w) y) [
+    | inl same ↦
+        let at : y * p.size.w + d % p.size.w ≡ d = rw (← same) (sym (whole-cell p.size.w d)) in
+        rw (eq-eqb (d / p.size.w) y same, next-is p.size.w x (d % p.size.w) x_in, row_is (d % p.size.w), at) (by _ (ltb (d % p.size.w) p.size.w) (white p d))
+    | inr ne ↦ rw (ne_eqb (d / p.size.w) y ne) refl
+  ]
+    where
+      by : (a b c : Bool) → ((true && (a && b)) && c) ≡ (true && (a && (b && c)))
+      by a b c = grind (arith, common_steps, cases_Bool a, cases_Bool b)
+
+  column-part : (d : ℕ) → ((eqb (d % p.size.w) x && next_to p.size.h y (d / p.size.w)) && white p d) ≡ (eqb (d % p.size.w) x && has_bit column (d / p.size.w))
+  column-part d = elim (cases_eq (d % p.size.w) x) [
+    | inl same ↦
+        let at : d / p.size.w * p.size.w + x ≡ d = rw (← same) (sym (whole-cell p.size.w d)) in
+        rw (eq-eqb (d % p.size.w) x same, next-is p.size.h y (d / p.size.w) y_in, column_is (d / p.size.w), at) (by _ (ltb (d / p.size.w) p.size.h) (white p d))
+    | inr ne ↦ rw (ne_eqb (d % p.size.w) x ne) refl
+  ]
+    where
+      by : (a b c : Bool) → ((true && (a && b)) && c) ≡ (true && (a && (b && c)))
+      by a b c = grind (arith, common_steps, cases_Bool a, cases_Bool b)
+
+  places-are : (d : ℕ) → has_place places d ≡ lies_in_first p.size.w pieces 2 d
+  places-are d =
+      filter-has (white p) (beside p.size cell) d
+      ∙ rw (beside-cell p.size y x d x_in, lies-both p.size.w y x row column d, ← row-part d, ← column-part d) (by _ _ (white p d))
+    where
+      by : (a b c : Bool) → ((a || b) && c) ≡ ((a && c) || (b && c))
+      by a b c = grind (arith, common_steps, cases_Bool a, cases_Bool b, cases_Bool c)
+
+  module _ (n : ℕ) (numbered : get_or p.cells cell Black ≡ Numbered n) (from : Layers) (size : from.size ≡ p.size) where
+    house_is : IsHouse (light_cells p) (exactly n places)
+    house_is = number-is p lawful cell_in numbered
+
+    pub number-house-of : IsHouseOf from.size pieces n n (exactly n places)
+    number-house-of = subst (λ (e : Extent). IsHouseOf e pieces n n (exactly n places)) (sym size) (record { is = house_is; least_is = refl; most_is = refl; cells = places-are })
+
+    pub number-filled : {to : Layers} → has to ≡ after_house (exactly n places) (has from) → ArePlanesAlive to → IsFurther from to
+        → AreVisited (number_house p cell) from to true
+    unfolding after_houses
+    number-filled {to} left alive further = rw numbered (record {
+      left = λ _. left;
+      dies = λ e. absurd (true≢false e);
+      alive = alive;
+      further = further;
+    })
+
+    -- a house that has no filling, if it has a cell
+    pub number-short : (room both : ℕ) {to : Layers} {any : Bool} → p.size.w ≤ room → p.size.h ≤ room
+        → ((k : ℕ) → has_bit both k ≡ (has_bit row k || has_bit column k)) → any ≡ any_below (has_bit both) room
+        → IsBroken (exactly n places) (has from) → to ≡ from → ArePlanesAlive from → AreVisited (number_house p cell) from to (not any)
+    unfolding after_houses
+    number-short room both {to} {any} wide tall both_is any_is broken same alive = rw (same, numbered) (elim (cases_Bool any) [
+      | inl on ↦
+          let w = shown (any_below-some (has_bit both) room (sym any_is ∙ on)) in
+          let there = places-are w.0 ∙ lies-both p.size.w y x row column w.0 ∙ w.1 in
+          rw on (record {
+            left = λ e. absurd (true≢false (sym e));
+            dies = λ _. (w.0, rw size (house_is.within w.0 there), λ v low. broken w.0 v there low);
+            alive = alive;
+            further = further-none from;
+          })
+      | inr off ↦ rw off (record {
+        left = λ _. fun_ext λ c. fun_ext λ v. sym (others-stay (exactly n places) (has from) c v (places-are c ∙ lies-both p.size.w y x row column c ∙ bare c (sym any_is ∙ off)));
+        dies = λ e. absurd (true≢false e);
+        alive = alive;
+        further = further-none from;
+      })
+    ])
+      where
+        shown : (k : ℕ) × (k < room) × (has_bit both k ≡ true) → (d : ℕ) × (((eqb (d / p.size.w) y && has_bit row (d % p.size.w)) || (eqb (d % p.size.w) x && has_bit column (d / p.size.w))) ≡ true)
+        shown (k, lt, on) = elim (or_cases (has_bit row k) (has_bit column k) (sym (both_is k) ∙ on)) [
+          | inl in_row ↦
+              let less = ltb-true k p.size.w (and_parts _ _ (and_parts _ _ (sym (row_is k) ∙ in_row)).1).0 in
+              (y * p.size.w + k, rw (div-mul-add y p.size.w k less, place-column p.size.w y k less) (or_left (eqb y y && has_bit row k) _ (and_from _ _ (eq-eqb y y refl) in_row)))
+          | inr in_column ↦
+              (k * p.size.w + x, rw (div-mul-add k p.size.w x x_in, place-column p.size.w k x x_in) (or_right _ (eqb x x && has_bit column k) (and_from _ _ (eq-eqb x x refl) in_column)))
+        ]
+
+        none-at : any_below (has_bit both) room ≡ false → (k : ℕ) → (has_bit row k ≡ false) × (has_bit column k ≡ false)
+        none-at none k = elim (cases_lt k room) [
+          | inl less ↦ or_parts (has_bit row k) (has_bit column k) (sym (both_is k) ∙ any_below-none (has_bit both) room none k less)
+          | inr high ↦ (row_is k ∙ rw (le-ltb k p.size.w (omega arith)) (and-false _), column_is k ∙ rw (le-ltb k p.size.h (omega arith)) (and-false _))
+        ]
+
+        bare : (c : ℕ) → any_below (has_bit both) room ≡ false → ((eqb (c / p.size.w) y && has_bit row (c % p.size.w)) || (eqb (c % p.size.w) x && has_bit column (c / p.size.w))) ≡ false
+        bare c none = rw ((none-at none (c % p.size.w)).0, (none-at none (c / p.size.w)).1, and-false (eqb (c / p.size.w) y), and-false (eqb (c % p.size.w) x)) refl
+
+-- ---- a cell without a number
+pub white-visited : (p : Light) (c : ℕ) {from : Layers} → get_or p.cells c Black ≡ White → ArePlanesAlive from → AreVisited (number_house p c) from from true
+white-visited p c e alive = rw e (visited-none alive)
+
+pub black-visited : (p : Light) (c : ℕ) {from : Layers} → get_or p.cells c Black ≡ Black → ArePlanesAlive from → AreVisited (number_house p c) from from true
+black-visited p c e alive = rw e (visited-none alive)

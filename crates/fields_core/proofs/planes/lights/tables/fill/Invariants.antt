@@ -1,9 +1,0 @@
-use Rattle.fields_core.proofs.Common.{length, map, ◌≡◌}
-use Rattle.fields_core.specs.RunWords.{AreFilled}
-use Rattle.fields_core.proofs.planes.lights.tables.fill.Given as goal
-
-abbrev pub invariant-loop-at : goal.invariant-loop-at
-invariant-loop-at g l = record {
-  filled : AreFilled l.first l.stride l.start l.at (g.W.Word.bits l.word) (map g.W.Word.bits l.fn.runs.items) (map g.W.Word.bits l.runs.items);
-  long : length l.runs.items ≡ length l.fn.runs.items;
-}

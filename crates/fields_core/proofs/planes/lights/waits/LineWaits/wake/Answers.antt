@@ -1,7 +1,0 @@
-use Rattle.fields_core.proofs.LightRests.{lines-woken}
-use Rattle.fields_core.proofs.planes.lights.waits.LineWaits.wake.Goals as goal
-
-pub returns : goal.returns
-returns g c = λ p from of was is further rested.
-    lines-woken g.W.Word.bits p c.lost-zeros.result.0 c.lost-zeros.result.1 _ _
-    c.lost-zeros.ensures.zeros c.lost-zeros.ensures.ones of was is further c.woken.ensures rested

@@ -1,9 +1,0 @@
-use Rattle.fields_core.proofs.Common.{◌∙◌}
-use Rattle.fields_core.proofs.TreeWords.{some-beside}
-use Rattle.fields_core.proofs.planes.near.Near.some.Goals as goal
-
-pub returns : goal.returns
-returns g c = λ size passes y x narrow lt is.
-    c.either-2.ensures x
-    ∙ rw (c.either.ensures x, c.either-across.ensures x, c.on.ensures x, c.back.ensures x)
-    (some-beside g.W.Word.bits g.W.Word.room size passes y x c.args.self narrow lt is)

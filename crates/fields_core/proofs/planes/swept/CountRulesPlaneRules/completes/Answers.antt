@@ -1,7 +1,0 @@
-use Rattle.fields_core.proofs.ClosedGrids.{closed-met}
-use Rattle.fields_core.proofs.planes.swept.CountRulesPlaneRules.completes.Goals as goal
-
-pub completes-requires-clause-met : goal.completes-requires-clause-met
-completes-requires-clause-met g c =
-    let rules = c.args.self.now in
-    rw c.puzzle.ensures (closed-met (g.P.CountGame.counts rules.puzzle) rules.counting.are_houses c.requires.closed)

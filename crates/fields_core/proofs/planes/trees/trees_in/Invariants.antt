@@ -1,7 +1,0 @@
-use Rattle.fields_core.proofs.Common.{ltb, ℕ, ◌&&◌, ◌*◌, ◌+◌, ◌≡◌}
-use Rattle.grid_core.specs.Words.{has_bit}
-use Rattle.fields_core.specs.Trees.{wants_tent}
-use Rattle.fields_core.proofs.planes.trees.trees_in.Given as goal
-
-abbrev pub invariant-loop-x : goal.invariant-loop-x
-invariant-loop-x g l = (x : ℕ) → has_bit (g.W.Word.bits l.trees) x ≡ (ltb x l.x && wants_tent l.puzzle (l.y * l.puzzle.size.w + x))

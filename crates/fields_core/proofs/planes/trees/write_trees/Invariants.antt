@@ -1,9 +1,0 @@
-use Rattle.fields_core.proofs.Common.{length, map, slice_index, ℕ, ◌<◌, ◌≡◌}
-use Rattle.fields_core.specs.Trees.{IsRowOf, wants_tent}
-use Rattle.fields_core.proofs.planes.trees.write_trees.Given as goal
-
-abbrev pub invariant-loop-y : goal.invariant-loop-y
-invariant-loop-y g l = record {
-  written : (k : ℕ) → k < l.y → IsRowOf l.puzzle.size.w (wants_tent l.puzzle) k (slice_index (map g.W.Word.bits l.rows.items) k);
-  long : length l.rows.items ≡ length l.fn.rows.items;
-}

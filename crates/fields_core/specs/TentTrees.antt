@@ -1,0 +1,57 @@
+-- The trees of a row of Tents, and words of the cells beside them.
+use Rattle.std.specs.Prelude.{◌≡◌, ℕ, ◌+◌, ◌-◌, ◌*◌, ◌<◌, ◌≤◌, Bool, true, false, not, ◌&&◌, nat_lt, List, count_by}
+use Rattle.std.specs.List.{list_any}
+use Rattle.grid_core.specs.Candidates.{Candidates, any_below}
+use Rattle.grid_core.specs.Extent.{Extent}
+use Rattle.grid_core.specs.Regions.{beside}
+use Rattle.grid_core.specs.Planes.{Layers, has}
+use Rattle.grid_core.specs.Words.{has_bit}
+use Rattle.engine_core.specs.RuleSystem.{has_place}
+use Rattle.gameid_core.specs.Puzzles.{Tents}
+use Rattle.fields_core.specs.CountHouse.{CountHouse, houses_below}
+use Rattle.fields_core.specs.LineWords.{IsRowOf}
+use Rattle.fields_core.specs.TentHouses.{tree_house}
+use Rattle.fields_core.specs.Tents.{tree}
+use Rattle.fields_core.specs.declared.planes.tents.three_rows.ThreeRows.{ThreeRows}
+use Rattle.fields_core.specs.Visits.{without_zeros}
+
+-- the houses of the trees of a row
+abbrev pub trees_of_row : Tents → ℕ → List CountHouse
+trees_of_row p y = houses_below (λ x. tree_house p (y * p.size.w + x)) p.size.w
+
+-- the cell has a tree, and a cell without one is beside it
+unfoldable pub wants_tent : Tents → ℕ → Bool
+wants_tent p c = tree p c && list_any (λ d. not (tree p d)) (beside p.size c)
+
+-- no cell with a tree can have a tent
+abbrev pub AreBare : Tents → Candidates → Type 0
+AreBare p K = (c : ℕ) → tree p c ≡ true → K c 1 ≡ false
+
+-- the words have the cells that pass of a row, of the row above and of the one below, where there are such rows
+pub record IsNear {W : Type 0} (bits : W → ℕ) (size : Extent) (passes : ℕ → Bool) (y : ℕ)
+    (near : ThreeRows W)
+    : Type 0 where
+  pub above : (x : ℕ) → has_bit (bits near.above) x
+      ≡ (nat_lt x size.w && (nat_lt 0 y && passes ((y - 1) * size.w + x)))
+  pub own : IsRowOf size.w passes y (bits near.own)
+  pub below : (x : ℕ) → has_bit (bits near.below) x
+      ≡ (nat_lt x size.w && (nat_lt (y + 1) size.h && passes ((y + 1) * size.w + x)))
+
+-- the word has the places that as many such cells are beside as fit, in whatever row these words have
+abbrev pub AreBeside : {W : Type 0} → (W → ℕ) → ℕ → ThreeRows W → (ℕ → Bool) → W → Type 0
+AreBeside bits room near fits word = (size : Extent) (passes : ℕ → Bool) (y x : ℕ)
+    → size.w ≤ room → x < size.w → IsNear bits size passes y near
+    → has_bit (bits word) x ≡ fits (count_by passes (beside size (y * size.w + x)))
+
+-- whether the cell is beside one of the first n cells of a row, of those at these places
+unfoldable pub is_beside : Extent → ℕ → (ℕ → Bool) → ℕ → ℕ → Bool
+is_beside size y places n c =
+    any_below (λ x. places x && has_place (beside size (y * size.w + x)) c) n
+
+-- 0 was taken from the cells that pass beside these places of the row
+abbrev pub AreTakenBeside : {W : Type 0} → (W → ℕ) → ThreeRows W → W → ℕ → Layers → Layers → Type 0
+AreTakenBeside bits near places y from to = (passes : ℕ → Bool)
+    → IsNear bits from.size passes y near
+    → ((x : ℕ) → has_bit (bits places) x ≡ true → x < from.size.w)
+    → has to ≡ without_zeros (λ c. passes c
+    && is_beside from.size y (has_bit (bits places)) from.size.w c) (has from)

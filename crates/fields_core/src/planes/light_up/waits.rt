@@ -1,0 +1,195 @@
+//! Which numbers, runs and white cells of Light Up wait to be visited.
+
+ghost use Rattle.std.specs.Prelude.{◌≡◌, ℕ, ◌<◌, ◌≤◌, ◌&&◌, nat_lt};
+ghost use Rattle.fields_core.specs.Common.{AreIdle, AreLinesRested, AreLinesWoken, AreLinesWokenSince, ArePlanesOf, AreSettled, AreSpread, Candidates, IsClosedBut, IsLight, Light, has, has_bit, light_cells, light_rules, lit_house, meets_line, numbers_of_row, run_houses, run_lines, waiting_runs};
+
+use gameid_core::LightPuzzle;
+use grid_core::{Planes, Touched, Word};
+
+/// Kinds of runs, in the order of a sweep.
+#[derive(Clone, Copy)]
+pub(crate) enum RunKind {
+    /// Runs along rows.
+    Rows,
+    /// Runs along columns.
+    Columns,
+}
+
+impl RunKind {
+    /// The lines that there are.
+    pub(crate) fn lines<W: Word>(self, planes: &Planes<W>) -> W
+        ensures { (p : Light) → planes.now.size ≡ p.size
+            → (k : ℕ) → has_bit (W.bits result) k ≡ nat_lt k (run_lines p self) }
+    {
+        match self {
+            RunKind::Rows => planes.rows(),
+            RunKind::Columns => planes.columns(),
+        }
+    }
+}
+
+/// The rows and columns whose runs wait. Of the numbers of a row that waits those wait that stand in one of the columns of
+/// numbers. A white cell waits if its house has a cell of both a column and a row of `ones`, in which 1 was lost.
+#[derive(Clone, Copy)]
+pub struct LineWaits<W> {
+    pub(crate) numbers: W,
+    pub(crate) number_columns: W,
+    rows: W,
+    columns: W,
+    pub(crate) ones: Touched<W>,
+}
+
+/// The columns and the rows at these places.
+fn lines<W: Word>(at: W) -> Touched<W>
+    ensures columns { result.columns ≡ at }
+    ensures rows { result.rows ≡ at }
+{
+    Touched {
+        columns: at,
+        rows: at,
+    }
+}
+
+/// Places of the first word, and those of these lines and beside them.
+#[inline(always)]
+fn spread<W: Word>(before: W, lines: W) -> W
+    ensures { AreSpread W.bits W.room before (has_bit (W.bits lines)) result }
+{
+    before.either(lines.on().either(lines).either(lines.back()))
+}
+
+impl<W: Word> LineWaits<W> {
+    /// At these columns and rows everything waits.
+    fn at(places: W) -> LineWaits<W>
+        ensures numbers { result.numbers ≡ places }
+        ensures number_columns { result.number_columns ≡ places }
+        ensures rows { result.rows ≡ places }
+        ensures columns { result.columns ≡ places }
+        ensures one_rows { result.ones.rows ≡ places }
+        ensures one_columns { result.ones.columns ≡ places }
+    {
+        LineWaits {
+            numbers: places,
+            number_columns: places,
+            rows: places,
+            columns: places,
+            ones: lines(places),
+        }
+    }
+
+    /// Everything waits.
+    pub(crate) fn all() -> LineWaits<W>
+        ensures { (p : Light) (K : Candidates) → IsLight p → p.size.w ≤ W.room → p.size.h ≤ W.room
+            → AreLinesRested W.bits p result K }
+    {
+        LineWaits::at(W::all(W::places()))
+    }
+
+    /// What waits too once cells of both a column and a row of these have lost 0, and cells of those 1. While no cell of
+    /// theirs loses 0, runs stay idle, and while none loses 1, white cells do.
+    pub(crate) fn woken(self, zeros: Touched<W>, ones: Touched<W>) -> LineWaits<W>
+        ensures { AreLinesWoken W.bits W.room self zeros ones result }
+    {
+        LineWaits {
+            numbers: spread(self.numbers, zeros.rows.either(ones.rows)),
+            number_columns: spread(self.number_columns, zeros.columns.either(ones.columns)),
+            rows: self.rows.either(zeros.rows),
+            columns: self.columns.either(zeros.columns),
+            ones: Touched {
+                columns: self.ones.columns.either(ones.columns),
+                rows: self.ones.rows.either(ones.rows),
+            },
+        }
+    }
+
+    /// The lines whose runs of this kind wait.
+    pub(crate) fn runs(&self, kind: RunKind) -> W
+        ensures { W.bits result ≡ waiting_runs W.bits self.now kind }
+    {
+        match kind {
+            RunKind::Rows => self.rows,
+            RunKind::Columns => self.columns,
+        }
+    }
+
+    /// The numbers of the row wait no more: they are idle. Once no row waits, no column does.
+    pub(crate) fn settle_numbers(&mut self, y: u8)
+        requires { y < W.room }
+        ensures { (p : Light) (K : Candidates) → p.size.h ≤ W.room
+            → AreLinesRested W.bits p self.old K
+            → AreIdle (numbers_of_row p y) K → AreLinesRested W.bits p self.new K }
+    {
+        self.numbers = self.numbers.but(W::one(usize::from(y)));
+        if !self.numbers.is_some() {
+            self.number_columns = W::none();
+        }
+    }
+
+    /// The runs of this kind wait no more: they are idle.
+    pub(crate) fn settle_runs(&mut self, kind: RunKind)
+        ensures { AreSettled W.bits (λ p. run_houses p kind) (λ p. run_lines p kind)
+            self.old self.new }
+    {
+        match kind {
+            RunKind::Rows => self.rows = W::none(),
+            RunKind::Columns => self.columns = W::none(),
+        }
+    }
+
+    /// The white cells wait no more: they are idle.
+    pub(crate) fn settle_whites(&mut self)
+        ensures { AreSettled W.bits lit_house light_cells self.old self.new }
+    {
+        self.ones = lines(W::none());
+    }
+
+    /// Of these cells of a row those that may wait.
+    pub(crate) fn whites(&self, y: usize, cells: W) -> W
+        requires { y < W.room }
+        ensures { (x : ℕ) → has_bit (W.bits result) x
+            ≡ (has_bit (W.bits cells) x && meets_line W.bits self.now.ones y x) }
+    {
+        if self.ones.rows.has(y) {
+            return cells;
+        }
+        cells.both(self.ones.columns)
+    }
+
+    /// Wakes what may be idle no more since the trail had that length.
+    pub(crate) fn wake(&mut self, planes: &Planes<W>, len: usize)
+        requires { len ≤ planes.now.len }
+        ensures { AreLinesWokenSince W.bits W.room len planes.now self.old self.new }
+    {
+        if planes.len() == len {
+            return;
+        }
+        let (zeros, ones) = planes.lost(len);
+        *self = self.woken(zeros, ones);
+    }
+
+    /// What waits where a closing begins: what the value counts for that the cell `from` has lost, or all where none is named.
+    pub(crate) fn begin(
+        planes: &Planes<W>,
+        _puzzle: &LightPuzzle,
+        from: Option<usize>,
+    ) -> LineWaits<W>
+        requires planes { ArePlanesOf W.room _puzzle.now planes.now }
+        requires closed_but { IsClosedBut (light_rules _puzzle.now) (has planes.now) from }
+        ensures { AreLinesRested W.bits _puzzle.now result (has planes.now) }
+    {
+        let Some(place) = from else {
+            return LineWaits::all();
+        };
+        let (y, x) = planes.split(place);
+        let cell = Touched {
+            columns: W::one(x),
+            rows: W::one(y),
+        };
+        let none = LineWaits::at(W::none());
+        let no_lines = lines(W::none());
+        if planes.row(y as u8, 1).has(x) {
+            return none.woken(cell, no_lines);
+        }
+        none.woken(no_lines, cell)
+    }
+}

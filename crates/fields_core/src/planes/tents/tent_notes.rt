@@ -1,0 +1,114 @@
+//! What Tents keeps beside planes, and the board that a search starts from.
+
+ghost use Rattle.std.specs.Prelude.{◌*◌, ◌+◌, ◌<◌, ◌≡◌, ◌≤◌, length};
+ghost use Rattle.fields_core.specs.Common.{IsRowOf, IsTents, has, is_barred, tent_rules};
+
+use crate::count::game::CountGame;
+use crate::count::rules::CountRules;
+use crate::planes::game::SweepNotes;
+use crate::planes::tents::trees::write_trees;
+use crate::planes::tents::waits::{Kind, Waits};
+use crate::tents::pairs::PairingScratch;
+use engine_core::{Needs, PlaneNotes, Taken};
+use gameid_core::TentsPuzzle;
+use grid_core::{Line, Planes, Word};
+use std::alloc::{AllocError, Global};
+
+/// The trees of each row with a cell beside them that has none, and what waits while a closing goes on.
+#[derive(Drop)]
+pub struct TentNotes<W> {
+    pub(crate) trees: Vec<W>,
+    pub(crate) waits: Waits<W>,
+}
+
+/// The cells of a row that can have no tent.
+fn barred_in<W: Word>(puzzle: &TentsPuzzle, y: usize) -> W
+    requires y_in { y < puzzle.now.size.h }
+    requires narrow { puzzle.now.size.w ≤ W.room }
+    ensures { IsRowOf puzzle.now.size.w (is_barred puzzle.now) y (W.bits result) }
+{
+    let w = usize::from(puzzle.size().w());
+    let mut barred = W::none();
+    for x in 0..w {
+        if puzzle.is_blocked(y * w + x) {
+            barred = barred.either(W::one(x));
+        }
+    }
+    barred
+}
+
+/// Begins with the board that a search of the puzzle starts from. It takes no memory.
+fn start_tents<W: Word>(planes: &mut Planes<W>, puzzle: &TentsPuzzle)
+    requires narrow { puzzle.now.size.w ≤ W.room }
+    requires low { puzzle.now.size.h ≤ W.room }
+    requires few { puzzle.now.size.w * puzzle.now.size.h * 2 ≤ length planes.old.takings }
+    ensures lawful { IsTents puzzle.now }
+    ensures start { has planes.new ≡ (tent_rules puzzle.now).start }
+    ensures size { planes.new.size ≡ puzzle.now.size }
+    ensures room { length planes.new.takings ≡ length planes.old.takings }
+{
+    let size = puzzle.size();
+    planes.begin(size);
+    for y in 0..size.h() {
+        let barred = barred_in(puzzle, usize::from(y));
+        planes.take(Line::Row(y), 1, barred);
+    }
+}
+
+impl<W: Word> PlaneNotes<W, CountRules<TentsPuzzle>> for TentNotes<W> {
+    ghost use Rattle.fields_core.specs.TentNotes.{AreTentsWritten};
+
+    ghost fits = { λ notes _. W.room ≤ length notes.trees.items };
+
+    ghost written = { λ rules notes. AreTentsWritten W.bits rules.puzzle notes };
+
+    fn new(alloc: Global, _made: Needs) -> Result<TentNotes<W>, AllocError> {
+        Ok(TentNotes {
+            trees: vec![in alloc; W::none(); W::places()]?,
+            waits: Waits::all(),
+        })
+    }
+
+    fn start(&mut self, planes: &mut Planes<W>, rules: &CountRules<TentsPuzzle>) {
+        start_tents(planes, rules.puzzle());
+        write_trees(&mut self.trees, rules.puzzle());
+    }
+
+    fn close(
+        &mut self,
+        planes: &mut Planes<W>,
+        rules: &CountRules<TentsPuzzle>,
+        _scratch: &mut PairingScratch,
+        from: Option<usize>,
+    ) -> Taken {
+        SweepNotes::close(self, planes, rules.puzzle(), from)
+    }
+
+    ghost fits_smaller = { λ _ _ _ _ room. room };
+}
+
+impl<W: Word> SweepNotes<W, TentsPuzzle> for TentNotes<W> {
+    ghost use Rattle.fields_core.specs.TentNotes.{AreTentsReady, AreTentsWritten};
+
+    ghost fits = { λ notes _. W.room ≤ length notes.trees.items };
+
+    ghost written = { λ p notes. AreTentsWritten W.bits p notes };
+
+    ghost ready = { λ p planes notes. AreTentsReady W.bits W.room p planes notes };
+
+    fn begin(&mut self, planes: &Planes<W>, puzzle: &TentsPuzzle, from: Option<usize>) {
+        self.waits = Waits::new(planes, puzzle, from);
+    }
+
+    #[inline(always)]
+    fn sweep(&mut self, planes: &mut Planes<W>, puzzle: &TentsPuzzle) -> bool {
+        if !self.sweep_kind(planes, puzzle, Kind::Columns) {
+            return false;
+        }
+        if !self.sweep_kind(planes, puzzle, Kind::Rows) {
+            return false;
+        }
+        self.sweep_kind(planes, puzzle, Kind::Trees)
+            && self.sweep_kind(planes, puzzle, Kind::Squares)
+    }
+}

@@ -1,0 +1,127 @@
+//! Which houses of Tents wait to be visited.
+#![tactic(auto, using(crate::proofs::LawSets::wait_laws))]
+
+ghost use Rattle.std.specs.Prelude.{◌&&◌, ◌≡◌, ◌≤◌, ℕ, nat_lt};
+ghost use Rattle.fields_core.specs.Common.{AreTentsRested, AreTentsSettled, AreTentsWoken, AreTentsWokenSince, Candidates, HasBoard, IsClosedBut, IsSuited, IsTents, Tents, has, has_bit, kind_lines, tent_rules, waiting};
+
+use gameid_core::TentsPuzzle;
+use grid_core::{Planes, Touched, Word};
+
+/// Kinds of houses, in the order of a sweep. Those of a kind are visited line by line.
+#[derive(Clone, Copy)]
+pub(crate) enum Kind {
+    /// A column.
+    Columns,
+    /// A row.
+    Rows,
+    /// The trees of a row.
+    Trees,
+    /// The squares of a row and the row below.
+    Squares,
+}
+
+/// The lines of each kind that wait.
+#[derive(Clone, Copy)]
+pub struct Waits<W> {
+    columns: W,
+    rows: W,
+    trees: W,
+    squares: W,
+}
+
+impl<W: Word> Waits<W> {
+    /// At these lines all kinds wait.
+    fn at(lines: W) -> Waits<W>
+        ensures { (kind : Kind) → waiting W.bits result kind ≡ W.bits lines }
+    {
+        Waits {
+            columns: lines,
+            rows: lines,
+            trees: lines,
+            squares: lines,
+        }
+    }
+
+    /// Everything waits.
+    pub(crate) fn all() -> Waits<W>
+        ensures { (p : Tents) (K : Candidates) → IsSuited p.size W.room
+            → AreTentsRested W.bits p result K }
+    {
+        Waits::at(W::all(W::places()))
+    }
+
+    /// What waits where a closing begins: what a value counts for that the cell `from` has lost, or all where none is named.
+    pub(crate) fn new(planes: &Planes<W>, puzzle: &TentsPuzzle, from: Option<usize>) -> Waits<W>
+        requires lawful { IsTents puzzle.now }
+        requires board { HasBoard (tent_rules puzzle.now) puzzle.now.size W.room planes.now }
+        requires closed_but { IsClosedBut (tent_rules puzzle.now) (has planes.now) from }
+        ensures { AreTentsRested W.bits puzzle.now result (has planes.now) }
+    {
+        let Some(place) = from else {
+            return Waits::all();
+        };
+        let (y, x) = planes.split(place);
+        let none = W::none();
+        let no_lines = Touched {
+            columns: none,
+            rows: none,
+        };
+        let lines = Touched {
+            columns: W::one(x),
+            rows: W::one(y),
+        };
+        if planes.has(place, 1) {
+            return Waits::at(none).woken(lines, no_lines);
+        }
+        Waits::at(none).woken(no_lines, lines)
+    }
+
+    /// Lets lines wait that have lost a value, trees beside which 1 is lost, and squares that have lost 0.
+    fn woken(self, zeros: Touched<W>, ones: Touched<W>) -> Waits<W>
+        ensures { AreTentsWoken W.bits W.room self zeros ones result }
+    {
+        Waits {
+            columns: self.columns.either(zeros.columns.either(ones.columns)),
+            rows: self.rows.either(zeros.rows.either(ones.rows)),
+            trees: self
+                .trees
+                .either(ones.rows.on().either(ones.rows).either(ones.rows.back())),
+            squares: self.squares.either(zeros.rows.either(zeros.rows.back())),
+        }
+    }
+
+    /// The lines at which houses of this kind wait.
+    pub(crate) fn lines(&self, planes: &Planes<W>, kind: Kind) -> W
+        ensures { (p : Tents) → planes.now.size ≡ p.size → (k : ℕ) → has_bit (W.bits result) k
+            ≡ (has_bit (waiting W.bits self.now kind) k && nat_lt k (kind_lines p kind)) }
+    {
+        match kind {
+            Kind::Columns => self.columns.both(planes.columns()),
+            Kind::Rows => self.rows.both(planes.rows()),
+            Kind::Trees => self.trees.both(planes.rows()),
+            Kind::Squares => self.squares.both(planes.rows()),
+        }
+    }
+
+    /// The houses of this kind wait no more: they are idle.
+    pub(crate) fn settle(&mut self, kind: Kind)
+        ensures { AreTentsSettled W.bits kind self.old self.new }
+    {
+        match kind {
+            Kind::Columns => self.columns = W::none(),
+            Kind::Rows => self.rows = W::none(),
+            Kind::Trees => self.trees = W::none(),
+            Kind::Squares => self.squares = W::none(),
+        }
+    }
+
+    /// Wakes what has a cell that lost a value since the trail had that length.
+    #[inline(always)]
+    pub(crate) fn wake(&mut self, planes: &Planes<W>, len: usize)
+        requires { len ≤ planes.now.len }
+        ensures { AreTentsWokenSince W.bits len planes.now self.old self.new }
+    {
+        let (zeros, ones) = planes.lost(len);
+        *self = self.woken(zeros, ones);
+    }
+}
