@@ -32,12 +32,16 @@ pub(crate) fn keep_houses(values: u8, sets: &[u32], kept: &mut [u32], pairing: &
 {
     let counts = copy_counted(sets, kept);
     let settled = counts.lone(values);
-    if !counts.are_open() && are_whole(values, settled, sets) {
+    let is_open = counts.are_open();
+    if !is_open && are_whole(values, settled, sets) {
         return false;
     }
     let mut rest_space = [0u8; MANY];
     let count = write_rest(sets, settled, &mut rest_space);
     let rest = &rest_space[..count];
+    if !is_open {
+        return keep_others(values, settled, rest, kept, pairing);
+    }
     let lone = peel(values, counts, settled, rest, kept);
     if !are_whole(values, lone, kept) {
         keep_others(values, lone, rest, kept, pairing);
@@ -45,41 +49,49 @@ pub(crate) fn keep_houses(values: u8, sets: &[u32], kept: &mut [u32], pairing: &
     true
 }
 
-/// Decides what is kept of a house in which these values are those of cells that are alone.
-fn keep_others(values: u8, lone: u32, rest: &[u8], kept: &mut [u32], pairing: &mut Pairing)
+/// Decides what is kept of a house in which these values are those of cells that are alone. Says whether anything may be
+/// struck.
+fn keep_others(values: u8, lone: u32, rest: &[u8], kept: &mut [u32], pairing: &mut Pairing) -> bool
     requires few { values ≤ max_values }
     requires square { length kept.old ≡ values }
     requires lone { AreLone values kept.old lone }
     requires rest { IsRest values kept.old rest.now }
     requires room { values ≤ pairing.old.room }
     ensures decided { KeepsFillings values kept.old kept.new }
+    ensures same { result ≡ false → kept.new ≡ kept.old }
     ensures room { pairing.new.room ≡ pairing.old.room }
 {
     let mut paired_space = [0u8; MANY];
     let paired = &mut paired_space[..rest.len()];
     match pair_rest(values, kept, rest, pairing, paired) {
-        Paired::Short => kept.fill(0),
+        Paired::Short => {
+            kept.fill(0);
+            true
+        }
         Paired::All => keep_paired(values, lone, rest, paired, kept),
     }
 }
 
-/// Decides what is kept of a house in which these values are those of cells that are alone, and the rest is paired.
-fn keep_paired(values: u8, lone: u32, rest: &[u8], paired: &[u8], kept: &mut [u32])
+/// Decides what is kept of a house in which these values are those of cells that are alone, and the rest is paired. Says
+/// whether anything may be struck.
+fn keep_paired(values: u8, lone: u32, rest: &[u8], paired: &[u8], kept: &mut [u32]) -> bool
     requires few { values ≤ max_values }
     requires square { length kept.old ≡ values }
     requires lone { AreLone values kept.old lone }
     requires rest { IsRest values kept.old rest.now }
     requires paired { IsPaired values kept.old rest.now paired.now }
     ensures decided { KeepsFillings values kept.old kept.new }
+    ensures same { result ≡ false → kept.new ≡ kept.old }
 {
     let mut reach_space = [0u32; MANY];
     let reach = &mut reach_space[..usize::from(values)];
     write_leads(kept, rest, paired, reach);
     if lie_on_rounds(reach, paired, others_below(values, lone)) {
-        return;
+        return false;
     }
     close_under_steps(reach);
     keep_reached(values, rest, paired, reach, kept);
+    true
 }
 
 /// Keeps of each set of the rest the values that reach the cell's own.

@@ -14,6 +14,15 @@ returns-then-are_whole-clause-none c = λ _.
 are_lone : (c : After-write_rest-count) → AreLone c.args.values c.args.sets.now c.lone-settled.result
 are_lone c = lone-counts c.requires.square c.copy_counted-counts.ensures.counts (omega arith) c.lone-settled.ensures
 
+pub keep_others-requires-clause-lone : goal.keep_others-requires-clause-lone
+keep_others-requires-clause-lone c =
+    rw c.copy_counted-counts.ensures.copied (are_lone (goal.at.keep_others-requires-clause-lone c).After-write_rest-count)
+
+pub keep_others-requires-clause-rest : goal.keep_others-requires-clause-rest
+keep_others-requires-clause-rest c =
+    let d = (goal.at.keep_others-requires-clause-rest c).After-write_rest-count in
+    rw c.copy_counted-counts.ensures.copied (rest-is (are_lone d) c.write_rest-count.ensures.rest (grind (arith, length-take)))
+
 pub peel-lone-requires-clause-settled : goal.peel-lone-requires-clause-settled
 peel-lone-requires-clause-settled c =
     let d = (goal.at.peel-lone-requires-clause-settled c).After-write_rest-count in
@@ -26,7 +35,7 @@ peel-lone-requires-clause-rest c =
 
 pub returns-then-not-are_whole-clause-decided : goal.returns-then-not-are_whole-clause-decided
 returns-then-not-are_whole-clause-decided c = λ _.
-    decided_by_peeled (rw c.copy_counted-counts.ensures.copied at c.peel-lone.ensures.peeled) c.keep_others.ensures.decided
+    decided_by_peeled (rw c.copy_counted-counts.ensures.copied at c.peel-lone.ensures.peeled) c.keep_others-then-not-are_whole.ensures.decided
 
 pub returns-else-not-are_whole-clause-decided : goal.returns-else-not-are_whole-clause-decided
 returns-else-not-are_whole-clause-decided c = λ _.
