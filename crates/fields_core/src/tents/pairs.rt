@@ -6,15 +6,15 @@ ghost use Rattle.fields_core.specs.Common.{AreIn, AreNumbered, HasPairingRoom, I
 
 use crate::tents::cells::is_tree;
 use gameid_core::TentsPuzzle;
-use grid_core::{Edges, Grid, Paired, Pairing, step};
+use grid_core::{Edges, Fixed, Grid, Paired, Pairing, step};
 use std::alloc::{AllocError, Global};
 
 /// What tents are paired with trees in: room for a pairing, for the places of the tents, and for a number of each cell.
 #[derive(Drop)]
 pub struct PairingScratch {
     pub(crate) pairing: Pairing,
-    pub(crate) tents: Vec<usize>,
-    pub(crate) numbers: Vec<usize>,
+    pub(crate) tents: Fixed<usize>,
+    pub(crate) numbers: Fixed<usize>,
 }
 
 impl PairingScratch {
@@ -24,8 +24,8 @@ impl PairingScratch {
     {
         Ok(PairingScratch {
             pairing: Pairing::new(alloc, cells)?,
-            tents: vec![in alloc; 0; cells]?,
-            numbers: vec![in alloc; 0; cells]?,
+            tents: Fixed::copies(alloc, 0, cells)?,
+            numbers: Fixed::copies(alloc, 0, cells)?,
         })
     }
 }

@@ -10,7 +10,7 @@ use crate::planes::light_up::tables::{LightTables, cells_of_row, write_runs};
 use crate::planes::light_up::waits::LineWaits;
 use engine_core::{Needs, PlaneNotes, Taken};
 use gameid_core::LightPuzzle;
-use grid_core::{Line, Planes, Word};
+use grid_core::{Fixed, Line, Planes, Word};
 use std::alloc::{AllocError, Global};
 
 /// What is kept of a puzzle. While a closing goes on, also what waits, and a word for each row (`LightTables::write_safe`).
@@ -18,7 +18,7 @@ use std::alloc::{AllocError, Global};
 pub struct LightNotes<W: Word> {
     pub(crate) tables: LightTables<W>,
     pub(crate) waits: LineWaits<W>,
-    pub(crate) safe: Vec<W>,
+    pub(crate) safe: Fixed<W>,
 }
 
 impl<W: Word> LightTables<W> {
@@ -78,7 +78,7 @@ impl<W: Word> PlaneNotes<W, CountRules<LightPuzzle>> for LightNotes<W> {
         Ok(LightNotes {
             tables: LightTables::new(alloc, made.cells)?,
             waits: LineWaits::all(),
-            safe: vec![in alloc; W::none(); W::places()]?,
+            safe: Fixed::copies(alloc, W::none(), W::places())?,
         })
     }
 

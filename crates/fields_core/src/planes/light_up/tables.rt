@@ -5,18 +5,18 @@ ghost use Rattle.fields_core.specs.Common.{AreFilled, AreWritten, HasTables, IsR
 
 use crate::light_up::cells::columns;
 use gameid_core::{LightCell, LightPuzzle};
-use grid_core::Word;
+use grid_core::{Fixed, Word};
 use std::alloc::{AllocError, Global};
 
 /// The white cells of each row and of each column, and the numbered cells of each row. By place the run of white cells that
 /// the cell is in, along its row and along its column: the places of its cells along that line. A black cell is in none.
 #[derive(Drop)]
 pub struct LightTables<W: Word> {
-    pub(crate) rows: Vec<W>,
-    pub(crate) columns: Vec<W>,
-    pub(crate) numbers: Vec<W>,
-    pub(crate) row_runs: Vec<W>,
-    pub(crate) column_runs: Vec<W>,
+    pub(crate) rows: Fixed<W>,
+    pub(crate) columns: Fixed<W>,
+    pub(crate) numbers: Fixed<W>,
+    pub(crate) row_runs: Fixed<W>,
+    pub(crate) column_runs: Fixed<W>,
 }
 
 impl<W: Word> LightTables<W> {
@@ -25,11 +25,11 @@ impl<W: Word> LightTables<W> {
         ensures { IfOk result (λ tables. HasTables cells W.room tables) }
     {
         Ok(LightTables {
-            rows: vec![in alloc; W::none(); W::places()]?,
-            columns: vec![in alloc; W::none(); W::places()]?,
-            numbers: vec![in alloc; W::none(); W::places()]?,
-            row_runs: vec![in alloc; W::none(); cells]?,
-            column_runs: vec![in alloc; W::none(); cells]?,
+            rows: Fixed::copies(alloc, W::none(), W::places())?,
+            columns: Fixed::copies(alloc, W::none(), W::places())?,
+            numbers: Fixed::copies(alloc, W::none(), W::places())?,
+            row_runs: Fixed::copies(alloc, W::none(), cells)?,
+            column_runs: Fixed::copies(alloc, W::none(), cells)?,
         })
     }
 }
@@ -55,7 +55,14 @@ pub(crate) fn cells_of_row<W: Word>(puzzle: &LightPuzzle, y: usize) -> (W, W)
 }
 
 /// Writes the word at the places of the numbers of a line from `start` on and before `end`.
-fn fill<W: Word>(runs: &mut Vec<W>, word: W, first: usize, stride: usize, start: usize, end: usize)
+fn fill<W: Word>(
+    runs: &mut Fixed<W>,
+    word: W,
+    first: usize,
+    stride: usize,
+    start: usize,
+    end: usize,
+)
     requires within { ReachesAlong (length runs.old.items) first stride end }
     requires low { start ≤ end }
     ensures filled { AreFilled first stride start end (W.bits word)
@@ -69,7 +76,7 @@ fn fill<W: Word>(runs: &mut Vec<W>, word: W, first: usize, stride: usize, start:
 
 /// Writes the runs of the cells of a line with these white ones at their places.
 pub(crate) fn write_runs<W: Word>(
-    runs: &mut Vec<W>,
+    runs: &mut Fixed<W>,
     white: W,
     first: usize,
     stride: usize,

@@ -9,7 +9,7 @@ use crate::planes::light_up::waits::RunKind;
 use crate::planes::line_parts::Part;
 use crate::planes::visit::visit;
 use gameid_core::{LightCell, LightPuzzle};
-use grid_core::{Line, Planes, Word, row_place};
+use grid_core::{Fixed, Line, Planes, Word, row_place};
 
 /// Whether the word has two places or more.
 fn has_two<W: Word>(word: W) -> bool
@@ -246,7 +246,7 @@ impl<W: Word> LightTables<W> {
     /// have a bulb, or one must. Only cells of these rows count.
     pub(crate) fn write_safe(
         &self,
-        safe: &mut Vec<W>,
+        safe: &mut Fixed<W>,
         planes: &Planes<W>,
         puzzle: &LightPuzzle,
         rows: (usize, usize),

@@ -11,13 +11,13 @@ use crate::planes::tents::waits::{Kind, Waits};
 use crate::tents::pairs::PairingScratch;
 use engine_core::{Needs, PlaneNotes, Taken};
 use gameid_core::TentsPuzzle;
-use grid_core::{Line, Planes, Word};
+use grid_core::{Fixed, Line, Planes, Word};
 use std::alloc::{AllocError, Global};
 
 /// The trees of each row with a cell beside them that has none, and what waits while a closing goes on.
 #[derive(Drop)]
 pub struct TentNotes<W> {
-    pub(crate) trees: Vec<W>,
+    pub(crate) trees: Fixed<W>,
     pub(crate) waits: Waits<W>,
 }
 
@@ -64,7 +64,7 @@ impl<W: Word> PlaneNotes<W, CountRules<TentsPuzzle>> for TentNotes<W> {
 
     fn new(alloc: Global, _made: Needs) -> Result<TentNotes<W>, AllocError> {
         Ok(TentNotes {
-            trees: vec![in alloc; W::none(); W::places()]?,
+            trees: Fixed::copies(alloc, W::none(), W::places())?,
             waits: Waits::all(),
         })
     }

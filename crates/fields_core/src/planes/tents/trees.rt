@@ -7,7 +7,7 @@ use crate::count::house::count_passing;
 use crate::planes::tents::three_rows::{ThreeRows, ones_near};
 use crate::tents::cells::{is_tree, place_of};
 use gameid_core::TentsPuzzle;
-use grid_core::{Line, Planes, Word};
+use grid_core::{Fixed, Line, Planes, Word};
 
 /// Whether the cell of that column and row has a tree, and a cell beside it has none.
 fn wants_a_tent(puzzle: &TentsPuzzle, x: usize, y: usize) -> bool
@@ -36,7 +36,7 @@ fn trees_in<W: Word>(puzzle: &TentsPuzzle, y: usize) -> W
 }
 
 /// Writes those trees of each row.
-pub(crate) fn write_trees<W: Word>(rows: &mut Vec<W>, puzzle: &TentsPuzzle)
+pub(crate) fn write_trees<W: Word>(rows: &mut Fixed<W>, puzzle: &TentsPuzzle)
     requires long { puzzle.now.size.h ≤ length rows.old.items }
     requires narrow { puzzle.now.size.w ≤ W.room }
     ensures written { AreRowsOf puzzle.now.size (wants_tent puzzle.now)
