@@ -14,7 +14,7 @@ rested g c = λ h d v lt asleep on.
     let fits = rw (← c.self.view_is) at c.requires.fits in
     let long = c.fill.ensures.len ∙ c.deref_mut.ensures.len in
     let made : take (vec_len c.self.inside.waits) (c.fill.new.self ++ drop (length c.fill.new.self) c.self.inside.waits.items)
-        ≡ replicate (length c.self.inside.waits.items) 18446744073709551615 =
+    ≡ replicate (length c.self.inside.waits.items) 18446744073709551615 =
     let all = c.fill.ensures.after (λ y same. same) in
     let value = c.deref_mut.ensures.value in
     grind (arith, common_steps, length-replicate) in
