@@ -79,7 +79,7 @@ pub use Rattle.fields_core.specs.LightRunWords.{AreFilled, AreWritten, IsRunAt}
 pub use Rattle.fields_core.specs.LightRuns.{IsAround, begins_at, line_cells, line_white, run_house}
 pub use Rattle.fields_core.specs.LightSight.{RunsOn, SeesAlong, ShinesAlong}
 pub use Rattle.fields_core.specs.LightWaits.{AreIdleBut, AreLightsReady, AreLinesRested, AreLinesWoken, AreParted, AreSafe, AreSafeInColumns}
-pub use Rattle.fields_core.specs.LineWords.{AreRowsOf, AreSpread, IsColumnOf, IsRowOf}
+pub use Rattle.fields_core.specs.LineWords.{AreRowsOf, AreSpread, IsColumnOf, IsRowIn, IsRowOf}
 pub use Rattle.fields_core.specs.LightWaits.{AreWhitesIdleBut, IsAway, IsReach, lits_of_row, run_houses, run_lines, waiting_runs, white_houses, AreColumnsParted}
 pub use Rattle.fields_core.specs.Parts.{ArePartsCounted, ArePieces, ArePlanesAlive, IsBroken, IsCount, IsHouseOf, Piece, piece_at}
 unfoldable pub use Rattle.fields_core.specs.Parts.{lies_in, lies_in_first, without_value}

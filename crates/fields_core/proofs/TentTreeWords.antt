@@ -1,8 +1,8 @@
 -- Words of the cells of a row and of those beside them.
-use Rattle.fields_core.proofs.Common.{Bool, Candidates, Extent, IsNear, IsRowOf, Layers, List, None, Row, Some, and_from, and_parts, any_below-here, any_below-some, ap, arith, beside, bit_of, cases_Bool, cases_lt, common_steps, cond, count_by, covers, crosses, differ, div-add-mod', div-mul-add, eq-eqb, eqb, eqb-true, false, false_from_ne_true, fun_ext, has, has_bit, has_place, if_there, inl, inr, is_beside, le-ltb, lt-ltb, ltb, ltb-true, mod-lt, not, or_cases, or_left, or_right, place-column, refl, step, steps, suc, sum_by-append, sym, true, without_taking, without_zeros, zero, ℕ, ◌%◌, ◌&&◌, ◌*◌, ◌++◌, ◌+◌, ◌-◌, ◌/◌, ◌<◌, ◌||◌, ◌∙◌, ◌≡◌, ◌≤◌}
+use Rattle.fields_core.proofs.Common.{Bool, Candidates, Extent, IsNear, IsRowIn, IsRowOf, Layers, List, None, Row, Some, Tents, and-false, and_from, and_parts, any_below-here, any_below-some, ap, arith, beside, bit_of, cases_Bool, cases_lt, common_steps, cond, count_by, covers, crosses, differ, div-add-mod', div-mul-add, eq-eqb, eqb, eqb-true, false, false_from_ne_true, fun_ext, has, has_bit, has_place, if_there, inl, inr, is_barred, is_beside, le-ltb, list_any, lt-ltb, ltb, ltb-true, mod-lt, not, or_cases, or_left, or_right, place-column, refl, step, steps, suc, sum_by-append, sym, tree, true, wants_tent, without_taking, without_zeros, zero, ℕ, ◌%◌, ◌&&◌, ◌*◌, ◌++◌, ◌+◌, ◌-◌, ◌/◌, ◌<◌, ◌||◌, ◌∙◌, ◌≡◌, ◌≤◌}
 use Rattle.fields_core.specs.declared.planes.tents.three_rows.ThreeRows.{ThreeRows}
 use Rattle.fields_core.proofs.CellLemmas.{has-append, same-truth}
-use Rattle.fields_core.proofs.PlaceLists.{num}
+use Rattle.fields_core.proofs.PlaceLists.{num, some-counted}
 use Rattle.fields_core.proofs.RowWords.{has-at}
 
 -- ---- the cells beside a cell of a row
@@ -140,6 +140,47 @@ near-ones bits p y near above top own below bottom = record {
     | inr ge ↦ rw (le-ltb (y + 1) p.size.h ge) (bottom ge x ∙ grind (arith, common_steps, cases_Bool (ltb x p.size.w)))
   ];
 }
+
+-- ---- from row to row
+-- what the three rows before row y have, where there are such rows
+pub record IsBefore {W : Type 0} (bits : W → ℕ) (size : Extent) (passes : ℕ → Bool) (y : ℕ) (near : ThreeRows W) : Type 0 where
+  pub above : (x : ℕ) → has_bit (bits near.own) x ≡ (ltb x size.w && (ltb 0 y && passes ((y - 1) * size.w + x)))
+  pub own : IsRowIn size passes y (bits near.below)
+
+pub before-first : {W : Type 0} {bits : W → ℕ} {size : Extent} {passes : ℕ → Bool} (near : ThreeRows W) (below : W) → IsRowIn size passes 0 (bits below)
+    → ((x : ℕ) → has_bit (bits near.own) x ≡ false) → near.below ≡ below → IsBefore bits size passes 0 near
+before-first {size = size} near below is none e = record { above = λ x. none x ∙ sym (and-false (ltb x size.w)); own = rw e is }
+
+pub near-next : {W : Type 0} {bits : W → ℕ} {size : Extent} {passes : ℕ → Bool} {y : ℕ} (near next : ThreeRows W) (below : W)
+    → next ≡ record { above = near.own; own = near.below; below = below } → y < size.h
+    → IsBefore bits size passes y near → IsRowIn size passes (y + 1) (bits below) → IsNear bits size passes y next
+near-next {size = size} {y = y} near next below e lt is row =
+    rw e (record { above = is.above; own = λ x. is.own x ∙ rw (lt-ltb y size.h lt) refl; below = row })
+
+pub before-next : {W : Type 0} {bits : W → ℕ} {size : Extent} {passes : ℕ → Bool} {y : ℕ} (near : ThreeRows W) → IsNear bits size passes y near → IsBefore bits size passes (y + 1) near
+before-next {y = y} near is =
+    let back : y + 1 - 1 ≡ y = omega arith in
+    record { above = λ x. is.own x ∙ rw (back, lt-ltb 0 (y + 1) (omega arith)) refl; own = is.below }
+
+-- ---- the cells of a row that a search of Tents starts without, and its trees that want a tent
+module _ (p : Tents) (y trees : ℕ) (trees_is : IsRowOf p.size.w (tree p) y trees) where
+  pub row-wants : (others wants : ℕ) → ((x : ℕ) → x < p.size.w → has_bit others x ≡ ltb 0 (count_by (λ d. not (tree p d)) (beside p.size (y * p.size.w + x))))
+      → ((x : ℕ) → has_bit wants x ≡ (has_bit trees x && has_bit others x)) → IsRowOf p.size.w (wants_tent p) y wants
+  unfolding wants_tent
+  row-wants others wants others_is is x = is x ∙ rw (trees_is x) (elim (cases_lt x p.size.w) [
+    | inl lt ↦ rw (others_is x lt, some-counted (λ d. not (tree p d)) (beside p.size (y * p.size.w + x)), lt-ltb x p.size.w lt) refl
+    | inr ge ↦ rw (le-ltb x p.size.w ge) refl
+  ])
+
+  pub row-barred : (all near barred : ℕ) → ((x : ℕ) → has_bit all x ≡ ltb x p.size.w)
+      → ((x : ℕ) → x < p.size.w → has_bit near x ≡ ltb 0 (count_by (tree p) (beside p.size (y * p.size.w + x))))
+      → ((x : ℕ) → has_bit barred x ≡ (has_bit all x && not (has_bit near x && not (has_bit trees x)))) → IsRowOf p.size.w (is_barred p) y barred
+  unfolding is_barred
+  row-barred all near barred all_is near_is is x = is x ∙ rw (trees_is x, all_is x) (elim (cases_lt x p.size.w) [
+    | inl lt ↦ rw (near_is x lt, some-counted (tree p) (beside p.size (y * p.size.w + x)), lt-ltb x p.size.w lt)
+        (grind (arith, common_steps, cases_Bool (tree p (y * p.size.w + x)), cases_Bool (list_any (tree p) (beside p.size (y * p.size.w + x)))))
+    | inr ge ↦ rw (le-ltb x p.size.w ge) refl
+  ])
 
 -- ---- 0 taken from those of the cells that are beside some places of the row
 module _ {W : Type 0} (bits : W → ℕ) (room : ℕ) (size : Extent) (passes : ℕ → Bool) (y above below : ℕ) (near : ThreeRows W) (places over own under : ℕ)

@@ -45,7 +45,7 @@ pub use Rattle.fields_core.specs.LightWaits.{AreSettled, AreWhitesIdleBut, all_r
 pub use Rattle.fields_core.specs.LightWaits.{white_houses}
 pub use Rattle.fields_core.specs.LightWords.{numbers_of_row}
 unfoldable pub use Rattle.fields_core.specs.LightWords.{is_numbered}
-pub use Rattle.fields_core.specs.LineWords.{AreRowsOf, AreSpread, IsRowOf}
+pub use Rattle.fields_core.specs.LineWords.{AreRowsOf, AreSpread, IsRowIn, IsRowOf}
 pub use Rattle.fields_core.specs.Parts.{ArePieces, ArePlanesAlive, IsBroken, IsHouseBroken, IsHouseLeft, IsHouseOf, IsStruck, Piece, piece_at, piece_of}
 unfoldable pub use Rattle.fields_core.specs.Parts.{without_value}
 pub use Rattle.fields_core.specs.Sweeps.{IsSweep}

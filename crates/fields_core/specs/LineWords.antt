@@ -7,6 +7,11 @@ use Rattle.grid_core.specs.Words.{has_bit}
 abbrev pub IsRowOf : ℕ → (ℕ → Bool) → ℕ → ℕ → Type 0
 IsRowOf w passes y bits = (x : ℕ) → has_bit bits x ≡ (nat_lt x w && passes (y * w + x))
 
+-- the same where there may be no such row: it has none then
+abbrev pub IsRowIn : Extent → (ℕ → Bool) → ℕ → ℕ → Type 0
+IsRowIn size passes y bits = (x : ℕ)
+    → has_bit bits x ≡ (nat_lt x size.w && (nat_lt y size.h && passes (y * size.w + x)))
+
 -- of these words each row has one
 pub record AreRowsOf (size : Extent) (passes : ℕ → Bool) (words : List ℕ) : Type 0 where
   pub long : size.h ≤ length words

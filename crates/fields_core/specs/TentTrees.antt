@@ -9,7 +9,7 @@ use Rattle.grid_core.specs.Words.{has_bit}
 use Rattle.engine_core.specs.RuleSystem.{has_place}
 use Rattle.gameid_core.specs.Puzzles.{Tents}
 use Rattle.fields_core.specs.CountHouse.{CountHouse, houses_below}
-use Rattle.fields_core.specs.LineWords.{IsRowOf}
+use Rattle.fields_core.specs.LineWords.{IsRowIn, IsRowOf}
 use Rattle.fields_core.specs.TentHouses.{tree_house}
 use Rattle.fields_core.specs.Tents.{tree}
 use Rattle.fields_core.specs.declared.planes.tents.three_rows.ThreeRows.{ThreeRows}
@@ -34,8 +34,7 @@ pub record IsNear {W : Type 0} (bits : W → ℕ) (size : Extent) (passes : ℕ 
   pub above : (x : ℕ) → has_bit (bits near.above) x
       ≡ (nat_lt x size.w && (nat_lt 0 y && passes ((y - 1) * size.w + x)))
   pub own : IsRowOf size.w passes y (bits near.own)
-  pub below : (x : ℕ) → has_bit (bits near.below) x
-      ≡ (nat_lt x size.w && (nat_lt (y + 1) size.h && passes ((y + 1) * size.w + x)))
+  pub below : IsRowIn size passes (y + 1) (bits near.below)
 
 -- the word has the places that as many such cells are beside as fit, in whatever row these words have
 abbrev pub AreBeside : {W : Type 0} → (W → ℕ) → ℕ → ThreeRows W → (ℕ → Bool) → W → Type 0

@@ -1,12 +1,13 @@
 //! What Tents keeps beside planes, and the board that a search starts from.
 
-ghost use Rattle.std.specs.Prelude.{◌*◌, ◌+◌, ◌<◌, ◌≡◌, ◌≤◌, length};
-ghost use Rattle.fields_core.specs.Common.{IsRowOf, IsTents, has, is_barred, tent_rules};
+ghost use Rattle.std.specs.Prelude.{◌*◌, ◌≡◌, ◌≤◌, length, map};
+ghost use Rattle.fields_core.specs.Common.{AreRowsOf, IsTents, has, tent_rules, wants_tent};
 
 use crate::count::game::CountGame;
 use crate::count::rules::CountRules;
 use crate::planes::game::SweepNotes;
-use crate::planes::tents::trees::write_trees;
+use crate::planes::tents::three_rows::ThreeRows;
+use crate::planes::tents::trees::cells_of_row;
 use crate::planes::tents::waits::{Kind, Waits};
 use crate::tents::pairs::PairingScratch;
 use engine_core::{Needs, PlaneNotes, Taken};
@@ -21,37 +22,34 @@ pub struct TentNotes<W> {
     pub(crate) waits: Waits<W>,
 }
 
-/// The cells of a row that can have no tent.
-fn barred_in<W: Word>(puzzle: &TentsPuzzle, y: usize) -> W
-    requires y_in { y < puzzle.now.size.h }
-    requires narrow { puzzle.now.size.w ≤ W.room }
-    ensures { IsRowOf puzzle.now.size.w (is_barred puzzle.now) y (W.bits result) }
-{
-    let w = usize::from(puzzle.size().w());
-    let mut barred = W::none();
-    for x in 0..w {
-        if puzzle.is_blocked(y * w + x) {
-            barred = barred.either(W::one(x));
-        }
-    }
-    barred
-}
-
-/// Begins with the board that a search of the puzzle starts from. It takes no memory.
-fn start_tents<W: Word>(planes: &mut Planes<W>, puzzle: &TentsPuzzle)
+/// Begins with the board that a search of the puzzle starts from, and writes the trees of each row that have a cell
+/// without one beside them. It takes no memory.
+fn start_tents<W: Word>(planes: &mut Planes<W>, rows: &mut Fixed<W>, puzzle: &TentsPuzzle)
     requires narrow { puzzle.now.size.w ≤ W.room }
     requires low { puzzle.now.size.h ≤ W.room }
     requires few { puzzle.now.size.w * puzzle.now.size.h * 2 ≤ length planes.old.takings }
+    requires long { puzzle.now.size.h ≤ length rows.old.items }
     ensures lawful { IsTents puzzle.now }
     ensures start { has planes.new ≡ (tent_rules puzzle.now).start }
     ensures size { planes.new.size ≡ puzzle.now.size }
     ensures room { length planes.new.takings ≡ length planes.old.takings }
+    ensures written { AreRowsOf puzzle.now.size (wants_tent puzzle.now)
+        (map W.bits rows.new.items) }
+    ensures long { length rows.new.items ≡ length rows.old.items }
 {
     let size = puzzle.size();
     planes.begin(size);
+    let all = planes.columns();
+    let (first, first_others) = cells_of_row::<W>(puzzle, 0);
+    let mut trees = ThreeRows::first(first);
+    let mut others = ThreeRows::first(first_others);
     for y in 0..size.h() {
-        let barred = barred_in(puzzle, usize::from(y));
-        planes.take(Line::Row(y), 1, barred);
+        let row = usize::from(y);
+        let (below, others_below) = cells_of_row(puzzle, row + 1);
+        trees = trees.next(below);
+        others = others.next(others_below);
+        rows[row] = trees.own.both(others.some());
+        planes.take(Line::Row(y), 1, all.but(trees.some().but(trees.own)));
     }
 }
 
@@ -70,8 +68,7 @@ impl<W: Word> PlaneNotes<W, CountRules<TentsPuzzle>> for TentNotes<W> {
     }
 
     fn start(&mut self, planes: &mut Planes<W>, rules: &CountRules<TentsPuzzle>) {
-        start_tents(planes, rules.puzzle());
-        write_trees(&mut self.trees, rules.puzzle());
+        start_tents(planes, &mut self.trees, rules.puzzle());
     }
 
     fn close(

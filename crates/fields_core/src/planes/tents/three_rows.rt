@@ -1,8 +1,8 @@
 //! Cells of a row and of the rows beside it as words, and the places that they are beside.
 
-ghost use Rattle.std.specs.Prelude.{◌+◌, ◌<◌, ◌==◌, ◌≤◌, nat_lt};
+ghost use Rattle.std.specs.Prelude.{◌+◌, ◌<◌, ◌==◌, ◌≡◌, ◌≤◌, false, nat_lt, ℕ};
 ghost use Rattle.std.specs.List.{count_by};
-ghost use Rattle.fields_core.specs.Common.{AreBeside, IsNear, has};
+ghost use Rattle.fields_core.specs.Common.{AreBeside, IsNear, has, has_bit};
 
 use grid_core::{Planes, Word};
 
@@ -15,6 +15,30 @@ pub(crate) struct ThreeRows<W> {
 }
 
 impl<W: Word> ThreeRows<W> {
+    /// The rows before the first one, which has these cells.
+    pub(crate) fn first(below: W) -> ThreeRows<W>
+        ensures none { (x : ℕ) → has_bit (W.bits result.own) x ≡ false }
+        ensures below { result.below ≡ below }
+    {
+        let none = W::none();
+        ThreeRows {
+            above: none,
+            own: none,
+            below,
+        }
+    }
+
+    /// The same of the next row, with these cells of the row below it.
+    pub(crate) fn next(self, below: W) -> ThreeRows<W>
+        ensures { result ≡ record { above = self.own; own = self.below; below = below } }
+    {
+        ThreeRows {
+            above: self.own,
+            own: self.below,
+            below,
+        }
+    }
+
     /// The places of the row that one of the cells is beside.
     pub(crate) fn some(self) -> W
         ensures { AreBeside W.bits W.room self (nat_lt 0) result }

@@ -1,51 +1,31 @@
 //! The trees of each row of Tents as words, and visits of those of a row, all at once.
 
-ghost use Rattle.std.specs.Prelude.{◌&&◌, ◌*◌, ◌+◌, ◌<◌, ◌≡◌, ◌≤◌, length, map};
-ghost use Rattle.fields_core.specs.Common.{ArePlanesAlive, AreRowsOf, AreTakenBeside, AreVisited, IsFieldOf, IsFurther, IsRowOf, Tents, trees_of_row, wants_tent};
+ghost use Rattle.std.specs.Prelude.{◌<◌, ◌≡◌, ◌≤◌, length, map, not};
+ghost use Rattle.fields_core.specs.Common.{ArePlanesAlive, AreTakenBeside, AreVisited, IsFieldOf, IsFurther, IsRowIn, Tents, tree, trees_of_row};
 
-use crate::count::house::count_passing;
 use crate::planes::tents::three_rows::{ThreeRows, ones_near};
 use crate::tents::cells::{is_tree, place_of};
 use gameid_core::TentsPuzzle;
-use grid_core::{Fixed, Line, Planes, Word};
+use grid_core::{Line, Planes, Word};
 
-/// Whether the cell of that column and row has a tree, and a cell beside it has none.
-fn wants_a_tent(puzzle: &TentsPuzzle, x: usize, y: usize) -> bool
-    requires x_in { x < puzzle.now.size.w }
-    requires y_in { y < puzzle.now.size.h }
-    ensures { result ≡ wants_tent puzzle.now (y * puzzle.now.size.w + x) }
-{
-    let is_free = |other| !is_tree(puzzle, other);
-    is_tree(puzzle, place_of(puzzle, x, y)) && count_passing(puzzle.size(), x, y, is_free) > 0
-}
-
-/// The trees of a row that have a cell without a tree beside them.
-fn trees_in<W: Word>(puzzle: &TentsPuzzle, y: usize) -> W
-    requires y_in { y < puzzle.now.size.h }
+/// The trees of a row, and its other cells: none past the last row.
+pub(crate) fn cells_of_row<W: Word>(puzzle: &TentsPuzzle, y: usize) -> (W, W)
     requires narrow { puzzle.now.size.w ≤ W.room }
-    ensures { IsRowOf puzzle.now.size.w (wants_tent puzzle.now) y (W.bits result) }
+    ensures trees { IsRowIn puzzle.now.size (tree puzzle.now) y (W.bits result.0) }
+    ensures others { IsRowIn puzzle.now.size (λ c. not (tree puzzle.now c)) y (W.bits result.1) }
 {
-    let w = usize::from(puzzle.size().w());
+    let size = puzzle.size();
     let mut trees = W::none();
+    if y >= usize::from(size.h()) {
+        return (trees, trees);
+    }
+    let w = usize::from(size.w());
     for x in 0..w {
-        if wants_a_tent(puzzle, x, y) {
+        if is_tree(puzzle, place_of(puzzle, x, y)) {
             trees = trees.either(W::one(x));
         }
     }
-    trees
-}
-
-/// Writes those trees of each row.
-pub(crate) fn write_trees<W: Word>(rows: &mut Fixed<W>, puzzle: &TentsPuzzle)
-    requires long { puzzle.now.size.h ≤ length rows.old.items }
-    requires narrow { puzzle.now.size.w ≤ W.room }
-    ensures written { AreRowsOf puzzle.now.size (wants_tent puzzle.now)
-        (map W.bits rows.new.items) }
-    ensures long { length rows.new.items ≡ length rows.old.items }
-{
-    for y in 0..usize::from(puzzle.size().h()) {
-        rows[y] = trees_in(puzzle, y);
-    }
+    (trees, W::all(w).but(trees))
 }
 
 /// Takes 0 from those of the cells that are beside one of these places of the row.

@@ -1,5 +1,0 @@
-use Rattle.fields_core.proofs.Common.{has_bit, ltb, wants_tent, ℕ, ◌&&◌, ◌*◌, ◌+◌, ◌≡◌}
-use Rattle.fields_core.proofs.planes.tents.trees.trees_in.Given as goal
-
-abbrev pub invariant-loop-x : goal.invariant-loop-x
-invariant-loop-x g l = (x : ℕ) → has_bit (g.W.Word.bits l.trees) x ≡ (ltb x l.x && wants_tent l.puzzle (l.y * l.puzzle.size.w + x))
