@@ -59,6 +59,10 @@ module _ {p : RuleSystem} (laws : IsLawful p) where
   unfolding walk_closed
   one_settled g same = grind (arith, common_steps, and_from, none_below, nothing, start_walk, walk_closed-dead, walk_closed-wrong)
 
+  -- a verdict without a trial that is not one
+  pub unsettled : {verdict : Outcome} → verdict_of p 0 ≡ verdict → ((g : List ℕ) → verdict ≡ OneSolution g → ⊥) → false ≡ is_settled p
+  unsettled is other = sym (false_from_ne_true _ (λ settled. other _ (sym is ∙ settled_found settled 0)))
+
 -- what the weaker rules settle, the stronger ones settle
 module _ {weak strong : RuleSystem} (weak_laws : IsLawful weak) (strong_laws : IsLawful strong)
     (same_cells : strong.cells ≡ weak.cells) (same_values : strong.values ≡ weak.values) (same_start : strong.start ≡ weak.start)

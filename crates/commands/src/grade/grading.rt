@@ -8,14 +8,20 @@ use crate::solve::solvable::Solvable;
 use engine_core::{Searchable, Store, Verdict};
 use std::alloc::{AllocError, Global};
 
-/// Whether the rules alone settle their puzzle: it has exactly one solution then.
+/// Whether the rules alone settle their puzzle: it has exactly one solution then. That is so if a search without a trial says
+/// one.
 pub fn settles<R: Searchable>(store: &mut Store<R>, rules: &R) -> bool
     requires { FitsIn (needs_of (R.system rules.now)) store.old.made }
     ensures settled { result ≡ is_settled (R.system rules.now) }
     ensures one { result ≡ true → HasOneSolution (Solves (R.system rules.now)) }
     ensures made { store.new.made ≡ store.old.made }
 {
-    store.settles(rules)
+    match store.solve(rules, 0) {
+        Verdict::One => true,
+        Verdict::None => false,
+        Verdict::Several => false,
+        Verdict::GaveUp { .. } => false,
+    }
 }
 
 /// The grade of a puzzle by a search.

@@ -1,8 +1,26 @@
-use Rattle.commands.proofs.Common.{sym, ◌∙◌}
+use Rattle.commands.proofs.Common.{sym}
 use Rattle.commands.proofs.GradeLemmas.{settled_one}
+use Rattle.commands.proofs.GradedAlike.{one_settled, unsettled}
 use Rattle.commands.proofs.grade.grading.settles.Goals as goal
 
-pub returns-clause-one : goal.returns-clause-one
-returns-clause-one g c = λ settled.
-    settled_one (record { lawful = g.met.R.Rules.lawful c.args.rules.now; accepted = λ h. ((λ s. s), (λ s. s)) })
-    (sym c.settles.ensures.settled ∙ settled)
+pub returns-in-One-clause-settled : goal.returns-in-One-clause-settled
+returns-in-One-clause-settled g c =
+    let said = c.in-One.ensures.verdict in
+    sym (one_settled (g.met.R.Rules.lawful c.args.rules.now) said.0 said.1)
+
+pub returns-in-One-clause-one : goal.returns-in-One-clause-one
+returns-in-One-clause-one g c = λ _.
+    let said = c.in-One.ensures.verdict in
+    let lawful = g.met.R.Rules.lawful c.args.rules.now in
+    settled_one (record { lawful = lawful; accepted = λ h. ((λ s. s), (λ s. s)) }) (one_settled lawful said.0 said.1)
+
+pub returns-in-None-clause-settled : goal.returns-in-None-clause-settled
+returns-in-None-clause-settled g c = unsettled (g.met.R.Rules.lawful c.args.rules.now) c.in-None.ensures.verdict.0 (λ g e. cc)
+
+pub returns-in-Several-clause-settled : goal.returns-in-Several-clause-settled
+returns-in-Several-clause-settled g c =
+    unsettled (g.met.R.Rules.lawful c.args.rules.now) c.in-Several.ensures.verdict.2 (λ g e. cc)
+
+pub returns-in-GaveUp-clause-settled : goal.returns-in-GaveUp-clause-settled
+returns-in-GaveUp-clause-settled g c =
+    unsettled (g.met.R.Rules.lawful c.args.rules.now) c.in-GaveUp.ensures.verdict.0 (λ g e. cc)
