@@ -14,7 +14,8 @@ impl<W: Word> LightNotes<W> {
     /// Visits the numbers that wait, up to one whose house has no filling, and wakes what lost values may bind.
     pub(crate) fn sweep_numbers(&mut self, planes: &mut Planes<W>, puzzle: &LightPuzzle) -> bool
         requires ready { AreLightsReady W.bits W.room puzzle.now planes.old self.old }
-        ensures visited { AreVisited (in_rows puzzle.now numbers_of_row) planes.old planes.new result }
+        ensures visited { AreVisited (in_rows puzzle.now numbers_of_row)
+            planes.old planes.new result }
         ensures ready { result ≡ true
             → AreLightsReady W.bits W.room puzzle.now planes.new self.new }
         ensures kept { AreTablesKept self.old self.new }
