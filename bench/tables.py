@@ -4,7 +4,7 @@
 A line `<!-- COMMAND -->` of bench/README.md, with a script of this folder and its words, begins a part, and `<!-- end -->` ends
 it. What the command prints takes the place of the lines between. PROGRAM stands for the program, and `machine` for what is
 measured on. With --gate LOG, what gate.py wrote to standard error, the table of the gate is written too, or without a PROGRAM it
-alone.
+alone. A gate that was run in parts, some crates each, has a LOG for each part: the table has their sums.
 docs/CONTRIBUTING.md has the sums of that table: a change is proved with all crates that stand on it (crates.txt).
 
 It takes some 12 minutes, most of them of one core. Nothing is asserted.
@@ -44,6 +44,12 @@ def machine():
     return f"Measured on {datetime.date.today():%-d %B %Y}: {os.cpu_count()} cores ({kind}), {memory:.0f} GB."
 
 
+def kit():
+    """The kit that proves here, as it names itself."""
+    told = subprocess.run(["rt", "version"], stdout=subprocess.PIPE, text=True, check=True, timeout=COMMAND_SECONDS)
+    return told.stdout.split()[0]
+
+
 def machine_with(program):
     """The same, and with which program."""
     digest = hashlib.sha256(pathlib.Path(program).read_bytes()).hexdigest()
@@ -63,8 +69,11 @@ def printed(command, program):
 
 def minutes(text):
     """Of each crate the minutes of its proof, its tests and its wrong bodies, by the table of the gate in a text."""
-    rows = re.findall(r"^\| `(\w+)` \| ([\d.]+|-) \| ([\d.]+|-) \| ([\d.]+|-) \|", text, re.M)
-    return {crate: [0.0 if cell == "-" else float(cell) for cell in cells] for crate, *cells in rows}
+    sums = {}
+    for crate, *cells in re.findall(r"^\| `(\w+)` \| ([\d.]+|-) \| ([\d.]+|-) \| ([\d.]+|-) \|", text, re.M):
+        parts = [0.0 if cell == "-" else float(cell) for cell in cells]
+        sums[crate] = [old + new for old, new in zip(sums.get(crate, [0.0] * len(parts)), parts)]
+    return sums
 
 
 def crates_below():
@@ -85,7 +94,7 @@ def gate_table(log):
         lines.append(f"| `{crate}` | {cells} | {bodies[crate]} |\n")
     sums = [sum(parts) for parts in zip(*by_crate.values())]
     lines.append(f"| all, {sum(sums):.0f} | " + " | ".join(f"{part:.0f}" for part in sums) + f" | {sum(bodies.values())} |\n")
-    return f"{wrapped(machine())}\n\n{HEAD}{''.join(lines)}\n"
+    return f"{wrapped(f'{machine()} The kit is {kit()}.')}\n\n{HEAD}{''.join(lines)}\n"
 
 
 def above(crate, below):
@@ -112,7 +121,8 @@ def with_minutes(text, figures):
 
 def main():
     form = argparse.ArgumentParser(description=__doc__, formatter_class=argparse.RawDescriptionHelpFormatter)
-    form.add_argument("--gate", metavar="LOG", type=argparse.FileType(), help="what gate.py wrote to standard error")
+    form.add_argument("--gate", metavar="LOG", type=argparse.FileType(), action="append",
+                      help="what gate.py wrote to standard error; one for each part of a gate that was run in parts")
     form.add_argument("program", metavar="PROGRAM", nargs="?", type=words.program,
                       help="as `rt run` leaves it: crates/puzzles/out/puzzles")
     form.add_argument("parts", metavar="SCRIPT", nargs="*", help="the tables of these alone, as made.py; `machine` is one too")
@@ -122,7 +132,7 @@ def main():
     for command, _ in PART.findall(FIGURES.read_text()):
         is_asked = not asked.parts or command.split()[0] in asked.parts
         if asked.gate if command == "gate.py" else asked.program and is_asked:
-            new = gate_table(asked.gate.read()) if command == "gate.py" else printed(command, asked.program)
+            new = gate_table("".join(log.read() for log in asked.gate)) if command == "gate.py" else printed(command, asked.program)
             part = f"<!-- {command} -->\n{new}<!-- end -->"
             FIGURES.write_text(PART.sub(lambda old: part if old[1] == command else old[0], FIGURES.read_text()))
     CHANGES.write_text(with_minutes(CHANGES.read_text(), FIGURES.read_text()))
