@@ -10,6 +10,9 @@ import re
 
 TOP = pathlib.Path(__file__).resolve().parent.parent
 
+# Modules of definitions that hand words on, and have none of their own.
+HANDING_ON = {"Common", "Below"}
+
 # The program hands nothing on; these are what may be called with ends of one's own.
 PROGRAM = {"run", "run_on_bytes", "ReadEnd", "WriteEnd"}
 
@@ -146,7 +149,7 @@ def imports(file):
     for crate, module, several in re.findall(r"use Rattle\.(\w+)\.specs\.(\w+)\.\{([^}]*)\}", file.read_text()):
         there = TOP / "crates" / crate / "specs" / f"{module}.antt"
         if there.exists():
-            handed = imports(there) if module == "Common" else {}
+            handed = imports(there) if module in HANDING_ON else {}
             found.update((word, handed.get(word, there)) for word in re.findall(WORD, several))
     return found
 
