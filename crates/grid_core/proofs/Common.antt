@@ -42,7 +42,7 @@ unfoldable pub use Rattle.grid_core.specs.Candidates.{pick, single, sum_below, t
 pub use Rattle.grid_core.specs.Extent.{Extent, IsExtent, max_side}
 pub use Rattle.grid_core.specs.Grids.{IsGrid}
 pub use Rattle.grid_core.specs.Pairings.{IsShortSet}
-pub use Rattle.grid_core.specs.Planes.{ArePlanes, AreTakings, AreTurned, AreWords, HasLine, HasLost, HasRoomFor, IsFresh, IsFurther, IsLineIn}
+pub use Rattle.grid_core.specs.Planes.{AreLinesFilled, ArePlanes, AreTakings, AreTurned, AreWords, HasLine, HasLost, HasRoomFor, IsFresh, IsFurther, IsLineIn}
 pub use Rattle.grid_core.specs.Planes.{IsTakingIn, IsThere, Layers, Taking, at_line, back_at, cells_of, layers_of, line_len, no_taking, taking_at}
 pub use Rattle.grid_core.specs.Planes.{taking_of}
 unfoldable pub use Rattle.grid_core.specs.Planes.{bit_of, covers, crosses, has, put_back, turned_by, without_taking}

@@ -57,7 +57,7 @@ room_of_line room size rows columns v (Row k) bits narrow low tall wide lt withi
 room_of_line room size rows columns v (Column k) bits narrow low tall wide lt within =
     (omega (arith, within.0), omega (arith, within.0), λ y on. let h = within.1 y on in (omega arith, omega arith))
 
-pub room_for : (room : ℕ) (p : Layers) (t : Taking) → ArePlanes room p → IsTakingIn p.size t → HasRoomFor room (length p.rows) (length p.columns) t
+pub room_for : (room : ℕ) (p : Layers) (t : Taking) → ArePlanes room p → IsTakingIn p.size t → HasRoomFor room p.rows p.columns t
 room_for room p t are within =
     (within.value_in, room_of_line room p.size (length p.rows) (length p.columns) t.value t.line t.bits are.narrow are.low are.tall are.wide within.value_in within.line_in)
 

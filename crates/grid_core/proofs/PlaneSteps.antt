@@ -1,10 +1,12 @@
 -- One step of planes, by the words that the program keeps.
-use Rattle.grid_core.proofs.Common.{ArePlanes, AreTurned, Candidates, Column, Extent, HasRoomFor, IsExtent, IsLineIn, IsFresh, IsTakingIn, IsThere, Layers, List, Row, Taking, all_of, and_comm, and_parts, ap, arith, bit_of, cases_Bool, cases_lt, common_steps, div-lt_iff_lt-mul, false, false_from_ne_true, fun_ext, get_or, get_or-map, get_or-replicate, get_or_past, has, has_bit, inl, inr, layers_of, le-ltb, length, length-map, length-replicate, lt-ltb, ltb, ltb-true, map, map-set, mod-lt, no_taking, refl, replicate, set, slice_index, suc, sym, taking_at, taking_of, total, true, zero, ℕ, ◌%◌, ◌&&◌, ◌*◌, ◌+◌, ◌-◌, ◌/◌, ◌<◌, ◌↔◌, ◌∙◌, ◌≡◌, ◌≤◌, ◌⊎◌}
+use Rattle.grid_core.proofs.Common.{AreLinesFilled, ArePlanes, Candidates, Column, Extent, HasRoomFor, IsExtent, IsLineIn, IsFresh, IsTakingIn, IsThere, Layers, List, Row, Taking, all_of, and_comm, and_parts, ap, arith, bit_of, cases_Bool, cases_lt, common_steps, div-lt_iff_lt-mul, false, false_from_ne_true, fun_ext, get_or, get_or-map, get_or-replicate, get_or_past, has, has_bit, inl, inr, layers_of, le-ltb, length, length-map, length-replicate, lt-ltb, ltb, ltb-true, map, map-set, mod-lt, no_taking, refl, replicate, set, slice_index, suc, sym, taking_at, taking_of, total, true, zero, ℕ, ◌%◌, ◌&&◌, ◌*◌, ◌+◌, ◌-◌, ◌/◌, ◌<◌, ◌↔◌, ◌∙◌, ◌≡◌, ◌≤◌, ◌⊎◌}
 use Rattle.grid_core.proofs.CandidateLemmas.{count_below-bound}
 use Rattle.grid_core.proofs.WordLemmas.{zero-bits}
 use Rattle.grid_core.specs.declared.planes.line.Change.{Change}
 use Rattle.grid_core.specs.declared.planes.line.Line.{Line}
-use Rattle.grid_core.specs.Planes.{number_of}
+use Rattle.grid_core.specs.declared.planes.Planes.TheInside.{Inside}
+use Rattle.grid_core.specs.Planes.{IsTurned, number_of}
+use Rattle.std.specs.Global.{Vec}
 use Rattle.grid_core.proofs.TakingLemmas.{takings-none, takings-len}
 use Rattle.grid_core.proofs.PlaneLemmas.{IsTaken, IsPutBack, taken, given_back, room_for}
 
@@ -59,7 +61,7 @@ pub record IsBegun (room : ℕ) (size : Extent) (K : Candidates) (p : Layers) : 
 
 -- the first words, so many lines of them, have these places, and all others none
 pub record AreWritten {W : Type 0} (bits : W → ℕ) (words : List W) (lines : ℕ) (word : W) (room : ℕ) : Type 0 where
-  pub is : (k place : ℕ) → has_bit (slice_index (map bits words) k) place ≡ (ltb k (2 * lines) && has_bit (bits word) place)
+  pub is : AreLinesFilled bits lines word words
   pub long : length words ≡ 2 * room
 
 bit_written : {W : Type 0} (bits : W → ℕ) (words : List W) (lines : ℕ) (word : W) (room line v place n : ℕ) → AreWritten bits words lines word room
@@ -130,28 +132,29 @@ line_room room p k are lt = by (taking_at p.takings k).line (taking_at p.takings
     by (Column x) bits within = let narrow = are.narrow in omega (arith, narrow, within.0)
 
 -- ---- a step taken, and put back
-module _ {W : Type 0} (bits : W → ℕ) (room : ℕ) (size : Extent) (rows columns : List W) (changes : List (Change W)) (len : ℕ)
-    (are : ArePlanes room (layers_of bits size rows columns changes len)) where
-  pub take_step : (rows' columns' : List W) (change : Change W) → IsThere (layers_of bits size rows columns changes len) (taking_of bits change)
-      → AreTurned (map bits rows) (map bits columns) (map bits rows') (map bits columns') (taking_of bits change)
-      → length rows' ≡ length rows → length columns' ≡ length columns
-      → IsTaken room (layers_of bits size rows columns changes len) (layers_of bits size rows' columns' (set changes len change) (len + 1)) (taking_of bits change)
-  take_step rows' columns' change there turned tall wide =
-      rw (map-set (taking_of bits) changes len change) (taken room _ _ (map bits rows') (map bits columns') are there turned
-      (length-map rows' bits ∙ tall ∙ sym (length-map rows bits)) (length-map columns' bits ∙ wide ∙ sym (length-map columns bits)))
+module _ {W : Type 0} (bits : W → ℕ) (p : Inside W) {room : ℕ}
+    (are : ArePlanes room (layers_of bits p.size p.rows.items p.columns.items p.changes.items p.len)) where
+  pub take_step : (rows columns : Vec W) (change : Change W) → IsThere (layers_of bits p.size p.rows.items p.columns.items p.changes.items p.len) (taking_of bits change)
+      → IsTurned bits change.line change.value change.bits p.rows p.columns rows columns → length rows.items ≡ length p.rows.items → length columns.items ≡ length p.columns.items
+      → IsTaken room (layers_of bits p.size p.rows.items p.columns.items p.changes.items p.len)
+      (layers_of bits p.size rows.items columns.items (set p.changes.items p.len change) (p.len + 1)) (taking_of bits change)
+  take_step rows columns change there turned tall wide =
+      rw (map-set (taking_of bits) p.changes.items p.len change) (taken room _ _ (map bits rows.items) (map bits columns.items) are there turned
+      (length-map rows.items bits ∙ tall ∙ sym (length-map p.rows.items bits)) (length-map columns.items bits ∙ wide ∙ sym (length-map p.columns.items bits)))
 
-  pub undo_step : (rows' columns' : List W) (n : ℕ) (t : Taking) → n + 1 ≡ len → taking_at (map (taking_of bits) changes) n ≡ t
-      → AreTurned (map bits rows) (map bits columns) (map bits rows') (map bits columns') t → length rows' ≡ length rows → length columns' ≡ length columns
-      → IsPutBack room (layers_of bits size rows columns changes len) (layers_of bits size rows' columns' changes n)
-  undo_step rows' columns' n t e last turned tall wide =
-      given_back room _ (map bits rows') (map bits columns') n are e (rw last turned)
-      (length-map rows' bits ∙ tall ∙ sym (length-map rows bits)) (length-map columns' bits ∙ wide ∙ sym (length-map columns bits))
+  pub undo_step : (rows columns : Vec W) (n : ℕ) (change : Change W) → n + 1 ≡ p.len → taking_at (map (taking_of bits) p.changes.items) n ≡ taking_of bits change
+      → IsTurned bits change.line change.value change.bits p.rows p.columns rows columns → length rows.items ≡ length p.rows.items → length columns.items ≡ length p.columns.items
+      → IsPutBack room (layers_of bits p.size p.rows.items p.columns.items p.changes.items p.len) (layers_of bits p.size rows.items columns.items p.changes.items n)
+  undo_step rows columns n change e last turned tall wide =
+      given_back room _ (map bits rows.items) (map bits columns.items) n are e (rw last turned)
+      (length-map rows.items bits ∙ tall ∙ sym (length-map p.rows.items bits)) (length-map columns.items bits ∙ wide ∙ sym (length-map p.columns.items bits))
 
-  pub room_at : (t : Taking) → IsTakingIn size t → HasRoomFor room (length rows) (length columns) t
-  room_at t within = rw (length-map rows bits, length-map columns bits) at (room_for room _ t are within)
+  pub room_at : (t : Taking) → IsTakingIn p.size t → HasRoomFor room p.rows.items p.columns.items t
+  room_at t within = rw (length-map p.rows.items bits, length-map p.columns.items bits) at (room_for room _ t are within)
 
   -- what was taken last
-  pub last_read : (change : Change W) → 0 < len → change ≡ get_or changes (len - 1) change → taking_at (map (taking_of bits) changes) (len - 1) ≡ taking_of bits change
+  pub last_read : (change : Change W) → 0 < p.len → change ≡ get_or p.changes.items (p.len - 1) change
+      → taking_at (map (taking_of bits) p.changes.items) (p.len - 1) ≡ taking_of bits change
   last_read change pos read =
       let long = takings-len _ _ _ _ are.takings in
-      taking_read bits changes (len - 1) change (omega (arith, long, length-map changes (taking_of bits))) read
+      taking_read bits p.changes.items (p.len - 1) change (omega (arith, long, length-map p.changes.items (taking_of bits))) read

@@ -7,6 +7,7 @@ pub mod Board
 pub mod Regions
 pub mod Lines
 pub mod Pairings
+pub mod EdgePairings
 pub mod Augmenting
 pub mod Words
 pub mod Planes

@@ -1,7 +1,14 @@
 -- Pairings of lefts with rights, over a test that says which are joined.
-use Rattle.std.specs.Prelude.{◌≡◌, ℕ, ◌<◌, Bool, IsTrue, List, length, slice_index, count_by, All}
+use Rattle.std.specs.Prelude.{◌≡◌, ℕ, ◌<◌, ◌≤◌, Bool, IsTrue, List, Option, MatchOption, length, slice_index, count_by, All}
 use Rattle.std.specs.List.{list_any, range_with_len}
 use Rattle.std.specs.List.Sorted.{IsStrictlyIncreasing}
+
+-- the answer is the least number from `from` on, and below n, that is joined; or none is
+abbrev pub IsNextJoined : (ℕ → Bool) → ℕ → ℕ → Option ℕ → Type 0
+IsNextJoined is_joined from n next = MatchOption next
+    ((r : ℕ) → from ≤ r → r < n → IsTrue (is_joined r) → ⊥)
+    (λ r. (from ≤ r) × (r < n) × IsTrue (is_joined r)
+    × ((q : ℕ) → from ≤ q → q < r → IsTrue (is_joined q) → ⊥))
 
 -- each of the first `lefts` lefts has a joined right of its own, its mate
 pub record IsPairing (joins : ℕ → ℕ → Bool) (lefts rights : ℕ)

@@ -1,6 +1,7 @@
 -- Boards of two values as planes of bits: for each value the cells that can have it, as a word for each row and one for each
 -- column. The words of line k for the values 0 and 1 are those with the numbers 2 * k and 2 * k + 1.
 use Rattle.std.specs.Prelude.{◌≡◌, ℕ, zero, suc, ◌+◌, ◌*◌, ◌/◌, ◌%◌, ◌<◌, ◌≤◌, Bool, true, false, not, ◌&&◌, ◌==◌, nat_lt, nat_le, List, length, map, slice_index, slice_index_or, if◌then◌else◌}
+use Rattle.std.specs.Global.{Vec}
 use Rattle.grid_core.specs.Candidates.{Candidates, IsInside, total}
 use Rattle.grid_core.specs.Extent.{Extent, IsExtent}
 use Rattle.grid_core.specs.Words.{has_bit, differ}
@@ -19,8 +20,12 @@ pub record Taking : Type 0 where
   pub value : ℕ
   pub bits : ℕ
 
+-- the same by a word, and as it is noted
+abbrev pub taking : {W : Type 0} → (W → ℕ) → Line → ℕ → W → Taking
+taking bits line value word = record { line = line; value = value; bits = bits word }
+
 abbrev pub taking_of : {W : Type 0} → (W → ℕ) → Change W → Taking
-taking_of bits change = record { line = change.line; value = change.value; bits = bits change.bits }
+taking_of bits change = taking bits change.line change.value change.bits
 
 abbrev pub no_taking : Taking
 no_taking = record { line = Row 0; value = 0; bits = 0 }
@@ -53,6 +58,10 @@ pub record Layers : Type 0 where
 -- whether the cell can have the value
 unfoldable pub has : Layers → Candidates
 has p c v = nat_lt v 2 && bit_of p.rows (c / p.size.w) v (c % p.size.w)
+
+-- the board of planes without what is taken
+abbrev pub has_without : Layers → Taking → Candidates
+has_without p t = without_taking p.size.w (has p) t
 
 abbrev pub cells_of : Layers → ℕ
 cells_of p = p.size.w * p.size.h
@@ -139,15 +148,45 @@ pub record AreTurned (rows columns rows' columns' : List ℕ) (t : Taking) : Typ
   pub by_columns : (x u y : ℕ) → u < 2 → bit_of columns' x u y
       ≡ differ (bit_of columns x u y) ((u == t.value) && crosses t.line t.bits y x)
 
+-- the same of words that stand in lists, and of a taking by a word
+abbrev pub IsTurned : {W : Type 0} → (W → ℕ) → Line → ℕ → W → Vec W → Vec W → Vec W → Vec W → Type 0
+IsTurned bits line value word rows columns rows' columns' =
+    AreTurned (map bits rows.items) (map bits columns.items) (map bits rows'.items) (map bits columns'.items)
+    (taking bits line value word)
+
+-- in the line's word of the value the bits are turned over, and in no other
+abbrev pub IsTurnedAlong : {W : Type 0} → (W → ℕ) → ℕ → ℕ → W → List W → List W → Type 0
+IsTurnedAlong bits line value word old new = (j u k : ℕ) → u < 2 → bit_of (map bits new) j u k
+    ≡ differ (bit_of (map bits old) j u k) ((u == value) && ((j == line) && has_bit (bits word) k))
+
+-- in the words of the lines that cross it at these bits the bit of the line is turned over, and no other
+abbrev pub IsTurnedAcross : {W : Type 0} → (W → ℕ) → ℕ → ℕ → W → List W → List W → Type 0
+IsTurnedAcross bits line value word old new = (k u j : ℕ) → u < 2 → bit_of (map bits new) k u j
+    ≡ differ (bit_of (map bits old) k u j) ((u == value) && ((j == line) && has_bit (bits word) k))
+
+-- whether the k-th word has the place
+abbrev pub bit_in : {W : Type 0} → (W → ℕ) → List W → ℕ → ℕ → Bool
+bit_in bits words k place = has_bit (slice_index (map bits words) k) place
+
+-- the first lines, so many, have this word for both values, and no other word has a place
+abbrev pub AreLinesFilled : {W : Type 0} → (W → ℕ) → ℕ → W → List W → Type 0
+AreLinesFilled bits lines word words = (k place : ℕ) → bit_in bits words k place
+    ≡ (nat_lt k (2 * lines) && has_bit (bits word) place)
+
+-- for the value, the words of the lines at these places are among so many
+abbrev pub AreCrossed : ℕ → ℕ → ℕ → ℕ → Type 0
+AreCrossed room words value bits = (k : ℕ) → has_bit bits k ≡ true → (k < room) × (2 * k + value < words)
+
 -- the words of a line, and of the lines that cross it at its places, are among so many
 abbrev pub HasLine : ℕ → ℕ → ℕ → Line → ℕ → ℕ → Type 0
 HasLine room rows columns (Row y) value bits = (y < room) × (2 * y + value < rows)
-    × ((x : ℕ) → has_bit bits x ≡ true → (x < room) × (2 * x + value < columns))
+    × AreCrossed room columns value bits
 HasLine room rows columns (Column x) value bits = (x < room) × (2 * x + value < columns)
-    × ((y : ℕ) → has_bit bits y ≡ true → (y < room) × (2 * y + value < rows))
+    × AreCrossed room rows value bits
 
-abbrev pub HasRoomFor : ℕ → ℕ → ℕ → Taking → Type 0
-HasRoomFor room rows columns t = (t.value < 2) × HasLine room rows columns t.line t.value t.bits
+abbrev pub HasRoomFor : {W : Type 0} → ℕ → List W → List W → Taking → Type 0
+HasRoomFor room rows columns t =
+    (t.value < 2) × HasLine room (length rows) (length columns) t.line t.value t.bits
 
 -- each cell of what is to be taken has the value, and there is one
 pub record IsThere (p : Layers) (t : Taking) : Type 0 where

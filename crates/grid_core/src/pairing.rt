@@ -1,7 +1,7 @@
 //! Pairings of two sides.
 
-ghost use Rattle.std.specs.Prelude.{◌≡◌, ℕ, ◌<◌, ◌≤◌, Bool, IsTrue, MatchOption, IfOk, [], length, slice_index};
-ghost use Rattle.grid_core.specs.Pairings.{IsPairing, IsShortSet};
+ghost use Rattle.std.specs.Prelude.{◌≡◌, ℕ, ◌<◌, ◌≤◌, Bool, IfOk, [], length, slice_index};
+ghost use Rattle.grid_core.specs.Pairings.{IsNextJoined};
 
 use crate::augmenting::{explore, shift};
 use crate::frontier::Frontier;
@@ -28,11 +28,7 @@ pub trait Edges {
     /// The least right at or after `from` that is joined to `left`.
     fn next(&self, left: usize, from: usize) -> Option<usize>
         requires { left < left_count self.now }
-        ensures { MatchOption result
-            ((r : ℕ) → from ≤ r → r < right_count self.now
-            → IsTrue (joins self.now left r) → ⊥)
-            (λ r. (from ≤ r) × (r < right_count self.now) × IsTrue (joins self.now left r)
-            × ((q : ℕ) → from ≤ q → q < r → IsTrue (joins self.now left q) → ⊥)) };
+        ensures { IsNextJoined (joins self.now left) from (right_count self.now) result };
 }
 
 /// What a run came to.
@@ -67,6 +63,8 @@ impl Model for Pairing {
 }
 
 impl Pairing {
+    ghost use Rattle.grid_core.specs.EdgePairings.{IsPairingOf, IsShortSetOf};
+
     /// Room for n lefts and n rights.
     pub fn new(alloc: Global, n: usize) -> Result<Pairing, AllocError>
         ensures { IfOk result (λ p. (p.room ≡ n) × (p.mates ≡ []) × (p.short ≡ [])) }
@@ -82,12 +80,10 @@ impl Pairing {
         requires lefts_fit { E.left_count edges.now ≤ self.old.room }
         requires rights_fit { E.right_count edges.now ≤ self.old.room }
         ensures room { self.new.room ≡ self.old.room }
-        ensures all { result ≡ Paired.All → IsPairing (E.joins edges.now)
-            (E.left_count edges.now) (E.right_count edges.now) self.new.mates }
+        ensures all { result ≡ Paired.All → IsPairingOf E.Edges edges.now self.new.mates }
         ensures none_short { result ≡ Paired.All → self.new.short ≡ [] }
         ensures no_mates { result ≡ Paired.Short → self.new.mates ≡ [] }
-        ensures short { result ≡ Paired.Short → IsShortSet (E.joins edges.now)
-            (E.left_count edges.now) (E.right_count edges.now) self.new.short }
+        ensures short { result ≡ Paired.Short → IsShortSetOf E.Edges edges.now self.new.short }
     {
         self.mates.clear();
         while self.mates.count() < edges.lefts() {

@@ -4,7 +4,7 @@
 ghost use Rattle.std.specs.Prelude.{◌≡◌, ℕ, ◌+◌, ◌*◌, ◌/◌, ◌%◌, ◌<◌, ◌≤◌, length, nat_lt, true, IfOk};
 ghost use Rattle.grid_core.specs.Candidates.{all_of};
 ghost use Rattle.grid_core.specs.Words.{has_bit};
-ghost use Rattle.grid_core.specs.Planes.{bit_of, has, cells_of, back_at, without_taking, ArePlanes, IsThere, IsFresh, IsFurther, IsBack, at_line, lines_beside, line_len, number_of};
+ghost use Rattle.grid_core.specs.Planes.{bit_of, has, cells_of, back_at, has_without, taking, ArePlanes, IsThere, IsFresh, IsFurther, IsBack, at_line, lines_beside, line_len, number_of};
 
 pub(crate) mod judge;
 pub(crate) mod line;
@@ -193,8 +193,7 @@ impl<W: Word> Planes<W> {
     pub fn take(&mut self, line: Line, value: u8, bits: W)
         requires line_in { number_of line < lines_beside self.old.size line }
         requires value_in { value < 2 }
-        ensures left { has self.new ≡ without_taking self.old.size.w (has self.old)
-            (record { line = line; value = value; bits = W.bits bits }) }
+        ensures left { has self.new ≡ has_without self.old (taking W.bits line value bits) }
         ensures further { IsFurther self.old self.new }
     {
         let there = self.line(line, value).both(bits);
@@ -205,9 +204,8 @@ impl<W: Word> Planes<W> {
 
     /// Takes the value from cells of a line, each of which can have it, and notes them.
     fn take_all(&mut self, line: Line, value: u8, bits: W)
-        requires { IsThere self.old (record { line = line; value = value; bits = W.bits bits }) }
-        ensures left { has self.new ≡ without_taking self.old.size.w (has self.old)
-            (record { line = line; value = value; bits = W.bits bits }) }
+        requires { IsThere self.old (taking W.bits line value bits) }
+        ensures left { has self.new ≡ has_without self.old (taking W.bits line value bits) }
         ensures further { IsFurther self.old self.new }
     {
         self.changes[self.len] = Change { line, value, bits };

@@ -1,9 +1,8 @@
 //! The words of planes: as they begin, and bits of a line turned over, in its word and in the words of its crossing lines.
 #![tactic(auto)]
 
-ghost use Rattle.std.specs.Prelude.{◌≡◌, ℕ, ◌+◌, ◌*◌, ◌<◌, ◌&&◌, ◌==◌, true, false, map, length, nat_lt, slice_index, ◌≤◌};
-ghost use Rattle.grid_core.specs.Words.{has_bit, differ};
-ghost use Rattle.grid_core.specs.Planes.{bit_of, AreTurned, HasRoomFor};
+ghost use Rattle.std.specs.Prelude.{◌≡◌, ℕ, ◌+◌, ◌*◌, ◌<◌, ◌≤◌, false, length};
+ghost use Rattle.grid_core.specs.Planes.{bit_in, taking, AreCrossed, AreLinesFilled, HasRoomFor, IsTurned, IsTurnedAcross, IsTurnedAlong};
 
 use crate::fixed::Fixed;
 use crate::planes::line::Line;
@@ -14,10 +13,8 @@ use crate::planes::word::Word;
 pub(crate) fn write_lines<W: Word>(words: &mut Fixed<W>, had: usize, lines: usize, word: W)
     requires few { 2 * lines ≤ length words.old.items }
     requires had_few { 2 * had ≤ length words.old.items }
-    requires others { (k place : ℕ) → 2 * had ≤ k
-        → has_bit (slice_index (map W.bits words.old.items) k) place ≡ false }
-    ensures written { (k place : ℕ) → has_bit (slice_index (map W.bits words.new.items) k) place
-        ≡ (nat_lt k (2 * lines) && has_bit (W.bits word) place) }
+    requires others { (k place : ℕ) → 2 * had ≤ k → bit_in W.bits words.old.items k place ≡ false }
+    ensures written { AreLinesFilled W.bits lines word words.new.items }
     ensures long { length words.new.items ≡ length words.old.items }
 {
     let none = W::none();
@@ -33,14 +30,9 @@ fn turn<W: Word>(along: &mut Fixed<W>, across: &mut Fixed<W>, line: usize, value
     requires value_in { value < 2 }
     requires line_in { 2 * line + value < length along.old.items }
     requires line_room { line < W.room }
-    requires bits_in { (k : ℕ) → has_bit (W.bits bits) k ≡ true
-        → (k < W.room) × (2 * k + value < length across.old.items) }
-    ensures along { (j u k : ℕ) → u < 2 → bit_of (map W.bits along.new.items) j u k
-        ≡ differ (bit_of (map W.bits along.old.items) j u k)
-        ((u == value) && ((j == line) && has_bit (W.bits bits) k)) }
-    ensures across { (k u j : ℕ) → u < 2 → bit_of (map W.bits across.new.items) k u j
-        ≡ differ (bit_of (map W.bits across.old.items) k u j)
-        ((u == value) && ((j == line) && has_bit (W.bits bits) k)) }
+    requires bits_in { AreCrossed W.room (length across.old.items) value (W.bits bits) }
+    ensures along { IsTurnedAlong W.bits line value bits along.old.items along.new.items }
+    ensures across { IsTurnedAcross W.bits line value bits across.old.items across.new.items }
     ensures long { length along.new.items ≡ length along.old.items }
     ensures wide { length across.new.items ≡ length across.old.items }
 {
@@ -65,11 +57,8 @@ pub(crate) fn turn_line<W: Word>(
     value: u8,
     bits: W,
 )
-    requires { HasRoomFor W.room (length rows.old.items) (length columns.old.items)
-        (record { line = line; value = value; bits = W.bits bits }) }
-    ensures turned { AreTurned (map W.bits rows.old.items) (map W.bits columns.old.items)
-        (map W.bits rows.new.items) (map W.bits columns.new.items)
-        (record { line = line; value = value; bits = W.bits bits }) }
+    requires { HasRoomFor W.room rows.old.items columns.old.items (taking W.bits line value bits) }
+    ensures turned { IsTurned W.bits line value bits rows.old columns.old rows.new columns.new }
     ensures tall { length rows.new.items ≡ length rows.old.items }
     ensures wide { length columns.new.items ≡ length columns.old.items }
 {

@@ -3,7 +3,7 @@
 
 ghost use Rattle.std.specs.Prelude.{◌≡◌, ℕ, ◌+◌, ◌-◌, ◌<◌, ◌≤◌, true, false, not, ◌&&◌, ◌||◌, ◌==◌, nat_lt};
 ghost use Rattle.grid_core.specs.Candidates.{any_below, count_below};
-ghost use Rattle.grid_core.specs.Words.{has_bit, differ, IsLeast};
+ghost use Rattle.grid_core.specs.Words.{has_bit, differ, AreBits, IsLeast, IsWithoutLowest, moved_on};
 
 /// A set of places.
 pub trait Word: Copy + Drop {
@@ -34,28 +34,24 @@ pub trait Word: Copy + Drop {
 
     /// The places that both have.
     fn both(self, other: Self) -> Self
-        ensures { (p : ℕ) → has_bit (bits result) p
-            ≡ (has_bit (bits self) p && has_bit (bits other) p) };
+        ensures { AreBits (bits result) (λ p. has_bit (bits self) p && has_bit (bits other) p) };
 
     /// The places that one of the two has, or both.
     fn either(self, other: Self) -> Self
-        ensures { (p : ℕ) → has_bit (bits result) p
-            ≡ (has_bit (bits self) p || has_bit (bits other) p) };
+        ensures { AreBits (bits result) (λ p. has_bit (bits self) p || has_bit (bits other) p) };
 
     /// The places that just one of the two has.
     fn differ(self, other: Self) -> Self
-        ensures { (p : ℕ) → has_bit (bits result) p
-            ≡ differ (has_bit (bits self) p) (has_bit (bits other) p) };
+        ensures { AreBits (bits result) (λ p. differ (has_bit (bits self) p) (has_bit (bits other) p)) };
 
     /// The places but the other's.
     fn but(self, other: Self) -> Self
-        ensures { (p : ℕ) → has_bit (bits result) p
-            ≡ (has_bit (bits self) p && not (has_bit (bits other) p)) };
+        ensures { AreBits (bits result)
+            (λ p. has_bit (bits self) p && not (has_bit (bits other) p)) };
 
     /// The places one further on, of those that there are.
     fn on(self) -> Self
-        ensures { (p : ℕ) → has_bit (bits result) p
-            ≡ (nat_lt p room && (nat_lt 0 p && has_bit (bits self) (p - 1))) };
+        ensures { AreBits (bits result) (moved_on room (bits self)) };
 
     /// The places one further back.
     fn back(self) -> Self
@@ -82,8 +78,7 @@ pub trait Word: Copy + Drop {
     /// The places but the lowest.
     fn without_lowest(self) -> Self
         requires { any_below (has_bit (bits self)) room ≡ true }
-        ensures { (least p : ℕ) → IsLeast (has_bit (bits self)) room least
-            → has_bit (bits result) p ≡ (has_bit (bits self) p && not (p == least)) };
+        ensures { IsWithoutLowest room (bits self) (bits result) };
 }
 
 impl Word for u64 {

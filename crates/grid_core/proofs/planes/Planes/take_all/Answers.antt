@@ -19,7 +19,7 @@ overflow_add-self g c =
 
 pub turn_line-requires : goal.turn_line-requires
 turn_line-requires g c =
-    room_at _ _ _ _ _ _ _ c.self.invariant _ (taking_in _ _ _ c.self.invariant (rw (← c.self.view_is) at c.requires))
+    room_at _ c.self.inside c.self.invariant _ (taking_in _ _ _ c.self.invariant (rw (← c.self.view_is) at c.requires))
 
 step : (g : _) (c : After-turn_line g)
     → IsTaken g.W.Word.room
@@ -29,7 +29,7 @@ step : (g : _) (c : After-turn_line g)
     (record { line = c.args.line; value = c.args.value; bits = g.W.Word.bits c.args.bits })
 step g c =
     let t = c.turn_line.ensures in
-    take_step _ _ _ _ _ _ _ c.self.invariant _ _ _ (rw (← c.self.view_is) at c.requires) t.turned t.tall t.wide
+    take_step _ c.self.inside c.self.invariant c.turn_line.new.rows c.turn_line.new.columns _ (rw (← c.self.view_is) at c.requires) t.turned t.tall t.wide
 
 pub invariant_of-self : goal.invariant_of-self
 invariant_of-self g c = (step g (goal.at.invariant_of-self g c).After-turn_line).are

@@ -9,8 +9,8 @@ pub turn_line-requires : goal.turn_line-requires
 turn_line-requires g c =
     let i = c.loop-self.invariant in
     let lt = c.loop-self-test.true in
-    let last = last_read _ _ _ _ _ _ _ i.are c.index-change.result.now (omega arith) c.index-change.ensures in
-    room_at _ _ _ _ _ _ _ i.are _ (rw last at (i.are.takings.takings_in (c.loop-self.self-inside.len - 1) (omega arith)))
+    let last = last_read _ c.loop-self.self-inside i.are c.index-change.result.now (omega arith) c.index-change.ensures in
+    room_at _ c.loop-self.self-inside i.are _ (rw last at (i.are.takings.takings_in (c.loop-self.self-inside.len - 1) (omega arith)))
 
 step : (g : _) (c : After-turn_line g)
     → IsPutBack g.W.Word.room
@@ -23,8 +23,8 @@ step g c =
     let are = c.loop-self.invariant.are in
     let lt = c.loop-self-test.true in
     let t = c.turn_line.ensures in
-    let last = last_read _ _ _ _ _ _ _ are c.index-change.result.now (omega arith) c.index-change.ensures in
-    undo_step _ _ _ _ _ _ _ are _ _ _ _ (omega arith) last t.turned t.tall t.wide
+    let last = last_read _ c.loop-self.self-inside are c.index-change.result.now (omega arith) c.index-change.ensures in
+    undo_step _ c.loop-self.self-inside are c.turn_line.new.rows c.turn_line.new.columns _ _ (omega arith) last t.turned t.tall t.wide
 
 pub loop-self-preserved : goal.loop-self-preserved
 loop-self-preserved g c =
