@@ -1,6 +1,6 @@
 -- Reading a description that fills cells: Solo and Light Up.
 use Rattle.gameid_core.specs.Common.{AllByRecursion, Err, IdFault, List, Ok, Result, TooMany, [], ap, append_assoc, arith, common_steps, cond, fill_end, fill_step, flat_map, le-ltb, length, length-append, ltb, map, reading, refl, words, ℕ, ◌++◌, ◌+◌, ◌>>=◌, ◌∙◌, ◌∷◌, ◌≡◌, ◌≤◌}
-use Rattle.gameid_core.proofs.Results.{bind_ok, taken}
+use Rattle.gameid_core.proofs.Reading.{bind_ok, taken}
 
 -- ---- filling
 

@@ -1,9 +1,8 @@
 -- The part of an ID before its colon: what is read is spelled, and what is spelled is read.
 use Rattle.gameid_core.specs.Common.{Bool, Err, Game, HasNumber, HasSize, HeadRead, IdFault, IsSizeText, IsSoloSizeText, List, None, Ok, Option, Result, Sides, SizeRange, SizeRead, Some, TooLong, Variant, [], after_digits, all_ascii_digits, and_parts, append_assoc, arith, begins, common_steps, cond, decimal, decimal-digits_value, digits_decimal, digits_front, digits_value-decimal, drop, drop_at, eqb, false, false≢true, has_hash, head_at, head_of, in_range, inl, inr, is_ascii_digit, leb, leb-true, length, length-append, list_any, list_any-append, lt-ltb, ltb, ltb-false, max_id, max_side, nat_tests, position, position-Some, position_or_len, puzzle_of, refl, side_at, sides_at, size_of, size_read, solo_size_text, subst, take, take-append-drop, true, two_sides, value, ℕ, ◌++◌, ◌+◌, ◌<◌, ◌>>=◌, ◌^◌, ◌∷◌, ◌≡◌, ◌≤◌}
 use Rattle.gameid_core.specs.declared.id.game.Game.TheVariants.{Solo}
-use Rattle.gameid_core.proofs.Results.{bind_ok, not_refused, only_taken, taken, ok_is}
-use Rattle.gameid_core.proofs.Numerals.{front_numeral, own, begins_front, decimal_leads}
-use Rattle.gameid_core.proofs.Reading.{place}
+use Rattle.gameid_core.proofs.Reading.{bind_ok, not_refused, ok_is, only_taken, place, taken}
+use Rattle.gameid_core.proofs.Tokens.{begins_front, decimal_leads, front_numeral, own}
 
 -- ---- numbers
 

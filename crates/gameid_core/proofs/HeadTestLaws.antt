@@ -1,6 +1,6 @@
 -- The first of the tests before the colon that fails is the fault that is read.
 use Rattle.gameid_core.specs.Common.{AllByRecursion, BadSize, Bool, Comes, Err, FailsHead, FailsSize, Game, HasSize, HeadRead, IdFault, IsFirstFailed, Lacks, List, NoColon, None, Ok, Result, SeedId, Sides, SizeRange, SizeRead, Some, TooLong, Variant, [], ap, append_assoc, arith, cases_eq, common_steps, cond, drop, eq-eqb, eqb, false, false≢true, get_or, has_hash, head_at, head_of, head_tests, in_range, inl, inr, length, list_any, ltb, ltb-false, ltb-true, max_id, ne_eqb, position, position_or_len, refl, side_at, sides_at, size_of, size_read, size_tests, subst, sym, take, take_at, true, ℕ, ◌++◌, ◌+◌, ◌>>=◌, ◌↔◌, ◌∙◌, ◌∷◌, ◌≡◌, ◌≤◌, ◌⊎◌}
-use Rattle.gameid_core.proofs.Results.{ok_is, taken}
+use Rattle.gameid_core.proofs.Reading.{ok_is, taken}
 use Rattle.gameid_core.proofs.HeadLaws.{has_size_read, position_at, sides_found}
 
 -- ---- the first that fails

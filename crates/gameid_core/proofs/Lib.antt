@@ -8,8 +8,6 @@ pub mod LightTexts
 pub mod LightWritten
 pub mod LineLaws
 pub mod Lists
-pub mod Numerals
-pub mod OneReading
 pub mod OnesFit
 pub mod PatternTexts
 pub mod PatternWritten
@@ -17,7 +15,6 @@ pub mod PrintedCells
 pub mod PrintedGrids
 pub mod PrintedRows
 pub mod Reading
-pub mod Results
 pub mod RunsFit
 pub mod SoloCanon
 pub mod SoloTexts

@@ -1,7 +1,7 @@
 -- Light Up: reading byte by byte, and that a text is read exactly where it spells a puzzle.
 use Rattle.gameid_core.specs.Common.{AllByRecursion, Extent, Gives, HasOneReading, IdFault, IsExtent, IsLight, IsLightCell, IsWide, Light, LightCell, List, Numbered, Ok, Result, White, [], ap, arith, common_steps, concat, extent_of, false, fill_end, fill_step, flat_map, get_or, in_range, length, map, max_side, reading, refl, replicate, sym, true, ℕ, ◌*◌, ◌+◌, ◌-◌, ◌∙◌, ◌∷◌, ◌≡◌, ◌≤◌}
 use Rattle.gameid_core.specs.LightText.{IsLightToken, LightToken, SpellsLight, black, light_behind, light_cells_at, light_of, light_token, light_token_byte, light_token_cells, numbered, whites}
-use Rattle.gameid_core.proofs.OneReading.{only_of, reading_of}
+use Rattle.gameid_core.proofs.Reading.{only_of, reading_of}
 use Rattle.gameid_core.proofs.CellsReading.{Token, cells_spelled, cells_again}
 use Rattle.gameid_core.proofs.Lists.{AllByRecursion-replicate, AllByRecursion-flat_map}
 use Rattle.gameid_core.specs.declared.id.game.Game.TheVariants as game

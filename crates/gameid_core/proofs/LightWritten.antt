@@ -2,8 +2,8 @@
 use Rattle.gameid_core.specs.Common.{AllByRecursion, Black, HasOneText, IsLight, IsLightCell, Light, LightCell, List, Numbered, White, [], arith, common_steps, flat_map, get_or, inl, length, max_id, nat_tests, refl, replicate, size_text, suc, zero, ℕ, ◌++◌, ◌+◌, ◌<◌, ◌∷◌, ◌≡◌, ◌≤◌}
 use Rattle.gameid_core.specs.LightText.{IsLightToken, IsWrittenLight, LightToken, black, light_cells_text, light_text, light_tokens, light_token_cells, numbered, whites, AreFullLights}
 use Rattle.gameid_core.proofs.Lists.{all_at}
-use Rattle.gameid_core.proofs.OneReading.{one_text}
-use Rattle.gameid_core.proofs.Numerals.{length_decimal}
+use Rattle.gameid_core.proofs.Reading.{one_text}
+use Rattle.gameid_core.proofs.Tokens.{length_decimal}
 
 -- ---- the cells of a puzzle
 

@@ -1,6 +1,26 @@
--- Reading a description token by token, for any game, and its first fault.
-use Rattle.gameid_core.specs.Common.{Cuts, Err, FirstFault, IdFault, List, Ok, Result, [], ap, arith, concat, inr, length, length-append, reading, refl, stop, subst, sym, words, ℕ, ◌++◌, ◌+◌, ◌-◌, ◌>>=◌, ◌↔◌, ◌∙◌, ◌∷◌, ◌≡◌, ◌⊎◌}
-use Rattle.gameid_core.proofs.Results.{bind_ok}
+-- Reading a description token by token, for any game: what a step answers, the first fault, and that a text spells one puzzle or has one.
+use Rattle.gameid_core.specs.Common.{Bool, Cuts, Err, FirstFault, Gives, HasOneReading, IdFault, List, Ok, Result, [], ap, arith, concat, cond, false, inl, inr, length, length-append, reading, refl, stop, subst, sym, true, words, ℕ, ◌++◌, ◌+◌, ◌-◌, ◌>>=◌, ◌↔◌, ◌∙◌, ◌∷◌, ◌≡◌, ◌⊎◌}
+
+-- the value of a step that was not refused
+pub bind_ok : {A B : Type 0} (r : Result A IdFault) (f : A → Result B IdFault) (y : B) → (r >>= f) ≡ Ok y → (x : A) × (r ≡ Ok x) × (f x ≡ Ok y)
+bind_ok r f y e = grind arith
+
+-- which way a test went
+pub chosen : {A : Type 0} (b : Bool) (x y z : A) → cond b x y ≡ z → ((b ≡ true) × (x ≡ z)) ⊎ ((b ≡ false) × (y ≡ z))
+chosen b x y z e = grind arith
+
+abbrev pub taken : {A : Type 0} → A → Result A IdFault
+taken x = Ok x
+
+pub ok_is : {A : Type 0} (x y : A) → taken x ≡ taken y → x ≡ y
+ok_is x y e = cc
+
+-- a test that refuses let through what was taken, and one that takes took it
+pub not_refused : {A : Type 0} (b : Bool) (f : IdFault) {r : Result A IdFault} {x : A} → cond b (Err f) r ≡ Ok x → (b ≡ false) × (r ≡ Ok x)
+not_refused b f e = grind arith
+
+pub only_taken : {A : Type 0} (b : Bool) (f : IdFault) {r : Result A IdFault} {x : A} → cond b r (Err f) ≡ Ok x → (b ≡ true) × (r ≡ Ok x)
+only_taken b f e = grind arith
 
 -- the place of a rest of the description, which begins at base and has d bytes
 abbrev pub place : ℕ → ℕ → List ℕ → ℕ
@@ -74,3 +94,32 @@ module _ {S P : Type 0} (step : ℕ → S → List ℕ → Result S IdFault) (en
 
   pub exactly : (at : ℕ) (s : S) (words : List (List ℕ)) → (reading step end at s words ≡ Err f) ↔ FirstFault step end at s words f
   exactly at s words = (first_fault at s words, (λ h. ap (reading step end at s) h.parts ∙ fails_after at s h.front h.rest h.state h.leads h.fault))
+
+-- what is spelled is read, and what is read is spelled
+abbrev pub Again : {P : Type 0} → (List ℕ → P → Type 0) → (List ℕ → Result P IdFault) → Type 0
+Again {P} spells of = (text : List ℕ) (p : P) → spells text p → of text ≡ Ok p
+
+abbrev pub Takes : {P : Type 0} → (List ℕ → P → Type 0) → (List ℕ → Result P IdFault) → Type 0
+Takes {P} spells of = (text : List ℕ) (p : P) → of text ≡ Ok p → spells text p
+
+pub reading_of : {P : Type 0} (spells : List ℕ → P → Type 0) (of : List ℕ → Result P IdFault) → Again spells of → Takes spells of → HasOneReading spells of
+reading_of {P} spells of again takes = record {
+  one = λ text p q s t. ok_is p q (sym (again text p s) ∙ again text q t);
+  apart = λ text p f s e. (let bad : taken p ≡ Err f = sym (again text p s) ∙ e in absurd cc);
+  either = λ text. cases text (of text) refl;
+}
+  where
+    cases : (text : List ℕ) (r : Result P IdFault) → of text ≡ r → ((p : P) × spells text p) ⊎ ((f : IdFault) × (of text ≡ Err f))
+    cases text (Ok p) e = inl (p, takes text p e)
+    cases text (Err f) e = inr (f, e)
+
+pub only_of : {P : Type 0} (spells : List ℕ → P → Type 0) (of : List ℕ → Result P IdFault)
+    → Again spells of → (text : List ℕ) (r : Result P IdFault) → Gives (λ p. p) r (of text)
+    → (p : P) → spells text p → Gives (λ q. q) r (Ok p)
+only_of {P} spells of again text r gives p s = grind arith
+
+-- a form that only one text has
+pub one_text : {P : Type 0} (written : List ℕ → P → Type 0) (write : P → List ℕ)
+    → ((text : List ℕ) (p : P) → written text p → text ≡ write p) → (text other : List ℕ) (p : P)
+    → written text p → written other p → text ≡ other
+one_text written write form text other p v w = grind (arith)

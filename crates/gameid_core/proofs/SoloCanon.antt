@@ -1,7 +1,7 @@
 -- The written text of a puzzle of Solo: its length, that it spells the puzzle, and that no other does.
 use Rattle.gameid_core.specs.Common.{AllByRecursion, Bool, HasOneText, IsSolo, IsSoloSizeText, List, Solo, [], arith, common_steps, decimal, false, false≢true, flat_map, length, length-append, length-decimal-le, max_id, max_numbers, mul-le-mul_left, mul-le-mul_right, nat_tests, refl, replicate, solo_n, solo_size_text, suc, true, zero, ℕ, ◌*◌, ◌++◌, ◌+◌, ◌∷◌, ◌≡◌, ◌≤◌}
 use Rattle.gameid_core.specs.SoloText.{AreApart, IsSoloToken, IsWrittenSolo, SoloToken, blanks, cells_text, solo_tokens, gap, given, solo_text, solo_token_cells, AreFull, AreNeeded}
-use Rattle.gameid_core.proofs.OneReading.{one_text}
+use Rattle.gameid_core.proofs.Reading.{one_text}
 
 -- a cell takes at most three bytes: '_' and two digits
 cells_short : (k : ℕ) (touches : Bool) (cells : List ℕ)

@@ -1,9 +1,8 @@
 -- Solo: the tokens of a text, and that a text is read exactly where it spells a puzzle.
 use Rattle.gameid_core.specs.Common.{AllByRecursion, BadByte, Bool, Cuts, Err, Gives, HasOneReading, IdFault, IsSolo, List, NumberRange, Ok, Result, Solo, [], after_digits, arith, begins, common_steps, concat, decimal, decimal-digits_value, digits_front, digits_value-decimal, false, false≢true, flat_map, get_or, in_range, is_ascii_digit, is_lead, is_letter, length, map, max_numbers, refl, replicate, solo_puzzle, subst, true, value, words, ℕ, ◌*◌, ◌++◌, ◌+◌, ◌-◌, ◌<◌, ◌^◌, ◌∷◌, ◌≡◌, ◌≤◌}
 use Rattle.gameid_core.specs.SoloText.{AreApart, IsSoloToken, SoloToken, SpellsSolo, blanks, gap, given, solo_behind, solo_cells_at, solo_of, solo_token, solo_token_cells, solo_token_text}
-use Rattle.gameid_core.proofs.OneReading.{only_of, reading_of}
-use Rattle.gameid_core.proofs.Tokens.{cuts_some, cuts_single, cuts_number, words_nil, IsWord, words_are, concat_words, alone}
-use Rattle.gameid_core.proofs.Numerals.{lead_is_digit, numeral_cuts, numeral, own, decimal_leads, value_positive}
+use Rattle.gameid_core.proofs.Reading.{only_of, reading_of}
+use Rattle.gameid_core.proofs.Tokens.{IsWord, alone, concat_words, cuts_number, cuts_single, cuts_some, decimal_leads, lead_is_digit, numeral, numeral_cuts, own, value_positive, words_are, words_nil}
 use Rattle.gameid_core.proofs.CellsReading.{Token, cells_spelled, cells_again}
 use Rattle.gameid_core.proofs.Lists.{AllByRecursion-replicate, AllByRecursion-flat_map}
 use Rattle.gameid_core.specs.declared.id.game.Game.TheVariants as game

@@ -1,5 +1,5 @@
 -- The tests of the part before the colon, each in its own words, and their order.
-use Rattle.std.specs.Prelude.{◌≡◌, ◌≢◌, ◌⊎◌, ℕ, ◌<◌, Bool, true, false, List, [], ◌∷◌, ◌++◌, length, ◌==◌}
+use Rattle.std.specs.Prelude.{◌≡◌, ◌≢◌, ◌⊎◌, ◌↔◌, Result, Err, ℕ, ◌<◌, Bool, true, false, List, [], ◌∷◌, ◌++◌, length, ◌==◌}
 use Rattle.std.specs.List.{AllByRecursion}
 use Rattle.std.specs.Char.{is_ascii_digit}
 use Rattle.std.specs.Str.{all_ascii_digits}
@@ -7,6 +7,7 @@ use Rattle.gameid_core.specs.declared.id.fault.IdFault.{IdFault}
 use Rattle.gameid_core.specs.declared.id.fault.IdFault.TheVariants.{TooLong, SeedId, NoColon, BadSize, Variant, SizeRange}
 use Rattle.gameid_core.specs.declared.id.game.Game.{Game}
 use Rattle.gameid_core.specs.declared.id.game.Game.TheVariants.{Solo}
+use Rattle.gameid_core.specs.FirstFailed.{IsFirstFailed}
 use Rattle.gameid_core.specs.Words.{begins, is_lead, value}
 use Rattle.gameid_core.specs.Head.{Sides, in_range, max_id}
 
@@ -83,3 +84,9 @@ size_tests = BadSize ∷ Variant ∷ SizeRange ∷ []
 
 abbrev pub head_tests : List IdFault
 head_tests = TooLong ∷ SeedId ∷ NoColon ∷ size_tests
+
+-- of each text, what is told is exactly the first of these tests that it fails
+abbrev pub TellsFirstFailed : {P : Type 0} → (Game → List ℕ → Result P IdFault)
+    → (Game → List ℕ → IdFault → Type 0) → List IdFault → Type 0
+TellsFirstFailed told fails tests = (game : Game) (text : List ℕ) (f : IdFault)
+    → (told game text ≡ Err f) ↔ IsFirstFailed (fails game text) tests f

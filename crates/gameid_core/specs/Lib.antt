@@ -6,6 +6,8 @@ pub mod Head
 pub mod HeadTests
 pub mod SizeText
 pub mod Puzzles
+pub mod Added
+pub mod PrintedForm
 pub mod BlackRuns
 pub mod PatternText
 pub mod Clues

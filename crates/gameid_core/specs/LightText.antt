@@ -6,7 +6,7 @@ use Rattle.gameid_core.specs.declared.id.fault.IdFault.TheVariants.{BadByte}
 use Rattle.gameid_core.specs.declared.id.game.Game.TheVariants as game
 use Rattle.gameid_core.specs.declared.light_up.cell.LightCell.{LightCell}
 use Rattle.gameid_core.specs.declared.light_up.cell.LightCell.TheVariants.{White, Black, Numbered}
-use Rattle.gameid_core.specs.Words.{begins, is_byte}
+use Rattle.gameid_core.specs.Words.{begins, bytes_of, is_byte}
 use Rattle.gameid_core.specs.Steps.{◌>>=◌, first_that_holds, reading}
 use Rattle.gameid_core.specs.Head.{HeadRead, extent_of, max_id}
 use Rattle.gameid_core.specs.IdTexts.{puzzle_of}
@@ -74,7 +74,7 @@ light_token at word =
 
 abbrev pub light_cells_at : ℕ → ℕ → List ℕ → Result (List LightCell) IdFault
 light_cells_at all at description =
-    reading (fill_step light_token all) (fill_end all) at [] (map (λ b. b ∷ []) description)
+    reading (fill_step light_token all) (fill_end all) at [] (bytes_of description)
 
 -- the puzzle that the description spells behind a head, or its first fault
 abbrev pub light_behind : HeadRead → List ℕ → Result Light IdFault

@@ -1,7 +1,8 @@
 -- What is counted of a grid's lines.
-use Rattle.std.specs.Prelude.{ℕ, List, length, map, ◌==◌}
+use Rattle.std.specs.Prelude.{◌≡◌, ◌<◌, ◌+◌, ℕ, List, [], length, map, slice_index, slice_index_or, ◌==◌}
 use Rattle.std.specs.List.{filter, range_with_len}
 use Rattle.grid_core.specs.Extent.{Extent}
+use Rattle.grid_core.specs.Grids.{column_cells, row_cells}
 use Rattle.grid_core.specs.Lines.{line_numbers, lines_of}
 use Rattle.gameid_core.specs.BlackRuns.{runs}
 
@@ -16,3 +17,17 @@ lines_runs size g = map (λ line. runs (line_numbers size g line)) (range_with_l
 -- the ones of each line
 abbrev pub lines_ones : Extent → List ℕ → List ℕ
 lines_ones size g = map (λ line. ones (line_numbers size g line)) (range_with_len 0 (lines_of size))
+
+-- the first clues are of the columns, and the others of the rows
+abbrev pub AreColumnRuns : Extent → List ℕ → List (List ℕ) → Type 0
+AreColumnRuns size g clues = (x : ℕ) → x < size.w → slice_index_or clues x [] ≡ runs (column_cells size g x)
+
+abbrev pub AreRowRuns : Extent → List ℕ → List (List ℕ) → Type 0
+AreRowRuns size g clues = (y : ℕ) → y < size.h → slice_index_or clues (size.w + y) [] ≡ runs (row_cells size g y)
+
+-- the same of numbers of cells that are 1
+abbrev pub AreColumnOnes : Extent → List ℕ → List ℕ → Type 0
+AreColumnOnes size g counts = (x : ℕ) → x < size.w → slice_index counts x ≡ ones (column_cells size g x)
+
+abbrev pub AreRowOnes : Extent → List ℕ → List ℕ → Type 0
+AreRowOnes size g counts = (y : ℕ) → y < size.h → slice_index counts (size.w + y) ≡ ones (row_cells size g y)

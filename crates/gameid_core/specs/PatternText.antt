@@ -7,7 +7,7 @@ use Rattle.grid_core.specs.Extent.{Extent}
 use Rattle.gameid_core.specs.declared.id.fault.IdFault.{IdFault}
 use Rattle.gameid_core.specs.declared.id.fault.IdFault.TheVariants.{BadByte, NumberRange, LineTooFull, TooFew, TooMany}
 use Rattle.gameid_core.specs.declared.id.game.Game.TheVariants as game
-use Rattle.gameid_core.specs.Words.{IsNumeral, IsPlain, begins, is_byte, words, value}
+use Rattle.gameid_core.specs.Words.{IsNumeral, IsPlain, after_digits, begins, is_byte, words, value}
 use Rattle.gameid_core.specs.Steps.{◌>>=◌, first_that_holds, reading}
 use Rattle.gameid_core.specs.Head.{HeadRead, extent_of, max_id}
 use Rattle.gameid_core.specs.IdTexts.{puzzle_of}
@@ -63,14 +63,24 @@ clue_token cells line (n ∷ clue) at word =
     then clue_number cells line (used (n ∷ clue)) (at + 1) (drop 1 word)
     else Err (BadByte at)
 
+-- the same in a line of so many cells, after what was read so far
+abbrev pub token_after : ℕ → SoFar → ℕ → List ℕ → Result ℕ IdFault
+token_after cells s at word = clue_token cells (length s.clues) s.clue at word
+
+-- what was read with the clue ended, and with more numbers in the clue
+abbrev pub clue_ended : SoFar → SoFar
+clue_ended s = record { clues = s.clues ++ s.clue ∷ []; clue = [] }
+
+abbrev pub with_more : SoFar → List ℕ → SoFar
+with_more s more = record { clues = s.clues; clue = s.clue ++ more }
+
 -- '/' ends a clue, and is refused after the last one
 abbrev pub pattern_step : Extent → ℕ → SoFar → List ℕ → Result SoFar IdFault
 pattern_step size at s word =
     first_that_holds (
     (begins (is_byte 47) word && (length s.clues + 1 == lines_of size), Err TooMany)
-    ∷ (begins (is_byte 47) word, Ok (record { clues = s.clues ++ s.clue ∷ []; clue = [] }))
-    ∷ []) (clue_token (line_cells size (length s.clues)) (length s.clues) s.clue at word
-    >>= (λ n. Ok (record { clues = s.clues; clue = s.clue ++ n ∷ [] })))
+    ∷ (begins (is_byte 47) word, Ok (clue_ended s))
+    ∷ []) (token_after (line_cells size (length s.clues)) s at word >>= (λ n. Ok (with_more s (n ∷ []))))
 
 -- the end ends the last clue
 abbrev pub pattern_end : Extent → SoFar → Result (List (List ℕ)) IdFault
@@ -115,3 +125,8 @@ pattern_cell p g place = if slice_index g place == 1 then codes "#" else codes "
 abbrev pub GivesNumber : Result ℕ IdFault → List ℕ → Result (ℕ × Bor (List ℕ)) IdFault → Type 0
 GivesNumber read after (Ok x) = (read ≡ Ok x.0) × (x.1.now ≡ after)
 GivesNumber read after (Err e) = read ≡ Err e
+
+-- the same of the digits in front of a text; where there are none, the fault is of their token
+abbrev pub GivesDigits : Result ℕ IdFault → List ℕ → ℕ → Result (ℕ × Bor (List ℕ)) IdFault → Type 0
+GivesDigits read digits token result =
+    GivesNumber (if begins is_ascii_digit digits then read else Err (BadByte token)) (after_digits digits) result

@@ -1,6 +1,7 @@
 -- Solo: what the text of a game ID spells, its first fault, the one written text, and printed grids.
 use Rattle.grid_core.specs.Extent.{Extent}
-use Rattle.std.specs.Prelude.{◌≡◌, ℕ, zero, suc, ◌+◌, ◌-◌, ◌*◌, ◌≤◌, Bool, true, false, ◌&&◌, List, [], ◌∷◌, ◌++◌, length, replicate, slice_index, Result, Ok, Err, nat_lt, ◌==◌, if◌then◌else◌, decimal, ◌%◌, codes}
+use Rattle.std.specs.Prelude.{◌≡◌, ◌<◌, String, string_bytes, ℕ, zero, suc, ◌+◌, ◌-◌, ◌*◌, ◌≤◌, Bool, true, false, ◌&&◌, List, [], ◌∷◌, ◌++◌, length, replicate, slice_index, Result, Ok, Err, nat_lt, ◌==◌, if◌then◌else◌, decimal, ◌%◌, codes}
+use Rattle.std.specs.Char.{is_ascii_digit}
 use Rattle.std.specs.List.{AllByRecursion, flat_map}
 use Rattle.gameid_core.specs.declared.id.fault.IdFault.{IdFault}
 use Rattle.gameid_core.specs.declared.id.fault.IdFault.TheVariants.{BadByte, NumberRange}
@@ -93,9 +94,16 @@ solo_token n at word =
     ∷ (begins is_lead word, Ok (value word ∷ []))
     ∷ []) (Err (BadByte at))
 
+-- the cells of a token come after those before it, as many as the grid's at most, and as many at the end
+abbrev pub solo_step : ℕ → ℕ → List ℕ → List ℕ → Result (List ℕ) IdFault
+solo_step n = fill_step (solo_token n) (n * n)
+
+abbrev pub solo_end : ℕ → List ℕ → Result (List ℕ) IdFault
+solo_end n = fill_end (n * n)
+
 abbrev pub solo_cells_at : ℕ → ℕ → List ℕ → Result (List ℕ) IdFault
 solo_cells_at n at description =
-    reading (fill_step (solo_token n) (n * n)) (fill_end (n * n)) at [] (words description)
+    reading (solo_step n) (solo_end n) at [] (words description)
 
 -- the puzzle that the description spells behind a head, or its first fault
 abbrev pub solo_behind : HeadRead → List ℕ → Result Solo IdFault
@@ -133,7 +141,18 @@ cells_text k touches cells = flat_map solo_token_text (solo_tokens k touches cel
 abbrev pub solo_text : Solo → List ℕ
 solo_text p = solo_size_text p.c p.r p.x ++ 58 ∷ cells_text 0 false p.givens
 
+-- what stands before a number is added, whatever tokens follow
+abbrev pub AddsGap : {Z : Type 0} → ℕ → Bool → String Z → String Z → Type 0
+AddsGap k touches old new = (tokens : List SoloToken)
+    → string_bytes new ++ flat_map solo_token_text tokens
+    ≡ string_bytes old ++ flat_map solo_token_text (gap_before k touches tokens)
+
 -- Printed grids ---------------------------------------------------------------------------------
+
+-- where the text is a number below 100 with no digit after it: the number, and how many digits it has
+abbrev pub ReadsNumber : List ℕ → ℕ × ℕ → Type 0
+ReadsNumber text result = (n : ℕ) (after : List ℕ) → n < 100 → begins is_ascii_digit after ≡ false
+    → text ≡ decimal n ++ after → result ≡ (n, length (decimal n))
 
 -- Solo: the number, which is one more than the value, and a space before it but at the left
 abbrev pub solo_cell : Solo → List ℕ → ℕ → List ℕ

@@ -1,5 +1,5 @@
 -- Tents: what the text of a game ID spells, its first fault, the one written text, and printed grids.
-use Rattle.std.specs.Prelude.{◌≡◌, ℕ, zero, suc, ◌+◌, ◌-◌, ◌*◌, ◌≤◌, Bool, true, false, ◌&&◌, List, [], ◌∷◌, ◌++◌, map, take, drop, length, replicate, slice_index, Result, Ok, Err, nat_lt, nat_le, ◌==◌, if◌then◌else◌, decimal, codes}
+use Rattle.std.specs.Prelude.{String, string_bytes, ◌≡◌, ℕ, zero, suc, ◌+◌, ◌-◌, ◌*◌, ◌≤◌, Bool, true, false, ◌&&◌, List, [], ◌∷◌, ◌++◌, map, take, drop, length, replicate, slice_index, Result, Ok, Err, nat_lt, nat_le, ◌==◌, if◌then◌else◌, decimal, codes}
 use Rattle.std.specs.List.{AllByRecursion, flat_map}
 use Rattle.grid_core.specs.Extent.{Extent}
 use Rattle.gameid_core.specs.declared.id.fault.IdFault.{IdFault}
@@ -69,6 +69,10 @@ pub record IsWrittenTents (text : List ℕ) (p : Tents) : Type 0 where
 pub record TentsSoFar : Type 0 where
   pub cells : List ℕ
   pub counts : List ℕ
+
+-- these cells and numbers
+abbrev pub at_tents : List ℕ → List ℕ → TentsSoFar
+at_tents cells counts = record { cells = cells; counts = counts }
 
 abbrev pub cells_in : Extent → ℕ
 cells_in size = size.w * size.h
@@ -151,6 +155,11 @@ abbrev pub tents_text : Tents → List ℕ
 tents_text p =
     size_text p.size.w p.size.h
     ++ 58 ∷ (trees_text 0 p.trees ++ flat_map (λ n. 44 ∷ decimal n) p.counts)
+
+-- the blanks before are counted to be so many with one more, whatever cells follow
+abbrev pub AddsBlank : {Z : Type 0} → ℕ → ℕ → String Z → String Z → Type 0
+AddsBlank blanks k old new = (cells : List ℕ)
+    → string_bytes new ++ trees_text k cells ≡ string_bytes old ++ trees_text blanks (0 ∷ cells)
 
 -- Printed grids ---------------------------------------------------------------------------------
 

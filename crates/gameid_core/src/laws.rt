@@ -1,11 +1,11 @@
 //! What definitions owe one another, game by game. These calls do nothing: their contracts are the
 //! laws.
 
-ghost use Rattle.std.specs.Prelude.{◌≡◌, ◌<◌, ◌*◌, ◌↔◌, ◌++◌, ℕ, suc, List, [], ◌∷◌, Err, length, map, replicate};
-ghost use Rattle.gameid_core.specs.Common.{Extent, FailsHead, FailsSize, FirstFault, Game, HasOneReading, HasOneText, IdFault, IsFirstFailed, IsLight, IsPattern, IsSolo, IsTents, TooLong, concat, fill_end, fill_step, head_of, head_tests, max_id, runs, size_of, size_tests, words};
+ghost use Rattle.std.specs.Prelude.{◌≡◌, ◌<◌, ◌++◌, ℕ, suc, List, [], ◌∷◌, Err, length, replicate};
+ghost use Rattle.gameid_core.specs.Common.{FailsHead, FailsSize, HasOneReading, HasOneText, IsLight, IsPattern, IsSolo, IsTents, TellsFirst, TellsFirstFailed, TooLong, bytes_of, concat, fill_end, fill_step, head_of, head_tests, max_id, runs, size_of, size_tests, words};
 ghost use Rattle.gameid_core.specs.LightText.{IsWrittenLight, SpellsLight, light_cells_at, light_of, light_text, light_token};
 ghost use Rattle.gameid_core.specs.PatternText.{IsWrittenPattern, SpellsPattern, clues_at, nothing_yet, pattern_end, pattern_of, pattern_step, pattern_text};
-ghost use Rattle.gameid_core.specs.SoloText.{IsWrittenSolo, SpellsSolo, solo_cells_at, solo_of, solo_text, solo_token};
+ghost use Rattle.gameid_core.specs.SoloText.{IsWrittenSolo, SpellsSolo, solo_cells_at, solo_end, solo_of, solo_step, solo_text};
 ghost use Rattle.gameid_core.specs.TentsText.{IsWrittenTents, SpellsTents, tents_at, tents_end, tents_of, tents_step, tents_text, nothing_read};
 
 /// A text of more bytes than an ID may have is too long, whatever they are.
@@ -20,29 +20,17 @@ pub fn over_long_is_too_long()
 /// A fault of a size alone, and of the part of an ID before its colon, is the first of the tests
 /// that fails, in their order.
 pub fn first_failed_test()
-    ensures size { (game : Game) (text : List ℕ) (f : IdFault) → (size_of game text ≡ Err f)
-        ↔ IsFirstFailed (FailsSize game text) size_tests f }
-    ensures head { (game : Game) (text : List ℕ) (f : IdFault) → (head_of game text ≡ Err f)
-        ↔ IsFirstFailed (FailsHead game text) head_tests f }
+    ensures size { TellsFirstFailed size_of FailsSize size_tests }
+    ensures head { TellsFirstFailed head_of FailsHead head_tests }
 {}
 
 /// The fault of a description is that of its first token with one, or of its end, after tokens
 /// without fault.
 pub fn first_fault()
-    ensures pattern { (size : Extent) (at : ℕ) (description : List ℕ) (f : IdFault)
-        → (clues_at size at description ≡ Err f)
-        ↔ FirstFault (pattern_step size) (pattern_end size) at nothing_yet (words description) f }
-    ensures solo { (n at : ℕ) (description : List ℕ) (f : IdFault)
-        → (solo_cells_at n at description ≡ Err f)
-        ↔ FirstFault (fill_step (solo_token n) (n * n)) (fill_end (n * n)) at []
-        (words description) f }
-    ensures lights { (all at : ℕ) (description : List ℕ) (f : IdFault)
-        → (light_cells_at all at description ≡ Err f)
-        ↔ FirstFault (fill_step light_token all) (fill_end all) at []
-        (map (λ b. b ∷ []) description) f }
-    ensures tents { (size : Extent) (at : ℕ) (description : List ℕ) (f : IdFault)
-        → (tents_at size at description ≡ Err f)
-        ↔ FirstFault (tents_step size) (tents_end size) at nothing_read (words description) f }
+    ensures pattern { TellsFirst pattern_step pattern_end nothing_yet words clues_at }
+    ensures solo { TellsFirst solo_step solo_end [] words solo_cells_at }
+    ensures lights { TellsFirst (fill_step light_token) fill_end [] bytes_of light_cells_at }
+    ensures tents { TellsFirst tents_step tents_end nothing_read words tents_at }
 {}
 
 /// Each text spells exactly one puzzle of a game or has exactly one fault, and never both.
@@ -70,7 +58,7 @@ pub fn one_written_text()
 #[tactic(auto, using(crate::proofs::Tokens::concat_words, crate::proofs::Tokens::concat_bytes))]
 pub fn tokens_lose_nothing()
     ensures words { (text : List ℕ) → concat (words text) ≡ text }
-    ensures bytes { (text : List ℕ) → concat (map (λ b. b ∷ []) text) ≡ text }
+    ensures bytes { (text : List ℕ) → concat (bytes_of text) ≡ text }
 {}
 
 /// What the runs of a line are, by the cells that come first: none, a white cell, black cells up to

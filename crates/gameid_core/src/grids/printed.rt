@@ -1,6 +1,6 @@
 //! Puzzles whose grids can be printed.
 ghost use Rattle.std.specs.Prelude.{◌≡◌, ◌*◌, ◌<◌, ◌++◌, ℕ, List, length, OnOk, string_bytes};
-ghost use Rattle.gameid_core.specs.Common.{Extent, IsExtent, IsGrid};
+ghost use Rattle.gameid_core.specs.Common.{Adds, Extent, IsExtent, IsGrid};
 
 use grid_core::{Grid, Size};
 use std::alloc::AllocError;
@@ -42,6 +42,5 @@ pub trait Printed {
         requires grid { IsGrid ((extent self.now).w * (extent self.now).h)
             (value_count self.now) grid.now }
         requires place { place < length grid.now }
-        ensures { OnOk result (string_bytes text.new
-            ≡ string_bytes text.old ++ cell_text self.now grid.now place) };
+        ensures { OnOk result (Adds (cell_text self.now grid.now place) text.old text.new) };
 }

@@ -1,6 +1,6 @@
 //! Puzzles whose printed grids can be read.
 ghost use Rattle.std.specs.Prelude.{◌≡◌, ◌*◌, ◌<◌, ◌≤◌, ◌==◌, ◌++◌, ◌∷◌, [], ℕ, List, Some, None, IfSome, if◌then◌else◌, length, slice_index};
-ghost use Rattle.gameid_core.specs.Common.{Follows, IsAsShown};
+ghost use Rattle.gameid_core.specs.PrintedForm.{IsCellRead};
 
 use crate::grids::printed::Printed;
 
@@ -17,11 +17,7 @@ pub trait Readable: Printed {
         ensures range { IfSome result (λ r. r.0 < Self.value_count self.now) }
         ensures hidden { IfSome result (λ r. hides self.now place → r.0 ≡ 0) }
         ensures within { IfSome result (λ r. r.1 ≤ length text.now) }
-        ensures read { (g : List ℕ) (after : List ℕ)
-            → IsAsShown (hides self.now) (Self.value_count self.now) (Self.extent self.now) g
-            → Follows (Self.cell_text self.now g) (Self.extent self.now) place after
-            → text.now ≡ Self.cell_text self.now g place ++ after
-            → result ≡ Some (slice_index g place, length (Self.cell_text self.now g place)) };
+        ensures read { IsCellRead Self.Printed hides self.now place text.now result };
 }
 
 /// Whether the text begins with the symbol, as 1 or 0, and the one byte that says so.

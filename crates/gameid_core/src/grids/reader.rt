@@ -1,6 +1,6 @@
 //! Grids read from what is printed of them.
-ghost use Rattle.std.specs.Prelude.{◌≡◌, ◌+◌, ◌*◌, ◌<◌, ◌++◌, ◌⊎◌, ◌↔◌, IsTrue, ℕ, List, Some, IfOk, IfSome, MatchOption, length};
-ghost use Rattle.gameid_core.specs.Common.{AgreeUpTo, FitUpTo, IsAsShown, IsPrinted, IsReadOf, grid_text, row_text};
+ghost use Rattle.std.specs.Prelude.{◌≡◌, ◌*◌, ◌<◌, ◌⊎◌, ◌↔◌, IsTrue, IfOk, IfSome, length};
+ghost use Rattle.gameid_core.specs.PrintedForm.{IsCandidate, IsGridRead, IsRowFit, IsRowRead, IsShownIn};
 
 use crate::grids::readable::Readable;
 use crate::grids::writer::push_grid;
@@ -19,17 +19,8 @@ fn read_row<'a, P: Readable>(
     requires cells { length grid.old ≡ (P.extent puzzle.now).w * (P.extent puzzle.now).h }
     requires row { y < (P.extent puzzle.now).h }
     ensures cells { length grid.new ≡ length grid.old }
-    ensures fit { IfSome result
-        (λ rest. FitUpTo (P.hides puzzle.now) (P.value_count puzzle.now) grid.old
-        (y * (P.extent puzzle.now).w)
-        → FitUpTo (P.hides puzzle.now) (P.value_count puzzle.now) grid.new
-        ((y + 1) * (P.extent puzzle.now).w)) }
-    ensures read { (g : List ℕ) (more : List ℕ)
-        → IsAsShown (P.hides puzzle.now) (P.value_count puzzle.now) (P.extent puzzle.now) g
-        → text.now ≡ row_text (P.cell_text puzzle.now g) (P.extent puzzle.now) y ++ more
-        → AgreeUpTo grid.old g (y * (P.extent puzzle.now).w)
-        → MatchOption result ⊥ (λ rest. rest.now ≡ more)
-        × AgreeUpTo grid.new g ((y + 1) * (P.extent puzzle.now).w) }
+    ensures fit { IfSome result (λ rest. IsRowFit P.Printed P.hides puzzle.now y grid.old grid.new) }
+    ensures read { IsRowRead P.Printed P.hides puzzle.now y text.now grid.old grid.new result }
 {
     let w = puzzle.columns();
     let mut rest = text;
@@ -48,12 +39,8 @@ fn candidate<P: Readable>(
     puzzle: &P,
     text: &[u8],
 ) -> Result<Option<Grid>, AllocError>
-    ensures shown { IfOk result (λ found. IfSome found
-        (λ g. IsAsShown (P.hides puzzle.now) (P.value_count puzzle.now) (P.extent puzzle.now) g)) }
-    ensures read { IfOk result (λ found. (g : List ℕ) (more : List ℕ)
-        → IsAsShown (P.hides puzzle.now) (P.value_count puzzle.now) (P.extent puzzle.now) g
-        → text.now ≡ grid_text (P.cell_text puzzle.now g) (P.extent puzzle.now) ++ more
-        → found ≡ Some g) }
+    ensures shown { IfOk result (λ found. IfSome found (IsShownIn P.Printed P.hides puzzle.now)) }
+    ensures read { IfOk result (λ found. IsCandidate P.Printed P.hides puzzle.now text.now found) }
 {
     let mut grid = Grid::new(alloc, puzzle.columns() * puzzle.rows())?;
     let mut rest = text;
@@ -81,10 +68,7 @@ pub fn read_grid<P: Readable>(
     puzzle: &P,
     mut text: Vec<u8>,
 ) -> Result<Option<Grid>, AllocError>
-    ensures { IfOk result
-        (λ found. IsReadOf (P.hides puzzle.now) (P.value_count puzzle.now) (P.extent puzzle.now)
-        (λ g. IsPrinted text.items
-        (grid_text (P.cell_text puzzle.now g) (P.extent puzzle.now))) found) }
+    ensures { IfOk result (λ found. IsGridRead P.Printed P.hides puzzle.now text.items found) }
 {
     let length = text.len();
     text.push(b'\n')?;

@@ -1,7 +1,7 @@
 //! The part of an ID before its colon.
 
 ghost use Rattle.std.specs.Prelude.{◌≡◌, ◌==◌, position, ◌≤◌, drop, length, true, if◌then◌else◌, Ok, Err, IfOk, IfErr};
-ghost use Rattle.gameid_core.specs.Common.{has_x, head_at, head_of, in_range, side_at, sides_at, size_of};
+ghost use Rattle.gameid_core.specs.Common.{has_x, head_at, head_of, head_read, in_range, side_at, sides_at, size_of, size_read};
 ghost use Rattle.gameid_core.specs.Head.{GivesSide, GivesSides};
 
 use crate::id::fault::IdFault;
@@ -82,8 +82,7 @@ fn sides(game: Game, text: &[u8]) -> Result<SidesRead<'_>, IdFault>
 /// from 1 to 120 in Pattern, and from 2 to 120 in Light Up and Tents.
 #[tactic(auto, unfolding(crate::specs::Head::size_of))]
 pub fn read_size(game: Game, text: &[u8]) -> Result<(u8, u8, bool), IdFault>
-    ensures found { IfOk result (λ s. size_of game text.now
-        ≡ Ok (record { w = s.0; h = s.1; x = s.2 })) }
+    ensures found { IfOk result (λ s. size_of game text.now ≡ Ok (size_read s.0 s.1 s.2)) }
     ensures fault { IfErr result (λ f. size_of game text.now ≡ Err f) }
     ensures range { IfOk result (λ s. in_range game s.0 s.1 ≡ true) }
 {
@@ -114,11 +113,7 @@ fn colon_in(text: &[u8]) -> Option<usize>
 /// The first six tests of an ID, in their order: the size, and the place of the description.
 #[tactic(auto, unfolding(crate::specs::Head::head_of, crate::specs::Head::head_at))]
 pub(crate) fn read_head(game: Game, text: &[u8]) -> Result<Head, IdFault>
-    ensures found { IfOk result (λ head. head_of game text.now
-        ≡ Ok (record {
-          size = record { w = head.w; h = head.h; x = head.x };
-          description = head.description;
-        })) }
+    ensures found { IfOk result (λ head. head_of game text.now ≡ Ok (head_read head)) }
     ensures fault { IfErr result (λ f. head_of game text.now ≡ Err f) }
     ensures range { IfOk result (λ head. in_range game head.w head.h ≡ true) }
     ensures within { IfOk result (λ head. head.description ≤ length text.now) }

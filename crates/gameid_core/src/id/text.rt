@@ -2,7 +2,7 @@
 //! reader and one writer serve all.
 
 ghost use Rattle.std.specs.Prelude.{◌≡◌, ℕ, ◌<◌, ◌+◌, ◌^◌, ◌++◌, List, Result, Err, true, length, string_bytes, IfOk, OnOk};
-ghost use Rattle.gameid_core.specs.Common.{Game, Gives, HeadRead, IdFault, SizeRead, head_of, head_read, id_text, in_range, puzzle_of, size_read};
+ghost use Rattle.gameid_core.specs.Common.{Adds, Game, Gives, HeadRead, IdFault, SizeRead, head_of, head_read, id_text, in_range, puzzle_of, size_read};
 
 use crate::id::fault::IdFault;
 use crate::id::game::Game;
@@ -42,8 +42,7 @@ pub(crate) trait IdText: Sized {
 
     /// Writes the description.
     fn push_description(&self, out: &mut String) -> Result<(), AllocError>
-        ensures { OnOk result (string_bytes out.new
-            ≡ string_bytes out.old ++ text self.now) };
+        ensures { OnOk result (Adds (text self.now) out.old out.new) };
 }
 
 /// The puzzle that the text spells, or its first fault, as reading gives it.

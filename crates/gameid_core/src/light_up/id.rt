@@ -1,7 +1,7 @@
 //! Game IDs of Light Up.
 
 ghost use Rattle.std.specs.Prelude.{◌≡◌, ◌<◌, ◌≤◌, ◌+◌, ◌*◌, ◌^◌, ◌∷◌, [], length, IfOk, IfErr, Ok, Err, ◌++◌, string_bytes, OnOk, IfSome, MatchOption, false};
-ghost use Rattle.gameid_core.specs.Common.{AllByRecursion, Fails, Gives, GivesRun, IdFault, IsLight, IsLightCell, Light, White, head_of, max_id, max_side, size_read};
+ghost use Rattle.gameid_core.specs.Common.{Adds, AllByRecursion, Fails, Gives, GivesRun, IdFault, IsLight, IsLightCell, Light, White, head_of, max_id, max_side, size_read};
 ghost use Rattle.gameid_core.specs.LightText.{IsWrittenLight, SpellsLight, light_behind, light_cells_at, light_cells_text, light_of, light_text, light_token, IsBlackByte};
 ghost use Rattle.gameid_core.specs.declared.id.game.Game.TheVariants as game;
 
@@ -76,8 +76,7 @@ fn black_byte(cell: LightCell) -> Option<u8>
 #[tactic(auto, using(crate::proofs::LightWritten::turns), unfolding(crate::specs::LightText::light_tokens))]
 fn push_cells(out: &mut String, cells: &[LightCell]) -> Result<(), AllocError>
     requires { AllByRecursion IsLightCell cells.now }
-    ensures { OnOk result (string_bytes out.new
-        ≡ string_bytes out.old ++ light_cells_text 0 cells.now) }
+    ensures { OnOk result (Adds (light_cells_text 0 cells.now) out.old out.new) }
 {
     let mut whites = 0;
     for cell in cells {

@@ -2,6 +2,7 @@
 
 ghost use Rattle.std.specs.Prelude.{◌≡◌, ◌<◌, ◌*◌, ◌++◌, length, OnOk, IfOk};
 ghost use Rattle.gameid_core.specs.Common.{IsExtent, line_numbers, lines_of, lines_runs, run_of, runs};
+ghost use Rattle.gameid_core.specs.PatternText.{with_more};
 
 use crate::pattern::clues::Clues;
 use grid_core::{Grid, Size, line_count, line_len, line_value};
@@ -9,8 +10,7 @@ use std::alloc::{AllocError, Global};
 
 /// Adds a run of so many cells, unless there are none.
 fn push_run_of(clues: &mut Clues, count: u8) -> Result<(), AllocError>
-    ensures { OnOk result (clues.new
-        ≡ record clues.old { clue = clues.old.clue ++ run_of count }) }
+    ensures { OnOk result (clues.new ≡ with_more clues.old (run_of count)) }
 {
     if count > 0 {
         clues.push(count)?;
@@ -25,7 +25,7 @@ fn push_runs(clues: &mut Clues, size: Size, grid: &Grid, line: usize) -> Result<
     requires cells { length grid.now ≡ size.w * size.h }
     requires line { line < lines_of size }
     ensures { OnOk result (clues.new
-        ≡ record clues.old { clue = clues.old.clue ++ runs (line_numbers size grid.now line) }) }
+        ≡ with_more clues.old (runs (line_numbers size grid.now line))) }
 {
     let mut count = 0;
     for k in 0..line_len(size, line) {

@@ -2,7 +2,7 @@
 #![tactic(auto, using(crate::proofs::CluesLaws::laws), unfolding(crate::specs::Clues::cut_at))]
 
 ghost use Rattle.std.specs.Prelude.{◌≡◌, ◌<◌, ◌^◌, ◌++◌, ◌∷◌, [], IfOk, OnOk, length, slice_index, slice_index_or};
-ghost use Rattle.gameid_core.specs.PatternText.{nothing_yet};
+ghost use Rattle.gameid_core.specs.PatternText.{clue_ended, nothing_yet, with_more};
 
 use std::alloc::{AllocError, Global};
 use std::marker::Model;
@@ -47,8 +47,7 @@ impl Clues {
 
     /// Adds a number to the next clue.
     pub(crate) fn push(&mut self, number: u8) -> Result<(), AllocError>
-        ensures { OnOk result (self.new
-            ≡ record self.old { clue = self.old.clue ++ number ∷ [] }) }
+        ensures { OnOk result (self.new ≡ with_more self.old (number ∷ [])) }
     {
         self.numbers.push(number)?;
         Ok(())
@@ -56,8 +55,7 @@ impl Clues {
 
     /// Ends the next clue.
     pub(crate) fn end(&mut self) -> Result<(), AllocError>
-        ensures { OnOk result (self.new
-            ≡ record { clues = self.old.clues ++ self.old.clue ∷ []; clue = [] }) }
+        ensures { OnOk result (self.new ≡ clue_ended self.old) }
     {
         self.ends.push(self.numbers.len())?;
         Ok(())

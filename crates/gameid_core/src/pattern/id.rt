@@ -1,8 +1,8 @@
 //! Game IDs of Pattern.
 
 ghost use Rattle.std.specs.Prelude.{◌≡◌, ◌<◌, ◌≤◌, ◌+◌, ◌^◌, ◌∷◌, length, IfOk, IfErr, Ok, Err, if◌then◌else◌, ◌++◌, map, string_bytes, OnOk, false};
-ghost use Rattle.gameid_core.specs.Common.{BadByte, Fails, Gives, IdFault, TakesNumber, after_digits, begins, digits_front, head_of, is_ascii_digit, join_with_byte, max_id, size_read};
-ghost use Rattle.gameid_core.specs.PatternText.{GivesNumber, IsWrittenPattern, SpellsPattern, clue_number, clue_text, clue_token, clues_at, pattern_behind, pattern_of, pattern_text};
+ghost use Rattle.gameid_core.specs.Common.{Adds, BadByte, Fails, Gives, IdFault, TakesNumber, after_digits, begins, digits_front, head_of, is_ascii_digit, join_with_byte, max_id, size_read};
+ghost use Rattle.gameid_core.specs.PatternText.{GivesDigits, IsWrittenPattern, SpellsPattern, clue_number, clue_text, clues_at, pattern_behind, pattern_of, pattern_text, token_after};
 ghost use Rattle.gameid_core.specs.Puzzles.{IsPattern, Pattern, used as used_cells};
 ghost use Rattle.gameid_core.specs.declared.id.game.Game.TheVariants as game;
 
@@ -36,10 +36,8 @@ fn number<'a>(
     digits: &'a [u8],
 ) -> Result<(u8, &'a [u8]), IdFault>
     requires { line.now.before ≤ 1000 }
-    ensures { GivesNumber
-        (if begins is_ascii_digit digits.now then clue_number line.now.cells
-        (length line.now.clues.now.clues) line.now.before at (digits_front digits.now)
-        else Err (BadByte token)) (after_digits digits.now) result }
+    ensures { GivesDigits (clue_number line.now.cells (length line.now.clues.now.clues)
+        line.now.before at (digits_front digits.now)) digits.now token result }
 {
     let (number, rest) = leading_number(digits);
     if number == 0 && !starts_with_digit(digits) {
@@ -67,8 +65,7 @@ fn next_number<'a>(
     requires used { line.now.before ≡ used_cells line.now.clues.now.clue }
     requires small { line.now.before ≤ 1000 }
     requires place { at < 2 ^ 32 }
-    ensures { TakesNumber (clue_token line.now.cells (length line.now.clues.now.clues)
-        line.now.clues.now.clue at) rest.now result }
+    ensures { TakesNumber (token_after line.now.cells line.now.clues.now at) rest.now result }
 {
     if line.before == 0 {
         return number(line, at, at, rest);
@@ -120,7 +117,7 @@ fn clues(alloc: Global, size: Size, base: usize, description: &[u8]) -> Result<C
 /// Writes a clue's numbers with '.' between them.
 #[tactic(auto, using(crate::proofs::Lists::joins))]
 fn push_clue(out: &mut String, clue: &[u8]) -> Result<(), AllocError>
-    ensures { OnOk result (string_bytes out.new ≡ string_bytes out.old ++ clue_text clue.now) }
+    ensures { OnOk result (Adds (clue_text clue.now) out.old out.new) }
 {
     for (k, n) in clue.iter().enumerate() {
         if k > 0 {
@@ -134,8 +131,7 @@ fn push_clue(out: &mut String, clue: &[u8]) -> Result<(), AllocError>
 /// Writes the clues with '/' between them.
 #[tactic(auto, using(crate::proofs::Lists::joins))]
 fn push_clues(out: &mut String, puzzle: &PatternPuzzle) -> Result<(), AllocError>
-    ensures { OnOk result (string_bytes out.new
-        ≡ string_bytes out.old ++ join_with_byte 47 (map clue_text puzzle.now.clues)) }
+    ensures { OnOk result (Adds (join_with_byte 47 (map clue_text puzzle.now.clues)) out.old out.new) }
 {
     for line in 0..puzzle.lines() {
         if line > 0 {

@@ -1,7 +1,7 @@
 //! The puzzles of Pattern.
 
 ghost use Rattle.std.specs.Prelude.{◌≡◌, ◌<◌, ◌+◌, ◌*◌, ℕ, length, [], slice_index, slice_index_or, IfOk};
-ghost use Rattle.gameid_core.specs.Common.{IsGrid, IsPattern, Pattern, column_cells, lines_of, lines_runs, pattern_puzzle, row_cells, runs};
+ghost use Rattle.gameid_core.specs.Common.{AreColumnRuns, AreRowRuns, IsGrid, IsPattern, Pattern, lines_of, lines_runs, pattern_puzzle};
 
 use crate::pattern::black_runs::runs_of_lines;
 use crate::pattern::clues::Clues;
@@ -35,10 +35,8 @@ impl PatternPuzzle {
         ensures lawful { IfOk result (λ p. IsPattern p) }
         ensures exact { IfOk result (λ p. p ≡ pattern_puzzle size (lines_runs size grid.now)) }
         ensures size { IfOk result (λ p. p.size ≡ size) }
-        ensures columns { IfOk result (λ p. (x : ℕ) → x < size.w
-            → slice_index_or p.clues x [] ≡ runs (column_cells size grid.now x)) }
-        ensures rows { IfOk result (λ p. (y : ℕ) → y < size.h
-            → slice_index_or p.clues (size.w + y) [] ≡ runs (row_cells size grid.now y)) }
+        ensures columns { IfOk result (λ p. AreColumnRuns size grid.now p.clues) }
+        ensures rows { IfOk result (λ p. AreRowRuns size grid.now p.clues) }
     {
         let clues = runs_of_lines(alloc, size, grid)?;
         Ok(PatternPuzzle { size, clues })

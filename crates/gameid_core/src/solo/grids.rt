@@ -4,7 +4,7 @@
 ghost use Rattle.std.specs.Prelude.{◌≡◌, ◌<◌, ◌≤◌, ◌++◌, ℕ, List, false, length, decimal};
 ghost use Rattle.std.specs.Char.{is_ascii_digit};
 ghost use Rattle.gameid_core.specs.Common.{begins, hides_nothing, solo_n};
-ghost use Rattle.gameid_core.specs.SoloText.{solo_cell, solo_extent};
+ghost use Rattle.gameid_core.specs.SoloText.{ReadsNumber, solo_cell, solo_extent};
 
 use crate::grids::printed::Printed;
 use crate::grids::readable::Readable;
@@ -52,8 +52,7 @@ impl Readable for SoloPuzzle {
 /// The number that the text begins with, or 0, and how many digits it has. No number above 1000 is told from 1000.
 fn number_at(text: &[u8]) -> (u32, usize)
     ensures within { result.1 ≤ length text.now }
-    ensures read { (n : ℕ) (after : List ℕ) → n < 100 → begins is_ascii_digit after ≡ false
-        → text.now ≡ decimal n ++ after → result ≡ (n, length (decimal n)) }
+    ensures read { ReadsNumber text.now result }
 {
     let (number, rest) = leading_number(text);
     (number, text.len() - rest.len())

@@ -1,8 +1,8 @@
 //! Game IDs of Solo.
 
 ghost use Rattle.std.specs.Prelude.{◌≡◌, ◌<◌, ◌≤◌, ◌+◌, ◌*◌, ◌^◌, ◌∷◌, true, length, IfOk, IfErr, Ok, Err, ◌++◌, List, false, string_bytes, OnOk};
-ghost use Rattle.gameid_core.specs.Common.{Fails, Gives, IdFault, IsSolo, Solo, TakesRun, begins, flat_map, head_of, is_lead, max_id, max_numbers, size_read, words};
-ghost use Rattle.gameid_core.specs.SoloText.{IsWrittenSolo, SpellsSolo, SoloToken, cells_text, gap_before, solo_behind, solo_cells_at, solo_of, solo_text, solo_token, solo_token_text};
+ghost use Rattle.gameid_core.specs.Common.{Adds, Fails, Gives, IdFault, IsSolo, Solo, TakesRun, begins, flat_map, head_of, is_lead, max_id, max_numbers, size_read, words};
+ghost use Rattle.gameid_core.specs.SoloText.{AddsGap, IsWrittenSolo, SpellsSolo, cells_text, solo_behind, solo_cells_at, solo_of, solo_text, solo_token};
 ghost use Rattle.gameid_core.specs.declared.id.game.Game.TheVariants as game;
 
 use crate::id::fault::IdFault;
@@ -45,9 +45,7 @@ fn next_run<'a>(
 /// Writes what stands before a number that has so many blanks before it.
 fn push_before(out: &mut String, blanks: u8, touches: bool) -> Result<(), AllocError>
     requires { blanks ≤ 26 }
-    ensures { OnOk result ((tokens : List SoloToken)
-        → string_bytes out.new ++ flat_map solo_token_text tokens
-        ≡ string_bytes out.old ++ flat_map solo_token_text (gap_before blanks touches tokens)) }
+    ensures { OnOk result (AddsGap blanks touches out.old out.new) }
 {
     if blanks == 0 && touches {
         out.push('_')
@@ -59,8 +57,7 @@ fn push_before(out: &mut String, blanks: u8, touches: bool) -> Result<(), AllocE
 /// Writes the cells.
 #[tactic(auto, unfolding(crate::specs::SoloText::solo_tokens))]
 fn push_cells(out: &mut String, givens: &[u8]) -> Result<(), AllocError>
-    ensures { OnOk result (string_bytes out.new
-        ≡ string_bytes out.old ++ cells_text 0 false givens.now) }
+    ensures { OnOk result (Adds (cells_text 0 false givens.now) out.old out.new) }
 {
     let mut blanks = 0;
     let mut touches = false;

@@ -1,8 +1,8 @@
 //! Game IDs of Tents.
 
 ghost use Rattle.std.specs.Prelude.{◌≡◌, [], ℕ, List, ◌<◌, ◌≤◌, ◌+◌, ◌^◌, ◌++◌, ◌∷◌, length, OnOk, IfOk, IfErr, Ok, Err, decimal, string_bytes, false};
-ghost use Rattle.gameid_core.specs.Common.{Fails, Gives, IdFault, IsTents, TakesNumber, Tents, flat_map, head_of, max_id, size_read};
-ghost use Rattle.gameid_core.specs.TentsText.{IsWrittenTents, SpellsTents, blanks_and_tree, run_cells, tents_at, tents_behind, tents_count, tents_of, tents_run, tents_text, tents_token_byte, tents_tree, trees_text};
+ghost use Rattle.gameid_core.specs.Common.{Adds, Fails, Gives, IdFault, IsTents, TakesNumber, Tents, flat_map, head_of, max_id, size_read};
+ghost use Rattle.gameid_core.specs.TentsText.{AddsBlank, IsWrittenTents, SpellsTents, at_tents, blanks_and_tree, run_cells, tents_at, tents_behind, tents_count, tents_of, tents_run, tents_text, tents_token_byte, tents_tree, trees_text};
 ghost use Rattle.gameid_core.specs.declared.id.game.Game.TheVariants as game;
 
 use crate::id::fault::IdFault;
@@ -48,8 +48,8 @@ fn run_of(at: usize, first: u8) -> Result<(usize, bool), IdFault>
 /// Adds the places that a byte of the trees stands for.
 #[tactic(auto, using(crate::proofs::TentsTexts::run_length), unfolding(crate::specs::TentsText::tents_tree))]
 fn take_places(size: Size, at: usize, first: u8, places: &mut Vec<u8>) -> Result<(), IdFault>
-    ensures { Gives (λ done. record { cells = places.new.items; counts = [] }) result
-        (tents_tree size at (record { cells = places.old.items; counts = [] }) first) }
+    ensures { Gives (λ done. at_tents places.new.items []) result
+        (tents_tree size at (at_tents places.old.items []) first) }
 {
     let (blanks, tree) = run_of(at, first)?;
     let more = blanks + usize::from(tree);
@@ -69,9 +69,8 @@ fn count_at<'a>(
     after: &'a [u8],
 ) -> Result<(u8, &'a [u8]), IdFault>
     requires { at < 2 ^ 32 }
-    ensures { TakesNumber
-        (tents_count size at (record { cells = places.now; counts = counts.now }))
-        (44 ∷ after.now) result }
+    ensures { TakesNumber (tents_count size at (at_tents places.now counts.now)) (44 ∷ after.now)
+        result }
 {
     if places.len() <= size.cells() {
         return Err(IdFault::TooFew);
@@ -98,7 +97,7 @@ fn parts(
     description: &[u8],
 ) -> Result<(Vec<u8>, Vec<u8>), IdFault>
     requires { base + length description.now < 2 ^ 32 }
-    ensures { Gives (λ x. record { cells = x.0.items; counts = x.1.items }) result
+    ensures { Gives (λ x. at_tents x.0.items x.1.items) result
         (tents_at size base description.now) }
 {
     let lines = line_count(size);
@@ -138,9 +137,7 @@ fn tree_byte(blanks: u8) -> u8
 fn push_blank(out: &mut String, blanks: u8) -> Result<u8, AllocError>
     requires { blanks ≤ 25 }
     ensures few { IfOk result (λ k. k ≤ 25) }
-    ensures text { IfOk result (λ k. (cells : List ℕ)
-        → string_bytes out.new ++ trees_text k cells
-        ≡ string_bytes out.old ++ trees_text blanks (0 ∷ cells)) }
+    ensures text { IfOk result (λ k. AddsBlank blanks k out.old out.new) }
 {
     if blanks == 25 {
         out.push('z')?;
@@ -153,7 +150,7 @@ fn push_blank(out: &mut String, blanks: u8) -> Result<u8, AllocError>
 /// Writes the trees, and the tree after the cells.
 #[tactic(auto, unfolding(crate::specs::TentsText::tents_tokens))]
 fn push_trees(out: &mut String, trees: &[u8]) -> Result<(), AllocError>
-    ensures { OnOk result (string_bytes out.new ≡ string_bytes out.old ++ trees_text 0 trees.now) }
+    ensures { OnOk result (Adds (trees_text 0 trees.now) out.old out.new) }
 {
     let mut blanks = 0;
     for tree in trees {
@@ -170,8 +167,7 @@ fn push_trees(out: &mut String, trees: &[u8]) -> Result<(), AllocError>
 
 /// Writes each line's number of tents, with ',' before it.
 fn push_counts(out: &mut String, counts: &[u8]) -> Result<(), AllocError>
-    ensures { OnOk result (string_bytes out.new
-        ≡ string_bytes out.old ++ flat_map (λ n. 44 ∷ decimal n) counts.now) }
+    ensures { OnOk result (Adds (flat_map (λ n. 44 ∷ decimal n) counts.now) out.old out.new) }
 {
     for count in counts {
         out.push(',')?;

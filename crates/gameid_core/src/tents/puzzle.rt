@@ -1,7 +1,7 @@
 //! The puzzles of Tents.
 
 ghost use Rattle.std.specs.Prelude.{◌≡◌, ◌<◌, ◌≤◌, ◌+◌, ◌*◌, ℕ, IsTrue, IfOk, length, slice_index, ◌↔◌};
-ghost use Rattle.gameid_core.specs.Common.{IsGrid, IsTents, Tents, column_cells, lines_of, lines_ones, ones, row_cells, tents_puzzle};
+ghost use Rattle.gameid_core.specs.Common.{AreColumnOnes, AreRowOnes, IsGrid, IsTents, Tents, lines_of, lines_ones, tents_puzzle};
 
 use crate::lines::ones::{numbers_of, ones_of_lines};
 use grid_core::{Grid, Size};
@@ -46,10 +46,8 @@ impl TentsPuzzle {
             (λ p. p ≡ tents_puzzle size trees.now (lines_ones size tents.now)) }
         ensures size { IfOk result (λ p. p.size ≡ size) }
         ensures trees { IfOk result (λ p. p.trees ≡ trees.now) }
-        ensures columns { IfOk result (λ p. (x : ℕ) → x < size.w
-            → slice_index p.counts x ≡ ones (column_cells size tents.now x)) }
-        ensures rows { IfOk result (λ p. (y : ℕ) → y < size.h
-            → slice_index p.counts (size.w + y) ≡ ones (row_cells size tents.now y)) }
+        ensures columns { IfOk result (λ p. AreColumnOnes size tents.now p.counts) }
+        ensures rows { IfOk result (λ p. AreRowOnes size tents.now p.counts) }
     {
         let counts = ones_of_lines(alloc, size, tents)?;
         let trees = numbers_of(alloc, trees)?;
