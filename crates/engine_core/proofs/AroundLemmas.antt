@@ -1,8 +1,6 @@
 -- Closings that go around over the houses that wait.
-use Rattle.engine_core.specs.Closer.{IsClosedBy}
+use Rattle.engine_core.proofs.Common.{BoardAndMarks, Bool, Candidates, Dead, HasStruck, IsAlive, IsClosedBy, IsClosedIn, IsClosing, IsDead, IsLawful, IsQueuedAround, IsRested, IsTaken, IsWithin, IsWoken, List, None, Open, RuleSystem, Some, [], after, arith, but, cases_Bool, cases_lt, common_steps, false, from_bool, has, if◌then◌else◌, inl, inr, is_dead, le-ltb, length, length-append, lt-ltb, ltb, max, not, refl, suc, sym, take, true, true≢false, within_inside, ℕ, ◌&&◌, ◌*◌, ◌++◌, ◌+◌, ◌-◌, ◌<◌, ◌||◌, ◌∙◌, ◌∷◌, ◌≡◌, ◌≤◌, ◌⊎◌}
 use Rattle.engine_core.specs.declared.search.position.Taken.{Taken}
-use Rattle.engine_core.proofs.Common.{BoardAndMarks, Bool, has, Candidates, Dead, HasStruck, IsQueuedAround, IsAlive, IsClosedIn, IsClosing, IsDead, IsLawful, IsRested, IsTaken, IsWithin, IsWoken, List, Open, RuleSystem, Some, None, [], after, arith, but, cases_Bool, cases_lt, common_steps, false, if◌then◌else◌, inl, inr, is_dead, length, length-append, lt-ltb, ltb, le-ltb, max, not, refl, suc, sym, take, true, true≢false, within_inside, ℕ, ◌&&◌, ◌*◌, ◌++◌, ◌+◌, ◌-◌, ◌<◌, ◌∙◌, ◌∷◌, ◌||◌, ◌≡◌, ◌≤◌, ◌⊎◌}
-use Rattle.std.specs.Int.{from_bool}
 use Rattle.engine_core.proofs.ClosingLemmas.{replay_inside}
 use Rattle.engine_core.proofs.EndLemmas.{closed-in, taken-dead, taken-open}
 use Rattle.engine_core.proofs.QueueLemmas.{closed_from_rested}
@@ -63,10 +61,10 @@ no-queue : (queue more : Bool) → (queue || more) ≡ false → queue ≡ false
 no-queue true more off = off
 no-queue false more off = refl
 
-pub steps-fall : (bound houses turns more from h next : ℕ) (queue : Bool) → turns + more ≤ bound → from ≤ houses → h < houses
+pub steps-fall : {bound houses from h : ℕ} (turns more next : ℕ) (queue : Bool) → turns + more ≤ bound → from ≤ houses → h < houses
     → (queue ≡ false → next ≡ h + 1) → more ≡ from_bool (queue || ltb h from)
     → (bound - (turns + more)) * (houses + 1) + (houses - next) < (bound - turns) * (houses + 1) + (houses - from)
-steps-fall bound houses turns more from h next queue le past lt order counts = elim (cases_Bool (queue || ltb h from)) [
+steps-fall {bound = bound} {houses = houses} {from = from} {h = h} turns more next queue le past lt order counts = elim (cases_Bool (queue || ltb h from)) [
   | inl on ↦ (
       let one : more ≡ 1 = rw on at counts in
       let k : bound - turns ≡ suc (bound - (turns + more)) = omega arith in

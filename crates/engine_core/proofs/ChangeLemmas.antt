@@ -1,6 +1,5 @@
 -- Boards that differ in one cell alone.
-use Rattle.engine_core.proofs.Common.{Bool, Candidates, IsBitsOf, IsBoardOf, IsChange, IsInside, Layout, RuleSystem, arith, cases_eq, common_steps, count_below, count_below-few, eq-eqb, eqb, eqb-true, fun_ext, has, has_bit, left_by, ne_eqb, not, only, pow_below, true, ℕ, ◌&&◌, ◌<◌, ◌^◌, ◌≡◌, ◌≤◌}
-use Rattle.grid_core.proofs.WordLemmas.{power-bits}
+use Rattle.engine_core.proofs.Common.{Bool, Candidates, IsBitsOf, IsBoardOf, IsChange, IsInside, Layout, RuleSystem, arith, cases_eq, common_steps, count_below, count_below-few, eq-eqb, eqb, eqb-true, fun_ext, has, has_bit, left_by, ne_eqb, not, only, pow_below, power-bits, true, ℕ, ◌&&◌, ◌<◌, ◌^◌, ◌≡◌, ◌≤◌}
 use Rattle.engine_core.proofs.QueueLemmas.{within_of}
 
 -- ---- a cell of which less is left

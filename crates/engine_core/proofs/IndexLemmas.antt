@@ -1,10 +1,6 @@
 -- Laws of counts, and of the marks of houses place by place.
-use Rattle.engine_core.proofs.Common.{AreDifferent, AreMarked, AreMarksAt, Bool, HasMarked, IsNext, List, None, Option, Some, [], ap, arith, between, bit_or, cases_eq, cases_lt, common_steps, count_below, eq-eqb, eqb, false, get_or, get_or-between, has_bit, has_place, has_place-at, inl, inr, is_waiting, le-ltb, length, length-between, length-take-le, lt-ltb, ltb, ne_eqb, place_bit, places, refl, scope_of, set, slice_index, suc, sym, take, true, zero, ℕ, ◌%◌, ◌&&◌, ◌*◌, ◌++◌, ◌+◌, ◌/◌, ◌<◌, ◌^◌, ◌||◌, ◌∙◌, ◌∷◌, ◌≡◌, ◌≤◌}
-use Rattle.std.proofs.lemmas.List.{get_or-take}
-use Rattle.std.proofs.lemmas.Nat.{div-mul-add}
+use Rattle.engine_core.proofs.Common.{AreDifferent, AreMarked, AreMarksAt, Bool, HasMarked, IsNext, List, None, Option, Some, [], ap, arith, between, bit_or, cases_eq, cases_lt, common_steps, count_below, div-mul-add, either-bits, eq-eqb, eqb, false, get_or, get_or-between, get_or-take, has_bit, has_place, has_place-at, inl, inr, is_waiting, le-ltb, length, length-between, length-take-le, lt-ltb, ltb, ne_eqb, place_bit, places, refl, scope_of, set, slice_index, suc, sym, take, true, words_of, zero, zero-bits, ℕ, ◌%◌, ◌&&◌, ◌*◌, ◌++◌, ◌+◌, ◌/◌, ◌<◌, ◌^◌, ◌||◌, ◌∙◌, ◌∷◌, ◌≡◌, ◌≤◌}
 use Rattle.std.proofs.Common.{mul-le-mul_right}
-use Rattle.grid_core.proofs.WordLemmas.{either-bits, zero-bits}
-use Rattle.engine_core.specs.Waiting.{words_of}
 use Rattle.engine_core.proofs.WaitLemmas.{waiting-enqueue}
 
 -- ---- counts as they go on

@@ -4,13 +4,11 @@ pub mod SetLemmas
 pub mod ClosingLemmas
 pub mod WaitLemmas
 pub mod CallLemmas
-pub mod ScopeLemmas
 pub mod ChangeLemmas
 pub mod QueueLemmas
 pub mod ListLemmas
 pub mod SweepLemmas
 pub mod JudgeLemmas
-pub mod KeepLemmas
 pub mod LostLemmas
 pub mod StoreLemmas
 pub mod HouseLemmas

@@ -1,6 +1,5 @@
 -- Rules whose houses are listed: what their table says, and what a visit leaves.
-use Rattle.engine_core.proofs.Common.{AreMarksAt, AreScopes, AreSetsOf, Bool, Candidates, Decision, IsBitsOf, IsBoardOf, IsKept, IsLawful, IsScope, IsWithin, Layout, List, RuleSystem, Table, after, ap, arith, bits-of_values, cases_Bool, cells_of, common_steps, false_from_ne_true, fun_ext, has, has_bit, has_place, has_place-at, has_place-here, inl, inr, is_waiting, kept_in, length, length-take, not, refl, scope_of, slice_index, strikes_at, strikes_at-in_scope, strikes_at-place, sym, take, true, true≢false, ℕ, ◌&&◌, ◌/◌, ◌||◌, ◌<◌, ◌∙◌, ◌≡◌, ◌≤◌}
-use Rattle.engine_core.specs.Waiting.{AreWokenAt}
+use Rattle.engine_core.proofs.Common.{AreMarksAt, AreScopes, AreSetsOf, AreWokenAt, Bool, Candidates, Decision, IsBitsOf, IsBoardOf, IsKept, IsLawful, IsScope, IsWithin, Layout, List, RuleSystem, Table, after, ap, arith, bits-of_values, cases_Bool, cells_of, common_steps, false_from_ne_true, fun_ext, has, has_bit, has_place, has_place-at, has_place-here, inl, inr, is_waiting, kept_in, length, length-take, not, refl, scope_of, slice_index, strikes_at, strikes_at-in_scope, strikes_at-place, sym, take, true, true≢false, ℕ, ◌&&◌, ◌/◌, ◌<◌, ◌||◌, ◌∙◌, ◌≡◌, ◌≤◌}
 use Rattle.engine_core.specs.ListedHouses.{AreScopesOf, table_of}
 use Rattle.engine_core.proofs.QueueLemmas.{scope-in}
 

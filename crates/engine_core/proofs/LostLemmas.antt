@@ -1,11 +1,66 @@
--- The cells that lost a value at a visit, as the trail names them.
-use Rattle.engine_core.proofs.Common.{AreLost, AreWoken, Bool, Candidates, IsBitsOf, IsLawful, RuleSystem, Trail, after, and_from, and_parts, any_below, any_below-here, any_below-some, ap, arith, cases_lt, change_at, common_steps, count_below, count_below-same, counts_of, eq-eqb, false, fun_ext, has, has_place, inl, inr, is_since, le-leb, leb-true, left_by, length, nat_le, ne_eqb, not, not_from_false, not_from_true, slice_index, sym, true, true≢false, ℕ, ◌&&◌, ◌+◌, ◌<◌, ◌==◌, ◌||◌, ◌∙◌, ◌≡◌, ◌≢◌, ◌≤◌}
+-- What a visit leaves: the boards on the way from the one before it, cell by cell of the house, and the cells that lost a value.
+use Rattle.engine_core.proofs.Common.{AreLost, AreSetsOf, AreWoken, Bool, Candidates, IsAlive, IsBitsOf, IsDead, IsKept, IsLawful, IsWithin, List, RuleSystem, Trail, after, and_from, and_le_l, and_left, and_parts, any_below, any_below-here, any_below-some, ap, arith, bit_and, both-bits, cases_Bool, cases_eq, cases_lt, change_at, common_steps, count_below, count_below-le, count_below-same, counts_of, eq-eqb, eqb-true, false, false_from_ne_true, fun_ext, has, has_place, has_place-at, has_place-here, inl, inr, is_dead-each, is_dead-here, is_dead-not, is_since, le-leb, leb-true, left_by, length, nat_le, ne_eqb, not, not_from_false, not_from_true, refl, slice_index, sym, true, true≢false, ℕ, ◌&&◌, ◌+◌, ◌<◌, ◌==◌, ◌||◌, ◌∙◌, ◌≡◌, ◌≢◌, ◌≤◌, ◌⊎◌}
 use Rattle.engine_core.proofs.CallLemmas.{woken-more, woken-same}
 use Rattle.engine_core.proofs.ChangeLemmas.{left-others}
 use Rattle.engine_core.proofs.ClosingLemmas.{after_inside}
-use Rattle.engine_core.proofs.QueueLemmas.{any_below-more}
-use Rattle.engine_core.proofs.ScopeLemmas.{IsUpto, upto-next}
-use Rattle.engine_core.proofs.SetLemmas.{counts-differ}
+use Rattle.engine_core.proofs.QueueLemmas.{after-outside, any_below-more, scope-in}
+use Rattle.engine_core.proofs.SetLemmas.{bits-empty, counts-differ}
+
+-- the first k cells of the house are as after a visit of it, and all other cells as before
+pub record IsUpto (p : RuleSystem) (h k : ℕ) (K L : Candidates) : Type 0 where
+  pub done : (j v : ℕ) → j < k → L (slice_index (p.scope h) j) v ≡ after p h K (slice_index (p.scope h) j) v
+  pub rest : (c v : ℕ) → ((j : ℕ) → j < k → slice_index (p.scope h) j ≢ c) → L c v ≡ K c v
+
+-- the next cell is as before
+pub upto-next : {p : RuleSystem} (laws : IsLawful p) {h k : ℕ} {K L : Candidates} → h < p.houses → k < length (p.scope h) → IsUpto p h k K L
+    → L (slice_index (p.scope h) k) ≡ K (slice_index (p.scope h) k)
+upto-next laws {h} {k} lth lt i = fun_ext λ v. i.rest _ v (λ j less e. omega (arith, laws.scope_distinct h j k lth (omega arith) lt e))
+
+-- it comes to be as after the visit, and the others stay
+upto-more : (p : RuleSystem) (laws : IsLawful p) (h k : ℕ) {K L M : Candidates} → h < p.houses → k < length (p.scope h) → IsUpto p h k K L
+    → M (slice_index (p.scope h) k) ≡ after p h K (slice_index (p.scope h) k)
+    → ((c v : ℕ) → c ≢ slice_index (p.scope h) k → M c v ≡ L c v) → IsUpto p h (k + 1) K M
+upto-more p laws h k lth lt i here others = record {
+  done = λ j v less.
+      grind (arith, common_steps, cases_eq j k, ap (λ f. f v) here, others (slice_index (p.scope h) j) v, laws.scope_distinct h j k lth, i.done j v);
+  rest = λ c v none. others c v (λ e. none k (omega arith) (sym e)) ∙ i.rest c v (λ j less. none j (omega arith));
+}
+
+-- a cell's set is left by the bits of what the visit leaves
+left-cell : (p : RuleSystem) (h : ℕ) (K L : Candidates) (c left v : ℕ) → IsWithin p.cells p.values K → L c ≡ K c → IsBitsOf (after p h K c) p.values left
+    → left_by L c left c v ≡ after p h K c v
+unfolding left_by
+left-cell p h K L c left v within same is = grind (arith, common_steps, cases_Bool, eq-eqb, after_inside)
+
+pub upto-cell : {p : RuleSystem} (laws : IsLawful p) {h k : ℕ} {K L : Candidates} {left : ℕ}
+    → h < p.houses → k < length (p.scope h) → IsWithin p.cells p.values K → IsUpto p h k K L
+    → IsBitsOf (after p h K (slice_index (p.scope h) k)) p.values left
+    → left_by L (slice_index (p.scope h) k) left (slice_index (p.scope h) k) ≡ after p h K
+    (slice_index (p.scope h) k)
+upto-cell {p} laws {h} {K} {L} {left} lth lt within i is = fun_ext λ v. left-cell p h K L _ left v within (upto-next laws lth lt i) is
+
+pub upto-left : {p : RuleSystem} (laws : IsLawful p) {h k : ℕ} {K L : Candidates} {left : ℕ}
+    → h < p.houses → k < length (p.scope h) → IsWithin p.cells p.values K
+    → IsUpto p h k K L → IsBitsOf (after p h K (slice_index (p.scope h) k)) p.values left → IsUpto p h (k + 1) K (left_by L (slice_index (p.scope h) k) left)
+upto-left {p} laws {h} {k} {L} {left} lth lt within i is = upto-more p laws h k lth lt i (upto-cell laws lth lt within i is) (left-others L left)
+
+-- or it loses nothing
+same-cell : (p : RuleSystem) (h : ℕ) {K : Candidates} (c bits v : ℕ) → IsWithin p.cells p.values K
+    → IsBitsOf (K c) p.values bits → IsBitsOf (after p h K c) p.values bits
+    → K c v ≡ after p h K c v
+same-cell p h c bits v within was is = grind (arith, common_steps, cases_Bool, after_inside)
+
+pub upto-same : {p : RuleSystem} (laws : IsLawful p) {h k : ℕ} {K L : Candidates} {bits : ℕ}
+    → h < p.houses → k < length (p.scope h) → IsWithin p.cells p.values K
+    → IsUpto p h k K L → IsBitsOf (K (slice_index (p.scope h) k)) p.values bits
+    → IsBitsOf (after p h K (slice_index (p.scope h) k)) p.values bits → IsUpto p h (k + 1) K L
+upto-same {p} laws {h} {k} {bits} lth lt within i was is =
+    upto-more p laws h k lth lt i (upto-next laws lth lt i ∙ fun_ext (λ v. same-cell p h _ bits v within was is)) (λ c v ne. refl)
+
+-- once all cells of the house are done, the board is as after the visit
+pub upto-all : {p : RuleSystem} (laws : IsLawful p) {h : ℕ} {K L : Candidates} → h < p.houses → IsUpto p h (length (p.scope h)) K L → L ≡ after p h K
+upto-all {p} laws {h} {K} lth i = fun_ext λ c. fun_ext λ v.
+    grind (arith, common_steps, cases_Bool (has_place (p.scope h) c), has_place-at (p.scope h) c, has_place-here (p.scope h), after_inside p h K c v, after-outside laws K c v lth)
 
 -- a cell that is left alone has as many values as before
 counts-left : (p : RuleSystem) (h j : ℕ) {place : ℕ} (left : ℕ) (L : Candidates)
@@ -93,3 +148,41 @@ since-more asks from n le = grind (arith, common_steps, any_below-more, le-leb)
 pub since-woken : (p : RuleSystem) (t : Trail) {from n : ℕ} {before now after : ℕ → Bool} → from ≤ n → AreWoken p (is_since p t from n) before now
     → AreWoken p (λ j. has_place (p.scope j) (change_at t.changes n).0) now after → AreWoken p (is_since p t from (n + 1)) before after
 since-woken p t {from} {n} le first next = woken-same (λ j lt. sym (since-more _ from n le)) (woken-more first next)
+
+-- where nothing is struck, the board stays
+pub kept-none : {p : RuleSystem} (laws : IsLawful p) {h : ℕ} {K : Candidates} {kept : List ℕ}
+    → h < p.houses → IsWithin p.cells p.values K → IsKept p h K false kept → K ≡ after p h K
+unfolding after
+kept-none laws lth within is = grind (arith, common_steps, and_from, and_left, cases_Bool, false_from_ne_true, has_place-at)
+
+-- else the bits that are left are those of the sets after the visit
+pub kept-left : {p : RuleSystem} {h : ℕ} {K : Candidates} {sets kept : List ℕ} → AreSetsOf p h K sets → IsKept p h K true kept
+    → {k : ℕ} → k < length (p.scope h) → IsBitsOf (after p h K (slice_index (p.scope h) k)) p.values (bit_and (slice_index sets k) (slice_index kept k))
+unfolding after
+kept-left are is lt = grind (arith, common_steps, and_le_l, both-bits)
+
+-- ---- whether the visit leaves each cell a value
+-- a cell of which nothing is left makes the board dead
+pub struck-dead : {p : RuleSystem} (laws : IsLawful p) {h : ℕ} (K : Candidates) {k : ℕ}
+    → h < p.houses → k < length (p.scope h)
+    → IsBitsOf (after p h K (slice_index (p.scope h) k)) p.values 0 → IsDead p (after p h K)
+struck-dead {p} laws {h} K {k} lth lt is =
+    let none = bits-empty is in
+    is_dead-here p.cells p.values (after p h K) _ (scope-in laws k lth lt) (grind (arith, common_steps, eqb-true))
+
+-- a cell that loses nothing, or not all, has a value
+pub struck-some : {p : RuleSystem} (laws : IsLawful p) {h : ℕ} (K : Candidates) {k set left : ℕ} → h < p.houses → k < length (p.scope h) → IsAlive p K
+    → IsBitsOf (K (slice_index (p.scope h) k)) p.values set
+    → IsBitsOf (after p h K (slice_index (p.scope h) k)) p.values left
+    → (left ≡ set) ⊎ (left ≢ 0) → 0 < counts_of p h (after p h K) k
+unfolding counts_of
+struck-some {p} laws K {k} {set} {left} lth lt alive was is some =
+    grind (arith, common_steps, eq-eqb, eqb-true, ne_eqb, cases_eq, bits-empty was, bits-empty is, is_dead-not p.cells p.values K _ alive (scope-in laws k lth lt))
+
+pub struck-alive : {p : RuleSystem} (laws : IsLawful p) {h : ℕ} (K : Candidates) → h < p.houses
+    → IsAlive p K → ((k : ℕ) → k < length (p.scope h) → 0 < counts_of p h (after p h K) k)
+    → IsAlive p (after p h K)
+unfolding counts_of
+struck-alive {p} laws {h} K lth alive some = is_dead-each p.cells p.values (after p h K) (λ c less.
+    let same = λ (out : has_place (p.scope h) c ≡ false). count_below-le (K c) (after p h K c) p.values (λ v _ on. after-outside laws K c v lth out on) in
+    grind (arith, common_steps, cases_Bool (has_place (p.scope h) c), has_place-at (p.scope h) c, is_dead-not p.cells p.values K c alive less))

@@ -1,15 +1,9 @@
 -- Planes as a position: what a step leaves.
-use Rattle.engine_core.proofs.Common.{Candidates, IsInside, IsLawful, IsOnward, List, None, RuleSystem, ap, arith, common_steps, false_from_ne_true, grid_of, is_dead-each, is_dead-not, is_full, length, only, pick, sym, true, true≢false, ℕ, ◌*◌, ◌<◌, ◌∙◌, ◌≡◌, ◌≤◌}
-use Rattle.std.proofs.Common.{◌⊎◌, refl}
-use Rattle.std.proofs.lemmas.Bool.{cases_eq}
+use Rattle.engine_core.proofs.Common.{AreUnderWay, Candidates, IsAlive, IsInside, IsLawful, IsOnward, List, None, PlacedPlanes, RuleSystem, ap, arith, cases_eq, common_steps, count_below-pos, false_from_ne_true, grid_of, is_dead-each, is_dead-inside, is_dead-not, is_full, length, only, only-here, only-other, pick, places_of, refl, standing_of, sym, true, true≢false, within_inside, ℕ, ◌*◌, ◌<◌, ◌∙◌, ◌≡◌, ◌≤◌, ◌⊎◌}
 use Rattle.grid_core.specs.Extent.{Extent}
 use Rattle.grid_core.specs.Planes.{IsBack, IsFurther, Layers, back_at, cells_of, has}
-use Rattle.grid_core.proofs.CandidateLemmas.{count_below-pos, is_dead-inside, within_inside}
-use Rattle.grid_core.proofs.GridLemmas.{only-here, only-other}
 use Rattle.grid_core.proofs.RowLemmas.{pick-few, pick-none}
-use Rattle.engine_core.specs.ClosingList.{IsAlive}
-use Rattle.engine_core.specs.PlaneNotes.{HasBoard, IsLiveBoard, IsSuited}
-use Rattle.engine_core.specs.PlanePosition.{AreUnderWay, PlacedPlanes, places_of, standing_of}
+use Rattle.engine_core.specs.PlaneNotes.{IsLiveBoard, IsSuited}
 use Rattle.engine_core.specs.RuleSystem.{FitsIn, IsClosed, IsClosedGrid, needs_of}
 use Rattle.engine_core.proofs.JudgeLemmas.{closed-grid, grid-long}
 

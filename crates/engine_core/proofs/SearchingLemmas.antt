@@ -1,8 +1,5 @@
 -- A search that is under way: which marks are left, and what was counted of those before.
-use Rattle.engine_core.proofs.Common.{Candidates, IsClosedIn, IsSearched, IsTrial, IsTurns, Levels, List, Mark, Mark.Found, Mark.Trial, None, Outcome.GaveUp, RuleSystem, SameMarks, Standing, [], ap, append_assoc, arith, boards_of, common_steps, deepest_of, first_of, found_marks, length, length_push, levels_of, marks_of, max, outcome, pending, pending_of, append-nil, is_some, cases_Bool, le-ltb, lt-ltb, take_all, second_of, refl, suc, sym, tried, walk, walk_of, ℕ, ◌++◌, ◌+◌, ◌-◌, ◌<◌, ◌∙◌, ◌∷◌, ◌≡◌, ◌≤◌}
-use Rattle.std.specs.Prelude.{nat_lt}
-use Rattle.engine_core.specs.Stored.{IsAnswer}
-use Rattle.engine_core.specs.Verdict.{tried_of, verdict_of}
+use Rattle.engine_core.proofs.Common.{Candidates, IsAnswer, IsClosedIn, IsSearched, IsTrial, IsTurns, Levels, List, Mark, Mark.Found, Mark.Trial, None, Outcome.GaveUp, RuleSystem, SameMarks, Standing, [], ap, append-nil, append_assoc, arith, boards_of, cases_Bool, common_steps, deepest_of, first_of, found_marks, is_some, le-ltb, length, length_push, levels_of, lt-ltb, marks_of, max, nat_lt, outcome, pending, pending_of, refl, second_of, suc, sym, take_all, tried, tried_of, verdict_of, walk, walk_of, ℕ, ◌++◌, ◌+◌, ◌-◌, ◌<◌, ◌∙◌, ◌∷◌, ◌≡◌, ◌≤◌}
 use Rattle.engine_core.specs.declared.search.levels.Grids.{Grids}
 use Rattle.engine_core.specs.declared.search.walk.Search.{Search}
 use Rattle.engine_core.specs.declared.search.walk.Verdict.{Verdict}

@@ -1,12 +1,12 @@
 -- What closings by plain visits work in. No public contract uses these words.
 use Rattle.std.specs.Prelude.{◌≡◌, ℕ, ◌<◌, ◌≤◌, Bool, true, false, ◌||◌, List, length, take, if◌then◌else◌}
-use Rattle.grid_core.specs.Board.{Layout, has, cells_of, SameShape}
-use Rattle.grid_core.specs.Candidates.{Candidates, is_dead}
+use Rattle.engine_core.specs.Below.{Candidates, IsInside, Layout, SameShape, cells_of, has, is_dead}
 use Rattle.engine_core.specs.RuleSystem.{RuleSystem, Needs, after}
 use Rattle.engine_core.specs.Closing.{HasStruck}
 use Rattle.engine_core.specs.ClosingList.{IsClosing}
-use Rattle.engine_core.specs.Queue.{IsWoken, but}
-use Rattle.engine_core.specs.Waiting.{words_of, is_waiting}
+use Rattle.engine_core.specs.Keeping.{AreHeadSets, AreSetsOf}
+use Rattle.engine_core.specs.Queue.{IsWoken, but, called_for}
+use Rattle.engine_core.specs.Waiting.{AreWoken, words_of, is_waiting}
 use Rattle.engine_core.specs.declared.closing.closer.Effect.{Effect}
 use Rattle.engine_core.specs.declared.search.position.Taken.{Taken}
 
@@ -39,6 +39,26 @@ pub record IsClosedBy (p : RuleSystem) (by_queue : Bool) (K : Candidates) (taken
   pub closing : IsClosing p K (has closer.board) taken.closing
       (take (visits_in by_queue taken.turns) closer.trace) (sweeps_in by_queue taken.turns)
   pub visits : visits_in by_queue taken.turns ≤ length closer.trace
+
+-- the same from a board to the one that is left
+abbrev pub IsClosedFrom : RuleSystem → Bool → BoardAndMarks → Taken → BoardAndMarks → Type 0
+IsClosedFrom p by_queue from taken to = IsClosedBy p by_queue (has from.board) taken to
+
+-- where these are the sets of cells of h in a board that had no less, those houses are marked that a cell with another set
+-- now calls for
+abbrev pub AreCalled : RuleSystem → ℕ → List ℕ → Candidates → List ℕ → List ℕ → Type 0
+AreCalled p h sets now old new = (K : Candidates) → AreSetsOf p h K sets → IsInside now K
+    → AreWoken p (called_for p h K now) (is_waiting old) (is_waiting new)
+
+-- the same at the head of the list, after a visit of h from that board
+abbrev pub AreWokenAfter : RuleSystem → ℕ → List ℕ → Candidates → List ℕ → List ℕ → Type 0
+AreWokenAfter p h sets now old new = (K : Candidates) (before : ℕ → Bool) → AreHeadSets p h K sets
+    → IsInside now K → ((j : ℕ) → is_waiting old j ≡ but before h j)
+    → IsWoken p h K now before (is_waiting new)
+
+-- each house waits
+abbrev pub AllWait : RuleSystem → List ℕ → Type 0
+AllWait p waits = (j : ℕ) → j < p.houses → is_waiting waits j ≡ true
 
 -- the room is the same
 pub record SameRoom (from to : BoardAndMarks) : Type 0 where

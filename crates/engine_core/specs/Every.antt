@@ -1,10 +1,6 @@
 -- Laws of what holds of each of a list.
 use Rattle.std.proofs.Common.{◌≡◌, ℕ, suc, ◌+◌, ◌<◌, Bool, true, List, [], ◌∷◌, ◌++◌, map, length, refl, arith, length-append}
-use Rattle.std.specs.Prelude.{All}
-use Rattle.std.specs.List.{range_with_len, list_all}
-use Rattle.std.proofs.lemmas.List.{get_or_append_left, get_or-append-add}
-use Rattle.std.proofs.lemmas.List.FromFn.{get_or-map-range_with_len, length-map-range_with_len}
-use Rattle.std.proofs.lemmas.Grind.{common_steps}
+use Rattle.engine_core.specs.Below.{All, common_steps, get_or-append-add, get_or-map-range_with_len, get_or_append_left, length-map-range_with_len, list_all, range_with_len}
 
 module _ {X : Type 0} (P : X → Type 0) where
   pub of_first : (xs ys : List X) → All P (xs ++ ys) → All P xs

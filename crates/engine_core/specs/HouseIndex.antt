@@ -1,5 +1,5 @@
 -- Tables of houses: which places each house has, and which houses have a place.
-use Rattle.std.specs.Prelude.{◌≡◌, ℕ, ◌+◌, ◌*◌, ◌/◌, ◌<◌, ◌&&◌, ◌||◌, ◌==◌, nat_lt, List, [], length, slice_index_or}
+use Rattle.std.specs.Prelude.{◌≡◌, ℕ, ◌+◌, ◌*◌, ◌/◌, ◌<◌, ◌≤◌, slice_index, ◌&&◌, ◌||◌, ◌==◌, nat_lt, List, [], length, slice_index_or}
 use Rattle.engine_core.specs.RuleSystem.{has_place}
 use Rattle.engine_core.specs.HouseSets.{AreBelow, AreDifferent}
 use Rattle.engine_core.specs.Waiting.{is_waiting, words_of}
@@ -36,6 +36,14 @@ pub record AreMarked (cells : ℕ) (scopes : List (List ℕ)) (first : ℕ) (mar
   pub each : (place h : ℕ) → place < cells → h / 64 < words_of (length scopes)
       → is_waiting marks (place_bit (words_of (length scopes)) place h)
       ≡ (nat_lt h first && has_place (scope_of scopes h) place)
+
+-- there are so many words for each of the places
+abbrev pub HasWordsAt : ℕ → List ℕ → List ℕ → Type 0
+HasWordsAt words places marks = (k : ℕ) → k < length places → slice_index places k * words + words ≤ length marks
+
+-- what is marked in the words is marked too
+abbrev pub AreMarkedToo : List ℕ → List ℕ → List ℕ → Type 0
+AreMarkedToo marks old new = (j : ℕ) → j / 64 < length marks → is_waiting new j ≡ (is_waiting old j || is_waiting marks j)
 
 -- the house was marked at each of the places
 pub record HasMarked (words house : ℕ) (places old new : List ℕ) : Type 0 where

@@ -1,5 +1,5 @@
 -- Lists of places, one after another in one list.
-use Rattle.std.specs.Prelude.{ℕ, ◌+◌, ◌*◌, ◌<◌, ◌≤◌, ◌^◌, List, drop, length}
+use Rattle.std.specs.Prelude.{[], ◌∷◌, ◌++◌, ℕ, ◌+◌, ◌*◌, ◌<◌, ◌≤◌, ◌^◌, List, drop, length}
 use Rattle.grid_core.specs.Pieces.{AreEnds, last_end, pieces}
 
 -- the lists that are closed, and what is begun of the next
@@ -9,6 +9,13 @@ pub record Listed : Type 0 where
 
 abbrev pub listed : List ℕ → List ℕ → Listed
 listed places ends = record { closed = pieces places 0 ends; begun = drop (last_end 0 ends) places }
+
+-- with one place more in the begun list, and with that list closed
+abbrev pub with_place : Listed → ℕ → Listed
+with_place list place = record list { begun = list.begun ++ place ∷ [] }
+
+abbrev pub with_end : Listed → Listed
+with_end list = record { closed = list.closed ++ list.begun ∷ []; begun = [] }
 
 -- the begun list may have so many places more: a list has fewer than 2^12
 abbrev pub FitsPlaces : Listed → ℕ → Type 0

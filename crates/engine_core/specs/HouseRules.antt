@@ -1,7 +1,6 @@
 -- Puzzles of houses: each house strikes in its own places, by a decision of its own.
 use Rattle.std.specs.Prelude.{◌≡◌, ℕ, ◌+◌, ◌*◌, ◌<◌, ◌≤◌, Bool, true, false, not, ◌&&◌, ◌==◌, List, [], map, length, get_or, slice_index, slice_index_or}
-use Rattle.grid_core.specs.Candidates.{Candidates, IsInside, IsWithin, single, max_cells, max_values}
-use Rattle.grid_core.specs.Grids.{IsGrid}
+use Rattle.engine_core.specs.Below.{Candidates, IsGrid, IsInside, IsWithin, max_cells, max_values, single}
 use Rattle.engine_core.specs.RuleSystem.{RuleSystem}
 use Rattle.engine_core.specs.Filling.{Set, has_value}
 use Rattle.engine_core.specs.HouseSets.{Decision, strikes_at, IsMonotone, AreDifferent}

@@ -1,10 +1,7 @@
 -- A puzzle of sound houses is lawful; and visits enough for each house once, and once more for each value of its cells.
 use Rattle.std.proofs.Common.{◌≡◌, ℕ, zero, suc, ◌+◌, ◌-◌, ◌*◌, ◌<◌, ◌≤◌, Bool, true, false, not, cond, ◌&&◌, eqb, List, [], ◌∷◌, length, refl, sym, ap, ◌∙◌, arith}
-use Rattle.std.specs.Prelude.{All, sum_by}
-use Rattle.std.proofs.lemmas.Bool.{or_cases, eqb-true}
+use Rattle.engine_core.specs.Below.{All, count_below, eqb-true, or_cases, sum_below, sum_by, sum_by-cons}
 use Rattle.std.proofs.lemmas.Nat.{mul-le}
-use Rattle.std.proofs.lemmas.List.Sums.{sum_by-cons}
-use Rattle.grid_core.specs.Candidates.{count_below, sum_below}
 use Rattle.grid_core.proofs.CandidateLemmas.{sum_below-le, sum_below-add, count_below-or, count_below-few, count_below-none}
 use Rattle.engine_core.specs.RuleSystem.{IsLawful, after, has_place, share}
 use Rattle.engine_core.specs.PlaceLaws.{has_place-at}

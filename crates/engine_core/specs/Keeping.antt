@@ -10,6 +10,10 @@ pub record AreSetsOf (p : RuleSystem) (h : ℕ) (K : Candidates) (sets : List �
   pub bits : (k : ℕ) → k < length (p.scope h)
       → IsBitsOf (K (slice_index (p.scope h) k)) p.values (slice_index sets k)
 
+-- the same at the head of a longer list
+abbrev pub AreHeadSets : RuleSystem → ℕ → Candidates → List ℕ → Type 0
+AreHeadSets p h K sets = AreSetsOf p h K (take (length (p.scope h)) sets)
+
 -- those of some board
 pub record AreSets (p : RuleSystem) (h : ℕ) (sets : List ℕ) : Type 0 where
   pub board : Candidates
@@ -25,6 +29,10 @@ pub record IsKept (p : RuleSystem) (h : ℕ) (K : Candidates) (may_strike : Bool
       → K (slice_index (p.scope h) k) v ≡ true
       → has_bit (slice_index kept k) v ≡ not (p.strikes h K (slice_index (p.scope h) k) v)
 
+-- of whichever board the sets are, this is kept of them
+abbrev pub IsKeptOf : RuleSystem → ℕ → List ℕ → Bool → List ℕ → Type 0
+IsKeptOf p h sets may_strike kept = (K : Candidates) → AreSetsOf p h K sets → IsKept p h K may_strike kept
+
 -- there is room for the sets of the house's cells
 abbrev pub HasSetRoom : RuleSystem → ℕ → List ℕ → Type 0
 HasSetRoom p h sets = length (p.scope h) ≤ length sets
@@ -34,7 +42,7 @@ pub record IsFiltered (p : RuleSystem) (h : ℕ) (K : Candidates) (may_strike : 
     (sets kept : List ℕ) : Type 0 where
   pub sets_long : HasSetRoom p h sets
   pub kept_long : HasSetRoom p h kept
-  pub sets_are : AreSetsOf p h K (take (length (p.scope h)) sets)
+  pub sets_are : AreHeadSets p h K sets
   pub kept_are : IsKept p h K may_strike (take (length (p.scope h)) kept)
 
 -- what serves each need that the first served

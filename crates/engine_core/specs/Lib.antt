@@ -1,3 +1,4 @@
+pub mod Below
 pub mod Common
 pub mod Mode
 pub mod RuleSystem

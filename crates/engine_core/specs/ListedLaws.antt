@@ -1,8 +1,6 @@
 -- A puzzle of houses has the places of its houses listed.
-use Rattle.std.proofs.lemmas.Grind.{common_steps}
+use Rattle.engine_core.specs.Below.{common_steps, length-map, sum_by-cons}
 use Rattle.std.proofs.Common.{◌≡◌, ℕ, zero, suc, ◌+◌, ◌*◌, true, List, [], ◌∷◌, length, refl, ap, ◌∙◌, arith, sum_by}
-use Rattle.std.proofs.lemmas.List.{length-map}
-use Rattle.std.proofs.lemmas.List.Sums.{sum_by-cons}
 use Rattle.engine_core.specs.HouseIndex.{scope_of}
 use Rattle.engine_core.specs.HouseRules.{House, Setting, by_houses, house_of, visits_of}
 use Rattle.engine_core.specs.ListedHouses.{AreScopesOf, all_places, most_turns}

@@ -1,7 +1,6 @@
 -- What rules keep beside planes, and the boards that are closed on these.
 use Rattle.std.specs.Prelude.{◌≡◌, ℕ, ◌≤◌}
-use Rattle.grid_core.specs.Candidates.{Candidates, IsInside, IsWithin}
-use Rattle.grid_core.specs.Extent.{Extent}
+use Rattle.engine_core.specs.Below.{Candidates, Extent, IsInside, IsWithin}
 use Rattle.grid_core.specs.Planes.{Layers, cells_of, has}
 use Rattle.engine_core.specs.ClosingList.{IsAlive}
 use Rattle.engine_core.specs.Keeping.{StillServes}

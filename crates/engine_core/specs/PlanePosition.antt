@@ -1,8 +1,7 @@
 -- Planes with their trail as a position. No public contract uses these words.
 use Rattle.std.specs.Prelude.{◌≡◌, ℕ, ◌*◌, ◌⊎◌, Option, Some, None, length}
-use Rattle.std.proofs.Common.{inl, inr}
-use Rattle.grid_core.specs.Extent.{Extent}
-use Rattle.grid_core.specs.Planes.{Layers, back_at, cells_of, has}
+use Rattle.engine_core.specs.Below.{Extent, inl, inr}
+use Rattle.grid_core.specs.Planes.{Layers, back_at, has}
 use Rattle.engine_core.specs.Needs.{needs_in}
 use Rattle.engine_core.specs.PlaneNotes.{HasBoard}
 use Rattle.engine_core.specs.Position.{Standing}

@@ -1,6 +1,6 @@
 -- What a walk sees of a position: its board, and the boards that it can be taken back to.
-use Rattle.std.specs.Prelude.{◌≡◌, ℕ, ◌≤◌, Option, Some, None, false, true}
-use Rattle.grid_core.specs.Candidates.{Candidates, IsInside, IsWithin, is_dead, only}
+use Rattle.std.specs.Prelude.{◌≡◌, Bool, ℕ, ◌*◌, ◌≤◌, List, Option, Some, None, false, true}
+use Rattle.grid_core.specs.Candidates.{Candidates, IsInside, IsWithin, grid_of, is_dead, is_full, only}
 use Rattle.engine_core.specs.RuleSystem.{IsClosed, Needs, RuleSystem}
 use Rattle.engine_core.specs.Closing.{closure}
 use Rattle.engine_core.specs.ClosingList.{IsDead, IsAlive}
@@ -11,6 +11,21 @@ use Rattle.engine_core.specs.declared.mode.Closing.TheVariants.{Dead, Open}
 pub record Room : Type 0 where
   pub needs : Needs
   pub trail : ℕ
+
+-- how many changes a search can note at once
+abbrev pub most_changes : RuleSystem → ℕ
+most_changes p = p.cells * p.values
+
+-- each cell of the board has exactly one value, and the grid of these
+abbrev pub IsFull : RuleSystem → Candidates → Type 0
+IsFull p E = is_full p.cells p.values E ≡ true
+
+abbrev pub own_grid : RuleSystem → Candidates → List ℕ
+own_grid p E = grid_of p.cells p.values E
+
+-- whether that is a solution
+abbrev pub is_solved : RuleSystem → Candidates → Bool
+is_solved p E = p.is_solution (own_grid p E)
 
 -- a board, the length of its trail, and the board that each such length gives back
 pub record Standing : Type 0 where
@@ -50,3 +65,7 @@ pub record IsTaken (p : RuleSystem) (K E : Candidates) (answer : Closing) : Type
   pub dead : answer ≡ Dead → IsDead p (closure p K)
   pub left : answer ≡ Open → E ≡ closure p K
   pub alive : answer ≡ Open → IsAlive p E
+
+-- the same from where a position stood to where it stands
+abbrev pub IsTakenTo : RuleSystem → Standing → Standing → Closing → Type 0
+IsTakenTo p from to answer = IsTaken p from.board to.board answer

@@ -1,8 +1,5 @@
 -- The board of a position has no other cells and values than its puzzle.
-use Rattle.std.proofs.lemmas.Grind.{common_steps}
-use Rattle.std.proofs.Common.{arith}
-use Rattle.grid_core.specs.Board.{Layout, has}
-use Rattle.grid_core.specs.Candidates.{IsWithin}
+use Rattle.engine_core.specs.Below.{IsWithin, Layout, arith, common_steps, has}
 use Rattle.grid_core.proofs.BoardLemmas.{has-within}
 use Rattle.engine_core.specs.RuleSystem.{RuleSystem, IsBoardOf}
 

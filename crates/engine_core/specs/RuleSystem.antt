@@ -1,9 +1,6 @@
 -- What a rule set means, and what every rule set keeps to.
 use Rattle.std.specs.Prelude.{◌≡◌, ℕ, zero, suc, max, Option, Some, None, ◌==◌, ◌+◌, ◌-◌, ◌*◌, ◌<◌, ◌≤◌, Bool, true, false, not, cond, ◌&&◌, List, length, slice_index}
-use Rattle.std.specs.List.{list_any}
-use Rattle.grid_core.specs.Candidates.{Candidates, IsInside, IsWithin, single, count_below, sum_below, max_cells, max_values}
-use Rattle.grid_core.specs.Board.{Layout, cells_of}
-use Rattle.grid_core.specs.Grids.{IsGrid}
+use Rattle.engine_core.specs.Below.{Candidates, IsGrid, IsInside, IsWithin, Layout, cells_of, count_below, list_any, max_cells, max_values, single, sum_below}
 
 -- what a rule set means: its cells, values and houses, the most visits or sweeps of one closing, whether a visit leaves
 -- nothing to strike for a second one of the same house in a row (`visits_settle`), whether closings go by a queue, the
@@ -57,6 +54,17 @@ IsInsideAt scope K L =
 unfoldable pub share : RuleSystem → ℕ → ℕ
 share p c = count_below (λ h. has_place (p.scope h) c) p.houses - cond p.visits_settle 1 0
 
+-- The bound is large enough: in a queue for each house once, and each cell's houses once more for each value that the cell
+-- can lose; in sweeps for each value that the cells can lose, and one sweep more.
+abbrev pub most_visits : RuleSystem → ℕ
+most_visits p = p.houses + sum_below (λ c. (p.values - 1) * share p c) p.cells
+
+abbrev pub AreEnoughVisits : RuleSystem → Type 0
+AreEnoughVisits p = p.by_queue ≡ true → most_visits p ≤ p.bound
+
+abbrev pub AreEnoughSweeps : RuleSystem → Type 0
+AreEnoughSweeps p = p.by_queue ≡ false → p.cells * (p.values - 1) + 1 ≤ p.bound
+
 -- what every rule set keeps to
 pub record IsLawful (p : RuleSystem) : Type 0 where
   -- what is struck in a board is struck in every board that has no more in the house's cells
@@ -73,11 +81,8 @@ pub record IsLawful (p : RuleSystem) : Type 0 where
   -- where visits settle, one of a house leaves no value of the board for a second one
   pub settles : p.visits_settle ≡ true → (h : ℕ) (K : Candidates) (c v : ℕ) → h < p.houses
       → v < p.values → after p h K c v ≡ true → p.strikes h (after p h K) c v ≡ false
-  -- the bound is large enough: in a queue for each house once, and each cell's houses once more for each value that the cell
-  -- can lose; in sweeps for each value that the cells can lose, and one sweep more
-  pub bound_of_queue : p.by_queue ≡ true
-      → p.houses + sum_below (λ c. (p.values - 1) * share p c) p.cells ≤ p.bound
-  pub bound_of_sweeps : p.by_queue ≡ false → p.cells * (p.values - 1) + 1 ≤ p.bound
+  pub bound_of_queue : AreEnoughVisits p
+  pub bound_of_sweeps : AreEnoughSweeps p
   pub some_values : 1 ≤ p.values
   pub few_values : p.values ≤ max_values
   pub few_cells : p.cells ≤ max_cells
@@ -131,3 +136,7 @@ IsNext p n from None = (j : ℕ) → from ≤ j → j < n → p j ≡ false
 IsNext p n from (Some k) =
     (from ≤ k) × (k < n) × (p k ≡ true)
     × ((j : ℕ) → from ≤ j → j < k → p j ≡ false)
+
+-- the least house from `from` on that has the place
+abbrev pub IsNextAt : RuleSystem → ℕ → ℕ → Option ℕ → Type 0
+IsNextAt p place from next = IsNext (λ h. has_place (p.scope h) place) p.houses from next

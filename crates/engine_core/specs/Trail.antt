@@ -1,7 +1,6 @@
 -- A board with the trail of its changes, so that it can be put back. No public contract uses these words.
 use Rattle.std.specs.Prelude.{◌≡◌, ◌≢◌, ℕ, Bool, zero, suc, ◌+◌, ◌*◌, ◌^◌, ◌<◌, ◌≤◌, ◌==◌, ◌&&◌, not, nat_le, List, slice_index, length, slice_index_or, if◌then◌else◌}
-use Rattle.grid_core.specs.Board.{Layout, has, SameShape}
-use Rattle.grid_core.specs.Candidates.{Candidates, IsInside, any_below, total, with_set}
+use Rattle.engine_core.specs.Below.{Candidates, IsInside, Layout, SameShape, any_below, has, total, with_set}
 use Rattle.engine_core.specs.RuleSystem.{RuleSystem, after, has_place}
 use Rattle.engine_core.specs.ClosingList.{IsAlive}
 use Rattle.engine_core.specs.Queue.{counts_of}
@@ -68,6 +67,10 @@ pub record AreLost (p : RuleSystem) (h n : ℕ) (from to : Trail) : Type 0 where
   pub all : (k : ℕ) → k < n → counts_of p h (has from.board) k ≢ counts_of p h (has to.board) k
       → (m : ℕ) × (from.len ≤ m) × (m < to.len)
       × ((change_at to.changes m).0 ≡ slice_index (p.scope h) k)
+
+-- the changes of before are as they were
+abbrev pub KeepsChanges : Trail → Trail → Type 0
+KeepsChanges from to = (m : ℕ) → m < from.len → change_at to.changes m ≡ change_at from.changes m
 
 -- the house j has a cell with a change from the number `from` on and below n
 abbrev pub is_since : RuleSystem → Trail → ℕ → ℕ → ℕ → Bool

@@ -1,13 +1,12 @@
 -- A board with its trail as a position, and which houses wait. No public contract uses these words.
-use Rattle.std.specs.Prelude.{◌≡◌, ℕ, ◌<◌, Bool, true, false, List, length}
-use Rattle.grid_core.specs.Board.{Layout, has, cells_of}
-use Rattle.grid_core.specs.Candidates.{Candidates, IsInside}
+use Rattle.std.specs.Prelude.{◌≡◌, ℕ, ◌<◌, Bool, true, false, List, Option, length}
+use Rattle.engine_core.specs.Below.{Candidates, IsInside, Layout, cells_of, has}
 use Rattle.engine_core.specs.RuleSystem.{RuleSystem, Needs, needs_of, FitsIn, IsBoardOf, after}
-use Rattle.engine_core.specs.ClosingList.{IsDead, IsAlive}
-use Rattle.engine_core.specs.Position.{Standing}
+use Rattle.engine_core.specs.ClosingList.{IsDeadAfter, IsAlive}
+use Rattle.engine_core.specs.Position.{IsClosedBut, Standing}
 use Rattle.engine_core.specs.Queue.{IsRested, IsWoken}
-use Rattle.engine_core.specs.Trail.{Trail, IsTrailLonger, back_at}
-use Rattle.engine_core.specs.Waiting.{words_of, is_waiting}
+use Rattle.engine_core.specs.Trail.{Trail, IsTrailLonger, back_at, is_since}
+use Rattle.engine_core.specs.Waiting.{AreWoken, words_of, is_waiting}
 
 -- what the memory was taken for, the board with its trail, and which houses wait
 pub record Placed : Type 0 where
@@ -39,6 +38,14 @@ pub record IsAlong (p : RuleSystem) (s : Placed) : Type 0 where
 abbrev pub AreHousesRested : RuleSystem → Placed → Type 0
 AreHousesRested p s = IsRested p (board_in s) (is_waiting s.waits)
 
+-- the same of each board that was closed before the cell of that place lost values, if one is named
+abbrev pub AreRestedBut : RuleSystem → Option ℕ → List ℕ → Type 0
+AreRestedBut p place waits = (K : Candidates) → IsClosedBut p K place → IsRested p K (is_waiting waits)
+
+-- the houses of each cell are marked that the trail names from this number on
+abbrev pub AreWokenSince : RuleSystem → Trail → ℕ → List ℕ → List ℕ → Type 0
+AreWokenSince p t from old new = AreWoken p (is_since p t from t.len) (is_waiting old) (is_waiting new)
+
 -- ---- from one place to a later one
 -- values were struck and noted
 pub record GoesOn (from to : Placed) : Type 0 where
@@ -47,7 +54,7 @@ pub record GoesOn (from to : Placed) : Type 0 where
 
 -- a visit of h that leaves each cell a value was made, and its houses wait; or it would leave a cell without one
 abbrev pub IsStep : RuleSystem → ℕ → Placed → Placed → Bool → Type 0
-IsStep p h from to true = IsDead p (after p h (board_in from))
+IsStep p h from to true = IsDeadAfter p h (board_in from)
 IsStep p h from to false =
     (board_in to ≡ after p h (board_in from)) × IsAlive p (board_in to)
     × IsWoken p h (board_in from) (board_in to) (is_waiting from.waits) (is_waiting to.waits)

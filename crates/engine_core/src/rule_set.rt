@@ -1,7 +1,7 @@
 //! What only a game knows of rules that are made of listed houses.
 
 ghost use Rattle.std.specs.Prelude.{◌<◌, ◌≡◌, Bool, IfOk, List, ℕ, length};
-ghost use Rattle.engine_core.specs.Common.{has, SameShape, Candidates, RuleSystem, IsLawful, IsClosedGrid, IsGridOf, Needs, needs_of, FitsIn, IsBoardOf, Mode, AreSetsOf, AreSets, IsKept, AreScopesOf, most_turns, is_queue};
+ghost use Rattle.engine_core.specs.Common.{has, SameShape, Candidates, RuleSystem, IsLawful, IsClosedGrid, IsGridOf, Needs, needs_of, FitsIn, IsBoardOf, Mode, AreSetsOf, AreSets, IsKeptOf, AreScopesOf, most_turns, is_queue};
 
 use crate::houses::list::HouseList;
 use crate::mode::Mode;
@@ -79,8 +79,7 @@ pub trait RuleSet: Drop + Sized {
         requires as_many { length kept.old ≡ length sets.now }
         requires served { serves scratch.old (needs_of (system (puzzle_of self.now))) }
         requires sets { AreSets (system (puzzle_of self.now)) house sets.now }
-        ensures kept { (K : Candidates) → AreSetsOf (system (puzzle_of self.now)) house K sets.now
-            → IsKept (system (puzzle_of self.now)) house K result kept.new }
+        ensures kept { IsKeptOf (system (puzzle_of self.now)) house sets.now result kept.new }
         ensures keeps { (needs : Needs) → serves scratch.old needs → serves scratch.new needs };
 
     /// Whether the grid is a solution. It has a number below `values` for each cell, by place.

@@ -2,7 +2,7 @@
 #![tactic(auto, using(crate::proofs::LawSets::position_laws))]
 
 ghost use Rattle.std.specs.Prelude.{◌-◌, ◌<◌, ◌≡◌, ◌≤◌, IfOk, false, if◌then◌else◌, length, max, not, slice_set, true};
-ghost use Rattle.engine_core.specs.Common.{from_bool, has, SameShape, cells_of, is_full, grid_of, is_queue, needs_in, needs_of, FitsIn, IsBoardOf, IsClosedBy, IsVisited, SameRoom, IsAlive, IsRested, is_waiting, Dead, Open};
+ghost use Rattle.engine_core.specs.Common.{from_bool, has, SameShape, cells_of, is_solved, is_queue, IsFull, needs_in, needs_of, FitsIn, IsBoardOf, IsClosedFrom, IsVisited, SameRoom, IsAlive, IsRested, is_waiting, Dead, Open};
 
 use crate::closing::marking::{is_house_dead, mark_after};
 use crate::houses::visit::read_head;
@@ -133,8 +133,7 @@ impl<R: Rules> Closer<R> {
     /// Closes the board: at first each house waits.
     pub(crate) fn close(&mut self, rules: &R) -> Taken
         requires fits { FitsIn (needs_of (R.system rules.now)) self.old.made }
-        ensures closing { IsClosedBy (R.system rules.now) (is_queue R.MODE) (has self.old.board)
-            result self.new }
+        ensures closing { IsClosedFrom (R.system rules.now) (is_queue R.MODE) self.old result self.new }
         ensures room { SameRoom self.old self.new }
     {
         if self.board.has_empty_cell() {
@@ -171,8 +170,7 @@ impl<R: Rules> Closer<R> {
         requires alive { IsAlive (R.system rules.now) (has self.old.board) }
         requires rested { IsRested (R.system rules.now) (has self.old.board)
             (is_waiting self.old.waits) }
-        ensures closing { IsClosedBy (R.system rules.now) (is_queue R.MODE) (has self.old.board)
-            result self.new }
+        ensures closing { IsClosedFrom (R.system rules.now) (is_queue R.MODE) self.old result self.new }
         ensures room { SameRoom self.old self.new }
     {
         let by_queue = by_queue::<R>();
@@ -197,11 +195,9 @@ impl<R: Rules> Closer<R> {
     /// Whether the grid of the full board is a solution. It is written to `grid`.
     pub(crate) fn accept(&mut self, rules: &R, grid: &mut Grid) -> bool
         requires fits { FitsIn (needs_of (R.system rules.now)) self.old.made }
-        requires full { is_full (R.system rules.now).cells (R.system rules.now).values
-            (has self.old.board) ≡ true }
+        requires full { IsFull (R.system rules.now) (has self.old.board) }
         requires long { length grid.old ≡ (R.system rules.now).cells }
-        ensures solution { result ≡ (R.system rules.now).is_solution
-            (grid_of (R.system rules.now).cells (R.system rules.now).values (has self.old.board)) }
+        ensures solution { result ≡ is_solved (R.system rules.now) (has self.old.board) }
         ensures long { length grid.new ≡ (R.system rules.now).cells }
         ensures same { self.new ≡ self.old }
     {

@@ -1,7 +1,7 @@
 //! What is looked for after a plain visit: the houses of each cell that lost a value, and a cell without any.
 
-ghost use Rattle.std.specs.Prelude.{◌<◌, ◌≡◌, ◌≤◌, Bool, ℕ, false, length, take, true};
-ghost use Rattle.engine_core.specs.Common.{has, Candidates, IsInside, AreSetsOf, HasSetRoom, has_place, IsBoardOf, is_queue, IsWoken, but, called_for, is_dead_in, words_of, is_waiting, AreWoken, AreWokenAt};
+ghost use Rattle.std.specs.Prelude.{◌<◌, ◌≡◌, ◌≤◌, false, length, true};
+ghost use Rattle.engine_core.specs.Common.{has, AllWait, AreCalled, AreWokenAfter, HasSetRoom, IsBoardOf, is_queue, is_dead_in, words_of, AreWokenAt};
 
 use crate::rules::{Rules, by_queue};
 use crate::waits::{dequeue_if, enqueue};
@@ -35,11 +35,7 @@ pub(crate) fn mark_changed<R: Rules>(
     requires board_of { IsBoardOf (R.system rules.now) board.now }
     requires long { length sets.now ≡ length ((R.system rules.now).scope house) }
     requires room { words_of (R.system rules.now).houses ≤ length waits.old }
-    ensures { (K : Candidates) → AreSetsOf (R.system rules.now) house K sets.now
-        → IsInside (has board.now) K
-        → AreWoken (R.system rules.now)
-        (called_for (R.system rules.now) house K (has board.now))
-        (is_waiting waits.old) (is_waiting waits.new) }
+    ensures { AreCalled (R.system rules.now) house sets.now (has board.now) waits.old waits.new }
 {
     for k in 0..sets.len() {
         let place = rules.scope(house, k);
@@ -62,14 +58,9 @@ pub(crate) fn mark_after<R: Rules>(
     requires board_of { IsBoardOf (R.system rules.now) board.now }
     requires long { HasSetRoom (R.system rules.now) house sets.now }
     requires room { words_of (R.system rules.now).houses ≤ length waits.old }
-    ensures queue { is_queue R.MODE ≡ true → (K : Candidates) (before : ℕ → Bool)
-        → AreSetsOf (R.system rules.now) house K
-        (take (length ((R.system rules.now).scope house)) sets.now)
-        → IsInside (has board.now) K
-        → ((j : ℕ) → is_waiting waits.old j ≡ but before house j)
-        → IsWoken (R.system rules.now) house K (has board.now) before (is_waiting waits.new) }
-    ensures sweeps { is_queue R.MODE ≡ false → (j : ℕ) → j < (R.system rules.now).houses
-        → is_waiting waits.new j ≡ true }
+    ensures queue { is_queue R.MODE ≡ true
+        → AreWokenAfter (R.system rules.now) house sets.now (has board.now) waits.old waits.new }
+    ensures sweeps { is_queue R.MODE ≡ false → AllWait (R.system rules.now) waits.new }
 {
     if !by_queue::<R>() {
         waits.fill(u64::MAX);

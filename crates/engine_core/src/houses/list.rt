@@ -3,7 +3,7 @@
 
 ghost use Rattle.std.specs.Prelude.{◌++◌, ◌<◌, ◌^◌, ◌∷◌, ◌≡◌, IfOk, OnOk, [], length, slice_index, slice_index_or, sum_by};
 ghost use Rattle.engine_core.specs.Common.{last_end};
-ghost use Rattle.engine_core.specs.HouseList.{FitsPlaces, FitsLists};
+ghost use Rattle.engine_core.specs.HouseList.{FitsPlaces, FitsLists, with_end, with_place};
 
 use std::alloc::{AllocError, Global};
 use std::marker::Model;
@@ -50,8 +50,7 @@ impl HouseList {
     pub fn push(&mut self, place: usize) -> Result<(), AllocError>
         requires place { place < 2 ^ 32 }
         requires fits { FitsPlaces self.old 1 }
-        ensures { OnOk result (self.new
-            ≡ record self.old { begun = self.old.begun ++ place ∷ [] }) }
+        ensures { OnOk result (self.new ≡ with_place self.old place) }
     {
         self.places.push(place as u32)?;
         Ok(())
@@ -64,8 +63,7 @@ impl HouseList {
     /// When memory was refused.
     pub fn end(&mut self) -> Result<(), AllocError>
         requires { FitsLists self.old 1 }
-        ensures { OnOk result (self.new
-            ≡ record { closed = self.old.closed ++ self.old.begun ∷ []; begun = [] }) }
+        ensures { OnOk result (self.new ≡ with_end self.old) }
     {
         let places: &[u32] = &self.places;
         self.ends.push(places.len())?;

@@ -2,8 +2,8 @@
 #![tactic(auto, using(crate::proofs::LawSets::house_index_laws))]
 
 ghost use Rattle.std.specs.Prelude.{◌*◌, ◌+◌, ◌/◌, ◌<◌, ◌^◌, ◌||◌, ◌≡◌, ◌≤◌, IfOk, ℕ, length, slice_index};
-ghost use Rattle.engine_core.specs.Common.{has_place, IsNext, is_waiting};
-ghost use Rattle.engine_core.specs.HouseIndex.{AreScopes, scope_of, AreMarksAt, HasMarked};
+ghost use Rattle.engine_core.specs.Common.{has_place, IsNext};
+ghost use Rattle.engine_core.specs.HouseIndex.{AreMarkedToo, AreScopes, HasWordsAt, scope_of, AreMarksAt, HasMarked};
 
 use crate::houses::list::HouseList;
 use crate::waits::next_waiting;
@@ -14,8 +14,7 @@ use std::marker::Model;
 /// Marks the house at each of these places: each place has so many words.
 fn mark_house(marks: &mut [u64], words: usize, house: usize, places: &[u32])
     requires house_in { house / 64 < words }
-    requires within { (k : ℕ) → k < length places.now
-        → slice_index places.now k * words + words ≤ length marks.old }
+    requires within { HasWordsAt words places.now marks.old }
     ensures as_many { length marks.new ≡ length marks.old }
     ensures marked { HasMarked words house places.now marks.old marks.new }
 {
@@ -28,8 +27,7 @@ fn mark_house(marks: &mut [u64], words: usize, house: usize, places: &[u32])
 /// Marks each house that is marked in the second words.
 pub(crate) fn join_marks(waits: &mut [u64], marks: &[u64])
     requires { length marks.now ≤ length waits.old }
-    ensures { (j : ℕ) → j / 64 < length marks.now
-        → is_waiting waits.new j ≡ (is_waiting waits.old j || is_waiting marks.now j) }
+    ensures { AreMarkedToo marks.now waits.old waits.new }
 {
     for word in 0..marks.len() {
         waits[word] |= marks[word];

@@ -3,7 +3,7 @@
 #![tactic(auto, using(crate::proofs::LawSets::visit_laws))]
 
 ghost use Rattle.std.specs.Prelude.{◌<◌, ◌==◌, ◌≡◌, ◌≤◌, ℕ, false, length, map, slice_index, take, true};
-ghost use Rattle.engine_core.specs.Common.{has, cells_of, SameShape, HasStruck, AreSetsOf, HasSetRoom, is_queue, IsBoardOf, has_bit as is_set, set_of_bits, IsBitsOf, AreBelow, sets_at, kept_in};
+ghost use Rattle.engine_core.specs.Common.{has, cells_of, SameShape, HasStruck, AreBitsAt, AreHeadSets, AreSetsOf, HasSetRoom, is_queue, IsBoardOf, has_bit as is_set, set_of_bits, IsBitsOf, AreBelow, sets_at, kept_in};
 
 use crate::rules::{Rules, by_queue};
 use grid_core::Board;
@@ -25,8 +25,8 @@ pub(crate) fn read_head<R: Rules>(rules: &R, house: usize, board: &Board, sets: 
     requires house_in { house < (R.system rules.now).houses }
     requires board_of { IsBoardOf (R.system rules.now) board.now }
     requires room { HasSetRoom (R.system rules.now) house sets.old }
-    ensures { is_queue R.MODE ≡ true → AreSetsOf (R.system rules.now) house (has board.now)
-        (take (length ((R.system rules.now).scope house)) sets.new) }
+    ensures { is_queue R.MODE ≡ true
+        → AreHeadSets (R.system rules.now) house (has board.now) sets.new }
 {
     if by_queue::<R>() {
         read_sets(rules, house, board, &mut sets[..rules.scope_len(house)]);
@@ -38,9 +38,7 @@ pub(crate) fn read_head<R: Rules>(rules: &R, house: usize, board: &Board, sets: 
 pub fn gather(board: &Board, places: &[u32], sets: &mut [u32])
     requires places_in { AreBelow (cells_of board.now) places.now }
     requires as_many { length sets.old ≡ length places.now }
-    ensures bits { (k : ℕ) → k < length places.now
-        → IsBitsOf (has board.now (slice_index places.now k)) board.now.values
-        (slice_index sets.new k) }
+    ensures bits { AreBitsAt board.now.values places.now (has board.now) sets.new }
     ensures sets { map (set_of_bits board.now.values) sets.new
         ≡ sets_at board.now.values places.now (has board.now) }
 {

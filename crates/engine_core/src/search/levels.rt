@@ -1,7 +1,7 @@
 //! The levels of a search: a frame for each cell whose values are being tried, and the grids found.
 
 ghost use Rattle.std.specs.Prelude.{◌+◌, ◌<◌, ◌≡◌, ◌≤◌, None, length};
-ghost use Rattle.engine_core.specs.Common.{pick, IsClosedIn, IsClosedBut, AreGrids, AreReady, AreSolutions, IsTurn, SameMarks, singles, IsClosed, IsFull, IsNoted};
+ghost use Rattle.engine_core.specs.Common.{pick, IsClosedIn, IsClosedBut, AreGrids, AreReady, StaySolutions, IsTurn, SameMarks, singles, IsClosed, IsFull, IsNoted};
 
 use crate::mode::Closing;
 use crate::search::position::Position;
@@ -33,8 +33,7 @@ impl Grids {
         requires going { self.old.found < 2 }
         ensures noted { IsNoted (P.system rules.now) (P.stands position.old).board self.old
             self.new }
-        ensures solved { AreSolutions (P.system rules.now) self.old
-            → AreSolutions (P.system rules.now) self.new }
+        ensures solved { StaySolutions (P.system rules.now) self.old self.new }
         ensures long { AreGrids (P.system rules.now).cells self.new }
         ensures same { P.stands position.new ≡ P.stands position.old }
         ensures walks { P.walks rules.now position.new }
@@ -111,8 +110,7 @@ impl Levels {
         ensures marks { SameMarks (P.system rules.now) (P.stands position.old) self.old
             (P.stands position.new) self.new }
         ensures ready { AreReady (P.system rules.now) (P.stands position.new) self.new }
-        ensures solved { AreSolutions (P.system rules.now) self.old.grids
-            → AreSolutions (P.system rules.now) self.new.grids }
+        ensures solved { StaySolutions (P.system rules.now) self.old.grids self.new.grids }
         ensures long { AreGrids (P.system rules.now).cells self.new.grids }
         ensures deeper { self.new.depth ≤ self.old.depth + 1 }
         ensures frames { length self.new.frames.items ≡ length self.old.frames.items }

@@ -1,7 +1,7 @@
 //! What a walk stands on: a board that is closed, tried and put back.
 
 ghost use Rattle.std.specs.Prelude.{◌≡◌, ℕ, ◌*◌, ◌<◌, ◌≤◌, IfOk, true, None, length};
-ghost use Rattle.engine_core.specs.Common.{IsInside, count_below, grid_of, is_full, only, pick, RuleSystem, IsClosed, IsLawful, IsNext, Needs, needs_of, FitsIn, IsClosedBut, IsClosedIn, Standing, IsOnward, IsReturned, IsTaken, Room};
+ghost use Rattle.engine_core.specs.Common.{IsFull, IsInside, IsTakenTo, count_below, most_changes, only, own_grid, pick, RuleSystem, IsClosed, IsLawful, IsNext, Needs, needs_of, FitsIn, IsClosedBut, IsClosedIn, Standing, IsOnward, IsReturned, Room};
 
 use crate::mode::Closing;
 use crate::rules::Rules;
@@ -41,8 +41,8 @@ pub trait Position: Drop + Sized {
     fn new(alloc: Global, rules: &Self::Game) -> Result<Self, AllocError>
         ensures needs { IfOk result (λ position. (room position).needs
             ≡ needs_of (system rules.now)) }
-        ensures trail { IfOk result (λ position. (room position).trail
-            ≡ (system rules.now).cells * (system rules.now).values) };
+        ensures trail { IfOk result
+            (λ position. (room position).trail ≡ most_changes (system rules.now)) };
 
     /// How many changes of cells can be taken back: the length of the list that holds them.
     fn changes(&self) -> usize
@@ -69,8 +69,8 @@ pub trait Position: Drop + Sized {
     fn close(&mut self, rules: &Self::Game, from: Option<usize>) -> Taken
         requires walks { walks rules.now self.old }
         requires closed_but { IsClosedBut (system rules.now) (stands self.old).board from }
-        ensures taken { IsTaken (system rules.now) (stands self.old).board
-            (stands self.new).board result.closing }
+        ensures taken { IsTakenTo (system rules.now) (stands self.old) (stands self.new)
+            result.closing }
         ensures turns { IsClosedIn (system rules.now) (stands self.old).board result.turns }
         ensures onward { IsOnward (stands self.old) (stands self.new) }
         ensures walks { walks rules.now self.new }
@@ -116,12 +116,9 @@ pub trait Position: Drop + Sized {
     fn accept(&mut self, rules: &Self::Game, grid: &mut Grid) -> bool
         requires walks { walks rules.now self.old }
         requires closed { IsClosed (system rules.now) (stands self.old).board }
-        requires full { is_full (system rules.now).cells (system rules.now).values
-            (stands self.old).board ≡ true }
+        requires full { IsFull (system rules.now) (stands self.old).board }
         requires long { length grid.old ≡ (system rules.now).cells }
-        ensures grid { grid.new
-            ≡ grid_of (system rules.now).cells (system rules.now).values
-            (stands self.old).board }
+        ensures grid { grid.new ≡ own_grid (system rules.now) (stands self.old).board }
         ensures long { length grid.new ≡ (system rules.now).cells }
         ensures solution { result ≡ (system rules.now).is_solution grid.new }
         ensures same { stands self.new ≡ stands self.old }

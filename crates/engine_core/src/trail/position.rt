@@ -2,7 +2,7 @@
 #![tactic(auto, using(crate::proofs::LawSets::position_laws))]
 
 ghost use Rattle.std.specs.Prelude.{◌<◌, ◌≡◌, ◌≤◌, ◌+◌, IfOk, IfSome, false, length};
-ghost use Rattle.engine_core.specs.Common.{cells_of, max_cells, max_values, IsTrailUnderWay, standing_of, words_of, has, IsAlive, IsClosedIn, HasSetRoom, IsFiltered, IsTaken, needs_of, IsBoardOf, StillServes, IsAlong, AreHousesRested, GoesOn, IsStep, board_in, is_since, is_waiting, AreWoken, Candidates, IsClosedBut, IsRested};
+ghost use Rattle.engine_core.specs.Common.{cells_of, max_cells, max_values, IsTrailUnderWay, standing_of, words_of, has, IsAlive, IsClosedIn, HasSetRoom, IsFiltered, IsTaken, needs_of, IsBoardOf, StillServes, IsAlong, AreHousesRested, GoesOn, IsStep, board_in, AreRestedBut, AreWokenSince};
 
 use crate::mode::Closing;
 use crate::needs::{Needs, needs_for};
@@ -20,8 +20,7 @@ use std::marker::Model;
 fn wait_from<R: Propagators>(rules: &R, from: Option<usize>, waits: &mut [u64])
     requires place_in { IfSome from (λ place. place < (R.system rules.now).cells) }
     requires room { words_of (R.system rules.now).houses ≤ length waits.old }
-    ensures { (K : Candidates) → IsClosedBut (R.system rules.now) K from
-        → IsRested (R.system rules.now) K (is_waiting waits.new) }
+    ensures { AreRestedBut (R.system rules.now) from waits.new }
 {
     match from {
         None => waits.fill(u64::MAX),
@@ -37,9 +36,7 @@ fn wake_since<R: Propagators>(rules: &R, trailed: &TrailedBoard, from: usize, wa
     requires board_of { IsBoardOf (R.system rules.now) trailed.now.board }
     requires from_in { from ≤ trailed.now.len }
     requires room { words_of (R.system rules.now).houses ≤ length waits.old }
-    ensures { AreWoken (R.system rules.now)
-        (is_since (R.system rules.now) trailed.now from trailed.now.len)
-        (is_waiting waits.old) (is_waiting waits.new) }
+    ensures { AreWokenSince (R.system rules.now) trailed.now from waits.old waits.new }
 {
     for number in from..trailed.len() {
         rules.wake(trailed.changed(number), waits);

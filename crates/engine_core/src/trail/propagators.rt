@@ -2,7 +2,7 @@
 //! houses that a change of a cell calls for.
 
 ghost use Rattle.std.specs.Prelude.{◌<◌, ◌≡◌, ◌≤◌, length};
-ghost use Rattle.engine_core.specs.Common.{has, Candidates, needs_of, IsBoardOf, IsClosedGrid, AreSetsOf, AreSets, IsKept, words_of, StillServes, AreWokenAt};
+ghost use Rattle.engine_core.specs.Common.{has, Candidates, needs_of, IsBoardOf, IsClosedGrid, AreSetsOf, AreSets, IsKeptOf, words_of, StillServes, AreWokenAt};
 
 use crate::houses::visit::read_sets;
 use crate::rules::Rules;
@@ -35,8 +35,7 @@ pub trait Propagators: Rules {
         requires as_many { length kept.old ≡ length sets.now }
         requires served { Self.serves scratch.old (needs_of (Self.system self.now)) }
         requires sets { AreSets (Self.system self.now) house sets.now }
-        ensures kept { (K : Candidates) → AreSetsOf (Self.system self.now) house K sets.now
-            → IsKept (Self.system self.now) house K result kept.new }
+        ensures kept { IsKeptOf (Self.system self.now) house sets.now result kept.new }
         ensures keeps { StillServes Self.serves scratch.old scratch.new };
 
     /// Whether the grid, from which no house strikes anything, is a solution. Rules whose houses say all of a solution need

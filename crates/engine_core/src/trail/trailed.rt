@@ -2,7 +2,7 @@
 #![tactic(auto, using(crate::proofs::LawSets::trail_laws))]
 
 ghost use Rattle.std.specs.Prelude.{◌≡◌, ◌≢◌, ℕ, ◌+◌, ◌*◌, ◌<◌, ◌≤◌, IfOk, bit_and, length, true, false};
-ghost use Rattle.engine_core.specs.Common.{has, cells_of, SameShape, count_below, only, max_cells, max_values, IsAlive, IsDead, AreSetsOf, IsKept, IsBoardOf, after, IsBitsOf, back_at, change_at, left_by, IsTrailLonger, IsTrailBack, IsStruck};
+ghost use Rattle.engine_core.specs.Common.{has, cells_of, SameShape, count_below, only, max_cells, max_values, IsAlive, IsDeadAfter, KeepsChanges, AreSetsOf, IsKept, IsBoardOf, after, IsBitsOf, back_at, change_at, left_by, IsTrailLonger, IsTrailBack, IsStruck};
 
 use crate::trail::propagators::Propagators;
 use grid_core::{Board, Fixed};
@@ -99,8 +99,7 @@ impl TrailedBoard {
         requires sets { AreSetsOf (R.system rules.now) house (has self.old.board) sets.now }
         requires kept { IsKept (R.system rules.now) house (has self.old.board) true kept.now }
         requires as_many { length kept.now ≡ length sets.now }
-        ensures dead { result ≡ true
-            → IsDead (R.system rules.now) (after (R.system rules.now) house (has self.old.board)) }
+        ensures dead { result ≡ true → IsDeadAfter (R.system rules.now) house (has self.old.board) }
         ensures struck { result ≡ false → IsStruck (R.system rules.now) house self.old self.new }
         ensures further { IsTrailLonger self.old self.new }
     {
@@ -128,8 +127,7 @@ impl TrailedBoard {
         ensures further { IsTrailLonger self.old self.new }
         ensures longer { self.new.len ≡ self.old.len + 1 }
         ensures noted { change_at self.new.changes self.old.len ≡ (place, before) }
-        ensures earlier { (m : ℕ) → m < self.old.len
-            → change_at self.new.changes m ≡ change_at self.old.changes m }
+        ensures earlier { KeepsChanges self.old self.new }
     {
         self.board.retain(place, left);
         self.changes[self.len] = (place as u32, before);

@@ -1,5 +1,4 @@
-use Rattle.engine_core.proofs.Common.{arith, length, length-set, refl, ◌∙◌, ◌≡◌}
-use Rattle.std.proofs.Math.Seq.{take-length}
+use Rattle.engine_core.proofs.Common.{arith, length, length-set, refl, take-length, ◌∙◌, ◌≡◌}
 use Rattle.engine_core.proofs.IndexLemmas.{mark-first, mark-more}
 use Rattle.engine_core.proofs.houses.table.mark_house.Goals as goal
 

@@ -1,6 +1,4 @@
-use Rattle.engine_core.proofs.Common.{IsBoardOf, IsRested, arith, common_steps, drop, has, is_waiting, length, replicate, sym, take, true≢false, ◌++◌, ◌∙◌, ◌≡◌}
-use Rattle.std.proofs.lemmas.List.{length-replicate}
-use Rattle.std.specs.Prelude.{vec_len}
+use Rattle.engine_core.proofs.Common.{IsBoardOf, IsRested, arith, common_steps, drop, has, is_waiting, length, length-replicate, replicate, sym, take, true≢false, vec_len, ◌++◌, ◌∙◌, ◌≡◌}
 use Rattle.engine_core.proofs.AroundLemmas.{closed-none}
 use Rattle.engine_core.proofs.QueueLemmas.{dead_of, within_of}
 use Rattle.engine_core.proofs.WaitLemmas.{waiting-all}

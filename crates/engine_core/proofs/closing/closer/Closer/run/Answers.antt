@@ -1,5 +1,4 @@
-use Rattle.std.specs.Int.{from_bool}
-use Rattle.engine_core.proofs.Common.{IsQueuedAround, Some, and_parts, ap, arith, cases_Bool, false, has, inl, inr, is_waiting, length, length-set, length-take-le, lt-ltb, ltb, not, refl, sym, true, true≢false, ℕ, ◌&&◌, ◌+◌, ◌<◌, ◌||◌, ◌∙◌, ◌≡◌, ◌≤◌}
+use Rattle.engine_core.proofs.Common.{IsQueuedAround, Some, and_parts, ap, arith, cases_Bool, false, from_bool, has, inl, inr, is_waiting, length, length-set, length-take-le, lt-ltb, ltb, not, refl, sym, true, true≢false, ℕ, ◌&&◌, ◌+◌, ◌<◌, ◌||◌, ◌∙◌, ◌≡◌, ◌≤◌}
 use Rattle.engine_core.proofs.AroundLemmas.{IsStriking, amid-few, amid-first, around-in, exact-end, queued-turn, rest-around, steps-fall, still-alive, striking-next, striking-turn}
 use Rattle.engine_core.proofs.ListLemmas.{room, room-more, room-same, running-first}
 use Rattle.engine_core.proofs.QueueLemmas.{IsBoardOf-same, pushed, within_of}
@@ -95,7 +94,7 @@ loop-house-smaller g c =
           omega (arith, more g at queue (alive g at on queue), one))
       | inr sweeps ↦ amid-few p (g.met.R.Rules.lawful c.args.rules.now) _ (within_of _ _ c.requires.board_of) (here g at on counts sweeps).amid sweeps
     ] in
-    steps-fall _ _ _ _ _ _ _ _ few c.loop-house.invariant.past (around-in _ _ _ _ (around g at)).0 (λ _. refl) counts
+    steps-fall _ _ _ _ few c.loop-house.invariant.past (around-in _ _ _ _ (around g at)).0 (λ _. refl) counts
 
 pub loop-house-preserved : goal.loop-house-preserved
 loop-house-preserved g c =

@@ -1,7 +1,5 @@
-use Rattle.std.proofs.Common.{◌≡◌}
-use Rattle.grid_core.specs.Candidates.{grid_of}
+use Rattle.engine_core.proofs.Common.{grid_of, layers_in, ◌≡◌}
 use Rattle.grid_core.specs.Planes.{cells_of, has}
-use Rattle.engine_core.specs.PlanePosition.{layers_in}
 use Rattle.engine_core.proofs.PlaneSteps.{walks-closed, walks-long}
 use Rattle.engine_core.proofs.planes.position.PlanePositionPosition.accept.Goals as goal
 use Rattle.engine_core.proofs.planes.position.PlanePositionPosition.accept.Goals.{Joined-self, in-Short, in-Long}

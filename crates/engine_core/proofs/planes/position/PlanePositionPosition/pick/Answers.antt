@@ -1,5 +1,4 @@
-use Rattle.std.proofs.Common.{arith}
-use Rattle.std.proofs.lemmas.Nat.{div-add-mod'}
+use Rattle.engine_core.proofs.Common.{arith, div-add-mod'}
 use Rattle.engine_core.proofs.PlaneSteps.{none-above}
 use Rattle.engine_core.proofs.planes.position.PlanePositionPosition.pick.Goals as goal
 

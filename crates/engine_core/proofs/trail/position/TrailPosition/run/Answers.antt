@@ -1,5 +1,4 @@
-use Rattle.std.specs.Int.{from_bool}
-use Rattle.engine_core.proofs.Common.{IsClosedIn, IsTaken, Open, arith, board_in, is_waiting, ltb, sym, ℕ, ◌+◌, ◌||◌, ◌∙◌, ◌≡◌}
+use Rattle.engine_core.proofs.Common.{IsClosedIn, IsTaken, Open, arith, board_in, from_bool, is_waiting, ltb, sym, ℕ, ◌+◌, ◌||◌, ◌∙◌, ◌≡◌}
 use Rattle.engine_core.proofs.AroundLemmas.{IsAtHouse, steps-fall, underway-dead, underway-first, underway-next, underway-on, underway-open, underway-turn}
 use Rattle.engine_core.proofs.QueueLemmas.{within_of}
 use Rattle.engine_core.proofs.TrailLemmas.{on-none, on-more}
@@ -35,7 +34,7 @@ pub loop-house-smaller : goal.loop-house-smaller
 loop-house-smaller g c =
     let v = next g (goal.at.loop-house-smaller g c).In-Some c.from-turns-in-Some.ensures in
     let mode = c.by_queue-by_queue.ensures ∙ sym (g.met.R.Rules.mode_is c.args.rules.now) in
-    steps-fall _ _ _ _ _ _ _ _ v.few c.loop-house.invariant.underway.past v.house_in
+    steps-fall _ _ _ _ v.few c.loop-house.invariant.underway.past v.house_in
     (λ sweeps. c.next_from-from.ensures.in_turn (c.requires.queue (sym mode ∙ sweeps))) c.from-turns-in-Some.ensures
 
 pub loop-house-preserved : goal.loop-house-preserved

@@ -1,8 +1,7 @@
 use Rattle.engine_core.proofs.Common.{arith, drop, has, has_place, length, refl}
 use Rattle.engine_core.proofs.CallLemmas.{woken-same, woken-by, woken-unstruck}
 use Rattle.engine_core.proofs.WaitLemmas.{written-back}
-use Rattle.engine_core.proofs.KeepLemmas.{kept-none}
-use Rattle.engine_core.proofs.LostLemmas.{lost-any}
+use Rattle.engine_core.proofs.LostLemmas.{kept-none, lost-any}
 use Rattle.engine_core.proofs.QueueLemmas.{within_of}
 use Rattle.engine_core.proofs.StoreLemmas.{scope_le-longest}
 use Rattle.engine_core.proofs.trail.position.TrailPosition.step.Goals as goal
