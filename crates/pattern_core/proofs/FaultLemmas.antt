@@ -39,8 +39,7 @@ module _ (p : Pattern) (g : List ℕ) where
           elim (cases_lt line p.size.w) [
             | inl column ↦ right line (both.0 line column)
             | inr row ↦ let back : p.size.w + (line - p.size.w) ≡ line = omega arith in
-                rw back at (right (p.size.w + (line - p.size.w))
-                (both.1.0 (line - p.size.w) (omega arith)))
+                rw back at (right (p.size.w + (line - p.size.w)) (both.1.0 (line - p.size.w) (omega arith)))
           ]
 
   pub pattern_none : IsPatternSolution p g → NoneFails (FailsPattern p g) (pattern_tests p)

@@ -1,6 +1,5 @@
 -- A line of the board that a search starts from strikes nothing, where it is roomy for its clue.
-use Rattle.pattern_core.proofs.Common.{AllByRecursion, ArePositive, IsIdle, IsRoomy, List, Pattern, [], all_of, and_parts, arith, clue_of, common_steps, false_from_ne_true, get_or, has_runs, has_value, in_grid, length, length-line_places, length-sets_at, line_cells, line_places, line_rules, lines_of, lt-ltb, ltb-true, sets_at, sets_at-value, slice_index, strikes_at, strikes_at-some, strikes_by_fillings, suc, sym, true, true≢false, used, ℕ, ◌+◌, ◌-◌, ◌<◌, ◌∙◌, ◌∷◌, ◌≡◌, ◌≤◌}
-use Rattle.engine_core.specs.PlaceLaws.{has_place-here}
+use Rattle.pattern_core.proofs.Common.{AllByRecursion, ArePositive, IsIdle, IsRoomy, List, Pattern, [], all_of, and_parts, arith, clue_of, common_steps, false_from_ne_true, get_or, has_place-here, has_runs, has_value, in_grid, length, length-line_places, length-sets_at, line_cells, line_places, line_rules, lines_of, lt-ltb, ltb-true, sets_at, sets_at-value, slice_index, strikes_at, strikes_at-some, strikes_by_fillings, suc, sym, true, true≢false, used, ℕ, ◌+◌, ◌-◌, ◌<◌, ◌∙◌, ◌∷◌, ◌≡◌, ◌≤◌}
 use Rattle.pattern_core.proofs.Roomy.{nothing_struck}
 
 -- a clue's spelled length and its longest run tell from where on a line is roomy
@@ -30,7 +29,7 @@ has_both lt small = grind (arith, common_steps, lt-ltb)
 
 two_values : (cells c v : ℕ) → all_of cells 2 c v ≡ true → v < 2
 unfolding all_of
-two_values cells c v on = ltb-true v 2 (and_parts _ _ on).1
+two_values cells c v on = ltb-true _ _ (and_parts _ _ on).1
 
 pub start_idle : (p : Pattern) {line : ℕ} → line < lines_of p.size → IsRoomy (clue_of p line) (line_cells p.size line)
     → IsIdle (line_rules p) line (line_rules p).start
@@ -46,6 +45,6 @@ start_idle p {line} lt r c v on =
     λ j u low small. sets_at-value 2 (line_places p.size line) K j u (inside j low) small in
     let full : (j : ℕ) → j < length sets → (K (slice_index (line_places p.size line) j) 0 ≡ true) × (K (slice_index (line_places p.size line) j) 1 ≡ true) =
     λ j low. let at = in_grid p.size lt (has_place-here (line_places p.size line) j (inside j low)) in (has_both at (omega arith), has_both at (omega arith)) in
-    let none = nothing_struck (clue_of p line) sets w.0 v r.spare r.positive r.some r.short r.more (omega arith)
+    let none = nothing_struck (clue_of p line) sets w.0 r.positive r.some r.short r.more (omega arith)
     (λ j low. (both j 0 low (omega arith) ∙ (full j low).0, both j 1 low (omega arith) ∙ (full j low).1)) (omega arith) (two_values _ c v on) in
     true≢false (sym w.3 ∙ none))

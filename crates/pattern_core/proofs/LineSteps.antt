@@ -1,9 +1,5 @@
 -- The tests of all lines.
-use Rattle.pattern_core.proofs.Common.{List, all_below-from, ap, arith, clue_of, common_steps, different_places, has_runs, has_runs-from, has_runs-is, in_grid, is_solution-line, length, length-line_places, line_places, line_rules, lines_of, slice_index, solution_from_lines, sym, true, ℕ, ◌<◌, ◌∙◌, ◌≡◌}
-use Rattle.grid_core.proofs.LineLemmas.{line_numbers-places}
-use Rattle.engine_core.specs.HouseSetsLaws.{by_fillings-met}
-use Rattle.engine_core.specs.PlaceLaws.{has_place-here}
-use Rattle.engine_core.specs.RuleSystem.{IsClosedGrid}
+use Rattle.pattern_core.proofs.Common.{IsClosedGrid, List, all_below-from, ap, arith, by_fillings-met, clue_of, common_steps, different_places, has_place-here, has_runs, has_runs-from, has_runs-is, in_grid, is_solution-line, length, length-line_places, line_numbers-places, line_places, line_rules, lines_of, slice_index, solution_from_lines, sym, true, ℕ, ◌<◌, ◌∙◌, ◌≡◌}
 use Rattle.pattern_core.specs.LineRules.{LawfulPattern, is_pattern_solution}
 
 -- what the tests of all lines say

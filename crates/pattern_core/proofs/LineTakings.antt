@@ -1,26 +1,8 @@
 -- What is taken from a line of planes, and what its house strikes.
-use Rattle.pattern_core.proofs.Common.{Bool, Candidates, Extent, List, Pattern, after, and-true, and_parts, any_below, any_below-here, any_below-none, any_below-some, ap, ap₂, arith, cases_Bool, cases_eq, clue_of, cond, eq-eqb, eqb, eqb-true, false, false_from_ne_true, fun_ext, has_bit, has_place, has_runs, in_grid, kept_in, length, length-line_places, line_cells, line_places, line_rules, lines_of, lt-ltb, not, or_cases, refl, slice_index, strikes_by_fillings, sym, true, true≢false, visited-after, ℕ, ◌%◌, ◌&&◌, ◌*◌, ◌+◌, ◌-◌, ◌/◌, ◌<◌, ◌||◌, ◌∙◌, ◌≡◌}
-use Rattle.std.proofs.Common.{inl, inr}
-use Rattle.std.proofs.lemmas.Bool.{and_from, and_right, cases_lt, le-ltb}
-use Rattle.std.proofs.lemmas.Grind.{common_steps}
-use Rattle.std.proofs.lemmas.Nat.{div-mul-add, mod-mul-add, div-add-mod', div_below, mod_below}
+use Rattle.pattern_core.proofs.Common.{AreDecided, ArePlanes, Bool, Candidates, Column, Extent, IsAlive, IsBitsOf, IsDead, Layers, Line, List, Pattern, Row, Taking, after, and-true, and_from, and_parts, and_right, any_below, any_below-here, any_below-none, any_below-some, ap, ap₂, arith, at_line, cases_Bool, cases_eq, cases_lt, clue_of, common_steps, cond, count_below, count_below-none, count_below-pos, count_below-same, counts_of, div-add-mod', div-mul-add, div_below, eq-eqb, eqb, eqb-true, false, false_from_ne_true, fun_ext, has-within, has_bit, has_lost, has_place, has_place-at, has_place-here, has_runs, house_of, in_grid, inl, inr, is_dead-each, is_dead-here, is_dead-not, kept_in, le-ltb, length, length-line_places, line_cells, line_len, line_places, line_rules, lines_beside, lines_of, lt-ltb, mod-mul-add, mod_below, not, number_of, or_cases, place_in_column, place_in_row, refl, sets-bits, slice_index, strikes_by_fillings, sym, true, true≢false, visited-after, ℕ, ◌%◌, ◌&&◌, ◌*◌, ◌+◌, ◌-◌, ◌/◌, ◌<◌, ◌||◌, ◌∙◌, ◌≡◌}
 use Rattle.grid_core.specs.Candidates.{IsWithin as HasCells}
-unfoldable use Rattle.grid_core.specs.Candidates.{count_below}
-use Rattle.grid_core.proofs.CandidateLemmas.{count_below-none, count_below-pos, count_below-same, is_dead-each, is_dead-here, is_dead-not}
-use Rattle.grid_core.specs.Planes.{ArePlanes, Layers, Taking, at_line, line_len, lines_beside, number_of}
 unfoldable use Rattle.grid_core.specs.Planes.{covers, crosses, has, without_taking}
-use Rattle.grid_core.specs.declared.planes.line.Line.{Line}
-use Rattle.grid_core.specs.declared.planes.line.Line.TheVariants.{Row, Column}
-use Rattle.grid_core.proofs.LineLemmas.{place_in_column, place_in_row}
-use Rattle.grid_core.proofs.PlaneLemmas.{has-within}
 use Rattle.grid_core.proofs.RowLemmas.{has-at}
-use Rattle.engine_core.specs.HouseSetsLaws.{sets-bits}
-use Rattle.engine_core.specs.ClosingList.{IsAlive, IsDead}
-use Rattle.engine_core.specs.PlaceLaws.{has_place-at, has_place-here}
-unfoldable use Rattle.engine_core.specs.Queue.{counts_of}
-use Rattle.engine_core.specs.Sets.{IsBitsOf}
-use Rattle.pattern_core.specs.LinePlanes.{AreDecided, house_of}
-unfoldable use Rattle.pattern_core.specs.LinePlanes.{has_lost}
 
 -- ---- the cells of a line
 abbrev pub cell_of : Extent → Line → ℕ → ℕ
@@ -56,10 +38,9 @@ pub crossed-some : (size : Extent) (line : Line) (bits c : ℕ) → 0 < size.w �
     → (k : ℕ) × (k < line_len size line) × (has_bit bits k ≡ true) × (cell_of size line k ≡ c)
 unfolding crosses
 crossed-some size (Row y) bits c some lt on =
-    let w = and_parts (eqb (c / size.w) y) (has_bit bits (c % size.w)) on in
-    (c % size.w, mod_below c size.w some, w.1, rw (← eqb-true _ _ w.0) (div-add-mod' c size.w))
+    let w = and_parts _ _ on in (c % size.w, mod_below c size.w some, w.1, rw (← eqb-true _ _ w.0) (div-add-mod' c size.w))
 crossed-some size (Column x) bits c some lt on =
-    let w = and_parts (eqb (c % size.w) x) (has_bit bits (c / size.w)) on in
+    let w = and_parts _ _ on in
     (c / size.w, div_below c size.w size.h some (omega arith), w.1, rw (← eqb-true _ _ w.0) (div-add-mod' c size.w))
 
 -- a cell has fewer values exactly where it lost one
@@ -106,8 +87,8 @@ module _ (pat : Pattern) (p : Layers) (line : Line) (same : p.size ≡ pat.size)
   reads {k} v less low = rw (← same) (read-at p line k v (rw (← same) at lt) (rw (← same) at less) low)
 
   -- the bits of the sets that were read, and of those that are kept
-  set-bit : {k : ℕ} (v : ℕ) → k < line_len size line → v < 2 → has_bit (slice_index d.sets k) v ≡ K (cell_of size line k) v
-  set-bit {k} v less low = elim (cases_eq v 0) [
+  set-bit : {k : ℕ} {v : ℕ} → k < line_len size line → v < 2 → has_bit (slice_index d.sets k) v ≡ K (cell_of size line k) v
+  set-bit {k} {v} less low = elim (cases_eq v 0) [
     | inl e ↦ rw e (d.sets_are.white_is k (omega (arith, d.long)) ∙ white_is k ∙ sym (reads 0 less (omega arith)))
     | inr ne ↦ (
         let e : v ≡ 1 = omega arith in
@@ -119,7 +100,7 @@ module _ (pat : Pattern) (p : Layers) (line : Line) (same : p.size ≡ pat.size)
   after-is =
       let bits : (k : ℕ) → k < length places → IsBitsOf (K (slice_index places k)) 2 (slice_index d.sets k) =
       λ k less. let lk : k < line_len size line = omega (arith, long) in
-      record { small = d.small k (omega (arith, d.long)); same = λ v low. rw (at lk) (set-bit v lk low) } in
+      record { small = d.small k (omega (arith, d.long)); same = λ v low. rw (at lk) (set-bit lk low) } in
       let sized : length d.sets ≡ length places = d.long ∙ sym long in
       visited-after (line_rules pat) house (strikes_by_fillings (has_runs (clue_of pat house))) K _ d.sets d.kept (λ L c v. refl) within sized bits
       (sets-bits 2 places K d.sets sized bits) d.decided refl
@@ -128,8 +109,8 @@ module _ (pat : Pattern) (p : Layers) (line : Line) (same : p.size ≡ pat.size)
   abbrev kept_by : ℕ → ℕ
   kept_by v = cond (eqb v 0) white' black'
 
-  kept-bit : {k : ℕ} (v : ℕ) → k < line_len size line → v < 2 → has_bit (slice_index d.kept k) v ≡ has_bit (kept_by v) k
-  kept-bit {k} v less low =
+  kept-bit : {k : ℕ} {v : ℕ} → k < line_len size line → v < 2 → has_bit (slice_index d.kept k) v ≡ has_bit (kept_by v) k
+  kept-bit {k} {v} less low =
       let lk : k < length d.kept = omega (arith, d.long, d.decided.as_many) in
       elim (cases_eq v 0) [
         | inl e ↦ rw e (d.kept_are.white_is k lk)
@@ -142,32 +123,29 @@ module _ (pat : Pattern) (p : Layers) (line : Line) (same : p.size ≡ pat.size)
   struck-at v bits c low is on = elim (cases_Bool (any_below (λ k. eqb (slice_index places k) c && not (has_bit (slice_index d.kept k) v)) (length places))) [
     | inl one ↦ (
         let w = any_below-some (λ k. eqb (slice_index places k) c && not (has_bit (slice_index d.kept k) v)) (length places) one in
-        let u = and_parts (eqb (slice_index places w.0) c) (not (has_bit (slice_index d.kept w.0) v)) w.2 in
-        let lk : w.0 < line_len size line = omega (arith, long, w.1) in
+        let u = and_parts _ _ w.2 in let lk : w.0 < line_len size line = omega (arith, long, w.1) in
         let here : cell_of size line w.0 ≡ c = sym (at lk) ∙ eqb-true _ _ u.0 in
         let there : at_line p line v w.0 ≡ true = sym (reads v lk low) ∙ rw (← here) at on in
-        let gone : not (has_bit (kept_by v) w.0) ≡ true = ap not (sym (kept-bit v lk low)) ∙ u.1 in
+        let gone : not (has_bit (kept_by v) w.0) ≡ true = ap not (sym (kept-bit lk low)) ∙ u.1 in
         rw one (rw (← here) (crossed-at size line bits w.0 lt lk ∙ is w.0 ∙ and_from _ _ there gone)))
     | inr none ↦ rw none (false_from_ne_true _ (λ crossed.
-        let w = crossed-some size line bits c some (within c v on).0 crossed in
-        let lk = w.1 in
+        let w = crossed-some size line bits c some (within c v on).0 crossed in let lk = w.1 in
         let u = and_parts (at_line p line v w.0) (not (has_bit (kept_by v) w.0)) (sym (is w.0) ∙ w.2) in
         let off = any_below-none (λ k. eqb (slice_index places k) c && not (has_bit (slice_index d.kept k) v)) (length places) none w.0 (omega (arith, long)) in
-        true≢false (sym (and_from _ _ (eq-eqb _ _ (at lk ∙ w.3)) (ap not (kept-bit v lk low) ∙ u.1)) ∙ off)))
+        true≢false (sym (and_from _ _ (eq-eqb _ _ (at lk ∙ w.3)) (ap not (kept-bit lk low) ∙ u.1)) ∙ off)))
   ]
 
   kept-had : {k : ℕ} (v : ℕ) → k < line_len size line → v < 2 → has_bit (kept_by v) k ≡ true → K (cell_of size line k) v ≡ true
   kept-had {k} v less low on =
-      sym (set-bit v less low) ∙ (and_parts _ _ (sym (d.decided.bits k v (omega (arith, d.long)) low) ∙ (kept-bit v less low ∙ on))).0
+      sym (set-bit less low) ∙ (and_parts _ _ (sym (d.decided.bits k v (omega (arith, d.long)) low) ∙ (kept-bit less low ∙ on))).0
 
   -- a cell of the line of which no value is kept
   pub kept-dead : (k : ℕ) → k < line_len size line → has_bit white' k ≡ false → has_bit black' k ≡ false → IsDead (line_rules pat) (after (line_rules pat) house K)
   unfolding kept_in
   kept-dead k less none0 none1 =
-      let lk : k < length places = omega (arith, long) in
-      let c = slice_index places k in
+      let lk : k < length places = omega (arith, long) in let c = slice_index places k in
       let off : (v : ℕ) → v < 2 → kept_in places d.kept (length places) K c v ≡ false = λ v low.
-      let gone : has_bit (slice_index d.kept k) v ≡ false = kept-bit v less low ∙ elim (cases_eq v 0) [
+      let gone : has_bit (slice_index d.kept k) v ≡ false = kept-bit less low ∙ elim (cases_eq v 0) [
         | inl e ↦ rw e none0
         | inr ne ↦ (let e : v ≡ 1 = omega arith in rw e none1)
       ] in
@@ -200,7 +178,7 @@ module _ (pat : Pattern) (p : Layers) (line : Line) (same : p.size ≡ pat.size)
     stays c v off =
         let none = false_from_ne_true (any_below (λ k. eqb (slice_index places k) c && not (has_bit (slice_index d.kept k) v)) (length places)) (λ on.
         let w = any_below-some (λ k. eqb (slice_index places k) c && not (has_bit (slice_index d.kept k) v)) (length places) on in
-        let e = eqb-true (slice_index places w.0) c (and_parts (eqb (slice_index places w.0) c) (not (has_bit (slice_index d.kept w.0) v)) w.2).0 in
+        let e = eqb-true (slice_index places w.0) c (and_parts _ _ w.2).0 in
         true≢false (sym (rw e at (has_place-here places w.0 w.1)) ∙ off)) in
         each c v ∙ rw none (and-true (K c v))
 
@@ -212,8 +190,7 @@ module _ (pat : Pattern) (p : Layers) (line : Line) (same : p.size ≡ pat.size)
         × (left (cell_of size line k) 1 ≡ (K (cell_of size line k) 1 && not (has_bit lb k)))
     unfolding without_taking covers
     left-at {k} less =
-        let w = crossed-at size line lw k lt less in
-        let b = crossed-at size line lb k lt less in
+        let w = crossed-at size line lw k lt less in let b = crossed-at size line lb k lt less in
         (grind (arith, common_steps, cases_Bool, w, b), grind (arith, common_steps, cases_Bool, w, b))
 
     pub lost-at : (bits : ℕ) → ((k : ℕ) → has_bit bits k ≡ (has_bit lw k || has_bit lb k)) → (k : ℕ) → has_bit bits k ≡ has_lost (line_rules pat) house K left k
@@ -224,19 +201,18 @@ module _ (pat : Pattern) (p : Layers) (line : Line) (same : p.size ≡ pat.size)
           let w : (has_bit lw k ≡ true → K (cell_of size line k) 0 ≡ true) = λ on. reads 0 less (omega arith) ∙ (and_parts _ _ (sym (lw_is k) ∙ on)).0 in
           let b : (has_bit lb k ≡ true → K (cell_of size line k) 1 ≡ true) = λ on. reads 1 less (omega arith) ∙ (and_parts _ _ (sym (lb_is k) ∙ on)).0 in
           is k ∙ lost-two (K (cell_of size line k) 0) (K (cell_of size line k) 1) (has_bit lw k) (has_bit lb k) w b
-          ∙ rw (lt-ltb k (length places) lk, at less, two-counted (K (cell_of size line k)), two-counted (left (cell_of size line k)), (left-at less).0, (left-at less).1) refl)
+          ∙ rw (lt-ltb _ _ lk, at less, two-counted (K (cell_of size line k)), two-counted (left (cell_of size line k)), (left-at less).0, (left-at less).1) refl)
       | inr ge ↦ (
           let w : has_bit lw k ≡ false = false_from_ne_true _ (λ on. let z = inside k 0 (and_parts _ _ (sym (lw_is k) ∙ on)).0 (omega arith) in absurd (omega (arith, long))) in
           let b : has_bit lb k ≡ false = false_from_ne_true _ (λ on. let z = inside k 1 (and_parts _ _ (sym (lb_is k) ∙ on)).0 (omega arith) in absurd (omega (arith, long))) in
-          is k ∙ rw (w, b, le-ltb k (length places) ge) refl)
+          is k ∙ rw (w, b, le-ltb _ _ ge) refl)
     ]
 
     -- where each cell of the line keeps a value, no cell loses its last
     pub left-alive : IsAlive (line_rules pat) K → ((k : ℕ) → k < line_len size line → (has_bit white' k || has_bit black' k) ≡ true) → IsAlive (line_rules pat) left
     left-alive alive some-kept = is_dead-each (size.w * size.h) 2 left (λ c lc. elim (cases_Bool (has_place places c)) [
       | inl there ↦ (
-          let w = has_place-at places c there in
-          let less : w.0 < line_len size line = omega (arith, long, w.1) in
+          let w = has_place-at places c there in let less : w.0 < line_len size line = omega (arith, long, w.1) in
           let here : cell_of size line w.0 ≡ c = sym (at less) ∙ w.2 in
           rw (← here) (elim (or_cases (has_bit white' w.0) (has_bit black' w.0) (some-kept w.0 less)) [
             | inl on ↦ (
@@ -250,19 +226,19 @@ module _ (pat : Pattern) (p : Layers) (line : Line) (same : p.size ≡ pat.size)
     ])
 
 -- ---- what is read of planes
-pub cells-in : (room : ℕ) (p : Layers) {size : Extent} → ArePlanes room p → p.size ≡ size → HasCells (size.w * size.h) 2 (has p)
-cells-in room p are same = rw (← same) (has-within p room are)
+pub cells-in : {room : ℕ} {p : Layers} {size : Extent} → ArePlanes room p → p.size ≡ size → HasCells (size.w * size.h) 2 (has p)
+cells-in {room} {p} are same = rw (← same) (has-within p room are)
 
-pub wide-in : (room : ℕ) (p : Layers) {size : Extent} → ArePlanes room p → p.size ≡ size → 0 < size.w
-wide-in room p are same = rw (← same) (omega (arith, are.lawful.w_low))
+pub wide-in : {room : ℕ} {p : Layers} {size : Extent} → ArePlanes room p → p.size ≡ size → 0 < size.w
+wide-in are same = rw (← same) (omega (arith, are.lawful.w_low))
 
 line-room : (room : ℕ) (p : Layers) (line : Line) (k v : ℕ) → ArePlanes room p → at_line p line v k ≡ true → v < 2 → k < line_len p.size line
 line-room room p (Row y) k v are on low = (are.words.within y k v low on).1
 line-room room p (Column x) k v are on low = (are.words.within k x v low on).0
 
-pub line-within : (room : ℕ) (p : Layers) (line : Line) {size : Extent} → ArePlanes room p → p.size ≡ size
+pub line-within : {room : ℕ} {p : Layers} (line : Line) {size : Extent} → ArePlanes room p → p.size ≡ size
     → (k v : ℕ) → at_line p line v k ≡ true → v < 2 → k < line_len size line
-line-within room p line are same k v on low = rw (← same) (line-room room p line k v are on low)
+line-within {room} {p} line are same k v on low = rw (← same) (line-room room p line k v are on low)
 
 -- two takings, one after the other
 pub both-taken : (p0 p1 p2 : Layers) {size : Extent} (t0 t1 : Taking) → p0.size ≡ size → p1.size ≡ p0.size → has p1 ≡ without_taking p0.size.w (has p0) t0

@@ -1,10 +1,7 @@
 -- The cells of a line as words, and as sets.
-use Rattle.pattern_core.proofs.Common.{ArePositive, Bool, List, Track, and-false, and-true, ap, arith, cases_Bool, cases_eq, common_steps, eq-eqb, eqb, false, get_or, has_bit, inl, inr, length, ne_eqb, or-false, refl, some_leads, spelled, sym, track_of, true, ℕ, ◌&&◌, ◌*◌, ◌+◌, ◌<◌, ◌||◌, ◌∙◌, ◌≡◌, ◌≤◌}
-use Rattle.std.specs.Int.{from_bool}
+use Rattle.pattern_core.proofs.Common.{AreDecided, ArePositive, AreSetsBy, AreShown, Bool, List, Track, and-false, and-true, ap, arith, cases_Bool, cases_eq, cell_is, common_steps, eq-eqb, eqb, false, from_bool, get_or, has_bit, inl, inr, length, ne_eqb, or-false, refl, set_at, sets_by, sets_of, some_leads, spelled, sym, track_of, true, ℕ, ◌&&◌, ◌*◌, ◌+◌, ◌<◌, ◌||◌, ◌∙◌, ◌≡◌, ◌≤◌}
 use Rattle.std.proofs.lemmas.List.FromFn.{get_or-map-range_with_len, length-map-range_with_len}
 use Rattle.pattern_core.proofs.TableSteps.{decided_by_track}
-use Rattle.pattern_core.specs.LinePlanes.{AreDecided, AreShown, AreSetsBy, set_at, sets_by}
-use Rattle.pattern_core.specs.Track.{cell_is, sets_of}
 
 -- ---- the sets of so many cells
 pub length-sets : (white black count : ℕ) → length (sets_by white black count) ≡ count
@@ -35,8 +32,8 @@ sets-are white black count = record {
 }
 
 -- ---- what is shown of the cells below `at`
-pub both-ways : (a b c d : Bool) → a ≡ d → b ≡ c → (a && b) ≡ (c && d)
-both-ways a b c d e f = grind (arith, common_steps, cases_Bool c, cases_Bool d, e, f)
+pub both-ways : {a b c d : Bool} → a ≡ d → b ≡ c → (a && b) ≡ (c && d)
+both-ways {c} {d} e f = grind (arith, common_steps, cases_Bool c, cases_Bool d, e, f)
 
 pub record IsShownTo (word now : ℕ) (shown : ℕ → Bool) (at : ℕ) : Type 0 where
   pub below : (k : ℕ) → k < at → (has_bit word k && has_bit now k) ≡ shown k
@@ -56,26 +53,23 @@ shown-more word next now shown on at are is here = record {
 }
 
 -- ---- what is kept is what is shown
-kept-bits : (x w s : Bool) → x ≡ s → (x ≡ true → w ≡ true) → x ≡ (w && s)
-kept-bits x w s e inside = grind (arith, common_steps, cases_Bool x, e, inside)
+kept-bits : {x : Bool} (w : Bool) {s : Bool} → x ≡ s → (x ≡ true → w ≡ true) → x ≡ (w && s)
+kept-bits {x} w e inside = grind (arith, common_steps, cases_Bool x, e, inside)
 
-pub shown-decided : (clue : List ℕ) (t : Track) (count white black white' black' : ℕ) → t ≡ track_of (spelled clue) → ArePositive clue
+pub shown-decided : (clue : List ℕ) {t : Track} {count white black white' black' : ℕ} → t ≡ track_of (spelled clue) → ArePositive clue
     → AreShown t count white black white' black' → AreDecided clue count white black white' black'
-shown-decided clue t count white black white' black' is positive shown =
-    let sets = sets_by white black count in
-    let kept = sets_by white' black' count in
-    let long = length-sets white black count in
-    let kept_long = length-sets white' black' count in
-    let old = sets-are white black count in
-    let new = sets-are white' black' count in
+shown-decided clue {t} {count} {white} {black} {white'} {black'} is positive shown =
+    let sets = sets_by white black count in let kept = sets_by white' black' count in
+    let long = length-sets white black count in let kept_long = length-sets white' black' count in
+    let old = sets-are white black count in let new = sets-are white' black' count in
     let bits : (k v : ℕ) → k < length sets → v < 2 → has_bit (get_or kept k 0) v ≡ (has_bit (get_or sets k 0) v && some_leads t (sets_of sets) (cell_is k v) 0) =
     λ k v lt low. elim (cases_eq v 0) [
       | inl e ↦ rw (e, new.white_is k (omega (arith, long, kept_long)), old.white_is k lt)
-          (kept-bits (has_bit white' k) (has_bit white k) (some_leads t (sets_of sets) (cell_is k 0) 0) (shown.white_is k (omega (arith, long))) (shown.white_in k))
+          (kept-bits (has_bit white k) (shown.white_is k (omega (arith, long))) (shown.white_in k))
       | inr ne ↦ (
           let e : v ≡ 1 = omega arith in
           rw (e, new.black_is k (omega (arith, long, kept_long)), old.black_is k lt)
-          (kept-bits (has_bit black' k) (has_bit black k) (some_leads t (sets_of sets) (cell_is k 1) 0) (shown.black_is k (omega (arith, long))) (shown.black_in k)))
+          (kept-bits (has_bit black k) (shown.black_is k (omega (arith, long))) (shown.black_in k)))
     ] in
     record {
       sets = sets;

@@ -1,13 +1,10 @@
 -- No side of a grid is longer than its longest line.
-use Rattle.pattern_core.proofs.Common.{Pattern, arith, length-line_places, line_cells, line_places, line_rules, lines_of, lt-ltb, refl, ℕ, ◌≡◌, ◌≤◌}
-use Rattle.std.proofs.lemmas.Bool.{le-ltb}
-use Rattle.grid_core.specs.Extent.{IsExtent}
+use Rattle.pattern_core.proofs.Common.{FitsIn, IsExtent, Needs, Pattern, arith, le-ltb, length-line_places, line_cells, line_places, line_rules, lines_of, lt-ltb, needs_of, refl, ℕ, ◌≡◌, ◌≤◌}
 use Rattle.engine_core.specs.PlaneNotes.{IsSuited}
-use Rattle.engine_core.specs.RuleSystem.{FitsIn, Needs, needs_of}
 use Rattle.engine_core.proofs.StoreLemmas.{scope_le-longest}
 
-pub sides-short : (p : Pattern) (had : Needs) → IsExtent p.size → FitsIn (needs_of (line_rules p)) had → had.scope ≤ 64 → IsSuited p.size 64
-sides-short p had extent fits short =
+pub sides-short : (p : Pattern) {had : Needs} → IsExtent p.size → FitsIn (needs_of (line_rules p)) had → had.scope ≤ 64 → IsSuited p.size 64
+sides-short p extent fits short =
     let row = scope_le-longest (line_places p.size) (lines_of p.size) p.size.w (omega (arith, extent.h_low)) in
     let column = scope_le-longest (line_places p.size) (lines_of p.size) 0 (omega (arith, extent.w_low)) in
     let wide : line_cells p.size p.size.w ≡ p.size.w = rw (le-ltb p.size.w p.size.w (omega arith)) refl in

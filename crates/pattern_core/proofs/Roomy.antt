@@ -155,13 +155,13 @@ black (x ∷ clue) m n k p room lt = let more = p.0 in elim (cases_lt k (m + 1))
 ]
 
 -- nothing is struck from cells that may be either
-pub nothing_struck : (clue : List ℕ) (sets : List Set) (k v s : ℕ) → ArePositive clue → 0 < length clue → AtMost s clue → 0 < s → used clue + s ≤ length sets + 1
+pub nothing_struck : (clue : List ℕ) (sets : List Set) (k : ℕ) {v s : ℕ} → ArePositive clue → 0 < length clue → AtMost s clue → 0 < s → used clue + s ≤ length sets + 1
     → ((j : ℕ) → j < length sets → (has_value (get_or sets j []) 0 ≡ true) × (has_value (get_or sets j []) 1 ≡ true)) → k < length sets → v < 2
     → strikes_by_fillings (has_runs clue) sets k v ≡ false
-nothing_struck clue sets k v s p some most one room both lt low = by clue v p some most room low
+nothing_struck clue sets k {v} {s} p some most one room both lt low = by clue v p some most room low
   where
-    by_filling : (clue : List ℕ) (v : ℕ) → Shows clue (length sets) k v → strikes_by_fillings (has_runs clue) sets k v ≡ false
-    by_filling clue v (f, shown) = test_from_shown (has_runs clue) sets k v (
+    by_filling : {clue : List ℕ} {v : ℕ} → Shows clue (length sets) k v → strikes_by_fillings (has_runs clue) sets k v ≡ false
+    by_filling {clue} {v} (f, shown) = test_from_shown (has_runs clue) sets k v (
       f.cells,
       record {
         fills = record { len = f.long; each = λ j inside. either (get_or f.cells j 0) (f.small j) (get_or sets j []) (both j inside) };
@@ -175,10 +175,9 @@ nothing_struck clue sets k v s p some most one room both lt low = by clue v p so
         either (suc zero) small set both = both.1
         either (suc (suc u)) small set both = absurd (omega arith)
 
-    by : (clue : List ℕ) (v : ℕ) → ArePositive clue → 0 < length clue → AtMost s clue
-        → used clue + s ≤ length sets + 1 → v < 2
+    by : (clue : List ℕ) (v : ℕ) → ArePositive clue → 0 < length clue → AtMost s clue → used clue + s ≤ length sets + 1 → v < 2
         → strikes_by_fillings (has_runs clue) sets k v ≡ false
-    by clue zero p some most room low = by_filling clue 0 (white clue (length sets) k s p most room lt)
+    by clue zero p some most room low = by_filling (white clue (length sets) k s p most room lt)
     by [] (suc zero) p some most room low = absurd (omega arith)
-    by (m ∷ clue) (suc zero) p some most room low = by_filling (m ∷ clue) 1 (black clue m (length sets) k p (omega arith) lt)
+    by (m ∷ clue) (suc zero) p some most room low = by_filling (black clue m (length sets) k p (omega arith) lt)
     by clue (suc (suc v)) p some most room low = absurd (omega arith)

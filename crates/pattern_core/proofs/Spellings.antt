@@ -26,10 +26,10 @@ old_place : (cells : List ℕ) (x v : ℕ) (old : ℕ → Bool) → x < 2 → v 
 old_place cells x v old few small other is p = grind (arith, common_steps, cases_Bool, cases_eq, get_or_past, last_cell, more_cells, ne_eqb)
 
 -- the place after it
-next_place : (cells : List ℕ) (x n : ℕ) (next new : ℕ → Bool) → suc (length cells) < n → ((p : ℕ) → next p ≡ eqb p (length cells))
+next_place : (cells : List ℕ) (x : ℕ) {n : ℕ} (next new : ℕ → Bool) → suc (length cells) < n → ((p : ℕ) → next p ≡ eqb p (length cells))
     → ((p : ℕ) → p < n → new p ≡ one_on next p) → ((p : ℕ) → n ≤ p → new p ≡ false) → (p : ℕ) → new p ≡ eqb p (length (cells ++ x ∷ []))
 unfolding one_on
-next_place cells x n next new fits after within past p = grind (arith, common_steps, cases_Bool, cases_eq, cases_lt, eq-eqb, length-append, ne_eqb)
+next_place cells x next new fits after within past p = grind (arith, common_steps, cases_Bool, cases_eq, cases_lt, eq-eqb, length-append, ne_eqb)
 
 module _ (A : Type 0) {has : A → ℕ → Bool} {n : ℕ} {cells : List ℕ} {white black next new on : A}
     (s : IsSpelling has cells white black next) (fits : suc (length cells) < n)
@@ -38,14 +38,14 @@ module _ (A : Type 0) {has : A → ℕ → Bool} {n : ℕ} {cells : List ℕ} {w
   spelling_black each = record {
     whites = old_place cells 1 0 (has white) (omega arith) (omega arith) (λ e. absurd (omega arith)) s.whites;
     blacks = new_place cells 1 (has black) (has next) (has new) s.blacks s.nexts (omega arith) each;
-    nexts = next_place cells 1 n (has next) (has on) fits s.nexts within past;
+    nexts = next_place cells 1 (has next) (has on) fits s.nexts within past;
   }
 
   pub spelling_white : ((p : ℕ) → has new p ≡ (has white p || has next p)) → IsSpelling has (cells ++ 0 ∷ []) new black on
   spelling_white each = record {
     whites = new_place cells 0 (has white) (has next) (has new) s.whites s.nexts (omega arith) each;
     blacks = old_place cells 0 1 (has black) (omega arith) (omega arith) (λ e. absurd (omega arith)) s.blacks;
-    nexts = next_place cells 0 n (has next) (has on) fits s.nexts within past;
+    nexts = next_place cells 0 (has next) (has on) fits s.nexts within past;
   }
 
 pub spelling_none : (A : Type 0) {has : A → ℕ → Bool} {white black next : A}
@@ -59,9 +59,6 @@ spelling_none A w b f = record { whites = w; blacks = b; nexts = f }
 pub one_more : (cells : List ℕ) (k : ℕ) → (cells ++ replicate k 1) ++ 1 ∷ [] ≡ cells ++ replicate (k + 1) 1
 one_more cells k = append_assoc cells _ (1 ∷ []) ∙ ap (λ l. cells ++ l) (replicate-append-replicate k 1 1)
 
-pub run_ended : (cells : List ℕ) (k : ℕ) → (cells ++ replicate k 1) ++ 0 ∷ [] ≡ cells ++ (replicate k 1 ++ 0 ∷ [])
-run_ended cells k = append_assoc cells _ (0 ∷ [])
-
 -- ---- the clue run by run
 module _ (front clue : List ℕ) (k : ℕ) (lt : k < length clue) (so_far : front ++ spelled (drop k clue) ≡ spelled clue) where
   abbrev run : List ℕ
@@ -73,8 +70,7 @@ module _ (front clue : List ℕ) (k : ℕ) (lt : k < length clue) (so_far : fron
 
   pub run_fits : length front + get_or clue k 0 < used clue
   run_fits =
-      let long = ap length next_run in
-      let parts = length-append front run in
+      let long = ap length next_run in let parts = length-append front run in
       let black = length-append {A = ℕ} (replicate (get_or clue k 0) 1) (0 ∷ []) in
       omega (arith, long, parts, black, length-append (front ++ run) (spelled (drop (k + 1) clue)), length-replicate {A = ℕ} (get_or clue k 0) 1, length-spelled clue)
 

@@ -1,8 +1,7 @@
--- The steps of the table, at a place of the line.
-use Rattle.pattern_core.proofs.Common.{AreRowsKept, ArePositive, AreRows, Bool, IsBelow, IsDecided, List, Track, [], ahead, and-true, and_from, and_parts, any_below, any_below-here, any_below-same, any_below-some, any_cells, ap, ap₂, arith, bit_and, cases_Bool, cases_eq, cell_is, common_steps, drop, drop-drop, drop_all, drop_more, eqb, eqb-true, false, false_from_ne_true, fun_ext, get_or, get_or-drop, get_or-map, get_or-set_other, get_or-set_same, has_bit, has_runs, inl, inr, leads, led, length, length-map, length-set, refl, set, set_for, set_of_bits, sets_of, some_filling, some_leads, spelled, strikes_by_fillings, suc, sym, track_of, true, true≢false, zero, ℕ, ◌&&◌, ◌+◌, ◌<◌, ◌∙◌, ◌∷◌, ◌≡◌, ◌≤◌}
+-- The steps of the table at a place of the line, and the line that goes along the spelled clue by the places that its cells reach.
+use Rattle.pattern_core.proofs.Common.{ArePositive, AreRows, AreRowsKept, Bool, IsBelow, IsDecided, List, Track, [], ahead, and-true, and_from, and_parts, any_below, any_below-here, any_below-same, any_below-some, any_cells, ap, ap₂, arith, bit_and, cases_Bool, cases_eq, cell_is, common_steps, drop, drop-drop, drop_all, drop_more, eqb, eqb-true, false, false_from_ne_true, fun_ext, get_or, get_or-drop, get_or-map, get_or-set_other, get_or-set_same, goes_on, has_bit, has_runs, inl, inr, leads, led, length, length-map, length-set, or-false, refl, set, set_for, set_of_bits, sets_of, some_filling, some_leads, spelled, stays, strikes_by_fillings, suc, sym, track_of, true, true≢false, zero, ℕ, ◌&&◌, ◌+◌, ◌<◌, ◌||◌, ◌∙◌, ◌∷◌, ◌≡◌, ◌≤◌}
 use Rattle.grid_core.proofs.BoardLemmas.{bits_both}
-use Rattle.pattern_core.proofs.Leads.{same_tests, leads_next, leads_here, ways_on}
-use Rattle.pattern_core.proofs.SpelledRuns.{strikes_by_track}
+use Rattle.pattern_core.proofs.SpelledRuns.{leads_here, leads_next, leads_runs, same_tests, strikes_by_track, ways_on}
 
 -- a way on from the places that are reached before the cell at `at`, by any test of the cells from there on
 pub record AreReached (n : ℕ) (t : Track) (sets : List ℕ) (reached : ℕ → Bool) (at : ℕ) : Type 0 where
@@ -64,9 +63,8 @@ module _ {A : Type 0} (has : A → ℕ → Bool) (t : Track) (sets : List ℕ) (
 pub at_first : {n : ℕ} (first way : ℕ → Bool) → 0 < n → ((p : ℕ) → first p ≡ eqb p 0) → any_below (λ p. first p && way p) n ≡ way 0
 at_first {n} first way some is = same_tests (any_below (λ p. first p && way p) n) (way 0)
     (λ on.
-    let w = any_below-some (λ p. first p && way p) n on in
-    let u = and_parts (first w.0) (way w.0) w.2 in
-    ap way (sym (eqb-true w.0 0 (sym (is w.0) ∙ u.0))) ∙ u.1)
+    let w = any_below-some (λ p. first p && way p) n on in let u = and_parts _ _ w.2 in
+    ap way (sym (eqb-true _ _ (sym (is w.0) ∙ u.0))) ∙ u.1)
     (λ on. any_below-here (λ p. first p && way p) n 0 some (and_from (first 0) (way 0) (is 0) on))
 
 pub reached_first : {n : ℕ} (t : Track) {sets : List ℕ} {first : ℕ → Bool} → 0 < n → ((p : ℕ) → first p ≡ eqb p 0) → AreReached n t sets first 0
@@ -82,10 +80,6 @@ reached_next n t sets reached new at below lt is r = record {
 }
 
 -- ---- what is kept of a cell
--- nothing is kept yet
-pub kept_none : {t : Track} {sets : List ℕ} → AreRowsKept t sets sets 0
-kept_none = record { as_many = refl; bits = λ k v lt small. absurd (omega arith) }
-
 module _ (n : ℕ) (t : Track) (sets : List ℕ) (reached : ℕ → Bool) (at : ℕ) (r : AreReached n t sets reached at) (lt : at < length sets)
     (next : ℕ → Bool) (after : some_leads t (drop (at + 1) (sets_of sets)) any_cells ≡ next) where
   -- whether a cell of this set leads on
@@ -96,7 +90,7 @@ module _ (n : ℕ) (t : Track) (sets : List ℕ) (reached : ℕ → Bool) (at : 
   pulled : (x : Bool) (way : ℕ → Bool) → any_below (λ p. reached p && (x && way p)) n ≡ (x && any_below (λ p. reached p && way p) n)
   pulled true way = refl
   pulled false way = false_from_ne_true (any_below (λ p. reached p && false) n) (λ on.
-      let w = any_below-some (λ p. reached p && false) n on in true≢false (sym (and_parts _ false w.2).1))
+      let w = any_below-some (λ p. reached p && false) n on in true≢false (sym (and_parts _ _ w.2).1))
 
   pub shown_at : (v : ℕ) → v < 2 → some_leads t (sets_of sets) (cell_is at v) 0 ≡ (has_bit (get_or sets at 0) v && leads_by (set_for v))
   unfolding cell_is
@@ -110,9 +104,9 @@ module _ (n : ℕ) (t : Track) (sets : List ℕ) (reached : ℕ → Bool) (at : 
       ∙ pulled (has_bit (get_or sets at 0) v) (λ p. ahead t (set_for v) next p)
 
   -- the bits of the cell are what is shown, and those of the cells before were
-  kept_step : (kept new : List ℕ) → AreRowsKept t sets kept at → length new ≡ length kept → ((i : ℕ) → (i ≡ at → ⊥) → get_or new i 0 ≡ get_or kept i 0)
+  kept_step : {kept : List ℕ} (new : List ℕ) → AreRowsKept t sets kept at → length new ≡ length kept → ((i : ℕ) → (i ≡ at → ⊥) → get_or new i 0 ≡ get_or kept i 0)
       → ((v : ℕ) → v < 2 → has_bit (get_or new at 0) v ≡ (has_bit (get_or sets at 0) v && leads_by (set_for v))) → AreRowsKept t sets new (at + 1)
-  kept_step kept new k long others is = record {
+  kept_step new k long others is = record {
     as_many = long ∙ k.as_many;
     bits = λ i v below small. elim (cases_eq i at) [
       | inl e ↦ ap (λ j. has_bit (get_or new j 0) v) e ∙ is v small ∙ twice (has_bit (get_or sets at 0) v) _
@@ -140,7 +134,7 @@ module _ (n : ℕ) (t : Track) (sets : List ℕ) (reached : ℕ → Bool) (at : 
       → has_bit shown 0 ≡ any_below (λ p. white p && next p) n → has_bit shown 1 ≡ any_below (λ p. black p && next p) n
       → get_or kept at 0 ≡ get_or sets at 0 → AreRowsKept t sets kept at → AreRowsKept t sets (set kept at (bit_and (get_or kept at 0) shown)) (at + 1)
   kept_cell white black kept shown below is_white is_black shows_white shows_black same k =
-      kept_step kept _ k (length-set kept at _) (λ i other. get_or-set_other kept at i _ 0 other) (λ v small.
+      kept_step _ k (length-set kept at _) (λ i other. get_or-set_other kept at i _ 0 other) (λ v small.
       ap (λ s. has_bit s v) (get_or-set_same kept at _ 0 (omega (arith, k.as_many))) ∙ bits_both (get_or kept at 0) shown v
       ∙ ap₂ (λ x y. has_bit x v && y) same (by v small))
     where
@@ -150,8 +144,32 @@ module _ (n : ℕ) (t : Track) (sets : List ℕ) (reached : ℕ → Bool) (at : 
       by (suc (suc v)) small = absurd (omega arith)
 
 -- ---- all cells
-pub decided_by_track : (clue : List ℕ) {sets kept : List ℕ} {t : Track}
-    → t ≡ track_of (spelled clue) → ArePositive clue
+pub decided_by_track : (clue : List ℕ) {sets kept : List ℕ} {t : Track} → t ≡ track_of (spelled clue) → ArePositive clue
     → AreRowsKept t sets kept (length sets)
     → IsDecided 2 (strikes_by_fillings (has_runs clue)) sets kept
 decided_by_track clue is positive k = grind (arith, common_steps, cases_Bool, strikes_by_track)
+
+leads_cell : (t : Track) (x : ℕ) (cells : List ℕ) (p : ℕ) → leads t p (x ∷ cells) ≡ ahead t (set_for x) (λ q. leads t q cells) p
+unfolding leads ahead stays goes_on
+leads_cell t zero cells p = ap (λ w. (t.stay p && leads t p cells) || (w && leads t (suc p) cells)) (sym (or-false (t.white p)))
+leads_cell t (suc x) cells p = refl
+
+pub set_for_black : (number : ℕ) → (number ≡ 0 → ⊥) → set_for number ≡ 2
+set_for_black zero some = absurd (some refl)
+set_for_black (suc x) some = refl
+
+module _ {n : ℕ} {t : Track} (below : IsBelow n t) (cells : List ℕ) (k : ℕ) (reached : ℕ → Bool) where
+  -- one cell on
+  pub meet_next : (new : ℕ → Bool) → k < length cells → ((p : ℕ) → p < n → new p ≡ led t (set_for (get_or cells k 0)) reached p)
+      → any_below (λ p. reached p && leads t p (drop k cells)) n ≡ leads t 0 cells
+      → any_below (λ p. new p && leads t p (drop (k + 1) cells)) n ≡ leads t 0 cells
+  meet_next new lt is before =
+      ways_on (set_for (get_or cells k 0)) n below reached new (λ p. leads t p (drop k cells)) (λ p. leads t p (drop (k + 1) cells)) is
+      (λ p. ap (leads t p) (drop_more cells k 0 lt) ∙ leads_cell t (get_or cells k 0) (drop (k + 1) cells) p) ∙ before
+
+  -- after all of them
+  pub meet_end : (clue : List ℕ) (both : ℕ → Bool) → t ≡ track_of (spelled clue) → ArePositive clue → k ≡ length cells
+      → ((p : ℕ) → both p ≡ (reached p && t.ends p))
+      → any_below (λ p. reached p && leads t p (drop k cells)) n ≡ leads t 0 cells → any_below both n ≡ has_runs clue cells
+  unfolding leads
+  meet_end clue both spells positive all each before = grind (arith, common_steps, cases_Bool, any_below-same, drop_all, leads_runs)

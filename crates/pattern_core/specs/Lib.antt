@@ -1,3 +1,4 @@
+pub mod Below
 pub mod Solutions
 pub mod Lines
 pub mod LineRules

@@ -1,7 +1,6 @@
 -- The clue of a line, whatever words it is spelled in.
 use Rattle.std.specs.Prelude.{ℕ, List, map}
-use Rattle.grid_core.specs.Extent.{Extent}
-use Rattle.gameid_core.specs.Puzzles.{Pattern}
+use Rattle.pattern_core.specs.Below.{Extent, Pattern}
 use Rattle.pattern_core.specs.declared.line_clue.LineClue.{LineClue}
 use Rattle.pattern_core.specs.declared.line_clue.LineClue.TheVariants.{Short, Long}
 

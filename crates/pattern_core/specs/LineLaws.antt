@@ -2,24 +2,14 @@
 use Rattle.std.proofs.lemmas.Bool.{cases_Bool, cases_lt, true≢false, true_from_ne_false, eqb-true, eq-eqb, lt-ltb}
 use Rattle.std.proofs.lemmas.Grind.{common_steps}
 use Rattle.std.proofs.Common.{◌≡◌, ℕ, zero, suc, ◌+◌, ◌-◌, ◌*◌, ◌/◌, ◌%◌, ◌<◌, ◌≤◌, true, not, ◌&&◌, eqb, List, slice_index, refl, sym, ap, ◌∙◌, arith, inl, inr, ◌⊎◌}
-use Rattle.std.specs.Cmp.Lexicographic.{same_text, other_text}
+use Rattle.pattern_core.specs.Below.{AreDifferent, Extent, IsAlive, IsExtent, IsGrid, IsLawful, Pattern, after, all_of, count_below, has_place, line_numbers, line_places, lines_of, other_text, runs, same_text, share, strikes_at, strikes_by_fillings, sum_below}
 use Rattle.std.proofs.lemmas.Nat.{mod-mul-add, div-mul-add}
 use Rattle.std.proofs.lemmas.List.FromFn.{length-map-range_with_len}
 use Rattle.std.proofs.Math.Nat.{mul-le-mul_right}
-use Rattle.grid_core.specs.Extent.{Extent, IsExtent}
-use Rattle.grid_core.specs.Candidates.{all_of, sum_below, count_below}
-use Rattle.grid_core.specs.Grids.{IsGrid}
 use Rattle.grid_core.proofs.CandidateLemmas.{all_below-at, all_below-from, count_below-few, count_below-or, count_below-pos, is_dead-each}
 use Rattle.grid_core.proofs.GridLemmas.{single-all, all-within}
 use Rattle.grid_core.proofs.LineLemmas.{column-places, row-places, length-line_places, place_in_column, place_in_row, line_numbers-column, line_numbers-row, line_numbers-places, few_cells}
-use Rattle.grid_core.specs.Lines.{lines_of, line_places, line_numbers}
-use Rattle.gameid_core.specs.Puzzles.{Pattern}
-use Rattle.gameid_core.specs.BlackRuns.{runs}
-use Rattle.engine_core.specs.ClosingList.{IsAlive}
-use Rattle.engine_core.specs.RuleSystem.{IsLawful, after, has_place, share}
 use Rattle.engine_core.specs.PlaceLaws.{has_place-at, has_place-here}
-use Rattle.engine_core.specs.Filling.{strikes_by_fillings}
-use Rattle.engine_core.specs.HouseSets.{strikes_at, AreDifferent}
 use Rattle.engine_core.specs.HouseSetsLaws.{strikes_at-inside, strikes_at-in_scope, by_fillings-monotone, by_fillings-settled, by_fillings-closed}
 use Rattle.pattern_core.specs.Lines.{clue_of, HasClue, has_runs}
 use Rattle.pattern_core.specs.LineRules.{is_pattern_solution, line_rules}

@@ -1,20 +1,15 @@
 -- Lines of a board on planes: what a visit of one reads and leaves, and which lines wait. No public contract uses these words.
-use Rattle.std.specs.Int.{from_bool}
-use Rattle.std.specs.List.{range_with_len}
-use Rattle.std.specs.Prelude.{◌≡◌, ℕ, map, ◌+◌, ◌-◌, ◌*◌, ◌<◌, ◌≤◌, Bool, true, false, not, ◌&&◌, ◌==◌, nat_lt, if◌then◌else◌, List, length, slice_index, Option, Some, None}
+use Rattle.pattern_core.specs.Below.{Extent, IsAlive, IsDead, IsIdle, IsTaken, Layers, Pattern, RuleSystem, after, from_bool, has, has_bit, lines_beside, number_of, range_with_len}
+use Rattle.std.specs.Prelude.{◌≡◌, ℕ, map, ◌+◌, ◌-◌, ◌*◌, ◌<◌, ◌≤◌, Bool, true, false, not, ◌&&◌, ◌||◌, ◌==◌, nat_lt, if◌then◌else◌, List, length, slice_index, Option, Some, None}
 use Rattle.grid_core.specs.Candidates.{Candidates, IsWithin as HasCells}
-use Rattle.grid_core.specs.Extent.{Extent}
-use Rattle.grid_core.specs.Planes.{lines_beside, number_of}
-use Rattle.grid_core.specs.Words.{has_bit}
 use Rattle.grid_core.specs.declared.planes.line.Line.{Line}
 use Rattle.grid_core.specs.declared.planes.line.Line.TheVariants.{Row, Column}
-use Rattle.engine_core.specs.ClosingList.{IsAlive, IsDead}
-use Rattle.gameid_core.specs.Puzzles.{Pattern}
 use Rattle.engine_core.specs.Queue.{IsRested, counts_of}
-use Rattle.engine_core.specs.RuleSystem.{RuleSystem, after}
+use Rattle.engine_core.specs.declared.mode.Closing.{Closing}
 use Rattle.pattern_core.specs.LineRules.{line_rules}
 use Rattle.pattern_core.specs.Lines.{IsDecidedBy}
 use Rattle.pattern_core.specs.Track.{Track, cell_is, sets_of, some_leads}
+use Rattle.pattern_core.specs.declared.planes.filter.Cells.{Cells}
 use Rattle.pattern_core.specs.declared.planes.waits.Waits.{Waits}
 
 -- ---- lines
@@ -41,6 +36,15 @@ abbrev pub is_marked : {W : Type 0} → (W → ℕ) → Waits W → Line → Boo
 is_marked bits waits (Column x) = has_bit (bits waits.columns) x
 is_marked bits waits (Row y) = has_bit (bits waits.rows) y
 
+-- the lines that pass wait too; and the line waits no more
+abbrev pub AreLinesMarked : {W : Type 0} → (W → ℕ) → Waits W → (Line → Bool) → Waits W → Type 0
+AreLinesMarked bits before passes now =
+    (other : Line) → is_marked bits now other ≡ (is_marked bits before other || passes other)
+
+abbrev pub AreMarkedBut : {W : Type 0} → (W → ℕ) → Waits W → Line → Waits W → Type 0
+AreMarkedBut bits before line now = (other : Line)
+    → is_marked bits now other ≡ (is_marked bits before other && not (is_same line other))
+
 -- the line with that number as a house
 abbrev pub line_of : Extent → ℕ → Line
 line_of size j = if nat_lt j size.w then Column j else Row (j - size.w)
@@ -61,6 +65,14 @@ set_at white black k = from_bool (has_bit white k) + 2 * from_bool (has_bit blac
 abbrev pub sets_by : ℕ → ℕ → ℕ → List ℕ
 sets_by white black count = map (set_at white black) (range_with_len 0 count)
 
+abbrev pub sets_in : {W : Type 0} → (W → ℕ) → Cells W → ℕ → List ℕ
+sets_in bits cells count = sets_by (bits cells.white) (bits cells.black) count
+
+-- the places, and that one too where `on`
+abbrev pub IsWithIf : {W : Type 0} → (W → ℕ) → W → ℕ → Bool → W → Type 0
+IsWithIf bits places place on result =
+    (p : ℕ) → has_bit (bits result) p ≡ (has_bit (bits places) p || (on && (p == place)))
+
 -- of so many cells the second words keep what some filling that leads along the track shows
 pub record AreShown (t : Track) (count white black white' black' : ℕ) : Type 0 where
   pub white_is : (k : ℕ) → k < count
@@ -69,6 +81,10 @@ pub record AreShown (t : Track) (count white black white' black' : ℕ) : Type 0
       → has_bit black' k ≡ some_leads t (sets_of (sets_by white black count)) (cell_is k 1) 0
   pub white_in : (k : ℕ) → has_bit white' k ≡ true → has_bit white k ≡ true
   pub black_in : (k : ℕ) → has_bit black' k ≡ true → has_bit black k ≡ true
+
+abbrev pub AreCellsShown : {W : Type 0} → (W → ℕ) → Track → ℕ → Cells W → Cells W → Type 0
+AreCellsShown bits t count cells kept =
+    AreShown t count (bits cells.white) (bits cells.black) (bits kept.white) (bits kept.black)
 
 -- the sets of cells
 pub record AreSetsBy (white black : ℕ) (sets : List ℕ) : Type 0 where
@@ -85,6 +101,10 @@ pub record AreDecided (clue : List ℕ) (count white black white' black' : ℕ) 
   pub decided : IsDecidedBy clue sets kept
   pub kept_are : AreSetsBy white' black' kept
 
+abbrev pub AreCellsDecided : {W : Type 0} → (W → ℕ) → List ℕ → ℕ → Cells W → Cells W → Type 0
+AreCellsDecided bits clue count cells kept =
+    AreDecided clue count (bits cells.white) (bits cells.black) (bits kept.white) (bits kept.black)
+
 -- ---- a visit of a line
 -- the k-th cell of the house has another number of values than before
 unfoldable pub has_lost : RuleSystem → ℕ → Candidates → Candidates → ℕ → Bool
@@ -97,6 +117,11 @@ IsLineVisited bits p h K K' None = IsDead p (after p h K)
 IsLineVisited bits p h K K' (Some lost) = (K' ≡ after p h K) × IsAlive p K'
     × ((k : ℕ) → has_bit (bits lost) k ≡ has_lost p h K K' k)
 
+-- a visit of that line of the puzzle
+abbrev pub IsVisitOf : {W : Type 0} → (W → ℕ) → Pattern → Line → Layers → Layers → Option W → Type 0
+IsVisitOf bits p line from to lost =
+    IsLineVisited bits (line_rules p) (house_of p.size line) (has from) (has to) lost
+
 -- ---- where a closing begins
 -- a line that does not wait strikes nothing from the board
 abbrev pub AreLinesRested : {W : Type 0} → (W → ℕ) → Pattern → Candidates → Waits W → Type 0
@@ -105,6 +130,10 @@ AreLinesRested bits p K waits = IsRested (line_rules p) K (waiting bits p.size w
 -- only lines of the grid wait
 abbrev pub AreLinesWithin : {W : Type 0} → (W → ℕ) → Extent → Waits W → Type 0
 AreLinesWithin bits size waits = (line : Line) → is_marked bits waits line ≡ true → number_of line < lines_beside size line
+
+-- the line strikes nothing from the board that a search starts from
+abbrev pub IsIdleAtStart : Pattern → ℕ → Type 0
+IsIdleAtStart p line = IsIdle (line_rules p) line (line_rules p).start
 
 -- both, at the board that a search starts from
 abbrev pub IsStart : {W : Type 0} → (W → ℕ) → Pattern → Waits W → Type 0
@@ -115,3 +144,7 @@ pub record HasLineRoom (room : ℕ) (p : Pattern) (K : Candidates) : Type 0 wher
   pub narrow : p.size.w ≤ room
   pub low : p.size.h ≤ room
   pub cells : HasCells (p.size.w * p.size.h) 2 K
+
+-- a closing of the puzzle's board, from planes to planes
+abbrev pub IsClosedTo : Pattern → Layers → Layers → Closing → Type 0
+IsClosedTo p from to closing = IsTaken (line_rules p) (has from) (has to) closing

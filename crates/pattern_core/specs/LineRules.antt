@@ -1,12 +1,6 @@
 -- What the rules of Pattern mean to a search: each line is a house.
 use Rattle.std.specs.Prelude.{ℕ, ◌+◌, ◌*◌, Bool, true, List}
-use Rattle.grid_core.specs.Extent.{IsExtent}
-use Rattle.grid_core.specs.Candidates.{all_below, all_of}
-use Rattle.grid_core.specs.Lines.{lines_of, line_places, line_numbers}
-use Rattle.gameid_core.specs.Puzzles.{Pattern}
-use Rattle.engine_core.specs.RuleSystem.{RuleSystem}
-use Rattle.engine_core.specs.Filling.{strikes_by_fillings}
-use Rattle.engine_core.specs.HouseSets.{strikes_at}
+use Rattle.pattern_core.specs.Below.{IsExtent, Pattern, RuleSystem, all_below, all_of, line_numbers, line_places, lines_of, strikes_at, strikes_by_fillings}
 use Rattle.pattern_core.specs.Lines.{clue_of, has_runs}
 
 -- whether each line's runs are its clue

@@ -1,12 +1,6 @@
 -- The clues of lines, and what their runs are.
 use Rattle.std.specs.Prelude.{◌≡◌, ℕ, ◌+◌, ◌<◌, ◌≤◌, Bool, List, [], length, nat_eq, slice_index_or}
-use Rattle.std.specs.Cmp.Lexicographic.{pointwise}
-use Rattle.std.specs.List.{AllByRecursion}
-use Rattle.grid_core.specs.Lines.{line_numbers}
-use Rattle.gameid_core.specs.Puzzles.{Pattern, used}
-use Rattle.gameid_core.specs.BlackRuns.{runs}
-use Rattle.engine_core.specs.Filling.{strikes_by_fillings}
-use Rattle.engine_core.specs.HouseSets.{IsDecided}
+use Rattle.pattern_core.specs.Below.{AllByRecursion, IsDecided, Pattern, line_numbers, pointwise, runs, strikes_by_fillings, used}
 
 -- the clue of a line
 abbrev pub clue_of : Pattern → ℕ → List ℕ

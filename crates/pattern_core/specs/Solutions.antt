@@ -1,9 +1,6 @@
 -- Which grids solve a puzzle of Pattern. A grid has 0 for a white cell and 1 for a black one.
 use Rattle.std.specs.Prelude.{◌≡◌, ℕ, ◌+◌, ◌*◌, ◌<◌, ◌↔◌, IsTrue, List, [], slice_index_or}
-use Rattle.grid_core.specs.Grids.{IsGrid, row_cells, column_cells}
-use Rattle.gameid_core.specs.Puzzles.{Pattern}
-use Rattle.engine_core.specs.RuleSystem.{RuleSystem}
-use Rattle.gameid_core.specs.BlackRuns.{runs}
+use Rattle.pattern_core.specs.Below.{IsGrid, Pattern, RuleSystem, column_cells, row_cells, runs}
 
 -- the lengths of the maximal black runs of each column, downwards, and of each row, rightwards, are its clue
 pub record IsPatternSolution (p : Pattern) (g : List ℕ) : Type 0 where

@@ -1,10 +1,7 @@
 -- A clue spelled out as cells, and how a line goes along it. The places along the clue are numbered from 0, before its
 -- first cell. A line that is at a place has passed what is spelled before it. No public contract uses these words.
 use Rattle.std.specs.Prelude.{◌≡◌, ℕ, zero, suc, ◌+◌, ◌<◌, ◌≤◌, Bool, true, false, ◌&&◌, ◌||◌, ◌==◌, List, [], ◌∷◌, ◌++◌, length, get_or, replicate, drop, map, if◌then◌else◌}
-use Rattle.gameid_core.specs.BlackRuns.{runs}
-use Rattle.gameid_core.specs.Puzzles.{used}
-use Rattle.engine_core.specs.Filling.{Set, some_filling}
-use Rattle.engine_core.specs.Sets.{has_bit, set_of_bits}
+use Rattle.pattern_core.specs.Below.{Set, has_bit, runs, set_of_bits, some_filling, used}
 use Rattle.pattern_core.specs.Lines.{ArePositive}
 use Rattle.pattern_core.specs.declared.track.Spelling.{Spelling}
 use Rattle.pattern_core.specs.declared.track.TrackSlots.{TrackSlots}
@@ -74,6 +71,10 @@ set_for (suc _) = 2
 abbrev pub by_set : (ℕ → Bool) → (ℕ → Bool) → ℕ → ℕ → Bool
 by_set white black set p = (has_bit set 0 && white p) || (has_bit set 1 && black p)
 
+-- by the set of a cell, those places
+abbrev pub AreBySet : (ℕ → ℕ → Bool) → ℕ → ℕ → Type 0
+AreBySet has white black = (set p : ℕ) → has set p ≡ by_set (has_bit white) (has_bit black) set p
+
 -- whether a line may stay at the place by a cell of this set, and whether it may go on from there
 unfoldable pub stays : Track → ℕ → ℕ → Bool
 stays t set p = has_bit set 0 && t.stay p
@@ -128,11 +129,18 @@ pub record AreRows {A : Type 0} (has : A → ℕ → Bool) (t : Track) (sets : L
   pub row : (i p : ℕ) (row : A) → from ≤ i → i ≤ length sets
       → has (get_or rows i row) p ≡ some_leads t (drop i (sets_of sets)) any_cells p
 
+-- all rows of the table, for steps along a clue
+abbrev pub AreRowsAlong : {A : Type 0} → (A → ℕ) → TrackSlots A → List ℕ → List A → Type 0
+AreRowsAlong bits steps sets rows = AreRows (slots_of bits) (along (slots_of bits) steps) sets rows 0
+
 -- the bits kept of the cells before `upto` are those that some filling shows
 pub record AreRowsKept (t : Track) (sets kept : List ℕ) (upto : ℕ) : Type 0 where
   pub as_many : length kept ≡ length sets
   pub bits : (k v : ℕ) → k < upto → v < 2 → has_bit (get_or kept k 0) v
       ≡ (has_bit (get_or sets k 0) v && some_leads t (sets_of sets) (cell_is k v) 0)
+
+abbrev pub AreAllRowsKept : Track → List ℕ → List ℕ → Type 0
+AreAllRowsKept t sets kept = AreRowsKept t sets kept (length sets)
 
 -- what is spelled so far: its white places, its black ones, and the place after it
 pub record IsSpelling {A : Type 0} (has : A → ℕ → Bool) (cells : List ℕ)

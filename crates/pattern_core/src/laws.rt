@@ -1,7 +1,6 @@
 //! What the rules of a search mean. These calls do nothing: their contracts are the laws.
 
-ghost use Rattle.gameid_core.specs.Puzzles.{Pattern, IsPattern};
-ghost use Rattle.engine_core.specs.RuleSystem.{IsLawful};
+ghost use Rattle.pattern_core.specs.Below.{IsLawful, IsPattern, Pattern};
 ghost use Rattle.pattern_core.specs.LineRules.{line_rules};
 ghost use Rattle.pattern_core.specs.Solutions.{AcceptsSolutions};
 

@@ -1,10 +1,7 @@
 //! The clue of a line, spelled in words of 64 bits where they have room for it.
 
 ghost use Rattle.std.specs.Prelude.{◌≡◌, ◌<◌, ◌≤◌, ◌*◌, true, false, length};
-ghost use Rattle.grid_core.specs.Extent.{max_side};
-ghost use Rattle.grid_core.specs.Grids.{IsGrid};
-ghost use Rattle.grid_core.specs.Lines.{lines_of, line_numbers};
-ghost use Rattle.gameid_core.specs.Puzzles.{IsPattern};
+ghost use Rattle.pattern_core.specs.Below.{IsGrid, IsPattern, line_numbers, lines_of, max_side};
 ghost use Rattle.pattern_core.specs.Lines.{clue_of, has_runs, IsDecidedBy, IsRoomy};
 ghost use Rattle.pattern_core.specs.LineClues.{numbers_in};
 

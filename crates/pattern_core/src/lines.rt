@@ -1,14 +1,13 @@
 //! The lines of a puzzle as the houses of a search: the columns from the left, and then the rows from the top.
 
 ghost use Rattle.std.specs.Prelude.{◌≡◌, ◌<◌, ◌≤◌, IfOk, false, true, length, refl};
-ghost use Rattle.grid_core.specs.Extent.{IsExtent, max_side};
+ghost use Rattle.pattern_core.specs.Below.{IsBoardOf, IsExtent, IsIdle, after, lines_of, max_side};
 ghost use Rattle.grid_core.specs.Board.{has, SameShape};
-ghost use Rattle.grid_core.specs.Lines.{lines_of};
 ghost use Rattle.engine_core.specs.Closing.{HasStruck};
-ghost use Rattle.engine_core.specs.RuleSystem.{IsBoardOf, IsIdle, after};
 ghost use Rattle.engine_core.specs.declared.mode.Mode.TheVariants.{Queue};
 ghost use Rattle.pattern_core.specs.Lines.{clue_of};
 ghost use Rattle.pattern_core.specs.LineClues.{numbers_in};
+ghost use Rattle.pattern_core.specs.LinePlanes.{IsIdleAtStart};
 ghost use Rattle.pattern_core.specs.LineRules.{line_rules};
 
 use crate::line_cells::write_places;
@@ -92,8 +91,7 @@ impl PatternLines {
     /// Whether the line may strike anything from the board that a search starts from.
     pub(crate) fn may_strike(&self, line: usize) -> bool
         requires { line < lines_of self.now.pattern.size }
-        ensures { result ≡ false → IsIdle (line_rules self.now.pattern) line
-            (line_rules self.now.pattern).start }
+        ensures { result ≡ false → IsIdleAtStart self.now.pattern line }
     {
         !self.clue(line).is_roomy(line_len(self.size(), line))
     }

@@ -1,8 +1,7 @@
 //! Whether a line of a grid goes along its spelled clue to the end.
 
 ghost use Rattle.std.specs.Prelude.{◌≡◌, ◌<◌, ◌*◌};
-ghost use Rattle.grid_core.specs.Grids.{IsGrid};
-ghost use Rattle.grid_core.specs.Lines.{lines_of, line_numbers};
+ghost use Rattle.pattern_core.specs.Below.{IsGrid, line_numbers, lines_of};
 ghost use Rattle.pattern_core.specs.Lines.{has_runs};
 ghost use Rattle.pattern_core.specs.Track.{AreLed, set_for, slots_of};
 

@@ -3,7 +3,7 @@
 
 ghost use Rattle.std.specs.Prelude.{◌≡◌, ℕ, ◌%◌, Bool, ◌==◌, slice_index};
 ghost use Rattle.grid_core.specs.Words.{has_bit};
-ghost use Rattle.pattern_core.specs.Track.{by_set};
+ghost use Rattle.pattern_core.specs.Track.{AreBySet};
 
 use grid_core::Word;
 
@@ -21,8 +21,7 @@ pub(crate) trait Slots: Word {
 
     /// The slots for a cell that may be white, those for one that may be black, and all of them for one that may be both.
     fn masks(white: Self, black: Self) -> Self::Masks
-        ensures { (set p : ℕ) → has_by result set p
-            ≡ by_set (has_bit (Self.bits white)) (has_bit (Self.bits black)) set p };
+        ensures { AreBySet (has_by result) (Self.bits white) (Self.bits black) };
 
     /// The slots for a cell with this set.
     fn mask(masks: &Self::Masks, set: u32) -> Self

@@ -7,10 +7,9 @@
 //! value of a cell stays where the two meet. What a cell's set lets a line do is looked up by the set.
 
 ghost use Rattle.std.specs.Prelude.{◌≡◌, ◌*◌, ◌+◌, ◌<◌, false, length};
-ghost use Rattle.std.specs.Int.{from_bool};
-ghost use Rattle.engine_core.specs.Sets.{has_bit};
+ghost use Rattle.pattern_core.specs.Below.{from_bool, has_bit};
 ghost use Rattle.pattern_core.specs.Lines.{IsDecidedBy, ArePositive};
-ghost use Rattle.pattern_core.specs.Track.{along, slots_of, spelled, track_of, AreMoves, AreAhead, AreLed, IsBelow, AreRows, AreRowsKept};
+ghost use Rattle.pattern_core.specs.Track.{AreAhead, AreAllRowsKept, AreLed, AreMoves, AreRowsAlong, IsBelow, along, slots_of, spelled, track_of};
 
 use crate::slots::Slots;
 use crate::track::{SpelledClue, TrackSlots};
@@ -90,8 +89,7 @@ pub(crate) fn set_of(white: bool, black: bool) -> u32
 /// Fills the table, from the last cell backwards.
 fn fill_rows<P: Slots>(moves: &Moves<P>, sets: &[u32], rows: &mut [P])
     requires { length sets.now < length rows.old }
-    ensures { AreRows (slots_of P.bits) (along (slots_of P.bits) moves.now.steps)
-        sets.now rows.new 0 }
+    ensures { AreRowsAlong P.bits moves.now.steps sets.now rows.new }
 {
     let mut at = sets.len();
     rows[at] = moves.steps.ends;
@@ -104,11 +102,9 @@ fn fill_rows<P: Slots>(moves: &Moves<P>, sets: &[u32], rows: &mut [P])
 /// Keeps of each cell what a way from the first slot to the end shows there, and says whether one of them lost any. It asks
 /// of no cell what it has, since that can't be foreseen.
 fn filter_cells<P: Slots>(moves: &Moves<P>, sets: &mut [u32], rows: &[P]) -> bool
-    requires rows { AreRows (slots_of P.bits) (along (slots_of P.bits) moves.now.steps)
-        sets.old rows.now 0 }
+    requires rows { AreRowsAlong P.bits moves.now.steps sets.old rows.now }
     requires below { IsBelow P.room (along (slots_of P.bits) moves.now.steps) }
-    ensures kept { AreRowsKept (along (slots_of P.bits) moves.now.steps) sets.old sets.new
-        (length sets.old) }
+    ensures kept { AreAllRowsKept (along (slots_of P.bits) moves.now.steps) sets.old sets.new }
     ensures unchanged { result ≡ false → sets.new ≡ sets.old }
 {
     let mut reached = P::first();

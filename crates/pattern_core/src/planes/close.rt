@@ -1,11 +1,9 @@
 //! The closing of a board on planes.
 
-ghost use Rattle.std.specs.Prelude.{◌&&◌, ◌<◌, ◌||◌, ◌≡◌, ◌≤◌};
-ghost use Rattle.grid_core.specs.Planes.{IsFurther, has, lines_beside, number_of};
-ghost use Rattle.engine_core.specs.ClosingList.{IsAlive};
+ghost use Rattle.std.specs.Prelude.{◌&&◌, ◌<◌, ◌≡◌, ◌≤◌};
+ghost use Rattle.pattern_core.specs.Below.{IsAlive, IsClosedBut, IsFurther, has, number_of};
 ghost use Rattle.engine_core.specs.Counts.{IsClosedIn};
-ghost use Rattle.engine_core.specs.Position.{IsClosedBut, IsTaken};
-ghost use Rattle.pattern_core.specs.LinePlanes.{AreLinesWithin, AreLinesRested, HasLineRoom, IsStart, is_marked, is_same};
+ghost use Rattle.pattern_core.specs.LinePlanes.{AreLinesRested, AreLinesWithin, AreLinesMarked, HasLineRoom, IsClosedTo, IsStart, is_same};
 ghost use Rattle.pattern_core.specs.LineRules.{line_rules};
 
 use crate::lines::{LineScratch, PatternLines};
@@ -17,8 +15,7 @@ use grid_core::{Line, Planes, Word};
 /// The lines that wait, and that one where `on`.
 fn with_if<W: Word>(waits: Waits<W>, line: Line, on: bool) -> Waits<W>
     requires { number_of line < W.room }
-    ensures { (other : Line) → is_marked W.bits result other
-        ≡ (is_marked W.bits waits other || (on && is_same line other)) }
+    ensures { AreLinesMarked W.bits waits (λ other. on && is_same line other) result }
 {
     if on { waits.with(line) } else { waits }
 }
@@ -68,8 +65,7 @@ pub(crate) fn close<W: Word>(
 ) -> Taken
     requires size { planes.old.size ≡ rules.now.pattern.size }
     requires closed_but { IsClosedBut (line_rules rules.now.pattern) (has planes.old) from }
-    ensures taken { IsTaken (line_rules rules.now.pattern) (has planes.old) (has planes.new)
-        result.closing }
+    ensures taken { IsClosedTo rules.now.pattern planes.old planes.new result.closing }
     ensures turns { IsClosedIn (line_rules rules.now.pattern) (has planes.old) result.turns }
     ensures alive { IsAlive (line_rules rules.now.pattern) (has planes.new) }
     ensures further { IsFurther planes.old planes.new }

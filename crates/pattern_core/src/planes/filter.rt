@@ -1,11 +1,10 @@
 //! What is kept of a line's cells, as words.
 
-ghost use Rattle.std.specs.Prelude.{◌&&◌, ◌<◌, ◌==◌, ◌||◌, ◌≡◌, ◌≤◌, ℕ, length};
+ghost use Rattle.std.specs.Prelude.{◌<◌, ◌≡◌, ◌≤◌, length};
 ghost use Rattle.grid_core.specs.Extent.{max_side};
-ghost use Rattle.grid_core.specs.Words.{has_bit};
 ghost use Rattle.pattern_core.specs.LineClues.{numbers_in};
-ghost use Rattle.pattern_core.specs.LinePlanes.{AreDecided, AreShown, set_at, sets_by};
-ghost use Rattle.pattern_core.specs.Track.{AreRows, IsBelow, along, slots_of};
+ghost use Rattle.pattern_core.specs.LinePlanes.{AreCellsDecided, AreCellsShown, IsWithIf, set_at, sets_in};
+ghost use Rattle.pattern_core.specs.Track.{AreRowsAlong, IsBelow, along, slots_of};
 
 use crate::line_clue::{LineClue, Rows};
 use crate::slots::Slots;
@@ -16,8 +15,7 @@ use grid_core::Word;
 /// The places with that one too, where `on`.
 fn with_if<W: Word>(places: W, place: usize, on: bool) -> W
     requires { place < W.room }
-    ensures { (p : ℕ) → has_bit (W.bits result) p
-        ≡ (has_bit (W.bits places) p || (on && (p == place))) }
+    ensures { IsWithIf W.bits places place on result }
 {
     if on {
         places.either(W::one(place))
@@ -46,8 +44,7 @@ impl<W: Word> Cells<W> {
     fn fill_rows<P: Slots>(self, count: usize, moves: &Moves<P>, rows: &mut [P])
         requires room { count < length rows.old }
         requires fits { count ≤ W.room }
-        ensures { AreRows (slots_of P.bits) (along (slots_of P.bits) moves.now.steps)
-            (sets_by (W.bits self.white) (W.bits self.black) count) rows.new 0 }
+        ensures { AreRowsAlong P.bits moves.now.steps (sets_in W.bits self count) rows.new }
     {
         let mut at = count;
         rows[at] = moves.steps.ends;
@@ -62,11 +59,9 @@ impl<W: Word> Cells<W> {
     fn keep<P: Slots>(self, count: usize, moves: &Moves<P>, rows: &[P]) -> Cells<W>
         requires room { count < length rows.now }
         requires fits { count ≤ W.room }
-        requires rows { AreRows (slots_of P.bits) (along (slots_of P.bits) moves.now.steps)
-            (sets_by (W.bits self.white) (W.bits self.black) count) rows.now 0 }
+        requires rows { AreRowsAlong P.bits moves.now.steps (sets_in W.bits self count) rows.now }
         requires below { IsBelow P.room (along (slots_of P.bits) moves.now.steps) }
-        ensures { AreShown (along (slots_of P.bits) moves.now.steps) count (W.bits self.white)
-            (W.bits self.black) (W.bits result.white) (W.bits result.black) }
+        ensures { AreCellsShown W.bits (along (slots_of P.bits) moves.now.steps) count self result }
     {
         let (mut white, mut black) = (W::none(), W::none());
         let mut reached = P::first();
@@ -88,8 +83,7 @@ impl<W: Word> Cells<W> {
     fn filter_by<P: Slots>(self, count: usize, clue: &SpelledClue<P>, rows: &mut [P]) -> Cells<W>
         requires room { count < length rows.old }
         requires fits { count ≤ W.room }
-        ensures { AreDecided clue.now count (W.bits self.white) (W.bits self.black)
-            (W.bits result.white) (W.bits result.black) }
+        ensures { AreCellsDecided W.bits clue.now count self result }
     {
         let moves = moves_of(clue);
         self.fill_rows(count, &moves, rows);
@@ -100,8 +94,7 @@ impl<W: Word> Cells<W> {
     pub(crate) fn filter(self, count: usize, clue: &LineClue, rows: &mut Rows) -> Cells<W>
         requires few { count ≤ max_side }
         requires fits { count ≤ W.room }
-        ensures { AreDecided (numbers_in clue.now) count (W.bits self.white) (W.bits self.black)
-            (W.bits result.white) (W.bits result.black) }
+        ensures { AreCellsDecided W.bits (numbers_in clue.now) count self result }
     {
         match clue {
             LineClue::Short(clue) => self.filter_by(count, clue, &mut rows.short),

@@ -1,9 +1,8 @@
 //! A visit of a line on planes.
 
-ghost use Rattle.std.specs.Prelude.{◌*◌, ◌<◌, ◌≡◌, None};
-ghost use Rattle.grid_core.specs.Planes.{IsFurther, has, lines_beside, number_of};
-ghost use Rattle.engine_core.specs.ClosingList.{IsAlive};
-ghost use Rattle.pattern_core.specs.LinePlanes.{IsLineVisited, house_of};
+ghost use Rattle.std.specs.Prelude.{◌<◌, ◌≡◌, None};
+ghost use Rattle.pattern_core.specs.Below.{IsAlive, IsFurther, has, lines_beside, number_of};
+ghost use Rattle.pattern_core.specs.LinePlanes.{IsVisitOf, house_of};
 ghost use Rattle.pattern_core.specs.LineRules.{line_rules};
 
 use crate::lines::{LineScratch, PatternLines};
@@ -31,8 +30,7 @@ pub(crate) fn visit<W: Word>(
     requires size { planes.old.size ≡ rules.now.pattern.size }
     requires line_in { number_of line < lines_beside rules.now.pattern.size line }
     requires alive { IsAlive (line_rules rules.now.pattern) (has planes.old) }
-    ensures visited { IsLineVisited W.bits (line_rules rules.now.pattern)
-        (house_of rules.now.pattern.size line) (has planes.old) (has planes.new) result }
+    ensures visited { IsVisitOf W.bits rules.now.pattern line planes.old planes.new result }
     ensures unchanged { result ≡ None → planes.new ≡ planes.old }
     ensures further { IsFurther planes.old planes.new }
 {

@@ -1,8 +1,8 @@
 //! Which lines wait to be visited.
 
-ghost use Rattle.std.specs.Prelude.{◌&&◌, ◌<◌, ◌||◌, ◌≡◌, false, not};
+ghost use Rattle.std.specs.Prelude.{◌<◌, ◌≡◌, false};
 ghost use Rattle.grid_core.specs.Planes.{number_of};
-ghost use Rattle.pattern_core.specs.LinePlanes.{IsNextLine, crossed_by, is_marked, is_same};
+ghost use Rattle.pattern_core.specs.LinePlanes.{AreMarkedBut, AreLinesMarked, IsNextLine, crossed_by, is_marked, is_same};
 
 use grid_core::{Line, Word};
 
@@ -27,8 +27,7 @@ impl<W: Word> Waits<W> {
     /// The line waits too.
     pub(crate) fn with(self, line: Line) -> Waits<W>
         requires { number_of line < W.room }
-        ensures { (other : Line) → is_marked W.bits result other
-            ≡ (is_marked W.bits self other || is_same line other) }
+        ensures { AreLinesMarked W.bits self (is_same line) result }
     {
         match line {
             Line::Column(x) => Waits {
@@ -45,8 +44,7 @@ impl<W: Word> Waits<W> {
     /// The line waits no more.
     pub(crate) fn without(self, line: Line) -> Waits<W>
         requires { number_of line < W.room }
-        ensures { (other : Line) → is_marked W.bits result other
-            ≡ (is_marked W.bits self other && not (is_same line other)) }
+        ensures { AreMarkedBut W.bits self line result }
     {
         match line {
             Line::Column(x) => Waits {
@@ -62,8 +60,7 @@ impl<W: Word> Waits<W> {
 
     /// The lines that cross the line at these cells wait too.
     pub(crate) fn with_crossing(self, line: Line, cells: W) -> Waits<W>
-        ensures { (other : Line) → is_marked W.bits result other
-            ≡ (is_marked W.bits self other || crossed_by line (W.bits cells) other) }
+        ensures { AreLinesMarked W.bits self (crossed_by line (W.bits cells)) result }
     {
         match line {
             Line::Column(_) => Waits {

@@ -1,4 +1,4 @@
-use Rattle.pattern_core.proofs.MeetLemmas.{set_for_black}
+use Rattle.pattern_core.proofs.TableSteps.{set_for_black}
 use Rattle.pattern_core.proofs.meets.led_on.Goals as goal
 
 pub returns-else-number-eq0 : goal.returns-else-number-eq0

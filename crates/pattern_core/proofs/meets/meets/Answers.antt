@@ -1,6 +1,5 @@
 use Rattle.pattern_core.proofs.Common.{along, ap, arith, leads, led, length-line_numbers, line_numbers, set_for, ◌∙◌, slots_of}
-use Rattle.pattern_core.proofs.MeetLemmas.{meet_next, meet_end}
-use Rattle.pattern_core.proofs.TableSteps.{at_first}
+use Rattle.pattern_core.proofs.TableSteps.{at_first, meet_end, meet_next}
 use Rattle.pattern_core.proofs.meets.meets.Goals as goal
 
 pub loop-k-init : goal.loop-k-init
@@ -10,11 +9,9 @@ loop-k-init g c =
 
 pub loop-k-preserved : goal.loop-k-preserved
 loop-k-preserved g c =
-    let has = slots_of g.P.Word.bits in
-    let t = along (slots_of g.P.Word.bits) c.steps-steps.result in
+    let has = slots_of g.P.Word.bits in let t = along (slots_of g.P.Word.bits) c.steps-steps.result in
     let cells = line_numbers c.args.size c.args.grid.now c.args.line in
-    let long = length-line_numbers c.args.size c.args.grid.now c.args.line in
-    let number = c.line_value.ensures in
+    let long = length-line_numbers c.args.size c.args.grid.now c.args.line in let number = c.line_value.ensures in
     meet_next c.steps-steps.ensures.below cells c.loop-k.k (has c.loop-k.reached) (has c.led_on-reached.result)
     (omega (arith, long, c.line_len-k-end.ensures.cells, c.loop-k-test.true))
     (λ p lt. c.led_on-reached.ensures p lt ∙ ap (λ n. led t (set_for n) (has c.loop-k.reached) p) number)

@@ -10,8 +10,7 @@ loop-at-init g c = (
 
 pub loop-at-preserved : goal.loop-at-preserved
 loop-at-preserved g c =
-    let pos = c.loop-at-test.true in
-    let low = c.loop-at.invariant.0 in
+    let pos = c.loop-at-test.true in let low = c.loop-at.invariant.0 in
     let next : c.loop-at.at ≡ c.loop-at.at - 1 + 1 = omega arith in
     let t = along (slots_of g.P.Word.bits) c.args.moves.now.steps in (
       omega arith,

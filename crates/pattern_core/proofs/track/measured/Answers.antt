@@ -13,9 +13,6 @@ loop-k-preserved c =
     let above : c.loop-k.longest ≤ c.max-longest.result = grind (arith, common_steps) in
     let here : get_or c.args.numbers.now c.loop-k.k 0 ≤ c.max-longest.result = grind (arith, common_steps) in (
       omega (arith, next, c.loop-k.invariant.0, c.from.ensures),
-      λ j lt. elim (cases_eq j _) [
-        | inl e ↦ rw e here
-        | inr ne ↦ omega (arith, c.loop-k.invariant.1 j (omega arith))
-      ],
+      λ j lt. elim (cases_eq j _) [ inl e ↦ rw e here | inr ne ↦ omega (arith, c.loop-k.invariant.1 j (omega arith)) ],
       omega arith,
     )

@@ -1,5 +1,5 @@
-use Rattle.pattern_core.proofs.Common.{IsSpelling, [], ap, arith, length-append, length-replicate, replicate, subst, ℕ, ◌++◌, ◌∙◌, ◌∷◌, ◌≡◌, slots_of}
-use Rattle.pattern_core.proofs.Spellings.{one_more, run_ended}
+use Rattle.pattern_core.proofs.Common.{IsSpelling, [], ap, append_assoc, arith, length-append, length-replicate, replicate, subst, ℕ, ◌++◌, ◌∙◌, ◌∷◌, ◌≡◌, slots_of}
+use Rattle.pattern_core.proofs.Spellings.{one_more}
 use Rattle.pattern_core.proofs.track.push_run.Goals as goal
 
 pub loop-k-preserved : goal.loop-k-preserved
@@ -15,7 +15,7 @@ pub returns : goal.returns
 returns g c = λ cells fits s.
     let all : c.loop-k._k ≡ c.args.number = omega (arith, c.loop-k.auto._k-end, c.loop-k-test.false) in
     subst (λ l. IsSpelling (slots_of g.P.Word.bits) l c.push_white.result.white c.push_white.result.black c.push_white.result.next)
-    (run_ended cells _ ∙ ap (λ n. cells ++ (replicate n 1 ++ 0 ∷ [])) all)
+    (append_assoc cells _ (0 ∷ []) ∙ ap (λ n. cells ++ (replicate n 1 ++ 0 ∷ [])) all)
     (c.push_white.ensures (cells ++ replicate _ 1)
     (omega (arith, fits, all, length-append cells (replicate c.loop-k._k 1), length-replicate {A = ℕ} c.loop-k._k 1))
     (c.loop-k.invariant cells (omega (arith, fits, all)) s))

@@ -1,4 +1,4 @@
-use Rattle.pattern_core.proofs.NextLine.{next_column, next_row, next_none}
+use Rattle.pattern_core.proofs.WaitingLines.{next_column, next_none, next_row}
 use Rattle.pattern_core.proofs.lines.PatternLinesRules.house_at.Goals as goal
 
 pub returns-then-from-column : goal.returns-then-from-column

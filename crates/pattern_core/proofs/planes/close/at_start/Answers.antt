@@ -1,13 +1,11 @@
-use Rattle.pattern_core.proofs.Common.{arith, ◌+◌, ◌∙◌, ◌≡◌}
-use Rattle.std.proofs.Common.{refl}
-use Rattle.grid_core.specs.declared.planes.line.Line.TheVariants.{Row, Column}
+use Rattle.pattern_core.proofs.Common.{Column, Row, arith, refl, ◌+◌, ◌∙◌, ◌≡◌}
 use Rattle.pattern_core.proofs.WaitingLines.{weighed-all, weighed-more}
 use Rattle.pattern_core.proofs.planes.close.at_start.Goals as goal
 
 pub loop-x-preserved : goal.loop-x-preserved
 loop-x-preserved g c =
     let wide : c.w-x-end.result ≡ c.args.rules.now.pattern.size.w = rw c.size-size.ensures at c.w-x-end.ensures.value in
-    weighed-more g.W.Word.bits c.args.rules.now.pattern _ _ (Column c.loop-x.x) c.may_strike.result c.loop-x.x (omega (arith, c.loop-x-test.true, wide)) refl
+    weighed-more _ (Column c.loop-x.x) c.may_strike.result (omega (arith, c.loop-x-test.true, wide)) refl
     c.with_if-waits.ensures (λ off. rw c.from.ensures at (c.may_strike.ensures off)) c.loop-x.invariant
 
 pub loop-y-init : goal.loop-y-init
@@ -22,11 +20,11 @@ loop-y-preserved g c =
     let high : c.h-y-end.result ≡ size.h = rw c.size-size.ensures at c.h-y-end.ensures.value in
     let wide : c.from-w.result ≡ size.w = c.from-w.ensures ∙ (rw c.size-size.ensures at c.w.ensures.value) in
     let e : size.w + (c.loop-y.y + 1) ≡ size.w + c.loop-y.y + 1 = omega arith in
-    rw e (weighed-more g.W.Word.bits c.args.rules.now.pattern _ _ (Row c.loop-y.y) c.may_strike-in-loop-y.result (size.w + c.loop-y.y) (omega (arith, c.loop-y-test.true, high)) refl
+    rw e (weighed-more _ (Row c.loop-y.y) c.may_strike-in-loop-y.result (omega (arith, c.loop-y-test.true, high)) refl
     c.with_if-waits-in-loop-y.ensures (λ off. rw (wide, c.from-in-loop-y.ensures) at (c.may_strike-in-loop-y.ensures off)) c.loop-y.invariant)
 
 pub returns : goal.returns
 returns g c =
     let high : c.h-y-end.result ≡ c.args.rules.now.pattern.size.h = rw c.size-size.ensures at c.h-y-end.ensures.value in
-    weighed-all g.W.Word.bits c.args.rules.now.pattern c.loop-y.waits (c.args.rules.now.pattern.size.w + c.loop-y.y) (omega (arith, c.loop-y-test.false, c.loop-y.auto.y-end, high))
+    weighed-all (omega (arith, c.loop-y-test.false, c.loop-y.auto.y-end, high))
     c.loop-y.invariant

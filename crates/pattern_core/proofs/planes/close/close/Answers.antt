@@ -1,26 +1,15 @@
-use Rattle.pattern_core.proofs.Common.{arith, line_rules, line_rules-lawful, refl, true, ◌*◌, ◌<◌, ◌∙◌, ◌≡◌}
-use Rattle.std.proofs.Common.{[], ◌++◌, ◌∷◌, length-append}
-use Rattle.std.proofs.lemmas.Bool.{true≢false}
-use Rattle.grid_core.specs.Candidates.{IsWithin}
+use Rattle.pattern_core.proofs.Common.{IsClosing, IsWithin, [], after, arith, closing-dead, closing-open, further-more, further-none, house_of, length-append, line_rules, line_rules-lawful, refl, room, running-alive, running-first, running-turn, true, true≢false, waiting, within_inside, ◌*◌, ◌++◌, ◌<◌, ◌∙◌, ◌∷◌, ◌≡◌}
 use Rattle.grid_core.specs.Planes.{has, lines_beside, number_of}
-use Rattle.grid_core.proofs.CandidateLemmas.{within_inside}
-use Rattle.grid_core.proofs.PlaneLemmas.{further-more, further-none}
-use Rattle.engine_core.specs.ClosingList.{IsClosing}
-use Rattle.engine_core.specs.RuleSystem.{after}
 use Rattle.engine_core.specs.declared.mode.Closing.TheVariants.{Dead, Open}
 use Rattle.engine_core.proofs.EndLemmas.{closed-in, taken-dead, taken-open}
-use Rattle.engine_core.proofs.ListLemmas.{closing-dead, closing-open, room, running-alive, running-first, running-turn}
-use Rattle.pattern_core.specs.LinePlanes.{house_of, waiting}
-use Rattle.pattern_core.proofs.ClosingLines.{begins-alive, lines-within, lines-woken}
+use Rattle.pattern_core.proofs.WaitingLines.{begins-alive, lines-within, lines-woken, none-waits, waits-line}
 use Rattle.pattern_core.proofs.LineTakings.{house-in}
-use Rattle.pattern_core.proofs.WaitingLines.{none-waits, waits-line}
 use Rattle.pattern_core.proofs.planes.close.close.Goals as goal
 use Rattle.pattern_core.proofs.planes.close.close.Goals.{In-Some, In_default, In_default-visit}
 
 pub loop-line-init : goal.loop-line-init
 loop-line-init g c =
-    let pat = c.args.rules.now.pattern in
-    let K = has c.args.planes.now in
+    let pat = c.args.rules.now.pattern in let K = has c.args.planes.now in
     record {
       visits = [];
       counted = refl;
@@ -51,8 +40,7 @@ dead : (g : _) (c : In_default-visit g) → number_of c.in-Some.line < lines_bes
     (after (line_rules c.args.rules.now.pattern) (house_of c.args.rules.now.pattern.size c.in-Some.line) (has c.loop-line.planes)) Dead
     (c.loop-line.invariant.visits ++ house_of c.args.rules.now.pattern.size c.in-Some.line ∷ []) 0
 dead g c lt on =
-    let pat = c.args.rules.now.pattern in
-    let i = c.loop-line.invariant in
+    let pat = c.args.rules.now.pattern in let i = c.loop-line.invariant in
     closing-dead (line_rules pat) (line_rules-lawful pat c.args.rules.now.extent) (has c.args.planes.now) i.visits (has c.loop-line.planes) _ _
     (house_of pat.size c.in-Some.line) refl c.first-waits.ensures.fits.cells i.running (house-in pat.size c.in-Some.line lt) on refl
     (rw c.in_default-visit.is at c.visit.ensures.visited)
@@ -70,23 +58,17 @@ returns-in_default-visit-clause-turns g c =
 
 pub loop-line-smaller : goal.loop-line-smaller
 loop-line-smaller g c =
-    let at = (goal.at.loop-line-smaller g c).In-Some in
-    let i = c.loop-line.invariant in
+    let at = (goal.at.loop-line-smaller g c).In-Some in let i = c.loop-line.invariant in
     let few = room i.running (house-in c.args.rules.now.pattern.size c.in-Some.line (line-in g at)) (waits g at) in
     omega (arith, few, i.counted)
 
 pub loop-line-preserved : goal.loop-line-preserved
 loop-line-preserved g c =
-    let at = (goal.at.loop-line-preserved g c).In-Some in
-    let pat = c.args.rules.now.pattern in
-    let i = c.loop-line.invariant in
-    let line = c.in-Some.line in
-    let h = house_of pat.size line in
-    let lt = line-in g at in
-    let K = has c.loop-line.planes in
-    let K' = has c.visit.new.planes in
-    let v = rw c.in-Some-visit.is at c.visit.ensures.visited in
-    let lost = g.W.Word.bits c.in-Some-visit.lost in
+    let at = (goal.at.loop-line-preserved g c).In-Some in let pat = c.args.rules.now.pattern in
+    let i = c.loop-line.invariant in let line = c.in-Some.line in
+    let h = house_of pat.size line in let lt = line-in g at in
+    let K = has c.loop-line.planes in let K' = has c.visit.new.planes in
+    let v = rw c.in-Some-visit.is at c.visit.ensures.visited in let lost = g.W.Word.bits c.in-Some-visit.lost in
     let woken = lines-woken pat line lt K K' lost v.2 g.W.Word.bits c.loop-line.waits c.without.result c.with_crossing-waits.result c.without.ensures c.with_crossing-waits.ensures in
     record {
       visits = i.visits ++ h ∷ [];
@@ -101,11 +83,10 @@ loop-line-preserved g c =
 -- and so it ends where no line waits
 shut : (g : _) (c : In_default g) → IsClosing (line_rules c.args.rules.now.pattern) (has c.args.planes.now) (has c.loop-line.planes) Open c.loop-line.invariant.visits 0
 shut g c =
-    let pat = c.args.rules.now.pattern in
-    let i = c.loop-line.invariant in
+    let pat = c.args.rules.now.pattern in let i = c.loop-line.invariant in
     let fits = c.first-waits.ensures.fits in
     closing-open (line_rules pat) (line_rules-lawful pat c.args.rules.now.extent) (has c.args.planes.now) i.visits (has c.loop-line.planes) _ refl fits.cells i.running
-    (none-waits g.W.Word.bits pat.size c.loop-line.waits g.W.Word.room fits.narrow fits.low (rw c.in_default.is at c.next.ensures))
+    (none-waits g.W.Word.bits pat.size c.loop-line.waits fits.narrow fits.low (rw c.in_default.is at c.next.ensures))
 
 pub returns-clause-taken : goal.returns-clause-taken
 returns-clause-taken g c = taken-open (shut g (goal.at.returns-clause-taken g c).In_default)
@@ -115,8 +96,7 @@ returns-clause-turns g c = closed-in (shut g (goal.at.returns-clause-turns g c).
 
 pub returns-in_default-visit-clause-alive : goal.returns-in_default-visit-clause-alive
 returns-in_default-visit-clause-alive g c =
-    let same = c.visit.ensures.unchanged c.in_default-visit.is in
-    rw same (running-alive c.loop-line.invariant.running)
+    let same = c.visit.ensures.unchanged c.in_default-visit.is in rw same (running-alive c.loop-line.invariant.running)
 
 pub returns-clause-alive : goal.returns-clause-alive
 returns-clause-alive g c = running-alive c.loop-line.invariant.running

@@ -1,7 +1,5 @@
-use Rattle.pattern_core.proofs.Common.{List, length, line_rules, ℕ, ◌-◌, ◌≡◌}
+use Rattle.pattern_core.proofs.Common.{AreLinesWithin, IsRunning, List, length, line_rules, waiting, ℕ, ◌-◌, ◌≡◌}
 use Rattle.grid_core.specs.Planes.{IsFurther, has}
-use Rattle.engine_core.proofs.ListLemmas.{IsRunning}
-use Rattle.pattern_core.specs.LinePlanes.{AreLinesWithin, waiting}
 use Rattle.pattern_core.proofs.planes.close.close.Given as goal
 
 abbrev pub invariant-loop-line : goal.invariant-loop-line

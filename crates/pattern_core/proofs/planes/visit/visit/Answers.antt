@@ -1,9 +1,4 @@
-use Rattle.pattern_core.proofs.Common.{and_parts, any_below-none, any_below-some, ap, arith, clue_of, has_bit, ltb-true, not, sym, true, ℕ, ◌&&◌, ◌<◌, ◌||◌, ◌∙◌, ◌≡◌}
-use Rattle.std.proofs.lemmas.Bool.{cases_Bool, lt-ltb, not-true, or_parts}
-use Rattle.std.proofs.lemmas.Grind.{common_steps}
-use Rattle.std.proofs.Common.{ltb}
-use Rattle.grid_core.specs.Planes.{line_len}
-use Rattle.pattern_core.specs.LinePlanes.{AreDecided, house_of}
+use Rattle.pattern_core.proofs.Common.{AreDecided, and_parts, any_below-none, any_below-some, ap, arith, cases_Bool, clue_of, common_steps, has_bit, house_of, line_len, lt-ltb, ltb, ltb-true, not, not-true, or_parts, sym, true, ℕ, ◌&&◌, ◌<◌, ◌||◌, ◌∙◌, ◌≡◌}
 use Rattle.pattern_core.proofs.LineTakings.{both-taken, cells-in, kept-dead, left-alive, line-long, line-within, lost-at, taken-is, wide-in}
 use Rattle.pattern_core.proofs.planes.visit.visit.Goals as goal
 use Rattle.pattern_core.proofs.planes.visit.visit.Goals.{After-filter-kept}
@@ -24,35 +19,26 @@ decided g c =
 pub returns-then-is_some-clause-visited : goal.returns-then-is_some-clause-visited
 returns-then-is_some-clause-visited g c =
     let at = (goal.at.returns-then-is_some-clause-visited g c).After-filter-kept in
-    let r = c.requires in
-    let lawful = c.line.ensures.lawful in
-    let kept = c.filter-kept.result in
-    let bits = g.W.Word.bits in
+    let r = c.requires in let lawful = c.line.ensures.lawful in
+    let kept = c.filter-kept.result in let bits = g.W.Word.bits in
     let w = any_below-some (has_bit (bits c.but.result)) g.W.Word.room (sym c.is_some.ensures ∙ c.if-is_some.true) in
     let parts = and_parts (ltb w.0 c.line_len-count.result) (not (has_bit (bits c.either.result) w.0)) (rw (c.all.ensures w.0) at (sym (c.but.ensures w.0) ∙ w.2)) in
-    let none = or_parts (has_bit (bits kept.white) w.0) (has_bit (bits kept.black) w.0) (sym (c.either.ensures w.0) ∙ not-true _ parts.1) in
-    kept-dead c.args.rules.now.pattern c.args.planes.now c.args.line r.size r.line_in (wide-in g.W.Word.room c.args.planes.now lawful r.size)
-    (cells-in g.W.Word.room c.args.planes.now lawful r.size) c.line.ensures.cells c.line-2.ensures.cells (decided g at) w.0
-    (rw (count g at) at (ltb-true w.0 c.line_len-count.result parts.0)) none.0 none.1
+    let none = or_parts _ _ (sym (c.either.ensures w.0) ∙ not-true _ parts.1) in
+    kept-dead c.args.rules.now.pattern c.args.planes.now c.args.line r.size r.line_in (wide-in lawful r.size)
+    (cells-in lawful r.size) c.line.ensures.cells c.line-2.ensures.cells (decided g at) w.0
+    (rw (count g at) at (ltb-true _ _ parts.0)) none.0 none.1
 
 pub returns-clause-visited : goal.returns-clause-visited
 returns-clause-visited g c =
-    let at = (goal.at.returns-clause-visited g c).After-filter-kept in
-    let r = c.requires in
-    let pat = c.args.rules.now.pattern in
-    let p = c.args.planes.now in
-    let line = c.args.line in
-    let lawful = c.line.ensures.lawful in
-    let kept = c.filter-kept.result in
-    let bits = g.W.Word.bits in
-    let d = decided g at in
-    let wide = wide-in g.W.Word.room p lawful r.size in
-    let cells = cells-in g.W.Word.room p lawful r.size in
-    let inside = line-within g.W.Word.room p line lawful r.size in
+    let at = (goal.at.returns-clause-visited g c).After-filter-kept in let r = c.requires in
+    let pat = c.args.rules.now.pattern in let p = c.args.planes.now in
+    let line = c.args.line in let lawful = c.line.ensures.lawful in
+    let kept = c.filter-kept.result in let bits = g.W.Word.bits in
+    let d = decided g at in let wide = wide-in lawful r.size in
+    let cells = cells-in lawful r.size in let inside = line-within line lawful r.size in
     let white = λ (k : ℕ). c.but-white.ensures k ∙ ap (λ b. b && not (has_bit (bits kept.white) k)) (c.line.ensures.cells k) in
     let black = λ (k : ℕ). c.but-black.ensures k ∙ ap (λ b. b && not (has_bit (bits kept.black) k)) (c.line-2.ensures.cells k) in
-    let lw = bits c.but-white.result in
-    let lb = bits c.but-black.result in
+    let lw = bits c.but-white.result in let lb = bits c.but-black.result in
     let left = both-taken p c.take.new.self c.take-2.new.self _ _ r.size c.take.ensures.further.same_size c.take.ensures.left c.take-2.ensures.left in
     let whole : (k : ℕ) → k < line_len pat.size line → (has_bit (bits kept.white) k || has_bit (bits kept.black) k) ≡ true = λ k less.
     let off = any_below-none (has_bit (bits c.but.result)) g.W.Word.room (sym c.is_some.ensures ∙ c.if-is_some.false) k (omega (arith, less, rw r.size at c.line.ensures.fits)) in

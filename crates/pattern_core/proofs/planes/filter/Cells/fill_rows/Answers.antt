@@ -1,13 +1,11 @@
-use Rattle.pattern_core.proofs.Common.{AreRows, along, arith, refl, subst, sym, ◌+◌, ◌-◌, ◌∙◌, ◌≡◌, slots_of}
-use Rattle.pattern_core.specs.LinePlanes.{sets_by}
+use Rattle.pattern_core.proofs.Common.{AreRows, along, arith, refl, sets_by, slots_of, subst, sym, ◌+◌, ◌-◌, ◌∙◌, ◌≡◌}
 use Rattle.pattern_core.proofs.LineWords.{length-sets, sets-at}
 use Rattle.pattern_core.proofs.TableSteps.{last_row, one_row}
 use Rattle.pattern_core.proofs.planes.filter.Cells.fill_rows.Goals as goal
 
 pub loop-at-init : goal.loop-at-init
 loop-at-init g c =
-    let white = g.W.Word.bits c.args.self.white in
-    let black = g.W.Word.bits c.args.self.black in
+    let white = g.W.Word.bits c.args.self.white in let black = g.W.Word.bits c.args.self.black in
     let long = length-sets white black c.args.count in (
       omega arith,
       rw long at (last_row (slots_of g.P.Word.bits) (along (slots_of g.P.Word.bits) c.args.moves.now.steps) (sets_by white black c.args.count) c.args.rows.now c.args.moves.now.steps.ends (λ p. refl)
@@ -16,12 +14,9 @@ loop-at-init g c =
 
 pub loop-at-preserved : goal.loop-at-preserved
 loop-at-preserved g c =
-    let white = g.W.Word.bits c.args.self.white in
-    let black = g.W.Word.bits c.args.self.black in
-    let sets = sets_by white black c.args.count in
-    let pos = c.loop-at-test.true in
-    let low = c.loop-at.invariant.0 in
-    let next : c.loop-at.at ≡ c.loop-at.at - 1 + 1 = omega arith in
+    let white = g.W.Word.bits c.args.self.white in let black = g.W.Word.bits c.args.self.black in
+    let sets = sets_by white black c.args.count in let pos = c.loop-at-test.true in
+    let low = c.loop-at.invariant.0 in let next : c.loop-at.at ≡ c.loop-at.at - 1 + 1 = omega arith in
     let t = along (slots_of g.P.Word.bits) c.args.moves.now.steps in
     let set = c.set.ensures ∙ sym (sets-at white black c.args.count (c.loop-at.at - 1) (omega arith)) in (
       omega arith,

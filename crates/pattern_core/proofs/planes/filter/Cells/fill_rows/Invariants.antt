@@ -1,5 +1,4 @@
-use Rattle.pattern_core.proofs.Common.{AreRows, along, ◌≤◌, slots_of}
-use Rattle.pattern_core.specs.LinePlanes.{sets_by}
+use Rattle.pattern_core.proofs.Common.{AreRows, along, sets_by, slots_of, ◌≤◌}
 use Rattle.pattern_core.proofs.planes.filter.Cells.fill_rows.Given as goal
 
 abbrev pub invariant-loop-at : goal.invariant-loop-at

@@ -2,4 +2,4 @@ use Rattle.pattern_core.proofs.LineWords.{shown-decided}
 use Rattle.pattern_core.proofs.planes.filter.Cells.filter_by.Goals as goal
 
 pub returns : goal.returns
-returns g c = shown-decided c.args.clue.now _ c.args.count _ _ _ _ c.moves_of-moves.ensures.track c.moves_of-moves.ensures.positive c.keep.ensures
+returns g c = shown-decided c.args.clue.now c.moves_of-moves.ensures.track c.moves_of-moves.ensures.positive c.keep.ensures

@@ -1,5 +1,4 @@
-use Rattle.pattern_core.proofs.Common.{along, and_parts, any_below-same, ap, arith, led, length, sym, ◌&&◌, ◌<◌, ◌∙◌, slots_of}
-use Rattle.pattern_core.specs.LinePlanes.{sets_by}
+use Rattle.pattern_core.proofs.Common.{along, and_parts, any_below-same, ap, arith, led, length, sets_by, slots_of, sym, ◌&&◌, ◌<◌, ◌∙◌}
 use Rattle.pattern_core.proofs.LineWords.{both-ways, length-sets, sets-are, sets-at, shown-more, shown-none}
 use Rattle.pattern_core.proofs.TableSteps.{leads_black, leads_white, reached_first, reached_next, row_next, shown_at}
 use Rattle.pattern_core.proofs.planes.filter.Cells.keep.Goals as goal
@@ -13,18 +12,12 @@ loop-at-init g c = (
 
 pub loop-at-preserved : goal.loop-at-preserved
 loop-at-preserved g c =
-    let has = slots_of g.P.Word.bits in
-    let bits = g.W.Word.bits in
-    let room = g.P.Word.room in
-    let t = along has c.args.moves.now.steps in
-    let white = bits c.args.self.white in
-    let black = bits c.args.self.black in
-    let sets = sets_by white black c.args.count in
-    let at = c.loop-at.at in
-    let ways = c.ways_of-ways.result in
-    let row = c.index-rows-at.result in
-    let i = c.loop-at.invariant in
-    let long = length-sets white black c.args.count in
+    let has = slots_of g.P.Word.bits in let bits = g.W.Word.bits in
+    let room = g.P.Word.room in let t = along has c.args.moves.now.steps in
+    let white = bits c.args.self.white in let black = bits c.args.self.black in
+    let sets = sets_by white black c.args.count in let at = c.loop-at.at in
+    let ways = c.ways_of-ways.result in let row = c.index-rows-at.result in
+    let i = c.loop-at.invariant in let long = length-sets white black c.args.count in
     let lt : at < length sets = omega (arith, c.loop-at-test.true, long) in
     let read = sets-are white black c.args.count in
     let after = row_next has t sets c.args.rows.now 0 at row c.requires.rows (omega arith) lt c.index-rows-at.is in
@@ -33,9 +26,9 @@ loop-at-preserved g c =
     ∙ leads_white room t sets (has c.loop-at.reached) at i.2 lt (has row) after (has ways.white) below c.ways_of-ways.ensures.white in
     let is_black = c.is_some-in-loop-at.ensures ∙ any_below-same _ (λ p. has ways.black p && has row p) room (λ p low. c.both-in-loop-at.ensures p)
     ∙ leads_black room t sets (has c.loop-at.reached) at i.2 lt (has row) after (has ways.black) below c.ways_of-ways.ensures.black in (
-      shown-more _ _ white _ c.is_some.result at i.0 c.with_if-white.ensures (both-ways _ _ _ _ is_white (sym (read.white_is at lt))
+      shown-more _ _ white _ c.is_some.result at i.0 c.with_if-white.ensures (both-ways is_white (sym (read.white_is at lt))
           ∙ sym (shown_at room t sets (has c.loop-at.reached) at i.2 lt (has row) after 0 (omega arith))),
-      shown-more _ _ black _ c.is_some-in-loop-at.result at i.1 c.with_if-black.ensures (both-ways _ _ _ _ is_black (sym (read.black_is at lt))
+      shown-more _ _ black _ c.is_some-in-loop-at.result at i.1 c.with_if-black.ensures (both-ways is_black (sym (read.black_is at lt))
           ∙ sym (shown_at room t sets (has c.loop-at.reached) at i.2 lt (has row) after 1 (omega arith))),
       reached_next room t sets (has c.loop-at.reached) (has c.led_by-reached.result) at below lt
           (λ p low. c.led_by-reached.ensures p low ∙ ap (λ s. led t s (has c.loop-at.reached) p) (c.set.ensures ∙ sym (sets-at white black c.args.count at c.loop-at-test.true))) i.2,
