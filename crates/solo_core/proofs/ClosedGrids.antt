@@ -1,12 +1,8 @@
 -- A grid inside the start from which no house strikes anything is a solution.
-use Rattle.std.proofs.Common.{◌≡◌, ℕ, ◌<◌, true, List, length, get_or, slice_index, arith}
+use Rattle.solo_core.proofs.Common.{IsSolo, List, NamedHouse, Solo, all_below-from, all_houses, and_from, and_parts, arith, by_fillings-met, get_or, get_or-map, given_stands, house_by, houses_of, houses_rules, is_solo_solution, length, listed-different, listed-within, lists_house, no_house, no_repeat, numbers_of, places_of, slice_index, solo_cells, solo_n, some_numbers, start, strikes_by_fillings, true, ℕ, ◌<◌, ◌≡◌}
 use Rattle.grid_core.proofs.GridLemmas.{single-at}
 use Rattle.engine_core.specs.Every.{each_test}
-use Rattle.engine_core.specs.HouseSetsLaws.{by_fillings-met}
 use Rattle.engine_core.specs.RuleSystem.{IsClosedGrid}
-use Rattle.solo_core.specs.Common.{all_below-from, and_from, and_parts, get_or-map, given_stands, houses_of, is_solo_solution, IsSolo, NamedHouse, no_house, no_repeat, numbers_of, places_of, Solo, solo_cells, solo_n, strikes_by_fillings}
-use Rattle.solo_core.specs.HouseLaws.{all_houses, listed-different, listed-within, lists_house, some_numbers}
-use Rattle.solo_core.specs.RuleSets.{house_by, houses_rules, start}
 use Rattle.solo_core.proofs.DecidingLemmas.{length-deciding}
 
 module _ (p : Solo) (ok : IsSolo p) {g : List ℕ} (grid : IsClosedGrid (houses_rules p) g) where

@@ -1,15 +1,6 @@
 -- Houses that decide alike.
-use Rattle.std.proofs.lemmas.Grind.{common_steps}
-use Rattle.std.proofs.Common.{◌≡◌, ℕ, ◌<◌, List, [], map, length, get_or, refl, sym, ap, ◌∙◌, arith, ◌++◌, All, Bool, true, false}
-use Rattle.std.proofs.lemmas.Bool.{true≢false}
-use Rattle.std.proofs.lemmas.Simd.{map-map}
-use Rattle.engine_core.specs.HouseList.{Listed}
-use Rattle.engine_core.specs.HouseSetsLaws.{kept-decided}
+use Rattle.solo_core.proofs.Common.{All, Bool, Candidates, Decision, House, IsDecided, IsSolo, IsSound, List, Listed, Row, Solo, [], all_houses, all_places, ap, arith, common_steps, crossings_of, deciding, false, filled_houses, get_or, get_or-map, house_by, house_of, houses_of, kept-decided, length, length-map, lists_house, map, map-append, map-map, no_house, places_of, refl, rules_of, setting_of, solo_n, sym, true, true≢false, ℕ, ◌++◌, ◌<◌, ◌∙◌, ◌≡◌}
 use Rattle.engine_core.specs.Keeping.{AreSetsOf, IsKept}
-use Rattle.engine_core.specs.ListedHouses.{all_places}
-use Rattle.solo_core.specs.Common.{Candidates, get_or-map, length-map, map-append, Solo, IsSolo, solo_n, Decision, IsDecided, House, house_of, no_house, IsSound, Row, houses_of, places_of}
-use Rattle.solo_core.specs.HouseLaws.{lists_house, all_houses}
-use Rattle.solo_core.specs.RuleSets.{deciding, house_by, filled_houses, setting_of, rules_of, crossings_of}
 
 pub length-deciding : (decides : Decision) (p : Solo) → length (deciding decides p) ≡ length (houses_of p)
 length-deciding decides p = length-map _ (house_by decides p)

@@ -1,14 +1,6 @@
 -- Houses and crossings by their numbers, and lists of their places.
-use Rattle.std.proofs.lemmas.Grind.{common_steps}
-use Rattle.std.proofs.Common.{◌≡◌, ℕ, zero, suc, ◌+◌, ◌-◌, ◌<◌, ◌≤◌, Bool, true, false, List, [], ◌∷◌, ◌++◌, map, length, get_or, take, if◌then◌else◌, refl, sym, ap, ◌∙◌, arith, append-nil, append_assoc, ◌*◌, length-append}
-use Rattle.solo_core.specs.Common.{range_with_len, get_or_append_left, get_or-append_right, get_or-map, length-map, take_more, map-append, get_or-map-range_with_len, length-map-range_with_len, Solo, solo_n, NamedHouse, Diagonal, houses_of, House, house_of, no_house}
-use Rattle.std.proofs.Math.Seq.{take-length}
-use Rattle.engine_core.specs.HouseList.{Listed}
-use Rattle.solo_core.specs.BoundLaws.{house_count, count_x, count_plain}
-use Rattle.std.proofs.lemmas.Simd.{map-map}
+use Rattle.solo_core.proofs.Common.{Bool, Diagonal, House, List, Listed, NamedHouse, Solo, [], ap, append-nil, append_assoc, arith, common_steps, count_plain, count_x, crossing_scopes, crossings_of, false, filled_houses, get_or, get_or-append_right, get_or-map, get_or-map-range_with_len, get_or_append_left, house_at, house_count, house_of, houses_of, if◌then◌else◌, length, length-append, length-map, length-map-range_with_len, map, map-append, map-map, no_house, range_with_len, refl, scopes_of, solo_n, suc, sym, take, take-length, take_more, true, zero, ℕ, ◌*◌, ◌++◌, ◌+◌, ◌-◌, ◌<◌, ◌∙◌, ◌∷◌, ◌≡◌, ◌≤◌}
 use Rattle.solo_core.specs.declared.houses.scope.VisitName.{VisitName}
-use Rattle.solo_core.specs.RuleSets.{filled_houses, crossings_of, house_at}
-use Rattle.solo_core.specs.Scopes.{crossing_scopes, scopes_of}
 use Rattle.solo_core.proofs.DecidingLemmas.{length-deciding}
 use Rattle.solo_core.specs.declared.houses.scope.VisitName.TheVariants as scope
 

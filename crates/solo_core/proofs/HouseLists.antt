@@ -1,13 +1,6 @@
 -- The places of the houses, as they are listed one after another.
-use Rattle.std.proofs.Common.{◌≡◌, ℕ, zero, suc, ◌+◌, ◌-◌, ◌*◌, ◌/◌, ◌%◌, ◌<◌, ◌≤◌, true, if◌then◌else◌, List, [], ◌∷◌, ◌++◌, map, length, get_or, take, refl, sym, ap, ◌∙◌, inl, inr, add-zero, arith, mul-le-mul_right, append-nil, append_assoc}
-use Rattle.std.proofs.lemmas.List.{ext_get_or}
-use Rattle.std.proofs.Math.Seq.{take-length}
+use Rattle.solo_core.proofs.Common.{Block, Column, Diagonal, FitsPlaces, IsSolo, List, Listed, NamedHouse, Row, Solo, [], add-zero, ap, append-nil, append_assoc, arith, block-within, cases_Bool, count_plain, count_x, div-mul-add, ext_get_or, get_or, get_or-map, get_or-map-range_with_len, house_count, house_places, houses_of, if◌then◌else◌, inl, inr, length, length-map, length-map-range_with_len, map, map-range_with_len_more, mod-mul-add, mul-le, mul-le-mul_right, places_of, range_with_len, refl, solo_n, strided, suc, sym, take, take-length, take_more, true, zero, ℕ, ◌%◌, ◌*◌, ◌++◌, ◌+◌, ◌-◌, ◌/◌, ◌<◌, ◌∙◌, ◌∷◌, ◌≡◌, ◌≤◌}
 use Rattle.grid_core.specs.Regions.{block_places}
-use Rattle.grid_core.proofs.RegionLemmas.{block-within}
-use Rattle.engine_core.specs.HouseList.{FitsPlaces, Listed}
-use Rattle.solo_core.specs.Common.{range_with_len, get_or-map-range_with_len, length-map-range_with_len, map-range_with_len_more, take_more, div-mul-add, mod-mul-add, mul-le, get_or-map, length-map, cases_Bool, Solo, IsSolo, solo_n, NamedHouse, Row, Column, Block, Diagonal, houses_of, house_places, places_of}
-use Rattle.solo_core.specs.Work.{strided}
-use Rattle.solo_core.specs.BoundLaws.{house_count, count_x, count_plain}
 use Rattle.solo_core.proofs.HouseLemmas.{part_first, part_later}
 
 -- ---- the values of a function

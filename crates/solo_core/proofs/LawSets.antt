@@ -1,15 +1,10 @@
 -- The lemmas by which the functions of a file are proved.
-use Rattle.std.proofs.Common.{append-nil}
-use Rattle.solo_core.specs.Common.{both-bits, either-bits, length-map-range_with_len, zero-bits}
-use Rattle.solo_core.specs.SolutionLaws.{test_from_rule, rule_from_test}
+use Rattle.solo_core.proofs.Common.{append-nil, both-bits, bound_is, column_in, crossings_lawful, crossings_rules-bound, either-bits, house_count, houses_lawful, length-map-range_with_len, listed-has, listed-same, lists_house, row_in, rule_from_test, singles_lawful, test_from_rule, zero-bits}
 use Rattle.solo_core.proofs.RepeatLemmas.{given_first, len_of, number_at, seen_none, seen_more, seen_again, seen_all, fine_more, solo_tells}
 use Rattle.solo_core.proofs.HouseLemmas.{listed-none, listed-all, crossings-length, scopes-length, first_at, crossings-counted, house-named, scope-named, first-at, second-at, crossing-after, all-length, filled-length}
 use Rattle.solo_core.proofs.HouseLists.{line-low, line-more}
-use Rattle.solo_core.specs.HouseLaws.{lists_house, listed-has, listed-same, row_in, column_in}
 use Rattle.solo_core.proofs.CrossingLemmas.{any-more, any-none, cut_by, crossing-is, crossings-listed, rest-out, rest-in, rest-all, shared-below, shared-above}
-use Rattle.solo_core.specs.BoundLaws.{house_count, bound_is, crossings_rules-bound}
 use Rattle.solo_core.proofs.SinglesLemmas.{singles_in_houses}
-use Rattle.solo_core.specs.RuleLaws.{houses_lawful, singles_lawful, crossings_lawful}
 use Rattle.solo_core.proofs.DecidingLemmas.{length-deciding, decides-at, kept-houses, long-at, listed-crossings, listed-deciding}
 use Rattle.solo_core.proofs.PeelLemmas.{lone-counts, counts-none, counts-more, peeled-step, counts-same, peeled-none, peeled-more, rest-peeled, settled-peeled}
 use Rattle.solo_core.proofs.QuickLemmas.{goes_on_free, begun-none, goes_on_swapped}

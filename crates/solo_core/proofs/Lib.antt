@@ -1,3 +1,4 @@
+pub mod Common
 pub mod Marks
 pub mod WayLemmas
 pub mod Turned

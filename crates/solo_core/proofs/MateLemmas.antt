@@ -1,15 +1,7 @@
 -- A pairing of the cells with values is a filling without repeat, and a short set rules out every one. The values of the cells that
 -- are alone and a pairing of the rest make a pairing of the house.
-use Rattle.std.proofs.lemmas.Grind.{common_steps}
-use Rattle.std.proofs.Common.{◌≡◌, ℕ, ◌<◌, ◌≤◌, true, false, true≢false, List, [], length, get_or, slice_index, take, map, refl, sym, ◌∙◌, ap, arith, inl, inr, zero, suc, ◌+◌, ◌⊎◌, Bool, not, eqb, ◌∷◌, ◌++◌, cond, append-nil}
-use Rattle.solo_core.specs.Common.{range_with_len, cases_lt, true_from_ne_false, get_or-map, length-map, get_or_past, get_or-map-range_with_len, length-map-range_with_len, has_value, IsShownBy, has_bit, set_of_bits, no_repeat, has_in, is_struck, cases_Bool, cases_eq, eq-eqb, eqb-true, false_from_ne_true, not-true, not_from_false, map-id, filter_of_map_range_with_len_more, length-range_with_len, get_or-range_with_len, AreDifferent, has_place-at, has_place-here, place-filter, place-kept, different-filter, has_place, nat_tests}
+use Rattle.solo_core.proofs.Common.{AreDifferent, Bool, IsOutside, IsPaired, IsRest, IsShort, IsShownBy, KeepsFillings, List, PairsCells, [], ap, append-nil, arith, cases_Bool, cases_eq, cases_lt, common_steps, cond, different-filter, eq-eqb, eqb, eqb-true, false, false_from_ne_true, filter_of_map_range_with_len_more, get_or, get_or-map, get_or-map-range_with_len, get_or-range_with_len, get_or_past, has_bit, has_in, has_place, has_place-at, has_place-here, has_value, inl, inr, is_struck, length, length-map, length-map-range_with_len, length-range_with_len, map, map-id, nat_tests, no_choice, no_repeat, no_repeat_from_different, not, not-true, not_from_false, own_from_no_repeat, place-filter, place-kept, range_with_len, refl, rest_of, set, set_of_bits, shown_from_test, slice_index, suc, sym, take, take-set, take_more_set, test_from_shown, true, true_from_ne_false, true≢false, zero, ℕ, ◌++◌, ◌+◌, ◌<◌, ◌∙◌, ◌∷◌, ◌≡◌, ◌≤◌, ◌⊎◌}
 use mir.Val.{bool_byte}
-use Rattle.std.proofs.lemmas.List.{take-set, take_more_set}
-use Rattle.std.proofs.Math.ListN.{set}
-use Rattle.engine_core.specs.FillingLaws.{shown_from_test, test_from_shown}
-use Rattle.solo_core.specs.NoRepeatLaws.{own_from_no_repeat, no_repeat_from_different}
-use Rattle.grid_core.proofs.ShortSets.{no_choice}
-use Rattle.solo_core.specs.Peeled.{IsOutside, IsPaired, IsRest, IsShort, KeepsFillings, PairsCells, rest_of}
 
 -- a set of bits has the values below n whose bit is set
 pub has_set_of_bits : {n : ℕ} (bits : ℕ) {v : ℕ} → v < n → has_value (set_of_bits n bits) v ≡ has_bit bits v

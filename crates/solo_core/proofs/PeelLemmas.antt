@@ -1,13 +1,7 @@
 -- Striking the value of a cell that has one alone from the other cells takes no filling away.
-use Rattle.std.proofs.lemmas.Grind.{common_steps}
-use Rattle.std.proofs.Common.{◌≡◌, ℕ, ◌<◌, ◌≤◌, ◌⊎◌, true, false, not, ◌&&◌, ◌||◌, ◌^◌, bit_and, ltb, List, map, length, slice_index, refl, sym, ap, ◌∙◌, inl, inr, arith}
-use Rattle.solo_core.specs.Common.{cases_eq, eq-eqb, eqb-true, ne_eqb, true≢false, false_from_ne_true, true_from_ne_false, nat_tests, has_bit, set_of_bits, zero-bits, both-bits, has_in, is_struck, no_repeat}
-use Rattle.engine_core.specs.FillingLaws.{shown_from_test}
-use Rattle.solo_core.specs.Peeled.{AreAllCounts, AreValueCounts, AreLone, AreSettled, IsAlone, IsDropped, IsOutside, IsPeeled, IsRest, IsSingleSet, KeepsFillings, KeepsOthers, PairsCells, meets, rest_of}
+use Rattle.solo_core.proofs.Common.{AreAllCounts, AreLone, AreSettled, AreValueCounts, IsAlone, IsDropped, IsOutside, IsPeeled, IsRest, IsSingleSet, KeepsFillings, KeepsOthers, List, PairsCells, and_le_r, ap, arith, bit_and, both-bits, cases_eq, common_steps, eq-eqb, eqb-true, false, false_from_ne_true, has_bit, has_in, inl, inr, is_struck, length, ltb, map, meets, nat_tests, ne_eqb, no_repeat, none_missed, not, refl, rest_of, set_of_bits, shown_from_test, slice_index, sym, true, true_from_ne_false, true≢false, zero-bits, ℕ, ◌&&◌, ◌<◌, ◌^◌, ◌||◌, ◌∙◌, ◌≡◌, ◌≤◌, ◌⊎◌}
 use Rattle.solo_core.proofs.MateLemmas.{pairing_of_filling, rest-apart, rest-has, rest-in, rest-within, shown_by_pairing}
-use Rattle.solo_core.specs.NoRepeatLaws.{none_missed}
 use Rattle.solo_core.proofs.Marks.{none_in_zero, some_set}
-use Rattle.std.proofs.lemmas.Nat.{and_le_r}
 
 -- ---- what is peeled
 -- a pairing is one of other sets where they have its values too

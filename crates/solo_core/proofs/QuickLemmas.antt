@@ -1,8 +1,5 @@
 -- A pairing goes on by a cell with a free value, or with the value of another cell that has a free one.
-use Rattle.std.proofs.lemmas.Grind.{common_steps}
-use Rattle.std.proofs.Common.{◌≡◌, ℕ, ◌+◌, ◌<◌, true, false, true≢false, eqb, cond, List, slice_index, sym, ap, ◌∙◌, arith}
-use Rattle.solo_core.specs.Common.{false_from_ne_true, nat_tests, has_bit, has_in}
-use Rattle.solo_core.specs.Quick.{IsBegun, GoesOn}
+use Rattle.solo_core.proofs.Common.{GoesOn, IsBegun, List, ap, arith, common_steps, cond, eqb, false, false_from_ne_true, has_bit, has_in, nat_tests, slice_index, sym, true, true≢false, ℕ, ◌+◌, ◌<◌, ◌∙◌, ◌≡◌}
 
 module _ (n : ℕ) (sets rest : List ℕ) where
   pub begun-none : {mate : ℕ → ℕ} {free : ℕ} → IsBegun n sets rest 0 mate free

@@ -1,14 +1,6 @@
 -- What a house that holds a number twice says of the grid, and what a house that does not rules out.
-use Rattle.std.proofs.lemmas.Grind.{common_steps}
-use Rattle.std.proofs.Common.{◌≡◌, ℕ, suc, ◌+◌, ◌<◌, ◌≤◌, true, false, not, ◌||◌, eqb, List, [], ◌∷◌, length, get_or, slice_index, Bool, Option, None, Some, is_some, refl, subst, ◌++◌, sym, ap, ◌∙◌, inl, inr, arith}
-use Rattle.solo_core.specs.Common.{list_any, cases_eq, and_cases, or_cases, eqb-true, true≢false, not-false, false_from_ne_true, nat_tests, get_or-map, length-map, get_or_default, has_bit, zero-bits, IsGrid, Solo, IsSolo, solo_n, NamedHouse, Row, Column, Block, Diagonal, solo_cells, houses_of, IsHouseOf, places_of, numbers_of, IsSoloSolution, given_stands, is_solo_solution, no_repeat}
-use Rattle.grid_core.proofs.ShortSets.{contains_from_member}
+use Rattle.solo_core.proofs.Common.{Block, Bool, Column, Diagonal, FailsSolo, Given, IsGrid, IsHouseOf, IsSolo, IsSoloFault, IsSoloSolution, List, NamedHouse, None, Option, Repeats, Row, Solo, Some, [], all_houses, and_cases, ap, arith, cases_eq, common_steps, contains_from_member, differ_in, different_from_no_repeat, each_house, eqb, eqb-true, false, false_from_ne_true, fault_of, get_or, get_or-map, get_or_default, given_from_test, given_stands, given_tests, has_bit, house_tests, houses_of, inl, inr, is_solo_solution, is_some, length, length-map, list_any, lists_house, nat_tests, no_repeat, no_repeat_from_different, not, not-false, numbers_of, or_cases, places_of, refl, rule_from_test, slice_index, solo_cells, solo_n, subst, suc, sym, test_from_rule, true, true≢false, zero-bits, ℕ, ◌++◌, ◌+◌, ◌<◌, ◌||◌, ◌∙◌, ◌∷◌, ◌≡◌, ◌≤◌}
 use Rattle.solo_core.specs.declared.fault.SoloFault.{SoloFault}
-use Rattle.solo_core.specs.declared.fault.SoloFault.TheVariants.{Given}
-use Rattle.solo_core.specs.SolutionLaws.{differ_in, given_from_test, rule_from_test, test_from_rule}
-use Rattle.solo_core.specs.HouseLaws.{lists_house, all_houses, each_house}
-use Rattle.solo_core.specs.NoRepeatLaws.{different_from_no_repeat, no_repeat_from_different}
-use Rattle.solo_core.specs.Faults.{FailsSolo, IsSoloFault, Repeats, fault_of, given_tests, house_tests}
 use Rattle.std.specs.List.{AllByRecursion}
 use Rattle.std.proofs.lemmas.List.Elements.{All-map, recursion_from_All}
 use Rattle.gameid_core.specs.FirstFailed.{IsFirstFailed, IsFirstOf, NoneFails}

@@ -1,9 +1,5 @@
 -- A house of which the rest is paired: the mate of each cell of the rest leads to the cell's values, and no other value leads on.
-use Rattle.std.proofs.Common.{◌≡◌, ℕ, ◌<◌, ◌⊎◌, ◌&&◌, true, false, true≢false, List, length, length-take, replicate, slice_index, take, sym, ap, ◌∙◌, inl, inr, arith}
-use Rattle.std.proofs.lemmas.List.{get_or-replicate, get_or-take}
-use Rattle.solo_core.specs.Common.{cases_lt, false_from_ne_true, get_or_past, has_bit, has_in}
-use Rattle.solo_core.specs.Peeled.{AreLone, IsOutside, IsPaired, IsRest, KeepsFillings, KeepsOthers, KeepsReaching, LeadByMates, PairsCells, meets}
-use Rattle.solo_core.specs.Ways.{IsTransitiveClosure, LiesOnRounds}
+use Rattle.solo_core.proofs.Common.{AreLone, IsOutside, IsPaired, IsRest, IsTransitiveClosure, KeepsFillings, KeepsOthers, KeepsReaching, LeadByMates, LiesOnRounds, List, PairsCells, ap, arith, cases_lt, false, false_from_ne_true, get_or-replicate, get_or-take, get_or_past, has_bit, has_in, inl, inr, length, length-take, meets, replicate, slice_index, sym, take, true, true≢false, ℕ, ◌&&◌, ◌<◌, ◌∙◌, ◌≡◌, ◌⊎◌}
 use Rattle.solo_core.proofs.Marks.{none_in_zero}
 use Rattle.solo_core.proofs.MateLemmas.{house_mates, house_pairing, in_or_out, mates-alone, mates-rest}
 use Rattle.solo_core.proofs.PeelLemmas.{meets-here}

@@ -1,9 +1,7 @@
 -- A house in which each cell that is not alone has all values but those of the cells that are: each value of a cell is in a
 -- filling. First each cell has its own number. Then one cell after another that is alone gets its value, from the cell that has
 -- it, which takes the other's in turn. At last the cell gets the value.
-use Rattle.std.proofs.Common.{◌≡◌, ℕ, zero, suc, ◌<◌, ◌≤◌, true, false, true≢false, eqb, cond, Bool, List, length, map, slice_index, sym, ◌∙◌, ap, arith, inl, inr}
-use Rattle.solo_core.specs.Common.{cases_Bool, cases_eq, nat_tests, range_with_len, get_or-map-range_with_len, length-map-range_with_len, has_bit, has_in, is_struck}
-use Rattle.solo_core.specs.Peeled.{AreAlone, AreLone, AreWhole, KeepsFillings, PairsCells, meets}
+use Rattle.solo_core.proofs.Common.{AreAlone, AreLone, AreWhole, Bool, KeepsFillings, List, PairsCells, ap, arith, cases_Bool, cases_eq, cond, eqb, false, get_or-map-range_with_len, has_bit, has_in, inl, inr, is_struck, length, length-map-range_with_len, map, meets, nat_tests, range_with_len, slice_index, suc, sym, true, true≢false, zero, ℕ, ◌<◌, ◌∙◌, ◌≡◌, ◌≤◌}
 use Rattle.solo_core.proofs.MateLemmas.{decided_by_all, last, last-below, last-passes, shown_by_pairing}
 
 -- ---- numbers in another order

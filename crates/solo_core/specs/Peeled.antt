@@ -1,6 +1,6 @@
 -- What may be struck from a house before its cells are paired with values: the value of a cell that has one alone, from
 -- the other cells; and the other values of a cell that is the only one with some value.
-use Rattle.std.specs.Prelude.{◌≡◌, ℕ, ◌<◌, ◌≤◌, ◌&&◌, ◌||◌, ◌==◌, ◌⊎◌, bit_and, Bool, true, false, not, List, length, slice_index}
+use Rattle.std.specs.Prelude.{◌≡◌, ℕ, ◌<◌, ◌≤◌, ◌&&◌, ◌||◌, ◌==◌, ◌⊎◌, bit_and, Bool, true, false, not, nat_lt, List, length, slice_index}
 use Rattle.solo_core.specs.Common.{range_with_len, filter, AreDifferent, IsPairing, IsShortSet, has_bit, has_in, strikes_by_fillings, IsDecided, no_repeat}
 
 -- each cell has a value of its own, which its set has
@@ -103,6 +103,10 @@ pub record AreValueCounts (sets : List ℕ) (cells : ℕ → Type 0) (some singl
       → (k : ℕ) × cells k × IsSingleSet (slice_index sets k) v
   pub shares : (j k v : ℕ) → cells j → cells k → (j ≡ k → ⊥) → has_in sets j v ≡ true
       → has_in sets k v ≡ true → has_bit shared v ≡ true
+
+-- whether some cell has the value alone, and no two have it
+abbrev pub is_lone : ℕ → ℕ → ℕ → ℕ → Bool
+is_lone n single shared v = has_bit single v && (nat_lt v n && not (has_bit shared v))
 
 -- of all cells; and of those outside the rest, none of which has a value of another
 abbrev pub AreAllCounts : List ℕ → ℕ → ℕ → ℕ → Type 0

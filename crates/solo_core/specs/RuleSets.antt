@@ -1,7 +1,7 @@
 -- The rule sets of Solo. They have the same start and the same solutions; singles and houses strike differently in the
 -- same houses, and crossings have further ones.
 use Rattle.std.specs.Prelude.{◌≡◌, ℕ, ◌<◌, ◌+◌, Bool, true, false, ◌&&◌, ◌||◌, ◌==◌, nat_lt, List, ◌++◌, map, slice_index, sum_by}
-use Rattle.solo_core.specs.Common.{Candidates, Solo, solo_n, RuleSystem, strikes_by_fillings, Decision, has_bit, House, Setting, by_houses, visits_of, NamedHouse, Block, solo_cells, houses_of, places_of, no_repeat, is_solo_solution}
+use Rattle.solo_core.specs.Common.{Candidates, Solo, solo_n, RuleSystem, strikes_by_fillings, Decision, has_bit, House, Setting, by_houses, house_of, visits_of, NamedHouse, Block, solo_cells, houses_of, places_of, no_repeat, is_solo_solution}
 use Rattle.solo_core.specs.declared.houses.scope.VisitName.{VisitName}
 use Rattle.solo_core.specs.declared.houses.scope.VisitName.TheVariants as scope
 use Rattle.solo_core.specs.Crossing.{crossing, outside, is_shared}
@@ -65,6 +65,10 @@ house_at p (scope.Crossing block line) = crossing_of p block line
 -- crossings strike too
 abbrev pub crossings_of : Solo → List House
 crossings_of p = map (house_at p) (crossing_scopes p)
+
+-- what the crossing with the number decides
+abbrev pub crossing_decides : Solo → ℕ → Decision
+crossing_decides p number = (house_of (crossings_of p) number).decides
 
 abbrev pub crossings_rules : Solo → RuleSystem
 crossings_rules p = rules_of true p (filled_houses p ++ crossings_of p)

@@ -7,25 +7,22 @@ ghost use Rattle.solo_core.specs.Meanings.{AcceptsSolutions, StrikesAsMuch, List
 ghost use Rattle.solo_core.specs.RuleSets.{houses_rules, singles_rules, crossings_rules};
 ghost use Rattle.solo_core.specs.Scopes.{scopes_of};
 
-use crate::rule_sets::{Crossings, Fillings, Singles, SoloCrossings, SoloHouses, SoloSingles};
-use engine_core::{HouseRules, Rules};
+use crate::rule_sets::{SoloCrossings, SoloHouses, SoloSingles};
+use engine_core::Rules;
 
 /// What the rules by singles mean: those of the puzzle that they keep.
 pub fn rules_of_singles(rules: &SoloSingles)
-    ensures { ⟦<HouseRules<Singles> as Rules>⟧.system rules.now
-        ≡ singles_rules rules.now.set.puzzle }
+    ensures { ⟦<SoloSingles as Rules>⟧.system rules.now ≡ singles_rules rules.now.set.puzzle }
 {}
 
 /// What the rules by fillings of houses mean.
 pub fn rules_of_houses(rules: &SoloHouses)
-    ensures { ⟦<HouseRules<Fillings> as Rules>⟧.system rules.now
-        ≡ houses_rules rules.now.set.puzzle }
+    ensures { ⟦<SoloHouses as Rules>⟧.system rules.now ≡ houses_rules rules.now.set.puzzle }
 {}
 
 /// What the rules by houses and crossings mean.
 pub fn rules_of_crossings(rules: &SoloCrossings)
-    ensures { ⟦<HouseRules<Crossings> as Rules>⟧.system rules.now
-        ≡ crossings_rules rules.now.set.puzzle }
+    ensures { ⟦<SoloCrossings as Rules>⟧.system rules.now ≡ crossings_rules rules.now.set.puzzle }
 {}
 
 /// The grids that the rules of each rule set accept are the solutions of the puzzle.

@@ -6,7 +6,7 @@ ghost use Rattle.engine_core.specs.HouseList.{FitsPlaces};
 ghost use Rattle.grid_core.specs.Candidates.{max_values};
 ghost use Rattle.grid_core.specs.Regions.{block_places};
 ghost use Rattle.solo_core.specs.Common.{IsSolo, house_places, solo_n};
-ghost use Rattle.solo_core.specs.Work.{Begins, HasBegun, strided};
+ghost use Rattle.solo_core.specs.Work.{Begins, HasBegun, closed_lists, strided};
 
 use crate::houses::places::houses;
 use engine_core::HouseList;
@@ -62,8 +62,7 @@ pub(crate) fn list_houses(
 ) -> Result<HouseList, AllocError>
     requires { more ≤ 16000 }
     ensures known { IsSolo puzzle.now }
-    ensures listed { IfOk result
-        (λ list. list ≡ record { closed = house_places puzzle.now; begun = [] }) }
+    ensures listed { IfOk result (λ list. list ≡ closed_lists (house_places puzzle.now)) }
 {
     let n = usize::from(puzzle.n());
     let count = houses(puzzle);

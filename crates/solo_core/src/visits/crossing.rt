@@ -3,9 +3,9 @@
 
 ghost use Rattle.std.specs.Prelude.{◌≡◌, ℕ, ◌<◌, ◌≤◌, ◌&&◌, ◌||◌, not, length};
 ghost use Rattle.grid_core.specs.Candidates.{max_values};
-ghost use Rattle.solo_core.specs.Common.{has_bit as is_set, house_of, solo_n, IsDecided, IsHouseOf};
+ghost use Rattle.solo_core.specs.Common.{has_bit as is_set, solo_n, IsDecided, IsHouseOf};
 ghost use Rattle.solo_core.specs.Crossing.{part_has, in_block_alone, in_line_alone, strikes_by_parts};
-ghost use Rattle.solo_core.specs.RuleSets.{crossings_of, AreShared};
+ghost use Rattle.solo_core.specs.RuleSets.{crossing_decides, crossings_of, AreShared};
 
 use crate::houses::house::NamedHouse;
 use crate::houses::places::{lies, place};
@@ -18,8 +18,7 @@ use gameid_core::SoloPuzzle;
 pub(crate) fn keep_crossed(puzzle: &SoloPuzzle, number: usize, sets: &[u32], kept: &mut [u32])
     requires number_in { number < length (crossings_of puzzle.now) }
     requires as_many { length kept.old ≡ length sets.now }
-    ensures { IsDecided (solo_n puzzle.now) (house_of (crossings_of puzzle.now) number).decides
-        sets.now kept.new }
+    ensures { IsDecided (solo_n puzzle.now) (crossing_decides puzzle.now number) sets.now kept.new }
 {
     let (block, line) = crossing_at(puzzle, number);
     keep_crossing(
@@ -49,8 +48,7 @@ fn shared(puzzle: &SoloPuzzle, block: usize, line: NamedHouse) -> u32
 pub(crate) fn keep_crossing(block: usize, shared: u32, sets: &[u32], kept: &mut [u32])
     requires few { block ≤ max_values }
     requires as_many { length kept.old ≡ length sets.now }
-    ensures { (values : ℕ)
-        → IsDecided values (strikes_by_parts block (is_set shared)) sets.now kept.new }
+    ensures { (n : ℕ) → IsDecided n (strikes_by_parts block (is_set shared)) sets.now kept.new }
 {
     let in_block = values_in_block(block, shared, sets);
     let in_line = values_in_line(block, sets);

@@ -1,10 +1,10 @@
 //! What a visit strikes before it pairs: by cells that have one value alone, and by values that one cell has alone.
 #![tactic(auto, using(crate::proofs::LawSets::peel_laws))]
 
-ghost use Rattle.std.specs.Prelude.{◌≡◌, ℕ, ◌≤◌, ◌&&◌, ◌||◌, nat_lt, not, true, length};
+ghost use Rattle.std.specs.Prelude.{◌≡◌, ℕ, ◌≤◌, ◌&&◌, ◌||◌, true, length};
 ghost use Rattle.grid_core.specs.Candidates.{max_values};
 ghost use Rattle.engine_core.specs.Sets.{has_bit as is_set};
-ghost use Rattle.solo_core.specs.Peeled.{IsPeeled, AreLone, AreWhole, AreAllCounts, AreSettled, IsRest, KeepsOthers, AddsSingle, AddsShared, AreDropped};
+ghost use Rattle.solo_core.specs.Peeled.{IsPeeled, AreLone, AreWhole, AreAllCounts, AreSettled, IsRest, KeepsOthers, AddsSingle, AddsShared, AreDropped, is_lone};
 
 use crate::visits::bits::others_below;
 
@@ -92,8 +92,7 @@ impl Counts {
     /// The values that a cell has alone and no other has.
     pub(crate) fn lone(self, values: u8) -> u32
         requires { values ≤ max_values }
-        ensures { (v : ℕ) → is_set result v
-            ≡ (is_set self.single v && (nat_lt v values && not (is_set self.shared v))) }
+        ensures { (v : ℕ) → is_set result v ≡ is_lone values self.single self.shared v }
     {
         self.single & others_below(values, self.shared)
     }

@@ -1,6 +1,4 @@
-use Rattle.std.proofs.Common.{None, Some, arith, rules, sym, ◌∙◌}
-use Rattle.solo_core.specs.Faults.{fault_of}
-use Rattle.solo_core.specs.declared.fault.SoloFault.TheVariants.{Given}
+use Rattle.solo_core.proofs.Common.{Given, None, Some, arith, fault_of, rules, sym, ◌∙◌}
 use Rattle.solo_core.proofs.RepeatLemmas.{broken_first, given_first, givens_stand, house_after, house_first, houses_differ}
 use Rattle.solo_core.proofs.check.check_solo.Goals as goal
 

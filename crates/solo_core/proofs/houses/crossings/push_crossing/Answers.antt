@@ -1,6 +1,4 @@
-use Rattle.std.proofs.Common.{arith}
-use Rattle.solo_core.specs.Common.{Block}
-use Rattle.solo_core.specs.HouseLaws.{lists_house}
+use Rattle.solo_core.proofs.Common.{Block, arith, lists_house}
 use Rattle.solo_core.proofs.houses.crossings.push_crossing.Goals as goal
 
 pub push_rest-requires-clause-fits : goal.push_rest-requires-clause-fits

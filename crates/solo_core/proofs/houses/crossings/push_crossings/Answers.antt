@@ -1,6 +1,4 @@
-use Rattle.std.proofs.Common.{arith}
-use Rattle.solo_core.specs.RuleSets.{crossings_of}
-use Rattle.engine_core.specs.ListedHouses.{all_places}
+use Rattle.solo_core.proofs.Common.{all_places, arith, crossings_of}
 use Rattle.solo_core.proofs.HouseLemmas.{listed-more}
 use Rattle.solo_core.proofs.CrossingLemmas.{crossing-listed, crossings-listed}
 use Rattle.solo_core.proofs.houses.crossings.push_crossings.Goals as goal

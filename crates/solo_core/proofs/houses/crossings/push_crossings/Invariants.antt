@@ -1,6 +1,4 @@
-use Rattle.std.proofs.Common.{◌≡◌, ◌++◌, [], take}
-use Rattle.solo_core.specs.RuleSets.{crossings_of}
-use Rattle.engine_core.specs.ListedHouses.{all_places}
+use Rattle.solo_core.proofs.Common.{[], all_places, crossings_of, take, ◌++◌, ◌≡◌}
 use Rattle.solo_core.proofs.houses.crossings.push_crossings.Given as goal
 
 abbrev pub invariant-loop-number : goal.invariant-loop-number

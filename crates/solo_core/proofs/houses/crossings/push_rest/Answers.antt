@@ -1,6 +1,4 @@
-use Rattle.std.proofs.Common.{not, sym, ap, ◌∙◌, arith}
-use Rattle.solo_core.specs.Common.{Block, places_of, has_place}
-use Rattle.solo_core.specs.HouseLaws.{lists_house, listed-same}
+use Rattle.solo_core.proofs.Common.{Block, ap, arith, has_place, listed-same, lists_house, not, places_of, sym, ◌∙◌}
 use Rattle.solo_core.proofs.CrossingLemmas.{rest-out, rest-in, rest-fits}
 use Rattle.solo_core.proofs.houses.crossings.push_rest.Goals as goal
 

@@ -1,5 +1,4 @@
-use Rattle.std.proofs.Common.{not}
-use Rattle.solo_core.specs.Common.{has_place, Block, places_of}
+use Rattle.solo_core.proofs.Common.{Block, has_place, not, places_of}
 use Rattle.solo_core.proofs.CrossingLemmas.{IsRest}
 use Rattle.solo_core.proofs.houses.crossings.push_rest.Given as goal
 

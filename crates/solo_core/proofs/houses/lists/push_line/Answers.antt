@@ -1,5 +1,4 @@
-use Rattle.std.proofs.Common.{arith, length-append}
-use Rattle.solo_core.specs.Common.{length-map-range_with_len}
+use Rattle.solo_core.proofs.Common.{arith, length-append, length-map-range_with_len}
 use Rattle.solo_core.proofs.houses.lists.push_line.Goals as goal
 
 pub push-requires-clause-fits : goal.push-requires-clause-fits

@@ -1,5 +1,4 @@
-use Rattle.std.proofs.Common.{◌≡◌, ◌++◌}
-use Rattle.solo_core.specs.Work.{strided}
+use Rattle.solo_core.proofs.Common.{strided, ◌++◌, ◌≡◌}
 use Rattle.solo_core.proofs.houses.lists.push_line.Given as goal
 
 abbrev pub invariant-loop-k : goal.invariant-loop-k

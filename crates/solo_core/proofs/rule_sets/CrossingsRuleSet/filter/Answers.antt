@@ -1,7 +1,4 @@
-use Rattle.std.proofs.Common.{◌++◌, ap, arith, length, sym, true, true≢false, ◌<◌, ◌≤◌, ◌∙◌}
-use Rattle.solo_core.specs.Common.{House, no_repeat, strikes_by_fillings}
-use Rattle.solo_core.specs.RuleLaws.{crossings_sound}
-use Rattle.solo_core.specs.RuleSets.{crossings_of, filled_houses}
+use Rattle.solo_core.proofs.Common.{House, ap, arith, crossings_of, crossings_sound, filled_houses, length, no_repeat, strikes_by_fillings, sym, true, true≢false, ◌++◌, ◌<◌, ◌∙◌, ◌≤◌}
 use Rattle.solo_core.proofs.DecidingLemmas.{decides-at, kept-houses}
 use Rattle.solo_core.proofs.HouseLemmas.{filled-length, first_at, later_at}
 use Rattle.solo_core.proofs.rule_sets.CrossingsRuleSet.filter.Goals as goal

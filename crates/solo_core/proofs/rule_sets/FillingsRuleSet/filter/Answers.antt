@@ -1,5 +1,4 @@
-use Rattle.std.proofs.Common.{true}
-use Rattle.solo_core.specs.RuleLaws.{fillings_sound}
+use Rattle.solo_core.proofs.Common.{fillings_sound, true}
 use Rattle.solo_core.proofs.DecidingLemmas.{kept-deciding}
 use Rattle.solo_core.proofs.rule_sets.FillingsRuleSet.filter.Goals as goal
 

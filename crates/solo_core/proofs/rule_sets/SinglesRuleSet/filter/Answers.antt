@@ -1,5 +1,4 @@
-use Rattle.std.proofs.Common.{false, true, true≢false}
-use Rattle.solo_core.specs.RuleLaws.{singles_sound}
+use Rattle.solo_core.proofs.Common.{false, singles_sound, true, true≢false}
 use Rattle.solo_core.proofs.DecidingLemmas.{kept-deciding}
 use Rattle.solo_core.proofs.rule_sets.SinglesRuleSet.filter.Goals as goal
 

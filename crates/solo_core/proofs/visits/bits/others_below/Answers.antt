@@ -1,5 +1,4 @@
-use Rattle.std.proofs.Common.{arith}
-use Rattle.solo_core.specs.Common.{nat_tests}
+use Rattle.solo_core.proofs.Common.{arith, nat_tests}
 use Rattle.solo_core.proofs.Marks.{bits-without}
 use Rattle.solo_core.proofs.visits.bits.others_below.Goals as goal
 

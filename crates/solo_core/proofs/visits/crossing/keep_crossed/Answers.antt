@@ -1,6 +1,4 @@
-use Rattle.std.proofs.Common.{subst}
-use Rattle.solo_core.specs.Common.{solo_n, IsDecided, House, Block, places_of}
-use Rattle.solo_core.specs.HouseLaws.{lists_house}
+use Rattle.solo_core.proofs.Common.{Block, House, IsDecided, lists_house, places_of, solo_n, subst}
 use Rattle.solo_core.proofs.CrossingLemmas.{crossing-is, decided_at}
 use Rattle.solo_core.proofs.visits.crossing.keep_crossed.Goals as goal
 

@@ -1,5 +1,4 @@
-use Rattle.std.proofs.Common.{◌&&◌, not, ltb, leb, ◌∙◌, arith}
-use Rattle.solo_core.specs.Common.{length-set, has_bit}
+use Rattle.solo_core.proofs.Common.{arith, has_bit, leb, length-set, ltb, not, ◌&&◌, ◌∙◌}
 use Rattle.solo_core.proofs.CrossingLemmas.{crossing-decided, bits-more}
 use Rattle.solo_core.proofs.visits.crossing.keep_crossing.Goals as goal
 

@@ -1,5 +1,4 @@
-use Rattle.std.proofs.Common.{◌≡◌, ℕ, ◌<◌, ◌&&◌, not, length, slice_index, nat_lt, nat_le}
-use Rattle.solo_core.specs.Common.{has_bit, has_in}
+use Rattle.solo_core.proofs.Common.{has_bit, has_in, length, nat_le, nat_lt, not, slice_index, ℕ, ◌&&◌, ◌<◌, ◌≡◌}
 use Rattle.solo_core.proofs.visits.crossing.keep_crossing.Given as goal
 
 abbrev pub invariant-loop-k : goal.invariant-loop-k

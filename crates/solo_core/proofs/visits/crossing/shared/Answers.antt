@@ -1,6 +1,4 @@
-use Rattle.std.proofs.Common.{◌∙◌, arith}
-use Rattle.solo_core.specs.Common.{Block}
-use Rattle.solo_core.specs.HouseLaws.{lists_house, listed-same}
+use Rattle.solo_core.proofs.Common.{Block, arith, listed-same, lists_house, ◌∙◌}
 use Rattle.solo_core.proofs.visits.crossing.shared.Goals as goal
 
 pub returns : goal.returns

@@ -1,5 +1,4 @@
-use Rattle.std.proofs.Common.{◌≡◌, ℕ, ◌<◌, ◌≤◌, false, slice_index}
-use Rattle.solo_core.specs.Common.{has_bit, Block, lies_in, places_of}
+use Rattle.solo_core.proofs.Common.{Block, false, has_bit, lies_in, places_of, slice_index, ℕ, ◌<◌, ◌≡◌, ◌≤◌}
 use Rattle.solo_core.proofs.visits.crossing.shared.Given as goal
 
 abbrev pub invariant-loop-k : goal.invariant-loop-k

@@ -1,5 +1,4 @@
-use Rattle.std.proofs.Common.{◌≡◌, ℕ, ◌&&◌, not, nat_lt}
-use Rattle.solo_core.specs.Common.{any_below, has_bit, has_in}
+use Rattle.solo_core.proofs.Common.{any_below, has_bit, has_in, nat_lt, not, ℕ, ◌&&◌, ◌≡◌}
 use Rattle.solo_core.proofs.visits.crossing.values_in_block.Given as goal
 
 abbrev pub invariant-loop-k : goal.invariant-loop-k

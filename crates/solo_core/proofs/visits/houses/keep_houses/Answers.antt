@@ -1,5 +1,4 @@
-use Rattle.std.proofs.Common.{arith, ◌∙◌, length-take}
-use Rattle.solo_core.specs.Peeled.{AreLone}
+use Rattle.solo_core.proofs.Common.{AreLone, arith, length-take, ◌∙◌}
 use Rattle.solo_core.proofs.PeelLemmas.{decided_by_peeled, lone-counts, rest-is, rest-settled}
 use Rattle.solo_core.proofs.WholeLemmas.{decided_whole}
 use Rattle.solo_core.proofs.visits.houses.keep_houses.Goals as goal

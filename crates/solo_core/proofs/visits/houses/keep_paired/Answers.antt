@@ -1,7 +1,4 @@
-use Rattle.std.proofs.Common.{◌≡◌, ℕ, ◌∙◌, arith, length, length-take, refl, slice_index, subst}
-use Rattle.solo_core.specs.Common.{has_in, lt-ltb}
-use Rattle.solo_core.specs.Peeled.{IsOutside}
-use Rattle.solo_core.specs.Ways.{IsTransitiveClosure, LiesOnRounds}
+use Rattle.solo_core.proofs.Common.{IsOutside, IsTransitiveClosure, LiesOnRounds, arith, has_in, length, length-take, lt-ltb, refl, slice_index, subst, ℕ, ◌∙◌, ◌≡◌}
 use Rattle.solo_core.proofs.RestLemmas.{no_leads, rest_on_rounds, rest_reached}
 use Rattle.solo_core.proofs.visits.houses.keep_paired.Goals as goal
 use Rattle.solo_core.proofs.visits.houses.keep_paired.Goals.{After-write_leads}

@@ -1,6 +1,4 @@
-use Rattle.std.proofs.Common.{◌≡◌, ℕ, ◌<◌, ◌≤◌, ◌&&◌, length, slice_index}
-use Rattle.solo_core.specs.Common.{has_in}
-use Rattle.solo_core.specs.Peeled.{KeepsOthers}
+use Rattle.solo_core.proofs.Common.{KeepsOthers, has_in, length, slice_index, ℕ, ◌&&◌, ◌<◌, ◌≡◌, ◌≤◌}
 use Rattle.solo_core.proofs.visits.houses.keep_reached.Given as goal
 
 abbrev pub invariant-loop-i : goal.invariant-loop-i

@@ -1,5 +1,4 @@
-use Rattle.std.proofs.Common.{sym, arith}
-use Rattle.solo_core.specs.Common.{zero-bits}
+use Rattle.solo_core.proofs.Common.{arith, sym, zero-bits}
 use Rattle.solo_core.proofs.Marks.{next_kept, all_kept}
 use Rattle.solo_core.proofs.visits.houses.reaching.Goals as goal
 

@@ -1,5 +1,4 @@
-use Rattle.std.proofs.Common.{◌≤◌, ◌-◌}
-use Rattle.solo_core.specs.Common.{has_bit, has_in}
+use Rattle.solo_core.proofs.Common.{has_bit, has_in, ◌-◌, ◌≤◌}
 use Rattle.solo_core.proofs.Marks.{AreKept}
 use Rattle.solo_core.proofs.visits.houses.reaching.Given as goal
 

@@ -1,6 +1,4 @@
-use Rattle.std.proofs.Common.{◌∙◌, arith, refl, eqb, bit_and, slice_index}
-use Rattle.solo_core.specs.Common.{length-set}
-use Rattle.solo_core.specs.Peeled.{meets}
+use Rattle.solo_core.proofs.Common.{arith, bit_and, eqb, length-set, meets, refl, slice_index, ◌∙◌}
 use Rattle.solo_core.proofs.MateLemmas.{byte-most, rest-written}
 use Rattle.solo_core.proofs.visits.mates.write_rest.Goals as goal
 

@@ -1,5 +1,4 @@
-use Rattle.std.proofs.Common.{◌≡◌, ◌≤◌, length, take}
-use Rattle.solo_core.specs.Peeled.{meets, rest_of}
+use Rattle.solo_core.proofs.Common.{length, meets, rest_of, take, ◌≡◌, ◌≤◌}
 use Rattle.solo_core.proofs.visits.mates.write_rest.Given as goal
 
 abbrev pub invariant-loop-cell : goal.invariant-loop-cell

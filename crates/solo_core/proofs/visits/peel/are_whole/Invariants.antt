@@ -1,6 +1,4 @@
-use Rattle.std.proofs.Common.{◌≡◌, ℕ, ◌<◌, true, false}
-use Rattle.solo_core.specs.Common.{has_bit, has_in}
-use Rattle.solo_core.specs.Peeled.{meets}
+use Rattle.solo_core.proofs.Common.{false, has_bit, has_in, meets, true, ℕ, ◌<◌, ◌≡◌}
 use Rattle.solo_core.proofs.visits.peel.are_whole.Given as goal
 
 abbrev pub invariant-loop-k : goal.invariant-loop-k

@@ -1,5 +1,4 @@
-use Rattle.std.proofs.Common.{ℕ, ◌+◌, ◌<◌, ◌∙◌, refl, slice_index, arith, inl, inr}
-use Rattle.solo_core.specs.Common.{cases_eq, get_or-set_at, get_or-set_other, length-set}
+use Rattle.solo_core.proofs.Common.{arith, cases_eq, get_or-set_at, get_or-set_other, inl, inr, length-set, refl, slice_index, ℕ, ◌+◌, ◌<◌, ◌∙◌}
 use Rattle.solo_core.proofs.PeelLemmas.{counts-more}
 use Rattle.solo_core.proofs.visits.peel.copy_counted.Goals as goal
 

@@ -1,5 +1,4 @@
-use Rattle.std.proofs.Common.{◌≡◌, ℕ, ◌<◌, length, slice_index}
-use Rattle.solo_core.specs.Peeled.{AreValueCounts}
+use Rattle.solo_core.proofs.Common.{AreValueCounts, length, slice_index, ℕ, ◌<◌, ◌≡◌}
 use Rattle.solo_core.proofs.visits.peel.copy_counted.Given as goal
 
 abbrev pub invariant-loop-k : goal.invariant-loop-k

@@ -1,6 +1,4 @@
-use Rattle.std.proofs.Common.{◌≡◌, ◌<◌, ◌^◌, ◌&&◌, ℕ, true, false, not, ltb, true≢false, arith, sym, ap, ◌∙◌, bit_and, inl, inr}
-use Rattle.std.proofs.lemmas.Nat.{and_le_r}
-use Rattle.solo_core.specs.Common.{has_bit, both-bits, nat_tests}
+use Rattle.solo_core.proofs.Common.{and_le_r, ap, arith, bit_and, both-bits, false, has_bit, inl, inr, ltb, nat_tests, not, sym, true, true≢false, ℕ, ◌&&◌, ◌<◌, ◌^◌, ◌∙◌, ◌≡◌}
 use Rattle.solo_core.proofs.Marks.{some_set}
 use Rattle.solo_core.proofs.visits.peel.narrow.Goals as goal
 

@@ -1,6 +1,4 @@
-use Rattle.std.proofs.Common.{◌≡◌, ℕ, ◌+◌, ◌<◌, ◌&&◌, ◌||◌, sym, ap, ◌∙◌, refl, slice_index, slice_set, arith, inl, inr, length}
-use Rattle.solo_core.specs.Common.{cases_eq, get_or-set_other, length-set, get_or-set_at, has_bit}
-use Rattle.solo_core.specs.Peeled.{IsPassed}
+use Rattle.solo_core.proofs.Common.{IsPassed, ap, arith, cases_eq, get_or-set_at, get_or-set_other, has_bit, inl, inr, length, length-set, refl, slice_index, slice_set, sym, ℕ, ◌&&◌, ◌+◌, ◌<◌, ◌||◌, ◌∙◌, ◌≡◌}
 use Rattle.solo_core.proofs.PeelLemmas.{counts-more, counts-same, peeled-step}
 use Rattle.solo_core.proofs.visits.peel.narrow_all.Goals as goal
 

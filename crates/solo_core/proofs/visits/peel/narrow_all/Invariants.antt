@@ -1,6 +1,4 @@
-use Rattle.std.proofs.Common.{◌≡◌, ℕ, ◌<◌, ◌≤◌, true, false, length, slice_index}
-use Rattle.solo_core.specs.Common.{has_in}
-use Rattle.solo_core.specs.Peeled.{AreValueCounts, IsDropped, IsPassed, KeepsOthers}
+use Rattle.solo_core.proofs.Common.{AreValueCounts, IsDropped, IsPassed, KeepsOthers, false, has_in, length, slice_index, true, ℕ, ◌<◌, ◌≡◌, ◌≤◌}
 use Rattle.solo_core.proofs.visits.peel.narrow_all.Given as goal
 
 abbrev pub invariant-loop-i : goal.invariant-loop-i

@@ -1,6 +1,4 @@
-use Rattle.std.proofs.Common.{◌≡◌, ℕ, List, length, slice_index, slice_set, refl, sym, ap, ◌∙◌, subst, arith}
-use Rattle.solo_core.specs.Common.{get_or-set_other, length-set, get_or-set_at, has_bit, both-bits}
-use Rattle.solo_core.specs.Quick.{IsBegun}
+use Rattle.solo_core.proofs.Common.{IsBegun, List, ap, arith, both-bits, get_or-set_at, get_or-set_other, has_bit, length, length-set, refl, slice_index, slice_set, subst, sym, ℕ, ◌∙◌, ◌≡◌}
 use Rattle.solo_core.proofs.QuickLemmas.{goes_on_free, goes_on_swapped}
 use Rattle.solo_core.proofs.visits.quick.give.Goals as goal
 

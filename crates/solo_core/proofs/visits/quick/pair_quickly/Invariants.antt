@@ -1,5 +1,4 @@
-use Rattle.std.proofs.Common.{◌≡◌, length, slice_index}
-use Rattle.solo_core.specs.Quick.{IsBegun}
+use Rattle.solo_core.proofs.Common.{IsBegun, length, slice_index, ◌≡◌}
 use Rattle.solo_core.proofs.visits.quick.pair_quickly.Given as goal
 
 abbrev pub invariant-loop-i : goal.invariant-loop-i

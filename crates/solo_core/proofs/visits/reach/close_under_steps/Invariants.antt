@@ -1,5 +1,4 @@
-use Rattle.std.proofs.Common.{◌≡◌, length}
-use Rattle.solo_core.specs.Common.{has_in}
+use Rattle.solo_core.proofs.Common.{has_in, length, ◌≡◌}
 use Rattle.solo_core.proofs.WayLemmas.{ReachesOver}
 use Rattle.solo_core.proofs.visits.reach.close_under_steps.Given as goal
 

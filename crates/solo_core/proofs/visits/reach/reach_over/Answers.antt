@@ -1,5 +1,4 @@
-use Rattle.std.proofs.Common.{arith, slice_index}
-use Rattle.solo_core.specs.Common.{has_in}
+use Rattle.solo_core.proofs.Common.{arith, has_in, slice_index}
 use Rattle.solo_core.proofs.Marks.{over_alone}
 use Rattle.solo_core.proofs.visits.reach.reach_over.Goals as goal
 

@@ -1,5 +1,4 @@
-use Rattle.std.proofs.Common.{◌≡◌, ℕ, ◌<◌, ◌≤◌, ◌&&◌, ◌||◌, length, slice_index}
-use Rattle.solo_core.specs.Common.{has_bit, has_in}
+use Rattle.solo_core.proofs.Common.{has_bit, has_in, length, slice_index, ℕ, ◌&&◌, ◌<◌, ◌||◌, ◌≡◌, ◌≤◌}
 use Rattle.solo_core.proofs.visits.reach.reach_over.Given as goal
 
 abbrev pub invariant-loop-value : goal.invariant-loop-value

@@ -1,6 +1,4 @@
-use Rattle.std.proofs.Common.{◌≡◌, ℕ, ◌<◌, ◌≤◌, false}
-use Rattle.solo_core.specs.Common.{has_bit}
-use Rattle.solo_core.specs.Singles.{stays_in}
+use Rattle.solo_core.proofs.Common.{false, has_bit, stays_in, ℕ, ◌<◌, ◌≡◌, ◌≤◌}
 use Rattle.solo_core.proofs.visits.singles.keep_cell.Given as goal
 
 abbrev pub invariant-loop-value : goal.invariant-loop-value

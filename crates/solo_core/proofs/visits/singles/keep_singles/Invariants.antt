@@ -1,6 +1,4 @@
-use Rattle.std.proofs.Common.{◌≡◌, ℕ, ◌<◌, length, slice_index}
-use Rattle.solo_core.specs.Common.{has_bit}
-use Rattle.solo_core.specs.Singles.{stays_in}
+use Rattle.solo_core.proofs.Common.{has_bit, length, slice_index, stays_in, ℕ, ◌<◌, ◌≡◌}
 use Rattle.solo_core.proofs.visits.singles.keep_singles.Given as goal
 
 abbrev pub invariant-loop-place : goal.invariant-loop-place

@@ -1,6 +1,4 @@
-use Rattle.std.proofs.Common.{arith, slice_index}
-use Rattle.std.proofs.lemmas.Nat.{or_lt}
-use Rattle.solo_core.specs.Common.{both-bits}
+use Rattle.solo_core.proofs.Common.{arith, both-bits, or_lt, slice_index}
 use Rattle.solo_core.proofs.Turned.{after-root, after-step, all_inside}
 use Rattle.solo_core.proofs.visits.turning.come_after.Goals as goal
 

@@ -1,6 +1,4 @@
-use Rattle.std.proofs.Common.{length}
-use Rattle.solo_core.specs.Common.{has_in}
-use Rattle.solo_core.specs.Ways.{ComesAfter}
+use Rattle.solo_core.proofs.Common.{ComesAfter, has_in, length}
 use Rattle.solo_core.proofs.visits.turning.come_after.Given as goal
 
 abbrev pub invariant-loop-step : goal.invariant-loop-step

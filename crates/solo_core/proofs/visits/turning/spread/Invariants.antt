@@ -1,6 +1,4 @@
-use Rattle.std.proofs.Common.{length}
-use Rattle.solo_core.specs.Common.{has_in}
-use Rattle.solo_core.specs.Ways.{StaysBefore}
+use Rattle.solo_core.proofs.Common.{StaysBefore, has_in, length}
 use Rattle.solo_core.proofs.visits.turning.spread.Given as goal
 
 abbrev pub invariant-loop-i : goal.invariant-loop-i
