@@ -1,8 +1,7 @@
 -- Houses of one at least, by the cells of theirs that can be ones.
-use Rattle.fields_core.proofs.Common.{AllByRecursion, AreIdle, Bool, Candidates, CountHouse, IsHouse, IsInside, IsTally, List, Tally, [], after_house, after_houses, and-true, and_parts, ap, arith, cases_Bool, cases_eq, cases_lt, common_steps, cond, count_by, count_by-le-length, eqb, eqb-true, false, false_from_ne_true, fun_ext, has_place, has_place-at, inl, inr, is_empty, le-ltb, length, ltb, ne_eqb, not, one_at_least, or_cases, or_left, or_right, refl, strikes_of, suc, sym, true, true≢false, without_zeros, zero, ℕ, ◌&&◌, ◌-◌, ◌<◌, ◌||◌, ◌∙◌, ◌∷◌, ◌≡◌, ◌≢◌, ◌≤◌, ◌⊎◌}
+use Rattle.fields_core.proofs.Common.{AllByRecursion, AreIdle, Bool, Candidates, CountHouse, IsHouse, IsInside, IsTally, List, Tally, [], after_house, after_houses, and-true, and_parts, ap, arith, cases_Bool, cases_eq, cases_lt, common_steps, cond, count_by, count_by-le-length, eqb, eqb-true, false, false_from_ne_true, fun_ext, has_place, has_place-at, inl, inr, is_empty, le-ltb, length, ltb, ne_eqb, not, one_at_least, or_cases, or_left, or_right, refl, strikes_of, suc, sym, true, true≢false, without_zeros, zero, ℕ, ◌&&◌, ◌<◌, ◌||◌, ◌∙◌, ◌∷◌, ◌≡◌, ◌≢◌, ◌≤◌, ◌⊎◌}
 use Rattle.fields_core.proofs.AtMostLemmas.{IsFull, count-two, others-stay}
-use Rattle.fields_core.proofs.IdleAfter.{Keeps}
-use Rattle.fields_core.proofs.IdleLemmas.{any_has, full-between, idle-first, idle-rest}
+use Rattle.fields_core.proofs.IdleLemmas.{Keeps, any_has, full-between, idle-first, idle-rest}
 use Rattle.fields_core.proofs.PlaceLists.{count-some, count-cons, count-none, num, num-most}
 use Rattle.fields_core.proofs.CountTallies.{counts-same}
 use Rattle.fields_core.proofs.VisitLemmas.{after-inside, visits-inside}
@@ -33,18 +32,18 @@ is_lone places K c = K c 1 && (has_place places c && eqb (count_by (λ d. K d 1)
 stays-is : (must may long v : ℕ) (none one : Bool) → v < 2 → 1 ≤ may → 1 ≤ long → must ≤ long → (none ≡ true → must < long) → cond (eqb v 0) none one ≡ true
     → (not (ltb 0 0 || (ltb long 1 || (ltb may 1 || ltb long must))) && not ((none && one) && (((eqb v 1) && (eqb must long)) || ((eqb v 0) && (eqb may 1)))))
     ≡ not (eqb v 0 && (one && eqb may 1))
-stays-is must may long zero none one low some pos few less on = rw (le-ltb long 1 pos, le-ltb may 1 some, le-ltb long must few) (grind (arith, common_steps, cases_Bool none, cases_Bool one, cases_Bool (eqb may 1)))
-stays-is must may long (suc zero) none one low some pos few less on = rw (le-ltb long 1 pos, le-ltb may 1 some, le-ltb long must few) (by (cases_Bool none))
+stays-is must may long zero none one low some pos few less on = rw (le-ltb _ _ pos, le-ltb _ _ some, le-ltb _ _ few) (grind (arith, common_steps, cases_Bool none, cases_Bool one, cases_Bool (eqb may 1)))
+stays-is must may long (suc zero) none one low some pos few less on = rw (le-ltb _ _ pos, le-ltb _ _ some, le-ltb _ _ few) (by (cases_Bool none))
   where
     by : (none ≡ true) ⊎ (none ≡ false) → not ((none && one) && ((true && eqb must long) || (false && eqb may 1))) ≡ true
     by (inr off) = rw off refl
     by (inl is) = let lt = less is in grind (arith, common_steps, cases_Bool one, eqb-true must long)
 stays-is must may long (suc (suc v)) none one low some pos few less on = absurd (omega arith)
 
-pub least-after : (cells : ℕ) (places : List ℕ) (K : Candidates) → IsHouse cells (one_at_least places) → AreFull places K → IsFilled places K → (c v : ℕ) → v < 2 → K c v ≡ true
+pub least-after : {cells : ℕ} {places : List ℕ} (K : Candidates) → IsHouse cells (one_at_least places) → AreFull places K → IsFilled places K → (c : ℕ) {v : ℕ} → v < 2 → K c v ≡ true
     → after_house (one_at_least places) K c v ≡ not (eqb v 0 && is_lone places K c)
 unfolding after_house
-least-after cells places K is full filled c v low on = elim (cases_Bool (has_place places c)) [
+least-after {cells} {places} K is full filled c {v} low on = elim (cases_Bool (has_place places c)) [
   | inr out ↦ rw (on, off-scope (one_at_least places) K c v out, out) (grind (arith, common_steps, cases_Bool))
   | inl there ↦
       let w = has_place-at places c there in
@@ -67,18 +66,18 @@ least-after cells places K is full filled c v low on = elim (cases_Bool (has_pla
 abbrev pub IsOfTwo : Candidates → Type 0
 IsOfTwo K = (c v : ℕ) → K c v ≡ true → v < 2
 
-pub least-board : (cells : ℕ) (places : List ℕ) (K : Candidates) → IsHouse cells (one_at_least places) → AreFull places K → IsFilled places K → IsOfTwo K
+pub least-board : {cells : ℕ} {places : List ℕ} {K : Candidates} → IsHouse cells (one_at_least places) → AreFull places K → IsFilled places K → IsOfTwo K
     → after_house (one_at_least places) K ≡ without_zeros (is_lone places K) K
 unfolding after_house without_zeros
-least-board cells places K is full filled two = fun_ext λ c. fun_ext λ v. elim (cases_Bool (K c v)) [
+least-board {cells} {places} {K} is full filled two = fun_ext λ c. fun_ext λ v. elim (cases_Bool (K c v)) [
   | inr off ↦ rw off refl
-  | inl on ↦ least-after cells places K is full filled c v (two c v on) on ∙ rw on refl
+  | inl on ↦ least-after K is full filled c (two c v on) on ∙ rw on refl
 ]
 
 -- a visit of a house whose cells can be no ones leaves no value in them
-pub least-broken : (cells : ℕ) (places : List ℕ) (K : Candidates) → IsHouse cells (one_at_least places) → count_by (λ d. K d 1) places ≡ 0 → (c v : ℕ) → has_place places c ≡ true → v < 2
+pub least-broken : {cells : ℕ} (places : List ℕ) (K : Candidates) → IsHouse cells (one_at_least places) → count_by (λ d. K d 1) places ≡ 0 → (c : ℕ) {v : ℕ} → has_place places c ≡ true → v < 2
     → after_house (one_at_least places) K c v ≡ false
-least-broken cells places K is none c v there low =
+least-broken {cells} places K is none c {v} there low =
     let w = has_place-at places c there in
     let tally : Tally = record { must = count_by (λ d. not (K d 0)) places; may = count_by (λ d. K d 1) places; empty = count_by (is_empty K) places } in
     let counted : IsTally K places tally = record { must_is = refl; may_is = refl; empty_is = refl } in
@@ -106,7 +105,7 @@ module _ {cells : ℕ} {places : List ℕ} (K : Candidates) (is : IsHouse cells 
     several-idle : (c v : ℕ) → K c v ≡ true → strikes_of (one_at_least places) K c v ≡ false
     unfolding after_house
     several-idle c v on =
-        let left = least-after cells places K is places-full (inr (omega (arith, several))) c v (full.low c v on) on in
+        let left = least-after K is places-full (inr (omega (arith, several))) c (full.low c v on) on in
         by (eqb v 0) _ ((rw on at left) ∙ rw (none-lone c) refl)
       where
         by : (z s : Bool) → (true && not s) ≡ not (z && false) → s ≡ false
@@ -121,22 +120,21 @@ module _ {cells : ℕ} {places : List ℕ} (K : Candidates) (is : IsHouse cells 
 
   -- ---- a cell that must be a one: the house is idle
   module _ (d : ℕ) (in_d : has_place places d ≡ true) (on_d : K d 1 ≡ true) (must : K d 0 ≡ false) where
-    never-lone : (c : ℕ) → c ≢ d → is_lone places K c ≡ false
-    never-lone c ne = false_from_ne_true _ (λ on.
-        let w = and_parts (K c 1) _ on in
-        let v = and_parts (has_place places c) _ w.1 in
+    never-lone : {c : ℕ} → c ≢ d → is_lone places K c ≡ false
+    never-lone {c} ne = false_from_ne_true _ (λ on.
+        let w = and_parts (K c 1) _ on in let v = and_parts (has_place places c) _ w.1 in
         let one = eqb-true (count_by (λ d. K d 1) places) 1 v.1 in
         absurd (omega (arith, one, count-two (λ c. K c 1) places c d ne v.0 in_d w.0 on_d)))
 
     pub must-stay : after_house (one_at_least places) K ≡ K
     unfolding without_zeros
-    must-stay = least-board cells places K is places-full (inr (count-some (λ c. K c 1) places d in_d on_d)) full.low
+    must-stay = least-board is places-full (inr (count-some (λ c. K c 1) places d in_d on_d)) full.low
         ∙ fun_ext λ c. fun_ext λ v. by c v (cases_eq c d) (cases_eq v 0)
       where
         by : (c v : ℕ) → (c ≡ d) ⊎ (c ≢ d) → (v ≡ 0) ⊎ (v ≢ 0) → (K c v && not (eqb v 0 && is_lone places K c)) ≡ K c v
         by c v (inl e) (inl z) = rw (e, z, must) refl
-        by c v (inl e) (inr nz) = rw (ne_eqb v 0 nz) (and-true (K c v))
-        by c v (inr ne) z = rw (never-lone c ne) (grind (arith, common_steps, cases_Bool (K c v), cases_Bool (eqb v 0)))
+        by c v (inl e) (inr nz) = rw (ne_eqb _ _ nz) (and-true (K c v))
+        by c v (inr ne) z = rw (never-lone ne) (grind (arith, common_steps, cases_Bool (K c v), cases_Bool (eqb v 0)))
 
   -- either of these
   pub safe-stay : (d e : ℕ) → has_place places d ≡ true → has_place places e ≡ true → K d 1 ≡ true → K e 1 ≡ true → (d ≢ e) ⊎ (K d 0 ≡ false)
@@ -147,13 +145,13 @@ module _ {cells : ℕ} {places : List ℕ} (K : Candidates) (is : IsHouse cells 
   -- ---- some cell that can be a one: no cell loses 1
   pub ones-stay : 1 ≤ count_by (λ c. K c 1) places → (c : ℕ) → after_house (one_at_least places) K c 1 ≡ K c 1
   unfolding without_zeros
-  ones-stay some c = ap (λ (L : Candidates). L c 1) (least-board cells places K is places-full (inr some) full.low) ∙ and-true (K c 1)
+  ones-stay some c = ap (λ (L : Candidates). L c 1) (least-board is places-full (inr some) full.low) ∙ and-true (K c 1)
 
   pub ones-left : IsFull cells (after_house (one_at_least places) K) → (c : ℕ) → after_house (one_at_least places) K c 1 ≡ K c 1
   ones-left after c = elim (cases_lt 0 (count_by (λ c. K c 1) places)) [
     | inl some ↦ ones-stay (omega arith) c
     | inr few ↦ others-stay (one_at_least places) K c 1 (false_from_ne_true _ (λ there.
-        let gone : (v : ℕ) → v < 2 → after_house (one_at_least places) K c v ≡ false = λ v low. least-broken cells places K is (omega arith) c v there low in
+        let gone : (v : ℕ) → v < 2 → after_house (one_at_least places) K c v ≡ false = λ v low. least-broken places K is (omega arith) c there low in
         elim (after.some c (is.within c there)) [
           | inl on ↦ true≢false (sym on ∙ gone 0 (omega arith))
           | inr on ↦ true≢false (sym on ∙ gone 1 (omega arith))
@@ -163,7 +161,7 @@ module _ {cells : ℕ} {places : List ℕ} (K : Candidates) (is : IsHouse cells 
   -- none: the house is idle only if it has no cell
   never-idle : after_house (one_at_least places) K ≡ K → count_by (λ c. K c 1) places ≡ 0 → (c : ℕ) → has_place places c ≡ false
   never-idle idle none c = false_from_ne_true _ (λ there.
-      let gone : (v : ℕ) → v < 2 → K c v ≡ false = λ v low. ap (λ (L : Candidates). L c v) (sym idle) ∙ least-broken cells places K is none c v there low in
+      let gone : (v : ℕ) → v < 2 → K c v ≡ false = λ v low. ap (λ (L : Candidates). L c v) (sym idle) ∙ least-broken places K is none c there low in
       by (gone 0 (omega arith)) (gone 1 (omega arith)) (places-full c there))
     where
       by : {c : ℕ} → K c 0 ≡ false → K c 1 ≡ false → (K c 0 ≡ true) ⊎ (K c 1 ≡ true) → ⊥
@@ -180,18 +178,15 @@ module _ {cells : ℕ} {places : List ℕ} (K L : Candidates) (is : IsHouse cell
   unfolding without_zeros
   idle-kept idle = elim (cases_lt 0 (count_by (λ c. K c 1) places)) [
     | inl some ↦
-        let before = sym (least-board cells places K is (places-full K is full) (inr some) full.low) ∙ idle in
-        least-board cells places L is (places-full L is still) (inr (omega (arith, counts))) still.low
+        let before = sym (least-board is (places-full K is full) (inr some) full.low) ∙ idle in
+        least-board is (places-full L is still) (inr (omega (arith, counts))) still.low
         ∙ fun_ext λ c. fun_ext λ v. rw counts (by c v (cases_Bool (has_place places c)) (ap (λ (M : Candidates). M c v) before))
     | inr few ↦ fun_ext λ c. fun_ext λ v. others-stay (one_at_least places) L c v (never-idle K is full idle (omega arith) c)
   ]
     where
-      still_has : (l k z a : Bool) → (l ≡ true → k ≡ true) → (k && not (z && a)) ≡ k → (l && not (z && a)) ≡ l
-      still_has l k z a in_k stays = grind (arith, common_steps, cases_Bool l, cases_Bool k, cases_Bool z, cases_Bool a)
-
       by : (c v : ℕ) → (has_place places c ≡ true) ⊎ (has_place places c ≡ false) → (K c v && not (eqb v 0 && is_lone places K c)) ≡ K c v
           → (L c v && not (eqb v 0 && (L c 1 && (has_place places c && eqb (count_by (λ d. K d 1) places) 1)))) ≡ L c v
-      by c v (inl there) stays = rw (same c there) (still_has (L c v) (K c v) (eqb v 0) (is_lone places K c) (inside c v) stays)
+      by c v (inl there) stays = rw (same c there) (grind (arith, common_steps, cases_Bool (L c v), cases_Bool (K c v), cases_Bool (eqb v 0), cases_Bool (is_lone places K c)))
       by c v (inr out) stays = rw out (grind (arith, common_steps, cases_Bool (L c v), cases_Bool (eqb v 0), cases_Bool (L c 1)))
 
 -- ---- lists of such houses
@@ -206,8 +201,8 @@ unfolding after_houses any_has
 alls-kept cells [] K L each full_K full_L inside ones idle = refl
 alls-kept cells (house ∷ houses) K L (is, each) full_K full_L inside ones idle =
     let first = rw is.same at (idle-first house houses K idle) in
-    let kept = rw (← is.same) at (idle-kept K L is.is full_K full_L inside (λ c there. ones c (or_left (has_place house.places c) _ there)) first) in
-    rw kept (alls-kept cells houses K L each full_K full_L inside (λ c there. ones c (or_right (has_place house.places c) _ there))
+    let kept = rw (← is.same) at (idle-kept K L is.is full_K full_L inside (λ c there. ones c (or_left _ _ there)) first) in
+    rw kept (alls-kept cells houses K L each full_K full_L inside (λ c there. ones c (or_right _ _ there))
     (idle-rest house houses K idle))
 
 -- visits that leave each cell a value take no 1
@@ -216,7 +211,7 @@ pub alls-ones : (cells : ℕ) (houses : List CountHouse) (K : Candidates) → Al
 unfolding after_houses
 alls-ones cells [] K each full after c = refl
 alls-ones cells (house ∷ houses) K (is, each) full after c =
-    let next = full-between cells full after (after-inside house K) (visits-inside houses (after_house house K)) in
+    let next = full-between full after (after-inside house K) (visits-inside houses (after_house house K)) in
     let first : (c : ℕ) → after_house house K c 1 ≡ K c 1 = rw (← is.same) at (ones-left K is.is full (rw is.same at next)) in
     alls-ones cells houses (after_house house K) each next after c ∙ first c
 

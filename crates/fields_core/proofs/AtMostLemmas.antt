@@ -1,6 +1,5 @@
 -- Visits of houses of one at most, one after another, by the cells that can have 0.
-use Rattle.fields_core.proofs.Common.{AllByRecursion, Bool, Candidates, CountHouse, IsHouse, IsTally, List, Tally, [], after_house, and-false, and-true, and_parts, ap, arith, cases_Bool, cases_eq, common_steps, count_by, eq-eqb, eqb, eqb-true, false, false≢true, fun_ext, has_place, has_place-at, inl, inr, is_empty, is_open, le-ltb, list_any, lt-ltb, ltb, ne_eqb, not, or_cases, refl, subst, sym, true, ℕ, ◌&&◌, ◌<◌, ◌||◌, ◌∙◌, ◌∷◌, ◌≡◌, ◌≢◌, ◌≤◌, ◌⊎◌}
-unfoldable use Rattle.fields_core.specs.Visits.{after_houses}
+use Rattle.fields_core.proofs.Common.{AllByRecursion, Bool, Candidates, CountHouse, IsHouse, IsTally, List, Tally, [], after_house, after_houses, and-false, and-true, and_parts, ap, arith, cases_Bool, cases_eq, common_steps, count_by, eq-eqb, eqb, eqb-true, false, false≢true, fun_ext, has_place, has_place-at, inl, inr, is_empty, is_open, le-ltb, list_any, lt-ltb, ltb, ne_eqb, not, or_cases, refl, subst, sym, true, ℕ, ◌&&◌, ◌<◌, ◌||◌, ◌∙◌, ◌∷◌, ◌≡◌, ◌≢◌, ◌≤◌, ◌⊎◌}
 use Rattle.fields_core.proofs.CountKept.{after-at, off-scope, has-value}
 use Rattle.fields_core.proofs.PlaceLists.{num, count-cons, count-none, count-some, some-counted}
 use Rattle.fields_core.proofs.VisitLemmas.{visits-inside}
@@ -14,8 +13,7 @@ is_met zeros house c = has_place house.places c && list_any (λ d. not (zeros d)
 
 -- the board without the ones that the houses strike
 unfoldable pub without_met : List CountHouse → Candidates → Candidates
-without_met houses K c v =
-    K c v && not (eqb v 1 && (K c 0 && list_any (λ house. is_met (zeros_of K) house c) houses))
+without_met houses K c v = K c v && not (eqb v 1 && (K c 0 && list_any (λ house. is_met (zeros_of K) house c) houses))
 
 -- a house of one at most, of whose cells one at most has no 0
 pub record IsOneAtMost (cells : ℕ) (zeros : ℕ → Bool) (house : CountHouse) : Type 0 where
@@ -48,11 +46,10 @@ unfolding after_house
 others-stay house K c v out = rw (off-scope house K c v out) (and-true (K c v))
 
 -- ---- one house, of one at most
-after-met : {cells : ℕ} (house : CountHouse) (K : Candidates) (c v : ℕ) → IsFull cells K
-    → IsOneAtMost cells (zeros_of K) house
+after-met : {cells : ℕ} {house : CountHouse} {K : Candidates} (c v : ℕ) → IsFull cells K → IsOneAtMost cells (zeros_of K) house
     → after_house house K c v ≡ (K c v && not (eqb v 1 && (K c 0 && is_met (zeros_of K) house c)))
 unfolding is_met
-after-met {cells} house K c v full one = elim (cases_Bool (K c v)) [
+after-met {cells} {house} {K} c v full one = elim (cases_Bool (K c v)) [
   | inr off ↦ gone-stays house K c v off ∙ rw off refl
   | inl on ↦ elim (cases_Bool (has_place house.places c)) [
     | inr out ↦ others-stay house K c v out ∙ rw (on, out, and-false (K c 0), and-false (eqb v 1)) refl
@@ -70,25 +67,24 @@ after-met {cells} house K c v full one = elim (cases_Bool (K c v)) [
     none : count_by (is_empty K) house.places ≡ 0
     none = count-none (is_empty K) house.places (λ d there. has-value K d (full.some d (one.is.within d there)))
 
-    by : (v : ℕ) → v < 2 → (must may : ℕ) (any : Bool) → must ≤ 1 → K c v ≡ true → ltb 0 must ≡ any
-        → (K c 1 ≡ true → 1 ≤ may)
+    by : (v : ℕ) → v < 2 → (must may : ℕ) (any : Bool) → must ≤ 1 → K c v ≡ true → ltb 0 must ≡ any → (K c 1 ≡ true → 1 ≤ may)
         → (not (ltb 0 0 || (ltb 1 0 || (ltb may 0 || ltb 1 must))) && not (is_open K c && ((eqb v 1 && eqb must 1) || (eqb v 0 && eqb may 0))))
         ≡ not (eqb v 1 && (K c 0 && any))
     by v low must may any few on is some = grind (arith, common_steps, cases_Bool (K c 0), cases_Bool (K c 1), cases_Bool any, cases_eq must 1, cases_eq may 0, cases_eq v 1, eq-eqb, ne_eqb, lt-ltb, le-ltb)
 
 -- no cell loses 0
-pub zeros-stay : {cells : ℕ} (house : CountHouse) (K : Candidates) → IsFull cells K
+pub zeros-stay : {cells : ℕ} {house : CountHouse} {K : Candidates} → IsFull cells K
     → IsOneAtMost cells (zeros_of K) house → zeros_of (after_house house K) ≡ zeros_of K
-zeros-stay house K full one = fun_ext λ d. after-met house K d 0 full one ∙ by (K d 0)
+zeros-stay {house} {K} full one = fun_ext λ d. after-met d 0 full one ∙ by (K d 0)
   where
     by : (a : Bool) → (a && not false) ≡ a
     by a = grind (arith, common_steps, cases_Bool a)
 
-full-after : {cells : ℕ} (house : CountHouse) (K : Candidates) → IsFull cells K
+full-after : {cells : ℕ} {house : CountHouse} {K : Candidates} → IsFull cells K
     → IsOneAtMost cells (zeros_of K) house → IsFull cells (after_house house K)
-full-after {cells} house K full one = record {
-  low = λ c v on. full.low c v (and_parts _ _ (sym (after-met house K c v full one) ∙ on)).0;
-  some = λ c lt. by c (is_met (zeros_of K) house c) (after-met house K c 0 full one) (after-met house K c 1 full one) (full.some c lt);
+full-after {cells} {house} {K} full one = record {
+  low = λ c v on. full.low c v (and_parts _ _ (sym (after-met c v full one) ∙ on)).0;
+  some = λ c lt. by c (is_met (zeros_of K) house c) (after-met c 0 full one) (after-met c 1 full one) (full.some c lt);
 }
   where
     by : (c : ℕ) (any : Bool) → after_house house K c 0 ≡ (K c 0 && not (false && (K c 0 && any)))
@@ -106,9 +102,9 @@ visits-met [] K full all = fun_ext λ c. fun_ext λ v. by (K c v) (K c 0) (eqb v
     by : (a b e : Bool) → a ≡ (a && not (e && (b && false)))
     by a b e = grind (arith, common_steps, cases_Bool a, cases_Bool b, cases_Bool e)
 visits-met {cells} (house ∷ houses) K full (one, all) =
-    let stay = zeros-stay house K full one in
-    visits-met houses (after_house house K) (full-after house K full one) (subst (λ (z : ℕ → Bool). AllByRecursion (IsOneAtMost cells z) houses) (sym stay) all)
-    ∙ fun_ext λ c. fun_ext λ v. rw (stay, ap (λ (f : ℕ → Bool). f c) stay, after-met house K c v full one)
+    let stay = zeros-stay full one in
+    visits-met houses (after_house house K) (full-after full one) (subst (λ (z : ℕ → Bool). AllByRecursion (IsOneAtMost cells z) houses) (sym stay) all)
+    ∙ fun_ext λ c. fun_ext λ v. rw (stay, ap (λ (f : ℕ → Bool). f c) stay, after-met c v full one)
     (by (K c v) (eqb v 1) (K c 0) (is_met (zeros_of K) house c) (list_any (λ h. is_met (zeros_of K) h c) houses))
   where
     by : (a e z i j : Bool) → ((a && not (e && (z && i))) && not (e && (z && j))) ≡ (a && not (e && (z && (i || j))))
@@ -135,14 +131,14 @@ count-two test (x ∷ xs) d e ne in_d in_e on_d on_e = elim (or_cases (eqb x d) 
         let one : num (test x) ≡ 1 = rw (same, on_a) refl in
         omega (arith, count-cons test x xs, one, count-some test xs b there on_b)
 
-after-two : {cells : ℕ} (house : CountHouse) (K : Candidates) (d e v : ℕ) → IsHouse cells house → house.most ≡ 1
+after-two : {cells : ℕ} {house : CountHouse} (K : Candidates) {d e v : ℕ} → IsHouse cells house → house.most ≡ 1
     → d ≢ e → has_place house.places d ≡ true → has_place house.places e ≡ true → K d 0 ≡ false → K e 0 ≡ false
     → v < 2 → after_house house K d v ≡ false
-after-two {cells} house K d e v is one ne in_d in_e off_d off_e low =
+after-two {cells} {house} K {d} {e} {v} is one ne in_d in_e off_d off_e low =
     let w = has_place-at house.places d in_d in
     let many = count-two (λ c. not (K c 0)) house.places d e ne in_d in_e (ap not off_d) (ap not off_e) in
     rw w.2 at (after-at cells house K (tally_in K house.places) is (counted-in K house.places) w.1 low)
-    ∙ rw (one, lt-ltb 1 (count_by (λ c. not (K c 0)) house.places) many) (by (K d v) (ltb 0 (count_by (is_empty K) house.places)) (ltb 1 house.least) (ltb (count_by (λ c. K c 1) house.places) house.least) _)
+    ∙ rw (one, lt-ltb _ _ many) (by (K d v) (ltb 0 (count_by (is_empty K) house.places)) (ltb 1 house.least) (ltb (count_by (λ c. K c 1) house.places) house.least) _)
   where
     by : (a b c d e : Bool) → (a && (not (b || (c || (d || true))) && e)) ≡ false
     by a b c d e = grind (arith, common_steps, cases_Bool a, cases_Bool b, cases_Bool c, cases_Bool d)
@@ -156,10 +152,10 @@ unfolding after_houses
 visits-two cells [] K d e v all ne some off_d off_e low = absurd (false≢true some)
 visits-two cells (house ∷ houses) K d e v ((is, one), all) ne some off_d off_e low = elim (or_cases _ _ some) [
   | inl here ↦
-      let both = and_parts (has_place house.places d) (has_place house.places e) here in
+      let both = and_parts _ _ here in
       dead (after_houses houses (after_house house K) d v)
       (λ on. visits-inside houses (after_house house K) d v on)
-      (after-two house K d e v is one ne both.0 both.1 off_d off_e low)
+      (after-two K is one ne both.0 both.1 off_d off_e low)
   | inr more ↦ visits-two cells houses (after_house house K) d e v all ne more (gone-stays house K d 0 off_d) (gone-stays house K e 0 off_e) low
 ]
   where

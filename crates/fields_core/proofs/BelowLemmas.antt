@@ -1,5 +1,5 @@
 -- Lists of different numbers: a number's place in one, and a choice of different numbers below n names each of them.
-use Rattle.fields_core.proofs.Common.{All-from_get_or, AreDifferent, AreDistinct, Bool, List, [], and_from, and_parts, any_below-none, any_below-some, ap, arith, cases_Bool, cases_lt, common_steps, cond, count_below-pos, distinct-from, eq-eqb, eqb, eqb-true, false, get_or, get_or-map, get_or-map-range_with_len, get_or-range_with_len, has_place, has_place-at, has_place-here, inl, inr, le-ltb, least_below, least_below-passes, length, length-map, length-map-range_with_len, length-range_with_len, list_any, list_any_none, lt-ltb, ltb, map, names_none_twice, not, not-true, or_cases, or_left, or_right, range_with_len, refl, slice_index, sym, true, true≢false, ℕ, ◌+◌, ◌<◌, ◌∙◌, ◌∷◌, ◌≡◌, ◌≤◌}
+use Rattle.fields_core.proofs.Common.{All-from_get_or, AreDifferent, AreDistinct, Bool, List, [], and_from, and_parts, any_below-none, any_below-some, ap, arith, cases_Bool, cases_lt, common_steps, cond, count_below-pos, eq-eqb, eqb, eqb-true, false, get_or, get_or-map, get_or-map-range_with_len, has_place, has_place-at, has_place-here, inl, inr, le-ltb, least_below, least_below-passes, length, length-map, length-map-range_with_len, list_any, list_any_none, lt-ltb, ltb, map, names_none_twice, not, not-true, or_cases, or_left, or_right, range_with_len, refl, slice_index, sym, true, true≢false, ℕ, ◌+◌, ◌<◌, ◌∙◌, ◌∷◌, ◌≡◌, ◌≤◌}
 use Rattle.grid_core.proofs.DifferentNumbers.{apart-le}
 
 -- where a number stands in a list
@@ -9,8 +9,7 @@ index_of xs d = least_below (λ k. eqb (slice_index xs k) d) (length xs)
 pub index-is : (xs : List ℕ) (d : ℕ) → has_place xs d ≡ true → (index_of xs d < length xs) × (slice_index xs (index_of xs d) ≡ d)
 unfolding index_of
 index-is xs d on =
-    let w = has_place-at xs d on in
-    let stands : ℕ → Bool = (λ k. eqb (slice_index xs k) d) in
+    let w = has_place-at xs d on in let stands : ℕ → Bool = (λ k. eqb (slice_index xs k) d) in
     let least = least_below-passes stands (length xs) (count_below-pos stands (length xs) w.0 w.1 (eq-eqb _ _ w.2)) in
     (least.0, eqb-true _ _ least.1)
 
@@ -26,9 +25,9 @@ any-here test xs d on passes = grind (arith, common_steps, has_place-at)
 pub any-some : (test : ℕ → Bool) (xs : List ℕ) → list_any test xs ≡ true → (d : ℕ) × (has_place xs d ≡ true) × (test d ≡ true)
 unfolding has_place
 any-some test [] on = absurd (true≢false (sym on))
-any-some test (x ∷ xs) on = elim (or_cases (test x) (list_any test xs) on) [
-  | inl here ↦ (x, or_left (eqb x x) (has_place xs x) (eq-eqb x x refl), here)
-  | inr more ↦ let w = any-some test xs more in (w.0, or_right (eqb x w.0) _ w.1, w.2)
+any-some test (x ∷ xs) on = elim (or_cases _ _ on) [
+  | inl here ↦ (x, or_left _ _ (eq-eqb x x refl), here)
+  | inr more ↦ let w = any-some test xs more in (w.0, or_right _ _ w.1, w.2)
 ]
 
 pub any-none : (test : ℕ → Bool) (xs : List ℕ) → ((d : ℕ) → has_place xs d ≡ true → test d ≡ false) → list_any test xs ≡ false
@@ -42,21 +41,17 @@ none-twice-from (x ∷ xs) d = and_from _ _ (ap not d.0) (none-twice-from xs d.1
 pub distinct-none-twice : (xs : List ℕ) → names_none_twice xs ≡ true → AreDistinct xs
 distinct-none-twice [] on = tt
 distinct-none-twice (x ∷ xs) on = let w =
-    and_parts (not (has_place xs x)) _ on in
-    (not-true (has_place xs x) w.0, distinct-none-twice xs w.1)
+    and_parts _ _ on in
+    (not-true _ w.0, distinct-none-twice xs w.1)
 
 pub different-map : (f : ℕ → ℕ) (xs : List ℕ) → AreDifferent xs
     → ((a b : ℕ) → has_place xs a ≡ true → has_place xs b ≡ true → f a ≡ f b → a ≡ b)
     → AreDifferent (map f xs)
 different-map f xs differ own j k lj lk e =
-    let long = length-map xs f in
-    let inj : j < length xs = omega arith in
+    let long = length-map xs f in let inj : j < length xs = omega arith in
     let ink : k < length xs = omega arith in
     differ j k inj ink (own _ _ (has_place-here xs j inj) (has_place-here xs k ink)
     (sym (get_or-map f xs j 0 0 inj) ∙ e ∙ get_or-map f xs k 0 0 ink))
-
-pub range-distinct : (n : ℕ) → AreDistinct (range_with_len 0 n)
-range-distinct n = grind (arith, common_steps, distinct-from, length-range_with_len, get_or-range_with_len)
 
 -- ---- different numbers below m are m at most
 pub few-below : (f : ℕ → ℕ) {n m : ℕ} → ((l : ℕ) → l < n → f l < m) → ((l k : ℕ) → l < n → k < n → f l ≡ f k → l ≡ k) → n ≤ m
@@ -75,8 +70,8 @@ with_next f n c l = cond (ltb l n) (f l) c
 pub each-named : (f : ℕ → ℕ) {n : ℕ} (c : ℕ) → ((l : ℕ) → l < n → f l < n)
     → ((l m : ℕ) → l < n → m < n → f l ≡ f m → l ≡ m) → c < n → (l : ℕ) × (l < n) × (f l ≡ c)
 each-named f {n} c below own lt = elim (cases_Bool _) [
-  | inl on ↦ let w = any_below-some _ n on in (w.0, w.1, eqb-true (f w.0) c w.2)
-  | inr off ↦ absurd (omega (arith, few-below (with_next f n c) inside (apart (λ l low e. true≢false (sym (eq-eqb (f l) c e) ∙ any_below-none (λ l. eqb (f l) c) n off l low)))))
+  | inl on ↦ let w = any_below-some _ n on in (w.0, w.1, eqb-true _ _ w.2)
+  | inr off ↦ absurd (omega (arith, few-below (with_next f n c) inside (apart (λ l low e. true≢false (sym (eq-eqb _ _ e) ∙ any_below-none (λ l. eqb (f l) c) n off l low)))))
 ]
   where
     inside : (l : ℕ) → l < n + 1 → with_next f n c l < n

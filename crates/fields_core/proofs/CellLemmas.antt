@@ -11,30 +11,27 @@ cell-is w y x c lt = same-truth _ _
     let e = eqb-true (y * w + x) c on in
     rw (← e, div-mul-add y w x lt, place-column w y x lt) (and_from _ _ (eq-eqb y y refl) (eq-eqb x x refl)))
     (λ on.
-    let parts = and_parts _ _ on in
-    let q = eqb-true (c / w) y parts.0 in
-    let r = eqb-true (c % w) x parts.1 in
-    eq-eqb _ _ (rw (← q, ← r) (div-add-mod' c w)))
+    let parts = and_parts _ _ on in let q = eqb-true (c / w) y parts.0 in
+    let r = eqb-true (c % w) x parts.1 in eq-eqb _ _ (rw (← q, ← r) (div-add-mod' c w)))
 
 lies-one : (w : ℕ) (piece : Piece) (c : ℕ) → lies_in_first w (piece ∷ []) 1 c ≡ lies_in w piece c
 unfolding lies_in_first any_below
 lies-one w piece c = refl
 
-column-has : (size : Extent) (x bits c : ℕ) → x < size.w → ((k : ℕ) → has_bit bits k ≡ ltb k size.h)
+column-has : (size : Extent) {x : ℕ} (bits c : ℕ) → x < size.w → ((k : ℕ) → has_bit bits k ≡ ltb k size.h)
     → has_place (column_places size x) c ≡ lies_in size.w (record { line = Column x; bits = bits }) c
 unfolding lies_in crosses
-column-has size x bits c lt is = same-truth _ _
+column-has size {x} bits c lt is = same-truth _ _
     (λ there.
     let w = has_place-at (column_places size x) c there in
     let lk : w.0 < size.h = omega (arith, w.1, length-map-range_with_len (λ y. y * size.w + x) 0 size.h) in
     let at : w.0 * size.w + x ≡ c = sym (get_or-map-range_with_len (λ y. y * size.w + x) 0 size.h w.0 w.0 0 lk
     (omega arith)) ∙ w.2 in
     rw (← at, div-mul-add w.0 size.w x lt, place-column size.w w.0 x lt)
-    (and_from _ _ (eq-eqb x x refl) (is w.0 ∙ lt-ltb w.0 size.h lk)))
+    (and_from _ _ (eq-eqb x x refl) (is w.0 ∙ lt-ltb _ _ lk)))
     (λ on.
-    let w = and_parts _ _ on in
-    let e : c % size.w ≡ x = eqb-true _ _ w.0 in
-    let lk = ltb-true (c / size.w) size.h (sym (is (c / size.w)) ∙ w.1) in
+    let w = and_parts _ _ on in let e : c % size.w ≡ x = eqb-true _ _ w.0 in
+    let lk = ltb-true _ _ (sym (is (c / size.w)) ∙ w.1) in
     let at : slice_index (column_places size x) (c / size.w) ≡ c = get_or-map-range_with_len
     (λ y. y * size.w + x) 0 size.h (c / size.w) (c / size.w) 0 lk (omega arith) ∙ rw (← e) (div-add-mod' c size.w) in
     rw at at (has_place-here (column_places size x) (c / size.w)
@@ -52,22 +49,21 @@ row-has size y bits c pos is = same-truth _ _
     rw (← at, div-mul-add y size.w w.0 lk, place-column size.w y w.0 lk)
     (and_from _ _ (eq-eqb y y refl) (is w.0 lk)))
     (λ on.
-    let w = and_parts _ _ on in
-    let e : c / size.w ≡ y = eqb-true _ _ w.0 in
+    let w = and_parts _ _ on in let e : c / size.w ≡ y = eqb-true _ _ w.0 in
     let lk : c % size.w < size.w = mod-lt c pos in
     let at : slice_index (row_places size y) (c % size.w) ≡ c = get_or-map-range_with_len
     (λ x. y * size.w + x) 0 size.w (c % size.w) (c % size.w) 0 lk (omega arith) ∙ rw (← e) (div-add-mod' c size.w) in
     rw at at (has_place-here (row_places size y) (c % size.w)
     (omega (arith, lk, length-map-range_with_len (λ x. y * size.w + x) 0 size.w))))
 
-pub column-house : (size : Extent) (x bits ones : ℕ) → x < size.w → ((k : ℕ) → has_bit bits k ≡ ltb k size.h)
+pub column-house : (size : Extent) {x : ℕ} (bits ones : ℕ) → x < size.w → ((k : ℕ) → has_bit bits k ≡ ltb k size.h)
     → IsHouse (size.w * size.h) (exactly ones (column_places size x))
     → IsHouseOf size (record { line = Column x; bits = bits } ∷ []) ones ones (exactly ones (column_places size x))
-column-house size x bits ones lt is house = record {
+column-house size {x} bits ones lt is house = record {
   is = house;
   least_is = refl;
   most_is = refl;
-  cells = λ c. column-has size x bits c lt is ∙ sym (lies-one size.w (record { line = Column x; bits = bits }) c);
+  cells = λ c. column-has size bits c lt is ∙ sym (lies-one size.w (record { line = Column x; bits = bits }) c);
 }
 
 pub row-house : (size : Extent) (y bits ones : ℕ) → 0 < size.w → ((k : ℕ) → k < size.w → has_bit bits k ≡ true)

@@ -1,7 +1,7 @@
 -- Words and lemmas of std and of the crates below, and words of this crate, as its proofs use them.
 pub use Rattle.std.proofs.Common.{Bool, List, None, Option, Some, [], add-one, ap, ap₂, arith, cond, drop, eqb, false, get_or, inl, inr, is_some, le-leb, leb}
-pub use Rattle.std.proofs.Common.{leb-true, length, length-set, ltb, map, max, min, not, refl, replicate, rules, set, slice_index, subst, suc, sym, take, true}
-pub use Rattle.std.proofs.Common.{vec_len, zero, ℕ, ◌%◌, ◌&&◌, ◌*◌, ◌++◌, ◌+◌, ◌-◌, ◌/◌, ◌<◌, ◌^◌, ◌||◌, ◌↔◌, ◌∙◌, ◌∷◌, ◌≡◌, ◌≢◌, ◌≤◌, ◌⊎◌}
+pub use Rattle.std.proofs.Common.{leb-true, length, length-set, ltb, map, max, min, not, refl, replicate, rules, set, slice_index, subst, suc, sym, take}
+pub use Rattle.std.proofs.Common.{true, vec_len, zero, ℕ, ◌%◌, ◌&&◌, ◌*◌, ◌++◌, ◌+◌, ◌-◌, ◌/◌, ◌<◌, ◌^◌, ◌||◌, ◌↔◌, ◌∙◌, ◌∷◌, ◌≡◌, ◌≢◌, ◌≤◌, ◌⊎◌}
 pub use Rattle.std.proofs.Math.Bool.{and-false, and-true, and_comm, or-false, or-true}
 pub use Rattle.std.proofs.Math.Nat.{div-eq_of_lt, div-lt_iff_lt-mul, div-mul-le_self, mod-lt, mul-le-mul_right}
 pub use Rattle.std.proofs.Math.Path.{fun_ext}
@@ -11,7 +11,8 @@ pub use Rattle.std.proofs.lemmas.Bool.{false_from_ne_true, false≢true, le-ltb,
 pub use Rattle.std.proofs.lemmas.Bool.{or_parts, or_right, true_from_ne_false, true≢false}
 pub use Rattle.std.proofs.lemmas.Grind.{common_steps}
 pub use Rattle.std.proofs.lemmas.List.{append-nil, append_assoc, at_drop_more, drop_all, get_or-append_right, get_or-map, get_or-replicate, get_or-set_other}
-pub use Rattle.std.proofs.lemmas.List.{get_or-set_same, get_or_append_left, get_or_past, length-append, length-map, length-take, map-append, map-set, take_all}
+pub use Rattle.std.proofs.lemmas.List.{get_or-set_same, get_or_append_left, get_or_past, length-append, length-map, length-take, map-append, map-set}
+pub use Rattle.std.proofs.lemmas.List.{take_all}
 pub use Rattle.std.proofs.lemmas.List.Elements.{All-from_get_or, filter-append, filter_agree}
 pub use Rattle.std.proofs.lemmas.List.Folds.{list_any-append, list_any_none}
 pub use Rattle.std.proofs.lemmas.List.FromFn.{get_or-map-range_with_len, get_or-range_with_len, length-map-range_with_len, length-range_with_len}
@@ -23,6 +24,7 @@ pub use Rattle.std.specs.Prelude.{MatchOption, ◌==◌}
 pub use Rattle.grid_core.proofs.CandidateLemmas.{all_below-at, all_below-from, any_below-here, any_below-none, any_below-same, any_below-some}
 pub use Rattle.grid_core.proofs.CandidateLemmas.{count_below-bound, count_below-few, count_below-lt, count_below-none, count_below-pos, count_below-same}
 pub use Rattle.grid_core.proofs.CandidateLemmas.{is_dead-each, is_dead-here, is_dead-not, least_below-passes, within_inside}
+pub use Rattle.grid_core.proofs.Common.{bool_byte}
 pub use Rattle.grid_core.proofs.GridLemmas.{only-inside, only-other, single-at}
 pub use Rattle.grid_core.proofs.PlaneLemmas.{further-more, further-none, place-column, place-in}
 pub use Rattle.grid_core.proofs.RegionLemmas.{column-at, row-at}
@@ -42,12 +44,14 @@ pub use Rattle.grid_core.specs.declared.planes.line.Line.{Line}
 pub use Rattle.grid_core.specs.declared.planes.line.Line.TheVariants.{Column, Row}
 pub use Rattle.grid_core.specs.declared.planes.touched.Touched.{Touched}
 pub use Rattle.gameid_core.proofs.FirstFailed.{AreRight, IsKnown, IsMade, Kind, first_in, known_tests, none_exactly, none_held, none_right, none_tells}
-pub use Rattle.gameid_core.proofs.FirstFailed.{right_none}
-pub use Rattle.gameid_core.specs.FirstFailed.{NoneFails}
+pub use Rattle.gameid_core.proofs.FirstFailed.{right_none, tests}
+pub use Rattle.gameid_core.specs.FirstFailed.{IsFirstFailed, NoneFails}
 pub use Rattle.gameid_core.specs.Puzzles.{AreCounts, IsLight, IsLightCell, IsTents, Light, Tents}
 pub use Rattle.gameid_core.specs.declared.light_up.cell.LightCell.{LightCell}
 pub use Rattle.gameid_core.specs.declared.light_up.cell.LightCell.TheVariants.{Black, Numbered, White}
-pub use Rattle.engine_core.proofs.IndexLemmas.{counted, numbered}
+pub use Rattle.engine_core.proofs.HouseLemmas.{IsStriking, kept-inside, striking-more}
+pub use Rattle.engine_core.proofs.IndexLemmas.{counted, not_taken, numbered, taken-here, taken-other}
+pub use Rattle.engine_core.specs.ClosingList.{IsClosing}
 pub use Rattle.engine_core.specs.Filling.{Fills, IsShown, has_value, strikes_by_fillings}
 pub use Rattle.engine_core.specs.FillingLaws.{Fills-cons, Fills-tail, filling_from_test, has_value_below, shown_from_test, test_from_filling, test_from_shown}
 pub use Rattle.engine_core.specs.HouseSets.{AreDifferent}
@@ -57,8 +61,10 @@ pub use Rattle.engine_core.specs.HouseSetsLaws.{strikes_at-in_scope, strikes_at-
 pub use Rattle.engine_core.specs.PlaceLaws.{AreDistinct, different-from, distinct-append, distinct-filter, distinct-from, has_place-at, has_place-here}
 pub use Rattle.engine_core.specs.PlaceLaws.{place-append, place-back, place-filter, place-front, place-kept}
 pub use Rattle.engine_core.specs.PlaneNotes.{AreKept, HasBoard}
+pub use Rattle.engine_core.specs.Position.{IsClosedAround, IsClosedBut}
 pub use Rattle.engine_core.specs.RuleSystem.{IsClosed, IsClosedGrid, IsLawful, IsNext, RuleSystem, needs_of}
 unfoldable pub use Rattle.engine_core.specs.RuleSystem.{after, has_place, longest}
+pub use Rattle.engine_core.specs.declared.mode.Closing.TheVariants.{Dead, Open}
 pub use Rattle.fields_core.specs.Count.{counts_between, is_empty, is_open, nonzeros}
 pub use Rattle.fields_core.specs.CountHouse.{AreHouses, AreMet, CountHouse, CountPuzzle, IsCounting, IsHouse, count_house_of, count_puzzle, exactly}
 pub use Rattle.fields_core.specs.CountHouse.{no_count_house, one_at_least, one_at_most, rules_of}
@@ -71,16 +77,19 @@ unfoldable pub use Rattle.fields_core.specs.Light.{solves_lights, white}
 pub use Rattle.fields_core.specs.LightFaults.{FailsLight, IsLightFault, light_tests}
 pub use Rattle.fields_core.specs.LightHouses.{column_house, light_counts, light_house, light_rules, lit_house, number_house, row_house}
 unfoldable pub use Rattle.fields_core.specs.LightHouses.{begins_column_run, begins_row_run, column_run, light_houses, row_run, seen_from}
-pub use Rattle.fields_core.specs.LightWords.{IsColumnRun, IsRowRun, has_number, numbers_of_row, row_runs_of_row}
-unfoldable pub use Rattle.fields_core.specs.LightWords.{is_numbered}
+pub use Rattle.fields_core.specs.LightLonely.{asks, lonely}
 pub use Rattle.fields_core.specs.LightPlanes.{ArePlanesOf, AreTablesKept}
 pub use Rattle.fields_core.specs.LightRunLines.{AreAround, AreRunsOf, IsClash, IsRunOf, column_runs_of_column}
 pub use Rattle.fields_core.specs.LightRunWords.{AreFilled, AreWritten, IsRunAt}
-pub use Rattle.fields_core.specs.LightRuns.{IsAround, begins_at, line_cells, line_white, run_house}
-pub use Rattle.fields_core.specs.LightSight.{RunsOn, SeesAlong, ShinesAlong}
-pub use Rattle.fields_core.specs.LightWaits.{AreIdleBut, AreLightsReady, AreLinesRested, AreLinesWoken, AreParted, AreSafe, AreSafeInColumns}
+pub use Rattle.fields_core.specs.LightRuns.{IsAround, IsLatest, begins_at, line_cells, line_white, run_house}
+pub use Rattle.fields_core.specs.LightSight.{RunsBack, RunsOn, SeesAlong, ShinesAlong}
+pub use Rattle.fields_core.specs.LightSolutions.{AreJoined, IsFromTo, IsLightSolution, Sees, SeesBulb, light_column, light_row}
+pub use Rattle.fields_core.specs.LightWaits.{AreColumnsParted, AreIdleBut, AreLightsReady, AreLinesRested, AreLinesWoken, AreParted, AreSafe}
+pub use Rattle.fields_core.specs.LightWaits.{AreSafeInColumns, AreWhitesIdleBut, IsAway, IsReach, lits_of_row, run_houses, run_lines, waiting_runs}
+pub use Rattle.fields_core.specs.LightWaits.{white_houses}
+pub use Rattle.fields_core.specs.LightWords.{IsColumnRun, IsRowRun, has_number, numbers_of_row, row_runs_of_row}
+unfoldable pub use Rattle.fields_core.specs.LightWords.{is_numbered}
 pub use Rattle.fields_core.specs.LineWords.{AreRowsOf, AreSpread, IsColumnOf, IsRowIn, IsRowOf}
-pub use Rattle.fields_core.specs.LightWaits.{AreWhitesIdleBut, IsAway, IsReach, lits_of_row, run_houses, run_lines, waiting_runs, white_houses, AreColumnsParted}
 pub use Rattle.fields_core.specs.Parts.{ArePartsCounted, ArePieces, ArePlanesAlive, IsBroken, IsCount, IsHouseOf, Piece, piece_at}
 unfoldable pub use Rattle.fields_core.specs.Parts.{lies_in, lies_in_first, without_value}
 pub use Rattle.fields_core.specs.Sweeps.{IsSweep, swept_by}
@@ -88,10 +97,12 @@ pub use Rattle.fields_core.specs.Tallies.{IsTally, stays}
 pub use Rattle.fields_core.specs.TentFaults.{FailsTents, IsTentFault, tent_tests}
 pub use Rattle.fields_core.specs.TentHouses.{column_of_tents, free_beside, row_of_tents, square_house, tent_counts, tent_house, tent_rules, tree_house}
 unfoldable pub use Rattle.fields_core.specs.TentHouses.{is_barred, tent_houses}
+pub use Rattle.fields_core.specs.TentNotes.{AreTentsWritten, IsFieldOf}
 pub use Rattle.fields_core.specs.TentPairs.{AreIn, tree_beside, tree_count, trees_of}
 unfoldable pub use Rattle.fields_core.specs.TentPairs.{may_pair}
 pub use Rattle.fields_core.specs.TentSolutions.{IsPairedBy, IsTentSolution}
 pub use Rattle.fields_core.specs.TentSquares.{squares_of_row, two_rows}
+pub use Rattle.fields_core.specs.TentTouching.{IsTentAmong, IsWindow}
 pub use Rattle.fields_core.specs.TentTrees.{AreBare, IsNear, trees_of_row}
 unfoldable pub use Rattle.fields_core.specs.TentTrees.{is_beside, wants_tent}
 pub use Rattle.fields_core.specs.TentWaits.{AreTentsRested, AreTentsWoken, all_of_kind, kind_houses, kind_lines, waiting}
@@ -102,5 +113,8 @@ unfoldable pub use Rattle.fields_core.specs.Visits.{after_houses, without_zeros}
 pub use Rattle.fields_core.specs.declared.count.house.Segment.{Segment}
 pub use Rattle.fields_core.specs.declared.count.name.HouseName.{HouseName}
 pub use Rattle.fields_core.specs.declared.count.tally.Tally.{Tally}
+pub use Rattle.fields_core.specs.declared.light_up.fault.LightFault.{LightFault}
+pub use Rattle.fields_core.specs.declared.light_up.light_house.LightHouse.{LightHouse}
 pub use Rattle.fields_core.specs.declared.planes.light_up.waits.RunKind.{RunKind}
 pub use Rattle.fields_core.specs.declared.planes.tents.waits.Kind.TheVariants.{Columns, Rows, Squares, Trees}
+pub use Rattle.fields_core.specs.declared.planes.tents.waits.Waits.{Waits}

@@ -25,8 +25,7 @@ pub filled-at : (K : Candidates) (places : List ℕ) {f : List ℕ} → Fills (s
     × (K (slice_index places k) (get_or f k 0) ≡ true)
 filled-at K places p lt = grind (arith, common_steps, length-sets_at, sets_at-small, get_or, sets_at-value)
 
-filled-from : (K : Candidates) (places f : List ℕ) → length f ≡ length places
-    → ((k : ℕ) → k < length places → (get_or f k 0 < 2)
+filled-from : (K : Candidates) (places f : List ℕ) → length f ≡ length places → ((k : ℕ) → k < length places → (get_or f k 0 < 2)
     × (K (slice_index places k) (get_or f k 0) ≡ true)) → Fills (sets_at 2 places K) f
 filled-from K places f long each = grind (arith, common_steps, length-sets_at, sets_at-value, get_or)
 
@@ -53,8 +52,7 @@ must-under K [] full = omega arith
 must-under K (x ∷ xs) full =
     by (full 0 (omega arith)) (must-under K xs (λ k lt. full (suc k) (omega arith))) (count-cons _ x xs) (count-cons _ x xs)
   where
-    by : (K x 0 ≡ true) ⊎ (K x 1 ≡ true) → must_of K xs ≤ may_of K xs
-        → must_of K (x ∷ xs) ≡ num (not (K x 0)) + must_of K xs
+    by : (K x 0 ≡ true) ⊎ (K x 1 ≡ true) → must_of K xs ≤ may_of K xs → must_of K (x ∷ xs) ≡ num (not (K x 0)) + must_of K xs
         → may_of K (x ∷ xs) ≡ num (K x 1) + may_of K xs
         → must_of K (x ∷ xs) ≤ may_of K (x ∷ xs)
     by (inl z) r a b = omega (arith, no z)
@@ -64,11 +62,10 @@ must-under K (x ∷ xs) full =
 abbrev Reached : Candidates → List ℕ → ℕ → Type 0
 Reached K places n = (f : List ℕ) × Fills (sets_at 2 places K) f × (nonzeros f ≡ n)
 
-reached-more : (K : Candidates) (x : ℕ) (xs : List ℕ) (n : ℕ) → IsFull K (x ∷ xs)
-    → must_of K (x ∷ xs) ≤ n → n ≤ may_of K (x ∷ xs)
+reached-more : (K : Candidates) (x : ℕ) (xs : List ℕ) {n : ℕ} → IsFull K (x ∷ xs) → must_of K (x ∷ xs) ≤ n → n ≤ may_of K (x ∷ xs)
     → ((m : ℕ) → must_of K xs ≤ m → m ≤ may_of K xs → Reached K xs m) → Reached K (x ∷ xs) n
 unfolding sets_at
-reached-more K x xs n full low high rest = elim (cases_Bool (K x 0)) [
+reached-more K x xs {n} full low high rest = elim (cases_Bool (K x 0)) [
   | inl z ↦ elim (cases_lt (may_of K xs) n) [
     | inr within ↦
         let w = rest n (let a = must_cons in let e = no z in omega arith) within in
@@ -98,7 +95,7 @@ reached-more K x xs n full low high rest = elim (cases_Bool (K x 0)) [
 ones-reached : (K : Candidates) (places : List ℕ) (n : ℕ) → IsFull K places → must_of K places ≤ n → n ≤ may_of K places → Reached K places n
 unfolding sets_at
 ones-reached K [] n full low high = ([], record { len = refl; each = λ k lt. absurd (omega arith) }, omega arith)
-ones-reached K (x ∷ xs) n full low high = reached-more K x xs n full low high (λ m. ones-reached K xs m (λ k lt. full (suc k) (omega arith)))
+ones-reached K (x ∷ xs) n full low high = reached-more K x xs full low high (λ m. ones-reached K xs m (λ k lt. full (suc k) (omega arith)))
 
 -- ---- one value of a cell alone
 module _ (K : Candidates) (places : List ℕ) (k v : ℕ) (different : AreDifferent places)
@@ -110,7 +107,7 @@ module _ (K : Candidates) (places : List ℕ) (k v : ℕ) (different : AreDiffer
   fixed c u = K c u && (not (eqb c cell) || eqb u v)
 
   others : {c : ℕ} (u : ℕ) → (c ≡ cell → ⊥) → fixed c u ≡ K c u
-  others {c} u ne = rw (ne_eqb c cell ne) (and-true (K c u))
+  others {c} u ne = rw (ne_eqb _ _ ne) (and-true (K c u))
 
   own : fixed cell v ≡ true
   own = rw (on, eq-eqb cell cell refl, eq-eqb v v refl) refl
@@ -151,32 +148,26 @@ module _ (K : Candidates) (places : List ℕ) (k v : ℕ) (different : AreDiffer
     ],
   ))
 
-  filled-fixed : (f : List ℕ) → Fills (sets_at 2 places fixed) f → Fills (sets_at 2 places K) f × (get_or f k 0 ≡ v)
-  filled-fixed f p = (
+  filled-fixed : {f : List ℕ} → Fills (sets_at 2 places fixed) f → Fills (sets_at 2 places K) f × (get_or f k 0 ≡ v)
+  filled-fixed {f} p = (
     filled-from K places f (p.len ∙ length-sets_at 2 places fixed)
-        (λ j lj. let w = filled-at fixed places p lj in
-        (w.0, (and_parts (K (slice_index places j) (get_or f j 0)) _ w.1).0)),
-    elim (cases_eq _ v) [
-      | inl is ↦ is
-      | inr ne ↦ absurd (true≢false (sym (filled-at fixed places p lt).1 ∙ own-alone ne))
-    ],
+        (λ j lj. let w = filled-at fixed places p lj in (w.0, (and_parts _ _ w.1).0)),
+    elim (cases_eq _ v) [ inl is ↦ is | inr ne ↦ absurd (true≢false (sym (filled-at fixed places p lt).1 ∙ own-alone ne)) ],
   )
 
   pub shown-bounds : (least most : ℕ) → IsShown (counts_between least most) (sets_at 2 places K) k v
       → (least ≤ most) × (least + num (K cell 1) ≤ may_of K places + v) × (must_of K places + v ≤ most + num (not (K cell 0)))
   shown-bounds least most (f, s) = grind (arith, common_steps, ones-bounds, fixed-filled, and_parts, leb-true, must-fixed, may-fixed)
 
-  pub bounds-shown : {least most : ℕ} → IsFull K places → least ≤ most
-      → least + num (K cell 1) ≤ may_of K places + v
+  pub bounds-shown : {least most : ℕ} → IsFull K places → least ≤ most → least + num (K cell 1) ≤ may_of K places + v
       → must_of K places + v ≤ most + num (not (K cell 0))
       → IsShown (counts_between least most) (sets_at 2 places K) k v
   bounds-shown {least} {most} full order few many =
-      let m = must-fixed in
-      let n = may-fixed in
+      let m = must-fixed in let n = may-fixed in
       let w =
       ones-reached fixed places (max least (must_of fixed places)) (full-fixed full)
       (omega arith) (omega (arith, must-under fixed places (full-fixed full))) in
-      let o = filled-fixed w.0 w.1 in
+      let o = filled-fixed w.1 in
       (w.0, record { fills = o.0; holds_true = and_from _ _ (le-leb least _ (omega (arith, w.2))) (le-leb _ most (omega (arith, w.2))); has_it = o.1 })
 
   -- a cell that has both values may hold a one and need not

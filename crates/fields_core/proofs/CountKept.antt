@@ -11,8 +11,8 @@ not-empty K c {v} low on none = grind (arith, common_steps, cases_eq v 0, and_pa
 pub has-value : (K : Candidates) (c : ℕ) → (K c 0 ≡ true) ⊎ (K c 1 ≡ true) → is_empty K c ≡ false
 has-value K c some = grind (arith, common_steps, cases_Bool)
 
-by-value : (K : Candidates) (c v : ℕ) → v < 2 → K c v ≡ true → cond (eqb v 0) (K c 0) (K c 1) ≡ true
-by-value K c v low on = grind (arith, common_steps, cases_eq v 0, ne_eqb)
+by-value : (K : Candidates) (c : ℕ) {v : ℕ} → v < 2 → K c v ≡ true → cond (eqb v 0) (K c 0) (K c 1) ≡ true
+by-value K c {v} low on = grind (arith, common_steps, cases_eq v 0, ne_eqb)
 
 -- there is room for a value that a cell has, unless it has both and the value's bound is reached
 room : {least most must may : ℕ} (v : ℕ) (zero_on one_on : Bool) → v < 2 → cond (eqb v 0) zero_on one_on ≡ true → least ≤ may → must ≤ most
@@ -45,33 +45,30 @@ module _ (cells : ℕ) (house : CountHouse) (K : Candidates) (t : Tally) (is : I
   Shown k v = IsShown (counts_between house.least house.most) (sets_at 2 house.places K) k v
 
   -- a value that a filling has stays, and the other way round
-  shown-stays : (k v : ℕ) → k < length house.places → v < 2 → K (at k) v ≡ true → Shown k v → stays t (bounds_of house) (is_open K (at k)) v ≡ true
-  shown-stays k v lt low on (f, s) =
+  shown-stays : {k v : ℕ} → k < length house.places → v < 2 → K (at k) v ≡ true → Shown k v → stays t (bounds_of house) (is_open K (at k)) v ≡ true
+  shown-stays {k} {v} lt low on (f, s) =
       let b = shown-bounds K house.places k v is.different lt low on house.least house.most (f, s) in
-      let w = reached {least = house.least} {most = house.most} {must = t.must} {may = t.may} v (K (at k) 0) (K (at k) 1) low (by-value K (at k) v low on) (omega (arith, b.1, tally.may_is)) (omega (arith, b.2, tally.must_is)) in
+      let w = reached {least = house.least} {most = house.most} {must = t.must} {may = t.may} v (K (at k) 0) (K (at k) 1) low (by-value K (at k) low on) (omega (arith, b.1, tally.may_is)) (omega (arith, b.2, tally.must_is)) in
       let none : t.empty ≡ 0 = tally.empty_is ∙ count-none (is_empty K) house.places (λ c there. false_from_ne_true _ (λ gone.
-      let j = has_place-at house.places c there in
-      let u = filled-at K house.places s.fills j.1 in
+      let j = has_place-at house.places c there in let u = filled-at K house.places s.fills j.1 in
       not-empty K (at j.0) u.0 u.1 (rw j.2 gone))) in
-      rw (none, le-ltb house.most house.least b.0, le-ltb t.may house.least w.0, le-ltb house.most t.must w.1, w.2) refl
+      rw (none, le-ltb _ _ b.0, le-ltb _ _ w.0, le-ltb _ _ w.1, w.2) refl
 
-  stays-shown : (k v : ℕ) → k < length house.places → v < 2 → K (at k) v ≡ true → stays t (bounds_of house) (is_open K (at k)) v ≡ true → Shown k v
-  stays-shown k v lt low on stay =
-      let both = and_parts _ _ stay in
-      let a = or_parts _ _ (not-true _ both.0) in
-      let order = or_parts _ _ a.1 in
-      let ends = or_parts _ _ order.1 in
+  stays-shown : {k v : ℕ} → k < length house.places → v < 2 → K (at k) v ≡ true → stays t (bounds_of house) (is_open K (at k)) v ≡ true → Shown k v
+  stays-shown {k} {v} lt low on stay =
+      let both = and_parts _ _ stay in let a = or_parts _ _ (not-true _ both.0) in
+      let order = or_parts _ _ a.1 in let ends = or_parts _ _ order.1 in
       let none : t.empty ≡ 0 = let e = ltb-false 0 t.empty a.0 in omega arith in
-      let w = room v (K (at k) 0) (K (at k) 1) low (by-value K (at k) v low on)
+      let w = room v (K (at k) 0) (K (at k) 1) low (by-value K (at k) low on)
       (ltb-false t.may house.least ends.0) (ltb-false house.most t.must ends.1) (not-true _ both.1) in
       bounds-shown K house.places k v is.different lt low on (full none) (ltb-false house.most house.least order.0)
       (omega (arith, w.0, tally.may_is)) (omega (arith, w.1, tally.must_is))
 
-  pub stays-at : (k v : ℕ) → k < length house.places → v < 2 → (K (at k) v && not (struck k v)) ≡ (K (at k) v && stays t (bounds_of house) (is_open K (at k)) v)
-  stays-at k v lt low = elim (cases_Bool (K (at k) v)) [
+  pub stays-at : {k v : ℕ} → k < length house.places → v < 2 → (K (at k) v && not (struck k v)) ≡ (K (at k) v && stays t (bounds_of house) (is_open K (at k)) v)
+  stays-at {k} {v} lt low = elim (cases_Bool (K (at k) v)) [
     | inl on ↦ ap (λ b. K (at k) v && b) (same-truth _ _
-        (λ off. shown-stays k v lt low on (shown_from_test _ _ k v (not-true _ off)))
-        (λ stay. ap not (test_from_shown _ _ k v (stays-shown k v lt low on stay))))
+        (λ off. shown-stays lt low on (shown_from_test _ _ k v (not-true _ off)))
+        (λ stay. ap not (test_from_shown _ _ k v (stays-shown lt low on stay))))
     | inr off ↦ rw off refl
   ]
 
@@ -81,7 +78,7 @@ module _ (cells : ℕ) (house : CountHouse) (K : Candidates) (t : Tally) (is : I
   after-at {k} {v} lt low =
       ap (λ b. K (at k) v && not b)
       (strikes_at-place 2 house.places (strikes_by_fillings (counts_between house.least house.most))
-      K k v is.different lt) ∙ stays-at k v lt low
+      K k v is.different lt) ∙ stays-at lt low
 
   -- a house strikes nothing where both values of a cell with both would stay, if there may be such a cell
   pub idle-at : ((v : ℕ) → v < 2 → stays t (bounds_of house) (not (eqb t.must t.may)) v ≡ true) → (c v : ℕ) → v < 2 → K c v ≡ true
@@ -90,8 +87,7 @@ module _ (cells : ℕ) (house : CountHouse) (K : Candidates) (t : Tally) (is : I
   idle-at all c v low on = elim (cases_Bool _) [
     | inr out ↦ off-scope house K c v out
     | inl here ↦ let w = has_place-at house.places c here in
-        rw (sym w.2) (by (K (at w.0) v) _ (rw (sym w.2) at on)
-        (after-at w.1 low ∙ ap (λ b. K (at w.0) v && b) (stays-all w.0 w.1)))
+        rw (sym w.2) (by (K (at w.0) v) _ (rw (sym w.2) at on) (after-at w.1 low ∙ ap (λ b. K (at w.0) v && b) (stays-all w.1)))
   ]
     where
       by : (a b : Bool) → a ≡ true → (a && not b) ≡ (a && true) → b ≡ false
@@ -103,8 +99,8 @@ module _ (cells : ℕ) (house : CountHouse) (K : Candidates) (t : Tally) (is : I
           let more = open-room K house.places k 0 is.different lt (omega arith) (and_parts (K (at k) 0) (K (at k) 1) both).0 (full (omega arith)) both in
           ap not (ne_eqb t.must t.may (λ e. absurd (omega (arith, more, tally.must_is, tally.may_is))))
 
-      stays-all : (k : ℕ) → k < length house.places → stays t (bounds_of house) (is_open K (at k)) v ≡ true
-      stays-all k lt = elim (cases_Bool (is_open K (at k))) [
+      stays-all : {k : ℕ} → k < length house.places → stays t (bounds_of house) (is_open K (at k)) v ≡ true
+      stays-all {k} lt = elim (cases_Bool (is_open K (at k))) [
         | inl both ↦ rw both (rw (apart k lt both) at (all v low))
         | inr shut ↦ rw shut (ap (λ b. b && true) (and_parts _ _ (all v low)).0)
       ]

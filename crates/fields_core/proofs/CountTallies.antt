@@ -1,6 +1,5 @@
 -- What is counted of the cells of count houses.
-use Rattle.fields_core.proofs.Common.{Bool, Candidates, CountHouse, IsHouse, IsTally, List, Segment, Tally, [], ap, ap₂, arith, at_drop_more, cases_Bool, common_steps, count_by, count_by-le-length, drop, drop_all, eq-eqb, get_or, has_place, is_empty, length, not, or_right, places_of, refl, segment_places, slice_index, sym, true, ℕ, ◌&&◌, ◌++◌, ◌+◌, ◌<◌, ◌∷◌, ◌≡◌, ◌≤◌}
-use Rattle.grid_core.proofs.Common.{bool_byte}
+use Rattle.fields_core.proofs.Common.{Bool, Candidates, CountHouse, IsHouse, IsTally, List, Segment, Tally, [], ap, ap₂, arith, at_drop_more, bool_byte, cases_Bool, common_steps, count_by, count_by-le-length, drop, drop_all, eq-eqb, get_or, has_place, is_empty, length, not, or_right, places_of, refl, segment_places, slice_index, sym, true, ℕ, ◌&&◌, ◌++◌, ◌+◌, ◌<◌, ◌∷◌, ◌≡◌, ◌≤◌}
 use Rattle.fields_core.proofs.HouseLemmas.{places-more}
 use Rattle.fields_core.proofs.PlaceLists.{num, count-cons}
 
@@ -25,7 +24,7 @@ module _ {K : Candidates} {cells : ℕ} {house : CountHouse} where
   pub tally-segment : {t : Tally} (segments : List Segment) (n : ℕ) (s d : Segment) → IsTallyBefore K cells house (places_of (drop n segments)) t
       → n < length segments → s ≡ get_or segments n d
       → IsTallyBefore K cells house (drop 0 (segment_places s) ++ places_of (drop (n + 1) segments)) t
-  tally-segment segments n s d is lt e = rw (sym e) at (rw (places-more segments n d lt) at is)
+  tally-segment segments n s d is lt e = rw (sym e) at (rw (places-more segments d lt) at is)
 
   module _ {t : Tally} (places rest : List ℕ) (k : ℕ) where
     pub tally-within : {c : ℕ} → IsTallyBefore K cells house (drop k places ++ rest) t → k < length places → c ≡ slice_index places k → c < cells
@@ -37,8 +36,7 @@ module _ {K : Candidates} {cells : ℕ} {house : CountHouse} where
         → IsTallyBefore K cells house (drop (k + 1) places ++ rest) (record { must = t.must + bool_byte (not zero); may = t.may + bool_byte one; empty = t.empty + bool_byte (not zero && not one) })
     unfolding has_place
     tally-next {c} {zero} {one} is lt here zeros ones =
-        let i = rw (next places rest k c lt here) at is in
-        let later = drop (k + 1) places ++ rest in
+        let i = rw (next places rest k c lt here) at is in let later = drop (k + 1) places ++ rest in
         record {
           must_is = omega (arith, i.must_is, count-cons (λ c. not (K c 0)) c later, ap (λ b. num (not b)) zeros, byte-num (not zero));
           may_is = omega (arith, i.may_is, count-cons (λ c. K c 1) c later, ap num ones, byte-num one);

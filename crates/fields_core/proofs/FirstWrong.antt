@@ -1,8 +1,5 @@
 -- The first test of a kind that fails, as a search for it tells.
-use Rattle.fields_core.proofs.Common.{AreRight, IsMade, IsNext, Kind, List, None, Option, Some, arith, first_in, not, not-false, not-true, ℕ, ◌++◌, ◌∷◌}
-use Rattle.gameid_core.proofs.FirstFailed.{tests}
-use Rattle.gameid_core.specs.FirstFailed.{IsFirstFailed}
-use Rattle.std.specs.List.{AllByRecursion}
+use Rattle.fields_core.proofs.Common.{AllByRecursion, AreRight, IsFirstFailed, IsMade, IsNext, Kind, List, None, Option, Some, arith, first_in, not, not-false, not-true, tests, ℕ, ◌++◌, ◌∷◌}
 
 -- so a search for a wrong one of this kind comes out
 abbrev pub IsSearched : {F : Type 0} → Kind F → Option ℕ → Type 0

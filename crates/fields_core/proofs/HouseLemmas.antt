@@ -10,9 +10,9 @@ pub segment-at : (s : Segment) (k : ℕ) → k < length (segment_places s) → s
 segment-at s k lt = grind (arith, common_steps, segment-long, get_or-map-range_with_len, slice_index)
 
 -- ---- the cells of the segments from a number on
-pub places-more : (cells : List Segment) (i : ℕ) (d : Segment) → i < length cells
+pub places-more : (cells : List Segment) {i : ℕ} (d : Segment) → i < length cells
     → places_of (drop i cells) ≡ segment_places (get_or cells i d) ++ places_of (drop (i + 1) cells)
-places-more cells i d lt = at_drop_more places_of cells i d lt
+places-more cells {i} d lt = at_drop_more places_of cells i d lt
 
 pub places-last : (cells : List Segment) (i : ℕ) (d : Segment) → i < length cells → length cells ≤ i + 1
     → places_of (drop i cells) ≡ segment_places (get_or cells i d)
@@ -37,13 +37,13 @@ four-long cells d four =
     omega (arith, rest 0 (omega arith), rest 1 (omega arith), rest 2 (omega arith), ap length (places-last cells 3 d (omega arith) (omega arith)), segment-long (get_or cells 3 d))
   where
     rest : (i : ℕ) → i < length cells → length (places_of (drop i cells)) ≡ (get_or cells i d).len + length (places_of (drop (i + 1) cells))
-    rest i lt = ap length (places-more cells i d lt) ∙ length-append _ _ ∙ ap (λ n. n + length (places_of (drop (i + 1) cells))) (sym (segment-long (get_or cells i d)))
+    rest i lt = ap length (places-more cells d lt) ∙ length-append _ _ ∙ ap (λ n. n + length (places_of (drop (i + 1) cells))) (sym (segment-long (get_or cells i d)))
 
 -- ---- whether a cell is among some
 pub has-next : (xs : List ℕ) (c : ℕ) (found : Option ℕ) → IsNext (λ k. eqb (slice_index xs k) c) (length xs) 0 found → is_some found ≡ has_place xs c
-has-next xs c (Some k) next = sym (rw (eqb-true (slice_index xs k) c next.2) at (has_place-here xs k next.1))
+has-next xs c (Some k) next = sym (rw (eqb-true _ _ next.2) at (has_place-here xs k next.1))
 has-next xs c None none = sym (false_from_ne_true _ (λ on.
-    let w = has_place-at xs c on in true≢false (sym (eq-eqb (slice_index xs w.0) c w.2) ∙ none w.0 (omega arith) w.1)))
+    let w = has_place-at xs c on in true≢false (sym (eq-eqb _ _ w.2) ∙ none w.0 (omega arith) w.1)))
 
 -- ---- segments of which those from a number on are empty
 none-left : (cells : List Segment) (d : Segment) → ((k : ℕ) → k < length cells → segment_places (get_or cells k d) ≡ []) → places_of cells ≡ []
@@ -104,17 +104,16 @@ module _ {K : Type 0} (told : K → ℕ → List CountHouse) where
   next-added f old items more n x added one = let z : n + (x + 1) ≡ n + x + 1 = omega arith in rw z (below-added f old items more (n + x) added one)
 
   -- names that were made apart, after others
-  pub joined-added : (a b more none : List (HouseName K)) (houses : List CountHouse) → none ≡ [] → more ≡ a ++ b → AreAdded told none b houses
+  pub joined-added : (a b more : List (HouseName K)) {none : List (HouseName K)} (houses : List CountHouse) → none ≡ [] → more ≡ a ++ b → AreAdded told none b houses
       → AreAdded told a more houses
-  joined-added a b more none houses e f added =
-      rw f (map-append (named told) a b ∙ ap (λ l. map (named told) a ++ l) (rw e at added))
+  joined-added a b more houses e f added = rw f (map-append (named told) a b ∙ ap (λ l. map (named told) a ++ l) (rw e at added))
 
   -- of four kinds, each of the numbers below some number
-  pub four-named : (a b c d e : List (HouseName K)) (f g h k : ℕ → List CountHouse) {i j l m i' j' l' m' : ℕ} → a ≡ []
+  pub four-named : {a : List (HouseName K)} (b c d e : List (HouseName K)) → a ≡ [] → (f g h k : ℕ → List CountHouse) {i j l m i' j' l' m' : ℕ}
       → AreAdded told a b (houses_below f i) → AreAdded told b c (houses_below g j) → AreAdded told c d (houses_below h l) → AreAdded told d e (houses_below k m)
       → i ≡ i' → j ≡ j' → l ≡ l' → m ≡ m'
       → AreNamed told e (houses_below f i' ++ (houses_below g j' ++ (houses_below h l' ++ houses_below k m')))
-  four-named a b c d e f g h k none p q r s same_i same_j same_l same_m =
+  four-named {a} b c d e none f g h k p q r s same_i same_j same_l same_m =
       rw (same_i, same_j, same_l, same_m, none) at (added-more a b e _ _ p (added-more b c e _ _ q (added-more c d e _ _ r s)))
 
 -- ---- the houses that are named
@@ -122,16 +121,16 @@ pub named-long : {K : Type 0} (told : K → ℕ → List CountHouse) (names : Li
     → AreNamed told names houses → length names ≡ length houses
 named-long told names houses are = sym (length-map names (named told)) ∙ ap length are ∙ length-map houses sized
 
-named-at : {K : Type 0} (told : K → ℕ → List CountHouse) (names : List (HouseName K)) (houses : List CountHouse) (h : ℕ) (d : HouseName K)
+named-at : {K : Type 0} (told : K → ℕ → List CountHouse) (names : List (HouseName K)) (houses : List CountHouse) {h : ℕ} (d : HouseName K)
     → AreNamed told names houses → h < length names → named told (get_or names h d) ≡ sized (count_house_of houses h)
-named-at told names houses h d are lt =
+named-at told names houses {h} d are lt =
     sym (get_or-map (named told) names h d (sized no_count_house) lt) ∙ ap (λ l. get_or l h (sized no_count_house)) are
     ∙ get_or-map sized houses h no_count_house (sized no_count_house) (rw (named-long told names houses are) at lt)
 
-pub named-told : {K : Type 0} (told : K → ℕ → List CountHouse) (names : List (HouseName K)) (houses : List CountHouse) (h : ℕ) (d : HouseName K)
+pub named-told : {K : Type 0} (told : K → ℕ → List CountHouse) (names : List (HouseName K)) (houses : List CountHouse) {h : ℕ} (d : HouseName K)
     → AreNamed told names houses → h < length names → told (get_or names h d).kind (get_or names h d).place ≡ count_house_of houses h ∷ []
-named-told told names houses h d are lt = ap (λ pair. pair.0) (named-at told names houses h d are lt)
+named-told told names houses {h} d are lt = ap (λ pair. pair.0) (named-at told names houses d are lt)
 
-pub named-cells : {K : Type 0} (told : K → ℕ → List CountHouse) (names : List (HouseName K)) (houses : List CountHouse) (h : ℕ) (d : HouseName K)
+pub named-cells : {K : Type 0} (told : K → ℕ → List CountHouse) (names : List (HouseName K)) (houses : List CountHouse) {h : ℕ} (d : HouseName K)
     → AreNamed told names houses → h < length names → (get_or names h d).cells ≡ length (count_house_of houses h).places
-named-cells told names houses h d are lt = ap (λ pair. pair.1) (named-at told names houses h d are lt)
+named-cells told names houses d are lt = ap (λ pair. pair.1) (named-at told names houses d are lt)

@@ -46,8 +46,7 @@ pub beside-count : (test : ℕ → Bool) (size : Extent) (x y : ℕ) → x < siz
     ≡ length (filter test (steps size (y * size.w + x) 4))
 unfolding steps step
 beside-count test size x y lt =
-    let c = y * size.w + x in
-    let row = div-mul-add y size.w x lt in
+    let c = y * size.w + x in let row = div-mul-add y size.w x lt in
     let column = place-column size.w y x lt in
     omega (
       arith,

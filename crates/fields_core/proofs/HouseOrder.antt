@@ -1,12 +1,9 @@
 -- Houses of one at most, visited in any order.
-unfoldable use Rattle.engine_core.specs.RuleSystem.{has_place}
-use Rattle.fields_core.proofs.Common.{AllByRecursion, AreDistinct, ArePlanesAlive, AreVisited, Bool, Candidates, CountHouse, IsHouse, IsInside, Layers, List, [], after_house, and-true, and_from, and_parts, ap, arith, cases_Bool, cells_of, common_steps, count_by, distinct-from, eq-eqb, eqb, eqb-true, false, false_from_ne_true, false≢true, fun_ext, has, inl, inr, list_any, lt-ltb, ltb, ltb-false, ltb-true, not, not-true, or_cases, or_left, or_parts, or_right, refl, sym, true, true≢false, ℕ, ◌&&◌, ◌<◌, ◌||◌, ◌∙◌, ◌∷◌, ◌≡◌, ◌≢◌, ◌⊎◌}
-unfoldable use Rattle.fields_core.specs.Visits.{after_houses}
+use Rattle.fields_core.proofs.Common.{AllByRecursion, AreDistinct, ArePlanesAlive, AreVisited, Bool, Candidates, CountHouse, IsHouse, IsInside, Layers, List, [], after_house, after_houses, and-true, and_from, and_parts, ap, arith, cases_Bool, cells_of, common_steps, count_by, distinct-from, eq-eqb, eqb, eqb-true, false, false_from_ne_true, false≢true, fun_ext, has, has_place, inl, inr, list_any, lt-ltb, ltb, ltb-false, ltb-true, not, not-true, or_cases, or_left, or_parts, or_right, refl, sym, true, true≢false, ℕ, ◌&&◌, ◌<◌, ◌||◌, ◌∙◌, ◌∷◌, ◌≡◌, ◌≢◌, ◌⊎◌}
 use Rattle.fields_core.proofs.AtMostLemmas.{IsFull, IsOneAtMost, visits-met, visits-two, zeros_of}
 unfoldable use Rattle.fields_core.proofs.AtMostLemmas.{is_met, without_met}
 use Rattle.fields_core.proofs.BelowLemmas.{any-here, any-some}
-use Rattle.fields_core.proofs.IdleAfter.{Keeps}
-use Rattle.fields_core.proofs.IdleLemmas.{idle-first}
+use Rattle.fields_core.proofs.IdleLemmas.{Keeps, idle-first}
 use Rattle.fields_core.proofs.PartLemmas.{value-in}
 use Rattle.fields_core.proofs.PlaceLists.{count-cons, num, some-counted}
 use Rattle.fields_core.proofs.LightRunLines.{each-more}
@@ -36,20 +33,19 @@ count-pair test (x ∷ xs) distinct many = by (λ more. count-pair test xs disti
     by rest true on =
         let one : num (test x) ≡ 1 = rw on refl in
         let more : 0 < count_by test xs = omega (arith, many, count-cons test x xs, one) in
-        let w = any-some test xs (sym (some-counted test xs) ∙ lt-ltb 0 (count_by test xs) more) in (
+        let w = any-some test xs (sym (some-counted test xs) ∙ lt-ltb _ _ more) in (
           x,
           w.0,
           λ same. true≢false (sym (rw same w.1) ∙ distinct.0),
-          or_left (eqb x x) (has_place xs x) (eq-eqb x x refl),
-          or_right (eqb x w.0) (has_place xs w.0) w.1,
+          or_left _ _ (eq-eqb x x refl),
+          or_right _ _ w.1,
           on,
           w.2,
         )
     by rest false off =
         let none : num (test x) ≡ 0 = rw off refl in
-        let more : 1 < count_by test xs = omega (arith, many, count-cons test x xs, none) in
-        let w = rest more in
-        (w.0, w.1, w.2, or_right (eqb x w.0) (has_place xs w.0) w.3, or_right (eqb x w.1) (has_place xs w.1) w.4, w.5, w.6)
+        let more : 1 < count_by test xs = omega (arith, many, count-cons test x xs, none) in let w = rest more in
+        (w.0, w.1, w.2, or_right _ _ w.3, or_right _ _ w.4, w.5, w.6)
 
 -- more than one cell of the house has no 0
 abbrev many_in : Candidates → CountHouse → Bool
@@ -60,18 +56,18 @@ pair-of : (cells : ℕ) (K : Candidates) (houses : List CountHouse) → AllByRec
     → (d : ℕ) × (e : ℕ) × (d < cells) × (d ≢ e) × (K d 0 ≡ false) × (K e 0 ≡ false)
     × (list_any (λ house. has_place house.places d && has_place house.places e) houses ≡ true)
 pair-of cells K [] each some = absurd (false≢true some)
-pair-of cells K (house ∷ houses) (is, each) some = elim (or_cases (many_in K house) (list_any (many_in K) houses) some) [
+pair-of cells K (house ∷ houses) (is, each) some = elim (or_cases _ _ some) [
   | inl here ↦
       let w = count-pair (λ d. not (K d 0)) house.places (distinct-from house.places is.is.different)
-      (ltb-true 1 (count_by (λ d. not (K d 0)) house.places) here) in (
+      (ltb-true _ _ here) in (
         w.0,
         w.1,
         is.is.within w.0 w.3,
         w.2,
-        not-true (K w.0 0) w.5,
-        not-true (K w.1 0) w.6,
-        or_left (has_place house.places w.0 && has_place house.places w.1)
-            (list_any (λ house. has_place house.places w.0 && has_place house.places w.1) houses) (and_from _ _ w.3 w.4),
+        not-true _ w.5,
+        not-true _ w.6,
+        or_left _
+            _ (and_from _ _ w.3 w.4),
       )
   | inr more ↦
       let w = pair-of cells K houses each more in (
@@ -81,8 +77,8 @@ pair-of cells K (house ∷ houses) (is, each) some = elim (or_cases (many_in K h
         w.3,
         w.4,
         w.5,
-        or_right (has_place house.places w.0 && has_place house.places w.1)
-            (list_any (λ house. has_place house.places w.0 && has_place house.places w.1) houses) w.6,
+        or_right _
+            _ w.6,
       )
 ]
 
@@ -90,13 +86,8 @@ few-of : (cells : ℕ) (K : Candidates) (houses : List CountHouse) → AllByRecu
     → list_any (many_in K) houses ≡ false → AllByRecursion (IsOneAtMost cells (zeros_of K)) houses
 few-of cells K [] each none = tt
 few-of cells K (house ∷ houses) (is, each) none =
-    let off = or_parts (many_in K house) (list_any (many_in K) houses) none in (
-      record {
-        is = is.is;
-        least_is = is.least_is;
-        most_is = is.most_is;
-        few = ltb-false 1 (count_by (λ d. not (K d 0)) house.places) off.0;
-      },
+    let off = or_parts _ _ none in (
+      record { is = is.is; least_is = is.least_is; most_is = is.most_is; few = ltb-false _ _ off.0 },
       few-of cells K houses each off.1,
     )
 
@@ -148,8 +139,7 @@ module _ (some all : List CountHouse) (from to : Layers) (fills : Bool) (alive :
   whole : list_any (many_in (has from)) some ≡ false → AreVisited all from to fills
   unfolding without_met
   whole none =
-      let as_some = met some each_some none in
-      let as_all = met all each_all (sym (same (many_in (has from))) ∙ none) in
+      let as_some = met some each_some none in let as_all = met all each_all (sym (same (many_in (has from))) ∙ none) in
       record {
         left = λ e. visited.left e ∙ as_some ∙ moved ∙ sym as_all;
         dies = λ e. let w = visited.dies e in absurd (living w.0 (alive w.0 w.1)
@@ -171,10 +161,7 @@ module _ (some all : List CountHouse) (from to : Layers) (fills : Bool) (alive :
           by any zero one value = grind (arith, common_steps, cases_Bool (has from c 0), cases_Bool (has from c 1), cases_Bool any)
 
   pub visited-any-order : AreVisited all from to fills
-  visited-any-order = elim (cases_Bool (list_any (many_in (has from)) some)) [
-    | inl many ↦ broken many
-    | inr none ↦ whole none
-  ]
+  visited-any-order = elim (cases_Bool (list_any (many_in (has from)) some)) [ inl many ↦ broken many | inr none ↦ whole none ]
 
 -- ---- visits that take nothing
 -- the cells of a house have 0 in both boards, or in neither
@@ -184,39 +171,39 @@ AreZerosKept has_it K L = (c : ℕ) → has_it c ≡ true → L c 0 ≡ K c 0
 module _ (cells : ℕ) (house : CountHouse) (K L : Candidates) (is : IsSingle cells house) (full_K : IsFull cells K) (full_L : IsFull cells L)
     (inside : IsInside L K) (zeros : AreZerosKept (has_place house.places) K L) (idle : after_house house K ≡ K) where
   -- not two of its cells must be ones
-  not-two : (d e : ℕ) → d ≢ e → has_place house.places d ≡ true → has_place house.places e ≡ true → K d 0 ≡ false → K e 0 ≡ false → ⊥
+  not-two : {d e : ℕ} → d ≢ e → has_place house.places d ≡ true → has_place house.places e ≡ true → K d 0 ≡ false → K e 0 ≡ false → ⊥
   unfolding after_houses
-  not-two d e ne in_d in_e off_d off_e = elim (full_K.some d (is.is.within d in_d)) [
+  not-two {d} {e} ne in_d in_e off_d off_e = elim (full_K.some d (is.is.within d in_d)) [
     | inl zero_on ↦ true≢false (sym zero_on ∙ off_d)
     | inr one_on ↦ true≢false (sym one_on ∙ ap (λ (M : Candidates). M d 1) (sym idle)
-        ∙ visits-two cells (house ∷ []) K d e 1 ((is.is, is.most_is), tt) ne (or_left _ false (and_from _ _ in_d in_e)) off_d off_e (omega arith))
+        ∙ visits-two cells (house ∷ []) K d e 1 ((is.is, is.most_is), tt) ne (or_left _ _ (and_from _ _ in_d in_e)) off_d off_e (omega arith))
   ]
 
   none-many : (M : Candidates) → ((c : ℕ) → has_place house.places c ≡ true → M c 0 ≡ K c 0) → list_any (many_in M) (house ∷ []) ≡ false
-  none-many M same = false_from_ne_true _ (λ on. elim (or_cases (many_in M house) false on) [
+  none-many M same = false_from_ne_true _ (λ on. elim (or_cases _ _ on) [
     | inr never ↦ false≢true never
     | inl many ↦
-        let w = count-pair (λ d. not (M d 0)) house.places (distinct-from house.places is.is.different) (ltb-true 1 (count_by (λ d. not (M d 0)) house.places) many) in
-        not-two w.0 w.1 w.2 w.3 w.4 (sym (same w.0 w.3) ∙ not-true (M w.0 0) w.5) (sym (same w.1 w.4) ∙ not-true (M w.1 0) w.6)
+        let w = count-pair (λ d. not (M d 0)) house.places (distinct-from house.places is.is.different) (ltb-true _ _ many) in
+        not-two w.2 w.3 w.4 (sym (same w.0 w.3) ∙ not-true _ w.5) (sym (same w.1 w.4) ∙ not-true _ w.6)
   ])
 
-  left-by : (M : Candidates) → IsFull cells M → ((c : ℕ) → has_place house.places c ≡ true → M c 0 ≡ K c 0)
+  left-by : {M : Candidates} → IsFull cells M → ((c : ℕ) → has_place house.places c ≡ true → M c 0 ≡ K c 0)
       → after_house house M ≡ without_met (house ∷ []) M
   unfolding after_houses
-  left-by M full same = visits-met (house ∷ []) M full (few-of cells M (house ∷ []) (is, tt) (none-many M same))
+  left-by {M} full same = visits-met (house ∷ []) M full (few-of cells M (house ∷ []) (is, tt) (none-many M same))
 
   pub single-kept : after_house house L ≡ L
   unfolding without_met is_met
-  single-kept = left-by L full_L zeros ∙ fun_ext λ c. fun_ext λ v. by c v (cases_Bool (L c v && (eqb v 1 && (L c 0 && is_met (zeros_of L) house c))))
+  single-kept = left-by full_L zeros ∙ fun_ext λ c. fun_ext λ v. by c v (cases_Bool (L c v && (eqb v 1 && (L c 0 && is_met (zeros_of L) house c))))
     where
       struck : (c v : ℕ) → L c v ≡ true → v ≡ 1 → L c 0 ≡ true → has_place house.places c ≡ true
           → list_any (λ d. not (L d 0)) house.places ≡ true → ⊥
       struck c v on one zero_on there some =
           let w = any-some (λ d. not (L d 0)) house.places some in
-          let off : K w.0 0 ≡ false = sym (zeros w.0 w.1) ∙ not-true (L w.0 0) w.2 in
+          let off : K w.0 0 ≡ false = sym (zeros w.0 w.1) ∙ not-true _ w.2 in
           let met : is_met (zeros_of K) house c ≡ true = and_from _ _ there (any-here (λ d. not (K d 0)) house.places w.0 w.1 (ap not off)) in
           let here : K c 1 ≡ true = rw one at (inside c v on) in
-          let gone : without_met (house ∷ []) K c 1 ≡ true = ap (λ (M : Candidates). M c 1) (sym (left-by K full_K (λ c _. refl)) ∙ idle) ∙ here in
+          let gone : without_met (house ∷ []) K c 1 ≡ true = ap (λ (M : Candidates). M c 1) (sym (left-by full_K (λ c _. refl)) ∙ idle) ∙ here in
           true≢false (sym gone ∙ rw (here, inside c 0 zero_on, met) refl)
 
       by : (c v : ℕ) → ((L c v && (eqb v 1 && (L c 0 && is_met (zeros_of L) house c))) ≡ true)
@@ -227,11 +214,9 @@ module _ (cells : ℕ) (house : CountHouse) (K L : Candidates) (is : IsSingle ce
           same : (a e z i : Bool) → (a && (e && (z && i))) ≡ false → (a && not (e && (z && (i || false)))) ≡ a
           same a e z i off = grind (arith, common_steps, cases_Bool a, cases_Bool e, cases_Bool z, cases_Bool i)
       by c v (inl on) =
-          let w = and_parts (L c v) _ on in
-          let u = and_parts (eqb v 1) _ w.1 in
-          let x = and_parts (L c 0) _ u.1 in
-          let y = and_parts (has_place house.places c) _ x.1 in
-          absurd (struck c v w.0 (eqb-true v 1 u.0) x.0 y.0 y.1)
+          let w = and_parts _ _ on in let u = and_parts _ _ w.1 in
+          let x = and_parts _ _ u.1 in let y = and_parts _ _ x.1 in
+          absurd (struck c v w.0 (eqb-true _ _ u.0) x.0 y.0 y.1)
 
 -- houses of one at most whose visits take nothing: nor do they where only ones of their cells were lost since
 pub singles-kept : (cells : ℕ) (houses : List CountHouse) (K L : Candidates) → AllByRecursion (IsSingle cells) houses
@@ -241,15 +226,15 @@ unfolding after_houses
 singles-kept cells [] K L each full_K full_L inside zeros idle = refl
 singles-kept cells (house ∷ houses) K L (is, each) full_K full_L inside zeros idle =
     let first = idle-first house houses K idle in
-    rw (single-kept cells house K L is full_K full_L inside (λ c on. zeros c (or_left (has_place house.places c) _ on)) first)
-    (singles-kept cells houses K L each full_K full_L inside (λ c on. zeros c (or_right (has_place house.places c) _ on)) (rw first at idle))
+    rw (single-kept cells house K L is full_K full_L inside (λ c on. zeros c (or_left _ _ on)) first)
+    (singles-kept cells houses K L each full_K full_L inside (λ c on. zeros c (or_right _ _ on)) (rw first at idle))
 
 -- ---- visits of houses of one at most that leave each cell a value
 -- no cell loses 0
-pub singles-zeros : (cells : ℕ) (houses : List CountHouse) (K : Candidates) → AllByRecursion (IsSingle cells) houses → IsFull cells K
+pub singles-zeros : {cells : ℕ} (houses : List CountHouse) {K : Candidates} → AllByRecursion (IsSingle cells) houses → IsFull cells K
     → IsFull cells (after_houses houses K) → (c : ℕ) → after_houses houses K c 0 ≡ K c 0
 unfolding without_met
-singles-zeros cells houses K each full after c = elim (cases_Bool (list_any (many_in K) houses)) [
+singles-zeros {cells} houses {K} each full after c = elim (cases_Bool (list_any (many_in K) houses)) [
   | inr none ↦ ap (λ (M : Candidates). M c 0) (visits-met houses K full (few-of cells K houses each none)) ∙ and-true (K c 0)
   | inl many ↦
       let w = pair-of cells K houses each many in
@@ -265,4 +250,4 @@ singles-zeros cells houses K each full after c = elim (cases_Bool (list_any (man
 pub single-keeps : (cells : ℕ) (visited house : CountHouse) → IsSingle cells visited → IsSingle cells house → Keeps cells visited house
 unfolding after_houses
 single-keeps cells visited house is other K full still idle = single-kept cells house K (after_house visited K) other full still
-    (after-inside visited K) (λ c _. singles-zeros cells (visited ∷ []) K (is, tt) full still c) idle
+    (after-inside visited K) (λ c _. singles-zeros (visited ∷ []) (is, tt) full still c) idle

@@ -1,8 +1,7 @@
 -- What a visit of a count house leaves, and how long the longest house is.
-use Rattle.fields_core.proofs.Common.{Bool, Candidates, CountHouse, IsHouse, IsTally, IsWithin, Layout, List, Tally, add-one, after_house, and-true, ap, arith, bounds_of, cases_Bool, cases_eq, common_steps, cond, eq-eqb, eqb, fun_ext, has_bit, has_place, has_place-here, inl, inr, is_open, length, longest, max, ne_eqb, not, refl, slice_index, stays, strikes_of, sym, take, take_all, true, ℕ, ◌&&◌, ◌+◌, ◌<◌, ◌∙◌, ◌≡◌, ◌≤◌}
+use Rattle.fields_core.proofs.Common.{Bool, Candidates, CountHouse, IsHouse, IsTally, IsWithin, Layout, List, Tally, add-one, after_house, and-true, ap, arith, bounds_of, cases_Bool, cases_eq, common_steps, cond, eq-eqb, eqb, fun_ext, has_bit, has_place, has_place-here, inl, inr, is_open, length, longest, max, ne_eqb, not, not_taken, refl, slice_index, stays, strikes_of, sym, take, take_all, taken-here, taken-other, true, ℕ, ◌&&◌, ◌+◌, ◌<◌, ◌∙◌, ◌≡◌, ◌≤◌}
 use Rattle.grid_core.specs.Board.{has, cells_of}
 use Rattle.grid_core.proofs.BoardLemmas.{has-within}
-use Rattle.engine_core.proofs.IndexLemmas.{not_taken, taken-here, taken-other}
 use Rattle.fields_core.proofs.CountKept.{after-at, idle-at, off-scope, two-bits}
 
 -- ---- the cells of a house are in the board
@@ -28,10 +27,10 @@ module _ {house : CountHouse} (b : Layout) (is : IsHouse (cells_of b) house) (tw
 
   module _ {t : Tally} (tally : IsTally (has b) house.places t) where
     -- a house strikes nothing where all would be kept of a cell with both values, if there may be one
-    pub idle-stays : (kept : ℕ) → ((v : ℕ) → v < 2 → has_bit kept v ≡ stays t (bounds_of house) (not (eqb t.must t.may)) v)
+    pub idle-stays : {kept : ℕ} → ((v : ℕ) → v < 2 → has_bit kept v ≡ stays t (bounds_of house) (not (eqb t.must t.may)) v)
         → kept ≡ 3 → has b ≡ after_house house (has b)
     unfolding after_house
-    idle-stays kept keeps all = fun_ext λ c. fun_ext λ v.
+    idle-stays keeps all = fun_ext λ c. fun_ext λ v.
         grind (
           arith,
           common_steps,

@@ -50,23 +50,20 @@ pub mod HouseOrder
 pub mod LightRunOrder
 pub mod TentPlanes
 pub mod LawSets
-pub mod IdleAfter
 pub mod AtLeastLemmas
 pub mod LightLitWords
 pub mod LightLitVisits
 pub mod LightNumberVisits
 pub mod LightNumberRows
-pub mod LightLitRuns
 mod LightSafeCells
 pub mod PartIdle
-pub mod TentIdle
 pub mod PlaneSweeps
 pub mod LightLonely
 pub mod LightCompleting
 pub mod TentCompleting
 mod PassedLines
 mod LightReach
-mod LightRests
+pub mod LightRests
 mod QuietVisits
 mod LightSweeps
 mod FirstWrong

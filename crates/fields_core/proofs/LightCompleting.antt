@@ -1,6 +1,5 @@
 -- A grid of Light Up that meets each house with a cell is a solution exactly if each number above 0 has a white cell beside it.
-use Rattle.fields_core.proofs.Common.{AreMet, Black, Bool, CountHouse, IsGrid, IsLight, Light, LightCell, List, Numbered, White, all_below-at, all_below-from, and_parts, any_below, any_below-none, any_below-some, ap, arith, begins_column_run, begins_row_run, black_right, bulb, bulb_right, bulbs_beside, cases_Bool, cases_eq, column_house, column_run, common_steps, count_by, count_by-le-length, eq-eqb, eqb, eqb-true, exactly, false_from_ne_true, filter, get_or, has_place, has_place-at, houses_below, inl, inr, leb-true, length, light_cells, light_counts, light_houses, lit_house, lit_right, lt-ltb, map, meets, ne_eqb, nonzeros, not, not-true, number_house, number_right, one_at_least, one_at_most, or_cases, or_left, or_right, place-append, place-filter, place-front, refl, row_house, row_run, seen_from, sees, sees_bulb, slice_index, solves_lights, steps, sym, true, true≢false, white, ℕ, ◌<◌, ◌||◌, ◌∙◌, ◌≡◌}
-use Rattle.fields_core.specs.LightLonely.{lonely}
+use Rattle.fields_core.proofs.Common.{AreMet, Black, Bool, CountHouse, IsGrid, IsLight, Light, LightCell, List, Numbered, White, all_below-at, all_below-from, and_parts, any_below, any_below-none, any_below-some, ap, arith, begins_column_run, begins_row_run, black_right, bulb, bulb_right, bulbs_beside, cases_Bool, cases_eq, column_house, column_run, common_steps, count_by, count_by-le-length, eq-eqb, eqb, eqb-true, exactly, false_from_ne_true, filter, get_or, has_place, has_place-at, houses_below, inl, inr, leb-true, length, light_cells, light_counts, light_houses, lit_house, lit_right, lonely, lt-ltb, map, meets, ne_eqb, nonzeros, not, not-true, number_house, number_right, one_at_least, one_at_most, or_cases, or_left, or_right, place-append, place-filter, place-front, refl, row_house, row_run, seen_from, sees, sees_bulb, slice_index, solves_lights, steps, sym, true, true≢false, white, ℕ, ◌<◌, ◌||◌, ◌∙◌, ◌≡◌}
 use Rattle.fields_core.proofs.BelowLemmas.{any-some}
 use Rattle.fields_core.proofs.PlaceLists.{count-filter, count-two, ones-bulbs, some-counted}
 use Rattle.fields_core.proofs.LightFaultLemmas.{lit-from, lit-parts}
@@ -22,66 +21,61 @@ module _ (p : Light) (g : List ℕ) (is : IsLight p) (grid : IsGrid (light_cells
   bulb-white : (c : ℕ) → c < light_cells p → bulb g c ≡ true → white p c ≡ true
   bulb-white c lt on = elim (cases_Bool (white p c)) [
     | inl is ↦ is
-    | inr off ↦ let a = met.blocked_zero c lt (ap not off) in let b = eqb-true (slice_index g c) 1 on in absurd (omega arith)
+    | inr off ↦ let a = met.blocked_zero c lt (ap not off) in let b = eqb-true _ _ on in absurd (omega arith)
   ]
 
   -- ---- runs
   row-met : (c : ℕ) → white p c ≡ true → Meets (one_at_most (row_run p c))
   unfolding begins_row_run light_houses
   row-met c on =
-      let b = row-begin p c board.some on in
-      let lt = white-in p b.0 board.long (and_parts _ _ b.1).0 in
-      rw b.2 at (among-met (one_at_most (row_run p b.0)) met (among-back _ (houses_below (number_house p) (light_cells p)) _
-      (among-front _ (houses_below (row_house p) (light_cells p)) _
-      (among-below _ (row_house p) b.0 (light_cells p) lt (rw b.1 (among-one _))))))
+      let b = row-begin p c board.some on in let lt = white-in p b.0 board.long (and_parts _ _ b.1).0 in
+      rw b.2 at (among-met {house = one_at_most (row_run p b.0)} met (among-back (houses_below (number_house p) (light_cells p))
+      (among-front _
+      (among-below _ (row_house p) lt (rw b.1 (among-one _))))))
 
   column-met : (c : ℕ) → white p c ≡ true → Meets (one_at_most (column_run p c))
   unfolding begins_column_run light_houses
   column-met c on =
-      let b = column-begin p c board.some on in
-      let lt = white-in p b.0 board.long (and_parts _ _ b.1).0 in
-      rw b.2 at (among-met (one_at_most (column_run p b.0)) met (among-back _ (houses_below (number_house p) (light_cells p)) _
-      (among-back _ (houses_below (row_house p) (light_cells p)) _ (among-front _ (houses_below (column_house p) (light_cells p)) _
-      (among-below _ (column_house p) b.0 (light_cells p) lt (rw b.1 (among-one _)))))))
+      let b = column-begin p c board.some on in let lt = white-in p b.0 board.long (and_parts _ _ b.1).0 in
+      rw b.2 at (among-met {house = one_at_most (column_run p b.0)} met (among-back (houses_below (number_house p) (light_cells p))
+      (among-back (houses_below (row_house p) (light_cells p)) (among-front _
+      (among-below _ (column_house p) lt (rw b.1 (among-one _)))))))
 
   -- two bulbs do not stand in one run
   run-apart : (run : List ℕ) (c d : ℕ) → Meets (one_at_most run) → has_place run c ≡ true → has_place run d ≡ true → bulb g c ≡ true → bulb g d ≡ true
       → (c ≡ d → ⊥) → ⊥
   unfolding meets
   run-apart run c d is_met mc md bc bd apart =
-      let some = has_place-at run c mc in
-      let counts = and_parts _ _ (is_met (omega (arith, some.1))) in
+      let some = has_place-at run c mc in let counts = and_parts _ _ (is_met (omega (arith, some.1))) in
       let few = leb-true (nonzeros (map (slice_index g) run)) 1 counts.1 in
       omega (arith, few, ones-bulbs g run (small-at grid), count-two (bulb g) run c d mc md bc bd apart)
 
   bulbs-right : (c : ℕ) → c < light_cells p → bulb_right p g c ≡ true
   unfolding bulb_right sees_bulb sees
   bulbs-right c lt = ap not (false_from_ne_true _ (λ both.
-      let on = and_parts _ _ both in
-      let w = any_below-some _ _ on.1 in
-      let seen = and_parts _ _ w.2 in
-      let parts = and_parts _ _ seen.0 in
+      let on = and_parts _ _ both in let w = any_below-some _ _ on.1 in
+      let seen = and_parts _ _ w.2 in let parts = and_parts _ _ seen.0 in
       let is_white = bulb-white c lt on.0 in
       let apart = λ (e : c ≡ w.0). true≢false (sym (eq-eqb c w.0 e) ∙ not-true (eqb c w.0) parts.0) in
       elim (or_cases _ _ parts.1) [
         | inl row ↦ run-apart (row_run p c) c w.0 (row-met c is_white) (in-row-run p c c board.some (row-self p c is_white))
             (in-row-run p c w.0 board.some row) on.0 seen.1 apart
-        | inr column ↦ run-apart (column_run p c) c w.0 (column-met c is_white) (in-column-run p c c board.some lt (column-self p c is_white))
-            (in-column-run p c w.0 board.some w.1 column) on.0 seen.1 apart
+        | inr column ↦ run-apart (column_run p c) c w.0 (column-met c is_white) (in-column-run p c board.some lt (column-self p c is_white))
+            (in-column-run p c {d = w.0} board.some w.1 column) on.0 seen.1 apart
       ]))
 
   -- ---- white cells
-  lit-met : (c : ℕ) → c < light_cells p → white p c ≡ true → Meets (one_at_least (seen_from p c))
+  lit-met : {c : ℕ} → c < light_cells p → white p c ≡ true → Meets (one_at_least (seen_from p c))
   unfolding light_houses
-  lit-met c lt on = among-met (one_at_least (seen_from p c)) met (among-back _ (houses_below (number_house p) (light_cells p)) _
-      (among-back _ (houses_below (row_house p) (light_cells p)) _ (among-back _ (houses_below (column_house p) (light_cells p)) _
-      (among-below _ (lit_house p) c (light_cells p) lt (rw on (among-one _))))))
+  lit-met {c} lt on = among-met met (among-back (houses_below (number_house p) (light_cells p))
+      (among-back (houses_below (row_house p) (light_cells p)) (among-back (houses_below (column_house p) (light_cells p))
+      (among-below _ (lit_house p) lt (rw on (among-one _))))))
 
-  bulb-seen : (c : ℕ) → c < light_cells p → white p c ≡ true → (d : ℕ) × (has_place (seen_from p c) d ≡ true) × (bulb g d ≡ true)
+  bulb-seen : {c : ℕ} → c < light_cells p → white p c ≡ true → (d : ℕ) × (has_place (seen_from p c) d ≡ true) × (bulb g d ≡ true)
   unfolding meets seen_from
-  bulb-seen c lt on =
+  bulb-seen {c} lt on =
       let own = has_place-at (seen_from p c) c (place-front _ _ c (in-row-run p c c board.some (row-self p c on))) in
-      let some = leb-true 1 (nonzeros (map (slice_index g) (seen_from p c))) (and_parts _ _ (lit-met c lt on (omega (arith, own.1)))).0 in
+      let some = leb-true 1 (nonzeros (map (slice_index g) (seen_from p c))) (and_parts _ _ (lit-met lt on (omega (arith, own.1)))).0 in
       any-some (bulb g) (seen_from p c)
       (sym (some-counted (bulb g) (seen_from p c)) ∙ lt-ltb 0 _ (omega (arith, some, ones-bulbs g (seen_from p c) (small-at grid))))
 
@@ -90,11 +84,10 @@ module _ (p : Light) (g : List ℕ) (is : IsLight p) (grid : IsGrid (light_cells
   lits-right c lt = elim (cases_Bool (white p c)) [
     | inr off ↦ or_left (not (white p c)) (bulb g c || sees_bulb p g c) (ap not off)
     | inl on ↦
-        let w = bulb-seen c lt on in
-        let lies = bulb-in g (light_cells p) w.0 grid.each_cell w.2 in
+        let w = bulb-seen lt on in let lies = bulb-in g w.0 grid.each_cell w.2 in
         or_right (not (white p c)) (bulb g c || sees_bulb p g c) (elim (cases_eq w.0 c) [
           | inl same ↦ or_left (bulb g c) (sees_bulb p g c) (rw same at w.2)
-          | inr other ↦ or_right (bulb g c) (sees_bulb p g c) (seen-there p g c w.0 lies other (elim (place-append (row_run p c) _ w.0 w.1) [
+          | inr other ↦ or_right (bulb g c) (sees_bulb p g c) (seen-there p g lies other (elim (place-append (row_run p c) _ w.0 w.1) [
             | inl row ↦ or_left _ _ (row-run-joined p c w.0 row)
             | inr column ↦ or_right _ _ (column-run-joined p c w.0 (place-filter _ _ w.0 column).0)
           ]) w.2)
@@ -105,18 +98,17 @@ module _ (p : Light) (g : List ℕ) (is : IsLight p) (grid : IsGrid (light_cells
   unfolding black_right
   blacks-right c lt = elim (cases_Bool (white p c)) [
     | inl on ↦ or_left _ _ on
-    | inr off ↦ or_right _ _ (eq-eqb _ 0 (met.blocked_zero c lt (ap not off)))
+    | inr off ↦ or_right _ _ (eq-eqb _ _ (met.blocked_zero c lt (ap not off)))
   ]
 
   -- ---- numbers
-  number-met : (c n : ℕ) → c < light_cells p → get_or p.cells c Black ≡ Numbered n → Meets (exactly n (filter (white p) (steps p.size c 4)))
+  number-met : {c : ℕ} (n : ℕ) → c < light_cells p → get_or p.cells c Black ≡ Numbered n → Meets (exactly n (filter (white p) (steps p.size c 4)))
   unfolding light_houses
-  number-met c n lt e = among-met (exactly n (filter (white p) (steps p.size c 4))) met (among-front _ (houses_below (number_house p) (light_cells p)) _
-      (among-below _ (number_house p) c (light_cells p) lt (rw e (among-one _))))
+  number-met {c} n lt e = among-met met (among-front _ (among-below _ (number_house p) lt (rw e (among-one _))))
 
   -- bulbs stand on white cells
   beside-white : (c : ℕ) → count_by (bulb g) (filter (white p) (steps p.size c 4)) ≡ bulbs_beside p g c
-  beside-white c = count-filter (bulb g) (white p) (steps p.size c 4) (λ d on. bulb-white d (bulb-in g (light_cells p) d grid.each_cell on) on)
+  beside-white c = count-filter (bulb g) (white p) (steps p.size c 4) (λ d on. bulb-white d (bulb-in g d grid.each_cell on) on)
 
   abbrev whites : ℕ → List ℕ
   whites c = filter (white p) (steps p.size c 4)
@@ -124,16 +116,16 @@ module _ (p : Light) (g : List ℕ) (is : IsLight p) (grid : IsGrid (light_cells
   beside-met : (c n : ℕ) → c < light_cells p → get_or p.cells c Black ≡ Numbered n → 0 < length (whites c) → bulbs_beside p g c ≡ n
   unfolding meets
   beside-met c n lt e some =
-      let counts = and_parts _ _ (number-met c n lt e some) in
+      let counts = and_parts _ _ (number-met n lt e some) in
       omega (arith, leb-true n _ counts.0, leb-true (nonzeros (map (slice_index g) (whites c))) n counts.1, ones-bulbs g (whites c) (small-at grid), beside-white c)
 
   beside-none : (c : ℕ) → length (whites c) ≡ 0 → bulbs_beside p g c ≡ 0
   beside-none c none = omega (arith, none, beside-white c, count_by-le-length (bulb g) (whites c))
 
   -- a number is right unless it is above 0 with no white cell beside it
-  number-told : (c : ℕ) → c < light_cells p → number_right p g c ≡ not (lonely p c)
+  number-told : {c : ℕ} → c < light_cells p → number_right p g c ≡ not (lonely p c)
   unfolding number_right
-  number-told c lt = by _ refl
+  number-told {c} lt = by _ refl
     where
       by : (cell : LightCell) → get_or p.cells c Black ≡ cell → number_right p g c ≡ not (lonely p c)
       by White e = rw e refl
@@ -148,8 +140,8 @@ module _ (p : Light) (g : List ℕ) (is : IsLight p) (grid : IsGrid (light_cells
     | inl some ↦
         let w = any_below-some (lonely p) (light_cells p) some in
         rw some (false_from_ne_true _ (λ on.
-        true≢false (sym (all_below-at _ _ w.0 (lit-parts p g on).number w.1) ∙ number-told w.0 w.1 ∙ ap not w.2)))
+        true≢false (sym (all_below-at _ _ w.0 (lit-parts p g on).number w.1) ∙ number-told w.1 ∙ ap not w.2)))
     | inr none ↦ rw none (lit-from p g (all_below-from _ _ blacks-right)
-        (all_below-from _ _ (λ c lt. number-told c lt ∙ ap not (any_below-none (lonely p) (light_cells p) none c lt)))
+        (all_below-from _ _ (λ c lt. number-told lt ∙ ap not (any_below-none (lonely p) (light_cells p) none c lt)))
         (all_below-from _ _ bulbs-right) (all_below-from _ _ lits-right))
   ])

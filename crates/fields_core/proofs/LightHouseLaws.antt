@@ -75,14 +75,12 @@ clear-both test j k l a b = clear-from test k l (λ i low high. elim (cases_lt i
   ]
 ])
 
-pub row-parts : (p : Light) (c d : ℕ) → joined_in_row p c d ≡ true
-    → (c / p.size.w ≡ d / p.size.w)
+pub row-parts : (p : Light) (c d : ℕ) → joined_in_row p c d ≡ true → (c / p.size.w ≡ d / p.size.w)
     × (clear (λ x. white p (c / p.size.w * p.size.w + x)) (c % p.size.w) (d % p.size.w) ≡ true)
 unfolding joined_in_row
 row-parts p c d on = let w = and_parts _ _ on in (eqb-true _ _ w.0, w.1)
 
-pub column-parts : (p : Light) (c d : ℕ) → joined_in_column p c d ≡ true
-    → (c % p.size.w ≡ d % p.size.w)
+pub column-parts : (p : Light) (c d : ℕ) → joined_in_column p c d ≡ true → (c % p.size.w ≡ d % p.size.w)
     × (clear (λ y. white p (y * p.size.w + c % p.size.w)) (c / p.size.w) (d / p.size.w) ≡ true)
 unfolding joined_in_column
 column-parts p c d on = grind (arith, common_steps, and_parts, eqb-true)
@@ -90,29 +88,25 @@ column-parts p c d on = grind (arith, common_steps, and_parts, eqb-true)
 pub row-both : (p : Light) (c d e : ℕ) → joined_in_row p c d ≡ true → joined_in_row p c e ≡ true → joined_in_row p d e ≡ true
 unfolding joined_in_row
 row-both p c d e a b =
-    let v = row-parts p c d a in
-    let w = row-parts p c e b in
+    let v = row-parts p c d a in let w = row-parts p c e b in
     and_from _ _ (eq-eqb _ _ (sym v.0 ∙ w.0))
     (rw (sym v.0) (clear-both (λ x. white p (c / p.size.w * p.size.w + x)) _ _ _ v.1 w.1))
 
 pub column-both : (p : Light) (c d e : ℕ) → joined_in_column p c d ≡ true → joined_in_column p c e ≡ true → joined_in_column p d e ≡ true
 unfolding joined_in_column
 column-both p c d e a b =
-    let v = column-parts p c d a in
-    let w = column-parts p c e b in
+    let v = column-parts p c d a in let w = column-parts p c e b in
     and_from _ _ (eq-eqb _ _ (sym v.0 ∙ w.0))
     (rw (sym v.0) (clear-both (λ y. white p _) _ _ _ v.1 w.1))
 
 pub row-white-end : (p : Light) (c d : ℕ) → 0 < p.size.w → joined_in_row p c d ≡ true → white p d ≡ true
 row-white-end p c d pos on =
-    let v = row-parts p c d on in
-    let e : c / p.size.w * p.size.w + d % p.size.w ≡ d = rw v.0 (omega arith) in
+    let v = row-parts p c d on in let e : c / p.size.w * p.size.w + d % p.size.w ≡ d = rw v.0 (omega arith) in
     rw e at (clear-at (λ x. white p (c / p.size.w * p.size.w + x)) (c % p.size.w) (d % p.size.w) (d % p.size.w) v.1 (omega arith) (omega arith))
 
 pub column-white-end : (p : Light) (c d : ℕ) → 0 < p.size.w → joined_in_column p c d ≡ true → white p d ≡ true
 column-white-end p c d pos on =
-    let v = column-parts p c d on in
-    let e : d / p.size.w * p.size.w + c % p.size.w ≡ d = rw v.0 (omega arith) in
+    let v = column-parts p c d on in let e : d / p.size.w * p.size.w + c % p.size.w ≡ d = rw v.0 (omega arith) in
     rw e at (clear-at (λ y. white p (y * p.size.w + c % p.size.w)) (c / p.size.w) (d / p.size.w) (d / p.size.w) v.1 (omega arith) (omega arith))
 
 -- a white cell is joined to itself
@@ -153,15 +147,11 @@ row-before p d off on = grind (arith, common_steps, parts, or_parts, eq-eqb, not
 pub row-run-on : (p : Light) (d : ℕ) → 0 < p.size.w → begins_row_run p d ≡ false → white p d ≡ true
     → (c : ℕ) × (c + 1 ≡ d) × (white p c ≡ true) × (row_run p c ≡ row_run p d)
 row-run-on p d some off on =
-    let v = row-before p d off on in
-    let next : d - 1 + 1 ≡ d = omega (arith, positive v.0) in
+    let v = row-before p d off on in let next : d - 1 + 1 ≡ d = omega (arith, positive v.0) in
     (d - 1, next, v.1, row-run-next p (d - 1) d some next v.1 on v.0)
   where
     positive : (d % p.size.w ≡ 0 → ⊥) → 0 < d
-    positive ne = elim (cases_eq d 0) [
-      | inl none ↦ absurd (ne (rw none (omega arith)))
-      | inr more ↦ omega arith
-    ]
+    positive ne = elim (cases_eq d 0) [ inl none ↦ absurd (ne (rw none (omega arith))) | inr more ↦ omega arith ]
 
 -- and the run of a column
 module _ (p : Light) (c d : ℕ) (some : 0 < p.size.w) (next : c + p.size.w ≡ d) (before : white p c ≡ true) (on : white p d ≡ true) where
@@ -191,13 +181,12 @@ pub column-run-on : (p : Light) (d : ℕ) → 0 < p.size.w → begins_column_run
 unfolding begins_column_run
 column-run-on p d some off on =
     let parts = or_parts (eqb (d / p.size.w) 0) (not (white p (d - p.size.w))) (rw on at off) in
-    let before = not-false (white p (d - p.size.w)) parts.1 in
-    let next : d - p.size.w + p.size.w ≡ d = omega (arith, low parts.0) in
+    let before = not-false _ parts.1 in let next : d - p.size.w + p.size.w ≡ d = omega (arith, low parts.0) in
     (d - p.size.w, next, before, column-run-next p (d - p.size.w) d some next before on)
   where
     low : eqb (d / p.size.w) 0 ≡ false → p.size.w ≤ d
     low ne = elim (cases_lt d p.size.w) [
-      | inl top ↦ absurd (true≢false (sym (eq-eqb (d / p.size.w) 0 (div-eq_of_lt {n = d} {m = p.size.w} top)) ∙ ne))
+      | inl top ↦ absurd (true≢false (sym (eq-eqb _ _ (div-eq_of_lt {n = d} {m = p.size.w} top)) ∙ ne))
       | inr inner ↦ inner
     ]
 

@@ -13,14 +13,14 @@ use Rattle.fields_core.proofs.TentVisits.{IsVisitOf}
 use Rattle.fields_core.proofs.VisitLemmas.{among-back, among-below, among-house, among-one, visited-none, visited-one}
 
 -- ---- the house of a white cell is a house
-pub lit-is : (p : Light) {c : ℕ} → IsLight p → c < light_cells p → white p c ≡ true → IsHouse (light_cells p) (one_at_least (seen_from p c))
+pub lit-is : {p : Light} {c : ℕ} → IsLight p → c < light_cells p → white p c ≡ true → IsHouse (light_cells p) (one_at_least (seen_from p c))
 unfolding light_houses
-lit-is p {c} lawful lt on =
-    among-house _ (light_houses p) (light_cells p) (light-counting lawful).are_houses
-    (among-back _ (houses_below (number_house p) (light_cells p)) _
-    (among-back _ (houses_below (row_house p) (light_cells p)) _
-    (among-back _ (houses_below (column_house p) (light_cells p)) _
-    (among-below _ (lit_house p) c (light_cells p) lt (rw on (among-one _))))))
+lit-is {p} {c} lawful lt on =
+    among-house (light_cells p) (light-counting lawful).are_houses
+    (among-back (houses_below (number_house p) (light_cells p))
+    (among-back (houses_below (row_house p) (light_cells p))
+    (among-back (houses_below (column_house p) (light_cells p))
+    (among-below _ (lit_house p) lt (rw on (among-one _))))))
 
 -- ---- the cells that a cell sees, by the words of its runs
 -- the runs of a cell as words, and planes of words that hold a line
@@ -64,11 +64,10 @@ module _ {p : Light} {y x row_bits column_bits others : ℕ} {from : Layers} {ro
       (λ there.
       let joined = row-run-joined p cell c there in
       let same : c / p.size.w ≡ y = sym (row-parts p cell c joined).0 ∙ div-mul-add y p.size.w x x_in in
-      and_from _ _ (eq-eqb (c / p.size.w) y same)
-      (s.row_is (c % p.size.w) ∙ and_from _ _ (lt-ltb (c % p.size.w) p.size.w (mod-lt c some)) (ap (joined_in_row p cell) (at_row c same) ∙ joined)))
+      and_from _ _ (eq-eqb _ _ same)
+      (s.row_is (c % p.size.w) ∙ and_from _ _ (lt-ltb _ _ (mod-lt c some)) (ap (joined_in_row p cell) (at_row c same) ∙ joined)))
       (λ on.
-      let parts = and_parts _ _ on in
-      let same = eqb-true (c / p.size.w) y parts.0 in
+      let parts = and_parts _ _ on in let same = eqb-true _ _ parts.0 in
       let joined = (and_parts _ _ (sym (s.row_is (c % p.size.w)) ∙ parts.1)).1 in
       in-row-run p cell c some (ap (joined_in_row p cell) (sym (at_row c same)) ∙ joined))
 
@@ -79,14 +78,13 @@ module _ {p : Light} {y x row_bits column_bits others : ℕ} {from : Layers} {ro
       let joined = column-run-joined p cell c there in
       let same : c % p.size.w ≡ x = sym (column-parts p cell c joined).0 ∙ place-column p.size.w y x x_in in
       let inside = white-in p c (light-board s.lawful).long (column-white-end p cell c some joined) in
-      and_from _ _ (eq-eqb (c % p.size.w) x same)
-      (s.column_is (c / p.size.w) ∙ and_from _ _ (lt-ltb (c / p.size.w) p.size.h (row-in p.size.h c some inside)) (ap (joined_in_column p cell) (at_column c same) ∙ joined)))
+      and_from _ _ (eq-eqb _ _ same)
+      (s.column_is (c / p.size.w) ∙ and_from _ _ (lt-ltb _ _ (row-in p.size.h c some inside)) (ap (joined_in_column p cell) (at_column c same) ∙ joined)))
       (λ on.
-      let parts = and_parts _ _ on in
-      let same = eqb-true (c % p.size.w) x parts.0 in
+      let parts = and_parts _ _ on in let same = eqb-true _ _ parts.0 in
       let both = and_parts _ _ (sym (s.column_is (c / p.size.w)) ∙ parts.1) in
-      let inside = cell-in p.size.h some (ltb-true (c / p.size.w) p.size.h both.0) in
-      in-column-run p cell c some inside (ap (joined_in_column p cell) (sym (at_column c same)) ∙ both.1))
+      let inside = cell-in p.size.h some (ltb-true _ _ both.0) in
+      in-column-run p cell some inside (ap (joined_in_column p cell) (sym (at_column c same)) ∙ both.1))
 
   -- the others of the column are those at other places
   other-at : (c : ℕ) → c % p.size.w ≡ x → eqb c cell ≡ eqb (c / p.size.w) y
@@ -100,8 +98,8 @@ module _ {p : Light} {y x row_bits column_bits others : ℕ} {from : Layers} {ro
       has-append (row_run p cell) _ c
       ∙ rw (row-run-has c, filter-has (λ d. not (eqb d cell)) (column_run p cell) c, column-run-has c, lies-both p.size.w y x row_bits others c, s.others_is (c / p.size.w))
       (ap (λ b. (eqb (c / p.size.w) y && has_bit row_bits (c % p.size.w)) || b) (elim (cases_eq (c % p.size.w) x) [
-        | inl same ↦ rw (other-at c same, eq-eqb (c % p.size.w) x same) (by (has_bit column_bits (c / p.size.w)) (eqb (c / p.size.w) y))
-        | inr ne ↦ rw (ne_eqb (c % p.size.w) x ne) refl
+        | inl same ↦ rw (other-at c same, eq-eqb _ _ same) (by (has_bit column_bits (c / p.size.w)) (eqb (c / p.size.w) y))
+        | inr ne ↦ rw (ne_eqb _ _ ne) refl
       ]))
     where
       by : (a b : Bool) → ((true && a) && not b) ≡ (true && (a && not b))
@@ -110,8 +108,7 @@ module _ {p : Light} {y x row_bits column_bits others : ℕ} {from : Layers} {ro
   -- a white cell has itself in its run, a black one has no run
   white-run : any_below (has_bit row_bits) room ≡ true → white p cell ≡ true
   white-run on =
-      let k = any_below-some (has_bit row_bits) room on in
-      row-white-start p cell _ (and_parts _ _ (sym (s.row_is k.0) ∙ k.2)).1
+      let k = any_below-some (has_bit row_bits) room on in row-white-start p cell _ (and_parts _ _ (sym (s.row_is k.0) ∙ k.2)).1
 
   pub black-visited : any_below (has_bit row_bits) room ≡ false → AreVisited (lit_house p cell) from from true
   black-visited none = rw black (visited-none s.alive)
@@ -120,7 +117,7 @@ module _ {p : Light} {y x row_bits column_bits others : ℕ} {from : Layers} {ro
       black = false_from_ne_true _ (λ on.
           let here : cell / p.size.w * p.size.w + x ≡ cell = rw (div-mul-add y p.size.w x x_in) refl in
           let own = ap (joined_in_row p cell) here ∙ row-self p cell on in
-          true≢false (sym (s.row_is x ∙ and_from _ _ (lt-ltb x p.size.w x_in) own) ∙ any_below-none (has_bit row_bits) room none x (omega (arith, s.wide))))
+          true≢false (sym (s.row_is x ∙ and_from _ _ (lt-ltb _ _ x_in) own) ∙ any_below-none (has_bit row_bits) room none x (omega (arith, s.wide))))
 
   -- ---- the house as pieces of the two lines
   abbrev pieces : List Piece
@@ -130,7 +127,7 @@ module _ {p : Light} {y x row_bits column_bits others : ℕ} {from : Layers} {ro
   most = count_below (has_bit row_bits) room + count_below (has_bit others) room
 
   apart : ArePieces p.size pieces
-  apart = pieces-apart p.size y x row_bits others y_in x_in (λ _ on. true≢false (sym on ∙ s.others_is y ∙ rw (eq-eqb y y refl) (and-false (has_bit column_bits y))))
+  apart = pieces-apart p.size row_bits others y_in x_in (λ _ on. true≢false (sym on ∙ s.others_is y ∙ rw (eq-eqb y y refl) (and-false (has_bit column_bits y))))
 
   pub pieces-in : ArePieces from.size pieces
   pieces-in = subst (λ (e : Extent). ArePieces e pieces) (sym s.size) apart
@@ -140,15 +137,15 @@ module _ {p : Light} {y x row_bits column_bits others : ℕ} {from : Layers} {ro
     some-cell = let k = any_below-some (has_bit row_bits) room on in omega (arith, count_below-pos (has_bit row_bits) room k.0 k.1 k.2)
 
     house_is : IsHouse (light_cells p) (one_at_least (seen_from p cell))
-    house_is = lit-is p s.lawful cell_in (white-run on)
+    house_is = lit-is s.lawful cell_in (white-run on)
 
     house-long : length (seen_from p cell) ≡ most
     unfolding lies_in
     house-long =
         let board = record from { size = p.size } in
-        let row = counted-more board 0 row_bits room (λ _. true) refl apart (omega arith) s.wide (λ k on. ltb-true k _ (and_parts _ _ (sym (s.row_is k) ∙ on)).0) (λ c. sym (and-true _)) in
-        let column = counted-more board 1 others room (λ _. true) refl apart (omega arith) s.tall
-        (λ k on. ltb-true k _ (and_parts _ _ (sym (s.column_is k) ∙ (and_parts _ _ (sym (s.others_is k) ∙ on)).0)).0) (λ c. sym (and-true _)) in
+        let row = counted-more board 0 row_bits (λ _. true) refl apart (omega arith) s.wide (λ k on. ltb-true _ _ (and_parts _ _ (sym (s.row_is k) ∙ on)).0) (λ c. sym (and-true _)) in
+        let column = counted-more board 1 others (λ _. true) refl apart (omega arith) s.tall
+        (λ k on. ltb-true _ _ (and_parts _ _ (sym (s.column_is k) ∙ (and_parts _ _ (sym (s.others_is k) ∙ on)).0)).0) (λ c. sym (and-true _)) in
         let all = place-count (λ _. true) (seen_from p cell) (light_cells p) (distinct-from _ house_is.different) house_is.within
         ∙ count_below-same _ (λ c. lies_in_first p.size.w pieces 2 c && true) (light_cells p) (λ c _. ap (λ b. b && true) (seen-has c)) in
         omega (arith, count-every (λ _. true) (seen_from p cell) (λ _ _. refl), all, row, column, counted-none p.size.w pieces (light_cells p) (λ _. true))

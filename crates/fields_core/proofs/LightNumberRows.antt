@@ -16,8 +16,7 @@ bare p c off = by (get_or p.cells c Black) refl
 -- none of the cells of a row that have no number waits
 pub numbers-all : (p : Light) (y word : ℕ) (K : Candidates) → IsRowOf p.size.w (is_numbered p) y word → AreIdleBut p word y K
 unfolding after_houses
-numbers-all p y word K row x lt off =
-    rw (bare p (y * p.size.w + x) (rw (lt-ltb x p.size.w lt) at (sym (row x) ∙ off))) refl
+numbers-all p y _ K row x lt off = rw (bare p (y * p.size.w + x) (rw (lt-ltb _ _ lt) at (sym (row x) ∙ off))) refl
 
 -- numbers in some columns wait
 pub numbers-both : (p : Light) (y own columns both : ℕ) (K : Candidates) → IsRowOf p.size.w (is_numbered p) y own → AreIdleBut p columns y K

@@ -1,5 +1,5 @@
 -- Visits of the numbers of Light Up on planes.
-use Rattle.fields_core.proofs.Common.{ArePieces, ArePlanesAlive, AreVisited, Black, Bool, Column, Extent, IsBroken, IsColumnOf, IsFurther, IsHouse, IsHouseOf, IsLight, Layers, Light, List, Numbered, Piece, Row, White, [], after_house, after_houses, and-false, and_from, and_parts, any_below, any_below-none, any_below-some, arith, beside, cases_Bool, cases_eq, cases_lt, common_steps, crosses, div-mul-add, eq-eqb, eqb, eqb-true, exactly, false, filter, fun_ext, further-none, get_or, get_or-set_other, get_or-set_same, has, has_bit, has_place, houses_below, inl, inr, le-ltb, length, length-map, lies_in, lies_in_first, light_cells, light_houses, lines_beside, lt-ltb, ltb, ltb-true, map, map-set, ne_eqb, not, number_house, number_of, or_cases, or_left, or_parts, or_right, piece_at, place-column, place-in, refl, set, slice_index, subst, suc, sym, true, true≢false, white, zero, ℕ, ◌%◌, ◌&&◌, ◌*◌, ◌+◌, ◌-◌, ◌/◌, ◌<◌, ◌||◌, ◌∙◌, ◌∷◌, ◌≡◌, ◌≤◌}
+use Rattle.fields_core.proofs.Common.{ArePieces, ArePlanesAlive, AreVisited, Black, Bool, Column, Extent, IsBroken, IsColumnOf, IsFurther, IsHouse, IsHouseOf, IsLight, Layers, Light, List, Numbered, Piece, Row, [], after_house, after_houses, and-false, and_from, and_parts, any_below, any_below-none, any_below-some, arith, beside, cases_Bool, cases_eq, cases_lt, common_steps, crosses, div-mul-add, eq-eqb, eqb, eqb-true, exactly, false, filter, fun_ext, further-none, get_or, get_or-set_other, get_or-set_same, has, has_bit, has_place, inl, inr, le-ltb, length, length-map, lies_in, lies_in_first, light_cells, light_houses, lines_beside, lt-ltb, ltb, ltb-true, map, map-set, ne_eqb, not, number_house, number_of, or_cases, or_left, or_parts, or_right, piece_at, place-column, place-in, refl, set, slice_index, subst, suc, sym, true, true≢false, white, zero, ℕ, ◌%◌, ◌&&◌, ◌*◌, ◌+◌, ◌-◌, ◌/◌, ◌<◌, ◌||◌, ◌∙◌, ◌∷◌, ◌≡◌, ◌≤◌}
 use Rattle.fields_core.proofs.AtMostLemmas.{others-stay}
 use Rattle.fields_core.proofs.CellLemmas.{cell-is, same-truth}
 use Rattle.fields_core.proofs.LightCounting.{light-counting}
@@ -9,13 +9,12 @@ use Rattle.fields_core.proofs.TentTreeWords.{beside-has}
 use Rattle.fields_core.proofs.VisitLemmas.{among-below, among-front, among-house, among-one, visited-none}
 
 -- ---- the house of a number is a house
-pub number-is : (p : Light) {c n : ℕ} → IsLight p → c < light_cells p → get_or p.cells c Black ≡ Numbered n
+pub number-is : {p : Light} {c n : ℕ} → IsLight p → c < light_cells p → get_or p.cells c Black ≡ Numbered n
     → IsHouse (light_cells p) (exactly n (filter (white p) (beside p.size c)))
 unfolding light_houses
-number-is p {c} {n} lawful lt e =
-    among-house _ (light_houses p) (light_cells p) (light-counting lawful).are_houses
-    (among-front _ (houses_below (number_house p) (light_cells p)) _
-    (among-below _ (number_house p) c (light_cells p) lt (rw e (among-one _))))
+number-is {p} {c} {n} lawful lt e =
+    among-house (light_cells p) (light-counting lawful).are_houses
+    (among-front _ (among-below _ (number_house p) lt (rw e (among-one _))))
 
 -- ---- a word for each column: one more is written
 pub columns-more : {W : Type 0} (bits : W → ℕ) (words : List W) (n : ℕ) (size : Extent) (passes : ℕ → Bool) (word : W) → n < length words
@@ -31,36 +30,31 @@ columns-more bits words n size passes word lt written is x less y = rw (map-set 
 abbrev next_to : ℕ → ℕ → ℕ → Bool
 next_to n a k = (ltb 0 a && eqb k (a - 1)) || (ltb (a + 1) n && eqb k (a + 1))
 
-next-is : (n a k : ℕ) → a < n → next_to n a k ≡ ((eqb k (a + 1) || eqb a (k + 1)) && ltb k n)
-next-is n a k lt = same-truth _ _
+next-is : {n a : ℕ} (k : ℕ) → a < n → next_to n a k ≡ ((eqb k (a + 1) || eqb a (k + 1)) && ltb k n)
+next-is {n} {a} k lt = same-truth _ _
     (λ on. elim (or_cases (ltb 0 a && eqb k (a - 1)) (ltb (a + 1) n && eqb k (a + 1)) on) [
       | inl before ↦
-          let parts = and_parts (ltb 0 a) (eqb k (a - 1)) before in
-          let pos = ltb-true 0 a parts.0 in
+          let parts = and_parts (ltb 0 a) (eqb k (a - 1)) before in let pos = ltb-true 0 a parts.0 in
           let e = eqb-true k (a - 1) parts.1 in
-          and_from _ _ (or_right (eqb k (a + 1)) (eqb a (k + 1)) (eq-eqb a (k + 1) (omega arith))) (lt-ltb k n (omega arith))
+          and_from _ _ (or_right _ _ (eq-eqb a (k + 1) (omega arith))) (lt-ltb k n (omega arith))
       | inr after ↦
           let parts = and_parts (ltb (a + 1) n) (eqb k (a + 1)) after in
-          let less = ltb-true (a + 1) n parts.0 in
-          let e = eqb-true k (a + 1) parts.1 in
-          and_from _ _ (or_left (eqb k (a + 1)) (eqb a (k + 1)) parts.1) (lt-ltb k n (omega arith))
+          let less = ltb-true (a + 1) n parts.0 in let e = eqb-true k (a + 1) parts.1 in
+          and_from _ _ (or_left _ _ parts.1) (lt-ltb k n (omega arith))
     ])
     (λ on.
-    let parts = and_parts (eqb k (a + 1) || eqb a (k + 1)) (ltb k n) on in
-    let less = ltb-true k n parts.1 in
+    let parts = and_parts (eqb k (a + 1) || eqb a (k + 1)) (ltb k n) on in let less = ltb-true k n parts.1 in
     elim (or_cases (eqb k (a + 1)) (eqb a (k + 1)) parts.0) [
-      | inl after ↦
-          let e = eqb-true k (a + 1) after in
-          or_right (ltb 0 a && eqb k (a - 1)) _ (and_from _ _ (lt-ltb (a + 1) n (omega arith)) after)
+      | inl after ↦ let e = eqb-true k (a + 1) after in or_right _ _ (and_from _ _ (lt-ltb (a + 1) n (omega arith)) after)
       | inr before ↦
           let e = eqb-true a (k + 1) before in
-          or_left (ltb 0 a && eqb k (a - 1)) _ (and_from _ _ (lt-ltb 0 a (omega arith)) (eq-eqb k (a - 1) (omega arith)))
+          or_left _ _ (and_from _ _ (lt-ltb 0 a (omega arith)) (eq-eqb k (a - 1) (omega arith)))
     ])
 
-beside-cell : (size : Extent) (y x d : ℕ) → x < size.w → has_place (beside size (y * size.w + x)) d
+beside-cell : (size : Extent) (y : ℕ) {x : ℕ} (d : ℕ) → x < size.w → has_place (beside size (y * size.w + x)) d
     ≡ ((eqb (d / size.w) y && next_to size.w x (d % size.w)) || (eqb (d % size.w) x && next_to size.h y (d / size.w)))
-beside-cell size y x d lt =
-    beside-has size y x d lt
+beside-cell size y {x} d lt =
+    beside-has size y d lt
     ∙ rw (cell-is size.w (y - 1) x d lt, cell-is size.w (y + 1) x d lt, left, right)
     (four (ltb 0 y) (eqb (d / size.w) (y - 1)) (ltb 0 x) (eqb (d % size.w) (x - 1)) (ltb (x + 1) size.w) (eqb (d % size.w) (x + 1)) (ltb (y + 1) size.h) (eqb (d / size.w) (y + 1)) (eqb (d / size.w) y) (eqb (d % size.w) x))
   where
@@ -70,7 +64,7 @@ beside-cell size y x d lt =
     right : (ltb (x + 1) size.w && eqb (y * size.w + (x + 1)) d) ≡ (ltb (x + 1) size.w && (eqb (d / size.w) y && eqb (d % size.w) (x + 1)))
     right = elim (cases_lt (x + 1) size.w) [
       | inl less ↦ rw (cell-is size.w y (x + 1) d less) refl
-      | inr high ↦ rw (le-ltb (x + 1) size.w high) refl
+      | inr high ↦ rw (le-ltb _ _ high) refl
     ]
 
     two : (a b c d e : Bool) → ((a && (e && b)) || (c && (e && d))) ≡ (e && ((a && b) || (c && d)))
@@ -94,18 +88,14 @@ both_pieces y x row column = record { line = Row y; bits = row } ∷ record { li
 abbrev pub IsBeside : ℕ → (ℕ → Bool) → ℕ → ℕ → Type 0
 IsBeside n passes a bits = (k : ℕ) → has_bit bits k ≡ ((eqb k (a + 1) || eqb a (k + 1)) && (ltb k n && passes k))
 
-pub beside-word : (n room a both near word : ℕ) (passes : ℕ → Bool) → n ≤ room
+pub beside-word : {n room : ℕ} (a both near word : ℕ) (passes : ℕ → Bool) → n ≤ room
     → ((k : ℕ) → has_bit both k ≡ (has_bit near k && has_bit word k))
     → ((k : ℕ) → k < room → has_bit near k ≡ (eqb k (a + 1) || eqb a (k + 1)))
     → ((k : ℕ) → has_bit word k ≡ (ltb k n && passes k)) → IsBeside n passes a both
-beside-word n room a both near word passes fits both_is near_is word_is k = both_is k ∙ elim (cases_lt k room) [
+beside-word {n} {room} a both near word passes fits both_is near_is word_is k = both_is k ∙ elim (cases_lt k room) [
   | inl less ↦ rw (near_is k less, word_is k) refl
   | inr high ↦ rw (word_is k, le-ltb k n (omega arith), and-false (has_bit near k), and-false (eqb k (a + 1) || eqb a (k + 1))) refl
 ]
-
--- not the number itself
-pub beside-other : (n : ℕ) (passes : ℕ → Bool) (a bits : ℕ) → IsBeside n passes a bits → has_bit bits a ≡ false
-beside-other n passes a bits is = is a ∙ rw (ne_eqb a (a + 1) (λ e. absurd (omega arith))) refl
 
 pub lies-both : (w y x row column d : ℕ) → lies_in_first w (both_pieces y x row column) 2 d
     ≡ ((eqb (d / w) y && has_bit row (d % w)) || (eqb (d % w) x && has_bit column (d / w)))
@@ -113,10 +103,10 @@ unfolding lies_in_first any_below lies_in crosses
 lies-both w y x row column d = refl
 
 -- the pieces have no cell together unless both have the cell where the lines cross
-pub pieces-apart : (size : Extent) (y x row column : ℕ) → y < size.h → x < size.w → (has_bit row x ≡ true → has_bit column y ≡ true → ⊥)
+pub pieces-apart : (size : Extent) {y x : ℕ} (row column : ℕ) → y < size.h → x < size.w → (has_bit row x ≡ true → has_bit column y ≡ true → ⊥)
     → ArePieces size (both_pieces y x row column)
 unfolding lies_in crosses
-pieces-apart size y x row column y_in x_in off = record { lines_in = lines; apart = apart }
+pieces-apart size {y} {x} row column y_in x_in off = record { lines_in = lines; apart = apart }
   where
     pieces : List Piece
     pieces = both_pieces y x row column
@@ -161,8 +151,8 @@ module _ (p : Light) (lawful : IsLight p) (y x row column : ℕ) (y_in : y < p.s
   row-part d = elim (cases_eq (d / p.size.w) y) [
     | inl same ↦
         let at : y * p.size.w + d % p.size.w ≡ d = rw (← same) (sym (whole-cell p.size.w d)) in
-        rw (eq-eqb (d / p.size.w) y same, next-is p.size.w x (d % p.size.w) x_in, row_is (d % p.size.w), at) (by _ (ltb (d % p.size.w) p.size.w) (white p d))
-    | inr ne ↦ rw (ne_eqb (d / p.size.w) y ne) refl
+        rw (eq-eqb _ _ same, next-is (d % p.size.w) x_in, row_is (d % p.size.w), at) (by _ (ltb (d % p.size.w) p.size.w) (white p d))
+    | inr ne ↦ rw (ne_eqb _ _ ne) refl
   ]
     where
       by : (a b c : Bool) → ((true && (a && b)) && c) ≡ (true && (a && (b && c)))
@@ -172,8 +162,8 @@ module _ (p : Light) (lawful : IsLight p) (y x row column : ℕ) (y_in : y < p.s
   column-part d = elim (cases_eq (d % p.size.w) x) [
     | inl same ↦
         let at : d / p.size.w * p.size.w + x ≡ d = rw (← same) (sym (whole-cell p.size.w d)) in
-        rw (eq-eqb (d % p.size.w) x same, next-is p.size.h y (d / p.size.w) y_in, column_is (d / p.size.w), at) (by _ (ltb (d / p.size.w) p.size.h) (white p d))
-    | inr ne ↦ rw (ne_eqb (d % p.size.w) x ne) refl
+        rw (eq-eqb _ _ same, next-is (d / p.size.w) y_in, column_is (d / p.size.w), at) (by _ (ltb (d / p.size.w) p.size.h) (white p d))
+    | inr ne ↦ rw (ne_eqb _ _ ne) refl
   ]
     where
       by : (a b c : Bool) → ((true && (a && b)) && c) ≡ (true && (a && (b && c)))
@@ -182,14 +172,14 @@ module _ (p : Light) (lawful : IsLight p) (y x row column : ℕ) (y_in : y < p.s
   places-are : (d : ℕ) → has_place places d ≡ lies_in_first p.size.w pieces 2 d
   places-are d =
       filter-has (white p) (beside p.size cell) d
-      ∙ rw (beside-cell p.size y x d x_in, lies-both p.size.w y x row column d, ← row-part d, ← column-part d) (by _ _ (white p d))
+      ∙ rw (beside-cell p.size y d x_in, lies-both p.size.w y x row column d, ← row-part d, ← column-part d) (by _ _ (white p d))
     where
       by : (a b c : Bool) → ((a || b) && c) ≡ ((a && c) || (b && c))
       by a b c = grind (arith, common_steps, cases_Bool a, cases_Bool b, cases_Bool c)
 
   module _ (n : ℕ) (numbered : get_or p.cells cell Black ≡ Numbered n) (from : Layers) (size : from.size ≡ p.size) where
     house_is : IsHouse (light_cells p) (exactly n places)
-    house_is = number-is p lawful cell_in numbered
+    house_is = number-is lawful cell_in numbered
 
     pub number-house-of : IsHouseOf from.size pieces n n (exactly n places)
     number-house-of = subst (λ (e : Extent). IsHouseOf e pieces n n (exactly n places)) (sym size) (record { is = house_is; least_is = refl; most_is = refl; cells = places-are })
@@ -205,11 +195,11 @@ module _ (p : Light) (lawful : IsLight p) (y x row column : ℕ) (y_in : y < p.s
     })
 
     -- a house that has no filling, if it has a cell
-    pub number-short : (room both : ℕ) {to : Layers} {any : Bool} → p.size.w ≤ room → p.size.h ≤ room
+    pub number-short : {room : ℕ} (both : ℕ) {to : Layers} {any : Bool} → p.size.w ≤ room → p.size.h ≤ room
         → ((k : ℕ) → has_bit both k ≡ (has_bit row k || has_bit column k)) → any ≡ any_below (has_bit both) room
         → IsBroken (exactly n places) (has from) → to ≡ from → ArePlanesAlive from → AreVisited (number_house p cell) from to (not any)
     unfolding after_houses
-    number-short room both {to} {any} wide tall both_is any_is broken same alive = rw (same, numbered) (elim (cases_Bool any) [
+    number-short {room} both {to} {any} wide tall both_is any_is broken same alive = rw (same, numbered) (elim (cases_Bool any) [
       | inl on ↦
           let w = shown (any_below-some (has_bit both) room (sym any_is ∙ on)) in
           let there = places-are w.0 ∙ lies-both p.size.w y x row column w.0 ∙ w.1 in
@@ -228,17 +218,17 @@ module _ (p : Light) (lawful : IsLight p) (y x row column : ℕ) (y_in : y < p.s
     ])
       where
         shown : (k : ℕ) × (k < room) × (has_bit both k ≡ true) → (d : ℕ) × (((eqb (d / p.size.w) y && has_bit row (d % p.size.w)) || (eqb (d % p.size.w) x && has_bit column (d / p.size.w))) ≡ true)
-        shown (k, lt, on) = elim (or_cases (has_bit row k) (has_bit column k) (sym (both_is k) ∙ on)) [
+        shown (k, lt, on) = elim (or_cases _ _ (sym (both_is k) ∙ on)) [
           | inl in_row ↦
-              let less = ltb-true k p.size.w (and_parts _ _ (and_parts _ _ (sym (row_is k) ∙ in_row)).1).0 in
-              (y * p.size.w + k, rw (div-mul-add y p.size.w k less, place-column p.size.w y k less) (or_left (eqb y y && has_bit row k) _ (and_from _ _ (eq-eqb y y refl) in_row)))
+              let less = ltb-true _ _ (and_parts _ _ (and_parts _ _ (sym (row_is k) ∙ in_row)).1).0 in
+              (y * p.size.w + k, rw (div-mul-add y p.size.w k less, place-column p.size.w y k less) (or_left _ _ (and_from _ _ (eq-eqb y y refl) in_row)))
           | inr in_column ↦
-              (k * p.size.w + x, rw (div-mul-add k p.size.w x x_in, place-column p.size.w k x x_in) (or_right _ (eqb x x && has_bit column k) (and_from _ _ (eq-eqb x x refl) in_column)))
+              (k * p.size.w + x, rw (div-mul-add k p.size.w x x_in, place-column p.size.w k x x_in) (or_right _ _ (and_from _ _ (eq-eqb x x refl) in_column)))
         ]
 
         none-at : any_below (has_bit both) room ≡ false → (k : ℕ) → (has_bit row k ≡ false) × (has_bit column k ≡ false)
         none-at none k = elim (cases_lt k room) [
-          | inl less ↦ or_parts (has_bit row k) (has_bit column k) (sym (both_is k) ∙ any_below-none (has_bit both) room none k less)
+          | inl less ↦ or_parts _ _ (sym (both_is k) ∙ any_below-none (has_bit both) room none k less)
           | inr high ↦ (row_is k ∙ rw (le-ltb k p.size.w (omega arith)) (and-false _), column_is k ∙ rw (le-ltb k p.size.h (omega arith)) (and-false _))
         ]
 
@@ -246,8 +236,5 @@ module _ (p : Light) (lawful : IsLight p) (y x row column : ℕ) (y_in : y < p.s
         bare c none = rw ((none-at none (c % p.size.w)).0, (none-at none (c / p.size.w)).1, and-false (eqb (c / p.size.w) y), and-false (eqb (c % p.size.w) x)) refl
 
 -- ---- a cell without a number
-pub white-visited : (p : Light) (c : ℕ) {from : Layers} → get_or p.cells c Black ≡ White → ArePlanesAlive from → AreVisited (number_house p c) from from true
-white-visited p c e alive = rw e (visited-none alive)
-
 pub black-visited : (p : Light) (c : ℕ) {from : Layers} → get_or p.cells c Black ≡ Black → ArePlanesAlive from → AreVisited (number_house p c) from from true
 black-visited p c e alive = rw e (visited-none alive)

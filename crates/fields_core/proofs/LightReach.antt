@@ -24,7 +24,7 @@ last-next {places} {rest} {left} {room} {next} least within others is = record {
       | inl there ↦ inr there
       | inr gone ↦ elim (others k lt on) [
         | inl less ↦ inl (omega arith)
-        | inr there ↦ absurd (true≢false (sym there ∙ rest-off least is k high gone))
+        | inr there ↦ absurd (true≢false (sym there ∙ rest-off least is high gone))
       ]
     ]
   ];
@@ -62,21 +62,21 @@ AreWhite p x from end = (i : ℕ) → from ≤ i → i < end → white p (i * p.
 abbrev pub IsLive : Light → ℕ → ℕ → ℕ → ℕ → Type 0
 IsLive p columns from end live = (x : ℕ) → x < p.size.w → has_bit columns x ≡ true → AreWhite p x from end → has_bit live x ≡ true
 
-pub live-first : (p : Light) (columns y whites live : ℕ) → IsRowOf p.size.w (white p) y whites → ((x : ℕ) → has_bit live x ≡ (has_bit columns x && has_bit whites x))
+pub live-first : (p : Light) (columns : ℕ) {y : ℕ} (whites live : ℕ) → IsRowOf p.size.w (white p) y whites → ((x : ℕ) → has_bit live x ≡ (has_bit columns x && has_bit whites x))
     → IsLive p columns y (y + 1) live
-live-first p columns y whites live row is x lt on all = is x ∙ and_from _ _ on (row x ∙ and_from _ _ (lt-ltb x p.size.w lt) (all y (omega arith) (omega arith)))
+live-first p columns {y} _ live row is x lt on all = is x ∙ and_from _ _ on (row x ∙ and_from _ _ (lt-ltb _ _ lt) (all y (omega arith) (omega arith)))
 
-pub live-more : (p : Light) (columns from end y first last whites before live : ℕ) → IsRowOf p.size.w (white p) y whites
+pub live-more : (p : Light) (columns : ℕ) {from end y : ℕ} (first last whites before live : ℕ) → IsRowOf p.size.w (white p) y whites
     → ((x : ℕ) → has_bit live x ≡ (has_bit before x && has_bit whites x)) → first ≤ from → end ≤ last → first ≤ y → y < last
     → IsLive p columns from end before → IsLive p columns first last live
-live-more p columns from end y first last whites before live row is low high at below live_before x lt on all =
+live-more p _ {y} first last _ _ live row is low high at below live_before x lt on all =
     is x ∙ and_from _ _ (live_before x lt on (λ i le less. all i (omega (arith, low, le)) (omega (arith, high, less))))
-    (row x ∙ and_from _ _ (lt-ltb x p.size.w lt) (all y at below))
+    (row x ∙ and_from _ _ (lt-ltb _ _ lt) (all y at below))
 
 -- where none is, a row at or before the first is parted from one at or behind the last
-pub live-parted : (p : Light) (columns from end live room x y k : ℕ) → IsLive p columns from end live → any_below (has_bit live) room ≡ false
+pub live-parted : (p : Light) (columns : ℕ) {from end : ℕ} (live : ℕ) {room x : ℕ} (y k : ℕ) → IsLive p columns from end live → any_below (has_bit live) room ≡ false
     → p.size.w ≤ room → x < p.size.w → has_bit columns x ≡ true → min y k ≤ from → end ≤ max y k + 1 → AreParted p x y k
-live-parted p columns from end live room x y k alive none narrow lt on low high = false_from_ne_true _ (λ joined.
+live-parted p _ live {room} {x} y k alive none narrow lt on low high = false_from_ne_true _ (λ joined.
     true≢false (sym (alive x lt on (λ i le less. clear-at (λ j. white p (j * p.size.w + x)) y k i joined (omega (arith, low, le)) (omega (arith, high, less))))
     ∙ any_below-none (has_bit live) room none x (omega (arith, lt, narrow))))
 
@@ -90,17 +90,16 @@ seen-parts p c d on = elim (place-append (row_run p c) _ d on) [
 ]
 
 module _ {W : Type 0} (bits : W → ℕ) (p : Light) (lines : Touched W) (lawful : IsLight p) where
-  pub away-from : (y x : ℕ) → y < p.size.h → x < p.size.w → (has_bit (bits lines.rows) y ≡ true → ⊥)
+  pub away-from : {y x : ℕ} → y < p.size.h → x < p.size.w → (has_bit (bits lines.rows) y ≡ true → ⊥)
       → ((k : ℕ) → k < p.size.h → has_bit (bits lines.rows) k ≡ true → has_bit (bits lines.columns) x ≡ true
       → clear (λ j. white p (j * p.size.w + x)) y k ≡ true → ⊥)
       → IsAway bits p lines (y * p.size.w + x)
-  away-from y x y_in lt no_row no_column d there at = elim (seen-parts p (y * p.size.w + x) d there) [
+  away-from {y} {x} y_in lt no_row no_column d there at = elim (seen-parts p (y * p.size.w + x) d there) [
     | inl row ↦
         let e : y ≡ d / p.size.w = sym (div-mul-add y p.size.w x lt) ∙ (row-parts p (y * p.size.w + x) d row).0 in
         no_row (rw e at.1)
     | inr column ↦
-        let parts = column-parts p (y * p.size.w + x) d column in
-        let board = light-board lawful in
+        let parts = column-parts p (y * p.size.w + x) d column in let board = light-board lawful in
         let e : x ≡ d % p.size.w = sym (place-column p.size.w y x lt) ∙ parts.0 in
         let inside = white-in p d board.long (column-white-end p (y * p.size.w + x) d board.some column) in
         no_column (d / p.size.w) (row-in p.size.h d board.some inside) at.1 (rw e at.0)
@@ -108,27 +107,27 @@ module _ {W : Type 0} (bits : W → ℕ) (p : Light) (lines : Touched W) (lawful
   ]
 
   -- no row of the grid is one of them
-  pub reach-none : (rows : ℕ → Bool) (room : ℕ) → p.size.h ≤ room → ((k : ℕ) → k < p.size.h → has_bit (bits lines.rows) k ≡ true → rows k ≡ true)
+  pub reach-none : (rows : ℕ → Bool) {room : ℕ} → p.size.h ≤ room → ((k : ℕ) → k < p.size.h → has_bit (bits lines.rows) k ≡ true → rows k ≡ true)
       → any_below rows room ≡ false → IsReach bits p lines 0 0
-  reach-none rows room low is none = record {
+  reach-none rows {room} low is none = record {
     order = omega arith;
     within = omega arith;
-    away = λ y x y_in lt out. away-from y x y_in lt (never y y_in) (λ k k_in on _ _. never k k_in on);
+    away = λ y x y_in lt out. away-from y_in lt (never y y_in) (λ k k_in on _ _. never k k_in on);
   }
     where
       never : (k : ℕ) → k < p.size.h → has_bit (bits lines.rows) k ≡ true → ⊥
       never k k_in on = true≢false (sym (is k k_in on) ∙ any_below-none rows room none k (omega (arith, k_in, low)))
 
   -- from the lowest of them to the highest, and further as far as columns are not parted
-  pub reach-from : (first low high end : ℕ) → first ≤ low → high < end → end ≤ p.size.h → low ≤ high
+  pub reach-from : {first low high end : ℕ} → first ≤ low → high < end → end ≤ p.size.h → low ≤ high
       → ((k : ℕ) → k < p.size.h → has_bit (bits lines.rows) k ≡ true → (low ≤ k) × (k ≤ high))
       → ((y : ℕ) → y < first → AreColumnsParted p (bits lines.columns) y low)
       → ((y : ℕ) → end ≤ y → y < p.size.h → AreColumnsParted p (bits lines.columns) y high)
       → IsReach bits p lines first end
-  reach-from first low high end up down within order between above below = record {
+  reach-from {first} {low} {high} {end} up down within order between above below = record {
     order = omega arith;
     within = within;
-    away = λ y x y_in lt out. away-from y x y_in lt (λ on. off y out (between y y_in on)) (λ k k_in on column joined. parted y x y_in lt k out (between k k_in on) column joined);
+    away = λ y x y_in lt out. away-from y_in lt (λ on. off y out (between y y_in on)) (λ k k_in on column joined. parted y x y_in lt k out (between k k_in on) column joined);
   }
     where
       off : (y : ℕ) → (y < first) ⊎ (end ≤ y) → (low ≤ y) × (y ≤ high) → ⊥
@@ -163,8 +162,8 @@ pub line-must : (planes : Layers) (line : Line) (k : ℕ) → number_of line < l
 line-must planes line k line_in alive within = elim (cases_Bool (at_line planes line 0 k)) [
   | inl zero ↦ rw zero (by (at_line planes line 1 k) (ltb k (line_len planes.size line)))
   | inr none ↦ rw none (elim (cases_lt k (line_len planes.size line)) [
-    | inl lt ↦ rw (line-one planes line k line_in lt alive none, lt-ltb k (line_len planes.size line) lt) refl
-    | inr out ↦ rw (false_from_ne_true (at_line planes line 1 k) (λ on. absurd (omega (arith, out, within on))), le-ltb k (line_len planes.size line) out) refl
+    | inl lt ↦ rw (line-one planes line k line_in lt alive none, lt-ltb _ _ lt) refl
+    | inr out ↦ rw (false_from_ne_true (at_line planes line 1 k) (λ on. absurd (omega (arith, out, within on))), le-ltb _ _ out) refl
   ])
 ]
   where

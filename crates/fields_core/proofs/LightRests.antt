@@ -1,15 +1,13 @@
--- Numbers and runs of Light Up that wait: where they lie, what stays idle, and what is idle where a closing begins.
-use Rattle.fields_core.proofs.Common.{AllByRecursion, AreIdle, AreIdleBut, AreLinesOf, AreLinesRested, AreLinesWoken, ArePlanesOf, Black, Bool, Candidates, CountHouse, IsAway, IsClosed, IsFurther, IsInside, IsLight, IsLostIn, Layers, Light, LightCell, List, Numbered, RunKind, Touched, White, any_below, any_below-none, ap, arith, back_at, cases_Bool, column_house, common_steps, eqb, eqb-true, exactly, false, false_from_ne_true, filter, get_or, has, has_bit, has_place, houses_below, inl, inr, light_cells, light_counts, light_houses, light_rules, lit_house, mod-lt, not, number_house, numbers_of_row, one_at_least, or_left, or_parts, or_right, place-filter, place-in, refl, row_house, row_runs_of_row, run_houses, run_lines, seen_from, solves_lights, steps, suc, sym, true, true≢false, waiting_runs, white, zero, ℕ, ◌%◌, ◌&&◌, ◌*◌, ◌+◌, ◌-◌, ◌/◌, ◌<◌, ◌||◌, ◌∙◌, ◌≡◌, ◌≤◌}
-use Rattle.engine_core.specs.Position.{IsClosedAround}
+-- What waits of Light Up: where numbers and runs lie, what stays idle, white cells too, and what is idle where a closing begins.
+use Rattle.fields_core.proofs.Common.{AllByRecursion, AreIdle, AreIdleBut, AreLinesOf, AreLinesRested, AreLinesWoken, ArePlanesAlive, ArePlanesOf, AreSafe, Black, Bool, Candidates, CountHouse, IsAway, IsClosed, IsClosedAround, IsFurther, IsInside, IsLight, IsLostIn, Layers, Light, LightCell, List, Numbered, RunKind, Touched, White, after_houses, any_below, any_below-none, ap, arith, back_at, cases_Bool, cases_eq, column_house, column_run, common_steps, eqb, eqb-true, exactly, false, false_from_ne_true, filter, get_or, has, has_bit, has_place, houses_below, inl, inr, joined_in_column, joined_in_row, light_cells, light_counts, light_houses, light_rules, lit_house, mod-lt, ne_eqb, not, number_house, numbers_of_row, one_at_least, or_left, or_parts, or_right, place-back, place-filter, place-front, place-in, place-kept, refl, row_house, row_run, row_runs_of_row, run_houses, run_lines, seen_from, solves_lights, steps, suc, sym, true, true≢false, waiting_runs, white, zero, ℕ, ◌%◌, ◌&&◌, ◌*◌, ◌+◌, ◌/◌, ◌<◌, ◌||◌, ◌∙◌, ◌≡◌, ◌≤◌}
 use Rattle.fields_core.specs.declared.planes.light_up.waits.LineWaits.{LineWaits}
-use Rattle.fields_core.specs.declared.planes.light_up.waits.RunKind.TheVariants.{Rows, Columns}
+use Rattle.fields_core.specs.declared.planes.light_up.waits.RunKind.TheVariants.{Columns, Rows}
 unfoldable use Rattle.fields_core.proofs.IdleLemmas.{any_has}
 use Rattle.fields_core.proofs.IdleLemmas.{any-below, any-none, any-one, idle-far}
 use Rattle.fields_core.proofs.AtMostLemmas.{IsFull}
-use Rattle.fields_core.proofs.AtLeastLemmas.{IsAll, alls-kept}
-use Rattle.fields_core.proofs.LightCounting.{light-board}
-use Rattle.fields_core.proofs.LightHouseLaws.{row-self}
-use Rattle.fields_core.proofs.LightLitRuns.{black-idle, planes-full, seen-in-row}
+use Rattle.fields_core.proofs.AtLeastLemmas.{IsAll, alls-kept, safe-stay}
+use Rattle.fields_core.proofs.LightCounting.{in-column-run, in-row-run, light-board}
+use Rattle.fields_core.proofs.LightHouseLaws.{column-white-end, row-self, white-in}
 use Rattle.fields_core.proofs.LightLitVisits.{lit-is}
 use Rattle.fields_core.proofs.LightNumberRows.{numbers-are}
 use Rattle.fields_core.proofs.PartIdle.{IsPartOf, below-idle, closed-idle, idle-one, in-back, in-below, in-front}
@@ -17,11 +15,59 @@ use Rattle.fields_core.proofs.LightRunOrder.{column-runs-kept, row-runs-are, row
 use Rattle.fields_core.proofs.StepLaws.{steps-some}
 use Rattle.fields_core.proofs.TentBeside.{IsNextTo, row-in, step-across, step-lies}
 use Rattle.fields_core.proofs.WaitLemmas.{around-inside, around-lost, back-whole, full-before, spread-off, value-kept}
+use Rattle.fields_core.proofs.PartLemmas.{value-in}
+
+module _ (p : Light) (lawful : IsLight p) (c : ℕ) (is_white : white p c ≡ true) where
+  some : 0 < p.size.w
+  some = (light-board lawful).some
+
+  inside : c < light_cells p
+  inside = white-in p c (light-board lawful).long is_white
+
+  -- ---- the cells of both runs are those of the house
+  pub seen-in-row : (d : ℕ) → joined_in_row p c d ≡ true → has_place (seen_from p c) d ≡ true
+  unfolding seen_from
+  seen-in-row d joined = place-front (row_run p c) _ d (in-row-run p c d some joined)
+
+  pub seen-in-column : (d : ℕ) → joined_in_column p c d ≡ true → has_place (seen_from p c) d ≡ true
+  unfolding seen_from
+  seen-in-column d joined = elim (cases_eq d c) [
+    | inl same ↦ place-front (row_run p c) _ d (rw same (in-row-run p c c some (row-self p c is_white)))
+    | inr other ↦
+        let within = white-in p d (light-board lawful).long (column-white-end p c d some joined) in
+        place-back (row_run p c) _ d (place-kept _ (column_run p c) d (in-column-run p c some within joined) (ap not (ne_eqb _ _ other)))
+  ]
+
+-- ---- a run with two cells that can have a bulb, or one that must, leaves the houses of its cells idle
+pub row-safe : {p : Light} (c : ℕ) {K : Candidates} → IsLight p → IsFull (light_cells p) K → AreSafe (joined_in_row p c) K → AreIdle (lit_house p c) K
+unfolding after_houses
+row-safe {p} c {K} lawful full safe = elim (cases_Bool (white p c)) [
+  | inl on ↦ rw on (safe-stay K (lit-is lawful (inside p lawful c on) on) full safe.one safe.other (seen-in-row p lawful c on safe.one safe.one_in)
+      (seen-in-row p lawful c on safe.other safe.other_in) safe.one_on safe.other_on safe.apart)
+  | inr off ↦ rw off refl
+]
+
+pub column-safe : {p : Light} (c : ℕ) {K : Candidates} → IsLight p → IsFull (light_cells p) K → AreSafe (joined_in_column p c) K → AreIdle (lit_house p c) K
+unfolding after_houses
+column-safe {p} c {K} lawful full safe = elim (cases_Bool (white p c)) [
+  | inl on ↦ rw on (safe-stay K (lit-is lawful (inside p lawful c on) on) full safe.one safe.other (seen-in-column p lawful c on safe.one safe.one_in)
+      (seen-in-column p lawful c on safe.other safe.other_in) safe.one_on safe.other_on safe.apart)
+  | inr off ↦ rw off refl
+]
+
+-- a black cell has no house
+pub black-idle : (p : Light) (c : ℕ) (K : Candidates) → white p c ≡ false → AreIdle (lit_house p c) K
+unfolding after_houses
+black-idle p c K off = rw off refl
+
+-- ---- on planes
+pub planes-full : (p : Light) (from : Layers) → from.size ≡ p.size → ArePlanesAlive from → IsFull (light_cells p) (has from)
+planes-full p from size alive = record { low = value-in from; some = λ c lt. alive c (rw size lt) }
 
 -- ---- where houses lie
-number-lies : (p : Light) (c y x : ℕ) → x < p.size.w → any_has (number_house p (y * p.size.w + x)) c ≡ true
+number-lies : (p : Light) (c y : ℕ) {x : ℕ} → x < p.size.w → any_has (number_house p (y * p.size.w + x)) c ≡ true
     → IsNextTo (c / p.size.w) y × IsNextTo (c % p.size.w) x
-number-lies p c y x lt on = by (get_or p.cells (y * p.size.w + x) Black) refl
+number-lies p c y {x} lt on = by (get_or p.cells (y * p.size.w + x) Black) refl
   where
     by : (cell : LightCell) → get_or p.cells (y * p.size.w + x) Black ≡ cell → IsNextTo (c / p.size.w) y × IsNextTo (c % p.size.w) x
     by White e = absurd (true≢false (sym (rw e at on) ∙ any-none c))
@@ -32,9 +78,7 @@ number-lies p c y x lt on = by (get_or p.cells (y * p.size.w + x) Black) refl
         (step-lies p.size c (omega (arith, lt)) y x s.0 lt s.1 s.2, step-across p.size c y x s.0 lt s.1 s.2)
 
 numbers-lie : (p : Light) (c y : ℕ) → any_has (numbers_of_row p y) c ≡ true → IsNextTo (c / p.size.w) y
-numbers-lie p c y on =
-    let w = any-below (λ x. number_house p (y * p.size.w + x)) p.size.w c on in
-    (number-lies p c y w.0 w.1 w.2).0
+numbers-lie p c y on = let w = any-below (λ x. number_house p (y * p.size.w + x)) p.size.w c on in (number-lies p c y w.1 w.2).0
 
 -- ---- white cells
 -- a white cell has a house of the cells that it sees, and a black one has none
@@ -44,9 +88,9 @@ lit-lies p c d on = elim (cases_Bool (white p c)) [
   | inr off ↦ absurd (true≢false (sym (rw off at on) ∙ any-none d))
 ]
 
-pub lits-each : (p : Light) (c : ℕ) → IsLight p → c < light_cells p → AllByRecursion (IsAll (light_cells p)) (lit_house p c)
-lits-each p c lawful lt = elim (cases_Bool (white p c)) [
-  | inl on ↦ rw on (record { is = lit-is p lawful lt on; same = refl }, tt)
+pub lits-each : {p : Light} {c : ℕ} → IsLight p → c < light_cells p → AllByRecursion (IsAll (light_cells p)) (lit_house p c)
+lits-each {p} {c} lawful lt = elim (cases_Bool (white p c)) [
+  | inl on ↦ rw on (record { is = lit-is lawful lt on; same = refl }, tt)
   | inr off ↦ rw off tt
 ]
 
@@ -67,7 +111,7 @@ module _ {W : Type 0} (bits : W → ℕ) {room : ℕ} (p : Light) {before now : 
   columns-rested y y_in x lt off =
       idle-far (number_house p (y * p.size.w + x)) K L inside
       (λ c v on gone. false_from_ne_true _ (λ there.
-      spread-off bits _ (λ k. has_bit (bits zeros.columns) k || has_bit (bits ones.columns) k) _ woken.number_columns (lost c v (full.low c v on) on gone).0 (omega (arith, lt, narrow)) off (number-lies p c y x lt there).1))
+      spread-off bits _ (λ k. has_bit (bits zeros.columns) k || has_bit (bits ones.columns) k) _ woken.number_columns (lost c v (full.low c v on) on gone).0 (omega (arith, lt, narrow)) off (number-lies p c y lt there).1))
       (rested.columns y y_in x lt (or_parts _ _ (sym (woken.number_columns x) ∙ off)).0)
 
   numbers-rested : (k : ℕ) → k < p.size.h → has_bit (bits now.numbers) k ≡ false → AreIdle (numbers_of_row p k) L
@@ -81,18 +125,18 @@ module _ {W : Type 0} (bits : W → ℕ) {room : ℕ} (p : Light) {before now : 
   runs-rested Rows k lt off =
       let parts = or_parts _ _ (sym (woken.rows_are k) ∙ off) in
       row-runs-kept p K L lawful full still inside k
-      (λ c row. value-kept K L c 0 inside (λ on gone. true≢false (sym (lost_zero c on gone).1 ∙ ap (has_bit (bits zeros.rows)) row ∙ parts.1)))
+      (λ c row. value-kept c 0 inside (λ on gone. true≢false (sym (lost_zero c on gone).1 ∙ ap (has_bit (bits zeros.rows)) row ∙ parts.1)))
       (rested.runs Rows k lt parts.0)
   runs-rested Columns k lt off =
       let parts = or_parts _ _ (sym (woken.columns_are k) ∙ off) in
-      column-runs-kept p K L lawful full still inside k lt
-      (λ c column. value-kept K L c 0 inside (λ on gone. true≢false (sym (lost_zero c on gone).0 ∙ ap (has_bit (bits zeros.columns)) column ∙ parts.1)))
+      column-runs-kept p K L lawful full still inside lt
+      (λ c column. value-kept c 0 inside (λ on gone. true≢false (sym (lost_zero c on gone).0 ∙ ap (has_bit (bits zeros.columns)) column ∙ parts.1)))
       (rested.runs Columns k lt parts.0)
 
   whites-rested : (c : ℕ) → c < light_cells p → IsAway bits p now.ones c → AreIdle (lit_house p c) L
   whites-rested c lt away =
-      alls-kept (light_cells p) (lit_house p c) K L (lits-each p c lawful lt) full still inside
-      (λ d there. value-kept K L d 1 inside (λ on gone.
+      alls-kept (light_cells p) (lit_house p c) K L (lits-each lawful lt) full still inside
+      (λ d there. value-kept d 1 inside (λ on gone.
       let at = lost_one d on gone in
       away d (lit-lies p c d there) (woken.one_columns _ ∙ or_right _ _ at.0, woken.one_rows _ ∙ or_right _ _ at.1)))
       (rested.whites c lt (λ d there at. away d there (woken.one_columns _ ∙ or_left _ _ at.0, woken.one_rows _ ∙ or_left _ _ at.1)))
@@ -140,34 +184,34 @@ module _ (p : Light) (K : Candidates) (closed : IsClosed (light_rules p) K) wher
   runs-idle : (kind : RunKind) (k : ℕ) → k < run_lines p kind → AreIdle (run_houses p kind k) K
   unfolding light_houses
   runs-idle Rows k lt = part-idle (row_runs_of_row p k)
-      (in-back _ (houses_below (number_house p) (light_cells p)) _ (in-front _ _ _ (rw (row-runs-are p) at (in-below (row_runs_of_row p) k p.size.h lt))))
+      (in-back (houses_below (number_house p) (light_cells p)) (in-front _ _ _ (rw (row-runs-are p) at (in-below (row_runs_of_row p) lt))))
   runs-idle Columns k lt = below-idle (λ y. column_house p (y * p.size.w + k)) p.size.h K
       (λ y less. part-idle (column_house p (y * p.size.w + k))
-      (in-back _ (houses_below (number_house p) (light_cells p)) _ (in-back _ (houses_below (row_house p) (light_cells p)) _
-      (in-front _ _ _ (in-below (column_house p) (y * p.size.w + k) (light_cells p) (place-in p.size.w p.size.h y k less lt))))))
+      (in-back (houses_below (number_house p) (light_cells p)) (in-back (houses_below (row_house p) (light_cells p))
+      (in-front _ _ _ (in-below (column_house p) (place-in p.size.w p.size.h y k less lt))))))
 
-  white-idle : (c : ℕ) → c < light_cells p → AreIdle (lit_house p c) K
+  white-idle : {c : ℕ} → c < light_cells p → AreIdle (lit_house p c) K
   unfolding light_houses
-  white-idle c lt = part-idle (lit_house p c)
-      (in-back _ (houses_below (number_house p) (light_cells p)) _ (in-back _ (houses_below (row_house p) (light_cells p)) _
-      (in-back _ (houses_below (column_house p) (light_cells p)) _ (in-below (lit_house p) c (light_cells p) lt))))
+  white-idle {c} lt = part-idle (lit_house p c)
+      (in-back (houses_below (number_house p) (light_cells p)) (in-back (houses_below (row_house p) (light_cells p))
+      (in-back (houses_below (column_house p) (light_cells p)) (in-below (lit_house p) lt))))
 
   closed-rested : {W : Type 0} (bits : W → ℕ) (none : LineWaits W) → AreLinesRested bits p none K
   closed-rested bits none = record {
-    numbers = λ k lt off. numbers-part (numbers_of_row p k) (rw (numbers-are p) at (in-below (numbers_of_row p) k p.size.h lt));
+    numbers = λ k lt off. numbers-part (numbers_of_row p k) (rw (numbers-are p) at (in-below (numbers_of_row p) lt));
     runs = λ kind k lt off. runs-idle kind k lt;
     columns = λ y y_in x lt off. numbers-part (number_house p (y * p.size.w + x))
-        (in-below (number_house p) (y * p.size.w + x) (light_cells p) (place-in p.size.w p.size.h y x y_in lt));
-    whites = λ c lt away. white-idle c lt;
+        (in-below (number_house p) (place-in p.size.w p.size.h y x y_in lt));
+    whites = λ c lt away. white-idle lt;
   }
 
 -- a closing begins at a cell, which has lost a value
-pub lines-at : {W : Type 0} (bits : W → ℕ) {room : ℕ} (p : Light) {planes : Layers} {place : ℕ} (none now : LineWaits W) {zeros ones : Touched W}
+pub lines-at : {W : Type 0} {bits : W → ℕ} {room : ℕ} {p : Light} {planes : Layers} {place : ℕ} {none now : LineWaits W} {zeros ones : Touched W}
     → ArePlanesOf room p planes → IsClosedAround (light_rules p) (has planes) place
     → (has planes place 0 ≡ false → AreLinesOf bits zeros (place / p.size.w) (place % p.size.w))
     → (has planes place 1 ≡ false → AreLinesOf bits ones (place / p.size.w) (place % p.size.w))
     → AreLinesWoken bits room none zeros ones now → AreLinesRested bits p now (has planes)
-lines-at {W = W} bits p {planes} {place} none now {zeros} {ones} of around no_zero no_one woken =
+lines-at {W = W} {bits} {p} {planes} {place} {none} {zeros} {ones} of around no_zero no_one woken =
     lines-board bits p around.before (has planes) of.lawful of.narrow of.low (full-before (light_counts p) around) (planes-full p planes of.size of.alive)
     (around-inside (light_counts p) around) (around-lost (light_counts p) around bits p.size.w 0 zeros no_zero) (around-lost (light_counts p) around bits p.size.w 1 ones no_one) woken
     (closed-rested p around.before around.closed bits none)
@@ -183,7 +227,7 @@ module _ {W : Type 0} (bits : W → ℕ) (p : Light) (before now : LineWaits W) 
 
   numbers-settled : (k : ℕ) → k < p.size.h → has_bit (bits now.numbers) k ≡ false → AreIdle (numbers_of_row p k) K
   numbers-settled k lt off = elim (cases_Bool (eqb k y)) [
-    | inl own ↦ rw (eqb-true k y own) idle
+    | inl own ↦ rw (eqb-true _ _ own) idle
     | inr other ↦ rested.numbers k lt (by (has_bit (bits before.numbers) k) (sym (numbers k ∙ rw other refl) ∙ off))
   ]
     where
@@ -194,7 +238,7 @@ module _ {W : Type 0} (bits : W → ℕ) (p : Light) (before now : LineWaits W) 
   last-settled low none = record {
     numbers = numbers-settled;
     runs = runs-settled;
-    columns = λ z z_in x lt off. idle-one (λ k. number_house p (z * p.size.w + k)) p.size.w x K lt
+    columns = λ z z_in x lt off. idle-one (λ k. number_house p (z * p.size.w + k)) K lt
         (numbers-settled z z_in (any_below-none (has_bit (bits now.numbers)) room none z (omega (arith, z_in, low))));
     whites = λ c lt away. rested.whites c lt (rw ones at away);
   }

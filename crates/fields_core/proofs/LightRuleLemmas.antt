@@ -1,7 +1,5 @@
 -- In Light Up the test of a solution is the rule.
-use Rattle.fields_core.proofs.Common.{AllByRecursion, AreRight, Black, Bool, FailsLight, IsGrid, IsKnown, IsLightFault, IsMade, Kind, Light, LightCell, List, NoneFails, Numbered, Option, White, [], all_below-at, all_below-from, and_from, and_parts, any_below-here, any_below-some, arith, black_right, bulb, bulb_right, bulbs_beside, cases_eq, cases_lt, common_steps, div-mul-add, div-mul-le_self, eq-eqb, eqb, eqb-true, false, get_or, inl, inr, is_some, joined_in_column, joined_in_row, known_tests, le-div, light_cells, light_tests, lit_right, max, min, mod-lt, mod-mul-add, mul-le-mul_right, ne_eqb, none_held, none_tells, not, not-false, not-true, number_is, number_right, or_cases, or_left, or_parts, or_right, refl, right_none, sees, sees_bulb, slice_index, solves_lights, sym, true, true≢false, white, ℕ, ◌%◌, ◌&&◌, ◌*◌, ◌+◌, ◌/◌, ◌<◌, ◌||◌, ◌∙◌, ◌∷◌, ◌≡◌, ◌≤◌}
-use Rattle.fields_core.specs.LightSolutions.{light_row, light_column, IsFromTo, AreJoined, Sees, SeesBulb, IsLightSolution}
-use Rattle.fields_core.specs.declared.light_up.fault.LightFault.{LightFault}
+use Rattle.fields_core.proofs.Common.{AllByRecursion, AreJoined, AreRight, Black, Bool, FailsLight, IsFromTo, IsGrid, IsKnown, IsLightFault, IsLightSolution, IsMade, Kind, Light, LightCell, LightFault, List, NoneFails, Numbered, Option, Sees, SeesBulb, White, [], all_below-at, all_below-from, and_from, and_parts, any_below-here, any_below-some, arith, black_right, bulb_right, bulbs_beside, cases_eq, cases_lt, common_steps, div-mul-add, div-mul-le_self, eq-eqb, eqb-true, false, get_or, inl, inr, is_some, joined_in_column, joined_in_row, known_tests, le-div, light_cells, light_column, light_row, light_tests, lit_right, max, min, mod-lt, mod-mul-add, mul-le-mul_right, ne_eqb, none_held, none_tells, not, not-false, not-true, number_is, number_right, or_cases, or_left, or_parts, or_right, refl, right_none, sees, sees_bulb, solves_lights, sym, true, true≢false, white, ℕ, ◌%◌, ◌&&◌, ◌*◌, ◌+◌, ◌/◌, ◌<◌, ◌∙◌, ◌∷◌, ◌≡◌, ◌≤◌}
 use Rattle.fields_core.specs.declared.light_up.fault.LightFault.TheVariants as fault
 use Rattle.fields_core.proofs.LightFaultLemmas.{lit-from, lit-parts}
 use Rattle.fields_core.proofs.LightHouseLaws.{clear-at, clear-from, row-parts, column-parts}
@@ -54,10 +52,7 @@ joined-column p a b pos is = and_from _ _ (eq-eqb _ _ is.same_line)
     let here : a / p.size.w * p.size.w + a % p.size.w ≡ a = omega arith in
     let there : b / p.size.w * p.size.w + a % p.size.w ≡ b = rw is.same_line (omega arith) in
     is.all_white (y * p.size.w + a % p.size.w) (mod-mul-add y p.size.w _ (mod-lt a pos))
-    (places-between a b _ _ y p.size.w _ here there low high)))
-  where
-    places-between : (a b i j y w x : ℕ) → i * w + x ≡ a → j * w + x ≡ b → min i j ≤ y → y ≤ max i j → IsFromTo a b (y * w + x)
-    places-between a b i j y w x ea eb low high = grind (arith, common_steps, cases_lt, mul-le-mul_right)
+    (grind (arith, common_steps, cases_lt, mul-le-mul_right))))
 
 sees-rule : (p : Light) (a b : ℕ) → 0 < p.size.w → sees p a b ≡ true → Sees p a b
 unfolding sees
@@ -88,20 +83,17 @@ rule-from-test p g grid on =
     let parts = lit-parts p g on in
     record {
       grid = grid;
-      none_on_black = λ c lt bulb_on. elim (or_cases (white p c) (eqb (slice_index g c) 0) (all_below-at (black_right p g) (light_cells p) c parts.black lt)) [
+      none_on_black = λ c lt bulb_on. elim (or_cases _ _ (all_below-at (black_right p g) (light_cells p) c parts.black lt)) [
         | inl is ↦ is
-        | inr zero_at ↦ let a = eqb-true (slice_index g c) 0 zero_at in let b = eqb-true (slice_index g c) 1 bulb_on in absurd (omega arith)
+        | inr zero_at ↦ let a = eqb-true _ _ zero_at in let b = eqb-true _ _ bulb_on in absurd (omega arith)
       ];
       numbers = λ c n lt e. number-rule n (all_below-at (number_right p g) (light_cells p) c parts.number lt) e;
       none_seen = λ c d lc ld on_c on_d is.
           not-alone (all_below-at (bulb_right p g) (light_cells p) c parts.seen lc) on_c
           (rule-bulb p g c (some-column p lc) (record { other = d; within = ld; has_bulb = on_d; seen = is }));
-      all_lit = λ c lt is_white. elim (or_cases (not (white p c)) (bulb g c || sees_bulb p g c) (all_below-at (lit_right p g) (light_cells p) c parts.lit lt)) [
-        | inl black ↦ absurd (true≢false (sym is_white ∙ not-true (white p c) black))
-        | inr lit ↦ elim (or_cases (bulb g c) (sees_bulb p g c) lit) [
-          | inl here ↦ inl here
-          | inr seen ↦ inr (bulb-rule (some-column p lt) seen)
-        ]
+      all_lit = λ c lt is_white. elim (or_cases _ _ (all_below-at (lit_right p g) (light_cells p) c parts.lit lt)) [
+        | inl black ↦ absurd (true≢false (sym is_white ∙ not-true _ black))
+        | inr lit ↦ elim (or_cases _ _ lit) [ inl here ↦ inl here | inr seen ↦ inr (bulb-rule (some-column p lt) seen) ]
       ];
     }
 
@@ -129,15 +121,12 @@ module _ (p : Light) (g : List ℕ) where
 
     number-made : IsMade (FailsLight p g) number
     unfolding number_right
-    number-made = record {
-      failed = λ c lt off. by c _ off refl;
-      held = λ c lt on (n, e, other). other (number-rule n on e);
-    }
+    number-made = record { failed = λ c lt off. by c _ off refl; held = λ c lt on (n, e, other). other (number-rule n on e) }
       where
         by : (c : ℕ) (cell : LightCell) → number_is cell (bulbs_beside p g c) ≡ false → get_or p.cells c Black ≡ cell → FailsLight p g (fault.Number c)
         by c White off e = absurd (true≢false off)
         by c Black off e = absurd (true≢false off)
-        by c (Numbered n) off e = (n, e, λ same. true≢false (sym (eq-eqb _ n same) ∙ off))
+        by c (Numbered n) off e = (n, e, λ same. true≢false (sym (eq-eqb _ _ same) ∙ off))
 
     seen-made : IsMade (FailsLight p g) seen
     unfolding bulb_right

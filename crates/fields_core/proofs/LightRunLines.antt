@@ -22,8 +22,7 @@ around-none run room marked bits none = record {
   lower = λ j k on off there. absurd (true≢false (sym on ∙ off));
   is = λ k. none k ∙ sym (false_from_ne_true _ (λ on.
       let w = any_below-some (λ j. (has_bit marked j && not (has_bit marked j)) && has_bit (run j) k) room on in
-      let both = and_parts _ _ (and_parts _ _ w.2).0 in
-      true≢false (sym both.0 ∙ not-true (has_bit marked w.0) both.1)));
+      let both = and_parts _ _ (and_parts _ _ w.2).0 in true≢false (sym both.0 ∙ not-true _ both.1)));
   apart = λ j k less on off there. absurd (true≢false (sym on ∙ off));
 }
 
@@ -35,13 +34,12 @@ module _ (run : ℕ → ℕ) (room marked rest bits at later more : ℕ) (done :
   pub around-clash : (both : ℕ) → ((k : ℕ) → has_bit both k ≡ (has_bit later k && has_bit (run at) k)) → any_below (has_bit both) room ≡ true
       → IsClash run marked
   around-clash both both_is some =
-      let w = any_below-some (has_bit both) room some in
-      let parts = and_parts _ _ (sym (both_is w.0) ∙ w.2) in
+      let w = any_below-some (has_bit both) room some in let parts = and_parts _ _ (sym (both_is w.0) ∙ w.2) in
       let there = and_parts _ _ (sym (later_is w.0) ∙ parts.0) in
       record {
         one = at;
         other = w.0;
-        after = after w.0 there.0 (not-true (eqb w.0 at) there.1);
+        after = after w.0 there.0 (not-true _ there.1);
         one_marked = done.inside at least.has;
         other_marked = done.inside w.0 there.0;
         same = parts.1;
@@ -100,8 +98,7 @@ module _ (run : ℕ → ℕ) (room marked rest bits at later more : ℕ) (done :
       to k on = elim (or_cases (has_bit bits k) (has_bit (run at) k) on) [
         | inl old ↦
             let w = any_below-some (λ j. (has_bit marked j && not (has_bit rest j)) && has_bit (run j) k) room (sym (done.is k) ∙ old) in
-            let parts = and_parts _ _ w.2 in
-            let own = and_parts _ _ parts.0 in
+            let parts = and_parts _ _ w.2 in let own = and_parts _ _ parts.0 in
             let gone : has_bit later w.0 ≡ false = later_is w.0 ∙ rw (not-true (has_bit rest w.0) own.1) refl in
             any_below-here (λ j. (has_bit marked j && not (has_bit later j)) && has_bit (run j) k) room w.0 w.1
             (and_from _ _ (and_from _ _ own.0 (ap not gone)) parts.1)
@@ -115,18 +112,17 @@ module _ (run : ℕ → ℕ) (room marked rest bits at later more : ℕ) (done :
           → (has_bit bits k || has_bit (run at) k) ≡ true
       back k on =
           let w = any_below-some (λ j. (has_bit marked j && not (has_bit later j)) && has_bit (run j) k) room on in
-          let parts = and_parts _ _ w.2 in
-          let own = and_parts _ _ parts.0 in
+          let parts = and_parts _ _ w.2 in let own = and_parts _ _ parts.0 in
           elim (later-off w.0 (not-true (has_bit later w.0) own.1)) [
-            | inl here ↦ or_right (has_bit bits k) (has_bit (run at) k) (ap (λ j. has_bit (run j) k) (sym here) ∙ parts.1)
-            | inr off ↦ or_left (has_bit bits k) (has_bit (run at) k)
+            | inl here ↦ or_right _ _ (ap (λ j. has_bit (run j) k) (sym here) ∙ parts.1)
+            | inr off ↦ or_left _ _
                 (done.is k ∙ any_below-here (λ j. (has_bit marked j && not (has_bit rest j)) && has_bit (run j) k) room w.0 w.1
                 (and_from _ _ (and_from _ _ own.0 (ap not off)) parts.1))
           ]
 
-pub around-all : (run : ℕ → ℕ) (room marked rest bits : ℕ) → AreAroundDone run room marked rest bits
+pub around-all : {run : ℕ → ℕ} {room marked rest bits : ℕ} → AreAroundDone run room marked rest bits
     → ((k : ℕ) → has_bit marked k ≡ true → k < room) → any_below (has_bit rest) room ≡ false → AreAround run room marked bits
-around-all run room marked rest bits done marked_in none = record {
+around-all {run} {room} {marked} {rest} done marked_in none = record {
   is = λ k. done.is k ∙ same-truth _ _
       (λ on.
       let w = any_below-some (λ j. (has_bit marked j && not (has_bit rest j)) && has_bit (run j) k) room on in
@@ -134,8 +130,7 @@ around-all run room marked rest bits done marked_in none = record {
       let own = and_parts (has_bit marked w.0) (not (has_bit rest w.0)) parts.0 in
       any_below-here (λ j. has_bit marked j && has_bit (run j) k) room w.0 w.1 (and_from _ _ own.0 parts.1))
       (λ on.
-      let w = any_below-some (λ j. has_bit marked j && has_bit (run j) k) room on in
-      let parts = and_parts _ _ w.2 in
+      let w = any_below-some (λ j. has_bit marked j && has_bit (run j) k) room on in let parts = and_parts _ _ w.2 in
       any_below-here (λ j. (has_bit marked j && not (has_bit rest j)) && has_bit (run j) k) room w.0 w.1
       (and_from _ _ (and_from _ _ parts.0 (ap not (off w.0 parts.0))) parts.1));
   apart = λ j k less on there. done.apart j k less on (off j on) there;
@@ -149,7 +144,7 @@ around-all run room marked rest bits done marked_in none = record {
 pub some-of : (P : CountHouse → Type 0) (test : CountHouse → Bool) (houses : List CountHouse) → AllByRecursion P houses
     → list_any test houses ≡ true → (house : CountHouse) × P house × (test house ≡ true)
 some-of P test [] all on = absurd (false≢true on)
-some-of P test (house ∷ houses) (is, all) on = elim (or_cases (test house) (list_any test houses) on) [
+some-of P test (house ∷ houses) (is, all) on = elim (or_cases _ _ on) [
   | inl here ↦ (house, is, here)
   | inr more ↦ some-of P test houses all more
 ]
@@ -158,9 +153,9 @@ some-of P test (house ∷ houses) (is, all) on = elim (or_cases (test house) (li
 pub any-more : (test other : CountHouse → Bool) (houses : List CountHouse) → ((house : CountHouse) → test house ≡ true → other house ≡ true)
     → list_any test houses ≡ true → list_any other houses ≡ true
 any-more test other [] more on = on
-any-more test other (house ∷ houses) more on = elim (or_cases (test house) (list_any test houses) on) [
-  | inl here ↦ or_left (other house) (list_any other houses) (more house here)
-  | inr rest ↦ or_right (other house) (list_any other houses) (any-more test other houses more rest)
+any-more test other (house ∷ houses) more on = elim (or_cases _ _ on) [
+  | inl here ↦ or_left _ _ (more house here)
+  | inr rest ↦ or_right _ _ (any-more test other houses more rest)
 ]
 
 pub each-more : (P Q : CountHouse → Type 0) (houses : List CountHouse) → ((house : CountHouse) → P house → Q house)
@@ -181,20 +176,17 @@ module _ (size : Extent) (line : Line) (n room : ℕ) (cell : ℕ → ℕ) (join
 
   must-at : (k : ℕ) → has_bit must k ≡ true → (k < n) × (zeros (cell k) ≡ false)
   must-at k on =
-      let w = and_parts _ _ (sym (must_is k) ∙ on) in
-      let lt = ltb-true k n w.0 in
-      (lt, sym (are.values from 0 k same_size (omega arith) lt) ∙ not-true (at_line from line 0 k) w.1)
+      let w = and_parts _ _ (sym (must_is k) ∙ on) in let lt = ltb-true _ _ w.0 in
+      (lt, sym (are.values from 0 k same_size (omega arith) lt) ∙ not-true _ w.1)
 
-  must-from : (k : ℕ) → k < n → zeros (cell k) ≡ false → has_bit must k ≡ true
-  must-from k lt off = must_is k ∙ and_from _ _ (lt-ltb k n lt) (ap not (are.values from 0 k same_size (omega arith) lt ∙ off))
+  must-from : {k : ℕ} → k < n → zeros (cell k) ≡ false → has_bit must k ≡ true
+  must-from {k} lt off = must_is k ∙ and_from _ _ (lt-ltb _ _ lt) (ap not (are.values from 0 k same_size (omega arith) lt ∙ off))
 
   -- ---- two in one run
   pub runs-clash : IsClash run must → AreVisited houses from from false
   runs-clash clash =
-      let one = must-at clash.one clash.one_marked in
-      let other = must-at clash.other clash.other_marked in
-      let both = and_parts _ _ (sym (run_is clash.one clash.other one.0) ∙ clash.same) in
-      let after = clash.after in
+      let one = must-at clash.one clash.one_marked in let other = must-at clash.other clash.other_marked in
+      let both = and_parts _ _ (sym (run_is clash.one clash.other one.0) ∙ clash.same) in let after = clash.after in
       record {
         left = λ e. absurd (false≢true e);
         dies = λ _. (
@@ -215,12 +207,12 @@ module _ (size : Extent) (line : Line) (n room : ℕ) (cell : ℕ → ℕ) (join
           w.1.is.within (cell j) (and_parts _ _ w.2).0
 
   -- ---- no two: what is around is taken
-  pub runs-met : (around taken : ℕ) (to : Layers) → AreAround run room must around
+  pub runs-met : {around : ℕ} (taken : ℕ) {to : Layers} → AreAround run room must around
       → ((k : ℕ) → has_bit taken k ≡ (has_bit around k && at_line from line 0 k))
       → has to ≡ without_taking from.size.w (has from) (record { line = line; value = 1; bits = taken }) → IsFurther from to
       → AreVisited houses from to true
   unfolding without_taking covers without_met is_met
-  runs-met around taken to is taken_is left further = record {
+  runs-met {around} taken {to} is taken_is left further = record {
     left = λ _. met ∙ sym (visits-met houses (has from) full each);
     dies = λ e. absurd (true≢false e);
     alive = λ c lt. living c (alive c (rw (further.same_size) at lt));
@@ -233,22 +225,19 @@ module _ (size : Extent) (line : Line) (n room : ℕ) (cell : ℕ → ℕ) (join
       -- two that must be ones are in no house
       apart : (j k : ℕ) → j < n → k < n → zeros (cell j) ≡ false → zeros (cell k) ≡ false → joined j k ≡ true → j < k → ⊥
       apart j k lj lk off_j off_k on less =
-          true≢false (sym (run_is j k lj ∙ and_from _ _ (lt-ltb k n lk) on) ∙ is.apart j k less (must-from j lj off_j) (must-from k lk off_k))
+          true≢false (sym (run_is j k lj ∙ and_from _ _ (lt-ltb _ _ lk) on) ∙ is.apart j k less (must-from lj off_j) (must-from lk off_k))
 
       alone : (house : CountHouse) → IsRunOf cells n cell joined house → (c d : ℕ) → has_place house.places c ≡ true
           → has_place house.places d ≡ true → not (zeros c) ≡ true → not (zeros d) ≡ true → c ≡ d
       alone house of c d in_c in_d on_c on_d =
-          let w = of.joins c d in_c in_d in
-          let v = of.joins d c in_d in_c in
-          let off_c = not-true (zeros c) on_c in
-          let off_d = not-true (zeros d) on_d in
+          let w = of.joins c d in_c in_d in let v = of.joins d c in_d in_c in
+          let off_c = not-true _ on_c in let off_d = not-true _ on_d in
           elim (cases_lt w.0 w.1) [
             | inl less ↦ absurd (apart w.0 w.1 w.2 w.3 (ap zeros w.4 ∙ off_c) (ap zeros w.5 ∙ off_d) w.6 less)
             | inr more ↦ elim (cases_eq w.0 w.1) [
               | inl same ↦ sym w.4 ∙ ap cell same ∙ w.5
               | inr other ↦
-                  let j = are.own v.0 w.1 v.2 w.3 (v.4 ∙ sym w.5) in
-                  let k = are.own v.1 w.0 v.3 w.2 (v.5 ∙ sym w.4) in
+                  let j = are.own v.0 w.1 v.2 w.3 (v.4 ∙ sym w.5) in let k = are.own v.1 w.0 v.3 w.2 (v.5 ∙ sym w.4) in
                   absurd (apart v.0 v.1 v.2 v.3 (ap zeros v.4 ∙ off_d) (ap zeros v.5 ∙ off_c) v.6 (omega arith))
             ]
           ]
@@ -265,11 +254,9 @@ module _ (size : Extent) (line : Line) (n room : ℕ) (cell : ℕ → ℕ) (join
       to-house : (c : ℕ) → crosses line taken (c / size.w) (c % size.w) ≡ true
           → (zeros c ≡ true) × (list_any (λ house. is_met zeros house c) houses ≡ true)
       to-house c on =
-          let at = are.at_cell taken c on in
-          let parts = and_parts _ _ (sym (taken_is at.0) ∙ at.2) in
+          let at = are.at_cell taken c on in let parts = and_parts _ _ (sym (taken_is at.0) ∙ at.2) in
           let j = any_below-some (λ j. has_bit must j && has_bit (run j) at.0) room (sym (is.is at.0) ∙ parts.0) in
-          let both = and_parts _ _ j.2 in
-          let own = must-at j.0 both.0 in
+          let both = and_parts _ _ j.2 in let own = must-at j.0 both.0 in
           let there = and_parts _ _ (sym (run_is j.0 at.0 own.0) ∙ both.1) in
           let lt = ltb-true at.0 n there.0 in (
             ap zeros (sym at.1) ∙ sym (are.values from 0 at.0 same_size (omega arith) lt) ∙ parts.1,
@@ -282,12 +269,10 @@ module _ (size : Extent) (line : Line) (n room : ℕ) (cell : ℕ → ℕ) (join
           → crosses line taken (c / size.w) (c % size.w) ≡ true
       from-house c has_zero on =
           let w = some-of (IsRunOf cells n cell joined) (λ house. is_met zeros house c) houses are.each on in
-          let parts = and_parts (has_place w.0.places c) _ w.2 in
-          let d = any-some (λ d. not (zeros d)) w.0.places parts.1 in
-          let v = w.1.joins d.0 c d.1 parts.0 in
-          let marked = must-from v.0 v.2 (ap zeros v.4 ∙ not-true (zeros d.0) d.2) in
+          let parts = and_parts _ _ w.2 in let d = any-some (λ d. not (zeros d)) w.0.places parts.1 in
+          let v = w.1.joins d.0 c d.1 parts.0 in let marked = must-from v.2 (ap zeros v.4 ∙ not-true _ d.2) in
           let here : (has_bit must v.0 && has_bit (run v.0) v.1) ≡ true =
-          and_from (has_bit must v.0) (has_bit (run v.0) v.1) marked (run_is v.0 v.1 v.2 ∙ and_from (ltb v.1 n) (joined v.0 v.1) (lt-ltb v.1 n v.3) v.6) in
+          and_from _ _ marked (run_is v.0 v.1 v.2 ∙ and_from _ _ (lt-ltb _ _ v.3) v.6) in
           let lies : has_bit around v.1 ≡ true = is.is v.1 ∙ any_below-here (λ j. has_bit must j && has_bit (run j) v.1) room v.0 (omega (arith, v.2)) here in
           let zero : at_line from line 0 v.1 ≡ true = are.values from 0 v.1 same_size (omega arith) v.3 ∙ ap zeros v.5 ∙ has_zero in
           rw v.5 at (are.from_cell taken v.1 v.3 (taken_is v.1 ∙ and_from _ _ lies zero))

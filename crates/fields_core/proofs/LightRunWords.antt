@@ -1,7 +1,5 @@
 -- Words of runs along a line, as they are written one after another.
-use Rattle.fields_core.proofs.Common.{AreFilled, AreWritten, Bool, Candidates, Extent, IsColumnOf, IsColumnRun, IsLeast, IsRowOf, IsRowRun, IsRunAt, Layers, Light, List, and-false, and_from, and_parts, any_below, any_below-none, ap, arith, bit_of, cases_Bool, cases_eq, cases_lt, clear, common_steps, div-mul-add, eq-eqb, eqb, false, false_from_ne_true, get_or-set_other, get_or-set_same, has, has_bit, inl, inr, joined_in_column, joined_in_row, le-ltb, length, length-map, length-set, light_cells, light_rules, lt-ltb, ltb, ltb-true, map, map-set, mul-le-mul_right, ne_eqb, not, not-true, place-column, place-in, refl, set, slice_index, subst, sym, true, true≢false, white, ℕ, ◌%◌, ◌&&◌, ◌*◌, ◌+◌, ◌-◌, ◌/◌, ◌<◌, ◌∙◌, ◌≡◌, ◌≢◌, ◌≤◌}
-unfoldable use Rattle.grid_core.specs.Candidates.{all_of}
-unfoldable use Rattle.fields_core.specs.CountHouse.{start_of}
+use Rattle.fields_core.proofs.Common.{AreFilled, AreWritten, Bool, Candidates, Extent, IsColumnOf, IsColumnRun, IsLeast, IsRowOf, IsRowRun, IsRunAt, Layers, Light, List, all_of, and-false, and_from, and_parts, any_below, any_below-none, ap, arith, bit_of, cases_Bool, cases_eq, cases_lt, clear, common_steps, div-mul-add, eq-eqb, eqb, false, false_from_ne_true, get_or-set_other, get_or-set_same, has, has_bit, inl, inr, joined_in_column, joined_in_row, le-ltb, length, length-map, length-set, light_cells, light_rules, lt-ltb, ltb, ltb-true, map, map-set, mul-le-mul_right, ne_eqb, not, not-true, place-column, place-in, refl, set, slice_index, start_of, subst, sym, true, true≢false, white, ℕ, ◌%◌, ◌&&◌, ◌*◌, ◌+◌, ◌-◌, ◌/◌, ◌<◌, ◌∙◌, ◌≡◌, ◌≢◌, ◌≤◌}
 use Rattle.fields_core.proofs.CellLemmas.{same-truth}
 use Rattle.fields_core.proofs.RowWords.{has-at}
 use Rattle.fields_core.proofs.LightHouseLaws.{clear-at, clear-from}
@@ -27,8 +25,7 @@ run-whole : (test : ℕ → Bool) (len at end bits : ℕ) → IsRunFrom test len
     → ((k : ℕ) → has_bit bits k ≡ (ltb k end && not (ltb k at))) → (i : ℕ) → at ≤ i → i < end → IsRunAt test len i bits
 run-whole test len at end bits is told i from up k = told k ∙ same-truth _ _
     (λ there.
-    let w = and_parts _ _ there in
-    let below = ltb-true k end w.0 in
+    let w = and_parts _ _ there in let below = ltb-true k end w.0 in
     let late : at ≤ k = (elim (cases_lt k at) [
       | inl less ↦ absurd (true≢false (sym (lt-ltb k at less) ∙ not-true _ w.1))
       | inr more ↦ more
@@ -36,8 +33,7 @@ run-whole test len at end bits is told i from up k = told k ∙ same-truth _ _
     let high = is.high in
     and_from _ _ (lt-ltb k len (omega arith)) (clear-from test i k (λ n after before. is.pass n (omega arith) (omega arith))))
     (λ there.
-    let w = and_parts _ _ there in
-    let below = ltb-true k len w.0 in
+    let w = and_parts _ _ there in let below = ltb-true k len w.0 in
     elim (cases_lt k at) [
       | inl less ↦
           absurd (true≢false (sym (clear-at test i k (at - 1) w.1 (omega arith) (omega arith)) ∙ is.before (at - 1) (omega arith)))
@@ -62,28 +58,27 @@ left-all test len left told = record {
     by : (a b : Bool) → (a && not b) ≡ ((a && not false) && not b)
     by a b = grind (arith, common_steps, cases_Bool a)
 
-module _ (test : ℕ → Bool) (len at left room : ℕ) (are : AreLeft test len at left) where
-  left-off : (i : ℕ) → at ≤ i → i < len → has_bit left i ≡ false → test i ≡ true
-  left-off i low high none = by (test i) (sym (are.rest i ∙ rw (lt-ltb i len high, le-ltb i at low) refl) ∙ none)
+module _ {test : ℕ → Bool} {len at left : ℕ} (are : AreLeft test len at left) where
+  left-off : {i : ℕ} → at ≤ i → i < len → has_bit left i ≡ false → test i ≡ true
+  left-off {i} low high none = by (test i) (sym (are.rest i ∙ rw (lt-ltb _ _ high, le-ltb i at low) refl) ∙ none)
     where
       by : (a : Bool) → ((true && not false) && not a) ≡ false → a ≡ true
       by a e = grind (arith, common_steps, cases_Bool a)
 
-  pub run-last : at ≤ len → len ≤ room → any_below (has_bit left) room ≡ false → IsRunFrom test len at len
-  run-last low fits none = record {
+  pub run-last : {room : ℕ} → at ≤ len → len ≤ room → any_below (has_bit left) room ≡ false → IsRunFrom test len at len
+  run-last {room} low fits none = record {
     low = low;
     high = omega arith;
     before = are.before;
-    pass = λ i low high. left-off i low high (any_below-none (has_bit left) room none i (omega arith));
+    pass = λ i low high. left-off low high (any_below-none (has_bit left) room none i (omega arith));
     edge = λ less. absurd (omega arith);
   }
 
-  module _ (least : ℕ) (is : IsLeast (has_bit left) room least) where
+  module _ {room least : ℕ} (is : IsLeast (has_bit left) room least) where
     pub run-least : (least < len) × (test least ≡ false) × IsRunFrom test len at least
     run-least =
         let there = and_parts _ _ (sym (are.rest least) ∙ is.has) in
-        let inside = and_parts _ _ there.0 in
-        let high : least < len = ltb-true least len inside.0 in
+        let inside = and_parts _ _ there.0 in let high : least < len = ltb-true _ _ inside.0 in
         let low : at ≤ least = (elim (cases_lt least at) [
           | inl less ↦ absurd (true≢false (sym (lt-ltb least at less) ∙ not-true _ inside.1))
           | inr more ↦ more
@@ -95,21 +90,21 @@ module _ (test : ℕ → Bool) (len at left room : ℕ) (are : AreLeft test len 
             low = low;
             high = omega arith;
             before = are.before;
-            pass = λ i from up. left-off i from (omega arith) (is.before i up);
+            pass = λ i from up. left-off from (omega arith) (is.before i up);
             edge = λ _. off;
           },
         )
 
-    pub left-next : (next : ℕ) → ((k : ℕ) → has_bit next k ≡ (has_bit left k && not (eqb k least))) → AreLeft test len (least + 1) next
-    left-next next told = record {
+    pub left-next : {next : ℕ} → ((k : ℕ) → has_bit next k ≡ (has_bit left k && not (eqb k least))) → AreLeft test len (least + 1) next
+    left-next told = record {
       before = λ j e. let same : j ≡ least = omega arith in rw same run-least.1;
       rest = λ k. told k ∙ elim (cases_lt k least) [
         | inl less ↦ rw (is.before k less, lt-ltb k (least + 1) (omega arith)) (none (ltb k len) (test k))
         | inr more ↦ elim (cases_eq k least) [
-          | inl same ↦ rw (eq-eqb k least same, lt-ltb k (least + 1) (omega arith)) (gone (has_bit left k) (ltb k len) (test k))
+          | inl same ↦ rw (eq-eqb _ _ same, lt-ltb k (least + 1) (omega arith)) (gone (has_bit left k) (ltb k len) (test k))
           | inr other ↦
               let low = run-least.2.low in
-              rw (are.rest k, ne_eqb k least other, le-ltb k at (omega arith), le-ltb k (least + 1) (omega arith)) (stays (ltb k len) (test k))
+              rw (are.rest k, ne_eqb _ _ other, le-ltb k at (omega arith), le-ltb k (least + 1) (omega arith)) (stays (ltb k len) (test k))
         ]
       ];
     }
@@ -124,15 +119,11 @@ module _ (test : ℕ → Bool) (len at left room : ℕ) (are : AreLeft test len 
         stays a b = grind (arith, common_steps, cases_Bool a, cases_Bool b)
 
 -- ---- the words of a line
-pub written-none : (test : ℕ → Bool) (len first stride : ℕ) (words : List ℕ) → AreWritten test len first stride 0 words words
-written-none test len first stride words = record {
-  each = λ i lt. absurd (omega arith);
-  others = λ c out. refl;
-  long = refl;
-}
+pub written-none : {test : ℕ → Bool} {len first stride : ℕ} {words : List ℕ} → AreWritten test len first stride 0 words words
+written-none = record { each = λ i lt. absurd (omega arith); others = λ c out. refl; long = refl }
 
-places-apart : (first stride i n : ℕ) → 0 < stride → i ≢ n → first + i * stride ≢ first + n * stride
-places-apart first stride i n some ne e = elim (cases_lt i n) [
+places-apart : (first : ℕ) {stride : ℕ} (i n : ℕ) → 0 < stride → i ≢ n → first + i * stride ≢ first + n * stride
+places-apart first {stride} i n some ne e = elim (cases_lt i n) [
   | inl less ↦ let m : (i + 1) * stride ≤ n * stride = mul-le-mul_right stride (omega arith) in omega arith
   | inr more ↦ let m : (n + 1) * stride ≤ i * stride = mul-le-mul_right stride (omega arith) in omega arith
 ]
@@ -144,25 +135,25 @@ pub written-more : (test : ℕ → Bool) (len first stride n bits : ℕ) (from t
 written-more test len first stride n bits from to some there is run = record {
   each = λ i lt. elim (cases_eq i n) [
     | inl e ↦ rw (e, get_or-set_same to (first + n * stride) bits 0 there) run
-    | inr ne ↦ rw (get_or-set_other to (first + n * stride) (first + i * stride) bits 0 (places-apart first stride i n some ne)) (is.each i (omega arith))
+    | inr ne ↦ rw (get_or-set_other to (first + n * stride) (first + i * stride) bits 0 (places-apart first i n some ne)) (is.each i (omega arith))
   ];
   others = λ c out. get_or-set_other to (first + n * stride) c bits 0 (λ e. out n (omega arith) (sym e)) ∙ is.others c (λ i lt. out i (omega arith));
   long = length-set _ _ _ ∙ is.long;
 }
 
-pub words-more : {W : Type 0} (bits : W → ℕ) (test : ℕ → Bool) (len first stride n place : ℕ) (from : List ℕ) (words : List W) (word : W)
+pub words-more : {W : Type 0} (bits : W → ℕ) {test : ℕ → Bool} {len first stride n place : ℕ} {from : List ℕ} (words : List W) (word : W)
     → place ≡ first + n * stride → 0 < stride → place < length words
     → AreWritten test len first stride n from (map bits words) → IsRunAt test len n (bits word)
     → AreWritten test len first stride (n + 1) from (map bits (set words place word))
-words-more bits test len first stride n place from words word e some there is run =
+words-more bits {test} {len} {first} {stride} {n} {place} {from} words word e some there is run =
     let inside : first + n * stride < length (map bits words) = omega (arith, there, e, length-map words bits) in
     rw (map-set bits words place word, e) (written-more test len first stride n (bits word) from (map bits words) some inside is run)
 
 -- ---- the word of a run
-pub filled-more : {W : Type 0} (bits : W → ℕ) (first stride start n : ℕ) (from : List ℕ) (words : List W) (word : W)
+pub filled-more : {W : Type 0} (bits : W → ℕ) {first stride start n : ℕ} {from : List ℕ} (words : List W) (word : W)
     → start ≤ n → first + n * stride < length words → AreFilled first stride start n (bits word) from (map bits words)
     → AreFilled first stride start (n + 1) (bits word) from (map bits (set words (first + n * stride) word))
-filled-more bits first stride start n from words word low there is = rw (map-set bits words (first + n * stride) word) (record {
+filled-more bits {first} {stride} {n} words word low there is = rw (map-set bits words (first + n * stride) word) (record {
   each = λ i above below. elim (cases_eq (first + i * stride) (first + n * stride)) [
     | inl e ↦ rw e (get_or-set_same to (first + n * stride) (bits word) 0 inside)
     | inr ne ↦
@@ -180,14 +171,14 @@ filled-more bits first stride start n from words word low there is = rw (map-set
     inside : first + n * stride < length to
     inside = omega (arith, there, length-map words bits)
 
-pub written-filled : (test : ℕ → Bool) (len first stride start end bits : ℕ) (from mid to : List ℕ) → 0 < stride
+pub written-filled : {test : ℕ → Bool} {len first stride start end bits : ℕ} {from mid to : List ℕ} → 0 < stride
     → IsRunFrom test len start end → ((k : ℕ) → has_bit bits k ≡ (ltb k end && not (ltb k start)))
     → AreWritten test len first stride start from mid → AreFilled first stride start end bits mid to → length to ≡ length mid
     → AreWritten test len first stride end from to
-written-filled test len first stride start end bits from mid to some run told is filled long = record {
+written-filled {test} {len} {first} {stride} {start} {end} {bits} some run told is filled long = record {
   each = λ i lt. elim (cases_lt i start) [
     | inl early ↦
-        rw (filled.others (first + i * stride) (λ j low up. places-apart first stride j i some (omega arith))) (is.each i early)
+        rw (filled.others (first + i * stride) (λ j low up. places-apart first j i some (omega arith))) (is.each i early)
     | inr on ↦ rw (filled.each i on lt) (run-whole test len start end bits run told i on lt)
   ];
   others = λ c out. let low = run.low in filled.others c (λ i _ up. out i up) ∙ is.others c (λ i lt. out i (omega arith));
@@ -195,24 +186,24 @@ written-filled test len first stride start end bits from mid to some run told is
 }
 
 -- ---- the words of the rows, one after another
-clear-within : (test other : ℕ → Bool) (n j k : ℕ) → j < n → k < n → ((i : ℕ) → i < n → test i ≡ other i) → clear test j k ≡ clear other j k
-clear-within test other n j k low high same = same-truth _ _
+clear-within : (test other : ℕ → Bool) {n j k : ℕ} → j < n → k < n → ((i : ℕ) → i < n → test i ≡ other i) → clear test j k ≡ clear other j k
+clear-within test other {j} {k} low high same = same-truth _ _
     (λ on. clear-from other j k (λ i from up. sym (same i (omega arith)) ∙ clear-at test j k i on from up))
     (λ on. clear-from test j k (λ i from up. same i (omega arith) ∙ clear-at other j k i on from up))
 
-row-run-from : (p : Light) (y whites i bits : ℕ) → i < p.size.w → IsRowOf p.size.w (white p) y whites
+row-run-from : (p : Light) (y whites : ℕ) {i : ℕ} (bits : ℕ) → i < p.size.w → IsRowOf p.size.w (white p) y whites
     → IsRunAt (has_bit whites) p.size.w i bits → IsRowRun p (y * p.size.w + i) bits
-row-run-from p y whites i bits lt are is x = is x ∙ elim (cases_lt x p.size.w) [
-  | inr past ↦ rw (le-ltb x p.size.w past) refl
+row-run-from p y whites {i} _ lt are is x = is x ∙ elim (cases_lt x p.size.w) [
+  | inr past ↦ rw (le-ltb _ _ past) refl
   | inl inside ↦ rw (div-mul-add y p.size.w i lt) (ap (λ b. ltb x p.size.w && b) (same inside ∙ sym (joined inside)))
 ]
   where
     same : x < p.size.w → clear (has_bit whites) i x ≡ clear (λ k. white p (y * p.size.w + k)) i x
-    same inside = clear-within (has_bit whites) (λ k. white p (y * p.size.w + k)) p.size.w i x lt inside
-        (λ k low. are k ∙ rw (lt-ltb k p.size.w low) refl)
+    same inside = clear-within (has_bit whites) (λ k. white p (y * p.size.w + k)) lt inside
+        (λ k low. are k ∙ rw (lt-ltb _ _ low) refl)
 
     joined : x < p.size.w → joined_in_row p (y * p.size.w + i) (y * p.size.w + x) ≡ clear (λ k. white p (y * p.size.w + k)) i x
-    joined inside = rw (div-mul-add y p.size.w i lt, place-column p.size.w y i lt) at (row-cell-joined p (y * p.size.w + i) x inside)
+    joined inside = rw (div-mul-add y p.size.w i lt, place-column p.size.w y i lt) at (row-cell-joined p (y * p.size.w + i) inside)
 
 pub rows-written : (p : Light) (y whites : ℕ) (from to : List ℕ) → IsRowOf p.size.w (white p) y whites
     → ((c : ℕ) → c < y * p.size.w → IsRowRun p c (slice_index from c))
@@ -221,41 +212,37 @@ pub rows-written : (p : Light) (y whites : ℕ) (from to : List ℕ) → IsRowOf
 rows-written p y whites from to are before is c lt = elim (cases_lt c (y * p.size.w)) [
   | inl early ↦ subst (IsRowRun p c) (sym (is.others c (λ i _ e. absurd (omega arith)))) (before c early)
   | inr on ↦
-      let i : ℕ = c - y * p.size.w in
-      let inside : i < p.size.w = omega arith in
-      let e : y * p.size.w + i ≡ c = omega arith in
-      let f : y * p.size.w + i * 1 ≡ c = omega arith in
-      rw (e, f) at (row-run-from p y whites i (slice_index to (y * p.size.w + i * 1)) inside are (is.each i inside))
+      let i : ℕ = c - y * p.size.w in let inside : i < p.size.w = omega arith in
+      let e : y * p.size.w + i ≡ c = omega arith in let f : y * p.size.w + i * 1 ≡ c = omega arith in
+      rw (e, f) at (row-run-from p y whites (slice_index to (y * p.size.w + i * 1)) inside are (is.each i inside))
 ]
 
 -- ---- and of the columns
-column-run-from : (p : Light) (x whites i bits : ℕ) → x < p.size.w → i < p.size.h → IsColumnOf p.size (white p) x whites
+column-run-from : (p : Light) {x : ℕ} (whites : ℕ) {i : ℕ} (bits : ℕ) → x < p.size.w → i < p.size.h → IsColumnOf p.size (white p) x whites
     → IsRunAt (has_bit whites) p.size.h i bits → IsColumnRun p (i * p.size.w + x) bits
-column-run-from p x whites i bits lt low are is y = is y ∙ elim (cases_lt y p.size.h) [
-  | inr past ↦ rw (le-ltb y p.size.h past) refl
+column-run-from p {x} whites {i} _ lt low are is y = is y ∙ elim (cases_lt y p.size.h) [
+  | inr past ↦ rw (le-ltb _ _ past) refl
   | inl inside ↦ rw (place-column p.size.w i x lt) (ap (λ b. ltb y p.size.h && b) (same inside ∙ sym joined))
 ]
   where
     same : y < p.size.h → clear (has_bit whites) i y ≡ clear (λ k. white p (k * p.size.w + x)) i y
-    same inside = clear-within (has_bit whites) (λ k. white p (k * p.size.w + x)) p.size.h i y low inside
-        (λ k less. are k ∙ rw (lt-ltb k p.size.h less) refl)
+    same inside = clear-within (has_bit whites) (λ k. white p (k * p.size.w + x)) low inside
+        (λ k less. are k ∙ rw (lt-ltb _ _ less) refl)
 
     joined : joined_in_column p (i * p.size.w + x) (y * p.size.w + x) ≡ clear (λ k. white p (k * p.size.w + x)) i y
     joined = rw (div-mul-add i p.size.w x lt, place-column p.size.w i x lt) at (column-cell-joined p (i * p.size.w + x) y (omega arith))
 
-pub columns-written : (p : Light) (x whites : ℕ) (from to : List ℕ) → x < p.size.w → IsColumnOf p.size (white p) x whites
+pub columns-written : (p : Light) {x : ℕ} (whites : ℕ) (from to : List ℕ) → x < p.size.w → IsColumnOf p.size (white p) x whites
     → ((c : ℕ) → c < light_cells p → c % p.size.w < x → IsColumnRun p c (slice_index from c))
     → AreWritten (has_bit whites) p.size.h x p.size.w p.size.h from to
     → (c : ℕ) → c < light_cells p → c % p.size.w < x + 1 → IsColumnRun p c (slice_index to c)
-columns-written p x whites from to low are before is c lt less = elim (cases_eq (c % p.size.w) x) [
+columns-written p {x} whites from to low are before is c lt less = elim (cases_eq (c % p.size.w) x) [
   | inr other ↦ subst (IsColumnRun p c) (sym (is.others c (λ i _ e. other (apart i e)))) (before c lt (omega arith))
   | inl same ↦
-      let i : ℕ = c / p.size.w in
-      let whole : i * p.size.w + c % p.size.w ≡ c = omega arith in
+      let i : ℕ = c / p.size.w in let whole : i * p.size.w + c % p.size.w ≡ c = omega arith in
       let e : i * p.size.w + x ≡ c = rw same at whole in
-      let f : x + i * p.size.w ≡ c = omega arith in
-      let inside : i < p.size.h = row-in i e in
-      rw (e, f) at (column-run-from p x whites i (slice_index to (x + i * p.size.w)) low inside are (is.each i inside))
+      let f : x + i * p.size.w ≡ c = omega arith in let inside : i < p.size.h = row-in i e in
+      rw (e, f) at (column-run-from p whites (slice_index to (x + i * p.size.w)) low inside are (is.each i inside))
 ]
   where
     apart : (i : ℕ) → x + i * p.size.w ≡ c → c % p.size.w ≡ x
@@ -272,11 +259,11 @@ pub column-whites : (p : Light) (planes : Layers) (x word : ℕ) → planes.size
     → ((y : ℕ) → has_bit word y ≡ bit_of planes.rows y 1 x) → ((y : ℕ) → has_bit word y ≡ true → y < planes.size.h) → IsColumnOf p.size (white p) x word
 unfolding start_of all_of
 column-whites p planes x word size start lt cells within y = elim (cases_lt y p.size.h) [
-  | inr past ↦ rw (le-ltb y p.size.h past) (false_from_ne_true _ (λ on. absurd (omega (arith, rw size at (within y on), past))))
+  | inr past ↦ rw (le-ltb _ _ past) (false_from_ne_true _ (λ on. absurd (omega (arith, rw size at (within y on), past))))
   | inl inside ↦
       let cell : y * p.size.w + x < light_cells p = place-in p.size.w p.size.h y x inside lt in
       cells y ∙ sym (has-at planes y x 1 (ap (λ (s : Extent). s.w) size) lt (omega arith)) ∙ ap (λ (K : Candidates). K (y * p.size.w + x) 1) start
-      ∙ rw (lt-ltb y p.size.h inside, lt-ltb (y * p.size.w + x) (light_cells p) cell) (by (white p (y * p.size.w + x)))
+      ∙ rw (lt-ltb _ _ inside, lt-ltb _ _ cell) (by (white p (y * p.size.w + x)))
 ]
   where
     by : (a : Bool) → ((true && true) && not (not a && true)) ≡ (true && a)

@@ -11,31 +11,28 @@ module _ (p : Light) (y x : ℕ) (x_in : x < p.size.w) where
   abbrev cell : ℕ
   cell = y * p.size.w + x
 
-  can_have : (planes : Layers) → planes.size ≡ p.size → (j k : ℕ) → k < p.size.w → bit_of planes.rows j 1 k ≡ true → has planes (j * p.size.w + k) 1 ≡ true
-  can_have planes size j k lt on = has-at planes j k 1 (rw size refl) lt (omega arith) ∙ on
+  can_have : (planes : Layers) → planes.size ≡ p.size → (j : ℕ) {k : ℕ} → k < p.size.w → bit_of planes.rows j 1 k ≡ true → has planes (j * p.size.w + k) 1 ≡ true
+  can_have planes size j {k} lt on = has-at planes j k 1 (rw size refl) lt (omega arith) ∙ on
 
   module _ (run : ℕ) (is : IsRowRun p cell run) where
     row-there : (k : ℕ) → has_bit run k ≡ true → (k < p.size.w) × (joined_in_row p cell (y * p.size.w + k) ≡ true)
     row-there k on =
-        let parts = and_parts _ _ (sym (is k) ∙ on) in
-        (ltb-true k p.size.w parts.0, rw (div-mul-add y p.size.w x x_in) at parts.1)
+        let parts = and_parts _ _ (sym (is k) ∙ on) in (ltb-true _ _ parts.0, rw (div-mul-add y p.size.w x x_in) at parts.1)
 
     -- two of its cells that can have a bulb, or one that must
     pub row-two : (planes : Layers) (bits room : ℕ) → planes.size ≡ p.size → ((k : ℕ) → has_bit bits k ≡ (bit_of planes.rows y 1 k && has_bit run k)) → 1 < count_below (has_bit bits) room
         → AreSafe (joined_in_row p cell) (has planes)
     row-two planes bits room size ones many =
-        let w = two-places (has_bit bits) room many in
-        let one = and_parts _ _ (sym (ones w.0) ∙ w.4) in
-        let other = and_parts _ _ (sym (ones w.1) ∙ w.5) in
-        let a = row-there w.0 one.1 in
+        let w = two-places (has_bit bits) room many in let one = and_parts _ _ (sym (ones w.0) ∙ w.4) in
+        let other = and_parts _ _ (sym (ones w.1) ∙ w.5) in let a = row-there w.0 one.1 in
         let b = row-there w.1 other.1 in
         record {
           one = y * p.size.w + w.0;
           other = y * p.size.w + w.1;
           one_in = a.1;
           other_in = b.1;
-          one_on = can_have planes size y w.0 a.0 one.0;
-          other_on = can_have planes size y w.1 b.0 other.0;
+          one_on = can_have planes size y a.0 one.0;
+          other_on = can_have planes size y b.0 other.0;
           apart = inl (λ e. absurd (omega (arith, e, w.2)));
         }
 
@@ -44,10 +41,8 @@ module _ (p : Light) (y x : ℕ) (x_in : x < p.size.w) where
         → AreSafe (joined_in_row p cell) (has planes)
     row-must planes bits room size must some =
         let w = any_below-some (has_bit bits) room some in
-        let there = and_parts _ _ (sym (must w.0) ∙ w.2) in
-        let is = and_parts _ _ there.0 in
-        let a = row-there w.0 there.1 in
-        let on = can_have planes size y w.0 a.0 is.0 in
+        let there = and_parts _ _ (sym (must w.0) ∙ w.2) in let is = and_parts _ _ there.0 in
+        let a = row-there w.0 there.1 in let on = can_have planes size y a.0 is.0 in
         record {
           one = y * p.size.w + w.0;
           other = y * p.size.w + w.0;
@@ -63,8 +58,7 @@ module _ (p : Light) (y x : ℕ) (x_in : x < p.size.w) where
       → ((k : ℕ) → has_bit bits k ≡ (has_bit run k && not (bit_of planes.rows k 0 x))) → any_below (has_bit bits) room ≡ true
       → AreSafe (joined_in_column p cell) (has planes)
   column-must run is planes bits room size full must some =
-      let w = any_below-some (has_bit bits) room some in
-      let there = and_parts _ _ (sym (must w.0) ∙ w.2) in
+      let w = any_below-some (has_bit bits) room some in let there = and_parts _ _ (sym (must w.0) ∙ w.2) in
       let joined = and_parts (ltb w.0 p.size.h) (joined_in_column p cell (w.0 * p.size.w + cell % p.size.w)) (sym (is w.0) ∙ there.0) in
       let off = has-at planes w.0 x 0 (rw size refl) x_in (omega arith) ∙ not-true _ there.1 in
       let in_run = rw (mod-mul-add y p.size.w x x_in) at joined.1 in
@@ -86,9 +80,9 @@ safe-moved move safe = record {
 }
 
 -- of another cell of the run
-pub row-moved : (p : Light) (y x k : ℕ) (x_in : x < p.size.w) (run : ℕ) → IsRowRun p (y * p.size.w + x) run → has_bit run k ≡ true → {K : Candidates}
+pub row-moved : (p : Light) (y : ℕ) {x : ℕ} (k : ℕ) (x_in : x < p.size.w) (run : ℕ) → IsRowRun p (y * p.size.w + x) run → has_bit run k ≡ true → {K : Candidates}
     → AreSafe (joined_in_row p (y * p.size.w + x)) K → AreSafe (joined_in_row p (y * p.size.w + k)) K
-row-moved p y x k x_in run is on safe = safe-moved (λ d joined. row-both p (y * p.size.w + x) (y * p.size.w + k) d (row-there p y x x_in run is k on).1 joined) safe
+row-moved p y {x} k x_in run is on safe = safe-moved (λ d joined. row-both p (y * p.size.w + x) (y * p.size.w + k) d (row-there p y x x_in run is k on).1 joined) safe
 
 -- ---- cells one above the other
 module _ (p : Light) (c : ℕ) (some : 0 < p.size.w) (above : white p c ≡ true) (below : white p (c + p.size.w) ≡ true) where
@@ -108,7 +102,7 @@ module _ (p : Light) (K : Candidates) (j whites : ℕ) (ones zeros : ℕ → Boo
     (can : (x : ℕ) → x < p.size.w → ones x ≡ true → K (j * p.size.w + x) 1 ≡ true) (must : (x : ℕ) → x < p.size.w → zeros x ≡ false → K (j * p.size.w + x) 0 ≡ false)
     (one two : ℕ) (one_below : HaveOneBelow p (j + 1) one K) (two_below : AreSafeInColumns p (j + 1) two K) where
   here : (x : ℕ) → has_bit whites x ≡ true → (x < p.size.w) × (white p (j * p.size.w + x) ≡ true)
-  here x on = let w = and_parts _ _ (sym (row x) ∙ on) in (ltb-true x p.size.w w.0, w.1)
+  here x on = let w = and_parts _ _ (sym (row x) ∙ on) in (ltb-true _ _ w.0, w.1)
 
   at : (x : ℕ) → (j + 1) * p.size.w + x ≡ j * p.size.w + x + p.size.w
   at x = omega arith
@@ -120,8 +114,7 @@ module _ (p : Light) (K : Candidates) (j whites : ℕ) (ones zeros : ℕ → Boo
 
   pub one-up : (now : ℕ) → ((x : ℕ) → has_bit now x ≡ ((has_bit one x || ones x) && has_bit whites x)) → HaveOneBelow p j now K
   one-up now is x on =
-      let both = and_parts _ _ (sym (is x) ∙ on) in
-      let own = here x both.1 in
+      let both = and_parts _ _ (sym (is x) ∙ on) in let own = here x both.1 in
       elim (or_cases _ _ both.0) [
         | inl there ↦ let v = one_below x there in (v.0, omega (arith, v.1, at x), up x v.0 both.1 v.2, v.3)
         | inr can_be ↦ (j * p.size.w + x, omega arith, column-self p (j * p.size.w + x) own.1, can x own.0 can_be)
@@ -130,19 +123,16 @@ module _ (p : Light) (K : Candidates) (j whites : ℕ) (ones zeros : ℕ → Boo
   pub two-up : (now : ℕ) → ((x : ℕ) → has_bit now x ≡ (((has_bit two x || (has_bit one x && ones x)) || (ones x && not (zeros x))) && has_bit whites x))
       → AreSafeInColumns p j now K
   two-up now is x on =
-      let both = and_parts _ _ (sym (is x) ∙ on) in
-      let own = here x both.1 in
+      let both = and_parts _ _ (sym (is x) ∙ on) in let own = here x both.1 in
       let self = column-self p (j * p.size.w + x) own.1 in
-      elim (or_cases (has_bit two x || (has_bit one x && ones x)) (ones x && not (zeros x)) both.0) [
+      elim (or_cases _ _ both.0) [
         | inr sure ↦
-            let w = and_parts _ _ sure in
-            let is_on = can x own.0 w.0 in
+            let w = and_parts _ _ sure in let is_on = can x own.0 w.0 in
             record { one = j * p.size.w + x; other = j * p.size.w + x; one_in = self; other_in = self; one_on = is_on; other_on = is_on; apart = inr (must x own.0 (not-true _ w.1)) }
-        | inl more ↦ elim (or_cases (has_bit two x) (has_bit one x && ones x) more) [
+        | inl more ↦ elim (or_cases _ _ more) [
           | inl there ↦ safe-moved (λ d joined. up x d both.1 joined) (two_below x there)
           | inr pair ↦
-              let w = and_parts _ _ pair in
-              let v = one_below x w.0 in
+              let w = and_parts _ _ pair in let v = one_below x w.0 in
               record {
                 one = j * p.size.w + x;
                 other = v.0;
@@ -156,18 +146,18 @@ module _ (p : Light) (K : Candidates) (j whites : ℕ) (ones zeros : ℕ → Boo
       ]
 
 -- a word that is written among others
-pub words-set : {W : Type 0} (bits : W → ℕ) (words : List W) (n : ℕ) (P : ℕ → ℕ → Type 0) (word : W) → n < length words → P n (bits word)
+pub words-set : {W : Type 0} (bits : W → ℕ) (words : List W) {n : ℕ} (P : ℕ → ℕ → Type 0) (word : W) → n < length words → P n (bits word)
     → (y : ℕ) → (y ≢ n → P y (slice_index (map bits words) y)) → P y (slice_index (map bits (set words n word)) y)
-words-set bits words n P word lt is y others = rw (map-set bits words n word) (elim (cases_eq y n) [
+words-set bits words {n} P word lt is y others = rw (map-set bits words n word) (elim (cases_eq y n) [
   | inl e ↦ rw (e, get_or-set_same (map bits words) n (bits word) 0 (omega (arith, lt, length-map words bits))) is
   | inr ne ↦ rw (get_or-set_other (map bits words) n y (bits word) 0 ne) (others ne)
 ])
 
 -- ---- the word of a cell in a table of all cells
-pub table-read : {W : Type 0} (bits : W → ℕ) (p : Light) (Is : ℕ → ℕ → Type 0) (words : List W) (y x place : ℕ) (word : W)
+pub table-read : {W : Type 0} (bits : W → ℕ) (p : Light) (Is : ℕ → ℕ → Type 0) (words : List W) {y x : ℕ} (place : ℕ) {word : W}
     → light_cells p ≤ length (map bits words) → ((c : ℕ) → c < light_cells p → Is c (slice_index (map bits words) c))
     → y < p.size.h → x < p.size.w → place ≡ y * p.size.w + x → word ≡ get_or words place word → Is (y * p.size.w + x) (bits word)
-table-read bits p Is words y x place word long each y_in x_in at read =
+table-read bits p Is words {y} {x} place {word} long each y_in x_in at read =
     let cell : y * p.size.w + x < light_cells p = place-in p.size.w p.size.h y x y_in x_in in
     let inside : y * p.size.w + x < length words = omega (arith, cell, long, length-map words bits) in
     rw (row-read bits words (y * p.size.w + x) word inside (rw at at read)) at (each (y * p.size.w + x) cell)

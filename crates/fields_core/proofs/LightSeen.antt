@@ -16,7 +16,7 @@ module _ (white bulb : ℕ → Bool) {len at start end : ℕ} (run : IsAround wh
   )
 
   pub run-dark : ((i : ℕ) → start ≤ i → i < end → i ≢ at → bulb i ≡ false) → ShinesAlong white bulb at len false
-  run-dark dark i lt ne joined = let here = around-joined white run lt joined in dark i here.0 here.1 ne
+  run-dark dark i lt ne joined = let here = around-joined run lt joined in dark i here.0 here.1 ne
 
 -- ---- the line of a cell
 whole : (c w : ℕ) → c ≡ c / w * w + c % w
@@ -42,12 +42,11 @@ row-sees p g {c} b some in_grid s = by b s
       row + s.0 * 1,
       rw (same s.0) (omega (arith, mul-add-lt (c / p.size.w) p.size.w s.0 p.size.h (row-in {w = p.size.w} p.size.h c some in_grid) s.1)),
       (λ f. s.2 (omega (arith, whole c p.size.w))),
-      ap (joined_in_row p c) (same s.0) ∙ row-cell-joined p c s.0 s.1 ∙ sym (test s.0) ∙ s.3,
+      ap (joined_in_row p c) (same s.0) ∙ row-cell-joined p c s.1 ∙ sym (test s.0) ∙ s.3,
       s.4,
     )
     by false s = λ d lt ne on.
-        let v = row-parts p c d on in
-        let here = same (d % p.size.w) ∙ rw v.0 (sym (whole d p.size.w)) in
+        let v = row-parts p c d on in let here = same (d % p.size.w) ∙ rw v.0 (sym (whole d p.size.w)) in
         ap (bulb g) (sym here) ∙ s (d % p.size.w) (mod-lt d some) (λ f. ne (omega (arith, whole c p.size.w, here))) (test (d % p.size.w) ∙ v.1)
 
 pub column-sees : (p : Light) (g : List ℕ) (c : ℕ) (b : Bool) → 0 < p.size.w
@@ -71,8 +70,7 @@ column-sees p g c b some s = by b s
       s.4,
     )
     by false s = λ d lt ne on.
-        let v = column-parts p c d on in
-        let here = same (d / p.size.w) ∙ rw v.0 (sym (whole d p.size.w)) in
+        let v = column-parts p c d on in let here = same (d / p.size.w) ∙ rw v.0 (sym (whole d p.size.w)) in
         ap (bulb g) (sym here) ∙ s (d / p.size.w) (row-in p.size.h d some lt)
         (λ t. ne (sym here ∙ ap (λ y. c % p.size.w + y * p.size.w) t ∙ (omega (arith, whole c p.size.w))))
         (test (d / p.size.w) ∙ v.1)
@@ -81,16 +79,16 @@ column-sees p g c b some s = by b s
 swapped : (c d : ℕ) → d ≢ c → not (eqb c d) ≡ true
 swapped c d off = ap not (ne_eqb c d (λ e. off (sym e)))
 
-pub seen-there : (p : Light) (g : List ℕ) (c d : ℕ) → d < light_cells p → d ≢ c
+pub seen-there : (p : Light) (g : List ℕ) {c d : ℕ} → d < light_cells p → d ≢ c
     → (joined_in_row p c d || joined_in_column p c d) ≡ true → bulb g d ≡ true
     → sees_bulb p g c ≡ true
 unfolding sees_bulb sees
-seen-there p g c d lt off joined on =
+seen-there p g {c} {d} lt off joined on =
     any_below-here (λ e. (not (eqb c e) && (joined_in_row p c e || joined_in_column p c e)) && eqb (slice_index g e) 1) (light_cells p) d lt
     (and_from _ _ (and_from _ _ (swapped c d off) joined) on)
 
 pub seen-in-row : (p : Light) (g : List ℕ) (c : ℕ) → SeesAlong (joined_in_row p) (light_cells p) g c true → sees_bulb p g c ≡ true
-seen-in-row p g c s = seen-there p g c s.0 s.1 s.2 (or_left _ _ s.3) s.4
+seen-in-row p g c s = seen-there p g s.1 s.2 (or_left _ _ s.3) s.4
 
 unseen : (p : Light) (g : List ℕ) (c : ℕ)
     → ((d : ℕ) → d < light_cells p → d ≢ c → (joined_in_row p c d || joined_in_column p c d) ≡ true
@@ -98,10 +96,9 @@ unseen : (p : Light) (g : List ℕ) (c : ℕ)
 unfolding sees_bulb sees
 unseen p g c none = grind (arith, common_steps, false_from_ne_true, any_below-some, and_parts, eq-eqb, not-true)
 
-pub seen-in-column : (p : Light) (g : List ℕ) (c : ℕ) (b : Bool)
-    → SeesAlong (joined_in_row p) (light_cells p) g c false
+pub seen-in-column : (p : Light) (g : List ℕ) (c : ℕ) (b : Bool) → SeesAlong (joined_in_row p) (light_cells p) g c false
     → SeesAlong (joined_in_column p) (light_cells p) g c b → b ≡ sees_bulb p g c
-seen-in-column p g c true row s = sym (seen-there p g c s.0 s.1 s.2 (or_right _ _ s.3) s.4)
+seen-in-column p g c true row s = sym (seen-there p g s.1 s.2 (or_right _ _ s.3) s.4)
 seen-in-column p g c false row s = sym (unseen p g c (λ d lt ne joined. elim (or_cases _ _ joined) [
   | inl a ↦ row d lt ne a
   | inr a ↦ s d lt ne a
@@ -115,7 +112,6 @@ black-unseen p g c off = unseen p g c (λ d lt ne joined. elim (or_cases _ _ joi
       let on = clear-at (λ x. white p (c / p.size.w * p.size.w + x)) _ _ _ v.1 (omega arith) (omega arith) in
       absurd (true≢false (sym on ∙ ap (white p) (sym (whole c p.size.w)) ∙ off))
   | inr column ↦
-      let v = column-parts p c d column in
-      let on = clear-at (λ y. white p _) _ _ _ v.1 (omega arith) (omega arith) in
+      let v = column-parts p c d column in let on = clear-at (λ y. white p _) _ _ _ v.1 (omega arith) (omega arith) in
       absurd (true≢false (sym on ∙ ap (white p) (sym (whole c p.size.w)) ∙ off))
 ])

@@ -6,8 +6,7 @@ pub row-of : (p : Light) (c d : ℕ) → 0 < p.size.w → joined_in_row p c d �
     → (x : ℕ) × (x < p.size.w) × (slice_index (row_places p.size (c / p.size.w)) x ≡ d)
 unfolding joined_in_row
 row-of p c d pos on =
-    let same = eqb-true (c / p.size.w) (d / p.size.w) (and_parts _ _ on).0 in
-    let lt = mod-lt d pos in
+    let same = eqb-true (c / p.size.w) (d / p.size.w) (and_parts _ _ on).0 in let lt = mod-lt d pos in
     (d % p.size.w, lt, sym (row-at p.size (c / p.size.w) (d % p.size.w) lt) ∙ rw same (omega arith))
 
 pub column-of : (p : Light) (c d : ℕ) → 0 < p.size.w → d < light_cells p
@@ -20,8 +19,8 @@ column-of p c d pos below on =
     (d / p.size.w, lt, sym (column-at p.size (c % p.size.w) (d / p.size.w) lt) ∙ rw same (omega arith))
 
 -- a bulb stands in the grid
-pub bulb-in : (g : List ℕ) (cells d : ℕ) → length g ≡ cells → bulb g d ≡ true → d < cells
-bulb-in g cells d long on = grind (arith, common_steps, cases_lt, eqb-true, slice_index, get_or_past)
+pub bulb-in : (g : List ℕ) {cells : ℕ} (d : ℕ) → length g ≡ cells → bulb g d ≡ true → d < cells
+bulb-in g d long on = grind (arith, common_steps, cases_lt, eqb-true, slice_index, get_or_past)
 
 pub some-column : (p : Light) {c : ℕ} → c < light_cells p → 0 < p.size.w
 some-column p lt = grind (arith, common_steps)

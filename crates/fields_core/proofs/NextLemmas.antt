@@ -1,8 +1,6 @@
 -- What the next number that passes a test tells of a line.
-use Rattle.fields_core.proofs.Common.{Bool, IsAround, IsNext, List, None, Option, RunsOn, ShinesAlong, Some, and_parts, arith, cases_eq, cases_lt, eqb-false, false≢true, inl, inr, is_some, ne_eqb, not, not-false, not-true, tent, true, true≢false, ℕ, ◌&&◌, ◌+◌, ◌-◌, ◌<◌, ◌==◌, ◌≡◌, ◌≤◌}
+use Rattle.fields_core.proofs.Common.{Bool, IsAround, IsNext, IsTentAmong, List, None, Option, RunsBack, RunsOn, ShinesAlong, Some, and_parts, arith, cases_eq, cases_lt, eqb-false, false≢true, inl, inr, is_some, ne_eqb, not, not-false, not-true, tent, true, true≢false, ℕ, ◌&&◌, ◌+◌, ◌-◌, ◌<◌, ◌==◌, ◌≡◌, ◌≤◌}
 use Rattle.std.specs.Option.{unwrap_or}
-use Rattle.fields_core.specs.LightSight.{RunsBack}
-use Rattle.fields_core.specs.TentTouching.{IsTentAmong}
 use Rattle.fields_core.proofs.LightSeen.{run-bulb, run-dark}
 
 -- the first number after `at` that fails ends the run
@@ -10,14 +8,14 @@ pub run-on : (test : ℕ → Bool) (len at : ℕ) (found : Option ℕ) → at < 
 run-on test len at None lt next = record {
   past = lt;
   high = omega arith;
-  pass = λ i low high. not-false (test i) (next i (omega arith) high);
+  pass = λ i low high. not-false _ (next i (omega arith) high);
   edge = λ more. absurd (omega arith);
 }
 run-on test len at (Some k) lt next = record {
   past = omega (arith, next.0);
   high = omega (arith, next.1);
-  pass = λ i low high. not-false (test i) (next.3 i (omega arith) high);
-  edge = λ more. not-true (test k) next.2;
+  pass = λ i low high. not-false _ (next.3 i (omega arith) high);
+  edge = λ more. not-true _ next.2;
 }
 
 -- so many numbers before `at` pass, one after another
@@ -40,11 +38,11 @@ run-back test at (Some k) next = record {
 -- a bulb in the run around a number, but not there
 pub shines-along : (white bulb : ℕ → Bool) {len at start end : ℕ} (found : Option ℕ) → IsAround white len at start end
     → IsNext (λ i. not (i == at) && bulb i) end start found → ShinesAlong white bulb at len (is_some found)
-shines-along white bulb None run next = run-dark white bulb run (λ i low high ne. rw (ne_eqb i _ ne) at (next i low high))
+shines-along white bulb None run next = run-dark white bulb run (λ i low high ne. rw (ne_eqb _ _ ne) at (next i low high))
 shines-along white bulb (Some k) run next = let parts = and_parts _ _ next.2 in run-bulb white bulb run next.0 next.1 (eqb-false k _ (not-true _ parts.0)) parts.1
 
 pub tent-among : (g : List ℕ) (place from end : ℕ) (found : Option ℕ) → IsNext (λ d. not (d == place) && tent g d) end from found → IsTentAmong g place from end (is_some found)
-tent-among g place from end None next = record { some = λ on. absurd (false≢true on); none = λ off d low high ne. rw (ne_eqb d place ne) at (next d low high) }
+tent-among g place from end None next = record { some = λ on. absurd (false≢true on); none = λ off d low high ne. rw (ne_eqb _ _ ne) at (next d low high) }
 tent-among g place from end (Some k) next = let parts = and_parts _ _ next.2 in record {
   some = λ on. (k, next.0, next.1, eqb-false k place (not-true _ parts.0), parts.1);
   none = λ off. absurd (true≢false off);
@@ -58,10 +56,7 @@ around-from {test} {at} {start} {end} back on white = record {
   high = on.high;
   pass = λ i low high. elim (cases_lt i at) [
     | inl before ↦ back.pass i low before
-    | inr past ↦ elim (cases_eq i at) [
-      | inl here ↦ rw here white
-      | inr other ↦ on.pass i (omega (arith, past, other)) high
-    ]
+    | inr past ↦ elim (cases_eq i at) [ inl here ↦ rw here white | inr other ↦ on.pass i (omega (arith, past, other)) high ]
   ];
   first = back.edge;
   last = on.edge;

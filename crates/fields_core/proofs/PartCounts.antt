@@ -51,7 +51,7 @@ row-count w y bits (suc n) =
         rw (le-ltb y n (omega arith), lt-ltb y (suc n) (omega arith))
         (ap (λ m. 0 + m) (count_below-same
         (λ k. crosses (Row y) bits ((n * w + k) / w) ((n * w + k) % w)) (has_bit bits) w
-        (λ k lt. at k lt ∙ rw (eq-eqb n y (sym e)) refl)) ∙ omega arith)
+        (λ k lt. at k lt ∙ rw (eq-eqb _ _ (sym e)) refl)) ∙ omega arith)
     by (inr ne) =
         rw (count_below-none (λ k. crosses (Row y) bits ((n * w + k) / w) ((n * w + k) % w)) w (λ k lt. at k lt ∙ rw (ne_eqb n y (λ e. ne (sym e))) refl))
         (grind (arith, common_steps, cases_lt y n, cases_lt y (suc n), lt-ltb, le-ltb))
@@ -64,7 +64,7 @@ column-count w x bits (suc n) lt =
     rw (e, count-add (λ c. crosses (Column x) bits (c / w) (c % w)) (n * w) w, column-count w x bits n lt)
     (ap (λ m. count_below (has_bit bits) n + m)
     (count-single (λ k. crosses (Column x) bits ((n * w + k) / w) ((n * w + k) % w)) w x lt
-    (λ k less ne. at k less ∙ rw (ne_eqb k x ne) refl) ∙ rw (at x lt, eq-eqb x x refl) refl))
+    (λ k less ne. at k less ∙ rw (ne_eqb _ _ ne) refl) ∙ rw (at x lt, eq-eqb x x refl) refl))
   where
     at : (k : ℕ) → k < w → crosses (Column x) bits ((n * w + k) / w) ((n * w + k) % w) ≡ (eqb k x && has_bit bits n)
     at k less = rw (div-mul-add n w k less, place-column w n k less) refl
@@ -77,7 +77,7 @@ pub line-count : (size : Extent) (line : Line) (bits room : ℕ)
 line-count size (Row y) bits room lt fits within =
     let e : size.w * size.h ≡ size.h * size.w = omega arith in
     count-past (has_bit bits) room fits (λ k high. false_from_ne_true _ (λ on. absurd (omega (arith, within k on))))
-    ∙ rw e (sym (row-count size.w y bits size.h ∙ rw (lt-ltb y size.h lt) refl))
+    ∙ rw e (sym (row-count size.w y bits size.h ∙ rw (lt-ltb _ _ lt) refl))
 line-count size (Column x) bits room lt fits within =
     let e : size.w * size.h ≡ size.h * size.w = omega arith in
     count-past (has_bit bits) room fits (λ k high. false_from_ne_true _ (λ on. absurd (omega (arith, within k on))))
@@ -102,4 +102,4 @@ place-count test (x ∷ places) cells (alone, distinct) within =
     (ap (λ m. m + count_below (λ c. has_place places c && test c) cells)
     (sym (count-single (λ c. eqb x c && test c) cells x (within x (rw (eq-eqb x x refl) refl))
     (λ c lt ne. rw (ne_eqb x c (λ e. ne (sym e))) refl) ∙ rw (eq-eqb x x refl) refl))
-    ∙ sym (count-apart (eqb x) (has_place places) test cells (λ c lt here more. true≢false (sym more ∙ rw (sym (eqb-true x c here)) alone))))
+    ∙ sym (count-apart (eqb x) (has_place places) test cells (λ c lt here more. true≢false (sym more ∙ rw (sym (eqb-true _ _ here)) alone))))

@@ -1,7 +1,7 @@
 -- Houses that stand one after another among others. Of a closed board all are idle.
-use Rattle.fields_core.proofs.Common.{AreIdle, Bool, Candidates, CountHouse, IsClosed, List, [], after_house, after_houses, append_assoc, arith, cases_Bool, count_house_of, count_puzzle, false, fun_ext, houses_below, inl, inr, length, length-append, not, refl, strikes_of, suc, sym, true, zero, ℕ, ◌&&◌, ◌++◌, ◌+◌, ◌-◌, ◌<◌, ◌∙◌, ◌∷◌, ◌≡◌, ◌⊎◌}
+use Rattle.fields_core.proofs.Common.{AreIdle, Bool, Candidates, CountHouse, IsClosed, List, [], after_house, after_houses, append_assoc, arith, cases_Bool, count_house_of, count_puzzle, false, fun_ext, get_or-append_seam, houses_below, inl, inr, length, length-append, no_count_house, not, refl, strikes_of, suc, sym, true, zero, ℕ, ◌&&◌, ◌++◌, ◌+◌, ◌-◌, ◌<◌, ◌∙◌, ◌∷◌, ◌≡◌, ◌⊎◌}
 use Rattle.fields_core.proofs.IdleLemmas.{idle-first, idle-rest}
-use Rattle.fields_core.proofs.VisitLemmas.{below-rest, house-at, visits-append}
+use Rattle.fields_core.proofs.VisitLemmas.{below-rest, visits-append}
 use Rattle.fields_core.proofs.CountListLemmas.{below-more}
 
 -- ---- a part of a list
@@ -17,17 +17,16 @@ in-front part front back within = record {
   is = rw within.is (append_assoc within.front (part ++ within.back) back ∙ (rw (append_assoc part within.back back) refl));
 }
 
-pub in-back : (part front back : List CountHouse) → IsPartOf part back → IsPartOf part (front ++ back)
-in-back part front back within = record {
+pub in-back : {part : List CountHouse} (front : List CountHouse) {back : List CountHouse} → IsPartOf part back → IsPartOf part (front ++ back)
+in-back {part} front {back} within = record {
   front = front ++ within.front;
   back = within.back;
   is = rw within.is (sym (append_assoc front within.front (part ++ within.back)));
 }
 
-pub in-below : (f : ℕ → List CountHouse) (k n : ℕ) → k < n → IsPartOf (f k) (houses_below f n)
-in-below f k n lt =
-    let e : k + 1 + (n - (k + 1)) ≡ n = omega arith in
-    rw e at (next k (n - (k + 1)))
+pub in-below : (f : ℕ → List CountHouse) {k n : ℕ} → k < n → IsPartOf (f k) (houses_below f n)
+in-below f {k} {n} lt =
+    let e : k + 1 + (n - (k + 1)) ≡ n = omega arith in rw e at (next k (n - (k + 1)))
   where
     next : (k more : ℕ) → IsPartOf (f k) (houses_below f (k + 1 + more))
     next k more =
@@ -52,12 +51,11 @@ unfolding after_houses
 idle-parts [] back K idle = (refl, idle)
 idle-parts (house ∷ front) back K idle =
     let first = idle-first house (front ++ back) K idle in
-    let rest = idle-parts front back K (idle-rest house (front ++ back) K idle) in
-    (rw first rest.0, rest.1)
+    let rest = idle-parts front back K (idle-rest house (front ++ back) K idle) in (rw first rest.0, rest.1)
 
-pub idle-one : (f : ℕ → List CountHouse) (n k : ℕ) (K : Candidates) → k < n → AreIdle (houses_below f n) K → AreIdle (f k) K
-idle-one f n k K lt idle =
-    let within = in-below f k n lt in
+pub idle-one : (f : ℕ → List CountHouse) {n k : ℕ} (K : Candidates) → k < n → AreIdle (houses_below f n) K → AreIdle (f k) K
+idle-one f {n} {k} K lt idle =
+    let within = in-below f lt in
     (idle-parts (f k) within.back K (idle-parts within.front (f k ++ within.back) K (rw (within.is) at idle)).1).0
 
 -- ---- houses of a closed board
@@ -66,7 +64,7 @@ module _ (cells : ℕ) (blocked : ℕ → Bool) (houses : List CountHouse) (is_s
   house-idle : (front : List CountHouse) (house : CountHouse) (back : List CountHouse) → houses ≡ front ++ house ∷ back → after_house house K ≡ K
   unfolding after_house
   house-idle front house back is = fun_ext λ c. fun_ext λ v.
-      let at : count_house_of houses (length front) ≡ house = rw is (house-at front house back) in
+      let at : count_house_of houses (length front) ≡ house = rw is (get_or-append_seam front house back no_count_house) in
       let here = closed (length front) c v (rw is (omega (arith, length-append front (house ∷ back)))) in
       by c v (rw at at here) (cases_Bool (K c v))
     where

@@ -13,11 +13,11 @@ lies-is : (w : ℕ) (piece : Piece) (c : ℕ) → lies_in w piece c ≡ crosses 
 unfolding lies_in
 lies-is w piece c = refl
 
-next-apart : {size : Extent} {pieces : List Piece} (n c : ℕ) {piece : Piece}
+next-apart : {size : Extent} {pieces : List Piece} {n : ℕ} (c : ℕ) {piece : Piece}
     → piece_at pieces n ≡ piece → ArePieces size pieces → n < length pieces
     → lies_in_first size.w pieces n c ≡ true → lies_in size.w piece c ≡ true → ⊥
 unfolding lies_in_first
-next-apart {size} {pieces} n c e are lt first next = grind (arith, common_steps, any_below-some)
+next-apart {size} {pieces} c e are lt first next = grind (arith, common_steps, any_below-some)
 
 pub line_in : {size : Extent} {pieces : List Piece} {n : ℕ} {piece : Piece} → ArePieces size pieces
     → n < length pieces → piece_at pieces n ≡ piece
@@ -25,7 +25,7 @@ pub line_in : {size : Extent} {pieces : List Piece} {n : ℕ} {piece : Piece} �
 line_in {size} {n} are lt e = grind (arith, common_steps, number_of)
 
 -- of a word of the next piece's cells that pass a test, as many pass more
-pub counted-more : (p : Layers) {pieces : List Piece} (n there room : ℕ) {piece : Piece}
+pub counted-more : (p : Layers) {pieces : List Piece} (n there : ℕ) {room : ℕ} {piece : Piece}
     (test : ℕ → Bool) → piece_at pieces n ≡ piece → ArePieces p.size pieces → n < length pieces
     → line_len p.size piece.line ≤ room
     → ((k : ℕ) → has_bit there k ≡ true → k < line_len p.size piece.line)
@@ -33,7 +33,7 @@ pub counted-more : (p : Layers) {pieces : List Piece} (n there room : ℕ) {piec
     → count_below (λ c. lies_in_first p.size.w pieces n c && test c) (cells_of p) + count_below
     (has_bit there) room ≡ count_below (λ c. lies_in_first p.size.w pieces (n + 1) c && test c)
     (cells_of p)
-counted-more p {pieces} n there room {piece} test e are lt fits within is =
+counted-more p {pieces} n there {room} {piece} test e are lt fits within is =
     let here =
     line-count p.size piece.line there room (line_in are lt e) fits within
     ∙ count_below-same (λ c. crosses piece.line there (c / p.size.w) (c % p.size.w)) (λ c. lies_in p.size.w piece c && test c) _ (λ c _. is c) in
@@ -43,7 +43,7 @@ counted-more p {pieces} n there room {piece} test e are lt fits within is =
     _
     (λ c _. ap (λ b. b && test c) (lies-more p.size.w pieces n c e))
     ∙ count-apart _ _ test _
-    (λ c _ first next. next-apart n c e are lt first next)))
+    (λ c _ first next. next-apart c e are lt first next)))
 
 pub counted-none : (w : ℕ) (pieces : List Piece) (cells : ℕ) (test : ℕ → Bool) → 0 ≡ count_below (λ c. lies_in_first w pieces 0 c && test c) cells
 unfolding lies_in_first any_below
@@ -81,9 +81,9 @@ counted-next {p} {n} ones both none {room} {piece} e are lt fits ones_is both_is
     crosses-both p piece.line ones both 0 c (omega arith) (λ k. both_is k ∙ rw (none_is k) (and_comm (has_bit ones k) (at_line p piece.line 0 k)))
     ∙ rw (one_at c) (by (lies_in p.size.w piece c) (has p c 1) (has p c 0)) in
     record {
-      may_is = rw (first.may_is) (counted-more p n ones room (λ c. has p c 1) e are lt fits within one_at);
+      may_is = rw (first.may_is) (counted-more p n ones (λ c. has p c 1) e are lt fits within one_at);
       undecided_is =
-          rw (first.undecided_is) (counted-more p n both room (λ c. is_open (has p) c)
+          rw (first.undecided_is) (counted-more p n both (λ c. is_open (has p) c)
           e are lt fits (λ k on. within k (and_parts _ _ (sym (both_is k) ∙ on)).0) both_at);
     }
   where
@@ -94,7 +94,6 @@ pub counted-small : {p : Layers} {pieces : List Piece} {n may undecided : ℕ} �
 counted-small {p} {pieces} {n} counted = grind (arith, common_steps, count_below-bound, has)
 
 -- ---- the house of all pieces
-
 pub counted-fewer : {p : Layers} {pieces : List Piece} {may undecided : ℕ} → ArePlanesAlive p → ArePartsCounted p pieces may undecided → undecided ≤ may
 counted-fewer {p} {pieces} alive counted =
     omega (arith, counted.may_is, counted.undecided_is, count-split (lies_in_first p.size.w pieces (length pieces)) (λ c. has p c 0) (λ c. has p c 1) (cells_of p) alive)
@@ -103,8 +102,7 @@ tally-of : (p : Layers) {pieces : List Piece} {may undecided least most : ℕ} {
     → ArePlanesAlive p → ArePartsCounted p pieces may undecided → IsHouseOf p.size pieces least most house
     → IsTally (has p) house.places (record { must = may - undecided; may = may; empty = 0 })
 tally-of p {pieces} {house} alive counted of =
-    let inside = lies_in_first p.size.w pieces (length pieces) in
-    let distinct = distinct-from house.places of.is.different in
+    let inside = lies_in_first p.size.w pieces (length pieces) in let distinct = distinct-from house.places of.is.different in
     let counts : (test : ℕ → Bool) → count_by test house.places ≡ count_below (λ c. inside c && test c) (cells_of p) = λ test.
     place-count test house.places (cells_of p) distinct of.is.within
     ∙ count_below-same (λ c. has_place house.places c && test c) (λ c. inside c && test c) _ (λ c _. ap (λ b. b && test c) (of.cells c)) in
@@ -121,7 +119,7 @@ tally-of p {pieces} {house} alive counted of =
 -- ---- a visit
 pub value-in : (p : Layers) (c v : ℕ) → has p c v ≡ true → v < 2
 unfolding has
-value-in p c v on = ltb-true v 2 (and_parts _ _ on).0
+value-in p c v on = ltb-true _ _ (and_parts _ _ on).0
 
 -- whether the value is struck from undecided cells
 abbrev pub at_bound : ℕ → ℕ → ℕ → ℕ → ℕ → Bool
@@ -150,30 +148,27 @@ module _ (p : Layers) (pieces : List Piece) (may undecided least most : ℕ) (al
           (tally-of p alive counted of) w.1
           (value-in p c v on) in
           rw (sym (of.cells c) ∙ there)
-          (sym
-          ((rw w.2 at at)
-          ∙ rw (on, of.least_is, of.most_is, le-ltb most least order, le-ltb may least enough, le-ltb most (may - undecided) spare) refl))
+          (sym ((rw w.2 at at) ∙ rw (on, of.least_is, of.most_is, le-ltb _ _ order, le-ltb _ _ enough, le-ltb _ _ spare) refl))
     ]
   ]
 
   pub visited-idle : least ≤ may → may - undecided ≤ most
-      → ((c v : ℕ) → v < 2 → (inside
-      c && (is_open (has p) c && at_bound least most (may - undecided) may v)) ≡ false)
+      → ((c v : ℕ) → v < 2 → (inside c && (is_open (has p) c && at_bound least most (may - undecided) may v)) ≡ false)
       → has p ≡ after_house house (has p)
   visited-idle enough spare none = visited enough spare (λ c v low on. on ∙ ap not (sym (none c v low))) (λ c v off. off)
 
-  pub visited-struck : (value : ℕ) → value < 2 → least ≤ may → may - undecided ≤ most
+  pub visited-struck : {value : ℕ} → value < 2 → least ≤ may → may - undecided ≤ most
       → ((v : ℕ) → v < 2 → at_bound least most (may - undecided) may v ≡ eqb v value)
       → without_value p.size.w pieces (length pieces) value (has p) ≡ after_house house (has p)
   unfolding without_value
-  visited-struck value lt enough spare bound = visited enough spare
+  visited-struck {value} lt enough spare bound = visited enough spare
       (λ c v low on. rw (on, bound v low) (by c (inside c) v low on (cases_eq v value)))
       (λ c v off. rw off refl)
     where
       by : (c : ℕ) (b : Bool) (v : ℕ) → v < 2 → has p c v ≡ true → (v ≡ value) ⊎ (v ≢ value)
           → not (eqb v value && (has p c (1 - value) && b)) ≡ not
           (b && (is_open (has p) c && eqb v value))
-      by c b v low on (inr ne) = rw (ne_eqb v value ne) (grind (arith, common_steps, cases_Bool))
+      by c b v low on (inr ne) = rw (ne_eqb _ _ ne) (grind (arith, common_steps, cases_Bool))
       by c b zero low on (inl e) = rw (← e) (rw on (grind (arith, common_steps, cases_Bool)))
       by c b (suc zero) low on (inl e) = rw (← e) (rw on (grind (arith, common_steps, cases_Bool)))
       by c b (suc (suc v)) low on (inl e) = absurd (omega arith)
@@ -189,8 +184,8 @@ module _ (p : Layers) (pieces : List Piece) (may undecided least most : ℕ) (al
       rw w.2 at gone
     where
       none : (may < least) ⊎ (most < may - undecided) → (ltb most least || (ltb may least || ltb most (may - undecided))) ≡ true
-      none (inl few) = rw (le-ltb most least order, lt-ltb may least few) refl
-      none (inr many) = rw (le-ltb most least order, lt-ltb most (may - undecided) many) (grind (arith, common_steps, cases_Bool))
+      none (inl few) = rw (le-ltb _ _ order, lt-ltb _ _ few) refl
+      none (inr many) = rw (le-ltb _ _ order, lt-ltb _ _ many) (grind (arith, common_steps, cases_Bool))
 
 -- where nothing is undecided, no cell is
 pub none-undecided : {p : Layers} {pieces : List Piece} {may undecided : ℕ} (c : ℕ) {least most : ℕ} (at : Bool)
@@ -198,8 +193,7 @@ pub none-undecided : {p : Layers} {pieces : List Piece} {may undecided : ℕ} (c
     → ArePartsCounted p pieces may undecided → undecided ≡ 0
     → (lies_in_first p.size.w pieces (length pieces) c && (is_open (has p) c && at)) ≡ false
 none-undecided {p} {pieces} c at of counted none = false_from_ne_true _ (λ on.
-    let parts = and_parts _ _ on in
-    let open_here = and_parts _ _ parts.1 in
+    let parts = and_parts _ _ on in let open_here = and_parts _ _ parts.1 in
     let lt = of.is.within c (of.cells c ∙ parts.0) in
     let pos =
     count_below-pos (λ c. lies_in_first p.size.w pieces (length pieces) c && is_open (has p) c)
@@ -207,27 +201,18 @@ none-undecided {p} {pieces} c at of counted none = false_from_ne_true _ (λ on.
     absurd (omega (arith, counted.undecided_is)))
 
 -- which bound is reached
-one-bound : {least most must : ℕ} (may v : ℕ) → must ≡ most → must < may → least ≤ most → v < 2 → at_bound least most must may v ≡ eqb v 1
-one-bound {least} {most} {must} may v reached room order low = grind (arith, common_steps, eq-eqb, ne_eqb)
-
-zero-bound : {least most must may v : ℕ} → (must ≡ most → ⊥) → may ≡ least → v < 2 → at_bound least most must may v ≡ eqb v 0
-zero-bound {least} {most} {must} {may} ne reached low = grind (arith, common_steps, ne_eqb, eq-eqb)
-
 pub bound-reached : {least most must may value : ℕ} → ((least < may) × (most ≤ must)) ⊎ (may ≤ least) → least ≤ may → must ≤ most → must < may → least ≤ most
     → (must ≡ most → value ≡ 1) → ((must ≡ most → ⊥) → value ≡ 0)
     → (value < 2) × ((v : ℕ) → v < 2 → at_bound least most must may v ≡ eqb v value)
 bound-reached {least} {most} {must} {may} {value} reached enough spare room order one none = elim (cases_eq must most) [
-  | inl e ↦ (omega (arith, one e), λ v low. rw (one e) (one-bound may v e room order low))
+  | inl e ↦ (omega (arith, one e), λ v low. rw (one e) (grind (arith, common_steps, eq-eqb, ne_eqb)))
   | inr ne ↦
       let last : may ≡ least = (elim reached [
         | inl both ↦ absurd (ne (omega (arith, both.1, spare)))
         | inr few ↦ omega (arith, few, enough)
       ]) in
-      (omega (arith, none ne), λ v low. rw (none ne) (zero-bound ne last low))
+      (omega (arith, none ne), λ v low. rw (none ne) (grind (arith, common_steps, ne_eqb, eq-eqb)))
 ]
-
-pub no-bound : (a b : Bool) {least most must may : ℕ} (v : ℕ) → (must ≡ most → ⊥) → (may ≡ least → ⊥) → (a && (b && at_bound least most must may v)) ≡ false
-no-bound a b {least} {most} {must} {may} v ne nf = grind (arith, common_steps, ne_eqb)
 
 -- ---- strikes
 pub struck-more : (p q : Layers) (pieces : List Piece) (n : ℕ) {value : ℕ} (other : ℕ) {piece : Piece}
@@ -240,8 +225,7 @@ struck-more p q pieces n {value} other {piece} e size lt left is = fun_ext λ c.
     let both : crosses piece.line other (c / q.size.w)
     (c % q.size.w) ≡ (crosses piece.line piece.bits (c / q.size.w) (c % q.size.w) && has q c
     (1 - value)) = crosses-both q piece.line piece.bits other (1 - value) c (omega arith) is in
-    let first : has q c v ≡ (has p c v && not
-    (eqb v value && (has p c (1 - value) && lies_in_first p.size.w pieces n c))) =
+    let first : has q c v ≡ (has p c v && not (eqb v value && (has p c (1 - value) && lies_in_first p.size.w pieces n c))) =
     ap (λ (L : Candidates). L c v) left in
     let stays : has q c (1 - value) ≡ has p c (1 - value) =
     ap (λ (L : Candidates). L c (1 - value)) left
@@ -251,8 +235,7 @@ struck-more p q pieces n {value} other {piece} e size lt left is = fun_ext λ c.
     c = ap (λ (s : Extent). crosses piece.line piece.bits (c / s.w) (c % s.w)) size
     ∙ sym (lies-is p.size.w piece c) in
     rw (both, first, stays, at, lies-more p.size.w pieces n c e)
-    (by (has p c v) (eqb v value) (has p c (1 - value)) (lies_in_first p.size.w pieces n c)
-    (lies_in p.size.w piece c))
+    (by (has p c v) (eqb v value) (has p c (1 - value)) (lies_in_first p.size.w pieces n c) (lies_in p.size.w piece c))
   where
     by : (a e o f i : Bool) → ((a && not (e && (o && f))) && not (e && (i && o))) ≡ (a && not (e && (o && (f || i))))
     by a e o f i = grind (arith, common_steps, cases_Bool a, cases_Bool e, cases_Bool o, cases_Bool f, cases_Bool i)
@@ -267,8 +250,7 @@ pub struck-alive : (p q : Layers) (pieces : List Piece) (n value : ℕ) → q.si
 unfolding without_value
 struck-alive p q pieces n value size lt alive left c lc = by value lt (λ v. ap (λ L. L c v) left) (alive c (rw size at lc))
   where
-    by : (value : ℕ) → value < 2
-        → ((v : ℕ) → has q c v ≡ (has p c v && not
+    by : (value : ℕ) → value < 2 → ((v : ℕ) → has q c v ≡ (has p c v && not
         (eqb v value && (has p c (1 - value) && lies_in_first p.size.w pieces n c))))
         → (has p c 0 ≡ true) ⊎ (has p c 1 ≡ true) → (has q c 0 ≡ true) ⊎ (has q c 1 ≡ true)
     by zero low is some = grind (arith, common_steps, cases_Bool (has p c 0), cases_Bool (has p c 1), is 0, is 1)

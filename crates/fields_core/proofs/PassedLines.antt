@@ -78,11 +78,10 @@ module _ {left rest : ℕ → Bool} {room least : ℕ} (is : IsLeast left room l
         w.0,
       )
 
-  pub rest-off : (k : ℕ) → least < k → rest k ≡ false → left k ≡ false
-  rest-off k high off =
+  pub rest-off : {k : ℕ} → least < k → rest k ≡ false → left k ≡ false
+  rest-off {k} high off =
       let apart : eqb k least ≡ false = ne_eqb k least (λ e. absurd (omega (arith, e, high))) in
-      let kept : rest k ≡ (left k && not false) = without k ∙ rw apart refl in
-      by (left k) (rest k) kept off
+      let kept : rest k ≡ (left k && not false) = without k ∙ rw apart refl in by (left k) (rest k) kept off
     where
       by : (a b : Bool) → b ≡ (a && not false) → b ≡ false → a ≡ false
       by a b e off = grind (arith, common_steps, cases_Bool a, cases_Bool b)
@@ -99,8 +98,8 @@ module _ (word first rest : ℕ → Bool) (line : ℕ) (first_is : (k : ℕ) →
         w.0,
       )
 
-  pub from-off : (k : ℕ) → line < k → rest k ≡ false → word k ≡ false
-  from-off k high off = by (word k) (first k) (first_is k ∙ le-ltb k (line + 1) (omega (arith, high))) (sym (is k) ∙ off)
+  pub from-off : {k : ℕ} → line < k → rest k ≡ false → word k ≡ false
+  from-off {k} high off = by (word k) (first k) (first_is k ∙ le-ltb k (line + 1) (omega (arith, high))) (sym (is k) ∙ off)
     where
       by : (a b : Bool) → b ≡ false → (a && not b) ≡ false → a ≡ false
       by a b out e = grind (arith, common_steps, cases_Bool a, cases_Bool b)

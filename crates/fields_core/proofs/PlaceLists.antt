@@ -24,10 +24,10 @@ pub none-counted : (test : ℕ → Bool) (xs : List ℕ) → eqb (count_by test 
 none-counted test xs = grind (arith, common_steps, some-counted test xs, cases_eq, eq-eqb, ne_eqb, lt-ltb, le-ltb)
 
 pub count-some : (test : ℕ → Bool) (xs : List ℕ) (d : ℕ) → has_place xs d ≡ true → test d ≡ true → 1 ≤ count_by test xs
-count-some test xs d on passes = omega (arith, ltb-true 0 (count_by test xs) (some-counted test xs ∙ any-here test xs d on passes))
+count-some test xs d on passes = omega (arith, ltb-true _ _ (some-counted test xs ∙ any-here test xs d on passes))
 
 pub count-none : (test : ℕ → Bool) (xs : List ℕ) → ((d : ℕ) → has_place xs d ≡ true → test d ≡ false) → count_by test xs ≡ 0
-count-none test xs none = omega (arith, ltb-false 0 (count_by test xs) (some-counted test xs ∙ any-none test xs none))
+count-none test xs none = omega (arith, ltb-false _ _ (some-counted test xs ∙ any-none test xs none))
 
 pub count-every : (test : ℕ → Bool) (xs : List ℕ) → ((d : ℕ) → has_place xs d ≡ true → test d ≡ true) → count_by test xs ≡ length xs
 unfolding has_place
@@ -36,8 +36,7 @@ count-every test (x ∷ xs) all =
     let first = all x (grind (arith, common_steps)) in omega (arith, count-cons test x xs, ap num first, count-every test xs (λ d on. all d (grind (arith, common_steps, on))))
 
 -- of different places, one at most passes where no two do
-pub count-one : (test : ℕ → Bool) (xs : List ℕ) → AreDistinct xs
-    →
+pub count-one : (test : ℕ → Bool) (xs : List ℕ) → AreDistinct xs →
     ((d e : ℕ) → has_place xs d ≡ true → has_place xs e ≡ true → test d ≡ true → test e ≡ true → d ≡ e) → count_by test xs ≤ 1
 count-one test xs distinct same = elim (cases_lt 1 (length (filter test xs))) [
   | inl many ↦
@@ -52,13 +51,9 @@ count-one test xs distinct same = elim (cases_lt 1 (length (filter test xs))) [
 pub count-two : (test : ℕ → Bool) (xs : List ℕ) (d e : ℕ) → has_place xs d ≡ true → has_place xs e ≡ true → test d ≡ true → test e ≡ true
     → (d ≡ e → ⊥) → 2 ≤ count_by test xs
 count-two test xs d e md me on_d on_e apart =
-    let j = has_place-at _ d (place-kept test xs d md on_d) in
-    let k = has_place-at _ e (place-kept test xs e me on_e) in
+    let j = has_place-at _ d (place-kept test xs d md on_d) in let k = has_place-at _ e (place-kept test xs e me on_e) in
     let other = λ (same : j.0 ≡ k.0). apart (sym j.2 ∙ ap (slice_index (filter test xs)) same ∙ k.2) in
-    elim (cases_eq j.0 k.0) [
-      | inl same ↦ absurd (other same)
-      | inr ne ↦ omega (arith, ne, j.1, k.1, length-filter test xs)
-    ]
+    elim (cases_eq j.0 k.0) [ inl same ↦ absurd (other same) | inr ne ↦ omega (arith, ne, j.1, k.1, length-filter test xs) ]
 
 -- a filter that leaves all that passes leaves the count
 pub count-filter : (test keeps : ℕ → Bool) (xs : List ℕ) → ((d : ℕ) → test d ≡ true → keeps d ≡ true) → count_by test (filter keeps xs) ≡ count_by test xs
@@ -71,7 +66,7 @@ module _ (p q : ℕ → Bool) (place : ℕ) (others : (c : ℕ) → (c ≡ place
   unfolding has_place
   count-off [] off = refl
   count-off (x ∷ xs) off =
-      let w = or_parts (eqb x place) (has_place xs place) off in omega (arith, count-cons q x xs, count-cons p x xs, count-off xs w.1, ap num (others x (eqb-false x place w.0)))
+      let w = or_parts _ _ off in omega (arith, count-cons q x xs, count-cons p x xs, count-off xs w.1, ap num (others x (eqb-false x place w.0)))
 
   pub count-at : (xs : List ℕ) → AreDistinct xs → has_place xs place ≡ true → count_by q xs + num (p place) ≡ count_by p xs + num (q place)
   unfolding has_place
@@ -79,7 +74,7 @@ module _ (p q : ℕ → Bool) (place : ℕ) (others : (c : ℕ) → (c ≡ place
   count-at (x ∷ xs) d on = elim (cases_eq x place) [
     | inl same ↦ rw (sym same) (omega (arith, count-cons q x xs, count-cons p x xs, count-off xs (ap (has_place xs) (sym same) ∙ d.0)))
     | inr ne ↦
-        omega (arith, count-cons q x xs, count-cons p x xs, count-at xs d.1 (sym (ap (λ b. b || has_place xs place) (ne_eqb x place ne)) ∙ on), ap num (others x ne))
+        omega (arith, count-cons q x xs, count-cons p x xs, count-at xs d.1 (sym (ap (λ b. b || has_place xs place) (ne_eqb _ _ ne)) ∙ on), ap num (others x ne))
   ]
 
 -- the ones of a grid's cells are its bulbs

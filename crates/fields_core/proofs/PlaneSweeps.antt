@@ -1,8 +1,6 @@
 -- Sweeps of the count houses of a puzzle on planes, and closings by them.
-use Rattle.fields_core.proofs.Common.{AreHouses, AreMet, ArePlanesAlive, AreVisited, Bool, Candidates, CountHouse, CountPuzzle, IsClosedGrid, IsCounting, IsFurther, IsSweep, IsWithin, Layers, List, RuleSystem, [], after_houses, and_parts, arith, by_fillings-met, cases_Bool, cells_of, common_steps, count-lawful, count_below, count_below-pos, count_house_of, count_puzzle, counts_between, false, further-more, further-none, has, has_place-here, inl, inr, is_dead, is_dead-each, is_dead-here, is_dead-not, max, max_cells, meets, refl, rules_of, single-at, slice_index, start_of, strikes_of, swept_by, sym, total, true, within_inside, ℕ, ◌*◌, ◌+◌, ◌<◌, ◌∙◌, ◌≡◌, ◌≤◌, ◌⊎◌}
-use Rattle.engine_core.specs.ClosingList.{IsClosing}
+use Rattle.fields_core.proofs.Common.{AreHouses, AreMet, ArePlanesAlive, AreVisited, Bool, Candidates, CountHouse, CountPuzzle, Dead, IsClosedGrid, IsClosing, IsCounting, IsFurther, IsSweep, IsWithin, Layers, List, Open, RuleSystem, [], after_houses, and_parts, arith, by_fillings-met, cases_Bool, cells_of, common_steps, count-lawful, count_below, count_below-pos, count_house_of, count_puzzle, counts_between, false, further-more, further-none, has, has_place-here, inl, inr, is_dead, is_dead-each, is_dead-here, is_dead-not, max, max_cells, meets, refl, rules_of, single-at, slice_index, start_of, strikes_of, swept_by, sym, total, true, within_inside, ℕ, ◌*◌, ◌+◌, ◌<◌, ◌∙◌, ◌≡◌, ◌≤◌, ◌⊎◌}
 use Rattle.engine_core.proofs.SweepLemmas.{IsSwept, fewer, sweep-shut, swept-dead, swept-first, swept-idle, swept-turn}
-use Rattle.engine_core.specs.declared.mode.Closing.TheVariants.{Dead, Open}
 use Rattle.fields_core.proofs.VisitLemmas.{replay-visits}
 
 -- ---- each cell has a value
@@ -59,15 +57,8 @@ module _ (cells : ℕ) (blocked : ℕ → Bool) (houses : List CountHouse) (is_s
   module _ {from : Layers} {sweeps : ℕ} {to next : Layers} {fills : Bool}
       (counting : IsCounting cells blocked houses is_solution) (size : cells_of from ≡ cells) (within : IsWithin cells 2 (has from))
       (s : AreSweepsOf rules from sweeps to) (sweep : IsSweep rules to next fills) where
-    -- the sizes stay, and so do the cells
-    size-to : cells_of to ≡ cells
-    size-to = rw (s.further.same_size) size
-
     within-to : IsWithin cells 2 (has to)
     within-to = within_inside cells 2 (has to) (has from) within s.further.inside
-
-    alive-next : is_dead cells 2 (has next) ≡ false
-    alive-next = alive-cells next (rw (sweep.further.same_size) size-to) sweep.alive
 
     pub sweeps-few : sweeps ≤ max_cells * 2
     sweeps-few = omega (arith, s.swept.enough, counting.few_cells)
@@ -78,7 +69,7 @@ module _ (cells : ℕ) (blocked : ℕ → Bool) (houses : List CountHouse) (is_s
     pub sweeps-turn : fills ≡ true → to.len < next.len → AreSweepsOf rules from (sweeps + 1) next
     sweeps-turn full more = record {
       alive = sweep.alive;
-      swept = swept-turn rules (has from) sweeps (has to) (has next) s.swept within-to (sweep.left full) (sweep.further.lost more) alive-next;
+      swept = swept-turn rules (has from) sweeps (has to) (has next) s.swept within-to (sweep.left full) (sweep.further.lost more) (alive-cells next (rw (sweep.further.same_size) (rw (s.further.same_size) size)) sweep.alive);
       further = further-more from to next s.further sweep.further;
     }
 
@@ -99,8 +90,7 @@ closed-met p {g} houses grid = record {
   blocked_zero = λ c lt blocked.
       grind (arith, common_steps, grid.inside c (slice_index g c) (single-at g c (omega (arith, grid.fits.each_cell))), and_parts, grid.fits.each_value c 0);
   meets_each = λ h lt some.
-      let house = count_house_of p.houses h in
-      let is = houses h lt in
+      let house = count_house_of p.houses h in let is = houses h lt in
       by_fillings-met 2 house.places (counts_between house.least house.most) g is.different some
       (λ k less. omega (arith, grid.fits.each_cell, is.within (slice_index house.places k) (has_place-here house.places k less)))
       (λ c less. grid.fits.each_value c 0 less) (λ c v. grid.closed h c v lt);

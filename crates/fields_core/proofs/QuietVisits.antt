@@ -4,7 +4,7 @@ use Rattle.fields_core.proofs.HouseOrder.{IsSingle, single-keeps}
 use Rattle.fields_core.proofs.AtLeastLemmas.{IsAll, all-keeps}
 use Rattle.fields_core.proofs.AtMostLemmas.{IsFull}
 use Rattle.fields_core.proofs.CountListLemmas.{all-houses}
-use Rattle.fields_core.proofs.IdleAfter.{AreQuiet, list-kept, list-settled}
+use Rattle.fields_core.proofs.IdleLemmas.{AreQuiet, list-kept, list-settled}
 use Rattle.fields_core.proofs.PartIdle.{idle-one}
 use Rattle.fields_core.proofs.PartLemmas.{value-in}
 use Rattle.fields_core.proofs.PassedLines.{ArePassed, passed-next, rest-off, rest-on}
@@ -36,7 +36,7 @@ module _ {cells : ℕ} {Is : CountHouse → Type 0} (quiet : AreQuiet cells Is) 
     quiet-stays others each_other idle = rw (visited.left refl) (list-kept quiet others (houses_below f m) (has from) each_other those full after idle)
 
     pub quiet-done : (k : ℕ) → k < m → AreIdle (f k) (has to)
-    quiet-done k lt = idle-one f m k (has to) lt (rw (visited.left refl) (list-settled quiet (houses_below f m) (has from) those full after))
+    quiet-done k lt = idle-one f (has to) lt (rw (visited.left refl) (list-settled quiet (houses_below f m) (has from) those full after))
 
 -- one list
 pub quiet-one : {cells : ℕ} {Is : CountHouse → Type 0} → AreQuiet cells Is → (houses : List CountHouse) → AllByRecursion Is houses
@@ -46,10 +46,10 @@ quiet-one quiet houses each size alive visited others each_other idle =
     quiet-stays quiet (λ _. houses) {n = 1} (λ k lt. each) size alive (omega arith) (sweep-more (λ _. houses) (sweep-first (λ _. houses) alive) visited refl) others each_other idle
 
 -- the next of the lines that are left
-pub quiet-next : {cells : ℕ} {Is : CountHouse → Type 0} → AreQuiet cells Is → (f : ℕ → List CountHouse) {n : ℕ} → ((k : ℕ) → k < n → AllByRecursion Is (f k))
+pub quiet-next : {cells : ℕ} {Is : CountHouse → Type 0} → AreQuiet cells Is → {f : ℕ → List CountHouse} {n : ℕ} → ((k : ℕ) → k < n → AllByRecursion Is (f k))
     → {left : ℕ → Bool} {from to next : Layers} {room line : ℕ} {fills : Bool} → cells_of from ≡ cells → ArePassed f n left from to → IsLeast left room line
     → AreVisited (f line) to next fills → fills ≡ true → (rest : ℕ → Bool) → ((k : ℕ) → rest k ≡ (left k && not (eqb k line))) → ArePassed f n rest from next
-quiet-next quiet f each {line = line} size passed least visited fill rest without = passed-next f passed least visited fill rest
+quiet-next quiet {f} each {line = line} size passed least visited fill rest without = passed-next f passed least visited fill rest
     (λ k on. let w = rest-on least without k on in (w.0, passed.inside k w.1))
     (λ k high lt off. quiet-one quiet (f line) (each line (passed.inside line least.has)) (rw (passed.visited.further.same_size) size) passed.visited.alive
-    (rw fill at visited) (f k) (each k lt) (passed.idle k (omega (arith, high, passed.behind line least.has)) lt (rest-off least without k high off)))
+    (rw fill at visited) (f k) (each k lt) (passed.idle k (omega (arith, high, passed.behind line least.has)) lt (rest-off least without high off)))

@@ -1,9 +1,9 @@
 -- Words of the cells of rows, and of places that pass.
-use Rattle.fields_core.proofs.Common.{AreRowsOf, Bool, Extent, IsRowOf, Layers, List, and-false, ap, arith, bit_of, cases_eq, cases_lt, common_steps, div-mul-add, eq-eqb, eqb, false, get_or, get_or-map, get_or-set_other, get_or-set_same, has, has_bit, inl, inr, le-ltb, length, length-map, lt-ltb, ltb, map, map-set, ne_eqb, or-false, or-true, place-column, refl, set, slice_index, sym, true, ℕ, ◌&&◌, ◌*◌, ◌+◌, ◌-◌, ◌<◌, ◌||◌, ◌∙◌, ◌≡◌}
+use Rattle.fields_core.proofs.Common.{AreRowsOf, Bool, Extent, IsRowOf, Layers, List, and-false, ap, arith, bit_of, cases_eq, cases_lt, common_steps, div-mul-add, eq-eqb, eqb, false, get_or, get_or-map, get_or-set_other, get_or-set_same, has, has_bit, inl, inr, le-ltb, length, length-map, lt-ltb, ltb, map, map-set, ne_eqb, or-false, or-true, place-column, refl, set, slice_index, sym, true, ℕ, ◌&&◌, ◌*◌, ◌+◌, ◌<◌, ◌||◌, ◌∙◌, ◌≡◌}
 
 pub has-at : (q : Layers) (y u v : ℕ) {w : ℕ} → q.size.w ≡ w → u < w → v < 2 → has q (y * w + u) v ≡ bit_of q.rows y v u
 unfolding has
-has-at q y u v same lt low = rw (same, div-mul-add y _ u lt, place-column _ y u lt, lt-ltb v 2 low) refl
+has-at q y u v same lt low = rw (same, div-mul-add y _ u lt, place-column _ y u lt, lt-ltb _ _ low) refl
 
 -- ---- a word of the first places that pass
 pub next-on : (test : ℕ → Bool) (n word next : ℕ) → test n ≡ true → ((k : ℕ) → has_bit word k ≡ (ltb k n && test k))
@@ -29,7 +29,7 @@ pub row-read : {W : Type 0} (bits : W → ℕ) (words : List W) (y : ℕ) (word 
 row-read bits words y word lt read = get_or-map bits words y word 0 lt ∙ ap bits (sym read)
 
 -- where each row has a word
-pub rows-read : {W : Type 0} (bits : W → ℕ) (words : List W) {size : Extent} {passes : ℕ → Bool} (y : ℕ) {word : W} → y < size.h → AreRowsOf size passes (map bits words)
+pub rows-read : {W : Type 0} (bits : W → ℕ) (words : List W) {size : Extent} {passes : ℕ → Bool} {y : ℕ} {word : W} → y < size.h → AreRowsOf size passes (map bits words)
     → word ≡ get_or words y word → IsRowOf size.w passes y (bits word)
-rows-read bits words y {word} lt are read =
+rows-read bits words {y} {word} lt are read =
     rw (row-read bits words y word (omega (arith, lt, are.long, length-map words bits)) read) at (are.each y lt)

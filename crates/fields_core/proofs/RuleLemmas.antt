@@ -15,11 +15,11 @@ unfolding without
 start-blocked n K K' before is left = grind (arith, common_steps, cases_eq, eq-eqb, lt-ltb, or-true, ne_eqb, or-false, cases_lt, le-ltb)
 
 -- the cells of one row more, with the blocked ones of the row taken from
-pub row-blocked : {cells : ℕ} {blocked : ℕ → Bool} (w w' y bits : ℕ) (K K' : Candidates) → 0 < w → w' ≡ w → IsStarted cells blocked (y * w) K
+pub row-blocked : {cells : ℕ} {blocked : ℕ → Bool} {w w' : ℕ} (y bits : ℕ) {K K' : Candidates} → 0 < w → w' ≡ w → IsStarted cells blocked (y * w) K
     → K' ≡ without_taking w' K (record { line = Row y; value = 1; bits = bits }) → ((x : ℕ) → has_bit bits x ≡ (ltb x w && blocked (y * w + x)))
     → IsStarted cells blocked ((y + 1) * w) K'
 unfolding without_taking covers crosses
-row-blocked {cells} {blocked} w w' y bits K K' pos e before left is = record {
+row-blocked {cells} {blocked} {w} y bits pos e before left is = record {
   sets = λ c v. ap (λ (L : Candidates). L c v) (rw e at left) ∙ rw (before.sets c v) (by (all_of cells 2 c v) (eqb v 1) _ _ _ (here c));
 }
   where
@@ -33,15 +33,14 @@ row-blocked {cells} {blocked} w w' y bits K K' pos e before left is = record {
         elim (cases_eq (c / w) y) [
           | inl e ↦
               let at : y * w + c % w ≡ c = rw e at (div-add-mod' c w) in
-              let high : y * w ≤ c = omega arith in
-              let low : c < (y + 1) * w = n.0 (omega arith) in
-              rw (e, eq-eqb y y refl, is (c % w), lt-ltb (c % w) w (mod-lt c pos), at, le-ltb c (y * w) high, lt-ltb c ((y + 1) * w) low) refl
-          | inr ne ↦ rw (ne_eqb (c / w) y ne) (grind (arith, common_steps, cases_lt, lt-ltb, le-ltb, cases_Bool, d.0, d.1, n.0, n.1))
+              let high : y * w ≤ c = omega arith in let low : c < (y + 1) * w = n.0 (omega arith) in
+              rw (e, eq-eqb y y refl, is (c % w), lt-ltb _ _ (mod-lt c pos), at, le-ltb _ _ high, lt-ltb _ _ low) refl
+          | inr ne ↦ rw (ne_eqb _ _ ne) (grind (arith, common_steps, cases_lt, lt-ltb, le-ltb, cases_Bool, d.0, d.1, n.0, n.1))
         ]
 
-pub start-all : {cells : ℕ} {blocked : ℕ → Bool} (n : ℕ) (K : Candidates) → IsStarted cells blocked n K → cells ≤ n → K ≡ start_of cells blocked
+pub start-all : {cells : ℕ} {blocked : ℕ → Bool} {n : ℕ} {K : Candidates} → IsStarted cells blocked n K → cells ≤ n → K ≡ start_of cells blocked
 unfolding start_of all_of
-start-all n K before ge = grind (arith, common_steps, fun_ext, cases_lt, lt-ltb, le-ltb)
+start-all before ge = grind (arith, common_steps, fun_ext, cases_lt, lt-ltb, le-ltb)
 
-pub same-shape : (a b c : Layout) → SameShape a b → SameShape b c → SameShape a c
-same-shape a b c p q = record { same_values = q.same_values ∙ p.same_values; same_cells = q.same_cells ∙ p.same_cells }
+pub same-shape : {a b c : Layout} → SameShape a b → SameShape b c → SameShape a c
+same-shape p q = record { same_values = q.same_values ∙ p.same_values; same_cells = q.same_cells ∙ p.same_cells }

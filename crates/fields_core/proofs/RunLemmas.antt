@@ -1,14 +1,12 @@
 -- The run around a cell of a line is what has only white cells between it and the cell.
-use Rattle.fields_core.proofs.Common.{Bool, Extent, IsAround, Light, List, [], add-one, ap, append-nil, arith, cases_Bool, cases_lt, clear, column-at, column_places, column_run, common_steps, cond, div-mul-add, eq-eqb, false, false_from_ne_true, filter, filter-append, inl, inr, joined_in_column, joined_in_row, length, map, min, mod-lt, mod-mul-add, mul-le-mul_right, place-column, range_with_len, refl, row-at, row_places, row_run, slice_index, suc, sym, true, true≢false, white, zero, ℕ, ◌%◌, ◌*◌, ◌++◌, ◌+◌, ◌-◌, ◌/◌, ◌<◌, ◌∙◌, ◌∷◌, ◌≡◌, ◌≤◌}
-use Rattle.fields_core.proofs.HouseLists.{row-long, column-long}
+use Rattle.fields_core.proofs.Common.{Bool, Extent, IsAround, Light, List, [], add-one, ap, append-nil, arith, cases_Bool, cases_lt, clear, column_places, column_run, common_steps, cond, div-mul-add, eq-eqb, false, false_from_ne_true, filter, filter-append, inl, inr, joined_in_column, joined_in_row, map, min, mod-lt, mod-mul-add, place-column, range_with_len, refl, row_places, row_run, suc, sym, true, true≢false, white, zero, ℕ, ◌%◌, ◌*◌, ◌++◌, ◌+◌, ◌-◌, ◌/◌, ◌<◌, ◌∙◌, ◌∷◌, ◌≡◌, ◌≤◌}
 use Rattle.fields_core.proofs.LightHouseLaws.{clear-at, clear-from}
 
 -- ---- a filter over numbers one after another
 pub range-split : (s a b : ℕ) → range_with_len s (a + b) ≡ range_with_len s a ++ range_with_len (s + a) b
 range-split s zero b = let z : s + 0 ≡ s = omega arith in let y : 0 + b ≡ b = omega arith in rw (z, y) refl
 range-split s (suc a) b =
-    let y : suc a + b ≡ suc (a + b) = omega arith in
-    let z : s + 1 + a ≡ s + suc a = omega arith in
+    let y : suc a + b ≡ suc (a + b) = omega arith in let z : s + 1 + a ≡ s + suc a = omega arith in
     rw y (ap (λ l. s ∷ l) (range-split (s + 1) a b ∙ ap (λ n. range_with_len (s + 1) a ++ range_with_len n b) z))
 
 -- the numbers below n that pass
@@ -42,12 +40,9 @@ passing-range test start end (suc n) low before inside past =
 
 -- ---- the run around a number
 -- what is joined to a number lies in its run
-pub around-joined : (test : ℕ → Bool) {len at start end i : ℕ} → IsAround test len at start end → i < len → clear test at i ≡ true → (start ≤ i) × (i < end)
-around-joined test {len} {at} {start} {end} {i} on lt joined = (
-  elim (cases_lt i start) [
-    | inl below ↦ absurd (blocked below start refl)
-    | inr low ↦ low
-  ],
+pub around-joined : {test : ℕ → Bool} {len at start end i : ℕ} → IsAround test len at start end → i < len → clear test at i ≡ true → (start ≤ i) × (i < end)
+around-joined {test} {len} {at} {start} {end} {i} on lt joined = (
+  elim (cases_lt i start) [ inl below ↦ absurd (blocked below start refl) | inr low ↦ low ],
   elim (cases_lt i end) [
     | inl high ↦ high
     | inr past ↦
@@ -59,19 +54,16 @@ around-joined test {len} {at} {start} {end} {i} on lt joined = (
     blocked : i < start → (s : ℕ) → s ≡ start → ⊥
     blocked below zero e = omega arith
     blocked below (suc s) e =
-        let low = on.low in
-        true≢false (sym (clear-at test at i s joined (omega arith) (omega arith)) ∙ on.first s e)
+        let low = on.low in true≢false (sym (clear-at test at i s joined (omega arith) (omega arith)) ∙ on.first s e)
 
-pub around-run : (test : ℕ → Bool) {len at start end : ℕ} → IsAround test len at start end → filter (clear test at) (range_with_len 0 len) ≡ range_with_len start (end - start)
-around-run test {len} {at} {start} {end} on =
-    let low = on.low in
-    let past = on.past in
-    let high = on.high in
-    let z : min len end ≡ end = omega arith in
+pub around-run : {test : ℕ → Bool} {len at start end : ℕ} → IsAround test len at start end → filter (clear test at) (range_with_len 0 len) ≡ range_with_len start (end - start)
+around-run {test} {len} {at} {start} {end} on =
+    let low = on.low in let past = on.past in
+    let high = on.high in let z : min len end ≡ end = omega arith in
     rw z at (passing-range (clear test at) start end len (omega arith)
-    (λ i below. false_from_ne_true (clear test at i) (λ joined. omega (arith, (around-joined test on (omega arith) joined).0)))
+    (λ i below. false_from_ne_true _ (λ joined. omega (arith, (around-joined on (omega arith) joined).0)))
     (λ i above below. clear-from test at i (λ k a b. on.pass k (omega arith) (omega arith)))
-    (λ i above below. false_from_ne_true (clear test at i) (λ joined. omega (arith, (around-joined test on below joined).1))))
+    (λ i above below. false_from_ne_true _ (λ joined. omega (arith, (around-joined on below joined).1))))
 
 -- ---- the same along two ways of numbering one line
 pub filter-map : (f : ℕ → ℕ) (test : ℕ → Bool) (xs : List ℕ) → filter test (map f xs) ≡ map f (filter (λ x. test (f x)) xs)
@@ -99,22 +91,20 @@ pub line-run : (joined : ℕ → Bool) (test along_test : ℕ → Bool) (at len 
 line-run joined test along_test at len place along same_place same_test is = grind (arith, common_steps, map-same, filter-same, clear-same, filter-map)
 
 -- ---- the run of a row and of a column
-pub row-cell-joined : (p : Light) (c x : ℕ) → x < p.size.w
-    → joined_in_row p c (c / p.size.w * p.size.w + x) ≡ clear
+pub row-cell-joined : (p : Light) (c : ℕ) {x : ℕ} → x < p.size.w → joined_in_row p c (c / p.size.w * p.size.w + x) ≡ clear
     (λ i. white p (c / p.size.w * p.size.w + i)) (c % p.size.w) x
 unfolding joined_in_row
-row-cell-joined p c x lt = grind (arith, common_steps, div-mul-add, mod-mul-add, eq-eqb)
+row-cell-joined p c lt = grind (arith, common_steps, div-mul-add, mod-mul-add, eq-eqb)
 
-pub column-cell-joined : (p : Light) (c y : ℕ) → 0 < p.size.w
-    → joined_in_column p c (y * p.size.w + c % p.size.w) ≡ clear
+pub column-cell-joined : (p : Light) (c y : ℕ) → 0 < p.size.w → joined_in_column p c (y * p.size.w + c % p.size.w) ≡ clear
     (λ i. white p (i * p.size.w + c % p.size.w)) (c / p.size.w) y
 unfolding joined_in_column
 column-cell-joined p c y pos = grind (arith, common_steps, mod-lt, div-mul-add, mod-mul-add, eq-eqb)
 
-pub row-run-is : (p : Light) (y x : ℕ) → x < p.size.w
+pub row-run-is : (p : Light) (y : ℕ) {x : ℕ} → x < p.size.w
     → map (λ i. y * p.size.w + i * 1) (filter (clear (λ i. white p (y * p.size.w + i * 1)) x) (range_with_len 0 p.size.w)) ≡ row_run p (y * p.size.w + x)
 unfolding row_run
-row-run-is p y x lt =
+row-run-is p y {x} lt =
     rw (div-mul-add y p.size.w x lt)
     (line-run (joined_in_row p (y * p.size.w + x)) (λ i. white p (y * p.size.w + i)) (λ i. white p (y * p.size.w + i * 1)) x p.size.w
     (λ i. y * p.size.w + i) (λ i. y * p.size.w + i * 1) same (λ i. ap (white p) (same i)) joined)
@@ -123,12 +113,12 @@ row-run-is p y x lt =
     same i = omega arith
 
     joined : (i : ℕ) → i < p.size.w → joined_in_row p (y * p.size.w + x) (y * p.size.w + i) ≡ clear (λ i. white p (y * p.size.w + i)) x i
-    joined i low = rw (div-mul-add y p.size.w x lt, place-column p.size.w y x lt) at (row-cell-joined p (y * p.size.w + x) i low)
+    joined i low = rw (div-mul-add y p.size.w x lt, place-column p.size.w y x lt) at (row-cell-joined p (y * p.size.w + x) low)
 
-pub column-run-is : (p : Light) (y x : ℕ) → x < p.size.w
+pub column-run-is : (p : Light) (y : ℕ) {x : ℕ} → x < p.size.w
     → map (λ i. x + i * p.size.w) (filter (clear (λ i. white p (x + i * p.size.w)) y) (range_with_len 0 p.size.h)) ≡ column_run p (y * p.size.w + x)
 unfolding column_run
-column-run-is p y x lt =
+column-run-is p y {x} lt =
     rw (place-column p.size.w y x lt)
     (line-run (joined_in_column p (y * p.size.w + x)) (λ i. white p (i * p.size.w + x)) (λ i. white p (x + i * p.size.w)) y p.size.h
     (λ i. i * p.size.w + x) (λ i. x + i * p.size.w) same (λ i. ap (white p) (same i)) (λ i _. joined i))
@@ -145,9 +135,3 @@ row-made size y e = grind (arith, common_steps, map-same)
 
 pub column-made : (size : Extent) (x : ℕ) {w h : ℕ} → w ≡ size.w → h ≡ size.h → map (λ i. x + i * w) (range_with_len 0 h) ≡ column_places size x
 column-made size x e f = grind (arith, common_steps, map-same)
-
-pub row-cell : (size : Extent) {y k : ℕ} → y < size.h → k < length (row_places size y) → slice_index (row_places size y) k < size.w * size.h
-row-cell size lt low = grind (arith, common_steps, row-long, row-at, mul-le-mul_right)
-
-pub column-cell : (size : Extent) {x k : ℕ} → x < size.w → k < length (column_places size x) → slice_index (column_places size x) k < size.w * size.h
-column-cell size lt low = grind (arith, common_steps, column-long, column-at, mul-le-mul_right)

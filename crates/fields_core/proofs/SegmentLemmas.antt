@@ -1,11 +1,8 @@
 -- A segment that is cut at a cell.
-use Rattle.fields_core.proofs.Common.{Bool, List, Segment, [], ap, append-nil, ap₂, arith, eq-eqb, eqb, filter, filter-append, map, map-append, mul-le-mul_right, ne_eqb, not, places_of, range_with_len, refl, segment_places, suc, sym, zero, ℕ, ◌*◌, ◌++◌, ◌+◌, ◌<◌, ◌∙◌, ◌∷◌, ◌≡◌, ◌≤◌}
+use Rattle.fields_core.proofs.Common.{Bool, List, ap, ap₂, arith, eq-eqb, eqb, filter, filter-append, map, map-append, mul-le-mul_right, ne_eqb, not, range_with_len, refl, suc, sym, zero, ℕ, ◌*◌, ◌++◌, ◌+◌, ◌<◌, ◌∙◌, ◌∷◌, ◌≡◌, ◌≤◌}
 use Rattle.fields_core.proofs.RunLemmas.{map-same, range-split}
 
 -- ---- the cells of some segments and of empty ones
-pub places-three : (a b c none : Segment) → segment_places none ≡ [] → places_of (a ∷ b ∷ c ∷ none ∷ []) ≡ segment_places a ++ (segment_places b ++ segment_places c)
-places-three a b c none e = rw e (ap (λ l. segment_places a ++ (segment_places b ++ l)) (append-nil (segment_places c)))
-
 -- ---- a line cut at one of its cells
 abbrev pub line : ℕ → ℕ → ℕ → List ℕ
 line first stride n = map (λ k. first + k * stride) (range_with_len 0 n)
@@ -28,12 +25,12 @@ kept-others : (f : ℕ → ℕ) (place a n : ℕ) → ((i : ℕ) → a ≤ i →
     → filter (λ d. not (eqb d place)) (map f (range_with_len a n)) ≡ map f (range_with_len a n)
 kept-others f place a zero other = refl
 kept-others f place a (suc n) other =
-    rw (ne_eqb (f a) place (other a (omega arith) (omega arith)))
+    rw (ne_eqb _ _ (other a (omega arith) (omega arith)))
     (ap (λ l. f a ∷ l) (kept-others f place (a + 1) n (λ i low lt. other i (omega arith) (omega arith))))
 
-pub line-cut : (first stride k m place : ℕ) → 0 < stride → first + k * stride ≡ place
+pub line-cut : (first stride k m : ℕ) {place : ℕ} → 0 < stride → first + k * stride ≡ place
     → filter (λ d. not (eqb d place)) (line first stride (k + suc m)) ≡ line first stride k ++ line (place + stride) stride m
-line-cut first stride k m place pos here =
+line-cut first stride k m {place} pos here =
     ap (λ r. filter others (map at r)) (range-split 0 k (suc m))
     ∙ ap (filter others) (map-append at (range_with_len 0 k) (range_with_len (0 + k) (suc m)))
     ∙ filter-append others (map at (range_with_len 0 k)) (map at (range_with_len (0 + k) (suc m)))
@@ -53,7 +50,6 @@ line-cut first stride k m place pos here =
 
     behind : filter others (map at (range_with_len (0 + k) (suc m))) ≡ line (place + stride) stride m
     behind =
-        let z : 0 + k ≡ k = omega arith in
-        let y : first + (k + 1) * stride ≡ place + stride = omega arith in
-        rw (z, eq-eqb (at k) place here)
+        let z : 0 + k ≡ k = omega arith in let y : first + (k + 1) * stride ≡ place + stride = omega arith in
+        rw (z, eq-eqb _ _ here)
         (kept-others at place (k + 1) m after ∙ sym (line-from first stride (k + 1) m) ∙ ap (λ n. line n stride m) y)

@@ -11,7 +11,7 @@ step-when false x d e = absurd (cc)
 pub step-up : (size : Extent) (c d : ℕ) → step size c 0 ≡ Some d → d + size.w ≡ c
 unfolding step
 step-up size c d e =
-    let w = step-when (leb 1 (c / size.w)) (c - size.w) d e in let some = leb-true 1 (c / size.w) w.0 in omega (arith, w.1, mul-le-mul_right size.w some)
+    let w = step-when (leb 1 (c / size.w)) (c - size.w) d e in let some = leb-true _ _ w.0 in omega (arith, w.1, mul-le-mul_right size.w some)
 
 pub step-left : (size : Extent) (c d : ℕ) → step size c 1 ≡ Some d → (d + 1 ≡ c) × (1 ≤ c % size.w)
 unfolding step

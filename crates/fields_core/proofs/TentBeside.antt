@@ -3,18 +3,18 @@ use Rattle.fields_core.proofs.Common.{Extent, Some, ap, arith, cases_eq, common_
 use Rattle.fields_core.proofs.StepLaws.{step-up, step-left, step-right, step-down, steps-some}
 
 -- the row and the column of a cell
-pub cell-parts : (w q r d : ℕ) → r < w → d ≡ q * w + r → (d / w ≡ q) × (d % w ≡ r)
-cell-parts w q r d lt e = grind (arith, common_steps, div-mul-add)
+pub cell-parts : {w : ℕ} (q : ℕ) {r : ℕ} (d : ℕ) → r < w → d ≡ q * w + r → (d / w ≡ q) × (d % w ≡ r)
+cell-parts q d lt e = grind (arith, common_steps, div-mul-add)
 
 pub whole-cell : (w c : ℕ) → c ≡ c / w * w + c % w
 whole-cell w c = omega arith
 
 -- a cell one row further down, and one column further right
 pub cell-below : {w : ℕ} (c : ℕ) → 0 < w → ((c + w) / w ≡ c / w + 1) × ((c + w) % w ≡ c % w)
-cell-below {w} c pos = cell-parts w (c / w + 1) (c % w) (c + w) (mod-lt c pos) (omega (arith, whole-cell w c))
+cell-below {w} c pos = cell-parts (c / w + 1) (c + w) (mod-lt c pos) (omega (arith, whole-cell w c))
 
-pub cell-after : (w c : ℕ) → c % w + 1 < w → ((c + 1) / w ≡ c / w) × ((c + 1) % w ≡ c % w + 1)
-cell-after w c lt = cell-parts w (c / w) (c % w + 1) (c + 1) lt (omega (arith, whole-cell w c))
+pub cell-after : {w : ℕ} (c : ℕ) → c % w + 1 < w → ((c + 1) / w ≡ c / w) × ((c + 1) % w ≡ c % w + 1)
+cell-after {w} c lt = cell-parts (c / w) (c + 1) lt (omega (arith, whole-cell w c))
 
 pub row-in : {w : ℕ} (h c : ℕ) → 0 < w → c < w * h → c / w < h
 row-in h c pos lt = (div-lt_iff_lt-mul pos).1 (omega arith)
@@ -27,36 +27,31 @@ back : (size : Extent) (t c k : ℕ) → 0 < size.w → t < size.w * size.h → 
     → step size t k ≡ Some c → (m : ℕ) × (m < 4) × (step size c m ≡ Some t)
 unfolding step
 back size t c zero pos lt lc less e =
-    let u = step-up size t c e in
-    let v = cell-below c pos in
+    let u = step-up size t c e in let v = cell-below c pos in
     let r : c / size.w + 1 < size.h = let s = row-in size.h t pos lt in
     let q : t / size.w ≡ c / size.w + 1 = ap (λ n. n / size.w) (sym u) ∙ v.0 in omega arith in
-    (3, omega arith, cond-true (ltb (c / size.w + 1) size.h) _ _ (lt-ltb (c / size.w + 1) size.h r) ∙ ap Some u)
+    (3, omega arith, cond-true (ltb (c / size.w + 1) size.h) _ _ (lt-ltb _ _ r) ∙ ap Some u)
 back size t c (suc zero) pos lt lc less e =
-    let u = step-left size t c e in
-    let f : t ≡ c + 1 = omega (arith, u.0) in
-    let whole = whole-cell size.w t in
-    let r = mod-lt t pos in
-    let v = cell-parts size.w (t / size.w) (t % size.w - 1) c (omega arith) (omega (arith, u.1)) in
+    let u = step-left size t c e in let f : t ≡ c + 1 = omega (arith, u.0) in
+    let whole = whole-cell size.w t in let r = mod-lt t pos in
+    let v = cell-parts {w = size.w} (t / size.w) {r = (t % size.w - 1)} c (omega arith) (omega (arith, u.1)) in
     let q : c % size.w + 1 < size.w = omega (arith, v.1, u.1) in
-    (2, omega arith, cond-true (ltb (c % size.w + 1) size.w) _ _ (lt-ltb (c % size.w + 1) size.w q) ∙ ap Some (sym f))
+    (2, omega arith, cond-true (ltb (c % size.w + 1) size.w) _ _ (lt-ltb _ _ q) ∙ ap Some (sym f))
 back size t c (suc (suc zero)) pos lt lc less e =
-    let u = step-right size t c e in
-    let v = cell-after size.w t u.1 in
+    let u = step-right size t c e in let v = cell-after t u.1 in
     let q : 1 ≤ c % size.w = let a : c % size.w ≡ t % size.w + 1 = ap (λ n. n % size.w) u.0 ∙ v.1 in omega arith in
-    (1, omega arith, cond-true (leb 1 (c % size.w)) _ _ (le-leb 1 (c % size.w) q) ∙ ap Some (omega (arith, u.0)))
+    (1, omega arith, cond-true (leb 1 (c % size.w)) _ _ (le-leb _ _ q) ∙ ap Some (omega (arith, u.0)))
 back size t c (suc (suc (suc zero))) pos lt lc less e =
-    let u = step-down size t c e in
-    let v = cell-below t pos in
+    let u = step-down size t c e in let v = cell-below t pos in
     let q : 1 ≤ c / size.w = let a : c / size.w ≡ t / size.w + 1 = ap (λ n. n / size.w) u.0 ∙ v.0 in omega arith in
-    (0, omega arith, cond-true (leb 1 (c / size.w)) _ _ (le-leb 1 (c / size.w) q) ∙ ap Some (omega (arith, u.0)))
+    (0, omega arith, cond-true (leb 1 (c / size.w)) _ _ (le-leb _ _ q) ∙ ap Some (omega (arith, u.0)))
 back size t c (suc (suc (suc (suc k)))) pos lt lc less e = absurd (omega arith)
 
 pub steps-has : (size : Extent) (c n k : ℕ) {d : ℕ} → k < n → step size c k ≡ Some d → has_place (steps size c n) d ≡ true
 unfolding steps has_place
 steps-has size c zero k lt e = absurd (omega arith)
 steps-has size c (suc n) k {d} lt e = elim (cases_eq k n) [
-  | inl same ↦ place-back (steps size c n) (if_there (step size c n)) d (rw (rw same at e) (or_left (eqb d d) false (eq-eqb d d refl)))
+  | inl same ↦ place-back (steps size c n) (if_there (step size c n)) d (rw (rw same at e) (or_left _ _ (eq-eqb d d refl)))
   | inr other ↦ place-front (steps size c n) (if_there (step size c n)) d (steps-has size c n k (omega arith) e)
 ]
 
@@ -69,21 +64,17 @@ step-in : (size : Extent) (c d k : ℕ) → 0 < size.w → c < size.w * size.h �
 step-in size c d zero pos lt less e = omega (arith, step-up size c d e)
 step-in size c d (suc zero) pos lt less e = let u = step-left size c d e in omega (arith, u.0)
 step-in size c d (suc (suc zero)) pos lt less e =
-    let u = step-right size c d e in
-    let v = cell-after size.w c u.1 in
-    let a = row-in size.h c pos lt in
-    let b = ap (λ n. n / size.w) u.0 ∙ v.0 in
+    let u = step-right size c d e in let v = cell-after c u.1 in
+    let a = row-in size.h c pos lt in let b = ap (λ n. n / size.w) u.0 ∙ v.0 in
     cell-in size.h pos (omega arith)
 step-in size c d (suc (suc (suc zero))) pos lt less e =
-    let u = step-down size c d e in
-    let v = cell-below c pos in
-    let b = ap (λ n. n / size.w) u.0 ∙ v.0 in
-    let s = u.1 in
+    let u = step-down size c d e in let v = cell-below c pos in
+    let b = ap (λ n. n / size.w) u.0 ∙ v.0 in let s = u.1 in
     cell-in size.h pos (omega arith)
 step-in size c d (suc (suc (suc (suc k)))) pos lt less e = absurd (omega arith)
 
-pub beside-in : (size : Extent) (c d : ℕ) → 0 < size.w → c < size.w * size.h → has_place (steps size c 4) d ≡ true → d < size.w * size.h
-beside-in size c d pos lt on = let w = steps-some size c 4 d on in step-in size c d w.0 pos lt w.1 w.2
+pub beside-in : (size : Extent) {c : ℕ} (d : ℕ) → 0 < size.w → c < size.w * size.h → has_place (steps size c 4) d ≡ true → d < size.w * size.h
+beside-in size {c} d pos lt on = let w = steps-some size c 4 d on in step-in size c d w.0 pos lt w.1 w.2
 
 -- the one number is the other, or next to it
 abbrev pub IsNextTo : ℕ → ℕ → Type 0
@@ -92,42 +83,34 @@ IsNextTo j k = (j ≡ k) ⊎ ((j + 1 ≡ k) ⊎ (j ≡ k + 1))
 -- a step leads to a cell of the column, or of one beside it
 pub step-across : (size : Extent) (c y x k : ℕ) → x < size.w → k < 4 → step size (y * size.w + x) k ≡ Some c → IsNextTo (c % size.w) x
 step-across size c y x zero lt less e =
-    let own = cell-parts size.w y x (y * size.w + x) lt refl in
-    let up = step-up size _ c e in
+    let own = cell-parts y (y * size.w + x) lt refl in let up = step-up size _ c e in
     inl (sym (cell-below c (omega (arith, lt))).1 ∙ ap (λ n. n % size.w) up ∙ own.1)
 step-across size c y x (suc zero) lt less e =
-    let own = cell-parts size.w y x (y * size.w + x) lt refl in
-    let left = step-left size _ c e in
+    let own = cell-parts y (y * size.w + x) lt refl in let left = step-left size _ c e in
     let some : 1 ≤ x = rw own.1 at left.1 in
-    let at = (cell-parts size.w y (x - 1) c (omega arith) (let a = left.0 in omega arith)).1 in
+    let at = (cell-parts {w = size.w} y {r = (x - 1)} c (omega arith) (let a = left.0 in omega arith)).1 in
     inr (inl (omega arith))
 step-across size c y x (suc (suc zero)) lt less e =
-    let own = cell-parts size.w y x (y * size.w + x) lt refl in
-    let right = step-right size _ c e in
-    inr (inr (ap (λ n. n % size.w) right.0 ∙ (cell-after size.w _ right.1).1 ∙ ap (λ n. n + 1) own.1))
+    let own = cell-parts y (y * size.w + x) lt refl in let right = step-right size _ c e in
+    inr (inr (ap (λ n. n % size.w) right.0 ∙ (cell-after _ right.1).1 ∙ ap (λ n. n + 1) own.1))
 step-across size c y x (suc (suc (suc zero))) lt less e =
-    let own = cell-parts size.w y x (y * size.w + x) lt refl in
-    let down = step-down size _ c e in
+    let own = cell-parts y (y * size.w + x) lt refl in let down = step-down size _ c e in
     inl (ap (λ n. n % size.w) down.0 ∙ (cell-below _ (omega (arith, lt))).1 ∙ own.1)
 step-across size c y x (suc (suc (suc (suc k)))) lt less e = absurd (omega arith)
 
 -- a step leads to a cell of the row, or of one beside it
 pub step-lies : (size : Extent) (c : ℕ) → 0 < size.w → (y x k : ℕ) → x < size.w → k < 4 → step size (y * size.w + x) k ≡ Some c → IsNextTo (c / size.w) y
 step-lies size c pos y x zero lt less e =
-    let own = cell-parts size.w y x (y * size.w + x) lt refl in
-    let up = step-up size _ c e in
+    let own = cell-parts y (y * size.w + x) lt refl in let up = step-up size _ c e in
     inr (inl (sym (cell-below c pos).0 ∙ ap (λ n. n / size.w) up ∙ own.0))
 step-lies size c pos y x (suc zero) lt less e =
-    let own = cell-parts size.w y x (y * size.w + x) lt refl in
-    let left = step-left size _ c e in
+    let own = cell-parts y (y * size.w + x) lt refl in let left = step-left size _ c e in
     let some : 1 ≤ x = rw own.1 at left.1 in
-    inl (cell-parts size.w y (x - 1) c (omega arith) (let a = left.0 in omega arith)).0
+    inl (cell-parts {w = size.w} y {r = (x - 1)} c (omega arith) (let a = left.0 in omega arith)).0
 step-lies size c pos y x (suc (suc zero)) lt less e =
-    let own = cell-parts size.w y x (y * size.w + x) lt refl in
-    let right = step-right size _ c e in
-    inl (ap (λ n. n / size.w) right.0 ∙ (cell-after size.w _ right.1).0 ∙ own.0)
+    let own = cell-parts y (y * size.w + x) lt refl in let right = step-right size _ c e in
+    inl (ap (λ n. n / size.w) right.0 ∙ (cell-after _ right.1).0 ∙ own.0)
 step-lies size c pos y x (suc (suc (suc zero))) lt less e =
-    let own = cell-parts size.w y x (y * size.w + x) lt refl in
-    let down = step-down size _ c e in
+    let own = cell-parts y (y * size.w + x) lt refl in let down = step-down size _ c e in
     inr (inr (ap (λ n. n / size.w) down.0 ∙ (cell-below _ pos).0 ∙ ap (λ n. n + 1) own.0))
 step-lies size c pos y x (suc (suc (suc (suc k)))) lt less e = absurd (omega arith)

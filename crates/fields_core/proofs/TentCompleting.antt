@@ -17,19 +17,19 @@ record AreSpanned (n a b : ℕ) : Type 0 where
   pub one_in : (eqb a first || eqb a (first + 1)) ≡ true
   pub other_in : (eqb b first || eqb b (first + 1)) ≡ true
 
-spanned : (n a b : ℕ) → 2 ≤ n → a < n → b < n → a ≤ b + 1 → b ≤ a + 1 → AreSpanned n a b
-spanned n a b two la lb ab ba = elim (cases_lt a b) [
+spanned : {n a b : ℕ} → 2 ≤ n → a < n → b < n → a ≤ b + 1 → b ≤ a + 1 → AreSpanned n a b
+spanned {n} {a} {b} two la lb ab ba = elim (cases_lt a b) [
   | inl less ↦ record {
     first = a;
     within = omega arith;
     one_in = or_left _ _ (eq-eqb a a refl);
-    other_in = or_right (eqb b a) _ (eq-eqb b (a + 1) (omega arith));
+    other_in = or_right _ _ (eq-eqb b (a + 1) (omega arith));
   }
   | inr most ↦ elim (cases_lt b a) [
     | inl more ↦ record {
       first = b;
       within = omega arith;
-      one_in = or_right (eqb a b) _ (eq-eqb a (b + 1) (omega arith));
+      one_in = or_right _ _ (eq-eqb a (b + 1) (omega arith));
       other_in = or_left _ _ (eq-eqb b b refl);
     }
     | inr same ↦ elim (cases_lt (a + 1) n) [
@@ -42,8 +42,8 @@ spanned n a b two la lb ab ba = elim (cases_lt a b) [
       | inr last ↦ record {
         first = a - 1;
         within = omega arith;
-        one_in = or_right (eqb a (a - 1)) _ (eq-eqb a (a - 1 + 1) (omega arith));
-        other_in = or_right (eqb b (a - 1)) _ (eq-eqb b (a - 1 + 1) (omega arith));
+        one_in = or_right _ _ (eq-eqb a (a - 1 + 1) (omega arith));
+        other_in = or_right _ _ (eq-eqb b (a - 1 + 1) (omega arith));
       }
     ]
   ]
@@ -53,76 +53,68 @@ module _ (p : Tents) (g : List ℕ) (is : IsTents p) (grid : IsGrid (tent_cells 
   trees-right : (c : ℕ) → c < tent_cells p → tree_right p g c ≡ true
   unfolding tree_right is_barred
   trees-right c lt = elim (cases_Bool (tree p c)) [
-    | inl on ↦ or_right (not (tree p c)) _ (eq-eqb _ 0 (met.blocked_zero c lt (or_left (tree p c) _ on)))
-    | inr off ↦ or_left (not (tree p c)) _ (ap not off)
+    | inl on ↦ or_right _ _ (eq-eqb _ _ (met.blocked_zero c lt (or_left _ _ on)))
+    | inr off ↦ or_left _ _ (ap not off)
   ]
 
   -- ---- lines
   exact : (n : ℕ) (places : List ℕ) → meets (exactly n places) g ≡ true → eqb (count_by (tent g) places) n ≡ true
   unfolding meets
   exact n places on =
-      let parts = and_parts _ _ on in
-      let least = leb-true n (nonzeros (map (slice_index g) places)) parts.0 in
+      let parts = and_parts _ _ on in let least = leb-true n (nonzeros (map (slice_index g) places)) parts.0 in
       let most = leb-true (nonzeros (map (slice_index g) places)) n parts.1 in
       eq-eqb _ n (omega (arith, least, most, ones-bulbs g places (small-at grid)))
 
   columns-right : (x : ℕ) → x < p.size.w → column_right p g x ≡ true
   unfolding column_right tent_houses
   columns-right x lt = exact (slice_index p.counts x) (column_places p.size x)
-      (among-met (exactly (slice_index p.counts x) (column_places p.size x)) met (among-front _ (houses_below (column_of_tents p) p.size.w) _
-      (among-below _ (column_of_tents p) x p.size.w lt (among-one _))) (omega (arith, column-long p.size x, is.size.h_two)))
+      (among-met met (among-front _
+      (among-below _ (column_of_tents p) lt (among-one _))) (omega (arith, column-long p.size x, is.size.h_two)))
 
   rows-right : (y : ℕ) → y < p.size.h → row_right p g y ≡ true
   unfolding row_right tent_houses
   rows-right y lt = exact (slice_index p.counts (p.size.w + y)) (row_places p.size y)
-      (among-met (exactly (slice_index p.counts (p.size.w + y)) (row_places p.size y)) met (among-back _ (houses_below (column_of_tents p) p.size.w) _
-      (among-front _ (houses_below (row_of_tents p) p.size.h) _
-      (among-below _ (row_of_tents p) y p.size.h lt (among-one _)))) (omega (arith, row-long p.size y, is.size.w_two)))
+      (among-met met (among-back (houses_below (column_of_tents p) p.size.w)
+      (among-front _
+      (among-below _ (row_of_tents p) lt (among-one _)))) (omega (arith, row-long p.size y, is.size.w_two)))
 
   -- ---- squares
   square-met : (c : ℕ) → c < tent_cells p → c % p.size.w + 1 < p.size.w → c / p.size.w + 1 < p.size.h → meets (one_at_most (square_places p.size.w c)) g ≡ true
   unfolding tent_houses
-  square-met c lt wide tall = among-met (one_at_most (square_places p.size.w c)) met (among-back _ (houses_below (column_of_tents p) p.size.w) _
-      (among-back _ (houses_below (row_of_tents p) p.size.h) _ (among-back _ (houses_below (tree_house p) (tent_cells p)) _
-      (among-below _ (square_house p) c (tent_cells p) lt (rw (lt-ltb _ _ wide, lt-ltb _ _ tall) (among-one _)))))) (omega arith)
+  square-met c lt wide tall = among-met met (among-back (houses_below (column_of_tents p) p.size.w)
+      (among-back (houses_below (row_of_tents p) p.size.h) (among-back (houses_below (tree_house p) (tent_cells p))
+      (among-below _ (square_house p) lt (rw (lt-ltb _ _ wide, lt-ltb _ _ tall) (among-one _)))))) (omega arith)
 
   -- two tents that touch would stand in one square
   apart : (c d : ℕ) → c < tent_cells p → d < tent_cells p → tent g c ≡ true → tent g d ≡ true → touches p.size c d ≡ true → ⊥
   unfolding touches meets
   apart c d lc ld tc td on =
-      let w = p.size.w in
-      let some : 0 < p.size.w = omega (arith, is.size.w_two) in
-      let parts = and_parts (not (eqb c d)) _ on in
-      let near = and_parts _ _ parts.1 in
-      let rows = and_parts _ _ near.0 in
-      let columns = and_parts _ _ near.1 in
-      let y = spanned p.size.h (c / w) (d / w) is.size.h_two (row-in p.size.h c some lc) (row-in p.size.h d some ld)
+      let w = p.size.w in let some : 0 < p.size.w = omega (arith, is.size.w_two) in
+      let parts = and_parts (not (eqb c d)) _ on in let near = and_parts _ _ parts.1 in
+      let rows = and_parts _ _ near.0 in let columns = and_parts _ _ near.1 in
+      let y = spanned {n = p.size.h} {a = c / w} {b = d / w} is.size.h_two (row-in p.size.h c some lc) (row-in p.size.h d some ld)
       (leb-true (c / w) (d / w + 1) rows.0) (leb-true (d / w) (c / w + 1) rows.1) in
-      let x = spanned w (c % w) (d % w) is.size.w_two (mod-lt c some) (mod-lt d some)
+      let x = spanned {n = w} {a = c % w} {b = d % w} is.size.w_two (mod-lt c some) (mod-lt d some)
       (leb-true (c % w) (d % w + 1) columns.0) (leb-true (d % w) (c % w + 1) columns.1) in
-      let at = y.first * w + x.first in
-      let own = cell-parts w y.first x.first at (omega (arith, x.within)) refl in
+      let at = y.first * w + x.first in let own = cell-parts {w = w} y.first {r = x.first} at (omega (arith, x.within)) refl in
       let wide : at % w + 1 < w = omega (arith, own.1, x.within) in
       let tall : at / w + 1 < p.size.h = omega (arith, own.0, y.within) in
       let inside : at < tent_cells p = cell-in p.size.h some (omega (arith, own.0, y.within)) in
-      let counts = and_parts _ _ (square-met at inside wide tall) in
-      let few = leb-true (nonzeros (map (slice_index g) (square_places w at))) 1 counts.1 in
+      let counts = and_parts _ _ (square-met at inside wide tall) in let few = leb-true (nonzeros (map (slice_index g) (square_places w at))) 1 counts.1 in
       omega (
         arith,
         few,
         ones-bulbs g (square_places w at) (small-at grid),
         count-two (tent g) (square_places w at) c d
-            (square-has w y.first x.first c x.within ∙ and_from _ _ y.one_in x.one_in) (square-has w y.first x.first d x.within ∙ and_from _ _ y.other_in x.other_in) tc td
-            (λ e. true≢false (sym (eq-eqb c d e) ∙ not-true (eqb c d) parts.0)),
+            (square-has y.first x.first c x.within ∙ and_from _ _ y.one_in x.one_in) (square-has y.first x.first d x.within ∙ and_from _ _ y.other_in x.other_in) tc td
+            (λ e. true≢false (sym (eq-eqb _ _ e) ∙ not-true _ parts.0)),
       )
 
   touch-right : (c : ℕ) → c < tent_cells p → touch_right p g c ≡ true
   unfolding touch_right
   touch-right c lt = ap not (false_from_ne_true _ (λ both.
-      let on = and_parts _ _ both in
-      let w = any_below-some _ _ on.1 in
-      let seen = and_parts _ _ w.2 in
-      apart c w.0 lt w.1 on.0 seen.1 seen.0))
+      let on = and_parts _ _ both in let w = any_below-some _ _ on.1 in
+      let seen = and_parts _ _ w.2 in apart c w.0 lt w.1 on.0 seen.1 seen.0))
 
   pub completed : can_be_paired p g ≡ solves_tents p g
   completed = elim (cases_Bool (can_be_paired p g)) [

@@ -1,5 +1,5 @@
 -- The count houses of Tents keep to what every rule set of count houses keeps to.
-use Rattle.fields_core.proofs.Common.{AreCounts, AreDistinct, Extent, IsCounting, IsGrid, IsLawful, IsTents, List, Tents, [], all_below, all_below-at, and_from, and_parts, any_below-here, ap, are_near, arith, can_be_paired, cases_eq, cases_lt, column-at, column_of_tents, column_places, column_right, common_steps, count-lawful, count_by-le-length, distinct-filter, eq-eqb, eqb, eqb-true, exactly, false_from_ne_true, filling_from_test, filter, free_beside, get_or, get_or-map, get_or-map-range_with_len, get_or-range_with_len, get_or_past, has_place, has_place-at, has_place-here, has_value, has_value_below, inl, inr, is_barred, le-leb, leaves_none_out, length, length-map, length-map-range_with_len, length-range_with_len, list_any, ltb, ltb-true, mul-le-mul_right, names_none_twice, ne_eqb, not, not-true, one_at_least, one_at_most, or_cases, place-filter, place-kept, range_with_len, row-at, row_of_tents, row_places, row_right, slice_index, solves_tents, square_house, steps, suc, sym, tent, tent_cells, tent_houses, tent_rules, tents_in_column, touch_right, touches, tree, tree_house, tree_right, trees_beside, true, true≢false, zero, ℕ, ◌%◌, ◌&&◌, ◌+◌, ◌/◌, ◌<◌, ◌||◌, ◌∙◌, ◌∷◌, ◌≡◌, ◌≤◌}
+use Rattle.fields_core.proofs.Common.{AreCounts, AreDistinct, Extent, IsCounting, IsGrid, IsLawful, IsTents, List, Tents, [], all_below, all_below-at, and_from, and_parts, any_below-here, ap, are_near, arith, can_be_paired, cases_eq, cases_lt, column-at, column_of_tents, column_places, column_right, common_steps, count-lawful, count_by-le-length, distinct-filter, eq-eqb, eqb, eqb-true, exactly, false_from_ne_true, filling_from_test, filter, free_beside, get_or, get_or-map, get_or-map-range_with_len, get_or-range_with_len, get_or_past, has_place, has_place-at, has_place-here, has_value, has_value_below, inl, inr, is_barred, le-leb, leaves_none_out, length, length-map, length-map-range_with_len, length-range_with_len, ltb, ltb-true, mul-le-mul_right, names_none_twice, ne_eqb, not, not-true, one_at_least, one_at_most, or_cases, place-filter, place-kept, range_with_len, row-at, row_of_tents, row_places, row_right, slice_index, solves_tents, square_house, steps, suc, sym, tent, tent_cells, tent_houses, tent_rules, touch_right, touches, tree, tree_house, tree_right, trees_beside, true, true≢false, zero, ℕ, ◌%◌, ◌&&◌, ◌+◌, ◌/◌, ◌<◌, ◌||◌, ◌∙◌, ◌∷◌, ◌≡◌, ◌≤◌}
 use Rattle.grid_core.specs.Lines.{line_cells}
 use Rattle.fields_core.proofs.HouseLists.{row-long, column-long}
 use Rattle.fields_core.proofs.PlaceLists.{count-some, count-one, filter-few}
@@ -29,31 +29,22 @@ pub record IsField (p : Tents) : Type 0 where
   pub number : (k : ℕ) → slice_index p.counts k ≤ 256
 
 -- ---- columns and rows
-column-within : (p : Tents) {x d : ℕ} → x < p.size.w → has_place (column_places p.size x) d ≡ true → d < tent_cells p
-column-within p lt on = grind (arith, common_steps, has_place-at, column-long, column-at, mul-le-mul_right)
-
-row-within : (p : Tents) {y d : ℕ} → y < p.size.h → has_place (row_places p.size y) d ≡ true → d < tent_cells p
-row-within p lt on = grind (arith, common_steps, has_place-at, row-long, row-at, mul-le-mul_right)
-
 column-kind : (p : Tents) (x : ℕ) → IsField p → x < p.size.w → IsMet (tent_cells p) (solves_tents p) (exactly (slice_index p.counts x) (column_places p.size x))
 unfolding column_right
-column-kind p x field lt = met-from (λ d on. column-within p lt on) (column-distinct p.size x field.some)
+column-kind p x field lt = met-from (λ d on. grind (arith, common_steps, has_place-at, column-long, column-at, mul-le-mul_right)) (column-distinct p.size x field.some)
     (omega (arith, column-long p.size x, field.h_few)) (omega (arith, field.number x)) (omega (arith, field.number x)) (λ g grid good.
-    let e = eqb-true (tents_in_column p.size g x) (slice_index p.counts x) (all_below-at _ p.size.w x (tents-parts p g good).columns lt) in
-    (omega arith, omega arith))
+    let e = eqb-true _ _ (all_below-at _ p.size.w x (tents-parts p g good).columns lt) in (omega arith, omega arith))
 
-row-kind : (p : Tents) (y : ℕ) → IsField p → y < p.size.h
-    → IsMet (tent_cells p) (solves_tents p)
+row-kind : (p : Tents) (y : ℕ) → IsField p → y < p.size.h → IsMet (tent_cells p) (solves_tents p)
     (exactly (slice_index p.counts (p.size.w + y)) (row_places p.size y))
 unfolding row_right
-row-kind p y field lt = met-from (λ d on. row-within p lt on) (row-distinct p.size y)
+row-kind p y field lt = met-from (λ d on. grind (arith, common_steps, has_place-at, row-long, row-at, mul-le-mul_right)) (row-distinct p.size y)
     (omega (arith, row-long p.size y, field.w_few)) (omega (arith, field.number (p.size.w + y))) (omega (arith, field.number (p.size.w + y))) (λ g grid good.
-    let e = eqb-true _ _ (all_below-at _ p.size.h y (tents-parts p g good).rows lt) in
-    (omega arith, omega arith))
+    let e = eqb-true _ _ (all_below-at _ p.size.h y (tents-parts p g good).rows lt) in (omega arith, omega arith))
 
 -- ---- trees and their tents
-pub tent-in : (g : List ℕ) (cells d : ℕ) → length g ≡ cells → tent g d ≡ true → d < cells
-tent-in g cells d long on = grind (arith, common_steps, cases_lt, eqb-true, slice_index, get_or_past)
+pub tent-in : (g : List ℕ) {cells : ℕ} (d : ℕ) → length g ≡ cells → tent g d ≡ true → d < cells
+tent-in g d long on = grind (arith, common_steps, cases_lt, eqb-true, slice_index, get_or_past)
 
 set-has : (p : Tents) (t : ℕ) {c : ℕ} → has_value (trees_beside p t) c ≡ true → (c < tent_cells p) × (tree p c ≡ true) × (has_place (steps p.size t 4) c ≡ true)
 set-has p t on = grind (arith, common_steps, has_value_below, length-map-range_with_len, get_or-map-range_with_len, and_parts)
@@ -65,8 +56,7 @@ tents_of p g = filter (tent g) (range_with_len 0 (tent_cells p))
 -- a list that gives each tent a tree beside it, names no tree twice and leaves none out
 pub record IsGiven (p : Tents) (g chosen : List ℕ) : Type 0 where
   pub long : length chosen ≡ length (tents_of p g)
-  pub each : (k : ℕ) → k < length (tents_of p g)
-      → (slice_index chosen k < tent_cells p) × (tree p (slice_index chosen k) ≡ true)
+  pub each : (k : ℕ) → k < length (tents_of p g) → (slice_index chosen k < tent_cells p) × (tree p (slice_index chosen k) ≡ true)
       × (has_place (steps p.size (slice_index (tents_of p g) k) 4) (slice_index chosen k) ≡ true)
   pub none_twice : names_none_twice chosen ≡ true
   pub none_out : (c : ℕ) → c < tent_cells p → tree p c ≡ true → has_place chosen c ≡ true
@@ -87,73 +77,63 @@ given p g paired =
             ∙ fills.each k (omega (arith, length-map (filter (tent g) (range_with_len 0 (tent_cells p))) (trees_beside p))));
         none_twice = tests.0;
         none_out =
-            λ c lt on. elim (or_cases (not (tree p c)) _
+            λ c lt on. elim (or_cases _ _
             (all_below-at (λ c. not (tree p c) || has_place w.0 c) _ c tests.1 lt)) [
-              | inl bare ↦ absurd (true≢false (sym on ∙ not-true (tree p c) bare))
+              | inl bare ↦ absurd (true≢false (sym on ∙ not-true _ bare))
               | inr here ↦ here
             ];
       },
     )
 
-pub in-range : {n : ℕ} (c : ℕ) → c < n → has_place (range_with_len 0 n) c ≡ true
-in-range {n} c lt =
+pub in-range : {n : ℕ} {c : ℕ} → c < n → has_place (range_with_len 0 n) c ≡ true
+in-range {n} {c} lt =
     rw (let z : 0 + c ≡ c = omega arith in get_or-range_with_len 0 n c 0 lt ∙ z) at (has_place-here
     (range_with_len 0 n) c (omega (arith, length-range_with_len 0 n)))
 
 -- a tree has a tent beside it
-tree-tent : (p : Tents) (g : List ℕ) → IsGrid (tent_cells p) 2 g → solves_tents p g ≡ true → (c : ℕ)
+tree-tent : (p : Tents) {g : List ℕ} → IsGrid (tent_cells p) 2 g → solves_tents p g ≡ true → {c : ℕ}
     → c < tent_cells p → tree p c ≡ true → (t : ℕ) × (t < tent_cells p) × (tent g t ≡ true)
     × (has_place (steps p.size t 4) c ≡ true)
 unfolding tents_of
-tree-tent p g grid good c lt on =
-    let v = given p g (tents-parts p g good).paired in
-    let is = v.1 in
-    let w = has_place-at v.0 c (is.none_out c lt on) in
-    let k : w.0 < length (tents_of p g) = omega (arith, w.1, is.long) in
-    let tents = filter (tent g) (range_with_len 0 (tent_cells p)) in
-    let t = slice_index tents w.0 in
+tree-tent p {g} grid good {c} lt on =
+    let v = given p g (tents-parts p g good).paired in let is = v.1 in
+    let w = has_place-at v.0 c (is.none_out c lt on) in let k : w.0 < length (tents_of p g) = omega (arith, w.1, is.long) in
+    let tents = filter (tent g) (range_with_len 0 (tent_cells p)) in let t = slice_index tents w.0 in
     let member = place-filter (tent g) _ t (has_place-here tents w.0 k) in
-    (t, tent-in g (tent_cells p) t grid.each_cell member.1, member.1, rw w.2 at (is.each w.0 k).2)
+    (t, tent-in g t grid.each_cell member.1, member.1, rw w.2 at (is.each w.0 k).2)
 
 -- a tent has a tree beside it
-tent-tree : (p : Tents) (g : List ℕ) → IsGrid (tent_cells p) 2 g → solves_tents p g ≡ true → (t : ℕ)
+tent-tree : (p : Tents) {g : List ℕ} → IsGrid (tent_cells p) 2 g → solves_tents p g ≡ true → (t : ℕ)
     → tent g t ≡ true → (c : ℕ) × (tree p c ≡ true) × (has_place (steps p.size t 4) c ≡ true)
 unfolding tents_of
-tent-tree p g grid good t on =
-    let v = given p g (tents-parts p g good).paired in
-    let is = v.1 in
+tent-tree p {g} grid good t on =
+    let v = given p g (tents-parts p g good).paired in let is = v.1 in
     let tents = filter (tent g) (range_with_len 0 (tent_cells p)) in
-    let w = has_place-at tents t (place-kept (tent g) (range_with_len 0 (tent_cells p)) t (in-range t (tent-in g (tent_cells p) t grid.each_cell on)) on) in
-    let e = is.each w.0 w.1 in
-    (slice_index v.0 w.0, e.1, rw w.2 at e.2)
+    let w = has_place-at tents t (place-kept (tent g) (range_with_len 0 (tent_cells p)) t (in-range (tent-in g t grid.each_cell on)) on) in
+    let e = is.each w.0 w.1 in (slice_index v.0 w.0, e.1, rw w.2 at e.2)
 
 -- no tent stands on a tree
 tree-bare : (p : Tents) (g : List ℕ) → solves_tents p g ≡ true → {c : ℕ} → c < tent_cells p → tree p c ≡ true → slice_index g c ≡ 0
 unfolding tree_right
 tree-bare p g good {c} lt on =
-    elim (or_cases (not (tree p c)) _
+    elim (or_cases _ _
     (all_below-at _ _ c (tents-parts p g good).trees lt)) [
-      | inl bare ↦ absurd (true≢false (sym on ∙ not-true (tree p c) bare))
-      | inr none ↦ eqb-true _ 0 none
+      | inl bare ↦ absurd (true≢false (sym on ∙ not-true _ bare))
+      | inr none ↦ eqb-true _ _ none
     ]
 
-pub free-few : (p : Tents) (c : ℕ) → length (free_beside p c) ≤ 4
-free-few p c = grind (arith, common_steps, filter-few, tree, steps-few)
-
-tree-kind : (p : Tents) (c : ℕ) → IsField p → c < tent_cells p → tree p c ≡ true → IsMet (tent_cells p) (solves_tents p) (one_at_least (free_beside p c))
-tree-kind p c field lt on = met-from
-    (λ d m. beside-in p.size c d field.some lt (place-filter (λ d. not (tree p d)) (steps p.size c 4) d m).0)
+tree-kind : {p : Tents} {c : ℕ} → IsField p → c < tent_cells p → tree p c ≡ true → IsMet (tent_cells p) (solves_tents p) (one_at_least (free_beside p c))
+tree-kind {p} {c} field lt on = met-from
+    (λ d m. beside-in p.size d field.some lt (place-filter (λ d. not (tree p d)) (steps p.size c 4) d m).0)
     (distinct-filter (λ d. not (tree p d)) (steps p.size c 4) (steps-distinct p.size c 4 field.some (omega arith))) few (omega arith) few (λ g grid good.
-    let w = tree-tent p g grid good c lt on in
+    let w = tree-tent p grid good lt on in
     let free : not (tree p w.0) ≡ true =
-    ap not (false_from_ne_true (tree p w.0)
-    (λ is. let z = tree-bare p g good w.1 is in let o = eqb-true (slice_index g w.0) 1 w.2 in
-    absurd (omega arith))) in
+    ap not (false_from_ne_true _ (λ is. let z = tree-bare p g good w.1 is in let o = eqb-true _ _ w.2 in absurd (omega arith))) in
     let m = place-kept (λ d. not (tree p d)) (steps p.size c 4) w.0 (beside-both p.size field.some w.1 lt w.3) free in
     (count-some (tent g) (free_beside p c) w.0 m w.2, count_by-le-length (tent g) (free_beside p c)))
   where
     few : length (free_beside p c) ≤ 512
-    few = omega (arith, free-few p c)
+    few = let z : length (free_beside p c) ≤ 4 = grind (arith, common_steps, filter-few, tree, steps-few) in omega (arith, z)
 
 -- ---- squares
 abbrev square_at : ℕ → ℕ → List ℕ
@@ -170,41 +150,41 @@ in-square : {w : ℕ} (c d : ℕ) → c % w + 1 < w → has_place (square_at w c
 unfolding has_place
 in-square c d lt on = grind (arith, common_steps, or_cases, eqb-true, cell-after, cell-below)
 
-square-apart : (p : Tents) (g : List ℕ) → IsGrid (tent_cells p) 2 g → solves_tents p g ≡ true
-    → (c d e : ℕ) → IsInSquare p.size.w c d → IsInSquare p.size.w c e → tent g d ≡ true
+square-apart : (p : Tents) {g : List ℕ} → IsGrid (tent_cells p) 2 g → solves_tents p g ≡ true
+    → {c d e : ℕ} → IsInSquare p.size.w c d → IsInSquare p.size.w c e → tent g d ≡ true
     → tent g e ≡ true → d ≡ e
 unfolding touch_right touches
-square-apart p g grid good c d e sd se td te = elim (cases_eq d e) [
+square-apart p {g} grid good {d} {e} sd se td te = elim (cases_eq d e) [
   | inl same ↦ same
   | inr other ↦
       let a = sd.row_low in let b = sd.row_high in let f = se.row_low in let h = se.row_high in
       let i = sd.column_low in let j = sd.column_high in let k = se.column_low in let l = se.column_high in
-      let near = and_from _ _ (ap not (ne_eqb d e other)) (and_from _ _
+      let near = and_from _ _ (ap not (ne_eqb _ _ other)) (and_from _ _
       (and_from _ _ (le-leb (d / p.size.w) (e / p.size.w + 1) (omega arith)) (le-leb (e / p.size.w) (d / p.size.w + 1) (omega arith)))
       (and_from _ _ (le-leb (d % p.size.w) (e % p.size.w + 1) (omega arith)) (le-leb (e % p.size.w) (d % p.size.w + 1) (omega arith)))) in
       let some =
       any_below-here (λ f. (not
       (eqb d f) && (are_near (d / p.size.w) (f / p.size.w) && are_near (d % p.size.w)
       (f % p.size.w))) && tent g f) (tent_cells p) e
-      (tent-in g (tent_cells p) e grid.each_cell te) (and_from _ _ near te) in
+      (tent-in g e grid.each_cell te) (and_from _ _ near te) in
       absurd (true≢false (sym (and_from _ _ td some)
       ∙ not-true _ (all_below-at (touch_right p g) (tent_cells p) d (tents-parts p g good).touch
-      (tent-in g (tent_cells p) d grid.each_cell td))))
+      (tent-in g d grid.each_cell td))))
 ]
 
 square-distinct : (w c : ℕ) → 1 < w → AreDistinct (square_at w c)
 unfolding has_place
 square-distinct w c two = grind (arith, common_steps, ne_eqb)
 
-square-kind : (p : Tents) (c : ℕ) → IsField p → c % p.size.w + 1 < p.size.w
+square-kind : {p : Tents} (c : ℕ) → IsField p → c % p.size.w + 1 < p.size.w
     → c / p.size.w + 1 < p.size.h → IsMet (tent_cells p) (solves_tents p)
     (one_at_most (square_at p.size.w c))
-square-kind p c field right bottom = met-from
+square-kind {p} c field right bottom = met-from
     (λ d on. let s = in-square c d right on in let a = s.row_high in cell-in p.size.h field.some (omega arith))
     distinct (omega arith) (omega arith) (omega arith) (λ g grid good. (
       omega arith,
       count-one (tent g) (square_at p.size.w c) distinct (λ d e md me td te.
-          square-apart p g grid good c d e (in-square c d right md) (in-square c e right me) td te),
+          square-apart p grid good (in-square c d right md) (in-square c e right me) td te),
     ))
   where
     distinct : AreDistinct (square_at p.size.w c)
@@ -223,12 +203,11 @@ each-met p field =
     (each-append (IsMet (tent_cells p) (solves_tents p)) _ _
     (each-below (IsMet (tent_cells p) (solves_tents p)) (tree_house p) (tent_cells p)
     (λ c lt. each-if (IsMet (tent_cells p) (solves_tents p)) (tree p c) _
-    (λ on. tree-kind p c field lt on)))
+    (λ on. tree-kind field lt on)))
     (each-below (IsMet (tent_cells p) (solves_tents p)) (square_house p) (tent_cells p)
     (λ c lt. each-if (IsMet (tent_cells p) (solves_tents p))
     (ltb (c % p.size.w + 1) p.size.w && ltb (c / p.size.w + 1) p.size.h) _ (λ on.
-    let w = and_parts (ltb (c % p.size.w + 1) p.size.w) (ltb (c / p.size.w + 1) p.size.h) on in
-    square-kind p c field (ltb-true (c % p.size.w + 1) p.size.w w.0) (ltb-true (c / p.size.w + 1) p.size.h w.1))))))
+    let w = and_parts _ _ on in square-kind c field (ltb-true _ _ w.0) (ltb-true _ _ w.1))))))
 
 -- ---- a puzzle's field
 line-few : (size : Extent) (line : ℕ) → size.w ≤ 256 → size.h ≤ 256 → line_cells size line ≤ 256
@@ -247,17 +226,16 @@ unfolding is_barred
 tent-counting {p} is = record {
   few_cells = let b = tent-field is in omega (arith, mul-le-mul_right p.size.h b.w_few);
   are_houses = λ h lt. (each-met p (tent-field is) h lt).is_house;
-  blocked_zero = λ g grid good c lt bare. elim (or_cases (tree p c) _ bare) [
+  blocked_zero = λ g grid good c lt bare. elim (or_cases _ _ bare) [
     | inl on ↦ tree-bare p g good lt on
-    | inr alone ↦ zero-from _ (small-at grid c) (λ one.
-        let w = tent-tree p g grid good c (eq-eqb _ 1 one) in
-        true≢false (sym (any-here (tree p) _ w.0 w.2 w.1) ∙ not-true (list_any (tree p) (steps p.size c 4)) alone))
+    | inr alone ↦ zero-from (small-at grid c) (λ one.
+        let w = tent-tree p grid good c (eq-eqb _ _ one) in true≢false (sym (any-here (tree p) _ w.0 w.2 w.1) ∙ not-true _ alone))
   ];
   meets_each = λ g grid good h lt. (each-met p (tent-field is) h lt).met g grid good;
 }
   where
-    zero-from : (v : ℕ) → v < 2 → (v ≡ 1 → ⊥) → v ≡ 0
-    zero-from v lt none = grind (arith, common_steps, cases_eq v 0)
+    zero-from : {v : ℕ} → v < 2 → (v ≡ 1 → ⊥) → v ≡ 0
+    zero-from {v} lt none = grind (arith, common_steps, cases_eq v 0)
 
-pub tent-lawful : (p : Tents) → IsTents p → IsLawful (tent_rules p)
-tent-lawful p is = count-lawful _ _ _ _ (tent-counting is)
+pub tent-lawful : {p : Tents} → IsTents p → IsLawful (tent_rules p)
+tent-lawful is = count-lawful _ _ _ _ (tent-counting is)

@@ -1,6 +1,5 @@
 -- The houses of lines and of squares of Tents.
-use Rattle.fields_core.proofs.Common.{Tents, [], arith, column_of_tents, common_steps, div-mul-add, one_at_most, place-column, row_of_tents, square_house, tent_house, ℕ, ◌*◌, ◌+◌, ◌<◌, ◌∷◌, ◌≡◌, ◌≤◌}
-use Rattle.fields_core.specs.declared.tents.tent_house.TentHouse.TheVariants.{Column, Row}
+use Rattle.fields_core.proofs.Common.{Tents, [], arith, common_steps, div-mul-add, one_at_most, place-column, square_house, ℕ, ◌*◌, ◌+◌, ◌<◌, ◌∷◌, ◌≡◌, ◌≤◌}
 
 -- the squares, by the column and the row of their top left cells
 pub square-there : (p : Tents) (y x : ℕ) → x + 1 < p.size.w → y + 1 < p.size.h
@@ -11,8 +10,3 @@ pub square-none : (p : Tents) (y x : ℕ) → x < p.size.w → ((x + 1 < p.size.
 square-none p y x lt edge = grind (arith, common_steps, place-column, div-mul-add)
 
 -- the lines
-pub column-named : (p : Tents) (x : ℕ) → x < p.size.w → tent_house p Column x ≡ column_of_tents p x
-column-named p x lt = grind (arith, common_steps)
-
-pub row-named : (p : Tents) (y : ℕ) → y < p.size.h → tent_house p Row y ≡ row_of_tents p y
-row-named p y lt = grind (arith, common_steps)

@@ -1,6 +1,5 @@
 -- The tents of a line, and the cells that a cell can touch.
-use Rattle.fields_core.proofs.Common.{Bool, Extent, List, and_from, and_left, and_parts, any_below, any_below-here, any_below-some, ap, are_near, arith, cases_Bool, cases_lt, common_steps, count_by, div-add-mod', div-mul-add, eq-eqb, eqb, false, false_from_ne_true, inl, inr, le-leb, leb-true, length, min, mod-lt, mod-mul-add, ne_eqb, not, refl, slice_index, suc, sym, take, tent, touches, true, zero, ℕ, ◌%◌, ◌&&◌, ◌*◌, ◌+◌, ◌-◌, ◌/◌, ◌<◌, ◌∙◌, ◌≡◌, ◌≤◌, ◌⊎◌}
-use Rattle.fields_core.specs.TentTouching.{IsTentAmong, IsWindow}
+use Rattle.fields_core.proofs.Common.{Bool, Extent, IsTentAmong, IsWindow, List, and_from, and_left, and_parts, any_below, any_below-here, any_below-some, ap, are_near, arith, cases_Bool, cases_lt, common_steps, count_by, div-add-mod', div-mul-add, eq-eqb, false, false_from_ne_true, inl, inr, le-leb, leb-true, length, min, mod-lt, mod-mul-add, ne_eqb, refl, slice_index, suc, sym, take, tent, touches, true, zero, ℕ, ◌%◌, ◌&&◌, ◌*◌, ◌+◌, ◌-◌, ◌/◌, ◌<◌, ◌∙◌, ◌≡◌, ◌≤◌, ◌⊎◌}
 
 -- so many of the first cells of a line have a tent
 pub record IsLineCounted (g line : List ℕ) (n tents : ℕ) : Type 0 where
@@ -25,7 +24,7 @@ line-all g line n m tents before long ge = grind (arith, common_steps)
 
 -- a cell touches only those that are no further than a row and a cell
 near-parts : (a b : ℕ) → are_near a b ≡ true → (a ≤ b + 1) × (b ≤ a + 1)
-near-parts a b on = let w = and_parts _ _ on in (leb-true a (b + 1) w.0, leb-true b (a + 1) w.1)
+near-parts a b on = let w = and_parts _ _ on in (leb-true _ _ w.0, leb-true _ _ w.1)
 
 -- it lies in the row, and each of its cells is near
 record HasEnds (w a first end : ℕ) : Type 0 where
@@ -40,11 +39,8 @@ record HasEnds (w a first end : ℕ) : Type 0 where
 pub record IsNearWindow (w first end d : ℕ) : Type 0 where
   pub side : ((first ≤ d) × (d < end)) ⊎ (((first - w ≤ d) × (d < end - w)) ⊎ ((first + w ≤ d) × (d < end + w)))
 
-not-same : {a b : ℕ} → not (eqb a b) ≡ true → a ≡ b → ⊥
-not-same off e = grind (arith, common_steps)
-
 near-from : (a b : ℕ) → a ≤ b + 1 → b ≤ a + 1 → are_near a b ≡ true
-near-from a b p q = and_from _ _ (le-leb a (b + 1) p) (le-leb b (a + 1) q)
+near-from a b p q = and_from _ _ (le-leb _ _ p) (le-leb _ _ q)
 
 -- a cell of row v and column u is touched where both are near
 touch-from : (size : Extent) (a d v u : ℕ) → d ≡ v * size.w + u → u < size.w → (d ≡ a → ⊥)
@@ -87,18 +83,15 @@ module _ (size : Extent) {a first end : ℕ} (pos : 0 < size.w) (window : IsWind
 
   pub touch-above : (d : ℕ) → first - size.w ≤ d → d < end - size.w → touches size a d ≡ true
   touch-above d p q =
-      let e = ends in
-      let row = second-row _ size.w (omega arith) in
-      let back = row-before _ size.w row in
-      let third : size.w ≤ first = omega (arith, one-row (a / size.w) size.w row) in
+      let e = ends in let row = second-row _ size.w (omega arith) in
+      let back = row-before _ size.w row in let third : size.w ≤ first = omega (arith, one-row (a / size.w) size.w row) in
       touch-from size a d (a / size.w - 1) (d - (a / size.w - 1) * size.w) (omega arith)
       (omega arith) (omega arith) (omega arith) (omega arith) (omega (arith, here))
       (omega (arith, here))
 
-  pub touch-below : (d : ℕ) → first + size.w ≤ d → d < end + size.w → touches size a d ≡ true
-  touch-below d p q =
-      let e = ends in
-      let next : (a / size.w + 1) * size.w ≡ a / size.w * size.w + size.w = omega arith in
+  pub touch-below : {d : ℕ} → first + size.w ≤ d → d < end + size.w → touches size a d ≡ true
+  touch-below {d} p q =
+      let e = ends in let next : (a / size.w + 1) * size.w ≡ a / size.w * size.w + size.w = omega arith in
       touch-from size a d (a / size.w + 1) (d - (a / size.w + 1) * size.w) (omega arith)
       (omega arith) (omega arith) (omega arith) (omega arith) (omega (arith, here))
       (omega (arith, here))
@@ -111,13 +104,11 @@ module _ (size : Extent) {a first end : ℕ} (pos : 0 < size.w) (window : IsWind
   pub is-touched : (d : ℕ) → touches size a d ≡ true → (d ≡ a → ⊥) × IsNearWindow size.w first end d
   unfolding touches
   is-touched d on =
-      let w = and_parts (not (eqb a d)) _ on in
-      let v = and_parts (are_near (a / size.w) (d / size.w)) _ w.1 in
-      let rows = near-parts (a / size.w) (d / size.w) v.0 in
-      let columns = near-parts (a % size.w) (d % size.w) v.1 in
+      let w = and_parts _ _ on in let v = and_parts _ _ w.1 in
+      let rows = near-parts (a / size.w) (d / size.w) v.0 in let columns = near-parts (a % size.w) (d % size.w) v.1 in
       let there : d ≡ d / size.w * size.w + d % size.w = sym (div-add-mod' d size.w) in
       let at = inside (mod-lt d pos) (omega arith) (omega arith) in (
-        (λ e. not-same w.0 (sym e)),
+        (λ e. grind (arith, common_steps)),
         elim (cases_lt (d / size.w) (a / size.w)) [
           | inl less ↦ let up = row-before (a / size.w) size.w (omega arith) in
               let same : d / size.w ≡ a / size.w - 1 = omega arith in
@@ -143,10 +134,10 @@ module _ (size : Extent) {a first end : ℕ} (pos : 0 < size.w) (window : IsWind
     pub untouched : {from to last : ℕ} {found : Bool} → IsTentAmong g a first end false
         → IsTentAmong g a from to false → IsTentAmong g a (first + size.w) last found
         → from ≡ first - size.w → to ≡ end - size.w → last ≡ min n (end + size.w) → found ≡ false → found ≡ any_below (λ d. touches size a d && tent g d) n
-    untouched beside above below ef et el off = off ∙ none-below _ n (λ d lt. and_left-or d lt)
+    untouched beside above below ef et el off = off ∙ none-below _ n (λ d lt. and_left-or lt)
       where
-        and_left-or : (d : ℕ) → d < n → (touches size a d && tent g d) ≡ false
-        and_left-or d lt = elim (cases_Bool (touches size a d)) [
+        and_left-or : {d : ℕ} → d < n → (touches size a d && tent g d) ≡ false
+        and_left-or {d} lt = elim (cases_Bool (touches size a d)) [
           | inr apart ↦ and_left (touches size a d) (tent g d) apart
           | inl on ↦
               let w = is-touched d on in

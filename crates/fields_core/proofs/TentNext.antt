@@ -39,8 +39,7 @@ next-found {p} {c} {n} {other} wide passed lt at inside on is ge = (
   λ j from_j less. false_from_ne_true _ (λ near.
       let u = counted (tree p) other _ inside on in
       let w = passing-at (tree p) _ j (omega (arith, passing-long (tree p) (tent_cells p))) in
-      let s = steps-some p.size c 4 _ near in
-      let b = w.before in
+      let s = steps-some p.size c 4 _ near in let b = w.before in
       elim (cases_lt s.0 n) [
         | inl early ↦ omega (arith, passed.none s.0 (slice_index (trees_of p) j) early s.2 w.passes)
         | inr late ↦ elim (cases_eq s.0 n) [

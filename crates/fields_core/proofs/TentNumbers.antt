@@ -1,6 +1,5 @@
 -- Numbers below n that pass a test, by how many pass before them.
-use Rattle.grid_core.proofs.Common.{bool_byte}
-use Rattle.fields_core.proofs.Common.{Bool, List, [], add-one, ap, append-nil, arith, cases_Bool, cases_eq, cases_lt, common_steps, cond, count_below, counted, eq-eqb, false, get_or, get_or-append_right, get_or-set_other, get_or-set_same, get_or_append_left, inl, inr, length, length-append, ne_eqb, numbered, refl, set, slice_index, suc, sym, take, tent, true, zero, ℕ, ◌+◌, ◌-◌, ◌<◌, ◌∙◌, ◌∷◌, ◌≡◌, ◌≤◌}
+use Rattle.fields_core.proofs.Common.{Bool, List, [], add-one, ap, append-nil, arith, bool_byte, cases_Bool, cases_eq, cases_lt, common_steps, cond, count_below, counted, eq-eqb, false, get_or, get_or-append_right, get_or-set_other, get_or-set_same, get_or_append_left, inl, inr, length, length-append, ne_eqb, numbered, refl, set, slice_index, suc, sym, take, tent, true, zero, ℕ, ◌+◌, ◌-◌, ◌<◌, ◌∙◌, ◌∷◌, ◌≡◌, ◌≤◌}
 use Rattle.fields_core.proofs.RunLemmas.{passing, passing-more, passing-suc}
 
 pub passing-long : (test : ℕ → Bool) (n : ℕ) → length (passing test n) ≡ count_below test n
@@ -32,9 +31,9 @@ passing-at test n r lt =
     record { below = rw at w.1; passes = rw at w.2; before = rw at w.3 }
 
 -- ---- the tents of a grid, one after another
-pub listed-skip : (g tents : List ℕ) (count n v : ℕ) → take count tents ≡ passing (tent g) n
+pub listed-skip : (g tents : List ℕ) (count n : ℕ) {v : ℕ} → take count tents ≡ passing (tent g) n
     → v ≡ slice_index g n → (v ≡ 1 → ⊥) → take count tents ≡ passing (tent g) (n + 1)
-listed-skip g tents count n v before at none = grind (arith, common_steps, passing-more, ne_eqb, append-nil)
+listed-skip g tents count n before at none = grind (arith, common_steps, passing-more, ne_eqb, append-nil)
 
 pub listed-keep : (g tents : List ℕ) (count n v : ℕ) → take count tents ≡ passing (tent g) n
     → v ≡ slice_index g n → v ≡ 1 → count < length tents
@@ -58,8 +57,8 @@ pub byte-few : (on : Bool) → bool_byte on ≤ 1
 byte-few true = omega arith
 byte-few false = omega arith
 
-pub numbers-more : (test : ℕ → Bool) (numbers : List ℕ) (n k : ℕ)
+pub numbers-more : (test : ℕ → Bool) (numbers : List ℕ) (n : ℕ) {k : ℕ}
     → ((c : ℕ) → c < n → get_or numbers c 0 ≡ count_below test c) → k ≡ count_below test n
     → n < length numbers
     → (c : ℕ) → c < n + 1 → get_or (set numbers n k) c 0 ≡ count_below test c
-numbers-more test numbers n k before e lt c less = grind (arith, common_steps, cases_eq, get_or-set_same, get_or-set_other)
+numbers-more test numbers n before e lt c less = grind (arith, common_steps, cases_eq, get_or-set_same, get_or-set_other)

@@ -1,8 +1,7 @@
 -- Tents on planes: the sides that the memory is for, and what a closing asks of planes.
-use Rattle.fields_core.proofs.Common.{AreBare, AreVisited, Bool, Candidates, Columns, CountHouse, HasBoard, IsInside, IsSweep, IsTents, Layers, List, Rows, Squares, Tents, Trees, [], all_of, all_of_kind, ap, append_assoc, arith, cases_Bool, column_of_tents, column_places, common_steps, exactly, false_from_ne_true, get_or, get_or-append_right, has, houses_below, is_barred, length, length-append, map, needs_of, no_count_house, refl, row_of_tents, row_places, slice_index, solves_tents, square_house, start_of, suc, sym, tent_cells, tent_houses, tent_rules, tree_house, true≢false, zero, ℕ, ◌++◌, ◌+◌, ◌-◌, ◌<◌, ◌∙◌, ◌∷◌, ◌≡◌, ◌≤◌}
+use Rattle.fields_core.proofs.Common.{AreBare, AreTentsWritten, AreVisited, Bool, Candidates, Columns, CountHouse, HasBoard, IsFieldOf, IsInside, IsSweep, Layers, List, Rows, Squares, Tents, Trees, [], all_of, all_of_kind, ap, append_assoc, arith, cases_Bool, column_of_tents, column_places, common_steps, exactly, false_from_ne_true, get_or, get_or-append_right, houses_below, is_barred, length, length-append, map, needs_of, no_count_house, refl, row_of_tents, row_places, slice_index, solves_tents, square_house, start_of, suc, sym, tent_cells, tent_houses, tent_rules, tree_house, true≢false, zero, ℕ, ◌++◌, ◌+◌, ◌-◌, ◌<◌, ◌∙◌, ◌∷◌, ◌≡◌, ◌≤◌}
 use Rattle.engine_core.proofs.StoreLemmas.{scope_le-longest}
 use Rattle.fields_core.proofs.HouseLists.{row-long, column-long}
-use Rattle.fields_core.specs.TentNotes.{AreTentsWritten, IsFieldOf}
 use Rattle.fields_core.specs.declared.planes.tents.tent_notes.TentNotes.{TentNotes}
 use Rattle.fields_core.proofs.PlaneSweeps.{cells-alive, visits-swept}
 use Rattle.fields_core.proofs.TentSquareVisits.{squares-are}
@@ -26,15 +25,13 @@ first-of f (suc (suc n)) rest pos = rw (append_assoc (houses_below (singles f) (
 pub sides-fit : (p : Tents) → 0 < p.size.w → 0 < p.size.h → (p.size.w ≤ (needs_of (tent_rules p)).scope) × (p.size.h ≤ (needs_of (tent_rules p)).scope)
 unfolding tent_houses
 sides-fit p wide high =
-    let columns = houses_below (column_of_tents p) p.size.w in
-    let rows = houses_below (row_of_tents p) p.size.h in
+    let columns = houses_below (column_of_tents p) p.size.w in let rows = houses_below (row_of_tents p) p.size.h in
     let rest = houses_below (tree_house p) (tent_cells p) ++ houses_below (square_house p) (tent_cells p) in
     let long : length columns ≡ p.size.w = singles-long _ p.size.w in
     let long' : length rows ≡ p.size.h = singles-long _ p.size.h in
     let all : p.size.w < length (tent_houses p) =
     omega (arith, length-append columns (rows ++ rest), length-append rows rest, long, long') in
-    let long_of : CountHouse → ℕ = λ house. length house.places in
-    let none : p.size.w - p.size.w ≡ 0 = omega arith in
+    let long_of : CountHouse → ℕ = λ house. length house.places in let none : p.size.w - p.size.w ≡ 0 = omega arith in
     let column = ap long_of (first-of (λ x. exactly (slice_index p.counts x) (column_places p.size x)) p.size.w (rows ++ rest) wide) ∙ column-long p.size 0 in
     let row = ap long_of
     (rw none at (get_or-append_right columns (rows ++ rest) p.size.w p.size.w no_count_house long (omega arith))
@@ -43,16 +40,10 @@ sides-fit p wide high =
       rw column at (scope_le-longest (tent_rules p).scope (length (tent_houses p)) 0 (omega arith)),
     )
 
-pub wide-fits : (p : Tents) → IsTents p → p.size.w ≤ (needs_of (tent_rules p)).scope
-wide-fits p is = let two = is.size in (sides-fit p (omega (arith, two.w_two)) (omega (arith, two.h_two))).0
-
-pub high-fits : (p : Tents) → IsTents p → p.size.h ≤ (needs_of (tent_rules p)).scope
-high-fits p is = let two = is.size in (sides-fit p (omega (arith, two.w_two)) (omega (arith, two.h_two))).1
-
 -- no cell with a tree can have a tent on a board inside the start
-bare-inside : (p : Tents) (K : Candidates) → IsInside K (tent_rules p).start → AreBare p K
+bare-inside : (p : Tents) {K : Candidates} → IsInside K (tent_rules p).start → AreBare p K
 unfolding start_of is_barred
-bare-inside p K inside c is = false_from_ne_true (K c 1) (λ on. true≢false (sym (inside c 1 on) ∙ rw is (grind (arith, common_steps, cases_Bool (all_of (tent_cells p) 2 c 1)))))
+bare-inside p {K} inside c is = false_from_ne_true _ (λ on. true≢false (sym (inside c 1 on) ∙ rw is (grind (arith, common_steps, cases_Bool (all_of (tent_cells p) 2 c 1)))))
 
 -- what a closing asks of planes
 pub field-of : {W : Type 0} {bits : W → ℕ} {room : ℕ} {p : Tents} {notes : TentNotes W} {planes : Layers} → AreTentsWritten bits p notes
@@ -63,7 +54,7 @@ field-of {p = p} {planes = planes} written has_board = record {
   low = has_board.suited.1;
   size = has_board.same_size;
   trees = written.trees;
-  bare = bare-inside p (has planes) has_board.board.inside;
+  bare = bare-inside p has_board.board.inside;
   alive = cells-alive planes has_board.cells has_board.board.alive;
 }
 

@@ -1,6 +1,5 @@
 -- The squares of two rows of Tents, by words of the columns with a cell that has no 0.
-use Rattle.fields_core.proofs.Common.{AllByRecursion, Bool, CountHouse, IsHouse, IsTents, Tents, [], and_from, and_parts, any_below-here, any_below-some, ap, arith, cases_Bool, cases_lt, common_steps, cond, count_by, div-mul-add, eq-eqb, eqb, eqb-true, false, false≢true, has_place, inl, inr, le-ltb, list_any, lt-ltb, ltb, ltb-true, mod-lt, mul-le-mul_right, not, one_at_most, or_cases, or_left, or_right, place-column, refl, square_house, squares_of_row, subst, sym, tent_cells, true, ℕ, ◌%◌, ◌&&◌, ◌*◌, ◌+◌, ◌-◌, ◌/◌, ◌<◌, ◌||◌, ◌∙◌, ◌∷◌, ◌≡◌, ◌≤◌, ◌⊎◌}
-unfoldable use Rattle.grid_core.specs.Planes.{bit_of, crosses, has}
+use Rattle.fields_core.proofs.Common.{AllByRecursion, Bool, CountHouse, IsHouse, IsTents, Tents, [], and_from, and_parts, any_below-here, any_below-some, ap, arith, bit_of, cases_Bool, cases_lt, common_steps, cond, count_by, crosses, div-mul-add, eq-eqb, eqb, eqb-true, false, false≢true, has, has_place, inl, inr, le-ltb, list_any, lt-ltb, ltb, ltb-true, mod-lt, mul-le-mul_right, not, one_at_most, or_cases, or_left, or_right, place-column, refl, square_house, squares_of_row, subst, sym, tent_cells, true, ℕ, ◌%◌, ◌&&◌, ◌*◌, ◌+◌, ◌-◌, ◌/◌, ◌<◌, ◌||◌, ◌∙◌, ◌∷◌, ◌≡◌, ◌≤◌, ◌⊎◌}
 unfoldable use Rattle.fields_core.proofs.AtMostLemmas.{is_met, without_met}
 use Rattle.fields_core.proofs.CellLemmas.{cell-is, same-truth}
 use Rattle.fields_core.proofs.PlaceLists.{count-cons}
@@ -18,15 +17,12 @@ in_columns w x c = eqb (c % w) x || eqb (c % w) (x + 1)
 places-are : (w y x : ℕ) → square_places w (y * w + x)
     ≡ (y * w + x) ∷ (y * w + (x + 1)) ∷ ((y + 1) * w + x) ∷ ((y + 1) * w + (x + 1)) ∷ []
 places-are w y x =
-    let a : y * w + x + 1 ≡ y * w + (x + 1) = omega arith in
-    let d : y * w + x + w + 1 ≡ (y + 1) * w + (x + 1) = omega arith in
-    let b : y * w + x + w ≡ (y + 1) * w + x = omega arith in
-    rw (d, b, a) refl
+    let a : y * w + x + 1 ≡ y * w + (x + 1) = omega arith in let d : y * w + x + w + 1 ≡ (y + 1) * w + (x + 1) = omega arith in
+    let b : y * w + x + w ≡ (y + 1) * w + x = omega arith in rw (d, b, a) refl
 
-pub square-has : (w y x c : ℕ) → x + 1 < w
-    → has_place (square_places w (y * w + x)) c ≡ (in_rows w y c && in_columns w x c)
+pub square-has : {w : ℕ} (y x c : ℕ) → x + 1 < w → has_place (square_places w (y * w + x)) c ≡ (in_rows w y c && in_columns w x c)
 unfolding has_place
-square-has w y x c lt =
+square-has {w} y x c lt =
     ap (λ xs. has_place xs c) (places-are w y x)
     ∙ rw (cell-is w y x c (omega arith), cell-is w y (x + 1) c lt, cell-is w (y + 1) x c (omega arith), cell-is w (y + 1) (x + 1) c lt)
     (by (eqb (c / w) y) (eqb (c / w) (y + 1)) (eqb (c % w) x) (eqb (c % w) (x + 1)))
@@ -71,11 +67,10 @@ module _ (p : Tents) (y : ℕ) (lawful : IsTents p) (low : y + 1 < p.size.h) whe
   w = p.size.w
 
   there : (x : ℕ) → x + 1 < w → square_house p (y * w + x) ≡ one_at_most (square_places w (y * w + x)) ∷ []
-  there x lt =
-      rw (place-column w y x (omega arith), div-mul-add y w x (omega arith), lt-ltb (x + 1) w lt, lt-ltb (y + 1) p.size.h low) refl
+  there x lt = rw (place-column w y x (omega arith), div-mul-add y w x (omega arith), lt-ltb _ _ lt, lt-ltb _ _ low) refl
 
   beyond : (x : ℕ) → x < w → w ≤ x + 1 → square_house p (y * w + x) ≡ []
-  beyond x lt high = rw (place-column w y x lt, le-ltb (x + 1) w high) refl
+  beyond x lt high = rw (place-column w y x lt, le-ltb _ _ high) refl
 
   -- the house of each square
   pub each-square : (P : CountHouse → Type 0) → ((x : ℕ) → x + 1 < w → P (one_at_most (square_places w (y * w + x)))) → AllByRecursion P (squares_of_row p y)
@@ -97,7 +92,7 @@ module _ (p : Tents) (y : ℕ) (lawful : IsTents p) (low : y + 1 < p.size.h) whe
       → list_any test (squares_of_row p y) ≡ true
   some-square test x lt on =
       any-houses test (λ k. square_house p (y * w + k)) w
-      ∙ any_below-here (λ k. list_any test (square_house p (y * w + k))) w x (omega arith) (rw (there x lt) (or_left _ false on))
+      ∙ any_below-here (λ k. list_any test (square_house p (y * w + k))) w x (omega arith) (rw (there x lt) (or_left _ _ on))
 
   square-some : (test : CountHouse → Bool) → list_any test (squares_of_row p y) ≡ true
       → (x : ℕ) × (x + 1 < w) × (test (one_at_most (square_places w (y * w + x))) ≡ true)
@@ -118,13 +113,10 @@ module _ (p : Tents) (y : ℕ) (lawful : IsTents p) (low : y + 1 < p.size.h) whe
       (must_is : (u : ℕ) → must u ≡ (ltb u w && must_in zeros w y u))
       (near_is : (u : ℕ) → u < w → near u ≡ ((must u || (ltb 0 u && must (u - 1))) || must (u + 1))) where
     inside : (u : ℕ) → must u ≡ true → (u < w) × (must_in zeros w y u ≡ true)
-    inside u on = let parts = and_parts _ _ (sym (must_is u) ∙ on) in (ltb-true u w parts.0, parts.1)
+    inside u on = let parts = and_parts _ _ (sym (must_is u) ∙ on) in (ltb-true _ _ parts.0, parts.1)
 
     outside : (u : ℕ) → u < w → must_in zeros w y u ≡ true → must u ≡ true
-    outside u lt on = must_is u ∙ and_from _ _ (lt-ltb u w lt) on
-
-    own-column : (c : ℕ) → in_columns w (c % w) c ≡ true
-    own-column c = or_left (eqb (c % w) (c % w)) (eqb (c % w) (c % w + 1)) (eq-eqb (c % w) (c % w) refl)
+    outside u lt on = must_is u ∙ and_from _ _ (lt-ltb _ _ lt) on
 
     -- a square of a column near one
     near-square : (c : ℕ) → c % w < w → near (c % w) ≡ true
@@ -132,17 +124,16 @@ module _ (p : Tents) (y : ℕ) (lawful : IsTents p) (low : y + 1 < p.size.h) whe
     near-square c lt on = elim (or_cases _ _ (sym (near_is (c % w) lt) ∙ on)) [
       | inl here ↦ elim (or_cases _ _ here) [
         | inl own ↦ elim (cases_lt (c % w + 1) w) [
-          | inl less ↦ (c % w, less, own-column c, or_left (must_in zeros w y (c % w)) (must_in zeros w y (c % w + 1)) (inside (c % w) own).1)
+          | inl less ↦ (c % w, less, or_left _ _ (eq-eqb (c % w) (c % w) refl), or_left (must_in zeros w y (c % w)) (must_in zeros w y (c % w + 1)) (inside (c % w) own).1)
           | inr high ↦ let e : c % w - 1 + 1 ≡ c % w = omega arith in
               (c % w - 1, omega arith, or_right (eqb (c % w) (c % w - 1)) (eqb (c % w) (c % w - 1 + 1)) (eq-eqb (c % w) (c % w - 1 + 1) (sym e)), or_right (must_in zeros w y (c % w - 1)) (must_in zeros w y (c % w - 1 + 1)) (rw e (inside (c % w) own).1))
         ]
         | inr before ↦
-            let parts = and_parts _ _ before in
-            let pos = ltb-true 0 (c % w) parts.0 in
+            let parts = and_parts _ _ before in let pos = ltb-true 0 (c % w) parts.0 in
             let e : c % w - 1 + 1 ≡ c % w = omega arith in
-            (c % w - 1, omega arith, or_right (eqb (c % w) (c % w - 1)) (eqb (c % w) (c % w - 1 + 1)) (eq-eqb (c % w) (c % w - 1 + 1) (sym e)), or_left (must_in zeros w y (c % w - 1)) (must_in zeros w y (c % w - 1 + 1)) (inside (c % w - 1) parts.1).1)
+            (c % w - 1, omega arith, or_right _ _ (eq-eqb (c % w) (c % w - 1 + 1) (sym e)), or_left _ _ (inside (c % w - 1) parts.1).1)
       ]
-      | inr after ↦ let i = inside (c % w + 1) after in (c % w, i.0, own-column c, or_right (must_in zeros w y (c % w)) (must_in zeros w y (c % w + 1)) i.1)
+      | inr after ↦ let i = inside (c % w + 1) after in (c % w, i.0, or_left _ _ (eq-eqb (c % w) (c % w) refl), or_right _ _ i.1)
     ]
 
     square-near : (c x : ℕ) → c % w < w → x + 1 < w → in_columns w x c ≡ true → (must_in zeros w y x || must_in zeros w y (x + 1)) ≡ true
@@ -163,12 +154,10 @@ module _ (p : Tents) (y : ℕ) (lawful : IsTents p) (low : y + 1 < p.size.h) whe
         let lt : c % w < w = mod-lt c (omega arith) in
         same-truth _ _
         (λ on.
-        let parts = and_parts _ _ on in
-        let x = near-square c lt parts.1 in
+        let parts = and_parts _ _ on in let x = near-square c lt parts.1 in
         some-square (λ house. has_place house.places c && list_any (λ d. not (zeros d)) house.places) x.0 x.1
-        (and_from _ _ (square-has w y x.0 c x.1 ∙ and_from _ _ parts.0 x.2) (square-must zeros w y x.0 ∙ x.3)))
+        (and_from _ _ (square-has y x.0 c x.1 ∙ and_from _ _ parts.0 x.2) (square-must zeros w y x.0 ∙ x.3)))
         (λ on.
         let x = square-some (λ house. has_place house.places c && list_any (λ d. not (zeros d)) house.places) on in
-        let parts = and_parts _ _ x.2 in
-        let at = and_parts _ _ (sym (square-has w y x.0 c x.1) ∙ parts.0) in
+        let parts = and_parts _ _ x.2 in let at = and_parts _ _ (sym (square-has y x.0 c x.1) ∙ parts.0) in
         and_from _ _ at.0 (square-near c x.0 lt x.1 at.1 (sym (square-must zeros w y x.0) ∙ parts.1)))

@@ -18,7 +18,7 @@ filled-stays passes K places (inr some) = inr (omega (arith, some, count-stays p
 
 zeros-inside : (passes : ℕ → Bool) (K : Candidates) → IsInside (without_zeros passes K) K
 unfolding without_zeros
-zeros-inside passes K = λ c v on. (and_parts (K c v) _ on).0
+zeros-inside passes K = λ c v on. (and_parts _ _ on).0
 
 -- where only cells that have 1 lose 0, no cell is left without a value
 pub zeros-full : (passes : ℕ → Bool) (K : Candidates) (c : ℕ) → (passes c ≡ true → K c 1 ≡ true) → (K c 0 ≡ true) ⊎ (K c 1 ≡ true)
@@ -44,7 +44,7 @@ abbrev pub AreFilled : Tents → Candidates → ℕ → ℕ → Type 0
 AreFilled p K y n = (x : ℕ) → x < n → tree p (y * p.size.w + x) ≡ true → IsFilled (free_beside p (y * p.size.w + x)) K
 
 struck-one : (p : Tents) (K : Candidates) (y n c : ℕ) → struck p K y n c ≡ true → K c 1 ≡ true
-struck-one p K y n c on = (and_parts (not (tree p c)) (K c 1) (and_parts _ _ on).0).1
+struck-one p K y n c on = (and_parts _ _ (and_parts _ _ on).0).1
 
 module _ (p : Tents) (lawful : IsTents p) (K : Candidates) (y : ℕ) (y_in : y < p.size.h) (two : IsOfTwo K)
     (alive : (c : ℕ) → c < tent_cells p → (K c 0 ≡ true) ⊎ (K c 1 ≡ true)) where
@@ -54,13 +54,12 @@ module _ (p : Tents) (lawful : IsTents p) (K : Candidates) (y : ℕ) (y_in : y <
   house-in : {x : ℕ} → x < p.size.w → tree p (cell x) ≡ true → IsHouse (tent_cells p) (one_at_least (free_beside p (cell x)))
   house-in {x} lt is = tree-is p lawful (place-in p.size.w p.size.h y x y_in lt) is
 
-  next-tree : (n : ℕ) → n < p.size.w → tree p (cell n) ≡ true → IsFilled (free_beside p (cell n)) K
+  next-tree : {n : ℕ} → n < p.size.w → tree p (cell n) ≡ true → IsFilled (free_beside p (cell n)) K
       → after_house (one_at_least (free_beside p (cell n))) (without_zeros (struck p K y n) K) ≡ without_zeros (struck p K y (suc n)) K
   unfolding without_zeros is_beside any_below
-  next-tree n lt is filled =
-      let house = house-in lt is in
-      let J = without_zeros (struck p K y n) K in
-      least-board (tent_cells p) (free_beside p (cell n)) J house
+  next-tree {n} lt is filled =
+      let house = house-in lt is in let J = without_zeros (struck p K y n) K in
+      least-board house
       (λ c there. zeros-full (struck p K y n) K c (struck-one p K y n c) (alive c (house.within c there)))
       (filled-stays (struck p K y n) K (free_beside p (cell n)) filled)
       (λ c v on. two c v (zeros-inside (struck p K y n) K c v on))
@@ -79,7 +78,7 @@ module _ (p : Tents) (lawful : IsTents p) (K : Candidates) (y : ℕ) (y_in : y <
   next-visit : (n : ℕ) → n < p.size.w → AreFilled p K y (suc n) → after_houses (tree_house p (cell n)) (without_zeros (struck p K y n) K) ≡ without_zeros (struck p K y (suc n)) K
   unfolding after_houses
   next-visit n lt filled = elim (cases_Bool (tree p (cell n))) [
-    | inl is ↦ rw is (next-tree n lt is (filled n (omega arith) is))
+    | inl is ↦ rw is (next-tree lt is (filled n (omega arith) is))
     | inr off ↦ rw off (next-bare n off)
   ]
 
@@ -92,18 +91,17 @@ module _ (p : Tents) (lawful : IsTents p) (K : Candidates) (y : ℕ) (y_in : y <
       ∙ next-visit n (omega arith) filled
 
   -- a tree whose free cells can have no tent
-  pub trees-dead : (x d v : ℕ) → x < p.size.w → tree p (cell x) ≡ true → may p K y x ≡ 0 → has_place (free_beside p (cell x)) d ≡ true → v < 2
+  pub trees-dead : {x : ℕ} (d : ℕ) {v : ℕ} → x < p.size.w → tree p (cell x) ≡ true → may p K y x ≡ 0 → has_place (free_beside p (cell x)) d ≡ true → v < 2
       → after_houses (trees_of_row p y) K d v ≡ false
   unfolding after_houses
-  trees-dead x d v lt is none there low =
+  trees-dead {x} d {v} lt is none there low =
       let f : ℕ → List CountHouse = (λ k. tree_house p (cell k)) in
-      let J = after_houses (houses_below f x) K in
-      let w = below-rest f (x + 1) (p.size.w - (x + 1)) in
+      let J = after_houses (houses_below f x) K in let w = below-rest f (x + 1) (p.size.w - (x + 1)) in
       let e : x + 1 + (p.size.w - (x + 1)) ≡ p.size.w = omega arith in
       let split : trees_of_row p y ≡ (houses_below f x ++ f x) ++ w.0 = ap (houses_below f) (sym e) ∙ w.1 ∙ ap (λ (hs : List CountHouse). hs ++ w.0) (below-more f x) in
       let fewer : count_by (λ c. J c 1) (free_beside p (cell x)) ≡ 0 = count-none (λ c. J c 1) (free_beside p (cell x)) (λ c at. false_from_ne_true _ (λ on. absurd (omega (arith, none, count-some (λ c. K c 1) (free_beside p (cell x)) c at (visits-inside (houses_below f x) K c 1 on))))) in
       false_from_ne_true _ (λ on. true≢false (sym (visits-inside w.0 (after_houses (f x) J) d v (rw (split, visits-append (houses_below f x ++ f x) w.0 K, visits-append (houses_below f x) (f x) K) at on))
-      ∙ rw is (least-broken (tent_cells p) (free_beside p (cell x)) J (house-in lt is) fewer d v there low)))
+      ∙ rw is (least-broken (free_beside p (cell x)) J (house-in lt is) fewer d there low)))
 
 -- ---- the planes
 -- of the elements that a filter keeps, those that pass
@@ -125,9 +123,9 @@ module _ (p : Tents) (y : ℕ) (from : Layers) (room : ℕ) (wants some broken :
   full c lt = alive c (rw size lt)
 
   -- a tree wants a tent where there is a free cell beside it
-  wants-at : (x : ℕ) → x < p.size.w → has_bit wants x ≡ (tree p (y * p.size.w + x) && ltb 0 (length (free_beside p (y * p.size.w + x))))
+  wants-at : {x : ℕ} → x < p.size.w → has_bit wants x ≡ (tree p (y * p.size.w + x) && ltb 0 (length (free_beside p (y * p.size.w + x))))
   unfolding wants_tent
-  wants-at x lt = wants_is x ∙ rw (lt-ltb x p.size.w lt, any-count (λ c. not (tree p c)) (beside p.size (y * p.size.w + x)), length-filter (λ c. not (tree p c)) (beside p.size (y * p.size.w + x))) refl
+  wants-at {x} lt = wants_is x ∙ rw (lt-ltb _ _ lt, any-count (λ c. not (tree p c)) (beside p.size (y * p.size.w + x)), length-filter (λ c. not (tree p c)) (beside p.size (y * p.size.w + x))) refl
 
   may-is : (x : ℕ) → may p (has from) y x ≡ count_by (λ c. not (tree p c) && has from c 1) (beside p.size (y * p.size.w + x))
   may-is x = count-filtered (λ c. not (tree p c)) (λ c. has from c 1) (beside p.size (y * p.size.w + x))
@@ -135,12 +133,11 @@ module _ (p : Tents) (y : ℕ) (from : Layers) (room : ℕ) (wants some broken :
   -- a tree whose free cells can have no tent
   pub row-dead : any_below (has_bit broken) room ≡ true → AreVisited (trees_of_row p y) from from false
   row-dead on =
-      let w = any_below-some (has_bit broken) room on in
-      let parts = and_parts _ _ (sym (broken_is w.0) ∙ w.2) in
-      let lt : w.0 < p.size.w = ltb-true w.0 p.size.w (and_parts _ _ (sym (wants_is w.0) ∙ parts.0)).0 in
-      let here = and_parts _ _ (sym (wants-at w.0 lt) ∙ parts.0) in
+      let w = any_below-some (has_bit broken) room on in let parts = and_parts _ _ (sym (broken_is w.0) ∙ w.2) in
+      let lt : w.0 < p.size.w = ltb-true _ _ (and_parts _ _ (sym (wants_is w.0) ∙ parts.0)).0 in
+      let here = and_parts _ _ (sym (wants-at lt) ∙ parts.0) in
       let long : 0 < length (free_beside p (y * p.size.w + w.0)) = ltb-true _ _ here.1 in
-      let none : may p (has from) y w.0 ≡ 0 = (let few = ltb-false 0 _ (sym (some_is w.0 lt) ∙ not-true _ parts.1) in omega (arith, few, may-is w.0)) in
+      let none : may p (has from) y w.0 ≡ 0 = (let few = ltb-false _ _ (sym (some_is w.0 lt) ∙ not-true _ parts.1) in omega (arith, few, may-is w.0)) in
       let there = has_place-here (free_beside p (y * p.size.w + w.0)) 0 long in
       let d = slice_index (free_beside p (y * p.size.w + w.0)) 0 in
       record {
@@ -148,7 +145,7 @@ module _ (p : Tents) (y : ℕ) (from : Layers) (room : ℕ) (wants some broken :
         dies = λ _. (
           d,
           rw size ((tree-is p lawful (place-in p.size.w p.size.h y w.0 y_in lt) here.0).within d there),
-          λ v low. trees-dead p lawful (has from) y y_in (value-in from) full w.0 d v lt here.0 none there low,
+          λ v low. trees-dead p lawful (has from) y y_in (value-in from) full d lt here.0 none there low,
         );
         alive = alive;
         further = further-none from;
@@ -156,16 +153,16 @@ module _ (p : Tents) (y : ℕ) (from : Layers) (room : ℕ) (wants some broken :
 
   filled : any_below (has_bit broken) room ≡ false → AreFilled p (has from) y p.size.w
   filled off x lt is = elim (cases_Bool (ltb 0 (length (free_beside p (y * p.size.w + x))))) [
-    | inr none ↦ inl (let few = ltb-false 0 _ none in omega (arith, few))
+    | inr none ↦ inl (let few = ltb-false _ _ none in omega (arith, few))
     | inl on ↦
-        let own : has_bit wants x ≡ true = wants-at x lt ∙ rw (is, on) refl in
+        let own : has_bit wants x ≡ true = wants-at lt ∙ rw (is, on) refl in
         let sound : not (has_bit some x) ≡ false = rw own at (sym (broken_is x) ∙ any_below-none (has_bit broken) room off x (omega arith)) in
-        inr (let more = ltb-true 0 _ (sym (some_is x lt) ∙ not-false _ sound) in omega (arith, more, may-is x))
+        inr (let more = ltb-true _ _ (sym (some_is x lt) ∙ not-false _ sound) in omega (arith, more, may-is x))
   ]
 
   -- a tree with one free cell that can have a tent wants one
-  lone-wants : (x : ℕ) → x < p.size.w → (has_bit wants x && eqb (may p (has from) y x) 1) ≡ lone p (has from) y x
-  lone-wants x lt = rw (wants-at x lt) (by (tree p (y * p.size.w + x)) (length (free_beside p (y * p.size.w + x))) (may p (has from) y x) (count_by-le-length _ (free_beside p (y * p.size.w + x))))
+  lone-wants : {x : ℕ} → x < p.size.w → (has_bit wants x && eqb (may p (has from) y x) 1) ≡ lone p (has from) y x
+  lone-wants {x} lt = rw (wants-at lt) (by (tree p (y * p.size.w + x)) (length (free_beside p (y * p.size.w + x))) (may p (has from) y x) (count_by-le-length _ (free_beside p (y * p.size.w + x))))
     where
       by : (t : Bool) (long may : ℕ) → may ≤ long → ((t && ltb 0 long) && eqb may 1) ≡ (t && eqb may 1)
       by t zero zero le = grind (arith, common_steps, cases_Bool t)
@@ -180,7 +177,7 @@ module _ (p : Tents) (y : ℕ) (from : Layers) (room : ℕ) (wants some broken :
       → IsFurther from to → AreVisited (trees_of_row p y) from to true
   unfolding is_beside
   row-visited one ones {to} off one_is ones_is left further =
-      let same : (x : ℕ) → x < p.size.w → has_bit ones x ≡ lone p (has from) y x = λ x lt. ones_is x ∙ rw (one_is x lt, sym (may-is x)) (lone-wants x lt) in
+      let same : (x : ℕ) → x < p.size.w → has_bit ones x ≡ lone p (has from) y x = λ x lt. ones_is x ∙ rw (one_is x lt, sym (may-is x)) (lone-wants lt) in
       let board : has to ≡ without_zeros (struck p (has from) y p.size.w) (has from) = left ∙ ap (λ (t : ℕ → Bool). without_zeros t (has from))
       (fun_ext λ c. ap (λ b. (not (tree p c) && has from c 1) && b)
       (any_below-same (λ x. has_bit ones x && has_place (beside p.size (y * p.size.w + x)) c) (λ x. lone p (has from) y x && has_place (beside p.size (y * p.size.w + x)) c) p.size.w

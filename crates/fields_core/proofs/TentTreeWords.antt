@@ -21,26 +21,22 @@ left-at : (size : Extent) (y x : ℕ) → x < size.w → if_there (step size (y 
 unfolding step
 left-at size y zero lt = rw (place-column size.w y 0 lt) refl
 left-at size y (suc x) lt =
-    let e : y * size.w + suc x - 1 ≡ y * size.w + (suc x - 1) = omega arith in
-    rw (place-column size.w y (suc x) lt, e) refl
+    let e : y * size.w + suc x - 1 ≡ y * size.w + (suc x - 1) = omega arith in rw (place-column size.w y (suc x) lt, e) refl
 
 right-at : (size : Extent) (y x : ℕ) → x < size.w → if_there (step size (y * size.w + x) 2) ≡ cell_if (ltb (x + 1) size.w) (y * size.w + (x + 1))
 unfolding step
-right-at size y x lt =
-    let e : y * size.w + x + 1 ≡ y * size.w + (x + 1) = omega arith in
-    rw (place-column size.w y x lt, e) refl
+right-at size y x lt = let e : y * size.w + x + 1 ≡ y * size.w + (x + 1) = omega arith in rw (place-column size.w y x lt, e) refl
 
-down-at : (size : Extent) (y x : ℕ) → x < size.w → if_there (step size (y * size.w + x) 3) ≡ cell_if (ltb (y + 1) size.h) ((y + 1) * size.w + x)
+down-at : (size : Extent) (y : ℕ) {x : ℕ} → x < size.w → if_there (step size (y * size.w + x) 3) ≡ cell_if (ltb (y + 1) size.h) ((y + 1) * size.w + x)
 unfolding step
-down-at size y x lt =
-    let e : y * size.w + x + size.w ≡ (y + 1) * size.w + x = omega arith in
-    rw (div-mul-add y size.w x lt, e) refl
+down-at size y {x} lt =
+    let e : y * size.w + x + size.w ≡ (y + 1) * size.w + x = omega arith in rw (div-mul-add y size.w x lt, e) refl
 
-beside-is : (size : Extent) (y x : ℕ) → x < size.w → beside size (y * size.w + x)
+beside-is : (size : Extent) (y : ℕ) {x : ℕ} → x < size.w → beside size (y * size.w + x)
     ≡ ((cell_if (ltb 0 y) ((y - 1) * size.w + x) ++ cell_if (ltb 0 x) (y * size.w + (x - 1)))
     ++ cell_if (ltb (x + 1) size.w) (y * size.w + (x + 1))) ++ cell_if (ltb (y + 1) size.h) ((y + 1) * size.w + x)
 unfolding steps
-beside-is size y x lt = rw (up-at size y x lt, left-at size y x lt, right-at size y x lt, down-at size y x lt) refl
+beside-is size y {x} lt = rw (up-at size y x lt, left-at size y x lt, right-at size y x lt, down-at size y lt) refl
 
 count-if : (passes : ℕ → Bool) (there : Bool) (c : ℕ) → count_by passes (cell_if there c) ≡ num (there && passes c)
 count-if passes true c = grind (arith, common_steps, cases_Bool (passes c))
@@ -58,22 +54,20 @@ beside-count : (size : Extent) (passes : ℕ → Bool) (y x : ℕ) → x < size.
     ≡ num (ltb 0 y && passes ((y - 1) * size.w + x)) + num (ltb 0 x && passes (y * size.w + (x - 1)))
     + num (ltb (x + 1) size.w && passes (y * size.w + (x + 1))) + num (ltb (y + 1) size.h && passes ((y + 1) * size.w + x))
 beside-count size passes y x lt =
-    let u = cell_if (ltb 0 y) ((y - 1) * size.w + x) in
-    let l = cell_if (ltb 0 x) (y * size.w + (x - 1)) in
+    let u = cell_if (ltb 0 y) ((y - 1) * size.w + x) in let l = cell_if (ltb 0 x) (y * size.w + (x - 1)) in
     let r = cell_if (ltb (x + 1) size.w) (y * size.w + (x + 1)) in
     let d = cell_if (ltb (y + 1) size.h) ((y + 1) * size.w + x) in
-    ap (count_by passes) (beside-is size y x lt)
+    ap (count_by passes) (beside-is size y lt)
     ∙ rw (count-append passes ((u ++ l) ++ r) d, count-append passes (u ++ l) r, count-append passes u l, count-if passes (ltb 0 y) ((y - 1) * size.w + x), count-if passes (ltb 0 x) (y * size.w + (x - 1)), count-if passes (ltb (x + 1) size.w) (y * size.w + (x + 1)), count-if passes (ltb (y + 1) size.h) ((y + 1) * size.w + x)) refl
 
-pub beside-has : (size : Extent) (y x c : ℕ) → x < size.w → has_place (beside size (y * size.w + x)) c
+pub beside-has : (size : Extent) (y : ℕ) {x : ℕ} (c : ℕ) → x < size.w → has_place (beside size (y * size.w + x)) c
     ≡ (((ltb 0 y && eqb ((y - 1) * size.w + x) c) || (ltb 0 x && eqb (y * size.w + (x - 1)) c))
     || (ltb (x + 1) size.w && eqb (y * size.w + (x + 1)) c)) || (ltb (y + 1) size.h && eqb ((y + 1) * size.w + x) c)
-beside-has size y x c lt =
-    let u = cell_if (ltb 0 y) ((y - 1) * size.w + x) in
-    let l = cell_if (ltb 0 x) (y * size.w + (x - 1)) in
+beside-has size y {x} c lt =
+    let u = cell_if (ltb 0 y) ((y - 1) * size.w + x) in let l = cell_if (ltb 0 x) (y * size.w + (x - 1)) in
     let r = cell_if (ltb (x + 1) size.w) (y * size.w + (x + 1)) in
     let d = cell_if (ltb (y + 1) size.h) ((y + 1) * size.w + x) in
-    ap (λ (xs : List ℕ). has_place xs c) (beside-is size y x lt)
+    ap (λ (xs : List ℕ). has_place xs c) (beside-is size y lt)
     ∙ rw (has-append ((u ++ l) ++ r) d c, has-append (u ++ l) r c, has-append u l c, has-if (ltb 0 y) ((y - 1) * size.w + x) c, has-if (ltb 0 x) (y * size.w + (x - 1)) c, has-if (ltb (x + 1) size.w) (y * size.w + (x + 1)) c, has-if (ltb (y + 1) size.h) ((y + 1) * size.w + x) c) refl
 
 -- ---- the words beside a place
@@ -87,19 +81,16 @@ module _ {W : Type 0} (bits : W → ℕ) (room : ℕ) (size : Extent) (passes : 
   behind = has_bit (bits near.own) (x + 1)
 
   up-is : has_bit (bits near.above) x ≡ (ltb 0 y && passes ((y - 1) * size.w + x))
-  up-is = is.above x ∙ rw (lt-ltb x size.w lt) refl
+  up-is = is.above x ∙ rw (lt-ltb _ _ lt) refl
 
   down-is : has_bit (bits near.below) x ≡ (ltb (y + 1) size.h && passes ((y + 1) * size.w + x))
-  down-is = is.below x ∙ rw (lt-ltb x size.w lt) refl
+  down-is = is.below x ∙ rw (lt-ltb _ _ lt) refl
 
   left-is : before ≡ (ltb 0 x && passes (y * size.w + (x - 1)))
   left-is = rw (lt-ltb x room (omega arith), is.own (x - 1), lt-ltb (x - 1) size.w (omega arith)) refl
 
-  right-is : behind ≡ (ltb (x + 1) size.w && passes (y * size.w + (x + 1)))
-  right-is = is.own (x + 1)
-
   count-is : count_by passes (beside size (y * size.w + x)) ≡ num (has_bit (bits near.above) x) + num before + num behind + num (has_bit (bits near.below) x)
-  count-is = beside-count size passes y x lt ∙ rw (up-is, left-is, right-is, down-is) refl
+  count-is = beside-count size passes y x lt ∙ rw (up-is, left-is, is.own (x + 1), down-is) refl
 
   pub some-beside : ((has_bit (bits near.above) x || has_bit (bits near.below) x) || (before || behind)) ≡ ltb 0 (count_by passes (beside size (y * size.w + x)))
   some-beside = rw count-is (by (has_bit (bits near.above) x) before behind (has_bit (bits near.below) x))
@@ -116,28 +107,27 @@ module _ {W : Type 0} (bits : W → ℕ) (room : ℕ) (size : Extent) (passes : 
       by u l r d = grind (arith, common_steps, cases_Bool u, cases_Bool l, cases_Bool r, cases_Bool d)
 
 -- ---- those of the cells that can be a one
-
 pub row-ones : (p : Layers) (y word : ℕ) → ((x : ℕ) → has_bit word x ≡ bit_of p.rows y 1 x) → ((x : ℕ) → has_bit word x ≡ true → x < p.size.w) → IsRowOf p.size.w (λ c. has p c 1) y word
 row-ones p y word is within x = elim (cases_lt x p.size.w) [
-  | inl lt ↦ is x ∙ rw (lt-ltb x p.size.w lt) (sym (has-at p y x 1 refl lt (omega arith)))
-  | inr ge ↦ rw (le-ltb x p.size.w ge) (false_from_ne_true (has_bit word x) (λ on. let lt = within x on in absurd (omega arith)))
+  | inl lt ↦ is x ∙ rw (lt-ltb _ _ lt) (sym (has-at p y x 1 refl lt (omega arith)))
+  | inr ge ↦ rw (le-ltb _ _ ge) (false_from_ne_true _ (λ on. let lt = within x on in absurd (omega arith)))
 ]
 
 -- the words of a row and of those beside it, where there are such rows
-pub near-ones : {W : Type 0} (bits : W → ℕ) (p : Layers) (y : ℕ) (near : ThreeRows W)
+pub near-ones : {W : Type 0} (bits : W → ℕ) (p : Layers) {y : ℕ} (near : ThreeRows W)
     → (0 < y → IsRowOf p.size.w (λ c. has p c 1) (y - 1) (bits near.above)) → (y ≡ 0 → (x : ℕ) → has_bit (bits near.above) x ≡ false)
     → IsRowOf p.size.w (λ c. has p c 1) y (bits near.own)
     → (y + 1 < p.size.h → IsRowOf p.size.w (λ c. has p c 1) (y + 1) (bits near.below)) → (p.size.h ≤ y + 1 → (x : ℕ) → has_bit (bits near.below) x ≡ false)
     → IsNear bits p.size (λ c. has p c 1) y near
-near-ones bits p y near above top own below bottom = record {
+near-ones bits p {y} near above top own below bottom = record {
   above = λ x. elim (cases_lt 0 y) [
-    | inl pos ↦ above pos x ∙ rw (lt-ltb 0 y pos) refl
-    | inr le ↦ rw (le-ltb 0 y le) (top (omega arith) x ∙ grind (arith, common_steps, cases_Bool (ltb x p.size.w)))
+    | inl pos ↦ above pos x ∙ rw (lt-ltb _ _ pos) refl
+    | inr le ↦ rw (le-ltb _ _ le) (top (omega arith) x ∙ grind (arith, common_steps, cases_Bool (ltb x p.size.w)))
   ];
   own = own;
   below = λ x. elim (cases_lt (y + 1) p.size.h) [
-    | inl lt ↦ below lt x ∙ rw (lt-ltb (y + 1) p.size.h lt) refl
-    | inr ge ↦ rw (le-ltb (y + 1) p.size.h ge) (bottom ge x ∙ grind (arith, common_steps, cases_Bool (ltb x p.size.w)))
+    | inl lt ↦ below lt x ∙ rw (lt-ltb _ _ lt) refl
+    | inr ge ↦ rw (le-ltb _ _ ge) (bottom ge x ∙ grind (arith, common_steps, cases_Bool (ltb x p.size.w)))
   ];
 }
 
@@ -151,14 +141,14 @@ pub before-first : {W : Type 0} {bits : W → ℕ} {size : Extent} {passes : ℕ
     → ((x : ℕ) → has_bit (bits near.own) x ≡ false) → near.below ≡ below → IsBefore bits size passes 0 near
 before-first {size = size} near below is none e = record { above = λ x. none x ∙ sym (and-false (ltb x size.w)); own = rw e is }
 
-pub near-next : {W : Type 0} {bits : W → ℕ} {size : Extent} {passes : ℕ → Bool} {y : ℕ} (near next : ThreeRows W) (below : W)
+pub near-next : {W : Type 0} {bits : W → ℕ} {size : Extent} {passes : ℕ → Bool} {y : ℕ} {near next : ThreeRows W} (below : W)
     → next ≡ record { above = near.own; own = near.below; below = below } → y < size.h
     → IsBefore bits size passes y near → IsRowIn size passes (y + 1) (bits below) → IsNear bits size passes y next
-near-next {size = size} {y = y} near next below e lt is row =
-    rw e (record { above = is.above; own = λ x. is.own x ∙ rw (lt-ltb y size.h lt) refl; below = row })
+near-next {size = size} {y = y} below e lt is row =
+    rw e (record { above = is.above; own = λ x. is.own x ∙ rw (lt-ltb _ _ lt) refl; below = row })
 
-pub before-next : {W : Type 0} {bits : W → ℕ} {size : Extent} {passes : ℕ → Bool} {y : ℕ} (near : ThreeRows W) → IsNear bits size passes y near → IsBefore bits size passes (y + 1) near
-before-next {y = y} near is =
+pub before-next : {W : Type 0} {bits : W → ℕ} {size : Extent} {passes : ℕ → Bool} {y : ℕ} {near : ThreeRows W} → IsNear bits size passes y near → IsBefore bits size passes (y + 1) near
+before-next {y = y} is =
     let back : y + 1 - 1 ≡ y = omega arith in
     record { above = λ x. is.own x ∙ rw (back, lt-ltb 0 (y + 1) (omega arith)) refl; own = is.below }
 
@@ -168,8 +158,8 @@ module _ (p : Tents) (y trees : ℕ) (trees_is : IsRowOf p.size.w (tree p) y tre
       → ((x : ℕ) → has_bit wants x ≡ (has_bit trees x && has_bit others x)) → IsRowOf p.size.w (wants_tent p) y wants
   unfolding wants_tent
   row-wants others wants others_is is x = is x ∙ rw (trees_is x) (elim (cases_lt x p.size.w) [
-    | inl lt ↦ rw (others_is x lt, some-counted (λ d. not (tree p d)) (beside p.size (y * p.size.w + x)), lt-ltb x p.size.w lt) refl
-    | inr ge ↦ rw (le-ltb x p.size.w ge) refl
+    | inl lt ↦ rw (others_is x lt, some-counted (λ d. not (tree p d)) (beside p.size (y * p.size.w + x)), lt-ltb _ _ lt) refl
+    | inr ge ↦ rw (le-ltb _ _ ge) refl
   ])
 
   pub row-barred : (all near barred : ℕ) → ((x : ℕ) → has_bit all x ≡ ltb x p.size.w)
@@ -177,9 +167,9 @@ module _ (p : Tents) (y trees : ℕ) (trees_is : IsRowOf p.size.w (tree p) y tre
       → ((x : ℕ) → has_bit barred x ≡ (has_bit all x && not (has_bit near x && not (has_bit trees x)))) → IsRowOf p.size.w (is_barred p) y barred
   unfolding is_barred
   row-barred all near barred all_is near_is is x = is x ∙ rw (trees_is x, all_is x) (elim (cases_lt x p.size.w) [
-    | inl lt ↦ rw (near_is x lt, some-counted (tree p) (beside p.size (y * p.size.w + x)), lt-ltb x p.size.w lt)
+    | inl lt ↦ rw (near_is x lt, some-counted (tree p) (beside p.size (y * p.size.w + x)), lt-ltb _ _ lt)
         (grind (arith, common_steps, cases_Bool (tree p (y * p.size.w + x)), cases_Bool (list_any (tree p) (beside p.size (y * p.size.w + x)))))
-    | inr ge ↦ rw (le-ltb x p.size.w ge) refl
+    | inr ge ↦ rw (le-ltb _ _ ge) refl
   ])
 
 -- ---- 0 taken from those of the cells that are beside some places of the row
@@ -212,10 +202,9 @@ module _ {W : Type 0} (bits : W → ℕ) (room : ℕ) (size : Extent) (passes : 
   from-over : row ≡ above → has_bit over column ≡ true → IsStruck
   from-over e on =
       let parts = and_parts _ _ (sym (over_is column) ∙ on) in
-      let there = and_parts _ _ (and_parts _ _ (sym (is.above column) ∙ parts.0)).1 in
-      let cell = at (y - 1) (e ∙ e_above) in
+      let there = and_parts _ _ (and_parts _ _ (sym (is.above column) ∙ parts.0)).1 in let cell = at (y - 1) (e ∙ e_above) in
       struck column parts.1 (ap passes (sym cell) ∙ there.1)
-      (beside-has size y column c (places_in column parts.1) ∙ or_left _ _ (or_left _ _ (or_left _ _ (and_from _ _ there.0 (eq-eqb _ _ cell)))))
+      (beside-has size y c (places_in column parts.1) ∙ or_left _ _ (or_left _ _ (or_left _ _ (and_from _ _ there.0 (eq-eqb _ _ cell)))))
 
   from-under : row ≡ below → has_bit under column ≡ true → IsStruck
   from-under e on =
@@ -223,69 +212,64 @@ module _ {W : Type 0} (bits : W → ℕ) (room : ℕ) (size : Extent) (passes : 
       let there = and_parts _ _ (and_parts _ _ (sym (is.below column) ∙ parts.0)).1 in
       let cell = at (y + 1) (e ∙ e_below (ltb-true _ _ there.0)) in
       struck column parts.1 (ap passes (sym cell) ∙ there.1)
-      (beside-has size y column c (places_in column parts.1) ∙ or_right _ _ (and_from _ _ there.0 (eq-eqb _ _ cell)))
+      (beside-has size y c (places_in column parts.1) ∙ or_right _ _ (and_from _ _ there.0 (eq-eqb _ _ cell)))
 
   from-own : row ≡ y → has_bit own column ≡ true → IsStruck
   from-own e on =
-      let parts = and_parts _ _ (sym (own_is column) ∙ on) in
-      let cell = at y e in
+      let parts = and_parts _ _ (sym (own_is column) ∙ on) in let cell = at y e in
       let test : passes c ≡ true = ap passes (sym cell) ∙ (and_parts _ _ (sym (is.own column) ∙ parts.0)).1 in
       elim (or_cases _ _ parts.1) [
         | inl left ↦
             let w = and_parts _ _ (and_parts _ _ left).1 in
-            let some : 0 < column = ltb-true 0 column w.0 in
-            let less : column < size.w = mod-lt c pos in
+            let some : 0 < column = ltb-true _ _ w.0 in let less : column < size.w = mod-lt c pos in
             let here : y * size.w + (column - 1 + 1) ≡ c = (let next : column - 1 + 1 ≡ column = omega (arith, some) in rw next cell) in
-            struck (column - 1) w.1 test (beside-has size y (column - 1) c (places_in (column - 1) w.1)
+            struck (column - 1) w.1 test (beside-has size y c (places_in (column - 1) w.1)
             ∙ or_left _ _ (or_right _ _ (and_from _ _ (lt-ltb (column - 1 + 1) size.w (omega (arith, some, less))) (eq-eqb _ _ here))))
         | inr right ↦
             let here : y * size.w + (column + 1 - 1) ≡ c = (let back : column + 1 - 1 ≡ column = omega arith in rw back cell) in
-            struck (column + 1) right test (beside-has size y (column + 1) c (places_in (column + 1) right)
+            struck (column + 1) right test (beside-has size y c (places_in (column + 1) right)
             ∙ or_left _ _ (or_left _ _ (or_right _ _ (and_from _ _ (lt-ltb 0 (column + 1) (omega arith)) (eq-eqb _ _ here)))))
       ]
 
-  parts-of : (k x : ℕ) → x < size.w → k * size.w + x ≡ c → (row ≡ k) × (column ≡ x)
-  parts-of k x lt e = (ap (λ n. n / size.w) (sym e) ∙ div-mul-add k size.w x lt, ap (λ n. n % size.w) (sym e) ∙ place-column size.w k x lt)
+  parts-of : (k : ℕ) {x : ℕ} → x < size.w → k * size.w + x ≡ c → (row ≡ k) × (column ≡ x)
+  parts-of k {x} lt e = (ap (λ n. n / size.w) (sym e) ∙ div-mul-add k size.w x lt, ap (λ n. n % size.w) (sym e) ∙ place-column size.w k x lt)
 
   abbrev taken : Bool
   taken = ((eqb row above && has_bit over column) || (eqb row y && has_bit own column)) || (eqb row below && has_bit under column)
 
-  to-over : (x : ℕ) → x < size.w → has_bit places x ≡ true → passes c ≡ true → ltb 0 y ≡ true → (y - 1) * size.w + x ≡ c → taken ≡ true
-  to-over x lt on test some e =
-      let at = parts-of (y - 1) x lt e in
+  to-over : {x : ℕ} → x < size.w → has_bit places x ≡ true → passes c ≡ true → ltb 0 y ≡ true → (y - 1) * size.w + x ≡ c → taken ≡ true
+  to-over {x} lt on test some e =
+      let at = parts-of (y - 1) lt e in
       or_left _ _ (or_left _ _ (and_from _ _ (eq-eqb _ _ (at.0 ∙ sym e_above))
-      (over_is column ∙ rw (at.1) (and_from _ _ (is.above x ∙ rw (lt-ltb x size.w lt, some, e) test) on))))
+      (over_is column ∙ rw (at.1) (and_from _ _ (is.above x ∙ rw (lt-ltb _ _ lt, some, e) test) on))))
 
-  to-under : (x : ℕ) → x < size.w → has_bit places x ≡ true → passes c ≡ true → ltb (y + 1) size.h ≡ true → (y + 1) * size.w + x ≡ c → taken ≡ true
-  to-under x lt on test some e =
-      let at = parts-of (y + 1) x lt e in
+  to-under : {x : ℕ} → x < size.w → has_bit places x ≡ true → passes c ≡ true → ltb (y + 1) size.h ≡ true → (y + 1) * size.w + x ≡ c → taken ≡ true
+  to-under {x} lt on test some e =
+      let at = parts-of (y + 1) lt e in
       or_right _ _ (and_from _ _ (eq-eqb _ _ (at.0 ∙ sym (e_below (ltb-true _ _ some))))
-      (under_is column ∙ rw (at.1) (and_from _ _ (is.below x ∙ rw (lt-ltb x size.w lt, some, e) test) on)))
+      (under_is column ∙ rw (at.1) (and_from _ _ (is.below x ∙ rw (lt-ltb _ _ lt, some, e) test) on)))
 
-  to-own : (k : ℕ) → k < size.w → passes c ≡ true → y * size.w + k ≡ c
+  to-own : {k : ℕ} → k < size.w → passes c ≡ true → y * size.w + k ≡ c
       → ((ltb k room && (ltb 0 k && has_bit places (k - 1))) || has_bit places (k + 1)) ≡ true → taken ≡ true
-  to-own k lt test e on =
-      let at = parts-of y k lt e in
+  to-own {k} lt test e on =
+      let at = parts-of y lt e in
       or_left _ _ (or_right _ _ (and_from _ _ (eq-eqb _ _ at.0)
-      (own_is column ∙ rw (at.1) (and_from _ _ (is.own k ∙ rw (lt-ltb k size.w lt, e) test) on))))
+      (own_is column ∙ rw (at.1) (and_from _ _ (is.own k ∙ rw (lt-ltb _ _ lt, e) test) on))))
 
-  to-taken : (x : ℕ) → x < size.w → has_bit places x ≡ true → passes c ≡ true → has_place (beside size (y * size.w + x)) c ≡ true → taken ≡ true
-  to-taken x lt on test there = elim (or_cases _ _ (sym (beside-has size y x c lt) ∙ there)) [
-    | inr down ↦ let w = and_parts _ _ down in to-under x lt on test w.0 (eqb-true _ _ w.1)
+  to-taken : {x : ℕ} → x < size.w → has_bit places x ≡ true → passes c ≡ true → has_place (beside size (y * size.w + x)) c ≡ true → taken ≡ true
+  to-taken {x} lt on test there = elim (or_cases _ _ (sym (beside-has size y c lt) ∙ there)) [
+    | inr down ↦ let w = and_parts _ _ down in to-under lt on test w.0 (eqb-true _ _ w.1)
     | inl rest ↦ elim (or_cases _ _ rest) [
       | inr right ↦
-          let w = and_parts _ _ right in
-          let less : x + 1 < size.w = ltb-true (x + 1) size.w w.0 in
+          let w = and_parts _ _ right in let less : x + 1 < size.w = ltb-true _ _ w.0 in
           let before : has_bit places (x + 1 - 1) ≡ true = (let back : x + 1 - 1 ≡ x = omega arith in rw back on) in
-          to-own (x + 1) less test (eqb-true _ _ w.1) (or_left _ _ (and_from _ _ (lt-ltb (x + 1) room (omega (arith, less, narrow))) (and_from _ _ (lt-ltb 0 (x + 1) (omega arith)) before)))
+          to-own less test (eqb-true _ _ w.1) (or_left _ _ (and_from _ _ (lt-ltb (x + 1) room (omega (arith, less, narrow))) (and_from _ _ (lt-ltb 0 (x + 1) (omega arith)) before)))
       | inl more ↦ elim (or_cases _ _ more) [
-        | inl up ↦ let w = and_parts _ _ up in to-over x lt on test w.0 (eqb-true _ _ w.1)
+        | inl up ↦ let w = and_parts _ _ up in to-over lt on test w.0 (eqb-true _ _ w.1)
         | inr left ↦
-            let w = and_parts _ _ left in
-            let some : 0 < x = ltb-true 0 x w.0 in
+            let w = and_parts _ _ left in let some : 0 < x = ltb-true _ _ w.0 in
             let behind : has_bit places (x - 1 + 1) ≡ true = (let next : x - 1 + 1 ≡ x = omega (arith, some) in rw next on) in
-            let less : x - 1 < size.w = omega (arith, lt) in
-            to-own (x - 1) less test (eqb-true _ _ w.1) (or_right _ _ behind)
+            let less : x - 1 < size.w = omega (arith, lt) in to-own less test (eqb-true _ _ w.1) (or_right _ _ behind)
       ]
     ]
   ]
@@ -301,19 +285,17 @@ module _ {W : Type 0} (bits : W → ℕ) (room : ℕ) (size : Extent) (passes : 
         ]
       ])
       (λ on.
-      let parts = and_parts _ _ on in
-      let w = any_below-some _ size.w parts.1 in
-      let both = and_parts _ _ w.2 in
-      to-taken w.0 w.1 both.0 parts.0 both.1)
+      let parts = and_parts _ _ on in let w = any_below-some _ size.w parts.1 in
+      let both = and_parts _ _ w.2 in to-taken w.1 both.0 parts.0 both.1)
 
-pub zeros-taken : (w w₂ w₃ above y below over own under : ℕ) (passes : ℕ → Bool) (K K₁ K₂ K₃ : Candidates)
+pub zeros-taken : {w w₂ w₃ : ℕ} (above y below over own under : ℕ) (passes : ℕ → Bool) (K : Candidates) {K₁ K₂ K₃ : Candidates}
     → K₁ ≡ without_taking w K (record { line = Row above; value = 0; bits = over })
     → K₂ ≡ without_taking w₂ K₁ (record { line = Row y; value = 0; bits = own })
     → K₃ ≡ without_taking w₃ K₂ (record { line = Row below; value = 0; bits = under })
     → w₂ ≡ w → w₃ ≡ w → ((c : ℕ) → (((eqb (c / w) above && has_bit over (c % w)) || (eqb (c / w) y && has_bit own (c % w))) || (eqb (c / w) below && has_bit under (c % w))) ≡ passes c)
     → K₃ ≡ without_zeros passes K
 unfolding without_taking covers crosses without_zeros
-zeros-taken w w₂ w₃ above y below over own under passes K K₁ K₂ K₃ first second third e₂ e₃ is = third ∙ rw (e₃, second, e₂, first) (fun_ext λ c. fun_ext λ v.
+zeros-taken {w} above y below over own under passes K first second third e₂ e₃ is = third ∙ rw (e₃, second, e₂, first) (fun_ext λ c. fun_ext λ v.
     rw (sym (is c)) (by (K c v) (eqb v 0) (eqb (c / w) above && has_bit over (c % w)) (eqb (c / w) y && has_bit own (c % w)) (eqb (c / w) below && has_bit under (c % w))))
   where
     by : (k z a b d : Bool) → (((k && not (z && a)) && not (z && b)) && not (z && d)) ≡ (k && not (z && ((a || b) || d)))

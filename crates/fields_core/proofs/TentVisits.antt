@@ -11,36 +11,33 @@ module _ (p : Tents) (lawful : IsTents p) where
       (exactly (slice_index p.counts x) (column_places p.size x))
   unfolding tent_houses
   column-is {x} lt =
-      among-house _ (tent_houses p) (tent_cells p) (tent-counting lawful).are_houses
-      (among-front _ (houses_below (column_of_tents p) p.size.w) _
-      (among-below _ (column_of_tents p) x p.size.w lt (among-one _)))
+      among-house (tent_cells p) (tent-counting lawful).are_houses
+      (among-front _ (among-below _ (column_of_tents p) lt (among-one _)))
 
   pub row-is : {y : ℕ} → y < p.size.h → IsHouse (tent_cells p)
       (exactly (slice_index p.counts (p.size.w + y)) (row_places p.size y))
   unfolding tent_houses
   row-is {y} lt =
-      among-house _ (tent_houses p) (tent_cells p) (tent-counting lawful).are_houses
-      (among-back _ (houses_below (column_of_tents p) p.size.w) _
-      (among-front _ (houses_below (row_of_tents p) p.size.h) _
-      (among-below _ (row_of_tents p) y p.size.h lt (among-one _))))
+      among-house (tent_cells p) (tent-counting lawful).are_houses
+      (among-back (houses_below (column_of_tents p) p.size.w) (among-front _ (among-below _ (row_of_tents p) lt (among-one _))))
 
   pub tree-is : {c : ℕ} → c < tent_cells p → tree p c ≡ true → IsHouse (tent_cells p) (one_at_least (free_beside p c))
   unfolding tent_houses
   tree-is {c} lt is =
-      among-house _ (tent_houses p) (tent_cells p) (tent-counting lawful).are_houses
-      (among-back _ (houses_below (column_of_tents p) p.size.w) _
-      (among-back _ (houses_below (row_of_tents p) p.size.h) _
-      (among-front _ (houses_below (tree_house p) (tent_cells p)) _
-      (among-below _ (tree_house p) c (tent_cells p) lt (rw is (among-one _))))))
+      among-house (tent_cells p) (tent-counting lawful).are_houses
+      (among-back (houses_below (column_of_tents p) p.size.w)
+      (among-back (houses_below (row_of_tents p) p.size.h)
+      (among-front _
+      (among-below _ (tree_house p) lt (rw is (among-one _))))))
 
   pub square-is : {c : ℕ} → c < tent_cells p → c % p.size.w + 1 < p.size.w → c / p.size.w + 1 < p.size.h
       → IsHouse (tent_cells p) (one_at_most (c ∷ (c + 1) ∷ (c + p.size.w) ∷ (c + p.size.w + 1) ∷ []))
   unfolding tent_houses
   square-is {c} lt wide tall =
-      among-house _ (tent_houses p) (tent_cells p) (tent-counting lawful).are_houses
-      (among-back _ (houses_below (column_of_tents p) p.size.w) _
-      (among-back _ (houses_below (row_of_tents p) p.size.h) _
-      (among-back _ (houses_below (tree_house p) (tent_cells p)) _ (among-below _ (square_house p) c (tent_cells p) lt
+      among-house (tent_cells p) (tent-counting lawful).are_houses
+      (among-back (houses_below (column_of_tents p) p.size.w)
+      (among-back (houses_below (row_of_tents p) p.size.h)
+      (among-back (houses_below (tree_house p) (tent_cells p)) (among-below _ (square_house p) lt
       (rw (lt-ltb _ _ wide, lt-ltb _ _ tall) (among-one _))))))
 
 -- what a visit says of each house of its pieces
@@ -49,13 +46,13 @@ IsVisitOf pieces least most from to fills = (house : CountHouse) → IsHouseOf f
     → (fills ≡ true → has to ≡ after_house house (has from)) × (fills ≡ false → IsBroken house (has from))
 
 -- ---- lines
-pub column-visited : (p : Tents) (x bits ones : ℕ) (from to : Layers) (fills : Bool) → IsTents p
+pub column-visited : {p : Tents} {x : ℕ} (bits ones : ℕ) {from to : Layers} (fills : Bool) → IsTents p
     → from.size ≡ p.size → x < p.size.w → ((k : ℕ) → has_bit bits k ≡ ltb k p.size.h) → ones ≡ slice_index p.counts x
     → IsVisitOf (record { line = Column x; bits = bits } ∷ []) ones ones from to fills → ArePlanesAlive to
     → IsFurther from to → AreVisited (column_of_tents p x) from to fills
-column-visited p x bits ones from to fills lawful size lt is count visit alive further =
+column-visited {p} {x} bits ones fills lawful size lt is count visit alive further =
     let told = visit (exactly (slice_index p.counts x) (column_places p.size x))
-    (rw (size, count) (column-house p.size x bits (slice_index p.counts x) lt is (column-is p lawful lt))) in
+    (rw (size, count) (column-house p.size bits (slice_index p.counts x) lt is (column-is p lawful lt))) in
     visited-one (rw size (column-is p lawful lt))
     (let tall = lawful.size.extent.h_low in omega (arith, column-long p.size x)) told.0 told.1 alive further
 

@@ -1,12 +1,10 @@
--- What waits of Tents: where its houses lie, what stays idle, and what is idle where a closing begins.
-use Rattle.fields_core.proofs.Common.{AllByRecursion, AreIdle, AreLinesOf, ArePlanes, ArePlanesAlive, AreTentsRested, AreTentsWoken, Bool, Candidates, Columns, IsClosed, IsFurther, IsInside, IsLostIn, IsTents, Layers, Option, Rows, Some, Squares, Tents, Touched, Trees, and_parts, arith, back_at, cases_Bool, cells_of, column_of_tents, column_places, eqb, eqb-true, false, false_from_ne_true, free_beside, get_or-map-range_with_len, has, has_bit, has_place-at, houses_below, inl, inr, is_barred, kind_houses, kind_lines, length-map-range_with_len, ltb, ltb-true, not, one_at_least, one_at_most, or_cases, or_parts, place-filter, place-in, refl, row_of_tents, row_places, solves_tents, square_house, squares_of_row, suc, sym, tent_cells, tent_counts, tent_houses, tent_rules, tree, tree_house, trees_of_row, true, true≢false, waiting, zero, ℕ, ◌%◌, ◌&&◌, ◌*◌, ◌+◌, ◌-◌, ◌/◌, ◌<◌, ◌∙◌, ◌≡◌, ◌≢◌, ◌≤◌, ◌⊎◌}
-use Rattle.engine_core.specs.Position.{IsClosedAround, IsClosedBut}
+-- What waits of Tents: where its houses lie, what stays idle while others of a kind are visited, and what is idle where a closing begins.
+use Rattle.fields_core.proofs.Common.{AllByRecursion, AreIdle, AreLinesOf, ArePlanes, ArePlanesAlive, AreTentsRested, AreTentsWoken, Bool, Candidates, Columns, CountHouse, IsClosed, IsClosedAround, IsClosedBut, IsFieldOf, IsFurther, IsHouse, IsInside, IsLostIn, IsTents, Layers, List, Option, Rows, Some, Squares, Tents, Touched, Trees, Waits, and_parts, arith, back_at, cases_Bool, cases_eq, cells_of, column_of_tents, column_places, common_steps, eqb, eqb-true, exactly, false, false_from_ne_true, free_beside, get_or-map-range_with_len, has, has_bit, has_place-at, houses_below, inl, inr, is_barred, kind_houses, kind_lines, length-map-range_with_len, lt-ltb, ltb, ltb-true, not, one_at_least, one_at_most, or_cases, or_left, or_parts, place-filter, place-in, refl, row_of_tents, row_places, slice_index, solves_tents, square_house, squares_of_row, suc, sym, tent_cells, tent_counts, tent_houses, tent_rules, tree, tree_house, trees_of_row, true, true≢false, waiting, zero, ℕ, ◌%◌, ◌&&◌, ◌*◌, ◌+◌, ◌/◌, ◌<◌, ◌∙◌, ◌≡◌, ◌≤◌, ◌⊎◌}
 use Rattle.fields_core.specs.declared.planes.tents.waits.Kind.{Kind}
-use Rattle.fields_core.specs.declared.planes.tents.waits.Waits.{Waits}
-use Rattle.fields_core.proofs.HouseOrder.{IsSingle, singles-kept}
+use Rattle.fields_core.proofs.HouseOrder.{IsSingle, single-keeps, singles-kept}
 use Rattle.fields_core.proofs.AtMostLemmas.{IsFull}
-use Rattle.fields_core.proofs.IdleLemmas.{any_has, any-below, any-none, any-one, idle-far}
-use Rattle.fields_core.proofs.AtLeastLemmas.{IsAll, alls-kept}
+use Rattle.fields_core.proofs.IdleLemmas.{AreQuiet, Keeps, any-below, any-none, any-one, any_has, idle-far, keeps-apart, keeps-itself}
+use Rattle.fields_core.proofs.AtLeastLemmas.{IsAll, all-keeps, alls-kept}
 use Rattle.fields_core.proofs.PartLemmas.{value-in}
 use Rattle.fields_core.proofs.TentCounting.{tent-field}
 use Rattle.fields_core.proofs.TentSquareLemmas.{square-has}
@@ -14,10 +12,12 @@ use Rattle.fields_core.proofs.TentSquareVisits.{squares-are}
 use Rattle.fields_core.proofs.StepLaws.{steps-some}
 use Rattle.fields_core.proofs.PartIdle.{IsPartOf, closed-idle, in-back, in-below, in-front}
 use Rattle.fields_core.proofs.TentBeside.{cell-parts, step-lies}
-use Rattle.fields_core.proofs.TentVisits.{square-is, square_places, tree-is}
+use Rattle.fields_core.proofs.TentVisits.{column-is, row-is, square-is, square_places, tree-is}
 use Rattle.fields_core.proofs.TentTreeBoards.{trees-are}
 use Rattle.fields_core.proofs.CountListLemmas.{all-houses}
 use Rattle.fields_core.proofs.WaitLemmas.{around-inside, around-lost, back-whole, full-around, full-before, spread-off, value-kept}
+unfoldable use Rattle.fields_core.proofs.IdleLemmas.{any_has}
+use Rattle.fields_core.proofs.PassedLines.{ArePassed, passed-first}
 
 -- ---- where houses lie
 module _ (p : Tents) (c : ℕ) (pos : 0 < p.size.w) where
@@ -26,14 +26,14 @@ module _ (p : Tents) (c : ℕ) (pos : 0 < p.size.w) where
       let w = has_place-at (column_places p.size x) c (any-one _ c on) in
       let lk : w.0 < p.size.h = omega (arith, w.1, length-map-range_with_len (λ y. y * p.size.w + x) 0 p.size.h) in
       let at : w.0 * p.size.w + x ≡ c = sym (get_or-map-range_with_len (λ y. y * p.size.w + x) 0 p.size.h w.0 w.0 0 lk (omega arith)) ∙ w.2 in
-      (cell-parts p.size.w w.0 x c lt (sym at)).1
+      (cell-parts w.0 c lt (sym at)).1
 
   pub row-lies : {y : ℕ} → any_has (row_of_tents p y) c ≡ true → c / p.size.w ≡ y
   row-lies {y} on =
       let w = has_place-at (row_places p.size y) c (any-one _ c on) in
       let lk : w.0 < p.size.w = omega (arith, w.1, length-map-range_with_len (λ x. y * p.size.w + x) 0 p.size.w) in
       let at : y * p.size.w + w.0 ≡ c = sym (get_or-map-range_with_len (λ x. y * p.size.w + x) 0 p.size.w w.0 w.0 0 lk (omega arith)) ∙ w.2 in
-      (cell-parts p.size.w y w.0 c lk (sym at)).0
+      (cell-parts y c lk (sym at)).0
 
   trees-lie : {y : ℕ} → any_has (trees_of_row p y) c ≡ true
       → (c / p.size.w ≡ y) ⊎ ((c / p.size.w + 1 ≡ y) ⊎ (c / p.size.w ≡ y + 1))
@@ -59,11 +59,11 @@ module _ (p : Tents) (c : ℕ) (pos : 0 < p.size.w) where
           → any_has (square_house p (y * p.size.w + x)) c ≡ true → (c / p.size.w ≡ y) ⊎ (c / p.size.w ≡ y + 1)
       by x lt (inr off) here = absurd (true≢false (sym (rw off at here) ∙ any-none c))
       by x lt (inl is) here =
-          let own = (cell-parts p.size.w y x (y * p.size.w + x) lt refl).1 in
+          let own = (cell-parts y (y * p.size.w + x) lt refl).1 in
           let less : (y * p.size.w + x) % p.size.w + 1 < p.size.w = ltb-true _ _ (and_parts _ _ is).0 in
           let wide : x + 1 < p.size.w = rw own at less in
           let one = any-one (one_at_most (square_places p.size.w (y * p.size.w + x))) c (rw is at here) in
-          let there = sym (square-has p.size.w y x c wide) ∙ one in
+          let there = sym (square-has y x c wide) ∙ one in
           elim (or_cases _ _ (and_parts _ _ there).0) [
             | inl upper ↦ inl (eqb-true _ _ upper)
             | inr lower ↦ inr (eqb-true _ _ lower)
@@ -88,8 +88,8 @@ lines_of zeros ones (suc v) = ones
 
 module _ {W : Type 0} (bits : W → ℕ) {room : ℕ} (p : Tents) {before now : Waits W} {zeros ones : Touched W}
     (pos : 0 < p.size.w) (low : p.size.h ≤ room) (woken : AreTentsWoken bits room before zeros ones now) where
-  pub woken-off : (v c : ℕ) → v < 2 → AreLinesOf bits (lines_of zeros ones v) (c / p.size.w) (c % p.size.w) → AreOff bits p now v c
-  woken-off v c small on kind k lt off mind = false_from_ne_true _ (by v small kind on lt off mind)
+  pub woken-off : {v : ℕ} (c : ℕ) → v < 2 → AreLinesOf bits (lines_of zeros ones v) (c / p.size.w) (c % p.size.w) → AreOff bits p now v c
+  woken-off {v} c small on kind k lt off mind = false_from_ne_true _ (by v small kind on lt off mind)
     where
       square : AreLinesOf bits zeros (c / p.size.w) (c % p.size.w) → has_bit (bits now.squares) k ≡ false
           → (c / p.size.w ≡ k) ⊎ (c / p.size.w ≡ k + 1) → ⊥
@@ -118,16 +118,16 @@ module _ {W : Type 0} (bits : W → ℕ) {room : ℕ} (p : Tents) {before now : 
   waited Squares k off = (or_parts _ _ (sym (woken.squares k) ∙ off)).0
 
 -- ---- the houses of trees and squares
-pub trees-each : (p : Tents) (y : ℕ) → IsTents p → y < p.size.h → AllByRecursion (IsAll (tent_cells p)) (trees_of_row p y)
-trees-each p y lawful lt = all-houses (IsAll (tent_cells p)) (λ x. tree_house p (y * p.size.w + x)) p.size.w (λ x less. by x less (cases_Bool (tree p (y * p.size.w + x))))
+pub trees-each : {p : Tents} {y : ℕ} → IsTents p → y < p.size.h → AllByRecursion (IsAll (tent_cells p)) (trees_of_row p y)
+trees-each {p} {y} lawful lt = all-houses (IsAll (tent_cells p)) (λ x. tree_house p (y * p.size.w + x)) p.size.w (λ x less. by x less (cases_Bool (tree p (y * p.size.w + x))))
   where
     by : (x : ℕ) → x < p.size.w → (tree p (y * p.size.w + x) ≡ true) ⊎ (tree p (y * p.size.w + x) ≡ false)
         → AllByRecursion (IsAll (tent_cells p)) (tree_house p (y * p.size.w + x))
     by x less (inr off) = rw off tt
     by x less (inl is) = rw is (record { is = tree-is p lawful (place-in p.size.w p.size.h y x lt less) is; same = refl }, tt)
 
-pub squares-each : (p : Tents) (y : ℕ) → IsTents p → y < p.size.h → AllByRecursion (IsSingle (tent_cells p)) (squares_of_row p y)
-squares-each p y lawful lt = all-houses (IsSingle (tent_cells p)) (λ x. square_house p (y * p.size.w + x)) p.size.w (λ x less. by x less (cases_Bool _))
+pub squares-each : {p : Tents} {y : ℕ} → IsTents p → y < p.size.h → AllByRecursion (IsSingle (tent_cells p)) (squares_of_row p y)
+squares-each {p} {y} lawful lt = all-houses (IsSingle (tent_cells p)) (λ x. square_house p (y * p.size.w + x)) p.size.w (λ x less. by x less (cases_Bool _))
   where
     by : (x : ℕ) → x < p.size.w → ((ltb ((y * p.size.w + x) % p.size.w + 1) p.size.w && ltb ((y * p.size.w + x) / p.size.w + 1) p.size.h) ≡ true)
         ⊎ ((ltb ((y * p.size.w + x) % p.size.w + 1) p.size.w && ltb ((y * p.size.w + x) / p.size.w + 1) p.size.h) ≡ false)
@@ -145,11 +145,11 @@ squares-each p y lawful lt = all-houses (IsSingle (tent_cells p)) (λ x. square_
         )
 
 -- what does not wait on a board stays idle once cells of these lines have lost values
-pub rested-board : {W : Type 0} (bits : W → ℕ) {room : ℕ} (p : Tents) {before now : Waits W} {zeros ones : Touched W} (K L : Candidates)
+pub rested-board : {W : Type 0} {bits : W → ℕ} {room : ℕ} {p : Tents} {before now : Waits W} {zeros ones : Touched W} {K L : Candidates}
     → IsTents p → p.size.h ≤ room → AreTentsWoken bits room before zeros ones now → IsFull (tent_cells p) K → IsFull (tent_cells p) L → IsInside L K
     → IsLostIn bits p.size.w 0 K L zeros → IsLostIn bits p.size.w 1 K L ones → AreTentsRested bits p before K → AreTentsRested bits p now L
 unfolding any_has
-rested-board bits {room} p {before} {now} {zeros} {ones} K L lawful low woken full still inside lost_zero lost_one rested kind k lt off =
+rested-board {bits} {room} {p} {before} {now} {zeros} {ones} {K} {L} lawful low woken full still inside lost_zero lost_one rested kind k lt off =
     by kind lt off (rested kind k lt (waited bits p pos low woken kind k off))
   where
     pos : 0 < p.size.w
@@ -163,25 +163,24 @@ rested-board bits {room} p {before} {now} {zeros} {ones} K L lawful low woken fu
     far : (kind : Kind) (c v : ℕ) → k < kind_lines p kind → has_bit (waiting bits now kind) k ≡ false → minds kind v ≡ true
         → K c v ≡ true → L c v ≡ false → any_has (kind_houses p kind k) c ≡ false
     far kind c v lt off mind on gone =
-        let small = full.low c v on in
-        woken-off bits p pos low woken v c small (lines v c small on gone) kind k lt off mind
+        let small = full.low c v on in woken-off bits p pos low woken c small (lines v c small on gone) kind k lt off mind
 
     kept : (kind : Kind) (v c : ℕ) → k < kind_lines p kind → has_bit (waiting bits now kind) k ≡ false → minds kind v ≡ true
         → any_has (kind_houses p kind k) c ≡ true → L c v ≡ K c v
-    kept kind v c lt off mind there = value-kept K L c v inside (λ on gone. true≢false (sym there ∙ far kind c v lt off mind on gone))
+    kept kind v c lt off mind there = value-kept c v inside (λ on gone. true≢false (sym there ∙ far kind c v lt off mind on gone))
 
     by : (kind : Kind) → k < kind_lines p kind → has_bit (waiting bits now kind) k ≡ false → AreIdle (kind_houses p kind k) K → AreIdle (kind_houses p kind k) L
     by Columns lt off idle = idle-far (column_of_tents p k) K L inside (λ c v. far Columns c v lt off refl) idle
     by Rows lt off idle = idle-far (row_of_tents p k) K L inside (λ c v. far Rows c v lt off refl) idle
-    by Trees lt off idle = alls-kept (tent_cells p) (trees_of_row p k) K L (trees-each p k lawful lt) full still inside (λ c. kept Trees 1 c lt off refl) idle
-    by Squares lt off idle = singles-kept (tent_cells p) (squares_of_row p k) K L (squares-each p k lawful lt) full still inside (λ c. kept Squares 0 c lt off refl) idle
+    by Trees lt off idle = alls-kept (tent_cells p) (trees_of_row p k) K L (trees-each lawful lt) full still inside (λ c. kept Trees 1 c lt off refl) idle
+    by Squares lt off idle = singles-kept (tent_cells p) (squares_of_row p k) K L (squares-each lawful lt) full still inside (λ c. kept Squares 0 c lt off refl) idle
 
-pub rested-woken : {W : Type 0} (bits : W → ℕ) {room : ℕ} (p : Tents) (before now : Waits W) {zeros ones : Touched W} {from to : Layers} {len : ℕ}
+pub rested-woken : {W : Type 0} {bits : W → ℕ} {room : ℕ} {p : Tents} {before now : Waits W} {zeros ones : Touched W} {from to : Layers} {len : ℕ}
     → ArePlanes room to → IsLostIn bits to.size.w 0 (back_at to len) (has to) zeros → IsLostIn bits to.size.w 1 (back_at to len) (has to) ones
     → AreTentsWoken bits room before zeros ones now → IsTents p → from.size ≡ p.size → from.len ≡ len → ArePlanesAlive from → ArePlanesAlive to → IsFurther from to
     → AreTentsRested bits p before (has from) → AreTentsRested bits p now (has to)
-rested-woken bits {room} p before now {zeros} {ones} {from} {to} {len} are lost_zeros lost_ones woken lawful size is alive after further =
-    rested-board bits p (has from) (has to) lawful (rw (← same) are.low) woken
+rested-woken {room} {p} {zeros} {ones} {from} {to} {len} are lost_zeros lost_ones woken lawful size is alive after further =
+    rested-board lawful (rw (← same) are.low) woken
     (record { low = value-in from; some = λ c lt. alive c (rw size lt) }) (record { low = value-in to; some = λ c lt. after c (rw same lt) }) further.inside
     (λ c on gone. rw same at (lost_zeros c (rw (back-whole is further) on) gone)) (λ c on gone. rw same at (lost_ones c (rw (back-whole is further) on) gone))
   where
@@ -192,12 +191,12 @@ rested-woken bits {room} p before now {zeros} {ones} {from} {to} {len} are lost_
 -- the houses of a kind at a line are among all
 part-kind : (p : Tents) (kind : Kind) (k : ℕ) → k < kind_lines p kind → IsPartOf (kind_houses p kind k) (tent_houses p)
 unfolding tent_houses
-part-kind p Columns k lt = in-front _ _ _ (in-below (column_of_tents p) k p.size.w lt)
-part-kind p Rows k lt = in-back _ (houses_below (column_of_tents p) p.size.w) _ (in-front _ _ _ (in-below (row_of_tents p) k p.size.h lt))
-part-kind p Trees k lt = in-back _ (houses_below (column_of_tents p) p.size.w) _ (in-back _ (houses_below (row_of_tents p) p.size.h) _
-    (in-front _ _ _ (rw (trees-are p) at (in-below (trees_of_row p) k p.size.h lt))))
-part-kind p Squares k lt = in-back _ (houses_below (column_of_tents p) p.size.w) _ (in-back _ (houses_below (row_of_tents p) p.size.h) _
-    (in-back _ (houses_below (tree_house p) (tent_cells p)) _ (rw (squares-are p) at (in-below (squares_of_row p) k p.size.h lt))))
+part-kind p Columns k lt = in-front _ _ _ (in-below (column_of_tents p) lt)
+part-kind p Rows k lt = in-back (houses_below (column_of_tents p) p.size.w) (in-front _ _ _ (in-below (row_of_tents p) lt))
+part-kind p Trees k lt = in-back (houses_below (column_of_tents p) p.size.w) (in-back (houses_below (row_of_tents p) p.size.h)
+    (in-front _ _ _ (rw (trees-are p) at (in-below (trees_of_row p) lt))))
+part-kind p Squares k lt = in-back (houses_below (column_of_tents p) p.size.w) (in-back (houses_below (row_of_tents p) p.size.h)
+    (in-back {part = _} (houses_below (tree_house p) (tent_cells p)) {back = _} (rw (squares-are p) at (in-below (squares_of_row p) lt))))
 
 -- all houses of a closed board are idle
 closed-rested : {W : Type 0} (bits : W → ℕ) (p : Tents) (none : Waits W) (K : Candidates) → IsClosed (tent_rules p) K → AreTentsRested bits p none K
@@ -205,13 +204,13 @@ closed-rested bits p none K closed kind k lt off =
     closed-idle (tent_cells p) (is_barred p) (tent_houses p) (solves_tents p) K closed (part-kind p kind k lt)
 
 -- a closing begins at a cell, which has lost a value
-pub rested-at : {W : Type 0} (bits : W → ℕ) {room : ℕ} (p : Tents) {planes : Layers} {place : ℕ} {none now : Waits W} {zeros ones : Touched W}
+pub rested-at : {W : Type 0} {bits : W → ℕ} {room : ℕ} {p : Tents} {planes : Layers} {place : ℕ} {none now : Waits W} {zeros ones : Touched W}
     → IsTents p → ArePlanes room planes → planes.size ≡ p.size → IsClosedAround (tent_rules p) (has planes) place
     → (has planes place 0 ≡ false → AreLinesOf bits zeros (place / p.size.w) (place % p.size.w))
     → (has planes place 1 ≡ false → AreLinesOf bits ones (place / p.size.w) (place % p.size.w))
     → AreTentsWoken bits room none zeros ones now → AreTentsRested bits p now (has planes)
-rested-at bits p {planes} {place} {none} {now} {zeros} {ones} lawful are size around no_zero no_one woken =
-    rested-board bits p around.before (has planes) lawful (rw (← size) are.low) woken (full-before (tent_counts p) around) (full-around (tent_counts p) around)
+rested-at {bits} {p} {planes} {place} {none} {now} {zeros} {ones} lawful are size around no_zero no_one woken =
+    rested-board lawful (rw (← size) are.low) woken (full-before (tent_counts p) around) (full-around (tent_counts p) around)
     (around-inside (tent_counts p) around) (around-lost (tent_counts p) around bits p.size.w 0 zeros no_zero) (around-lost (tent_counts p) around bits p.size.w 1 ones no_one)
     (closed-rested bits p none around.before around.closed)
 
@@ -220,3 +219,73 @@ pub place-in_planes : (p : Tents) (planes : Layers) {from : Option ℕ} {place :
 place-in_planes p planes {from} {place} size is closed =
     let around : IsClosedAround (tent_rules p) (has planes) place = rw is at closed in
     rw size (around.within place around.value around.had).0
+
+-- ---- the houses of a kind
+abbrev column_house : Tents → ℕ → CountHouse
+column_house p x = exactly (slice_index p.counts x) (column_places p.size x)
+
+abbrev row_house : Tents → ℕ → CountHouse
+row_house p y = exactly (slice_index p.counts (p.size.w + y)) (row_places p.size y)
+
+abbrev IsOfKind : Tents → Kind → CountHouse → Type 0
+IsOfKind p Columns house = (x : ℕ) × (x < p.size.w) × (house ≡ column_house p x)
+IsOfKind p Rows house = (y : ℕ) × (y < p.size.h) × (house ≡ row_house p y)
+IsOfKind p Trees house = IsAll (tent_cells p) house
+IsOfKind p Squares house = IsSingle (tent_cells p) house
+
+module _ (p : Tents) (lawful : IsTents p) where
+  kind-is : (kind : Kind) (house : CountHouse) → IsOfKind p kind house → IsHouse (tent_cells p) house
+  kind-is Columns house is = rw is.2 (column-is p lawful is.1)
+  kind-is Rows house is = rw is.2 (row-is p lawful is.1)
+  kind-is Trees house is = rw is.same is.is
+  kind-is Squares house is = is.is
+
+  pub kind-each : (kind : Kind) (k : ℕ) → k < kind_lines p kind → AllByRecursion (IsOfKind p kind) (kind_houses p kind k)
+  kind-each Columns k lt = ((k, lt, refl), tt)
+  kind-each Rows k lt = ((k, lt, refl), tt)
+  kind-each Trees k lt = trees-each lawful lt
+  kind-each Squares k lt = squares-each lawful lt
+
+  kind-keeps : (kind : Kind) (visited house : CountHouse) → IsOfKind p kind visited → IsOfKind p kind house → Keeps (tent_cells p) visited house
+  unfolding any_has
+  kind-keeps Columns visited house is other = rw (is.2, other.2) (elim (cases_eq is.0 other.0) [
+    | inl same ↦ rw same (keeps-itself (tent_cells p) (column_house p other.0))
+    | inr ne ↦ keeps-apart (tent_cells p) (column_house p is.0) (column_house p other.0)
+        (λ c on. false_from_ne_true _ (λ also. ne
+        (sym (column-lies p c (tent-field lawful).some is.1 (or_left _ _ on)) ∙ column-lies p c (tent-field lawful).some other.1 (or_left _ _ also))))
+  ])
+  kind-keeps Rows visited house is other = rw (is.2, other.2) (elim (cases_eq is.0 other.0) [
+    | inl same ↦ rw same (keeps-itself (tent_cells p) (row_house p other.0))
+    | inr ne ↦ keeps-apart (tent_cells p) (row_house p is.0) (row_house p other.0)
+        (λ c on. false_from_ne_true _ (λ also. ne
+        (sym (row-lies p c (tent-field lawful).some (or_left _ _ on)) ∙ row-lies p c (tent-field lawful).some (or_left _ _ also))))
+  ])
+  kind-keeps Trees visited house is other = all-keeps (tent_cells p) visited house is other
+  kind-keeps Squares visited house is other = single-keeps (tent_cells p) visited house is other
+
+  pub kind-quiet : (kind : Kind) → AreQuiet (tent_cells p) (IsOfKind p kind)
+  kind-quiet kind = record { different = λ house is. (kind-is kind house is).different; keeps = kind-keeps kind }
+
+-- planes stay those of a puzzle while they lose values
+pub field-further : {room : ℕ} {p : Tents} {from to : Layers} {words : List ℕ} → IsFieldOf room p from words → IsFurther from to → ArePlanesAlive to
+    → IsFieldOf room p to words
+field-further field further alive = record {
+  lawful = field.lawful;
+  narrow = field.narrow;
+  low = field.low;
+  size = further.same_size ∙ field.size;
+  trees = field.trees;
+  bare = λ c on. false_from_ne_true _ (λ has. true≢false (sym (further.inside c 1 has) ∙ field.bare c on));
+  alive = alive;
+}
+
+-- ---- visits of the lines of a kind that wait
+pub kind-first : {W : Type 0} (bits : W → ℕ) (p : Tents) (kind : Kind) (waits : Waits W) {left : ℕ → Bool} {from : Layers} → ArePlanesAlive from
+    → AreTentsRested bits p waits (has from) → ((k : ℕ) → left k ≡ (has_bit (waiting bits waits kind) k && ltb k (kind_lines p kind)))
+    → ArePassed (kind_houses p kind) (kind_lines p kind) left from from
+kind-first bits p kind waits alive rested is = passed-first (kind_houses p kind) alive
+    (λ k on. ltb-true _ _ (and_parts _ _ (sym (is k) ∙ on)).1)
+    (λ k lt off. rested kind k lt (by (has_bit (waiting bits waits kind) k) (rw (lt-ltb _ _ lt) at (sym (is k) ∙ off))))
+  where
+    by : (a : Bool) → (a && true) ≡ false → a ≡ false
+    by a e = grind (arith, common_steps, cases_Bool a)

@@ -1,8 +1,7 @@
 -- Lines that wait: what is beside lines that have changed, and which cells have lost values.
-use Rattle.fields_core.proofs.Common.{AreLinesOf, AreSpread, Bool, Candidates, CountPuzzle, IsFurther, IsInside, IsLostIn, Layers, Touched, ap, arith, back_at, cases_Bool, cases_eq, false, false_from_ne_true, has, has_bit, inl, inr, is_dead-not, lt-ltb, ltb, only-inside, only-other, or_parts, rules_of, sym, true, true≢false, ℕ, ◌%◌, ◌&&◌, ◌-◌, ◌/◌, ◌<◌, ◌∙◌, ◌≡◌}
+use Rattle.fields_core.proofs.Common.{AreLinesOf, AreSpread, Bool, Candidates, CountPuzzle, IsClosedAround, IsFurther, IsInside, IsLostIn, Layers, Touched, ap, arith, back_at, cases_Bool, cases_eq, false, false_from_ne_true, has, has_bit, inl, inr, is_dead-not, lt-ltb, ltb, only-inside, only-other, or_parts, rules_of, sym, true, true≢false, ℕ, ◌%◌, ◌&&◌, ◌-◌, ◌/◌, ◌<◌, ◌∙◌, ◌≡◌}
 use Rattle.engine_core.proofs.QueueLemmas.{alive_around}
 use Rattle.grid_core.proofs.TakingLemmas.{put_back-none}
-use Rattle.engine_core.specs.Position.{IsClosedAround}
 use Rattle.fields_core.proofs.AtMostLemmas.{IsFull}
 use Rattle.fields_core.proofs.PlaneSweeps.{counted-some}
 use Rattle.fields_core.proofs.TentBeside.{IsNextTo}
@@ -16,17 +15,14 @@ spread-off bits {room} before lines now woken {j} {k} on lt off (inr (inl above)
     let at : j ≡ k - 1 = omega (arith, above) in
     let f : (ltb k room && (ltb 0 k && lines (k - 1))) ≡ false =
     (or_parts _ _ (or_parts _ _ (or_parts _ _ (sym (woken k) ∙ off)).1).0).0 in
-    true≢false (rw (lt-ltb k room lt, lt-ltb 0 k (omega (arith, above)), rw at at on) at f)
+    true≢false (rw (lt-ltb _ _ lt, lt-ltb 0 k (omega (arith, above)), rw at at on) at f)
 spread-off bits {room} before lines now woken {j} {k} on lt off (inr (inr below)) =
     true≢false (sym (rw below at on) ∙ (or_parts _ _ (or_parts _ _ (sym (woken k) ∙ off)).1).1)
 
 -- what keeps a value that it had, unless it is lost
-pub value-kept : (K L : Candidates) (c v : ℕ) → IsInside L K → (K c v ≡ true → L c v ≡ false → ⊥) → L c v ≡ K c v
-value-kept K L c v inside never = elim (cases_Bool (K c v)) [
-  | inl on ↦ (elim (cases_Bool (L c v)) [
-    | inl still ↦ still
-    | inr gone ↦ absurd (never on gone)
-  ]) ∙ sym on
+pub value-kept : {K L : Candidates} (c v : ℕ) → IsInside L K → (K c v ≡ true → L c v ≡ false → ⊥) → L c v ≡ K c v
+value-kept {K} {L} c v inside never = elim (cases_Bool (K c v)) [
+  | inl on ↦ (elim (cases_Bool (L c v)) [ inl still ↦ still | inr gone ↦ absurd (never on gone) ]) ∙ sym on
   | inr off ↦ false_from_ne_true _ (λ on. true≢false (sym (inside c v on) ∙ off)) ∙ sym off
 ]
 

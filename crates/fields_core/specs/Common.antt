@@ -26,42 +26,43 @@ pub use Rattle.fields_core.specs.CountHouse.{AcceptsJust, AreMet, CountHouse, Co
 pub use Rattle.fields_core.specs.CountHouse.{one_at_most, rules_of}
 unfoldable pub use Rattle.fields_core.specs.CountHouse.{after_house, houses_below}
 pub use Rattle.fields_core.specs.CountLaws.{count-lawful}
-pub use Rattle.fields_core.specs.Houses.{AreAdded, AreNamed, TestsBelow, house_told, places_of, segment_places}
+pub use Rattle.fields_core.specs.Houses.{AreAdded, AreNamed, ArePassing, CountsPassing, IsCountIf, IsLongestNamed, TestsBelow, house_told, places_of, segment_places}
 pub use Rattle.fields_core.specs.Light.{bulb, bulbs_beside, light_cells}
 unfoldable pub use Rattle.fields_core.specs.Light.{number_right, sees_bulb, white}
 pub use Rattle.fields_core.specs.LightFaults.{IsLightFault}
-pub use Rattle.fields_core.specs.LightHouses.{column_house, house_at, in_grid, in_rows, light_counts, light_house, light_rules, lit_house, number_house}
+pub use Rattle.fields_core.specs.LightHouses.{AddsAll, AddsHouse, AreLightNames, column_house, house_at, in_grid, in_rows, light_counts, light_house, light_rules, lit_house, number_house}
 pub use Rattle.fields_core.specs.LightHouses.{row_house}
 unfoldable pub use Rattle.fields_core.specs.LightHouses.{light_houses}
 pub use Rattle.fields_core.specs.LightLonely.{asks, lonely}
 pub use Rattle.fields_core.specs.LightPlanes.{AreLightsWritten, ArePlanesOf, AreRowTables, AreTables, AreTablesKept, HasLightRoom, HasTables}
-pub use Rattle.fields_core.specs.LightRunLines.{AreAround, AreRunsOf, AreRunsVisited, IsClash, ReachesAlong, along}
-pub use Rattle.fields_core.specs.LightRunWords.{AreFilled, AreWritten}
-pub use Rattle.fields_core.specs.LightRuns.{IsAround, IsLatest, IsLine, house_along, line_cells, whites_of}
-pub use Rattle.fields_core.specs.LightSight.{RunsOn, ShinesAlong}
+pub use Rattle.fields_core.specs.LightRunLines.{AreAround, AreAroundAlong, AreRunsOf, AreRunsVisited, IsClash, ReachesAlong, ReachesMarked, along}
+pub use Rattle.fields_core.specs.LightRunWords.{AreFilled, AreRunsWritten, AreWritten, IsFilledIn}
+pub use Rattle.fields_core.specs.LightRuns.{AddsRun, IsAround, IsLatest, IsLine, TellsRun, house_along, line_cells, whites_of}
+pub use Rattle.fields_core.specs.LightSight.{RunsOn, ShinesAlong, ShinesInLine}
 pub use Rattle.fields_core.specs.LightSolutions.{IsLightSolution}
-pub use Rattle.fields_core.specs.LightWaits.{AreIdleBut, AreLightsReady, AreLinesRested, AreLinesWoken, AreLinesWokenSince, AreRowsSafe, AreSafeInColumns}
+pub use Rattle.fields_core.specs.LightWaits.{AreAlwaysRested, AreColumnsPartedFrom, AreIdleBut, AreLightsReady, AreLinesRested, AreLinesWoken, AreLinesWokenSince, AreNumbersSettled, AreRowsSafe, AreRunLines, AreSafeInColumns, AreThoseMet}
 pub use Rattle.fields_core.specs.LightWaits.{AreSettled, AreWhitesIdleBut, all_runs, lits_of_row, meets_line, run_houses, run_lines, waiting_runs}
 pub use Rattle.fields_core.specs.LightWaits.{white_houses}
 pub use Rattle.fields_core.specs.LightWords.{numbers_of_row}
 unfoldable pub use Rattle.fields_core.specs.LightWords.{is_numbered}
 pub use Rattle.fields_core.specs.LineWords.{AreRowsOf, AreSpread, IsRowIn, IsRowOf}
 pub use Rattle.fields_core.specs.Parts.{ArePieces, ArePlanesAlive, IsBroken, IsHouseBroken, IsHouseLeft, IsHouseOf, IsStruck, Piece, piece_at, piece_of}
+pub use Rattle.fields_core.specs.PlaneGames.{AreShortEnough, IsClosedTo}
 unfoldable pub use Rattle.fields_core.specs.Parts.{without_value}
 pub use Rattle.fields_core.specs.Sweeps.{IsSweep}
 pub use Rattle.fields_core.specs.Tallies.{IsTally, stays}
 pub use Rattle.fields_core.specs.TentFaults.{IsTentFault}
-pub use Rattle.fields_core.specs.TentHouses.{column_of_tents, row_of_tents, tent_counts, tent_house, tent_rules, tree_house}
+pub use Rattle.fields_core.specs.TentHouses.{AddsTree, AreTentNames, column_of_tents, row_of_tents, tent_counts, tent_house, tent_rules, tree_house}
 unfoldable pub use Rattle.fields_core.specs.TentHouses.{is_barred, tent_houses}
-pub use Rattle.fields_core.specs.TentNotes.{AreTentsReady, AreTentsWritten, IsFieldOf}
-pub use Rattle.fields_core.specs.TentPairs.{AreIn, AreNumbered, HasPairingRoom, tree_beside, tree_count}
+pub use Rattle.fields_core.specs.TentNotes.{AreTentsReady, AreTentsWritten, AreTreesVisited, IsFieldOf}
+pub use Rattle.fields_core.specs.TentPairs.{AreIn, AreNumbered, HasPairingRoom, tent_places, tree_beside, tree_count}
 unfoldable pub use Rattle.fields_core.specs.TentPairs.{may_pair}
 pub use Rattle.fields_core.specs.TentSolutions.{IsTentSolution}
 pub use Rattle.fields_core.specs.TentSquares.{squares_of_row}
 pub use Rattle.fields_core.specs.TentTouching.{IsTentAmong, IsWindow}
 pub use Rattle.fields_core.specs.TentTrees.{AreBare, AreBeside, AreTakenBeside, IsNear, trees_of_row}
 unfoldable pub use Rattle.fields_core.specs.TentTrees.{is_beside, wants_tent}
-pub use Rattle.fields_core.specs.TentWaits.{AreTentsRested, AreTentsSettled, AreTentsWoken, AreTentsWokenSince, all_of_kind, kind_houses, kind_lines, waiting}
+pub use Rattle.fields_core.specs.TentWaits.{AreTentsRested, AreTentsSettled, AreTentsWoken, AreTentsWokenSince, AreWaitingLines, all_of_kind, kind_houses, kind_lines, waiting}
 pub use Rattle.fields_core.specs.Tents.{tent, tent_cells, tree}
 unfoldable pub use Rattle.fields_core.specs.Tents.{can_be_paired, touches}
 pub use Rattle.fields_core.specs.Visits.{AreIdle, AreVisited}

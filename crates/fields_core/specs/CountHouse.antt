@@ -1,10 +1,6 @@
 -- Tables of count houses, and the rule sets that they make.
 use Rattle.std.specs.Prelude.{◌↔◌, ◌≡◌, IsTrue, ℕ, zero, suc, ◌+◌, ◌<◌, ◌≤◌, ◌^◌, Bool, true, false, not, ◌&&◌, ◌==◌, List, [], ◌++◌, length, map, slice_index, slice_index_or}
-use Rattle.grid_core.specs.Candidates.{Candidates, all_of, max_cells}
-use Rattle.grid_core.specs.Grids.{IsGrid}
-use Rattle.engine_core.specs.RuleSystem.{IsGridOf, RuleSystem, has_place}
-use Rattle.engine_core.specs.Filling.{strikes_by_fillings}
-use Rattle.engine_core.specs.HouseSets.{strikes_at, AreDifferent}
+use Rattle.fields_core.specs.Below.{AreDifferent, Candidates, IsGrid, IsGridOf, RuleSystem, all_of, has_place, max_cells, strikes_at, strikes_by_fillings}
 use Rattle.fields_core.specs.Count.{counts_between}
 
 -- cells, and the fewest and most ones that they may hold together

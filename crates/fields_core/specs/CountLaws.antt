@@ -2,15 +2,10 @@
 use Rattle.std.proofs.lemmas.Grind.{common_steps}
 use Rattle.std.proofs.Common.{◌≡◌, ℕ, ◌<◌, Bool, true, not, ◌&&◌, List, slice_index, refl, sym, arith}
 use Rattle.std.proofs.lemmas.Bool.{cases_Bool, true≢false, and_parts, and_from, lt-ltb, ltb-true}
-use Rattle.grid_core.specs.Candidates.{IsInside, IsWithin, all_of, single}
-use Rattle.grid_core.specs.Grids.{IsGrid}
+use Rattle.fields_core.specs.Below.{Decision, IsAlive, IsGrid, IsInside, IsLawful, IsWithin, after, all_of, single, strikes_at, strikes_by_fillings}
 use Rattle.grid_core.proofs.CandidateLemmas.{count_below-pos, is_dead-each}
 use Rattle.grid_core.proofs.GridLemmas.{single-is}
-use Rattle.engine_core.specs.ClosingList.{IsAlive}
-use Rattle.engine_core.specs.RuleSystem.{IsLawful, after}
 use Rattle.engine_core.specs.PlaceLaws.{has_place-here}
-use Rattle.engine_core.specs.Filling.{strikes_by_fillings}
-use Rattle.engine_core.specs.HouseSets.{strikes_at, Decision}
 use Rattle.engine_core.specs.HouseSetsLaws.{strikes_at-inside, strikes_at-in_scope, by_fillings-monotone, by_fillings-settled, by_fillings-closed}
 use Rattle.fields_core.specs.Count.{counts_between}
 use Rattle.fields_core.specs.CountHouse.{CountHouse, CountPuzzle, count_house_of, meets, rules_of, strikes_of, start_of, count_puzzle, IsCounting}

@@ -1,11 +1,7 @@
 -- The rules of Light Up: which cells see each other, and which grids are solutions. The place of the cell in column x and
 -- row y is y * w + x; a grid has 1 at a bulb and 0 elsewhere.
 use Rattle.std.specs.Prelude.{ℕ, suc, min, max, ◌+◌, ◌*◌, ◌/◌, ◌%◌, Bool, true, false, not, ◌&&◌, ◌||◌, ◌==◌, nat_lt, List, slice_index, slice_index_or, count_by}
-use Rattle.grid_core.specs.Regions.{beside}
-use Rattle.grid_core.specs.Candidates.{any_below, all_below}
-use Rattle.gameid_core.specs.Puzzles.{Light}
-use Rattle.gameid_core.specs.declared.light_up.cell.LightCell.{LightCell}
-use Rattle.gameid_core.specs.declared.light_up.cell.LightCell.TheVariants.{White, Black, Numbered}
+use Rattle.fields_core.specs.Below.{Black, Light, LightCell, Numbered, White, all_below, any_below, beside}
 
 abbrev pub light_cells : Light → ℕ
 light_cells p = p.size.w * p.size.h

@@ -1,7 +1,6 @@
 -- What is wrong with a grid of Light Up: the first of these tests that fails, the lowest place of each kind first.
 use Rattle.std.specs.Prelude.{◌≡◌, ◌≢◌, ℕ, true, false, List, [], ◌∷◌, Option, slice_index_or}
-use Rattle.gameid_core.specs.FirstFailed.{IsAnswerOfCheck, tests_of}
-use Rattle.gameid_core.specs.Puzzles.{Light}
+use Rattle.fields_core.specs.Below.{IsAnswerOfCheck, Light, tests_of}
 use Rattle.gameid_core.specs.declared.light_up.cell.LightCell.TheVariants.{Black as BlackCell, Numbered}
 use Rattle.fields_core.specs.Light.{light_cells, white, bulb, bulbs_beside}
 use Rattle.fields_core.specs.LightSolutions.{IsLightSolution, SeesBulb}

@@ -1,14 +1,12 @@
 -- The count houses of Light Up.
 use Rattle.std.specs.Prelude.{ℕ, ◌+◌, ◌*◌, ◌-◌, ◌/◌, ◌%◌, Bool, not, ◌&&◌, ◌||◌, ◌==◌, if◌then◌else◌, List, [], ◌∷◌, ◌++◌, filter, slice_index_or}
-use Rattle.grid_core.specs.Regions.{beside, row_places, column_places}
-use Rattle.engine_core.specs.RuleSystem.{RuleSystem}
-use Rattle.gameid_core.specs.Puzzles.{Light}
-use Rattle.gameid_core.specs.declared.light_up.cell.LightCell.{LightCell}
-use Rattle.gameid_core.specs.declared.light_up.cell.LightCell.TheVariants.{White, Black, Numbered}
+use Rattle.fields_core.specs.Below.{Black, Light, LightCell, Numbered, RuleSystem, Vec, White, beside, column_places, row_places}
 use Rattle.fields_core.specs.declared.light_up.light_house.LightHouse.{LightHouse}
 use Rattle.fields_core.specs.declared.light_up.light_house.LightHouse.TheVariants.{Number, Row, Column, Lit}
 use Rattle.fields_core.specs.CountHouse.{CountHouse, exactly, one_at_most, one_at_least, houses_below, CountPuzzle, rules_of}
 use Rattle.fields_core.specs.Light.{light_cells, white, joined_in_row, joined_in_column, solves_lights}
+use Rattle.fields_core.specs.Houses.{AreAdded, AreNamed}
+use Rattle.fields_core.specs.declared.count.name.HouseName.{HouseName}
 
 -- the run of white cells of the row that the cell is in, from the left; and of the column, from the top
 unfoldable pub row_run : Light → ℕ → List ℕ
@@ -85,3 +83,16 @@ light_counts p = record {
 -- what the rules of Light Up mean to a search
 abbrev pub light_rules : Light → RuleSystem
 light_rules p = rules_of (light_counts p)
+
+-- the names of the puzzle's houses
+abbrev pub AreLightNames : Light → List (HouseName LightHouse) → Type 0
+AreLightNames p names = AreNamed (light_house p) names (light_houses p)
+
+-- the name of the house that a cell tells was added, if there is one; and those of all cells
+abbrev pub AddsHouse : Light → (Light → ℕ → List CountHouse) → ℕ → Vec (HouseName LightHouse)
+    → Vec (HouseName LightHouse) → Type 0
+AddsHouse p house c old new = AreAdded (light_house p) old.items new.items (house p c)
+
+abbrev pub AddsAll : Light → (Light → ℕ → List CountHouse) → Vec (HouseName LightHouse)
+    → Vec (HouseName LightHouse) → Type 0
+AddsAll p house old new = AreAdded (light_house p) old.items new.items (in_grid p house)

@@ -1,9 +1,6 @@
 -- Numbers of Light Up that no grid meets. No public contract uses these words.
 use Rattle.std.specs.Prelude.{ℕ, Bool, false, ◌&&◌, ◌==◌, nat_lt, filter, length, slice_index_or}
-use Rattle.grid_core.specs.Regions.{beside}
-use Rattle.gameid_core.specs.Puzzles.{Light}
-use Rattle.gameid_core.specs.declared.light_up.cell.LightCell.{LightCell}
-use Rattle.gameid_core.specs.declared.light_up.cell.LightCell.TheVariants.{White, Black, Numbered}
+use Rattle.fields_core.specs.Below.{Black, Light, LightCell, Numbered, White, beside}
 use Rattle.fields_core.specs.Light.{white}
 
 -- the cell has a number other than 0

@@ -1,7 +1,6 @@
 -- Planes of Light Up, and the words of a puzzle beside them.
 use Rattle.std.specs.Prelude.{◌≡◌, ℕ, ◌<◌, ◌≤◌, length, map, slice_index}
-use Rattle.grid_core.specs.Planes.{Layers}
-use Rattle.gameid_core.specs.Puzzles.{IsLight, Light}
+use Rattle.fields_core.specs.Below.{IsLight, Layers, Light}
 use Rattle.fields_core.specs.Light.{light_cells, white}
 use Rattle.fields_core.specs.LightWords.{AreRunWords, IsRowRun, is_numbered}
 use Rattle.fields_core.specs.LineWords.{AreColumnsOf, AreRowsOf}

@@ -1,13 +1,6 @@
 -- The runs of one line, visited at once. No public contract uses these words.
 use Rattle.std.specs.Prelude.{◌≡◌, ℕ, ◌+◌, ◌*◌, ◌/◌, ◌%◌, ◌<◌, Bool, true, false, ◌&&◌, nat_lt, List, map, slice_index}
-use Rattle.std.specs.List.{AllByRecursion, list_any}
-use Rattle.grid_core.specs.Candidates.{any_below}
-use Rattle.grid_core.specs.Extent.{Extent}
-use Rattle.grid_core.specs.Planes.{crosses, at_line, has, Layers, line_len}
-use Rattle.grid_core.specs.Words.{has_bit}
-use Rattle.grid_core.specs.declared.planes.line.Line.{Line}
-use Rattle.engine_core.specs.RuleSystem.{has_place}
-use Rattle.gameid_core.specs.Puzzles.{Light}
+use Rattle.fields_core.specs.Below.{AllByRecursion, Extent, Layers, Light, Line, any_below, at_line, crosses, has, has_bit, has_place, line_len, list_any}
 use Rattle.fields_core.specs.CountHouse.{CountHouse, IsHouse, houses_below}
 use Rattle.fields_core.specs.LightHouses.{column_house}
 use Rattle.fields_core.specs.Visits.{AreVisited}
@@ -19,11 +12,21 @@ along bits words first stride k = slice_index (map bits words) (first + k * stri
 abbrev pub ReachesAlong : ℕ → ℕ → ℕ → ℕ → Type 0
 ReachesAlong long first stride len = (k : ℕ) → k < len → first + k * stride < long
 
+-- whether the marked ones have one
+abbrev pub ReachesMarked : ℕ → ℕ → ℕ → ℕ → Type 0
+ReachesMarked long first stride marked =
+    (k : ℕ) → has_bit marked k ≡ true → first + k * stride < long
+
 -- the bits are the numbers that are in a run with a marked one, and no two marked ones are in one run
 pub record AreAround (run : ℕ → ℕ) (room marked bits : ℕ) : Type 0 where
   pub is : (k : ℕ) → has_bit bits k ≡ any_below (λ j. has_bit marked j && has_bit (run j) k) room
   pub apart : (j k : ℕ) → j < k → has_bit marked j ≡ true → has_bit marked k ≡ true
       → has_bit (run j) k ≡ false
+
+-- the same of a line, by the words of its numbers
+abbrev pub AreAroundAlong : {W : Type 0} → (W → ℕ) → ℕ → List W → ℕ → ℕ → W → W → Type 0
+AreAroundAlong bits room words first stride marked around =
+    AreAround (along bits words first stride) room (bits marked) (bits around)
 
 -- two marked numbers are in one run
 pub record IsClash (run : ℕ → ℕ) (marked : ℕ) : Type 0 where

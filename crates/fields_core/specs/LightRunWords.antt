@@ -1,5 +1,5 @@
 -- Words of runs along a line, as they are written one after another. No public contract uses these words.
-use Rattle.std.specs.Prelude.{◌≡◌, ◌≢◌, ℕ, ◌+◌, ◌*◌, ◌<◌, ◌≤◌, Bool, ◌&&◌, nat_lt, List, length, slice_index}
+use Rattle.std.specs.Prelude.{◌≡◌, ◌≢◌, ℕ, ◌+◌, ◌*◌, ◌<◌, ◌≤◌, Bool, ◌&&◌, nat_lt, List, length, map, slice_index}
 use Rattle.grid_core.specs.Words.{has_bit}
 use Rattle.fields_core.specs.Light.{clear}
 
@@ -20,3 +20,12 @@ pub record AreWritten (test : ℕ → Bool) (len first stride n : ℕ) (from to 
   pub others : (c : ℕ) → ((i : ℕ) → i < n → first + i * stride ≢ c)
       → slice_index to c ≡ slice_index from c
   pub long : length to ≡ length from
+
+-- the same of a word that is filled in, and of all runs of a line with these white cells
+abbrev pub IsFilledIn : {W : Type 0} → (W → ℕ) → W → ℕ → ℕ → ℕ → ℕ → List W → List W → Type 0
+IsFilledIn bits word first stride start end from to =
+    AreFilled first stride start end (bits word) (map bits from) (map bits to)
+
+abbrev pub AreRunsWritten : {W : Type 0} → (W → ℕ) → W → ℕ → ℕ → ℕ → List W → List W → Type 0
+AreRunsWritten bits white first stride len from to =
+    AreWritten (has_bit (bits white)) len first stride len (map bits from) (map bits to)

@@ -1,10 +1,13 @@
 -- The runs that the cells of a line are in. No public contract uses these words.
 use Rattle.std.specs.Prelude.{◌≡◌, ℕ, suc, ◌+◌, ◌-◌, ◌*◌, ◌<◌, ◌≤◌, Bool, true, false, not, ◌&&◌, ◌||◌, ◌==◌, if◌then◌else◌, List, [], ◌∷◌, map, filter}
-use Rattle.std.specs.List.{range_with_len}
-use Rattle.gameid_core.specs.Puzzles.{Light}
+use Rattle.fields_core.specs.Below.{Light, Vec, range_with_len}
 use Rattle.fields_core.specs.CountHouse.{CountHouse, one_at_most}
 use Rattle.fields_core.specs.Light.{clear, white}
 use Rattle.fields_core.specs.declared.light_up.line.WhiteLine.{WhiteLine}
+use Rattle.fields_core.specs.Houses.{AreAdded}
+use Rattle.fields_core.specs.LightHouses.{light_house}
+use Rattle.fields_core.specs.declared.count.name.HouseName.{HouseName}
+use Rattle.fields_core.specs.declared.light_up.light_house.LightHouse.{LightHouse}
 
 -- the numbers of a line around `at` that pass, one after another: from `start` to the one before `end`
 pub record IsAround (test : ℕ → Bool) (len at start end : ℕ) : Type 0 where
@@ -56,3 +59,14 @@ run_house p first stride len at =
 
 abbrev pub house_along : WhiteLine → ℕ → List CountHouse
 house_along line at = run_house line.puzzle.now line.first line.stride line.len at
+
+-- the name of that house was added, if there is one
+abbrev pub AddsRun : WhiteLine → ℕ → Vec (HouseName LightHouse) → Vec (HouseName LightHouse)
+    → Type 0
+AddsRun line at old new =
+    AreAdded (light_house line.puzzle.now) old.items new.items (house_along line at)
+
+-- the house of that kind which the cell tells is that run's
+abbrev pub TellsRun : LightHouse → WhiteLine → ℕ → Type 0
+TellsRun kind line at =
+    light_house line.puzzle.now kind (line.first + at * line.stride) ≡ house_along line at

@@ -1,6 +1,8 @@
 -- Runs of numbers that pass a test, and whether a number of a line sees a bulb. No public contract uses these words.
-use Rattle.std.specs.Prelude.{◌≡◌, ◌≢◌, ℕ, suc, ◌<◌, ◌≤◌, Bool, true, false, List}
+use Rattle.std.specs.Prelude.{◌≡◌, ◌≢◌, ℕ, suc, ◌+◌, ◌*◌, ◌<◌, ◌≤◌, Bool, true, false, List}
 use Rattle.fields_core.specs.Light.{bulb, clear}
+use Rattle.fields_core.specs.LightRuns.{whites_of}
+use Rattle.fields_core.specs.declared.light_up.line.WhiteLine.{WhiteLine}
 
 -- the numbers after `at` pass, up to the one before the end; the end does not, if it is below len
 pub record RunsOn (test : ℕ → Bool) (len at end : ℕ) : Type 0 where
@@ -21,6 +23,11 @@ ShinesAlong white bulb at len true =
     (i : ℕ) × (i < len) × (i ≢ at) × (clear white at i ≡ true) × (bulb i ≡ true)
 ShinesAlong white bulb at len false =
     (i : ℕ) → i < len → i ≢ at → clear white at i ≡ true → bulb i ≡ false
+
+-- of the cell of that number of a line, in a grid
+abbrev pub ShinesInLine : WhiteLine → List ℕ → ℕ → Bool → Type 0
+ShinesInLine line g at sees =
+    ShinesAlong (whites_of line) (λ i. bulb g (line.first + i * line.stride)) at line.len sees
 
 -- whether another cell that is joined to the cell has a bulb
 abbrev pub SeesAlong : (ℕ → ℕ → Bool) → ℕ → List ℕ → ℕ → Bool → Type 0

@@ -2,9 +2,7 @@
 -- stands on a black cell, each numbered black cell has that many bulbs beside it, no bulb sees another, and each white
 -- cell holds a bulb or sees one.
 use Rattle.std.specs.Prelude.{◌≡◌, ◌≢◌, ℕ, ◌/◌, ◌%◌, ◌<◌, ◌≤◌, ◌⊎◌, true, List, slice_index_or}
-use Rattle.grid_core.specs.Grids.{IsGrid}
-use Rattle.gameid_core.specs.Puzzles.{Light}
-use Rattle.gameid_core.specs.declared.light_up.cell.LightCell.TheVariants.{Black, Numbered}
+use Rattle.fields_core.specs.Below.{Black, IsGrid, Light, Numbered}
 use Rattle.fields_core.specs.Light.{light_cells, white, bulb, bulbs_beside}
 
 -- the row and the column of a cell

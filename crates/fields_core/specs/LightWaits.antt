@@ -1,11 +1,6 @@
 -- Which houses of Light Up wait on planes. No public contract uses these words.
-use Rattle.std.specs.Prelude.{◌≡◌, ◌≢◌, ℕ, ◌+◌, ◌*◌, ◌/◌, ◌%◌, ◌<◌, ◌≤◌, Bool, true, false, ◌||◌, ◌⊎◌, List, ◌++◌, length, slice_index}
-use Rattle.grid_core.specs.Candidates.{Candidates}
-use Rattle.grid_core.specs.Words.{has_bit}
-use Rattle.grid_core.specs.Planes.{AreLinesOf, IsFurther, Layers, has}
-use Rattle.grid_core.specs.declared.planes.touched.Touched.{Touched}
-use Rattle.engine_core.specs.RuleSystem.{has_place}
-use Rattle.gameid_core.specs.Puzzles.{Light}
+use Rattle.std.specs.Prelude.{◌≡◌, ◌≢◌, ℕ, ◌+◌, ◌*◌, ◌/◌, ◌%◌, ◌<◌, ◌≤◌, Bool, true, false, ◌&&◌, ◌||◌, ◌⊎◌, nat_lt, List, ◌++◌, length, slice_index}
+use Rattle.fields_core.specs.Below.{AreLinesOf, Candidates, Extent, IsFurther, IsLight, Layers, Light, Touched, has, has_bit, has_place}
 use Rattle.fields_core.specs.CountHouse.{CountHouse, houses_below}
 use Rattle.fields_core.specs.Light.{clear, light_cells, joined_in_column, white}
 use Rattle.fields_core.specs.LightHouses.{column_house, house_at, in_grid, in_row, lit_house, number_house, row_house, seen_from}
@@ -20,7 +15,7 @@ use Rattle.fields_core.specs.declared.planes.light_up.waits.RunKind.TheVariants.
 use Rattle.fields_core.specs.LineWords.{AreSpread}
 
 -- ---- houses that wait by line
--- the runs of a kind at a line, how many lines there are, all of them, and which of them wait
+-- the runs of a kind at a line, how many lines there are, those lines in a grid, all of the runs, and which of them wait
 abbrev pub run_houses : Light → RunKind → ℕ → List CountHouse
 run_houses p Rows k = row_runs_of_row p k
 run_houses p Columns k = column_runs_of_column p k
@@ -28,6 +23,10 @@ run_houses p Columns k = column_runs_of_column p k
 abbrev pub run_lines : Light → RunKind → ℕ
 run_lines p Rows = p.size.h
 run_lines p Columns = p.size.w
+
+abbrev pub AreRunLines : {W : Type 0} → (W → ℕ) → Extent → RunKind → W → Type 0
+AreRunLines bits size kind lines = (p : Light) → size ≡ p.size
+    → (k : ℕ) → has_bit (bits lines) k ≡ nat_lt k (run_lines p kind)
 
 abbrev pub all_runs : Light → RunKind → List CountHouse
 all_runs p kind = houses_below (run_houses p kind) (run_lines p kind)
@@ -53,6 +52,11 @@ AreParted p x y k = clear (λ j. white p (j * p.size.w + x)) y k ≡ false
 abbrev pub AreColumnsParted : Light → ℕ → ℕ → ℕ → Type 0
 AreColumnsParted p columns y k = (x : ℕ) → x < p.size.w → has_bit columns x ≡ true
     → AreParted p x y k
+
+-- those of each row from one on are parted so from another
+abbrev pub AreColumnsPartedFrom : Light → ℕ → ℕ → ℕ → Type 0
+AreColumnsPartedFrom p columns first k = (y : ℕ) → first ≤ y → y < p.size.h
+    → AreColumnsParted p columns y k
 
 -- away are the cells of the rows that are none of those from the first on and before the end
 pub record IsReach {W : Type 0} (bits : W → ℕ) (p : Light) (lines : Touched W) (first end : ℕ)
@@ -81,9 +85,23 @@ AreSettled bits houses number before now = (p : Light) (K : Candidates)
     → AreLinesRested bits p before K → ((k : ℕ) → k < number p → AreIdle (houses p k) K)
     → AreLinesRested bits p now K
 
+abbrev pub AreNumbersSettled : {W : Type 0} → (W → ℕ) → ℕ → ℕ → LineWaits W → LineWaits W → Type 0
+AreNumbersSettled bits room y before now = (p : Light) (K : Candidates) → p.size.h ≤ room
+    → AreLinesRested bits p before K → AreIdle (numbers_of_row p y) K → AreLinesRested bits p now K
+
+-- whatever the board, all of the houses that do not wait are idle
+abbrev pub AreAlwaysRested : {W : Type 0} → (W → ℕ) → ℕ → LineWaits W → Type 0
+AreAlwaysRested bits room waits = (p : Light) (K : Candidates)
+    → IsLight p → p.size.w ≤ room → p.size.h ≤ room → AreLinesRested bits p waits K
+
 -- whether one of the lines has the cell of a row and a column
 abbrev pub meets_line : {W : Type 0} → (W → ℕ) → Touched W → ℕ → ℕ → Bool
 meets_line bits lines y x = has_bit (bits lines.rows) y || has_bit (bits lines.columns) x
+
+-- of some cells of a row those that one of the lines has
+abbrev pub AreThoseMet : {W : Type 0} → (W → ℕ) → Touched W → ℕ → W → W → Type 0
+AreThoseMet bits lines y cells met = (x : ℕ)
+    → has_bit (bits met) x ≡ (has_bit (bits cells) x && meets_line bits lines y x)
 
 -- what waits once cells of these lines have lost 0, and cells of those 1: numbers of these lines and of the lines beside
 -- them, runs of the columns and rows in which cells have lost 0, and white cells of those in which cells have lost 1

@@ -1,12 +1,9 @@
 -- Runs of white cells of Light Up as words of bits.
 use Rattle.std.specs.Prelude.{◌≡◌, ℕ, ◌+◌, ◌*◌, ◌/◌, ◌%◌, ◌<◌, ◌≤◌, ◌&&◌, nat_lt, List, length, slice_index, Bool, true, false, slice_index_or}
-use Rattle.grid_core.specs.Words.{has_bit}
-use Rattle.gameid_core.specs.Puzzles.{Light}
+use Rattle.fields_core.specs.Below.{Black, Light, LightCell, Numbered, White, has_bit}
 use Rattle.fields_core.specs.CountHouse.{CountHouse}
 use Rattle.fields_core.specs.Light.{light_cells, joined_in_row, joined_in_column}
 use Rattle.fields_core.specs.LightHouses.{in_row, number_house, row_house}
-use Rattle.gameid_core.specs.declared.light_up.cell.LightCell.{LightCell}
-use Rattle.gameid_core.specs.declared.light_up.cell.LightCell.TheVariants.{White, Black, Numbered}
 
 -- the bits are the places along its row of the run that the cell is in: none where the cell is black; and along its column
 abbrev pub IsRowRun : Light → ℕ → ℕ → Type 0

@@ -1,7 +1,6 @@
 -- Cells of rows and of columns as words of bits.
 use Rattle.std.specs.Prelude.{◌≡◌, ℕ, ◌+◌, ◌-◌, ◌*◌, ◌<◌, ◌≤◌, Bool, ◌&&◌, ◌||◌, nat_lt, List, length, slice_index}
-use Rattle.grid_core.specs.Extent.{Extent}
-use Rattle.grid_core.specs.Words.{has_bit}
+use Rattle.fields_core.specs.Below.{Extent, has_bit}
 
 -- the word has those cells of the row that pass
 abbrev pub IsRowOf : ℕ → (ℕ → Bool) → ℕ → ℕ → Type 0

@@ -1,11 +1,6 @@
 -- Count houses as parts of lines of planes.
 use Rattle.std.specs.Prelude.{◌≡◌, ℕ, ◌-◌, ◌*◌, ◌/◌, ◌%◌, ◌<◌, Bool, true, false, not, ◌&&◌, ◌==◌, ◌⊎◌, List, length, slice_index_or}
-use Rattle.grid_core.specs.Candidates.{Candidates, any_below, count_below}
-use Rattle.grid_core.specs.Extent.{Extent}
-use Rattle.grid_core.specs.Planes.{Layers, has, cells_of, crosses, lines_beside, number_of}
-use Rattle.grid_core.specs.declared.planes.line.Line.{Line}
-use Rattle.grid_core.specs.declared.planes.line.Line.TheVariants.{Row}
-use Rattle.engine_core.specs.RuleSystem.{has_place}
+use Rattle.fields_core.specs.Below.{Candidates, Extent, Layers, Line, Row, any_below, cells_of, count_below, crosses, has, has_place, lines_beside, number_of}
 use Rattle.fields_core.specs.Count.{is_open}
 use Rattle.fields_core.specs.CountHouse.{CountHouse, IsHouse, after_house}
 use Rattle.fields_core.specs.declared.planes.line_parts.Part.{Part}

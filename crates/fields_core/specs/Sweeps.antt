@@ -1,11 +1,7 @@
 -- Sweeps of all houses on planes. No public contract uses these words.
 use Rattle.std.specs.Prelude.{◌≡◌, Bool, true, false}
-use Rattle.std.specs.List.{range_with_len}
-use Rattle.grid_core.specs.Candidates.{Candidates}
-use Rattle.grid_core.specs.Planes.{Layers, has, IsFurther}
+use Rattle.fields_core.specs.Below.{Candidates, IsDead, IsFurther, Layers, RuleSystem, has, range_with_len}
 use Rattle.engine_core.specs.Closing.{replay}
-use Rattle.engine_core.specs.ClosingList.{IsDead}
-use Rattle.engine_core.specs.RuleSystem.{RuleSystem}
 use Rattle.fields_core.specs.Parts.{ArePlanesAlive}
 
 -- the board after a sweep: each house is visited once, in ascending order

@@ -1,7 +1,6 @@
 -- What is counted of the cells of count houses.
 use Rattle.std.specs.Prelude.{◌≡◌, ℕ, Bool, not, ◌&&◌, ◌||◌, ◌==◌, nat_lt, List}
-use Rattle.std.specs.List.{count_by}
-use Rattle.grid_core.specs.Candidates.{Candidates}
+use Rattle.fields_core.specs.Below.{Candidates, count_by}
 use Rattle.fields_core.specs.Count.{is_empty}
 use Rattle.fields_core.specs.declared.count.house.Bounds.{Bounds}
 use Rattle.fields_core.specs.declared.count.tally.Tally.{Tally}

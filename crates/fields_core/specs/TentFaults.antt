@@ -1,7 +1,6 @@
 -- What is wrong with a grid of Tents: the first of these tests that fails, the lowest place, column or row of each kind first.
 use Rattle.std.specs.Prelude.{◌≡◌, ◌≢◌, ℕ, ◌+◌, ◌<◌, true, List, [], ◌∷◌, Option, slice_index}
-use Rattle.gameid_core.specs.FirstFailed.{IsAnswerOfCheck, tests_of}
-use Rattle.gameid_core.specs.Puzzles.{Tents}
+use Rattle.fields_core.specs.Below.{IsAnswerOfCheck, Tents, tests_of}
 use Rattle.fields_core.specs.Tents.{tent_cells, tree, tent, touches, tents_in_column, tents_in_row}
 use Rattle.fields_core.specs.TentSolutions.{IsPairedBy, IsTentSolution}
 use Rattle.fields_core.specs.declared.tents.fault.TentFault.{TentFault}

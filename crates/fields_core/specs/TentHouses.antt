@@ -1,13 +1,12 @@
 -- The count houses of Tents.
-use Rattle.std.specs.Prelude.{ℕ, ◌+◌, ◌/◌, ◌%◌, Bool, not, ◌&&◌, ◌||◌, nat_lt, if◌then◌else◌, List, [], ◌∷◌, ◌++◌, filter, slice_index}
-use Rattle.std.specs.List.{list_any}
-use Rattle.grid_core.specs.Regions.{beside, row_places, column_places}
-use Rattle.engine_core.specs.RuleSystem.{RuleSystem}
-use Rattle.gameid_core.specs.Puzzles.{Tents}
+use Rattle.std.specs.Prelude.{◌*◌, ℕ, ◌+◌, ◌/◌, ◌%◌, Bool, not, ◌&&◌, ◌||◌, nat_lt, if◌then◌else◌, List, [], ◌∷◌, ◌++◌, filter, slice_index}
+use Rattle.fields_core.specs.Below.{RuleSystem, Tents, Vec, beside, column_places, list_any, row_places}
 use Rattle.fields_core.specs.declared.tents.tent_house.TentHouse.{TentHouse}
 use Rattle.fields_core.specs.declared.tents.tent_house.TentHouse.TheVariants.{Column, Row, Tree, Square}
 use Rattle.fields_core.specs.CountHouse.{CountHouse, exactly, one_at_most, one_at_least, houses_below, CountPuzzle, rules_of}
 use Rattle.fields_core.specs.Tents.{tent_cells, tree, solves_tents}
+use Rattle.fields_core.specs.Houses.{AreAdded, AreNamed}
+use Rattle.fields_core.specs.declared.count.name.HouseName.{HouseName}
 
 -- a column, and a row, has its number of tents
 abbrev pub column_of_tents : Tents → ℕ → List CountHouse
@@ -62,3 +61,12 @@ tent_counts p = record {
 -- what the rules of Tents mean to a search
 abbrev pub tent_rules : Tents → RuleSystem
 tent_rules p = rules_of (tent_counts p)
+
+-- the names of the puzzle's houses
+abbrev pub AreTentNames : Tents → List (HouseName TentHouse) → Type 0
+AreTentNames p names = AreNamed (tent_house p) names (tent_houses p)
+
+-- the name of the house of a cell's tree was added, if one stands there
+abbrev pub AddsTree : Tents → ℕ → ℕ → Vec (HouseName TentHouse) → Vec (HouseName TentHouse) → Type 0
+AddsTree p x y old new =
+    AreAdded (tent_house p) old.items new.items (tree_house p (y * p.size.w + x))

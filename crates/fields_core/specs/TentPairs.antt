@@ -1,17 +1,16 @@
 -- Tents and trees as two sides to be paired, each numbered by place.
 use Rattle.std.specs.Prelude.{◌≡◌, ℕ, ◌<◌, ◌≤◌, Bool, List, filter, length, slice_index}
-use Rattle.std.specs.List.{range_with_len}
-use Rattle.grid_core.specs.Candidates.{count_below}
-use Rattle.grid_core.specs.Regions.{beside}
-use Rattle.engine_core.specs.HouseSets.{AreBelow}
-use Rattle.engine_core.specs.RuleSystem.{has_place}
-use Rattle.gameid_core.specs.Puzzles.{Tents}
-use Rattle.fields_core.specs.Tents.{tent_cells, tree}
+use Rattle.fields_core.specs.Below.{AreBelow, Tents, beside, count_below, has_place, range_with_len}
+use Rattle.fields_core.specs.Tents.{tent, tent_cells, tree}
 use Rattle.fields_core.specs.declared.tents.pairs.PairingScratch.{PairingScratch}
 
 -- the places of the trees, ascending, and how many there are
 abbrev pub trees_of : Tents → List ℕ
 trees_of p = filter (tree p) (range_with_len 0 (tent_cells p))
+
+-- those of the tents
+abbrev pub tent_places : Tents → List ℕ → List ℕ
+tent_places p g = filter (tent g) (range_with_len 0 (tent_cells p))
 
 abbrev pub tree_count : Tents → ℕ
 tree_count p = count_below (tree p) (tent_cells p)

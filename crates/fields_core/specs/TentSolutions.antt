@@ -2,10 +2,7 @@
 -- stands on a tree, no two tents touch, each column and row has its number of tents, and the tents are paired one to one
 -- with the trees, each with a tree beside it. Two pairings of one set of tents are one solution.
 use Rattle.std.specs.Prelude.{◌≡◌, ℕ, ◌+◌, ◌<◌, true, false, List, slice_index}
-use Rattle.grid_core.specs.Grids.{IsGrid}
-use Rattle.grid_core.specs.Regions.{beside}
-use Rattle.engine_core.specs.RuleSystem.{has_place}
-use Rattle.gameid_core.specs.Puzzles.{Tents}
+use Rattle.fields_core.specs.Below.{IsGrid, Tents, beside, has_place}
 use Rattle.fields_core.specs.Tents.{tent_cells, tree, tent, touches, tents_in_column, tents_in_row}
 
 -- each tent has a tree beside it, no two have the same, and each tree is some tent's

@@ -1,7 +1,6 @@
 -- The squares of two rows of Tents.
 use Rattle.std.specs.Prelude.{ℕ, ◌+◌, ◌*◌, List, [], ◌∷◌}
-use Rattle.grid_core.specs.declared.planes.line.Line.TheVariants.{Row}
-use Rattle.gameid_core.specs.Puzzles.{Tents}
+use Rattle.fields_core.specs.Below.{Row, Tents}
 use Rattle.fields_core.specs.CountHouse.{CountHouse, houses_below}
 use Rattle.fields_core.specs.Parts.{Piece}
 use Rattle.fields_core.specs.TentHouses.{square_house}

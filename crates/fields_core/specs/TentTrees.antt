@@ -1,13 +1,6 @@
 -- The trees of a row of Tents, and words of the cells beside them.
 use Rattle.std.specs.Prelude.{◌≡◌, ℕ, ◌+◌, ◌-◌, ◌*◌, ◌<◌, ◌≤◌, Bool, true, false, not, ◌&&◌, nat_lt, List, count_by}
-use Rattle.std.specs.List.{list_any}
-use Rattle.grid_core.specs.Candidates.{Candidates, any_below}
-use Rattle.grid_core.specs.Extent.{Extent}
-use Rattle.grid_core.specs.Regions.{beside}
-use Rattle.grid_core.specs.Planes.{Layers, has}
-use Rattle.grid_core.specs.Words.{has_bit}
-use Rattle.engine_core.specs.RuleSystem.{has_place}
-use Rattle.gameid_core.specs.Puzzles.{Tents}
+use Rattle.fields_core.specs.Below.{Candidates, Extent, Layers, Tents, any_below, beside, has, has_bit, has_place, list_any}
 use Rattle.fields_core.specs.CountHouse.{CountHouse, houses_below}
 use Rattle.fields_core.specs.LineWords.{IsRowIn, IsRowOf}
 use Rattle.fields_core.specs.TentHouses.{tree_house}

@@ -1,10 +1,6 @@
 -- Which houses of Tents wait on planes. No public contract uses these words.
-use Rattle.std.specs.Prelude.{◌≡◌, ℕ, ◌+◌, ◌<◌, false, ◌||◌, List}
-use Rattle.grid_core.specs.Candidates.{Candidates}
-use Rattle.grid_core.specs.Planes.{IsFurther, Layers, has}
-use Rattle.grid_core.specs.Words.{has_bit}
-use Rattle.grid_core.specs.declared.planes.touched.Touched.{Touched}
-use Rattle.gameid_core.specs.Puzzles.{IsTents, Tents}
+use Rattle.std.specs.Prelude.{◌≡◌, ℕ, ◌+◌, ◌<◌, false, ◌&&◌, ◌||◌, nat_lt, List}
+use Rattle.fields_core.specs.Below.{Candidates, Extent, IsFurther, IsTents, Layers, Tents, Touched, has, has_bit}
 use Rattle.fields_core.specs.CountHouse.{CountHouse, houses_below}
 use Rattle.fields_core.specs.Parts.{ArePlanesAlive}
 use Rattle.fields_core.specs.TentHouses.{column_of_tents, row_of_tents}
@@ -37,6 +33,11 @@ waiting bits waits Columns = bits waits.columns
 waiting bits waits Rows = bits waits.rows
 waiting bits waits Trees = bits waits.trees
 waiting bits waits Squares = bits waits.squares
+
+-- the lines of a grid at which houses of the kind wait
+abbrev pub AreWaitingLines : {W : Type 0} → (W → ℕ) → Extent → Waits W → Kind → W → Type 0
+AreWaitingLines bits size waits kind lines = (p : Tents) → size ≡ p.size → (k : ℕ)
+    → has_bit (bits lines) k ≡ (has_bit (waiting bits waits kind) k && nat_lt k (kind_lines p kind))
 
 -- all houses that do not wait are idle
 abbrev pub AreTentsRested : {W : Type 0} → (W → ℕ) → Tents → Waits W → Candidates → Type 0

@@ -1,13 +1,7 @@
 -- The rules of Tents: which grids are solutions. The place of the cell in column x and row y is y * w + x; a grid has 1 at
 -- a tent and 0 elsewhere.
 use Rattle.std.specs.Prelude.{ℕ, ◌+◌, ◌*◌, ◌/◌, ◌%◌, Bool, true, not, ◌&&◌, ◌||◌, ◌==◌, nat_le, List, [], ◌∷◌, map, filter, slice_index, count_by}
-use Rattle.std.specs.List.{range_with_len}
-use Rattle.grid_core.specs.Extent.{Extent}
-use Rattle.grid_core.specs.Regions.{beside, row_places, column_places}
-use Rattle.grid_core.specs.Candidates.{any_below, all_below}
-use Rattle.engine_core.specs.RuleSystem.{has_place}
-use Rattle.engine_core.specs.Filling.{Set, some_filling}
-use Rattle.gameid_core.specs.Puzzles.{Tents}
+use Rattle.fields_core.specs.Below.{Extent, Set, Tents, all_below, any_below, beside, column_places, has_place, range_with_len, row_places, some_filling}
 
 abbrev pub tent_cells : Tents → ℕ
 tent_cells p = p.size.w * p.size.h

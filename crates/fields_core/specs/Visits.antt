@@ -1,7 +1,6 @@
 -- Visits of count houses on planes, one after another.
 use Rattle.std.specs.Prelude.{◌≡◌, ℕ, ◌<◌, Bool, true, false, not, ◌&&◌, ◌==◌, List, [], ◌∷◌}
-use Rattle.grid_core.specs.Candidates.{Candidates}
-use Rattle.grid_core.specs.Planes.{Layers, has, cells_of, IsFurther}
+use Rattle.fields_core.specs.Below.{Candidates, IsFurther, Layers, cells_of, has}
 use Rattle.fields_core.specs.CountHouse.{CountHouse, after_house}
 use Rattle.fields_core.specs.Parts.{ArePlanesAlive}
 

@@ -40,7 +40,7 @@ pub trait CountGame: Drop + Sized {
     fn names(&self, alloc: Global) -> Result<Vec<HouseName<Self::Kind>>, AllocError>
         ensures counting { IsCounted (counts self.now) }
         ensures named { IfOk result
-            (λ names. AreNamed (told self.now) names.items ((counts self.now).houses)) };
+            (λ v. AreNamed (told self.now) v.items (counts self.now).houses) };
 
     /// The house of that kind which the place or the line tells.
     fn house(&self, kind: Self::Kind, place: usize) -> House

@@ -1,8 +1,8 @@
 //! Count houses, each told by few numbers.
 #![tactic(auto, using(crate::proofs::LawSets::house_laws))]
 
-ghost use Rattle.std.specs.Prelude.{◌*◌, ◌+◌, ◌<◌, ◌^◌, ◌∷◌, ◌≡◌, ◌≤◌, Bool, ℕ, [], filter, if◌then◌else◌, length, map, slice_index, true};
-ghost use Rattle.fields_core.specs.Common.{AreBelow, IsNext, TestsBelow, beside as beside_places, column_places, exactly, has_place, house_told, one_at_least, one_at_most, places_of, range_with_len, row_places, segment_places};
+ghost use Rattle.std.specs.Prelude.{◌*◌, ◌+◌, ◌<◌, ◌^◌, ◌≡◌, ◌≤◌, Bool, ℕ, [], length, map, slice_index, true};
+ghost use Rattle.fields_core.specs.Common.{AreBelow, ArePassing, CountsPassing, IsCountIf, IsNext, TestsBelow, beside as beside_places, column_places, exactly, has_place, house_told, one_at_least, one_at_most, places_of, range_with_len, row_places, segment_places};
 
 use grid_core::{Size, step};
 
@@ -160,8 +160,7 @@ fn count_cells(cells: &[Segment; 4]) -> usize
 pub(crate) fn beside<F: Fn(usize) -> bool>(size: Size, place: usize, passes: F) -> [Segment; 4]
     requires place_in { place < size.w * size.h }
     requires callable { (c : ℕ) → c < size.w * size.h → F.pre passes c }
-    ensures { (test : ℕ → Bool) → TestsBelow (F.post passes) test (size.w * size.h)
-        → places_of result ≡ filter test (beside_places size place) }
+    ensures { ArePassing (F.post passes) size (beside_places size place) (places_of result) }
 {
     let mut cells = Segment::none().alone();
     for direction in 0..4 {
@@ -195,9 +194,7 @@ pub(crate) fn next_passing<F: Fn(usize) -> bool>(
 /// One if the place is there and passes, and else none.
 fn count_if<F: Fn(usize) -> bool>(passes: &F, there: bool, place: usize) -> usize
     requires { there ≡ true → F.pre passes.now place }
-    ensures count { (test : ℕ → Bool)
-        → (there ≡ true → (answer : Bool) → F.post passes.now place answer → answer ≡ test place)
-        → result ≡ length (filter test (if there then place ∷ [] else [])) }
+    ensures count { IsCountIf (F.post passes.now) there place result }
     ensures few { result ≤ 1 }
 {
     usize::from(there && passes(place))
@@ -213,8 +210,7 @@ pub(crate) fn count_passing<F: Fn(usize) -> bool>(
     requires x_in { x < size.w }
     requires y_in { y < size.h }
     requires callable { (c : ℕ) → c < size.w * size.h → F.pre passes c }
-    ensures count { (test : ℕ → Bool) → TestsBelow (F.post passes) test (size.w * size.h)
-        → result ≡ length (filter test (beside_places size (y * size.w + x))) }
+    ensures count { CountsPassing (F.post passes) size (beside_places size (y * size.w + x)) result }
     ensures few { result ≤ 4 }
 {
     let (w, h) = (usize::from(size.w()), usize::from(size.h()));

@@ -1,8 +1,8 @@
 //! Names of count houses.
 #![tactic(auto, using(crate::proofs::LawSets::house_name_laws))]
 
-ghost use Rattle.std.specs.Prelude.{◌<◌, ◌^◌, ◌≡◌, List, ℕ, length};
-ghost use Rattle.fields_core.specs.Common.{AreNamed, CountHouse, count_house_of, longest};
+ghost use Rattle.std.specs.Prelude.{◌<◌, ◌^◌, ◌≡◌};
+ghost use Rattle.fields_core.specs.Common.{IsLongestNamed, longest};
 
 /// A house: the place or the line that tells it, of which kind it is, and how many cells it has.
 #[derive(Clone, Copy)]
@@ -28,9 +28,7 @@ impl<K: Copy> HouseName<K> {
 
 /// How many cells the longest house has.
 pub(crate) fn longest_of<K: Copy>(names: &[HouseName<K>]) -> usize
-    ensures { (told : K → ℕ → List CountHouse) (houses : List CountHouse)
-        → AreNamed told names.now houses
-        → result ≡ longest (λ h. (count_house_of houses h).places) (length houses) }
+    ensures { IsLongestNamed names.now result }
 {
     let mut cells = 0;
     for k in 0..names.len() {

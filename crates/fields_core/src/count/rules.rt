@@ -33,7 +33,7 @@ impl<P: CountGame> CountRules<P> {
     pub fn new(alloc: Global, puzzle: &P) -> Result<CountRules<P>, AllocError>
         ensures known { IsCounted (P.counts puzzle.now) }
         ensures copied { IfOk result (λ rules. rules.puzzle ≡ puzzle.now) }
-        ensures rules { IfOk result (λ rules. ⟦<CountRules<P> as Rules>⟧.system rules
+        ensures rules { IfOk result (λ v. ⟦<Self as Rules>⟧.system v
             ≡ rules_of (P.counts puzzle.now)) }
     {
         let names = Fixed::of(puzzle.names(alloc)?);

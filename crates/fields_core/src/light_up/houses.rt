@@ -1,7 +1,7 @@
 //! The names of the houses of Light Up.
 
-ghost use Rattle.std.specs.Prelude.{◌*◌, ◌+◌, ◌<◌, ◌≡◌, IfOk, OnOk, true};
-ghost use Rattle.fields_core.specs.Common.{AreAdded, AreNamed, IsAround, IsLatest, IsLight, column_house, house_along, in_grid, light_cells, light_house, light_houses, lit_house, number_house, row_house, whites_of};
+ghost use Rattle.std.specs.Prelude.{◌<◌, ◌≡◌, IfOk, OnOk, true};
+ghost use Rattle.fields_core.specs.Common.{AddsAll, AddsHouse, AddsRun, AreLightNames, IsAround, IsLatest, IsLight, TellsRun, column_house, light_cells, light_house, lit_house, number_house, row_house, whites_of};
 
 use crate::count::house::count_passing;
 use crate::count::name::HouseName;
@@ -17,8 +17,7 @@ type LightNames = Vec<HouseName<LightHouse>>;
 /// Adds the house of a cell with a number.
 fn push_number(names: &mut LightNames, puzzle: &LightPuzzle, place: usize) -> Result<(), AllocError>
     requires { place < light_cells puzzle.now }
-    ensures { OnOk result (AreAdded (light_house puzzle.now) names.old.items names.new.items
-        (number_house puzzle.now place)) }
+    ensures { OnOk result (AddsHouse puzzle.now number_house place names.old names.new) }
 {
     if let LightCell::Numbered(_) = puzzle.cell(place) {
         let w = columns(puzzle);
@@ -40,12 +39,9 @@ fn push_run(
     requires at_in { at < line.now.len }
     requires white { whites_of line.now at ≡ true }
     requires latest { IsLatest (whites_of line.now) line.now.len at latest }
-    requires told { light_house line.now.puzzle.now kind (line.now.first + at * line.now.stride)
-        ≡ house_along line.now at }
-    ensures run { IfOk result
-        (λ run. IsAround (whites_of line.now) line.now.len at run.0 run.1) }
-    ensures added { OnOk result (AreAdded (light_house line.now.puzzle.now)
-        names.old.items names.new.items (house_along line.now at)) }
+    requires told { TellsRun kind line.now at }
+    ensures run { IfOk result (λ run. IsAround (whites_of line.now) line.now.len at run.0 run.1) }
+    ensures added { OnOk result (AddsRun line.now at names.old names.new) }
 {
     if at < latest.1 {
         return Ok(latest);
@@ -57,18 +53,14 @@ fn push_run(
 
 /// Adds by place the houses of runs along rows and along columns, and of each white cell with the cells that it sees.
 fn push_whites(
-    along_rows: &mut LightNames,
-    along_columns: &mut LightNames,
+    in_rows: &mut LightNames,
+    in_columns: &mut LightNames,
     lits: &mut LightNames,
     puzzle: &LightPuzzle,
 ) -> Result<(), AllocError>
-    ensures rows { OnOk result (AreAdded (light_house puzzle.now) along_rows.old.items
-        along_rows.new.items (in_grid puzzle.now row_house)) }
-    ensures columns { OnOk result (AreAdded (light_house puzzle.now) along_columns.old.items
-        along_columns.new.items
-        (in_grid puzzle.now column_house)) }
-    ensures lits { OnOk result (AreAdded (light_house puzzle.now) lits.old.items lits.new.items
-        (in_grid puzzle.now lit_house)) }
+    ensures rows { OnOk result (AddsAll puzzle.now row_house in_rows.old in_rows.new) }
+    ensures columns { OnOk result (AddsAll puzzle.now column_house in_columns.old in_columns.new) }
+    ensures lits { OnOk result (AddsAll puzzle.now lit_house lits.old lits.new) }
 {
     let (w, h) = (columns(puzzle), rows(puzzle));
     let mut columns = [(0, 0); LONGEST];
@@ -80,10 +72,10 @@ fn push_whites(
             if !is_white(puzzle, place) {
                 continue;
             }
-            row = push_run(along_rows, &line, LightHouse::Row, row, x)?;
+            row = push_run(in_rows, &line, LightHouse::Row, row, x)?;
             let column = WhiteLine::column(puzzle, x);
             let kind = LightHouse::Column;
-            let (top, end) = push_run(along_columns, &column, kind, columns[x], y)?;
+            let (top, end) = push_run(in_columns, &column, kind, columns[x], y)?;
             columns[x] = (top, end);
             let cells = row.1 - row.0 + (end - top - 1);
             lits.push(HouseName::of(LightHouse::Lit, place, cells))?;
@@ -96,8 +88,7 @@ fn push_whites(
 #[tactic(auto, using(crate::proofs::LawSets::house_list_laws))]
 pub(crate) fn names_of_lights(alloc: Global, puzzle: &LightPuzzle) -> Result<LightNames, AllocError>
     ensures lawful { IsLight puzzle.now }
-    ensures named { IfOk result
-        (λ names. AreNamed (light_house puzzle.now) names.items (light_houses puzzle.now)) }
+    ensures named { IfOk result (λ names. AreLightNames puzzle.now names.items) }
 {
     let cells = puzzle.size().cells();
     let mut names = Vec::with_capacity(alloc, 2 * cells)?;

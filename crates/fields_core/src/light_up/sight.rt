@@ -1,8 +1,8 @@
 //! Which bulbs a cell sees, and how many stand beside it.
 #![tactic(auto, using(crate::proofs::LawSets::light_sight_laws))]
 
-ghost use Rattle.std.specs.Prelude.{◌*◌, ◌+◌, ◌<◌, ◌≡◌, true};
-ghost use Rattle.fields_core.specs.Common.{IsGrid, ShinesAlong, bulb, bulbs_beside, light_cells, sees_bulb, whites_of};
+ghost use Rattle.std.specs.Prelude.{◌<◌, ◌≡◌, true};
+ghost use Rattle.fields_core.specs.Common.{IsGrid, ShinesInLine, bulbs_beside, light_cells, sees_bulb, whites_of};
 
 use crate::count::house::{count_passing, next_passing};
 use crate::light_up::cells::{columns, is_white};
@@ -15,8 +15,7 @@ fn sees_along(line: &WhiteLine<'_>, grid: &Grid, at: usize) -> bool
     requires fits { IsGrid (light_cells line.now.puzzle.now) 2 grid.now }
     requires at_in { at < line.now.len }
     requires white { whites_of line.now at ≡ true }
-    ensures { ShinesAlong (whites_of line.now)
-        (λ i. bulb grid.now (line.now.first + i * line.now.stride)) at line.now.len result }
+    ensures { ShinesInLine line.now grid.now at result }
 {
     let (start, end) = line.run(at);
     let is_seen = |other| other != at && grid.get(line.place(other)) == 1;

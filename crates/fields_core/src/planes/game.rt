@@ -2,7 +2,7 @@
 
 ghost use Rattle.std.specs.Prelude.{◌*◌, ◌≡◌, ℕ, true};
 ghost use Rattle.engine_core.specs.ClosingList.{IsAlive};
-ghost use Rattle.fields_core.specs.Common.{AreKept, AreMet, AreNamed, FitsIn, HasBoard, IsClosedBut, IsClosedIn, IsCounted, IsExtent, IsFurther, IsGrid, IsSuited, IsSweep, IsTaken, Layers, Needs, has, needs_in, needs_of, rules_of};
+ghost use Rattle.fields_core.specs.Common.{AreKept, AreMet, AreNamed, AreShortEnough, HasBoard, IsClosedBut, IsClosedIn, IsClosedTo, IsCounted, IsExtent, IsFurther, IsGrid, IsSweep, Layers, Needs, has, needs_in, needs_of, rules_of};
 
 use crate::count::game::CountGame;
 use crate::count::name::HouseName;
@@ -25,9 +25,7 @@ pub trait PlaneGame: CountGame {
     fn size(&self) -> Size
         ensures value { result ≡ Self.extent self.now }
         ensures lawful { IsExtent result }
-        ensures short { (had : Needs)
-            → FitsIn (needs_of (rules_of (Self.counts self.now))) (needs_in had)
-            → all_short (needs_in had) → IsSuited result 64 };
+        ensures short { AreShortEnough all_short (rules_of (Self.counts self.now)) result };
 
     /// Whether words of 64 places are known to be long enough for all puzzles of these sizes.
     fn are_short(&self, made: Needs) -> bool
@@ -89,8 +87,7 @@ pub trait SweepNotes<W: Word, P: CountGame>: Sized {
         requires board { HasBoard (rules_of (P.counts puzzle.now)) (P.extent puzzle.now) W.room
             planes.old }
         requires closed_but { IsClosedBut (rules_of (P.counts puzzle.now)) (has planes.old) from }
-        ensures taken { IsTaken (rules_of (P.counts puzzle.now)) (has planes.old) (has planes.new)
-            result.closing }
+        ensures taken { IsClosedTo (P.counts puzzle.now) planes.old planes.new result.closing }
         ensures turns { IsClosedIn (rules_of (P.counts puzzle.now)) (has planes.old) result.turns }
         ensures alive { IsAlive (rules_of (P.counts puzzle.now)) (has planes.new) }
         ensures further { IsFurther planes.old planes.new }

@@ -1,8 +1,8 @@
 //! The names of the houses of Tents.
 #![tactic(auto, using(crate::proofs::LawSets::tent_houses_laws))]
 
-ghost use Rattle.std.specs.Prelude.{◌*◌, ◌+◌, ◌<◌, IfOk, OnOk};
-ghost use Rattle.fields_core.specs.Common.{AreAdded, AreNamed, IsTents, tent_house, tent_houses, tree_house};
+ghost use Rattle.std.specs.Prelude.{◌<◌, IfOk, OnOk};
+ghost use Rattle.fields_core.specs.Common.{AddsTree, AreTentNames, IsTents, tent_house};
 
 use crate::count::house::count_passing;
 use crate::count::name::HouseName;
@@ -20,8 +20,7 @@ fn push_tree(
 ) -> Result<(), AllocError>
     requires x_in { x < puzzle.now.size.w }
     requires y_in { y < puzzle.now.size.h }
-    ensures { OnOk result (AreAdded (tent_house puzzle.now) names.old.items names.new.items
-        (tree_house puzzle.now (y * puzzle.now.size.w + x))) }
+    ensures { OnOk result (AddsTree puzzle.now x y names.old names.new) }
 {
     let place = place_of(puzzle, x, y);
     if is_tree(puzzle, place) {
@@ -38,8 +37,7 @@ pub(crate) fn names_of_tents(
     puzzle: &TentsPuzzle,
 ) -> Result<Vec<HouseName<TentHouse>>, AllocError>
     ensures lawful { IsTents puzzle.now }
-    ensures named { IfOk result
-        (λ names. AreNamed (tent_house puzzle.now) names.items (tent_houses puzzle.now)) }
+    ensures named { IfOk result (λ names. AreTentNames puzzle.now names.items) }
 {
     let size = puzzle.size();
     let (w, h) = (usize::from(size.w()), usize::from(size.h()));

@@ -1,8 +1,8 @@
 //! Whether the tents of a grid can be paired with the trees.
 #![tactic(auto, using(crate::proofs::LawSets::tent_pairs_laws))]
 
-ghost use Rattle.std.specs.Prelude.{◌<◌, ◌≡◌, ◌≤◌, IfOk, ℕ, filter, length, take};
-ghost use Rattle.fields_core.specs.Common.{AreIn, AreNumbered, HasPairingRoom, IsGrid, IsNext, IsTents, can_be_paired, may_pair, range_with_len, tent, tent_cells, tree_beside, tree_count};
+ghost use Rattle.std.specs.Prelude.{◌<◌, ◌≡◌, ◌≤◌, IfOk, ℕ, length, take};
+ghost use Rattle.fields_core.specs.Common.{AreIn, AreNumbered, HasPairingRoom, IsGrid, IsNext, IsTents, can_be_paired, may_pair, tent, tent_cells, tent_places, tree_beside, tree_count};
 
 use crate::tents::cells::is_tree;
 use gameid_core::TentsPuzzle;
@@ -83,8 +83,7 @@ fn next_tree(puzzle: &TentsPuzzle, numbers: &[usize], place: usize, from: usize)
 fn list_tents(puzzle: &TentsPuzzle, grid: &Grid, tents: &mut [usize]) -> usize
     requires fits { IsGrid (tent_cells puzzle.now) 2 grid.now }
     requires room { tent_cells puzzle.now ≤ length tents.old }
-    ensures listed { take result tents.new
-        ≡ filter (tent grid.now) (range_with_len 0 (tent_cells puzzle.now)) }
+    ensures listed { take result tents.new ≡ tent_places puzzle.now grid.now }
     ensures few { result ≤ tent_cells puzzle.now }
     ensures as_long { length tents.new ≡ length tents.old }
 {

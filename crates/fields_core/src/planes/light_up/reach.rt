@@ -2,7 +2,7 @@
 
 ghost use Rattle.std.specs.Prelude.{◌≡◌, ℕ, ◌+◌, ◌<◌, ◌≤◌, true};
 ghost use Rattle.fields_core.specs.LightWaits.{AreColumnsParted, IsReach};
-ghost use Rattle.fields_core.specs.Common.{ArePlanesOf, AreTables, any_below, has_bit};
+ghost use Rattle.fields_core.specs.Common.{AreColumnsPartedFrom, ArePlanesOf, AreTables, any_below, has_bit};
 
 use crate::planes::light_up::tables::LightTables;
 use gameid_core::LightPuzzle;
@@ -52,8 +52,7 @@ impl<W: Word> LightTables<W> {
         requires high_in { high < puzzle.now.size.h }
         ensures down { high < result }
         ensures within { result ≤ puzzle.now.size.h }
-        ensures apart { (y : ℕ) → result ≤ y → y < puzzle.now.size.h
-            → AreColumnsParted puzzle.now (W.bits columns) y high }
+        ensures apart { AreColumnsPartedFrom puzzle.now (W.bits columns) result high }
     {
         let h = usize::from(puzzle.size().h());
         let mut end = high + 1;

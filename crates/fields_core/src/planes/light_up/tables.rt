@@ -1,7 +1,7 @@
 //! What planes of Light Up keep of a puzzle.
 
-ghost use Rattle.std.specs.Prelude.{◌≡◌, ◌+◌, ◌*◌, ◌<◌, ◌≤◌, IfOk, length, map};
-ghost use Rattle.fields_core.specs.Common.{AreFilled, AreWritten, HasTables, IsRowOf, ReachesAlong, has_bit, is_numbered, white};
+ghost use Rattle.std.specs.Prelude.{◌≡◌, ◌+◌, ◌*◌, ◌<◌, ◌≤◌, IfOk, length};
+ghost use Rattle.fields_core.specs.Common.{AreRunsWritten, HasTables, IsFilledIn, IsRowOf, ReachesAlong, is_numbered, white};
 
 use crate::light_up::cells::columns;
 use gameid_core::{LightCell, LightPuzzle};
@@ -65,8 +65,7 @@ fn fill<W: Word>(
 )
     requires within { ReachesAlong (length runs.old.items) first stride end }
     requires low { start ≤ end }
-    ensures filled { AreFilled first stride start end (W.bits word)
-        (map W.bits runs.old.items) (map W.bits runs.new.items) }
+    ensures filled { IsFilledIn W.bits word first stride start end runs.old.items runs.new.items }
     ensures long { length runs.new.items ≡ length runs.old.items }
 {
     for at in start..end {
@@ -85,8 +84,7 @@ pub(crate) fn write_runs<W: Word>(
     requires within { ReachesAlong (length runs.old.items) first stride len }
     requires onward { 0 < stride }
     requires fits { len ≤ W.room }
-    ensures written { AreWritten (has_bit (W.bits white)) len first stride len
-        (map W.bits runs.old.items) (map W.bits runs.new.items) }
+    ensures written { AreRunsWritten W.bits white first stride len runs.old.items runs.new.items }
     ensures long { length runs.new.items ≡ length runs.old.items }
 {
     let mut blacks = W::all(len).but(white);

@@ -1,7 +1,7 @@
 //! Visits of the houses of Light Up by the words that are kept of a puzzle.
 
 ghost use Rattle.std.specs.Prelude.{◌≡◌, ℕ, ◌+◌, ◌*◌, ◌<◌, ◌≤◌, ◌&&◌, ◌||◌, ◌==◌, true, IfNone, IfSome, is_some, length, map, nat_lt};
-ghost use Rattle.fields_core.specs.Common.{AreAround, AreIdleBut, ArePlanesAlive, ArePlanesOf, AreRowsSafe, AreRunsVisited, AreSafeInColumns, AreTables, AreVisited, AreWhitesIdleBut, IsClash, ReachesAlong, along, count_below, has, has_bit, house_at, line_len, lines_beside, lit_house, lits_of_row, number_house, number_of, numbers_of_row, run_houses, run_lines};
+ghost use Rattle.fields_core.specs.Common.{AreAroundAlong, AreIdleBut, ArePlanesAlive, ArePlanesOf, AreRowsSafe, AreRunsVisited, AreSafeInColumns, AreTables, AreVisited, AreWhitesIdleBut, IsClash, ReachesAlong, ReachesMarked, along, count_below, has, has_bit, house_at, line_len, lines_beside, lit_house, lits_of_row, number_house, number_of, numbers_of_row, run_houses, run_lines};
 
 use crate::light_up::cells::columns;
 use crate::planes::light_up::tables::LightTables;
@@ -21,12 +21,9 @@ fn has_two<W: Word>(word: W) -> bool
 /// The numbers of a line in a run with a marked one, or nothing if a run has two. That of `k` is at `first + k * stride`.
 fn around<W: Word>(runs: &[W], first: usize, stride: usize, marked: W) -> Option<W>
     requires marked_in { (k : ℕ) → has_bit (W.bits marked) k ≡ true → k < W.room }
-    requires within { (k : ℕ) → has_bit (W.bits marked) k ≡ true
-        → first + k * stride < length runs.now }
-    ensures around { IfSome result (λ bits. AreAround
-        (along W.bits runs.now first stride) W.room (W.bits marked) (W.bits bits)) }
-    ensures clash { IfNone result (IsClash
-        (along W.bits runs.now first stride) (W.bits marked)) }
+    requires within { ReachesMarked (length runs.now) first stride (W.bits marked) }
+    ensures around { IfSome result (AreAroundAlong W.bits W.room runs.now first stride marked) }
+    ensures clash { IfNone result (IsClash (along W.bits runs.now first stride) (W.bits marked)) }
 {
     let mut rest = marked;
     let mut bits = W::none();

@@ -1,7 +1,7 @@
 //! Which numbers, runs and white cells of Light Up wait to be visited.
 
-ghost use Rattle.std.specs.Prelude.{◌≡◌, ℕ, ◌<◌, ◌≤◌, ◌&&◌, nat_lt};
-ghost use Rattle.fields_core.specs.Common.{AreIdle, AreLinesRested, AreLinesWoken, AreLinesWokenSince, ArePlanesOf, AreSettled, AreSpread, Candidates, IsClosedBut, IsLight, Light, has, has_bit, light_cells, light_rules, lit_house, meets_line, numbers_of_row, run_houses, run_lines, waiting_runs};
+ghost use Rattle.std.specs.Prelude.{◌≡◌, ◌<◌, ◌≤◌};
+ghost use Rattle.fields_core.specs.Common.{AreAlwaysRested, AreLinesRested, AreLinesWoken, AreLinesWokenSince, AreNumbersSettled, ArePlanesOf, AreRunLines, AreSettled, AreSpread, AreThoseMet, IsClosedBut, Light, has, has_bit, light_cells, light_rules, lit_house, run_houses, run_lines, waiting_runs};
 
 use gameid_core::LightPuzzle;
 use grid_core::{Planes, Touched, Word};
@@ -18,8 +18,7 @@ pub(crate) enum RunKind {
 impl RunKind {
     /// The lines that there are.
     pub(crate) fn lines<W: Word>(self, planes: &Planes<W>) -> W
-        ensures { (p : Light) → planes.now.size ≡ p.size
-            → (k : ℕ) → has_bit (W.bits result) k ≡ nat_lt k (run_lines p self) }
+        ensures { AreRunLines W.bits planes.now.size self result }
     {
         match self {
             RunKind::Rows => planes.rows(),
@@ -79,8 +78,7 @@ impl<W: Word> LineWaits<W> {
 
     /// Everything waits.
     pub(crate) fn all() -> LineWaits<W>
-        ensures { (p : Light) (K : Candidates) → IsLight p → p.size.w ≤ W.room → p.size.h ≤ W.room
-            → AreLinesRested W.bits p result K }
+        ensures { AreAlwaysRested W.bits W.room result }
     {
         LineWaits::at(W::all(W::places()))
     }
@@ -115,9 +113,7 @@ impl<W: Word> LineWaits<W> {
     /// The numbers of the row wait no more: they are idle. Once no row waits, no column does.
     pub(crate) fn settle_numbers(&mut self, y: u8)
         requires { y < W.room }
-        ensures { (p : Light) (K : Candidates) → p.size.h ≤ W.room
-            → AreLinesRested W.bits p self.old K
-            → AreIdle (numbers_of_row p y) K → AreLinesRested W.bits p self.new K }
+        ensures { AreNumbersSettled W.bits W.room y self.old self.new }
     {
         self.numbers = self.numbers.but(W::one(usize::from(y)));
         if !self.numbers.is_some() {
@@ -146,8 +142,7 @@ impl<W: Word> LineWaits<W> {
     /// Of these cells of a row those that may wait.
     pub(crate) fn whites(&self, y: usize, cells: W) -> W
         requires { y < W.room }
-        ensures { (x : ℕ) → has_bit (W.bits result) x
-            ≡ (has_bit (W.bits cells) x && meets_line W.bits self.now.ones y x) }
+        ensures { AreThoseMet W.bits self.now.ones y cells result }
     {
         if self.ones.rows.has(y) {
             return cells;

@@ -1,7 +1,7 @@
 //! The trees of each row of Tents as words, and visits of those of a row, all at once.
 
-ghost use Rattle.std.specs.Prelude.{◌<◌, ◌≡◌, ◌≤◌, length, map, not};
-ghost use Rattle.fields_core.specs.Common.{ArePlanesAlive, AreTakenBeside, AreVisited, IsFieldOf, IsFurther, IsRowIn, Tents, tree, trees_of_row};
+ghost use Rattle.std.specs.Prelude.{◌<◌, ◌≤◌, length, map, not};
+ghost use Rattle.fields_core.specs.Common.{ArePlanesAlive, AreTakenBeside, AreTreesVisited, IsFurther, IsRowIn, Tents, tree};
 
 use crate::planes::tents::three_rows::{ThreeRows, ones_near};
 use crate::tents::cells::{is_tree, place_of};
@@ -52,8 +52,7 @@ pub(crate) fn visit_trees<W: Word>(planes: &mut Planes<W>, trees: &[W], y: u8) -
     requires y_in { y < planes.old.size.h }
     requires long { planes.old.size.h ≤ length trees.now }
     requires alive { ArePlanesAlive planes.old }
-    ensures { (p : Tents) → IsFieldOf W.room p planes.old (map W.bits trees.now)
-        → AreVisited (trees_of_row p y) planes.old planes.new result }
+    ensures { AreTreesVisited W.room (map W.bits trees.now) y planes.old planes.new result }
 {
     let ones = ones_near(planes, y);
     let own = trees[usize::from(y)];

@@ -1,8 +1,8 @@
 //! Which houses of Tents wait to be visited.
 #![tactic(auto, using(crate::proofs::LawSets::wait_laws))]
 
-ghost use Rattle.std.specs.Prelude.{◌&&◌, ◌≡◌, ◌≤◌, ℕ, nat_lt};
-ghost use Rattle.fields_core.specs.Common.{AreTentsRested, AreTentsSettled, AreTentsWoken, AreTentsWokenSince, Candidates, HasBoard, IsClosedBut, IsSuited, IsTents, Tents, has, has_bit, kind_lines, tent_rules, waiting};
+ghost use Rattle.std.specs.Prelude.{◌≡◌, ◌≤◌};
+ghost use Rattle.fields_core.specs.Common.{AreTentsRested, AreTentsSettled, AreTentsWoken, AreTentsWokenSince, AreWaitingLines, Candidates, HasBoard, IsClosedBut, IsSuited, IsTents, Tents, has, tent_rules, waiting};
 
 use gameid_core::TentsPuzzle;
 use grid_core::{Planes, Touched, Word};
@@ -92,8 +92,7 @@ impl<W: Word> Waits<W> {
 
     /// The lines at which houses of this kind wait.
     pub(crate) fn lines(&self, planes: &Planes<W>, kind: Kind) -> W
-        ensures { (p : Tents) → planes.now.size ≡ p.size → (k : ℕ) → has_bit (W.bits result) k
-            ≡ (has_bit (waiting W.bits self.now kind) k && nat_lt k (kind_lines p kind)) }
+        ensures { AreWaitingLines W.bits planes.now.size self.now kind result }
     {
         match kind {
             Kind::Columns => self.columns.both(planes.columns()),

@@ -1,7 +1,6 @@
-use Rattle.fields_core.proofs.Common.{[], ap, ap₂, arith, get_or-set_other, length-set, map, range_with_len, refl, rules, segment_places, sym, ℕ, ◌*◌, ◌++◌, ◌+◌, ◌∙◌, ◌∷◌, ◌≡◌}
+use Rattle.fields_core.proofs.Common.{[], ap, ap₂, arith, get_or-set_other, length-set, map, range_with_len, refl, rules, segment_places, steps, sym, ℕ, ◌*◌, ◌++◌, ◌+◌, ◌∙◌, ◌∷◌, ◌≡◌}
 use Rattle.fields_core.proofs.HouseLemmas.{each-empty, places-set}
 use Rattle.fields_core.proofs.HouseLists.{step-keep, step-none, step-skip}
-unfoldable use Rattle.grid_core.specs.Regions.{steps}
 use Rattle.fields_core.proofs.count.house.beside.Goals as goal
 use Rattle.fields_core.proofs.count.house.beside.Goals.{in-Some+then-passes, in-Some+else-passes, in_default}
 
@@ -9,21 +8,15 @@ pub loop-direction-init : goal.loop-direction-init
 unfolding steps
 loop-direction-init g c =
     let none = c.alone-cells.ensures ∙ c.none.ensures in
-    record {
-      found = λ test tests. none;
-      rest = λ k d from lt. each-empty c.alone-cells.result none k d lt;
-      four = search rules;
-    }
+    record { found = λ test tests. none; rest = λ k d from lt. each-empty c.alone-cells.result none k d lt; four = search rules }
 
 one-cell : (place : ℕ) → map (λ k. place + k * 0) (range_with_len 0 1) ≡ place ∷ []
 one-cell place = let z : place + 0 * 0 ≡ place = omega arith in rw z refl
 
 pub loop-direction-preserved : goal.loop-direction-preserved
 loop-direction-preserved g c =
-    let i = c.loop-direction.invariant in
-    let n = c.loop-direction.direction in
-    let cells = c.loop-direction.cells in
-    let low = c.loop-direction-test.true in
+    let i = c.loop-direction.invariant in let n = c.loop-direction.direction in
+    let cells = c.loop-direction.cells in let low = c.loop-direction-test.true in
     let size = c.args.size in
     elim c.match-step.branch [
       | in-Some+then-passes w ↦

@@ -4,10 +4,8 @@ use Rattle.fields_core.proofs.count.house.count_passing.Goals as goal
 
 pub returns-clause-count : goal.returns-clause-count
 returns-clause-count g c = λ test tests.
-    let w = c.args.size.w in
-    let h = c.args.size.h in
-    let x = c.args.x in
-    let y = c.args.y in
+    let w = c.args.size.w in let h = c.args.size.h in
+    let x = c.args.x in let y = c.args.y in
     let wide : c.from-w.result ≡ c.args.size.w = c.from-w.ensures ∙ c.w.ensures.value in
     let high : c.from-h.result ≡ c.args.size.h = c.from-h.ensures ∙ c.h.ensures.value in
     let rows : (y + 1) * w ≤ h * w = mul-le-mul_right w (omega (arith, c.requires.y_in)) in

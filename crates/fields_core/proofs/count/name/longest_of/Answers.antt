@@ -5,9 +5,8 @@ use Rattle.fields_core.proofs.count.name.longest_of.Goals as goal
 
 pub loop-k-preserved : goal.loop-k-preserved
 loop-k-preserved g c = λ told houses are.
-    let k = c.loop-k.k in
-    let before = c.loop-k.invariant told houses are in
-    let cells = named-cells told c.args.names.now houses k c.index-names-k.result are c.loop-k-test.true in
+    let k = c.loop-k.k in let before = c.loop-k.invariant told houses are in
+    let cells = named-cells told c.args.names.now houses c.index-names-k.result are c.loop-k-test.true in
     rw (longest-more (λ h. (count_house_of houses h).places) k, sym before, sym cells) (search rules)
 
 pub returns : goal.returns

@@ -1,6 +1,5 @@
-use Rattle.fields_core.proofs.Common.{ap₂, arith, sym, ◌&&◌, ◌<◌}
+use Rattle.fields_core.proofs.Common.{ap₂, arith, kept-inside, striking-more, sym, ◌&&◌, ◌<◌}
 use Rattle.grid_core.specs.Board.{has, cells_of}
-use Rattle.engine_core.proofs.HouseLemmas.{kept-inside, striking-more}
 use Rattle.fields_core.proofs.HouseVisits.{cell-in, idle-stays, partly-all, partly-more}
 use Rattle.fields_core.proofs.RuleLemmas.{same-shape}
 use Rattle.fields_core.proofs.count.rules.strike.Goals as goal
@@ -22,18 +21,17 @@ retain-struck-requires c = inside (goal.at.retain-struck-requires c).After-place
 
 pub returns-then-kept-eq3-clause-left : goal.returns-then-kept-eq3-clause-left
 returns-then-kept-eq3-clause-left c =
-    idle-stays c.args.board.now c.requires.lawful c.requires.values c.of-tally.ensures c.kept.result c.kept.ensures c.if-kept-eq3.true
+    idle-stays c.args.board.now c.requires.lawful c.requires.values c.of-tally.ensures c.kept.ensures c.if-kept-eq3.true
 
 pub loop-k-preserved : goal.loop-k-preserved
 loop-k-preserved c =
-    let i = c.loop-k.invariant in
-    let e = c.retain-struck.ensures in
+    let i = c.loop-k.invariant in let e = c.retain-struck.ensures in
     record {
       left = partly-more c.args.board.now c.requires.lawful c.requires.values c.of-tally.ensures c.kept-in-loop-k.result i.left (omega (arith, c.loop-k-test.true, c.len-k-end.ensures))
           c.place-place.ensures (ap₂ (λ a b. a && b) c.has.ensures c.has-in-loop-k.ensures) c.kept-in-loop-k.ensures e.left;
       striking = striking-more i.striking (kept-inside (has c.loop-k.board) (has c.retain-struck.new.self) _ _ e.left) e.same
           (λ on. let w = e.lost on in (_, w.0, w.1, w.2));
-      shape = same-shape _ _ _ i.shape e.shape;
+      shape = same-shape i.shape e.shape;
     }
 
 pub returns-clause-left : goal.returns-clause-left

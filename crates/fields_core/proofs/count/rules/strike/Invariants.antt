@@ -1,6 +1,5 @@
-use Rattle.fields_core.proofs.Common.{SameShape, house_told}
+use Rattle.fields_core.proofs.Common.{IsStriking, SameShape, house_told}
 use Rattle.grid_core.specs.Board.{has}
-use Rattle.engine_core.proofs.HouseLemmas.{IsStriking}
 use Rattle.fields_core.proofs.HouseVisits.{IsPartly}
 use Rattle.fields_core.proofs.count.rules.strike.Given as goal
 

@@ -1,6 +1,4 @@
-use Rattle.fields_core.proofs.Common.{FailsLight, IsGrid, IsLightFault, Light, List, None, Option, [], arith, black_right, bulb_right, common_steps, light_cells, light_tests, lit_right, none_exactly, none_right, not, number_right, rules, ℕ, ◌↔◌, ◌∷◌, ◌≡◌}
-use Rattle.fields_core.specs.LightSolutions.{IsLightSolution}
-use Rattle.fields_core.specs.declared.light_up.fault.LightFault.{LightFault}
+use Rattle.fields_core.proofs.Common.{FailsLight, IsGrid, IsLightFault, IsLightSolution, Light, LightFault, List, None, Option, [], arith, black_right, bulb_right, common_steps, light_cells, light_tests, lit_right, none_exactly, none_right, not, number_right, rules, ℕ, ◌↔◌, ◌∷◌, ◌≡◌}
 use Rattle.fields_core.proofs.FirstWrong.{IsSearched, all-right, first-wrong}
 use Rattle.fields_core.proofs.LightRuleLemmas.{black, dark, kinds, light-made, light-none, light-sound, number, seen}
 use Rattle.fields_core.proofs.light_up.check.check_lights.Goals as goal
@@ -28,8 +26,7 @@ found-dark c = rw (c.cells-end.ensures.value, c.size.ensures.value) at (c.next_p
 
 pub returns-in-Some : goal.returns-in-Some
 returns-in-Some c =
-    let p = c.args.puzzle.now in
-    let g = c.args.grid.now in
+    let p = c.args.puzzle.now in let g = c.args.grid.now in
     let w = told p g c.requires.fits (first-wrong (FailsLight p g) ([]) (black p g) (number p g ∷ seen p g ∷ dark p g ∷ []) (light-made p g c.requires.fits)
     tt
     (rw c.in-Some.is at (found-black (goal.at.returns-in-Some c).After-next_passing))) in
@@ -37,8 +34,7 @@ returns-in-Some c =
 
 pub returns-in-Some-next_passing : goal.returns-in-Some-next_passing
 returns-in-Some-next_passing c =
-    let p = c.args.puzzle.now in
-    let g = c.args.grid.now in
+    let p = c.args.puzzle.now in let g = c.args.grid.now in
     let w = told p g c.requires.fits (first-wrong (FailsLight p g) (black p g ∷ []) (number p g) (seen p g ∷ dark p g ∷ []) (light-made p g c.requires.fits)
     (all-right (FailsLight p g) (black p g) (rw c.in_default.is at (found-black (goal.at.returns-in-Some-next_passing c).After-next_passing)), tt)
     (rw c.in-Some-next_passing.is at (found-number (goal.at.returns-in-Some-next_passing c).After-next_passing-2))) in
@@ -46,8 +42,7 @@ returns-in-Some-next_passing c =
 
 pub returns-in-Some-next_passing-2 : goal.returns-in-Some-next_passing-2
 returns-in-Some-next_passing-2 c =
-    let p = c.args.puzzle.now in
-    let g = c.args.grid.now in
+    let p = c.args.puzzle.now in let g = c.args.grid.now in
     let w = told p g c.requires.fits (first-wrong (FailsLight p g) (black p g ∷ number p g ∷ []) (seen p g) (dark p g ∷ []) (light-made p g c.requires.fits)
     (all-right (FailsLight p g) (black p g) (rw c.in_default.is at (found-black (goal.at.returns-in-Some-next_passing-2 c).After-next_passing)), (all-right (FailsLight p g) (number p g) (rw c.in_default-next_passing.is at (found-number (goal.at.returns-in-Some-next_passing-2 c).After-next_passing-2)), tt))
     (rw c.in-Some-next_passing-2.is at (found-seen (goal.at.returns-in-Some-next_passing-2 c).After-next_passing-3))) in
@@ -55,8 +50,7 @@ returns-in-Some-next_passing-2 c =
 
 pub returns-in-Some-next_passing-3 : goal.returns-in-Some-next_passing-3
 returns-in-Some-next_passing-3 c =
-    let p = c.args.puzzle.now in
-    let g = c.args.grid.now in
+    let p = c.args.puzzle.now in let g = c.args.grid.now in
     let w = told p g c.requires.fits (first-wrong (FailsLight p g) (black p g ∷ number p g ∷ seen p g ∷ []) (dark p g) ([]) (light-made p g c.requires.fits)
     (all-right (FailsLight p g) (black p g) (rw c.in_default.is at (found-black (goal.at.returns-in-Some-next_passing-3 c).After-next_passing)), (all-right (FailsLight p g) (number p g) (rw c.in_default-next_passing.is at (found-number (goal.at.returns-in-Some-next_passing-3 c).After-next_passing-2)), (all-right (FailsLight p g) (seen p g) (rw c.in_default-next_passing-2.is at (found-seen (goal.at.returns-in-Some-next_passing-3 c).After-next_passing-3)), tt)))
     (rw c.in-Some-next_passing-3.is at (found-dark (goal.at.returns-in-Some-next_passing-3 c).After-next_passing-4))) in
@@ -64,8 +58,7 @@ returns-in-Some-next_passing-3 c =
 
 pub returns : goal.returns
 returns c =
-    let p = c.args.puzzle.now in
-    let g = c.args.grid.now in
+    let p = c.args.puzzle.now in let g = c.args.grid.now in
     let w = told p g c.requires.fits {fault = None} (light-sound p g c.requires.fits (none_right (FailsLight p g) (kinds p g) (light-made p g c.requires.fits)
     (all-right (FailsLight p g) (black p g) (rw c.in_default.is at (found-black (goal.at.returns c).After-next_passing)), (all-right (FailsLight p g) (number p g) (rw c.in_default-next_passing.is at (found-number (goal.at.returns c).After-next_passing-2)), (all-right (FailsLight p g) (seen p g) (rw c.in_default-next_passing-2.is at (found-seen (goal.at.returns c).After-next_passing-3)), (all-right (FailsLight p g) (dark p g) (rw c.in_default-next_passing-3.is at (found-dark (goal.at.returns c).After-next_passing-4)), tt)))))) in
     record { fault = w.0; solution = w.1 }

@@ -8,10 +8,7 @@ use Rattle.fields_core.proofs.light_up.houses.push_number.Goals as goal
 pub of-requires : goal.of-requires
 of-requires c =
     let few = few-places c.columns-w.ensures.lawful in
-    record {
-      place = omega (arith, c.requires, few);
-      cells = omega (arith, c.count_passing-cells.ensures.few);
-    }
+    record { place = omega (arith, c.requires, few); cells = omega (arith, c.count_passing-cells.ensures.few) }
 
 pub returns-in_ok-push : goal.returns-in_ok-push
 returns-in_ok-push c =

@@ -1,21 +1,17 @@
-use Rattle.fields_core.proofs.Common.{ap, arith, common_steps, get_or, length, light_house, light_houses, ◌<◌, ◌∙◌}
+use Rattle.fields_core.proofs.Common.{ap, arith, common_steps, get_or, length, light_house, light_houses, rules, ◌<◌, ◌∙◌}
 use Rattle.fields_core.proofs.HouseLemmas.{named-told}
 use Rattle.fields_core.proofs.LightLonely.{calls, lonely-told, no_name}
 use Rattle.fields_core.proofs.light_up.lonely.has_lonely_number.Goals as goal
 
 pub next_passing-requires : goal.next_passing-requires
 next_passing-requires c = λ n less.
-    let p = c.args.puzzle.now in
-    let names = c.args.names.now in
-    let lt : n < length names = omega (arith, less, c.min-numbers.ensures) in (
-      (λ _ _ _ _ small _. omega (arith, lt, small)),
-      (λ _ _ _ _ _ _. lt),
-      (λ _ _ _ _ _ _ _ _. ap length (named-told (light_house p) names (light_houses p) n no_name c.requires.named lt)),
-    )
+    let p = c.args.puzzle.now in let names = c.args.names.now in
+    let lt : n < length names = omega (arith, less, c.min-numbers.ensures) in
+    let one = ap length (named-told (light_house p) names (light_houses p) no_name c.requires.named lt) in
+    (grind (arith, common_steps), search (rules, lt), search (rules, one))
 
 pub returns-clause-value : goal.returns-clause-value
 returns-clause-value c =
-    let p = c.args.puzzle.now in
-    let names = c.args.names.now in
+    let p = c.args.puzzle.now in let names = c.args.names.now in
     c.is_some.ensures ∙ lonely-told p names c.requires.named c.min-numbers.result c.next_passing.result c.size.ensures.lawful (rw (c.cells.ensures.value, c.size.ensures.value) at c.min-numbers.ensures)
     (c.next_passing.ensures (λ k. calls p (get_or names k no_name)) (λ d answer lt met. grind (arith, common_steps)))

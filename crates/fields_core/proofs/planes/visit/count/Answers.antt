@@ -19,8 +19,7 @@ line-requires-in-loop-number-clause-line_in g c =
 
 next : (g : _) (c : After-both-open g) → IsCount c.args.planes.now (g.P.Parts.pieces c.args.parts.now) (c.loop-number.number + 1)
     (c.loop-number.may + count_below (has_bit (g.W.Word.bits c.both-ones.result)) g.W.Word.room)
-    (c.loop-number.undecided + count_below (has_bit (g.W.Word.bits c.both-open.result))
-    g.W.Word.room)
+    (c.loop-number.undecided + count_below (has_bit (g.W.Word.bits c.both-open.result)) g.W.Word.room)
 next g c =
     let bits = g.W.Word.bits in
     counted-next (bits c.both-ones.result)

@@ -11,19 +11,16 @@ loop-number-init g c = record {
 pub line-requires-clause-line_in : goal.line-requires-clause-line_in
 line-requires-clause-line_in g c =
     rw (c.loop-number.invariant.further.same_size)
-    (line_in c.requires.pieces
-    (rw c.len-number-end.ensures at c.loop-number-test.true) (sym c.part-part.ensures))
+    (line_in c.requires.pieces (rw c.len-number-end.ensures at c.loop-number-test.true) (sym c.part-part.ensures))
 
 pub take-requires-clause-line_in : goal.take-requires-clause-line_in
 take-requires-clause-line_in g c =
     rw (c.loop-number.invariant.further.same_size)
-    (line_in c.requires.pieces
-    (rw c.len-number-end.ensures at c.loop-number-test.true) (sym c.part-part.ensures))
+    (line_in c.requires.pieces (rw c.len-number-end.ensures at c.loop-number-test.true) (sym c.part-part.ensures))
 
 pub loop-number-preserved : goal.loop-number-preserved
 loop-number-preserved g c =
-    let bits = g.W.Word.bits in
-    let i = c.loop-number.invariant in
+    let bits = g.W.Word.bits in let i = c.loop-number.invariant in
     record {
       left = c.take.ensures.left
           ∙ struck-more c.args.planes.now c.loop-number.planes (g.P.Parts.pieces c.args.parts.now)

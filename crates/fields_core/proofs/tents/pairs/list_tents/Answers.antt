@@ -9,7 +9,7 @@ loop-place-preserved c =
     elim c.if-get-eq1.branch [
       | then-get-eq1 w ↦ rw (w.count-is, w.tents-is) (grind (arith, common_steps, listed-keep, length-set))
       | else-get-eq1 w ↦ rw (w.count-is, w.tents-is) (record {
-        listed = listed-skip c.args.grid.now c.loop-place.tents c.loop-place.count c.loop-place.place _ i.listed c.get.ensures w.if-get-eq1.false;
+        listed = listed-skip c.args.grid.now c.loop-place.tents c.loop-place.count c.loop-place.place i.listed c.get.ensures w.if-get-eq1.false;
         few = omega (arith, i.few);
         as_long = i.as_long;
       })

@@ -1,6 +1,4 @@
-use Rattle.fields_core.proofs.Common.{[], arith, has, max, refl, rules_of, swept_by, sym, true≢false, ◌+◌, ◌<◌, ◌∙◌}
-use Rattle.engine_core.specs.ClosingList.{IsClosing}
-use Rattle.engine_core.specs.declared.mode.Closing.TheVariants.{Dead, Open}
+use Rattle.fields_core.proofs.Common.{Dead, IsClosing, Open, [], arith, has, max, refl, rules_of, swept_by, sym, true≢false, ◌+◌, ◌<◌, ◌∙◌}
 use Rattle.engine_core.proofs.EndLemmas.{closed-in, taken-dead, taken-open}
 use Rattle.fields_core.proofs.PlaneSweeps.{alive-cells, cells-alive, closed-dead, closed-open, sweeps-few, sweeps-fewer, sweeps-none, sweeps-turn}
 use Rattle.fields_core.proofs.planes.game.SweepNotes.close.Goals as goal
@@ -67,8 +65,7 @@ closing-smaller g c =
 
 pub closing-preserved : goal.closing-preserved
 closing-preserved g c =
-    let before = c.closing.invariant.kept in
-    let after = c.sweep.ensures.kept in
+    let before = c.closing.invariant.kept in let after = c.sweep.ensures.kept in
     record {
       sweeps = sweeps-turn _ _ _ _ c.requires.counted c.requires.board.cells c.requires.board.board.within c.closing.invariant.sweeps
           c.sweep.ensures.swept c.if-not-sweep.false (more g (goal.at.closing-preserved g c).Else-len-before);

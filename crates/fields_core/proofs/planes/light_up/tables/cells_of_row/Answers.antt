@@ -1,5 +1,4 @@
-use Rattle.fields_core.proofs.Common.{Light, LightCell, Some, ap, has_number, refl, slice_get, white, ℕ, ◌*◌, ◌+◌, ◌∙◌, ◌≡◌}
-unfoldable use Rattle.fields_core.specs.LightWords.{is_numbered}
+use Rattle.fields_core.proofs.Common.{Light, LightCell, Some, ap, has_number, is_numbered, refl, slice_get, white, ℕ, ◌*◌, ◌+◌, ◌∙◌, ◌≡◌}
 use Rattle.fields_core.proofs.LightLines.{cell-at, white-at}
 use Rattle.fields_core.proofs.RowWords.{next-off, next-on}
 use Rattle.fields_core.proofs.planes.light_up.tables.cells_of_row.Goals as goal
@@ -11,8 +10,7 @@ number-at p c e = ap has_number (cell-at p c e)
 
 pub loop-x-preserved : goal.loop-x-preserved
 loop-x-preserved g c =
-    let i = c.loop-x.invariant in
-    let p = c.args.puzzle.now in
+    let i = c.loop-x.invariant in let p = c.args.puzzle.now in
     let first = c.args.y * p.size.w in
     let is_white = white-at p (first + c.loop-x.x) (rw (c.columns-w.ensures.value) at c.cell.ensures.value) in
     let is_number = number-at p (first + c.loop-x.x) (rw (c.columns-w.ensures.value) at c.cell.ensures.value) in

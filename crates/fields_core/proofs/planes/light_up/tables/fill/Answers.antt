@@ -7,6 +7,6 @@ loop-at-preserved g c =
     let i = c.loop-at.invariant in
     let there : c.args.first + c.loop-at.at * c.args.stride < length c.loop-at.runs.items = omega (arith, c.requires.within c.loop-at.at c.loop-at-test.true, i.long) in
     record {
-      filled = filled-more g.W.Word.bits c.args.first c.args.stride c.args.start c.loop-at.at _ c.loop-at.runs.items c.args.word (omega (arith, c.loop-at.auto)) there i.filled;
+      filled = filled-more g.W.Word.bits c.loop-at.runs.items c.args.word (omega (arith, c.loop-at.auto)) there i.filled;
       long = length-set _ _ _ ∙ i.long;
     }

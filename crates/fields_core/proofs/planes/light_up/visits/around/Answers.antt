@@ -31,8 +31,7 @@ later g c k = c.without_lowest-rest.ensures c.lowest-at.result k c.lowest-at.ens
 
 pub returns-then-is_some-clause-clash : goal.returns-then-is_some-clause-clash
 returns-then-is_some-clause-clash g c =
-    let at = (goal.at.returns-then-is_some-clause-clash g c).After-without_lowest-rest in
-    let bits = g.W.Word.bits in
+    let at = (goal.at.returns-then-is_some-clause-clash g c).After-without_lowest-rest in let bits = g.W.Word.bits in
     around-clash (run_of g at) g.W.Word.room (bits c.args.marked) (bits c.loop-rest.rest) (bits c.loop-rest.bits) c.lowest-at.result
     (bits c.without_lowest-rest.result) (bits c.loop-rest.bits) c.loop-rest.invariant c.lowest-at.ensures c.requires.marked_in (later g at)
     (bits c.both.result) (λ k. rw (own g at) (c.both.ensures k)) (sym c.is_some-in-loop-rest.ensures ∙ c.if-is_some.true)
@@ -44,8 +43,7 @@ loop-rest-smaller g c =
 
 pub loop-rest-preserved : goal.loop-rest-preserved
 loop-rest-preserved g c =
-    let at = (goal.at.loop-rest-preserved g c).After-without_lowest-rest in
-    let bits = g.W.Word.bits in
+    let at = (goal.at.loop-rest-preserved g c).After-without_lowest-rest in let bits = g.W.Word.bits in
     around-more (run_of g at) g.W.Word.room (bits c.args.marked) (bits c.loop-rest.rest) (bits c.loop-rest.bits) c.lowest-at.result
     (bits c.without_lowest-rest.result) (bits c.either-bits.result) c.loop-rest.invariant c.lowest-at.ensures c.requires.marked_in (later g at)
     (bits c.both.result) (λ k. rw (own g at) (c.both.ensures k)) (sym c.is_some-in-loop-rest.ensures ∙ c.if-is_some.false)
@@ -53,5 +51,5 @@ loop-rest-preserved g c =
 
 pub returns-clause-around : goal.returns-clause-around
 returns-clause-around g c =
-    around-all _ g.W.Word.room _ (g.W.Word.bits c.loop-rest.rest) _ c.loop-rest.invariant c.requires.marked_in
+    around-all c.loop-rest.invariant c.requires.marked_in
     (sym c.is_some.ensures ∙ c.loop-rest-test.false)

@@ -3,8 +3,8 @@ use Rattle.fields_core.proofs.planes.light_up.visits.beside.Goals as goal
 
 -- one place further on, and one further back
 shifted : (room place k : ℕ) → k < room → ((ltb k room && (ltb 0 k && eqb (k - 1) place)) || eqb (k + 1) place) ≡ (eqb k (place + 1) || eqb place (k + 1))
-shifted room place zero lt = rw (lt-ltb 0 room lt) (grind (arith, common_steps, cases_eq 1 place, eq-eqb, ne_eqb))
-shifted room place (suc k) lt = rw (lt-ltb (suc k) room lt, lt-ltb 0 (suc k) (omega arith)) (grind (arith, common_steps, cases_eq k place, cases_eq (suc k + 1) place, eq-eqb, ne_eqb))
+shifted room place zero lt = rw (lt-ltb _ _ lt) (grind (arith, common_steps, cases_eq 1 place, eq-eqb, ne_eqb))
+shifted room place (suc k) lt = rw (lt-ltb _ _ lt, lt-ltb 0 (suc k) (omega arith)) (grind (arith, common_steps, cases_eq k place, cases_eq (suc k + 1) place, eq-eqb, ne_eqb))
 
 pub returns : goal.returns
 returns g c = λ k lt.

@@ -1,5 +1,5 @@
-use Rattle.fields_core.proofs.Common.{has_bit, sym, ◌∙◌}
-use Rattle.fields_core.proofs.LightLitWords.{two-left, two-none}
+use Rattle.fields_core.proofs.Common.{any_below-none, arith, count_below-none, has_bit, le-ltb, sym, ◌∙◌}
+use Rattle.fields_core.proofs.LightLitWords.{two-left}
 use Rattle.fields_core.proofs.planes.light_up.visits.has_two.Goals as goal
 
 pub returns-then-is_some : goal.returns-then-is_some
@@ -10,4 +10,6 @@ returns-then-is_some g c =
 
 pub returns-else-is_some : goal.returns-else-is_some
 returns-else-is_some g c =
-    c.if-is_some.false ∙ two-none (has_bit (g.W.Word.bits c.args.word)) g.W.Word.room (sym c.is_some.ensures ∙ c.if-is_some.false)
+    let passes = has_bit (g.W.Word.bits c.args.word) in let room = g.W.Word.room in
+    let none = any_below-none passes room (sym c.is_some.ensures ∙ c.if-is_some.false) in
+    c.if-is_some.false ∙ sym (le-ltb 1 _ (omega (arith, count_below-none passes room none)))

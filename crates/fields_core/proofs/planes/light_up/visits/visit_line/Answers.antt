@@ -21,9 +21,8 @@ returns-in_default g c = λ len cell joined houses len_is are runs.
 
 pub returns : goal.returns
 returns g c = λ len cell joined houses len_is are runs.
-    let at = (goal.at.returns g c).After-around in
-    let bits = g.W.Word.bits in
+    let at = (goal.at.returns g c).After-around in let bits = g.W.Word.bits in
     runs-met c.args.planes.now.size c.args.line len g.W.Word.room cell joined houses are c.args.planes.now refl c.requires.alive
     (bits c.but-must.result) (λ j. slice_index (map bits c.args.runs.now) (c.args.first + j * c.args.stride)) (fits g at len len_is)
-    (must g at len len_is) runs (bits c.in-Some.near) (bits c.both.result) c.take.new.self c.in-Some.ensures.around
+    (must g at len len_is) runs (bits c.both.result) c.in-Some.ensures.around
     (λ k. c.both.ensures k ∙ rw (c.line-zeros.ensures.cells k) refl) c.take.ensures.left c.take.ensures.further

@@ -10,10 +10,10 @@ module _ (g : _) (c : After-both-left g) where
   houses x = number_house c.args.puzzle.now (c.args.y * c.args.puzzle.now.size.w + x)
 
   pub own : IsRowOf c.args.puzzle.now.size.w (is_numbered c.args.puzzle.now) c.args.y (g.W.Word.bits c.index-own.result.now)
-  own = rows-read g.W.Word.bits c.args.tables.now.numbers.items c.args.y c.requires.y_in c.requires.tables.numbers (rw (c.from.ensures) at c.index-own.ensures)
+  own = rows-read g.W.Word.bits c.args.tables.now.numbers.items c.requires.y_in c.requires.tables.numbers (rw (c.from.ensures) at c.index-own.ensures)
 
   pub own-in : (x : ℕ) → has_bit (g.W.Word.bits c.index-own.result.now) x ≡ true → x < c.args.puzzle.now.size.w
-  own-in x on = ltb-true x _ (and_parts _ _ (sym (own x) ∙ on)).0
+  own-in x on = ltb-true _ _ (and_parts _ _ (sym (own x) ∙ on)).0
 
 pub loop-own-init : goal.loop-own-init
 loop-own-init g c =
@@ -41,8 +41,7 @@ behind g c = from-on (has_bit (g.W.Word.bits c.index-own.result.now)) _ _ c.lowe
 
 pub loop-own-smaller-then-len : goal.loop-own-smaller-then-len
 loop-own-smaller-then-len g c =
-    let a = (goal.at.loop-own-smaller-then-len g c).After-but-left in
-    fewer-on c.lowest-x.ensures (λ k on. (behind g a k on).0)
+    let a = (goal.at.loop-own-smaller-then-len g c).After-but-left in fewer-on c.lowest-x.ensures (λ k on. (behind g a k on).0)
 
 pub loop-own-preserved-then-len : goal.loop-own-preserved-then-len
 loop-own-preserved-then-len g c =
@@ -52,7 +51,7 @@ loop-own-preserved-then-len g c =
       passed = passed-next (houses g h) c.loop-own.invariant.passed c.lowest-x.ensures c.visit_number.ensures c.if-not-visit_number.false _
           (λ k on. let w = behind g a k on in (w.0, own-in g h k w.1))
           (λ k high lt off. numbers-all c.args.puzzle.now c.args.y _ (has c.visit_number.new.planes) (own g h) k lt
-          (from-off (has_bit (g.W.Word.bits c.index-own.result.now)) _ _ c.lowest-x.result c.all.ensures c.but-left.ensures k high off));
+          (from-off (has_bit (g.W.Word.bits c.index-own.result.now)) _ _ c.lowest-x.result c.all.ensures c.but-left.ensures high off));
     }
 
 pub loop-own-smaller : goal.loop-own-smaller
@@ -61,14 +60,13 @@ loop-own-smaller g c = fewer-on c.lowest-x.ensures (λ k on. (rest-on c.lowest-x
 pub loop-own-preserved : goal.loop-own-preserved
 loop-own-preserved g c =
     let h = (goal.at.loop-own-preserved g c).After-both-left in
-    let passed = c.loop-own.invariant.passed in
-    let least = c.lowest-x.ensures in
+    let passed = c.loop-own.invariant.passed in let least = c.lowest-x.ensures in
     let without = λ (k : ℕ). c.without_lowest-left.ensures c.lowest-x.result k least in
     record {
       passed = passed-next (houses g h) passed least c.visit_number.ensures c.if-not-visit_number.false _
           (λ k on. let w = rest-on least without k on in (w.0, passed.inside k w.1))
           (λ k high lt off. rw (c.visit_number.ensures.further.same (sym c.len.ensures.len ∙ c.if-len.false ∙ c.len-len.ensures.len))
-          (passed.idle k (omega (arith, high, passed.behind c.lowest-x.result least.has)) lt (rest-off least without k high off)));
+          (passed.idle k (omega (arith, high, passed.behind c.lowest-x.result least.has)) lt (rest-off least without high off)));
     }
 
 pub returns : goal.returns

@@ -1,4 +1,4 @@
-use Rattle.fields_core.proofs.Common.{Extent, ap, arith, further-more, has, inl, inr, refl, sym, ◌+◌, ◌<◌, ◌∙◌}
+use Rattle.fields_core.proofs.Common.{Extent, ap, arith, further-more, inl, inr, refl, sym, ◌+◌, ◌<◌, ◌∙◌}
 use Rattle.fields_core.proofs.TentSquareVisits.{AreMust, beside-die, none-below, rows-struck, squares-met, twice-die}
 use Rattle.fields_core.proofs.planes.tents.squares.visit_squares.Goals as goal
 use Rattle.fields_core.proofs.planes.tents.squares.visit_squares.Goals.{After-on-after, then-w-lt2-via-then-w-lt2, then-w-lt2-via-else-w-lt2+then-y-h, then-is_some-via-then-is_some, then-is_some-via-else-is_some+then-is_some-2}
@@ -30,8 +30,7 @@ wide g c = rw (c.w.ensures.value, c.size-size.ensures.value) at c.if-w-lt2.false
 
 pub returns-then-is_some : goal.returns-then-is_some
 returns-then-is_some g c =
-    let bits = g.W.Word.bits in
-    let from = c.args.planes.now in
+    let bits = g.W.Word.bits in let from = c.args.planes.now in
     let at = (goal.at.returns-then-is_some g c).After-on-after in
     elim c.then-is_some.branch [
       | then-is_some-via-then-is_some w ↦ twice-die c.args.puzzle.now c.args.y from g.W.Word.room (bits c.but-twice.result) (bits c.but-must.result)
@@ -44,15 +43,14 @@ returns-then-is_some g c =
 
 pub returns : goal.returns
 returns g c =
-    let bits = g.W.Word.bits in
-    let at = (goal.at.returns g c).After-on-after in
+    let bits = g.W.Word.bits in let at = (goal.at.returns g c).After-on-after in
     squares-met c.args.puzzle.now c.args.y c.args.planes.now g.W.Word.room (bits c.but-twice.result) (bits c.but-must.result)
     c.size-size.ensures.lawful (low g at) (wide g at) c.requires.size c.requires.alive (must g at)
-    (bits c.both-else-is_some.result) (bits c.either-near.result) c.take-2.new.self
+    (bits c.both-else-is_some.result) (bits c.either-near.result)
     (sym c.is_some.ensures ∙ c.if-is_some.false) (λ u. c.both-else-is_some.ensures u ∙ rw (c.on-after.ensures u) refl)
     (sym c.is_some-else-is_some.ensures ∙ c.if-is_some-2.false)
     (λ u. c.either-near.ensures u ∙ rw (c.either-2.ensures u, c.on-after.ensures u, c.back.ensures u) refl)
-    (rows-struck c.args.planes.now (has c.take.new.self) (has c.take-2.new.self) c.args.y (bits c.either-near.result) _ _ _
+    (rows-struck c.args.planes.now c.args.y (bits c.either-near.result) _ _
     (ap (λ (s : Extent). s.w) c.take.ensures.further.same_size)
     (λ u. c.both-2.ensures u ∙ rw (c.row-upper.ensures.cells u) refl) (λ u. c.both-3.ensures u ∙ rw (c.row-lower.ensures.cells u) refl)
     c.take.ensures.left c.take-2.ensures.left)

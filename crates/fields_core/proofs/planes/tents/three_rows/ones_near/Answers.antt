@@ -5,10 +5,9 @@ use Rattle.fields_core.proofs.planes.tents.three_rows.ones_near.Goals.{then-y-gt
 
 pub returns-clause-ones : goal.returns-clause-ones
 returns-clause-ones g c =
-    let p = c.args.planes.now in
-    let bits = g.W.Word.bits in
+    let p = c.args.planes.now in let bits = g.W.Word.bits in
     let h_is : c.h.result ≡ p.size.h = c.h.ensures.value ∙ ap (λ (s : Extent). s.h) c.size.ensures.value in
-    near-ones bits p c.args.y _
+    near-ones bits p _
     (λ pos. elim c.if-y-gt0.branch [
       | then-y-gt0 w ↦ rw w.result-is (row-ones p _ _ w.row.ensures.cells w.row.ensures.within)
       | else-y-gt0 w ↦ absurd (omega (arith, pos, w.if-y-gt0.false))
@@ -28,6 +27,4 @@ returns-clause-ones g c =
     ])
 
 pub returns-clause-narrow : goal.returns-clause-narrow
-returns-clause-narrow g c =
-    let are : ArePlanes g.W.Word.room c.args.planes.now = c.size.ensures.lawful in
-    are.narrow
+returns-clause-narrow g c = let are : ArePlanes g.W.Word.room c.args.planes.now = c.size.ensures.lawful in are.narrow

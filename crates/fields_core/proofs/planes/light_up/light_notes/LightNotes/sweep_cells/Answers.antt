@@ -5,7 +5,7 @@ use Rattle.fields_core.proofs.LightSafeCells.{joined-down, safe-moved}
 use Rattle.fields_core.proofs.LightReach.{away-from}
 use Rattle.fields_core.proofs.LightRunBegins.{column-white-start}
 use Rattle.fields_core.proofs.LightSweeps.{lits-are, lits-done, lits-safe, lits-stay, out-idle, planes-next, ready-next, row-lits, row-stays, rows-safe}
-use Rattle.fields_core.proofs.LightLitRuns.{black-idle, column-safe, planes-full}
+use Rattle.fields_core.proofs.LightRests.{black-idle, column-safe, planes-full}
 use Rattle.fields_core.proofs.RowWords.{row-read, rows-read}
 use Rattle.fields_core.proofs.VisitLemmas.{sweep-broken, sweep-first, sweep-more}
 use Rattle.fields_core.proofs.planes.light_up.light_notes.LightNotes.sweep_cells.Goals as goal
@@ -16,14 +16,14 @@ module _ (g : _) (c : After-whites-some g) where
   y-in = omega (arith, c.loop-y-test.true, c.reach-rows.ensures.within)
 
   pub whites : IsRowOf c.args.puzzle.now.size.w (white c.args.puzzle.now) c.loop-y.y (g.W.Word.bits c.index-whites.result.now)
-  whites = rows-read g.W.Word.bits c.args.self.now.tables.rows.items c.loop-y.y y-in c.requires.ready.tables.rows c.index-whites.ensures
+  whites = rows-read g.W.Word.bits c.args.self.now.tables.rows.items y-in c.requires.ready.tables.rows c.index-whites.ensures
 
   -- the cells that are looked at are of the row
   pub some-in : (x : ℕ) → has_bit (g.W.Word.bits c.whites-some.result) x ≡ true → x < c.args.puzzle.now.size.w
   some-in x on =
       let left = and_parts _ _ (sym (c.whites-some.ensures x) ∙ on) in
       let own = and_parts _ _ (sym (c.but.ensures x) ∙ left.0) in
-      ltb-true x _ (and_parts _ _ (sym (whites x) ∙ own.0)).0
+      ltb-true _ _ (and_parts _ _ (sym (whites x) ∙ own.0)).0
 
   pub of-now : ArePlanesOf g.W.Word.room c.args.puzzle.now c.loop-y.planes
   of-now = planes-next c.requires.ready.planes_of c.loop-y.invariant.visited.further c.loop-y.invariant.visited.alive
@@ -31,20 +31,17 @@ module _ (g : _) (c : After-whites-some g) where
   -- the cells of the row that are passed
   pub passed : AreSafeInColumns c.args.puzzle.now c.loop-y.y (g.W.Word.bits c.either-above.result) (has c.loop-y.planes)
   passed x on =
-      let p = c.args.puzzle.now in
-      let bits = g.W.Word.bits in
-      let words = c.write_safe.new.safe.items in
-      let of = c.requires.ready.planes_of in
+      let p = c.args.puzzle.now in let bits = g.W.Word.bits in
+      let words = c.write_safe.new.safe.items in let of = c.requires.ready.planes_of in
       elim (or_cases _ _ (sym (c.either-above.ensures x) ∙ on)) [
         | inl below ↦
             let read : slice_index (map bits words) c.loop-y.y ≡ bits c.index.result.now = row-read bits words c.loop-y.y c.index.result.now
             (omega (arith, y-in, of.low, c.requires.ready.safe_long, c.write_safe.ensures.long)) c.index.ensures in
-            rows-safe p c.loop-y.y of (omega (arith, y-in)) c.loop-y.invariant.visited
+            rows-safe c.loop-y.y of (omega (arith, y-in)) c.loop-y.invariant.visited
             (c.write_safe.ensures.safe c.loop-y.y c.loop-y.invariant.first c.loop-y-test.true x (rw read below))
         | inr both ↦
             let w = and_parts _ _ (sym (c.both.ensures x) ∙ both) in
-            let own = and_parts _ _ (sym (whites x) ∙ w.1) in
-            let v = c.loop-y.invariant.above x w.0 in
+            let own = and_parts _ _ (sym (whites x) ∙ w.1) in let v = c.loop-y.invariant.above x w.0 in
             let at : c.loop-y.y * p.size.w + x ≡ v.0 * p.size.w + x + p.size.w = rw (sym v.1) (omega arith) in
             let is_white : white p (c.loop-y.y * p.size.w + x) ≡ true = own.1 in
             rw at (safe-moved (joined-down p (v.0 * p.size.w + x) (light-board of.lawful).some (column-white-start p (v.0 * p.size.w + x) v.2.one v.2.one_in) (rw at at is_white)) v.2)
@@ -54,14 +51,13 @@ module _ (g : _) (c : After-whites-some g) where
   pub idle : AreWhitesIdleBut c.args.puzzle.now (g.W.Word.bits c.whites-some.result) c.loop-y.y (has c.loop-y.planes)
   idle x lt off = elim (cases_Bool (has_bit (g.W.Word.bits c.but.result) x)) [
     | inl left ↦
-        let p = c.args.puzzle.now in
-        let lines = or_parts _ _ (apart left (sym (c.whites-some.ensures x) ∙ off)) in
-        lits-stay p c.loop-y.y x c.requires.ready.planes_of (omega (arith, y-in)) y-in lt c.loop-y.invariant.visited
+        let p = c.args.puzzle.now in let lines = or_parts _ _ (apart left (sym (c.whites-some.ensures x) ∙ off)) in
+        lits-stay c.requires.ready.planes_of (omega (arith, y-in)) y-in lt c.loop-y.invariant.visited
         (c.requires.ready.rested.whites (c.loop-y.y * p.size.w + x) (place-in p.size.w p.size.h c.loop-y.y x y-in lt)
-        (away-from g.W.Word.bits p _ c.requires.ready.planes_of.lawful c.loop-y.y x y-in lt (λ on. true≢false (sym on ∙ lines.0)) (λ k k_in on column joined. true≢false (sym column ∙ lines.1))))
+        (away-from g.W.Word.bits p _ c.requires.ready.planes_of.lawful y-in lt (λ on. true≢false (sym on ∙ lines.0)) (λ k k_in on column joined. true≢false (sym column ∙ lines.1))))
     | inr gone ↦ elim (cases_Bool (has_bit (g.W.Word.bits c.either-above.result) x)) [
-      | inl on ↦ column-safe c.args.puzzle.now _ of-now.lawful (planes-full c.args.puzzle.now c.loop-y.planes of-now.size of-now.alive) (passed x on)
-      | inr out ↦ black-idle c.args.puzzle.now _ (has c.loop-y.planes) (sym (whites x ∙ rw (lt-ltb x c.args.puzzle.now.size.w lt) refl)
+      | inl on ↦ column-safe _ of-now.lawful (planes-full c.args.puzzle.now c.loop-y.planes of-now.size of-now.alive) (passed x on)
+      | inr out ↦ black-idle c.args.puzzle.now _ (has c.loop-y.planes) (sym (whites x ∙ rw (lt-ltb _ _ lt) refl)
           ∙ none (has_bit (g.W.Word.bits c.index-whites.result.now) x) (sym (c.but.ensures x ∙ rw out refl) ∙ gone))
     ]
   ]
@@ -91,8 +87,7 @@ visit_lits-requires-clause-others g c = idle g (goal.at.visit_lits-requires-clau
 
 pub loop-y-preserved : goal.loop-y-preserved
 loop-y-preserved g c =
-    let p = c.args.puzzle.now in
-    let h = (goal.at.loop-y-preserved g c).After-whites-some in
+    let p = c.args.puzzle.now in let h = (goal.at.loop-y-preserved g c).After-whites-some in
     record {
       first = omega (arith, c.loop-y.invariant.first);
       visited = sweep-more (lits_of_row p) c.loop-y.invariant.visited c.in-Some.ensures.visited refl;
@@ -100,7 +95,7 @@ loop-y-preserved g c =
         c.loop-y.y,
         refl,
         elim (or_cases _ _ (sym (c.either-above-in-loop-y.ensures x) ∙ on)) [
-          | inl before ↦ lits-safe p (lits_of_row p c.loop-y.y) (row-lits p c.loop-y.y (of-now g h).lawful (y-in g h)) (of-now g h) c.in-Some.ensures.visited (passed g h x before)
+          | inl before ↦ lits-safe (lits_of_row p c.loop-y.y) (row-lits (of-now g h).lawful (y-in g h)) (of-now g h) c.in-Some.ensures.visited (passed g h x before)
           | inr met ↦ c.in-Some.ensures.met x met
         ],
       );
@@ -116,14 +111,12 @@ returns-in_default-clause-visited g c =
 whole : (g : _) (c : After-settle_whites g)
     → AreVisited (houses_below (lit_house c.args.puzzle.now) (light_cells c.args.puzzle.now)) c.args.planes.now c.loop-y.planes true
 whole g c =
-    let p = c.args.puzzle.now in
-    let r = c.requires.ready in
-    let i = c.loop-y.invariant in
-    let reach = c.reach-rows.ensures in
+    let p = c.args.puzzle.now in let r = c.requires.ready in
+    let i = c.loop-y.invariant in let reach = c.reach-rows.ensures in
     let last : c.loop-y.y ≡ c.reach-rows.result.1 = (let b = c.loop-y.auto.y-end in let e = c.loop-y-test.false in omega (arith, reach.order)) in
     let within : c.loop-y.y ≤ p.size.h = omega (arith, last, reach.within) in
     rw (lits-are p) at (visited-skip (lits_of_row p) within i.visited
-    (λ k at lt. row-stays p k r.planes_of within lt i.visited (out-idle r reach k lt (inr (rw last at at)))))
+    (λ k at lt. row-stays r.planes_of within lt i.visited (out-idle r reach k lt (inr (rw last at at)))))
 
 pub returns-clause-visited : goal.returns-clause-visited
 returns-clause-visited g c = whole g (goal.at.returns-clause-visited g c).After-settle_whites
@@ -131,8 +124,7 @@ returns-clause-visited g c = whole g (goal.at.returns-clause-visited g c).After-
 pub returns-clause-ready : goal.returns-clause-ready
 returns-clause-ready g c = λ _.
     let visited = whole g (goal.at.returns-clause-ready g c).After-settle_whites in
-    let p = c.args.puzzle.now in
-    let r = c.requires.ready in
+    let p = c.args.puzzle.now in let r = c.requires.ready in
     let of = planes-next r.planes_of visited.further visited.alive in
     let rested = c.wake.ensures p c.args.planes.now of r.planes_of (sym c.len-len.ensures.len) visited.further r.rested in
     ready-next r visited.further visited.alive _ refl c.write_safe.ensures.long (c.settle_whites.ensures p (has c.loop-y.planes) rested (lits-done p r.planes_of visited))

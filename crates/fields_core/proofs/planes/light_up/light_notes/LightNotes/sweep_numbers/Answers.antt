@@ -7,22 +7,21 @@ use Rattle.fields_core.proofs.planes.light_up.light_notes.LightNotes.sweep_numbe
 -- of the rows of the grid those that a word has
 module _ (h : ℕ) (waits rows both : ℕ → Bool) (rows_are : (k : ℕ) → rows k ≡ ltb k h) (is : (k : ℕ) → both k ≡ (waits k && rows k)) where
   row-on : (k : ℕ) → both k ≡ true → k < h
-  row-on k on = ltb-true k h (sym (rows_are k) ∙ (and_parts _ _ (sym (is k) ∙ on)).1)
+  row-on k on = ltb-true _ _ (sym (rows_are k) ∙ (and_parts _ _ (sym (is k) ∙ on)).1)
 
-  row-off : (k : ℕ) → k < h → both k ≡ false → waits k ≡ false
-  row-off k lt off = by (waits k) (rows k) (rows_are k ∙ lt-ltb k h lt) (sym (is k) ∙ off)
+  row-off : {k : ℕ} → k < h → both k ≡ false → waits k ≡ false
+  row-off {k} lt off = by (waits k) (rows k) (rows_are k ∙ lt-ltb _ _ lt) (sym (is k) ∙ off)
     where
       by : (a b : Bool) → b ≡ true → (a && b) ≡ false → a ≡ false
       by a b on e = grind (arith, common_steps, cases_Bool a, cases_Bool b)
 
 pub loop-left-init : goal.loop-left-init
 loop-left-init g c =
-    let p = c.args.puzzle.now in
-    let r = c.requires.ready in
+    let p = c.args.puzzle.now in let r = c.requires.ready in
     let all = rw (r.planes_of.size) at c.rows.ensures in
     record {
       passed = passed-first (numbers_of_row p) r.planes_of.alive (row-on p.size.h _ _ _ all c.both-left.ensures)
-          (λ k lt off. r.rested.numbers k lt (row-off p.size.h _ _ _ all c.both-left.ensures k lt off));
+          (λ k lt off. r.rested.numbers k lt (row-off p.size.h _ _ _ all c.both-left.ensures lt off));
       ready = r;
       kept = record { tables = refl; safe = refl };
     }
@@ -39,10 +38,8 @@ loop-left-smaller-then-len g c = fewer-on c.lowest-y.ensures (λ k on. (rest-on 
 
 pub loop-left-preserved-then-len : goal.loop-left-preserved-then-len
 loop-left-preserved-then-len g c =
-    let p = c.args.puzzle.now in
-    let i = c.loop-left.invariant in
-    let passed = i.passed in
-    let least = c.lowest-y.ensures in
+    let p = c.args.puzzle.now in let i = c.loop-left.invariant in
+    let passed = i.passed in let least = c.lowest-y.ensures in
     let visited = c.visit_numbers.ensures in
     let same = visited.further.same (sym c.len.ensures.len ∙ c.if-len.true ∙ c.len-len.ensures.len) in
     let rested = rw (← same) at i.ready.rested in
@@ -50,7 +47,7 @@ loop-left-preserved-then-len g c =
     record {
       passed = passed-next (numbers_of_row p) passed least visited c.if-not-visit_numbers.false _
           (λ k on. let w = rest-on least without k on in (w.0, passed.inside k w.1))
-          (λ k high lt off. rw same (passed.idle k (omega (arith, high, passed.behind c.lowest-y.result least.has)) lt (rest-off least without k high off)));
+          (λ k high lt off. rw same (passed.idle k (omega (arith, high, passed.behind c.lowest-y.result least.has)) lt (rest-off least without high off)));
       ready = ready-next i.ready visited.further visited.alive _ refl refl
           (c.settle_numbers.ensures p (has c.visit_numbers.new.planes) i.ready.planes_of.low rested (rw (← same) at (sym (visited.left c.if-not-visit_numbers.false))));
       kept = record { tables = i.kept.tables; safe = i.kept.safe };
@@ -58,21 +55,18 @@ loop-left-preserved-then-len g c =
 
 pub loop-left-smaller : goal.loop-left-smaller
 loop-left-smaller g c =
-    let a = (goal.at.loop-left-smaller g c).After-but-left in
-    fewer-on c.lowest-y.ensures (λ k on. (behind g a k on).0)
+    let a = (goal.at.loop-left-smaller g c).After-but-left in fewer-on c.lowest-y.ensures (λ k on. (behind g a k on).0)
 
 pub loop-left-preserved : goal.loop-left-preserved
 loop-left-preserved g c =
-    let a = (goal.at.loop-left-preserved g c).After-but-left in
-    let p = c.args.puzzle.now in
-    let i = c.loop-left.invariant in
-    let visited = c.visit_numbers.ensures in
+    let a = (goal.at.loop-left-preserved g c).After-but-left in let p = c.args.puzzle.now in
+    let i = c.loop-left.invariant in let visited = c.visit_numbers.ensures in
     let rested = c.wake.ensures p c.loop-left.planes (planes-next i.ready.planes_of visited.further visited.alive) i.ready.planes_of (sym c.len-len.ensures.len) visited.further i.ready.rested in
     record {
       passed = passed-next (numbers_of_row p) i.passed c.lowest-y.ensures visited c.if-not-visit_numbers.false _
           (λ k on. let w = behind g a k on in (w.0, row-on p.size.h _ _ _ (rows g a) c.both.ensures k w.1))
-          (λ k high lt off. rested.numbers k lt (row-off p.size.h _ _ _ (rows g a) c.both.ensures k lt
-          (from-off (has_bit (g.W.Word.bits c.both.result)) _ _ c.lowest-y.result c.all.ensures c.but-left.ensures k high off)));
+          (λ k high lt off. rested.numbers k lt (row-off p.size.h _ _ _ (rows g a) c.both.ensures lt
+          (from-off (has_bit (g.W.Word.bits c.both.result)) _ _ c.lowest-y.result c.all.ensures c.but-left.ensures high off)));
       ready = ready-next i.ready visited.further visited.alive _ refl refl rested;
       kept = record { tables = i.kept.tables; safe = i.kept.safe };
     }

@@ -8,12 +8,11 @@ use Rattle.fields_core.proofs.planes.light_up.light_notes.LightNotes.sweep_runs.
 
 pub loop-left-init : goal.loop-left-init
 loop-left-init g c =
-    let p = c.args.puzzle.now in
-    let r = c.requires.ready in
+    let p = c.args.puzzle.now in let r = c.requires.ready in
     let all = c.lines.ensures p r.planes_of.size in
     record {
-      passed = passed-first (run_houses p c.args.kind) r.planes_of.alive (λ k on. ltb-true k _ (sym (all k) ∙ (and_parts _ _ (sym (c.both-left.ensures k) ∙ on)).1))
-          (λ k lt off. r.rested.runs c.args.kind k lt (rw c.runs.ensures at (by _ _ (all k ∙ lt-ltb k _ lt) (sym (c.both-left.ensures k) ∙ off))));
+      passed = passed-first (run_houses p c.args.kind) r.planes_of.alive (λ k on. ltb-true _ _ (sym (all k) ∙ (and_parts _ _ (sym (c.both-left.ensures k) ∙ on)).1))
+          (λ k lt off. r.rested.runs c.args.kind k lt (rw c.runs.ensures at (by _ _ (all k ∙ lt-ltb _ _ lt) (sym (c.both-left.ensures k) ∙ off))));
     }
   where
     by : (a b : Bool) → b ≡ true → (a && b) ≡ false → a ≡ false
@@ -34,14 +33,11 @@ loop-left-smaller g c = fewer-on c.lowest.ensures (λ k on. (rest-on c.lowest.en
 
 pub loop-left-preserved : goal.loop-left-preserved
 loop-left-preserved g c =
-    let p = c.args.puzzle.now in
-    let kind = c.args.kind in
-    let passed = c.loop-left.invariant.passed in
-    let least = c.lowest.ensures in
-    let without = λ (k : ℕ). c.without_lowest-left.ensures c.lowest.result k least in
-    let of = c.requires.ready.planes_of in
+    let p = c.args.puzzle.now in let kind = c.args.kind in
+    let passed = c.loop-left.invariant.passed in let least = c.lowest.ensures in
+    let without = λ (k : ℕ). c.without_lowest-left.ensures c.lowest.result k least in let of = c.requires.ready.planes_of in
     record {
-      passed = quiet-next (singles-quiet (light_cells p)) (run_houses p kind) (λ k lt. runs-single p kind k of.lawful lt) (rw of.size refl)
+      passed = quiet-next (singles-quiet (light_cells p)) (λ k lt. runs-single p kind k of.lawful lt) (rw of.size refl)
           passed least c.visit_runs.ensures c.if-not-visit_runs.false _ without;
     }
 
@@ -61,8 +57,7 @@ returns-clause-visited g c = whole g (goal.at.returns-clause-visited g c).After-
 pub returns-clause-ready : goal.returns-clause-ready
 returns-clause-ready g c = λ _.
     let visited = whole g (goal.at.returns-clause-ready g c).After-settle_runs in
-    let p = c.args.puzzle.now in
-    let r = c.requires.ready in
+    let p = c.args.puzzle.now in let r = c.requires.ready in
     let of = planes-next r.planes_of visited.further visited.alive in
     let rested = c.wake.ensures p c.args.planes.now of r.planes_of (sym c.len-len.ensures.len) visited.further r.rested in
     ready-next r visited.further visited.alive _ refl refl (c.settle_runs.ensures p (has c.loop-left.planes) rested (runs-done p c.args.kind r.planes_of visited))

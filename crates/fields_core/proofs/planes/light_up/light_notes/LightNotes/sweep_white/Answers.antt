@@ -7,12 +7,11 @@ use Rattle.fields_core.proofs.planes.light_up.light_notes.LightNotes.sweep_white
 runs : (g : _) (c : Joined-sweep_runs g) → AreVisited (houses_below (row_house c.args.puzzle.now) (light_cells c.args.puzzle.now)
     ++ houses_below (column_house c.args.puzzle.now) (light_cells c.args.puzzle.now)) c.args.planes.now c.if-sweep_runs.planes c.if-sweep_runs.value
 runs g c =
-    let p = c.args.puzzle.now in
-    let first = rw (row-runs-are p) at c.sweep_runs.ensures.visited in
+    let p = c.args.puzzle.now in let first = rw (row-runs-are p) at c.sweep_runs.ensures.visited in
     let of = c.requires.ready.planes_of in
     elim c.if-sweep_runs.branch [
       | then-sweep_runs w ↦ rw (w.planes-is, w.value-is) (visited-more first w.if-sweep_runs.true
-          (column-runs-visited p of.lawful (first.further.same_size ∙ of.size) first.alive w.sweep_runs-then-sweep_runs.ensures.visited))
+          (column-runs-visited of.lawful (first.further.same_size ∙ of.size) first.alive w.sweep_runs-then-sweep_runs.ensures.visited))
       | else-sweep_runs w ↦ rw (w.planes-is, w.value-is) (visited-dead (houses_below (column_house p) (light_cells p)) first w.if-sweep_runs.false)
     ]
 

@@ -1,4 +1,4 @@
-use Rattle.fields_core.proofs.Common.{Bool, Extent, IsRowOf, ap, arith, cases_Bool, common_steps, has, is_numbered, length, length-set, ltb, not, white, ◌&&◌, ◌*◌, ◌+◌, ◌<◌, ◌∙◌, ◌≡◌}
+use Rattle.fields_core.proofs.Common.{Bool, Extent, IsRowOf, ap, arith, cases_Bool, common_steps, is_numbered, length, length-set, ltb, not, white, ◌&&◌, ◌*◌, ◌+◌, ◌<◌, ◌∙◌, ◌≡◌}
 use Rattle.fields_core.proofs.LightCounting.{light-board}
 use Rattle.fields_core.proofs.RuleLemmas.{row-blocked, start-all}
 use Rattle.fields_core.proofs.LightRunWords.{rows-written}
@@ -10,17 +10,15 @@ others a b = grind (arith, common_steps, cases_Bool a)
 
 pub loop-y-preserved : goal.loop-y-preserved
 loop-y-preserved g c =
-    let i = c.loop-y.invariant in
-    let p = c.args.puzzle.now in
-    let bits = g.W.Word.bits in
-    let y = c.loop-y.y in
+    let i = c.loop-y.invariant in let p = c.args.puzzle.now in
+    let bits = g.W.Word.bits in let y = c.loop-y.y in
     let w_is = c.columns-w.ensures.value in
     let low : y < p.size.h = (let lt = c.loop-y-test.true in omega (arith, c.rows-y-end.ensures)) in
     let in_rows : y < length c.loop-y.self.rows.items = omega (arith, low, c.requires.low, c.requires.room.rows, i.long_rows) in
     let in_numbers : y < length c.loop-y.self.numbers.items = omega (arith, low, c.requires.low, c.requires.room.numbers, i.long_numbers) in
     let told = c.cells_of_row-whites.ensures in
     record {
-      started = row-blocked p.size.w c.loop-y.planes.size.w y (bits c.but.result) (has c.loop-y.planes) _ (light-board c.columns-w.ensures.lawful).some (ap (λ (s : Extent). s.w) i.size) i.started
+      started = row-blocked y (bits c.but.result) (light-board c.columns-w.ensures.lawful).some (ap (λ (s : Extent). s.w) i.size) i.started
           c.take.ensures.left
           (λ x. c.but.ensures x ∙ rw (c.columns.ensures x, told.whites x, i.size) (others (ltb x p.size.w) (white p (y * p.size.w + x))));
       size = c.take.ensures.further.same_size ∙ i.size;
@@ -39,4 +37,4 @@ pub returns-clause-start : goal.returns-clause-start
 returns-clause-start g c =
     let i = c.loop-y.invariant in
     let last : c.loop-y.y ≡ c.args.puzzle.now.size.h = (let b = c.loop-y.auto.y-end in let e = c.loop-y-test.false in omega (arith, c.rows-y-end.ensures)) in
-    start-all (c.loop-y.y * c.args.puzzle.now.size.w) (has c.loop-y.planes) i.started (rw last (omega arith))
+    start-all i.started (rw last (omega arith))

@@ -6,17 +6,15 @@ use Rattle.fields_core.proofs.planes.light_up.tables.LightTables.visit_lit.Goals
 
 runs : (g : _) (c : After-but-others g) → AreRunsAt c.args.puzzle.now c.args.y c.args.x (g.W.Word.bits c.index-row.result.now) (g.W.Word.bits c.index.result.now) (g.W.Word.bits c.but-others.result) c.args.planes.now g.W.Word.room
 runs g c =
-    let p = c.args.puzzle.now in
-    let of = c.requires.planes in
-    let tables = c.args.self.now in
-    let are = c.requires.tables.runs in
+    let p = c.args.puzzle.now in let of = c.requires.planes in
+    let tables = c.args.self.now in let are = c.requires.tables.runs in
     record {
       lawful = of.lawful;
       y_in = c.requires.y_in;
       x_in = c.requires.x_in;
-      row_is = table-read g.W.Word.bits p (IsRowRun p) tables.row_runs.items c.args.y c.args.x _ c.index-row.result.now are.long_rows are.in_row c.requires.y_in c.requires.x_in
+      row_is = table-read g.W.Word.bits p (IsRowRun p) tables.row_runs.items _ are.long_rows are.in_row c.requires.y_in c.requires.x_in
           (rw (c.from.ensures, c.from-2.ensures, c.columns.ensures.value) refl) c.index-row.ensures;
-      column_is = table-read g.W.Word.bits p (IsColumnRun p) tables.column_runs.items c.args.y c.args.x _ c.index.result.now are.long_columns are.in_column c.requires.y_in c.requires.x_in
+      column_is = table-read g.W.Word.bits p (IsColumnRun p) tables.column_runs.items _ are.long_columns are.in_column c.requires.y_in c.requires.x_in
           (rw (c.from.ensures, c.from-2.ensures, c.columns.ensures.value) refl) c.index.ensures;
       others_is = λ k. c.but-others.ensures k ∙ rw (c.one.ensures k, c.from-3.ensures) refl;
       size = of.size;

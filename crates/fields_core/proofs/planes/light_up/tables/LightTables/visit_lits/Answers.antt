@@ -3,7 +3,7 @@ use Rattle.fields_core.proofs.IdleLemmas.{visited-idle}
 use Rattle.fields_core.proofs.LightSafeCells.{column-must, row-moved, row-must, row-two, table-read}
 use Rattle.fields_core.proofs.PassedLines.{fewer-on, passed-all, passed-broken, passed-first, passed-next, rest-off, rest-on}
 use Rattle.fields_core.proofs.LightSweeps.{lit-all, lit-kept, lit-stays, lits-safe, planes-next}
-use Rattle.fields_core.proofs.LightLitRuns.{column-safe, planes-full, row-safe}
+use Rattle.fields_core.proofs.LightRests.{column-safe, planes-full, row-safe}
 use Rattle.fields_core.proofs.planes.light_up.tables.LightTables.visit_lits.Goals as goal
 use Rattle.fields_core.proofs.planes.light_up.tables.LightTables.visit_lits.Goals.{After-either-met, After-without_lowest-left, Joined-has_two, then-has_two, else-has_two}
 
@@ -24,7 +24,7 @@ module _ (g : _) (c : After-without_lowest-left g) where
   pub off : (k : ℕ) → c.lowest-x.result < k → k < c.args.puzzle.now.size.w → has_bit (g.W.Word.bits c.without_lowest-left.result) k ≡ false → AreIdle (houses k) (has c.loop-ones.planes)
   off k high lt gone =
       let passed = c.loop-ones.invariant.passed in
-      passed.idle k (omega (arith, high, passed.behind c.lowest-x.result c.lowest-x.ensures.has)) lt (rest-off c.lowest-x.ensures without k high gone)
+      passed.idle k (omega (arith, high, passed.behind c.lowest-x.result c.lowest-x.ensures.has)) lt (rest-off c.lowest-x.ensures without high gone)
 
   pub of : ArePlanesOf g.W.Word.room c.args.puzzle.now c.loop-ones.planes
   of = let v = c.loop-ones.invariant.passed.visited in planes-next c.requires.planes v.further v.alive
@@ -32,38 +32,37 @@ module _ (g : _) (c : After-without_lowest-left g) where
   pub still : (k : ℕ) → k < c.args.puzzle.now.size.w → AreIdle (houses k) (has c.args.planes.now) → AreIdle (houses k) (has c.loop-ones.planes)
   still k lt idle =
       let passed = c.loop-ones.invariant.passed in
-      lit-stays c.args.puzzle.now c.args.y k c.requires.planes passed.line_in c.requires.y_in lt passed.visited idle
+      lit-stays c.requires.planes passed.line_in c.requires.y_in lt passed.visited idle
 
 module _ (g : _) (c : Joined-has_two g) (x_in : c.lowest-x.result < c.args.puzzle.now.size.w) where
   run-is : IsRowRun c.args.puzzle.now (c.args.y * c.args.puzzle.now.size.w + c.lowest-x.result) (g.W.Word.bits c.index-run.result.now)
   run-is =
       let p = c.args.puzzle.now in
-      table-read g.W.Word.bits p (IsRowRun p) c.args.self.now.row_runs.items c.args.y c.lowest-x.result _ c.index-run.result.now c.requires.tables.runs.long_rows c.requires.tables.runs.in_row
+      table-read g.W.Word.bits p (IsRowRun p) c.args.self.now.row_runs.items _ c.requires.tables.runs.long_rows c.requires.tables.runs.in_row
       c.requires.y_in x_in (rw (c.from.ensures, c.columns-w.ensures.value) refl) c.index-run.ensures
 
   -- where the run is passed, the houses of its cells are idle
   safe : c.if-has_two.value ≡ true → AreSafe (joined_in_row c.args.puzzle.now (c.args.y * c.args.puzzle.now.size.w + c.lowest-x.result)) (has c.args.planes.now)
   safe on =
-      let p = c.args.puzzle.now in
-      let run = g.W.Word.bits c.index-run.result.now in
+      let p = c.args.puzzle.now in let run = g.W.Word.bits c.index-run.result.now in
       elim c.if-has_two.branch [
         | then-has_two w ↦ row-two p c.args.y c.lowest-x.result x_in run run-is c.args.planes.now (g.W.Word.bits c.both.result) g.W.Word.room c.requires.planes.size
-            (λ k. c.both.ensures k ∙ rw (c.row-ones.ensures.cells k) refl) (ltb-true 1 _ (sym c.has_two.ensures ∙ w.if-has_two.true))
+            (λ k. c.both.ensures k ∙ rw (c.row-ones.ensures.cells k) refl) (ltb-true _ _ (sym c.has_two.ensures ∙ w.if-has_two.true))
         | else-has_two w ↦ row-must p c.args.y c.lowest-x.result x_in run run-is c.args.planes.now (g.W.Word.bits w.both-else-has_two.result) g.W.Word.room c.requires.planes.size
             (λ k. w.both-else-has_two.ensures k ∙ rw (c.but-must.ensures k, c.row-ones.ensures.cells k, c.row.ensures.cells k) refl) (sym w.is_some-else-has_two.ensures ∙ sym w.value-is ∙ on)
       ]
 
-  pub run-idle : c.if-has_two.value ≡ true → (k : ℕ) → k < c.args.puzzle.now.size.w → has_bit (g.W.Word.bits c.index-run.result.now) k ≡ true
+  pub run-idle : c.if-has_two.value ≡ true → {k : ℕ} → k < c.args.puzzle.now.size.w → has_bit (g.W.Word.bits c.index-run.result.now) k ≡ true
       → AreIdle (lit_house c.args.puzzle.now (c.args.y * c.args.puzzle.now.size.w + k)) (has c.args.planes.now)
-  run-idle on k lt there =
+  run-idle on {k} lt there =
       let p = c.args.puzzle.now in
-      row-safe p (c.args.y * p.size.w + k) c.requires.planes.lawful (planes-full p c.args.planes.now c.requires.planes.size c.requires.planes.alive)
-      (row-moved p c.args.y c.lowest-x.result k x_in (g.W.Word.bits c.index-run.result.now) run-is there (safe on))
+      row-safe (c.args.y * p.size.w + k) c.requires.planes.lawful (planes-full p c.args.planes.now c.requires.planes.size c.requires.planes.alive)
+      (row-moved p c.args.y k x_in (g.W.Word.bits c.index-run.result.now) run-is there (safe on))
 
   pub own-idle : c.if-has_two.value ≡ true → AreIdle (lit_house c.args.puzzle.now (c.args.y * c.args.puzzle.now.size.w + c.lowest-x.result)) (has c.args.planes.now)
   own-idle on =
       let p = c.args.puzzle.now in
-      row-safe p (c.args.y * p.size.w + c.lowest-x.result) c.requires.planes.lawful (planes-full p c.args.planes.now c.requires.planes.size c.requires.planes.alive) (safe on)
+      row-safe (c.args.y * p.size.w + c.lowest-x.result) c.requires.planes.lawful (planes-full p c.args.planes.now c.requires.planes.size c.requires.planes.alive) (safe on)
 
 pub loop-ones-init : goal.loop-ones-init
 loop-ones-init g c = record {
@@ -82,15 +81,14 @@ loop-ones-smaller-then-is_some g c =
 pub loop-ones-preserved-then-is_some : goal.loop-ones-preserved-then-is_some
 loop-ones-preserved-then-is_some g c =
     let h = (goal.at.loop-ones-preserved-then-is_some g c).After-without_lowest-left in
-    let j = (goal.at.loop-ones-preserved-then-is_some g c).Joined-has_two in
-    let lt = x-in g h in
+    let j = (goal.at.loop-ones-preserved-then-is_some g c).Joined-has_two in let lt = x-in g h in
     let passed = c.loop-ones.invariant.passed in
     record {
       passed = passed-next (houses g h) passed c.lowest-x.ensures
           (visited-idle (houses g h c.lowest-x.result) passed.visited.alive (still g h c.lowest-x.result lt (own-idle g j lt c.if-is_some.true))) refl _
           (λ k there. on g h k (and_parts _ _ (sym (c.but-left.ensures k) ∙ there)).0)
           (λ k high less gone. elim (cases_Bool (has_bit (g.W.Word.bits c.index-run.result.now) k)) [
-            | inl there ↦ still g h k less (run-idle g j lt c.if-is_some.true k less there)
+            | inl there ↦ still g h k less (run-idle g j lt c.if-is_some.true less there)
             | inr out ↦ off g h k high less (sym (c.but-left.ensures k ∙ rw out (and-true _)) ∙ gone)
           ]);
       met = c.loop-ones.invariant.met;
@@ -110,26 +108,23 @@ loop-ones-smaller g c =
 column : (g : _) (c : After-either-met g) → c.lowest-x.result < c.args.puzzle.now.size.w → ArePlanesOf g.W.Word.room c.args.puzzle.now c.loop-ones.planes
     → AreSafe (joined_in_column c.args.puzzle.now (c.args.y * c.args.puzzle.now.size.w + c.lowest-x.result)) (has c.loop-ones.planes)
 column g c lt planes =
-    let p = c.args.puzzle.now in
-    let x = c.lowest-x.result in
+    let p = c.args.puzzle.now in let x = c.lowest-x.result in
     let bits = g.W.Word.bits in
-    column-must p c.args.y x lt _ (table-read bits p (IsColumnRun p) c.args.self.now.column_runs.items c.args.y x _ c.index.result.now c.requires.tables.runs.long_columns c.requires.tables.runs.in_column
+    column-must p c.args.y x lt _ (table-read bits p (IsColumnRun p) c.args.self.now.column_runs.items _ c.requires.tables.runs.long_columns c.requires.tables.runs.in_column
     c.requires.y_in lt (rw (c.from.ensures, c.columns-w.ensures.value) refl) c.index.ensures) c.loop-ones.planes (bits c.but.result) g.W.Word.room planes.size
     (planes-full p c.loop-ones.planes planes.size planes.alive) (λ k. c.but.ensures k ∙ rw (c.column.ensures.cells k) refl) (sym c.is_some-else-is_some.ensures ∙ c.if-is_some-2.true)
 
 pub loop-ones-preserved-then-is_some-2 : goal.loop-ones-preserved-then-is_some-2
 loop-ones-preserved-then-is_some-2 g c =
     let at = goal.at.loop-ones-preserved-then-is_some-2 g c in
-    let h = at.After-without_lowest-left in
-    let p = c.args.puzzle.now in
-    let safe = column g at.After-either-met (x-in g h) (of g h) in
-    let passed = c.loop-ones.invariant.passed in
+    let h = at.After-without_lowest-left in let p = c.args.puzzle.now in
+    let safe = column g at.After-either-met (x-in g h) (of g h) in let passed = c.loop-ones.invariant.passed in
     record {
       passed = passed-next (houses g h) passed c.lowest-x.ensures (visited-idle (houses g h c.lowest-x.result) passed.visited.alive
-          (column-safe p _ c.requires.planes.lawful (planes-full p c.loop-ones.planes (of g h).size (of g h).alive) safe)) refl _ (on g h) (off g h);
+          (column-safe _ c.requires.planes.lawful (planes-full p c.loop-ones.planes (of g h).size (of g h).alive) safe)) refl _ (on g h) (off g h);
       met = λ x there. elim (or_cases _ _ (sym (c.either-met.ensures x) ∙ there)) [
         | inl before ↦ c.loop-ones.invariant.met x before
-        | inr own ↦ rw (eqb-true x _ (sym (c.one.ensures x) ∙ own)) safe
+        | inr own ↦ rw (eqb-true _ _ (sym (c.one.ensures x) ∙ own)) safe
       ];
     }
 
@@ -138,9 +133,9 @@ loop-ones-preserved g c =
     let h = (goal.at.loop-ones-preserved g c).After-without_lowest-left in
     record {
       passed = passed-next (houses g h) c.loop-ones.invariant.passed c.lowest-x.ensures c.visit_lit.ensures c.if-not-visit_lit.false _ (on g h)
-          (λ k high less gone. lit-kept c.args.puzzle.now c.args.y c.lowest-x.result k (of g h) c.requires.y_in (x-in g h) less
+          (λ k high less gone. lit-kept (of g h) c.requires.y_in (x-in g h) less
           (rw c.if-not-visit_lit.false at c.visit_lit.ensures) (off g h k high less gone));
-      met = λ x there. lits-safe c.args.puzzle.now _ (lit-all c.args.puzzle.now c.args.y c.lowest-x.result (of g h).lawful c.requires.y_in (x-in g h)) (of g h)
+      met = λ x there. lits-safe _ (lit-all (of g h).lawful c.requires.y_in (x-in g h)) (of g h)
           (rw c.if-not-visit_lit.false at c.visit_lit.ensures) (c.loop-ones.invariant.met x there);
     }
 

@@ -6,18 +6,13 @@ use Rattle.fields_core.proofs.planes.light_up.tables.LightTables.write_safe.Goal
 
 pub loop-y-preserved : goal.loop-y-preserved
 loop-y-preserved g c =
-    let p = c.args.puzzle.now in
-    let K = has c.args.planes.now in
-    let bits = g.W.Word.bits in
-    let i = c.loop-y.invariant in
-    let low = i.low in
-    let more = c.loop-y-test.true in
-    let j : ℕ = c.loop-y.y - 1 in
-    let next : c.loop-y.y ≡ j + 1 = omega arith in
+    let p = c.args.puzzle.now in let K = has c.args.planes.now in
+    let bits = g.W.Word.bits in let i = c.loop-y.invariant in
+    let low = i.low in let more = c.loop-y-test.true in
+    let j : ℕ = c.loop-y.y - 1 in let next : c.loop-y.y ≡ j + 1 = omega arith in
     let j_in : j < p.size.h = omega (arith, c.requires.low) in
-    let whites : IsRowOf p.size.w (white p) j (bits c.index-whites.result.now) = rows-read bits _ j j_in c.requires.tables.rows c.index-whites.ensures in
-    let some = (light-board c.requires.planes.lawful).some in
-    let w_is = ap (λ (s : Extent). s.w) c.requires.planes.size in
+    let whites : IsRowOf p.size.w (white p) j (bits c.index-whites.result.now) = rows-read bits _ j_in c.requires.tables.rows c.index-whites.ensures in
+    let some = (light-board c.requires.planes.lawful).some in let w_is = ap (λ (s : Extent). s.w) c.requires.planes.size in
     let can : (x : ℕ) → x < p.size.w → bit_of c.args.planes.now.rows j 1 x ≡ true → K (j * p.size.w + x) 1 ≡ true =
     λ x lt on. has-at c.args.planes.now j x 1 w_is lt (omega arith) ∙ on in
     let must : (x : ℕ) → x < p.size.w → bit_of c.args.planes.now.rows j 0 x ≡ false → K (j * p.size.w + x) 0 ≡ false =
@@ -32,7 +27,7 @@ loop-y-preserved g c =
       one = one-up p K j (bits c.index-whites.result.now) (bit_of c.args.planes.now.rows j 1) (bit_of c.args.planes.now.rows j 0) some whites can must _ _ one two (bits c.both-one.result)
           (λ x. c.both-one.ensures x ∙ rw (c.either-in-loop-y-2.ensures x, c.row-ones.ensures.cells x) refl);
       two = safe;
-      safe = λ y at lt. words-set bits c.loop-y.safe.items j (λ y word. AreSafeInColumns p y word K) c.both-two.result
+      safe = λ y at lt. words-set bits c.loop-y.safe.items (λ y word. AreSafeInColumns p y word K) c.both-two.result
           (omega (arith, j_in, i.long, c.requires.long)) safe y (λ ne. i.safe y (omega (arith, at, ne)) lt);
       long = length-set _ _ _ ∙ i.long;
     }

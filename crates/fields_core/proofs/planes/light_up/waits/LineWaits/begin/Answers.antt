@@ -17,11 +17,11 @@ one-is g c = c.has.ensures ∙ c.row.ensures.cells _ ∙ rw (c.split-y.ensures.c
 pub returns-then-has : goal.returns-then-has
 returns-then-has g c =
     let a = (goal.at.returns-then-has g c).After-has in
-    lines-at g.W.Word.bits c.args._puzzle.now _ _ c.requires.planes (rw (c.in-Some.is) at c.requires.closed_but)
+    lines-at c.requires.planes (rw (c.in-Some.is) at c.requires.closed_but)
     (λ _. own g a) (λ off. absurd (true≢false (sym c.if-has.true ∙ one-is g a ∙ off))) c.woken.ensures
 
 pub returns : goal.returns
 returns g c =
     let a = (goal.at.returns g c).After-has in
-    lines-at g.W.Word.bits c.args._puzzle.now _ _ c.requires.planes (rw (c.in-Some.is) at c.requires.closed_but)
+    lines-at c.requires.planes (rw (c.in-Some.is) at c.requires.closed_but)
     (λ off. absurd (around-some (light_counts c.args._puzzle.now) (rw (c.in-Some.is) at c.requires.closed_but) (sym (one-is g a) ∙ c.if-has.false) off)) (λ _. own g a) c.woken-2.ensures

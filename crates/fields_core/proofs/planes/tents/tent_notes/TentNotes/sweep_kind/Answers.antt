@@ -2,7 +2,7 @@ use Rattle.fields_core.proofs.Common.{AreTentsRested, AreVisited, Columns, Rows,
 use Rattle.fields_core.specs.declared.planes.tents.waits.Kind.{Kind}
 use Rattle.fields_core.proofs.PassedLines.{passed-all, passed-broken}
 use Rattle.fields_core.proofs.QuietVisits.{quiet-done, quiet-next}
-use Rattle.fields_core.proofs.TentIdle.{field-further, kind-each, kind-first, kind-quiet}
+use Rattle.fields_core.proofs.TentWaits.{field-further, kind-each, kind-first, kind-quiet}
 use Rattle.fields_core.proofs.planes.tents.tent_notes.TentNotes.sweep_kind.Goals as goal
 use Rattle.fields_core.proofs.planes.tents.tent_notes.TentNotes.sweep_kind.Goals.{After-settle, else-len, then-len}
 
@@ -32,7 +32,7 @@ returns-then-not-visit-clause-visited g c =
 
 pub loop-left-preserved : goal.loop-left-preserved
 loop-left-preserved g c = record {
-  passed = quiet-next (kind-quiet c.args.puzzle.now c.requires.ready.field.lawful c.args.kind) (kind_houses c.args.puzzle.now c.args.kind)
+  passed = quiet-next (kind-quiet c.args.puzzle.now c.requires.ready.field.lawful c.args.kind)
       (kind-each c.args.puzzle.now c.requires.ready.field.lawful c.args.kind) (rw (c.requires.ready.field.size) refl) c.loop-left.invariant.passed
       c.lowest.ensures c.visit.ensures.visited c.if-not-visit.false _
       (λ k. c.without_lowest-left.ensures c.lowest.result k c.lowest.ensures);
@@ -51,10 +51,8 @@ returns-clause-visited g c = whole g (goal.at.returns-clause-visited g c).After-
 
 pub returns-clause-ready : goal.returns-clause-ready
 returns-clause-ready g c = λ _.
-    let bits = g.W.Word.bits in
-    let p = c.args.puzzle.now in
-    let now = c.loop-left.planes in
-    let passed = c.loop-left.invariant.passed in
+    let bits = g.W.Word.bits in let p = c.args.puzzle.now in
+    let now = c.loop-left.planes in let passed = c.loop-left.invariant.passed in
     let further = passed.visited.further in
     let before : AreTentsRested bits p c.loop-left.self.waits (has c.args.planes.now) = rw c.loop-left.invariant.waits c.requires.ready.rested in
     let size = c.requires.ready.field.size in

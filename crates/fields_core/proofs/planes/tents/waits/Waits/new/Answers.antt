@@ -15,13 +15,13 @@ lines g c =
 
 pub returns-then-has : goal.returns-then-has
 returns-then-has g c =
-    rested-at g.W.Word.bits c.args.puzzle.now c.requires.lawful c.split-y.ensures.lawful c.requires.board.same_size (rw (c.in-Some.is) at c.requires.closed_but)
+    rested-at c.requires.lawful c.split-y.ensures.lawful c.requires.board.same_size (rw (c.in-Some.is) at c.requires.closed_but)
     (λ _. lines g (goal.at.returns-then-has g c).After-one-2) (λ off. absurd (true≢false (sym c.if-has.true ∙ c.has.ensures ∙ off))) c.woken.ensures
 
 pub returns : goal.returns
 returns g c =
     let around = rw (c.in-Some.is) at c.requires.closed_but in
-    rested-at g.W.Word.bits c.args.puzzle.now c.requires.lawful c.split-y.ensures.lawful c.requires.board.same_size around
+    rested-at c.requires.lawful c.split-y.ensures.lawful c.requires.board.same_size around
     (λ off. absurd (around-some (tent_counts c.args.puzzle.now) around (sym c.has.ensures ∙ c.if-has.false) off)) (λ _. lines g (goal.at.returns g c).After-one-2) c.woken-2.ensures
 
 pub returns-in_default : goal.returns-in_default
