@@ -1,10 +1,11 @@
 -- Words and lemmas of std and of the crates below, and words of this crate, as its proofs use them.
-pub use Rattle.std.proofs.Common.{Bool, List, None, Option, Some, [], add-one, ap, arith, cond, drop, eqb, false, get_or, get_or-set_other, inl, inr}
-pub use Rattle.std.proofs.Common.{length, length-take, map, map-id, nat_le, not, refl, replicate, rules, set, slice_index, subst, suc, sym, take}
-pub use Rattle.std.proofs.Common.{true, zero, ℕ, ◌%◌, ◌&&◌, ◌*◌, ◌++◌, ◌+◌, ◌-◌, ◌/◌, ◌<◌, ◌^◌, ◌∙◌, ◌∷◌, ◌≡◌, ◌≢◌, ◌≤◌, ◌⊎◌}
+pub use native.Mathlib.Nat.{mul-pos}
+pub use Rattle.std.proofs.Common.{Bool, List, None, Option, Some, [], add-one, ap, arith, cond, drop, eqb, false, get_or, get_or-set_other, inl, inr, length}
+pub use Rattle.std.proofs.Common.{length-take, map, map-id, nat_le, not, refl, replicate, rules, set, slice_index, subst, suc, sym, take, true, zero, ℕ, ◌%◌}
+pub use Rattle.std.proofs.Common.{◌&&◌, ◌*◌, ◌++◌, ◌+◌, ◌-◌, ◌/◌, ◌<◌, ◌^◌, ◌∙◌, ◌∷◌, ◌≡◌, ◌≢◌, ◌≤◌, ◌⊎◌}
 pub use Rattle.std.proofs.Math.Seq.{drop-cons}
-pub use Rattle.std.proofs.lemmas.Bool.{and_from, cases_eq, cases_lt, cond_both, eq-eqb, eqb-true, false_from_ne_true, le-ltb, lt-ltb, ltb-false}
-pub use Rattle.std.proofs.lemmas.Bool.{ltb-true, or_cases, or_left, or_right, true≢false}
+pub use Rattle.std.proofs.lemmas.Bool.{and_from, cases_eq, cases_lt, cond_both, eq-eqb, eqb-true, false_from_ne_true, le-ltb, lt-ltb, ltb-false, ltb-true}
+pub use Rattle.std.proofs.lemmas.Bool.{or_cases, or_left, or_right, true≢false}
 pub use Rattle.std.proofs.lemmas.Cmp.{nat_eq_equiv}
 pub use Rattle.std.proofs.lemmas.Grind.{common_steps, elements, get_or-set_at, rows, same_number_lists}
 pub use Rattle.std.proofs.lemmas.List.{append-nil, append_assoc, get_or-map, get_or-replicate, get_or-set_same, get_or_append_left, get_or_default}
@@ -13,8 +14,8 @@ pub use Rattle.std.proofs.lemmas.List.{set-get_or, set-set, set_at, take_all, ta
 pub use Rattle.std.proofs.lemmas.List.Elements.{All-append, All-cons, All-contains, All-from_get_or, All-from_recursion, All-get_or, All-map, All-nil}
 pub use Rattle.std.proofs.lemmas.List.Elements.{All-replicate, All-set, Contains-append_left, Contains-append_right, Contains-get_or, filter-append}
 pub use Rattle.std.proofs.lemmas.List.Elements.{filter_passes, recursion_from_All}
-pub use Rattle.std.proofs.lemmas.List.FromFn.{fill_by_all, get_or-map-range_with_len, get_or-range_with_len, length-map-range_with_len}
-pub use Rattle.std.proofs.lemmas.List.FromFn.{length-range_with_len, map-range_with_len_more}
+pub use Rattle.std.proofs.lemmas.List.FromFn.{fill_by_all, get_or-map-range_with_len, get_or-range_with_len, length-map-range_with_len, length-range_with_len}
+pub use Rattle.std.proofs.lemmas.List.FromFn.{map-range_with_len_more}
 pub use Rattle.std.proofs.lemmas.List.Sorted.{All-permutation, Contains-permutation, IsPermutation-refl, IsPermutation-swap, IsPermutation-sym}
 pub use Rattle.std.proofs.lemmas.List.Sorted.{IsPermutation-trans, length_permutation}
 pub use Rattle.std.proofs.lemmas.List.Sums.{count_by-le-length, get_or-le-sum_by, length-filter, sum_by-append, sum_by-cons, sum_by-le, sum_by-set}
@@ -26,6 +27,13 @@ pub use Rattle.std.specs.List.{AllByRecursion, range_with_len}
 unfoldable pub use Rattle.std.specs.List.{IsDistinct}
 pub use Rattle.std.specs.Prelude.{All, Contains, Err, IfSome, IsPermutation, IsTrue, Result, filter, if◌then◌else◌, is_some, nat_lt, slice_index_or}
 pub use Rattle.std.specs.Prelude.{slice_set, sum, sum_by, ◌==◌, ◌||◌, ◌↔◌}
+pub use Rattle.rand.proofs.ShuffleLemmas.{last_below, rest_below, rising_more, rising_one, rising_positive}
+pub use Rattle.rand.proofs.UniformLemmas.{carry_room, if_below}
+pub use Rattle.rand.specs.Shuffle.{Chooser, chooser_at, chooser_next, chooser_refill, chunk_of}
+unfoldable pub use Rattle.rand.specs.Shuffle.{grow, narrow_swaps, rising}
+unfoldable pub use Rattle.rand.specs.Uniform.{canon}
+pub use Rattle.rand_core.specs.Stream.{Stream}
+unfoldable pub use Rattle.rand_core.specs.Stream.{next_u32}
 pub use Rattle.grid_core.proofs.CandidateLemmas.{all_below-at, all_below-from, any_below-here, any_below-none, any_below-some, count_below-few}
 pub use Rattle.grid_core.proofs.CandidateLemmas.{count_below-pos, is_dead-each, is_full-each}
 pub use Rattle.grid_core.proofs.DifferentNumbers.{distinct_filtered_range}
@@ -44,7 +52,7 @@ pub use Rattle.gameid_core.proofs.LineLaws.{at_column, at_row}
 pub use Rattle.gameid_core.specs.BlackRuns.{run_of, runs}
 unfoldable pub use Rattle.gameid_core.specs.BlackRuns.{runs_after}
 pub use Rattle.gameid_core.specs.Lines.{lines_ones, ones}
-pub use Rattle.gameid_core.specs.Puzzles.{IsSolo, Light, Pattern, Solo, Tents, solo_n, solo_puzzle}
+pub use Rattle.gameid_core.specs.Puzzles.{IsSolo, Light, Pattern, Solo, Tents, solo_n, solo_puzzle, tents_puzzle}
 pub use Rattle.gameid_core.specs.declared.light_up.cell.LightCell.{LightCell}
 pub use Rattle.gameid_core.specs.declared.light_up.cell.LightCell.TheVariants.{Black, Numbered, White}
 pub use Rattle.engine_core.proofs.ClosingLemmas.{closure_closed, closure_inside, closure_largest}
@@ -59,8 +67,8 @@ pub use Rattle.engine_core.specs.PlaceLaws.{has_place-here, place-filter}
 pub use Rattle.engine_core.specs.RuleSystem.{FitsIn, IsClosed, IsGridOf, IsLawful, Needs, RuleSystem, needs_of}
 unfoldable pub use Rattle.engine_core.specs.RuleSystem.{has_place}
 pub use Rattle.engine_core.specs.Stored.{IsAnswer}
-pub use Rattle.engine_core.specs.Verdict.{IsTrueOf, Outcome, Outcome.GaveUp, Outcome.NoSolution, Outcome.OneSolution, Outcome.SeveralSolutions}
-pub use Rattle.engine_core.specs.Verdict.{HasTwo, Solves, verdict_of}
+pub use Rattle.engine_core.specs.Verdict.{HasTwo, IsTrueOf, Outcome, Outcome.GaveUp, Outcome.NoSolution, Outcome.OneSolution, Outcome.SeveralSolutions}
+pub use Rattle.engine_core.specs.Verdict.{Solves, verdict_of}
 unfoldable pub use Rattle.engine_core.specs.Verdict.{outcome}
 pub use Rattle.engine_core.specs.Walk.{Mark, Mark.Found}
 unfoldable pub use Rattle.engine_core.specs.Walk.{walk}
@@ -120,11 +128,11 @@ unfoldable pub use Rattle.maker_core.specs.SoloFilling.{lines_of_groups, rearran
 pub use Rattle.maker_core.specs.SoloMaking.{IsSoloSize, solo_passes, solo_tries}
 pub use Rattle.maker_core.specs.SoloOrders.{AreOrders, IsLineOrder, IsOrder}
 pub use Rattle.maker_core.specs.SoloXFilling.{first_grid, flipped_by_draw, top_row_given, x_filling}
-unfoldable pub use Rattle.maker_core.specs.TentFilling.{is_free, may_have_tent, place_tent, take_cell}
-unfoldable pub use Rattle.maker_core.specs.TentFilling.{free_cells_beside, no_tents, tent_filling, tents_after, tents_puzzle_of}
+unfoldable pub use Rattle.maker_core.specs.TentFilling.{free_cells_beside, is_free, may_have_tent, no_tents, place_tent, take_cell, tent_filling, tents_after}
+unfoldable pub use Rattle.maker_core.specs.TentFilling.{tents_puzzle_of}
 pub use Rattle.maker_core.specs.TentSteps.{IsTentPlaced, IsTentTaken}
-pub use Rattle.maker_core.specs.Thinning.{AreReasons, CluedGame, IsGame, IsOnly, IsReason, IsThinnedFrom, LeavesNoIdleClue, clue_places}
-pub use Rattle.maker_core.specs.Thinning.{has_clue, stream_after_clues}
+pub use Rattle.maker_core.specs.Thinning.{AreReasons, CluedGame, IsGame, IsOnly, IsReason, IsThinnedFrom, LeavesNoIdleClue, clue_places, has_clue}
+pub use Rattle.maker_core.specs.Thinning.{stream_after_clues}
 pub use Rattle.maker_core.specs.ThinningSteps.{IsAsked, IsLeft, IsThinning, IsTold, IsVerdict}
 unfoldable pub use Rattle.maker_core.specs.ThinningSteps.{reasons_from}
 pub use Rattle.maker_core.specs.declared.light_up.filling.LightFilling.{LightFilling}
@@ -132,11 +140,3 @@ pub use Rattle.maker_core.specs.declared.made.Kept.{Kept}
 pub use Rattle.maker_core.specs.declared.made.Why.{Why}
 pub use Rattle.maker_core.specs.declared.made.Why.TheVariants.{Budget, Needed}
 pub use Rattle.maker_core.specs.declared.tents.filling.TentFilling.{TentFilling}
-pub use Rattle.rand.proofs.ShuffleLemmas.{last_below, rest_below, rising_more, rising_one, rising_positive}
-pub use Rattle.rand.proofs.UniformLemmas.{carry_room, if_below}
-pub use Rattle.rand.specs.Shuffle.{Chooser, chooser_at, chooser_next, chooser_refill, chunk_of}
-unfoldable pub use Rattle.rand.specs.Shuffle.{grow, narrow_swaps, rising}
-unfoldable pub use Rattle.rand.specs.Uniform.{canon}
-pub use Rattle.rand_core.specs.Stream.{Stream}
-unfoldable pub use Rattle.rand_core.specs.Stream.{next_u32}
-pub use native.Mathlib.Nat.{mul-pos}

@@ -4,11 +4,9 @@ pub mod FoundAtOnce
 pub mod LightCells
 pub mod LightFilled
 pub mod LightMakings
-pub mod LightSight
 pub mod LightSolved
 pub mod PatternMakings
 pub mod PlainPattern
-pub mod TentFillings
 pub mod TentMakings
 pub mod TentsSolved
 pub mod Shuffles
@@ -23,7 +21,6 @@ pub mod FlippedHouses
 pub mod SoloXSearch
 pub mod FilteredRanges
 pub mod ThinningTurns
-pub mod ThinningReasons
 pub mod IdleClues
 pub mod WrittenGrids
 pub mod OnlySolutions

@@ -1,7 +1,6 @@
 -- What is drawn for a filling of Light Up is its definition.
 use Rattle.maker_core.proofs.Common.{All, AreAll, Extent, IsPermutation, Light, LightFilling, List, arith, common_steps, false, get_or-map, get_or_default, get_or_past, length, length-map, light_cells, light_puzzle_of, lights_of, numbered_cell, refl, slice_index, white, white-in, white_places, with_numbers, ℕ, ◌*◌, ◌<◌, ◌∙◌, ◌≡◌}
-use Rattle.maker_core.proofs.LightSight.{same_white}
-use Rattle.maker_core.proofs.LightSolved.{order_white}
+use Rattle.maker_core.proofs.LightSolved.{order_white, same_white}
 
 -- the white cells in any order
 pub order_within : (p : Light) {order : List ℕ} → IsPermutation (white_places p) order → length p.cells ≡ light_cells p

@@ -1,5 +1,5 @@
 -- A draw below a number is below it, a shuffle brings a list into another order, and both leave a stream of words.
-use Rattle.maker_core.proofs.Common.{Chooser, HasWords, IsOrder, IsPermutation, IsPermutation-refl, IsPermutation-swap, IsPermutation-trans, List, Stream, [], arith, canon, carry_room, chooser_at, chooser_next, chooser_refill, chunk_of, common_steps, cond_both, div-add-mod', div_below, eqb-true, grow, if_below, last_below, length, length-range_with_len, length_permutation, lt-ltb, ltb-false, ltb-true, mod_below, mul-le, narrow_swaps, nat_le, nat_lt, next_u32, range_with_len, refl, rest_below, rising, rising_more, rising_one, rising_positive, shuffled_order, subst, suc, sym, true≢false, zero, ℕ, ◌%◌, ◌*◌, ◌+◌, ◌-◌, ◌/◌, ◌<◌, ◌==◌, ◌^◌, ◌∙◌, ◌≡◌, ◌≤◌}
+use Rattle.maker_core.proofs.Common.{Chooser, HasWords, IsOrder, IsPermutation, IsPermutation-refl, IsPermutation-swap, IsPermutation-trans, List, Stream, [], arith, canon, carry_room, chooser_at, chooser_next, chooser_refill, chunk_of, common_steps, cond_both, div-add-mod', div_below, eqb-true, grow, if_below, last_below, length, length-range_with_len, length_permutation, lt-ltb, ltb-false, ltb-true, mod_below, mul-le, narrow_swaps, nat_le, nat_lt, next_u32, range_with_len, refl, rest_below, rising, rising_more, rising_one, rising_positive, shuffled_order, subst, suc, sym, true≢false, zero, ℕ, ◌%◌, ◌*◌, ◌+◌, ◌-◌, ◌/◌, ◌<◌, ◌==◌, ◌^◌, ◌∙◌, ◌≡◌, ◌≤◌, stream_after}
 use Rattle.maker_core.proofs.SoloOrderLemmas.{order_from_permutation}
 
 word_below : {s : Stream} → HasWords s → (next_u32 s).0 < 2 ^ 32
@@ -9,6 +9,13 @@ word_below words = words.below []
 words_left : {s : Stream} → HasWords s → HasWords (next_u32 s).1
 unfolding next_u32
 words_left words = grind (arith, common_steps)
+
+-- words are left after each filling of a stream of words, where they are after one
+pub words_later : {A : Type 0} (make : Stream → A × Stream) → ((s : Stream) → HasWords s → HasWords (make s).1)
+    → {s : Stream} → HasWords s → (k : ℕ) → HasWords (stream_after make k s)
+unfolding stream_after
+words_later make left words zero = words
+words_later make left words (suc k) = left _ (words_later make left words k)
 
 -- a number below a range, and words after it
 pub record IsDrawnBelow (range : ℕ) (draw : ℕ × Stream) : Type 0 where

@@ -9,7 +9,7 @@ pub first_is : (answer : Verdict) {first : Option (List ℕ)} (second : Option (
 first_is answer second said is = grind arith
 
 -- and that grid is a solution
-first_solves : (p : RuleSystem) (said : Outcome) → IsTrueOf p said → IfSome (first_grid said) (Solves p)
+pub first_solves : (p : RuleSystem) (said : Outcome) → IsTrueOf p said → IfSome (first_grid said) (Solves p)
 first_solves p NoSolution is = tt
 first_solves p (OneSolution first) is = is.0
 first_solves p (SeveralSolutions first second) is = is.0

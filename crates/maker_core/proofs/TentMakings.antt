@@ -1,6 +1,5 @@
 -- The puzzle of a filling has its trees and the numbers of its tents.
-use Rattle.maker_core.proofs.Common.{Extent, TentFilling, Tents, ap, lines_ones, tents_puzzle_of, ◌≡◌}
-use Rattle.gameid_core.specs.Puzzles.{tents_puzzle}
+use Rattle.maker_core.proofs.Common.{Extent, TentFilling, Tents, ap, lines_ones, tents_puzzle, tents_puzzle_of, ◌≡◌}
 
 pub tents_is : (size : Extent) (filling : TentFilling) (p : Tents) → p ≡ tents_puzzle size filling.trees (lines_ones size filling.tents)
     → p ≡ tents_puzzle_of size filling

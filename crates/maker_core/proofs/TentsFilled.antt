@@ -1,8 +1,7 @@
 -- Each filling of Tents over a stream of words solves its puzzle.
 use Rattle.maker_core.proofs.Common.{Extent, HasWords, IsExtent, IsGrid, IsOrder, IsTentTaken, IsTentSolution, List, Stream, TentFilling, add-one, arith, cond_both, free_cells_beside, inl, inr, length, may_have_tent, mul-le, place_tent, refl, shuffled_order, slice_index, stream_after, subst, suc, take_cell, tent_filling, tents_after, tents_puzzle_of, true, zero, ℕ, ◌*◌, ◌≡◌, ◌≤◌}
-use Rattle.maker_core.proofs.TentFillings.{free_few, placed_is}
-use Rattle.maker_core.proofs.TentsSolved.{IsFillingAfter, filling_none, filling_step}
-use Rattle.maker_core.proofs.Shuffles.{draw_is, IsShuffledOrder, order_is}
+use Rattle.maker_core.proofs.TentsSolved.{IsFillingAfter, filling_none, filling_step, free_few, placed_is}
+use Rattle.maker_core.proofs.Shuffles.{draw_is, IsShuffledOrder, order_is, words_later}
 
 -- a filling, and words after it
 record IsTakenBy (size : Extent) (old : TentFilling) (c : ℕ) (q : TentFilling × Stream) : Type 0 where
@@ -61,13 +60,7 @@ filling_solves {size} {s} extent words =
       words = made.words;
     }
 
-filled_words : {size : Extent} {s : Stream} → IsExtent size → HasWords s → (k : ℕ) → HasWords (stream_after (tent_filling size) k s)
-unfolding stream_after
-filled_words extent words zero = words
-filled_words extent words (suc k) =
-    (filling_solves extent (filled_words extent words k)).words
-
 -- the k-th filling
 pub filling_at_solves : {size : Extent} {s : Stream} → IsExtent size → HasWords s → (k : ℕ)
     → IsSolved size (tent_filling size (stream_after (tent_filling size) k s))
-filling_at_solves extent words k = filling_solves extent (filled_words extent words k)
+filling_at_solves {size} extent words k = filling_solves extent (words_later (tent_filling size) (λ s w. (filling_solves extent w).words) words k)

@@ -1,7 +1,66 @@
--- Cells that were taken in turn: each tent has a tree of its own beside it, none stands on a tree, and no two touch.
-use Rattle.maker_core.proofs.Common.{Extent, IsGrid, IsOrder, IsTentPlaced, IsTentTaken, IsTentSolution, List, TentFilling, [], any_below-none, ap, arith, at_column, at_row, beside-in, column_places, cond, elements, false, filter, has_place, inl, inr, length, length-filter, lines_ones, map, map-map, no_tents, ones, range_with_len, refl, replicate, row_places, slice_index, step-down, step-left, step-right, step-up, steps, steps-some, subst, sym, tent, tent-in, tents_in_column, tents_in_row, tents_puzzle_of, touches, true, ℕ, ◌&&◌, ◌*◌, ◌+◌, ◌<◌, ◌==◌, ◌∙◌, ◌∷◌, ◌≡◌, ◌≤◌}
+-- Cells of Tents that are taken in turn: each tent has a tree of its own beside it, none stands on a tree, and no two touch.
+use Rattle.maker_core.proofs.Common.{Extent, IsGrid, IsOrder, IsTentPlaced, IsTentSolution, IsTentTaken, List, Stream, TentFilling, [], add-one, any_below-none, ap, arith, at_column, at_row, beside-in, cases_eq, column_places, common_steps, cond, elements, false, filter, filter-few, free_cells_beside, has_place, has_place-here, inl, inr, is_free, length, length-filter, lines_ones, map, map-map, may_have_tent, no_tents, ones, place-filter, range_with_len, refl, replicate, row_places, shuffled_order, slice_index, slice_set, step-down, step-keep, step-left, step-none, step-right, step-skip, step-up, steps, steps-few, steps-some, subst, sym, take_cell, tent, tent-in, tent_filling, tents_after, tents_in_column, tents_in_row, tents_puzzle_of, touches, true, ℕ, ◌&&◌, ◌*◌, ◌+◌, ◌<◌, ◌==◌, ◌∙◌, ◌∷◌, ◌≡◌, ◌≤◌}
 use Rattle.maker_core.proofs.WrittenGrids.{grid_with, new_or_old, no_one, zeros-grid}
-use Rattle.maker_core.proofs.TentFillings.{free_place}
+
+pub wide : (size : Extent) {c : ℕ} → c < size.w * size.h → 1 ≤ size.w
+wide size lt = grind (arith, cases_eq size.w 0)
+
+pub free_all : (size : Extent) (filling : TentFilling) (c : ℕ) {n : ℕ} {places : List ℕ}
+    → places ≡ filter (is_free filling) (steps size c n) → n ≡ 4 → places ≡ free_cells_beside size filling c
+unfolding free_cells_beside
+free_all size filling c is all = grind (arith, common_steps)
+
+pub free_few : (size : Extent) (filling : TentFilling) (c : ℕ) → length (free_cells_beside size filling c) ≤ 4
+unfolding free_cells_beside
+free_few size filling c = grind (arith, common_steps, filter-few, steps-few)
+
+pub free_place : (size : Extent) (filling : TentFilling) (c t : ℕ) → has_place (free_cells_beside size filling c) t ≡ true
+    → (has_place (steps size c 4) t ≡ true) × (is_free filling t ≡ true)
+unfolding free_cells_beside
+free_place size filling c t on = place-filter (is_free filling) (steps size c 4) t on
+
+-- ---- a tent more
+pub placed_is : {size : Extent} {filling new : TentFilling} {c k : ℕ} (free : List ℕ) → free ≡ free_cells_beside size filling c
+    → k < length free → may_have_tent size filling c ≡ true
+    → new.trees ≡ slice_set filling.trees (slice_index free k) 1 → new.tents ≡ slice_set filling.tents c 1 → IsTentPlaced size filling c new
+placed_is {k} free is below may trees tents = grind (arith, common_steps, has_place-here)
+
+-- a free cell beside a cell lies in the grid
+pub free_in : (size : Extent) (filling : TentFilling) (c k : ℕ) (free : List ℕ) → c < size.w * size.h
+    → free ≡ free_cells_beside size filling c → k < length free → slice_index free k < size.w * size.h
+free_in size filling c k free lt is below =
+    beside-in size (slice_index free k) (wide size lt) lt
+    (free_place size filling c (slice_index free k) (subst (λ xs. has_place xs (slice_index free k) ≡ true) is (has_place-here free k below))).0
+
+-- ---- the cells in turn
+pub none_after : (size : Extent) (order : List ℕ) {filling : TentFilling} {s : Stream} → filling ≡ no_tents size
+    → (filling, s) ≡ tents_after size order 0 s
+unfolding tents_after
+none_after size order {s} is = ap (λ c. (c, s)) is
+
+pub more_after : (size : Extent) (order : List ℕ) (k : ℕ) {c : ℕ} {old new : TentFilling} (s : Stream) {t u : Stream}
+    → (old, t) ≡ tents_after size order k s
+    → (new, u) ≡ take_cell size old c t → c ≡ slice_index order k
+    → (new, u) ≡ tents_after size order (k + 1) s
+unfolding tents_after
+more_after size order k s before drawn at = rw (add-one, sym before, sym at) drawn
+
+pub filled : (size : Extent) {places order : List ℕ} {filling : TentFilling} {n : ℕ} (s : Stream) {t u : Stream} → n ≡ size.w * size.h
+    → (places, t) ≡ shuffled_order n s → order ≡ places
+    → (filling, u) ≡ tents_after size order (length order) t → (filling, u) ≡ tent_filling size s
+unfolding tent_filling
+filled size s cells drawn lent after = rw (sym cells, sym drawn, sym lent) after
+
+pub no_tents_is : (size : Extent) {trees tents : List ℕ} (n : ℕ) → n ≡ size.w * size.h → trees ≡ replicate n 0 → tents ≡ replicate n 0
+    → ◌≡◌ {A = TentFilling} (record { trees = trees; tents = tents; placed = 0 }) (no_tents size)
+unfolding no_tents
+no_tents_is size n cells is_trees is_tents = rw (is_trees, is_tents, cells) refl
+
+-- the four sides of a cell, as the listing of free cells cites them
+pub ruleset sides = (step-none, step-skip, step-keep)
+
+-- what the placing of a tent cites
+pub ruleset place_laws = (free_few, free_in, placed_is)
 
 -- what the first k cells of the order made
 pub record IsFillingAfter (size : Extent) (order : List ℕ) (k : ℕ) (filling : TentFilling) : Type 0 where
@@ -85,7 +144,7 @@ new_from size k c old new w ordered lt at before p =
     let c_in : c < size.w * size.h = rw at (ordered.within k lt) in
     record {
       c_in = c_in;
-      t_in = beside-in size c p.tree (omega arith) c_in free.0;
+      t_in = beside-in size p.tree (omega arith) c_in free.0;
       c_new = λ on. let t = before.taken c on in let same = ordered.apart t.0 k (omega (arith, t.1)) lt (t.2 ∙ at) in absurd (omega (arith, t.1));
       c_free = grind arith;
       t_tree = grind (arith, free.1);
@@ -93,7 +152,7 @@ new_from size k c old new w ordered lt at before p =
       other = λ e. none_itself size c w (subst (λ x. has_place (steps size c 4) x ≡ true) (sym e) free.0);
       beside = free.0;
       alone = λ d on.
-          grind (arith, any_below-none (λ d. touches size c d && tent old.tents d) (size.w * size.h), tent-in old.tents (size.w * size.h) d before.tents_grid.each_cell on);
+          grind (arith, any_below-none (λ d. touches size c d && tent old.tents d) (size.w * size.h), tent-in old.tents d before.tents_grid.each_cell on);
     }
 
 filling_more : (size : Extent) {order : List ℕ} (k c : ℕ) (old new : TentFilling) → IsFillingAfter size order k old

@@ -1,7 +1,6 @@
 -- What is drawn from a stream of random words, and the stream that is left; and the fillings that a maker tries.
 use Rattle.std.specs.Prelude.{◌≡◌, ℕ, zero, suc, ◌^◌, ◌<◌, Bool, true, false, cond, List, [], ◌∷◌, ◌++◌, nat_lt, length, slice_index, ⊤, Vec, Result, Ok, Err}
-use Rattle.std.specs.List.{range_with_len}
-use Rattle.rand_core.specs.Stream.{Call, Stream, next_u32}
+use Rattle.maker_core.specs.Below.{Call, Stream, next_u32, range_with_len}
 use Rattle.rand.specs.Uniform.{canon}
 use Rattle.rand.specs.Shuffle.{shuffled}
 use Rattle.maker_core.specs.declared.made.MakeFault.{MakeFault}
@@ -84,6 +83,14 @@ pub record IsFirst {A : Type 0} (t : Tries A) (s : Stream) (filling : A) (left :
   pub filled : filling ≡ filling_at t.make k s
   pub drawn : left ≡ stream_after t.make (suc k) s
 
+-- so it is of a generator's stream
+abbrev pub IsFirstDrawn : {A G : Type 0} → Tries A → (G → Stream) → G → G → A → Type 0
+IsFirstDrawn t stream old new filling = IsFirst t (stream old) filling (stream new)
+
+-- what is left is the stream after all of the tries
+abbrev pub AllDrawn : {A G : Type 0} → Tries A → (G → Stream) → G → G → Type 0
+AllDrawn t stream old new = stream new ≡ stream_after t.make t.count (stream old)
+
 -- none of the tries passes
 abbrev pub AllFail : {A : Type 0} → Tries A → Stream → Type 0
 AllFail t s = NonePasses t.make t.passes s t.count
@@ -96,3 +103,8 @@ LeavesStream t old new (Ok made) = (k : ℕ) → IsFirstPassing t.make t.passes 
 LeavesStream t old new (Err SizeRange) = new ≡ old
 LeavesStream t old new (Err Exhausted) = new ≡ stream_after t.make t.count old
 LeavesStream t old new (Err Memory) = ⊤
+
+-- so it is of a generator's stream
+abbrev pub LeavesGenerator : {A X G : Type 0}
+    → Tries A → (G → Stream) → G → G → Result X MakeFault → Type 0
+LeavesGenerator t stream old new result = LeavesStream t (stream old) (stream new) result

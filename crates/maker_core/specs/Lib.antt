@@ -1,3 +1,4 @@
+pub mod Below
 pub mod Draws
 pub mod LightFilling
 pub mod LightMaking

@@ -1,10 +1,6 @@
 -- The clues of Light Up: the numbers of black cells.
 use Rattle.std.specs.Prelude.{◌≡◌, ℕ, Option, Some, None, length, map, slice_index_or, slice_set}
-use Rattle.gameid_core.specs.Puzzles.{Light}
-use Rattle.gameid_core.specs.declared.light_up.cell.LightCell.{LightCell}
-use Rattle.gameid_core.specs.declared.light_up.cell.LightCell.TheVariants.{White, Black, Numbered}
-use Rattle.fields_core.specs.Light.{is_white}
-use Rattle.fields_core.specs.LightHouses.{light_rules}
+use Rattle.maker_core.specs.Below.{Black, Light, LightCell, Numbered, White, is_white, light_rules}
 use Rattle.maker_core.specs.LightFilling.{with_numbers}
 use Rattle.maker_core.specs.Thinning.{CluedGame}
 

@@ -1,22 +1,9 @@
 -- What fewer numbers change.
-use Rattle.std.proofs.lemmas.Grind.{common_steps}
+use Rattle.maker_core.specs.Below.{Black, Extent, Light, LightCell, Numbered, Solves, White, all_below-at, all_below-from, begins_column_run, begins_row_run, beside, black_right, bulb_right, cases_eq, cases_lt, column_house, column_run, common_steps, filter, get_or-set_other, get_or-set_same, get_or_past, is_white, joined_in_column, joined_in_row, le_refl, length-map, length-set, light_houses, light_rules, lit_house, lit_right, number_house, number_is, number_right, numbered, row_house, row_run, seen_from, sees, sees_bulb, slice_index_or, slice_set, solves_lights, white}
 use Rattle.std.proofs.Common.{◌≡◌, ◌≢◌, ℕ, ◌<◌, true, false, Some, List, [], length, map, get_or, set, refl, sym, ◌∙◌, ap, subst, arith, inl, inr, ◌⊎◌}
-use Rattle.std.specs.Prelude.{filter, slice_index_or, slice_set}
-use Rattle.std.proofs.Math.Nat.{le_refl}
 use Rattle.std.proofs.Math.Path.{fun_ext}
 use Rattle.std.proofs.Math.ListN.{get_or-map}
 use Rattle.std.proofs.Math.Seq.{map-set_same}
-use Rattle.std.proofs.lemmas.Bool.{cases_lt, cases_eq}
-use Rattle.std.proofs.lemmas.List.{get_or-set_other, get_or-set_same, get_or_past, length-set, length-map}
-use Rattle.grid_core.specs.Extent.{Extent}
-use Rattle.grid_core.specs.Regions.{beside}
-use Rattle.grid_core.proofs.CandidateLemmas.{all_below-at, all_below-from}
-use Rattle.gameid_core.specs.Puzzles.{Light}
-use Rattle.gameid_core.specs.declared.light_up.cell.LightCell.{LightCell}
-use Rattle.gameid_core.specs.declared.light_up.cell.LightCell.TheVariants.{White, Black, Numbered}
-use Rattle.engine_core.specs.Verdict.{Solves}
-use Rattle.fields_core.specs.Light.{is_white, white, joined_in_row, joined_in_column, sees, sees_bulb, number_is, black_right, number_right, bulb_right, lit_right, solves_lights}
-use Rattle.fields_core.specs.LightHouses.{row_run, column_run, seen_from, begins_row_run, begins_column_run, numbered, number_house, row_house, column_house, lit_house, light_houses, light_rules}
 use Rattle.fields_core.proofs.LightFaultLemmas.{lit-from, lit-parts}
 use Rattle.maker_core.specs.Thinning.{IsThinnedFrom, IsGame}
 use Rattle.maker_core.specs.LightClues.{number_clue, SameLight, light_game}

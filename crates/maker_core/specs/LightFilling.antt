@@ -1,13 +1,6 @@
 -- What a maker of Light Up tries. A grid has 1 at a bulb and 0 elsewhere.
 use Rattle.std.specs.Prelude.{◌≡◌, ℕ, zero, suc, ◌*◌, Bool, true, ◌||◌, ◌==◌, List, length, map, filter, replicate, slice_index, slice_set, if◌then◌else◌}
-use Rattle.std.specs.List.{range_with_len}
-use Rattle.grid_core.specs.Extent.{Extent}
-use Rattle.grid_core.specs.Grids.{IsGrid}
-use Rattle.gameid_core.specs.Puzzles.{Light}
-use Rattle.gameid_core.specs.declared.light_up.cell.LightCell.{LightCell}
-use Rattle.gameid_core.specs.declared.light_up.cell.LightCell.TheVariants.{White, Black, Numbered}
-use Rattle.fields_core.specs.Light.{light_cells, white, bulb, sees_bulb, bulbs_beside, solves_lights}
-use Rattle.fields_core.specs.LightHouses.{light_rules}
+use Rattle.maker_core.specs.Below.{Black, Extent, IsGrid, Light, LightCell, Numbered, RuleSystem, White, bulb, bulbs_beside, light_cells, light_rules, range_with_len, sees_bulb, solves_lights, white}
 use Rattle.maker_core.specs.declared.light_up.filling.LightFilling.{LightFilling}
 use Rattle.maker_core.specs.Draws.{Making, black_cells, shuffled_list}
 use Rattle.maker_core.specs.Made.{has_one}
@@ -55,9 +48,13 @@ light_filling size black s =
 unfoldable pub light_puzzle_of : Extent → LightFilling → Light
 light_puzzle_of size filling = with_numbers (lights_of size filling.black) filling.bulbs
 
+-- the rules of a search of that puzzle
+abbrev pub rules_filled : Extent → LightFilling → RuleSystem
+rules_filled size filling = light_rules (light_puzzle_of size filling)
+
 -- a filling passes where the verdict of its puzzle is one
 abbrev pub light_passes : Extent → ℕ → LightFilling → Bool
-light_passes size budget filling = has_one (light_rules (light_puzzle_of size filling)) budget
+light_passes size budget filling = has_one (rules_filled size filling) budget
 
 -- black cells and bulbs of so many cells; the bulbs solve its puzzle
 pub record IsLit (size : Extent) (filling : LightFilling) : Type 0 where

@@ -1,9 +1,6 @@
 -- What a maker of Light Up gives.
 use Rattle.std.specs.Prelude.{◌≡◌, ◌≢◌, ◌≤◌, ℕ, List}
-use Rattle.rand_core.specs.Stream.{Stream}
-use Rattle.grid_core.specs.Extent.{Extent}
-use Rattle.gameid_core.specs.Puzzles.{IsWide, Light}
-use Rattle.fields_core.specs.LightHouses.{light_rules}
+use Rattle.maker_core.specs.Below.{Extent, IsWide, Light, Stream, light_rules}
 use Rattle.fields_core.specs.LightSolutions.{IsLightSolution}
 use Rattle.maker_core.specs.Draws.{AllFail, Tries, IsFirstPassing, filling_at}
 use Rattle.maker_core.specs.LightClues.{light_game}

@@ -1,7 +1,6 @@
 -- When a filling passes, and what a maker of puzzles gives.
 use Rattle.std.specs.Prelude.{◌≡◌, ℕ, Bool, true, false, List}
-use Rattle.engine_core.specs.RuleSystem.{RuleSystem}
-use Rattle.engine_core.specs.Verdict.{Outcome, Outcome.NoSolution, Outcome.OneSolution, Outcome.SeveralSolutions, Outcome.GaveUp, verdict_of, IsTrueOf}
+use Rattle.maker_core.specs.Below.{IsTrueOf, Outcome, Outcome.GaveUp, Outcome.NoSolution, Outcome.OneSolution, Outcome.SeveralSolutions, RuleSystem, verdict_of}
 
 -- whether a verdict is that there is one grid
 abbrev pub is_one : Outcome → Bool

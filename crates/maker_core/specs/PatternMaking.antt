@@ -1,11 +1,6 @@
 -- What a maker of Pattern tries, and what it gives.
 use Rattle.std.specs.Prelude.{◌≡◌, ◌≤◌, ◌*◌, ◌⊎◌, ℕ, Bool, List, []}
-use Rattle.rand_core.specs.Stream.{Stream}
-use Rattle.grid_core.specs.Extent.{Extent}
-use Rattle.gameid_core.specs.Lines.{lines_runs}
-use Rattle.gameid_core.specs.Puzzles.{Pattern}
-use Rattle.pattern_core.specs.LineRules.{line_rules}
-use Rattle.pattern_core.specs.Solutions.{IsPatternSolution}
+use Rattle.maker_core.specs.Below.{Extent, IsPatternSolution, Pattern, Stream, line_rules, lines_runs}
 use Rattle.maker_core.specs.Draws.{AllFail, Making, Tries, black_cells, IsFirstPassing, filling_at}
 use Rattle.maker_core.specs.Made.{has_one, TellsOne, IsOnlySolution}
 use Rattle.maker_core.specs.declared.made.Kept.{Kept}

@@ -1,7 +1,6 @@
 -- The clues of Solo: the givens.
 use Rattle.std.specs.Prelude.{◌≡◌, ℕ, zero, suc, Option, Some, None, length, slice_index, slice_set}
-use Rattle.gameid_core.specs.Puzzles.{Solo}
-use Rattle.solo_core.specs.RuleSets.{houses_rules}
+use Rattle.maker_core.specs.Below.{Solo, houses_rules}
 use Rattle.maker_core.specs.SoloFilling.{all_given}
 use Rattle.maker_core.specs.Thinning.{CluedGame}
 

@@ -1,18 +1,9 @@
 -- What fewer givens change.
-use Rattle.std.proofs.lemmas.Grind.{common_steps}
+use Rattle.maker_core.specs.Below.{IsSoloSolution, Solo, Solves, all_below-at, all_below-from, and_from, and_parts, cases_lt, common_steps, get_or-set_other, get_or-set_same, get_or_past, houses_rules, is_solo_solution, le_refl, length-set, slice_index, slice_set, solo_puzzle}
 use Rattle.std.proofs.Common.{◌≡◌, ℕ, zero, suc, ◌+◌, ◌<◌, ◌≤◌, true, Some, List, length, refl, sym, ◌∙◌, ap, subst, arith}
-use Rattle.std.specs.Prelude.{slice_index, slice_set}
-use Rattle.std.proofs.Math.Nat.{le_refl}
-use Rattle.std.proofs.lemmas.Bool.{cases_lt, and_parts, and_from}
 use Rattle.std.proofs.lemmas.Option.{none-some}
-use Rattle.std.proofs.lemmas.List.{get_or-set_other, get_or-set_same, get_or_past, length-set}
-use Rattle.grid_core.proofs.CandidateLemmas.{all_below-at, all_below-from}
-use Rattle.gameid_core.specs.Puzzles.{Solo, solo_puzzle}
-use Rattle.engine_core.specs.Verdict.{Solves}
-use Rattle.solo_core.specs.RuleSets.{houses_rules}
 use Rattle.solo_core.specs.declared.houses.house.NamedHouse.{NamedHouse}
 use Rattle.solo_core.specs.Houses.{IsHouseOf, lies_in}
-use Rattle.solo_core.specs.Solutions.{IsSoloSolution, is_solo_solution}
 use Rattle.solo_core.specs.SolutionLaws.{given_from_test, test_from_given}
 use Rattle.maker_core.specs.SoloFilling.{all_given}
 use Rattle.maker_core.specs.Thinning.{IsThinnedFrom, IsGame}

@@ -1,10 +1,6 @@
 -- What a maker of Solo tries, and what it gives.
 use Rattle.std.specs.Prelude.{◌≡◌, ℕ, ◌*◌, ◌<◌, ◌≤◌, Bool, true, false, Option, Some, None, unwrap_or, List, []}
-use Rattle.rand_core.specs.Stream.{Stream}
-use Rattle.gameid_core.specs.Head.{max_numbers}
-use Rattle.gameid_core.specs.Puzzles.{Solo}
-use Rattle.solo_core.specs.RuleSets.{houses_rules}
-use Rattle.solo_core.specs.Solutions.{IsSoloSolution}
+use Rattle.maker_core.specs.Below.{IsSoloSolution, Solo, Stream, houses_rules, max_numbers}
 use Rattle.maker_core.specs.Draws.{Making, Tries, IsFirstPassing, filling_at}
 use Rattle.maker_core.specs.Made.{has_one, TellsOne, IsOnlySolution}
 use Rattle.maker_core.specs.SoloClues.{solo_game}

@@ -1,10 +1,7 @@
 -- The filling of Solo X: a search of the puzzle whose top row is given, turned over by a draw.
 use Rattle.std.specs.Prelude.{◌≡◌, ℕ, suc, ◌-◌, ◌*◌, true, Option, Some, None, List, ◌++◌, map, option_map, replicate}
 use Rattle.std.specs.Borrow.{Bor}
-use Rattle.rand_core.specs.Stream.{Stream}
-use Rattle.gameid_core.specs.Puzzles.{Solo, solo_puzzle}
-use Rattle.engine_core.specs.Verdict.{Outcome, Outcome.NoSolution, Outcome.OneSolution, Outcome.SeveralSolutions, Outcome.GaveUp, verdict_of}
-use Rattle.solo_core.specs.RuleSets.{houses_rules}
+use Rattle.maker_core.specs.Below.{Outcome, Outcome.GaveUp, Outcome.NoSolution, Outcome.OneSolution, Outcome.SeveralSolutions, Solo, Stream, houses_rules, solo_puzzle, verdict_of}
 use Rattle.maker_core.specs.Draws.{IsDrawnBy, Making, draw_below, shuffled_order}
 use Rattle.maker_core.specs.SoloOrders.{IsOrder}
 use Rattle.maker_core.specs.Flips.{flipped_by}

@@ -1,14 +1,8 @@
 -- What a maker of Tents tries. Grids have 1 at a tree or a tent and 0 elsewhere.
 use Rattle.std.specs.Prelude.{ℕ, zero, suc, ◌*◌, ◌/◌, Bool, not, ◌&&◌, ◌==◌, List, length, filter, nat_lt, replicate, slice_index, slice_set, if◌then◌else◌}
-use Rattle.rand_core.specs.Stream.{Stream}
+use Rattle.maker_core.specs.Below.{Extent, IsExtent, IsTentSolution, RuleSystem, Stream, Tents, beside, lines_ones, tent_rules}
 use Rattle.grid_core.specs.Candidates.{any_below}
-use Rattle.grid_core.specs.Extent.{Extent, IsExtent}
-use Rattle.grid_core.specs.Regions.{beside}
-use Rattle.gameid_core.specs.Lines.{lines_ones}
-use Rattle.gameid_core.specs.Puzzles.{Tents}
 use Rattle.fields_core.specs.Tents.{tent, touches}
-use Rattle.fields_core.specs.TentHouses.{tent_rules}
-use Rattle.fields_core.specs.TentSolutions.{IsTentSolution}
 use Rattle.maker_core.specs.declared.tents.filling.TentFilling.{TentFilling}
 use Rattle.maker_core.specs.Draws.{HasWords, Making, draw_below, filling_at, shuffled_order}
 use Rattle.maker_core.specs.Made.{has_one}
@@ -84,6 +78,10 @@ abbrev pub EachFilling : (Extent → TentFilling → Type 0) → Type 0
 EachFilling P = (size : Extent) (s : Stream) (k : ℕ)
     → IsExtent size → HasWords s → P size (filling_at (tent_filling size) k s)
 
+-- the rules of a search of its puzzle
+abbrev pub rules_filled : Extent → TentFilling → RuleSystem
+rules_filled size filling = tent_rules (tents_puzzle_of size filling)
+
 -- a filling passes where the verdict of its puzzle is one
 abbrev pub tents_pass : Extent → ℕ → TentFilling → Bool
-tents_pass size budget filling = has_one (tent_rules (tents_puzzle_of size filling)) budget
+tents_pass size budget filling = has_one (rules_filled size filling) budget

@@ -1,10 +1,6 @@
 -- Which sizes a maker of Tents takes, and what it gives.
 use Rattle.std.specs.Prelude.{◌≡◌, ℕ, ◌≤◌, List, []}
-use Rattle.rand_core.specs.Stream.{Stream}
-use Rattle.grid_core.specs.Extent.{Extent}
-use Rattle.gameid_core.specs.Puzzles.{Tents}
-use Rattle.fields_core.specs.TentHouses.{tent_rules}
-use Rattle.fields_core.specs.TentSolutions.{IsTentSolution}
+use Rattle.maker_core.specs.Below.{Extent, IsTentSolution, Stream, Tents, tent_rules}
 use Rattle.maker_core.specs.Draws.{AllFail, Tries, IsFirstPassing, filling_at}
 use Rattle.maker_core.specs.Made.{TellsOne, IsOnlySolution}
 use Rattle.maker_core.specs.TentFilling.{tent_filling, tents_puzzle_of, tents_pass}

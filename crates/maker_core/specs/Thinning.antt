@@ -1,10 +1,7 @@
 -- Puzzles with fewer clues, and why the clues that are left were left.
-use Rattle.std.specs.Prelude.{◌≡◌, ◌≢◌, ℕ, Bool, true, false, is_some, Option, Some, None, List, ◌<◌, map, filter, All}
-use Rattle.std.specs.List.{range_with_len}
-use Rattle.engine_core.specs.RuleSystem.{RuleSystem, FitsIn, needs_of}
-use Rattle.engine_core.specs.Verdict.{Outcome.OneSolution, Outcome.GaveUp, verdict_of, HasTwo, Solves, IsTrueOf}
-use Rattle.rand_core.specs.Stream.{Stream}
-use Rattle.maker_core.specs.Draws.{Making, shuffled_list}
+use Rattle.std.specs.Prelude.{◌≡◌, ◌≢◌, ℕ, Bool, true, false, is_some, Option, Some, None, List, ◌<◌, map, filter, All, Vec}
+use Rattle.maker_core.specs.Below.{FitsIn, HasTwo, IsTrueOf, Outcome.GaveUp, Outcome.OneSolution, RuleSystem, Solves, Stream, needs_of, range_with_len, verdict_of}
+use Rattle.maker_core.specs.Draws.{AreDrawnBy, Making, shuffled_list}
 use Rattle.maker_core.specs.declared.made.Why.{Why}
 use Rattle.maker_core.specs.declared.made.Why.TheVariants.{Needed, Budget}
 use Rattle.maker_core.specs.declared.made.Kept.{Kept}
@@ -25,6 +22,10 @@ pub record CluedGame (A : Type 0) : Type 1 where
   -- what the puzzle means to a search
   pub rules : A → RuleSystem
 
+-- the puzzle is the other without the clue of a cell, which was this
+abbrev pub IsWithout : {A : Type 0} → CluedGame A → ℕ → ℕ → A → A → Type 0
+IsWithout game place clue less p = (game.clue p place ≡ Some clue) × (less ≡ game.without p place)
+
 -- whether the cell has a clue, and the cells that have one, by place
 abbrev pub has_clue : {A : Type 0} → CluedGame A → A → ℕ → Bool
 has_clue game p place = is_some (game.clue p place)
@@ -38,6 +39,14 @@ shuffled_clues game p = shuffled_list (clue_places game p)
 
 abbrev pub stream_after_clues : {A : Type 0} → CluedGame A → A → Stream → Stream
 stream_after_clues game p s = (shuffled_clues game p s).1
+
+-- the list is the clues, shuffled by a generator's stream; and what is left of the stream is what is left then
+abbrev pub AreShuffledClues : {A G Z : Type 0}
+    → CluedGame A → A → (G → Stream) → G → G → Vec ℕ Z → Type 0
+AreShuffledClues game p = AreDrawnBy (shuffled_clues game p)
+
+abbrev pub DrawsClues : {A G : Type 0} → CluedGame A → A → (G → Stream) → G → G → Type 0
+DrawsClues game p stream old new = stream new ≡ stream_after_clues game p (stream old)
 
 -- each clue of p is a clue of q
 pub record IsThinnedFrom {A : Type 0} (game : CluedGame A) (p q : A) : Type 0 where

@@ -1,8 +1,6 @@
 -- What the steps of thinning leave.
 use Rattle.std.specs.Prelude.{◌≡◌, ℕ, suc, true, Option, Some, None, List, [], ◌∷◌, length, get_or, eqb, Contains, ◌⊎◌}
-use Rattle.std.specs.List.{IsDistinct}
-use Rattle.engine_core.specs.RuleSystem.{RuleSystem}
-use Rattle.engine_core.specs.Verdict.{HasTwo}
+use Rattle.maker_core.specs.Below.{HasTwo, IsDistinct, RuleSystem}
 use Rattle.maker_core.specs.Made.{HasOne}
 use Rattle.maker_core.specs.Thinning.{CluedGame, has_clue, IsThinnedFrom, GivesUp, IsReason}
 use Rattle.maker_core.specs.declared.made.Why.{Why}

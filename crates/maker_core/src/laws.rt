@@ -1,9 +1,7 @@
 //! What fewer clues change, and what fillings are. These calls do nothing: their contracts are the laws.
 
 ghost use Rattle.std.specs.Prelude.{◌≡◌, ◌*◌, true};
-ghost use Rattle.grid_core.specs.Grids.{IsGrid};
-ghost use Rattle.solo_core.specs.Solutions.{IsSoloSolution};
-ghost use Rattle.fields_core.specs.Light.{solves_lights};
+ghost use Rattle.maker_core.specs.Below.{IsGrid, IsSoloSolution, solves_lights};
 ghost use Rattle.maker_core.specs.TentFilling.{EachFilling, IsSolvedFilling};
 ghost use Rattle.maker_core.specs.Thinning.{KeepsSolutions, LeavesNoIdleClue};
 ghost use Rattle.maker_core.specs.SoloClues.{solo_game};
@@ -23,6 +21,7 @@ pub fn needed_clues_are_not_idle()
 {}
 
 /// Each filling of Tents, over any stream of 32-bit words, is a grid of trees and tents that solves its own puzzle.
+#[tactic(auto, using(crate::proofs::TentsFilled::filling_at_solves))]
 pub fn fillings_of_tents_are_solutions()
     ensures trees { EachFilling (λ size filling. IsGrid (size.w * size.h) 2 filling.trees) }
     ensures solved { EachFilling IsSolvedFilling }

@@ -2,7 +2,7 @@
 
 ghost use Rattle.std.specs.Prelude.{◌≡◌, ◌≢◌, ◌<◌, ℕ, Bool, false, true, Err, IfOk};
 ghost use Rattle.maker_core.specs.declared.made.MakeFault.TheVariants.{Exhausted, SizeRange};
-ghost use Rattle.maker_core.specs.Draws.{AllFail, IsDrawnBy, IsFirst, Tries, filling_at, stream_after};
+ghost use Rattle.maker_core.specs.Draws.{AllDrawn, AllFail, IsDrawnBy, IsFirstDrawn, Tries, filling_at};
 
 use crate::made::MakeFault;
 use rand_core::Rng;
@@ -21,7 +21,7 @@ pub(crate) trait Fillings {
     /// The next filling, and whether it passes.
     fn draw<G: Rng>(&self, alloc: Global, rng: &mut G) -> Result<(Self::Filling, bool), AllocError>
         ensures drawn { IfOk result
-            (λ made. IsDrawnBy (tries self.now).make G.stream rng.old rng.new made.0) }
+            (λ m. IsDrawnBy (tries self.now).make G.stream rng.old rng.new m.0) }
         ensures verdict { IfOk result (λ made. made.1 ≡ (tries self.now).passes made.0) }
         ensures known { IfOk result (λ made. known self.now made.0 made.1) };
 }
@@ -35,8 +35,7 @@ pub(crate) fn first_passing<F: Fillings, G: Rng>(
     tries: u32,
 ) -> Result<F::Filling, MakeFault>
     requires { tries ≡ (F.tries fillings.now).count }
-    ensures first { IfOk result (λ filling.
-        IsFirst (F.tries fillings.now) (G.stream rng.old) filling (G.stream rng.new)) }
+    ensures first { IfOk result (IsFirstDrawn (F.tries fillings.now) G.stream rng.old rng.new) }
     ensures known { IfOk result (λ filling. F.known fillings.now filling true) }
     ensures in_range { result ≢ Err SizeRange }
     ensures no_tries { tries ≡ 0 → result ≡ Err Exhausted }
@@ -44,8 +43,8 @@ pub(crate) fn first_passing<F: Fillings, G: Rng>(
         → AllFail (F.tries fillings.now) (G.stream rng.old) }
     ensures failed { result ≡ Err Exhausted → (k : ℕ) → k < tries
         → F.known fillings.now (filling_at (F.tries fillings.now).make k (G.stream rng.old)) false }
-    ensures all_drawn { result ≡ Err Exhausted
-        → G.stream rng.new ≡ stream_after (F.tries fillings.now).make tries (G.stream rng.old) }
+    ensures drawn { result ≡ Err Exhausted
+        → AllDrawn (F.tries fillings.now) G.stream rng.old rng.new }
 {
     for _attempt in 0..tries {
         let (filling, passes) = fillings.draw(alloc, rng)?;

@@ -1,9 +1,7 @@
 //! Fillings of Light Up: black cells, bulbs, and the numbers that they give.
 
 ghost use Rattle.std.specs.Prelude.{◌≡◌, ◌≤◌, ◌<◌, ◌*◌, true, All, IfOk, length, replicate};
-ghost use Rattle.grid_core.specs.Grids.{IsGrid};
-ghost use Rattle.gameid_core.specs.Puzzles.{IsWide};
-ghost use Rattle.fields_core.specs.Light.{light_cells, solves_lights};
+ghost use Rattle.maker_core.specs.Below.{IsGrid, IsWide, light_cells, solves_lights};
 ghost use Rattle.maker_core.specs.Draws.{AreAll, IsDrawnBy};
 ghost use Rattle.maker_core.specs.LightFilling.{IsLit, bulbs_after, light_filling, light_puzzle_of, lights_of, lit_up, white_places, with_numbers};
 
@@ -41,7 +39,7 @@ fn with_black_cells(alloc: Global, size: Size, black: &Grid) -> Result<LightPuzz
 }
 
 /// The white cells, by place.
-#[tactic(auto, using(crate::proofs::LightSight::white_laws))]
+#[tactic(auto, using(crate::proofs::LightSolved::white_laws))]
 fn white_cells(alloc: Global, puzzle: &LightPuzzle) -> Result<Vec<usize>, AllocError>
     ensures { IfOk result (λ places. places.items ≡ white_places puzzle.now) }
 {
@@ -56,7 +54,7 @@ fn white_cells(alloc: Global, puzzle: &LightPuzzle) -> Result<Vec<usize>, AllocE
 }
 
 /// Takes the cells of the list in turn, and puts a bulb into each that neither holds nor sees one.
-#[tactic(auto, using(crate::proofs::LightSight::bulb_laws))]
+#[tactic(auto, using(crate::proofs::LightSolved::bulb_laws))]
 fn place_bulbs(puzzle: &LightPuzzle, order: &[usize], grid: &mut Grid)
     requires within { All (λ c. c < light_cells puzzle.now) order.now }
     requires none { grid.old ≡ replicate (light_cells puzzle.now) 0 }

@@ -2,11 +2,10 @@
 
 ghost use Rattle.std.specs.Prelude.{◌≡◌, ◌≤◌, ◌↔◌, true, IsTrue, IfErr, IfOk};
 ghost use Rattle.gameid_core.specs.Puzzles.{IsWide};
-ghost use Rattle.fields_core.specs.LightHouses.{light_rules};
-ghost use Rattle.maker_core.specs.Draws.{AreAll, LeavesStream};
-ghost use Rattle.maker_core.specs.LightFilling.{IsLit, light_puzzle_of};
+ghost use Rattle.maker_core.specs.Draws.{AreAll, LeavesGenerator};
+ghost use Rattle.maker_core.specs.LightFilling.{IsLit, light_passes, rules_filled};
 ghost use Rattle.maker_core.specs.LightMaking.{IsLightUnmade, MakesLights, light_tries};
-ghost use Rattle.maker_core.specs.Made.{HasOne, has_one};
+ghost use Rattle.maker_core.specs.Made.{HasOne};
 
 use crate::light_up::filling::{LightFilling, fill_lights, puzzle_of};
 use crate::made::{Limits, Made, MakeFault};
@@ -41,7 +40,7 @@ impl Fillings for LitGrids {
     ghost tries = { λ t. light_tries t.size t.black t.limits };
 
     ghost known = { λ t filling passes. IsLit t.size filling
-        × (passes ≡ true → HasOne (light_rules (light_puzzle_of t.size filling)) t.limits.budget)
+        × (passes ≡ true → HasOne (rules_filled t.size filling) t.limits.budget)
         × (t.black ≡ 100 → passes ≡ true) };
 
     fn draw<G: Rng>(&self, alloc: Global, rng: &mut G) -> Result<(LightFilling, bool), AllocError> {
@@ -61,10 +60,9 @@ fn is_alone(
 ) -> Result<bool, AllocError>
     requires wide { IsWide size }
     requires lit { IsLit size filling.now }
-    ensures verdict { IfOk result
-        (λ alone. alone ≡ has_one (light_rules (light_puzzle_of size filling.now)) budget) }
-    ensures only { IfOk result (λ alone. alone ≡ true
-        → HasOne (light_rules (light_puzzle_of size filling.now)) budget) }
+    ensures verdict { IfOk result (λ alone. alone ≡ light_passes size budget filling.now) }
+    ensures only { IfOk result
+        (λ yes. yes ≡ true → HasOne (rules_filled size filling.now) budget) }
     ensures full { IfOk result (λ alone. AreAll 1 filling.now.black → alone ≡ true) }
 {
     let puzzle = puzzle_of(alloc, size, filling)?;
@@ -100,8 +98,7 @@ pub fn make_lights<G: Rng>(
     requires { black ≤ 100 }
     ensures made { IfOk result (MakesLights size black limits (G.stream rng.old)) }
     ensures unmade { IfErr result (IsLightUnmade size black limits (G.stream rng.old)) }
-    ensures leaves { LeavesStream (light_tries size black limits)
-        (G.stream rng.old) (G.stream rng.new) result }
+    ensures leaves { LeavesGenerator (light_tries size black limits) G.stream rng.old rng.new result }
 {
     if !is_wide(size) {
         return Err(MakeFault::SizeRange);

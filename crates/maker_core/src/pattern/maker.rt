@@ -1,10 +1,8 @@
 //! The maker of Pattern.
 
 ghost use Rattle.std.specs.Prelude.{◌≡◌, ◌≤◌, ◌*◌, ◌⊎◌, true, IfErr, IfOk};
-ghost use Rattle.grid_core.specs.Grids.{IsGrid};
-ghost use Rattle.pattern_core.specs.LineRules.{line_rules};
-ghost use Rattle.pattern_core.specs.Solutions.{IsPatternSolution};
-ghost use Rattle.maker_core.specs.Draws.{LeavesStream};
+ghost use Rattle.maker_core.specs.Below.{IsGrid, IsPatternSolution, line_rules};
+ghost use Rattle.maker_core.specs.Draws.{LeavesGenerator};
 ghost use Rattle.maker_core.specs.Made.{HasOne};
 ghost use Rattle.maker_core.specs.PatternMaking.{IsPatternUnmade, MakesPattern, clued_by, pattern_tries};
 
@@ -76,8 +74,7 @@ pub fn make_pattern<G: Rng>(
     requires { black ≤ 100 }
     ensures made { IfOk result (MakesPattern size black limits (G.stream rng.old)) }
     ensures unmade { IfErr result (IsPatternUnmade size black limits (G.stream rng.old)) }
-    ensures leaves { LeavesStream (pattern_tries size black limits)
-        (G.stream rng.old) (G.stream rng.new) result }
+    ensures leaves { LeavesGenerator (pattern_tries size black limits) G.stream rng.old rng.new result }
 {
     let bitmaps = Bitmaps {
         size,

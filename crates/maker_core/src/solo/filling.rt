@@ -1,12 +1,10 @@
 //! The filling of plain Solo.
 
 ghost use Rattle.std.specs.Prelude.{◌≡◌, ◌+◌, ◌*◌, ◌<◌, ◌≤◌, false, slice_index, IfOk, OnOk};
-ghost use Rattle.grid_core.specs.Grids.{IsGrid};
-ghost use Rattle.gameid_core.specs.Head.{max_numbers};
-ghost use Rattle.solo_core.specs.Solutions.{IsSoloSolution};
+ghost use Rattle.maker_core.specs.Below.{IsGrid, max_numbers};
 ghost use Rattle.maker_core.specs.Draws.{AreDrawnBy, IsDrawnBy, shuffled_order};
 ghost use Rattle.maker_core.specs.SoloOrders.{AreOrders, IsOrder, IsLineOrder};
-ghost use Rattle.maker_core.specs.SoloFilling.{group_drawn, line_order as lines_of_order, rearranged, plain_filling, all_given};
+ghost use Rattle.maker_core.specs.SoloFilling.{IsFullSolution, IsGroupDrawn, all_given, in_lines, line_order as lines_of_order, plain_filling};
 ghost use Rattle.maker_core.specs.SoloMaking.{IsSoloSize};
 
 use crate::draws::order;
@@ -30,7 +28,7 @@ pub(crate) fn fill_plain<G: Rng>(
 ) -> Result<Grid, AllocError>
     requires { IsSoloSize c r }
     ensures filling { IfOk result (IsDrawnBy (plain_filling c r) G.stream rng.old rng.new) }
-    ensures solution { IfOk result (λ grid. IsSoloSolution (all_given c r false grid) grid) }
+    ensures solution { IfOk result (IsFullSolution c r false) }
 {
     let tall = usize::from(c);
     let wide = usize::from(r);
@@ -101,7 +99,7 @@ fn push_group<G: Rng>(
 ) -> Result<(), AllocError>
     requires few { (group + 1) * size ≤ max_numbers }
     ensures drawn { OnOk result
-        (AreDrawnBy (group_drawn size group lines.old.items) G.stream rng.old rng.new lines.new) }
+        (IsGroupDrawn size group lines.old lines.new G.stream rng.old rng.new) }
     ensures ordered { OnOk result (IsOrder size (shuffled_order size (G.stream rng.old)).0) }
 {
     let inside = order(alloc, rng, size)?;
@@ -128,9 +126,8 @@ fn rearrange(
     lines: Lines<'_>,
 ) -> Result<Grid, AllocError>
     requires { AreOrders c r numbers.now lines.rows.now lines.columns.now }
-    ensures grid { IfOk result (λ grid. grid
-        ≡ rearranged c r numbers.now lines.entry.rows.now lines.entry.columns.now) }
-    ensures solution { IfOk result (λ grid. IsSoloSolution (all_given c r false grid) grid) }
+    ensures grid { IfOk result (λ grid. grid ≡ in_lines c r numbers.now lines.entry) }
+    ensures solution { IfOk result (IsFullSolution c r false) }
 {
     let cells = c * r * (c * r);
     let mut grid = Grid::new(alloc, cells)?;
@@ -145,8 +142,7 @@ fn rearrange(
 fn number_at(c: usize, r: usize, numbers: &[usize], lines: Lines<'_>, place: usize) -> u8
     requires orders { AreOrders c r numbers.now lines.rows.now lines.columns.now }
     requires place { place < (c * r) * (c * r) }
-    ensures { result ≡ slice_index
-        (rearranged c r numbers.now lines.entry.rows.now lines.entry.columns.now) place }
+    ensures { result ≡ slice_index (in_lines c r numbers.now lines.entry) place }
 {
     let n = c * r;
     let x = lines.columns[place % n];

@@ -1,9 +1,8 @@
 //! The maker of Solo.
 
 ghost use Rattle.std.specs.Prelude.{◌≡◌, ◌↔◌, false, is_some, IsTrue, IfErr, IfOk, IfSome};
-ghost use Rattle.solo_core.specs.Solutions.{IsSoloSolution};
-ghost use Rattle.maker_core.specs.Draws.{LeavesStream};
-ghost use Rattle.maker_core.specs.SoloFilling.{all_given};
+ghost use Rattle.maker_core.specs.Draws.{LeavesGenerator};
+ghost use Rattle.maker_core.specs.SoloFilling.{IsFullSolution};
 ghost use Rattle.maker_core.specs.SoloMaking.{IsSoloSize, IsSoloUnmade, MakesSolo, solo_tries};
 
 use crate::made::{Limits, Made, MakeFault};
@@ -46,8 +45,7 @@ pub fn make_solo<G: Rng>(
 ) -> Result<Made<SoloPuzzle>, MakeFault>
     ensures made { IfOk result (MakesSolo c r x limits (G.stream rng.old)) }
     ensures unmade { IfErr result (IsSoloUnmade c r x limits (G.stream rng.old)) }
-    ensures leaves { LeavesStream (solo_tries c r x limits)
-        (G.stream rng.old) (G.stream rng.new) result }
+    ensures leaves { LeavesGenerator (solo_tries c r x limits) G.stream rng.old rng.new result }
 {
     if !is_size(c, r) {
         return Err(MakeFault::SizeRange);
@@ -76,7 +74,7 @@ impl Fillings for SoloGrids {
     ghost tries = { λ t. solo_tries t.c t.r t.x t.limits };
 
     ghost known = { λ t filling passes. (passes ≡ is_some filling)
-        × IfSome filling (λ grid. IsSoloSolution (all_given t.c t.r t.x grid) grid) };
+        × IfSome filling (IsFullSolution t.c t.r t.x) };
 
     /// Each grid passes: its puzzle, which gives all cells, has one solution.
     #[tactic(auto, using(crate::proofs::SoloFull::found_passes))]

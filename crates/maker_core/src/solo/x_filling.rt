@@ -2,9 +2,8 @@
 
 ghost use Rattle.std.specs.Prelude.{◌≡◌, ◌*◌, ◌≤◌, true, Some, length, IfOk, IfSome};
 ghost use Rattle.gameid_core.specs.Head.{max_numbers};
-ghost use Rattle.solo_core.specs.Solutions.{IsSoloSolution};
 ghost use Rattle.maker_core.specs.SoloOrders.{IsOrder};
-ghost use Rattle.maker_core.specs.SoloFilling.{all_given};
+ghost use Rattle.maker_core.specs.SoloFilling.{IsFullSolution};
 ghost use Rattle.maker_core.specs.SoloMaking.{IsSoloSize};
 ghost use Rattle.maker_core.specs.SoloXFilling.{IsShuffledPuzzle, top_row_given, lent_flipped, x_filling};
 ghost use Rattle.maker_core.specs.Draws.{IsDrawnBy};
@@ -35,8 +34,7 @@ pub(crate) fn fill_x<G: Rng>(
 ) -> Result<Option<Grid>, AllocError>
     requires { IsSoloSize c r }
     ensures filling { IfOk result (IsDrawnBy (x_filling c r budget) G.stream rng.old rng.new) }
-    ensures solution { IfOk result (λ filling.
-        IfSome filling (λ grid. IsSoloSolution (all_given c r true grid) grid)) }
+    ensures solution { IfOk result (λ filling. IfSome filling (IsFullSolution c r true)) }
 {
     let n = usize::from(c) * usize::from(r);
     let puzzle = shuffled_puzzle(alloc, c, r, rng)?;
@@ -84,8 +82,7 @@ fn flip_by_draw<G: Rng>(
 ) -> Result<Option<Grid>, AllocError>
     requires few { n ≤ max_numbers }
     requires cells { IfSome found (λ grid. length grid.now ≡ n * n) }
-    ensures { IfOk result
-        (IsDrawnBy (lent_flipped n found.entry) G.stream rng.old rng.new) }
+    ensures { IfOk result (IsDrawnBy (lent_flipped n found.entry) G.stream rng.old rng.new) }
 {
     match found {
         Some(grid) => {

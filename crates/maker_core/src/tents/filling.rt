@@ -4,8 +4,8 @@ ghost use Rattle.std.specs.Prelude.{◌≡◌, ◌<◌, ◌*◌, IfOk, OnOk, tru
 ghost use Rattle.grid_core.specs.Grids.{IsGrid};
 ghost use Rattle.maker_core.specs.Draws.{IsDrawnBy};
 ghost use Rattle.maker_core.specs.SoloOrders.{IsOrder};
-ghost use Rattle.maker_core.specs.TentFilling.{IsSolvedFilling, no_tents, tents_of_order, is_free, free_cells_beside, may_have_tent, place_tent as tent_placed, take_cell as cell_taken, tent_filling};
-ghost use Rattle.maker_core.specs.TentSteps.{IsTentPlaced, IsTentTaken};
+ghost use Rattle.maker_core.specs.TentFilling.{IsSolvedFilling, no_tents, is_free, free_cells_beside, may_have_tent, place_tent as tent_put, tent_filling};
+ghost use Rattle.maker_core.specs.TentSteps.{AreTaken, IsCellTaken, IsTentPlaced, IsTentTaken};
 
 use crate::draws::{draw, order};
 use fields_core::touches_tent;
@@ -31,7 +31,7 @@ fn is_free(filling: &TentFilling, place: usize) -> bool
 }
 
 /// The cells beside the place that have neither tree nor tent: up, left, right, down.
-#[tactic(auto, using(crate::proofs::TentFillings::sides), unfolding(grid_core::specs::Regions::steps))]
+#[tactic(auto, using(crate::proofs::TentsSolved::sides), unfolding(grid_core::specs::Regions::steps))]
 fn free_cells(
     alloc: Global,
     size: Size,
@@ -58,7 +58,7 @@ fn free_cells(
 }
 
 /// Puts a tent into the cell and a tree into the one of the free cells beside it that a draw names.
-#[tactic(auto, using(crate::proofs::TentFillings::place_laws))]
+#[tactic(auto, using(crate::proofs::TentsSolved::place_laws))]
 fn place_tent<G: Rng>(
     rng: &mut G,
     size: Size,
@@ -72,8 +72,7 @@ fn place_tent<G: Rng>(
     requires free { free.now ≡ free_cells_beside size filling.old place }
     requires some { 0 < length free.now }
     requires may { may_have_tent size filling.old place ≡ true }
-    ensures drawn { IsDrawnBy (tent_placed size filling.old place)
-        G.stream rng.old rng.new filling.new }
+    ensures drawn { IsDrawnBy (tent_put size filling.old place) G.stream rng.old rng.new filling.new }
     ensures placed { IsTentPlaced size filling.old place filling.new }
 {
     let k = draw(rng, free.len() as u32);
@@ -95,7 +94,7 @@ fn take_cell<G: Rng>(
     requires tents { IsGrid (size.w * size.h) 2 filling.old.tents }
     requires place { place < size.w * size.h }
     ensures drawn { OnOk result
-        (IsDrawnBy (cell_taken size filling.old place) G.stream rng.old rng.new filling.new) }
+        (IsCellTaken size place filling.old filling.new G.stream rng.old rng.new) }
     ensures taken { OnOk result (IsTentTaken size filling.old place filling.new) }
 {
     if filling.placed >= size.cells() / 5 {
@@ -126,7 +125,7 @@ fn take_cells<G: Rng>(
     requires order { IsOrder (size.w * size.h) order.now }
     requires none { filling.old ≡ no_tents size }
     ensures drawn { OnOk result
-        (IsDrawnBy (tents_of_order size order.now) G.stream rng.old rng.new filling.new) }
+        (AreTaken size order.now filling.new G.stream rng.old rng.new) }
     ensures trees { OnOk result (IsGrid (size.w * size.h) 2 filling.new.trees) }
     ensures tents { OnOk result (IsGrid (size.w * size.h) 2 filling.new.tents) }
     ensures solved { OnOk result (IsSolvedFilling size filling.new) }
@@ -138,7 +137,7 @@ fn take_cells<G: Rng>(
 }
 
 /// A filling of Tents: the cells, listed by place and shuffled, are taken in turn.
-#[tactic(auto, using(crate::proofs::TentFillings::no_tents_is))]
+#[tactic(auto, using(crate::proofs::TentsSolved::no_tents_is))]
 pub(crate) fn fill_tents<G: Rng>(
     alloc: Global,
     rng: &mut G,

@@ -2,10 +2,9 @@
 
 ghost use Rattle.std.specs.Prelude.{◌≡◌, ◌↔◌, ◌*◌, true, IsTrue, IfErr, IfOk};
 ghost use Rattle.grid_core.specs.Grids.{IsGrid};
-ghost use Rattle.fields_core.specs.TentHouses.{tent_rules};
-ghost use Rattle.maker_core.specs.Draws.{LeavesStream};
-ghost use Rattle.maker_core.specs.Made.{HasOne, has_one};
-ghost use Rattle.maker_core.specs.TentFilling.{IsSolvedFilling, tents_puzzle_of};
+ghost use Rattle.maker_core.specs.Draws.{LeavesGenerator};
+ghost use Rattle.maker_core.specs.Made.{HasOne};
+ghost use Rattle.maker_core.specs.TentFilling.{IsSolvedFilling, rules_filled, tents_pass, tents_puzzle_of};
 ghost use Rattle.maker_core.specs.TentMaking.{IsTentSize, IsTentsUnmade, MakesTents, tents_tries};
 
 use crate::made::{Limits, Made, MakeFault};
@@ -51,7 +50,7 @@ impl Fillings for TentFillings {
 
     ghost known = { λ t filling passes. IsGrid (t.size.w * t.size.h) 2 filling.trees
         × IsGrid (t.size.w * t.size.h) 2 filling.tents × IsSolvedFilling t.size filling
-        × (passes ≡ true → HasOne (tent_rules (tents_puzzle_of t.size filling)) t.limits.budget) };
+        × (passes ≡ true → HasOne (rules_filled t.size filling) t.limits.budget) };
 
     fn draw<G: Rng>(&self, alloc: Global, rng: &mut G) -> Result<(TentFilling, bool), AllocError> {
         let filling = fill_tents(alloc, rng, self.size)?;
@@ -71,10 +70,9 @@ fn is_alone(
     requires size { IsTentSize size }
     requires trees { IsGrid (size.w * size.h) 2 filling.now.trees }
     requires tents { IsGrid (size.w * size.h) 2 filling.now.tents }
-    ensures verdict { IfOk result
-        (λ alone. alone ≡ has_one (tent_rules (tents_puzzle_of size filling.now)) budget) }
-    ensures only { IfOk result (λ alone. alone ≡ true
-        → HasOne (tent_rules (tents_puzzle_of size filling.now)) budget) }
+    ensures verdict { IfOk result (λ alone. alone ≡ tents_pass size budget filling.now) }
+    ensures only { IfOk result
+        (λ yes. yes ≡ true → HasOne (rules_filled size filling.now) budget) }
 {
     let puzzle = puzzle_of(alloc, size, filling)?;
     let rules = TentRules::new(alloc, &puzzle)?;
@@ -103,8 +101,7 @@ pub fn make_tents<G: Rng>(
 ) -> Result<Made<TentsPuzzle>, MakeFault>
     ensures made { IfOk result (MakesTents size limits (G.stream rng.old)) }
     ensures unmade { IfErr result (IsTentsUnmade size limits (G.stream rng.old)) }
-    ensures leaves { LeavesStream (tents_tries size limits)
-        (G.stream rng.old) (G.stream rng.new) result }
+    ensures leaves { LeavesGenerator (tents_tries size limits) G.stream rng.old rng.new result }
 {
     if !is_tent_size(size) {
         return Err(MakeFault::SizeRange);

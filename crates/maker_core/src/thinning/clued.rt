@@ -2,7 +2,7 @@
 
 ghost use Rattle.std.specs.Prelude.{◌≡◌, ◌<◌, Some, IfOk, IsTrue, ℕ};
 ghost use Rattle.engine_core.specs.RuleSystem.{RuleSystem};
-ghost use Rattle.maker_core.specs.Thinning.{CluedGame, IsGame, has_clue};
+ghost use Rattle.maker_core.specs.Thinning.{CluedGame, IsGame, IsWithout, has_clue};
 
 use std::alloc::{AllocError, Global};
 
@@ -39,10 +39,8 @@ pub trait Clued: Drop {
     /// Puts a clue that was taken away back.
     fn put_clue(&mut self, place: usize, clue: u8)
         requires range { can_be_clue self.old clue }
-        requires gone { (p : Self) × (game.clue p place ≡ Some clue)
-            × (self.old ≡ game.without p place) }
-        ensures { (p : Self) → game.clue p place ≡ Some clue
-            → self.old ≡ game.without p place → self.new ≡ p };
+        requires gone { (p : Self) × IsWithout game place clue self.old p }
+        ensures { (p : Self) → IsWithout game place clue self.old p → self.new ≡ p };
 
     /// What a search of the puzzle goes by.
     fn search(&self, alloc: Global) -> Result<Self::Search, AllocError>

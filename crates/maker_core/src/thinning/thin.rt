@@ -2,8 +2,7 @@
 
 ghost use Rattle.std.specs.Prelude.{◌≡◌, [], IfOk, OnOk, IsTrue, IsPermutation};
 ghost use Rattle.engine_core.specs.RuleSystem.{FitsIn, needs_of};
-ghost use Rattle.maker_core.specs.Thinning.{has_clue, clue_places, shuffled_clues, stream_after_clues, IsThinnedFrom, IsOnly, HasReasons};
-ghost use Rattle.maker_core.specs.Draws.{AreDrawnBy};
+ghost use Rattle.maker_core.specs.Thinning.{AreShuffledClues, DrawsClues, has_clue, clue_places, IsThinnedFrom, IsOnly, HasReasons};
 ghost use Rattle.maker_core.specs.Made.{HasOne, TellsOne};
 ghost use Rattle.maker_core.specs.ThinningSteps.{IsLeft, IsAsked, IsThinning, reasons_from};
 
@@ -30,8 +29,7 @@ where
     requires all { puzzle ≡ P.game.all_clues puzzle answer }
     requires only { IsOnly (P.game.rules puzzle) answer }
     requires found { TellsOne (P.game.rules puzzle) budget answer }
-    ensures drawn { OnOk result
-        (G.stream rng.new ≡ stream_after_clues P.game puzzle (G.stream rng.old)) }
+    ensures drawn { OnOk result (DrawsClues P.game puzzle G.stream rng.old rng.new) }
     ensures answer { IfOk result (λ made. made.answer ≡ answer) }
     ensures within { IfOk result (λ made. IsThinnedFrom P.game made.puzzle puzzle) }
     ensures only { IfOk result (λ made. IsOnly (P.game.rules made.puzzle) answer) }
@@ -70,9 +68,9 @@ fn shuffled_clues<P: Clued, G: Rng>(
     rng: &mut G,
 ) -> Result<Vec<usize>, AllocError>
     ensures drawn { IfOk result
-        (AreDrawnBy (shuffled_clues P.game puzzle.now) G.stream rng.old rng.new) }
+        (AreShuffledClues P.game puzzle.now G.stream rng.old rng.new) }
     ensures permutation { IfOk result
-        (λ order. IsPermutation (clue_places P.game puzzle.now) order.items) }
+        (λ v. IsPermutation (clue_places P.game puzzle.now) v.items) }
 {
     let mut order = clue_list(alloc, puzzle)?;
     shuffle(rng, &mut order);

@@ -1,7 +1,6 @@
 use Rattle.maker_core.proofs.Common.{length, sym}
-use Rattle.maker_core.proofs.LightSight.{bulbs_after-grid}
+use Rattle.maker_core.proofs.LightSolved.{bulbs_after-grid, lit_solved}
 use Rattle.maker_core.proofs.LightFilled.{order_within}
-use Rattle.maker_core.proofs.LightSolved.{lit_solved}
 use Rattle.maker_core.proofs.light_up.filling.light_up.Goals as goal
 
 pub place_bulbs-requires-clause-within : goal.place_bulbs-requires-clause-within

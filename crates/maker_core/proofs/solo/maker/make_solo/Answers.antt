@@ -48,4 +48,4 @@ pub returns-in_err-answer-clause-leaves : goal.returns-in_err-answer-clause-leav
 returns-in_err-answer-clause-leaves g c =
     let a = c.in_err-answer.ensures in
     leaves_failed (solo_tries c.args.c c.args.r c.args.x c.args.limits) _ c.in_err-answer.field-0.0 (search rules)
-    (λ e. a.in_range (ap Err e)) (λ e. a.all_drawn (ap Err e))
+    (λ e. a.in_range (ap Err e)) (λ e. a.drawn (ap Err e))

@@ -1,4 +1,4 @@
-use Rattle.maker_core.proofs.TentFillings.{filled}
+use Rattle.maker_core.proofs.TentsSolved.{filled}
 use Rattle.maker_core.proofs.tents.filling.fill_tents.Goals as goal
 
 pub returns-clause-drawn : goal.returns-clause-drawn

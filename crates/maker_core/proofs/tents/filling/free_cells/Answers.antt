@@ -1,5 +1,5 @@
 use Rattle.maker_core.proofs.Common.{arith}
-use Rattle.maker_core.proofs.TentFillings.{free_all}
+use Rattle.maker_core.proofs.TentsSolved.{free_all}
 use Rattle.maker_core.proofs.tents.filling.free_cells.Goals as goal
 
 pub returns : goal.returns

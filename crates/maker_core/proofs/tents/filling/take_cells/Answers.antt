@@ -1,6 +1,5 @@
 use Rattle.maker_core.proofs.Common.{arith, refl, ◌*◌, ◌<◌}
-use Rattle.maker_core.proofs.TentFillings.{none_after, more_after, wide}
-use Rattle.maker_core.proofs.TentsSolved.{filling_none, filling_step}
+use Rattle.maker_core.proofs.TentsSolved.{filling_none, filling_step, more_after, none_after, wide}
 use Rattle.maker_core.proofs.tents.filling.take_cells.Goals as goal
 
 pub loop-k-init : goal.loop-k-init

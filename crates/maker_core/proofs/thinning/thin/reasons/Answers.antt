@@ -1,5 +1,5 @@
 use Rattle.maker_core.proofs.Common.{ap, ◌∙◌}
-use Rattle.maker_core.proofs.ThinningReasons.{reason_kept, reason_skipped, no_reason}
+use Rattle.maker_core.proofs.ThinningTurns.{no_reason, reason_kept, reason_skipped}
 use Rattle.maker_core.proofs.thinning.thin.reasons.Goals as goal
 use Rattle.maker_core.proofs.thinning.thin.reasons.Goals.{in-Some+in_ok-push, in_default}
 

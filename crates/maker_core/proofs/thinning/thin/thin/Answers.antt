@@ -1,5 +1,5 @@
 use Rattle.maker_core.proofs.Common.{ap, reasons_from, ◌∙◌}
-use Rattle.maker_core.proofs.ThinningReasons.{answer_left, reasons_left}
+use Rattle.maker_core.proofs.ThinningTurns.{answer_left, reasons_left}
 use Rattle.maker_core.proofs.thinning.thin.thin.Goals as goal
 
 pub try_clues-requires-clause-one : goal.try_clues-requires-clause-one

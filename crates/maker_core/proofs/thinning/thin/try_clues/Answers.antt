@@ -1,6 +1,5 @@
 use Rattle.maker_core.proofs.Common.{None, Option, Why, ap, replicate, rules, ◌∙◌, ◌≡◌}
-use Rattle.maker_core.proofs.ThinningReasons.{thinning_start, all_tried}
-use Rattle.maker_core.proofs.ThinningTurns.{contains_head, next_turn, turn, turn_in_room, thinning_turn}
+use Rattle.maker_core.proofs.ThinningTurns.{all_tried, contains_head, next_turn, thinning_start, thinning_turn, turn, turn_in_room}
 use Rattle.maker_core.proofs.thinning.thin.try_clues.Goals as goal
 
 pub loop-place-init : goal.loop-place-init
