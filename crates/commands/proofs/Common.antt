@@ -1,11 +1,11 @@
 -- Words and lemmas of std and of the crates below, and words of this crate, as its proofs use them.
-pub use Rattle.std.proofs.Common.{Bool, Err, IfErr, IfOk, List, None, Ok, Option, Result, Some, [], add-one, ap, append-nil, append_assoc, ap₂, arith}
-pub use Rattle.std.proofs.Common.{codes, decimal, drop, false, get_or, if◌then◌else◌, inl, inr, length, length-append, map, max, refl, rules}
-pub use Rattle.std.proofs.Common.{slice_index, string_bytes, string_len, subst, suc, sym, take, true, true≢false, vec_len, zero, ℕ, ◌%◌, ◌&&◌, ◌*◌}
-pub use Rattle.std.proofs.Common.{◌++◌, ◌+◌, ◌/◌, ◌<◌, ◌==◌, ◌∙◌, ◌∷◌, ◌≡◌, ◌≢◌, ◌≤◌, ◌⊎◌}
+pub use Rattle.std.proofs.Common.{Bool, Err, IfErr, IfOk, List, None, Ok, Option, Result, Some, [], add-one, ap, append-nil, append_assoc, ap₂, arith, codes}
+pub use Rattle.std.proofs.Common.{decimal, drop, false, get_or, if◌then◌else◌, inl, inr, length, length-append, map, max, refl, rules, slice_index}
+pub use Rattle.std.proofs.Common.{string_bytes, string_len, subst, suc, sym, take, true, true≢false, vec_len, zero, ℕ, ◌%◌, ◌&&◌, ◌*◌, ◌++◌, ◌+◌, ◌/◌, ◌<◌}
+pub use Rattle.std.proofs.Common.{◌==◌, ◌∙◌, ◌∷◌, ◌≡◌, ◌≢◌, ◌≤◌, ◌⊎◌}
 pub use Rattle.std.proofs.Math.Nat.{eq-or-lt_of_le, mul-le-mul_left, mul-le-mul_right, suc-mul}
-pub use Rattle.std.proofs.lemmas.Bool.{and_from, and_parts, cases_Bool, cases_eq, cases_lt, cond_both, eq-eqb, eqb-true, false_from_ne_true, leb-true}
-pub use Rattle.std.proofs.lemmas.Bool.{ne_eqb, not-false, not-true}
+pub use Rattle.std.proofs.lemmas.Bool.{and_from, and_parts, cases_Bool, cases_eq, cases_lt, cond_both, eq-eqb, eqb-true, false_from_ne_true, leb-true, ne_eqb}
+pub use Rattle.std.proofs.lemmas.Bool.{not-false, not-true}
 pub use Rattle.std.proofs.lemmas.Grind.{common_steps}
 pub use Rattle.std.proofs.lemmas.List.{drop-drop, drop_all, get_or_past, length-map, length-take-le, take-append-drop, take_all, take_more}
 pub use Rattle.std.proofs.lemmas.List.Elements.{All-contains, All-nil, All-push}
@@ -24,6 +24,7 @@ pub use Rattle.gameid_core.proofs.PatternTexts.{pattern_reading}
 pub use Rattle.gameid_core.proofs.PatternWritten.{pattern_is_written}
 pub use Rattle.gameid_core.proofs.PrintedCells.{number_fits}
 pub use Rattle.gameid_core.proofs.PrintedGrids.{begins_with_form, is_shown}
+pub use Rattle.gameid_core.proofs.Reading.{bind_ok, chosen, ok_is, reading_of, taken}
 pub use Rattle.gameid_core.proofs.SoloCanon.{solo_is_written}
 pub use Rattle.gameid_core.proofs.SoloTexts.{solo_reading}
 pub use Rattle.gameid_core.proofs.TentsTexts.{tents_reading}
@@ -42,17 +43,14 @@ pub use Rattle.engine_core.specs.Walk.{Found, Mark.Found, Mark.Trial}
 unfoldable pub use Rattle.engine_core.specs.Walk.{at_cell, branch_at, branches, walk_closed}
 pub use Rattle.fields_core.specs.Light.{is_white}
 pub use Rattle.maker_core.proofs.BlackCells.{black_cells-grid}
-pub use Rattle.maker_core.proofs.Common.{All-from_get_or, AreReasons, CluedGame, HasWords, IsAsked, IsGame, IsLeft, IsLineOrder, IsLit, IsOnly}
-pub use Rattle.maker_core.proofs.Common.{IsPermutation, IsPermutation-refl, IsThinnedFrom, IsThinning, IsTrueOf, Stream, TellsOne, bulbs_beside}
-pub use Rattle.maker_core.proofs.Common.{clue_places, count_by-le-length, first_grid, flipped_by_draw, houses_lawful, is_some, length-filter}
-pub use Rattle.maker_core.proofs.Common.{length-map-range_with_len, length-range_with_len, light_cells, light_is_game, lt-ltb, mul-le, nat_lt}
-pub use Rattle.maker_core.proofs.Common.{numbered_cell, outcome-true, range_with_len, recursion_from_All, replicate, shuffled_order}
-pub use Rattle.maker_core.specs.Draws.{shuffled_list}
-pub use Rattle.maker_core.proofs.Common.{solo_is_game, top_row_given, x_filling, ◌-◌, ◌^◌}
-unfoldable pub use Rattle.maker_core.proofs.Common.{black_cells, bulbs_after, lights_of, lines_of_groups, reasons_from, stream_after, white}
-unfoldable pub use Rattle.maker_core.proofs.Common.{white_places}
-pub use Rattle.maker_core.proofs.Shuffles.{IsShuffledOrder, draw_is, order_is, swaps_are}
-pub use Rattle.maker_core.specs.Draws.{IsFirstPassing, Making, NonePasses, filling_at}
+pub use Rattle.maker_core.proofs.Common.{All-from_get_or, AreReasons, CluedGame, HasWords, IsAsked, IsGame, IsLeft, IsLineOrder, IsLit, IsOnly, IsPermutation}
+pub use Rattle.maker_core.proofs.Common.{IsPermutation-refl, IsThinnedFrom, IsThinning, IsTrueOf, Stream, TellsOne, bulbs_beside, clue_places}
+pub use Rattle.maker_core.proofs.Common.{count_by-le-length, first_grid, flipped_by_draw, houses_lawful, is_some, length-filter, length-map-range_with_len}
+pub use Rattle.maker_core.proofs.Common.{length-range_with_len, light_cells, light_is_game, lt-ltb, mul-le, nat_lt, numbered_cell, outcome-true}
+pub use Rattle.maker_core.proofs.Common.{range_with_len, recursion_from_All, replicate, shuffled_order, solo_is_game, top_row_given, x_filling, ◌-◌, ◌^◌}
+unfoldable pub use Rattle.maker_core.proofs.Common.{black_cells, bulbs_after, lights_of, lines_of_groups, reasons_from, stream_after, white, white_places}
+pub use Rattle.maker_core.proofs.Shuffles.{IsShuffledOrder, draw_is, order_is, swaps_are, words_later}
+pub use Rattle.maker_core.specs.Draws.{IsFirstPassing, Making, NonePasses, filling_at, shuffled_list}
 pub use Rattle.maker_core.specs.LightClues.{SameLight, light_game, number_clue}
 pub use Rattle.maker_core.specs.LightFilling.{light_passes}
 unfoldable pub use Rattle.maker_core.specs.LightFilling.{light_filling, light_puzzle_of, lit_up, with_numbers}
@@ -62,24 +60,23 @@ pub use Rattle.maker_core.specs.SoloFilling.{all_given, line_order, plain_fillin
 pub use Rattle.maker_core.specs.SoloMaking.{IsSoloMade, IsSoloSize, IsSoloUnmade, solo_filling, solo_passes}
 pub use Rattle.maker_core.specs.Thinning.{IsReason}
 pub use Rattle.maker_core.specs.declared.made.Kept.{Kept}
-pub use Rattle.commands.specs.Allowed.{Allows, AllowsCheck, AllowsGrade, AllowsId, AllowsMade, AllowsOfSize, AllowsSolve, IsGraded, IsHandedOut}
-pub use Rattle.commands.specs.Allowed.{IsSolved, handed_out, wanted}
+pub use Rattle.commands.specs.Allowed.{Allows, AllowsCheck, AllowsGrade, AllowsId, AllowsMade, AllowsOfSize, AllowsSolve, IsGraded, IsHandedOut, IsSolved}
+pub use Rattle.commands.specs.Allowed.{handed_out, wanted}
 pub use Rattle.commands.specs.Answers.{Answer, Begins, BeginsAnswer, Delivers, IsInput, PutBegun, PutUpTo, Text, answer_with, code_of, status_of}
 pub use Rattle.commands.specs.Asked.{Asked, check, generate, grade, solve}
 pub use Rattle.commands.specs.Batches.{AllowsTask, Batched, Gathered, Holds, IsLine, TakesTask}
 pub use Rattle.commands.specs.CheckAnswers.{AllowsGrid, IsInputOf, SaysFault, begins_with_line_end, checked}
 unfoldable pub use Rattle.commands.specs.CheckAnswers.{without_returns}
-pub use Rattle.commands.specs.Common.{Extent, Game, HasOneReading, IdFault, IsAsShown, IsClosed, IsExtent, IsGrid, IsInside, IsLawful}
-pub use Rattle.commands.specs.Common.{IsLightSolution, IsPattern, IsPatternSolution, IsPrinted, IsRight, IsSolo, IsSoloSolution, IsTentSolution}
-pub use Rattle.commands.specs.Common.{IsTents, Light, Mark, Outcome, Pattern, RuleSystem, SizeRead, Solo, Solves, Tents, count_below, crossing_scopes}
-pub use Rattle.commands.specs.Common.{crossings_rules, extent_of, grid_of, hides_nothing, houses_rules, in_range, is_settled, is_solution-from}
-pub use Rattle.commands.specs.Common.{is_solution-is, light_cell, light_hides, light_rules, line_rules, line_rules-lawful, max_id, only, pattern_cell}
-pub use Rattle.commands.specs.Common.{rule_from_test, rules_of, scopes_of, singles_rules, size_of, solo_cell, solo_extent, tent_hides, tent_rules}
-pub use Rattle.commands.specs.Common.{tents_cell, test_from_rule, verdict_of, walk}
+pub use Rattle.commands.specs.Common.{Extent, Game, HasOneReading, IdFault, IsAsShown, IsClosed, IsExtent, IsGrid, IsInside, IsLawful, IsLightSolution}
+pub use Rattle.commands.specs.Common.{IsPattern, IsPatternSolution, IsPrinted, IsRight, IsSolo, IsSoloSolution, IsTentSolution, IsTents, Light, Mark, Outcome}
+pub use Rattle.commands.specs.Common.{Pattern, RuleSystem, SizeRead, Solo, Solves, Tents, count_below, crossing_scopes, crossings_rules, extent_of, grid_of}
+pub use Rattle.commands.specs.Common.{hides_nothing, houses_rules, in_range, is_settled, is_solution-from, is_solution-is, light_cell, light_hides}
+pub use Rattle.commands.specs.Common.{light_rules, line_rules, line_rules-lawful, max_id, only, pattern_cell, rule_from_test, rules_of, scopes_of}
+pub use Rattle.commands.specs.Common.{singles_rules, size_of, solo_cell, solo_extent, tent_hides, tent_rules, tents_cell, test_from_rule, verdict_of, walk}
 pub use Rattle.commands.specs.Each.{AllowsEach, Answered, BeginsLines, Begun, HasAnswers, Stopped, both, silence}
 pub use Rattle.commands.specs.Games.{game_of, puzzle_of}
-pub use Rattle.commands.specs.Grades.{HasOneSolution, IsRightGrade, NamedRules, SaysGrade, first_settled, grade_by, grade_status, grade_text}
-pub use Rattle.commands.specs.Grades.{last_tried, listed_grade, only_set, rule_set_text}
+pub use Rattle.commands.specs.Grades.{HasOneSolution, IsRightGrade, NamedRules, SaysGrade, first_settled, grade_by, grade_status, grade_text, last_tried}
+pub use Rattle.commands.specs.Grades.{listed_grade, only_set, rule_set_text}
 unfoldable pub use Rattle.commands.specs.Grades.{searched_grade}
 pub use Rattle.commands.specs.LawsOfCommands.{ArePassed, DifferInClues, GradedPuzzlesHaveOne, HandOutAlike, HasOneAnswer, IsLeastBudget, IsRewritten}
 pub use Rattle.commands.specs.LawsOfCommands.{MadePuzzlesAreSolved, NamesSearch, NamesSet, NamesSetNoStrongerThanSearch, Passes, SearchesNameLeastBudgets}
@@ -91,9 +88,9 @@ pub use Rattle.commands.specs.PuzzleFacts.{GameFacts, PuzzleFacts, printed_by}
 pub use Rattle.commands.specs.Replies.{answer_in, fault_text, gave_up_answer, one_answer, refused, refused_words, verdict_answer}
 pub use Rattle.commands.specs.Runs.{Ran}
 pub use Rattle.commands.specs.SoloFacts.{after_houses, after_singles, solo_facts, solo_fault, solo_sets}
-pub use Rattle.commands.specs.Stops.{BeginsIfAny, RanIfAny, Says, SaysIfAny, status_in}
+pub use Rattle.commands.specs.Stops.{BeginsIfAny, RanIfAny, Wrote, status_in}
 pub use Rattle.commands.specs.TentsFacts.{tent_fault, tents_facts, tents_sizes}
-pub use Rattle.commands.specs.Texts.{Given, IsTextKept, text_limit}
+pub use Rattle.commands.specs.Texts.{Given, IsKeptText, text_limit}
 pub use Rattle.commands.specs.TracePieces.{BeginsTrace, KeptOrPut, PutInPieces, PutsTrace, TakesPieces, joined}
 pub use Rattle.commands.specs.Traces.{IsTrace, SaysClosing, line_of, sweeps_text, visits_text}
 pub use Rattle.commands.specs.declared.answers.reply.Reply.{Reply}

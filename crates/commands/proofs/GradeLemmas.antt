@@ -1,8 +1,8 @@
 -- What grades mean of the games' own solutions, and how their texts and traces are told.
-use Rattle.commands.proofs.Common.{Answer, BeginsTrace, Bool, ByRules, BySearch, Delivers, GaveUp, Grade, HasOneSolution, IsGraded, IsRight, IsRightGrade, IsTrace, List, Mark, Mark.Found, Mark.Trial, NamedRules, NoSolution, None, Option, Outcome, Outcome.OneSolution, PutsTrace, PuzzleFacts, RuleSet, RuleSystem, SaysClosing, SaysGrade, SaysIfAny, SeveralSolutions, Solo, Solves, Some, Text, [], ap, append-nil, append_assoc, arith, codes, common_steps, crossings_rules, false, grade_by, grade_status, grade_text, houses_rules, inr, is_settled, last_tried, length, length-append, length-map, listed_grade, only_set, outcome, refl, scopes_of, searched_grade, singles_rules, spent, subst, suc, sym, trials_in, true, true≢false, verdict_of, walk, zero, ℕ, ◌++◌, ◌↔◌, ◌∙◌, ◌∷◌, ◌≡◌, ◌≤◌}
+use Rattle.commands.proofs.Common.{Answer, BeginsTrace, Bool, ByRules, BySearch, Delivers, GaveUp, Grade, HasOneSolution, IsGraded, IsRight, IsRightGrade, IsTrace, List, Mark, Mark.Found, Mark.Trial, NamedRules, NoSolution, None, Option, Outcome, Outcome.OneSolution, PutsTrace, PuzzleFacts, RuleSet, RuleSystem, SaysClosing, SaysGrade, SeveralSolutions, Solo, Solves, Some, Text, [], ap, append-nil, append_assoc, arith, codes, common_steps, crossings_rules, false, grade_by, grade_status, grade_text, houses_rules, inr, is_settled, last_tried, length, length-append, length-map, listed_grade, only_set, outcome, refl, scopes_of, searched_grade, singles_rules, spent, subst, suc, sym, trials_in, true, true≢false, verdict_of, walk, zero, ℕ, ◌++◌, ◌↔◌, ◌∙◌, ◌∷◌, ◌≡◌, ◌≤◌}
 use Rattle.engine_core.specs.HouseSets.{Decision}
 use Rattle.solo_core.specs.RuleSets.{deciding}
-use Rattle.commands.proofs.RunLemmas.{TakesBoth, says_as}
+use Rattle.commands.proofs.RunLemmas.{TakesBoth, WroteIfAny, says_as}
 use Rattle.commands.proofs.SearchedPuzzles.{SearchedPuzzle, verdict_right}
 use Rattle.commands.proofs.GradedAlike.{settled_found}
 
@@ -50,10 +50,10 @@ last_of_one before set = grind (arith, common_steps)
 module _ {P : Type 0} (play : PuzzleFacts P) (p : P) (budget : ℕ) (traced : Bool) {S : Type 0} (takes : S → Text → S → Type 0) (s t : S) (status : ℕ) where
   -- what is said of a list of rule sets, and of the last of them that was tried
   abbrev pub SaysBy : List NamedRules → Type 0
-  SaysBy sets = SaysIfAny takes (IsGraded play sets budget traced p) s t status
+  SaysBy sets = WroteIfAny takes (IsGraded play sets budget traced p) s t status
 
   abbrev pub SaysLast : Grade → RuleSystem → Type 0
-  SaysLast grade rules = SaysIfAny takes (SaysGrade grade traced (play.game.visit_name p) rules) s t status
+  SaysLast grade rules = WroteIfAny takes (SaysGrade grade traced (play.game.visit_name p) rules) s t status
 
   rightly : (sets : List NamedRules) → IsRightGrade (play.game.solves p) (listed_grade sets (play.game.rules p) budget)
       → SaysLast (listed_grade sets (play.game.rules p) budget) (last_tried (play.game.rules p) sets) → SaysBy sets
@@ -85,7 +85,7 @@ module _ {S : Type 0} {takes : S → Text → S → Type 0} {grade : Grade} {tra
   -- the rest was delivered
   pub said_whole : TakesBoth takes → {s t u : S} {line rest : Text} {a : Answer} {status : ℕ}
       → line ≡ grade_text grade ++ codes "\n" → PutsTrace takes traced name rules s line rest t
-      → Delivers takes t a u status → a.text ≡ rest → a.status ≡ grade_status grade → SaysIfAny takes (SaysGrade grade traced name rules) s u status
+      → Delivers takes t a u status → a.text ≡ rest → a.status ≡ grade_status grade → WroteIfAny takes (SaysGrade grade traced name rules) s u status
   said_whole both {s} {t} {u} {line} is p d same ends = record {
     written = p.put.done ++ d.written;
     took = both s t u p.put.done d.written p.put.took d.took;
@@ -107,7 +107,7 @@ module _ {S : Type 0} {takes : S → Text → S → Type 0} {grade : Grade} {tra
 
   -- a beginning was put
   pub said_begun : {s u : S} (line : Text) (status : ℕ) → line ≡ grade_text grade ++ codes "\n" → BeginsTrace takes traced name rules s line u → 5 ≤ status
-      → SaysIfAny takes (SaysGrade grade traced name rules) s u status
+      → WroteIfAny takes (SaysGrade grade traced name rules) s u status
   said_begun line status is p high = record {
     written = p.begun.done;
     took = p.begun.took;

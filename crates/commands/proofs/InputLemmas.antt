@@ -60,3 +60,6 @@ pub all_copied : (kept rest whole : Text) → kept ++ without_returns rest ≡ w
 unfolding without_returns
 all_copied kept [] whole so_far end = sym (append-nil kept) ∙ so_far
 all_copied kept (x ∷ rest) whole so_far end = absurd (omega arith)
+
+-- what the copying of a text cites
+pub ruleset copy_laws = (byte_kept, byte_dropped, all_copied)

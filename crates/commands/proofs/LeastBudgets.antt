@@ -1,6 +1,5 @@
 -- A grade names a search by the trials of the whole walk, which are the least budget with which the verdict is one.
-use Rattle.std.proofs.lemmas.Grind.{common_steps}
-use Rattle.commands.proofs.Common.{AllowsSolve, Answer, Bool, ByRules, BySearch, Crossings, Game, Grade, HasOneSolution, Houses, IsLeastBudget, IsRight, IsSolved, Lines, List, Local, Mark, NamesSearch, NamesSet, None, Option, Outcome, Outcome.GaveUp, Outcome.NoSolution, Outcome.OneSolution, Outcome.SeveralSolutions, RuleSystem, SaysGrade, SearchesNameLeastBudgets, Singles, Text, ap, arith, codes, eq-or-lt_of_le, game_of, grade_by, grade_text, inl, inr, listed_grade, outcome, printed_by, puzzle_of, refl, refused, searched_grade, slice_index, subst, sym, trials_in, verdict_of, walk, ℕ, ◌++◌, ◌<◌, ◌∙◌, ◌≡◌, ◌≢◌, ◌≤◌, ◌⊎◌}
+use Rattle.commands.proofs.Common.{AllowsSolve, Answer, Bool, ByRules, BySearch, Crossings, Game, Grade, HasOneSolution, Houses, IsLeastBudget, IsRight, IsSolved, Lines, List, Local, Mark, NamesSearch, NamesSet, None, Option, Outcome, Outcome.GaveUp, Outcome.NoSolution, Outcome.OneSolution, Outcome.SeveralSolutions, RuleSystem, SaysGrade, SearchesNameLeastBudgets, Singles, Text, ap, arith, codes, common_steps, eq-or-lt_of_le, game_of, grade_by, grade_text, inl, inr, listed_grade, outcome, printed_by, puzzle_of, refl, refused, searched_grade, slice_index, subst, sym, trials_in, verdict_of, walk, ℕ, ◌++◌, ◌<◌, ◌∙◌, ◌≡◌, ◌≢◌, ◌≤◌, ◌⊎◌}
 use Rattle.commands.proofs.GameLaws.{laws_of, found_alone, solving}
 use Rattle.engine_core.proofs.VerdictLemmas.{spent-le}
 use Rattle.commands.proofs.GradeLemmas.{spent_whole}

@@ -1,12 +1,9 @@
 -- Each filling of Light Up over a stream of words solves its puzzle; and the first that passes can be thinned.
-use Rattle.std.proofs.lemmas.Grind.{common_steps}
-use Rattle.commands.proofs.Common.{All-from_get_or, AllByRecursion, Black, Bool, Extent, HasWords, IsFirstPassing, IsLight, IsLightCell, IsLightSolution, IsLit, IsThinnedFrom, IsWide, Kept, Light, LightCell, List, Making, Numbered, Option, Outcome.OneSolution, Some, Stream, White, ap, arith, black_cells, black_cells-grid, bulbs_after, bulbs_beside, cases_lt, count_by-le-length, false, filling_at, get_or, get_or_past, inl, inr, is_white, length, length-filter, length-map, length-map-range_with_len, length-range_with_len, light_cells, light_filling, light_game, light_is_game, light_puzzle_of, light_rules, lights_of, lit_up, mul-le, none-some, number_clue, numbered_cell, recursion_from_All, refl, shuffled_list, stream_after, subst, suc, sym, true, white, white_places, with_numbers, zero, ℕ, ◌*◌, ◌-◌, ◌<◌, ◌^◌, ◌∙◌, ◌≡◌, ◌≤◌}
-use Rattle.maker_core.specs.LightFilling.{light_passes}
+use Rattle.commands.proofs.Common.{All-from_get_or, AllByRecursion, Black, Bool, Extent, HasWords, IsFirstPassing, IsLight, IsLightCell, IsLightSolution, IsLit, IsThinnedFrom, IsWide, Kept, Light, LightCell, List, Making, Numbered, Option, Outcome.OneSolution, Some, Stream, White, ap, arith, black_cells, black_cells-grid, bulbs_after, bulbs_beside, cases_lt, common_steps, count_by-le-length, false, filling_at, get_or, get_or_past, inl, inr, is_white, length, length-filter, length-map, length-map-range_with_len, length-range_with_len, light_cells, light_filling, light_game, light_is_game, light_passes, light_puzzle_of, light_rules, lights_of, lit_up, mul-le, none-some, number_clue, numbered_cell, recursion_from_All, refl, shuffled_list, subst, sym, true, white, white_places, with_numbers, words_later, ℕ, ◌*◌, ◌-◌, ◌<◌, ◌^◌, ◌∙◌, ◌≡◌, ◌≤◌}
 use Rattle.maker_core.specs.LightMaking.{IsLightMade}
 use Rattle.maker_core.proofs.LightCells.{bulbs_few}
 use Rattle.maker_core.proofs.LightMakings.{all_numbers, lit_one, size_is}
-use Rattle.maker_core.proofs.LightSight.{bulbs_after-grid, number_at}
-use Rattle.maker_core.proofs.LightSolved.{lit_solved}
+use Rattle.maker_core.proofs.LightSolved.{bulbs_after-grid, lit_solved, number_at}
 use Rattle.commands.proofs.MadeOnce.{has_one}
 use Rattle.commands.proofs.SearchedPuzzles.{light_searched, right_of}
 use Rattle.commands.proofs.ShuffledLists.{IsShuffled, black_words, shuffled_is}
@@ -53,13 +50,8 @@ module _ (size : Extent) (wide : IsWide size) (black : ℕ) where
       }
 
   module _ (s : Stream) (words : HasWords s) where
-    words_after : (k : ℕ) → HasWords (stream_after (light_filling size black) k s)
-    unfolding stream_after
-    words_after zero = words
-    words_after (suc k) = filling_words (words_after k)
-
     pub light_lit : (k : ℕ) → IsLit size (filling_at (light_filling size black) k s)
-    light_lit k = filling_lit (words_after k)
+    light_lit k = filling_lit (words_later (light_filling size black) (λ t w. filling_words w) words k)
 
 -- ---- the puzzle of a filling, and what is left of it
 numbers_small : (cells : List LightCell) → ((place n : ℕ) → number_clue (get_or cells place Black) ≡ Some n → n ≤ 4) → AllByRecursion IsLightCell cells

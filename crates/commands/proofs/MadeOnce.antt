@@ -1,6 +1,5 @@
 -- The words of a seed, the first filling that passes, and what a search finds.
-use Rattle.std.proofs.lemmas.Grind.{common_steps}
-use Rattle.commands.proofs.Common.{Bool, HasOne, HasWords, IsFirstPassing, IsLawful, List, Making, NonePasses, Outcome, Outcome.OneSolution, RuleSystem, Stream, arith, cases_Bool, cases_eq, cases_lt, false, filling_at, inl, inr, is_one, outcome-true, refl, subst, suc, sym, true, true≢false, verdict_of, zero, ℕ, ◌<◌, ◌^◌, ◌≡◌, ◌⊎◌}
+use Rattle.commands.proofs.Common.{Bool, HasOne, HasWords, IsFirstPassing, IsLawful, List, Making, NonePasses, Outcome, Outcome.OneSolution, RuleSystem, Stream, arith, cases_Bool, cases_eq, cases_lt, common_steps, false, filling_at, inl, inr, is_one, outcome-true, refl, subst, suc, sym, true, true≢false, verdict_of, zero, ℕ, ◌<◌, ◌^◌, ◌≡◌, ◌⊎◌}
 use Rattle.std.proofs.lemmas.Nat.{mod_below}
 use Rattle.rand_core.specs.Steps.{stream_of}
 use Rattle.rand_chacha.specs.Block.{block_word}

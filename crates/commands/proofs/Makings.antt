@@ -2,10 +2,9 @@
 use Rattle.commands.proofs.LightFillings.{light_thinned}
 use Rattle.commands.proofs.SearchedPuzzles.{tents_searched}
 use Rattle.commands.proofs.SoloFillings.{solo_missing, solo_thinned}
-use Rattle.commands.proofs.Common.{AllowsMade, AllowsOfSize, Answer, Bool, DifferInClues, Err, Extent, Game, HandOutAlike, HasOneAnswer, HasWords, IsExtent, IsFirstPassing, IsGrid, IsHandedOut, IsSoloSize, IsTents, IsWide, Light, List, MadePuzzle, Making, None, NonePasses, Ok, Option, PuzzleFacts, SameLight, SameSolo, SizeRange, SizeRead, Some, Text, Wanted, [], all_given, and_parts, ap, arith, black_cells-grid, cases_eq, common_steps, exhausted_answer, extent_of, false, filling_at, game_of, handed_out, if◌then◌else◌, in_range, inl, inr, is_solution-from, is_solution-is, leb-true, light_facts, light_filling, light_is_game, light_is_written, light_passes, light_puzzle_of, line_rules-lawful, nat_le, pattern_facts, pattern_is_written, puzzle_of, refl, size_of, size_take, solo_facts, solo_filling, solo_is_game, solo_is_written, solo_passes, stream_after, subst, suc, sym, tents_facts, tents_is_written, tents_sizes, true, true≢false, zero, ℕ, ◌&&◌, ◌*◌, ◌↔◌, ◌∙◌, ◌≡◌, ◌≢◌, ◌≤◌}
+use Rattle.commands.proofs.Common.{AllowsMade, AllowsOfSize, Answer, Bool, DifferInClues, Err, Extent, Game, HandOutAlike, HasOneAnswer, HasWords, IsExtent, IsFirstPassing, IsGrid, IsHandedOut, IsSoloSize, IsTents, IsWide, Light, List, MadePuzzle, Making, None, NonePasses, Ok, Option, PuzzleFacts, SameLight, SameSolo, SizeRange, SizeRead, Some, Text, Wanted, [], all_given, and_parts, ap, arith, bind_ok, black_cells-grid, cases_eq, chosen, common_steps, exhausted_answer, extent_of, false, filling_at, game_of, handed_out, if◌then◌else◌, in_range, inl, inr, is_solution-from, is_solution-is, leb-true, light_facts, light_filling, light_is_game, light_is_written, light_passes, light_puzzle_of, line_rules-lawful, nat_le, ok_is, pattern_facts, pattern_is_written, puzzle_of, refl, size_of, size_take, solo_facts, solo_filling, solo_is_game, solo_is_written, solo_passes, stream_after, subst, suc, sym, taken, tents_facts, tents_is_written, tents_sizes, true, true≢false, zero, ℕ, ◌&&◌, ◌*◌, ◌↔◌, ◌∙◌, ◌≡◌, ◌≢◌, ◌≤◌}
 use Rattle.fields_core.proofs.TentRuleLemmas as tents
 use Rattle.gameid_core.proofs.OnesFit.{ones_lawful}
-use Rattle.gameid_core.proofs.Results.{bind_ok, chosen, ok_is, taken}
 use Rattle.gameid_core.proofs.RunsFit.{runs_lawful}
 use Rattle.gameid_core.specs.Lines.{lines_ones, lines_runs}
 use Rattle.gameid_core.specs.declared.id.game.Game.TheVariants as game

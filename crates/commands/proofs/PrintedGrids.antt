@@ -8,7 +8,7 @@ use Rattle.gameid_core.specs.GridReading.{Follows}
 use Rattle.gameid_core.specs.Words.{begins, digits_front, value}
 use Rattle.gameid_core.specs.LightText.{light_symbol}
 use Rattle.gameid_core.proofs.PrintedRows.{Left, LeftOf, after_cell, all_left, all_rows_left, cell_follows, in_grid, next_row, none_left, row_first}
-use Rattle.gameid_core.proofs.Numerals.{front_decimal}
+use Rattle.gameid_core.proofs.Tokens.{front_decimal}
 
 -- the number at a place and how many bytes are printed of it are read of each text that begins with that, where what may stand after
 -- it follows

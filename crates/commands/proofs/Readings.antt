@@ -1,7 +1,6 @@
 -- What is answered to an ID, where a text spells one puzzle or has one fault, and never both.
-use Rattle.commands.proofs.Common.{AllowsEach, AllowsId, AllowsSolve, Answer, Err, Game, GameFacts, HasOneAnswer, HasOneReading, IdFault, IfOk, IsGraded, IsRewritten, IsRightGrade, List, Memory, NamedRules, Ok, PuzzleFacts, Reply, Result, SizeRead, Text, TooLong, [], answer_in, ap, ap₂, both, codes, false, fault_text, game_of, grade_status, grade_text, inl, inr, length, listed_grade, max_id, refl, refused, silence, subst, sym, ℕ, ◌++◌, ◌<◌, ◌↔◌, ◌∙◌, ◌∷◌, ◌≡◌, ◌≢◌}
+use Rattle.commands.proofs.Common.{AllowsEach, AllowsId, AllowsSolve, Answer, Err, Game, GameFacts, HasOneAnswer, HasOneReading, IdFault, IfOk, IsGraded, IsRewritten, IsRightGrade, List, Memory, NamedRules, Ok, PuzzleFacts, Reply, Result, SizeRead, Text, TooLong, [], answer_in, ap, ap₂, both, codes, false, fault_text, game_of, grade_status, grade_text, inl, inr, length, listed_grade, max_id, reading_of, refl, refused, silence, subst, sym, ℕ, ◌++◌, ◌<◌, ◌↔◌, ◌∙◌, ◌∷◌, ◌≡◌, ◌≢◌}
 use Rattle.gameid_core.specs.Steps.{Fails}
-use Rattle.gameid_core.proofs.OneReading.{reading_of}
 
 first_fault : {P : Type 0} {fault : IdFault} {reading : Result P IdFault} → fault ≢ Memory → Fails fault reading → reading ≡ Err fault
 first_fault {fault = Memory} {reading} other fails = absurd (other refl)

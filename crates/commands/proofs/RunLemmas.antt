@@ -1,5 +1,5 @@
 -- Runs that deliver one answer, and those that end before their answers are whole.
-use Rattle.commands.proofs.Common.{Answer, BeginsAnswer, BeginsIfAny, Bool, Delivers, Err, HasAnswers, IfErr, IfOk, IsInput, List, Ok, PutBegun, PutUpTo, Ran, RanIfAny, Reply, Result, Says, SaysIfAny, Text, [], answer_in, ap, append-nil, append_assoc, arith, common_steps, drop, false, inl, inr, length, refl, status_in, status_of, subst, sym, take, take-append-drop, true, true≢false, ℕ, ◌++◌, ◌-◌, ◌∙◌, ◌≡◌, ◌≤◌, ◌⊎◌}
+use Rattle.commands.proofs.Common.{Answer, BeginsAnswer, BeginsIfAny, Bool, Delivers, Err, HasAnswers, IfErr, IfOk, IsInput, List, Ok, PutUpTo, Ran, RanIfAny, Reply, Result, Text, Wrote, [], answer_in, ap, append-nil, append_assoc, arith, common_steps, drop, false, inl, inr, length, refl, status_in, status_of, subst, sym, take, take-append-drop, true, true≢false, ℕ, ◌++◌, ◌-◌, ◌∙◌, ◌≡◌, ◌≤◌, ◌⊎◌}
 use Rattle.std.specs.Result.{IsErr, IsErrAnd}
 use Rattle.commands.specs.declared.answers.status.Status.{Status}
 use Rattle.commands.specs.declared.answers.status.Stop.{Stop}
@@ -33,9 +33,13 @@ begins_some : (A : Answer → Type 0) {w : Text} → (a : Answer) × A a → Beg
 begins_some A some (inl none) = subst (BeginsAnswer A) (sym none) (nothing_begins A some)
 begins_some A some (inr begun) = begun
 
+-- what a step wrote that knows of no answer before
+abbrev pub WroteIfAny : {S : Type 0} → (S → Text → S → Type 0) → (Answer → Type 0) → S → S → ℕ → Type 0
+WroteIfAny takes allows = Wrote takes allows (BeginsIfAny allows)
+
 -- what is told as one thing is told as another that follows from it
 pub says_as : {S : Type 0} {takes : S → Text → S → Type 0} {A B : Answer → Type 0} {s t : S} {status : ℕ} → ((a : Answer) → A a → B a)
-    → SaysIfAny takes A s t status → SaysIfAny takes B s t status
+    → WroteIfAny takes A s t status → WroteIfAny takes B s t status
 says_as {A} {B} follows told = record {
   written = told.written;
   took = told.took;
@@ -45,7 +49,7 @@ says_as {A} {B} follows told = record {
 
 -- some answer is allowed
 pub says_some : {S : Type 0} {takes : S → Text → S → Type 0} {A : Answer → Type 0} {s t : S} {status : ℕ} → (a : Answer) × A a
-    → SaysIfAny takes A s t status → Says takes A s t status
+    → WroteIfAny takes A s t status → Wrote takes A (BeginsAnswer A) s t status
 says_some {A} some told = record {
   written = told.written;
   took = told.took;
@@ -55,7 +59,7 @@ says_some {A} some told = record {
 
 -- nothing was written
 pub says_nothing : {S : Type 0} {takes : S → Text → S → Type 0} {allows : Answer → Type 0} {s : S} {status : ℕ} → takes s [] s
-    → 5 ≤ status → SaysIfAny takes allows s s status
+    → 5 ≤ status → WroteIfAny takes allows s s status
 says_nothing nothing high = grind (arith, common_steps)
 
 rest_is : (rest : List ℕ) (n m : ℕ) → m ≡ length rest → take (m - n) (drop n rest) ≡ drop n rest
@@ -75,14 +79,6 @@ module _ {S : Type 0} {takes : S → Text → S → Type 0} (both : TakesBoth ta
     split = so_far.split ∙ ap (λ l. so_far.done ++ l) (sym (take-append-drop n rest))
         ∙ sym (append_assoc so_far.done (take n rest) (drop n rest))
         ∙ ap (λ l. (so_far.done ++ take n rest) ++ l) (sym (rest_is rest n m e));
-  }
-
-  -- after a put that failed
-  pub put_failed : {s t u : S} {bytes rest : List ℕ} → PutUpTo takes s bytes rest t → takes t [] u → PutBegun takes s bytes u
-  put_failed {s} {t} {u} {bytes} {rest} so_far took = record {
-    done = so_far.done ++ [];
-    took = both s t u so_far.done [] so_far.took took;
-    begun = (rest, so_far.split ∙ ap (λ l. l ++ rest) (sym (append-nil so_far.done)));
   }
 
   -- all was put, and then the finishing took nothing more
@@ -105,7 +101,7 @@ module _ {I O : Type 0} {source : sources.Ghosts I} {sink : sinks.Ghosts O}
     {allows : Text → Answer → Type 0} where
   -- nothing was read, and what was written may be left on every input
   pub ran_by_telling : {i : I} {o p : O} (tells : Answer → Type 0) {status : ℕ} → source.gives i [] i → ((input : Text) (a : Answer) → tells a → allows input a)
-      → Says sink.takes tells o p status → Ran source sink allows i i o p status
+      → Wrote sink.takes tells (BeginsAnswer tells) o p status → Ran source sink allows i i o p status
   ran_by_telling tells nothing allowed t = record {
     read = [];
     written = t.written;
@@ -147,7 +143,7 @@ module _ {I O : Type 0} {source : sources.Ghosts I} {sink : sinks.Ghosts O}
 
   pub ran_if_any_by_telling : {i : I} {o p : O} (tells : Answer → Type 0) {status : ℕ}
       → source.gives i [] i → ((input : Text) (a : Answer) → tells a → allows input a)
-      → SaysIfAny sink.takes tells o p status → RanIfAny source sink allows i i o p status
+      → WroteIfAny sink.takes tells o p status → RanIfAny source sink allows i i o p status
   ran_if_any_by_telling tells nothing allowed t = record {
     read = [];
     written = t.written;
@@ -166,3 +162,6 @@ pub input_known : (ended was : Bool) (bytes start read left : Text) → start �
     → (start ≡ read ++ left) × (was ≡ false → ended ≡ true → left ≡ []) → IsInput ended read bytes
 input_known true was bytes start read left same fresh g = sym same ∙ g.0 ∙ ap (λ l. read ++ l) (g.1 fresh refl) ∙ append-nil read
 input_known false was bytes start read left same fresh g = (left, sym same ∙ g.0)
+
+-- what a check that ends early cites
+pub ruleset unwritten_laws = (ran_if_any_unwritten, is_late)

@@ -47,10 +47,10 @@ pub crossings_searched : (p : Solo) → IsSolo p → SearchedPuzzle (crossings_r
 crossings_searched p ok = record { lawful = crossings_lawful p ok; accepted = solo_accepted ok _ _ }
 
 pub light_searched : {p : Light} → IsLight p → SearchedPuzzle (light_rules p) (IsLightSolution p)
-light_searched {p} ok = record { lawful = light-lawful p ok; accepted = light_accepted p }
+light_searched {p} ok = record { lawful = light-lawful ok; accepted = light_accepted p }
 
 pub tents_searched : {p : Tents} → IsTents p → SearchedPuzzle (tent_rules p) (IsTentSolution p)
-tents_searched {p} ok = record { lawful = tent-lawful p ok; accepted = tents_accepted p }
+tents_searched {p} ok = record { lawful = tent-lawful ok; accepted = tents_accepted p }
 
 -- a search with a trial for each of the walk doesn't give up
 never_out : (marks : List Mark) (budget : ℕ) (found sofar : Option (List ℕ)) → trials_in marks ≤ budget → outcome budget sofar marks ≡ GaveUp found → ⊥

@@ -1,11 +1,9 @@
 -- Each filling of Solo over a stream of words is a grid that keeps to the rules; and the first that is there can be thinned.
-use Rattle.std.proofs.lemmas.Grind.{common_steps}
-use Rattle.commands.proofs.Common.{AreReasons, Bool, HasWords, IfSome, IsFirstPassing, IsLineOrder, IsSolo, IsSoloMade, IsSoloSize, IsSoloSolution, IsTrueOf, Kept, List, None, Option, Outcome, Outcome.GaveUp, Outcome.NoSolution, Outcome.OneSolution, Outcome.SeveralSolutions, Solo, Solves, Some, Stream, [], add-one, all_given, arith, draw_is, false, filling_at, first_grid, flipped_by_draw, houses_lawful, houses_rules, is_some, line_order, lines_of_groups, mul-le, order_is, outcome-true, plain_filling, refl, shuffled_order, solo_game, solo_is_game, solo_passes, stream_after, subst, suc, top_row_given, true, true≢false, verdict_of, x_filling, zero, ℕ, ◌*◌, ◌-◌, ◌<◌, ◌^◌, ◌∙◌, ◌≡◌}
-use Rattle.maker_core.specs.SoloMaking.{solo_filling}
+use Rattle.commands.proofs.Common.{AreReasons, Bool, HasWords, IfSome, IsFirstPassing, IsLineOrder, IsSolo, IsSoloMade, IsSoloSize, IsSoloSolution, Kept, List, None, Option, Solo, Some, Stream, [], add-one, all_given, arith, common_steps, draw_is, false, filling_at, flipped_by_draw, houses_lawful, houses_rules, is_some, line_order, lines_of_groups, mul-le, order_is, outcome-true, plain_filling, refl, shuffled_order, solo_filling, solo_game, solo_is_game, solo_passes, subst, suc, top_row_given, true, true≢false, verdict_of, words_later, x_filling, zero, ℕ, ◌*◌, ◌-◌, ◌<◌, ◌^◌, ◌∙◌, ◌≡◌}
 use Rattle.maker_core.proofs.SoloFull.{all_given-found, all_given-only, found_passes, only_by_rules, same_given, thinned-solo}
 use Rattle.maker_core.proofs.SoloOrderLemmas.{AreGrouped, AreGrouped-more, grouped-none, line_order_from_groups}
 use Rattle.maker_core.proofs.SoloSolution.{is_solution_of_all}
-use Rattle.maker_core.proofs.SoloXSearch.{flipped-found, top-solo}
+use Rattle.maker_core.proofs.SoloXSearch.{first_solves, flipped-found, top-solo}
 use Rattle.commands.proofs.ThinnedExists.{thinned}
 
 -- ---- plain Solo
@@ -69,13 +67,6 @@ module _ (c r : ℕ) (size : IsSoloSize c r) where
       }
 
   -- ---- Solo X
-  first_solves : (rules : _) (said : Outcome) → IsTrueOf rules said → IfSome (first_grid said) (Solves rules)
-  first_solves rules NoSolution is = tt
-  first_solves rules (OneSolution first) is = is.0
-  first_solves rules (SeveralSolutions first second) is = is.0
-  first_solves rules (GaveUp None) is = tt
-  first_solves rules (GaveUp (Some first)) is = is
-
   flipped_words : (found : Option (List ℕ)) (t : Stream) → HasWords t → HasWords (flipped_by_draw (c * r) found t).1
   flipped_words None t words = words
   flipped_words (Some g) t words = (draw_is 4 t (omega arith) (omega arith) words).words
@@ -98,14 +89,9 @@ module _ (c r : ℕ) (size : IsSoloSize c r) where
   filling_is true budget {s} words = x_is budget s words
 
   module _ (x : Bool) (budget : ℕ) {s : Stream} (words : HasWords s) where
-    words_after : (k : ℕ) → HasWords (stream_after (solo_filling c r x budget) k s)
-    unfolding stream_after
-    words_after zero = words
-    words_after (suc k) = (filling_is x budget (words_after k)).words
-
     -- the k-th filling
     pub solo_filled : (k : ℕ) → IfSome (filling_at (solo_filling c r x budget) k s) (λ g. IsSoloSolution (all_given c r x g) g)
-    solo_filled k = (filling_is x budget (words_after k)).solution
+    solo_filled k = (filling_is x budget (words_later (solo_filling c r x budget) (λ t w. (filling_is x budget w).words) words k)).solution
 
     -- one that doesn't pass isn't there
     pub solo_missing : (k : ℕ) → solo_passes c r x budget

@@ -3,8 +3,7 @@
 use Rattle.commands.proofs.Common.{AreReasons, CluedGame, IsAsked, IsGame, IsLawful, IsLeft, IsOnly, IsPermutation-refl, IsThinnedFrom, IsThinning, IsTrueOf, Kept, List, None, Option, Outcome, Outcome.GaveUp, Outcome.NoSolution, Outcome.OneSolution, Outcome.SeveralSolutions, Solves, Some, TellsOne, [], cases_eq, clue_places, inl, inr, none-some, outcome-true, reasons_from, refl, replicate, sym, verdict_of, ℕ, ◌∙◌, ◌∷◌, ◌≡◌}
 use Rattle.maker_core.specs.declared.made.Why.{Why}
 use Rattle.maker_core.specs.declared.made.Why.TheVariants.{Budget, Needed}
-use Rattle.maker_core.proofs.ThinningReasons.{answer_left, reasons_left, thinning_start}
-use Rattle.maker_core.proofs.ThinningTurns.{contains_head, some_of, thinning_turn, turn}
+use Rattle.maker_core.proofs.ThinningTurns.{answer_left, contains_head, reasons_left, some_of, thinning_start, thinning_turn, turn}
 
 module _ {A : Type 0} (game : CluedGame A) (laws : IsGame game) (budget : ℕ) (all : A) (answer : List ℕ) where
   without_in : (p : A) (place n : ℕ) → IsThinnedFrom game p all → game.clue p place ≡ Some n → IsThinnedFrom game (game.without p place) all

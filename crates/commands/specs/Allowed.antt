@@ -9,9 +9,10 @@ use Rattle.commands.specs.Each.{AllowsEach}
 use Rattle.commands.specs.Games.{game_of}
 use Rattle.commands.specs.Grades.{IsRightGrade, NamedRules, SaysGrade, last_tried, listed_grade}
 use Rattle.commands.specs.Makings.{MadePuzzle, Wanted, exhausted_answer, made_answer}
-use Rattle.commands.specs.PuzzleFacts.{PuzzleFacts, printed_by}
+use Rattle.commands.specs.PuzzleFacts.{GameFacts, PuzzleFacts, printed_by}
 use Rattle.commands.specs.Replies.{IsRefused, refused_words, verdict_answer}
 use Rattle.commands.specs.Seeds.{seed_stream}
+use Rattle.commands.specs.declared.grade.GradeOptions.{GradeOptions}
 
 -- the text spells that puzzle, and the answer is allowed for it
 pub record IsAnswered {P : Type 0} (spells : P → Type 0) (allows : P → Answer → Type 0)
@@ -68,6 +69,13 @@ module _ {P : Type 0} (play : PuzzleFacts P) where
   AllowsGrade id budget traced = AllowsId (play.game.reading id) (play.game.spells id)
       (λ p. IsGraded (play.game.sets p) budget traced p)
 
+  -- the answers of a grade with these options: to a puzzle, and to an ID
+  abbrev pub Grades : GradeOptions → P → Answer → Type 0
+  Grades options p = IsGraded (play.game.sets p) options.budget options.traced p
+
+  abbrev pub GradesId : Text → GradeOptions → Answer → Type 0
+  GradesId id options = AllowsGrade id options.budget options.traced
+
   -- the answers of `generate` to a size, and to the text of one
   abbrev pub AllowsOfSize : Wanted → SizeRead → Answer → Type 0
   AllowsOfSize w size answer = IsHandedOut w size answer ⊎ IsExhausted w size answer
@@ -95,8 +103,11 @@ Allows (Some (generate game size seed budget tries black)) input answer =
 Allows None input answer = answer ≡ refused_words
 
 -- the ID spells a puzzle of the game
+abbrev pub is_spelled : {P : Type 0} → GameFacts P → Text → Bool
+is_spelled game id = is_ok (game.reading id)
+
 abbrev pub is_read : Game → Text → Bool
-is_read game id = is_ok ((game_of game).game.reading id)
+is_read game id = is_spelled (game_of game).game id
 
 -- the request reads its input: a check does where its ID is read
 abbrev pub reads_input : Option Asked → Bool

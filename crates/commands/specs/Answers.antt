@@ -1,5 +1,5 @@
 -- A text with its status, and which of them a run may leave.
-use Rattle.std.specs.Prelude.{◌≡◌, ◌*◌, ◌<◌, ℕ, Bool, true, false, List, ◌++◌}
+use Rattle.std.specs.Prelude.{◌≡◌, ◌*◌, ◌<◌, ℕ, Bool, true, false, List, ◌++◌, String, Vec, max, string_bytes}
 use Rattle.commands.specs.Common.{Extent, IsGrid}
 use Rattle.commands.specs.declared.answers.status.Status.{Status}
 use Rattle.commands.specs.declared.answers.status.Status.TheVariants.{Fine, Wrong, Refused, Several, GaveUp}
@@ -29,9 +29,13 @@ pub record Answer : Type 0 where
 abbrev pub answer_with : Text → ℕ → Answer
 answer_with text status = record { text = text; status = status }
 
--- the grid has a cell for each place of the extent, with one of so many values
-abbrev pub IsGridFor : Extent → ℕ → List ℕ → Type 0
-IsGridFor size values grid = IsGrid (size.w * size.h) values grid
+-- the answer of these bytes and that status
+abbrev pub answer_of : {Z : Type 0} → Vec ℕ Z × ℕ → Answer
+answer_of left = answer_with left.0.items left.1
+
+-- the status has the greater number of the two
+abbrev pub IsGreater : Status → Status → Status → Type 0
+IsGreater one other status = code_of status ≡ max (code_of one) (code_of other)
 
 -- the text begins with these bytes
 abbrev pub Begins : Text → Text → Type 0

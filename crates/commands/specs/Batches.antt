@@ -1,7 +1,7 @@
 -- What is kept of a line that is being read, and a batch, between two bytes of its input. No
 -- contract of a run uses these words.
 use Rattle.std.specs.Borrow.{Bor}
-use Rattle.std.specs.Prelude.{◌≡◌, ◌==◌, ◌<◌, ◌+◌, ℕ, List, Option, MatchOption, length, take, ◌++◌, false}
+use Rattle.std.specs.Prelude.{◌≡◌, ◌==◌, ◌<◌, ◌+◌, ℕ, List, Option, MatchOption, length, take, ◌++◌, false, Result}
 use Rattle.std.specs.List.{All}
 use Rattle.std.specs.Str.Lines.{lines}
 use Rattle.gameid_core.specs.Head.{max_id}
@@ -9,10 +9,15 @@ use Rattle.commands.specs.declared.batch.lines.InputLine.{InputLine}
 use Rattle.commands.specs.Answers.{Answer, Text, answer_with, code_of}
 use Rattle.commands.specs.Each.{AllowsEach, Answered, BeginsLines, Begun, HasAnswers, Stopped, both}
 use Rattle.commands.specs.Games.{game_of}
+use Rattle.commands.specs.Runs.{Ran}
+use Rattle.commands.specs.Stops.{status_in}
 use Rattle.commands.specs.Texts.{Given}
 use Rattle.commands.specs.Allowed.{AllowsSolve}
 use Rattle.commands.specs.declared.answers.status.Status.{Status}
+use Rattle.commands.specs.declared.answers.status.Stop.{Stop}
 use Rattle.commands.specs.declared.batch.Batch.{Batch}
+use Rattle.commands.specs.declared.ends.Sink as sinks
+use Rattle.commands.specs.declared.ends.Source as sources
 use Rattle.commands.specs.declared.solve.Task.{Task}
 
 -- of these bytes, all that came since the last line, so many are kept
@@ -34,6 +39,16 @@ AllowsTask task id = AllowsSolve (game_of task.game) id task.budget
 -- what is allowed to all lines of an input
 abbrev pub AllowsLines : Task → Text → Answer → Type 0
 AllowsLines task input = AllowsEach (AllowsTask task) (lines input)
+
+-- a run answers each line of its input
+abbrev pub RanLines : {I O : Type 0} → sources.Ghosts I → sinks.Ghosts O
+    → Task → I → I → O → O → Result Status Stop → Type 0
+RanLines source sink task old_input new_input old_output new_output result = Ran source sink
+    (AllowsLines task) old_input new_input old_output new_output (status_in result)
+
+-- the answers that are still to be put
+abbrev pub unput : Batch → Text
+unput batch = batch.answers.items
 
 -- After these bytes of the input so much was written: with the answers that the batch holds, those to
 -- all lines that ended. What came since is held: whatever follows, the rest of the answer is that to

@@ -1,10 +1,10 @@
 -- What `check` takes for a grid, and what it answers to an input, given a puzzle.
-use Rattle.std.specs.Prelude.{◌∷◌, ◌==◌, ◌&&◌, [], Bool, false, if◌then◌else◌, ◌≡◌, ◌≤◌, ◌⊎◌, ◌++◌, ◌/◌, ◌%◌, ℕ, List, Option, Some, None, length, codes, decimal, option_map}
+use Rattle.std.specs.Prelude.{◌∷◌, ◌==◌, ◌&&◌, [], Bool, false, if◌then◌else◌, ◌≡◌, ◌≤◌, ◌⊎◌, ◌++◌, ◌/◌, ◌%◌, ℕ, List, Option, Some, None, length, codes, decimal, option_map, Vec}
 use Rattle.commands.specs.Common.{IsPrinted, IsAsShown}
 use Rattle.commands.specs.Answers.{Text, Answer, answer_with, code_of}
 use Rattle.commands.specs.PuzzleFacts.{PuzzleFacts, printed_by}
 use Rattle.commands.specs.Replies.{refused}
-use Rattle.commands.specs.Texts.{text_limit}
+use Rattle.commands.specs.Texts.{IsText, text_limit}
 use Rattle.commands.specs.declared.answers.status.Status.TheVariants.{Fine, Wrong}
 
 -- a line end, byte 10, comes first
@@ -57,3 +57,8 @@ module _ {P : Type 0} (play : PuzzleFacts P) (p : P) (input : Text) where
 
   abbrev pub AllowsGrid : Answer → Type 0
   AllowsGrid answer = IsChecked answer ⊎ IsNoGrid answer
+
+-- the same of each input of which this was read
+abbrev pub AllowsRead : {P Z : Type 0}
+    → PuzzleFacts P → P → Option (Vec ℕ Z) → Answer → Type 0
+AllowsRead play p read answer = (input : Text) → IsText read input → AllowsGrid play p input answer

@@ -1,10 +1,14 @@
 -- The words in which the commands speak of a game and of its puzzles. The contracts of the traits tie
 -- them to one another.
-use Rattle.std.specs.Prelude.{ℕ, List, Result}
-use Rattle.commands.specs.Common.{Extent, RuleSystem, SizeRead, IdFault, grid_text}
+use Rattle.std.specs.Prelude.{ℕ, List, Result, ◌↔◌}
+use Rattle.commands.specs.Common.{Extent, RuleSystem, SizeRead, IdFault, grid_text, Solves}
 use Rattle.commands.specs.Answers.{Answer, Text}
 use Rattle.commands.specs.Grades.{NamedRules}
 use Rattle.commands.specs.Makings.{MadePuzzle, Wanted}
+
+-- the grids that the rules accept are the solutions
+abbrev pub Accepts : RuleSystem → (List ℕ → Type 0) → Type 0
+Accepts rules solves = (g : List ℕ) → (Solves rules g ↔ solves g)
 
 pub record GameFacts (P : Type 0) : Type 1 where
   -- the puzzle that a text spells, or its first fault; `Played::read_id` gives a puzzle by `spells`

@@ -24,6 +24,11 @@ abbrev pub IsBroken : {I : Type 0} → sources.Ghosts I → I → Bool → Type 
 IsBroken source input output_failed = (source.has_failed input ≡ true) ⊎ (output_failed ≡ true)
     ⊎ ((source.call_count input ≡ call_limit) × (source.has_ended input ≡ false))
 
+-- no call of the ends failed
+abbrev pub NoneFailed : {I O : Type 0} → sources.Ghosts I → sinks.Ghosts O → I → O → Type 0
+NoneFailed source sink input output =
+    (source.has_failed input ≡ false) × (sink.has_failed output ≡ false)
+
 -- no byte was asked for, the end wasn't met, and no call failed
 pub record IsUnread {I : Type 0} (source : sources.Ghosts I) (input : I) : Type 0 where
   pub no_calls : source.call_count input ≡ 0

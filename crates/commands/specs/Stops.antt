@@ -1,8 +1,10 @@
 -- How the steps of a run end, and what they have written then. No contract of a run uses these
 -- words.
 use Rattle.std.specs.Prelude.{◌≡◌, ◌<◌, ◌≤◌, ◌⊎◌, ℕ, Bool, true, false, [], Result, Ok, Err}
-use Rattle.commands.specs.Answers.{Answer, BeginsAnswer, IsInput, Text, code_of, status_of}
-use Rattle.commands.specs.Runs.{IsBroken, call_limit}
+use Rattle.commands.specs.Answers.{Answer, BeginsAnswer, Delivers, IsInput, Text, code_of, status_of}
+use Rattle.commands.specs.Replies.{answer_in}
+use Rattle.commands.specs.Runs.{IsBroken, NoneFailed, call_limit}
+use Rattle.commands.specs.declared.answers.reply.Reply.{Reply}
 use Rattle.commands.specs.declared.answers.status.Status.{Status}
 use Rattle.commands.specs.declared.answers.status.Stop.{Stop}
 use Rattle.commands.specs.declared.answers.status.Stop.TheVariants.{Memory, Broken}
@@ -27,25 +29,28 @@ abbrev pub status_in : Result Status Stop → ℕ
 status_in (Ok status) = code_of status
 status_in (Err stop) = status_of stop
 
--- What was written, and the status: the beginning of an allowed answer, and with the status of an
--- answer an allowed answer whole.
-pub record Says {S : Type 0} (takes : S → Text → S → Type 0) (allows : Answer → Type 0)
-    (old new : S) (status : ℕ) : Type 0 where
+-- What was written, of which this is so, and the status: with that of an answer an allowed answer whole.
+pub record Wrote {S : Type 0} (takes : S → Text → S → Type 0) (allows : Answer → Type 0)
+    (begins : Text → Type 0) (old new : S) (status : ℕ) : Type 0 where
   pub written : Text
   pub took : takes old written new
-  pub begun : BeginsAnswer allows written
+  pub begun : begins written
   pub whole : status < status_of Memory → allows (record { text = written; status = status })
 
--- The same of a step that knows of no answer before it writes: what it wrote may be nothing.
+-- What a step with that result wrote begins an allowed answer. If it knows of none before it writes,
+-- it may be nothing too.
 abbrev pub BeginsIfAny : (Answer → Type 0) → Text → Type 0
 BeginsIfAny allows written = (written ≡ []) ⊎ BeginsAnswer allows written
 
-pub record SaysIfAny {S : Type 0} (takes : S → Text → S → Type 0) (allows : Answer → Type 0)
-    (old new : S) (status : ℕ) : Type 0 where
-  pub written : Text
-  pub took : takes old written new
-  pub begun : BeginsIfAny allows written
-  pub whole : status < status_of Memory → allows (record { text = written; status = status })
+abbrev pub Says : {S : Type 0} → sinks.Ghosts S
+    → (Answer → Type 0) → S → S → Result Status Stop → Type 0
+Says sink allows old new result =
+    Wrote sink.takes allows (BeginsAnswer allows) old new (status_in result)
+
+abbrev pub Writes : {S : Type 0} → sinks.Ghosts S
+    → (Answer → Type 0) → S → S → Result Status Stop → Type 0
+Writes sink allows old new result =
+    Wrote sink.takes allows (BeginsIfAny allows) old new (status_in result)
 
 pub record RanIfAny {I O : Type 0} (source : sources.Ghosts I) (sink : sinks.Ghosts O)
     (allows : Text → Answer → Type 0) (old_input new_input : I) (old_output new_output : O)
@@ -73,14 +78,19 @@ abbrev pub LeavesSink : {S : Type 0} → sinks.Ghosts S → S → Result Status 
 LeavesSink sink new result =
     IsSinkAfter (status_in result) (sink.has_failed new) (sink.is_flushed new)
 
+-- the sink took a beginning of the reply's text, and all of it where the status is the reply's
+abbrev pub DeliversReply : {S : Type 0}
+    → sinks.Ghosts S → Reply → S → S → Result Status Stop → Type 0
+DeliversReply sink reply old new result =
+    Delivers sink.takes old (answer_in reply) new (status_in result)
+
 -- How a step that reads its input, or not, leaves the ends with a result. With the status of a
 -- failing end one is broken, and else neither failed. With that of an answer the output was sent on
 -- whole, and the input read to its end, or not at all. No more is read than the limit.
 pub record LeavesEnds {I O : Type 0} (source : sources.Ghosts I) (sink : sinks.Ghosts O)
     (reads : Bool) (input : I) (output : O) (result : Result Status Stop) : Type 0 where
   pub within : status_in result ≤ status_of Broken
-  pub sound : status_in result ≤ status_of Memory
-      → (source.has_failed input ≡ false) × (sink.has_failed output ≡ false)
+  pub sound : status_in result ≤ status_of Memory → NoneFailed source sink input output
   pub sent : status_in result < status_of Memory → sink.is_flushed output ≡ true
   pub broken : status_in result ≡ status_of Broken
       → IsBroken source input (sink.has_failed output)

@@ -17,8 +17,8 @@ abbrev pub IsKeptBy : Bool → Text → Text → Type 0
 IsKeptBy true bytes seen = text_limit < length seen
 IsKeptBy false bytes seen = (bytes ≡ seen) × (length seen ≤ text_limit)
 
-abbrev pub IsTextKept : Kept → Text → Type 0
-IsTextKept kept seen = IsKeptBy kept.is_over kept.bytes.items seen
+abbrev pub IsKeptText : Kept → Text → Type 0
+IsKeptText kept seen = IsKeptBy kept.is_over kept.bytes.items seen
 
 -- from the one moment to the other the source gave a text of which this is so
 pub record Given {I : Type 0} (gives : I → Text → I → Type 0) (from to : I) (holds : Text → Type 0)

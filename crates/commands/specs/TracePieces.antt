@@ -1,10 +1,28 @@
--- How a trace is put in pieces. No contract of a run uses these words: they serve the steps that
+-- How a grade is said, and how a trace is put in pieces. No contract of a run uses these words: they serve the steps that
 -- put it.
-use Rattle.std.specs.Prelude.{◌≡◌, ◌<◌, ◌+◌, ◌⊎◌, ◌++◌, ◌∷◌, ℕ, Bool, List, String, [], length, string_bytes, string_len}
-use Rattle.commands.specs.Common.{RuleSystem}
-use Rattle.commands.specs.Answers.{Text, PutUpTo, PutBegun}
+use Rattle.std.specs.Prelude.{◌≡◌, ◌<◌, ◌+◌, ◌⊎◌, ◌++◌, ◌∷◌, ℕ, Bool, List, String, [], length, string_bytes, string_len, ◌≤◌, true}
+use Rattle.commands.specs.Common.{RuleSystem, Solo}
+use Rattle.commands.specs.Answers.{Answer, Text, PutUpTo, PutBegun}
+use Rattle.commands.specs.Allowed.{IsGraded}
+use Rattle.commands.specs.Grades.{listed_grade, only_set}
+use Rattle.commands.specs.SoloFacts.{after_houses, after_singles, solo_facts}
 use Rattle.commands.specs.Traces.{IsTrace, visits_text}
+use Rattle.commands.specs.declared.grade.Attempt.{Attempt}
+use Rattle.commands.specs.declared.grade.Grade.{Grade}
+use Rattle.commands.specs.declared.grade.GradeOptions.{GradeOptions}
 use Rattle.commands.specs.declared.grade.trace.TheConstants.{LINE, PIECE}
+
+-- the grade by the rules that are tried, the last in the list, and else by a search with its own
+abbrev pub IsGradeBy : Attempt → RuleSystem → RuleSystem → Grade → Type 0
+IsGradeBy tried rules search grade =
+    grade ≡ listed_grade (only_set tried.set rules) search tried.options.budget
+
+-- the grade of a puzzle of Solo that single values and places don't settle, or whole houses
+abbrev pub GradesPastSingles : GradeOptions → Solo → Answer → Type 0
+GradesPastSingles options p = IsGraded solo_facts (after_singles p) options.budget options.traced p
+
+abbrev pub GradesPastHouses : GradeOptions → Solo → Answer → Type 0
+GradesPastHouses options p = IsGraded solo_facts (after_houses p) options.budget options.traced p
 
 -- the sink took a text and the lines of its trace, up to a rest
 pub record PutsTrace {S : Type 0} (takes : S → Text → S → Type 0) (traced : Bool)
@@ -19,6 +37,10 @@ pub record BeginsTrace {S : Type 0} (takes : S → Text → S → Type 0) (trace
   pub lines : Text
   pub trace : IsTrace traced name rules lines
   pub begun : PutBegun takes old (text ++ lines) new
+
+-- each house that the rules visit in a queue has a name, where so many have one
+abbrev pub AreAllNamed : RuleSystem → ℕ → Type 0
+AreAllNamed rules named = rules.by_queue ≡ true → rules.houses ≤ named
 
 -- The sink took nothing and the text is kept, or the sink took all of it.
 abbrev pub KeptOrPut : {S : Type 0} → (S → Text → S → Type 0) → S → Text → Text → S → Type 0

@@ -1,13 +1,18 @@
 -- What a maker made, or why it made no puzzle. No contract of a run uses these words.
-use Rattle.std.specs.Prelude.{◌≡◌, ⊤, Result, Ok, Err}
+use Rattle.std.specs.Prelude.{◌≡◌, ⊤, Result, Ok, Err, List, ℕ}
 use Rattle.gameid_core.specs.declared.id.fault.IdFault.TheVariants.{SizeRange}
+use Rattle.gameid_core.specs.declared.grids.printed.Printed as printed
+use Rattle.maker_core.specs.declared.made.Made.{Made}
 use Rattle.maker_core.specs.declared.made.MakeFault.{MakeFault}
 use Rattle.maker_core.specs.declared.made.MakeFault.TheVariants as fault
 use Rattle.commands.specs.Common.{SizeRead, IdFault}
 use Rattle.commands.specs.Answers.{Text}
 use Rattle.commands.specs.PuzzleFacts.{GameFacts}
 use Rattle.commands.specs.Allowed.{wanted}
-use Rattle.commands.specs.Makings.{MadePuzzle, Wanted}
+use Rattle.commands.specs.Makings.{Wanted, made_answer}
+use Rattle.gameid_core.specs.PrintedForm.{printed_grid}
+use Rattle.commands.specs.Replies.{answer_in}
+use Rattle.commands.specs.declared.answers.reply.Reply.{Reply}
 use Rattle.commands.specs.declared.generate.Recipe.{Recipe}
 use Rattle.commands.specs.declared.generate.makable.Unmade.{Unmade}
 use Rattle.commands.specs.declared.generate.makable.Unmade.TheVariants.{Size, Exhausted, Memory}
@@ -34,6 +39,10 @@ IsUnmade game recipe text Exhausted =
 IsUnmade game recipe text Memory = ⊤
 
 -- this is made of the size that the text is
-abbrev pub IsMade : {P : Type 0} → GameFacts P → Recipe → Text → MadePuzzle P → Type 0
-IsMade game recipe text made =
-    IsOfSize (game.sizes text) (λ size. game.makes size (wanted_in recipe) made)
+abbrev pub IsMade : {P : Type 0} → GameFacts P → Recipe → Text → Made P → Type 0
+IsMade game recipe text made = IsOfSize (game.sizes text) (λ size. game.makes size (wanted_in recipe)
+    (record { puzzle = made.puzzle; solution = made.answer; kept = made.kept.items }))
+
+-- a puzzle is handed out by that ID, with a grid
+abbrev pub HandsOut : {P : Type 0} → printed.Ghosts P → Text → P → List ℕ → Reply → Type 0
+HandsOut printing id p grid r = answer_in r ≡ made_answer id (printed_grid printing p grid)

@@ -1,10 +1,10 @@
 //! Many IDs, one a line.
-ghost use Rattle.std.specs.Prelude.{◌≡◌, ◌≤◌, ◌∷◌, ◌++◌, [], max, true, false, IfOk, IfErr, OnErr, OnOk};
-ghost use Rattle.commands.specs.Answers.{PutBegun, Text, code_of};
-ghost use Rattle.commands.specs.Batches.{AllowsLines, EndsIn, EndsWith, GathersAll, GathersOn, GathersUpTo, GoesOn, StopsIn, StopsReading, TakesTask, AllowsTask, Holds, IsLine};
+ghost use Rattle.std.specs.Prelude.{◌≡◌, ◌≤◌, ◌∷◌, ◌++◌, [], true, false, IfOk, IfErr, OnErr, OnOk};
+ghost use Rattle.commands.specs.Answers.{PutBegun, Text, IsGreater};
+ghost use Rattle.commands.specs.Batches.{EndsIn, EndsWith, GathersAll, GathersOn, GathersUpTo, GoesOn, StopsIn, StopsReading, TakesTask, AllowsTask, Holds, IsLine, RanLines, unput};
 ghost use Rattle.commands.specs.Replies.{answer_in};
-ghost use Rattle.commands.specs.Runs.{AreNew, Ran, call_limit};
-ghost use Rattle.commands.specs.Stops.{LeavesEnds, StopsWith, is_broken, status_in};
+ghost use Rattle.commands.specs.Runs.{AreNew, call_limit};
+ghost use Rattle.commands.specs.Stops.{LeavesEnds, StopsWith, is_broken};
 ghost use Rattle.commands.specs.declared.answers.status.Status.TheVariants.{Fine};
 
 pub mod lines;
@@ -52,7 +52,7 @@ impl Batch {
     /// A batch that has taken nothing.
     fn new(alloc: Global) -> Batch
         ensures line { Holds result.line [] }
-        ensures answers { result.answers.items ≡ [] }
+        ensures answers { unput result ≡ [] }
         ensures status { result.status ≡ Fine }
     {
         Batch {
@@ -66,11 +66,10 @@ impl Batch {
 
     /// Adds the text of a reply to the answers, and keeps the greater status.
     fn add_reply(&mut self, reply: &Reply) -> Result<(), AllocError>
-        ensures added { OnOk result
-            (self.new.answers.items ≡ self.old.answers.items ++ (answer_in reply.now).text) }
+        ensures added { OnOk result (unput self.new ≡ unput self.old ++ (answer_in reply.now).text) }
         ensures status { OnOk result
-            (code_of self.new.status ≡ max (code_of self.old.status) (code_of reply.now.status)) }
-        ensures stays { OnErr result (self.new.answers.items ≡ self.old.answers.items) }
+            (IsGreater self.old.status reply.now.status self.new.status) }
+        ensures stays { OnErr result (unput self.new ≡ unput self.old) }
     {
         self.answers.extend_from_slice(reply.text.as_bytes())?;
         self.status = self.status.greater(reply.status);
@@ -80,13 +79,12 @@ impl Batch {
     /// Puts the answers, in one piece if the sink takes them so.
     fn put_answers<O: Sink>(&mut self, output: &mut O) -> Result<(), Stop>
         requires { O.has_failed output.old ≡ false }
-        ensures put { OnOk result (O.takes output.old self.old.answers.items output.new) }
+        ensures put { OnOk result (O.takes output.old (unput self.old) output.new) }
         ensures fine { OnOk result (O.has_failed output.new ≡ false) }
-        ensures none { OnOk result (self.new.answers.items ≡ []) }
+        ensures none { OnOk result (unput self.new ≡ []) }
         ensures line { self.new.line ≡ self.old.line }
         ensures status { self.new.status ≡ self.old.status }
-        ensures begun { OnErr result
-            (PutBegun O.takes output.old self.old.answers.items output.new) }
+        ensures begun { OnErr result (PutBegun O.takes output.old (unput self.old) output.new) }
         ensures cause { IfErr result (λ e. (O.has_failed output.new ≡ true)
             × (is_broken e ≡ true)) }
     {
@@ -98,7 +96,7 @@ impl Batch {
     /// Answers a line that ended, and keeps the memory of its text for the next one.
     fn answer_line(&mut self, alloc: Global, task: Task) -> Result<(), AllocError>
         ensures goes_on { OnOk result (GathersOn task self.old self.new (10 ∷ [])) }
-        ensures stays { OnErr result (self.new.answers.items ≡ self.old.answers.items) }
+        ensures stays { OnErr result (unput self.new ≡ unput self.old) }
     {
         let text = replace(&mut self.text, String::new(alloc));
         let line = self.line.before_newline();
@@ -112,7 +110,7 @@ impl Batch {
     /// Takes one byte of the input.
     fn take_byte(&mut self, alloc: Global, task: Task, byte: u8) -> Result<(), AllocError>
         ensures goes_on { OnOk result (GathersOn task self.old self.new (byte ∷ [])) }
-        ensures stays { OnErr result (self.new.answers.items ≡ self.old.answers.items) }
+        ensures stays { OnErr result (unput self.new ≡ unput self.old) }
     {
         if byte == b'\n' {
             return self.answer_line(alloc, task);
@@ -145,7 +143,7 @@ impl Batch {
         ensures fine { OnOk result (O.has_failed output.new ≡ false) }
         ensures goes_on { OnOk result
             (GoesOn O.takes task self.old self.new chunk.now output.old output.new) }
-        ensures none { OnOk result (self.new.answers.items ≡ []) }
+        ensures none { OnOk result (unput self.new ≡ []) }
         ensures stopped { OnErr result
             (StopsIn O.takes task self.old chunk.now output.old output.new) }
         ensures cause { IfErr result (λ e. O.has_failed output.new ≡ is_broken e) }
@@ -199,7 +197,7 @@ fn take_input<I: Source, O: Sink>(
 ) -> Result<(), Stop>
     requires new { AreNew I.Source O.Sink input.old output.old }
     requires no_line { Holds batch.old.line [] }
-    requires no_answers { batch.old.answers.items ≡ [] }
+    requires no_answers { unput batch.old ≡ [] }
     requires no_status { batch.old.status ≡ Fine }
     ensures input { OnOk result (I.has_failed input.new ≡ false) }
     ensures ended { OnOk result (I.has_ended input.new ≡ true) }
@@ -234,10 +232,9 @@ fn answer_lines<I: Source, O: Sink>(
 ) -> RunResult
     requires new { AreNew I.Source O.Sink input.old output.old }
     requires no_line { Holds batch.old.line [] }
-    requires no_answers { batch.old.answers.items ≡ [] }
+    requires no_answers { unput batch.old ≡ [] }
     requires no_status { batch.old.status ≡ Fine }
-    ensures ran { Ran I.Source O.Sink (AllowsLines task)
-        input.old input.new output.old output.new (status_in result) }
+    ensures ran { RanLines I.Source O.Sink task input.old input.new output.old output.new result }
     ensures left { LeavesEnds I.Source O.Sink true input.new output.new result }
 {
     take_input(alloc, task, batch, input, output)?;
@@ -261,8 +258,7 @@ pub fn solve_lines<I: Source, O: Sink>(
     output: &mut O,
 ) -> RunResult
     requires { AreNew I.Source O.Sink input.old output.old }
-    ensures ran { Ran I.Source O.Sink (AllowsLines task)
-        input.old input.new output.old output.new (status_in result) }
+    ensures ran { RanLines I.Source O.Sink task input.old input.new output.old output.new result }
     ensures left { LeavesEnds I.Source O.Sink true input.new output.new result }
 {
     let mut batch = Batch::new(alloc);

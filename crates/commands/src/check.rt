@@ -1,11 +1,9 @@
 //! `check`: the grid that the input gives, against a puzzle.
-ghost use Rattle.std.specs.Prelude.{true, is_ok, IfOk};
-ghost use Rattle.commands.specs.Answers.{Text};
-ghost use Rattle.commands.specs.Allowed.{AllowsCheck, is_read};
-ghost use Rattle.commands.specs.CheckAnswers.{AllowsGrid};
+ghost use Rattle.std.specs.Prelude.{true, IfOk};
+ghost use Rattle.commands.specs.Allowed.{AllowsCheck, is_read, is_spelled};
+ghost use Rattle.commands.specs.CheckAnswers.{AllowsGrid, AllowsRead};
 ghost use Rattle.commands.specs.Games.{game_of};
 ghost use Rattle.commands.specs.Replies.{answer_in};
-ghost use Rattle.commands.specs.Texts.{IsText};
 ghost use Rattle.commands.specs.Runs.{AreNew, Ran};
 ghost use Rattle.commands.specs.Stops.{LeavesEnds, RanIfAny, status_in};
 
@@ -28,8 +26,7 @@ fn input_reply<P: Checked>(
     puzzle: &P,
     input: Option<Vec<u8>>,
 ) -> Result<Reply, AllocError>
-    ensures { IfOk result (λ r. (text : Text) → IsText input text
-        → AllowsGrid P.Played puzzle.now text (answer_in r)) }
+    ensures { IfOk result (λ r. AllowsRead P.Played puzzle.now input (answer_in r)) }
 {
     let Some(bytes) = input else {
         return grid_refused(alloc);
@@ -42,6 +39,7 @@ fn input_reply<P: Checked>(
 }
 
 /// Reads the input to its end, answers to its grid and gives the status.
+#[tactic(auto, using(crate::proofs::RunLemmas::unwritten_laws))]
 fn check_input<P: Checked, I: Source, O: Sink>(
     alloc: Global,
     puzzle: &P,
@@ -68,8 +66,7 @@ fn check_one<P: Checked + Drop, I: Source, O: Sink>(
     requires { AreNew I.Source O.Sink input.old output.old }
     ensures ran { RanIfAny I.Source O.Sink (AllowsCheck P.Played id.now)
         input.old input.new output.old output.new (status_in result) }
-    ensures left { LeavesEnds I.Source O.Sink (is_ok (P.game.reading id.now))
-        input.new output.new result }
+    ensures left { LeavesEnds I.Source O.Sink (is_spelled P.game id.now) input.new output.new result }
 {
     match P::read_id(alloc, id) {
         Ok(puzzle) => check_input(alloc, &puzzle, input, output),

@@ -1,11 +1,11 @@
 //! The answers of `generate`.
 ghost use Rattle.std.specs.Prelude.{◌≡◌, IfOk, string_bytes};
-ghost use Rattle.commands.specs.Answers.{IsGridFor};
 ghost use Rattle.commands.specs.Games.{game_of};
 ghost use Rattle.commands.specs.Allowed.{AllowsMade};
-ghost use Rattle.commands.specs.Makings.{made_answer, exhausted_answer};
-ghost use Rattle.commands.specs.Unmade.{wanted_in};
-ghost use Rattle.commands.specs.Replies.{answer_in, grid_of};
+ghost use Rattle.commands.specs.Makings.{exhausted_answer};
+ghost use Rattle.commands.specs.Unmade.{HandsOut, wanted_in};
+ghost use Rattle.gameid_core.specs.PrintedForm.{IsGridIn};
+ghost use Rattle.commands.specs.Replies.{answer_in};
 
 pub mod makable;
 pub mod percent;
@@ -33,9 +33,8 @@ pub struct Recipe {
 
 /// The answer that hands out a puzzle by its written ID, with its solution.
 fn made_reply<P: Printed>(mut text: String, puzzle: &P, grid: &Grid) -> Result<Reply, AllocError>
-    requires { IsGridFor (P.extent puzzle.now) (P.value_count puzzle.now) grid.now }
-    ensures { IfOk result (λ r. answer_in r
-        ≡ made_answer (string_bytes text) (grid_of P.Printed puzzle.now grid.now)) }
+    requires { IsGridIn P.Printed puzzle.now grid.now }
+    ensures { IfOk result (HandsOut P.Printed (string_bytes text) puzzle.now grid.now) }
 {
     text.push_str("\n")?;
     push_grid(&mut text, puzzle, grid)?;

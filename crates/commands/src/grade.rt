@@ -1,12 +1,13 @@
 //! The answers of `grade`.
-ghost use Rattle.std.specs.Prelude.{◌≡◌, ◌++◌, ◌≤◌, ◌↔◌, List, ℕ, true, false, IfErr, IfOk, OnErr, OnOk, codes, string_bytes};
-ghost use Rattle.commands.specs.Common.{Solves, needs_of, FitsIn};
+ghost use Rattle.std.specs.Prelude.{◌≡◌, ◌++◌, false, IfErr, IfOk, OnErr, OnOk, codes, string_bytes};
+ghost use Rattle.commands.specs.Common.{needs_of, FitsIn};
 ghost use Rattle.commands.specs.Games.{game_of};
 ghost use Rattle.commands.specs.Grades.{SaysGrade, grade_status, grade_text, only_set, rule_set_text};
-ghost use Rattle.commands.specs.Allowed.{AllowsGrade, IsGraded};
+ghost use Rattle.commands.specs.Allowed.{Grades, GradesId, IsGraded};
 ghost use Rattle.commands.specs.Answers.{code_of};
-ghost use Rattle.commands.specs.Stops.{LeavesSink, Says, SaysIfAny, is_broken, status_in};
-ghost use Rattle.commands.specs.TracePieces.{BeginsTrace, PutsTrace};
+ghost use Rattle.commands.specs.PuzzleFacts.{Accepts};
+ghost use Rattle.commands.specs.Stops.{LeavesSink, Says, Writes, is_broken};
+ghost use Rattle.commands.specs.TracePieces.{AreAllNamed, BeginsTrace, PutsTrace};
 
 pub mod grading;
 pub mod named;
@@ -62,11 +63,9 @@ pub struct GradeOptions {
     pub traced: bool,
 }
 
-/// One rule set that is tried on a puzzle: its name, the grade's options, and where memory comes
-/// from.
+/// One rule set that is tried on a puzzle: its name, and the grade's options.
 #[derive(Clone, Copy)]
 pub struct Attempt {
-    pub alloc: Global,
     pub set: RuleSet,
     pub options: GradeOptions,
 }
@@ -132,8 +131,7 @@ impl Attempt {
         output: &mut O,
     ) -> Result<(), Stop>
         requires fits { FitsIn (needs_of (R.system rules.now)) store.old.made }
-        requires named { (R.system rules.now).by_queue ≡ true
-            → (R.system rules.now).houses ≤ P.named puzzle.now }
+        requires named { AreAllNamed (R.system rules.now) (P.named puzzle.now) }
         requires not_failed { O.has_failed output.old ≡ false }
         ensures put { OnOk result (PutsTrace O.takes self.options.traced
             (P.game.visit_name puzzle.now) (R.system rules.now)
@@ -160,6 +158,7 @@ impl Attempt {
     /// Says a grade and, if a trace is asked for, how these rules close their start board.
     pub fn say<R: Searchable, P: Named, O: Sink>(
         self,
+        alloc: Global,
         grade: Grade,
         puzzle: &P,
         rules: &R,
@@ -167,15 +166,13 @@ impl Attempt {
         output: &mut O,
     ) -> RunResult
         requires fits { FitsIn (needs_of (R.system rules.now)) store.old.made }
-        requires named { (R.system rules.now).by_queue ≡ true
-            → (R.system rules.now).houses ≤ P.named puzzle.now }
+        requires named { AreAllNamed (R.system rules.now) (P.named puzzle.now) }
         requires not_failed { O.has_failed output.old ≡ false }
-        ensures answer { SaysIfAny O.takes (SaysGrade grade self.options.traced
-            (P.game.visit_name puzzle.now) (R.system rules.now))
-            output.old output.new (status_in result) }
+        ensures answer { Writes O.Sink (SaysGrade grade self.options.traced
+            (P.game.visit_name puzzle.now) (R.system rules.now)) output.old output.new result }
         ensures left { LeavesSink O.Sink output.new result }
     {
-        let mut text = grade_line(self.alloc, grade)?;
+        let mut text = grade_line(alloc, grade)?;
         self.put_trace(puzzle, rules, store, &mut text, output)?;
         let status = grade.status();
         deliver(output, &Reply { text, status })
@@ -184,6 +181,7 @@ impl Attempt {
     /// Says the grade of a puzzle by these rules, the last in the list, and else by a search.
     pub fn say_by<P: Solvable + Named, R: Searchable, O: Sink>(
         self,
+        alloc: Global,
         puzzle: &P,
         rules: &R,
         output: &mut O,
@@ -191,20 +189,16 @@ impl Attempt {
     where
         P::Search: Searchable,
         requires means { (rules : P.Search) → P.Search.system rules ≡ P.meaning rules }
-        requires named { (R.system rules.now).by_queue ≡ true
-            → (R.system rules.now).houses ≤ P.named puzzle.now }
-        requires accepted { (g : List ℕ)
-            → (Solves (R.system rules.now) g ↔ P.game.solves puzzle.now g) }
+        requires named { AreAllNamed (R.system rules.now) (P.named puzzle.now) }
+        requires accepted { Accepts (R.system rules.now) (P.game.solves puzzle.now) }
         requires not_failed { O.has_failed output.old ≡ false }
-        ensures answer { SaysIfAny O.takes
-            (IsGraded P.Played (only_set self.set (R.system rules.now))
-            self.options.budget self.options.traced puzzle.now)
-            output.old output.new (status_in result) }
+        ensures answer { Writes O.Sink (IsGraded P.Played (only_set self.set (R.system rules.now))
+            self.options.budget self.options.traced puzzle.now) output.old output.new result }
         ensures left { LeavesSink O.Sink output.new result }
     {
-        let mut store = Store::new(self.alloc, rules)?;
-        let grade = self.grade(puzzle, rules, &mut store)?;
-        self.say(grade, puzzle, rules, &mut store, output)
+        let mut store = Store::new(alloc, rules)?;
+        let grade = self.grade(alloc, puzzle, rules, &mut store)?;
+        self.say(alloc, grade, puzzle, rules, &mut store, output)
     }
 }
 
@@ -213,8 +207,7 @@ pub trait Graded: Solvable {
     /// Says the grade, and then a trace if one is asked for. Gives the status of the run.
     fn say_grade<O: Sink>(&self, alloc: Global, options: GradeOptions, output: &mut O) -> RunResult
         requires { O.has_failed output.old ≡ false }
-        ensures answer { SaysIfAny O.takes (IsGraded Self.Played (Self.game.sets self.now)
-            options.budget options.traced self.now) output.old output.new (status_in result) }
+        ensures answer { Writes O.Sink (Grades Self.Played options self.now) output.old output.new result }
         ensures left { LeavesSink O.Sink output.new result };
 }
 
@@ -226,9 +219,7 @@ fn grade_one<P: Graded + Drop, O: Sink>(
     output: &mut O,
 ) -> RunResult
     requires { O.has_failed output.old ≡ false }
-    ensures answer { SaysIfAny O.takes
-        (AllowsGrade P.Played id.now options.budget options.traced)
-        output.old output.new (status_in result) }
+    ensures answer { Writes O.Sink (GradesId P.Played id.now options) output.old output.new result }
     ensures left { LeavesSink O.Sink output.new result }
 {
     match P::read_id(alloc, id) {
@@ -250,9 +241,7 @@ pub fn grade_id<O: Sink>(
     output: &mut O,
 ) -> RunResult
     requires { O.has_failed output.old ≡ false }
-    ensures answer { Says O.takes
-        (AllowsGrade (game_of game) id.now options.budget options.traced)
-        output.old output.new (status_in result) }
+    ensures answer { Says O.Sink (GradesId (game_of game) id.now options) output.old output.new result }
     ensures left { LeavesSink O.Sink output.new result }
 {
     by_game!(game, grade_one::<_, O>(alloc, id, options, output))

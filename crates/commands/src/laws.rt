@@ -8,6 +8,7 @@ ghost use Rattle.commands.specs.LawsOfCommands.{EachRequestHasAnAnswer, FixedReq
 
 /// Each text has an answer of `solve`, for each game and budget: it spells a puzzle or has a fault,
 /// and the verdict of a puzzle's walk is right of its solutions.
+#[tactic(auto, using(crate::proofs::GameLaws::answers))]
 pub fn each_text_has_an_answer()
     ensures { (game : Game) (budget : ℕ) → HasAnswers (λ id. AllowsSolve (game_of game) id budget) }
 {}

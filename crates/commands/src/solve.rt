@@ -1,9 +1,10 @@
 //! The answers of `solve`.
-ghost use Rattle.std.specs.Prelude.{◌≡◌, ◌*◌, IfOk};
-ghost use Rattle.commands.specs.Common.{FitsIn, needs_of, IsTrueOf, verdict_of};
+ghost use Rattle.std.specs.Prelude.{◌≡◌, IfOk};
+ghost use Rattle.gameid_core.specs.TentsText.{cells_in};
+ghost use Rattle.commands.specs.Common.{FitsIn, needs_of};
 ghost use Rattle.commands.specs.Allowed.{AllowsSolve};
 ghost use Rattle.commands.specs.Games.{game_of};
-ghost use Rattle.commands.specs.Replies.{answer_in, verdict_said};
+ghost use Rattle.commands.specs.Replies.{HasTrueVerdict, SaysVerdict, answer_in};
 
 pub mod solvable;
 
@@ -41,13 +42,11 @@ fn verdict_reply<P: Printed, R: Searchable>(
     text: String,
 ) -> Result<Reply, AllocError>
     requires fits { FitsIn (needs_of (R.system rules.now)) store.old.made }
-    requires cells { (R.system rules.now).cells ≡ (P.extent puzzle.now).w
-        * (P.extent puzzle.now).h }
+    requires cells { (R.system rules.now).cells ≡ cells_in (P.extent puzzle.now) }
     requires values { (R.system rules.now).values ≡ P.value_count puzzle.now }
     ensures answer { IfOk result
-        (λ r. answer_in r ≡ verdict_said P.Printed puzzle.now (R.system rules.now) budget) }
-    ensures right { IfOk result
-        (λ r. IsTrueOf (R.system rules.now) (verdict_of (R.system rules.now) budget)) }
+        (SaysVerdict P.Printed puzzle.now (R.system rules.now) budget) }
+    ensures right { IfOk result (λ _. HasTrueVerdict (R.system rules.now) budget) }
 {
     match store.solve(rules, budget) {
         Verdict::None => words_reply(text, "none\n", Status::Wrong),
@@ -81,13 +80,11 @@ fn searched_reply<P: Printed, R: Searchable>(
     budget: u64,
     text: String,
 ) -> Result<Reply, AllocError>
-    requires cells { (R.system rules.now).cells ≡ (P.extent puzzle.now).w
-        * (P.extent puzzle.now).h }
+    requires cells { (R.system rules.now).cells ≡ cells_in (P.extent puzzle.now) }
     requires values { (R.system rules.now).values ≡ P.value_count puzzle.now }
     ensures answer { IfOk result
-        (λ r. answer_in r ≡ verdict_said P.Printed puzzle.now (R.system rules.now) budget) }
-    ensures right { IfOk result
-        (λ r. IsTrueOf (R.system rules.now) (verdict_of (R.system rules.now) budget)) }
+        (SaysVerdict P.Printed puzzle.now (R.system rules.now) budget) }
+    ensures right { IfOk result (λ _. HasTrueVerdict (R.system rules.now) budget) }
 {
     if let Some(store) = kept {
         if store.fits(rules) {

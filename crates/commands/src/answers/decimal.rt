@@ -1,12 +1,13 @@
 //! Numbers in texts.
-ghost use Rattle.std.specs.Prelude.{◌≡◌, ◌+◌, ◌≤◌, ◌++◌, decimal, OnOk, length, string_bytes, string_len};
+ghost use Rattle.std.specs.Prelude.{◌+◌, ◌≤◌, ◌++◌, decimal, OnOk, length, string_len};
+ghost use Rattle.gameid_core.specs.Added.{Adds};
 
 use itoa::Buffer;
 use std::alloc::AllocError;
 
 /// Adds a number to a text, in decimal, which is at most 20 digits.
 pub fn push_number(text: &mut String, number: usize) -> Result<(), AllocError>
-    ensures number { OnOk result (string_bytes text.new ≡ string_bytes text.old ++ decimal number) }
+    ensures number { OnOk result (Adds (decimal number) text.old text.new) }
     ensures short { OnOk result (string_len text.new ≤ string_len text.old + 20) }
 {
     let mut buffer = Buffer::new();
@@ -15,8 +16,7 @@ pub fn push_number(text: &mut String, number: usize) -> Result<(), AllocError>
 
 /// Adds words to a text, and then a number as `push_number` does.
 pub fn push_numbered(text: &mut String, words: &str, number: usize) -> Result<(), AllocError>
-    ensures words { OnOk result (string_bytes text.new
-        ≡ string_bytes text.old ++ (words.now ++ decimal number)) }
+    ensures words { OnOk result (Adds (words.now ++ decimal number) text.old text.new) }
     ensures short { OnOk result (string_len text.new
         ≤ string_len text.old + length words.now + 20) }
 {

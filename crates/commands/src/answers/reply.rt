@@ -1,7 +1,8 @@
 //! A text with the status that goes with it.
-ghost use Rattle.std.specs.Prelude.{◌≡◌, ◌++◌, IfOk, OnOk, string_bytes};
-ghost use Rattle.commands.specs.Answers.{IsGridFor, answer_with, code_of};
-ghost use Rattle.commands.specs.Replies.{answer_in, fault_text, grid_of, refused};
+ghost use Rattle.std.specs.Prelude.{◌≡◌, ◌++◌, IfOk, OnOk};
+ghost use Rattle.gameid_core.specs.Added.{Adds};
+ghost use Rattle.gameid_core.specs.PrintedForm.{IsGridIn, printed_grid};
+ghost use Rattle.commands.specs.Replies.{IsReply, answer_in, fault_text, refusal};
 
 use crate::answers::decimal::push_numbered;
 use crate::answers::status::Status;
@@ -18,7 +19,7 @@ pub struct Reply {
 
 /// The answer of these words alone, in the memory of a text, of which nothing stays.
 pub fn words_reply(mut text: String, words: &str, status: Status) -> Result<Reply, AllocError>
-    ensures { IfOk result (λ r. answer_in r ≡ answer_with words.now (code_of status)) }
+    ensures { IfOk result (IsReply words.now status) }
 {
     text.clear();
     text.push_str(words)?;
@@ -33,9 +34,9 @@ pub fn grid_reply<P: Printed>(
     puzzle: &P,
     grid: &Grid,
 ) -> Result<Reply, AllocError>
-    requires { IsGridFor (P.extent puzzle.now) (P.value_count puzzle.now) grid.now }
-    ensures { IfOk result (λ r. answer_in r
-        ≡ answer_with (words.now ++ grid_of P.Printed puzzle.now grid.now) (code_of status)) }
+    requires { IsGridIn P.Printed puzzle.now grid.now }
+    ensures { IfOk result
+        (IsReply (words.now ++ printed_grid P.Printed puzzle.now grid.now) status) }
 {
     let mut reply = words_reply(text, words, status)?;
     push_grid(&mut reply.text, puzzle, grid)?;
@@ -45,7 +46,7 @@ pub fn grid_reply<P: Printed>(
 /// Adds what is said of a fault to a text. Of want of memory, which is no fault of an ID, it is
 /// nothing.
 fn push_fault(text: &mut String, fault: IdFault) -> Result<(), AllocError>
-    ensures { OnOk result (string_bytes text.new ≡ string_bytes text.old ++ fault_text fault) }
+    ensures { OnOk result (Adds (fault_text fault) text.old text.new) }
 {
     match fault {
         IdFault::TooLong => text.push_str("too long"),
@@ -69,7 +70,7 @@ fn push_fault(text: &mut String, fault: IdFault) -> Result<(), AllocError>
 /// The answer to an ID with that first fault, or to a size that `generate` refuses: `refused: `,
 /// what is said of the fault, and a line end. It is made in the memory of a text.
 pub fn id_refused(text: String, fault: IdFault) -> Result<Reply, AllocError>
-    ensures { IfOk result (λ r. answer_in r ≡ refused (fault_text fault)) }
+    ensures { IfOk result (λ r. answer_in r ≡ refusal fault) }
 {
     let mut reply = words_reply(text, "refused: ", Status::Refused)?;
     push_fault(&mut reply.text, fault)?;

@@ -1,6 +1,6 @@
 //! How a run ends: the status of its answer, or why it stopped before that was whole.
-ghost use Rattle.std.specs.Prelude.{◌≡◌, max};
-ghost use Rattle.commands.specs.Answers.{code_of, status_of};
+ghost use Rattle.std.specs.Prelude.{◌≡◌};
+ghost use Rattle.commands.specs.Answers.{IsGreater, code_of, status_of};
 ghost use Rattle.commands.specs.declared.answers.status.Stop.TheVariants.{Memory};
 
 use std::alloc::AllocError;
@@ -42,7 +42,7 @@ impl Status {
 
     /// The one of two statuses that has the greater number.
     pub fn greater(self, other: Status) -> Status
-        ensures { code_of result ≡ max (code_of self) (code_of other) }
+        ensures { IsGreater self other result }
     {
         if self.code() < other.code() {
             other

@@ -1,6 +1,7 @@
 //! Lines that come in chunks, of which little more than an ID's length is kept.
-ghost use Rattle.std.specs.Prelude.{◌≡◌, ◌++◌, ◌∷◌, ◌≤◌, [], List, ℕ, IfSome, OnOk, ◌==◌, length};
+ghost use Rattle.std.specs.Prelude.{◌≡◌, ◌++◌, ◌∷◌, ◌≤◌, [], IfSome, OnOk, ◌==◌, length};
 ghost use Rattle.std.specs.Str.Lines.{strip_carriage_return};
+ghost use Rattle.commands.specs.Answers.{Text};
 ghost use Rattle.commands.specs.Batches.{IsLine, Holds};
 
 use gameid_core::MAX_ID;
@@ -51,8 +52,7 @@ impl InputLine {
 
     /// Takes one more byte of the line.
     pub fn push(&mut self, byte: u8) -> Result<(), AllocError>
-        ensures { OnOk result ((piece : List ℕ) → Holds self.old piece
-            → Holds self.new (piece ++ byte ∷ [])) }
+        ensures { OnOk result ((kept : Text) → Holds self.old kept → Holds self.new (kept ++ byte ∷ [])) }
     {
         if self.kept.len() < LINE_LIMIT {
             self.kept.push(byte)?;
@@ -69,14 +69,14 @@ impl InputLine {
 
     /// Whether no byte came.
     pub fn is_empty(&self) -> bool
-        ensures { (piece : List ℕ) → Holds self.now piece → result ≡ (length piece == 0) }
+        ensures { (piece : Text) → Holds self.now piece → result ≡ (length piece == 0) }
     {
         self.kept.is_empty()
     }
 
     /// The line where a newline ends it, or nothing where it is over-long.
     pub fn before_newline(&self) -> Option<&[u8]>
-        ensures { (piece : List ℕ) → Holds self.now piece
+        ensures { (piece : Text) → Holds self.now piece
             → IsLine result (strip_carriage_return piece) }
     {
         unless_over(without_return(self.kept.as_slice()))
@@ -84,7 +84,7 @@ impl InputLine {
 
     /// The line where the end of the input ends it, or nothing where it is over-long.
     pub fn before_end(&self) -> Option<&[u8]>
-        ensures { (piece : List ℕ) → Holds self.now piece → IsLine result piece }
+        ensures { (piece : Text) → Holds self.now piece → IsLine result piece }
     {
         unless_over(self.kept.as_slice())
     }

@@ -1,6 +1,6 @@
 //! Puzzles whose grids can be checked, and what each game tells of a grid.
 ghost use Rattle.std.specs.Prelude.{IfOk};
-ghost use Rattle.commands.specs.Answers.{IsGridFor};
+ghost use Rattle.gameid_core.specs.PrintedForm.{IsGridIn};
 ghost use Rattle.commands.specs.Replies.{answer_in};
 
 use crate::answers::reply::Reply;
@@ -14,6 +14,6 @@ pub trait Checked: Played {
     /// The answer to a grid: that it is a solution, or the first rule that it breaks. The grid has
     /// a number for each cell, by place.
     fn check_reply(&self, alloc: Global, grid: &Grid) -> Result<Reply, AllocError>
-        requires { IsGridFor (Self.extent self.now) (Self.value_count self.now) grid.now }
+        requires { IsGridIn Self.Printed self.now grid.now }
         ensures { IfOk result (λ r. Self.game.checks self.now grid.now (answer_in r)) };
 }

@@ -1,8 +1,8 @@
 //! Texts on their way to a sink.
 ghost use Rattle.std.specs.Prelude.{◌≡◌, true, false, OnOk, OnErr, IfErr};
-ghost use Rattle.commands.specs.Answers.{Delivers, PutBegun};
-ghost use Rattle.commands.specs.Replies.{answer_in, fault_text, refused};
-ghost use Rattle.commands.specs.Stops.{LeavesSink, SaysIfAny, is_broken, status_in};
+ghost use Rattle.commands.specs.Answers.{PutBegun};
+ghost use Rattle.commands.specs.Replies.{refusal};
+ghost use Rattle.commands.specs.Stops.{DeliversReply, LeavesSink, Writes, is_broken};
 
 use crate::answers::reply::{Reply, id_refused};
 use crate::answers::status::{RunResult, Stop};
@@ -31,8 +31,7 @@ pub fn put_all<O: Sink>(output: &mut O, bytes: &[u8]) -> Result<(), Stop>
 /// Puts the text of a reply and finishes, and gives its status. A sink that fails took a beginning.
 pub fn deliver<O: Sink>(output: &mut O, reply: &Reply) -> RunResult
     requires { O.has_failed output.old ≡ false }
-    ensures delivers { Delivers O.takes output.old (answer_in reply.now) output.new
-        (status_in result) }
+    ensures delivers { DeliversReply O.Sink reply.now output.old output.new result }
     ensures left { LeavesSink O.Sink output.new result }
 {
     put_all(output, reply.text.as_bytes())?;
@@ -46,8 +45,7 @@ pub fn deliver<O: Sink>(output: &mut O, reply: &Reply) -> RunResult
 /// Refuses an ID with that first fault.
 pub(crate) fn refuse<O: Sink>(alloc: Global, fault: IdFault, output: &mut O) -> RunResult
     requires { O.has_failed output.old ≡ false }
-    ensures answer { SaysIfAny O.takes (λ a. a ≡ refused (fault_text fault))
-        output.old output.new (status_in result) }
+    ensures answer { Writes O.Sink (λ a. a ≡ refusal fault) output.old output.new result }
     ensures left { LeavesSink O.Sink output.new result }
 {
     let reply = id_refused(String::new(alloc), fault)?;

@@ -1,7 +1,8 @@
 //! An input that is read whole.
-ghost use Rattle.std.specs.Prelude.{◌≡◌, ◌≤◌, ◌++◌, ◌==◌, ◌&&◌, [], List, ℕ, true, false, IfOk, IfErr, OnOk};
+ghost use Rattle.std.specs.Prelude.{◌≡◌, ◌≤◌, ◌++◌, ◌==◌, ◌&&◌, [], true, false, IfOk, IfErr, OnOk};
+ghost use Rattle.commands.specs.Answers.{Text};
 ghost use Rattle.commands.specs.CheckAnswers.{begins_with_line_end, without_returns};
-ghost use Rattle.commands.specs.Texts.{Given, IsTextKept, IsText};
+ghost use Rattle.commands.specs.Texts.{Given, IsKeptText, IsText};
 ghost use Rattle.commands.specs.Stops.{StopsWith};
 ghost use Rattle.commands.specs.Runs.{IsUnread, call_limit};
 
@@ -22,8 +23,7 @@ struct Kept {
 impl Kept {
     /// Takes more bytes.
     fn take(&mut self, chunk: &[u8]) -> Result<(), AllocError>
-        ensures { OnOk result ((seen : List ℕ) → IsTextKept self.old seen
-            → IsTextKept self.new (seen ++ chunk.now)) }
+        ensures { OnOk result ((seen : Text) → IsKeptText self.old seen → IsKeptText self.new (seen ++ chunk.now)) }
     {
         if self.is_over || chunk.len() > TEXT_LIMIT - self.bytes.len().min(TEXT_LIMIT) {
             self.is_over = true;
@@ -34,7 +34,7 @@ impl Kept {
 
     /// All of the bytes, or nothing where they are too many.
     fn text(self) -> Option<Vec<u8>>
-        ensures { (seen : List ℕ) → IsTextKept self seen → IsText result seen }
+        ensures { (seen : Text) → IsKeptText self seen → IsText result seen }
     {
         if self.is_over { None } else { Some(self.bytes) }
     }
@@ -43,10 +43,10 @@ impl Kept {
 /// Takes the input to its end.
 fn take_whole<I: Source>(kept: &mut Kept, input: &mut I) -> Result<(), Stop>
     requires unread { IsUnread I.Source input.old }
-    requires empty { IsTextKept kept.old [] }
+    requires empty { IsKeptText kept.old [] }
     ensures fine { OnOk result ((I.has_failed input.new ≡ false) × (I.has_ended input.new ≡ true)) }
-    ensures taken { OnOk result (Given I.gives input.old input.new (IsTextKept kept.new)) }
-    ensures read { (seen : List ℕ) × I.gives input.old seen input.new }
+    ensures taken { OnOk result (Given I.gives input.old input.new (IsKeptText kept.new)) }
+    ensures read { (seen : Text) × I.gives input.old seen input.new }
     ensures few { I.call_count input.new ≤ call_limit }
     ensures left { IfErr result (λ e. StopsWith I.Source e input.new false) }
 {
@@ -67,7 +67,7 @@ pub fn read_whole<I: Source>(alloc: Global, input: &mut I) -> Result<Option<Vec<
     requires { IsUnread I.Source input.old }
     ensures fine { OnOk result ((I.has_failed input.new ≡ false) × (I.has_ended input.new ≡ true)) }
     ensures whole { IfOk result (λ text. Given I.gives input.old input.new (IsText text)) }
-    ensures read { (seen : List ℕ) × I.gives input.old seen input.new }
+    ensures read { (seen : Text) × I.gives input.old seen input.new }
     ensures few { I.call_count input.new ≤ call_limit }
     ensures left { IfErr result (λ e. StopsWith I.Source e input.new false) }
 {
@@ -87,6 +87,7 @@ fn is_dropped(byte: u8, rest: &[u8]) -> bool
 }
 
 /// The text without each carriage return that stands directly before a line end.
+#[tactic(auto, using(crate::proofs::InputLemmas::copy_laws))]
 pub fn without_returns(alloc: Global, text: &[u8]) -> Result<Vec<u8>, AllocError>
     ensures { IfOk result (λ v. v.items ≡ without_returns text.now) }
 {

@@ -65,12 +65,8 @@ impl Graded for LightPuzzle {
     ) -> RunResult {
         let local = self.rules(alloc)?;
         let set = RuleSet::Local;
-        let attempt = Attempt {
-            alloc,
-            set,
-            options,
-        };
-        attempt.say_by(self, &local, output)
+        let attempt = Attempt { set, options };
+        attempt.say_by(alloc, self, &local, output)
     }
 }
 

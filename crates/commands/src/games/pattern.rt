@@ -64,12 +64,8 @@ impl Graded for PatternPuzzle {
     ) -> RunResult {
         let lines = self.rules(alloc)?;
         let set = RuleSet::Lines;
-        let attempt = Attempt {
-            alloc,
-            set,
-            options,
-        };
-        attempt.say_by(self, &lines, output)
+        let attempt = Attempt { set, options };
+        attempt.say_by(alloc, self, &lines, output)
     }
 }
 

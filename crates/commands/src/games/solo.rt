@@ -1,9 +1,10 @@
 //! Solo, as the commands play it. It is graded by three rule sets in turn, and else by a search.
-ghost use Rattle.std.specs.Prelude.{◌≡◌, ◌++◌, ◌+◌, ◌≤◌, OnOk, false, length, string_bytes, string_len};
-ghost use Rattle.commands.specs.Allowed.{IsGraded};
+ghost use Rattle.std.specs.Prelude.{◌≡◌, ◌+◌, ◌≤◌, OnOk, false, length, string_len};
+ghost use Rattle.gameid_core.specs.Added.{Adds};
 ghost use Rattle.commands.specs.Common.{houses_rules, scopes_of};
-ghost use Rattle.commands.specs.SoloFacts.{after_houses, after_singles, house_text, scope_text, solo_facts};
-ghost use Rattle.commands.specs.Stops.{LeavesSink, SaysIfAny, status_in};
+ghost use Rattle.commands.specs.SoloFacts.{house_text, scope_text, solo_facts};
+ghost use Rattle.commands.specs.Stops.{LeavesSink, Writes};
+ghost use Rattle.commands.specs.TracePieces.{GradesPastHouses, GradesPastSingles};
 
 use crate::answers::check_reply::{correct_reply, wrong_line_reply, wrong_place_reply};
 use crate::answers::decimal::push_numbered;
@@ -76,12 +77,15 @@ impl Graded for SoloPuzzle {
         let mut store = Store::new(alloc, &singles)?;
         if settles(&mut store, &singles) {
             let set = RuleSet::Singles;
-            let attempt = Attempt {
+            let attempt = Attempt { set, options };
+            return attempt.say(
                 alloc,
-                set,
-                options,
-            };
-            return attempt.say(Grade::ByRules(set), self, &singles, &mut store, output);
+                Grade::ByRules(set),
+                self,
+                &singles,
+                &mut store,
+                output,
+            );
         }
         say_by_houses(alloc, self, options, output)
     }
@@ -95,21 +99,22 @@ fn say_by_houses<O: Sink>(
     output: &mut O,
 ) -> RunResult
     requires { O.has_failed output.old ≡ false }
-    ensures answer { SaysIfAny O.takes
-        (IsGraded solo_facts (after_singles puzzle.now) options.budget options.traced puzzle.now)
-        output.old output.new (status_in result) }
+    ensures answer { Writes O.Sink (GradesPastSingles options puzzle.now) output.old output.new result }
     ensures left { LeavesSink O.Sink output.new result }
 {
     let houses = SoloHouses::new(alloc, puzzle)?;
     let mut store = Store::new(alloc, &houses)?;
     if settles(&mut store, &houses) {
         let set = RuleSet::Houses;
-        let attempt = Attempt {
+        let attempt = Attempt { set, options };
+        return attempt.say(
             alloc,
-            set,
-            options,
-        };
-        return attempt.say(Grade::ByRules(set), puzzle, &houses, &mut store, output);
+            Grade::ByRules(set),
+            puzzle,
+            &houses,
+            &mut store,
+            output,
+        );
     }
     say_by_crossings(alloc, puzzle, options, output)
 }
@@ -122,19 +127,13 @@ fn say_by_crossings<O: Sink>(
     output: &mut O,
 ) -> RunResult
     requires { O.has_failed output.old ≡ false }
-    ensures answer { SaysIfAny O.takes
-        (IsGraded solo_facts (after_houses puzzle.now) options.budget options.traced puzzle.now)
-        output.old output.new (status_in result) }
+    ensures answer { Writes O.Sink (GradesPastHouses options puzzle.now) output.old output.new result }
     ensures left { LeavesSink O.Sink output.new result }
 {
     let crossings = SoloCrossings::new(alloc, puzzle)?;
     let set = RuleSet::Crossings;
-    let attempt = Attempt {
-        alloc,
-        set,
-        options,
-    };
-    attempt.say_by(puzzle, &crossings, output)
+    let attempt = Attempt { set, options };
+    attempt.say_by(alloc, puzzle, &crossings, output)
 }
 
 /// Most bytes of the name of a house: the longest kind, a space and a number.
@@ -142,7 +141,7 @@ const HOUSE: usize = 29;
 
 /// Adds the name of a house: its kind, and its number among those.
 fn push_house(text: &mut String, house: NamedHouse) -> Result<(), AllocError>
-    ensures name { OnOk result (string_bytes text.new ≡ string_bytes text.old ++ house_text house) }
+    ensures name { OnOk result (Adds (house_text house) text.old text.new) }
     ensures short { OnOk result (string_len text.new ≤ string_len text.old + HOUSE) }
 {
     match house {
@@ -155,7 +154,7 @@ fn push_house(text: &mut String, house: NamedHouse) -> Result<(), AllocError>
 
 /// Adds the name of a house, or those of a block and of a line that it meets.
 fn push_scope(text: &mut String, scope: VisitName) -> Result<(), AllocError>
-    ensures name { OnOk result (string_bytes text.new ≡ string_bytes text.old ++ scope_text scope) }
+    ensures name { OnOk result (Adds (scope_text scope) text.old text.new) }
     ensures short { OnOk result (string_len text.new ≤ string_len text.old + NAME) }
 {
     match scope {

@@ -60,6 +60,7 @@ impl Checked for TentsPuzzle {
 }
 
 impl Graded for TentsPuzzle {
+    #[tactic(auto, using(crate::proofs::GradeLemmas::accepted_by))]
     fn say_grade<O: Sink>(
         &self,
         alloc: Global,
@@ -68,12 +69,8 @@ impl Graded for TentsPuzzle {
     ) -> RunResult {
         let local = self.rules(alloc)?;
         let set = RuleSet::Local;
-        let attempt = Attempt {
-            alloc,
-            set,
-            options,
-        };
-        attempt.say_by(self, &local, output)
+        let attempt = Attempt { set, options };
+        attempt.say_by(alloc, self, &local, output)
     }
 }
 

@@ -1,6 +1,6 @@
 //! Puzzles that can be made, of a size and a seed's generator.
 ghost use Rattle.std.specs.Prelude.{◌≡◌, IfOk, IfErr};
-ghost use Rattle.commands.specs.Answers.{IsGridFor};
+ghost use Rattle.gameid_core.specs.PrintedForm.{IsGridIn};
 ghost use Rattle.commands.specs.Unmade.{IsMade, IsUnmade, unmade_by};
 ghost use Rattle.commands.specs.declared.generate.makable.Unmade.TheVariants as unmade;
 
@@ -46,9 +46,7 @@ impl From<MakeFault> for Unmade {
 pub trait Makable: Played {
     /// Makes a puzzle of the size that the text is, with its one solution.
     fn make(alloc: Global, size: &[u8], recipe: Recipe) -> Result<Made<Self>, Unmade>
-        ensures made { IfOk result (λ made. IsMade Self.game recipe size.now
-            (record { puzzle = made.puzzle; solution = made.answer; kept = made.kept.items })) }
-        ensures grid { IfOk result (λ made.
-            IsGridFor (Self.extent made.puzzle) (Self.value_count made.puzzle) made.answer) }
+        ensures made { IfOk result (IsMade Self.game recipe size.now) }
+        ensures grid { IfOk result (λ made. IsGridIn Self.Printed made.puzzle made.answer) }
         ensures unmade { IfErr result (IsUnmade Self.game recipe size.now) };
 }

@@ -1,7 +1,9 @@
 //! Grades: by rules that settle a puzzle, and by a search.
-ghost use Rattle.std.specs.Prelude.{◌≡◌, ◌↔◌, List, ℕ, true, IfOk};
+ghost use Rattle.std.specs.Prelude.{◌≡◌, true, IfOk};
 ghost use Rattle.commands.specs.Common.{needs_of, FitsIn, is_settled, Solves};
-ghost use Rattle.commands.specs.Grades.{HasOneSolution, IsRightGrade, listed_grade, only_set, searched_grade};
+ghost use Rattle.commands.specs.Grades.{HasOneSolution, IsRightGrade, searched_grade};
+ghost use Rattle.commands.specs.PuzzleFacts.{Accepts};
+ghost use Rattle.commands.specs.TracePieces.{IsGradeBy};
 
 use crate::grade::{Attempt, Grade};
 use crate::solve::solvable::Solvable;
@@ -40,6 +42,7 @@ fn searched<R: Searchable>(store: &mut Store<R>, rules: &R, budget: u64) -> Grad
 }
 
 /// The grade of a puzzle by a search with the rules of its game's searches.
+#[tactic(auto, using(crate::proofs::GradeLemmas::right_by))]
 fn search_grade<P: Solvable>(alloc: Global, puzzle: &P, budget: u64) -> Result<Grade, AllocError>
 where
     P::Search: Searchable,
@@ -56,6 +59,7 @@ impl Attempt {
     /// The grade of a puzzle by these rules, the last in the list, and else by a search.
     pub fn grade<P: Solvable, R: Searchable>(
         self,
+        alloc: Global,
         puzzle: &P,
         rules: &R,
         store: &mut Store<R>,
@@ -64,18 +68,16 @@ impl Attempt {
         P::Search: Searchable,
         requires means { (rules : P.Search) → P.Search.system rules ≡ P.meaning rules }
         requires fits { FitsIn (needs_of (R.system rules.now)) store.old.made }
-        requires accepted { (g : List ℕ)
-            → (Solves (R.system rules.now) g ↔ P.game.solves puzzle.now g) }
-        ensures grade { IfOk result (λ grade. grade ≡ listed_grade
-            (only_set self.set (R.system rules.now)) (P.game.rules puzzle.now)
-            self.options.budget) }
+        requires accepted { Accepts (R.system rules.now) (P.game.solves puzzle.now) }
+        ensures grade { IfOk result
+            (IsGradeBy self (R.system rules.now) (P.game.rules puzzle.now)) }
         ensures right { IfOk result (λ grade. IsRightGrade (P.game.solves puzzle.now) grade) }
         ensures made { store.new.made ≡ store.old.made }
     {
         if settles(store, rules) {
             Ok(Grade::ByRules(self.set))
         } else {
-            search_grade(self.alloc, puzzle, self.options.budget)
+            search_grade(alloc, puzzle, self.options.budget)
         }
     }
 }

@@ -1,5 +1,6 @@
 //! The names of what a closing visits.
-ghost use Rattle.std.specs.Prelude.{◌≡◌, ◌++◌, ◌+◌, ◌<◌, ◌≤◌, ℕ, OnOk, string_bytes, string_len};
+ghost use Rattle.std.specs.Prelude.{◌+◌, ◌<◌, ◌≤◌, ℕ, OnOk, string_len};
+ghost use Rattle.gameid_core.specs.Added.{Adds};
 
 use crate::played::Played;
 use std::alloc::AllocError;
@@ -16,8 +17,6 @@ pub trait Named: Played {
     /// Adds the name under the number, in the order of the puzzle's rule sets.
     fn push_name(&self, number: usize, text: &mut String) -> Result<(), AllocError>
         requires { number < named self.now }
-        ensures name { OnOk result
-            (string_bytes text.new
-            ≡ string_bytes text.old ++ Self.game.visit_name self.now number) }
+        ensures name { OnOk result (Adds (Self.game.visit_name self.now number) text.old text.new) }
         ensures short { OnOk result (string_len text.new ≤ string_len text.old + NAME) };
 }

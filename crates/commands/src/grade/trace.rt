@@ -1,5 +1,6 @@
 //! The lines of a trace: what a closing visited, or how many sweeps it made.
-ghost use Rattle.std.specs.Prelude.{◌≡◌, ◌++◌, ◌+◌, ◌<◌, ◌≤◌, ℕ, false, length, slice_index, OnErr, OnOk, IfErr, string_bytes, string_len};
+ghost use Rattle.std.specs.Prelude.{◌≡◌, ◌+◌, ◌<◌, ◌≤◌, ℕ, false, length, slice_index, OnErr, OnOk, IfErr, string_bytes, string_len};
+ghost use Rattle.gameid_core.specs.Added.{Adds};
 ghost use Rattle.commands.specs.Answers.{PutUpTo, PutBegun};
 ghost use Rattle.commands.specs.Stops.{is_broken};
 ghost use Rattle.commands.specs.TracePieces.{KeptOrPut, VisitsBegun, VisitsInPieces, VisitsPut};
@@ -19,20 +20,18 @@ const PIECE: usize = 4_096;
 const LINE: usize = 60;
 
 /// Adds the line of a visit to a text.
-fn push_visit<P: Named>(puzzle: &P, number: usize, text: &mut String) -> Result<(), AllocError>
-    requires { number < P.named puzzle.now }
-    ensures line { OnOk result
-        (string_bytes text.new
-        ≡ string_bytes text.old ++ line_of (P.game.visit_name puzzle.now number)) }
+fn push_visit<P: Named>(puzzle: &P, visit: usize, text: &mut String) -> Result<(), AllocError>
+    requires { visit < P.named puzzle.now }
+    ensures line { OnOk result (Adds (line_of (P.game.visit_name puzzle.now visit)) text.old text.new) }
     ensures short { OnOk result (string_len text.new ≤ string_len text.old + LINE) }
 {
-    puzzle.push_name(number, text)?;
+    puzzle.push_name(visit, text)?;
     text.push_str("\n")
 }
 
 /// Adds the line of a closing by sweeps to a text.
 pub fn push_sweeps(text: &mut String, sweeps: usize) -> Result<(), AllocError>
-    ensures { OnOk result (string_bytes text.new ≡ string_bytes text.old ++ sweeps_text sweeps) }
+    ensures { OnOk result (Adds (sweeps_text sweeps) text.old text.new) }
 {
     push_numbered(text, "sweeps ", sweeps)?;
     text.push_str("\n")

@@ -1,5 +1,6 @@
-use Rattle.commands.proofs.Common.{refl}
-use Rattle.commands.proofs.RunLemmas.{put_more, put_failed}
+use Rattle.commands.proofs.Common.{[], refl}
+use Rattle.commands.proofs.RunLemmas.{put_more}
+use Rattle.commands.proofs.PieceLemmas.{piece_begun}
 use Rattle.commands.proofs.ends.output.put_all.Goals as goal
 
 pub loop-rest-preserved : goal.loop-rest-preserved
@@ -7,4 +8,5 @@ loop-rest-preserved g c =
     (put_more g.met.O.Sink.takes_both c.in-Some.count _ refl c.loop-rest.invariant.0 c.in-Some.ensures.bytes, c.in-Some.ensures.failed)
 
 pub returns-in-None-clause-err : goal.returns-in-None-clause-err
-returns-in-None-clause-err g c = put_failed g.met.O.Sink.takes_both c.loop-rest.invariant.0 c.in-None.ensures.bytes
+returns-in-None-clause-err g c = piece_begun g.met.O.Sink.takes_both _ _ _
+    c.loop-rest.invariant.0 (record { done = []; took = c.in-None.ensures.bytes; begun = (_, refl) })
