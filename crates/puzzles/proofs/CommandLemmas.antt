@@ -1,11 +1,8 @@
 -- Commands with one more argument, and with one more command.
-use Rattle.std.proofs.Common.{Bor, Some, ap, ap₂, false, true, ◌≡◌, ◌∙◌}
+use Rattle.puzzles.proofs.Common.{App, Bor, IsApp, Rule, Some, Text, ap, app_of, ap₂, false, rule_of, true, with_rule, with_subcommand, ◌∙◌, ◌≡◌}
 use Rattle.clap.specs.Built.{AddsArg, AddsSubcommand}
-use Rattle.clap.specs.Simple.{App, app_of, with_rule, with_subcommand}
-use Rattle.clap.specs.Walk.{Rule, Text, rule_of}
 use Rattle.clap.specs.declared.builder.arg.Arg.{Arg}
 use Rattle.clap.specs.declared.builder.command.Command.{Command}
-use Rattle.puzzles.specs.CommandLine.{IsApp}
 
 pub with_arg : {app : App} {old new : Command} {a : Arg} {rule : Rule} → IsApp app old → AddsArg old a new
     → rule_of a ≡ rule → a.global ≡ false → IsApp (with_rule app rule) new

@@ -1,13 +1,11 @@
 -- From what parses ensure to what the words mean, and to the number of a text.
-use Rattle.std.proofs.Common.{◌≡◌, ◌∙◌, ap, refl, sym, true, List, [], ◌∷◌, Option, None, inl, inr, ◌<◌, ◌≤◌, ◌^◌, ◌⊎◌, ◌&&◌, ℕ, Bool, false, length, slice_index, Some, if◌then◌else◌, nat_lt, nat_le, lt-ltb, ltb-true, arith, subst}
+use Rattle.puzzles.proofs.Common.{App, Bool, HasMatchesOf, List, None, Option, Some, Text, [], ap, arith, false, if◌then◌else◌, inl, inr, is_number, is_simple, length, lt-ltb, ltb-true, nat_le, nat_lt, number_of, parsed, puzzles_app, refl, slice_index, subcommand_of, subcommand_rows_of, subst, sym, true, unless_fault, ℕ, ◌&&◌, ◌<◌, ◌^◌, ◌∙◌, ◌∷◌, ◌≡◌, ◌≤◌, ◌⊎◌}
 use Rattle.std.proofs.lemmas.Grind.{common_steps}
 use Rattle.std.specs.List.{list_all}
 use Rattle.std.specs.Char.{digit_value}
 use Rattle.std.specs.Str.Parse.{AllDigits, IsNumeral, digits_value, without_leading_plus}
 use Rattle.std.proofs.lemmas.Bool.{ne_eqb, le-leb, leb-true}
 use Rattle.std.proofs.lemmas.Bool.Decides.{leb_tells}
-use Rattle.clap.specs.Walk.{Text}
-use Rattle.clap.specs.Simple.{App, is_simple, subcommand_of, subcommand_rows_of, HasMatchesOf}
 use Rattle.clap.specs.Faults.{fault_of, is_simple_and_free}
 use Rattle.clap.specs.Kinds.{Kinds, HasKind, IsAmong}
 use Rattle.clap.specs.Values.{kind_of}
@@ -16,8 +14,6 @@ use Rattle.clap.specs.declared.error.kind.ErrorKind.{ErrorKind}
 use Rattle.clap.specs.declared.error.kind.ErrorKind.TheVariants.{OutOfMemory}
 use Rattle.clap.specs.declared.parser.matches.ArgMatches.{ArgMatches}
 use Rattle.clap.proofs.WalkLemmas.{both, first_value-rows}
-use Rattle.puzzles.specs.CommandLine.{parsed, puzzles_app, unless_fault}
-use Rattle.puzzles.specs.Requests.{is_number, number_of}
 
 simple_and_free : is_simple_and_free puzzles_app ≡ true
 simple_and_free = refl

@@ -1,5 +1,6 @@
 -- What the words ask for, and numbers in words.
 use Rattle.std.specs.Prelude.{◌&&◌, ℕ, Bool, List, Option, Some, None, if◌then◌else◌, nat_lt, nat_le, length, false, String, codes, map, option_and_then, option_map, string_bytes}
+use Rattle.std.specs.Borrow.{Bor}
 use Rattle.std.specs.List.{list_all}
 use Rattle.std.specs.Char.{digit_value}
 use Rattle.std.specs.Str.Parse.{digits_value}
@@ -8,6 +9,7 @@ use Rattle.std.specs.Option.{option_map_or}
 use Rattle.clap.specs.Walk.{Row, Text, first_of}
 use Rattle.gameid_core.specs.declared.id.game.Game.{Game}
 use Rattle.puzzles.specs.CommandLine.{parsed}
+use Rattle.commands.specs.Allowed.{reads_input}
 use Rattle.commands.specs.Asked.{Asked, solve, check, grade, generate}
 use Rattle.commands.specs.Games.{game_named, usual_black}
 use Rattle.puzzles.specs.declared.words.Request.{Request}
@@ -27,8 +29,12 @@ abbrev pub number_or : ℕ → ℕ → Option (List ℕ) → Option ℕ
 number_or otherwise most None = Some otherwise
 number_or otherwise most (Some text) = number_of most text
 
+-- a text in memory
+abbrev pub lent : Option (Bor (List ℕ)) → Option (List ℕ)
+lent text = option_map (λ s. s.now) text
+
 abbrev pub asked_in : Request → Asked
-asked_in (request.Solve task id) = solve task.game (option_map (λ s. s.now) id) task.budget
+asked_in (request.Solve task id) = solve task.game (lent id) task.budget
 asked_in (request.Check game id) = check game id.now
 asked_in (request.Grade game id options) = grade game id.now options.budget options.traced
 asked_in (request.Generate game size recipe) =
@@ -89,10 +95,17 @@ asked_by name rows = if bytes_eq name (codes "solve") then solve_in rows
     else (if bytes_eq name (codes "grade") then grade_in rows
     else (if bytes_eq name (codes "generate") then generate_in rows else None)))
 
+abbrev pub asked_by_rows : Option (Text × List Row) → Option Asked
+asked_by_rows found = option_and_then (λ p. asked_by p.0 p.1) found
+
 -- what the words ask for; None where they are refused
 unfoldable pub asked_of : List Text → Option Asked
-asked_of words = option_and_then (λ p. asked_by p.0 p.1) (parsed words)
+asked_of words = asked_by_rows (parsed words)
 
 -- the same of words in memory
 abbrev pub request_of : {Z : Type 0} → List (String Z) → Option Asked
 request_of words = asked_of (map string_bytes words)
+
+-- what the words ask for reads the input
+abbrev pub is_input_read : {Z : Type 0} → List (String Z) → Bool
+is_input_read words = reads_input (request_of words)

@@ -1,11 +1,10 @@
 //! One run of the program.
 ghost use Rattle.std.specs.Prelude.{◌≡◌, ◌<◌, ◌≤◌, true, false, IfErr, IfOk};
-ghost use Rattle.commands.specs.Answers.{BeginsAnswer, Delivers, answer_with};
-ghost use Rattle.commands.specs.Allowed.{Allows, reads_input};
-ghost use Rattle.commands.specs.Replies.{answer_in};
-ghost use Rattle.puzzles.specs.Requests.{request_of};
-ghost use Rattle.commands.specs.Runs.{AreNew, IsBroken, Ran, call_limit};
-ghost use Rattle.commands.specs.Stops.{LeavesEnds, LeavesSink, status_in};
+ghost use Rattle.commands.specs.Answers.{BeginsAnswer, answer_of};
+ghost use Rattle.commands.specs.Allowed.{Allows};
+ghost use Rattle.puzzles.specs.Requests.{is_input_read, request_of};
+ghost use Rattle.commands.specs.Runs.{AreNew, IsBroken, NoneFailed, Ran, call_limit};
+ghost use Rattle.commands.specs.Stops.{DeliversReply, LeavesEnds, LeavesSink, status_in};
 
 use crate::ends::read_end::ReadEnd;
 use crate::ends::write_end::WriteEnd;
@@ -20,8 +19,7 @@ use std::alloc::{AllocError, Global};
 /// Puts an answer that was made whole, if there was memory for it.
 fn put_reply<O: Sink>(reply: Result<Reply, AllocError>, output: &mut O) -> RunResult
     requires { O.has_failed output.old ≡ false }
-    ensures put { IfOk reply (λ r. Delivers O.takes output.old (answer_in r) output.new
-        (status_in result)) }
+    ensures put { IfOk reply (λ r. DeliversReply O.Sink r output.old output.new result) }
     ensures unmade { IfErr reply (λ _. (output.new ≡ output.old)
         × (status_in result ≡ NO_MEMORY)) }
     ensures left { LeavesSink O.Sink output.new result }
@@ -39,8 +37,7 @@ fn answer<I: Source, O: Sink>(
     requires { AreNew I.Source O.Sink input.old output.old }
     ensures ran { Ran I.Source O.Sink (Allows (request_of words.now))
         input.old input.new output.old output.new (status_in result) }
-    ensures left { LeavesEnds I.Source O.Sink (reads_input (request_of words.now))
-        input.new output.new result }
+    ensures left { LeavesEnds I.Source O.Sink (is_input_read words.now) input.new output.new result }
 {
     each_request_has_an_answer();
     let text = String::new(alloc);
@@ -79,14 +76,12 @@ pub fn run<I: Source, O: Sink>(alloc: Global, words: &[String], input: &mut I, o
     ensures ran { Ran I.Source O.Sink (Allows (request_of words.now))
         input.old input.new output.old output.new result }
     ensures status { result ≤ BROKEN }
-    ensures sound { result ≤ NO_MEMORY
-        → (I.has_failed input.new ≡ false) × (O.has_failed output.new ≡ false) }
+    ensures sound { result ≤ NO_MEMORY → NoneFailed I.Source O.Sink input.new output.new }
     ensures sent { result < NO_MEMORY → O.is_flushed output.new ≡ true }
     ensures broken { result ≡ BROKEN → IsBroken I.Source input.new (O.has_failed output.new) }
     ensures few { I.call_count input.new ≤ call_limit }
-    ensures unread { reads_input (request_of words.now) ≡ false → I.call_count input.new ≡ 0 }
-    ensures ended { reads_input (request_of words.now) ≡ true → result < NO_MEMORY
-        → I.has_ended input.new ≡ true }
+    ensures unread { is_input_read words.now ≡ false → I.call_count input.new ≡ 0 }
+    ensures ended { is_input_read words.now ≡ true → result < NO_MEMORY → I.has_ended input.new ≡ true }
 {
     match answer(alloc, words, input, output) {
         Ok(status) => status.code(),
@@ -97,7 +92,7 @@ pub fn run<I: Source, O: Sink>(alloc: Global, words: &[String], input: &mut I, o
 /// A run over bytes in memory: what it writes, and its status.
 pub fn run_on_bytes(alloc: Global, words: &[String], bytes: &[u8]) -> (Vec<u8>, u8)
     ensures whole { result.1 < NO_MEMORY
-        → Allows (request_of words.now) bytes.now (answer_with result.0.items result.1) }
+        → Allows (request_of words.now) bytes.now (answer_of result) }
     ensures begun { BeginsAnswer (Allows (request_of words.now) bytes.now) result.0.items }
 {
     let mut input = ReadEnd::new(bytes);

@@ -1,8 +1,8 @@
 //! What the words of a command line ask for.
 #![tactic(auto, using(crate::proofs::WordLemmas::word_laws))]
 
-ghost use Rattle.puzzles.specs.Requests.{number_of, number_or, asked_in, game_in, budget_in, solve_in, check_in, trace_in, grade_in, seed_in, tries_in, black_in, generate_in, asked_by, asked_of};
-ghost use Rattle.std.specs.Prelude.{◌≡◌, ◌≤◌, IfSome, IfOk, option_and_then, option_map, map, string_bytes};
+ghost use Rattle.puzzles.specs.Requests.{number_of, number_or, asked_in, game_in, budget_in, solve_in, check_in, trace_in, grade_in, seed_in, tries_in, black_in, generate_in, asked_by_rows, asked_of, lent};
+ghost use Rattle.std.specs.Prelude.{◌≡◌, ◌≤◌, IfSome, IfOk, option_map, map, string_bytes};
 ghost use Rattle.clap.specs.Walk.{first_of, rows_of};
 ghost use Rattle.clap.specs.Simple.{subcommand_rows_of};
 ghost use Rattle.clap.specs.Matches.{found_of};
@@ -67,7 +67,7 @@ fn number(text: &str, most: u64) -> Option<u64>
 /// The number of a text as `number` gives it, or another one where there is no text.
 fn number_or(text: Option<&str>, most: u64, otherwise: u64) -> Option<u64>
     requires { otherwise ≤ most }
-    ensures value { result ≡ number_or otherwise most (option_map (λ s. s.now) text.entry) }
+    ensures value { result ≡ number_or otherwise most (lent text.entry) }
     ensures within { IfSome result (λ n. n ≤ most) }
 {
     match text {
@@ -135,8 +135,7 @@ fn tries_from<'a>(matches: &ArgMatches<'a>) -> Option<u32>
 
 /// A percentage, or another where the words name none.
 fn percent_or(text: Option<&str>, otherwise: Percent) -> Option<Percent>
-    ensures { option_map (λ p. p.value) result
-        ≡ number_or otherwise.value 100 (option_map (λ s. s.now) text.entry) }
+    ensures { option_map (λ p. p.value) result ≡ number_or otherwise.value 100 (lent text.entry) }
 {
     let value = number_or(text, MOST_BLACK, u64::from(otherwise.value))? as u8;
     Some(Percent { value })
@@ -175,8 +174,7 @@ fn generate_request<'a>(matches: &ArgMatches<'a>) -> Option<Request<'a>>
 
 /// What the command and the words after it ask for.
 fn request_in<'a>(matches: &ArgMatches<'a>) -> Option<Request<'a>>
-    ensures { option_map asked_in result
-        ≡ option_and_then (λ p. asked_by p.0 p.1) (subcommand_rows_of matches.now) }
+    ensures { option_map asked_in result ≡ asked_by_rows (subcommand_rows_of matches.now) }
 {
     let (name, found) = matches.subcommand()?;
     match name {

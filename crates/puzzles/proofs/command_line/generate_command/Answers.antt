@@ -1,7 +1,4 @@
-use Rattle.std.proofs.Common.{codes}
-use Rattle.std.proofs.lemmas.Result.{IfOk-weaker}
-use Rattle.clap.specs.Simple.{new_app}
-use Rattle.puzzles.specs.CommandLine.{IsApp}
+use Rattle.puzzles.proofs.Common.{IfOk-weaker, IsApp, codes, new_app}
 use Rattle.puzzles.proofs.CommandLemmas.{local_too, long_is, required_is, with_arg}
 use Rattle.puzzles.proofs.command_line.generate_command.Goals as goal
 

@@ -1,7 +1,4 @@
-use Rattle.std.proofs.Common.{codes, rules}
-use Rattle.std.proofs.lemmas.Result.{IfOk-weaker}
-use Rattle.clap.specs.Simple.{new_app}
-use Rattle.puzzles.specs.CommandLine.{IsApp}
+use Rattle.puzzles.proofs.Common.{IfOk-weaker, IsApp, codes, new_app, rules}
 use Rattle.puzzles.proofs.CommandLemmas.{with_arg}
 use Rattle.puzzles.proofs.command_line.grade_command.Goals as goal
 

@@ -1,7 +1,4 @@
-use Rattle.std.proofs.Common.{◌≡◌, rules}
-use Rattle.std.proofs.lemmas.Result.{IfOk-weaker}
-use Rattle.clap.specs.Simple.{app_of}
-use Rattle.puzzles.specs.CommandLine.{bare_app}
+use Rattle.puzzles.proofs.Common.{IfOk-weaker, app_of, bare_app, rules, ◌≡◌}
 use Rattle.puzzles.proofs.CommandLemmas.{with_command}
 use Rattle.puzzles.proofs.command_line.puzzles_command.Goals as goal
 

@@ -1,10 +1,6 @@
-use Rattle.std.proofs.Common.{◌≡◌, ◌∙◌, None, Option, Some, ap, sym, subst, map, option_map, string_bytes}
-use Rattle.std.proofs.lemmas.Result.{IfOk-weaker}
-use Rattle.commands.specs.Allowed.{Allows}
+use Rattle.puzzles.proofs.Common.{Allows, IfOk-weaker, None, Option, Some, ap, asked_in, asked_of, is_late, map, option_map, ran_by_put, ran_by_telling, ran_unwritten, string_bytes, subst, sym, ◌∙◌, ◌≡◌}
 use Rattle.commands.specs.Asked.{Asked, generate, grade, solve}
 use Rattle.commands.specs.Replies.{answer_in}
-use Rattle.puzzles.specs.Requests.{asked_in, asked_of}
-use Rattle.commands.proofs.RunLemmas.{is_late, ran_by_put, ran_by_telling, ran_unwritten}
 use Rattle.puzzles.proofs.run.answer.Goals as goal
 
 pub returns-in_err-task-clause-ran : goal.returns-in_err-task-clause-ran

@@ -1,8 +1,5 @@
-use Rattle.std.proofs.Common.{rules, ◌≡◌, ◌∙◌, ◌++◌, List, [], ℕ, ap, map, string_bytes, subst, sym, Vec, Global}
-use Rattle.puzzles.specs.Requests.{asked_of}
+use Rattle.puzzles.proofs.Common.{Allows, Global, List, Vec, [], ap, asked_of, input_known, map, rules, string_bytes, subst, sym, ℕ, ◌++◌, ◌∙◌, ◌≡◌}
 use Rattle.commands.specs.Answers.{BeginsAnswer}
-use Rattle.commands.specs.Allowed.{Allows}
-use Rattle.commands.proofs.RunLemmas.{input_known}
 use Rattle.puzzles.proofs.run.run_on_bytes.Goals as goal
 
 pub returns-clause-begun : goal.returns-clause-begun
