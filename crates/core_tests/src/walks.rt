@@ -77,7 +77,8 @@ fn count(set: &[bool; VALUES]) -> usize {
     set.iter().filter(|there| **there).count()
 }
 
-fn has_empty_cell(sets: &Sets, cells: usize) -> bool {
+/// Whether one of the first cells, so many, has no value.
+pub(crate) fn has_empty_cell(sets: &Sets, cells: usize) -> bool {
     for cell in 0..cells.min(CELLS) {
         if count(&sets[cell]) == 0 {
             return true;

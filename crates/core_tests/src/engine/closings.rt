@@ -6,70 +6,17 @@ ghost use Rattle.engine_core.specs.RuleSystem.{FitsIn, needs_of};
 
 use super::neighbours::Neighbours;
 use super::swept::Swept;
+use crate::walks::{Plain, Sets, has_empty_cell};
 use engine_core::{Closing, Rules, Searchable, Sizes, Store};
 use grid_core::Board;
 use std::alloc::{AllocError, Global};
 use std::test::Fail;
 
+/// How many cells a row has.
 const CELLS: usize = 5;
 
-const VALUES: usize = 3;
-
-/// Whether each cell still has each value.
-type Plain = [[bool; VALUES]; CELLS];
-
-/// The start board of the row: all values, and the given ones alone at the ends.
-fn plain_start(values: u8, first: u8, last: u8) -> Plain {
-    let [values, first, last] = [values, first, last].map(usize::from);
-    let mut sets = [[false; VALUES]; CELLS];
-    for (cell, set) in sets.iter_mut().enumerate() {
-        for (value, there) in set.iter_mut().enumerate() {
-            let given = (cell != 0 || value == first) && (cell != CELLS - 1 || value == last);
-            *there = value < values && given;
-        }
-    }
-    sets
-}
-
-/// Whether the neighbour's set has another value.
-fn has_another(set: &[bool; VALUES], value: usize) -> bool {
-    set.iter()
-        .enumerate()
-        .any(|(other, there)| other != value && *there)
-}
-
-/// What one round leaves: all houses strike from the same board.
-fn plain_round(sets: &Plain) -> Plain {
-    let mut left = *sets;
-    for cell in 0..CELLS {
-        for value in 0..VALUES {
-            if cell > 0 && !has_another(&sets[cell - 1], value) {
-                left[cell][value] = false;
-            }
-            if cell + 1 < CELLS && !has_another(&sets[cell + 1], value) {
-                left[cell][value] = false;
-            }
-        }
-    }
-    left
-}
-
-/// As many rounds as the board can have values.
-fn plain_closure(sets: &Plain) -> Plain {
-    let mut left = *sets;
-    for _ in 0..CELLS * VALUES {
-        left = plain_round(&left);
-    }
-    left
-}
-
-/// Whether some cell has no value.
-fn is_dead(sets: &Plain) -> bool {
-    sets.iter().any(|set| set.iter().all(|there| !*there))
-}
-
 /// Whether the board is the plain one.
-fn agrees(board: &Board, plain: &Plain, values: u8) -> bool
+fn agrees(board: &Board, plain: &Sets, values: u8) -> bool
     requires cells { cells_of board.now ≡ 5 }
     requires values { board.now.values ≡ values }
     requires few { values ≤ 3 }
@@ -88,7 +35,7 @@ fn agrees(board: &Board, plain: &Plain, values: u8) -> bool
 fn closes_as<R: Searchable>(
     store: &mut Store<R>,
     rules: &R,
-    plain: &Plain,
+    plain: &Sets,
     values: u8,
     queue: bool,
 ) -> bool
@@ -106,14 +53,18 @@ fn closes_as<R: Searchable>(
         (sweeps, trace)
     };
     let left = dead || agrees(store.board(), plain, values);
-    dead == is_dead(plain) && left && steps >= 1 && steps <= rules.bound() && others == 0
+    dead == has_empty_cell(plain, CELLS)
+        && left
+        && steps >= 1
+        && steps <= rules.bound()
+        && others == 0
 }
 
 /// The same of a new store, and whether it settles the board.
 fn closes_anew<R: Searchable>(
     alloc: Global,
     rules: &R,
-    plain: &Plain,
+    plain: &Sets,
     values: u8,
     queue: bool,
 ) -> Result<(bool, bool), AllocError>
@@ -135,13 +86,8 @@ fn row_closes(
     if values < 1 || values > 3 || first >= values || last >= values {
         return Ok(None);
     }
-    let plain = plain_closure(&plain_start(values, first, last));
-    let row = Neighbours {
-        cells: CELLS,
-        values,
-        first,
-        last,
-    };
+    let row = Neighbours::of_five(values, first, last);
+    let plain = row.closure(&Plain::start(&row));
     let told = if queue {
         closes_anew(alloc, &row, &plain, values, true)?
     } else {
@@ -190,12 +136,7 @@ fn room<R: Searchable>(
 
 /// The same of a row of five cells and others of four, closed by a queue or by sweeps.
 fn room_of_rows(alloc: Global, queue: bool) -> Result<(Sizes, [bool; 2]), AllocError> {
-    let row = Neighbours {
-        cells: CELLS,
-        values: 3,
-        first: 0,
-        last: 0,
-    };
+    let row = Neighbours::of_five(3, 0, 0);
     let shorter = Neighbours {
         cells: 4,
         values: 3,
@@ -227,15 +168,10 @@ fn sizes_are_those_of_the_rules(rt: HostRuntime) -> Result<(), Fail> {
 /// A closing of the start board without a value of two of its cells: how it ended, whether the board is full then, and
 /// whether the middle cell has 0.
 fn closed_inside(alloc: Global) -> Result<(Closing, [bool; 2]), AllocError> {
-    let rules = Neighbours {
-        cells: CELLS,
-        values: 3,
-        first: 0,
-        last: 0,
-    };
+    let rules = Neighbours::of_five(3, 0, 0);
     let mut store = Store::new(alloc, &rules)?;
     let mut board = Board::new(alloc, CELLS, 3)?;
-    rules.start(&mut board);
+    Rules::start(&rules, &mut board);
     let _there = board.strike(1, 1);
     let _there = board.strike(3, 2);
     let closing = store.close_from(&rules, &board);

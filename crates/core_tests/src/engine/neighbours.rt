@@ -30,6 +30,24 @@ pub struct Neighbours {
     ghost last_in: { last < values },
 }
 
+impl Neighbours {
+    /// Five cells, with these values at the ends.
+    pub fn of_five(values: u8, first: u8, last: u8) -> Neighbours
+        requires few { values ≤ 31 }
+        requires first { first < values }
+        requires last { last < values }
+        ensures cells { result.cells ≡ 5 }
+        ensures values { result.values ≡ values }
+    {
+        Neighbours {
+            cells: 5,
+            values,
+            first,
+            last,
+        }
+    }
+}
+
 /// Whether a value below `values` other than `value` is in the set.
 fn has_other(set: u32, values: u8, value: u8) -> bool
     requires { values ≤ 31 }

@@ -82,12 +82,7 @@ fn both_give(
     if values < 1 || values > 3 || first >= values || last >= values {
         return Ok(None);
     }
-    let row = Neighbours {
-        cells: 5,
-        values,
-        first,
-        last,
-    };
+    let row = Neighbours::of_five(values, first, last);
     let queue = gives_anew(alloc, &row, budget, wanted)?;
     let sweeps = gives_anew(alloc, &Swept { row }, budget, wanted)?;
     Ok(Some([queue, sweeps]))
@@ -114,12 +109,7 @@ fn lent<R: Searchable>(store: &Store<R>) -> [bool; 4] {
 
 /// A store of a row of five cells with three values whose ends are 0, after searches with these budgets.
 fn searched(alloc: Global, budgets: &[u64]) -> Result<(Verdict, [bool; 4]), AllocError> {
-    let rules = Neighbours {
-        cells: 5,
-        values: 3,
-        first: 0,
-        last: 0,
-    };
+    let rules = Neighbours::of_five(3, 0, 0);
     let mut store = Store::new(alloc, &rules)?;
     let mut verdict = Verdict::None;
     for budget in budgets {
@@ -132,12 +122,7 @@ fn searched(alloc: Global, budgets: &[u64]) -> Result<(Verdict, [bool; 4]), Allo
 
 /// What a closing after a search leaves of it: the grids that are lent, and the trials, turns and most open trials.
 fn closed_after(alloc: Global) -> Result<([bool; 4], (u64, u128, usize)), AllocError> {
-    let rules = Neighbours {
-        cells: 5,
-        values: 3,
-        first: 0,
-        last: 0,
-    };
+    let rules = Neighbours::of_five(3, 0, 0);
     let mut store = Store::new(alloc, &rules)?;
     store.solve(&rules, 3);
     let _open = store.close(&rules);
@@ -176,12 +161,7 @@ fn finds_two(
     if !(1..=31).contains(&values) {
         return Ok(None);
     }
-    let rules = Neighbours {
-        cells: 5,
-        values,
-        first: 0,
-        last: 0,
-    };
+    let rules = Neighbours::of_five(values, 0, 0);
     let mut grid = Grid::new(alloc, 5)?;
     for place in 0..5 {
         if place < grid.len() {
