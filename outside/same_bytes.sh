@@ -34,9 +34,8 @@ commit_of() {
     git -C "$1" rev-parse HEAD || stop "no clone: $1"
 }
 
-# Clones this repository to a path, and proves and builds the program there.
+# Proves and builds the program in a clone.
 build() {
-    git clone --quiet "$top" "$1" || stop "can't clone to $1"
     echo "building $1: minutes, and its notes in $1.log" >&2
     cd "$1/crates/puzzles" || stop "no crate of the program in $1"
     timeout --foreground "${build_hours}h" rt run -- solve pattern 5x1:1/1//1/1/2.2 > /dev/null 2> "$1.log" ||
@@ -54,6 +53,10 @@ if [ $# -eq 0 ]; then
     trap 'exit 130' INT TERM
     set -- "$folder/one" "$folder/another/with-a-longer-path"
     mkdir "$folder/another"
+    # both before the first is built, so that they are of one commit
+    for clone in "$1" "$2"; do
+        git clone --quiet "$top" "$clone" || stop "can't clone to $clone"
+    done
     build "$1"
     build "$2"
 fi
