@@ -15,8 +15,7 @@ use Rattle.pattern_core.specs.Faults.{FailsPattern, pattern_tests}
 use Rattle.solo_core.specs.Faults.{FailsSolo, given_tests, house_tests}
 use Rattle.pattern_core.proofs.FaultLemmas.{pattern_known, pattern_none, pattern_sound}
 use Rattle.solo_core.proofs.RepeatLemmas.{solo_known, solo_none, solo_sound}
-use Rattle.commands.proofs.PrintedGrids.{IsCellText, ReadsCells, grid_is_text, grid_read, light_cell_text, light_in, light_reads, pattern_cell_text, pattern_reads, plain_kept, printed_read, solo_cell_text, solo_in, solo_reads, symbol_in, tents_cell_text, tents_in, tents_reads}
-use Rattle.commands.proofs.Readings.{AreSame}
+use Rattle.commands.proofs.Readings.{AreSame, IsCellText, ReadsCells, grid_is_text, grid_read, light_cell_text, light_in, light_reads, pattern_cell_text, pattern_reads, plain_kept, printed_read, solo_cell_text, solo_in, solo_reads, symbol_in, tents_cell_text, tents_in, tents_reads}
 
 -- so it is, or not
 abbrev pub Decided : Type 0 → Type 0

@@ -14,18 +14,18 @@ pub use Rattle.std.proofs.lemmas.Result.{IfOk-weaker, on_err_weaker, on_ok_weake
 pub use Rattle.std.specs.List.{All, AllByRecursion, slice_get, slice_split}
 pub use Rattle.std.specs.Prelude.{IfSome, is_ok, nat_le, option_map, ◌↔◌}
 pub use Rattle.std.specs.Str.Lines.{lines, lines_of_parts, strip_carriage_return}
-pub use Rattle.grid_core.proofs.CandidateLemmas.{any_below-none, any_below-some, count_below-one, least_below-passes, within_inside}
+pub use Rattle.grid_core.proofs.BoardLemmas.{any_below-none, any_below-some, count_below-one, least_below-passes, within_inside}
 pub use Rattle.grid_core.specs.Candidates.{Candidates, IsWithin}
 unfoldable pub use Rattle.grid_core.specs.Candidates.{all_below, any_below, is_dead, is_full, total}
 pub use Rattle.gameid_core.proofs.HeadLaws.{puzzle_too_long, size_take}
 pub use Rattle.gameid_core.proofs.LightTexts.{light_reading}
-pub use Rattle.gameid_core.proofs.LightWritten.{light_is_written}
+pub use Rattle.gameid_core.proofs.LightTexts.{light_is_written}
 pub use Rattle.gameid_core.proofs.PatternTexts.{pattern_reading}
 pub use Rattle.gameid_core.proofs.PatternWritten.{pattern_is_written}
-pub use Rattle.gameid_core.proofs.PrintedCells.{number_fits}
+pub use Rattle.gameid_core.proofs.PrintedGrids.{number_fits}
 pub use Rattle.gameid_core.proofs.PrintedGrids.{begins_with_form, is_shown}
 pub use Rattle.gameid_core.proofs.Reading.{bind_ok, chosen, ok_is, reading_of, taken}
-pub use Rattle.gameid_core.proofs.SoloCanon.{solo_is_written}
+pub use Rattle.gameid_core.proofs.SoloTexts.{solo_is_written}
 pub use Rattle.gameid_core.proofs.SoloTexts.{solo_reading}
 pub use Rattle.gameid_core.proofs.TentsTexts.{tents_reading}
 pub use Rattle.gameid_core.proofs.TentsWritten.{tents_is_written}
@@ -42,7 +42,7 @@ unfoldable pub use Rattle.engine_core.specs.Verdict.{outcome, spent, trials_in}
 pub use Rattle.engine_core.specs.Walk.{Found, Mark.Found, Mark.Trial}
 unfoldable pub use Rattle.engine_core.specs.Walk.{at_cell, branch_at, branches, walk_closed}
 pub use Rattle.fields_core.specs.Light.{is_white}
-pub use Rattle.maker_core.proofs.BlackCells.{black_cells-grid}
+pub use Rattle.maker_core.proofs.PatternMakings.{black_cells-grid}
 pub use Rattle.maker_core.proofs.Common.{All-from_get_or, AreReasons, CluedGame, HasWords, IsAsked, IsGame, IsLeft, IsLineOrder, IsLit, IsOnly, IsPermutation}
 pub use Rattle.maker_core.proofs.Common.{IsPermutation-refl, IsThinnedFrom, IsThinning, IsTrueOf, Stream, TellsOne, bulbs_beside, clue_places}
 pub use Rattle.maker_core.proofs.Common.{count_by-le-length, first_grid, flipped_by_draw, houses_lawful, is_some, length-filter, length-map-range_with_len}

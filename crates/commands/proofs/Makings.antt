@@ -1,21 +1,17 @@
 -- What makings rest on: each has an answer, and two answers to one differ only in which clues are left.
-use Rattle.commands.proofs.LightFillings.{light_thinned}
-use Rattle.commands.proofs.SearchedPuzzles.{tents_searched}
-use Rattle.commands.proofs.SoloFillings.{solo_missing, solo_thinned}
+use Rattle.commands.proofs.Fillings.{light_thinned, solo_missing, solo_thinned}
+use Rattle.commands.proofs.SearchedPuzzles.{first_once, first_or_none, has_one, tents_searched}
 use Rattle.commands.proofs.Common.{AllowsMade, AllowsOfSize, Answer, Bool, DifferInClues, Err, Extent, Game, HandOutAlike, HasOneAnswer, HasWords, IsExtent, IsFirstPassing, IsGrid, IsHandedOut, IsSoloSize, IsTents, IsWide, Light, List, MadePuzzle, Making, None, NonePasses, Ok, Option, PuzzleFacts, SameLight, SameSolo, SizeRange, SizeRead, Some, Text, Wanted, [], all_given, and_parts, ap, arith, bind_ok, black_cells-grid, cases_eq, chosen, common_steps, exhausted_answer, extent_of, false, filling_at, game_of, handed_out, if◌then◌else◌, in_range, inl, inr, is_solution-from, is_solution-is, leb-true, light_facts, light_filling, light_is_game, light_is_written, light_passes, light_puzzle_of, line_rules-lawful, nat_le, ok_is, pattern_facts, pattern_is_written, puzzle_of, refl, size_of, size_take, solo_facts, solo_filling, solo_is_game, solo_is_written, solo_passes, stream_after, subst, suc, sym, taken, tents_facts, tents_is_written, tents_sizes, true, true≢false, zero, ℕ, ◌&&◌, ◌*◌, ◌↔◌, ◌∙◌, ◌≡◌, ◌≢◌, ◌≤◌}
 use Rattle.fields_core.proofs.TentRuleLemmas as tents
-use Rattle.gameid_core.proofs.OnesFit.{ones_lawful}
-use Rattle.gameid_core.proofs.RunsFit.{runs_lawful}
+use Rattle.gameid_core.proofs.LineLaws.{ones_lawful, runs_lawful}
 use Rattle.gameid_core.specs.Lines.{lines_ones, lines_runs}
 use Rattle.gameid_core.specs.declared.id.game.Game.TheVariants as game
-use Rattle.maker_core.proofs.OnlySolutions.{one_is}
+use Rattle.maker_core.proofs.FirstTries.{one_is}
 use Rattle.maker_core.proofs.PatternMakings.{pattern_solved}
-use Rattle.maker_core.proofs.TentMakings.{tents_size}
-use Rattle.maker_core.proofs.TentsFilled.{filling_at_solves}
+use Rattle.maker_core.proofs.TentsSolved.{filling_at_solves, tents_size}
 use Rattle.maker_core.specs.PatternMaking.{clued_by, pattern_filling, pattern_passes}
 use Rattle.maker_core.specs.TentFilling.{tent_filling, tents_pass, tents_puzzle_of}
 use Rattle.commands.proofs.Readings.{both_answers, id_some, one_of_same, size_reading}
-use Rattle.commands.proofs.MadeOnce.{first_once, first_or_none, has_one}
 
 module _ {P : Type 0} {play : PuzzleFacts P} {alike : P → P → Type 0} where
   -- answers that are the same differ in no clue, where nothing is handed out

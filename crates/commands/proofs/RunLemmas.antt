@@ -1,12 +1,77 @@
--- Runs that deliver one answer, and those that end before their answers are whole.
-use Rattle.commands.proofs.Common.{Answer, BeginsAnswer, BeginsIfAny, Bool, Delivers, Err, HasAnswers, IfErr, IfOk, IsInput, List, Ok, PutUpTo, Ran, RanIfAny, Reply, Result, Text, Wrote, [], answer_in, ap, append-nil, append_assoc, arith, common_steps, drop, false, inl, inr, length, refl, status_in, status_of, subst, sym, take, take-append-drop, true, true≢false, ℕ, ◌++◌, ◌-◌, ◌∙◌, ◌≡◌, ◌≤◌, ◌⊎◌}
+-- Runs: lines that are kept, answers that are delivered, and texts put in pieces.
+use Rattle.commands.proofs.Common.{Answer, Begins, BeginsAnswer, BeginsIfAny, Bool, Delivers, Err, HasAnswers, IfErr, IfOk, IfSome, IsInput, IsLine, KeptOrPut, List, None, Ok, Option, PutBegun, PutInPieces, PutUpTo, Ran, RanIfAny, Reply, Result, Some, TakesPieces, Text, Wrote, [], add-one, answer_in, ap, append-nil, append_assoc, arith, begins_with_line_end, cases_lt, common_steps, drop, each_below, false, if◌then◌else◌, inl, inr, joined, length, length-take-le, max_id, ne_eqb, refl, status_in, status_of, strip_carriage_return, subst, suc, sym, take, take-append-drop, take_all, true, true≢false, without_returns, zero, ℕ, ◌&&◌, ◌++◌, ◌+◌, ◌-◌, ◌<◌, ◌==◌, ◌∙◌, ◌∷◌, ◌≡◌, ◌≤◌, ◌⊎◌}
+use Rattle.std.specs.Borrow.{Bor}
 use Rattle.std.specs.Result.{IsErr, IsErrAnd}
 use Rattle.commands.specs.declared.answers.status.Status.{Status}
 use Rattle.commands.specs.declared.answers.status.Stop.{Stop}
-use Rattle.commands.specs.declared.answers.status.Stop.TheVariants.{Memory, Broken}
+use Rattle.commands.specs.declared.answers.status.Stop.TheVariants.{Broken, Memory}
 use Rattle.commands.specs.declared.ends.Sink as sinks
 use Rattle.commands.specs.declared.ends.Source as sources
 
+-- The bytes of a line that are kept, and a text that is copied without its returns: what is copied, and the rest without
+-- its returns, is always the whole without them.
+-- ---- a line of which so many bytes at most are kept
+module _ (most b : ℕ) {kept : List ℕ} (piece : List ℕ) (holds : kept ≡ take most piece) where
+  -- a byte that is kept, and one that is not
+  pub holds_kept : length kept < most → kept ++ b ∷ [] ≡ take most (piece ++ b ∷ [])
+  holds_kept room = grind (arith, common_steps)
+
+  pub holds_more : most ≤ length kept → kept ≡ take most (piece ++ b ∷ [])
+  holds_more full = grind (arith, common_steps)
+
+pub line_empty : {most : ℕ} → 0 < most → {kept : List ℕ} (piece : List ℕ) → kept ≡ take most piece → (length kept == 0) ≡ (length piece == 0)
+line_empty {most} some {kept} piece holds = grind (arith, common_steps, cases_lt, length-take-le, ne_eqb)
+
+pub strip_length : (l : List ℕ) → length l ≤ length (strip_carriage_return l) + 1
+strip_length l = grind (arith, common_steps, common_steps)
+
+-- what is told of such a line at its end, as it stands or without a return
+pub line_told : (f : List ℕ → List ℕ) → ((l : List ℕ) → length l ≤ length (f l) + 1)
+    → (line : Option (Bor (List ℕ))) {kept : List ℕ} (piece : List ℕ)
+    → kept ≡ take (max_id + 2) piece → IsLine line (f kept) → IfSome line (λ l. length l.now ≤ max_id) → IsLine line (f piece)
+line_told f less line {kept} piece holds told within = elim (cases_lt _ _) [
+  | inl long ↦ by line long told within (omega (arith, less kept, ap length holds, length-take-le (max_id + 2) piece (omega arith)))
+  | inr all ↦ subst (λ l. IsLine line (f l)) (holds ∙ take_all (max_id + 2) piece all) told
+]
+  where
+    by : (line : Option (Bor (List ℕ))) → max_id + 2 < length piece → IsLine line (f kept)
+        → IfSome line (λ l. length l.now ≤ max_id) → max_id < length (f kept) → IsLine line (f piece)
+    by None long told within over = omega (arith, less piece)
+    by (Some l) long told within over =
+        let few = within in
+        let same = told in
+        absurd (omega (arith, ap length same))
+
+-- ---- a text without its returns
+choice : {b : Bool} (byte : ℕ) (more : Text) → (byte == 13) && begins_with_line_end more ≡ b
+    → without_returns (byte ∷ more) ≡ (if b then without_returns more else byte ∷ without_returns more)
+unfolding without_returns
+choice byte more e = grind (arith, common_steps)
+
+pub byte_kept : (kept : Text) {new rest : Text} (more whole : Text) (byte : ℕ) {drops : Bool}
+    → kept ++ without_returns rest ≡ without_returns whole → rest ≡ byte ∷ more
+    → drops ≡ ((byte == 13) && begins_with_line_end more) → drops ≡ false → new ≡ kept ++ (byte ∷ [])
+    → new ++ without_returns more ≡ without_returns whole
+byte_kept kept more whole byte so_far is means no_drop copied =
+    ap (λ t. t ++ without_returns more) copied ∙ append_assoc kept (byte ∷ []) (without_returns more)
+    ∙ ap (λ t. kept ++ t) (sym (choice byte more (sym means ∙ no_drop))) ∙ ap (λ t. kept ++ without_returns t) (sym is) ∙ so_far
+
+pub byte_dropped : (kept : Text) {rest more : Text} (whole : Text) {byte : ℕ} {drops : Bool}
+    → kept ++ without_returns rest ≡ without_returns whole → rest ≡ byte ∷ more
+    → drops ≡ ((byte == 13) && begins_with_line_end more) → drops ≡ true
+    → kept ++ without_returns more ≡ without_returns whole
+byte_dropped kept {rest} {more} whole {byte} so_far is means drop =
+    ap (λ t. kept ++ t) (sym (choice byte more (sym means ∙ drop))) ∙ ap (λ t. kept ++ without_returns t) (sym is) ∙ so_far
+
+pub all_copied : (kept rest whole : Text) → kept ++ without_returns rest ≡ without_returns whole → length rest ≡ 0 → kept ≡ without_returns whole
+unfolding without_returns
+all_copied kept [] whole so_far end = sym (append-nil kept) ∙ so_far
+all_copied kept (x ∷ rest) whole so_far end = absurd (omega arith)
+
+-- what the copying of a text cites
+pub ruleset copy_laws = (byte_kept, byte_dropped, all_copied)
+
+-- Runs that deliver one answer, and those that end before their answers are whole.
 -- a stop is no whole answer
 late : (stop : Stop) → 5 ≤ status_of stop
 late Memory = omega arith
@@ -165,3 +230,98 @@ input_known false was bytes start read left same fresh g = (left, sym same ∙ g
 
 -- what a check that ends early cites
 pub ruleset unwritten_laws = (ran_if_any_unwritten, is_late)
+
+-- A text that is put piece by piece: what was put and what is left of it are the text so far.
+-- a text begins itself
+begins_itself : {text other : Text} → other ≡ text → Begins text other
+begins_itself {text} e = ([], e ∙ sym (append-nil text))
+
+-- the first texts begin all of them
+each_begins : (f : ℕ → Text) (i n : ℕ) → i ≤ n → Begins (each_below f i) (each_below f n)
+unfolding each_below
+each_begins f i zero le = let e : zero ≡ i = omega arith in begins_itself (ap (each_below f) e)
+each_begins f i (suc n) le = elim (cases_lt i (suc n)) [
+  | inl lt ↦ let h = each_begins f i n (omega arith) in (h.0 ++ f n, ap (λ t. t ++ f n) h.1 ∙ append_assoc _ h.0 (f n))
+  | inr ge ↦ let e : suc n ≡ i = omega arith in begins_itself (ap (each_below f) e)
+]
+
+-- one more line is in the text, after what was put of it
+line_split : (text done held : Text) {longer line : Text} (f : ℕ → Text) (i : ℕ) → text ++ each_below f i ≡ done ++ held → longer ≡ held ++ line → line ≡ f i
+    → text ++ each_below f (i + 1) ≡ done ++ longer
+unfolding each_below
+line_split text done held f i same is equal = grind (arith, common_steps, add-one, append_assoc)
+
+module _ {S : Type 0} {takes : S → Text → S → Type 0} where
+  -- before the first line
+  pub no_line : (s : S) → takes s [] s → (text : Text) (f : ℕ → Text) → PutUpTo takes s (text ++ each_below f 0) text s
+  unfolding each_below
+  no_line s nothing text f = record { done = []; took = nothing; split = append-nil text }
+
+  -- one more line is in the text, and nothing more was put
+  pub line_added : {s t : S} (text : Text) {held longer line : Text} (f : ℕ → Text) (i : ℕ) → PutUpTo takes s (text ++ each_below f i) held t
+      → longer ≡ held ++ line → line ≡ f i → PutUpTo takes s (text ++ each_below f (i + 1)) longer t
+  line_added text {held} f i put more is = grind (arith, common_steps, line_split)
+
+  -- what was held was put up to a rest
+  pub piece_put : TakesBoth takes → (s t u : S) {text held : Text} (rest : Text) → PutUpTo takes s text held t → PutUpTo takes t held rest u → PutUpTo takes s text rest u
+  piece_put both s t u rest put more = record {
+    done = put.done ++ more.done;
+    took = both s t u put.done more.done put.took more.took;
+    split = put.split ∙ ap (λ l. put.done ++ l) more.split ∙ sym (append_assoc put.done more.done rest);
+  }
+
+  -- what was held was begun
+  pub piece_begun : TakesBoth takes → (s t u : S) {text held : Text} → PutUpTo takes s text held t → PutBegun takes t held u → PutBegun takes s text u
+  piece_begun both s t u put more = record {
+    done = put.done ++ more.done;
+    took = both s t u put.done more.done put.took more.took;
+    begun = (more.begun.0, put.split ∙ ap (λ l. put.done ++ l) more.begun.1 ∙ sym (append_assoc put.done more.done more.begun.0));
+  }
+
+-- what was put of a text begins it
+pub put_begins : {S : Type 0} {takes : S → Text → S → Type 0} {s t : S} (text held : Text) → PutUpTo takes s text held t → PutBegun takes s text t
+put_begins text held put = record { done = put.done; took = put.took; begun = (held, put.split) }
+
+-- a beginning of the text with the first lines begins the text with all of them
+pub lines_begun : {S : Type 0} {takes : S → Text → S → Type 0} {s t : S} (text : Text)
+    (f : ℕ → Text) (i n : ℕ) → i ≤ n → PutBegun takes s (text ++ each_below f i) t
+    → PutBegun takes s (text ++ each_below f n) t
+lines_begun text f i n le begun =
+    let h = each_begins f i n le in
+    record {
+      done = begun.done;
+      took = begun.took;
+      begun = (
+        begun.begun.0 ++ h.0,
+        ap (λ l. text ++ l) h.1 ∙ sym (append_assoc text _ h.0) ∙ ap (λ l. l ++ h.0) begun.begun.1
+            ∙ append_assoc begun.done begun.begun.0 h.0,
+      );
+    }
+
+module _ {S : Type 0} {takes : S → Text → S → Type 0} {most : ℕ} where
+  -- before the first line
+  pub no_pieces : {s : S} (text : Text) (f : ℕ → Text) → PutInPieces takes most s (text ++ each_below f 0) text s
+  unfolding each_below
+  no_pieces text f = record { pieces = []; took = refl; split = append-nil text }
+
+  -- one more line is in the text, and no piece more was put
+  pub line_held : {s t : S} (text : Text) {held longer line : Text} (f : ℕ → Text) (i : ℕ) → PutInPieces takes most s (text ++ each_below f i) held t
+      → longer ≡ held ++ line → line ≡ f i → PutInPieces takes most s (text ++ each_below f (i + 1)) longer t
+  line_held text {held} {longer} {line} f i put more is = grind (arith, common_steps, line_split, joined)
+
+  -- what was held was kept, or is one piece more
+  pub next_piece : (s t u : S) {text : Text} (held : Text) {rest : Text}
+      → PutInPieces takes most s text held t → length held < most → KeptOrPut takes t held rest u
+      → PutInPieces takes most s text rest u
+  next_piece s t u held put short next = elim next [
+    | inl kept ↦ record {
+      pieces = put.pieces;
+      took = subst (λ v. TakesPieces takes most s put.pieces v) (sym kept.1) put.took;
+      split = put.split ∙ ap (λ l. joined put.pieces ++ l) (sym kept.0);
+    }
+    | inr all ↦ record {
+      pieces = held ∷ put.pieces;
+      took = (t, put.took, all.1, short);
+      split = put.split ∙ sym (append-nil (joined put.pieces ++ held)) ∙ ap (λ l. (joined put.pieces ++ held) ++ l) (sym all.0);
+    }
+  ]

@@ -1,12 +1,58 @@
--- What the searches rest on, for a puzzle of each game, and what follows for their verdicts.
-use Rattle.commands.proofs.Common.{Bool, HasOneAnswer, HasOneSolution, IsLawful, IsLight, IsLightSolution, IsPattern, IsPatternSolution, IsRight, IsSolo, IsSoloSolution, IsSolved, IsTentSolution, IsTents, IsTrueOf, Light, List, Mark, Mark.Found, Mark.Trial, None, Option, Outcome, Outcome.GaveUp, Outcome.NoSolution, Outcome.OneSolution, Outcome.SeveralSolutions, Pattern, PuzzleFacts, RuleSystem, Solo, Solves, Some, Tents, [], arith, common_steps, crossings_rules, houses_lawful, houses_rules, is_solution-from, is_solution-is, light_rules, line_rules, line_rules-lawful, outcome, outcome-true, printed_by, refl, rule_from_test, rules_of, singles_rules, suc, sym, tent_rules, test_from_rule, trials_in, verdict_answer, verdict_of, walk, zero, ℕ, ◌↔◌, ◌∷◌, ◌≡◌, ◌≤◌}
+-- What searches rest on and find, for a puzzle of each game.
+use Rattle.commands.proofs.Common.{Bool, HasOne, HasOneAnswer, HasOneSolution, HasWords, IsFirstPassing, IsLawful, IsLight, IsLightSolution, IsPattern, IsPatternSolution, IsRight, IsSolo, IsSoloSolution, IsSolved, IsTentSolution, IsTents, IsTrueOf, Light, List, Making, Mark, Mark.Found, Mark.Trial, None, NonePasses, Option, Outcome, Outcome.GaveUp, Outcome.NoSolution, Outcome.OneSolution, Outcome.SeveralSolutions, Pattern, PuzzleFacts, RuleSystem, Solo, Solves, Some, Stream, Tents, [], arith, cases_Bool, cases_eq, cases_lt, common_steps, crossings_rules, false, filling_at, houses_lawful, houses_rules, inl, inr, is_one, is_solution-from, is_solution-is, light_rules, line_rules, line_rules-lawful, outcome, outcome-true, printed_by, refl, rule_from_test, rules_of, singles_rules, subst, suc, sym, tent_rules, test_from_rule, trials_in, true, true≢false, verdict_answer, verdict_of, walk, zero, ℕ, ◌<◌, ◌^◌, ◌↔◌, ◌∷◌, ◌≡◌, ◌≤◌, ◌⊎◌}
+use Rattle.std.proofs.lemmas.Nat.{mod_below}
+use Rattle.rand_core.specs.Steps.{stream_of}
+use Rattle.rand_chacha.specs.Block.{block_word}
+use Rattle.rand_chacha.specs.ChaCha.{ChaCha, next_word}
+use Rattle.commands.specs.Seeds.{seed_stream}
 use Rattle.solo_core.specs.RuleLaws.{crossings_lawful, singles_lawful}
 use Rattle.engine_core.specs.HouseRules.{House}
-use Rattle.fields_core.proofs.LightCounting.{light-lawful}
+use Rattle.fields_core.proofs.LightRuleLemmas.{light-lawful}
 use Rattle.fields_core.proofs.LightRuleLemmas as light
 use Rattle.fields_core.proofs.TentCounting.{tent-lawful}
 use Rattle.fields_core.proofs.TentRuleLemmas as tents
 
+-- The words of a seed, the first filling that passes, and what a search finds.
+block_below : (n : ℕ) (key : List ℕ) (counter nonce k : ℕ) → block_word n key counter nonce k < 2 ^ 32
+unfolding block_word
+block_below n key counter nonce k = mod_below _ (2 ^ 32) (omega arith)
+
+step_below : (n : ℕ) (g : ChaCha) → (next_word n g).0 < 2 ^ 32
+step_below n g = block_below n g.key _ g.stream _
+
+pub seed_words : (seed : ℕ) → HasWords (seed_stream seed)
+unfolding stream_of
+seed_words seed = grind (arith, common_steps, step_below)
+
+-- ---- the first filling that passes
+module _ {A : Type 0} (make : Making A) (passes : A → Bool) (s : Stream) where
+  pub first_or_none : (tries : ℕ) → ((k : ℕ) × IsFirstPassing make passes s tries k) ⊎ NonePasses make passes s tries
+  first_or_none zero = inr (record { failing = λ j lt. absurd (omega arith) })
+  first_or_none (suc n) = elim (first_or_none n) [
+    | inl first ↦ inl (first.0, record { within = omega arith; passing = first.1.passing; failing = first.1.failing })
+    | inr none ↦ elim (cases_Bool (passes (filling_at make n s))) [
+      | inl is ↦ inl (n, record { within = omega arith; passing = is; failing = none.failing })
+      | inr is ↦ inr (record {
+        failing = λ j lt. elim (cases_eq j n) [
+          | inl e ↦ subst (λ i. passes (filling_at make i s) ≡ false) (sym e) is
+          | inr ne ↦ none.failing j (omega arith)
+        ];
+      })
+    ]
+  ]
+
+  pub first_once : {tries j k : ℕ} → IsFirstPassing make passes s tries j → IsFirstPassing make passes s tries k → j ≡ k
+  first_once {tries} {j} {k} a b = grind (arith, common_steps, cases_lt)
+
+-- ---- what a search finds
+one_found : (o : Outcome) → is_one o ≡ true → (g : List ℕ) × (o ≡ OneSolution g)
+one_found (OneSolution g) e = (g, refl)
+one_found o e = absurd (true≢false (sym e))
+
+pub has_one : (rules : RuleSystem) → IsLawful rules → (budget : ℕ) → is_one (verdict_of rules budget) ≡ true → HasOne rules budget
+has_one rules laws budget one = grind (arith, common_steps, one_found, outcome-true)
+
+-- What the searches rest on, for a puzzle of each game, and what follows for their verdicts.
 -- what is true of the grids that the rules accept is right of the solutions, where these are the same
 pub right_of : {p : RuleSystem} (solves : List ℕ → Type 0) (o : Outcome) → ((g : List ℕ) → Solves p g ↔ solves g) → IsTrueOf p o → IsRight solves o
 right_of solves NoSolution same h = λ g s. h g ((same g).1 s)

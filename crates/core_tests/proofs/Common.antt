@@ -6,7 +6,7 @@ pub use Rattle.std.proofs.lemmas.Bool.{ltb-true, not_from_false, or_left, trueâ‰
 pub use Rattle.std.proofs.lemmas.Grind.{common_steps}
 pub use Rattle.std.proofs.lemmas.List.FromFn.{get_or-map-range_with_len, length-map-range_with_len}
 pub use Rattle.std.specs.List.{range_with_len}
-pub use Rattle.grid_core.proofs.CandidateLemmas.{all_below-from, any_below-here, any_below-none, any_below-some}
+pub use Rattle.grid_core.proofs.BoardLemmas.{all_below-from, any_below-here, any_below-none, any_below-some}
 pub use Rattle.grid_core.specs.Board.{SameShape}
 unfoldable pub use Rattle.grid_core.specs.Board.{has}
 pub use Rattle.grid_core.specs.Candidates.{Candidates}

@@ -4,7 +4,7 @@ use Rattle.std.proofs.lemmas.Bool.{and_parts, and_from, or_left, or_right, eqb-t
 use Rattle.std.proofs.Math.Nat.{mul-le-mul_left}
 use Rattle.grid_core.specs.Candidates.{IsInside, all_of, only, single, sum_below, count_below}
 use Rattle.grid_core.specs.Grids.{IsGrid}
-use Rattle.grid_core.proofs.CandidateLemmas.{all_below-at, count_below-few, count_below-or}
+use Rattle.grid_core.proofs.BoardLemmas.{all_below-at, count_below-few, count_below-or}
 use Rattle.grid_core.proofs.GridLemmas.{all-within, only-has, only-inside, single-all}
 use Rattle.engine_core.specs.RuleSystem.{IsLawful, after, has_place, share}
 use Rattle.engine_core.specs.PlaceLaws.{has_place-here}

@@ -1,12 +1,26 @@
--- Closings that go around over the houses that wait.
+-- Closings that go around over the houses that wait, and what they came to.
 use Rattle.engine_core.proofs.Common.{BoardAndMarks, Bool, Candidates, Dead, HasStruck, IsAlive, IsClosedBy, IsClosedIn, IsClosing, IsDead, IsLawful, IsQueuedAround, IsRested, IsTaken, IsWithin, IsWoken, List, None, Open, RuleSystem, Some, [], after, arith, but, cases_Bool, cases_lt, common_steps, false, from_bool, has, if◌then◌else◌, inl, inr, is_dead, le-ltb, length, length-append, lt-ltb, ltb, max, not, refl, suc, sym, take, true, true≢false, within_inside, ℕ, ◌&&◌, ◌*◌, ◌++◌, ◌+◌, ◌-◌, ◌<◌, ◌||◌, ◌∙◌, ◌∷◌, ◌≡◌, ◌≤◌, ◌⊎◌}
+use Rattle.engine_core.specs.declared.mode.Closing.{Closing}
 use Rattle.engine_core.specs.declared.search.position.Taken.{Taken}
 use Rattle.engine_core.proofs.ClosingLemmas.{replay_inside}
-use Rattle.engine_core.proofs.EndLemmas.{closed-in, taken-dead, taken-open}
 use Rattle.engine_core.proofs.QueueLemmas.{closed_from_rested}
-use Rattle.engine_core.proofs.ListLemmas.{IsRunning, closing-dead, closing-open, room, running-first, running-turn, closing-none}
-use Rattle.engine_core.proofs.SweepLemmas.{IsMarked, IsSwept, IsSweeping, all-marked, few_sweeps, struck-more, struck-none, sweep-idle, swept-alive, swept-dead, swept-first, swept-idle, swept-shut, swept-turn, sweeping-inside, sweeping-first, sweeping-passed, sweeping-dead, sweeping-turn, woken-marked}
+use Rattle.engine_core.proofs.ListLemmas.{IsRunning, closing-dead, closing-none, closing-open, room, running-first, running-turn}
+use Rattle.engine_core.proofs.SweepLemmas.{IsMarked, IsSweeping, IsSwept, all-marked, few_sweeps, struck-more, struck-none, sweep-idle, sweeping-dead, sweeping-first, sweeping-inside, sweeping-passed, sweeping-turn, swept-alive, swept-dead, swept-first, swept-idle, swept-shut, swept-turn, woken-marked}
 
+-- What a closing came to, for a walk that goes on from it.
+-- where the closure is dead, any board may be left
+pub taken-dead : {p : RuleSystem} {K own E : Candidates} {trace : List ℕ} {sweeps : ℕ} → IsClosing p K own Dead trace sweeps → IsTaken p K E Dead
+taken-dead c = grind (arith, common_steps)
+
+pub taken-open : {p : RuleSystem} {K E : Candidates} {trace : List ℕ} {sweeps : ℕ} → IsClosing p K E Open trace sweeps → IsTaken p K E Open
+taken-open c = grind (arith, common_steps)
+
+-- its turns are counted
+pub closed-in : {p : RuleSystem} {K E : Candidates} {answer : Closing} {trace : List ℕ} {sweeps m : ℕ} → IsClosing p K E answer trace sweeps
+    → (p.by_queue ≡ true → length trace ≡ m) → (p.by_queue ≡ false → sweeps ≡ m) → IsClosedIn p K m
+closed-in c visits turns = grind (arith, common_steps)
+
+-- Closings that go around over the houses that wait.
 -- the board K was left in the n-th sweep of K0, which began with the board `first`, before the house `from`; each sweep
 -- before struck something
 pub record IsAmid (p : RuleSystem) (K0 : Candidates) (n from : ℕ) (first K : Candidates) (waits : ℕ → Bool) : Type 0 where

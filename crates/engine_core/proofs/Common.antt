@@ -26,11 +26,11 @@ pub use Rattle.std.specs.Int.{bit_at, from_bool, trailing_zeros}
 pub use Rattle.std.specs.List.{AllByRecursion, between, concat, filter, range_with_len}
 pub use Rattle.std.specs.Prelude.{bit_or, nat_le, nat_lt, sum_by, vec_len}
 pub use Rattle.grid_core.proofs.BoardLemmas.{bits_both, bits_either, count_ones-bits, has-within}
-pub use Rattle.grid_core.proofs.CandidateLemmas.{all_below-from, any_below-here, any_below-none, any_below-some, count_below-any, count_below-bound}
-pub use Rattle.grid_core.proofs.CandidateLemmas.{count_below-few, count_below-kept, count_below-le, count_below-lt, count_below-none, count_below-one}
-pub use Rattle.grid_core.proofs.CandidateLemmas.{count_below-pos, count_below-same, is_dead-each, is_dead-here, is_dead-inside, is_dead-not}
-pub use Rattle.grid_core.proofs.CandidateLemmas.{least_below-passes, same_from_inside, same_or_fewer, sum_below-add, sum_below-le, total-le, total-lt}
-pub use Rattle.grid_core.proofs.CandidateLemmas.{total-pos, within_inside}
+pub use Rattle.grid_core.proofs.BoardLemmas.{all_below-from, any_below-here, any_below-none, any_below-some, count_below-any, count_below-bound}
+pub use Rattle.grid_core.proofs.BoardLemmas.{count_below-few, count_below-kept, count_below-le, count_below-lt, count_below-none, count_below-one}
+pub use Rattle.grid_core.proofs.BoardLemmas.{count_below-pos, count_below-same, is_dead-each, is_dead-here, is_dead-inside, is_dead-not}
+pub use Rattle.grid_core.proofs.BoardLemmas.{least_below-passes, same_from_inside, same_or_fewer, sum_below-add, sum_below-le, total-le, total-lt}
+pub use Rattle.grid_core.proofs.BoardLemmas.{total-pos, within_inside}
 pub use Rattle.grid_core.proofs.GridLemmas.{grid_of-at, grid_of-full, grid_of-inside, is_full-count, length-grid_of, only-at, only-has, only-here}
 pub use Rattle.grid_core.proofs.GridLemmas.{only-inside, only-other, single-at, total-only}
 pub use Rattle.grid_core.proofs.PieceLemmas.{ends-close, ends-more, last-close, last-le, length-pieces, piece-at, piece-ends, pieces-close, pieces-more}

@@ -1,20 +1,14 @@
 -- The laws that the goals of a file use, by the file's name.
 use Rattle.engine_core.proofs.Common.{bound_enough, by_houses-lawful, ends-close, ends-more, last-le, length-pieces, length-set, piece-at, piece-ends, sets-bits, shown_from_test, test_from_shown}
 use Rattle.engine_core.proofs.ClosingLemmas.{closure_inside, closure_closed, closure_largest}
-use Rattle.engine_core.proofs.IndexLemmas.{mark-first, mark-more, marked-first, marked-more, marks-at, next-marked, joined-first, joined-more}
-use Rattle.engine_core.proofs.ListedLemmas.{scopes-fit, table-houses}
-use Rattle.engine_core.proofs.PickLemmas.{pick-is}
-use Rattle.engine_core.proofs.PieceLemmas.{closed-in, listed-close, total-closed, listed-more, last-at}
-use Rattle.engine_core.proofs.TrialLemmas.{tried-first, trials-counted}
-use Rattle.engine_core.proofs.VerdictLemmas.{outcome-true, outcome-counts, spent-counts, found_iff}
+use Rattle.engine_core.proofs.IndexLemmas.{joined-first, joined-more, lowest_left, mark-first, mark-more, marked-first, marked-more, marks-at, next-marked, none_left, waiting-dequeue, waiting-enqueue}
+use Rattle.engine_core.proofs.HouseLemmas.{closed-in, kept-first, kept-inside, kept-more, last-at, listed-close, listed-more, scopes-fit, striking-first, striking-more, table-houses, total-closed}
+use Rattle.engine_core.proofs.JudgeLemmas.{grid-fits, grid-long, pick-ends, pick-is, pick-more, settled-dead}
+use Rattle.engine_core.proofs.SearchLemmas.{found_iff, outcome-counts, outcome-true, spent-counts, trials-counted, tried-first}
 use Rattle.engine_core.proofs.WalkLemmas.{walk-once, walk-unfold}
-use Rattle.engine_core.proofs.HouseLemmas.{kept-first, kept-inside, kept-more, striking-first, striking-more}
-use Rattle.engine_core.proofs.JudgeLemmas.{grid-fits, grid-long, pick-ends, pick-more}
 use Rattle.engine_core.proofs.PlaneSteps.{step-onward, step-walks}
-use Rattle.engine_core.proofs.StoreLemmas.{settled-dead}
 use Rattle.engine_core.proofs.SweepLemmas.{total-bound}
 use Rattle.engine_core.proofs.TrailLemmas.{put_back-none, trail-none}
-use Rattle.engine_core.proofs.WaitLemmas.{lowest_left, none_left, waiting-enqueue, waiting-dequeue}
 
 pub ruleset house_index_laws = (mark-first, mark-more, marked-first, marked-more, marks-at, next-marked, joined-first, joined-more, length-set)
 

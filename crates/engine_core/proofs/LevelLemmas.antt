@@ -1,10 +1,43 @@
--- The levels of a search: what its frames and its marks say of the boards that are open.
-use Rattle.engine_core.proofs.Common.{Candidates, Frame, IsFewest, IsWithin, IsNext, IsOnward, IsOpen, IsReady, IsReturned, IsTrial, Level, Levels, List, Mark.Trial, None, RuleSystem, Some, Standing, add-one, ap, arith, cases_eq, common_steps, frame_at, get_or-set_other, get_or-set_same, inl, inr, length, length-set, level_at, levels_of, only, only-inside, pending, pending_in, refl, retried_at, set, subst, suc, sym, walk, zero, ℕ, ◌++◌, ◌+◌, ◌-◌, ◌<◌, ◌∙◌, ◌∷◌, ◌≡◌, ◌≢◌}
+-- The levels of a search: their frames, and the room for them.
+use Rattle.engine_core.proofs.Common.{Candidates, Frame, IsAlive, IsFewest, IsFull, IsInside, IsNext, IsOnward, IsOpen, IsReady, IsReturned, IsTrial, IsWithin, Level, Levels, List, Mark.Trial, None, RuleSystem, Some, Standing, add-one, ap, arith, cases_eq, closure, common_steps, count_below, count_below-bound, count_below-few, count_below-le, count_below-lt, count_below-pos, eq-eqb, eqb, eqb-true, false, frame_at, get_or-set_other, get_or-set_same, inl, inr, is_dead, is_dead-not, length, length-set, level_at, levels_of, marks_at, ne_eqb, only, only-at, only-here, only-inside, only-other, pending, pending_in, pick, refl, retried_at, set, singles, subst, suc, sym, true, walk, zero, ℕ, ◌++◌, ◌+◌, ◌-◌, ◌<◌, ◌∙◌, ◌∷◌, ◌≡◌, ◌≢◌, ◌≤◌}
+use Rattle.engine_core.proofs.JudgeLemmas.{pick-before, pick-fewest, pick-inside, picked_not_full}
+use Rattle.engine_core.proofs.ClosingLemmas.{closure_closed}
 use Rattle.engine_core.proofs.QueueLemmas.{closed-but_only}
-use Rattle.engine_core.proofs.SearchLemmas.{pending-pop, pending-trial}
-use Rattle.engine_core.proofs.RoomLemmas.{singles-only, open-cell, open-room}
-use Rattle.engine_core.proofs.PickLemmas.{pick-inside, pick-before}
+use Rattle.engine_core.proofs.SearchLemmas.{pending-pop, pending-trial, reached, reached-dead, reached-full, reached-split, walk-reached}
 
+-- Room for the frames: each open level has one more cell with a single value.
+pub singles-only : (p : RuleSystem) (K : Candidates) (cell v : ℕ) → cell < p.cells → v < p.values
+    → K cell v ≡ true → 2 ≤ count_below (K cell) p.values → singles p K < singles p (only K cell v)
+unfolding singles
+singles-only p K cell v ltc ltv on two =
+    let few = count_below-few (only K cell v cell) p.values (λ k j _ _ onk onj. only-at K cell v k onk ∙ sym (only-at K cell v j onj)) in
+    let some = count_below-pos (only K cell v cell) p.values v ltv (only-here K cell v on) in
+    count_below-lt _ (λ c. eqb (count_below (only K cell v c) p.values) 1) p.cells cell
+    (λ c _ one. grind (arith, common_steps, cases_eq c cell, eqb-true, only-other K cell v c))
+    ltc (ne_eqb _ 1 (λ one. omega arith)) (eq-eqb _ 1 (omega arith))
+
+pub singles-inside : (p : RuleSystem) (J K : Candidates) → IsInside J K → is_dead p.cells p.values J ≡ false → singles p K ≤ singles p J
+unfolding singles
+singles-inside p J K inside alive = grind (arith, common_steps, count_below-le, eq-eqb, eqb-true, is_dead-not)
+
+pub singles-room : (p : RuleSystem) (K : Candidates) {cell : ℕ} → cell < p.cells → 2 ≤ count_below (K cell) p.values → singles p K < p.cells
+unfolding singles
+singles-room p K {cell} lt two =
+    omega (arith, count_below-bound (λ c. true) p.cells, count_below-lt (λ c. eqb (count_below (K c) p.values) 1) (λ c. true) p.cells cell (λ c _ _. refl) lt (ne_eqb _ 1 (λ one. omega arith)) refl)
+
+pub split-room : {p : RuleSystem} {K K' : Candidates} {n cell : ℕ} → IsInside K' K → n ≤ singles p K
+    → is_dead p.cells p.values K' ≡ false → pick p.cells p.values K' ≡ Some cell
+    → IsWithin p.cells p.values K → K' ≡ closure p K → IsInside K' p.start → IsOpen p (record { board = K'; cell = cell; next = 0 }) n
+split-room inside single alive picked within reached start = grind (arith, common_steps, closure_closed, singles-inside)
+
+-- its cell is one with fewest values
+pub open-cell : {p : RuleSystem} {level : Level} {n : ℕ} → IsOpen p level n → IsFewest p.cells p.values level.board level.cell
+open-cell {p} {level} o = pick-fewest p.cells p.values level.board o.picked
+
+pub open-room : {p : RuleSystem} {level : Level} {n : ℕ} → IsOpen p level n → n < p.cells
+open-room {p} {level} o = let best = open-cell o in omega (arith, singles-room p level.board best.within best.two)
+
+-- The levels of a search: what its frames and its marks say of the boards that are open.
 -- ---- the levels of frames
 frame_at-here : (frames : List Frame) (n : ℕ) (f : Frame) → n < length frames → frame_at (set frames n f) n ≡ f
 frame_at-here frames n f lt = get_or-set_same frames n f (record { cell = 0; next = 0; mark = 0 }) lt
@@ -214,3 +247,40 @@ module _ {p : RuleSystem} {s s1 : Standing} {frames : List Frame} {n : ℕ} (rea
 pub walk-alone : (p : RuleSystem) (K : Candidates) (s : Standing) (frames : List Frame) → walk p 0 K ++ pending_in p s frames 0 ≡ walk p 0 K
 unfolding levels_of pending
 walk-alone p K s frames = grind (arith, common_steps)
+
+-- A board is closed and judged: the marks that are to come then.
+-- ---- a closing and its judgement, as equations of the marks that are to come
+-- the board of s under these frames, and the board of s' that its closing left
+pub record IsDescent (p : RuleSystem) (s s' : Standing) (frames : List Frame) (n : ℕ) : Type 0 where
+  pub ready : IsReady p s frames n
+  pub onward : IsOnward s s'
+  pub within : IsWithin p.cells p.values s.board
+
+to_reached : (p : RuleSystem) (s s' : Standing) {frames : List Frame} (n : ℕ)
+    → IsDescent p s s' frames n → walk p n s.board ++ pending_in p s frames n ≡ reached p
+    (closure p s.board) (levels_of s' frames n)
+to_reached p s s' {frames} n d =
+    let levels : List Level = levels_of s' frames n in
+    rw (← levels-onward s s' n d.ready d.onward)
+    (ap (λ (m : ℕ). walk p m s.board ++ pending p levels) (sym (length-levels s' frames n)) ∙ walk-reached p levels d.within)
+
+-- the same where the closure is left
+to_open : {p : RuleSystem} {s s' : Standing} {frames : List Frame} {n : ℕ} → IsDescent p s s' frames n → s'.board ≡ closure p s.board
+    → walk p n s.board ++ pending_in p s frames n ≡ reached p s'.board (levels_of s' frames n)
+to_open {p} {s} {s'} {frames} {n} d left = to_reached p s s' n d ∙ ap (λ (E : Candidates). reached p E (levels_of s' frames n)) (sym left)
+
+pub descend-dead : {p : RuleSystem} {s s' : Standing} {frames : List Frame} {n : ℕ}
+    → IsDescent p s s' frames n → is_dead p.cells p.values (closure p s.board) ≡ true
+    → walk p n s.board ++ pending_in p s frames n ≡ pending_in p s' frames n
+descend-dead {p} {s} {s'} {frames} {n} d dead = to_reached p s s' n d ∙ reached-dead p _ (levels_of s' frames n) dead
+
+module _ {p : RuleSystem} {s s' : Standing} {frames : List Frame} {n : ℕ} (d : IsDescent p s s' frames n)
+    (left : s'.board ≡ closure p s.board) (alive : IsAlive p s'.board) where
+  pub descend-full : IsFull p s'.board → walk p n s.board ++ pending_in p s frames n ≡ marks_at p s'.board ++ pending_in p s' frames n
+  descend-full full = to_open d left ∙ reached-full p s'.board (levels_of s' frames n) alive full
+
+  pub descend-split : (cell : ℕ) → pick p.cells p.values s'.board ≡ Some cell → n < length frames → s'.back s'.len ≡ s'.board
+      → walk p n s.board ++ pending_in p s frames n ≡ pending_in p s' (set frames n (frame_of cell s'.len)) (n + 1)
+  descend-split cell picked lt here =
+      to_open d left ∙ (reached-split p s'.board (levels_of s' frames n) alive (picked_not_full p.cells p.values s'.board cell picked) picked
+      ∙ ap (pending p) (sym (levels-push s' frames cell lt here)))

@@ -2,7 +2,7 @@
 use Rattle.engine_core.proofs.Common.{AreUnderWay, Candidates, IsAlive, IsInside, IsLawful, IsOnward, List, None, PlacedPlanes, RuleSystem, ap, arith, cases_eq, common_steps, count_below-pos, false_from_ne_true, grid_of, is_dead-each, is_dead-inside, is_dead-not, is_full, length, only, only-here, only-other, pick, places_of, refl, standing_of, sym, true, true≢false, within_inside, ℕ, ◌*◌, ◌<◌, ◌∙◌, ◌≡◌, ◌≤◌, ◌⊎◌}
 use Rattle.grid_core.specs.Extent.{Extent}
 use Rattle.grid_core.specs.Planes.{IsBack, IsFurther, Layers, back_at, cells_of, has}
-use Rattle.grid_core.proofs.RowLemmas.{pick-few, pick-none}
+use Rattle.grid_core.proofs.PlaneSteps.{pick-few, pick-none}
 use Rattle.engine_core.specs.PlaneNotes.{IsLiveBoard, IsSuited}
 use Rattle.engine_core.specs.RuleSystem.{FitsIn, IsClosed, IsClosedGrid, needs_of}
 use Rattle.engine_core.proofs.JudgeLemmas.{closed-grid, grid-long}

@@ -1,6 +1,7 @@
-use Rattle.engine_core.proofs.Common.{AreWoken, IsBitsOf, Bool, Candidates, IsBoardOf, IsClosed, IsClosedAround, IsClosedBut, IsIdle, IsInsideAt, IsLawful, IsRested, IsWithin, IsWoken, Layout, List, RuleSystem, SameShape, None, Option, Some, is_some, [], add-one, after, and_from, and_left, and_parts, any_below, any_below-here, any_below-none, any_below-some, ap, arith, but, called_for, cases_Bool, cases_eq, cells_of, common_steps, count_below, count_below-any, count_below-bound, count_below-kept, count_below-le, count_below-lt, count_below-none, count_below-pos, counts_of, is_dead_in, eq-eqb, eqb, eqb-true, false, false_from_ne_true, has, has_place, has_place-at, has_place-here, inl, inr, is_dead, is_dead-each, is_dead-here, is_dead-inside, is_dead-not, length, mul-le-mul_right, not, not-true, not_from_false, not_from_true, only, only-here, only-inside, only-other, or_cases, or_left, or_right, refl, set, share, slice_index, sum_below-add, sum_below-le, sym, take, take-suc-set, true, true≢false, visits_left, woken, ℕ, ◌&&◌, ◌*◌, ◌++◌, ◌+◌, ◌-◌, ◌<◌, ◌||◌, ◌∙◌, ◌∷◌, ◌≡◌, ◌≤◌}
+-- Closings by a queue: what is closed, what changes, and which houses wait.
+use Rattle.engine_core.proofs.Common.{AreWoken, Bool, Candidates, IsBitsOf, IsBoardOf, IsChange, IsClosed, IsClosedAround, IsClosedBut, IsIdle, IsInside, IsInsideAt, IsLawful, IsNext, IsRested, IsWithin, IsWoken, Layout, List, None, Option, RuleSystem, SameShape, Some, [], add-one, after, and_from, and_left, and_parts, and_right, any_below, any_below-here, any_below-none, any_below-some, ap, arith, but, called_for, calls, cases_Bool, cases_eq, cases_lt, cells_of, common_steps, count_below, count_below-any, count_below-bound, count_below-few, count_below-kept, count_below-le, count_below-lt, count_below-none, count_below-pos, counts_of, eq-eqb, eqb, eqb-true, false, false_from_ne_true, fun_ext, has, has_bit, has_place, has_place-at, has_place-here, inl, inr, is_dead, is_dead-each, is_dead-here, is_dead-inside, is_dead-not, is_dead_in, is_some, le-ltb, left_by, length, lt-ltb, ltb, mul-le-mul_right, ne_eqb, not, not-true, not_from_false, not_from_true, only, only-here, only-inside, only-other, or_cases, or_left, or_right, pow_below, power-bits, refl, set, share, slice_index, sum_below-add, sum_below-le, sym, take, take-suc-set, true, true≢false, visits_left, woken, ℕ, ◌&&◌, ◌*◌, ◌++◌, ◌+◌, ◌-◌, ◌<◌, ◌^◌, ◌||◌, ◌∙◌, ◌∷◌, ◌≡◌, ◌≤◌}
 use Rattle.engine_core.proofs.ClosingLemmas.{after_inside}
-use Rattle.engine_core.proofs.SetLemmas.{bits-empty}
+use Rattle.engine_core.proofs.SetLemmas.{bits-empty, counts-differ, counts-same}
 pub use Rattle.engine_core.specs.PositionLaws.{within_of}
 
 -- the cells of a house are cells of the board
@@ -256,3 +257,115 @@ emptied-dead p laws {h} K K' lt e = elim (cases_Bool (is_dead p.cells p.values K
 pub woken-none : (p : RuleSystem) (h : ℕ) (K K' : Candidates) (waits : ℕ → Bool) (j : ℕ) → K' ≡ K → waits j ≡ woken p h (counts_of p h K) K' waits j
 unfolding woken
 woken-none p h K K' waits j same = grind (arith, common_steps, and_parts, any_below-some, cases_Bool, eq-eqb, not-true)
+
+-- Boards that differ in one cell alone.
+-- ---- a cell of which less is left
+pub left-inside : (K : Candidates) (place bits : ℕ) → IsInside (left_by K place bits) K
+unfolding left_by
+left-inside K place bits = grind (arith, common_steps)
+
+-- what `retain` says of it
+pub left-is : (K : Candidates) {L : Candidates} (place bits : ℕ) → ((c v : ℕ) → L c v ≡ (K c v && not (eqb place c && not (has_bit bits v)))) → L ≡ left_by K place bits
+unfolding left_by
+left-is K place bits is = fun_ext λ c. fun_ext λ v. is c v
+
+pub left-others : (K : Candidates) {place : ℕ} (bits c v : ℕ) → (c ≡ place → ⊥) → left_by K place bits c v ≡ K c v
+unfolding left_by
+left-others K bits c v ne = grind (arith, common_steps)
+
+pub left-change : (p : RuleSystem) (b b' : Layout) {place before : ℕ} (left : ℕ)
+    → IsBoardOf p b → place < p.cells → IsBitsOf (has b place) p.values before
+    → IsBitsOf (left_by (has b) place left place) p.values left
+    → has b' ≡ left_by (has b) place left
+    → IsChange p.cells p.values (has b) (has b') place before left
+left-change p b b' {place} left of lt was is e = rw e (record {
+  place_in = lt;
+  before_is = was;
+  after_is = is;
+  others = left-others (has b) {place = place} left;
+  within = λ v on. (within_of p b of place v (left-inside (has b) place left place v on)).1;
+})
+
+-- ---- one value alone is left
+pub left-only : (K : Candidates) (place value : ℕ) → left_by K place (2 ^ value) ≡ only K place value
+unfolding left_by only
+left-only K place value = grind (arith, common_steps, power-bits, cases_eq, eq-eqb, ne_eqb)
+
+pub only-bits : (K : Candidates) (place : ℕ) {value n : ℕ} → K place value ≡ true → value < n → IsBitsOf (left_by K place (2 ^ value) place) n (2 ^ value)
+unfolding left_by
+only-bits K place on lt = grind (arith, common_steps, power-bits, cases_eq, eq-eqb, ne_eqb, pow_below)
+
+pub bits-several : {set : ℕ → Bool} (value : ℕ) {n before : ℕ} → IsBitsOf set n before → 2 ≤ count_below set n → 2 ^ value ≡ before → ⊥
+bits-several value was several e = grind (arith, common_steps, power-bits, count_below-few, eqb-true)
+
+-- Which houses wait after others were called for.
+-- where no house is called for, nothing changes
+pub woken-by_none : {p : RuleSystem} {called waits : ℕ → Bool} → ((j : ℕ) → j < p.houses → called j ≡ false) → AreWoken p called waits waits
+woken-by_none none = record { marks = λ j lt. rw (none j lt) unwoken }
+
+pub woken-same : {p : RuleSystem} {called called' before now : ℕ → Bool} → ((j : ℕ) → j < p.houses → called j ≡ called' j) → AreWoken p called before now
+    → AreWoken p called' before now
+woken-same same a = record { marks = λ j lt. rw (same j lt) at (a.marks j lt) }
+
+-- first some are called for, and then others
+pub woken-more : {p : RuleSystem} {first more before now after : ℕ → Bool} → AreWoken p first before now → AreWoken p more now after
+    → AreWoken p (λ j. first j || more j) before after
+woken-more a b = record { marks = λ j lt. grind (arith, common_steps, a.marks j lt, b.marks j lt) }
+
+-- ---- the cells of a house one after another
+pub woken-first : {p : RuleSystem} (h : ℕ) (K K' : Candidates) {waits : ℕ → Bool}
+    → AreWoken p (λ j. any_below (calls p h (counts_of p h K) K' j) 0) waits waits
+unfolding any_below
+woken-first h K K' = woken-by_none (λ j lt. refl)
+
+-- a cell with another set calls for its houses
+pub woken-then : (p : RuleSystem) (h : ℕ) (K K' : Candidates) (k : ℕ) {place set bits : ℕ} {before now after : ℕ → Bool}
+    → place ≡ slice_index (p.scope h) k → IsBitsOf (K (slice_index (p.scope h) k)) p.values set → IsBitsOf (K' place) p.values bits
+    → IsInside K' K → (bits ≡ set → ⊥)
+    → AreWoken p (λ j. any_below (calls p h (counts_of p h K) K' j) k) before now → AreWoken p (λ j. has_place (p.scope j) place) now after
+    → AreWoken p (λ j. any_below (calls p h (counts_of p h K) K' j) (k + 1)) before after
+unfolding counts_of
+woken-then p h K K' k at was is inside ne a b =
+    let differ = counts-differ was (rw at at is) (λ v. inside _ v) ne in
+    woken-same (λ j lt. grind (arith, common_steps, any_below-more, ne_eqb, not_from_false)) (woken-more a b)
+
+-- one with the same set doesn't
+pub woken-else : (p : RuleSystem) (h : ℕ) (K K' : Candidates) (k : ℕ) {place set bits : ℕ} {before now : ℕ → Bool}
+    → place ≡ slice_index (p.scope h) k → IsBitsOf (K (slice_index (p.scope h) k)) p.values set → IsBitsOf (K' place) p.values bits
+    → bits ≡ set → AreWoken p (λ j. any_below (calls p h (counts_of p h K) K' j) k) before now
+    → AreWoken p (λ j. any_below (calls p h (counts_of p h K) K' j) (k + 1)) before now
+unfolding counts_of
+woken-else p h K K' k at was is e a =
+    let same = counts-same p.values _ _ was (rw at at is) e in
+    woken-same (λ j lt. grind (arith, common_steps, and_left, any_below-more, eq-eqb, not_from_true, unwoken)) a
+
+-- ---- the marks after a visit: of the house, then those of houses that were called for, then its own where visits settle
+pub woken-by : {p : RuleSystem} {h : ℕ} {K K' : Candidates} {waits cleared now left : ℕ → Bool} → ((j : ℕ) → cleared j ≡ but waits h j)
+    → AreWoken p (called_for p h K K') cleared now → ((j : ℕ) → left j ≡ (now j && not (p.visits_settle && eqb j h))) → IsWoken p h K K' waits left
+unfolding woken but
+woken-by clears a settles = grind (arith, common_steps)
+
+-- where nothing was struck, only the house's own mark goes
+pub woken-unstruck : {p : RuleSystem} {h : ℕ} {K K' : Candidates} {waits left : ℕ → Bool} → K' ≡ K
+    → ((j : ℕ) → left j ≡ but waits h j) → IsWoken p h K K' waits left
+woken-unstruck same clears = grind (arith, common_steps, woken-none)
+
+-- ---- the houses that pass a test, up to a number
+pub before-first : {p : RuleSystem} (test : ℕ → Bool) {waits : ℕ → Bool} → AreWoken p (λ j. test j && ltb j 0) waits waits
+before-first test = woken-by_none (λ j lt. and_right (test j) _ (le-ltb j 0 (omega arith)))
+
+-- the next one is marked
+pub before-marked : {p : RuleSystem} (test : ℕ → Bool) {before now after : ℕ → Bool} (from n : ℕ)
+    → IsNext test p.houses from (Some n) → ((j : ℕ) → after j ≡ (now j || eqb j n))
+    → AreWoken p (λ j. test j && ltb j from) before now → AreWoken p (λ j. test j && ltb j (n + 1)) before after
+before-marked {p} test from n next marks a =
+    woken-same (λ j lt. one (test j) j lt) (woken-more a (record { marks = λ j lt. marks j }))
+  where
+    one : (on : Bool) (j : ℕ) → j < p.houses → ((test j && ltb j from) || eqb j n) ≡ (test j && ltb j (n + 1))
+    one on j lt = grind (arith, common_steps, and_from, and_left, and_right, cases_eq, cases_lt, eq-eqb, le-ltb, lt-ltb, ne_eqb, next.3 j)
+
+-- and none is left
+pub before-all : {p : RuleSystem} {test before now : ℕ → Bool} (from : ℕ)
+    → IsNext test p.houses from None → AreWoken p (λ j. test j && ltb j from) before now → AreWoken p test before now
+before-all from next a =
+    woken-same (λ j lt. grind (arith, common_steps, and_from, and_left, cases_lt, lt-ltb, next j)) a

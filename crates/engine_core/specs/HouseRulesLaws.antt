@@ -2,7 +2,7 @@
 use Rattle.std.proofs.Common.{◌≡◌, ℕ, zero, suc, ◌+◌, ◌-◌, ◌*◌, ◌<◌, ◌≤◌, Bool, true, false, not, cond, ◌&&◌, eqb, List, [], ◌∷◌, length, refl, sym, ap, ◌∙◌, arith}
 use Rattle.engine_core.specs.Below.{All, count_below, eqb-true, or_cases, sum_below, sum_by, sum_by-cons}
 use Rattle.std.proofs.lemmas.Nat.{mul-le}
-use Rattle.grid_core.proofs.CandidateLemmas.{sum_below-le, sum_below-add, count_below-or, count_below-few, count_below-none}
+use Rattle.grid_core.proofs.BoardLemmas.{sum_below-le, sum_below-add, count_below-or, count_below-few, count_below-none}
 use Rattle.engine_core.specs.RuleSystem.{IsLawful, after, has_place, share}
 use Rattle.engine_core.specs.PlaceLaws.{has_place-at}
 use Rattle.engine_core.specs.HouseSets.{Decision, strikes_at}

@@ -1,10 +1,9 @@
 -- Houses of one at least, by the cells of theirs that can be ones.
 use Rattle.fields_core.proofs.Common.{AllByRecursion, AreIdle, Bool, Candidates, CountHouse, IsHouse, IsInside, IsTally, List, Tally, [], after_house, after_houses, and-true, and_parts, ap, arith, cases_Bool, cases_eq, cases_lt, common_steps, cond, count_by, count_by-le-length, eqb, eqb-true, false, false_from_ne_true, fun_ext, has_place, has_place-at, inl, inr, is_empty, le-ltb, length, ltb, ne_eqb, not, one_at_least, or_cases, or_left, or_right, refl, strikes_of, suc, sym, true, true≢false, without_zeros, zero, ℕ, ◌&&◌, ◌<◌, ◌||◌, ◌∙◌, ◌∷◌, ◌≡◌, ◌≢◌, ◌≤◌, ◌⊎◌}
-use Rattle.fields_core.proofs.AtMostLemmas.{IsFull, count-two, others-stay}
+use Rattle.fields_core.proofs.VisitLemmas.{IsFull, after-inside, count-two, others-stay, visits-inside}
 use Rattle.fields_core.proofs.IdleLemmas.{Keeps, any_has, full-between, idle-first, idle-rest}
 use Rattle.fields_core.proofs.PlaceLists.{count-some, count-cons, count-none, num, num-most}
-use Rattle.fields_core.proofs.CountTallies.{counts-same}
-use Rattle.fields_core.proofs.VisitLemmas.{after-inside, visits-inside}
+use Rattle.fields_core.proofs.HouseLemmas.{counts-same}
 use Rattle.fields_core.proofs.CountKept.{after-at, off-scope, has-value}
 
 -- ---- a visit

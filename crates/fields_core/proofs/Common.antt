@@ -21,14 +21,14 @@ pub use Rattle.std.proofs.lemmas.Nat.{div-add-mod', div-mul-add, le-div, mod-mul
 pub use Rattle.std.proofs.lemmas.Option.{slice_get-get_or, slice_get_within}
 pub use Rattle.std.specs.List.{AllByRecursion, count_by, filter, list_any, range_with_len, slice_get}
 pub use Rattle.std.specs.Prelude.{MatchOption, ◌==◌}
-pub use Rattle.grid_core.proofs.CandidateLemmas.{all_below-at, all_below-from, any_below-here, any_below-none, any_below-same, any_below-some}
-pub use Rattle.grid_core.proofs.CandidateLemmas.{count_below-bound, count_below-few, count_below-lt, count_below-none, count_below-pos, count_below-same}
-pub use Rattle.grid_core.proofs.CandidateLemmas.{is_dead-each, is_dead-here, is_dead-not, least_below-passes, within_inside}
+pub use Rattle.grid_core.proofs.BoardLemmas.{all_below-at, all_below-from, any_below-here, any_below-none, any_below-same, any_below-some}
+pub use Rattle.grid_core.proofs.BoardLemmas.{count_below-bound, count_below-few, count_below-lt, count_below-none, count_below-pos, count_below-same}
+pub use Rattle.grid_core.proofs.BoardLemmas.{is_dead-each, is_dead-here, is_dead-not, least_below-passes, within_inside}
 pub use Rattle.grid_core.proofs.Common.{bool_byte}
 pub use Rattle.grid_core.proofs.GridLemmas.{only-inside, only-other, single-at}
 pub use Rattle.grid_core.proofs.PlaneLemmas.{further-more, further-none, place-column, place-in}
 pub use Rattle.grid_core.proofs.RegionLemmas.{column-at, row-at}
-pub use Rattle.grid_core.proofs.TurnLemmas.{fewer_left}
+pub use Rattle.grid_core.proofs.WordLemmas.{fewer_left}
 pub use Rattle.grid_core.specs.Board.{Layout, SameShape}
 pub use Rattle.grid_core.specs.Candidates.{Candidates, IsInside, IsWithin, max_cells}
 unfoldable pub use Rattle.grid_core.specs.Candidates.{all_below, all_of, any_below, count_below, is_dead, least_below, total, without}

@@ -1,9 +1,185 @@
--- What a visit of a count house leaves of its cells, by the tally of the house.
-use Rattle.fields_core.proofs.Common.{Bool, Candidates, CountHouse, IsHouse, IsShown, IsTally, Tally, after_house, and_parts, ap, arith, bounds_of, cases_Bool, cases_eq, common_steps, cond, counts_between, eq-eqb, eqb, false, false_from_ne_true, has_bit, has_place, has_place-at, has_place-here, inl, inr, is_empty, is_open, le-ltb, length, ltb-false, ne_eqb, not, not-true, or_parts, refl, sets_at, shown_from_test, slice_index, stays, strikes_at-in_scope, strikes_at-place, strikes_by_fillings, strikes_of, suc, sym, test_from_shown, true, true≢false, zero, ℕ, ◌&&◌, ◌*◌, ◌+◌, ◌<◌, ◌||◌, ◌∙◌, ◌≡◌, ◌≤◌, ◌⊎◌}
+-- Which numbers of ones the fillings of a house have, and what a visit leaves of it.
+use Rattle.fields_core.proofs.Common.{AreDifferent, Bool, Candidates, CountHouse, Fills, Fills-cons, Fills-tail, IsHouse, IsShown, IsTally, IsWithin, Layout, List, Tally, [], add-one, after_house, and-true, and_from, and_parts, ap, arith, bounds_of, cases_Bool, cases_eq, cases_lt, common_steps, cond, count_by, counts_between, distinct-from, eq-eqb, eqb, false, false_from_ne_true, fun_ext, get_or, has_bit, has_place, has_place-at, has_place-here, inl, inr, is_empty, is_open, le-leb, le-ltb, leb-true, length, length-sets_at, longest, ltb-false, max, ne_eqb, nonzeros, not, not-true, not_taken, or_parts, refl, sets_at, sets_at-small, sets_at-value, shown_from_test, slice_index, stays, strikes_at-in_scope, strikes_at-place, strikes_by_fillings, strikes_of, suc, sym, take, take_all, taken-here, taken-other, test_from_shown, true, true≢false, zero, ℕ, ◌&&◌, ◌*◌, ◌+◌, ◌-◌, ◌<◌, ◌||◌, ◌∙◌, ◌∷◌, ◌≡◌, ◌≤◌, ◌⊎◌}
+use Rattle.fields_core.proofs.PlaceLists.{count-at, count-cons, count-none, count-some, num, num-most}
 use Rattle.fields_core.proofs.CellLemmas.{same-truth}
-use Rattle.fields_core.proofs.PlaceLists.{num, count-none, count-some}
-use Rattle.fields_core.proofs.CountBounds.{IsFull, filled-at, shown-bounds, bounds-shown, open-room}
+use Rattle.grid_core.specs.Board.{cells_of, has}
+use Rattle.grid_core.proofs.BoardLemmas.{has-within}
 
+-- Which numbers of ones the fillings of a house's cells have, and what that says of a value of a cell.
+-- how many cells must hold a one, and how many may
+abbrev pub must_of : Candidates → List ℕ → ℕ
+must_of K places = count_by (λ c. not (K c 0)) places
+
+abbrev pub may_of : Candidates → List ℕ → ℕ
+may_of K places = count_by (λ c. K c 1) places
+
+-- each cell has a value
+abbrev pub IsFull : Candidates → List ℕ → Type 0
+IsFull K places = (k : ℕ) → k < length places → (K (slice_index places k) 0 ≡ true) ⊎ (K (slice_index places k) 1 ≡ true)
+
+yes : {b : Bool} → b ≡ true → num b ≡ 1
+yes e = rw e refl
+
+no : {b : Bool} → b ≡ true → num (not b) ≡ 0
+no e = rw e refl
+
+-- a filling has one of the values of each cell
+pub filled-at : (K : Candidates) (places : List ℕ) {f : List ℕ} → Fills (sets_at 2 places K) f
+    → {k : ℕ} → k < length places → (get_or f k 0 < 2)
+    × (K (slice_index places k) (get_or f k 0) ≡ true)
+filled-at K places p lt = grind (arith, common_steps, length-sets_at, sets_at-small, get_or, sets_at-value)
+
+filled-from : (K : Candidates) (places f : List ℕ) → length f ≡ length places → ((k : ℕ) → k < length places → (get_or f k 0 < 2)
+    × (K (slice_index places k) (get_or f k 0) ≡ true)) → Fills (sets_at 2 places K) f
+filled-from K places f long each = grind (arith, common_steps, length-sets_at, sets_at-value, get_or)
+
+-- ---- how many ones
+ones-bounds : (K : Candidates) (places f : List ℕ) → Fills (sets_at 2 places K) f → (must_of K places ≤ nonzeros f) × (nonzeros f ≤ may_of K places)
+unfolding sets_at
+ones-bounds K [] [] p = (omega arith, omega arith)
+ones-bounds K [] (v ∷ f) p = absurd (omega (arith, p.len))
+ones-bounds K (x ∷ xs) [] p = absurd (omega (arith, p.len))
+ones-bounds K (x ∷ xs) (v ∷ f) p =
+    by v (filled-at K (x ∷ xs) p {k = 0} (omega arith))
+    (ones-bounds K xs f (Fills-tail _ _ v f p))
+    (count-cons _ x xs) (count-cons _ x xs)
+  where
+    by : (u : ℕ) → (u < 2) × (K x u ≡ true) → (must_of K xs ≤ nonzeros f) × (nonzeros f ≤ may_of K xs)
+        → must_of K (x ∷ xs) ≡ num (not (K x 0)) + must_of K xs → may_of K (x ∷ xs) ≡ num (K x 1) + may_of K xs
+        → (must_of K (x ∷ xs) ≤ nonzeros (u ∷ f)) × (nonzeros (u ∷ f) ≤ may_of K (x ∷ xs))
+    by zero on r a b = let z = no on.1 in (omega (arith, r.0), omega (arith, r.1))
+    by (suc zero) on r a b = let o = yes on.1 in let m = num-most (not (K x 0)) in (omega (arith, r.0), omega (arith, r.1))
+    by (suc (suc u)) on r a b = absurd (omega (arith, on.0))
+
+must-under : (K : Candidates) (places : List ℕ) → IsFull K places → must_of K places ≤ may_of K places
+must-under K [] full = omega arith
+must-under K (x ∷ xs) full =
+    by (full 0 (omega arith)) (must-under K xs (λ k lt. full (suc k) (omega arith))) (count-cons _ x xs) (count-cons _ x xs)
+  where
+    by : (K x 0 ≡ true) ⊎ (K x 1 ≡ true) → must_of K xs ≤ may_of K xs → must_of K (x ∷ xs) ≡ num (not (K x 0)) + must_of K xs
+        → may_of K (x ∷ xs) ≡ num (K x 1) + may_of K xs
+        → must_of K (x ∷ xs) ≤ may_of K (x ∷ xs)
+    by (inl z) r a b = omega (arith, no z)
+    by (inr o) r a b = omega (arith, yes o, num-most (not (K x 0)))
+
+-- each number between the bounds is that of a filling
+abbrev Reached : Candidates → List ℕ → ℕ → Type 0
+Reached K places n = (f : List ℕ) × Fills (sets_at 2 places K) f × (nonzeros f ≡ n)
+
+reached-more : (K : Candidates) (x : ℕ) (xs : List ℕ) {n : ℕ} → IsFull K (x ∷ xs) → must_of K (x ∷ xs) ≤ n → n ≤ may_of K (x ∷ xs)
+    → ((m : ℕ) → must_of K xs ≤ m → m ≤ may_of K xs → Reached K xs m) → Reached K (x ∷ xs) n
+unfolding sets_at
+reached-more K x xs {n} full low high rest = elim (cases_Bool (K x 0)) [
+  | inl z ↦ elim (cases_lt (may_of K xs) n) [
+    | inr within ↦
+        let w = rest n (let a = must_cons in let e = no z in omega arith) within in
+        (0 ∷ w.0, Fills-cons _ (sets_at 2 xs K) 0 w.0 (sets_at-value 2 (x ∷ xs) K 0 0 (omega arith) (omega arith) ∙ z) w.1, w.2)
+    | inl over ↦ elim (cases_Bool (K x 1)) [
+      | inl o ↦ one o (let u = must-under K xs (λ k lt. full (suc k) (omega arith)) in omega arith)
+      | inr off ↦ absurd (let b = may_cons in let e : num (K x 1) ≡ 0 = rw off refl in omega arith)
+    ]
+  ]
+  | inr off ↦ elim (full 0 (omega arith)) [
+    | inl z ↦ absurd (true≢false (sym z ∙ off))
+    | inr o ↦ one o (let a = must_cons in let e : num (not (K x 0)) ≡ 1 = rw off refl in omega arith)
+  ]
+]
+  where
+    must_cons : must_of K (x ∷ xs) ≡ num (not (K x 0)) + must_of K xs
+    must_cons = count-cons (λ c. not (K c 0)) x xs
+
+    may_cons : may_of K (x ∷ xs) ≡ num (K x 1) + may_of K xs
+    may_cons = count-cons _ x xs
+
+    one : K x 1 ≡ true → must_of K xs + 1 ≤ n → Reached K (x ∷ xs) n
+    one o some =
+        let w = rest (n - 1) (omega arith) (omega (arith, may_cons, yes o)) in
+        (1 ∷ w.0, Fills-cons _ (sets_at 2 xs K) 1 w.0 (sets_at-value 2 (x ∷ xs) K 0 1 (omega arith) (omega arith) ∙ o) w.1, omega (arith, w.2))
+
+ones-reached : (K : Candidates) (places : List ℕ) (n : ℕ) → IsFull K places → must_of K places ≤ n → n ≤ may_of K places → Reached K places n
+unfolding sets_at
+ones-reached K [] n full low high = ([], record { len = refl; each = λ k lt. absurd (omega arith) }, omega arith)
+ones-reached K (x ∷ xs) n full low high = reached-more K x xs full low high (λ m. ones-reached K xs m (λ k lt. full (suc k) (omega arith)))
+
+-- ---- one value of a cell alone
+module _ (K : Candidates) (places : List ℕ) (k v : ℕ) (different : AreDifferent places)
+    (lt : k < length places) (low : v < 2) (on : K (slice_index places k) v ≡ true) where
+  abbrev cell : ℕ
+  cell = slice_index places k
+
+  abbrev fixed : Candidates
+  fixed c u = K c u && (not (eqb c cell) || eqb u v)
+
+  others : {c : ℕ} (u : ℕ) → (c ≡ cell → ⊥) → fixed c u ≡ K c u
+  others {c} u ne = rw (ne_eqb _ _ ne) (and-true (K c u))
+
+  own : fixed cell v ≡ true
+  own = rw (on, eq-eqb cell cell refl, eq-eqb v v refl) refl
+
+  own-is : (u : ℕ) → u ≡ v → fixed cell u ≡ true
+  own-is u e = ap (fixed cell) e ∙ own
+
+  own-alone : {u : ℕ} → (u ≡ v → ⊥) → fixed cell u ≡ false
+  own-alone ne = grind (arith, common_steps, eq-eqb, ne_eqb)
+
+  must-fixed : must_of fixed places + num (not (K cell 0)) ≡ must_of K places + v
+  must-fixed =
+      count-at _ _ cell (λ c ne. ap not (others 0 ne)) places
+      (distinct-from places different) (has_place-here places k lt)
+      ∙ ap (λ n. must_of K places + n) (by v low refl)
+    where
+      by : (u : ℕ) → u < 2 → u ≡ v → num (not (fixed cell 0)) ≡ u
+      by u l e = grind (arith, common_steps, cases_eq u 0, own-is, own-alone)
+
+  may-fixed : may_of fixed places + num (K cell 1) ≡ may_of K places + v
+  may-fixed =
+      count-at _ _ cell (λ c ne. others 1 ne) places (distinct-from places different) (has_place-here places k lt)
+      ∙ ap (λ n. may_of K places + n) (by v low refl)
+    where
+      by : (u : ℕ) → u < 2 → u ≡ v → num (fixed cell 1) ≡ u
+      by u l e = grind (arith, common_steps, cases_eq u 0, own-is, own-alone)
+
+  full-fixed : IsFull K places → IsFull fixed places
+  full-fixed full j lj = grind (arith, common_steps, cases_eq, slice_index, own-is)
+
+  -- a filling with the value at the cell fills the fixed board, and the other way round
+  fixed-filled : (f : List ℕ) → Fills (sets_at 2 places K) f → get_or f k 0 ≡ v → Fills (sets_at 2 places fixed) f
+  fixed-filled f p at = filled-from fixed places f (p.len ∙ length-sets_at 2 places K) (λ j lj. (
+    (filled-at K places p lj).0,
+    elim (cases_eq (slice_index places j) cell) [
+      | inl here ↦ rw (different j k lj lt here, at) own
+      | inr there ↦ others _ there ∙ (filled-at K places p lj).1
+    ],
+  ))
+
+  filled-fixed : {f : List ℕ} → Fills (sets_at 2 places fixed) f → Fills (sets_at 2 places K) f × (get_or f k 0 ≡ v)
+  filled-fixed {f} p = (
+    filled-from K places f (p.len ∙ length-sets_at 2 places fixed)
+        (λ j lj. let w = filled-at fixed places p lj in (w.0, (and_parts _ _ w.1).0)),
+    elim (cases_eq _ v) [ inl is ↦ is | inr ne ↦ absurd (true≢false (sym (filled-at fixed places p lt).1 ∙ own-alone ne)) ],
+  )
+
+  pub shown-bounds : (least most : ℕ) → IsShown (counts_between least most) (sets_at 2 places K) k v
+      → (least ≤ most) × (least + num (K cell 1) ≤ may_of K places + v) × (must_of K places + v ≤ most + num (not (K cell 0)))
+  shown-bounds least most (f, s) = grind (arith, common_steps, ones-bounds, fixed-filled, and_parts, leb-true, must-fixed, may-fixed)
+
+  pub bounds-shown : {least most : ℕ} → IsFull K places → least ≤ most → least + num (K cell 1) ≤ may_of K places + v
+      → must_of K places + v ≤ most + num (not (K cell 0))
+      → IsShown (counts_between least most) (sets_at 2 places K) k v
+  bounds-shown {least} {most} full order few many =
+      let m = must-fixed in let n = may-fixed in
+      let w =
+      ones-reached fixed places (max least (must_of fixed places)) (full-fixed full)
+      (omega arith) (omega (arith, must-under fixed places (full-fixed full))) in
+      let o = filled-fixed w.1 in
+      (w.0, record { fills = o.0; holds_true = and_from _ _ (le-leb least _ (omega (arith, w.2))) (le-leb _ most (omega (arith, w.2))); has_it = o.1 })
+
+  -- a cell that has both values may hold a one and need not
+  pub open-room : IsFull K places → is_open K cell ≡ true → must_of K places < may_of K places
+  open-room full both =
+      let w = and_parts (K cell 0) (K cell 1) both in omega (arith, must-fixed, may-fixed, no w.0, yes w.1, must-under fixed places (full-fixed full))
+
+-- What a visit of a count house leaves of its cells, by the tally of the house.
 -- ---- a cell that is empty
 not-empty : (K : Candidates) (c : ℕ) {v : ℕ} → v < 2 → K c v ≡ true → is_empty K c ≡ true → ⊥
 not-empty K c {v} low on none = grind (arith, common_steps, cases_eq v 0, and_parts)
@@ -110,3 +286,73 @@ pub two-bits : (zero_in one_in : Bool) (v : ℕ) → v < 2 → has_bit (num zero
 two-bits zero_in one_in zero low = grind (arith, common_steps, cases_Bool zero_in, cases_Bool one_in)
 two-bits zero_in one_in (suc zero) low = grind (arith, common_steps, cases_Bool zero_in, cases_Bool one_in)
 two-bits zero_in one_in (suc (suc v)) low = absurd (omega arith)
+
+-- What a visit of a count house leaves, and how long the longest house is.
+-- ---- the cells of a house are in the board
+pub cell-in : {cells : ℕ} {house : CountHouse} → IsHouse cells house → {k c : ℕ} → c ≡ slice_index house.places k → k < length house.places → c < cells
+cell-in {house = house} is {k} here lt = rw here (is.within _ (has_place-here house.places k lt))
+
+-- ---- the board without what the house strikes from its first n cells
+pub record IsPartly (house : CountHouse) (n : ℕ) (K L : Candidates) : Type 0 where
+  pub left : (c v : ℕ) → L c v ≡ (K c v && not (has_place (take n house.places) c && strikes_of house K c v))
+
+pub partly-first : (house : CountHouse) (K : Candidates) → IsPartly house 0 K K
+unfolding has_place
+partly-first house K = record { left = λ c v. sym (and-true (K c v)) }
+
+module _ {house : CountHouse} (b : Layout) (is : IsHouse (cells_of b) house) (two : b.values ≡ 2) where
+  within : IsWithin (cells_of b) 2 (has b)
+  within c v on = let w = has-within b c v on in (w.0, rw two at w.1)
+
+  pub partly-all : {n : ℕ} {L : Candidates} → IsPartly house n (has b) L → length house.places ≤ n → L ≡ after_house house (has b)
+  unfolding after_house
+  partly-all {n} partly ge = fun_ext λ c. fun_ext λ v.
+      rw (take_all n house.places ge) at (partly.left c v) ∙ ap (λ off. has b c v && not off) (grind (arith, common_steps, cases_Bool, off-scope))
+
+  module _ {t : Tally} (tally : IsTally (has b) house.places t) where
+    -- a house strikes nothing where all would be kept of a cell with both values, if there may be one
+    pub idle-stays : {kept : ℕ} → ((v : ℕ) → v < 2 → has_bit kept v ≡ stays t (bounds_of house) (not (eqb t.must t.may)) v)
+        → kept ≡ 3 → has b ≡ after_house house (has b)
+    unfolding after_house
+    idle-stays keeps all = fun_ext λ c. fun_ext λ v.
+        grind (
+          arith,
+          common_steps,
+          cases_Bool (has b c v),
+          within c v,
+          idle-at (cells_of b) house (has b) t is tally (λ u low. sym (keeps u low) ∙ rw all (two-bits true true u low ∙ always (eqb u 0))) c v,
+        )
+      where
+        always : (a : Bool) → cond a true true ≡ true
+        always a = grind (arith, common_steps, cases_Bool a)
+
+    -- the next cell
+    pub partly-more : {n place : ℕ} (kept : ℕ) {both : Bool} {L M : Candidates} → IsPartly house n (has b) L → n < length house.places
+        → place ≡ slice_index house.places n → both ≡ is_open L place
+        → ((v : ℕ) → v < 2 → has_bit kept v ≡ stays t (bounds_of house) both v)
+        → ((c v : ℕ) → M c v ≡ (L c v && not (eqb place c && not (has_bit kept v)))) → IsPartly house (n + 1) (has b) M
+    unfolding after_house
+    partly-more {n} {place} kept {L = L} partly lt here whole keeps left = record {
+      left = λ c v. left c v ∙ elim (cases_eq c place) [
+        | inl e ↦ rw e (own v)
+        | inr ne ↦ rw (ne_eqb place c (λ e. ne (sym e)), taken-other house.places lt (rw here at ne)) (and-true (L c v) ∙ partly.left c v)
+      ];
+    }
+      where
+        same : (v : ℕ) → L place v ≡ has b place v
+        same v = grind (arith, common_steps, partly.left place v, not_taken house.places lt is.different place here, and-true)
+
+        after : (v : ℕ) → v < 2 → after_house house (has b) place v ≡ (has b place v && stays t (bounds_of house) (is_open (has b) place) v)
+        after v low = rw here (after-at (cells_of b) house (has b) t is tally lt low)
+
+        own : (v : ℕ) → (L place v && not (eqb place place && not (has_bit kept v))) ≡ (has b place v && not (has_place (take (n + 1) house.places) place && strikes_of house (has b) place v))
+        own v = grind (arith, common_steps, cases_Bool (has b place v), same, eq-eqb, taken-here house.places lt place here, within place v, keeps v, whole, after v)
+
+-- ---- the longest scope is as long as any
+pub longest-none : (scope : ℕ → List ℕ) → 0 ≡ longest scope 0
+unfolding longest
+longest-none scope = refl
+
+pub longest-more : (scope : ℕ → List ℕ) (n : ℕ) → longest scope (n + 1) ≡ max (longest scope n) (length (scope n))
+unfolding longest
+longest-more scope n = rw add-one refl

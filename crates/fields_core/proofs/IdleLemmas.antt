@@ -1,8 +1,9 @@
--- Houses whose visits take nothing, which stay idle while others of their kind are visited, and boards that have changed far from them.
-use Rattle.fields_core.proofs.Common.{AllByRecursion, AreDifferent, AreIdle, ArePlanesAlive, AreVisited, Bool, Candidates, CountHouse, IsInside, Layers, List, [], after_house, after_houses, ap, arith, by_fillings-monotone, by_fillings-settled, cases_Bool, common_steps, counts_between, false, false_from_ne_true, fun_ext, further-none, has, has_place, houses_below, inl, inr, list_any, list_any-append, or_cases, refl, strikes_at-inside, strikes_of, suc, sym, true, true≢false, zero, ℕ, ◌&&◌, ◌++◌, ◌+◌, ◌-◌, ◌<◌, ◌||◌, ◌∙◌, ◌∷◌, ◌≡◌, ◌≤◌}
-use Rattle.fields_core.proofs.AtMostLemmas.{IsFull, others-stay}
-use Rattle.fields_core.proofs.VisitLemmas.{after-inside, sweep-more, visits-inside}
+-- Houses that are idle: one by one, in parts of a list, and by lines.
+use Rattle.fields_core.proofs.Common.{AllByRecursion, AreDifferent, AreIdle, ArePlanesAlive, AreVisited, Bool, Candidates, CountHouse, IsClosed, IsInside, IsLeast, Layers, List, [], after_house, after_houses, and_parts, any_below, any_below-here, any_below-none, any_below-some, ap, append_assoc, arith, by_fillings-monotone, by_fillings-settled, cases_Bool, cases_eq, cases_lt, common_steps, count_below, count_below-lt, count_house_of, count_puzzle, counts_between, eq-eqb, eqb, false, false_from_ne_true, fun_ext, further-none, get_or-append_seam, has, has_place, houses_below, inl, inr, le-ltb, length, length-append, list_any, list_any-append, lt-ltb, ltb, ne_eqb, no_count_house, not, not-true, or_cases, refl, strikes_at-inside, strikes_of, suc, sym, true, true≢false, zero, ℕ, ◌&&◌, ◌++◌, ◌+◌, ◌-◌, ◌<◌, ◌||◌, ◌∙◌, ◌∷◌, ◌≡◌, ◌≤◌, ◌⊎◌}
+use Rattle.fields_core.proofs.VisitLemmas.{IsFull, after-inside, below-rest, others-stay, sweep-broken, sweep-first, sweep-more, visits-append, visits-inside}
+use Rattle.fields_core.proofs.HouseLemmas.{below-more}
 
+-- Houses whose visits take nothing, which stay idle while others of their kind are visited, and boards that have changed far from them.
 -- a board between two that have a value in each cell
 pub full-between : {cells : ℕ} {K L M : Candidates} → IsFull cells K → IsFull cells M → IsInside L K → IsInside M L → IsFull cells L
 full-between {K} {L} {M} first last inside within = record {
@@ -95,17 +96,17 @@ unfolding any_has
 any-one house c on = grind (arith, common_steps, cases_Bool (has_place house.places c))
 
 -- visits of idle lists go on to further ones
-pub below-idle : (f : ℕ → List CountHouse) {from to : Layers} (n d : ℕ) → AreVisited (houses_below f n) from to true
+pub below-more : (f : ℕ → List CountHouse) {from to : Layers} (n d : ℕ) → AreVisited (houses_below f n) from to true
     → ((k : ℕ) → n ≤ k → k < n + d → AreIdle (f k) (has to)) → AreVisited (houses_below f (n + d)) from to true
-below-idle f n zero visited idle = let e : n + 0 ≡ n = omega arith in rw e visited
-below-idle f {from} {to} n (suc d) visited idle =
-    let e : n + suc d ≡ n + d + 1 = omega arith in let less = below-idle f n d visited (λ k le lt. idle k le (omega arith)) in
+below-more f n zero visited idle = let e : n + 0 ≡ n = omega arith in rw e visited
+below-more f {from} {to} n (suc d) visited idle =
+    let e : n + suc d ≡ n + d + 1 = omega arith in let less = below-more f n d visited (λ k le lt. idle k le (omega arith)) in
     rw e (sweep-more f less (visited-idle (f (n + d)) less.alive (idle (n + d) (omega arith) (omega arith))) refl)
 
 pub visited-skip : (f : ℕ → List CountHouse) {from to : Layers} {n m : ℕ} → n ≤ m → AreVisited (houses_below f n) from to true
     → ((k : ℕ) → n ≤ k → k < m → AreIdle (f k) (has to)) → AreVisited (houses_below f m) from to true
 visited-skip f {from} {to} {n} {m} le visited idle =
-    let e : n + (m - n) ≡ m = omega arith in rw e at (below-idle f n (m - n) visited (λ k at lt. idle k at (omega arith)))
+    let e : n + (m - n) ≡ m = omega arith in rw e at (below-more f n (m - n) visited (λ k at lt. idle k at (omega arith)))
 
 -- a second visit of a house takes nothing
 house-settled : (house : CountHouse) (K : Candidates) → AreDifferent house.places → after_house house (after_house house K) ≡ after_house house K
@@ -163,3 +164,184 @@ module _ {cells : ℕ} {Is : CountHouse → Type 0} (quiet : AreQuiet cells Is) 
       let between = full-between full still (after-inside house K) (visits-inside houses (after_house house K)) in
       rw (one-kept house houses (after_house house K) is each between still (house-settled house K (quiet.different house is)))
       (list-settled houses (after_house house K) each between still)
+
+-- Houses that stand one after another among others. Of a closed board all are idle.
+-- ---- a part of a list
+pub record IsPartOf (part all : List CountHouse) : Type 0 where
+  pub front : List CountHouse
+  pub back : List CountHouse
+  pub is : all ≡ front ++ (part ++ back)
+
+pub in-front : (part front back : List CountHouse) → IsPartOf part front → IsPartOf part (front ++ back)
+in-front part front back within = record {
+  front = within.front;
+  back = within.back ++ back;
+  is = rw within.is (append_assoc within.front (part ++ within.back) back ∙ (rw (append_assoc part within.back back) refl));
+}
+
+pub in-back : {part : List CountHouse} (front : List CountHouse) {back : List CountHouse} → IsPartOf part back → IsPartOf part (front ++ back)
+in-back {part} front {back} within = record {
+  front = front ++ within.front;
+  back = within.back;
+  is = rw within.is (sym (append_assoc front within.front (part ++ within.back)));
+}
+
+pub in-below : (f : ℕ → List CountHouse) {k n : ℕ} → k < n → IsPartOf (f k) (houses_below f n)
+in-below f {k} {n} lt =
+    let e : k + 1 + (n - (k + 1)) ≡ n = omega arith in rw e at (next k (n - (k + 1)))
+  where
+    next : (k more : ℕ) → IsPartOf (f k) (houses_below f (k + 1 + more))
+    next k more =
+        let w = below-rest f (k + 1) more in
+        record {
+          front = houses_below f k;
+          back = w.0;
+          is = w.1 ∙ rw (below-more f k) (append_assoc (houses_below f k) (f k) w.0);
+        }
+
+-- ---- lists of idle houses
+-- the houses of the lists below n, where each list is idle
+pub below-idle : (f : ℕ → List CountHouse) (n : ℕ) (K : Candidates) → ((k : ℕ) → k < n → AreIdle (f k) K) → AreIdle (houses_below f n) K
+unfolding houses_below after_houses
+below-idle f zero K each = refl
+below-idle f (suc n) K each =
+    visits-append (houses_below f n) (f n) K ∙ rw (below-idle f n K (λ k lt. each k (omega arith))) (each n (omega arith))
+
+-- each list of idle houses is idle
+idle-parts : (front back : List CountHouse) (K : Candidates) → AreIdle (front ++ back) K → AreIdle front K × AreIdle back K
+unfolding after_houses
+idle-parts [] back K idle = (refl, idle)
+idle-parts (house ∷ front) back K idle =
+    let first = idle-first house (front ++ back) K idle in
+    let rest = idle-parts front back K (idle-rest house (front ++ back) K idle) in (rw first rest.0, rest.1)
+
+pub idle-one : (f : ℕ → List CountHouse) {n k : ℕ} (K : Candidates) → k < n → AreIdle (houses_below f n) K → AreIdle (f k) K
+idle-one f {n} {k} K lt idle =
+    let within = in-below f lt in
+    (idle-parts (f k) within.back K (idle-parts within.front (f k ++ within.back) K (rw (within.is) at idle)).1).0
+
+-- ---- houses of a closed board
+module _ (cells : ℕ) (blocked : ℕ → Bool) (houses : List CountHouse) (is_solution : List ℕ → Bool) (K : Candidates)
+    (closed : IsClosed (count_puzzle cells blocked houses is_solution) K) where
+  house-idle : (front : List CountHouse) (house : CountHouse) (back : List CountHouse) → houses ≡ front ++ house ∷ back → after_house house K ≡ K
+  unfolding after_house
+  house-idle front house back is = fun_ext λ c. fun_ext λ v.
+      let at : count_house_of houses (length front) ≡ house = rw is (get_or-append_seam front house back no_count_house) in
+      let here = closed (length front) c v (rw is (omega (arith, length-append front (house ∷ back)))) in
+      by c v (rw at at here) (cases_Bool (K c v))
+    where
+      by : (c v : ℕ) → (K c v ≡ true → strikes_of house K c v ≡ false)
+          → (K c v ≡ true) ⊎ (K c v ≡ false) → (K c v && not (strikes_of house K c v)) ≡ K c v
+      by c v here (inr gone) = rw gone refl
+      by c v here (inl on) = rw (on, here on) refl
+
+  part-idle : (front part back : List CountHouse) → houses ≡ front ++ (part ++ back) → AreIdle part K
+  unfolding after_houses
+  part-idle front [] back is = refl
+  part-idle front (house ∷ part) back is = rw (house-idle front house (part ++ back) is)
+      (part-idle (front ++ house ∷ []) part back (is ∙ sym (append_assoc front (house ∷ []) (part ++ back))))
+
+  pub closed-idle : {part : List CountHouse} → IsPartOf part houses → AreIdle part K
+  closed-idle {part} within = part-idle within.front part within.back within.is
+
+-- Visits of the houses of some lines, one after another: those that are left of a word.
+-- ---- how many places there are from the lowest one of a word on
+abbrev pub places_on : (ℕ → Bool) → ℕ → ℕ
+places_on left room = count_below (λ k. any_below left (suc k)) room
+
+-- fewer, where all that are left come after it
+pub fewer-on : {left rest : ℕ → Bool} {room least : ℕ} → IsLeast left room least → ((k : ℕ) → rest k ≡ true → least < k) → places_on rest room < places_on left room
+fewer-on {left} {rest} {room} {least} is on =
+    count_below-lt (λ k. any_below rest (suc k)) (λ k. any_below left (suc k)) room least
+    (λ k lt some. let w = any_below-some rest (suc k) some in any_below-here left (suc k) least (omega (arith, on w.0 w.2, w.1)) is.has)
+    is.within
+    (false_from_ne_true _ (λ some. let w = any_below-some rest (suc least) some in absurd (omega (arith, on w.0 w.2, w.1))))
+    (any_below-here left (suc least) least (omega arith) is.has)
+
+-- ---- the houses of the lines so far are visited, and those of the lines behind them that are not left are idle
+pub record ArePassed (f : ℕ → List CountHouse) (n : ℕ) (left : ℕ → Bool) (from to : Layers) : Type 0 where
+  pub line : ℕ
+  pub line_in : line ≤ n
+  pub behind : (k : ℕ) → left k ≡ true → line ≤ k
+  pub inside : (k : ℕ) → left k ≡ true → k < n
+  pub visited : AreVisited (houses_below f line) from to true
+  pub idle : (k : ℕ) → line ≤ k → k < n → left k ≡ false → AreIdle (f k) (has to)
+
+pub passed-first : (f : ℕ → List CountHouse) {n : ℕ} {left : ℕ → Bool} {from : Layers} → ArePlanesAlive from → ((k : ℕ) → left k ≡ true → k < n)
+    → ((k : ℕ) → k < n → left k ≡ false → AreIdle (f k) (has from)) → ArePassed f n left from from
+passed-first f alive inside idle = record {
+  line = 0;
+  line_in = omega arith;
+  behind = λ k on. omega arith;
+  inside = inside;
+  visited = sweep-first f alive;
+  idle = λ k at lt off. idle k lt off;
+}
+
+module _ (f : ℕ → List CountHouse) {n : ℕ} {left : ℕ → Bool} {from to : Layers} where
+  -- none is left
+  pub passed-all : {room : ℕ} → ArePassed f n left from to → n ≤ room → any_below left room ≡ false → AreVisited (houses_below f n) from to true
+  passed-all {room} passed low none =
+      visited-skip f passed.line_in passed.visited (λ k at lt. passed.idle k at lt (any_below-none left room none k (omega (arith, lt, low))))
+
+  module _ {next : Layers} {room line : ℕ} {fills : Bool} (passed : ArePassed f n left from to) (least : IsLeast left room line) (visited : AreVisited (f line) to next fills) where
+    below : AreVisited (houses_below f line) from to true
+    below = visited-skip f (passed.behind line least.has) passed.visited
+        (λ k at lt. passed.idle k at (omega (arith, lt, passed.inside line least.has)) (least.before k lt))
+
+    -- the next line has a house with no filling
+    pub passed-broken : fills ≡ false → AreVisited (houses_below f n) from next false
+    passed-broken none = sweep-broken f below visited none (passed.inside line least.has)
+
+    -- or none, and lines behind it are left
+    pub passed-next : fills ≡ true → (rest : ℕ → Bool) → ((k : ℕ) → rest k ≡ true → (line < k) × (k < n))
+        → ((k : ℕ) → line < k → k < n → rest k ≡ false → AreIdle (f k) (has next)) → ArePassed f n rest from next
+    passed-next fill rest on idle = record {
+      line = line + 1;
+      line_in = omega (arith, passed.inside line least.has);
+      behind = λ k there. omega (arith, (on k there).0);
+      inside = λ k there. (on k there).1;
+      visited = sweep-more f below visited fill;
+      idle = λ k at lt off. idle k (omega (arith, at)) lt off;
+    }
+
+-- the least is taken from what is left
+module _ {left rest : ℕ → Bool} {room least : ℕ} (is : IsLeast left room least) (without : (k : ℕ) → rest k ≡ (left k && not (eqb k least))) where
+  pub rest-on : (k : ℕ) → rest k ≡ true → (least < k) × (left k ≡ true)
+  rest-on k on =
+      let w = and_parts _ _ (sym (without k) ∙ on) in (
+        elim (cases_lt least k) [
+          | inl high ↦ high
+          | inr low ↦ elim (cases_eq k least) [
+            | inl e ↦ let gone : not (eqb k least) ≡ false = rw (e, eq-eqb least least refl) refl in absurd (true≢false (sym w.1 ∙ gone))
+            | inr ne ↦ absurd (true≢false (sym w.0 ∙ is.before k (omega (arith, low, ne))))
+          ]
+        ],
+        w.0,
+      )
+
+  pub rest-off : {k : ℕ} → least < k → rest k ≡ false → left k ≡ false
+  rest-off {k} high off =
+      let apart : eqb k least ≡ false = ne_eqb k least (λ e. absurd (omega (arith, e, high))) in
+      let kept : rest k ≡ (left k && not false) = without k ∙ rw apart refl in by (left k) (rest k) kept off
+    where
+      by : (a b : Bool) → b ≡ (a && not false) → b ≡ false → a ≡ false
+      by a b e off = grind (arith, common_steps, cases_Bool a, cases_Bool b)
+
+-- places of a word behind one
+module _ (word first rest : ℕ → Bool) (line : ℕ) (first_is : (k : ℕ) → first k ≡ ltb k (line + 1)) (is : (k : ℕ) → rest k ≡ (word k && not (first k))) where
+  pub from-on : (k : ℕ) → rest k ≡ true → (line < k) × (word k ≡ true)
+  from-on k on =
+      let w = and_parts _ _ (sym (is k) ∙ on) in (
+        elim (cases_lt line k) [
+          | inl high ↦ high
+          | inr low ↦ absurd (true≢false (sym (first_is k ∙ lt-ltb k (line + 1) (omega (arith, low))) ∙ not-true _ w.1))
+        ],
+        w.0,
+      )
+
+  pub from-off : {k : ℕ} → line < k → rest k ≡ false → word k ≡ false
+  from-off {k} high off = by (word k) (first k) (first_is k ∙ le-ltb k (line + 1) (omega (arith, high))) (sym (is k) ∙ off)
+    where
+      by : (a b : Bool) → b ≡ false → (a && not b) ≡ false → a ≡ false
+      by a b out e = grind (arith, common_steps, cases_Bool a, cases_Bool b)

@@ -1,23 +1,14 @@
 -- The lemmas that the proofs of each source file go by.
-use Rattle.fields_core.proofs.CountListLemmas.{below-more, below-none}
-use Rattle.fields_core.proofs.CountKept.{two-bits}
-use Rattle.fields_core.proofs.CountTallies.{tally-all, tally-few, tally-first, tally-past, tally-segment}
-use Rattle.fields_core.proofs.HouseLemmas.{added-more, added-none, four-long, line-cells, left-within, named-cells, named-long, place-here, place-later, places-last, segment-at, segment-long}
-use Rattle.fields_core.proofs.HouseVisits.{longest-more, longest-none, partly-first}
-use Rattle.fields_core.proofs.LightCounting.{light-counting, light-lawful}
-use Rattle.fields_core.proofs.LightLines.{cell-at, white-at}
-use Rattle.fields_core.proofs.LightRuleLemmas.{light-tells, rule-from-test, test-from-rule}
+use Rattle.fields_core.proofs.HouseLemmas.{added-more, added-none, below-more, below-none, cell-at, four-long, left-within, line-cells, named-cells, named-long, place-here, place-later, places-last, segment-at, segment-long, tally-all, tally-few, tally-first, tally-past, tally-segment, white-at}
+use Rattle.fields_core.proofs.CountKept.{longest-more, longest-none, partly-first, two-bits}
+use Rattle.fields_core.proofs.LightRuleLemmas.{light-counting, light-lawful, light-tells, rule-from-test, test-from-rule}
 use Rattle.fields_core.proofs.LightSeen.{black-unseen}
-use Rattle.fields_core.proofs.LightLatest.{few-places}
-use Rattle.fields_core.proofs.LightHouseNames.{column-of-place, place-row, row-of-place}
+use Rattle.fields_core.proofs.RunLemmas.{few-places}
+use Rattle.fields_core.proofs.LightCompleting.{column-of-place, place-row, row-of-place}
 use Rattle.fields_core.proofs.RuleLemmas.{same-shape, start-all, start-blocked}
 use Rattle.fields_core.proofs.TentCounting.{tent-counting, tent-lawful}
-use Rattle.fields_core.proofs.TentHouseLemmas.{square-none}
-use Rattle.fields_core.proofs.TentLines.{line-all, line-more, line-skip, line-start}
-use Rattle.fields_core.proofs.TentNext.{barred-alone, barred-tree, next-joined, next-none, passed-bare, passed-early, passed-edge, passed-start}
-use Rattle.fields_core.proofs.TentNumbers.{count-none, listed-all, listed-skip}
-use Rattle.fields_core.proofs.TentPairLemmas.{count-is, listed-tents, others-unpaired, short-unpaired, whole-pairs}
-use Rattle.fields_core.proofs.TentRuleLemmas.{tents-from-solution, tents-tell, solution-from-tents}
+use Rattle.fields_core.proofs.TentLines.{barred-alone, barred-tree, count-none, line-all, line-more, line-skip, line-start, listed-all, listed-skip, next-joined, next-none, passed-bare, passed-early, passed-edge, passed-start, square-none}
+use Rattle.fields_core.proofs.TentRuleLemmas.{count-is, listed-tents, others-unpaired, short-unpaired, solution-from-tents, tents-from-solution, tents-tell, whole-pairs}
 use Rattle.fields_core.proofs.TentWaits.{rested-woken}
 use Rattle.fields_core.proofs.VisitLemmas.{sweep-first, sweep-more}
 use Rattle.fields_core.proofs.Common.{append-nil, append_assoc, eq-eqb, map-append, mul-le-mul_right, mul-lt, ne_eqb}

@@ -1,15 +1,163 @@
--- A grid of Light Up that meets each house with a cell is a solution exactly if each number above 0 has a white cell beside it.
-use Rattle.fields_core.proofs.Common.{AreMet, Black, Bool, CountHouse, IsGrid, IsLight, Light, LightCell, List, Numbered, White, all_below-at, all_below-from, and_parts, any_below, any_below-none, any_below-some, ap, arith, begins_column_run, begins_row_run, black_right, bulb, bulb_right, bulbs_beside, cases_Bool, cases_eq, column_house, column_run, common_steps, count_by, count_by-le-length, eq-eqb, eqb, eqb-true, exactly, false_from_ne_true, filter, get_or, has_place, has_place-at, houses_below, inl, inr, leb-true, length, light_cells, light_counts, light_houses, lit_house, lit_right, lonely, lt-ltb, map, meets, ne_eqb, nonzeros, not, not-true, number_house, number_right, one_at_least, one_at_most, or_cases, or_left, or_right, place-append, place-filter, place-front, refl, row_house, row_run, seen_from, sees, sees_bulb, slice_index, solves_lights, steps, sym, true, true≢false, white, ℕ, ◌<◌, ◌||◌, ◌∙◌, ◌≡◌}
-use Rattle.fields_core.proofs.BelowLemmas.{any-some}
-use Rattle.fields_core.proofs.PlaceLists.{count-filter, count-two, ones-bulbs, some-counted}
-use Rattle.fields_core.proofs.LightFaultLemmas.{lit-from, lit-parts}
-use Rattle.fields_core.proofs.VisitLemmas.{among-back, among-below, among-front, among-met, among-one}
-use Rattle.fields_core.proofs.LightSight.{bulb-in}
+-- Light Up: names of houses, lonely numbers, and grids that meet each house.
+use Rattle.fields_core.proofs.Common.{AreMet, AreNamed, Black, Bool, CountHouse, HouseName, IsAround, IsGrid, IsLight, IsNext, Light, LightCell, LightHouse, List, None, Numbered, Option, Segment, Some, White, [], all_below-at, all_below-from, and_parts, any_below, any_below-here, any_below-none, any_below-some, ap, append-nil, ap₂, arith, asks, begins_column_run, begins_row_run, black_right, bulb, bulb_right, bulbs_beside, cases_Bool, cases_eq, cases_lt, column_house, column_run, common_steps, cond, count_by, count_by-le-length, count_house_of, eq-eqb, eqb, eqb-true, exactly, false, false_from_ne_true, filter, get_or, get_or_append_left, get_or_past, has_place, has_place-at, houses_below, inl, inr, is_some, is_white, leb-true, length, length-append, light_cells, light_counts, light_house, light_houses, line_cells, line_white, lit_house, lit_right, lonely, lt-ltb, ltb-true, map, meets, min, mod-lt, ne_eqb, no_count_house, nonzeros, not, not-true, number_house, number_right, one_at_least, one_at_most, or_cases, or_left, or_right, place-append, place-filter, place-front, places_of, refl, row_house, row_run, run_house, seen_from, sees, sees_bulb, segment_places, slice_index, solves_lights, steps, suc, sym, true, true≢false, white, zero, ℕ, ◌%◌, ◌&&◌, ◌*◌, ◌++◌, ◌+◌, ◌-◌, ◌/◌, ◌<◌, ◌||◌, ◌∙◌, ◌∷◌, ◌≡◌, ◌≤◌}
+use Rattle.fields_core.proofs.LightHouseLaws.{bulb-in, column-self, lit-from, lit-parts, row-self, small-at, white-in}
+use Rattle.fields_core.proofs.RunLemmas.{column-house-is, lit-lines, row-house-is}
+use Rattle.fields_core.proofs.BesideLemmas.{row-in, whole-cell}
+use Rattle.fields_core.specs.declared.light_up.light_house.LightHouse.TheVariants.{Column, Lit, Number, Row}
+use Rattle.fields_core.specs.LightHouses.{numbered}
+use Rattle.fields_core.proofs.HouseLemmas.{named-cells, named-long, named-told}
+use Rattle.fields_core.proofs.VisitLemmas.{IsAmong, among-back, among-below, among-front, among-met, among-one}
+use Rattle.fields_core.proofs.PlaceLists.{any-some, count-filter, count-two, ones-bulbs, some-counted}
 use Rattle.fields_core.proofs.LightSeen.{seen-there}
-use Rattle.fields_core.proofs.LightCounting.{IsBoard, light-board, in-row-run, in-column-run, row-run-joined, column-run-joined}
-use Rattle.fields_core.proofs.LightHouseLaws.{row-self, column-self, small-at, white-in}
-use Rattle.fields_core.proofs.LightRunBegins.{row-begin, column-begin}
+use Rattle.fields_core.proofs.LightRuleLemmas.{IsBoard, column-run-joined, in-column-run, in-row-run, light-board, row-run-joined}
+use Rattle.fields_core.proofs.LightRunOrder.{column-begin, row-begin}
 
+-- Houses of Light Up by what tells them. A place that tells a house lies in the grid.
+-- ---- a house is told
+pub told-if : (b : Bool) (house : CountHouse) → length (cond b (house ∷ []) []) ≡ 1 → b ≡ true
+told-if true house e = refl
+told-if false house e = absurd (omega arith)
+
+-- its place lies in the grid
+pub place-tells : (p : Light) (kind : LightHouse) (c : ℕ) → IsLight p → length (light_house p kind c) ≡ 1 → c < light_cells p
+unfolding begins_row_run begins_column_run
+place-tells p Number c lawful e = elim (cases_lt c (length p.cells)) [
+  | inl lt ↦ let long = lawful.count in omega arith
+  | inr past ↦ absurd (omega (arith, rw (get_or_past p.cells c Black past) at e))
+]
+place-tells p Row c lawful e = white-in p c lawful.count (and_parts _ _ (told-if (begins_row_run p c) _ e)).0
+place-tells p Column c lawful e = white-in p c lawful.count (and_parts _ _ (told-if (begins_column_run p c) _ e)).0
+place-tells p Lit c lawful e = white-in p c lawful.count (told-if (white p c) _ e)
+
+-- ---- the house of a white cell is that of three segments
+pub lit-told : (p : Light) (y : ℕ) {x : ℕ} (a b c none : Segment) {left right top end : ℕ} → x < p.size.w → white p (y * p.size.w + x) ≡ true
+    → IsAround (line_white p (y * p.size.w) 1) p.size.w x left right → IsAround (line_white p x p.size.w) p.size.h y top end
+    → segment_places a ≡ line_cells (y * p.size.w) 1 left right → segment_places b ≡ line_cells x p.size.w top y
+    → segment_places c ≡ line_cells x p.size.w (y + 1) end → segment_places none ≡ []
+    → lit_house p (y * p.size.w + x) ≡ one_at_least (places_of (a ∷ b ∷ c ∷ none ∷ [])) ∷ []
+lit-told p y {x} a b c none {left} {right} {top} {end} lt on row column is_a is_b is_c is_none =
+    let first : y * p.size.w + left * 1 ≡ y * p.size.w + left = omega arith in
+    let below : x + (y + 1) * p.size.w ≡ y * p.size.w + x + p.size.w = omega arith in
+    let rest : end - (y + 1) ≡ end - y - 1 = omega arith in
+    lit-lines p lt on row column
+    ∙ ap (λ l. one_at_least l ∷ [])
+    (sym ((rw is_none (ap (λ l. segment_places a ++ (segment_places b ++ l)) (append-nil (segment_places c)))) ∙ ap₂ (λ s t. s ++ t) (rw first at is_a) (ap₂ (λ s t. s ++ t) is_b (rw (below, rest) at is_c))))
+
+-- ---- the line of a place
+pub place-row : (p : Light) (kind : LightHouse) (c : ℕ) → IsLight p → length (light_house p kind c) ≡ 1 → c / p.size.w < p.size.h
+place-row p kind c lawful e = row-in p.size.h c lawful.size.extent.w_low (place-tells p kind c lawful e)
+
+pub row-of-place : (p : Light) (c : ℕ) → 0 < p.size.w → run_house p (c / p.size.w * p.size.w) 1 p.size.w (c % p.size.w) ≡ row_house p c
+row-of-place p c some = rw (← whole-cell p.size.w c) at (row-house-is p (c / p.size.w) (mod-lt c some))
+
+pub column-of-place : (p : Light) (c : ℕ) → 0 < p.size.w → run_house p (c % p.size.w) p.size.w p.size.h (c / p.size.w) ≡ column_house p c
+column-of-place p c some = rw (← whole-cell p.size.w c) at (column-house-is p (c / p.size.w) (mod-lt c some))
+
+-- Numbers of Light Up that no grid meets, by the names of the houses.
+-- ---- a house that is told
+told-one : (b : Bool) (house : CountHouse) {other : CountHouse} → cond b (house ∷ []) [] ≡ other ∷ [] → (b ≡ true) × (house ≡ other)
+told-one true house e = (refl, ap (λ l. count_house_of l 0) e)
+told-one false house e = absurd (omega (arith, ap length e))
+
+number-one : (cell : LightCell) (places : List ℕ) {house : CountHouse} → numbered cell places ≡ house ∷ [] → (n : ℕ) × (cell ≡ Numbered n) × (exactly n places ≡ house)
+number-one White places e = absurd (omega (arith, ap length e))
+number-one Black places e = absurd (omega (arith, ap length e))
+number-one (Numbered n) places e = (n, refl, ap (λ l. count_house_of l 0) e)
+
+asks-number : (cell : LightCell) → asks cell ≡ true → (n : ℕ) × (cell ≡ Numbered n) × (0 < n)
+asks-number White e = absurd (true≢false (sym e))
+asks-number Black e = absurd (true≢false (sym e))
+asks-number (Numbered n) e = (n, refl, ltb-true _ _ e)
+
+asks-black : (p : Light) (c : ℕ) → asks (get_or p.cells c Black) ≡ true → white p c ≡ true → ⊥
+unfolding white
+asks-black p c on is = let w = asks-number (get_or p.cells c Black) on in true≢false (sym is ∙ ap is_white w.1)
+
+-- a name asks for what no grid has
+abbrev pub calls : Light → HouseName LightHouse → Bool
+calls p name = asks (get_or p.cells name.place Black) && eqb name.cells 0
+
+-- only a number tells the house of a number other than 0 with no cell
+told-asks : (p : Light) (kind : LightHouse) (c n : ℕ) (places : List ℕ) → light_house p kind c ≡ exactly n places ∷ [] → 0 < n → length places ≡ 0
+    → asks (get_or p.cells c Black) ≡ true
+told-asks p Number c n places e some none =
+    let w = number-one (get_or p.cells c Black) _ e in
+    let same : w.0 ≡ n = ap (λ (h : CountHouse). h.least) w.2 in rw (w.1, same) (lt-ltb _ _ some)
+told-asks p Row c n places e some none = absurd (omega (arith, ap (λ (h : CountHouse). h.least) (told-one (begins_row_run p c) _ e).1))
+told-asks p Column c n places e some none = absurd (omega (arith, ap (λ (h : CountHouse). h.least) (told-one (begins_column_run p c) _ e).1))
+told-asks p Lit c n places e some none =
+    let h = (told-one (white p c) _ e).1 in
+    absurd (omega (arith, ap (λ (h : CountHouse). h.most) h, ap (λ (h : CountHouse). length h.places) h))
+
+-- a name that asks for what no grid has is that of a lonely number
+calls-lonely : (p : Light) (kind : LightHouse) (c : ℕ) (house : CountHouse) → light_house p kind c ≡ house ∷ [] → length house.places ≡ 0
+    → asks (get_or p.cells c Black) ≡ true → lonely p c ≡ true
+unfolding begins_row_run begins_column_run
+calls-lonely p Number c house e none on =
+    let w = number-one (get_or p.cells c Black) _ e in rw on (eq-eqb _ _ (ap (λ (h : CountHouse). length h.places) w.2 ∙ none))
+calls-lonely p Row c house e none on = absurd (asks-black p c on (and_parts _ _ (told-one (begins_row_run p c) _ e).0).0)
+calls-lonely p Column c house e none on = absurd (asks-black p c on (and_parts _ _ (told-one (begins_column_run p c) _ e).0).0)
+calls-lonely p Lit c house e none on = absurd (asks-black p c on (told-one (white p c) _ e).0)
+
+-- ---- the names of numbers are the first
+number-few : (cell : LightCell) (places : List ℕ) → length (numbered cell places) ≤ 1
+number-few White places = omega arith
+number-few Black places = omega arith
+number-few (Numbered n) places = omega arith
+
+numbers-few : (p : Light) (n : ℕ) → length (houses_below (number_house p) n) ≤ n
+unfolding houses_below
+numbers-few p zero = omega arith
+numbers-few p (suc n) =
+    omega (arith, numbers-few p n, length-append (houses_below (number_house p) n) (number_house p n), number-few (get_or p.cells n Black) (filter (white p) (steps p.size n 4)))
+
+within-front : (front back : List CountHouse) {k : ℕ} → k < length front → k < length (front ++ back)
+within-front front back lt = omega (arith, length-append front back)
+
+abbrev pub no_name : HouseName LightHouse
+no_name = record { kind = Number; place = 0; cells = 0 }
+
+module _ (p : Light) (names : List (HouseName LightHouse)) (are : AreNamed (light_house p) names (light_houses p)) where
+  -- one of the first names is that of the number of a cell
+  number-named : {c n : ℕ} → c < light_cells p → get_or p.cells c Black ≡ Numbered n → 0 < n → length (filter (white p) (steps p.size c 4)) ≡ 0
+      → (k : ℕ) × (k < length names) × (k < light_cells p) × (calls p (get_or names k no_name) ≡ true)
+  unfolding light_houses
+  number-named {c} {n} lt e some none =
+      let house = exactly n (filter (white p) (steps p.size c 4)) in
+      let low : IsAmong house (houses_below (number_house p) (light_cells p)) = among-below _ (number_house p) lt (rw e (among-one _)) in
+      let is : count_house_of (light_houses p) low.number ≡ house = get_or_append_left (houses_below (number_house p) (light_cells p)) _ no_count_house low.number low.within ∙ low.is in
+      let within : low.number < length names =
+      let front : low.number < length (light_houses p) = within-front (houses_below (number_house p) (light_cells p)) _ low.within in
+      omega (arith, front, named-long (light_house p) names (light_houses p) are) in
+      let name = get_or names low.number no_name in
+      let told = named-told (light_house p) names (light_houses p) no_name are within ∙ ap (λ h. h ∷ []) is in
+      let cells = named-cells (light_house p) names (light_houses p) no_name are within ∙ ap (λ (h : CountHouse). length h.places) is ∙ none in
+      (low.number, within, omega (arith, low.within, numbers-few p (light_cells p)), rw (told-asks p name.kind name.place n _ told some none, cells) refl)
+
+  -- where none of the first names asks for what no grid has, no number is lonely
+  pub none-lonely : ((k : ℕ) → k < length names → k < light_cells p → calls p (get_or names k no_name) ≡ false)
+      → any_below (lonely p) (light_cells p) ≡ false
+  none-lonely off = false_from_ne_true _ (λ on.
+      let w = any_below-some (lonely p) (light_cells p) on in let parts = and_parts _ _ w.2 in
+      let cell = asks-number (get_or p.cells w.0 Black) parts.0 in
+      let name = number-named w.1 cell.1 cell.2 (eqb-true _ _ parts.1) in
+      true≢false (sym name.3 ∙ off name.0 name.1 name.2))
+
+  -- one of them that does is that of a lonely number
+  pub some-lonely : (k : ℕ) → IsLight p → k < length names → calls p (get_or names k no_name) ≡ true → any_below (lonely p) (light_cells p) ≡ true
+  some-lonely k lawful lt on =
+      let name = get_or names k no_name in
+      let told = named-told (light_house p) names (light_houses p) no_name are lt in let parts = and_parts _ _ on in
+      let none = sym (named-cells (light_house p) names (light_houses p) no_name are lt) ∙ eqb-true _ _ parts.1 in
+      any_below-here (lonely p) (light_cells p) name.place (place-tells p name.kind name.place lawful (ap length told))
+      (calls-lonely p name.kind name.place _ told none parts.0)
+
+  pub lonely-told : (n : ℕ) (found : Option ℕ) → IsLight p → n ≡ min (length names) (light_cells p)
+      → IsNext (λ k. calls p (get_or names k no_name)) n 0 found → is_some found ≡ any_below (lonely p) (light_cells p)
+  lonely-told n None lawful e next = sym (none-lonely (λ k named cell. next k (omega arith) (omega arith)))
+  lonely-told n (Some k) lawful e next = sym (some-lonely k lawful (omega (arith, next.1)) next.2)
+
+-- A grid of Light Up that meets each house with a cell is a solution exactly if each number above 0 has a white cell beside it.
 module _ (p : Light) (g : List ℕ) (is : IsLight p) (grid : IsGrid (light_cells p) 2 g) (met : AreMet (light_counts p) g) where
   board : IsBoard p
   board = light-board is

@@ -1,9 +1,51 @@
--- The houses of Light Up are houses, and each solution meets them.
-use Rattle.fields_core.proofs.Common.{AreDistinct, Bool, CountHouse, Extent, IsGrid, IsHouse, Light, List, [], all_below-at, all_below-from, and_from, and_parts, ap, arith, begins_column_run, begins_row_run, bulb, cases_Bool, cases_eq, cases_lt, clear, column-at, column_places, column_run, common_steps, cond, count_by, count_house_of, different-from, distinct-from, div-eq_of_lt, eq-eqb, eqb, eqb-true, false, false_from_ne_true, filter, filter_agree, get_or_past, has_place, houses_below, inl, inr, joined_in_column, joined_in_row, le-leb, length, light_cells, lt-ltb, ltb, ltb-true, max, meets, min, mul-le-mul_right, not, not-false, or_cases, or_left, or_parts, or_right, refl, row-at, row_places, row_run, slice_index, suc, sym, true, true≢false, white, zero, ℕ, ◌%◌, ◌*◌, ◌++◌, ◌+◌, ◌-◌, ◌/◌, ◌<◌, ◌||◌, ◌∙◌, ◌∷◌, ◌≡◌, ◌≤◌}
-use Rattle.fields_core.proofs.HouseLists.{row-long, column-long}
-use Rattle.fields_core.proofs.TentBeside.{cell-below, cell-parts, whole-cell}
+-- The houses of Light Up, its tests, and which bulbs a cell sees.
+use Rattle.fields_core.proofs.Common.{AreDistinct, Bool, CountHouse, Extent, IsGrid, IsHouse, Light, List, [], all_below, all_below-at, all_below-from, and_from, and_parts, ap, arith, begins_column_run, begins_row_run, black_right, bulb, bulb_right, cases_Bool, cases_eq, cases_lt, clear, column-at, column_places, column_run, common_steps, cond, count_by, count_house_of, different-from, distinct-from, div-eq_of_lt, div-lt_iff_lt-mul, eq-eqb, eqb, eqb-true, false, false_from_ne_true, filter, filter_agree, get_or_past, has_place, houses_below, inl, inr, joined_in_column, joined_in_row, le-leb, length, light_cells, lit_right, lt-ltb, ltb, ltb-true, max, meets, min, mod-lt, mul-le-mul_right, not, not-false, number_right, or_cases, or_left, or_parts, or_right, refl, row-at, row_places, row_run, slice_index, solves_lights, suc, sym, true, true≢false, white, zero, ℕ, ◌%◌, ◌*◌, ◌++◌, ◌+◌, ◌-◌, ◌/◌, ◌<◌, ◌||◌, ◌∙◌, ◌∷◌, ◌≡◌, ◌≤◌}
+use Rattle.fields_core.proofs.HouseLemmas.{column-long, row-long}
+use Rattle.fields_core.proofs.BesideLemmas.{cell-below, cell-parts, whole-cell}
 use Rattle.fields_core.proofs.PlaceLists.{ones-bulbs}
 
+-- The four parts of the test of a grid of Light Up.
+pub lit-from : (p : Light) (g : List ℕ) → all_below (black_right p g) (light_cells p) ≡ true → all_below (number_right p g) (light_cells p) ≡ true
+    → all_below (bulb_right p g) (light_cells p) ≡ true → all_below (lit_right p g) (light_cells p) ≡ true → solves_lights p g ≡ true
+unfolding solves_lights
+lit-from p g a b c d = and_from _ _ a (and_from _ _ b (and_from _ _ c d))
+
+pub record LitParts (p : Light) (g : List ℕ) : Type 0 where
+  pub black : all_below (black_right p g) (light_cells p) ≡ true
+  pub number : all_below (number_right p g) (light_cells p) ≡ true
+  pub seen : all_below (bulb_right p g) (light_cells p) ≡ true
+  pub lit : all_below (lit_right p g) (light_cells p) ≡ true
+
+pub lit-parts : (p : Light) (g : List ℕ) → solves_lights p g ≡ true → LitParts p g
+unfolding solves_lights
+lit-parts p g on = grind (arith, common_steps, and_parts)
+
+-- Which bulbs a cell sees: what a walk along its row and its column shows.
+-- the cells of a row and of a column, by column and by row
+pub row-of : (p : Light) (c d : ℕ) → 0 < p.size.w → joined_in_row p c d ≡ true
+    → (x : ℕ) × (x < p.size.w) × (slice_index (row_places p.size (c / p.size.w)) x ≡ d)
+unfolding joined_in_row
+row-of p c d pos on =
+    let same = eqb-true (c / p.size.w) (d / p.size.w) (and_parts _ _ on).0 in let lt = mod-lt d pos in
+    (d % p.size.w, lt, sym (row-at p.size (c / p.size.w) (d % p.size.w) lt) ∙ rw same (omega arith))
+
+pub column-of : (p : Light) (c d : ℕ) → 0 < p.size.w → d < light_cells p
+    → joined_in_column p c d ≡ true → (y : ℕ) × (y < p.size.h)
+    × (slice_index (column_places p.size (c % p.size.w)) y ≡ d)
+unfolding joined_in_column
+column-of p c d pos below on =
+    let same = eqb-true (c % p.size.w) (d % p.size.w) (and_parts _ _ on).0 in
+    let lt : d / p.size.w < p.size.h = (div-lt_iff_lt-mul pos).1 (omega arith) in
+    (d / p.size.w, lt, sym (column-at p.size (c % p.size.w) (d / p.size.w) lt) ∙ rw same (omega arith))
+
+-- a bulb stands in the grid
+pub bulb-in : (g : List ℕ) {cells : ℕ} (d : ℕ) → length g ≡ cells → bulb g d ≡ true → d < cells
+bulb-in g d long on = grind (arith, common_steps, cases_lt, eqb-true, slice_index, get_or_past)
+
+pub some-column : (p : Light) {c : ℕ} → c < light_cells p → 0 < p.size.w
+some-column p lt = grind (arith, common_steps)
+
+-- The houses of Light Up are houses, and each solution meets them.
 -- ---- what holds of each house of a list
 abbrev pub EachOf : (CountHouse → Type 0) → List CountHouse → Type 0
 EachOf P houses = (h : ℕ) → h < length houses → P (count_house_of houses h)

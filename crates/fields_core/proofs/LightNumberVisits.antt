@@ -1,12 +1,11 @@
 -- Visits of the numbers of Light Up on planes.
 use Rattle.fields_core.proofs.Common.{ArePieces, ArePlanesAlive, AreVisited, Black, Bool, Column, Extent, IsBroken, IsColumnOf, IsFurther, IsHouse, IsHouseOf, IsLight, Layers, Light, List, Numbered, Piece, Row, [], after_house, after_houses, and-false, and_from, and_parts, any_below, any_below-none, any_below-some, arith, beside, cases_Bool, cases_eq, cases_lt, common_steps, crosses, div-mul-add, eq-eqb, eqb, eqb-true, exactly, false, filter, fun_ext, further-none, get_or, get_or-set_other, get_or-set_same, has, has_bit, has_place, inl, inr, le-ltb, length, length-map, lies_in, lies_in_first, light_cells, light_houses, lines_beside, lt-ltb, ltb, ltb-true, map, map-set, ne_eqb, not, number_house, number_of, or_cases, or_left, or_parts, or_right, piece_at, place-column, place-in, refl, set, slice_index, subst, suc, sym, true, true≢false, white, zero, ℕ, ◌%◌, ◌&&◌, ◌*◌, ◌+◌, ◌-◌, ◌/◌, ◌<◌, ◌||◌, ◌∙◌, ◌∷◌, ◌≡◌, ◌≤◌}
-use Rattle.fields_core.proofs.AtMostLemmas.{others-stay}
+use Rattle.fields_core.proofs.VisitLemmas.{among-below, among-front, among-house, among-one, others-stay, visited-none}
 use Rattle.fields_core.proofs.CellLemmas.{cell-is, same-truth}
-use Rattle.fields_core.proofs.LightCounting.{light-counting}
-use Rattle.fields_core.proofs.TentBeside.{whole-cell}
+use Rattle.fields_core.proofs.LightRuleLemmas.{light-counting}
+use Rattle.fields_core.proofs.BesideLemmas.{whole-cell}
 use Rattle.fields_core.proofs.PlaceLists.{filter-has}
 use Rattle.fields_core.proofs.TentTreeWords.{beside-has}
-use Rattle.fields_core.proofs.VisitLemmas.{among-below, among-front, among-house, among-one, visited-none}
 
 -- ---- the house of a number is a house
 pub number-is : {p : Light} {c n : ℕ} → IsLight p → c < light_cells p → get_or p.cells c Black ≡ Numbered n

@@ -1,11 +1,43 @@
--- The rows of the white cells of Light Up that wait.
-use Rattle.fields_core.proofs.Common.{AreColumnsParted, AreParted, ArePlanesAlive, Bool, Column, IsAway, IsLeast, IsLight, IsReach, IsRowOf, Layers, Light, Line, Row, Touched, and_from, any_below, any_below-none, arith, at_line, cases_Bool, cases_lt, clear, column_run, common_steps, div-mul-add, eqb, false, false_from_ne_true, has_bit, has_place, inl, inr, joined_in_column, joined_in_row, le-ltb, line_len, lines_beside, lt-ltb, ltb, max, min, not, number_of, place-append, place-column, place-filter, place-in, refl, row_run, seen_from, sym, true, true≢false, white, ℕ, ◌%◌, ◌&&◌, ◌*◌, ◌+◌, ◌/◌, ◌<◌, ◌∙◌, ◌≡◌, ◌≤◌, ◌⊎◌}
-use Rattle.fields_core.proofs.RowWords.{has-at}
-use Rattle.fields_core.proofs.LightCounting.{column-run-joined, light-board, row-run-joined}
-use Rattle.fields_core.proofs.PassedLines.{rest-off, rest-on}
+-- Light Up: the rows of numbers and of white cells that wait.
+use Rattle.fields_core.proofs.Common.{AreColumnsParted, AreIdleBut, AreParted, ArePlanesAlive, Black, Bool, Candidates, Column, IsAway, IsLeast, IsLight, IsReach, IsRowOf, Layers, Light, LightCell, Line, Numbered, Row, Touched, White, [], after_houses, and_from, any_below, any_below-none, ap, arith, at_line, cases_Bool, cases_lt, clear, column_run, common_steps, div-mul-add, eqb, false, false_from_ne_true, get_or, has_bit, has_place, houses_below, inl, inr, is_numbered, joined_in_column, joined_in_row, le-ltb, light_cells, line_len, lines_beside, lt-ltb, ltb, max, min, not, number_house, number_of, numbers_of_row, place-append, place-column, place-filter, place-in, refl, row_run, seen_from, sym, true, true≢false, white, ℕ, ◌%◌, ◌&&◌, ◌*◌, ◌+◌, ◌/◌, ◌<◌, ◌∙◌, ◌≡◌, ◌≤◌, ◌⊎◌}
+use Rattle.fields_core.proofs.VisitLemmas.{below-rows}
+use Rattle.fields_core.proofs.CellLemmas.{has-at}
+use Rattle.fields_core.proofs.LightRuleLemmas.{column-run-joined, light-board, row-run-joined}
+use Rattle.fields_core.proofs.IdleLemmas.{rest-off, rest-on}
 use Rattle.fields_core.proofs.LightHouseLaws.{clear-at, clear-from, column-parts, column-white-end, row-parts, white-in}
-use Rattle.fields_core.proofs.TentBeside.{row-in}
+use Rattle.fields_core.proofs.BesideLemmas.{row-in}
 
+-- The numbers of a row of Light Up: those that wait, by a word of its numbered cells.
+-- ---- numbers that have no house
+-- a cell without a number has no house
+bare : (p : Light) (c : ℕ) → is_numbered p c ≡ false → number_house p c ≡ []
+unfolding is_numbered
+bare p c off = by (get_or p.cells c Black) refl
+  where
+    by : (cell : LightCell) → get_or p.cells c Black ≡ cell → number_house p c ≡ []
+    by White e = rw e refl
+    by Black e = rw e refl
+    by (Numbered n) e = absurd (true≢false (rw e at off))
+
+-- none of the cells of a row that have no number waits
+pub numbers-all : (p : Light) (y word : ℕ) (K : Candidates) → IsRowOf p.size.w (is_numbered p) y word → AreIdleBut p word y K
+unfolding after_houses
+numbers-all p y _ K row x lt off = rw (bare p (y * p.size.w + x) (rw (lt-ltb _ _ lt) at (sym (row x) ∙ off))) refl
+
+-- numbers in some columns wait
+pub numbers-both : (p : Light) (y own columns both : ℕ) (K : Candidates) → IsRowOf p.size.w (is_numbered p) y own → AreIdleBut p columns y K
+    → ((k : ℕ) → has_bit both k ≡ (has_bit own k && has_bit columns k)) → AreIdleBut p both y K
+numbers-both p y own columns both K row others is x lt off = elim (cases_Bool (has_bit own x)) [
+  | inr none ↦ numbers-all p y own K row x lt none
+  | inl on ↦ others x lt (rw on at (sym (is x) ∙ off))
+]
+
+-- ---- the numbers of all rows
+pub numbers-are : (p : Light) → houses_below (numbers_of_row p) p.size.h ≡ houses_below (number_house p) (light_cells p)
+numbers-are p = below-rows (number_house p) p.size.w p.size.h
+    ∙ ap (houses_below (number_house p)) (let e : p.size.h * p.size.w ≡ p.size.w * p.size.h = omega arith in e)
+
+-- The rows of the white cells of Light Up that wait.
 -- ---- the highest place
 -- of the places the last is above none but those that are left
 pub record IsLast (places rest : ℕ → Bool) (room last : ℕ) : Type 0 where

@@ -1,11 +1,10 @@
 -- The runs of one line, visited at once.
 use Rattle.fields_core.proofs.Common.{AllByRecursion, AreAround, ArePlanesAlive, AreRunsOf, AreVisited, Bool, CountHouse, Extent, IsClash, IsFurther, IsHouse, IsLeast, IsRunOf, Layers, Line, List, [], and-false, and-true, and_from, and_parts, any_below, any_below-here, any_below-none, any_below-some, ap, arith, at_line, cases_Bool, cases_eq, cases_lt, common_steps, covers, crosses, distinct-from, eq-eqb, eqb, false, false_from_ne_true, false≢true, fun_ext, further-none, has, has_bit, has_place, inl, inr, list_any, lt-ltb, ltb, ltb-true, ne_eqb, not, not-true, or_cases, or_left, or_right, refl, sym, true, true≢false, without_taking, ℕ, ◌%◌, ◌&&◌, ◌*◌, ◌/◌, ◌<◌, ◌||◌, ◌∙◌, ◌∷◌, ◌≡◌, ◌≢◌, ◌≤◌, ◌⊎◌}
-use Rattle.fields_core.proofs.AtMostLemmas.{IsFull, IsOneAtMost, visits-met, visits-two, zeros_of}
-unfoldable use Rattle.fields_core.proofs.AtMostLemmas.{is_met, without_met}
-use Rattle.fields_core.proofs.BelowLemmas.{any-here, any-some}
+use Rattle.fields_core.proofs.VisitLemmas.{IsFull, IsOneAtMost, visits-met, visits-two, zeros_of}
+unfoldable use Rattle.fields_core.proofs.VisitLemmas.{is_met, without_met}
+use Rattle.fields_core.proofs.PlaceLists.{any-here, any-some, count-one}
 use Rattle.fields_core.proofs.CellLemmas.{same-truth}
 use Rattle.fields_core.proofs.PartLemmas.{value-in}
-use Rattle.fields_core.proofs.PlaceLists.{count-one}
 
 -- ---- the numbers around marked ones, from the lowest on
 -- those that are marked and not in the rest are done, and lower than the rest

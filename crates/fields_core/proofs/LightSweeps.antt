@@ -1,18 +1,251 @@
--- Sweeps of the houses of Light Up on planes.
-use Rattle.fields_core.proofs.Common.{AllByRecursion, AreIdle, AreLightsReady, AreLinesRested, ArePlanesAlive, ArePlanesOf, AreSafe, AreVisited, Bool, CountHouse, HasBoard, IsFurther, IsLight, IsReach, IsSweep, Layers, Light, List, RunKind, ap, append_assoc, arith, column_house, false_from_ne_true, has, houses_below, inl, inr, length, light_cells, light_houses, light_rules, lit_house, lits_of_row, not, numbers_of_row, place-in, refl, row_house, run_houses, run_lines, solves_lights, sym, true, true≢false, white, white_houses, ℕ, ◌*◌, ◌++◌, ◌+◌, ◌<◌, ◌∙◌, ◌≡◌, ◌≤◌, ◌⊎◌}
+-- Light Up: what waits, and sweeps of its houses on planes.
+use Rattle.fields_core.proofs.Common.{AllByRecursion, AreIdle, AreIdleBut, AreLightsReady, AreLinesOf, AreLinesRested, AreLinesWoken, ArePlanesAlive, ArePlanesOf, AreSafe, AreVisited, Black, Bool, Candidates, CountHouse, HasBoard, IsAway, IsClosed, IsClosedAround, IsFurther, IsInside, IsLight, IsLostIn, IsReach, IsSweep, Layers, Light, LightCell, List, Numbered, RunKind, Touched, White, after_houses, any_below, any_below-none, ap, append_assoc, arith, back_at, cases_Bool, cases_eq, column_house, column_run, common_steps, eqb, eqb-true, exactly, false, false_from_ne_true, filter, get_or, has, has_bit, has_place, houses_below, inl, inr, joined_in_column, joined_in_row, length, light_cells, light_counts, light_houses, light_rules, lit_house, lits_of_row, mod-lt, ne_eqb, not, number_house, numbers_of_row, one_at_least, or_left, or_parts, or_right, place-back, place-filter, place-front, place-in, place-kept, refl, row_house, row_run, row_runs_of_row, run_houses, run_lines, seen_from, solves_lights, steps, suc, sym, true, true≢false, waiting_runs, white, white_houses, zero, ℕ, ◌%◌, ◌&&◌, ◌*◌, ◌++◌, ◌+◌, ◌/◌, ◌<◌, ◌||◌, ◌∙◌, ◌≡◌, ◌≤◌, ◌⊎◌}
+use Rattle.fields_core.specs.declared.planes.light_up.waits.LineWaits.{LineWaits}
+use Rattle.fields_core.specs.declared.planes.light_up.waits.RunKind.TheVariants.{Columns, Rows}
+unfoldable use Rattle.fields_core.proofs.IdleLemmas.{any_has}
+use Rattle.fields_core.proofs.IdleLemmas.{IsPartOf, any-below, any-none, any-one, below-idle, closed-idle, idle-far, idle-one, in-back, in-below, in-front}
+use Rattle.fields_core.proofs.VisitLemmas.{IsFull, below-rows}
+use Rattle.fields_core.proofs.AtLeastLemmas.{IsAll, alls-kept, alls-ones, safe-stay}
+use Rattle.fields_core.proofs.LightRuleLemmas.{in-column-run, in-row-run, light-board}
+use Rattle.fields_core.proofs.LightHouseLaws.{column-white-end, row-self, white-in}
+use Rattle.fields_core.proofs.LightLitVisits.{lit-is}
+use Rattle.fields_core.proofs.LightReach.{numbers-are}
+use Rattle.fields_core.proofs.LightRunOrder.{column-runs-kept, column-runs-single, row-runs-are, row-runs-kept, row-runs-single}
+use Rattle.fields_core.proofs.BesideLemmas.{IsNextTo, row-in, step-across, step-lies, steps-some}
+use Rattle.fields_core.proofs.PlaneSweeps.{around-inside, around-lost, back-whole, cells-alive, full-before, spread-off, value-kept, visits-swept}
+use Rattle.fields_core.proofs.PartLemmas.{value-in}
 use Rattle.fields_core.specs.declared.planes.light_up.light_notes.LightNotes.{LightNotes}
-use Rattle.fields_core.specs.declared.planes.light_up.waits.RunKind.TheVariants.{Rows, Columns}
-use Rattle.fields_core.proofs.HouseOrder.{IsSingle}
-use Rattle.fields_core.proofs.LightRests.{lits-each, planes-full}
-use Rattle.fields_core.proofs.PartIdle.{below-idle}
-use Rattle.fields_core.proofs.AtLeastLemmas.{IsAll, alls-ones}
-use Rattle.fields_core.proofs.LightNumberRows.{numbers-are}
-use Rattle.fields_core.proofs.PlaneSweeps.{cells-alive, visits-swept}
-use Rattle.fields_core.proofs.QuietVisits.{alls-quiet, quiet-done, quiet-one, quiet-stays, singles-quiet}
-use Rattle.fields_core.proofs.LightRunOrder.{column-runs-single, row-runs-single}
-use Rattle.fields_core.proofs.VisitLemmas.{below-rows}
-use Rattle.fields_core.proofs.CountListLemmas.{all-houses}
+use Rattle.fields_core.proofs.HouseOrder.{IsSingle, alls-quiet, quiet-done, quiet-one, quiet-stays, singles-quiet}
+use Rattle.fields_core.proofs.HouseLemmas.{all-houses}
 
+-- What waits of Light Up: where numbers and runs lie, what stays idle, white cells too, and what is idle where a closing begins.
+module _ (p : Light) (lawful : IsLight p) (c : ℕ) (is_white : white p c ≡ true) where
+  some : 0 < p.size.w
+  some = (light-board lawful).some
+
+  inside : c < light_cells p
+  inside = white-in p c (light-board lawful).long is_white
+
+  -- ---- the cells of both runs are those of the house
+  pub seen-in-row : (d : ℕ) → joined_in_row p c d ≡ true → has_place (seen_from p c) d ≡ true
+  unfolding seen_from
+  seen-in-row d joined = place-front (row_run p c) _ d (in-row-run p c d some joined)
+
+  pub seen-in-column : (d : ℕ) → joined_in_column p c d ≡ true → has_place (seen_from p c) d ≡ true
+  unfolding seen_from
+  seen-in-column d joined = elim (cases_eq d c) [
+    | inl same ↦ place-front (row_run p c) _ d (rw same (in-row-run p c c some (row-self p c is_white)))
+    | inr other ↦
+        let within = white-in p d (light-board lawful).long (column-white-end p c d some joined) in
+        place-back (row_run p c) _ d (place-kept _ (column_run p c) d (in-column-run p c some within joined) (ap not (ne_eqb _ _ other)))
+  ]
+
+-- ---- a run with two cells that can have a bulb, or one that must, leaves the houses of its cells idle
+pub row-safe : {p : Light} (c : ℕ) {K : Candidates} → IsLight p → IsFull (light_cells p) K → AreSafe (joined_in_row p c) K → AreIdle (lit_house p c) K
+unfolding after_houses
+row-safe {p} c {K} lawful full safe = elim (cases_Bool (white p c)) [
+  | inl on ↦ rw on (safe-stay K (lit-is lawful (inside p lawful c on) on) full safe.one safe.other (seen-in-row p lawful c on safe.one safe.one_in)
+      (seen-in-row p lawful c on safe.other safe.other_in) safe.one_on safe.other_on safe.apart)
+  | inr off ↦ rw off refl
+]
+
+pub column-safe : {p : Light} (c : ℕ) {K : Candidates} → IsLight p → IsFull (light_cells p) K → AreSafe (joined_in_column p c) K → AreIdle (lit_house p c) K
+unfolding after_houses
+column-safe {p} c {K} lawful full safe = elim (cases_Bool (white p c)) [
+  | inl on ↦ rw on (safe-stay K (lit-is lawful (inside p lawful c on) on) full safe.one safe.other (seen-in-column p lawful c on safe.one safe.one_in)
+      (seen-in-column p lawful c on safe.other safe.other_in) safe.one_on safe.other_on safe.apart)
+  | inr off ↦ rw off refl
+]
+
+-- a black cell has no house
+pub black-idle : (p : Light) (c : ℕ) (K : Candidates) → white p c ≡ false → AreIdle (lit_house p c) K
+unfolding after_houses
+black-idle p c K off = rw off refl
+
+-- ---- on planes
+pub planes-full : (p : Light) (from : Layers) → from.size ≡ p.size → ArePlanesAlive from → IsFull (light_cells p) (has from)
+planes-full p from size alive = record { low = value-in from; some = λ c lt. alive c (rw size lt) }
+
+-- ---- where houses lie
+number-lies : (p : Light) (c y : ℕ) {x : ℕ} → x < p.size.w → any_has (number_house p (y * p.size.w + x)) c ≡ true
+    → IsNextTo (c / p.size.w) y × IsNextTo (c % p.size.w) x
+number-lies p c y {x} lt on = by (get_or p.cells (y * p.size.w + x) Black) refl
+  where
+    by : (cell : LightCell) → get_or p.cells (y * p.size.w + x) Black ≡ cell → IsNextTo (c / p.size.w) y × IsNextTo (c % p.size.w) x
+    by White e = absurd (true≢false (sym (rw e at on) ∙ any-none c))
+    by Black e = absurd (true≢false (sym (rw e at on) ∙ any-none c))
+    by (Numbered n) e =
+        let there = any-one (exactly n (filter (white p) (steps p.size (y * p.size.w + x) 4))) c (rw e at on) in
+        let s = steps-some p.size (y * p.size.w + x) 4 c (place-filter (white p) _ c there).0 in
+        (step-lies p.size c (omega (arith, lt)) y x s.0 lt s.1 s.2, step-across p.size c y x s.0 lt s.1 s.2)
+
+numbers-lie : (p : Light) (c y : ℕ) → any_has (numbers_of_row p y) c ≡ true → IsNextTo (c / p.size.w) y
+numbers-lie p c y on = let w = any-below (λ x. number_house p (y * p.size.w + x)) p.size.w c on in (number-lies p c y w.1 w.2).0
+
+-- ---- white cells
+-- a white cell has a house of the cells that it sees, and a black one has none
+lit-lies : (p : Light) (c d : ℕ) → any_has (lit_house p c) d ≡ true → has_place (seen_from p c) d ≡ true
+lit-lies p c d on = elim (cases_Bool (white p c)) [
+  | inl is ↦ any-one (one_at_least (seen_from p c)) d (rw is at on)
+  | inr off ↦ absurd (true≢false (sym (rw off at on) ∙ any-none d))
+]
+
+pub lits-each : {p : Light} {c : ℕ} → IsLight p → c < light_cells p → AllByRecursion (IsAll (light_cells p)) (lit_house p c)
+lits-each {p} {c} lawful lt = elim (cases_Bool (white p c)) [
+  | inl on ↦ rw on (record { is = lit-is lawful lt on; same = refl }, tt)
+  | inr off ↦ rw off tt
+]
+
+-- ---- once cells of these lines have lost 0, and cells of those 1
+module _ {W : Type 0} (bits : W → ℕ) {room : ℕ} (p : Light) {before now : LineWaits W} {zeros ones : Touched W} (K L : Candidates)
+    (lawful : IsLight p) (narrow : p.size.w ≤ room) (low : p.size.h ≤ room) (full : IsFull (light_cells p) K) (still : IsFull (light_cells p) L) (inside : IsInside L K)
+    (lost_zero : IsLostIn bits p.size.w 0 K L zeros) (lost_one : IsLostIn bits p.size.w 1 K L ones)
+    (woken : AreLinesWoken bits room before zeros ones now) (rested : AreLinesRested bits p before K) where
+  lost : (c v : ℕ) → v < 2 → K c v ≡ true → L c v ≡ false
+      → ((has_bit (bits zeros.columns) (c % p.size.w) || has_bit (bits ones.columns) (c % p.size.w)) ≡ true)
+      × ((has_bit (bits zeros.rows) (c / p.size.w) || has_bit (bits ones.rows) (c / p.size.w)) ≡ true)
+  lost c zero small on gone = let at = lost_zero c on gone in (or_left _ _ at.0, or_left _ _ at.1)
+  lost c (suc zero) small on gone = let at = lost_one c on gone in (or_right _ _ at.0, or_right _ _ at.1)
+  lost c (suc (suc v)) small on gone = absurd (omega (arith, small))
+
+  -- numbers in a column that does not wait
+  columns-rested : (y : ℕ) → y < p.size.h → AreIdleBut p (bits now.number_columns) y L
+  columns-rested y y_in x lt off =
+      idle-far (number_house p (y * p.size.w + x)) K L inside
+      (λ c v on gone. false_from_ne_true _ (λ there.
+      spread-off bits _ (λ k. has_bit (bits zeros.columns) k || has_bit (bits ones.columns) k) _ woken.number_columns (lost c v (full.low c v on) on gone).0 (omega (arith, lt, narrow)) off (number-lies p c y lt there).1))
+      (rested.columns y y_in x lt (or_parts _ _ (sym (woken.number_columns x) ∙ off)).0)
+
+  numbers-rested : (k : ℕ) → k < p.size.h → has_bit (bits now.numbers) k ≡ false → AreIdle (numbers_of_row p k) L
+  numbers-rested k lt off =
+      idle-far (numbers_of_row p k) K L inside
+      (λ c v on gone. false_from_ne_true _ (λ there.
+      spread-off bits _ (λ k. has_bit (bits zeros.rows) k || has_bit (bits ones.rows) k) _ woken.numbers (lost c v (full.low c v on) on gone).1 (omega (arith, lt, low)) off (numbers-lie p c k there)))
+      (rested.numbers k lt (or_parts _ _ (sym (woken.numbers k) ∙ off)).0)
+
+  runs-rested : (kind : RunKind) (k : ℕ) → k < run_lines p kind → has_bit (waiting_runs bits now kind) k ≡ false → AreIdle (run_houses p kind k) L
+  runs-rested Rows k lt off =
+      let parts = or_parts _ _ (sym (woken.rows_are k) ∙ off) in
+      row-runs-kept p K L lawful full still inside k
+      (λ c row. value-kept c 0 inside (λ on gone. true≢false (sym (lost_zero c on gone).1 ∙ ap (has_bit (bits zeros.rows)) row ∙ parts.1)))
+      (rested.runs Rows k lt parts.0)
+  runs-rested Columns k lt off =
+      let parts = or_parts _ _ (sym (woken.columns_are k) ∙ off) in
+      column-runs-kept p K L lawful full still inside lt
+      (λ c column. value-kept c 0 inside (λ on gone. true≢false (sym (lost_zero c on gone).0 ∙ ap (has_bit (bits zeros.columns)) column ∙ parts.1)))
+      (rested.runs Columns k lt parts.0)
+
+  whites-rested : (c : ℕ) → c < light_cells p → IsAway bits p now.ones c → AreIdle (lit_house p c) L
+  whites-rested c lt away =
+      alls-kept (light_cells p) (lit_house p c) K L (lits-each lawful lt) full still inside
+      (λ d there. value-kept d 1 inside (λ on gone.
+      let at = lost_one d on gone in
+      away d (lit-lies p c d there) (woken.one_columns _ ∙ or_right _ _ at.0, woken.one_rows _ ∙ or_right _ _ at.1)))
+      (rested.whites c lt (λ d there at. away d there (woken.one_columns _ ∙ or_left _ _ at.0, woken.one_rows _ ∙ or_left _ _ at.1)))
+
+  pub lines-board : AreLinesRested bits p now L
+  lines-board = record { numbers = numbers-rested; runs = runs-rested; columns = columns-rested; whites = whites-rested }
+
+pub lines-woken : {W : Type 0} (bits : W → ℕ) {room : ℕ} (p : Light) (zeros ones : Touched W) {from to : Layers} {len : ℕ} (before now : LineWaits W)
+    → IsLostIn bits to.size.w 0 (back_at to len) (has to) zeros → IsLostIn bits to.size.w 1 (back_at to len) (has to) ones
+    → ArePlanesOf room p to → ArePlanesOf room p from → from.len ≡ len → IsFurther from to
+    → AreLinesWoken bits room before zeros ones now → AreLinesRested bits p before (has from) → AreLinesRested bits p now (has to)
+lines-woken bits p zeros ones {from} {to} {len} before now lost_zeros lost_ones of was is further =
+    lines-board bits p (has from) (has to) of.lawful of.narrow of.low (planes-full p from was.size was.alive) (planes-full p to of.size of.alive) further.inside
+    (λ c on gone. rw (of.size) at (lost_zeros c (rw (back-whole is further) on) gone)) (λ c on gone. rw (of.size) at (lost_ones c (rw (back-whole is further) on) gone))
+
+-- ---- where all cells may have lost values
+pub lines-all : {W : Type 0} (bits : W → ℕ) {room : ℕ} (p : Light) (waits : LineWaits W) (K : Candidates) → IsLight p → p.size.w ≤ room → p.size.h ≤ room
+    → ((k : ℕ) → k < room → has_bit (bits waits.numbers) k ≡ true) → ((k : ℕ) → k < room → has_bit (bits waits.number_columns) k ≡ true)
+    → ((k : ℕ) → k < room → has_bit (bits waits.rows) k ≡ true) → ((k : ℕ) → k < room → has_bit (bits waits.columns) k ≡ true)
+    → ((y x : ℕ) → y < room → x < room → AreLinesOf bits waits.ones y x) → AreLinesRested bits p waits K
+lines-all bits p waits K lawful narrow low numbers number_columns rows columns ones = record {
+  numbers = λ y lt off. absurd (true≢false (sym (numbers y (omega (arith, lt, low))) ∙ off));
+  runs = by;
+  columns = λ y y_in x lt off. absurd (true≢false (sym (number_columns x (omega (arith, lt, narrow))) ∙ off));
+  whites = λ c lt away. elim (cases_Bool (white p c)) [
+    | inl on ↦ absurd (away c (seen-in-row p lawful c on c (row-self p c on)) (ones _ _ (omega (arith, row-in p.size.h c (light-board lawful).some lt, low)) (omega (arith, mod-lt c (light-board lawful).some, narrow))))
+    | inr off ↦ black-idle p c K off
+  ];
+}
+  where
+    by : (kind : RunKind) (k : ℕ) → k < run_lines p kind → has_bit (waiting_runs bits waits kind) k ≡ false → AreIdle (run_houses p kind k) K
+    by Rows k lt off = absurd (true≢false (sym (rows k (omega (arith, lt, low))) ∙ off))
+    by Columns k lt off = absurd (true≢false (sym (columns k (omega (arith, lt, narrow))) ∙ off))
+
+-- ---- where a closing begins
+-- all houses of a closed board are idle
+module _ (p : Light) (K : Candidates) (closed : IsClosed (light_rules p) K) where
+  part-idle : (part : List CountHouse) → IsPartOf part (light_houses p) → AreIdle part K
+  part-idle part within = closed-idle (light_cells p) (λ c. not (white p c)) (light_houses p) (solves_lights p) K closed within
+
+  numbers-part : (part : List CountHouse) → IsPartOf part (houses_below (number_house p) (light_cells p)) → AreIdle part K
+  unfolding light_houses
+  numbers-part part within = part-idle part (in-front _ _ _ within)
+
+  runs-idle : (kind : RunKind) (k : ℕ) → k < run_lines p kind → AreIdle (run_houses p kind k) K
+  unfolding light_houses
+  runs-idle Rows k lt = part-idle (row_runs_of_row p k)
+      (in-back (houses_below (number_house p) (light_cells p)) (in-front _ _ _ (rw (row-runs-are p) at (in-below (row_runs_of_row p) lt))))
+  runs-idle Columns k lt = below-idle (λ y. column_house p (y * p.size.w + k)) p.size.h K
+      (λ y less. part-idle (column_house p (y * p.size.w + k))
+      (in-back (houses_below (number_house p) (light_cells p)) (in-back (houses_below (row_house p) (light_cells p))
+      (in-front _ _ _ (in-below (column_house p) (place-in p.size.w p.size.h y k less lt))))))
+
+  white-idle : {c : ℕ} → c < light_cells p → AreIdle (lit_house p c) K
+  unfolding light_houses
+  white-idle {c} lt = part-idle (lit_house p c)
+      (in-back (houses_below (number_house p) (light_cells p)) (in-back (houses_below (row_house p) (light_cells p))
+      (in-back (houses_below (column_house p) (light_cells p)) (in-below (lit_house p) lt))))
+
+  closed-rested : {W : Type 0} (bits : W → ℕ) (none : LineWaits W) → AreLinesRested bits p none K
+  closed-rested bits none = record {
+    numbers = λ k lt off. numbers-part (numbers_of_row p k) (rw (numbers-are p) at (in-below (numbers_of_row p) lt));
+    runs = λ kind k lt off. runs-idle kind k lt;
+    columns = λ y y_in x lt off. numbers-part (number_house p (y * p.size.w + x))
+        (in-below (number_house p) (place-in p.size.w p.size.h y x y_in lt));
+    whites = λ c lt away. white-idle lt;
+  }
+
+-- a closing begins at a cell, which has lost a value
+pub lines-at : {W : Type 0} {bits : W → ℕ} {room : ℕ} {p : Light} {planes : Layers} {place : ℕ} {none now : LineWaits W} {zeros ones : Touched W}
+    → ArePlanesOf room p planes → IsClosedAround (light_rules p) (has planes) place
+    → (has planes place 0 ≡ false → AreLinesOf bits zeros (place / p.size.w) (place % p.size.w))
+    → (has planes place 1 ≡ false → AreLinesOf bits ones (place / p.size.w) (place % p.size.w))
+    → AreLinesWoken bits room none zeros ones now → AreLinesRested bits p now (has planes)
+lines-at {W = W} {bits} {p} {planes} {place} {none} {zeros} {ones} of around no_zero no_one woken =
+    lines-board bits p around.before (has planes) of.lawful of.narrow of.low (full-before (light_counts p) around) (planes-full p planes of.size of.alive)
+    (around-inside (light_counts p) around) (around-lost (light_counts p) around bits p.size.w 0 zeros no_zero) (around-lost (light_counts p) around bits p.size.w 1 ones no_one) woken
+    (closed-rested p around.before around.closed bits none)
+
+-- ---- the last row whose numbers wait is settled
+module _ {W : Type 0} (bits : W → ℕ) (p : Light) (before now : LineWaits W) (room y : ℕ) (K : Candidates)
+    (numbers : (k : ℕ) → has_bit (bits now.numbers) k ≡ (has_bit (bits before.numbers) k && not (eqb k y)))
+    (rows : now.rows ≡ before.rows) (columns : now.columns ≡ before.columns) (ones : now.ones ≡ before.ones)
+    (rested : AreLinesRested bits p before K) (idle : AreIdle (numbers_of_row p y) K) where
+  runs-settled : (kind : RunKind) (k : ℕ) → k < run_lines p kind → has_bit (waiting_runs bits now kind) k ≡ false → AreIdle (run_houses p kind k) K
+  runs-settled Rows k lt off = rested.runs Rows k lt (rw rows at off)
+  runs-settled Columns k lt off = rested.runs Columns k lt (rw columns at off)
+
+  numbers-settled : (k : ℕ) → k < p.size.h → has_bit (bits now.numbers) k ≡ false → AreIdle (numbers_of_row p k) K
+  numbers-settled k lt off = elim (cases_Bool (eqb k y)) [
+    | inl own ↦ rw (eqb-true _ _ own) idle
+    | inr other ↦ rested.numbers k lt (by (has_bit (bits before.numbers) k) (sym (numbers k ∙ rw other refl) ∙ off))
+  ]
+    where
+      by : (a : Bool) → (a && not false) ≡ false → a ≡ false
+      by a e = grind (arith, common_steps, cases_Bool a)
+
+  pub last-settled : p.size.h ≤ room → any_below (has_bit (bits now.numbers)) room ≡ false → AreLinesRested bits p now K
+  last-settled low none = record {
+    numbers = numbers-settled;
+    runs = runs-settled;
+    columns = λ z z_in x lt off. idle-one (λ k. number_house p (z * p.size.w + k)) K lt
+        (numbers-settled z z_in (any_below-none (has_bit (bits now.numbers)) room none z (omega (arith, z_in, low))));
+    whites = λ c lt away. rested.whites c lt (rw ones at away);
+  }
+
+-- Sweeps of the houses of Light Up on planes.
 -- ---- runs and white cells that are visited leave others idle
 pub runs-single : (p : Light) (kind : RunKind) (k : ℕ) → IsLight p → k < run_lines p kind → AllByRecursion (IsSingle (light_cells p)) (run_houses p kind k)
 runs-single p Rows k lawful lt = row-runs-single k lawful

@@ -1,7 +1,7 @@
 -- Visits of count houses by pieces of lines.
 use Rattle.fields_core.proofs.Common.{ArePartsCounted, ArePieces, ArePlanesAlive, Bool, Candidates, CountHouse, Extent, IsBroken, IsCount, IsHouseOf, IsTally, Layers, List, Piece, add-one, after_house, and-false, and-true, and_comm, and_from, and_parts, any_below, any_below-some, ap, arith, at_line, cases_Bool, cases_eq, cells_of, common_steps, count_below, count_below-bound, count_below-none, count_below-pos, count_below-same, count_by, covers, crosses, distinct-from, eq-eqb, eqb, false, false_from_ne_true, fun_ext, has, has_bit, has_place, has_place-at, inl, inr, is_empty, is_open, le-ltb, length, lies_in, lies_in_first, line_len, lines_beside, lt-ltb, ltb, ltb-true, ne_eqb, not, number_of, piece_at, refl, slice_index, suc, sym, true, without_taking, without_value, zero, ℕ, ◌%◌, ◌&&◌, ◌+◌, ◌-◌, ◌/◌, ◌<◌, ◌||◌, ◌∙◌, ◌≡◌, ◌≢◌, ◌≤◌, ◌⊎◌}
 use Rattle.fields_core.proofs.CountKept.{after-at, off-scope}
-use Rattle.fields_core.proofs.PartCounts.{count-apart, line-count, crosses-both, place-count}
+use Rattle.fields_core.proofs.CellLemmas.{count-apart, line-count, crosses-both, place-count}
 
 -- ---- the cells of the first pieces
 lies-more : (w : ℕ) (pieces : List Piece) (n c : ℕ) {piece : Piece} → piece_at pieces n ≡ piece

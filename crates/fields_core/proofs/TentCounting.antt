@@ -1,13 +1,14 @@
--- The count houses of Tents keep to what every rule set of count houses keeps to.
-use Rattle.fields_core.proofs.Common.{AreCounts, AreDistinct, Extent, IsCounting, IsGrid, IsLawful, IsTents, List, Tents, [], all_below, all_below-at, and_from, and_parts, any_below-here, ap, are_near, arith, can_be_paired, cases_eq, cases_lt, column-at, column_of_tents, column_places, column_right, common_steps, count-lawful, count_by-le-length, distinct-filter, eq-eqb, eqb, eqb-true, exactly, false_from_ne_true, filling_from_test, filter, free_beside, get_or, get_or-map, get_or-map-range_with_len, get_or-range_with_len, get_or_past, has_place, has_place-at, has_place-here, has_value, has_value_below, inl, inr, is_barred, le-leb, leaves_none_out, length, length-map, length-map-range_with_len, length-range_with_len, ltb, ltb-true, mul-le-mul_right, names_none_twice, ne_eqb, not, not-true, one_at_least, one_at_most, or_cases, place-filter, place-kept, range_with_len, row-at, row_of_tents, row_places, row_right, slice_index, solves_tents, square_house, steps, suc, sym, tent, tent_cells, tent_houses, tent_rules, touch_right, touches, tree, tree_house, tree_right, trees_beside, true, true≢false, zero, ℕ, ◌%◌, ◌&&◌, ◌+◌, ◌/◌, ◌<◌, ◌||◌, ◌∙◌, ◌∷◌, ◌≡◌, ◌≤◌}
+-- The count houses of Tents, and visits of them on planes.
+use Rattle.fields_core.proofs.Common.{AreCounts, AreDistinct, ArePlanesAlive, AreVisited, Bool, Column, CountHouse, Extent, IsBroken, IsCounting, IsFurther, IsGrid, IsHouse, IsHouseOf, IsLawful, IsTents, Layers, List, Piece, Row, Tents, [], after_house, all_below, all_below-at, and_from, and_parts, any_below-here, ap, are_near, arith, can_be_paired, cases_eq, cases_lt, column-at, column_of_tents, column_places, column_right, common_steps, count-lawful, count_by-le-length, distinct-filter, eq-eqb, eqb, eqb-true, exactly, false, false_from_ne_true, filling_from_test, filter, free_beside, get_or, get_or-map, get_or-map-range_with_len, get_or-range_with_len, get_or_past, has, has_bit, has_place, has_place-at, has_place-here, has_value, has_value_below, houses_below, inl, inr, is_barred, le-leb, leaves_none_out, length, length-map, length-map-range_with_len, length-range_with_len, lt-ltb, ltb, ltb-true, mul-le-mul_right, names_none_twice, ne_eqb, not, not-true, one_at_least, one_at_most, or_cases, place-filter, place-kept, range_with_len, row-at, row_of_tents, row_places, row_right, slice_index, solves_tents, square_house, steps, suc, sym, tent, tent_cells, tent_houses, tent_rules, touch_right, touches, tree, tree_house, tree_right, trees_beside, true, true≢false, zero, ℕ, ◌%◌, ◌&&◌, ◌+◌, ◌/◌, ◌<◌, ◌||◌, ◌∙◌, ◌∷◌, ◌≡◌, ◌≤◌}
 use Rattle.grid_core.specs.Lines.{line_cells}
-use Rattle.fields_core.proofs.HouseLists.{row-long, column-long}
-use Rattle.fields_core.proofs.PlaceLists.{count-some, count-one, filter-few}
-use Rattle.fields_core.proofs.StepLaws.{steps-distinct, steps-few}
-use Rattle.fields_core.proofs.LightHouseLaws.{IsMet, small-at, met-from, EachOf, each-one, each-append, each-below, each-if, row-distinct, column-distinct}
-use Rattle.fields_core.proofs.BelowLemmas.{any-here}
-use Rattle.fields_core.proofs.TentBeside.{cell-below, cell-after, cell-in, beside-both, beside-in}
+use Rattle.fields_core.proofs.HouseLemmas.{column-long, row-long}
+use Rattle.fields_core.proofs.PlaceLists.{any-here, count-one, count-some, filter-few}
+use Rattle.fields_core.proofs.BesideLemmas.{beside-both, beside-in, cell-after, cell-below, cell-in, steps-distinct, steps-few}
+use Rattle.fields_core.proofs.LightHouseLaws.{EachOf, IsMet, column-distinct, each-append, each-below, each-if, each-one, met-from, row-distinct, small-at}
+use Rattle.fields_core.proofs.CellLemmas.{column-house, row-house}
+use Rattle.fields_core.proofs.VisitLemmas.{among-back, among-below, among-front, among-house, among-one, visited-one}
 
+-- The count houses of Tents keep to what every rule set of count houses keeps to.
 -- the parts of a solution
 pub record TentParts (p : Tents) (g : List ℕ) : Type 0 where
   pub trees : all_below (tree_right p g) (tent_cells p) ≡ true
@@ -239,3 +240,70 @@ tent-counting {p} is = record {
 
 pub tent-lawful : {p : Tents} → IsTents p → IsLawful (tent_rules p)
 tent-lawful is = count-lawful _ _ _ _ (tent-counting is)
+
+-- Visits of the houses of Tents on planes.
+-- ---- the houses of Tents are houses
+module _ (p : Tents) (lawful : IsTents p) where
+  pub column-is : {x : ℕ} → x < p.size.w → IsHouse (tent_cells p)
+      (exactly (slice_index p.counts x) (column_places p.size x))
+  unfolding tent_houses
+  column-is {x} lt =
+      among-house (tent_cells p) (tent-counting lawful).are_houses
+      (among-front _ (among-below _ (column_of_tents p) lt (among-one _)))
+
+  pub row-is : {y : ℕ} → y < p.size.h → IsHouse (tent_cells p)
+      (exactly (slice_index p.counts (p.size.w + y)) (row_places p.size y))
+  unfolding tent_houses
+  row-is {y} lt =
+      among-house (tent_cells p) (tent-counting lawful).are_houses
+      (among-back (houses_below (column_of_tents p) p.size.w) (among-front _ (among-below _ (row_of_tents p) lt (among-one _))))
+
+  pub tree-is : {c : ℕ} → c < tent_cells p → tree p c ≡ true → IsHouse (tent_cells p) (one_at_least (free_beside p c))
+  unfolding tent_houses
+  tree-is {c} lt is =
+      among-house (tent_cells p) (tent-counting lawful).are_houses
+      (among-back (houses_below (column_of_tents p) p.size.w)
+      (among-back (houses_below (row_of_tents p) p.size.h)
+      (among-front _
+      (among-below _ (tree_house p) lt (rw is (among-one _))))))
+
+  pub square-is : {c : ℕ} → c < tent_cells p → c % p.size.w + 1 < p.size.w → c / p.size.w + 1 < p.size.h
+      → IsHouse (tent_cells p) (one_at_most (c ∷ (c + 1) ∷ (c + p.size.w) ∷ (c + p.size.w + 1) ∷ []))
+  unfolding tent_houses
+  square-is {c} lt wide tall =
+      among-house (tent_cells p) (tent-counting lawful).are_houses
+      (among-back (houses_below (column_of_tents p) p.size.w)
+      (among-back (houses_below (row_of_tents p) p.size.h)
+      (among-back (houses_below (tree_house p) (tent_cells p)) (among-below _ (square_house p) lt
+      (rw (lt-ltb _ _ wide, lt-ltb _ _ tall) (among-one _))))))
+
+-- what a visit says of each house of its pieces
+abbrev pub IsVisitOf : List Piece → ℕ → ℕ → Layers → Layers → Bool → Type 0
+IsVisitOf pieces least most from to fills = (house : CountHouse) → IsHouseOf from.size pieces least most house
+    → (fills ≡ true → has to ≡ after_house house (has from)) × (fills ≡ false → IsBroken house (has from))
+
+-- ---- lines
+pub column-visited : {p : Tents} {x : ℕ} (bits ones : ℕ) {from to : Layers} (fills : Bool) → IsTents p
+    → from.size ≡ p.size → x < p.size.w → ((k : ℕ) → has_bit bits k ≡ ltb k p.size.h) → ones ≡ slice_index p.counts x
+    → IsVisitOf (record { line = Column x; bits = bits } ∷ []) ones ones from to fills → ArePlanesAlive to
+    → IsFurther from to → AreVisited (column_of_tents p x) from to fills
+column-visited {p} {x} bits ones fills lawful size lt is count visit alive further =
+    let told = visit (exactly (slice_index p.counts x) (column_places p.size x))
+    (rw (size, count) (column-house p.size bits (slice_index p.counts x) lt is (column-is p lawful lt))) in
+    visited-one (rw size (column-is p lawful lt))
+    (let tall = lawful.size.extent.h_low in omega (arith, column-long p.size x)) told.0 told.1 alive further
+
+pub row-visited : (p : Tents) (y bits ones : ℕ) (from to : Layers) (fills : Bool) → IsTents p
+    → from.size ≡ p.size → y < p.size.h → ((k : ℕ) → k < p.size.w → has_bit bits k ≡ true)
+    → ones ≡ slice_index p.counts (p.size.w + y)
+    → IsVisitOf (record { line = Row y; bits = bits } ∷ []) ones ones from to fills → ArePlanesAlive to
+    → IsFurther from to → AreVisited (row_of_tents p y) from to fills
+row-visited p y bits ones from to fills lawful size lt is count visit alive further =
+    let pos = (tent-field lawful).some in
+    let told = visit (exactly (slice_index p.counts (p.size.w + y)) (row_places p.size y))
+    (rw (size, count) (row-house p.size y bits (slice_index p.counts (p.size.w + y)) pos is (row-is p lawful lt))) in
+    visited-one (rw size (row-is p lawful lt)) (omega (arith, row-long p.size y)) told.0 told.1 alive further
+
+-- the places of a square
+abbrev pub square_places : ℕ → ℕ → List ℕ
+square_places w c = c ∷ (c + 1) ∷ (c + w) ∷ (c + w + 1) ∷ []

@@ -2,9 +2,9 @@
 use Rattle.fields_core.proofs.Common.{ArePlanesAlive, AreVisited, Bool, Candidates, CountHouse, IsFurther, IsHouse, IsInside, IsRowOf, IsTents, Layers, List, Tents, [], after_house, after_houses, and-true, and_parts, any_below, any_below-none, any_below-same, any_below-some, ap, arith, beside, cases_Bool, common_steps, count_by, count_by-le-length, eqb, false, false_from_ne_true, filter, free_beside, fun_ext, further-none, has, has_bit, has_place, has_place-here, houses_below, inl, inr, is_beside, length, length-filter, list_any, lt-ltb, ltb, ltb-false, ltb-true, not, not-false, not-true, one_at_least, place-in, refl, slice_index, suc, sym, tent_cells, tree, tree_house, trees_of_row, true, true≢false, wants_tent, without_zeros, zero, ℕ, ◌&&◌, ◌*◌, ◌++◌, ◌+◌, ◌-◌, ◌<◌, ◌||◌, ◌∙◌, ◌∷◌, ◌≡◌, ◌≤◌, ◌⊎◌}
 use Rattle.fields_core.proofs.PartLemmas.{value-in}
 use Rattle.fields_core.proofs.PlaceLists.{count-cons, count-none, count-some, filter-has}
-use Rattle.fields_core.proofs.TentVisits.{tree-is}
+use Rattle.fields_core.proofs.TentCounting.{tree-is}
 use Rattle.fields_core.proofs.VisitLemmas.{below-rest, below-rows, visits-append, visits-inside}
-use Rattle.fields_core.proofs.CountListLemmas.{below-more}
+use Rattle.fields_core.proofs.HouseLemmas.{below-more}
 use Rattle.fields_core.proofs.AtLeastLemmas.{IsFilled, IsOfTwo, least-board, least-broken}
 
 -- ---- boards without zeros

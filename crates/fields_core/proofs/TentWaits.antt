@@ -1,24 +1,22 @@
--- What waits of Tents: where its houses lie, what stays idle while others of a kind are visited, and what is idle where a closing begins.
-use Rattle.fields_core.proofs.Common.{AllByRecursion, AreIdle, AreLinesOf, ArePlanes, ArePlanesAlive, AreTentsRested, AreTentsWoken, Bool, Candidates, Columns, CountHouse, IsClosed, IsClosedAround, IsClosedBut, IsFieldOf, IsFurther, IsHouse, IsInside, IsLostIn, IsTents, Layers, List, Option, Rows, Some, Squares, Tents, Touched, Trees, Waits, and_parts, arith, back_at, cases_Bool, cases_eq, cells_of, column_of_tents, column_places, common_steps, eqb, eqb-true, exactly, false, false_from_ne_true, free_beside, get_or-map-range_with_len, has, has_bit, has_place-at, houses_below, inl, inr, is_barred, kind_houses, kind_lines, length-map-range_with_len, lt-ltb, ltb, ltb-true, not, one_at_least, one_at_most, or_cases, or_left, or_parts, place-filter, place-in, refl, row_of_tents, row_places, slice_index, solves_tents, square_house, squares_of_row, suc, sym, tent_cells, tent_counts, tent_houses, tent_rules, tree, tree_house, trees_of_row, true, true≢false, waiting, zero, ℕ, ◌%◌, ◌&&◌, ◌*◌, ◌+◌, ◌/◌, ◌<◌, ◌∙◌, ◌≡◌, ◌≤◌, ◌⊎◌}
+-- Tents on planes: what waits, and what a closing asks.
+use Rattle.fields_core.proofs.Common.{AllByRecursion, AreBare, AreIdle, AreLinesOf, ArePlanes, ArePlanesAlive, AreTentsRested, AreTentsWoken, AreTentsWritten, AreVisited, Bool, Candidates, Columns, CountHouse, HasBoard, IsClosed, IsClosedAround, IsClosedBut, IsFieldOf, IsFurther, IsHouse, IsInside, IsLostIn, IsSweep, IsTents, Layers, List, Option, Rows, Some, Squares, Tents, Touched, Trees, Waits, [], all_of, all_of_kind, and_parts, ap, append_assoc, arith, back_at, cases_Bool, cases_eq, cells_of, column_of_tents, column_places, common_steps, eqb, eqb-true, exactly, false, false_from_ne_true, free_beside, get_or, get_or-append_right, get_or-map-range_with_len, has, has_bit, has_place-at, houses_below, inl, inr, is_barred, kind_houses, kind_lines, length, length-append, length-map-range_with_len, lt-ltb, ltb, ltb-true, map, needs_of, no_count_house, not, one_at_least, one_at_most, or_cases, or_left, or_parts, place-filter, place-in, refl, row_of_tents, row_places, slice_index, solves_tents, square_house, squares_of_row, start_of, suc, sym, tent_cells, tent_counts, tent_houses, tent_rules, tree, tree_house, trees_of_row, true, true≢false, waiting, zero, ℕ, ◌%◌, ◌&&◌, ◌*◌, ◌++◌, ◌+◌, ◌-◌, ◌/◌, ◌<◌, ◌∙◌, ◌∷◌, ◌≡◌, ◌≤◌, ◌⊎◌}
 use Rattle.fields_core.specs.declared.planes.tents.waits.Kind.{Kind}
 use Rattle.fields_core.proofs.HouseOrder.{IsSingle, single-keeps, singles-kept}
-use Rattle.fields_core.proofs.AtMostLemmas.{IsFull}
-use Rattle.fields_core.proofs.IdleLemmas.{AreQuiet, Keeps, any-below, any-none, any-one, any_has, idle-far, keeps-apart, keeps-itself}
+use Rattle.fields_core.proofs.VisitLemmas.{IsFull}
+use Rattle.fields_core.proofs.IdleLemmas.{ArePassed, AreQuiet, IsPartOf, Keeps, any-below, any-none, any-one, closed-idle, idle-far, in-back, in-below, in-front, keeps-apart, keeps-itself, passed-first}
 use Rattle.fields_core.proofs.AtLeastLemmas.{IsAll, all-keeps, alls-kept}
 use Rattle.fields_core.proofs.PartLemmas.{value-in}
-use Rattle.fields_core.proofs.TentCounting.{tent-field}
-use Rattle.fields_core.proofs.TentSquareLemmas.{square-has}
-use Rattle.fields_core.proofs.TentSquareVisits.{squares-are}
-use Rattle.fields_core.proofs.StepLaws.{steps-some}
-use Rattle.fields_core.proofs.PartIdle.{IsPartOf, closed-idle, in-back, in-below, in-front}
-use Rattle.fields_core.proofs.TentBeside.{cell-parts, step-lies}
-use Rattle.fields_core.proofs.TentVisits.{column-is, row-is, square-is, square_places, tree-is}
+use Rattle.fields_core.proofs.TentCounting.{column-is, row-is, square-is, square_places, tent-field, tree-is}
+use Rattle.fields_core.proofs.TentSquareVisits.{square-has, squares-are}
+use Rattle.fields_core.proofs.BesideLemmas.{cell-parts, step-lies, steps-some}
 use Rattle.fields_core.proofs.TentTreeBoards.{trees-are}
-use Rattle.fields_core.proofs.CountListLemmas.{all-houses}
-use Rattle.fields_core.proofs.WaitLemmas.{around-inside, around-lost, back-whole, full-around, full-before, spread-off, value-kept}
+use Rattle.fields_core.proofs.HouseLemmas.{all-houses, column-long, row-long}
+use Rattle.fields_core.proofs.PlaneSweeps.{around-inside, around-lost, back-whole, cells-alive, full-around, full-before, spread-off, value-kept, visits-swept}
 unfoldable use Rattle.fields_core.proofs.IdleLemmas.{any_has}
-use Rattle.fields_core.proofs.PassedLines.{ArePassed, passed-first}
+use Rattle.engine_core.proofs.JudgeLemmas.{scope_le-longest}
+use Rattle.fields_core.specs.declared.planes.tents.tent_notes.TentNotes.{TentNotes}
 
+-- What waits of Tents: where its houses lie, what stays idle while others of a kind are visited, and what is idle where a closing begins.
 -- ---- where houses lie
 module _ (p : Tents) (c : ℕ) (pos : 0 < p.size.w) where
   pub column-lies : {x : ℕ} → x < p.size.w → any_has (column_of_tents p x) c ≡ true → c % p.size.w ≡ x
@@ -289,3 +287,64 @@ kind-first bits p kind waits alive rested is = passed-first (kind_houses p kind)
   where
     by : (a : Bool) → (a && true) ≡ false → a ≡ false
     by a e = grind (arith, common_steps, cases_Bool a)
+
+-- Tents on planes: the sides that the memory is for, and what a closing asks of planes.
+-- ---- the sides that the memory is for
+abbrev singles : (ℕ → CountHouse) → ℕ → List CountHouse
+singles f = λ k. f k ∷ []
+
+singles-long : (f : ℕ → CountHouse) (n : ℕ) → length (houses_below (singles f) n) ≡ n
+unfolding houses_below
+singles-long f zero = refl
+singles-long f (suc n) = omega (arith, length-append (houses_below (singles f) n) (f n ∷ []), singles-long f n)
+
+first-of : (f : ℕ → CountHouse) (n : ℕ) (rest : List CountHouse) → 0 < n → get_or (houses_below (singles f) n ++ rest) 0 no_count_house ≡ f 0
+unfolding houses_below
+first-of f zero rest pos = absurd (omega arith)
+first-of f (suc zero) rest pos = refl
+first-of f (suc (suc n)) rest pos = rw (append_assoc (houses_below (singles f) (suc n)) (f (suc n) ∷ []) rest) (first-of f (suc n) (f (suc n) ∷ rest) (omega arith))
+
+pub sides-fit : (p : Tents) → 0 < p.size.w → 0 < p.size.h → (p.size.w ≤ (needs_of (tent_rules p)).scope) × (p.size.h ≤ (needs_of (tent_rules p)).scope)
+unfolding tent_houses
+sides-fit p wide high =
+    let columns = houses_below (column_of_tents p) p.size.w in let rows = houses_below (row_of_tents p) p.size.h in
+    let rest = houses_below (tree_house p) (tent_cells p) ++ houses_below (square_house p) (tent_cells p) in
+    let long : length columns ≡ p.size.w = singles-long _ p.size.w in
+    let long' : length rows ≡ p.size.h = singles-long _ p.size.h in
+    let all : p.size.w < length (tent_houses p) =
+    omega (arith, length-append columns (rows ++ rest), length-append rows rest, long, long') in
+    let long_of : CountHouse → ℕ = λ house. length house.places in let none : p.size.w - p.size.w ≡ 0 = omega arith in
+    let column = ap long_of (first-of (λ x. exactly (slice_index p.counts x) (column_places p.size x)) p.size.w (rows ++ rest) wide) ∙ column-long p.size 0 in
+    let row = ap long_of
+    (rw none at (get_or-append_right columns (rows ++ rest) p.size.w p.size.w no_count_house long (omega arith))
+    ∙ first-of (λ y. exactly (slice_index p.counts (p.size.w + y)) (row_places p.size y)) p.size.h rest high) ∙ row-long p.size 0 in (
+      rw row at (scope_le-longest (tent_rules p).scope (length (tent_houses p)) p.size.w all),
+      rw column at (scope_le-longest (tent_rules p).scope (length (tent_houses p)) 0 (omega arith)),
+    )
+
+-- no cell with a tree can have a tent on a board inside the start
+bare-inside : (p : Tents) {K : Candidates} → IsInside K (tent_rules p).start → AreBare p K
+unfolding start_of is_barred
+bare-inside p {K} inside c is = false_from_ne_true _ (λ on. true≢false (sym (inside c 1 on) ∙ rw is (grind (arith, common_steps, cases_Bool (all_of (tent_cells p) 2 c 1)))))
+
+-- what a closing asks of planes
+pub field-of : {W : Type 0} {bits : W → ℕ} {room : ℕ} {p : Tents} {notes : TentNotes W} {planes : Layers} → AreTentsWritten bits p notes
+    → HasBoard (tent_rules p) p.size room planes → IsFieldOf room p planes (map bits notes.trees.items)
+field-of {p = p} {planes = planes} written has_board = record {
+  lawful = written.lawful;
+  narrow = has_board.suited.0;
+  low = has_board.suited.1;
+  size = has_board.same_size;
+  trees = written.trees;
+  bare = bare-inside p has_board.board.inside;
+  alive = cells-alive planes has_board.cells has_board.board.alive;
+}
+
+-- ---- sweeps of the houses
+pub houses-swept : (p : Tents) {from to : Layers} {fills : Bool} → from.size ≡ p.size
+    → AreVisited (all_of_kind p Columns ++ (all_of_kind p Rows ++ (all_of_kind p Trees ++ all_of_kind p Squares))) from to fills
+    → IsSweep (tent_rules p) from to fills
+unfolding tent_houses
+houses-swept p {from} {to} {fills} size visited =
+    let all : AreVisited (tent_houses p) from to fills = rw (trees-are p, squares-are p) at visited in
+    visits-swept (tent_cells p) (is_barred p) (tent_houses p) (solves_tents p) (rw size refl) all

@@ -3,7 +3,7 @@ use Rattle.std.proofs.lemmas.Grind.{common_steps}
 use Rattle.std.proofs.Common.{◌≡◌, ℕ, ◌<◌, Bool, true, not, ◌&&◌, List, slice_index, refl, sym, arith}
 use Rattle.std.proofs.lemmas.Bool.{cases_Bool, true≢false, and_parts, and_from, lt-ltb, ltb-true}
 use Rattle.fields_core.specs.Below.{Decision, IsAlive, IsGrid, IsInside, IsLawful, IsWithin, after, all_of, single, strikes_at, strikes_by_fillings}
-use Rattle.grid_core.proofs.CandidateLemmas.{count_below-pos, is_dead-each}
+use Rattle.grid_core.proofs.BoardLemmas.{count_below-pos, is_dead-each}
 use Rattle.grid_core.proofs.GridLemmas.{single-is}
 use Rattle.engine_core.specs.PlaceLaws.{has_place-here}
 use Rattle.engine_core.specs.HouseSetsLaws.{strikes_at-inside, strikes_at-in_scope, by_fillings-monotone, by_fillings-settled, by_fillings-closed}

@@ -1,6 +1,6 @@
 -- Of tests in their order one is the first that fails, or none fails; and it is one alone.
 use Rattle.gameid_core.specs.Common.{AllByRecursion, Bool, IsAnswerOfCheck, IsFirstFailed, List, None, NoneFails, Option, Some, [], arith, false, false≢true, get_or, get_or-map-range_with_len, inl, inr, is_some, length, length-map-range_with_len, map, not, range_with_len, recursion_from_All, refl, subst, suc, sym, true, zero, ℕ, ◌++◌, ◌<◌, ◌↔◌, ◌∷◌, ◌≡◌, ◌⊎◌}
-use Rattle.gameid_core.proofs.Lists.{AllByRecursion-append, all_at}
+use Rattle.gameid_core.proofs.LineLaws.{AllByRecursion-append, all_at}
 use Rattle.std.proofs.lemmas.Bool.{not-false, not-true, true_from_ne_false}
 
 bool_is : (a b : Bool) → (a ≡ true → b ≡ true) → (b ≡ true → a ≡ true) → a ≡ b

@@ -1,10 +1,8 @@
 -- What is so of each game.
-use Rattle.gameid_core.proofs.LightTexts.{light_reading}
-use Rattle.gameid_core.proofs.LightWritten.{light_one_text}
+use Rattle.gameid_core.proofs.LightTexts.{light_one_text, light_reading}
 use Rattle.gameid_core.proofs.PatternTexts.{pattern_reading}
 use Rattle.gameid_core.proofs.PatternWritten.{pattern_one_text}
-use Rattle.gameid_core.proofs.SoloCanon.{solo_one_text}
-use Rattle.gameid_core.proofs.SoloTexts.{solo_reading}
+use Rattle.gameid_core.proofs.SoloTexts.{solo_one_text, solo_reading}
 use Rattle.gameid_core.proofs.TentsTexts.{tents_reading}
 use Rattle.gameid_core.proofs.TentsWritten.{tents_one_text}
 

@@ -1,8 +1,7 @@
 -- The written text of a puzzle of Pattern: it is short, and it spells the puzzle.
 use Rattle.gameid_core.specs.Common.{AllByRecursion, AreClues, Extent, HasOneText, IsExtent, IsNumeral, IsPattern, IsPlain, List, Pattern, [], ap, arith, common_steps, decimal, digits_value-decimal, inl, join_with_byte, length, length-append, map, max_id, max_side, refl, size_text, subst, sym, used, value, ℕ, ◌*◌, ◌++◌, ◌+◌, ◌<◌, ◌^◌, ◌∙◌, ◌∷◌, ◌≡◌, ◌≤◌}
 use Rattle.gameid_core.specs.PatternText.{IsWrittenPattern, SpellsPattern, clue_text, clues_text, pattern_text}
-use Rattle.gameid_core.proofs.Reading.{one_text}
-use Rattle.gameid_core.proofs.Tokens.{decimal_plain, length_decimal, numeral, own, plain_decimal}
+use Rattle.gameid_core.proofs.Reading.{decimal_plain, length_decimal, numeral, one_text, own, plain_decimal}
 
 -- ---- how long
 

@@ -1,13 +1,12 @@
--- Solo: the tokens of a text, and that a text is read exactly where it spells a puzzle.
-use Rattle.gameid_core.specs.Common.{AllByRecursion, BadByte, Bool, Cuts, Err, Gives, HasOneReading, IdFault, IsSolo, List, NumberRange, Ok, Result, Solo, [], after_digits, arith, begins, common_steps, concat, decimal, decimal-digits_value, digits_front, digits_value-decimal, false, false≢true, flat_map, get_or, in_range, is_ascii_digit, is_lead, is_letter, length, map, max_numbers, refl, replicate, solo_puzzle, subst, true, value, words, ℕ, ◌*◌, ◌++◌, ◌+◌, ◌-◌, ◌<◌, ◌^◌, ◌∷◌, ◌≡◌, ◌≤◌}
-use Rattle.gameid_core.specs.SoloText.{AreApart, IsSoloToken, SoloToken, SpellsSolo, blanks, gap, given, solo_behind, solo_cells_at, solo_of, solo_token, solo_token_cells, solo_token_text}
-use Rattle.gameid_core.proofs.Reading.{only_of, reading_of}
-use Rattle.gameid_core.proofs.Tokens.{IsWord, alone, concat_words, cuts_number, cuts_single, cuts_some, decimal_leads, lead_is_digit, numeral, numeral_cuts, own, value_positive, words_are, words_nil}
-use Rattle.gameid_core.proofs.CellsReading.{Token, cells_spelled, cells_again}
-use Rattle.gameid_core.proofs.Lists.{AllByRecursion-replicate, AllByRecursion-flat_map}
+-- Solo: its texts, and the written one.
+use Rattle.gameid_core.specs.Common.{AllByRecursion, BadByte, Bool, Cuts, Err, Gives, HasOneReading, HasOneText, IdFault, IsSolo, IsSoloSizeText, List, NumberRange, Ok, Result, Solo, [], after_digits, arith, begins, common_steps, concat, decimal, decimal-digits_value, digits_front, digits_value-decimal, false, false≢true, flat_map, get_or, in_range, is_ascii_digit, is_lead, is_letter, length, length-append, length-decimal-le, map, max_id, max_numbers, mul-le-mul_left, mul-le-mul_right, nat_tests, refl, replicate, solo_n, solo_puzzle, solo_size_text, subst, suc, true, value, words, zero, ℕ, ◌*◌, ◌++◌, ◌+◌, ◌-◌, ◌<◌, ◌^◌, ◌∷◌, ◌≡◌, ◌≤◌}
+use Rattle.gameid_core.specs.SoloText.{AreApart, AreFull, AreNeeded, IsSoloToken, IsWrittenSolo, SoloToken, SpellsSolo, blanks, cells_text, gap, given, solo_behind, solo_cells_at, solo_of, solo_text, solo_token, solo_token_cells, solo_token_text, solo_tokens}
+use Rattle.gameid_core.proofs.Reading.{IsWord, Token, alone, cells_again, cells_spelled, concat_words, cuts_number, cuts_single, cuts_some, decimal_leads, lead_is_digit, numeral, numeral_cuts, one_text, only_of, own, reading_of, value_positive, words_are, words_nil}
+use Rattle.gameid_core.proofs.LineLaws.{AllByRecursion-flat_map, AllByRecursion-replicate}
 use Rattle.gameid_core.specs.declared.id.game.Game.TheVariants as game
-use Rattle.gameid_core.proofs.HeadLaws.{parts_of, solo_size, size_of_solo, puzzle_again}
+use Rattle.gameid_core.proofs.HeadLaws.{parts_of, puzzle_again, size_of_solo, solo_size}
 
+-- Solo: the tokens of a text, and that a text is read exactly where it spells a puzzle.
 module _ (n at : ℕ) where
   pub solo_letter : (first : ℕ) (after : List ℕ) → 97 ≤ first → first ≤ 122
       → Cuts (first ∷ after) (first ∷ []) after
@@ -210,3 +209,115 @@ pub solo_only : (text : List ℕ) (r : Result Solo IdFault) (p : Solo) → Gives
 solo_only text r p gives s = only_of _ _ solo_text_again text r gives p s
 
 pub ruleset reads_exactly = (solo_takes, solo_only)
+
+-- The written text of a puzzle of Solo: its length, that it spells the puzzle, and that no other does.
+-- a cell takes at most three bytes: '_' and two digits
+cells_short : (k : ℕ) (touches : Bool) (cells : List ℕ)
+    → AllByRecursion (λ v. v ≤ max_numbers) cells
+    → length (cells_text k touches cells) ≤ k + 3 * length cells
+unfolding solo_tokens
+cells_short k touches [] h = grind (arith, common_steps)
+cells_short k touches (zero ∷ cells) h = grind (arith, nat_tests, common_steps, cells_short 1 false cells, cells_short (k + 1) touches cells)
+cells_short k touches (suc v ∷ cells) h = grind (arith, common_steps, cells_short 0 true cells h.1, length-decimal-le 2 (suc v))
+
+range_more : (n : ℕ) (cells : List ℕ) → n ≤ max_numbers → AllByRecursion (λ v. v ≤ n) cells → AllByRecursion (λ v. v ≤ max_numbers) cells
+range_more n [] le h = tt
+range_more n (v ∷ cells) le h = (omega (arith, h.0), range_more n cells le h.1)
+
+pub solo_short : (p : Solo) → IsSolo p → length (solo_text p) ≤ max_id
+solo_short p h =
+    grind (
+      arith,
+      length-decimal-le 2 p.c,
+      length-decimal-le 2 p.r,
+      cells_short 0 false p.givens,
+      range_more (solo_n p) p.givens,
+      length-append (decimal p.c) (120 ∷ decimal p.r),
+      length-append,
+      common_steps,
+      mul-le-mul_left,
+      mul-le-mul_right,
+    )
+
+-- ---- what it spells
+
+-- no number comes first
+abbrev IsClear : List SoloToken → Type 0
+IsClear (given v ∷ tokens) = ⊥
+IsClear tokens = Unit {0}
+
+-- tokens of the written form that stand for those cells, with a number before them or not
+record Form (n : ℕ) (touches : Bool) (cells : List ℕ) (tokens : List SoloToken) : Type 0 where
+  each : AllByRecursion (IsSoloToken n) tokens
+  apart : AreApart tokens
+  full : AreFull tokens
+  needed : AreNeeded touches tokens
+  clear : touches ≡ true → IsClear tokens
+  filled : flat_map solo_token_cells tokens ≡ cells
+
+full_z : (tokens : List SoloToken) → AreFull tokens → AreFull (blanks 26 ∷ tokens)
+full_z tokens h = grind arith
+
+tokens_form : (n k : ℕ) (touches : Bool) (cells : List ℕ) → k ≤ 26
+    → AllByRecursion (λ v. v ≤ n) cells
+    → Form n touches (replicate k 0 ++ cells) (solo_tokens k touches cells)
+unfolding solo_tokens
+tokens_form n k touches [] few h = grind (arith, common_steps)
+tokens_form n k touches (zero ∷ cells) few h =
+    grind (arith, nat_tests, common_steps, full_z, tokens_form n 1 false cells, tokens_form n (k + 1) touches cells)
+tokens_form n k touches (suc v ∷ cells) few h = grind (arith, common_steps, tokens_form n 0 true cells)
+
+written_size : (c r : ℕ) (x : Bool) → IsSoloSizeText (solo_size_text c r x) c r x
+written_size c r x = grind arith
+
+-- the written text has the form of a written text, and so it spells the puzzle
+pub solo_is_written : (p : Solo) → IsSolo p → IsWrittenSolo (solo_text p) p
+solo_is_written p h =
+    let w = tokens_form (solo_n p) 0 false p.givens (omega arith) h.range in
+    record {
+      spells = record {
+        short = solo_short p h;
+        puzzle = h;
+        front = solo_size_text p.c p.r p.x;
+        tokens = solo_tokens 0 false p.givens;
+        parts = refl;
+        size = written_size p.c p.r p.x;
+        each = w.each;
+        apart = w.apart;
+        cells = w.filled;
+      };
+      both = refl;
+      full = w.full;
+      needed = w.needed;
+    }
+
+of_run : (k j : ℕ) (touches : Bool) (cells : List ℕ) → k + j ≤ 26 → solo_tokens k touches (replicate j 0 ++ cells) ≡ solo_tokens (k + j) touches cells
+unfolding solo_tokens
+of_run k zero touches cells le = grind arith
+of_run k (suc j) touches cells le = grind (arith, nat_tests, common_steps, of_run (k + 1) j touches cells)
+
+-- tokens of the form are those of their cells
+form_tokens : (n : ℕ) (touches : Bool) (tokens : List SoloToken)
+    → Form n touches (flat_map solo_token_cells tokens) tokens
+    → solo_tokens 0 touches (flat_map solo_token_cells tokens) ≡ tokens
+unfolding solo_tokens
+form_tokens n touches [] f = refl
+form_tokens n touches (blanks k ∷ []) f = grind (arith, common_steps, of_run)
+form_tokens n touches (blanks k ∷ blanks zero ∷ tokens) f = grind (arith, common_steps)
+form_tokens n touches (blanks k ∷ blanks (suc j) ∷ tokens) f =
+    grind (arith, common_steps, of_run, form_tokens n false (blanks (suc j) ∷ tokens))
+form_tokens n touches (blanks k ∷ gap ∷ tokens) f = grind (arith, common_steps, false≢true)
+form_tokens n touches (blanks k ∷ given v ∷ tokens) f = grind (arith, common_steps, of_run, form_tokens n true tokens)
+form_tokens n touches (gap ∷ []) f = grind (arith, common_steps)
+form_tokens n touches (gap ∷ blanks k ∷ tokens) f = grind (arith, common_steps)
+form_tokens n touches (gap ∷ gap ∷ tokens) f = grind (arith, common_steps)
+form_tokens n touches (gap ∷ given v ∷ tokens) f = grind (arith, common_steps, form_tokens n true tokens)
+form_tokens n touches (given v ∷ tokens) f = grind (arith, common_steps, form_tokens n true tokens)
+
+pub solo_form : (text : List ℕ) (p : Solo) → IsWrittenSolo text p → text ≡ solo_text p
+solo_form text p w = grind (arith, form_tokens (solo_n p) false)
+
+pub solo_one_text : HasOneText IsSolo IsWrittenSolo solo_text
+solo_one_text = record { some = solo_is_written; one = one_text _ _ solo_form }
+
+pub ruleset laws = (common_steps, solo_is_written, solo_short)

@@ -1,9 +1,8 @@
 -- Tents: the steps of a description, and that a text is read exactly where it spells a puzzle.
 use Rattle.gameid_core.specs.Common.{AllByRecursion, AreCounts, Bool, Err, Extent, Gives, HasOneReading, IdFault, IsNumeral, IsTents, IsWide, List, Ok, Result, Tents, TooFew, [], ap, append-nil, append_assoc, arith, begins, common_steps, concat, cond, digits_front, drop, eqb, extent_of, false, false≢true, flat_map, get_or, in_range, inl, inr, is_ascii_digit, joins, length, length-append, length-replicate, line_cells, lines_of, map, nat_tests, reading, refl, replicate, take, take_at, true, value, words, ℕ, ◌*◌, ◌++◌, ◌+◌, ◌-◌, ◌<◌, ◌∙◌, ◌∷◌, ◌≡◌, ◌≤◌, ◌⊎◌}
 use Rattle.gameid_core.specs.TentsText.{IsTentsToken, TentsSoFar, TentsToken, at_tents, blanks_and_tree, cells_in, run_cells, tents_at, tents_count, tents_end, tents_run, tents_step, tents_token_byte, tents_token_cells, tents_tree, SpellsTents, only_blanks, tents_behind, tents_of}
-use Rattle.gameid_core.proofs.Tokens.{IsWord, alone, concat_words, cuts_some, joined_cuts, words_are, words_first, words_nil, words_single}
-use Rattle.gameid_core.proofs.Reading.{bind_ok, only_of, reading_end, reading_of, reading_turn}
-use Rattle.gameid_core.proofs.Lists.{AllByRecursion-append, AllByRecursion-replicate}
+use Rattle.gameid_core.proofs.Reading.{IsWord, alone, bind_ok, concat_words, cuts_some, joined_cuts, only_of, reading_end, reading_of, reading_turn, words_are, words_first, words_nil, words_single}
+use Rattle.gameid_core.proofs.LineLaws.{AllByRecursion-append, AllByRecursion-replicate}
 use Rattle.gameid_core.proofs.HeadLaws.{parts_of, plain_size, puzzle_again}
 use Rattle.gameid_core.proofs.LightTexts.{wide_of, sized}
 use Rattle.gameid_core.specs.declared.id.game.Game.TheVariants as game

@@ -1,8 +1,7 @@
 -- The written text of a puzzle of Tents: its length, that it spells the puzzle, and that no other does.
 use Rattle.gameid_core.specs.Common.{AllByRecursion, AreCounts, Extent, HasOneText, IsExtent, IsNumeral, IsPlain, IsTents, List, Tents, [], ap, append_assoc, arith, common_steps, cond, decimal, digits_value-decimal, eqb, flat_map, inl, length, length-decimal-le, map, max_id, max_side, nat_tests, refl, replicate, size_text, suc, value, zero, ℕ, ◌*◌, ◌++◌, ◌+◌, ◌<◌, ◌∷◌, ◌≡◌, ◌≤◌}
 use Rattle.gameid_core.specs.TentsText.{IsTentsToken, IsWrittenTents, TentsToken, blanks_and_tree, only_blanks, tents_text, tents_token_cells, trees_text, AreTight, tents_tokens}
-use Rattle.gameid_core.proofs.Reading.{one_text}
-use Rattle.gameid_core.proofs.Tokens.{decimal_plain, length_decimal, numeral, own, plain_decimal}
+use Rattle.gameid_core.proofs.Reading.{decimal_plain, length_decimal, numeral, one_text, own, plain_decimal}
 use Rattle.gameid_core.proofs.TentsTexts.{numbers_text}
 
 -- ---- the numbers of tents

@@ -21,7 +21,7 @@ pub use Rattle.std.specs.Char.{is_ascii_digit}
 pub use Rattle.std.specs.List.{AllByRecursion, concat, flat_map, join_with_byte, list_any, position_or_len, range_with_len}
 pub use Rattle.std.specs.Prelude.{decimal, is_some, not, position, replicate, slice_get, string_bytes}
 pub use Rattle.std.specs.Str.{all_ascii_digits}
-pub use Rattle.grid_core.proofs.LineLemmas.{length-line_numbers, line_numbers-column, line_numbers-row}
+pub use Rattle.grid_core.proofs.RegionLemmas.{length-line_numbers, line_numbers-column, line_numbers-row}
 pub use Rattle.grid_core.proofs.PieceLemmas.{ends-close, ends-more, last-close, last-le, length-pieces, piece-at, piece-ends, pieces-close, pieces-more}
 pub use Rattle.grid_core.specs.Extent.{Extent, IsExtent, max_side}
 pub use Rattle.grid_core.specs.Grids.{IsGrid, column_cells, row_cells}

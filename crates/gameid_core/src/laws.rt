@@ -55,7 +55,7 @@ pub fn one_written_text()
 {}
 
 /// Cutting a text into tokens loses nothing.
-#[tactic(auto, using(crate::proofs::Tokens::concat_words, crate::proofs::Tokens::concat_bytes))]
+#[tactic(auto, using(crate::proofs::Reading::concat_words, crate::proofs::Reading::concat_bytes))]
 pub fn tokens_lose_nothing()
     ensures words { (text : List ℕ) → concat (words text) ≡ text }
     ensures bytes { (text : List ℕ) → concat (bytes_of text) ≡ text }
@@ -64,7 +64,7 @@ pub fn tokens_lose_nothing()
 /// What the runs of a line are, by the cells that come first: none, a white cell, black cells up to
 /// the end, or black cells and a white one. There is no other line of white and black cells, so
 /// this fixes the runs of each.
-#[tactic(auto, using(crate::proofs::RunsFit::laws), unfolding(crate::specs::BlackRuns::runs_after))]
+#[tactic(auto, using(crate::proofs::LineLaws::laws), unfolding(crate::specs::BlackRuns::runs_after))]
 pub fn runs_by_first_cells()
     ensures none { runs [] ≡ [] }
     ensures white { (cells : List ℕ) → runs (0 ∷ cells) ≡ runs cells }

@@ -1,9 +1,12 @@
--- Planes: their words and the board that they are.
-use Rattle.grid_core.proofs.Common.{ArePlanes, AreTurned, AreWords, Bool, Candidates, Column, Extent, HasLine, HasLost, HasRoomFor, IsFurther, IsInside, IsLineIn, IsTakingIn, IsThere, IsWithin, Layers, List, Row, Taking, and_from, and_parts, any_below, ap, arith, at_line, back_at, bit_of, cases_Bool, cases_eq, cases_lt, cells_of, common_steps, covers, crosses, differ, div-add-mod', div-mul-add, eq-eqb, eqb, eqb-true, false, false_from_ne_true, fun_ext, has, has_bit, inl, inr, le-ltb, length, length-set, line_len, lt-ltb, ltb, ltb-true, mod-mul-add, mul-le-mul_right, ne_eqb, not, refl, set, sym, taking_at, total, true, true≢false, turned_by, without_taking, ℕ, ◌%◌, ◌&&◌, ◌*◌, ◌+◌, ◌-◌, ◌/◌, ◌<◌, ◌∙◌, ◌≡◌, ◌≤◌}
-use Rattle.grid_core.proofs.CandidateLemmas.{any_below-none, any_below-some, total-lt}
+-- Planes: their words, the board that they are, and the lines of the cells that lost values.
+use Rattle.grid_core.proofs.Common.{ArePlanes, AreTurned, AreWords, Bool, Candidates, Column, Extent, HasLine, HasLost, HasRoomFor, IsFurther, IsInside, IsLineIn, IsTakingIn, IsThere, IsWithin, Layers, List, Row, Taking, and_from, and_parts, any_below, ap, arith, at_line, back_at, bit_of, cases_Bool, cases_eq, cases_lt, cells_of, common_steps, covers, crosses, differ, div-add-mod', div-mul-add, eq-eqb, eqb, eqb-true, false, false_from_ne_true, fun_ext, has, has_bit, inl, inr, le-ltb, length, length-set, line_len, lt-ltb, ltb, ltb-true, mod-mul-add, mul-le-mul_right, ne_eqb, not, refl, set, sym, taking_at, total, true, true≢false, turned_by, without_taking, ℕ, ◌%◌, ◌&&◌, ◌*◌, ◌+◌, ◌-◌, ◌/◌, ◌<◌, ◌==◌, ◌∙◌, ◌≡◌, ◌≤◌}
+use Rattle.grid_core.proofs.BoardLemmas.{any_below-none, any_below-some, total-lt}
 use Rattle.grid_core.specs.declared.planes.line.Line.{Line}
 use Rattle.grid_core.proofs.TakingLemmas.{put_back-noted, put_back-undone, takings-noted, takings-room, takings-undone}
+use Rattle.grid_core.specs.Planes.{AreLinesOf}
+use Rattle.grid_core.specs.declared.planes.touched.Touched.{Touched}
 
+-- Planes: their words and the board that they are.
 -- ---- words
 -- the cells of a line of the grid are in the grid
 crossed-in : (size : Extent) (line : Line) (bits y x : ℕ) → IsLineIn size line bits → crosses line bits y x ≡ true → (y < size.h) × (x < size.w)
@@ -275,3 +278,19 @@ given_back room p rows columns n are e turned tall wide =
       };
       back = λ m lt. rw (turn, n_is) (put_back-undone p.size.w (has p) p.takings m p.len lt);
     }
+
+-- The lines of the cells that lost values.
+-- the cells of takings from one number to another have their lines among these: takings of 0, or of 1
+abbrev pub AreNoted : {W : Type 0} → (W → ℕ) → List Taking → ℕ → ℕ → Bool → Touched W → Type 0
+AreNoted bits takings low high zero lines = (j y x : ℕ) → low ≤ j → j < high → ((taking_at takings j).value == 0) ≡ zero
+    → crosses (taking_at takings j).line (taking_at takings j).bits y x ≡ true → AreLinesOf bits lines y x
+
+-- one taking more
+pub noted-more : {W : Type 0} (bits : W → ℕ) (takings : List Taking) (low k : ℕ) (zero : Bool) (before now : Touched W)
+    → AreNoted bits takings low k zero before → ((y x : ℕ) → AreLinesOf bits before y x → AreLinesOf bits now y x)
+    → (((taking_at takings k).value == 0) ≡ zero → (y x : ℕ) → crosses (taking_at takings k).line (taking_at takings k).bits y x ≡ true
+    → AreLinesOf bits now y x) → AreNoted bits takings low (k + 1) zero now
+noted-more bits takings low k zero before now noted keeps here j y x from lt is on = elim (cases_eq j k) [
+  | inl e ↦ here (rw e at is) y x (rw e at on)
+  | inr ne ↦ keeps y x (noted j y x from (omega (arith, lt, ne)) is on)
+]

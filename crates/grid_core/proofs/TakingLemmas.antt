@@ -2,7 +2,7 @@
 use Rattle.grid_core.proofs.Common.{AreTakings, Candidates, Extent, IsInside, IsTakingIn, List, Taking, add-one, and_parts, any_below, ap, arith, cases_Bool, cases_eq, covers, crosses, differ, eqb-true, false, common_steps, get_or-set_other, get_or-set_same, inl, inr, le-leb, length, length-set, lt-leb, put_back, refl, set, suc, sym, taking_at, total, true, true≢false, turned_by, zero, ℕ, ◌%◌, ◌&&◌, ◌*◌, ◌+◌, ◌-◌, ◌/◌, ◌<◌, ◌∙◌, ◌≡◌, ◌≤◌}
 use Rattle.std.proofs.lemmas.Bool.{leb-true}
 use Rattle.std.proofs.Math.Dec.{leb}
-use Rattle.grid_core.proofs.CandidateLemmas.{any_below-none, any_below-some}
+use Rattle.grid_core.proofs.BoardLemmas.{any_below-none, any_below-some}
 
 pub put_back-none : (w : ℕ) (K : Candidates) (takings : List Taking) (m n : ℕ) → n ≤ m → put_back w K takings m n ≡ K
 unfolding put_back

@@ -1,9 +1,9 @@
--- What the operations of words say of their bits.
-use Rattle.grid_core.proofs.Common.{IsLeast, add-one, any_below, count_below, ap, arith, bit_and, bit_at, bit_at-lt, bit_at_above, bit_at_cat_low, div-add-mod', inl, inr, mod-lt, ◌+◌, bit_at-pow_other, bit_at-pow_same, bit_at-suc, bit_at-zero, bit_at_lowest, bit_at_ones, bit_at_ones_above, bit_at_xor, bit_or, bit_xor, cases_Bool, cases_eq, cases_lt, common_steps, differ, eq-eqb, eqb, eqb-false, false, false_from_ne_true, has_bit, le-ltb, lt-ltb, ltb, ne_eqb, not, one_shl, pow_pos, refl, same_from_bits_below, shr_and_one, suc, sym, true, true≢false, zero, ℕ, ◌%◌, ◌&&◌, ◌*◌, ◌-◌, ◌/◌, ◌<◌, ◌^◌, ◌||◌, ◌∙◌, ◌≡◌}
+-- Words: what their operations say of their bits, and words of a list turned over.
+use Rattle.grid_core.proofs.Common.{Bool, IsLeast, List, add-one, any_below, ap, arith, bit_and, bit_at, bit_at-lt, bit_at-pow_other, bit_at-pow_same, bit_at-suc, bit_at-zero, bit_at_above, bit_at_cat_low, bit_at_lowest, bit_at_ones, bit_at_ones_above, bit_at_xor, bit_of, bit_or, bit_xor, cases_Bool, cases_eq, cases_lt, common_steps, count_below, differ, div-add-mod', eq-eqb, eqb, eqb-false, false, false_from_ne_true, get_or, get_or-map, get_or-set_other, get_or-set_same, has_bit, inl, inr, le-ltb, length, length-map, lt-ltb, ltb, map, map-set, mod-lt, ne_eqb, not, one_shl, pow_pos, refl, same_from_bits_below, set, shr_and_one, slice_index, suc, sym, true, true≢false, zero, ℕ, ◌%◌, ◌&&◌, ◌*◌, ◌+◌, ◌-◌, ◌/◌, ◌<◌, ◌^◌, ◌||◌, ◌∙◌, ◌≡◌}
 use Rattle.std.specs.Int.RustNames.{count_ones}
-use Rattle.grid_core.proofs.BoardLemmas.{bits_both, bits_either, count_ones-bits}
-use Rattle.grid_core.proofs.CandidateLemmas.{any_below-none, any_below-some}
+use Rattle.grid_core.proofs.BoardLemmas.{any_below-none, any_below-some, bits_both, bits_either, count_below-lt, count_ones-bits}
 
+-- What the operations of words say of their bits.
 pub both-bits : (a b p : ℕ) → has_bit (bit_and a b) p ≡ (has_bit a p && has_bit b p)
 both-bits a b p = bits_both a b p
 
@@ -105,3 +105,43 @@ counted-bits = count_ones-bits
 
 pub ruleset word_laws =
     (zero-bits, on-bits, back-bits, both-bits, either-bits, differ-bits, but-bits, one-bits, all-bits, full-bits, shifted-bit, some-bit_is, some-bit, counted-bits)
+
+-- Words of a list turned over.
+-- a word of the list with some bits turned over
+word_turned : (words : List ℕ) (i v word : ℕ) (which : ℕ → Bool) → v < 2 → 2 * i + v < length words
+    → ((p : ℕ) → has_bit word p ≡ differ (has_bit (slice_index words (2 * i + v)) p) (which p))
+    → (j u p : ℕ) → u < 2 → bit_of (set words (2 * i + v) word) j u p ≡ differ (bit_of words j u p) (eqb u v && (eqb j i && which p))
+unfolding bit_of differ
+word_turned words i v word which lv lt is j u p lu =
+    grind (arith, common_steps, cases_eq j i, cases_eq u v, eq-eqb, ne_eqb, get_or-set_same, get_or-set_other, is p)
+
+-- the same of words of any kind
+pub turned_at : {W : Type 0} (bits : W → ℕ) (words : List W) (i v : ℕ) (old new : W)
+    (which : ℕ → Bool) → v < 2 → 2 * i + v < length words → old ≡ get_or words (2 * i + v) old
+    → ((p : ℕ) → has_bit (bits new) p ≡ differ (has_bit (bits old) p) (which p))
+    → (j u p : ℕ) → u < 2 → bit_of (map bits (set words (2 * i + v) new)) j u p ≡ differ (bit_of (map bits words) j u p) (eqb u v && (eqb j i && which p))
+turned_at bits words i v old new which lv lt read is j u p lu =
+    let at : slice_index (map bits words) (2 * i + v) ≡ bits old = get_or-map bits words (2 * i + v) old 0 lt ∙ ap bits (sym read) in
+    rw (map-set bits words (2 * i + v) new)
+    (word_turned (map bits words) i v (bits new) which lv (omega (arith, length-map words bits))
+    (λ q. is q ∙ ap (λ n. differ (has_bit n q) (which q)) (sym at)) j u p lu)
+
+-- one more crossing line
+pub crossed : (before after first line v crossing : Bool) (all rest left : Bool)
+    → before ≡ differ first (v && (line && (all && not rest))) → after ≡ differ before (v && (crossing && line)) → left ≡ (rest && not crossing)
+    → (crossing ≡ true → rest ≡ true) → (rest ≡ true → all ≡ true)
+    → after ≡ differ first (v && (line && (all && not left)))
+unfolding differ
+crossed before after first line v crossing all rest left is next e here inside = grind (arith, common_steps, cases_Bool)
+
+pub fewer_left : (rest left : ℕ → Bool) (room crossing : ℕ) → crossing < room → rest crossing ≡ true → ((p : ℕ) → left p ≡ (rest p && not (eqb p crossing)))
+    → count_below left room < count_below rest room
+fewer_left rest left room crossing lt on is =
+    count_below-lt left rest room crossing (λ p _ h. grind (arith, common_steps, is p)) lt (grind (arith, common_steps, is crossing, eq-eqb)) on
+
+pub turned_none : (b : Bool) (q r s : Bool) → b ≡ differ b (q && (r && (s && not s)))
+unfolding differ
+turned_none b q r s = grind (arith, common_steps, cases_Bool)
+
+pub turned_all : (b : Bool) (q r all rest : Bool) → rest ≡ false → differ b (q && (r && (all && not rest))) ≡ differ b (q && (r && all))
+turned_all b q r all rest off = grind (arith, common_steps, cases_Bool)

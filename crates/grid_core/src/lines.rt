@@ -1,5 +1,5 @@
 //! The lines of a grid: the columns from the left, and then the rows from the top.
-#![tactic(auto, using(crate::proofs::LineLemmas::line_laws))]
+#![tactic(auto, using(crate::proofs::RegionLemmas::line_laws))]
 
 ghost use Rattle.std.specs.Prelude.{◌≡◌, ◌*◌, ◌<◌, ◌≤◌, length, slice_index};
 ghost use Rattle.grid_core.specs.Candidates.{max_cells};

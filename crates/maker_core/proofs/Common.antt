@@ -34,11 +34,11 @@ unfoldable pub use Rattle.rand.specs.Shuffle.{grow, narrow_swaps, rising}
 unfoldable pub use Rattle.rand.specs.Uniform.{canon}
 pub use Rattle.rand_core.specs.Stream.{Stream}
 unfoldable pub use Rattle.rand_core.specs.Stream.{next_u32}
-pub use Rattle.grid_core.proofs.CandidateLemmas.{all_below-at, all_below-from, any_below-here, any_below-none, any_below-some, count_below-few}
-pub use Rattle.grid_core.proofs.CandidateLemmas.{count_below-pos, is_dead-each, is_full-each}
-pub use Rattle.grid_core.proofs.DifferentNumbers.{distinct_filtered_range}
+pub use Rattle.grid_core.proofs.BoardLemmas.{all_below-at, all_below-from, any_below-here, any_below-none, any_below-some, count_below-few}
+pub use Rattle.grid_core.proofs.BoardLemmas.{count_below-pos, is_dead-each, is_full-each}
+pub use Rattle.grid_core.proofs.PairingLemmas.{distinct_filtered_range}
 pub use Rattle.grid_core.proofs.GridLemmas.{grid_of-full, single-at, single-is}
-pub use Rattle.grid_core.proofs.LineLemmas.{length-line_places, line_numbers-column, line_numbers-row, place_in_row}
+pub use Rattle.grid_core.proofs.RegionLemmas.{length-line_places, line_numbers-column, line_numbers-row, place_in_row}
 pub use Rattle.grid_core.specs.Candidates.{Candidates, IsInside}
 unfoldable pub use Rattle.grid_core.specs.Candidates.{count_below, single}
 pub use Rattle.grid_core.specs.Extent.{Extent, IsExtent}
@@ -56,7 +56,7 @@ pub use Rattle.gameid_core.specs.Puzzles.{IsSolo, Light, Pattern, Solo, Tents, s
 pub use Rattle.gameid_core.specs.declared.light_up.cell.LightCell.{LightCell}
 pub use Rattle.gameid_core.specs.declared.light_up.cell.LightCell.TheVariants.{Black, Numbered, White}
 pub use Rattle.engine_core.proofs.ClosingLemmas.{closure_closed, closure_inside, closure_largest}
-pub use Rattle.engine_core.proofs.VerdictLemmas.{outcome-true}
+pub use Rattle.engine_core.proofs.SearchLemmas.{outcome-true}
 pub use Rattle.engine_core.proofs.WalkLemmas.{walk-unfold, walk_closed-solved}
 unfoldable pub use Rattle.engine_core.specs.Closing.{closure}
 pub use Rattle.engine_core.specs.Filling.{strikes_by_fillings}
@@ -90,15 +90,15 @@ pub use Rattle.solo_core.specs.SolutionLaws.{rule_from_test, test_from_rule}
 pub use Rattle.solo_core.specs.Solutions.{IsSoloSolution}
 pub use Rattle.solo_core.specs.declared.houses.house.NamedHouse.{NamedHouse}
 pub use Rattle.solo_core.specs.declared.houses.house.NamedHouse.TheVariants.{Block, Column, Diagonal, Row}
-pub use Rattle.fields_core.proofs.HouseLists.{step-keep, step-none, step-skip}
-pub use Rattle.fields_core.proofs.LightCounting.{light-lawful}
-pub use Rattle.fields_core.proofs.LightFaultLemmas.{lit-from, lit-parts}
+pub use Rattle.fields_core.proofs.HouseLemmas.{step-keep, step-none, step-skip}
+pub use Rattle.fields_core.proofs.LightRuleLemmas.{light-lawful}
+pub use Rattle.fields_core.proofs.LightHouseLaws.{lit-from, lit-parts}
 pub use Rattle.fields_core.proofs.LightHouseLaws.{column-both, column-self, row-both, row-self, white-in}
 pub use Rattle.fields_core.proofs.LightRuleLemmas.{rule-from-test, test-from-rule}
-pub use Rattle.fields_core.proofs.LightSight.{bulb-in}
+pub use Rattle.fields_core.proofs.LightHouseLaws.{bulb-in}
 pub use Rattle.fields_core.proofs.PlaceLists.{filter-few}
-pub use Rattle.fields_core.proofs.StepLaws.{step-down, step-left, step-right, step-up, steps-few, steps-some}
-pub use Rattle.fields_core.proofs.TentBeside.{beside-in}
+pub use Rattle.fields_core.proofs.BesideLemmas.{step-down, step-left, step-right, step-up, steps-few, steps-some}
+pub use Rattle.fields_core.proofs.BesideLemmas.{beside-in}
 pub use Rattle.fields_core.proofs.TentCounting.{tent-in}
 pub use Rattle.fields_core.proofs.TentRuleLemmas.{solution-from-tents, tents-from-solution}
 unfoldable pub use Rattle.fields_core.specs.CountHouse.{start_of}

@@ -1,8 +1,9 @@
--- A clue is tried: it stays for a reason that the verdict tells, which holds of thinner puzzles too; and the reasons written are those of the clues left.
-use Rattle.maker_core.proofs.Common.{All, All-cons, All-contains, All-nil, AreReasons, Bool, Budget, CluedGame, Contains, Contains-append_right, Contains-permutation, FitsIn, HasOne, HasTwo, IsAnswer, IsAsked, IsDistinct, IsDistinct-IsPermutation, IsGame, IsLeft, IsOnly, IsPermutation, IsPermutation-sym, IsReason, IsThinnedFrom, IsThinning, IsTold, IsTrueOf, IsVerdict, Kept, List, Needed, Needs, None, Option, Outcome, RuleSystem, Some, TellsOne, Why, [], add-one, ap, append-nil, arith, cases_eq, clue_places, common_steps, distinct_filtered_range, drop, drop-cons, eqb, false, filter, filter_passes, get_or, get_or-replicate, get_or-set_at, get_or-set_other, get_or_past, has_clue, inl, inr, is_some, length, length-replicate, length-set, length-take, map, nat_eq_equiv, needs_of, outcome, range_with_len, reasons_from, refl, replicate, set, subst, suc, sym, take, true, true≢false, walk, zero, ℕ, ◌++◌, ◌+◌, ◌<◌, ◌∙◌, ◌∷◌, ◌≡◌, ◌≢◌, ◌≤◌, ◌⊎◌}
+-- Clues that are tried, and those that are needed.
+use Rattle.maker_core.proofs.Common.{All, All-cons, All-contains, All-nil, AreReasons, Bool, Budget, CluedGame, Contains, Contains-append_right, Contains-permutation, FitsIn, HasOne, HasTwo, IsAnswer, IsAsked, IsDistinct, IsDistinct-IsPermutation, IsGame, IsLeft, IsOnly, IsPermutation, IsPermutation-sym, IsReason, IsThinnedFrom, IsThinning, IsTold, IsTrueOf, IsVerdict, Kept, LeavesNoIdleClue, List, Needed, Needs, None, Option, Outcome, RuleSystem, Some, TellsOne, Why, [], add-one, ap, append-nil, arith, cases_eq, clue_is, clue_places, common_steps, distinct_filtered_range, drop, drop-cons, eqb, false, filter, filter_passes, get_or, get_or-map, get_or-replicate, get_or-set_at, get_or-set_other, get_or_past, has_clue, inl, inr, is_some, length, length-map, length-replicate, length-set, length-take, lit_by_fewer, map, nat_eq_equiv, needs_of, numbered_is, outcome, range_with_len, reasons_from, refl, replicate, set, solved_by_fewer, subst, suc, sym, take, true, true≢false, walk, zero, ℕ, ◌++◌, ◌+◌, ◌<◌, ◌∙◌, ◌∷◌, ◌≡◌, ◌≢◌, ◌≤◌, ◌⊎◌}
 use Rattle.engine_core.specs.declared.search.walk.Verdict.TheVariants as verdict
-use Rattle.maker_core.proofs.FilteredRanges.{head_apart, passes_kept}
+use Rattle.maker_core.proofs.WrittenGrids.{head_apart, passes_kept, set_back}
 
+-- A clue is tried: it stays for a reason that the verdict tells, which holds of thinner puzzles too; and the reasons written are those of the clues left.
 pub needed : (p : RuleSystem) (budget : ℕ) {first second : Option (List ℕ)} {o : Outcome} {why : Why} → why ≡ Needed
     → IsAnswer verdict.Several first second o → IsTrueOf p o → IsVerdict p budget why
 needed p budget is answer sound = grind (arith, common_steps)
@@ -233,3 +234,33 @@ thinning_start {game} laws budget p answer {order} whys only found mixed blank =
     by place false lacks =
         inr (subst (λ o. IsTold game budget p p place o)
         (sym (ap (λ xs. get_or xs place None) blank ∙ blank_at (game.cells p) place)) (none_of lacks))
+
+-- A puzzle that lacks a needed clue is within the puzzle without that clue alone.
+lacking_within : {A : Type 0} {game : CluedGame A} → IsGame game → (p q : A) (place n : ℕ) → IsThinnedFrom game q p
+    → game.clue p place ≡ Some n → has_clue game q place ≡ false
+    → IsThinnedFrom game q (game.without p place)
+lacking_within laws p q place n w e lacks = grind (arith, common_steps, cases_eq)
+
+-- the reason of a clue that is left
+needed_at : {A : Type 0} (game : CluedGame A) {budget : ℕ} (all p : A) (kept : List Kept) (place : ℕ)
+    → AreReasons game budget all p kept → All (λ k. k.why ≡ Needed) kept
+    → Contains (map (λ k. k.place) kept) place → HasTwo (game.rules (game.without p place))
+needed_at game {budget} all p kept place reasons needed listed =
+    let entry : Kept = record { place = place; why = Needed } in
+    let below : listed.0 < length kept = omega (arith, listed.1, length-map kept (λ k. k.place)) in
+    let here = sym (get_or-map _ kept listed.0 entry place below) ∙ listed.2 in
+    subst (λ x. IsReason game budget all p x Needed) here
+    (subst (λ w. IsReason game budget all p (get_or kept listed.0 entry).place w) (needed listed.0 entry below)
+    (reasons.reasons listed.0 entry below))
+
+pub none_is_idle : {A : Type 0} {game : CluedGame A} → IsGame game → LeavesNoIdleClue game
+none_is_idle {game} laws budget all p q kept place reasons needed w has lacks =
+    let n = some_of (game.clue p place) has in
+    let listed = passes_kept (has_clue game p) (game.cells p) place (laws.clue_in p place n.0 n.1) has in
+    two_in laws (lacking_within laws p q place n.0 w n.1 lacks)
+    (needed_at game all p kept place reasons needed (subst (λ xs. Contains xs place) (sym reasons.places) listed))
+
+-- what the taking away of clues cites, and that fewer clues lose no solution
+pub ruleset clue_laws = (set_back, clue_is, numbered_is)
+
+pub ruleset fewer_laws = (solved_by_fewer, lit_by_fewer)

@@ -8,7 +8,7 @@ pub use Rattle.std.specs.List.{IsDistinct, range_with_len}
 pub use Rattle.std.specs.Prelude.{filter, slice_index, slice_index_or, slice_set}
 pub use Rattle.rand_core.specs.Stream.{Call, Stream}
 unfoldable pub use Rattle.rand_core.specs.Stream.{next_u32}
-pub use Rattle.grid_core.proofs.CandidateLemmas.{all_below-at, all_below-from}
+pub use Rattle.grid_core.proofs.BoardLemmas.{all_below-at, all_below-from}
 pub use Rattle.grid_core.specs.Extent.{Extent, IsExtent}
 pub use Rattle.grid_core.specs.Grids.{IsGrid}
 pub use Rattle.grid_core.specs.Regions.{beside}

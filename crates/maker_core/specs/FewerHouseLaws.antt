@@ -1,7 +1,7 @@
 -- A list of houses from which some are left out is no longer, and has no longer house.
 use Rattle.maker_core.specs.Below.{common_steps, get_or-append-add, get_or_append_left, le_refl, length-append, longest, max-le}
 use Rattle.std.proofs.Common.{◌≡◌, ℕ, zero, suc, ◌<◌, ◌≤◌, List, [], ◌++◌, length, sym, subst, arith, inl, inr, ◌⊎◌}
-use Rattle.engine_core.proofs.StoreLemmas.{scope_le-longest}
+use Rattle.engine_core.proofs.JudgeLemmas.{scope_le-longest}
 use Rattle.fields_core.specs.CountHouse.{CountHouse, no_count_house, count_house_of, houses_below}
 use Rattle.fields_core.proofs.LightHouseLaws.{EachOf, each-append}
 

@@ -28,7 +28,7 @@ pub(crate) fn shuffle<G: Rng>(rng: &mut G, items: &mut Vec<usize>)
 }
 
 /// The numbers below `n` in a shuffled order.
-#[tactic(auto, using(crate::proofs::FilteredRanges::range_more))]
+#[tactic(auto, using(crate::proofs::WrittenGrids::range_more))]
 pub(crate) fn order<G: Rng>(alloc: Global, rng: &mut G, n: usize) -> Result<Vec<usize>, AllocError>
     ensures drawn { IfOk result (AreDrawnBy (shuffled_order n) G.stream rng.old rng.new) }
     ensures ordered { IfOk result (λ v. IsOrder n v.items) }

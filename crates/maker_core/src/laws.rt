@@ -8,7 +8,7 @@ ghost use Rattle.maker_core.specs.SoloClues.{solo_game};
 ghost use Rattle.maker_core.specs.LightClues.{light_game};
 
 /// If each clue of a puzzle is a clue of another one, each solution of the other one is one of the puzzle.
-#[tactic(auto, using(crate::proofs::IdleClues::fewer_laws))]
+#[tactic(auto, using(crate::proofs::ThinningTurns::fewer_laws))]
 pub fn fewer_clues_keep_solutions()
     ensures solo { KeepsSolutions solo_game IsSoloSolution }
     ensures lights { KeepsSolutions light_game (λ p g. solves_lights p g ≡ true) }
@@ -21,7 +21,7 @@ pub fn needed_clues_are_not_idle()
 {}
 
 /// Each filling of Tents, over any stream of 32-bit words, is a grid of trees and tents that solves its own puzzle.
-#[tactic(auto, using(crate::proofs::TentsFilled::filling_at_solves))]
+#[tactic(auto, using(crate::proofs::TentsSolved::filling_at_solves))]
 pub fn fillings_of_tents_are_solutions()
     ensures trees { EachFilling (λ size filling. IsGrid (size.w * size.h) 2 filling.trees) }
     ensures solved { EachFilling IsSolvedFilling }

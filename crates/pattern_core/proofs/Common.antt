@@ -15,10 +15,10 @@ pub use Rattle.std.proofs.lemmas.List.{replicate-append-replicate, set-get_or}
 pub use Rattle.std.proofs.lemmas.Nat.{div-add-mod', div-mul-add, div_below, mod-mul-add, mod_below}
 pub use Rattle.std.specs.Int.{bit_at, from_bool}
 pub use Rattle.std.specs.List.{AllByRecursion}
-pub use Rattle.grid_core.proofs.CandidateLemmas.{all_below-from, any_below-here, any_below-none, any_below-same, any_below-some, count_below-none}
-pub use Rattle.grid_core.proofs.CandidateLemmas.{count_below-pos, count_below-same, is_dead-each, is_dead-here, is_dead-not, within_inside}
-pub use Rattle.grid_core.proofs.LineLemmas.{length-line_numbers, length-line_places, line_laws, line_numbers-places, line_short, place_in_column}
-pub use Rattle.grid_core.proofs.LineLemmas.{place_in_row}
+pub use Rattle.grid_core.proofs.BoardLemmas.{all_below-from, any_below-here, any_below-none, any_below-same, any_below-some, count_below-none}
+pub use Rattle.grid_core.proofs.BoardLemmas.{count_below-pos, count_below-same, is_dead-each, is_dead-here, is_dead-not, within_inside}
+pub use Rattle.grid_core.proofs.RegionLemmas.{length-line_numbers, length-line_places, line_laws, line_numbers-places, line_short, place_in_column}
+pub use Rattle.grid_core.proofs.RegionLemmas.{place_in_row}
 pub use Rattle.grid_core.proofs.PlaneLemmas.{further-more, further-none, has-within, place-in}
 pub use Rattle.grid_core.specs.Board.{Layout}
 unfoldable pub use Rattle.grid_core.specs.Board.{has}

@@ -1,5 +1,6 @@
--- A grid that no test of a line fails is a solution, and the first line that fails is what a check tells.
-use Rattle.pattern_core.proofs.Common.{AllByRecursion, Bool, HasClue, List, Pattern, Some, [], arith, cases_lt, clue_of, false, has_runs, has_runs-from, has_runs-is, inl, inr, line_numbers, line_of_solution, lines_of, solution_from_lines, sym, true, true≢false, ℕ, ◌*◌, ◌++◌, ◌+◌, ◌-◌, ◌<◌, ◌∙◌, ◌∷◌, ◌≡◌}
+-- The tests of all lines, and the first line that fails.
+use Rattle.pattern_core.proofs.Common.{AllByRecursion, Bool, HasClue, IsClosedGrid, List, Pattern, Some, [], all_below-from, ap, arith, by_fillings-met, cases_lt, clue_of, common_steps, different_places, false, has_place-here, has_runs, has_runs-from, has_runs-is, in_grid, inl, inr, is_solution-line, length, length-line_places, line_numbers, line_numbers-places, line_of_solution, line_places, line_rules, lines_of, slice_index, solution_from_lines, sym, true, true≢false, ℕ, ◌*◌, ◌++◌, ◌+◌, ◌-◌, ◌<◌, ◌∙◌, ◌∷◌, ◌≡◌}
+use Rattle.pattern_core.specs.LineRules.{LawfulPattern, is_pattern_solution}
 use Rattle.grid_core.specs.Grids.{IsGrid}
 use Rattle.gameid_core.specs.FirstFailed.{NoneFails}
 use Rattle.gameid_core.proofs.FirstFailed.{IsKnown, IsMade, Kind, all_each, each, first_each, first_front, first_rest, known_tests, none_held, right_none}
@@ -8,6 +9,24 @@ use Rattle.pattern_core.specs.Solutions.{IsPatternSolution}
 use Rattle.pattern_core.specs.declared.fault.PatternFault.{PatternFault}
 use Rattle.pattern_core.specs.declared.fault.PatternFault.TheVariants.{Column, Row}
 
+-- The tests of all lines.
+-- what the tests of all lines say
+pub ruleset line_tests = (is_solution-line, all_below-from, has_runs-is, has_runs-from, solution_from_lines)
+
+-- a grid from which no line strikes anything
+pub closed_solution : (r : LawfulPattern) {g : List ℕ} → IsClosedGrid (line_rules r.pattern) g → is_pattern_solution r.pattern g ≡ true
+unfolding is_pattern_solution
+closed_solution r {g} grid =
+    let p = r.pattern in
+    all_below-from _ (lines_of p.size) (λ line lt.
+    let places = line_places p.size line in
+    let some : 0 < length places = grind (arith, common_steps, r.extent, length-line_places) in
+    ap (has_runs (clue_of p line)) (sym (line_numbers-places p.size g line))
+    ∙ by_fillings-met 2 places (has_runs (clue_of p line)) g (different_places p.size line) some
+    (λ k less. let z = in_grid p.size {c = slice_index places k} lt (has_place-here places k less) in omega (arith, grid.fits.each_cell))
+    (λ c less. grid.fits.each_value c 0 less) (λ c v. grid.closed line c v lt))
+
+-- A grid that no test of a line fails is a solution, and the first line that fails is what a check tells.
 module _ (p : Pattern) (g : List ℕ) where
   abbrev is_right : ℕ → Bool
   is_right line = has_runs (clue_of p line) (line_numbers p.size g line)

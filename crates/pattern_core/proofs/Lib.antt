@@ -1,14 +1,8 @@
 pub mod Common
 pub mod FaultLemmas
-pub mod LineSteps
-pub mod LineVisits
+pub mod LineTakings
 pub mod SpelledRuns
-pub mod Words
-pub mod Spellings
+pub mod LineWords
 pub mod TableSteps
 pub mod Roomy
-pub mod Fresh
-pub mod LineWords
-pub mod LineTakings
 pub mod WaitingLines
-pub mod LongestLine

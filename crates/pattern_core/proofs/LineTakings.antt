@@ -1,9 +1,15 @@
--- What is taken from a line of planes, and what its house strikes.
-use Rattle.pattern_core.proofs.Common.{AreDecided, ArePlanes, Bool, Candidates, Column, Extent, IsAlive, IsBitsOf, IsDead, Layers, Line, List, Pattern, Row, Taking, after, and-true, and_from, and_parts, and_right, any_below, any_below-here, any_below-none, any_below-some, ap, ap₂, arith, at_line, cases_Bool, cases_eq, cases_lt, clue_of, common_steps, cond, count_below, count_below-none, count_below-pos, count_below-same, counts_of, div-add-mod', div-mul-add, div_below, eq-eqb, eqb, eqb-true, false, false_from_ne_true, fun_ext, has-within, has_bit, has_lost, has_place, has_place-at, has_place-here, has_runs, house_of, in_grid, inl, inr, is_dead-each, is_dead-here, is_dead-not, kept_in, le-ltb, length, length-line_places, line_cells, line_len, line_places, line_rules, lines_beside, lines_of, lt-ltb, mod-mul-add, mod_below, not, number_of, or_cases, place_in_column, place_in_row, refl, sets-bits, slice_index, strikes_by_fillings, sym, true, true≢false, visited-after, ℕ, ◌%◌, ◌&&◌, ◌*◌, ◌+◌, ◌-◌, ◌/◌, ◌<◌, ◌||◌, ◌∙◌, ◌≡◌}
+-- Visits of a line, on boards and on planes.
+use Rattle.pattern_core.proofs.Common.{AreClues, AreDecided, ArePlanes, ArePositive, Bool, Candidates, Column, Decision, Extent, FitsIn, IsAlive, IsBitsOf, IsBoardOf, IsClue, IsDead, IsDecided, IsDecidedBy, IsExtent, IsLawful, IsPattern, IsWithin, Layers, Layout, Line, List, Needs, Pattern, Row, RuleSystem, Taking, [], after, and-true, and_from, and_parts, and_right, any_below, any_below-here, any_below-none, any_below-some, ap, ap₂, arith, at_line, bits-of_values, cases_Bool, cases_eq, cases_lt, clue_of, common_steps, cond, count_below, count_below-none, count_below-pos, count_below-same, counts_of, div-add-mod', div-mul-add, div_below, eq-eqb, eqb, eqb-true, false, false_from_ne_true, fun_ext, get_or, has-within, has_bit, has_lost, has_place, has_place-at, has_place-here, has_runs, house_of, in_grid, inl, inr, is_dead-each, is_dead-here, is_dead-not, kept-decided, kept_in, le-ltb, length, length-line_places, line_cells, line_len, line_places, line_rules, line_rules-lawful, line_short, lines_beside, lines_of, lt-ltb, mod-mul-add, mod_below, needs_of, not, number_of, or_cases, place_in_column, place_in_row, refl, sets-bits, slice_index, strikes_at, strikes_by_fillings, subst, suc, sym, true, true≢false, used, visited-after, zero, ℕ, ◌%◌, ◌&&◌, ◌*◌, ◌+◌, ◌-◌, ◌/◌, ◌<◌, ◌||◌, ◌∙◌, ◌∷◌, ◌≡◌, ◌≤◌}
 use Rattle.grid_core.specs.Candidates.{IsWithin as HasCells}
 unfoldable use Rattle.grid_core.specs.Planes.{covers, crosses, has, without_taking}
-use Rattle.grid_core.proofs.RowLemmas.{has-at}
+use Rattle.grid_core.proofs.PlaneSteps.{has-at}
+use Rattle.engine_core.proofs.HouseLemmas.{kept-after}
+use Rattle.engine_core.specs.Keeping.{AreSetsOf}
+use Rattle.engine_core.specs.PositionLaws.{within_of}
+use Rattle.engine_core.specs.PlaneNotes.{IsSuited}
+use Rattle.engine_core.proofs.JudgeLemmas.{scope_le-longest}
 
+-- What is taken from a line of planes, and what its house strikes.
 -- ---- the cells of a line
 abbrev pub cell_of : Extent → Line → ℕ → ℕ
 cell_of size (Row y) k = y * size.w + k
@@ -246,3 +252,49 @@ pub both-taken : (p0 p1 p2 : Layers) {size : Extent} (t0 t1 : Taking) → p0.siz
 both-taken p0 p1 p2 t0 t1 f0 f1 e1 e2 =
     e2
     ∙ ap₂ (λ w K. without_taking w K t1) (ap (λ (s : Extent). s.w) (f1 ∙ f0)) (e1 ∙ ap (λ w. without_taking w (has p0) t0) (ap (λ (s : Extent). s.w) f0))
+
+-- A visit of a line, from its three steps, and the clues that it reads.
+-- a visit that strikes what is not kept of decided sets leaves the board that the rules say
+pub decided-after : {p : RuleSystem} → IsLawful p → {h : ℕ} (decides : Decision) {K : Candidates} {sets kept : List ℕ} → h < p.houses
+    → ((L : Candidates) (c v : ℕ) → p.strikes h L c v ≡ strikes_at p.values (p.scope h) decides L c v)
+    → IsWithin p.cells p.values K → AreSetsOf p h K sets → IsDecided p.values decides sets kept
+    → kept_in (p.scope h) kept (length (p.scope h)) K ≡ after p h K
+decided-after {p} laws {h} decides {K} {sets} {kept} lt is within are decided =
+    kept-after laws lt within (kept-decided p h decides K true sets kept is (λ j k lj lk e. laws.scope_distinct h j k lt lj lk e) are decided
+    (λ e. absurd (true≢false e)))
+
+pub line_visited : (p : Pattern) {line : ℕ} {b : Layout} {size : Extent} {K : Candidates} {clue places sets kept : List ℕ} → IsExtent p.size
+    → line < lines_of p.size → IsBoardOf (line_rules p) b → size ≡ p.size → clue ≡ clue_of p line → places ≡ line_places size line → length sets ≡ length places
+    → ((k : ℕ) → k < length places → IsBitsOf (has b (slice_index places k)) b.values (slice_index sets k))
+    → IsDecidedBy clue sets kept → K ≡ kept_in places kept (length places) (has b) → K ≡ after (line_rules p) line (has b)
+line_visited p {line} {b} {places = places} {sets = sets} extent lt is sized same written long bits decided left =
+    let at : places ≡ line_places p.size line = rw sized at written in
+    (rw at at left)
+    ∙ decided-after (line_rules-lawful p extent) (strikes_by_fillings (has_runs (clue_of p line))) lt (λ L c v. refl) (within_of _ b is)
+    (record { as_many = rw at at long; bits = rw at at (bits-of_values b 2 places sets is.same_values bits) }) (rw same at decided)
+
+-- a clue of a puzzle fits its line, and a spelled clue fits a word
+clue_from : (size : Extent) (clues : List (List ℕ)) (from k : ℕ) → AreClues size from clues
+    → k < length clues → IsClue (line_cells size (from + k)) (get_or clues k [])
+clue_from size [] from k all lt = absurd (omega arith)
+clue_from size (clue ∷ clues) from zero all lt = subst (λ n. IsClue (line_cells size n) clue) (omega arith) all.0
+clue_from size (clue ∷ clues) from (suc k) all lt =
+    subst (λ n. IsClue (line_cells size n) (get_or clues k []))
+    (omega arith)
+    (clue_from size clues (from + 1) k all.1 (omega arith))
+
+pub clue_of_line : {p : Pattern} {line : ℕ} {clue : List ℕ} → IsPattern p → line < lines_of p.size
+    → clue ≡ clue_of p line → ArePositive clue × (used clue ≤ 127)
+clue_of_line {p} {line} is lt same =
+    let here = clue_from p.size p.clues 0 line is.clues (omega arith) in
+    let short = line_short p.size (0 + line) is.size in
+    (subst (ArePositive) (sym same) here.positive, (omega (arith, ap used same)))
+
+-- No side of a grid is longer than its longest line.
+pub sides-short : (p : Pattern) {had : Needs} → IsExtent p.size → FitsIn (needs_of (line_rules p)) had → had.scope ≤ 64 → IsSuited p.size 64
+sides-short p extent fits short =
+    let row = scope_le-longest (line_places p.size) (lines_of p.size) p.size.w (omega (arith, extent.h_low)) in
+    let column = scope_le-longest (line_places p.size) (lines_of p.size) 0 (omega (arith, extent.w_low)) in
+    let wide : line_cells p.size p.size.w ≡ p.size.w = rw (le-ltb p.size.w p.size.w (omega arith)) refl in
+    let high : line_cells p.size 0 ≡ p.size.h = rw (lt-ltb 0 p.size.w (omega (arith, extent.w_low))) refl in
+    (omega (arith, row, length-line_places p.size p.size.w, wide, fits.scope_in, short), omega (arith, column, length-line_places p.size 0, high, fits.scope_in, short))

@@ -6,9 +6,9 @@ use Rattle.pattern_core.specs.Below.{AreDifferent, Extent, IsAlive, IsExtent, Is
 use Rattle.std.proofs.lemmas.Nat.{mod-mul-add, div-mul-add}
 use Rattle.std.proofs.lemmas.List.FromFn.{length-map-range_with_len}
 use Rattle.std.proofs.Math.Nat.{mul-le-mul_right}
-use Rattle.grid_core.proofs.CandidateLemmas.{all_below-at, all_below-from, count_below-few, count_below-or, count_below-pos, is_dead-each}
+use Rattle.grid_core.proofs.BoardLemmas.{all_below-at, all_below-from, count_below-few, count_below-or, count_below-pos, is_dead-each}
 use Rattle.grid_core.proofs.GridLemmas.{single-all, all-within}
-use Rattle.grid_core.proofs.LineLemmas.{column-places, row-places, length-line_places, place_in_column, place_in_row, line_numbers-column, line_numbers-row, line_numbers-places, few_cells}
+use Rattle.grid_core.proofs.RegionLemmas.{column-places, row-places, length-line_places, place_in_column, place_in_row, line_numbers-column, line_numbers-row, line_numbers-places, few_cells}
 use Rattle.engine_core.specs.PlaceLaws.{has_place-at, has_place-here}
 use Rattle.engine_core.specs.HouseSetsLaws.{strikes_at-inside, strikes_at-in_scope, by_fillings-monotone, by_fillings-settled, by_fillings-closed}
 use Rattle.pattern_core.specs.Lines.{clue_of, HasClue, has_runs}

@@ -138,12 +138,12 @@ impl Rules for PatternLines {
         self.houses() + self.cells()
     }
 
-    #[tactic(auto, using(grid_core::proofs::LineLemmas::line_laws))]
+    #[tactic(auto, using(grid_core::proofs::RegionLemmas::line_laws))]
     fn scope_len(&self, house: usize) -> usize {
         line_len(self.size(), house)
     }
 
-    #[tactic(auto, using(grid_core::proofs::LineLemmas::line_laws))]
+    #[tactic(auto, using(grid_core::proofs::RegionLemmas::line_laws))]
     fn scope(&self, house: usize, k: usize) -> usize {
         line_place(self.size(), house, k)
     }
@@ -182,7 +182,7 @@ impl Rules for PatternLines {
         apply(board, places, sets)
     }
 
-    #[tactic(auto, using(crate::proofs::LineSteps::line_tests), unfolding(crate::specs::LineRules::is_pattern_solution))]
+    #[tactic(auto, using(crate::proofs::FaultLemmas::line_tests), unfolding(crate::specs::LineRules::is_pattern_solution))]
     fn accept(&self, _scratch: &mut LineScratch, grid: &Grid) -> bool {
         for line in 0..self.houses() {
             if !self.clue(line).is_met(self.size(), grid, line) {

@@ -1,5 +1,5 @@
 //! Sets of slots, the places along a spelled clue, as words, and what is looked up of them by what a cell may be.
-#![tactic(auto, using(crate::proofs::Words::slot_laws))]
+#![tactic(auto, using(crate::proofs::LineWords::slot_laws))]
 
 ghost use Rattle.std.specs.Prelude.{◌≡◌, ℕ, ◌%◌, Bool, ◌==◌, slice_index};
 ghost use Rattle.grid_core.specs.Words.{has_bit};

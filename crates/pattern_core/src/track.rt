@@ -152,7 +152,7 @@ impl<P: Slots> SpelledClue<P> {
     }
 
     /// How a line goes along the clue.
-    #[tactic(auto, using(crate::proofs::Spellings::track_under))]
+    #[tactic(auto, using(crate::proofs::SpelledRuns::track_under))]
     pub(crate) fn steps(&self) -> TrackSlots<P>
         ensures track { along (slots_of P.bits) result ≡ track_of (spelled self.now) }
         ensures positive { ArePositive self.now }

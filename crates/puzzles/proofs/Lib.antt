@@ -1,3 +1,2 @@
 pub mod Common
-mod CommandLemmas
-pub mod WordLemmas
+mod WordLemmas

@@ -1,13 +1,16 @@
--- From what parses ensure to what the words mean, and to the number of a text.
-use Rattle.puzzles.proofs.Common.{App, Bool, HasMatchesOf, List, None, Option, Some, Text, [], ap, arith, false, if◌then◌else◌, inl, inr, is_number, is_simple, length, lt-ltb, ltb-true, nat_le, nat_lt, number_of, parsed, puzzles_app, refl, slice_index, subcommand_of, subcommand_rows_of, subst, sym, true, unless_fault, ℕ, ◌&&◌, ◌<◌, ◌^◌, ◌∙◌, ◌∷◌, ◌≡◌, ◌≤◌, ◌⊎◌}
+-- Commands, and what words mean.
+use Rattle.puzzles.proofs.Common.{App, Bool, Bor, HasMatchesOf, IsApp, List, None, Option, Rule, Some, Text, [], ap, app_of, ap₂, arith, false, if◌then◌else◌, inl, inr, is_number, is_simple, length, lt-ltb, ltb-true, nat_le, nat_lt, number_of, parsed, puzzles_app, refl, rule_of, slice_index, subcommand_of, subcommand_rows_of, subst, sym, true, unless_fault, with_rule, with_subcommand, ℕ, ◌&&◌, ◌<◌, ◌^◌, ◌∙◌, ◌∷◌, ◌≡◌, ◌≤◌, ◌⊎◌}
+use Rattle.clap.specs.Built.{AddsArg, AddsSubcommand}
+use Rattle.clap.specs.declared.builder.arg.Arg.{Arg}
+use Rattle.clap.specs.declared.builder.command.Command.{Command}
 use Rattle.std.proofs.lemmas.Grind.{common_steps}
 use Rattle.std.specs.List.{list_all}
 use Rattle.std.specs.Char.{digit_value}
 use Rattle.std.specs.Str.Parse.{AllDigits, IsNumeral, digits_value, without_leading_plus}
-use Rattle.std.proofs.lemmas.Bool.{ne_eqb, le-leb, leb-true}
+use Rattle.std.proofs.lemmas.Bool.{le-leb, leb-true, ne_eqb}
 use Rattle.std.proofs.lemmas.Bool.Decides.{leb_tells}
 use Rattle.clap.specs.Faults.{fault_of, is_simple_and_free}
-use Rattle.clap.specs.Kinds.{Kinds, HasKind, IsAmong}
+use Rattle.clap.specs.Kinds.{HasKind, IsAmong, Kinds}
 use Rattle.clap.specs.Values.{kind_of}
 use Rattle.clap.specs.declared.error.Error.{Error}
 use Rattle.clap.specs.declared.error.kind.ErrorKind.{ErrorKind}
@@ -15,6 +18,31 @@ use Rattle.clap.specs.declared.error.kind.ErrorKind.TheVariants.{OutOfMemory}
 use Rattle.clap.specs.declared.parser.matches.ArgMatches.{ArgMatches}
 use Rattle.clap.proofs.WalkLemmas.{both, first_value-rows}
 
+-- Commands with one more argument, and with one more command.
+pub with_arg : {app : App} {old new : Command} {a : Arg} {rule : Rule} → IsApp app old → AddsArg old a new
+    → rule_of a ≡ rule → a.global ≡ false → IsApp (with_rule app rule) new
+with_arg is adds rule local = (
+  adds.shape local ∙ ap₂ with_rule is.0 rule,
+  rw (local, is.1) at adds.globals,
+)
+
+pub with_command : {app sub : App} {old new command : Command} → app_of old ≡ app → IsApp sub command
+    → AddsSubcommand old command new → app_of new ≡ with_subcommand app sub.top
+with_command is more adds = adds.shape more.1 ∙ ap₂ (λ a (b : App). with_subcommand a b.top) is more.0
+
+-- what changes nothing of it leaves an argument with its command alone
+pub local_too : {a b : Arg} → b ≡ a → a.global ≡ false → b.global ≡ false
+local_too is local = ap (λ (arg : Arg). arg.global) is ∙ local
+
+-- the rule of an argument that is required, and of one that has a long name
+pub required_is : (a : Arg) {b : Arg} {rule : Rule} → b ≡ record a { required = true } → rule_of a ≡ rule → rule_of b ≡ record rule { required = true }
+required_is a is rule = ap rule_of is ∙ ap (λ (r : Rule). record r { required = true }) rule
+
+pub long_is : (a : Arg) {b : Arg} {rule : Rule} {name : Bor Text} → b ≡ record a { long = Some name } → rule_of a ≡ rule
+    → rule_of b ≡ record rule { long = Some name.now }
+long_is a {name = name} is rule = ap rule_of is ∙ ap (λ (r : Rule). record r { long = Some name.now }) rule
+
+-- From what parses ensure to what the words mean, and to the number of a text.
 simple_and_free : is_simple_and_free puzzles_app ≡ true
 simple_and_free = refl
 

@@ -12,7 +12,7 @@ pub use Rattle.std.proofs.lemmas.Nat.{and_le_r, or_lt}
 pub use Rattle.std.proofs.lemmas.Simd.{map-map}
 pub use Rattle.std.specs.Int.{bit_at, bit_not, trailing_zeros}
 pub use Rattle.grid_core.proofs.RegionLemmas.{block-within, column-at, row-at}
-pub use Rattle.grid_core.proofs.ShortSets.{contains_from_member, no_choice}
+pub use Rattle.grid_core.proofs.PairingLemmas.{contains_from_member, no_choice}
 pub use Rattle.engine_core.specs.FillingLaws.{shown_from_test, test_from_shown}
 pub use Rattle.engine_core.specs.HouseList.{FitsPlaces, Listed}
 pub use Rattle.engine_core.specs.HouseSetsLaws.{by_fillings-met, kept-decided, length-sets_at, sets_at-small, strikes_at-here, strikes_at-some}

@@ -5,7 +5,7 @@ use Rattle.std.specs.List.{AllByRecursion}
 use Rattle.std.proofs.lemmas.List.Elements.{All-map, recursion_from_All}
 use Rattle.gameid_core.specs.FirstFailed.{IsFirstFailed, IsFirstOf, NoneFails}
 use Rattle.gameid_core.proofs.FirstFailed.{Holds, IsKnown, IsMade, Kind, all_split, each, first_at, first_each, first_front, first_rest, known_tests, none_held, none_tells, right_none}
-use Rattle.gameid_core.proofs.Lists.{AllByRecursion-append, all_at}
+use Rattle.gameid_core.proofs.LineLaws.{AllByRecursion-append, all_at}
 
 -- where the numbers repeat, two entries are equal
 pub repeat_found : (xs : List ℕ) → no_repeat xs ≡ false → (i : ℕ) × (j : ℕ) × (i < j) × (j < length xs) × (get_or xs i 0 ≡ get_or xs j 0)

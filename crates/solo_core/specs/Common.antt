@@ -16,8 +16,8 @@ pub use Rattle.grid_core.specs.Candidates.{Candidates, IsInside, IsWithin, all_b
 unfoldable pub use Rattle.grid_core.specs.Candidates.{all_of, any_below, count_below, only}
 pub use Rattle.grid_core.specs.Grids.{IsGrid}
 pub use Rattle.grid_core.specs.Pairings.{IsPairing, IsShortSet}
-pub use Rattle.grid_core.proofs.CandidateLemmas.{all_below-at, all_below-from, any_below-here, any_below-none, any_below-same, any_below-some, count_below-one}
-pub use Rattle.grid_core.proofs.CandidateLemmas.{count_below-same}
+pub use Rattle.grid_core.proofs.BoardLemmas.{all_below-at, all_below-from, any_below-here, any_below-none, any_below-same, any_below-some, count_below-one}
+pub use Rattle.grid_core.proofs.BoardLemmas.{count_below-same}
 pub use Rattle.gameid_core.specs.Puzzles.{IsSolo, Solo, solo_n}
 pub use Rattle.engine_core.specs.Sets.{IsBitsOf, has_bit}
 unfoldable pub use Rattle.engine_core.specs.Sets.{set_of_bits}

@@ -87,7 +87,7 @@ fn is_dropped(byte: u8, rest: &[u8]) -> bool
 }
 
 /// The text without each carriage return that stands directly before a line end.
-#[tactic(auto, using(crate::proofs::InputLemmas::copy_laws))]
+#[tactic(auto, using(crate::proofs::RunLemmas::copy_laws))]
 pub fn without_returns(alloc: Global, text: &[u8]) -> Result<Vec<u8>, AllocError>
     ensures { IfOk result (λ v. v.items ≡ without_returns text.now) }
 {

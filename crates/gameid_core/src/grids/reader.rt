@@ -9,7 +9,7 @@ use std::alloc::{AllocError, Global};
 
 /// Reads a row into the grid: what stands after its line end, or nothing where no row of the puzzle
 /// stands there.
-#[tactic(auto, using(crate::proofs::PrintedRows::none_left))]
+#[tactic(auto, using(crate::proofs::PrintedGrids::none_left))]
 fn read_row<'a, P: Readable>(
     puzzle: &P,
     grid: &mut Grid,

@@ -1,5 +1,5 @@
 //! Printed grids. Their form is this project's own.
-#![tactic(auto, using(crate::proofs::Lists::pushes))]
+#![tactic(auto, using(crate::proofs::LineLaws::pushes))]
 
 ghost use Rattle.std.specs.Prelude.{◌≡◌, ◌*◌, ◌++◌, OnOk, string_bytes};
 ghost use Rattle.gameid_core.specs.Common.{Adds};

@@ -73,7 +73,7 @@ fn black_byte(cell: LightCell) -> Option<u8>
 }
 
 /// Writes the cells.
-#[tactic(auto, using(crate::proofs::LightWritten::turns), unfolding(crate::specs::LightText::light_tokens))]
+#[tactic(auto, using(crate::proofs::LightTexts::turns), unfolding(crate::specs::LightText::light_tokens))]
 fn push_cells(out: &mut String, cells: &[LightCell]) -> Result<(), AllocError>
     requires { AllByRecursion IsLightCell cells.now }
     ensures { OnOk result (Adds (light_cells_text 0 cells.now) out.old out.new) }
@@ -146,7 +146,7 @@ pub fn read_lights(alloc: Global, text: &[u8]) -> Result<LightPuzzle, IdFault>
 /// The one written ID of the puzzle, of at most `MAX_ID` bytes, which reads back to an equal
 /// puzzle. Both numbers of the size are written. In each run of white cells all letters but the
 /// last are `z`, and the last run is written too.
-#[tactic(auto, using(crate::proofs::LightWritten::laws))]
+#[tactic(auto, using(crate::proofs::LightTexts::laws))]
 pub fn write_lights(alloc: Global, puzzle: &LightPuzzle) -> Result<String, AllocError>
     ensures text { IfOk result (λ text. string_bytes text ≡ light_text puzzle.now) }
     ensures form { IfOk result (λ text. IsWrittenLight (string_bytes text) puzzle.now) }

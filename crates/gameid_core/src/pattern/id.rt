@@ -115,7 +115,7 @@ fn clues(alloc: Global, size: Size, base: usize, description: &[u8]) -> Result<C
 }
 
 /// Writes a clue's numbers with '.' between them.
-#[tactic(auto, using(crate::proofs::Lists::joins))]
+#[tactic(auto, using(crate::proofs::LineLaws::joins))]
 fn push_clue(out: &mut String, clue: &[u8]) -> Result<(), AllocError>
     ensures { OnOk result (Adds (clue_text clue.now) out.old out.new) }
 {
@@ -129,7 +129,7 @@ fn push_clue(out: &mut String, clue: &[u8]) -> Result<(), AllocError>
 }
 
 /// Writes the clues with '/' between them.
-#[tactic(auto, using(crate::proofs::Lists::joins))]
+#[tactic(auto, using(crate::proofs::LineLaws::joins))]
 fn push_clues(out: &mut String, puzzle: &PatternPuzzle) -> Result<(), AllocError>
     ensures { OnOk result (Adds (join_with_byte 47 (map clue_text puzzle.now.clues)) out.old out.new) }
 {

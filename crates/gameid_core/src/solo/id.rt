@@ -157,7 +157,7 @@ pub fn read_solo(alloc: Global, text: &[u8]) -> Result<SoloPuzzle, IdFault>
 /// The one written ID of the puzzle, of at most `MAX_ID` bytes, which reads back to an equal
 /// puzzle. Both numbers of the size are written, and the `x` of Solo X after them. In each run of
 /// blank cells all letters but the last are `z`, and `_` stands exactly between two numbers.
-#[tactic(auto, using(crate::proofs::SoloCanon::laws))]
+#[tactic(auto, using(crate::proofs::SoloTexts::laws))]
 pub fn write_solo(alloc: Global, puzzle: &SoloPuzzle) -> Result<String, AllocError>
     ensures text { IfOk result (λ text. string_bytes text ≡ solo_text puzzle.now) }
     ensures form { IfOk result (λ text. IsWrittenSolo (string_bytes text) puzzle.now) }

@@ -30,7 +30,7 @@ impl Model for TentsPuzzle {
 impl TentsPuzzle {
     /// The puzzle of that size with these trees, whose numbers are those of the tents of each
     /// column and row. In both grids 1 is a tree or a tent, and 0 is none.
-    #[tactic(auto, using(crate::proofs::OnesFit::ones_lawful))]
+    #[tactic(auto, using(crate::proofs::LineLaws::ones_lawful))]
     pub fn of_parts(
         alloc: Global,
         size: Size,

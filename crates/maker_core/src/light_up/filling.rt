@@ -21,7 +21,7 @@ pub(crate) struct LightFilling {
 }
 
 /// The puzzle without numbers that has these black cells, 1 for black.
-#[tactic(auto, using(crate::proofs::LightCells::blackened))]
+#[tactic(auto, using(crate::proofs::LightMakings::blackened))]
 fn with_black_cells(alloc: Global, size: Size, black: &Grid) -> Result<LightPuzzle, AllocError>
     requires w_two { 2 ≤ size.w }
     requires h_two { 2 ≤ size.h }
@@ -39,7 +39,7 @@ fn with_black_cells(alloc: Global, size: Size, black: &Grid) -> Result<LightPuzz
 }
 
 /// The white cells, by place.
-#[tactic(auto, using(crate::proofs::LightSolved::white_laws))]
+#[tactic(auto, using(crate::proofs::LightMakings::white_laws))]
 fn white_cells(alloc: Global, puzzle: &LightPuzzle) -> Result<Vec<usize>, AllocError>
     ensures { IfOk result (λ places. places.items ≡ white_places puzzle.now) }
 {
@@ -54,7 +54,7 @@ fn white_cells(alloc: Global, puzzle: &LightPuzzle) -> Result<Vec<usize>, AllocE
 }
 
 /// Takes the cells of the list in turn, and puts a bulb into each that neither holds nor sees one.
-#[tactic(auto, using(crate::proofs::LightSolved::bulb_laws))]
+#[tactic(auto, using(crate::proofs::LightMakings::bulb_laws))]
 fn place_bulbs(puzzle: &LightPuzzle, order: &[usize], grid: &mut Grid)
     requires within { All (λ c. c < light_cells puzzle.now) order.now }
     requires none { grid.old ≡ replicate (light_cells puzzle.now) 0 }

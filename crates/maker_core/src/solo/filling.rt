@@ -48,7 +48,7 @@ pub(crate) fn fill_plain<G: Rng>(
 }
 
 /// The puzzle that gives all cells of the grid.
-#[tactic(auto, using(crate::proofs::SoloFull::full_laws))]
+#[tactic(auto, using(crate::proofs::SoloSolution::full_laws))]
 pub(crate) fn full_puzzle(
     alloc: Global,
     c: u8,
@@ -68,7 +68,7 @@ pub(crate) fn full_puzzle(
 }
 
 /// So many groups of so many lines in a shuffled order: the groups first, and then the lines in each.
-#[tactic(auto, using(crate::proofs::SoloOrderLemmas::draw_laws))]
+#[tactic(auto, using(crate::proofs::Shuffles::draw_laws))]
 fn line_order<G: Rng>(
     alloc: Global,
     count: usize,
@@ -89,7 +89,7 @@ fn line_order<G: Rng>(
 }
 
 /// Appends the lines of a group in a shuffled order.
-#[tactic(auto, using(crate::proofs::SoloOrderLemmas::draw_laws))]
+#[tactic(auto, using(crate::proofs::Shuffles::draw_laws))]
 fn push_group<G: Rng>(
     alloc: Global,
     size: usize,

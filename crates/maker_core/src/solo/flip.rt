@@ -8,7 +8,7 @@ use grid_core::Grid;
 use std::alloc::{AllocError, Global};
 
 /// A grid of `n` columns and `n` rows, flipped left to right if `across`, and top to bottom if `down`.
-#[tactic(auto, using(crate::proofs::Flips::flip_laws))]
+#[tactic(auto, using(crate::proofs::SoloXSearch::flip_laws))]
 pub(crate) fn flip(
     alloc: Global,
     n: usize,
@@ -28,7 +28,7 @@ pub(crate) fn flip(
 }
 
 /// The number that comes to a place.
-#[tactic(auto, using(crate::proofs::Flips::flip_laws))]
+#[tactic(auto, using(crate::proofs::SoloXSearch::flip_laws))]
 fn number_at(n: usize, grid: &Grid, across: bool, down: bool, place: usize) -> u8
     requires few { n ≤ max_numbers }
     requires cells { length grid.now ≡ n * n }

@@ -77,7 +77,7 @@ impl Fillings for SoloGrids {
         × IfSome filling (IsFullSolution t.c t.r t.x) };
 
     /// Each grid passes: its puzzle, which gives all cells, has one solution.
-    #[tactic(auto, using(crate::proofs::SoloFull::found_passes))]
+    #[tactic(auto, using(crate::proofs::SoloSolution::found_passes))]
     fn draw<G: Rng>(&self, alloc: Global, rng: &mut G) -> Result<(Option<Grid>, bool), AllocError> {
         let filling = if self.x {
             fill_x(alloc, self.c, self.r, rng, self.limits.budget)?

@@ -25,7 +25,7 @@ fn is_tent_size(size: Size) -> bool
 }
 
 /// The puzzle of a filling: its trees, and how many tents each line has.
-#[tactic(auto, using(crate::proofs::TentMakings::tents_is))]
+#[tactic(auto, using(crate::proofs::TentsSolved::tents_is))]
 fn puzzle_of(alloc: Global, size: Size, filling: &TentFilling) -> Result<TentsPuzzle, AllocError>
     requires size { IsTentSize size }
     requires trees { IsGrid (size.w * size.h) 2 filling.now.trees }
@@ -60,7 +60,7 @@ impl Fillings for TentFillings {
 }
 
 /// Whether the verdict of the filling's puzzle is one.
-#[tactic(auto, using(crate::proofs::TentMakings::tents_size))]
+#[tactic(auto, using(crate::proofs::TentsSolved::tents_size))]
 fn is_alone(
     alloc: Global,
     size: Size,

@@ -1,5 +1,5 @@
 //! The clues of Solo and of Light Up.
-#![tactic(auto, using(crate::proofs::IdleClues::clue_laws))]
+#![tactic(auto, using(crate::proofs::ThinningTurns::clue_laws))]
 
 use crate::thinning::clued::Clued;
 use fields_core::LightRules;

@@ -48,7 +48,7 @@ where
 }
 
 /// The cells that have a clue, by place.
-#[tactic(auto, using(crate::proofs::FilteredRanges::filter_laws))]
+#[tactic(auto, using(crate::proofs::WrittenGrids::filter_laws))]
 fn clue_list<P: Clued>(alloc: Global, puzzle: &P) -> Result<Vec<usize>, AllocError>
     ensures { IfOk result (λ places. places.items ≡ clue_places P.game puzzle.now) }
 {

@@ -9,7 +9,7 @@ use std::alloc::{AllocError, Global};
 
 /// Whether the verdict of the rules with that budget is one. If a walk near the grid, a tenth as long, comes to two
 /// solutions, nothing is searched.
-#[tactic(auto, using(crate::proofs::OnlySolutions::two_have_none))]
+#[tactic(auto, using(crate::proofs::FirstTries::two_have_none))]
 pub(crate) fn is_unique<R: Searchable>(
     alloc: Global,
     rules: &R,

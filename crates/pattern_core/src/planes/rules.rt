@@ -65,7 +65,7 @@ impl PlaneRules for PatternLines {
 
     type Long = NoNotes;
 
-    #[tactic(auto, using(crate::proofs::LineSteps::closed_solution))]
+    #[tactic(auto, using(crate::proofs::FaultLemmas::closed_solution))]
     fn completes(&self, _scratch: &mut LineScratch, _grid: &Grid) -> bool {
         true
     }

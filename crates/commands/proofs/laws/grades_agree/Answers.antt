@@ -1,8 +1,7 @@
 use Rattle.commands.proofs.Common.{NamesSetNoStrongerThanSearch, StatusesAgree, game_of, inl, refl, ◌↔◌, ◌≡◌}
-use Rattle.commands.proofs.GameLaws.{laws_of, with_enough}
-use Rattle.commands.proofs.GradedAlike.{statuses_agree, named_alike, refusals_apart, status_alike}
+use Rattle.commands.proofs.GameLaws.{laws_of, least_budgets, with_enough}
+use Rattle.commands.proofs.GradeLemmas.{statuses_agree, named_alike, refusals_apart, status_alike}
 use Rattle.commands.proofs.Readings.{both_answers}
-use Rattle.commands.proofs.LeastBudgets.{least_budgets}
 use Rattle.commands.proofs.laws.grades_agree.Goals as goal
 
 pub returns-clause-statuses : goal.returns-clause-statuses

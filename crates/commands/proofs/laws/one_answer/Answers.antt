@@ -2,7 +2,7 @@ use Rattle.commands.proofs.Common.{Allows, AllowsCheck, AllowsGrade, AllowsSolve
 use Rattle.gameid_core.specs.declared.id.game.Game.TheVariants.{Solo, Pattern, Tents}
 use Rattle.commands.proofs.CheckedPuzzles.{check_same, check_some}
 use Rattle.commands.proofs.GameLaws.{laws_of, solving, listed_right}
-use Rattle.commands.proofs.MadeOnce.{seed_words}
+use Rattle.commands.proofs.SearchedPuzzles.{seed_words}
 use Rattle.commands.proofs.Makings.{made_differ, made_pattern, made_tents}
 use Rattle.commands.proofs.Readings.{each_once, grade_once, id_once, one_of_same, told_once}
 use Rattle.commands.proofs.laws.one_answer.Goals as goal

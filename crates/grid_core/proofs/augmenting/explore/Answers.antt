@@ -1,5 +1,5 @@
 use Rattle.grid_core.proofs.Common.{arith, ◌∙◌}
-use Rattle.grid_core.proofs.SearchSteps.{IsClosed-step}
+use Rattle.grid_core.proofs.PairingLemmas.{IsClosed-step}
 use Rattle.grid_core.proofs.augmenting.explore.Goals as goal
 
 pub loop-head-preserved : goal.loop-head-preserved

@@ -1,5 +1,5 @@
 use Rattle.grid_core.proofs.Common.{◌∙◌}
-use Rattle.grid_core.proofs.SearchSteps.{IsScan-free, IsScan-known, IsScan-push}
+use Rattle.grid_core.proofs.PairingLemmas.{IsScan-free, IsScan-known, IsScan-push}
 use Rattle.grid_core.proofs.augmenting.reach_owners.Goals as goal
 use Rattle.grid_core.proofs.augmenting.reach_owners.Goals.{in-Some-owner+then-not-has, in-Some-owner+else-not-has, in_default-owner}
 

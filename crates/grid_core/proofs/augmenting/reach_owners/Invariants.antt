@@ -1,5 +1,5 @@
 use Rattle.grid_core.proofs.Common.{◌-◌}
-use Rattle.grid_core.proofs.SearchSteps.{IsScan}
+use Rattle.grid_core.proofs.PairingLemmas.{IsScan}
 use Rattle.grid_core.proofs.augmenting.reach_owners.Given as goal
 
 abbrev pub invariant-loop-right : goal.invariant-loop-right

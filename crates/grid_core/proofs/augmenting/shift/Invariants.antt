@@ -1,4 +1,4 @@
-use Rattle.grid_core.proofs.SearchSteps.{IsShifting}
+use Rattle.grid_core.proofs.PairingLemmas.{IsShifting}
 use Rattle.grid_core.proofs.augmenting.shift.Given as goal
 
 abbrev pub invariant-loop-place : goal.invariant-loop-place

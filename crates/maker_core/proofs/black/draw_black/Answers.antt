@@ -1,5 +1,5 @@
 use Rattle.maker_core.proofs.Common.{Bool, IsGrid, List, Stream, ap, arith, cond, false, length, length-replicate, nat_lt, refl, subst, sym, true, ℕ, ◌+◌, ◌∙◌, ◌≡◌}
-use Rattle.maker_core.proofs.BlackCells.{IsPartDrawn, IsPartDrawn-none, IsPartDrawn-more, IsPartDrawn-all, black_cells-grid}
+use Rattle.maker_core.proofs.PatternMakings.{IsPartDrawn, IsPartDrawn-none, IsPartDrawn-more, IsPartDrawn-all, black_cells-grid}
 use Rattle.maker_core.proofs.black.draw_black.Goals as goal
 
 pub loop-place-init : goal.loop-place-init

@@ -1,4 +1,4 @@
-use Rattle.maker_core.proofs.BlackCells.{IsPartDrawn}
+use Rattle.maker_core.proofs.PatternMakings.{IsPartDrawn}
 use Rattle.maker_core.proofs.black.draw_black.Given as goal
 
 abbrev pub invariant-loop-place : goal.invariant-loop-place

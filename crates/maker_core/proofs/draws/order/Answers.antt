@@ -1,5 +1,5 @@
 use Rattle.maker_core.proofs.Common.{arith, ◌≡◌}
-use Rattle.maker_core.proofs.SoloOrderLemmas.{order_from_permutation}
+use Rattle.maker_core.proofs.Shuffles.{order_from_permutation}
 use Rattle.maker_core.proofs.draws.order.Goals as goal
 
 pub returns-clause-ordered : goal.returns-clause-ordered

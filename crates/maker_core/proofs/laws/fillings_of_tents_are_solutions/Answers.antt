@@ -1,4 +1,4 @@
-use Rattle.maker_core.proofs.TentsFilled.{filling_at_solves}
+use Rattle.maker_core.proofs.TentsSolved.{filling_at_solves}
 use Rattle.maker_core.proofs.laws.fillings_of_tents_are_solutions.Goals as goal
 
 pub returns-clause-solved : goal.returns-clause-solved

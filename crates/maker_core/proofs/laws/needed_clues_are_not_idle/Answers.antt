@@ -1,5 +1,5 @@
 use Rattle.maker_core.proofs.Common.{light_is_game, solo_is_game}
-use Rattle.maker_core.proofs.IdleClues.{none_is_idle}
+use Rattle.maker_core.proofs.ThinningTurns.{none_is_idle}
 use Rattle.maker_core.proofs.laws.needed_clues_are_not_idle.Goals as goal
 
 pub returns-clause-solo : goal.returns-clause-solo

@@ -1,5 +1,5 @@
 use Rattle.pattern_core.proofs.Common.{along, ap, ap₂, ◌&&◌, ◌||◌, ◌∙◌, slots_of}
-use Rattle.pattern_core.proofs.Words.{led_words, on_within}
+use Rattle.pattern_core.proofs.LineWords.{led_words, on_within}
 use Rattle.pattern_core.proofs.table.led_by.Goals as goal
 
 pub returns : goal.returns

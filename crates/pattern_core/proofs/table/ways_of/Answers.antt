@@ -1,5 +1,5 @@
 use Rattle.pattern_core.proofs.Common.{along, ap, ap₂, goes_on, or-false, stays, sym, ◌&&◌, ◌||◌, ◌∙◌, slots_of}
-use Rattle.pattern_core.proofs.Words.{led_words, on_within}
+use Rattle.pattern_core.proofs.LineWords.{led_words, on_within}
 use Rattle.pattern_core.proofs.table.ways_of.Goals as goal
 
 pub returns-clause-white : goal.returns-clause-white

@@ -1,6 +1,6 @@
 use Rattle.pattern_core.proofs.Common.{arith, slots_of}
-use Rattle.pattern_core.proofs.Words.{on_past, on_within}
-use Rattle.pattern_core.proofs.Spellings.{spelling_black}
+use Rattle.pattern_core.proofs.LineWords.{on_past, on_within}
+use Rattle.pattern_core.proofs.SpelledRuns.{spelling_black}
 use Rattle.pattern_core.proofs.track.push_black.Goals as goal
 
 pub returns : goal.returns

@@ -1,5 +1,5 @@
 use Rattle.pattern_core.proofs.Common.{IsSpelling, [], ap, append_assoc, arith, length-append, length-replicate, replicate, subst, ℕ, ◌++◌, ◌∙◌, ◌∷◌, ◌≡◌, slots_of}
-use Rattle.pattern_core.proofs.Spellings.{one_more}
+use Rattle.pattern_core.proofs.SpelledRuns.{one_more}
 use Rattle.pattern_core.proofs.track.push_run.Goals as goal
 
 pub loop-k-preserved : goal.loop-k-preserved

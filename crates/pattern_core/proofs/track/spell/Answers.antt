@@ -1,7 +1,6 @@
 use Rattle.pattern_core.proofs.Common.{Spells, [], add-one, ap, append-nil, arith, drop_all, refl, slots_of, spelled, subst, sym, ◌++◌, ◌∙◌}
-use Rattle.pattern_core.proofs.SpelledRuns.{length-spelled}
-use Rattle.pattern_core.proofs.Spellings.{spelling_none, next_run, run_fits, track_spelled}
-use Rattle.pattern_core.proofs.Words.{on_past, on_within}
+use Rattle.pattern_core.proofs.SpelledRuns.{length-spelled, next_run, run_fits, spelling_none, track_spelled}
+use Rattle.pattern_core.proofs.LineWords.{on_past, on_within}
 use Rattle.pattern_core.proofs.track.spell.Goals as goal
 
 pub loop-k-init : goal.loop-k-init

@@ -1,5 +1,5 @@
 use Rattle.puzzles.proofs.Common.{IfOk-weaker, IsApp, codes, new_app}
-use Rattle.puzzles.proofs.CommandLemmas.{local_too, long_is, required_is, with_arg}
+use Rattle.puzzles.proofs.WordLemmas.{local_too, long_is, required_is, with_arg}
 use Rattle.puzzles.proofs.command_line.generate_command.Goals as goal
 
 pub returns : goal.returns

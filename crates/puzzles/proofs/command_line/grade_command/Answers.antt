@@ -1,5 +1,5 @@
 use Rattle.puzzles.proofs.Common.{IfOk-weaker, IsApp, codes, new_app, rules}
-use Rattle.puzzles.proofs.CommandLemmas.{with_arg}
+use Rattle.puzzles.proofs.WordLemmas.{with_arg}
 use Rattle.puzzles.proofs.command_line.grade_command.Goals as goal
 
 pub returns : goal.returns

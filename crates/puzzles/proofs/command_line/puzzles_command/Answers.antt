@@ -1,5 +1,5 @@
 use Rattle.puzzles.proofs.Common.{IfOk-weaker, app_of, bare_app, rules, ◌≡◌}
-use Rattle.puzzles.proofs.CommandLemmas.{with_command}
+use Rattle.puzzles.proofs.WordLemmas.{with_command}
 use Rattle.puzzles.proofs.command_line.puzzles_command.Goals as goal
 
 pub returns : goal.returns

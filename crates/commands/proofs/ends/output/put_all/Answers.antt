@@ -1,6 +1,5 @@
 use Rattle.commands.proofs.Common.{[], refl}
-use Rattle.commands.proofs.RunLemmas.{put_more}
-use Rattle.commands.proofs.PieceLemmas.{piece_begun}
+use Rattle.commands.proofs.RunLemmas.{piece_begun, put_more}
 use Rattle.commands.proofs.ends.output.put_all.Goals as goal
 
 pub loop-rest-preserved : goal.loop-rest-preserved

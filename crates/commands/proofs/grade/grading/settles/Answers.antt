@@ -1,6 +1,5 @@
 use Rattle.commands.proofs.Common.{sym}
-use Rattle.commands.proofs.GradeLemmas.{settled_one}
-use Rattle.commands.proofs.GradedAlike.{one_settled, unsettled}
+use Rattle.commands.proofs.GradeLemmas.{one_settled, settled_one, unsettled}
 use Rattle.commands.proofs.grade.grading.settles.Goals as goal
 
 pub returns-in-One-clause-settled : goal.returns-in-One-clause-settled

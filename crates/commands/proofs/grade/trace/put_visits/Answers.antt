@@ -1,6 +1,6 @@
 use Rattle.commands.proofs.Common.{PutBegun, arith, length, line_of, refl, rules, slice_index, string_bytes, visits_text, ◌++◌, ◌+◌}
 use Rattle.commands.proofs.BatchLemmas.{on_any_err}
-use Rattle.commands.proofs.PieceLemmas.{no_line, line_added, piece_put, piece_begun, put_begins, lines_begun, no_pieces, line_held, next_piece}
+use Rattle.commands.proofs.RunLemmas.{no_line, line_added, piece_put, piece_begun, put_begins, lines_begun, no_pieces, line_held, next_piece}
 use Rattle.commands.proofs.grade.trace.put_visits.Goals as goal
 
 pub loop-number-init : goal.loop-number-init

@@ -1,5 +1,5 @@
 use Rattle.engine_core.proofs.Common.{arith}
-use Rattle.engine_core.proofs.CallLemmas.{before-first, before-marked, before-all}
+use Rattle.engine_core.proofs.QueueLemmas.{before-first, before-marked, before-all}
 use Rattle.engine_core.proofs.closing.marking.mark_at.Goals as goal
 
 pub loop-other-init : goal.loop-other-init

@@ -1,6 +1,5 @@
 use Rattle.engine_core.proofs.Common.{IsBitsOf, arith, has, length, ◌≡◌}
-use Rattle.engine_core.proofs.CallLemmas.{woken-else, woken-first, woken-then}
-use Rattle.engine_core.proofs.QueueLemmas.{scope-in}
+use Rattle.engine_core.proofs.QueueLemmas.{scope-in, woken-else, woken-first, woken-then}
 use Rattle.engine_core.proofs.closing.marking.mark_changed.Goals as goal
 use Rattle.engine_core.proofs.closing.marking.mark_changed.Goals.{then-bits-sets, else-bits-sets}
 

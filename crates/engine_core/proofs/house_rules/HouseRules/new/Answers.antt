@@ -1,4 +1,4 @@
-use Rattle.engine_core.proofs.ListedLemmas.{scopes-fit}
+use Rattle.engine_core.proofs.HouseLemmas.{scopes-fit}
 use Rattle.engine_core.proofs.house_rules.HouseRules.new.Goals as goal
 
 pub of-requires-clause-scopes : goal.of-requires-clause-scopes

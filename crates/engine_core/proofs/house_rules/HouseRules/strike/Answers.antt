@@ -1,6 +1,6 @@
 use Rattle.engine_core.proofs.Common.{AreSetsOf, has, scope_of, ◌∙◌, ◌≡◌}
-use Rattle.engine_core.proofs.ListedLemmas.{kept-after, places-are, places-in, places-read}
-use Rattle.engine_core.proofs.LostLemmas.{kept-none}
+use Rattle.engine_core.proofs.HouseLemmas.{kept-after, places-are, places-in, places-read}
+use Rattle.engine_core.proofs.TrailLemmas.{kept-none}
 use Rattle.engine_core.proofs.QueueLemmas.{within_of}
 use Rattle.engine_core.proofs.house_rules.HouseRules.strike.Goals as goal
 use Rattle.engine_core.proofs.house_rules.HouseRules.strike.Goals.{After-gather}

@@ -1,4 +1,4 @@
-use Rattle.engine_core.proofs.ListedLemmas.{places-in}
+use Rattle.engine_core.proofs.HouseLemmas.{places-in}
 use Rattle.engine_core.proofs.house_rules.HouseRulesPropagators.read.Goals as goal
 
 pub gather-requires-clause-places_in : goal.gather-requires-clause-places_in

@@ -1,5 +1,5 @@
 use Rattle.engine_core.proofs.Common.{arith}
-use Rattle.engine_core.proofs.StoreLemmas.{scope_le-longest}
+use Rattle.engine_core.proofs.JudgeLemmas.{scope_le-longest}
 use Rattle.engine_core.proofs.house_rules.HouseRulesRules.visit.Goals as goal
 
 pub strike-requires-clause-sets_room : goal.strike-requires-clause-sets_room

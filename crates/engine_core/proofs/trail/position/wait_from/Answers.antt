@@ -1,6 +1,6 @@
 use Rattle.engine_core.proofs.Common.{arith, false, is_waiting, length, replicate, rules, sym, true≢false, ℕ, ◌<◌, ◌∙◌, ◌≡◌}
 use Rattle.engine_core.proofs.QueueLemmas.{rested_around, rested_start}
-use Rattle.engine_core.proofs.WaitLemmas.{waiting-all, waiting-none}
+use Rattle.engine_core.proofs.IndexLemmas.{waiting-all, waiting-none}
 use Rattle.engine_core.proofs.trail.position.wait_from.Goals as goal
 
 pub returns-in-None : goal.returns-in-None

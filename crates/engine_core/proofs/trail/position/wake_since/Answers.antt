@@ -1,6 +1,6 @@
 use Rattle.engine_core.proofs.Common.{arith, change_at, has_place, ◌≡◌, ◌≤◌}
-use Rattle.engine_core.proofs.CallLemmas.{woken-by_none}
-use Rattle.engine_core.proofs.LostLemmas.{since-woken, since-first}
+use Rattle.engine_core.proofs.QueueLemmas.{woken-by_none}
+use Rattle.engine_core.proofs.TrailLemmas.{since-woken, since-first}
 use Rattle.engine_core.proofs.trail.position.wake_since.Goals as goal
 
 pub loop-number-init : goal.loop-number-init

@@ -1,5 +1,5 @@
 use Rattle.fields_core.proofs.Common.{arith, ltb-true, mul-le-mul_right, ◌*◌, ◌+◌, ◌-◌, ◌∙◌, ◌≡◌, ◌≤◌}
-use Rattle.fields_core.proofs.HouseLists.{beside-count}
+use Rattle.fields_core.proofs.HouseLemmas.{beside-count}
 use Rattle.fields_core.proofs.count.house.count_passing.Goals as goal
 
 pub returns-clause-count : goal.returns-clause-count

@@ -1,6 +1,6 @@
 use Rattle.fields_core.proofs.Common.{arith, count_house_of, length, rules, sym, ◌∙◌, ◌≡◌}
 use Rattle.fields_core.proofs.HouseLemmas.{named-cells, named-long}
-use Rattle.fields_core.proofs.HouseVisits.{longest-more}
+use Rattle.fields_core.proofs.CountKept.{longest-more}
 use Rattle.fields_core.proofs.count.name.longest_of.Goals as goal
 
 pub loop-k-preserved : goal.loop-k-preserved

@@ -1,6 +1,6 @@
 use Rattle.fields_core.proofs.Common.{ap₂, arith, kept-inside, striking-more, sym, ◌&&◌, ◌<◌}
 use Rattle.grid_core.specs.Board.{has, cells_of}
-use Rattle.fields_core.proofs.HouseVisits.{cell-in, idle-stays, partly-all, partly-more}
+use Rattle.fields_core.proofs.CountKept.{cell-in, idle-stays, partly-all, partly-more}
 use Rattle.fields_core.proofs.RuleLemmas.{same-shape}
 use Rattle.fields_core.proofs.count.rules.strike.Goals as goal
 use Rattle.fields_core.proofs.count.rules.strike.Goals.{After-place-place}

@@ -1,6 +1,6 @@
 use Rattle.fields_core.proofs.Common.{IsStriking, SameShape, house_told}
 use Rattle.grid_core.specs.Board.{has}
-use Rattle.fields_core.proofs.HouseVisits.{IsPartly}
+use Rattle.fields_core.proofs.CountKept.{IsPartly}
 use Rattle.fields_core.proofs.count.rules.strike.Given as goal
 
 abbrev pub invariant-loop-k : goal.invariant-loop-k

@@ -1,5 +1,5 @@
 use Rattle.fields_core.proofs.Common.{FailsLight, IsGrid, IsLightFault, IsLightSolution, Light, LightFault, List, None, Option, [], arith, black_right, bulb_right, common_steps, light_cells, light_tests, lit_right, none_exactly, none_right, not, number_right, rules, ℕ, ◌↔◌, ◌∷◌, ◌≡◌}
-use Rattle.fields_core.proofs.FirstWrong.{IsSearched, all-right, first-wrong}
+use Rattle.fields_core.proofs.RuleLemmas.{IsSearched, all-right, first-wrong}
 use Rattle.fields_core.proofs.LightRuleLemmas.{black, dark, kinds, light-made, light-none, light-sound, number, seen}
 use Rattle.fields_core.proofs.light_up.check.check_lights.Goals as goal
 use Rattle.fields_core.proofs.light_up.check.check_lights.Goals.{After-next_passing, After-next_passing-2, After-next_passing-3, After-next_passing-4}

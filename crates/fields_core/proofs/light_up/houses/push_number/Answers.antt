@@ -1,8 +1,7 @@
 use Rattle.fields_core.proofs.Common.{arith, light_house, rules, sym, white, ◌∙◌}
-use Rattle.fields_core.proofs.HouseLists.{number-at, number-none}
-use Rattle.fields_core.proofs.HouseLemmas.{added-none, push-added}
-use Rattle.fields_core.proofs.LightLatest.{few-places}
-use Rattle.fields_core.proofs.TentBeside.{whole-cell}
+use Rattle.fields_core.proofs.HouseLemmas.{added-none, number-at, number-none, push-added}
+use Rattle.fields_core.proofs.RunLemmas.{few-places}
+use Rattle.fields_core.proofs.BesideLemmas.{whole-cell}
 use Rattle.fields_core.proofs.light_up.houses.push_number.Goals as goal
 
 pub of-requires : goal.of-requires

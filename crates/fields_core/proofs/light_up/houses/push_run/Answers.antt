@@ -1,6 +1,6 @@
 use Rattle.fields_core.proofs.Common.{length-map-range_with_len, light_house, refl, sym, ◌-◌, ◌∙◌}
 use Rattle.fields_core.proofs.HouseLemmas.{added-none, push-added}
-use Rattle.fields_core.proofs.LightLatest.{latest-begins, latest-reaches, run-none, run-told}
+use Rattle.fields_core.proofs.RunLemmas.{latest-begins, latest-reaches, run-none, run-told}
 use Rattle.fields_core.proofs.light_up.houses.push_run.Goals as goal
 
 pub returns-then-at-latest-clause-added : goal.returns-then-at-latest-clause-added

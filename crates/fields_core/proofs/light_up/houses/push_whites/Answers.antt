@@ -1,6 +1,6 @@
 use Rattle.fields_core.proofs.Common.{arith, column_house, false, get_or-replicate, get_or-set_other, get_or-set_same, length-set, light_house, line_white, lit_house, refl, replicate, row_house, rules, sym, true, white, ℕ, ◌*◌, ◌+◌, ◌<◌, ◌∙◌, ◌≡◌}
 use Rattle.fields_core.proofs.HouseLemmas.{added-none, next-added, none-yet, push-added}
-use Rattle.fields_core.proofs.LightLatest.{column-black, column-here, column-house-is, column-told, columns-more, columns-none, columns-row, latest-black, latest-none, latest-white, lit-lines, lit-long, row-black, row-house-is, row-told, small-place}
+use Rattle.fields_core.proofs.RunLemmas.{column-black, column-here, column-house-is, column-told, columns-more, columns-none, columns-row, latest-black, latest-none, latest-white, lit-lines, lit-long, row-black, row-house-is, row-told, small-place}
 use Rattle.fields_core.proofs.light_up.houses.push_whites.Goals as goal
 
 pub loop-y-init : goal.loop-y-init

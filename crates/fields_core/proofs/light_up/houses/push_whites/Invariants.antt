@@ -1,5 +1,5 @@
 use Rattle.fields_core.proofs.Common.{AreAdded, IsLatest, column_house, houses_below, length, light_house, line_white, lit_house, row_house, ◌*◌, ◌+◌, ◌≤◌}
-use Rattle.fields_core.proofs.LightLatest.{AreColumnsKept}
+use Rattle.fields_core.proofs.RunLemmas.{AreColumnsKept}
 use Rattle.fields_core.proofs.light_up.houses.push_whites.Given as goal
 
 abbrev pub invariant-loop-y : goal.invariant-loop-y

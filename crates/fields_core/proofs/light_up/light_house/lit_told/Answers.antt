@@ -1,5 +1,5 @@
 use Rattle.fields_core.proofs.Common.{[], ap, sym, ◌∙◌, ◌∷◌}
-use Rattle.fields_core.proofs.LightHouseNames.{lit-told}
+use Rattle.fields_core.proofs.LightCompleting.{lit-told}
 use Rattle.fields_core.proofs.light_up.light_house.lit_told.Goals as goal
 
 pub returns : goal.returns

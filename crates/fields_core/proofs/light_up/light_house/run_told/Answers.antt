@@ -1,6 +1,6 @@
 use Rattle.fields_core.proofs.Common.{[], ap, begins_at, sym, ◌∙◌, ◌∷◌}
-use Rattle.fields_core.proofs.LightHouseNames.{told-if}
-use Rattle.fields_core.proofs.LightLatest.{run-told}
+use Rattle.fields_core.proofs.LightCompleting.{told-if}
+use Rattle.fields_core.proofs.RunLemmas.{run-told}
 use Rattle.fields_core.proofs.light_up.light_house.run_told.Goals as goal
 
 pub returns : goal.returns

@@ -1,6 +1,6 @@
 use Rattle.fields_core.proofs.Common.{ap, arith, common_steps, get_or, length, light_house, light_houses, rules, ◌<◌, ◌∙◌}
 use Rattle.fields_core.proofs.HouseLemmas.{named-told}
-use Rattle.fields_core.proofs.LightLonely.{calls, lonely-told, no_name}
+use Rattle.fields_core.proofs.LightCompleting.{calls, lonely-told, no_name}
 use Rattle.fields_core.proofs.light_up.lonely.has_lonely_number.Goals as goal
 
 pub next_passing-requires : goal.next_passing-requires

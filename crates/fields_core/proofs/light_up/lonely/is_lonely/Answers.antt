@@ -1,6 +1,6 @@
 use Rattle.fields_core.proofs.Common.{arith, cases_Bool, eq-eqb, inl, inr, ltb, refl}
-use Rattle.fields_core.proofs.LightLines.{cell-at}
-use Rattle.fields_core.proofs.LightHouseNames.{place-tells}
+use Rattle.fields_core.proofs.HouseLemmas.{cell-at}
+use Rattle.fields_core.proofs.LightCompleting.{place-tells}
 use Rattle.fields_core.proofs.light_up.lonely.is_lonely.Goals as goal
 
 pub cell-requires : goal.cell-requires

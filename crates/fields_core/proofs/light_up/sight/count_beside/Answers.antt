@@ -1,5 +1,5 @@
 use Rattle.fields_core.proofs.Common.{bulb, length-filter, rules, sym, ◌∙◌}
-use Rattle.fields_core.proofs.TentBeside.{whole-cell}
+use Rattle.fields_core.proofs.BesideLemmas.{whole-cell}
 use Rattle.fields_core.proofs.light_up.sight.count_beside.Goals as goal
 
 pub returns : goal.returns

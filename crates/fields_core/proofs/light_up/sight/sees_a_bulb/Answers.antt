@@ -1,6 +1,6 @@
 use Rattle.fields_core.proofs.Common.{sym, ◌∙◌}
 use Rattle.fields_core.proofs.LightSeen.{column-sees, row-sees, seen-in-column, seen-in-row}
-use Rattle.fields_core.proofs.LightSight.{some-column}
+use Rattle.fields_core.proofs.LightHouseLaws.{some-column}
 use Rattle.fields_core.proofs.light_up.sight.sees_a_bulb.Goals as goal
 
 pub returns-then-sees_along : goal.returns-then-sees_along

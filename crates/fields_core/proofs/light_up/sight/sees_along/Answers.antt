@@ -1,5 +1,5 @@
 use Rattle.fields_core.proofs.Common.{arith, bulb, common_steps, line_white, not, ℕ, ◌&&◌, ◌*◌, ◌+◌, ◌==◌}
-use Rattle.fields_core.proofs.NextLemmas.{shines-along}
+use Rattle.fields_core.proofs.LightSeen.{shines-along}
 use Rattle.fields_core.proofs.light_up.sight.sees_along.Goals as goal
 
 pub returns : goal.returns

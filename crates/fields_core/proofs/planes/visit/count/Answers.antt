@@ -1,5 +1,5 @@
 use Rattle.fields_core.proofs.Common.{IsCount, and_parts, arith, count_below, has_bit, length, refl, subst, sym, ◌+◌, ◌∙◌, ◌≡◌}
-use Rattle.grid_core.proofs.LineLemmas.{few_cells}
+use Rattle.grid_core.proofs.RegionLemmas.{few_cells}
 use Rattle.fields_core.proofs.PartLemmas.{counted-first, counted-next, counted-small, line_in}
 use Rattle.fields_core.proofs.planes.visit.count.Goals as goal
 use Rattle.fields_core.proofs.planes.visit.count.Goals.{After-both-open}

@@ -1,5 +1,5 @@
 use Rattle.fields_core.proofs.Common.{FailsTents, [], arith, column_right, common_steps, first_in, none_right, not, row_right, sym, touch_right, tree_right, ◌∙◌, ◌∷◌}
-use Rattle.fields_core.proofs.FirstWrong.{IsSearched, all-right, first-wrong}
+use Rattle.fields_core.proofs.RuleLemmas.{IsSearched, all-right, first-wrong}
 use Rattle.fields_core.proofs.TentRuleLemmas.{columns, kinds, match, rows, tents-made, tents-sound, touch, trees}
 use Rattle.fields_core.proofs.tents.check.find_fault.Goals as goal
 use Rattle.fields_core.proofs.tents.check.find_fault.Goals.{After-next_passing, After-next_passing-2, After-next_passing-3, After-next_passing-4}

@@ -1,7 +1,6 @@
 use Rattle.fields_core.proofs.Common.{arith, column_of_tents, common_steps, refl, row_of_tents, square_house, sym, tent_house, tent_houses, tree_house, ◌*◌, ◌+◌, ◌<◌, ◌∙◌, ◌≡◌, ◌≤◌}
-use Rattle.fields_core.proofs.HouseLemmas.{added-none, below-added, four-named, next-added, none-yet, push-added}
-use Rattle.fields_core.proofs.HouseLists.{column-long, row-long}
-use Rattle.fields_core.proofs.TentHouseLemmas.{square-none, square-there}
+use Rattle.fields_core.proofs.HouseLemmas.{added-none, below-added, column-long, four-named, next-added, none-yet, push-added, row-long}
+use Rattle.fields_core.proofs.TentLines.{square-none, square-there}
 use Rattle.fields_core.proofs.tents.houses.names_of_tents.Goals as goal
 use Rattle.fields_core.proofs.tents.houses.names_of_tents.Goals.{After-from-h, After-from-w, else-x-w, else-x-w-via-else-x-w, else-x-w-via-then-x-w+else-y-h, then-x-w+then-y-h+in_ok-push-3}
 

@@ -1,5 +1,5 @@
 use Rattle.fields_core.proofs.Common.{AreIn, arith, common_steps, subst, sym, ◌∙◌, ◌≡◌}
-use Rattle.fields_core.proofs.TentPairLemmas.{count-is, listed-tents, short-unpaired, tents-in, whole-pairs}
+use Rattle.fields_core.proofs.TentRuleLemmas.{count-is, listed-tents, short-unpaired, tents-in, whole-pairs}
 use Rattle.fields_core.proofs.tents.pairs.are_paired.Goals as goal
 use Rattle.fields_core.proofs.tents.pairs.are_paired.Goals.{After-deref, After-deref-2}
 

@@ -1,5 +1,5 @@
 use Rattle.fields_core.proofs.Common.{arith, common_steps, length-set}
-use Rattle.fields_core.proofs.TentNumbers.{listed-keep, listed-skip}
+use Rattle.fields_core.proofs.TentLines.{listed-keep, listed-skip}
 use Rattle.fields_core.proofs.tents.pairs.list_tents.Goals as goal
 use Rattle.fields_core.proofs.tents.pairs.list_tents.Goals.{then-get-eq1, else-get-eq1}
 

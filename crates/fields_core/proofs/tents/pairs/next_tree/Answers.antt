@@ -1,5 +1,5 @@
 use Rattle.fields_core.proofs.Common.{ap, step, sym, ◌∙◌}
-use Rattle.fields_core.proofs.TentNext.{next-found}
+use Rattle.fields_core.proofs.TentLines.{next-found}
 use Rattle.fields_core.proofs.tents.pairs.next_tree.Goals as goal
 
 pub returns-then-numbers-other : goal.returns-then-numbers-other

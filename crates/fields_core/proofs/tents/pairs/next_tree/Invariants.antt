@@ -1,4 +1,4 @@
-use Rattle.fields_core.proofs.TentNext.{IsPassed}
+use Rattle.fields_core.proofs.TentLines.{IsPassed}
 use Rattle.fields_core.proofs.tents.pairs.next_tree.Given as goal
 
 abbrev pub invariant-loop-direction : goal.invariant-loop-direction

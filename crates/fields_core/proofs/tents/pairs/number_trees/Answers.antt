@@ -1,5 +1,5 @@
 use Rattle.fields_core.proofs.Common.{arith, length-set, tent_cells, tree, ◌∙◌, ◌≡◌}
-use Rattle.fields_core.proofs.TentNumbers.{byte-few, count-more, numbers-more}
+use Rattle.fields_core.proofs.TentLines.{byte-few, count-more, numbers-more}
 use Rattle.fields_core.proofs.tents.pairs.number_trees.Goals as goal
 
 pub loop-place-preserved : goal.loop-place-preserved

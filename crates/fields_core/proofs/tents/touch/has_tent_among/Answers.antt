@@ -1,5 +1,5 @@
 use Rattle.fields_core.proofs.Common.{arith, common_steps, not, tent, ◌&&◌, ◌==◌}
-use Rattle.fields_core.proofs.NextLemmas.{tent-among}
+use Rattle.fields_core.proofs.LightSeen.{tent-among}
 use Rattle.fields_core.proofs.tents.touch.has_tent_among.Goals as goal
 
 pub returns : goal.returns

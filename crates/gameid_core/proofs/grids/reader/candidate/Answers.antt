@@ -1,6 +1,5 @@
 use Rattle.gameid_core.specs.Common.{Some, ap, ap₂, arith, length, length-replicate, subst, sym, ℕ, ◌*◌, ◌<◌, ◌∙◌}
-use Rattle.gameid_core.proofs.PrintedRows.{LeftOf, all_rows_left, row_first}
-use Rattle.gameid_core.proofs.PrintedGrids.{is_shown, same_grid}
+use Rattle.gameid_core.proofs.PrintedGrids.{LeftOf, all_rows_left, is_shown, row_first, same_grid}
 use Rattle.gameid_core.proofs.grids.reader.candidate.Goals as goal
 
 pub loop-y-init : goal.loop-y-init

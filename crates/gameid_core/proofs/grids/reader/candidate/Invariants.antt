@@ -1,5 +1,5 @@
 use Rattle.gameid_core.specs.Common.{AgreeUpTo, FitUpTo, IsAsShown, List, grid_text, length, row_text, ℕ, ◌*◌, ◌++◌, ◌≡◌}
-use Rattle.gameid_core.proofs.PrintedRows.{LeftOf}
+use Rattle.gameid_core.proofs.PrintedGrids.{LeftOf}
 use Rattle.gameid_core.proofs.grids.reader.candidate.Given as goal
 
 abbrev pub invariant-loop-y : goal.invariant-loop-y

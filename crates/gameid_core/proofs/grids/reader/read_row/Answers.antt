@@ -1,5 +1,5 @@
 use Rattle.gameid_core.specs.Common.{ap, arith, length, length-set, refl, ◌*◌, ◌+◌, ◌<◌, ◌∙◌}
-use Rattle.gameid_core.proofs.PrintedRows.{all_left, known_cell, cell_read, cell_not_missed, fit_more, agree_more, in_grid}
+use Rattle.gameid_core.proofs.PrintedGrids.{all_left, known_cell, cell_read, cell_not_missed, fit_more, agree_more, in_grid}
 use Rattle.gameid_core.proofs.grids.reader.read_row.Goals as goal
 
 pub loop-x-init : goal.loop-x-init

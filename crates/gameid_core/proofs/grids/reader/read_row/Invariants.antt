@@ -1,5 +1,5 @@
 use Rattle.gameid_core.specs.Common.{AgreeUpTo, FitUpTo, IsAsShown, List, length, row_text, ℕ, ◌*◌, ◌++◌, ◌+◌, ◌≡◌}
-use Rattle.gameid_core.proofs.PrintedRows.{Left}
+use Rattle.gameid_core.proofs.PrintedGrids.{Left}
 use Rattle.gameid_core.proofs.grids.reader.read_row.Given as goal
 
 abbrev pub invariant-loop-x : goal.invariant-loop-x

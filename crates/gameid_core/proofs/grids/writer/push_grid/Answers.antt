@@ -1,5 +1,5 @@
 use Rattle.gameid_core.specs.Common.{Extent, ap, arith, common_steps, row_text, ◌≡◌, ◌∙◌}
-use Rattle.gameid_core.proofs.Lists.{below_more}
+use Rattle.gameid_core.proofs.LineLaws.{below_more}
 use Rattle.gameid_core.proofs.grids.writer.push_grid.Goals as goal
 
 pub loop-y-preserved : goal.loop-y-preserved

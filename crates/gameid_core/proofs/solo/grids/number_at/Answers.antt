@@ -1,5 +1,5 @@
 use Rattle.gameid_core.specs.Common.{arith, decimal, length-append}
-use Rattle.gameid_core.proofs.Tokens.{front_decimal, length_front}
+use Rattle.gameid_core.proofs.Reading.{front_decimal, length_front}
 use Rattle.gameid_core.proofs.solo.grids.number_at.Goals as goal
 
 pub overflow_sub-result : goal.overflow_sub-result

@@ -1,6 +1,6 @@
 use Rattle.gameid_core.specs.Common.{arith}
 use Rattle.gameid_core.specs.TentsText.{tents_count}
-use Rattle.gameid_core.proofs.Tokens.{cuts_some, cuts_single, cuts_joined}
+use Rattle.gameid_core.proofs.Reading.{cuts_some, cuts_single, cuts_joined}
 use Rattle.gameid_core.proofs.TentsTexts.{front_some}
 use Rattle.gameid_core.proofs.tents.id.count_at.Goals as goal
 

@@ -1,5 +1,5 @@
 use Rattle.grid_core.proofs.Common.{arith}
-use Rattle.grid_core.proofs.FrontierLemmas.{room_for_left, AreReached-write, view-write}
+use Rattle.grid_core.proofs.PairingLemmas.{room_for_left, AreReached-write, view-write}
 use Rattle.grid_core.proofs.frontier.Frontier.push.Goals as goal
 
 pub index_mut-requires-2 : goal.index_mut-requires-2

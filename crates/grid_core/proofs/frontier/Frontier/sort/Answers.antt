@@ -1,5 +1,5 @@
 use Rattle.grid_core.proofs.Common.{FrontierView, List, ap, arith, common_steps, drop, length, sym, take, vec_len, ℕ, ◌++◌, ◌≡◌}
-use Rattle.grid_core.proofs.FrontierLemmas.{AreReached-sort, ascending}
+use Rattle.grid_core.proofs.PairingLemmas.{AreReached-sort, ascending}
 use Rattle.grid_core.proofs.frontier.Frontier.sort.Goals as goal
 
 -- a list that is written over another as long

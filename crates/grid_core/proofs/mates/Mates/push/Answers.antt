@@ -1,5 +1,5 @@
 use Rattle.grid_core.proofs.Common.{MatesView, ap, arith, length, length-take, take, take_more_set, ℕ, ◌<◌, ◌≡◌}
-use Rattle.grid_core.proofs.MateLemmas.{AreOwners-push}
+use Rattle.grid_core.proofs.PairingLemmas.{AreOwners-push}
 use Rattle.grid_core.proofs.mates.Mates.push.Goals as goal
 
 pub invariant_of-self : goal.invariant_of-self

@@ -1,5 +1,5 @@
 use Rattle.grid_core.proofs.Common.{List, MatesView, ap, arith, get_or, get_or-take, get_or_default, length, length-take, set, sym, take, take-set-lt, ℕ, ◌<◌, ◌∙◌, ◌≡◌}
-use Rattle.grid_core.proofs.MateLemmas.{mate_in, AreOwners-replace}
+use Rattle.grid_core.proofs.PairingLemmas.{mate_in, AreOwners-replace}
 use Rattle.grid_core.proofs.mates.Mates.replace.Goals as goal
 
 -- an entry of the first ones, and its place among them

@@ -1,5 +1,5 @@
 use Rattle.grid_core.proofs.Common.{arith}
-use Rattle.grid_core.proofs.SearchSteps.{IsShortSet-from_closed}
+use Rattle.grid_core.proofs.PairingLemmas.{IsShortSet-from_closed}
 use Rattle.grid_core.proofs.pairing.Pairing.run.Goals as goal
 
 pub returns-in-None-clause-short : goal.returns-in-None-clause-short

@@ -1,5 +1,5 @@
 use Rattle.grid_core.proofs.Common.{◌∙◌}
-use Rattle.grid_core.proofs.RowLemmas.{kept-only}
+use Rattle.grid_core.proofs.PlaneSteps.{kept-only}
 use Rattle.grid_core.proofs.planes.Planes.assign.Goals as goal
 
 pub returns-clause-left : goal.returns-clause-left

@@ -1,6 +1,6 @@
 use Rattle.grid_core.proofs.Common.{arith, eq-eqb, eqb-true, false, length-map, refl, sym, taking_at, taking_of, true, true≢false, ◌∙◌, ◌≡◌}
 use Rattle.grid_core.specs.Planes.{has}
-use Rattle.grid_core.proofs.LostLemmas.{noted-more}
+use Rattle.grid_core.proofs.PlaneLemmas.{noted-more}
 use Rattle.grid_core.proofs.PlaneSteps.{line_room, taking_read}
 use Rattle.grid_core.proofs.TakingLemmas.{covered_since, takings-len}
 use Rattle.grid_core.proofs.planes.Planes.lost.Goals as goal

@@ -1,5 +1,5 @@
 use Rattle.grid_core.proofs.Common.{false, true}
-use Rattle.grid_core.proofs.LostLemmas.{AreNoted}
+use Rattle.grid_core.proofs.PlaneLemmas.{AreNoted}
 use Rattle.grid_core.proofs.planes.Planes.lost.Given as goal
 
 abbrev pub invariant-loop-k : goal.invariant-loop-k

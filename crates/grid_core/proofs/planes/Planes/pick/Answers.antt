@@ -1,7 +1,7 @@
 use Rattle.grid_core.proofs.Common.{and_parts, ap, arith, cells_of, has, pick, refl, sym, ℕ, ◌*◌, ◌<◌, ◌∙◌, ◌≡◌}
-use Rattle.grid_core.proofs.LineLemmas.{few_cells}
+use Rattle.grid_core.proofs.RegionLemmas.{few_cells}
 use Rattle.grid_core.proofs.PlaneLemmas.{place-in}
-use Rattle.grid_core.proofs.RowLemmas.{IsOpenRow, pick-row_none, pick-row_some}
+use Rattle.grid_core.proofs.PlaneSteps.{IsOpenRow, pick-row_none, pick-row_some}
 use Rattle.grid_core.proofs.planes.Planes.pick.Goals as goal
 use Rattle.grid_core.proofs.planes.Planes.pick.Goals.{After-is_some, After-lowest}
 

@@ -1,5 +1,5 @@
 use Rattle.grid_core.proofs.Common.{ap, arith, bool_byte, cells_of, subst, ◌*◌, ◌<◌, ◌∙◌, ◌≡◌}
-use Rattle.grid_core.proofs.RowLemmas.{IsWritten, written-more, written-all}
+use Rattle.grid_core.proofs.PlaneSteps.{IsWritten, written-more, written-all}
 use Rattle.grid_core.proofs.planes.Planes.write_grid.Goals as goal
 
 pub loop-x-preserved : goal.loop-x-preserved

@@ -1,5 +1,5 @@
 use Rattle.grid_core.proofs.Common.{◌*◌, ◌+◌}
-use Rattle.grid_core.proofs.RowLemmas.{IsWritten}
+use Rattle.grid_core.proofs.PlaneSteps.{IsWritten}
 use Rattle.grid_core.proofs.planes.Planes.write_grid.Given as goal
 
 abbrev pub invariant-loop-y : goal.invariant-loop-y

@@ -1,6 +1,6 @@
 use Rattle.grid_core.proofs.Common.{and_parts, arith, common_steps, eqb, eqb-true, false_from_ne_true, has_bit, length-set, not, refl, sym, ℕ, ◌&&◌, ◌∙◌, ◌≡◌}
-use Rattle.grid_core.proofs.CandidateLemmas.{any_below-none}
-use Rattle.grid_core.proofs.TurnLemmas.{turned_at, crossed, fewer_left, turned_none, turned_all}
+use Rattle.grid_core.proofs.BoardLemmas.{any_below-none}
+use Rattle.grid_core.proofs.WordLemmas.{turned_at, crossed, fewer_left, turned_none, turned_all}
 use Rattle.grid_core.proofs.planes.turn.turn.Goals as goal
 
 pub loop-own-init : goal.loop-own-init

@@ -1,6 +1,5 @@
 use Rattle.maker_core.proofs.Common.{length, sym}
-use Rattle.maker_core.proofs.LightSolved.{bulbs_after-grid, lit_solved}
-use Rattle.maker_core.proofs.LightFilled.{order_within}
+use Rattle.maker_core.proofs.LightMakings.{bulbs_after-grid, lit_solved, order_within}
 use Rattle.maker_core.proofs.light_up.filling.light_up.Goals as goal
 
 pub place_bulbs-requires-clause-within : goal.place_bulbs-requires-clause-within

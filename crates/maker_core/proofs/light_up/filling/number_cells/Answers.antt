@@ -1,5 +1,5 @@
 use Rattle.maker_core.proofs.Common.{ap, arith, rules, ◌*◌, ◌∙◌}
-use Rattle.maker_core.proofs.LightCells.{numbered_all, bulbs_few}
+use Rattle.maker_core.proofs.LightMakings.{numbered_all, bulbs_few}
 use Rattle.maker_core.proofs.light_up.filling.number_cells.Goals as goal
 
 pub overflow_cast-bulbs : goal.overflow_cast-bulbs

@@ -1,5 +1,5 @@
 use Rattle.maker_core.proofs.Common.{numbered_cell}
-use Rattle.maker_core.proofs.LightCells.{IsRewritten, old_cell}
+use Rattle.maker_core.proofs.LightMakings.{IsRewritten, old_cell}
 use Rattle.maker_core.proofs.light_up.filling.number_cells.Given as goal
 
 abbrev pub invariant-loop-place : goal.invariant-loop-place

@@ -1,4 +1,4 @@
-use Rattle.maker_core.proofs.LightCells.{IsRewritten, black_cell, white_cell}
+use Rattle.maker_core.proofs.LightMakings.{IsRewritten, black_cell, white_cell}
 use Rattle.maker_core.proofs.light_up.filling.with_black_cells.Given as goal
 
 abbrev pub invariant-loop-place : goal.invariant-loop-place

@@ -1,6 +1,5 @@
 use Rattle.maker_core.proofs.Common.{IsLightSolution, IsThinnedFrom, ap, light_game, light_puzzle_of, light_rules, lights_of, refl, rule-from-test, subst, sym, test-from-rule, with_numbers, ◌∙◌}
-use Rattle.maker_core.proofs.OnlySolutions.{only_is}
-use Rattle.maker_core.proofs.FirstTries.{draws_first}
+use Rattle.maker_core.proofs.FirstTries.{draws_first, only_is}
 use Rattle.maker_core.proofs.light_up.maker.make_lights.Goals as goal
 
 pub returns-clause-made : goal.returns-clause-made

@@ -1,6 +1,5 @@
 use Rattle.maker_core.proofs.Common.{IsPatternSolution, is_solution-from, is_solution-is, line_rules, refl}
-use Rattle.maker_core.proofs.OnlySolutions.{one_is}
-use Rattle.maker_core.proofs.FirstTries.{draws_first}
+use Rattle.maker_core.proofs.FirstTries.{draws_first, one_is}
 use Rattle.maker_core.proofs.pattern.maker.make_pattern.Goals as goal
 
 pub returns-clause-made : goal.returns-clause-made

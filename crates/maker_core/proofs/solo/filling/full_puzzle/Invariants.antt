@@ -1,5 +1,5 @@
 use Rattle.maker_core.proofs.Common.{◌≡◌}
-use Rattle.maker_core.proofs.SoloFull.{given_first}
+use Rattle.maker_core.proofs.SoloSolution.{given_first}
 use Rattle.maker_core.proofs.solo.filling.full_puzzle.Given as goal
 
 abbrev pub invariant-loop-place : goal.invariant-loop-place

@@ -1,5 +1,5 @@
 use Rattle.maker_core.proofs.Common.{arith, get_or_read, mul-le, ◌+◌}
-use Rattle.maker_core.proofs.SoloOrderLemmas.{groups-more, grouped-more}
+use Rattle.maker_core.proofs.Shuffles.{groups-more, grouped-more}
 use Rattle.maker_core.proofs.solo.filling.line_order.Goals as goal
 
 pub push_group-requires : goal.push_group-requires

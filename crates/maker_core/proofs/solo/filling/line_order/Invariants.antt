@@ -1,5 +1,5 @@
 use Rattle.maker_core.proofs.Common.{lines_of_groups, shuffled_order, ◌≡◌}
-use Rattle.maker_core.proofs.SoloOrderLemmas.{AreGrouped}
+use Rattle.maker_core.proofs.Shuffles.{AreGrouped}
 use Rattle.maker_core.proofs.solo.filling.line_order.Given as goal
 
 abbrev pub invariant-loop-k : goal.invariant-loop-k

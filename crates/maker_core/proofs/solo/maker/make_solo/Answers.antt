@@ -1,6 +1,6 @@
 use Rattle.maker_core.proofs.Common.{Err, IsThinnedFrom, Some, all_given, ap, refl, rules, solo_game, solo_tries, stream_after_clues, sym, ◌∙◌}
 use Rattle.maker_core.proofs.FirstTries.{draws_first, leaves_failed}
-use Rattle.maker_core.proofs.SoloFull.{all_given-only, all_given-found, thinned-solo, only_by_rules}
+use Rattle.maker_core.proofs.SoloSolution.{all_given-only, all_given-found, thinned-solo, only_by_rules}
 use Rattle.maker_core.proofs.solo.maker.make_solo.Goals as goal
 
 pub thin-requires-clause-only : goal.thin-requires-clause-only

@@ -1,5 +1,5 @@
 use Rattle.maker_core.proofs.Common.{true, ◌≡◌}
-use Rattle.maker_core.proofs.SoloFull.{given_first}
+use Rattle.maker_core.proofs.SoloSolution.{given_first}
 use Rattle.maker_core.proofs.solo.x_filling.top_row_puzzle.Given as goal
 
 abbrev pub invariant-loop-column : goal.invariant-loop-column

@@ -1,6 +1,5 @@
 use Rattle.maker_core.proofs.Common.{IsTentSolution, ap, refl, solution-from-tents, tent_rules, tents-from-solution, tents_puzzle_of, ◌∙◌}
-use Rattle.maker_core.proofs.OnlySolutions.{one_is}
-use Rattle.maker_core.proofs.FirstTries.{draws_first}
+use Rattle.maker_core.proofs.FirstTries.{draws_first, one_is}
 use Rattle.maker_core.proofs.tents.maker.make_tents.Goals as goal
 
 pub returns-clause-made : goal.returns-clause-made

@@ -1,5 +1,5 @@
 use Rattle.pattern_core.proofs.Common.{arith}
-use Rattle.pattern_core.proofs.LineVisits.{clue_of_line}
+use Rattle.pattern_core.proofs.LineTakings.{clue_of_line}
 use Rattle.pattern_core.proofs.line_clue.LineClue.new.Goals as goal
 
 pub measured-cells-requires : goal.measured-cells-requires

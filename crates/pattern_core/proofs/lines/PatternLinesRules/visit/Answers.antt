@@ -1,5 +1,5 @@
 use Rattle.pattern_core.proofs.Common.{arith, common_steps}
-use Rattle.pattern_core.proofs.LineVisits.{line_visited}
+use Rattle.pattern_core.proofs.LineTakings.{line_visited}
 use Rattle.pattern_core.proofs.lines.PatternLinesRules.visit.Goals as goal
 
 pub returns-clause-left : goal.returns-clause-left

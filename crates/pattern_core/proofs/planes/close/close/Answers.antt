@@ -1,7 +1,7 @@
 use Rattle.pattern_core.proofs.Common.{IsClosing, IsWithin, [], after, arith, closing-dead, closing-open, further-more, further-none, house_of, length-append, line_rules, line_rules-lawful, refl, room, running-alive, running-first, running-turn, true, true≢false, waiting, within_inside, ◌*◌, ◌++◌, ◌<◌, ◌∙◌, ◌∷◌, ◌≡◌}
 use Rattle.grid_core.specs.Planes.{has, lines_beside, number_of}
 use Rattle.engine_core.specs.declared.mode.Closing.TheVariants.{Dead, Open}
-use Rattle.engine_core.proofs.EndLemmas.{closed-in, taken-dead, taken-open}
+use Rattle.engine_core.proofs.AroundLemmas.{closed-in, taken-dead, taken-open}
 use Rattle.pattern_core.proofs.WaitingLines.{begins-alive, lines-within, lines-woken, none-waits, waits-line}
 use Rattle.pattern_core.proofs.LineTakings.{house-in}
 use Rattle.pattern_core.proofs.planes.close.close.Goals as goal

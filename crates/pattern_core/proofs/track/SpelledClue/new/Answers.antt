@@ -1,5 +1,5 @@
 use Rattle.pattern_core.proofs.Common.{IsRoomy, subst, sym}
-use Rattle.pattern_core.proofs.Spellings.{clue_back, track_of_clue}
+use Rattle.pattern_core.proofs.SpelledRuns.{clue_back, track_of_clue}
 use Rattle.pattern_core.proofs.track.SpelledClue.new.Goals as goal
 
 pub invariant_of-result : goal.invariant_of-result

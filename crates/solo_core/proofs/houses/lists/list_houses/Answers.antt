@@ -1,5 +1,5 @@
 use Rattle.solo_core.proofs.Common.{ap, arith, count_plain, count_x, house_count, refl, sym, ◌*◌, ◌+◌, ◌∙◌, ◌≡◌}
-use Rattle.solo_core.proofs.HouseLists.{first_listed, all-listed, house-listed, row-listed, column-listed, block-listed, falling-listed, rising-listed}
+use Rattle.solo_core.proofs.HouseLemmas.{first_listed, all-listed, house-listed, row-listed, column-listed, block-listed, falling-listed, rising-listed}
 use Rattle.solo_core.proofs.houses.lists.list_houses.Goals as goal
 
 pub loop-y-preserved : goal.loop-y-preserved

@@ -1,5 +1,5 @@
 use Rattle.std.proofs.Common.{◌≡◌, ◌+◌, ◌*◌}
-use Rattle.solo_core.proofs.HouseLists.{first_listed}
+use Rattle.solo_core.proofs.HouseLemmas.{first_listed}
 use Rattle.solo_core.proofs.houses.lists.list_houses.Given as goal
 
 abbrev pub invariant-loop-y : goal.invariant-loop-y

@@ -1,5 +1,5 @@
 use Rattle.std.proofs.Common.{◌∙◌, arith}
-use Rattle.solo_core.proofs.HouseLists.{block-more, row-low, rows-fit}
+use Rattle.solo_core.proofs.HouseLemmas.{block-more, row-low, rows-fit}
 use Rattle.solo_core.proofs.houses.lists.push_block.Goals as goal
 
 pub push_line-requires-clause-first_low : goal.push_line-requires-clause-first_low

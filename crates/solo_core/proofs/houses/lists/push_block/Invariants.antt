@@ -1,5 +1,5 @@
 use Rattle.std.proofs.Common.{◌≡◌}
-use Rattle.solo_core.proofs.HouseLists.{rows_of}
+use Rattle.solo_core.proofs.HouseLemmas.{rows_of}
 use Rattle.solo_core.proofs.houses.lists.push_block.Given as goal
 
 abbrev pub invariant-loop-y : goal.invariant-loop-y

@@ -1,6 +1,5 @@
 use Rattle.solo_core.proofs.Common.{House, ap, arith, crossings_of, crossings_sound, filled_houses, length, no_repeat, strikes_by_fillings, sym, true, true≢false, ◌++◌, ◌<◌, ◌∙◌, ◌≤◌}
-use Rattle.solo_core.proofs.DecidingLemmas.{decides-at, kept-houses}
-use Rattle.solo_core.proofs.HouseLemmas.{filled-length, first_at, later_at}
+use Rattle.solo_core.proofs.HouseLemmas.{decides-at, filled-length, first_at, kept-houses, later_at}
 use Rattle.solo_core.proofs.rule_sets.CrossingsRuleSet.filter.Goals as goal
 
 pub returns-then-house-count-clause-kept : goal.returns-then-house-count-clause-kept

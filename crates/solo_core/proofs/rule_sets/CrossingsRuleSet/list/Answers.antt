@@ -1,5 +1,5 @@
 use Rattle.std.proofs.Common.{arith}
-use Rattle.solo_core.proofs.HouseLists.{few-listed}
+use Rattle.solo_core.proofs.HouseLemmas.{few-listed}
 use Rattle.solo_core.proofs.rule_sets.CrossingsRuleSet.list.Goals as goal
 
 pub push_crossings-requires-clause-fits : goal.push_crossings-requires-clause-fits

@@ -1,5 +1,5 @@
 use Rattle.std.proofs.Common.{sym}
-use Rattle.solo_core.proofs.ClosedGrids.{closed-solution}
+use Rattle.solo_core.proofs.HouseLemmas.{closed-solution}
 use Rattle.solo_core.proofs.rule_sets.FillingsRuleSet.completes.Goals as goal
 
 pub returns-clause-solution : goal.returns-clause-solution

@@ -1,5 +1,5 @@
 use Rattle.solo_core.proofs.Common.{fillings_sound, true}
-use Rattle.solo_core.proofs.DecidingLemmas.{kept-deciding}
+use Rattle.solo_core.proofs.HouseLemmas.{kept-deciding}
 use Rattle.solo_core.proofs.rule_sets.FillingsRuleSet.filter.Goals as goal
 
 pub returns-clause-kept : goal.returns-clause-kept

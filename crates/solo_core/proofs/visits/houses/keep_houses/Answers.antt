@@ -1,6 +1,5 @@
 use Rattle.solo_core.proofs.Common.{AreLone, arith, length-take, ◌∙◌}
-use Rattle.solo_core.proofs.PeelLemmas.{decided_by_peeled, lone-counts, rest-is, rest-settled}
-use Rattle.solo_core.proofs.WholeLemmas.{decided_whole}
+use Rattle.solo_core.proofs.PeelLemmas.{decided_by_peeled, decided_whole, lone-counts, rest-is, rest-settled}
 use Rattle.solo_core.proofs.visits.houses.keep_houses.Goals as goal
 use Rattle.solo_core.proofs.visits.houses.keep_houses.Goals.{After-write_rest-count}
 

@@ -1,5 +1,5 @@
 use Rattle.solo_core.proofs.Common.{IsBegun, List, ap, arith, both-bits, get_or-set_at, get_or-set_other, has_bit, length, length-set, refl, slice_index, slice_set, subst, sym, ℕ, ◌∙◌, ◌≡◌}
-use Rattle.solo_core.proofs.QuickLemmas.{goes_on_free, goes_on_swapped}
+use Rattle.solo_core.proofs.MateLemmas.{goes_on_free, goes_on_swapped}
 use Rattle.solo_core.proofs.visits.quick.give.Goals as goal
 
 pub returns-in-Some-clause-on : goal.returns-in-Some-clause-on

@@ -1,5 +1,5 @@
 use Rattle.std.proofs.Common.{refl, rules, tests}
-use Rattle.solo_core.proofs.AnyLemmas.{any_in_range}
+use Rattle.solo_core.proofs.SinglesLemmas.{any_in_range}
 use Rattle.solo_core.proofs.visits.singles.has_lost_value.Goals as goal
 
 pub returns : goal.returns

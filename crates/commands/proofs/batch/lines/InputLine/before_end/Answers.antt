@@ -1,5 +1,5 @@
 use Rattle.commands.proofs.Common.{IsLine, arith, subst}
-use Rattle.commands.proofs.InputLemmas.{line_told}
+use Rattle.commands.proofs.RunLemmas.{line_told}
 use Rattle.commands.proofs.batch.lines.InputLine.before_end.Goals as goal
 
 pub returns : goal.returns

@@ -1,5 +1,5 @@
 use Rattle.commands.proofs.Common.{IsLine, ap, strip_carriage_return, subst, ◌∙◌}
-use Rattle.commands.proofs.InputLemmas.{line_told, strip_length}
+use Rattle.commands.proofs.RunLemmas.{line_told, strip_length}
 use Rattle.commands.proofs.batch.lines.InputLine.before_newline.Goals as goal
 
 pub returns : goal.returns

@@ -1,5 +1,5 @@
 use Rattle.commands.proofs.Common.{ap, arith, length, max_id, vec_len, ◌+◌, ◌==◌, ◌∙◌, ◌≡◌}
-use Rattle.commands.proofs.InputLemmas.{line_empty}
+use Rattle.commands.proofs.RunLemmas.{line_empty}
 use Rattle.commands.proofs.batch.lines.InputLine.is_empty.Goals as goal
 
 pub returns : goal.returns

@@ -1,5 +1,5 @@
 use Rattle.commands.proofs.Common.{[], max_id, rules, ◌++◌, ◌+◌, ◌∙◌, ◌∷◌, ◌≡◌}
-use Rattle.commands.proofs.InputLemmas.{holds_kept, holds_more}
+use Rattle.commands.proofs.RunLemmas.{holds_kept, holds_more}
 use Rattle.commands.proofs.batch.lines.InputLine.push.Goals as goal
 
 pub returns-in_ok-push : goal.returns-in_ok-push

@@ -1,9 +1,8 @@
 use Rattle.engine_core.proofs.Common.{IsInside, ap, arith, drop, has, is_dead, is_waiting, length, sym, true≢false, ◌∙◌}
-use Rattle.engine_core.proofs.CallLemmas.{woken-unstruck}
+use Rattle.engine_core.proofs.QueueLemmas.{emptied-dead, unwoken, woken-unstruck}
 use Rattle.engine_core.proofs.ClosingLemmas.{after_inside}
-use Rattle.engine_core.proofs.QueueLemmas.{emptied-dead, unwoken}
-use Rattle.engine_core.proofs.StoreLemmas.{scope_le-longest}
-use Rattle.engine_core.proofs.WaitLemmas.{written-back}
+use Rattle.engine_core.proofs.JudgeLemmas.{scope_le-longest}
+use Rattle.engine_core.proofs.IndexLemmas.{written-back}
 use Rattle.engine_core.proofs.closing.closer.Closer.step.Goals as goal
 
 pub read_head-requires-clause-room : goal.read_head-requires-clause-room

@@ -1,4 +1,4 @@
-use Rattle.engine_core.proofs.PieceLemmas.{pushed-listed}
+use Rattle.engine_core.proofs.HouseLemmas.{pushed-listed}
 use Rattle.engine_core.proofs.houses.list.HouseList.push.Goals as goal
 
 pub invariant_of-self-2 : goal.invariant_of-self-2

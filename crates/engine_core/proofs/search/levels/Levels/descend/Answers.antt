@@ -1,10 +1,7 @@
 use Rattle.engine_core.proofs.Common.{IsOpen, within_inside, ap, append_assoc, arith, found_marks, sym, ◌++◌, ◌∙◌}
 use Rattle.engine_core.proofs.ClosingLemmas.{closure_closed}
-use Rattle.engine_core.proofs.JudgeLemmas.{full_unpicked}
-use Rattle.engine_core.proofs.PickLemmas.{pick-inside}
-use Rattle.engine_core.proofs.RoomLemmas.{split-room, open-room}
-use Rattle.engine_core.proofs.LevelLemmas.{ready-onward, ready-push}
-use Rattle.engine_core.proofs.FrameLemmas.{IsDescent, descend-dead, descend-full, descend-split}
+use Rattle.engine_core.proofs.JudgeLemmas.{full_unpicked, pick-inside}
+use Rattle.engine_core.proofs.LevelLemmas.{IsDescent, descend-dead, descend-full, descend-split, open-room, ready-onward, ready-push, split-room}
 use Rattle.engine_core.proofs.search.levels.Levels.descend.Goals as goal
 use Rattle.engine_core.proofs.search.levels.Levels.descend.Goals.{After-close-taken, After-pick, In-None, In-Some}
 

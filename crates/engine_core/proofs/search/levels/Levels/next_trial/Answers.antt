@@ -1,6 +1,5 @@
 use Rattle.engine_core.proofs.Common.{arith, frame_at, get_or_read, refl, within_inside, ◌-◌, ◌≡◌}
-use Rattle.engine_core.proofs.LevelLemmas.{top-open, open-back, turn-done, turn-ready, turn-trial}
-use Rattle.engine_core.proofs.RoomLemmas.{open-cell}
+use Rattle.engine_core.proofs.LevelLemmas.{open-back, open-cell, top-open, turn-done, turn-ready, turn-trial}
 use Rattle.engine_core.proofs.search.levels.Levels.next_trial.Goals as goal
 use Rattle.engine_core.proofs.search.levels.Levels.next_trial.Goals.{After-leave}
 

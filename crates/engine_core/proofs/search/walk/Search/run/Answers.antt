@@ -1,6 +1,6 @@
 use Rattle.engine_core.proofs.Common.{arith, common_steps, pick, refl, sym, ◌+◌, ◌∙◌}
 use Rattle.engine_core.proofs.LevelLemmas.{walk-alone}
-use Rattle.engine_core.proofs.SearchingLemmas.{searching-first, searching-trial, ended-out, ended-none, ended-one, ended-two}
+use Rattle.engine_core.proofs.SearchLemmas.{searching-first, searching-trial, ended-out, ended-none, ended-one, ended-two}
 use Rattle.engine_core.proofs.search.walk.Search.run.Goals as goal
 use Rattle.engine_core.proofs.search.walk.Search.run.Goals.{then-values-eq2, else-values-eq2}
 

@@ -1,5 +1,5 @@
 use Rattle.engine_core.proofs.Common.{AreGrids, AreReady, length, ◌*◌, ◌+◌, ◌-◌, ◌≡◌, ◌≤◌}
-use Rattle.engine_core.proofs.SearchingLemmas.{IsSearching}
+use Rattle.engine_core.proofs.SearchLemmas.{IsSearching}
 use Rattle.engine_core.proofs.search.walk.Search.run.Given as goal
 
 abbrev pub invariant-loop-self : goal.invariant-loop-self

@@ -1,9 +1,8 @@
 use Rattle.engine_core.proofs.Common.{arith, drop, has, has_place, length, refl}
-use Rattle.engine_core.proofs.CallLemmas.{woken-same, woken-by, woken-unstruck}
-use Rattle.engine_core.proofs.WaitLemmas.{written-back}
-use Rattle.engine_core.proofs.LostLemmas.{kept-none, lost-any}
-use Rattle.engine_core.proofs.QueueLemmas.{within_of}
-use Rattle.engine_core.proofs.StoreLemmas.{scope_le-longest}
+use Rattle.engine_core.proofs.QueueLemmas.{within_of, woken-by, woken-same, woken-unstruck}
+use Rattle.engine_core.proofs.IndexLemmas.{written-back}
+use Rattle.engine_core.proofs.TrailLemmas.{kept-none, lost-any}
+use Rattle.engine_core.proofs.JudgeLemmas.{scope_le-longest}
 use Rattle.engine_core.proofs.trail.position.TrailPosition.step.Goals as goal
 
 pub filter_house-requires-clause-sets_room : goal.filter_house-requires-clause-sets_room

@@ -1,8 +1,8 @@
 use Rattle.engine_core.proofs.Common.{Dead, IsClosing, [], arith, board_in, drop, has, length, refl, sym, ◌∙◌}
-use Rattle.engine_core.proofs.WaitLemmas.{written-back}
+use Rattle.engine_core.proofs.IndexLemmas.{written-back}
 use Rattle.engine_core.proofs.QueueLemmas.{alive_but, dead_of, within_of}
 use Rattle.engine_core.proofs.ListLemmas.{closing-none}
-use Rattle.engine_core.proofs.EndLemmas.{closed-in, taken-dead}
+use Rattle.engine_core.proofs.AroundLemmas.{closed-in, taken-dead}
 use Rattle.engine_core.proofs.trail.position.TrailPositionPosition.close.Goals as goal
 use Rattle.engine_core.proofs.trail.position.TrailPositionPosition.close.Goals.{Then-has_empty_cell, else-is_none-via-then-is_none+else-has_empty_cell, else-is_none-via-else-is_none}
 

@@ -1,5 +1,5 @@
 use Rattle.engine_core.proofs.Common.{IsBitsOf, arith, has, one_shl, sym, ◌%◌, ◌*◌, ◌^◌, ◌∙◌, ◌≡◌}
-use Rattle.engine_core.proofs.ChangeLemmas.{left-only, only-bits, only-other}
+use Rattle.engine_core.proofs.QueueLemmas.{bits-several, left-only, only-bits}
 use Rattle.engine_core.proofs.SetLemmas.{bits-are}
 use Rattle.engine_core.proofs.trail.position.TrailPositionPosition.leave.Goals as goal
 use Rattle.engine_core.proofs.trail.position.TrailPositionPosition.leave.Goals.{After-bits-before}
@@ -18,7 +18,7 @@ leave-requires-clause-other g c = λ e.
     let r = rw (← c.self.view_is) at c.requires in
     let bits : IsBitsOf (has c.self.inside.trailed.board c.args.cell) (g.R.Rules.system c.args.rules.now).values c.bits-before.result =
     rw (← r.walks.along.board_of.same_values) (rw c.board.ensures at (bits-are c.board.result.now c.args.cell c.bits-before.ensures.small c.bits-before.ensures.same)) in
-    only-other c.args.value bits r.several (sym (bit g (goal.at.leave-requires-clause-other g c).After-bits-before) ∙ e)
+    bits-several c.args.value bits r.several (sym (bit g (goal.at.leave-requires-clause-other g c).After-bits-before) ∙ e)
 
 pub returns-clause-left : goal.returns-clause-left
 returns-clause-left g c =

@@ -1,5 +1,5 @@
 use Rattle.engine_core.proofs.Common.{arith, get_or-set_other, get_or-set_same, length-set, ◌<◌}
-use Rattle.engine_core.proofs.ChangeLemmas.{left-is}
+use Rattle.engine_core.proofs.QueueLemmas.{left-is}
 use Rattle.engine_core.proofs.TrailLemmas.{IsLeft, left-noted, trail-len}
 use Rattle.engine_core.proofs.trail.trailed.TrailedBoard.leave.Goals as goal
 use Rattle.engine_core.proofs.trail.trailed.TrailedBoard.leave.Goals.{After-retain}

@@ -1,7 +1,6 @@
 use Rattle.engine_core.proofs.Common.{IsBitsOf, after, arith, bit_and, cases_eq, has, inl, inr, length, slice_index, ◌+◌, ◌<◌, ◌≡◌}
-use Rattle.engine_core.proofs.LostLemmas.{IsUpto, kept-left, lost-differ, lost-more, lost-same, struck-alive, struck-dead, struck-some, upto-all, upto-cell, upto-left, upto-next, upto-same}
+use Rattle.engine_core.proofs.TrailLemmas.{IsUpto, further-more, kept-left, lost-differ, lost-more, lost-same, struck-alive, struck-dead, struck-some, upto-all, upto-cell, upto-left, upto-next, upto-same}
 use Rattle.engine_core.proofs.QueueLemmas.{scope-in, within_of}
-use Rattle.engine_core.proofs.TrailLemmas.{further-more}
 use Rattle.engine_core.proofs.trail.trailed.TrailedBoard.strike.Goals as goal
 use Rattle.engine_core.proofs.trail.trailed.TrailedBoard.strike.Goals.{In-loop-k, then-left-sets+else-left-eq0, else-left-sets}
 

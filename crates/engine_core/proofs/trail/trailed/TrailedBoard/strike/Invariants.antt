@@ -1,5 +1,5 @@
 use Rattle.engine_core.proofs.Common.{AreLost, IsTrailLonger, after, counts_of, has, ℕ, ◌<◌}
-use Rattle.engine_core.proofs.LostLemmas.{IsUpto}
+use Rattle.engine_core.proofs.TrailLemmas.{IsUpto}
 use Rattle.engine_core.proofs.trail.trailed.TrailedBoard.strike.Given as goal
 
 abbrev pub invariant-loop-k : goal.invariant-loop-k

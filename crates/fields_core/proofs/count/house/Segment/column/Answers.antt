@@ -1,6 +1,6 @@
 use Rattle.fields_core.proofs.Common.{arith, column-at, common_steps, mul-le-mul_right, ◌∙◌}
 use Rattle.fields_core.proofs.RunLemmas.{column-made}
-use Rattle.fields_core.proofs.HouseLists.{column-long}
+use Rattle.fields_core.proofs.HouseLemmas.{column-long}
 use Rattle.fields_core.proofs.count.house.Segment.column.Goals as goal
 
 pub returns-clause-within : goal.returns-clause-within

@@ -1,6 +1,6 @@
 use Rattle.fields_core.proofs.Common.{arith, common_steps, mul-le-mul_right, row-at, ◌∙◌}
 use Rattle.fields_core.proofs.RunLemmas.{row-made}
-use Rattle.fields_core.proofs.HouseLists.{row-long}
+use Rattle.fields_core.proofs.HouseLemmas.{row-long}
 use Rattle.fields_core.proofs.count.house.Segment.row.Goals as goal
 
 pub returns-clause-within : goal.returns-clause-within

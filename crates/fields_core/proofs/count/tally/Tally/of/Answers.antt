@@ -1,5 +1,5 @@
 use Rattle.fields_core.proofs.Common.{arith}
-use Rattle.fields_core.proofs.CountTallies.{tally-next, tally-within}
+use Rattle.fields_core.proofs.HouseLemmas.{tally-next, tally-within}
 use Rattle.fields_core.proofs.count.tally.Tally.of.Goals as goal
 
 pub has-zero-requires-clause-place_in : goal.has-zero-requires-clause-place_in

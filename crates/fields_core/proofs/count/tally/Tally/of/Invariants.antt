@@ -1,6 +1,6 @@
 use Rattle.fields_core.proofs.Common.{drop, house_told, places_of, segment_places, ◌++◌, ◌+◌}
 use Rattle.grid_core.specs.Board.{has, cells_of}
-use Rattle.fields_core.proofs.CountTallies.{IsTallyBefore}
+use Rattle.fields_core.proofs.HouseLemmas.{IsTallyBefore}
 use Rattle.fields_core.proofs.count.tally.Tally.of.Given as goal
 
 abbrev pub invariant-loop-number : goal.invariant-loop-number

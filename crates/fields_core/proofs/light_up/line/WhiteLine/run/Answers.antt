@@ -1,5 +1,5 @@
 use Rattle.fields_core.proofs.Common.{IsNext, arith, common_steps, line_white, not, ◌-◌}
-use Rattle.fields_core.proofs.NextLemmas.{around-from, back-few, run-back}
+use Rattle.fields_core.proofs.LightSeen.{around-from, back-few, run-back}
 use Rattle.fields_core.proofs.light_up.line.WhiteLine.run.Goals as goal
 use Rattle.fields_core.proofs.light_up.line.WhiteLine.run.Goals.{After-next_passing}
 

@@ -1,5 +1,5 @@
 use Rattle.fields_core.proofs.Common.{arith, common_steps, line_white, not}
-use Rattle.fields_core.proofs.NextLemmas.{run-on}
+use Rattle.fields_core.proofs.LightSeen.{run-on}
 use Rattle.fields_core.proofs.light_up.line.WhiteLine.run_end.Goals as goal
 
 pub returns : goal.returns

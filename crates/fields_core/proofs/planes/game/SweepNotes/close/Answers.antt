@@ -1,5 +1,5 @@
 use Rattle.fields_core.proofs.Common.{Dead, IsClosing, Open, [], arith, has, max, refl, rules_of, swept_by, sym, true≢false, ◌+◌, ◌<◌, ◌∙◌}
-use Rattle.engine_core.proofs.EndLemmas.{closed-in, taken-dead, taken-open}
+use Rattle.engine_core.proofs.AroundLemmas.{closed-in, taken-dead, taken-open}
 use Rattle.fields_core.proofs.PlaneSweeps.{alive-cells, cells-alive, closed-dead, closed-open, sweeps-few, sweeps-fewer, sweeps-none, sweeps-turn}
 use Rattle.fields_core.proofs.planes.game.SweepNotes.close.Goals as goal
 use Rattle.fields_core.proofs.planes.game.SweepNotes.close.Goals.{Else-len-before, Then-len-before, Then-not-sweep}

@@ -1,6 +1,6 @@
 use Rattle.fields_core.proofs.Common.{Light, LightCell, Some, ap, has_number, is_numbered, refl, slice_get, white, ℕ, ◌*◌, ◌+◌, ◌∙◌, ◌≡◌}
-use Rattle.fields_core.proofs.LightLines.{cell-at, white-at}
-use Rattle.fields_core.proofs.RowWords.{next-off, next-on}
+use Rattle.fields_core.proofs.HouseLemmas.{cell-at, white-at}
+use Rattle.fields_core.proofs.CellLemmas.{next-off, next-on}
 use Rattle.fields_core.proofs.planes.light_up.tables.cells_of_row.Goals as goal
 use Rattle.fields_core.proofs.planes.light_up.tables.cells_of_row.Goals.{in-White, in-Black, in-Numbered}
 

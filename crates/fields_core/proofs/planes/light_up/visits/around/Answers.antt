@@ -1,6 +1,6 @@
 use Rattle.fields_core.proofs.Common.{arith, eqb, fewer_left, has_bit, length, map, not, slice_index, sym, ℕ, ◌&&◌, ◌*◌, ◌+◌, ◌<◌, ◌∙◌, ◌≡◌}
 use Rattle.fields_core.proofs.LightRunLines.{around-all, around-clash, around-more, around-none}
-use Rattle.fields_core.proofs.RowWords.{row-read}
+use Rattle.fields_core.proofs.CellLemmas.{row-read}
 use Rattle.fields_core.proofs.planes.light_up.visits.around.Goals as goal
 use Rattle.fields_core.proofs.planes.light_up.visits.around.Goals.{After-lowest-at, After-without_lowest-rest}
 

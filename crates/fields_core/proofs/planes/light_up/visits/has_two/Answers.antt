@@ -1,5 +1,5 @@
 use Rattle.fields_core.proofs.Common.{any_below-none, arith, count_below-none, has_bit, le-ltb, sym, ◌∙◌}
-use Rattle.fields_core.proofs.LightLitWords.{two-left}
+use Rattle.fields_core.proofs.LightSafeCells.{two-left}
 use Rattle.fields_core.proofs.planes.light_up.visits.has_two.Goals as goal
 
 pub returns-then-is_some : goal.returns-then-is_some

@@ -1,7 +1,7 @@
 use Rattle.fields_core.proofs.Common.{ArePieces, ArePlanes, Black, Extent, Light, Numbered, ap, arith, get_or, length-map, ne_eqb, refl, row-at, subst, sym, true≢false, white, ℕ, ◌*◌, ◌+◌, ◌∙◌, ◌≡◌, ◌≤◌}
-use Rattle.fields_core.proofs.LightLines.{cell-at}
+use Rattle.fields_core.proofs.HouseLemmas.{cell-at}
 use Rattle.fields_core.proofs.LightNumberVisits.{IsBeside, beside-word, black-visited, both_pieces, number-filled, number-house-of, number-short, pieces-apart}
-use Rattle.fields_core.proofs.RowWords.{row-read}
+use Rattle.fields_core.proofs.CellLemmas.{row-read}
 use Rattle.fields_core.proofs.VisitLemmas.{visited-none}
 use Rattle.fields_core.proofs.planes.light_up.visits.visit_number.Goals as goal
 use Rattle.fields_core.proofs.planes.light_up.visits.visit_number.Goals.{After-cell, After-from-ones}

@@ -1,7 +1,7 @@
 use Rattle.fields_core.proofs.Common.{CountHouse, IsRowOf, List, and_parts, arith, has, has_bit, is_numbered, ltb-true, number_house, sym, true, ℕ, ◌*◌, ◌+◌, ◌<◌, ◌∙◌, ◌≡◌}
-use Rattle.fields_core.proofs.PassedLines.{fewer-on, from-on, from-off, passed-all, passed-broken, passed-first, passed-next, rest-off, rest-on}
-use Rattle.fields_core.proofs.LightNumberRows.{numbers-all, numbers-both}
-use Rattle.fields_core.proofs.RowWords.{rows-read}
+use Rattle.fields_core.proofs.IdleLemmas.{fewer-on, from-on, from-off, passed-all, passed-broken, passed-first, passed-next, rest-off, rest-on}
+use Rattle.fields_core.proofs.LightReach.{numbers-all, numbers-both}
+use Rattle.fields_core.proofs.CellLemmas.{rows-read}
 use Rattle.fields_core.proofs.planes.light_up.visits.visit_numbers.Goals as goal
 use Rattle.fields_core.proofs.planes.light_up.visits.visit_numbers.Goals.{After-both-left, After-but-left}
 

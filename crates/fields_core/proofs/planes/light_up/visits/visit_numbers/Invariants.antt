@@ -1,5 +1,5 @@
 use Rattle.fields_core.proofs.Common.{has_bit, number_house, ◌*◌, ◌+◌}
-use Rattle.fields_core.proofs.PassedLines.{ArePassed, places_on}
+use Rattle.fields_core.proofs.IdleLemmas.{ArePassed, places_on}
 use Rattle.fields_core.proofs.planes.light_up.visits.visit_numbers.Given as goal
 
 abbrev pub invariant-loop-own : goal.invariant-loop-own

@@ -1,5 +1,5 @@
 use Rattle.fields_core.proofs.Common.{◌∙◌}
-use Rattle.fields_core.proofs.TentVisits.{column-visited}
+use Rattle.fields_core.proofs.TentCounting.{column-visited}
 use Rattle.fields_core.proofs.planes.tents.lines.visit_column.Goals as goal
 
 pub returns : goal.returns

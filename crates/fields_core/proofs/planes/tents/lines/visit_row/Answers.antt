@@ -1,5 +1,5 @@
 use Rattle.fields_core.proofs.Common.{arith, lt-ltb, ◌∙◌}
-use Rattle.fields_core.proofs.TentVisits.{row-visited}
+use Rattle.fields_core.proofs.TentCounting.{row-visited}
 use Rattle.fields_core.proofs.planes.tents.lines.visit_row.Goals as goal
 
 pub returns : goal.returns

@@ -1,5 +1,5 @@
 use Rattle.fields_core.proofs.Common.{Extent, IsNear, IsRowOf, Tents, ap, arith, length, length-set, not, refl, rules, tree, wants_tent, ◌<◌, ◌∙◌, ◌≡◌}
-use Rattle.fields_core.proofs.RowWords.{rows-more}
+use Rattle.fields_core.proofs.CellLemmas.{rows-more}
 use Rattle.fields_core.proofs.RuleLemmas.{row-blocked, start-all}
 use Rattle.fields_core.proofs.TentTreeWords.{before-first, before-next, near-next, row-barred, row-wants}
 use Rattle.fields_core.proofs.planes.tents.tent_notes.start_tents.Goals as goal

@@ -1,6 +1,6 @@
 use Rattle.fields_core.proofs.Common.{Bool, Extent, IsFieldOf, IsNear, IsRowOf, Tents, and_parts, arith, cases_Bool, common_steps, fun_ext, has, has_bit, is_beside, ltb-true, map, not, subst, sym, tree, wants_tent, without_zeros, ℕ, ◌&&◌, ◌∙◌, ◌≡◌}
 use Rattle.fields_core.proofs.TentTreeBoards.{row-dead, row-visited}
-use Rattle.fields_core.proofs.RowWords.{row-read}
+use Rattle.fields_core.proofs.CellLemmas.{row-read}
 use Rattle.fields_core.proofs.planes.tents.trees.visit_trees.Goals as goal
 use Rattle.fields_core.proofs.planes.tents.trees.visit_trees.Goals.{After-index-trees-from}
 

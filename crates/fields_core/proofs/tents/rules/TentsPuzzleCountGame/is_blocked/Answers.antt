@@ -1,7 +1,7 @@
 use Rattle.fields_core.proofs.Common.{ap, eqb, length-filter, refl, rules, sym, tree, ◌∙◌}
 use Rattle.fields_core.proofs.PlaceLists.{none-counted}
-use Rattle.fields_core.proofs.TentBeside.{whole-cell}
-use Rattle.fields_core.proofs.TentNext.{barred-alone}
+use Rattle.fields_core.proofs.BesideLemmas.{whole-cell}
+use Rattle.fields_core.proofs.TentLines.{barred-alone}
 use Rattle.fields_core.proofs.tents.rules.TentsPuzzleCountGame.is_blocked.Goals as goal
 
 pub returns-else-has_tree : goal.returns-else-has_tree

@@ -1,5 +1,5 @@
 use Rattle.fields_core.proofs.Common.{arith}
-use Rattle.fields_core.proofs.TentPlanes.{sides-fit}
+use Rattle.fields_core.proofs.TentWaits.{sides-fit}
 use Rattle.fields_core.proofs.tents.rules.TentsPuzzlePlaneGame.size.Goals as goal
 
 pub returns-clause-short : goal.returns-clause-short

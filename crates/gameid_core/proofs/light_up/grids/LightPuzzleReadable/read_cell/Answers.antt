@@ -1,5 +1,5 @@
 use Rattle.gameid_core.specs.Common.{refl}
-use Rattle.gameid_core.proofs.PrintedCells.{black_read, white_read, same_some, number_fits, light_known}
+use Rattle.gameid_core.proofs.PrintedGrids.{black_read, white_read, same_some, number_fits, light_known}
 use Rattle.gameid_core.proofs.light_up.grids.LightPuzzleReadable.read_cell.Goals as goal
 
 pub returns-in-White-clause-read : goal.returns-in-White-clause-read

@@ -1,5 +1,5 @@
 use Rattle.gameid_core.specs.Common.{refl}
-use Rattle.gameid_core.proofs.PrintedCells.{symbol_read, number_fits}
+use Rattle.gameid_core.proofs.PrintedGrids.{symbol_read, number_fits}
 use Rattle.gameid_core.proofs.pattern.grids.PatternPuzzleReadable.read_cell.Goals as goal
 
 pub returns-clause-read : goal.returns-clause-read

@@ -1,6 +1,5 @@
 use Rattle.gameid_core.specs.Common.{List, [], ap, get_or, runs, ℕ, ◌+◌, ◌∙◌}
-use Rattle.gameid_core.proofs.LineLaws.{at_column, at_row}
-use Rattle.gameid_core.proofs.RunsFit.{runs_lawful}
+use Rattle.gameid_core.proofs.LineLaws.{at_column, at_row, runs_lawful}
 use Rattle.gameid_core.proofs.pattern.puzzle.PatternPuzzle.of_grid.Goals as goal
 
 pub invariant_of-result : goal.invariant_of-result

@@ -1,7 +1,6 @@
 use Rattle.gameid_core.specs.Common.{length, ◌*◌, ◌≡◌, ◌≤◌}
 use Rattle.gameid_core.specs.SoloText.{solo_cells_at, solo_token}
-use Rattle.gameid_core.proofs.Reading.{place}
-use Rattle.gameid_core.proofs.CellsReading.{fills}
+use Rattle.gameid_core.proofs.Reading.{fills, place}
 use Rattle.gameid_core.proofs.solo.id.SoloPuzzleIdText.read_description.Given as goal
 
 abbrev pub invariant-loop-first : goal.invariant-loop-first

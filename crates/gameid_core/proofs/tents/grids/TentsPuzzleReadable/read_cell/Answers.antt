@@ -1,5 +1,5 @@
 use Rattle.gameid_core.specs.Common.{List, ap, get_or, ℕ, ◌∙◌}
-use Rattle.gameid_core.proofs.PrintedCells.{tent_read, number_fits}
+use Rattle.gameid_core.proofs.PrintedGrids.{tent_read, number_fits}
 use Rattle.gameid_core.proofs.tents.grids.TentsPuzzleReadable.read_cell.Goals as goal
 
 pub returns-else-trees-place-eq1-clause-read : goal.returns-else-trees-place-eq1-clause-read

@@ -1,5 +1,5 @@
 use Rattle.maker_core.proofs.Common.{inl, inr, ◌∙◌}
-use Rattle.maker_core.proofs.PlainPattern.{plain_passes}
+use Rattle.maker_core.proofs.PatternMakings.{plain_passes}
 use Rattle.maker_core.proofs.pattern.maker.BitmapsFillings.draw.Goals as goal
 
 pub returns-clause-known : goal.returns-clause-known

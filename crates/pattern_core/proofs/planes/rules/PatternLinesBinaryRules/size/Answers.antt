@@ -1,4 +1,4 @@
-use Rattle.pattern_core.proofs.LongestLine.{sides-short}
+use Rattle.pattern_core.proofs.LineTakings.{sides-short}
 use Rattle.pattern_core.proofs.planes.rules.PatternLinesBinaryRules.size.Goals as goal
 
 pub returns-clause-short : goal.returns-clause-short

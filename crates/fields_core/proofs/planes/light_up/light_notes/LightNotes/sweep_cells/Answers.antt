@@ -1,12 +1,11 @@
 use Rattle.fields_core.proofs.Common.{ArePlanesOf, AreSafeInColumns, AreVisited, AreWhitesIdleBut, Bool, IsRowOf, and_parts, arith, cases_Bool, common_steps, false, has, has_bit, houses_below, inl, inr, light_cells, lit_house, lits_of_row, lt-ltb, ltb-true, map, not, or_cases, or_parts, place-in, refl, slice_index, sym, true, true≢false, white, ℕ, ◌&&◌, ◌*◌, ◌+◌, ◌<◌, ◌∙◌, ◌≡◌, ◌≤◌}
 use Rattle.fields_core.proofs.IdleLemmas.{visited-skip}
-use Rattle.fields_core.proofs.LightCounting.{light-board}
+use Rattle.fields_core.proofs.LightRuleLemmas.{light-board}
 use Rattle.fields_core.proofs.LightSafeCells.{joined-down, safe-moved}
 use Rattle.fields_core.proofs.LightReach.{away-from}
-use Rattle.fields_core.proofs.LightRunBegins.{column-white-start}
-use Rattle.fields_core.proofs.LightSweeps.{lits-are, lits-done, lits-safe, lits-stay, out-idle, planes-next, ready-next, row-lits, row-stays, rows-safe}
-use Rattle.fields_core.proofs.LightRests.{black-idle, column-safe, planes-full}
-use Rattle.fields_core.proofs.RowWords.{row-read, rows-read}
+use Rattle.fields_core.proofs.LightRunOrder.{column-white-start}
+use Rattle.fields_core.proofs.LightSweeps.{black-idle, column-safe, lits-are, lits-done, lits-safe, lits-stay, out-idle, planes-full, planes-next, ready-next, row-lits, row-stays, rows-safe}
+use Rattle.fields_core.proofs.CellLemmas.{row-read, rows-read}
 use Rattle.fields_core.proofs.VisitLemmas.{sweep-broken, sweep-first, sweep-more}
 use Rattle.fields_core.proofs.planes.light_up.light_notes.LightNotes.sweep_cells.Goals as goal
 use Rattle.fields_core.proofs.planes.light_up.light_notes.LightNotes.sweep_cells.Goals.{After-whites-some, After-settle_whites}

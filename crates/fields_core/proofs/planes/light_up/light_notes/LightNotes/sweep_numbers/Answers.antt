@@ -1,5 +1,5 @@
 use Rattle.fields_core.proofs.Common.{Bool, and_parts, arith, cases_Bool, common_steps, false, has, has_bit, lt-ltb, ltb, ltb-true, numbers_of_row, refl, sym, true, ℕ, ◌&&◌, ◌<◌, ◌∙◌, ◌≡◌}
-use Rattle.fields_core.proofs.PassedLines.{fewer-on, from-on, from-off, passed-all, passed-broken, passed-first, passed-next, rest-off, rest-on}
+use Rattle.fields_core.proofs.IdleLemmas.{fewer-on, from-on, from-off, passed-all, passed-broken, passed-first, passed-next, rest-off, rest-on}
 use Rattle.fields_core.proofs.LightSweeps.{planes-next, ready-next}
 use Rattle.fields_core.proofs.planes.light_up.light_notes.LightNotes.sweep_numbers.Goals as goal
 use Rattle.fields_core.proofs.planes.light_up.light_notes.LightNotes.sweep_numbers.Goals.{After-but-left}

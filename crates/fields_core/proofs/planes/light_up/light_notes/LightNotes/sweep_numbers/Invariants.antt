@@ -1,5 +1,5 @@
 use Rattle.fields_core.proofs.Common.{AreLightsReady, AreTablesKept, has_bit, numbers_of_row}
-use Rattle.fields_core.proofs.PassedLines.{ArePassed, places_on}
+use Rattle.fields_core.proofs.IdleLemmas.{ArePassed, places_on}
 use Rattle.fields_core.proofs.planes.light_up.light_notes.LightNotes.sweep_numbers.Given as goal
 
 abbrev pub invariant-loop-left : goal.invariant-loop-left

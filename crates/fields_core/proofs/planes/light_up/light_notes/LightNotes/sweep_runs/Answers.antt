@@ -1,7 +1,7 @@
 use Rattle.fields_core.proofs.Common.{AreVisited, Bool, Light, RunKind, and_parts, arith, cases_Bool, common_steps, false, has, houses_below, light_cells, lt-ltb, ltb-true, refl, run_houses, run_lines, sym, true, ℕ, ◌&&◌, ◌∙◌, ◌≡◌, ◌≤◌}
 use Rattle.fields_core.specs.declared.planes.light_up.waits.RunKind.TheVariants.{Rows, Columns}
-use Rattle.fields_core.proofs.PassedLines.{fewer-on, passed-all, passed-broken, passed-first, rest-on}
-use Rattle.fields_core.proofs.QuietVisits.{quiet-next, singles-quiet}
+use Rattle.fields_core.proofs.IdleLemmas.{fewer-on, passed-all, passed-broken, passed-first, rest-on}
+use Rattle.fields_core.proofs.HouseOrder.{quiet-next, singles-quiet}
 use Rattle.fields_core.proofs.LightSweeps.{planes-next, ready-next, runs-done, runs-single}
 use Rattle.fields_core.proofs.planes.light_up.light_notes.LightNotes.sweep_runs.Goals as goal
 use Rattle.fields_core.proofs.planes.light_up.light_notes.LightNotes.sweep_runs.Goals.{After-settle_runs}

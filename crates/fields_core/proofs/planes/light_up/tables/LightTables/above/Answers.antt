@@ -1,6 +1,6 @@
 use Rattle.fields_core.proofs.Common.{arith, sym, ◌+◌, ◌-◌, ◌∙◌}
 use Rattle.fields_core.proofs.LightReach.{IsLive, live-first, live-more, live-parted}
-use Rattle.fields_core.proofs.RowWords.{rows-read}
+use Rattle.fields_core.proofs.CellLemmas.{rows-read}
 use Rattle.fields_core.proofs.planes.light_up.tables.LightTables.above.Goals as goal
 use Rattle.fields_core.proofs.planes.light_up.tables.LightTables.above.Goals.{After-is_some}
 

@@ -1,8 +1,8 @@
 use Rattle.fields_core.proofs.Common.{Bool, Extent, IsRowOf, ap, arith, cases_Bool, common_steps, is_numbered, length, length-set, ltb, not, white, ◌&&◌, ◌*◌, ◌+◌, ◌<◌, ◌∙◌, ◌≡◌}
-use Rattle.fields_core.proofs.LightCounting.{light-board}
+use Rattle.fields_core.proofs.LightRuleLemmas.{light-board}
 use Rattle.fields_core.proofs.RuleLemmas.{row-blocked, start-all}
 use Rattle.fields_core.proofs.LightRunWords.{rows-written}
-use Rattle.fields_core.proofs.RowWords.{rows-more}
+use Rattle.fields_core.proofs.CellLemmas.{rows-more}
 use Rattle.fields_core.proofs.planes.light_up.tables.LightTables.start_rows.Goals as goal
 
 others : (a b : Bool) → (a && not (a && b)) ≡ (a && not b)

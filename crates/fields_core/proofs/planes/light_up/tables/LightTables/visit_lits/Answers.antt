@@ -1,9 +1,7 @@
 use Rattle.fields_core.proofs.Common.{AreIdle, ArePlanesOf, AreSafe, CountHouse, IsColumnRun, IsRowRun, List, and-true, and_parts, arith, cases_Bool, eqb, eqb-true, false, has, has_bit, inl, inr, joined_in_column, joined_in_row, lit_house, ltb-true, not, or_cases, refl, sym, true, true≢false, ℕ, ◌&&◌, ◌*◌, ◌+◌, ◌<◌, ◌∙◌, ◌≡◌}
-use Rattle.fields_core.proofs.IdleLemmas.{visited-idle}
+use Rattle.fields_core.proofs.IdleLemmas.{fewer-on, passed-all, passed-broken, passed-first, passed-next, rest-off, rest-on, visited-idle}
 use Rattle.fields_core.proofs.LightSafeCells.{column-must, row-moved, row-must, row-two, table-read}
-use Rattle.fields_core.proofs.PassedLines.{fewer-on, passed-all, passed-broken, passed-first, passed-next, rest-off, rest-on}
-use Rattle.fields_core.proofs.LightSweeps.{lit-all, lit-kept, lit-stays, lits-safe, planes-next}
-use Rattle.fields_core.proofs.LightRests.{column-safe, planes-full, row-safe}
+use Rattle.fields_core.proofs.LightSweeps.{column-safe, lit-all, lit-kept, lit-stays, lits-safe, planes-full, planes-next, row-safe}
 use Rattle.fields_core.proofs.planes.light_up.tables.LightTables.visit_lits.Goals as goal
 use Rattle.fields_core.proofs.planes.light_up.tables.LightTables.visit_lits.Goals.{After-either-met, After-without_lowest-left, Joined-has_two, then-has_two, else-has_two}
 

@@ -1,5 +1,5 @@
 use Rattle.fields_core.proofs.Common.{AreSafeInColumns, has, has_bit, lit_house, ◌*◌, ◌+◌}
-use Rattle.fields_core.proofs.PassedLines.{ArePassed, places_on}
+use Rattle.fields_core.proofs.IdleLemmas.{ArePassed, places_on}
 use Rattle.fields_core.proofs.planes.light_up.tables.LightTables.visit_lits.Given as goal
 
 abbrev pub invariant-loop-ones : goal.invariant-loop-ones

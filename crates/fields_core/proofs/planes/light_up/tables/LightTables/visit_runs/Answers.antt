@@ -1,5 +1,5 @@
 use Rattle.fields_core.proofs.Common.{column_runs_of_column, joined_in_column, joined_in_row, map, refl, row_runs_of_row, ◌*◌, ◌+◌, ◌≡◌}
-use Rattle.fields_core.proofs.LightRunBegins.{column-runs-of, column-words, row-runs-of, row-words}
+use Rattle.fields_core.proofs.LightRunOrder.{column-runs-of, column-words, row-runs-of, row-words}
 use Rattle.fields_core.proofs.planes.light_up.tables.LightTables.visit_runs.Goals as goal
 
 pub returns-in-Rows : goal.returns-in-Rows

@@ -1,5 +1,5 @@
 use Rattle.fields_core.proofs.Common.{IsColumnOf, arith, length, length-map, length-set, mod-lt, white, ◌<◌, ◌∙◌, ◌≡◌}
-use Rattle.fields_core.proofs.LightCounting.{light-board}
+use Rattle.fields_core.proofs.LightRuleLemmas.{light-board}
 use Rattle.fields_core.proofs.LightNumberVisits.{columns-more}
 use Rattle.fields_core.proofs.LightRunWords.{column-whites, columns-written}
 use Rattle.fields_core.proofs.planes.light_up.tables.LightTables.write_columns.Goals as goal

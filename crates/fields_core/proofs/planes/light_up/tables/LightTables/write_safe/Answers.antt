@@ -1,7 +1,7 @@
 use Rattle.fields_core.proofs.Common.{AreSafeInColumns, Extent, IsRowOf, ap, arith, bit_of, false, has, length-set, refl, true, white, ℕ, ◌*◌, ◌+◌, ◌-◌, ◌<◌, ◌∙◌, ◌≡◌}
-use Rattle.fields_core.proofs.LightCounting.{light-board}
+use Rattle.fields_core.proofs.LightRuleLemmas.{light-board}
 use Rattle.fields_core.proofs.LightSafeCells.{HaveOneBelow, one-up, two-up, words-set}
-use Rattle.fields_core.proofs.RowWords.{has-at, rows-read}
+use Rattle.fields_core.proofs.CellLemmas.{has-at, rows-read}
 use Rattle.fields_core.proofs.planes.light_up.tables.LightTables.write_safe.Goals as goal
 
 pub loop-y-preserved : goal.loop-y-preserved

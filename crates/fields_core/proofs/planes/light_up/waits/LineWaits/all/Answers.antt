@@ -1,5 +1,5 @@
 use Rattle.fields_core.proofs.Common.{has_bit, lt-ltb, true, ℕ, ◌<◌, ◌∙◌, ◌≡◌}
-use Rattle.fields_core.proofs.LightRests.{lines-all}
+use Rattle.fields_core.proofs.LightSweeps.{lines-all}
 use Rattle.fields_core.proofs.planes.light_up.waits.LineWaits.all.Goals as goal
 
 pub returns : goal.returns

@@ -1,6 +1,6 @@
 use Rattle.fields_core.proofs.Common.{AreLinesOf, eq-eqb, has, light_counts, refl, sym, true≢false, ◌%◌, ◌/◌, ◌∙◌, ◌≡◌}
-use Rattle.fields_core.proofs.LightRests.{lines-at}
-use Rattle.fields_core.proofs.WaitLemmas.{around-some}
+use Rattle.fields_core.proofs.LightSweeps.{lines-at}
+use Rattle.fields_core.proofs.PlaneSweeps.{around-some}
 use Rattle.fields_core.proofs.planes.light_up.waits.LineWaits.begin.Goals as goal
 use Rattle.fields_core.proofs.planes.light_up.waits.LineWaits.begin.Goals.{After-has}
 

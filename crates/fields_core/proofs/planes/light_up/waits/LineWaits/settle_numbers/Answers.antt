@@ -1,5 +1,5 @@
 use Rattle.fields_core.proofs.Common.{refl, sym, ◌∙◌}
-use Rattle.fields_core.proofs.LightRests.{last-settled}
+use Rattle.fields_core.proofs.LightSweeps.{last-settled}
 use Rattle.fields_core.proofs.planes.light_up.waits.LineWaits.settle_numbers.Goals as goal
 
 pub returns-then-not-is_some : goal.returns-then-not-is_some

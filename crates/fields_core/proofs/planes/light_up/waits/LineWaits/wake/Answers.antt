@@ -1,4 +1,4 @@
-use Rattle.fields_core.proofs.LightRests.{lines-woken}
+use Rattle.fields_core.proofs.LightSweeps.{lines-woken}
 use Rattle.fields_core.proofs.planes.light_up.waits.LineWaits.wake.Goals as goal
 
 pub returns : goal.returns

@@ -1,7 +1,7 @@
 use Rattle.fields_core.proofs.Common.{AreTentsRested, AreVisited, Columns, Rows, Squares, Tents, Trees, all_of_kind, arith, fewer_left, has, has_bit, kind_houses, kind_lines, refl, sym, true, ℕ, ◌∙◌, ◌≡◌, ◌≤◌}
 use Rattle.fields_core.specs.declared.planes.tents.waits.Kind.{Kind}
-use Rattle.fields_core.proofs.PassedLines.{passed-all, passed-broken}
-use Rattle.fields_core.proofs.QuietVisits.{quiet-done, quiet-next}
+use Rattle.fields_core.proofs.IdleLemmas.{passed-all, passed-broken}
+use Rattle.fields_core.proofs.HouseOrder.{quiet-done, quiet-next}
 use Rattle.fields_core.proofs.TentWaits.{field-further, kind-each, kind-first, kind-quiet}
 use Rattle.fields_core.proofs.planes.tents.tent_notes.TentNotes.sweep_kind.Goals as goal
 use Rattle.fields_core.proofs.planes.tents.tent_notes.TentNotes.sweep_kind.Goals.{After-settle, else-len, then-len}

@@ -1,5 +1,5 @@
 use Rattle.fields_core.proofs.Common.{count_below, has_bit, kind_houses, kind_lines, ◌≡◌}
-use Rattle.fields_core.proofs.PassedLines.{ArePassed}
+use Rattle.fields_core.proofs.IdleLemmas.{ArePassed}
 use Rattle.fields_core.proofs.planes.tents.tent_notes.TentNotes.sweep_kind.Given as goal
 
 abbrev pub invariant-loop-left : goal.invariant-loop-left

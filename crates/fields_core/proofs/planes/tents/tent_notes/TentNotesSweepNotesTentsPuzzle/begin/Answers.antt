@@ -1,4 +1,4 @@
-use Rattle.fields_core.proofs.TentPlanes.{field-of}
+use Rattle.fields_core.proofs.TentWaits.{field-of}
 use Rattle.fields_core.proofs.planes.tents.tent_notes.TentNotesSweepNotesTentsPuzzle.begin.Goals as goal
 
 pub returns-clause-ready : goal.returns-clause-ready

@@ -1,5 +1,5 @@
 use Rattle.fields_core.proofs.Common.{Rows, Squares, Trees, all_of_kind, refl, ◌++◌}
-use Rattle.fields_core.proofs.TentPlanes.{houses-swept}
+use Rattle.fields_core.proofs.TentWaits.{houses-swept}
 use Rattle.fields_core.proofs.VisitLemmas.{visited-dead, visited-more}
 use Rattle.fields_core.proofs.planes.tents.tent_notes.TentNotesSweepNotesTentsPuzzle.sweep.Goals as goal
 

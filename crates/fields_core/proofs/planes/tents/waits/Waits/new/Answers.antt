@@ -1,6 +1,6 @@
 use Rattle.fields_core.proofs.Common.{AreLinesOf, eq-eqb, has, refl, sym, tent_counts, true≢false, ◌%◌, ◌/◌, ◌∙◌}
 use Rattle.fields_core.proofs.TentWaits.{place-in_planes, rested-at}
-use Rattle.fields_core.proofs.WaitLemmas.{around-some}
+use Rattle.fields_core.proofs.PlaneSweeps.{around-some}
 use Rattle.fields_core.proofs.planes.tents.waits.Waits.new.Goals as goal
 use Rattle.fields_core.proofs.planes.tents.waits.Waits.new.Goals.{After-one-2}
 
