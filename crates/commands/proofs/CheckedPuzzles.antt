@@ -10,8 +10,8 @@ use Rattle.gameid_core.specs.FirstFailed.{IsAnswerOfCheck, NoneFails}
 use Rattle.fields_core.proofs.LightRuleLemmas as light
 use Rattle.fields_core.proofs.TentRuleLemmas as tents
 use Rattle.fields_core.specs.LightFaults.{FailsLight, light_tests}
-use Rattle.fields_core.specs.TentFaults.{FailsTents, tent_tests}
-use Rattle.pattern_core.specs.Faults.{FailsPattern, pattern_tests}
+use Rattle.fields_core.specs.TentSolutions.{FailsTents, tent_tests}
+use Rattle.pattern_core.specs.Solutions.{FailsPattern, pattern_tests}
 use Rattle.solo_core.specs.Faults.{FailsSolo, given_tests, house_tests}
 use Rattle.pattern_core.proofs.FaultLemmas.{pattern_known, pattern_none, pattern_sound}
 use Rattle.solo_core.proofs.RepeatLemmas.{solo_known, solo_none, solo_sound}

@@ -51,11 +51,11 @@ pub use Rattle.maker_core.proofs.Common.{range_with_len, recursion_from_All, rep
 unfoldable pub use Rattle.maker_core.proofs.Common.{black_cells, bulbs_after, lights_of, lines_of_groups, reasons_from, stream_after, white, white_places}
 pub use Rattle.maker_core.proofs.Shuffles.{IsShuffledOrder, draw_is, order_is, swaps_are, words_later}
 pub use Rattle.maker_core.specs.Draws.{IsFirstPassing, Making, NonePasses, filling_at, shuffled_list}
-pub use Rattle.maker_core.specs.LightClues.{SameLight, light_game, number_clue}
-pub use Rattle.maker_core.specs.LightFilling.{light_passes}
-unfoldable pub use Rattle.maker_core.specs.LightFilling.{light_filling, light_puzzle_of, lit_up, with_numbers}
+pub use Rattle.maker_core.specs.LightMaking.{SameLight, light_game, number_clue}
+pub use Rattle.maker_core.specs.LightMaking.{light_passes}
+unfoldable pub use Rattle.maker_core.specs.LightMaking.{light_filling, light_puzzle_of, lit_up, with_numbers}
 pub use Rattle.maker_core.specs.Made.{HasOne, IsOnlySolution, is_one}
-pub use Rattle.maker_core.specs.SoloClues.{SameSolo, solo_game}
+pub use Rattle.maker_core.specs.SoloMaking.{SameSolo, solo_game}
 pub use Rattle.maker_core.specs.SoloFilling.{all_given, line_order, plain_filling}
 pub use Rattle.maker_core.specs.SoloMaking.{IsSoloMade, IsSoloSize, IsSoloUnmade, solo_filling, solo_passes}
 pub use Rattle.maker_core.specs.Thinning.{IsReason}
@@ -63,7 +63,7 @@ pub use Rattle.maker_core.specs.declared.made.Kept.{Kept}
 pub use Rattle.commands.specs.Allowed.{Allows, AllowsCheck, AllowsGrade, AllowsId, AllowsMade, AllowsOfSize, AllowsSolve, IsGraded, IsHandedOut, IsSolved}
 pub use Rattle.commands.specs.Allowed.{handed_out, wanted}
 pub use Rattle.commands.specs.Answers.{Answer, Begins, BeginsAnswer, Delivers, IsInput, PutBegun, PutUpTo, Text, answer_with, code_of, status_of}
-pub use Rattle.commands.specs.Asked.{Asked, check, generate, grade, solve}
+pub use Rattle.commands.specs.Answers.{Asked, check, generate, grade, solve}
 pub use Rattle.commands.specs.Batches.{AllowsTask, Batched, Gathered, Holds, IsLine, TakesTask}
 pub use Rattle.commands.specs.CheckAnswers.{AllowsGrid, IsInputOf, SaysFault, begins_with_line_end, checked}
 unfoldable pub use Rattle.commands.specs.CheckAnswers.{without_returns}

@@ -10,7 +10,7 @@ use Rattle.maker_core.proofs.FirstTries.{one_is}
 use Rattle.maker_core.proofs.PatternMakings.{pattern_solved}
 use Rattle.maker_core.proofs.TentsSolved.{filling_at_solves, tents_size}
 use Rattle.maker_core.specs.PatternMaking.{clued_by, pattern_filling, pattern_passes}
-use Rattle.maker_core.specs.TentFilling.{tent_filling, tents_pass, tents_puzzle_of}
+use Rattle.maker_core.specs.TentMaking.{tent_filling, tents_pass, tents_puzzle_of}
 use Rattle.commands.proofs.Readings.{both_answers, id_some, one_of_same, size_reading}
 
 module _ {P : Type 0} {play : PuzzleFacts P} {alike : P → P → Type 0} where

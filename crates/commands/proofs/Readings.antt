@@ -4,7 +4,7 @@ use Rattle.gameid_core.specs.Steps.{Fails}
 use Rattle.std.proofs.Math.Seq.{drop-append_seam, drop-cons}
 use Rattle.std.proofs.lemmas.Fmt.{decimal_digit, decimal_step}
 use Rattle.std.specs.Char.{is_ascii_digit}
-use Rattle.gameid_core.specs.GridReading.{Follows}
+use Rattle.gameid_core.specs.GridTexts.{Follows}
 use Rattle.gameid_core.specs.Words.{begins, digits_front, value}
 use Rattle.gameid_core.specs.LightText.{light_symbol}
 use Rattle.gameid_core.proofs.PrintedGrids.{Left, LeftOf, after_cell, all_left, all_rows_left, cell_follows, in_grid, next_row, none_left, row_first}

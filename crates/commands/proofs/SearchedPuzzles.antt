@@ -4,7 +4,7 @@ use Rattle.std.proofs.lemmas.Nat.{mod_below}
 use Rattle.rand_core.specs.Steps.{stream_of}
 use Rattle.rand_chacha.specs.Block.{block_word}
 use Rattle.rand_chacha.specs.ChaCha.{ChaCha, next_word}
-use Rattle.commands.specs.Seeds.{seed_stream}
+use Rattle.commands.specs.Makings.{seed_stream}
 use Rattle.solo_core.specs.RuleLaws.{crossings_lawful, singles_lawful}
 use Rattle.engine_core.specs.HouseRules.{House}
 use Rattle.fields_core.proofs.LightRuleLemmas.{light-lawful}

@@ -2,16 +2,14 @@
 use Rattle.std.specs.Prelude.{◌⊎◌, Result, Ok, ◌≡◌, List, ℕ, Bool, is_ok, true, false, Option, Some, None}
 use Rattle.std.specs.Str.Lines.{lines}
 use Rattle.commands.specs.Common.{IsRight, IdFault, Game, SizeRead, verdict_of}
-use Rattle.commands.specs.Answers.{Answer, Text}
-use Rattle.commands.specs.Asked.{Asked, solve, check, grade, generate}
+use Rattle.commands.specs.Answers.{Answer, Asked, Text, check, generate, grade, solve}
 use Rattle.commands.specs.CheckAnswers.{AllowsGrid}
 use Rattle.commands.specs.Each.{AllowsEach}
 use Rattle.commands.specs.Games.{game_of}
 use Rattle.commands.specs.Grades.{IsRightGrade, NamedRules, SaysGrade, last_tried, listed_grade}
-use Rattle.commands.specs.Makings.{MadePuzzle, Wanted, exhausted_answer, made_answer}
+use Rattle.commands.specs.Makings.{MadePuzzle, Wanted, exhausted_answer, made_answer, seed_stream}
 use Rattle.commands.specs.PuzzleFacts.{GameFacts, PuzzleFacts, printed_by}
 use Rattle.commands.specs.Replies.{IsRefused, refused_words, verdict_answer}
-use Rattle.commands.specs.Seeds.{seed_stream}
 use Rattle.commands.specs.declared.grade.GradeOptions.{GradeOptions}
 
 -- the text spells that puzzle, and the answer is allowed for it

@@ -1,11 +1,13 @@
--- A text with its status, and which of them a run may leave.
-use Rattle.std.specs.Prelude.{◌≡◌, ◌*◌, ◌<◌, ℕ, Bool, true, false, List, ◌++◌, String, Vec, max, string_bytes}
+-- A text with its status, which of them a run may leave, and what a run is asked for.
+use Rattle.std.specs.Prelude.{Bool, List, Option, String, Vec, false, max, string_bytes, true, ℕ, ◌*◌, ◌++◌, ◌<◌, ◌≡◌}
 use Rattle.commands.specs.Common.{Extent, IsGrid}
 use Rattle.commands.specs.declared.answers.status.Status.{Status}
-use Rattle.commands.specs.declared.answers.status.Status.TheVariants.{Fine, Wrong, Refused, Several, GaveUp}
+use Rattle.commands.specs.declared.answers.status.Status.TheVariants.{Fine, GaveUp, Refused, Several, Wrong}
 use Rattle.commands.specs.declared.answers.status.Stop.{Stop}
-use Rattle.commands.specs.declared.answers.status.Stop.TheVariants.{Memory, Broken}
+use Rattle.commands.specs.declared.answers.status.Stop.TheVariants.{Broken, Memory}
+use Rattle.gameid_core.specs.declared.id.game.Game.{Game}
 
+-- A text with its status, and which of them a run may leave.
 abbrev pub Text : Type 0
 Text = List ℕ
 
@@ -80,3 +82,15 @@ pub record Delivers {S : Type 0} (takes : S → Text → S → Type 0) (old : S)
   pub took : takes old written new
   pub begun : Begins written a.text
   pub whole : status < status_of Memory → (written ≡ a.text) × (status ≡ a.status)
+
+-- What a run is asked for.
+-- a request, apart from where its texts lie in memory
+pub data Asked : Type 0 where
+  -- game, ID where there is one, budget
+  solve : Game → Option Text → ℕ → Asked
+  -- game, ID
+  check : Game → Text → Asked
+  -- game, ID, budget, whether the trace is wanted
+  grade : Game → Text → ℕ → Bool → Asked
+  -- game, size, seed, budget, tries, percentage of black
+  generate : Game → Text → ℕ → ℕ → ℕ → ℕ → Asked

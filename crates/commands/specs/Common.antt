@@ -6,17 +6,17 @@ pub use Rattle.engine_core.specs.Walk.{IsFound, Mark, walk}
 pub use Rattle.fields_core.specs.LightFaults.{IsLightFault}
 pub use Rattle.fields_core.specs.LightHouses.{light_rules}
 pub use Rattle.fields_core.specs.LightSolutions.{IsLightSolution}
-pub use Rattle.fields_core.specs.TentFaults.{IsTentFault}
+pub use Rattle.fields_core.specs.TentSolutions.{IsTentFault}
 pub use Rattle.fields_core.specs.TentHouses.{tent_rules}
 pub use Rattle.fields_core.specs.TentSolutions.{IsTentSolution}
-pub use Rattle.gameid_core.specs.GridReading.{IsAsShown, IsPrinted, hides_nothing}
+pub use Rattle.gameid_core.specs.GridTexts.{IsAsShown, IsPrinted, hides_nothing}
 pub use Rattle.gameid_core.specs.GridTexts.{grid_text}
 pub use Rattle.gameid_core.specs.TentsText.{tent_hides, tents_cell}
 pub use Rattle.gameid_core.specs.SoloText.{solo_cell, solo_extent}
 pub use Rattle.gameid_core.specs.PatternText.{pattern_cell}
 pub use Rattle.gameid_core.specs.LightText.{light_hides, light_cell}
 pub use Rattle.gameid_core.specs.Head.{SizeRead, extent_of, in_range, max_id, max_numbers, size_of}
-pub use Rattle.gameid_core.specs.OneText.{HasOneReading}
+pub use Rattle.gameid_core.specs.IdTexts.{HasOneReading}
 pub use Rattle.grid_core.specs.Lines.{lines_of}
 pub use Rattle.gameid_core.specs.Puzzles.{IsLight, IsPattern, IsSolo, IsTents, Light, Pattern, Solo, Tents, solo_n}
 pub use Rattle.gameid_core.specs.declared.id.fault.IdFault.{IdFault}
@@ -26,7 +26,7 @@ pub use Rattle.grid_core.specs.Extent.{Extent, IsExtent, max_side}
 pub use Rattle.grid_core.specs.Grids.{IsGrid}
 pub use Rattle.maker_core.specs.SoloMaking.{IsSoloMade, NoneFound}
 pub use Rattle.maker_core.specs.declared.made.Kept.{Kept}
-pub use Rattle.pattern_core.specs.Faults.{IsPatternFault}
+pub use Rattle.pattern_core.specs.Solutions.{IsPatternFault}
 pub use Rattle.pattern_core.specs.LineLaws.{has_runs-from, has_runs-is, is_solution-from, is_solution-is, line_of_solution, line_rules-lawful, solution_from_lines}
 pub use Rattle.pattern_core.specs.LineRules.{line_rules}
 pub use Rattle.pattern_core.specs.Solutions.{IsPatternSolution}

@@ -4,18 +4,16 @@ use Rattle.std.specs.Prelude.{◌≡◌, ◌↔◌, ◌⊎◌, ℕ, Bool, Some, 
 use Rattle.gameid_core.specs.declared.id.game.Game.TheVariants as game
 use Rattle.gameid_core.specs.LightText.{SpellsLight}
 use Rattle.gameid_core.specs.SoloText.{SpellsSolo}
-use Rattle.maker_core.specs.LightClues.{SameLight, light_game}
-use Rattle.maker_core.specs.LightMaking.{IsLightMade}
-use Rattle.maker_core.specs.SoloClues.{solo_game, SameSolo}
+use Rattle.maker_core.specs.LightMaking.{IsLightMade, SameLight, light_game}
+use Rattle.maker_core.specs.SoloMaking.{solo_game, SameSolo}
 use Rattle.maker_core.specs.declared.made.Why.TheVariants.{Needed}
 use Rattle.commands.specs.Common.{Stream, Extent, Game, IsPrinted, Light, Solo, IsSoloMade, Kept}
-use Rattle.commands.specs.Answers.{Answer, Text, Begins, code_of}
+use Rattle.commands.specs.Answers.{Answer, Asked, Begins, Text, check, code_of, generate, grade, solve}
 use Rattle.commands.specs.Games.{game_of, puzzle_of}
 use Rattle.commands.specs.LightFacts.{light_facts}
 use Rattle.commands.specs.PuzzleFacts.{GameFacts, PuzzleFacts}
 use Rattle.commands.specs.SoloFacts.{solo_facts}
 use Rattle.commands.specs.Allowed.{Allows, AllowsCheck, AllowsSolve, AllowsGrade, is_read, AllowsMade, handed_out, wanted}
-use Rattle.commands.specs.Asked.{Asked, solve, check, grade, generate}
 use Rattle.commands.specs.Each.{HasAnswers}
 use Rattle.commands.specs.CheckAnswers.{checked, without_returns}
 use Rattle.commands.specs.Replies.{gave_up_answer, one_answer, several_answer}

@@ -1,8 +1,7 @@
 pub mod Common
-pub mod Ends
+pub mod Runs
 pub mod Answers
 pub mod Texts
-pub mod Runs
 pub mod Stops
 pub mod Traces
 pub mod TracePieces
@@ -10,7 +9,6 @@ pub mod Grades
 pub mod Replies
 pub mod Each
 pub mod CheckAnswers
-pub mod Seeds
 pub mod Makings
 pub mod PuzzleFacts
 pub mod LightFacts
@@ -19,7 +17,6 @@ pub mod SoloFacts
 pub mod TentsFacts
 pub mod Games
 pub mod Unmade
-pub mod Asked
 pub mod Allowed
 pub mod Batches
 pub mod LawsOfCommands

@@ -4,8 +4,7 @@ use Rattle.fields_core.specs.declared.light_up.fault.LightFault.{LightFault}
 use Rattle.fields_core.specs.declared.light_up.fault.LightFault.TheVariants as light
 use Rattle.gameid_core.specs.LightText.{SpellsLight, light_of, light_text}
 use Rattle.gameid_core.specs.declared.id.game.Game.TheVariants as game
-use Rattle.maker_core.specs.LightFilling.{light_filling, light_passes}
-use Rattle.maker_core.specs.LightMaking.{IsLightMade}
+use Rattle.maker_core.specs.LightMaking.{IsLightMade, light_filling, light_passes}
 use Rattle.maker_core.specs.Draws.{NonePasses}
 use Rattle.commands.specs.Common.{IsLightFault, IsLightSolution, Light, extent_of, light_cell, light_hides, light_rules, size_of}
 use Rattle.commands.specs.Answers.{Text}

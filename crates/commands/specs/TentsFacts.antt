@@ -6,8 +6,7 @@ use Rattle.gameid_core.specs.Steps.{◌>>=◌}
 use Rattle.gameid_core.specs.TentsText.{SpellsTents, tents_of, tents_text}
 use Rattle.gameid_core.specs.declared.id.fault.IdFault.TheVariants.{SizeRange}
 use Rattle.gameid_core.specs.declared.id.game.Game.TheVariants as game
-use Rattle.maker_core.specs.TentFilling.{tent_filling, tents_pass}
-use Rattle.maker_core.specs.TentMaking.{IsTentsMade}
+use Rattle.maker_core.specs.TentMaking.{IsTentsMade, tent_filling, tents_pass}
 use Rattle.maker_core.specs.Draws.{NonePasses}
 use Rattle.commands.specs.Common.{IdFault, IsTentFault, IsTentSolution, SizeRead, Tents, extent_of, size_of, tent_hides, tent_rules, tents_cell}
 use Rattle.commands.specs.Answers.{Text}

@@ -19,7 +19,7 @@ pub use Rattle.engine_core.specs.RuleSystem.{IsBoardOf, RuleSystem}
 unfoldable pub use Rattle.engine_core.specs.RuleSystem.{after, has_place}
 pub use Rattle.engine_core.specs.Sets.{IsBitsOf, has_bit}
 unfoldable pub use Rattle.engine_core.specs.Sets.{set_of_bits}
-pub use Rattle.engine_core.specs.Waiting.{AreWoken}
+pub use Rattle.engine_core.specs.Sets.{AreWoken}
 pub use Rattle.pattern_core.specs.LineRules.{line_rules}
 pub use Rattle.core_tests.specs.Neighbours.{differ, neighbours}
 unfoldable pub use Rattle.core_tests.specs.Neighbours.{is_row}

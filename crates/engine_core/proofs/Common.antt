@@ -53,7 +53,7 @@ pub use Rattle.engine_core.specs.Frames.{AreGrids, AreReady, AreSolutions, IsFul
 pub use Rattle.engine_core.specs.Frames.{first_of, found_marks, frame_at, level_at, marks_at, marks_of, own_grid, pending_in, pending_of, retried_at}
 pub use Rattle.engine_core.specs.Frames.{second_of, walk_of}
 unfoldable pub use Rattle.engine_core.specs.Frames.{levels_of, singles}
-pub use Rattle.engine_core.specs.HouseIndex.{AreMarked, AreMarksAt, AreScopes, HasMarked, IsScope, Table, place_bit, scope_of}
+pub use Rattle.engine_core.specs.HouseList.{AreMarked, AreMarksAt, AreScopes, HasMarked, IsScope, Table, place_bit, scope_of}
 pub use Rattle.engine_core.specs.HouseList.{FitsPlaces, IsListed, Listed, listed}
 pub use Rattle.engine_core.specs.HouseRulesLaws.{bound_enough, by_houses-lawful, counted_twice, from_first}
 pub use Rattle.engine_core.specs.HouseSets.{AreDifferent, Decision}
@@ -67,19 +67,19 @@ pub use Rattle.engine_core.specs.Queue.{IsQueuedAround, IsRested, IsWoken, calle
 unfoldable pub use Rattle.engine_core.specs.Queue.{but, counts_of, visits_left, woken}
 pub use Rattle.engine_core.specs.RuleSystem.{IsBoardOf, IsClosed, IsClosedGrid, IsGridOf, IsIdle, IsInsideAt, IsLawful, IsNext, Needs, RuleSystem}
 unfoldable pub use Rattle.engine_core.specs.RuleSystem.{after, has_place, longest, share}
-pub use Rattle.engine_core.specs.Search.{Level}
-unfoldable pub use Rattle.engine_core.specs.Search.{branches_from, pending}
+pub use Rattle.engine_core.specs.Frames.{Level}
+unfoldable pub use Rattle.engine_core.specs.Frames.{branches_from, pending}
 pub use Rattle.engine_core.specs.Sets.{IsBitsOf, IsChange, has_bit}
 pub use Rattle.engine_core.specs.Stored.{IsAnswer, is_settled}
 pub use Rattle.engine_core.specs.Trail.{AreLost, IsTrail, IsTrailBack, IsTrailLonger, Trail, back_at, change_at, given_back, is_since}
 unfoldable pub use Rattle.engine_core.specs.Trail.{left_by, put_back}
-pub use Rattle.engine_core.specs.TrailPosition.{GoesOn, IsAlong, Placed, board_in}
-unfoldable pub use Rattle.engine_core.specs.Trials.{trials_of}
+pub use Rattle.engine_core.specs.Trail.{GoesOn, IsAlong, Placed, board_in}
+unfoldable pub use Rattle.engine_core.specs.Counts.{trials_of}
 pub use Rattle.engine_core.specs.Verdict.{IsTrueOf, Outcome, Outcome.GaveUp, Outcome.NoSolution, Outcome.OneSolution, Outcome.SeveralSolutions, Solves}
 pub use Rattle.engine_core.specs.Verdict.{says_counts, spent_of, tried_of, verdict_of}
 unfoldable pub use Rattle.engine_core.specs.Verdict.{before_grid, before_second, grids_in, outcome, spent, trials_in, tried, within_budget}
-pub use Rattle.engine_core.specs.Waiting.{AreWoken, AreWokenAt, words_of}
-unfoldable pub use Rattle.engine_core.specs.Waiting.{is_waiting}
+pub use Rattle.engine_core.specs.Sets.{AreWoken, AreWokenAt, words_of}
+unfoldable pub use Rattle.engine_core.specs.Sets.{is_waiting}
 pub use Rattle.engine_core.specs.Walk.{AreFoundOnce, IsFewest, IsFound, IsPick, Mark, Mark.Found, Mark.Trial}
 unfoldable pub use Rattle.engine_core.specs.Walk.{at_cell, branch_at, branches, walk, walk_closed, walk_to}
 pub use Rattle.engine_core.specs.declared.mode.Closing.TheVariants.{Dead, Open}

@@ -6,7 +6,7 @@ use Rattle.engine_core.specs.Closing.{HasStruck}
 use Rattle.engine_core.specs.ClosingList.{IsClosing}
 use Rattle.engine_core.specs.Keeping.{AreHeadSets, AreSetsOf}
 use Rattle.engine_core.specs.Queue.{IsWoken, but, called_for}
-use Rattle.engine_core.specs.Waiting.{AreWoken, words_of, is_waiting}
+use Rattle.engine_core.specs.Sets.{AreWoken, words_of, is_waiting}
 use Rattle.engine_core.specs.declared.closing.closer.Effect.{Effect}
 use Rattle.engine_core.specs.declared.search.position.Taken.{Taken}
 

@@ -17,7 +17,7 @@ unfoldable pub use Rattle.engine_core.specs.Frames.{singles}
 pub use Rattle.engine_core.specs.HouseSets.{AreBelow, AreBitsAt, AreDifferent}
 unfoldable pub use Rattle.engine_core.specs.HouseSets.{kept_in, sets_at}
 pub use Rattle.engine_core.specs.Keeping.{AreHeadSets, AreSets, AreSetsOf, HasSetRoom, IsFiltered, IsKept, IsKeptOf, StillServes}
-pub use Rattle.engine_core.specs.ListedHouses.{AreScopesOf, most_turns, table_of}
+pub use Rattle.engine_core.specs.HouseList.{AreScopesOf, most_turns, table_of}
 pub use Rattle.engine_core.specs.Mode.{is_queue}
 pub use Rattle.engine_core.specs.Needs.{needs_in}
 pub use Rattle.engine_core.specs.Position.{IsClosedBut, IsFull, IsOnward, IsReturned, IsTaken, IsTakenTo, Room, Standing, is_solved, most_changes, own_grid}
@@ -30,11 +30,11 @@ unfoldable pub use Rattle.engine_core.specs.Sets.{set_of_bits}
 pub use Rattle.engine_core.specs.Stored.{IsClosingOf, IsAnswer, IsAnswerOf, IsUnsearched, Stored, is_settled, sizes_of}
 pub use Rattle.engine_core.specs.Trail.{KeepsChanges, IsTrailBack, IsTrailLonger, IsStruck, IsTrail, Trail, back_at, change_at, is_since}
 unfoldable pub use Rattle.engine_core.specs.Trail.{left_by}
-pub use Rattle.engine_core.specs.TrailPosition.{AreHousesRested, AreRestedBut, AreWokenSince, GoesOn, IsAlong, IsPlaced, IsStep, IsTrailUnderWay, Placed, board_in, standing_of}
+pub use Rattle.engine_core.specs.Trail.{AreHousesRested, AreRestedBut, AreWokenSince, GoesOn, IsAlong, IsPlaced, IsStep, IsTrailUnderWay, Placed, board_in, standing_of}
 pub use Rattle.engine_core.specs.Verdict.{HasTwo, IsTrueOf, Solves, said_by_counts, says_counts, spent_by_counts, spent_of, tried_of, verdict_of}
 unfoldable pub use Rattle.engine_core.specs.Verdict.{before_second, grids_in, outcome, spent, trials_in, tried, within_budget}
-pub use Rattle.engine_core.specs.Waiting.{AreWoken, AreWokenAt, words_of}
-unfoldable pub use Rattle.engine_core.specs.Waiting.{is_waiting}
+pub use Rattle.engine_core.specs.Sets.{AreWoken, AreWokenAt, words_of}
+unfoldable pub use Rattle.engine_core.specs.Sets.{is_waiting}
 pub use Rattle.engine_core.specs.Walk.{AreFoundOnce, GoesOnFromClosure, IsFound, IsPick, Mark}
 unfoldable pub use Rattle.engine_core.specs.Walk.{walk, walk_closed}
 pub use Rattle.engine_core.specs.declared.mode.Closing.TheVariants.{Dead, Open}

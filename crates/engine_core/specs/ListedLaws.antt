@@ -1,9 +1,8 @@
 -- A puzzle of houses has the places of its houses listed.
 use Rattle.engine_core.specs.Below.{common_steps, length-map, sum_by-cons}
 use Rattle.std.proofs.Common.{◌≡◌, ℕ, zero, suc, ◌+◌, ◌*◌, true, List, [], ◌∷◌, length, refl, ap, ◌∙◌, arith, sum_by}
-use Rattle.engine_core.specs.HouseIndex.{scope_of}
+use Rattle.engine_core.specs.HouseList.{AreScopesOf, all_places, most_turns, scope_of}
 use Rattle.engine_core.specs.HouseRules.{House, Setting, by_houses, house_of, visits_of}
-use Rattle.engine_core.specs.ListedHouses.{AreScopesOf, all_places, most_turns}
 
 scope-at : (houses : List House) (h : ℕ) → scope_of (all_places houses) h ≡ (house_of houses h).places
 scope-at [] h = refl

@@ -77,31 +77,31 @@ unfoldable pub use Rattle.fields_core.specs.Light.{solves_lights, white}
 pub use Rattle.fields_core.specs.LightFaults.{FailsLight, IsLightFault, light_tests}
 pub use Rattle.fields_core.specs.LightHouses.{column_house, light_counts, light_house, light_rules, lit_house, number_house, row_house}
 unfoldable pub use Rattle.fields_core.specs.LightHouses.{begins_column_run, begins_row_run, column_run, light_houses, row_run, seen_from}
-pub use Rattle.fields_core.specs.LightLonely.{asks, lonely}
+pub use Rattle.fields_core.specs.LightRuns.{asks, lonely}
 pub use Rattle.fields_core.specs.LightPlanes.{ArePlanesOf, AreTablesKept}
 pub use Rattle.fields_core.specs.LightRunLines.{AreAround, AreRunsOf, IsClash, IsRunOf, column_runs_of_column}
-pub use Rattle.fields_core.specs.LightRunWords.{AreFilled, AreWritten, IsRunAt}
+pub use Rattle.fields_core.specs.LightRuns.{AreFilled, AreWritten, IsRunAt}
 pub use Rattle.fields_core.specs.LightRuns.{IsAround, IsLatest, begins_at, line_cells, line_white, run_house}
-pub use Rattle.fields_core.specs.LightSight.{RunsBack, RunsOn, SeesAlong, ShinesAlong}
+pub use Rattle.fields_core.specs.LightRuns.{RunsBack, RunsOn, SeesAlong, ShinesAlong}
 pub use Rattle.fields_core.specs.LightSolutions.{AreJoined, IsFromTo, IsLightSolution, Sees, SeesBulb, light_column, light_row}
 pub use Rattle.fields_core.specs.LightWaits.{AreColumnsParted, AreIdleBut, AreLightsReady, AreLinesRested, AreLinesWoken, AreParted, AreSafe}
 pub use Rattle.fields_core.specs.LightWaits.{AreSafeInColumns, AreWhitesIdleBut, IsAway, IsReach, lits_of_row, run_houses, run_lines, waiting_runs}
 pub use Rattle.fields_core.specs.LightWaits.{white_houses}
-pub use Rattle.fields_core.specs.LightWords.{IsColumnRun, IsRowRun, has_number, numbers_of_row, row_runs_of_row}
-unfoldable pub use Rattle.fields_core.specs.LightWords.{is_numbered}
+pub use Rattle.fields_core.specs.LightPlanes.{IsColumnRun, IsRowRun, has_number, numbers_of_row, row_runs_of_row}
+unfoldable pub use Rattle.fields_core.specs.LightPlanes.{is_numbered}
 pub use Rattle.fields_core.specs.LineWords.{AreRowsOf, AreSpread, IsColumnOf, IsRowIn, IsRowOf}
 pub use Rattle.fields_core.specs.Parts.{ArePartsCounted, ArePieces, ArePlanesAlive, IsBroken, IsCount, IsHouseOf, Piece, piece_at}
 unfoldable pub use Rattle.fields_core.specs.Parts.{lies_in, lies_in_first, without_value}
 pub use Rattle.fields_core.specs.Sweeps.{IsSweep, swept_by}
-pub use Rattle.fields_core.specs.Tallies.{IsTally, stays}
-pub use Rattle.fields_core.specs.TentFaults.{FailsTents, IsTentFault, tent_tests}
+pub use Rattle.fields_core.specs.Count.{IsTally, stays}
+pub use Rattle.fields_core.specs.TentSolutions.{FailsTents, IsTentFault, tent_tests}
 pub use Rattle.fields_core.specs.TentHouses.{column_of_tents, free_beside, row_of_tents, square_house, tent_counts, tent_house, tent_rules, tree_house}
 unfoldable pub use Rattle.fields_core.specs.TentHouses.{is_barred, tent_houses}
-pub use Rattle.fields_core.specs.TentNotes.{AreTentsWritten, IsFieldOf}
+pub use Rattle.fields_core.specs.TentWaits.{AreTentsWritten, IsFieldOf}
 pub use Rattle.fields_core.specs.TentPairs.{AreIn, tree_beside, tree_count, trees_of}
 unfoldable pub use Rattle.fields_core.specs.TentPairs.{may_pair}
 pub use Rattle.fields_core.specs.TentSolutions.{IsPairedBy, IsTentSolution}
-pub use Rattle.fields_core.specs.TentSquares.{squares_of_row, two_rows}
+pub use Rattle.fields_core.specs.TentTrees.{squares_of_row, two_rows}
 pub use Rattle.fields_core.specs.TentTouching.{IsTentAmong, IsWindow}
 pub use Rattle.fields_core.specs.TentTrees.{AreBare, IsNear, trees_of_row}
 unfoldable pub use Rattle.fields_core.specs.TentTrees.{is_beside, wants_tent}

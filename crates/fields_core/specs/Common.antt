@@ -33,32 +33,32 @@ pub use Rattle.fields_core.specs.LightFaults.{IsLightFault}
 pub use Rattle.fields_core.specs.LightHouses.{AddsAll, AddsHouse, AreLightNames, column_house, house_at, in_grid, in_rows, light_counts, light_house, light_rules, lit_house, number_house}
 pub use Rattle.fields_core.specs.LightHouses.{row_house}
 unfoldable pub use Rattle.fields_core.specs.LightHouses.{light_houses}
-pub use Rattle.fields_core.specs.LightLonely.{asks, lonely}
+pub use Rattle.fields_core.specs.LightRuns.{asks, lonely}
 pub use Rattle.fields_core.specs.LightPlanes.{AreLightsWritten, ArePlanesOf, AreRowTables, AreTables, AreTablesKept, HasLightRoom, HasTables}
 pub use Rattle.fields_core.specs.LightRunLines.{AreAround, AreAroundAlong, AreRunsOf, AreRunsVisited, IsClash, ReachesAlong, ReachesMarked, along}
-pub use Rattle.fields_core.specs.LightRunWords.{AreFilled, AreRunsWritten, AreWritten, IsFilledIn}
+pub use Rattle.fields_core.specs.LightRuns.{AreFilled, AreRunsWritten, AreWritten, IsFilledIn}
 pub use Rattle.fields_core.specs.LightRuns.{AddsRun, IsAround, IsLatest, IsLine, TellsRun, house_along, line_cells, whites_of}
-pub use Rattle.fields_core.specs.LightSight.{RunsOn, ShinesAlong, ShinesInLine}
+pub use Rattle.fields_core.specs.LightRuns.{RunsOn, ShinesAlong, ShinesInLine}
 pub use Rattle.fields_core.specs.LightSolutions.{IsLightSolution}
 pub use Rattle.fields_core.specs.LightWaits.{AreAlwaysRested, AreColumnsPartedFrom, AreIdleBut, AreLightsReady, AreLinesRested, AreLinesWoken, AreLinesWokenSince, AreNumbersSettled, AreRowsSafe, AreRunLines, AreSafeInColumns, AreThoseMet}
 pub use Rattle.fields_core.specs.LightWaits.{AreSettled, AreWhitesIdleBut, all_runs, lits_of_row, meets_line, run_houses, run_lines, waiting_runs}
 pub use Rattle.fields_core.specs.LightWaits.{white_houses}
-pub use Rattle.fields_core.specs.LightWords.{numbers_of_row}
-unfoldable pub use Rattle.fields_core.specs.LightWords.{is_numbered}
+pub use Rattle.fields_core.specs.LightPlanes.{numbers_of_row}
+unfoldable pub use Rattle.fields_core.specs.LightPlanes.{is_numbered}
 pub use Rattle.fields_core.specs.LineWords.{AreRowsOf, AreSpread, IsRowIn, IsRowOf}
 pub use Rattle.fields_core.specs.Parts.{ArePieces, ArePlanesAlive, IsBroken, IsHouseBroken, IsHouseLeft, IsHouseOf, IsStruck, Piece, piece_at, piece_of}
 pub use Rattle.fields_core.specs.PlaneGames.{AreShortEnough, IsClosedTo}
 unfoldable pub use Rattle.fields_core.specs.Parts.{without_value}
 pub use Rattle.fields_core.specs.Sweeps.{IsSweep}
-pub use Rattle.fields_core.specs.Tallies.{IsTally, stays}
-pub use Rattle.fields_core.specs.TentFaults.{IsTentFault}
+pub use Rattle.fields_core.specs.Count.{IsTally, stays}
+pub use Rattle.fields_core.specs.TentSolutions.{IsTentFault}
 pub use Rattle.fields_core.specs.TentHouses.{AddsTree, AreTentNames, column_of_tents, row_of_tents, tent_counts, tent_house, tent_rules, tree_house}
 unfoldable pub use Rattle.fields_core.specs.TentHouses.{is_barred, tent_houses}
-pub use Rattle.fields_core.specs.TentNotes.{AreTentsReady, AreTentsWritten, AreTreesVisited, IsFieldOf}
+pub use Rattle.fields_core.specs.TentWaits.{AreTentsReady, AreTentsWritten, AreTreesVisited, IsFieldOf}
 pub use Rattle.fields_core.specs.TentPairs.{AreIn, AreNumbered, HasPairingRoom, tent_places, tree_beside, tree_count}
 unfoldable pub use Rattle.fields_core.specs.TentPairs.{may_pair}
 pub use Rattle.fields_core.specs.TentSolutions.{IsTentSolution}
-pub use Rattle.fields_core.specs.TentSquares.{squares_of_row}
+pub use Rattle.fields_core.specs.TentTrees.{squares_of_row}
 pub use Rattle.fields_core.specs.TentTouching.{IsTentAmong, IsWindow}
 pub use Rattle.fields_core.specs.TentTrees.{AreBare, AreBeside, AreTakenBeside, IsNear, trees_of_row}
 unfoldable pub use Rattle.fields_core.specs.TentTrees.{is_beside, wants_tent}

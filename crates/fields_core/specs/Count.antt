@@ -1,7 +1,11 @@
 -- Houses that count the ones of their cells.
-use Rattle.std.specs.Prelude.{ℕ, zero, suc, Bool, not, ◌&&◌, List, [], ◌∷◌, nat_le}
+use Rattle.std.specs.Prelude.{Bool, List, [], nat_le, nat_lt, not, suc, zero, ℕ, ◌&&◌, ◌==◌, ◌||◌, ◌∷◌, ◌≡◌}
 use Rattle.grid_core.specs.Candidates.{Candidates}
+use Rattle.fields_core.specs.Below.{count_by}
+use Rattle.fields_core.specs.declared.count.house.Bounds.{Bounds}
+use Rattle.fields_core.specs.declared.count.tally.Tally.{Tally}
 
+-- Houses that count the ones of their cells.
 -- how many ones a filling has; any number but 0 counts as one
 abbrev pub nonzeros : List ℕ → ℕ
 nonzeros [] = 0
@@ -19,3 +23,22 @@ is_open K c = K c 0 && K c 1
 
 abbrev pub is_empty : Candidates → ℕ → Bool
 is_empty K c = not (K c 0) && not (K c 1)
+
+-- What is counted of the cells of count houses.
+-- how many of the cells have no 0, how many have a 1, and how many have neither
+pub record IsTally (K : Candidates) (places : List ℕ) (tally : Tally) : Type 0 where
+  pub must_is : tally.must ≡ count_by (λ c. not (K c 0)) places
+  pub may_is : tally.may ≡ count_by (λ c. K c 1) places
+  pub empty_is : tally.empty ≡ count_by (is_empty K) places
+
+-- the cells have no filling within the bounds: one is empty, or there are too few or too many ones
+abbrev pub lacks_filling : Tally → Bounds → Bool
+lacks_filling t b =
+    nat_lt 0 t.empty
+    || (nat_lt b.most b.least || (nat_lt t.may b.least || nat_lt b.most t.must))
+
+-- a value of a cell stays, unless there is no filling, or the cell has both values and the value's bound is reached
+abbrev pub stays : Tally → Bounds → Bool → ℕ → Bool
+stays t b both v =
+    not (lacks_filling t b)
+    && not (both && (((v == 1) && (t.must == b.most)) || ((v == 0) && (t.may == b.least))))

@@ -1,14 +1,16 @@
--- The runs that the cells of a line are in. No public contract uses these words.
-use Rattle.std.specs.Prelude.{◌≡◌, ℕ, suc, ◌+◌, ◌-◌, ◌*◌, ◌<◌, ◌≤◌, Bool, true, false, not, ◌&&◌, ◌||◌, ◌==◌, if◌then◌else◌, List, [], ◌∷◌, map, filter}
-use Rattle.fields_core.specs.Below.{Light, Vec, range_with_len}
+-- The runs that the cells of a line are in, and what a cell sees. No public contract uses these words.
+use Rattle.std.specs.Prelude.{Bool, List, [], false, filter, if◌then◌else◌, length, map, nat_lt, not, slice_index, slice_index_or, suc, true, ℕ, ◌&&◌, ◌*◌, ◌+◌, ◌-◌, ◌<◌, ◌==◌, ◌||◌, ◌∷◌, ◌≡◌, ◌≢◌, ◌≤◌}
+use Rattle.fields_core.specs.Below.{Black, Light, LightCell, Numbered, Vec, White, beside, range_with_len}
 use Rattle.fields_core.specs.CountHouse.{CountHouse, one_at_most}
-use Rattle.fields_core.specs.Light.{clear, white}
+use Rattle.fields_core.specs.Light.{bulb, clear, white}
 use Rattle.fields_core.specs.declared.light_up.line.WhiteLine.{WhiteLine}
 use Rattle.fields_core.specs.Houses.{AreAdded}
 use Rattle.fields_core.specs.LightHouses.{light_house}
 use Rattle.fields_core.specs.declared.count.name.HouseName.{HouseName}
 use Rattle.fields_core.specs.declared.light_up.light_house.LightHouse.{LightHouse}
+use Rattle.grid_core.specs.Words.{has_bit}
 
+-- The runs that the cells of a line are in. No public contract uses these words.
 -- the numbers of a line around `at` that pass, one after another: from `start` to the one before `end`
 pub record IsAround (test : ℕ → Bool) (len at start end : ℕ) : Type 0 where
   pub low : start ≤ at
@@ -70,3 +72,76 @@ AddsRun line at old new =
 abbrev pub TellsRun : LightHouse → WhiteLine → ℕ → Type 0
 TellsRun kind line at =
     light_house line.puzzle.now kind (line.first + at * line.stride) ≡ house_along line at
+
+-- Words of runs along a line, as they are written one after another. No public contract uses these words.
+-- the bits are the run that number `at` of a line of so many is in: none where it does not pass
+abbrev pub IsRunAt : (ℕ → Bool) → ℕ → ℕ → ℕ → Type 0
+IsRunAt test len at bits = (k : ℕ) → has_bit bits k ≡ (nat_lt k len && clear test at k)
+
+-- the bits stand at the places of the numbers of a line from `start` on and before `end`, and other
+-- words are as they were
+pub record AreFilled (first stride start end bits : ℕ) (from to : List ℕ) : Type 0 where
+  pub each : (i : ℕ) → start ≤ i → i < end → slice_index to (first + i * stride) ≡ bits
+  pub others : (c : ℕ) → ((i : ℕ) → start ≤ i → i < end → first + i * stride ≢ c)
+      → slice_index to c ≡ slice_index from c
+
+-- the runs of the first n numbers of a line stand at their cells, and other words are as they were
+pub record AreWritten (test : ℕ → Bool) (len first stride n : ℕ) (from to : List ℕ) : Type 0 where
+  pub each : (i : ℕ) → i < n → IsRunAt test len i (slice_index to (first + i * stride))
+  pub others : (c : ℕ) → ((i : ℕ) → i < n → first + i * stride ≢ c)
+      → slice_index to c ≡ slice_index from c
+  pub long : length to ≡ length from
+
+-- the same of a word that is filled in, and of all runs of a line with these white cells
+abbrev pub IsFilledIn : {W : Type 0} → (W → ℕ) → W → ℕ → ℕ → ℕ → ℕ → List W → List W → Type 0
+IsFilledIn bits word first stride start end from to =
+    AreFilled first stride start end (bits word) (map bits from) (map bits to)
+
+abbrev pub AreRunsWritten : {W : Type 0} → (W → ℕ) → W → ℕ → ℕ → ℕ → List W → List W → Type 0
+AreRunsWritten bits white first stride len from to =
+    AreWritten (has_bit (bits white)) len first stride len (map bits from) (map bits to)
+
+-- Runs of numbers that pass a test, and whether a number of a line sees a bulb. No public contract uses these words.
+-- the numbers after `at` pass, up to the one before the end; the end does not, if it is below len
+pub record RunsOn (test : ℕ → Bool) (len at end : ℕ) : Type 0 where
+  pub past : at < end
+  pub high : end ≤ len
+  pub pass : (i : ℕ) → at < i → i < end → test i ≡ true
+  pub edge : end < len → test end ≡ false
+
+-- the numbers before `at` pass, from `start` on; the one before `start` does not, if there is one
+pub record RunsBack (test : ℕ → Bool) (at start : ℕ) : Type 0 where
+  pub low : start ≤ at
+  pub pass : (i : ℕ) → start ≤ i → i < at → test i ≡ true
+  pub edge : (i : ℕ) → suc i ≡ start → test i ≡ false
+
+-- whether one of the other numbers below len has a bulb, and from `at` to it all are white
+abbrev pub ShinesAlong : (ℕ → Bool) → (ℕ → Bool) → ℕ → ℕ → Bool → Type 0
+ShinesAlong white bulb at len true =
+    (i : ℕ) × (i < len) × (i ≢ at) × (clear white at i ≡ true) × (bulb i ≡ true)
+ShinesAlong white bulb at len false =
+    (i : ℕ) → i < len → i ≢ at → clear white at i ≡ true → bulb i ≡ false
+
+-- of the cell of that number of a line, in a grid
+abbrev pub ShinesInLine : WhiteLine → List ℕ → ℕ → Bool → Type 0
+ShinesInLine line g at sees =
+    ShinesAlong (whites_of line) (λ i. bulb g (line.first + i * line.stride)) at line.len sees
+
+-- whether another cell that is joined to the cell has a bulb
+abbrev pub SeesAlong : (ℕ → ℕ → Bool) → ℕ → List ℕ → ℕ → Bool → Type 0
+SeesAlong joined cells g c true =
+    (d : ℕ) × (d < cells) × (d ≢ c) × (joined c d ≡ true) × (bulb g d ≡ true)
+SeesAlong joined cells g c false =
+    (d : ℕ) → d < cells → d ≢ c → joined c d ≡ true → bulb g d ≡ false
+
+-- Numbers of Light Up that no grid meets. No public contract uses these words.
+-- the cell has a number other than 0
+abbrev pub asks : LightCell → Bool
+asks White = false
+asks Black = false
+asks (Numbered n) = nat_lt 0 n
+
+-- it has a number other than 0, and no white cell beside it
+abbrev pub lonely : Light → ℕ → Bool
+lonely p c =
+    asks (slice_index_or p.cells c Black) && (length (filter (white p) (beside p.size c)) == 0)

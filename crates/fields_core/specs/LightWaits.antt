@@ -4,8 +4,7 @@ use Rattle.fields_core.specs.Below.{AreLinesOf, Candidates, Extent, IsFurther, I
 use Rattle.fields_core.specs.CountHouse.{CountHouse, houses_below}
 use Rattle.fields_core.specs.Light.{clear, light_cells, joined_in_column, white}
 use Rattle.fields_core.specs.LightHouses.{column_house, house_at, in_grid, in_row, lit_house, number_house, row_house, seen_from}
-use Rattle.fields_core.specs.LightPlanes.{ArePlanesOf, AreTables}
-use Rattle.fields_core.specs.LightWords.{numbers_of_row, row_runs_of_row}
+use Rattle.fields_core.specs.LightPlanes.{ArePlanesOf, AreTables, numbers_of_row, row_runs_of_row}
 use Rattle.fields_core.specs.LightRunLines.{column_runs_of_column}
 use Rattle.fields_core.specs.Visits.{AreIdle}
 use Rattle.fields_core.specs.declared.planes.light_up.light_notes.LightNotes.{LightNotes}

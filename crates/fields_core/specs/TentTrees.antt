@@ -1,13 +1,15 @@
--- The trees of a row of Tents, and words of the cells beside them.
-use Rattle.std.specs.Prelude.{◌≡◌, ℕ, ◌+◌, ◌-◌, ◌*◌, ◌<◌, ◌≤◌, Bool, true, false, not, ◌&&◌, nat_lt, List, count_by}
-use Rattle.fields_core.specs.Below.{Candidates, Extent, Layers, Tents, any_below, beside, has, has_bit, has_place, list_any}
+-- The trees and the squares of a row of Tents.
+use Rattle.std.specs.Prelude.{Bool, List, [], count_by, false, nat_lt, not, true, ℕ, ◌&&◌, ◌*◌, ◌+◌, ◌-◌, ◌<◌, ◌∷◌, ◌≡◌, ◌≤◌}
+use Rattle.fields_core.specs.Below.{Candidates, Extent, Layers, Row, Tents, any_below, beside, has, has_bit, has_place, list_any}
 use Rattle.fields_core.specs.CountHouse.{CountHouse, houses_below}
 use Rattle.fields_core.specs.LineWords.{IsRowIn, IsRowOf}
-use Rattle.fields_core.specs.TentHouses.{tree_house}
+use Rattle.fields_core.specs.TentHouses.{square_house, tree_house}
 use Rattle.fields_core.specs.Tents.{tree}
 use Rattle.fields_core.specs.declared.planes.tents.three_rows.ThreeRows.{ThreeRows}
 use Rattle.fields_core.specs.Visits.{without_zeros}
+use Rattle.fields_core.specs.Parts.{Piece}
 
+-- The trees of a row of Tents, and words of the cells beside them.
 -- the houses of the trees of a row
 abbrev pub trees_of_row : Tents → ℕ → List CountHouse
 trees_of_row p y = houses_below (λ x. tree_house p (y * p.size.w + x)) p.size.w
@@ -47,3 +49,12 @@ AreTakenBeside bits near places y from to = (passes : ℕ → Bool)
     → ((x : ℕ) → has_bit (bits places) x ≡ true → x < from.size.w)
     → has to ≡ without_zeros (λ c. passes c
     && is_beside from.size y (has_bit (bits places)) from.size.w c) (has from)
+
+-- The squares of two rows of Tents.
+-- the houses of the squares whose upper row is y
+abbrev pub squares_of_row : Tents → ℕ → List CountHouse
+squares_of_row p y = houses_below (λ x. square_house p (y * p.size.w + x)) p.size.w
+
+-- these places of a row and of the row below
+abbrev pub two_rows : ℕ → ℕ → List Piece
+two_rows y places = record { line = Row y; bits = places } ∷ record { line = Row (y + 1); bits = places } ∷ []

@@ -1,17 +1,18 @@
--- Which houses of Tents wait on planes. No public contract uses these words.
-use Rattle.std.specs.Prelude.{◌≡◌, ℕ, ◌+◌, ◌<◌, false, ◌&&◌, ◌||◌, nat_lt, List}
+-- Which houses of Tents wait on planes, and what is kept beside these. No public contract uses these words.
+use Rattle.std.specs.Prelude.{Bool, List, false, map, nat_lt, ℕ, ◌&&◌, ◌+◌, ◌<◌, ◌||◌, ◌≡◌, ◌≤◌}
 use Rattle.fields_core.specs.Below.{Candidates, Extent, IsFurther, IsTents, Layers, Tents, Touched, has, has_bit}
 use Rattle.fields_core.specs.CountHouse.{CountHouse, houses_below}
 use Rattle.fields_core.specs.Parts.{ArePlanesAlive}
 use Rattle.fields_core.specs.TentHouses.{column_of_tents, row_of_tents}
-use Rattle.fields_core.specs.TentSquares.{squares_of_row}
-use Rattle.fields_core.specs.TentTrees.{trees_of_row}
-use Rattle.fields_core.specs.Visits.{AreIdle}
+use Rattle.fields_core.specs.TentTrees.{AreBare, squares_of_row, trees_of_row, wants_tent}
+use Rattle.fields_core.specs.Visits.{AreIdle, AreVisited}
 use Rattle.fields_core.specs.declared.planes.tents.waits.Kind.{Kind}
-use Rattle.fields_core.specs.declared.planes.tents.waits.Kind.TheVariants.{Columns, Rows, Trees, Squares}
+use Rattle.fields_core.specs.declared.planes.tents.waits.Kind.TheVariants.{Columns, Rows, Squares, Trees}
 use Rattle.fields_core.specs.declared.planes.tents.waits.Waits.{Waits}
-use Rattle.fields_core.specs.LineWords.{AreSpread}
+use Rattle.fields_core.specs.LineWords.{AreRowsOf, AreSpread}
+use Rattle.fields_core.specs.declared.planes.tents.tent_notes.TentNotes.{TentNotes}
 
+-- Which houses of Tents wait on planes. No public contract uses these words.
 -- the houses of a kind at a line, how many lines there are, all of them, and which wait
 abbrev pub kind_houses : Tents → Kind → ℕ → List CountHouse
 kind_houses p Columns k = column_of_tents p k
@@ -73,3 +74,29 @@ pub record AreTentsWoken {W : Type 0} (bits : W → ℕ) (room : ℕ) (before : 
   pub squares : (k : ℕ) → has_bit (bits now.squares) k
       ≡ (has_bit (bits before.squares) k
       || (has_bit (bits zeros.rows) k || has_bit (bits zeros.rows) (k + 1)))
+
+-- What Tents keeps beside planes. No public contract uses these words.
+-- planes of the puzzle on words of so many places, in which each cell has a value, and the trees of each row that want a tent
+pub record IsFieldOf (room : ℕ) (p : Tents) (planes : Layers) (words : List ℕ) : Type 0 where
+  pub lawful : IsTents p
+  pub narrow : p.size.w ≤ room
+  pub low : p.size.h ≤ room
+  pub size : planes.size ≡ p.size
+  pub trees : AreRowsOf p.size (wants_tent p) words
+  pub bare : AreBare p (has planes)
+  pub alive : ArePlanesAlive planes
+
+-- a visit of the houses of the trees of a row, of any puzzle with these planes and words
+abbrev pub AreTreesVisited : ℕ → List ℕ → ℕ → Layers → Layers → Bool → Type 0
+AreTreesVisited room words y from to fills = (p : Tents) → IsFieldOf room p from words
+    → AreVisited (trees_of_row p y) from to fills
+
+-- the words are the trees of the puzzle that want a tent
+pub record AreTentsWritten {W : Type 0} (bits : W → ℕ) (p : Tents) (notes : TentNotes W) : Type 0 where
+  pub lawful : IsTents p
+  pub trees : AreRowsOf p.size (wants_tent p) (map bits notes.trees.items)
+
+-- planes of a puzzle, with its trees; what does not wait is idle
+pub record AreTentsReady {W : Type 0} (bits : W → ℕ) (room : ℕ) (p : Tents) (planes : Layers) (notes : TentNotes W) : Type 0 where
+  pub field : IsFieldOf room p planes (map bits notes.trees.items)
+  pub rested : AreTentsRested bits p notes.waits (has planes)

@@ -28,14 +28,14 @@ pub use Rattle.grid_core.specs.Grids.{IsGrid, column_cells, row_cells}
 pub use Rattle.grid_core.specs.Lines.{line_cells, lines_of}
 unfoldable pub use Rattle.grid_core.specs.Lines.{line_numbers}
 pub use Rattle.grid_core.specs.Pieces.{AreEnds}
-pub use Rattle.gameid_core.specs.Added.{Adds}
-pub use Rattle.gameid_core.specs.BlackRuns.{run_of, runs}
-unfoldable pub use Rattle.gameid_core.specs.BlackRuns.{runs_after}
-pub use Rattle.gameid_core.specs.Cells.{fill_end, fill_step, is_letter, letter}
+pub use Rattle.gameid_core.specs.GridTexts.{Adds}
+pub use Rattle.gameid_core.specs.Lines.{run_of, runs}
+unfoldable pub use Rattle.gameid_core.specs.Lines.{runs_after}
+pub use Rattle.gameid_core.specs.Steps.{fill_end, fill_step, is_letter, letter}
 pub use Rattle.gameid_core.specs.FirstFailed.{IsAnswerOfCheck, IsFirstFailed, NoneFails}
-pub use Rattle.gameid_core.specs.FirstFault.{FirstFault, TellsFirst, stop}
+pub use Rattle.gameid_core.specs.Steps.{FirstFault, TellsFirst, stop}
 pub use Rattle.gameid_core.specs.FirstTokens.{GivesRun, TakesNumber, TakesRun}
-pub use Rattle.gameid_core.specs.GridReading.{AgreeUpTo, FitUpTo, Follows, IsAsShown, IsPrinted, IsReadOf, hides_nothing}
+pub use Rattle.gameid_core.specs.GridTexts.{AgreeUpTo, FitUpTo, Follows, IsAsShown, IsPrinted, IsReadOf, hides_nothing}
 unfoldable pub use Rattle.gameid_core.specs.GridTexts.{each_below}
 pub use Rattle.gameid_core.specs.GridTexts.{grid_text, row_text}
 pub use Rattle.gameid_core.specs.Head.{HeadRead, Sides, SizeRead, extent_of, has_hash, has_x, head_read, in_range, max_id, max_numbers, size_read, two_sides}
@@ -44,9 +44,9 @@ pub use Rattle.gameid_core.specs.HeadTests.{Comes, FailsHead, FailsSize, GoesOn,
 pub use Rattle.gameid_core.specs.IdTexts.{id_text}
 unfoldable pub use Rattle.gameid_core.specs.IdTexts.{puzzle_of}
 pub use Rattle.gameid_core.specs.Lines.{AreColumnOnes, AreColumnRuns, AreRowOnes, AreRowRuns, lines_ones, lines_runs, ones}
-pub use Rattle.gameid_core.specs.OneText.{HasOneReading, HasOneText}
+pub use Rattle.gameid_core.specs.IdTexts.{HasOneReading, HasOneText}
 pub use Rattle.gameid_core.specs.Puzzles.{AreClues, AreCounts, IsClue, IsLight, IsLightCell, IsPattern, IsSolo, IsTents, IsWide, Light, Pattern, Solo, Tents, pattern_puzzle, solo_n, solo_puzzle, tents_puzzle, used}
-pub use Rattle.gameid_core.specs.SizeText.{IsSizeText, IsSoloSizeText, size_text, solo_size_text}
+pub use Rattle.gameid_core.specs.IdTexts.{IsSizeText, IsSoloSizeText, size_text, solo_size_text}
 pub use Rattle.gameid_core.specs.Steps.{Fails, Gives, first_that_holds, ◌>>=◌}
 unfoldable pub use Rattle.gameid_core.specs.Steps.{reading}
 pub use Rattle.gameid_core.specs.Words.{Cuts, IsNumeral, IsPlain, after_digits, begins, bytes_of, digits_front, is_byte, is_lead, joins, value, value_after}

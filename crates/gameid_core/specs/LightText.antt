@@ -7,11 +7,9 @@ use Rattle.gameid_core.specs.declared.id.game.Game.TheVariants as game
 use Rattle.gameid_core.specs.declared.light_up.cell.LightCell.{LightCell}
 use Rattle.gameid_core.specs.declared.light_up.cell.LightCell.TheVariants.{White, Black, Numbered}
 use Rattle.gameid_core.specs.Words.{begins, bytes_of, is_byte}
-use Rattle.gameid_core.specs.Steps.{◌>>=◌, first_that_holds, reading}
+use Rattle.gameid_core.specs.Steps.{fill_end, fill_step, first_that_holds, is_letter, reading, ◌>>=◌}
 use Rattle.gameid_core.specs.Head.{HeadRead, extent_of, max_id}
-use Rattle.gameid_core.specs.IdTexts.{puzzle_of}
-use Rattle.gameid_core.specs.SizeText.{size_text, IsSizeText}
-use Rattle.gameid_core.specs.Cells.{is_letter, fill_step, fill_end}
+use Rattle.gameid_core.specs.IdTexts.{IsSizeText, puzzle_of, size_text}
 use Rattle.gameid_core.specs.Puzzles.{Light, IsLight}
 
 -- What a text spells ------------------------------------------------------------------------------

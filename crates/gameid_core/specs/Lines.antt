@@ -1,11 +1,26 @@
--- What is counted of a grid's lines.
-use Rattle.std.specs.Prelude.{◌≡◌, ◌<◌, ◌+◌, ℕ, List, [], length, map, slice_index, slice_index_or, ◌==◌}
+-- The lines of a grid: the runs of their black cells, and what is counted of them.
+use Rattle.std.specs.Prelude.{List, [], length, map, slice_index, slice_index_or, suc, zero, ℕ, ◌++◌, ◌+◌, ◌<◌, ◌==◌, ◌∷◌, ◌≡◌}
 use Rattle.std.specs.List.{filter, range_with_len}
 use Rattle.grid_core.specs.Extent.{Extent}
 use Rattle.grid_core.specs.Grids.{column_cells, row_cells}
 use Rattle.grid_core.specs.Lines.{line_numbers, lines_of}
-use Rattle.gameid_core.specs.BlackRuns.{runs}
 
+-- The lengths of the maximal black runs of a line, whose cells are 0 for white and 1 for black.
+-- a run of that many cells, unless there are none
+abbrev pub run_of : ℕ → List ℕ
+run_of zero = []
+run_of (suc k) = suc k ∷ []
+
+-- the runs of the cells, with k black cells directly before them
+unfoldable pub runs_after : ℕ → List ℕ → List ℕ
+runs_after k [] = run_of k
+runs_after k (zero ∷ cells) = run_of k ++ runs_after 0 cells
+runs_after k (suc _ ∷ cells) = runs_after (suc k) cells
+
+abbrev pub runs : List ℕ → List ℕ
+runs cells = runs_after 0 cells
+
+-- What is counted of a grid's lines.
 -- how many of the cells are 1
 abbrev pub ones : List ℕ → ℕ
 ones cells = length (filter (λ v. v == 1) cells)

@@ -7,11 +7,9 @@ use Rattle.gameid_core.specs.declared.id.fault.IdFault.{IdFault}
 use Rattle.gameid_core.specs.declared.id.fault.IdFault.TheVariants.{BadByte, NumberRange}
 use Rattle.gameid_core.specs.declared.id.game.Game.TheVariants as game
 use Rattle.gameid_core.specs.Words.{begins, is_byte, is_lead, words, value}
-use Rattle.gameid_core.specs.Steps.{◌>>=◌, first_that_holds, reading}
+use Rattle.gameid_core.specs.Steps.{fill_end, fill_step, first_that_holds, is_letter, reading, ◌>>=◌}
 use Rattle.gameid_core.specs.Head.{HeadRead, max_id}
-use Rattle.gameid_core.specs.IdTexts.{puzzle_of}
-use Rattle.gameid_core.specs.SizeText.{solo_size_text, IsSoloSizeText}
-use Rattle.gameid_core.specs.Cells.{is_letter, fill_step, fill_end}
+use Rattle.gameid_core.specs.IdTexts.{IsSoloSizeText, puzzle_of, solo_size_text}
 use Rattle.gameid_core.specs.Puzzles.{Solo, IsSolo, solo_n, solo_puzzle}
 
 -- What a text spells ------------------------------------------------------------------------------

@@ -49,8 +49,8 @@ pub use Rattle.grid_core.specs.Regions.{beside, column_places, row_places}
 unfoldable pub use Rattle.grid_core.specs.Regions.{steps}
 pub use Rattle.gameid_core.proofs.FirstFailed.{tells}
 pub use Rattle.gameid_core.proofs.LineLaws.{at_column, at_row}
-pub use Rattle.gameid_core.specs.BlackRuns.{run_of, runs}
-unfoldable pub use Rattle.gameid_core.specs.BlackRuns.{runs_after}
+pub use Rattle.gameid_core.specs.Lines.{run_of, runs}
+unfoldable pub use Rattle.gameid_core.specs.Lines.{runs_after}
 pub use Rattle.gameid_core.specs.Lines.{lines_ones, ones}
 pub use Rattle.gameid_core.specs.Puzzles.{IsSolo, Light, Pattern, Solo, Tents, solo_n, solo_puzzle, tents_puzzle}
 pub use Rattle.gameid_core.specs.declared.light_up.cell.LightCell.{LightCell}
@@ -74,14 +74,14 @@ pub use Rattle.engine_core.specs.Walk.{Mark, Mark.Found}
 unfoldable pub use Rattle.engine_core.specs.Walk.{walk}
 pub use Rattle.engine_core.specs.declared.search.walk.Verdict.{Verdict}
 pub use Rattle.pattern_core.proofs.FaultLemmas.{pattern_none}
-pub use Rattle.pattern_core.specs.Faults.{IsPatternFault}
+pub use Rattle.pattern_core.specs.Solutions.{IsPatternFault}
 pub use Rattle.pattern_core.specs.LineLaws.{cell_in_grid, different_places, has_runs-is, is_solution-from, is_solution-is, line_rules-lawful}
 pub use Rattle.pattern_core.specs.LineRules.{line_rules}
 pub use Rattle.pattern_core.specs.Lines.{clue_of}
 unfoldable pub use Rattle.pattern_core.specs.Lines.{has_runs}
 pub use Rattle.pattern_core.specs.Solutions.{IsPatternSolution}
 pub use Rattle.pattern_core.specs.declared.fault.PatternFault.{PatternFault}
-pub use Rattle.solo_core.specs.Cells.{block_of, column_of, row_of, solo_cells}
+pub use Rattle.solo_core.specs.Houses.{block_of, column_of, row_of, solo_cells}
 pub use Rattle.solo_core.specs.Houses.{IsHouseOf, lies_in}
 pub use Rattle.solo_core.specs.RuleLaws.{houses_lawful}
 pub use Rattle.solo_core.specs.RuleSets.{houses_rules}
@@ -113,23 +113,23 @@ pub use Rattle.fields_core.specs.Tents.{tent, tents_in_column, tents_in_row}
 unfoldable pub use Rattle.fields_core.specs.Tents.{touches}
 pub use Rattle.maker_core.specs.Draws.{AreAll, HasWords, IsFirst, IsFirstPassing, LeavesStream, Tries, draw_below, filling_at, shuffled_order}
 unfoldable pub use Rattle.maker_core.specs.Draws.{black_cells, stream_after}
-pub use Rattle.maker_core.specs.Flips.{flipped_from, line_from}
-unfoldable pub use Rattle.maker_core.specs.Flips.{flipped}
-pub use Rattle.maker_core.specs.LightClues.{light_game}
+pub use Rattle.maker_core.specs.SoloFilling.{flipped_from, line_from}
+unfoldable pub use Rattle.maker_core.specs.SoloFilling.{flipped}
+pub use Rattle.maker_core.specs.LightMaking.{light_game}
 pub use Rattle.maker_core.specs.LightCluesLaws.{light_is_game, lit_by_fewer, numbered_is}
-pub use Rattle.maker_core.specs.LightFilling.{IsLit, numbered_cell, with_bulb}
-unfoldable pub use Rattle.maker_core.specs.LightFilling.{bulbs_after, light_filling, light_puzzle_of, lights_of, white_places, with_numbers}
+pub use Rattle.maker_core.specs.LightMaking.{IsLit, numbered_cell, with_bulb}
+unfoldable pub use Rattle.maker_core.specs.LightMaking.{bulbs_after, light_filling, light_puzzle_of, lights_of, white_places, with_numbers}
 pub use Rattle.maker_core.specs.Made.{HasOne, IsOnlySolution, TellsOne, has_one, is_one}
 pub use Rattle.maker_core.specs.PatternMaking.{clued_by}
-pub use Rattle.maker_core.specs.SoloClues.{solo_game}
+pub use Rattle.maker_core.specs.SoloMaking.{solo_game}
 pub use Rattle.maker_core.specs.SoloCluesLaws.{clue_is, house_stays, is_clue, lies_alike, solo_is_game, solved_by_fewer}
 pub use Rattle.maker_core.specs.SoloFilling.{all_given, first_number, group_added, old_number}
 unfoldable pub use Rattle.maker_core.specs.SoloFilling.{lines_of_groups, rearranged}
 pub use Rattle.maker_core.specs.SoloMaking.{IsSoloSize, solo_passes, solo_tries}
-pub use Rattle.maker_core.specs.SoloOrders.{AreOrders, IsLineOrder, IsOrder}
-pub use Rattle.maker_core.specs.SoloXFilling.{first_grid, flipped_by_draw, top_row_given, x_filling}
-unfoldable pub use Rattle.maker_core.specs.TentFilling.{free_cells_beside, is_free, may_have_tent, no_tents, place_tent, take_cell, tent_filling, tents_after}
-unfoldable pub use Rattle.maker_core.specs.TentFilling.{tents_puzzle_of}
+pub use Rattle.maker_core.specs.SoloFilling.{AreOrders, IsLineOrder, IsOrder}
+pub use Rattle.maker_core.specs.SoloFilling.{first_grid, flipped_by_draw, top_row_given, x_filling}
+unfoldable pub use Rattle.maker_core.specs.TentMaking.{free_cells_beside, is_free, may_have_tent, no_tents, place_tent, take_cell, tent_filling, tents_after}
+unfoldable pub use Rattle.maker_core.specs.TentMaking.{tents_puzzle_of}
 pub use Rattle.maker_core.specs.TentSteps.{IsTentPlaced, IsTentTaken}
 pub use Rattle.maker_core.specs.Thinning.{AreReasons, CluedGame, IsGame, IsOnly, IsReason, IsThinnedFrom, LeavesNoIdleClue, clue_places, has_clue}
 pub use Rattle.maker_core.specs.Thinning.{stream_after_clues}

@@ -7,7 +7,7 @@ use Rattle.solo_core.specs.Houses.{IsHouseOf, lies_in}
 use Rattle.solo_core.specs.SolutionLaws.{given_from_test, test_from_given}
 use Rattle.maker_core.specs.SoloFilling.{all_given}
 use Rattle.maker_core.specs.Thinning.{IsThinnedFrom, IsGame}
-use Rattle.maker_core.specs.SoloClues.{given_clue, SameSolo, solo_game}
+use Rattle.maker_core.specs.SoloMaking.{given_clue, SameSolo, solo_game}
 
 -- the second puzzle, with the first one's size
 resized : (p q : Solo) → SameSolo p q → q ≡ solo_puzzle p.c p.r p.x q.givens

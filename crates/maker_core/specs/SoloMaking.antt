@@ -1,18 +1,40 @@
--- What a maker of Solo tries, and what it gives.
-use Rattle.std.specs.Prelude.{◌≡◌, ℕ, ◌*◌, ◌<◌, ◌≤◌, Bool, true, false, Option, Some, None, unwrap_or, List, []}
+-- What a maker of Solo tries, its clues, and what it gives.
+use Rattle.std.specs.Prelude.{Bool, List, None, Option, Some, [], false, length, slice_index, slice_set, suc, true, unwrap_or, zero, ℕ, ◌*◌, ◌<◌, ◌≡◌, ◌≤◌}
 use Rattle.maker_core.specs.Below.{IsSoloSolution, Solo, Stream, houses_rules, max_numbers}
-use Rattle.maker_core.specs.Draws.{Making, Tries, IsFirstPassing, filling_at}
-use Rattle.maker_core.specs.Made.{has_one, TellsOne, IsOnlySolution}
-use Rattle.maker_core.specs.SoloClues.{solo_game}
-use Rattle.maker_core.specs.SoloFilling.{plain_filling, all_given}
-use Rattle.maker_core.specs.SoloXFilling.{x_filling}
-use Rattle.maker_core.specs.Thinning.{AreReasons, IsThinnedFrom, stream_after_clues}
+use Rattle.maker_core.specs.SoloFilling.{all_given, plain_filling, x_filling}
+use Rattle.maker_core.specs.Thinning.{AreReasons, CluedGame, IsThinnedFrom, stream_after_clues}
+use Rattle.maker_core.specs.Draws.{IsFirstPassing, Making, Tries, filling_at}
+use Rattle.maker_core.specs.Made.{IsOnlySolution, TellsOne, has_one}
 use Rattle.maker_core.specs.declared.made.Kept.{Kept}
 use Rattle.maker_core.specs.declared.made.MakeFault.{MakeFault}
 use Rattle.maker_core.specs.declared.made.MakeFault.TheVariants.{Exhausted, Memory, SizeRange}
 use Rattle.maker_core.specs.declared.made.Limits.{Limits}
 use Rattle.maker_core.specs.declared.made.Made.{Made}
 
+-- The clues of Solo: the givens.
+-- the clue of a cell, which holds 0 where it has none
+abbrev pub given_clue : ℕ → Option ℕ
+given_clue zero = None
+given_clue (suc n) = Some (suc n)
+
+-- the sizes agree, and both are Solo X or neither is
+pub record SameSolo (p q : Solo) : Type 0 where
+  pub c : p.c ≡ q.c
+  pub r : p.r ≡ q.r
+  pub x : p.x ≡ q.x
+  pub cells : length p.givens ≡ length q.givens
+
+abbrev pub solo_game : CluedGame Solo
+solo_game = record {
+  cells = λ p. length p.givens;
+  same_frame = SameSolo;
+  clue = λ p place. given_clue (slice_index p.givens place);
+  without = λ p place. record p { givens = slice_set p.givens place 0 };
+  all_clues = λ p g. all_given p.c p.r p.x g;
+  rules = houses_rules;
+}
+
+-- What a maker of Solo tries, and what it gives.
 -- sizes within the game's limits
 pub record IsSoloSize (c r : ℕ) : Type 0 where
   pub c_low : 2 ≤ c

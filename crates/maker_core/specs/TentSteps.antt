@@ -3,7 +3,7 @@ use Rattle.std.specs.Prelude.{◌≡◌, ℕ, List, true, slice_set, ◌⊎◌}
 use Rattle.maker_core.specs.Below.{Extent, Stream, has_place}
 use Rattle.maker_core.specs.declared.tents.filling.TentFilling.{TentFilling}
 use Rattle.maker_core.specs.Draws.{IsDrawnBy}
-use Rattle.maker_core.specs.TentFilling.{free_cells_beside, may_have_tent, take_cell, tents_of_order}
+use Rattle.maker_core.specs.TentMaking.{free_cells_beside, may_have_tent, take_cell, tents_of_order}
 
 -- a tent in the cell and a tree in a free cell beside it
 pub record IsTentPlaced (size : Extent) (old : TentFilling) (c : ℕ) (new : TentFilling) : Type 0 where

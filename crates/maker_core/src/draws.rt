@@ -3,7 +3,7 @@
 ghost use Rattle.std.specs.Prelude.{◌<◌, IfOk, IsPermutation};
 ghost use Rattle.std.specs.List.{range_with_len};
 ghost use Rattle.maker_core.specs.Draws.{AreDrawnBy, IsDrawnBy, draw_below, shuffled_list, shuffled_order};
-ghost use Rattle.maker_core.specs.SoloOrders.{IsOrder};
+ghost use Rattle.maker_core.specs.SoloFilling.{IsOrder};
 
 use rand::RngExt;
 use rand::seq::SliceRandom;

@@ -2,10 +2,10 @@
 
 ghost use Rattle.std.specs.Prelude.{◌≡◌, ◌*◌, true};
 ghost use Rattle.maker_core.specs.Below.{IsGrid, IsSoloSolution, solves_lights};
-ghost use Rattle.maker_core.specs.TentFilling.{EachFilling, IsSolvedFilling};
+ghost use Rattle.maker_core.specs.TentMaking.{EachFilling, IsSolvedFilling};
 ghost use Rattle.maker_core.specs.Thinning.{KeepsSolutions, LeavesNoIdleClue};
-ghost use Rattle.maker_core.specs.SoloClues.{solo_game};
-ghost use Rattle.maker_core.specs.LightClues.{light_game};
+ghost use Rattle.maker_core.specs.SoloMaking.{solo_game};
+ghost use Rattle.maker_core.specs.LightMaking.{light_game};
 
 /// If each clue of a puzzle is a clue of another one, each solution of the other one is one of the puzzle.
 #[tactic(auto, using(crate::proofs::ThinningTurns::fewer_laws))]

@@ -30,8 +30,8 @@ unfoldable pub use Rattle.grid_core.specs.Lines.{line_numbers, line_places}
 pub use Rattle.grid_core.specs.Planes.{ArePlanes, Layers, Taking, at_line, line_len, lines_beside, number_of}
 pub use Rattle.grid_core.specs.declared.planes.line.Line.{Line}
 pub use Rattle.grid_core.specs.declared.planes.line.Line.TheVariants.{Column, Row}
-pub use Rattle.gameid_core.specs.BlackRuns.{runs}
-unfoldable pub use Rattle.gameid_core.specs.BlackRuns.{runs_after}
+pub use Rattle.gameid_core.specs.Lines.{runs}
+unfoldable pub use Rattle.gameid_core.specs.Lines.{runs_after}
 pub use Rattle.gameid_core.specs.Puzzles.{AreClues, IsClue, IsPattern, Pattern, used}
 pub use Rattle.engine_core.proofs.ListLemmas.{IsRunning, closing-dead, closing-open, room, running-alive, running-first, running-turn}
 pub use Rattle.engine_core.proofs.QueueLemmas.{alive_but, rested_around}
@@ -51,7 +51,7 @@ pub use Rattle.engine_core.specs.RuleSystem.{FitsIn, IsBoardOf, IsClosedGrid, Is
 unfoldable pub use Rattle.engine_core.specs.RuleSystem.{after, has_place}
 pub use Rattle.engine_core.specs.Sets.{IsBitsOf, has_bit}
 unfoldable pub use Rattle.engine_core.specs.Sets.{set_of_bits}
-pub use Rattle.pattern_core.specs.LineClues.{numbers_in}
+pub use Rattle.pattern_core.specs.Lines.{numbers_in}
 pub use Rattle.pattern_core.specs.LineLaws.{column_has, different_places, has_runs-from, has_runs-is, in_grid, is_solution-from, is_solution-is}
 pub use Rattle.pattern_core.specs.LineLaws.{is_solution-line, line_of_solution, line_rules-alive, line_rules-lawful, lines_with, row_has, solution_from_lines}
 pub use Rattle.pattern_core.specs.LinePlanes.{AreDecided, AreLinesRested, AreLinesWithin, AreSetsBy, AreShown, HasLineRoom, IsStart, crossed_by, house_of}

@@ -4,8 +4,7 @@ use Rattle.pattern_core.specs.LineRules.{LawfulPattern, is_pattern_solution}
 use Rattle.grid_core.specs.Grids.{IsGrid}
 use Rattle.gameid_core.specs.FirstFailed.{NoneFails}
 use Rattle.gameid_core.proofs.FirstFailed.{IsKnown, IsMade, Kind, all_each, each, first_each, first_front, first_rest, known_tests, none_held, right_none}
-use Rattle.pattern_core.specs.Faults.{FailsPattern, IsPatternFault, pattern_tests}
-use Rattle.pattern_core.specs.Solutions.{IsPatternSolution}
+use Rattle.pattern_core.specs.Solutions.{FailsPattern, IsPatternFault, IsPatternSolution, pattern_tests}
 use Rattle.pattern_core.specs.declared.fault.PatternFault.{PatternFault}
 use Rattle.pattern_core.specs.declared.fault.PatternFault.TheVariants.{Column, Row}
 

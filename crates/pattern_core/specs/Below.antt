@@ -10,7 +10,7 @@ unfoldable pub use Rattle.grid_core.specs.Lines.{line_numbers, line_places}
 pub use Rattle.grid_core.specs.Planes.{IsFurther, Layers, lines_beside, number_of}
 unfoldable pub use Rattle.grid_core.specs.Planes.{has}
 pub use Rattle.grid_core.specs.Words.{has_bit}
-pub use Rattle.gameid_core.specs.BlackRuns.{runs}
+pub use Rattle.gameid_core.specs.Lines.{runs}
 pub use Rattle.gameid_core.specs.Puzzles.{IsPattern, Pattern, used}
 pub use Rattle.engine_core.specs.ClosingList.{IsAlive, IsDead}
 pub use Rattle.engine_core.specs.Filling.{Set, strikes_by_fillings}

@@ -2,7 +2,7 @@
 
 ghost use Rattle.std.specs.Prelude.{◌*◌};
 ghost use Rattle.grid_core.specs.Grids.{IsGrid};
-ghost use Rattle.pattern_core.specs.Faults.{IsPatternFault};
+ghost use Rattle.pattern_core.specs.Solutions.{IsPatternFault};
 
 use crate::fault::PatternFault;
 use crate::line_clue::LineClue;

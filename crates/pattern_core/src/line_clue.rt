@@ -2,8 +2,7 @@
 
 ghost use Rattle.std.specs.Prelude.{◌≡◌, ◌<◌, ◌≤◌, ◌*◌, true, false, length};
 ghost use Rattle.pattern_core.specs.Below.{IsGrid, IsPattern, line_numbers, lines_of, max_side};
-ghost use Rattle.pattern_core.specs.Lines.{clue_of, has_runs, IsDecidedBy, IsRoomy};
-ghost use Rattle.pattern_core.specs.LineClues.{numbers_in};
+ghost use Rattle.pattern_core.specs.Lines.{clue_of, has_runs, IsDecidedBy, IsRoomy, numbers_in};
 
 use crate::meets::meets;
 use crate::table::filter;

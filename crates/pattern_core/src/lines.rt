@@ -5,8 +5,7 @@ ghost use Rattle.pattern_core.specs.Below.{IsBoardOf, IsExtent, IsIdle, after, l
 ghost use Rattle.grid_core.specs.Board.{has, SameShape};
 ghost use Rattle.engine_core.specs.Closing.{HasStruck};
 ghost use Rattle.engine_core.specs.declared.mode.Mode.TheVariants.{Queue};
-ghost use Rattle.pattern_core.specs.Lines.{clue_of};
-ghost use Rattle.pattern_core.specs.LineClues.{numbers_in};
+ghost use Rattle.pattern_core.specs.Lines.{clue_of, numbers_in};
 ghost use Rattle.pattern_core.specs.LinePlanes.{IsIdleAtStart};
 ghost use Rattle.pattern_core.specs.LineRules.{line_rules};
 
@@ -33,7 +32,7 @@ pub struct PatternLines {
 
 impl Model for PatternLines {
     ghost use Rattle.gameid_core.specs.Puzzles.{IsPattern};
-    ghost use Rattle.pattern_core.specs.LineClues.{pattern_of};
+    ghost use Rattle.pattern_core.specs.Lines.{pattern_of};
     ghost use Rattle.pattern_core.specs.LineRules.{LawfulPattern};
 
     ghost Value = { LawfulPattern };

@@ -10,7 +10,7 @@ use Rattle.clap.specs.Walk.{Row, Text, first_of}
 use Rattle.gameid_core.specs.declared.id.game.Game.{Game}
 use Rattle.puzzles.specs.CommandLine.{parsed}
 use Rattle.commands.specs.Allowed.{reads_input}
-use Rattle.commands.specs.Asked.{Asked, solve, check, grade, generate}
+use Rattle.commands.specs.Answers.{Asked, solve, check, grade, generate}
 use Rattle.commands.specs.Games.{game_named, usual_black}
 use Rattle.puzzles.specs.declared.words.Request.{Request}
 use Rattle.puzzles.specs.declared.words.Request.TheVariants as request

@@ -16,7 +16,7 @@ pub use Rattle.grid_core.proofs.PairingLemmas.{contains_from_member, no_choice}
 pub use Rattle.engine_core.specs.FillingLaws.{shown_from_test, test_from_shown}
 pub use Rattle.engine_core.specs.HouseList.{FitsPlaces, Listed}
 pub use Rattle.engine_core.specs.HouseSetsLaws.{by_fillings-met, kept-decided, length-sets_at, sets_at-small, strikes_at-here, strikes_at-some}
-pub use Rattle.engine_core.specs.ListedHouses.{all_places}
+pub use Rattle.engine_core.specs.HouseList.{all_places}
 pub use Rattle.solo_core.specs.BoundLaws.{bound_is, count_plain, count_x, crossings_rules-bound, house_count}
 pub use Rattle.solo_core.specs.Common.{AreDifferent, Block, Candidates, Column, Decision, Diagonal, FoldsTo, House, IsDecided, IsGrid, IsHouseOf, IsShownBy}
 pub use Rattle.solo_core.specs.Common.{IsSolo, IsSoloSolution, IsSound, MatchBool-at_false, MatchBool-at_true, NamedHouse, Row, Set, Solo, all_below-from}
@@ -34,7 +34,7 @@ unfoldable pub use Rattle.solo_core.specs.Common.{all_of, any_below, is_solo_sol
 pub use Rattle.solo_core.specs.Faults.{FailsSolo, IsSoloFault, Repeats, fault_of, given_tests, house_tests}
 pub use Rattle.solo_core.specs.HouseLaws.{all_houses, column_in, each_house, listed-different, listed-has, listed-same, listed-within, lists_house, row_in}
 pub use Rattle.solo_core.specs.HouseLaws.{some_numbers}
-pub use Rattle.solo_core.specs.NoRepeatLaws.{different_from_no_repeat, no_repeat_from_different, none_missed, own_from_no_repeat}
+pub use Rattle.solo_core.specs.SolutionLaws.{different_from_no_repeat, no_repeat_from_different, none_missed, own_from_no_repeat}
 pub use Rattle.solo_core.specs.Peeled.{AreAllCounts, AreAlone, AreLone, AreSettled, AreValueCounts, AreWhole, IsAlone, IsDropped, IsOutside, IsPaired}
 pub use Rattle.solo_core.specs.Peeled.{IsPassed, IsPeeled, IsRest, IsShort, IsSingleSet, KeepsFillings, KeepsOthers, KeepsReaching, LeadByMates, PairsCells}
 pub use Rattle.solo_core.specs.Peeled.{meets, rest_of}

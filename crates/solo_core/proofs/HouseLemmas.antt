@@ -5,7 +5,7 @@ use Rattle.solo_core.specs.declared.houses.scope.VisitName.{VisitName}
 use Rattle.solo_core.specs.declared.houses.scope.VisitName.TheVariants as scope
 use Rattle.grid_core.specs.Regions.{block_places}
 use Rattle.grid_core.proofs.GridLemmas.{single-at}
-use Rattle.engine_core.specs.Every.{each_test}
+use Rattle.engine_core.specs.PlaceLaws.{each_test}
 use Rattle.engine_core.specs.RuleSystem.{IsClosedGrid}
 use Rattle.grid_core.specs.Board.{Layout, has}
 

@@ -2,7 +2,7 @@
 use Rattle.std.specs.Prelude.{◌≡◌, ℕ, ◌<◌, ◌≤◌, ◌&&◌, ◌||◌, Bool, true, List, map, slice_index}
 use Rattle.engine_core.specs.Filling.{strikes_by_fillings}
 use Rattle.engine_core.specs.Sets.{has_bit, set_of_bits}
-use Rattle.solo_core.specs.NoRepeat.{no_repeat}
+use Rattle.solo_core.specs.Houses.{no_repeat}
 
 -- no bit from the first number on, below the second, is set
 abbrev pub NoneIsSet : ℕ → ℕ → ℕ → Type 0

@@ -30,9 +30,9 @@ pub use Rattle.engine_core.specs.PlaceLaws.{place-kept}
 pub use Rattle.grid_core.proofs.WordLemmas.{both-bits, either-bits, power-bits, zero-bits}
 pub use Rattle.solo_core.specs.declared.houses.house.NamedHouse.{NamedHouse}
 pub use Rattle.solo_core.specs.declared.houses.house.NamedHouse.TheVariants.{Block, Column, Diagonal, Row}
-pub use Rattle.solo_core.specs.Cells.{block_of, solo_cells}
+pub use Rattle.solo_core.specs.Houses.{block_of, solo_cells}
 pub use Rattle.solo_core.specs.Houses.{IsHouseOf, house_places, houses_of, lies_in, places_of}
-unfoldable pub use Rattle.solo_core.specs.NoRepeat.{no_repeat}
+unfoldable pub use Rattle.solo_core.specs.Houses.{no_repeat}
 pub use Rattle.solo_core.specs.Bits.{HasMore, IsFirstSet, NoneIsSet, has_in, is_struck}
 pub use Rattle.solo_core.specs.Solutions.{IsSoloSolution, given_stands, numbers_of}
 unfoldable pub use Rattle.solo_core.specs.Solutions.{is_solo_solution}

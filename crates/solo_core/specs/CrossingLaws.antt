@@ -3,7 +3,7 @@
 use Rattle.std.proofs.lemmas.Grind.{common_steps}
 use Rattle.std.proofs.Common.{◌≡◌, ℕ, ◌+◌, ◌-◌, ◌<◌, ◌≤◌, Bool, true, false, true≢false, List, [], map, length, get_or, slice_index, refl, sym, ap, ◌∙◌, inl, inr, arith, length-append}
 use Rattle.solo_core.specs.Common.{cases_lt, and_parts, and_from, eq-eqb, not-true, not_from_false, false_from_ne_true, ltb-true, leb-true, lt-ltb, le-leb, get_or-map, length-map, get_or_append_left, get_or-append_right, any_below-here, any_below-some, has_place, has_place-at, has_place-here, place-filter, place-kept, different-filter, different-from, distinct-from, distinct-append, Set, has_value, IsMonotone, AreDifferent, IsSettled, Keeps, no_repeat}
-use Rattle.solo_core.specs.NoRepeatLaws.{own_from_no_repeat, none_missing}
+use Rattle.solo_core.specs.SolutionLaws.{own_from_no_repeat, none_missing}
 use Rattle.solo_core.specs.Crossing.{has_in_part, strikes_by_crossing, crossing_places, outside, is_shared, in_block_alone, in_line_alone}
 
 -- ---- parts

@@ -4,7 +4,7 @@ use Rattle.std.proofs.Common.{◌≡◌, ℕ, ◌+◌, ◌*◌, ◌/◌, ◌%◌
 use Rattle.solo_core.specs.Common.{has_place, has_place-at, has_place-here, range_with_len, cases_lt, cases_Bool, eq-eqb, eqb-true, true≢false, false_from_ne_true, mul-add-lt, mul-le, div-mul-add, mod-mul-add, div_below, mod_below, div-add-mod', All-append, All-nil, All-cons, get_or-map-range_with_len, length-map-range_with_len, Solo, IsSolo, solo_n, AreDifferent, NamedHouse, Row, Column, Block, Diagonal, solo_cells, houses_of, IsHouseOf, lies_in, places_of}
 use Rattle.grid_core.specs.Regions.{block_places}
 use Rattle.grid_core.proofs.RegionLemmas.{block-within}
-use Rattle.engine_core.specs.Every.{of_first, of_rest, of_value}
+use Rattle.engine_core.specs.PlaceLaws.{of_first, of_rest, of_value}
 
 -- the list has n different places below `cells`, which are those that pass the test
 pub record Lists (places : List ℕ) (n cells : ℕ) (lies : ℕ → Bool) : Type 0 where

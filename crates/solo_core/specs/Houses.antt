@@ -1,13 +1,39 @@
+-- The cells and the houses of a puzzle of Solo.
+use Rattle.std.specs.Prelude.{Bool, List, [], if◌then◌else◌, map, not, true, ℕ, ◌%◌, ◌&&◌, ◌*◌, ◌++◌, ◌+◌, ◌-◌, ◌/◌, ◌<◌, ◌==◌, ◌∷◌, ◌≡◌}
+use Rattle.grid_core.specs.Extent.{Extent}
+use Rattle.gameid_core.specs.Puzzles.{Solo, solo_n}
+use Rattle.std.specs.List.{list_any, range_with_len}
+use Rattle.grid_core.specs.Regions.{block_places, column_places, diagonal_places, row_places}
+use Rattle.solo_core.specs.declared.houses.house.NamedHouse.{NamedHouse}
+use Rattle.solo_core.specs.declared.houses.house.NamedHouse.TheVariants.{Block, Column, Diagonal, Row}
+
+-- The cells of a puzzle of Solo (the manual of Simon Tatham's Portable Puzzle Collection, Solo). A block is r cells wide and
+-- c cells tall, and c of them lie beside each other; all are counted row by row from the top left.
+abbrev pub solo_cells : Solo → ℕ
+solo_cells p = solo_n p * solo_n p
+
+-- the grid has as many rows as columns
+abbrev pub square : Solo → Extent
+square p = record { w = solo_n p; h = solo_n p }
+
+-- the row, the column and the block of a place
+abbrev pub row_of : Solo → ℕ → ℕ
+row_of p place = place / solo_n p
+
+abbrev pub column_of : Solo → ℕ → ℕ
+column_of p place = place % solo_n p
+
+abbrev pub block_of : Solo → ℕ → ℕ
+block_of p place = (row_of p place / p.c) * p.c + column_of p place / p.r
+
+-- The condition of a house of Solo.
+-- no number stands twice
+unfoldable pub no_repeat : List ℕ → Bool
+no_repeat [] = true
+no_repeat (x ∷ xs) = not (list_any (λ y. x == y) xs) && no_repeat xs
+
 -- The houses of a puzzle of Solo: the rows from the top, the columns from the left, the blocks, and in Solo X both
 -- diagonals, of which 0 begins at the top left and 1 at the top right.
-use Rattle.std.specs.Prelude.{◌≡◌, ℕ, ◌-◌, ◌<◌, Bool, true, ◌==◌, if◌then◌else◌, List, [], ◌∷◌, ◌++◌, map}
-use Rattle.std.specs.List.{range_with_len}
-use Rattle.grid_core.specs.Regions.{row_places, column_places, block_places, diagonal_places}
-use Rattle.gameid_core.specs.Puzzles.{Solo, solo_n}
-use Rattle.solo_core.specs.declared.houses.house.NamedHouse.{NamedHouse}
-use Rattle.solo_core.specs.declared.houses.house.NamedHouse.TheVariants.{Row, Column, Block, Diagonal}
-use Rattle.solo_core.specs.Cells.{square, row_of, column_of, block_of}
-
 -- in the order of their numbers
 abbrev pub houses_of : Solo → List NamedHouse
 houses_of p =

@@ -1,11 +1,8 @@
 pub mod Common
-pub mod Cells
 pub mod Houses
 pub mod HouseLaws
-pub mod NoRepeat
-pub mod NoRepeatLaws
-pub mod Solutions
 pub mod SolutionLaws
+pub mod Solutions
 pub mod Singles
 pub mod SinglesLaws
 pub mod Crossing

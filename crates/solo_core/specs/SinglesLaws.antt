@@ -3,7 +3,7 @@
 use Rattle.std.proofs.lemmas.Grind.{common_steps}
 use Rattle.std.proofs.Common.{◌≡◌, ℕ, ◌<◌, Bool, true, false, not, ◌&&◌, ◌||◌, true≢false, eqb, List, length, get_or, refl, sym, ◌∙◌, ap, subst, arith, inl, inr}
 use Rattle.solo_core.specs.Common.{cases_Bool, and_from, or_left, or_right, eqb-true, eq-eqb, not-true, false_from_ne_true, nat_tests, any_below, any_below-here, any_below-some, any_below-none, Set, Keeps, IsMonotone, no_repeat}
-use Rattle.solo_core.specs.NoRepeatLaws.{own_from_no_repeat, none_missing}
+use Rattle.solo_core.specs.SolutionLaws.{own_from_no_repeat, none_missing}
 use Rattle.solo_core.specs.Singles.{Has, has_other, is_elsewhere, taken_elsewhere, needed_for_other, has_empty_cell, strikes_where, has_at, strikes_by_singles}
 
 none_below : (test : ℕ → Bool) (n : ℕ) → ((k : ℕ) → k < n → test k ≡ true → ⊥) → any_below test n ≡ false

@@ -1,10 +1,73 @@
--- Laws of solutions: the test of a grid, house by house, is the rule.
-use Rattle.std.proofs.Common.{◌≡◌, ℕ, ◌+◌, ◌<◌, ◌≤◌, Bool, true, List, map, get_or, slice_index, sym, ap, ◌∙◌, arith}
-use Rattle.solo_core.specs.Common.{list_all, and_parts, and_from, nat_tests, get_or-map, length-map, all_below, IsGrid, all_below-at, all_below-from, Solo, IsSolo, solo_n, NamedHouse, solo_cells, houses_of, IsHouseOf, no_repeat, IsSoloSolution, given_stands, numbers_of, is_solo_solution}
-use Rattle.engine_core.specs.Every.{test_each, each_test}
-use Rattle.solo_core.specs.HouseLaws.{Lists, lists_house, all_houses, each_house}
-use Rattle.solo_core.specs.NoRepeatLaws.{own_from_no_repeat, no_repeat_from_different}
+-- Laws of lists without repeat, and of solutions: the test of a grid, house by house, is the rule.
+use Rattle.std.proofs.lemmas.Grind.{common_steps}
+use Rattle.std.proofs.Common.{Bool, Contains, List, [], ap, arith, eqb, false, get_or, inl, inr, length, map, not, refl, slice_index, suc, sym, true, true≢false, zero, ℕ, ◌&&◌, ◌+◌, ◌<◌, ◌∙◌, ◌∷◌, ◌≡◌, ◌≤◌}
+use Rattle.solo_core.specs.Common.{AreDifferent, IsGrid, IsHouseOf, IsSolo, IsSoloSolution, NamedHouse, Solo, all_below, all_below-at, all_below-from, and_from, and_parts, any_below, any_below-none, any_below-some, cases_Bool, cases_order, eq-eqb, eqb-true, get_or-map, get_or-map-range_with_len, get_or_default, given_stands, houses_of, is_solo_solution, length-map, length-map-range_with_len, list_all, list_any, nat_tests, no_repeat, not-true, numbers_of, range_with_len, solo_cells, solo_n}
+use Rattle.grid_core.proofs.PairingLemmas.{apart-le, contains_from_member, member_from_contains}
+use Rattle.engine_core.specs.PlaceLaws.{each_test, test_each}
+use Rattle.solo_core.specs.HouseLaws.{Lists, all_houses, each_house, lists_house}
 
+-- What a list without repeat is: its entries at different places differ.
+-- entries at different places differ
+pub different_from_no_repeat : (xs : List ℕ) → no_repeat xs ≡ true → (i j : ℕ) → i < j → j < length xs → get_or xs i 0 ≡ get_or xs j 0 → ⊥
+unfolding no_repeat
+different_from_no_repeat [] h i j below within same = absurd (omega arith)
+different_from_no_repeat (x ∷ xs) h i zero below within same = absurd (omega arith)
+different_from_no_repeat (x ∷ xs) h zero (suc j) below within same =
+    let parts = and_parts (not (list_any (eqb x) xs)) _ h in
+    let member = member_from_contains xs x (j, omega arith, get_or_default xs j x 0 (omega arith) ∙ sym same) in
+    absurd (true≢false (sym member ∙ not-true (list_any (eqb x) xs) parts.0))
+different_from_no_repeat (x ∷ xs) h (suc i) (suc j) below within same =
+    different_from_no_repeat xs (and_parts (not (list_any (eqb x) xs)) _ h).1 i j (omega arith) (omega arith) same
+
+pub own_from_no_repeat : (xs : List ℕ) → no_repeat xs ≡ true → AreDifferent xs
+own_from_no_repeat xs h i j li lj same = grind (arith, common_steps, cases_order, different_from_no_repeat)
+
+pub no_repeat_from_different : (xs : List ℕ) → ((i j : ℕ) → i < j → j < length xs → get_or xs i 0 ≡ get_or xs j 0 → ⊥) → no_repeat xs ≡ true
+unfolding no_repeat
+no_repeat_from_different [] differ = refl
+no_repeat_from_different (x ∷ xs) differ =
+    let rest = no_repeat_from_different xs (λ i j below within same. differ (suc i) (suc j) (omega arith) (omega arith) same) in
+    rw rest (both (list_any (eqb x) xs) refl)
+  where
+    alone : Contains xs x → ⊥
+    alone (k, inside, is) = differ 0 (suc k) (omega arith) (omega arith) (sym is ∙ get_or_default xs k x 0 inside)
+
+    both : (b : Bool) → list_any (eqb x) xs ≡ b → (not b && true) ≡ true
+    both false e = refl
+    both true e = absurd (alone (contains_from_member xs x e))
+
+-- n different numbers below n leave none out
+pub none_missed : {n : ℕ} (h : ℕ → ℕ) → ((x : ℕ) → x < n → h x < n)
+    → ((x y : ℕ) → x < n → y < n → h x ≡ h y → x ≡ y) → {v : ℕ} → v < n
+    → ((x : ℕ) → x < n → h x ≡ v → ⊥) → ⊥
+none_missed {n} h in_range own {v} v_in missed =
+    let few = apart-le (v ∷ map h (range_with_len 0 n)) (suc n) n (omega (arith, length-map-range_with_len h 0 n)) (record { differ = differ }) below in
+    absurd (omega arith)
+  where
+    at : (k : ℕ) → k < n → get_or (map h (range_with_len 0 n)) k 0 ≡ h k
+    at k lt = get_or-map-range_with_len h 0 n k k 0 lt (omega arith)
+
+    differ : (i j : ℕ) → i < j → j < suc n → get_or (v ∷ map h (range_with_len 0 n)) i 0 ≡ get_or (v ∷ map h (range_with_len 0 n)) j 0 → ⊥
+    differ i zero low within same = absurd (omega arith)
+    differ zero (suc j) low within same = missed j (omega arith) (sym (same ∙ at j (omega arith)))
+    differ (suc i) (suc j) low within same = let e =
+        own i j (omega arith) (omega arith)
+        (sym (at i (omega arith)) ∙ same ∙ at j (omega arith)) in absurd (omega arith)
+
+    below : (j : ℕ) → j < suc n → get_or (v ∷ map h (range_with_len 0 n)) j 0 < n
+    below zero lt = v_in
+    below (suc j) lt = rw (at j (omega arith)) (in_range j (omega arith))
+
+pub none_missing : (n : ℕ) (f : List ℕ) → length f ≡ n → no_repeat f ≡ true
+    → ((k : ℕ) → k < n → get_or f k 0 < n) → {w : ℕ} → w < n
+    → (k : ℕ) × (k < n) × (get_or f k 0 ≡ w)
+none_missing n f long holds small {w} lt = elim (cases_Bool (any_below (λ k. eqb (get_or f k 0) w) n)) [
+  | inl on ↦ let k = any_below-some (λ k. eqb (get_or f k 0) w) n on in (k.0, k.1, eqb-true (get_or f k.0 0) w k.2)
+  | inr off ↦ absurd (none_missed (λ k. get_or f k 0) small (λ x y lx ly same. own_from_no_repeat f holds x y (omega arith) (omega arith) same) lt
+      (λ x lx e. true≢false (sym (eq-eqb (get_or f x 0) w e) ∙ any_below-none (λ k. eqb (get_or f k 0) w) n off x lx)))
+]
+
+-- Laws of solutions: the test of a grid, house by house, is the rule.
 -- ---- a given stands
 pub given_from_test : (p : Solo) (g : List ℕ) (place : ℕ) → given_stands p g place ≡ true
     → 1 ≤ slice_index p.givens place → slice_index g place + 1 ≡ slice_index p.givens place

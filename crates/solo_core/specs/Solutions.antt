@@ -6,9 +6,7 @@ use Rattle.grid_core.specs.Candidates.{all_below}
 use Rattle.grid_core.specs.Grids.{IsGrid}
 use Rattle.gameid_core.specs.Puzzles.{Solo, solo_n}
 use Rattle.solo_core.specs.declared.houses.house.NamedHouse.{NamedHouse}
-use Rattle.solo_core.specs.Cells.{solo_cells}
-use Rattle.solo_core.specs.Houses.{houses_of, IsHouseOf, lies_in, places_of}
-use Rattle.solo_core.specs.NoRepeat.{no_repeat}
+use Rattle.solo_core.specs.Houses.{IsHouseOf, houses_of, lies_in, no_repeat, places_of, solo_cells}
 
 pub record IsSoloSolution (p : Solo) (g : List ℕ) : Type 0 where
   pub grid : IsGrid (solo_cells p) (solo_n p) g

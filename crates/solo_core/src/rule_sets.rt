@@ -5,7 +5,7 @@ ghost use Rattle.std.specs.Prelude.{◌≡◌, ◌≤◌, ◌++◌, IfOk, true, 
 ghost use Rattle.std.proofs.Common.{arith};
 ghost use Rattle.std.proofs.Props.{props};
 ghost use Rattle.engine_core.specs.declared.mode.Mode.TheVariants.{Queue};
-ghost use Rattle.engine_core.specs.ListedHouses.{all_places};
+ghost use Rattle.engine_core.specs.HouseList.{all_places};
 ghost use Rattle.solo_core.specs.Common.{IsSolo, house_places};
 ghost use Rattle.solo_core.specs.RuleLaws.{listed_in_rules, bound_of_rules, singles_lawful, houses_lawful, crossings_lawful};
 ghost use Rattle.solo_core.specs.RuleSets.{single_houses, singles_rules, filled_houses, houses_rules, crossings_of, crossings_rules};

@@ -1,6 +1,6 @@
 //! Numbers in texts.
 ghost use Rattle.std.specs.Prelude.{◌+◌, ◌≤◌, ◌++◌, decimal, OnOk, length, string_len};
-ghost use Rattle.gameid_core.specs.Added.{Adds};
+ghost use Rattle.gameid_core.specs.GridTexts.{Adds};
 
 use itoa::Buffer;
 use std::alloc::AllocError;

@@ -1,6 +1,6 @@
 //! A text with the status that goes with it.
 ghost use Rattle.std.specs.Prelude.{◌≡◌, ◌++◌, IfOk, OnOk};
-ghost use Rattle.gameid_core.specs.Added.{Adds};
+ghost use Rattle.gameid_core.specs.GridTexts.{Adds};
 ghost use Rattle.gameid_core.specs.PrintedForm.{IsGridIn, printed_grid};
 ghost use Rattle.commands.specs.Replies.{IsReply, answer_in, fault_text, refusal};
 

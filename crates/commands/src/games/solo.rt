@@ -1,6 +1,6 @@
 //! Solo, as the commands play it. It is graded by three rule sets in turn, and else by a search.
 ghost use Rattle.std.specs.Prelude.{◌≡◌, ◌+◌, ◌≤◌, OnOk, false, length, string_len};
-ghost use Rattle.gameid_core.specs.Added.{Adds};
+ghost use Rattle.gameid_core.specs.GridTexts.{Adds};
 ghost use Rattle.commands.specs.Common.{houses_rules, scopes_of};
 ghost use Rattle.commands.specs.SoloFacts.{house_text, scope_text, solo_facts};
 ghost use Rattle.commands.specs.Stops.{LeavesSink, Writes};

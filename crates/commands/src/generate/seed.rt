@@ -1,6 +1,6 @@
 //! The generator of a seed.
 ghost use Rattle.std.specs.Prelude.{◌≡◌};
-ghost use Rattle.commands.specs.Seeds.{seed_key};
+ghost use Rattle.commands.specs.Makings.{seed_key};
 ghost use Rattle.rand_chacha.specs.ChaCha.{of_seed};
 
 use rand_chacha::ChaCha8Rng;

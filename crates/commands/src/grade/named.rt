@@ -1,6 +1,6 @@
 //! The names of what a closing visits.
 ghost use Rattle.std.specs.Prelude.{◌+◌, ◌<◌, ◌≤◌, ℕ, OnOk, string_len};
-ghost use Rattle.gameid_core.specs.Added.{Adds};
+ghost use Rattle.gameid_core.specs.GridTexts.{Adds};
 
 use crate::played::Played;
 use std::alloc::AllocError;

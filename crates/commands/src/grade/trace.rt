@@ -1,6 +1,6 @@
 //! The lines of a trace: what a closing visited, or how many sweeps it made.
 ghost use Rattle.std.specs.Prelude.{◌≡◌, ◌+◌, ◌<◌, ◌≤◌, ℕ, false, length, slice_index, OnErr, OnOk, IfErr, string_bytes, string_len};
-ghost use Rattle.gameid_core.specs.Added.{Adds};
+ghost use Rattle.gameid_core.specs.GridTexts.{Adds};
 ghost use Rattle.commands.specs.Answers.{PutUpTo, PutBegun};
 ghost use Rattle.commands.specs.Stops.{is_broken};
 ghost use Rattle.commands.specs.TracePieces.{KeptOrPut, VisitsBegun, VisitsInPieces, VisitsPut};

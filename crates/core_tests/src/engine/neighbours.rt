@@ -3,9 +3,8 @@
 ghost use Rattle.std.specs.Prelude.{◌≡◌, ℕ, ◌+◌, ◌/◌, ◌<◌, ◌≤◌, ◌&&◌, ◌||◌, ◌==◌, not, true, false, length, refl};
 ghost use Rattle.grid_core.specs.Candidates.{any_below};
 ghost use Rattle.engine_core.specs.Filling.{strikes_by_fillings};
-ghost use Rattle.engine_core.specs.Sets.{has_bit as is_set, IsBitsOf};
+ghost use Rattle.engine_core.specs.Sets.{has_bit as is_set, IsBitsOf, is_waiting};
 ghost use Rattle.engine_core.specs.HouseSets.{IsDecided};
-ghost use Rattle.engine_core.specs.Waiting.{is_waiting};
 ghost use Rattle.core_tests.specs.Neighbours.{neighbours, differ};
 ghost use Rattle.engine_core.specs.declared.mode.Mode.TheVariants.{Queue};
 

@@ -3,7 +3,7 @@
 ghost use Rattle.std.specs.Prelude.{IfOk};
 ghost use Rattle.grid_core.specs.Grids.{IsGrid};
 ghost use Rattle.gameid_core.specs.Puzzles.{solo_n};
-ghost use Rattle.solo_core.specs.Cells.{solo_cells};
+ghost use Rattle.solo_core.specs.Houses.{solo_cells};
 
 use super::{fault, generator, limits};
 use engine_core::{Store, Verdict};

@@ -3,7 +3,7 @@
 
 ghost use Rattle.std.specs.Prelude.{◌*◌, ◌+◌, ◌/◌, ◌<◌, ◌^◌, ◌||◌, ◌≡◌, ◌≤◌, IfOk, ℕ, length, slice_index};
 ghost use Rattle.engine_core.specs.Common.{has_place, IsNext};
-ghost use Rattle.engine_core.specs.HouseIndex.{AreMarkedToo, AreScopes, HasWordsAt, scope_of, AreMarksAt, HasMarked};
+ghost use Rattle.engine_core.specs.HouseList.{AreMarkedToo, AreScopes, HasWordsAt, scope_of, AreMarksAt, HasMarked};
 
 use crate::houses::list::HouseList;
 use crate::waits::next_waiting;
@@ -45,7 +45,7 @@ pub(crate) struct HouseTable {
 
 impl Model for HouseTable {
     ghost use Rattle.std.specs.Prelude.{length};
-    ghost use Rattle.engine_core.specs.HouseIndex.{Table, AreMarked};
+    ghost use Rattle.engine_core.specs.HouseList.{Table, AreMarked};
 
     ghost Value = { Table };
 

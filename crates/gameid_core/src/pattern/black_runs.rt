@@ -20,7 +20,7 @@ fn push_run_of(clues: &mut Clues, count: u8) -> Result<(), AllocError>
 
 /// Adds the lengths of the maximal black runs of a line, whose cells are 0 for white and anything
 /// else for black.
-#[tactic(auto, using(crate::proofs::LineLaws::turns), unfolding(crate::specs::BlackRuns::runs_after))]
+#[tactic(auto, using(crate::proofs::LineLaws::turns), unfolding(crate::specs::Lines::runs_after))]
 fn push_runs(clues: &mut Clues, size: Size, grid: &Grid, line: usize) -> Result<(), AllocError>
     requires cells { length grid.now ≡ size.w * size.h }
     requires line { line < lines_of size }

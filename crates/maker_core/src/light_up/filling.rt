@@ -3,7 +3,7 @@
 ghost use Rattle.std.specs.Prelude.{◌≡◌, ◌≤◌, ◌<◌, ◌*◌, true, All, IfOk, length, replicate};
 ghost use Rattle.maker_core.specs.Below.{IsGrid, IsWide, light_cells, solves_lights};
 ghost use Rattle.maker_core.specs.Draws.{AreAll, IsDrawnBy};
-ghost use Rattle.maker_core.specs.LightFilling.{IsLit, bulbs_after, light_filling, light_puzzle_of, lights_of, lit_up, white_places, with_numbers};
+ghost use Rattle.maker_core.specs.LightMaking.{IsLit, bulbs_after, light_filling, light_puzzle_of, lights_of, lit_up, white_places, with_numbers};
 
 use crate::black::draw_black;
 use crate::draws::shuffle;
@@ -89,7 +89,7 @@ fn number_cells(puzzle: &mut LightPuzzle, grid: &Grid)
 
 /// Takes the white cells of a puzzle without numbers, listed by place and shuffled, in turn. Each that neither holds nor
 /// sees a bulb gets one. The grid solves the puzzle with the numbers that it gives.
-#[tactic(auto, unfolding(crate::specs::LightFilling::lit_up))]
+#[tactic(auto, unfolding(crate::specs::LightMaking::lit_up))]
 fn light_up<G: Rng>(alloc: Global, rng: &mut G, puzzle: &LightPuzzle) -> Result<Grid, AllocError>
     ensures drawn { IfOk result (IsDrawnBy (lit_up puzzle.now) G.stream rng.old rng.new) }
     ensures grid { IfOk result (λ grid. IsGrid (light_cells puzzle.now) 2 grid) }
@@ -124,7 +124,7 @@ pub(crate) fn fill_lights<G: Rng>(
 }
 
 /// The puzzle of a filling, with a number on every black cell.
-#[tactic(auto, unfolding(crate::specs::LightFilling::light_puzzle_of, crate::specs::LightFilling::lights_of))]
+#[tactic(auto, unfolding(crate::specs::LightMaking::light_puzzle_of, crate::specs::LightMaking::lights_of))]
 pub(crate) fn puzzle_of(
     alloc: Global,
     size: Size,

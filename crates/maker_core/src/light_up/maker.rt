@@ -3,8 +3,7 @@
 ghost use Rattle.std.specs.Prelude.{◌≡◌, ◌≤◌, ◌↔◌, true, IsTrue, IfErr, IfOk};
 ghost use Rattle.gameid_core.specs.Puzzles.{IsWide};
 ghost use Rattle.maker_core.specs.Draws.{AreAll, LeavesGenerator};
-ghost use Rattle.maker_core.specs.LightFilling.{IsLit, light_passes, rules_filled};
-ghost use Rattle.maker_core.specs.LightMaking.{IsLightUnmade, MakesLights, light_tries};
+ghost use Rattle.maker_core.specs.LightMaking.{IsLit, light_passes, rules_filled, IsLightUnmade, MakesLights, light_tries};
 ghost use Rattle.maker_core.specs.Made.{HasOne};
 
 use crate::light_up::filling::{LightFilling, fill_lights, puzzle_of};

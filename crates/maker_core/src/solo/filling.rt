@@ -3,8 +3,7 @@
 ghost use Rattle.std.specs.Prelude.{◌≡◌, ◌+◌, ◌*◌, ◌<◌, ◌≤◌, false, slice_index, IfOk, OnOk};
 ghost use Rattle.maker_core.specs.Below.{IsGrid, max_numbers};
 ghost use Rattle.maker_core.specs.Draws.{AreDrawnBy, IsDrawnBy, shuffled_order};
-ghost use Rattle.maker_core.specs.SoloOrders.{AreOrders, IsOrder, IsLineOrder};
-ghost use Rattle.maker_core.specs.SoloFilling.{IsFullSolution, IsGroupDrawn, all_given, in_lines, line_order as lines_of_order, plain_filling};
+ghost use Rattle.maker_core.specs.SoloFilling.{AreOrders, IsOrder, IsLineOrder, IsFullSolution, IsGroupDrawn, all_given, in_lines, line_order as lines_of_order, plain_filling};
 ghost use Rattle.maker_core.specs.SoloMaking.{IsSoloSize};
 
 use crate::draws::order;

@@ -2,7 +2,7 @@
 
 ghost use Rattle.std.specs.Prelude.{◌≡◌, ◌*◌, ◌<◌, ◌≤◌, length, slice_index, IfOk};
 ghost use Rattle.gameid_core.specs.Head.{max_numbers};
-ghost use Rattle.maker_core.specs.Flips.{line_from, flipped};
+ghost use Rattle.maker_core.specs.SoloFilling.{line_from, flipped};
 
 use grid_core::Grid;
 use std::alloc::{AllocError, Global};

@@ -2,10 +2,8 @@
 
 ghost use Rattle.std.specs.Prelude.{◌≡◌, ◌*◌, ◌≤◌, true, Some, length, IfOk, IfSome};
 ghost use Rattle.gameid_core.specs.Head.{max_numbers};
-ghost use Rattle.maker_core.specs.SoloOrders.{IsOrder};
-ghost use Rattle.maker_core.specs.SoloFilling.{IsFullSolution};
+ghost use Rattle.maker_core.specs.SoloFilling.{IsOrder, IsFullSolution, IsShuffledPuzzle, top_row_given, lent_flipped, x_filling};
 ghost use Rattle.maker_core.specs.SoloMaking.{IsSoloSize};
-ghost use Rattle.maker_core.specs.SoloXFilling.{IsShuffledPuzzle, top_row_given, lent_flipped, x_filling};
 ghost use Rattle.maker_core.specs.Draws.{IsDrawnBy};
 
 use crate::draws::{draw, order};

@@ -3,8 +3,8 @@
 ghost use Rattle.std.specs.Prelude.{◌≡◌, ◌<◌, ◌*◌, IfOk, OnOk, true, length};
 ghost use Rattle.grid_core.specs.Grids.{IsGrid};
 ghost use Rattle.maker_core.specs.Draws.{IsDrawnBy};
-ghost use Rattle.maker_core.specs.SoloOrders.{IsOrder};
-ghost use Rattle.maker_core.specs.TentFilling.{IsSolvedFilling, no_tents, is_free, free_cells_beside, may_have_tent, place_tent as tent_put, tent_filling};
+ghost use Rattle.maker_core.specs.SoloFilling.{IsOrder};
+ghost use Rattle.maker_core.specs.TentMaking.{IsSolvedFilling, no_tents, is_free, free_cells_beside, may_have_tent, place_tent as tent_put, tent_filling};
 ghost use Rattle.maker_core.specs.TentSteps.{AreTaken, IsCellTaken, IsTentPlaced, IsTentTaken};
 
 use crate::draws::{draw, order};

@@ -4,8 +4,7 @@ ghost use Rattle.std.specs.Prelude.{◌≡◌, ◌↔◌, ◌*◌, true, IsTrue,
 ghost use Rattle.grid_core.specs.Grids.{IsGrid};
 ghost use Rattle.maker_core.specs.Draws.{LeavesGenerator};
 ghost use Rattle.maker_core.specs.Made.{HasOne};
-ghost use Rattle.maker_core.specs.TentFilling.{IsSolvedFilling, rules_filled, tents_pass, tents_puzzle_of};
-ghost use Rattle.maker_core.specs.TentMaking.{IsTentSize, IsTentsUnmade, MakesTents, tents_tries};
+ghost use Rattle.maker_core.specs.TentMaking.{IsSolvedFilling, rules_filled, tents_pass, tents_puzzle_of, IsTentSize, IsTentsUnmade, MakesTents, tents_tries};
 
 use crate::made::{Limits, Made, MakeFault};
 use crate::tents::filling::{TentFilling, fill_tents};

@@ -12,7 +12,7 @@ impl Clued for SoloPuzzle {
     ghost use Rattle.std.specs.Prelude.{◌≤◌};
     ghost use Rattle.gameid_core.specs.Puzzles.{solo_n};
     ghost use Rattle.solo_core.specs.RuleSets.{houses_rules};
-    ghost use Rattle.maker_core.specs.SoloClues.{solo_game};
+    ghost use Rattle.maker_core.specs.SoloMaking.{solo_game};
     ghost use Rattle.maker_core.specs.SoloCluesLaws.{solo_is_game};
 
     type Search = SoloHouses;
@@ -53,7 +53,7 @@ impl Clued for SoloPuzzle {
 impl Clued for LightPuzzle {
     ghost use Rattle.std.specs.Prelude.{◌≤◌};
     ghost use Rattle.fields_core.specs.LightHouses.{light_rules};
-    ghost use Rattle.maker_core.specs.LightClues.{light_game};
+    ghost use Rattle.maker_core.specs.LightMaking.{light_game};
     ghost use Rattle.maker_core.specs.LightCluesLaws.{light_is_game};
 
     type Search = LightRules;

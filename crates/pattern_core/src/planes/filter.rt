@@ -2,7 +2,7 @@
 
 ghost use Rattle.std.specs.Prelude.{◌<◌, ◌≡◌, ◌≤◌, length};
 ghost use Rattle.grid_core.specs.Extent.{max_side};
-ghost use Rattle.pattern_core.specs.LineClues.{numbers_in};
+ghost use Rattle.pattern_core.specs.Lines.{numbers_in};
 ghost use Rattle.pattern_core.specs.LinePlanes.{AreCellsDecided, AreCellsShown, IsWithIf, set_at, sets_in};
 ghost use Rattle.pattern_core.specs.Track.{AreRowsAlong, IsBelow, along, slots_of};
 

@@ -2,8 +2,7 @@
 #![tactic(auto, using(crate::proofs::LawSets::crossings_laws))]
 
 ghost use Rattle.std.specs.Prelude.{◌≡◌, ◌<◌, ◌≤◌, [], OnOk, length};
-ghost use Rattle.engine_core.specs.HouseList.{FitsLists, FitsPlaces};
-ghost use Rattle.engine_core.specs.ListedHouses.{all_places};
+ghost use Rattle.engine_core.specs.HouseList.{FitsLists, FitsPlaces, all_places};
 ghost use Rattle.solo_core.specs.Common.{solo_n, IsHouseOf};
 ghost use Rattle.solo_core.specs.RuleSets.{crossing_of, crossings_of, rest_of_line};
 ghost use Rattle.solo_core.specs.Work.{HasAdded, HasBegun, HasClosed};

@@ -54,7 +54,7 @@ fn start_tents<W: Word>(planes: &mut Planes<W>, rows: &mut Fixed<W>, puzzle: &Te
 }
 
 impl<W: Word> PlaneNotes<W, CountRules<TentsPuzzle>> for TentNotes<W> {
-    ghost use Rattle.fields_core.specs.TentNotes.{AreTentsWritten};
+    ghost use Rattle.fields_core.specs.TentWaits.{AreTentsWritten};
 
     ghost fits = { λ notes _. W.room ≤ length notes.trees.items };
 
@@ -85,7 +85,7 @@ impl<W: Word> PlaneNotes<W, CountRules<TentsPuzzle>> for TentNotes<W> {
 }
 
 impl<W: Word> SweepNotes<W, TentsPuzzle> for TentNotes<W> {
-    ghost use Rattle.fields_core.specs.TentNotes.{AreTentsReady, AreTentsWritten};
+    ghost use Rattle.fields_core.specs.TentWaits.{AreTentsReady, AreTentsWritten};
 
     ghost fits = { λ notes _. W.room ≤ length notes.trees.items };
 

@@ -1,5 +1,5 @@
 use Rattle.puzzles.proofs.Common.{Allows, IfOk-weaker, None, Option, Some, ap, asked_in, asked_of, is_late, map, option_map, ran_by_put, ran_by_telling, ran_unwritten, string_bytes, subst, sym, ◌∙◌, ◌≡◌}
-use Rattle.commands.specs.Asked.{Asked, generate, grade, solve}
+use Rattle.commands.specs.Answers.{Asked, generate, grade, solve}
 use Rattle.commands.specs.Replies.{answer_in}
 use Rattle.puzzles.proofs.run.answer.Goals as goal
 

@@ -1,5 +1,5 @@
 use Rattle.solo_core.proofs.Common.{column-at, mul-add-lt, row-at, solo_n}
-use Rattle.solo_core.specs.Cells.{square}
+use Rattle.solo_core.specs.Houses.{square}
 use Rattle.solo_core.proofs.houses.places.place.Goals as goal
 
 pub returns-in-Row-clause-place : goal.returns-in-Row-clause-place
