@@ -61,7 +61,7 @@ pub whole-in : (xs ends : List ℕ) (k : ℕ) → k < length (cut_at ends xs).cl
 unfolding cut_at
 whole-in xs ends k lt = grind (arith, common_steps, length-pieces)
 
-pub ruleset laws = (ends-more, ends-close, cut-push, cut-close, length-pieces, whole-in, piece-at, piece-ends)
+pub ruleset clue_laws = (ends-more, ends-close, cut-push, cut-close, length-pieces, whole-in, piece-at, piece-ends)
 
 -- What is read of each line of a grid.
 pub map_more : {A : Type 0} (f : ℕ → A) (k : ℕ) → map f (range_with_len 0 (k + 1)) ≡ map f (range_with_len 0 k) ++ f k ∷ []
@@ -150,4 +150,4 @@ pub runs_lawful : (size : Extent) (g : List ℕ) (clues : List (List ℕ)) → I
     → clues ≡ lines_runs size g → IsPattern (record { size = size; clues = clues })
 runs_lawful size g clues e is = grind (arith, length-map-range_with_len, are_runs)
 
-pub ruleset laws = (runs_run, runs_run_and_white)
+pub ruleset run_laws = (runs_run, runs_run_and_white)

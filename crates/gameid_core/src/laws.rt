@@ -64,7 +64,7 @@ pub fn tokens_lose_nothing()
 /// What the runs of a line are, by the cells that come first: none, a white cell, black cells up to
 /// the end, or black cells and a white one. There is no other line of white and black cells, so
 /// this fixes the runs of each.
-#[tactic(auto, using(crate::proofs::LineLaws::laws), unfolding(crate::specs::Lines::runs_after))]
+#[tactic(auto, using(crate::proofs::LineLaws::run_laws), unfolding(crate::specs::Lines::runs_after))]
 pub fn runs_by_first_cells()
     ensures none { runs [] ≡ [] }
     ensures white { (cells : List ℕ) → runs (0 ∷ cells) ≡ runs cells }

@@ -1,5 +1,5 @@
 //! The clues of a puzzle of Pattern, one after another.
-#![tactic(auto, using(crate::proofs::LineLaws::laws), unfolding(crate::specs::Clues::cut_at))]
+#![tactic(auto, using(crate::proofs::LineLaws::clue_laws), unfolding(crate::specs::Clues::cut_at))]
 
 ghost use Rattle.std.specs.Prelude.{◌≡◌, ◌<◌, ◌^◌, ◌++◌, ◌∷◌, [], IfOk, OnOk, length, slice_index, slice_index_or};
 ghost use Rattle.gameid_core.specs.PatternText.{clue_ended, nothing_yet, with_more};
