@@ -1,7 +1,7 @@
 //! Rules made of listed houses: what they do along the lists, for whatever game.
 #![tactic(auto, using(crate::proofs::LawSets::house_rules_laws))]
 
-ghost use Rattle.std.specs.Prelude.{◌<◌, ◌≡◌, ◌≤◌, IfOk, false, length, refl, true};
+ghost use Rattle.std.specs.Prelude.{◌<◌, ◌≡◌, ◌≤◌, IfOk, false, length, true};
 ghost use Rattle.engine_core.specs.Common.{has, SameShape, HasStruck, HasSetRoom, IsBoardOf, after, needs_of, StillServes, table_of};
 
 use crate::houses::table::{HouseTable, join_marks};
@@ -189,6 +189,4 @@ impl<S: RuleSet> Propagators for HouseRules<S> {
 
 impl<S: RuleSet> Searchable for HouseRules<S> {
     type Position = TrailPosition<HouseRules<S>>;
-
-    ghost position_of = { λ _. refl };
 }

@@ -206,6 +206,4 @@ impl Propagators for Neighbours {
 
 impl Searchable for Neighbours {
     type Position = TrailPosition<Neighbours>;
-
-    ghost position_of = { λ _. refl };
 }

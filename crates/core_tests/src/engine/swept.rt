@@ -98,6 +98,4 @@ impl Propagators for Swept {
 
 impl Searchable for Swept {
     type Position = TrailPosition<Swept>;
-
-    ghost position_of = { λ _. refl };
 }

@@ -48,12 +48,8 @@ impl<R: PlaneRules> Model for PlanePosition<R> {
         × R.serves s.scratch (needs_in s.made) };
 }
 
-impl<R: PlaneRules> Position for PlanePosition<R> {
+impl<R: PlaneRules> Position<R> for PlanePosition<R> {
     ghost use Rattle.engine_core.specs.PlanePosition.{of_either};
-
-    type Game = R;
-
-    ghost system = { R.system };
 
     ghost stands = { λ s. standing_of s };
 
@@ -80,10 +76,6 @@ impl<R: PlaneRules> Position for PlanePosition<R> {
 
     fn len(&self) -> usize {
         at_planes!(&self.planes, noted => noted.planes.len())
-    }
-
-    fn values(&self, rules: &R) -> u8 {
-        rules.values()
     }
 
     fn begin(&mut self, rules: &R) {
@@ -126,8 +118,6 @@ impl<R: PlaneRules> Position for PlanePosition<R> {
         at_planes!(&self.planes, noted => noted.planes.write_grid(grid));
         rules.completes(&mut self.scratch, grid)
     }
-
-    ghost lawful = { R.lawful };
 
     ghost inside = { λ rules s walks. walks.board.board.inside };
 }

@@ -4,6 +4,7 @@ ghost use Rattle.std.specs.Prelude.{◌+◌, ◌<◌, ◌≡◌, ◌≤◌, None
 ghost use Rattle.engine_core.specs.Common.{pick, IsClosedIn, IsClosedBut, AreGrids, AreReady, StaySolutions, IsTurn, SameMarks, singles, IsClosed, IsFull, IsNoted};
 
 use crate::mode::Closing;
+use crate::rules::Rules;
 use crate::search::position::Position;
 use grid_core::{Fixed, Grid};
 
@@ -25,16 +26,16 @@ pub(crate) struct Grids {
 
 impl Grids {
     /// Writes down the grid of the full board, as the second where one was found. It counts if it is a solution.
-    pub(crate) fn note<P: Position>(&mut self, rules: &P::Game, position: &mut P)
+    pub(crate) fn note<R: Rules, P: Position<R>>(&mut self, rules: &R, position: &mut P)
         requires walks { P.walks rules.now position.old }
-        requires closed { IsClosed (P.system rules.now) (P.stands position.old).board }
-        requires full { IsFull (P.system rules.now) (P.stands position.old).board }
-        requires long { AreGrids (P.system rules.now).cells self.old }
+        requires closed { IsClosed (R.system rules.now) (P.stands position.old).board }
+        requires full { IsFull (R.system rules.now) (P.stands position.old).board }
+        requires long { AreGrids (R.system rules.now).cells self.old }
         requires going { self.old.found < 2 }
-        ensures noted { IsNoted (P.system rules.now) (P.stands position.old).board self.old
+        ensures noted { IsNoted (R.system rules.now) (P.stands position.old).board self.old
             self.new }
-        ensures solved { StaySolutions (P.system rules.now) self.old self.new }
-        ensures long { AreGrids (P.system rules.now).cells self.new }
+        ensures solved { StaySolutions (R.system rules.now) self.old self.new }
+        ensures long { AreGrids (R.system rules.now).cells self.new }
         ensures same { P.stands position.new ≡ P.stands position.old }
         ensures walks { P.walks rules.now position.new }
         ensures room { P.room position.new ≡ P.room position.old }
@@ -59,17 +60,17 @@ pub(crate) struct Levels {
 impl Levels {
     /// Takes back what was struck since the innermost level's mark, and leaves its cell's next value alone: which cell, or
     /// none where that has no value left.
-    pub(crate) fn next_trial<P: Position>(
+    pub(crate) fn next_trial<R: Rules, P: Position<R>>(
         &mut self,
-        rules: &P::Game,
+        rules: &R,
         position: &mut P,
     ) -> Option<usize>
         requires walks { P.walks rules.now position.old }
-        requires ready { AreReady (P.system rules.now) (P.stands position.old) self.old }
+        requires ready { AreReady (R.system rules.now) (P.stands position.old) self.old }
         requires deep { 0 < self.old.depth }
-        ensures turn { IsTurn (P.system rules.now) (P.stands position.old) self.old
+        ensures turn { IsTurn (R.system rules.now) (P.stands position.old) self.old
             (P.stands position.new) self.new result }
-        ensures ready { AreReady (P.system rules.now) (P.stands position.new) self.new }
+        ensures ready { AreReady (R.system rules.now) (P.stands position.new) self.new }
         ensures depth { self.new.depth ≡ self.old.depth }
         ensures grids { self.new.grids ≡ self.old.grids }
         ensures frames { length self.new.frames.items ≡ length self.old.frames.items }
@@ -88,30 +89,30 @@ impl Levels {
     /// Closes the board and judges it: a grid is noted, and a board that must be split gets a frame. Of the board is known
     /// which cell lost values since it was closed, if any, and that no cell before `from` is one to branch on. Says how many
     /// visits or sweeps the closing made.
-    pub(crate) fn descend<P: Position>(
+    pub(crate) fn descend<R: Rules, P: Position<R>>(
         &mut self,
-        rules: &P::Game,
+        rules: &R,
         position: &mut P,
         changed: Option<usize>,
         from: usize,
     ) -> usize
         requires walks { P.walks rules.now position.old }
-        requires closed_but { IsClosedBut (P.system rules.now) (P.stands position.old).board
+        requires closed_but { IsClosedBut (R.system rules.now) (P.stands position.old).board
             changed }
-        requires from_in { from ≤ (P.system rules.now).cells }
-        requires none { pick from (P.system rules.now).values (P.stands position.old).board
+        requires from_in { from ≤ (R.system rules.now).cells }
+        requires none { pick from (R.system rules.now).values (P.stands position.old).board
             ≡ None }
-        requires ready { AreReady (P.system rules.now) (P.stands position.old) self.old }
+        requires ready { AreReady (R.system rules.now) (P.stands position.old) self.old }
         requires single { self.old.depth
-            ≤ singles (P.system rules.now) (P.stands position.old).board }
-        requires long { AreGrids (P.system rules.now).cells self.old.grids }
+            ≤ singles (R.system rules.now) (P.stands position.old).board }
+        requires long { AreGrids (R.system rules.now).cells self.old.grids }
         requires going { self.old.grids.found < 2 }
-        ensures turns { IsClosedIn (P.system rules.now) (P.stands position.old).board result }
-        ensures marks { SameMarks (P.system rules.now) (P.stands position.old) self.old
+        ensures turns { IsClosedIn (R.system rules.now) (P.stands position.old).board result }
+        ensures marks { SameMarks (R.system rules.now) (P.stands position.old) self.old
             (P.stands position.new) self.new }
-        ensures ready { AreReady (P.system rules.now) (P.stands position.new) self.new }
-        ensures solved { StaySolutions (P.system rules.now) self.old.grids self.new.grids }
-        ensures long { AreGrids (P.system rules.now).cells self.new.grids }
+        ensures ready { AreReady (R.system rules.now) (P.stands position.new) self.new }
+        ensures solved { StaySolutions (R.system rules.now) self.old.grids self.new.grids }
+        ensures long { AreGrids (R.system rules.now).cells self.new.grids }
         ensures deeper { self.new.depth ≤ self.old.depth + 1 }
         ensures frames { length self.new.frames.items ≡ length self.old.frames.items }
         ensures walks { P.walks rules.now position.new }

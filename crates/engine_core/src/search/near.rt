@@ -3,6 +3,7 @@
 ghost use Rattle.std.specs.Prelude.{◌≡◌, ◌≢◌, ◌-◌, ◌<◌, ◌≤◌, length, true};
 ghost use Rattle.engine_core.specs.Common.{needs_of, FitsIn, AreLong, HasTwo, IsRetried, frame_at};
 
+use crate::rules::Rules;
 use crate::search::levels::Levels;
 use crate::search::position::Position;
 use grid_core::Grid;
@@ -45,18 +46,18 @@ impl Levels {
 
     /// Whether a walk of so many turns at most, which begins near the grid, comes to two different solutions. It first goes
     /// down to the grid. On the way back it leaves a level when that level's turns are spent.
-    pub(crate) fn finds_two<P: Position>(
+    pub(crate) fn finds_two<R: Rules, P: Position<R>>(
         &mut self,
-        rules: &P::Game,
+        rules: &R,
         position: &mut P,
         grid: &Grid,
         turns: u64,
     ) -> bool
-        requires fits { FitsIn (needs_of (P.system rules.now)) (P.room position.old).needs }
-        requires long { AreLong (P.system rules.now).cells self.old }
-        requires cells { length grid.now ≡ (P.system rules.now).cells }
-        ensures two { result ≡ true → HasTwo (P.system rules.now) }
-        ensures long { AreLong (P.system rules.now).cells self.new }
+        requires fits { FitsIn (needs_of (R.system rules.now)) (P.room position.old).needs }
+        requires long { AreLong (R.system rules.now).cells self.old }
+        requires cells { length grid.now ≡ (R.system rules.now).cells }
+        ensures two { result ≡ true → HasTwo (R.system rules.now) }
+        ensures long { AreLong (R.system rules.now).cells self.new }
         ensures frames { length self.new.frames.items ≡ length self.old.frames.items }
         ensures room { P.room position.new ≡ P.room position.old }
     {
@@ -75,7 +76,7 @@ impl Levels {
             match self.next_trial(rules, position) {
                 None => self.depth -= 1,
                 Some(cell) => {
-                    let from = if position.values(rules) == 2 { cell } else { 0 };
+                    let from = if rules.values() == 2 { cell } else { 0 };
                     self.descend(rules, position, Some(cell), from);
                 }
             }

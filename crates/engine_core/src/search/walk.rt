@@ -3,6 +3,7 @@
 ghost use Rattle.std.specs.Prelude.{◌≡◌, ◌≤◌, length};
 ghost use Rattle.engine_core.specs.Common.{needs_of, FitsIn, AreLong, IsSearched};
 
+use crate::rules::Rules;
 use crate::search::levels::Levels;
 use crate::search::position::Position;
 
@@ -34,17 +35,17 @@ pub(crate) struct Search {
 
 impl Search {
     /// Walks over the trials of the start board until the verdict is known or the budget is spent.
-    pub(crate) fn run<P: Position>(
+    pub(crate) fn run<R: Rules, P: Position<R>>(
         &mut self,
-        rules: &P::Game,
+        rules: &R,
         position: &mut P,
         budget: u64,
     ) -> Verdict
-        requires fits { FitsIn (needs_of (P.system rules.now)) (P.room position.old).needs }
-        requires long { AreLong (P.system rules.now).cells self.old.levels }
-        ensures searched { IsSearched (P.system rules.now) budget result self.new }
-        ensures few { self.new.deepest ≤ (P.system rules.now).cells }
-        ensures long { AreLong (P.system rules.now).cells self.new.levels }
+        requires fits { FitsIn (needs_of (R.system rules.now)) (P.room position.old).needs }
+        requires long { AreLong (R.system rules.now).cells self.old.levels }
+        ensures searched { IsSearched (R.system rules.now) budget result self.new }
+        ensures few { self.new.deepest ≤ (R.system rules.now).cells }
+        ensures long { AreLong (R.system rules.now).cells self.new.levels }
         ensures frames { length self.new.levels.frames.items
             ≡ length self.old.levels.frames.items }
         ensures room { P.room position.new ≡ P.room position.old }
@@ -66,7 +67,7 @@ impl Search {
                     }
                     self.trials += 1;
                     self.deepest = self.deepest.max(self.levels.depth);
-                    let from = if position.values(rules) == 2 { cell } else { 0 };
+                    let from = if rules.values() == 2 { cell } else { 0 };
                     self.turns += self.levels.descend(rules, position, Some(cell), from) as u128;
                 }
             }

@@ -186,11 +186,7 @@ impl<R: Propagators> TrailPosition<R> {
     }
 }
 
-impl<R: Propagators> Position for TrailPosition<R> {
-    type Game = R;
-
-    ghost system = { R.system };
-
+impl<R: Propagators> Position<R> for TrailPosition<R> {
     ghost stands = { λ s. standing_of s };
 
     ghost room = { λ s. record { needs = s.made; trail = length s.trail.changes } };
@@ -216,10 +212,6 @@ impl<R: Propagators> Position for TrailPosition<R> {
 
     fn len(&self) -> usize {
         self.trailed.len()
-    }
-
-    fn values(&self, rules: &R) -> u8 {
-        rules.values()
     }
 
     fn begin(&mut self, rules: &R) {
@@ -273,8 +265,6 @@ impl<R: Propagators> Position for TrailPosition<R> {
         write_grid(self.trailed.board(), rules.cells(), grid);
         rules.completes(&mut self.scratch, grid)
     }
-
-    ghost lawful = { R.lawful };
 
     ghost inside = { λ rules s walks. walks.inside };
 }

@@ -41,6 +41,4 @@ impl<P: PlaneGame> PlaneRules for CountRules<P> {
 
 impl<P: PlaneGame> Searchable for CountRules<P> {
     type Position = PlanePosition<CountRules<P>>;
-
-    ghost position_of = { λ _. refl };
 }

@@ -73,6 +73,4 @@ impl PlaneRules for PatternLines {
 
 impl Searchable for PatternLines {
     type Position = PlanePosition<PatternLines>;
-
-    ghost position_of = { λ _. refl };
 }

@@ -7,10 +7,10 @@ pub returns-clause-solved : goal.returns-clause-solved
 returns-clause-solved g c old = elim c.if-self-eq0.branch [
   | then-self-eq0 w ↦
       let made = w.accept-solved.ensures in
-      let solves = solves-noted (g.P.Position.system c.args.rules.now) _ _ c.requires.full made.grid made.solution in
+      let solves = solves-noted (g.R.Rules.system c.args.rules.now) _ _ c.requires.full made.grid made.solution in
       rw w.self-is (record { first = λ lt. grind (arith, common_steps, solves); second = λ lt. grind (arith, common_steps) })
   | else-self-eq0 w ↦
       let made = w.accept-solved-else-self-eq0.ensures in
-      let solves = solves-noted (g.P.Position.system c.args.rules.now) _ _ c.requires.full made.grid made.solution in
+      let solves = solves-noted (g.R.Rules.system c.args.rules.now) _ _ c.requires.full made.grid made.solution in
       rw w.self-is (record { first = λ lt. grind (arith, common_steps, old.first); second = λ lt. grind (arith, common_steps, solves) })
 ]

@@ -7,18 +7,18 @@ use Rattle.engine_core.proofs.search.levels.Levels.descend.Goals.{After-close-ta
 
 -- what the closing left
 descent : (g : _) (c : After-close-taken g)
-    → IsDescent (g.P.Position.system c.args.rules.now) (g.P.Position.stands c.args.position.now)
+    → IsDescent (g.R.Rules.system c.args.rules.now) (g.P.Position.stands c.args.position.now)
     (g.P.Position.stands c.close-taken.new.self) c.args.self.now.frames.items
     c.args.self.now.depth
 descent g c = record {
   ready = c.requires.ready;
   onward = c.close-taken.ensures.onward;
-  within = within_inside _ _ _ _ (g.met.P.Position.lawful c.args.rules.now).start_within (g.met.P.Position.inside c.args.rules.now c.args.position.now c.requires.walks);
+  within = within_inside _ _ _ _ (g.met.R.Rules.lawful c.args.rules.now).start_within (g.met.P.Position.inside c.args.rules.now c.args.position.now c.requires.walks);
 }
 
 -- the level that is opened
 opened : (g : _) (c : In-Some g)
-    → IsOpen (g.P.Position.system c.args.rules.now)
+    → IsOpen (g.R.Rules.system c.args.rules.now)
     (record {
       board = (g.P.Position.stands c.close-taken.new.self).board;
       cell = c.in-Some.cell;
@@ -28,7 +28,7 @@ opened g c =
     let t = c.close-taken.ensures.taken in
     split-room c.close-taken.ensures.onward.inside c.requires.single (t.alive c.in_default.is)
     (sym c.pick.ensures ∙ c.in-Some.is)
-    (within_inside _ _ _ _ (g.met.P.Position.lawful c.args.rules.now).start_within (g.met.P.Position.inside c.args.rules.now c.args.position.now c.requires.walks))
+    (within_inside _ _ _ _ (g.met.R.Rules.lawful c.args.rules.now).start_within (g.met.P.Position.inside c.args.rules.now c.args.position.now c.requires.walks))
     (t.left c.in_default.is)
     (g.met.P.Position.inside c.args.rules.now c.close-taken.new.self c.close-taken.ensures.walks)
 
@@ -40,7 +40,7 @@ index_mut-requires g c =
 pub overflow_add-self : goal.overflow_add-self
 overflow_add-self g c =
     let room = open-room (opened g (goal.at.overflow_add-self g c).In-Some) in
-    omega (arith, (g.met.P.Position.lawful c.args.rules.now).few_cells)
+    omega (arith, (g.met.R.Rules.lawful c.args.rules.now).few_cells)
 
 pub pick-requires-clause-none : goal.pick-requires-clause-none
 pick-requires-clause-none g c = pick-inside _ _ _ _ c.close-taken.ensures.onward.inside c.requires.none
@@ -48,13 +48,13 @@ pick-requires-clause-none g c = pick-inside _ _ _ _ c.close-taken.ensures.onward
 pub note-requires-clause-closed : goal.note-requires-clause-closed
 note-requires-clause-closed g c =
     rw (c.close-taken.ensures.taken.left c.in_default.is)
-    (closure_closed (g.P.Position.system c.args.rules.now)
+    (closure_closed (g.R.Rules.system c.args.rules.now)
     (g.P.Position.stands c.args.position.now).board
     (descent g (goal.at.note-requires-clause-closed g c).After-close-taken).within)
 
 pub note-requires-clause-full : goal.note-requires-clause-full
 note-requires-clause-full g c =
-    full_unpicked (g.P.Position.system c.args.rules.now) _ (c.close-taken.ensures.taken.alive c.in_default.is) (sym c.in-None.is ∙ c.pick.ensures)
+    full_unpicked (g.R.Rules.system c.args.rules.now) _ (c.close-taken.ensures.taken.alive c.in_default.is) (sym c.in-None.is ∙ c.pick.ensures)
 
 pub returns-in-Dead-clause-marks : goal.returns-in-Dead-clause-marks
 returns-in-Dead-clause-marks g c =
@@ -68,7 +68,7 @@ returns-in-None-clause-marks g c =
     let full =
     descend-full (descent g (goal.at.returns-in-None-clause-marks g c).After-close-taken)
     (t.left c.in_default.is) (t.alive c.in_default.is)
-    (full_unpicked (g.P.Position.system c.args.rules.now) _ (t.alive c.in_default.is) (sym c.in-None.is ∙ c.pick.ensures)) in
+    (full_unpicked (g.R.Rules.system c.args.rules.now) _ (t.alive c.in_default.is) (sym c.in-None.is ∙ c.pick.ensures)) in
     rw (c.note.ensures.same, c.note.ensures.noted)
     (ap (λ ms. found_marks c.args.self.now.grids ++ ms) full ∙ sym (append_assoc (found_marks c.args.self.now.grids) _ _))
 

@@ -3,7 +3,7 @@ use Rattle.engine_core.proofs.search.levels.Levels.finds_two.Given as goal
 
 abbrev pub invariant-loop-left : goal.invariant-loop-left
 invariant-loop-left g l =
-    let p = g.P.Position.system l.rules in
+    let p = g.R.Rules.system l.rules in
     let st = g.P.Position.stands l.position in
     record {
       ready : AreReady p st l.self;

@@ -51,5 +51,5 @@ returns-clause-turn g c =
     let e = c.deref-frames.ensures.value in
     rw e (turn-trial c.requires.ready c.requires.deep (rw c.deref-frames.ensures.value at c.undo.ensures.returned) c.in_ok-value.value (rw e at c.in_ok-value.ensures)
     (rw e at c.leave.ensures.left) c.leave.ensures.onward
-    (within_inside _ _ _ _ (g.met.P.Position.lawful c.args.rules.now).start_within (g.met.P.Position.inside c.args.rules.now c.undo.new.self c.undo.ensures.walks))
+    (within_inside _ _ _ _ (g.met.R.Rules.lawful c.args.rules.now).start_within (g.met.P.Position.inside c.args.rules.now c.undo.new.self c.undo.ensures.walks))
     (rw (written g (goal.at.returns-clause-turn g c).After-leave) refl) refl)

@@ -10,7 +10,7 @@ descend-requires-clause-none g c = refl
 
 pub loop-self-init : goal.loop-self-init
 loop-self-init g c =
-    let p = g.P.Position.system c.args.rules.now in
+    let p = g.R.Rules.system c.args.rules.now in
     let d = c.descend.ensures in
     let marks = sym (walk-alone p _ (g.P.Position.stands c.begin.new.self) c.args.self.now.levels.frames.items) ∙ d.marks in
     let first =

@@ -4,7 +4,7 @@ use Rattle.engine_core.proofs.search.walk.Search.run.Given as goal
 
 abbrev pub invariant-loop-self : goal.invariant-loop-self
 invariant-loop-self g l =
-    let p = g.P.Position.system l.rules in
+    let p = g.R.Rules.system l.rules in
     let st = g.P.Position.stands l.position in
     record {
       searching : IsSearching p l.budget st l.self;
