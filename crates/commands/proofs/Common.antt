@@ -1,13 +1,13 @@
 -- Words and lemmas of std and of the crates below, and words of this crate, as its proofs use them.
 pub use Rattle.std.proofs.Common.{Bool, Err, IfErr, IfOk, List, None, Ok, Option, Result, Some, [], add-one, ap, append-nil, append_assoc, ap₂, arith, codes}
-pub use Rattle.std.proofs.Common.{decimal, drop, false, get_or, if◌then◌else◌, inl, inr, length, length-append, map, max, refl, rules, slice_index}
+pub use Rattle.std.proofs.Common.{decimal, drop, false, get_or, if◌then◌else◌, inl, inr, length, length-append, max, refl, rules, slice_index}
 pub use Rattle.std.proofs.Common.{string_bytes, string_len, subst, suc, sym, take, true, true≢false, vec_len, zero, ℕ, ◌%◌, ◌&&◌, ◌*◌, ◌++◌, ◌+◌, ◌/◌, ◌<◌}
 pub use Rattle.std.proofs.Common.{◌==◌, ◌∙◌, ◌∷◌, ◌≡◌, ◌≢◌, ◌≤◌, ◌⊎◌}
 pub use Rattle.std.proofs.Math.Nat.{eq-or-lt_of_le, mul-le-mul_left, mul-le-mul_right, suc-mul}
 pub use Rattle.std.proofs.lemmas.Bool.{and_from, and_parts, cases_Bool, cases_eq, cases_lt, cond_both, eq-eqb, eqb-true, false_from_ne_true, leb-true, ne_eqb}
 pub use Rattle.std.proofs.lemmas.Bool.{not-false, not-true}
 pub use Rattle.std.proofs.lemmas.Grind.{common_steps}
-pub use Rattle.std.proofs.lemmas.List.{drop-drop, drop_all, get_or_past, length-map, length-take-le, take-append-drop, take_all, take_more}
+pub use Rattle.std.proofs.lemmas.List.{drop-drop, drop_all, get_or_past, length-map, length-take-le, take-append-drop, take_all}
 pub use Rattle.std.proofs.lemmas.List.Elements.{All-contains, All-nil, All-push}
 pub use Rattle.std.proofs.lemmas.Option.{none-some}
 pub use Rattle.std.proofs.lemmas.Result.{IfOk-weaker, on_err_weaker, on_ok_weaker}
@@ -16,7 +16,7 @@ pub use Rattle.std.specs.Prelude.{IfSome, is_ok, nat_le, option_map, ◌↔◌}
 pub use Rattle.std.specs.Str.Lines.{lines, lines_of_parts, strip_carriage_return}
 pub use Rattle.grid_core.proofs.BoardLemmas.{any_below-none, any_below-some, count_below-one, least_below-passes, within_inside}
 pub use Rattle.grid_core.specs.Candidates.{Candidates, IsWithin}
-unfoldable pub use Rattle.grid_core.specs.Candidates.{all_below, any_below, is_dead, is_full, total}
+unfoldable pub use Rattle.grid_core.specs.Candidates.{any_below, is_dead, is_full, total}
 pub use Rattle.gameid_core.proofs.HeadLaws.{puzzle_too_long, size_take}
 pub use Rattle.gameid_core.proofs.LightTexts.{light_reading}
 pub use Rattle.gameid_core.proofs.LightTexts.{light_is_written}
@@ -45,11 +45,11 @@ pub use Rattle.fields_core.specs.Light.{is_white}
 pub use Rattle.maker_core.proofs.PatternMakings.{black_cells-grid}
 pub use Rattle.maker_core.proofs.Common.{All-from_get_or, AreReasons, CluedGame, HasWords, IsAsked, IsGame, IsLeft, IsLineOrder, IsLit, IsOnly, IsPermutation}
 pub use Rattle.maker_core.proofs.Common.{IsPermutation-refl, IsThinnedFrom, IsThinning, IsTrueOf, Stream, TellsOne, bulbs_beside, clue_places}
-pub use Rattle.maker_core.proofs.Common.{count_by-le-length, first_grid, flipped_by_draw, houses_lawful, is_some, length-filter, length-map-range_with_len}
+pub use Rattle.maker_core.proofs.Common.{count_by-le-length, flipped_by_draw, houses_lawful, is_some, length-filter, length-map-range_with_len}
 pub use Rattle.maker_core.proofs.Common.{length-range_with_len, light_cells, light_is_game, lt-ltb, mul-le, nat_lt, numbered_cell, outcome-true}
-pub use Rattle.maker_core.proofs.Common.{range_with_len, recursion_from_All, replicate, shuffled_order, solo_is_game, top_row_given, x_filling, ◌-◌, ◌^◌}
+pub use Rattle.maker_core.proofs.Common.{recursion_from_All, replicate, shuffled_order, solo_is_game, top_row_given, x_filling, ◌-◌, ◌^◌}
 unfoldable pub use Rattle.maker_core.proofs.Common.{black_cells, bulbs_after, lights_of, lines_of_groups, reasons_from, stream_after, white, white_places}
-pub use Rattle.maker_core.proofs.Shuffles.{IsShuffledOrder, draw_is, order_is, swaps_are, words_later}
+pub use Rattle.maker_core.proofs.Shuffles.{draw_is, order_is, swaps_are, words_later}
 pub use Rattle.maker_core.specs.Draws.{IsFirstPassing, Making, NonePasses, filling_at, shuffled_list}
 pub use Rattle.maker_core.specs.LightMaking.{SameLight, light_game, number_clue}
 pub use Rattle.maker_core.specs.LightMaking.{light_passes}
@@ -69,7 +69,7 @@ pub use Rattle.commands.specs.CheckAnswers.{AllowsGrid, IsInputOf, SaysFault, be
 unfoldable pub use Rattle.commands.specs.CheckAnswers.{without_returns}
 pub use Rattle.commands.specs.Common.{Extent, Game, HasOneReading, IdFault, IsAsShown, IsClosed, IsExtent, IsGrid, IsInside, IsLawful, IsLightSolution}
 pub use Rattle.commands.specs.Common.{IsPattern, IsPatternSolution, IsPrinted, IsRight, IsSolo, IsSoloSolution, IsTentSolution, IsTents, Light, Mark, Outcome}
-pub use Rattle.commands.specs.Common.{Pattern, RuleSystem, SizeRead, Solo, Solves, Tents, count_below, crossing_scopes, crossings_rules, extent_of, grid_of}
+pub use Rattle.commands.specs.Common.{Pattern, RuleSystem, SizeRead, Solo, Solves, Tents, crossings_rules, extent_of, grid_of}
 pub use Rattle.commands.specs.Common.{hides_nothing, houses_rules, in_range, is_settled, is_solution-from, is_solution-is, light_cell, light_hides}
 pub use Rattle.commands.specs.Common.{light_rules, line_rules, line_rules-lawful, max_id, only, pattern_cell, rule_from_test, rules_of, scopes_of}
 pub use Rattle.commands.specs.Common.{singles_rules, size_of, solo_cell, solo_extent, tent_hides, tent_rules, tents_cell, test_from_rule, verdict_of, walk}
@@ -95,6 +95,6 @@ pub use Rattle.commands.specs.TracePieces.{BeginsTrace, KeptOrPut, PutInPieces, 
 pub use Rattle.commands.specs.Traces.{IsTrace, SaysClosing, line_of, sweeps_text, visits_text}
 pub use Rattle.commands.specs.declared.answers.reply.Reply.{Reply}
 pub use Rattle.commands.specs.declared.grade.Grade.{Grade}
-pub use Rattle.commands.specs.declared.grade.Grade.TheVariants.{ByRules, BySearch, GaveUp, NoSolution, SeveralSolutions}
+pub use Rattle.commands.specs.declared.grade.Grade.TheVariants.{ByRules, BySearch}
 pub use Rattle.commands.specs.declared.grade.RuleSet.{RuleSet}
 pub use Rattle.commands.specs.declared.grade.RuleSet.TheVariants.{Crossings, Houses, Lines, Local, Singles}

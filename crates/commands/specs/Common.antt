@@ -2,7 +2,7 @@
 pub use Rattle.engine_core.specs.RuleSystem.{FitsIn, IsClosed, IsLawful, RuleSystem, needs_of}
 pub use Rattle.engine_core.specs.Stored.{is_settled}
 pub use Rattle.engine_core.specs.Verdict.{IsRight, IsTrueOf, Outcome, Solves, verdict_of}
-pub use Rattle.engine_core.specs.Walk.{IsFound, Mark, walk}
+pub use Rattle.engine_core.specs.Walk.{Mark, walk}
 pub use Rattle.fields_core.specs.LightFaults.{IsLightFault}
 pub use Rattle.fields_core.specs.LightHouses.{light_rules}
 pub use Rattle.fields_core.specs.LightSolutions.{IsLightSolution}
@@ -15,24 +15,23 @@ pub use Rattle.gameid_core.specs.TentsText.{tent_hides, tents_cell}
 pub use Rattle.gameid_core.specs.SoloText.{solo_cell, solo_extent}
 pub use Rattle.gameid_core.specs.PatternText.{pattern_cell}
 pub use Rattle.gameid_core.specs.LightText.{light_hides, light_cell}
-pub use Rattle.gameid_core.specs.Head.{SizeRead, extent_of, in_range, max_id, max_numbers, size_of}
+pub use Rattle.gameid_core.specs.Head.{SizeRead, extent_of, in_range, max_id, size_of}
 pub use Rattle.gameid_core.specs.IdTexts.{HasOneReading}
-pub use Rattle.grid_core.specs.Lines.{lines_of}
-pub use Rattle.gameid_core.specs.Puzzles.{IsLight, IsPattern, IsSolo, IsTents, Light, Pattern, Solo, Tents, solo_n}
+pub use Rattle.gameid_core.specs.Puzzles.{IsPattern, IsSolo, IsTents, Light, Pattern, Solo, Tents, solo_n}
 pub use Rattle.gameid_core.specs.declared.id.fault.IdFault.{IdFault}
 pub use Rattle.gameid_core.specs.declared.id.game.Game.{Game}
-pub use Rattle.grid_core.specs.Candidates.{Candidates, IsInside, count_below, grid_of, only, pick}
-pub use Rattle.grid_core.specs.Extent.{Extent, IsExtent, max_side}
+pub use Rattle.grid_core.specs.Candidates.{IsInside, count_below, grid_of, only}
+pub use Rattle.grid_core.specs.Extent.{Extent, IsExtent}
 pub use Rattle.grid_core.specs.Grids.{IsGrid}
 pub use Rattle.maker_core.specs.SoloMaking.{IsSoloMade, NoneFound}
 pub use Rattle.maker_core.specs.declared.made.Kept.{Kept}
 pub use Rattle.pattern_core.specs.Solutions.{IsPatternFault}
-pub use Rattle.pattern_core.specs.LineLaws.{has_runs-from, has_runs-is, is_solution-from, is_solution-is, line_of_solution, line_rules-lawful, solution_from_lines}
+pub use Rattle.pattern_core.specs.LineLaws.{is_solution-from, is_solution-is, line_rules-lawful}
 pub use Rattle.pattern_core.specs.LineRules.{line_rules}
 pub use Rattle.pattern_core.specs.Solutions.{IsPatternSolution}
 pub use Rattle.rand_core.specs.Stream.{Stream}
 pub use Rattle.solo_core.specs.Faults.{IsSoloFault}
 pub use Rattle.solo_core.specs.RuleSets.{crossings_rules, houses_rules, rules_of, singles_rules}
 pub use Rattle.solo_core.specs.Scopes.{crossing_scopes, scopes_of}
-pub use Rattle.solo_core.specs.SolutionLaws.{given_from_test, rule_from_test, test_from_given, test_from_rule}
-pub use Rattle.solo_core.specs.Solutions.{IsSoloSolution, given_stands}
+pub use Rattle.solo_core.specs.SolutionLaws.{rule_from_test, test_from_rule}
+pub use Rattle.solo_core.specs.Solutions.{IsSoloSolution}

@@ -1,31 +1,31 @@
 -- Words and lemmas of std and of the crates below, and words of this crate, as its proofs use them.
-pub use Rattle.std.proofs.Common.{Bool, IfSome, List, None, Option, Some, [], add-one, ap, append_assoc, arith, bit_and, cond, count_ones, drop, eqb, false}
+pub use Rattle.std.proofs.Common.{Bool, IfSome, List, None, Option, Some, [], add-one, ap, append_assoc, arith, bit_and, count_ones, drop, eqb, false}
 pub use Rattle.std.proofs.Common.{get_or, if◌then◌else◌, inl, inr, is_some, length, length-append, length-set, length-take, ltb, max, not, option_to_list}
 pub use Rattle.std.proofs.Common.{refl, replicate, rules, set, slice_index, subst, suc, sym, take, true, w32, w64, zero, ℕ, ◌%◌, ◌&&◌, ◌*◌, ◌++◌, ◌+◌, ◌-◌}
 pub use Rattle.std.proofs.Common.{◌/◌, ◌<◌, ◌==◌, ◌^◌, ◌||◌, ◌↔◌, ◌∙◌, ◌∷◌, ◌≡◌, ◌≢◌, ◌≤◌, ◌⊎◌}
 pub use Rattle.std.proofs.Math.Nat.{div-div-eq-div-mul, div-le_self, mul-le-mul_right, mul-suc, pow-succ'}
 pub use Rattle.std.proofs.Math.Path.{fun_ext}
 pub use Rattle.std.proofs.Math.Seq.{take-append_seam, take-length, take-suc-set}
-pub use Rattle.std.proofs.lemmas.Bool.{and_from, and_left, and_parts, and_right, cases_Bool, cases_eq, cases_lt, cond-false, cond-true, eq-eqb, eqb-true}
+pub use Rattle.std.proofs.lemmas.Bool.{and_from, and_left, and_parts, and_right, cases_Bool, cases_eq, cases_lt, eq-eqb, eqb-true}
 pub use Rattle.std.proofs.lemmas.Bool.{false_from_ne_true, le-leb, le-ltb, leb-true, lt-leb, lt-ltb, ne_eqb, not-true, not_from_false, not_from_true}
 pub use Rattle.std.proofs.lemmas.Bool.{or_cases, or_left, or_right, true≢false}
 pub use Rattle.std.proofs.lemmas.Cmp.{upto}
 pub use Rattle.std.proofs.lemmas.Grind.{common_steps}
-pub use Rattle.std.proofs.lemmas.List.{append-nil, drop-append-le, get_or-replicate, get_or-set_other, get_or-set_same, get_or-take, get_or_append_left}
+pub use Rattle.std.proofs.lemmas.List.{append-nil, drop-append-le, get_or-replicate, get_or-set_other, get_or-set_same, get_or-take}
 pub use Rattle.std.proofs.lemmas.List.{get_or_read, get_or_read_under, length-drop, length-replicate, length-take-le, length_push, map-id, places}
-pub use Rattle.std.proofs.lemmas.List.{take-append-le, take_all, take_more}
-pub use Rattle.std.proofs.lemmas.List.Edits.{between_more, between_none, get_or-between, length-between}
-pub use Rattle.std.proofs.lemmas.List.Elements.{All-from_get_or, filter-append}
+pub use Rattle.std.proofs.lemmas.List.{take-append-le, take_all}
+pub use Rattle.std.proofs.lemmas.List.Edits.{get_or-between, length-between}
+pub use Rattle.std.proofs.lemmas.List.Elements.{All-from_get_or}
 pub use Rattle.std.proofs.lemmas.List.FromFn.{map-range_with_len_more}
-pub use Rattle.std.proofs.lemmas.List.Sums.{count_by_more_no, count_by_more_yes, length-filter, sum_by-cons}
+pub use Rattle.std.proofs.lemmas.List.Sums.{sum_by-cons}
 pub use Rattle.std.proofs.lemmas.Nat.{and_le_l, div-add-mod', div-mul-add, one_shl, or_lt, pow-add, pow_below, pow_pos}
-pub use Rattle.std.proofs.lemmas.Nat.Bits.{bit_at-lt, bit_at-pow_other, bit_at-pow_same, bit_at-trailing_zeros, bit_at-zero, bit_at_above, bit_at_clear_other}
+pub use Rattle.std.proofs.lemmas.Nat.Bits.{bit_at-lt, bit_at-trailing_zeros, bit_at-zero, bit_at_above, bit_at_clear_other}
 pub use Rattle.std.proofs.lemmas.Nat.Bits.{bit_at_clear_same, bit_at_ones, bit_at_set_other, bit_at_set_same, same_from_bits_below}
 pub use Rattle.std.proofs.lemmas.Slice.{between_to_end}
 pub use Rattle.std.specs.Int.{bit_at, from_bool, trailing_zeros}
-pub use Rattle.std.specs.List.{AllByRecursion, between, concat, filter, range_with_len}
+pub use Rattle.std.specs.List.{AllByRecursion, between, range_with_len}
 pub use Rattle.std.specs.Prelude.{bit_or, nat_le, nat_lt, sum_by, vec_len}
-pub use Rattle.grid_core.proofs.BoardLemmas.{bits_both, bits_either, count_ones-bits, has-within}
+pub use Rattle.grid_core.proofs.BoardLemmas.{count_ones-bits}
 pub use Rattle.grid_core.proofs.BoardLemmas.{all_below-from, any_below-here, any_below-none, any_below-some, count_below-any, count_below-bound}
 pub use Rattle.grid_core.proofs.BoardLemmas.{count_below-few, count_below-kept, count_below-le, count_below-lt, count_below-none, count_below-one}
 pub use Rattle.grid_core.proofs.BoardLemmas.{count_below-pos, count_below-same, is_dead-each, is_dead-here, is_dead-inside, is_dead-not}
@@ -38,7 +38,7 @@ pub use Rattle.grid_core.proofs.WordLemmas.{both-bits, either-bits, power-bits, 
 pub use Rattle.grid_core.specs.Board.{Layout, SameShape, cells_of}
 unfoldable pub use Rattle.grid_core.specs.Board.{has}
 pub use Rattle.grid_core.specs.Candidates.{Candidates, IsInside, IsWithin}
-unfoldable pub use Rattle.grid_core.specs.Candidates.{any_below, better, count_below, grid_of, is_dead, is_full, least_below, only, pick, single, sum_below}
+unfoldable pub use Rattle.grid_core.specs.Candidates.{any_below, better, count_below, grid_of, is_dead, is_full, least_below, only, pick, single}
 unfoldable pub use Rattle.grid_core.specs.Candidates.{total, with_set, without}
 pub use Rattle.grid_core.specs.Pieces.{AreEnds, last_end, pieces}
 unfoldable pub use Rattle.grid_core.specs.Regions.{step}
@@ -49,29 +49,29 @@ pub use Rattle.engine_core.specs.ClosingList.{HasHouseLost, IsAlive, IsCalledFor
 pub use Rattle.engine_core.specs.Counts.{IsClosedIn, IsTurns, boards_of}
 unfoldable pub use Rattle.engine_core.specs.Counts.{deepest_of}
 pub use Rattle.engine_core.specs.FillingLaws.{shown_from_test, test_from_shown}
-pub use Rattle.engine_core.specs.Frames.{AreGrids, AreReady, AreSolutions, IsFull, IsNoted, IsOpen, IsReady, IsRetried, IsSearched, IsTrial, SameMarks}
-pub use Rattle.engine_core.specs.Frames.{first_of, found_marks, frame_at, level_at, marks_at, marks_of, own_grid, pending_in, pending_of, retried_at}
+pub use Rattle.engine_core.specs.Frames.{AreGrids, AreReady, AreSolutions, IsFull, IsOpen, IsReady, IsSearched, IsTrial, SameMarks}
+pub use Rattle.engine_core.specs.Frames.{first_of, found_marks, frame_at, level_at, marks_at, marks_of, pending_in, pending_of, retried_at}
 pub use Rattle.engine_core.specs.Frames.{second_of, walk_of}
 unfoldable pub use Rattle.engine_core.specs.Frames.{levels_of, singles}
 pub use Rattle.engine_core.specs.HouseList.{AreMarked, AreMarksAt, AreScopes, HasMarked, IsScope, Table, place_bit, scope_of}
 pub use Rattle.engine_core.specs.HouseList.{FitsPlaces, IsListed, Listed, listed}
-pub use Rattle.engine_core.specs.HouseRulesLaws.{bound_enough, by_houses-lawful, counted_twice, from_first}
+pub use Rattle.engine_core.specs.HouseRulesLaws.{bound_enough, by_houses-lawful}
 pub use Rattle.engine_core.specs.HouseSets.{AreDifferent, Decision}
 unfoldable pub use Rattle.engine_core.specs.HouseSets.{kept_in, strikes_at}
 pub use Rattle.engine_core.specs.HouseSetsLaws.{bits-of_values, sets-bits, strikes_at-in_scope, strikes_at-place}
-pub use Rattle.engine_core.specs.Keeping.{AreSetsOf, IsKept, StillServes}
-pub use Rattle.engine_core.specs.PlaceLaws.{AreDistinct, distinct-from, has_place-at, has_place-here}
+pub use Rattle.engine_core.specs.Keeping.{AreSetsOf, IsKept}
+pub use Rattle.engine_core.specs.PlaceLaws.{has_place-at, has_place-here}
 pub use Rattle.engine_core.specs.PlanePosition.{AreUnderWay, PlacedPlanes, layers_in, places_of, standing_of}
-pub use Rattle.engine_core.specs.Position.{IsClosedAround, IsClosedBut, IsOnward, IsReturned, IsTaken, Room, Standing}
+pub use Rattle.engine_core.specs.Position.{IsClosedAround, IsClosedBut, IsOnward, IsReturned, IsTaken, Standing}
 pub use Rattle.engine_core.specs.Queue.{IsQueuedAround, IsRested, IsWoken, called_for, calls, is_dead_in}
 unfoldable pub use Rattle.engine_core.specs.Queue.{but, counts_of, visits_left, woken}
-pub use Rattle.engine_core.specs.RuleSystem.{IsBoardOf, IsClosed, IsClosedGrid, IsGridOf, IsIdle, IsInsideAt, IsLawful, IsNext, Needs, RuleSystem}
+pub use Rattle.engine_core.specs.RuleSystem.{IsBoardOf, IsClosed, IsClosedGrid, IsGridOf, IsIdle, IsInsideAt, IsLawful, IsNext, RuleSystem}
 unfoldable pub use Rattle.engine_core.specs.RuleSystem.{after, has_place, longest, share}
 pub use Rattle.engine_core.specs.Frames.{Level}
 unfoldable pub use Rattle.engine_core.specs.Frames.{branches_from, pending}
 pub use Rattle.engine_core.specs.Sets.{IsBitsOf, IsChange, has_bit}
 pub use Rattle.engine_core.specs.Stored.{IsAnswer, is_settled}
-pub use Rattle.engine_core.specs.Trail.{AreLost, IsTrail, IsTrailBack, IsTrailLonger, Trail, back_at, change_at, given_back, is_since}
+pub use Rattle.engine_core.specs.Trail.{AreLost, IsTrail, IsTrailLonger, Trail, back_at, change_at, given_back, is_since}
 unfoldable pub use Rattle.engine_core.specs.Trail.{left_by, put_back}
 pub use Rattle.engine_core.specs.Trail.{GoesOn, IsAlong, Placed, board_in}
 unfoldable pub use Rattle.engine_core.specs.Counts.{trials_of}

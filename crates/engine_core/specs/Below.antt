@@ -7,10 +7,10 @@ pub use Rattle.std.proofs.lemmas.List.{ext_get_or, get_or-append-add, get_or-map
 pub use Rattle.std.proofs.lemmas.List.FromFn.{get_or-map-range_with_len, get_or-range_with_len, length-map-range_with_len, length-range_with_len}
 pub use Rattle.std.proofs.lemmas.List.Sums.{sum_by-cons}
 pub use Rattle.std.specs.List.{AllByRecursion, filter, list_all, list_any, range_with_len}
-pub use Rattle.std.specs.Prelude.{All, Bool, false, sum_by, true}
+pub use Rattle.std.specs.Prelude.{All, sum_by}
 pub use Rattle.grid_core.specs.Board.{Layout, SameShape, cells_of}
 unfoldable pub use Rattle.grid_core.specs.Board.{has}
 pub use Rattle.grid_core.specs.Candidates.{Candidates, IsInside, IsWithin, max_cells, max_values}
-unfoldable pub use Rattle.grid_core.specs.Candidates.{any_below, count_below, grid_of, is_dead, is_full, only, pick, single, sum_below, total, with_set}
-pub use Rattle.grid_core.specs.Extent.{Extent, IsExtent}
+unfoldable pub use Rattle.grid_core.specs.Candidates.{any_below, count_below, grid_of, is_dead, is_full, single, sum_below, total, with_set}
+pub use Rattle.grid_core.specs.Extent.{Extent}
 pub use Rattle.grid_core.specs.Grids.{IsGrid}

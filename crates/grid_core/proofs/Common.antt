@@ -11,7 +11,7 @@ pub use Rattle.std.proofs.lemmas.Bool.{false≢true, le-leb, le-ltb, lt-leb, lt-
 pub use Rattle.std.proofs.lemmas.Bool.{true≢false}
 pub use Rattle.std.proofs.lemmas.Bool.Decides.{Decides-below_and, Decides-below_or, Decides-like, Decides-ltb, same_from_decides}
 pub use Rattle.std.proofs.lemmas.Cmp.{nat_eq_equiv}
-pub use Rattle.std.proofs.lemmas.Grind.{common_steps, get_or-set_at, same_number_lists}
+pub use Rattle.std.proofs.lemmas.Grind.{common_steps, same_number_lists}
 pub use Rattle.std.proofs.lemmas.List.{get_or-map, get_or-replicate, get_or-set_other, get_or-set_same, get_or-take, get_or_append_left}
 pub use Rattle.std.proofs.lemmas.List.{get_or_default, get_or_past, get_or_read, length-append, length-drop, length-map, length-replicate, length-set}
 pub use Rattle.std.proofs.lemmas.List.{map-set, take-append-le, take_more_set}

@@ -4,15 +4,15 @@ pub use Rattle.std.proofs.Common.{Bool, List, None, Option, Some, [], add-one, a
 pub use Rattle.std.proofs.Common.{length-take, map, map-id, nat_le, not, refl, replicate, rules, set, slice_index, subst, suc, sym, take, true, zero, ℕ, ◌%◌}
 pub use Rattle.std.proofs.Common.{◌&&◌, ◌*◌, ◌++◌, ◌+◌, ◌-◌, ◌/◌, ◌<◌, ◌^◌, ◌∙◌, ◌∷◌, ◌≡◌, ◌≢◌, ◌≤◌, ◌⊎◌}
 pub use Rattle.std.proofs.Math.Seq.{drop-cons}
-pub use Rattle.std.proofs.lemmas.Bool.{and_from, cases_eq, cases_lt, cond_both, eq-eqb, eqb-true, false_from_ne_true, le-ltb, lt-ltb, ltb-false, ltb-true}
+pub use Rattle.std.proofs.lemmas.Bool.{and_from, cases_eq, cond_both, eq-eqb, eqb-true, false_from_ne_true, le-ltb, lt-ltb, ltb-false, ltb-true}
 pub use Rattle.std.proofs.lemmas.Bool.{or_cases, or_left, or_right, true≢false}
 pub use Rattle.std.proofs.lemmas.Cmp.{nat_eq_equiv}
 pub use Rattle.std.proofs.lemmas.Grind.{common_steps, elements, get_or-set_at, rows, same_number_lists}
-pub use Rattle.std.proofs.lemmas.List.{append-nil, append_assoc, get_or-map, get_or-replicate, get_or-set_same, get_or_append_left, get_or_default}
+pub use Rattle.std.proofs.lemmas.List.{append-nil, append_assoc, get_or-map, get_or-replicate, get_or_append_left, get_or_default}
 pub use Rattle.std.proofs.lemmas.List.{get_or_past, get_or_read, length-append, length-map, length-replicate, length-set, length-take-le, map_more}
 pub use Rattle.std.proofs.lemmas.List.{set-get_or, set-set, set_at, take_all, take_more_set}
 pub use Rattle.std.proofs.lemmas.List.Elements.{All-append, All-cons, All-contains, All-from_get_or, All-from_recursion, All-get_or, All-map, All-nil}
-pub use Rattle.std.proofs.lemmas.List.Elements.{All-replicate, All-set, Contains-append_left, Contains-append_right, Contains-get_or, filter-append}
+pub use Rattle.std.proofs.lemmas.List.Elements.{All-replicate, All-set, Contains-append_right, Contains-get_or, filter-append}
 pub use Rattle.std.proofs.lemmas.List.Elements.{filter_passes, recursion_from_All}
 pub use Rattle.std.proofs.lemmas.List.FromFn.{fill_by_all, get_or-map-range_with_len, get_or-range_with_len, length-map-range_with_len, length-range_with_len}
 pub use Rattle.std.proofs.lemmas.List.FromFn.{map-range_with_len_more}
@@ -25,7 +25,7 @@ pub use Rattle.std.proofs.lemmas.Result.{IfOk-weaker}
 pub use Rattle.std.proofs.lemmas.Simd.{map-map}
 pub use Rattle.std.specs.List.{AllByRecursion, range_with_len}
 unfoldable pub use Rattle.std.specs.List.{IsDistinct}
-pub use Rattle.std.specs.Prelude.{All, Contains, Err, IfSome, IsPermutation, IsTrue, Result, filter, if◌then◌else◌, is_some, nat_lt, slice_index_or}
+pub use Rattle.std.specs.Prelude.{All, Contains, Err, IfSome, IsPermutation, IsTrue, Result, filter, if◌then◌else◌, is_some, nat_lt}
 pub use Rattle.std.specs.Prelude.{slice_set, sum, sum_by, ◌==◌, ◌||◌, ◌↔◌}
 pub use Rattle.rand.proofs.ShuffleLemmas.{last_below, rest_below, rising_more, rising_one, rising_positive}
 pub use Rattle.rand.proofs.UniformLemmas.{carry_room, if_below}
@@ -38,16 +38,15 @@ pub use Rattle.grid_core.proofs.BoardLemmas.{all_below-at, all_below-from, any_b
 pub use Rattle.grid_core.proofs.BoardLemmas.{count_below-pos, is_dead-each, is_full-each}
 pub use Rattle.grid_core.proofs.PairingLemmas.{distinct_filtered_range}
 pub use Rattle.grid_core.proofs.GridLemmas.{grid_of-full, single-at, single-is}
-pub use Rattle.grid_core.proofs.RegionLemmas.{length-line_places, line_numbers-column, line_numbers-row, place_in_row}
+pub use Rattle.grid_core.proofs.RegionLemmas.{length-line_places, place_in_row}
 pub use Rattle.grid_core.specs.Candidates.{Candidates, IsInside}
 unfoldable pub use Rattle.grid_core.specs.Candidates.{count_below, single}
 pub use Rattle.grid_core.specs.Extent.{Extent, IsExtent}
-pub use Rattle.grid_core.specs.Grids.{IsGrid, column_cells, row_cells}
+pub use Rattle.grid_core.specs.Grids.{IsGrid, row_cells}
 pub use Rattle.grid_core.specs.Lines.{lines_of}
 unfoldable pub use Rattle.grid_core.specs.Lines.{line_numbers, line_places}
 pub use Rattle.grid_core.specs.Regions.{beside, column_places, row_places}
 unfoldable pub use Rattle.grid_core.specs.Regions.{steps}
-pub use Rattle.gameid_core.proofs.FirstFailed.{tells}
 pub use Rattle.gameid_core.proofs.LineLaws.{at_column, at_row}
 pub use Rattle.gameid_core.specs.Lines.{run_of, runs}
 unfoldable pub use Rattle.gameid_core.specs.Lines.{runs_after}
@@ -70,17 +69,14 @@ pub use Rattle.engine_core.specs.Stored.{IsAnswer}
 pub use Rattle.engine_core.specs.Verdict.{HasTwo, IsTrueOf, Outcome, Outcome.GaveUp, Outcome.NoSolution, Outcome.OneSolution, Outcome.SeveralSolutions}
 pub use Rattle.engine_core.specs.Verdict.{Solves, verdict_of}
 unfoldable pub use Rattle.engine_core.specs.Verdict.{outcome}
-pub use Rattle.engine_core.specs.Walk.{Mark, Mark.Found}
+pub use Rattle.engine_core.specs.Walk.{Mark.Found}
 unfoldable pub use Rattle.engine_core.specs.Walk.{walk}
 pub use Rattle.engine_core.specs.declared.search.walk.Verdict.{Verdict}
-pub use Rattle.pattern_core.proofs.FaultLemmas.{pattern_none}
-pub use Rattle.pattern_core.specs.Solutions.{IsPatternFault}
 pub use Rattle.pattern_core.specs.LineLaws.{cell_in_grid, different_places, has_runs-is, is_solution-from, is_solution-is, line_rules-lawful}
 pub use Rattle.pattern_core.specs.LineRules.{line_rules}
 pub use Rattle.pattern_core.specs.Lines.{clue_of}
 unfoldable pub use Rattle.pattern_core.specs.Lines.{has_runs}
 pub use Rattle.pattern_core.specs.Solutions.{IsPatternSolution}
-pub use Rattle.pattern_core.specs.declared.fault.PatternFault.{PatternFault}
 pub use Rattle.solo_core.specs.Houses.{block_of, column_of, row_of, solo_cells}
 pub use Rattle.solo_core.specs.Houses.{IsHouseOf, lies_in}
 pub use Rattle.solo_core.specs.RuleLaws.{houses_lawful}
