@@ -8,7 +8,7 @@ use Rattle.maker_core.proofs.Shuffles.{AreGrouped, AreGrouped-more, grouped-none
 use Rattle.maker_core.proofs.SoloXSearch.{first_solves, flipped-found, top-solo}
 use Rattle.maker_core.specs.LightMaking.{IsLightMade}
 use Rattle.maker_core.proofs.LightMakings.{all_numbers, bulbs_after-grid, bulbs_few, lit_one, lit_solved, number_at, size_is}
-use Rattle.commands.proofs.MadeOnce.{has_one}
+use Rattle.commands.proofs.SearchedPuzzles.{has_one}
 use Rattle.commands.proofs.SearchedPuzzles.{light_searched, right_of}
 
 -- A shuffle brings any list into another order, and leaves a stream of words; and so many draws of black cells leave one.
